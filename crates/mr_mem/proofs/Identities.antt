@@ -1,0 +1,39 @@
+-- Identities are in a total order, and those that compare alike are one.
+use Rattle.std.proofs.Common.{◌≡◌, ◌≢◌, ℕ, refl, ap, ◌∙◌, cond}
+use Rattle.std.specs.Prelude.{Some, None, Option}
+use Rattle.std.specs.FinMap as map
+use Rattle.std.specs.FinMap.{FinMap}
+use Rattle.std.specs.Ordering.{nat_cmp, ordering_then, is_eq}
+use Rattle.std.specs.declared.cmp.Ordering.{Ordering}
+use Rattle.std.specs.declared.cmp.Ordering.TheVariants.{Less, Equal, Greater}
+use Rattle.std.specs.Cmp.{IsTotalOrder, on_total, then_total, nat_cmp_total, tied_itself}
+use Rattle.mr_base.specs.declared.byte.AllocId.{AllocId}
+use Rattle.mr_mem.specs.Memory.{id_cmp, Memory, Allocation}
+
+pub id_total : IsTotalOrder id_cmp
+id_total = then_total (on_total (λ (i : AllocId). i.thread) nat_cmp_total) (on_total (λ (i : AllocId). i.count) nat_cmp_total)
+
+then_equal : (a b : Ordering) → ordering_then a b ≡ Equal → (a ≡ Equal) × (b ≡ Equal)
+then_equal Less b e = cc
+then_equal Equal b e = (refl, e)
+then_equal Greater b e = cc
+
+pub id_exact : map.IsAntisymmetric id_cmp
+id_exact x y e =
+    let t = then_equal (nat_cmp x.thread y.thread) (nat_cmp x.count y.count) e in
+    let a : x.thread ≡ y.thread = map.nat_cmp-IsAntisymmetric x.thread y.thread t.0 in
+    let b : x.count ≡ y.count = map.nat_cmp-IsAntisymmetric x.count y.count t.1 in
+    λ i. record { thread = a i; count = b i }
+
+module _ (m : Memory) (k : AllocId) (v : Allocation) where
+  pub get_here : map.get (map.insert m k v) k ≡ Some v
+  get_here = map.get-insert id_total m k v k ∙ ap (λ r. cond (is_eq r) (Some v) (map.get m k)) (tied_itself id_total k)
+
+  by_test : (q : AllocId) (r : Ordering) → id_cmp q k ≡ r → q ≢ k → cond (is_eq r) (Some v) (map.get m q) ≡ map.get m q
+  by_test q Less e n = refl
+  by_test q Equal e n = absurd (n (id_exact q k e))
+  by_test q Greater e n = refl
+
+  -- another identity has what it had
+  pub get_there : (q : AllocId) → q ≢ k → map.get (map.insert m k v) q ≡ map.get m q
+  get_there q n = map.get-insert id_total m k v q ∙ by_test q (id_cmp q k) refl n

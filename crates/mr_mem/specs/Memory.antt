@@ -1,0 +1,204 @@
+-- Memory: a finite map from identities to allocations, and what can be done with it. (MiniRust, mem: the basic memory.)
+use Rattle.std.specs.Prelude.{◌≡◌, ℕ, ◌+◌, ◌-◌, ◌*◌, ◌%◌, ◌^◌, ◌<◌, ◌≤◌, Bool, true, false, not, ◌&&◌, ◌||◌, ◌==◌, nat_lt, nat_le, if◌then◌else◌, List, [], ◌∷◌, ◌++◌, length, take, drop, replicate, Option, None, Some, Result, Ok, Err}
+use Rattle.std.specs.List.{list_any}
+use Rattle.std.specs.Ordering.{nat_cmp, ordering_then}
+use Rattle.std.specs.declared.cmp.Ordering.{Ordering}
+use Rattle.std.specs.FinMap as map
+use Rattle.std.specs.FinMap.{FinMap}
+use Rattle.mr_base.specs.declared.byte.AllocId.{AllocId}
+use Rattle.mr_base.specs.declared.byte.Pointer.{Pointer}
+use Rattle.mr_base.specs.declared.byte.AbstractByte.{AbstractByte}
+use Rattle.mr_base.specs.declared.byte.AbstractByte.TheVariants.{Uninit}
+use Rattle.mr_base.specs.declared.byte.Kind.{Kind}
+use Rattle.mr_base.specs.declared.byte.Kind.TheVariants.{Heap, Stack, Static, Function}
+use Rattle.mr_base.specs.declared.reason.Reason.{Reason}
+use Rattle.mr_base.specs.declared.reason.Reason.TheVariants.{Misaligned, NoProvenance, DeadAllocation, OutOfBounds, FreeAddress, FreeKind, FreeSize, FreeAlign}
+use Rattle.mr_mem.specs.declared.fault.PickFault.{PickFault}
+use Rattle.mr_mem.specs.declared.fault.PickFault.TheVariants.{BadAddress, Reused}
+
+-- identities by thread, then by count
+abbrev pub id_cmp : AllocId → AllocId → Ordering
+id_cmp a b = ordering_then (nat_cmp a.thread b.thread) (nat_cmp a.count b.count)
+
+-- An allocation: where it lies, how many addresses it takes, and its bytes, whose number is its size.
+pub record Allocation : Type 0 where
+  pub addr : ℕ
+  pub span : ℕ
+  pub align : ℕ
+  pub kind : Kind
+  pub live : Bool
+  pub bytes : List AbstractByte
+
+abbrev pub Memory : Type 0
+Memory = FinMap id_cmp Allocation
+
+-- ---- making allocations
+
+-- how many bytes an allocation of a size holds: a function takes an address and holds none
+abbrev pub held : Kind → ℕ → ℕ
+held Function size = 0
+held Heap size = size
+held Stack size = size
+held Static size = size
+
+-- a new allocation, all of whose bytes are uninitialised
+abbrev pub fresh : Kind → ℕ → ℕ → ℕ → Allocation
+fresh kind size align addr = record {
+  addr = addr;
+  span = size;
+  align = align;
+  kind = kind;
+  live = true;
+  bytes = replicate (held kind size) Uninit;
+}
+
+abbrev pub allocated : Memory → AllocId → Kind → ℕ → ℕ → ℕ → Memory
+allocated m id kind size align addr = map.insert m id (fresh kind size align addr)
+
+abbrev pub IsPowerOfTwo : ℕ → Type 0
+IsPowerOfTwo n = (k : ℕ) × (n ≡ 2 ^ k)
+
+-- a function is asked for with size 1 and alignment 1
+abbrev pub IsAsked : Kind → ℕ → ℕ → Type 0
+IsAsked Function size align = (size ≡ 1) × (align ≡ 1)
+IsAsked Heap size align = Unit {0}
+IsAsked Stack size align = Unit {0}
+IsAsked Static size align = Unit {0}
+
+-- ---- picked addresses
+
+-- two ranges share an address; a range of length 0 shares none
+abbrev pub overlaps : ℕ → ℕ → ℕ → ℕ → Bool
+overlaps addr size addr' size' =
+    not (size == 0) && (not (size' == 0) && (nat_lt addr (addr' + size') && nat_lt addr' (addr + size)))
+
+-- a number above 0 is no multiple of 0
+abbrev pub is_multiple : ℕ → ℕ → Bool
+is_multiple addr align = not (align == 0) && (addr % align == 0)
+
+-- 0, misaligned, or past the address space
+abbrev pub is_bad_address : ℕ → ℕ → ℕ → Bool
+is_bad_address addr size align = (addr == 0) || (not (is_multiple addr align) || nat_lt (2 ^ 64) (addr + size))
+
+-- the least identity whose range the new one overlaps, dead or live
+abbrev pub first_overlapped : ℕ → ℕ → List (AllocId × Allocation) → Option AllocId
+first_overlapped addr size [] = None
+first_overlapped addr size (e ∷ es) =
+    if overlaps addr size e.1.addr e.1.span then Some e.0 else first_overlapped addr size es
+
+abbrev pub reused : Option AllocId → Option PickFault
+reused None = None
+reused (Some id) = Some (Reused id)
+
+-- why an address may not be picked for a new allocation, if it may not
+unfoldable pub pick_fault : Memory → ℕ → ℕ → ℕ → Option PickFault
+pick_fault m addr size align =
+    if is_bad_address addr size align then Some BadAddress else reused (first_overlapped addr size (map.entries m))
+
+-- ---- freeing
+
+-- the allocation of a provenance; one that names no allocation counts as none
+abbrev pub found : Memory → Option AllocId → Option Allocation
+found m None = None
+found m (Some id) = map.get m id
+
+-- the reason of the first test that fails
+abbrev pub first_failed : List (Bool × Reason) → Option Reason
+first_failed [] = None
+first_failed (t ∷ ts) = if t.0 then first_failed ts else Some t.1
+
+abbrev pub kind_number : Kind → ℕ
+kind_number Heap = 0
+kind_number Stack = 1
+kind_number Static = 2
+kind_number Function = 3
+
+-- why an allocation may not be freed by a pointer to this address, as of this kind, size and alignment
+unfoldable pub free_fault : Allocation → ℕ → Kind → ℕ → ℕ → Option Reason
+free_fault a addr kind size align =
+    first_failed (
+      (a.live, DeadAllocation)
+      ∷ (addr == a.addr, FreeAddress)
+      ∷ (kind_number kind == kind_number a.kind, FreeKind)
+      ∷ (size == length a.bytes, FreeSize)
+      ∷ (align == a.align, FreeAlign)
+      ∷ [])
+
+-- the first reason against freeing what a provenance names
+abbrev pub refusal : Option Allocation → ℕ → Kind → ℕ → ℕ → Option Reason
+refusal None addr kind size align = Some NoProvenance
+refusal (Some a) addr kind size align = free_fault a addr kind size align
+
+-- the memory in which the allocation is dead
+abbrev pub without_life : Memory → AllocId → Option Allocation → Memory
+without_life m id None = m
+without_life m id (Some a) = map.insert m id (record a { live = false })
+
+abbrev pub unless : {A : Type 0} → Option Reason → A → Result A Reason
+unless None x = Ok x
+unless (Some r) x = Err r
+
+abbrev pub freed_of : Memory → Option AllocId → ℕ → Kind → ℕ → ℕ → Result (AllocId × Memory) Reason
+freed_of m None addr kind size align = Err NoProvenance
+freed_of m (Some id) addr kind size align =
+    unless (refusal (map.get m id) addr kind size align) (id, without_life m id (map.get m id))
+
+-- the allocation that is freed and the memory after it, or the first reason against it
+unfoldable pub freed : Memory → Pointer → Kind → ℕ → ℕ → Result (AllocId × Memory) Reason
+freed m p kind size align = freed_of m p.prov p.addr kind size align
+
+-- ---- checking, reading and writing ranges
+
+abbrev pub inside : Option Allocation → ℕ → ℕ → Result Allocation Reason
+inside None addr len = Err NoProvenance
+inside (Some a) addr len =
+    if a.live
+    then (if nat_le a.addr addr && nat_le (addr + len) (a.addr + length a.bytes) then Ok a else Err OutOfBounds)
+    else Err DeadAllocation
+
+abbrev pub then_give : {A B : Type 0} → Result A Reason → (A → B) → Result B Reason
+then_give (Ok x) f = Ok (f x)
+then_give (Err r) f = Err r
+
+-- the range check: what it touches, where the length is positive
+abbrev pub checked : Memory → Pointer → ℕ → Result (Option AllocId) Reason
+checked m p len = if len == 0 then Ok None else then_give (inside (found m p.prov) p.addr len) (λ _. p.prov)
+
+-- the bytes of a range of an allocation
+abbrev pub bytes_at : Allocation → ℕ → ℕ → List AbstractByte
+bytes_at a addr len = take len (drop (addr - a.addr) a.bytes)
+
+-- alignment comes before the range check
+abbrev pub aligned : {A : Type 0} → Pointer → ℕ → Result A Reason → Result A Reason
+aligned p align r = if p.addr % align == 0 then r else Err Misaligned
+
+abbrev pub read : Memory → Pointer → ℕ → ℕ → Result (List AbstractByte) Reason
+read m p len align =
+    aligned p align (if len == 0 then Ok [] else then_give (inside (found m p.prov) p.addr len) (λ a. bytes_at a p.addr len))
+
+-- a list with a part of it replaced
+abbrev pub spliced : List AbstractByte → ℕ → List AbstractByte → List AbstractByte
+spliced xs i ys = take i xs ++ (ys ++ drop (i + length ys) xs)
+
+abbrev pub with_bytes : Memory → Option AllocId → Allocation → ℕ → List AbstractByte → Memory
+with_bytes m None a addr bytes = m
+with_bytes m (Some id) a addr bytes = map.insert m id (record a { bytes = spliced a.bytes (addr - a.addr) bytes })
+
+abbrev pub put : Memory → Pointer → List AbstractByte → ℕ → Result Memory Reason
+put m p bytes align =
+    aligned p align (if length bytes == 0 then Ok m else then_give (inside (found m p.prov) p.addr (length bytes)) (λ a. with_bytes m p.prov a p.addr bytes))
+
+-- ---- leaks
+
+abbrev pub is_heap : Kind → Bool
+is_heap Heap = true
+is_heap Stack = false
+is_heap Static = false
+is_heap Function = false
+
+abbrev pub is_leak : AllocId × Allocation → Bool
+is_leak e = e.1.live && is_heap e.1.kind
+
+-- a heap allocation is live
+unfoldable pub leaks : Memory → Bool
+leaks m = list_any is_leak (map.entries m)

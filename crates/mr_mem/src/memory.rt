@@ -1,0 +1,247 @@
+ghost use Rattle.std.specs.Prelude.{◌≡◌, Some, None, IsNone};
+ghost use Rattle.std.specs.List.{list_any};
+ghost use Rattle.std.specs.BTreeMap.{IsOrdered};
+ghost use Rattle.mr_mem.specs.Memory.{held, overlaps, is_bad_address, free_fault, first_overlapped, is_leak, id_cmp, kind_number, refusal, without_life};
+ghost use Rattle.mr_mem.specs.Stored.{allocation_of, entries_of, memory_of};
+ghost use Rattle.std.specs.FinMap as fin;
+
+use crate::fault::PickFault;
+use mr_base::{AbstractByte, AllocId, Kind, Pointer, Reason};
+use std::alloc::{AllocError, Global};
+use std::collections::BTreeMap;
+use std::marker::Model;
+
+/// An allocation with its bytes in a plain list.
+#[derive(Drop)]
+pub struct Stored {
+    addr: u64,
+    span: u64,
+    align: u64,
+    kind: Kind,
+    live: bool,
+    bytes: Vec<AbstractByte>,
+}
+
+/// The allocations of a run, dead and live. (MiniRust, mem: the basic memory.)
+#[derive(Drop)]
+pub struct Memory {
+    allocations: BTreeMap<AllocId, Stored>,
+    alloc: Global,
+}
+
+impl Model for Memory {
+    ghost use Rattle.mr_mem.specs.Memory.{Memory as Allocations};
+
+    ghost Value = { Allocations };
+
+    ghost use Rattle.std.specs.FinMap as fin;
+    ghost use Rattle.std.specs.Coded.{codes};
+
+    ghost coded = { fin.code (Prim.hlevel codes) (Prim.hlevel codes) };
+
+    ghost use Rattle.mr_mem.specs.Stored.{memory_of};
+
+    ghost view = { λ m. memory_of m.allocations.entries };
+}
+
+// How many bytes an allocation of this size holds.
+fn held_by(kind: Kind, size: u64) -> usize
+    ensures { result ≡ held kind size }
+{
+    match kind {
+        Kind::Function => 0,
+        Kind::Heap | Kind::Stack | Kind::Static => size as usize,
+    }
+}
+
+impl Memory {
+    ghost use Rattle.std.specs.Prelude.{◌≡◌, ◌+◌, ◌-◌, ◌<◌, ◌≤◌, ◌^◌, MatchResult, OnOk, OnErr, Some, None, Ok, Err};
+    ghost use Rattle.std.specs.FinMap as fin;
+    ghost use Rattle.mr_mem.specs.Memory.{pick_fault, allocated, freed, leaks as is_leaking, IsPowerOfTwo, IsAsked};
+
+    /// No allocation.
+    pub fn new(alloc: Global) -> Memory
+        ensures { result ≡ fin.empty }
+    {
+        Memory {
+            allocations: BTreeMap::new(alloc),
+            alloc,
+        }
+    }
+
+    /// Adds an allocation whose bytes are uninitialised.
+    pub fn allocate(
+        &mut self,
+        id: AllocId,
+        kind: Kind,
+        size: u64,
+        align: u64,
+        addr: u64,
+    ) -> Result<(), AllocError>
+        requires new { fin.get self.old id ≡ None }
+        requires lawful { pick_fault self.old addr size align ≡ None }
+        requires size { size < 2 ^ 63 }
+        requires align { IsPowerOfTwo align }
+        requires asked { IsAsked kind size align }
+        ensures ok { OnOk result (self.new ≡ allocated self.old id kind size align addr) }
+        ensures err { OnErr result (self.new ≡ self.old) }
+    {
+        let bytes = vec![in self.alloc; AbstractByte::Uninit; held_by(kind, size)]?;
+        let new = Stored {
+            addr,
+            span: size,
+            align,
+            kind,
+            live: true,
+            bytes,
+        };
+        self.allocations.insert(id, new)?;
+        Ok(())
+    }
+
+    /// Whether an address may be picked for a new allocation of this size and alignment.
+    #[tactic(auto, using(crate::proofs::Views::entries), unfolding(crate::specs::Memory::pick_fault))]
+    pub fn lawful(&self, addr: u64, size: u64, align: u64) -> Result<(), PickFault>
+        ensures { MatchResult result (λ _. pick_fault self.now addr size align ≡ None) (λ f. pick_fault self.now addr size align ≡ Some f) }
+    {
+        if is_bad(addr, size, align) {
+            return Err(PickFault::BadAddress);
+        }
+        match first_shared(&self.allocations, addr, size) {
+            Some(id) => Err(PickFault::Reused(id)),
+            None => Ok(()),
+        }
+    }
+
+    /// Frees the allocation that the pointer begins, and names it.
+    #[tactic(auto, unfolding(crate::specs::Memory::freed))]
+    pub fn deallocate(
+        &mut self,
+        p: Pointer,
+        kind: Kind,
+        size: u64,
+        align: u64,
+    ) -> Result<AllocId, Reason>
+        ensures freed { MatchResult result (λ id. freed self.old p kind size align ≡ Ok (id, self.new)) (λ r. freed self.old p kind size align ≡ Err r) }
+        ensures err { OnErr result (self.new ≡ self.old) }
+    {
+        let Some(id) = p.prov else {
+            return Err(Reason::NoProvenance);
+        };
+        if let Some(reason) = against_free(&self.allocations, id, p.addr, kind, size, align) {
+            return Err(reason);
+        }
+        end_life(&mut self.allocations, id);
+        Ok(id)
+    }
+
+    /// Whether a heap allocation is live.
+    #[tactic(auto, using(crate::proofs::Views::entries), unfolding(crate::specs::Memory::leaks))]
+    pub fn leaks(&self) -> bool
+        ensures { result ≡ is_leaking self.now }
+    {
+        any_leak(&self.allocations)
+    }
+}
+
+// Whether the address is 0, misaligned, or too high for the size.
+fn is_bad(addr: u64, size: u64, align: u64) -> bool
+    ensures { result ≡ is_bad_address addr size align }
+{
+    addr == 0 || align == 0 || addr % align != 0 || addr - 1 > u64::MAX - size
+}
+
+// Whether a range shares an address with that of the allocation.
+fn shares(addr: u64, size: u64, a: &Stored) -> bool
+    ensures { result ≡ overlaps addr size a.now.addr a.now.span }
+{
+    size != 0
+        && a.span != 0
+        && (addr < a.addr || addr - a.addr < a.span)
+        && (a.addr < addr || a.addr - addr < size)
+}
+
+// The first allocation, in the order of identities, whose range the new one shares.
+fn first_shared(allocations: &BTreeMap<AllocId, Stored>, addr: u64, size: u64) -> Option<AllocId>
+    ensures first { result ≡ first_overlapped addr size (entries_of allocations.now.entries) }
+    ensures ordered { IsOrdered id_cmp allocations.now }
+{
+    for (id, a) in allocations.iter() {
+        if shares(addr, size, a) {
+            return Some(*id);
+        }
+    }
+    None
+}
+
+// The first reason against freeing what has the identity.
+fn against_free(
+    allocations: &BTreeMap<AllocId, Stored>,
+    id: AllocId,
+    addr: u64,
+    kind: Kind,
+    size: u64,
+    align: u64,
+) -> Option<Reason>
+    ensures { result ≡ refusal (fin.get (memory_of allocations.now.entries) id) addr kind size align }
+{
+    match allocations.get(&id) {
+        None => Some(Reason::NoProvenance),
+        Some(a) => fault_of_free(a, addr, kind, size, align),
+    }
+}
+
+// Marks the allocation dead, where there is one.
+fn end_life(allocations: &mut BTreeMap<AllocId, Stored>, id: AllocId)
+    ensures { memory_of allocations.new.entries ≡ without_life (memory_of allocations.old.entries) id (fin.get (memory_of allocations.old.entries) id) }
+{
+    if let Some(a) = allocations.get_mut(&id) {
+        a.live = false;
+    }
+}
+
+fn number_of(kind: Kind) -> u8
+    ensures { result ≡ kind_number kind }
+{
+    match kind {
+        Kind::Heap => 0,
+        Kind::Stack => 1,
+        Kind::Static => 2,
+        Kind::Function => 3,
+    }
+}
+
+// The first reason against freeing the allocation so.
+#[tactic(auto, unfolding(crate::specs::Memory::free_fault))]
+fn fault_of_free(a: &Stored, addr: u64, kind: Kind, size: u64, align: u64) -> Option<Reason>
+    ensures { result ≡ free_fault (allocation_of a.now) addr kind size align }
+{
+    if !a.live {
+        return Some(Reason::DeadAllocation);
+    }
+    if addr != a.addr {
+        return Some(Reason::FreeAddress);
+    }
+    if number_of(kind) != number_of(a.kind) {
+        return Some(Reason::FreeKind);
+    }
+    if size != a.bytes.len() as u64 {
+        return Some(Reason::FreeSize);
+    }
+    if align != a.align {
+        return Some(Reason::FreeAlign);
+    }
+    None
+}
+
+fn any_leak(allocations: &BTreeMap<AllocId, Stored>) -> bool
+    ensures any { result ≡ list_any is_leak (entries_of allocations.now.entries) }
+    ensures ordered { IsOrdered id_cmp allocations.now }
+{
+    for (_, a) in allocations.iter() {
+        if a.live && number_of(a.kind) == 0 {
+            return true;
+        }
+    }
+    false
+}
