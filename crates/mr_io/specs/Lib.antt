@@ -1,0 +1,4 @@
+pub mod Counts
+pub mod Drawer
+pub mod Files
+pub mod Tray

@@ -1,0 +1,6 @@
+/// Standard output.
+#[derive(Drop)]
+pub struct HostOut<W> {
+    out: W,
+    pub faults: u64,
+}
