@@ -11,6 +11,10 @@ Contents = List ℕ → Option (List ℕ)
 abbrev pub Grows : List ℕ → List ℕ → Type 0
 Grows old new = (bytes : List ℕ) × (new ≡ old ++ bytes)
 
+-- at the end stand n more bytes
+abbrev pub GrowsBy : ℕ → List ℕ → List ℕ → Type 0
+GrowsBy n old new = (bytes : List ℕ) × (length bytes ≡ n) × (new ≡ old ++ bytes)
+
 -- The answer of a read of a file, where it is known what the files hold: all the bytes of the file stand at the end and
 -- are at most max; no file has the name; the file has more bytes than max. The host's failures and want of memory may
 -- come at any read.
