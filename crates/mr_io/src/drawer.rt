@@ -45,7 +45,8 @@ impl Drawer {
     /// Puts a file behind the others.
     pub fn add(&mut self, alloc: Global, name: &str, bytes: &[u8]) -> Result<(), AllocError>
         ensures ok { OnOk result (self.new ≡ record self.old {
-            files = self.old.files ++ record { name = name.now; bytes = bytes.now } ∷ [] }) }
+          files = self.old.files ++ record { name = name.now; bytes = bytes.now } ∷ [];
+        }) }
         ensures err { OnErr result (self.new ≡ self.old) }
     {
         let name = Text::from_str(alloc, name)?;

@@ -1,6 +1,8 @@
 ghost use Rattle.std.specs.Prelude.{◌≡◌, ℕ, ◌+◌, ◌<◌, ◌≤◌, ◌^◌, ◌++◌, List, length, take, None, IsErrOf, IfOk, OnOk, OnErr};
 ghost use Rattle.mr_io.specs.Counts.{raised};
+ghost use Rattle.std.specs.Io.KnownBytes.{IsAtEnd};
 ghost use Rattle.mr_io.specs.Files.{Grows, GrowsBy};
+ghost use Rattle.mr_io.specs.Host.{Moves};
 
 use crate::files::{FileFault, Files};
 use std::alloc::Global;
@@ -111,15 +113,16 @@ fn take_bytes<F: Read>(
 ) -> Result<(), FileFault>
     requires { taken.old ≡ 0 }
     ensures taken { taken.new ≤ max + 1 }
-    ensures ok { OnOk result ((taken.new ≤ max) × GrowsBy taken.new into.old.items into.new.items) }
+    ensures ok { OnOk result ((taken.new ≤ max)
+        × Moves taken.new (F.remaining file.old) (F.remaining file.new) into.old.items into.new.items) }
+    ensures end { OnOk result (IsAtEnd (F.remaining file.new)) }
     ensures err { OnErr result (Grows into.old.items into.new.items) }
     ensures long { IsErrOf result FileFault.Long → max < taken.new }
     ensures told { ¬ IsErrOf result FileFault.Missing }
 {
     while *taken <= max {
-        let before = *taken;
-        take_piece(file, max - before, taken, into)?;
-        if *taken == before {
+        let n = take_piece(file, max - *taken, taken, into)?;
+        if n == 0 {
             return Ok(());
         }
     }
@@ -132,10 +135,12 @@ fn take_piece<F: Read>(
     left: u64,
     taken: &mut u64,
     into: &mut Vec<u8>,
-) -> Result<(), FileFault>
+) -> Result<usize, FileFault>
     requires { taken.old < 2 ^ 63 }
     ensures taken { (taken.old ≤ taken.new) × (taken.new ≤ taken.old + left + 1) }
-    ensures ok { OnOk result ((n : ℕ) × (taken.new ≡ taken.old + n) × GrowsBy n into.old.items into.new.items) }
+    ensures ok { IfOk result (λ n. (taken.new ≡ taken.old + n)
+        × Moves n (F.remaining file.old) (F.remaining file.new) into.old.items into.new.items) }
+    ensures end { IfOk result (λ n. n ≡ 0 → IsAtEnd (F.remaining file.new)) }
     ensures err { OnErr result (into.new.items ≡ into.old.items) }
     ensures fault { (¬ IsErrOf result FileFault.Missing) × (¬ IsErrOf result FileFault.Long) }
 {
@@ -146,7 +151,7 @@ fn take_piece<F: Read>(
     };
     *taken += n as u64;
     match into.extend_from_slice(&piece[..n]) {
-        Ok(()) => Ok(()),
+        Ok(()) => Ok(n),
         Err(_) => Err(FileFault::Memory),
     }
 }

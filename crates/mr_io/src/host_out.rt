@@ -1,4 +1,5 @@
-ghost use Rattle.std.specs.Prelude.{◌≡◌, ◌<◌, ◌≤◌, length, None, IfOk, OnOk, OnErr, IfSome};
+ghost use Rattle.std.specs.Prelude.{◌≡◌, ◌<◌, ◌≤◌, length, take, None, IfOk, OnOk, OnErr, IfSome};
+ghost use Rattle.std.specs.Io.KnownBytes.{Appends};
 ghost use Rattle.mr_io.specs.Counts.{raised};
 
 use crate::sink::{Failed, Sink};
@@ -7,7 +8,7 @@ use std::io::Write;
 /// A writer of the host, as standard output. What it has taken isn't told.
 #[derive(Drop)]
 pub struct HostOut<W> {
-    out: W,
+    pub out: W,
     /// How often the host has failed. The count stands still at its last value.
     pub faults: u64,
 }
@@ -15,7 +16,8 @@ pub struct HostOut<W> {
 impl<W: Write + Drop> HostOut<W> {
     /// Writes to `out`, as `rt.stdout()` of the runtime that `main` is given.
     pub fn new(out: W) -> HostOut<W>
-        ensures { result.faults ≡ 0 }
+        ensures out { result.out ≡ out }
+        ensures faults { result.faults ≡ 0 }
     {
         HostOut { out, faults: 0 }
     }
@@ -29,6 +31,12 @@ impl<W: Write + Drop> Sink for HostOut<W> {
     fn write(&mut self, piece: &[u8]) -> Result<usize, Failed>
         requires { 0 < length piece.now }
         ensures some { IfOk result (λ n. (1 ≤ n) × (n ≤ length piece.now)) }
+
+        // Where the writer tells what it holds, these are the bytes that it took.
+        ensures taken { IfOk result (λ n.
+            Appends (W.contents self.old.out) (W.contents self.new.out) (take n piece.now)) }
+
+        // A fault is counted.
         ensures ok { OnOk result (self.new.faults ≡ self.old.faults) }
         ensures failed { OnErr result (self.new.faults ≡ raised self.old.faults) }
         ensures faults { self.old.faults ≤ self.new.faults }
@@ -45,7 +53,8 @@ impl<W: Write + Drop> Sink for HostOut<W> {
 
 // Writes the first bytes of a piece, and flushes them.
 fn put<W: Write>(out: &mut W, piece: &[u8]) -> Option<usize>
-    ensures { IfSome result (λ n. (1 ≤ n) × (n ≤ length piece.now)) }
+    ensures some { IfSome result (λ n. (1 ≤ n) × (n ≤ length piece.now)) }
+    ensures taken { IfSome result (λ n. Appends (W.contents out.old) (W.contents out.new) (take n piece.now)) }
 {
     match out.write(piece) {
         Ok(n) if n > 0 && out.flush().is_ok() => Some(n),

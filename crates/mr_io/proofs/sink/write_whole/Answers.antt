@@ -17,5 +17,5 @@ loop-done-preserved g c =
           ∙ ap (λ taken. append_known taken (take n (drop done text))) c.loop-done.invariant.so_far
           ∙ append_known-append_known (g.O.Sink.taken c.args.out.now) done n text;
       faults = grind arith;
-      none_yet = grind arith
+      none_yet = grind arith;
     }
