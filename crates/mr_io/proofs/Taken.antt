@@ -1,11 +1,9 @@
 -- What a sink has taken after two writes in a row.
-use Rattle.std.proofs.Common.{◌≡◌, ℕ, ◌+◌, List, ◌++◌, Option, Some, None, take, drop, ap, sym, ◌∙◌, refl, append_assoc}
-use Rattle.std.proofs.Math.Seq.{take-add}
+use Rattle.std.proofs.Common.{◌≡◌, List, ℕ, ◌++◌, Option, Some, None, ap, refl, append_assoc}
 use Rattle.std.specs.Io.KnownBytes.{append_known}
 
--- the first bytes of a text, and then the next ones, are one longer part of it
-pub append_known-append_known : (old : Option (List ℕ)) (d n : ℕ) (text : List ℕ)
-    → append_known (append_known old (take d text)) (take n (drop d text)) ≡ append_known old (take (d + n) text)
-append_known-append_known None d n text = refl
-append_known-append_known (Some xs) d n text =
-    ap Some (append_assoc xs (take d text) (take n (drop d text)) ∙ ap (λ part. xs ++ part) (sym (take-add d n text)))
+-- bytes that are taken one after another are taken as one
+pub append_known-append_known : (known : Option (List ℕ)) (front back : List ℕ)
+    → append_known (append_known known front) back ≡ append_known known (front ++ back)
+append_known-append_known None front back = refl
+append_known-append_known (Some xs) front back = ap Some (append_assoc xs front back)

@@ -1,5 +1,5 @@
 -- Files in memory, of which chosen reads fail.
-use Rattle.std.specs.Prelude.{◌≡◌, ℕ, ◌+◌, List, Option, Contains, if◌then◌else◌, find, ◌<◌, length, Some}
+use Rattle.std.specs.Prelude.{List, Contains, find}
 use Rattle.std.specs.Option.{option_map}
 use Rattle.std.specs.Str.{bytes_eq}
 use Rattle.mr_io.specs.Counts.{raised}
@@ -14,7 +14,3 @@ contents_of files name = option_map (λ file. file.bytes) (find (λ file. bytes_
 -- the next read is one of those that fail
 abbrev pub FailsNext : Drawer → Type 0
 FailsNext d = Contains d.fails (raised d.calls)
-
--- the first file of the name has more bytes than max
-abbrev pub IsLong : List File → List ℕ → ℕ → Type 0
-IsLong files name max = (bytes : List ℕ) × (contents_of files name ≡ Some bytes) × (max < length bytes)

@@ -1,9 +1,8 @@
 -- Bytes taken in memory, with a limit to each write and to all of them.
-use Rattle.std.specs.Prelude.{◌≡◌, ℕ, ◌-◌, ◌≤◌, List, length, min, vec_len, vec_capacity}
-use Rattle.mr_io.specs.declared.tray.Tray.TheInside.{Inside}
+use Rattle.std.specs.Prelude.{ℕ, List}
 
 -- the bytes taken so far, the most that are ever taken, the most that one write takes, and how many writes failed
-pub record Taken : Type 0 where
+pub record TrayState : Type 0 where
   pub taken : List ℕ
   pub room : ℕ
   pub step : ℕ

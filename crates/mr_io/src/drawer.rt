@@ -1,13 +1,14 @@
-ghost use Rattle.std.specs.Prelude.{◌≡◌, ◌+◌, ◌≤◌, ◌<◌, ◌↔◌, [], ◌∷◌, ◌++◌, length, Some, None, IsErrOf, OnOk, OnErr, MatchOption, if◌then◌else◌};
+ghost use Rattle.std.specs.Prelude.{◌≡◌, ◌≤◌, ◌↔◌, [], ◌∷◌, ◌++◌, Some, None, IsErrOf, OnOk, OnErr};
 ghost use Rattle.std.specs.Option.{option_copied};
 ghost use Rattle.mr_io.specs.Counts.{raised};
-ghost use Rattle.mr_io.specs.Drawer.{contents_of, FailsNext, IsLong};
-ghost use Rattle.mr_io.specs.Files.{Answers};
+ghost use Rattle.mr_io.specs.Drawer.{contents_of, FailsNext};
+ghost use Rattle.mr_io.specs.Files.{GainsFile, IsLonger};
 
+use crate::OutOfMemory;
 use crate::files::{FileFault, Files};
 use crate::text::Text;
 use sqlite_items::Items;
-use std::alloc::{AllocError, Global};
+use std::alloc::Global;
 
 /// A file in memory.
 #[derive(Debug, Drop)]
@@ -43,7 +44,7 @@ impl Drawer {
     }
 
     /// Puts a file behind the others.
-    pub fn add(&mut self, alloc: Global, name: &str, bytes: &[u8]) -> Result<(), AllocError>
+    pub fn add(&mut self, alloc: Global, name: &str, bytes: &[u8]) -> Result<(), OutOfMemory>
         ensures ok { OnOk result (self.new ≡ record self.old {
           files = self.old.files ++ record { name = name.now; bytes = bytes.now } ∷ [];
         }) }
@@ -56,8 +57,6 @@ impl Drawer {
 }
 
 impl Files for Drawer {
-    ghost use Rattle.mr_io.specs.Drawer.{contents_of, FailsNext, IsLong};
-
     ghost told = { λ d. Some (contents_of d.files) };
 
     ghost faults = { λ d. d.faults };
@@ -85,8 +84,9 @@ impl Files for Drawer {
         ensures missing { IsErrOf result FileFault.Missing
             ↔ ((¬ FailsNext self.old) × (contents_of self.old.files name.now ≡ None)) }
         ensures long { IsErrOf result FileFault.Long
-            ↔ ((¬ FailsNext self.old) × IsLong self.old.files name.now max) }
-        ensures answer { Answers (contents_of self.old.files) name.now max result into.old.items into.new.items }
+            ↔ ((¬ FailsNext self.old) × IsLonger (contents_of self.old.files) name.now max) }
+        ensures whole { OnOk result
+            (GainsFile (contents_of self.old.files) name.now max into.old.items into.new.items) }
         ensures err { OnErr result (into.new.items ≡ into.old.items) }
     {
         self.calls = self.calls.saturating_add(1);

@@ -1,6 +1,6 @@
-ghost use Rattle.std.specs.Prelude.{◌≡◌, ℕ, ◌≤◌, Option, Some, IsSome, IsErrOf, OnOk, OnErr};
+ghost use Rattle.std.specs.Prelude.{◌≡◌, ℕ, ◌≤◌, Option, None, Some, IsSome, IsErrOf, OnOk, OnErr};
 ghost use Rattle.mr_io.specs.Counts.{raised, Rose};
-ghost use Rattle.mr_io.specs.Files.{Answers, Contents, Grows};
+ghost use Rattle.mr_io.specs.Files.{Contents, GainsFile, Grows, IsLonger};
 
 use std::alloc::Global;
 use thiserror::Error;
@@ -29,7 +29,8 @@ pub trait Files {
     /// How many reads there were.
     ghost reads: { Self → ℕ };
 
-    /// Appends the bytes of a file to `into`, if there are at most `max`.
+    /// Appends the bytes of a file to `into`, if there are at most `max`. `alloc` gives the memory that is
+    /// needed meanwhile.
     fn read(
         &mut self,
         alloc: Global,
@@ -47,8 +48,12 @@ pub trait Files {
         ensures err { OnErr result (into.new.items ≡ into.old.items) }
 
         // Each answer has its cause. `Memory` may always come.
-        ensures answer { (files : Contents) → told self.old ≡ Some files
-            → Answers files name.now max result into.old.items into.new.items }
-        ensures failed { IsErrOf result FileFault.Failed → Rose (faults self.old) (faults self.new) }
-        ensures missing { IsErrOf result FileFault.Missing → IsSome (told self.old) };
+        ensures whole { (files : Contents) → told self.old ≡ Some files
+            → OnOk result (GainsFile files name.now max into.old.items into.new.items) }
+        ensures missing { (files : Contents) → told self.old ≡ Some files
+            → IsErrOf result FileFault.Missing → files name.now ≡ None }
+        ensures long { (files : Contents) → told self.old ≡ Some files
+            → IsErrOf result FileFault.Long → IsLonger files name.now max }
+        ensures telling { IsErrOf result FileFault.Missing → IsSome (told self.old) }
+        ensures failed { IsErrOf result FileFault.Failed → Rose (faults self.old) (faults self.new) };
 }

@@ -1,6 +1,6 @@
-ghost use Rattle.std.specs.Prelude.{◌≡◌, ℕ, ◌+◌, ◌<◌, ◌≤◌, ◌^◌, ◌++◌, List, length, take, None, IsErrOf, IfOk, OnOk, OnErr};
-ghost use Rattle.mr_io.specs.Counts.{raised};
+ghost use Rattle.std.specs.Prelude.{◌≡◌, ◌+◌, ◌<◌, ◌≤◌, ◌^◌, None, IsErrOf, IfOk, OnOk, OnErr};
 ghost use Rattle.std.specs.Io.KnownBytes.{IsAtEnd};
+ghost use Rattle.mr_io.specs.Counts.{raised};
 ghost use Rattle.mr_io.specs.Files.{Grows, GrowsBy};
 ghost use Rattle.mr_io.specs.Host.{Moves};
 

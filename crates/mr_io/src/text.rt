@@ -1,6 +1,7 @@
 ghost use Rattle.std.specs.Prelude.{◌≡◌, ◌++◌, ◌↔◌, [], length, slice_get, encode_utf8, IsTrue, IfOk, OnOk, OnErr};
 
-use std::alloc::{AllocError, Global};
+use crate::OutOfMemory;
+use std::alloc::Global;
 use std::marker::Model;
 
 /// A text, which contracts see as the list of its bytes.
@@ -27,14 +28,14 @@ impl Text {
         }
     }
 
-    pub fn from_str(alloc: Global, text: &str) -> Result<Text, AllocError>
+    pub fn from_str(alloc: Global, text: &str) -> Result<Text, OutOfMemory>
         ensures { IfOk result (λ t. t ≡ text.now) }
     {
         let text = String::from_str(alloc, text)?;
         Ok(Text { text })
     }
 
-    pub fn push(&mut self, c: char) -> Result<(), AllocError>
+    pub fn push(&mut self, c: char) -> Result<(), OutOfMemory>
         ensures ok { OnOk result (self.new ≡ self.old ++ encode_utf8 c) }
         ensures err { OnErr result (self.new ≡ self.old) }
     {

@@ -1,8 +1,9 @@
-ghost use Rattle.std.specs.Prelude.{◌≡◌, ℕ, ◌-◌, ◌<◌, ◌≤◌, ◌↔◌, [], ◌++◌, length, min, take, Some, IfOk, IsErr, OnErr};
+ghost use Rattle.std.specs.Prelude.{◌≡◌, ◌-◌, ◌<◌, ◌≤◌, ◌↔◌, [], ◌++◌, length, min, take, Some, IfOk, IsErr, OnErr};
 ghost use Rattle.mr_io.specs.Counts.{raised};
 
+use crate::OutOfMemory;
 use crate::sink::{Failed, Sink};
-use std::alloc::{AllocError, Global};
+use std::alloc::Global;
 use std::marker::Model;
 
 /// Takes bytes in memory that it has from the start.
@@ -16,9 +17,9 @@ pub struct Tray {
 
 impl Model for Tray {
     ghost use Rattle.std.specs.Prelude.{◌≤◌, length, vec_capacity};
-    ghost use Rattle.mr_io.specs.Tray.{Taken};
+    ghost use Rattle.mr_io.specs.Tray.{TrayState};
 
-    ghost Value = { Taken };
+    ghost Value = { TrayState };
 
     ghost view = { λ t. record { taken = t.taken.items; room = t.room; step = t.step; faults = t.faults } };
 
@@ -27,7 +28,7 @@ impl Model for Tray {
 
 impl Tray {
     /// Room for so many bytes in all. A write takes at most `step` bytes.
-    pub fn new(alloc: Global, room: usize, step: usize) -> Result<Tray, AllocError>
+    pub fn new(alloc: Global, room: usize, step: usize) -> Result<Tray, OutOfMemory>
         requires { 1 ≤ step }
         ensures { IfOk result (λ t. t ≡ record { taken = []; room = room; step = step; faults = 0 }) }
     {
