@@ -2,5 +2,6 @@ pub mod ByteLaws
 pub mod Examples
 pub mod NumberLaws
 pub mod PieceLaws
+pub mod ReadingLaws
 pub mod RunLaws
 pub mod SplitLaws
