@@ -1,5 +1,5 @@
 -- The piece at the front of a text: which one it is, and that there is only one.
-use Rattle.std.proofs.Common.{◌≡◌, ℕ, ◌+◌, ◌<◌, ◌≤◌, Bool, true, false, cond, ◌&&◌, ◌⊎◌, inl, inr, ⊎_elim, List, [], ◌∷◌, ◌++◌, length, refl, sym, ap, ◌∙◌, arith}
+use Rattle.std.proofs.Common.{◌≡◌, ℕ, ◌+◌, ◌<◌, ◌≤◌, Bool, true, false, cond, ◌&&◌, ◌⊎◌, inl, inr, ⊎_elim, List, [], ◌∷◌, ◌++◌, length, get_or, refl, sym, ap, ◌∙◌, arith}
 use Rattle.std.specs.Prelude.{Result, Ok, Err}
 use Rattle.std.specs.List.{take_while}
 use Rattle.std.proofs.lemmas.Bool.{cond-true, cond-false, cases_Bool, eqb-true, and_from, and_left, and_right, and_parts, false_from_ne_true, both_ways}
@@ -40,6 +40,11 @@ unfolding number_at
 number_at_run digits behind run =
     ap (λ bytes. cond (is_fine_number bytes) (Ok (Number bytes)) (Err 2)) (take_while_run is_digit digits behind run.within run.longest)
 
+-- past the end no `>` stands
+begins_arrow_end : (behind : List ℕ) → begins ends_arrow behind ≡ ends_arrow (get_or behind 0 0)
+begins_arrow_end [] = refl
+begins_arrow_end (b ∷ behind) = refl
+
 -- a piece that stands at the front is the one that is read
 pub piece_at_piece : (piece : Piece) (behind : List ℕ) → IsPiece piece behind → IsFine piece → piece_at (spelling_of piece ++ behind) ≡ Ok piece
 unfolding piece_at symbol_at
@@ -64,12 +69,11 @@ piece_at_piece (Number (b ∷ bytes)) behind run fine =
 piece_at_piece (Symbol []) behind symbol fine = absurd symbol
 piece_at_piece (Symbol (b ∷ [])) behind symbol fine =
     piece_at_symbol b behind symbol.0
-    ∙ cond-false (begins_arrow b && begins ends_arrow behind) _ _ symbol.1
+    ∙ cond-false (begins_arrow b && ends_arrow (get_or behind 0 0)) _ _ (ap (λ e. begins_arrow b && e) (sym (begins_arrow_end behind)) ∙ symbol.1)
     ∙ cond-true (is_symbol b) _ _ symbol.0
 piece_at_piece (Symbol (b ∷ c ∷ [])) behind symbol fine =
     piece_at_symbol b (c ∷ behind) (arrow_symbol b symbol.0)
     ∙ cond-true (begins_arrow b && ends_arrow c) _ _ (and_from _ _ symbol.0 symbol.1)
-    ∙ ap (λ d. Ok (Symbol (b ∷ d ∷ []))) (sym (eqb-true c 62 symbol.1))
 piece_at_piece (Symbol (b ∷ c ∷ d ∷ bytes)) behind symbol fine = absurd symbol
 
 -- a byte that begins nothing is the fault that is read
@@ -82,7 +86,7 @@ piece_at_bad_byte (b ∷ rest) bad =
     ∙ cond-false (begins_comment b) _ _ none.comment
     ∙ cond-false (is_letter b) _ _ none.letter
     ∙ cond-false (is_digit b) _ _ none.digit
-    ∙ cond-false (begins_arrow b && begins ends_arrow rest) _ _ (and_left _ _ none.arrow)
+    ∙ cond-false (begins_arrow b && ends_arrow (get_or rest 0 0)) _ _ (and_left _ _ none.arrow)
     ∙ cond-false (is_symbol b) _ _ none.symbol
 
 -- so is a number that a text may not hold

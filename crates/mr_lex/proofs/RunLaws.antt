@@ -1,9 +1,9 @@
 -- Runs of bytes that pass a test.
-use Rattle.std.proofs.Common.{◌≡◌, ℕ, Bool, true, false, List, [], ◌∷◌, ◌++◌, refl, sym, ap, ◌∙◌, subst, ⊎_elim}
+use Rattle.std.proofs.Common.{◌≡◌, ℕ, ◌<◌, Bool, length, take, get_or-take, length-take, arith, true, false, List, [], ◌∷◌, ◌++◌, refl, sym, ap, ◌∙◌, subst, ⊎_elim}
 use Rattle.std.specs.Prelude.{IsTrue, IsFalse}
-use Rattle.std.specs.List.{AllByRecursion, take_while}
+use Rattle.std.specs.List.{AllByRecursion, AllPass, take_while, prefix_len}
 use Rattle.std.proofs.lemmas.Bool.{cond-true, cond-false, cases_Bool}
-use Rattle.std.proofs.lemmas.List.Sums.{take_while-cons}
+use Rattle.std.proofs.lemmas.List.Sums.{take_while-cons, prefix_len_passes}
 use Rattle.mr_lex.specs.Bytes.{begins}
 use Rattle.mr_lex.specs.Pieces.{IsRun}
 
@@ -46,3 +46,9 @@ module _ (each : ℕ → Bool) where
         within = front.1.within;
         longest = front.1.longest;
       })
+
+  -- each byte of the front passes
+  pub take_while_passes : (text : List ℕ) → AllPass each (take (prefix_len each text) text)
+  take_while_passes text k d within =
+      let inside : k < prefix_len each text = omega (arith, length-take (prefix_len each text) text) in
+      ap each (get_or-take (prefix_len each text) text k d inside) ∙ prefix_len_passes each text k d inside

@@ -1,7 +1,7 @@
 -- Reading a text: what its tokens or its first fault are, computed.
-use Rattle.std.specs.Prelude.{◌≡◌, ℕ, zero, suc, ◌-◌, ◌^◌, Bool, not, ◌||◌, ◌&&◌, ◌==◌, nat_lt, if◌then◌else◌, List, [], ◌∷◌, length, drop, slice_index, Result, Ok, Err}
+use Rattle.std.specs.Prelude.{◌≡◌, ℕ, zero, suc, ◌-◌, ◌^◌, Bool, not, ◌||◌, ◌&&◌, ◌==◌, nat_lt, if◌then◌else◌, List, [], ◌∷◌, length, take, drop, slice_index, Result, Ok, Err}
 use Rattle.std.specs.List.{take_while}
-use Rattle.mr_lex.specs.Bytes.{is_blank, is_inline, begins_comment, is_letter, is_digit, is_word_byte, is_symbol, begins_arrow, ends_arrow, begins}
+use Rattle.mr_lex.specs.Bytes.{is_blank, is_inline, begins_comment, is_letter, is_digit, is_word_byte, is_symbol, begins_arrow, ends_arrow}
 use Rattle.mr_lex.specs.Numbers.{number_of}
 use Rattle.mr_lex.specs.Pieces.{Piece, Blank, Comment, Word, Number, Symbol, spelling_of}
 use Rattle.mr_lex.specs.Tokens.{Lexeme, lexemes_from, fault_at}
@@ -20,9 +20,8 @@ number_at rest = let digits = take_while is_digit rest in if is_fine_number digi
 -- the symbol at the front, or its fault
 unfoldable pub symbol_at : List ℕ → Result Piece ℕ
 symbol_at rest =
-    let first = slice_index rest 0 in
-    if begins_arrow first && begins ends_arrow (drop 1 rest) then Ok (Symbol (first ∷ 62 ∷ []))
-    else (if is_symbol first then Ok (Symbol (first ∷ [])) else Err 1)
+    if begins_arrow (slice_index rest 0) && ends_arrow (slice_index rest 1) then Ok (Symbol (take 2 rest))
+    else (if is_symbol (slice_index rest 0) then Ok (Symbol (take 1 rest)) else Err 1)
 
 -- the piece at the front of a rest that is not empty, or the code of the fault there
 unfoldable pub piece_at : List ℕ → Result Piece ℕ
