@@ -2,6 +2,7 @@ pub mod ByteLaws
 pub mod Examples
 pub mod NumberLaws
 pub mod PieceLaws
+pub mod PlaceLaws
 pub mod ReadingLaws
 pub mod RunLaws
 pub mod SplitLaws

@@ -1,7 +1,7 @@
 pub mod Bytes
-pub mod Found
 pub mod Numbers
 pub mod Pieces
 pub mod Places
 pub mod Reading
+pub mod Scanning
 pub mod Tokens

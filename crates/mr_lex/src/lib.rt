@@ -4,6 +4,7 @@
 mod bytes;
 mod number;
 mod piece;
+mod place;
 mod token;
 
 pub use token::{LexFault, TextFault, Token, TokenKind};

@@ -1,7 +1,7 @@
 ghost use Rattle.std.specs.Prelude.{◌≡◌, ◌<◌, ◌&&◌, length, slice_index};
 ghost use Rattle.mr_lex.specs.Bytes.{begins_arrow, ends_arrow};
 ghost use Rattle.mr_lex.specs.Reading.{number_at, symbol_at, piece_at};
-ghost use Rattle.mr_lex.specs.Found.{Finds};
+ghost use Rattle.mr_lex.specs.Scanning.{Finds};
 
 use crate::bytes::{digits_len, is_blank, is_digit, is_letter, is_symbol, line_len, word_len};
 use crate::number::is_fine_number;

@@ -1,5 +1,9 @@
--- What the search for a piece at the front of a text answers.
-use Rattle.std.specs.Prelude.{◌≡◌, ℕ, List, length, take, slice_index, Result, Ok, Err}
+-- What stands at the front of a text, and how far the text has been read.
+use Rattle.std.specs.Prelude.{◌≡◌, ℕ, ◌⊎◌, IsTrue, List, length, take, slice_index, Result, Ok, Err}
+use Rattle.std.specs.List.{AllByRecursion}
+use Rattle.mr_lex.specs.Bytes.{is_inline}
+use Rattle.mr_lex.specs.Places.{line_of, column_of}
+use Rattle.mr_lex.specs.declared.place.Place.{Place}
 use Rattle.mr_lex.specs.Pieces.{Piece, spelling_of}
 use Rattle.mr_lex.specs.Pieces as pieces
 use Rattle.mr_lex.specs.declared.piece.Found.{Found}
@@ -23,3 +27,12 @@ found_in text found = piece_of found.kind (take found.len text)
 abbrev pub Finds : List ℕ → Result Found ℕ → Result Piece ℕ → Type 0
 Finds text (Ok found) read = (read ≡ Ok (found_in text found)) × (found.len ≡ length (spelling_of (found_in text found)))
 Finds text (Err code) read = read ≡ Err code
+
+-- the place has the line and the column of its offset in the text
+pub record IsPlaceIn (text : List ℕ) (place : Place) : Type 0 where
+  pub line : place.line ≡ line_of text place.at
+  pub col : place.col ≡ column_of text place.at
+
+-- the bytes are one byte, or hold no line feed
+abbrev pub IsOneLine : List ℕ → Type 0
+IsOneLine bytes = (length bytes ≡ 1) ⊎ AllByRecursion (λ b. IsTrue (is_inline b)) bytes
