@@ -5,4 +5,5 @@ pub mod PieceLaws
 pub mod PlaceLaws
 pub mod ReadingLaws
 pub mod RunLaws
+pub mod SpanLaws
 pub mod SplitLaws

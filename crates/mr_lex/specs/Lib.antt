@@ -4,4 +4,5 @@ pub mod Pieces
 pub mod Places
 pub mod Reading
 pub mod Scanning
+pub mod Spans
 pub mod Tokens

@@ -2,11 +2,13 @@
 #![tactic(auto)]
 
 mod bytes;
+mod list;
 mod number;
 mod piece;
 mod place;
 mod token;
 
+pub use list::Tokens;
 pub use token::{LexFault, TextFault, Token, TokenKind};
 
 /// The code of a byte that begins nothing that a text may hold.
