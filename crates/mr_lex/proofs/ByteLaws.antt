@@ -41,6 +41,18 @@ letter_word_byte b letter = grind (arith, nat_tests)
 pub comment_inline : (b : ℕ) → begins_comment b ≡ true → is_inline b ≡ true
 comment_inline b comment = grind (arith, nat_tests)
 
+pub word_byte_inline : (b : ℕ) → is_word_byte b ≡ true → is_inline b ≡ true
+word_byte_inline b word = grind (arith, nat_tests)
+
+pub digit_inline : (b : ℕ) → is_digit b ≡ true → is_inline b ≡ true
+digit_inline b digit = grind (arith, nat_tests)
+
+pub arrow_inline : (b : ℕ) → begins_arrow b ≡ true → is_inline b ≡ true
+arrow_inline b arrow = grind (arith, nat_tests)
+
+pub arrow_end_inline : (b : ℕ) → ends_arrow b ≡ true → is_inline b ≡ true
+arrow_end_inline b arrow = grind (arith, nat_tests)
+
 -- what a byte is not that begins no piece
 pub record BeginsNothing (b : ℕ) : Type 0 where
   pub blank : is_blank b ≡ false

@@ -1,9 +1,12 @@
+pub mod AnswerLaws
 pub mod ByteLaws
 pub mod Examples
 pub mod NumberLaws
 pub mod PieceLaws
 pub mod PlaceLaws
 pub mod ReadingLaws
+pub mod RowLaws
 pub mod RunLaws
+pub mod ScanLaws
 pub mod SpanLaws
 pub mod SplitLaws

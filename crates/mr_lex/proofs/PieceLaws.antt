@@ -1,14 +1,15 @@
 -- The piece at the front of a text: which one it is, and that there is only one.
-use Rattle.std.proofs.Common.{◌≡◌, ℕ, ◌+◌, ◌<◌, ◌≤◌, Bool, true, false, cond, ◌&&◌, ◌⊎◌, inl, inr, ⊎_elim, List, [], ◌∷◌, ◌++◌, length, get_or, refl, sym, ap, ◌∙◌, arith}
-use Rattle.std.specs.Prelude.{Result, Ok, Err}
-use Rattle.std.specs.List.{take_while}
+use Rattle.std.proofs.Common.{◌≡◌, ℕ, ◌+◌, ◌<◌, ◌≤◌, Bool, true, false, cond, ◌&&◌, ◌⊎◌, inl, inr, ⊎_elim, List, [], ◌∷◌, ◌++◌, length, get_or, refl, sym, ap, ◌∙◌, subst, arith}
+use Rattle.std.specs.Prelude.{IsTrue, Result, Ok, Err}
+use Rattle.std.specs.List.{AllByRecursion, take_while}
 use Rattle.std.proofs.lemmas.Bool.{cond-true, cond-false, cases_Bool, eqb-true, and_from, and_left, and_right, and_parts, false_from_ne_true, both_ways}
 use Rattle.mr_lex.specs.Bytes.{is_blank, is_inline, begins_comment, is_letter, is_digit, is_word_byte, is_symbol, begins_arrow, ends_arrow, begins}
 use Rattle.mr_lex.specs.Numbers.{IsFineNumber}
 use Rattle.mr_lex.specs.Pieces.{Piece, Blank, Comment, Word, Number, Symbol, spelling_of, IsRun, IsPiece, IsFine}
 use Rattle.mr_lex.specs.Tokens.{IsBadByte, IsBadNumber, IsFaulty}
+use Rattle.mr_lex.specs.Scanning.{IsOneLine}
 use Rattle.mr_lex.specs.Reading.{is_fine_number, number_at, symbol_at, piece_at}
-use Rattle.mr_lex.proofs.ByteLaws.{letter_no_blank, letter_no_comment, digit_no_blank, digit_no_comment, digit_no_letter, symbol_no_blank, symbol_no_comment, symbol_no_letter, symbol_no_digit, arrow_symbol, letter_word_byte, comment_inline, begins_nothing, nothing_begins}
+use Rattle.mr_lex.proofs.ByteLaws.{letter_no_blank, letter_no_comment, digit_no_blank, digit_no_comment, digit_no_letter, symbol_no_blank, symbol_no_comment, symbol_no_letter, symbol_no_digit, arrow_symbol, letter_word_byte, comment_inline, word_byte_inline, digit_inline, arrow_inline, arrow_end_inline, begins_nothing, nothing_begins}
 use Rattle.mr_lex.proofs.NumberLaws.{is_fine_number-true, fine_is_fine_number}
 use Rattle.mr_lex.proofs.RunLaws.{take_while_run, take_while_is_run}
 
@@ -167,3 +168,41 @@ spelling_some (Word bytes) behind run = run_some _ bytes run.begun
 spelling_some (Number bytes) behind run = run_some _ bytes run.begun
 spelling_some (Symbol []) behind symbol = absurd symbol
 spelling_some (Symbol (b ∷ bytes)) behind symbol = omega arith
+
+-- the piece that is read stands at the front
+pub piece_at_ok : (rest : List ℕ) (piece : Piece) → 0 < length rest → piece_at rest ≡ Ok piece → (behind : List ℕ) × BeginsWith rest piece behind
+piece_at_ok rest piece some read =
+    ⊎_elim
+    (λ (front : (other : Piece) × (behind : List ℕ) × BeginsWith rest other behind).
+        let e = ap piece_at front.2.whole ∙ piece_at_piece front.0 front.1 front.2.well_formed front.2.fine in
+        let same : front.0 ≡ piece = cc in
+        (front.1, subst (λ p. BeginsWith rest p front.1) same front.2))
+    (λ (fault : (code : ℕ) × IsFaulty rest code). let e = piece_at_fault rest fault.0 fault.1 in absurd (cc))
+    (front_of rest some)
+
+-- the fault that is read stands at the front
+pub piece_at_err : (rest : List ℕ) (code : ℕ) → 0 < length rest → piece_at rest ≡ Err code → IsFaulty rest code
+piece_at_err rest code some read =
+    ⊎_elim
+    (λ (front : (piece : Piece) × (behind : List ℕ) × BeginsWith rest piece behind).
+        let e = ap piece_at front.2.whole ∙ piece_at_piece front.0 front.1 front.2.well_formed front.2.fine in absurd (cc))
+    (λ (fault : (other : ℕ) × IsFaulty rest other).
+        let e = piece_at_fault rest fault.0 fault.1 in
+        let same : fault.0 ≡ code = cc in
+        subst (IsFaulty rest) same fault.1)
+    (front_of rest some)
+
+inline_within : (each : ℕ → Bool) (bytes : List ℕ) → ((b : ℕ) → each b ≡ true → is_inline b ≡ true) → AllByRecursion (λ b. IsTrue (each b)) bytes → AllByRecursion (λ b. IsTrue (is_inline b)) bytes
+inline_within each [] passes within = tt
+inline_within each (b ∷ bytes) passes within = (passes b within.0, inline_within each bytes passes within.1)
+
+-- only a blank holds a line feed, alone
+pub piece_one_line : (piece : Piece) (behind : List ℕ) → IsPiece piece behind → IsOneLine (spelling_of piece)
+piece_one_line (Blank b) behind blank = inl refl
+piece_one_line (Comment bytes) behind run = inr run.within
+piece_one_line (Word bytes) behind run = inr (inline_within is_word_byte bytes word_byte_inline run.within)
+piece_one_line (Number bytes) behind run = inr (inline_within is_digit bytes digit_inline run.within)
+piece_one_line (Symbol []) behind symbol = absurd symbol
+piece_one_line (Symbol (b ∷ [])) behind symbol = inl refl
+piece_one_line (Symbol (b ∷ c ∷ [])) behind symbol = inr (arrow_inline b symbol.0, (arrow_end_inline c symbol.1, tt))
+piece_one_line (Symbol (b ∷ c ∷ d ∷ bytes)) behind symbol = absurd symbol

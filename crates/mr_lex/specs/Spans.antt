@@ -2,6 +2,9 @@
 use Rattle.std.specs.Prelude.{ℕ, ◌+◌, ◌≤◌, List, [], ◌∷◌, slice_range}
 use Rattle.mr_lex.specs.Tokens.{Lexeme}
 use Rattle.mr_lex.specs.declared.list.Span.{Span}
+use Rattle.mr_lex.specs.declared.piece.PieceKind.{PieceKind}
+use Rattle.mr_lex.specs.declared.piece.PieceKind.TheVariants.{Blank, Comment, Token}
+use Rattle.mr_lex.specs.declared.place.Place.{Place}
 
 -- the lexeme of a span of a text
 abbrev pub lexeme_in : List ℕ → Span → Lexeme
@@ -17,3 +20,9 @@ lexeme_in text span = record {
 abbrev pub AreBetween : ℕ → ℕ → List Span → Type 0
 AreBetween from to [] = from ≤ to
 AreBetween from to (span ∷ spans) = (from ≤ span.at) × AreBetween (span.at + span.len) to spans
+
+-- the span of a piece of this length at a place, where it is a token
+abbrev pub spans_of : Place → PieceKind → ℕ → List Span
+spans_of place Blank len = []
+spans_of place Comment len = []
+spans_of place (Token kind) len = record { kind = kind; at = place.at; len = len; line = place.line; col = place.col } ∷ []

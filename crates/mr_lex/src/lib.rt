@@ -6,9 +6,11 @@ mod list;
 mod number;
 mod piece;
 mod place;
+mod scan;
 mod token;
 
 pub use list::Tokens;
+pub use scan::tokens;
 pub use token::{LexFault, TextFault, Token, TokenKind};
 
 /// The code of a byte that begins nothing that a text may hold.

@@ -53,6 +53,16 @@ impl<'a> Model for Tokens<'a> {
 }
 
 impl<'a> Tokens<'a> {
+    ghost use Rattle.mr_lex.specs.Spans.{AreBetween};
+    ghost use Rattle.std.specs.Prelude.{map};
+
+    pub(crate) fn new(text: &'a [u8], spans: Vec<Span>) -> Self
+        requires { AreBetween 0 (length text.now) spans.items }
+        ensures { result ≡ map (lexeme_in text.now) spans.items }
+    {
+        Tokens { text, spans }
+    }
+
     /// The token at a place of the list, from 0 on.
     pub fn get(&self, i: usize) -> Option<Token<'a>>
         ensures { option_map lexeme_of result ≡ slice_get self.now i }

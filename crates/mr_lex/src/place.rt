@@ -1,6 +1,8 @@
 ghost use Rattle.std.specs.Prelude.{◌≡◌, ◌+◌, ◌^◌, ◌<◌, ◌≤◌, length, slice_range};
 ghost use Rattle.mr_lex.specs.Scanning.{IsPlaceIn, IsOneLine};
 
+use crate::token::{LexFault, TextFault};
+
 /// Where a byte of a text stands: its offset from 0 on, its line and its column from 1 on.
 #[derive(Clone, Copy)]
 pub struct Place {
@@ -19,6 +21,17 @@ impl Place {
             line: 1,
             col: 1,
         }
+    }
+
+    /// The fault with this code at the place.
+    pub fn fault(self, code: u8) -> LexFault
+        ensures { result ≡ LexFault.Bad (record { line = self.line; col = self.col; code = code }) }
+    {
+        LexFault::Bad(TextFault {
+            line: self.line,
+            col: self.col,
+            code,
+        })
     }
 
     /// The place behind the next bytes of the text, among which a line feed stands only alone.
