@@ -20,7 +20,7 @@ fine_is_fine_number digits fine =
 abbrev pub number_after : ℕ → List ℕ → ℕ
 number_after n digits = fold (λ m digit. m * 10 + (digit - 48)) n digits
 
-number_after_ge : (n : ℕ) (digits : List ℕ) → n ≤ number_after n digits
+pub number_after_ge : (n : ℕ) (digits : List ℕ) → n ≤ number_after n digits
 number_after_ge n [] = omega arith
 number_after_ge n (d ∷ digits) = omega (arith, number_after_ge (n * 10 + (d - 48)) digits)
 

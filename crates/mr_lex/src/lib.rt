@@ -6,10 +6,12 @@ mod list;
 mod number;
 mod piece;
 mod place;
+mod reading;
 mod scan;
 mod token;
 
 pub use list::Tokens;
+pub use reading::one_reading;
 pub use scan::tokens;
 pub use token::{LexFault, TextFault, Token, TokenKind};
 
