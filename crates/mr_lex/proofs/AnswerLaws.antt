@@ -1,11 +1,11 @@
 -- What an answer says that gives what reading gives.
-use Rattle.std.proofs.Common.{◌≡◌, ℕ, List, sym, ap, ◌∙◌, subst}
-use Rattle.std.specs.Prelude.{Result, Ok, Err, IfOk, IsErrOf}
+use Rattle.std.proofs.Common.{◌≡◌, ℕ, List, subst}
+use Rattle.std.specs.Prelude.{Result, Ok, Err, IfOk}
 use Rattle.mr_lex.specs.Tokens.{Lexeme, Lexes, AreInOrder, FirstFault}
 use Rattle.mr_lex.specs.Reading.{lexed, Gives}
 use Rattle.mr_lex.specs.declared.token.TextFault.{TextFault}
 use Rattle.mr_lex.specs.declared.token.LexFault.{LexFault}
-use Rattle.mr_lex.specs.declared.token.LexFault.TheVariants.{Bad, Memory}
+use Rattle.mr_lex.specs.declared.token.LexFault.TheVariants.{Bad}
 use Rattle.mr_lex.proofs.ReadingLaws.{lexes_lexed, fault_lexed, lexed_lexes, lexed_fault}
 use Rattle.mr_lex.proofs.RowLaws.{lexes_in_order}
 

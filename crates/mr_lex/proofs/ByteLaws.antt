@@ -1,5 +1,5 @@
 -- The classes of bytes are apart.
-use Rattle.std.proofs.Common.{◌≡◌, ℕ, Bool, true, false, cond, ◌||◌, ◌&&◌, eqb, leb, List, [], ◌∷◌, refl, arith}
+use Rattle.std.proofs.Common.{◌≡◌, ℕ, true, false, ◌||◌, arith}
 use Rattle.std.proofs.lemmas.Bool.{or_parts, or_from, both_ways, false_from_ne_true}
 use Rattle.std.proofs.lemmas.Bool.Decides.{nat_tests}
 use Rattle.mr_lex.specs.Bytes.{is_blank, is_inline, begins_comment, is_letter, is_digit, is_word_byte, is_symbol, begins_arrow, ends_arrow, begins_piece}

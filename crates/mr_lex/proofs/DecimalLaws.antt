@@ -1,5 +1,5 @@
 -- Numbers and their decimal digits.
-use Rattle.std.proofs.Common.{◌≡◌, ℕ, zero, suc, ◌+◌, ◌-◌, ◌*◌, ◌/◌, ◌%◌, ◌^◌, ◌<◌, ◌≤◌, Bool, true, List, [], ◌∷◌, ◌++◌, length, refl, sym, ap, ◌∙◌, arith, rules, append_assoc}
+use Rattle.std.proofs.Common.{◌≡◌, ℕ, ◌+◌, ◌-◌, ◌*◌, ◌/◌, ◌%◌, ◌^◌, ◌<◌, ◌≤◌, true, List, [], ◌∷◌, ◌++◌, length, sym, ap, ◌∙◌, arith, rules, append_assoc}
 use Rattle.std.specs.Prelude.{IsTrue}
 use Rattle.std.specs.List.{AllByRecursion}
 use Rattle.std.specs.Fmt.{decimal}
@@ -40,7 +40,7 @@ decimal-number_after n (b ∷ digits) some each small =
     let end : 48 + m % 10 ≡ b = omega arith in
     decimal-number_after m digits (omega arith) each.1 small
     ∙ ap (λ text. text ++ digits)
-      (decimal_step_wide m (omega arith) (omega (arith, number_after_ge m digits)) ∙ (λ i. decimal (front i) ++ (end i ∷ [])))
+    (decimal_step_wide m (omega arith) (omega (arith, number_after_ge m digits)) ∙ (λ i. decimal (front i) ++ (end i ∷ [])))
     ∙ append_assoc (decimal n) (b ∷ []) digits
 
 -- a number that a text may hold stands there as it is written

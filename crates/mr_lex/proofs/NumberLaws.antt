@@ -1,7 +1,6 @@
 -- The values of digits.
-use Rattle.std.proofs.Common.{zero, suc, ◌+◌, ◌-◌, ◌*◌, ◌≤◌, [], ◌∷◌, take, ◌≡◌, ℕ, ◌<◌, ◌^◌, Bool, true, false, ◌||◌, ◌&&◌, not, ltb, eqb, length, List, get_or, arith}
+use Rattle.std.proofs.Common.{zero, suc, ◌+◌, ◌-◌, ◌*◌, ◌≤◌, [], ◌∷◌, take, ◌≡◌, ℕ, ◌<◌, true, length, List, get_or, arith}
 use Rattle.std.specs.List.{fold}
-use Rattle.std.proofs.lemmas.Bool.{ltb-true, eqb-true, eq-eqb, lt-ltb, and_parts, and_from, or_cases, not-true, cases_Bool}
 use Rattle.std.proofs.lemmas.Bool.Decides.{nat_tests}
 use Rattle.mr_lex.specs.Numbers.{number_of, IsFineNumber}
 use Rattle.mr_lex.specs.Reading.{is_fine_number}
@@ -12,9 +11,9 @@ is_fine_number-true digits e = record { plain = grind (arith, nat_tests); small 
 
 pub fine_is_fine_number : (digits : List ℕ) → IsFineNumber digits → is_fine_number digits ≡ true
 fine_is_fine_number digits fine =
-  let plain = fine.plain in
-  let small = fine.small in
-  grind (arith, nat_tests)
+    let plain = fine.plain in
+    let small = fine.small in
+    grind (arith, nat_tests)
 
 -- the value of more digits behind a number
 abbrev pub number_after : ℕ → List ℕ → ℕ

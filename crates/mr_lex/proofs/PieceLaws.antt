@@ -1,6 +1,6 @@
 -- The piece at the front of a text: which one it is, and that there is only one.
-use Rattle.std.proofs.Common.{◌≡◌, ℕ, ◌+◌, ◌<◌, ◌≤◌, Bool, true, false, cond, ◌&&◌, ◌⊎◌, inl, inr, ⊎_elim, List, [], ◌∷◌, ◌++◌, length, get_or, refl, sym, ap, ◌∙◌, subst, arith}
-use Rattle.std.specs.Prelude.{IsTrue, Result, Ok, Err}
+use Rattle.std.proofs.Common.{◌≡◌, ℕ, ◌<◌, Bool, true, false, cond, ◌&&◌, ◌⊎◌, inl, inr, ⊎_elim, List, [], ◌∷◌, ◌++◌, length, get_or, refl, sym, ap, ◌∙◌, subst, arith}
+use Rattle.std.specs.Prelude.{IsTrue, Ok, Err}
 use Rattle.std.specs.List.{AllByRecursion, take_while}
 use Rattle.std.proofs.lemmas.Bool.{cond-true, cond-false, cases_Bool, eqb-true, and_from, and_left, and_right, and_parts, false_from_ne_true, both_ways}
 use Rattle.mr_lex.specs.Bytes.{is_blank, is_inline, begins_comment, is_letter, is_digit, is_word_byte, is_symbol, begins_arrow, ends_arrow, begins}
@@ -104,7 +104,7 @@ piece_at_fault rest code =
     ⊎_elim
     (λ (byte : (code ≡ 1) × IsBadByte rest). piece_at_bad_byte rest byte.1 ∙ ap Err (sym byte.0))
     (λ (number : (code ≡ 2) × IsBadNumber rest).
-        ap piece_at number.1.whole ∙ piece_at_bad_number number.1.digits number.1.behind number.1.number number.1.bad ∙ ap Err (sym number.0))
+    ap piece_at number.1.whole ∙ piece_at_bad_number number.1.digits number.1.behind number.1.number number.1.bad ∙ ap Err (sym number.0))
 
 -- a piece stands at the front
 pub record BeginsWith (rest : List ℕ) (piece : Piece) (behind : List ℕ) : Type 0 where
@@ -121,13 +121,19 @@ front_number b rest digit =
     let run = take_while_is_run is_digit is_digit (b ∷ rest) (λ c passes. passes) digit in
     ⊎_elim
     (λ fine. inl (Number (take_while is_digit (b ∷ rest)), run.0, record { whole = run.1; well_formed = run.2; fine = is_fine_number-true _ fine }))
-    (λ bad. inr (2, inr (refl, record {
-      digits = take_while is_digit (b ∷ rest);
-      behind = run.0;
-      whole = run.1;
-      number = run.2;
-      bad = λ fine. both_ways _ bad (fine_is_fine_number _ fine);
-    })))
+    (λ bad. inr (
+      2,
+      inr (
+        refl,
+        record {
+          digits = take_while is_digit (b ∷ rest);
+          behind = run.0;
+          whole = run.1;
+          number = run.2;
+          bad = λ fine. both_ways _ bad (fine_is_fine_number _ fine);
+        },
+      ),
+    ))
     (cases_Bool (is_fine_number (take_while is_digit (b ∷ rest))))
 
 front_symbol : (b : ℕ) (rest : List ℕ) → is_symbol b ≡ true → HasFront (b ∷ rest)
@@ -144,20 +150,20 @@ front_of [] some = absurd (omega arith)
 front_of (b ∷ rest) some =
     ⊎_elim (λ blank. inl (Blank b, rest, record { whole = refl; well_formed = blank; fine = tt }))
     (λ no_blank. ⊎_elim
-      (λ comment.
-          let run = take_while_is_run is_inline begins_comment (b ∷ rest) comment_inline comment in
-          inl (Comment (take_while is_inline (b ∷ rest)), run.0, record { whole = run.1; well_formed = run.2; fine = tt }))
-      (λ no_comment. ⊎_elim
-        (λ letter.
-            let run = take_while_is_run is_word_byte is_letter (b ∷ rest) letter_word_byte letter in
-            inl (Word (take_while is_word_byte (b ∷ rest)), run.0, record { whole = run.1; well_formed = run.2; fine = tt }))
-        (λ no_letter. ⊎_elim (front_number b rest)
-          (λ no_digit. ⊎_elim (front_symbol b rest)
-            (λ no_symbol. inr (1, inl (refl, record { some = omega arith; bad = nothing_begins b no_blank no_comment no_letter no_digit no_symbol })))
-            (cases_Bool (is_symbol b)))
-          (cases_Bool (is_digit b)))
-        (cases_Bool (is_letter b)))
-      (cases_Bool (begins_comment b)))
+    (λ comment.
+    let run = take_while_is_run is_inline begins_comment (b ∷ rest) comment_inline comment in
+    inl (Comment (take_while is_inline (b ∷ rest)), run.0, record { whole = run.1; well_formed = run.2; fine = tt }))
+    (λ no_comment. ⊎_elim
+    (λ letter.
+    let run = take_while_is_run is_word_byte is_letter (b ∷ rest) letter_word_byte letter in
+    inl (Word (take_while is_word_byte (b ∷ rest)), run.0, record { whole = run.1; well_formed = run.2; fine = tt }))
+    (λ no_letter. ⊎_elim (front_number b rest)
+    (λ no_digit. ⊎_elim (front_symbol b rest)
+    (λ no_symbol. inr (1, inl (refl, record { some = omega arith; bad = nothing_begins b no_blank no_comment no_letter no_digit no_symbol })))
+    (cases_Bool (is_symbol b)))
+    (cases_Bool (is_digit b)))
+    (cases_Bool (is_letter b)))
+    (cases_Bool (begins_comment b)))
     (cases_Bool (is_blank b))
 
 -- a piece has a byte at least
@@ -174,9 +180,9 @@ pub piece_at_ok : (rest : List ℕ) (piece : Piece) → 0 < length rest → piec
 piece_at_ok rest piece some read =
     ⊎_elim
     (λ (front : (other : Piece) × (behind : List ℕ) × BeginsWith rest other behind).
-        let e = ap piece_at front.2.whole ∙ piece_at_piece front.0 front.1 front.2.well_formed front.2.fine in
-        let same : front.0 ≡ piece = cc in
-        (front.1, subst (λ p. BeginsWith rest p front.1) same front.2))
+    let e = ap piece_at front.2.whole ∙ piece_at_piece front.0 front.1 front.2.well_formed front.2.fine in
+    let same : front.0 ≡ piece = cc in
+    (front.1, subst (λ p. BeginsWith rest p front.1) same front.2))
     (λ (fault : (code : ℕ) × IsFaulty rest code). let e = piece_at_fault rest fault.0 fault.1 in absurd (cc))
     (front_of rest some)
 
@@ -185,11 +191,11 @@ pub piece_at_err : (rest : List ℕ) (code : ℕ) → 0 < length rest → piece_
 piece_at_err rest code some read =
     ⊎_elim
     (λ (front : (piece : Piece) × (behind : List ℕ) × BeginsWith rest piece behind).
-        let e = ap piece_at front.2.whole ∙ piece_at_piece front.0 front.1 front.2.well_formed front.2.fine in absurd (cc))
+    let e = ap piece_at front.2.whole ∙ piece_at_piece front.0 front.1 front.2.well_formed front.2.fine in absurd (cc))
     (λ (fault : (other : ℕ) × IsFaulty rest other).
-        let e = piece_at_fault rest fault.0 fault.1 in
-        let same : fault.0 ≡ code = cc in
-        subst (IsFaulty rest) same fault.1)
+    let e = piece_at_fault rest fault.0 fault.1 in
+    let same : fault.0 ≡ code = cc in
+    subst (IsFaulty rest) same fault.1)
     (front_of rest some)
 
 inline_within : (each : ℕ → Bool) (bytes : List ℕ) → ((b : ℕ) → each b ≡ true → is_inline b ≡ true) → AllByRecursion (λ b. IsTrue (each b)) bytes → AllByRecursion (λ b. IsTrue (is_inline b)) bytes

@@ -1,6 +1,6 @@
 -- Reading gives the tokens of a text, or its first fault, and nothing else is either.
-use Rattle.std.proofs.Common.{◌≡◌, ℕ, ◌+◌, ◌-◌, ◌^◌, ◌<◌, ◌≤◌, Bool, true, false, cond, ltb, ◌⊎◌, inl, inr, ⊎_elim, List, [], ◌∷◌, ◌++◌, length, refl, sym, ap, ◌∙◌, subst, arith}
-use Rattle.std.specs.Prelude.{Result, Ok, Err, ◌↔◌}
+use Rattle.std.proofs.Common.{◌≡◌, ℕ, ◌-◌, ◌^◌, ◌<◌, ◌≤◌, true, cond, ltb, ◌⊎◌, inl, inr, ⊎_elim, List, [], ◌∷◌, ◌++◌, length, refl, sym, ap, ◌∙◌, subst, arith}
+use Rattle.std.specs.Prelude.{Ok, Err}
 use Rattle.std.specs.List.{AllByRecursion}
 use Rattle.std.proofs.lemmas.Bool.{cond-true, cond-false, cases_lt, lt-ltb, le-ltb}
 use Rattle.mr_lex.specs.Bytes.{is_digit, begins}
@@ -21,7 +21,7 @@ code_of_fault b rest code =
     ⊎_elim
     (λ (byte : (code ≡ 1) × IsBadByte (b ∷ rest)). cond-false (is_digit b) 2 1 (begins_nothing b byte.1.bad).digit ∙ sym byte.0)
     (λ (number : (code ≡ 2) × IsBadNumber (b ∷ rest)).
-        cond-true (is_digit b) 2 1 (bad_number_digit number.1.digits number.1.behind b rest number.1.whole number.1.number.begun) ∙ sym number.0)
+    cond-true (is_digit b) 2 1 (bad_number_digit number.1.digits number.1.behind b rest number.1.whole number.1.number.begun) ∙ sym number.0)
 
 no_digits : (digits behind : List ℕ) → [] ≡ digits ++ behind → begins is_digit digits ≡ true → ⊥
 no_digits [] behind whole begun = cc
@@ -76,22 +76,28 @@ fault_lexed text fault =
 tokens_or_stop : (text : List ℕ) → length text ≤ 2 ^ 20 → Row text → ((lexemes : List Lexeme) × Lexes text lexemes) ⊎ ((fault : TextFault) × FirstFault text fault)
 tokens_or_stop text short row =
     ⊎_elim
-    (λ (empty : row.rest ≡ []). inl (lexemes_from text 0 row.pieces, record {
-      short = short;
-      pieces = row.pieces;
-      split = subst (Splits text row.pieces) empty row.split;
-      fine = row.fine;
-      listed = refl;
-    }))
-    (λ (fault : (code : ℕ) × IsFaulty row.rest code). inr (fault_at text (length text - length row.rest) fault.0, inr (record {
-      short = short;
-      pieces = row.pieces;
-      rest = row.rest;
-      split = row.split;
-      fine = row.fine;
-      faulty = fault.1;
-      placed = refl;
-    })))
+    (λ (empty : row.rest ≡ []). inl (
+      lexemes_from text 0 row.pieces,
+      record {
+        short = short;
+        pieces = row.pieces;
+        split = subst (Splits text row.pieces) empty row.split;
+        fine = row.fine;
+        listed = refl;
+      },
+    ))
+    (λ (fault : (code : ℕ) × IsFaulty row.rest code). inr (
+      fault_at text (length text - length row.rest) fault.0,
+      inr (record {
+        short = short;
+        pieces = row.pieces;
+        rest = row.rest;
+        split = row.split;
+        fine = row.fine;
+        faulty = fault.1;
+        placed = refl;
+      }),
+    ))
     row.ends
 
 pub tokens_or_fault : (text : List ℕ) → ((lexemes : List Lexeme) × Lexes text lexemes) ⊎ ((fault : TextFault) × FirstFault text fault)
@@ -106,9 +112,9 @@ pub lexed_lexes : (text : List ℕ) (lexemes : List Lexeme) → lexed text ≡ O
 lexed_lexes text lexemes read =
     ⊎_elim
     (λ (tokens : (others : List Lexeme) × Lexes text others).
-        let e = lexes_lexed text tokens.0 tokens.1 in
-        let same : tokens.0 ≡ lexemes = cc in
-        subst (Lexes text) same tokens.1)
+    let e = lexes_lexed text tokens.0 tokens.1 in
+    let same : tokens.0 ≡ lexemes = cc in
+    subst (Lexes text) same tokens.1)
     (λ (fault : (f : TextFault) × FirstFault text f). let e = fault_lexed text fault.0 fault.1 in absurd (cc))
     (tokens_or_fault text)
 
@@ -118,7 +124,7 @@ lexed_fault text fault read =
     ⊎_elim
     (λ (tokens : (others : List Lexeme) × Lexes text others). let e = lexes_lexed text tokens.0 tokens.1 in absurd (cc))
     (λ (other : (f : TextFault) × FirstFault text f).
-        let e = fault_lexed text other.0 other.1 in
-        let same : other.0 ≡ fault = cc in
-        subst (FirstFault text) same other.1)
+    let e = fault_lexed text other.0 other.1 in
+    let same : other.0 ≡ fault = cc in
+    subst (FirstFault text) same other.1)
     (tokens_or_fault text)

@@ -1,5 +1,5 @@
 -- Rows of pieces, and their lexemes.
-use Rattle.std.proofs.Common.{◌≡◌, ℕ, ◌+◌, ◌-◌, ◌<◌, ◌≤◌, List, [], ◌∷◌, ◌++◌, length, take, drop, refl, sym, ap, ◌∙◌, subst, arith, append_assoc, length-append, length-drop, add-zero}
+use Rattle.std.proofs.Common.{◌≡◌, ℕ, ◌+◌, ◌-◌, ◌≤◌, List, [], ◌∷◌, ◌++◌, length, take, drop, refl, sym, ap, ◌∙◌, subst, arith, append_assoc, length-append, length-drop, add-zero}
 use Rattle.std.specs.Prelude.{slice_range}
 use Rattle.std.specs.List.{AllByRecursion}
 use Rattle.std.proofs.lemmas.List.{append-nil, drop-drop, drop_at, take_at}
@@ -38,10 +38,10 @@ lexemes_from-push text at [] piece =
     append-nil (lexemes_at text at piece) ∙ ap (λ n. lexemes_at text n piece) (sym (add-zero at))
 lexemes_from-push text at (first ∷ pieces) piece =
     let place : at + length (spelling_of first) + length (row_of pieces []) ≡ at + length (row_of (first ∷ pieces) []) =
-      omega (arith, length-append (spelling_of first) (row_of pieces [])) in
+    omega (arith, length-append (spelling_of first) (row_of pieces [])) in
     ap (λ more. lexemes_at text at first ++ more)
-      (lexemes_from-push text (at + length (spelling_of first)) pieces piece
-      ∙ ap (λ n. lexemes_from text (at + length (spelling_of first)) pieces ++ lexemes_at text n piece) place)
+    (lexemes_from-push text (at + length (spelling_of first)) pieces piece
+    ∙ ap (λ n. lexemes_from text (at + length (spelling_of first)) pieces ++ lexemes_at text n piece) place)
     ∙ sym (append_assoc (lexemes_at text at first) (lexemes_from text (at + length (spelling_of first)) pieces) (lexemes_at text (at + length (row_of (first ∷ pieces) [])) piece))
 
 -- the lexemes of a row lie in order
@@ -57,12 +57,12 @@ in_order_from text at [] within row from before = omega arith
 in_order_from text at (piece ∷ pieces) within row from before =
     let bytes = spelling_of piece in
     let end : at + length bytes ≤ length text =
-      omega (arith, ap length row, length-drop at text, length-append bytes (row_of pieces [])) in
+    omega (arith, ap length row, length-drop at text, length-append bytes (row_of pieces [])) in
     let size : at + length bytes - at ≡ length bytes = omega arith in
     let is : bytes ≡ slice_range text at (at + length bytes) =
-      sym (ap (λ n. take n (drop at text)) size ∙ ap (take (length bytes)) row ∙ take_at bytes (row_of pieces []) (length bytes) refl) in
+    sym (ap (λ n. take n (drop at text)) size ∙ ap (take (length bytes)) row ∙ take_at bytes (row_of pieces []) (length bytes) refl) in
     let behind : drop (at + length bytes) text ≡ row_of pieces [] =
-      sym (drop-drop (length bytes) at text) ∙ ap (drop (length bytes)) row ∙ drop_at bytes (row_of pieces []) (length bytes) refl in
+    sym (drop-drop (length bytes) at text) ∙ ap (drop (length bytes)) row ∙ drop_at bytes (row_of pieces []) (length bytes) refl in
     in_order_after text from at piece (lexemes_from text (at + length bytes) pieces) before is
     (λ start order. in_order_from text (at + length bytes) pieces end behind start order)
 

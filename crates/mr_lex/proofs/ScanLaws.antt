@@ -1,12 +1,10 @@
 -- A text of which the front has been read.
-use Rattle.std.proofs.Common.{◌≡◌, ℕ, ◌+◌, ◌-◌, ◌^◌, ◌<◌, ◌≤◌, List, [], ◌∷◌, ◌++◌, length, take, drop, map, refl, sym, ap, ◌∙◌, subst, ⊎_elim, inl, inr, arith, length-append, length-drop}
-use Rattle.std.specs.Prelude.{Result, Ok, Err, slice_range}
+use Rattle.std.proofs.Common.{◌≡◌, ℕ, ◌+◌, ◌-◌, ◌^◌, ◌<◌, ◌≤◌, List, [], ◌∷◌, ◌++◌, length, take, drop, map, refl, sym, ap, ◌∙◌, subst, arith, length-append, length-drop}
+use Rattle.std.specs.Prelude.{Ok, Err, slice_range}
 use Rattle.std.specs.List.{AllByRecursion}
 use Rattle.std.proofs.lemmas.List.{append-nil, drop-drop, drop_at, drop_all, take_at, take_rest, map-append}
-use Rattle.mr_lex.specs.Pieces.{Piece, spelling_of, IsPiece, IsFine, Splits, row_of}
-use Rattle.mr_lex.specs.Pieces as pieces
-use Rattle.mr_lex.specs.Places.{line_of, column_of}
-use Rattle.mr_lex.specs.Tokens.{Lexeme, lexeme_at, lexemes_at, lexemes_from, Lexes, fault_at, IsFaulty, StopsAt}
+use Rattle.mr_lex.specs.Pieces.{Piece, spelling_of, IsFine, Splits, row_of}
+use Rattle.mr_lex.specs.Tokens.{lexeme_at, lexemes_at, lexemes_from, Lexes, fault_at, StopsAt}
 use Rattle.mr_lex.specs.Scanning.{piece_of, found_in, Finds, IsPlaceIn, IsOneLine}
 use Rattle.mr_lex.specs.Spans.{lexeme_in, AreBetween, spans_of}
 use Rattle.mr_lex.specs.Reading.{piece_at}
@@ -17,7 +15,6 @@ use Rattle.mr_lex.specs.declared.piece.PieceKind.{PieceKind}
 use Rattle.mr_lex.specs.declared.piece.PieceKind.TheVariants.{Blank, Comment, Token}
 use Rattle.mr_lex.specs.declared.token.TokenKind.{TokenKind}
 use Rattle.mr_lex.specs.declared.token.TokenKind.TheVariants.{Word, Number, Symbol}
-use Rattle.mr_lex.specs.declared.token.TextFault.{TextFault}
 use Rattle.mr_lex.proofs.PieceLaws.{BeginsWith, piece_at_ok, piece_at_err, piece_one_line, spelling_some}
 use Rattle.mr_lex.proofs.RowLaws.{splits_push, fine_push, length-row_of, lexemes_from-push}
 use Rattle.mr_lex.proofs.SpanLaws.{between_push, between_more}
@@ -47,10 +44,10 @@ next_at text at found before finds =
     let bytes = spelling_of piece in
     let got = piece_at_ok rest piece (omega (arith, length-drop at text)) finds.0 in
     let behind : got.0 ≡ drop (at + found.len) text =
-      sym (drop_at bytes got.0 found.len (sym finds.1)) ∙ ap (drop found.len) (sym got.1.whole) ∙ drop-drop found.len at text in
+    sym (drop_at bytes got.0 found.len (sym finds.1)) ∙ ap (drop found.len) (sym got.1.whole) ∙ drop-drop found.len at text in
     let size : at + found.len - at ≡ found.len = omega arith in
     let spelled : bytes ≡ slice_range text at (at + found.len) =
-      sym (ap (λ n. take n rest) size ∙ ap (take found.len) got.1.whole ∙ take_at bytes got.0 found.len (sym finds.1)) in
+    sym (ap (λ n. take n rest) size ∙ ap (take found.len) got.1.whole ∙ take_at bytes got.0 found.len (sym finds.1)) in
     record {
       front = subst (BeginsWith rest piece) behind got.1;
       size = finds.1;
@@ -106,14 +103,14 @@ scanned_next text spans place found more next scanned front pushed moved placed 
     let piece = found_in rest found in
     let behind = drop (place.at + found.len) text in
     let done : 0 + length (row_of scanned.pieces []) ≡ place.at =
-      omega (arith, ap length scanned.split.whole, length-row_of scanned.pieces rest, length-drop place.at text, scanned.within) in
+    omega (arith, ap length scanned.split.whole, length-row_of scanned.pieces rest, length-drop place.at text, scanned.within) in
     let split : Splits text (scanned.pieces ++ piece ∷ []) behind =
-      splits_push text scanned.pieces piece behind (subst (Splits text scanned.pieces) front.front.whole scanned.split) front.front.well_formed in
+    splits_push text scanned.pieces piece behind (subst (Splits text scanned.pieces) front.front.whole scanned.split) front.front.well_formed in
     let listed : map (lexeme_in text) (spans ++ spans_of place found.kind found.len) ≡ lexemes_from text 0 (scanned.pieces ++ piece ∷ []) =
-      map-append (lexeme_in text) spans (spans_of place found.kind found.len)
-      ∙ ap (λ front. front ++ map (lexeme_in text) (spans_of place found.kind found.len)) scanned.listed
-      ∙ ap (λ last. lexemes_from text 0 scanned.pieces ++ last) (lexemes_of-spans text place found.kind found.len scanned.placed ∙ ap (λ n. lexemes_at text n piece) (sym done))
-      ∙ sym (lexemes_from-push text 0 scanned.pieces piece) in
+    map-append (lexeme_in text) spans (spans_of place found.kind found.len)
+    ∙ ap (λ front. front ++ map (lexeme_in text) (spans_of place found.kind found.len)) scanned.listed
+    ∙ ap (λ last. lexemes_from text 0 scanned.pieces ++ last) (lexemes_of-spans text place found.kind found.len scanned.placed ∙ ap (λ n. lexemes_at text n piece) (sym done))
+    ∙ sym (lexemes_from-push text 0 scanned.pieces piece) in
     record {
       pieces = scanned.pieces ++ piece ∷ [];
       split = subst (λ n. Splits text (scanned.pieces ++ piece ∷ []) (drop n text)) (sym moved) split;

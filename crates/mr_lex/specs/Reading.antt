@@ -38,15 +38,17 @@ unfoldable pub split_of : ℕ → List ℕ → List Piece × List ℕ
 split_of zero rest = ([], rest)
 split_of (suc turns) rest =
     elim (piece_at rest) as (λ _. List Piece × List ℕ) [
-      Ok piece ↦ let more = split_of turns (drop (length (spelling_of piece)) rest) in (piece ∷ more.0, more.1)
-    | Err code ↦ ([], rest) ]
+      | Ok piece ↦ let more = split_of turns (drop (length (spelling_of piece)) rest) in (piece ∷ more.0, more.1)
+      | Err code ↦ ([], rest)
+    ]
 
 -- the lexemes of the pieces, where nothing is left, and else the fault of the rest
 unfoldable pub outcome_of : List ℕ → List Piece × List ℕ → Result (List Lexeme) TextFault
 outcome_of text split =
     elim split.1 as (λ _. Result (List Lexeme) TextFault) [
-      [] ↦ Ok (lexemes_from text 0 split.0)
-    | b ∷ bytes ↦ Err (fault_at text (length text - length split.1) (if is_digit b then 2 else 1)) ]
+      | [] ↦ Ok (lexemes_from text 0 split.0)
+      | b ∷ bytes ↦ Err (fault_at text (length text - length split.1) (if is_digit b then 2 else 1))
+    ]
 
 -- the tokens of a text, or its first fault
 unfoldable pub lexed : List ℕ → Result (List Lexeme) TextFault

@@ -1,4 +1,12 @@
-//! The words, numbers and symbols of a program's text.
+//! The tokens of a program's text: words, numbers and symbols, which borrow it.
+//!
+//! Blanks and comments separate tokens; a comment runs from `#` to the end of its line. `tokens` reads a text of at most
+//! `TEXT_LIMIT` bytes in one pass, and `Tokens` gives the tokens in order, each with its offset, line and column.
+//!
+//! Proved of `tokens`: an answer `Ok` holds the tokens of the text (`Lexes`), in order and apart, each the part of the
+//! text at its place; an answer `Bad` is the text's first fault (`FirstFault`), with its place and code; and a text
+//! that has these tokens, or this fault, gets no other answer than that or `Memory`. Proved of `one_reading`: each
+//! text has one list of tokens or one first fault, and `lexed` computes it.
 #![tactic(auto)]
 
 mod bytes;
@@ -8,6 +16,8 @@ mod piece;
 mod place;
 mod reading;
 mod scan;
+#[cfg(test)]
+mod tests;
 mod token;
 
 pub use list::Tokens;

@@ -3,9 +3,8 @@ ghost use Rattle.std.specs.Option.{option_map};
 ghost use Rattle.mr_lex.specs.Tokens.{lexeme_of};
 ghost use Rattle.mr_lex.specs.Spans.{lexeme_in};
 
-use std::marker::Model;
-
 use crate::token::{Token, TokenKind};
+use std::marker::Model;
 
 /// Where a token stands in the text, and what it is.
 #[derive(Clone, Copy)]

@@ -10,5 +10,4 @@ pub fn one_reading()
         (lexed text ≡ Ok lexemes) ↔ Lexes text lexemes }
     ensures fault { (text : List ℕ) (fault : TextFault) →
         (lexed text ≡ Err fault) ↔ FirstFault text fault }
-{
-}
+{}

@@ -4,13 +4,12 @@ ghost use Rattle.mr_lex.specs.Reading.{lexed, Gives};
 ghost use Rattle.mr_lex.specs.Spans.{spans_of};
 ghost use Rattle.mr_lex.specs.declared.token.TextFault.{TextFault};
 
-use std::alloc::Global;
-
 use crate::list::{Span, Tokens};
 use crate::piece::{Found, PieceKind, piece_at};
 use crate::place::Place;
 use crate::token::{LexFault, TextFault};
 use crate::{LONG_TEXT, TEXT_LIMIT};
+use std::alloc::Global;
 
 /// The tokens of a text, in order, or its first fault. It takes time in proportion to the text.
 pub fn tokens(alloc: Global, text: &[u8]) -> Result<Tokens<'_>, LexFault>
