@@ -1,0 +1,76 @@
+-- The first fault of a text that is no schedule.
+use Rattle.std.specs.Prelude.{◌≡◌, ◌≢◌, ℕ, ◌+◌, ◌<◌, ◌≤◌, ◌⊎◌, List, [], ◌∷◌, ◌++◌, length, flat_map}
+use Rattle.std.specs.List.{AllByRecursion}
+use Rattle.mr_sched.specs.declared.schedule.Entry.{Entry}
+use Rattle.mr_sched.specs.declared.schedule.TheConstants.{MAX_BYTES, MAX_ENTRIES}
+use Rattle.mr_sched.specs.declared.fault.TheConstants.{BAD_HEADER, BAD_LINE, TOO_LONG}
+use Rattle.mr_sched.specs.Spelling.{header_line, start_line, entry_line, ended, PicksFit, EntryFits}
+
+-- no LF in the line
+abbrev pub IsUnbroken : List ℕ → Type 0
+IsUnbroken line = AllByRecursion (λ b. b ≢ 10) line
+
+-- the text is these ended lines, and then a rest that no LF ends: the last line, or nothing
+pub record Lines (text : List ℕ) (lines : List (List ℕ)) (rest : List ℕ) : Type 0 where
+  pub parts : text ≡ flat_map ended lines ++ rest
+  pub unbroken : AllByRecursion IsUnbroken lines
+  pub rest_unbroken : IsUnbroken rest
+
+-- the line spells start picks
+abbrev pub IsStartLine : List ℕ → Type 0
+IsStartLine line = (picks : List ℕ) × PicksFit picks × (line ≡ start_line picks)
+
+-- the line spells an entry
+abbrev pub IsEntryLine : List ℕ → Type 0
+IsEntryLine line = (e : Entry) × EntryFits e × (line ≡ entry_line e)
+
+-- the lines behind the header are good: start picks, and then entries, not too many
+abbrev pub AreGood : List (List ℕ) → Type 0
+AreGood [] = Unit {0}
+AreGood (line ∷ lines) = IsStartLine line × AllByRecursion IsEntryLine lines × (length lines ≤ MAX_ENTRIES)
+
+-- the line has the form that is due behind the good lines: the first spells start picks, and each other an entry
+abbrev pub IsDue : List (List ℕ) → List ℕ → Type 0
+IsDue [] line = IsStartLine line
+IsDue (first ∷ good) line = IsEntryLine line
+
+-- no line 1 that is the header and ended
+abbrev pub HasBadHeader : List (List ℕ) → Type 0
+HasBadHeader lines = (more : List (List ℕ)) → lines ≢ header_line ∷ more
+
+-- behind the header and good lines stands an ended line of another form
+pub record HasBadLine (lines good : List (List ℕ)) : Type 0 where
+  pub line : List ℕ
+  pub more : List (List ℕ)
+  pub parts : lines ≡ header_line ∷ (good ++ line ∷ more)
+  pub before : AreGood good
+  pub other : IsDue good line → ⊥
+
+-- the header and good lines are all the ended ones, and a last line is begun or, being line 2, is missing
+pub record HasUnendedLine (lines : List (List ℕ)) (rest : List ℕ) (good : List (List ℕ)) : Type 0 where
+  pub parts : lines ≡ header_line ∷ good
+  pub before : AreGood good
+  pub due : (good ≡ []) ⊎ (rest ≢ [])
+
+-- behind the header, the start picks and as many entries as may be stands one entry more
+pub record HasTooManyEntries (lines good : List (List ℕ)) : Type 0 where
+  pub line : List ℕ
+  pub more : List (List ℕ)
+  pub parts : lines ≡ header_line ∷ (good ++ line ∷ more)
+  pub before : AreGood good
+  pub full : length good ≡ MAX_ENTRIES + 1
+  pub form : IsEntryLine line
+
+-- what is wrong with the lines, at which line (from 1), with which code; the good lines are those behind the header
+abbrev pub LinesFail : List (List ℕ) → List ℕ → ℕ → ℕ → Type 0
+LinesFail lines rest line code =
+    (HasBadHeader lines × (line ≡ 1) × (code ≡ BAD_HEADER))
+    ⊎ ((good : List (List ℕ)) × HasBadLine lines good × (line ≡ length good + 2) × (code ≡ BAD_LINE))
+    ⊎ ((good : List (List ℕ)) × HasUnendedLine lines rest good × (line ≡ length good + 2) × (code ≡ BAD_LINE))
+    ⊎ ((good : List (List ℕ)) × HasTooManyEntries lines good × (line ≡ length good + 2) × (code ≡ TOO_LONG))
+
+-- the first fault of the text: too many bytes, or else the first of its lines that is wrong
+abbrev pub FirstFault : List ℕ → ℕ → ℕ → Type 0
+FirstFault text line code =
+    ((MAX_BYTES < length text) × (line ≡ 1) × (code ≡ TOO_LONG))
+    ⊎ ((length text ≤ MAX_BYTES) × ((lines : List (List ℕ)) × (rest : List ℕ) × Lines text lines rest × LinesFail lines rest line code))
