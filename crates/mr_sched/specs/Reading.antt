@@ -1,6 +1,7 @@
 -- Reading a schedule from its text, as functions on lists that compute.
-use Rattle.std.specs.Prelude.{◌≡◌, ℕ, ◌+◌, ◌^◌, Bool, ◌&&◌, ◌||◌, not, if◌then◌else◌, ◌==◌, nat_lt, List, [], ◌∷◌, length, slice_index, Option, Some, None, Result, Ok, Err, option_and_then, option_map, bytes_eq, codes}
+use Rattle.std.specs.Prelude.{◌≡◌, ℕ, ◌+◌, ◌^◌, Bool, false, ◌&&◌, not, if◌then◌else◌, ◌==◌, nat_lt, List, [], ◌∷◌, length, Option, Some, None, Result, Ok, Err, option_and_then, option_map, bytes_eq, codes}
 use Rattle.std.specs.List.{slice_split}
+use Rattle.std.specs.Char.{is_ascii_digit}
 use Rattle.std.specs.Str.{all_ascii_digits}
 use Rattle.std.specs.Str.Parse.{digits_value}
 use Rattle.mr_sched.specs.declared.fault.SchedFault.{SchedFault}
@@ -26,9 +27,16 @@ Gives (Err Memory) read = Unit {0}
 abbrev pub parts_at : ℕ → List ℕ → List (List ℕ)
 parts_at c text = slice_split (λ b. b == c) text
 
+-- the parts of what follows a byte c, if anything does
+abbrev pub parts_after : ℕ → Option (List ℕ) → List (List ℕ)
+parts_after c None = []
+parts_after c (Some text) = parts_at c text
+
 -- digits without a leading zero
 abbrev pub is_numeral : List ℕ → Bool
-is_numeral word = all_ascii_digits word && (length word == 1 || not (slice_index word 0 == 48) && not (length word == 0))
+is_numeral [] = false
+is_numeral (digit ∷ []) = is_ascii_digit digit
+is_numeral (digit ∷ next ∷ digits) = not (digit == 48) && all_ascii_digits (digit ∷ next ∷ digits)
 
 -- the number that a word spells, if it is below the limit
 unfoldable pub number_of : ℕ → List ℕ → Option ℕ

@@ -9,7 +9,9 @@
 #![tactic(auto)]
 
 mod fault;
+mod reading;
 mod schedule;
 
 pub use fault::{BAD_HEADER, BAD_LINE, SchedFault, TOO_LONG};
+pub use reading::read;
 pub use schedule::{Ask, Entry, Items, MAX_BYTES, MAX_ENTRIES, Schedule};
