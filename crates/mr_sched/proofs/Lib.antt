@@ -1,3 +1,7 @@
+pub mod FirstLines
+pub mod LineLaws
 pub mod Loops
 pub mod Numerals
 pub mod Parts
+pub mod Pieces
+pub mod WordLaws

@@ -87,7 +87,7 @@ pub entries_go_on : (front : List Entry) (rest line after : List ℕ) (e : Entry
 entries_go_on front rest line after e whole parts found lt so_far =
     let some = some_at_line (length front + 3) (entry_of (parts_at 32 line)) e found in
     let one : entries_with front (line ∷ parts_at 10 after) ≡ with_front (front ++ e ∷ []) (entries_of (length front + 1) (parts_at 10 after)) =
-        rw (entries_of-line (length front) line after, some, lt-ltb (length front) MAX_ENTRIES lt) (regroup_entries front e (entries_of (length front + 1) (parts_at 10 after))) in
+    rw (entries_of-line (length front) line after, some, lt-ltb (length front) MAX_ENTRIES lt) (regroup_entries front e (entries_of (length front + 1) (parts_at 10 after))) in
     rw length_push (sym one ∙ ap (entries_with front) (sym parts) ∙ so_far)
 
 pub entries_stop : (front : List Entry) (rest line after : List ℕ) (f : SchedFault) (whole : Result (List Entry) Fault) → parts_at 10 rest ≡ line ∷ parts_at 10 after

@@ -111,12 +111,12 @@ number_of-narrow word =
       | inl t ↦ rw t (narrow (digits_value 10 word))
     ]
   where
-  narrow : (n : ℕ) → cond (ltb n (2 ^ 32)) (Some n) None ≡ option_and_then (λ n. cond (ltb n (2 ^ 32)) (Some n) None) (cond (ltb n (2 ^ 64)) (Some n) None)
-  narrow n =
-      elim (cases_lt n (2 ^ 64)) [
-        | inl lt ↦ rw (lt-ltb n (2 ^ 64) lt) refl
-        | inr le ↦ rw (le-ltb n (2 ^ 64) le, le-ltb n (2 ^ 32) (omega arith)) refl
-      ]
+    narrow : (n : ℕ) → cond (ltb n (2 ^ 32)) (Some n) None ≡ option_and_then (λ n. cond (ltb n (2 ^ 32)) (Some n) None) (cond (ltb n (2 ^ 64)) (Some n) None)
+    narrow n =
+        elim (cases_lt n (2 ^ 64)) [
+          | inl lt ↦ rw (lt-ltb n (2 ^ 64) lt) refl
+          | inr le ↦ rw (le-ltb n (2 ^ 64) le, le-ltb n (2 ^ 32) (omega arith)) refl
+        ]
 
 -- a number where it is below the limit
 pub result_ok-below : {E : Type 0} (r : Result ℕ E) (n limit : ℕ) → OkIff r (n < limit) n → result_ok r ≡ cond (ltb n limit) (Some n) None

@@ -29,47 +29,49 @@ abbrev pub AreGood : List (List ℕ) → Type 0
 AreGood [] = Unit {0}
 AreGood (line ∷ lines) = IsStartLine line × AllByRecursion IsEntryLine lines × (length lines ≤ MAX_ENTRIES)
 
--- the line has the form that is due behind the good lines: the first spells start picks, and each other an entry
+-- the line has the form that is due behind the good ones: the first spells start picks, and each other an entry
 abbrev pub IsDue : List (List ℕ) → List ℕ → Type 0
 IsDue [] line = IsStartLine line
 IsDue (first ∷ good) line = IsEntryLine line
 
--- no line 1 that is the header and ended
-abbrev pub HasBadHeader : List (List ℕ) → Type 0
-HasBadHeader lines = (more : List (List ℕ)) → lines ≢ header_line ∷ more
-
--- behind the header and good lines stands an ended line of another form
-pub record HasBadLine (lines good : List (List ℕ)) : Type 0 where
+-- behind the good lines stands an ended line of another form than is due
+pub record HasOtherLine (lines good : List (List ℕ)) : Type 0 where
   pub line : List ℕ
   pub more : List (List ℕ)
-  pub parts : lines ≡ header_line ∷ (good ++ line ∷ more)
-  pub before : AreGood good
+  pub parts : lines ≡ good ++ line ∷ more
   pub other : IsDue good line → ⊥
 
--- the header and good lines are all the ended ones, and a last line is begun or, being line 2, is missing
+-- the good lines are all that are ended, and the line behind them is begun or, being line 2, is missing
 pub record HasUnendedLine (lines : List (List ℕ)) (rest : List ℕ) (good : List (List ℕ)) : Type 0 where
-  pub parts : lines ≡ header_line ∷ good
-  pub before : AreGood good
+  pub parts : lines ≡ good
   pub due : (good ≡ []) ⊎ (rest ≢ [])
 
--- behind the header, the start picks and as many entries as may be stands one entry more
-pub record HasTooManyEntries (lines good : List (List ℕ)) : Type 0 where
+-- behind the start picks and as many entries as there may be stands one entry more
+pub record HasEntryTooMany (lines good : List (List ℕ)) : Type 0 where
   pub line : List ℕ
   pub more : List (List ℕ)
-  pub parts : lines ≡ header_line ∷ (good ++ line ∷ more)
-  pub before : AreGood good
+  pub parts : lines ≡ good ++ line ∷ more
   pub full : length good ≡ MAX_ENTRIES + 1
   pub form : IsEntryLine line
 
--- what is wrong with the lines, at which line (from 1), with which code; the good lines are those behind the header
+-- the lines from line 2 on are wrong at this line (of the text, from 1) with this code: those before it are good
+pub record BodyFails (lines : List (List ℕ)) (rest : List ℕ) (line code : ℕ) : Type 0 where
+  pub good : List (List ℕ)
+  pub before : AreGood good
+  pub place : line ≡ length good + 2
+  pub why : (HasOtherLine lines good × (code ≡ BAD_LINE)) ⊎ ((HasUnendedLine lines rest good × (code ≡ BAD_LINE)) ⊎ (HasEntryTooMany lines good × (code ≡ TOO_LONG)))
+
+-- line 1 isn't the header, or it isn't ended
+abbrev pub HasBadHeader : List (List ℕ) → Type 0
+HasBadHeader lines = (more : List (List ℕ)) → lines ≢ header_line ∷ more
+
+-- the lines of a text are wrong at this line with this code
 abbrev pub LinesFail : List (List ℕ) → List ℕ → ℕ → ℕ → Type 0
 LinesFail lines rest line code =
     (HasBadHeader lines × (line ≡ 1) × (code ≡ BAD_HEADER))
-    ⊎ ((good : List (List ℕ)) × HasBadLine lines good × (line ≡ length good + 2) × (code ≡ BAD_LINE))
-    ⊎ ((good : List (List ℕ)) × HasUnendedLine lines rest good × (line ≡ length good + 2) × (code ≡ BAD_LINE))
-    ⊎ ((good : List (List ℕ)) × HasTooManyEntries lines good × (line ≡ length good + 2) × (code ≡ TOO_LONG))
+    ⊎ ((more : List (List ℕ)) × (lines ≡ header_line ∷ more) × BodyFails more rest line code)
 
--- the first fault of the text: too many bytes, or else the first of its lines that is wrong
+-- the first fault of the text, at this line and with this code: too many bytes, or else the first line that is wrong
 abbrev pub FirstFault : List ℕ → ℕ → ℕ → Type 0
 FirstFault text line code =
     ((MAX_BYTES < length text) × (line ≡ 1) × (code ≡ TOO_LONG))

@@ -9,9 +9,13 @@
 #![tactic(auto)]
 
 mod fault;
+mod laws;
+mod printing;
 mod reading;
 mod schedule;
 
 pub use fault::{BAD_HEADER, BAD_LINE, SchedFault, TOO_LONG};
+pub use laws::{one_schedule, reads_back};
+pub use printing::print;
 pub use reading::read;
 pub use schedule::{Ask, Entry, Items, MAX_BYTES, MAX_ENTRIES, Schedule};

@@ -24,6 +24,13 @@ pub fn read(alloc: Global, text: &[u8]) -> Result<Schedule, SchedFault>
         (result ≡ Err (SchedFault.Bad line code) → FirstFault text.now line code)
         × (FirstFault text.now line code → Gives {A = Schedule} result (Err (record { line = line; code = code }))) }
 {
+    read_text(alloc, text)
+}
+
+#[tactic(auto, unfolding(crate::specs::Reading::schedule_of))]
+fn read_text(alloc: Global, text: &[u8]) -> Result<Schedule, SchedFault>
+    ensures { Gives result (schedule_of text.now) }
+{
     if text.len() > MAX_BYTES {
         return Err(SchedFault::Bad {
             line: 1,
@@ -33,6 +40,8 @@ pub fn read(alloc: Global, text: &[u8]) -> Result<Schedule, SchedFault>
     read_lines(alloc, text)
 }
 
+// The schedule of the lines of a text.
+#[tactic(auto, unfolding(crate::specs::Reading::lines_schedule))]
 fn read_lines(alloc: Global, text: &[u8]) -> Result<Schedule, SchedFault>
     ensures { Gives result (lines_schedule (parts_at 10 text.now)) }
 {

@@ -6,5 +6,5 @@ abbrev pub invariant-loop-digit : goal.invariant-loop-digit
 invariant-loop-digit l = record {
   digits : AllDigits 10 (take l.digit-index l.word);
   number : l.number ≡ digits_value 10 (take l.digit-index l.word);
-  below : l.number < 2 ^ 64
+  below : l.number < 2 ^ 64;
 }

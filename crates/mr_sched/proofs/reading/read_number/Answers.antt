@@ -16,8 +16,8 @@ pub returns : goal.returns
 returns c =
     let some = eqb-false (length c.args.word.now) 0 (sym c.if-is_empty.ensures) in
     let lead : get_or c.args.word.now 0 0 ≡ 48 → length c.args.word.now ≡ 1 =
-        λ e. elim c.else-word-eq48.branch [
-          | else-word-eq48-via-then-word-eq48+else-word-gt1 w ↦ omega arith
-          | else-word-eq48-via-else-word-eq48 w ↦ absurd (w.if-word-eq48.false e)
-        ] in
+    λ e. elim c.else-word-eq48.branch [
+      | else-word-eq48-via-then-word-eq48+else-word-gt1 w ↦ omega arith
+      | else-word-eq48-via-else-word-eq48 w ↦ absurd (w.if-word-eq48.false e)
+    ] in
     number_of-digits (2 ^ 64) c.args.word.now c.read_digits.result (omega arith) lead c.read_digits.ensures

@@ -6,8 +6,8 @@ use Rattle.mr_sched.proofs.reading.read_picks.Goals as goal
 pub returns-in_default-read_number : goal.returns-in_default-read_number
 returns-in_default-read_number c =
     let none : picks_of (parts_after 32 (option_copied c.args.words)) ≡ None =
-        picks_stop c.loop-rest.picks (option_copied c.loop-rest.rest) c.in-Some.text.now c.cut.result.0.now (option_copied c.cut.result.1) _
-        (ap option_copied c.in-Some.is) c.cut.ensures.parts (sym c.read_number.ensures ∙ c.in_default-read_number.is) c.loop-rest.invariant in
+    picks_stop c.loop-rest.picks (option_copied c.loop-rest.rest) c.in-Some.text.now c.cut.result.0.now (option_copied c.cut.result.1) _
+    (ap option_copied c.in-Some.is) c.cut.ensures.parts (sym c.read_number.ensures ∙ c.in_default-read_number.is) c.loop-rest.invariant in
     rw (c.bad_line.ensures, none) refl
 
 pub loop-rest-preserved : goal.loop-rest-preserved
