@@ -1,7 +1,9 @@
+pub mod EntryLaws
 pub mod FirstLines
 pub mod LineLaws
 pub mod Loops
 pub mod Numerals
 pub mod Parts
 pub mod Pieces
+pub mod TextLaws
 pub mod WordLaws
