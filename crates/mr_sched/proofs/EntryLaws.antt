@@ -9,12 +9,8 @@ use Rattle.mr_sched.specs.declared.schedule.TheConstants.{MAX_ENTRIES}
 use Rattle.mr_sched.specs.Spelling.{entry_line, EntryFits}
 use Rattle.mr_sched.specs.Faults.{IsEntryLine}
 use Rattle.mr_sched.specs.Reading.{Fault, entries_of, entry_of, entry_then, parts_at, with_entry}
+use Rattle.mr_sched.proofs.FirstLines.{entries_of-line, rest_or_line}
 use Rattle.mr_sched.proofs.WordLaws.{entry_spelled, entry_again}
-
-entries_of-before : (n : ℕ) (line : List ℕ) (lines : List (List ℕ)) (rest : List ℕ) → entries_of n (line ∷ (lines ++ rest ∷ [])) ≡ entry_then n (entry_of (parts_at 32 line)) (entries_of (n + 1) (lines ++ rest ∷ []))
-unfolding entries_of
-entries_of-before n line [] rest = refl
-entries_of-before n line (next ∷ lines) rest = refl
 
 pub entry_from_form : (line : List ℕ) → IsEntryLine line → (e : Entry) × (entry_of (parts_at 32 line) ≡ Some e)
 entry_from_form line (e, fits, spelled) = (e, ap (λ (w : List ℕ). entry_of (parts_at 32 w)) spelled ∙ entry_again e fits)
@@ -63,13 +59,13 @@ entries_read n [] rest es le h =
           subst (EntriesRead n [] rest) nothing (record { spelled = refl; ended = nil_from_length rest (eqb-true _ _ t); fit = tt; count = omega arith })
     ]
 entries_read n (line ∷ lines) rest es le h =
-    first_read n line lines rest es (entry_of (parts_at 32 line)) refl (λ others more g. entries_read (n + 1) lines rest others more g) (sym (entries_of-before n line lines rest) ∙ h)
+    first_read n line lines rest es (entry_of (parts_at 32 line)) refl (λ others more g. entries_read (n + 1) lines rest others more g) (sym (entries_of-line n line (lines ++ rest ∷ []) (rest_or_line lines rest)) ∙ h)
 
 pub entries_again : (n : ℕ) (es : List Entry) → AllByRecursion EntryFits es → n + length es ≤ MAX_ENTRIES → entries_of n (map entry_line es ++ [] ∷ []) ≡ Ok es
 unfolding entries_of
 entries_again n [] fit le = refl
 entries_again n (e ∷ es) fit le =
-    entries_of-before n (entry_line e) (map entry_line es) []
+    entries_of-line n (entry_line e) ((map entry_line es) ++ [] ∷ []) (rest_or_line (map entry_line es) [])
     ∙ rw (entry_again e fit.0, lt-ltb n MAX_ENTRIES (omega arith), entries_again (n + 1) es fit.1 (omega arith)) refl
 
 -- ---- what stops it
@@ -170,7 +166,7 @@ entries_failed n [] rest f le h =
           })
     ]
 entries_failed n (line ∷ lines) rest f le h =
-    first_failed n line lines rest f (entry_of (parts_at 32 line)) refl le (λ more g. entries_failed (n + 1) lines rest f more g) (sym (entries_of-before n line lines rest) ∙ h)
+    first_failed n line lines rest f (entry_of (parts_at 32 line)) refl le (λ more g. entries_failed (n + 1) lines rest f more g) (sym (entries_of-line n line (lines ++ rest ∷ []) (rest_or_line lines rest)) ∙ h)
 
 -- ---- and stops it so
 
@@ -180,7 +176,7 @@ good_entries n m [] tail rest f e before le h = let same : m ≡ n = omega arith
 good_entries n m (line ∷ good) tail rest f e before le h =
     let p = entry_from_form line before.0 in
     let others = good_entries (n + 1) m good tail rest f (omega arith) before.1 le h in
-    entries_of-before n line (good ++ tail) rest ∙ rw (p.1, lt-ltb n MAX_ENTRIES (omega arith), others) refl
+    entries_of-line n line ((good ++ tail) ++ rest ∷ []) (rest_or_line (good ++ tail) rest) ∙ rw (p.1, lt-ltb n MAX_ENTRIES (omega arith), others) refl
 
 other_entry : (m : ℕ) (line : List ℕ) (more : List (List ℕ)) (rest : List ℕ) (o : Option Entry) → entry_of (parts_at 32 line) ≡ o → (IsEntryLine line → ⊥)
     → entry_then m o (entries_of (m + 1) (more ++ rest ∷ [])) ≡ Err (record { line = m + 3; code = BAD_LINE })
@@ -202,10 +198,10 @@ entries_fail_at n lines rest line code h =
       | inl (o, c) ↦
           rw (o.parts, h.place, c)
           (good_entries n m h.good (o.line ∷ o.more) rest _ refl h.before h.count
-          (entries_of-before m o.line o.more rest ∙ other_entry m o.line o.more rest (entry_of (parts_at 32 o.line)) refl o.other))
+          (entries_of-line m o.line (o.more ++ rest ∷ []) (rest_or_line o.more rest) ∙ other_entry m o.line o.more rest (entry_of (parts_at 32 o.line)) refl o.other))
       | inr (inl (u, c)) ↦
           rw (u.parts, ← append-nil h.good, h.place, c) (good_entries n m h.good [] rest _ refl h.before h.count (unended_entry m rest u.begun))
       | inr (inr (t, c)) ↦
           rw (t.parts, h.place, c)
-          (good_entries n m h.good (t.line ∷ t.more) rest _ refl h.before h.count (entries_of-before m t.line t.more rest ∙ entry_too_many m t.line t.more rest t.full t.form))
+          (good_entries n m h.good (t.line ∷ t.more) rest _ refl h.before h.count (entries_of-line m t.line (t.more ++ rest ∷ []) (rest_or_line t.more rest) ∙ entry_too_many m t.line t.more rest t.full t.form))
     ]

@@ -1,4 +1,4 @@
--- Reading one item after the other, as a loop does.
+-- Reading one item after the other, as the code does.
 use Rattle.std.proofs.Common.{◌≡◌, ℕ, suc, ◌+◌, ◌^◌, ◌<◌, ◌≤◌, false, eqb, List, [], ◌∷◌, ◌++◌, length, Option, Some, None, Result, Ok, Err, refl, sym, ap, ◌∙◌, append_assoc, arith}
 use Rattle.std.specs.Prelude.{option_map, option_and_then}
 use Rattle.std.specs.List.{join_with_byte}
@@ -9,8 +9,10 @@ use Rattle.mr_sched.specs.declared.fault.SchedFault.{SchedFault}
 use Rattle.mr_sched.specs.declared.fault.SchedFault.TheVariants.{Bad, Memory}
 use Rattle.mr_sched.specs.declared.fault.TheConstants.{BAD_LINE, TOO_LONG}
 use Rattle.mr_sched.specs.declared.schedule.Entry.{Entry}
+use Rattle.mr_sched.specs.declared.schedule.Schedule.{Schedule}
 use Rattle.mr_sched.specs.declared.schedule.TheConstants.{MAX_ENTRIES}
-use Rattle.mr_sched.specs.Reading.{Fault, Gives, at_line, entries_of, entry_of, entry_then, number_of, parts_at, parts_after, picks_of, with_entry}
+use Rattle.mr_sched.specs.Reading.{Fault, Gives, at_line, body_of, entries_of, entry_of, number_of, parts_at, parts_after, picks_of, start_of, with_entry}
+use Rattle.mr_sched.proofs.FirstLines.{body_of-line, entries_of-line}
 use Rattle.mr_sched.proofs.Parts.{parts_at-first}
 
 -- what a line gave that did not fail, or failed
@@ -21,6 +23,8 @@ some_at_line line (Some y) x e = cc
 pub none_at_line : {A : Type 0} (line : ℕ) (o : Option A) (f : Fault) → at_line line o ≡ Err f → (o ≡ None) × (record { line = line; code = BAD_LINE } ≡ f)
 none_at_line line None f e = (refl, cc)
 none_at_line line (Some y) f e = absurd cc
+
+-- ---- the picks of a line
 
 -- how much is left behind a byte: nothing, or the byte and a text
 abbrev pub size_of : Option (List ℕ) → ℕ
@@ -64,6 +68,8 @@ picks_stop front rest text word after whole e parts number so_far =
 pub picks_end : (front : List ℕ) (rest whole : Option (List ℕ)) → rest ≡ None → picks_with front (parts_after 32 rest) ≡ whole → whole ≡ Some front
 picks_end front rest whole e so_far = sym so_far ∙ rw e (picks_with-nil front)
 
+-- ---- the entries
+
 -- entries, and those that were read behind them
 abbrev pub with_front : List Entry → Result (List Entry) Fault → Result (List Entry) Fault
 with_front front (Ok es) = Ok (front ++ es)
@@ -72,11 +78,6 @@ with_front front (Err f) = Err f
 -- the entries that were read, and those of the lines that are left
 abbrev pub entries_with : List Entry → List (List ℕ) → Result (List Entry) Fault
 entries_with front lines = with_front front (entries_of (length front) lines)
-
--- a line's entry, before the entries of the lines behind it
-entries_of-line : (n : ℕ) (line text : List ℕ) → entries_of n (line ∷ parts_at 10 text) ≡ entry_then n (entry_of (parts_at 32 line)) (entries_of (n + 1) (parts_at 10 text))
-unfolding entries_of
-entries_of-line n line text = let p = parts_at-first 10 text in rw p.2 refl
 
 regroup_entries : (front : List Entry) (e : Entry) (rest : Result (List Entry) Fault) → with_front front (with_entry e rest) ≡ with_front (front ++ e ∷ []) rest
 regroup_entries front e (Ok es) = ap (λ (w : List Entry). Ok w) (simp append_assoc)
@@ -87,7 +88,7 @@ pub entries_go_on : (front : List Entry) (rest line after : List ℕ) (e : Entry
 entries_go_on front rest line after e whole parts found lt so_far =
     let some = some_at_line (length front + 3) (entry_of (parts_at 32 line)) e found in
     let one : entries_with front (line ∷ parts_at 10 after) ≡ with_front (front ++ e ∷ []) (entries_of (length front + 1) (parts_at 10 after)) =
-    rw (entries_of-line (length front) line after, some, lt-ltb (length front) MAX_ENTRIES lt) (regroup_entries front e (entries_of (length front + 1) (parts_at 10 after))) in
+    rw (entries_of-line (length front) line (parts_at 10 after) (parts_at-first 10 after), some, lt-ltb (length front) MAX_ENTRIES lt) (regroup_entries front e (entries_of (length front + 1) (parts_at 10 after))) in
     rw length_push (sym one ∙ ap (entries_with front) (sym parts) ∙ so_far)
 
 pub entries_stop : (front : List Entry) (rest line after : List ℕ) (f : SchedFault) (whole : Result (List Entry) Fault) → parts_at 10 rest ≡ line ∷ parts_at 10 after
@@ -95,13 +96,13 @@ pub entries_stop : (front : List Entry) (rest line after : List ℕ) (f : SchedF
 entries_stop front rest line after Memory whole parts failed so_far = tt
 entries_stop front rest line after (Bad k code) whole parts failed so_far =
     let none = none_at_line (length front + 3) (entry_of (parts_at 32 line)) (record { line = k; code = code }) failed in
-    sym so_far ∙ ap (entries_with front) parts ∙ rw (entries_of-line (length front) line after, none.0) (ap (λ (f : Fault). Err f) none.1)
+    sym so_far ∙ ap (entries_with front) parts ∙ rw (entries_of-line (length front) line (parts_at 10 after) (parts_at-first 10 after), none.0) (ap (λ (f : Fault). Err f) none.1)
 
 pub entries_too_long : (front : List Entry) (rest line after : List ℕ) (e : Entry) (whole : Result (List Entry) Fault) → parts_at 10 rest ≡ line ∷ parts_at 10 after
     → at_line (length front + 3) (entry_of (parts_at 32 line)) ≡ Ok e → MAX_ENTRIES ≤ length front → entries_with front (parts_at 10 rest) ≡ whole → whole ≡ Err (record { line = length front + 3; code = TOO_LONG })
 entries_too_long front rest line after e whole parts found le so_far =
     let some = some_at_line (length front + 3) (entry_of (parts_at 32 line)) e found in
-    sym so_far ∙ ap (entries_with front) parts ∙ rw (entries_of-line (length front) line after, some, le-ltb (length front) MAX_ENTRIES le) refl
+    sym so_far ∙ ap (entries_with front) parts ∙ rw (entries_of-line (length front) line (parts_at 10 after) (parts_at-first 10 after), some, le-ltb (length front) MAX_ENTRIES le) refl
 
 pub entries_unended : (front : List Entry) (rest line : List ℕ) (whole : Result (List Entry) Fault) → parts_at 10 rest ≡ line ∷ [] → 0 < length rest
     → entries_with front (parts_at 10 rest) ≡ whole → whole ≡ Err (record { line = length front + 3; code = BAD_LINE })
@@ -121,3 +122,16 @@ entries_with-nil lines = same (entries_of 0 lines) where
   same : (read : Result (List Entry) Fault) → with_front [] read ≡ read
   same (Ok es) = refl
   same (Err f) = refl
+
+-- ---- line 2, and then the entries
+
+pub body_read : (text line rest picks : List ℕ) (es : List Entry) → parts_at 10 text ≡ line ∷ parts_at 10 rest → at_line 2 (start_of (parts_at 32 line)) ≡ Ok picks
+    → entries_of 0 (parts_at 10 rest) ≡ Ok es → body_of (parts_at 10 text) ≡ Ok (record { start = picks; entries = es })
+body_read text line rest picks es parts start entries =
+    rw (parts, body_of-line line (parts_at 10 rest) (parts_at-first 10 rest), some_at_line 2 (start_of (parts_at 32 line)) picks start, entries) refl
+
+pub body_stops : (text line rest picks : List ℕ) (f : SchedFault) → parts_at 10 text ≡ line ∷ parts_at 10 rest → at_line 2 (start_of (parts_at 32 line)) ≡ Ok picks
+    → Gives {A = List Entry} (Err f) (entries_of 0 (parts_at 10 rest)) → Gives {A = Schedule} (Err f) (body_of (parts_at 10 text))
+body_stops text line rest picks Memory parts start failed = tt
+body_stops text line rest picks (Bad k code) parts start failed =
+    rw (parts, body_of-line line (parts_at 10 rest) (parts_at-first 10 rest), some_at_line 2 (start_of (parts_at 32 line)) picks start, failed) refl

@@ -8,6 +8,7 @@ use Rattle.std.proofs.lemmas.List.Elements.{All-from_recursion}
 use Rattle.std.proofs.lemmas.List.Sums.{fails_before_first}
 use Rattle.std.proofs.lemmas.List.Splits.{slice_split_none, slice_split_first, slice_split_at, join_with_byte-slice_split}
 use Rattle.mr_sched.specs.Reading.{parts_at}
+use Rattle.mr_sched.proofs.FirstLines.{HasFirst}
 
 -- no such byte in the text
 abbrev pub IsFreeOf : ℕ → List ℕ → Type 0
@@ -46,7 +47,7 @@ parts_at-position_some c text at e =
     rw (← q.1) (lt, slice_split_first p text 0 lt)
 
 -- there is a first part
-pub parts_at-first : (c : ℕ) (text : List ℕ) → (first : List ℕ) × (more : List (List ℕ)) × (parts_at c text ≡ first ∷ more)
+pub parts_at-first : (c : ℕ) (text : List ℕ) → HasFirst (parts_at c text)
 parts_at-first c [] = ([], [], refl)
 parts_at-first c (b ∷ text) =
     let p = parts_at-first c text in

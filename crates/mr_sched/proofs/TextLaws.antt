@@ -14,16 +14,12 @@ use Rattle.mr_sched.specs.Faults.{IsUnbroken, Lines, IsStartLine, AreGood, HasOt
 use Rattle.mr_sched.specs.declared.fault.SchedFault.{SchedFault}
 use Rattle.mr_sched.specs.declared.fault.SchedFault.TheVariants.{Bad}
 use Rattle.mr_sched.specs.Reading.{Fault, Gives, body_of, entries_of, lines_schedule, parts_at, schedule_of, start_of, start_then}
+use Rattle.mr_sched.proofs.FirstLines.{body_of-line, lines_schedule-line, rest_or_line}
 use Rattle.mr_sched.proofs.WordLaws.{start_spelled, start_again, header_unbroken, start_unbroken, entry_unbroken}
 use Rattle.mr_sched.proofs.LineLaws.{HasLines, has_lines, parts_from_lines}
 use Rattle.mr_sched.proofs.EntryLaws.{EntriesRead, EntriesFail, failed, err_is, entries_read, entries_again, entries_failed, entries_fail_at}
 
 -- ---- the lines from line 2 on
-
-body_of-before : (line : List ℕ) (lines : List (List ℕ)) (rest : List ℕ) → body_of (line ∷ (lines ++ rest ∷ [])) ≡ start_then (start_of (parts_at 32 line)) (entries_of 0 (lines ++ rest ∷ []))
-unfolding body_of
-body_of-before line [] rest = refl
-body_of-before line (next ∷ lines) rest = refl
 
 start_from_form : (line : List ℕ) → IsStartLine line → (picks : List ℕ) × (start_of (parts_at 32 line) ≡ Some picks)
 start_from_form line (picks, fit, spelled) = (picks, ap (λ (w : List ℕ). start_of (parts_at 32 w)) spelled ∙ start_again picks fit)
@@ -56,11 +52,11 @@ body_read : (lines : List (List ℕ)) (rest : List ℕ) (w : Schedule) → body_
 unfolding body_of
 body_read [] rest w h = absurd cc
 body_read (line ∷ lines) rest w h =
-    start_read line lines rest w (start_of (parts_at 32 line)) (entries_of 0 (lines ++ rest ∷ [])) refl refl (sym (body_of-before line lines rest) ∙ h)
+    start_read line lines rest w (start_of (parts_at 32 line)) (entries_of 0 (lines ++ rest ∷ [])) refl refl (sym (body_of-line line (lines ++ rest ∷ []) (rest_or_line lines rest)) ∙ h)
 
 body_again : (w : Schedule) → Fits w → length w.entries ≤ MAX_ENTRIES → body_of ((start_line w.start ∷ map entry_line w.entries) ++ [] ∷ []) ≡ Ok w
 body_again w fits le =
-    body_of-before (start_line w.start) (map entry_line w.entries) []
+    body_of-line (start_line w.start) ((map entry_line w.entries) ++ [] ∷ []) (rest_or_line (map entry_line w.entries) [])
     ∙ rw (start_again w.start fits.start, entries_again 0 w.entries fits.entries (omega arith)) refl
 
 start_failed : (line : List ℕ) (lines : List (List ℕ)) (rest : List ℕ) (f : Fault) (o : Option (List ℕ)) (r : Result (List Entry) Fault) → start_of (parts_at 32 line) ≡ o → entries_of 0 (lines ++ rest ∷ []) ≡ r
@@ -96,7 +92,7 @@ body_failed [] rest f h =
     subst (λ (g : Fault). BodyFails [] rest g.line g.code) (err_is {A = Schedule} (record { line = 2; code = BAD_LINE }) f h)
     (record { good = []; before = tt; place = refl; why = inr (inl (record { parts = refl; due = inl refl }, refl)) })
 body_failed (line ∷ lines) rest f h =
-    start_failed line lines rest f (start_of (parts_at 32 line)) (entries_of 0 (lines ++ rest ∷ [])) refl refl (sym (body_of-before line lines rest) ∙ h)
+    start_failed line lines rest f (start_of (parts_at 32 line)) (entries_of 0 (lines ++ rest ∷ [])) refl refl (sym (body_of-line line (lines ++ rest ∷ []) (rest_or_line lines rest)) ∙ h)
 
 other_start : (line : List ℕ) (more : List (List ℕ)) (rest : List ℕ) (o : Option (List ℕ)) → start_of (parts_at 32 line) ≡ o → (IsStartLine line → ⊥)
     → start_then o (entries_of 0 (more ++ rest ∷ [])) ≡ Err (record { line = 2; code = BAD_LINE })
@@ -119,26 +115,21 @@ body_fails_so : (lines good : List (List ℕ)) (rest : List ℕ) (line code : �
     → body_of (lines ++ rest ∷ []) ≡ Err (record { line = line; code = code })
 unfolding body_of
 body_fails_so lines [] rest line code before place (inl (o, c)) =
-    rw (o.parts, place, c) (body_of-before o.line o.more rest ∙ other_start o.line o.more rest (start_of (parts_at 32 o.line)) refl o.other)
+    rw (o.parts, place, c) (body_of-line o.line (o.more ++ rest ∷ []) (rest_or_line o.more rest) ∙ other_start o.line o.more rest (start_of (parts_at 32 o.line)) refl o.other)
 body_fails_so lines [] rest line code before place (inr (inl (u, c))) = rw (u.parts, place, c) refl
 body_fails_so lines [] rest line code before place (inr (inr (t, c))) = absurd (omega (arith, t.full))
 body_fails_so lines (first ∷ good) rest line code before place why =
     let e = entries_behind lines good first rest line code before (omega arith) why in
     let s = start_from_form first before.0 in
-    rw (e.1) (body_of-before first e.0 rest ∙ rw (s.1, entries_fail_at 0 e.0 rest line code e.2) refl)
+    rw (e.1) (body_of-line first (e.0 ++ rest ∷ []) (rest_or_line e.0 rest) ∙ rw (s.1, entries_fail_at 0 e.0 rest line code e.2) refl)
 
 -- ---- all lines
-
-lines_schedule-before : (line : List ℕ) (lines : List (List ℕ)) (rest : List ℕ) → lines_schedule (line ∷ (lines ++ rest ∷ [])) ≡ cond (bytes_eq line header_line) (body_of (lines ++ rest ∷ [])) (Err (record { line = 1; code = BAD_HEADER }))
-unfolding lines_schedule
-lines_schedule-before line [] rest = refl
-lines_schedule-before line (next ∷ lines) rest = refl
 
 lines_read : (lines : List (List ℕ)) (rest : List ℕ) (w : Schedule) → lines_schedule (lines ++ rest ∷ []) ≡ Ok w → (lines ≡ lines_of w) × (rest ≡ []) × Fits w × (length w.entries ≤ MAX_ENTRIES)
 unfolding lines_schedule
 lines_read [] rest w h = absurd cc
 lines_read (line ∷ lines) rest w h =
-    let g = sym (lines_schedule-before line lines rest) ∙ h in
+    let g = sym (lines_schedule-line line (lines ++ rest ∷ []) (rest_or_line lines rest)) ∙ h in
     elim (cases_Bool (bytes_eq line header_line)) [
       | inr f ↦ absurd (let k = rw f at g in cc)
       | inl t ↦
@@ -148,14 +139,14 @@ lines_read (line ∷ lines) rest w h =
     ]
 
 lines_again : (w : Schedule) → Fits w → length w.entries ≤ MAX_ENTRIES → lines_schedule (lines_of w ++ [] ∷ []) ≡ Ok w
-lines_again w fits le = lines_schedule-before header_line (start_line w.start ∷ map entry_line w.entries) [] ∙ body_again w fits le
+lines_again w fits le = lines_schedule-line header_line ((start_line w.start ∷ map entry_line w.entries) ++ [] ∷ []) (rest_or_line (start_line w.start ∷ map entry_line w.entries) []) ∙ body_again w fits le
 
 lines_failed : (lines : List (List ℕ)) (rest : List ℕ) (f : Fault) → lines_schedule (lines ++ rest ∷ []) ≡ Err f → LinesFail lines rest f.line f.code
 unfolding lines_schedule
 lines_failed [] rest f h =
     subst (λ (g : Fault). LinesFail [] rest g.line g.code) (err_is {A = Schedule} (record { line = 1; code = BAD_HEADER }) f h) (inl (λ more e. absurd cc, refl, refl))
 lines_failed (line ∷ lines) rest f h =
-    let g = sym (lines_schedule-before line lines rest) ∙ h in
+    let g = sym (lines_schedule-line line (lines ++ rest ∷ []) (rest_or_line lines rest)) ∙ h in
     elim (cases_Bool (bytes_eq line header_line)) [
       | inr other ↦
           subst (λ (k : Fault). LinesFail (line ∷ lines) rest k.line k.code) (err_is {A = Schedule} (record { line = 1; code = BAD_HEADER }) f (rw other at g))
@@ -170,12 +161,12 @@ unfolding lines_schedule
 bad_header [] rest bad = refl
 bad_header (line ∷ lines) rest bad =
     let other = false_from_ne_true (bytes_eq line header_line) (λ t. bad lines (ap (λ (l : List ℕ). l ∷ lines) ((bytes_eq-Decides line header_line).0 t))) in
-    lines_schedule-before line lines rest ∙ rw other refl
+    lines_schedule-line line (lines ++ rest ∷ []) (rest_or_line lines rest) ∙ rw other refl
 
 lines_fail_at : (lines : List (List ℕ)) (rest : List ℕ) (line code : ℕ) → LinesFail lines rest line code → lines_schedule (lines ++ rest ∷ []) ≡ Err (record { line = line; code = code })
 lines_fail_at lines rest line code (inl (bad, l, c)) = rw (l, c) (bad_header lines rest bad)
 lines_fail_at lines rest line code (inr (more, parts, b)) =
-    rw parts (lines_schedule-before header_line more rest ∙ body_fails_so more b.good rest line code b.before b.place b.why)
+    rw parts (lines_schedule-line header_line (more ++ rest ∷ []) (rest_or_line more rest) ∙ body_fails_so more b.good rest line code b.before b.place b.why)
 
 -- ---- a text
 

@@ -1,10 +1,10 @@
 pub use sqlite_items::Items;
 
 /// The bytes that a schedule's text may have at most.
-pub const MAX_BYTES: usize = 0x400_0000;
+pub const MAX_BYTES: usize = 1 << 26;
 
 /// The entries that a schedule may have at most.
-pub const MAX_ENTRIES: usize = 0x10_0000;
+pub const MAX_ENTRIES: usize = 1 << 20;
 
 /// A step: the thread that takes it, and what it picked where the machine leaves a choice.
 #[derive(Debug, Drop)]

@@ -1,5 +1,5 @@
 use Rattle.std.proofs.lemmas.Result.{err_from_is_err_and}
-use Rattle.mr_sched.proofs.FirstLines.{body_read, body_stops}
+use Rattle.mr_sched.proofs.Loops.{body_read, body_stops}
 use Rattle.mr_sched.proofs.reading.read_body.Goals as goal
 
 pub returns-in_err-entries : goal.returns-in_err-entries
