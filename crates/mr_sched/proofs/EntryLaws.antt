@@ -1,11 +1,10 @@
 -- Reading the lines from line 3 on: what is read is spelled so, and what stops it is the first line that is wrong.
-use Rattle.std.proofs.Common.{◌≡◌, ◌≢◌, ℕ, suc, ◌+◌, ◌<◌, ◌≤◌, Bool, true, false, cond, eqb, ltb, ◌⊎◌, List, [], ◌∷◌, ◌++◌, length, map, Option, Some, None, Result, Ok, Err, refl, sym, ap, subst, ◌∙◌, append_assoc, arith, inl, inr}
+use Rattle.std.proofs.Common.{◌≡◌, ◌≢◌, ℕ, suc, ◌+◌, ◌^◌, ◌<◌, ◌≤◌, Bool, true, false, cond, eqb, ltb, ◌⊎◌, List, [], ◌∷◌, ◌++◌, length, map, Option, Some, None, Result, Ok, Err, refl, sym, ap, subst, ◌∙◌, append_assoc, arith, inl, inr}
 use Rattle.std.specs.List.{AllByRecursion}
 use Rattle.std.proofs.lemmas.Bool.{cases_Bool, ltb-true, ltb-false, lt-ltb, le-ltb, eqb-true, eqb-false, ne_eqb}
 use Rattle.std.proofs.lemmas.List.{append-nil, nil_from_length}
 use Rattle.mr_sched.specs.declared.fault.TheConstants.{BAD_LINE, TOO_LONG}
 use Rattle.mr_sched.specs.declared.schedule.Entry.{Entry}
-use Rattle.mr_sched.specs.declared.schedule.TheConstants.{MAX_ENTRIES}
 use Rattle.mr_sched.specs.Spelling.{entry_line, EntryFits}
 use Rattle.mr_sched.specs.Faults.{IsEntryLine}
 use Rattle.mr_sched.specs.Reading.{Fault, entries_of, entry_of, entry_then, parts_at, with_entry}
@@ -22,21 +21,21 @@ pub record EntriesRead (n : ℕ) (lines : List (List ℕ)) (rest : List ℕ) (es
   pub spelled : lines ≡ map entry_line es
   pub ended : rest ≡ []
   pub fit : AllByRecursion EntryFits es
-  pub count : n + length es ≤ MAX_ENTRIES
+  pub count : n + length es ≤ 2 ^ 20
 
 with_entry_ok : (e : Entry) (r : Result (List Entry) Fault) (es : List Entry) → with_entry e r ≡ Ok es → (others : List Entry) × (r ≡ Ok others) × (e ∷ others ≡ es)
 with_entry_ok e (Ok others) es h = (others, refl, cc)
 with_entry_ok e (Err f) es h = absurd cc
 
 first_read : (n : ℕ) (line : List ℕ) (lines : List (List ℕ)) (rest : List ℕ) (es : List Entry) (o : Option Entry) → entry_of (parts_at 32 line) ≡ o
-    → ((others : List Entry) → n + 1 ≤ MAX_ENTRIES → entries_of (n + 1) (lines ++ rest ∷ []) ≡ Ok others → EntriesRead (n + 1) lines rest others)
+    → ((others : List Entry) → n + 1 ≤ 2 ^ 20 → entries_of (n + 1) (lines ++ rest ∷ []) ≡ Ok others → EntriesRead (n + 1) lines rest others)
     → entry_then n o (entries_of (n + 1) (lines ++ rest ∷ [])) ≡ Ok es → EntriesRead n (line ∷ lines) rest es
 first_read n line lines rest es None is others h = absurd cc
 first_read n line lines rest es (Some e) is others h =
-    elim (cases_Bool (ltb n MAX_ENTRIES)) [
+    elim (cases_Bool (ltb n (2 ^ 20))) [
       | inr f ↦ absurd (let g = rw f at h in cc)
       | inl t ↦
-          let lt : n < MAX_ENTRIES = ltb-true _ _ t in
+          let lt : n < 2 ^ 20 = ltb-true _ _ t in
           let p = with_entry_ok e (entries_of (n + 1) (lines ++ rest ∷ [])) es (rw t at h) in
           let more = others p.0 (omega arith) p.1 in
           let first = entry_spelled line e is in
@@ -45,11 +44,11 @@ first_read n line lines rest es (Some e) is others h =
             spelled = ap (λ (w : List ℕ). w ∷ lines) first.1 ∙ ap (λ (w : List (List ℕ)). entry_line e ∷ w) more.spelled;
             ended = more.ended;
             fit = (first.0, more.fit);
-            count = omega (arith, more.count)
+            count = omega (arith, more.count);
           })
     ]
 
-pub entries_read : (n : ℕ) (lines : List (List ℕ)) (rest : List ℕ) (es : List Entry) → n ≤ MAX_ENTRIES → entries_of n (lines ++ rest ∷ []) ≡ Ok es → EntriesRead n lines rest es
+pub entries_read : (n : ℕ) (lines : List (List ℕ)) (rest : List ℕ) (es : List Entry) → n ≤ 2 ^ 20 → entries_of n (lines ++ rest ∷ []) ≡ Ok es → EntriesRead n lines rest es
 unfolding entries_of
 entries_read n [] rest es le h =
     elim (cases_Bool (eqb (length rest) 0)) [
@@ -61,12 +60,12 @@ entries_read n [] rest es le h =
 entries_read n (line ∷ lines) rest es le h =
     first_read n line lines rest es (entry_of (parts_at 32 line)) refl (λ others more g. entries_read (n + 1) lines rest others more g) (sym (entries_of-line n line (lines ++ rest ∷ []) (rest_or_line lines rest)) ∙ h)
 
-pub entries_again : (n : ℕ) (es : List Entry) → AllByRecursion EntryFits es → n + length es ≤ MAX_ENTRIES → entries_of n (map entry_line es ++ [] ∷ []) ≡ Ok es
+pub entries_again : (n : ℕ) (es : List Entry) → AllByRecursion EntryFits es → n + length es ≤ 2 ^ 20 → entries_of n (map entry_line es ++ [] ∷ []) ≡ Ok es
 unfolding entries_of
 entries_again n [] fit le = refl
 entries_again n (e ∷ es) fit le =
     entries_of-line n (entry_line e) ((map entry_line es) ++ [] ∷ []) (rest_or_line (map entry_line es) [])
-    ∙ rw (entry_again e fit.0, lt-ltb n MAX_ENTRIES (omega arith), entries_again (n + 1) es fit.1 (omega arith)) refl
+    ∙ rw (entry_again e fit.0, lt-ltb n (2 ^ 20) (omega arith), entries_again (n + 1) es fit.1 (omega arith)) refl
 
 -- ---- what stops it
 
@@ -84,14 +83,14 @@ pub record EntryTooMany (n : ℕ) (lines good : List (List ℕ)) : Type 0 where
   pub line : List ℕ
   pub more : List (List ℕ)
   pub parts : lines ≡ good ++ line ∷ more
-  pub full : n + length good ≡ MAX_ENTRIES
+  pub full : n + length good ≡ 2 ^ 20
   pub form : IsEntryLine line
 
 -- behind n entries and good lines stands the first that is wrong
 pub record EntriesFail (n : ℕ) (lines : List (List ℕ)) (rest : List ℕ) (line code : ℕ) : Type 0 where
   pub good : List (List ℕ)
   pub before : AllByRecursion IsEntryLine good
-  pub count : n + length good ≤ MAX_ENTRIES
+  pub count : n + length good ≤ 2 ^ 20
   pub place : line ≡ n + length good + 3
   pub why : (OtherEntry lines good × (code ≡ BAD_LINE)) ⊎ ((UnendedEntry lines rest good × (code ≡ BAD_LINE)) ⊎ (EntryTooMany n lines good × (code ≡ TOO_LONG)))
 
@@ -107,7 +106,7 @@ behind_entry n first lines rest line code form h =
         | inl (o, c) ↦ inl (record { line = o.line; more = o.more; parts = ap push o.parts; other = o.other }, c)
         | inr (inl (u, c)) ↦ inr (inl (record { parts = ap push u.parts; begun = u.begun }, c))
         | inr (inr (t, c)) ↦ inr (inr (record { line = t.line; more = t.more; parts = ap push t.parts; full = omega (arith, t.full); form = t.form }, c))
-      ]
+      ];
     }
 
 with_entry_err : (e : Entry) (r : Result (List Entry) Fault) (f : Fault) → with_entry e r ≡ Err f → r ≡ Err f
@@ -120,8 +119,8 @@ failed A f = Err f
 pub err_is : {A : Type 0} (f g : Fault) → failed A f ≡ failed A g → f ≡ g
 err_is f g e = cc
 
-first_failed : (n : ℕ) (line : List ℕ) (lines : List (List ℕ)) (rest : List ℕ) (f : Fault) (o : Option Entry) → entry_of (parts_at 32 line) ≡ o → n ≤ MAX_ENTRIES
-    → (n + 1 ≤ MAX_ENTRIES → entries_of (n + 1) (lines ++ rest ∷ []) ≡ Err f → EntriesFail (n + 1) lines rest f.line f.code)
+first_failed : (n : ℕ) (line : List ℕ) (lines : List (List ℕ)) (rest : List ℕ) (f : Fault) (o : Option Entry) → entry_of (parts_at 32 line) ≡ o → n ≤ 2 ^ 20
+    → (n + 1 ≤ 2 ^ 20 → entries_of (n + 1) (lines ++ rest ∷ []) ≡ Err f → EntriesFail (n + 1) lines rest f.line f.code)
     → entry_then n o (entries_of (n + 1) (lines ++ rest ∷ [])) ≡ Err f → EntriesFail n (line ∷ lines) rest f.line f.code
 first_failed n line lines rest f None is le others h =
     subst (λ (g : Fault). EntriesFail n (line ∷ lines) rest g.line g.code) (err_is {A = List Entry} (record { line = n + 3; code = BAD_LINE }) f h)
@@ -130,27 +129,27 @@ first_failed n line lines rest f None is le others h =
       before = tt;
       count = omega arith;
       place = omega arith;
-      why = inl (record { line = line; more = lines; parts = refl; other = λ form. let p = entry_from_form line form in let g = sym is ∙ p.1 in absurd cc }, refl)
+      why = inl (record { line = line; more = lines; parts = refl; other = λ form. let p = entry_from_form line form in let g = sym is ∙ p.1 in absurd cc }, refl);
     })
 first_failed n line lines rest f (Some e) is le others h =
     let first = entry_spelled line e is in
-    elim (cases_Bool (ltb n MAX_ENTRIES)) [
+    elim (cases_Bool (ltb n (2 ^ 20))) [
       | inr no_room ↦
-          let full : MAX_ENTRIES ≤ n = ltb-false _ _ no_room in
+          let full : 2 ^ 20 ≤ n = ltb-false _ _ no_room in
           subst (λ (g : Fault). EntriesFail n (line ∷ lines) rest g.line g.code) (err_is {A = List Entry} (record { line = n + 3; code = TOO_LONG }) f (rw no_room at h))
           (record {
             good = [];
             before = tt;
             count = omega arith;
             place = omega arith;
-            why = inr (inr (record { line = line; more = lines; parts = refl; full = omega arith; form = (e, first.0, first.1) }, refl))
+            why = inr (inr (record { line = line; more = lines; parts = refl; full = omega arith; form = (e, first.0, first.1) }, refl));
           })
       | inl room ↦
-          let lt : n < MAX_ENTRIES = ltb-true _ _ room in
+          let lt : n < 2 ^ 20 = ltb-true _ _ room in
           behind_entry n line lines rest f.line f.code (e, first.0, first.1) (others (omega arith) (with_entry_err e (entries_of (n + 1) (lines ++ rest ∷ [])) f (rw room at h)))
     ]
 
-pub entries_failed : (n : ℕ) (lines : List (List ℕ)) (rest : List ℕ) (f : Fault) → n ≤ MAX_ENTRIES → entries_of n (lines ++ rest ∷ []) ≡ Err f → EntriesFail n lines rest f.line f.code
+pub entries_failed : (n : ℕ) (lines : List (List ℕ)) (rest : List ℕ) (f : Fault) → n ≤ 2 ^ 20 → entries_of n (lines ++ rest ∷ []) ≡ Err f → EntriesFail n lines rest f.line f.code
 unfolding entries_of
 entries_failed n [] rest f le h =
     elim (cases_Bool (eqb (length rest) 0)) [
@@ -162,7 +161,7 @@ entries_failed n [] rest f le h =
             before = tt;
             count = omega arith;
             place = omega arith;
-            why = inr (inl (record { parts = refl; begun = λ e. eqb-false _ _ begun (ap length e) }, refl))
+            why = inr (inl (record { parts = refl; begun = λ e. eqb-false _ _ begun (ap length e) }, refl));
           })
     ]
 entries_failed n (line ∷ lines) rest f le h =
@@ -170,13 +169,13 @@ entries_failed n (line ∷ lines) rest f le h =
 
 -- ---- and stops it so
 
-good_entries : (n m : ℕ) (good tail : List (List ℕ)) (rest : List ℕ) (f : Fault) → m ≡ n + length good → AllByRecursion IsEntryLine good → m ≤ MAX_ENTRIES
+good_entries : (n m : ℕ) (good tail : List (List ℕ)) (rest : List ℕ) (f : Fault) → m ≡ n + length good → AllByRecursion IsEntryLine good → m ≤ 2 ^ 20
     → entries_of m (tail ++ rest ∷ []) ≡ Err f → entries_of n ((good ++ tail) ++ rest ∷ []) ≡ Err f
 good_entries n m [] tail rest f e before le h = let same : m ≡ n = omega arith in subst (λ (k : ℕ). entries_of k (tail ++ rest ∷ []) ≡ Err f) same h
 good_entries n m (line ∷ good) tail rest f e before le h =
     let p = entry_from_form line before.0 in
     let others = good_entries (n + 1) m good tail rest f (omega arith) before.1 le h in
-    entries_of-line n line ((good ++ tail) ++ rest ∷ []) (rest_or_line (good ++ tail) rest) ∙ rw (p.1, lt-ltb n MAX_ENTRIES (omega arith), others) refl
+    entries_of-line n line ((good ++ tail) ++ rest ∷ []) (rest_or_line (good ++ tail) rest) ∙ rw (p.1, lt-ltb n (2 ^ 20) (omega arith), others) refl
 
 other_entry : (m : ℕ) (line : List ℕ) (more : List (List ℕ)) (rest : List ℕ) (o : Option Entry) → entry_of (parts_at 32 line) ≡ o → (IsEntryLine line → ⊥)
     → entry_then m o (entries_of (m + 1) (more ++ rest ∷ [])) ≡ Err (record { line = m + 3; code = BAD_LINE })
@@ -187,9 +186,9 @@ unended_entry : (m : ℕ) (rest : List ℕ) → rest ≢ [] → entries_of m ([]
 unfolding entries_of
 unended_entry m rest begun = rw (ne_eqb (length rest) 0 (λ e. begun (nil_from_length rest e))) refl
 
-entry_too_many : (m : ℕ) (line : List ℕ) (more : List (List ℕ)) (rest : List ℕ) → m ≡ MAX_ENTRIES → IsEntryLine line
+entry_too_many : (m : ℕ) (line : List ℕ) (more : List (List ℕ)) (rest : List ℕ) → m ≡ 2 ^ 20 → IsEntryLine line
     → entry_then m (entry_of (parts_at 32 line)) (entries_of (m + 1) (more ++ rest ∷ [])) ≡ Err (record { line = m + 3; code = TOO_LONG })
-entry_too_many m line more rest full form = let p = entry_from_form line form in rw (p.1, le-ltb m MAX_ENTRIES (omega arith)) refl
+entry_too_many m line more rest full form = let p = entry_from_form line form in rw (p.1, le-ltb m (2 ^ 20) (omega arith)) refl
 
 pub entries_fail_at : (n : ℕ) (lines : List (List ℕ)) (rest : List ℕ) (line code : ℕ) → EntriesFail n lines rest line code → entries_of n (lines ++ rest ∷ []) ≡ Err (record { line = line; code = code })
 entries_fail_at n lines rest line code h =

@@ -1,4 +1,5 @@
 pub mod EntryLaws
+pub mod Examples
 pub mod FirstLines
 pub mod LineLaws
 pub mod Loops

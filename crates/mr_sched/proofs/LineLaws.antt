@@ -32,7 +32,7 @@ behind_lf : (text : List ℕ) → HasLines text → HasLines (10 ∷ text)
 behind_lf text h = record {
   lines = [] ∷ h.lines;
   rest = h.rest;
-  split = record { parts = ap (λ (w : List ℕ). 10 ∷ w) h.split.parts; unbroken = (tt, h.split.unbroken); rest_unbroken = h.split.rest_unbroken }
+  split = record { parts = ap (λ (w : List ℕ). 10 ∷ w) h.split.parts; unbroken = (tt, h.split.unbroken); rest_unbroken = h.split.rest_unbroken };
 }
 
 behind_byte : (b : ℕ) (text : List ℕ) (lines : List (List ℕ)) (rest : List ℕ) → b ≢ 10 → Lines text lines rest → HasLines (b ∷ text)
@@ -42,7 +42,7 @@ behind_byte b text (line ∷ lines) rest other h =
     record {
       lines = (b ∷ line) ∷ lines;
       rest = rest;
-      split = record { parts = ap (λ (w : List ℕ). b ∷ w) h.parts; unbroken = ((other, h.unbroken.0), h.unbroken.1); rest_unbroken = h.rest_unbroken }
+      split = record { parts = ap (λ (w : List ℕ). b ∷ w) h.parts; unbroken = ((other, h.unbroken.0), h.unbroken.1); rest_unbroken = h.rest_unbroken };
     }
 
 pub has_lines : (text : List ℕ) → HasLines text

@@ -10,7 +10,6 @@ use Rattle.mr_sched.specs.declared.fault.SchedFault.TheVariants.{Bad, Memory}
 use Rattle.mr_sched.specs.declared.fault.TheConstants.{BAD_LINE, TOO_LONG}
 use Rattle.mr_sched.specs.declared.schedule.Entry.{Entry}
 use Rattle.mr_sched.specs.declared.schedule.Schedule.{Schedule}
-use Rattle.mr_sched.specs.declared.schedule.TheConstants.{MAX_ENTRIES}
 use Rattle.mr_sched.specs.Reading.{Fault, Gives, at_line, body_of, entries_of, entry_of, number_of, parts_at, parts_after, picks_of, start_of, with_entry}
 use Rattle.mr_sched.proofs.FirstLines.{body_of-line, entries_of-line}
 use Rattle.mr_sched.proofs.Parts.{parts_at-first}
@@ -84,11 +83,11 @@ regroup_entries front e (Ok es) = ap (λ (w : List Entry). Ok w) (simp append_as
 regroup_entries front e (Err f) = refl
 
 pub entries_go_on : (front : List Entry) (rest line after : List ℕ) (e : Entry) (whole : Result (List Entry) Fault) → parts_at 10 rest ≡ line ∷ parts_at 10 after
-    → at_line (length front + 3) (entry_of (parts_at 32 line)) ≡ Ok e → length front < MAX_ENTRIES → entries_with front (parts_at 10 rest) ≡ whole → entries_with (front ++ e ∷ []) (parts_at 10 after) ≡ whole
+    → at_line (length front + 3) (entry_of (parts_at 32 line)) ≡ Ok e → length front < 2 ^ 20 → entries_with front (parts_at 10 rest) ≡ whole → entries_with (front ++ e ∷ []) (parts_at 10 after) ≡ whole
 entries_go_on front rest line after e whole parts found lt so_far =
     let some = some_at_line (length front + 3) (entry_of (parts_at 32 line)) e found in
     let one : entries_with front (line ∷ parts_at 10 after) ≡ with_front (front ++ e ∷ []) (entries_of (length front + 1) (parts_at 10 after)) =
-    rw (entries_of-line (length front) line (parts_at 10 after) (parts_at-first 10 after), some, lt-ltb (length front) MAX_ENTRIES lt) (regroup_entries front e (entries_of (length front + 1) (parts_at 10 after))) in
+    rw (entries_of-line (length front) line (parts_at 10 after) (parts_at-first 10 after), some, lt-ltb (length front) (2 ^ 20) lt) (regroup_entries front e (entries_of (length front + 1) (parts_at 10 after))) in
     rw length_push (sym one ∙ ap (entries_with front) (sym parts) ∙ so_far)
 
 pub entries_stop : (front : List Entry) (rest line after : List ℕ) (f : SchedFault) (whole : Result (List Entry) Fault) → parts_at 10 rest ≡ line ∷ parts_at 10 after
@@ -99,10 +98,10 @@ entries_stop front rest line after (Bad k code) whole parts failed so_far =
     sym so_far ∙ ap (entries_with front) parts ∙ rw (entries_of-line (length front) line (parts_at 10 after) (parts_at-first 10 after), none.0) (ap (λ (f : Fault). Err f) none.1)
 
 pub entries_too_long : (front : List Entry) (rest line after : List ℕ) (e : Entry) (whole : Result (List Entry) Fault) → parts_at 10 rest ≡ line ∷ parts_at 10 after
-    → at_line (length front + 3) (entry_of (parts_at 32 line)) ≡ Ok e → MAX_ENTRIES ≤ length front → entries_with front (parts_at 10 rest) ≡ whole → whole ≡ Err (record { line = length front + 3; code = TOO_LONG })
+    → at_line (length front + 3) (entry_of (parts_at 32 line)) ≡ Ok e → 2 ^ 20 ≤ length front → entries_with front (parts_at 10 rest) ≡ whole → whole ≡ Err (record { line = length front + 3; code = TOO_LONG })
 entries_too_long front rest line after e whole parts found le so_far =
     let some = some_at_line (length front + 3) (entry_of (parts_at 32 line)) e found in
-    sym so_far ∙ ap (entries_with front) parts ∙ rw (entries_of-line (length front) line (parts_at 10 after) (parts_at-first 10 after), some, le-ltb (length front) MAX_ENTRIES le) refl
+    sym so_far ∙ ap (entries_with front) parts ∙ rw (entries_of-line (length front) line (parts_at 10 after) (parts_at-first 10 after), some, le-ltb (length front) (2 ^ 20) le) refl
 
 pub entries_unended : (front : List Entry) (rest line : List ℕ) (whole : Result (List Entry) Fault) → parts_at 10 rest ≡ line ∷ [] → 0 < length rest
     → entries_with front (parts_at 10 rest) ≡ whole → whole ≡ Err (record { line = length front + 3; code = BAD_LINE })

@@ -1,5 +1,5 @@
 -- Reading a text: what is read is spelled so, and a fault is the first one.
-use Rattle.std.proofs.Common.{◌≡◌, ◌≢◌, ℕ, suc, ◌+◌, ◌<◌, ◌≤◌, Bool, true, false, cond, eqb, ltb, ◌⊎◌, List, [], ◌∷◌, ◌++◌, length, map, Option, Some, None, Result, Ok, Err, refl, sym, ap, subst, ◌∙◌, arith, inl, inr}
+use Rattle.std.proofs.Common.{◌≡◌, ◌≢◌, ℕ, suc, ◌+◌, ◌^◌, ◌<◌, ◌≤◌, Bool, true, false, cond, eqb, ltb, ◌⊎◌, List, [], ◌∷◌, ◌++◌, length, map, Option, Some, None, Result, Ok, Err, refl, sym, ap, subst, ◌∙◌, arith, inl, inr}
 use Rattle.std.specs.Prelude.{bytes_eq, flat_map, IfOk}
 use Rattle.std.specs.List.{AllByRecursion}
 use Rattle.std.proofs.lemmas.Bool.{cases_Bool, ltb-true, ltb-false, lt-ltb, le-ltb, false_from_ne_true}
@@ -8,7 +8,6 @@ use Rattle.std.proofs.lemmas.Slice.Eq.{bytes_eq-Decides}
 use Rattle.mr_sched.specs.declared.fault.TheConstants.{BAD_HEADER, BAD_LINE, TOO_LONG}
 use Rattle.mr_sched.specs.declared.schedule.Entry.{Entry}
 use Rattle.mr_sched.specs.declared.schedule.Schedule.{Schedule}
-use Rattle.mr_sched.specs.declared.schedule.TheConstants.{MAX_BYTES, MAX_ENTRIES}
 use Rattle.mr_sched.specs.Spelling.{ended, header_line, start_line, entry_line, lines_of, text_of, EntryFits, Fits, IsWithinLimits, Schedules}
 use Rattle.mr_sched.specs.Faults.{IsUnbroken, Lines, IsStartLine, AreGood, HasOtherLine, HasUnendedLine, HasEntryTooMany, BodyFails, HasBadHeader, LinesFail, FirstFault}
 use Rattle.mr_sched.specs.declared.fault.SchedFault.{SchedFault}
@@ -29,7 +28,7 @@ pub record BodyRead (lines : List (List ℕ)) (rest : List ℕ) (w : Schedule) :
   pub spelled : lines ≡ start_line w.start ∷ map entry_line w.entries
   pub ended : rest ≡ []
   pub fits : Fits w
-  pub count : length w.entries ≤ MAX_ENTRIES
+  pub count : length w.entries ≤ 2 ^ 20
 
 start_read : (line : List ℕ) (lines : List (List ℕ)) (rest : List ℕ) (w : Schedule) (o : Option (List ℕ)) (r : Result (List Entry) Fault) → start_of (parts_at 32 line) ≡ o → entries_of 0 (lines ++ rest ∷ []) ≡ r
     → start_then o r ≡ Ok w → BodyRead (line ∷ lines) rest w
@@ -45,7 +44,7 @@ start_read line lines rest w (Some picks) (Ok es) is entries h =
       spelled = ap (λ (l : List ℕ). l ∷ lines) first.1 ∙ ap (λ (ls : List (List ℕ)). start_line picks ∷ ls) more.spelled;
       ended = more.ended;
       fits = record { start = first.0; entries = more.fit };
-      count = omega (arith, more.count)
+      count = omega (arith, more.count);
     })
 
 body_read : (lines : List (List ℕ)) (rest : List ℕ) (w : Schedule) → body_of (lines ++ rest ∷ []) ≡ Ok w → BodyRead lines rest w
@@ -54,7 +53,7 @@ body_read [] rest w h = absurd cc
 body_read (line ∷ lines) rest w h =
     start_read line lines rest w (start_of (parts_at 32 line)) (entries_of 0 (lines ++ rest ∷ [])) refl refl (sym (body_of-line line (lines ++ rest ∷ []) (rest_or_line lines rest)) ∙ h)
 
-body_again : (w : Schedule) → Fits w → length w.entries ≤ MAX_ENTRIES → body_of ((start_line w.start ∷ map entry_line w.entries) ++ [] ∷ []) ≡ Ok w
+body_again : (w : Schedule) → Fits w → length w.entries ≤ 2 ^ 20 → body_of ((start_line w.start ∷ map entry_line w.entries) ++ [] ∷ []) ≡ Ok w
 body_again w fits le =
     body_of-line (start_line w.start) ((map entry_line w.entries) ++ [] ∷ []) (rest_or_line (map entry_line w.entries) [])
     ∙ rw (start_again w.start fits.start, entries_again 0 w.entries fits.entries (omega arith)) refl
@@ -67,7 +66,7 @@ start_failed line lines rest f None r is entries h =
       good = [];
       before = tt;
       place = refl;
-      why = inl (record { line = line; more = lines; parts = refl; other = λ form. let p = start_from_form line form in let g = sym is ∙ p.1 in absurd cc }, refl)
+      why = inl (record { line = line; more = lines; parts = refl; other = λ form. let p = start_from_form line form in let g = sym is ∙ p.1 in absurd cc }, refl);
     })
 start_failed line lines rest f (Some picks) (Ok es) is entries h = absurd cc
 start_failed line lines rest f (Some picks) (Err g) is entries h =
@@ -83,7 +82,7 @@ start_failed line lines rest f (Some picks) (Err g) is entries h =
         | inl (o, c) ↦ inl (record { line = o.line; more = o.more; parts = ap push o.parts; other = o.other }, c)
         | inr (inl (u, c)) ↦ inr (inl (record { parts = ap push u.parts; due = inr u.begun }, c))
         | inr (inr (t, c)) ↦ inr (inr (record { line = t.line; more = t.more; parts = ap push t.parts; full = omega (arith, t.full); form = t.form }, c))
-      ]
+      ];
     }
 
 body_failed : (lines : List (List ℕ)) (rest : List ℕ) (f : Fault) → body_of (lines ++ rest ∷ []) ≡ Err f → BodyFails lines rest f.line f.code
@@ -125,7 +124,7 @@ body_fails_so lines (first ∷ good) rest line code before place why =
 
 -- ---- all lines
 
-lines_read : (lines : List (List ℕ)) (rest : List ℕ) (w : Schedule) → lines_schedule (lines ++ rest ∷ []) ≡ Ok w → (lines ≡ lines_of w) × (rest ≡ []) × Fits w × (length w.entries ≤ MAX_ENTRIES)
+lines_read : (lines : List (List ℕ)) (rest : List ℕ) (w : Schedule) → lines_schedule (lines ++ rest ∷ []) ≡ Ok w → (lines ≡ lines_of w) × (rest ≡ []) × Fits w × (length w.entries ≤ 2 ^ 20)
 unfolding lines_schedule
 lines_read [] rest w h = absurd cc
 lines_read (line ∷ lines) rest w h =
@@ -138,7 +137,7 @@ lines_read (line ∷ lines) rest w h =
           (ap (λ (l : List ℕ). l ∷ lines) same ∙ ap (λ (ls : List (List ℕ)). header_line ∷ ls) b.spelled, b.ended, b.fits, b.count)
     ]
 
-lines_again : (w : Schedule) → Fits w → length w.entries ≤ MAX_ENTRIES → lines_schedule (lines_of w ++ [] ∷ []) ≡ Ok w
+lines_again : (w : Schedule) → Fits w → length w.entries ≤ 2 ^ 20 → lines_schedule (lines_of w ++ [] ∷ []) ≡ Ok w
 lines_again w fits le = lines_schedule-line header_line ((start_line w.start ∷ map entry_line w.entries) ++ [] ∷ []) (rest_or_line (start_line w.start ∷ map entry_line w.entries) []) ∙ body_again w fits le
 
 lines_failed : (lines : List (List ℕ)) (rest : List ℕ) (f : Fault) → lines_schedule (lines ++ rest ∷ []) ≡ Err f → LinesFail lines rest f.line f.code
@@ -179,38 +178,38 @@ unfolding text_of
 lines_of_text w fits = record {
   parts = sym (append-nil (flat_map ended (lines_of w)));
   unbroken = (header_unbroken, (start_unbroken w.start fits.start, entry_lines_unbroken w.entries fits.entries));
-  rest_unbroken = tt
+  rest_unbroken = tt;
 }
 
 pub schedule_read : (text : List ℕ) (w : Schedule) → schedule_of text ≡ Ok w → Schedules text w
 unfolding schedule_of text_of
 schedule_read text w h =
-    elim (cases_Bool (ltb MAX_BYTES (length text))) [
+    elim (cases_Bool (ltb (2 ^ 26) (length text))) [
       | inl t ↦ absurd (let g = rw t at h in cc)
       | inr f ↦
           let s = has_lines text in
           let g = sym (ap lines_schedule (parts_from_lines text s.lines s.rest s.split)) ∙ (rw f at h) in
           let p = lines_read s.lines s.rest w g in
           let spelled : text ≡ text_of w =
-              s.split.parts ∙ ap (λ (ls : List (List ℕ)). flat_map ended ls ++ s.rest) p.0 ∙ ap (λ (r : List ℕ). flat_map ended (lines_of w) ++ r) p.1 ∙ append-nil (flat_map ended (lines_of w)) in
+          s.split.parts ∙ ap (λ (ls : List (List ℕ)). flat_map ended ls ++ s.rest) p.0 ∙ ap (λ (r : List ℕ). flat_map ended (lines_of w) ++ r) p.1 ∙ append-nil (flat_map ended (lines_of w)) in
           record {
             spelled = spelled;
             fits = p.2;
-            limits = record { entries = p.3; bytes = subst (λ (t : List ℕ). length t ≤ MAX_BYTES) spelled (ltb-false _ _ f) }
+            limits = record { entries = p.3; bytes = subst (λ (t : List ℕ). length t ≤ 2 ^ 26) spelled (ltb-false _ _ f) };
           }
     ]
 
 pub schedule_again : (text : List ℕ) (w : Schedule) → Schedules text w → schedule_of text ≡ Ok w
 unfolding schedule_of
 schedule_again text w h =
-    let small : length text ≤ MAX_BYTES = rw h.spelled h.limits.bytes in
+    let small : length text ≤ 2 ^ 26 = rw h.spelled h.limits.bytes in
     let lines = parts_from_lines (text_of w) (lines_of w) [] (lines_of_text w h.fits) in
-    rw (le-ltb MAX_BYTES (length text) small) (ap (λ (t : List ℕ). lines_schedule (parts_at 10 t)) h.spelled ∙ ap lines_schedule lines ∙ lines_again w h.fits h.limits.entries)
+    rw (le-ltb (2 ^ 26) (length text) small) (ap (λ (t : List ℕ). lines_schedule (parts_at 10 t)) h.spelled ∙ ap lines_schedule lines ∙ lines_again w h.fits h.limits.entries)
 
 pub schedule_failed : (text : List ℕ) (f : Fault) → schedule_of text ≡ Err f → FirstFault text f.line f.code
 unfolding schedule_of
 schedule_failed text f h =
-    elim (cases_Bool (ltb MAX_BYTES (length text))) [
+    elim (cases_Bool (ltb (2 ^ 26) (length text))) [
       | inl t ↦
           subst (λ (g : Fault). FirstFault text g.line g.code) (err_is {A = Schedule} (record { line = 1; code = TOO_LONG }) f (rw t at h)) (inl (ltb-true _ _ t, refl, refl))
       | inr small ↦
@@ -221,9 +220,9 @@ schedule_failed text f h =
 
 pub schedule_fails_at : (text : List ℕ) (line code : ℕ) → FirstFault text line code → schedule_of text ≡ Err (record { line = line; code = code })
 unfolding schedule_of
-schedule_fails_at text line code (inl (long, l, c)) = rw (lt-ltb MAX_BYTES (length text) long, l, c) refl
+schedule_fails_at text line code (inl (long, l, c)) = rw (lt-ltb (2 ^ 26) (length text) long, l, c) refl
 schedule_fails_at text line code (inr (small, (lines, rest, split, fails))) =
-    rw (le-ltb MAX_BYTES (length text) small) (ap lines_schedule (parts_from_lines text lines rest split) ∙ lines_fail_at lines rest line code fails)
+    rw (le-ltb (2 ^ 26) (length text) small) (ap lines_schedule (parts_from_lines text lines rest split) ∙ lines_fail_at lines rest line code fails)
 
 abbrev pub done : Schedule → Result Schedule Fault
 done w = Ok w

@@ -1,8 +1,7 @@
 -- The first fault of a text that is no schedule.
-use Rattle.std.specs.Prelude.{◌≡◌, ◌≢◌, ℕ, ◌+◌, ◌<◌, ◌≤◌, ◌⊎◌, List, [], ◌∷◌, ◌++◌, length, flat_map}
+use Rattle.std.specs.Prelude.{◌≡◌, ◌≢◌, ℕ, ◌+◌, ◌^◌, ◌<◌, ◌≤◌, ◌⊎◌, List, [], ◌∷◌, ◌++◌, length, flat_map}
 use Rattle.std.specs.List.{AllByRecursion}
 use Rattle.mr_sched.specs.declared.schedule.Entry.{Entry}
-use Rattle.mr_sched.specs.declared.schedule.TheConstants.{MAX_BYTES, MAX_ENTRIES}
 use Rattle.mr_sched.specs.declared.fault.TheConstants.{BAD_HEADER, BAD_LINE, TOO_LONG}
 use Rattle.mr_sched.specs.Spelling.{header_line, start_line, entry_line, ended, PicksFit, EntryFits}
 
@@ -27,7 +26,7 @@ IsEntryLine line = (e : Entry) × EntryFits e × (line ≡ entry_line e)
 -- the lines behind the header are good: start picks, and then entries, not too many
 abbrev pub AreGood : List (List ℕ) → Type 0
 AreGood [] = Unit {0}
-AreGood (line ∷ lines) = IsStartLine line × AllByRecursion IsEntryLine lines × (length lines ≤ MAX_ENTRIES)
+AreGood (line ∷ lines) = IsStartLine line × AllByRecursion IsEntryLine lines × (length lines ≤ 2 ^ 20)
 
 -- the line has the form that is due behind the good ones: the first spells start picks, and each other an entry
 abbrev pub IsDue : List (List ℕ) → List ℕ → Type 0
@@ -51,7 +50,7 @@ pub record HasEntryTooMany (lines good : List (List ℕ)) : Type 0 where
   pub line : List ℕ
   pub more : List (List ℕ)
   pub parts : lines ≡ good ++ line ∷ more
-  pub full : length good ≡ MAX_ENTRIES + 1
+  pub full : length good ≡ 2 ^ 20 + 1
   pub form : IsEntryLine line
 
 -- the lines from line 2 on are wrong at this line (of the text, from 1) with this code: those before it are good
@@ -74,5 +73,5 @@ LinesFail lines rest line code =
 -- the first fault of the text, at this line and with this code: too many bytes, or else the first line that is wrong
 abbrev pub FirstFault : List ℕ → ℕ → ℕ → Type 0
 FirstFault text line code =
-    ((MAX_BYTES < length text) × (line ≡ 1) × (code ≡ TOO_LONG))
-    ⊎ ((length text ≤ MAX_BYTES) × ((lines : List (List ℕ)) × (rest : List ℕ) × Lines text lines rest × LinesFail lines rest line code))
+    ((2 ^ 26 < length text) × (line ≡ 1) × (code ≡ TOO_LONG))
+    ⊎ ((length text ≤ 2 ^ 26) × ((lines : List (List ℕ)) × (rest : List ℕ) × Lines text lines rest × LinesFail lines rest line code))

@@ -9,7 +9,6 @@ use Rattle.mr_sched.specs.declared.fault.SchedFault.TheVariants.{Bad, Memory}
 use Rattle.mr_sched.specs.declared.fault.TheConstants.{BAD_HEADER, BAD_LINE, TOO_LONG}
 use Rattle.mr_sched.specs.declared.schedule.Entry.{Entry}
 use Rattle.mr_sched.specs.declared.schedule.Schedule.{Schedule}
-use Rattle.mr_sched.specs.declared.schedule.TheConstants.{MAX_BYTES, MAX_ENTRIES}
 use Rattle.mr_sched.specs.Spelling.{header_line}
 
 -- where a text stops being a schedule, lines being counted from 1, and why
@@ -70,7 +69,7 @@ with_entry e (Err f) = Err f
 -- what the entry of line n + 3 makes of the entries behind it, n being how many stand before it
 abbrev pub entry_then : ℕ → Option Entry → Result (List Entry) Fault → Result (List Entry) Fault
 entry_then n None others = Err (record { line = n + 3; code = BAD_LINE })
-entry_then n (Some e) others = if nat_lt n MAX_ENTRIES then with_entry e others else Err (record { line = n + 3; code = TOO_LONG })
+entry_then n (Some e) others = if nat_lt n (2 ^ 20) then with_entry e others else Err (record { line = n + 3; code = TOO_LONG })
 
 -- the entries of the lines from line n + 3 on
 unfoldable pub entries_of : ℕ → List (List ℕ) → Result (List Entry) Fault
@@ -98,4 +97,4 @@ lines_schedule (line ∷ next ∷ lines) = if bytes_eq line header_line then bod
 
 -- the schedule that the text spells, or its first fault
 unfoldable pub schedule_of : List ℕ → Result Schedule Fault
-schedule_of text = if nat_lt MAX_BYTES (length text) then Err (record { line = 1; code = TOO_LONG }) else lines_schedule (parts_at 10 text)
+schedule_of text = if nat_lt (2 ^ 26) (length text) then Err (record { line = 1; code = TOO_LONG }) else lines_schedule (parts_at 10 text)

@@ -3,7 +3,6 @@ use Rattle.std.specs.Prelude.{◌≡◌, ℕ, ◌^◌, ◌<◌, ◌≤◌, List,
 use Rattle.std.specs.List.{AllByRecursion}
 use Rattle.mr_sched.specs.declared.schedule.Entry.{Entry}
 use Rattle.mr_sched.specs.declared.schedule.Schedule.{Schedule}
-use Rattle.mr_sched.specs.declared.schedule.TheConstants.{MAX_BYTES, MAX_ENTRIES}
 
 -- the numbers, each behind a space
 abbrev pub spaced : List ℕ → List ℕ
@@ -49,8 +48,8 @@ pub record Fits (s : Schedule) : Type 0 where
 
 -- at most 2 ^ 20 entries, in at most 2 ^ 26 bytes
 pub record IsWithinLimits (s : Schedule) : Type 0 where
-  pub entries : length s.entries ≤ MAX_ENTRIES
-  pub bytes : length (text_of s) ≤ MAX_BYTES
+  pub entries : length s.entries ≤ 2 ^ 20
+  pub bytes : length (text_of s) ≤ 2 ^ 26
 
 -- the text is that of the schedule, which fits and is within the limits
 pub record Schedules (text : List ℕ) (s : Schedule) : Type 0 where

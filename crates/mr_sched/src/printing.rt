@@ -14,7 +14,7 @@ pub fn print(_alloc: Global, s: &Schedule, out: &mut Vec<u8>) -> Result<(), Allo
 {
     out.extend_from_slice(b"schedule 1\nstart")?;
     print_picks(s.start.as_slice(), out)?;
-    out.push(b'\n')?;
+    out.extend_from_slice(b"\n")?;
     print_entries(s.entries.as_slice(), out)
 }
 

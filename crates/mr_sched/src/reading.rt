@@ -1,4 +1,4 @@
-ghost use Rattle.std.specs.Prelude.{◌≡◌, ℕ, ◌^◌, ◌<◌, [], ◌∷◌, length, IfSome, IfOk, option_copied, SomeIff, position, ◌==◌, ◌+◌, ◌*◌};
+ghost use Rattle.std.specs.Prelude.{◌≡◌, ℕ, ◌^◌, ◌<◌, [], ◌∷◌, length, IfSome, IfOk, option_copied, SomeIff, position, ◌==◌, ◌+◌, ◌*◌, ◌↔◌, IsTrue, slice_index};
 ghost use Rattle.std.specs.Char.{digit_value};
 ghost use Rattle.std.specs.Str.Parse.{AllDigits, digits_value};
 ghost use Rattle.mr_sched.specs.declared.schedule.Schedule.{Schedule};
@@ -46,19 +46,13 @@ fn read_lines(alloc: Global, text: &[u8]) -> Result<Schedule, SchedFault>
     ensures { Gives result (lines_schedule (parts_at 10 text.now)) }
 {
     let (line, rest) = cut(text, b'\n');
-    let Some(rest) = rest else {
-        return Err(SchedFault::Bad {
+    match rest {
+        Some(rest) if line == b"schedule 1".as_slice() => read_body(alloc, rest),
+        _ => Err(SchedFault::Bad {
             line: 1,
             code: BAD_HEADER,
-        });
-    };
-    if line != b"schedule 1".as_slice() {
-        return Err(SchedFault::Bad {
-            line: 1,
-            code: BAD_HEADER,
-        });
+        }),
     }
-    read_body(alloc, rest)
 }
 
 // The schedule of the lines from line 2 on.
@@ -162,13 +156,16 @@ fn read_thread(word: &[u8]) -> Option<u32>
 fn read_number(word: &[u8]) -> Option<u64>
     ensures { result ≡ number_of (2 ^ 64) word.now }
 {
-    if word.is_empty() {
-        return None;
-    }
-    if word[0] == b'0' && word.len() > 1 {
+    if word.is_empty() || has_leading_zero(word) {
         return None;
     }
     read_digits(word)
+}
+
+fn has_leading_zero(word: &[u8]) -> bool
+    ensures { IsTrue result ↔ ((1 < length word.now) × (slice_index word.now 0 ≡ 48)) }
+{
+    word.len() > 1 && word[0] == b'0'
 }
 
 // The number that digits spell.

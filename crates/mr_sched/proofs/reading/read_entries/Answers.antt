@@ -1,9 +1,8 @@
-use Rattle.std.proofs.Common.{◌≡◌, ◌<◌, ◌≤◌, ◌+◌, length, sym, ap, ◌∙◌, Err, refl, arith}
+use Rattle.std.proofs.Common.{◌≡◌, ◌^◌, ◌<◌, ◌≤◌, ◌+◌, length, sym, ap, ◌∙◌, Err, refl, arith}
 use Rattle.std.proofs.lemmas.Result.{err_from_is_err_and}
 use Rattle.std.proofs.lemmas.List.{length_push}
 use Rattle.std.proofs.lemmas.Bool.{eqb-true, eqb-false}
 use Rattle.mr_sched.specs.declared.fault.TheConstants.{TOO_LONG}
-use Rattle.mr_sched.specs.declared.schedule.TheConstants.{MAX_ENTRIES}
 use Rattle.mr_sched.specs.Reading.{Fault, Gives, at_line, entries_of, entry_of, parts_at}
 use Rattle.mr_sched.proofs.Loops.{entries_go_on, entries_stop, entries_too_long, entries_unended, entries_end, entries_with-nil}
 use Rattle.mr_sched.proofs.reading.read_entries.Goals as goal
@@ -34,7 +33,7 @@ pub loop-rest-preserved : goal.loop-rest-preserved
 loop-rest-preserved c =
     let parts = rw c.in-Some.is at c.cut.ensures.parts in
     let found = rw c.len-count.ensures at c.in_ok-entry.ensures in
-    let lt : length c.loop-rest.entries < MAX_ENTRIES = omega (arith, c.len-count.ensures) in
+    let lt : length c.loop-rest.entries < 2 ^ 20 = omega (arith, c.len-count.ensures) in
     rw c.in_ok-push.ensures.ok (record {
       so_far = entries_go_on c.loop-rest.entries c.loop-rest.rest.now c.cut.result.0.now c.in-Some.after.now c.in_ok-entry.entry _ parts found lt c.loop-rest.invariant.so_far;
       count = rw length_push (omega arith);
