@@ -1,9 +1,8 @@
 -- Texts and what they give, computed.
-use Rattle.std.proofs.Common.{◌≡◌, ℕ, List, [], ◌∷◌, Option, Some, None, Result, Ok, Err, refl}
+use Rattle.std.proofs.Common.{◌≡◌, ℕ, List, [], ◌∷◌, Ok, Err, refl}
 use Rattle.std.specs.Prelude.{codes}
-use Rattle.mr_sched.specs.declared.schedule.Entry.{Entry}
 use Rattle.mr_sched.specs.declared.schedule.Schedule.{Schedule}
-use Rattle.mr_sched.specs.Reading.{Fault, number_of, picks_of, start_of, entry_of, entries_of, body_of, lines_schedule, schedule_of}
+use Rattle.mr_sched.specs.Reading.{number_of, picks_of, start_of, entry_of, entries_of, body_of, lines_schedule, schedule_of}
 
 abbrev is : List ℕ → Schedule → Type 0
 is text w = schedule_of text ≡ Ok w

@@ -1,5 +1,5 @@
 -- A line is read before those behind it.
-use Rattle.std.proofs.Common.{◌≡◌, ℕ, ◌+◌, cond, List, [], ◌∷◌, ◌++◌, Result, Ok, Err, refl}
+use Rattle.std.proofs.Common.{◌≡◌, ℕ, ◌+◌, cond, List, [], ◌∷◌, ◌++◌, Err, refl}
 use Rattle.std.specs.Prelude.{bytes_eq}
 use Rattle.mr_sched.specs.declared.fault.TheConstants.{BAD_HEADER}
 use Rattle.mr_sched.specs.Spelling.{header_line}

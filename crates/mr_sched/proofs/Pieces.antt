@@ -1,16 +1,16 @@
 -- What stands behind the old contents after some of a text was printed.
-use Rattle.std.proofs.Common.{◌≡◌, ℕ, List, [], ◌∷◌, ◌++◌, map, Result, Ok, Err, refl, sym, ap, ◌∙◌, append_assoc}
+use Rattle.std.proofs.Common.{◌≡◌, ℕ, List, [], ◌∷◌, ◌++◌, map, Result, Ok, Err, refl, ap, ◌∙◌, append_assoc}
 use Rattle.std.specs.Prelude.{OnErr, flat_map, codes}
 use Rattle.mr_sched.specs.declared.schedule.Entry.{Entry}
 use Rattle.mr_sched.specs.declared.schedule.Schedule.{Schedule}
-use Rattle.mr_sched.specs.Spelling.{ended, entry_line, spaced, text_of}
+use Rattle.mr_sched.specs.Spelling.{Extends, ended, entry_line, spaced, text_of}
 
 pub on_err_since : {T E P : Type 0} (r : Result T E) → P → OnErr r P
 on_err_since (Ok x) p = tt
 on_err_since (Err e) p = p
 
 -- two pieces that were written one after the other
-pub extended_twice : (old mid new x y : List ℕ) → mid ≡ old ++ x → new ≡ mid ++ y → (more : List ℕ) × (new ≡ old ++ more)
+pub extended_twice : (old mid new x y : List ℕ) → mid ≡ old ++ x → new ≡ mid ++ y → Extends old new
 extended_twice old mid new x y p q = (x ++ y, q ∙ ap (λ (w : List ℕ). w ++ y) p ∙ append_assoc old x y)
 
 entries_text : (es : List Entry) → flat_map ended (map entry_line es) ≡ flat_map (λ e. ended (entry_line e)) es

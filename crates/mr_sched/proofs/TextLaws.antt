@@ -1,22 +1,22 @@
 -- Reading a text: what is read is spelled so, and a fault is the first one.
-use Rattle.std.proofs.Common.{◌≡◌, ◌≢◌, ℕ, suc, ◌+◌, ◌^◌, ◌<◌, ◌≤◌, Bool, true, false, cond, eqb, ltb, ◌⊎◌, List, [], ◌∷◌, ◌++◌, length, map, Option, Some, None, Result, Ok, Err, refl, sym, ap, subst, ◌∙◌, arith, inl, inr}
+use Rattle.std.proofs.Common.{◌≡◌, ◌≢◌, ℕ, ◌+◌, ◌^◌, ◌≤◌, ltb, ◌⊎◌, List, [], ◌∷◌, ◌++◌, length, map, Option, Some, None, Result, Ok, Err, refl, sym, ap, subst, ◌∙◌, arith, inl, inr}
 use Rattle.std.specs.Prelude.{bytes_eq, flat_map, IfOk}
 use Rattle.std.specs.List.{AllByRecursion}
 use Rattle.std.proofs.lemmas.Bool.{cases_Bool, ltb-true, ltb-false, lt-ltb, le-ltb, false_from_ne_true}
-use Rattle.std.proofs.lemmas.List.{append-nil, append_assoc}
+use Rattle.std.proofs.lemmas.List.{append-nil}
 use Rattle.std.proofs.lemmas.Slice.Eq.{bytes_eq-Decides}
 use Rattle.mr_sched.specs.declared.fault.TheConstants.{BAD_HEADER, BAD_LINE, TOO_LONG}
 use Rattle.mr_sched.specs.declared.schedule.Entry.{Entry}
 use Rattle.mr_sched.specs.declared.schedule.Schedule.{Schedule}
-use Rattle.mr_sched.specs.Spelling.{ended, header_line, start_line, entry_line, lines_of, text_of, EntryFits, Fits, IsWithinLimits, Schedules}
+use Rattle.mr_sched.specs.Spelling.{ended, header_line, start_line, entry_line, lines_of, text_of, EntryFits, Fits, Schedules}
 use Rattle.mr_sched.specs.Faults.{IsUnbroken, Lines, IsStartLine, AreGood, HasOtherLine, HasUnendedLine, HasEntryTooMany, BodyFails, HasBadHeader, LinesFail, FirstFault}
 use Rattle.mr_sched.specs.declared.fault.SchedFault.{SchedFault}
 use Rattle.mr_sched.specs.declared.fault.SchedFault.TheVariants.{Bad}
 use Rattle.mr_sched.specs.Reading.{Fault, Gives, body_of, entries_of, lines_schedule, parts_at, schedule_of, start_of, start_then}
 use Rattle.mr_sched.proofs.FirstLines.{body_of-line, lines_schedule-line, rest_or_line}
 use Rattle.mr_sched.proofs.WordLaws.{start_spelled, start_again, header_unbroken, start_unbroken, entry_unbroken}
-use Rattle.mr_sched.proofs.LineLaws.{HasLines, has_lines, parts_from_lines}
-use Rattle.mr_sched.proofs.EntryLaws.{EntriesRead, EntriesFail, failed, err_is, entries_read, entries_again, entries_failed, entries_fail_at}
+use Rattle.mr_sched.proofs.LineLaws.{has_lines, parts_from_lines}
+use Rattle.mr_sched.proofs.EntryLaws.{EntriesFail, failed, err_is, entries_read, entries_again, entries_failed, entries_fail_at}
 
 -- ---- the lines from line 2 on
 

@@ -1,11 +1,10 @@
 -- What the words of a line spell is spelled by that line, and no other.
-use Rattle.std.proofs.Common.{◌≡◌, ◌≢◌, ℕ, suc, ◌+◌, ◌^◌, ◌<◌, ◌≤◌, Bool, true, false, cond, not, eqb, List, [], ◌∷◌, ◌++◌, length, map, Option, Some, None, refl, sym, ap, subst, ◌∙◌, append_assoc, arith, inl, inr}
+use Rattle.std.proofs.Common.{◌≡◌, ℕ, ◌^◌, ◌<◌, true, not, eqb, List, [], ◌∷◌, ◌++◌, map, Option, Some, None, refl, sym, ap, subst, ◌∙◌, arith, inl, inr}
 use Rattle.std.specs.Prelude.{option_map, option_and_then, decimal, codes, bytes_eq}
-use Rattle.std.specs.List.{AllByRecursion, join_with_byte, list_all}
-use Rattle.std.specs.Char.{digit_value}
+use Rattle.std.specs.List.{join_with_byte, list_all}
 use Rattle.std.specs.Str.Parse.{AllDigits}
 use Rattle.std.proofs.lemmas.Bool.{and_parts, cases_Bool, not-true, eqb-false}
-use Rattle.std.proofs.lemmas.Option.{cond_some, same_Some}
+use Rattle.std.proofs.lemmas.Option.{same_Some}
 use Rattle.std.proofs.lemmas.List.{append-nil}
 use Rattle.std.proofs.lemmas.List.Splits.{join_with_byte-slice_split}
 use Rattle.std.proofs.lemmas.Fmt.{decimal_is_IsNumeral}
@@ -13,7 +12,7 @@ use Rattle.std.proofs.lemmas.Slice.Eq.{bytes_eq-Decides}
 use Rattle.std.proofs.lemmas.Str.Parse.{digit_from_value}
 use Rattle.mr_sched.specs.declared.schedule.Entry.{Entry}
 use Rattle.mr_sched.specs.Spelling.{spaced, header_line, start_line, entry_line, PicksFit, EntryFits}
-use Rattle.mr_sched.specs.Faults.{IsUnbroken, IsStartLine, IsEntryLine}
+use Rattle.mr_sched.specs.Faults.{IsUnbroken}
 use Rattle.mr_sched.specs.Reading.{number_of, parts_at, picks_of, start_of, entry_of}
 use Rattle.mr_sched.proofs.Numerals.{spelled_from_number, number_of-decimal}
 use Rattle.mr_sched.proofs.Parts.{IsFreeOf, parts_at-free, parts_at-append}

@@ -56,3 +56,7 @@ pub record Schedules (text : List ℕ) (s : Schedule) : Type 0 where
   pub spelled : text ≡ text_of s
   pub fits : Fits s
   pub limits : IsWithinLimits s
+
+-- the new text is the old one, and maybe more behind it
+abbrev pub Extends : List ℕ → List ℕ → Type 0
+Extends old new = (more : List ℕ) × (new ≡ old ++ more)

@@ -3,9 +3,10 @@
 //! A schedule says which thread takes each step of a run, and which choices the run made. Its text is lines of numbers,
 //! and each schedule has one. Public calls: `read` and `print`.
 //!
-//! Proved of `read`: it gives a schedule where the text is that of the schedule, and otherwise the first fault of the
-//! text with its line, unless memory runs out. Proved of `print`: it writes the one text of the schedule. The laws
-//! `one_schedule` and `reads_back` say that a text has one schedule at most, and that a text that was printed reads back.
+//! Proved of `read`: it gives a schedule exactly where the text is that of the schedule, and otherwise the first fault
+//! of the text with its line, unless memory runs out. Proved of `print`: it writes the one text of the schedule. The
+//! laws `one_schedule` and `reads_back` say that a text has one schedule at most, and that what is printed of a
+//! schedule within the limits reads back.
 #![tactic(auto)]
 
 mod fault;

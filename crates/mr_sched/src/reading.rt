@@ -1,4 +1,4 @@
-ghost use Rattle.std.specs.Prelude.{◌≡◌, ℕ, ◌^◌, ◌<◌, [], ◌∷◌, length, IfSome, IfOk, option_copied, SomeIff, position, ◌==◌, ◌+◌, ◌*◌, ◌↔◌, IsTrue, slice_index};
+ghost use Rattle.std.specs.Prelude.{◌≡◌, ℕ, ◌^◌, ◌<◌, ◌∷◌, length, IfSome, IfOk, option_copied, SomeIff, position, ◌==◌, ◌+◌, ◌*◌, ◌↔◌, IsTrue, slice_index};
 ghost use Rattle.std.specs.Char.{digit_value};
 ghost use Rattle.std.specs.Str.Parse.{AllDigits, digits_value};
 ghost use Rattle.mr_sched.specs.declared.schedule.Schedule.{Schedule};
@@ -22,7 +22,8 @@ pub fn read(alloc: Global, text: &[u8]) -> Result<Schedule, SchedFault>
     // The fault is the first, and a text with a fault has that answer.
     ensures first { (line code : ℕ) →
         (result ≡ Err (SchedFault.Bad line code) → FirstFault text.now line code)
-        × (FirstFault text.now line code → Gives {A = Schedule} result (Err (record { line = line; code = code }))) }
+        × (FirstFault text.now line code
+        → Gives {A = Schedule} result (Err (record { line = line; code = code }))) }
 {
     read_text(alloc, text)
 }
@@ -170,7 +171,9 @@ fn has_leading_zero(word: &[u8]) -> bool
 
 // The number that digits spell.
 fn read_digits(word: &[u8]) -> Option<u64>
-    ensures { SomeIff result (AllDigits 10 word.now × (digits_value 10 word.now < 2 ^ 64)) (digits_value 10 word.now) }
+    ensures { SomeIff result
+        (AllDigits 10 word.now × (digits_value 10 word.now < 2 ^ 64))
+        (digits_value 10 word.now) }
 {
     let mut number = 0;
     for digit in word {
@@ -181,7 +184,9 @@ fn read_digits(word: &[u8]) -> Option<u64>
 
 // The number with a digit more at its end.
 fn with_digit(number: u64, digit: u8) -> Option<u64>
-    ensures { SomeIff result ((digit_value digit < 10) × (number * 10 + digit_value digit < 2 ^ 64)) (number * 10 + digit_value digit) }
+    ensures { SomeIff result
+        ((digit_value digit < 10) × (number * 10 + digit_value digit < 2 ^ 64))
+        (number * 10 + digit_value digit) }
 {
     if !digit.is_ascii_digit() {
         return None;

@@ -1,4 +1,4 @@
-use Rattle.std.proofs.Common.{ℕ, ◌<◌, ◌∙◌, sym, length, length-drop, arith}
+use Rattle.std.proofs.Common.{ℕ, ◌∙◌, sym, length-drop, arith}
 use Rattle.std.proofs.lemmas.List.{take_rest}
 use Rattle.mr_sched.proofs.Parts.{parts_at-position_none, parts_at-position_some}
 use Rattle.mr_sched.proofs.reading.cut.Goals as goal

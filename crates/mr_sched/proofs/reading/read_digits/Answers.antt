@@ -1,6 +1,5 @@
-use Rattle.std.proofs.Common.{◌≡◌, ◌^◌, take, ap, arith}
+use Rattle.std.proofs.Common.{◌≡◌, ◌^◌, take, arith}
 use Rattle.std.proofs.lemmas.List.{take_all}
-use Rattle.std.specs.Str.Parse.{digits_value}
 use Rattle.mr_sched.proofs.Numerals.{with_digit, without_digit}
 use Rattle.mr_sched.proofs.reading.read_digits.Goals as goal
 

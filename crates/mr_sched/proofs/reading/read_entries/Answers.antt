@@ -1,9 +1,8 @@
-use Rattle.std.proofs.Common.{◌≡◌, ◌^◌, ◌<◌, ◌≤◌, ◌+◌, length, sym, ap, ◌∙◌, Err, refl, arith}
+use Rattle.std.proofs.Common.{◌^◌, ◌<◌, length, sym, arith}
 use Rattle.std.proofs.lemmas.Result.{err_from_is_err_and}
 use Rattle.std.proofs.lemmas.List.{length_push}
 use Rattle.std.proofs.lemmas.Bool.{eqb-true, eqb-false}
-use Rattle.mr_sched.specs.declared.fault.TheConstants.{TOO_LONG}
-use Rattle.mr_sched.specs.Reading.{Fault, Gives, at_line, entries_of, entry_of, parts_at}
+use Rattle.mr_sched.specs.Reading.{parts_at}
 use Rattle.mr_sched.proofs.Loops.{entries_go_on, entries_stop, entries_too_long, entries_unended, entries_end, entries_with-nil}
 use Rattle.mr_sched.proofs.reading.read_entries.Goals as goal
 
