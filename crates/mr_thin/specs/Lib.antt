@@ -1,0 +1,5 @@
+pub mod Denotes
+pub mod Gives
+pub mod Naming
+pub mod Reading
+pub mod Words

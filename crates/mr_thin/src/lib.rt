@@ -1,0 +1,12 @@
+//! The text of a thin program, read.
+//!
+//! A thin program has one function without arguments, whose locals are integers or units and whose steps are `live`,
+//! `dead`, `goto`, the print of one constant and `exit`. [`read`] gives the program that a text denotes. It is proved to
+//! give a program exactly where the text denotes one, unless memory runs out, and [`one_program`] that this is one alone.
+#![tactic(auto)]
+
+mod fault;
+mod reading;
+
+pub use fault::ThinFault;
+pub use reading::read;
