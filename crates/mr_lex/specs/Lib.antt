@@ -1,0 +1,6 @@
+pub mod Bytes
+pub mod Numbers
+pub mod Pieces
+pub mod Places
+pub mod Reading
+pub mod Tokens
