@@ -3,3 +3,4 @@ pub mod Gives
 pub mod Naming
 pub mod Reading
 pub mod Words
+pub mod Stub

@@ -37,6 +37,11 @@ abbrev pub expected : List ℕ → Words → Option Words
 expected word [] = None
 expected word (w ∷ ws) = if bytes_eq w word then Some ws else None
 
+-- nothing is left
+abbrev pub ended : Words → Option Words
+ended [] = Some []
+ended (w ∷ ws) = None
+
 -- whether this word is the next
 abbrev pub is_next : List ℕ → Words → Bool
 is_next word [] = false
@@ -99,19 +104,31 @@ constant_at ws = do
   n ← num_at i.1
   if fits_int i.0 n.0 then Some ((i.0, n.0), n.1) else None
 
+-- the local of this name, unless it is the return local
+unfoldable pub local_of : Scope → List ℕ → Option LocalName
+local_of scope text = do
+  k ← position (bytes_eq text) scope.locals
+  if k == scope.ret then None else Some (record { 0 = k })
+
+-- the block of this name
+unfoldable pub block_of : Scope → List ℕ → Option BlockName
+block_of scope text = do
+  k ← position (bytes_eq text) scope.blocks
+  Some (record { 0 = k })
+
 -- a local that a statement may name
 unfoldable pub local_at : Scope → Words → Option (LocalName × Words)
 local_at scope ws = do
   n ← name_at ws
-  k ← position (bytes_eq n.0) scope.locals
-  if k == scope.ret then None else Some (record { 0 = k }, n.1)
+  x ← local_of scope n.0
+  Some (x, n.1)
 
 -- a block that a terminator goes to
 unfoldable pub target_at : Scope → Words → Option (BlockName × Words)
 target_at scope ws = do
   n ← name_at ws
-  k ← position (bytes_eq n.0) scope.blocks
-  Some (record { 0 = k }, n.1)
+  b ← block_of scope n.0
+  Some (b, n.1)
 
 -- what `live` or `dead` says of a local, with the semicolon
 unfoldable pub effect_at : (LocalName → Stmt) → Scope → Words → Option (Stmt × Words)
@@ -124,7 +141,7 @@ unfoldable pub stmt_at : Scope → Words → Option (Stmt × Words)
 stmt_at scope ws =
     let live = accepted (codes "live") ws in
     if live.0 then effect_at stmt.Live scope live.1 else (do
-      rest ← expected (codes "dead") ws
+      rest ← expected (codes "dead") live.1
       effect_at stmt.Dead scope rest)
 
 abbrev pub is_stmt_next : Words → Bool
@@ -159,8 +176,8 @@ goto_at scope ws = do
 unfoldable pub term_at : Scope → Words → Option (Term × Words)
 term_at scope ws =
     let goto = accepted (codes "goto") ws in
-    let exit = accepted (codes "exit") ws in
-    if goto.0 then goto_at scope goto.1 else (if exit.0 then Some (term.Exit, exit.1) else print_at scope ws)
+    let exit = accepted (codes "exit") goto.1 in
+    if goto.0 then goto_at scope goto.1 else (if exit.0 then Some (term.Exit, exit.1) else print_at scope exit.1)
 
 -- a block with the number of its name, behind its name
 unfoldable pub body_at : Scope → ℕ → Words → Option (Block × Words)
@@ -175,8 +192,8 @@ body_at scope number ws = do
 -- the block of this name
 unfoldable pub block_at : Scope → ℕ → List ℕ → Words → Option (Block × Words)
 block_at scope number label ws = do
-  n ← name_at ws
-  if bytes_eq n.0 label then body_at scope number n.1 else None
+  body ← expected label ws
+  body_at scope number body
 
 -- the blocks of these names, in order
 unfoldable pub blocks_at : Scope → List ℕ → Words → Words → Option (List Block × Words)
@@ -189,14 +206,12 @@ blocks_at scope (number ∷ numbers) (label ∷ labels) ws = do
 
 -- whether a block's name stands before these words
 abbrev pub is_body_next : Words → Bool
-is_body_next [] = false
-is_body_next (a ∷ []) = false
-is_body_next (a ∷ b ∷ ws) = bytes_eq a (codes "regular") && bytes_eq b (codes ":")
+is_body_next ws = let regular = accepted (codes "regular") ws in regular.0 && is_next (codes ":") regular.1
 
 -- the names of the blocks that the words define
 unfoldable pub labels_in : Words → Words
 labels_in [] = []
-labels_in (w ∷ ws) = if is_body_next ws then w ∷ labels_in ws else labels_in ws
+labels_in (w ∷ ws) = if is_name w && is_body_next ws then w ∷ labels_in ws else labels_in ws
 
 -- a local as it is written: its name, and its integer type, or none for `unit`
 pub record Declared : Type 0 where
@@ -207,7 +222,7 @@ unfoldable pub type_at : Words → Option (Option IntType × Words)
 type_at ws =
     let unit = accepted (codes "unit") ws in
     if unit.0 then Some (None, unit.1) else (do
-      i ← int_at ws
+      i ← int_at unit.1
       Some (Some i.0, i.1))
 
 unfoldable pub declared_at : Words → Option (Declared × Words)
@@ -253,7 +268,7 @@ ending_at name ws = do
   a ← expected (codes "}") ws
   b ← expected (codes "main") a
   rest ← expected name b
-  if length rest == 0 then Some rest else None
+  ended rest
 
 -- whether no two texts are the same
 abbrev pub are_distinct : Words → Bool

@@ -5,8 +5,13 @@
 //! give a program exactly where the text denotes one, unless memory runs out, and [`one_program`] that this is one alone.
 #![tactic(auto)]
 
+mod constant;
 mod fault;
+mod reader;
 mod reading;
+mod scope;
+mod stub;
+mod word;
 
 pub use fault::ThinFault;
 pub use reading::read;

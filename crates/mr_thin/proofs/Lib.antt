@@ -1,0 +1,4 @@
+pub mod Layers
+pub mod TokenLaws
+pub mod ValueLaws
+pub mod ListLaws
