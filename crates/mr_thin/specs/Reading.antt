@@ -173,26 +173,32 @@ goto_at scope ws = do
   next ← target_at scope ws
   Some (term.Goto next.0, next.1)
 
-unfoldable pub term_at : Scope → Words → Option (Term × Words)
-term_at scope ws =
+-- a terminator without its semicolon
+unfoldable pub jump_at : Scope → Words → Option (Term × Words)
+jump_at scope ws =
     let goto = accepted (codes "goto") ws in
     let exit = accepted (codes "exit") goto.1 in
     if goto.0 then goto_at scope goto.1 else (if exit.0 then Some (term.Exit, exit.1) else print_at scope exit.1)
 
--- a block with the number of its name, behind its name
+unfoldable pub term_at : Scope → Words → Option (Term × Words)
+term_at scope ws = do
+  jump ← jump_at scope ws
+  rest ← expected (codes ";") jump.1
+  Some (jump.0, rest)
+
+-- the statements and the terminator of a block, whose name has this number
 unfoldable pub body_at : Scope → ℕ → Words → Option (Block × Words)
 body_at scope number ws = do
-  a ← expected (codes "regular") ws
-  b ← expected (codes ":") a
-  stmts ← stmts_at 4096 scope b
+  stmts ← stmts_at 4096 scope ws
   term ← term_at scope stmts.1
-  rest ← expected (codes ";") term.1
-  Some (record { name = number; kind = Regular; stmts = stmts.0; term = term.0 }, rest)
+  Some (record { name = number; kind = Regular; stmts = stmts.0; term = term.0 }, term.1)
 
--- the block of this name
+-- the block of this name, which has this number
 unfoldable pub block_at : Scope → ℕ → List ℕ → Words → Option (Block × Words)
 block_at scope number label ws = do
-  body ← expected label ws
+  a ← expected label ws
+  b ← expected (codes "regular") a
+  body ← expected (codes ":") b
   body_at scope number body
 
 -- the blocks of these names, in order
@@ -241,7 +247,7 @@ locals_at (suc n) ws = do
       if comma.0 then (do
         more ← locals_at n comma.1
         Some (d.0 ∷ more.0, more.1))
-      else Some (d.0 ∷ [], d.1)
+      else Some (d.0 ∷ [], comma.1)
 
 -- the names of the function and of its return local
 pub record Heading : Type 0 where
@@ -286,12 +292,30 @@ scope_at locals ret blocks = do
 abbrev pub with_name : Words → List ℕ → Words
 with_name names text = if list_any (bytes_eq text) names then names else names ++ text ∷ []
 
+-- the number of a text that is named, and the names then
+abbrev pub named : Words → List ℕ → ℕ × Words
+named names text = (position_or_len (bytes_eq text) names, with_name names text)
+
 -- the numbers of texts that are named one after another, and the names then
 unfoldable pub numbered : Words → Words → List ℕ × Words
 numbered names [] = ([], names)
 numbered names (t ∷ ts) =
-    let more = numbered (with_name names t) ts in
-    (position_or_len (bytes_eq t) names ∷ more.0, more.1)
+    let first = named names t in
+    let others = numbered first.1 ts in
+    (first.0 ∷ others.0, others.1)
+
+-- the texts of all names, and the numbers of those of the locals and of the blocks
+pub record Numbering : Type 0 where
+  pub names : Words
+  pub locals : List ℕ
+  pub blocks : List ℕ
+
+-- the names of a function, of its locals and of its blocks, numbered one after another
+unfoldable pub numbering_of : List ℕ → Scope → Numbering
+numbering_of function scope =
+    let locals = numbered (function ∷ []) scope.locals in
+    let blocks = numbered locals.1 scope.blocks in
+    record { names = blocks.1; locals = locals.0; blocks = blocks.0 }
 
 abbrev pub type_of : Option IntType → Ty
 type_of None = unit
@@ -303,15 +327,31 @@ locals_of numbers [] = []
 locals_of [] (d ∷ ds) = []
 locals_of (n ∷ ns) (d ∷ ds) = record { name = n; ty = type_of d.int } ∷ locals_of ns ds
 
--- the program of one function, whose name is the first
-abbrev pub program_of : Words → ℕ → List Local → List Block → Program
-program_of names ret locals blocks = record {
-  edition = 1;
-  globals = [];
-  functions = record { name = 0; args = []; ret = record { 0 = ret }; locals = locals; blocks = blocks } ∷ [];
-  names = names;
-  start = record { 0 = 0 };
-}
+-- the blocks and the end of a function
+unfoldable pub function_at : Heading → List Declared → Scope → Numbering → Words → Option Function
+function_at heading locals scope numbering ws = do
+  blocks ← blocks_at scope numbering.blocks scope.blocks ws
+  end ← ending_at heading.function blocks.1
+  Some (record {
+    name = 0;
+    args = [];
+    ret = record { 0 = scope.ret };
+    locals = locals_of numbering.locals locals;
+    blocks = blocks.0;
+  })
+
+-- the program of one function
+abbrev pub program_of : Words → Function → Program
+program_of names function =
+    record { edition = 1; globals = []; functions = function ∷ []; names = names; start = record { 0 = 0 } }
+
+-- the program behind the heading and the locals
+unfoldable pub program_at : Heading → List Declared → Words → Option Program
+program_at heading locals ws = do
+  scope ← scope_at (map (λ d. d.name) locals) heading.ret (labels_in ws)
+  let numbering = numbering_of heading.function scope in do
+    function ← function_at heading locals scope numbering ws
+    Some (program_of numbering.names function)
 
 -- the program of which these words are the tokens
 unfoldable pub thin_of : Words → Option Program
@@ -319,12 +359,7 @@ thin_of ws = do
   heading ← heading_at ws
   locals ← locals_at 256 heading.1
   body ← expected (codes ";") locals.1
-  scope ← scope_at (map (λ d. d.name) locals.0) heading.0.ret (labels_in body)
-  let named = numbered (heading.0.function ∷ []) scope.locals in
-      let labelled = numbered named.1 scope.blocks in do
-        blocks ← blocks_at scope labelled.0 scope.blocks body
-        end ← ending_at heading.0.function blocks.1
-        Some (program_of labelled.1 scope.ret (locals_of named.0 locals.0) blocks.0)
+  program_at heading.0 locals.0 body
 
 -- the program that a text denotes
 unfoldable pub thin_program : List ℕ → Option Program

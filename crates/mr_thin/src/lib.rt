@@ -5,8 +5,11 @@
 //! give a program exactly where the text denotes one, unless memory runs out, and [`one_program`] that this is one alone.
 #![tactic(auto)]
 
+mod block;
 mod constant;
+mod declared;
 mod fault;
+mod naming;
 mod reader;
 mod reading;
 mod scope;
