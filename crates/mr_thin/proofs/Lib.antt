@@ -4,3 +4,6 @@ pub mod ValueLaws
 pub mod ListLaws
 pub mod LoopLaws
 pub mod ScopeLaws
+pub mod NumberLaws
+pub mod PlaceLaws
+pub mod NameLaws
