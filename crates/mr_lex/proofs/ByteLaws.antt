@@ -1,5 +1,5 @@
 -- The classes of bytes are apart.
-use Rattle.std.proofs.Common.{◌≡◌, ℕ, Bool, true, false, cond, ◌||◌, ◌&&◌, eqb, leb, List, [], ◌∷◌, refl, arith}
+use Rattle.std.proofs.Common.{◌≡◌, ℕ, true, false, ◌||◌, arith}
 use Rattle.std.proofs.lemmas.Bool.{or_parts, or_from, both_ways, false_from_ne_true}
 use Rattle.std.proofs.lemmas.Bool.Decides.{nat_tests}
 use Rattle.mr_lex.specs.Bytes.{is_blank, is_inline, begins_comment, is_letter, is_digit, is_word_byte, is_symbol, begins_arrow, ends_arrow, begins_piece}
@@ -40,6 +40,18 @@ letter_word_byte b letter = grind (arith, nat_tests)
 
 pub comment_inline : (b : ℕ) → begins_comment b ≡ true → is_inline b ≡ true
 comment_inline b comment = grind (arith, nat_tests)
+
+pub word_byte_inline : (b : ℕ) → is_word_byte b ≡ true → is_inline b ≡ true
+word_byte_inline b word = grind (arith, nat_tests)
+
+pub digit_inline : (b : ℕ) → is_digit b ≡ true → is_inline b ≡ true
+digit_inline b digit = grind (arith, nat_tests)
+
+pub arrow_inline : (b : ℕ) → begins_arrow b ≡ true → is_inline b ≡ true
+arrow_inline b arrow = grind (arith, nat_tests)
+
+pub arrow_end_inline : (b : ℕ) → ends_arrow b ≡ true → is_inline b ≡ true
+arrow_end_inline b arrow = grind (arith, nat_tests)
 
 -- what a byte is not that begins no piece
 pub record BeginsNothing (b : ℕ) : Type 0 where

@@ -1,9 +1,8 @@
 -- A text splits in one way into pieces and a rest that begins with a fault or is empty.
-use Rattle.std.proofs.Common.{◌≡◌, ℕ, zero, suc, ◌+◌, ◌-◌, ◌<◌, ◌≤◌, ◌⊎◌, inl, inr, ⊎_elim, List, [], ◌∷◌, ◌++◌, length, drop, refl, sym, ap, ◌∙◌, subst, arith, length-append}
+use Rattle.std.proofs.Common.{◌≡◌, ℕ, zero, suc, ◌≤◌, ◌⊎◌, inl, inr, ⊎_elim, List, [], ◌∷◌, ◌++◌, length, drop, refl, ap, ◌∙◌, subst, arith, length-append}
 use Rattle.std.specs.Prelude.{Result, Ok, Err}
 use Rattle.std.specs.List.{AllByRecursion}
 use Rattle.std.proofs.lemmas.List.{drop_at}
-use Rattle.std.proofs.lemmas.Bool.{cases_lt}
 use Rattle.mr_lex.specs.Pieces.{Piece, spelling_of, IsPiece, IsFine, row_of, ArePieces, Splits}
 use Rattle.mr_lex.specs.Tokens.{IsFaulty}
 use Rattle.mr_lex.specs.Reading.{piece_at, number_at, symbol_at, split_of}
@@ -13,8 +12,9 @@ use Rattle.mr_lex.proofs.PieceLaws.{piece_at_piece, piece_at_fault, front_of, Be
 abbrev after_piece : ℕ → List ℕ → Result Piece ℕ → List Piece × List ℕ
 after_piece turns rest front =
     elim front as (λ _. List Piece × List ℕ) [
-      Ok piece ↦ let more = split_of turns (drop (length (spelling_of piece)) rest) in (piece ∷ more.0, more.1)
-    | Err code ↦ ([], rest) ]
+      | Ok piece ↦ let more = split_of turns (drop (length (spelling_of piece)) rest) in (piece ∷ more.0, more.1)
+      | Err code ↦ ([], rest)
+    ]
 
 split_of-suc : (turns : ℕ) (rest : List ℕ) → split_of (suc turns) rest ≡ after_piece turns rest (piece_at rest)
 unfolding split_of
@@ -84,9 +84,9 @@ row_of_text zero (b ∷ text) room = absurd (omega arith)
 row_of_text (suc turns) (b ∷ text) room =
     ⊎_elim
     (λ front.
-        let begins : BeginsWith (b ∷ text) front.0 front.1 = front.2 in
-        let shorter : length front.1 ≤ turns =
-          omega (arith, spelling_some front.0 front.1 begins.well_formed, length-append (spelling_of front.0) front.1, ap length begins.whole) in
-        onto_row (b ∷ text) front.0 front.1 begins (row_of_text turns front.1 shorter))
+    let begins : BeginsWith (b ∷ text) front.0 front.1 = front.2 in
+    let shorter : length front.1 ≤ turns =
+    omega (arith, spelling_some front.0 front.1 begins.well_formed, length-append (spelling_of front.0) front.1, ap length begins.whole) in
+    onto_row (b ∷ text) front.0 front.1 begins (row_of_text turns front.1 shorter))
     (λ fault. empty_row (b ∷ text) (inr fault))
     (front_of (b ∷ text) (omega arith))

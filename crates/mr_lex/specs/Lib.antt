@@ -3,4 +3,6 @@ pub mod Numbers
 pub mod Pieces
 pub mod Places
 pub mod Reading
+pub mod Scanning
+pub mod Spans
 pub mod Tokens

@@ -1,7 +1,7 @@
 -- Reading a text: what its tokens or its first fault are, computed.
-use Rattle.std.specs.Prelude.{◌≡◌, ℕ, zero, suc, ◌-◌, ◌^◌, Bool, not, ◌||◌, ◌&&◌, ◌==◌, nat_lt, if◌then◌else◌, List, [], ◌∷◌, length, drop, slice_index, Result, Ok, Err}
+use Rattle.std.specs.Prelude.{◌≡◌, ℕ, zero, suc, ◌-◌, ◌^◌, Bool, not, ◌||◌, ◌&&◌, ◌==◌, nat_lt, if◌then◌else◌, List, [], ◌∷◌, length, take, drop, slice_index, Result, Ok, Err}
 use Rattle.std.specs.List.{take_while}
-use Rattle.mr_lex.specs.Bytes.{is_blank, is_inline, begins_comment, is_letter, is_digit, is_word_byte, is_symbol, begins_arrow, ends_arrow, begins}
+use Rattle.mr_lex.specs.Bytes.{is_blank, is_inline, begins_comment, is_letter, is_digit, is_word_byte, is_symbol, begins_arrow, ends_arrow}
 use Rattle.mr_lex.specs.Numbers.{number_of}
 use Rattle.mr_lex.specs.Pieces.{Piece, Blank, Comment, Word, Number, Symbol, spelling_of}
 use Rattle.mr_lex.specs.Tokens.{Lexeme, lexemes_from, fault_at}
@@ -20,9 +20,8 @@ number_at rest = let digits = take_while is_digit rest in if is_fine_number digi
 -- the symbol at the front, or its fault
 unfoldable pub symbol_at : List ℕ → Result Piece ℕ
 symbol_at rest =
-    let first = slice_index rest 0 in
-    if begins_arrow first && begins ends_arrow (drop 1 rest) then Ok (Symbol (first ∷ 62 ∷ []))
-    else (if is_symbol first then Ok (Symbol (first ∷ [])) else Err 1)
+    if begins_arrow (slice_index rest 0) && ends_arrow (slice_index rest 1) then Ok (Symbol (take 2 rest))
+    else (if is_symbol (slice_index rest 0) then Ok (Symbol (take 1 rest)) else Err 1)
 
 -- the piece at the front of a rest that is not empty, or the code of the fault there
 unfoldable pub piece_at : List ℕ → Result Piece ℕ
@@ -39,15 +38,17 @@ unfoldable pub split_of : ℕ → List ℕ → List Piece × List ℕ
 split_of zero rest = ([], rest)
 split_of (suc turns) rest =
     elim (piece_at rest) as (λ _. List Piece × List ℕ) [
-      Ok piece ↦ let more = split_of turns (drop (length (spelling_of piece)) rest) in (piece ∷ more.0, more.1)
-    | Err code ↦ ([], rest) ]
+      | Ok piece ↦ let more = split_of turns (drop (length (spelling_of piece)) rest) in (piece ∷ more.0, more.1)
+      | Err code ↦ ([], rest)
+    ]
 
 -- the lexemes of the pieces, where nothing is left, and else the fault of the rest
 unfoldable pub outcome_of : List ℕ → List Piece × List ℕ → Result (List Lexeme) TextFault
 outcome_of text split =
     elim split.1 as (λ _. Result (List Lexeme) TextFault) [
-      [] ↦ Ok (lexemes_from text 0 split.0)
-    | b ∷ bytes ↦ Err (fault_at text (length text - length split.1) (if is_digit b then 2 else 1)) ]
+      | [] ↦ Ok (lexemes_from text 0 split.0)
+      | b ∷ bytes ↦ Err (fault_at text (length text - length split.1) (if is_digit b then 2 else 1))
+    ]
 
 -- the tokens of a text, or its first fault
 unfoldable pub lexed : List ℕ → Result (List Lexeme) TextFault

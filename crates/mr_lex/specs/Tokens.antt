@@ -6,6 +6,7 @@ use Rattle.mr_lex.specs.Numbers.{IsFineNumber}
 use Rattle.mr_lex.specs.Pieces.{Piece, Blank, Comment, Word, Number, Symbol, spelling_of, IsPiece, IsFine, Splits}
 use Rattle.mr_lex.specs.Places.{line_of, column_of}
 use Rattle.mr_lex.specs.declared.token.TextFault.{TextFault}
+use Rattle.mr_lex.specs.declared.token.Token.{Token}
 use Rattle.mr_lex.specs.declared.token.TokenKind.{TokenKind}
 use Rattle.mr_lex.specs.declared.token.TokenKind.TheVariants as kinds
 
@@ -16,6 +17,10 @@ pub record Lexeme : Type 0 where
   pub at : ℕ
   pub line : ℕ
   pub col : ℕ
+
+-- a token without where it lies in memory
+abbrev pub lexeme_of : Token → Lexeme
+lexeme_of token = record { kind = token.kind; text = token.text.now; at = token.at; line = token.line; col = token.col }
 
 -- the lexeme of these bytes at a place of a text
 abbrev pub lexeme_at : List ℕ → ℕ → TokenKind → List ℕ → Lexeme
