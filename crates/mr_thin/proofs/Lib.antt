@@ -7,3 +7,7 @@ pub mod ScopeLaws
 pub mod NumberLaws
 pub mod PlaceLaws
 pub mod NameLaws
+pub mod BindLaws
+pub mod LabelLaws
+pub mod DigitLaws
+pub mod WordLaws

@@ -3,5 +3,4 @@ pub mod Denotes
 pub mod Gives
 pub mod Naming
 pub mod Reading
-pub mod Stub
 pub mod Words

@@ -1,6 +1,6 @@
 -- What contracts see of what is read, without where it lies in memory.
 use Rattle.std.specs.Prelude.{List, [], ◌∷◌, map, None}
-use Rattle.mr_thin.specs.Reading.{Declared, Heading}
+use Rattle.mr_thin.specs.Reading.{Declared, Heading, Numbering}
 use Rattle.mr_thin.specs.declared.declared.Declared.{Declared as Written}
 use Rattle.mr_ast.specs.declared.expr.Value.TheVariants as value
 use Rattle.mr_ast.specs.declared.program.Intrinsic.TheVariants.{Print}
@@ -9,6 +9,7 @@ use Rattle.mr_ast.specs.declared.program.Term.TheVariants as term
 use Rattle.mr_thin.specs.declared.block.Jump.{Jump}
 use Rattle.mr_thin.specs.declared.block.Jump.TheVariants as jump
 use Rattle.mr_thin.specs.declared.reading.Heading.{Heading as WrittenHeading}
+use Rattle.mr_thin.specs.declared.reading.Numbering.{Numbering as WrittenNumbering}
 
 -- a local without where its name lies in memory
 abbrev pub view : Written → Declared
@@ -26,3 +27,7 @@ abbrev pub term_of : Jump → Term
 term_of (jump.Goto next) = term.Goto next
 term_of jump.Exit = term.Exit
 term_of (jump.Print i n next) = term.Do Print (value.Int i n ∷ []) None next
+
+-- a numbering without where it lies in memory
+abbrev pub view_numbering : WrittenNumbering → Numbering
+view_numbering n = record { names = n.names; locals = n.locals.items; blocks = n.blocks.items }

@@ -9,12 +9,13 @@ mod block;
 mod constant;
 mod declared;
 mod fault;
+mod law;
 mod naming;
 mod reader;
 mod reading;
 mod scope;
-mod stub;
 mod word;
 
 pub use fault::ThinFault;
+pub use law::one_program;
 pub use reading::read;

@@ -23,7 +23,7 @@ pub fn number_of(names: &mut Names, text: &[u8]) -> Result<u32, ThinFault>
 /// The numbers of names, each of which is added unless it is there.
 pub fn numbers_of(alloc: Global, names: &mut Names, texts: &[&[u8]]) -> Result<Vec<u32>, ThinFault>
     requires room { length names.old + length texts.now < 2 ^ 32 - 1 }
-    requires are_names { All (λ w. IsName w.now) texts.now }
+    requires are_names { All IsName (map (λ w. w.now) texts.now) }
     ensures { Gives (λ ns. (ns.items, names.new)) result (Some (numbered names.old (map (λ w. w.now) texts.now))) }
 {
     let mut numbers = Vec::with_capacity(alloc, texts.len())?;

@@ -5,8 +5,8 @@ ghost use Rattle.mr_thin.specs.Denotes.{texts_of};
 ghost use Rattle.mr_thin.specs.Words.{Words};
 
 use crate::fault::ThinFault;
-use crate::stub::Tokens;
 use crate::word::{is_name, is_same};
+use mr_lex::Tokens;
 use std::marker::Model;
 
 /// The tokens that are left.

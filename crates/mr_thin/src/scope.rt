@@ -75,14 +75,16 @@ impl<'a> Scope<'a> {
 
     /// The names of the locals.
     pub fn locals(&self) -> &[&'a [u8]]
-        ensures { map (λ w. w.now) result.now ≡ self.now.locals }
+        ensures names { map (λ w. w.now) result.now ≡ self.now.locals }
+        ensures few { length result.now ≤ 256 }
     {
         &self.locals
     }
 
     /// The names of the blocks.
     pub fn blocks(&self) -> &[&'a [u8]]
-        ensures { map (λ w. w.now) result.now ≡ self.now.blocks }
+        ensures names { map (λ w. w.now) result.now ≡ self.now.blocks }
+        ensures few { length result.now ≤ 1024 }
     {
         &self.blocks
     }

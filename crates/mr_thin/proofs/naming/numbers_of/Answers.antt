@@ -1,14 +1,16 @@
-use Rattle.std.proofs.Common.{◌≡◌, ◌≤◌, ◌+◌, ◌∷◌, [], ◌++◌, List, ℕ, Some, length, get_or, ap, sym, ◌∙◌, subst, arith}
+use Rattle.std.proofs.Common.{◌≡◌, ◌≤◌, ◌+◌, ◌∷◌, [], ◌++◌, List, ℕ, Some, Bor, length, get_or, ap, sym, ◌∙◌, subst, arith}
 use Rattle.std.proofs.lemmas.Option.{same_Some}
+use Rattle.std.proofs.lemmas.List.{length-map}
 use Rattle.mr_thin.specs.Words.{Words}
 use Rattle.mr_thin.specs.Reading.{named, numbered}
+use Rattle.mr_thin.proofs.ScopeLaws.{get_or-map}
 use Rattle.mr_thin.proofs.NumberLaws.{behind, behind-step, behind-end, length-with_name}
 use Rattle.mr_thin.proofs.naming.numbers_of.Goals as goal
 
 pub number_of-requires : goal.number_of-requires
 number_of-requires c =
     let room = c.loop-text.invariant.1 in
-    record { room = omega (arith, room, c.requires.room); name = c.requires.are_names c.loop-text.text-index (record { ref_ptr = (0, 0); now = [] }) (omega arith) }
+    record { room = omega (arith, room, c.requires.room); name = rw (← get_or-map (λ (w : Bor (List ℕ)). w.now) c.args.texts.now c.loop-text.text-index (record { ref_ptr = (0, 0); now = [] })) (c.requires.are_names c.loop-text.text-index [] (rw length-map (omega arith))) }
 
 pub loop-text-preserved : goal.loop-text-preserved
 loop-text-preserved c =

@@ -13,10 +13,10 @@ returns-in_err-block c =
     let numbers = c.args.numbers.now in
     let i = c.loop-i.i in
     let refs = c.blocks-labels.result.now in
-    let same : length scope.blocks ≡ length refs = ap length (sym c.blocks-labels.ensures) ∙ length-map refs (λ w. w.now) in
+    let same : length scope.blocks ≡ length refs = ap length (sym c.blocks-labels.ensures.names) ∙ length-map refs (λ w. w.now) in
     let now = blocks_at scope (drop i numbers) (drop i scope.blocks) c.loop-i.self in
     let whole = blocks_at scope numbers scope.blocks c.args.self.now in
-    let label = label_at refs scope.blocks i c.blocks-labels.ensures in
+    let label = label_at refs scope.blocks i c.blocks-labels.ensures.names in
     rw (p.1, p.2) (fails c.in_err-block.field-0.0 (block_at scope (get_or numbers i 0) (get_or scope.blocks i []) c.loop-i.self) whole
     (λ none. stops c.loop-i.blocks now whole c.loop-i.invariant (blocks_stop scope numbers scope.blocks i c.loop-i.self (omega arith) c.requires none))
     (rw label c.in_err-block.ensures))
@@ -27,8 +27,8 @@ loop-i-preserved c =
     let numbers = c.args.numbers.now in
     let i = c.loop-i.i in
     let refs = c.blocks-labels.result.now in
-    let same : length scope.blocks ≡ length refs = ap length (sym c.blocks-labels.ensures) ∙ length-map refs (λ w. w.now) in
-    let label = label_at refs scope.blocks i c.blocks-labels.ensures in
+    let same : length scope.blocks ≡ length refs = ap length (sym c.blocks-labels.ensures.names) ∙ length-map refs (λ w. w.now) in
+    let label = label_at refs scope.blocks i c.blocks-labels.ensures.names in
     let is : block_at scope (get_or numbers i 0) (get_or scope.blocks i []) c.loop-i.self ≡ Some (c.in_ok-block.field-0, c.block.new.self) = rw label c.in_ok-block.ensures in
     rw c.in_ok-push.ensures.ok (goes_on c.loop-i.blocks (blocks_at scope (drop i numbers) (drop i scope.blocks) c.loop-i.self) (blocks_at scope numbers scope.blocks c.args.self.now) c.loop-i.invariant c.in_ok-block.field-0
     (blocks_at scope (drop (i + 1) numbers) (drop (i + 1) scope.blocks) c.block.new.self)
@@ -40,6 +40,6 @@ returns c =
     let numbers = c.args.numbers.now in
     let i = c.loop-i.i in
     let refs = c.blocks-labels.result.now in
-    let same : length scope.blocks ≡ length refs = ap length (sym c.blocks-labels.ensures) ∙ length-map refs (λ w. w.now) in
+    let same : length scope.blocks ≡ length refs = ap length (sym c.blocks-labels.ensures.names) ∙ length-map refs (λ w. w.now) in
     is_done c.loop-i.blocks (blocks_at scope (drop i numbers) (drop i scope.blocks) c.loop-i.self) (blocks_at scope numbers scope.blocks c.args.self.now) c.loop-i.invariant c.loop-i.self
     (blocks_past scope numbers scope.blocks i c.loop-i.self (omega arith))
