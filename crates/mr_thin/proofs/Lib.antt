@@ -11,3 +11,5 @@ pub mod BindLaws
 pub mod LabelLaws
 pub mod DigitLaws
 pub mod WordLaws
+pub mod BlockLaws
+pub mod BlocksAgain
