@@ -24,7 +24,7 @@ use Rattle.mr_thin.specs.Words.{Words, Scope, text_at, int_word, number_words, a
 use Rattle.mr_thin.specs.Naming.{IsName, AreDistinct}
 use Rattle.mr_thin.specs.Reading.{◌>>=◌, expected, accepted, constant_at, name_at, local_of, local_at, block_of, target_at, effect_at, stmt_at, is_stmt_next, stmts_at, print_at, goto_at, jump_at, term_at, body_at, block_at, blocks_at}
 use Rattle.mr_thin.proofs.BindLaws.{Steps, bind_some, bind_at, guard_some, guard_none, some_is}
-use Rattle.mr_thin.proofs.Layers.{argument_words-int}
+use Rattle.mr_thin.proofs.Layers.{argument_words-int, body_words_parts}
 use Rattle.mr_thin.proofs.PlaceLaws.{position_takes, position_again}
 use Rattle.mr_thin.proofs.WordLaws.{Accepts, accepted_takes, expected_takes, expected_again, name_takes, name_again, constant_takes, constant_again}
 
@@ -206,13 +206,6 @@ module _ (f : Function) (scope : Scope) (fits : FitsScope f scope) where
       subst (λ (y : Term × Words). (ws ≡ term_words scope y.0 ++ codes ";" ∷ y.1) × IsThinTerm f y.0) (some_is (j.value.0, end.value) x end.then)
       (jump.0 ∙ ap (λ (r : Words). term_words scope j.value.0 ++ r) behind, jump.1)
 
-  pub body_words-append : (b : Block) (rest : Words) → body_words scope b ++ rest ≡ codes "regular" ∷ codes ":" ∷ flat_map (stmt_words scope) b.stmts ++ (term_words scope b.term ++ codes ";" ∷ rest)
-  body_words-append b rest =
-      let stmts = flat_map (stmt_words scope) b.stmts in
-      let term = term_words scope b.term in
-      ap (λ (ws : Words). codes "regular" ∷ codes ":" ∷ ws)
-      (append_assoc (stmts ++ term) (codes ";" ∷ []) rest ∙ append_assoc stmts term (codes ";" ∷ rest))
-
   -- a block that is read behind its name
   record IsBodyRead (number : ℕ) (ws : Words) (y : Block × Words) : Type 0 where
     words : codes "regular" ∷ codes ":" ∷ ws ≡ body_words scope y.0 ++ y.1
@@ -229,7 +222,7 @@ module _ (f : Function) (scope : Scope) (fits : FitsScope f scope) where
       let b : Block = record { name = number; kind = Regular; stmts = s.value.0; term = t.value.0 } in
       let words = stmts.words ∙ ap (λ (r : Words). flat_map (stmt_words scope) s.value.0 ++ r) term.0 in
       subst (IsBodyRead number ws) (some_is (b, t.value.1) x t.then) (record {
-        words = ap (λ (r : Words). codes "regular" ∷ codes ":" ∷ r) words ∙ sym (body_words-append b t.value.1);
+        words = ap (λ (r : Words). codes "regular" ∷ codes ":" ∷ r) words ∙ sym (body_words_parts scope b t.value.1);
         thin = record { regular = refl; stmts = stmts.thin; term = term.1; few = stmts.few };
         name = refl;
       })
@@ -281,3 +274,13 @@ module _ (f : Function) (scope : Scope) (fits : FitsScope f scope) where
         thin = All-cons (IsThinBlock f) b.value.0 m.value.0 block.thin more.thin;
         named = ap (λ (k : ℕ). k ∷ map (λ (c : Block). c.name) m.value.0) block.name ∙ ap (λ (ks : List ℕ). n ∷ ks) more.named;
       })
+
+-- as many blocks as names
+pub blocks_length : (scope : Scope) (numbers : List ℕ) (labels ws : Words) (x : List Block × Words) → blocks_at scope numbers labels ws ≡ Some x → length x.0 ≡ length labels
+unfolding blocks_at
+blocks_length scope numbers [] ws x e = ap (λ (y : List Block × Words). length y.0) (sym (some_is ([], ws) x e))
+blocks_length scope [] (l ∷ ls) ws x e = absurd cc
+blocks_length scope (n ∷ ns) (l ∷ ls) ws x e =
+    let b = bind_some (block_at scope n l ws) (λ b. blocks_at scope ns ls b.1 >>= λ more. Some (b.0 ∷ more.0, more.1)) x e in
+    let m = bind_some (blocks_at scope ns ls b.value.1) (λ more. Some (b.value.0 ∷ more.0, more.1)) x b.then in
+    ap (λ (y : List Block × Words). length y.0) (sym (some_is (b.value.0 ∷ m.value.0, m.value.1) x m.then)) ∙ ap suc (blocks_length scope ns ls b.value.1 m.value m.read)

@@ -24,7 +24,8 @@ use Rattle.mr_thin.specs.Words.{Words, Scope, text_at, int_word, number_words, a
 use Rattle.mr_thin.specs.Naming.{IsName, AreDistinct}
 use Rattle.mr_thin.specs.Reading.{◌>>=◌, expected, accepted, is_next, constant_at, name_at, local_of, local_at, block_of, target_at, effect_at, stmt_at, is_stmt_next, stmts_at, print_at, goto_at, jump_at, term_at, body_at, block_at, blocks_at, is_body_next, labels_in}
 use Rattle.mr_thin.proofs.BindLaws.{bind_at}
-use Rattle.mr_thin.proofs.BlockLaws.{FitsScope, IsFineScope, print_words, body_words-append}
+use Rattle.mr_thin.proofs.BlockLaws.{FitsScope, IsFineScope, print_words}
+use Rattle.mr_thin.proofs.Layers.{body_words_parts}
 use Rattle.mr_thin.proofs.PlaceLaws.{position_again}
 use Rattle.mr_thin.proofs.WordLaws.{expected_again, name_again, constant_again}
 
@@ -160,7 +161,7 @@ module _ (f : Function) (scope : Scope) (fits : FitsScope f scope) (fine : IsFin
   unfolding block_at
   block_again label b ws thin =
       bind_at (expected label (label ∷ body_words scope b ++ ws)) _ (body_words scope b ++ ws) (expected_again label (body_words scope b ++ ws))
-      ∙ ap (λ v. expected (codes "regular") v >>= λ r. expected (codes ":") r >>= λ body. body_at scope b.name body) (body_words-append f scope fits b ws)
+      ∙ ap (λ v. expected (codes "regular") v >>= λ r. expected (codes ":") r >>= λ body. body_at scope b.name body) (body_words_parts scope b ws)
       ∙ body_again b ws thin
 
   pub blocks_again : (names : Words) (bs : List Block) (ws : Words) → All (IsThinBlock f) bs

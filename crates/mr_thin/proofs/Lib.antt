@@ -13,3 +13,4 @@ pub mod DigitLaws
 pub mod WordLaws
 pub mod BlockLaws
 pub mod BlocksAgain
+pub mod LocalLaws
