@@ -14,3 +14,4 @@ pub mod WordLaws
 pub mod BlockLaws
 pub mod BlocksAgain
 pub mod LocalLaws
+pub mod HeadingLaws

@@ -67,7 +67,7 @@ place_by : (t x : List ℕ) (xs : Words) (b : Bool) → bytes_eq t x ≡ b → (
 place_by t x xs true is rest lt = sym (bytes_eq-true t x is)
 place_by t x xs false is rest lt = rw (one-plus (position_or_len (bytes_eq t) xs)) (rest (omega arith))
 
-place_at : (t : List ℕ) (ts : Words) → position_or_len (bytes_eq t) ts < length ts → text_at ts (position_or_len (bytes_eq t) ts) ≡ t
+pub place_at : (t : List ℕ) (ts : Words) → position_or_len (bytes_eq t) ts < length ts → text_at ts (position_or_len (bytes_eq t) ts) ≡ t
 place_at t [] lt = absurd (omega arith)
 place_at t (x ∷ xs) lt = place_by t x xs (bytes_eq t x) refl (place_at t xs) lt
 
