@@ -15,3 +15,4 @@ pub mod BlockLaws
 pub mod BlocksAgain
 pub mod LocalLaws
 pub mod HeadingLaws
+pub mod ProgramLaws

@@ -2,15 +2,16 @@
 use Rattle.std.proofs.Common.{◌≡◌, ◌≢◌, ℕ, zero, suc, ◌+◌, ◌<◌, ◌≤◌, Bool, true, false, ◌||◌, not, cond, List, [], ◌∷◌, ◌++◌, map, length, get_or, take, drop, slice_get, Some, refl, sym, ap, subst, ◌∙◌, append_assoc, arith, add-one, drop-cons, bytes_eq, Bor, All, length-append, length-take, get_or-take, inl, inr, ◌⊎◌}
 use Rattle.std.specs.List.{list_any, position_or_len}
 use Rattle.std.proofs.Math.Seq.{take-suc}
-use Rattle.std.proofs.lemmas.Bool.{true≢false}
+use Rattle.std.proofs.lemmas.Bool.{true≢false, cases_order}
 use Rattle.std.proofs.lemmas.Option.{slice_get-get_or, slice_get_within, get_or_from_slice_get}
-use Rattle.std.proofs.lemmas.List.{append-nil, drop_all}
-use Rattle.std.proofs.lemmas.List.Elements.{All-nil, All-cons, All-head, All-tail, All-push}
+use Rattle.std.proofs.lemmas.List.{append-nil, drop_all, take_all, length-map}
+use Rattle.std.proofs.lemmas.List.Elements.{All-nil, All-cons, All-head, All-tail, All-push, All-map, All-get_or}
 use Rattle.std.proofs.lemmas.List.Quantifiers.{all_pairs_push}
-use Rattle.mr_thin.specs.Words.{Words, text_at}
+use Rattle.mr_thin.specs.Words.{Words, Scope, text_at}
 use Rattle.mr_thin.specs.Naming.{IsName, AreDistinct, NumberedInOrder}
-use Rattle.mr_thin.specs.Reading.{named, numbered, with_name}
+use Rattle.mr_thin.specs.Reading.{Numbering, named, numbered, numbering_of, with_name}
 use Rattle.mr_thin.proofs.PlaceLaws.{any_first, any_none, place_at, place_again, place_none}
+use Rattle.mr_thin.proofs.ScopeLaws.{get_or-map}
 
 -- numbers behind those that were given before
 abbrev pub behind : List ℕ → List ℕ × Words → List ℕ × Words
@@ -238,3 +239,85 @@ numbered_again ts count after (n ∷ ns) distinct le order =
           ∙ ap (λ (y : List ℕ × Words). (count ∷ y.0, y.1)) (numbered_again ts (suc count) after ns distinct le new.1)
           ∙ ap (λ (k : ℕ). (k ∷ ns, take after ts)) (sym new.0)
     ]
+
+-- ---- the numbering of a function
+
+pub record IsNumbering (function : List ℕ) (locals blocks : Words) (n : Numbering) : Type 0 where
+  pub distinct : AreDistinct n.names
+  pub named : All IsName n.names
+  pub first : text_at n.names 0 ≡ function
+  pub locals_are : map (text_at n.names) n.locals ≡ locals
+  pub blocks_are : map (text_at n.names) n.blocks ≡ blocks
+  pub in_order : NumberedInOrder 0 (0 ∷ n.locals ++ n.blocks) (length n.names)
+
+map_kept : (ns : List ℕ) (old new : Words) → All (λ n. n < length old) ns → ((k : ℕ) → k < length old → text_at new k ≡ text_at old k) → map (text_at new) ns ≡ map (text_at old) ns
+map_kept [] old new below kept = refl
+map_kept (n ∷ ns) old new below kept =
+    ap (λ (t : List ℕ). t ∷ map (text_at new) ns) (kept n (All-head (λ k. k < length old) n ns below))
+    ∙ ap (λ (ts : Words). text_at old n ∷ ts) (map_kept ns old new (All-tail (λ k. k < length old) n ns below) kept)
+
+one_alone : (t : List ℕ) → AreDistinct (t ∷ [])
+one_alone t i j d before lt = absurd (omega arith)
+
+pub numbering_takes : (function : List ℕ) (scope : Scope) → IsName function → All IsName scope.locals → All IsName scope.blocks → IsNumbering function scope.locals scope.blocks (numbering_of function scope)
+unfolding numbering_of
+numbering_takes function scope name locals blocks =
+    let one = numbered (function ∷ []) scope.locals in
+    let two = numbered one.1 scope.blocks in
+    let first = numbered_takes (function ∷ []) scope.locals (one_alone function) (All-cons IsName function [] name (All-nil IsName)) locals in
+    let second = numbered_takes one.1 scope.blocks first.distinct first.named blocks in
+    let some : 0 < length one.1 = omega (arith, first.longer) in
+    record {
+      distinct = second.distinct;
+      named = second.named;
+      first = second.kept 0 some ∙ first.kept 0 (omega arith);
+      locals_are = map_kept one.0 one.1 two.1 (NumberedInOrder-below 1 (length one.1) one.0 first.in_order) second.kept ∙ first.texts;
+      blocks_are = second.texts;
+      in_order = inr (refl, NumberedInOrder-append 1 (length one.1) (length two.1) one.0 two.0 first.in_order second.in_order);
+    }
+
+pub numbering_again : (ts : Words) (locals blocks : List ℕ) (ret : ℕ) → AreDistinct ts → NumberedInOrder 1 (locals ++ blocks) (length ts)
+    → numbering_of (text_at ts 0) (record { locals = map (text_at ts) locals; ret = ret; blocks = map (text_at ts) blocks }) ≡ record { names = ts; locals = locals; blocks = blocks }
+unfolding numbering_of
+numbering_again ts locals blocks ret distinct order =
+    let parts = NumberedInOrder-parts 1 (length ts) locals blocks order in
+    let some = NumberedInOrder-le 1 (length ts) (locals ++ blocks) order in
+    let few = NumberedInOrder-le parts.0 (length ts) blocks parts.2 in
+    let front : text_at ts 0 ∷ [] ≡ take 1 ts = sym (take-suc ts 0 [] some) in
+    let one : numbered (text_at ts 0 ∷ []) (map (text_at ts) locals) ≡ (locals, take parts.0 ts) =
+    ap (λ (us : Words). numbered us (map (text_at ts) locals)) front ∙ numbered_again ts 1 parts.0 locals distinct few parts.1 in
+    let two : numbered (take parts.0 ts) (map (text_at ts) blocks) ≡ (blocks, ts) =
+    numbered_again ts parts.0 (length ts) blocks distinct (omega arith) parts.2 ∙ ap (λ (us : Words). (blocks, us)) (take_all (length ts) ts (omega arith)) in
+    ap (λ (x : List ℕ × Words). record { names = (numbered x.1 (map (text_at ts) blocks)).1; locals = x.0; blocks = (numbered x.1 (map (text_at ts) blocks)).0 }) one
+    ∙ ap (λ (x : List ℕ × Words). record { names = x.1; locals = locals; blocks = x.0 }) two
+
+-- ---- numbers and the texts that they stand for
+
+pub AreDistinct-from_map : (ns : List ℕ) (f : ℕ → List ℕ) → AreDistinct (map f ns) → AreDistinct ns
+AreDistinct-from_map ns f distinct i j d before lt same =
+    distinct i j (f d) before (omega (arith, lt, length-map ns f)) (get_or-map f ns i d ∙ ap f same ∙ sym (get_or-map f ns j d))
+
+texts_differ : (ts : Words) (a b : ℕ) → AreDistinct ts → a < length ts → b < length ts → a ≢ b → text_at ts a ≢ text_at ts b
+texts_differ ts a b distinct la lb differ same =
+    elim (cases_order a b) [
+      | inl equal ↦ differ equal
+      | inr apart ↦ elim apart [
+        | inl below ↦ distinct a b [] below lb same
+        | inr above ↦ distinct b a [] above la (sym same)
+      ]
+    ]
+
+map_within : {A B : Type 0} (f : A → B) (xs : List A) (i : ℕ) (d : B) (c : A) → i < length xs → get_or (map f xs) i d ≡ f (get_or xs i c)
+map_within f [] i d c lt = absurd (omega arith)
+map_within f (x ∷ xs) zero d c lt = refl
+map_within f (x ∷ xs) (suc i) d c lt = map_within f xs i d c (omega arith)
+
+pub AreDistinct-map : (ts : Words) (ns : List ℕ) → AreDistinct ts → All (λ n. n < length ts) ns → AreDistinct ns → AreDistinct (map (text_at ts) ns)
+AreDistinct-map ts ns distinct below apart i j d before lt same =
+    let lj : j < length ns = omega (arith, lt, length-map ns (text_at ts)) in
+    let li : i < length ns = omega arith in
+    texts_differ ts (get_or ns i 0) (get_or ns j 0) distinct (below i 0 li) (below j 0 lj) (apart i j 0 before lj)
+    (sym (map_within (text_at ts) ns i d 0 li) ∙ same ∙ map_within (text_at ts) ns j d 0 lj)
+
+pub All-texts : (ts : Words) (ns : List ℕ) → All IsName ts → All (λ n. n < length ts) ns → All IsName (map (text_at ts) ns)
+All-texts ts ns named below = All-map IsName (text_at ts) ns (λ k d lt. All-get_or IsName ts (get_or ns k d) [] (below k d lt) named)
