@@ -2,7 +2,7 @@
 use Rattle.std.proofs.Common.{◌≡◌, ◌≢◌, ℕ, zero, suc, ◌+◌, ◌<◌, ◌≤◌, Bool, true, false, ◌&&◌, cond, ltb, leb, List, [], ◌∷◌, ◌++◌, map, flat_map, length, Option, Some, None, Result, Ok, Err, codes, refl, ap, sym, ◌∙◌, subst, arith, append_assoc, bytes_eq, All, position, inl, inr}
 use Rattle.std.proofs.lemmas.Bool.{and_parts, and_from, lt-ltb, ltb-true, le-leb, leb-true}
 use Rattle.std.proofs.lemmas.List.{append-nil, length-map}
-use Rattle.std.proofs.lemmas.List.Elements.{All-get_or}
+use Rattle.std.proofs.lemmas.List.Elements.{All-nil, All-cons, All-head, All-tail, All-get_or}
 use Rattle.mr_ast.specs.Thin.{IsThin, IsThinFunction}
 use Rattle.mr_ast.specs.declared.program.FnName.{FnName}
 use Rattle.mr_ast.specs.declared.program.Global_.{Global_}
@@ -11,6 +11,7 @@ use Rattle.mr_ast.specs.declared.program.Local.{Local}
 use Rattle.mr_ast.specs.declared.program.Block.{Block}
 use Rattle.mr_ast.specs.declared.program.Function.{Function}
 use Rattle.mr_ast.specs.declared.program.Program.{Program}
+use Rattle.mr_lex.specs.declared.token.TextFault.{TextFault}
 use Rattle.mr_lex.specs.Tokens.{Lexeme}
 use Rattle.mr_lex.specs.Reading.{lexed}
 use Rattle.mr_thin.specs.Words.{Words, Scope, text_at, locals_words, block_words, scope_of, function_words, words_of}
@@ -180,3 +181,152 @@ thin_takes ws p e =
     let all = program_takes h.value.0 l.value.0 c.value p heading.function locals.named locals.few c.then in
     let words = heading.words ∙ ap (heading_words h.value.0) (locals.words ∙ ap (λ (r : Words). all_words l.value.0 ++ r) behind) in
     (all.thin, all.named, words ∙ all.words)
+
+-- ---- what is spelled so is read
+
+-- numbers in order begin at 0
+begins_at_zero : (n : ℕ) (ns : List ℕ) (after : ℕ) → NumberedInOrder 0 (n ∷ ns) after → (n ≡ 0) × NumberedInOrder 1 ns after
+begins_at_zero n ns after order = elim order [ inl below ↦ absurd (omega (arith, below.0)) | inr first ↦ first ]
+
+All-parts : (P : ℕ → Type 0) (xs ys : List ℕ) → All P (xs ++ ys) → All P xs × All P ys
+All-parts P [] ys all = (All-nil P, all)
+All-parts P (x ∷ xs) ys all =
+    let rest = All-parts P xs ys (All-tail P x (xs ++ ys) all) in
+    (All-cons P x xs (All-head P x (xs ++ ys) all) rest.0, rest.1)
+
+-- what a thin function with names in order has
+record HasNames (names : Words) (f : Function) : Type 0 where
+  distinct : AreDistinct names
+  are_names : All IsName names
+  in_order : NumberedInOrder 0 (definitions f) (length names)
+  locals : AreDistinct (local_numbers f)
+  blocks : AreDistinct (block_numbers f)
+
+module _ (names : Words) (f : Function) (thin : IsThinFunction f) (has : HasNames names f) where
+  abbrev scope : Scope
+  scope = scope_of names f
+
+  abbrev name : List ℕ
+  name = text_at names f.name
+
+  abbrev tail : Words
+  tail = codes "}" ∷ codes "main" ∷ name ∷ []
+
+  abbrev body : Words
+  body = flat_map (block_words names scope) f.blocks ++ tail
+
+  abbrev heading : Heading
+  heading = record { function = name; ret = text_at scope.locals scope.ret }
+
+  local_texts : map (text_at names) (local_numbers f) ≡ scope.locals
+  local_texts = map-map (text_at names) (λ (l : Local). l.name) f.locals
+
+  block_texts : map (text_at names) (block_numbers f) ≡ scope.blocks
+  block_texts = map-map (text_at names) (λ (b : Block). b.name) f.blocks
+
+  first_is : (f.name ≡ 0) × NumberedInOrder 1 (local_numbers f ++ block_numbers f) (length names)
+  first_is = begins_at_zero f.name (local_numbers f ++ block_numbers f) (length names) has.in_order
+
+  all_below : All (λ n. n < length names) (local_numbers f) × All (λ n. n < length names) (block_numbers f)
+  all_below = All-parts (λ n. n < length names) (local_numbers f) (block_numbers f) (NumberedInOrder-below 1 (length names) (local_numbers f ++ block_numbers f) first_is.1)
+
+  name_below : f.name < length names
+  name_below = All-head (λ n. n < length names) f.name (local_numbers f ++ block_numbers f) (NumberedInOrder-below 0 (length names) (definitions f) has.in_order)
+
+  fine : IsFineScope scope
+  fine = record {
+    locals_differ = subst AreDistinct local_texts (AreDistinct-map names (local_numbers f) has.distinct all_below.0 has.locals);
+    blocks_differ = subst AreDistinct block_texts (AreDistinct-map names (block_numbers f) has.distinct all_below.1 has.blocks);
+    locals_named = subst (All IsName) local_texts (All-texts names (local_numbers f) has.are_names all_below.0);
+    blocks_named = subst (All IsName) block_texts (All-texts names (block_numbers f) has.are_names all_below.1);
+  }
+
+  locals_len : length scope.locals ≡ length f.locals
+  locals_len = length-map f.locals (λ l. text_at names l.name)
+
+  blocks_len : length scope.blocks ≡ length f.blocks
+  blocks_len = length-map f.blocks (λ b. text_at names b.name)
+
+  fits : FitsScope f scope
+  fits = record { locals = locals_len; ret = refl; blocks = blocks_len }
+
+  labels_found : labels_in body ≡ scope.blocks
+  labels_found = blocks_labels f scope names f.blocks tail fine.blocks_named thin.blocks ∙ ap (λ (r : Words). scope.blocks ++ r) (end_labels name) ∙ append-nil scope.blocks
+
+  numbered_so : numbering_of name scope ≡ record { names = names; locals = local_numbers f; blocks = block_numbers f }
+  numbered_so =
+      (λ i. numbering_of (text_at names (first_is.0 i)) (record { locals = sym local_texts i; ret = scope.ret; blocks = sym block_texts i }))
+      ∙ numbering_again names (local_numbers f) (block_numbers f) scope.ret has.distinct first_is.1
+
+  function_again : (ds : List Declared) → locals_of (local_numbers f) ds ≡ f.locals
+      → function_at heading ds scope (record { names = names; locals = local_numbers f; blocks = block_numbers f }) body ≡ Some f
+  unfolding function_at
+  function_again ds made =
+      bind_at (blocks_at scope (block_numbers f) scope.blocks body) _ (f.blocks, tail) (blocks_again f scope fits fine names f.blocks tail thin.blocks)
+      ∙ bind_at (ending_at name tail) _ [] (ending_again name)
+      ∙ (λ i. Some (record { name = sym first_is.0 i; args = sym thin.no_args i; ret = f.ret; locals = made i; blocks = f.blocks }))
+
+  program_again : (ds : List Declared) → names_in ds ≡ scope.locals → locals_of (local_numbers f) ds ≡ f.locals → program_at heading ds body ≡ Some (program_of names f)
+  unfolding program_at
+  program_again ds named made =
+      bind_at (scope_at (names_in ds) heading.ret (labels_in body)) _ scope
+      ((λ i. scope_at (named i) heading.ret (labels_found i))
+      ∙ scope_again scope fine.locals_differ fine.blocks_differ (omega (arith, thin.ret, locals_len)) (omega (arith, thin.has_start, blocks_len)) (omega (arith, thin.few_blocks, blocks_len)))
+      ∙ ap (λ (n : Numbering). function_at heading ds scope n body >>= λ g. Some (program_of n.names g)) numbered_so
+      ∙ bind_at (function_at heading ds scope (record { names = names; locals = local_numbers f; blocks = block_numbers f }) body) _ f (function_again ds made)
+
+  thin_again_in : thin_of (words_in names scope f) ≡ Some (program_of names f)
+  unfolding thin_of
+  thin_again_in =
+      let w = written names f.locals thin.types in
+      let ds = w.declared in
+      let len : length ds ≡ length f.locals = sym (length-map ds (λ d. d.name)) ∙ ap length w.named ∙ locals_len in
+      let spelled : locals_words names f.locals ≡ all_words ds = ap (locals_words names) (sym w.made) ∙ words-locals_of names (local_numbers f) ds (local_texts ∙ sym w.named) in
+      let name_fine : IsName name = All-get_or IsName names f.name [] name_below has.are_names in
+      let ret_fine : IsName heading.ret = All-get_or IsName scope.locals scope.ret [] (omega (arith, thin.ret, locals_len)) fine.locals_named in
+      let rest : Words = all_words ds ++ codes ";" ∷ body in
+      ap (λ (r : Words). thin_of (heading_words heading (r ++ codes ";" ∷ body))) spelled
+      ∙ bind_at (heading_at (heading_words heading rest)) _ (heading, rest) (heading_again heading rest name_fine ret_fine)
+      ∙ bind_at (locals_at 256 rest) _ (ds, codes ";" ∷ body)
+      (locals_again 256 ds body (omega (arith, thin.ret, len)) (omega (arith, thin.few_locals, len)) (subst (All IsName) (sym w.named) fine.locals_named))
+      ∙ program_again ds w.named w.made
+
+first_same : (g f : Function) → g ∷ [] ≡ f ∷ [] → g ≡ f
+first_same g f e = cc
+
+pub thin_again : (p : Program) → IsThin p → IsNamed p → thin_of (words_of p) ≡ Some p
+thin_again p thin named =
+    let f = thin.function in
+    let same : named.function ≡ f = first_same named.function f (sym named.only ∙ thin.only) in
+    let has : HasNames p.names f = record {
+      distinct = named.distinct;
+      are_names = named.are_names;
+      in_order = subst (λ g. NumberedInOrder 0 (definitions g) (length p.names)) same named.in_order;
+      locals = subst (λ g. AreDistinct (local_numbers g)) same named.locals;
+      blocks = subst (λ g. AreDistinct (block_numbers g)) same named.blocks;
+    } in
+    let is : program_of p.names f ≡ p =
+    λ i. record { edition = sym thin.edition i; globals = sym thin.no_globals i; functions = sym thin.only i; names = p.names; start = record { 0 = sym thin.start i } } in
+    subst (λ q. thin_of (words_of q) ≡ Some q) is (ap thin_of (function_words_in p.names f) ∙ thin_again_in p.names f thin.is_thin has)
+
+-- ---- texts
+
+read_by : (text : List ℕ) (r : Result (List Lexeme) TextFault) (p : Program) → lexed text ≡ r
+    → (elim r as (λ _. Option Program) [ Ok lexemes ↦ thin_of (texts_of lexemes) | Err fault ↦ None ]) ≡ Some p → Denotes text p
+read_by text (Ok lexemes) p is e =
+    let all = thin_takes (texts_of lexemes) p e in
+    record { is_thin = all.0; is_named = all.1; lexemes = lexemes; lexes = is; spelled = all.2 }
+read_by text (Err fault) p is e = absurd cc
+
+-- the program that is read is denoted
+pub thin_program-denotes : (text : List ℕ) (p : Program) → thin_program text ≡ Some p → Denotes text p
+unfolding thin_program
+thin_program-denotes text p e = read_by text (lexed text) p refl e
+
+-- the program that is denoted is read
+pub denotes-thin_program : (text : List ℕ) (p : Program) → Denotes text p → thin_program text ≡ Some p
+unfolding thin_program
+denotes-thin_program text p denotes =
+    ap (λ (r : Result (List Lexeme) TextFault). elim r as (λ _. Option Program) [ Ok lexemes ↦ thin_of (texts_of lexemes) | Err fault ↦ None ]) denotes.lexes
+    ∙ ap thin_of denotes.spelled
+    ∙ thin_again p denotes.is_thin denotes.is_named
