@@ -250,6 +250,10 @@ pub record IsNumbering (function : List ℕ) (locals blocks : Words) (n : Number
   pub blocks_are : map (text_at n.names) n.blocks ≡ blocks
   pub in_order : NumberedInOrder 0 (0 ∷ n.locals ++ n.blocks) (length n.names)
 
+pub numbering_lengths : (function : List ℕ) (scope : Scope) → (length (numbering_of function scope).locals ≡ length scope.locals) × (length (numbering_of function scope).blocks ≡ length scope.blocks)
+unfolding numbering_of
+numbering_lengths function scope = (length-numbered (function ∷ []) scope.locals, length-numbered (numbered (function ∷ []) scope.locals).1 scope.blocks)
+
 map_kept : (ns : List ℕ) (old new : Words) → All (λ n. n < length old) ns → ((k : ℕ) → k < length old → text_at new k ≡ text_at old k) → map (text_at new) ns ≡ map (text_at old) ns
 map_kept [] old new below kept = refl
 map_kept (n ∷ ns) old new below kept =

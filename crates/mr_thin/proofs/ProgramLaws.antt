@@ -1,5 +1,5 @@
 -- The program that words denote: what is read is spelled so, and what is spelled so is read.
-use Rattle.std.proofs.Common.{◌≡◌, ◌≢◌, ℕ, zero, suc, ◌+◌, ◌<◌, ◌≤◌, Bool, true, false, ◌&&◌, cond, ltb, leb, List, [], ◌∷◌, ◌++◌, map, flat_map, length, Option, Some, None, Result, Ok, Err, codes, refl, ap, sym, ◌∙◌, subst, arith, append_assoc, bytes_eq, All, position, inl, inr}
+use Rattle.std.proofs.Common.{◌≡◌, ◌≢◌, ℕ, zero, suc, ◌+◌, ◌<◌, ◌≤◌, Bool, true, false, ◌&&◌, cond, ltb, leb, List, [], ◌∷◌, ◌++◌, map, flat_map, length, Option, Some, None, Result, Ok, Err, codes, refl, ap, sym, ◌∙◌, subst, arith, append_assoc, bytes_eq, All, position, inl, inr, IfOk}
 use Rattle.std.proofs.lemmas.Bool.{and_parts, and_from, lt-ltb, ltb-true, le-leb, leb-true}
 use Rattle.std.proofs.lemmas.List.{append-nil, length-map}
 use Rattle.std.proofs.lemmas.List.Elements.{All-nil, All-cons, All-head, All-tail, All-get_or}
@@ -15,6 +15,9 @@ use Rattle.mr_lex.specs.declared.token.TextFault.{TextFault}
 use Rattle.mr_lex.specs.Tokens.{Lexeme}
 use Rattle.mr_lex.specs.Reading.{lexed}
 use Rattle.mr_thin.specs.Words.{Words, Scope, text_at, locals_words, block_words, scope_of, function_words, words_of}
+use Rattle.mr_thin.specs.declared.fault.ThinFault.{ThinFault}
+use Rattle.mr_thin.specs.declared.fault.ThinFault.TheVariants.{NotThin, Memory}
+use Rattle.mr_thin.specs.Gives.{Gives, IsRefused}
 use Rattle.mr_thin.specs.Naming.{IsName, AreDistinct, NumberedInOrder, IsNamed, local_numbers, block_numbers, definitions}
 use Rattle.mr_thin.specs.Denotes.{Denotes, texts_of}
 use Rattle.mr_thin.specs.Reading.{◌>>=◌, Declared, Heading, Numbering, expected, heading_at, locals_at, are_distinct, scope_at, labels_in, numbering_of, blocks_at, ending_at, locals_of, function_at, program_of, program_at, thin_of, thin_program}
@@ -330,3 +333,40 @@ denotes-thin_program text p denotes =
     ap (λ (r : Result (List Lexeme) TextFault). elim r as (λ _. Option Program) [ Ok lexemes ↦ thin_of (texts_of lexemes) | Err fault ↦ None ]) denotes.lexes
     ∙ ap thin_of denotes.spelled
     ∙ thin_again p denotes.is_thin denotes.is_named
+
+pub denotes_one : (text : List ℕ) (p q : Program) → Denotes text p → Denotes text q → p ≡ q
+denotes_one text p q first second = some_is p q (sym (denotes-thin_program text p first) ∙ denotes-thin_program text q second)
+
+pub none_denoted : (text : List ℕ) → thin_program text ≡ None → (p : Program) → Denotes text p → ⊥
+none_denoted text none p denotes = let some = denotes-thin_program text p denotes in absurd cc
+
+none_by : (text : List ℕ) (read : Option Program) → thin_program text ≡ read → ((p : Program) → Denotes text p → ⊥) → read ≡ None
+none_by text None is no_program = refl
+none_by text (Some p) is no_program = absurd (no_program p (thin_program-denotes text p is))
+
+pub none_read : (text : List ℕ) → ((p : Program) → Denotes text p → ⊥) → thin_program text ≡ None
+none_read text no_program = none_by text (thin_program text) refl no_program
+
+-- ---- answers
+
+pub thin_program-lexed : (text : List ℕ) (lexemes : List Lexeme) → lexed text ≡ Ok lexemes → thin_program text ≡ thin_of (texts_of lexemes)
+unfolding thin_program
+thin_program-lexed text lexemes e =
+    ap (λ (r : Result (List Lexeme) TextFault). elim r as (λ _. Option Program) [ Ok ls ↦ thin_of (texts_of ls) | Err fault ↦ None ]) e
+
+pub thin_program-fault : (text : List ℕ) (fault : TextFault) → lexed text ≡ Err fault → thin_program text ≡ None
+unfolding thin_program
+thin_program-fault text fault e =
+    ap (λ (r : Result (List Lexeme) TextFault). elim r as (λ _. Option Program) [ Ok ls ↦ thin_of (texts_of ls) | Err f ↦ None ]) e
+
+pub answer_denoted : (text : List ℕ) (answer : Result Program ThinFault) → Gives (λ p. p) answer (thin_program text) → IfOk answer (Denotes text)
+answer_denoted text (Ok p) gives = thin_program-denotes text p gives
+answer_denoted text (Err fault) gives = tt
+
+pub answer_only : (text : List ℕ) (answer : Result Program ThinFault) → Gives (λ p. p) answer (thin_program text) → (p : Program) → Denotes text p → Gives (λ q. q) answer (Some p)
+answer_only text answer gives p denotes = subst (Gives (λ q. q) answer) (denotes-thin_program text p denotes) gives
+
+pub answer_refused : (text : List ℕ) (answer : Result Program ThinFault) → Gives (λ p. p) answer (thin_program text) → IsRefused answer → (p : Program) → Denotes text p → ⊥
+answer_refused text (Ok q) gives refused = absurd cc
+answer_refused text (Err NotThin) gives refused = none_denoted text gives
+answer_refused text (Err Memory) gives refused = absurd cc

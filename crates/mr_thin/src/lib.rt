@@ -14,6 +14,8 @@ mod naming;
 mod reader;
 mod reading;
 mod scope;
+#[cfg(test)]
+mod tests;
 mod word;
 
 pub use fault::ThinFault;

@@ -174,6 +174,16 @@ fn program_of(alloc: Global, names: Names, function: Function) -> Result<Program
     })
 }
 
+fn program_in(alloc: Global, text: &[u8]) -> Result<Program, ThinFault>
+    ensures { Gives (λ p. p) result (thin_program text.now) }
+{
+    match tokens(alloc, text) {
+        Ok(tokens) => Reader::new(&tokens).program(alloc),
+        Err(LexFault::Bad(_)) => Err(ThinFault::NotThin),
+        Err(LexFault::Memory) => Err(ThinFault::Memory),
+    }
+}
+
 /// Reads the program that a text denotes.
 pub fn read(alloc: Global, text: &[u8]) -> Result<Program, ThinFault>
     ensures exact { Gives (λ p. p) result (thin_program text.now) }
@@ -184,10 +194,5 @@ pub fn read(alloc: Global, text: &[u8]) -> Result<Program, ThinFault>
     // A text is refused only where it denotes no program.
     ensures refused { IsRefused result → (p : Program) → Denotes text.now p → ⊥ }
 {
-    let tokens = match tokens(alloc, text) {
-        Ok(tokens) => tokens,
-        Err(LexFault::Bad(_)) => return Err(ThinFault::NotThin),
-        Err(LexFault::Memory) => return Err(ThinFault::Memory),
-    };
-    Reader::new(&tokens).program(alloc)
+    program_in(alloc, text)
 }
