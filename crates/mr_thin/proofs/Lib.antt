@@ -16,3 +16,4 @@ pub mod BlocksAgain
 pub mod LocalLaws
 pub mod HeadingLaws
 pub mod ProgramLaws
+pub mod Examples
