@@ -9,5 +9,6 @@ pub mod ReadingLaws
 pub mod RowLaws
 pub mod RunLaws
 pub mod ScanLaws
+pub mod ShapeLaws
 pub mod SpanLaws
 pub mod SplitLaws

@@ -4,15 +4,12 @@ use Rattle.std.specs.Prelude.{IsTrue, slice_range}
 use Rattle.std.specs.List.{AllByRecursion, suffix_len}
 use Rattle.std.proofs.lemmas.Bool.{not-true, not-false, both_ways}
 use Rattle.std.proofs.lemmas.List.{drop_more}
-use Rattle.std.proofs.lemmas.List.Sums.{count_by_more_no, count_by_more_yes, count_by-le-length, suffix_len-take_yes, suffix_len-take_no, suffix_len-le-length}
+use Rattle.std.proofs.lemmas.List.Sums.{count_by_more_no, count_by_more_yes, suffix_len-take_yes, suffix_len-take_no, suffix_len-le-length}
 use Rattle.mr_lex.specs.Bytes.{is_inline}
 use Rattle.mr_lex.specs.Scanning.{IsOneLine}
 use Rattle.mr_lex.specs.Places.{line_of, column_of}
 
--- a line and a column are at most one more than the offset
-pub line_of-le : (text : List ℕ) (at : ℕ) → line_of text at ≤ at + 1
-line_of-le text at = omega (arith, count_by-le-length (λ b. eqb b 10) (take at text), length-take at text)
-
+-- a column is at most one more than the offset
 pub column_of-le : (text : List ℕ) (at : ℕ) → column_of text at ≤ at + 1
 column_of-le text at = omega (arith, suffix_len-le-length is_inline (take at text), length-take at text)
 

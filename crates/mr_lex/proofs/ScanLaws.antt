@@ -60,21 +60,6 @@ pub is_next : (text : List ℕ) (at : ℕ) (found : Found) → at < length text 
 is_next text at found before finds =
     next_at text at found before (subst (λ rest. Finds rest (Ok found) (piece_at rest)) (take_rest text at) finds)
 
--- nothing has been read
-pub scanned_none : (text : List ℕ) (spans : List Span) (place : Place) → spans ≡ [] → place ≡ record { at = 0; line = 1; col = 1 } → IsScanned text spans place
-scanned_none text spans place none first =
-    let start : Place = record { at = 0; line = 1; col = 1 } in
-    let begun : IsScanned text [] start = record {
-      pieces = [];
-      split = record { whole = refl; each = tt };
-      fine = tt;
-      listed = refl;
-      within = omega arith;
-      placed = record { line = refl; col = refl };
-      between = omega arith;
-    } in
-    subst (λ xs. IsScanned text xs place) (sym none) (subst (IsScanned text []) (sym first) begun)
-
 -- the lexeme of a span at a place
 lexeme_in-span : (text : List ℕ) (place : Place) (kind : TokenKind) (len : ℕ) → IsPlaceIn text place → lexeme_in text (record { kind = kind; at = place.at; len = len; line = place.line; col = place.col }) ≡ lexeme_at text place.at kind (take len (drop place.at text))
 lexeme_in-span text place kind len placed =
