@@ -1,5 +1,5 @@
 -- Steps that gave something.
-use Rattle.std.proofs.Common.{◌≡◌, Bool, true, false, cond, Option, Some, None, refl, sym, ap, ◌∙◌, subst}
+use Rattle.std.proofs.Common.{◌≡◌, Bool, true, false, cond, Option, Some, None, refl, ap}
 use Rattle.mr_thin.specs.Reading.{◌>>=◌}
 
 -- a step that gave something, and what was made of it

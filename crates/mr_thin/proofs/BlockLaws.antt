@@ -1,18 +1,14 @@
 -- Blocks: what is read is spelled so, and what is spelled so is read.
-use Rattle.std.proofs.Common.{◌≡◌, ◌≢◌, ℕ, zero, suc, ◌+◌, ◌-◌, ◌<◌, ◌≤◌, Bool, true, false, cond, List, [], ◌∷◌, ◌++◌, map, flat_map, length, Option, Some, None, codes, refl, ap, sym, ◌∙◌, subst, arith, append_assoc, bytes_eq, All, position, ◌==◌}
-use Rattle.std.proofs.lemmas.Bool.{eqb-false, ne_eqb, and_right}
-use Rattle.std.proofs.lemmas.List.Elements.{All-nil, All-cons, All-head, All-tail, All-get_or}
-use Rattle.mr_ast.specs.Thin.{FitsInt, IsThinStmt, IsThinTerm, IsThinBlock}
+use Rattle.std.proofs.Common.{◌≡◌, ◌≢◌, ℕ, zero, suc, ◌<◌, ◌≤◌, Bool, true, false, cond, List, [], ◌∷◌, ◌++◌, map, flat_map, length, Some, None, codes, refl, ap, sym, ◌∙◌, subst, arith, append_assoc, bytes_eq, All, position, ◌==◌}
+use Rattle.std.proofs.lemmas.Bool.{eqb-false}
+use Rattle.std.proofs.lemmas.List.Elements.{All-nil, All-cons}
+use Rattle.mr_ast.specs.Thin.{IsThinStmt, IsThinTerm, IsThinBlock}
 use Rattle.mr_ast.specs.declared.types.IntType.{IntType}
 use Rattle.mr_ast.specs.declared.types.Num.{Num}
-use Rattle.mr_ast.specs.declared.expr.Place.{Place}
-use Rattle.mr_ast.specs.declared.expr.Value.{Value}
 use Rattle.mr_ast.specs.declared.expr.Value.TheVariants as value
 use Rattle.mr_ast.specs.declared.program.LocalName.{LocalName}
 use Rattle.mr_ast.specs.declared.program.BlockName.{BlockName}
-use Rattle.mr_ast.specs.declared.program.BlockKind.{BlockKind}
 use Rattle.mr_ast.specs.declared.program.BlockKind.TheVariants.{Regular}
-use Rattle.mr_ast.specs.declared.program.Intrinsic.{Intrinsic}
 use Rattle.mr_ast.specs.declared.program.Intrinsic.TheVariants.{Print}
 use Rattle.mr_ast.specs.declared.program.Stmt.{Stmt}
 use Rattle.mr_ast.specs.declared.program.Stmt.TheVariants as stmt
@@ -20,13 +16,13 @@ use Rattle.mr_ast.specs.declared.program.Term.{Term}
 use Rattle.mr_ast.specs.declared.program.Term.TheVariants as term
 use Rattle.mr_ast.specs.declared.program.Block.{Block}
 use Rattle.mr_ast.specs.declared.program.Function.{Function}
-use Rattle.mr_thin.specs.Words.{Words, Scope, text_at, int_word, number_words, argument_words, stmt_words, term_words, body_words, block_words}
+use Rattle.mr_thin.specs.Words.{Words, Scope, text_at, int_word, number_words, stmt_words, term_words, body_words, block_words}
 use Rattle.mr_thin.specs.Naming.{IsName, AreDistinct}
 use Rattle.mr_thin.specs.Reading.{◌>>=◌, expected, accepted, constant_at, name_at, local_of, local_at, block_of, target_at, effect_at, stmt_at, is_stmt_next, stmts_at, print_at, goto_at, jump_at, term_at, body_at, block_at, blocks_at}
-use Rattle.mr_thin.proofs.BindLaws.{Steps, bind_some, bind_at, guard_some, guard_none, some_is}
+use Rattle.mr_thin.proofs.BindLaws.{bind_some, guard_none, some_is}
 use Rattle.mr_thin.proofs.Layers.{argument_words-int, body_words_parts}
-use Rattle.mr_thin.proofs.PlaceLaws.{position_takes, position_again}
-use Rattle.mr_thin.proofs.WordLaws.{Accepts, accepted_takes, expected_takes, expected_again, name_takes, name_again, constant_takes, constant_again}
+use Rattle.mr_thin.proofs.PlaceLaws.{position_takes}
+use Rattle.mr_thin.proofs.WordLaws.{Accepts, accepted_takes, expected_takes, name_takes, constant_takes}
 
 -- the function has the locals, the return local and the blocks that the names say
 pub record FitsScope (f : Function) (scope : Scope) : Type 0 where

@@ -1,8 +1,8 @@
 -- Blocks that are spelled are read again, and their names are found ahead.
-use Rattle.std.proofs.Common.{◌≡◌, ◌≢◌, ℕ, zero, suc, ◌+◌, ◌<◌, ◌≤◌, Bool, true, false, ◌&&◌, cond, List, [], ◌∷◌, ◌++◌, map, flat_map, length, Option, Some, None, codes, refl, ap, sym, ◌∙◌, subst, arith, append_assoc, bytes_eq, All, position, ◌==◌}
-use Rattle.std.proofs.lemmas.Bool.{ne_eqb, and_left, and_right, and_from}
+use Rattle.std.proofs.Common.{◌≡◌, ◌≢◌, ℕ, zero, suc, ◌<◌, ◌≤◌, Bool, true, false, cond, List, [], ◌∷◌, ◌++◌, map, flat_map, length, Option, Some, None, codes, refl, ap, sym, ◌∙◌, subst, arith, append_assoc, bytes_eq, All, position, ◌==◌}
+use Rattle.std.proofs.lemmas.Bool.{ne_eqb}
 use Rattle.std.proofs.lemmas.List.Elements.{All-head, All-tail, All-get_or}
-use Rattle.mr_ast.specs.Thin.{FitsInt, IsConstant, IsThinStmt, IsThinTerm, IsThinBlock}
+use Rattle.mr_ast.specs.Thin.{FitsInt, IsThinStmt, IsThinTerm, IsThinBlock}
 use Rattle.mr_ast.specs.declared.types.IntType.{IntType}
 use Rattle.mr_ast.specs.declared.types.Num.{Num}
 use Rattle.mr_ast.specs.declared.expr.Place.{Place}
@@ -11,7 +11,6 @@ use Rattle.mr_ast.specs.declared.expr.Value.TheVariants as value
 use Rattle.mr_ast.specs.declared.program.LocalName.{LocalName}
 use Rattle.mr_ast.specs.declared.program.BlockName.{BlockName}
 use Rattle.mr_ast.specs.declared.program.BlockKind.{BlockKind}
-use Rattle.mr_ast.specs.declared.program.BlockKind.TheVariants.{Regular}
 use Rattle.mr_ast.specs.declared.program.Intrinsic.{Intrinsic}
 use Rattle.mr_ast.specs.declared.program.Intrinsic.TheVariants.{Print}
 use Rattle.mr_ast.specs.declared.program.Stmt.{Stmt}
@@ -20,9 +19,9 @@ use Rattle.mr_ast.specs.declared.program.Term.{Term}
 use Rattle.mr_ast.specs.declared.program.Term.TheVariants as term
 use Rattle.mr_ast.specs.declared.program.Block.{Block}
 use Rattle.mr_ast.specs.declared.program.Function.{Function}
-use Rattle.mr_thin.specs.Words.{Words, Scope, text_at, int_word, number_words, argument_words, stmt_words, term_words, body_words, block_words}
-use Rattle.mr_thin.specs.Naming.{IsName, AreDistinct}
-use Rattle.mr_thin.specs.Reading.{◌>>=◌, expected, accepted, is_next, constant_at, name_at, local_of, local_at, block_of, target_at, effect_at, stmt_at, is_stmt_next, stmts_at, print_at, goto_at, jump_at, term_at, body_at, block_at, blocks_at, is_body_next, labels_in}
+use Rattle.mr_thin.specs.Words.{Words, Scope, text_at, int_word, number_words, stmt_words, term_words, body_words, block_words}
+use Rattle.mr_thin.specs.Naming.{IsName}
+use Rattle.mr_thin.specs.Reading.{◌>>=◌, expected, constant_at, name_at, local_of, local_at, block_of, target_at, effect_at, stmt_at, is_stmt_next, stmts_at, print_at, goto_at, jump_at, term_at, body_at, block_at, blocks_at, is_body_next}
 use Rattle.mr_thin.proofs.BindLaws.{bind_at}
 use Rattle.mr_thin.proofs.BlockLaws.{FitsScope, IsFineScope, print_words}
 use Rattle.mr_thin.proofs.Layers.{body_words_parts}

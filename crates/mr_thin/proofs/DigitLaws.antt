@@ -1,26 +1,18 @@
 -- The digits of a number.
-use Rattle.std.proofs.Common.{◌≡◌, ℕ, zero, suc, ◌+◌, ◌/◌, ◌%◌, ◌^◌, ◌<◌, ◌≤◌, Bool, true, false, ◌&&◌, List, [], ◌∷◌, ◌++◌, length, get_or, refl, ap, sym, ◌∙◌, subst, arith, length-append, inl, inr}
+use Rattle.std.proofs.Common.{◌≡◌, ℕ, ◌+◌, ◌/◌, ◌%◌, ◌^◌, ◌<◌, ◌≤◌, Bool, true, ◌&&◌, List, [], ◌∷◌, ◌++◌, length, get_or, refl, ap, sym, ◌∙◌, subst, arith, length-append, inl, inr}
 use Rattle.std.specs.List.{list_all}
 use Rattle.std.specs.Fmt.{decimal}
 use Rattle.std.proofs.lemmas.Bool.{and_parts, and_from, cases_eq}
 use Rattle.std.proofs.lemmas.Bool.Decides.{nat_tests}
 use Rattle.std.proofs.lemmas.Fmt.{decimal_by_steps_wide, decimal_digit}
+use Rattle.std.proofs.lemmas.List.{get_or_append_left}
+use Rattle.std.proofs.lemmas.List.Folds.{list_all-append}
 use Rattle.mr_lex.specs.Bytes.{is_digit, begins}
 use Rattle.mr_lex.specs.Numbers.{number_of, IsFineNumber}
 use Rattle.mr_lex.specs.Reading.{is_fine_number}
 use Rattle.mr_lex.proofs.DecimalLaws.{AreDigits, number_of-decimal, decimal-number_of}
 use Rattle.mr_lex.proofs.NumberLaws.{is_fine_number-true, fine_is_fine_number}
 use Rattle.mr_thin.specs.Reading.{is_number}
-
-list_all-append : (p : ℕ → Bool) (xs ys : List ℕ) → list_all p xs ≡ true → list_all p ys ≡ true → list_all p (xs ++ ys) ≡ true
-list_all-append p [] ys a b = b
-list_all-append p (x ∷ xs) ys a b =
-    let parts = and_parts (p x) (list_all p xs) a in
-    and_from (p x) (list_all p (xs ++ ys)) parts.0 (list_all-append p xs ys parts.1 b)
-
-first-append : (xs ys : List ℕ) → 0 < length xs → get_or (xs ++ ys) 0 0 ≡ get_or xs 0 0
-first-append [] ys some = absurd (omega arith)
-first-append (x ∷ xs) ys some = refl
 
 -- digits, of which the first is 0 only for 0
 abbrev AreDigitsOf : ℕ → List ℕ → Type 0
@@ -36,9 +28,9 @@ digit_behind : (n : ℕ) (ds : List ℕ) → 10 ≤ n → AreDigitsOf (n / 10) d
 digit_behind n ds le are =
     let last = digit_alone (n % 10) (omega arith) in
     let some : 0 < n / 10 = omega arith in (
-      list_all-append is_digit ds ((48 + n % 10) ∷ []) are.0 last.0,
+      list_all-append is_digit ds ((48 + n % 10) ∷ []) ∙ and_from (list_all is_digit ds) (list_all is_digit ((48 + n % 10) ∷ [])) are.0 last.0,
       omega (arith, length-append ds ((48 + n % 10) ∷ []), are.1),
-      λ _. rw (first-append ds ((48 + n % 10) ∷ []) are.1) (are.2 some),
+      λ _. rw (get_or_append_left ds ((48 + n % 10) ∷ []) 0 0 are.1) (are.2 some),
     )
 
 decimal_digits : (n : ℕ) → n < 10 ^ 64 → AreDigitsOf n (decimal n)

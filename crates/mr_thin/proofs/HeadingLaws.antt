@@ -1,9 +1,9 @@
 -- The heading and the end of a program: what is read is spelled so, and what is spelled so is read.
-use Rattle.std.proofs.Common.{◌≡◌, List, [], ◌∷◌, ℕ, Option, Some, None, codes, refl, ap, sym, ◌∙◌, subst}
+use Rattle.std.proofs.Common.{◌≡◌, List, [], ◌∷◌, ℕ, Some, codes, refl, ap, ◌∙◌, subst}
 use Rattle.mr_thin.specs.Words.{Words}
 use Rattle.mr_thin.specs.Naming.{IsName}
-use Rattle.mr_thin.specs.Reading.{◌>>=◌, Heading, expected, ended, name_at, heading_at, ending_at}
-use Rattle.mr_thin.proofs.BindLaws.{Steps, bind_some, bind_at, some_is}
+use Rattle.mr_thin.specs.Reading.{Heading, expected, ended, name_at, heading_at, ending_at}
+use Rattle.mr_thin.proofs.BindLaws.{bind_some, bind_at, some_is}
 use Rattle.mr_thin.proofs.WordLaws.{expected_takes, expected_again, name_takes, name_again}
 
 abbrev pub heading_words : Heading → Words → Words

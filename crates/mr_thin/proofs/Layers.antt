@@ -1,12 +1,12 @@
 -- One level of the types and values that a thin program has.
-use Rattle.std.proofs.Common.{◌≡◌, List, [], ◌∷◌, ◌++◌, flat_map, codes, sym, ap, ◌∙◌, append_assoc}
+use Rattle.std.proofs.Common.{◌≡◌, [], ◌∷◌, ◌++◌, flat_map, codes, sym, ap, ◌∙◌, append_assoc}
 use Rattle.mr_ast.specs.Thin.{unit}
 use Rattle.mr_ast.specs.declared.types.IntType.{IntType}
 use Rattle.mr_ast.specs.declared.types.Num.{Num}
-use Rattle.mr_ast.specs.declared.types.Ty.{Ty, out-Ty, out-roll-Ty}
+use Rattle.mr_ast.specs.declared.types.Ty.{out-roll-Ty}
 use Rattle.mr_ast.specs.declared.types.Ty.TheOpen.{Ty-F}
 use Rattle.mr_ast.specs.declared.types.Ty.TheVariants as ty
-use Rattle.mr_ast.specs.declared.expr.Value.{Value, out-Value, out-roll-Value}
+use Rattle.mr_ast.specs.declared.expr.Value.{out-roll-Value}
 use Rattle.mr_ast.specs.declared.expr.Place.TheOpen.{Value-F}
 use Rattle.mr_ast.specs.declared.expr.Value.TheVariants as value
 use Rattle.mr_ast.specs.declared.program.Block.{Block}

@@ -1,5 +1,5 @@
 -- Tests over the texts of references.
-use Rattle.std.proofs.Common.{◌≡◌, ℕ, suc, ◌+◌, Bool, true, false, not, ◌||◌, cond, ltb, List, [], ◌∷◌, map, length, Some, None, Option, refl, ap, ◌∙◌, sym, position}
+use Rattle.std.proofs.Common.{◌≡◌, ◌+◌, Bool, not, ◌||◌, cond, ltb, List, [], ◌∷◌, map, length, Some, None, refl, ap, ◌∙◌, position}
 use Rattle.std.specs.List.{list_any, position_or_len}
 use Rattle.std.proofs.lemmas.List.{length-map}
 

@@ -1,16 +1,15 @@
 -- Locals: what is read is spelled so, and what is spelled so is read.
-use Rattle.std.proofs.Common.{◌≡◌, ℕ, zero, suc, ◌+◌, ◌<◌, ◌≤◌, Bool, true, false, cond, List, [], ◌∷◌, ◌++◌, map, flat_map, length, Option, Some, None, codes, refl, ap, sym, ◌∙◌, subst, arith, append_assoc, All, inl, inr}
+use Rattle.std.proofs.Common.{◌≡◌, ℕ, zero, suc, ◌<◌, ◌≤◌, Bool, true, false, cond, List, [], ◌∷◌, ◌++◌, map, flat_map, length, Option, Some, None, codes, refl, ap, sym, ◌∙◌, subst, arith, append_assoc, All, inl, inr}
 use Rattle.std.proofs.lemmas.List.Elements.{All-nil, All-cons, All-head, All-tail}
-use Rattle.mr_ast.specs.Thin.{IsThinType, unit}
+use Rattle.mr_ast.specs.Thin.{IsThinType}
 use Rattle.mr_ast.specs.declared.types.IntType.{IntType}
 use Rattle.mr_ast.specs.declared.types.Ty.{Ty}
-use Rattle.mr_ast.specs.declared.types.Ty.TheVariants as ty
 use Rattle.mr_ast.specs.declared.program.Local.{Local}
 use Rattle.mr_thin.specs.Words.{Words, text_at, type_word, local_words, locals_words}
 use Rattle.mr_thin.specs.Naming.{IsName}
 use Rattle.mr_thin.specs.Reading.{◌>>=◌, Declared, expected, accepted, name_at, type_at, type_of, declared_at, locals_at, locals_of}
-use Rattle.mr_thin.proofs.BindLaws.{Steps, bind_some, bind_at, some_is}
-use Rattle.mr_thin.proofs.WordLaws.{Accepts, accepted_takes, expected_takes, expected_again, name_takes, name_again, type_takes, type_again}
+use Rattle.mr_thin.proofs.BindLaws.{bind_some, bind_at, some_is}
+use Rattle.mr_thin.proofs.WordLaws.{Accepts, accepted_takes, expected_takes, name_takes, name_again, type_takes, type_again}
 
 abbrev pub declared_words : Declared → Words
 declared_words d = d.name ∷ codes ":" ∷ type_word (type_of d.int) ∷ []

@@ -1,17 +1,18 @@
 -- Names that are numbered one after another.
-use Rattle.std.proofs.Common.{◌≡◌, ◌≢◌, ℕ, zero, suc, ◌+◌, ◌<◌, ◌≤◌, Bool, true, false, ◌||◌, not, cond, List, [], ◌∷◌, ◌++◌, map, length, get_or, take, drop, slice_get, Some, refl, sym, ap, subst, ◌∙◌, append_assoc, arith, add-one, drop-cons, bytes_eq, Bor, All, length-append, length-take, get_or-take, inl, inr, ◌⊎◌}
+use Rattle.std.proofs.Common.{◌≡◌, ◌≢◌, ℕ, suc, ◌+◌, ◌<◌, ◌≤◌, Bool, true, false, ◌||◌, not, cond, List, [], ◌∷◌, ◌++◌, map, length, get_or, take, drop, slice_get, Some, refl, sym, ap, subst, ◌∙◌, append_assoc, arith, add-one, drop-cons, bytes_eq, Bor, All, length-append, length-take, get_or-take, inl, inr, ◌⊎◌}
 use Rattle.std.specs.List.{list_any, position_or_len}
-use Rattle.std.proofs.Math.Seq.{take-suc}
+use Rattle.std.proofs.Math.ListN.{get_or-map}
+use Rattle.std.proofs.Math.Seq.{take-suc, get_or-append_seam}
 use Rattle.std.proofs.lemmas.Bool.{true≢false, cases_order}
 use Rattle.std.proofs.lemmas.Option.{slice_get-get_or, slice_get_within, get_or_from_slice_get}
-use Rattle.std.proofs.lemmas.List.{append-nil, drop_all, take_all, length-map}
+use Rattle.std.proofs.lemmas.List.{append-nil, drop_all, take_all, length-map, get_or_append_left}
+use Rattle.std.proofs.lemmas.List.{get_or-map as get_or-map_within}
 use Rattle.std.proofs.lemmas.List.Elements.{All-nil, All-cons, All-head, All-tail, All-push, All-map, All-get_or}
 use Rattle.std.proofs.lemmas.List.Quantifiers.{all_pairs_push}
 use Rattle.mr_thin.specs.Words.{Words, Scope, text_at}
 use Rattle.mr_thin.specs.Naming.{IsName, AreDistinct, NumberedInOrder}
 use Rattle.mr_thin.specs.Reading.{Numbering, named, numbered, numbering_of, with_name}
 use Rattle.mr_thin.proofs.PlaceLaws.{any_first, any_none, place_at, place_again, place_none}
-use Rattle.mr_thin.proofs.ScopeLaws.{get_or-map}
 
 -- numbers behind those that were given before
 abbrev pub behind : List ℕ → List ℕ × Words → List ℕ × Words
@@ -72,15 +73,6 @@ any_place t (x ∷ xs) e = any_by t x xs (bytes_eq t x) (any_place t xs) e
 nowhere : (t : List ℕ) (ts : Words) → list_any (bytes_eq t) ts ≡ false → (k : ℕ) → slice_get ts k ≢ Some t
 nowhere t ts none k here = true≢false (sym (any_first t ts k here) ∙ none)
 
-text_behind : (ts : Words) (t : List ℕ) → text_at (ts ++ t ∷ []) (length ts) ≡ t
-text_behind [] t = refl
-text_behind (x ∷ xs) t = text_behind xs t
-
-text_before : (ts more : Words) (k : ℕ) → k < length ts → text_at (ts ++ more) k ≡ text_at ts k
-text_before [] more k lt = absurd (omega arith)
-text_before (x ∷ xs) more zero lt = refl
-text_before (x ∷ xs) more (suc k) lt = text_before xs more k (omega arith)
-
 length_behind : (ts : Words) (t : List ℕ) → length (ts ++ t ∷ []) ≡ suc (length ts)
 length_behind ts t = omega (arith, length-append ts (t ∷ []))
 
@@ -111,10 +103,10 @@ is_named_by names t distinct named name false any =
     record {
       distinct = all_pairs_push (λ a b. a ≢ b) names t distinct (λ k d lt same. nowhere t names any k (slice_get-get_or names k d lt ∙ ap Some same));
       named = All-push IsName names t named name;
-      here = ap (text_at (names ++ t ∷ [])) at ∙ text_behind names t;
+      here = ap (text_at (names ++ t ∷ [])) at ∙ get_or-append_seam names t [] [];
       within = omega (arith, at, longer);
       counted = inr (at, longer);
-      kept = λ k below. text_before names (t ∷ []) k below;
+      kept = λ k below. get_or_append_left names (t ∷ []) [] k below;
     }
 
 is_named_now : (names : Words) (t : List ℕ) → AreDistinct names → All IsName names → IsName t → IsNamedNow names t (named names t)
@@ -311,17 +303,12 @@ texts_differ ts a b distinct la lb differ same =
       ]
     ]
 
-map_within : {A B : Type 0} (f : A → B) (xs : List A) (i : ℕ) (d : B) (c : A) → i < length xs → get_or (map f xs) i d ≡ f (get_or xs i c)
-map_within f [] i d c lt = absurd (omega arith)
-map_within f (x ∷ xs) zero d c lt = refl
-map_within f (x ∷ xs) (suc i) d c lt = map_within f xs i d c (omega arith)
-
 pub AreDistinct-map : (ts : Words) (ns : List ℕ) → AreDistinct ts → All (λ n. n < length ts) ns → AreDistinct ns → AreDistinct (map (text_at ts) ns)
 AreDistinct-map ts ns distinct below apart i j d before lt same =
     let lj : j < length ns = omega (arith, lt, length-map ns (text_at ts)) in
     let li : i < length ns = omega arith in
     texts_differ ts (get_or ns i 0) (get_or ns j 0) distinct (below i 0 li) (below j 0 lj) (apart i j 0 before lj)
-    (sym (map_within (text_at ts) ns i d 0 li) ∙ same ∙ map_within (text_at ts) ns j d 0 lj)
+    (sym (get_or-map_within (text_at ts) ns i 0 d li) ∙ same ∙ get_or-map_within (text_at ts) ns j 0 d lj)
 
 pub All-texts : (ts : Words) (ns : List ℕ) → All IsName ts → All (λ n. n < length ts) ns → All IsName (map (text_at ts) ns)
 All-texts ts ns named below = All-map IsName (text_at ts) ns (λ k d lt. All-get_or IsName ts (get_or ns k d) [] (below k d lt) named)

@@ -1,14 +1,14 @@
 -- Where a text stands in a list of texts.
-use Rattle.std.proofs.Common.{◌≡◌, ◌≢◌, ℕ, zero, suc, ◌+◌, ◌<◌, ◌≤◌, Bool, true, false, not, ◌||◌, cond, ltb, List, [], ◌∷◌, ◌++◌, length, get_or, slice_get, Some, None, Option, refl, sym, ap, ◌∙◌, subst, arith, inl, inr, bytes_eq, position, All}
+use Rattle.std.proofs.Common.{◌≡◌, ◌≢◌, ℕ, zero, suc, ◌+◌, ◌<◌, Bool, true, false, not, ◌||◌, cond, ltb, List, [], ◌∷◌, length, slice_get, Some, None, refl, sym, ap, ◌∙◌, subst, arith, inl, inr, bytes_eq, position, All}
 use Rattle.std.specs.List.{list_any, position_or_len}
 use Rattle.std.proofs.lemmas.Slice.Eq.{bytes_eq-Decides}
 use Rattle.std.proofs.lemmas.Bool.{false_from_ne_true, true≢false, and_parts, and_from, not-true, not_from_false, lt-ltb, ltb-true}
 use Rattle.std.proofs.lemmas.Option.{slice_get-get_or, slice_get_within, get_or_from_slice_get}
 use Rattle.std.proofs.lemmas.List.Kept.{AllPairs-cons}
-use Rattle.mr_ast.specs.Names.{Adds, IsFirst}
+use Rattle.mr_ast.specs.Names.{Adds}
 use Rattle.mr_thin.specs.Words.{Words, text_at}
 use Rattle.mr_thin.specs.Naming.{AreDistinct}
-use Rattle.mr_thin.specs.Reading.{are_distinct, named, with_name}
+use Rattle.mr_thin.specs.Reading.{are_distinct, named}
 use Rattle.mr_thin.proofs.BindLaws.{guard_some, some_is}
 
 pub bytes_eq-same : (t : List ℕ) → bytes_eq t t ≡ true

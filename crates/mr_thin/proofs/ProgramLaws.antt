@@ -1,12 +1,10 @@
 -- The program that words denote: what is read is spelled so, and what is spelled so is read.
-use Rattle.std.proofs.Common.{◌≡◌, ◌≢◌, ℕ, zero, suc, ◌+◌, ◌<◌, ◌≤◌, Bool, true, false, ◌&&◌, cond, ltb, leb, List, [], ◌∷◌, ◌++◌, map, flat_map, length, Option, Some, None, Result, Ok, Err, codes, refl, ap, sym, ◌∙◌, subst, arith, append_assoc, bytes_eq, All, position, inl, inr, IfOk}
+use Rattle.std.proofs.Common.{◌≡◌, ℕ, ◌<◌, ◌≤◌, Bool, ◌&&◌, cond, ltb, leb, List, [], ◌∷◌, ◌++◌, map, flat_map, length, Option, Some, None, Result, Ok, Err, codes, refl, ap, sym, ◌∙◌, subst, arith, append_assoc, bytes_eq, All, position, inl, inr, IfOk}
 use Rattle.std.proofs.lemmas.Bool.{and_parts, and_from, lt-ltb, ltb-true, le-leb, leb-true}
 use Rattle.std.proofs.lemmas.List.{append-nil, length-map}
 use Rattle.std.proofs.lemmas.List.Elements.{All-nil, All-cons, All-head, All-tail, All-get_or}
+use Rattle.std.proofs.lemmas.Simd.{map-map}
 use Rattle.mr_ast.specs.Thin.{IsThin, IsThinFunction}
-use Rattle.mr_ast.specs.declared.program.FnName.{FnName}
-use Rattle.mr_ast.specs.declared.program.Global_.{Global_}
-use Rattle.mr_ast.specs.declared.program.LocalName.{LocalName}
 use Rattle.mr_ast.specs.declared.program.Local.{Local}
 use Rattle.mr_ast.specs.declared.program.Block.{Block}
 use Rattle.mr_ast.specs.declared.program.Function.{Function}
@@ -21,7 +19,7 @@ use Rattle.mr_thin.specs.Gives.{Gives, IsRefused}
 use Rattle.mr_thin.specs.Naming.{IsName, AreDistinct, NumberedInOrder, IsNamed, local_numbers, block_numbers, definitions}
 use Rattle.mr_thin.specs.Denotes.{Denotes, texts_of}
 use Rattle.mr_thin.specs.Reading.{◌>>=◌, Declared, Heading, Numbering, expected, heading_at, locals_at, are_distinct, scope_at, labels_in, numbering_of, blocks_at, ending_at, locals_of, function_at, program_of, program_at, thin_of, thin_program}
-use Rattle.mr_thin.proofs.BindLaws.{Steps, bind_some, bind_at, guard_some, some_is}
+use Rattle.mr_thin.proofs.BindLaws.{bind_some, bind_at, guard_some, some_is}
 use Rattle.mr_thin.proofs.WordLaws.{expected_takes}
 use Rattle.mr_thin.proofs.PlaceLaws.{position_takes, position_again, distinct_takes, distinct_again}
 use Rattle.mr_thin.proofs.BlockLaws.{FitsScope, IsFineScope, blocks_takes, blocks_length}
@@ -74,10 +72,6 @@ scope_again s locals blocks within some few =
     (and_from (are_distinct s.locals) (are_distinct s.blocks) (distinct_again s.locals locals) (distinct_again s.blocks blocks))
     (lt-ltb 0 (length s.blocks) some))
     (le-leb (length s.blocks) 1024 few))
-
-map-map : {A B C : Type 0} (f : B → C) (g : A → B) (xs : List A) → map f (map g xs) ≡ map (λ x. f (g x)) xs
-map-map f g [] = refl
-map-map f g (x ∷ xs) = ap (λ ys. f (g x) ∷ ys) (map-map f g xs)
 
 -- ---- the words of a function, with the names that are used in it
 

@@ -1,16 +1,12 @@
 -- Items at a place of lists that go side by side.
 use Rattle.std.proofs.Common.{◌≡◌, ℕ, zero, suc, ◌+◌, ◌<◌, List, [], ◌∷◌, ◌++◌, map, length, get_or, take, refl, sym, ap, ◌∙◌, arith, add-one, Bor}
+use Rattle.std.proofs.Math.ListN.{get_or-map}
 use Rattle.mr_ast.specs.declared.program.Local.{Local}
 use Rattle.mr_ast.specs.declared.types.Ty.{Ty}
 use Rattle.mr_thin.specs.declared.declared.Declared.{Declared as Written}
 use Rattle.mr_thin.specs.Words.{Words}
-use Rattle.mr_thin.specs.Views.{view, views}
+use Rattle.mr_thin.specs.Views.{views}
 use Rattle.mr_thin.specs.Reading.{locals_of, type_of}
-
-pub get_or-map : {A B : Type 0} (f : A → B) (xs : List A) (i : ℕ) (d : A) → get_or (map f xs) i (f d) ≡ f (get_or xs i d)
-get_or-map f [] i d = refl
-get_or-map f (x ∷ xs) zero d = refl
-get_or-map f (x ∷ xs) (suc i) d = get_or-map f xs i d
 
 -- the label at a place, behind a reference
 pub label_at : (refs : List (Bor (List ℕ))) (labels : Words) (i : ℕ) → map (λ w. w.now) refs ≡ labels → get_or labels i [] ≡ (get_or refs i (record { ref_ptr = (0, 0); now = [] })).now

@@ -1,5 +1,5 @@
 -- The texts of the tokens from a place on.
-use Rattle.std.proofs.Common.{◌≡◌, ℕ, zero, suc, ◌+◌, ◌<◌, ◌≤◌, List, [], ◌∷◌, length, drop, map, Some, None, slice_get, refl, ap, sym, arith, add-one}
+use Rattle.std.proofs.Common.{◌≡◌, ℕ, zero, suc, ◌≤◌, List, [], ◌∷◌, length, drop, Some, None, slice_get, refl, arith}
 use Rattle.mr_lex.specs.Tokens.{Lexeme}
 use Rattle.mr_thin.specs.Denotes.{texts_of}
 

@@ -1,5 +1,5 @@
 -- Single words: what is read is spelled so, and what is spelled so is read.
-use Rattle.std.proofs.Common.{◌≡◌, ℕ, ◌+◌, ◌-◌, ◌^◌, ◌<◌, ◌≤◌, Bool, true, false, ◌&&◌, cond, List, [], ◌∷◌, ◌++◌, Option, Some, None, codes, refl, ap, sym, ◌∙◌, subst, arith, bytes_eq, ltb, leb, lit≤, lit<}
+use Rattle.std.proofs.Common.{◌≡◌, ℕ, ◌-◌, ◌^◌, ◌<◌, ◌≤◌, Bool, true, false, cond, List, [], ◌∷◌, ◌++◌, Option, Some, None, codes, refl, ap, sym, ◌∙◌, subst, arith, bytes_eq, ltb, leb, lit≤, lit<}
 use Rattle.std.specs.Fmt.{decimal}
 use Rattle.std.proofs.lemmas.Bool.{and_parts, and_from, lt-ltb, ltb-true, le-leb, leb-true}
 use Rattle.mr_ast.specs.Thin.{FitsInt, FitsBits, bits_of, is_signed}
@@ -10,7 +10,7 @@ use Rattle.mr_lex.specs.Numbers.{number_of}
 use Rattle.mr_thin.specs.Words.{Words, is_name, int_word, number_words, type_word}
 use Rattle.mr_thin.specs.Naming.{IsName}
 use Rattle.mr_thin.specs.Reading.{◌>>=◌, expected, accepted, name_at, number_at, is_number, num_at, int_of, int_at, fits_int, fits_bits, constant_at, type_at, type_of}
-use Rattle.mr_thin.proofs.BindLaws.{Steps, bind_some, bind_at, guard_some, some_is}
+use Rattle.mr_thin.proofs.BindLaws.{bind_some, bind_at, guard_some, some_is}
 use Rattle.mr_thin.proofs.DigitLaws.{is_number-decimal, number_of-decimal_small, decimal-is_number}
 use Rattle.mr_thin.proofs.Layers.{type_word-int, type_word-unit}
 use Rattle.mr_thin.proofs.PlaceLaws.{bytes_eq-true, bytes_eq-same, bytes_eq-differ}

@@ -1,10 +1,9 @@
-use Rattle.std.proofs.Common.{◌≡◌, ◌≤◌, ◌+◌, ◌∷◌, [], ◌++◌, List, ℕ, Some, Bor, length, get_or, ap, sym, ◌∙◌, subst, arith}
+use Rattle.std.proofs.Common.{◌≤◌, ◌+◌, [], List, ℕ, Some, Bor, length, get_or, ap, sym, ◌∙◌, subst, arith}
 use Rattle.std.proofs.lemmas.Option.{same_Some}
 use Rattle.std.proofs.lemmas.List.{length-map}
 use Rattle.mr_thin.specs.Words.{Words}
-use Rattle.mr_thin.specs.Reading.{named, numbered}
-use Rattle.mr_thin.proofs.ScopeLaws.{get_or-map}
-use Rattle.mr_thin.proofs.NumberLaws.{behind, behind-step, behind-end, length-with_name}
+use Rattle.std.proofs.Math.ListN.{get_or-map}
+use Rattle.mr_thin.proofs.NumberLaws.{behind-step, behind-end, length-with_name}
 use Rattle.mr_thin.proofs.naming.numbers_of.Goals as goal
 
 pub number_of-requires : goal.number_of-requires

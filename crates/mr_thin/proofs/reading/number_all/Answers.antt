@@ -1,9 +1,8 @@
-use Rattle.std.proofs.Common.{◌≡◌, ◌≤◌, ◌+◌, ◌∷◌, [], List, ℕ, All, map, length, sym, ap, ◌∙◌, subst, arith}
+use Rattle.std.proofs.Common.{◌≤◌, ◌+◌, List, ℕ, All, map, length, sym, subst, arith}
 use Rattle.std.proofs.lemmas.List.{length-map}
 use Rattle.std.proofs.lemmas.Option.{same_Some}
 use Rattle.mr_thin.specs.Words.{Words}
 use Rattle.mr_thin.specs.Naming.{IsName}
-use Rattle.mr_thin.specs.Reading.{numbered}
 use Rattle.mr_thin.proofs.NumberLaws.{length-numbered_names, first_name}
 use Rattle.mr_thin.proofs.reading.number_all.Goals as goal
 

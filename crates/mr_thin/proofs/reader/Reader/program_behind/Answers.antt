@@ -1,4 +1,4 @@
-use Rattle.std.proofs.Common.{◌≡◌, All, length, sym, ap, ◌∙◌, subst}
+use Rattle.std.proofs.Common.{All, length, sym, ap, ◌∙◌, subst}
 use Rattle.std.proofs.lemmas.List.{length-map}
 use Rattle.std.proofs.lemmas.Option.{same_Some}
 use Rattle.mr_thin.specs.Naming.{IsName}

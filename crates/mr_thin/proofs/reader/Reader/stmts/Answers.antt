@@ -1,4 +1,4 @@
-use Rattle.std.proofs.Common.{◌≡◌, ◌+◌, ◌-◌, sym, arith}
+use Rattle.std.proofs.Common.{◌+◌, ◌-◌, sym, arith}
 use Rattle.std.proofs.lemmas.Result.{err_from_is_err_and}
 use Rattle.mr_thin.specs.Reading.{stmt_at, stmts_at}
 use Rattle.mr_thin.proofs.LoopLaws.{goes_on, is_done, stops, fails, stmts_more, stmts_end, stmts_stop, stmts_past}
