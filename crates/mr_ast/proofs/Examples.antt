@@ -1,5 +1,5 @@
 -- Small programs, and whether they are shaped.
-use Rattle.std.proofs.Common.{◌≡◌, ℕ, ◌+◌, ◌<◌, ◌≤◌, ◌^◌, Bool, true, false, List, [], ◌∷◌, length, All, Option, None, Some, refl, sym, ap, subst, ◌∙◌, true≢false, arith, codes, lit<, lit≤}
+use Rattle.std.proofs.Common.{◌≡◌, ℕ, ◌<◌, true, false, [], ◌∷◌, All, refl, sym, ◌∙◌, true≢false, arith, codes, lit<, lit≤}
 use Rattle.std.proofs.lemmas.List.Elements.{All-cons, All-head}
 use Rattle.mr_ast.specs.declared.types.IntType.TheVariants.{U8, U64}
 use Rattle.mr_ast.specs.declared.types.Num.{Num}
@@ -7,8 +7,6 @@ use Rattle.mr_ast.specs.declared.types.Ty.TheVariants as ty
 use Rattle.mr_ast.specs.declared.expr.Place.TheVariants as place
 use Rattle.mr_ast.specs.declared.expr.Value.TheVariants as value
 use Rattle.mr_ast.specs.declared.program.LocalName.{LocalName}
-use Rattle.mr_ast.specs.declared.program.BlockName.{BlockName}
-use Rattle.mr_ast.specs.declared.program.FnName.{FnName}
 use Rattle.mr_ast.specs.declared.program.BlockKind.TheVariants.{Regular}
 use Rattle.mr_ast.specs.declared.program.Item_.TheVariants as item
 use Rattle.mr_ast.specs.declared.program.Global_.{Global_}

@@ -1,5 +1,5 @@
 -- Texts that are held by hash, as a list of texts, and what follows from adding one.
-use Rattle.std.proofs.Common.{◌≡◌, ◌≢◌, ℕ, zero, suc, ◌<◌, Bool, true, false, cond, ◌||◌, List, [], ◌∷◌, ◌++◌, length, map, get_or, slice_get, position, Option, None, Some, refl, sym, ap, subst, ◌∙◌, true≢false, arith, inl, inr, String, if◌then◌else◌}
+use Rattle.std.proofs.Common.{◌≡◌, ◌≢◌, ℕ, zero, suc, ◌<◌, Bool, true, false, List, [], ◌∷◌, ◌++◌, length, map, get_or, slice_get, position, Some, refl, sym, ap, subst, ◌∙◌, true≢false, arith, inl, inr, String, if◌then◌else◌}
 use Rattle.std.proofs.lemmas.List.Quantifiers.{position-Some}
 use Rattle.std.proofs.lemmas.Bool.{or_from, or_parts}
 use Rattle.std.proofs.lemmas.List.{map-append}
@@ -79,11 +79,15 @@ IsFirst-Adds old new text n (inr (missing, new_is, last)) =
 pub slice_get-Adds : (old new : List (List ℕ)) (text : List ℕ) (n : ℕ) → Adds old text new n → slice_get new n ≡ Some text
 slice_get-Adds old new text n added = (IsFirst-Adds old new text n added).here
 
--- a number that was given before keeps its text
-pub Adds-keeps : (old new : List (List ℕ)) (text kept : List ℕ) (n k : ℕ) → Adds old text new n → slice_get old k ≡ Some kept → slice_get new k ≡ Some kept
-Adds-keeps old new text kept n k (inl (same, first)) h = subst (λ l. slice_get l k ≡ Some kept) (sym same) h
-Adds-keeps old new text kept n k (inr (missing, new_is, last)) h =
-    subst (λ l. slice_get l k ≡ Some kept) (sym new_is) (slice_get_before old text k (slice_get_within old k kept h) ∙ h)
+-- a text that was held keeps its first position
+pub IsFirst-kept : (old new : List (List ℕ)) (text held : List ℕ) (n k : ℕ) → Adds old text new n → IsFirst old held k → IsFirst new held k
+IsFirst-kept old new text held n k (inl (same, first)) h = subst (λ l. IsFirst l held k) (sym same) h
+IsFirst-kept old new text held n k (inr (missing, new_is, last)) h =
+    let inside = slice_get_within old k held h.here in
+    record {
+      here = subst (λ l. slice_get l k ≡ Some held) (sym new_is) (slice_get_before old text k inside ∙ h.here);
+      first = λ j before e. h.first j before (sym (slice_get_before old text j (omega (arith, inside))) ∙ subst (λ l. slice_get l j ≡ Some held) new_is e);
+    }
 
 -- a text has one first position
 pub IsFirst-unique : (texts : List (List ℕ)) (text : List ℕ) (n m : ℕ) → IsFirst texts text n → IsFirst texts text m → m ≡ n
@@ -92,7 +96,7 @@ IsFirst-unique texts text n m a b =
     let not_after : n < m → ⊥ = λ h. b.first n h a.here in
     omega arith
 
--- equal texts have equal numbers: a text that is added again gets the number that it has
-pub Adds-again : (old new later : List (List ℕ)) (text : List ℕ) (n m : ℕ) → Adds old text new n → Adds new text later m → m ≡ n
-Adds-again old new later text n m added (inl (same, first)) = IsFirst-unique new text n m (IsFirst-Adds old new text n added) first
-Adds-again old new later text n m added (inr (missing, later_is, last)) = absurd (missing n (slice_get-Adds old new text n added))
+-- so equal texts have equal numbers: a text that is added again gets the number that it has
+pub Adds-again : (texts later : List (List ℕ)) (text : List ℕ) (n m : ℕ) → IsFirst texts text n → Adds texts text later m → m ≡ n
+Adds-again texts later text n m held (inl (same, first)) = IsFirst-unique texts text n m held first
+Adds-again texts later text n m held (inr (missing, later_is, last)) = absurd (missing n held.here)

@@ -11,7 +11,7 @@ use Rattle.mr_ast.specs.declared.types.Tree.TheOpen.{Tree-F}
 use Rattle.mr_ast.specs.declared.types.Tree.TheFolds.{fold-roll-Tree}
 use Rattle.mr_ast.specs.declared.types.Ty.{Ty, roll-Ty}
 use Rattle.mr_ast.specs.declared.types.Ty.TheVariants as ty
-use Rattle.mr_ast.specs.declared.types.Ty.TheOpen.{Ty-F, Variant-F}
+use Rattle.mr_ast.specs.declared.types.Ty.TheOpen.{Ty-F}
 use Rattle.mr_ast.specs.declared.types.Ty.TheFolds.{map-Ty, fold-Variant, fold-roll-Ty, fold-roll-Variant}
 use Rattle.mr_ast.specs.declared.types.Variant.{Variant, out-Variant}
 use Rattle.mr_ast.specs.declared.program.FnName.{FnName}
@@ -25,7 +25,7 @@ use Rattle.mr_ast.specs.declared.expr.Place.TheVariants as place
 use Rattle.mr_ast.specs.declared.expr.Value.TheVariants as value
 use Rattle.mr_ast.specs.declared.expr.Place.TheOpen.{Place-F, Value-F}
 use Rattle.mr_ast.specs.declared.expr.Place.TheFolds.{map-Place, map-Value, fold-roll-Place, fold-roll-Value}
-use Rattle.mr_ast.specs.ShapedTypes.{fits_u64, is_shaped_num, is_shaped_tag, is_shaped_chunk, shaped_tree_step, is_shaped_tree, is_shaped_case, shaped_type_step, shaped_variant_step, is_shaped_type, is_shaped_field, is_shaped_variant}
+use Rattle.mr_ast.specs.ShapedTypes.{fits_u64, is_shaped_num, is_shaped_chunk, shaped_tree_step, is_shaped_tree, is_shaped_case, shaped_type_step, shaped_variant_step, is_shaped_type, is_shaped_field, is_shaped_variant}
 use Rattle.mr_ast.specs.ShapedValues.{Named, shaped_place_step, shaped_value_step, is_shaped_place, is_shaped_value}
 
 pub shaped_known : (n : Num) → is_shaped_tree (tree.Known n) ≡ is_shaped_num n

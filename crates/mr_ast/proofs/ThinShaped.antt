@@ -1,5 +1,5 @@
 -- A thin program whose names are held is shaped.
-use Rattle.std.proofs.Common.{◌≡◌, ℕ, ◌+◌, ◌-◌, ◌<◌, ◌≤◌, ◌^◌, Bool, true, false, List, [], ◌∷◌, length, All, Option, None, Some, refl, sym, ap, subst, ◌∙◌, inl, inr, arith}
+use Rattle.std.proofs.Common.{◌≡◌, ℕ, ◌-◌, ◌<◌, ◌≤◌, ◌^◌, Bool, true, false, List, [], length, All, refl, sym, ap, subst, ◌∙◌, inl, inr, arith}
 use Rattle.std.proofs.Math.Nat.{pow-le-pow_right}
 use Rattle.std.proofs.lemmas.Bool.{lt-ltb, ne_eqb}
 use Rattle.std.proofs.lemmas.List.Elements.{All-cons, All-head}
@@ -11,7 +11,6 @@ use Rattle.mr_ast.specs.declared.types.IntType.TheVariants.{U8, U16, U32, U64, U
 use Rattle.mr_ast.specs.declared.types.Num.{Num}
 use Rattle.mr_ast.specs.declared.types.Ty.{Ty}
 use Rattle.mr_ast.specs.declared.expr.Value.{Value}
-use Rattle.mr_ast.specs.declared.program.Local.{Local}
 use Rattle.mr_ast.specs.declared.program.Stmt.{Stmt}
 use Rattle.mr_ast.specs.declared.program.Stmt.TheVariants as stmt
 use Rattle.mr_ast.specs.declared.program.Term.{Term}
@@ -21,8 +20,8 @@ use Rattle.mr_ast.specs.declared.program.Function.{Function}
 use Rattle.mr_ast.specs.declared.program.Program.{Program}
 use Rattle.mr_ast.specs.Thin.{bits_of, is_signed, FitsBits, FitsInt, IsThinType, IsThinStmt, IsConstant, IsThinTerm, IsThinBlock, IsThinFunction, IsThin}
 use Rattle.mr_ast.specs.ShapedTypes.{is_shaped_num, is_shaped_type}
-use Rattle.mr_ast.specs.ShapedValues.{Named, is_shaped_value}
-use Rattle.mr_ast.specs.Shaped.{named_in, is_shaped_stmt, is_shaped_term, IsText, ShapedGlobal, ShapedLocal, ShapedBlock, ShapedFunction, Shaped, HoldsNamesOf}
+use Rattle.mr_ast.specs.ShapedValues.{is_shaped_value}
+use Rattle.mr_ast.specs.Shaped.{named_in, is_shaped_stmt, is_shaped_term, IsText, ShapedBlock, ShapedFunction, Shaped, HoldsNamesOf}
 use Rattle.mr_ast.proofs.ShapedLaws.{shaped_int_type, shaped_tuple_type, shaped_int}
 
 -- an integer has at most 128 bits

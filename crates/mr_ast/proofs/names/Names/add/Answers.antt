@@ -1,4 +1,4 @@
-use Rattle.std.proofs.Common.{◌≡◌, ◌≢◌, ℕ, List, [], ◌∷◌, ◌++◌, Some, map, slice_get, string_bytes, ap, subst, sym, ◌∙◌, inr}
+use Rattle.std.proofs.Common.{◌≢◌, ℕ, [], ◌∷◌, ◌++◌, Some, map, slice_get, string_bytes, ap, ◌∙◌, inr}
 use Rattle.mr_ast.proofs.NameLaws.{map-insert_key}
 use Rattle.mr_ast.proofs.names.Names.add.Goals as goal
 

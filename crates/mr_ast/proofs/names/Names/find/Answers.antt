@@ -1,5 +1,4 @@
-use Rattle.std.proofs.Common.{◌≡◌, ◌≢◌, ℕ, Some, None, is_some, slice_get, sym, ap, subst, ◌∙◌}
-use Rattle.std.specs.Option.{IfNone}
+use Rattle.std.proofs.Common.{is_some, sym, ap, ◌∙◌}
 use Rattle.mr_ast.proofs.NameLaws.{IsFirst-position, missing-list_any}
 use Rattle.mr_ast.proofs.names.Names.find.Goals as goal
 
