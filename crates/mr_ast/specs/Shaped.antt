@@ -53,6 +53,7 @@ is_optional_place named (Some place) = is_shaped_place named place
 abbrev pub is_shaped_target : Named → Num × BlockName → Bool
 is_shaped_target named c = is_shaped_num c.0 && is_block named c.1
 
+-- each name in the statement is a position, and each number can be written
 abbrev pub is_shaped_stmt : Named → Stmt → Bool
 is_shaped_stmt named (stmt.Live x) = is_local named x
 is_shaped_stmt named (stmt.Dead x) = is_local named x
@@ -62,6 +63,7 @@ is_shaped_stmt named (stmt.Disc place number) = is_shaped_place named place && i
 is_shaped_stmt named (stmt.Deinit place) = is_shaped_place named place
 is_shaped_stmt named (stmt.Validate place) = is_shaped_place named place
 
+-- the same of the end of a block
 abbrev pub is_shaped_term : Named → Term → Bool
 is_shaped_term named (term.Goto b) = is_block named b
 is_shaped_term named (term.Switch value cases other) = is_shaped_value named value && (list_all (is_shaped_target named) cases && is_block named other)
@@ -90,26 +92,31 @@ abbrev pub IsTarget : Program → Target → Type 0
 IsTarget p (target.Global g) = g.0 < length p.globals
 IsTarget p (target.Function f) = f.0 < length p.functions
 
+-- an item is a byte or uninitialised, 1 to 2^20 times, or points to something of the program
 abbrev pub ShapedItem : Program → Item_ → Type 0
 ShapedItem p (item.Byte value repeat) = (value ≤ 255) × IsRepeat repeat
 ShapedItem p (item.Uninit repeat) = IsRepeat repeat
 ShapedItem p (item.Reloc to offset) = IsTarget p to × (offset < 2 ^ 64)
 
+-- a global's name is held, and its numbers can be written
 pub record ShapedGlobal (p : Program) (g : Global_) : Type 0 where
   pub name : IsText p g.name
   pub align : g.align < 2 ^ 64
   pub items : All (ShapedItem p) g.items
 
+-- a local's name is held, and its type can be written
 pub record ShapedLocal (p : Program) (l : Local) : Type 0 where
   pub name : IsText p l.name
   pub ty : is_shaped_type l.ty ≡ true
 
+-- a block's name is held, its statements and its end are shaped, and its statements keep the limit
 pub record ShapedBlock (p : Program) (f : Function) (b : Block) : Type 0 where
   pub name : IsText p b.name
   pub stmts : AllPass (is_shaped_stmt (named_in p f)) b.stmts
   pub term : is_shaped_term (named_in p f) b.term ≡ true
   pub few_stmts : length b.stmts ≤ 4096
 
+-- a function's name is held, its arguments and its return local are locals of its own, it begins at a first block, and it keeps the limits
 pub record ShapedFunction (p : Program) (f : Function) : Type 0 where
   pub name : IsText p f.name
   pub args : All (λ (x : LocalName). x.0 < length f.locals) f.args
@@ -120,7 +127,8 @@ pub record ShapedFunction (p : Program) (f : Function) : Type 0 where
   pub few_locals : length f.locals ≤ 256
   pub few_blocks : length f.blocks ≤ 1024
 
--- a shaped program
+-- a program of the one edition that there is, whose globals and functions are shaped, whose start is one of its functions, and which keeps
+-- the limits
 pub record Shaped (p : Program) : Type 0 where
   pub edition : p.edition ≡ 1
   pub globals : All (ShapedGlobal p) p.globals
