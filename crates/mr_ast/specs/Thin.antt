@@ -1,6 +1,6 @@
 -- The thin programs: one function without arguments whose locals are integers or units, and whose steps are `live`, `dead`, `goto`, the print
 -- of one constant and `exit`.
-use Rattle.std.specs.Prelude.{◌≡◌, ◌≢◌, ℕ, ◌+◌, ◌-◌, ◌*◌, ◌<◌, ◌≤◌, ◌^◌, ◌⊎◌, Bool, true, false, List, [], ◌∷◌, length, All, Option, None, Some}
+use Rattle.std.specs.Prelude.{◌≡◌, ◌≢◌, ℕ, ◌-◌, ◌<◌, ◌≤◌, ◌^◌, ◌⊎◌, Bool, true, false, List, [], ◌∷◌, length, All, None}
 use Rattle.mr_ast.specs.declared.types.IntType.{IntType}
 use Rattle.mr_ast.specs.declared.types.IntType.TheVariants.{U8, U16, U32, U64, U128, I8, I16, I32, I64, I128}
 use Rattle.mr_ast.specs.declared.types.Num.{Num}
@@ -8,12 +8,7 @@ use Rattle.mr_ast.specs.declared.types.Ty.{Ty}
 use Rattle.mr_ast.specs.declared.types.Ty.TheVariants as ty
 use Rattle.mr_ast.specs.declared.expr.Value.{Value}
 use Rattle.mr_ast.specs.declared.expr.Value.TheVariants as value
-use Rattle.mr_ast.specs.declared.expr.Place.{Place}
-use Rattle.mr_ast.specs.declared.program.LocalName.{LocalName}
-use Rattle.mr_ast.specs.declared.program.BlockName.{BlockName}
-use Rattle.mr_ast.specs.declared.program.FnName.{FnName}
 use Rattle.mr_ast.specs.declared.program.BlockKind.TheVariants.{Regular}
-use Rattle.mr_ast.specs.declared.program.Intrinsic.{Intrinsic}
 use Rattle.mr_ast.specs.declared.program.Intrinsic.TheVariants.{Print}
 use Rattle.mr_ast.specs.declared.program.Local.{Local}
 use Rattle.mr_ast.specs.declared.program.Stmt.{Stmt}
@@ -37,6 +32,7 @@ bits_of I32 = 32
 bits_of I64 = 64
 bits_of I128 = 128
 
+-- whether an integer has a sign
 abbrev pub is_signed : IntType → Bool
 is_signed U8 = false
 is_signed U16 = false
@@ -64,6 +60,7 @@ FitsInt i n = FitsBits (is_signed i) (bits_of i) n.neg n.mag
 abbrev pub unit : Ty
 unit = ty.Tuple 0 1 []
 
+-- an integer or the unit
 abbrev pub IsThinType : Ty → Type 0
 IsThinType t = ((i : IntType) × (t ≡ ty.Int i)) ⊎ (t ≡ unit)
 
@@ -81,6 +78,7 @@ IsThinStmt f (stmt.Validate place) = ⊥
 abbrev pub IsConstant : List Value → Type 0
 IsConstant args = (i : IntType) × (n : Num) × (args ≡ value.Int i n ∷ []) × FitsInt i n
 
+-- `goto`, `exit`, or the print of a constant, with targets among the blocks
 abbrev pub IsThinTerm : Function → Term → Type 0
 IsThinTerm f (term.Goto b) = b.0 < length f.blocks
 IsThinTerm f term.Exit = Unit {0}
@@ -94,12 +92,14 @@ IsThinTerm f (term.Stop b) = ⊥
 IsThinTerm f (term.Unwind v b) = ⊥
 IsThinTerm f (term.Call callee args place next unwind) = ⊥
 
+-- a regular block of thin statements with a thin end
 pub record IsThinBlock (f : Function) (b : Block) : Type 0 where
   pub regular : b.kind ≡ Regular
   pub stmts : All (IsThinStmt f) b.stmts
   pub term : IsThinTerm f b.term
   pub few : length b.stmts ≤ 4096
 
+-- a function without arguments, with thin locals and blocks, within the limits
 pub record IsThinFunction (f : Function) : Type 0 where
   pub no_args : f.args ≡ []
   pub ret : f.ret.0 < length f.locals
