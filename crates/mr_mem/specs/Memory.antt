@@ -141,12 +141,12 @@ kind_number Function = 3
 unfoldable pub free_fault : Allocation → ℕ → Kind → ℕ → ℕ → Option Reason
 free_fault a addr kind size align =
     first_failed (
-      (a.live, DeadAllocation)
-      ∷ (addr == a.addr, FreeAddress)
-      ∷ (kind_number kind == kind_number a.kind, FreeKind)
-      ∷ (size == length a.bytes, FreeSize)
-      ∷ (align == a.align, FreeAlign)
-      ∷ [])
+    (a.live, DeadAllocation)
+    ∷ (addr == a.addr, FreeAddress)
+    ∷ (kind_number kind == kind_number a.kind, FreeKind)
+    ∷ (size == length a.bytes, FreeSize)
+    ∷ (align == a.align, FreeAlign)
+    ∷ [])
 
 -- the first reason against freeing what a provenance names
 abbrev pub refusal : Option Allocation → ℕ → Kind → ℕ → ℕ → Option Reason

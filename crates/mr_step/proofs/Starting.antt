@@ -153,7 +153,7 @@ kept_is p f l only no_globals start ret picks b fs pr h k e =
     let memory : pr.memory ≡ begun_memory h.code h.place (size_of l.ty) (align_of l.ty) = k.memory ∙ h.memory in
     let frame : frame_of pr.frame ≡ first_frame f (pointer_to (own_id 1) h.place) = k.frame ∙ ap (first_frame f) h.local in
     let same : progress_config pr ≡ config_of (begun_memory h.code h.place (size_of l.ty) (align_of l.ty)) (first_frame f (pointer_to (own_id 1) h.place)) 2 [] 0 Running =
-        λ i. config_by (memory i) (frame i) (k.count i) (k.output i) (k.completed i) (k.verdict i) in
+    λ i. config_by (memory i) (frame i) (k.count i) (k.output i) (k.completed i) (k.verdict i) in
     (λ i. record { look = record { program = p; functions = functions i; globals = [] }; failed = false; config = same i })
     ∙ sym (standing_is p f l only no_globals start ret h.code h.place)
     ∙ ap (standing p) (sym h.picked)
@@ -162,7 +162,7 @@ pub sound_first : (f : Function) (size align : ℕ) (picks : List ℕ) (b : Begu
 sound_first f size align picks b pr some h k =
     let code = allocated fin.empty (own_id 0) kind.Function 1 1 h.code in
     let both : AreCounted (begun_memory h.code h.place size align) 2 =
-        counted_allocated code 1 kind.Stack size align h.place (counted_allocated fin.empty 0 kind.Function 1 1 h.code none_counted) in
+    counted_allocated code 1 kind.Stack size align h.place (counted_allocated fin.empty 0 kind.Function 1 1 h.code none_counted) in
     record {
       fits = subst (Fits f) (sym k.frame) (fits_first f b.local some);
       counted = subst (λ (m : Memory). AreCounted m pr.count) (sym (k.memory ∙ h.memory)) (subst (λ n. AreCounted (begun_memory h.code h.place size align) n) (sym k.count) both);

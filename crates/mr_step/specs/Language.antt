@@ -82,8 +82,8 @@ live own below f x size align = Done (record {
   creates = CreatesNothing;
   asks = Address size align ∷ [];
   go = λ picks. with_pick picks (λ a.
-    free_storage (slice_get f.locals x) size align >>= λ _.
-    Ask (OfMemory (Allocate Stack size align a)) (λ p. Done (with_storage own below f x (Some p))));
+      free_storage (slice_get f.locals x) size align >>= λ _.
+      Ask (OfMemory (Allocate Stack size align a)) (λ p. Done (with_storage own below f x (Some p))));
 })
 
 abbrev pub dead : Own → List Frame → Frame → ℕ → ℕ → ℕ → StepScript (Plan Own)

@@ -19,12 +19,7 @@ pub struct Begun {
 }
 
 /// Allocates the function and a local of this size and alignment, in bytes, at the picked addresses.
-pub fn begin(
-    alloc: Global,
-    size: u64,
-    align: u64,
-    picks: &[u64],
-) -> Result<Begun, StepFault>
+pub fn begin(alloc: Global, size: u64, align: u64, picks: &[u64]) -> Result<Begun, StepFault>
     requires size { size < 2 ^ 63 }
     requires align { IsPowerOfTwo align }
     ensures { BeginAnswer size align picks.now result }

@@ -47,11 +47,7 @@ impl<'p> Machine<'p> {
     ghost use Rattle.mr_step.specs.Standing.{seen_line};
 
     /// The machine before the first entry, with these start picks.
-    pub fn start(
-        alloc: Global,
-        p: &'p Program,
-        picks: &[u64],
-    ) -> Result<Machine<'p>, StepFault>
+    pub fn start(alloc: Global, p: &'p Program, picks: &[u64]) -> Result<Machine<'p>, StepFault>
         requires { IsThin p.now }
         ensures { StartAnswer p.now picks.now result }
     {
@@ -84,7 +80,10 @@ impl<'p> Machine<'p> {
                 self.failed = true;
                 Err(StepFault::Memory)
             }
-            Err(StepFault::BadEntry { code, earlier }) => Err(StepFault::BadEntry { code, earlier }),
+            Err(StepFault::BadEntry { code, earlier }) => Err(StepFault::BadEntry {
+                code,
+                earlier,
+            }),
             Err(StepFault::Failed) => unreachable!(),
         }
     }

@@ -59,12 +59,7 @@ fn bad_address(fault: PickFault) -> StepFault
 }
 
 /// The one address that is asked for.
-pub fn one_address(
-    memory: &Memory,
-    size: u64,
-    align: u64,
-    picks: &[u64],
-) -> Result<u64, StepFault>
+pub fn one_address(memory: &Memory, size: u64, align: u64, picks: &[u64]) -> Result<u64, StepFault>
     ensures { AddressAnswer memory.now size align picks.now result }
 {
     match first_address(memory, size, align, picks) {

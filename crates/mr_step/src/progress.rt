@@ -179,12 +179,7 @@ pub fn live(
 }
 
 /// The step of an action with these picks.
-pub fn act(
-    alloc: Global,
-    p: &mut Progress,
-    action: Action,
-    picks: &[u64],
-) -> Result<(), StepFault>
+pub fn act(alloc: Global, p: &mut Progress, action: Action, picks: &[u64]) -> Result<(), StepFault>
     requires steps { p.old.completed < 2 ^ 32 }
     requires count { p.old.count ≤ p.old.completed + 2 }
     requires counted { AreCounted p.old.memory p.old.count }

@@ -55,12 +55,12 @@ returns c =
       place = place;
       picked = c.in-Ok.ensures.0 ∙ ap (λ r. code ∷ r) c.in-Ok-one_address.ensures.0;
       legal = ap (begin_fault size align) c.in-Ok.ensures.0
-        ∙ behind_function size align code c.in-Ok.first.1.now c.allocate.new.self made lawful
-        ∙ ap (fault_over c.allocate.new.self 1 (Address size align ∷ [])) c.in-Ok-one_address.ensures.0
-        ∙ none_left c.allocate.new.self size align place c.in-Ok-one_address.ensures.1;
+          ∙ behind_function size align code c.in-Ok.first.1.now c.allocate.new.self made lawful
+          ∙ ap (fault_over c.allocate.new.self 1 (Address size align ∷ [])) c.in-Ok-one_address.ensures.0
+          ∙ none_left c.allocate.new.self size align place c.in-Ok-one_address.ensures.1;
       memory = c.in_ok-allocate-2.ensures.ok
-        ∙ ap (λ (m : Memory). allocated m c.own-second.result Stack size align place) made
-        ∙ ap (λ i. allocated (allocated fin.empty (own_id 0) Function 1 1 code) i Stack size align place) c.own-second.ensures;
+          ∙ ap (λ (m : Memory). allocated m c.own-second.result Stack size align place) made
+          ∙ ap (λ i. allocated (allocated fin.empty (own_id 0) Function 1 1 code) i Stack size align place) c.own-second.ensures;
       function = c.to.ensures ∙ ap (λ i. pointer_to i code) c.own-first.ensures;
       local = c.to-2.ensures ∙ ap (λ i. pointer_to i place) c.own-second.ensures;
     }

@@ -30,6 +30,7 @@ returns c =
     let f = c.main_function.result.now in
     let only = c.main_function.ensures.only in
     let l = within f.locals f.ret.0 c.main_function.ensures.thin.ret in
-    let begun = c.in-Ok.ensures f l.0 only l.1 in
-    (start_fault_is c.args.p.now f l.0 only t.no_globals t.start l.1 c.args.picks.now ∙ begun.legal,
-    kept_is c.args.p.now f l.0 only t.no_globals t.start l.1 c.args.picks.now c.in-Ok.begun c.in_ok-functions.functions.items c.in_ok-progress.progress begun c.in_ok-progress.ensures c.in_ok-functions.ensures.items)
+    let begun = c.in-Ok.ensures f l.0 only l.1 in (
+      start_fault_is c.args.p.now f l.0 only t.no_globals t.start l.1 c.args.picks.now ∙ begun.legal,
+      kept_is c.args.p.now f l.0 only t.no_globals t.start l.1 c.args.picks.now c.in-Ok.begun c.in_ok-functions.functions.items c.in_ok-progress.progress begun c.in_ok-progress.ensures c.in_ok-functions.ensures.items,
+    )
