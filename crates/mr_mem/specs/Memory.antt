@@ -1,5 +1,5 @@
 -- Memory: a finite map from identities to allocations, and what can be done with it. (MiniRust, mem: the basic memory.)
-use Rattle.std.specs.Prelude.{◌≡◌, ℕ, ◌+◌, ◌-◌, ◌*◌, ◌%◌, ◌^◌, ◌<◌, ◌≤◌, Bool, true, false, not, ◌&&◌, ◌||◌, ◌==◌, nat_lt, nat_le, if◌then◌else◌, List, [], ◌∷◌, ◌++◌, length, map, take, drop, replicate, Option, None, Some, Result, Ok, Err}
+use Rattle.std.specs.Prelude.{◌≡◌, ℕ, ◌+◌, ◌-◌, ◌%◌, ◌^◌, Bool, true, false, not, ◌&&◌, ◌||◌, ◌==◌, nat_lt, nat_le, if◌then◌else◌, List, [], ◌∷◌, ◌++◌, length, map, take, drop, replicate, Option, None, Some, Result, Ok, Err}
 use Rattle.std.specs.List.{list_any}
 use Rattle.std.specs.Ordering.{nat_cmp, ordering_then}
 use Rattle.std.specs.declared.cmp.Ordering.{Ordering}
@@ -141,12 +141,12 @@ kind_number Function = 3
 unfoldable pub free_fault : Allocation → ℕ → Kind → ℕ → ℕ → Option Reason
 free_fault a addr kind size align =
     first_failed (
-      (a.live, DeadAllocation)
-      ∷ (addr == a.addr, FreeAddress)
-      ∷ (kind_number kind == kind_number a.kind, FreeKind)
-      ∷ (size == length a.bytes, FreeSize)
-      ∷ (align == a.align, FreeAlign)
-      ∷ [])
+    (a.live, DeadAllocation)
+    ∷ (addr == a.addr, FreeAddress)
+    ∷ (kind_number kind == kind_number a.kind, FreeKind)
+    ∷ (size == length a.bytes, FreeSize)
+    ∷ (align == a.align, FreeAlign)
+    ∷ [])
 
 -- the first reason against freeing what a provenance names
 abbrev pub refusal : Option Allocation → ℕ → Kind → ℕ → ℕ → Option Reason
