@@ -9,6 +9,7 @@ pub struct AllocId {
 #[derive(Clone, Copy, Debug, PartialEq, Eq)]
 pub struct Pointer {
     pub addr: u64,
+    /// With `None` it may reach no byte.
     pub prov: Option<AllocId>,
 }
 

@@ -45,6 +45,7 @@ pub enum Reason {
 pub enum Verdict {
     /// The entries are used up, and none of the others holds.
     Running,
+    /// An exit while no heap allocation is live.
     Exit,
     /// An exit while a heap allocation is live.
     Leak,

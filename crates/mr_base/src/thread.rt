@@ -13,6 +13,7 @@ pub enum Status {
 /// blocks count too.
 #[derive(Clone, Copy, Debug, PartialEq, Eq)]
 pub enum Event {
+    /// Nothing.
     Quiet,
     CreateLock(u32),
     Acquire(u32),

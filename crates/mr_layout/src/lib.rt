@@ -1,9 +1,18 @@
 //! The layout of types: sizes, alignments, and which types have a value.
 //!
-//! Public calls: `size`, `align`, `inhabited`, `int_bytes`. Proved: each gives the number or answer that `specs/Sizes.antt` defines by recursion
-//! on the type; `size` is None exactly where the size is 2^63 or more.
+//! Public calls, each proved to give what `specs/Sizes.antt` defines by recursion on the type:
+//!
+//! - [`size`]: how many bytes a type takes, and `None` exactly where those are 2^63 or more.
+//! - [`align`]: the alignment of a type, in bytes.
+//! - [`inhabited`]: whether a type has a value.
+//! - [`int_bytes`]: how many bytes an integer has.
+//!
+//! Tuples, unions and enums carry their size and alignment, and this crate takes them as written.
 #![tactic(auto)]
 
 mod sizes;
 
 pub use sizes::{align, inhabited, int_bytes, size};
+
+#[cfg(test)]
+mod tests;

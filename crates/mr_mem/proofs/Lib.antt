@@ -1,3 +1,4 @@
+pub mod Examples
 pub mod Identities
 pub mod RangeLaws
 pub mod Views

@@ -1,16 +1,16 @@
 -- An allocation adds its range, and freeing keeps all ranges.
-use Rattle.std.proofs.Common.{◌≡◌, ℕ, refl, sym, ap, ◌∙◌, subst, List, [], ◌∷◌, Bool, true, false, cond, map}
+use Rattle.std.proofs.Common.{◌≡◌, ℕ, refl, sym, ap, ◌∙◌, List, [], ◌∷◌, Bool, true, false, cond, map}
 use Rattle.std.specs.Prelude.{Some, None, Option, ◌&&◌, Result, Ok, Err, T}
 use Rattle.std.specs.FinMap as fin
 use Rattle.std.specs.FinMap.Entries.{put, by_order, below_all, is_sorted, find}
-use Rattle.std.specs.Ordering.{is_eq, is_lt, eq_by_cmp}
+use Rattle.std.specs.Ordering.{is_eq, is_lt}
 use Rattle.std.specs.declared.cmp.Ordering.{Ordering}
 use Rattle.std.specs.declared.cmp.Ordering.TheVariants.{Less, Equal, Greater}
 use Rattle.mr_base.specs.declared.byte.AllocId.{AllocId}
 use Rattle.mr_base.specs.declared.byte.Kind.{Kind}
 use Rattle.mr_base.specs.declared.byte.Pointer.{Pointer}
 use Rattle.mr_base.specs.declared.reason.Reason.{Reason}
-use Rattle.mr_mem.specs.Memory.{Memory, Allocation, Range, range_of, ranges_of, with_range, allocated, fresh, id_cmp, freed, freed_of, refusal, without_life, unless}
+use Rattle.mr_mem.specs.Memory.{Memory, Allocation, range_of, ranges_of, with_range, allocated, fresh, id_cmp, freed, freed_of, refusal, without_life, unless}
 use Rattle.mr_mem.proofs.Identities.{id_total}
 use Rattle.mr_mem.proofs.Views.{no_entries}
 

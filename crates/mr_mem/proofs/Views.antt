@@ -1,6 +1,6 @@
 -- The program's map of allocations, seen as a finite map.
-use Rattle.std.proofs.Common.{◌≡◌, ℕ, refl, sym, ap, ◌∙◌, List, [], ◌∷◌, Option, Bool, true, false, cond, length, arith}
-use Rattle.std.specs.Prelude.{Some, None, map}
+use Rattle.std.proofs.Common.{◌≡◌, refl, sym, ap, ◌∙◌, List, [], ◌∷◌, Option, Bool, true, false, cond, length, arith}
+use Rattle.std.specs.Prelude.{Some}
 use Rattle.std.specs.Option.{option_map}
 use Rattle.std.specs.FinMap as fin
 use Rattle.std.specs.FinMap.Entries.{put, by_order}
@@ -9,10 +9,10 @@ use Rattle.std.specs.List.{AllByRecursion}
 use Rattle.std.specs.List.Sorted.{IsStrictlySortedBy}
 use Rattle.std.specs.Cmp.{eq_by_cmp_equiv}
 use Rattle.std.specs.Ordering.{eq_by_cmp}
-use Rattle.std.specs.declared.cmp.Ordering.TheVariants.{Less, Equal, Greater}
+use Rattle.std.specs.declared.cmp.Ordering.TheVariants.{Less}
 use Rattle.mr_base.specs.declared.byte.AllocId.{AllocId}
 use Rattle.mr_mem.specs.declared.memory.Stored.{Stored}
-use Rattle.mr_mem.specs.Memory.{Memory, Allocation, id_cmp}
+use Rattle.mr_mem.specs.Memory.{Allocation, id_cmp}
 use Rattle.mr_mem.specs.Stored.{allocation_of, entries_of, memory_of}
 use Rattle.mr_mem.proofs.Identities.{id_total, id_exact}
 

@@ -1,5 +1,5 @@
 -- What the entries of the program's map stand for.
-use Rattle.std.specs.Prelude.{◌≡◌, List, map, Option}
+use Rattle.std.specs.Prelude.{List, map}
 use Rattle.std.specs.FinMap as fin
 use Rattle.mr_base.specs.declared.byte.AllocId.{AllocId}
 use Rattle.mr_mem.specs.declared.memory.Stored.{Stored}

@@ -69,7 +69,7 @@ impl Memory {
         }
     }
 
-    /// Adds an allocation whose bytes are uninitialised.
+    /// Adds an allocation whose bytes are uninitialised. It fails only where the host's memory runs out.
     pub fn allocate(
         &mut self,
         id: AllocId,
@@ -113,7 +113,8 @@ impl Memory {
         }
     }
 
-    /// Frees the allocation that the pointer begins, and names it.
+    /// Frees the allocation that the pointer begins, and names it. Of several reasons against it the first is given: no
+    /// provenance, a dead allocation, then another address, kind, size or alignment.
     #[tactic(auto, unfolding(crate::specs::Memory::freed))]
     pub fn deallocate(
         &mut self,

@@ -3,7 +3,7 @@ use Rattle.std.specs.FinMap as fin
 use Rattle.mr_base.specs.declared.byte.AbstractByte.{AbstractByte}
 use Rattle.mr_base.specs.declared.byte.AbstractByte.TheVariants.{Uninit}
 use Rattle.mr_mem.specs.declared.memory.Stored.{Stored}
-use Rattle.mr_mem.specs.Memory.{held, Allocation}
+use Rattle.mr_mem.specs.Memory.{held}
 use Rattle.mr_mem.specs.Stored.{allocation_of}
 use Rattle.mr_mem.proofs.Views.{one_changed}
 use Rattle.mr_mem.proofs.memory.Memory.allocate.Goals as goal
