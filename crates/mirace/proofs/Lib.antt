@@ -1,0 +1,4 @@
+pub mod RunLaws
+pub mod InputLaws
+pub mod PrintLaws
+pub mod HeadlineLaws

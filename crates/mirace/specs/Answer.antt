@@ -1,0 +1,76 @@
+-- What a call answers by definition: a text and a status, from the words and what the files hold.
+use Rattle.std.specs.Prelude.{◌≡◌, ℕ, List, Option, None, Some, Result, Ok, Err}
+use Rattle.mr_ast.specs.declared.program.Program.{Program}
+use Rattle.mr_io.specs.Files.{Contents}
+use Rattle.mr_sched.specs.declared.schedule.Schedule.{Schedule}
+use Rattle.mr_sched.specs.Reading.{Fault, schedule_of}
+use Rattle.mr_step.specs.Runs.{Config}
+use Rattle.mr_step.specs.Language.{Own}
+use Rattle.mr_step.specs.Start.{run_of, schedule_fault, PlacedFault}
+use Rattle.mr_thin.specs.Reading.{thin_program}
+use Rattle.mirace.specs.declared.refusal.Refusal.{Refusal}
+use Rattle.mirace.specs.declared.refusal.Refusal.TheVariants as refusal
+use Rattle.mirace.specs.Command.{Command, Run}
+use Rattle.mirace.specs.Report.{report_of, verdict_status, refusal_text, refusal_status, usage_text}
+
+infixl 10 ◌>>=◌
+abbrev pub ◌>>=◌ : {A B : Type 0} → Result A Refusal → (A → Result B Refusal) → Result B Refusal
+(Ok x) >>= f = f x
+(Err r) >>= f = Err r
+
+-- the program that a text denotes
+abbrev pub denoted : Option Program → Result Program Refusal
+denoted None = Err refusal.NotBuilt
+denoted (Some p) = Ok p
+
+-- the program in a file
+abbrev pub program_in : Option (List ℕ) → Result Program Refusal
+program_in None = Err refusal.ReadProgram
+program_in (Some bytes) = denoted (thin_program bytes)
+
+abbrev pub spelled : Result Schedule Fault → Result Schedule Refusal
+spelled (Ok w) = Ok w
+spelled (Err f) = Err (refusal.Schedule f.line f.code None)
+
+-- the schedule in a file
+abbrev pub schedule_in : Option (List ℕ) → Result Schedule Refusal
+schedule_in None = Err refusal.ReadSchedule
+schedule_in (Some bytes) = spelled (schedule_of bytes)
+
+abbrev pub unless_broken : {A : Type 0} → Option PlacedFault → A → Result A Refusal
+unless_broken None x = Ok x
+unless_broken (Some f) x = Err (refusal.Schedule f.line f.fault.code f.fault.earlier)
+
+-- where the run of a program under a schedule ends, or the first rule that the schedule breaks
+abbrev pub legal_run : Program → Schedule → Result (Config Own) Refusal
+legal_run p w = unless_broken (schedule_fault p w) (run_of p w)
+
+-- the run of a program under the schedule in a file
+abbrev pub run_under : Option (List ℕ) → Program → Result (Config Own) Refusal
+run_under file p = schedule_in file >>= legal_run p
+
+-- the run of what two files hold, or what refuses it: first of the program's file, then of the schedule's, then of the run
+abbrev pub run_in : Contents → List ℕ → List ℕ → Result (Config Own) Refusal
+run_in files program schedule = program_in (files program) >>= run_under (files schedule)
+
+pub record Answer : Type 0 where
+  pub text : List ℕ
+  pub status : ℕ
+
+abbrev pub refused : Refusal → Answer
+refused r = record { text = refusal_text r; status = refusal_status r }
+
+abbrev pub reported : Config Own → Answer
+reported c = record { text = report_of c.output c.verdict; status = verdict_status c.verdict }
+
+abbrev pub answer_to : Result (Config Own) Refusal → Answer
+answer_to (Ok c) = reported c
+answer_to (Err r) = refused r
+
+abbrev pub usage : Answer
+usage = record { text = usage_text; status = 2 }
+
+-- THE ANSWER to a command over these files; words of no form are told the usage
+abbrev pub answer_of : Contents → Option Command → Answer
+answer_of files None = usage
+answer_of files (Some (Run program schedule)) = answer_to (run_in files program schedule)

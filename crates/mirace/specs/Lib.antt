@@ -1,0 +1,7 @@
+pub mod Answer
+pub mod Answering
+pub mod Command
+pub mod Headline
+pub mod Outcome
+pub mod Report
+pub mod Running

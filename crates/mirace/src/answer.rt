@@ -1,0 +1,89 @@
+ghost use Rattle.std.specs.Prelude.{◌≡◌, ◌+◌, ◌^◌, ◌≤◌, None, Some, length, IfOk};
+ghost use Rattle.mr_ast.specs.Thin.{IsThin};
+ghost use Rattle.mr_io.specs.Counts.{Rose};
+ghost use Rattle.mr_io.specs.Files.{Contents};
+ghost use Rattle.mirace.specs.Answer.{legal_run, run_under};
+ghost use Rattle.mirace.specs.Answering.{Reports, ReportsOrUnread, IsReported};
+ghost use Rattle.mirace.specs.Outcome.{IsUnreadFault};
+
+use crate::input::{read_program, read_schedule};
+use crate::refusal::Refusal;
+use crate::report::{report, status_of};
+use crate::run::run;
+use mr_ast::Program;
+use mr_io::Files;
+use mr_sched::Schedule;
+use std::alloc::Global;
+
+/// What is written, and the exit status.
+#[derive(Drop)]
+pub struct Written {
+    pub text: Vec<u8>,
+    pub status: u8,
+}
+
+/// The report of the run of the program in a file under the schedule in another.
+pub fn report_files<F: Files>(
+    alloc: Global,
+    files: &mut F,
+    program: &str,
+    schedule: &str,
+) -> Result<Written, Refusal>
+    ensures same { F.told files.new ≡ F.told files.old }
+    ensures reads { F.reads files.new ≤ F.reads files.old + 2 }
+    ensures faults { F.faults files.old ≤ F.faults files.new }
+    ensures answer { (contents : Contents) → F.told files.old ≡ Some contents
+        → IsReported contents program.now schedule.now (Rose (F.faults files.old) (F.faults files.new)) result }
+    ensures status { IfOk result (λ a. a.status ≤ 1) }
+    ensures untold { F.told files.old ≡ None → IsUnreadFault result
+        → Rose (F.faults files.old) (F.faults files.new) }
+{
+    match read_program(alloc, files, program) {
+        Ok(p) => report_schedule(alloc, files, &p, schedule),
+        Err(refusal) => Err(refusal),
+    }
+}
+
+// The report of the run of a program under the schedule in a file.
+fn report_schedule<F: Files>(
+    alloc: Global,
+    files: &mut F,
+    p: &Program,
+    schedule: &str,
+) -> Result<Written, Refusal>
+    requires { IsThin p.now }
+    ensures same { F.told files.new ≡ F.told files.old }
+    ensures reads { F.reads files.new ≤ F.reads files.old + 1 }
+    ensures faults { F.faults files.old ≤ F.faults files.new }
+    ensures answer { (contents : Contents) → F.told files.old ≡ Some contents
+        → ReportsOrUnread (Rose (F.faults files.old) (F.faults files.new))
+        (run_under (contents schedule.now) p.now) result }
+    ensures status { IfOk result (λ a. a.status ≤ 1) }
+    ensures untold { F.told files.old ≡ None → IsUnreadFault result
+        → Rose (F.faults files.old) (F.faults files.new) }
+{
+    match read_schedule(alloc, files, schedule) {
+        Ok(w) => report_run(alloc, p, &w),
+        Err(refusal) => Err(refusal),
+    }
+}
+
+// The report of the run of a program under a schedule.
+fn report_run(alloc: Global, p: &Program, w: &Schedule) -> Result<Written, Refusal>
+    requires thin { IsThin p.now }
+    requires few { length w.now.entries ≤ 2 ^ 20 }
+    ensures answer { Reports (legal_run p.now w.now) result }
+    ensures status { IfOk result (λ a. a.status ≤ 1) }
+    ensures read { ¬ IsUnreadFault result }
+{
+    match run(alloc, p, w) {
+        Ok(machine) => {
+            let text = report(alloc, &machine)?;
+            Ok(Written {
+                text,
+                status: status_of(machine.verdict()),
+            })
+        }
+        Err(refusal) => Err(refusal),
+    }
+}

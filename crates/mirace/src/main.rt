@@ -1,0 +1,117 @@
+//! `mirace run P S`: what the machine comes to that runs the program in file P under the recorded schedule in file S.
+//!
+//! The public call is [`mirace`], over files and a sink. Its promises are clauses of it: what is written and the status are those
+//! of `specs/Answer.antt`, each fault has its cause, and of a program and a legal schedule the report is that of the machine of
+//! MiniRust, none of whose steps is ill-formed (`specs/Headline.antt`). What is run so far are thin programs: one function
+//! without arguments whose steps are `live`, `dead`, `goto`, the print of a constant and `exit`.
+#![tactic(auto)]
+
+ghost use Rattle.std.specs.Prelude.{◌≡◌, ◌+◌, ◌≤◌, ◌⊎◌, None, Some, map, string_bytes};
+ghost use Rattle.mr_ast.specs.declared.program.Program.{Program};
+ghost use Rattle.mr_io.specs.Counts.{Rose};
+ghost use Rattle.mr_io.specs.Files.{Contents};
+ghost use Rattle.mr_sched.specs.declared.schedule.Schedule.{Schedule};
+ghost use Rattle.mirace.specs.Answer.{usage};
+ghost use Rattle.mirace.specs.Command.{Run, command_of, named_files};
+ghost use Rattle.mirace.specs.Headline.{IsOfMachine, IsUnreadBecause, Names};
+ghost use Rattle.mirace.specs.Outcome.{Ends, IsWritten};
+
+mod answer;
+mod command;
+mod input;
+mod refusal;
+mod report;
+mod run;
+mod writing;
+
+use crate::answer::report_files;
+use crate::command::files_of;
+use crate::writing::{finish, refuse};
+use mr_io::{Files, HostFiles, HostOut, Sink};
+use std::alloc::Global;
+use std::env;
+use std::io::{self, ErrorKind};
+use std::process::ExitCode;
+
+const USAGE: &[u8] = b"usage: see the table of commands\n";
+
+/// Does what the words behind the program's name ask for, and answers the exit status: 0 or 1 of a report, 2 of words without a
+/// form, 3 of a text that is no program that is built, 5 of a schedule, 6 of a file that was not read, 7 of a failed write and 8
+/// where memory ran out.
+pub fn mirace<F: Files, O: Sink>(alloc: Global, words: &[String], files: &mut F, out: &mut O) -> u8
+    // What is written and answered, over files that tell what they hold.
+    ensures ends { (contents : Contents) → F.told files.old ≡ Some contents
+        → Ends contents (command_of (map string_bytes words.now)) (Rose (F.faults files.old) (F.faults files.new))
+        (Rose (O.faults out.old) (O.faults out.new)) (O.taken out.old) (O.taken out.new) result }
+
+    // The headline.
+    ensures headline { (contents : Contents) (p : Program) (w : Schedule) → F.told files.old ≡ Some contents
+        → Names contents (command_of (map string_bytes words.now)) p w
+        → IsOfMachine p w (Rose (F.faults files.old) (F.faults files.new))
+        (Rose (O.faults out.old) (O.faults out.new)) (O.taken out.old) (O.taken out.new) result }
+    ensures complete { (contents : Contents) (p : Program) (w : Schedule) → F.told files.old ≡ Some contents
+        → Names contents (command_of (map string_bytes words.now)) p w
+        → ¬ Rose (F.faults files.old) (F.faults files.new) → ¬ Rose (O.faults out.old) (O.faults out.new)
+        → (result ≤ 1) ⊎ (result ≡ 8) }
+
+    // Whatever the files tell.
+    ensures usage { command_of (map string_bytes words.now) ≡ None
+        → IsWritten usage (Rose (O.faults out.old) (O.faults out.new)) (O.taken out.old) (O.taken out.new) result }
+    ensures no_usage { result ≡ 2 → command_of (map string_bytes words.now) ≡ None }
+    ensures read_fault { result ≡ 6 → IsUnreadBecause (Rose (F.faults files.old) (F.faults files.new)) (F.told files.old) (command_of (map string_bytes words.now)) }
+    ensures write_fault { result ≡ 7 → Rose (O.faults out.old) (O.faults out.new) }
+    ensures memory { result ≡ 8 → O.taken out.new ≡ O.taken out.old }
+    ensures same { F.told files.new ≡ F.told files.old }
+    ensures reads { F.reads files.new ≤ F.reads files.old + named_files (command_of (map string_bytes words.now)) }
+{
+    match files_of(words) {
+        None => finish(out, USAGE, 2),
+        Some((program, schedule)) => run_files(alloc, files, out, program, schedule),
+    }
+}
+
+// Runs the program in a file under the schedule in another.
+fn run_files<F: Files, O: Sink>(
+    alloc: Global,
+    files: &mut F,
+    out: &mut O,
+    program: &str,
+    schedule: &str,
+) -> u8
+    ensures ends { (contents : Contents) → F.told files.old ≡ Some contents
+        → Ends contents (Some (Run program.now schedule.now)) (Rose (F.faults files.old) (F.faults files.new))
+        (Rose (O.faults out.old) (O.faults out.new)) (O.taken out.old) (O.taken out.new) result }
+    ensures no_usage { ¬ result ≡ 2 }
+    ensures untold { F.told files.old ≡ None → result ≡ 6 → Rose (F.faults files.old) (F.faults files.new) }
+    ensures write_fault { result ≡ 7 → Rose (O.faults out.old) (O.faults out.new) }
+    ensures memory { result ≡ 8 → O.taken out.new ≡ O.taken out.old }
+    ensures same { F.told files.new ≡ F.told files.old }
+    ensures reads { F.reads files.new ≤ F.reads files.old + 2 }
+{
+    match report_files(alloc, files, program, schedule) {
+        Ok(written) => finish(out, written.text.as_slice(), written.status),
+        Err(refusal) => refuse(alloc, out, refusal),
+    }
+}
+
+fn main(rt: HostRuntime) -> ExitCode {
+    match words(&rt) {
+        Ok(words) => {
+            let mut out = HostOut::new(rt.stdout());
+            let mut files = HostFiles::new(&rt);
+            ExitCode::from(mirace(rt.alloc(), words.as_slice(), &mut files, &mut out))
+        }
+        Err(error) if error.kind() == ErrorKind::OutOfMemory => ExitCode::from(8),
+        Err(_) => ExitCode::from(10),
+    }
+}
+
+// The words behind the program's name.
+fn words(rt: &HostRuntime) -> io::Result<Vec<String>> {
+    let mut words = env::args(rt)?;
+    words.next();
+    Ok(words.collect(rt.alloc())?)
+}
+
+#[cfg(test)]
+mod tests;
