@@ -1,22 +1,18 @@
 -- The headline follows from how a call ends.
-use Rattle.std.proofs.Common.{◌≡◌, ℕ, ◌≤◌, refl, sym, ap, ◌∙◌, subst, arith, List, ◌⊎◌, inl, inr}
-use Rattle.std.specs.Prelude.{Some, None, Option, Result, Ok, Err}
+use Rattle.std.proofs.Common.{◌≡◌, ℕ, ◌≤◌, ap, ◌∙◌, subst, arith, List, ◌⊎◌, inl, inr}
+use Rattle.std.specs.Prelude.{Some, None, Option, Ok}
 use Rattle.mr_ast.specs.declared.program.Program.{Program}
 use Rattle.mr_base.specs.declared.reason.Verdict.{Verdict}
 use Rattle.mr_base.specs.declared.reason.Verdict.TheVariants as verdict
 use Rattle.mr_io.specs.Files.{Contents}
 use Rattle.mr_sched.specs.declared.schedule.Schedule.{Schedule}
 use Rattle.mr_sched.proofs.TextLaws.{schedule_again}
-use Rattle.mr_step.specs.Runs.{Config}
-use Rattle.mr_step.specs.Language.{Own}
 use Rattle.mr_step.specs.Start.{run_of}
 use Rattle.mr_step.proofs.RunLaws.{no_schedule_fault}
 use Rattle.mr_step.proofs.SoundRuns.{sound_run}
 use Rattle.mr_thin.proofs.ProgramLaws.{denotes-thin_program}
-use Rattle.mirace.specs.declared.refusal.Refusal.{Refusal}
-use Rattle.mirace.specs.declared.refusal.Refusal.TheVariants as refusal
 use Rattle.mirace.specs.Command.{Command, Run}
-use Rattle.mirace.specs.Answer.{Answer, program_in, schedule_in, denoted, spelled, legal_run, run_under, run_in, unless_broken, reported, refused, answer_to, answer_of, ◌>>=◌}
+use Rattle.mirace.specs.Answer.{Answer, program_in, schedule_in, denoted, spelled, legal_run, run_under, unless_broken, reported, answer_to, answer_of, ◌>>=◌}
 use Rattle.mirace.specs.Report.{verdict_status}
 use Rattle.mirace.specs.Outcome.{Ends, RanOut, IsLeft, IsPossible, IsUnread, IsWritten}
 use Rattle.mirace.specs.Headline.{Names, IsOfMachine, IsReadFault}

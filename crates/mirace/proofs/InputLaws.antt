@@ -1,5 +1,5 @@
 -- Texts that are too long.
-use Rattle.std.proofs.Common.{◌≡◌, ℕ, ◌<◌, ◌^◌, ap, ◌∙◌, refl, arith, List, length, true, cond}
+use Rattle.std.proofs.Common.{◌≡◌, ℕ, ◌<◌, ◌^◌, ap, ◌∙◌, refl, arith, List, length, true}
 use Rattle.std.proofs.lemmas.Bool.Decides.{nat_tests}
 use Rattle.std.specs.Prelude.{Some, None, Option, Ok, Err, nat_lt, if◌then◌else◌}
 use Rattle.mr_ast.specs.declared.program.Program.{Program}

@@ -1,4 +1,5 @@
-pub mod RunLaws
+pub mod Examples
+pub mod HeadlineLaws
 pub mod InputLaws
 pub mod PrintLaws
-pub mod HeadlineLaws
+pub mod RunLaws

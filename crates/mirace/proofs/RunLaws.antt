@@ -1,7 +1,7 @@
 -- Where entries lead from where a machine stands.
 use Rattle.std.proofs.Common.{◌≡◌, ℕ, ◌+◌, refl, sym, ap, ◌∙◌, subst, List, [], ◌∷◌, false, suc, ◌<◌, ◌≤◌, arith, drop, length}
 use Rattle.std.proofs.Math.Seq.{drop-cons}
-use Rattle.std.specs.Prelude.{get_or, Some, None, Option, Result, Ok, Err}
+use Rattle.std.specs.Prelude.{get_or, Some, None, Option, Ok, Err}
 use Rattle.mr_ast.specs.declared.program.Program.{Program}
 use Rattle.mr_sched.specs.declared.schedule.Entry.{Entry}
 use Rattle.mr_sched.specs.declared.schedule.Schedule.{Schedule}
@@ -12,14 +12,13 @@ use Rattle.mr_step.specs.Legal.{Fault}
 use Rattle.mr_step.specs.Runs.{Config, after}
 use Rattle.mr_step.specs.Language.{Own, Look, step}
 use Rattle.mr_step.specs.Standing.{Standing}
-use Rattle.mr_step.specs.Answers.{StartAnswer, StepAnswer, standing}
+use Rattle.mr_step.specs.Answers.{StartAnswer, StepAnswer}
 use Rattle.mr_step.specs.Start.{PlacedFault, at_line, entries_fault, program_fault, program_step, start_fault, schedule_fault, look_of, start_config, run_of}
 use Rattle.mr_step.proofs.RunLaws.{completed_by_step}
 use Rattle.mirace.specs.declared.refusal.Refusal.{Refusal}
 use Rattle.mirace.specs.declared.refusal.Refusal.TheVariants as refusal
 use Rattle.mirace.specs.Answer.{legal_run, unless_broken}
-use Rattle.mirace.specs.Outcome.{Gives}
-use Rattle.mirace.specs.Running.{placed, legal_after, Stands, Refuses, RunAnswer, EntriesAnswer, EntryAnswer, legal_step}
+use Rattle.mirace.specs.Running.{placed, legal_after, Refuses, RunAnswer, EntriesAnswer, EntryAnswer, legal_step}
 
 -- the answer to an entry, from that of the machine
 pub entry_taken : (e : Entry) (line : ℕ) (old new : Standing) (t : Turn) → StepAnswer e old new (Ok t) → EntryAnswer e line old new (Ok tt)

@@ -1,6 +1,6 @@
 -- The words behind the program's name.
 use Rattle.std.specs.Borrow.{Bor}
-use Rattle.std.specs.Prelude.{ℕ, Bool, List, [], ◌∷◌, Option, None, Some, bytes_eq, codes, if◌then◌else◌}
+use Rattle.std.specs.Prelude.{ℕ, List, [], ◌∷◌, Option, None, Some, bytes_eq, codes, if◌then◌else◌}
 
 -- what is asked for: a run of the program in one file under the schedule in another
 pub data Command : Type 0 where

@@ -4,8 +4,7 @@ use Rattle.mr_base.specs.declared.byte.AllocId.{AllocId}
 use Rattle.mr_base.specs.declared.reason.Verdict.{Verdict}
 use Rattle.mr_base.specs.declared.reason.Verdict.TheVariants as verdict
 use Rattle.mr_base.specs.Reasons.{code_of, name_of}
-use Rattle.mr_step.specs.Runs.{Config, Printed}
-use Rattle.mr_step.specs.Language.{Own}
+use Rattle.mr_step.specs.Runs.{Printed}
 use Rattle.mirace.specs.declared.refusal.Refusal.{Refusal}
 use Rattle.mirace.specs.declared.refusal.Refusal.TheVariants as refusal
 

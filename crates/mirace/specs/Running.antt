@@ -1,5 +1,5 @@
 -- How the run of a program is answered, and the steps of it.
-use Rattle.std.specs.Prelude.{◌≡◌, ℕ, ◌+◌, false, List, Option, None, Some, Result, Ok, Err}
+use Rattle.std.specs.Prelude.{◌≡◌, ℕ, false, List, None, Result, Ok, Err}
 use Rattle.mr_ast.specs.declared.program.Program.{Program}
 use Rattle.mr_sched.specs.declared.schedule.Entry.{Entry}
 use Rattle.mr_sched.specs.declared.schedule.Schedule.{Schedule}
@@ -7,7 +7,6 @@ use Rattle.mr_step.specs.declared.fault.StepFault.{StepFault}
 use Rattle.mr_step.specs.declared.fault.StepFault.TheVariants as answer
 use Rattle.mr_step.specs.Runs.{Config, after}
 use Rattle.mr_step.specs.Language.{Own, Look, step}
-use Rattle.mr_step.specs.Legal.{Fault}
 use Rattle.mr_step.specs.Standing.{Standing}
 use Rattle.mr_step.specs.Start.{at_line, entries_fault, program_fault, program_step}
 use Rattle.mirace.specs.declared.refusal.Refusal.{Refusal}

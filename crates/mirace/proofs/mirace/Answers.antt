@@ -1,7 +1,7 @@
-use Rattle.std.proofs.Common.{◌≡◌, ℕ, List, ap, map, string_bytes, sym, ◌∙◌, subst}
-use Rattle.std.specs.Prelude.{Some, Option}
+use Rattle.std.proofs.Common.{subst}
+use Rattle.std.specs.Prelude.{Option}
 use Rattle.mr_io.specs.Counts.{Rose}
-use Rattle.mirace.specs.Command.{Command, Run, command_of}
+use Rattle.mirace.specs.Command.{Command}
 use Rattle.mirace.specs.Outcome.{Ends}
 use Rattle.mirace.proofs.HeadlineLaws.{of_machine, unless_faults}
 use Rattle.mirace.proofs.mirace.Goals as goal

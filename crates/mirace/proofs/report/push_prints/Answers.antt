@@ -1,4 +1,4 @@
-use Rattle.std.proofs.Common.{◌≡◌, ap, ◌∙◌, sym, ◌++◌, take, subst, ◌<◌, length}
+use Rattle.std.proofs.Common.{ap, ◌∙◌, sym, ◌++◌, take, subst, ◌<◌}
 use Rattle.std.proofs.lemmas.List.{append_assoc}
 use Rattle.std.specs.Prelude.{flat_map}
 use Rattle.mr_step.proofs.Soundness.{within}

@@ -1,4 +1,4 @@
-use Rattle.std.proofs.Common.{◌≡◌, ap, ◌∙◌, arith, length, ℕ}
+use Rattle.std.proofs.Common.{ap, arith, length}
 use Rattle.mirace.proofs.RunLaws.{none_completed, start_stops, run_taken, run_refused}
 use Rattle.mirace.proofs.run.run.Goals as goal
 

@@ -1,0 +1,32 @@
+-- Words, reports and refusals, computed.
+use Rattle.std.proofs.Common.{◌≡◌, [], ◌∷◌, ◌++◌, Some, None, codes, refl}
+use Rattle.std.specs.Fmt.{digits}
+use Rattle.mr_base.specs.declared.reason.Reason.TheVariants.{DataRace}
+use Rattle.mr_base.specs.declared.reason.Verdict.TheVariants as verdict
+use Rattle.mirace.specs.declared.refusal.Refusal.TheVariants.{Schedule}
+use Rattle.mirace.specs.Command.{Run, command_of}
+use Rattle.mirace.specs.Report.{line, report_of, refusal_text}
+
+the_form : command_of (codes "run" ∷ codes "P" ∷ codes "S" ∷ []) ≡ Some (Run (codes "P") (codes "S"))
+the_form = refl
+
+a_word_short : command_of (codes "run" ∷ codes "P" ∷ []) ≡ None
+a_word_short = refl
+
+another_word : command_of (codes "walk" ∷ codes "P" ∷ codes "S" ∷ []) ≡ None
+another_word = refl
+
+one_print : report_of (record { thread = 0; text = codes "42" } ∷ []) verdict.Exit ≡ line (codes "> 42") ++ line (codes "verdict exit") ++ line (codes "races 0")
+one_print = refl
+
+with_reason : report_of [] (verdict.Undefined DataRace) ≡ line (codes "verdict undefined 100 DataRace") ++ line (codes "races 0")
+unfolding digits
+with_reason = refl
+
+with_the_earlier : refusal_text (Schedule 5 64 (Some (record { thread = 0; count = 2 }))) ≡ line (codes "schedule 5 64 Reused 0 2")
+unfolding digits
+with_the_earlier = refl
+
+at_a_line : refusal_text (Schedule 3 51 None) ≡ line (codes "schedule 3 51 BadLine")
+unfolding digits
+at_a_line = refl
