@@ -4,7 +4,6 @@ use Rattle.std.specs.Fmt.{digits}
 use Rattle.std.specs.FinMap as fin
 use Rattle.mr_base.specs.Accesses.{some_race}
 use Rattle.mr_base.specs.declared.access.Access.{Access}
-use Rattle.mr_base.specs.declared.byte.AllocId.{AllocId}
 use Rattle.mr_base.specs.declared.thread.Status.TheVariants.{Enabled}
 use Rattle.mr_mem.specs.Memory.{Ranges, range_fault}
 use Rattle.mr_sched.specs.declared.schedule.Ask.{Ask}

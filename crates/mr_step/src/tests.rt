@@ -207,7 +207,11 @@ fn an_address_is_taken_once(rt: HostRuntime) -> Result<(), Fail> {
             count: 2,
         }),
     };
-    assert_eq!(rt; step(alloc, &mut m, 0, &[8193])?, Err(bad(63)), "misaligned");
+    assert_eq!(rt;
+        step(alloc, &mut m, 0, &[8193])?,
+        Err(bad(63)),
+        "misaligned"
+    );
     assert_eq!(rt; step(alloc, &mut m, 0, &[8192])?, Ok(Turn::Went));
     assert_eq!(rt; step(alloc, &mut m, 0, &[])?, Ok(Turn::Went));
     assert_eq!(rt; step(alloc, &mut m, 0, &[8192])?, Err(reused));
