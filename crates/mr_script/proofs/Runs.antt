@@ -1,6 +1,5 @@
 -- Laws of runs.
-use Rattle.std.proofs.Common.{◌≡◌, ℕ, refl, sym, ap, ◌∙◌, subst}
-use Rattle.mr_base.specs.declared.reason.Reason.{Reason}
+use Rattle.std.proofs.Common.{◌≡◌, refl, sym, ◌∙◌}
 use Rattle.mr_script.specs.Script.{Script, Done, Undefined, IllFormed, Ask, ◌>>=◌, Outcome, Went, Refused, Broken, on, run, Safe}
 
 -- going on twice is going on once

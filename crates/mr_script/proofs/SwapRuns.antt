@@ -1,6 +1,5 @@
 -- The swap law for scripts, over any state, from what each query reads and changes.
-use Rattle.std.proofs.Common.{◌≡◌, ℕ, refl, sym, ap, ◌∙◌, subst, ◌⊎◌, inl, inr}
-use Rattle.mr_base.specs.declared.reason.Reason.{Reason}
+use Rattle.std.proofs.Common.{◌≡◌, refl, sym, ap, ◌∙◌, subst, ◌⊎◌, inl, inr}
 use Rattle.mr_script.specs.Script.{Script, Done, Undefined, IllFormed, Ask, Outcome, Went, Refused, Broken, on, run}
 
 -- where a run went on, it had gone before

@@ -1,5 +1,4 @@
 -- Scripts: what a step asks of a state that it shares, one query after another, and what it does with each answer.
-use Rattle.std.specs.Prelude.{◌≡◌, ℕ}
 use Rattle.mr_base.specs.declared.reason.Reason.{Reason}
 
 -- A script with queries Q, of which q is answered by an R q, and the result A.

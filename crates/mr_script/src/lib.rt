@@ -5,4 +5,5 @@
 //! be ill-formed. Proved, in `proofs/`: the run of one script behind another is the run of the second from where the first went
 //! (`Runs`); a safe script before a safe one is safe; and two scripts, neither of which reads or writes what the other
 //! writes, may be exchanged, with the same answers and the same state in the end (`SwapRuns`).
+//! `Examples` runs scripts over a counter.
 #![tactic(auto)]

@@ -1,5 +1,5 @@
 -- Identities stay counted, and the next one is new.
-use Rattle.std.proofs.Common.{◌≡◌, ◌≢◌, ℕ, ◌+◌, ◌<◌, refl, sym, ap, ◌∙◌, subst, arith, ◌⊎◌, inl, inr, Bool, true, false, cond}
+use Rattle.std.proofs.Common.{◌≡◌, ◌≢◌, ℕ, ◌+◌, ◌<◌, refl, sym, ap, ◌∙◌, subst, arith, ◌⊎◌, inl, inr, false}
 use Rattle.std.proofs.lemmas.Bool.{cases_eq}
 use Rattle.std.specs.Prelude.{Some, None, Option, Result, Ok, Err}
 use Rattle.std.specs.FinMap as fin
@@ -8,8 +8,8 @@ use Rattle.mr_base.specs.declared.byte.Pointer.{Pointer}
 use Rattle.mr_base.specs.declared.byte.Kind.{Kind}
 use Rattle.mr_base.specs.declared.byte.Kind.TheVariants.{Stack}
 use Rattle.mr_base.specs.declared.reason.Reason.{Reason}
-use Rattle.mr_mem.specs.Memory.{id_cmp, Memory, Allocation, Ranges, allocated, fresh, freed, freed_of, refusal, without_life, unless, ranges_of, then_give}
-use Rattle.mr_mem.proofs.Identities.{get_here, get_there}
+use Rattle.mr_mem.specs.Memory.{id_cmp, Memory, Allocation, allocated, fresh, freed, freed_of, refusal, without_life, unless, ranges_of, then_give}
+use Rattle.mr_mem.proofs.Identities.{get_there}
 use Rattle.mr_mem.proofs.RangeLaws.{ranges-freed}
 use Rattle.mr_step.specs.Standing.{AreCounted, own_id, released}
 

@@ -1,10 +1,10 @@
 -- Each frame of a thin function has an action.
-use Rattle.std.proofs.Common.{◌≡◌, ℕ, ◌+◌, ◌<◌, ◌≤◌, ◌^◌, refl, sym, ap, ◌∙◌, subst, arith, List, length, Bool, true, cond, ◌⊎◌, inl, inr}
+use Rattle.std.proofs.Common.{◌≡◌, ℕ, ◌<◌, ◌≤◌, refl, ap, ◌∙◌, subst, arith, List, length, true, cond, inl, inr}
 use Rattle.std.proofs.lemmas.Bool.Decides.{nat_tests}
 use Rattle.std.proofs.lemmas.Option.{slice_get_cases, slice_get_within, get_or_from_slice_get}
 use Rattle.std.proofs.lemmas.List.Elements.{All-get_or}
 use Rattle.std.specs.Prelude.{Some, None, Option, slice_get, All, ◌==◌}
-use Rattle.mr_ast.specs.Thin.{IsThinType, IsThinFunction, IsThinBlock, IsThinStmt, IsThinTerm, IsConstant}
+use Rattle.mr_ast.specs.Thin.{IsThinType, IsThinFunction, IsThinBlock, IsThinStmt, IsThinTerm}
 use Rattle.mr_ast.specs.declared.expr.Place.{Place}
 use Rattle.mr_ast.specs.declared.expr.Value.{Value}
 use Rattle.mr_ast.specs.declared.program.Intrinsic.{Intrinsic}

@@ -1,5 +1,5 @@
 -- What an entry of a machine of one thread is judged by.
-use Rattle.std.proofs.Common.{◌≡◌, ◌≢◌, ℕ, refl, sym, ap, ◌∙◌, subst, List, [], ◌∷◌, Bool, true, false, cond, map, arith}
+use Rattle.std.proofs.Common.{◌≡◌, ◌≢◌, refl, sym, ap, ◌∙◌, [], ◌∷◌, Bool, true, false, cond, map, arith}
 use Rattle.std.specs.Prelude.{Some, None, Option, slice_get, Result, Ok, Err, OnOk, not}
 use Rattle.mr_base.specs.declared.reason.Verdict.{Verdict}
 use Rattle.mr_base.specs.declared.reason.Verdict.TheVariants.{Running}
@@ -17,7 +17,7 @@ use Rattle.mr_step.specs.Legal.{Fault, fault}
 use Rattle.mr_step.specs.Runs.{Config, entry_fault, machine_step, stepped_from, after_bare, fault_in, is_running, has_rule, is_ill_formed}
 use Rattle.mr_step.specs.Language.{Frame, Own, Look, step, in_function}
 use Rattle.mr_step.specs.Start.{main_thread}
-use Rattle.mr_step.specs.Actions.{frame_of, action_script, Fits, ActionFits}
+use Rattle.mr_step.specs.Actions.{frame_of, Fits, ActionFits}
 use Rattle.mr_step.specs.Progress.{progress_config, printed_of, act_fault, IsDue, IsPossible, ActAnswer}
 use Rattle.mr_step.specs.Advance.{AdvanceAnswer, IsSoundFor}
 use Rattle.mr_step.specs.Standing.{config_of, state_if}

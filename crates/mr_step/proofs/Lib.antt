@@ -8,3 +8,4 @@ pub mod ThinLayout
 pub mod RunLaws
 pub mod FrameActions
 pub mod SoundRuns
+pub mod Examples

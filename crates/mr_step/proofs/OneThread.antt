@@ -1,5 +1,5 @@
 -- One step of a machine with one thread: what it asks for, and where it leads.
-use Rattle.std.proofs.Common.{◌≡◌, ◌≢◌, ℕ, zero, suc, ◌+◌, refl, sym, ap, ◌∙◌, subst, List, [], ◌∷◌, ◌++◌, Bool, true, false, cond, arith}
+use Rattle.std.proofs.Common.{◌≡◌, ◌≢◌, ℕ, zero, suc, ◌+◌, refl, sym, ap, ◌∙◌, List, [], ◌∷◌, ◌++◌, Bool, true, false, cond, arith}
 use Rattle.std.proofs.lemmas.Bool.Decides.{nat_tests}
 use Rattle.std.proofs.lemmas.List.{append-nil}
 use Rattle.std.specs.Prelude.{Some, None, Ok, Err, Option, Result, slice_get, slice_set, ◌==◌, map}
@@ -14,15 +14,15 @@ use Rattle.mr_base.specs.declared.reason.Verdict.TheVariants as verdict
 use Rattle.mr_base.specs.declared.thread.Status.TheVariants.{Enabled}
 use Rattle.mr_mem.specs.Memory.{Memory, allocated, freed, leaks, then_give, ranges_of}
 use Rattle.mr_sched.specs.declared.schedule.Entry.{Entry}
-use Rattle.mr_script.specs.Script.{Done, Ask, Went, Refused, run, ◌>>=◌}
+use Rattle.mr_script.specs.Script.{Done, Ask, run, ◌>>=◌}
 use Rattle.mr_step.specs.declared.action.Action.{Action}
 use Rattle.mr_step.specs.declared.action.Action.TheVariants as action
 use Rattle.mr_step.specs.Notes.{Notes, start_notes}
 use Rattle.mr_step.specs.Queries.{Shared, StepScript, OfMemory, answer}
 use Rattle.mr_step.specs.MemoryQueries.{Allocate, pointer_to}
-use Rattle.mr_step.specs.Machine.{State, Flow, Bare, Completed, Stops, bare, settled, needs_of, CreatesNothing}
-use Rattle.mr_step.specs.Legal.{Fault, fault, picks_fault, state_fault, needs_fault}
-use Rattle.mr_step.specs.Runs.{Config, Printed, Last, last_of, after_bare, races_with, machine_step, entry_fault, printed_by}
+use Rattle.mr_step.specs.Machine.{Flow, Completed, bare, settled, needs_of, CreatesNothing}
+use Rattle.mr_step.specs.Legal.{fault, picks_fault, state_fault, needs_fault}
+use Rattle.mr_step.specs.Runs.{Config, Printed, last_of, after_bare, races_with, machine_step, entry_fault, printed_by}
 use Rattle.mr_step.specs.Language.{Frame, Own, Look, step, number_text, free_storage, with_storage}
 use Rattle.mr_step.specs.Start.{main_thread}
 use Rattle.mr_step.specs.Actions.{action_script, action_asks}

@@ -1,5 +1,5 @@
 -- What runs keep, over any language of steps, and what it means that no rule is broken.
-use Rattle.std.proofs.Common.{◌≡◌, ℕ, ◌+◌, ◌≤◌, refl, arith, List, [], ◌∷◌, length}
+use Rattle.std.proofs.Common.{◌≡◌, ℕ, ◌+◌, ◌≤◌, refl, arith, List, [], ◌∷◌}
 use Rattle.std.specs.Prelude.{Some, None, Option}
 use Rattle.mr_sched.specs.declared.schedule.Entry.{Entry}
 use Rattle.mr_sched.specs.declared.schedule.Schedule.{Schedule}
@@ -7,7 +7,7 @@ use Rattle.mr_ast.specs.declared.program.Program.{Program}
 use Rattle.mr_step.specs.Queries.{StepScript}
 use Rattle.mr_step.specs.Machine.{State, Plan, Bare, Completed, Stops, IllFormedStep, bare}
 use Rattle.mr_step.specs.Legal.{Fault}
-use Rattle.mr_step.specs.Runs.{Config, after_bare, stepped_from, machine_step, after, AreLegal}
+use Rattle.mr_step.specs.Runs.{Config, after_bare, stepped_from, machine_step, AreLegal}
 use Rattle.mr_step.specs.Language.{Own, Look, step}
 use Rattle.mr_step.specs.Start.{PlacedFault, at_line, entries_fault, program_fault, program_step, schedule_fault, start_fault, Legal, look_of, start_config}
 

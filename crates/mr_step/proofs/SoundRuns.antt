@@ -1,7 +1,7 @@
 -- A legal run of a thin program never lacks a rule.
-use Rattle.std.proofs.Common.{◌≡◌, ◌≢◌, ℕ, ◌+◌, ◌<◌, refl, sym, ap, ◌∙◌, subst, arith, List, [], ◌∷◌, ◌++◌, length, Bool, true, false, cond, ◌⊎◌, inl, inr}
+use Rattle.std.proofs.Common.{◌≡◌, ℕ, ◌+◌, ◌<◌, refl, sym, ap, ◌∙◌, subst, arith, List, [], ◌∷◌, ◌++◌, length, Bool, true, false, cond, inl, inr}
 use Rattle.std.proofs.lemmas.Bool.{cases_eq}
-use Rattle.std.specs.Prelude.{Some, None, Option, Result, Ok, Err, slice_get, slice_set}
+use Rattle.std.specs.Prelude.{Some, None, Option, Result, Ok, Err}
 use Rattle.mr_base.specs.declared.byte.AllocId.{AllocId}
 use Rattle.mr_base.specs.declared.reason.Reason.{Reason}
 use Rattle.mr_base.specs.declared.reason.Verdict.{Verdict}
@@ -23,14 +23,12 @@ use Rattle.mr_step.specs.MemoryQueries.{pointer_to}
 use Rattle.mr_step.specs.Legal.{Fault, fault, picks_fault, else_fault, address_fault}
 use Rattle.mr_step.specs.Runs.{Config, Printed, machine_step, entry_fault, fault_in, is_running, has_rule, AreLegal, NeverIllFormed, printed_by}
 use Rattle.mr_step.specs.Language.{Frame, Own, Look, step, number_text}
-use Rattle.mr_step.specs.Begin.{begin_fault}
-use Rattle.mr_step.specs.First.{first_frame}
 use Rattle.mr_step.specs.Start.{main_thread, look_of, start_config, start_fault, Legal, IsSoundRun}
 use Rattle.mr_step.specs.Answers.{standing}
 use Rattle.mr_step.specs.Standing.{Standing, config_of, one_thread, own_id, released, after_release}
 use Rattle.mr_step.specs.Actions.{action_script, action_asks, Fits, ActionFits}
 use Rattle.mr_step.proofs.Judged.{due_is, rule_is, running_is}
-use Rattle.mr_step.proofs.FrameActions.{HasAction, has_action}
+use Rattle.mr_step.proofs.FrameActions.{has_action}
 use Rattle.mr_step.proofs.OneThread.{fault_of_main, fault_of_other, step_exit, step_goto, step_print, step_dead, step_live}
 use Rattle.mr_step.proofs.Soundness.{within, fits_jump, fits_advance}
 use Rattle.mr_step.proofs.Starting.{start_fault_is, standing_is, fits_first}

@@ -1,8 +1,7 @@
 -- Refused picks, and where a start leads.
 use Rattle.std.proofs.Common.{◌≡◌, ℕ, ◌+◌, refl, sym, ap, ◌∙◌, subst, List, [], ◌∷◌, ◌++◌, ◌<◌, length, map, replicate, take, drop, arith}
-use Rattle.std.specs.Prelude.{Some, None, Option, Result, Ok, Err, slice_get, slice_set, false}
+use Rattle.std.specs.Prelude.{Some, None, Err, slice_get, false}
 use Rattle.std.specs.FinMap as fin
-use Rattle.mr_base.specs.declared.byte.AllocId.{AllocId}
 use Rattle.mr_base.specs.declared.byte.Pointer.{Pointer}
 use Rattle.mr_base.specs.declared.byte.Kind.TheVariants as kind
 use Rattle.mr_base.specs.declared.reason.Verdict.TheVariants.{Running}
@@ -12,7 +11,7 @@ use Rattle.mr_ast.specs.declared.program.Global_.{Global_}
 use Rattle.mr_ast.specs.declared.program.Function.{Function}
 use Rattle.mr_ast.specs.declared.program.Program.{Program}
 use Rattle.mr_layout.specs.Sizes.{size_of, align_of}
-use Rattle.mr_mem.specs.Memory.{Memory, Ranges, allocated, with_range, range_fault, ranges_of}
+use Rattle.mr_mem.specs.Memory.{Memory, allocated, with_range, range_fault, ranges_of}
 use Rattle.mr_mem.proofs.RangeLaws.{ranges-empty, ranges-allocated}
 use Rattle.mr_sched.specs.declared.schedule.Ask.{Ask}
 use Rattle.mr_sched.specs.declared.schedule.Ask.TheVariants.{Address}
@@ -22,7 +21,7 @@ use Rattle.mr_step.specs.declared.fault.StepFault.{StepFault}
 use Rattle.mr_step.specs.declared.fault.StepFault.TheVariants as answer
 use Rattle.mr_step.specs.declared.progress.Progress.{Progress}
 use Rattle.mr_step.specs.MemoryQueries.{pointer_to}
-use Rattle.mr_step.specs.Legal.{Fault, picks_fault, address_fault, else_fault}
+use Rattle.mr_step.specs.Legal.{picks_fault, address_fault, else_fault}
 use Rattle.mr_step.specs.Picks.{Tells, fault_over}
 use Rattle.mr_step.specs.Begin.{BeginAnswer, IsBegun, begin_fault, begun_memory}
 use Rattle.mr_step.specs.Progress.{ActAnswer, IsSound, act_fault, progress_config, printed_of}

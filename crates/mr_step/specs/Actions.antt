@@ -1,12 +1,11 @@
 -- What the next step of a frame is, once it is looked up in the program.
-use Rattle.std.specs.Prelude.{◌≡◌, ℕ, ◌+◌, ◌^◌, ◌<◌, ◌≤◌, List, [], ◌∷◌, length, Option, None, Some, slice_get}
+use Rattle.std.specs.Prelude.{◌≡◌, ◌+◌, ◌^◌, ◌<◌, ◌≤◌, List, [], ◌∷◌, length, Some, slice_get}
 use Rattle.mr_ast.specs.declared.program.Block.{Block}
 use Rattle.mr_ast.specs.declared.program.Function.{Function}
-use Rattle.mr_ast.specs.declared.program.Program.{Program}
 use Rattle.mr_sched.specs.declared.schedule.Ask.{Ask as Need}
 use Rattle.mr_sched.specs.declared.schedule.Ask.TheVariants.{Address}
 use Rattle.mr_mem.specs.Memory.{IsPowerOfTwo}
-use Rattle.mr_script.specs.Script.{Done, Ask, ◌>>=◌}
+use Rattle.mr_script.specs.Script.{Done, Ask}
 use Rattle.mr_step.specs.declared.action.Action.{Action}
 use Rattle.mr_step.specs.declared.action.Action.TheVariants as action
 use Rattle.mr_step.specs.declared.action.Frame.{Frame as Kept}

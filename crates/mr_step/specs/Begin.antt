@@ -1,7 +1,6 @@
 -- How the picks of a start with one function and one local are answered.
 use Rattle.std.specs.Prelude.{◌≡◌, ℕ, List, [], ◌∷◌, Option, None, Some, Result, Ok, Err, slice_get}
 use Rattle.std.specs.FinMap as fin
-use Rattle.mr_base.specs.declared.byte.AllocId.{AllocId}
 use Rattle.mr_base.specs.declared.byte.Kind.TheVariants as kind
 use Rattle.mr_base.specs.declared.thread.Status.TheVariants.{Enabled}
 use Rattle.mr_ast.specs.declared.program.Local.{Local}

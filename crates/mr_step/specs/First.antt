@@ -1,9 +1,8 @@
 -- Where the machine of one thread stands before the first entry.
-use Rattle.std.specs.Prelude.{◌≡◌, ℕ, List, [], ◌∷◌, length, replicate, slice_set, slice_get, Option, None, Some, Result, Ok, Err}
+use Rattle.std.specs.Prelude.{◌≡◌, [], length, replicate, slice_set, None, Some}
 use Rattle.mr_base.specs.declared.byte.Pointer.{Pointer}
 use Rattle.mr_base.specs.declared.reason.Verdict.TheVariants.{Running}
 use Rattle.mr_ast.specs.declared.program.Function.{Function}
-use Rattle.mr_mem.specs.Memory.{Memory}
 use Rattle.mr_step.specs.declared.begin.Begun.{Begun}
 use Rattle.mr_step.specs.declared.progress.Progress.{Progress}
 use Rattle.mr_step.specs.Actions.{frame_of}

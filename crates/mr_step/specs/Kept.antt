@@ -1,5 +1,5 @@
 -- How the machine of one thread keeps where it stands, and what stays true of it.
-use Rattle.std.specs.Prelude.{◌≡◌, ℕ, false, List, []}
+use Rattle.std.specs.Prelude.{◌≡◌, false, []}
 use Rattle.mr_ast.specs.Thin.{IsThin}
 use Rattle.mr_step.specs.declared.machine.Machine.TheInside.{Inside}
 use Rattle.mr_step.specs.Advance.{IsSoundFor}

@@ -1,6 +1,6 @@
 -- The language: what the next statement or terminator of a thread does, as a script. Those that are not built yet have no rule here.
 -- (MiniRust, lang: statements and terminators.)
-use Rattle.std.specs.Prelude.{◌≡◌, ℕ, ◌+◌, Bool, true, false, ◌==◌, List, [], ◌∷◌, length, slice_set, Option, None, Some, slice_get, if◌then◌else◌, decimal}
+use Rattle.std.specs.Prelude.{ℕ, ◌+◌, ◌==◌, List, [], ◌∷◌, length, slice_set, Option, None, Some, slice_get, if◌then◌else◌, decimal}
 use Rattle.mr_base.specs.declared.byte.Pointer.{Pointer}
 use Rattle.mr_base.specs.declared.byte.Kind.TheVariants.{Stack}
 use Rattle.mr_ast.specs.declared.types.Num.{Num}
@@ -19,9 +19,9 @@ use Rattle.mr_ast.specs.declared.program.Function.{Function}
 use Rattle.mr_ast.specs.declared.program.Program.{Program}
 use Rattle.mr_layout.specs.Sizes.{size_of, align_of}
 use Rattle.mr_sched.specs.declared.schedule.Ask.TheVariants.{Address}
-use Rattle.mr_script.specs.Script.{Script, Done, Undefined, IllFormed, Ask, ◌>>=◌}
+use Rattle.mr_script.specs.Script.{Done, IllFormed, Ask, ◌>>=◌}
 use Rattle.mr_step.specs.MemoryQueries.{Allocate, Free}
-use Rattle.mr_step.specs.Queries.{Query, Reply, OfMemory, Print, StepScript}
+use Rattle.mr_step.specs.Queries.{OfMemory, Print, StepScript}
 use Rattle.mr_step.specs.Machine.{Flow, Goes, Exits, Plan, CreatesNothing}
 
 -- A function at work: its number, the storage of each local, and the block and the position at which it goes on.

@@ -1,6 +1,5 @@
 -- Bare steps over any language of steps: plans, states, and what one step of a thread comes to. (MiniRust, lang: the machine.)
-use Rattle.std.specs.Prelude.{◌≡◌, ℕ, ◌+◌, Bool, true, false, List, [], ◌∷◌, ◌++◌, slice_set, Option, None, Some, slice_get, if◌then◌else◌}
-use Rattle.mr_base.specs.declared.reason.Reason.{Reason}
+use Rattle.std.specs.Prelude.{ℕ, List, [], ◌∷◌, ◌++◌, slice_set, Option, None, Some, slice_get, if◌then◌else◌}
 use Rattle.mr_base.specs.declared.reason.Verdict.{Verdict}
 use Rattle.mr_base.specs.declared.reason.Verdict.TheVariants as verdict
 use Rattle.mr_mem.specs.Memory.{leaks}

@@ -1,6 +1,5 @@
 -- What the threads share, and what a step may ask of it. (MiniRust, lang: threads and locks.)
-use Rattle.std.specs.Prelude.{◌≡◌, ℕ, suc, ◌+◌, Bool, true, false, List, [], ◌∷◌, ◌++◌, map, length, slice_set, Option, None, Some, slice_get, if◌then◌else◌, ◌==◌}
-use Rattle.mr_base.specs.declared.reason.Reason.{Reason}
+use Rattle.std.specs.Prelude.{ℕ, suc, Bool, true, false, List, [], ◌∷◌, ◌++◌, map, length, slice_set, Option, None, Some, slice_get, if◌then◌else◌, ◌==◌}
 use Rattle.mr_base.specs.declared.reason.Reason.TheVariants.{UnknownThread, UnknownLock, NotHolder}
 use Rattle.mr_base.specs.declared.thread.Status.{Status}
 use Rattle.mr_base.specs.declared.thread.Status.TheVariants.{Enabled, OnJoin, OnLock, Ended}

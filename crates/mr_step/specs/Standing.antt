@@ -1,5 +1,5 @@
 -- What contracts see of a machine, and how the machine of one thread keeps it.
-use Rattle.std.specs.Prelude.{◌≡◌, ℕ, ◌+◌, ◌<◌, ◌≤◌, Bool, true, false, ◌==◌, List, [], ◌∷◌, map, Option, None, Some, Result, Ok, Err, slice_get, slice_set, if◌then◌else◌}
+use Rattle.std.specs.Prelude.{◌≡◌, ℕ, ◌<◌, Bool, ◌==◌, List, [], ◌∷◌, Option, None, Some, Result, Ok, Err, if◌then◌else◌}
 use Rattle.std.specs.Borrow.{Bor}
 use Rattle.std.specs.FinMap as fin
 use Rattle.mr_base.specs.declared.byte.AllocId.{AllocId}
@@ -7,11 +7,8 @@ use Rattle.mr_base.specs.declared.byte.Pointer.{Pointer}
 use Rattle.mr_base.specs.declared.byte.Kind.TheVariants.{Stack}
 use Rattle.mr_base.specs.declared.reason.Reason.{Reason}
 use Rattle.mr_base.specs.declared.reason.Verdict.{Verdict}
-use Rattle.mr_base.specs.declared.reason.Verdict.TheVariants as verdict
 use Rattle.mr_base.specs.declared.thread.Status.TheVariants.{Enabled}
-use Rattle.mr_ast.specs.Thin.{IsThin}
-use Rattle.mr_ast.specs.declared.program.Program.{Program}
-use Rattle.mr_mem.specs.Memory.{Memory, Allocation, allocated, freed, then_give}
+use Rattle.mr_mem.specs.Memory.{Memory, Allocation, freed, then_give}
 use Rattle.mr_step.specs.Machine.{State, thread_of}
 use Rattle.mr_step.specs.Runs.{Config, Printed, Last, is_running, printed_by}
 use Rattle.mr_step.specs.Language.{Frame, Own, Look}

@@ -1,5 +1,5 @@
 -- What new storage of a local comes to.
-use Rattle.std.specs.Prelude.{◌≡◌, ℕ, Option, None, Some, Result, Ok, Err}
+use Rattle.std.specs.Prelude.{◌≡◌, ℕ, Option, Result, Ok, Err}
 use Rattle.mr_base.specs.declared.byte.AllocId.{AllocId}
 use Rattle.mr_base.specs.declared.byte.Pointer.{Pointer}
 use Rattle.mr_base.specs.declared.byte.Kind.TheVariants.{Stack}

@@ -22,6 +22,8 @@ mod machine;
 mod picks;
 mod progress;
 mod storage;
+#[cfg(test)]
+mod tests;
 
 pub use fault::{StepFault, Turn};
 pub use laws::{legal_schedules, never_ill_formed, one_at_most};

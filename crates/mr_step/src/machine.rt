@@ -95,6 +95,14 @@ impl<'p> Machine<'p> {
         self.progress.verdict
     }
 
+    // How many steps were completed.
+    #[cfg(test)]
+    pub(crate) fn completed(&self) -> u64
+        ensures { result ≡ self.now.config.completed }
+    {
+        self.progress.completed
+    }
+
     /// How many prints there are.
     pub fn lines(&self) -> usize
         ensures { result ≡ length self.now.config.output }

@@ -1,9 +1,8 @@
-use Rattle.std.proofs.Common.{◌≡◌, refl, sym, ap, ◌∙◌, subst, [], ◌∷◌}
-use Rattle.mr_base.specs.declared.reason.Verdict.TheVariants.{Running}
+use Rattle.std.proofs.Common.{◌≡◌, refl, sym, ◌∙◌, subst, [], ◌∷◌}
 use Rattle.mr_step.specs.Language.{Look}
-use Rattle.mr_step.specs.Actions.{frame_of, Fits}
+use Rattle.mr_step.specs.Actions.{frame_of}
 use Rattle.mr_step.specs.Start.{main_thread}
-use Rattle.mr_step.specs.Progress.{IsDue, IsSound, ActAnswer}
+use Rattle.mr_step.specs.Progress.{IsSound, ActAnswer}
 use Rattle.std.proofs.lemmas.Result.{on_ok_weaker}
 use Rattle.mr_ast.specs.declared.program.Function.{Function}
 use Rattle.mr_step.proofs.Judged.{due_is, fault_stopped, fault_other, running_is, possible_is, answer_of}

@@ -1,6 +1,5 @@
-use Rattle.std.proofs.Common.{◌≡◌, sym, ap, ◌∙◌, subst, List, [], ◌∷◌}
+use Rattle.std.proofs.Common.{sym, ap, ◌∙◌, subst, List, [], ◌∷◌}
 use Rattle.std.specs.FinMap as fin
-use Rattle.mr_base.specs.declared.byte.AllocId.{AllocId}
 use Rattle.mr_base.specs.declared.byte.Kind.TheVariants.{Function, Stack}
 use Rattle.mr_mem.specs.Memory.{Memory, pick_fault, allocated}
 use Rattle.mr_sched.specs.declared.schedule.Ask.{Ask}

@@ -1,15 +1,13 @@
-use Rattle.std.proofs.Common.{◌≡◌, ap, ◌∙◌, sym, subst, arith, ◌+◌, map}
+use Rattle.std.proofs.Common.{ap, ◌∙◌, sym, subst, arith, ◌+◌, map}
 use Rattle.mr_base.specs.declared.reason.Verdict.TheVariants.{Running, Undefined}
 use Rattle.mr_step.specs.Runs.{Config, machine_step}
 use Rattle.mr_step.specs.Language.{Own, step}
 use Rattle.mr_step.specs.Actions.{frame_of, Fits}
 use Rattle.mr_step.specs.Progress.{printed_of}
 use Rattle.mr_step.specs.Standing.{config_of, after_release}
-use Rattle.std.specs.Prelude.{slice_set, None, Some}
-use Rattle.mr_base.specs.declared.byte.Kind.TheVariants.{Stack}
-use Rattle.mr_base.specs.declared.byte.Pointer.{Pointer}
+use Rattle.std.specs.Prelude.{slice_set, None}
 use Rattle.mr_base.specs.declared.reason.Reason.{Reason}
-use Rattle.mr_mem.specs.Memory.{Memory, allocated}
+use Rattle.mr_mem.specs.Memory.{Memory}
 use Rattle.mr_step.proofs.Counted.{released_leaves}
 use Rattle.mr_step.proofs.OneThread.{step_dead}
 use Rattle.mr_step.proofs.Soundness.{fits_advance}

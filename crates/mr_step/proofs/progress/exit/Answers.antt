@@ -1,5 +1,4 @@
-use Rattle.std.proofs.Common.{ap, ◌∙◌, sym, subst, arith, ◌+◌, map}
-use Rattle.mr_base.specs.declared.reason.Verdict.TheVariants.{Running}
+use Rattle.std.proofs.Common.{ap, ◌∙◌, sym, map}
 use Rattle.mr_step.specs.Runs.{machine_step}
 use Rattle.mr_step.specs.Language.{step}
 use Rattle.mr_step.specs.Actions.{frame_of}

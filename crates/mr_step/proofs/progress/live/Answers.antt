@@ -1,11 +1,11 @@
-use Rattle.std.proofs.Common.{◌≡◌, ap, ◌∙◌, sym, subst, arith, ◌+◌, map}
+use Rattle.std.proofs.Common.{ap, ◌∙◌, sym, subst, arith, ◌+◌, map}
 use Rattle.mr_base.specs.declared.reason.Verdict.TheVariants.{Running, Undefined}
 use Rattle.mr_step.specs.Runs.{Config, machine_step}
 use Rattle.mr_step.specs.Language.{Own, step}
 use Rattle.mr_step.specs.Actions.{frame_of, Fits}
 use Rattle.mr_step.specs.Progress.{printed_of}
 use Rattle.mr_step.specs.Standing.{config_of, after_release, own_id, AreCounted}
-use Rattle.std.specs.Prelude.{slice_set, None, Some}
+use Rattle.std.specs.Prelude.{slice_set, Some}
 use Rattle.mr_base.specs.declared.byte.Kind.TheVariants.{Stack}
 use Rattle.mr_base.specs.declared.byte.Pointer.{Pointer}
 use Rattle.mr_base.specs.declared.reason.Reason.{Reason}

@@ -1,11 +1,10 @@
-use Rattle.std.proofs.Common.{◌≡◌, ap, ◌∙◌, sym, subst, arith, ◌+◌, map, ◌++◌, List, [], ◌∷◌, ℕ}
+use Rattle.std.proofs.Common.{◌≡◌, ap, ◌∙◌, sym, subst, arith, ◌+◌, map, ◌++◌, [], ◌∷◌}
 use Rattle.mr_base.specs.declared.reason.Verdict.TheVariants.{Running}
-use Rattle.mr_step.specs.Runs.{machine_step, Printed, printed_by}
+use Rattle.mr_step.specs.Runs.{machine_step, printed_by}
 use Rattle.mr_step.specs.Language.{step, number_text}
 use Rattle.mr_step.specs.Actions.{frame_of, Fits}
 use Rattle.mr_step.specs.Progress.{printed_of}
 use Rattle.mr_step.specs.Standing.{config_of}
-use Rattle.mr_step.specs.declared.progress.Line.{Line}
 use Rattle.std.proofs.lemmas.List.{map-append}
 use Rattle.mr_step.proofs.OneThread.{step_print}
 use Rattle.mr_step.proofs.Soundness.{fits_jump}

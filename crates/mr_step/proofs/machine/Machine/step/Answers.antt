@@ -1,4 +1,4 @@
-use Rattle.std.proofs.Common.{◌≡◌, refl, sym, subst}
+use Rattle.std.proofs.Common.{refl, sym, subst}
 use Rattle.mr_step.specs.declared.progress.Progress.{Progress}
 use Rattle.mr_step.specs.Kept.{standing_of}
 use Rattle.mr_step.specs.Advance.{IsSoundFor}
