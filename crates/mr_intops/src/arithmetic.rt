@@ -78,12 +78,20 @@ fn sum(t: IntType, a: u128, b: u128) -> (u128, bool)
     requires right { b < 2 ^ bits_of t }
     ensures { result ≡ with_overflow t (value_of t a +ℤ value_of t b) }
 {
-    let fits = if is_signed(t) {
+    let bits = truncated(t, a.wrapping_add(b));
+    (bits, !sum_fits(t, a, b))
+}
+
+fn sum_fits(t: IntType, a: u128, b: u128) -> bool
+    requires left { a < 2 ^ bits_of t }
+    requires right { b < 2 ^ bits_of t }
+    ensures { result ≡ fits t (value_of t a +ℤ value_of t b) }
+{
+    if is_signed(t) {
         signed_fits(t, signed_number(t, a).checked_add(signed_number(t, b)))
     } else {
         unsigned_fits(t, a.checked_add(b))
-    };
-    (truncated(t, a.wrapping_add(b)), !fits)
+    }
 }
 
 fn difference(t: IntType, a: u128, b: u128) -> (u128, bool)
@@ -91,12 +99,20 @@ fn difference(t: IntType, a: u128, b: u128) -> (u128, bool)
     requires right { b < 2 ^ bits_of t }
     ensures { result ≡ with_overflow t (value_of t a -ℤ value_of t b) }
 {
-    let fits = if is_signed(t) {
+    let bits = truncated(t, a.wrapping_sub(b));
+    (bits, !difference_fits(t, a, b))
+}
+
+fn difference_fits(t: IntType, a: u128, b: u128) -> bool
+    requires left { a < 2 ^ bits_of t }
+    requires right { b < 2 ^ bits_of t }
+    ensures { result ≡ fits t (value_of t a -ℤ value_of t b) }
+{
+    if is_signed(t) {
         signed_fits(t, signed_number(t, a).checked_sub(signed_number(t, b)))
     } else {
         unsigned_fits(t, a.checked_sub(b))
-    };
-    (truncated(t, a.wrapping_sub(b)), !fits)
+    }
 }
 
 fn product(t: IntType, a: u128, b: u128) -> (u128, bool)
@@ -104,12 +120,20 @@ fn product(t: IntType, a: u128, b: u128) -> (u128, bool)
     requires right { b < 2 ^ bits_of t }
     ensures { result ≡ with_overflow t (value_of t a *ℤ value_of t b) }
 {
-    let fits = if is_signed(t) {
+    let bits = truncated(t, a.wrapping_mul(b));
+    (bits, !product_fits(t, a, b))
+}
+
+fn product_fits(t: IntType, a: u128, b: u128) -> bool
+    requires left { a < 2 ^ bits_of t }
+    requires right { b < 2 ^ bits_of t }
+    ensures { result ≡ fits t (value_of t a *ℤ value_of t b) }
+{
+    if is_signed(t) {
         signed_fits(t, signed_number(t, a).checked_mul(signed_number(t, b)))
     } else {
         unsigned_fits(t, a.checked_mul(b))
-    };
-    (truncated(t, a.wrapping_mul(b)), !fits)
+    }
 }
 
 // Whether an exact result that an `i128` holds is a number of the signed type.
@@ -140,11 +164,20 @@ fn quotient(t: IntType, a: u128, b: u128) -> Result<u128, Reason>
     ensures { result ≡ unless_undivided t (value_of t a) (value_of t b) (bits_for t (int_div (value_of t a) (value_of t b))) }
 {
     check_division(t, a, b)?;
+    Ok(quotient_bits(t, a, b))
+}
+
+fn quotient_bits(t: IntType, a: u128, b: u128) -> u128
+    requires left { a < 2 ^ bits_of t }
+    requires right { b < 2 ^ bits_of t }
+    requires nonzero { 0 < b }
+    ensures { result ≡ bits_for t (int_div (value_of t a) (value_of t b)) }
+{
     if is_signed(t) {
         let quotient = signed_number(t, a).wrapping_div(signed_number(t, b));
-        Ok(bits_of_number(t, quotient))
+        bits_of_number(t, quotient)
     } else {
-        Ok(a / b)
+        a / b
     }
 }
 
@@ -154,11 +187,20 @@ fn remainder(t: IntType, a: u128, b: u128) -> Result<u128, Reason>
     ensures { result ≡ unless_undivided t (value_of t a) (value_of t b) (bits_for t (int_rem (value_of t a) (value_of t b))) }
 {
     check_division(t, a, b)?;
+    Ok(remainder_bits(t, a, b))
+}
+
+fn remainder_bits(t: IntType, a: u128, b: u128) -> u128
+    requires left { a < 2 ^ bits_of t }
+    requires right { b < 2 ^ bits_of t }
+    requires nonzero { 0 < b }
+    ensures { result ≡ bits_for t (int_rem (value_of t a) (value_of t b)) }
+{
     if is_signed(t) {
         let remainder = signed_number(t, a).wrapping_rem(signed_number(t, b));
-        Ok(bits_of_number(t, remainder))
+        bits_of_number(t, remainder)
     } else {
-        Ok(a % b)
+        a % b
     }
 }
 

@@ -1,0 +1,4 @@
+pub mod Division
+pub mod NumberLaws
+pub mod Residues
+pub mod Widths
