@@ -29,5 +29,5 @@ congruent_product m x y a b p q =
     record {
       below = p.below * up y + p.above * down y + a * q.below;
       above = p.above * up y + p.below * down y + a * q.above;
-      same = omega (arith, product_is x y)
+      same = omega (arith, product_is x y);
     }

@@ -4,10 +4,9 @@ ghost use Rattle.mr_ast.specs.Thin.{bits_of, is_signed as is_signed_lem};
 ghost use Rattle.mr_intops.specs.Numbers.{value_of, bits_for, fits};
 ghost use Rattle.mr_intops.specs.Arith.{arith_of, overflowing_of, HasOverflowing, with_overflow, unless_undivided};
 
+use crate::bits::{all_ones, bits_of_number, greatest, is_signed, least, signed_number, truncated};
 use mr_ast::IntType;
 use mr_base::Reason;
-
-use crate::bits::{all_ones, bits_of_number, greatest, is_signed, least, signed_number, truncated};
 
 /// The arithmetic operators. The unchecked ones are undefined where the exact result isn't a number of the type.
 #[derive(Clone, Copy, Debug, PartialEq, Eq)]
@@ -70,7 +69,11 @@ fn unless_overflow(outcome: (u128, bool)) -> Result<u128, Reason>
     ensures { result ≡ (if outcome.1 then Err Reason.Overflow else Ok outcome.0) }
 {
     let (bits, overflow) = outcome;
-    if overflow { Err(Reason::Overflow) } else { Ok(bits) }
+    if overflow {
+        Err(Reason::Overflow)
+    } else {
+        Ok(bits)
+    }
 }
 
 fn sum(t: IntType, a: u128, b: u128) -> (u128, bool)

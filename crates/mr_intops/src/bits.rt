@@ -21,7 +21,10 @@ pub(crate) fn width(t: IntType) -> u32
 pub(crate) fn is_signed(t: IntType) -> bool
     ensures { result ≡ is_signed_lem t }
 {
-    matches!(t, IntType::I8 | IntType::I16 | IntType::I32 | IntType::I64 | IntType::I128)
+    matches!(
+        t,
+        IntType::I8 | IntType::I16 | IntType::I32 | IntType::I64 | IntType::I128
+    )
 }
 
 /// A one at each place of the width.

@@ -2,9 +2,8 @@ ghost use Rattle.std.specs.Prelude.{◌≡◌, ◌^◌, ◌<◌};
 ghost use Rattle.mr_ast.specs.Thin.{bits_of};
 ghost use Rattle.mr_intops.specs.Cast.{cast_of, negate_of, invert_of};
 
-use mr_ast::IntType;
-
 use crate::bits::{bits_of_number, is_signed, signed_number, truncated};
+use mr_ast::IntType;
 
 /// The bits of the same number in the type `to`, modulo 2 to its width.
 pub fn cast(from: IntType, to: IntType, a: u128) -> u128

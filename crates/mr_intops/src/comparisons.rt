@@ -4,10 +4,9 @@ ghost use Rattle.mr_ast.specs.Thin.{bits_of};
 ghost use Rattle.mr_intops.specs.Numbers.{value_of};
 ghost use Rattle.mr_intops.specs.Compare.{compare_of};
 
+use crate::bits::{is_signed, signed_number};
 use mr_ast::IntType;
 use std::cmp::Ordering;
-
-use crate::bits::{is_signed, signed_number};
 
 /// The comparisons.
 #[derive(Clone, Copy, Debug, PartialEq, Eq)]

@@ -11,6 +11,8 @@ mod bits;
 mod casts;
 mod comparisons;
 mod shifts;
+#[cfg(test)]
+mod tests;
 
 pub use arithmetic::{ArithOp, arith, overflowing};
 pub use casts::{cast, invert, negate};

@@ -2,10 +2,9 @@ ghost use Rattle.std.specs.Prelude.{◌≡◌, ◌^◌, ◌<◌};
 ghost use Rattle.mr_ast.specs.Thin.{bits_of};
 ghost use Rattle.mr_intops.specs.Shift.{amount_of, is_amount as is_amount_lem, shifted_left, shifted_right, shift_of};
 
+use crate::bits::{bits_of_number, is_signed, signed_number, truncated, width};
 use mr_ast::IntType;
 use mr_base::Reason;
-
-use crate::bits::{bits_of_number, is_signed, signed_number, truncated, width};
 
 /// The shifts. The unchecked ones are undefined where the amount isn't from 0 to the width less one; for the others it counts
 /// modulo the width.
