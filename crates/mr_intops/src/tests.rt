@@ -369,7 +369,7 @@ fn expect_unary(rt: &impl Abort, t: IntType, a: u128, negated: u128, inverted: u
 
 #[test]
 fn wrapping(rt: HostRuntime) {
-    for (op, t, a, b, want) in WRAPPING {
+    for &(op, t, a, b, want) in &WRAPPING {
         let (bits, overflow) = want;
         let exact = if overflow {
             Err(Reason::Overflow)
@@ -384,7 +384,7 @@ fn wrapping(rt: HostRuntime) {
 
 #[test]
 fn divisions(rt: HostRuntime) {
-    for (t, a, b, quotient, remainder) in DIVISIONS {
+    for &(t, a, b, quotient, remainder) in &DIVISIONS {
         expect_arith(&rt, ArithOp::Div, t, a, b, quotient);
         expect_arith(&rt, ArithOp::Rem, t, a, b, remainder);
     }
@@ -392,7 +392,7 @@ fn divisions(rt: HostRuntime) {
 
 #[test]
 fn bit_by_bit(rt: HostRuntime) {
-    for (t, a, b, and, or, xor) in BIT_BY_BIT {
+    for &(t, a, b, and, or, xor) in &BIT_BY_BIT {
         expect_arith(&rt, ArithOp::And, t, a, b, Ok(and));
         expect_arith(&rt, ArithOp::Or, t, a, b, Ok(or));
         expect_arith(&rt, ArithOp::Xor, t, a, b, Ok(xor));
@@ -401,7 +401,7 @@ fn bit_by_bit(rt: HostRuntime) {
 
 #[test]
 fn shifts(rt: HostRuntime) {
-    for (t, a, by, b, left, right, defined) in SHIFTS {
+    for &(t, a, by, b, left, right, defined) in &SHIFTS {
         expect_shift(&rt, ShiftOp::Shl, t, a, by, b, Ok(left));
         expect_shift(&rt, ShiftOp::Shr, t, a, by, b, Ok(right));
         let (left, right) = if defined {
@@ -416,7 +416,7 @@ fn shifts(rt: HostRuntime) {
 
 #[test]
 fn comparisons(rt: HostRuntime) {
-    for (t, a, b, order) in ORDERS {
+    for &(t, a, b, order) in &ORDERS {
         expect_compare(&rt, CmpOp::Eq, t, a, b, order == Equal);
         expect_compare(&rt, CmpOp::Ne, t, a, b, order != Equal);
         expect_compare(&rt, CmpOp::Lt, t, a, b, order == Less);
@@ -428,14 +428,14 @@ fn comparisons(rt: HostRuntime) {
 
 #[test]
 fn casts(rt: HostRuntime) {
-    for (from, to, a, want) in CASTS {
+    for &(from, to, a, want) in &CASTS {
         expect_cast(&rt, from, to, a, want);
     }
 }
 
 #[test]
 fn unary(rt: HostRuntime) {
-    for (t, a, negated, inverted) in UNARY {
+    for &(t, a, negated, inverted) in &UNARY {
         expect_unary(&rt, t, a, negated, inverted);
     }
 }
