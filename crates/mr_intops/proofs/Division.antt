@@ -1,5 +1,5 @@
 -- The quotient of two signed numbers, and divisions that are undefined.
-use Rattle.std.proofs.Common.{◌≡◌, ℕ, zero, suc, ◌+◌, ◌-◌, ◌*◌, ◌/◌, ◌%◌, ◌^◌, ◌<◌, ◌≤◌, Bool, true, false, cond, ltb, ltb-false, ltb-true, refl, sym, ap, ◌∙◌, arith, Result, Ok, Err}
+use Rattle.std.proofs.Common.{◌≡◌, ℕ, zero, suc, ◌-◌, ◌/◌, ◌^◌, ◌<◌, ◌≤◌, Bool, true, false, cond, ltb, refl, sym, ◌∙◌, arith, Ok, Err}
 use Rattle.std.specs.Prelude.{ℤ, pos, negsuc, neg_ℤ, FitsSigned, unsigned_abs, int_div, ◌&&◌}
 use Rattle.std.specs.Int.{cast_signed, cast_unsigned, w128}
 use Rattle.std.specs.Ordering.{int_eq}
@@ -10,7 +10,7 @@ use Rattle.mr_base.specs.declared.reason.Reason.TheVariants.{ZeroDivisor, DivOve
 use Rattle.mr_ast.specs.declared.types.IntType.{IntType}
 use Rattle.mr_ast.specs.Thin.{bits_of}
 use Rattle.mr_intops.specs.Numbers.{bits_for, least_of}
-use Rattle.mr_intops.specs.Arith.{unless_undivided}
+use Rattle.mr_intops.specs.Arith.{if_quotient_defined}
 use Rattle.mr_intops.proofs.Residues.{IsCongruent}
 use Rattle.mr_intops.proofs.NumberLaws.{bits_for-congruent}
 use Rattle.mr_intops.proofs.Widths.{multiple_128}
@@ -51,8 +51,8 @@ pub bits_for-quotient : (t : IntType) (x y : ℤ) → FitsSigned w128 x → bits
 bits_for-quotient t x y f = bits_for-cast t (int_div x y) (omega (arith, ints, quotient_size x y))
 
 -- a division that is undefined is so whatever its answer would be
-pub undivided_for_all : {A B : Type 0} (t : IntType) (x y : ℤ) (p : A) (q : B) (e : Reason) → unless_undivided t x y p ≡ Err e → unless_undivided t x y q ≡ Err e
-undivided_for_all {A} {B} t x y p q e h = by (int_eq y (pos 0)) (int_eq x (least_of t) && int_eq y (negsuc 0)) h
+pub undefined_for_all : {A B : Type 0} (t : IntType) (x y : ℤ) (p : A) (q : B) (e : Reason) → if_quotient_defined t x y p ≡ Err e → if_quotient_defined t x y q ≡ Err e
+undefined_for_all {A} {B} t x y p q e h = by (int_eq y (pos 0)) (int_eq x (least_of t) && int_eq y (negsuc 0)) h
   where
     by : (zero_divisor overflow : Bool) → cond zero_divisor (Err ZeroDivisor) (cond overflow (Err DivOverflow) (Ok p)) ≡ Err e → cond zero_divisor (Err ZeroDivisor) (cond overflow (Err DivOverflow) (Ok q)) ≡ Err e
     by true o h = cc

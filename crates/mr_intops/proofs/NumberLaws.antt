@@ -1,13 +1,10 @@
 -- The numbers that bits mean, the bits of a result, and whether it is a number of its type.
-use Rattle.std.proofs.Common.{◌≡◌, ℕ, zero, suc, ◌+◌, ◌-◌, ◌*◌, ◌%◌, ◌^◌, ◌<◌, ◌≤◌, Bool, true, false, cond, ltb, ◌&&◌, not, refl, sym, ap, ◌∙◌, arith, Option, Some, None, pow_pos}
-use Rattle.std.specs.Prelude.{ℤ, pos, negsuc, ◌+ℤ◌, ◌-ℤ◌, ◌*ℤ◌, neg_ℤ, FitsSigned, unsigned_abs, SomeIff}
-use Rattle.std.specs.Option.{option_map_or}
+use Rattle.std.proofs.Common.{◌≡◌, ℕ, ◌-◌, ◌*◌, ◌%◌, ◌^◌, Bool, true, false, cond, ltb, ap, arith, pow_pos}
+use Rattle.std.specs.Prelude.{ℤ, pos, ◌-ℤ◌, ◌*ℤ◌, unsigned_abs}
 use Rattle.std.proofs.lemmas.Int.{ints}
-use Rattle.std.proofs.lemmas.Bool.{and_parts, cases_Bool, true≢false}
 use Rattle.mr_ast.specs.declared.types.IntType.{IntType}
-use Rattle.mr_ast.specs.declared.types.IntType.TheVariants.{U8, U16, U32, U64, U128, I8, I16, I32, I64, I128}
 use Rattle.mr_ast.specs.Thin.{bits_of, is_signed}
-use Rattle.mr_intops.specs.Numbers.{number_at, value_of, bits_for, fits}
+use Rattle.mr_intops.specs.Numbers.{number_at, value_of, bits_for}
 use Rattle.mr_intops.proofs.Residues.{IsCongruent, int_rem_euclid-congruent, congruent_pos, congruent_product}
 
 -- the number that bits mean differs from them by 0 or by 2 to the width

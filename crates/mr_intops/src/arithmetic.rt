@@ -2,7 +2,7 @@ ghost use Rattle.std.specs.Prelude.{◌≡◌, ◌^◌, ◌<◌, true, false, �
 ghost use Rattle.std.specs.Option.{option_map_or};
 ghost use Rattle.mr_ast.specs.Thin.{bits_of, is_signed as is_signed_lem};
 ghost use Rattle.mr_intops.specs.Numbers.{value_of, bits_for, fits};
-ghost use Rattle.mr_intops.specs.Arith.{arith_of, overflowing_of, HasOverflowing, with_overflow, unless_undivided};
+ghost use Rattle.mr_intops.specs.Arith.{arith_of, overflowing_of, HasOverflowing, with_overflow, if_quotient_defined};
 
 use crate::bits::{all_ones, bits_of_number, greatest, is_signed, least, signed_number, truncated};
 use mr_ast::IntType;
@@ -164,7 +164,7 @@ fn unsigned_fits(t: IntType, exact: Option<u128>) -> bool
 fn quotient(t: IntType, a: u128, b: u128) -> Result<u128, Reason>
     requires left { a < 2 ^ bits_of t }
     requires right { b < 2 ^ bits_of t }
-    ensures { result ≡ unless_undivided t (value_of t a) (value_of t b) (bits_for t (int_div (value_of t a) (value_of t b))) }
+    ensures { result ≡ if_quotient_defined t (value_of t a) (value_of t b) (bits_for t (int_div (value_of t a) (value_of t b))) }
 {
     check_division(t, a, b)?;
     Ok(quotient_bits(t, a, b))
@@ -187,7 +187,7 @@ fn quotient_bits(t: IntType, a: u128, b: u128) -> u128
 fn remainder(t: IntType, a: u128, b: u128) -> Result<u128, Reason>
     requires left { a < 2 ^ bits_of t }
     requires right { b < 2 ^ bits_of t }
-    ensures { result ≡ unless_undivided t (value_of t a) (value_of t b) (bits_for t (int_rem (value_of t a) (value_of t b))) }
+    ensures { result ≡ if_quotient_defined t (value_of t a) (value_of t b) (bits_for t (int_rem (value_of t a) (value_of t b))) }
 {
     check_division(t, a, b)?;
     Ok(remainder_bits(t, a, b))
@@ -211,7 +211,7 @@ fn remainder_bits(t: IntType, a: u128, b: u128) -> u128
 fn check_division(t: IntType, a: u128, b: u128) -> Result<(), Reason>
     requires left { a < 2 ^ bits_of t }
     requires right { b < 2 ^ bits_of t }
-    ensures { result ≡ unless_undivided t (value_of t a) (value_of t b) tt }
+    ensures { result ≡ if_quotient_defined t (value_of t a) (value_of t b) tt }
 {
     if b == 0 {
         return Err(Reason::ZeroDivisor);

@@ -1,5 +1,5 @@
 //! Bits and the numbers that they mean.
-ghost use Rattle.std.specs.Prelude.{◌≡◌, ◌+◌, ◌-◌, ◌%◌, ◌^◌, ◌<◌, true};
+ghost use Rattle.std.specs.Prelude.{◌≡◌, ◌-◌, ◌%◌, ◌^◌, ◌<◌, true};
 ghost use Rattle.mr_ast.specs.Thin.{bits_of, is_signed as is_signed_lem};
 ghost use Rattle.mr_intops.specs.Numbers.{value_of, bits_for, least_of, greatest_of};
 

@@ -1,7 +1,7 @@
-use Rattle.std.proofs.Common.{◌∙◌, ap, ap₂, sym, rules, to_z-of_z}
+use Rattle.std.proofs.Common.{◌∙◌, ap, ap₂, rules, to_z-of_z}
 use Rattle.std.specs.Prelude.{FitsSigned, int_div}
 use Rattle.std.specs.Int.{w128, cast_signed, cast_unsigned}
-use Rattle.mr_intops.specs.Numbers.{value_of, bits_for}
+use Rattle.mr_intops.specs.Numbers.{bits_for}
 use Rattle.mr_intops.proofs.Division.{bits_for-quotient}
 use Rattle.mr_intops.proofs.arithmetic.quotient_bits.Goals as goal
 
