@@ -48,7 +48,7 @@ no_length : {A : Type 0} (xs : List A) → length xs ≡ 0 → xs ≡ []
 no_length [] e = refl
 no_length (x ∷ xs) e = absurd (omega arith)
 
-no_entries : fin.entries {X = Allocation} {R = id_cmp} fin.empty ≡ []
+pub no_entries : fin.entries {X = Allocation} {R = id_cmp} fin.empty ≡ []
 no_entries = no_length _ (sym (fin.len-entries fin.empty) ∙ fin.len-empty id_cmp Allocation)
 
 -- the entries of the map are the program's, in their order

@@ -1,10 +1,11 @@
 -- Memory: a finite map from identities to allocations, and what can be done with it. (MiniRust, mem: the basic memory.)
-use Rattle.std.specs.Prelude.{◌≡◌, ℕ, ◌+◌, ◌-◌, ◌*◌, ◌%◌, ◌^◌, ◌<◌, ◌≤◌, Bool, true, false, not, ◌&&◌, ◌||◌, ◌==◌, nat_lt, nat_le, if◌then◌else◌, List, [], ◌∷◌, ◌++◌, length, take, drop, replicate, Option, None, Some, Result, Ok, Err}
+use Rattle.std.specs.Prelude.{◌≡◌, ℕ, ◌+◌, ◌-◌, ◌*◌, ◌%◌, ◌^◌, ◌<◌, ◌≤◌, Bool, true, false, not, ◌&&◌, ◌||◌, ◌==◌, nat_lt, nat_le, if◌then◌else◌, List, [], ◌∷◌, ◌++◌, length, map, take, drop, replicate, Option, None, Some, Result, Ok, Err}
 use Rattle.std.specs.List.{list_any}
 use Rattle.std.specs.Ordering.{nat_cmp, ordering_then}
 use Rattle.std.specs.declared.cmp.Ordering.{Ordering}
-use Rattle.std.specs.FinMap as map
+use Rattle.std.specs.FinMap as fin
 use Rattle.std.specs.FinMap.{FinMap}
+use Rattle.std.specs.FinMap.Entries.{put}
 use Rattle.mr_base.specs.declared.byte.AllocId.{AllocId}
 use Rattle.mr_base.specs.declared.byte.Pointer.{Pointer}
 use Rattle.mr_base.specs.declared.byte.AbstractByte.{AbstractByte}
@@ -53,7 +54,7 @@ fresh kind size align addr = record {
 }
 
 abbrev pub allocated : Memory → AllocId → Kind → ℕ → ℕ → ℕ → Memory
-allocated m id kind size align addr = map.insert m id (fresh kind size align addr)
+allocated m id kind size align addr = fin.insert m id (fresh kind size align addr)
 
 abbrev pub IsPowerOfTwo : ℕ → Type 0
 IsPowerOfTwo n = (k : ℕ) × (n ≡ 2 ^ k)
@@ -80,27 +81,50 @@ is_multiple addr align = not (align == 0) && (addr % align == 0)
 abbrev pub is_bad_address : ℕ → ℕ → ℕ → Bool
 is_bad_address addr size align = (addr == 0) || (not (is_multiple addr align) || nat_lt (2 ^ 64) (addr + size))
 
--- the least identity whose range the new one overlaps, dead or live
-abbrev pub first_overlapped : ℕ → ℕ → List (AllocId × Allocation) → Option AllocId
+-- the addresses that an allocation takes
+pub record Range : Type 0 where
+  pub addr : ℕ
+  pub size : ℕ
+
+abbrev pub Ranges : Type 0
+Ranges = List (AllocId × Range)
+
+abbrev pub range_of : AllocId × Allocation → AllocId × Range
+range_of e = (e.0, record { addr = e.1.addr; size = e.1.span })
+
+-- the ranges of all allocations, dead and live, in the order of their identities
+unfoldable pub ranges_of : Memory → Ranges
+ranges_of m = map range_of (fin.entries m)
+
+-- with one more range, in its place
+abbrev pub with_range : Ranges → AllocId → ℕ → ℕ → Ranges
+with_range rs id addr size = put id_cmp id (record { addr = addr; size = size }) rs
+
+-- the least identity whose range the new one overlaps
+abbrev pub first_overlapped : ℕ → ℕ → Ranges → Option AllocId
 first_overlapped addr size [] = None
-first_overlapped addr size (e ∷ es) =
-    if overlaps addr size e.1.addr e.1.span then Some e.0 else first_overlapped addr size es
+first_overlapped addr size (r ∷ rs) =
+    if overlaps addr size r.1.addr r.1.size then Some r.0 else first_overlapped addr size rs
 
 abbrev pub reused : Option AllocId → Option PickFault
 reused None = None
 reused (Some id) = Some (Reused id)
 
+-- why an address may not be picked for a new allocation among these ranges, if it may not
+unfoldable pub range_fault : Ranges → ℕ → ℕ → ℕ → Option PickFault
+range_fault rs addr size align =
+    if is_bad_address addr size align then Some BadAddress else reused (first_overlapped addr size rs)
+
 -- why an address may not be picked for a new allocation, if it may not
-unfoldable pub pick_fault : Memory → ℕ → ℕ → ℕ → Option PickFault
-pick_fault m addr size align =
-    if is_bad_address addr size align then Some BadAddress else reused (first_overlapped addr size (map.entries m))
+abbrev pub pick_fault : Memory → ℕ → ℕ → ℕ → Option PickFault
+pick_fault m addr size align = range_fault (ranges_of m) addr size align
 
 -- ---- freeing
 
 -- the allocation of a provenance; one that names no allocation counts as none
 abbrev pub found : Memory → Option AllocId → Option Allocation
 found m None = None
-found m (Some id) = map.get m id
+found m (Some id) = fin.get m id
 
 -- the reason of the first test that fails
 abbrev pub first_failed : List (Bool × Reason) → Option Reason
@@ -132,7 +156,7 @@ refusal (Some a) addr kind size align = free_fault a addr kind size align
 -- the memory in which the allocation is dead
 abbrev pub without_life : Memory → AllocId → Option Allocation → Memory
 without_life m id None = m
-without_life m id (Some a) = map.insert m id (record a { live = false })
+without_life m id (Some a) = fin.insert m id (record a { live = false })
 
 abbrev pub unless : {A : Type 0} → Option Reason → A → Result A Reason
 unless None x = Ok x
@@ -141,7 +165,7 @@ unless (Some r) x = Err r
 abbrev pub freed_of : Memory → Option AllocId → ℕ → Kind → ℕ → ℕ → Result (AllocId × Memory) Reason
 freed_of m None addr kind size align = Err NoProvenance
 freed_of m (Some id) addr kind size align =
-    unless (refusal (map.get m id) addr kind size align) (id, without_life m id (map.get m id))
+    unless (refusal (fin.get m id) addr kind size align) (id, without_life m id (fin.get m id))
 
 -- the allocation that is freed and the memory after it, or the first reason against it
 unfoldable pub freed : Memory → Pointer → Kind → ℕ → ℕ → Result (AllocId × Memory) Reason
@@ -182,10 +206,10 @@ spliced xs i ys = take i xs ++ (ys ++ drop (i + length ys) xs)
 
 abbrev pub with_bytes : Memory → Option AllocId → Allocation → ℕ → List AbstractByte → Memory
 with_bytes m None a addr bytes = m
-with_bytes m (Some id) a addr bytes = map.insert m id (record a { bytes = spliced a.bytes (addr - a.addr) bytes })
+with_bytes m (Some id) a addr bytes = fin.insert m id (record a { bytes = spliced a.bytes (addr - a.addr) bytes })
 
-abbrev pub put : Memory → Pointer → List AbstractByte → ℕ → Result Memory Reason
-put m p bytes align =
+abbrev pub written : Memory → Pointer → List AbstractByte → ℕ → Result Memory Reason
+written m p bytes align =
     aligned p align (if length bytes == 0 then Ok m else then_give (inside (found m p.prov) p.addr (length bytes)) (λ a. with_bytes m p.prov a p.addr bytes))
 
 -- ---- leaks
@@ -201,4 +225,4 @@ is_leak e = e.1.live && is_heap e.1.kind
 
 -- a heap allocation is live
 unfoldable pub leaks : Memory → Bool
-leaks m = list_any is_leak (map.entries m)
+leaks m = list_any is_leak (fin.entries m)

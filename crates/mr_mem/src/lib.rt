@@ -7,5 +7,5 @@
 mod fault;
 mod memory;
 
-pub use fault::PickFault;
+pub use fault::{Fault, PickFault};
 pub use memory::Memory;

@@ -1,7 +1,7 @@
-ghost use Rattle.std.specs.Prelude.{◌≡◌, Some, None, IsNone};
+ghost use Rattle.std.specs.Prelude.{◌≡◌, map};
 ghost use Rattle.std.specs.List.{list_any};
 ghost use Rattle.std.specs.BTreeMap.{IsOrdered};
-ghost use Rattle.mr_mem.specs.Memory.{held, overlaps, is_bad_address, free_fault, first_overlapped, is_leak, id_cmp, kind_number, refusal, without_life};
+ghost use Rattle.mr_mem.specs.Memory.{held, range_of, overlaps, is_bad_address, free_fault, first_overlapped, is_leak, id_cmp, kind_number, refusal, without_life};
 ghost use Rattle.mr_mem.specs.Stored.{allocation_of, entries_of, memory_of};
 ghost use Rattle.std.specs.FinMap as fin;
 
@@ -100,7 +100,7 @@ impl Memory {
     }
 
     /// Whether an address may be picked for a new allocation of this size and alignment.
-    #[tactic(auto, using(crate::proofs::Views::entries), unfolding(crate::specs::Memory::pick_fault))]
+    #[tactic(auto, using(crate::proofs::Views::entries), unfolding(crate::specs::Memory::range_fault, crate::specs::Memory::ranges_of))]
     pub fn lawful(&self, addr: u64, size: u64, align: u64) -> Result<(), PickFault>
         ensures { MatchResult result (λ _. pick_fault self.now addr size align ≡ None) (λ f. pick_fault self.now addr size align ≡ Some f) }
     {
@@ -163,7 +163,7 @@ fn shares(addr: u64, size: u64, a: &Stored) -> bool
 
 // The first allocation, in the order of identities, whose range the new one shares.
 fn first_shared(allocations: &BTreeMap<AllocId, Stored>, addr: u64, size: u64) -> Option<AllocId>
-    ensures first { result ≡ first_overlapped addr size (entries_of allocations.now.entries) }
+    ensures first { result ≡ first_overlapped addr size (map range_of (entries_of allocations.now.entries)) }
     ensures ordered { IsOrdered id_cmp allocations.now }
 {
     for (id, a) in allocations.iter() {

@@ -1,0 +1,5 @@
+pub mod Counts
+pub mod Drawer
+pub mod Files
+pub mod Host
+pub mod Tray

@@ -1,0 +1,110 @@
+use super::*;
+use std::alloc::Global;
+use std::test::Fail;
+
+// The name a stands twice, and the second read fails.
+fn drawer(alloc: Global) -> Result<Drawer, OutOfMemory> {
+    let mut drawer = Drawer::new(alloc);
+    drawer.add(alloc, "a", b"xy")?;
+    drawer.add(alloc, "a", b"z")?;
+    drawer.fails.push(2)?;
+    Ok(drawer)
+}
+
+#[test]
+fn a_drawer_answers(rt: HostRuntime) -> Result<(), Fail> {
+    let alloc = rt.alloc();
+    let mut drawer = drawer(alloc)?;
+    let mut into = vec![in alloc; b'k']?;
+
+    drawer.read(alloc, "a", 2, &mut into)?;
+    assert_eq!(rt; into.as_slice(), b"kxy".as_slice());
+    let second = drawer.read(alloc, "a", 2, &mut into);
+    assert!(rt; matches!(second, Err(FileFault::Failed)));
+    assert_eq!(rt; drawer.faults, 1);
+    assert_eq!(rt; into.as_slice(), b"kxy".as_slice());
+    let third = drawer.read(alloc, "b", 2, &mut into);
+    assert!(rt; matches!(third, Err(FileFault::Missing)));
+    assert_eq!(rt; drawer.faults, 1);
+    let fourth = drawer.read(alloc, "a", 1, &mut into);
+    assert!(rt; matches!(fourth, Err(FileFault::Long)));
+    assert_eq!(rt; drawer.calls, 4);
+    assert_eq!(rt; into.as_slice(), b"kxy".as_slice());
+    Ok(())
+}
+
+#[test]
+fn a_tray_takes_what_fits(rt: HostRuntime) -> Result<(), Fail> {
+    let cases = [
+        (3, 2, "verdict", "ver", 1),
+        (7, 1, "verdict", "verdict", 0),
+        (0, 1, "verdict", "", 1),
+        (0, 1, "", "", 0),
+    ];
+    for (room, step, text, want, faults) in cases {
+        let mut tray = Tray::new(rt.alloc(), room, step)?;
+        let answer = write_whole(&mut tray, text.as_bytes());
+        assert_eq!(rt; answer.is_err(), faults == 1, "room {room}");
+        assert_eq!(rt; tray.taken(), want.as_bytes(), "room {room}");
+        assert_eq!(rt; tray.faults(), faults, "room {room}");
+    }
+    Ok(())
+}
+
+#[test]
+fn nothing_goes_on_a_full_tray(rt: HostRuntime) -> Result<(), Fail> {
+    let mut tray = Tray::new(rt.alloc(), 1, 5)?;
+    write_whole(&mut tray, b"v")?;
+    write_whole(&mut tray, b"")?;
+    assert_eq!(rt; tray.taken(), b"v".as_slice());
+    assert_eq!(rt; tray.faults(), 0);
+    Ok(())
+}
+
+#[test]
+fn a_text_is_its_bytes(rt: HostRuntime) -> Result<(), Fail> {
+    let mut text = Text::from_str(rt.alloc(), "a")?;
+    text.push('é')?;
+    assert_eq!(rt; text.as_slice(), [b'a', 0xc3, 0xa9].as_slice());
+    assert_eq!(rt; text.get(1), Some(0xc3));
+    assert_eq!(rt; text.get(text.len()), None);
+    assert!(rt; Text::new(rt.alloc()).is_empty());
+    Ok(())
+}
+
+#[test]
+fn the_host_has_no_such_file(rt: HostRuntime) -> Result<(), Fail> {
+    let alloc = rt.alloc();
+    let mut files = HostFiles::new(rt.clone()?);
+    let mut into = vec![in alloc; b'k']?;
+    let answer = files.read(alloc, "no such file/at all", 5, &mut into);
+    assert!(rt; matches!(answer, Err(FileFault::Failed)));
+    assert_eq!(rt; (files.faults, files.reads, files.taken), (1, 1, 0));
+    assert_eq!(rt; into.as_slice(), b"k".as_slice());
+    Ok(())
+}
+
+#[test]
+fn a_file_of_the_host_is_read(rt: HostRuntime) -> Result<(), Fail> {
+    let alloc = rt.alloc();
+    std::fs::write(&rt, "mr_io_tested.txt", "verdict")?;
+    let mut files = HostFiles::new(rt.clone()?);
+    let mut into = vec![in alloc; b'k']?;
+    let short = files.read(alloc, "mr_io_tested.txt", 6, &mut into);
+    assert!(rt; matches!(short, Err(FileFault::Long)));
+    assert_eq!(rt; files.taken, 7);
+    assert_eq!(rt; into.as_slice(), b"k".as_slice());
+    files.read(alloc, "mr_io_tested.txt", 7, &mut into)?;
+    assert_eq!(rt; into.as_slice(), b"kverdict".as_slice());
+    assert_eq!(rt; (files.faults, files.reads, files.taken), (0, 2, 7));
+    std::fs::remove_file(&rt, "mr_io_tested.txt")?;
+    Ok(())
+}
+
+#[test]
+fn a_line_goes_out(rt: HostRuntime) -> Result<(), Fail> {
+    let mut out = HostOut::new(rt.stdout());
+    write_whole(&mut out, b"a line\n")?;
+    assert_eq!(rt; out.faults, 0);
+    Ok(())
+}

@@ -1,0 +1,14 @@
+pub mod AnswerLaws
+pub mod ByteLaws
+pub mod DecimalLaws
+pub mod Examples
+pub mod NumberLaws
+pub mod PieceLaws
+pub mod PlaceLaws
+pub mod ReadingLaws
+pub mod RowLaws
+pub mod RunLaws
+pub mod ScanLaws
+pub mod ShapeLaws
+pub mod SpanLaws
+pub mod SplitLaws

@@ -1,0 +1,10 @@
+pub mod EntryLaws
+pub mod Examples
+pub mod FirstLines
+pub mod LineLaws
+pub mod Loops
+pub mod Numerals
+pub mod Parts
+pub mod Pieces
+pub mod TextLaws
+pub mod WordLaws

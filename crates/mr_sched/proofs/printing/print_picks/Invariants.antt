@@ -1,0 +1,6 @@
+use Rattle.std.proofs.Common.{◌≡◌, ◌++◌, take}
+use Rattle.mr_sched.specs.Spelling.{spaced}
+use Rattle.mr_sched.proofs.printing.print_picks.Given as goal
+
+abbrev pub invariant-loop-pick : goal.invariant-loop-pick
+invariant-loop-pick l = l.out.items ≡ l.fn.out.items ++ spaced (take l.pick-index l.picks)

@@ -1,0 +1,25 @@
+//! Recorded schedules, and their text.
+//!
+//! A schedule says which thread takes each step of a run, and which choices the run made. Its text is lines of numbers,
+//! and each schedule has one. Public calls: `read` and `print`.
+//!
+//! Proved of `read`: it gives a schedule exactly where the text is that of the schedule, and otherwise the first fault
+//! of the text with its line, unless memory runs out. Proved of `print`: it writes the one text of the schedule. The
+//! laws `one_schedule` and `reads_back` say that a text has one schedule at most, and that what is printed of a
+//! schedule within the limits reads back.
+#![tactic(auto)]
+
+mod fault;
+mod laws;
+mod printing;
+mod reading;
+mod schedule;
+
+pub use fault::{BAD_HEADER, BAD_LINE, SchedFault, TOO_LONG};
+pub use laws::{one_schedule, reads_back};
+pub use printing::print;
+pub use reading::read;
+pub use schedule::{Ask, Entry, Items, MAX_BYTES, MAX_ENTRIES, Schedule};
+
+#[cfg(test)]
+mod tests;

@@ -1,0 +1,10 @@
+pub mod Judged
+pub mod Constants
+pub mod Counted
+pub mod OneThread
+pub mod Soundness
+pub mod Starting
+pub mod ThinLayout
+pub mod RunLaws
+pub mod FrameActions
+pub mod SoundRuns

@@ -1,0 +1,69 @@
+-- How starts and steps are answered, each answer with its cause.
+use Rattle.std.specs.Prelude.{◌≡◌, ℕ, Bool, true, false, List, Option, None, Some, Result, Ok, Err}
+use Rattle.mr_base.specs.declared.byte.AllocId.{AllocId}
+use Rattle.mr_base.specs.declared.reason.Verdict.{Verdict}
+use Rattle.mr_base.specs.declared.reason.Verdict.TheVariants as verdict
+use Rattle.mr_ast.specs.declared.program.Program.{Program}
+use Rattle.mr_sched.specs.declared.schedule.Entry.{Entry}
+use Rattle.mr_step.specs.declared.fault.StepFault.{StepFault}
+use Rattle.mr_step.specs.declared.fault.StepFault.TheVariants as answer
+use Rattle.mr_step.specs.declared.fault.Turn.{Turn}
+use Rattle.mr_step.specs.declared.fault.Turn.TheVariants as turn
+use Rattle.mr_step.specs.Legal.{Fault}
+use Rattle.mr_step.specs.Runs.{has_rule}
+use Rattle.mr_step.specs.Language.{step}
+use Rattle.mr_step.specs.Start.{start_fault, start_config, look_of, program_fault, program_step}
+use Rattle.mr_step.specs.Standing.{Standing}
+
+abbrev pub fault_of : ℕ → Option AllocId → Fault
+fault_of code earlier = record { code = code; earlier = earlier }
+
+abbrev pub turn_of : Verdict → Turn
+turn_of verdict.Running = turn.Went
+turn_of verdict.Exit = turn.Stopped verdict.Exit
+turn_of verdict.Leak = turn.Stopped verdict.Leak
+turn_of verdict.Abort = turn.Stopped verdict.Abort
+turn_of verdict.Deadlock = turn.Stopped verdict.Deadlock
+turn_of (verdict.Undefined r) = turn.Stopped (verdict.Undefined r)
+
+abbrev pub standing : Program → List ℕ → Standing
+standing p picks = record { look = look_of p picks; failed = false; config = start_config p picks }
+
+-- a start stands where the start line leads, or tells the rule that it breaks
+abbrev pub StartAnswer : Program → List ℕ → Result Standing StepFault → Type 0
+StartAnswer p picks (Ok m) = (start_fault p picks ≡ None) × (m ≡ standing p picks)
+StartAnswer p picks (Err (answer.BadEntry code earlier)) = start_fault p picks ≡ Some (fault_of code earlier)
+StartAnswer p picks (Err answer.Memory) = Unit {0}
+StartAnswer p picks (Err answer.Failed) = ⊥
+
+-- the machine made the step of a legal entry, which has a rule
+pub record Steps (e : Entry) (old new : Standing) (t : Turn) : Type 0 where
+  pub working : old.failed ≡ false
+  pub legal : program_fault old.look old.config e ≡ None
+  pub has_rule : has_rule (step old.look) e.thread e.picks old.config.state ≡ true
+  pub after : new ≡ record { look = old.look; failed = false; config = program_step old.look old.config e }
+  pub turn : t ≡ turn_of new.config.verdict
+
+-- the entry breaks this rule, and nothing changed
+pub record Refuses (e : Entry) (old new : Standing) (f : Fault) : Type 0 where
+  pub working : old.failed ≡ false
+  pub broken : program_fault old.look old.config e ≡ Some f
+  pub same : new ≡ old
+
+-- memory ran out in the step of a legal entry, and the machine has failed
+pub record RunsOut (e : Entry) (old new : Standing) : Type 0 where
+  pub working : old.failed ≡ false
+  pub legal : program_fault old.look old.config e ≡ None
+  pub failed : new.failed ≡ true
+  pub look : new.look ≡ old.look
+
+-- an earlier step had failed
+pub record IsFailed (old new : Standing) : Type 0 where
+  pub failed : old.failed ≡ true
+  pub same : new ≡ old
+
+abbrev pub StepAnswer : Entry → Standing → Standing → Result Turn StepFault → Type 0
+StepAnswer e old new (Ok t) = Steps e old new t
+StepAnswer e old new (Err (answer.BadEntry code earlier)) = Refuses e old new (fault_of code earlier)
+StepAnswer e old new (Err answer.Memory) = RunsOut e old new
+StepAnswer e old new (Err answer.Failed) = IsFailed old new

@@ -1,0 +1,164 @@
+-- The start of a run, and legal schedules of a program.
+use Rattle.std.specs.Prelude.{◌≡◌, ℕ, ◌+◌, ◌*◌, Bool, false, List, [], ◌∷◌, ◌++◌, map, length, replicate, take, drop, sum, slice_set, Option, None, Some, slice_get}
+use Rattle.std.specs.FinMap as fin
+use Rattle.mr_base.specs.declared.byte.AllocId.{AllocId}
+use Rattle.mr_base.specs.declared.byte.Pointer.{Pointer}
+use Rattle.mr_base.specs.declared.byte.Kind.{Kind}
+use Rattle.mr_base.specs.declared.byte.Kind.TheVariants as kind
+use Rattle.mr_base.specs.declared.reason.Verdict.TheVariants as verdict
+use Rattle.mr_base.specs.declared.thread.Status.TheVariants.{Enabled}
+use Rattle.mr_ast.specs.declared.program.Item_.{Item_}
+use Rattle.mr_ast.specs.declared.program.Item_.TheVariants as item
+use Rattle.mr_ast.specs.declared.program.Global_.{Global_}
+use Rattle.mr_ast.specs.declared.program.Local.{Local}
+use Rattle.mr_ast.specs.declared.program.Function.{Function}
+use Rattle.mr_ast.specs.declared.program.Program.{Program}
+use Rattle.mr_layout.specs.Sizes.{size_of, align_of}
+use Rattle.mr_mem.specs.Memory.{Memory, allocated}
+use Rattle.mr_sched.specs.declared.schedule.Ask.{Ask}
+use Rattle.mr_sched.specs.declared.schedule.Ask.TheVariants.{Address}
+use Rattle.mr_sched.specs.declared.schedule.Entry.{Entry}
+use Rattle.mr_sched.specs.declared.schedule.Schedule.{Schedule}
+use Rattle.mr_step.specs.Machine.{thread_of}
+use Rattle.mr_step.specs.Legal.{Fault, picks_fault}
+use Rattle.mr_step.specs.Runs.{Config, machine_step, entry_fault, after, AreLegal, NeverIllFormed}
+use Rattle.mr_step.specs.Language.{Frame, Own, Look, step}
+
+-- ---- what the start allocates
+
+-- one allocation of the start
+pub record Piece : Type 0 where
+  pub kind : Kind
+  pub size : ℕ
+  pub align : ℕ
+
+abbrev pub item_size : Item_ → ℕ
+item_size (item.Byte b count) = count
+item_size (item.Uninit count) = count
+item_size (item.Reloc target offset) = 8
+
+abbrev pub global_piece : Global_ → Piece
+global_piece g = record { kind = kind.Static; size = sum (map item_size g.items); align = g.align }
+
+-- a function takes an address and holds no byte
+abbrev pub function_piece : Function → Piece
+function_piece f = record { kind = kind.Function; size = 1; align = 1 }
+
+abbrev pub local_piece : Option Local → List Piece
+local_piece None = []
+local_piece (Some l) = (record { kind = kind.Stack; size = size_of l.ty; align = align_of l.ty }) ∷ []
+
+abbrev pub return_piece : Option Function → List Piece
+return_piece None = []
+return_piece (Some f) = local_piece (slice_get f.locals f.ret.0)
+
+-- one for each function, one for each global, and the return local of the main function
+abbrev pub pieces : Program → List Piece
+pieces p = map function_piece p.functions ++ (map global_piece p.globals ++ return_piece (slice_get p.functions p.start.0))
+
+abbrev pub ask_of : Piece → Ask
+ask_of piece = Address piece.size piece.align
+
+-- the rule that the start line breaks, if it breaks one
+unfoldable pub start_fault : Program → List ℕ → Option Fault
+start_fault p picks = picks_fault (Enabled ∷ []) [] 0 0 (map ask_of (pieces p)) picks
+
+-- ---- what it leads to
+
+-- the memory in which some allocations are made, and the pointers to them
+pub record Placed : Type 0 where
+  pub memory : Memory
+  pub pointers : List Pointer
+
+-- thread 0 makes them in order, having made so many
+abbrev pub placed : Memory → ℕ → List Piece → List ℕ → Placed
+placed m count (piece ∷ pieces) (addr ∷ picks) =
+    let id : AllocId = record { thread = 0; count = count } in
+    let rest = placed (allocated m id piece.kind piece.size piece.align addr) (count + 1) pieces picks in
+    let p : Pointer = record { addr = addr; prov = Some id } in
+    record { memory = rest.memory; pointers = p ∷ rest.pointers }
+placed m count [] picks = record { memory = m; pointers = [] }
+placed m count (piece ∷ pieces) [] = record { memory = m; pointers = [] }
+
+abbrev pub start_placed : Program → List ℕ → Placed
+start_placed p picks = placed fin.empty 0 (pieces p) picks
+
+-- what every step of the run looks up
+unfoldable pub look_of : Program → List ℕ → Look
+look_of p picks = record {
+  program = p;
+  functions = take (length p.functions) (start_placed p picks).pointers;
+  globals = take (length p.globals) (drop (length p.functions) (start_placed p picks).pointers);
+}
+
+-- the return local has storage, and no other local
+abbrev pub start_locals : Option Function → Option Pointer → List (Option Pointer)
+start_locals None p = []
+start_locals (Some f) p = slice_set (replicate (length f.locals) None) f.ret.0 p
+
+abbrev pub start_frame : Program → Option Pointer → Frame
+start_frame p ret = record {
+  function = p.start.0;
+  locals = start_locals (slice_get p.functions p.start.0) ret;
+  block = 0;
+  at = 0;
+}
+
+abbrev pub main_thread : Frame → Own
+main_thread f = record { frames = f ∷ []; payloads = [] }
+
+-- where the machine stands before the first entry
+unfoldable pub start_config : Program → List ℕ → Config Own
+start_config p picks =
+    let made = start_placed p picks in
+    record {
+      state = Some (record {
+        shared = record { memory = made.memory; statuses = Enabled ∷ []; holders = [] };
+        threads = thread_of (main_thread (start_frame p (slice_get made.pointers (length p.functions + length p.globals)))) (length (pieces p)) ∷ [];
+      });
+      output = [];
+      last = None;
+      completed = 0;
+      verdict = verdict.Running;
+    }
+
+-- ---- runs of a program
+
+-- one step of a program's machine
+abbrev pub program_step : Look → Config Own → Entry → Config Own
+program_step look = machine_step (step look)
+
+abbrev pub program_fault : Look → Config Own → Entry → Option Fault
+program_fault look = entry_fault (step look)
+
+-- THE RUN of a program under a schedule: where its machine stands in the end
+unfoldable pub run_of : Program → Schedule → Config Own
+run_of p w = after (step (look_of p w.start)) (start_config p w.start) w.entries
+
+-- neither the start line nor an entry breaks a rule
+pub record Legal (p : Program) (w : Schedule) : Type 0 where
+  pub start : start_fault p w.start ≡ None
+  pub entries : AreLegal (step (look_of p w.start)) (start_config p w.start) w.entries
+
+-- no step of the run is without a rule
+abbrev pub IsSoundRun : Program → Schedule → Type 0
+IsSoundRun p w = NeverIllFormed (step (look_of p w.start)) (start_config p w.start) w.entries
+
+-- a fault with the line of the schedule's text on which it stands
+pub record PlacedFault : Type 0 where
+  pub line : ℕ
+  pub fault : Fault
+
+abbrev pub at_line : ℕ → Option Fault → Option PlacedFault → Option PlacedFault
+at_line line None later = later
+at_line line (Some f) later = Some (record { line = line; fault = f })
+
+abbrev pub entries_fault : Look → Config Own → ℕ → List Entry → Option PlacedFault
+entries_fault look c line [] = None
+entries_fault look c line (e ∷ es) =
+    at_line line (program_fault look c e) (entries_fault look (program_step look c e) (line + 1) es)
+
+-- the first rule that a schedule breaks: the start line is line 2, and entry k stands on line k + 2
+unfoldable pub schedule_fault : Program → Schedule → Option PlacedFault
+schedule_fault p w =
+    at_line 2 (start_fault p w.start) (entries_fault (look_of p w.start) (start_config p w.start) 3 w.entries)
