@@ -1,0 +1,5 @@
+pub mod Numbers
+pub mod Arith
+pub mod Shift
+pub mod Compare
+pub mod Cast
