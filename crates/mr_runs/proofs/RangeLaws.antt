@@ -1,17 +1,12 @@
 -- A range replaced: its length, and one item more.
-use Rattle.std.proofs.Common.{◌≡◌, ℕ, zero, suc, ◌+◌, ◌-◌, ◌<◌, ◌≤◌, List, [], ◌∷◌, ◌++◌, length, take, drop, get_or, set, replicate, Some, refl, sym, ap, ◌∙◌, arith, add-zero, append_assoc, length-take, length-drop, length-append}
+use Rattle.std.proofs.Common.{◌≡◌, ℕ, suc, ◌+◌, ◌<◌, ◌≤◌, List, [], ◌∷◌, ◌++◌, length, take, drop, get_or, set, sym, ap, ◌∙◌, arith, append_assoc, length-take, length-append}
 use Rattle.std.proofs.Math.Seq.{drop-cons, set-append_seam}
-use Rattle.std.specs.Prelude.{slice_get}
-use Rattle.std.proofs.lemmas.List.{append-nil, take-append-drop, take_more, length-replicate}
 use Rattle.std.proofs.lemmas.Grind.{common_steps}
 use Rattle.mr_runs.specs.Ranges.{with_range_replaced}
 
+-- the list stays as long as it was
 pub length-with_range_replaced : {X : Type 0} (old : List X) (from : ℕ) (new : List X) → from + length new ≤ length old → length (with_range_replaced old from new) ≡ length old
 length-with_range_replaced old from new inside = grind (arith, common_steps)
-
--- nothing is replaced by no item
-pub with_range_replaced-none : {X : Type 0} (old : List X) (from : ℕ) → with_range_replaced old from [] ≡ old
-with_range_replaced-none {X} old from = simp (add-zero, append-nil) (take-append-drop from old)
 
 -- a write behind the range that was replaced makes the range one item longer
 pub set-with_range_replaced : {X : Type 0} (old : List X) (from : ℕ) (new : List X) (x : X) → from + length new < length old → set (with_range_replaced old from new) (from + length new) x ≡ with_range_replaced old from (new ++ x ∷ [])

@@ -1,4 +1,4 @@
-ghost use Rattle.std.specs.Prelude.{◌≡◌, ◌≤◌, ◌+◌, ◌<◌, ◌^◌, ◌++◌, length, take, drop, replicate, slice_set, IfOk, OnOk, OnErr};
+ghost use Rattle.std.specs.Prelude.{◌≡◌, ◌≤◌, ◌+◌, ◌<◌, ◌++◌, length, take, drop, replicate, slice_set, IfOk, OnOk, OnErr};
 ghost use Rattle.mr_base.specs.declared.byte.AbstractByte.TheVariants.{Uninit};
 ghost use Rattle.mr_runs.specs.Lists.{bytes_of_lists};
 ghost use Rattle.mr_runs.specs.Pieces.{bytes_of_pieces};
@@ -11,7 +11,9 @@ use mr_base::AbstractByte;
 use std::alloc::Global;
 use std::marker::Model;
 
-/// A list of abstract bytes.
+/// A list of abstract bytes, as an allocation holds them. (MiniRust, memory: abstract bytes.)
+///
+/// Positions and lengths are in bytes. The only error of its calls is want of memory, and then nothing has changed.
 #[derive(Drop)]
 pub struct Runs {
     numbers: Vec<u8>,
@@ -32,7 +34,7 @@ impl Model for Runs {
 }
 
 impl Runs {
-    /// So many uninitialised bytes.
+    /// A list of `len` uninitialised bytes.
     pub fn uninit(alloc: Global, len: u64) -> Result<Runs, OutOfMemory>
         ensures { IfOk result (λ runs. runs ≡ replicate len Uninit) }
     {
@@ -45,7 +47,7 @@ impl Runs {
         Ok(Runs { numbers, marks })
     }
 
-    /// The `len` bytes from the position `from` on, lent. It takes no memory.
+    /// The `len` bytes from the position `from` on, lent. This takes no memory.
     pub fn view(&self, from: u64, len: u64) -> View<'_>
         requires { from + len ≤ length self.now }
         ensures { bytes_of_pieces result ≡ take len (drop from self.now) }
@@ -58,7 +60,7 @@ impl Runs {
         )
     }
 
-    /// Puts bytes in place of those from the position `from` on.
+    /// Puts `bytes` in place of just as many bytes from the position `from` on.
     pub fn write(&mut self, from: u64, bytes: &[AbstractByte]) -> Result<(), OutOfMemory>
         requires { from + length bytes.now ≤ length self.old }
         ensures ok { OnOk result (self.new ≡ with_range_replaced self.old from bytes.now) }

@@ -1,4 +1,4 @@
-ghost use Rattle.std.specs.Prelude.{◌≡◌, ◌<◌, ◌^◌, [], ◌∷◌, length, slice_get, Some};
+ghost use Rattle.std.specs.Prelude.{◌≡◌, ◌<◌, [], length, slice_get};
 ghost use Rattle.std.specs.Option.{option_map};
 ghost use Rattle.mr_runs.specs.Lists.{bytes_of_lists, pieces_of_lists};
 ghost use Rattle.mr_runs.specs.Pieces.{bytes_of_pieces};
@@ -8,7 +8,7 @@ use crate::mark::Mark;
 use mr_base::{AbstractByte, AllocId};
 use std::marker::Model;
 
-/// Abstract bytes that are lent, in pieces.
+/// Abstract bytes that are lent, in pieces. No call of a view takes memory.
 #[derive(Drop)]
 pub struct View<'a> {
     pub(crate) numbers: &'a [u8],

@@ -1,4 +1,4 @@
-use Rattle.std.proofs.Common.{◌∙◌, ◌∷◌, List, ℕ, ap, sym, arith, get_or, Some}
+use Rattle.std.proofs.Common.{◌∙◌, List, ℕ, ap, sym, arith, get_or, Some}
 use Rattle.mr_runs.specs.declared.mark.Mark.TheVariants as mark
 use Rattle.mr_runs.specs.Pieces.{InitPiece}
 use Rattle.mr_runs.specs.Lists.{piece_of}

@@ -1,4 +1,4 @@
-use Rattle.std.proofs.Common.{arith, ap, sym, length}
+use Rattle.std.proofs.Common.{arith, ap, length}
 use Rattle.mr_runs.proofs.ListLaws.{length-bytes_of_lists}
 use Rattle.mr_runs.proofs.runs.Runs.view.Goals as goal
 

@@ -1,4 +1,4 @@
-use Rattle.std.proofs.Common.{◌≡◌, ◌+◌, ◌++◌, ◌∷◌, [], ◌∙◌, sym, ap, arith, get_or, take, length, length-take}
+use Rattle.std.proofs.Common.{◌≡◌, ◌∙◌, sym, ap, arith, get_or, take, length, length-take}
 use Rattle.std.proofs.lemmas.List.{take_more}
 use Rattle.mr_base.specs.declared.byte.AbstractByte.TheVariants.{Uninit}
 use Rattle.mr_runs.specs.Ranges.{with_range_replaced}

@@ -1,6 +1,4 @@
-use Rattle.std.proofs.Common.{sym, ◌∙◌, ap, arith, length}
-use Rattle.std.specs.Prelude.{slice_get}
-use Rattle.mr_runs.specs.Pieces.{bytes_of_pieces}
+use Rattle.std.proofs.Common.{arith}
 use Rattle.mr_runs.proofs.ListLaws.{bytes_of_pieces-pieces_of_lists}
 use Rattle.mr_runs.proofs.ListLaws.{length-bytes_of_view}
 use Rattle.mr_runs.proofs.views.View.byte.Goals as goal
