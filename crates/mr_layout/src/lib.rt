@@ -10,8 +10,15 @@
 //! Tuples, unions and enums carry their size and alignment, and this crate takes them as written.
 #![tactic(auto)]
 
+mod bytes;
+mod enum_rules;
+mod ok;
+mod rules;
 mod sizes;
 
+pub use bytes::used;
+pub use enum_rules::is_fitting;
+pub use ok::{broken_rule, type_ok};
 pub use sizes::{align, inhabited, int_bytes, size};
 
 #[cfg(test)]
