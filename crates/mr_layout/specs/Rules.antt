@@ -1,25 +1,20 @@
 -- The rules of a well-formed type, each with its number, and the first that is broken.
-use Rattle.std.specs.Prelude.{ℕ, zero, suc, ◌+◌, ◌*◌, ◌-◌, ◌%◌, ◌^◌, Bool, true, false, not, ◌&&◌, ◌||◌, ◌==◌, nat_lt, nat_le, if◌then◌else◌, List, [], ◌∷◌, map, Option, Some, None, count_ones}
-use Rattle.mr_ast.specs.declared.types.IntType.{IntType}
-use Rattle.mr_ast.specs.declared.types.IntType.TheVariants.{U8, U16, U32, U64, U128, I8, I16, I32, I64, I128}
-use Rattle.mr_ast.specs.declared.types.Num.{Num}
-use Rattle.mr_ast.specs.declared.types.Tag.{Tag}
-use Rattle.mr_ast.specs.declared.types.Tree.{Tree}
+use Rattle.std.specs.Prelude.{ℕ, zero, suc, ◌+◌, ◌*◌, ◌%◌, ◌^◌, Bool, true, false, not, ◌&&◌, ◌||◌, ◌==◌, nat_lt, nat_le, if◌then◌else◌, List, [], ◌∷◌, Option, Some, None, count_ones}
 use Rattle.mr_ast.specs.declared.types.Ty.{Ty}
-use Rattle.mr_ast.specs.declared.types.Ty.TheOpen.{Ty-F, Variant-F}
-use Rattle.mr_ast.specs.declared.types.Ty.TheFolds.{para-Ty, para-Variant}
 use Rattle.mr_ast.specs.declared.types.Variant.{Variant}
-use Rattle.mr_layout.specs.Sizes.{int_size, size_of, align_of}
+use Rattle.mr_layout.specs.Sizes.{size_of}
 use Rattle.mr_layout.specs.Used.{is_used, is_in_chunk}
 
 -- the number of a rule, or else what comes after it
 abbrev pub rule : ℕ → Bool → Option ℕ → Option ℕ
 rule code broken next = if broken then Some code else next
 
+-- the first of two
 abbrev pub or_else : Option ℕ → Option ℕ → Option ℕ
 or_else None next = next
 or_else (Some code) next = Some code
 
+-- a size or a count passes the limit
 abbrev pub is_large : ℕ → Bool
 is_large n = nat_lt (2 ^ 20) n
 
@@ -32,25 +27,30 @@ abbrev pub is_past : ℕ → List (ℕ × Ty) → Bool
 is_past size [] = false
 is_past size (f ∷ fields) = nat_lt size (f.0 + size_of f.1) || is_past size fields
 
--- two ranges have a byte in common
+-- two ranges have a byte in common; a range of length 0 has none
 abbrev pub is_meeting : ℕ → ℕ → ℕ → ℕ → Bool
 is_meeting a len b count = nat_lt 0 len && (nat_lt 0 count && (nat_lt a (b + count) && nat_lt b (a + len)))
 
+-- a range has a byte in common with one of these fields
 abbrev pub meets_any : ℕ → ℕ → List (ℕ × Ty) → Bool
 meets_any start len [] = false
 meets_any start len (f ∷ fields) = is_meeting start len f.0 (size_of f.1) || meets_any start len fields
 
+-- two of these fields have a byte in common
 abbrev pub is_overlapping : List (ℕ × Ty) → Bool
 is_overlapping [] = false
 is_overlapping (f ∷ fields) = meets_any f.0 (size_of f.1) fields || is_overlapping fields
 
+-- the first broken rule of a tuple, whose fields break none
 unfoldable pub tuple_rules : ℕ → ℕ → List (ℕ × Ty) → Option ℕ
 tuple_rules size align fields =
     rule 20 (is_large size) (rule 21 (not (is_align align)) (rule 22 (is_past size fields) (rule 23 (is_overlapping fields) (rule 24 (not (size % align == 0)) None))))
 
+-- the first broken rule of a reference
 unfoldable pub ref_rules : ℕ → ℕ → Option ℕ
 ref_rules size align = rule 20 (not (nat_lt size (2 ^ 63))) (rule 21 (not (is_align align)) None)
 
+-- the first broken rule of an array, whose element breaks none
 unfoldable pub array_rules : ℕ → Ty → Option ℕ
 array_rules count elem = rule 20 (is_large count || is_large (count * size_of elem)) None
 
@@ -83,10 +83,12 @@ abbrev pub is_covered : ℕ → Ty → List (ℕ × ℕ) → ℕ → Bool
 is_covered start t chunks zero = true
 is_covered start t chunks (suc n) = is_covered start t chunks n && (not (is_used t n) || is_in_chunk chunks (start + n))
 
+-- each used byte of each field is in a chunk
 abbrev pub are_covered : List (ℕ × Ty) → List (ℕ × ℕ) → Bool
 are_covered [] chunks = true
 are_covered (f ∷ fields) chunks = is_covered f.0 f.1 chunks (size_of f.1) && are_covered fields chunks
 
+-- the first broken rule of a union, whose fields break none
 unfoldable pub union_rules : ℕ → ℕ → List (ℕ × Ty) → List (ℕ × ℕ) → Option ℕ
 union_rules size align fields chunks =
     rule 20 (is_large size) (rule 21 (not (is_align align)) (rule 22 (is_past size fields || is_chunk_past size chunks) (rule 24 (not (size % align == 0)) (rule 28 (not (is_rising chunks && (not (is_chunk_overlapping chunks) && are_covered fields chunks))) None))))
@@ -96,6 +98,7 @@ abbrev pub first_field : List (ℕ × (Ty × Option ℕ)) → Option ℕ
 first_field [] = None
 first_field (f ∷ fields) = or_else f.1.1 (first_field fields)
 
+-- the first broken rule of these variants
 abbrev pub first_variant : List (Variant × Option ℕ) → Option ℕ
 first_variant [] = None
 first_variant (v ∷ variants) = or_else v.1 (first_variant variants)

@@ -6,7 +6,10 @@ use crate::bytes::{in_chunk, used};
 use crate::sizes::size;
 use mr_ast::Ty;
 
-const LARGE: u64 = 0x10_0000;
+// The greatest size, and the greatest count of an array.
+pub(crate) const LARGE: u64 = 0x10_0000;
+
+const MAX_POINTEE: u64 = 0x7fff_ffff_ffff_ffff;
 
 pub(crate) fn is_align(n: u64) -> bool
     ensures { result ≡ is_align n }
@@ -99,7 +102,7 @@ fn part_meets(end: u64, start: u64, t: &Ty, fields: &[(u64, Ty)]) -> bool
     }
 }
 
-/// The first broken rule of a tuple, but for its fields.
+// The first broken rule of a tuple, whose fields break none.
 #[tactic(auto, unfolding(crate::specs::Rules::tuple_rules))]
 pub(crate) fn tuple_rules(size: u64, align: u64, fields: &[(u64, Ty)]) -> Option<u8>
     ensures { result ≡ tuple_rules size align fields.now }
@@ -122,12 +125,12 @@ pub(crate) fn tuple_rules(size: u64, align: u64, fields: &[(u64, Ty)]) -> Option
     None
 }
 
-/// The first broken rule of a reference.
+// The first broken rule of a reference.
 #[tactic(auto, unfolding(crate::specs::Rules::ref_rules))]
 pub(crate) fn ref_rules(size: u64, align: u64) -> Option<u8>
     ensures { result ≡ ref_rules size align }
 {
-    if size > 0x7fff_ffff_ffff_ffff {
+    if size > MAX_POINTEE {
         return Some(20);
     }
     if !is_align(align) {
@@ -136,7 +139,7 @@ pub(crate) fn ref_rules(size: u64, align: u64) -> Option<u8>
     None
 }
 
-/// The first broken rule of an array, but for its element.
+// The first broken rule of an array, whose element breaks none.
 #[tactic(auto, unfolding(crate::specs::Rules::array_rules))]
 pub(crate) fn array_rules(count: u64, elem: &Ty) -> Option<u8>
     ensures { result ≡ array_rules count elem.now }
@@ -257,7 +260,7 @@ fn are_covered(end: u64, fields: &[(u64, Ty)], chunks: &[(u64, u64)]) -> bool
     true
 }
 
-/// The first broken rule of a union, but for its fields.
+// The first broken rule of a union, whose fields break none.
 #[tactic(auto, unfolding(crate::specs::Rules::union_rules))]
 pub(crate) fn union_rules(
     size: u64,
