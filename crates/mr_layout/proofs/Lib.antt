@@ -1,2 +1,9 @@
+pub mod Bounds
+pub mod BrokenLaws
 pub mod Examples
+pub mod OkTests
+pub mod PartsOk
 pub mod SizeLaws
+pub mod TreeLaws
+pub mod UsedInside
+pub mod UsedLaws

@@ -1,17 +1,40 @@
-//! The layout of types: sizes, alignments, and which types have a value.
+//! The layout of types: sizes, alignments, which types have a value, which bytes carry it, and which types are well-formed.
 //!
-//! Public calls, each proved to give what `specs/Sizes.antt` defines by recursion on the type:
+//! Public calls, each proved to give what `specs/` defines by recursion on the type:
 //!
-//! - [`size`]: how many bytes a type takes, and `None` exactly where those are 2^63 or more.
+//! - [`size`]: how many bytes a type takes, and `None` exactly where those are 2^63 or more (`specs/Sizes.antt`).
 //! - [`align`]: the alignment of a type, in bytes.
 //! - [`inhabited`]: whether a type has a value.
 //! - [`int_bytes`]: how many bytes an integer has.
+//! - [`used`]: whether the byte at an offset carries a part of a value (`specs/Used.antt`).
+//! - [`broken_rule`] and [`type_ok`]: the code of the first rule that a type breaks, its parts before itself, and `None` where it is
+//!   well-formed (`specs/TypeOk.antt`, over `specs/Rules.antt` and `specs/EnumRules.antt`).
 //!
-//! Tuples, unions and enums carry their size and alignment, and this crate takes them as written.
+//! Tuples, unions and enums carry their size and alignment, and this crate takes them as written. The rules are on what is written,
+//! and a type answers the least code that it breaks once its parts break none:
+//!
+//! - 20: a size or a count of elements passes 2^20, or what a reference points to has 2^63 bytes or more.
+//! - 21: an alignment is no power of two of at most 4,096, of a reference's target too.
+//! - 22: a field or a chunk passes the size.
+//! - 23: two fields of a tuple overlap. A range of length 0 overlaps nothing.
+//! - 24: the written size of a tuple, a union or an enum is no multiple of its alignment.
+//! - 25: a variant has another size than its enum or a greater alignment, or its number doesn't fit or stands twice.
+//! - 26: a tag passes the size, its number doesn't fit, or it overlaps another tag of the variant or a used byte of the variant's type.
+//! - 27: in an enum's tree a leaf names no variant, a branch passes the size, or a case doesn't fit or stands twice.
+//! - 28: a union's chunks don't rise strictly by offset, two of them overlap, or a used byte of a field is in none.
+//!
+//! `proofs/Bounds.antt` shows that a type that breaks no rule has at most 2^20 bytes, and `proofs/PartsOk.antt` that its parts break
+//! none and lie inside it.
 #![tactic(auto)]
 
+mod bytes;
+mod enum_rules;
+mod ok;
+mod rules;
 mod sizes;
 
+pub use bytes::used;
+pub use ok::{broken_rule, type_ok};
 pub use sizes::{align, inhabited, int_bytes, size};
 
 #[cfg(test)]

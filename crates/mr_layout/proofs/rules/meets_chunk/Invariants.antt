@@ -1,0 +1,6 @@
+use Rattle.std.proofs.Common.{◌≡◌, drop}
+use Rattle.mr_layout.specs.Rules.{meets_chunk}
+use Rattle.mr_layout.proofs.rules.meets_chunk.Given as goal
+
+abbrev pub invariant-loop-chunk : goal.invariant-loop-chunk
+invariant-loop-chunk l = meets_chunk l.start l.len l.chunks ≡ meets_chunk l.start l.len (drop l.chunk-index l.chunks)

@@ -1,0 +1,85 @@
+ghost use Rattle.std.specs.Prelude.{◌≡◌};
+ghost use Rattle.mr_layout.specs.TypeOk.{broken_rule, first_broken_field, first_broken_variant};
+
+use crate::enum_rules::enum_rules;
+use crate::rules::{array_rules, ref_rules, tuple_rules, union_rules};
+use mr_ast::{OutOfMemory, Ty, Variant};
+use std::alloc::Global;
+
+/// The code of the first broken rule of a type, its parts before itself.
+#[cycle(broken)]
+#[tactic(auto, using(crate::proofs::BrokenLaws::broken_laws))]
+pub fn broken_rule(t: &Ty) -> Option<u8>
+    ensures { result ≡ broken_rule t.now }
+{
+    match t {
+        Ty::Int(_) => None,
+        Ty::Bool => None,
+        Ty::Raw => None,
+        Ty::FnPtr => None,
+        Ty::Ref { size, align, .. } => ref_rules(*size, *align),
+        Ty::Tuple {
+            size,
+            align,
+            fields,
+        } => match first_broken_field(fields.as_slice()) {
+            Some(code) => Some(code),
+            None => tuple_rules(*size, *align, fields.as_slice()),
+        },
+        Ty::Array { count, elem } => match broken_rule(elem.get()) {
+            Some(code) => Some(code),
+            None => array_rules(*count, elem.get()),
+        },
+        Ty::Union {
+            size,
+            align,
+            fields,
+            chunks,
+        } => match first_broken_field(fields.as_slice()) {
+            Some(code) => Some(code),
+            None => union_rules(*size, *align, fields.as_slice(), chunks.as_slice()),
+        },
+        Ty::Enum {
+            size,
+            align,
+            disc,
+            variants,
+            tree,
+        } => match first_broken_variant(variants.as_slice()) {
+            Some(code) => Some(code),
+            None => enum_rules(*size, *align, *disc, variants.as_slice(), tree),
+        },
+    }
+}
+
+#[cycle(broken)]
+fn first_broken_field(fields: &[(u64, Ty)]) -> Option<u8>
+    ensures { result ≡ first_broken_field fields.now }
+{
+    for field in fields {
+        if let Some(code) = broken_rule(&field.1) {
+            return Some(code);
+        }
+    }
+    None
+}
+
+#[cycle(broken)]
+#[tactic(auto, using(crate::proofs::BrokenLaws::broken_laws))]
+fn first_broken_variant(variants: &[Variant]) -> Option<u8>
+    ensures { result ≡ first_broken_variant variants.now }
+{
+    for variant in variants {
+        if let Some(code) = broken_rule(&variant.ty) {
+            return Some(code);
+        }
+    }
+    None
+}
+
+/// The code of the first broken rule of a type, its parts before itself, and `None` where none is broken. It takes no memory.
+pub fn type_ok(_alloc: Global, t: &Ty) -> Result<Option<u8>, OutOfMemory>
+    ensures { result ≡ Ok (broken_rule t.now) }
+{
+    Ok(broken_rule(t))
+}
