@@ -7,3 +7,4 @@ pub mod SizeLaws
 pub mod TreeLaws
 pub mod UsedInside
 pub mod UsedLaws
+pub mod WrittenLaws

@@ -32,6 +32,7 @@ mod enum_rules;
 mod ok;
 mod rules;
 mod sizes;
+mod written;
 
 pub use bytes::used;
 pub use ok::{broken_rule, type_ok};
