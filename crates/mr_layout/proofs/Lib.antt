@@ -1,5 +1,6 @@
 pub mod Bounds
 pub mod BrokenLaws
+pub mod CacheLaws
 pub mod Examples
 pub mod OkTests
 pub mod PartsOk

@@ -28,6 +28,7 @@
 #![tactic(auto)]
 
 mod bytes;
+mod cache;
 mod enum_rules;
 mod ok;
 mod rules;
@@ -35,6 +36,7 @@ mod sizes;
 mod written;
 
 pub use bytes::used;
+pub use cache::{Cache, Layout};
 pub use ok::{broken_rule, type_ok};
 pub use sizes::{align, inhabited, int_bytes, size};
 

@@ -1,4 +1,4 @@
-ghost use Rattle.std.specs.Prelude.{◌≡◌, ◌++◌, [], ◌∷◌, OnOk, IfOk};
+ghost use Rattle.std.specs.Prelude.{◌≡◌, ◌++◌, [], ◌∷◌, map, OnOk, IfOk};
 ghost use Rattle.std.specs.List.{flat_map};
 ghost use Rattle.mr_layout.specs.Written.{types_of, types_of_fields, types_of_variants, types_of_place, types_of_value, types_of_values, types_of_result, types_of_stmt, types_of_term, types_of_locals, types_of_block, types_of_function, written_types};
 
@@ -35,6 +35,12 @@ impl<'a> Found<'a> {
         Found {
             types: Vec::new(alloc),
         }
+    }
+
+    pub(crate) fn as_slice(&self) -> &[&'a Ty]
+        ensures { map (λ t. t.now) result.now ≡ self.now }
+    {
+        self.types.as_slice()
     }
 
     fn push(&mut self, t: &'a Ty) -> Result<(), OutOfMemory>

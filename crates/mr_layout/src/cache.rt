@@ -1,0 +1,128 @@
+ghost use Rattle.std.specs.Prelude.{◌≡◌, ◌<◌, ◌^◌, [], ◌∷◌, ◌++◌, All, Contains, Some, slice_get, OnOk, IfOk, IfSome, IfNone};
+ghost use Rattle.mr_layout.specs.Sizes.{size_of};
+ghost use Rattle.mr_layout.specs.TypeOk.{TypeOk};
+ghost use Rattle.mr_layout.specs.Written.{written_types};
+ghost use Rattle.mr_layout.specs.Cached.{IsCacheOf, Adds};
+ghost use Rattle.mr_layout.specs.Layouts.{layout_of, held_types};
+
+use crate::sizes::{align, inhabited, size};
+use crate::written::find_types;
+use mr_ast::{OutOfMemory, Program, Ty};
+use std::alloc::Global;
+use std::marker::Model;
+
+/// What the memory of a type's values looks like.
+#[derive(Clone, Copy, Debug, PartialEq, Eq)]
+pub struct Layout {
+    /// How many bytes a value takes.
+    pub size: u64,
+    /// The alignment in bytes.
+    pub align: u64,
+    /// Whether the type has a value.
+    pub inhabited: bool,
+}
+
+// A type and its layout.
+#[derive(Drop)]
+struct Entry {
+    ty: Ty,
+    layout: Layout,
+}
+
+/// The layouts of some types, each worked out once.
+///
+/// A contract sees the list of the types. The layout that is kept for each is the one that is defined for it.
+#[derive(Drop)]
+pub struct Cache {
+    entries: Vec<Entry>,
+}
+
+impl Model for Cache {
+    ghost use Rattle.std.specs.Prelude.{List};
+    ghost use Rattle.mr_ast.specs.declared.types.Ty.{Ty};
+
+    ghost Value = { List Ty };
+
+    ghost use Rattle.mr_ast.specs.contracts.types.Ty as ty;
+    ghost use Rattle.std.specs.Coded.{codes};
+
+    ghost coded = { Prim.hlevel (codes, ty.the_row.coded) };
+
+    ghost use Rattle.mr_layout.specs.Layouts.{held_types, AreDefined};
+
+    ghost view = { λ c. held_types c.entries.items };
+
+    ghost invariant = { λ c. AreDefined c.entries.items };
+}
+
+impl Cache {
+    /// The layouts of the types that are written in a program, whole or as a part of another type. An `Err` is for want of memory.
+    pub fn new(alloc: Global, p: &Program) -> Result<Cache, OutOfMemory>
+        requires { All TypeOk (written_types p.now) }
+        ensures { IfOk result (λ cache. IsCacheOf cache p.now) }
+    {
+        let found = find_types(alloc, p)?;
+        let mut cache = Cache {
+            entries: Vec::new(alloc),
+        };
+        for t in found.as_slice() {
+            cache.add(alloc, t)?;
+        }
+        Ok(cache)
+    }
+
+    /// The layout of a type, and `None` where the type isn't held. It takes no memory.
+    pub fn get(&self, t: &Ty) -> Option<&Layout>
+        ensures found { IfSome result (λ layout. Contains self.now t.now × (layout.now ≡ layout_of t.now)) }
+        ensures missing { IfNone result (¬ Contains self.now t.now) }
+    {
+        let at = position(self.entries.as_slice(), t)?;
+        Some(&self.entries[at].layout)
+    }
+
+    // Puts a type last that isn't held.
+    fn add(&mut self, alloc: Global, t: &Ty) -> Result<(), OutOfMemory>
+        requires { TypeOk t.now }
+        ensures { OnOk result (Adds self.old t.now self.new) }
+    {
+        if position(self.entries.as_slice(), t).is_some() {
+            return Ok(());
+        }
+        let entry = Entry {
+            ty: t.copy(alloc)?,
+            layout: defined_layout(t),
+        };
+        self.entries.push(entry)?;
+        Ok(())
+    }
+}
+
+// The layout of a type.
+#[tactic(auto, using(crate::proofs::Bounds::type_ok_size))]
+fn defined_layout(t: &Ty) -> Layout
+    requires { TypeOk t.now }
+    ensures { result ≡ layout_of t.now }
+{
+    let size = match size(t) {
+        Some(size) => size,
+        None => unreachable!(),
+    };
+    Layout {
+        size,
+        align: align(t),
+        inhabited: inhabited(t),
+    }
+}
+
+// Where the entry of a type stands.
+fn position(entries: &[Entry], t: &Ty) -> Option<usize>
+    ensures found { IfSome result (λ at. slice_get (held_types entries.now) at ≡ Some t.now) }
+    ensures missing { IfNone result (¬ Contains (held_types entries.now) t.now) }
+{
+    for (at, entry) in entries.iter().enumerate() {
+        if entry.ty.same(t) {
+            return Some(at);
+        }
+    }
+    None
+}
