@@ -6,6 +6,9 @@ pub mod OkTests
 pub mod PartsOk
 pub mod SizeLaws
 pub mod TreeLaws
+pub mod TreeOk
+pub mod Turns
 pub mod UsedInside
 pub mod UsedLaws
+pub mod WellFormed
 pub mod WrittenLaws
