@@ -1,3 +1,4 @@
+pub mod Apart
 pub mod Bounds
 pub mod BrokenLaws
 pub mod CacheLaws
@@ -12,3 +13,4 @@ pub mod UsedInside
 pub mod UsedLaws
 pub mod WellFormed
 pub mod WrittenLaws
+pub mod WrittenParts

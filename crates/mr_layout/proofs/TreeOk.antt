@@ -1,6 +1,6 @@
 -- What a tree without a fault keeps, and which variant a number names.
-use Rattle.std.proofs.Common.{◌≡◌, ℕ, ◌+◌, ◌<◌, ◌≤◌, ◌⊎◌, ⊎_elim, Bool, true, false, List, [], ◌∷◌, refl, sym, ap, ◌∙◌, arith}
-use Rattle.std.specs.Prelude.{Contains, nat_le, not, ◌&&◌, ◌||◌, ◌==◌, if◌then◌else◌}
+use Rattle.std.proofs.Common.{◌≡◌, ℕ, ◌+◌, ◌≤◌, ⊎_elim, Bool, true, false, List, [], ◌∷◌, refl, sym, ap, ◌∙◌, arith}
+use Rattle.std.specs.Prelude.{Contains, nat_le, not, ◌==◌, if◌then◌else◌}
 use Rattle.std.proofs.lemmas.List.Elements.{Contains-append_left, Contains-append_right}
 use Rattle.mr_ast.specs.declared.types.IntType.{IntType}
 use Rattle.mr_ast.specs.declared.types.Num.{Num}
