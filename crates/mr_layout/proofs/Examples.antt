@@ -9,18 +9,8 @@ use Rattle.mr_ast.specs.declared.types.Ty.TheOpen.{Ty-F}
 use Rattle.mr_ast.specs.declared.types.Ty.TheFolds.{fold-roll-Ty}
 use Rattle.mr_layout.specs.Sizes.{int_size, align_step, inhabited_step, variant_step, size_of, align_of, is_inhabited}
 use Rattle.mr_layout.proofs.SizeLaws.{size_int, size_tuple, size_array}
-
-align_int : (i : IntType) → align_of (ty.Int i) ≡ int_size i
-align_int i = ap align_of (sym (ty.rolls-Int i)) ∙ fold-roll-Ty ℕ ℕ align_step variant_step (Ty-F.Int i)
-
-align_tuple : (size align : ℕ) (fields : List (ℕ × Ty)) → align_of (ty.Tuple size align fields) ≡ align
-align_tuple size align fields = ap align_of (sym (ty.rolls-Tuple size align fields)) ∙ fold-roll-Ty ℕ ℕ align_step variant_step (Ty-F.Tuple size align fields)
-
-align_array : (count : ℕ) (elem : Ty) → align_of (ty.Array count elem) ≡ align_of elem
-align_array count elem = ap align_of (sym (ty.rolls-Array count elem)) ∙ fold-roll-Ty ℕ ℕ align_step variant_step (Ty-F.Array count elem)
-
-inhabited_ref : (size align : ℕ) (never : Bool) → is_inhabited (ty.Ref size align never) ≡ not never
-inhabited_ref size align never = ap is_inhabited (sym (ty.rolls-Ref size align never)) ∙ fold-roll-Ty Bool Bool inhabited_step variant_step (Ty-F.Ref size align never)
+use Rattle.mr_layout.proofs.AlignLaws.{align_int, align_tuple, align_array}
+use Rattle.mr_layout.proofs.InhabitedLaws.{inhabited_ref}
 
 -- a byte
 byte_size : size_of (ty.Int U8) ≡ 1

@@ -1,8 +1,11 @@
+pub mod AlignLaws
 pub mod Apart
 pub mod Bounds
 pub mod BrokenLaws
 pub mod CacheLaws
 pub mod Examples
+pub mod HeldTypes
+pub mod InhabitedLaws
 pub mod OkTests
 pub mod PartsOk
 pub mod SizeLaws
