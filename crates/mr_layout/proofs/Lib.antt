@@ -1,4 +1,5 @@
 pub mod AlignLaws
+pub mod Aligned
 pub mod Apart
 pub mod Bounds
 pub mod BrokenLaws
