@@ -73,9 +73,10 @@ rises_after start [] e = (All-nil (λ (d : ℕ × ℕ). start < d.0), λ i j d b
 rises_after start (c ∷ chunks) e =
     let p = and_true (nat_lt start c.0) (is_rising_after c.0 chunks) e in
     let h : start < c.0 = below start c.0 p.0 in
-    let rest = rises_after c.0 chunks p.1 in
-    (All-cons (λ (d : ℕ × ℕ). start < d.0) c chunks h (All-weaker (λ (d : ℕ × ℕ). c.0 < d.0) (λ (d : ℕ × ℕ). start < d.0) (λ d k. omega arith) chunks rest.0),
-     AllPairs-cons Rises c chunks rest.0 rest.1)
+    let rest = rises_after c.0 chunks p.1 in (
+      All-cons (λ (d : ℕ × ℕ). start < d.0) c chunks h (All-weaker (λ (d : ℕ × ℕ). c.0 < d.0) (λ (d : ℕ × ℕ). start < d.0) (λ d k. omega arith) chunks rest.0),
+      AllPairs-cons Rises c chunks rest.0 rest.1,
+    )
 
 pub chunks_rise : (chunks : List (ℕ × ℕ)) → is_rising chunks ≡ true → AllPairs Rises chunks
 chunks_rise [] e = λ i j d before inside. absurd (omega arith)
@@ -99,7 +100,7 @@ covered_byte start t chunks (suc n) k e h u =
     ⊎_elim
     (λ (l : k < n). covered_byte start t chunks n k p.0 l u)
     (λ (s : k ≡ n). subst (λ (m : ℕ). is_in_chunk chunks (start + m) ≡ true) (sym s)
-        (or_else_true (is_used t n) (is_in_chunk chunks (start + n)) p.1 (subst (λ (m : ℕ). is_used t m ≡ true) s u)))
+    (or_else_true (is_used t n) (is_in_chunk chunks (start + n)) p.1 (subst (λ (m : ℕ). is_used t m ≡ true) s u)))
     (at_or_below k n h)
 
 pub fields_covered : (fields : List (ℕ × Ty)) (chunks : List (ℕ × ℕ)) → are_covered fields chunks ≡ true → All (IsCovered chunks) fields

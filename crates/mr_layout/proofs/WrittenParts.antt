@@ -89,7 +89,7 @@ closed_type : (t : Ty) → IsClosed (parts_of t) → IsClosed (types_of t)
 closed_type t h u c =
     ⊎_elim
     (λ (k : Contains (t ∷ []) u). All-weaker (Contains (parts_of t)) (Contains (types_of t)) (λ w j. Contains-append_right (t ∷ []) (parts_of t) w j) (parts_of u)
-        (subst (λ (s : Ty). All (Contains (parts_of t)) (parts_of s)) (the_one t u k) (All-contains_itself (parts_of t))))
+    (subst (λ (s : Ty). All (Contains (parts_of t)) (parts_of s)) (the_one t u k) (All-contains_itself (parts_of t))))
     (λ (k : Contains (parts_of t) u). All-weaker (Contains (parts_of t)) (Contains (types_of t)) (λ w j. Contains-append_right (t ∷ []) (parts_of t) w j) (parts_of u) (h u k))
     (Contains-append_cases (t ∷ []) (parts_of t) u c)
 

@@ -41,4 +41,6 @@ pub use ok::{broken_rule, type_ok};
 pub use sizes::{align, inhabited, int_bytes, size};
 
 #[cfg(test)]
+mod cache_tests;
+#[cfg(test)]
 mod tests;
