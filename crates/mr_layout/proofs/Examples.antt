@@ -1,16 +1,18 @@
--- Types with their sizes and alignments, and whether they have a value, computed.
-use Rattle.std.proofs.Common.{◌≡◌, ℕ, ◌*◌, Bool, true, false, List, [], sym, ap, ◌∙◌}
-use Rattle.std.specs.Prelude.{not}
-use Rattle.mr_ast.specs.declared.types.IntType.{IntType}
-use Rattle.mr_ast.specs.declared.types.IntType.TheVariants.{U8, U16, I128}
+-- Types with their sizes and alignments, whether they have a value, their used bytes, and which types are written with them, computed.
+use Rattle.std.proofs.Common.{◌≡◌, ◌*◌, true, false, [], ◌∷◌, ap, ◌∙◌}
+use Rattle.mr_ast.specs.declared.types.IntType.TheVariants.{U8, U16, U32, I16, I128}
 use Rattle.mr_ast.specs.declared.types.Ty.{Ty}
 use Rattle.mr_ast.specs.declared.types.Ty.TheVariants as ty
-use Rattle.mr_ast.specs.declared.types.Ty.TheOpen.{Ty-F}
-use Rattle.mr_ast.specs.declared.types.Ty.TheFolds.{fold-roll-Ty}
-use Rattle.mr_layout.specs.Sizes.{int_size, align_step, inhabited_step, variant_step, size_of, align_of, is_inhabited}
+use Rattle.mr_ast.specs.declared.expr.Place.TheVariants as place
+use Rattle.mr_ast.specs.declared.expr.Value.TheVariants as value
+use Rattle.mr_layout.specs.Used.{is_used}
+use Rattle.mr_layout.specs.Written.{types_of, types_of_place, types_of_value}
+use Rattle.mr_layout.specs.Sizes.{size_of, align_of, is_inhabited}
 use Rattle.mr_layout.proofs.SizeLaws.{size_int, size_tuple, size_array}
 use Rattle.mr_layout.proofs.AlignLaws.{align_int, align_tuple, align_array}
 use Rattle.mr_layout.proofs.InhabitedLaws.{inhabited_ref}
+use Rattle.mr_layout.proofs.UsedLaws.{used_laws}
+use Rattle.mr_layout.proofs.WrittenLaws.{parts_laws, written_laws}
 
 -- a byte
 byte_size : size_of (ty.Int U8) ≡ 1
@@ -51,3 +53,26 @@ reference_to_a_value = inhabited_ref 2 2 false
 
 reference_to_none : is_inhabited (ty.Ref 0 1 true) ≡ false
 reference_to_none = inhabited_ref 0 1 true
+
+-- a number of four bytes and a bool behind it, in eight bytes
+abbrev pair : Ty
+pair = ty.Tuple 8 4 ((0, ty.Int U32) ∷ (4, ty.Bool) ∷ [])
+
+-- an array of pairs is written with the pair, and the pair with its fields
+written_pairs : types_of (ty.Array 3 pair) ≡ ty.Array 3 pair ∷ pair ∷ ty.Int U32 ∷ ty.Bool ∷ []
+written_pairs = simp parts_laws
+
+-- `deref raw 8: i16`
+written_in_a_place : types_of_place (place.Deref (value.Raw 8) (ty.Int I16)) ≡ ty.Int I16 ∷ []
+written_in_a_place = simp (written_laws, parts_laws)
+
+-- `transmute raw 8: bool`
+written_in_a_value : types_of_value (value.Transmute ty.Bool (value.Raw 8)) ≡ ty.Bool ∷ []
+written_in_a_value = simp (written_laws, parts_laws)
+
+-- the bool carries a part of the value, and the byte behind it doesn't
+bool_of_pair : is_used pair 4 ≡ true
+bool_of_pair = simp used_laws
+
+behind_the_bool : is_used pair 5 ≡ false
+behind_the_bool = simp used_laws

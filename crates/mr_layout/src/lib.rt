@@ -9,6 +9,10 @@
 //! - [`used`]: whether the byte at an offset carries a part of a value (`specs/Used.antt`).
 //! - [`broken_rule`] and [`type_ok`]: the code of the first rule that a type breaks, its parts before itself, and `None` where it is
 //!   well-formed (`specs/TypeOk.antt`, over `specs/Rules.antt` and `specs/EnumRules.antt`).
+//! - [`Cache::new`]: a cache that holds each type written in a program, whole or as a part of another, once, and no other type
+//!   (`specs/Written.antt`, `specs/Cached.antt`). Its condition is that these types are well-formed.
+//! - [`Cache::get`]: the [`Layout`] that is defined for a type, lent by the cache, and `None` exactly where the type isn't held
+//!   (`specs/Layouts.antt`).
 //!
 //! Tuples, unions and enums carry their size and alignment, and this crate takes them as written. The rules are on what is written,
 //! and a type answers the least code that it breaks once its parts break none:
@@ -23,8 +27,16 @@
 //! - 27: in an enum's tree a leaf names no variant, a branch passes the size, or a case doesn't fit or stands twice.
 //! - 28: a union's chunks don't rise strictly by offset, two of them overlap, or a used byte of a field is in none.
 //!
-//! `proofs/Bounds.antt` shows that a type that breaks no rule has at most 2^20 bytes, and `proofs/PartsOk.antt` that its parts break
-//! none and lie inside it.
+//! What other crates rest on, beside the equations of each definition (`proofs/SizeLaws.antt`, `AlignLaws`, `InhabitedLaws`, `UsedLaws`,
+//! `BrokenLaws`, `TreeLaws`, `WrittenLaws`):
+//!
+//! - `proofs/WellFormed.antt`: what a type that breaks no rule keeps, for each kind. `proofs/OkTests.antt` says it of the test `is_ok`,
+//!   and `proofs/Turns.antt` of the next element in a loop.
+//! - `proofs/Bounds.antt`, `Aligned`, `UsedInside`: such a type has at most 2^20 bytes, a power of two as its alignment that divides its
+//!   size, and no used byte at or past its end.
+//! - `proofs/Apart.antt`, `TreeOk`: fields, chunks and tags have no byte in common, and a tree's leaf names a variant.
+//! - `proofs/WrittenParts.antt`, `HeldTypes`: the parts of a well-formed type are well-formed, those of a written type are written, and
+//!   which types the cache holds of a function, a block, a place or a value.
 #![tactic(auto)]
 
 mod bytes;
