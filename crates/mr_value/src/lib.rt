@@ -1,0 +1,14 @@
+//! Values, and the bytes that stand for them.
+#![tactic(auto)]
+
+mod decoding;
+mod numbers;
+mod scalars;
+mod val;
+mod walking;
+
+pub use decoding::decode;
+pub use mr_ast::{Boxed, Items};
+pub use scalars::decode_scalar;
+pub use std::alloc::AllocError as OutOfMemory;
+pub use val::Val;
