@@ -1,8 +1,14 @@
 pub mod DecodeLaws
 pub mod DecodeSteps
 pub mod Digits
+pub mod EncodeLaws
+pub mod EncodeLength
+pub mod EncodeSteps
 pub mod PartLaws
 pub mod RefParts
+pub mod ShapeLaws
+pub mod TagParts
+pub mod ValCases
 pub mod WalkLaws
 pub mod WalkSteps
 pub mod Weights

@@ -11,10 +11,8 @@ use Rattle.mr_layout.proofs.Bounds.{rule_none}
 use Rattle.mr_layout.proofs.OkTests.{ok_of}
 use Rattle.mr_layout.proofs.PartsOk.{and_true}
 use Rattle.mr_value.proofs.DecodeSteps.{eq_from}
+use Rattle.mr_value.proofs.TagParts.{not_false}
 
-not_false : (b : Bool) → not b ≡ false → b ≡ true
-not_false true e = refl
-not_false false e = cc
 
 align_positive : (size align : ℕ) → ref_rules size align ≡ None → 0 < align
 unfolding ref_rules

@@ -1,3 +1,5 @@
 pub mod Decode
 pub mod Discriminants
+pub mod Encode
 pub mod Numbers
+pub mod Shape

@@ -59,7 +59,7 @@ fn decode_at(alloc: Global, v: &View<'_>, at: u64, t: &Ty) -> Result<Option<Val>
             variants,
             tree,
             ..
-        } => match walk_at(v, at, *size, variants.as_slice(), tree) {
+        } => match walk_at(v, at, *size, tree) {
             Some(number) => decode_variant(alloc, v, at, *size, variants.as_slice(), number),
             None => Ok(None),
         },
@@ -78,7 +78,7 @@ fn decode_fields(
     requires inside { at + size ≤ length (bytes_of_pieces v.now) }
     ensures { IfOk result (λ o. o ≡ read_fields fields.now (part at size (bytes_of_pieces v.now))) }
 {
-    let _all = v.len();
+    prove!(size <= v.len());
     let mut values = Items::new(alloc);
     for field in fields {
         match decode_at(alloc, v, at + field.0, &field.1)? {
@@ -126,6 +126,7 @@ fn decode_variant(
     requires inside { at + size ≤ length (bytes_of_pieces v.now) }
     ensures { IfOk result (λ o. o ≡ read_variant variants.now (part at size (bytes_of_pieces v.now)) number) }
 {
+    prove!(size <= v.len());
     for variant in variants {
         if variant.number == number {
             return match decode_at(alloc, v, at, &variant.ty)? {
@@ -149,7 +150,7 @@ fn decode_chunks(
     requires inside { at + size ≤ length (bytes_of_pieces v.now) }
     ensures { IfOk result (λ bytes. bytes ≡ chunks_in chunks.now (part at size (bytes_of_pieces v.now))) }
 {
-    let _all = v.len();
+    prove!(size <= v.len());
     let mut content = Items::new(alloc);
     for chunk in chunks {
         copy_range(v, at + chunk.0, chunk.1, &mut content)?;

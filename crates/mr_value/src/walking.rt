@@ -1,4 +1,5 @@
-ghost use Rattle.std.specs.Prelude.{◌≡◌, ◌<◌, ◌≤◌, ◌+◌, ◌*◌, ◌^◌, true, length};
+ghost use Rattle.std.specs.Prelude.{◌≡◌, ◌<◌, ◌≤◌, ◌+◌, ◌*◌, ◌^◌, true, length, List};
+ghost use Rattle.mr_ast.specs.declared.types.Variant.{Variant};
 ghost use Rattle.mr_layout.specs.Sizes.{int_size};
 ghost use Rattle.mr_layout.specs.EnumRules.{is_tree, are_tree_cases};
 ghost use Rattle.mr_runs.specs.Pieces.{bytes_of_pieces};
@@ -7,7 +8,7 @@ ghost use Rattle.mr_value.specs.Discriminants.{number_of_bits, walk, walk_case};
 ghost use Rattle.mr_ast.specs.Thin.{is_signed};
 
 use crate::numbers::number_at;
-use mr_ast::{IntType, Num, Tree, Variant};
+use mr_ast::{IntType, Num, Tree};
 use mr_layout::int_bytes;
 use mr_runs::View;
 
@@ -55,14 +56,8 @@ pub(crate) fn number_of_bits(int: IntType, bits: u128) -> Num
 /// The discriminant that a tree finds in the `size` bytes from an offset on.
 #[cycle(walk)]
 #[tactic(auto, using(crate::proofs::WalkLaws::walk_laws))]
-pub(crate) fn walk_at(
-    v: &View<'_>,
-    at: u64,
-    size: u64,
-    variants: &[Variant],
-    tree: &Tree,
-) -> Option<Num>
-    requires ok { is_tree size variants.now tree.now ≡ true }
+pub(crate) fn walk_at(v: &View<'_>, at: u64, size: u64, tree: &Tree) -> Option<Num>
+    requires ok { (variants : List Variant) × (is_tree size variants tree.now ≡ true) }
     requires inside { at + size ≤ length (bytes_of_pieces v.now) }
     ensures { result ≡ walk tree.now (part at size (bytes_of_pieces v.now)) }
 {
@@ -70,17 +65,17 @@ pub(crate) fn walk_at(
         Tree::Known(number) => Some(*number),
         Tree::Invalid => None,
         Tree::Branch(offset, int, cases, rest) => {
-            let _all = v.len();
+            prove!(size <= v.len());
             match number_at(v, at + *offset, int_bytes(*int)) {
                 None => None,
                 Some(bits) => {
                     let number = number_of_bits(*int, bits);
                     for case in cases.as_slice() {
                         if case.0 == number {
-                            return walk_at(v, at, size, variants, &case.1);
+                            return walk_at(v, at, size, &case.1);
                         }
                     }
-                    walk_at(v, at, size, variants, rest.get())
+                    walk_at(v, at, size, rest.get())
                 }
             }
         }

@@ -43,7 +43,7 @@ decode_at-decode_chunks-requires-clause-ok t c =
 pub decode_at-walk_at-requires-clause-ok : goal.decode_at-walk_at-requires-clause-ok
 decode_at-walk_at-requires-clause-ok t c =
     let i = c.in-Enum in
-    ap (λ (x : List Variant). is_tree i.size x i.tree) c.as_slice-in-Enum.ensures ∙ (ok_enum i.size i.align i.disc i.variants i.tree (sym (ap is_ok i.is) ∙ c.requires.ok)).1
+    (i.variants, (ok_enum i.size i.align i.disc i.variants i.tree (sym (ap is_ok i.is) ∙ c.requires.ok)).1)
 
 pub decode_at-decode_variant-requires : goal.decode_at-decode_variant-requires
 decode_at-decode_variant-requires t c =
