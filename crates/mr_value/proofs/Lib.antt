@@ -1,9 +1,11 @@
 pub mod DecodeLaws
+pub mod DecodeShape
 pub mod DecodeSteps
 pub mod Digits
 pub mod EncodeLaws
 pub mod EncodeLength
 pub mod EncodeSteps
+pub mod Options
 pub mod PartLaws
 pub mod RefParts
 pub mod ShapeLaws

@@ -12,11 +12,11 @@ Bytes = List AbstractByte
 abbrev pub part : ℕ → ℕ → Bytes → Bytes
 part at len bytes = take len (drop at bytes)
 
--- the number that bytes spell, the lowest byte first; none where a byte is uninitialised
+-- the number that bytes spell, the lowest byte first, each byte a number below 256; none where a byte is uninitialised
 abbrev pub number_of : Bytes → Option ℕ
 number_of [] = Some 0
 number_of (Uninit ∷ bytes) = None
-number_of (Init n p ∷ bytes) = option_map (λ m. n + 256 * m) (number_of bytes)
+number_of (Init n p ∷ bytes) = option_map (λ m. n % 256 + 256 * m) (number_of bytes)
 
 -- so many lowest bytes of a number, the lowest first
 abbrev pub little_endian : ℕ → ℕ → List ℕ
