@@ -99,7 +99,7 @@ variant_shape size [] b n v all ok h e = absurd (cc)
 variant_shape size (w ∷ variants) b n v all ok h e =
     chosen (same_num w.number n) refl
     (λ is. let m = mapped (λ x. val.Variant n x) (decoded w.ty b) v (sym (read is) ∙ e) in
-        record { value = m.0; is = m.1.1; shaped = shape m.0 is ∙ all.0 ok.0.ok b (h ∙ sym ok.1) m.0 m.1.0 })
+    record { value = m.0; is = m.1.1; shaped = shape m.0 is ∙ all.0 ok.0.ok b (h ∙ sym ok.1) m.0 m.1.0 })
     (λ is. variant_shape size variants b n v all.1 ok.2 h (sym (read is) ∙ e))
   where
     read : {t : Bool} → same_num w.number n ≡ t → read_variant (w ∷ variants) b n ≡ (if t then option_map (λ x. val.Variant n x) (decoded w.ty b) else read_variant variants b n)

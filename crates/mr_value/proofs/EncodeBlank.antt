@@ -64,12 +64,12 @@ fields_blank size (f ∷ fields) (v ∷ vs) bytes i all ok e h u n =
     let long = length-encoding_of f.1 ok.0.ok v p.0 in
     let inside : f.0 + length piece ≤ length bytes = omega (arith, ok.0.inside) in
     let here : byte_at (with_range_replaced bytes f.0 piece) i ≡ Uninit =
-        ⊎_elim
-        (λ (out : is_in f.0 (length piece) i ≡ false). untouched bytes f.0 piece i inside out ∙ u)
-        (λ (in_it : (f.0 ≤ i) × (i < f.0 + length piece)).
-            let at : i - f.0 < size_of f.1 = omega arith in
-            byte_inside bytes f.0 piece i inside in_it.0 in_it.1 ∙ all.0 ok.0.ok v p.0 (i - f.0) at (part_unused f.0 i f.1 apart.0 in_it.0))
-        (in_cases f.0 (length piece) i) in
+    ⊎_elim
+    (λ (out : is_in f.0 (length piece) i ≡ false). untouched bytes f.0 piece i inside out ∙ u)
+    (λ (in_it : (f.0 ≤ i) × (i < f.0 + length piece)).
+    let at : i - f.0 < size_of f.1 = omega arith in
+    byte_inside bytes f.0 piece i inside in_it.0 in_it.1 ∙ all.0 ok.0.ok v p.0 (i - f.0) at (part_unused f.0 i f.1 apart.0 in_it.0))
+    (in_cases f.0 (length piece) i) in
     fields_blank size fields vs (with_range_replaced bytes f.0 piece) i all.1 ok.1 p.1 (length-with_range_replaced bytes f.0 piece inside ∙ h) here apart.1
 
 pub below_or : (a b : ℕ) → (a < b) ⊎ (b ≤ a)
@@ -92,14 +92,14 @@ elements_blank elem (v ∷ vs) i all ok e p n =
     let long : length piece ≡ size = length-encoding_of elem ok v s.0 in
     ⊎_elim
     (λ (low : i < size).
-        let same : i % size ≡ i = mod-eq_of_lt low in
-        get_or_append_left piece rest Uninit i (omega arith) ∙ all ok v s.0 i low (sym (ap (is_used elem) same) ∙ n))
+    let same : i % size ≡ i = mod-eq_of_lt low in
+    get_or_append_left piece rest Uninit i (omega arith) ∙ all ok v s.0 i low (sym (ap (is_used elem) same) ∙ n))
     (λ (high : size ≤ i).
-        let place : size + (i - size) ≡ i = omega arith in
-        let same : i % size ≡ (i - size) % size = ap (λ k. k % size) (sym place) ∙ add-mod_left size (i - size) in
-        let left : i - size < length vs * size = rest_below (length vs) size i p high in
-        get_or-append_right piece rest size i Uninit long high
-        ∙ elements_blank elem vs (i - size) all ok s.1 left (sym (ap (is_used elem) same) ∙ n))
+    let place : size + (i - size) ≡ i = omega arith in
+    let same : i % size ≡ (i - size) % size = ap (λ k. k % size) (sym place) ∙ add-mod_left size (i - size) in
+    let left : i - size < length vs * size = rest_below (length vs) size i p high in
+    get_or-append_right piece rest size i Uninit long high
+    ∙ elements_blank elem vs (i - size) all ok s.1 left (sym (ap (is_used elem) same) ∙ n))
     (below_or i size)
 
 variant_blank : (size : ℕ) (variants : List Variant) (n : Num) (v : Val) (i : ℕ) → AllVariants IsBlank variants → VariantsOk size variants → are_all_tags size variants ≡ true → variant_has_shape variants n v ≡ true → i < size → is_used_in variants i ≡ false
@@ -111,11 +111,11 @@ variant_blank size (w ∷ variants) n v i all ok tags e p u =
     let part = or_false (is_used w.ty i) (is_in_tag w.tags i) (sym (used_variant_is w i) ∙ unused.0) in
     chosen (same_num w.number n)
     (λ here.
-        let long : length (encoding_of w.ty v) ≡ size = length-encoding_of w.ty ok.0.ok v here ∙ ok.1 in
-        let within : i < size_of w.ty = omega (arith, ok.1) in
-        ap (λ (b : Bytes). byte_at b i) (with_tags_is w.tags (encoding_of w.ty v))
-        ∙ byte_outside size (tag_pieces w.tags) (encoding_of w.ty v) i (tags_inside size w.ty w.tags t.0) long (in_tags w.tags i ∙ part.1)
-        ∙ all.0 ok.0.ok v here i within part.0)
+    let long : length (encoding_of w.ty v) ≡ size = length-encoding_of w.ty ok.0.ok v here ∙ ok.1 in
+    let within : i < size_of w.ty = omega (arith, ok.1) in
+    ap (λ (b : Bytes). byte_at b i) (with_tags_is w.tags (encoding_of w.ty v))
+    ∙ byte_outside size (tag_pieces w.tags) (encoding_of w.ty v) i (tags_inside size w.ty w.tags t.0) long (in_tags w.tags i ∙ part.1)
+    ∙ all.0 ok.0.ok v here i within part.0)
     (λ rest. variant_blank size variants n v i all.1 ok.2 t.1 rest p unused.1)
     e
   where

@@ -63,7 +63,7 @@ pub record NextValue (fields : List (ℕ × Ty)) (vs : List Val) (i : ℕ) (f : 
 pub next_value : (fields : List (ℕ × Ty)) (vs : List Val) (i : ℕ) (f : ℕ × Ty) (v : Val) → i < length fields → i < length vs → fields_have_shape (drop i fields) (drop i vs) ≡ true → NextValue fields vs i (get_or fields i f) (get_or vs i v)
 next_value fields vs i f v p q e =
     let at = ap (λ (x : List (ℕ × Ty)). fields_have_shape x (drop i vs)) (at_drop fields i f p)
-        ∙ ap (fields_have_shape (get_or fields i f ∷ drop (i + 1) fields)) (at_drop vs i v q) in
+    ∙ ap (fields_have_shape (get_or fields i f ∷ drop (i + 1) fields)) (at_drop vs i v q) in
     let h = and_true (has_shape (get_or fields i f).1 (get_or vs i v)) (fields_have_shape (drop (i + 1) fields) (drop (i + 1) vs)) (sym at ∙ e) in
     record { here = h.0; rest = h.1 }
 

@@ -8,7 +8,9 @@ pub mod EncodeLaws
 pub mod EncodeLength
 pub mod EncodePieces
 pub mod EncodeSteps
+pub mod Examples
 pub mod FaithfulLaws
+pub mod Meanings
 pub mod NumbersBack
 pub mod Options
 pub mod PartLaws

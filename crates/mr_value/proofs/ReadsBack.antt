@@ -68,7 +68,7 @@ all_same : (t : Ty) (size : ℕ) (v w : Val) (b bytes : Bytes) → v ≡ w → e
 all_same t size v w b bytes is written used sized long h agrees =
     ext_get_or Uninit b bytes (h ∙ sized ∙ sym long)
     (λ i p. let q : i < size_of t = subst (λ n. i < n) h p in
-        agrees i q (used i ∙ lt_test i size (subst (λ n. i < n) sized q)) ∙ ap (λ x. byte_at (encoding_of t x) i) is ∙ ap (λ (x : Bytes). byte_at x i) written)
+    agrees i q (used i ∙ lt_test i size (subst (λ n. i < n) sized q)) ∙ ap (λ x. byte_at (encoding_of t x) i) is ∙ ap (λ (x : Bytes). byte_at x i) written)
 
 pointer_where_back : (test : ℕ → Bool) (p : Pointer) → is_address p.addr ≡ true → test p.addr ≡ true → pointer_where test (pointer_bytes p) ≡ Some (val.Ptr p)
 pointer_where_back test p small passes =
@@ -118,16 +118,17 @@ fields_agree size (f ∷ fields) (v ∷ vs) b bytes ok e apart h same =
     let inside : f.0 + length piece ≤ size = omega (arith, ok.0.inside) in
     let within : f.0 + length piece ≤ length bytes = omega arith in
     let next = with_range_replaced bytes f.0 piece in
-    let clear = ap (λ n. meets_any f.0 n fields) long ∙ far.0 in
-    ((λ j q u.
-        let there : f.0 + j < size = omega (arith, ok.0.inside) in
-        let low : j < length piece = omega arith in
-        byte_of_part f.0 (size_of f.1) b j q
-        ∙ same (f.0 + j) there (or_left (is_in_part f.0 (is_used f.1) (f.0 + j)) (is_used_field fields (f.0 + j)) (part_used f.0 j f.1 u))
-        ∙ ap (λ (x : Bytes). byte_at x (f.0 + j)) (write_fields_is fields vs next)
-        ∙ byte_of_piece size f.0 piece (field_pieces fields vs) bytes j inside (fields_inside size fields vs ok.1 p.1) h (meets_fields size f.0 (length piece) fields vs ok.1 p.1 ∙ clear) low),
-    fields_agree size fields vs b next ok.1 p.1 far.1 (length-with_range_replaced bytes f.0 piece within ∙ h)
-    (λ i q u. same i q (or_right (is_in_part f.0 (is_used f.1) i) (is_used_field fields i) u)))
+    let clear = ap (λ n. meets_any f.0 n fields) long ∙ far.0 in (
+      (λ j q u.
+          let there : f.0 + j < size = omega (arith, ok.0.inside) in
+          let low : j < length piece = omega arith in
+          byte_of_part f.0 (size_of f.1) b j q
+          ∙ same (f.0 + j) there (or_left (is_in_part f.0 (is_used f.1) (f.0 + j)) (is_used_field fields (f.0 + j)) (part_used f.0 j f.1 u))
+          ∙ ap (λ (x : Bytes). byte_at x (f.0 + j)) (write_fields_is fields vs next)
+          ∙ byte_of_piece size f.0 piece (field_pieces fields vs) bytes j inside (fields_inside size fields vs ok.1 p.1) h (meets_fields size f.0 (length piece) fields vs ok.1 p.1 ∙ clear) low),
+      fields_agree size fields vs b next ok.1 p.1 far.1 (length-with_range_replaced bytes f.0 piece within ∙ h)
+          (λ i q u. same i q (or_right (is_in_part f.0 (is_used f.1) i) (is_used_field fields i) u)),
+    )
 
 fields_read : (size : ℕ) (fields : List (ℕ × Ty)) (vs : List Val) (b : Bytes) → AllFields Reads fields → FieldsOk size fields → fields_have_shape fields vs ≡ true → fields_faithful fields vs ≡ true → length b ≡ size → FieldsAgree b fields vs → read_fields fields b ≡ Some vs
 fields_read size [] [] b all ok e g h agree = refl
@@ -156,20 +157,20 @@ elements_read elem (v ∷ vs) b all ok e g h same =
     let first : length (take size b) ≡ size = omega (arith, length-take size b) in
     let left : length (drop size b) ≡ length vs * size = omega (arith, length-drop size b) in
     let one = all ok v p.0 q.0 (take size b) first
-        (λ j low u.
-            let within : j < suc (length vs) * size = begins (length vs) size j low in
-            get_or-take size b j Uninit low
-            ∙ same j within (ap (is_used elem) (mod-eq_of_lt low) ∙ u)
-            ∙ get_or_append_left piece rest Uninit j (omega arith)) in
+    (λ j low u.
+    let within : j < suc (length vs) * size = begins (length vs) size j low in
+    get_or-take size b j Uninit low
+    ∙ same j within (ap (is_used elem) (mod-eq_of_lt low) ∙ u)
+    ∙ get_or_append_left piece rest Uninit j (omega arith)) in
     let others = elements_read elem vs (drop size b) all ok p.1 q.1 left
-        (λ j low u.
-            let within : size + j < suc (length vs) * size = goes_on (length vs) size j low in
-            let high : size ≤ size + j = omega arith in
-            let place : size + j - size ≡ j = omega arith in
-            get_or-drop size b j Uninit
-            ∙ same (size + j) within (ap (is_used elem) (add-mod_left size j) ∙ u)
-            ∙ get_or-append_right piece rest size (size + j) Uninit long high
-            ∙ ap (byte_at rest) place) in
+    (λ j low u.
+    let within : size + j < suc (length vs) * size = goes_on (length vs) size j low in
+    let high : size ≤ size + j = omega arith in
+    let place : size + j - size ≡ j = omega arith in
+    get_or-drop size b j Uninit
+    ∙ same (size + j) within (ap (is_used elem) (add-mod_left size j) ∙ u)
+    ∙ get_or-append_right piece rest size (size + j) Uninit long high
+    ∙ ap (byte_at rest) place) in
     ap (option_and_then (λ w. option_map (λ ws. w ∷ ws) (elements_in (length vs) size (decoded elem) (drop size b)))) one
     ∙ ap (option_map (λ ws. v ∷ ws)) others
   where
@@ -203,16 +204,16 @@ chunks_read size (c ∷ chunks) content b bytes ok apart k h s same =
     let clear = ap (λ n. meets_chunk c.0 n chunks) long ∙ far.0 in
     let taken : length (part c.0 c.1 b) ≡ c.1 = length-part c.0 c.1 b (omega (arith, ok.0)) in
     let one : part c.0 c.1 b ≡ piece = ext_get_or Uninit (part c.0 c.1 b) piece (taken ∙ sym long)
-        (λ j p.
-            let low : j < c.1 = omega arith in
-            let there : c.0 + j < size = omega (arith, ok.0) in
-            let short : j < length piece = omega arith in
-            byte_of_part c.0 c.1 b j low
-            ∙ same (c.0 + j) there (or_left (is_in c.0 c.1 (c.0 + j)) (is_in_chunk chunks (c.0 + j)) (chunk_used c.0 c.1 j low))
-            ∙ ap (λ (x : Bytes). byte_at x (c.0 + j)) (with_chunks_is chunks (drop c.1 content) next)
-            ∙ byte_of_piece size c.0 piece (chunk_pieces chunks (drop c.1 content)) bytes j inside (chunks_inside size chunks (drop c.1 content) ok.1 left) s (meets_chunks c.0 (length piece) chunks (drop c.1 content) left ∙ clear) short) in
+    (λ j p.
+    let low : j < c.1 = omega arith in
+    let there : c.0 + j < size = omega (arith, ok.0) in
+    let short : j < length piece = omega arith in
+    byte_of_part c.0 c.1 b j low
+    ∙ same (c.0 + j) there (or_left (is_in c.0 c.1 (c.0 + j)) (is_in_chunk chunks (c.0 + j)) (chunk_used c.0 c.1 j low))
+    ∙ ap (λ (x : Bytes). byte_at x (c.0 + j)) (with_chunks_is chunks (drop c.1 content) next)
+    ∙ byte_of_piece size c.0 piece (chunk_pieces chunks (drop c.1 content)) bytes j inside (chunks_inside size chunks (drop c.1 content) ok.1 left) s (meets_chunks c.0 (length piece) chunks (drop c.1 content) left ∙ clear) short) in
     let others = chunks_read size chunks (drop c.1 content) b next ok.1 far.1 left h (length-with_range_replaced bytes c.0 piece within ∙ s)
-        (λ i p u. same i p (or_right (is_in c.0 c.1 i) (is_in_chunk chunks i) u)) in
+    (λ i p u. same i p (or_right (is_in c.0 c.1 i) (is_in_chunk chunks i) u)) in
     ap (λ (x : Bytes). x ++ chunks_in chunks b) one ∙ ap (λ (x : Bytes). piece ++ x) others ∙ take-append-drop c.1 content
 
 some_unused : (t : Ty) (start n j : ℕ) → is_some_used t start n ≡ false → j < n → is_used t (start + j) ≡ false
@@ -231,11 +232,11 @@ tags_unused size t (g ∷ tags) i e u =
     let p = first_tag size t g tags e in
     neither (is_in g.at (int_size g.int) i) (is_in_tag tags i)
     (λ h. let q = and_true (nat_le g.at i) (nat_lt i (g.at + int_size g.int)) h in
-        let low : g.at ≤ i = grind (arith, nat_tests) in
-        let high : i < g.at + int_size g.int = grind (arith, nat_tests) in
-        let place : g.at + (i - g.at) ≡ i = omega arith in
-        let near : i - g.at < int_size g.int = omega arith in
-        clash (sym u ∙ sym (ap (is_used t) place) ∙ some_unused t g.at (int_size g.int) (i - g.at) p.unused near))
+    let low : g.at ≤ i = grind (arith, nat_tests) in
+    let high : i < g.at + int_size g.int = grind (arith, nat_tests) in
+    let place : g.at + (i - g.at) ≡ i = omega arith in
+    let near : i - g.at < int_size g.int = omega arith in
+    clash (sym u ∙ sym (ap (is_used t) place) ∙ some_unused t g.at (int_size g.int) (i - g.at) p.unused near))
     (tags_unused size t tags i p.rest u)
   where
     clash : true ≡ false → ⊥
@@ -256,13 +257,13 @@ variant_read size (w ∷ variants) n v b all ok tags e g h same =
     let t = and_true (are_tags size w.ty w.tags) (are_all_tags size variants) tags in
     chosen (same_num w.number n)
     (λ here faithful found. all.0 ok.0.ok v here faithful b (h ∙ sym ok.1)
-        (λ i p u.
-            let within : i < size = subst (λ k. i < k) ok.1 p in
-            let long : length (encoding_of w.ty v) ≡ size = length-encoding_of w.ty ok.0.ok v here ∙ ok.1 in
-            let used : is_used_variant w i ≡ true = used_variant_is w i ∙ or_left (is_used w.ty i) (is_in_tag w.tags i) u in
-            found i within (or_left (is_used_variant w i) (is_used_in variants i) used)
-            ∙ ap (λ (x : Bytes). byte_at x i) (with_tags_is w.tags (encoding_of w.ty v))
-            ∙ byte_outside size (tag_pieces w.tags) (encoding_of w.ty v) i (tags_inside size w.ty w.tags t.0) long (in_tags w.tags i ∙ tags_unused size w.ty w.tags i t.0 u)))
+    (λ i p u.
+    let within : i < size = subst (λ k. i < k) ok.1 p in
+    let long : length (encoding_of w.ty v) ≡ size = length-encoding_of w.ty ok.0.ok v here ∙ ok.1 in
+    let used : is_used_variant w i ≡ true = used_variant_is w i ∙ or_left (is_used w.ty i) (is_in_tag w.tags i) u in
+    found i within (or_left (is_used_variant w i) (is_used_in variants i) used)
+    ∙ ap (λ (x : Bytes). byte_at x i) (with_tags_is w.tags (encoding_of w.ty v))
+    ∙ byte_outside size (tag_pieces w.tags) (encoding_of w.ty v) i (tags_inside size w.ty w.tags t.0) long (in_tags w.tags i ∙ tags_unused size w.ty w.tags i t.0 u)))
     (λ shape faithful found. variant_read size variants n v b all.1 ok.2 t.1 shape faithful h (λ i p u. found i p (or_right (is_used_variant w i) (is_used_in variants i) u)))
     e g same
   where
@@ -347,8 +348,8 @@ reads_cases = record {
       let parts = tuple_parts size align fields ok in
       let sized = size_tuple size align fields in
       let agree = fields_agree size fields s.values b (blank size) parts s.shaped (tuple_apart size align fields ok) (length-replicate size Uninit)
-          (λ i p u. agrees i (subst (λ n. i < n) (sym sized) p) (used_tuple size align fields i ∙ u)
-              ∙ ap (λ x. byte_at (encoding_of t x) i) s.is ∙ ap (λ (x : Bytes). byte_at x i) (encode_tuple size align fields s.values)) in
+      (λ i p u. agrees i (subst (λ n. i < n) (sym sized) p) (used_tuple size align fields i ∙ u)
+      ∙ ap (λ x. byte_at (encoding_of t x) i) s.is ∙ ap (λ (x : Bytes). byte_at x i) (encode_tuple size align fields s.values)) in
       let good = sym (faithful_tuple size align fields s.values) ∙ sym (ap (is_faithful t) s.is) ∙ g in
       decode_tuple size align fields b ∙ ap (option_map val.Tuple) (fields_read size fields s.values b all parts s.shaped good (h ∙ sized) agree) ∙ ap Some (sym s.is);
   at_array = λ count elem all ok v e g b h agrees.
@@ -359,11 +360,11 @@ reads_cases = record {
       let good = sym (faithful_array count elem s.values) ∙ sym (ap (is_faithful t) s.is) ∙ g in
       let long : length b ≡ length s.values * size_of elem = h ∙ sized ∙ ap (λ n. n * size_of elem) (sym counted) in
       let read = elements_read elem s.values b all (array_part count elem ok) s.shaped good long
-          (λ i p u.
-              let within : i < count * size_of elem = subst (λ n. i < n * size_of elem) counted p in
-              let used = used_array count elem i ∙ ap (λ x. x && is_used elem (i % size_of elem)) (lt_test i (count * size_of elem) within) ∙ u in
-              agrees i (subst (λ n. i < n) (sym sized) within) used
-              ∙ ap (λ x. byte_at (encoding_of t x) i) s.is ∙ ap (λ (x : Bytes). byte_at x i) (encode_array count elem s.values)) in
+      (λ i p u.
+      let within : i < count * size_of elem = subst (λ n. i < n * size_of elem) counted p in
+      let used = used_array count elem i ∙ ap (λ x. x && is_used elem (i % size_of elem)) (lt_test i (count * size_of elem) within) ∙ u in
+      agrees i (subst (λ n. i < n) (sym sized) within) used
+      ∙ ap (λ x. byte_at (encoding_of t x) i) s.is ∙ ap (λ (x : Bytes). byte_at x i) (encode_array count elem s.values)) in
       decode_array count elem b ∙ ap (λ n. option_map val.Tuple (elements_in n (size_of elem) (decoded elem) b)) (sym counted)
       ∙ ap (option_map val.Tuple) read ∙ ap Some (sym s.is);
   at_union = λ size align fields chunks all ok v e g b h agrees.
@@ -371,8 +372,8 @@ reads_cases = record {
       let s = shape_union size align fields chunks v e in
       let sized = size_union size align fields chunks in
       let read = chunks_read size chunks s.content b (blank size) (union_parts size align fields chunks ok) (union_apart size align fields chunks ok) (eq_from (length s.content) (chunks_size chunks) s.sized) (h ∙ sized) (length-replicate size Uninit)
-          (λ i p u. agrees i (subst (λ n. i < n) (sym sized) p) (used_union size align fields chunks i ∙ u)
-              ∙ ap (λ x. byte_at (encoding_of t x) i) s.is ∙ ap (λ (x : Bytes). byte_at x i) (encode_union size align fields chunks s.content)) in
+      (λ i p u. agrees i (subst (λ n. i < n) (sym sized) p) (used_union size align fields chunks i ∙ u)
+      ∙ ap (λ x. byte_at (encoding_of t x) i) s.is ∙ ap (λ (x : Bytes). byte_at x i) (encode_union size align fields chunks s.content)) in
       decode_union size align fields chunks b ∙ ap (λ (x : Bytes). Some (val.Union x)) read ∙ ap Some (sym s.is);
   at_enum = λ size align disc variants tree all ok v e g b h agrees.
       let t = ty.Enum size align disc variants tree in
@@ -380,13 +381,13 @@ reads_cases = record {
       let w = val.Variant s.number s.value in
       let sized = size_enum size align disc variants tree in
       let good = and_true (is_found s.number (walk tree (encoding_of t w))) (variant_faithful variants s.number s.value)
-          (sym (faithful_enum size align disc variants tree s.number s.value) ∙ sym (ap (is_faithful t) s.is) ∙ g) in
+      (sym (faithful_enum size align disc variants tree s.number s.value) ∙ sym (ap (is_faithful t) s.is) ∙ g) in
       let reached = ap (λ x. walk tree (encoding_of t x)) s.is ∙ found_is s.number (walk tree (encoding_of t w)) good.0 in
       let long = h ∙ sym (length-encoding_of t ok v e) in
       let found = walk_same tree b (encoding_of t v) s.number long (holds_used t v b ok e agrees) reached in
       let read = variant_read size variants s.number s.value b all (enum_parts size align disc variants tree ok).0 (enum_tags size align disc variants tree ok) s.shaped good.1 (h ∙ sized)
-          (λ i p u. agrees i (subst (λ n. i < n) (sym sized) p) (used_enum size align disc variants tree i ∙ u)
-              ∙ ap (λ x. byte_at (encoding_of t x) i) s.is ∙ ap (λ (x : Bytes). byte_at x i) (encode_enum size align disc variants tree s.number s.value)) in
+      (λ i p u. agrees i (subst (λ n. i < n) (sym sized) p) (used_enum size align disc variants tree i ∙ u)
+      ∙ ap (λ x. byte_at (encoding_of t x) i) s.is ∙ ap (λ (x : Bytes). byte_at x i) (encode_enum size align disc variants tree s.number s.value)) in
       decode_enum size align disc variants tree b ∙ ap (option_and_then (read_variant variants b)) found ∙ read ∙ ap Some (sym s.is);
 }
 

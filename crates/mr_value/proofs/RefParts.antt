@@ -13,7 +13,6 @@ use Rattle.mr_layout.proofs.PartsOk.{and_true}
 use Rattle.mr_value.proofs.DecodeSteps.{eq_from}
 use Rattle.mr_value.proofs.TagParts.{not_false}
 
-
 align_positive : (size align : ℕ) → ref_rules size align ≡ None → 0 < align
 unfolding ref_rules
 align_positive size align e =

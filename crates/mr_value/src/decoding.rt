@@ -1,10 +1,12 @@
-ghost use Rattle.std.specs.Prelude.{◌≡◌, ◌≤◌, ◌+◌, ◌*◌, ◌++◌, true, length, IfOk, OnOk};
+ghost use Rattle.std.specs.Prelude.{◌≡◌, ◌≤◌, ◌+◌, ◌*◌, ◌++◌, true, length, IfOk, IfSome, IfNone, OnOk};
 ghost use Rattle.mr_layout.specs.Sizes.{size_of};
 ghost use Rattle.mr_layout.specs.Parts.{is_ok, are_ok, are_variants_ok, are_chunks_ok};
 ghost use Rattle.mr_layout.specs.TypeOk.{TypeOk};
 ghost use Rattle.mr_runs.specs.Pieces.{bytes_of_pieces};
 ghost use Rattle.mr_value.specs.Numbers.{part};
-ghost use Rattle.mr_value.specs.Decode.{decoded, read_fields, read_variant, elements_in, chunks_in};
+ghost use Rattle.mr_value.specs.declared.val.Val.{Val};
+ghost use Rattle.mr_value.specs.Shape.{has_shape};
+ghost use Rattle.mr_value.specs.Decode.{Means, decoded, read_fields, read_variant, elements_in, chunks_in};
 
 use crate::OutOfMemory;
 use crate::scalars::scalar_at;
@@ -181,7 +183,10 @@ fn copy_range(
 pub fn decode(alloc: Global, v: &View<'_>, t: &Ty) -> Result<Option<Val>, OutOfMemory>
     requires ok { TypeOk t.now }
     requires sized { length (bytes_of_pieces v.now) ≡ size_of t.now }
-    ensures { IfOk result (λ o. o ≡ decoded t.now (bytes_of_pieces v.now)) }
+    ensures value { IfOk result (λ o. o ≡ decoded t.now (bytes_of_pieces v.now)) }
+    ensures meaning { IfOk result (λ o. IfSome o (Means t.now (bytes_of_pieces v.now))) }
+    ensures none { IfOk result (λ o. IfNone o ((w : Val) → Means t.now (bytes_of_pieces v.now) w → ⊥)) }
+    ensures shape { IfOk result (λ o. IfSome o (λ w. has_shape t.now w ≡ true)) }
 {
     decode_at(alloc, v, 0, t)
 }

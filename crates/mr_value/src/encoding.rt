@@ -86,12 +86,7 @@ fn uninit(alloc: Global, size: u64) -> Result<Vec<AbstractByte>, OutOfMemory>
 // Appends the bytes of a value.
 #[cycle(encode)]
 #[tactic(auto, using(crate::proofs::EncodeLaws::encode_laws))]
-fn append(
-    alloc: Global,
-    v: &Val,
-    t: &Ty,
-    out: &mut Vec<AbstractByte>,
-) -> Result<(), OutOfMemory>
+fn append(alloc: Global, v: &Val, t: &Ty, out: &mut Vec<AbstractByte>) -> Result<(), OutOfMemory>
     requires ok { is_ok t.now ≡ true }
     requires shape { has_shape t.now v.now ≡ true }
     ensures ok { OnOk result (out.new.items ≡ out.old.items ++ encoding_of t.now v.now) }
@@ -205,11 +200,7 @@ fn variant_bytes(
 }
 
 // Puts each tag in its place.
-fn write_tags(
-    alloc: Global,
-    tags: &[Tag],
-    bytes: &mut Vec<AbstractByte>,
-) -> Result<(), OutOfMemory>
+fn write_tags(alloc: Global, tags: &[Tag], bytes: &mut Vec<AbstractByte>) -> Result<(), OutOfMemory>
     requires { (t : Ty) × (are_tags (length bytes.old.items) t tags.now ≡ true) }
     ensures { OnOk result (bytes.new.items ≡ with_tags tags.now bytes.old.items) }
 {

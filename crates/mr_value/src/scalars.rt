@@ -1,10 +1,12 @@
-ghost use Rattle.std.specs.Prelude.{◌≡◌, ◌<◌, ◌≤◌, ◌+◌, true, length, IsTrue, option_map, option_and_then};
+ghost use Rattle.std.specs.Prelude.{◌≡◌, ◌<◌, ◌≤◌, ◌+◌, true, length, IfSome, IfNone, IsTrue, option_map, option_and_then};
 ghost use Rattle.mr_layout.specs.Sizes.{size_of, int_size};
 ghost use Rattle.mr_layout.specs.Parts.{is_ok};
 ghost use Rattle.mr_layout.specs.TypeOk.{TypeOk};
 ghost use Rattle.mr_runs.specs.Pieces.{bytes_of_pieces};
 ghost use Rattle.mr_value.specs.Numbers.{part, number_of};
-ghost use Rattle.mr_value.specs.Decode.{decoded, is_scalar, bool_of, pointer_where, is_not_null, is_aligned};
+ghost use Rattle.mr_value.specs.declared.val.Val.{Val};
+ghost use Rattle.mr_value.specs.Shape.{has_shape};
+ghost use Rattle.mr_value.specs.Decode.{Means, decoded, is_scalar, bool_of, pointer_where, is_not_null, is_aligned};
 
 use crate::numbers::{number_at, pointer_at};
 use crate::val::Val;
@@ -102,7 +104,10 @@ pub fn decode_scalar(v: &View<'_>, t: &Ty) -> Option<Val>
     requires ok { TypeOk t.now }
     requires scalar { IsTrue (is_scalar t.now) }
     requires sized { length (bytes_of_pieces v.now) ≡ size_of t.now }
-    ensures { result ≡ decoded t.now (bytes_of_pieces v.now) }
+    ensures value { result ≡ decoded t.now (bytes_of_pieces v.now) }
+    ensures meaning { IfSome result (Means t.now (bytes_of_pieces v.now)) }
+    ensures none { IfNone result ((w : Val) → Means t.now (bytes_of_pieces v.now) w → ⊥) }
+    ensures shape { IfSome result (λ w. has_shape t.now w ≡ true) }
 {
     scalar_at(v, 0, t)
 }

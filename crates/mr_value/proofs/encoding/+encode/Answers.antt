@@ -55,7 +55,7 @@ append-tuple_bytes-requires t c =
     let same = c.as_slice.ensures in
     let o : are_ok i.size c.as_slice.result.now ≡ true = ap (are_ok i.size) same ∙ ok_tuple i.size i.align i.fields (sym (ap is_ok i.is) ∙ c.requires.ok) in
     let whole : has_shape (ty.Tuple i.size i.align i.fields) (val.Tuple vs) ≡ true =
-        sym (ap (λ x. has_shape x c.args.v.now) i.is ∙ ap (has_shape (ty.Tuple i.size i.align i.fields)) c.values_in.ensures) ∙ c.requires.shape in
+    sym (ap (λ x. has_shape x c.args.v.now) i.is ∙ ap (has_shape (ty.Tuple i.size i.align i.fields)) c.values_in.ensures) ∙ c.requires.shape in
     let s : fields_have_shape c.as_slice.result.now vs ≡ true = ap (λ (x : List (ℕ × Ty)). fields_have_shape x vs) same ∙ sym (has_tuple i.size i.align i.fields vs) ∙ whole in
     let w : weight_of c.args.t.now ≡ 1 + fields_weight c.as_slice.result.now = ap weight_of i.is ∙ weight_tuple i.size i.align i.fields ∙ ap (λ fs. 1 + fields_weight fs) (sym same) in
     (omega (arith, c.decreases), (o, s))
@@ -72,9 +72,9 @@ append-append_elements-requires t c =
     let same = c.get.ensures in
     let o : is_ok c.get.result.now ≡ true = ap is_ok same ∙ ok_array i.count i.elem (sym (ap is_ok i.is) ∙ c.requires.ok) in
     let whole : has_shape (ty.Array i.count i.elem) (val.Tuple vs) ≡ true =
-        sym (ap (λ x. has_shape x c.args.v.now) i.is ∙ ap (has_shape (ty.Array i.count i.elem)) c.values_in-in-Array.ensures) ∙ c.requires.shape in
+    sym (ap (λ x. has_shape x c.args.v.now) i.is ∙ ap (has_shape (ty.Array i.count i.elem)) c.values_in-in-Array.ensures) ∙ c.requires.shape in
     let s : elements_pass (has_shape c.get.result.now) vs ≡ true =
-        ap (λ x. elements_pass (has_shape x) vs) same ∙ (and_true (length vs == i.count) (elements_pass (has_shape i.elem) vs) (sym (has_array i.count i.elem vs) ∙ whole)).1 in
+    ap (λ x. elements_pass (has_shape x) vs) same ∙ (and_true (length vs == i.count) (elements_pass (has_shape i.elem) vs) (sym (has_array i.count i.elem vs) ∙ whole)).1 in
     let w : weight_of c.args.t.now ≡ 1 + weight_of c.get.result.now = ap weight_of i.is ∙ weight_array i.count i.elem ∙ ap (λ x. 1 + weight_of x) (sym same) in
     (omega (arith, c.decreases), (o, s))
 
@@ -93,7 +93,7 @@ append-union_bytes-requires-clause-sized t c =
     let i = c.in-Union in
     let content = c.content_in.result.now in
     let whole : has_shape (ty.Union i.size i.align i.fields i.chunks) (val.Union content) ≡ true =
-        sym (ap (λ x. has_shape x c.args.v.now) i.is ∙ ap (has_shape (ty.Union i.size i.align i.fields i.chunks)) c.content_in.ensures) ∙ c.requires.shape in
+    sym (ap (λ x. has_shape x c.args.v.now) i.is ∙ ap (has_shape (ty.Union i.size i.align i.fields i.chunks)) c.content_in.ensures) ∙ c.requires.shape in
     eq_from (length content) (chunks_size i.chunks) (sym (has_union i.size i.align i.fields i.chunks content) ∙ whole) ∙ ap chunks_size (sym c.as_slice-in-Union.ensures)
 
 pub append-variant_in-requires : goal.append-variant_in-requires
@@ -112,7 +112,7 @@ append-variant_bytes-requires t c =
     let o : are_variants_ok i.size vs ≡ true = ap (are_variants_ok i.size) same ∙ (ok_enum i.size i.align i.disc i.variants i.tree ok).0 in
     let g : are_all_tags i.size vs ≡ true = ap (are_all_tags i.size) same ∙ enum_tags i.size i.align i.disc i.variants i.tree (ok_of (ty.Enum i.size i.align i.disc i.variants i.tree) ok) in
     let whole : has_shape (ty.Enum i.size i.align i.disc i.variants i.tree) (val.Variant n value) ≡ true =
-        sym (ap (λ x. has_shape x c.args.v.now) i.is ∙ ap (has_shape (ty.Enum i.size i.align i.disc i.variants i.tree)) c.variant_in.ensures) ∙ c.requires.shape in
+    sym (ap (λ x. has_shape x c.args.v.now) i.is ∙ ap (has_shape (ty.Enum i.size i.align i.disc i.variants i.tree)) c.variant_in.ensures) ∙ c.requires.shape in
     let s : variant_has_shape vs n value ≡ true = ap (λ (x : List Variant). variant_has_shape x n value) same ∙ sym (has_enum i.size i.align i.disc i.variants i.tree n value) ∙ whole in
     let w : weight_of c.args.t.now ≡ 1 + variants_weight vs = ap weight_of i.is ∙ weight_enum i.size i.align i.disc i.variants i.tree ∙ ap (λ x. 1 + variants_weight x) (sym same) in
     (omega (arith, c.decreases), (o, (g, s)))
@@ -154,7 +154,7 @@ tuple_bytes-replace-requires t c =
     let l = c.loop-i in
     let same = same_length c.args.fields.now c.args.values.now c.requires.shape in
     let w = written c.args.size c.args.fields.now c.args.values.now l.i c.index-fields-i.result c.index-values-i.result c.as_slice.result.now c.new-piece.result.items
-        (omega arith) (omega arith) c.index-fields-i.is c.index-values-i.is l.invariant.ok l.invariant.shape c.new-piece.ensures.items (c.as_slice.ensures.value ∙ c.in_ok-append.ensures.ok) in
+    (omega arith) (omega arith) c.index-fields-i.is c.index-values-i.is l.invariant.ok l.invariant.shape c.new-piece.ensures.items (c.as_slice.ensures.value ∙ c.in_ok-append.ensures.ok) in
     omega (arith, w.inside, l.invariant.sized)
 
 pub tuple_bytes-loop-i-preserved : goal.tuple_bytes-loop-i-preserved
@@ -167,7 +167,7 @@ tuple_bytes-loop-i-preserved t c =
     let piece = c.as_slice.result.now in
     let same = same_length fields values c.requires.shape in
     let w = written c.args.size fields values l.i f v piece c.new-piece.result.items
-        (omega arith) (omega arith) c.index-fields-i.is c.index-values-i.is l.invariant.ok l.invariant.shape c.new-piece.ensures.items (c.as_slice.ensures.value ∙ c.in_ok-append.ensures.ok) in
+    (omega arith) (omega arith) c.index-fields-i.is c.index-values-i.is l.invariant.ok l.invariant.shape c.new-piece.ensures.items (c.as_slice.ensures.value ∙ c.in_ok-append.ensures.ok) in
     let inside : f.0 + length piece ≤ length l.bytes.items = omega (arith, w.inside, l.invariant.sized) in
     let now = c.replace.ensures ∙ ap (λ (y : ℕ × Ty). with_range_replaced l.bytes.items y.0 piece) c.index-fields-i.is ∙ ap (with_range_replaced l.bytes.items (get_or fields l.i f).0) w.is in
     record {
@@ -189,8 +189,8 @@ variant_bytes-append-requires t c =
     let falls : weight_of w.ty < variants_weight vs = subst (λ (v : Variant). weight_of v.ty < variants_weight vs) (sym c.variant-item.is) (weight_variant vs l.variant-index w (omega arith)) in
     let same : same_num (get_or vs l.variant-index w).number c.args.number ≡ true = ap (λ (v : Variant). same_num v.number c.args.number) (sym c.variant-item.is) ∙ sym (c.eq.ensures ∙ equal_is w.number c.args.number) ∙ c.if-eq.true in
     let s : has_shape w.ty c.args.value.now ≡ true =
-        ap (λ (v : Variant). has_shape v.ty c.args.value.now) c.variant-item.is
-        ∙ sym (variant_shaped_here vs l.variant-index w c.args.number c.args.value.now (omega arith) same) ∙ l.invariant.shape in
+    ap (λ (v : Variant). has_shape v.ty c.args.value.now) c.variant-item.is
+    ∙ sym (variant_shaped_here vs l.variant-index w c.args.number c.args.value.now (omega arith) same) ∙ l.invariant.shape in
     (omega (arith, c.decreases), (ok, s))
 
 pub variant_bytes-prove-unreachable-requires : goal.variant_bytes-prove-unreachable-requires
@@ -204,7 +204,7 @@ variant_bytes-prove-unreachable-requires t c =
     let sized : size_of w.ty ≡ c.args.size = ap (λ (v : Variant). size_of v.ty) c.variant-item.is ∙ n.sized in
     let same : same_num (get_or vs l.variant-index w).number c.args.number ≡ true = ap (λ (v : Variant). same_num v.number c.args.number) (sym c.variant-item.is) ∙ sym (c.eq.ensures ∙ equal_is w.number c.args.number) ∙ c.if-eq.true in
     let shape : has_shape w.ty value ≡ true =
-        ap (λ (v : Variant). has_shape v.ty value) c.variant-item.is
-        ∙ sym (variant_shaped_here vs l.variant-index w c.args.number value (omega arith) same) ∙ l.invariant.shape in
+    ap (λ (v : Variant). has_shape v.ty value) c.variant-item.is
+    ∙ sym (variant_shaped_here vs l.variant-index w c.args.number value (omega arith) same) ∙ l.invariant.shape in
     let is = c.in_ok-append.ensures.ok ∙ ap (λ (b : Bytes). b ++ encoding_of w.ty value) c.new-bytes.ensures.items in
     c.if-prove.true (c.len.ensures ∙ c.append.new.out.ok.0 ∙ ap length is ∙ length-encoding_of w.ty (ok_of w.ty ok) value shape ∙ sized)
