@@ -1,0 +1,154 @@
+-- One turn of each loop of encoding.
+use Rattle.std.proofs.Common.{◌≡◌, ℕ, suc, ◌+◌, ◌-◌, ◌*◌, ◌/◌, ◌%◌, ◌<◌, ◌≤◌, Bool, true, false, List, [], ◌∷◌, ◌++◌, length, get_or, take, drop, Option, refl, sym, ap, ◌∙◌, arith, append_assoc, append-nil, length-take, length-drop}
+use mathlib.Core.Bool.{beq}
+use Rattle.std.specs.Prelude.{Result, IsErr, OnErr, ⊤, not, ◌&&◌, ◌==◌, if◌then◌else◌}
+use Rattle.std.proofs.lemmas.Result.{MatchResult-from_err}
+use Rattle.mr_ast.specs.declared.types.Num.{Num}
+use Rattle.mr_ast.specs.declared.types.Tag.{Tag}
+use Rattle.mr_ast.specs.declared.types.Ty.{Ty}
+use Rattle.mr_ast.specs.declared.types.Variant.{Variant}
+use Rattle.mr_base.specs.declared.byte.AllocId.{AllocId}
+use Rattle.mr_base.specs.declared.byte.AbstractByte.TheVariants.{Init}
+use Rattle.mr_layout.specs.EnumRules.{same_num, are_tags, are_all_tags}
+use Rattle.mr_layout.proofs.PartsOk.{and_true}
+use Rattle.mr_runs.specs.Ranges.{with_range_replaced}
+use Rattle.mr_value.specs.declared.val.Val.{Val}
+use Rattle.mr_value.specs.Numbers.{Bytes, little_endian, initialised}
+use Rattle.mr_value.specs.Encode.{BeginsWith, element_bytes, with_chunks, tag_bytes, with_tags, encoding_of, write_fields, write_variant}
+use Rattle.mr_value.specs.Shape.{chunks_size, elements_pass, has_shape, fields_have_shape, variant_has_shape}
+use Rattle.mr_value.proofs.DecodeSteps.{at_drop}
+use Rattle.mr_value.proofs.TagParts.{TagOk, first_tag}
+
+-- a list begins with itself, with what it was before it grew, and with what that began with
+pub begins_with_itself : (bytes : Bytes) → BeginsWith bytes bytes
+begins_with_itself bytes = ([], sym (append-nil bytes))
+
+pub begins_with_less : (bytes front more : Bytes) → BeginsWith bytes (front ++ more) → BeginsWith bytes front
+begins_with_less bytes front more h = (more ++ h.0, h.1 ∙ append_assoc front more h.0)
+
+pub begins_with_more : (bytes front more longer : Bytes) → longer ≡ bytes ++ more → BeginsWith bytes front → BeginsWith longer front
+begins_with_more bytes front more longer e h = (h.0 ++ more, e ∙ ap (λ (x : Bytes). x ++ more) h.1 ∙ append_assoc front h.0 more)
+
+-- one byte more of a number
+pub number_next : (provenance : Option AllocId) (count i rest : ℕ) (out more : Bytes) → i < count → more ≡ out ++ Init (rest % 256) provenance ∷ []
+    → out ++ initialised provenance (little_endian (count - i) rest) ≡ more ++ initialised provenance (little_endian (count - (i + 1)) (rest / 256))
+number_next provenance count i rest out more p e =
+    let left : count - i ≡ suc (count - (i + 1)) = omega arith in
+    let tail = initialised provenance (little_endian (count - (i + 1)) (rest / 256)) in
+    ap (λ n. out ++ initialised provenance (little_endian n rest)) left
+    ∙ sym (append_assoc out (Init (rest % 256) provenance ∷ []) tail)
+    ∙ ap (λ (x : Bytes). x ++ tail) (sym e)
+
+pub number_end : (provenance : Option AllocId) (count i rest : ℕ) (out : Bytes) → count ≤ i → out ++ initialised provenance (little_endian (count - i) rest) ≡ out
+number_end provenance count i rest out p =
+    let none : count - i ≡ 0 = omega arith in
+    ap (λ n. out ++ initialised provenance (little_endian n rest)) none ∙ append-nil out
+
+-- what holds after a failed call
+pub on_err : {T E P : Type 0} (r : Result T E) → IsErr r → P → OnErr r P
+on_err {T} {E} {P} r e p = MatchResult-from_err r (λ _. ⊤) (λ _. P) e (λ _. p)
+
+-- one value for each field
+pub same_length : (fields : List (ℕ × Ty)) (vs : List Val) → fields_have_shape fields vs ≡ true → length fields ≡ length vs
+same_length [] [] e = refl
+same_length [] (v ∷ vs) e = cc
+same_length (f ∷ fields) [] e = cc
+same_length (f ∷ fields) (v ∷ vs) e = ap suc (same_length fields vs (and_true (has_shape f.1 v) (fields_have_shape fields vs) e).1)
+
+-- the next value has the shape of the next field, and so do those behind it
+pub record NextValue (fields : List (ℕ × Ty)) (vs : List Val) (i : ℕ) (f : ℕ × Ty) (v : Val) : Type 0 where
+  pub here : has_shape f.1 v ≡ true
+  pub rest : fields_have_shape (drop (i + 1) fields) (drop (i + 1) vs) ≡ true
+
+pub next_value : (fields : List (ℕ × Ty)) (vs : List Val) (i : ℕ) (f : ℕ × Ty) (v : Val) → i < length fields → i < length vs → fields_have_shape (drop i fields) (drop i vs) ≡ true → NextValue fields vs i (get_or fields i f) (get_or vs i v)
+next_value fields vs i f v p q e =
+    let at = ap (λ (x : List (ℕ × Ty)). fields_have_shape x (drop i vs)) (at_drop fields i f p)
+    ∙ ap (fields_have_shape (get_or fields i f ∷ drop (i + 1) fields)) (at_drop vs i v q) in
+    let h = and_true (has_shape (get_or fields i f).1 (get_or vs i v)) (fields_have_shape (drop (i + 1) fields) (drop (i + 1) vs)) (sym at ∙ e) in
+    record { here = h.0; rest = h.1 }
+
+pub fields_written : (fields : List (ℕ × Ty)) (vs : List Val) (bytes : Bytes) (i : ℕ) (f : ℕ × Ty) (v : Val) → i < length fields → i < length vs
+    → write_fields (drop i fields) (drop i vs) bytes ≡ write_fields (drop (i + 1) fields) (drop (i + 1) vs) (with_range_replaced bytes (get_or fields i f).0 (encoding_of (get_or fields i f).1 (get_or vs i v)))
+fields_written fields vs bytes i f v p q =
+    ap (λ (x : List (ℕ × Ty)). write_fields x (drop i vs) bytes) (at_drop fields i f p)
+    ∙ ap (λ (x : List Val). write_fields (get_or fields i f ∷ drop (i + 1) fields) x bytes) (at_drop vs i v q)
+
+-- the next element has the shape, and so do those behind it
+pub record NextElement (elem : Ty) (vs : List Val) (i : ℕ) (v : Val) : Type 0 where
+  pub here : has_shape elem v ≡ true
+  pub rest : elements_pass (has_shape elem) (drop (i + 1) vs) ≡ true
+
+pub next_element : (elem : Ty) (vs : List Val) (i : ℕ) (v : Val) → i < length vs → elements_pass (has_shape elem) (drop i vs) ≡ true → NextElement elem vs i (get_or vs i v)
+next_element elem vs i v p e =
+    let h = and_true (has_shape elem (get_or vs i v)) (elements_pass (has_shape elem) (drop (i + 1) vs)) (sym (ap (elements_pass (has_shape elem)) (at_drop vs i v p)) ∙ e) in
+    record { here = h.0; rest = h.1 }
+
+pub elements_written : (elem : Ty) (vs : List Val) (out more : Bytes) (i : ℕ) (v : Val) → i < length vs → more ≡ out ++ encoding_of elem (get_or vs i v)
+    → out ++ element_bytes (encoding_of elem) (drop i vs) ≡ more ++ element_bytes (encoding_of elem) (drop (i + 1) vs)
+elements_written elem vs out more i v p e =
+    let rest = element_bytes (encoding_of elem) (drop (i + 1) vs) in
+    ap (λ (x : List Val). out ++ element_bytes (encoding_of elem) x) (at_drop vs i v p)
+    ∙ sym (append_assoc out (encoding_of elem (get_or vs i v)) rest)
+    ∙ ap (λ (x : Bytes). x ++ rest) (sym e)
+
+-- the next chunk lies inside and takes as much of the content as it has
+pub record NextContent (chunks : List (ℕ × ℕ)) (content : Bytes) (i : ℕ) (c : ℕ × ℕ) : Type 0 where
+  pub enough : c.1 ≤ length content
+  pub taken : length (take c.1 content) ≡ c.1
+  pub rest : length (drop c.1 content) ≡ chunks_size (drop (i + 1) chunks)
+
+pub next_content : (chunks : List (ℕ × ℕ)) (content : Bytes) (i : ℕ) (c : ℕ × ℕ) → i < length chunks → length content ≡ chunks_size (drop i chunks) → NextContent chunks content i (get_or chunks i c)
+next_content chunks content i c p e =
+    let d = get_or chunks i c in
+    let h : length content ≡ d.1 + chunks_size (drop (i + 1) chunks) = e ∙ ap chunks_size (at_drop chunks i c p) in
+    record {
+      enough = omega arith;
+      taken = omega (arith, length-take d.1 content);
+      rest = omega (arith, length-drop d.1 content);
+    }
+
+pub chunks_written : (chunks : List (ℕ × ℕ)) (content bytes : Bytes) (i : ℕ) (c : ℕ × ℕ) → i < length chunks
+    → with_chunks (drop i chunks) content bytes ≡ with_chunks (drop (i + 1) chunks) (drop (get_or chunks i c).1 content) (with_range_replaced bytes (get_or chunks i c).0 (take (get_or chunks i c).1 content))
+chunks_written chunks content bytes i c p = ap (λ (x : List (ℕ × ℕ)). with_chunks x content bytes) (at_drop chunks i c p)
+
+-- the next tag of an enum that breaks no rule
+pub next_tag : (size : ℕ) (t : Ty) (tags : List Tag) (i : ℕ) (g : Tag) → i < length tags → are_tags size t (drop i tags) ≡ true → TagOk size t (get_or tags i g) (drop (i + 1) tags)
+next_tag size t tags i g p e = first_tag size t (get_or tags i g) (drop (i + 1) tags) (sym (ap (are_tags size t) (at_drop tags i g p)) ∙ e)
+
+pub tags_written : (tags : List Tag) (bytes : Bytes) (i : ℕ) (g : Tag) → i < length tags → with_tags (drop i tags) bytes ≡ with_tags (drop (i + 1) tags) (with_range_replaced bytes (get_or tags i g).at (tag_bytes (get_or tags i g)))
+tags_written tags bytes i g p = ap (λ (x : List Tag). with_tags x bytes) (at_drop tags i g p)
+
+-- the variant with a number, where the next one has it and where it hasn't
+pub variant_shaped_here : (variants : List Variant) (i : ℕ) (w : Variant) (n : Num) (v : Val) → i < length variants → same_num (get_or variants i w).number n ≡ true → variant_has_shape (drop i variants) n v ≡ has_shape (get_or variants i w).ty v
+variant_shaped_here variants i w n v p e =
+    ap (λ (x : List Variant). variant_has_shape x n v) (at_drop variants i w p)
+    ∙ ap (λ t. if t then has_shape (get_or variants i w).ty v else variant_has_shape (drop (i + 1) variants) n v) e
+
+pub variant_shaped_further : (variants : List Variant) (i : ℕ) (w : Variant) (n : Num) (v : Val) → i < length variants → same_num (get_or variants i w).number n ≡ false → variant_has_shape (drop i variants) n v ≡ variant_has_shape (drop (i + 1) variants) n v
+variant_shaped_further variants i w n v p e =
+    ap (λ (x : List Variant). variant_has_shape x n v) (at_drop variants i w p)
+    ∙ ap (λ t. if t then has_shape (get_or variants i w).ty v else variant_has_shape (drop (i + 1) variants) n v) e
+
+pub variant_written_here : (variants : List Variant) (i : ℕ) (w : Variant) (n : Num) (v : Val) → i < length variants → same_num (get_or variants i w).number n ≡ true → write_variant (drop i variants) n v ≡ with_tags (get_or variants i w).tags (encoding_of (get_or variants i w).ty v)
+variant_written_here variants i w n v p e =
+    ap (λ (x : List Variant). write_variant x n v) (at_drop variants i w p)
+    ∙ ap (λ t. if t then with_tags (get_or variants i w).tags (encoding_of (get_or variants i w).ty v) else write_variant (drop (i + 1) variants) n v) e
+
+pub variant_written_further : (variants : List Variant) (i : ℕ) (w : Variant) (n : Num) (v : Val) → i < length variants → same_num (get_or variants i w).number n ≡ false → write_variant (drop i variants) n v ≡ write_variant (drop (i + 1) variants) n v
+variant_written_further variants i w n v p e =
+    ap (λ (x : List Variant). write_variant x n v) (at_drop variants i w p)
+    ∙ ap (λ t. if t then with_tags (get_or variants i w).tags (encoding_of (get_or variants i w).ty v) else write_variant (drop (i + 1) variants) n v) e
+
+pub next_tags : (size : ℕ) (variants : List Variant) (i : ℕ) (w : Variant) → i < length variants → are_all_tags size (drop i variants) ≡ true → (are_tags size (get_or variants i w).ty (get_or variants i w).tags ≡ true) × (are_all_tags size (drop (i + 1) variants) ≡ true)
+next_tags size variants i w p e =
+    and_true (are_tags size (get_or variants i w).ty (get_or variants i w).tags) (are_all_tags size (drop (i + 1) variants)) (sym (ap (are_all_tags size) (at_drop variants i w p)) ∙ e)
+
+beq_is : (a b : Bool) → beq a b ≡ (if a then b else not b)
+beq_is true true = refl
+beq_is true false = refl
+beq_is false true = refl
+beq_is false false = refl
+
+-- `==` on numbers
+pub equal_is : (a b : Num) → (beq a.neg b.neg && (a.mag == b.mag)) ≡ same_num a b
+equal_is a b = ap (λ t. t && (a.mag == b.mag)) (beq_is a.neg b.neg)

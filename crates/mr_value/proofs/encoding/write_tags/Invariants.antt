@@ -1,0 +1,11 @@
+use Rattle.std.proofs.Common.{◌≡◌, true, drop, length}
+use Rattle.mr_ast.specs.declared.types.Ty.{Ty}
+use Rattle.mr_layout.specs.EnumRules.{are_tags}
+use Rattle.mr_value.specs.Encode.{with_tags}
+use Rattle.mr_value.proofs.encoding.write_tags.Given as goal
+
+abbrev pub invariant-loop-tag : goal.invariant-loop-tag
+invariant-loop-tag l = record {
+  ok : (t : Ty) × (are_tags (length l.bytes.items) t (drop l.tag-index l.tags) ≡ true);
+  all : with_tags l.tags l.initial.bytes.items ≡ with_tags (drop l.tag-index l.tags) l.bytes.items;
+}

@@ -1,0 +1,28 @@
+use Rattle.std.proofs.Common.{◌≡◌, ap, ◌∙◌}
+use Rattle.mr_layout.specs.Sizes.{size_of}
+use Rattle.mr_layout.proofs.OkTests.{is_ok_of}
+use Rattle.mr_runs.specs.Pieces.{bytes_of_pieces}
+use Rattle.mr_value.specs.Decode.{decoded}
+use Rattle.mr_value.proofs.Meanings.{whole_part, some_means, none_means, some_shape}
+use Rattle.mr_value.proofs.scalars.decode_scalar.Goals as goal
+
+pub scalar_at-requires-clause-ok : goal.scalar_at-requires-clause-ok
+scalar_at-requires-clause-ok c = is_ok_of c.args.t.now c.requires.ok
+
+pub returns-clause-meaning : goal.returns-clause-meaning
+returns-clause-meaning c =
+    let t = c.args.t.now in
+    let b = bytes_of_pieces c.args.v.now in
+    some_means t b c.scalar_at.result c.requires.sized (c.scalar_at.ensures ∙ ap (decoded t) (whole_part b (size_of t) c.requires.sized))
+
+pub returns-clause-none : goal.returns-clause-none
+returns-clause-none c =
+    let t = c.args.t.now in
+    let b = bytes_of_pieces c.args.v.now in
+    none_means t b c.scalar_at.result (c.scalar_at.ensures ∙ ap (decoded t) (whole_part b (size_of t) c.requires.sized))
+
+pub returns-clause-shape : goal.returns-clause-shape
+returns-clause-shape c =
+    let t = c.args.t.now in
+    let b = bytes_of_pieces c.args.v.now in
+    some_shape t b c.scalar_at.result c.requires.ok c.requires.sized (c.scalar_at.ensures ∙ ap (decoded t) (whole_part b (size_of t) c.requires.sized))

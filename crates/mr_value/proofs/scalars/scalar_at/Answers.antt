@@ -1,0 +1,7 @@
+use Rattle.std.proofs.Common.{sym, ap, ◌∙◌}
+use Rattle.mr_layout.specs.Parts.{is_ok}
+use Rattle.mr_value.proofs.RefParts.{ref_align}
+use Rattle.mr_value.proofs.scalars.scalar_at.Goals as goal
+
+pub ref_at-requires-clause-some : goal.ref_at-requires-clause-some
+ref_at-requires-clause-some c = ref_align c.in-Ref.size c.in-Ref.align c.in-Ref.never (sym (ap is_ok c.in-Ref.is) ∙ c.requires.ok)

@@ -1,0 +1,6 @@
+pub mod Decode
+pub mod Discriminants
+pub mod Encode
+pub mod Faithful
+pub mod Numbers
+pub mod Shape
