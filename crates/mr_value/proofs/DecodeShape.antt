@@ -1,10 +1,8 @@
 -- What bytes mean at a type has the type's shape.
-use Rattle.std.proofs.Common.{◌≡◌, ℕ, zero, suc, ◌+◌, ◌-◌, ◌*◌, ◌%◌, ◌^◌, ◌<◌, ◌≤◌, Bool, true, false, List, [], ◌∷◌, ◌++◌, length, take, drop, map, Option, Some, None, refl, sym, subst, ap, ◌∙◌, arith, length-append, length-take, length-drop}
+use Rattle.std.proofs.Common.{◌≡◌, ℕ, zero, suc, ◌+◌, ◌*◌, ◌%◌, ◌^◌, ◌<◌, ◌≤◌, Bool, true, false, List, [], ◌∷◌, length, take, drop, Some, None, refl, sym, subst, ap, ◌∙◌, arith, length-append, length-take, length-drop}
 use Rattle.std.proofs.lemmas.Bool.Decides.{nat_tests}
-use Rattle.std.specs.Prelude.{◌&&◌, ◌==◌, nat_lt, if◌then◌else◌, option_map, option_and_then}
-use Rattle.mr_ast.specs.declared.types.IntType.{IntType}
+use Rattle.std.specs.Prelude.{◌&&◌, ◌==◌, nat_lt, if◌then◌else◌, option_map}
 use Rattle.mr_ast.specs.declared.types.Num.{Num}
-use Rattle.mr_ast.specs.declared.types.Tree.{Tree}
 use Rattle.mr_ast.specs.declared.types.Ty.{Ty}
 use Rattle.mr_ast.specs.declared.types.Ty.TheVariants as ty
 use Rattle.mr_ast.specs.declared.types.Variant.{Variant}
@@ -24,7 +22,7 @@ use Rattle.mr_value.specs.Discriminants.{walk}
 use Rattle.mr_value.specs.Decode.{bool_of, pointer_where, is_not_null, is_aligned, elements_in, chunks_in, decoded, read_fields, read_variant}
 use Rattle.mr_value.specs.Shape.{chunks_size, elements_pass, has_shape, fields_have_shape, variant_has_shape}
 use Rattle.mr_value.proofs.DecodeLaws.{decode_int, decode_bool, decode_raw, decode_fn_ptr, decode_ref, decode_tuple, decode_array, decode_union, decode_enum}
-use Rattle.mr_value.proofs.Digits.{more_byte, byte_fits}
+use Rattle.mr_value.proofs.Digits.{more_byte}
 use Rattle.mr_value.proofs.Options.{mapped, followed}
 use Rattle.mr_value.proofs.ShapeLaws.{has_int, has_bool, has_raw, has_fn_ptr, has_ref, has_tuple, has_array, has_union, has_enum}
 

@@ -1,5 +1,5 @@
 -- What an answer of decoding says of the values that bytes mean.
-use Rattle.std.proofs.Common.{◌≡◌, ℕ, true, List, length, take, Option, Some, None, refl, sym, ap, ◌∙◌, arith}
+use Rattle.std.proofs.Common.{◌≡◌, ℕ, true, length, Option, Some, None, sym, ◌∙◌, arith}
 use Rattle.std.proofs.lemmas.List.{take_all}
 use Rattle.std.specs.Prelude.{IfSome, IfNone}
 use Rattle.mr_ast.specs.declared.types.Ty.{Ty}

@@ -1,6 +1,6 @@
 -- The tags of an enum that breaks no rule.
-use Rattle.std.proofs.Common.{◌≡◌, ℕ, ◌+◌, ◌%◌, ◌≤◌, Bool, true, false, List, [], ◌∷◌, None, refl, sym, ◌∙◌}
-use Rattle.std.specs.Prelude.{nat_le, not, ◌&&◌, ◌==◌}
+use Rattle.std.proofs.Common.{◌≡◌, ℕ, ◌+◌, ◌%◌, ◌≤◌, Bool, true, false, List, ◌∷◌, None, refl, sym, ◌∙◌}
+use Rattle.std.specs.Prelude.{nat_le, not, ◌==◌}
 use Rattle.mr_ast.specs.declared.types.IntType.{IntType}
 use Rattle.mr_ast.specs.declared.types.Tag.{Tag}
 use Rattle.mr_ast.specs.declared.types.Tree.{Tree}
@@ -9,7 +9,7 @@ use Rattle.mr_ast.specs.declared.types.Ty.TheVariants as ty
 use Rattle.mr_ast.specs.declared.types.Variant.{Variant}
 use Rattle.mr_layout.specs.Sizes.{int_size}
 use Rattle.mr_layout.specs.Rules.{is_large, is_align}
-use Rattle.mr_layout.specs.EnumRules.{is_fitting, are_variants, meets_tag, is_some_used, are_tags, are_all_tags, is_tree, enum_rules}
+use Rattle.mr_layout.specs.EnumRules.{is_fitting, are_variants, meets_tag, is_some_used, are_tags, are_all_tags, enum_rules}
 use Rattle.mr_layout.specs.TypeOk.{TypeOk, first_broken_variant}
 use Rattle.mr_layout.proofs.BrokenLaws.{broken_enum}
 use Rattle.mr_layout.proofs.Bounds.{or_else_none, rule_none}
