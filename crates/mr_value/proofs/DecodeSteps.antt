@@ -15,13 +15,8 @@ use Rattle.mr_value.specs.declared.val.Val.{Val}
 use Rattle.mr_value.specs.declared.val.Val.TheVariants as val
 use Rattle.mr_value.specs.Numbers.{Bytes, part}
 use Rattle.mr_value.specs.Decode.{Reader, decoded, read_fields, read_variant, elements_in, chunks_in}
+use Rattle.mr_value.proofs.Comparisons.{eq_from, le_from}
 use Rattle.mr_value.proofs.PartLaws.{part_part}
-
-pub le_from : (a b : ℕ) → nat_le a b ≡ true → a ≤ b
-le_from a b e = grind (arith, nat_tests)
-
-pub eq_from : (a b : ℕ) → (a == b) ≡ true → a ≡ b
-eq_from a b e = grind (arith, nat_tests)
 
 -- what is left of a list is its next item and what is left behind that
 pub at_drop : {X : Type 0} (xs : List X) (i : ℕ) (d : X) → i < length xs → drop i xs ≡ get_or xs i d ∷ drop (i + 1) xs

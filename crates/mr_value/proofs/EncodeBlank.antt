@@ -25,7 +25,7 @@ use Rattle.mr_value.specs.declared.val.Val.{Val}
 use Rattle.mr_value.specs.Numbers.{Bytes}
 use Rattle.mr_value.specs.Encode.{blank, element_bytes, with_tags, encoding_of, write_fields, write_variant}
 use Rattle.mr_value.specs.Shape.{chunks_size, elements_pass, has_shape, fields_have_shape, variant_has_shape}
-use Rattle.mr_value.proofs.DecodeSteps.{eq_from}
+use Rattle.mr_value.proofs.Comparisons.{below_or, eq_from}
 use Rattle.mr_value.proofs.EncodeLaws.{encode_tuple, encode_array, encode_union, encode_enum}
 use Rattle.mr_value.proofs.EncodeLength.{length-encoding_of}
 use Rattle.mr_value.proofs.EncodePieces.{chunk_pieces, with_chunks_is, chunks_inside, in_chunks, tag_pieces, with_tags_is, tags_inside, in_tags}
@@ -69,13 +69,6 @@ fields_blank size (f ∷ fields) (v ∷ vs) bytes i all ok e h u n =
     byte_inside bytes f.0 piece i inside in_it.0 in_it.1 ∙ all.0 ok.0.ok v p.0 (i - f.0) at (part_unused f.0 i f.1 apart.0 in_it.0))
     (in_cases f.0 (length piece) i) in
     fields_blank size fields vs (with_range_replaced bytes f.0 piece) i all.1 ok.1 p.1 (length-with_range_replaced bytes f.0 piece inside ∙ h) here apart.1
-
-pub below_or : (a b : ℕ) → (a < b) ⊎ (b ≤ a)
-below_or a b = by (nat_lt a b) refl
-  where
-    by : (t : Bool) → nat_lt a b ≡ t → (a < b) ⊎ (b ≤ a)
-    by true e = let h : a < b = grind (arith, nat_tests) in inl h
-    by false e = let h : b ≤ a = grind (arith, nat_tests) in inr h
 
 pub rest_below : (count size i : ℕ) → i < suc count * size → size ≤ i → i - size < count * size
 rest_below count size i p q = omega arith

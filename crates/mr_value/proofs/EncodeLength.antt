@@ -23,7 +23,7 @@ use Rattle.mr_value.specs.Numbers.{Bytes, little_endian, initialised}
 use Rattle.mr_value.specs.Discriminants.{bits_of_number}
 use Rattle.mr_value.specs.Encode.{blank, element_bytes, with_chunks, tag_bytes, with_tags, encoding_of, write_fields, write_variant}
 use Rattle.mr_value.specs.Shape.{chunks_size, elements_pass, has_shape, fields_have_shape, variant_has_shape}
-use Rattle.mr_value.proofs.DecodeSteps.{eq_from}
+use Rattle.mr_value.proofs.Comparisons.{eq_from}
 use Rattle.mr_value.proofs.EncodeLaws.{encode_int, encode_bool, encode_raw, encode_fn_ptr, encode_ref, encode_tuple, encode_array, encode_union, encode_enum}
 use Rattle.mr_value.proofs.ShapeLaws.{shape_int, shape_bool, shape_raw, shape_fn_ptr, shape_ref, shape_tuple, shape_array, shape_union, shape_enum}
 use Rattle.mr_value.proofs.TagParts.{enum_tags, first_tag}

@@ -33,10 +33,10 @@ use Rattle.mr_value.specs.Encode.{blank, element_bytes, with_chunks, with_tags, 
 use Rattle.mr_value.specs.Faithful.{is_address, is_found, is_faithful, fields_faithful, variant_faithful}
 use Rattle.mr_value.specs.Shape.{chunks_size, elements_pass, has_shape, fields_have_shape, variant_has_shape}
 use Rattle.mr_value.proofs.ApartParts.{tuple_apart, union_apart}
+use Rattle.mr_value.proofs.Comparisons.{below_or, eq_from, lt_from, lt_test}
 use Rattle.mr_value.proofs.DecodeLaws.{decode_int, decode_bool, decode_raw, decode_fn_ptr, decode_ref, decode_tuple, decode_array, decode_union, decode_enum}
 use Rattle.mr_value.proofs.DecodeShape.{length-part}
-use Rattle.mr_value.proofs.DecodeSteps.{eq_from}
-use Rattle.mr_value.proofs.EncodeBlank.{unused_is_blank, below_or}
+use Rattle.mr_value.proofs.EncodeBlank.{unused_is_blank}
 use Rattle.mr_value.proofs.EncodeLaws.{encode_int, encode_bool, encode_raw, encode_fn_ptr, encode_ref, encode_tuple, encode_array, encode_union, encode_enum}
 use Rattle.mr_value.proofs.EncodeLength.{length-initialised, length-encoding_of}
 use Rattle.mr_value.proofs.EncodePieces.{field_pieces, write_fields_is, fields_inside, meets_fields, chunk_pieces, with_chunks_is, length-taken, length-left, chunks_inside, meets_chunks, tag_pieces, with_tags_is, tags_inside, in_tags}
@@ -53,12 +53,6 @@ Agrees t b e = (i : ℕ) → i < size_of t → is_used t i ≡ true → byte_at 
 
 abbrev pub Reads : Ty → Type 0
 Reads t = TypeOk t → (v : Val) → has_shape t v ≡ true → is_faithful t v ≡ true → (b : Bytes) → length b ≡ size_of t → Agrees t b (encoding_of t v) → decoded t b ≡ Some v
-
-lt_from : (a b : ℕ) → nat_lt a b ≡ true → a < b
-lt_from a b e = grind (arith, nat_tests)
-
-lt_test : (a b : ℕ) → a < b → nat_lt a b ≡ true
-lt_test a b p = grind (arith, nat_tests)
 
 -- a type that uses all of its bytes
 all_same : (t : Ty) (size : ℕ) (v w : Val) (b bytes : Bytes) → v ≡ w → encoding_of t w ≡ bytes → ((i : ℕ) → is_used t i ≡ nat_lt i size) → size_of t ≡ size → length bytes ≡ size → length b ≡ size_of t → Agrees t b (encoding_of t v) → b ≡ bytes

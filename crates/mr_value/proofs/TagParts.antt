@@ -14,15 +14,7 @@ use Rattle.mr_layout.specs.TypeOk.{TypeOk, first_broken_variant}
 use Rattle.mr_layout.proofs.BrokenLaws.{broken_enum}
 use Rattle.mr_layout.proofs.Bounds.{or_else_none, rule_none}
 use Rattle.mr_layout.proofs.PartsOk.{and_true}
-use Rattle.mr_value.proofs.DecodeSteps.{le_from}
-
-pub not_false : (b : Bool) → not b ≡ false → b ≡ true
-not_false true e = refl
-not_false false e = cc
-
-pub not_true : (b : Bool) → not b ≡ true → b ≡ false
-not_true true e = cc
-not_true false e = refl
+use Rattle.mr_value.proofs.Comparisons.{le_from, not_false, not_true}
 
 tags_of_rules : (size align : ℕ) (disc : IntType) (variants : List Variant) (tree : Tree) → enum_rules size align disc variants tree ≡ None → are_all_tags size variants ≡ true
 unfolding enum_rules

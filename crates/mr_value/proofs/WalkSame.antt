@@ -11,7 +11,7 @@ use Rattle.mr_layout.specs.Sizes.{int_size}
 use Rattle.mr_layout.specs.EnumRules.{same_num}
 use Rattle.mr_value.specs.Numbers.{Bytes, part, number_of}
 use Rattle.mr_value.specs.Discriminants.{number_of_bits, walk, walk_case}
-use Rattle.mr_value.proofs.EncodeBlank.{below_or}
+use Rattle.mr_value.proofs.Comparisons.{below_or}
 use Rattle.mr_value.proofs.Options.{mapped, followed}
 use Rattle.mr_value.proofs.Pieces.{byte_at}
 use Rattle.mr_value.proofs.TreeInduction.{AllCases, TreeCases, tree_induction}
@@ -49,8 +49,8 @@ number_same (x ∷ b) (Init k p ∷ e) n long h is =
     let rest = number_same b e m.0 (omega arith) (λ i j q g. h (suc i) j q g) m.1.0 in
     ap (λ (z : AbstractByte). number_of (z ∷ b)) first ∙ ap (option_map (λ r. k % 256 + 256 * r)) rest ∙ ap Some m.1.1
 
-length-part : (b e : Bytes) (at len : ℕ) → length b ≡ length e → length (part at len b) ≡ length (part at len e)
-length-part b e at len h = omega (arith, length-take len (drop at b), length-take len (drop at e), length-drop at b, length-drop at e)
+same_part_length : (b e : Bytes) (at len : ℕ) → length b ≡ length e → length (part at len b) ≡ length (part at len e)
+same_part_length b e at len h = omega (arith, length-take len (drop at b), length-take len (drop at e), length-drop at b, length-drop at e)
 
 abbrev FindsSame : Bytes → Bytes → Tree → Type 0
 FindsSame b e t = (n : Num) → walk t e ≡ Some n → walk t b ≡ Some n
@@ -70,7 +70,7 @@ same_cases b e long h = record {
   at_invalid = λ n is. let g = sym (walk_invalid e) ∙ is in absurd (none_some g);
   at_branch = λ at int cases rest all last n is.
       let m = followed (λ bits. walk_case (number_of_bits int bits) cases rest e) (number_of (part at (int_size int) e)) n (sym (walk_branch at int cases rest e) ∙ is) in
-      let same = number_same (part at (int_size int) b) (part at (int_size int) e) m.0 (length-part b e at (int_size int) long) (part_holds b e at (int_size int) h) m.1.0 in
+      let same = number_same (part at (int_size int) b) (part at (int_size int) e) m.0 (same_part_length b e at (int_size int) long) (part_holds b e at (int_size int) h) m.1.0 in
       walk_branch at int cases rest b
       ∙ ap (option_and_then (λ bits. walk_case (number_of_bits int bits) cases rest b)) same
       ∙ cases_same b e (number_of_bits int m.0) cases rest n all last m.1.1;

@@ -12,8 +12,8 @@ use Rattle.mr_layout.proofs.PartsOk.{and_true}
 use Rattle.mr_layout.proofs.TreeLaws.{tree_branch}
 use Rattle.mr_value.specs.Numbers.{Bytes, part, number_of}
 use Rattle.mr_value.specs.Discriminants.{number_of_bits, walk, walk_case}
+use Rattle.mr_value.proofs.Comparisons.{le_from}
 use Rattle.mr_value.proofs.PartLaws.{part_part}
-use Rattle.mr_value.proofs.DecodeSteps.{le_from}
 use Rattle.mr_value.proofs.WalkLaws.{walk_branch}
 
 pub record BranchParts (size : ℕ) (variants : List Variant) (at : ℕ) (int : IntType) (cases : List (Num × Tree)) (rest : Tree) : Type 0 where
