@@ -1,5 +1,5 @@
 -- The fields of a tuple and the chunks of a union that break no rule have no byte in common.
-use Rattle.std.proofs.Common.{◌≡◌, ℕ, ◌%◌, Bool, true, false, List, None, sym, ◌∙◌}
+use Rattle.std.proofs.Common.{◌≡◌, ℕ, ◌%◌, false, List, None, sym, ◌∙◌}
 use Rattle.std.specs.Prelude.{not, ◌&&◌, ◌||◌, ◌==◌}
 use Rattle.mr_ast.specs.declared.types.Ty.{Ty}
 use Rattle.mr_ast.specs.declared.types.Ty.TheVariants as ty
@@ -8,7 +8,7 @@ use Rattle.mr_layout.specs.TypeOk.{TypeOk, first_broken_field}
 use Rattle.mr_layout.proofs.BrokenLaws.{broken_tuple, broken_union}
 use Rattle.mr_layout.proofs.Bounds.{or_else_none, rule_none}
 use Rattle.mr_layout.proofs.PartsOk.{and_true}
-use Rattle.mr_value.proofs.TagParts.{not_false, not_true}
+use Rattle.mr_value.proofs.Comparisons.{not_false, not_true}
 
 apart_fields : (size align : ℕ) (fields : List (ℕ × Ty)) → tuple_rules size align fields ≡ None → is_overlapping fields ≡ false
 unfolding tuple_rules

@@ -1,10 +1,8 @@
 -- What bytes mean at a type has the type's shape.
-use Rattle.std.proofs.Common.{◌≡◌, ℕ, zero, suc, ◌+◌, ◌-◌, ◌*◌, ◌%◌, ◌^◌, ◌<◌, ◌≤◌, Bool, true, false, List, [], ◌∷◌, ◌++◌, length, take, drop, map, Option, Some, None, refl, sym, subst, ap, ◌∙◌, arith, length-append, length-take, length-drop}
+use Rattle.std.proofs.Common.{◌≡◌, ℕ, zero, suc, ◌+◌, ◌*◌, ◌%◌, ◌^◌, ◌<◌, ◌≤◌, Bool, true, false, List, [], ◌∷◌, length, take, drop, Some, None, refl, sym, subst, ap, ◌∙◌, arith, length-append, length-take, length-drop}
 use Rattle.std.proofs.lemmas.Bool.Decides.{nat_tests}
-use Rattle.std.specs.Prelude.{◌&&◌, ◌==◌, nat_lt, if◌then◌else◌, option_map, option_and_then}
-use Rattle.mr_ast.specs.declared.types.IntType.{IntType}
+use Rattle.std.specs.Prelude.{◌&&◌, ◌==◌, nat_lt, if◌then◌else◌, option_map}
 use Rattle.mr_ast.specs.declared.types.Num.{Num}
-use Rattle.mr_ast.specs.declared.types.Tree.{Tree}
 use Rattle.mr_ast.specs.declared.types.Ty.{Ty}
 use Rattle.mr_ast.specs.declared.types.Ty.TheVariants as ty
 use Rattle.mr_ast.specs.declared.types.Variant.{Variant}
@@ -23,16 +21,11 @@ use Rattle.mr_value.specs.Numbers.{Bytes, part, number_of, pointer_of}
 use Rattle.mr_value.specs.Discriminants.{walk}
 use Rattle.mr_value.specs.Decode.{bool_of, pointer_where, is_not_null, is_aligned, elements_in, chunks_in, decoded, read_fields, read_variant}
 use Rattle.mr_value.specs.Shape.{chunks_size, elements_pass, has_shape, fields_have_shape, variant_has_shape}
+use Rattle.mr_value.proofs.Comparisons.{eq_test, lt_test}
 use Rattle.mr_value.proofs.DecodeLaws.{decode_int, decode_bool, decode_raw, decode_fn_ptr, decode_ref, decode_tuple, decode_array, decode_union, decode_enum}
-use Rattle.mr_value.proofs.Digits.{more_byte, byte_fits}
-use Rattle.mr_value.proofs.Options.{mapped, followed}
+use Rattle.mr_value.proofs.Digits.{more_byte}
+use Rattle.mr_value.proofs.Options.{some_is, mapped, followed}
 use Rattle.mr_value.proofs.ShapeLaws.{has_int, has_bool, has_raw, has_fn_ptr, has_ref, has_tuple, has_array, has_union, has_enum}
-
-lt_test : (a b : ℕ) → a < b → nat_lt a b ≡ true
-lt_test a b p = grind (arith, nat_tests)
-
-eq_test : (a b : ℕ) → a ≡ b → (a == b) ≡ true
-eq_test a b p = grind (arith, nat_tests)
 
 pub number_fits : (b : Bytes) (n : ℕ) → number_of b ≡ Some n → n < 2 ^ (8 * length b)
 number_fits [] n e = let h : 0 ≡ n = cc in subst (λ k. k < 2 ^ 0) h (omega arith)
@@ -111,9 +104,6 @@ variant_shape size (w ∷ variants) b n v all ok h e =
     chosen : (t : Bool) → same_num w.number n ≡ t → (same_num w.number n ≡ true → Shaped (w ∷ variants) n v) → (same_num w.number n ≡ false → Shaped variants n v) → Shaped (w ∷ variants) n v
     chosen true is here rest = here is
     chosen false is here rest = let s = rest is in record { value = s.value; is = s.is; shaped = shape s.value is ∙ s.shaped }
-
-some_is : {A : Type 0} {x y : A} → Some x ≡ Some y → x ≡ y
-some_is e = cc
 
 some_bool : (n : ℕ) (v : Val) → bool_of n ≡ Some v → (truth : Bool) × (val.Bool truth ≡ v)
 some_bool zero v e = (false, some_is e)

@@ -1,12 +1,10 @@
 -- In the encoding of a value each byte that its type doesn't use is uninitialised.
-use Rattle.std.proofs.Common.{◌≡◌, ℕ, suc, ◌+◌, ◌-◌, ◌*◌, ◌%◌, ◌<◌, ◌≤◌, ◌⊎◌, inl, inr, ⊎_elim, Bool, true, false, List, [], ◌∷◌, ◌++◌, length, get_or, refl, sym, subst, ap, ◌∙◌, arith, length-append}
+use Rattle.std.proofs.Common.{◌≡◌, ℕ, suc, ◌+◌, ◌-◌, ◌*◌, ◌%◌, ◌<◌, ◌≤◌, ◌⊎◌, inl, inr, ⊎_elim, Bool, true, false, List, [], ◌∷◌, length, refl, sym, subst, ap, ◌∙◌, arith}
 use Rattle.std.proofs.lemmas.Bool.Decides.{nat_tests}
 use Rattle.std.proofs.lemmas.List.{get_or-replicate, get_or_append_left, get_or-append_right, length-replicate}
 use Rattle.std.proofs.Math.Nat.{mod-eq_of_lt, add-mod_left}
-use Rattle.std.specs.Prelude.{◌&&◌, ◌||◌, ◌==◌, nat_lt, nat_le, if◌then◌else◌}
-use Rattle.mr_ast.specs.declared.types.IntType.{IntType}
+use Rattle.std.specs.Prelude.{◌&&◌, nat_lt, nat_le, if◌then◌else◌}
 use Rattle.mr_ast.specs.declared.types.Num.{Num}
-use Rattle.mr_ast.specs.declared.types.Tree.{Tree}
 use Rattle.mr_ast.specs.declared.types.Ty.{Ty}
 use Rattle.mr_ast.specs.declared.types.Ty.TheVariants as ty
 use Rattle.mr_ast.specs.declared.types.Variant.{Variant}
@@ -16,7 +14,7 @@ use Rattle.mr_layout.specs.EnumRules.{same_num, are_tags, are_all_tags}
 use Rattle.mr_layout.specs.Parts.{FieldsOk, VariantsOk}
 use Rattle.mr_layout.specs.Sizes.{int_size, size_of}
 use Rattle.mr_layout.specs.TypeOk.{TypeOk}
-use Rattle.mr_layout.specs.Used.{is_in, is_in_part, is_in_chunk, is_in_tag, is_used, is_used_variant, is_used_field, is_used_in}
+use Rattle.mr_layout.specs.Used.{is_in, is_in_part, is_in_tag, is_used, is_used_variant, is_used_field, is_used_in}
 use Rattle.mr_layout.proofs.Bounds.{or_false}
 use Rattle.mr_layout.proofs.PartsOk.{and_true, tuple_parts, array_part, union_parts, enum_parts}
 use Rattle.mr_layout.proofs.SizeLaws.{size_int, size_bool, size_raw, size_fn_ptr, size_ref, size_tuple, size_array, size_union, size_enum}
@@ -25,9 +23,9 @@ use Rattle.mr_runs.specs.Ranges.{with_range_replaced}
 use Rattle.mr_runs.proofs.RangeLaws.{length-with_range_replaced}
 use Rattle.mr_value.specs.declared.val.Val.{Val}
 use Rattle.mr_value.specs.Numbers.{Bytes}
-use Rattle.mr_value.specs.Encode.{blank, element_bytes, with_chunks, with_tags, encoding_of, write_fields, write_variant}
+use Rattle.mr_value.specs.Encode.{blank, element_bytes, with_tags, encoding_of, write_fields, write_variant}
 use Rattle.mr_value.specs.Shape.{chunks_size, elements_pass, has_shape, fields_have_shape, variant_has_shape}
-use Rattle.mr_value.proofs.DecodeSteps.{eq_from}
+use Rattle.mr_value.proofs.Comparisons.{below_or, eq_from}
 use Rattle.mr_value.proofs.EncodeLaws.{encode_tuple, encode_array, encode_union, encode_enum}
 use Rattle.mr_value.proofs.EncodeLength.{length-encoding_of}
 use Rattle.mr_value.proofs.EncodePieces.{chunk_pieces, with_chunks_is, chunks_inside, in_chunks, tag_pieces, with_tags_is, tags_inside, in_tags}
@@ -71,13 +69,6 @@ fields_blank size (f ∷ fields) (v ∷ vs) bytes i all ok e h u n =
     byte_inside bytes f.0 piece i inside in_it.0 in_it.1 ∙ all.0 ok.0.ok v p.0 (i - f.0) at (part_unused f.0 i f.1 apart.0 in_it.0))
     (in_cases f.0 (length piece) i) in
     fields_blank size fields vs (with_range_replaced bytes f.0 piece) i all.1 ok.1 p.1 (length-with_range_replaced bytes f.0 piece inside ∙ h) here apart.1
-
-pub below_or : (a b : ℕ) → (a < b) ⊎ (b ≤ a)
-below_or a b = by (nat_lt a b) refl
-  where
-    by : (t : Bool) → nat_lt a b ≡ t → (a < b) ⊎ (b ≤ a)
-    by true e = let h : a < b = grind (arith, nat_tests) in inl h
-    by false e = let h : b ≤ a = grind (arith, nat_tests) in inr h
 
 pub rest_below : (count size i : ℕ) → i < suc count * size → size ≤ i → i - size < count * size
 rest_below count size i p q = omega arith

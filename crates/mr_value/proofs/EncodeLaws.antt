@@ -6,17 +6,15 @@ use Rattle.mr_ast.specs.declared.types.Num.{Num}
 use Rattle.mr_ast.specs.declared.types.Tree.{Tree}
 use Rattle.mr_ast.specs.declared.types.Ty.{Ty, roll-Ty}
 use Rattle.mr_ast.specs.declared.types.Ty.TheVariants as ty
-use Rattle.mr_ast.specs.declared.types.Ty.TheOpen.{Ty-F, Variant-F}
+use Rattle.mr_ast.specs.declared.types.Ty.TheOpen.{Ty-F}
 use Rattle.mr_ast.specs.declared.types.Ty.TheFolds.{map-Ty, para-Variant, para-roll-Ty, para-roll-Variant}
 use Rattle.mr_ast.specs.declared.types.Variant.{Variant, out-Variant}
 use Rattle.mr_base.specs.declared.byte.Pointer.{Pointer}
 use Rattle.mr_layout.specs.Sizes.{int_size}
-use Rattle.mr_layout.specs.EnumRules.{same_num}
 use Rattle.mr_value.specs.declared.val.Val.{Val, out-Val}
 use Rattle.mr_value.specs.declared.val.Val.TheVariants as val
-use Rattle.mr_value.specs.declared.val.Val.TheOpen.{Val-F}
 use Rattle.mr_value.specs.Numbers.{Bytes, little_endian, initialised, pointer_bytes}
-use Rattle.mr_value.specs.Encode.{Writer, blank, element_bytes, with_chunks, with_tags, variant_bytes, encode_step, variant_encode_step, encoding_of, write_fields, write_variant}
+use Rattle.mr_value.specs.Encode.{Writer, blank, element_bytes, with_chunks, variant_bytes, encode_step, variant_encode_step, encoding_of, write_fields, write_variant}
 
 unfoldable variant_writer : Variant → Writer
 variant_writer = para-Variant Writer Writer (λ layer v. encode_step layer (out-Val v)) variant_encode_step

@@ -1,8 +1,7 @@
 -- The encoding of a value has the size of its type.
-use Rattle.std.proofs.Common.{◌≡◌, ℕ, zero, suc, ◌+◌, ◌-◌, ◌*◌, ◌≤◌, Bool, true, false, List, [], ◌∷◌, ◌++◌, length, take, drop, map, Option, None, refl, sym, ap, ◌∙◌, arith, length-append, length-take, length-drop}
-use Rattle.std.specs.Prelude.{◌&&◌, ◌==◌, if◌then◌else◌}
+use Rattle.std.proofs.Common.{◌≡◌, ℕ, zero, suc, ◌+◌, ◌*◌, ◌≤◌, Bool, true, false, List, [], ◌∷◌, length, take, drop, Option, None, refl, sym, ap, ◌∙◌, arith, length-append, length-take, length-drop}
+use Rattle.std.specs.Prelude.{if◌then◌else◌}
 use Rattle.std.proofs.lemmas.List.{length-replicate, length-map}
-use Rattle.mr_ast.specs.declared.types.IntType.{IntType}
 use Rattle.mr_ast.specs.declared.types.Num.{Num}
 use Rattle.mr_ast.specs.declared.types.Tag.{Tag}
 use Rattle.mr_ast.specs.declared.types.Ty.{Ty}
@@ -20,11 +19,11 @@ use Rattle.mr_layout.proofs.SizeLaws.{size_int, size_bool, size_raw, size_fn_ptr
 use Rattle.mr_runs.specs.Ranges.{with_range_replaced}
 use Rattle.mr_runs.proofs.RangeLaws.{length-with_range_replaced}
 use Rattle.mr_value.specs.declared.val.Val.{Val}
-use Rattle.mr_value.specs.Numbers.{Bytes, little_endian, initialised, pointer_bytes}
+use Rattle.mr_value.specs.Numbers.{Bytes, little_endian, initialised}
 use Rattle.mr_value.specs.Discriminants.{bits_of_number}
 use Rattle.mr_value.specs.Encode.{blank, element_bytes, with_chunks, tag_bytes, with_tags, encoding_of, write_fields, write_variant}
 use Rattle.mr_value.specs.Shape.{chunks_size, elements_pass, has_shape, fields_have_shape, variant_has_shape}
-use Rattle.mr_value.proofs.DecodeSteps.{eq_from}
+use Rattle.mr_value.proofs.Comparisons.{eq_from}
 use Rattle.mr_value.proofs.EncodeLaws.{encode_int, encode_bool, encode_raw, encode_fn_ptr, encode_ref, encode_tuple, encode_array, encode_union, encode_enum}
 use Rattle.mr_value.proofs.ShapeLaws.{shape_int, shape_bool, shape_raw, shape_fn_ptr, shape_ref, shape_tuple, shape_array, shape_union, shape_enum}
 use Rattle.mr_value.proofs.TagParts.{enum_tags, first_tag}

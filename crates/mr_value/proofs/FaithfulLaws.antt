@@ -1,16 +1,15 @@
 -- The equations of `is_faithful`, at values of each type's shape.
 use Rattle.std.proofs.Common.{◌≡◌, ℕ, Bool, List, [], ◌∷◌, map, refl, sym, ap, ◌∙◌}
-use Rattle.std.specs.Prelude.{not, ◌&&◌, if◌then◌else◌}
+use Rattle.std.specs.Prelude.{not, ◌&&◌}
 use Rattle.mr_ast.specs.declared.types.IntType.{IntType}
 use Rattle.mr_ast.specs.declared.types.Num.{Num}
 use Rattle.mr_ast.specs.declared.types.Tree.{Tree}
 use Rattle.mr_ast.specs.declared.types.Ty.{Ty, roll-Ty}
 use Rattle.mr_ast.specs.declared.types.Ty.TheVariants as ty
-use Rattle.mr_ast.specs.declared.types.Ty.TheOpen.{Ty-F, Variant-F}
+use Rattle.mr_ast.specs.declared.types.Ty.TheOpen.{Ty-F}
 use Rattle.mr_ast.specs.declared.types.Ty.TheFolds.{map-Ty, para-Variant, para-roll-Ty, para-roll-Variant}
 use Rattle.mr_ast.specs.declared.types.Variant.{Variant, out-Variant}
 use Rattle.mr_base.specs.declared.byte.Pointer.{Pointer}
-use Rattle.mr_layout.specs.EnumRules.{same_num}
 use Rattle.mr_value.specs.declared.val.Val.{Val, out-Val}
 use Rattle.mr_value.specs.declared.val.Val.TheVariants as val
 use Rattle.mr_value.specs.Decode.{is_not_null, is_aligned}

@@ -1,4 +1,5 @@
 pub mod ApartParts
+pub mod Comparisons
 pub mod DecodeLaws
 pub mod DecodeShape
 pub mod DecodeSteps

@@ -1,5 +1,5 @@
 -- What an answer of decoding says of the values that bytes mean.
-use Rattle.std.proofs.Common.{◌≡◌, ℕ, true, List, length, take, Option, Some, None, refl, sym, ap, ◌∙◌, arith}
+use Rattle.std.proofs.Common.{◌≡◌, ℕ, true, length, Option, Some, None, sym, ◌∙◌, arith}
 use Rattle.std.proofs.lemmas.List.{take_all}
 use Rattle.std.specs.Prelude.{IfSome, IfNone}
 use Rattle.mr_ast.specs.declared.types.Ty.{Ty}
@@ -13,10 +13,8 @@ use Rattle.mr_value.specs.Numbers.{Bytes, part}
 use Rattle.mr_value.specs.Shape.{has_shape}
 use Rattle.mr_value.proofs.DecodeShape.{decoded_has_shape}
 use Rattle.mr_value.proofs.EncodeLength.{length-encoding_of}
+use Rattle.mr_value.proofs.Options.{some_is}
 use Rattle.mr_value.proofs.ReadsBack.{decoded-encoding_of}
-
-some_is : {v w : Val} → Some v ≡ Some w → v ≡ w
-some_is e = cc
 
 pub same_meaning : (t : Ty) (b : Bytes) (v w : Val) → Means t b v → Means t b w → v ≡ w
 same_meaning t b v w first second = some_is (sym first.decodes ∙ second.decodes)

@@ -1,11 +1,10 @@
 -- Numbers, bools and pointers are read back from their bytes.
-use Rattle.std.proofs.Common.{◌≡◌, ℕ, zero, suc, ◌+◌, ◌*◌, ◌/◌, ◌%◌, ◌^◌, ◌<◌, Bool, true, false, List, [], ◌∷◌, length, map, Option, Some, None, refl, sym, ap, ◌∙◌, arith}
+use Rattle.std.proofs.Common.{◌≡◌, ℕ, zero, suc, ◌+◌, ◌*◌, ◌/◌, ◌%◌, ◌^◌, ◌<◌, true, List, [], ◌∷◌, Option, Some, None, refl, ap, ◌∙◌, arith}
 use Rattle.std.proofs.lemmas.Bool.Decides.{nat_tests}
-use Rattle.std.specs.Prelude.{◌&&◌, ◌==◌, if◌then◌else◌, option_map}
+use Rattle.std.specs.Prelude.{◌&&◌, if◌then◌else◌, option_map}
 use Rattle.mr_base.specs.declared.byte.AllocId.{AllocId}
-use Rattle.mr_base.specs.declared.byte.AbstractByte.TheVariants.{Init}
 use Rattle.mr_base.specs.declared.byte.Pointer.{Pointer}
-use Rattle.mr_value.specs.Numbers.{Bytes, number_of, little_endian, initialised, is_same_id, all_have, shared_provenance, pointer, pointer_of, pointer_bytes}
+use Rattle.mr_value.specs.Numbers.{number_of, little_endian, initialised, is_same_id, all_have, shared_provenance, pointer, pointer_of, pointer_bytes}
 use Rattle.mr_value.proofs.Digits.{more_byte}
 
 pub number_back : (provenance : Option AllocId) (count n : ℕ) → n < 2 ^ (8 * count) → number_of (initialised provenance (little_endian count n)) ≡ Some n

@@ -9,3 +9,6 @@ mapped f (Some x) y e = (x, (refl, cc))
 pub followed : {A B : Type 0} (f : A → Option B) (o : Option A) (y : B) → option_and_then f o ≡ Some y → (x : A) × ((o ≡ Some x) × (f x ≡ Some y))
 followed f None y e = absurd (cc)
 followed f (Some x) y e = (x, (refl, e))
+
+pub some_is : {A : Type 0} {x y : A} → Some x ≡ Some y → x ≡ y
+some_is e = cc

@@ -1,18 +1,15 @@
 -- Bytes that hold what a type uses of a value's encoding mean that value, where it is faithful.
-use Rattle.std.proofs.Common.{◌≡◌, ℕ, zero, suc, ◌+◌, ◌-◌, ◌*◌, ◌%◌, ◌^◌, ◌<◌, ◌≤◌, ◌⊎◌, inl, inr, ⊎_elim, Bool, true, false, List, [], ◌∷◌, ◌++◌, length, get_or, take, drop, Option, Some, None, refl, sym, subst, ap, ◌∙◌, arith, length-append, length-take, length-drop}
+use Rattle.std.proofs.Common.{◌≡◌, ℕ, zero, suc, ◌+◌, ◌-◌, ◌*◌, ◌%◌, ◌^◌, ◌<◌, ◌≤◌, ⊎_elim, Bool, true, false, List, [], ◌∷◌, ◌++◌, length, take, drop, Option, Some, None, refl, sym, subst, ap, ◌∙◌, arith, length-take, length-drop}
 use Rattle.std.proofs.lemmas.Bool.Decides.{nat_tests}
 use Rattle.std.proofs.lemmas.List.{get_or-take, get_or-drop, get_or_past, get_or_append_left, get_or-append_right, ext_get_or, length-replicate, take-append-drop}
 use Rattle.std.proofs.Math.Nat.{mod-eq_of_lt, add-mod_left}
 use Rattle.std.specs.Prelude.{not, ◌&&◌, ◌||◌, ◌==◌, nat_lt, nat_le, if◌then◌else◌, option_map, option_and_then}
-use Rattle.mr_ast.specs.declared.types.IntType.{IntType}
 use Rattle.mr_ast.specs.declared.types.Num.{Num}
 use Rattle.mr_ast.specs.declared.types.Tag.{Tag}
-use Rattle.mr_ast.specs.declared.types.Tree.{Tree}
 use Rattle.mr_ast.specs.declared.types.Ty.{Ty}
 use Rattle.mr_ast.specs.declared.types.Ty.TheVariants as ty
 use Rattle.mr_ast.specs.declared.types.Variant.{Variant}
 use Rattle.mr_ast.proofs.TypeInduction.{AllFields, AllVariants, TypeCases, type_induction}
-use Rattle.mr_base.specs.declared.byte.AllocId.{AllocId}
 use Rattle.mr_base.specs.declared.byte.AbstractByte.TheVariants.{Uninit, Init}
 use Rattle.mr_base.specs.declared.byte.Pointer.{Pointer}
 use Rattle.mr_layout.specs.EnumRules.{same_num, is_some_used, are_tags, are_all_tags}
@@ -29,17 +26,17 @@ use Rattle.mr_runs.specs.Ranges.{with_range_replaced}
 use Rattle.mr_runs.proofs.RangeLaws.{length-with_range_replaced}
 use Rattle.mr_value.specs.declared.val.Val.{Val}
 use Rattle.mr_value.specs.declared.val.Val.TheVariants as val
-use Rattle.mr_value.specs.Numbers.{Bytes, part, number_of, little_endian, initialised, pointer_of, pointer_bytes}
+use Rattle.mr_value.specs.Numbers.{Bytes, part, number_of, little_endian, initialised, pointer_bytes}
 use Rattle.mr_value.specs.Discriminants.{walk}
 use Rattle.mr_value.specs.Decode.{bool_of, pointer_where, is_not_null, is_aligned, elements_in, chunks_in, decoded, read_fields, read_variant}
 use Rattle.mr_value.specs.Encode.{blank, element_bytes, with_chunks, with_tags, encoding_of, write_fields, write_variant}
 use Rattle.mr_value.specs.Faithful.{is_address, is_found, is_faithful, fields_faithful, variant_faithful}
 use Rattle.mr_value.specs.Shape.{chunks_size, elements_pass, has_shape, fields_have_shape, variant_has_shape}
 use Rattle.mr_value.proofs.ApartParts.{tuple_apart, union_apart}
+use Rattle.mr_value.proofs.Comparisons.{below_or, eq_from, lt_from, lt_test}
 use Rattle.mr_value.proofs.DecodeLaws.{decode_int, decode_bool, decode_raw, decode_fn_ptr, decode_ref, decode_tuple, decode_array, decode_union, decode_enum}
 use Rattle.mr_value.proofs.DecodeShape.{length-part}
-use Rattle.mr_value.proofs.DecodeSteps.{eq_from}
-use Rattle.mr_value.proofs.EncodeBlank.{unused_is_blank, rest_below, below_or}
+use Rattle.mr_value.proofs.EncodeBlank.{unused_is_blank}
 use Rattle.mr_value.proofs.EncodeLaws.{encode_int, encode_bool, encode_raw, encode_fn_ptr, encode_ref, encode_tuple, encode_array, encode_union, encode_enum}
 use Rattle.mr_value.proofs.EncodeLength.{length-initialised, length-encoding_of}
 use Rattle.mr_value.proofs.EncodePieces.{field_pieces, write_fields_is, fields_inside, meets_fields, chunk_pieces, with_chunks_is, length-taken, length-left, chunks_inside, meets_chunks, tag_pieces, with_tags_is, tags_inside, in_tags}
@@ -56,12 +53,6 @@ Agrees t b e = (i : ℕ) → i < size_of t → is_used t i ≡ true → byte_at 
 
 abbrev pub Reads : Ty → Type 0
 Reads t = TypeOk t → (v : Val) → has_shape t v ≡ true → is_faithful t v ≡ true → (b : Bytes) → length b ≡ size_of t → Agrees t b (encoding_of t v) → decoded t b ≡ Some v
-
-lt_from : (a b : ℕ) → nat_lt a b ≡ true → a < b
-lt_from a b e = grind (arith, nat_tests)
-
-lt_test : (a b : ℕ) → a < b → nat_lt a b ≡ true
-lt_test a b p = grind (arith, nat_tests)
 
 -- a type that uses all of its bytes
 all_same : (t : Ty) (size : ℕ) (v w : Val) (b bytes : Bytes) → v ≡ w → encoding_of t w ≡ bytes → ((i : ℕ) → is_used t i ≡ nat_lt i size) → size_of t ≡ size → length bytes ≡ size → length b ≡ size_of t → Agrees t b (encoding_of t v) → b ≡ bytes

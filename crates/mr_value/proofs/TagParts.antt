@@ -1,6 +1,6 @@
 -- The tags of an enum that breaks no rule.
-use Rattle.std.proofs.Common.{◌≡◌, ℕ, ◌+◌, ◌%◌, ◌≤◌, Bool, true, false, List, [], ◌∷◌, None, refl, sym, ◌∙◌}
-use Rattle.std.specs.Prelude.{nat_le, not, ◌&&◌, ◌==◌}
+use Rattle.std.proofs.Common.{◌≡◌, ℕ, ◌+◌, ◌%◌, ◌≤◌, Bool, true, false, List, ◌∷◌, None, refl, sym, ◌∙◌}
+use Rattle.std.specs.Prelude.{nat_le, not, ◌==◌}
 use Rattle.mr_ast.specs.declared.types.IntType.{IntType}
 use Rattle.mr_ast.specs.declared.types.Tag.{Tag}
 use Rattle.mr_ast.specs.declared.types.Tree.{Tree}
@@ -9,20 +9,12 @@ use Rattle.mr_ast.specs.declared.types.Ty.TheVariants as ty
 use Rattle.mr_ast.specs.declared.types.Variant.{Variant}
 use Rattle.mr_layout.specs.Sizes.{int_size}
 use Rattle.mr_layout.specs.Rules.{is_large, is_align}
-use Rattle.mr_layout.specs.EnumRules.{is_fitting, are_variants, meets_tag, is_some_used, are_tags, are_all_tags, is_tree, enum_rules}
+use Rattle.mr_layout.specs.EnumRules.{is_fitting, are_variants, meets_tag, is_some_used, are_tags, are_all_tags, enum_rules}
 use Rattle.mr_layout.specs.TypeOk.{TypeOk, first_broken_variant}
 use Rattle.mr_layout.proofs.BrokenLaws.{broken_enum}
 use Rattle.mr_layout.proofs.Bounds.{or_else_none, rule_none}
 use Rattle.mr_layout.proofs.PartsOk.{and_true}
-use Rattle.mr_value.proofs.DecodeSteps.{le_from}
-
-pub not_false : (b : Bool) → not b ≡ false → b ≡ true
-not_false true e = refl
-not_false false e = cc
-
-pub not_true : (b : Bool) → not b ≡ true → b ≡ false
-not_true true e = cc
-not_true false e = refl
+use Rattle.mr_value.proofs.Comparisons.{le_from, not_false, not_true}
 
 tags_of_rules : (size align : ℕ) (disc : IntType) (variants : List Variant) (tree : Tree) → enum_rules size align disc variants tree ≡ None → are_all_tags size variants ≡ true
 unfolding enum_rules

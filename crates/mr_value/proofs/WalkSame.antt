@@ -1,11 +1,9 @@
 -- A walk that finds a discriminant finds it in any bytes of the same length that hold what was initialised.
-use Rattle.std.proofs.Common.{◌≡◌, ℕ, zero, suc, ◌+◌, ◌-◌, ◌*◌, ◌%◌, ◌<◌, ◌≤◌, Bool, true, false, List, [], ◌∷◌, ◌⊎◌, ⊎_elim, length, get_or, take, drop, Option, Some, None, refl, sym, subst, ap, ◌∙◌, arith, length-take, length-drop}
+use Rattle.std.proofs.Common.{◌≡◌, ℕ, suc, ◌+◌, ◌*◌, ◌%◌, ◌<◌, ◌≤◌, Bool, true, false, List, [], ◌∷◌, ⊎_elim, length, drop, Option, Some, None, refl, sym, ap, ◌∙◌, arith, length-take, length-drop}
 use Rattle.std.proofs.lemmas.List.{get_or-take, get_or-drop, get_or_past}
 use Rattle.std.specs.Prelude.{if◌then◌else◌, option_map, option_and_then}
-use Rattle.mr_ast.specs.declared.types.IntType.{IntType}
 use Rattle.mr_ast.specs.declared.types.Num.{Num}
 use Rattle.mr_ast.specs.declared.types.Tree.{Tree}
-use Rattle.mr_ast.specs.declared.types.Tree.TheVariants as tree
 use Rattle.mr_base.specs.declared.byte.AllocId.{AllocId}
 use Rattle.mr_base.specs.declared.byte.AbstractByte.{AbstractByte}
 use Rattle.mr_base.specs.declared.byte.AbstractByte.TheVariants.{Uninit, Init}
@@ -13,7 +11,7 @@ use Rattle.mr_layout.specs.Sizes.{int_size}
 use Rattle.mr_layout.specs.EnumRules.{same_num}
 use Rattle.mr_value.specs.Numbers.{Bytes, part, number_of}
 use Rattle.mr_value.specs.Discriminants.{number_of_bits, walk, walk_case}
-use Rattle.mr_value.proofs.EncodeBlank.{below_or}
+use Rattle.mr_value.proofs.Comparisons.{below_or}
 use Rattle.mr_value.proofs.Options.{mapped, followed}
 use Rattle.mr_value.proofs.Pieces.{byte_at}
 use Rattle.mr_value.proofs.TreeInduction.{AllCases, TreeCases, tree_induction}
@@ -51,8 +49,8 @@ number_same (x ∷ b) (Init k p ∷ e) n long h is =
     let rest = number_same b e m.0 (omega arith) (λ i j q g. h (suc i) j q g) m.1.0 in
     ap (λ (z : AbstractByte). number_of (z ∷ b)) first ∙ ap (option_map (λ r. k % 256 + 256 * r)) rest ∙ ap Some m.1.1
 
-length-part : (b e : Bytes) (at len : ℕ) → length b ≡ length e → length (part at len b) ≡ length (part at len e)
-length-part b e at len h = omega (arith, length-take len (drop at b), length-take len (drop at e), length-drop at b, length-drop at e)
+same_part_length : (b e : Bytes) (at len : ℕ) → length b ≡ length e → length (part at len b) ≡ length (part at len e)
+same_part_length b e at len h = omega (arith, length-take len (drop at b), length-take len (drop at e), length-drop at b, length-drop at e)
 
 abbrev FindsSame : Bytes → Bytes → Tree → Type 0
 FindsSame b e t = (n : Num) → walk t e ≡ Some n → walk t b ≡ Some n
@@ -72,7 +70,7 @@ same_cases b e long h = record {
   at_invalid = λ n is. let g = sym (walk_invalid e) ∙ is in absurd (none_some g);
   at_branch = λ at int cases rest all last n is.
       let m = followed (λ bits. walk_case (number_of_bits int bits) cases rest e) (number_of (part at (int_size int) e)) n (sym (walk_branch at int cases rest e) ∙ is) in
-      let same = number_same (part at (int_size int) b) (part at (int_size int) e) m.0 (length-part b e at (int_size int) long) (part_holds b e at (int_size int) h) m.1.0 in
+      let same = number_same (part at (int_size int) b) (part at (int_size int) e) m.0 (same_part_length b e at (int_size int) long) (part_holds b e at (int_size int) h) m.1.0 in
       walk_branch at int cases rest b
       ∙ ap (option_and_then (λ bits. walk_case (number_of_bits int bits) cases rest b)) same
       ∙ cases_same b e (number_of_bits int m.0) cases rest n all last m.1.1;

@@ -1,5 +1,5 @@
 -- The bytes that a value is written as. (MiniRust, language: representation of values.)
-use Rattle.std.specs.Prelude.{◌≡◌, ℕ, Bool, true, false, if◌then◌else◌, List, [], ◌∷◌, ◌++◌, map, length, take, drop, replicate, Option, None}
+use Rattle.std.specs.Prelude.{◌≡◌, ℕ, if◌then◌else◌, List, [], ◌∷◌, ◌++◌, map, take, drop, replicate, None}
 use Rattle.mr_ast.specs.declared.types.Num.{Num}
 use Rattle.mr_ast.specs.declared.types.Tag.{Tag}
 use Rattle.mr_ast.specs.declared.types.Ty.{Ty}

@@ -1,10 +1,9 @@
-use Rattle.std.proofs.Common.{ℕ, subst, ◌≡◌, ◌+◌, ◌-◌, ◌*◌, ◌≤◌, ◌<◌, ◌++◌, ◌∷◌, None, true, false, List, drop, length, sym, ap, ◌∙◌, arith}
+use Rattle.std.proofs.Common.{ℕ, subst, ◌≡◌, ◌+◌, ◌-◌, ◌*◌, ◌≤◌, ◌<◌, ◌++◌, true, List, drop, length, sym, ap, ◌∙◌, arith}
 use Rattle.std.specs.Prelude.{option_map}
 use Rattle.mr_ast.specs.declared.types.Ty.{Ty}
 use Rattle.mr_ast.specs.declared.types.Variant.{Variant}
 use Rattle.mr_ast.specs.Weight.{weight_of, fields_weight}
 use Rattle.mr_ast.proofs.WeightLaws.{weight_tuple, weight_field}
-use Rattle.mr_layout.specs.EnumRules.{is_tree}
 use Rattle.mr_layout.specs.Sizes.{size_of}
 use Rattle.mr_layout.specs.Parts.{is_ok, are_ok, are_chunks_ok, are_variants_ok}
 use Rattle.mr_layout.proofs.OkTests.{ok_tuple, ok_array, ok_union, ok_enum}

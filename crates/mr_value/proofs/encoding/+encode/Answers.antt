@@ -1,5 +1,5 @@
-use Rattle.std.proofs.Common.{ℕ, Bool, true, false, subst, ◌≡◌, ◌+◌, ◌*◌, ◌≤◌, ◌<◌, ◌++◌, List, [], drop, get_or, length, refl, sym, ap, ◌∙◌, arith}
-use Rattle.std.specs.Prelude.{◌&&◌, ◌==◌}
+use Rattle.std.proofs.Common.{ℕ, true, subst, ◌≡◌, ◌+◌, ◌≤◌, ◌<◌, ◌++◌, List, [], drop, get_or, length, sym, ap, ◌∙◌, arith}
+use Rattle.std.specs.Prelude.{◌==◌}
 use Rattle.mr_ast.specs.declared.types.Ty.{Ty}
 use Rattle.mr_ast.specs.declared.types.Ty.TheVariants as ty
 use Rattle.mr_ast.specs.declared.types.Variant.{Variant}
@@ -17,7 +17,8 @@ use Rattle.mr_value.specs.declared.val.Val.TheVariants as val
 use Rattle.mr_value.specs.Numbers.{Bytes}
 use Rattle.mr_value.specs.Encode.{encoding_of, write_fields}
 use Rattle.mr_value.specs.Shape.{chunks_size, elements_pass, has_shape, fields_have_shape, variant_has_shape}
-use Rattle.mr_value.proofs.DecodeSteps.{eq_from, next_field, next_variant}
+use Rattle.mr_value.proofs.Comparisons.{eq_from}
+use Rattle.mr_value.proofs.DecodeSteps.{next_field, next_variant}
 use Rattle.mr_value.proofs.EncodeLength.{length-encoding_of}
 use Rattle.mr_value.proofs.EncodeSteps.{same_length, next_value, fields_written, variant_shaped_here, equal_is}
 use Rattle.mr_value.proofs.ShapeLaws.{shape_int, shape_bool, shape_raw, shape_fn_ptr, shape_ref, shape_tuple, shape_array, shape_union, shape_enum, has_tuple, has_array, has_union, has_enum}

@@ -1,11 +1,10 @@
-use Rattle.std.proofs.Common.{◌≡◌, ◌+◌, ◌≤◌, ◌++◌, false, None, drop, get_or, length, sym, ap, ◌∙◌, subst, true, arith}
+use Rattle.std.proofs.Common.{◌≡◌, ◌+◌, ◌≤◌, ◌++◌, false, None, drop, get_or, length, sym, ap, ◌∙◌, arith}
 use Rattle.mr_ast.specs.declared.types.IntType.TheVariants.{U8}
 use Rattle.mr_ast.specs.declared.types.Tag.{Tag}
 use Rattle.mr_layout.specs.EnumRules.{are_tags}
 use Rattle.mr_layout.specs.Sizes.{int_size}
 use Rattle.mr_runs.specs.Ranges.{with_range_replaced}
 use Rattle.mr_runs.proofs.RangeLaws.{length-with_range_replaced}
-use Rattle.mr_value.specs.Discriminants.{bits_of_number}
 use Rattle.mr_value.specs.Encode.{tag_bytes, with_tags}
 use Rattle.mr_value.specs.Numbers.{Bytes, little_endian, initialised}
 use Rattle.mr_value.proofs.EncodeLength.{length-tag_bytes}

@@ -1,4 +1,4 @@
-use Rattle.std.proofs.Common.{◌<◌, ◌+◌, ◌*◌, ◌^◌, ◌-◌, arith}
+use Rattle.std.proofs.Common.{◌<◌, ◌+◌, ◌*◌, ◌^◌, arith}
 use Rattle.mr_value.proofs.Digits.{byte_fits, within_128}
 use Rattle.mr_value.proofs.numbers.+number_at.Goals as goal
 

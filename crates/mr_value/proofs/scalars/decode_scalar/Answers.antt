@@ -1,4 +1,4 @@
-use Rattle.std.proofs.Common.{◌≡◌, ap, ◌∙◌}
+use Rattle.std.proofs.Common.{ap, ◌∙◌}
 use Rattle.mr_layout.specs.Sizes.{size_of}
 use Rattle.mr_layout.proofs.OkTests.{is_ok_of}
 use Rattle.mr_runs.specs.Pieces.{bytes_of_pieces}

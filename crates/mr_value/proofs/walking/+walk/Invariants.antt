@@ -1,5 +1,4 @@
-use Rattle.std.proofs.Common.{◌≡◌, true, drop}
-use Rattle.mr_layout.specs.EnumRules.{are_tree_cases, is_tree}
+use Rattle.std.proofs.Common.{◌≡◌, drop}
 use Rattle.mr_runs.specs.Pieces.{bytes_of_pieces}
 use Rattle.mr_value.specs.Numbers.{part}
 use Rattle.mr_value.specs.Discriminants.{walk, walk_case}
