@@ -104,6 +104,8 @@ fn texts_are_numbered_in_order(rt: HostRuntime) -> Result<(), Fail> {
     }
     assert_eq!(rt; names.len(), 2);
     assert_eq!(rt; names.text(1), "b");
+    assert_eq!(rt; names.find("b"), Some(1));
+    assert_eq!(rt; names.find("c"), None);
     Ok(())
 }
 

@@ -6,7 +6,8 @@
 //! Proved of `tokens`: an answer `Ok` holds the tokens of the text (`Lexes`), in order and apart, each the part of the
 //! text at its place; an answer `Bad` is the text's first fault (`FirstFault`), with its place and code; and a text
 //! that has these tokens, or this fault, gets no other answer than that or `Memory`. Proved of `one_reading`: each
-//! text has one list of tokens or one first fault, and `lexed` computes it.
+//! text has one list of tokens or one first fault, and `lexed` computes it. `value_of` gives the value of decimal digits, and
+//! `None` exactly where it has more than 128 bits.
 #![tactic(auto)]
 
 mod bytes;
@@ -21,6 +22,7 @@ mod tests;
 mod token;
 
 pub use list::Tokens;
+pub use number::value_of;
 pub use reading::one_reading;
 pub use scan::tokens;
 pub use token::{LexFault, TextFault, Token, TokenKind};

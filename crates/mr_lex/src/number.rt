@@ -13,8 +13,8 @@ pub fn is_fine_number(digits: &[u8]) -> bool
     plain && value_of(digits).is_some()
 }
 
-// The value of the digits, where it has at most 128 bits.
-fn value_of(digits: &[u8]) -> Option<u128>
+/// The value of decimal digits, where it has at most 128 bits.
+pub fn value_of(digits: &[u8]) -> Option<u128>
     requires { AllPass is_digit digits.now }
     ensures { SomeIff result (number_of digits.now < 2 ^ 128) (number_of digits.now) }
 {

@@ -1,0 +1,25 @@
+use Rattle.std.proofs.Common.{sym, arith, codes}
+use Rattle.std.proofs.lemmas.Result.{err_from_is_err_and}
+use Rattle.mr_ast.specs.ProgramGrammar.{begins_stmt, stmt_form, stmts_form}
+use Rattle.mr_parse.specs.Reading.{read}
+use Rattle.mr_parse.proofs.LoopLaws.{goes_on, stops, is_done, is_past}
+use Rattle.mr_parse.proofs.reader.Reader.stmts.Goals as goal
+
+pub returns-then-not-is_stmt_next : goal.returns-then-not-is_stmt_next
+returns-then-not-is_stmt_next c =
+    is_done (λ k. read c.args.room c.args.scope.now (stmt_form k)) (begins_stmt) c.loop-k.stmts c.left-most.result c.loop-k.k c.loop-k.self (read c.args.room c.args.scope.now stmts_form c.args.self.now) c.loop-k.invariant (sym c.if-not-is_stmt_next.ensures)
+
+pub returns-in_err-stmt : goal.returns-in_err-stmt
+returns-in_err-stmt c =
+    let p = err_from_is_err_and c.from_residual.result c.from_residual.ensures.1 in
+    rw (p.1, p.2) (stops (λ k. read c.args.room c.args.scope.now (stmt_form k)) (begins_stmt) c.loop-k.stmts c.left-most.result c.loop-k.k c.loop-k.self (read c.args.room c.args.scope.now stmts_form c.args.self.now) c.loop-k.invariant
+    c.in_err-stmt.field-0.0 (omega arith) (sym c.if-not-is_stmt_next.ensures) c.in_err-stmt.ensures)
+
+pub loop-k-preserved : goal.loop-k-preserved
+loop-k-preserved c =
+    rw c.in_ok-push.ensures.ok (goes_on (λ k. read c.args.room c.args.scope.now (stmt_form k)) (begins_stmt) c.loop-k.stmts c.left-most.result c.loop-k.k c.loop-k.self (read c.args.room c.args.scope.now stmts_form c.args.self.now) c.loop-k.invariant
+    c.in_ok-stmt.field-0 c.stmt.new.self (omega arith) (sym c.if-not-is_stmt_next.ensures) c.in_ok-stmt.ensures)
+
+pub returns : goal.returns
+returns c =
+    is_past (λ k. read c.args.room c.args.scope.now (stmt_form k)) (begins_stmt) c.loop-k.stmts c.left-most.result c.loop-k.k c.loop-k.self (read c.args.room c.args.scope.now stmts_form c.args.self.now) c.loop-k.invariant (omega arith)

@@ -1,0 +1,31 @@
+-- What contracts see of what is read beside the syntax.
+use Rattle.std.specs.Prelude.{ℕ, List, Result, Ok}
+use Rattle.mr_ast.specs.declared.program.Block.{Block}
+use Rattle.mr_ast.specs.declared.program.Function.{Function}
+use Rattle.mr_ast.specs.declared.program.Local.{Local}
+use Rattle.mr_ast.specs.declared.program.LocalName.{LocalName}
+use Rattle.mr_ast.specs.Forms.{Word}
+use Rattle.mr_ast.specs.ProgramGrammar.{FunctionBody, ProgramBody, with_name}
+use Rattle.mr_ast.specs.TypeGrammar.{Shape}
+use Rattle.mr_parse.specs.declared.fault.Stop.{Stop}
+use Rattle.mr_parse.specs.declared.program.Head.{Head}
+use Rattle.mr_parse.specs.declared.program.Inner.{Inner}
+use Rattle.mr_parse.specs.declared.program.Parts.{Parts}
+use Rattle.mr_parse.specs.declared.types.Shape.{Shape as Written}
+use Rattle.mr_parse.specs.Reading.{◌>>=◌}
+
+abbrev pub shape_of : Written → Shape
+shape_of s = record { size = s.size; align = s.align }
+
+abbrev pub body_of_parts : Parts → ProgramBody
+body_of_parts p = record { globals = p.globals; functions = p.functions; start = p.start }
+
+abbrev pub head_of : Head → List LocalName × LocalName
+head_of h = (h.args, h.ret)
+
+abbrev pub parts_of : Inner → List Local × List Block
+parts_of i = (i.locals, i.blocks)
+
+-- the function that has this name and what was read
+abbrev pub named : ℕ → Result (FunctionBody × List Word) Stop → Result (Function × List Word) Stop
+named n read = read >>= λ x. Ok (with_name n x.0, x.1)

@@ -1,0 +1,18 @@
+ghost use Rattle.std.specs.Prelude.{◌≡◌, ◌↔◌, ℕ, List, Ok, Err};
+ghost use Rattle.mr_ast.specs.declared.program.Program.{Program};
+ghost use Rattle.mr_lex.specs.declared.token.TextFault.{TextFault};
+ghost use Rattle.mr_parse.specs.Denotes.{Denotes};
+ghost use Rattle.mr_parse.specs.Faults.{FirstFault};
+ghost use Rattle.mr_parse.specs.Parsing.{parsed};
+
+/// A law, and no code: parsing computes the program that a text denotes, and a text denotes one program at most.
+pub fn one_program()
+    ensures program { (text : List ℕ) (p : Program) → (parsed text ≡ Ok p) ↔ Denotes text p }
+    ensures one { (text : List ℕ) (p q : Program) → Denotes text p → Denotes text q → p ≡ q }
+{}
+
+/// A law, and no code: where parsing computes no program it computes the text's first fault, and a text has one first fault at most.
+pub fn one_fault()
+    ensures fault { (text : List ℕ) (fault : TextFault) → (parsed text ≡ Err fault) ↔ FirstFault text fault }
+    ensures one { (text : List ℕ) (f g : TextFault) → FirstFault text f → FirstFault text g → f ≡ g }
+{}

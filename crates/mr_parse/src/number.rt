@@ -1,0 +1,148 @@
+ghost use Rattle.std.specs.Prelude.{◌≡◌, ◌+◌, ◌-◌, ◌*◌, ◌^◌, ◌<◌, ◌&&◌, ◌||◌, ◌==◌, not, nat_lt, length, slice_index, None, Some, if◌then◌else◌};
+ghost use Rattle.std.specs.List.{list_all};
+ghost use Rattle.std.specs.Option.{SomeIff};
+ghost use Rattle.std.specs.Char.{is_ascii_digit};
+ghost use Rattle.mr_ast.specs.Words.{first_passes, is_number, value_of};
+ghost use Rattle.mr_ast.specs.Writing.{judged_any, judged_positive, judged_repeat, judged_u64, num_form};
+ghost use Rattle.mr_parse.specs.Gives.{Gives};
+ghost use Rattle.mr_parse.specs.Reading.{first_at, read};
+
+use crate::fault::{BAD_NUMBER, ReadFault, UNEXPECTED};
+use crate::reader::Reader;
+use crate::scope::Scope;
+use mr_ast::Num;
+use mr_lex::value_of;
+
+fn is_digit(byte: u8) -> bool
+    ensures { result ≡ is_ascii_digit byte }
+{
+    byte.is_ascii_digit()
+}
+
+fn begins_with_digit(text: &[u8]) -> bool
+    ensures { result ≡ first_passes is_ascii_digit text.now }
+{
+    match text {
+        [first, ..] => is_digit(*first),
+        [] => false,
+    }
+}
+
+fn has_digits(text: &[u8]) -> bool
+    ensures { result ≡ list_all is_ascii_digit text.now }
+{
+    text.iter().all(|byte| is_digit(*byte))
+}
+
+// Whether no 0 stands before other digits.
+fn is_plain(digits: &[u8]) -> bool
+    ensures { result ≡ (not (slice_index digits.now 0 == 48) || (length digits.now == 1)) }
+{
+    match digits {
+        [b'0'] => true,
+        [b'0', ..] => false,
+        _ => true,
+    }
+}
+
+/// The number of this text, where it is one.
+#[tactic(auto, unfolding(mr_ast::specs::Words::is_number))]
+pub fn number_of(text: &[u8]) -> Option<u128>
+    ensures { result ≡ (if is_number text.now then Some (value_of text.now) else None) }
+{
+    if begins_with_digit(text) && has_digits(text) && is_plain(text) {
+        value_of(text)
+    } else {
+        None
+    }
+}
+
+impl<'a> Reader<'a> {
+    /// A number below 2^64.
+    #[tactic(auto, unfolding(mr_ast::specs::Writing::judged_u64))]
+    pub fn number(&mut self) -> Result<u64, ReadFault>
+        ensures { Gives (λ n. (n, self.new)) result (first_at judged_u64 self.old) }
+    {
+        let value = match self.peek() {
+            Some(next) => number_of(next.text),
+            None => None,
+        };
+        match value {
+            Some(value) if value <= 0xffff_ffff_ffff_ffff => {
+                self.advance();
+                Ok(value as u64)
+            }
+            Some(_) => Err(self.stop(BAD_NUMBER)),
+            None => Err(self.stop(UNEXPECTED)),
+        }
+    }
+
+    /// How often an item stands in a row.
+    #[tactic(auto, unfolding(mr_ast::specs::Writing::judged_repeat))]
+    pub fn repeat(&mut self) -> Result<u32, ReadFault>
+        ensures { Gives (λ n. (n, self.new)) result (first_at judged_repeat self.old) }
+    {
+        let value = match self.peek() {
+            Some(next) => number_of(next.text),
+            None => None,
+        };
+        match value {
+            Some(value) if 1 <= value && value <= 0x10_0000 => {
+                self.advance();
+                Ok(value as u32)
+            }
+            Some(value) if value > 0xffff_ffff_ffff_ffff => Err(self.stop(BAD_NUMBER)),
+            _ => Err(self.stop(UNEXPECTED)),
+        }
+    }
+
+    // Any number.
+    #[tactic(auto, unfolding(mr_ast::specs::Writing::judged_any))]
+    fn any(&mut self) -> Result<u128, ReadFault>
+        ensures { Gives (λ n. (n, self.new)) result (first_at judged_any self.old) }
+    {
+        let value = match self.peek() {
+            Some(next) => number_of(next.text),
+            None => None,
+        };
+        match value {
+            Some(value) => {
+                self.advance();
+                Ok(value)
+            }
+            None => Err(self.stop(UNEXPECTED)),
+        }
+    }
+
+    // Any number but 0.
+    #[tactic(auto, unfolding(mr_ast::specs::Writing::judged_positive))]
+    fn positive(&mut self) -> Result<u128, ReadFault>
+        ensures { Gives (λ n. (n, self.new)) result (first_at judged_positive self.old) }
+    {
+        let value = match self.peek() {
+            Some(next) => number_of(next.text),
+            None => None,
+        };
+        match value {
+            Some(value) if value != 0 => {
+                self.advance();
+                Ok(value)
+            }
+            _ => Err(self.stop(UNEXPECTED)),
+        }
+    }
+
+    /// A number with its sign.
+    pub fn num(&mut self, scope: &Scope, room: u32) -> Result<Num, ReadFault>
+        ensures { Gives (λ n. (n, self.new)) result (read room scope.now num_form self.old) }
+    {
+        if self.is_next(b"-") {
+            self.expect(b"-")?;
+            let mag = self.positive()?;
+            Ok(Num { neg: true, mag })
+        } else {
+            let mag = self.any()?;
+            Ok(Num { neg: false, mag })
+        }
+    }
+}

@@ -1,0 +1,107 @@
+ghost use Rattle.std.specs.Prelude.{◌≡◌, ◌≤◌, ◌^◌, ℕ, length, IfOk, IsErrOf, Ok, Err};
+ghost use Rattle.std.specs.Str.{IsAscii};
+ghost use Rattle.mr_ast.specs.declared.program.Program.{Program};
+ghost use Rattle.mr_ast.specs.Shaped.{Shaped};
+ghost use Rattle.mr_lex.specs.declared.token.TextFault.{TextFault as Fault};
+ghost use Rattle.mr_parse.specs.Denotes.{Denotes, knowing, text_at};
+ghost use Rattle.mr_parse.specs.Faults.{FirstFault};
+ghost use Rattle.mr_parse.specs.Gives.{Gives, ParseGives};
+ghost use Rattle.mr_parse.specs.Parsing.{body_of, parsed, program_in, whole_of};
+ghost use Rattle.mr_parse.specs.Places.{words_of};
+ghost use Rattle.mr_parse.specs.Views.{body_of_parts};
+
+use crate::bracket::{MAX_OPEN, told};
+use crate::definitions::definitions_in;
+use crate::fault::{ParseFault, ReadFault, UNEXPECTED};
+use crate::place::fault_at;
+use crate::program::Parts;
+use crate::reader::Reader;
+use crate::scope::{Scope, Tables};
+use mr_ast::Program;
+use mr_lex::{LexFault, Tokens, tokens};
+use std::alloc::Global;
+
+// What all tokens write.
+fn whole(alloc: Global, tokens: &Tokens<'_>, scope: &Scope<'_>) -> Result<Parts, ReadFault>
+    requires { length tokens.now ≤ 2 ^ 20 }
+    ensures { Gives body_of_parts result (whole_of scope.now (words_of tokens.now)) }
+{
+    let mut reader = Reader::new(tokens);
+    let parts = reader.program(alloc, scope, MAX_OPEN)?;
+    match reader.peek() {
+        None => Ok(parts),
+        Some(_) => Err(reader.stop(UNEXPECTED)),
+    }
+}
+
+// The same, where a bracket too many is told before a token that doesn't fit.
+fn body(alloc: Global, tokens: &Tokens<'_>, scope: &Scope<'_>) -> Result<Parts, ReadFault>
+    requires { length tokens.now ≤ 2 ^ 20 }
+    ensures { Gives body_of_parts result (body_of scope.now (words_of tokens.now)) }
+{
+    match whole(alloc, tokens, scope) {
+        Ok(parts) => Ok(parts),
+        Err(ReadFault::At(stop)) => Err(ReadFault::At(told(tokens, stop))),
+        Err(ReadFault::Memory) => Err(ReadFault::Memory),
+    }
+}
+
+// The same, where names stand for what a text defines.
+fn named(alloc: Global, tokens: &Tokens<'_>, tables: &Tables<'_>) -> Result<Parts, ReadFault>
+    requires { length tokens.now ≤ 2 ^ 20 }
+    ensures { Gives body_of_parts result (body_of (knowing tables.now) (words_of tokens.now)) }
+{
+    let scope = Scope::knowing(alloc, &*tables)?;
+    body(alloc, tokens, &scope)
+}
+
+// The program of the tokens: its names are found in a first reading, and stand for what they name in a second.
+#[tactic(auto, unfolding(crate::specs::Parsing::program_in))]
+fn program_in(alloc: Global, tokens: &Tokens<'_>) -> Result<Program, ReadFault>
+    requires few { length tokens.now ≤ 2 ^ 20 }
+    requires ascii { (n : ℕ) → IsAscii (text_at (words_of tokens.now) n) }
+    ensures { Gives (λ p. p) result (program_in (words_of tokens.now)) }
+{
+    let shape = body(alloc, tokens, &Scope::unknown(alloc))?;
+    let definitions = definitions_in(alloc, tokens, &shape)?;
+    let tables = Tables::new(alloc, definitions)?;
+    let named = named(alloc, tokens, &tables)?;
+    Ok(Program {
+        edition: 1,
+        globals: named.globals,
+        functions: named.functions,
+        names: tables.into_names(),
+        start: named.start,
+    })
+}
+
+fn parsed(alloc: Global, text: &[u8]) -> Result<Program, ParseFault>
+    ensures { ParseGives result (parsed text.now) }
+{
+    match tokens(alloc, text) {
+        Ok(tokens) => match program_in(alloc, &tokens) {
+            Ok(program) => Ok(program),
+            Err(ReadFault::At(stop)) => Err(ParseFault::Text(fault_at(text, &tokens, stop))),
+            Err(ReadFault::Memory) => Err(ParseFault::Memory),
+        },
+        Err(LexFault::Bad(fault)) => Err(ParseFault::Text(fault)),
+        Err(LexFault::Memory) => Err(ParseFault::Memory),
+    }
+}
+
+/// The program that a text denotes, or its first fault. It takes time in proportion to the text.
+pub fn parse(alloc: Global, text: &[u8]) -> Result<Program, ParseFault>
+    // What parsing gives, unless memory runs out.
+    ensures exact { ParseGives result (parsed text.now) }
+
+    // The program that the text denotes, and no other; it is shaped.
+    ensures denoted { IfOk result (Denotes text.now) }
+    ensures only { (p : Program) → Denotes text.now p → ParseGives result (Ok p) }
+    ensures shaped { IfOk result Shaped }
+
+    // The first fault of the text, and no other.
+    ensures fault { (fault : Fault) → IsErrOf result (ParseFault.Text fault) → FirstFault text.now fault }
+    ensures first { (fault : Fault) → FirstFault text.now fault → ParseGives result (Err fault) }
+{
+    parsed(alloc, text)
+}

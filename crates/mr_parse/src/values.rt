@@ -1,0 +1,368 @@
+ghost use Rattle.std.specs.Prelude.{◌≡◌, codes, true, false, IfOk};
+ghost use Rattle.mr_ast.specs.Forms.{Part};
+ghost use Rattle.mr_ast.specs.Writing.{ThePlace, TheType, TheValue, giving, ◌▪◌, ◌◂◌};
+ghost use Rattle.mr_ast.specs.ValueGrammar.{base_form, begins_postfix, deref_form, global_value_form, judged_value, more_values_form, place_from, postfix_form, postfixes_form, value_behind, with_postfix};
+ghost use Rattle.mr_parse.specs.Gives.{Gives};
+ghost use Rattle.mr_parse.specs.Insides.{begins_with_type, is_bracketed, value_inside};
+ghost use Rattle.mr_parse.specs.Reading.{first_at, is_next, read, read_outside, read_part};
+ghost use Rattle.mr_parse.specs.Postfixes.{postfix_of, with_all};
+
+use crate::fault::{EXPOSED, ReadFault, TOO_DEEP, TOO_MANY, UNEXPECTED};
+use crate::reader::Reader;
+use crate::scope::Scope;
+use crate::table::{is_exposed, value_word_of};
+use mr_ast::{
+    Boxed, Bracket, FnName, GlobalName, Items, LocalName, Num, Place, Role, Value, ValueWord,
+};
+use std::alloc::{AllocError, Global};
+
+/// How many postfix operators a place may have.
+const MAX_POSTFIXES: usize = 32;
+
+// What stands behind a place and makes another of it.
+#[derive(Drop)]
+enum Postfix {
+    Field(u64),
+    Index(Value),
+    Variant(Num),
+}
+
+// Whether brackets stand behind the first word of a value.
+fn is_bracketed(word: ValueWord) -> bool
+    ensures { result ≡ is_bracketed word }
+{
+    match word {
+        ValueWord::Int(_)
+        | ValueWord::True
+        | ValueWord::False
+        | ValueWord::Raw
+        | ValueWord::Fn
+        | ValueWord::Global => false,
+        _ => true,
+    }
+}
+
+impl<'a> Reader<'a> {
+    #[tactic(auto, unfolding(mr_ast::specs::ValueGrammar::judged_value))]
+    fn value_word(&mut self) -> Result<ValueWord, ReadFault>
+        ensures { Gives (λ w. (w, self.new)) result (first_at judged_value self.old) }
+    {
+        let next = match self.peek() {
+            Some(next) => next,
+            None => return Err(self.stop(UNEXPECTED)),
+        };
+        if is_exposed(next.text) {
+            return Err(self.stop(EXPOSED));
+        }
+        match value_word_of(next.text) {
+            Some(word) => {
+                self.advance();
+                Ok(word)
+            }
+            None => Err(self.stop(UNEXPECTED)),
+        }
+    }
+
+    /// A value, in which so many brackets may be opened.
+    #[cycle(values)]
+    #[tactic(auto, unfolding(crate::specs::Reading::read_part, mr_ast::specs::ValueGrammar::value_form))]
+    pub fn value(&mut self, alloc: Global, scope: &Scope<'_>, room: u32) -> Result<Value, ReadFault>
+        ensures { Gives (λ v. (v, self.new)) result (read_part room scope.now TheValue self.old) }
+    {
+        let word = self.value_word()?;
+        if is_bracketed(word) {
+            self.bracketed(alloc, scope, room, word)
+        } else {
+            self.plain_value(scope, room, word)
+        }
+    }
+
+    // What stands behind the first word of a value without brackets.
+    fn plain_value(&mut self, scope: &Scope, room: u32, word: ValueWord) -> Result<Value, ReadFault>
+        requires { is_bracketed word ≡ false }
+        ensures { Gives (λ v. (v, self.new)) result (read_outside room scope.now (value_behind word) self.old) }
+    {
+        match word {
+            ValueWord::Int(int) => Ok(Value::Int(int, self.num(scope, room)?)),
+            ValueWord::True => Ok(Value::True),
+            ValueWord::False => Ok(Value::False),
+            ValueWord::Raw => Ok(Value::Raw(self.number()?)),
+            ValueWord::Fn => {
+                let number = self.name(scope, false, Role::UsesFunction)?;
+                Ok(Value::Fn(FnName(number)))
+            }
+            ValueWord::Global => self.global_value(scope, room),
+            _ => unreachable!(),
+        }
+    }
+
+    // What stands behind the first word of a value with brackets.
+    #[cycle(values)]
+    #[tactic(auto, using(crate::proofs::InsideLaws::inside, crate::proofs::BracketLaws::behind_bracketed))]
+    fn bracketed(
+        &mut self,
+        alloc: Global,
+        scope: &Scope<'_>,
+        room: u32,
+        word: ValueWord,
+    ) -> Result<Value, ReadFault>
+        requires { is_bracketed word ≡ true }
+        ensures { Gives (λ v. (v, self.new)) result (read_outside room scope.now (value_behind word) self.old) }
+    {
+        let inner = self.open(Bracket::Round, room)?;
+        let value = self.value_inside(alloc, scope, inner, word)?;
+        self.close(Bracket::Round)?;
+        Ok(value)
+    }
+
+    // A value, from what stands in its brackets.
+    #[cycle(values)]
+    fn value_inside(
+        &mut self,
+        alloc: Global,
+        scope: &Scope<'_>,
+        room: u32,
+        word: ValueWord,
+    ) -> Result<Value, ReadFault>
+        requires { is_bracketed word ≡ true }
+        ensures { Gives (λ v. (v, self.new)) result (read room scope.now (value_inside word) self.old) }
+    {
+        match word {
+            ValueWord::Load => Ok(Value::Load(self.place(alloc, scope, room, false)?)),
+            ValueWord::Disc => Ok(Value::Disc(self.place(alloc, scope, room, false)?)),
+            ValueWord::Cast => {
+                let int = self.int()?;
+                self.expect(b",")?;
+                let value = self.boxed_value(alloc, scope, room)?;
+                Ok(Value::Cast(int, value))
+            }
+            ValueWord::Unary(op) => Ok(Value::Unary(op, self.boxed_value(alloc, scope, room)?)),
+            ValueWord::Binary(op) => {
+                let left = self.boxed_value(alloc, scope, room)?;
+                self.expect(b",")?;
+                let right = self.boxed_value(alloc, scope, room)?;
+                Ok(Value::Binary(op, left, right))
+            }
+            _ => self.typed_inside(alloc, scope, room, word),
+        }
+    }
+
+    // A value, from what stands in its brackets, of which the first is a type.
+    #[cycle(values)]
+    fn typed_inside(
+        &mut self,
+        alloc: Global,
+        scope: &Scope<'_>,
+        room: u32,
+        word: ValueWord,
+    ) -> Result<Value, ReadFault>
+        requires { begins_with_type word ≡ true }
+        ensures { Gives (λ v. (v, self.new)) result (read room scope.now (value_inside word) self.old) }
+    {
+        let ty = self.ty(alloc, scope, room)?;
+        if let ValueWord::Tuple = word {
+            return Ok(Value::Tuple(ty, self.more_values(alloc, scope, room)?));
+        }
+        self.expect(b",")?;
+        match word {
+            ValueWord::AddrOf => Ok(Value::AddrOf(ty, self.place(alloc, scope, room, false)?)),
+            ValueWord::Transmute => {
+                Ok(Value::Transmute(ty, self.boxed_value(alloc, scope, room)?))
+            }
+            ValueWord::Union => {
+                let field = self.number()?;
+                self.expect(b",")?;
+                Ok(Value::Union(ty, field, self.boxed_value(alloc, scope, room)?))
+            }
+            ValueWord::Variant => {
+                let number = self.num(scope, room)?;
+                self.expect(b",")?;
+                Ok(Value::Variant(ty, number, self.boxed_value(alloc, scope, room)?))
+            }
+            _ => unreachable!(),
+        }
+    }
+
+    #[cycle(values)]
+    fn boxed_value(
+        &mut self,
+        alloc: Global,
+        scope: &Scope<'_>,
+        room: u32,
+    ) -> Result<Boxed<Value>, ReadFault>
+        ensures { Gives (λ v. (v, self.new)) result (read_part room scope.now TheValue self.old) }
+    {
+        let value = self.value(alloc, scope, room)?;
+        Ok(Boxed::new(alloc, value)?)
+    }
+
+    #[tactic(auto, unfolding(mr_ast::specs::ValueGrammar::global_value_form))]
+    fn global_value(&mut self, scope: &Scope<'_>, room: u32) -> Result<Value, ReadFault>
+        ensures { Gives (λ v. (v, self.new)) result (read_outside room scope.now global_value_form self.old) }
+    {
+        let global = GlobalName(self.name(scope, false, Role::UsesGlobal)?);
+        self.expect(b"+")?;
+        Ok(Value::Global(global, self.number()?))
+    }
+
+    // Values behind one another, each behind a comma.
+    #[cycle(values)]
+    #[tactic(auto, unfolding(mr_ast::specs::ValueGrammar::more_values_form))]
+    fn more_values(
+        &mut self,
+        alloc: Global,
+        scope: &Scope<'_>,
+        room: u32,
+    ) -> Result<Items<Value>, ReadFault>
+        ensures { Gives (λ vs. (vs, self.new)) result (read room scope.now more_values_form self.old) }
+    {
+        let mut values = Items::new(alloc);
+        let most = self.left();
+        for _ in 0..most {
+            if !self.is_next(b",") {
+                return Ok(values);
+            }
+            self.expect(b",")?;
+            values.push(self.value(alloc, scope, room)?)?;
+        }
+        Ok(values)
+    }
+
+    /// A place, in which so many brackets may be opened. Its first word may be one too many.
+    #[cycle(values)]
+    #[tactic(auto, unfolding(crate::specs::Reading::read_part, mr_ast::specs::ValueGrammar::place_from))]
+    pub fn place(
+        &mut self,
+        alloc: Global,
+        scope: &Scope<'_>,
+        room: u32,
+        over: bool,
+    ) -> Result<Place, ReadFault>
+        ensures { Gives (λ p. (p, self.new)) result (read_part room scope.now (ThePlace over) self.old) }
+    {
+        let place = self.base(alloc, scope, room, over)?;
+        self.postfixes(alloc, scope, room, place)
+    }
+
+    // A place without postfixes.
+    #[cycle(values)]
+    #[tactic(auto, unfolding(mr_ast::specs::ValueGrammar::base_form))]
+    fn base(
+        &mut self,
+        alloc: Global,
+        scope: &Scope<'_>,
+        room: u32,
+        over: bool,
+    ) -> Result<Place, ReadFault>
+        ensures { Gives (λ p. (p, self.new)) result (read_outside room scope.now (base_form over) self.old) }
+    {
+        if self.is_next(b"deref") {
+            return self.deref(alloc, scope, room, over);
+        }
+        let number = self.name(scope, over, Role::UsesLocal)?;
+        Ok(Place::Local(LocalName(number)))
+    }
+
+    #[cycle(values)]
+    #[tactic(auto, unfolding(mr_ast::specs::ValueGrammar::deref_form), using(crate::proofs::InsideLaws::inside))]
+    fn deref(
+        &mut self,
+        alloc: Global,
+        scope: &Scope<'_>,
+        room: u32,
+        over: bool,
+    ) -> Result<Place, ReadFault>
+        ensures { Gives (λ p. (p, self.new)) result (read_outside room scope.now (deref_form over) self.old) }
+    {
+        self.expect_limited(b"deref", over, TOO_MANY)?;
+        let inner = self.open(Bracket::Round, room)?;
+        let place = self.target_of_pointer(alloc, scope, inner)?;
+        self.close(Bracket::Round)?;
+        Ok(place)
+    }
+
+    // The target of a pointer, at a type.
+    #[cycle(values)]
+    fn target_of_pointer(
+        &mut self,
+        alloc: Global,
+        scope: &Scope<'_>,
+        room: u32,
+    ) -> Result<Place, ReadFault>
+        ensures { Gives (λ p. (p, self.new)) result (read room scope.now (giving (λ parts. Place.Deref parts.0 parts.1) (Part TheValue ◂ codes "," ▪ Part TheType)) self.old) }
+    {
+        let pointer = self.boxed_value(alloc, scope, room)?;
+        self.expect(b",")?;
+        let ty = self.ty(alloc, scope, room)?;
+        Ok(Place::Deref(pointer, ty))
+    }
+
+    // The place with the postfixes that stand behind it.
+    #[cycle(values)]
+    #[tactic(auto, unfolding(mr_ast::specs::ValueGrammar::postfixes_form))]
+    fn postfixes(
+        &mut self,
+        alloc: Global,
+        scope: &Scope<'_>,
+        room: u32,
+        place: Place,
+    ) -> Result<Place, ReadFault>
+        ensures { Gives (λ p. (p, self.new)) result (with_all place (read_outside room scope.now postfixes_form self.old)) }
+    {
+        let mut place = place;
+        let most = self.left();
+        for k in 0..most {
+            if !self.is_postfix_next() {
+                return Ok(place);
+            }
+            let postfix = self.postfix(alloc, scope, room, k)?;
+            place = with_postfix(alloc, place, postfix)?;
+        }
+        Ok(place)
+    }
+
+    fn is_postfix_next(&self) -> bool
+        ensures { result ≡ is_next begins_postfix self.now }
+    {
+        self.is_next(b".") || self.is_next(b"[") || self.is_next(b"@")
+    }
+
+    // The postfix of number k.
+    #[cycle(values)]
+    #[tactic(auto, unfolding(mr_ast::specs::ValueGrammar::postfix_form), using(crate::proofs::InsideLaws::inside))]
+    fn postfix(
+        &mut self,
+        alloc: Global,
+        scope: &Scope<'_>,
+        room: u32,
+        k: usize,
+    ) -> Result<Postfix, ReadFault>
+        ensures { Gives (λ x. (postfix_of x, self.new)) result (read_outside room scope.now (postfix_form k) self.old) }
+    {
+        let over = k >= MAX_POSTFIXES;
+        if self.is_next(b"[") {
+            let inner = self.open_limited(Bracket::Square, room, over)?;
+            let index = self.value(alloc, scope, inner)?;
+            self.close(Bracket::Square)?;
+            return Ok(Postfix::Index(index));
+        }
+        if self.is_next(b".") {
+            self.expect_limited(b".", over, TOO_DEEP)?;
+            return Ok(Postfix::Field(self.number()?));
+        }
+        self.expect_limited(b"@", over, TOO_DEEP)?;
+        Ok(Postfix::Variant(self.num(scope, room)?))
+    }
+}
+
+// The place with a postfix.
+fn with_postfix(alloc: Global, place: Place, postfix: Postfix) -> Result<Place, AllocError>
+    ensures { IfOk result (λ p. p ≡ with_postfix place (postfix_of postfix)) }
+{
+    let place = Boxed::new(alloc, place)?;
+    match postfix {
+        Postfix::Field(field) => Ok(Place::Field(place, field)),
+        Postfix::Index(index) => Ok(Place::Index(place, Boxed::new(alloc, index)?)),
+        Postfix::Variant(number) => Ok(Place::Variant(place, number)),
+    }
+}

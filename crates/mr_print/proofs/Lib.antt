@@ -1,0 +1,6 @@
+pub mod AppendLaws
+pub mod TypeLaws
+pub mod ValueLaws
+pub mod StmtLaws
+pub mod ProgramLaws
+pub mod NameLaws

@@ -1,0 +1,8 @@
+use Rattle.std.proofs.Common.{◌≡◌, map, take}
+use Rattle.mr_ast.specs.Canon.{argument_words}
+use Rattle.mr_ast.specs.CanonTypes.{with_commas}
+use Rattle.mr_print.specs.Appends.{with_words}
+use Rattle.mr_print.proofs.program.print_arguments.Given as goal
+
+abbrev pub invariant-loop-i : goal.invariant-loop-i
+invariant-loop-i l = l.text.items ≡ with_words l.fn.text.items (with_commas (map (argument_words l.program l.function) (take l.i l.args)))

@@ -1,0 +1,9 @@
+use Rattle.std.proofs.Common.{◌≡◌, map, take}
+use Rattle.std.specs.Prelude.{codes}
+use Rattle.mr_ast.specs.Canon.{local_words}
+use Rattle.mr_ast.specs.CanonTypes.{with_commas}
+use Rattle.mr_print.specs.Appends.{with_word, with_words}
+use Rattle.mr_print.proofs.program.print_locals.Given as goal
+
+abbrev pub invariant-loop-i : goal.invariant-loop-i
+invariant-loop-i l = l.text.items ≡ with_words (with_word l.fn.text.items (codes "let")) (with_commas (map (local_words l.program) (take l.i l.locals)))

@@ -1,0 +1,10 @@
+use Rattle.std.proofs.Common.{◌≡◌, ◌∷◌, take}
+use Rattle.std.specs.Prelude.{codes, flat_map}
+use Rattle.mr_ast.specs.Canon.{texts_in}
+use Rattle.mr_ast.specs.CanonValues.{words_of_value}
+use Rattle.mr_print.specs.Appends.{with_words}
+use Rattle.mr_print.proofs.values.+print_value.Given as goal
+
+abbrev pub invariant-print_parts-loop-value : goal.invariant-print_parts-loop-value
+invariant-print_parts-loop-value l =
+    l.text.items ≡ with_words l.fn.text.items (flat_map (λ v. codes "," ∷ words_of_value (texts_in l.program l.function) v) (take l.value-index l.values))
