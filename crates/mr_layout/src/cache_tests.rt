@@ -5,6 +5,7 @@ use mr_ast::{
     LocalName, Names, Num, OutOfMemory, Place, Program, Stmt, Term, Ty, Value,
 };
 use std::alloc::Global;
+use std::process::Abort;
 use std::test::*;
 
 // Items that hold one.
@@ -124,30 +125,55 @@ fn layout(size: u64, align: u64, inhabited: bool) -> Option<Layout> {
     })
 }
 
+// The layout that the cache holds of a type, and `None` where it holds none.
+fn expect_held(rt: &(impl AllocGlobal + Abort), cache: &Cache, t: Ty, wanted: Option<Layout>) {
+    assert_eq!(rt; cache.get(&t).copied(), wanted);
+}
+
+fn expect_whole_types(
+    rt: &(impl AllocGlobal + Abort),
+    alloc: Global,
+    cache: &Cache,
+) -> Result<(), OutOfMemory> {
+    expect_held(rt, cache, pairs(alloc, 3)?, layout(24, 4, true));
+    expect_held(rt, cache, union(alloc)?, layout(2, 2, true));
+    expect_held(rt, cache, never(), layout(8, 8, false));
+    expect_held(rt, cache, Ty::Int(IntType::I16), layout(2, 2, true));
+    Ok(())
+}
+
+fn expect_parts(
+    rt: &(impl AllocGlobal + Abort),
+    alloc: Global,
+    cache: &Cache,
+) -> Result<(), OutOfMemory> {
+    expect_held(rt, cache, pair(alloc)?, layout(8, 4, true));
+    expect_held(rt, cache, Ty::Int(IntType::U32), layout(4, 4, true));
+    expect_held(rt, cache, Ty::Int(IntType::U16), layout(2, 2, true));
+    Ok(())
+}
+
+// Types that the program doesn't write.
+fn expect_no_others(
+    rt: &(impl AllocGlobal + Abort),
+    alloc: Global,
+    cache: &Cache,
+) -> Result<(), OutOfMemory> {
+    expect_held(rt, cache, pairs(alloc, 4)?, None);
+    expect_held(rt, cache, Ty::Int(IntType::I8), None);
+    Ok(())
+}
+
 #[test]
 fn written_types_and_their_parts_are_held(rt: HostRuntime) -> Result<(), Fail> {
     let alloc = rt.alloc();
-    let cache = match cache_of(alloc, &program(alloc)?)? {
-        Some(cache) => cache,
-        None => panic!(rt; "a type breaks a rule"),
-    };
-    assert_eq!(rt; cache.get(&pairs(alloc, 3)?).copied(), layout(24, 4, true));
-    assert_eq!(rt; cache.get(&pair(alloc)?).copied(), layout(8, 4, true));
-    assert_eq!(rt;
-        cache.get(&Ty::Int(IntType::U32)).copied(),
-        layout(4, 4, true)
-    );
-    assert_eq!(rt;
-        cache.get(&Ty::Int(IntType::I16)).copied(),
-        layout(2, 2, true)
-    );
-    assert_eq!(rt; cache.get(&never()).copied(), layout(8, 8, false));
-    assert_eq!(rt; cache.get(&union(alloc)?).copied(), layout(2, 2, true));
-    assert_eq!(rt;
-        cache.get(&Ty::Int(IntType::U16)).copied(),
-        layout(2, 2, true)
-    );
-    assert_eq!(rt; cache.get(&pairs(alloc, 4)?).copied(), None);
-    assert_eq!(rt; cache.get(&Ty::Int(IntType::I8)).copied(), None);
+    match cache_of(alloc, &program(alloc)?)? {
+        Some(cache) => {
+            expect_whole_types(&rt, alloc, &cache)?;
+            expect_parts(&rt, alloc, &cache)?;
+            expect_no_others(&rt, alloc, &cache)?;
+        }
+        None => assert!(rt; false, "a type breaks a rule"),
+    }
     Ok(())
 }

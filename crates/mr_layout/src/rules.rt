@@ -11,7 +11,8 @@ pub(crate) const LARGE: u64 = 0x10_0000;
 
 const MAX_POINTEE: u64 = 0x7fff_ffff_ffff_ffff;
 
-pub(crate) fn is_align(n: u64) -> bool
+/// Whether a number is an alignment: a power of two of at most 4,096.
+pub fn is_align(n: u64) -> bool
     ensures { result ≡ is_align n }
 {
     n.count_ones() == 1 && n <= 4096

@@ -12,7 +12,7 @@ use Rattle.mr_parse.specs.declared.program.Head.{Head}
 use Rattle.mr_parse.specs.declared.program.Inner.{Inner}
 use Rattle.mr_parse.specs.declared.program.Parts.{Parts}
 use Rattle.mr_parse.specs.declared.types.Shape.{Shape as Written}
-use Rattle.mr_parse.specs.Reading.{◌>>=◌}
+use Rattle.mr_parse.specs.Reading.{◌>>=◌, expected}
 
 abbrev pub shape_of : Written → Shape
 shape_of s = record { size = s.size; align = s.align }
@@ -29,3 +29,7 @@ parts_of i = (i.locals, i.blocks)
 -- the function that has this name and what was read
 abbrev pub named : ℕ → Result (FunctionBody × List Word) Stop → Result (Function × List Word) Stop
 named n read = read >>= λ x. Ok (with_name n x.0, x.1)
+
+-- a thing that was read, where this word stands behind it
+abbrev pub followed_by : {A : Type 0} → List ℕ → A → List Word → Result (A × List Word) Stop
+followed_by text x words = expected text words >>= λ rest. Ok (x, rest)

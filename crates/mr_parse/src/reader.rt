@@ -4,6 +4,7 @@ ghost use Rattle.mr_ast.specs.Writing.{block_use, is_word, judged_int, judged_na
 ghost use Rattle.mr_parse.specs.Gives.{Gives};
 ghost use Rattle.mr_parse.specs.Reading.{expected, first_at, is_next, limited, opened, read};
 ghost use Rattle.mr_parse.specs.Places.{words_of};
+ghost use Rattle.mr_parse.specs.Views.{followed_by};
 
 use crate::fault::{ReadFault, Stop, TOO_DEEP, TOO_MANY, UNEXPECTED};
 use crate::scope::Scope;
@@ -119,6 +120,14 @@ impl<'a> Reader<'a> {
             }
             _ => Err(self.stop(UNEXPECTED)),
         }
+    }
+
+    /// What was read, where this word stands behind it.
+    pub fn followed<T: Drop>(&mut self, thing: T, word: &[u8]) -> Result<T, ReadFault>
+        ensures { Gives (λ x. (x, self.new)) result (followed_by word.now thing self.old) }
+    {
+        self.expect(word)?;
+        Ok(thing)
     }
 
     /// Whether a word but this is the next.

@@ -32,12 +32,13 @@ const TYPES: [&str; 25] = [
     "enum size 2 align 1 disc i8 { -1: unit tag { } } branch 1 i16 { -5 => branch 0 u8 { _ => invalid }, _ => known -1 }",
 ];
 
-const VALUES: [&str; 24] = [
+const VALUES: [&str; 27] = [
     "u8 7",
     "i32 -1",
     "u128 340282366920938463463374607431768211455",
     "true",
     "false",
+    "raw 16",
     "raw 18446744073709551615",
     "fn f",
     "global g + 4",
@@ -56,7 +57,9 @@ const VALUES: [&str; 24] = [
     "cast(i8, u32 200)",
     "transmute(u32, i32 -1)",
     "neg(i8 1)",
+    "not(true)",
     "not(not(true))",
+    "load(x@1)",
 ];
 
 const OPERATORS: [&str; 26] = [
@@ -165,6 +168,22 @@ fn program(
         in alloc;
         "minirust 1\nglobal g align 1 {{ {items} }}\nfn f() -> r {{\nlet r: unit, x: {ty};\nb regular: {statement}; {terminator};\nc cleanup: resume;\nd catch: goto d;\ne terminate: abort;\n}}\nmain f\n"
     )
+}
+
+// The program that the language's page begins with.
+const FIRST: &str = "minirust 1
+global g align 8 { 0*8 &main + 4 }
+fn main() -> r {
+let r: unit, x: u64;
+b0 regular: live x; x = load(deref(global g + 0, u64)); do print(load(x)) to b1;
+b1 regular: exit;
+}
+main main
+";
+
+#[test]
+fn a_program(rt: HostRuntime) {
+    expect_program(&rt, FIRST);
 }
 
 #[test]
