@@ -22,9 +22,9 @@ returns-in_err-block-2 c =
 pub loop-k-preserved : goal.loop-k-preserved
 loop-k-preserved c =
     let next : c.loop-k.k + 1 ≡ suc c.loop-k.k = omega arith in
-    let one = subst (λ n. read c.args.room c.args.scope.now (block_form n) c.loop-k.self ≡ Ok (c.in_ok-block-2.field-0, c.block-in-loop.new.self)) next c.in_ok-block-2.ensures in
+    let one = subst (λ n. read c.args.room c.args.scope.now (block_form n) c.loop-k.self ≡ Ok (c.in_ok-block-2.field-0, c.block-in-loop-k.new.self)) next c.in_ok-block-2.ensures in
     rw c.in_ok-push-2.ensures.ok (goes_on (λ k. read c.args.room c.args.scope.now (block_form (suc k))) (other_than (codes "}")) c.loop-k.blocks c.turns-most.result c.loop-k.k c.loop-k.self (read c.args.room c.args.scope.now blocks_form c.args.self.now) c.loop-k.invariant
-    c.in_ok-block-2.field-0 c.block-in-loop.new.self (omega arith) (sym c.if-not-is_other.ensures) one)
+    c.in_ok-block-2.field-0 c.block-in-loop-k.new.self (omega arith) (sym c.if-not-is_other.ensures) one)
 
 pub returns : goal.returns
 returns c =

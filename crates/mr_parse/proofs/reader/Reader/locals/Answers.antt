@@ -21,9 +21,9 @@ returns-in_err-local_definition-2 c =
 pub loop-k-preserved : goal.loop-k-preserved
 loop-k-preserved c =
     let next : c.loop-k.k + 1 ≡ suc c.loop-k.k = omega arith in
-    let one = subst (λ n. read c.args.room c.args.scope.now (local_form n) c.expect.new.self ≡ Ok (c.in_ok-local_definition-2.field-0, c.local_definition-in-loop.new.self)) next c.in_ok-local_definition-2.ensures in
+    let one = subst (λ n. read c.args.room c.args.scope.now (local_form n) c.expect.new.self ≡ Ok (c.in_ok-local_definition-2.field-0, c.local_definition-in-loop-k.new.self)) next c.in_ok-local_definition-2.ensures in
     rw c.in_ok-push-2.ensures.ok (comma_goes_on c.args.room c.args.scope.now (λ k. local_form (suc k)) c.loop-k.locals c.turns-most.result c.loop-k.k c.loop-k.self (read c.args.room c.args.scope.now locals_form c.args.self.now) c.loop-k.invariant
-    c.in_ok-local_definition-2.field-0 c.expect.new.self c.local_definition-in-loop.new.self (omega arith) (sym c.if-not-is_next.ensures) c.in_ok-expect.ensures one)
+    c.in_ok-local_definition-2.field-0 c.expect.new.self c.local_definition-in-loop-k.new.self (omega arith) (sym c.if-not-is_next.ensures) c.in_ok-expect.ensures one)
 
 pub returns : goal.returns
 returns c =
