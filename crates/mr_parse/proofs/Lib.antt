@@ -4,8 +4,11 @@ pub mod BodyLaws
 pub mod BracketCounts
 pub mod BracketLaws
 pub mod CanonForms
+pub mod CanonFunctions
+pub mod CanonItems
 pub mod CanonNameLaws
 pub mod CanonNumbers
+pub mod CanonPrograms
 pub mod CanonStmts
 pub mod CanonTypes
 pub mod CanonValues
@@ -18,6 +21,7 @@ pub mod EnsureLaws
 pub mod FlawLaws
 pub mod HeightLaws
 pub mod InsideLaws
+pub mod KnownNames
 pub mod LimitLaws
 pub mod LocalLaws
 pub mod LoopLaws
