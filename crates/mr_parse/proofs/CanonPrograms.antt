@@ -1,5 +1,5 @@
 -- The canonical words of a program write it, in the scope that knows its names.
-use Rattle.std.proofs.Common.{◌≡◌, ℕ, suc, List, [], ◌∷◌, ◌++◌, map, codes, refl, ap, sym, ◌∙◌, arith, append_assoc}
+use Rattle.std.proofs.Common.{◌≡◌, ℕ, suc, List, [], ◌∷◌, ◌++◌, map, codes, refl, ap, sym, ◌∙◌, arith}
 use Rattle.std.specs.Prelude.{decimal, flat_map}
 use Rattle.std.proofs.lemmas.Fmt.{decimal_digit}
 use Rattle.std.proofs.lemmas.Grind.{flat_map-append}
@@ -33,11 +33,11 @@ canonical_words_are p edition =
     items : words_of_lines (map (global_line p) p.globals ++ flat_map (function_lines p) p.functions ++ main_line p ∷ [])
         ≡ (flat_map (global_line p) p.globals ++ flat_map (function_words p) p.functions) ++ main_line p
     items =
-        flat_map-append (λ (l : Texts). l) (map (global_line p) p.globals) (flat_map (function_lines p) p.functions ++ main_line p ∷ [])
-        ∙ ap (λ front. front ++ words_of_lines (flat_map (function_lines p) p.functions ++ main_line p ∷ [])) (flat_map-map (λ (l : Texts). l) (global_line p) p.globals)
-        ∙ ap (λ back. flat_map (global_line p) p.globals ++ back)
-        (flat_map-append (λ (l : Texts). l) (flat_map (function_lines p) p.functions) (main_line p ∷ []) ∙ ap (λ words. words ++ main_line p) (lines_of_each (function_lines p) p.functions))
-        ∙ sym (append_assoc (flat_map (global_line p) p.globals) (flat_map (function_words p) p.functions) (main_line p))
+        flat_map-append (λ (l : Texts). l) (map (global_line p) p.globals ++ flat_map (function_lines p) p.functions) (main_line p ∷ [])
+        ∙ ap (λ front. front ++ main_line p)
+        (flat_map-append (λ (l : Texts). l) (map (global_line p) p.globals) (flat_map (function_lines p) p.functions)
+        ∙ ap (λ front. front ++ words_of_lines (flat_map (function_lines p) p.functions)) (flat_map-map (λ (l : Texts). l) (global_line p) p.globals)
+        ∙ ap (λ back. flat_map (global_line p) p.globals ++ back) (lines_of_each (function_lines p) p.functions))
 
 -- ---- programs
 
