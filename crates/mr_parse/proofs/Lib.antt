@@ -13,8 +13,12 @@ pub mod CheckedLaws
 pub mod CompleteLaws
 pub mod Conditions
 pub mod CountLaws
+pub mod DenotedFits
 pub mod EndLaws
 pub mod EnsureLaws
+pub mod FitsPrograms
+pub mod FitsTypes
+pub mod FitsValues
 pub mod FlawLaws
 pub mod HeightLaws
 pub mod InsideLaws

@@ -8,12 +8,13 @@ use Rattle.mr_ast.specs.declared.program.Program.{Program}
 use Rattle.mr_ast.specs.Forms.{Word}
 use Rattle.mr_ast.specs.Scope.{Definitions, FunctionNames, function_names}
 use Rattle.mr_ast.specs.Shaped.{Shaped, ShapedFunction}
-use Rattle.mr_ast.specs.ProgramGrammar.{ProgramBody}
+use Rattle.mr_ast.specs.ProgramGrammar.{ProgramBody, program_form}
+use Rattle.mr_ast.specs.Spelled.{SpelledPart}
 use Rattle.mr_parse.specs.Places.{words_of}
 use Rattle.mr_parse.specs.Denotes.{Denotes, Writes, definitions_in, knowing, program_of, text_at, unknown}
 use Rattle.mr_parse.proofs.BodyLaws.{writes_body}
 use Rattle.mr_parse.proofs.CountLaws.{EachTwo, SameCounts, SameInside, each_length, same_counts}
-use Rattle.mr_parse.proofs.EnsureLaws.{EachFrom}
+use Rattle.mr_parse.proofs.EnsureLaws.{EachFrom, Ensures}
 use Rattle.mr_parse.proofs.ShapedPrograms.{BodyShaped, Counted, ensures_program}
 use Rattle.mr_parse.proofs.SoundLaws.{ok-same}
 
@@ -76,7 +77,9 @@ named_is_shaped words shape body grammatical named = record {
     functions = each_length SameInside body.functions shape.functions counts.functions ∙ sym (length-map shape.functions (names_in words))
 
     shaped : BodyShaped p d body
-    shaped = (ensures_program p d refl globals functions).holds 32 body named.marks named.fine named.written.1
+    shaped =
+        let law : Ensures named.written.0 32 (SpelledPart named.written.0) (knowing d) program_form (BodyShaped p d) = ensures_program p d refl globals functions in
+        law.holds body named.marks named.fine named.written.1
 
 -- Each program that a text denotes is shaped.
 pub denoted_is_shaped : (text : List ℕ) (p : Program) → Denotes text p → Shaped p
