@@ -7,7 +7,7 @@ use Rattle.std.proofs.lemmas.List.Elements.{All-from_recursion, All-map}
 use Rattle.mr_ast.specs.declared.program.Function.{Function}
 use Rattle.mr_ast.specs.declared.words.Role.{Role}
 use Rattle.mr_ast.specs.Forms.{Word}
-use Rattle.mr_ast.specs.Scope.{Scope, name_number}
+use Rattle.mr_ast.specs.Scope.{Scope}
 use Rattle.mr_ast.specs.Words.{is_name}
 use Rattle.mr_ast.specs.Writing.{Writing, judged_name, name_form}
 use Rattle.mr_ast.specs.ProgramGrammar.{ProgramBody, block_form, blocks_form, body_form, function_form, functions_form, global_form, globals_form, local_form, locals_form, program_form}
@@ -16,19 +16,7 @@ use Rattle.mr_parse.specs.Denotes.{Writes, definitions_in, function_names_in, te
 use Rattle.mr_parse.specs.Naming.{IsSmall, IsSmallFunction}
 use Rattle.mr_parse.proofs.EnsureLaws.{Ensures, Parts, ensures_any, ensures_before, ensures_behind, ensures_cases, ensures_empty, ensures_in, ensures_many, ensures_pair, ensures_then, ensures_within}
 use Rattle.mr_parse.proofs.ShapedBlocks.{each_also, each_few}
-use Rattle.mr_parse.proofs.ShapedNames.{below}
-use Rattle.mr_parse.proofs.ShapedNumbers.{some_same}
-
--- a name that breaks no limit is not one too many
-name_limit : (over : Bool) (role : Role) (scope : Scope) (w : Word) (n : ℕ) → judged_name over role scope w ≡ Some (n, None) → over ≡ false
-unfolding judged_name
-name_limit over role scope w n e = go (is_name w.text) over (name_number scope role w) e
-  where
-    go : (name many : Bool) (found : ℕ × Option ℕ)
-        → ◌≡◌ {A = Option (ℕ × Option ℕ)} (if name then Some (found.0, if many then Some 8 else found.1) else None) (Some (n, None)) → many ≡ false
-    go false many found e = absurd (cc)
-    go true true found e = let clash = ap (λ p. p.1) (some_same e) in absurd (cc)
-    go true false found e = refl
+use Rattle.mr_parse.proofs.ShapedNames.{below, name_fine}
 
 -- as many locals and blocks as a function may have
 abbrev pub FewInside : List Function → Type 0
@@ -42,7 +30,7 @@ pub record FewParts (body : ProgramBody) : Type 0 where
 
 module _ {height room : ℕ} {part : Parts} {scope : Scope} where
   few_name : (over : Bool) (role : Role) → Ensures height room part scope (name_form over role) (λ n. over ≡ false)
-  few_name over role = ensures_cases (λ w n e. ensures_empty (name_limit over role scope w n e))
+  few_name over role = ensures_cases (λ w n e. ensures_empty (name_fine over role scope w n e).0)
 
   few_local : (k : ℕ) → Ensures height room part scope (local_form k) (λ l. k < 256)
   unfolding local_form
