@@ -15,9 +15,14 @@ pub mod CanonValues
 pub mod CheckedLaws
 pub mod CompleteLaws
 pub mod Conditions
-pub mod CountLaws
+pub mod DefinedTwice
+pub mod DenotedFits
+pub mod DenotedNames
 pub mod EndLaws
 pub mod EnsureLaws
+pub mod FitsPrograms
+pub mod FitsTypes
+pub mod FitsValues
 pub mod FlawLaws
 pub mod HeightLaws
 pub mod InsideLaws
@@ -27,6 +32,7 @@ pub mod LocalLaws
 pub mod LoopLaws
 pub mod ManyLaws
 pub mod NameFlaws
+pub mod NamedBack
 pub mod NamingLaws
 pub mod NestingLaws
 pub mod NestingValueLaws
@@ -58,4 +64,5 @@ pub mod SmallLaws
 pub mod SoundLaws
 pub mod StopLaws
 pub mod TextLaws
+pub mod TwoScopes
 pub mod WordLaws
