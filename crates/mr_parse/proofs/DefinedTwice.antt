@@ -133,7 +133,7 @@ good_row IsGood [] fine good = tt
 good_row IsGood (m ∷ marks) fine good = ((fine.0, good.0), good_row IsGood marks fine.1 good.1)
 
 -- The words of a program, in whatever scope, write another where no names are known, and all that has a name is defined in both.
-written_twice : (IsGood : Word → Type 0) (s t : Scope) → IsUnknown t → (words : List Word) (x : ProgramBody) → AllByRecursion IsGood words → Writes s words x
+pub written_twice : (IsGood : Word → Type 0) (s t : Scope) → IsUnknown t → (words : List Word) (x : ProgramBody) → AllByRecursion IsGood words → Writes s words x
     → (y : ProgramBody) × Writes t words y × ProgramTwice IsGood s x y
 written_twice IsGood s t unknown words x all w =
     let good : AreGood IsGood w.marks = good_row IsGood w.marks w.fine (rw w.row at all) in

@@ -48,8 +48,10 @@ pub mod Predictive
 pub mod PrefixLaws
 pub mod ProgramLaws
 pub mod ProgramTold
+pub mod ReadsBackLaws
 pub mod RenamingLaws
 pub mod Rows
+pub mod SameDefinitions
 pub mod SampledForms
 pub mod Samples
 pub mod ScopeLaws
