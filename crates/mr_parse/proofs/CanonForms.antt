@@ -1,12 +1,12 @@
 -- How texts stand for things in forms: a law for each way to make a form.
-use Rattle.std.proofs.Common.{◌≡◌, ℕ, zero, suc, ◌+◌, ◌-◌, ◌==◌, inl, inr, Bool, true, false, if◌then◌else◌, List, [], ◌∷◌, ◌++◌, map, codes, slice_get, Option, None, Some, refl, ap, sym, ◌∙◌, subst, append_assoc, append-nil, arith, bytes_eq}
+use Rattle.std.proofs.Common.{◌≡◌, ℕ, suc, ◌+◌, ◌-◌, ◌==◌, inl, inr, Bool, true, false, if◌then◌else◌, List, [], ◌∷◌, ◌++◌, map, codes, slice_get, None, Some, refl, ap, sym, ◌∙◌, subst, arith, bytes_eq}
 use Rattle.std.specs.Prelude.{flat_map}
 use Rattle.std.proofs.lemmas.Slice.Eq.{bytes_eq-Decides}
 use Rattle.mr_ast.specs.declared.words.Bracket.{Bracket}
 use Rattle.mr_ast.specs.Words.{Texts}
 use Rattle.mr_ast.specs.Forms.{Word, Mark, Empty, Then, Cases, Either, Many, Within, Part, In, SpelledBy, EachSpelled, opening, closing}
 use Rattle.mr_ast.specs.Scope.{Scope}
-use Rattle.mr_ast.specs.Writing.{Judged, Kind, Meaning, Writing, fine, giving, is_word, limited_word, listed, optional, other_than, separated, token, word, ◌▪◌, ◌▸◌, ◌◂◌}
+use Rattle.mr_ast.specs.Writing.{Judged, Kind, Meaning, Writing, fine, giving, limited_word, listed, separated, token, word, ◌▪◌, ◌▸◌, ◌◂◌}
 use Rattle.mr_ast.specs.Spelled.{form_of, NoPart, SpelledInside}
 use Rattle.mr_ast.specs.CanonTypes.{with_commas}
 use Rattle.mr_parse.proofs.HeightLaws.{SomeInside, SomePart, also_by, settled, settled_part}
@@ -166,8 +166,8 @@ stands_within {room} {scope} {bracket} {a} {x} {texts} some inner = record {
     refl,
     refl,
     ap (λ rest. record { word = record { text = opening bracket; place = k }; flaw = None } ∷ rest) (marked-append (suc k) texts (closing bracket ∷ []))
-    ∙ ap (λ full. record { word = record { text = opening bracket; place = k }; flaw = if full then Some 7 else None }
-      ∷ marked (suc k) texts ++ record { word = record { text = closing bracket; place = behind (suc k) texts }; flaw = None } ∷ []) (sym some),
+        ∙ ap (λ full. record { word = record { text = opening bracket; place = k }; flaw = if full then Some 7 else None }
+        ∷ marked (suc k) texts ++ record { word = record { text = closing bracket; place = behind (suc k) texts }; flaw = None } ∷ []) (sym some),
     inside_at (room - 1) scope a x (marked (suc k) texts) (inner.at (suc k)),
   );
 }

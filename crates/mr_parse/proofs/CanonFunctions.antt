@@ -1,6 +1,6 @@
 -- The canonical words of a block or a function write it.
-use Rattle.std.proofs.Common.{◌≡◌, ℕ, suc, ◌-◌, ◌<◌, ◌==◌, Bool, true, false, List, [], ◌∷◌, ◌++◌, length, map, codes, slice_get, Some, None, refl, ap, sym, ◌∙◌, subst, arith, append_assoc, append-nil, All}
-use Rattle.std.specs.Prelude.{flat_map, nat_le}
+use Rattle.std.proofs.Common.{◌≡◌, ℕ, suc, ◌<◌, true, List, [], ◌∷◌, ◌++◌, length, map, codes, slice_get, Some, None, refl, ap, ◌∙◌, arith, append_assoc, append-nil, All}
+use Rattle.std.specs.Prelude.{flat_map}
 use Rattle.std.proofs.lemmas.Grind.{flat_map-append}
 use Rattle.std.proofs.lemmas.List.Folds.{flat_map-map}
 use Rattle.std.proofs.lemmas.Option.{slice_get_within}
@@ -18,14 +18,14 @@ use Rattle.mr_ast.specs.Scope.{Scope}
 use Rattle.mr_ast.specs.Shaped.{Shaped, ShapedBlock, ShapedFunction, ShapedLocal, is_shaped_stmt, named_in}
 use Rattle.mr_ast.specs.Writing.{is_word, local_use, other_than, ◌▸◌}
 use Rattle.mr_ast.specs.ProgramGrammar.{args_form, begins_stmt, block_form, blocks_form, body_form, function_form, judged_kind, local_form, locals_form, stmt_form, stmts_form}
-use Rattle.mr_ast.specs.CanonTypes.{with_commas, words_of_type}
+use Rattle.mr_ast.specs.CanonTypes.{with_commas}
 use Rattle.mr_ast.specs.CanonValues.{text_at}
 use Rattle.mr_ast.specs.Canon.{argument_words, block_head, block_lines, function_lines, head_line, kind_word, local_texts, local_words, locals_line, stmt_line, term_line, texts_in}
 use Rattle.mr_parse.specs.CanonNames.{IsNamed, definitions_of}
 use Rattle.mr_parse.specs.Nesting.{type_fits}
 use Rattle.mr_parse.specs.NestingPrograms.{BlockFits, FunctionFits, ProgramFits, stmt_fits}
 use Rattle.mr_parse.proofs.HeightLaws.{SomePart}
-use Rattle.mr_parse.proofs.CanonForms.{AllStand, EachStands, Parts, Stands, each_stand, rows_with_commas, stands_before, stands_behind, stands_in, stands_listed, stands_many, stands_pair, stands_same, stands_then, stands_token, stands_within}
+use Rattle.mr_parse.proofs.CanonForms.{AllStand, Stands, each_stand, rows_with_commas, stands_before, stands_behind, stands_in, stands_listed, stands_many, stands_pair, stands_same, stands_then, stands_token, stands_within}
 use Rattle.mr_parse.proofs.CanonStmts.{local_use_stands, stmt_stands, term_stands}
 use Rattle.mr_parse.proofs.CanonTypes.{type_part_stands}
 use Rattle.mr_parse.proofs.KnownNames.{all_at, block_name_stands, few_at, function_name_stands, known_names, local_name_stands}
@@ -94,7 +94,7 @@ module _ (p : Program) (shaped : Shaped p) (named : IsNamed p) (fits : ProgramFi
   locals_stand [] same some = absurd (omega arith)
   locals_stand (l ∷ ls) same some =
       let rest = each_stand {room = 31} {part = SomePart 31} {scope = scope} (λ j. codes "," ▸ local_form (suc j)) (λ x. codes "," ∷ local_words p x) ls
-          (λ i x here. stands_before (codes ",") (local_stands (suc i) x (ap (λ xs. slice_get xs (suc i)) same ∙ here))) in
+      (λ i x here. stands_before (codes ",") (local_stands (suc i) x (ap (λ xs. slice_get xs (suc i)) same ∙ here))) in
       stands_then (local_stands 0 l (ap (λ xs. slice_get xs 0) same)) (stands_many {test = is_word (codes ",")} (λ x. codes "," ∷ local_words p x) rest) refl
       (ap (λ words. local_words p l ++ words) (rows_with_commas (local_words p) ls))
 
@@ -107,14 +107,14 @@ module _ (p : Program) (shaped : Shaped p) (named : IsNamed p) (fits : ProgramFi
       let block_fit = all_at (BlockFits 31) f.blocks j b fit.blocks here in
       let known = known_names p shaped named k f at in
       let stmts = each_stand {room = 31} {part = SomePart 31} {scope = scope} stmt_form (stmt_line (texts_in p f)) b.stmts
-          (λ i s is_here.
-              (let few = few_at 4096 (length b.stmts) i (slice_get_within b.stmts i s is_here) block_good.few_stmts in
-              let fit_stmt = all_at (λ (x : Stmt). stmt_fits 31 x ≡ true) b.stmts i s block_fit.stmts is_here in
-              let of = all_at (λ (x : Stmt). is_shaped_stmt (named_in p f) x ≡ true) b.stmts i s block_good.stmts is_here in
-              stmt_stands (named_in p f) (texts_in p f) scope known 31 i s few fit_stmt of)) in
+      (λ i s is_here.
+      (let few = few_at 4096 (length b.stmts) i (slice_get_within b.stmts i s is_here) block_good.few_stmts in
+      let fit_stmt = all_at (λ (x : Stmt). stmt_fits 31 x ≡ true) b.stmts i s block_fit.stmts is_here in
+      let of = all_at (λ (x : Stmt). is_shaped_stmt (named_in p f) x ≡ true) b.stmts i s block_good.stmts is_here in
+      stmt_stands (named_in p f) (texts_in p f) scope known 31 i s few fit_stmt of)) in
       let head = stands_pair (block_name_stands p shaped named k f j b at here) (stands_token {judge = judged_kind} (kind_begins b.kind)) in
       let body = stands_pair (stands_before (codes ":") (stands_many {test = begins_stmt} (stmt_line (texts_in p f)) stmts))
-          (term_stands (named_in p f) (texts_in p f) scope known 31 b.term block_fit.term block_good.term) in
+      (term_stands (named_in p f) (texts_in p f) scope known 31 b.term block_fit.term block_good.term) in
       stands_then head body refl (ap (λ words. block_head p b ++ words) (lines_behind (stmt_line (texts_in p f)) b.stmts (term_line (texts_in p f) b.term)))
 
   blocks_stand : (bs : List Block) → f.blocks ≡ bs → 0 < length bs → Stands 31 (SomePart 31) scope blocks_form bs (flat_map (block_words p f) bs)
@@ -122,7 +122,7 @@ module _ (p : Program) (shaped : Shaped p) (named : IsNamed p) (fits : ProgramFi
   blocks_stand [] same some = absurd (omega arith)
   blocks_stand (b ∷ bs) same some =
       let rest = each_stand {room = 31} {part = SomePart 31} {scope = scope} (λ j. block_form (suc j)) (block_words p f) bs
-          (λ i x here. block_stands (suc i) x (ap (λ xs. slice_get xs (suc i)) same ∙ here)) in
+      (λ i x here. block_stands (suc i) x (ap (λ xs. slice_get xs (suc i)) same ∙ here)) in
       stands_then (block_stands 0 b (ap (λ xs. slice_get xs 0) same)) (stands_many {test = other_than (codes "}")} (block_words p f) rest) refl refl
 
   -- ---- functions
@@ -152,7 +152,7 @@ module _ (p : Program) (shaped : Shaped p) (named : IsNamed p) (fits : ProgramFi
       let inner = stands_pair (stands_before (codes "let") (stands_behind (locals_stand f.locals refl some) (codes ";"))) (blocks_stand f.blocks refl good.has_start) in
       let body = stands_then (stands_pair args (stands_before (codes "->") ret)) (stands_within {room = 32} {bracket = Curly} refl inner) refl refl in
       let words = function_words_are
-          ∙ ap (λ rest. codes "fn" ∷ text_at p.names f.name ∷ rest)
-          (regroup (codes "(" ∷ with_commas (map (argument_words p f) f.args)) (codes "let" ∷ with_commas (map (local_words p) f.locals)) (flat_map (block_words p f) f.blocks) (codes "}" ∷ [])
-          (codes "->") (text_at (local_texts p f) f.ret.0) (codes "{") (codes ")") (codes ";")) in
+      ∙ ap (λ rest. codes "fn" ∷ text_at p.names f.name ∷ rest)
+      (regroup (codes "(" ∷ with_commas (map (argument_words p f) f.args)) (codes "let" ∷ with_commas (map (local_words p) f.locals)) (flat_map (block_words p f) f.blocks) (codes "}" ∷ [])
+      (codes "->") (text_at (local_texts p f) f.ret.0) (codes "{") (codes ")") (codes ";")) in
       stands_same (stands_before (codes "fn") (stands_then (function_name_stands p shaped named 0 k f at) (stands_in body) refl refl)) words

@@ -1,5 +1,5 @@
 -- The canonical words of an item or a global write it.
-use Rattle.std.proofs.Common.{◌≡◌, ℕ, ◌-◌, ◌≤◌, ◌<◌, ◌^◌, ◌==◌, Bool, true, false, if◌then◌else◌, List, [], ◌∷◌, codes, slice_get, Some, None, refl, sym, subst, arith}
+use Rattle.std.proofs.Common.{◌≡◌, ℕ, ◌-◌, ◌≤◌, ◌<◌, ◌^◌, ◌==◌, Bool, true, false, if◌then◌else◌, [], ◌∷◌, codes, slice_get, Some, None, refl, sym, subst, arith}
 use Rattle.std.specs.Prelude.{decimal, nat_le}
 use Rattle.std.proofs.lemmas.Bool.Decides.{nat_tests}
 use Rattle.mr_ast.specs.declared.program.Global_.{Global_}
@@ -55,6 +55,6 @@ module _ (p : Program) (shaped : Shaped p) (named : IsNamed p) (j : ℕ) where
   global_stands {room} k g at some =
       let good = all_at (ShapedGlobal p) p.globals k g shaped.globals at in
       let items = each_stand {room = room - 1} {part = SomePart (room - 1)} {scope = scope_at (definitions_of p) j} (λ i. item_form) (words_of_item p) g.items
-          (λ i x here. item_stands x (all_at (ShapedItem p) g.items i x good.items here)) in
+      (λ i x here. item_stands x (all_at (ShapedItem p) g.items i x good.items here)) in
       let head = stands_pair (global_name_stands p shaped named j k g at) (stands_before (codes "align") (stands_u64 g.align (less_test g.align (2 ^ 64) good.align))) in
       stands_before (codes "global") (stands_then head (stands_within {bracket = Curly} some (stands_many {test = other_than (codes "}")} (words_of_item p) items)) refl refl)

@@ -1,6 +1,6 @@
 -- The canonical words of a program write it, in the scope that knows its names.
-use Rattle.std.proofs.Common.{◌≡◌, ℕ, suc, List, [], ◌∷◌, ◌++◌, map, codes, refl, ap, sym, ◌∙◌, arith}
-use Rattle.std.specs.Prelude.{decimal, flat_map}
+use Rattle.std.proofs.Common.{◌≡◌, ℕ, suc, [], ◌∷◌, ◌++◌, map, codes, refl, ap, sym, ◌∙◌, arith}
+use Rattle.std.specs.Prelude.{flat_map}
 use Rattle.std.proofs.lemmas.Fmt.{decimal_digit}
 use Rattle.std.proofs.lemmas.Grind.{flat_map-append}
 use Rattle.std.proofs.lemmas.List.Folds.{flat_map-map}
@@ -16,7 +16,7 @@ use Rattle.mr_parse.specs.NestingPrograms.{ProgramFits}
 use Rattle.mr_parse.specs.Places.{numbered}
 use Rattle.mr_parse.proofs.HeightLaws.{SomePart, settled}
 use Rattle.mr_parse.proofs.CanonForms.{Stands, each_stand, marked, stands_before, stands_many, stands_pair, stands_same, stands_then}
-use Rattle.mr_parse.proofs.CanonFunctions.{function_stands, function_words, lines_behind, lines_of_each, words_of_lines}
+use Rattle.mr_parse.proofs.CanonFunctions.{function_stands, function_words, lines_of_each, words_of_lines}
 use Rattle.mr_parse.proofs.CanonItems.{global_stands}
 use Rattle.mr_parse.proofs.KnownNames.{function_use_stands}
 
@@ -47,7 +47,7 @@ module _ (p : Program) (shaped : Shaped p) (named : IsNamed p) (fits : ProgramFi
   program_stands =
       let globals = each_stand {room = 32} {part = SomePart 32} {scope = knowing (definitions_of p)} global_form (global_line p) p.globals (λ k g at. global_stands p shaped named 0 k g at refl) in
       let functions = each_stand {room = 32} {part = SomePart 32} {scope = knowing (definitions_of p)} function_form (function_words p) p.functions
-          (λ k f at. function_stands p shaped named fits k f at) in
+      (λ k f at. function_stands p shaped named fits k f at) in
       let items = stands_pair (stands_many {test = is_word (codes "global")} (global_line p) globals) (stands_many {test = is_word (codes "fn")} (function_words p) functions) in
       let start = stands_before (codes "main") (function_use_stands p shaped named 0 p.start shaped.start) in
       stands_same (stands_before (codes "minirust") (stands_before (codes "1") (stands_then items start refl refl))) (canonical_words_are p shaped.edition)

@@ -96,9 +96,9 @@ defined_at : (d : Definitions) (space : Texts) (k n : ℕ) (text : List ℕ) →
     → defined_in d space k text ≡ (n, None)
 defined_at d space k n text distinct inside here held same =
     let first : is_number k (number_in space text) ≡ true =
-        ap (λ t. is_number k (number_in space t)) (sym here) ∙ ap (is_number k) (number_distinct space k distinct inside) ∙ same_number k in
+    ap (λ t. is_number k (number_in space t)) (sym here) ∙ ap (is_number k) (number_distinct space k distinct inside) ∙ same_number k in
     let place : position_or_len (bytes_eq text) (names_of d) ≡ n =
-        ap (λ t. position_or_len (bytes_eq t) (names_of d)) (sym same) ∙ place_distinct (names_of d) n (each_once-distinct (all_names d)) held in
+    ap (λ t. position_or_len (bytes_eq t) (names_of d)) (sym same) ∙ place_distinct (names_of d) n (each_once-distinct (all_names d)) held in
     rw (first, place) refl
 
 module _ (p : Program) (shaped : Shaped p) (named : IsNamed p) where

@@ -28,7 +28,7 @@ canonical_words_denote p shaped named fits text lexemes lexes same =
     let words = words_of lexemes in
     let d = definitions_of p in
     let known : Writes (knowing d) words (body_of p) =
-        subst (λ (ws : List Word). Writes (knowing d) ws (body_of p)) (sym (words_are lexemes ∙ ap (numbered 0) same)) (canonical_words_write p shaped named fits) in
+    subst (λ (ws : List Word). Writes (knowing d) ws (body_of p)) (sym (words_are lexemes ∙ ap (numbered 0) same)) (canonical_words_write p shaped named fits) in
     let (shape, grammatical, twice) = written_twice (StandsIn words) (knowing d) unknown refl words (body_of p) (words_stand lexemes) known in
     let defined : definitions_in words shape ≡ d = same_definitions words d p named.names shape twice in
     let names : p.names ≡ names_of (definitions_in words shape) = named.names ∙ ap names_of (sym defined) in

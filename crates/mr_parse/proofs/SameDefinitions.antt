@@ -34,15 +34,15 @@ module _ (words : List Word) (d : Definitions) (p : Program) (names : p.names �
   same_function k f g twice =
       let name = same_text (item_names d) (length d.globals + k) f.name g.name (function_back d words k f.name g.name twice.name) in
       let locals = each_map _ (λ (l : Local). text_at p.names l.name) (λ (l : Local). word_at words l.name)
-          (λ j l m one. same_text (function_names d k).locals j l.name m.name (local_back d words j l.name m.name k one)) 0 f.locals g.locals twice.locals in
+      (λ j l m one. same_text (function_names d k).locals j l.name m.name (local_back d words j l.name m.name k one)) 0 f.locals g.locals twice.locals in
       let blocks = each_map _ (λ (b : Block). text_at p.names b.name) (λ (b : Block). word_at words b.name)
-          (λ j b c one. same_text (function_names d k).blocks j b.name c.name (block_back d words j b.name c.name k one)) 0 f.blocks g.blocks twice.blocks in
+      (λ j b c one. same_text (function_names d k).blocks j b.name c.name (block_back d words j b.name c.name k one)) 0 f.blocks g.blocks twice.blocks in
       λ i. record { name = name i; locals = locals i; blocks = blocks i }
 
   -- the definitions of both are the same
   pub same_definitions : (shape : ProgramBody) → ProgramTwice (StandsIn words) (knowing d) (body_of p) shape → definitions_in words shape ≡ definitions_of p
   same_definitions shape twice =
       let globals = each_map _ (λ (g : Global_). text_at p.names g.name) (λ (g : Global_). word_at words g.name)
-          (λ k g h one. same_text (item_names d) k g.name h.name (global_back d words k g.name h.name one)) 0 p.globals shape.globals twice.globals in
+      (λ k g h one. same_text (item_names d) k g.name h.name (global_back d words k g.name h.name one)) 0 p.globals shape.globals twice.globals in
       let functions = each_map _ (function_definitions p) (function_names_in words) same_function 0 p.functions shape.functions twice.functions in
       λ i. record { globals = globals i; functions = functions i }
