@@ -13,13 +13,14 @@ use Rattle.mr_ast.specs.Scope.{Definitions, FunctionNames, each_once, function_n
 use Rattle.mr_ast.specs.Words.{Texts, is_name}
 use Rattle.mr_ast.specs.Canon.{block_texts, local_texts}
 use Rattle.mr_ast.specs.ProgramGrammar.{ProgramBody}
-use Rattle.mr_parse.specs.CanonNames.{IsDistinct, IsNamed, definitions_of, function_definitions}
-use Rattle.mr_parse.specs.Denotes.{Denotes, Writes, definitions_in, function_names_in, knowing, program_of, text_at as word_at, unknown}
+use Rattle.mr_parse.specs.CanonNames.{IsDistinct, IsNamed, definitions_of}
+use Rattle.mr_parse.specs.Denotes.{Denotes, definitions_in, function_names_in, knowing, program_of, text_at as word_at}
 use Rattle.mr_parse.specs.Places.{words_of}
 use Rattle.mr_parse.proofs.DefinedTwice.{FunctionTwice, ProgramTwice, defined_twice, functions_twice}
 use Rattle.mr_parse.proofs.EnsureLaws.{EachFrom}
 use Rattle.mr_parse.proofs.NamedBack.{ReadsBack, block_back, each_joined, each_shifted, function_back, global_back, local_back, space_distinct, texts_back, texts_first, texts_names}
 use Rattle.mr_parse.proofs.PlaceLaws.{StandsIn, words_stand}
+use Rattle.mr_parse.proofs.SameDefinitions.{same_definitions}
 use Rattle.mr_parse.proofs.TwoScopes.{EachTwo, each_first, each_two_also}
 
 -- the names of a function read back, and are those that are defined in it
@@ -46,9 +47,6 @@ module _ (d : Definitions) (words : List Word) (body : ProgramBody) (k : ℕ) (f
 
   blocks_same : block_texts (program_of d body) f ≡ (function_names_in words g).blocks
   blocks_same = texts_back d words (function_names d k).blocks (λ j. j) (λ (b : Block). b.name) 0 f.blocks g.blocks back.blocks
-
-  function_same : function_definitions (program_of d body) f ≡ function_names_in words g
-  function_same = λ i. record { name = back.name.text i; locals = locals_same i; blocks = blocks_same i }
 
   locals_distinct : IsDistinct (local_texts (program_of d body) f)
   locals_distinct =
@@ -98,13 +96,6 @@ once_all P (t ∷ texts) front old all = once_all P texts (with_text front t) (o
 
 -- ---- a program
 
-functions_same : (d : Definitions) (words : List Word) (body : ProgramBody) (k : ℕ) (fs gs : List Function) → EachTwo (FunctionBack d words) k fs gs
-    → map (function_definitions (program_of d body)) fs ≡ map (function_names_in words) gs
-functions_same d words body k [] [] each = refl
-functions_same d words body k [] (g ∷ gs) each = absurd each
-functions_same d words body k (f ∷ fs) [] each = absurd each
-functions_same d words body k (f ∷ fs) (g ∷ gs) each = λ i. function_same d words body k f g each.0 i ∷ functions_same d words body (suc k) fs gs each.1 i
-
 function_names_first : (d : Definitions) (words : List Word) (fs gs : List Function) → EachTwo (FunctionBack d words) 0 fs gs
     → EachFrom (λ k text. number_in (item_names d) text ≡ Some (length d.globals + k)) 0 (map (λ (n : FunctionNames). n.name) (map (function_names_in words) gs))
 function_names_first d words fs gs each =
@@ -126,9 +117,7 @@ module _ (words : List Word) (shape body : ProgramBody) (twice : ProgramTwice (S
   -- what the program defines is what the words do
   definitions_same : definitions_of (program_of (definitions_in words shape) body) ≡ definitions_in words shape
   definitions_same =
-      let d : Definitions = definitions_in words shape in
-      let globals = texts_back d words (item_names d) (λ k. k) (λ (g : Global_). g.name) 0 body.globals shape.globals globals_back in
-      let functions = functions_same d words body 0 body.functions shape.functions functions_back in λ i. record { globals = globals i; functions = functions i }
+      let d : Definitions = definitions_in words shape in sym (same_definitions words d (program_of d body) refl shape twice)
 
   names_words : All IsName (names_of (definitions_in words shape))
   unfolding each_once

@@ -1,5 +1,5 @@
 -- The trees and types that a row without a broken limit writes fit: where a bracket was opened, there was room for it.
-use Rattle.std.proofs.Common.{◌≡◌, ℕ, zero, suc, ◌-◌, ◌==◌, Bool, true, not, List, [], length, ap, ◌∙◌, subst}
+use Rattle.std.proofs.Common.{◌≡◌, ℕ, zero, suc, ◌-◌, ◌==◌, true, not, List, [], length, ap, ◌∙◌, subst}
 use Rattle.std.specs.List.{AllByRecursion}
 use Rattle.std.proofs.lemmas.Bool.{or_right}
 use Rattle.mr_ast.specs.declared.words.Bracket.{Bracket}
