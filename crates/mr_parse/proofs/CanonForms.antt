@@ -1,12 +1,12 @@
 -- How texts stand for things in forms: a law for each way to make a form.
-use Rattle.std.proofs.Common.{◌≡◌, ℕ, zero, suc, ◌-◌, ◌==◌, inl, inr, Bool, true, false, if◌then◌else◌, List, [], ◌∷◌, ◌++◌, map, codes, Option, None, Some, refl, ap, sym, ◌∙◌, subst, append_assoc, append-nil, bytes_eq}
+use Rattle.std.proofs.Common.{◌≡◌, ℕ, suc, ◌+◌, ◌-◌, ◌==◌, inl, inr, Bool, true, false, if◌then◌else◌, List, [], ◌∷◌, ◌++◌, map, codes, slice_get, None, Some, refl, ap, sym, ◌∙◌, subst, arith, bytes_eq}
 use Rattle.std.specs.Prelude.{flat_map}
 use Rattle.std.proofs.lemmas.Slice.Eq.{bytes_eq-Decides}
 use Rattle.mr_ast.specs.declared.words.Bracket.{Bracket}
 use Rattle.mr_ast.specs.Words.{Texts}
 use Rattle.mr_ast.specs.Forms.{Word, Mark, Empty, Then, Cases, Either, Many, Within, Part, In, SpelledBy, EachSpelled, opening, closing}
 use Rattle.mr_ast.specs.Scope.{Scope}
-use Rattle.mr_ast.specs.Writing.{Judged, Kind, Meaning, Writing, fine, giving, is_word, limited_word, listed, optional, other_than, separated, token, word, ◌▪◌, ◌▸◌, ◌◂◌}
+use Rattle.mr_ast.specs.Writing.{Judged, Kind, Meaning, Writing, fine, giving, limited_word, listed, separated, token, word, ◌▪◌, ◌▸◌, ◌◂◌}
 use Rattle.mr_ast.specs.Spelled.{form_of, NoPart, SpelledInside}
 use Rattle.mr_ast.specs.CanonTypes.{with_commas}
 use Rattle.mr_parse.proofs.HeightLaws.{SomeInside, SomePart, also_by, settled, settled_part}
@@ -49,6 +49,21 @@ each_at room part scope form row j (x ∷ xs) each k = (
   each_at room part scope form row (suc j) xs each.1 (behind k (row x)),
 )
 
+-- where each stands at its number, all do
+each_from : {room : ℕ} {part : Parts} {scope : Scope} {A : Type 0} (form : ℕ → Writing A) (row : A → Texts) (j : ℕ) (xs : List A)
+    → ((i : ℕ) (x : A) → slice_get xs i ≡ Some x → Stands room part scope (form (j + i)) x (row x)) → EachStands room part scope form row j xs
+each_from form row j [] law = tt
+each_from {room} {part} {scope} form row j (x ∷ xs) law =
+    let first : j + 0 ≡ j = omega arith in (
+      subst (λ (n : ℕ). Stands room part scope (form n) x (row x)) first (law 0 x refl),
+      each_from form row (suc j) xs (λ i y at. (let next : j + suc i ≡ suc j + i = omega arith in subst (λ (n : ℕ). Stands room part scope (form n) y (row y)) next (law (suc i) y at))),
+    )
+
+pub each_stand : {room : ℕ} {part : Parts} {scope : Scope} {A : Type 0} (form : ℕ → Writing A) (row : A → Texts) (xs : List A)
+    → ((i : ℕ) (x : A) → slice_get xs i ≡ Some x → Stands room part scope (form i) x (row x)) → EachStands room part scope form row 0 xs
+each_stand {room} {part} {scope} form row xs law =
+    each_from form row 0 xs (λ i x at. (let here : i ≡ 0 + i = omega arith in subst (λ (n : ℕ). Stands room part scope (form n) x (row x)) here (law i x at)))
+
 -- all things of a list
 abbrev pub AllStand : ℕ → Parts → Scope → {A : Type 0} → Writing A → (A → Texts) → List A → Type 0
 AllStand room part scope a row [] = Unit {0}
@@ -57,7 +72,7 @@ AllStand room part scope a row (x ∷ xs) = Stands room part scope a x (row x) �
 same_text : (text : List ℕ) → bytes_eq text text ≡ true
 same_text text = (bytes_eq-Decides text text).1 refl
 
-rows_with_commas : {A : Type 0} (row : A → Texts) (xs : List A) → flat_map (λ r. codes "," ∷ r) (map row xs) ≡ flat_map (λ x. codes "," ∷ row x) xs
+pub rows_with_commas : {A : Type 0} (row : A → Texts) (xs : List A) → flat_map (λ r. codes "," ∷ r) (map row xs) ≡ flat_map (λ x. codes "," ∷ row x) xs
 rows_with_commas row [] = refl
 rows_with_commas row (x ∷ xs) = ap (λ rest. (codes "," ∷ row x) ++ rest) (rows_with_commas row xs)
 
@@ -115,6 +130,12 @@ module _ {room : ℕ} {part : Parts} {scope : Scope} where
       → Stands room part scope (token judge) i (text ∷ [])
   stands_token judged = stands_cases judged stands_empty
 
+-- ---- in another scope
+
+pub stands_in : {room : ℕ} {part : Parts} {scope : Scope} {A : Type 0} {into : Scope → Scope} {a : Writing A} {x : A} {texts : Texts} → Stands room part (into scope) a x texts
+    → Stands room part scope (In into a) x texts
+stands_in one = record { at = one.at }
+
 -- ---- lists
 
 behind_commas : (room : ℕ) (part : Parts) (scope : Scope) {A : Type 0} (a : Writing A) (row : A → Texts) (j : ℕ) (xs : List A) → AllStand room part scope a row xs
@@ -145,8 +166,8 @@ stands_within {room} {scope} {bracket} {a} {x} {texts} some inner = record {
     refl,
     refl,
     ap (λ rest. record { word = record { text = opening bracket; place = k }; flaw = None } ∷ rest) (marked-append (suc k) texts (closing bracket ∷ []))
-    ∙ ap (λ full. record { word = record { text = opening bracket; place = k }; flaw = if full then Some 7 else None }
-      ∷ marked (suc k) texts ++ record { word = record { text = closing bracket; place = behind (suc k) texts }; flaw = None } ∷ []) (sym some),
+        ∙ ap (λ full. record { word = record { text = opening bracket; place = k }; flaw = if full then Some 7 else None }
+        ∷ marked (suc k) texts ++ record { word = record { text = closing bracket; place = behind (suc k) texts }; flaw = None } ∷ []) (sym some),
     inside_at (room - 1) scope a x (marked (suc k) texts) (inner.at (suc k)),
   );
 }

@@ -1,17 +1,13 @@
 -- What the names of a program stand for, where they are those of a text.
-use Rattle.std.proofs.Common.{◌≡◌, ◌≢◌, ℕ, zero, suc, ◌+◌, ◌-◌, ◌<◌, ◌≤◌, ◌==◌, Bool, true, false, List, [], ◌∷◌, ◌++◌, length, get_or, slice_get, map, position, if◌then◌else◌, Option, Some, None, refl, sym, ap, ◌∙◌, subst, arith, append_assoc, append-nil, length-append, All, bytes_eq, inl, inr, add-zero, true≢false}
+use Rattle.std.proofs.Common.{◌≡◌, ℕ, ◌<◌, Bool, true, false, List, [], ◌∷◌, ◌++◌, length, slice_get, position, if◌then◌else◌, Some, None, refl, sym, ap, ◌∙◌, subst, arith, append_assoc, append-nil, length-append, bytes_eq, inl, inr, add-zero, true≢false}
 use Rattle.std.specs.Prelude.{nat_lt}
 use Rattle.std.specs.List.{fold, list_any, position_or_len}
 use Rattle.std.proofs.lemmas.Bool.{cases_lt}
 use Rattle.std.proofs.lemmas.Bool.Decides.{nat_tests}
-use Rattle.std.proofs.lemmas.List.{get_or-map, get_or-append-add, get_or_append_left, length-map}
-use Rattle.std.proofs.lemmas.List.Elements.{All-get_or}
+use Rattle.std.proofs.lemmas.List.{get_or-append-add, get_or_append_left}
 use Rattle.std.proofs.lemmas.Option.{slice_get-get_or, slice_get_within}
-use Rattle.mr_ast.specs.Names.{IsFirst}
-use Rattle.mr_ast.specs.declared.program.Function.{Function}
-use Rattle.mr_ast.specs.declared.program.Program.{Program}
-use Rattle.mr_ast.specs.Words.{Texts, is_name}
-use Rattle.mr_ast.specs.Scope.{Definitions, as_function, as_global, defined_in, each_once, is_number, item_names, names_of, number_in, used_in, with_text}
+use Rattle.mr_ast.specs.Words.{Texts}
+use Rattle.mr_ast.specs.Scope.{each_once, number_in, with_text}
 use Rattle.mr_ast.specs.CanonValues.{text_at}
 use Rattle.mr_parse.specs.CanonNames.{IsDistinct}
 use Rattle.mr_parse.proofs.NamingLaws.{any_first, any_none, place_first}
@@ -36,10 +32,10 @@ added front x rest distinct =
     let whole = front ++ x ∷ rest in
     let here : text_at whole (length front) ≡ x = ap (text_at whole) (sym (add-zero (length front))) ∙ get_or-append-add front (x ∷ rest) 0 [] in
     let absent : list_any (bytes_eq x) front ≡ false = any_none x front (λ k at.
-        (let before : k < length front = slice_get_within front k x at in
-        let there : text_at whole k ≡ text_at front k = get_or_append_left front (x ∷ rest) [] k before in
-        let inside : length front < length whole = omega (arith, length-append front (x ∷ rest)) in
-        distinct k (length front) before inside (there ∙ same_some (sym (text_here front k before) ∙ at) ∙ sym here))) in
+    (let before : k < length front = slice_get_within front k x at in
+    let there : text_at whole k ≡ text_at front k = get_or_append_left front (x ∷ rest) [] k before in
+    let inside : length front < length whole = omega (arith, length-append front (x ∷ rest)) in
+    distinct k (length front) before inside (there ∙ same_some (sym (text_here front k before) ∙ at) ∙ sym here))) in
     rw absent refl
 
 once_from : (front rest : Texts) → IsDistinct (front ++ rest) → fold with_text front rest ≡ front ++ rest
@@ -71,15 +67,15 @@ with_text-distinct front x distinct = go (list_any (bytes_eq x) front) refl
         let left : text_at (front ++ x ∷ []) i ≡ text_at front i = get_or_append_left front (x ∷ []) [] i (omega arith) in
         elim (cases_lt j (length front)) [
           | inl in_front ↦ (
-            let right : text_at (front ++ x ∷ []) j ≡ text_at front j = get_or_append_left front (x ∷ []) [] j in_front in
-            distinct i j before in_front (sym left ∙ same ∙ right)
-          )
+              let right : text_at (front ++ x ∷ []) j ≡ text_at front j = get_or_append_left front (x ∷ []) [] j in_front in
+              distinct i j before in_front (sym left ∙ same ∙ right)
+              )
           | inr behind ↦ (
-            let is : j ≡ length front = omega arith in
-            let right : text_at (front ++ x ∷ []) j ≡ x = ap (text_at (front ++ x ∷ [])) (is ∙ sym (add-zero (length front))) ∙ get_or-append-add front (x ∷ []) 0 [] in
-            let there = text_here front i (omega arith) ∙ ap Some (sym left ∙ same ∙ right) in
-            true≢false (sym (any_first x front i there) ∙ absent)
-          )
+              let is : j ≡ length front = omega arith in
+              let right : text_at (front ++ x ∷ []) j ≡ x = ap (text_at (front ++ x ∷ [])) (is ∙ sym (add-zero (length front))) ∙ get_or-append-add front (x ∷ []) 0 [] in
+              let there = text_here front i (omega arith) ∙ ap Some (sym left ∙ same ∙ right) in
+              true≢false (sym (any_first x front i there) ∙ absent)
+              )
         ]
 
     go : (b : Bool) → list_any (bytes_eq x) front ≡ b → IsDistinct (if b then front else front ++ x ∷ [])

@@ -1,7 +1,7 @@
 -- Numbers in decimal, and words of integer types, stand for what they write.
-use Rattle.std.proofs.Common.{◌≡◌, ℕ, zero, suc, ◌+◌, ◌-◌, ◌*◌, ◌/◌, ◌%◌, ◌^◌, ◌<◌, ◌≤◌, ◌==◌, Bool, true, false, not, ◌&&◌, ◌||◌, if◌then◌else◌, List, [], ◌∷◌, ◌++◌, length, get_or, codes, Option, None, Some, refl, ap, sym, ◌∙◌, subst, arith, inl, inr, length-append}
-use Rattle.std.specs.Prelude.{nat_lt, decimal, option_map}
-use Rattle.std.specs.List.{fold, list_all}
+use Rattle.std.proofs.Common.{◌≡◌, ℕ, ◌+◌, ◌-◌, ◌*◌, ◌/◌, ◌%◌, ◌^◌, ◌<◌, ◌≤◌, ◌==◌, Bool, true, false, not, ◌&&◌, ◌||◌, if◌then◌else◌, List, [], ◌∷◌, ◌++◌, length, get_or, codes, Option, None, Some, refl, ap, ◌∙◌, arith, inl, inr, length-append}
+use Rattle.std.specs.Prelude.{nat_le, nat_lt, decimal}
+use Rattle.std.specs.List.{list_all}
 use Rattle.std.specs.Char.{is_ascii_digit}
 use Rattle.std.proofs.lemmas.Bool.{and_parts, and_from, cases_eq}
 use Rattle.std.proofs.lemmas.Bool.Decides.{nat_tests}
@@ -12,10 +12,9 @@ use Rattle.std.proofs.lemmas.List.Sums.{fold-append}
 use Rattle.mr_ast.specs.declared.types.IntType.{IntType}
 use Rattle.mr_ast.specs.declared.types.Num.{Num}
 use Rattle.mr_ast.specs.Words.{first_passes, is_number, value_of}
-use Rattle.mr_ast.specs.Forms.{Word}
 use Rattle.mr_ast.specs.Scope.{Scope}
 use Rattle.mr_ast.specs.ShapedTypes.{fits_u64, is_shaped_num}
-use Rattle.mr_ast.specs.Writing.{fine, int_form, judged_any, judged_int, judged_number, judged_positive, judged_u64, limit, num_form, u64_form}
+use Rattle.mr_ast.specs.Writing.{fine, int_form, judged_any, judged_int, judged_number, judged_positive, judged_repeat, judged_u64, limit, num_form, token, u64_form}
 use Rattle.mr_ast.specs.CanonTypes.{int_word, num_words}
 use Rattle.mr_ast.proofs.WordLaws.{int_word_found}
 use Rattle.mr_parse.proofs.CanonForms.{Parts, Stands, stands_before, stands_first, stands_giving, stands_second, stands_token}
@@ -64,10 +63,10 @@ plain n wide = elim (cases_eq n 0) [
   | inr some ↦ (let large : 48 < get_or (decimal n) 0 0 = (digits_of n wide).first (omega (arith, some)) in grind (arith, nat_tests))
 ]
 
-value_of-decimal : (n : ℕ) → n < 2 ^ 128 → value_of (decimal n) ≡ n
+pub value_of-decimal : (n : ℕ) → n < 2 ^ 128 → value_of (decimal n) ≡ n
 value_of-decimal n small = let wide : n < 10 ^ 64 = omega arith in (digits_of n wide).value
 
-is_number-decimal : (n : ℕ) → n < 2 ^ 128 → is_number (decimal n) ≡ true
+pub is_number-decimal : (n : ℕ) → n < 2 ^ 128 → is_number (decimal n) ≡ true
 unfolding is_number
 is_number-decimal n small =
     let wide : n < 10 ^ 64 = omega arith in
@@ -86,6 +85,15 @@ module _ {room : ℕ} {part : Parts} {scope : Scope} where
   stands_u64 n small =
       let below : n < 2 ^ 128 = grind (arith, nat_tests) in
       stands_token (λ k. judged (λ m. Some (limit 2 (not (nat_lt m (2 ^ 64))))) n k below (rw small refl))
+
+  pub stands_repeat : (n : ℕ) → 1 ≤ n → n ≤ 2 ^ 20 → Stands room part scope (token judged_repeat) n (decimal n ∷ [])
+  unfolding judged_repeat
+  stands_repeat n some few =
+      let below : n < 2 ^ 128 = omega arith in
+      let small : nat_lt n (2 ^ 64) ≡ true = grind (arith, nat_tests) in
+      let positive : nat_lt 0 n ≡ true = grind (arith, nat_tests) in
+      let bounded : nat_le n (2 ^ 20) ≡ true = grind (arith, nat_tests) in
+      stands_token (λ k. judged (λ m. if nat_lt m (2 ^ 64) then (if nat_lt 0 m && nat_le m (2 ^ 20) then Some None else None) else Some (Some 2)) n k below (rw (small, positive, bounded) refl))
 
   signed : (neg : Bool) (mag : ℕ) → is_shaped_num (record { neg = neg; mag = mag }) ≡ true
       → Stands room part scope num_form (record { neg = neg; mag = mag }) (num_words (record { neg = neg; mag = mag }))

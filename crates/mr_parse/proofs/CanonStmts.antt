@@ -1,5 +1,5 @@
 -- The canonical words of a statement or terminator write it.
-use Rattle.std.proofs.Common.{◌≡◌, ℕ, suc, ◌-◌, ◌==◌, Bool, true, false, not, ◌&&◌, List, [], ◌∷◌, ◌++◌, map, codes, Option, Some, None, refl, ap, sym, ◌∙◌, subst, append_assoc}
+use Rattle.std.proofs.Common.{◌≡◌, ℕ, suc, ◌-◌, ◌==◌, Bool, true, false, not, ◌&&◌, List, [], ◌∷◌, ◌++◌, codes, Option, Some, None, refl, ap, sym, ◌∙◌, subst, append_assoc}
 use Rattle.std.specs.Prelude.{flat_map, nat_le, nat_lt}
 use Rattle.std.specs.List.{list_all}
 use Rattle.std.proofs.lemmas.Bool.{and_parts}
@@ -23,14 +23,10 @@ use Rattle.mr_ast.specs.Scope.{Scope}
 use Rattle.mr_ast.specs.Shaped.{is_block, is_optional_block, is_optional_place, is_shaped_stmt, is_shaped_target, is_shaped_term}
 use Rattle.mr_ast.specs.ShapedTypes.{is_shaped_num}
 use Rattle.mr_ast.specs.ShapedValues.{Named, is_shaped_place, is_shaped_value}
-use Rattle.mr_ast.specs.Spelled.{NoPart}
 use Rattle.mr_ast.specs.Writing.{ThePlace, TheValue, block_use, listed, local_use, optional, other_than}
-use Rattle.mr_ast.specs.ValueGrammar.{place_from}
-use Rattle.mr_ast.specs.ProgramGrammar.{assign_form, call_form, disc_form, do_form, intrinsic_form, judged_intrinsic, judged_stmt, judged_term, stmt_form, switch_case_form, switch_cases_form, switch_form, term_form, unwind_form, values_form}
-use Rattle.mr_ast.specs.CanonTypes.{num_words, with_commas}
+use Rattle.mr_ast.specs.ProgramGrammar.{assign_form, call_form, disc_form, do_form, judged_intrinsic, judged_stmt, judged_term, stmt_form, switch_case_form, switch_cases_form, switch_form, term_form, unwind_form, values_form}
 use Rattle.mr_ast.specs.CanonValues.{NameTexts, text_at, words_of_place, words_of_value}
 use Rattle.mr_ast.specs.Canon.{arguments, intrinsic_word, optional_block, optional_result, stmt_line, target_words, term_line, words_of_stmt, words_of_term}
-use Rattle.mr_parse.specs.Nesting.{inside}
 use Rattle.mr_parse.specs.NestingValues.{place_fits, value_fits}
 use Rattle.mr_parse.specs.NestingPrograms.{result_fits, stmt_fits, term_fits, values_fit}
 use Rattle.mr_parse.proofs.HeightLaws.{SomePart}

@@ -1,6 +1,6 @@
 -- The canonical words of a type write it.
-use Rattle.std.proofs.Common.{◌≡◌, ℕ, zero, suc, ◌-◌, ◌==◌, Bool, true, false, not, ◌&&◌, ◌||◌, if◌then◌else◌, List, [], ◌∷◌, ◌++◌, length, map, codes, Option, Some, None, refl, ap, sym, ◌∙◌, subst, arith, inl, inr, append_assoc}
-use Rattle.std.specs.Prelude.{decimal, flat_map}
+use Rattle.std.proofs.Common.{◌≡◌, ℕ, suc, ◌-◌, ◌==◌, Bool, true, false, not, ◌&&◌, if◌then◌else◌, List, [], ◌∷◌, ◌++◌, length, map, codes, Option, Some, None, refl, ap, sym, subst, arith, append_assoc}
+use Rattle.std.specs.Prelude.{decimal}
 use Rattle.std.specs.List.{list_all}
 use Rattle.std.proofs.lemmas.Bool.{and_parts}
 use Rattle.std.proofs.lemmas.Bool.Decides.{nat_tests}
@@ -18,17 +18,17 @@ use Rattle.mr_ast.specs.declared.words.TypeWord.{TypeWord}
 use Rattle.mr_ast.specs.declared.words.TypeWord.TheVariants as type_word
 use Rattle.mr_ast.specs.declared.words.TreeWord.TheVariants as tree_word
 use Rattle.mr_ast.specs.declared.words.Bracket.TheVariants.{Round, Curly}
-use Rattle.mr_ast.specs.Words.{Texts, int_words, looked_up, type_words}
+use Rattle.mr_ast.specs.Words.{Texts, looked_up, type_words}
 use Rattle.mr_ast.specs.Scope.{Scope}
 use Rattle.mr_ast.specs.ShapedTypes.{fits_u64, is_shaped_case, is_shaped_chunk, is_shaped_field, is_shaped_num, is_shaped_tag, is_shaped_tree, is_shaped_type, is_shaped_variant}
 use Rattle.mr_ast.specs.Spelled.{NoPart}
 use Rattle.mr_ast.specs.Forms.{Part}
 use Rattle.mr_ast.specs.Writing.{TheTree, TheType, fine, other_than}
-use Rattle.mr_ast.specs.TypeGrammar.{Shape, array_form, branch_form, case_form, cases_form, chunk_form, chunks_form, enum_form, field_form, fields_form, judged_tree, judged_type, ref_form, shape_form, tag_form, tags_form, tree_form, tuple_type_form, type_form, type_word_of, union_type_form, variant_form, variants_form}
+use Rattle.mr_ast.specs.TypeGrammar.{array_form, branch_form, case_form, cases_form, chunk_form, chunks_form, enum_form, field_form, fields_form, judged_tree, judged_type, ref_form, shape_form, tag_form, tags_form, tree_form, tuple_type_form, type_form, type_word_of, union_type_form, variant_form, variants_form}
 use Rattle.mr_ast.specs.CanonTypes.{braced, case_words, chunk_words, field_words, int_word, is_unit, num_words, shape_words, tag_words, variant_words, words_of_tree, words_of_type}
 use Rattle.mr_ast.proofs.CanonTypeLaws.{words_array, words_bool, words_branch, words_enum, words_fn_ptr, words_int_type, words_invalid, words_known, words_raw_type, words_ref, words_tuple_type, words_union_type}
 use Rattle.mr_ast.proofs.ShapedLaws.{shaped_array, shaped_branch, shaped_enum, shaped_known, shaped_ref, shaped_tuple_type, shaped_union_type}
-use Rattle.mr_ast.proofs.TypeInduction.{AllFields, AllVariants, TypeCases, type_induction}
+use Rattle.mr_ast.proofs.TypeInduction.{AllFields, AllVariants, type_induction}
 use Rattle.mr_ast.proofs.WordLaws.{int_word_found}
 use Rattle.mr_parse.specs.Nesting.{case_fits, field_fits, inside, tree_fits, type_fits, variant_fits}
 use Rattle.mr_parse.proofs.HeightLaws.{SomePart}
@@ -215,8 +215,7 @@ cases_stand room scope j [] all fits shaped = tt
 cases_stand room scope j (c ∷ cases) all fits shaped =
     let (fit, fit_rest) = and_parts (tree_fits c.1 room) (list_all (case_fits room) cases) fits in
     let (good, good_rest) = and_parts (is_shaped_case c) (list_all is_shaped_case cases) shaped in
-    let (number, of) = and_parts (is_shaped_num c.0) (is_shaped_tree c.1) good in
-    (
+    let (number, of) = and_parts (is_shaped_num c.0) (is_shaped_tree c.1) good in (
       stands_same (stands_pair (stands_behind (stands_num c.0 number) (codes "=>")) (stands_behind (stands_tree (all.0 room scope fit of)) (codes ","))) (simp append_assoc),
       cases_stand room scope (suc j) cases all.1 fit_rest good_rest,
     )

@@ -1,5 +1,5 @@
 -- The canonical words of a place or value write it, where names stand for their positions.
-use Rattle.std.proofs.Common.{◌≡◌, ℕ, zero, suc, ◌+◌, ◌-◌, ◌==◌, ◌≤◌, Bool, true, false, not, ◌&&◌, if◌then◌else◌, List, [], ◌∷◌, ◌++◌, length, map, codes, Option, Some, None, refl, ap, sym, ◌∙◌, subst, arith, append_assoc, append-nil, length-append}
+use Rattle.std.proofs.Common.{◌≡◌, ℕ, suc, ◌+◌, ◌-◌, ◌==◌, ◌≤◌, true, false, not, ◌&&◌, List, [], ◌∷◌, ◌++◌, length, codes, Some, None, refl, ap, sym, ◌∙◌, arith, append_assoc, append-nil, length-append}
 use Rattle.std.specs.Prelude.{decimal, flat_map, nat_le, nat_lt}
 use Rattle.std.specs.List.{AllByRecursion, fold, list_all}
 use Rattle.std.proofs.lemmas.Bool.{and_parts}
@@ -21,19 +21,18 @@ use Rattle.mr_ast.specs.declared.expr.Place.{Place}
 use Rattle.mr_ast.specs.declared.expr.Place.TheVariants as place
 use Rattle.mr_ast.specs.declared.expr.Value.{Value}
 use Rattle.mr_ast.specs.declared.expr.Value.TheVariants as value
-use Rattle.mr_ast.specs.declared.words.ValueWord.{ValueWord}
 use Rattle.mr_ast.specs.declared.words.ValueWord.TheVariants as value_word
 use Rattle.mr_ast.specs.declared.words.Role.TheVariants.{UsesBlock, UsesFunction, UsesGlobal, UsesLocal}
 use Rattle.mr_ast.specs.declared.words.Bracket.TheVariants.{Round, Square}
 use Rattle.mr_ast.specs.Words.{Texts}
-use Rattle.mr_ast.specs.Forms.{Part, Word}
+use Rattle.mr_ast.specs.Forms.{Part}
 use Rattle.mr_ast.specs.Scope.{Scope}
 use Rattle.mr_ast.specs.ShapedTypes.{fits_u64, is_shaped_num, is_shaped_type}
 use Rattle.mr_ast.specs.ShapedValues.{Named, is_shaped_place, is_shaped_value}
 use Rattle.mr_ast.specs.Spelled.{NoPart}
-use Rattle.mr_ast.specs.Writing.{ThePlace, TheType, TheValue, is_word, judged_name, ◌▸◌}
+use Rattle.mr_ast.specs.Writing.{ThePlace, TheValue, is_word, judged_name, ◌▸◌}
 use Rattle.mr_ast.specs.ValueGrammar.{ByField, ByIndex, ByVariant, Postfix, addr_of_form, base_form, binary_form, cast_form, deref_form, global_value_form, judged_value, more_values_form, place_from, postfix_form, postfixes_form, transmute_form, tuple_value_form, union_value_form, value_form, variant_value_form, with_postfix}
-use Rattle.mr_ast.specs.CanonTypes.{int_word, num_words, words_of_type}
+use Rattle.mr_ast.specs.CanonTypes.{int_word, num_words}
 use Rattle.mr_ast.specs.CanonValues.{NameTexts, binary_word, text_at, unary_word, words_of_place, words_of_value}
 use Rattle.mr_ast.proofs.CanonValueLaws.{words_addr_of, words_binary, words_cast, words_deref, words_disc, words_false, words_field, words_fn, words_global, words_index, words_int, words_load, words_local, words_raw, words_transmute, words_true, words_tuple, words_unary, words_union, words_variant, words_variant_place}
 use Rattle.mr_ast.proofs.ExprInduction.{AllValues, ExprCases, place_induction, value_induction}

@@ -1,5 +1,5 @@
 -- What becomes of the flaws where the names of a text are known, or others than before.
-use Rattle.std.proofs.Common.{◌≡◌, ℕ, ◌⊎◌, inl, inr, Bool, true, false, if◌then◌else◌, List, Option, Some, None, refl, sym, ◌∙◌}
+use Rattle.std.proofs.Common.{◌≡◌, ℕ, ◌⊎◌, inl, inr, Bool, true, false, if◌then◌else◌, List, Option, Some, None, refl, ap, sym, ◌∙◌}
 use Rattle.mr_ast.specs.declared.words.Role.{Role}
 use Rattle.mr_ast.specs.declared.words.Role.TheVariants.{DefinesGlobal, DefinesFunction, DefinesLocal, DefinesBlock, UsesGlobal, UsesFunction, UsesLocal, UsesBlock}
 use Rattle.mr_ast.specs.Forms.{Word, Mark}
@@ -56,7 +56,8 @@ target_naming s w = go s.known
 abbrev pub IsUnknown : Scope → Type 0
 IsUnknown s = s.known ≡ None
 
-unknown_number : (s : Scope) → IsUnknown s → (role : Role) (w : Word) → (name_number s role w).1 ≡ None
+-- there a name stands for its place
+pub unknown_number : (s : Scope) → IsUnknown s → (role : Role) (w : Word) → name_number s role w ≡ (w.place, None)
 unknown_number s unknown role w = rw unknown refl
 
 unknown_target : (s : Scope) → IsUnknown s → (w : Word) → (name_target s w).1 ≡ None
@@ -92,7 +93,7 @@ pub from_unknown : IsRenaming FromUnknown KeptOrNamed
 from_unknown = record {
   inner = λ s t k alike. alike;
   plain = λ flaw p. (p, inl refl);
-  number = λ s t alike role w. named _ _ (unknown_number s alike role w) (number_naming t role w);
+  number = λ s t alike role w. named _ _ (ap (λ p. p.1) (unknown_number s alike role w)) (number_naming t role w);
   target = λ s t alike w. named _ _ (unknown_target s alike w) (target_naming t w);
 }
 
@@ -107,7 +108,7 @@ pub to_unknown : IsRenaming ToUnknown KeptOrForgotten
 to_unknown = record {
   inner = λ s t k alike. alike;
   plain = λ flaw p. (p, inl refl);
-  number = λ s t alike role w. named _ _ (unknown_number t alike role w) (number_naming s role w);
+  number = λ s t alike role w. named _ _ (ap (λ p. p.1) (unknown_number t alike role w)) (number_naming s role w);
   target = λ s t alike w. named _ _ (unknown_target t alike w) (target_naming s w);
 }
 

@@ -1,12 +1,13 @@
 -- The equations of how deep brackets nest in places and values, one for each kind that has some.
-use Rattle.std.proofs.Common.{◌≡◌, ℕ, ◌+◌, ◌-◌, Bool, true, not, ◌&&◌, ◌==◌, List, map, sym, ap, ◌∙◌}
-use Rattle.std.specs.Prelude.{nat_le}
+use Rattle.std.proofs.Common.{◌≡◌, ℕ, ◌+◌, ◌-◌, true, not, ◌&&◌, ◌==◌, List, sym, ap, ◌∙◌}
 use Rattle.std.specs.List.{list_all}
 use Rattle.std.proofs.lemmas.List.Folds.{list_all-map}
 use Rattle.mr_ast.specs.declared.types.IntType.{IntType}
 use Rattle.mr_ast.specs.declared.types.Num.{Num}
 use Rattle.mr_ast.specs.declared.types.Ty.{Ty}
 use Rattle.mr_ast.specs.declared.program.LocalName.{LocalName}
+use Rattle.mr_ast.specs.declared.program.FnName.{FnName}
+use Rattle.mr_ast.specs.declared.program.GlobalName.{GlobalName}
 use Rattle.mr_ast.specs.declared.expr.UnaryOp.{UnaryOp}
 use Rattle.mr_ast.specs.declared.expr.BinaryOp.{BinaryOp}
 use Rattle.mr_ast.specs.declared.expr.Place.{Place, roll-Place}
@@ -40,6 +41,24 @@ index_nesting p i = ap place_nesting (sym (place.rolls-Index p i)) ∙ place_rol
 
 pub variant_nesting : (p : Place) (n : Num) → place_nesting (place.Variant p n) ≡ ((place_nesting p).0 + 1, (place_nesting p).1)
 variant_nesting p n = ap place_nesting (sym (place.rolls-Variant p n)) ∙ place_roll (Place-F.Place::Variant p n)
+
+pub int_fits : (i : IntType) (n : Num) (room : ℕ) → value_fits (value.Int i n) room ≡ true
+int_fits i n room = ap (λ v. value_fits v room) (sym (value.rolls-Int i n)) ∙ value_roll (Value-F.Int i n) room
+
+pub true_fits : (room : ℕ) → value_fits value.True room ≡ true
+true_fits room = ap (λ v. value_fits v room) (sym value.rolls-True) ∙ value_roll Value-F.True room
+
+pub false_fits : (room : ℕ) → value_fits value.False room ≡ true
+false_fits room = ap (λ v. value_fits v room) (sym value.rolls-False) ∙ value_roll Value-F.False room
+
+pub raw_fits : (n : ℕ) (room : ℕ) → value_fits (value.Raw n) room ≡ true
+raw_fits n room = ap (λ v. value_fits v room) (sym (value.rolls-Raw n)) ∙ value_roll (Value-F.Raw n) room
+
+pub fn_fits : (f : FnName) (room : ℕ) → value_fits (value.Fn f) room ≡ true
+fn_fits f room = ap (λ v. value_fits v room) (sym (value.rolls-Fn f)) ∙ value_roll (Value-F.Fn f) room
+
+pub global_fits : (g : GlobalName) (n : ℕ) (room : ℕ) → value_fits (value.Global g n) room ≡ true
+global_fits g n room = ap (λ v. value_fits v room) (sym (value.rolls-Global g n)) ∙ value_roll (Value-F.Global g n) room
 
 pub tuple_value_fits : (t : Ty) (vs : List Value) (room : ℕ) → value_fits (value.Tuple t vs) room ≡ inside (λ r. type_fits t r && list_all (λ v. value_fits v r) vs) room
 tuple_value_fits t vs room = ap (λ v. value_fits v room) (sym (value.rolls-Tuple t vs)) ∙ value_roll (Value-F.Tuple t vs) room

@@ -1,10 +1,12 @@
 -- The words of tokens from a place on.
-use Rattle.std.proofs.Common.{◌≡◌, ℕ, zero, suc, ◌+◌, ◌-◌, ◌≤◌, ◌<◌, List, [], ◌∷◌, map, length, drop, Some, None, slice_get, refl, ap, sym, ◌∙◌, arith}
-use Rattle.std.proofs.lemmas.List.{length-map, drop_all}
+use Rattle.std.proofs.Common.{◌≡◌, ℕ, zero, suc, ◌+◌, ◌-◌, ◌≤◌, List, [], ◌∷◌, ◌++◌, map, length, drop, Option, Some, None, slice_get, refl, ap, sym, ◌∙◌, subst, arith}
+use Rattle.std.specs.List.{AllByRecursion}
+use Rattle.std.proofs.lemmas.List.{append_assoc, drop_all, length-append, length-map}
 use Rattle.mr_ast.specs.Forms.{Word}
 use Rattle.mr_ast.specs.Words.{Texts}
 use Rattle.mr_lex.specs.Tokens.{Lexeme}
-use Rattle.mr_parse.specs.Places.{numbered, words_from}
+use Rattle.mr_parse.specs.Places.{numbered, words_from, words_of}
+use Rattle.mr_parse.specs.Denotes.{text_at}
 
 -- the first of the words
 pub words_here : (lexemes : List Lexeme) (k : ℕ) (l : Lexeme) → Some l ≡ slice_get lexemes k
@@ -63,3 +65,26 @@ words_next lexemes k w rest e = at k lexemes k w rest e
 -- there are none behind the last
 pub none_past : (lexemes : List Lexeme) (k : ℕ) (w : Word) (rest : List Word) → length lexemes ≤ k → words_from k lexemes ≡ w ∷ rest → ⊥
 none_past lexemes k w rest le e = let none = words_past lexemes k le in cc
+
+-- the word's text is the one at its place
+abbrev pub StandsIn : List Word → Word → Type 0
+StandsIn words w = text_at words w.place ≡ w.text
+
+get_behind : {A : Type 0} (front : List A) (x : A) (back : List A) (k : ℕ) → length front ≡ k → slice_get (front ++ x ∷ back) k ≡ Some x
+get_behind [] x back zero e = refl
+get_behind [] x back (suc k) e = absurd (cc)
+get_behind (y ∷ front) x back zero e = absurd (cc)
+get_behind (y ∷ front) x back (suc k) e = get_behind front x back k (omega (arith, e))
+
+numbered_stand : (front : List Word) (texts : Texts) (k : ℕ) → length front ≡ k → AllByRecursion (StandsIn (front ++ numbered k texts)) (numbered k texts)
+numbered_stand front [] k e = tt
+numbered_stand front (t ∷ texts) k e = (
+  ap (λ (found : Option Word). elim found as (λ _. List ℕ) [ Some w ↦ w.text | None ↦ [] ]) (get_behind front (record { text = t; place = k }) (numbered (suc k) texts) k e),
+  subst (λ words. AllByRecursion (StandsIn words) (numbered (suc k) texts)) (append_assoc front (record { text = t; place = k } ∷ []) (numbered (suc k) texts))
+      (numbered_stand (front ++ record { text = t; place = k } ∷ []) texts (suc k) (length-append front (record { text = t; place = k } ∷ []) ∙ omega (arith, e))),
+)
+
+-- each word of a text stands at its place
+pub words_stand : (lexemes : List Lexeme) → AllByRecursion (StandsIn (words_of lexemes)) (words_of lexemes)
+unfolding words_from
+words_stand lexemes = numbered_stand [] (map (λ l. l.text) (drop 0 lexemes)) 0 refl

@@ -1,5 +1,6 @@
 -- Rows of marks: their words, and that none of them breaks a limit.
-use Rattle.std.proofs.Common.{◌≡◌, List, [], ◌∷◌, ◌++◌}
+use Rattle.std.proofs.Common.{◌≡◌, List, [], ◌∷◌, ◌++◌, None}
+use Rattle.std.specs.List.{AllByRecursion}
 use Rattle.std.proofs.lemmas.List.{map-append, append_assoc}
 use Rattle.mr_ast.specs.Forms.{Word, Mark}
 use Rattle.mr_parse.specs.Denotes.{IsFine, words_in}
@@ -17,7 +18,10 @@ pub fine-append : (front back : List Mark) → IsFine front → IsFine back → 
 fine-append [] back a b = b
 fine-append (m ∷ front) back a b = (a.0, fine-append front back a.1 b)
 
--- and the parts of one that breaks none
+-- the parts of a list, and of a row that breaks no limit
+pub all_parts : {A : Type 0} (P : A → Type 0) (front back : List A) → AllByRecursion P (front ++ back) → AllByRecursion P front × AllByRecursion P back
+all_parts P [] back all = (tt, all)
+all_parts P (x ∷ front) back all = let rest = all_parts P front back all.1 in ((all.0, rest.0), rest.1)
+
 pub fine_parts : (front back : List Mark) → IsFine (front ++ back) → IsFine front × IsFine back
-fine_parts [] back fine = (tt, fine)
-fine_parts (m ∷ front) back fine = let rest = fine_parts front back fine.1 in ((fine.0, rest.0), rest.1)
+fine_parts front back fine = all_parts (λ m. m.flaw ≡ None) front back fine

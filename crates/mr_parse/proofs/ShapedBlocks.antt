@@ -1,5 +1,5 @@
 -- The statements, terminators and blocks that a row without a broken limit writes are shaped.
-use Rattle.std.proofs.Common.{◌≡◌, ℕ, suc, ◌+◌, ◌≤◌, ◌<◌, Bool, true, false, nat_le, List, [], ◌∷◌, length, Option, None, Some, refl, ap, arith}
+use Rattle.std.proofs.Common.{◌≡◌, ℕ, suc, ◌+◌, ◌-◌, ◌≤◌, ◌<◌, Bool, true, false, nat_le, List, [], ◌∷◌, length, Option, None, Some, refl, ap, arith}
 use Rattle.std.specs.Prelude.{option_map}
 use Rattle.std.specs.List.{AllByRecursion}
 use Rattle.std.proofs.lemmas.List.Sums.{AllPass-from_list_all}
@@ -44,22 +44,22 @@ stmt_fine over w i e = go over (looked_up stmt_words w.text) e
     go true (Some s) e = let clash = ap (λ p. p.1) (some_same e) in absurd (cc)
     go false (Some s) e = refl
 
-ensures_switch_case : {height : ℕ} {part : Parts} (d : Definitions) (k : ℕ) → Ensures height part (scope_at d k) switch_case_form (λ c. is_shaped_target (named_at d k) c ≡ true)
+ensures_switch_case : {height room : ℕ} {part : Parts} (d : Definitions) (k : ℕ) → Ensures height room part (scope_at d k) switch_case_form (λ c. is_shaped_target (named_at d k) c ≡ true)
 unfolding switch_case_form
 ensures_switch_case d k = ensures_also (ensures_pair (ensures_before ensures_num) (ensures_before (ensures_block_use d k))) (λ c p. both p.0 p.1)
 
-module _ {height : ℕ} (d : Definitions) (k : ℕ) where
-  pub ensures_value : Ensures height (SpelledPart height) (scope_at d k) (Part TheValue) (λ v. is_shaped_value (named_at d k) v ≡ true)
-  ensures_value = ensures_value_part d k (values_shaped d k height)
+module _ {height room : ℕ} (d : Definitions) (k : ℕ) where
+  pub ensures_value : Ensures height room (SpelledPart height) (scope_at d k) (Part TheValue) (λ v. is_shaped_value (named_at d k) v ≡ true)
+  ensures_value = ensures_value_part d k (values_shaped d k height room)
 
-  ensures_place_once : (over : Bool) → Ensures height (SpelledPart height) (scope_at d k) (Part (ThePlace over)) (λ p. (over ≡ false) × (is_shaped_place (named_at d k) p ≡ true))
-  ensures_place_once over = ensures_place_part d k (places_shaped d k height over)
+  ensures_place_once : (over : Bool) → Ensures height room (SpelledPart height) (scope_at d k) (Part (ThePlace over)) (λ p. (over ≡ false) × (is_shaped_place (named_at d k) p ≡ true))
+  ensures_place_once over = ensures_place_part d k (places_shaped d k height room over)
 
-  pub ensures_place : Ensures height (SpelledPart height) (scope_at d k) (Part (ThePlace false)) (λ p. is_shaped_place (named_at d k) p ≡ true)
+  pub ensures_place : Ensures height room (SpelledPart height) (scope_at d k) (Part (ThePlace false)) (λ p. is_shaped_place (named_at d k) p ≡ true)
   ensures_place = ensures_also (ensures_place_once false) (λ p shaped. shaped.1)
 
   -- statements, of which none is one too many
-  ensures_stmt_behind : (i : StmtWord) → Ensures height (SpelledPart height) (scope_at d k) (stmt_behind i) (λ s. is_shaped_stmt (named_at d k) s ≡ true)
+  ensures_stmt_behind : (i : StmtWord) → Ensures height room (SpelledPart height) (scope_at d k) (stmt_behind i) (λ s. is_shaped_stmt (named_at d k) s ≡ true)
   unfolding disc_form
   ensures_stmt_behind stmt_word.Live = ensures_giving (ensures_local_use d k) (λ x p. p)
   ensures_stmt_behind stmt_word.Dead = ensures_giving (ensures_local_use d k) (λ x p. p)
@@ -68,7 +68,7 @@ module _ {height : ℕ} (d : Definitions) (k : ℕ) where
   ensures_stmt_behind stmt_word.Deinit = ensures_giving ensures_place (λ x p. p)
   ensures_stmt_behind stmt_word.Validate = ensures_giving ensures_place (λ x p. p)
 
-  ensures_stmt : (j : ℕ) → Ensures height (SpelledPart height) (scope_at d k) (stmt_form j) (λ s. (j < 4096) × (is_shaped_stmt (named_at d k) s ≡ true))
+  ensures_stmt : (j : ℕ) → Ensures height room (SpelledPart height) (scope_at d k) (stmt_form j) (λ s. (j < 4096) × (is_shaped_stmt (named_at d k) s ≡ true))
   unfolding stmt_form assign_form
   ensures_stmt j =
       ensures_before (ensures_either
@@ -76,14 +76,14 @@ module _ {height : ℕ} (d : Definitions) (k : ℕ) where
       (ensures_then (ensures_place_once (nat_le 4096 j)) (ensures_behind ensures_value) (λ x v p q. (below j 4096 p.0, both p.1 q))))
 
   -- terminators
-  ensures_values : Ensures height (SpelledPart height) (scope_at d k) (listed Round values_form) (AllByRecursion (λ v. is_shaped_value (named_at d k) v ≡ true))
+  ensures_values : Ensures height room (SpelledPart height) (scope_at d k) (listed Round values_form) (AllByRecursion (λ v. is_shaped_value (named_at d k) v ≡ true))
   unfolding values_form
-  ensures_values = ensures_listed (λ lower e. ensures_separated (ensures_value_part d k (values_shaped d k lower)))
+  ensures_values = ensures_listed (λ lower e. ensures_separated (ensures_value_part d k (values_shaped d k lower (room - 1))))
 
-  ensures_optional_block : {text : List ℕ} → Ensures height (SpelledPart height) (scope_at d k) (optional text block_use) (λ b. is_optional_block (named_at d k) b ≡ true)
+  ensures_optional_block : {text : List ℕ} → Ensures height room (SpelledPart height) (scope_at d k) (optional text block_use) (λ b. is_optional_block (named_at d k) b ≡ true)
   ensures_optional_block = ensures_optional (ensures_block_use d k) (λ b p. p) refl
 
-  ensures_term_behind : (i : TermWord) → Ensures height (SpelledPart height) (scope_at d k) (term_behind i) (λ t. is_shaped_term (named_at d k) t ≡ true)
+  ensures_term_behind : (i : TermWord) → Ensures height room (SpelledPart height) (scope_at d k) (term_behind i) (λ t. is_shaped_term (named_at d k) t ≡ true)
   unfolding switch_form switch_cases_form unwind_form call_form do_form
   ensures_term_behind term_word.Goto = ensures_giving (ensures_block_use d k) (λ b p. p)
   ensures_term_behind term_word.Switch =
@@ -105,17 +105,17 @@ module _ {height : ℕ} (d : Definitions) (k : ℕ) where
       (ensures_pair (ensures_optional {Q = λ x. is_optional_place (named_at d k) x ≡ true} ensures_place (λ x p. p) refl) (ensures_behind (ensures_block_use d k)))
       (λ head rest p q. both (all_pass (is_shaped_value (named_at d k)) head.1 p.1) (both q.0 q.1))
 
-  pub ensures_term : Ensures height (SpelledPart height) (scope_at d k) term_form (λ t. is_shaped_term (named_at d k) t ≡ true)
+  pub ensures_term : Ensures height room (SpelledPart height) (scope_at d k) term_form (λ t. is_shaped_term (named_at d k) t ≡ true)
   unfolding term_form
   ensures_term = ensures_before (ensures_cases (λ w i e. ensures_term_behind i))
 
   -- blocks, of which none is one too many
-  ensures_stmts : Ensures height (SpelledPart height) (scope_at d k) stmts_form (EachFrom (λ j s. (j < 4096) × (is_shaped_stmt (named_at d k) s ≡ true)) 0)
+  ensures_stmts : Ensures height room (SpelledPart height) (scope_at d k) stmts_form (EachFrom (λ j s. (j < 4096) × (is_shaped_stmt (named_at d k) s ≡ true)) 0)
   unfolding stmts_form
   ensures_stmts = ensures_many ensures_stmt
 
   pub ensures_block : (p : Program) → length p.names ≡ length (names_of d) → (j : ℕ)
-      → Ensures height (SpelledPart height) (scope_at d k) (block_form j) (λ b. (j < 1024) × ((f : Function) → named_in p f ≡ named_at d k → ShapedBlock p f b))
+      → Ensures height room (SpelledPart height) (scope_at d k) (block_form j) (λ b. (j < 1024) × ((f : Function) → named_in p f ≡ named_at d k → ShapedBlock p f b))
   unfolding block_form
   ensures_block p names j =
       ensures_then (ensures_pair (ensures_block_name d k j) (ensures_token {Q = λ i. Unit {0}} (λ w i e. tt))) (ensures_pair (ensures_behind ensures_stmts) ensures_term)

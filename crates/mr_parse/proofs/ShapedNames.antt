@@ -7,7 +7,7 @@ use Rattle.mr_ast.specs.declared.words.Role.TheVariants.{DefinesGlobal, DefinesF
 use Rattle.mr_ast.specs.declared.program.Target.{Target}
 use Rattle.mr_ast.specs.declared.program.Target.TheVariants as target
 use Rattle.mr_ast.specs.Forms.{Word}
-use Rattle.mr_ast.specs.Scope.{Definitions, item_names, names_of, number_in, number_of_name, target_of}
+use Rattle.mr_ast.specs.Scope.{Definitions, Scope, item_names, name_number, names_of, number_in, number_of_name, target_of}
 use Rattle.mr_ast.specs.Shaped.{is_block, is_local}
 use Rattle.mr_ast.specs.ShapedValues.{Named}
 use Rattle.std.proofs.lemmas.List.{length-append, length-map}
@@ -27,16 +27,17 @@ pub below : (m n : ℕ) → nat_le n m ≡ false → m < n
 below m n e = grind (arith, nat_tests)
 
 -- a name that breaks no limit: it isn't one too many, and what it stands for is no fault
-name_fine : (d : Definitions) (k : ℕ) (over : Bool) (role : Role) (w : Word) (n : ℕ) → judged_name over role (scope_at d k) w ≡ Some (n, None)
-    → (over ≡ false) × (number_of_name d k role w.text ≡ (n, None))
+pub name_fine : (over : Bool) (role : Role) (scope : Scope) (w : Word) (n : ℕ) → judged_name over role scope w ≡ Some (n, None)
+    → (over ≡ false) × (is_name w.text ≡ true) × (name_number scope role w ≡ (n, None))
 unfolding judged_name
-name_fine d k over role w n e = go (is_name w.text) over e
+name_fine over role scope w n e = go (is_name w.text) over (name_number scope role w) refl e
   where
-    go : (name many : Bool) → ◌≡◌ {A = Option (ℕ × Option ℕ)} (if name then Some ((number_of_name d k role w.text).0, if many then Some 8 else (number_of_name d k role w.text).1) else None) (Some (n, None))
-        → (many ≡ false) × (number_of_name d k role w.text ≡ (n, None))
-    go false many e = absurd (cc)
-    go true true e = let clash = ap (λ p. p.1) (some_same e) in absurd (cc)
-    go true false e = (refl, some_same e)
+    go : (name many : Bool) (found : ℕ × Option ℕ) → is_name w.text ≡ name
+        → ◌≡◌ {A = Option (ℕ × Option ℕ)} (if name then Some (found.0, if many then Some 8 else found.1) else None) (Some (n, None))
+        → (many ≡ false) × (is_name w.text ≡ true) × (found ≡ (n, None))
+    go false many found is e = absurd (cc)
+    go true true found is e = let clash = ap (λ p. p.1) (some_same e) in absurd (cc)
+    go true false found is e = (refl, is, some_same e)
 
 -- a target is one of the text's globals or functions
 abbrev pub IsWithin : Named → Target → Type 0
@@ -59,25 +60,25 @@ target_fine d k (Some n) t within e = rw (sym (ap (λ p. p.0) e)) (go (nat_lt n 
 items-length : (d : Definitions) → length (item_names d) ≡ length d.globals + length d.functions
 items-length d = length-append d.globals (map (λ f. f.name) d.functions) ∙ ap (λ n. length d.globals + n) (length-map d.functions (λ f. f.name))
 
-module _ {height : ℕ} {part : Parts} (d : Definitions) (k : ℕ) where
+module _ {height room : ℕ} {part : Parts} (d : Definitions) (k : ℕ) where
   -- the name's number is what the role says, and the name is not one too many
   pub ensures_name : {over : Bool} (role : Role) {Q : ℕ → Type 0} → ((text : List ℕ) (n : ℕ) → number_of_name d k role text ≡ (n, None) → Q n)
-      → Ensures height part (scope_at d k) (name_form over role) (λ n. (over ≡ false) × Q n)
-  ensures_name {over} role law = ensures_cases (λ w n e. (let fine = name_fine d k over role w n e in ensures_empty (fine.0, law w.text n fine.1)))
+      → Ensures height room part (scope_at d k) (name_form over role) (λ n. (over ≡ false) × Q n)
+  ensures_name {over} role law = ensures_cases (λ w n e. (let fine = name_fine over role (scope_at d k) w n e in ensures_empty (fine.0, law w.text n fine.2)))
 
-  pub ensures_local_use : Ensures height part (scope_at d k) local_use (λ x. is_local (named_at d k) x ≡ true)
+  pub ensures_local_use : Ensures height room part (scope_at d k) local_use (λ x. is_local (named_at d k) x ≡ true)
   ensures_local_use = ensures_giving (ensures_name UsesLocal (λ text n e. use_local d k n text e)) (λ n p. less_test n (named_at d k).locals p.1)
 
-  pub ensures_block_use : Ensures height part (scope_at d k) block_use (λ b. is_block (named_at d k) b ≡ true)
+  pub ensures_block_use : Ensures height room part (scope_at d k) block_use (λ b. is_block (named_at d k) b ≡ true)
   ensures_block_use = ensures_giving (ensures_name UsesBlock (λ text n e. use_block d k n text e)) (λ n p. less_test n (named_at d k).blocks p.1)
 
-  pub ensures_function_use : Ensures height part (scope_at d k) function_use (λ f. nat_lt f.0 (named_at d k).functions ≡ true)
+  pub ensures_function_use : Ensures height room part (scope_at d k) function_use (λ f. nat_lt f.0 (named_at d k).functions ≡ true)
   ensures_function_use = ensures_giving (ensures_name UsesFunction (λ text n e. use_function d k n text e)) (λ n p. less_test n (named_at d k).functions p.1)
 
-  pub ensures_global_use : Ensures height part (scope_at d k) global_use (λ g. nat_lt g.0 (named_at d k).globals ≡ true)
+  pub ensures_global_use : Ensures height room part (scope_at d k) global_use (λ g. nat_lt g.0 (named_at d k).globals ≡ true)
   ensures_global_use = ensures_giving (ensures_name UsesGlobal (λ text n e. use_global d k n text e)) (λ n p. less_test n (named_at d k).globals p.1)
 
-  pub ensures_target_use : Ensures height part (scope_at d k) target_use (IsWithin (named_at d k))
+  pub ensures_target_use : Ensures height room part (scope_at d k) target_use (IsWithin (named_at d k))
   unfolding judged_target
   ensures_target_use = ensures_cases (λ w t e. ensures_empty (go w t (is_name w.text) e))
     where
@@ -88,14 +89,14 @@ module _ {height : ℕ} {part : Parts} (d : Definitions) (k : ℕ) where
           (λ n found. (let within = number_within (item_names d) w.text n found in omega (arith, items-length d))) (some_same e)
 
   -- names that are defined
-  pub ensures_global_name : {over : Bool} (j : ℕ) → Ensures height part (scope_at d k) (name_form over (DefinesGlobal j)) (λ n. (over ≡ false) × (n < length (names_of d)))
+  pub ensures_global_name : {over : Bool} (j : ℕ) → Ensures height room part (scope_at d k) (name_form over (DefinesGlobal j)) (λ n. (over ≡ false) × (n < length (names_of d)))
   ensures_global_name j = ensures_name (DefinesGlobal j) (λ text n e. define_global d k j n text e)
 
-  pub ensures_function_name : {over : Bool} (j : ℕ) → Ensures height part (scope_at d k) (name_form over (DefinesFunction j)) (λ n. (over ≡ false) × (n < length (names_of d)))
+  pub ensures_function_name : {over : Bool} (j : ℕ) → Ensures height room part (scope_at d k) (name_form over (DefinesFunction j)) (λ n. (over ≡ false) × (n < length (names_of d)))
   ensures_function_name j = ensures_name (DefinesFunction j) (λ text n e. define_function d k j n text e)
 
-  pub ensures_local_name : {over : Bool} (j : ℕ) → Ensures height part (scope_at d k) (name_form over (DefinesLocal j)) (λ n. (over ≡ false) × (n < length (names_of d)))
+  pub ensures_local_name : {over : Bool} (j : ℕ) → Ensures height room part (scope_at d k) (name_form over (DefinesLocal j)) (λ n. (over ≡ false) × (n < length (names_of d)))
   ensures_local_name j = ensures_name (DefinesLocal j) (λ text n e. define_local d k j n text e)
 
-  pub ensures_block_name : {over : Bool} (j : ℕ) → Ensures height part (scope_at d k) (name_form over (DefinesBlock j)) (λ n. (over ≡ false) × (n < length (names_of d)))
+  pub ensures_block_name : {over : Bool} (j : ℕ) → Ensures height room part (scope_at d k) (name_form over (DefinesBlock j)) (λ n. (over ≡ false) × (n < length (names_of d)))
   ensures_block_name j = ensures_name (DefinesBlock j) (λ text n e. define_block d k j n text e)

@@ -1,5 +1,5 @@
 -- The numbers that a row without a broken limit writes can be written.
-use Rattle.std.proofs.Common.{◌≡◌, ℕ, ◌^◌, ◌==◌, ◌≤◌, Bool, true, false, not, ◌&&◌, if◌then◌else◌, List, [], ◌∷◌, Option, None, Some, refl, ap, sym, ◌∙◌, arith}
+use Rattle.std.proofs.Common.{◌≡◌, ℕ, ◌^◌, ◌==◌, ◌≤◌, Bool, true, false, not, ◌&&◌, if◌then◌else◌, bytes_eq, List, [], ◌∷◌, Option, None, Some, refl, ap, sym, ◌∙◌, arith}
 use Rattle.std.specs.Prelude.{option_map, nat_lt, nat_le}
 use Rattle.std.specs.List.{AllByRecursion, list_all}
 use Rattle.std.proofs.lemmas.Bool.{and_parts}
@@ -9,8 +9,8 @@ use Rattle.mr_ast.specs.Scope.{Scope}
 use Rattle.mr_ast.specs.Shaped.{IsRepeat}
 use Rattle.mr_ast.specs.ShapedTypes.{fits_u64, is_shaped_num}
 use Rattle.mr_ast.specs.Words.{is_number, value_of}
-use Rattle.mr_ast.specs.Writing.{judged_any, judged_number, judged_positive, judged_repeat, judged_u64, limit, num_form, token, u64_form}
-use Rattle.mr_parse.proofs.EnsureLaws.{Ensures, Parts, ensures_behind, ensures_either, ensures_giving, ensures_token}
+use Rattle.mr_ast.specs.Writing.{judged_any, judged_number, judged_positive, judged_repeat, judged_u64, limit, limited_word, num_form, token, u64_form}
+use Rattle.mr_parse.proofs.EnsureLaws.{Ensures, Parts, ensures_behind, ensures_cases, ensures_either, ensures_empty, ensures_giving, ensures_token}
 
 -- both tests pass
 pub both : {a b : Bool} → a ≡ true → b ≡ true → (a && b) ≡ true
@@ -78,12 +78,12 @@ repeat_shaped n e = let tests = and_parts (nat_lt 0 n) (nat_le n (2 ^ 20)) e in 
 small_value : (judge : ℕ → Option (Option ℕ)) (w : Word) (n : ℕ) → judged_number judge w ≡ Some (n, None) → nat_lt n (2 ^ 128) ≡ true
 small_value judge w n e = let fine = number_fine judge w n e in ap (λ m. nat_lt m (2 ^ 128)) fine.1 ∙ number_small w.text fine.0
 
-module _ {height : ℕ} {part : Parts} {scope : Scope} where
-  pub ensures_u64 : Ensures height part scope u64_form (λ n. fits_u64 n ≡ true)
+module _ {height room : ℕ} {part : Parts} {scope : Scope} where
+  pub ensures_u64 : Ensures height room part scope u64_form (λ n. fits_u64 n ≡ true)
   unfolding judged_u64
   ensures_u64 = ensures_token (λ w n e. not_false (fits_u64 n) (limit_kept 2 (not (fits_u64 n)) (number_fine (λ m. Some (limit 2 (not (nat_lt m (2 ^ 64))))) w n e).2))
 
-  pub ensures_num : Ensures height part scope num_form (λ n. is_shaped_num n ≡ true)
+  pub ensures_num : Ensures height room part scope num_form (λ n. is_shaped_num n ≡ true)
   unfolding judged_any judged_positive
   ensures_num = ensures_either
       (ensures_giving (ensures_behind (ensures_token {Q = λ n. (nat_lt n (2 ^ 128) ≡ true) × ((n == 0) ≡ false)}
@@ -91,7 +91,15 @@ module _ {height : ℕ} {part : Parts} {scope : Scope} where
       (λ n p. minus_shaped n p.0 p.1))
       (ensures_giving (ensures_token {Q = λ n. nat_lt n (2 ^ 128) ≡ true} (λ w n e. small_value (λ m. Some None) w n e)) (λ n p. plus_shaped n p))
 
-  pub ensures_repeat : Ensures height part scope (token judged_repeat) IsRepeat
+  pub ensures_repeat : Ensures height room part scope (token judged_repeat) IsRepeat
   unfolding judged_repeat
   ensures_repeat = ensures_token (λ w n e. repeat_shaped n (second_choice (nat_lt n (2 ^ 64)) (nat_lt 0 n && nat_le n (2 ^ 20))
       (number_fine (λ m. if nat_lt m (2 ^ 64) then (if nat_lt 0 m && nat_le m (2 ^ 20) then Some None else None) else Some (Some 2)) w n e).2))
+
+  -- a word that is not one too many
+  pub ensures_limited : (code : ℕ) (over : Bool) {text : List ℕ} → Ensures height room part scope (limited_word code over text) (λ u. over ≡ false)
+  ensures_limited code over {text} = ensures_cases (λ w i e. ensures_empty (kept (bytes_eq w.text text) i e))
+    where
+      kept : (same : Bool) (i : Unit {0}) → ◌≡◌ {A = Option (Unit {0} × Option ℕ)} (if same then Some (tt, limit code over) else None) (Some (i, None)) → over ≡ false
+      kept true i e = limit_kept code over (ap Some (ap (λ p. p.1) (some_same e)))
+      kept false i e = absurd (cc)

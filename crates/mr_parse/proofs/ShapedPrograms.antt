@@ -61,7 +61,7 @@ each_kept P Q law k (x ∷ xs) each = (law k x each.0, each_kept P Q law (suc k)
 
 module _ (p : Program) (d : Definitions) (names : length p.names ≡ length (names_of d)) (globals : length p.globals ≡ length d.globals) (functions : length p.functions ≡ length d.functions) where
   -- items
-  ensures_repeat_form : {height : ℕ} {part : Parts} (k : ℕ) → Ensures height part (scope_at d k) repeat_form IsRepeat
+  ensures_repeat_form : {height room : ℕ} {part : Parts} (k : ℕ) → Ensures height room part (scope_at d k) repeat_form IsRepeat
   unfolding repeat_form
   ensures_repeat_form k = ensures_either (ensures_behind ensures_repeat) (ensures_empty (record { some = omega arith; bounded = omega arith }))
 
@@ -69,17 +69,17 @@ module _ (p : Program) (d : Definitions) (names : length p.names ≡ length (nam
   target_shaped k (target.Global g) within = omega (arith, globals)
   target_shaped k (target.Function f) within = omega (arith, functions)
 
-  ensures_item : {height : ℕ} {part : Parts} (k : ℕ) → Ensures height part (scope_at d k) item_form (ShapedItem p)
+  ensures_item : {height room : ℕ} {part : Parts} (k : ℕ) → Ensures height room part (scope_at d k) item_form (ShapedItem p)
   unfolding item_form reloc_form
-  ensures_item {height} {part} k = ensures_cases behind
+  ensures_item {height} {room} {part} k = ensures_cases behind
     where
-      behind : (w : Word) (i : ItemWord) → judged_item w ≡ Some (i, None) → Ensures height part (scope_at d k) (item_behind i) (ShapedItem p)
+      behind : (w : Word) (i : ItemWord) → judged_item w ≡ Some (i, None) → Ensures height room part (scope_at d k) (item_behind i) (ShapedItem p)
       behind w (item_word.Byte b) e = ensures_giving (ensures_repeat_form k) (λ n r. (byte_small w b e, r))
       behind w item_word.Uninit e = ensures_giving (ensures_repeat_form k) (λ n r. r)
       behind w item_word.Reloc e = ensures_then (ensures_target_use d k) (ensures_behind ensures_u64) (λ t n within fits. (target_shaped k t within, test_less n (2 ^ 64) fits))
 
   -- globals, of which none is one too many
-  ensures_global : {height : ℕ} {part : Parts} (j : ℕ) → Ensures height part (scope_at d 0) (global_form j) (λ g. (j < 256) × ShapedGlobal p g)
+  ensures_global : {height room : ℕ} {part : Parts} (j : ℕ) → Ensures height room part (scope_at d 0) (global_form j) (λ g. (j < 256) × ShapedGlobal p g)
   unfolding global_form items_form
   ensures_global j =
       ensures_behind (ensures_then (ensures_pair (ensures_global_name d 0 j) (ensures_behind ensures_u64)) (ensures_within (λ lower e. ensures_all (λ i. ensures_item 0)))
@@ -89,13 +89,13 @@ module _ (p : Program) (d : Definitions) (names : length p.names ≡ length (nam
       )))
 
   -- locals, of which none is one too many
-  ensures_local : {height : ℕ} (k j : ℕ) → Ensures height (SpelledPart height) (scope_at d k) (local_form j) (λ l. (j < 256) × ShapedLocal p l)
+  ensures_local : {height room : ℕ} (k j : ℕ) → Ensures height room (SpelledPart height) (scope_at d k) (local_form j) (λ l. (j < 256) × ShapedLocal p l)
   unfolding local_form
-  ensures_local {height} k j =
-      ensures_then (ensures_local_name d k j) (ensures_behind (ensures_type_part (types_shaped height (scope_at d k))))
+  ensures_local {height} {room} k j =
+      ensures_then (ensures_local_name d k j) (ensures_behind (ensures_type_part (types_shaped height room (scope_at d k))))
       (λ name t q shaped. (below j 256 q.0, record { name = omega (arith, q.1, names); ty = shaped }))
 
-  ensures_locals : {height : ℕ} (k : ℕ) → Ensures height (SpelledPart height) (scope_at d k) locals_form (λ ls. (length ls ≤ 256) × All (ShapedLocal p) ls)
+  ensures_locals : {height room : ℕ} (k : ℕ) → Ensures height room (SpelledPart height) (scope_at d k) locals_form (λ ls. (length ls ≤ 256) × All (ShapedLocal p) ls)
   unfolding locals_form
   ensures_locals k =
       ensures_then (ensures_local k 0) (ensures_many (λ j. ensures_behind (ensures_local k (suc j))))
@@ -108,7 +108,7 @@ module _ (p : Program) (d : Definitions) (names : length p.names ≡ length (nam
   abbrev BlocksShaped : ℕ → List Block → Type 0
   BlocksShaped k bs = (0 < length bs) × (length bs ≤ 1024) × ((f : Function) → named_in p f ≡ named_at d k → All (ShapedBlock p f) bs)
 
-  ensures_blocks : {height : ℕ} (k : ℕ) → Ensures height (SpelledPart height) (scope_at d k) blocks_form (BlocksShaped k)
+  ensures_blocks : {height room : ℕ} (k : ℕ) → Ensures height room (SpelledPart height) (scope_at d k) blocks_form (BlocksShaped k)
   unfolding blocks_form
   ensures_blocks k =
       ensures_then (ensures_block d k p names 0) (ensures_many (λ j. ensures_block d k p names (suc j)))
@@ -122,7 +122,7 @@ module _ (p : Program) (d : Definitions) (names : length p.names ≡ length (nam
   same_named : (k : ℕ) (f : Function) → Counted d k f → named_in p f ≡ named_at d k
   same_named k f counted = λ i. record { globals = globals i; functions = functions i; locals = counted.0 i; blocks = counted.1 i }
 
-  ensures_body : {height : ℕ} (k : ℕ) → Ensures height (SpelledPart height) (scope_at d k) body_form (λ body. (n : ℕ) → n < length p.names → Counted d k (with_name n body) → ShapedFunction p (with_name n body))
+  ensures_body : {height room : ℕ} (k : ℕ) → Ensures height room (SpelledPart height) (scope_at d k) body_form (λ body. (n : ℕ) → n < length p.names → Counted d k (with_name n body) → ShapedFunction p (with_name n body))
   unfolding body_form args_form
   ensures_body k =
       ensures_then (ensures_pair (ensures_listed (λ lower e. ensures_separated (ensures_local_use d k))) (ensures_behind (ensures_local_use d k)))
@@ -141,13 +141,13 @@ module _ (p : Program) (d : Definitions) (names : length p.names ≡ length (nam
       })
 
   -- functions, of which none is one too many
-  ensures_function : {height : ℕ} (k : ℕ) → Ensures height (SpelledPart height) (scope_at d 0) (function_form k) (λ f. (k < 256) × (Counted d k f → ShapedFunction p f))
+  ensures_function : {height room : ℕ} (k : ℕ) → Ensures height room (SpelledPart height) (scope_at d 0) (function_form k) (λ f. (k < 256) × (Counted d k f → ShapedFunction p f))
   unfolding function_form
   ensures_function k =
       ensures_behind (ensures_then (ensures_function_name d 0 k) (ensures_in (ensures_body k))
       (λ n body q shaped. (below k 256 q.0, λ counted. shaped n (omega (arith, q.1, names)) counted)))
 
-  pub ensures_program : {height : ℕ} → Ensures height (SpelledPart height) (scope_at d 0) program_form (BodyShaped p d)
+  pub ensures_program : {height room : ℕ} → Ensures height room (SpelledPart height) (scope_at d 0) program_form (BodyShaped p d)
   unfolding program_form globals_form functions_form
   ensures_program =
       ensures_behind (ensures_behind (ensures_then (ensures_pair (ensures_many ensures_global) (ensures_many ensures_function)) (ensures_behind (ensures_function_use d 0))

@@ -1,5 +1,5 @@
 -- The places and values that a row without a broken limit writes are shaped.
-use Rattle.std.proofs.Common.{◌≡◌, ℕ, zero, suc, Bool, true, false, nat_le, if◌then◌else◌, bytes_eq, List, [], ◌∷◌, Option, None, Some, refl, ap, ◌∙◌, subst}
+use Rattle.std.proofs.Common.{◌≡◌, ℕ, zero, suc, ◌-◌, Bool, true, false, nat_le, List, [], ◌∷◌, ◌∙◌, subst}
 use Rattle.std.specs.List.{AllByRecursion, fold}
 use Rattle.mr_ast.specs.declared.expr.Place.{Place}
 use Rattle.mr_ast.specs.declared.words.ValueWord.{ValueWord}
@@ -9,13 +9,13 @@ use Rattle.mr_ast.specs.Scope.{Definitions}
 use Rattle.mr_ast.specs.ShapedTypes.{fits_u64, is_shaped_num, is_shaped_type}
 use Rattle.mr_ast.specs.ShapedValues.{Named, is_shaped_place, is_shaped_value}
 use Rattle.mr_ast.specs.declared.words.Role.TheVariants.{UsesLocal}
-use Rattle.mr_ast.specs.Writing.{ThePlace, TheType, TheValue, limit, limited_word}
+use Rattle.mr_ast.specs.Writing.{ThePlace, TheType, TheValue}
 use Rattle.mr_ast.specs.ValueGrammar.{ByField, ByIndex, ByVariant, Postfix, addr_of_form, base_form, binary_form, cast_form, deref_form, global_value_form, more_values_form, place_from, postfix_form, postfixes_form, transmute_form, tuple_value_form, union_value_form, value_behind, value_form, variant_value_form, with_postfix}
 use Rattle.mr_ast.specs.Spelled.{SpelledPart, form_of}
 use Rattle.mr_ast.proofs.ShapedLaws.{shaped_addr_of, shaped_binary, shaped_cast, shaped_deref, shaped_disc, shaped_false, shaped_field_place, shaped_fn, shaped_global, shaped_index_place, shaped_int, shaped_load, shaped_local_place, shaped_raw, shaped_transmute, shaped_true, shaped_tuple, shaped_unary, shaped_union, shaped_variant, shaped_variant_place}
 use Rattle.mr_parse.proofs.EnsureLaws.{Ensures, Parts, ensures_all, ensures_also, ensures_before, ensures_behind, ensures_cases, ensures_either, ensures_empty, ensures_giving, ensures_pair, ensures_part, ensures_then, ensures_within, no_parts}
 use Rattle.mr_parse.proofs.ShapedNames.{ensures_function_use, ensures_global_use, ensures_name, less_test}
-use Rattle.mr_parse.proofs.ShapedNumbers.{all_pass, both, ensures_num, ensures_u64, some_same}
+use Rattle.mr_parse.proofs.ShapedNumbers.{all_pass, both, ensures_limited, ensures_num, ensures_u64}
 use Rattle.mr_parse.proofs.ShapedTypes.{ensures_int, ensures_type_part, types_shaped}
 use Rattle.mr_parse.proofs.ScopeLaws.{named_at, scope_at, use_local}
 
@@ -35,67 +35,55 @@ postfixes_kept named [] p shaped all = shaped
 postfixes_kept named (x ∷ xs) p shaped all = postfixes_kept named xs (with_postfix p x) (postfix_kept named p x shaped all.0) all.1
 
 module _ (d : Definitions) (k : ℕ) where
-  abbrev pub PlacesShaped : ℕ → Bool → Type 0
-  PlacesShaped height over = Ensures height no_parts (scope_at d k) (form_of (ThePlace over)) (λ p. (over ≡ false) × (is_shaped_place (named_at d k) p ≡ true))
+  abbrev pub PlacesShaped : ℕ → ℕ → Bool → Type 0
+  PlacesShaped height room over = Ensures height room no_parts (scope_at d k) (form_of (ThePlace over)) (λ p. (over ≡ false) × (is_shaped_place (named_at d k) p ≡ true))
 
-  abbrev pub ValuesShaped : ℕ → Type 0
-  ValuesShaped height = Ensures height no_parts (scope_at d k) (form_of TheValue) (λ v. is_shaped_value (named_at d k) v ≡ true)
+  abbrev pub ValuesShaped : ℕ → ℕ → Type 0
+  ValuesShaped height room = Ensures height room no_parts (scope_at d k) (form_of TheValue) (λ v. is_shaped_value (named_at d k) v ≡ true)
 
   -- a part that is a place, or a value
-  pub ensures_place_part : {height : ℕ} {over : Bool} → PlacesShaped height over → Ensures height (SpelledPart height) (scope_at d k) (Part (ThePlace over)) (λ p. (over ≡ false) × (is_shaped_place (named_at d k) p ≡ true))
+  pub ensures_place_part : {height room : ℕ} {over : Bool} → PlacesShaped height room over → Ensures height room (SpelledPart height) (scope_at d k) (Part (ThePlace over)) (λ p. (over ≡ false) × (is_shaped_place (named_at d k) p ≡ true))
   ensures_place_part {over} places = ensures_part {kind = ThePlace over} places
 
-  pub ensures_value_part : {height : ℕ} → ValuesShaped height → Ensures height (SpelledPart height) (scope_at d k) (Part TheValue) (λ v. is_shaped_value (named_at d k) v ≡ true)
+  pub ensures_value_part : {height room : ℕ} → ValuesShaped height room → Ensures height room (SpelledPart height) (scope_at d k) (Part TheValue) (λ v. is_shaped_value (named_at d k) v ≡ true)
   ensures_value_part values = ensures_part {kind = TheValue} values
 
-  -- a word that is not one too many
-  ensures_limited : {height : ℕ} {part : Parts} (code : ℕ) (over : Bool) {text : List ℕ} → Ensures height part (scope_at d k) (limited_word code over text) (λ u. over ≡ false)
-  ensures_limited code over {text} = ensures_cases (λ w i e. ensures_empty (limit_none code over (taken (bytes_eq w.text text) i e)))
-    where
-      taken : (same : Bool) (i : Unit {0}) → ◌≡◌ {A = Option (Unit {0} × Option ℕ)} (if same then Some (tt, limit code over) else None) (Some (i, None)) → limit code over ≡ None
-      taken true i e = ap (λ p. p.1) (some_same e)
-      taken false i e = absurd (cc)
-
-      limit_none : (c : ℕ) (broken : Bool) → limit c broken ≡ None → broken ≡ false
-      limit_none c true e = absurd (cc)
-      limit_none c false e = refl
-
   -- where places and values that stand in brackets are shaped
-  module _ {height : ℕ} (values : (lower : ℕ) → height ≡ suc lower → ValuesShaped lower) where
-    ensures_postfix : {part : Parts} (j : ℕ) → Ensures height part (scope_at d k) (postfix_form j) (ShapedPostfix (named_at d k))
+  module _ {height room : ℕ} (values : (lower : ℕ) → height ≡ suc lower → ValuesShaped lower (room - 1)) where
+    ensures_postfix : {part : Parts} (j : ℕ) → Ensures height room part (scope_at d k) (postfix_form j) (ShapedPostfix (named_at d k))
     unfolding postfix_form
     ensures_postfix j =
         ensures_either (ensures_giving (ensures_within (λ lower e. ensures_value_part (values lower e))) (λ v p. p))
         (ensures_either (ensures_then (ensures_limited 7 (nat_le 32 j)) ensures_u64 (λ u n p q. q)) (ensures_then (ensures_limited 7 (nat_le 32 j)) ensures_num (λ u n p q. q)))
 
-    ensures_base : {part : Parts} (over : Bool) → Ensures height part (scope_at d k) (base_form over) (λ p. (over ≡ false) × (is_shaped_place (named_at d k) p ≡ true))
+    ensures_base : {part : Parts} (over : Bool) → Ensures height room part (scope_at d k) (base_form over) (λ p. (over ≡ false) × (is_shaped_place (named_at d k) p ≡ true))
     unfolding base_form deref_form
     ensures_base over =
         ensures_either
         (ensures_then (ensures_limited 8 over)
-        (ensures_within (λ lower e. ensures_pair (ensures_before (ensures_value_part (values lower e))) (ensures_type_part (types_shaped lower (scope_at d k)))))
+        (ensures_within (λ lower e. ensures_pair (ensures_before (ensures_value_part (values lower e))) (ensures_type_part (types_shaped lower (room - 1) (scope_at d k)))))
         (λ u parts p q. (p, shaped_deref (named_at d k) parts.0 parts.1 ∙ both q.0 q.1)))
         (ensures_giving (ensures_name d k UsesLocal (λ text n e. use_local d k n text e)) (λ n p. (p.0, shaped_local_place (named_at d k) (record { 0 = n }) ∙ less_test n (named_at d k).locals p.1)))
 
-    ensures_place : {part : Parts} (over : Bool) → Ensures height part (scope_at d k) (place_from over) (λ p. (over ≡ false) × (is_shaped_place (named_at d k) p ≡ true))
+    ensures_place : {part : Parts} (over : Bool) → Ensures height room part (scope_at d k) (place_from over) (λ p. (over ≡ false) × (is_shaped_place (named_at d k) p ≡ true))
     unfolding place_from postfixes_form
     ensures_place over = ensures_then (ensures_base over) (ensures_all ensures_postfix) (λ p xs shaped all. (shaped.0, postfixes_kept (named_at d k) xs p shaped.1 all))
 
-    ensures_value : {part : Parts} → ((lower : ℕ) → height ≡ suc lower → PlacesShaped lower false)
-        → Ensures height part (scope_at d k) value_form (λ v. is_shaped_value (named_at d k) v ≡ true)
+    ensures_value : {part : Parts} → ((lower : ℕ) → height ≡ suc lower → PlacesShaped lower (room - 1) false)
+        → Ensures height room part (scope_at d k) value_form (λ v. is_shaped_value (named_at d k) v ≡ true)
     unfolding value_form global_value_form tuple_value_form more_values_form union_value_form variant_value_form addr_of_form cast_form transmute_form binary_form
     ensures_value {part} places = ensures_cases (λ w i e. behind i)
       where
-        a_type : (lower : ℕ) → Ensures lower (SpelledPart lower) (scope_at d k) (Part TheType) (λ t. is_shaped_type t ≡ true)
-        a_type lower = ensures_type_part (types_shaped lower (scope_at d k))
+        a_type : (lower : ℕ) → Ensures lower (room - 1) (SpelledPart lower) (scope_at d k) (Part TheType) (λ t. is_shaped_type t ≡ true)
+        a_type lower = ensures_type_part (types_shaped lower (room - 1) (scope_at d k))
 
-        a_value : (lower : ℕ) → height ≡ suc lower → Ensures lower (SpelledPart lower) (scope_at d k) (Part TheValue) (λ v. is_shaped_value (named_at d k) v ≡ true)
+        a_value : (lower : ℕ) → height ≡ suc lower → Ensures lower (room - 1) (SpelledPart lower) (scope_at d k) (Part TheValue) (λ v. is_shaped_value (named_at d k) v ≡ true)
         a_value lower e = ensures_value_part (values lower e)
 
-        a_place : (lower : ℕ) → height ≡ suc lower → Ensures lower (SpelledPart lower) (scope_at d k) (Part (ThePlace false)) (λ p. is_shaped_place (named_at d k) p ≡ true)
+        a_place : (lower : ℕ) → height ≡ suc lower → Ensures lower (room - 1) (SpelledPart lower) (scope_at d k) (Part (ThePlace false)) (λ p. is_shaped_place (named_at d k) p ≡ true)
         a_place lower e = ensures_also (ensures_place_part (places lower e)) (λ p shaped. shaped.1)
 
-        behind : (i : ValueWord) → Ensures height part (scope_at d k) (value_behind i) (λ v. is_shaped_value (named_at d k) v ≡ true)
+        behind : (i : ValueWord) → Ensures height room part (scope_at d k) (value_behind i) (λ v. is_shaped_value (named_at d k) v ≡ true)
         behind (value_word.Int i) = ensures_giving ensures_num (λ n p. shaped_int (named_at d k) i n ∙ p)
         behind value_word.True = ensures_empty (shaped_true (named_at d k))
         behind value_word.False = ensures_empty (shaped_false (named_at d k))
@@ -124,16 +112,16 @@ module _ (d : Definitions) (k : ℕ) where
             ensures_giving (ensures_within (λ lower e. ensures_pair (ensures_before (a_value lower e)) (a_value lower e))) (λ parts p. shaped_binary (named_at d k) o parts.0 parts.1 ∙ both p.0 p.1)
 
   -- Every place and every value is shaped, however deep its brackets nest.
-  both_shaped : (height : ℕ) → ((over : Bool) → PlacesShaped height over) × ValuesShaped height
-  both_shaped zero = ((λ over. ensures_place (λ lower e. absurd (cc)) over), ensures_value (λ lower e. absurd (cc)) (λ lower e. absurd (cc)))
-  both_shaped (suc height) =
-      let below = both_shaped height in
-      let values : (lower : ℕ) → suc height ≡ suc lower → ValuesShaped lower = λ lower e. (let same : height ≡ lower = cc in subst ValuesShaped same below.1) in
-      let places : (lower : ℕ) → suc height ≡ suc lower → PlacesShaped lower false = λ lower e. (let same : height ≡ lower = cc in subst (λ h. PlacesShaped h false) same (below.0 false)) in
+  both_shaped : (height room : ℕ) → ((over : Bool) → PlacesShaped height room over) × ValuesShaped height room
+  both_shaped zero room = ((λ over. ensures_place (λ lower e. absurd (cc)) over), ensures_value (λ lower e. absurd (cc)) (λ lower e. absurd (cc)))
+  both_shaped (suc height) room =
+      let below = both_shaped height (room - 1) in
+      let values : (lower : ℕ) → suc height ≡ suc lower → ValuesShaped lower (room - 1) = λ lower e. (let same : height ≡ lower = cc in subst (λ h. ValuesShaped h (room - 1)) same below.1) in
+      let places : (lower : ℕ) → suc height ≡ suc lower → PlacesShaped lower (room - 1) false = λ lower e. (let same : height ≡ lower = cc in subst (λ h. PlacesShaped h (room - 1) false) same (below.0 false)) in
       ((λ over. ensures_place values over), ensures_value values places)
 
-  pub places_shaped : (height : ℕ) (over : Bool) → PlacesShaped height over
-  places_shaped height over = (both_shaped height).0 over
+  pub places_shaped : (height room : ℕ) (over : Bool) → PlacesShaped height room over
+  places_shaped height room over = (both_shaped height room).0 over
 
-  pub values_shaped : (height : ℕ) → ValuesShaped height
-  values_shaped height = (both_shaped height).1
+  pub values_shaped : (height room : ℕ) → ValuesShaped height room
+  values_shaped height room = (both_shaped height room).1
