@@ -67,7 +67,7 @@ plain n wide = elim (cases_eq n 0) [
 value_of-decimal : (n : ℕ) → n < 2 ^ 128 → value_of (decimal n) ≡ n
 value_of-decimal n small = let wide : n < 10 ^ 64 = omega arith in (digits_of n wide).value
 
-is_number-decimal : (n : ℕ) → n < 2 ^ 128 → is_number (decimal n) ≡ true
+pub is_number-decimal : (n : ℕ) → n < 2 ^ 128 → is_number (decimal n) ≡ true
 unfolding is_number
 is_number-decimal n small =
     let wide : n < 10 ^ 64 = omega arith in

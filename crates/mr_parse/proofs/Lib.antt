@@ -7,6 +7,7 @@ pub mod CanonForms
 pub mod CanonNameLaws
 pub mod CanonNumbers
 pub mod CanonStmts
+pub mod CanonTokens
 pub mod CanonTypes
 pub mod CanonValues
 pub mod CheckedLaws
@@ -18,6 +19,7 @@ pub mod EnsureLaws
 pub mod FlawLaws
 pub mod HeightLaws
 pub mod InsideLaws
+pub mod LexedWords
 pub mod LimitLaws
 pub mod LocalLaws
 pub mod LoopLaws
@@ -54,4 +56,8 @@ pub mod SmallLaws
 pub mod SoundLaws
 pub mod StopLaws
 pub mod TextLaws
+pub mod TokenRows
+pub mod TokenStmts
+pub mod TokenTypes
+pub mod TokenValues
 pub mod WordLaws
