@@ -1,16 +1,16 @@
 -- Rows of words, each of which is a token.
-use Rattle.std.proofs.Common.{◌≡◌, ℕ, ◌<◌, ◌^◌, ◌==◌, Bool, true, false, not, ◌&&◌, ◌||◌, if◌then◌else◌, List, [], ◌∷◌, ◌++◌, length, map, codes, Option, Some, None, inl, inr, refl, sym, subst, arith, bytes_eq}
-use Rattle.std.specs.Prelude.{IsTrue, decimal, flat_map, nat_lt, slice_index}
+use Rattle.std.proofs.Common.{◌≡◌, ℕ, ◌<◌, ◌^◌, ◌==◌, Bool, true, false, not, ◌&&◌, ◌||◌, if◌then◌else◌, List, [], ◌∷◌, ◌++◌, length, map, codes, Some, inl, inr, refl, sym, subst, arith, bytes_eq}
+use Rattle.std.specs.Prelude.{IsTrue, decimal, flat_map, nat_lt}
 use Rattle.std.specs.List.{All, AllByRecursion, list_all, list_any}
 use Rattle.std.specs.Char.{is_ascii_digit}
 use Rattle.std.proofs.lemmas.Bool.{and_from, and_parts, and_right}
 use Rattle.std.proofs.lemmas.Bool.Decides.{nat_tests}
-use Rattle.std.proofs.lemmas.List.Elements.{All-head, All-tail}
+use Rattle.std.proofs.lemmas.List.Elements.{All-head, All-map, All-tail, All-weaker, recursion_from_All}
 use Rattle.std.proofs.lemmas.List.Sums.{AllPass-from_list_all}
 use Rattle.std.proofs.lemmas.Slice.Eq.{bytes_eq-Decides}
 use Rattle.mr_ast.specs.declared.types.IntType.{IntType}
 use Rattle.mr_ast.specs.declared.types.Num.{Num}
-use Rattle.mr_ast.specs.Words.{Table, Texts, begins_name, first_passes, int_words, is_in_name, is_name, is_number, looked_up, reserved, value_of}
+use Rattle.mr_ast.specs.Words.{Table, Texts, begins_name, int_words, is_in_name, is_name, is_number, looked_up, reserved, value_of}
 use Rattle.mr_ast.specs.CanonTypes.{int_word, num_words, with_commas}
 use Rattle.mr_ast.specs.ShapedTypes.{fits_u64, is_shaped_num}
 use Rattle.mr_ast.proofs.CanonTypeLaws.{flat_map-map}
@@ -24,8 +24,7 @@ use Rattle.mr_parse.proofs.CanonNumbers.{is_number-decimal}
 -- ---- tokens
 
 all_pass : (test : ℕ → Bool) (bytes : List ℕ) → list_all test bytes ≡ true → AllByRecursion (λ b. IsTrue (test b)) bytes
-all_pass test [] pass = tt
-all_pass test (b ∷ bytes) pass = let (first, rest) = and_parts (test b) (list_all test bytes) pass in (first, all_pass test bytes rest)
+all_pass test bytes pass = recursion_from_All (λ b. IsTrue (test b)) bytes (AllPass-from_list_all test bytes pass)
 
 -- whether the text is a word
 abbrev is_word_text : List ℕ → Bool
@@ -113,12 +112,12 @@ fixed text is more = token (fixed_token text is) more
 pub alone : (text : List ℕ) → is_fixed text ≡ true → Tokens (text ∷ [])
 alone text is = fixed text is no_tokens
 
+each_append : {X : Type 0} (P : X → Type 0) (xs ys : List X) → AllByRecursion P xs → AllByRecursion P ys → AllByRecursion P (xs ++ ys)
+each_append P [] ys some more = more
+each_append P (x ∷ xs) ys some more = (some.0, each_append P xs ys some.1 more)
+
 pub tokens_append : {front back : Texts} → Tokens front → Tokens back → Tokens (front ++ back)
-tokens_append {front} {back} some more = record { each = go front some.each }
-  where
-    go : (texts : Texts) → AllByRecursion IsTokenText texts → AllByRecursion IsTokenText (texts ++ back)
-    go [] each = more.each
-    go (text ∷ texts) each = (each.0, go texts each.1)
+tokens_append {front} {back} some more = record { each = each_append IsTokenText front back some.each more.each }
 
 pub tokens_either : (b : Bool) {texts others : Texts} → Tokens texts → Tokens others → Tokens (if b then texts else others)
 tokens_either true some others = some
@@ -146,14 +145,12 @@ abbrev pub AllTokens : List Texts → Type 0
 AllTokens rows = AllByRecursion Tokens rows
 
 pub all_tokens_append : (rows others : List Texts) → AllTokens rows → AllTokens others → AllTokens (rows ++ others)
-all_tokens_append [] others all more = more
-all_tokens_append (row ∷ rows) others all more = (all.0, all_tokens_append rows others all.1 more)
+all_tokens_append rows others all more = each_append Tokens rows others all more
 
 module _ {X : Type 0} (P : X → Type 0) where
   -- a row for each thing
   pub rows_for : (words : X → Texts) → ((x : X) → P x → Tokens (words x)) → (xs : List X) → All P xs → AllTokens (map words xs)
-  rows_for words each [] all = tt
-  rows_for words each (x ∷ xs) all = (each x (All-head P x xs all), rows_for words each xs (All-tail P x xs all))
+  rows_for words each xs all = recursion_from_All Tokens (map words xs) (All-map Tokens words xs (All-weaker P (λ x. Tokens (words x)) each xs all))
 
   -- some rows for each thing
   pub all_rows_for : (rows : X → List Texts) → ((x : X) → P x → AllTokens (rows x)) → (xs : List X) → All P xs → AllTokens (flat_map rows xs)

@@ -1,6 +1,5 @@
 -- The canonical words of a shaped type are tokens.
-use Rattle.std.proofs.Common.{◌≡◌, ℕ, ◌==◌, Bool, true, ◌&&◌, List, [], ◌∷◌, ◌++◌, length, map, codes, refl, sym, subst}
-use Rattle.std.specs.Prelude.{flat_map}
+use Rattle.std.proofs.Common.{◌≡◌, ℕ, Bool, true, ◌&&◌, List, [], ◌∷◌, length, map, codes, refl, sym, subst}
 use Rattle.std.specs.List.{list_all}
 use Rattle.std.proofs.lemmas.Bool.{and_parts}
 use Rattle.mr_ast.specs.declared.types.IntType.{IntType}
@@ -18,7 +17,7 @@ use Rattle.mr_ast.specs.ShapedTypes.{fits_u64, is_shaped_case, is_shaped_chunk, 
 use Rattle.mr_ast.specs.CanonTypes.{braced, case_words, chunk_words, field_words, is_unit, shape_words, tag_words, variant_words, words_of_tree, words_of_type}
 use Rattle.mr_ast.proofs.CanonTypeLaws.{words_array, words_bool, words_branch, words_enum, words_fn_ptr, words_int_type, words_invalid, words_known, words_raw_type, words_ref, words_tuple_type, words_union_type}
 use Rattle.mr_ast.proofs.ShapedLaws.{shaped_array, shaped_branch, shaped_enum, shaped_known, shaped_ref, shaped_tuple_type, shaped_union_type}
-use Rattle.mr_ast.proofs.TypeInduction.{AllFields, AllVariants, TypeCases, type_induction}
+use Rattle.mr_ast.proofs.TypeInduction.{AllFields, AllVariants, type_induction}
 use Rattle.mr_parse.proofs.TokenRows.{AllTokens, Tokens, alone, comma_tokens, fixed, flat_tokens, int_token, no_tokens, num_tokens, rows_of, tokens_append, tokens_either, u64_token}
 
 -- ---- pieces of types
@@ -57,8 +56,7 @@ case_rows : (cases : List (Num × Tree)) → AllCases cases → list_all is_shap
 case_rows [] all shaped = tt
 case_rows (c ∷ cases) all shaped =
     let (good, rest) = and_parts (is_shaped_case c) (list_all is_shaped_case cases) shaped in
-    let (number, of) = and_parts (is_shaped_num c.0) (is_shaped_tree c.1) good in
-    (
+    let (number, of) = and_parts (is_shaped_num c.0) (is_shaped_tree c.1) good in (
       tokens_append (tokens_append (num_tokens c.0 number) (fixed (codes "=>") refl (all.0 of))) (alone (codes ",") refl),
       case_rows cases all.1 rest,
     )
