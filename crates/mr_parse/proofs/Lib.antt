@@ -10,6 +10,7 @@ pub mod CanonNameLaws
 pub mod CanonNumbers
 pub mod CanonPrograms
 pub mod CanonStmts
+pub mod CanonTokens
 pub mod CanonTypes
 pub mod CanonValues
 pub mod CheckedLaws
@@ -27,6 +28,7 @@ pub mod FlawLaws
 pub mod HeightLaws
 pub mod InsideLaws
 pub mod KnownNames
+pub mod LexedWords
 pub mod LimitLaws
 pub mod LocalLaws
 pub mod LoopLaws
@@ -66,5 +68,9 @@ pub mod SmallLaws
 pub mod SoundLaws
 pub mod StopLaws
 pub mod TextLaws
+pub mod TokenRows
+pub mod TokenStmts
+pub mod TokenTypes
+pub mod TokenValues
 pub mod TwoScopes
 pub mod WordLaws

@@ -1,10 +1,10 @@
 -- A text whose words are the canonical ones of a program denotes the program.
-use Rattle.std.proofs.Common.{◌≡◌, ℕ, List, map, Ok, refl, ap, sym, ◌∙◌, subst}
+use Rattle.std.proofs.Common.{◌≡◌, ℕ, ◌≤◌, ◌^◌, List, length, map, Ok, refl, ap, sym, ◌∙◌, subst}
 use Rattle.mr_ast.specs.declared.program.Program.{Program}
 use Rattle.mr_ast.specs.Forms.{Word}
 use Rattle.mr_ast.specs.Scope.{names_of}
 use Rattle.mr_ast.specs.Shaped.{Shaped}
-use Rattle.mr_ast.specs.Canon.{canonical_words}
+use Rattle.mr_ast.specs.Canon.{canonical_text, canonical_words}
 use Rattle.mr_lex.specs.Tokens.{Lexeme}
 use Rattle.mr_lex.specs.Reading.{lexed}
 use Rattle.mr_parse.specs.CanonNames.{IsNamed, body_of, definitions_of}
@@ -12,9 +12,13 @@ use Rattle.mr_parse.specs.Denotes.{Denotes, Writes, definitions_in, knowing, unk
 use Rattle.mr_parse.specs.NestingPrograms.{ProgramFits}
 use Rattle.mr_parse.specs.Places.{numbered, words_from, words_of}
 use Rattle.mr_parse.proofs.CanonPrograms.{canonical_words_write}
+use Rattle.mr_parse.proofs.CanonTokens.{canonical_text_is_lexed}
 use Rattle.mr_parse.proofs.DefinedTwice.{written_twice}
+use Rattle.mr_parse.proofs.DenotedFits.{denoted_fits}
+use Rattle.mr_parse.proofs.DenotedNames.{denoted_named}
 use Rattle.mr_parse.proofs.PlaceLaws.{StandsIn, words_stand}
 use Rattle.mr_parse.proofs.SameDefinitions.{same_definitions}
+use Rattle.mr_parse.proofs.ShapedLaws.{denoted_is_shaped}
 
 -- the words of the tokens
 words_are : (lexemes : List Lexeme) → words_of lexemes ≡ numbered 0 (map (λ l. l.text) lexemes)
@@ -41,3 +45,11 @@ canonical_words_denote p shaped named fits text lexemes lexes same =
       named = subst (λ e. Writes (knowing e) words (body_of p)) (sym defined) known;
       program = λ i. record { edition = shaped.edition i; globals = p.globals; functions = p.functions; names = names i; start = p.start };
     }
+
+-- The canonical text of a program that some text denotes denotes the same program.
+pub reads_back : (text : List ℕ) (p : Program) → Denotes text p → length (canonical_text p) ≤ 2 ^ 20 → Denotes (canonical_text p) p
+reads_back text p denotes short =
+    let shaped = denoted_is_shaped text p denotes in
+    let named = denoted_named text p denotes in
+    let (lexemes, lexes, same) = canonical_text_is_lexed p shaped named short in
+    canonical_words_denote p shaped named (denoted_fits text p denotes) (canonical_text p) lexemes lexes same

@@ -12,4 +12,5 @@ pub mod Parsing
 pub mod Places
 pub mod Postfixes
 pub mod Reading
+pub mod TokenTexts
 pub mod Views

@@ -1,5 +1,6 @@
-ghost use Rattle.std.specs.Prelude.{◌≡◌, ◌↔◌, ℕ, List, Ok, Err};
+ghost use Rattle.std.specs.Prelude.{◌≡◌, ◌↔◌, ◌≤◌, ◌^◌, ℕ, List, length, Ok, Err};
 ghost use Rattle.mr_ast.specs.declared.program.Program.{Program};
+ghost use Rattle.mr_ast.specs.Canon.{canonical_text};
 ghost use Rattle.mr_lex.specs.declared.token.TextFault.{TextFault};
 ghost use Rattle.mr_parse.specs.Denotes.{Denotes};
 ghost use Rattle.mr_parse.specs.Faults.{FirstFault};
@@ -15,4 +16,10 @@ pub fn one_program()
 pub fn one_fault()
     ensures fault { (text : List ℕ) (fault : TextFault) → (parsed text ≡ Err fault) ↔ FirstFault text fault }
     ensures one { (text : List ℕ) (f g : TextFault) → FirstFault text f → FirstFault text g → f ≡ g }
+{}
+
+/// A law, and no code: where a text denotes a program whose canonical text has at most 2^20 bytes, that text denotes the same program.
+#[tactic(auto, using(crate::proofs::ReadsBackLaws::reads_back))]
+pub fn reads_back()
+    ensures { (text : List ℕ) (p : Program) → Denotes text p → length (canonical_text p) ≤ 2 ^ 20 → Denotes (canonical_text p) p }
 {}

@@ -10,6 +10,8 @@
 //!   text, with its first fault. Where memory runs out it answers `Memory`. It takes time in proportion to the text.
 //! - [`one_program()`] and [`one_fault()`] are laws without code: a text denotes one program at most and has one first fault at most, and
 //!   `specs/Parsing.antt` computes them.
+//! - [`reads_back()`] is a law too: the canonical text of a program that some text denotes, which `mr_ast/specs/Canon.antt` defines, denotes the
+//!   same program where it has at most 2^20 bytes.
 //!
 //! A fault of a token with which nothing goes on is told by that property: some text of the grammar begins with the words before it, and none goes
 //! on with it.
@@ -34,5 +36,5 @@ mod types;
 mod values;
 
 pub use fault::ParseFault;
-pub use law::{one_fault, one_program};
+pub use law::{one_fault, one_program, reads_back};
 pub use parsing::parse;

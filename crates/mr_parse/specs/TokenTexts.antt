@@ -1,0 +1,7 @@
+-- The texts of tokens.
+use Rattle.std.specs.Prelude.{ℕ, ◌⊎◌, List, []}
+use Rattle.mr_lex.specs.Pieces.{Number, Symbol, Word, IsFine, IsPiece}
+
+-- the text is, by itself, a word, a number that a text may hold, or a symbol
+abbrev pub IsTokenText : List ℕ → Type 0
+IsTokenText text = IsPiece (Word text) [] ⊎ ((IsPiece (Number text) [] × IsFine (Number text)) ⊎ IsPiece (Symbol text) [])
