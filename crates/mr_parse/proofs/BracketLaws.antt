@@ -30,11 +30,11 @@ giving-within (suc room) scope {A} {B} f a ws = at (opened (suc room == 0) Round
     close x (Ok end) = refl
     close x (Err s) = refl
 
-    within_them : (m : Result (A × List Word) Stop) → ((m >>= λ x. expected (closing Round) x.1 >>= λ end. Ok (x.0, end)) >>= λ y. Ok (f y.0, y.1)) ≡ ((m >>= λ x. Ok (f x.0, x.1)) >>= λ x. expected (closing Round) x.1 >>= λ end. Ok (x.0, end))
+    within_them : (m : Result (A × List Word) Stop) → ((m >>= λ x. expected (closing Round) x.1 >>= λ end. given x.0 end) >>= λ y. given (f y.0) y.1) ≡ ((m >>= λ x. given (f x.0) x.1) >>= λ x. expected (closing Round) x.1 >>= λ end. given x.0 end)
     within_them (Ok x) = close x (expected (closing Round) x.1)
     within_them (Err s) = refl
 
-    at : (m : Result (List Word) Stop) → ((m >>= λ rest. read room scope a rest >>= λ x. expected (closing Round) x.1 >>= λ end. Ok (x.0, end)) >>= λ y. Ok (f y.0, y.1)) ≡ (m >>= λ rest. read room scope (giving f a) rest >>= λ x. expected (closing Round) x.1 >>= λ end. Ok (x.0, end))
+    at : (m : Result (List Word) Stop) → ((m >>= λ rest. read room scope a rest >>= λ x. expected (closing Round) x.1 >>= λ end. given x.0 end) >>= λ y. given (f y.0) y.1) ≡ (m >>= λ rest. read room scope (giving f a) rest >>= λ x. expected (closing Round) x.1 >>= λ end. given x.0 end)
     at (Ok rest) = within_them (read room scope a rest)
     at (Err s) = refl
 

@@ -25,6 +25,7 @@ pub mod FitsPrograms
 pub mod FitsTypes
 pub mod FitsValues
 pub mod FlawLaws
+pub mod FunctionLaws
 pub mod HeightLaws
 pub mod InsideLaws
 pub mod KnownNames

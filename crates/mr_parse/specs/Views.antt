@@ -1,16 +1,19 @@
 -- What contracts see of what is read beside the syntax.
-use Rattle.std.specs.Prelude.{ℕ, List, Result, Ok}
+use Rattle.std.specs.Prelude.{ℕ, List, Option, Result, Ok, codes}
 use Rattle.mr_ast.specs.declared.program.Block.{Block}
 use Rattle.mr_ast.specs.declared.program.Function.{Function}
 use Rattle.mr_ast.specs.declared.program.Local.{Local}
 use Rattle.mr_ast.specs.declared.program.LocalName.{LocalName}
+use Rattle.mr_ast.specs.declared.program.BlockName.{BlockName}
 use Rattle.mr_ast.specs.Forms.{Word}
+use Rattle.mr_ast.specs.Writing.{Writing, block_use, optional, ◌▪◌}
 use Rattle.mr_ast.specs.ProgramGrammar.{FunctionBody, ProgramBody, with_name}
 use Rattle.mr_ast.specs.TypeGrammar.{Shape}
 use Rattle.mr_parse.specs.declared.fault.Stop.{Stop}
 use Rattle.mr_parse.specs.declared.program.Head.{Head}
 use Rattle.mr_parse.specs.declared.program.Inner.{Inner}
 use Rattle.mr_parse.specs.declared.program.Parts.{Parts}
+use Rattle.mr_parse.specs.declared.statements.Ways.{Ways}
 use Rattle.mr_parse.specs.declared.types.Shape.{Shape as Written}
 use Rattle.mr_parse.specs.Reading.{◌>>=◌, expected}
 
@@ -25,6 +28,13 @@ head_of h = (h.args, h.ret)
 
 abbrev pub parts_of : Inner → List Local × List Block
 parts_of i = (i.locals, i.blocks)
+
+-- the blocks behind a call
+abbrev pub ways_of : Ways → Option BlockName × Option BlockName
+ways_of w = (w.next, w.unwind)
+
+abbrev pub ways_form : Writing (Option BlockName × Option BlockName)
+ways_form = optional (codes "to") block_use ▪ optional (codes "unwind") block_use
 
 -- the function that has this name and what was read
 abbrev pub named : ℕ → Result (FunctionBody × List Word) Stop → Result (Function × List Word) Stop

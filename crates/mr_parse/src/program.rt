@@ -1,6 +1,6 @@
 ghost use Rattle.std.specs.Prelude.{◌≡◌, ◌<◌, ◌^◌, codes};
-ghost use Rattle.mr_ast.specs.declared.words.Bracket.TheVariants.{Round};
-ghost use Rattle.mr_ast.specs.Writing.{judged_target, listed, ◌▪◌, ◌◂◌, ◌▸◌, local_use};
+ghost use Rattle.mr_ast.specs.declared.words.Bracket.TheVariants.{Curly, Round};
+ghost use Rattle.mr_ast.specs.Writing.{judged_target, listed, within, ◌▪◌, ◌◂◌, ◌▸◌, local_use};
 ghost use Rattle.mr_ast.specs.ProgramGrammar.{args_form, block_form, blocks_form, body_form, function_form, functions_form, global_form, globals_form, item_behind, item_form, items_form, judged_item, judged_kind, local_form, locals_form, program_form, reloc_form, repeat_form};
 ghost use Rattle.mr_parse.specs.Gives.{Gives};
 ghost use Rattle.mr_parse.specs.Reading.{first_at, read};
@@ -191,8 +191,19 @@ impl<'a> Reader<'a> {
         Ok(Inner { locals, blocks })
     }
 
+    // The locals and the blocks, in their braces.
+    #[tactic(auto, using(crate::proofs::InsideLaws::inside))]
+    fn braced(&mut self, alloc: Global, scope: &Scope, room: u32) -> Result<Inner, ReadFault>
+        ensures { Gives (λ i. (parts_of i, self.new)) result (read room scope.now (within Curly (codes "let" ▸ locals_form ◂ codes ";" ▪ blocks_form)) self.old) }
+    {
+        let within = self.open(Bracket::Curly, room)?;
+        let inner = self.inner(alloc, scope, within)?;
+        self.close(Bracket::Curly)?;
+        Ok(inner)
+    }
+
     // What stands behind the name of a function.
-    #[tactic(auto, unfolding(mr_ast::specs::ProgramGrammar::body_form), using(crate::proofs::InsideLaws::inside))]
+    #[tactic(auto, unfolding(mr_ast::specs::ProgramGrammar::body_form))]
     fn body(
         &mut self,
         alloc: Global,
@@ -203,9 +214,7 @@ impl<'a> Reader<'a> {
         ensures { Gives (λ f. (f, self.new)) result (named name (read room scope.now body_form self.old)) }
     {
         let head = self.head(alloc, scope, room)?;
-        let within = self.open(Bracket::Curly, room)?;
-        let inner = self.inner(alloc, scope, within)?;
-        self.close(Bracket::Curly)?;
+        let inner = self.braced(alloc, scope, room)?;
         Ok(Function {
             name,
             args: head.args,

@@ -1,20 +1,30 @@
-ghost use Rattle.std.specs.Prelude.{◌≡◌, codes, is_some};
+ghost use Rattle.std.specs.Prelude.{◌≡◌, codes, false, is_some};
 ghost use Rattle.mr_ast.specs.declared.words.Bracket.TheVariants.{Round};
 ghost use Rattle.mr_ast.specs.Forms.{Part};
-ghost use Rattle.mr_ast.specs.Writing.{TheValue, block_use, listed, optional};
+ghost use Rattle.mr_ast.specs.Writing.{ThePlace, TheValue, block_use, listed, optional, ◌▸◌};
 ghost use Rattle.mr_ast.specs.ProgramGrammar.{assign_form, begins_stmt, call_form, disc_form, do_form, is_stmt_word, judged_intrinsic, judged_stmt, judged_term, stmt_behind, stmt_form, stmts_form, switch_case_form, switch_cases_form, switch_form, term_behind, term_form, unwind_form, values_form};
 ghost use Rattle.mr_parse.specs.Gives.{Gives};
 ghost use Rattle.mr_parse.specs.Reading.{first_at, is_next, read};
+ghost use Rattle.mr_parse.specs.Views.{ways_form, ways_of};
 
 use crate::fault::{EXPOSED, ReadFault, TOO_MANY, UNEXPECTED};
 use crate::reader::Reader;
 use crate::scope::Scope;
 use crate::table::{intrinsic_of, is_exposed, is_name, stmt_word_of, term_word_of};
-use mr_ast::{BlockName, Bracket, Intrinsic, Items, Num, Stmt, StmtWord, Term, TermWord, Value};
+use mr_ast::{
+    BlockName, Bracket, Intrinsic, Items, Num, Place, Stmt, StmtWord, Term, TermWord, Value,
+};
 use std::alloc::Global;
 
 /// How many statements a block may have.
 const MAX_STMTS: usize = 4096;
+
+// Where a call goes on: behind a return, and behind an unwinding.
+#[derive(Clone, Copy)]
+struct Ways {
+    next: Option<BlockName>,
+    unwind: Option<BlockName>,
+}
 
 impl<'a> Reader<'a> {
     fn is_stmt_word_next(&self) -> bool
@@ -183,10 +193,7 @@ impl<'a> Reader<'a> {
             TermWord::Exit => Ok(Term::Exit),
             TermWord::Abort => Ok(Term::Abort),
             TermWord::Resume => Ok(Term::Resume),
-            TermWord::Stop => {
-                self.expect(b"to")?;
-                Ok(Term::Stop(self.block_name(scope)?))
-            }
+            TermWord::Stop => Ok(Term::Stop(self.to_block(scope)?)),
             TermWord::Unwind => self.unwind(alloc, scope, room),
             TermWord::Call => self.call(alloc, scope, room),
             TermWord::Do => self.intrinsic_call(alloc, scope, room),
@@ -244,8 +251,15 @@ impl<'a> Reader<'a> {
         ensures { Gives (λ t. (t, self.new)) result (read room scope.now unwind_form self.old) }
     {
         let payload = self.value(alloc, scope, room)?;
+        Ok(Term::Unwind(payload, self.to_block(scope)?))
+    }
+
+    // A block behind `to`.
+    fn to_block(&mut self, scope: &Scope) -> Result<BlockName, ReadFault>
+        ensures { Gives (λ b. (b, self.new)) result (read 0 scope.now (codes "to" ▸ block_use) self.old) }
+    {
         self.expect(b"to")?;
-        Ok(Term::Unwind(payload, self.block_name(scope)?))
+        self.block_name(scope)
     }
 
     // The arguments of a call, in their brackets.
@@ -310,9 +324,17 @@ impl<'a> Reader<'a> {
         let args = self.values(alloc, scope, room)?;
         self.expect(b"->")?;
         let place = self.place(alloc, scope, room, false)?;
+        let ways = self.ways(scope, room)?;
+        Ok(Term::Call(callee, args, place, ways.next, ways.unwind))
+    }
+
+    // The blocks behind a call.
+    fn ways(&mut self, scope: &Scope, room: u32) -> Result<Ways, ReadFault>
+        ensures { Gives (λ w. (ways_of w, self.new)) result (read room scope.now ways_form self.old) }
+    {
         let next = self.block_behind(scope, room, b"to")?;
         let unwind = self.block_behind(scope, room, b"unwind")?;
-        Ok(Term::Call(callee, args, place, next, unwind))
+        Ok(Ways { next, unwind })
     }
 
     #[tactic(auto, unfolding(mr_ast::specs::ProgramGrammar::judged_intrinsic))]
@@ -341,13 +363,24 @@ impl<'a> Reader<'a> {
     {
         let intrinsic = self.intrinsic()?;
         let args = self.values(alloc, scope, room)?;
-        let mut place = None;
-        if self.is_next(b"->") {
-            self.expect(b"->")?;
-            place = Some(self.place(alloc, scope, room, false)?);
-        }
-        self.expect(b"to")?;
-        let next = self.block_name(scope)?;
+        let place = self.result_place(alloc, scope, room)?;
+        let next = self.to_block(scope)?;
         Ok(Term::Do(intrinsic, args, place, next))
+    }
+
+    // The place of a result, where there is one.
+    fn result_place(
+        &mut self,
+        alloc: Global,
+        scope: &Scope,
+        room: u32,
+    ) -> Result<Option<Place>, ReadFault>
+        ensures { Gives (λ p. (p, self.new)) result (read room scope.now (optional (codes "->") (Part (ThePlace false))) self.old) }
+    {
+        if !self.is_next(b"->") {
+            return Ok(None);
+        }
+        self.expect(b"->")?;
+        Ok(Some(self.place(alloc, scope, room, false)?))
     }
 }
