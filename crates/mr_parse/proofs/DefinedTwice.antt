@@ -1,5 +1,5 @@
--- The words of a program, which are written twice: once where the text's names are known, and once where each stands for its place.
-use Rattle.std.proofs.Common.{◌≡◌, ◌⊎◌, ℕ, suc, ◌+◌, inl, inr, Bool, true, false, nat_le, List, [], ◌∷◌, map, slice_index_or, Option, None, Some, refl, ap, sym, ◌∙◌, subst, arith}
+-- What the words of a program write where the text's names are known, and where each name stands for its place: in both the same things are defined.
+use Rattle.std.proofs.Common.{◌≡◌, ◌⊎◌, ℕ, suc, ◌+◌, inl, inr, Bool, true, false, nat_le, List, [], ◌∷◌, map, slice_index_or, None, Some, refl, ap, sym, ◌∙◌, subst, arith}
 use Rattle.std.specs.List.{AllByRecursion}
 use Rattle.mr_ast.specs.declared.program.Block.{Block}
 use Rattle.mr_ast.specs.declared.program.Function.{Function}
@@ -7,7 +7,7 @@ use Rattle.mr_ast.specs.declared.program.Local.{Local}
 use Rattle.mr_ast.specs.declared.words.Role.{Role}
 use Rattle.mr_ast.specs.declared.words.Role.TheVariants.{DefinesBlock, DefinesFunction, DefinesGlobal, DefinesLocal}
 use Rattle.mr_ast.specs.Forms.{Word, Mark}
-use Rattle.mr_ast.specs.Scope.{Definitions, FunctionNames, Scope, function_names, name_number}
+use Rattle.mr_ast.specs.Scope.{Definitions, Scope, function_names, name_number}
 use Rattle.mr_ast.specs.Words.{is_name}
 use Rattle.mr_ast.specs.Writing.{judged_name, name_form}
 use Rattle.mr_ast.specs.ProgramGrammar.{ProgramBody, block_form, blocks_form, body_form, function_form, functions_form, global_form, globals_form, inside_function, local_form, locals_form, program_form}

@@ -1,5 +1,5 @@
 -- Each program that a text denotes fits: printed, its brackets nest no deeper than they may.
-use Rattle.std.proofs.Common.{◌≡◌, ℕ, ◌-◌, List, All, sym, subst}
+use Rattle.std.proofs.Common.{ℕ, ◌-◌, List, All, sym, subst}
 use Rattle.mr_ast.specs.declared.program.Program.{Program}
 use Rattle.mr_ast.specs.Forms.{Word}
 use Rattle.mr_ast.specs.Scope.{Scope}

@@ -33,7 +33,7 @@ pub branch_fits : (at : ℕ) (int : IntType) (cases : List (Num × Tree)) (other
 branch_fits at int cases other room =
     ap (λ t. tree_fits t room) (sym (tree.rolls-Branch at int cases other)) ∙ tree_roll (Tree-F.Branch at int cases other) room
     ∙ ap (λ b. not (room == 0) && (b && tree_fits other (room - 1)))
-      (list_all-map (λ (c : Num × Room). c.1 (room - 1)) (λ (c : Num × Tree). (c.0, tree_fits c.1)) cases)
+    (list_all-map (λ (c : Num × Room). c.1 (room - 1)) (λ (c : Num × Tree). (c.0, tree_fits c.1)) cases)
 
 -- one level, at a type that is made of it
 fits_roll : (d : Ty-F Ty Variant) (room : ℕ)
@@ -74,7 +74,7 @@ pub tuple_fits : (size align : ℕ) (fields : List (ℕ × Ty)) (room : ℕ)
 tuple_fits size align fields room =
     ap (λ t. type_fits t room) (sym (ty.rolls-Tuple size align fields)) ∙ fits_roll (Ty-F.Tuple size align fields) room
     ∙ ap (λ n. is_unit size align n || (not (room == 0) && list_all (λ (f : ℕ × Room). f.1 (room - 1)) (map (λ (f : ℕ × Ty). (f.0, type_fits f.1)) fields)))
-      (length-map fields (λ (f : ℕ × Ty). (f.0, type_fits f.1)))
+    (length-map fields (λ (f : ℕ × Ty). (f.0, type_fits f.1)))
     ∙ ap (λ b. is_unit size align (length fields) || (not (room == 0) && b)) (fields_are fields (room - 1))
 
 pub array_fits : (count : ℕ) (elem : Ty) (room : ℕ) → type_fits (ty.Array count elem) room ≡ inside (type_fits elem) room

@@ -1,5 +1,5 @@
 -- The words of tokens from a place on.
-use Rattle.std.proofs.Common.{◌≡◌, ℕ, zero, suc, ◌+◌, ◌-◌, ◌≤◌, ◌<◌, List, [], ◌∷◌, ◌++◌, map, length, drop, Option, Some, None, slice_get, refl, ap, sym, ◌∙◌, subst, arith}
+use Rattle.std.proofs.Common.{◌≡◌, ℕ, zero, suc, ◌+◌, ◌-◌, ◌≤◌, List, [], ◌∷◌, ◌++◌, map, length, drop, Option, Some, None, slice_get, refl, ap, sym, ◌∙◌, subst, arith}
 use Rattle.std.specs.List.{AllByRecursion}
 use Rattle.std.proofs.lemmas.List.{append_assoc, drop_all, length-append, length-map}
 use Rattle.mr_ast.specs.Forms.{Word}
@@ -81,7 +81,7 @@ numbered_stand front [] k e = tt
 numbered_stand front (t ∷ texts) k e = (
   ap (λ (found : Option Word). elim found as (λ _. List ℕ) [ Some w ↦ w.text | None ↦ [] ]) (get_behind front (record { text = t; place = k }) (numbered (suc k) texts) k e),
   subst (λ words. AllByRecursion (StandsIn words) (numbered (suc k) texts)) (append_assoc front (record { text = t; place = k } ∷ []) (numbered (suc k) texts))
-  (numbered_stand (front ++ record { text = t; place = k } ∷ []) texts (suc k) (length-append front (record { text = t; place = k } ∷ []) ∙ omega (arith, e))),
+      (numbered_stand (front ++ record { text = t; place = k } ∷ []) texts (suc k) (length-append front (record { text = t; place = k } ∷ []) ∙ omega (arith, e))),
 )
 
 -- each word of a text stands at its place
