@@ -1,4 +1,4 @@
--- The words of a program, which are written twice: once where the text's names are known, and once where each stands for its place.
+-- What the words of a program write where the text's names are known, and where each name stands for its place: in both the same things are defined.
 use Rattle.std.proofs.Common.{◌≡◌, ◌⊎◌, ℕ, suc, ◌+◌, inl, inr, Bool, true, false, nat_le, List, [], ◌∷◌, map, slice_index_or, None, Some, refl, ap, sym, ◌∙◌, subst, arith}
 use Rattle.std.specs.List.{AllByRecursion}
 use Rattle.mr_ast.specs.declared.program.Block.{Block}

@@ -141,15 +141,14 @@ module _ (words : List Word) (shape body : ProgramBody) (twice : ProgramTwice (S
   named : IsNamed (program_of (definitions_in words shape) body)
   named =
       let d : Definitions = definitions_in words shape in
-      let p : Program = program_of d body in
-      let functions = functions_back in record {
+      let p : Program = program_of d body in record {
         names = ap names_of (sym definitions_same);
         words = names_words;
         items = subst (λ e. IsDistinct (item_names e)) (sym definitions_same) items_distinct;
         locals = All-from_recursion (λ f. IsDistinct (local_texts p f)) body.functions
-            (each_first (FunctionBack d words) (λ f. IsDistinct (local_texts p f)) (locals_distinct d words body) 0 body.functions shape.functions functions);
+            (each_first (FunctionBack d words) (λ f. IsDistinct (local_texts p f)) (locals_distinct d words body) 0 body.functions shape.functions functions_back);
         blocks = All-from_recursion (λ f. IsDistinct (block_texts p f)) body.functions
-            (each_first (FunctionBack d words) (λ f. IsDistinct (block_texts p f)) (blocks_distinct d words body) 0 body.functions shape.functions functions);
+            (each_first (FunctionBack d words) (λ f. IsDistinct (block_texts p f)) (blocks_distinct d words body) 0 body.functions shape.functions functions_back);
       }
 
 -- what a text defines

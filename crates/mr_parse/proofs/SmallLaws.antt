@@ -1,5 +1,5 @@
 -- A row without a broken limit writes no more of anything than a text may have, whatever its names stand for.
-use Rattle.std.proofs.Common.{◌≡◌, ℕ, suc, ◌≤◌, ◌<◌, Bool, true, false, if◌then◌else◌, List, [], ◌∷◌, length, Option, None, Some, refl, ap, arith}
+use Rattle.std.proofs.Common.{◌≡◌, ℕ, suc, ◌≤◌, ◌<◌, Bool, false, List, [], ◌∷◌, length, arith}
 use Rattle.std.specs.List.{AllByRecursion}
 use Rattle.std.specs.Str.{IsAscii}
 use Rattle.std.proofs.lemmas.List.{length-map}
@@ -8,8 +8,7 @@ use Rattle.mr_ast.specs.declared.program.Function.{Function}
 use Rattle.mr_ast.specs.declared.words.Role.{Role}
 use Rattle.mr_ast.specs.Forms.{Word}
 use Rattle.mr_ast.specs.Scope.{Scope}
-use Rattle.mr_ast.specs.Words.{is_name}
-use Rattle.mr_ast.specs.Writing.{Writing, judged_name, name_form}
+use Rattle.mr_ast.specs.Writing.{name_form}
 use Rattle.mr_ast.specs.ProgramGrammar.{ProgramBody, block_form, blocks_form, body_form, function_form, functions_form, global_form, globals_form, local_form, locals_form, program_form}
 use Rattle.mr_ast.specs.Spelled.{SpelledPart}
 use Rattle.mr_parse.specs.Denotes.{Writes, definitions_in, function_names_in, text_at}
