@@ -322,8 +322,7 @@ impl<'a> Reader<'a> {
     {
         let callee = self.value(alloc, scope, room)?;
         let args = self.values(alloc, scope, room)?;
-        self.expect(b"->")?;
-        let place = self.place(alloc, scope, room, false)?;
+        let place = self.place_behind(alloc, scope, room)?;
         let ways = self.ways(scope, room)?;
         Ok(Term::Call(callee, args, place, ways.next, ways.unwind))
     }
@@ -380,7 +379,14 @@ impl<'a> Reader<'a> {
         if !self.is_next(b"->") {
             return Ok(None);
         }
+        Ok(Some(self.place_behind(alloc, scope, room)?))
+    }
+
+    // A place behind an arrow.
+    fn place_behind(&mut self, alloc: Global, scope: &Scope, room: u32) -> Result<Place, ReadFault>
+        ensures { Gives (λ p. (p, self.new)) result (read room scope.now (codes "->" ▸ Part (ThePlace false)) self.old) }
+    {
         self.expect(b"->")?;
-        Ok(Some(self.place(alloc, scope, room, false)?))
+        self.place(alloc, scope, room, false)
     }
 }
