@@ -3,6 +3,7 @@ pub mod BeginLaws
 pub mod BodyLaws
 pub mod BracketCounts
 pub mod BracketLaws
+pub mod CallLaws
 pub mod CanonForms
 pub mod CanonFunctions
 pub mod CanonItems

@@ -1,12 +1,16 @@
 -- What contracts see of what is read beside the syntax.
-use Rattle.std.specs.Prelude.{ℕ, List, Option, Result, Ok, codes}
+use Rattle.std.specs.Prelude.{ℕ, List, Option, Result, Ok, codes, false}
 use Rattle.mr_ast.specs.declared.program.Block.{Block}
 use Rattle.mr_ast.specs.declared.program.Function.{Function}
 use Rattle.mr_ast.specs.declared.program.Local.{Local}
 use Rattle.mr_ast.specs.declared.program.LocalName.{LocalName}
+use Rattle.mr_ast.specs.declared.expr.Place.{Place}
+use Rattle.mr_ast.specs.declared.expr.Value.{Value}
 use Rattle.mr_ast.specs.declared.program.BlockName.{BlockName}
-use Rattle.mr_ast.specs.Forms.{Word}
-use Rattle.mr_ast.specs.Writing.{Writing, block_use, optional, ◌▪◌}
+use Rattle.mr_ast.specs.declared.program.Term.{Term}
+use Rattle.mr_ast.specs.declared.program.Term.TheVariants as term
+use Rattle.mr_ast.specs.Forms.{Word, Part}
+use Rattle.mr_ast.specs.Writing.{ThePlace, Writing, block_use, optional, ◌▪◌, ◌▸◌}
 use Rattle.mr_ast.specs.ProgramGrammar.{FunctionBody, ProgramBody, with_name}
 use Rattle.mr_ast.specs.TypeGrammar.{Shape}
 use Rattle.mr_parse.specs.declared.fault.Stop.{Stop}
@@ -35,6 +39,14 @@ ways_of w = (w.next, w.unwind)
 
 abbrev pub ways_form : Writing (Option BlockName × Option BlockName)
 ways_form = optional (codes "to") block_use ▪ optional (codes "unwind") block_use
+
+-- what stands behind the arguments of a call
+abbrev pub call_end_form : Writing (Place × (Option BlockName × Option BlockName))
+call_end_form = codes "->" ▸ Part (ThePlace false) ▪ ways_form
+
+-- the call with this callee, these arguments and what was read
+abbrev pub called : Value → List Value → Result ((Place × (Option BlockName × Option BlockName)) × List Word) Stop → Result (Term × List Word) Stop
+called callee args read = read >>= λ x. Ok (term.Call callee args x.0.0 x.0.1.0 x.0.1.1, x.1)
 
 -- the function that has this name and what was read
 abbrev pub named : ℕ → Result (FunctionBody × List Word) Stop → Result (Function × List Word) Stop

@@ -5,7 +5,7 @@ ghost use Rattle.mr_ast.specs.Writing.{ThePlace, TheValue, block_use, listed, op
 ghost use Rattle.mr_ast.specs.ProgramGrammar.{assign_form, begins_stmt, call_form, disc_form, do_form, is_stmt_word, judged_intrinsic, judged_stmt, judged_term, stmt_behind, stmt_form, stmts_form, switch_case_form, switch_cases_form, switch_form, term_behind, term_form, unwind_form, values_form};
 ghost use Rattle.mr_parse.specs.Gives.{Gives};
 ghost use Rattle.mr_parse.specs.Reading.{first_at, is_next, read};
-ghost use Rattle.mr_parse.specs.Views.{ways_form, ways_of};
+ghost use Rattle.mr_parse.specs.Views.{call_end_form, called, ways_form, ways_of};
 
 use crate::fault::{EXPOSED, ReadFault, TOO_MANY, UNEXPECTED};
 use crate::reader::Reader;
@@ -322,6 +322,20 @@ impl<'a> Reader<'a> {
     {
         let callee = self.value(alloc, scope, room)?;
         let args = self.values(alloc, scope, room)?;
+        self.call_end(alloc, scope, room, callee, args)
+    }
+
+    // What stands behind the arguments of a call.
+    fn call_end(
+        &mut self,
+        alloc: Global,
+        scope: &Scope,
+        room: u32,
+        callee: Value,
+        args: Items<Value>,
+    ) -> Result<Term, ReadFault>
+        ensures { Gives (λ t. (t, self.new)) result (called callee args (read room scope.now call_end_form self.old)) }
+    {
         let place = self.place_behind(alloc, scope, room)?;
         let ways = self.ways(scope, room)?;
         Ok(Term::Call(callee, args, place, ways.next, ways.unwind))

@@ -10,5 +10,5 @@ use Rattle.mr_parse.proofs.reader.Reader.function.Goals as goal
 
 pub returns : goal.returns
 returns c =
-    subst (Gives (λ f. (f, c.body.new.self)) c.body.result) (sym (function_reads c.args.room c.args.scope.now c.args.k c.args.self.now c.expect.new.self c.name.new.self c.in_ok-name.field-0 c.in_ok-expect.ensures c.in_ok-name.ensures))
-    (subst (λ s. Gives (λ f. (f, c.body.new.self)) c.body.result (named c.in_ok-name.field-0 (read c.args.room s body_form c.name.new.self))) c.in_ok-inside.ensures c.body.ensures)
+    subst (Gives (λ f. (f, c.body.new.self)) c.body.result) (sym (function_reads c.args.room c.args.scope.now c.args.k c.args.self.now c.expect.new.self c.name.new.self c.in_ok-name.name c.in_ok-expect.ensures c.in_ok-name.ensures))
+    (subst (λ s. Gives (λ f. (f, c.body.new.self)) c.body.result (named c.in_ok-name.name (read c.args.room s body_form c.name.new.self))) c.in_ok-inside.ensures c.body.ensures)
