@@ -38,11 +38,15 @@ fn names(alloc: Global, texts: &[&str]) -> Result<Names, AllocError> {
 }
 
 fn one<T: Drop>(alloc: Global, item: T) -> Result<Items<T>, AllocError> {
-    Ok(Items::from_vec(vec![in alloc; item]?))
+    let mut items = Items::new(alloc);
+    items.push(item)?;
+    Ok(items)
 }
 
 fn two<T: Drop>(alloc: Global, first: T, second: T) -> Result<Items<T>, AllocError> {
-    Ok(Items::from_vec(vec![in alloc; first, second]?))
+    let mut items = one(alloc, first)?;
+    items.push(second)?;
+    Ok(items)
 }
 
 // A function without arguments and with one local.
@@ -236,22 +240,36 @@ fn place(n: u32) -> Place {
     Place::Local(LocalName(n))
 }
 
-// The statements `place = value` for each kind of place and some values.
-fn assignments(alloc: Global) -> Result<Items<Stmt>, AllocError> {
+fn assign_target(alloc: Global) -> Result<Stmt, AllocError> {
     let address = Boxed::new(alloc, Value::Raw(4096))?;
     let target = Place::Deref(address, Ty::Int(IntType::I8));
+    Ok(Stmt::Assign(target, Value::Int(IntType::I8, minus(128))))
+}
+
+fn assign_field(alloc: Global) -> Result<Stmt, AllocError> {
     let field = Place::Field(Boxed::new(alloc, place(3))?, 1);
+    Ok(Stmt::Assign(field, Value::Global(GlobalName(1), 8)))
+}
+
+fn assign_element(alloc: Global) -> Result<Stmt, AllocError> {
     let at = Boxed::new(alloc, Value::Load(place(0)))?;
     let elem = Place::Index(Boxed::new(alloc, place(4))?, at);
-    let variant = Place::Variant(Boxed::new(alloc, place(6))?, minus(128));
-    let mut stmts = two(
-        alloc,
-        Stmt::Assign(target, Value::Int(IntType::I8, minus(128))),
-        Stmt::Assign(field, Value::Global(GlobalName(1), 8)),
-    )?;
-    stmts.push(Stmt::Assign(elem, Value::Fn(FnName(0))))?;
+    Ok(Stmt::Assign(elem, Value::Fn(FnName(0))))
+}
+
+fn assign_variant(alloc: Global) -> Result<Stmt, AllocError> {
     let parts = two(alloc, int(1), Value::False)?;
-    stmts.push(Stmt::Assign(variant, Value::Tuple(unit(alloc), parts)))?;
+    let variant = Place::Variant(Boxed::new(alloc, place(6))?, minus(128));
+    Ok(Stmt::Assign(variant, Value::Tuple(unit(alloc), parts)))
+}
+
+// The statements `place = value` for each kind of place and some values.
+fn assignments(alloc: Global) -> Result<Items<Stmt>, AllocError> {
+    let mut stmts = Items::new(alloc);
+    stmts.push(assign_target(alloc)?)?;
+    stmts.push(assign_field(alloc)?)?;
+    stmts.push(assign_element(alloc)?)?;
+    stmts.push(assign_variant(alloc)?)?;
     Ok(stmts)
 }
 
