@@ -60,7 +60,7 @@ int_decides i n = bits_decide (is_signed i) (bits_of i) n.neg n.mag
 -- nothing is in a list exactly where its length is 0
 empty_decides : {X : Type 0} (xs : List X) → Decides (length xs == 0) (xs ≡ [])
 empty_decides [] = ((λ e. refl), λ e. refl)
-empty_decides (x ∷ xs) = never (λ e. absurd (cc))
+empty_decides (x ∷ xs) = ((λ e. let none = (Decides-eqb (length (x ∷ xs)) 0).0 e in absurd (omega arith)), λ e. absurd (cc))
 
 -- ---- types
 
@@ -229,13 +229,13 @@ value_told = value_induction (λ p. Unit {0}) (λ v. is_constant v ≡ true → 
 })
 
 value_decides : (v : Value) → Decides (is_constant v) (IsFitting v)
-value_decides v = (value_told v, λ h. ap is_constant h.2.0 ∙ constant_int h.0 h.1 ∙ (int_decides h.0 h.1).1 h.2.1)
+value_decides v = (value_told v, λ h. ap is_constant h.2 ∙ constant_int h.0 h.1 ∙ (int_decides h.0 h.1).1 h.3)
 
 constants_decide : (args : List Value) → Decides (are_constants args) (IsConstant args)
-constants_decide [] = never (λ h. let e = h.2.0 in absurd (cc))
+constants_decide [] = never (λ h. let e = h.2 in absurd (cc))
 constants_decide (v ∷ []) =
-    Decides-like _ (λ h. (h.0, h.1, ap (λ w. w ∷ []) h.2.0, h.2.1)) (λ h. (h.0, h.1, (let e = h.2.0 in cc), h.2.1)) (value_decides v)
-constants_decide (v ∷ w ∷ vs) = never (λ h. let e = h.2.0 in absurd (cc))
+    Decides-like _ (λ h. (h.0, h.1, ap (λ w. w ∷ []) h.2, h.3)) (λ h. (h.0, h.1, (let e = h.2 in cc), h.3)) (value_decides v)
+constants_decide (v ∷ w ∷ vs) = never (λ h. let e = h.2 in absurd (cc))
 
 -- ---- statements and terminators
 
@@ -282,7 +282,8 @@ term_decides : (f : Function) (t : Term) → Decides (is_thin_term f t) (IsThinT
 term_decides f (term.Goto b) = less b.0 (length f.blocks)
 term_decides f term.Exit = ((λ e. tt), λ h. refl)
 term_decides f (term.Do op args result next) =
-    Decides-and _ _ (print_decides op) (Decides-and _ _ (constants_decide args) (Decides-and _ _ (result_decides result) (less next.0 (length f.blocks))))
+    Decides-like _ (λ h. (h.0, h.1.0, h.1.1.0, h.1.1.1)) (λ h. (h.0, (h.1, (h.2, h.3))))
+    (Decides-and _ _ (print_decides op) (Decides-and _ _ (constants_decide args) (Decides-and _ _ (result_decides result) (less next.0 (length f.blocks)))))
 term_decides f (term.Switch v cases other) = never (λ h. h)
 term_decides f term.Unreachable = never (λ h. h)
 term_decides f term.Return = never (λ h. h)
@@ -311,13 +312,13 @@ block_decides : (f : Function) (b : Block) → Decides (is_thin_block f b) (IsTh
 block_decides f b =
     Decides-like _
     (λ h. record { regular = h.0; stmts = h.1.0; term = h.1.1.0; few = h.1.1.1 })
-    (λ h. (h.regular, h.stmts, h.term, h.few))
+    (λ h. (h.regular, (h.stmts, (h.term, h.few))))
     (Decides-and _ _ (kind_decides b.kind)
       (Decides-and _ _ (each_decides (is_thin_stmt f) (IsThinStmt f) (stmt_decides f) b.stmts)
         (Decides-and _ _ (term_decides f b.term) (at_most (length b.stmts) 4096))))
 
 size_decides : (f : Function)
-    → Decides (has_thin_size f) ((f.ret.0 < length f.locals) × (0 < length f.blocks) × (length f.locals ≤ 256) × (length f.blocks ≤ 1024))
+    → Decides (has_thin_size f) ((f.ret.0 < length f.locals) × ((0 < length f.blocks) × ((length f.locals ≤ 256) × (length f.blocks ≤ 1024))))
 size_decides f =
     Decides-and _ _ (less f.ret.0 (length f.locals))
       (Decides-and _ _ (less 0 (length f.blocks))
@@ -335,31 +336,34 @@ function_decides f =
       few_locals = h.1.0.1.1.0;
       few_blocks = h.1.0.1.1.1;
     })
-    (λ h. (h.no_args, (h.ret, h.has_start, h.few_locals, h.few_blocks), h.types, h.blocks))
+    (λ h. (h.no_args, ((h.ret, (h.has_start, (h.few_locals, h.few_blocks))), (h.types, h.blocks))))
     (Decides-and _ _ (empty_decides f.args)
       (Decides-and _ _ (size_decides f)
         (Decides-and _ _ (each_decides is_thin_local (λ (l : Local). IsThinType l.ty) (λ l. type_decides l.ty) f.locals)
           (each_decides (is_thin_block f) (IsThinBlock f) (block_decides f) f.blocks))))
 
 functions_decide : (fs : List Function) → Decides (are_thin_functions fs) ((f : Function) × (fs ≡ f ∷ []) × IsThinFunction f)
-functions_decide [] = never (λ h. let e = h.1.0 in absurd (cc))
+functions_decide [] = never (λ h. let e = h.1 in absurd (cc))
 functions_decide (f ∷ []) =
-    Decides-like _ (λ h. (f, refl, h)) (λ h. let same : h.0 ≡ f = (let e = h.1.0 in cc) in subst IsThinFunction same h.1.1) (function_decides f)
-functions_decide (f ∷ g ∷ fs) = never (λ h. let e = h.1.0 in absurd (cc))
+    Decides-like _ (λ h. (f, refl, h)) (λ h. let same : h.0 ≡ f = (let e = h.1 in cc) in subst IsThinFunction same h.2) (function_decides f)
+functions_decide (f ∷ g ∷ fs) = never (λ h. let e = h.1 in absurd (cc))
 
 -- The test tells exactly what is built.
 pub built_decides : (p : Program) → Decides (is_built p) (Built p)
 unfolding is_built
 built_decides p =
     Decides-like _
-    (λ h. record { edition = h.0; no_globals = h.1.0; function = h.1.1.1.0; only = h.1.1.1.1.0; is_thin = h.1.1.1.1.1; start = h.1.1.0 })
-    (λ h. (h.edition, h.no_globals, h.start, (h.function, h.only, h.is_thin)))
+    (λ h. record { edition = h.0; no_globals = h.1.0; function = h.1.1.1.0; only = h.1.1.1.1; is_thin = h.1.1.1.2; start = h.1.1.0 })
+    (λ h. (h.edition, (h.no_globals, (h.start, (h.function, h.only, h.is_thin)))))
     (Decides-and _ _ (Decides-eqb p.edition 1)
       (Decides-and _ _ (empty_decides p.globals)
         (Decides-and _ _ (Decides-eqb p.start.0 0) (functions_decide p.functions))))
 
 pub built_told : (p : Program) → Built p → is_built p ≡ true
 built_told p h = (built_decides p).1 h
+
+pub built_then : (p : Program) → is_built p ≡ true → Built p
+built_then p e = (built_decides p).0 e
 
 pub not_built_then : (p : Program) → is_built p ≡ false → ¬ Built p
 not_built_then p e = not_from_Decides (is_built p) (built_decides p) e
@@ -370,3 +374,5 @@ not_built_told p none = go (is_built p) refl
     go : (b : Bool) → is_built p ≡ b → is_built p ≡ false
     go true e = absurd (none ((built_decides p).0 e))
     go false e = e
+
+pub ruleset built_laws = (built_then, not_built_then)

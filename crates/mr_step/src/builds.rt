@@ -15,11 +15,18 @@ const MAX_BLOCKS: usize = 1024;
 const MAX_STMTS: usize = 4096;
 
 /// Whether the machine runs the program. Where it doesn't, the program is not built so far.
-#[tactic(auto, unfolding(crate::specs::Built::is_built))]
+#[tactic(auto, using(crate::proofs::BuiltLaws::built_laws))]
 pub fn built(p: &Program) -> bool
     ensures exact { result ≡ is_built p.now }
     ensures built { result ≡ true → Built p.now }
     ensures not_built { result ≡ false → ¬ Built p.now }
+{
+    is_thin(p)
+}
+
+#[tactic(auto, unfolding(crate::specs::Built::is_built))]
+fn is_thin(p: &Program) -> bool
+    ensures { result ≡ is_built p.now }
 {
     p.edition == 1 && p.globals.is_empty() && p.start.0 == 0 && is_only(p.functions.as_slice())
 }
