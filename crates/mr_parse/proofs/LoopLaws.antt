@@ -77,24 +77,24 @@ behind_word {A} room scope text a (w ∷ ws) rest e = at (bytes_eq w.text text) 
         none : bytes_eq w.text text ≡ false → ⊥
         none is = let got : stop {A = List Word} 4 (w ∷ ws) ≡ Ok rest = subst (λ b. (if b then Ok ws else stop 4 (w ∷ ws)) ≡ Ok rest) is e in cc
 
-module _ {A : Type 0} (room : ℕ) (scope : Scope) (a : Writing A) (front : List A) (n k : ℕ) (ws : List Word) (total : Result (List A × List Word) Stop)
-    (so_far : with_front front (many_at (λ k. read room scope (codes "," ▸ a)) (is_word (codes ",")) (n - k) k ws) ≡ total) where
+module _ {A : Type 0} (room : ℕ) (scope : Scope) (a : ℕ → Writing A) (front : List A) (n k : ℕ) (ws : List Word) (total : Result (List A × List Word) Stop)
+    (so_far : with_front front (many_at (λ k. read room scope (codes "," ▸ a k)) (is_word (codes ",")) (n - k) k ws) ≡ total) where
   -- one more is read, behind a comma
-  pub comma_goes_on : (x : A) (here rest : List Word) → k < n → is_next (is_word (codes ",")) ws ≡ true → expected (codes ",") ws ≡ Ok here → read room scope a here ≡ Ok (x, rest)
-      → with_front (front ++ x ∷ []) (many_at (λ k. read room scope (codes "," ▸ a)) (is_word (codes ",")) (n - (k + 1)) (k + 1) rest) ≡ total
+  pub comma_goes_on : (x : A) (here rest : List Word) → k < n → is_next (is_word (codes ",")) ws ≡ true → expected (codes ",") ws ≡ Ok here → read room scope (a k) here ≡ Ok (x, rest)
+      → with_front (front ++ x ∷ []) (many_at (λ k. read room scope (codes "," ▸ a k)) (is_word (codes ",")) (n - (k + 1)) (k + 1) rest) ≡ total
   comma_goes_on x here rest lt is comma e =
-      goes_on (λ k. read room scope (codes "," ▸ a)) (is_word (codes ",")) front n k ws total so_far x rest lt is (behind_word room scope (codes ",") a ws here comma ∙ e)
+      goes_on (λ k. read room scope (codes "," ▸ a k)) (is_word (codes ",")) front n k ws total so_far x rest lt is (behind_word room scope (codes ",") (a k) ws here comma ∙ e)
 
   -- one more can't be read behind a comma
-  pub comma_stops : (fault : ReadFault) (here : List Word) → k < n → is_next (is_word (codes ",")) ws ≡ true → expected (codes ",") ws ≡ Ok here → Fails fault (read room scope a here) → Fails fault total
+  pub comma_stops : (fault : ReadFault) (here : List Word) → k < n → is_next (is_word (codes ",")) ws ≡ true → expected (codes ",") ws ≡ Ok here → Fails fault (read room scope (a k) here) → Fails fault total
   comma_stops fault here lt is comma e =
-      stops (λ k. read room scope (codes "," ▸ a)) (is_word (codes ",")) front n k ws total so_far fault lt is
-      (subst (Fails fault) (sym (behind_word room scope (codes ",") a ws here comma)) e)
+      stops (λ k. read room scope (codes "," ▸ a k)) (is_word (codes ",")) front n k ws total so_far fault lt is
+      (subst (Fails fault) (sym (behind_word room scope (codes ",") (a k) ws here comma)) e)
 
   -- no comma stands there
   pub comma_is_done : is_next (is_word (codes ",")) ws ≡ false → total ≡ Ok (front, ws)
-  comma_is_done is = is_done (λ k. read room scope (codes "," ▸ a)) (is_word (codes ",")) front n k ws total so_far is
+  comma_is_done is = is_done (λ k. read room scope (codes "," ▸ a k)) (is_word (codes ",")) front n k ws total so_far is
 
   -- the turns are used up
   pub comma_is_past : n ≤ k → total ≡ Ok (front, ws)
-  comma_is_past le = is_past (λ k. read room scope (codes "," ▸ a)) (is_word (codes ",")) front n k ws total so_far le
+  comma_is_past le = is_past (λ k. read room scope (codes "," ▸ a k)) (is_word (codes ",")) front n k ws total so_far le

@@ -1,4 +1,18 @@
-//! parse
+//! Reads the text form: from the bytes of a text to the program that it denotes, or to its first fault.
+//!
+//! The grammar is data (`mr_ast/specs/Forms.antt`, `TypeGrammar`, `ValueGrammar`, `ProgramGrammar`); `specs/Denotes.antt` says which
+//! program a text denotes, and `specs/Faults.antt` which fault is its first. A text is read three times: into tokens; by the grammar, where
+//! a name stands for its place; and by the grammar again, where a name stands for what the text defines.
+//!
+//! Public calls, and what is proved of them:
+//!
+//! - [`parse()`] answers `Ok` exactly of a text that denotes a program, with that program, which is shaped; it answers `Text` exactly of any other
+//!   text, with its first fault. Where memory runs out it answers `Memory`. It takes time in proportion to the text.
+//! - [`one_program()`] and [`one_fault()`] are laws without code: a text denotes one program at most and has one first fault at most, and
+//!   `specs/Parsing.antt` computes them.
+//!
+//! A fault of a token with which nothing goes on is told by that property: some text of the grammar begins with the words before it, and none goes
+//! on with it.
 #![tactic(auto)]
 
 mod bracket;
@@ -14,6 +28,8 @@ mod reader;
 mod scope;
 mod statements;
 mod table;
+#[cfg(test)]
+mod tests;
 mod types;
 mod values;
 

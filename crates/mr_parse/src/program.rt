@@ -85,12 +85,12 @@ impl<'a> Reader<'a> {
     {
         let mut blocks = Items::new(alloc);
         blocks.push(self.block(alloc, scope, room, 0)?)?;
-        let most = self.left();
+        let most = self.turns();
         for k in 0..most {
             if !self.is_other(b"}") {
                 return Ok(blocks);
             }
-            blocks.push(self.block(alloc, scope, room, k as u32 + 1)?)?;
+            blocks.push(self.block(alloc, scope, room, k + 1)?)?;
         }
         Ok(blocks)
     }
@@ -118,13 +118,13 @@ impl<'a> Reader<'a> {
     {
         let mut locals = Items::new(alloc);
         locals.push(self.local_definition(alloc, scope, room, 0)?)?;
-        let most = self.left();
+        let most = self.turns();
         for k in 0..most {
             if !self.is_next(b",") {
                 return Ok(locals);
             }
             self.expect(b",")?;
-            locals.push(self.local_definition(alloc, scope, room, k as u32 + 1)?)?;
+            locals.push(self.local_definition(alloc, scope, room, k + 1)?)?;
         }
         Ok(locals)
     }
@@ -242,12 +242,12 @@ impl<'a> Reader<'a> {
         ensures { Gives (λ fs. (fs, self.new)) result (read room scope.now functions_form self.old) }
     {
         let mut functions = Items::new(alloc);
-        let most = self.left();
+        let most = self.turns();
         for k in 0..most {
             if !self.is_next(b"fn") {
                 return Ok(functions);
             }
-            functions.push(self.function(alloc, scope, room, k as u32)?)?;
+            functions.push(self.function(alloc, scope, room, k)?)?;
         }
         Ok(functions)
     }
@@ -355,12 +355,12 @@ impl<'a> Reader<'a> {
         ensures { Gives (λ gs. (gs, self.new)) result (read room scope.now globals_form self.old) }
     {
         let mut globals = Items::new(alloc);
-        let most = self.left();
+        let most = self.turns();
         for k in 0..most {
             if !self.is_next(b"global") {
                 return Ok(globals);
             }
-            globals.push(self.global(alloc, scope, room, k as u32)?)?;
+            globals.push(self.global(alloc, scope, room, k)?)?;
         }
         Ok(globals)
     }

@@ -50,9 +50,18 @@ impl<'a> Reader<'a> {
     /// How many tokens are left.
     #[tactic(auto, using(crate::proofs::PlaceLaws::words_length))]
     pub fn left(&self) -> usize
-        ensures { result ≡ length self.now }
+        ensures left { result ≡ length self.now }
+        ensures few { result ≤ 2 ^ 20 }
     {
         self.tokens.len().saturating_sub(self.at)
+    }
+
+    /// The same, for a loop that counts what it reads.
+    #[tactic(auto, using(crate::proofs::PlaceLaws::words_length))]
+    pub fn turns(&self) -> u32
+        ensures { result ≡ length self.now }
+    {
+        self.left() as u32
     }
 
     /// The fault with this code at the next token, or behind the last.

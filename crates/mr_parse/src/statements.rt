@@ -1,10 +1,10 @@
-ghost use Rattle.std.specs.Prelude.{◌≡◌, codes, is_some};
+ghost use Rattle.std.specs.Prelude.{◌≡◌, codes, is_some, Ok};
 ghost use Rattle.mr_ast.specs.declared.words.Bracket.TheVariants.{Round};
 ghost use Rattle.mr_ast.specs.Forms.{Part};
 ghost use Rattle.mr_ast.specs.Writing.{TheValue, block_use, listed, optional};
 ghost use Rattle.mr_ast.specs.ProgramGrammar.{assign_form, begins_stmt, call_form, disc_form, do_form, is_stmt_word, judged_intrinsic, judged_stmt, judged_term, stmt_behind, stmt_form, stmts_form, switch_case_form, switch_cases_form, switch_form, term_behind, term_form, unwind_form, values_form};
 ghost use Rattle.mr_parse.specs.Gives.{Gives};
-ghost use Rattle.mr_parse.specs.Reading.{first_at, is_next, read};
+ghost use Rattle.mr_parse.specs.Reading.{◌>>=◌, expected, first_at, is_next, read};
 
 use crate::fault::{EXPOSED, ReadFault, TOO_MANY, UNEXPECTED};
 use crate::reader::Reader;
@@ -159,9 +159,20 @@ impl<'a> Reader<'a> {
         ensures { Gives (λ t. (t, self.new)) result (read room scope.now term_form self.old) }
     {
         let word = self.term_word()?;
-        let term = self.term_behind(alloc, scope, room, word)?;
-        self.expect(b";")?;
-        Ok(term)
+        match self.term_behind(alloc, scope, room, word) {
+            Ok(term) => self.ended(term),
+            Err(fault) => Err(fault),
+        }
+    }
+
+    // A terminator that was read, where a semicolon stands behind it.
+    fn ended(&mut self, term: Term) -> Result<Term, ReadFault>
+        ensures { Gives (λ t. (t, self.new)) result (expected (codes ";") self.old >>= λ rest. Ok (term, rest)) }
+    {
+        match self.expect(b";") {
+            Ok(()) => Ok(term),
+            Err(fault) => Err(fault),
+        }
     }
 
     // What stands behind the first word of a terminator.

@@ -1,0 +1,30 @@
+use Rattle.std.proofs.Common.{◌≡◌, ◌+◌, suc, Ok, sym, subst, arith}
+use Rattle.std.proofs.lemmas.Result.{err_from_is_err_and}
+use Rattle.mr_ast.specs.ProgramGrammar.{local_form, locals_form}
+use Rattle.mr_parse.specs.Gives.{Fails}
+use Rattle.mr_parse.specs.Reading.{read}
+use Rattle.mr_parse.proofs.LoopLaws.{comma_goes_on, comma_stops, comma_is_done, comma_is_past}
+use Rattle.mr_parse.proofs.reader.Reader.locals.Goals as goal
+
+pub returns-then-not-is_next : goal.returns-then-not-is_next
+returns-then-not-is_next c =
+    comma_is_done c.args.room c.args.scope.now (λ k. local_form (suc k)) c.loop-k.locals c.turns-most.result c.loop-k.k c.loop-k.self (read c.args.room c.args.scope.now locals_form c.args.self.now) c.loop-k.invariant (sym c.if-not-is_next.ensures)
+
+pub returns-in_err-local_definition-2 : goal.returns-in_err-local_definition-2
+returns-in_err-local_definition-2 c =
+    let p = err_from_is_err_and c.from_residual-in_err-local_definition-2.result c.from_residual-in_err-local_definition-2.ensures.1 in
+    let next : c.loop-k.k + 1 ≡ suc c.loop-k.k = omega arith in
+    let failed = subst (λ n. Fails c.in_err-local_definition-2.field-0.0 (read c.args.room c.args.scope.now (local_form n) c.expect.new.self)) next c.in_err-local_definition-2.ensures in
+    rw (p.1, p.2) (comma_stops c.args.room c.args.scope.now (λ k. local_form (suc k)) c.loop-k.locals c.turns-most.result c.loop-k.k c.loop-k.self (read c.args.room c.args.scope.now locals_form c.args.self.now) c.loop-k.invariant
+    c.in_err-local_definition-2.field-0.0 c.expect.new.self (omega arith) (sym c.if-not-is_next.ensures) c.in_ok-expect.ensures failed)
+
+pub loop-k-preserved : goal.loop-k-preserved
+loop-k-preserved c =
+    let next : c.loop-k.k + 1 ≡ suc c.loop-k.k = omega arith in
+    let one = subst (λ n. read c.args.room c.args.scope.now (local_form n) c.expect.new.self ≡ Ok (c.in_ok-local_definition-2.field-0, c.local_definition-in-loop.new.self)) next c.in_ok-local_definition-2.ensures in
+    rw c.in_ok-push-2.ensures.ok (comma_goes_on c.args.room c.args.scope.now (λ k. local_form (suc k)) c.loop-k.locals c.turns-most.result c.loop-k.k c.loop-k.self (read c.args.room c.args.scope.now locals_form c.args.self.now) c.loop-k.invariant
+    c.in_ok-local_definition-2.field-0 c.expect.new.self c.local_definition-in-loop.new.self (omega arith) (sym c.if-not-is_next.ensures) c.in_ok-expect.ensures one)
+
+pub returns : goal.returns
+returns c =
+    comma_is_past c.args.room c.args.scope.now (λ k. local_form (suc k)) c.loop-k.locals c.turns-most.result c.loop-k.k c.loop-k.self (read c.args.room c.args.scope.now locals_form c.args.self.now) c.loop-k.invariant (omega arith)

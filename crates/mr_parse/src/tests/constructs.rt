@@ -1,0 +1,236 @@
+// A text for each construct of the language.
+use super::{expect_fault, expect_program};
+use std::alloc::{AllocError, Global};
+use std::string::String;
+use std::test::Fail;
+
+const TYPES: [&str; 25] = [
+    "u8",
+    "u16",
+    "u32",
+    "u64",
+    "u128",
+    "i8",
+    "i16",
+    "i32",
+    "i64",
+    "i128",
+    "bool",
+    "raw",
+    "fnptr",
+    "unit",
+    "ref 4 4",
+    "ref 4 4 never",
+    "tuple size 0 align 1 { }",
+    "tuple size 8 align 4 { 0: u8, 4: u32 }",
+    "array(3, u16)",
+    "array(0, array(2, bool))",
+    "union size 4 align 4 { } chunks { }",
+    "union size 4 align 4 { 0: u32, 0: i16 } chunks { 0 2, 2 2 }",
+    "enum size 0 align 1 disc i128 { } invalid",
+    "enum size 2 align 1 disc u8 { 0: tuple size 2 align 1 { } tag { 0: u8 = 0 }, 1: tuple size 2 align 1 { 1: u8 } tag { 0: u8 = 1 } } branch 0 u8 { 0 => known 0, 1 => known 1, _ => invalid }",
+    "enum size 2 align 1 disc i8 { -1: unit tag { } } branch 1 i16 { -5 => branch 0 u8 { _ => invalid }, _ => known -1 }",
+];
+
+const VALUES: [&str; 24] = [
+    "u8 7",
+    "i32 -1",
+    "u128 340282366920938463463374607431768211455",
+    "true",
+    "false",
+    "raw 18446744073709551615",
+    "fn f",
+    "global g + 4",
+    "tuple(unit)",
+    "tuple(array(2, u8), u8 1, u8 2)",
+    "union(union size 4 align 4 { 0: u32 } chunks { 0 4 }, 0, u32 1)",
+    "variant(enum size 0 align 1 disc u8 { 0: unit tag { } } known 0, 0, tuple(unit))",
+    "load(x)",
+    "load(x.0)",
+    "load(x[u64 1])",
+    "load(x@-1.2[load(x)])",
+    "load(deref(load(x), u32))",
+    "disc(x)",
+    "addrof(raw, x)",
+    "addrof(ref 1 1, deref(raw 16, u8).1)",
+    "cast(i8, u32 200)",
+    "transmute(u32, i32 -1)",
+    "neg(i8 1)",
+    "not(not(true))",
+];
+
+const OPERATORS: [&str; 26] = [
+    "add",
+    "sub",
+    "mul",
+    "div",
+    "rem",
+    "and",
+    "or",
+    "xor",
+    "add_unchecked",
+    "sub_unchecked",
+    "mul_unchecked",
+    "add_overflow",
+    "sub_overflow",
+    "mul_overflow",
+    "shl",
+    "shr",
+    "shl_unchecked",
+    "shr_unchecked",
+    "eq",
+    "ne",
+    "lt",
+    "le",
+    "gt",
+    "ge",
+    "offset",
+    "wrapping_offset",
+];
+
+const STATEMENTS: [&str; 9] = [
+    "live x",
+    "dead x",
+    "x = u8 1",
+    "deref(load(x), u8).0 = load(x)",
+    "mention x",
+    "disc x = 1",
+    "disc x.0 = -1",
+    "deinit x",
+    "validate x",
+];
+
+const TERMINATORS: [&str; 16] = [
+    "goto b",
+    "switch load(x) { _ => b }",
+    "switch load(x) { 0 => b, -1 => c, _ => b }",
+    "unreachable",
+    "return",
+    "exit",
+    "abort",
+    "resume",
+    "stop to b",
+    "unwind raw 0 to c",
+    "call fn f() -> x",
+    "call fn f(load(x), u8 1) -> x to b",
+    "call load(x)() -> x unwind c",
+    "call fn f() -> x.0 to b unwind c",
+    "do print() to b",
+    "do atomic_load(raw 8, u8 1) -> x to b",
+];
+
+const INTRINSICS: [&str; 18] = [
+    "assume",
+    "print",
+    "allocate",
+    "deallocate",
+    "spawn",
+    "join",
+    "create_lock",
+    "acquire",
+    "release",
+    "atomic_store",
+    "atomic_load",
+    "compare_exchange",
+    "fetch_add",
+    "fetch_sub",
+    "fetch_and",
+    "fetch_or",
+    "fetch_xor",
+    "payload",
+];
+
+const ITEMS: [&str; 10] = [
+    "0",
+    "255",
+    "0*1",
+    "1*1048576",
+    "?",
+    "?*2",
+    "&g + 0",
+    "&f + 18446744073709551615",
+    "1 2 ? 3",
+    "",
+];
+
+// A program with this type of a local, statement and terminator of its first block, and items of its global.
+fn program(
+    alloc: Global,
+    ty: &str,
+    statement: &str,
+    terminator: &str,
+    items: &str,
+) -> Result<String, AllocError> {
+    format!(
+        in alloc;
+        "minirust 1\nglobal g align 1 {{ {items} }}\nfn f() -> r {{\nlet r: unit, x: {ty};\nb regular: {statement}; {terminator};\nc cleanup: resume;\nd catch: goto d;\ne terminate: abort;\n}}\nmain f\n"
+    )
+}
+
+#[test]
+fn types(rt: HostRuntime) -> Result<(), Fail> {
+    for ty in TYPES {
+        expect_program(&rt, program(rt.alloc(), ty, "live x", "exit", "")?.as_str());
+    }
+    Ok(())
+}
+
+#[test]
+fn values(rt: HostRuntime) -> Result<(), Fail> {
+    for value in VALUES {
+        let statement = format!(in rt.alloc(); "x = {value}")?;
+        expect_program(&rt, program(rt.alloc(), "u8", statement.as_str(), "exit", "")?.as_str());
+    }
+    Ok(())
+}
+
+#[test]
+fn operators(rt: HostRuntime) -> Result<(), Fail> {
+    for operator in OPERATORS {
+        let statement = format!(in rt.alloc(); "x = {operator}(u8 1, load(x))")?;
+        expect_program(&rt, program(rt.alloc(), "u8", statement.as_str(), "exit", "")?.as_str());
+    }
+    Ok(())
+}
+
+#[test]
+fn statements(rt: HostRuntime) -> Result<(), Fail> {
+    for statement in STATEMENTS {
+        expect_program(&rt, program(rt.alloc(), "u8", statement, "exit", "")?.as_str());
+    }
+    Ok(())
+}
+
+#[test]
+fn terminators(rt: HostRuntime) -> Result<(), Fail> {
+    for terminator in TERMINATORS {
+        expect_program(&rt, program(rt.alloc(), "u8", "live x", terminator, "")?.as_str());
+    }
+    Ok(())
+}
+
+#[test]
+fn intrinsics(rt: HostRuntime) -> Result<(), Fail> {
+    for intrinsic in INTRINSICS {
+        let terminator = format!(in rt.alloc(); "do {intrinsic}(u8 1, load(x)) -> x to b")?;
+        expect_program(&rt, program(rt.alloc(), "u8", "live x", terminator.as_str(), "")?.as_str());
+    }
+    Ok(())
+}
+
+#[test]
+fn items(rt: HostRuntime) -> Result<(), Fail> {
+    for item in ITEMS {
+        expect_program(&rt, program(rt.alloc(), "u8", "live x", "exit", item)?.as_str());
+    }
+    Ok(())
+}
+
+#[test]
+fn words_that_name_something(rt: HostRuntime) {
+    // A word of the grammar that isn't kept for it may be a name; a comment and any blank stand between tokens.
+    expect_program(&rt, "minirust 1#one\r\nfn\tfn(u8,let)->let{let let:unit,u8:u8;regular regular:exit;}main fn");
+    expect_fault(&rt, "minirust 1 fn live", 1, 15, 4);
+    expect_fault(&rt, "minirust 1 fn _", 1, 15, 4);
+    expect_program(&rt, "minirust 1 fn __() -> _0 { let _0: unit; a regular: exit; } main __");
+}
