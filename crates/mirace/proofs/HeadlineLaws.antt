@@ -76,7 +76,7 @@ unbuilt_answer files command p h =
 
 -- ---- how a call ends
 
-ran_out : (command : Option Command) (old new : Option (List ℕ)) (status : ℕ) → RanOut command old new status → IsLeft old new status
+pub ran_out : (command : Option Command) (old new : Option (List ℕ)) (status : ℕ) → RanOut command old new status → IsLeft old new status
 ran_out None old new status h = absurd h
 ran_out (Some c) old new status h = h
 
@@ -87,7 +87,7 @@ unread_status files (Some (Run program schedule)) a (inl h) = ap (λ (b : Answer
 unread_status files (Some (Run program schedule)) a (inr h) = ap (λ (b : Answer). b.status) h.2
 unread_status files (Some (Check program)) a h = ap (λ (b : Answer). b.status) h
 
-written_status : (a : Answer) (rose : Type 0) (old new : Option (List ℕ)) (status : ℕ) → IsWritten a rose old new status → (status ≡ a.status) ⊎ (rose × (status ≡ 7))
+pub written_status : (a : Answer) (rose : Type 0) (old new : Option (List ℕ)) (status : ℕ) → IsWritten a rose old new status → (status ≡ a.status) ⊎ (rose × (status ≡ 7))
 written_status a rose old new status (inl h) = inl h.0
 written_status a rose old new status (inr h) = inr (h.1, h.0)
 
@@ -125,7 +125,7 @@ module _ (files : Contents) (command : Option Command) (files_rose out_rose : Ty
       → IsTold (refused refusal.NotBuilt) files_rose out_rose old new status
   unbuilt_told p h e = ends_told (refused refusal.NotBuilt) (unbuilt_answer files command p h) e
 
-at_most_one : (v : Verdict) → verdict_status v ≤ 1
+pub at_most_one : (v : Verdict) → verdict_status v ≤ 1
 at_most_one verdict.Running = omega arith
 at_most_one verdict.Exit = omega arith
 at_most_one verdict.Leak = omega arith

@@ -2,7 +2,7 @@ ghost use Rattle.std.specs.Prelude.{◌≡◌, ◌+◌, ◌^◌, ◌≤◌, None
 ghost use Rattle.mr_io.specs.Counts.{Rose};
 ghost use Rattle.mr_io.specs.Files.{Contents};
 ghost use Rattle.mr_step.specs.Built.{Built};
-ghost use Rattle.mirace.specs.Answer.{canonical, if_built, legal_run, run_under, ◌>>=◌};
+ghost use Rattle.mirace.specs.Answer.{canonical, legal_run, run_under};
 ghost use Rattle.mirace.specs.Answering.{IsAnswered, IsChecked, IsReported, IsRunOrUnread, Reports, ReportsOrUnread, Says};
 ghost use Rattle.mirace.specs.Command.{asked, named_files};
 ghost use Rattle.mirace.specs.Outcome.{IsUnreadFault};
@@ -31,10 +31,10 @@ pub fn answer<F: Files>(
     command: Command<'_>,
 ) -> Result<Written, Refusal>
     ensures same { F.told files.new ≡ F.told files.old }
-    ensures reads { F.reads files.new ≤ F.reads files.old + named_files (Some (asked command)) }
+    ensures reads { F.reads files.new ≤ F.reads files.old + named_files (Some (asked command.entry)) }
     ensures faults { F.faults files.old ≤ F.faults files.new }
     ensures answer { (contents : Contents) → F.told files.old ≡ Some contents
-        → IsAnswered contents (asked command) (Rose (F.faults files.old) (F.faults files.new)) result }
+        → IsAnswered contents (asked command.entry) (Rose (F.faults files.old) (F.faults files.new)) result }
     ensures status { IfOk result (λ a. a.status ≤ 1) }
     ensures untold { F.told files.old ≡ None → IsUnreadFault result
         → Rose (F.faults files.old) (F.faults files.new) }

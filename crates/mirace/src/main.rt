@@ -93,14 +93,14 @@ pub fn mirace<F: Files, O: Sink>(alloc: Global, words: &[String], files: &mut F,
 // Does what a command asks for.
 fn obey<F: Files, O: Sink>(alloc: Global, files: &mut F, out: &mut O, command: Command<'_>) -> u8
     ensures ends { (contents : Contents) → F.told files.old ≡ Some contents
-        → Ends contents (Some (asked command)) (Rose (F.faults files.old) (F.faults files.new))
+        → Ends contents (Some (asked command.entry)) (Rose (F.faults files.old) (F.faults files.new))
         (Rose (O.faults out.old) (O.faults out.new)) (O.taken out.old) (O.taken out.new) result }
     ensures no_usage { ¬ result ≡ 2 }
     ensures untold { F.told files.old ≡ None → result ≡ 6 → Rose (F.faults files.old) (F.faults files.new) }
     ensures write_fault { result ≡ 7 → Rose (O.faults out.old) (O.faults out.new) }
     ensures memory { result ≡ 8 → O.taken out.new ≡ O.taken out.old }
     ensures same { F.told files.new ≡ F.told files.old }
-    ensures reads { F.reads files.new ≤ F.reads files.old + named_files (Some (asked command)) }
+    ensures reads { F.reads files.new ≤ F.reads files.old + named_files (Some (asked command.entry)) }
 {
     match answer(alloc, files, command) {
         Ok(written) => finish(out, written.text.as_slice(), written.status),
