@@ -44,7 +44,7 @@ unbuilt_program p none = ap (λ (b : Bool). if b then Ok p else Err refusal.NotB
 named_answer : (files : Contents) (command : Option Command) (p : Program) (w : Schedule) → Names files command p w → answer_of files command ≡ reported (run_of p w)
 named_answer files command p w h =
     let program : built_in (files h.program_name) ≡ Ok p =
-        ap (λ r. r >>= if_built) (denoted_in (files h.program_name) h.program_text p h.program_there h.denotes) ∙ built_program p h.built in
+    ap (λ r. r >>= if_built) (denoted_in (files h.program_name) h.program_text p h.program_there h.denotes) ∙ built_program p h.built in
     let schedule : schedule_in (files h.schedule_name) ≡ Ok w = ap schedule_in h.schedule_there ∙ ap spelled (schedule_again h.schedule_text w h.schedules) in
     let legal : legal_run p w ≡ Ok (run_of p w) = ap (λ f. unless_broken f (run_of p w)) (no_schedule_fault p w h.legal) in
     ap (answer_of files) h.is_run

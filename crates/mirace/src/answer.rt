@@ -136,11 +136,7 @@ fn report_run(alloc: Global, p: &Program, w: &Schedule) -> Result<Written, Refus
 }
 
 // The canonical text of the program in a file.
-fn canonical_file<F: Files>(
-    alloc: Global,
-    files: &mut F,
-    program: &str,
-) -> Result<Written, Refusal>
+fn canonical_file<F: Files>(alloc: Global, files: &mut F, program: &str) -> Result<Written, Refusal>
     ensures same { F.told files.new ≡ F.told files.old }
     ensures reads { F.reads files.new ≤ F.reads files.old + 1 }
     ensures faults { F.faults files.old ≤ F.faults files.new }

@@ -128,10 +128,4 @@ fn words(rt: &HostRuntime) -> io::Result<Vec<String>> {
 }
 
 #[cfg(test)]
-mod run_tests;
-
-#[cfg(test)]
 mod tests;
-
-#[cfg(test)]
-mod text_tests;

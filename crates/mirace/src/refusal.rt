@@ -14,7 +14,11 @@ pub enum Refusal {
     /// The file of the program was not read.
     ReadProgram,
     /// The program's text is wrong at this line and column.
-    Text { line: u32, col: u32, code: u8 },
+    Text {
+        line: u32,
+        col: u32,
+        code: u8,
+    },
     /// The machine doesn't run the program so far.
     NotBuilt,
     /// The file of the schedule was not read.

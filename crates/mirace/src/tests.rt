@@ -1,9 +1,12 @@
+mod runs;
+mod texts;
+
 use super::*;
 use mr_io::{Drawer, OutOfMemory, Tray};
 use std::test::Fail;
 
 // One block that exits.
-pub const EXIT: &str = "minirust 1\nfn main() -> r {\nlet r: unit;\nb0 regular: exit;\n}\nmain main\n";
+const EXIT: &str = "minirust 1\nfn main() -> r {\nlet r: unit;\nb0 regular: exit;\n}\nmain main\n";
 
 fn words_of(alloc: Global, texts: &[&str]) -> Result<Vec<String>, OutOfMemory> {
     let mut words = Vec::new(alloc);
@@ -22,7 +25,7 @@ fn both(alloc: Global, program: &str, schedule: &str) -> Result<Drawer, OutOfMem
 }
 
 // What is written over these files, and the status.
-pub fn answer_over(
+fn answer_over(
     alloc: Global,
     files: &mut Drawer,
     texts: &[&str],
@@ -34,13 +37,13 @@ pub fn answer_over(
 }
 
 // What is written of the run of a program under a schedule, and the status.
-pub fn answer_of_run(alloc: Global, program: &str, schedule: &str) -> Result<(Tray, u8), OutOfMemory> {
+fn answer_of_run(alloc: Global, program: &str, schedule: &str) -> Result<(Tray, u8), OutOfMemory> {
     let mut files = both(alloc, program, schedule)?;
     answer_over(alloc, &mut files, &["run", "P", "S"])
 }
 
 // What is written of the check of a program, and the status.
-pub fn answer_of_check(alloc: Global, program: &str) -> Result<(Tray, u8), OutOfMemory> {
+fn answer_of_check(alloc: Global, program: &str) -> Result<(Tray, u8), OutOfMemory> {
     let mut files = both(alloc, program, "")?;
     answer_over(alloc, &mut files, &["check", "P"])
 }
@@ -91,9 +94,11 @@ fn a_failed_read_is_told_by_check(rt: HostRuntime) -> Result<(), Fail> {
 fn is_told_the_usage(alloc: Global, texts: &[&str]) -> Result<bool, OutOfMemory> {
     let mut files = both(alloc, EXIT, "")?;
     let (out, status) = answer_over(alloc, &mut files, texts)?;
-    Ok(out.taken() == b"usage: see the table of commands\n".as_slice()
-        && status == 2
-        && files.calls == 0)
+    Ok(
+        out.taken() == b"usage: see the table of commands\n".as_slice()
+            && status == 2
+            && files.calls == 0,
+    )
 }
 
 #[test]

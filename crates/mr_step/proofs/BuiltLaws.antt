@@ -314,15 +314,15 @@ block_decides f b =
     (λ h. record { regular = h.0; stmts = h.1.0; term = h.1.1.0; few = h.1.1.1 })
     (λ h. (h.regular, (h.stmts, (h.term, h.few))))
     (Decides-and _ _ (kind_decides b.kind)
-      (Decides-and _ _ (each_decides (is_thin_stmt f) (IsThinStmt f) (stmt_decides f) b.stmts)
-        (Decides-and _ _ (term_decides f b.term) (at_most (length b.stmts) 4096))))
+    (Decides-and _ _ (each_decides (is_thin_stmt f) (IsThinStmt f) (stmt_decides f) b.stmts)
+    (Decides-and _ _ (term_decides f b.term) (at_most (length b.stmts) 4096))))
 
 size_decides : (f : Function)
     → Decides (has_thin_size f) ((f.ret.0 < length f.locals) × ((0 < length f.blocks) × ((length f.locals ≤ 256) × (length f.blocks ≤ 1024))))
 size_decides f =
     Decides-and _ _ (less f.ret.0 (length f.locals))
-      (Decides-and _ _ (less 0 (length f.blocks))
-        (Decides-and _ _ (at_most (length f.locals) 256) (at_most (length f.blocks) 1024)))
+    (Decides-and _ _ (less 0 (length f.blocks))
+    (Decides-and _ _ (at_most (length f.locals) 256) (at_most (length f.blocks) 1024)))
 
 function_decides : (f : Function) → Decides (is_thin_function f) (IsThinFunction f)
 function_decides f =
@@ -338,9 +338,9 @@ function_decides f =
     })
     (λ h. (h.no_args, ((h.ret, (h.has_start, (h.few_locals, h.few_blocks))), (h.types, h.blocks))))
     (Decides-and _ _ (empty_decides f.args)
-      (Decides-and _ _ (size_decides f)
-        (Decides-and _ _ (each_decides is_thin_local (λ (l : Local). IsThinType l.ty) (λ l. type_decides l.ty) f.locals)
-          (each_decides (is_thin_block f) (IsThinBlock f) (block_decides f) f.blocks))))
+    (Decides-and _ _ (size_decides f)
+    (Decides-and _ _ (each_decides is_thin_local (λ (l : Local). IsThinType l.ty) (λ l. type_decides l.ty) f.locals)
+    (each_decides (is_thin_block f) (IsThinBlock f) (block_decides f) f.blocks))))
 
 functions_decide : (fs : List Function) → Decides (are_thin_functions fs) ((f : Function) × (fs ≡ f ∷ []) × IsThinFunction f)
 functions_decide [] = never (λ h. let e = h.1 in absurd (cc))
@@ -356,8 +356,8 @@ built_decides p =
     (λ h. record { edition = h.0; no_globals = h.1.0; function = h.1.1.1.0; only = h.1.1.1.1; is_thin = h.1.1.1.2; start = h.1.1.0 })
     (λ h. (h.edition, (h.no_globals, (h.start, (h.function, h.only, h.is_thin)))))
     (Decides-and _ _ (Decides-eqb p.edition 1)
-      (Decides-and _ _ (empty_decides p.globals)
-        (Decides-and _ _ (Decides-eqb p.start.0 0) (functions_decide p.functions))))
+    (Decides-and _ _ (empty_decides p.globals)
+    (Decides-and _ _ (Decides-eqb p.start.0 0) (functions_decide p.functions))))
 
 pub built_told : (p : Program) → Built p → is_built p ≡ true
 built_told p h = (built_decides p).1 h

@@ -87,10 +87,7 @@ fn is_type(t: &Ty) -> bool
 fn has_blocks(f: &Function) -> bool
     ensures { result ≡ list_all (is_thin_block f.now) f.now.blocks }
 {
-    f.blocks
-        .as_slice()
-        .iter()
-        .all(|block| is_block(f, block))
+    f.blocks.as_slice().iter().all(|block| is_block(f, block))
 }
 
 fn is_block(f: &Function, block: &Block) -> bool

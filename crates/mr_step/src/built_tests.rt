@@ -43,7 +43,10 @@ fn of_term(alloc: Global, term: Term) -> Result<Program, OutOfMemory> {
 // The print of a constant, and on to a block.
 fn print(alloc: Global, int: IntType, number: Num, next: u32) -> Result<Program, OutOfMemory> {
     let args = one(alloc, Value::Int(int, number))?;
-    of_term(alloc, Term::Do(Intrinsic::Print, args, None, BlockName(next)))
+    of_term(
+        alloc,
+        Term::Do(Intrinsic::Print, args, None, BlockName(next)),
+    )
 }
 
 #[test]

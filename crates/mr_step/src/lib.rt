@@ -16,9 +16,9 @@
 mod action;
 mod advance;
 mod begin;
+mod builds;
 #[cfg(test)]
 mod built_tests;
-mod builds;
 mod fault;
 mod first;
 mod laws;

@@ -1,4 +1,4 @@
-use crate::tests::{EXIT, answer_of_check, answer_of_run, answer_over};
+use super::{EXIT, answer_of_check, answer_of_run, answer_over};
 use mr_io::{Drawer, OutOfMemory, Tray};
 use std::alloc::Global;
 use std::test::Fail;
@@ -90,7 +90,10 @@ fn faults_are_told_by_run(rt: HostRuntime) -> Result<(), Fail> {
 fn long_texts_are_told(rt: HostRuntime) -> Result<(), Fail> {
     let alloc = rt.alloc();
     let (longest, status) = answer_to_spaces(alloc, 1 << 20, &["check", "P"])?;
-    assert_eq!(rt; longest.taken(), b"text 1 1048577 4 Unexpected\n".as_slice());
+    assert_eq!(rt;
+        longest.taken(),
+        b"text 1 1048577 4 Unexpected\n".as_slice()
+    );
     assert_eq!(rt; status, 3);
     let (checked, checks) = answer_to_spaces(alloc, (1 << 20) + 1, &["check", "P"])?;
     assert_eq!(rt; checked.taken(), b"text 1 1 3 LongText\n".as_slice());
@@ -106,7 +109,8 @@ fn what_is_not_built_is_told_by_run(rt: HostRuntime) -> Result<(), Fail> {
     let (out, status) = answer_of_run(rt.alloc(), RETURN, "no schedule")?;
     assert_eq!(rt; out.taken(), b"text 1 1 90 NotBuilt\n".as_slice());
     assert_eq!(rt; status, 3);
-    let canonical = b"minirust 1\nfn main ( ) -> r {\nlet r : unit ;\nb0 regular :\nreturn ;\n}\nmain main\n";
+    let canonical =
+        b"minirust 1\nfn main ( ) -> r {\nlet r : unit ;\nb0 regular :\nreturn ;\n}\nmain main\n";
     let (checked, checks) = answer_of_check(rt.alloc(), RETURN)?;
     assert_eq!(rt; checked.taken(), canonical.as_slice());
     assert_eq!(rt; checks, 0);

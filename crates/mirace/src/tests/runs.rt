@@ -1,4 +1,4 @@
-use crate::tests::{EXIT, answer_of_run};
+use super::{EXIT, answer_of_run};
 use std::test::Fail;
 
 // A local lives while 42 is printed.
