@@ -39,14 +39,16 @@ abbrev pub IsUnreadHere : Contents → List ℕ → Result Written Refusal → T
 IsUnreadHere files program result =
     (result ≡ Err refusal.ReadProgram) ⊎ ((p : Program) × (built_in (files program) ≡ Ok p) × (result ≡ Err refusal.ReadSchedule))
 
+-- the report of the run of what two files hold, or what refuses it; or a read failed
 abbrev pub IsReported : Contents → List ℕ → List ℕ → Type 0 → Result Written Refusal → Type 0
 IsReported files program schedule rose result =
     Reports (run_in files program schedule) result ⊎ (rose × IsUnreadHere files program result)
 
--- the canonical text of the program in a file, or what refuses it
+-- the canonical text of the program in a file, or what refuses it; or the read failed
 abbrev pub IsChecked : Contents → List ℕ → Type 0 → Result Written Refusal → Type 0
 IsChecked files program rose result = Says canonical (program_in (files program)) result ⊎ (rose × (result ≡ Err refusal.ReadProgram))
 
+-- how a command is answered
 abbrev pub IsAnswered : Contents → Command → Type 0 → Result Written Refusal → Type 0
 IsAnswered files (Run program schedule) rose result = IsReported files program schedule rose result
 IsAnswered files (Check program) rose result = IsChecked files program rose result

@@ -32,7 +32,7 @@ use Rattle.mr_ast.specs.declared.program.Term.TheVariants as term
 use Rattle.mr_ast.specs.declared.program.Block.{Block}
 use Rattle.mr_ast.specs.declared.program.Function.{Function}
 use Rattle.mr_ast.specs.declared.program.Program.{Program}
-use Rattle.mr_ast.specs.Thin.{FitsBits, FitsInt, IsConstant, IsThin, IsThinBlock, IsThinFunction, IsThinStmt, IsThinTerm, IsThinType, bits_of, is_signed, unit}
+use Rattle.mr_ast.specs.Thin.{FitsBits, FitsInt, IsConstant, IsThinBlock, IsThinFunction, IsThinStmt, IsThinTerm, IsThinType, bits_of, is_signed, unit}
 use Rattle.mr_ast.proofs.TypeInduction.{type_induction}
 use Rattle.mr_ast.proofs.ExprInduction.{value_induction}
 use Rattle.mr_step.specs.Built.{Built, are_constants, are_thin_functions, fits_bits, fits_int, has_no_result, has_thin_size, is_built, is_constant, is_constant_layer, is_print, is_regular, is_thin_block, is_thin_function, is_thin_layer, is_thin_local, is_thin_stmt, is_thin_term, is_thin_type}

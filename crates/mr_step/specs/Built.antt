@@ -56,6 +56,7 @@ is_thin_layer (Ty-F.Enum size align disc variants tree) = false
 unfoldable pub is_thin_type : Ty → Bool
 is_thin_type t = is_thin_layer (out-Ty t)
 
+-- a local whose type is thin
 abbrev pub is_thin_local : Local → Bool
 is_thin_local l = is_thin_type l.ty
 
@@ -88,15 +89,17 @@ is_constant_layer (Value-F.Transmute t v) = false
 is_constant_layer (Value-F.Unary o v) = false
 is_constant_layer (Value-F.Binary o a b) = false
 
+-- a constant that fits its type
 unfoldable pub is_constant : Value → Bool
 is_constant v = is_constant_layer (out-Value v)
 
--- the arguments of a thin print
+-- the arguments of a thin print: one constant
 abbrev pub are_constants : List Value → Bool
 are_constants [] = false
 are_constants (v ∷ []) = is_constant v
 are_constants (v ∷ w ∷ vs) = false
 
+-- whether the intrinsic is the print
 abbrev pub is_print : Intrinsic → Bool
 is_print intrinsic.Assume = false
 is_print intrinsic.Print = true
@@ -136,6 +139,7 @@ is_thin_term f (term.Stop b) = false
 is_thin_term f (term.Unwind v b) = false
 is_thin_term f (term.Call callee args place next unwind) = false
 
+-- whether the block is a regular one
 abbrev pub is_regular : BlockKind → Bool
 is_regular kind.Regular = true
 is_regular kind.Cleanup = false
