@@ -3,12 +3,18 @@ use Rattle.std.proofs.Common.{◌≡◌, [], ◌∷◌, ◌++◌, Some, None, co
 use Rattle.std.specs.Fmt.{digits}
 use Rattle.mr_base.specs.declared.reason.Reason.TheVariants.{DataRace}
 use Rattle.mr_base.specs.declared.reason.Verdict.TheVariants as verdict
-use Rattle.mirace.specs.declared.refusal.Refusal.TheVariants.{Schedule}
-use Rattle.mirace.specs.Command.{Run, command_of}
+use Rattle.mirace.specs.declared.refusal.Refusal.TheVariants.{Schedule, Text}
+use Rattle.mirace.specs.Command.{Check, Run, command_of}
 use Rattle.mirace.specs.Report.{line, report_of, refusal_text}
 
 the_form : command_of (codes "run" ∷ codes "P" ∷ codes "S" ∷ []) ≡ Some (Run (codes "P") (codes "S"))
 the_form = refl
+
+the_other_form : command_of (codes "check" ∷ codes "P" ∷ []) ≡ Some (Check (codes "P"))
+the_other_form = refl
+
+a_word_more : command_of (codes "check" ∷ codes "P" ∷ codes "S" ∷ []) ≡ None
+a_word_more = refl
 
 a_word_short : command_of (codes "run" ∷ codes "P" ∷ []) ≡ None
 a_word_short = refl
@@ -30,3 +36,7 @@ with_the_earlier = refl
 at_a_line : refusal_text (Schedule 3 51 None) ≡ line (codes "schedule 3 51 BadLine")
 unfolding digits
 at_a_line = refl
+
+of_a_text : refusal_text (Text 1 16 4) ≡ line (codes "text 1 16 4 Unexpected")
+unfolding digits
+of_a_text = refl

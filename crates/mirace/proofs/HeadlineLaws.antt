@@ -1,34 +1,82 @@
--- The headline follows from how a call ends.
-use Rattle.std.proofs.Common.{◌≡◌, ℕ, ◌≤◌, ap, ◌∙◌, subst, arith, List, ◌⊎◌, inl, inr}
-use Rattle.std.specs.Prelude.{Some, None, Option, Ok}
+-- The headline, and what is said of a text, follow from how a call ends.
+use Rattle.std.proofs.Common.{◌≡◌, ℕ, ◌≤◌, Bool, true, false, ap, ◌∙◌, sym, subst, arith, List, ◌⊎◌, inl, inr}
+use Rattle.std.specs.Prelude.{Some, None, Option, Result, Ok, Err, if◌then◌else◌}
 use Rattle.mr_ast.specs.declared.program.Program.{Program}
 use Rattle.mr_base.specs.declared.reason.Verdict.{Verdict}
 use Rattle.mr_base.specs.declared.reason.Verdict.TheVariants as verdict
 use Rattle.mr_io.specs.Files.{Contents}
+use Rattle.mr_lex.specs.declared.token.TextFault.{TextFault}
+use Rattle.mr_parse.specs.Denotes.{Denotes}
+use Rattle.mr_parse.specs.Faults.{FirstFault}
+use Rattle.mr_parse.proofs.ParsingLaws.{denotes_parsed, fault_parsed}
 use Rattle.mr_sched.specs.declared.schedule.Schedule.{Schedule}
 use Rattle.mr_sched.proofs.TextLaws.{schedule_again}
+use Rattle.mr_step.specs.Built.{Built, is_built}
 use Rattle.mr_step.specs.Start.{run_of}
+use Rattle.mr_step.proofs.BuiltLaws.{built_told, not_built_told}
 use Rattle.mr_step.proofs.RunLaws.{no_schedule_fault}
 use Rattle.mr_step.proofs.SoundRuns.{sound_run}
-use Rattle.mr_thin.proofs.ProgramLaws.{denotes-thin_program}
-use Rattle.mirace.specs.Command.{Command, Run}
-use Rattle.mirace.specs.Answer.{Answer, program_in, schedule_in, denoted, spelled, legal_run, run_under, unless_broken, reported, answer_to, answer_of, ◌>>=◌}
+use Rattle.mirace.specs.declared.refusal.Refusal.{Refusal}
+use Rattle.mirace.specs.declared.refusal.Refusal.TheVariants as refusal
+use Rattle.mirace.specs.Command.{Command, Run, Check}
+use Rattle.mirace.specs.Answer.{Answer, program_in, if_built, built_in, schedule_in, denoted, spelled, text_refusal, legal_run, run_under, unless_broken, canonical, refused, reported, told, answer_of, ◌>>=◌}
 use Rattle.mirace.specs.Report.{verdict_status}
 use Rattle.mirace.specs.Outcome.{Ends, RanOut, IsLeft, IsPossible, IsUnread, IsWritten}
-use Rattle.mirace.specs.Headline.{Names, IsOfMachine, IsReadFault}
+use Rattle.mirace.specs.Headline.{ChecksProgram, Names, NamesFault, RunsUnbuilt, IsOfMachine, IsReadFault, IsTold}
+
+-- ---- what a file holds
+
+denoted_in : (file : Option (List ℕ)) (text : List ℕ) (p : Program) → file ≡ Some text → Denotes text p → program_in file ≡ Ok p
+denoted_in file text p there d = ap program_in there ∙ ap denoted (denotes_parsed text p d)
+
+fault_in : (file : Option (List ℕ)) (text : List ℕ) (fault : TextFault) → file ≡ Some text → FirstFault text fault → program_in file ≡ Err (text_refusal fault)
+fault_in file text fault there f = ap program_in there ∙ ap denoted (fault_parsed text fault f)
+
+built_program : (p : Program) → Built p → if_built p ≡ Ok p
+built_program p h = ap (λ (b : Bool). if b then Ok p else Err refusal.NotBuilt) (built_told p h)
+
+unbuilt_program : (p : Program) → ¬ Built p → if_built p ≡ Err refusal.NotBuilt
+unbuilt_program p none = ap (λ (b : Bool). if b then Ok p else Err refusal.NotBuilt) (not_built_told p none)
+
+-- ---- the answers by definition
 
 -- a program and a legal schedule are answered by the report of their run
 named_answer : (files : Contents) (command : Option Command) (p : Program) (w : Schedule) → Names files command p w → answer_of files command ≡ reported (run_of p w)
 named_answer files command p w h =
-    let program : program_in (files h.program_name) ≡ Ok p = ap program_in h.program_there ∙ ap denoted (denotes-thin_program h.program_text p h.denotes) in
+    let program : built_in (files h.program_name) ≡ Ok p =
+    ap (λ r. r >>= if_built) (denoted_in (files h.program_name) h.program_text p h.program_there h.denotes) ∙ built_program p h.built in
     let schedule : schedule_in (files h.schedule_name) ≡ Ok w = ap schedule_in h.schedule_there ∙ ap spelled (schedule_again h.schedule_text w h.schedules) in
     let legal : legal_run p w ≡ Ok (run_of p w) = ap (λ f. unless_broken f (run_of p w)) (no_schedule_fault p w h.legal) in
     ap (answer_of files) h.is_run
-    ∙ ap (λ r. answer_to (r >>= run_under (files h.schedule_name))) program
-    ∙ ap (λ r. answer_to (r >>= legal_run p)) schedule
-    ∙ ap answer_to legal
+    ∙ ap (λ r. told reported (r >>= run_under (files h.schedule_name))) program
+    ∙ ap (λ r. told reported (r >>= legal_run p)) schedule
+    ∙ ap (told reported) legal
 
-ran_out : (command : Option Command) (old new : Option (List ℕ)) (status : ℕ) → RanOut command old new status → IsLeft old new status
+-- a program that is checked is answered by its canonical text
+checked_answer : (files : Contents) (command : Option Command) (p : Program) → ChecksProgram files command p → answer_of files command ≡ canonical p
+checked_answer files command p h = ap (answer_of files) h.is_check ∙ ap (told canonical) (denoted_in (files h.name) h.text p h.there h.denotes)
+
+-- the first fault of a program's text is told by each command
+fault_answer : (files : Contents) (command : Option Command) (fault : TextFault) → NamesFault files command fault → answer_of files command ≡ refused (text_refusal fault)
+fault_answer files command fault h = go h.names_program
+  where
+    at : program_in (files h.name) ≡ Err (text_refusal fault)
+    at = fault_in (files h.name) h.text fault h.there h.first
+
+    go : (command ≡ Some (Check h.name)) ⊎ ((schedule : List ℕ) × (command ≡ Some (Run h.name schedule))) → answer_of files command ≡ refused (text_refusal fault)
+    go (inl is) = ap (answer_of files) is ∙ ap (told canonical) at
+    go (inr run) = ap (answer_of files) run.1 ∙ ap (λ r. told reported (r >>= if_built >>= run_under (files run.0))) at
+
+-- a program that isn't built is refused by a run
+unbuilt_answer : (files : Contents) (command : Option Command) (p : Program) → RunsUnbuilt files command p → answer_of files command ≡ refused refusal.NotBuilt
+unbuilt_answer files command p h =
+    ap (answer_of files) h.is_run
+    ∙ ap (λ r. told reported (r >>= if_built >>= run_under (files h.schedule_name))) (denoted_in (files h.name) h.text p h.there h.denotes)
+    ∙ ap (λ r. told reported (r >>= run_under (files h.schedule_name))) (unbuilt_program p h.not_built)
+
+-- ---- how a call ends
+
+pub ran_out : (command : Option Command) (old new : Option (List ℕ)) (status : ℕ) → RanOut command old new status → IsLeft old new status
 ran_out None old new status h = absurd h
 ran_out (Some c) old new status h = h
 
@@ -37,16 +85,17 @@ unread_status : (files : Contents) (command : Option Command) (a : Answer) → I
 unread_status files None a h = absurd h
 unread_status files (Some (Run program schedule)) a (inl h) = ap (λ (b : Answer). b.status) h
 unread_status files (Some (Run program schedule)) a (inr h) = ap (λ (b : Answer). b.status) h.2
+unread_status files (Some (Check program)) a h = ap (λ (b : Answer). b.status) h
 
-written_status : (a : Answer) (rose : Type 0) (old new : Option (List ℕ)) (status : ℕ) → IsWritten a rose old new status → (status ≡ a.status) ⊎ (rose × (status ≡ 7))
+pub written_status : (a : Answer) (rose : Type 0) (old new : Option (List ℕ)) (status : ℕ) → IsWritten a rose old new status → (status ≡ a.status) ⊎ (rose × (status ≡ 7))
 written_status a rose old new status (inl h) = inl h.0
 written_status a rose old new status (inr h) = inr (h.1, h.0)
 
-module _ (files : Contents) (command : Option Command) (p : Program) (w : Schedule) (files_rose out_rose : Type 0) (old new : Option (List ℕ)) (status : ℕ) (h : Names files command p w) where
-  by_answer : (a : Answer) → IsPossible files command files_rose a → IsWritten a out_rose old new status
-      → IsWritten (reported (run_of p w)) out_rose old new status ⊎ (IsLeft old new status ⊎ IsReadFault files_rose status)
-  by_answer a (inl is) written = inl (subst (λ b. IsWritten b out_rose old new status) (is ∙ named_answer files command p w h) written)
-  by_answer a (inr unread) written =
+module _ (files : Contents) (command : Option Command) (files_rose out_rose : Type 0) (old new : Option (List ℕ)) (status : ℕ) where
+  possible_told : (a b : Answer) → answer_of files command ≡ b → IsPossible files command files_rose a → IsWritten a out_rose old new status
+      → IsTold b files_rose out_rose old new status
+  possible_told a b e (inl is) written = inl (subst (λ c. IsWritten c out_rose old new status) (is ∙ e) written)
+  possible_told a b e (inr unread) written =
       inr (inr (
         unread.0,
         elim (written_status a out_rose old new status written) [
@@ -55,14 +104,28 @@ module _ (files : Contents) (command : Option Command) (p : Program) (w : Schedu
         ],
       ))
 
-  report : Ends files command files_rose out_rose old new status → IsWritten (reported (run_of p w)) out_rose old new status ⊎ (IsLeft old new status ⊎ IsReadFault files_rose status)
-  report (inl out) = inr (inl (ran_out command old new status out))
-  report (inr e) = by_answer e.0 e.1 e.2
+  -- the answer by definition is told
+  ends_told : (b : Answer) → answer_of files command ≡ b → Ends files command files_rose out_rose old new status → IsTold b files_rose out_rose old new status
+  ends_told b e (inl out) = inr (inl (ran_out command old new status out))
+  ends_told b e (inr ends) = possible_told ends.0 b e ends.1 ends.2
 
-  pub of_machine : Ends files command files_rose out_rose old new status → IsOfMachine p w files_rose out_rose old new status
-  of_machine e = record { sound = sound_run p w h.denotes.is_thin h.legal; report = report e }
+  pub of_machine : (p : Program) (w : Schedule) → Names files command p w → Ends files command files_rose out_rose old new status
+      → IsOfMachine p w files_rose out_rose old new status
+  of_machine p w h e = record { sound = sound_run p w h.built h.legal; report = ends_told (reported (run_of p w)) (named_answer files command p w h) e }
 
-at_most_one : (v : Verdict) → verdict_status v ≤ 1
+  pub canonical_told : (p : Program) → ChecksProgram files command p → Ends files command files_rose out_rose old new status
+      → IsTold (canonical p) files_rose out_rose old new status
+  canonical_told p h e = ends_told (canonical p) (checked_answer files command p h) e
+
+  pub fault_told : (fault : TextFault) → NamesFault files command fault → Ends files command files_rose out_rose old new status
+      → IsTold (refused (text_refusal fault)) files_rose out_rose old new status
+  fault_told fault h e = ends_told (refused (text_refusal fault)) (fault_answer files command fault h) e
+
+  pub unbuilt_told : (p : Program) → RunsUnbuilt files command p → Ends files command files_rose out_rose old new status
+      → IsTold (refused refusal.NotBuilt) files_rose out_rose old new status
+  unbuilt_told p h e = ends_told (refused refusal.NotBuilt) (unbuilt_answer files command p h) e
+
+pub at_most_one : (v : Verdict) → verdict_status v ≤ 1
 at_most_one verdict.Running = omega arith
 at_most_one verdict.Exit = omega arith
 at_most_one verdict.Leak = omega arith

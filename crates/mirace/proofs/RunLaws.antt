@@ -56,6 +56,7 @@ broken_gives : (line : ℕ) (f : Option Fault) (x : Config Own) (later : Option 
     → Refuses r (unless_broken (at_line line f later) z)
 broken_gives line f x later z refusal.Memory h = tt
 broken_gives line f x later z refusal.ReadProgram h = broken line f x later z _ h
+broken_gives line f x later z (refusal.Text at col code) h = broken line f x later z _ h
 broken_gives line f x later z refusal.NotBuilt h = broken line f x later z _ h
 broken_gives line f x later z refusal.ReadSchedule h = broken line f x later z _ h
 broken_gives line f x later z (refusal.Schedule at code earlier) h = broken line f x later z _ h

@@ -1,16 +1,19 @@
 -- What a call answers by definition: a text and a status, from the words and what the files hold.
-use Rattle.std.specs.Prelude.{ℕ, List, Option, None, Some, Result, Ok, Err}
+use Rattle.std.specs.Prelude.{ℕ, List, Option, None, Some, Result, Ok, Err, if◌then◌else◌}
 use Rattle.mr_ast.specs.declared.program.Program.{Program}
+use Rattle.mr_ast.specs.Canon.{canonical_text}
 use Rattle.mr_io.specs.Files.{Contents}
+use Rattle.mr_lex.specs.declared.token.TextFault.{TextFault}
+use Rattle.mr_parse.specs.Parsing.{parsed}
 use Rattle.mr_sched.specs.declared.schedule.Schedule.{Schedule}
 use Rattle.mr_sched.specs.Reading.{Fault, schedule_of}
+use Rattle.mr_step.specs.Built.{is_built}
 use Rattle.mr_step.specs.Runs.{Config}
 use Rattle.mr_step.specs.Language.{Own}
 use Rattle.mr_step.specs.Start.{run_of, schedule_fault, PlacedFault}
-use Rattle.mr_thin.specs.Reading.{thin_program}
 use Rattle.mirace.specs.declared.refusal.Refusal.{Refusal}
 use Rattle.mirace.specs.declared.refusal.Refusal.TheVariants as refusal
-use Rattle.mirace.specs.Command.{Command, Run}
+use Rattle.mirace.specs.Command.{Command, Run, Check}
 use Rattle.mirace.specs.Report.{report_of, verdict_status, refusal_text, refusal_status, usage_text}
 
 infixl 10 ◌>>=◌
@@ -18,15 +21,27 @@ abbrev pub ◌>>=◌ : {A B : Type 0} → Result A Refusal → (A → Result B R
 (Ok x) >>= f = f x
 (Err r) >>= f = Err r
 
--- the program that a text denotes
-abbrev pub denoted : Option Program → Result Program Refusal
-denoted None = Err refusal.NotBuilt
-denoted (Some p) = Ok p
+-- the first fault of a text, as a refusal
+abbrev pub text_refusal : TextFault → Refusal
+text_refusal f = refusal.Text f.line f.col f.code
+
+-- the program that a text denotes, or the text's first fault
+abbrev pub denoted : Result Program TextFault → Result Program Refusal
+denoted (Ok p) = Ok p
+denoted (Err f) = Err (text_refusal f)
 
 -- the program in a file
 abbrev pub program_in : Option (List ℕ) → Result Program Refusal
 program_in None = Err refusal.ReadProgram
-program_in (Some bytes) = denoted (thin_program bytes)
+program_in (Some bytes) = denoted (parsed bytes)
+
+-- the program, where the machine runs it
+abbrev pub if_built : Program → Result Program Refusal
+if_built p = if is_built p then Ok p else Err refusal.NotBuilt
+
+-- the program in a file, where the machine runs it
+abbrev pub built_in : Option (List ℕ) → Result Program Refusal
+built_in file = program_in file >>= if_built
 
 abbrev pub spelled : Result Schedule Fault → Result Schedule Refusal
 spelled (Ok w) = Ok w
@@ -49,9 +64,9 @@ legal_run p w = unless_broken (schedule_fault p w) (run_of p w)
 abbrev pub run_under : Option (List ℕ) → Program → Result (Config Own) Refusal
 run_under file p = schedule_in file >>= legal_run p
 
--- the run of what two files hold, or what refuses it: first of the program's file, then of the schedule's, then of the run
+-- the run of what two files hold, or what refuses it: first of the program's file and of the program, then of the schedule's file, then of the run
 abbrev pub run_in : Contents → List ℕ → List ℕ → Result (Config Own) Refusal
-run_in files program schedule = program_in (files program) >>= run_under (files schedule)
+run_in files program schedule = built_in (files program) >>= run_under (files schedule)
 
 pub record Answer : Type 0 where
   pub text : List ℕ
@@ -63,9 +78,14 @@ refused r = record { text = refusal_text r; status = refusal_status r }
 abbrev pub reported : Config Own → Answer
 reported c = record { text = report_of c.output c.verdict; status = verdict_status c.verdict }
 
-abbrev pub answer_to : Result (Config Own) Refusal → Answer
-answer_to (Ok c) = reported c
-answer_to (Err r) = refused r
+-- the canonical text of a program
+abbrev pub canonical : Program → Answer
+canonical p = record { text = canonical_text p; status = 0 }
+
+-- what is said of what was found, or what refuses it
+abbrev pub told : {A : Type 0} → (A → Answer) → Result A Refusal → Answer
+told say (Ok x) = say x
+told say (Err r) = refused r
 
 abbrev pub usage : Answer
 usage = record { text = usage_text; status = 2 }
@@ -73,4 +93,5 @@ usage = record { text = usage_text; status = 2 }
 -- THE ANSWER to a command over these files; words of no form are told the usage
 abbrev pub answer_of : Contents → Option Command → Answer
 answer_of files None = usage
-answer_of files (Some (Run program schedule)) = answer_to (run_in files program schedule)
+answer_of files (Some (Run program schedule)) = told reported (run_in files program schedule)
+answer_of files (Some (Check program)) = told canonical (program_in (files program))

@@ -41,6 +41,24 @@ verdict_status (verdict.Undefined r) = 1
 
 -- ---- refusals
 
+-- the name of a text's fault, by its code
+abbrev pub text_fault_name : ℕ → List ℕ
+text_fault_name code =
+    if code == 1 then codes "BadByte"
+    else (if code == 2 then codes "BadNumber"
+    else (if code == 3 then codes "LongText"
+    else (if code == 4 then codes "Unexpected"
+    else (if code == 5 then codes "UnknownName"
+    else (if code == 6 then codes "DoubleName"
+    else (if code == 7 then codes "TooDeep"
+    else (if code == 8 then codes "TooMany"
+    else (if code == 9 then codes "Exposed"
+    else (if code == 90 then codes "NotBuilt" else [])))))))))
+
+-- `text LINE COL CODE NAME`
+abbrev pub text_line : ℕ → ℕ → ℕ → List ℕ
+text_line at col code = line (codes "text " ++ decimal at ++ codes " " ++ decimal col ++ codes " " ++ decimal code ++ codes " " ++ text_fault_name code)
+
 -- the name of a schedule's fault, by its code
 abbrev pub fault_name : ℕ → List ℕ
 fault_name code =
@@ -64,7 +82,8 @@ earlier_text (Some id) = codes " " ++ decimal id.thread ++ codes " " ++ decimal 
 
 abbrev pub refusal_text : Refusal → List ℕ
 refusal_text refusal.ReadProgram = line (codes "read program")
-refusal_text refusal.NotBuilt = line (codes "text 1 1 90 NotBuilt")
+refusal_text (refusal.Text at col code) = text_line at col code
+refusal_text refusal.NotBuilt = text_line 1 1 90
 refusal_text refusal.ReadSchedule = line (codes "read schedule")
 refusal_text (refusal.Schedule at code earlier) =
     line (codes "schedule " ++ decimal at ++ codes " " ++ decimal code ++ codes " " ++ fault_name code ++ earlier_text earlier)
@@ -72,6 +91,7 @@ refusal_text refusal.Memory = []
 
 abbrev pub refusal_status : Refusal → ℕ
 refusal_status refusal.ReadProgram = 6
+refusal_status (refusal.Text at col code) = 3
 refusal_status refusal.NotBuilt = 3
 refusal_status refusal.ReadSchedule = 6
 refusal_status (refusal.Schedule at code earlier) = 5

@@ -1,18 +1,18 @@
 ghost use Rattle.std.specs.Prelude.{◌≡◌, ◌+◌, ◌^◌, ◌≤◌, None, Some, length, IfOk};
-ghost use Rattle.mr_ast.specs.Thin.{IsThin};
 ghost use Rattle.mr_io.specs.Counts.{Rose};
 ghost use Rattle.mr_io.specs.Files.{Contents};
+ghost use Rattle.mr_parse.specs.Parsing.{parsed};
 ghost use Rattle.mr_sched.specs.Reading.{schedule_of};
-ghost use Rattle.mr_thin.specs.Reading.{thin_program};
-ghost use Rattle.mirace.specs.Answer.{denoted, program_in, schedule_in, spelled};
+ghost use Rattle.mirace.specs.Answer.{denoted, program_in, schedule_in, spelled, text_refusal};
 ghost use Rattle.mirace.specs.Outcome.{Gives, IsRead, IsUnreadFault};
 ghost use Rattle.mirace.specs.declared.refusal.Refusal.TheVariants.{ReadProgram, ReadSchedule};
 
 use crate::refusal::Refusal;
 use mr_ast::Program;
 use mr_io::{FileFault, Files};
+use mr_lex::{LONG_TEXT, TextFault};
+use mr_parse::ParseFault;
 use mr_sched::{SchedFault, Schedule, TOO_LONG};
-use mr_thin::ThinFault;
 use std::alloc::Global;
 
 // The bytes that a program's text and a schedule's may have at most.
@@ -25,7 +25,6 @@ pub fn read_program<F: Files>(alloc: Global, files: &mut F, name: &str) -> Resul
     ensures same { F.told files.new ≡ F.told files.old }
     ensures reads { F.reads files.new ≤ F.reads files.old + 1 }
     ensures faults { F.faults files.old ≤ F.faults files.new }
-    ensures thin { IfOk result IsThin }
     ensures read { (contents : Contents) → F.told files.old ≡ Some contents
         → IsRead (Rose (F.faults files.old) (F.faults files.new)) ReadProgram result (program_in (contents name.now)) }
     ensures untold { F.told files.old ≡ None → IsUnreadFault result
@@ -35,21 +34,35 @@ pub fn read_program<F: Files>(alloc: Global, files: &mut F, name: &str) -> Resul
     match files.read(alloc, name, MAX_PROGRAM, &mut text) {
         Ok(()) => program(alloc, text.as_slice()),
         Err(FileFault::Failed) | Err(FileFault::Missing) => Err(Refusal::ReadProgram),
-        Err(FileFault::Long) => Err(Refusal::NotBuilt),
+        Err(FileFault::Long) => Err(Refusal::Text {
+            line: 1,
+            col: 1,
+            code: LONG_TEXT,
+        }),
         Err(FileFault::Memory) => Err(Refusal::Memory),
     }
 }
 
 // The program that a text denotes.
 fn program(alloc: Global, text: &[u8]) -> Result<Program, Refusal>
-    ensures given { Gives result (denoted (thin_program text.now)) }
+    ensures given { Gives result (denoted (parsed text.now)) }
     ensures read { ¬ IsUnreadFault result }
-    ensures thin { IfOk result IsThin }
 {
-    match mr_thin::read(alloc, text) {
+    match mr_parse::parse(alloc, text) {
         Ok(program) => Ok(program),
-        Err(ThinFault::NotThin) => Err(Refusal::NotBuilt),
-        Err(ThinFault::Memory) => Err(Refusal::Memory),
+        Err(ParseFault::Text(fault)) => Err(wrong(fault)),
+        Err(ParseFault::Memory) => Err(Refusal::Memory),
+    }
+}
+
+// A program's text that is wrong.
+fn wrong(fault: TextFault) -> Refusal
+    ensures { result ≡ text_refusal fault }
+{
+    Refusal::Text {
+        line: fault.line,
+        col: fault.col,
+        code: fault.code,
     }
 }
 

@@ -1,20 +1,26 @@
 //! `mirace run P S`: what the machine comes to that runs the program in file P under the recorded schedule in file S.
+//! `mirace check P`: the canonical text of the program in file P.
+//!
+//! Where the text denotes no program, both write the first fault of it: its line, its column, a code and a name. A program that
+//! the machine doesn't run so far is refused by `run`, and `check` writes its text. What is run so far are thin programs: one
+//! function without arguments whose steps are `live`, `dead`, `goto`, the print of a constant and `exit`.
 //!
 //! The public call is [`mirace`], over files and a sink. Its promises are clauses of it: what is written and the status are those
-//! of `specs/Answer.antt`, each fault has its cause, and of a program and a legal schedule the report is that of the machine of
-//! MiniRust, none of whose steps is ill-formed (`specs/Headline.antt`). What is run so far are thin programs: one function
-//! without arguments whose steps are `live`, `dead`, `goto`, the print of a constant and `exit`.
+//! of `specs/Answer.antt`, and each fault has its cause. Of a program and a legal schedule the report is that of the machine of
+//! MiniRust, none of whose steps is ill-formed; and a text is answered by what it denotes or breaks (`specs/Headline.antt`).
 #![tactic(auto)]
 
 ghost use Rattle.std.specs.Prelude.{◌≡◌, ◌+◌, ◌≤◌, ◌⊎◌, None, Some, map, string_bytes};
 ghost use Rattle.mr_ast.specs.declared.program.Program.{Program};
 ghost use Rattle.mr_io.specs.Counts.{Rose};
 ghost use Rattle.mr_io.specs.Files.{Contents};
+ghost use Rattle.mr_lex.specs.declared.token.TextFault.{TextFault};
 ghost use Rattle.mr_sched.specs.declared.schedule.Schedule.{Schedule};
-ghost use Rattle.mirace.specs.Answer.{usage};
-ghost use Rattle.mirace.specs.Command.{Run, command_of, named_files};
-ghost use Rattle.mirace.specs.Headline.{IsOfMachine, IsUnreadBecause, Names};
+ghost use Rattle.mirace.specs.Answer.{canonical, refused, text_refusal, usage};
+ghost use Rattle.mirace.specs.Command.{asked, command_of, named_files};
+ghost use Rattle.mirace.specs.Headline.{ChecksProgram, IsOfMachine, IsTold, IsUnreadBecause, Names, NamesFault, RunsUnbuilt};
 ghost use Rattle.mirace.specs.Outcome.{Ends, IsWritten};
+ghost use Rattle.mirace.specs.declared.refusal.Refusal.TheVariants.{NotBuilt};
 
 mod answer;
 mod command;
@@ -24,8 +30,8 @@ mod report;
 mod run;
 mod writing;
 
-use crate::answer::report_files;
-use crate::command::files_of;
+use crate::answer::answer;
+use crate::command::{Command, command_of};
 use crate::writing::{finish, refuse};
 use mr_io::{Files, HostFiles, HostOut, Sink};
 use std::alloc::Global;
@@ -35,9 +41,9 @@ use std::process::ExitCode;
 
 const USAGE: &[u8] = b"usage: see the table of commands\n";
 
-/// Does what the words behind the program's name ask for, and answers the exit status: 0 or 1 of a report, 2 of words without a
-/// form, 3 of a text that is no program that is built, 5 of a schedule, 6 of a file that was not read, 7 of a failed write and 8
-/// where memory ran out.
+/// Does what the words behind the program's name ask for, and answers the exit status: 0 or 1 of a report, 0 of a canonical text,
+/// 2 of words without a form, 3 of a text that denotes no program or a program that isn't built, 5 of a schedule, 6 of a file
+/// that was not read, 7 of a failed write and 8 where memory ran out.
 pub fn mirace<F: Files, O: Sink>(alloc: Global, words: &[String], files: &mut F, out: &mut O) -> u8
     // What is written and answered, over files that tell what they hold.
     ensures ends { (contents : Contents) → F.told files.old ≡ Some contents
@@ -54,6 +60,20 @@ pub fn mirace<F: Files, O: Sink>(alloc: Global, words: &[String], files: &mut F,
         → ¬ Rose (F.faults files.old) (F.faults files.new) → ¬ Rose (O.faults out.old) (O.faults out.new)
         → (result ≤ 1) ⊎ (result ≡ 8) }
 
+    // A program's text is answered by what it denotes or breaks.
+    ensures canonical { (contents : Contents) (p : Program) → F.told files.old ≡ Some contents
+        → ChecksProgram contents (command_of (map string_bytes words.now)) p
+        → IsTold (canonical p) (Rose (F.faults files.old) (F.faults files.new))
+        (Rose (O.faults out.old) (O.faults out.new)) (O.taken out.old) (O.taken out.new) result }
+    ensures text_fault { (contents : Contents) (fault : TextFault) → F.told files.old ≡ Some contents
+        → NamesFault contents (command_of (map string_bytes words.now)) fault
+        → IsTold (refused (text_refusal fault)) (Rose (F.faults files.old) (F.faults files.new))
+        (Rose (O.faults out.old) (O.faults out.new)) (O.taken out.old) (O.taken out.new) result }
+    ensures not_built { (contents : Contents) (p : Program) → F.told files.old ≡ Some contents
+        → RunsUnbuilt contents (command_of (map string_bytes words.now)) p
+        → IsTold (refused NotBuilt) (Rose (F.faults files.old) (F.faults files.new))
+        (Rose (O.faults out.old) (O.faults out.new)) (O.taken out.old) (O.taken out.new) result }
+
     // Whatever the files tell.
     ensures usage { command_of (map string_bytes words.now) ≡ None
         → IsWritten usage (Rose (O.faults out.old) (O.faults out.new)) (O.taken out.old) (O.taken out.new) result }
@@ -64,31 +84,25 @@ pub fn mirace<F: Files, O: Sink>(alloc: Global, words: &[String], files: &mut F,
     ensures same { F.told files.new ≡ F.told files.old }
     ensures reads { F.reads files.new ≤ F.reads files.old + named_files (command_of (map string_bytes words.now)) }
 {
-    match files_of(words) {
+    match command_of(words) {
         None => finish(out, USAGE, 2),
-        Some((program, schedule)) => run_files(alloc, files, out, program, schedule),
+        Some(command) => obey(alloc, files, out, command),
     }
 }
 
-// Runs the program in a file under the schedule in another.
-fn run_files<F: Files, O: Sink>(
-    alloc: Global,
-    files: &mut F,
-    out: &mut O,
-    program: &str,
-    schedule: &str,
-) -> u8
+// Does what a command asks for.
+fn obey<F: Files, O: Sink>(alloc: Global, files: &mut F, out: &mut O, command: Command<'_>) -> u8
     ensures ends { (contents : Contents) → F.told files.old ≡ Some contents
-        → Ends contents (Some (Run program.now schedule.now)) (Rose (F.faults files.old) (F.faults files.new))
+        → Ends contents (Some (asked command.entry)) (Rose (F.faults files.old) (F.faults files.new))
         (Rose (O.faults out.old) (O.faults out.new)) (O.taken out.old) (O.taken out.new) result }
     ensures no_usage { ¬ result ≡ 2 }
     ensures untold { F.told files.old ≡ None → result ≡ 6 → Rose (F.faults files.old) (F.faults files.new) }
     ensures write_fault { result ≡ 7 → Rose (O.faults out.old) (O.faults out.new) }
     ensures memory { result ≡ 8 → O.taken out.new ≡ O.taken out.old }
     ensures same { F.told files.new ≡ F.told files.old }
-    ensures reads { F.reads files.new ≤ F.reads files.old + 2 }
+    ensures reads { F.reads files.new ≤ F.reads files.old + named_files (Some (asked command.entry)) }
 {
-    match report_files(alloc, files, program, schedule) {
+    match answer(alloc, files, command) {
         Ok(written) => finish(out, written.text.as_slice(), written.status),
         Err(refusal) => refuse(alloc, out, refusal),
     }

@@ -1,16 +1,25 @@
 ghost use Rattle.std.specs.Prelude.{◌≡◌, ◌++◌, IfOk, OnOk, decimal};
-ghost use Rattle.mirace.specs.Report.{earlier_text, fault_name, refusal_text};
+ghost use Rattle.mirace.specs.Report.{earlier_text, fault_name, refusal_text, text_fault_name, text_line};
 
 use itoa::Buffer;
 use mr_base::AllocId;
 use std::alloc::{AllocError, AllocFailed, Global};
 
-/// Why there is no report.
+// The code of a program that the machine doesn't run so far.
+const NOT_BUILT: u8 = 90;
+
+/// Why there is no report, and no canonical text.
 #[derive(Clone, Copy, Debug, PartialEq, Eq)]
 pub enum Refusal {
     /// The file of the program was not read.
     ReadProgram,
-    /// The text denotes no program that is built.
+    /// The program's text is wrong at this line and column.
+    Text {
+        line: u32,
+        col: u32,
+        code: u8,
+    },
+    /// The machine doesn't run the program so far.
     NotBuilt,
     /// The file of the schedule was not read.
     ReadSchedule,
@@ -56,7 +65,7 @@ impl Refusal {
     {
         match self {
             Refusal::ReadProgram | Refusal::ReadSchedule => 6,
-            Refusal::NotBuilt => 3,
+            Refusal::Text { .. } | Refusal::NotBuilt => 3,
             Refusal::Schedule { .. } => 5,
             Refusal::Memory => 8,
         }
@@ -68,7 +77,8 @@ impl Refusal {
     {
         match self {
             Refusal::ReadProgram => Vec::from_slice(alloc, b"read program\n"),
-            Refusal::NotBuilt => Vec::from_slice(alloc, b"text 1 1 90 NotBuilt\n"),
+            Refusal::Text { line, col, code } => text_line(alloc, line, col, code),
+            Refusal::NotBuilt => text_line(alloc, 1, 1, NOT_BUILT),
             Refusal::ReadSchedule => Vec::from_slice(alloc, b"read schedule\n"),
             Refusal::Schedule {
                 line,
@@ -77,6 +87,39 @@ impl Refusal {
             } => schedule_line(alloc, line, code, earlier),
             Refusal::Memory => Ok(Vec::new(alloc)),
         }
+    }
+}
+
+fn text_line(alloc: Global, line: u32, col: u32, code: u8) -> Result<Vec<u8>, AllocError>
+    ensures { IfOk result (λ text. text.items ≡ text_line line col code) }
+{
+    let mut text = Vec::from_slice(alloc, b"text ")?;
+    push_number(&mut text, line.into())?;
+    text.push(b' ')?;
+    push_number(&mut text, col.into())?;
+    text.push(b' ')?;
+    push_number(&mut text, code.into())?;
+    text.push(b' ')?;
+    text.extend_from_slice(text_fault_name(code).as_bytes())?;
+    text.push(b'\n')?;
+    Ok(text)
+}
+
+fn text_fault_name(code: u8) -> &'static str
+    ensures { result.now ≡ text_fault_name code }
+{
+    match code {
+        1 => "BadByte",
+        2 => "BadNumber",
+        3 => "LongText",
+        4 => "Unexpected",
+        5 => "UnknownName",
+        6 => "DoubleName",
+        7 => "TooDeep",
+        8 => "TooMany",
+        9 => "Exposed",
+        NOT_BUILT => "NotBuilt",
+        _ => "",
     }
 }
 

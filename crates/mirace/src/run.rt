@@ -1,5 +1,5 @@
 ghost use Rattle.std.specs.Prelude.{◌≡◌, ℕ, ◌+◌, ◌^◌, ◌<◌, ◌≤◌, false, length, IfOk};
-ghost use Rattle.mr_ast.specs.Thin.{IsThin};
+ghost use Rattle.mr_step.specs.Built.{Built};
 ghost use Rattle.mirace.specs.Running.{RunAnswer, EntriesAnswer, EntryAnswer, placed};
 
 use crate::refusal::Refusal;
@@ -10,7 +10,7 @@ use std::alloc::Global;
 
 /// The machine of a program behind all entries of a schedule, or the first rule that the schedule breaks.
 pub fn run<'p>(alloc: Global, p: &'p Program, w: &Schedule) -> Result<Machine<'p>, Refusal>
-    requires thin { IsThin p.now }
+    requires built { Built p.now }
     requires entries { length w.now.entries ≤ 2 ^ 20 }
     ensures { RunAnswer p.now w.now result }
 {

@@ -1,21 +1,13 @@
+mod canonical;
+mod runs;
+mod texts;
+
 use super::*;
 use mr_io::{Drawer, OutOfMemory, Tray};
 use std::test::Fail;
 
 // One block that exits.
 const EXIT: &str = "minirust 1\nfn main() -> r {\nlet r: unit;\nb0 regular: exit;\n}\nmain main\n";
-
-// A local lives while 42 is printed.
-const PRINT: &str =
-    "minirust 1\nfn main() -> r {\nlet r: unit, x: u32;\nb0 regular: live x; do print(u8 42) to b1;\nb1 regular: dead x; exit;\n}\nmain main\n";
-
-// A local lives twice.
-const TWICE: &str =
-    "minirust 1\nfn main() -> r {\nlet r: unit, t: u32;\nb0 regular: live t; dead t; live t; exit;\n}\nmain main\n";
-
-// Two locals of size 0.
-const EMPTY: &str =
-    "minirust 1\nfn main() -> r {\nlet r: unit, a: unit, c: unit;\nb0 regular: live a; live c; exit;\n}\nmain main\n";
 
 fn words_of(alloc: Global, texts: &[&str]) -> Result<Vec<String>, OutOfMemory> {
     let mut words = Vec::new(alloc);
@@ -51,101 +43,10 @@ fn answer_of_run(alloc: Global, program: &str, schedule: &str) -> Result<(Tray, 
     answer_over(alloc, &mut files, &["run", "P", "S"])
 }
 
-#[test]
-fn runs_are_reported(rt: HostRuntime) -> Result<(), Fail> {
-    let runs = [
-        (
-            EXIT,
-            "schedule 1\nstart 16 4096\n0\n",
-            "verdict exit\nraces 0\n",
-        ),
-        (
-            EXIT,
-            "schedule 1\nstart 16 4096\n",
-            "verdict running\nraces 0\n",
-        ),
-        (
-            PRINT,
-            "schedule 1\nstart 16 4096\n0 8192\n0\n0\n0\n",
-            "> 42\nverdict exit\nraces 0\n",
-        ),
-        (
-            PRINT,
-            "schedule 1\nstart 16 4096\n0 8192\n0\n",
-            "> 42\nverdict running\nraces 0\n",
-        ),
-        (
-            EMPTY,
-            "schedule 1\nstart 16 32\n0 32\n0 32\n0\n",
-            "verdict exit\nraces 0\n",
-        ),
-    ];
-    for (program, schedule, text) in runs {
-        let (out, status) = answer_of_run(rt.alloc(), program, schedule)?;
-        assert_eq!(rt; out.taken(), text.as_bytes());
-        assert_eq!(rt; status, 0);
-    }
-    Ok(())
-}
-
-#[test]
-fn broken_rules_are_told(rt: HostRuntime) -> Result<(), Fail> {
-    let schedules = [
-        (
-            TWICE,
-            "schedule 1\nstart 16 32\n0 8192\n0\n0 8192\n",
-            "schedule 5 64 Reused 0 2\n",
-        ),
-        (
-            TWICE,
-            "schedule 1\nstart 16 32\n0 8193\n0\n0 8192\n",
-            "schedule 3 63 BadAddress\n",
-        ),
-        (
-            EXIT,
-            "schedule 9\nstart 16 4096\n0\n",
-            "schedule 1 50 BadHeader\n",
-        ),
-        (
-            EXIT,
-            "schedule 1\nstart 16 4096\n0  5\n",
-            "schedule 3 51 BadLine\n",
-        ),
-        (
-            EXIT,
-            "schedule 1\nstart 16 4096\n0 5\n",
-            "schedule 3 62 ExtraPick\n",
-        ),
-        (
-            EXIT,
-            "schedule 1\nstart 16 4096\n1\n",
-            "schedule 3 60 NotEnabled\n",
-        ),
-        (
-            EXIT,
-            "schedule 1\nstart 16\n0\n",
-            "schedule 2 61 MissingPick\n",
-        ),
-        (
-            EXIT,
-            "schedule 1\nstart 16 4096\n0\n0\n",
-            "schedule 4 66 AfterStop\n",
-        ),
-    ];
-    for (program, schedule, text) in schedules {
-        let (out, status) = answer_of_run(rt.alloc(), program, schedule)?;
-        assert_eq!(rt; out.taken(), text.as_bytes());
-        assert_eq!(rt; status, 5);
-    }
-    Ok(())
-}
-
-#[test]
-fn other_texts_are_not_built(rt: HostRuntime) -> Result<(), Fail> {
-    let (out, status) = answer_of_run(rt.alloc(), "minirust 2", "")?;
-    assert_eq!(rt; out.taken(), b"text 1 1 90 NotBuilt\n".as_slice());
-    assert_eq!(rt; status, 3);
-    Ok(())
+// What is written of the check of a program, and the status.
+fn answer_of_check(alloc: Global, program: &str) -> Result<(Tray, u8), OutOfMemory> {
+    let mut files = both(alloc, program, "")?;
+    answer_over(alloc, &mut files, &["check", "P"])
 }
 
 #[test]
@@ -171,24 +72,44 @@ fn missing_files_are_told(rt: HostRuntime) -> Result<(), Fail> {
         assert_eq!(rt; out.taken(), text.as_bytes());
         assert_eq!(rt; status, 6);
     }
+    let (out, status) = answer_over(rt.alloc(), &mut files, &["check", "Q"])?;
+    assert_eq!(rt; out.taken(), b"read program\n".as_slice());
+    assert_eq!(rt; status, 6);
     assert_eq!(rt; files.faults, 0);
     Ok(())
 }
 
 #[test]
+fn a_failed_read_is_told_by_check(rt: HostRuntime) -> Result<(), Fail> {
+    let mut files = both(rt.alloc(), EXIT, "")?;
+    files.fails.push(1)?;
+    let (out, status) = answer_over(rt.alloc(), &mut files, &["check", "P"])?;
+    assert_eq!(rt; out.taken(), b"read program\n".as_slice());
+    assert_eq!(rt; status, 6);
+    assert_eq!(rt; files.faults, 1);
+    assert_eq!(rt; files.calls, 1);
+    Ok(())
+}
+
+// Nothing is read, and the usage is told.
+fn is_told_the_usage(alloc: Global, texts: &[&str]) -> Result<bool, OutOfMemory> {
+    let mut files = both(alloc, EXIT, "")?;
+    let (out, status) = answer_over(alloc, &mut files, texts)?;
+    Ok(
+        out.taken() == b"usage: see the table of commands\n".as_slice()
+            && status == 2
+            && files.calls == 0,
+    )
+}
+
+#[test]
 fn other_words_are_told_the_usage(rt: HostRuntime) -> Result<(), Fail> {
-    let usage = b"usage: see the table of commands\n";
-    let mut files = Drawer::new(rt.alloc());
-    let (none, no_words) = answer_over(rt.alloc(), &mut files, &[])?;
-    assert_eq!(rt; none.taken(), usage.as_slice());
-    assert_eq!(rt; no_words, 2);
-    let (short, two_words) = answer_over(rt.alloc(), &mut files, &["run", "P"])?;
-    assert_eq!(rt; short.taken(), usage.as_slice());
-    assert_eq!(rt; two_words, 2);
-    let (other, other_word) = answer_over(rt.alloc(), &mut files, &["walk", "P", "S"])?;
-    assert_eq!(rt; other.taken(), usage.as_slice());
-    assert_eq!(rt; other_word, 2);
-    assert_eq!(rt; files.calls, 0);
+    let alloc = rt.alloc();
+    assert!(rt; is_told_the_usage(alloc, &[])?);
+    assert!(rt; is_told_the_usage(alloc, &["run", "P"])?);
+    assert!(rt; is_told_the_usage(alloc, &["walk", "P", "S"])?);
+    assert!(rt; is_told_the_usage(alloc, &["check"])?);
+    assert!(rt; is_told_the_usage(alloc, &["check", "P", "S"])?);
     Ok(())
 }
 

@@ -1,3 +1,4 @@
+pub mod BuiltLaws
 pub mod Judged
 pub mod Constants
 pub mod Counted

@@ -2,6 +2,7 @@ pub mod Actions
 pub mod Advance
 pub mod Answers
 pub mod Begin
+pub mod Built
 pub mod First
 pub mod Kept
 pub mod Language

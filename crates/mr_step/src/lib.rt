@@ -5,16 +5,20 @@
 //! race check, `specs/Legal.antt` the rules that an entry of a schedule may break, and `specs/Start.antt` the start and whole
 //! runs. What is built runs one thread of a thin program; the definitions are those of every program.
 //!
-//! Public calls: [`Machine::start`], [`Machine::step`], [`Machine::verdict`], [`Machine::lines`] and [`Machine::line`].
+//! Public calls: [`built`], [`Machine::start`], [`Machine::step`], [`Machine::verdict`], [`Machine::lines`] and [`Machine::line`].
 //!
-//! Proved: a start and a step lead exactly where the definitions say or tell the first rule that is broken, a refused entry
-//! changes nothing, and memory apart there is no other answer. The laws [`never_ill_formed`], [`legal_schedules`] and
-//! [`one_at_most`] are of the definitions alone: a legal run of a thin program has a rule for each step.
+//! Proved: `built` tells exactly which programs the machine runs (`specs/Built.antt`). A start and a step lead exactly where the
+//! definitions say or tell the first rule that is broken, a refused entry changes nothing, and memory apart there is no other
+//! answer. The laws [`never_ill_formed`], [`legal_schedules`] and [`one_at_most`] are of the definitions alone: a legal run of a
+//! thin program has a rule for each step.
 #![tactic(auto)]
 
 mod action;
 mod advance;
 mod begin;
+mod builds;
+#[cfg(test)]
+mod built_tests;
 mod fault;
 mod first;
 mod laws;
@@ -25,6 +29,7 @@ mod storage;
 #[cfg(test)]
 mod tests;
 
+pub use builds::built;
 pub use fault::{StepFault, Turn};
 pub use laws::{legal_schedules, never_ill_formed, one_at_most};
 pub use machine::Machine;

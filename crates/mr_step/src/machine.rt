@@ -42,13 +42,13 @@ impl<'p> Model for Machine<'p> {
 impl<'p> Machine<'p> {
     ghost use Rattle.std.specs.Prelude.{◌≡◌, ◌<◌, ◌^◌, map, length, slice_get};
     ghost use Rattle.std.specs.Option.{option_map};
-    ghost use Rattle.mr_ast.specs.Thin.{IsThin};
+    ghost use Rattle.mr_step.specs.Built.{Built};
     ghost use Rattle.mr_step.specs.Answers.{StartAnswer, StepAnswer};
     ghost use Rattle.mr_step.specs.Standing.{seen_line};
 
     /// The machine before the first entry, with these start picks.
     pub fn start(alloc: Global, p: &'p Program, picks: &[u64]) -> Result<Machine<'p>, StepFault>
-        requires { IsThin p.now }
+        requires { Built p.now }
         ensures { StartAnswer p.now picks.now result }
     {
         let begun = match begin_main(alloc, p, picks) {

@@ -12,7 +12,7 @@ use std::alloc::Global;
 use std::test::Fail;
 
 // Items that hold one.
-fn one<T: Drop>(alloc: Global, item: T) -> Result<Items<T>, OutOfMemory>
+pub fn one<T: Drop>(alloc: Global, item: T) -> Result<Items<T>, OutOfMemory>
     ensures { IfOk result (λ items. items ≡ item ∷ []) }
 {
     let mut items = Items::new(alloc);
@@ -21,7 +21,7 @@ fn one<T: Drop>(alloc: Global, item: T) -> Result<Items<T>, OutOfMemory>
 }
 
 // `r: unit`, the return local of each program here.
-fn unit_local(alloc: Global) -> Local
+pub fn unit_local(alloc: Global) -> Local
     ensures { result ≡ record { name = 1; ty = Ty.Tuple 0 1 [] } }
 {
     Local {
@@ -83,7 +83,7 @@ fn program(
 }
 
 // `exit`
-fn exits(alloc: Global) -> Result<Program, OutOfMemory>
+pub fn exits(alloc: Global) -> Result<Program, OutOfMemory>
     ensures { IfOk result IsThin }
 {
     let locals = one(alloc, unit_local(alloc))?;
@@ -92,7 +92,7 @@ fn exits(alloc: Global) -> Result<Program, OutOfMemory>
 }
 
 // `live x; dead x; live x; exit`
-fn lives_twice(alloc: Global) -> Result<Program, OutOfMemory>
+pub fn lives_twice(alloc: Global) -> Result<Program, OutOfMemory>
     ensures { IfOk result IsThin }
 {
     let locals = two_locals(alloc)?;
@@ -135,7 +135,7 @@ fn two_blocks(alloc: Global) -> Result<Items<Block>, OutOfMemory>
 }
 
 // A program that prints 42.
-fn prints(alloc: Global) -> Result<Program, OutOfMemory>
+pub fn prints(alloc: Global) -> Result<Program, OutOfMemory>
     ensures { IfOk result IsThin }
 {
     let locals = two_locals(alloc)?;

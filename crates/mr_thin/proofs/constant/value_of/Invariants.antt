@@ -1,6 +1,0 @@
-use Rattle.std.proofs.Common.{◌≡◌, ◌<◌, ◌^◌, take}
-use Rattle.mr_lex.specs.Numbers.{number_of}
-use Rattle.mr_thin.proofs.constant.value_of.Given as goal
-
-abbrev pub invariant-loop-digit : goal.invariant-loop-digit
-invariant-loop-digit l = (l.value ≡ number_of (take l.digit-index l.digits)) × (l.value < 2 ^ 128)
