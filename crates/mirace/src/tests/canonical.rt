@@ -1,5 +1,7 @@
 // Programs that are printed and read back.
-use super::*;
+use super::answer_of_check;
+use std::process::Abort;
+use std::test::Fail;
 
 // Four workers with a work counter and a list under a lock, and one lock forgotten.
 const WORKERS: &str = "minirust 1
