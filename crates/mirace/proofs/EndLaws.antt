@@ -7,7 +7,7 @@ use Rattle.mirace.specs.declared.refusal.Refusal.{Refusal}
 use Rattle.mirace.specs.declared.refusal.Refusal.TheVariants as refusal
 use Rattle.mirace.specs.Command.{Command, Run, Check}
 use Rattle.mirace.specs.Answer.{Answer, canonical, program_in, refused, reported, run_in, told}
-use Rattle.mirace.specs.Answering.{IsAnswered, IsUnreadHere, Says, seen}
+use Rattle.mirace.specs.Answering.{IsAnswered, Says, seen}
 use Rattle.mirace.specs.Outcome.{Ends, Gives, IsLeft, IsPossible, IsRefusedOrLeft, IsWritten}
 
 -- what is written is what is said of what is defined

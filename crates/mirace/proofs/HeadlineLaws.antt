@@ -1,6 +1,6 @@
 -- The headline, and what is said of a text, follow from how a call ends.
-use Rattle.std.proofs.Common.{◌≡◌, ℕ, ◌≤◌, Bool, true, false, ap, ◌∙◌, sym, subst, arith, List, ◌⊎◌, inl, inr}
-use Rattle.std.specs.Prelude.{Some, None, Option, Result, Ok, Err, if◌then◌else◌}
+use Rattle.std.proofs.Common.{◌≡◌, ℕ, ◌≤◌, Bool, ap, ◌∙◌, subst, arith, List, ◌⊎◌, inl, inr}
+use Rattle.std.specs.Prelude.{Some, None, Option, Ok, Err, if◌then◌else◌}
 use Rattle.mr_ast.specs.declared.program.Program.{Program}
 use Rattle.mr_base.specs.declared.reason.Verdict.{Verdict}
 use Rattle.mr_base.specs.declared.reason.Verdict.TheVariants as verdict
@@ -11,18 +11,17 @@ use Rattle.mr_parse.specs.Faults.{FirstFault}
 use Rattle.mr_parse.proofs.ParsingLaws.{denotes_parsed, fault_parsed}
 use Rattle.mr_sched.specs.declared.schedule.Schedule.{Schedule}
 use Rattle.mr_sched.proofs.TextLaws.{schedule_again}
-use Rattle.mr_step.specs.Built.{Built, is_built}
+use Rattle.mr_step.specs.Built.{Built}
 use Rattle.mr_step.specs.Start.{run_of}
 use Rattle.mr_step.proofs.BuiltLaws.{built_told, not_built_told}
 use Rattle.mr_step.proofs.RunLaws.{no_schedule_fault}
 use Rattle.mr_step.proofs.SoundRuns.{sound_run}
-use Rattle.mirace.specs.declared.refusal.Refusal.{Refusal}
 use Rattle.mirace.specs.declared.refusal.Refusal.TheVariants as refusal
 use Rattle.mirace.specs.Command.{Command, Run, Check}
 use Rattle.mirace.specs.Answer.{Answer, program_in, if_built, built_in, schedule_in, denoted, spelled, text_refusal, legal_run, run_under, unless_broken, canonical, refused, reported, told, answer_of, ◌>>=◌}
 use Rattle.mirace.specs.Report.{verdict_status}
 use Rattle.mirace.specs.Outcome.{Ends, RanOut, IsLeft, IsPossible, IsUnread, IsWritten}
-use Rattle.mirace.specs.Headline.{ChecksProgram, Names, NamesFault, RunsUnbuilt, IsOfMachine, IsReadFault, IsTold}
+use Rattle.mirace.specs.Headline.{ChecksProgram, Names, NamesFault, RunsUnbuilt, IsOfMachine, IsTold}
 
 -- ---- what a file holds
 

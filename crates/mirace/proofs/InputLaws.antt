@@ -1,7 +1,7 @@
 -- Texts that are too long.
 use Rattle.std.proofs.Common.{◌≡◌, ℕ, ◌<◌, ◌^◌, ap, ◌∙◌, refl, arith, List, length, true}
 use Rattle.std.proofs.lemmas.Bool.Decides.{nat_tests}
-use Rattle.std.specs.Prelude.{Some, None, Option, Ok, Err, nat_lt, if◌then◌else◌}
+use Rattle.std.specs.Prelude.{Some, None, Option, Err, nat_lt, if◌then◌else◌}
 use Rattle.mr_lex.specs.Reading.{lexed, outcome_of, split_of}
 use Rattle.mr_parse.specs.Faults.{OfTokens}
 use Rattle.mr_parse.specs.Parsing.{parsed}

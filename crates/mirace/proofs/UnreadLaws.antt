@@ -1,5 +1,5 @@
 -- Why a file was not read.
-use Rattle.std.proofs.Common.{◌≡◌, ℕ, ◌≤◌, Bool, true, false, ap, ◌∙◌, sym, arith, List, ◌⊎◌, inl, inr, refl}
+use Rattle.std.proofs.Common.{◌≡◌, ℕ, Bool, true, false, ap, ◌∙◌, sym, arith, List, ◌⊎◌, inl, inr, refl}
 use Rattle.std.specs.Prelude.{Some, None, Option, Result, Ok, Err, if◌then◌else◌}
 use Rattle.mr_ast.specs.declared.program.Program.{Program}
 use Rattle.mr_io.specs.Files.{Contents}
@@ -14,7 +14,7 @@ use Rattle.mr_step.specs.Start.{PlacedFault, run_of, schedule_fault}
 use Rattle.mirace.specs.declared.refusal.Refusal.TheVariants as refusal
 use Rattle.mirace.specs.Command.{Command, Run, Check}
 use Rattle.mirace.specs.Answer.{Answer, answer_of, built_in, canonical, denoted, if_built, legal_run, program_in, reported, run_under, spelled, told, unless_broken, ◌>>=◌}
-use Rattle.mirace.specs.Outcome.{Ends, IsPossible, IsWritten}
+use Rattle.mirace.specs.Outcome.{Ends, IsPossible}
 use Rattle.mirace.specs.Headline.{IsUnreadBecause, LacksFile}
 use Rattle.mirace.proofs.HeadlineLaws.{at_most_one, ran_out, written_status}
 
