@@ -1,6 +1,5 @@
 -- A value whose word has brackets behind it.
-use Rattle.std.proofs.Common.{◌≡◌, ℕ, zero, suc, ◌-◌, ◌==◌, Bool, true, false, List, Result, Ok, Err, refl, arith}
-use Rattle.mr_ast.specs.declared.words.Bracket.{Bracket}
+use Rattle.std.proofs.Common.{◌≡◌, ℕ, zero, suc, ◌==◌, true, List, Result, Ok, Err, refl}
 use Rattle.mr_ast.specs.declared.words.Bracket.TheVariants.{Round}
 use Rattle.mr_ast.specs.declared.words.ValueWord.{ValueWord}
 use Rattle.mr_ast.specs.declared.words.ValueWord.TheVariants as value_word
@@ -11,7 +10,6 @@ use Rattle.mr_ast.specs.ValueGrammar.{addr_of_form, binary_form, cast_form, tran
 use Rattle.mr_parse.specs.declared.fault.Stop.{Stop}
 use Rattle.mr_parse.specs.Insides.{is_bracketed, value_inside}
 use Rattle.mr_parse.specs.Reading.{◌>>=◌, expected, opened, read, read_inside, read_outside, read_part}
-use Rattle.mr_parse.proofs.InsideLaws.{inside}
 
 abbrev given : {A : Type 0} → A → List Word → Result (A × List Word) Stop
 given x ws = Ok (x, ws)

@@ -1,5 +1,5 @@
 -- What stands inside a bracket.
-use Rattle.std.proofs.Common.{◌≡◌, ℕ, zero, suc, ◌+◌, ◌-◌, ◌==◌, Bool, true, false, List, refl, arith}
+use Rattle.std.proofs.Common.{◌≡◌, ℕ, zero, suc, ◌-◌, ◌==◌, false, List, refl, arith}
 use Rattle.mr_ast.specs.Forms.{Word}
 use Rattle.mr_ast.specs.Scope.{Scope}
 use Rattle.mr_ast.specs.Writing.{Writing}

@@ -6,7 +6,7 @@ use Rattle.mr_ast.specs.Words.{Texts, is_name}
 use Rattle.mr_ast.specs.Scope.{Definitions, FunctionNames, item_names, names_of}
 use Rattle.mr_ast.specs.ProgramGrammar.{ProgramBody}
 use Rattle.mr_ast.specs.CanonValues.{text_at}
-use Rattle.mr_ast.specs.Canon.{block_texts, function_texts, global_texts, local_texts}
+use Rattle.mr_ast.specs.Canon.{block_texts, global_texts, local_texts}
 
 -- the names that a function, and a program, defines
 abbrev pub function_definitions : Program → Function → FunctionNames

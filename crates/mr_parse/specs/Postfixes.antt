@@ -1,5 +1,5 @@
 -- A place and the postfixes that are read behind it.
-use Rattle.std.specs.Prelude.{List, Result, Ok, Err}
+use Rattle.std.specs.Prelude.{List, Result, Ok}
 use Rattle.std.specs.List.{fold}
 use Rattle.mr_ast.specs.declared.expr.Place.{Place}
 use Rattle.mr_ast.specs.Forms.{Word}

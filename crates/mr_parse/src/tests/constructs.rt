@@ -164,8 +164,7 @@ fn program(
     terminator: &str,
     items: &str,
 ) -> Result<String, AllocError> {
-    format!(
-        in alloc;
+    format!(in alloc;
         "minirust 1\nglobal g align 1 {{ {items} }}\nfn f() -> r {{\nlet r: unit, x: {ty};\nb regular: {statement}; {terminator};\nc cleanup: resume;\nd catch: goto d;\ne terminate: abort;\n}}\nmain f\n"
     )
 }
@@ -198,7 +197,10 @@ fn types(rt: HostRuntime) -> Result<(), Fail> {
 fn values(rt: HostRuntime) -> Result<(), Fail> {
     for value in VALUES {
         let statement = format!(in rt.alloc(); "x = {value}")?;
-        expect_program(&rt, program(rt.alloc(), "u8", statement.as_str(), "exit", "")?.as_str());
+        expect_program(
+            &rt,
+            program(rt.alloc(), "u8", statement.as_str(), "exit", "")?.as_str(),
+        );
     }
     Ok(())
 }
@@ -207,7 +209,10 @@ fn values(rt: HostRuntime) -> Result<(), Fail> {
 fn operators(rt: HostRuntime) -> Result<(), Fail> {
     for operator in OPERATORS {
         let statement = format!(in rt.alloc(); "x = {operator}(u8 1, load(x))")?;
-        expect_program(&rt, program(rt.alloc(), "u8", statement.as_str(), "exit", "")?.as_str());
+        expect_program(
+            &rt,
+            program(rt.alloc(), "u8", statement.as_str(), "exit", "")?.as_str(),
+        );
     }
     Ok(())
 }
@@ -215,7 +220,10 @@ fn operators(rt: HostRuntime) -> Result<(), Fail> {
 #[test]
 fn statements(rt: HostRuntime) -> Result<(), Fail> {
     for statement in STATEMENTS {
-        expect_program(&rt, program(rt.alloc(), "u8", statement, "exit", "")?.as_str());
+        expect_program(
+            &rt,
+            program(rt.alloc(), "u8", statement, "exit", "")?.as_str(),
+        );
     }
     Ok(())
 }
@@ -223,7 +231,10 @@ fn statements(rt: HostRuntime) -> Result<(), Fail> {
 #[test]
 fn terminators(rt: HostRuntime) -> Result<(), Fail> {
     for terminator in TERMINATORS {
-        expect_program(&rt, program(rt.alloc(), "u8", "live x", terminator, "")?.as_str());
+        expect_program(
+            &rt,
+            program(rt.alloc(), "u8", "live x", terminator, "")?.as_str(),
+        );
     }
     Ok(())
 }
@@ -232,7 +243,10 @@ fn terminators(rt: HostRuntime) -> Result<(), Fail> {
 fn intrinsics(rt: HostRuntime) -> Result<(), Fail> {
     for intrinsic in INTRINSICS {
         let terminator = format!(in rt.alloc(); "do {intrinsic}(u8 1, load(x)) -> x to b")?;
-        expect_program(&rt, program(rt.alloc(), "u8", "live x", terminator.as_str(), "")?.as_str());
+        expect_program(
+            &rt,
+            program(rt.alloc(), "u8", "live x", terminator.as_str(), "")?.as_str(),
+        );
     }
     Ok(())
 }
@@ -240,7 +254,10 @@ fn intrinsics(rt: HostRuntime) -> Result<(), Fail> {
 #[test]
 fn items(rt: HostRuntime) -> Result<(), Fail> {
     for item in ITEMS {
-        expect_program(&rt, program(rt.alloc(), "u8", "live x", "exit", item)?.as_str());
+        expect_program(
+            &rt,
+            program(rt.alloc(), "u8", "live x", "exit", item)?.as_str(),
+        );
     }
     Ok(())
 }
@@ -248,8 +265,14 @@ fn items(rt: HostRuntime) -> Result<(), Fail> {
 #[test]
 fn words_that_name_something(rt: HostRuntime) {
     // A word of the grammar that isn't kept for it may be a name; a comment and any blank stand between tokens.
-    expect_program(&rt, "minirust 1#one\r\nfn\tfn(u8,let)->let{let let:unit,u8:u8;regular regular:exit;}main fn");
+    expect_program(
+        &rt,
+        "minirust 1#one\r\nfn\tfn(u8,let)->let{let let:unit,u8:u8;regular regular:exit;}main fn",
+    );
     expect_fault(&rt, "minirust 1 fn live", 1, 15, 4);
     expect_fault(&rt, "minirust 1 fn _", 1, 15, 4);
-    expect_program(&rt, "minirust 1 fn __() -> _0 { let _0: unit; a regular: exit; } main __");
+    expect_program(
+        &rt,
+        "minirust 1 fn __() -> _0 { let _0: unit; a regular: exit; } main __",
+    );
 }

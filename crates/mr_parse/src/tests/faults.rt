@@ -25,9 +25,27 @@ fn a_number_that_is_none(rt: HostRuntime) {
     );
     expect_fault(&rt, "minirust 1 main main 00", 1, 22, 2);
     // Below 2^128, and too large where it stands.
-    expect_fault(&rt, "minirust 1\nglobal g align 18446744073709551616 { }\nmain main\n", 2, 16, 2);
-    expect_fault(&rt, "minirust 1\nglobal g align 1 { 0*18446744073709551616 }\nmain main\n", 2, 22, 2);
-    expect_fault(&rt, "minirust 1\nfn f() -> r {\nlet r: ref 1 18446744073709551616", 3, 14, 2);
+    expect_fault(
+        &rt,
+        "minirust 1\nglobal g align 18446744073709551616 { }\nmain main\n",
+        2,
+        16,
+        2,
+    );
+    expect_fault(
+        &rt,
+        "minirust 1\nglobal g align 1 { 0*18446744073709551616 }\nmain main\n",
+        2,
+        22,
+        2,
+    );
+    expect_fault(
+        &rt,
+        "minirust 1\nfn f() -> r {\nlet r: ref 1 18446744073709551616",
+        3,
+        14,
+        2,
+    );
 }
 
 #[test]
@@ -42,24 +60,84 @@ fn a_token_with_which_nothing_goes_on(rt: HostRuntime) {
     expect_fault(&rt, "minirust 1 main live", 1, 17, 4);
     expect_fault(&rt, "minirust 1 main main main", 1, 22, 4);
     // A byte above 255, a repeat of 0, minus 0, and a negative address.
-    expect_fault(&rt, "minirust 1\nglobal g align 1 { 256 }\nmain main\n", 2, 20, 4);
-    expect_fault(&rt, "minirust 1\nglobal g align 1 { 0*0 }\nmain main\n", 2, 22, 4);
-    expect_fault(&rt, "minirust 1\nglobal g align 1 { ?*1048577 }\nmain main\n", 2, 22, 4);
-    expect_fault(&rt, "minirust 1\nfn f() -> r {\nlet r: unit;\nb regular: disc r = -0;", 4, 22, 4);
-    expect_fault(&rt, "minirust 1\nfn f() -> r {\nlet r: unit;\nb regular: r = raw -1;", 4, 20, 4);
+    expect_fault(
+        &rt,
+        "minirust 1\nglobal g align 1 { 256 }\nmain main\n",
+        2,
+        20,
+        4,
+    );
+    expect_fault(
+        &rt,
+        "minirust 1\nglobal g align 1 { 0*0 }\nmain main\n",
+        2,
+        22,
+        4,
+    );
+    expect_fault(
+        &rt,
+        "minirust 1\nglobal g align 1 { ?*1048577 }\nmain main\n",
+        2,
+        22,
+        4,
+    );
+    expect_fault(
+        &rt,
+        "minirust 1\nfn f() -> r {\nlet r: unit;\nb regular: disc r = -0;",
+        4,
+        22,
+        4,
+    );
+    expect_fault(
+        &rt,
+        "minirust 1\nfn f() -> r {\nlet r: unit;\nb regular: r = raw -1;",
+        4,
+        20,
+        4,
+    );
     // A block without a terminator, a function without a block, and a statement behind the terminator.
-    expect_fault(&rt, "minirust 1\nfn f() -> r {\nlet r: unit;\nb regular: live r; }", 4, 20, 4);
+    expect_fault(
+        &rt,
+        "minirust 1\nfn f() -> r {\nlet r: unit;\nb regular: live r; }",
+        4,
+        20,
+        4,
+    );
     expect_fault(&rt, "minirust 1\nfn f() -> r {\nlet r: unit;\n}", 4, 1, 4);
-    expect_fault(&rt, "minirust 1\nfn f() -> r {\nlet r: unit;\nb regular: exit; live r;", 4, 18, 4);
+    expect_fault(
+        &rt,
+        "minirust 1\nfn f() -> r {\nlet r: unit;\nb regular: exit; live r;",
+        4,
+        18,
+        4,
+    );
 }
 
 #[test]
 fn a_name_that_stands_for_nothing(rt: HostRuntime) {
     expect_fault(&rt, "minirust 1 main foo", 1, 17, 5);
-    expect_fault(&rt, "minirust 1\nglobal g align 1 { &h + 0 }\nmain g\n", 2, 21, 5);
+    expect_fault(
+        &rt,
+        "minirust 1\nglobal g align 1 { &h + 0 }\nmain g\n",
+        2,
+        21,
+        5,
+    );
     expect_fault(&rt, "minirust 1\nglobal g align 1 { }\nmain g\n", 3, 6, 5);
-    expect_fault(&rt, "minirust 1\nfn f(a) -> r {\nlet r: unit;\nb regular: exit;\n}\nmain f", 2, 6, 5);
-    expect_fault(&rt, "minirust 1\nfn f() -> r {\nlet r: unit;\nb regular: goto\tc;\n}\nmain f", 4, 17, 5);
+    expect_fault(
+        &rt,
+        "minirust 1\nfn f(a) -> r {\nlet r: unit;\nb regular: exit;\n}\nmain f",
+        2,
+        6,
+        5,
+    );
+    expect_fault(
+        &rt,
+        "minirust 1\nfn f() -> r {\nlet r: unit;\nb regular: goto\tc;\n}\nmain f",
+        4,
+        17,
+        5,
+    );
     // The locals of another function are none.
     expect_fault(
         &rt,
@@ -80,9 +158,27 @@ fn a_name_that_stands_for_nothing(rt: HostRuntime) {
 
 #[test]
 fn a_name_that_is_defined_twice(rt: HostRuntime) {
-    expect_fault(&rt, "minirust 1 global g align 1 { } global g align 1 { } main g", 1, 40, 6);
-    expect_fault(&rt, "minirust 1\nfn f() -> r {\nlet r: unit, x: u8, r: u8;\nb regular: exit;\n}\nmain f", 3, 21, 6);
-    expect_fault(&rt, "minirust 1\nfn f() -> r {\nlet r: unit;\nb regular: goto b;\nb regular: exit;\n}\nmain f", 5, 1, 6);
+    expect_fault(
+        &rt,
+        "minirust 1 global g align 1 { } global g align 1 { } main g",
+        1,
+        40,
+        6,
+    );
+    expect_fault(
+        &rt,
+        "minirust 1\nfn f() -> r {\nlet r: unit, x: u8, r: u8;\nb regular: exit;\n}\nmain f",
+        3,
+        21,
+        6,
+    );
+    expect_fault(
+        &rt,
+        "minirust 1\nfn f() -> r {\nlet r: unit;\nb regular: goto b;\nb regular: exit;\n}\nmain f",
+        5,
+        1,
+        6,
+    );
     expect_fault(
         &rt,
         "minirust 1\nglobal f align 1 { }\nfn f() -> r {\nlet r: unit;\nb regular: exit;\n}\nmain f",
@@ -94,11 +190,35 @@ fn a_name_that_is_defined_twice(rt: HostRuntime) {
 
 #[test]
 fn an_intrinsic_that_exposes(rt: HostRuntime) {
-    expect_fault(&rt, "minirust 1\nfn f() -> r {\nlet r: unit;\nb regular: r = expose_provenance(raw 0);", 4, 16, 9);
-    expect_fault(&rt, "minirust 1\nfn f() -> r {\nlet r: unit;\nb regular: do with_exposed_provenance", 4, 15, 9);
-    expect_fault(&rt, "minirust 1\nfn f() -> r {\nlet r: unit;\nb regular: do print(expose_provenance", 4, 21, 9);
+    expect_fault(
+        &rt,
+        "minirust 1\nfn f() -> r {\nlet r: unit;\nb regular: r = expose_provenance(raw 0);",
+        4,
+        16,
+        9,
+    );
+    expect_fault(
+        &rt,
+        "minirust 1\nfn f() -> r {\nlet r: unit;\nb regular: do with_exposed_provenance",
+        4,
+        15,
+        9,
+    );
+    expect_fault(
+        &rt,
+        "minirust 1\nfn f() -> r {\nlet r: unit;\nb regular: do print(expose_provenance",
+        4,
+        21,
+        9,
+    );
     // As a name it is any other.
-    expect_fault(&rt, "minirust 1\nfn expose_provenance() -> r {\nlet r: unit;\nb regular: exit;\n}\nmain f", 6, 6, 5);
+    expect_fault(
+        &rt,
+        "minirust 1\nfn expose_provenance() -> r {\nlet r: unit;\nb regular: exit;\n}\nmain f",
+        6,
+        6,
+        5,
+    );
 }
 
 #[test]

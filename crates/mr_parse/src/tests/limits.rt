@@ -25,7 +25,9 @@ fn globals(rt: HostRuntime) -> Result<(), Fail> {
 fn with_functions(alloc: Global, count: u32) -> Result<String, AllocError> {
     let mut text = String::from_str(alloc, "minirust 1\n")?;
     for i in 0..count {
-        text.push_str(format!(in alloc; "fn f{i}() -> r {{ let r: unit; b regular: exit; }}\n")?.as_str())?;
+        text.push_str(format!(in alloc;
+            "fn f{i}() -> r {{ let r: unit; b regular: exit; }}\n"
+        )?.as_str())?;
     }
     text.push_str("main f0\n")?;
     Ok(text)
@@ -86,8 +88,20 @@ fn with_statements(alloc: Global, count: u32, last: &str) -> Result<String, Allo
 #[test]
 fn statements(rt: HostRuntime) -> Result<(), Fail> {
     expect_program(&rt, with_statements(rt.alloc(), 4096, "")?.as_str());
-    expect_fault(&rt, with_statements(rt.alloc(), 4096, " live r;")?.as_str(), 4099, 2, 8);
-    expect_fault(&rt, with_statements(rt.alloc(), 4096, "\tr = true;")?.as_str(), 4099, 2, 8);
+    expect_fault(
+        &rt,
+        with_statements(rt.alloc(), 4096, " live r;")?.as_str(),
+        4099,
+        2,
+        8,
+    );
+    expect_fault(
+        &rt,
+        with_statements(rt.alloc(), 4096, "\tr = true;")?.as_str(),
+        4099,
+        2,
+        8,
+    );
     expect_fault(
         &rt,
         with_statements(rt.alloc(), 4096, "  deref(raw 0, u8) = true;")?.as_str(),
@@ -100,8 +114,10 @@ fn statements(rt: HostRuntime) -> Result<(), Fail> {
 
 // A program with a value in so many brackets behind two others.
 fn with_brackets(alloc: Global, count: u32, inner: &str) -> Result<String, AllocError> {
-    let mut text =
-        String::from_str(alloc, "minirust 1\nfn f() -> r { let r: unit;\nb regular: do print(")?;
+    let mut text = String::from_str(
+        alloc,
+        "minirust 1\nfn f() -> r { let r: unit;\nb regular: do print(",
+    )?;
     for _ in 0..count {
         text.push_str("neg(")?;
     }
@@ -116,10 +132,28 @@ fn with_brackets(alloc: Global, count: u32, inner: &str) -> Result<String, Alloc
 #[test]
 fn brackets(rt: HostRuntime) -> Result<(), Fail> {
     expect_program(&rt, with_brackets(rt.alloc(), 30, "i8 1")?.as_str());
-    expect_fault(&rt, with_brackets(rt.alloc(), 31, "i8 1")?.as_str(), 3, 144, 7);
+    expect_fault(
+        &rt,
+        with_brackets(rt.alloc(), 31, "i8 1")?.as_str(),
+        3,
+        144,
+        7,
+    );
     // A bracket too many is told, of any kind, also where no bracket may stand.
-    expect_fault(&rt, with_brackets(rt.alloc(), 30, "load(r)")?.as_str(), 3, 145, 7);
-    expect_fault(&rt, with_brackets(rt.alloc(), 29, "load(r[")?.as_str(), 3, 143, 7);
+    expect_fault(
+        &rt,
+        with_brackets(rt.alloc(), 30, "load(r)")?.as_str(),
+        3,
+        145,
+        7,
+    );
+    expect_fault(
+        &rt,
+        with_brackets(rt.alloc(), 29, "load(r[")?.as_str(),
+        3,
+        143,
+        7,
+    );
     expect_fault(&rt, with_brackets(rt.alloc(), 30, "{")?.as_str(), 3, 141, 7);
     expect_fault(&rt, with_brackets(rt.alloc(), 30, "}")?.as_str(), 3, 141, 4);
     Ok(())
@@ -127,8 +161,10 @@ fn brackets(rt: HostRuntime) -> Result<(), Fail> {
 
 // A program that mentions a place with so many postfixes.
 fn with_postfixes(alloc: Global, count: u32, last: &str) -> Result<String, AllocError> {
-    let mut text =
-        String::from_str(alloc, "minirust 1\nfn f() -> r { let r: unit;\nb regular: mention r\n")?;
+    let mut text = String::from_str(
+        alloc,
+        "minirust 1\nfn f() -> r { let r: unit;\nb regular: mention r\n",
+    )?;
     for _ in 0..count {
         text.push_str(".0 ")?;
     }
@@ -140,9 +176,27 @@ fn with_postfixes(alloc: Global, count: u32, last: &str) -> Result<String, Alloc
 #[test]
 fn postfixes(rt: HostRuntime) -> Result<(), Fail> {
     expect_program(&rt, with_postfixes(rt.alloc(), 32, "")?.as_str());
-    expect_fault(&rt, with_postfixes(rt.alloc(), 32, ".0")?.as_str(), 4, 97, 7);
-    expect_fault(&rt, with_postfixes(rt.alloc(), 32, "@1")?.as_str(), 4, 97, 7);
-    expect_fault(&rt, with_postfixes(rt.alloc(), 32, "[u8 1]")?.as_str(), 4, 97, 7);
+    expect_fault(
+        &rt,
+        with_postfixes(rt.alloc(), 32, ".0")?.as_str(),
+        4,
+        97,
+        7,
+    );
+    expect_fault(
+        &rt,
+        with_postfixes(rt.alloc(), 32, "@1")?.as_str(),
+        4,
+        97,
+        7,
+    );
+    expect_fault(
+        &rt,
+        with_postfixes(rt.alloc(), 32, "[u8 1]")?.as_str(),
+        4,
+        97,
+        7,
+    );
     Ok(())
 }
 

@@ -1,4 +1,4 @@
-use Rattle.std.proofs.Common.{◌≡◌, ℕ, ◌+◌, ◌-◌, ◌*◌, codes}
+use Rattle.std.proofs.Common.{◌≡◌, ◌+◌, ◌-◌, ◌*◌, codes}
 use Rattle.mr_ast.specs.Writing.{other_than}
 use Rattle.mr_ast.specs.TypeGrammar.{case_form, cases_form}
 use Rattle.mr_parse.specs.Reading.{read, many_at}

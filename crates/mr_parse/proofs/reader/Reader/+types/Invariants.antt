@@ -1,4 +1,4 @@
-use Rattle.std.proofs.Common.{◌≡◌, ℕ, ◌+◌, ◌-◌, ◌*◌, length, codes}
+use Rattle.std.proofs.Common.{◌≡◌, ◌+◌, ◌-◌, ◌*◌, codes}
 use Rattle.mr_ast.specs.Writing.{◌▸◌, is_word}
 use Rattle.mr_ast.specs.TypeGrammar.{field_form, fields_form, variant_form, variants_form}
 use Rattle.mr_parse.specs.Reading.{read, many_at}

@@ -1,4 +1,4 @@
-use Rattle.std.proofs.Common.{◌≡◌, ℕ, ◌+◌, ◌-◌, ◌*◌, codes}
+use Rattle.std.proofs.Common.{◌≡◌, ◌+◌, ◌-◌, ◌*◌, codes}
 use Rattle.mr_ast.specs.Forms.{Part}
 use Rattle.mr_ast.specs.Writing.{TheValue, ◌▸◌, is_word}
 use Rattle.mr_ast.specs.ValueGrammar.{begins_postfix, more_values_form, postfix_form, postfixes_form}

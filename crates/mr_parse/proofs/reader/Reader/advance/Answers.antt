@@ -1,4 +1,4 @@
-use Rattle.std.proofs.Common.{rules, ◌≡◌, ◌∙◌, sym, arith}
+use Rattle.std.proofs.Common.{◌∙◌, arith}
 use Rattle.mr_parse.proofs.PlaceLaws.{words_next, none_past}
 use Rattle.mr_parse.proofs.reader.Reader.advance.Goals as goal
 

@@ -1,10 +1,8 @@
-use Rattle.std.proofs.Common.{◌≡◌, sym, subst, ◌∙◌, codes}
-use Rattle.mr_ast.specs.declared.words.Role.TheVariants.{DefinesFunction}
-use Rattle.mr_ast.specs.ProgramGrammar.{body_form, function_form, inside_function}
+use Rattle.std.proofs.Common.{sym, subst}
+use Rattle.mr_ast.specs.ProgramGrammar.{body_form}
 use Rattle.mr_parse.specs.Gives.{Gives}
 use Rattle.mr_parse.specs.Reading.{read}
 use Rattle.mr_parse.specs.Views.{named}
-use Rattle.mr_parse.proofs.LoopLaws.{behind_word}
 use Rattle.mr_parse.proofs.FunctionLaws.{function_reads}
 use Rattle.mr_parse.proofs.reader.Reader.function.Goals as goal
 

@@ -1,4 +1,4 @@
-use Rattle.std.proofs.Common.{sym, arith, codes}
+use Rattle.std.proofs.Common.{sym, arith}
 use Rattle.std.proofs.lemmas.Result.{err_from_is_err_and}
 use Rattle.mr_ast.specs.TypeGrammar.{chunk_form, chunks_form}
 use Rattle.mr_parse.specs.Reading.{read}

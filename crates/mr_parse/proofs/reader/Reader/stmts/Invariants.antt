@@ -1,4 +1,4 @@
-use Rattle.std.proofs.Common.{◌≡◌, ◌-◌, codes}
+use Rattle.std.proofs.Common.{◌≡◌, ◌-◌}
 use Rattle.mr_ast.specs.ProgramGrammar.{begins_stmt, stmt_form, stmts_form}
 use Rattle.mr_parse.specs.Reading.{read, many_at}
 use Rattle.mr_parse.proofs.LoopLaws.{with_front}
