@@ -7,7 +7,32 @@ use mr_ast::{
 use std::alloc::Global;
 use std::test::Fail;
 
-// The program of one block, whose only local is the return local.
+// A function of one block, whose only local is the return local.
+fn function_of(alloc: Global, block: Block) -> Result<Function, OutOfMemory> {
+    let blocks = one(alloc, block)?;
+    let locals = one(alloc, unit_local(alloc))?;
+    Ok(Function {
+        name: 0,
+        args: Items::new(alloc),
+        ret: LocalName(0),
+        locals,
+        blocks,
+    })
+}
+
+// The program of one function.
+fn program_of(alloc: Global, function: Function) -> Result<Program, OutOfMemory> {
+    let functions = one(alloc, function)?;
+    Ok(Program {
+        edition: 1,
+        globals: Items::new(alloc),
+        functions,
+        names: Names::new(alloc),
+        start: FnName(0),
+    })
+}
+
+// The program of one block.
 fn of_block(
     alloc: Global,
     kind: BlockKind,
@@ -20,20 +45,7 @@ fn of_block(
         stmts,
         term,
     };
-    let function = Function {
-        name: 0,
-        args: Items::new(alloc),
-        ret: LocalName(0),
-        locals: one(alloc, unit_local(alloc))?,
-        blocks: one(alloc, block)?,
-    };
-    Ok(Program {
-        edition: 1,
-        globals: Items::new(alloc),
-        functions: one(alloc, function)?,
-        names: Names::new(alloc),
-        start: FnName(0),
-    })
+    program_of(alloc, function_of(alloc, block)?)
 }
 
 fn of_term(alloc: Global, term: Term) -> Result<Program, OutOfMemory> {
