@@ -1,4 +1,5 @@
 pub mod Examples
 pub mod Identities
+pub mod PutLaws
 pub mod RangeLaws
 pub mod Views

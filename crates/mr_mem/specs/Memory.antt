@@ -194,7 +194,7 @@ bytes_at a addr len = take len (drop (addr - a.addr) a.bytes)
 
 -- alignment comes before the range check
 abbrev pub aligned : {A : Type 0} → Pointer → ℕ → Result A Reason → Result A Reason
-aligned p align r = if p.addr % align == 0 then r else Err Misaligned
+aligned p align r = if is_multiple p.addr align then r else Err Misaligned
 
 abbrev pub read : Memory → Pointer → ℕ → ℕ → Result (List AbstractByte) Reason
 read m p len align =
@@ -204,13 +204,20 @@ read m p len align =
 abbrev pub spliced : List AbstractByte → ℕ → List AbstractByte → List AbstractByte
 spliced xs i ys = take i xs ++ (ys ++ drop (i + length ys) xs)
 
-abbrev pub with_bytes : Memory → Option AllocId → Allocation → ℕ → List AbstractByte → Memory
-with_bytes m None a addr bytes = m
-with_bytes m (Some id) a addr bytes = fin.insert m id (record a { bytes = spliced a.bytes (addr - a.addr) bytes })
+-- an allocation in which bytes are replaced from an address on, where their range lies in it
+abbrev pub put_bytes : Allocation → ℕ → List AbstractByte → Result Allocation Reason
+put_bytes a addr bytes = then_give (inside (Some a) addr (length bytes)) (λ _. record a { bytes = spliced a.bytes (addr - a.addr) bytes })
+
+abbrev pub put_at : Memory → AllocId → Option Allocation → ℕ → List AbstractByte → Result Memory Reason
+put_at m id None addr bytes = Err NoProvenance
+put_at m id (Some a) addr bytes = then_give (put_bytes a addr bytes) (fin.insert m id)
+
+-- the memory with these bytes in the allocation that a pointer's provenance names
+abbrev pub put_in : Memory → Pointer → List AbstractByte → Result Memory Reason
+put_in m p bytes = elim p.prov as (λ _. Result Memory Reason) [ None ↦ Err NoProvenance | Some id ↦ put_at m id (fin.get m id) p.addr bytes ]
 
 abbrev pub written : Memory → Pointer → List AbstractByte → ℕ → Result Memory Reason
-written m p bytes align =
-    aligned p align (if length bytes == 0 then Ok m else then_give (inside (found m p.prov) p.addr (length bytes)) (λ a. with_bytes m p.prov a p.addr bytes))
+written m p bytes align = aligned p align (if length bytes == 0 then Ok m else put_in m p bytes)
 
 -- ---- leaks
 

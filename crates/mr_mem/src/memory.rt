@@ -1,25 +1,27 @@
 ghost use Rattle.std.specs.Prelude.{◌≡◌, map};
 ghost use Rattle.std.specs.List.{list_any};
 ghost use Rattle.std.specs.BTreeMap.{IsOrdered};
-ghost use Rattle.mr_mem.specs.Memory.{held, range_of, overlaps, is_bad_address, free_fault, first_overlapped, is_leak, id_cmp, kind_number, refusal, without_life};
+ghost use Rattle.mr_mem.specs.Memory.{first_overlapped, free_fault, held, id_cmp, is_bad_address, is_leak, is_multiple, kind_number, overlaps, range_of, refusal, without_life};
 ghost use Rattle.mr_mem.specs.Stored.{allocation_of, entries_of, memory_of};
 ghost use Rattle.std.specs.FinMap as fin;
 
-use crate::fault::PickFault;
+use crate::fault::{Fault, PickFault};
+use crate::ranges::{lent, missed, put, put_uninit, stored_at};
 use mr_base::{AbstractByte, AllocId, Kind, Pointer, Reason};
+use mr_runs::{Runs, View};
 use std::alloc::{AllocError, Global};
 use std::collections::BTreeMap;
 use std::marker::Model;
 
-/// An allocation with its bytes in a plain list.
+/// An allocation with its bytes.
 #[derive(Drop)]
 pub struct Stored {
-    addr: u64,
-    span: u64,
-    align: u64,
-    kind: Kind,
-    live: bool,
-    bytes: Vec<AbstractByte>,
+    pub addr: u64,
+    pub span: u64,
+    pub align: u64,
+    pub kind: Kind,
+    pub live: bool,
+    pub bytes: Runs,
 }
 
 /// The allocations of a run, dead and live. (MiniRust, mem: the basic memory.)
@@ -45,19 +47,21 @@ impl Model for Memory {
 }
 
 // How many bytes an allocation of this size holds.
-fn held_by(kind: Kind, size: u64) -> usize
+fn held_by(kind: Kind, size: u64) -> u64
     ensures { result ≡ held kind size }
 {
     match kind {
         Kind::Function => 0,
-        Kind::Heap | Kind::Stack | Kind::Static => size as usize,
+        Kind::Heap | Kind::Stack | Kind::Static => size,
     }
 }
 
 impl Memory {
-    ghost use Rattle.std.specs.Prelude.{◌≡◌, ◌+◌, ◌-◌, ◌<◌, ◌≤◌, ◌^◌, MatchResult, OnOk, OnErr, Some, None, Ok, Err};
+    ghost use Rattle.std.specs.Prelude.{◌≡◌, ◌+◌, ◌-◌, ◌<◌, ◌≤◌, ◌^◌, MatchResult, OnOk, OnErr, Some, None, Ok, Err, replicate};
+    ghost use Rattle.mr_base.specs.declared.byte.AbstractByte.TheVariants.{Uninit};
+    ghost use Rattle.mr_mem.specs.Stored.{IsStored, seen_view};
     ghost use Rattle.std.specs.FinMap as fin;
-    ghost use Rattle.mr_mem.specs.Memory.{pick_fault, allocated, freed, leaks as is_leaking, IsPowerOfTwo, IsAsked};
+    ghost use Rattle.mr_mem.specs.Memory.{pick_fault, allocated, checked, freed, leaks as is_leaking, read, written, IsPowerOfTwo, IsAsked};
 
     /// No allocation.
     pub fn new(alloc: Global) -> Memory
@@ -86,7 +90,7 @@ impl Memory {
         ensures ok { OnOk result (self.new ≡ allocated self.old id kind size align addr) }
         ensures err { OnErr result (self.new ≡ self.old) }
     {
-        let bytes = vec![in self.alloc; AbstractByte::Uninit; held_by(kind, size)]?;
+        let bytes = Runs::uninit(self.alloc, held_by(kind, size))?;
         let new = Stored {
             addr,
             span: size,
@@ -136,6 +140,65 @@ impl Memory {
         Ok(id)
     }
 
+    /// The range check: the provenance of the pointer, where the `len` bytes from it on lie in its live allocation. No bytes
+    /// lie everywhere, and in no allocation.
+    pub fn check(&self, p: Pointer, len: u64) -> Result<Option<AllocId>, Reason>
+        ensures { result ≡ checked self.now p len }
+    {
+        if len == 0 {
+            return Ok(None);
+        }
+        missed(stored_at(&self.allocations, p.prov), p.addr, len)?;
+        Ok(p.prov)
+    }
+
+    /// Lends the `len` bytes from the pointer on. Misalignment is told before the range check.
+    pub fn load(&self, p: Pointer, len: u64, align: u64) -> Result<View<'_>, Reason>
+        ensures { seen_view result ≡ read self.now p len align }
+    {
+        if !is_multiple(p.addr, align) {
+            return Err(Reason::Misaligned);
+        }
+        if len == 0 {
+            return Ok(View::empty());
+        }
+        lent(stored_at(&self.allocations, p.prov), p.addr, len)
+    }
+
+    /// Replaces the bytes from the pointer on. Misalignment is told before the range check. A refused call changes nothing.
+    pub fn store(&mut self, p: Pointer, bytes: &[AbstractByte], align: u64) -> Result<(), Fault>
+        ensures stored { IsStored (written self.old p bytes.now align) self.new result }
+        ensures err { OnErr result (self.new ≡ self.old) }
+    {
+        if !is_multiple(p.addr, align) {
+            return Err(Fault::Undefined(Reason::Misaligned));
+        }
+        if bytes.is_empty() {
+            return Ok(());
+        }
+        match p.prov {
+            Some(id) => put(&mut self.allocations, id, p.addr, bytes),
+            None => Err(Fault::Undefined(Reason::NoProvenance)),
+        }
+    }
+
+    /// Makes the `len` bytes from the pointer on uninitialised, as a store of such bytes does.
+    pub fn deinit(&mut self, p: Pointer, len: u64, align: u64) -> Result<(), Fault>
+        ensures stored { IsStored (written self.old p (replicate len Uninit) align) self.new result }
+        ensures err { OnErr result (self.new ≡ self.old) }
+    {
+        if !is_multiple(p.addr, align) {
+            return Err(Fault::Undefined(Reason::Misaligned));
+        }
+        if len == 0 {
+            return Ok(());
+        }
+        match p.prov {
+            Some(id) => put_uninit(&mut self.allocations, id, p.addr, len),
+            None => Err(Fault::Undefined(Reason::NoProvenance)),
+        }
+    }
+
     /// Whether a heap allocation is live.
     #[tactic(auto, using(crate::proofs::Views::entries), unfolding(crate::specs::Memory::leaks))]
     pub fn leaks(&self) -> bool
@@ -150,6 +213,13 @@ fn is_bad(addr: u64, size: u64, align: u64) -> bool
     ensures { result ≡ is_bad_address addr size align }
 {
     addr == 0 || align == 0 || addr % align != 0 || addr - 1 > u64::MAX - size
+}
+
+// A number above 0 is no multiple of 0.
+fn is_multiple(addr: u64, align: u64) -> bool
+    ensures { result ≡ is_multiple addr align }
+{
+    align != 0 && addr % align == 0
 }
 
 // Whether a range shares an address with that of the allocation.
@@ -226,7 +296,7 @@ fn fault_of_free(a: &Stored, addr: u64, kind: Kind, size: u64, align: u64) -> Op
     if number_of(kind) != number_of(a.kind) {
         return Some(Reason::FreeKind);
     }
-    if size != a.bytes.len() as u64 {
+    if size != a.bytes.len() {
         return Some(Reason::FreeSize);
     }
     if align != a.align {

@@ -1,7 +1,7 @@
 ghost use Rattle.mr_mem.specs.Memory.{IsAsked};
 
 use super::*;
-use mr_base::{AllocId, Kind, Pointer, Reason};
+use mr_base::{AbstractByte, AllocId, Kind, Pointer, Reason};
 use std::alloc::Global;
 use std::test::*;
 
@@ -101,5 +101,74 @@ fn leaks(rt: HostRuntime) -> Result<(), Fail> {
     assert!(rt; !stack.leaks());
     let fixed = with_four(rt.alloc(), Kind::Static)?;
     assert!(rt; !fixed.leaks());
+    Ok(())
+}
+
+fn at(addr: u64) -> Pointer {
+    Pointer {
+        addr,
+        prov: Some(FIRST),
+    }
+}
+
+// The numbers of four bytes from 16 on, 0 for an uninitialised one.
+fn numbers(memory: &Memory) -> Result<[u8; 4], Reason> {
+    let view = memory.load(TO_FIRST, 4, 4)?;
+    let mut numbers = [0; 4];
+    for k in 0..4 {
+        if k < view.len() {
+            if let AbstractByte::Init(number, _) = view.byte(k) {
+                numbers[k as usize] = number;
+            }
+        }
+    }
+    Ok(numbers)
+}
+
+#[test]
+fn bytes_are_stored_and_lent(rt: HostRuntime) -> Result<(), Fail> {
+    let mut memory = with_four(rt.alloc(), Kind::Heap)?;
+    assert!(rt; numbers(&memory) == Ok([0, 0, 0, 0]));
+    let bytes = [AbstractByte::Init(7, None), AbstractByte::Init(8, None)];
+    assert!(rt; memory.store(at(17), &bytes, 1) == Ok(()));
+    assert!(rt; numbers(&memory) == Ok([0, 7, 8, 0]));
+    assert!(rt; memory.deinit(at(18), 2, 2) == Ok(()));
+    assert!(rt; numbers(&memory) == Ok([0, 7, 0, 0]));
+    assert!(rt; memory.deallocate(TO_FIRST, Kind::Heap, 4, 4) == Ok(FIRST));
+    assert!(rt; numbers(&memory) == Err(Reason::DeadAllocation));
+    Ok(())
+}
+
+#[test]
+fn ranges_are_checked(rt: HostRuntime) -> Result<(), Fail> {
+    let memory = with_four(rt.alloc(), Kind::Stack)?;
+    let nowhere = Pointer {
+        addr: 16,
+        prov: None,
+    };
+    let answers: [(Pointer, u64, Result<Option<AllocId>, Reason>); 6] = [
+        (TO_FIRST, 4, Ok(Some(FIRST))),
+        (at(20), 0, Ok(None)),
+        (nowhere, 0, Ok(None)),
+        (nowhere, 1, Err(Reason::NoProvenance)),
+        (at(15), 2, Err(Reason::OutOfBounds)),
+        (at(17), 4, Err(Reason::OutOfBounds)),
+    ];
+    for (p, len, answer) in answers {
+        assert!(rt; memory.check(p, len) == answer, "for {answer:?}");
+    }
+    Ok(())
+}
+
+#[test]
+fn refused_stores_change_nothing(rt: HostRuntime) -> Result<(), Fail> {
+    let mut memory = with_four(rt.alloc(), Kind::Stack)?;
+    let bytes = [AbstractByte::Init(7, None); 2];
+    let misaligned = Err(Fault::Undefined(Reason::Misaligned));
+    assert!(rt; memory.store(at(17), &bytes, 2) == misaligned);
+    assert!(rt; memory.deinit(at(16), 4, 0) == misaligned);
+    assert!(rt; memory.store(at(19), &bytes, 1) == Err(Fault::Undefined(Reason::OutOfBounds)));
+    assert!(rt; numbers(&memory) == Ok([0, 0, 0, 0]));
+    assert!(rt; memory.load(at(18), 2, 4).is_err());
     Ok(())
 }

@@ -106,7 +106,8 @@ impl Runs {
         out.extend_from_slice(bytes.as_slice())
     }
 
-    fn len(&self) -> u64
+    /// How many bytes there are.
+    pub fn len(&self) -> u64
         ensures { result ≡ length self.now }
     {
         self.numbers.len() as u64

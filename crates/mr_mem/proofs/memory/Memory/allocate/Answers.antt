@@ -11,7 +11,7 @@ use Rattle.mr_mem.proofs.memory.Memory.allocate.Goals as goal
 pub returns-clause-ok : goal.returns-clause-ok
 returns-clause-ok c =
     let x : Stored = record { addr = c.args.addr; span = c.args.size; align = c.args.align; kind = c.args.kind; live = true; bytes = c.in_ok-bytes.bytes } in
-    let bytes : c.in_ok-bytes.bytes.items ≡ replicate (held c.args.kind c.args.size) Uninit = search rules in
+    let bytes : c.in_ok-bytes.bytes ≡ replicate (held c.args.kind c.args.size) Uninit = search rules in
     one_changed c.self.inside.allocations.entries c.insert.new.self.entries c.args.id x c.in_ok-insert.ensures.updates.0
     ∙ ap (λ m. fin.insert m c.args.id (allocation_of x)) c.self.view_is
     ∙ ap (λ (bs : List AbstractByte). fin.insert c.args.self.now c.args.id (record { addr = c.args.addr; span = c.args.size; align = c.args.align; kind = c.args.kind; live = true; bytes = bs })) bytes

@@ -1,0 +1,49 @@
+use crate::OutOfMemory;
+use mr_base::Access;
+use smallvec::SmallVec;
+use std::alloc::Global;
+use std::marker::Model;
+
+/// The accesses of a step, in the order in which it makes them. Most steps make four at most.
+#[derive(Drop)]
+pub struct Accesses {
+    items: SmallVec<Access, 4>,
+}
+
+impl Model for Accesses {
+    ghost use Rattle.std.specs.Prelude.{List};
+    ghost use Rattle.mr_base.specs.declared.access.Access.{Access};
+
+    ghost Value = { List Access };
+
+    ghost view = { λ a. a.items.items };
+}
+
+impl Accesses {
+    ghost use Rattle.std.specs.Prelude.{◌≡◌, ◌<◌, ◌++◌, ◌∷◌, [], length, IsOk, OnErr, OnOk};
+
+    /// No access.
+    pub fn new(alloc: Global) -> Accesses
+        ensures { result ≡ [] }
+    {
+        Accesses {
+            items: SmallVec::new(alloc),
+        }
+    }
+
+    /// Appends an access.
+    pub fn add(&mut self, access: Access) -> Result<(), OutOfMemory>
+        ensures ok { OnOk result (self.new ≡ self.old ++ access ∷ []) }
+        ensures err { OnErr result (self.new ≡ self.old) }
+    {
+        self.items.push(access)?;
+        Ok(())
+    }
+
+    /// All of them.
+    pub fn as_slice(&self) -> &[Access]
+        ensures { result.now ≡ self.now }
+    {
+        self.items.as_slice()
+    }
+}

@@ -1,0 +1,59 @@
+ghost use Rattle.std.specs.Prelude.{◌≡◌};
+ghost use Rattle.std.specs.List.{list_any};
+ghost use Rattle.mr_base.specs.Accesses.{overlaps, conflicts as conflict_of, races as race_of, some_conflict, some_race};
+
+use crate::accesses::Accesses;
+use mr_base::Access;
+
+// Whether some byte belongs to both, also where one of them reaches past the last address.
+fn overlap(a: Access, b: Access) -> bool
+    ensures { result ≡ overlaps a b }
+{
+    if a.addr <= b.addr {
+        b.len != 0 && b.addr - a.addr < a.len
+    } else {
+        a.len != 0 && a.addr - b.addr < b.len
+    }
+}
+
+fn conflict(a: Access, b: Access) -> bool
+    ensures { result ≡ conflict_of a b }
+{
+    (a.store || b.store) && overlap(a, b)
+}
+
+fn race(a: Access, b: Access) -> bool
+    ensures { result ≡ race_of a b }
+{
+    (!a.atomic || !b.atomic) && conflict(a, b)
+}
+
+fn conflicts_with(a: Access, others: &[Access]) -> bool
+    ensures { result ≡ list_any (conflict_of a) others.now }
+{
+    others.iter().any(|b| conflict(a, *b))
+}
+
+fn races_with(a: Access, others: &[Access]) -> bool
+    ensures { result ≡ list_any (race_of a) others.now }
+{
+    others.iter().any(|b| race(a, *b))
+}
+
+/// Whether some access of the one list overlaps some access of the other, one of the two being a store.
+#[tactic(auto, unfolding(mr_base::specs::Accesses::some_conflict))]
+pub fn conflicts(a: &Accesses, b: &Accesses) -> bool
+    ensures { result ≡ some_conflict a.now b.now }
+{
+    a.as_slice()
+        .iter()
+        .any(|x| conflicts_with(*x, b.as_slice()))
+}
+
+/// Whether some access of the one list overlaps some access of the other, one of the two being a store and one not atomic.
+#[tactic(auto, unfolding(mr_base::specs::Accesses::some_race))]
+pub fn races(a: &Accesses, b: &Accesses) -> bool
+    ensures { result ≡ some_race a.now b.now }
+{
+    a.as_slice().iter().any(|x| races_with(*x, b.as_slice()))
+}

@@ -1,0 +1,19 @@
+//! The accesses of a step, and whether those of two steps conflict or race. (MiniRust, memory and concurrency; FastTrack: races.)
+//!
+//! Contracts see [`Accesses`] as the list of the accesses in the order in which the step makes them; what overlaps, conflicts and
+//! races is defined in `mr_base/specs/Accesses.antt`. Proved of the public calls:
+//!
+//! - [`Accesses::add`]: appends an access, or changes nothing where memory runs out. The first four need none.
+//! - [`conflicts`]: whether some access of the one list overlaps some access of the other, one of the two being a store.
+//! - [`races`]: the same, where one of the two isn't atomic as well.
+#![tactic(auto)]
+
+mod accesses;
+mod compare;
+
+pub use accesses::Accesses;
+pub use compare::{conflicts, races};
+pub use std::alloc::AllocError as OutOfMemory;
+
+#[cfg(test)]
+mod tests;

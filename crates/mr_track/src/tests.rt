@@ -1,0 +1,77 @@
+use super::*;
+use mr_base::Access;
+use std::alloc::Global;
+use std::test::Fail;
+
+fn load(addr: u64, len: u64) -> Access {
+    Access {
+        store: false,
+        atomic: false,
+        addr,
+        len,
+    }
+}
+
+fn store(addr: u64, len: u64) -> Access {
+    Access {
+        store: true,
+        ..load(addr, len)
+    }
+}
+
+fn atomic(access: Access) -> Access {
+    Access {
+        atomic: true,
+        ..access
+    }
+}
+
+fn one(alloc: Global, access: Access) -> Result<Accesses, OutOfMemory> {
+    let mut accesses = Accesses::new(alloc);
+    accesses.add(access)?;
+    Ok(accesses)
+}
+
+#[test]
+fn six_accesses_are_kept_in_order(rt: HostRuntime) -> Result<(), Fail> {
+    let mut accesses = Accesses::new(rt.alloc());
+    for addr in 1..7 {
+        accesses.add(load(addr, 1))?;
+    }
+    assert_eq!(rt; accesses.as_slice().len(), 6);
+    for (k, access) in accesses.as_slice().iter().enumerate() {
+        assert_eq!(rt; access.addr, k as u64 + 1);
+    }
+    Ok(())
+}
+
+#[test]
+fn a_store_beside_a_load_races(rt: HostRuntime) -> Result<(), Fail> {
+    let stores = one(rt.alloc(), store(16, 4))?;
+    for (access, conflict, race) in [
+        (load(19, 1), true, true),
+        (load(20, 1), false, false),
+        (load(12, 4), false, false),
+        (load(12, 5), true, true),
+        (load(16, 0), false, false),
+        (atomic(load(16, 4)), true, true),
+        (store(0, u64::MAX), true, true),
+    ] {
+        let others = one(rt.alloc(), access)?;
+        assert_eq!(rt; conflicts(&stores, &others), conflict);
+        assert_eq!(rt; races(&stores, &others), race);
+        assert_eq!(rt; races(&others, &stores), race);
+    }
+    Ok(())
+}
+
+#[test]
+fn atomic_accesses_and_loads_do_not_race(rt: HostRuntime) -> Result<(), Fail> {
+    let stores = one(rt.alloc(), atomic(store(16, 4)))?;
+    assert!(rt; conflicts(&stores, &stores));
+    assert!(rt; !races(&stores, &stores));
+    let loads = one(rt.alloc(), load(16, 4))?;
+    assert!(rt; !conflicts(&loads, &loads));
+    assert!(rt; !races(&loads, &loads));
+    Ok(())
+}
