@@ -1,0 +1,6 @@
+use Rattle.std.proofs.Common.{◌≡◌, drop}
+use Rattle.mr_wf.specs.JudgingBlocks.{judged_items}
+use Rattle.mr_wf.proofs.globals.judged_items.Given as goal
+
+abbrev pub invariant-loop-item : goal.invariant-loop-item
+invariant-loop-item l = judged_items l.sizes l.items ≡ judged_items l.sizes (drop l.item-index l.items)

@@ -1,0 +1,82 @@
+-- What the code's answers stand for.
+use Rattle.std.specs.Prelude.{◌≡◌, ℕ, ◌*◌, Bool, false, ◌&&◌, ◌==◌, List, [], ◌∷◌, Option, Result, Ok, Err}
+use Rattle.mr_ast.specs.declared.types.IntType.{IntType}
+use Rattle.mr_ast.specs.declared.types.IntType.TheVariants.{U64}
+use Rattle.mr_ast.specs.declared.types.Ty.{Ty}
+use Rattle.mr_ast.specs.declared.types.Ty.TheVariants as ty
+use Rattle.mr_ast.specs.declared.types.Ty.TheOpen.{Ty-F}
+use Rattle.mr_ast.specs.declared.types.Variant.{Variant}
+use Rattle.mr_ast.specs.declared.expr.BinaryOp.{BinaryOp}
+use Rattle.mr_ast.specs.declared.program.BlockName.{BlockName}
+use Rattle.mr_wf.specs.declared.fault.FormFault.{FormFault}
+use Rattle.mr_wf.specs.declared.fault.Item.{Item}
+use Rattle.mr_wf.specs.declared.fault.Broken.{Broken}
+use Rattle.mr_wf.specs.declared.fault.Broken.TheVariants.{Rule, Memory}
+use Rattle.mr_wf.specs.declared.fault.Stopped.{Stopped}
+use Rattle.mr_wf.specs.declared.fault.Stopped.TheVariants as stopped
+use Rattle.mr_wf.specs.declared.known.Known.{Known}
+use Rattle.mr_wf.specs.declared.known.Known.TheVariants as known
+use Rattle.mr_wf.specs.declared.judging.Surroundings.{Surroundings as Around}
+use Rattle.mr_wf.specs.Types.{element_type, overflow_type, result_type}
+use Rattle.mr_layout.specs.Sizes.{int_size}
+use Rattle.mr_wf.specs.Operands.{fits_binary, is_bool, is_int}
+use Rattle.mr_wf.specs.Broken.{Surroundings}
+use Rattle.mr_wf.specs.Judging.{◌>>=◌, kept, there}
+
+-- the type that is known
+abbrev pub ty_of : Known → Ty
+ty_of (known.Written t) = t.now
+ty_of (known.Int i) = ty.Int i
+ty_of known.Bool = ty.Bool
+ty_of known.Raw = ty.Raw
+ty_of known.FnPtr = ty.FnPtr
+ty_of (known.Overflow i) = overflow_type i
+
+-- the fields of what an overflowing operator gives: the integer, and behind it a bool
+abbrev pub are_overflow_fields : IntType → List (ℕ × Ty) → Bool
+are_overflow_fields i (f ∷ g ∷ []) = (f.0 == 0) && (is_int i f.1 && ((g.0 == int_size i) && is_bool g.1))
+are_overflow_fields i _ = false
+
+-- what is written as the type that an overflowing operator gives
+abbrev pub is_overflow_layer : IntType → Ty-F Ty Variant → Bool
+is_overflow_layer i (Ty-F.Tuple size align fields) = (size == 2 * int_size i) && ((align == int_size i) && are_overflow_fields i fields)
+is_overflow_layer i _ = false
+
+-- where an expression stands
+abbrev pub surroundings_of : Around → Surroundings
+surroundings_of at = record { sizes = at.sizes.now; locals = at.locals.now }
+
+-- the type of an element, from those of the array and the position
+abbrev pub element_at : Ty → Ty → Result Ty ℕ
+element_at t i = do
+  elem ← there 33 (element_type t)
+  _ ← kept 33 (is_int U64 i)
+  Ok elem
+
+-- what an operator gives on operands of these types
+abbrev pub operated : BinaryOp → Ty → Ty → Result Ty ℕ
+operated op left right = do
+  _ ← kept 34 (fits_binary op left right)
+  there 34 (result_type op left)
+
+-- the walk stops at this rule, unless memory ran out
+abbrev pub Stops : {Y : Type 0} → Broken → Result Y ℕ → Type 0
+Stops (Rule code) walk = walk ≡ Err code
+Stops Memory walk = Unit {0}
+
+-- An answer, seen by view, is what the walk gives, unless memory ran out.
+abbrev pub Gives : {X Y : Type 0} → (X → Y) → Result X Broken → Result Y ℕ → Type 0
+Gives view (Ok x) walk = walk ≡ Ok (view x)
+Gives view (Err e) walk = Stops e walk
+
+-- what is judged at a position, unless memory ran out
+abbrev pub placing : Item → Option BlockName → ℕ → Result (Unit {0}) Broken → Result (Unit {0}) Stopped
+placing it block place (Ok u) = Ok u
+placing it block place (Err (Rule code)) = Err (stopped.At (record { item = it; block = block; place = place; code = code }))
+placing it block place (Err Memory) = Err stopped.Memory
+
+-- the same of what stops at a position
+abbrev pub Walks : Result (Unit {0}) Stopped → Result (Unit {0}) FormFault → Type 0
+Walks (Ok u) walk = walk ≡ Ok tt
+Walks (Err (stopped.At fault)) walk = walk ≡ Err fault
+Walks (Err stopped.Memory) walk = Unit {0}

@@ -1,0 +1,91 @@
+ghost use Rattle.std.specs.Prelude.{◌≡◌, ◌<◌, ◌^◌, IfOk};
+ghost use Rattle.mr_wf.specs.Broken.{is_in_global, item_size, items_size, sizes_of};
+ghost use Rattle.mr_wf.specs.JudgingBlocks.{judged_global, judged_items};
+ghost use Rattle.mr_wf.specs.Known.{Gives};
+ghost use Rattle.mr_wf.specs.Walk.{is_global_form, is_target};
+
+use crate::fault::Broken;
+use crate::judging::kept;
+use mr_ast::{Global_, GlobalName, Item_, OutOfMemory, Target};
+use mr_layout::is_align;
+use std::alloc::Global;
+
+/// How many bytes a global may have.
+const MAX_GLOBAL: u128 = 1 << 20;
+
+fn item_size(item: &Item_) -> u32
+    ensures { result ≡ item_size item.now }
+{
+    match item {
+        Item_::Byte(_, repeat) | Item_::Uninit(repeat) => *repeat,
+        Item_::Reloc(_, _) => 8,
+    }
+}
+
+// How many bytes items take.
+fn items_size(items: &[Item_]) -> u128
+    ensures { result ≡ items_size items.now }
+{
+    let mut size = 0;
+    for item in items {
+        size += u128::from(item_size(item));
+    }
+    size
+}
+
+/// How many bytes each global has.
+pub fn sizes_of(alloc: Global, globals: &[Global_]) -> Result<Vec<u128>, OutOfMemory>
+    ensures { IfOk result (λ sizes. sizes.items ≡ sizes_of globals.now) }
+{
+    let mut sizes = Vec::new(alloc);
+    for global in globals {
+        sizes.push(items_size(global.items.as_slice()))?;
+    }
+    Ok(sizes)
+}
+
+/// Whether an offset is at most the size of a global.
+pub fn is_in_global(sizes: &[u128], g: GlobalName, offset: u64) -> bool
+    ensures { result ≡ is_in_global sizes.now g.0 offset }
+{
+    match sizes.get(g.0 as usize) {
+        Some(size) => u128::from(offset) <= *size,
+        None => false,
+    }
+}
+
+// Whether a pointer in a global points into a global, or to the start of a function.
+fn is_target(sizes: &[u128], item: &Item_) -> bool
+    ensures { result ≡ is_target sizes.now item.now }
+{
+    match item {
+        Item_::Byte(_, _) | Item_::Uninit(_) => true,
+        Item_::Reloc(Target::Global(g), offset) => is_in_global(sizes, *g, *offset),
+        Item_::Reloc(Target::Function(_), offset) => *offset == 0,
+    }
+}
+
+fn is_global_form(g: &Global_) -> bool
+    ensures { result ≡ is_global_form g.now }
+{
+    items_size(g.items.as_slice()) <= MAX_GLOBAL && is_align(g.align)
+}
+
+fn judged_items(sizes: &[u128], items: &[Item_]) -> Result<(), Broken>
+    ensures { Gives (λ u. u) result (judged_items sizes.now items.now) }
+{
+    for item in items {
+        if !is_target(sizes, item) {
+            return Err(Broken::Rule(43));
+        }
+    }
+    Ok(())
+}
+
+/// The first rule that a global breaks.
+pub fn judged_global(sizes: &[u128], g: &Global_) -> Result<(), Broken>
+    ensures { Gives (λ u. u) result (judged_global sizes.now g.now) }
+{
+    kept(44, is_global_form(g))?;
+    judged_items(sizes, g.items.as_slice())
+}

@@ -1,0 +1,331 @@
+ghost use Rattle.std.specs.Prelude.{◌≡◌, ◌||◌, map, option_copied, option_map, slice_get};
+ghost use Rattle.mr_ast.specs.declared.expr.Value.TheVariants as value;
+ghost use Rattle.mr_wf.specs.Judging.{judged_place, judged_value, judged_values, kept, sound_type, there};
+ghost use Rattle.mr_wf.specs.Known.{Gives, element_at, operated, surroundings_of, ty_of};
+ghost use Rattle.mr_wf.specs.Operands.{is_raw, is_ref};
+ghost use Rattle.mr_wf.specs.Types.{discriminant_type, result_type};
+
+use crate::fault::Broken;
+use crate::globals::is_in_global;
+use crate::known::Known;
+use crate::operands::{fits_binary, fits_parts, fits_unary, fits_union, fits_variant, same_size};
+use crate::parts::{discriminant, element, field, variant};
+use mr_ast::{BinaryOp, GlobalName, IntType, Local, LocalName, Num, Place, Ty, UnaryOp, Value};
+use mr_layout::{broken_rule, is_fitting};
+use std::alloc::Global;
+
+/// What an expression may speak of: the globals of its program, of which the sizes count, and the locals of its function.
+#[derive(Clone, Copy)]
+pub struct Surroundings<'p> {
+    pub sizes: &'p [u128],
+    pub locals: &'p [Local],
+}
+
+/// A rule with this code.
+pub fn kept(code: u8, test: bool) -> Result<(), Broken>
+    ensures { Gives (λ u. u) result (kept code test) }
+{
+    if test {
+        Ok(())
+    } else {
+        Err(Broken::Rule(code))
+    }
+}
+
+/// The rules of a written type.
+pub fn sound_type(t: &Ty) -> Result<(), Broken>
+    ensures { Gives (λ u. u) result (sound_type t.now) }
+{
+    match broken_rule(t) {
+        Some(code) => Err(Broken::Rule(code)),
+        None => Ok(()),
+    }
+}
+
+// What must be there.
+fn there(code: u8, found: Option<&Ty>) -> Result<&Ty, Broken>
+    ensures { Gives (λ t. t.now) result (there code (option_copied found.entry)) }
+{
+    found.ok_or(Broken::Rule(code))
+}
+
+// The type of the local of this name.
+fn local_type(locals: &[Local], x: LocalName) -> Option<&Ty>
+    ensures { option_copied result ≡ option_map (λ l. l.ty) (slice_get locals.now x.0) }
+{
+    match locals.get(x.0 as usize) {
+        Some(local) => Some(&local.ty),
+        None => None,
+    }
+}
+
+/// The type of a place, or the first rule that is broken in it.
+#[cycle(judged)]
+#[tactic(auto, using(crate::proofs::JudgedLaws::judged_laws))]
+pub fn judged_place<'p>(
+    alloc: Global,
+    at: Surroundings<'p>,
+    place: &'p Place,
+) -> Result<&'p Ty, Broken>
+    ensures { Gives (λ t. t.now) result (judged_place (surroundings_of at.entry) place.now) }
+{
+    match place {
+        Place::Local(x) => there(33, local_type(at.locals, *x)),
+        Place::Deref(pointer, ty) => {
+            let t = judged_value(alloc, at, pointer.get())?;
+            sound_type(ty)?;
+            kept(33, t.is_pointer())?;
+            Ok(ty)
+        }
+        Place::Field(whole, number) => {
+            there(33, field(judged_place(alloc, at, whole.get())?, *number))
+        }
+        Place::Index(array, index) => {
+            let t = judged_place(alloc, at, array.get())?;
+            let i = judged_value(alloc, at, index.get())?;
+            element_at(t, i)
+        }
+        Place::Variant(whole, number) => {
+            there(33, variant(judged_place(alloc, at, whole.get())?, *number))
+        }
+    }
+}
+
+// The type of an element of an array.
+fn element_at<'p>(t: &'p Ty, index: Known<'p>) -> Result<&'p Ty, Broken>
+    ensures { Gives (λ t. t.now) result (element_at t.now (ty_of index.entry)) }
+{
+    let elem = there(33, element(t))?;
+    kept(33, index.same(Known::Int(IntType::U64)))?;
+    Ok(elem)
+}
+
+/// The type of a value, or the first rule that is broken in it.
+#[cycle(judged)]
+#[tactic(auto, using(crate::proofs::JudgedLaws::judged_laws))]
+pub fn judged_value<'p>(
+    alloc: Global,
+    at: Surroundings<'p>,
+    value: &'p Value,
+) -> Result<Known<'p>, Broken>
+    ensures { Gives ty_of result (judged_value (surroundings_of at.entry) value.now) }
+{
+    match value {
+        Value::Int(int, number) => judged_number(at, *int, *number),
+        Value::True | Value::False => Ok(Known::Bool),
+        Value::Raw(_) => Ok(Known::Raw),
+        Value::Fn(_) => Ok(Known::FnPtr),
+        Value::Global(g, offset) => judged_pointer(at, *g, *offset),
+        Value::Tuple(ty, values) => judged_tuple(alloc, at, values.as_slice(), ty),
+        Value::Union(ty, number, content) => judged_union(alloc, at, content.get(), ty, *number),
+        Value::Variant(ty, number, content) => {
+            judged_variant(alloc, at, content.get(), ty, *number)
+        }
+        Value::Load(place) => Ok(Known::Written(judged_place(alloc, at, place)?)),
+        Value::Disc(place) => discriminant_of(judged_place(alloc, at, place)?),
+        Value::AddrOf(ty, place) => judged_address(alloc, at, place, ty),
+        Value::Cast(int, operand) => judged_cast(alloc, at, *int, operand.get()),
+        Value::Transmute(ty, operand) => judged_transmute(alloc, at, operand.get(), ty),
+        Value::Unary(op, operand) => judged_unary(alloc, at, *op, operand.get()),
+        Value::Binary(op, left, right) => {
+            let l = judged_value(alloc, at, left.get())?;
+            let r = judged_value(alloc, at, right.get())?;
+            operated(*op, l, r)
+        }
+    }
+}
+
+#[tactic(auto, using(crate::proofs::JudgedLaws::judged_laws))]
+fn judged_number<'p>(at: Surroundings<'p>, int: IntType, number: Num) -> Result<Known<'p>, Broken>
+    ensures { Gives ty_of result (judged_value (surroundings_of at.entry) (value.Int int number)) }
+{
+    kept(35, is_fitting(int, number))?;
+    Ok(Known::Int(int))
+}
+
+// A pointer into a global.
+#[tactic(auto, using(crate::proofs::JudgedLaws::judged_laws))]
+fn judged_pointer<'p>(at: Surroundings<'p>, g: GlobalName, offset: u64) -> Result<Known<'p>, Broken>
+    ensures { Gives ty_of result (judged_value (surroundings_of at.entry) (value.Global g offset)) }
+{
+    kept(43, is_in_global(at.sizes, g, offset))?;
+    Ok(Known::Raw)
+}
+
+// The type of the discriminant of an enum.
+fn discriminant_of<'p>(t: &Ty) -> Result<Known<'p>, Broken>
+    ensures { Gives ty_of result (there 37 (discriminant_type t.now)) }
+{
+    match discriminant(t) {
+        Some(int) => Ok(Known::Int(int)),
+        None => Err(Broken::Rule(37)),
+    }
+}
+
+// A cast to an integer.
+#[cycle(judged)]
+#[tactic(auto, using(crate::proofs::JudgedLaws::judged_laws))]
+fn judged_cast<'p>(
+    alloc: Global,
+    at: Surroundings<'p>,
+    int: IntType,
+    operand: &'p Value,
+) -> Result<Known<'p>, Broken>
+    ensures { Gives ty_of result (judged_value (surroundings_of at.entry) (value.Cast int operand.now)) }
+{
+    let t = judged_value(alloc, at, operand)?;
+    kept(47, t.is_scalar_number())?;
+    Ok(Known::Int(int))
+}
+
+// A value of an operator with one operand.
+#[cycle(judged)]
+#[tactic(auto, using(crate::proofs::JudgedLaws::judged_laws))]
+fn judged_unary<'p>(
+    alloc: Global,
+    at: Surroundings<'p>,
+    op: UnaryOp,
+    operand: &'p Value,
+) -> Result<Known<'p>, Broken>
+    ensures { Gives ty_of result (judged_value (surroundings_of at.entry) (value.Unary op operand.now)) }
+{
+    let t = judged_value(alloc, at, operand)?;
+    kept(34, fits_unary(op, t))?;
+    Ok(t)
+}
+
+// What an operator gives on operands of these types.
+fn operated<'p>(op: BinaryOp, left: Known<'p>, right: Known<'p>) -> Result<Known<'p>, Broken>
+    ensures { Gives ty_of result (operated op (ty_of left.entry) (ty_of right.entry)) }
+{
+    kept(34, fits_binary(op, left, right))?;
+    result_type(op, left)
+}
+
+// A tuple or an array.
+#[cycle(judged)]
+#[tactic(auto, using(crate::proofs::JudgedLaws::judged_laws))]
+fn judged_tuple<'p>(
+    alloc: Global,
+    at: Surroundings<'p>,
+    values: &'p [Value],
+    ty: &'p Ty,
+) -> Result<Known<'p>, Broken>
+    ensures { Gives ty_of result (judged_value (surroundings_of at.entry) (value.Tuple ty.now values.now)) }
+{
+    sound_type(ty)?;
+    let types = judged_values(alloc, at, values)?;
+    kept(46, fits_parts(ty, types.as_slice()))?;
+    Ok(Known::Written(ty))
+}
+
+// A union, of which one field is given.
+#[cycle(judged)]
+#[tactic(auto, using(crate::proofs::JudgedLaws::judged_laws))]
+fn judged_union<'p>(
+    alloc: Global,
+    at: Surroundings<'p>,
+    content: &'p Value,
+    ty: &'p Ty,
+    number: u64,
+) -> Result<Known<'p>, Broken>
+    ensures { Gives ty_of result (judged_value (surroundings_of at.entry) (value.Union ty.now number content.now)) }
+{
+    sound_type(ty)?;
+    let t = judged_value(alloc, at, content)?;
+    kept(46, fits_union(ty, number, t))?;
+    Ok(Known::Written(ty))
+}
+
+// A variant of an enum.
+#[cycle(judged)]
+#[tactic(auto, using(crate::proofs::JudgedLaws::judged_laws))]
+fn judged_variant<'p>(
+    alloc: Global,
+    at: Surroundings<'p>,
+    content: &'p Value,
+    ty: &'p Ty,
+    number: Num,
+) -> Result<Known<'p>, Broken>
+    ensures { Gives ty_of result (judged_value (surroundings_of at.entry) (value.Variant ty.now number content.now)) }
+{
+    sound_type(ty)?;
+    let t = judged_value(alloc, at, content)?;
+    kept(46, fits_variant(ty, number, t))?;
+    Ok(Known::Written(ty))
+}
+
+// The address of a place.
+#[cycle(judged)]
+#[tactic(auto, using(crate::proofs::JudgedLaws::judged_laws))]
+fn judged_address<'p>(
+    alloc: Global,
+    at: Surroundings<'p>,
+    place: &'p Place,
+    ty: &'p Ty,
+) -> Result<Known<'p>, Broken>
+    ensures { Gives ty_of result (judged_value (surroundings_of at.entry) (value.AddrOf ty.now place.now)) }
+{
+    sound_type(ty)?;
+    judged_place(alloc, at, place)?;
+    kept(47, is_address(ty))?;
+    Ok(Known::Written(ty))
+}
+
+// The bytes of a value, taken for another type.
+#[cycle(judged)]
+#[tactic(auto, using(crate::proofs::JudgedLaws::judged_laws, crate::proofs::SoundTypes::sound_ok))]
+fn judged_transmute<'p>(
+    alloc: Global,
+    at: Surroundings<'p>,
+    operand: &'p Value,
+    ty: &'p Ty,
+) -> Result<Known<'p>, Broken>
+    ensures { Gives ty_of result (judged_value (surroundings_of at.entry) (value.Transmute ty.now operand.now)) }
+{
+    sound_type(ty)?;
+    let t = judged_value(alloc, at, operand)?;
+    kept(47, same_size(ty, t))?;
+    Ok(Known::Written(ty))
+}
+
+// Whether an address may have this type.
+fn is_address(t: &Ty) -> bool
+    ensures { result ≡ (is_raw t.now || is_ref t.now) }
+{
+    matches!(t, Ty::Raw | Ty::Ref { .. })
+}
+
+/// The types of some values.
+#[cycle(judged)]
+pub fn judged_values<'p>(
+    alloc: Global,
+    at: Surroundings<'p>,
+    values: &'p [Value],
+) -> Result<Vec<Known<'p>>, Broken>
+    ensures { Gives (λ ts. map ty_of ts.items) result (judged_values (surroundings_of at.entry) values.now) }
+{
+    let mut types = Vec::new(alloc);
+    for value in values {
+        let t = judged_value(alloc, at, value)?;
+        types.push(t)?;
+    }
+    Ok(types)
+}
+
+// What an operator gives, from its left operand.
+fn result_type<'p>(op: BinaryOp, left: Known<'p>) -> Result<Known<'p>, Broken>
+    ensures { Gives ty_of result (there 34 (result_type op (ty_of left.entry))) }
+{
+    match op {
+        BinaryOp::Eq | BinaryOp::Ne | BinaryOp::Lt | BinaryOp::Le | BinaryOp::Gt | BinaryOp::Ge =>
+            Ok(Known::Bool),
+        BinaryOp::AddOverflow | BinaryOp::SubOverflow | BinaryOp::MulOverflow => {
+            match left.integer() {
+                Some(int) => Ok(Known::Overflow(int)),
+                None => Err(Broken::Rule(34)),
+            }
+        }
+        _ => Ok(left),
+    }
+}

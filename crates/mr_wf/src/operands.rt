@@ -1,0 +1,150 @@
+ghost use Rattle.std.specs.Prelude.{◌≡◌, map, length, option_copied};
+ghost use Rattle.mr_ast.specs.declared.types.Ty.{out-Ty};
+ghost use Rattle.mr_layout.specs.TypeOk.{TypeOk};
+ghost use Rattle.mr_wf.specs.Known.{ty_of};
+ghost use Rattle.mr_wf.specs.SameTypes.{same_type};
+ghost use Rattle.mr_wf.specs.Operands.{fit, fits_binary, fits_parts, fits_unary, fits_union, fits_variant, is_type, match_element, match_fields, operands_of, same_size};
+
+use crate::known::Known;
+use crate::parts::{field, is_union, variant};
+use mr_ast::{BinaryOp, IntType, Num, Ty, UnaryOp};
+use mr_layout::size;
+
+/// What the operands of an operator are.
+#[derive(Clone, Copy)]
+pub enum Operands {
+    /// Two integers of one type.
+    Integers,
+    /// Two integers or two bools of one type.
+    Bitwise,
+    /// Two integers.
+    Shifted,
+    /// Two of a type that is ordered.
+    Compared,
+    /// A raw pointer, and how far it is moved.
+    Moved,
+}
+
+fn operands_of(op: BinaryOp) -> Operands
+    ensures { result ≡ operands_of op }
+{
+    match op {
+        BinaryOp::And | BinaryOp::Or | BinaryOp::Xor => Operands::Bitwise,
+        BinaryOp::Shl | BinaryOp::Shr | BinaryOp::ShlUnchecked | BinaryOp::ShrUnchecked => {
+            Operands::Shifted
+        }
+        BinaryOp::Eq | BinaryOp::Ne | BinaryOp::Lt | BinaryOp::Le | BinaryOp::Gt | BinaryOp::Ge =>
+            Operands::Compared,
+        BinaryOp::Offset | BinaryOp::WrappingOffset => Operands::Moved,
+        BinaryOp::Add
+        | BinaryOp::Sub
+        | BinaryOp::Mul
+        | BinaryOp::Div
+        | BinaryOp::Rem
+        | BinaryOp::AddUnchecked
+        | BinaryOp::SubUnchecked
+        | BinaryOp::MulUnchecked
+        | BinaryOp::AddOverflow
+        | BinaryOp::SubOverflow
+        | BinaryOp::MulOverflow => Operands::Integers,
+    }
+}
+
+/// Whether an operator takes an operand of this type.
+pub fn fits_unary(op: UnaryOp, operand: Known<'_>) -> bool
+    ensures { result ≡ fits_unary op (ty_of operand.entry) }
+{
+    match op {
+        UnaryOp::Neg => operand.integer().is_some(),
+        UnaryOp::Not => operand.is_scalar_number(),
+    }
+}
+
+/// Whether an operator takes operands of these types.
+pub fn fits_binary(op: BinaryOp, left: Known<'_>, right: Known<'_>) -> bool
+    ensures { result ≡ fits_binary op (ty_of left.entry) (ty_of right.entry) }
+{
+    match operands_of(op) {
+        Operands::Integers => left.integer().is_some() && left.same(right),
+        Operands::Bitwise => left.is_scalar_number() && left.same(right),
+        Operands::Shifted => left.integer().is_some() && right.integer().is_some(),
+        Operands::Compared => { (left.is_scalar_number() || left.is_raw()) && left.same(right) }
+        Operands::Moved => left.is_raw() && right.same(Known::Int(IntType::I64)),
+    }
+}
+
+// Whether each type is that of its field.
+fn match_fields(fields: &[(u64, Ty)], types: &[Known<'_>]) -> bool
+    ensures { result ≡ match_fields fields.now (map ty_of types.now) }
+{
+    match fields {
+        [first, fields @ ..] => match types {
+            [t, types @ ..] => t.same(Known::Written(&first.1)) && match_fields(fields, types),
+            [] => false,
+        },
+        [] => match types {
+            [_, ..] => false,
+            [] => true,
+        },
+    }
+}
+
+// Whether each type is that of the elements.
+fn match_element(elem: &Ty, types: &[Known<'_>]) -> bool
+    ensures { result ≡ match_element elem.now (map ty_of types.now) }
+{
+    for t in types {
+        if !t.same(Known::Written(elem)) {
+            return false;
+        }
+    }
+    true
+}
+
+/// Whether values of these types are the parts of a tuple or an array.
+pub fn fits_parts(t: &Ty, types: &[Known<'_>]) -> bool
+    ensures { result ≡ fits_parts t.now (map ty_of types.now) }
+{
+    match t {
+        Ty::Tuple { fields, .. } => match_fields(fields.as_slice(), types),
+        Ty::Array { count, elem } => {
+            types.len() as u64 == *count && match_element(elem.get(), types)
+        }
+        _ => false,
+    }
+}
+
+fn is_type(wanted: Option<&Ty>, t: Known<'_>) -> bool
+    ensures { result ≡ is_type (option_copied wanted.entry) (ty_of t.entry) }
+{
+    match wanted {
+        Some(wanted) => t.same(Known::Written(wanted)),
+        None => false,
+    }
+}
+
+/// Whether a value of this type is the field of a union.
+pub fn fits_union(t: &Ty, number: u64, content: Known<'_>) -> bool
+    ensures { result ≡ fits_union t.now number (ty_of content.entry) }
+{
+    is_union(t) && is_type(field(t, number), content)
+}
+
+/// Whether a value of this type is the content of the variant with this number.
+pub fn fits_variant(t: &Ty, number: Num, content: Known<'_>) -> bool
+    ensures { result ≡ fits_variant t.now number (ty_of content.entry) }
+{
+    is_type(variant(t, number), content)
+}
+
+/// Whether the two have as many bytes.
+#[tactic(auto, using(crate::proofs::KnownSizes::sized_laws))]
+pub fn same_size(t: &Ty, u: Known<'_>) -> bool
+    requires { TypeOk t.now }
+    ensures { result ≡ same_size t.now (ty_of u.entry) }
+{
+    match (size(t), u.size()) {
+        (Some(bytes), Some(others)) => bytes == others,
+        _ => false,
+    }
+}
