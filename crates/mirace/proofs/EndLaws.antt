@@ -1,48 +1,44 @@
 -- How a command that was answered ends.
-use Rattle.std.proofs.Common.{◌≡◌, ℕ, ap, ◌∙◌, sym, List, ◌⊎◌, inl, inr, refl}
+use Rattle.std.proofs.Common.{◌≡◌, ℕ, ap, sym, List, ◌⊎◌, inl, inr, refl}
 use Rattle.std.specs.Prelude.{Some, Option, Result, Ok, Err}
 use Rattle.mr_io.specs.Files.{Contents}
 use Rattle.mirace.specs.declared.answer.Written.{Written}
 use Rattle.mirace.specs.declared.refusal.Refusal.{Refusal}
 use Rattle.mirace.specs.declared.refusal.Refusal.TheVariants as refusal
 use Rattle.mirace.specs.Command.{Command, Run, Check}
-use Rattle.mirace.specs.Answer.{Answer, canonical, program_in, refused, reported, run_in, told}
-use Rattle.mirace.specs.Answering.{IsAnswered, Says, seen}
-use Rattle.mirace.specs.Outcome.{Ends, Gives, IsLeft, IsPossible, IsRefusedOrLeft, IsWritten}
+use Rattle.mirace.specs.Answer.{Answer, answer_of, refused}
+use Rattle.mirace.specs.Answering.{IsAnswered, Tells, seen}
+use Rattle.mirace.specs.Outcome.{Ends, IsLeft, IsPossible, IsRefusedOrLeft, IsWritten}
 
--- what is written is what is said of what is defined
-said : {A : Type 0} (say : A → Answer) (defined : Result A Refusal) (a : Written) → Says say defined (Ok a) → seen a ≡ told say defined
-said say defined a h = h.2 ∙ sym (ap (told say) h.1)
+-- a refusal is what the answer says, unless memory ran out
+refusal_told : (answer : Answer) (r : Refusal) → Tells answer (Err r) → (r ≡ refusal.Memory) ⊎ (answer ≡ refused r)
+refusal_told answer refusal.Memory h = inl refl
+refusal_told answer refusal.ReadProgram h = inr h
+refusal_told answer (refusal.Text at col code) h = inr h
+refusal_told answer refusal.NotBuilt h = inr h
+refusal_told answer refusal.ReadSchedule h = inr h
+refusal_told answer (refusal.Schedule at code earlier) h = inr h
 
--- a refusal is the one that is defined, unless memory ran out
-refusal_given : {A : Type 0} (r : Refusal) (defined : Result A Refusal) → Gives {A = A} (Err r) defined → (r ≡ refusal.Memory) ⊎ (defined ≡ Err r)
-refusal_given refusal.Memory defined h = inl refl
-refusal_given refusal.ReadProgram defined h = inr h
-refusal_given (refusal.Text at col code) defined h = inr h
-refusal_given refusal.NotBuilt defined h = inr h
-refusal_given refusal.ReadSchedule defined h = inr h
-refusal_given (refusal.Schedule at code earlier) defined h = inr h
-
-same_refusal : {A : Type 0} {r s : Refusal} → ◌≡◌ {A = Result A Refusal} (Err r) (Err s) → r ≡ s
+same_refusal : {r s : Refusal} → ◌≡◌ {A = Result Written Refusal} (Err r) (Err s) → r ≡ s
 same_refusal e = cc
 
 module _ (files : Contents) (files_rose out_rose : Type 0) (old new : Option (List ℕ)) (status : ℕ) where
   pub written_ends : (command : Command) (a : Written) → IsAnswered files command files_rose (Ok a) → IsWritten (seen a) out_rose old new status
       → Ends files (Some command) files_rose out_rose old new status
-  written_ends (Run program schedule) a (inl says) written = inr (seen a, inl (said reported (run_in files program schedule) a says), written)
+  written_ends (Run program schedule) a (inl tells) written = inr (seen a, inl tells, written)
   written_ends (Run program schedule) a (inr (rose, inl e)) written = absurd (cc)
-  written_ends (Run program schedule) a (inr (rose, inr (p, built, e))) written = absurd (cc)
-  written_ends (Check program) a (inl says) written = inr (seen a, inl (said canonical (program_in (files program)) a says), written)
+  written_ends (Run program schedule) a (inr (rose, inr (p, built, unbroken, e))) written = absurd (cc)
+  written_ends (Check program) a (inl tells) written = inr (seen a, inl tells, written)
   written_ends (Check program) a (inr (rose, e)) written = absurd (cc)
 
   -- a refusal that is defined
   is_defined : (command : Command) (r : Refusal) → IsAnswered files command files_rose (Err r) → (r ≡ refusal.Memory) ⊎ IsPossible files (Some command) files_rose (refused r)
-  is_defined (Run program schedule) r (inl gives) =
-      elim (refusal_given r (run_in files program schedule) gives) [ inl e ↦ inl e | inr e ↦ inr (inl (sym (ap (told reported) e))) ]
+  is_defined (Run program schedule) r (inl tells) =
+      elim (refusal_told (answer_of files (Some (Run program schedule))) r tells) [ inl e ↦ inl e | inr e ↦ inr (inl (sym e)) ]
   is_defined (Run program schedule) r (inr (rose, inl e)) = inr (inr (rose, inl (ap refused (same_refusal e))))
-  is_defined (Run program schedule) r (inr (rose, inr (p, built, e))) = inr (inr (rose, inr (p, built, ap refused (same_refusal e))))
-  is_defined (Check program) r (inl gives) =
-      elim (refusal_given r (program_in (files program)) gives) [ inl e ↦ inl e | inr e ↦ inr (inl (sym (ap (told canonical) e))) ]
+  is_defined (Run program schedule) r (inr (rose, inr (p, built, unbroken, e))) = inr (inr (rose, inr (p, built, unbroken, ap refused (same_refusal e))))
+  is_defined (Check program) r (inl tells) =
+      elim (refusal_told (answer_of files (Some (Check program))) r tells) [ inl e ↦ inl e | inr e ↦ inr (inl (sym e)) ]
   is_defined (Check program) r (inr (rose, e)) = inr (inr (rose, ap refused (same_refusal e)))
 
   -- nothing was written, or the line of a refusal that isn't for want of memory

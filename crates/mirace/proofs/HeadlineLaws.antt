@@ -16,12 +16,15 @@ use Rattle.mr_step.specs.Start.{run_of}
 use Rattle.mr_step.proofs.BuiltLaws.{built_told, not_built_told}
 use Rattle.mr_step.proofs.RunLaws.{no_schedule_fault}
 use Rattle.mr_step.proofs.SoundRuns.{sound_run}
+use Rattle.mr_wf.specs.declared.fault.FormFault.{FormFault}
+use Rattle.mr_wf.specs.Walk.{faults_of}
 use Rattle.mirace.specs.declared.refusal.Refusal.TheVariants as refusal
 use Rattle.mirace.specs.Command.{Command, Run, Check}
-use Rattle.mirace.specs.Answer.{Answer, program_in, if_built, built_in, schedule_in, denoted, spelled, text_refusal, legal_run, run_under, unless_broken, canonical, refused, reported, told, answer_of, ◌>>=◌}
+use Rattle.mirace.specs.Answer.{Answer, program_in, if_built, built_in, schedule_in, denoted, spelled, text_refusal, legal_run, unless_broken, canonical, check_answer, form_answer, form_or, refused, report_under, reported, run_answer, told, answer_of, ◌>>=◌}
 use Rattle.mirace.specs.Report.{verdict_status}
 use Rattle.mirace.specs.Outcome.{Ends, RanOut, IsLeft, IsPossible, IsUnread, IsWritten}
-use Rattle.mirace.specs.Headline.{ChecksProgram, Names, NamesFault, RunsUnbuilt, IsOfMachine, IsTold}
+use Rattle.mirace.specs.Headline.{ChecksProgram, Names, NamesBroken, NamesFault, RunsUnbuilt, IsOfMachine, IsTold}
+use Rattle.mirace.proofs.AnswerLaws.{first_told}
 
 -- ---- what a file holds
 
@@ -39,7 +42,7 @@ unbuilt_program p none = ap (λ (b : Bool). if b then Ok p else Err refusal.NotB
 
 -- ---- the answers by definition
 
--- a program and a legal schedule are answered by the report of their run
+-- a well-formed program and a legal schedule are answered by the report of their run
 named_answer : (files : Contents) (command : Option Command) (p : Program) (w : Schedule) → Names files command p w → answer_of files command ≡ reported (run_of p w)
 named_answer files command p w h =
     let program : built_in (files h.program_name) ≡ Ok p =
@@ -47,13 +50,17 @@ named_answer files command p w h =
     let schedule : schedule_in (files h.schedule_name) ≡ Ok w = ap schedule_in h.schedule_there ∙ ap spelled (schedule_again h.schedule_text w h.schedules) in
     let legal : legal_run p w ≡ Ok (run_of p w) = ap (λ f. unless_broken f (run_of p w)) (no_schedule_fault p w h.legal) in
     ap (answer_of files) h.is_run
-    ∙ ap (λ r. told reported (r >>= run_under (files h.schedule_name))) program
+    ∙ ap (told (run_answer (files h.schedule_name))) program
+    ∙ ap (λ faults. form_or p faults (report_under (files h.schedule_name) p)) h.well_formed.unbroken
     ∙ ap (λ r. told reported (r >>= legal_run p)) schedule
     ∙ ap (told reported) legal
 
--- a program that is checked is answered by its canonical text
+-- a well-formed program that is checked is answered by its canonical text
 checked_answer : (files : Contents) (command : Option Command) (p : Program) → ChecksProgram files command p → answer_of files command ≡ canonical p
-checked_answer files command p h = ap (answer_of files) h.is_check ∙ ap (told canonical) (denoted_in (files h.name) h.text p h.there h.denotes)
+checked_answer files command p h =
+    ap (answer_of files) h.is_check
+    ∙ ap (told check_answer) (denoted_in (files h.name) h.text p h.there h.denotes)
+    ∙ ap (λ faults. form_or p faults (canonical p)) h.well_formed.unbroken
 
 -- the first fault of a program's text is told by each command
 fault_answer : (files : Contents) (command : Option Command) (fault : TextFault) → NamesFault files command fault → answer_of files command ≡ refused (text_refusal fault)
@@ -63,15 +70,30 @@ fault_answer files command fault h = go h.names_program
     at = fault_in (files h.name) h.text fault h.there h.first
 
     go : (command ≡ Some (Check h.name)) ⊎ ((schedule : List ℕ) × (command ≡ Some (Run h.name schedule))) → answer_of files command ≡ refused (text_refusal fault)
-    go (inl is) = ap (answer_of files) is ∙ ap (told canonical) at
-    go (inr run) = ap (answer_of files) run.1 ∙ ap (λ r. told reported (r >>= if_built >>= run_under (files run.0))) at
+    go (inl is) = ap (answer_of files) is ∙ ap (told check_answer) at
+    go (inr run) = ap (answer_of files) run.1 ∙ ap (λ r. told (run_answer (files run.0)) (r >>= if_built)) at
 
 -- a program that isn't built is refused by a run
 unbuilt_answer : (files : Contents) (command : Option Command) (p : Program) → RunsUnbuilt files command p → answer_of files command ≡ refused refusal.NotBuilt
 unbuilt_answer files command p h =
     ap (answer_of files) h.is_run
-    ∙ ap (λ r. told reported (r >>= if_built >>= run_under (files h.schedule_name))) (denoted_in (files h.name) h.text p h.there h.denotes)
-    ∙ ap (λ r. told reported (r >>= run_under (files h.schedule_name))) (unbuilt_program p h.not_built)
+    ∙ ap (λ r. told (run_answer (files h.schedule_name)) (r >>= if_built)) (denoted_in (files h.name) h.text p h.there h.denotes)
+    ∙ ap (told (run_answer (files h.schedule_name))) (unbuilt_program p h.not_built)
+
+-- the first rule that a program breaks is told by a check, and by a run of a program that is built
+broken_answer : (files : Contents) (command : Option Command) (p : Program) (fault : FormFault) → NamesBroken files command p fault → answer_of files command ≡ form_answer p fault
+broken_answer files command p fault h = go h.judges
+  where
+    at : program_in (files h.name) ≡ Ok p
+    at = denoted_in (files h.name) h.text p h.there h.denotes
+
+    go : (command ≡ Some (Check h.name)) ⊎ ((schedule : List ℕ) × (command ≡ Some (Run h.name schedule)) × Built p) → answer_of files command ≡ form_answer p fault
+    go (inl is) = ap (answer_of files) is ∙ ap (told check_answer) at ∙ first_told p (faults_of p) fault (canonical p) h.first
+    go (inr (schedule, is, built)) =
+        ap (answer_of files) is
+        ∙ ap (λ r. told (run_answer (files schedule)) (r >>= if_built)) at
+        ∙ ap (told (run_answer (files schedule))) (built_program p built)
+        ∙ first_told p (faults_of p) fault (report_under (files schedule) p) h.first
 
 -- ---- how a call ends
 
@@ -83,7 +105,7 @@ ran_out (Some c) old new status h = h
 unread_status : (files : Contents) (command : Option Command) (a : Answer) → IsUnread files command a → a.status ≡ 6
 unread_status files None a h = absurd h
 unread_status files (Some (Run program schedule)) a (inl h) = ap (λ (b : Answer). b.status) h
-unread_status files (Some (Run program schedule)) a (inr h) = ap (λ (b : Answer). b.status) h.2
+unread_status files (Some (Run program schedule)) a (inr h) = ap (λ (b : Answer). b.status) h.3
 unread_status files (Some (Check program)) a h = ap (λ (b : Answer). b.status) h
 
 pub written_status : (a : Answer) (rose : Type 0) (old new : Option (List ℕ)) (status : ℕ) → IsWritten a rose old new status → (status ≡ a.status) ⊎ (rose × (status ≡ 7))
@@ -119,6 +141,10 @@ module _ (files : Contents) (command : Option Command) (files_rose out_rose : Ty
   pub fault_told : (fault : TextFault) → NamesFault files command fault → Ends files command files_rose out_rose old new status
       → IsTold (refused (text_refusal fault)) files_rose out_rose old new status
   fault_told fault h e = ends_told (refused (text_refusal fault)) (fault_answer files command fault h) e
+
+  pub form_told : (p : Program) (fault : FormFault) → NamesBroken files command p fault → Ends files command files_rose out_rose old new status
+      → IsTold (form_answer p fault) files_rose out_rose old new status
+  form_told p fault h e = ends_told (form_answer p fault) (broken_answer files command p fault h) e
 
   pub unbuilt_told : (p : Program) → RunsUnbuilt files command p → Ends files command files_rose out_rose old new status
       → IsTold (refused refusal.NotBuilt) files_rose out_rose old new status

@@ -1,7 +1,9 @@
+pub mod AnswerLaws
 pub mod EndLaws
 pub mod Examples
 pub mod HeadlineLaws
 pub mod InputLaws
+pub mod NameLaws
 pub mod PrintLaws
 pub mod RunLaws
 pub mod UnreadLaws

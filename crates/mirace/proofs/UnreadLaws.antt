@@ -1,5 +1,5 @@
 -- Why a file was not read.
-use Rattle.std.proofs.Common.{◌≡◌, ℕ, Bool, true, false, ap, ◌∙◌, sym, arith, List, ◌⊎◌, inl, inr, refl}
+use Rattle.std.proofs.Common.{◌≡◌, ℕ, Bool, true, false, ap, ◌∙◌, sym, arith, List, [], ◌∷◌, ◌⊎◌, inl, inr, refl}
 use Rattle.std.specs.Prelude.{Some, None, Option, Result, Ok, Err, if◌then◌else◌}
 use Rattle.mr_ast.specs.declared.program.Program.{Program}
 use Rattle.mr_io.specs.Files.{Contents}
@@ -11,9 +11,11 @@ use Rattle.mr_step.specs.Built.{is_built}
 use Rattle.mr_step.specs.Runs.{Config}
 use Rattle.mr_step.specs.Language.{Own}
 use Rattle.mr_step.specs.Start.{PlacedFault, run_of, schedule_fault}
+use Rattle.mr_wf.specs.declared.fault.FormFault.{FormFault}
+use Rattle.mr_wf.specs.Walk.{faults_of}
 use Rattle.mirace.specs.declared.refusal.Refusal.TheVariants as refusal
 use Rattle.mirace.specs.Command.{Command, Run, Check}
-use Rattle.mirace.specs.Answer.{Answer, answer_of, built_in, canonical, denoted, if_built, legal_run, program_in, reported, run_under, spelled, told, unless_broken, ◌>>=◌}
+use Rattle.mirace.specs.Answer.{Answer, answer_of, built_in, canonical, check_answer, denoted, form_or, if_built, legal_run, program_in, report_under, reported, run_answer, spelled, told, unless_broken, ◌>>=◌}
 use Rattle.mirace.specs.Outcome.{Ends, IsPossible}
 use Rattle.mirace.specs.Headline.{IsUnreadBecause, LacksFile}
 use Rattle.mirace.proofs.HeadlineLaws.{at_most_one, ran_out, written_status}
@@ -28,26 +30,37 @@ of_schedule : (p : Program) (r : Result Schedule Fault) → (told reported (spel
 of_schedule p (Ok w) s = of_legal (schedule_fault p w) (run_of p w) s
 of_schedule p (Err f) s = let five : 5 ≡ 6 = s in absurd (omega arith)
 
-of_built : (b : Bool) (p : Program) (file : Option (List ℕ)) → (told reported ((if b then Ok p else Err refusal.NotBuilt) >>= run_under file)).status ≡ 6 → file ≡ None
-of_built true p None s = refl
-of_built true p (Some bytes) s = absurd (of_schedule p (schedule_of bytes) s)
+of_report : (p : Program) (file : Option (List ℕ)) → (report_under file p).status ≡ 6 → file ≡ None
+of_report p None s = refl
+of_report p (Some bytes) s = absurd (of_schedule p (schedule_of bytes) s)
+
+-- the line of a broken rule has another status
+of_form : (p : Program) (faults : List FormFault) (a : Answer) → (form_or p faults a).status ≡ 6 → a.status ≡ 6
+of_form p [] a s = s
+of_form p (f ∷ faults) a s = let four : 4 ≡ 6 = s in absurd (omega arith)
+
+of_built : (b : Bool) (p : Program) (file : Option (List ℕ)) → (told (run_answer file) (if b then Ok p else Err refusal.NotBuilt)).status ≡ 6 → file ≡ None
+of_built true p file s = of_report p file (of_form p (faults_of p) (report_under file p) s)
 of_built false p file s = let three : 3 ≡ 6 = s in absurd (omega arith)
 
-of_run : (r : Result Program TextFault) (file : Option (List ℕ)) → (told reported (denoted r >>= if_built >>= run_under file)).status ≡ 6 → file ≡ None
+of_run : (r : Result Program TextFault) (file : Option (List ℕ)) → (told (run_answer file) (denoted r >>= if_built)).status ≡ 6 → file ≡ None
 of_run (Ok p) file s = of_built (is_built p) p file s
 of_run (Err f) file s = let three : 3 ≡ 6 = s in absurd (omega arith)
 
-of_check : (r : Result Program TextFault) → (told canonical (denoted r)).status ≡ 6 → ⊥
-of_check (Ok p) s = let zero : 0 ≡ 6 = s in absurd (omega arith)
+of_canonical : (p : Program) → (canonical p).status ≡ 6 → ⊥
+of_canonical p s = let zero : 0 ≡ 6 = s in absurd (omega arith)
+
+of_check : (r : Result Program TextFault) → (told check_answer (denoted r)).status ≡ 6 → ⊥
+of_check (Ok p) s = of_canonical p (of_form p (faults_of p) (canonical p) s)
 of_check (Err f) s = let three : 3 ≡ 6 = s in absurd (omega arith)
 
 run_lacks : (files : Contents) (program schedule : List ℕ) (file : Option (List ℕ)) → files program ≡ file
-    → (told reported (built_in file >>= run_under (files schedule))).status ≡ 6 → LacksFile files (Some (Run program schedule))
+    → (told (run_answer (files schedule)) (built_in file)).status ≡ 6 → LacksFile files (Some (Run program schedule))
 run_lacks files program schedule None e s = inl (program, inr (schedule, refl), e)
 run_lacks files program schedule (Some bytes) e s = inr (program, schedule, refl, of_run (parsed bytes) (files schedule) s)
 
 check_lacks : (files : Contents) (program : List ℕ) (file : Option (List ℕ)) → files program ≡ file
-    → (told canonical (program_in file)).status ≡ 6 → LacksFile files (Some (Check program))
+    → (told check_answer (program_in file)).status ≡ 6 → LacksFile files (Some (Check program))
 check_lacks files program None e s = inl (program, inl refl, e)
 check_lacks files program (Some bytes) e s = absurd (of_check (parsed bytes) s)
 

@@ -1,5 +1,5 @@
 -- What a call answers by definition: a text and a status, from the words and what the files hold.
-use Rattle.std.specs.Prelude.{ℕ, List, Option, None, Some, Result, Ok, Err, if◌then◌else◌}
+use Rattle.std.specs.Prelude.{ℕ, List, [], ◌∷◌, Option, None, Some, Result, Ok, Err, if◌then◌else◌}
 use Rattle.mr_ast.specs.declared.program.Program.{Program}
 use Rattle.mr_ast.specs.Canon.{canonical_text}
 use Rattle.mr_io.specs.Files.{Contents}
@@ -11,9 +11,12 @@ use Rattle.mr_step.specs.Built.{is_built}
 use Rattle.mr_step.specs.Runs.{Config}
 use Rattle.mr_step.specs.Language.{Own}
 use Rattle.mr_step.specs.Start.{run_of, schedule_fault, PlacedFault}
+use Rattle.mr_wf.specs.declared.fault.FormFault.{FormFault}
+use Rattle.mr_wf.specs.Walk.{faults_of}
 use Rattle.mirace.specs.declared.refusal.Refusal.{Refusal}
 use Rattle.mirace.specs.declared.refusal.Refusal.TheVariants as refusal
 use Rattle.mirace.specs.Command.{Command, Run, Check}
+use Rattle.mirace.specs.Form.{form_line}
 use Rattle.mirace.specs.Report.{report_of, verdict_status, refusal_text, refusal_status, usage_text}
 
 infixl 10 ◌>>=◌
@@ -64,10 +67,6 @@ legal_run p w = unless_broken (schedule_fault p w) (run_of p w)
 abbrev pub run_under : Option (List ℕ) → Program → Result (Config Own) Refusal
 run_under file p = schedule_in file >>= legal_run p
 
--- the run of what two files hold, or what refuses it: first of the program's file and of the program, then of the schedule's file, then of the run
-abbrev pub run_in : Contents → List ℕ → List ℕ → Result (Config Own) Refusal
-run_in files program schedule = built_in (files program) >>= run_under (files schedule)
-
 pub record Answer : Type 0 where
   pub text : List ℕ
   pub status : ℕ
@@ -87,11 +86,32 @@ abbrev pub told : {A : Type 0} → (A → Answer) → Result A Refusal → Answe
 told say (Ok x) = say x
 told say (Err r) = refused r
 
+-- the line of a rule that a program breaks
+abbrev pub form_answer : Program → FormFault → Answer
+form_answer p fault = record { text = form_line p fault; status = 4 }
+
+-- the line of the first of these faults of a program, and what is said where there is none
+abbrev pub form_or : Program → List FormFault → Answer → Answer
+form_or p [] a = a
+form_or p (fault ∷ faults) a = form_answer p fault
+
+-- what is said of a program that is checked: its canonical text, where it breaks no rule
+abbrev pub check_answer : Program → Answer
+check_answer p = form_or p (faults_of p) (canonical p)
+
+-- the report of the run of a program under the schedule in a file, or what refuses it: first of the schedule's file, then of the run
+abbrev pub report_under : Option (List ℕ) → Program → Answer
+report_under file p = told reported (run_under file p)
+
+-- what is said of a program that is run under the schedule in a file: the report, where the program breaks no rule
+abbrev pub run_answer : Option (List ℕ) → Program → Answer
+run_answer file p = form_or p (faults_of p) (report_under file p)
+
 abbrev pub usage : Answer
 usage = record { text = usage_text; status = 2 }
 
 -- THE ANSWER to a command over these files; words of no form are told the usage
 abbrev pub answer_of : Contents → Option Command → Answer
 answer_of files None = usage
-answer_of files (Some (Run program schedule)) = told reported (run_in files program schedule)
-answer_of files (Some (Check program)) = told canonical (program_in (files program))
+answer_of files (Some (Run program schedule)) = told (run_answer (files schedule)) (built_in (files program))
+answer_of files (Some (Check program)) = told check_answer (program_in (files program))

@@ -1,52 +1,59 @@
 -- How a command is answered, whatever the files do.
-use Rattle.std.specs.Prelude.{◌≡◌, ℕ, ◌⊎◌, List, Option, Result, Ok, Err}
+use Rattle.std.specs.Prelude.{◌≡◌, ℕ, ◌≤◌, ◌⊎◌, List, [], Option, Result, Ok, Err}
 use Rattle.mr_ast.specs.declared.program.Program.{Program}
 use Rattle.mr_io.specs.Files.{Contents}
-use Rattle.mr_step.specs.Runs.{Config}
-use Rattle.mr_step.specs.Language.{Own}
+use Rattle.mr_wf.specs.Walk.{faults_of}
 use Rattle.mirace.specs.declared.answer.Written.{Written}
 use Rattle.mirace.specs.declared.refusal.Refusal.{Refusal}
 use Rattle.mirace.specs.declared.refusal.Refusal.TheVariants as refusal
-use Rattle.mirace.specs.Answer.{Answer, built_in, canonical, if_built, program_in, run_in, run_under, reported, ◌>>=◌}
+use Rattle.mirace.specs.Answer.{Answer, built_in, check_answer, if_built, program_in, refused, run_answer, told}
 use Rattle.mirace.specs.Command.{Command, Run, Check}
-use Rattle.mirace.specs.Outcome.{Gives}
 
 -- what is written, seen as an answer
 abbrev pub seen : Written → Answer
 seen a = record { text = a.text.items; status = a.status }
 
--- what is said of what is defined, or what refuses it
-module _ {A : Type 0} (say : A → Answer) (defined : Result A Refusal) where
-  abbrev pub Says : Result Written Refusal → Type 0
-  Says (Ok a) = (x : A) × (defined ≡ Ok x) × (seen a ≡ say x)
-  Says (Err r) = Gives {A = A} (Err r) defined
+-- the status of a report, of a canonical text, or of a rule that a program breaks
+abbrev pub IsStatus : ℕ → Type 0
+IsStatus status = (status ≤ 1) ⊎ (status ≡ 4)
 
--- the report of the run that is defined, or what refuses it
-abbrev pub Reports : Result (Config Own) Refusal → Result Written Refusal → Type 0
-Reports defined result = Says reported defined result
+-- What is written is the answer, or what refuses is; unless memory ran out.
+abbrev pub Tells : Answer → Result Written Refusal → Type 0
+Tells answer (Ok a) = seen a ≡ answer
+Tells answer (Err refusal.Memory) = Unit {0}
+Tells answer (Err refusal.ReadProgram) = answer ≡ refused refusal.ReadProgram
+Tells answer (Err (refusal.Text at col code)) = answer ≡ refused (refusal.Text at col code)
+Tells answer (Err refusal.NotBuilt) = answer ≡ refused refusal.NotBuilt
+Tells answer (Err refusal.ReadSchedule) = answer ≡ refused refusal.ReadSchedule
+Tells answer (Err (refusal.Schedule at code earlier)) = answer ≡ refused (refusal.Schedule at code earlier)
 
 -- or the read of the schedule failed
-abbrev pub ReportsOrUnread : Type 0 → Result (Config Own) Refusal → Result Written Refusal → Type 0
-ReportsOrUnread rose defined result = Reports defined result ⊎ (rose × (result ≡ Err refusal.ReadSchedule))
+abbrev pub TellsOrUnread : Type 0 → Answer → Result Written Refusal → Type 0
+TellsOrUnread rose answer result = Tells answer result ⊎ (rose × (result ≡ Err refusal.ReadSchedule))
 
--- the report of the run of a program, where it is built, under the schedule in a file; or the read of that failed
+-- what is said of a built program that is run under the schedule in a file; or, where it breaks no rule, the read of that failed
+abbrev pub IsFormOrReport : Type 0 → Option (List ℕ) → Program → Result Written Refusal → Type 0
+IsFormOrReport rose file p result = Tells (run_answer file p) result ⊎ (rose × (faults_of p ≡ []) × (result ≡ Err refusal.ReadSchedule))
+
+-- the same of a program that may not be built
 abbrev pub IsRunOrUnread : Type 0 → Option (List ℕ) → Program → Result Written Refusal → Type 0
 IsRunOrUnread rose file p result =
-    Reports (if_built p >>= run_under file) result ⊎ (rose × (if_built p ≡ Ok p) × (result ≡ Err refusal.ReadSchedule))
+    Tells (told (run_answer file) (if_built p)) result ⊎ (rose × (if_built p ≡ Ok p) × (faults_of p ≡ []) × (result ≡ Err refusal.ReadSchedule))
 
--- a read failed: that of the program, or that of the schedule behind a program that is built
+-- a read failed: that of the program, or that of the schedule behind a program that is built and breaks no rule
 abbrev pub IsUnreadHere : Contents → List ℕ → Result Written Refusal → Type 0
 IsUnreadHere files program result =
-    (result ≡ Err refusal.ReadProgram) ⊎ ((p : Program) × (built_in (files program) ≡ Ok p) × (result ≡ Err refusal.ReadSchedule))
+    (result ≡ Err refusal.ReadProgram)
+    ⊎ ((p : Program) × (built_in (files program) ≡ Ok p) × (faults_of p ≡ []) × (result ≡ Err refusal.ReadSchedule))
 
--- the report of the run of what two files hold, or what refuses it; or a read failed
+-- what is said of the program in one file that is run under the schedule in another, or what refuses it; or a read failed
 abbrev pub IsReported : Contents → List ℕ → List ℕ → Type 0 → Result Written Refusal → Type 0
 IsReported files program schedule rose result =
-    Reports (run_in files program schedule) result ⊎ (rose × IsUnreadHere files program result)
+    Tells (told (run_answer (files schedule)) (built_in (files program))) result ⊎ (rose × IsUnreadHere files program result)
 
--- the canonical text of the program in a file, or what refuses it; or the read failed
+-- what is said of the program in a file that is checked, or what refuses it; or the read failed
 abbrev pub IsChecked : Contents → List ℕ → Type 0 → Result Written Refusal → Type 0
-IsChecked files program rose result = Says canonical (program_in (files program)) result ⊎ (rose × (result ≡ Err refusal.ReadProgram))
+IsChecked files program rose result = Tells (told check_answer (program_in (files program))) result ⊎ (rose × (result ≡ Err refusal.ReadProgram))
 
 -- how a command is answered
 abbrev pub IsAnswered : Contents → Command → Type 0 → Result Written Refusal → Type 0

@@ -10,6 +10,8 @@ use Rattle.mr_sched.specs.declared.schedule.Schedule.{Schedule}
 use Rattle.mr_sched.specs.Spelling.{Schedules}
 use Rattle.mr_step.specs.Built.{Built}
 use Rattle.mr_step.specs.Start.{Legal, IsSoundRun, run_of}
+use Rattle.mr_wf.specs.declared.fault.FormFault.{FormFault}
+use Rattle.mr_wf.specs.Walk.{FirstBroken, WellFormed}
 use Rattle.mirace.specs.Command.{Command, Run, Check, NamesProgram}
 use Rattle.mirace.specs.Answer.{Answer, reported}
 use Rattle.mirace.specs.Outcome.{IsLeft, IsWritten}
@@ -24,7 +26,8 @@ IsTold a files_rose out_rose old new status = IsWritten a out_rose old new statu
 
 -- ---- runs
 
--- The command names a file whose text denotes the program, which is built, and a file whose text is that of the schedule, which is legal.
+-- The command names a file whose text denotes the program, which is built and well-formed, and a file whose text is that of the schedule,
+-- which is legal.
 pub record Names (files : Contents) (command : Option Command) (p : Program) (w : Schedule) : Type 0 where
   pub program_name : List ℕ
   pub schedule_name : List ℕ
@@ -33,6 +36,7 @@ pub record Names (files : Contents) (command : Option Command) (p : Program) (w 
   pub program_there : files program_name ≡ Some program_text
   pub denotes : Denotes program_text p
   pub built : Built p
+  pub well_formed : WellFormed p
   pub schedule_text : List ℕ
   pub schedule_there : files schedule_name ≡ Some schedule_text
   pub schedules : Schedules schedule_text w
@@ -45,13 +49,14 @@ pub record IsOfMachine (p : Program) (w : Schedule) (files_rose out_rose : Type 
 
 -- ---- texts
 
--- the command is to check a file whose text denotes the program
+-- the command is to check a file whose text denotes the program, which is well-formed
 pub record ChecksProgram (files : Contents) (command : Option Command) (p : Program) : Type 0 where
   pub name : List ℕ
   pub is_check : command ≡ Some (Check name)
   pub text : List ℕ
   pub there : files name ≡ Some text
   pub denotes : Denotes text p
+  pub well_formed : WellFormed p
 
 -- the command names a file of a program whose text has this first fault
 pub record NamesFault (files : Contents) (command : Option Command) (fault : TextFault) : Type 0 where
@@ -70,6 +75,15 @@ pub record RunsUnbuilt (files : Contents) (command : Option Command) (p : Progra
   pub there : files name ≡ Some text
   pub denotes : Denotes text p
   pub not_built : ¬ Built p
+
+-- the command is to check a file whose text denotes the program, or to run it where it is built, and this is the first rule that it breaks
+pub record NamesBroken (files : Contents) (command : Option Command) (p : Program) (fault : FormFault) : Type 0 where
+  pub name : List ℕ
+  pub judges : (command ≡ Some (Check name)) ⊎ ((schedule : List ℕ) × (command ≡ Some (Run name schedule)) × Built p)
+  pub text : List ℕ
+  pub there : files name ≡ Some text
+  pub denotes : Denotes text p
+  pub first : FirstBroken p fault
 
 -- ---- files that were not read
 

@@ -1,8 +1,9 @@
 -- How a call ends, whatever the files and the sink do.
-use Rattle.std.specs.Prelude.{◌≡◌, ℕ, ◌<◌, ◌⊎◌, List, length, take, Option, None, Some, Result, Ok, Err}
+use Rattle.std.specs.Prelude.{◌≡◌, ℕ, ◌<◌, ◌⊎◌, List, [], length, take, Option, None, Some, Result, Ok, Err}
 use Rattle.std.specs.Io.KnownBytes.{append_known}
 use Rattle.mr_ast.specs.declared.program.Program.{Program}
 use Rattle.mr_io.specs.Files.{Contents}
+use Rattle.mr_wf.specs.Walk.{faults_of}
 use Rattle.mirace.specs.declared.refusal.Refusal.{Refusal}
 use Rattle.mirace.specs.declared.refusal.Refusal.TheVariants as refusal
 use Rattle.mirace.specs.Command.{Command, Run, Check}
@@ -18,12 +19,12 @@ Gives (Err refusal.NotBuilt) defined = defined ≡ Err refusal.NotBuilt
 Gives (Err refusal.ReadSchedule) defined = defined ≡ Err refusal.ReadSchedule
 Gives (Err (refusal.Schedule at code earlier)) defined = defined ≡ Err (refusal.Schedule at code earlier)
 
--- A read failed, which is counted: that of the program, or that of the schedule, behind a program that is built.
+-- A read failed, which is counted: that of the program, or that of the schedule, behind a program that is built and breaks no rule.
 abbrev pub IsUnread : Contents → Option Command → Answer → Type 0
 IsUnread files None a = ⊥
 IsUnread files (Some (Run program schedule)) a =
     (a ≡ refused refusal.ReadProgram)
-    ⊎ ((p : Program) × (built_in (files program) ≡ Ok p) × (a ≡ refused refusal.ReadSchedule))
+    ⊎ ((p : Program) × (built_in (files program) ≡ Ok p) × (faults_of p ≡ []) × (a ≡ refused refusal.ReadSchedule))
 IsUnread files (Some (Check program)) a = a ≡ refused refusal.ReadProgram
 
 -- the answer by definition, or that of a read that failed where the count of faults of the files rose

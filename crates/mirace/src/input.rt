@@ -1,4 +1,5 @@
 ghost use Rattle.std.specs.Prelude.{◌≡◌, ◌+◌, ◌^◌, ◌≤◌, None, Some, length, IfOk};
+ghost use Rattle.mr_ast.specs.Shaped.{Shaped};
 ghost use Rattle.mr_io.specs.Counts.{Rose};
 ghost use Rattle.mr_io.specs.Files.{Contents};
 ghost use Rattle.mr_parse.specs.Parsing.{parsed};
@@ -25,6 +26,7 @@ pub fn read_program<F: Files>(alloc: Global, files: &mut F, name: &str) -> Resul
     ensures same { F.told files.new ≡ F.told files.old }
     ensures reads { F.reads files.new ≤ F.reads files.old + 1 }
     ensures faults { F.faults files.old ≤ F.faults files.new }
+    ensures shaped { IfOk result Shaped }
     ensures read { (contents : Contents) → F.told files.old ≡ Some contents
         → IsRead (Rose (F.faults files.old) (F.faults files.new)) ReadProgram result (program_in (contents name.now)) }
     ensures untold { F.told files.old ≡ None → IsUnreadFault result
@@ -47,6 +49,7 @@ pub fn read_program<F: Files>(alloc: Global, files: &mut F, name: &str) -> Resul
 fn program(alloc: Global, text: &[u8]) -> Result<Program, Refusal>
     ensures given { Gives result (denoted (parsed text.now)) }
     ensures read { ¬ IsUnreadFault result }
+    ensures shaped { IfOk result Shaped }
 {
     match mr_parse::parse(alloc, text) {
         Ok(program) => Ok(program),

@@ -1,13 +1,15 @@
 //! `mirace run P S`: what the machine comes to that runs the program in file P under the recorded schedule in file S.
-//! `mirace check P`: the canonical text of the program in file P.
+//! `mirace check P`: the canonical text of the program in file P, where it is well-formed.
 //!
 //! Where the text denotes no program, both write the first fault of it: its line, its column, a code and a name. A program that
-//! the machine doesn't run so far is refused by `run`, and `check` writes its text. What is run so far are thin programs: one
-//! function without arguments whose steps are `live`, `dead`, `goto`, the print of a constant and `exit`.
+//! the machine doesn't run so far is refused by `run` alone. What is run so far are thin programs: one function without arguments
+//! whose steps are `live`, `dead`, `goto`, the print of a constant and `exit`. Of a program that breaks a rule of well-formedness
+//! both write where the first one is broken: the global or function, the block, a place, a code and a name.
 //!
 //! The public call is [`mirace`], over files and a sink. Its promises are clauses of it: what is written and the status are those
-//! of `specs/Answer.antt`, and each fault has its cause. Of a program and a legal schedule the report is that of the machine of
-//! MiniRust, none of whose steps is ill-formed; and a text is answered by what it denotes or breaks (`specs/Headline.antt`).
+//! of `specs/Answer.antt`, and each fault has its cause. Of a well-formed program and a legal schedule the report is that of the
+//! machine of MiniRust, none of whose steps is ill-formed; and a text is answered by what it denotes or breaks
+//! (`specs/Headline.antt`).
 #![tactic(auto)]
 
 ghost use Rattle.std.specs.Prelude.{◌≡◌, ◌+◌, ◌≤◌, ◌⊎◌, None, Some, map, string_bytes};
@@ -16,14 +18,16 @@ ghost use Rattle.mr_io.specs.Counts.{Rose};
 ghost use Rattle.mr_io.specs.Files.{Contents};
 ghost use Rattle.mr_lex.specs.declared.token.TextFault.{TextFault};
 ghost use Rattle.mr_sched.specs.declared.schedule.Schedule.{Schedule};
-ghost use Rattle.mirace.specs.Answer.{canonical, refused, text_refusal, usage};
+ghost use Rattle.mr_wf.specs.declared.fault.FormFault.{FormFault};
+ghost use Rattle.mirace.specs.Answer.{canonical, form_answer, refused, text_refusal, usage};
 ghost use Rattle.mirace.specs.Command.{asked, command_of, named_files};
-ghost use Rattle.mirace.specs.Headline.{ChecksProgram, IsOfMachine, IsTold, IsUnreadBecause, Names, NamesFault, RunsUnbuilt};
+ghost use Rattle.mirace.specs.Headline.{ChecksProgram, IsOfMachine, IsTold, IsUnreadBecause, Names, NamesBroken, NamesFault, RunsUnbuilt};
 ghost use Rattle.mirace.specs.Outcome.{Ends, IsWritten};
 ghost use Rattle.mirace.specs.declared.refusal.Refusal.TheVariants.{NotBuilt};
 
 mod answer;
 mod command;
+mod form;
 mod input;
 mod refusal;
 mod report;
@@ -42,8 +46,8 @@ use std::process::ExitCode;
 const USAGE: &[u8] = b"usage: see the table of commands\n";
 
 /// Does what the words behind the program's name ask for, and answers the exit status: 0 or 1 of a report, 0 of a canonical text,
-/// 2 of words without a form, 3 of a text that denotes no program or a program that isn't built, 5 of a schedule, 6 of a file
-/// that was not read, 7 of a failed write and 8 where memory ran out.
+/// 2 of words without a form, 3 of a text that denotes no program or a program that isn't built, 4 of a program that breaks a rule
+/// of well-formedness, 5 of a schedule, 6 of a file that was not read, 7 of a failed write and 8 where memory ran out.
 pub fn mirace<F: Files, O: Sink>(alloc: Global, words: &[String], files: &mut F, out: &mut O) -> u8
     // What is written and answered, over files that tell what they hold.
     ensures ends { (contents : Contents) → F.told files.old ≡ Some contents
@@ -60,7 +64,7 @@ pub fn mirace<F: Files, O: Sink>(alloc: Global, words: &[String], files: &mut F,
         → ¬ Rose (F.faults files.old) (F.faults files.new) → ¬ Rose (O.faults out.old) (O.faults out.new)
         → (result ≤ 1) ⊎ (result ≡ 8) }
 
-    // A program's text is answered by what it denotes or breaks.
+    // A program's text is answered by what it denotes or breaks, and a program by the first rule that it breaks.
     ensures canonical { (contents : Contents) (p : Program) → F.told files.old ≡ Some contents
         → ChecksProgram contents (command_of (map string_bytes words.now)) p
         → IsTold (canonical p) (Rose (F.faults files.old) (F.faults files.new))
@@ -68,6 +72,10 @@ pub fn mirace<F: Files, O: Sink>(alloc: Global, words: &[String], files: &mut F,
     ensures text_fault { (contents : Contents) (fault : TextFault) → F.told files.old ≡ Some contents
         → NamesFault contents (command_of (map string_bytes words.now)) fault
         → IsTold (refused (text_refusal fault)) (Rose (F.faults files.old) (F.faults files.new))
+        (Rose (O.faults out.old) (O.faults out.new)) (O.taken out.old) (O.taken out.new) result }
+    ensures form { (contents : Contents) (p : Program) (fault : FormFault) → F.told files.old ≡ Some contents
+        → NamesBroken contents (command_of (map string_bytes words.now)) p fault
+        → IsTold (form_answer p fault) (Rose (F.faults files.old) (F.faults files.new))
         (Rose (O.faults out.old) (O.faults out.new)) (O.taken out.old) (O.taken out.new) result }
     ensures not_built { (contents : Contents) (p : Program) → F.told files.old ≡ Some contents
         → RunsUnbuilt contents (command_of (map string_bytes words.now)) p

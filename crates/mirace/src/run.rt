@@ -3,13 +3,13 @@ ghost use Rattle.mr_step.specs.Built.{Built};
 ghost use Rattle.mirace.specs.Running.{RunAnswer, EntriesAnswer, EntryAnswer, placed};
 
 use crate::refusal::Refusal;
-use mr_ast::Program;
 use mr_sched::{Entry, Schedule};
 use mr_step::{Machine, StepFault};
+use mr_wf::Checked;
 use std::alloc::Global;
 
 /// The machine of a program behind all entries of a schedule, or the first rule that the schedule breaks.
-pub fn run<'p>(alloc: Global, p: &'p Program, w: &Schedule) -> Result<Machine<'p>, Refusal>
+pub fn run<'p>(alloc: Global, p: &'p Checked, w: &Schedule) -> Result<Machine<'p>, Refusal>
     requires built { Built p.now }
     requires entries { length w.now.entries ≤ 2 ^ 20 }
     ensures { RunAnswer p.now w.now result }

@@ -1,4 +1,5 @@
 mod canonical;
+mod forms;
 mod runs;
 mod texts;
 
@@ -32,7 +33,7 @@ fn answer_over(
     texts: &[&str],
 ) -> Result<(Tray, u8), OutOfMemory> {
     let words = words_of(alloc, texts)?;
-    let mut out = Tray::new(alloc, 4096, 7)?;
+    let mut out = Tray::new(alloc, 8192, 7)?;
     let status = mirace(alloc, words.as_slice(), files, &mut out);
     Ok((out, status))
 }

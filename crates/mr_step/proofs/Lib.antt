@@ -10,3 +10,4 @@ pub mod RunLaws
 pub mod FrameActions
 pub mod SoundRuns
 pub mod Examples
+pub mod ThinPrograms

@@ -5,6 +5,7 @@ use crate::progress::Progress;
 use mr_ast::Program;
 use mr_base::{Pointer, Verdict};
 use mr_sched::Entry;
+use mr_wf::Checked;
 use std::alloc::Global;
 use std::marker::Model;
 
@@ -47,7 +48,15 @@ impl<'p> Machine<'p> {
     ghost use Rattle.mr_step.specs.Standing.{seen_line};
 
     /// The machine before the first entry, with these start picks.
-    pub fn start(alloc: Global, p: &'p Program, picks: &[u64]) -> Result<Machine<'p>, StepFault>
+    pub fn start(alloc: Global, p: &'p Checked, picks: &[u64]) -> Result<Machine<'p>, StepFault>
+        requires { Built p.now }
+        ensures { StartAnswer p.now picks.now result }
+    {
+        Machine::started(alloc, p.program(), picks)
+    }
+
+    // The same over a program itself.
+    fn started(alloc: Global, p: &'p Program, picks: &[u64]) -> Result<Machine<'p>, StepFault>
         requires { Built p.now }
         ensures { StartAnswer p.now picks.now result }
     {

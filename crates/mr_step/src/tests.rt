@@ -1,5 +1,8 @@
-ghost use Rattle.std.specs.Prelude.{◌≡◌, [], ◌∷◌, IfOk, None, false};
+ghost use Rattle.std.specs.Prelude.{◌≡◌, ◌<◌, ◌≤◌, [], ◌∷◌, IfOk, None, false, All, length};
+ghost use Rattle.mr_ast.specs.Shaped.{Shaped};
 ghost use Rattle.mr_ast.specs.Thin.{IsThin, IsThinFunction};
+ghost use Rattle.mr_ast.specs.declared.program.Block.{Block};
+ghost use Rattle.mr_ast.specs.declared.program.Local.{Local};
 
 use super::*;
 use mr_ast::{
@@ -8,6 +11,7 @@ use mr_ast::{
 };
 use mr_base::{AllocId, Verdict};
 use mr_sched::Entry;
+use mr_wf::{Checked, well_formed};
 use std::alloc::Global;
 use std::test::Fail;
 
@@ -57,14 +61,34 @@ fn block(stmts: Items<Stmt>, term: Term) -> Block
     }
 }
 
+// The texts of the names here: of the function, of the return local, of `x`, and of a block.
+fn names(alloc: Global) -> Result<Names, OutOfMemory>
+    ensures { IfOk result (λ names. 4 ≤ length names) }
+{
+    let mut names = Names::new(alloc);
+    for text in ["main", "r", "x", "b0"] {
+        if names.len() < 4 {
+            names.add(text)?;
+        }
+    }
+    if names.len() < 4 {
+        return Err(OutOfMemory);
+    }
+    Ok(names)
+}
+
 // The program of one function.
+#[tactic(auto, using(crate::proofs::ThinPrograms::thin_is_shaped))]
 fn program(
     alloc: Global,
     locals: Items<Local>,
     blocks: Items<Block>,
 ) -> Result<Program, OutOfMemory>
-    requires { IsThinFunction (record { name = 0; args = []; ret = record { 0 = 0 }; locals = locals; blocks = blocks }) }
-    ensures { IfOk result IsThin }
+    requires thin { IsThinFunction (record { name = 0; args = []; ret = record { 0 = 0 }; locals = locals; blocks = blocks }) }
+    requires locals { All (λ (l : Local). l.name < 4) locals }
+    requires blocks { All (λ (b : Block). b.name < 4) blocks }
+    ensures thin { IfOk result IsThin }
+    ensures shaped { IfOk result Shaped }
 {
     let function = Function {
         name: 0,
@@ -77,14 +101,15 @@ fn program(
         edition: 1,
         globals: Items::new(alloc),
         functions: one(alloc, function)?,
-        names: Names::new(alloc),
+        names: names(alloc)?,
         start: FnName(0),
     })
 }
 
 // `exit`
 pub fn exits(alloc: Global) -> Result<Program, OutOfMemory>
-    ensures { IfOk result IsThin }
+    ensures thin { IfOk result IsThin }
+    ensures shaped { IfOk result Shaped }
 {
     let locals = one(alloc, unit_local(alloc))?;
     let blocks = one(alloc, block(Items::new(alloc), Term::Exit))?;
@@ -93,7 +118,8 @@ pub fn exits(alloc: Global) -> Result<Program, OutOfMemory>
 
 // `live x; dead x; live x; exit`
 pub fn lives_twice(alloc: Global) -> Result<Program, OutOfMemory>
-    ensures { IfOk result IsThin }
+    ensures thin { IfOk result IsThin }
+    ensures shaped { IfOk result Shaped }
 {
     let locals = two_locals(alloc)?;
     let mut stmts = one(alloc, Stmt::Live(LocalName(1)))?;
@@ -136,11 +162,23 @@ fn two_blocks(alloc: Global) -> Result<Items<Block>, OutOfMemory>
 
 // A program that prints 42.
 pub fn prints(alloc: Global) -> Result<Program, OutOfMemory>
-    ensures { IfOk result IsThin }
+    ensures thin { IfOk result IsThin }
+    ensures shaped { IfOk result Shaped }
 {
     let locals = two_locals(alloc)?;
     let blocks = two_blocks(alloc)?;
     program(alloc, locals, blocks)
+}
+
+// The program, which breaks no rule.
+fn checked(alloc: Global, program: Program) -> Result<Checked, Fail>
+    requires { Shaped program }
+    ensures { IfOk result (λ c. c ≡ program) }
+{
+    match well_formed(alloc, program) {
+        Ok(checked) => Ok(checked),
+        Err(_) => Err("a broken rule".into()),
+    }
 }
 
 // The step of an entry, within the number of steps that is allowed for.
@@ -171,7 +209,7 @@ fn bad(code: u8) -> StepFault {
 #[test]
 fn a_program_exits(rt: HostRuntime) -> Result<(), Fail> {
     let alloc = rt.alloc();
-    let program = exits(alloc)?;
+    let program = checked(alloc, exits(alloc)?)?;
     let mut m = Machine::start(alloc, &program, &[16, 4096])?;
     assert_eq!(rt; m.verdict(), Verdict::Running);
     assert_eq!(rt; m.lines(), 0);
@@ -184,7 +222,7 @@ fn a_program_exits(rt: HostRuntime) -> Result<(), Fail> {
 #[test]
 fn a_refused_entry_changes_nothing(rt: HostRuntime) -> Result<(), Fail> {
     let alloc = rt.alloc();
-    let program = exits(alloc)?;
+    let program = checked(alloc, exits(alloc)?)?;
     assert_eq!(rt; Machine::start(alloc, &program, &[16]).err(), Some(bad(61)));
     let mut m = Machine::start(alloc, &program, &[16, 4096])?;
     assert_eq!(rt; step(alloc, &mut m, 1, &[])?, Err(bad(60)));
@@ -198,7 +236,7 @@ fn a_refused_entry_changes_nothing(rt: HostRuntime) -> Result<(), Fail> {
 #[test]
 fn an_address_is_taken_once(rt: HostRuntime) -> Result<(), Fail> {
     let alloc = rt.alloc();
-    let program = lives_twice(alloc)?;
+    let program = checked(alloc, lives_twice(alloc)?)?;
     let mut m = Machine::start(alloc, &program, &[16, 32])?;
     let reused = StepFault::BadEntry {
         code: 64,
@@ -221,7 +259,7 @@ fn an_address_is_taken_once(rt: HostRuntime) -> Result<(), Fail> {
 #[test]
 fn a_print_is_kept(rt: HostRuntime) -> Result<(), Fail> {
     let alloc = rt.alloc();
-    let program = prints(alloc)?;
+    let program = checked(alloc, prints(alloc)?)?;
     let mut m = Machine::start(alloc, &program, &[16, 32])?;
     assert_eq!(rt; step(alloc, &mut m, 0, &[8192])?, Ok(Turn::Went));
     assert_eq!(rt; step(alloc, &mut m, 0, &[])?, Ok(Turn::Went));

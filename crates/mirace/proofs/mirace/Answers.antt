@@ -3,7 +3,7 @@ use Rattle.std.specs.Prelude.{Option}
 use Rattle.mr_io.specs.Counts.{Rose}
 use Rattle.mirace.specs.Command.{Command}
 use Rattle.mirace.specs.Outcome.{Ends}
-use Rattle.mirace.proofs.HeadlineLaws.{of_machine, canonical_told, fault_told, unbuilt_told, unless_faults}
+use Rattle.mirace.proofs.HeadlineLaws.{of_machine, canonical_told, fault_told, form_told, unbuilt_told, unless_faults}
 use Rattle.mirace.proofs.UnreadLaws.{unread_because}
 use Rattle.mirace.proofs.mirace.Goals as goal
 
@@ -29,6 +29,10 @@ returns-in-Some-clause-canonical g c = λ contents p told checks.
 pub returns-in-Some-clause-text_fault : goal.returns-in-Some-clause-text_fault
 returns-in-Some-clause-text_fault g c = λ contents fault told names.
     fault_told contents _ _ _ _ _ _ fault names (returns-in-Some-clause-ends g c contents told)
+
+pub returns-in-Some-clause-form : goal.returns-in-Some-clause-form
+returns-in-Some-clause-form g c = λ contents p fault told names.
+    form_told contents _ _ _ _ _ _ p fault names (returns-in-Some-clause-ends g c contents told)
 
 pub returns-in-Some-clause-not_built : goal.returns-in-Some-clause-not_built
 returns-in-Some-clause-not_built g c = λ contents p told runs.

@@ -117,7 +117,7 @@ main main
 
 // Every construct of the language.
 const EVERY: &str = "minirust 1 # every construct of the language
-global g align 8 { 0*8 7 255*1 ? ?*2 ?*1 &f + 0 &g + 18446744073709551615 }
+global g align 8 { 0*8 7 255*1 ? ?*2 ?*1 &f + 0 &g + 30 }
 global empty align 1 { }
 fn f(a, b) -> r {
 let r: u32, a: u8, b: raw,
@@ -126,18 +126,19 @@ v: tuple size 0 align 1 { }, w: tuple size 4 align 4 { }, re: ref 4 4, ne: ref 4
 p: tuple size 8 align 4 { 0: u8, 4: u32 }, arr: array(3, u16), nest: array(0, array(2, tuple size 0 align 1 { })),
 un: union size 4 align 4 { 0: u32, 0: i16 } chunks { 0 2, 2 2 }, no: union size 4 align 4 { } chunks { },
 e: enum size 2 align 1 disc u8 { 0: tuple size 2 align 1 { } tag { 0: u8 = 0 }, 1: tuple size 2 align 1 { 1: u8 } tag { 0: u8 = 1 } } branch 0 u8 { 0 => known 0, 1 => known 1, _ => invalid },
-m: enum size 2 align 1 disc i8 { -1: unit tag { }, 1: unit tag { 0: i8 = -1, 1: u8 = 2 } } branch 1 i8 { -5 => branch 0 u8 { _ => invalid }, _ => known -1 };
+m: enum size 2 align 1 disc i8 { -1: tuple size 2 align 1 { } tag { }, 1: tuple size 2 align 1 { } tag { 0: i8 = -1, 1: u8 = 2 } } branch 1 i8 { -5 => branch 0 u8 { _ => invalid }, _ => known -1 },
+k: enum size 0 align 1 disc i8 { -1: unit tag { } } known -1, y: tuple size 2 align 1 { }, o: tuple size 8 align 4 { 0: u32, 4: bool };
 b0 regular: live t0; dead t0; t0 = u16 7; t5 = i32 -1; t2 = u128 340282366920938463463374607431768211455;
 t8 = true; t8 = false; b = raw 16; t9 = fn f; b = global g + 4;
 u = tuple(tuple size 0 align 1 { }); arr = tuple(array(3, u16), u16 1, u16 2, u16 3);
 un = union(union size 4 align 4 { 0: u32, 0: i16 } chunks { 0 2, 2 2 }, 0, u32 1);
-m = variant(enum size 0 align 1 disc i8 { -1: unit tag { } } known -1, -1, tuple(unit));
-deref(load(b), u8) = load(a); p.0 = load(p.0); arr[u64 1] = load(arr[load(t1)]); e@1.0 = load(e@1.0); r = load(m@-1);
-t0 = disc(e); b = addrof(raw, p.1); re = addrof(ref 4 4, deref(load(b), u32));
+k = variant(enum size 0 align 1 disc i8 { -1: unit tag { } } known -1, -1, tuple(unit));
+deref(load(b), u8) = load(a); p.0 = load(p.0); arr[u64 1] = load(arr[load(t1)]); e@1.0 = load(e@1.0); y = load(m@-1);
+a = disc(e); b = addrof(raw, p.1); re = addrof(ref 4 4, deref(load(b), u32));
 t3 = cast(i8, u32 200); r = transmute(u32, i32 -1); t3 = neg(i8 1); t8 = not(true);
 r = add(u32 1, sub(u32 3, mul(u32 1, u32 2))); r = div(rem(u32 7, u32 4), u32 1); r = and(or(u32 1, u32 2), xor(u32 3, u32 4));
 r = add_unchecked(u32 1, sub_unchecked(u32 2, mul_unchecked(u32 1, u32 1)));
-p = add_overflow(u32 1, u32 2); p = sub_overflow(u32 1, u32 2); p = mul_overflow(u32 1, u32 2);
+o = add_overflow(u32 1, u32 2); o = sub_overflow(u32 1, u32 2); o = mul_overflow(u32 1, u32 2);
 r = shl(shr(u32 1, u8 1), u8 2); r = shl_unchecked(shr_unchecked(u32 1, u8 1), u8 2);
 t8 = eq(u8 1, u8 2); t8 = ne(u8 1, u8 2); t8 = lt(u8 1, u8 2); t8 = le(u8 1, u8 2); t8 = gt(u8 1, u8 2); t8 = ge(u8 1, u8 2);
 b = offset(load(b), i64 1); b = wrapping_offset(load(b), i64 -1);
@@ -171,17 +172,21 @@ c12 regular: do fetch_add(load(b), u32 1) -> r to c13;
 c13 regular: do fetch_sub(load(b), u32 1) -> r to c14;
 c14 regular: do fetch_and(load(b), u32 1) -> r to c15;
 c15 regular: do fetch_or(load(b), u32 1) -> r to c16;
-c16 regular: do fetch_xor(load(b), u32 1) -> r to c17;
-c17 catch: do payload() -> b to c0;
+c16 regular: do fetch_xor(load(b), u32 1) -> r to c0;
+c17 catch: do payload() -> b to b7;
 }
-main f
+fn main() -> r {
+let r: unit;
+b0 regular: exit;
+}
+main main
 ";
 
 const EVERY_IN_LINES: &str = "minirust 1
-global g align 8 { 0 * 8 7 255 ? ? * 2 ? & f + 0 & g + 18446744073709551615 }
+global g align 8 { 0 * 8 7 255 ? ? * 2 ? & f + 0 & g + 30 }
 global empty align 1 { }
 fn f ( a , b ) -> r {
-let r : u32 , a : u8 , b : raw , t0 : u16 , t1 : u64 , t2 : u128 , t3 : i8 , t4 : i16 , t5 : i32 , t6 : i64 , t7 : i128 , t8 : bool , t9 : fnptr , u : unit , v : unit , w : tuple size 4 align 4 { } , re : ref 4 4 , ne : ref 4 4 never , p : tuple size 8 align 4 { 0 : u8 , 4 : u32 } , arr : array ( 3 , u16 ) , nest : array ( 0 , array ( 2 , unit ) ) , un : union size 4 align 4 { 0 : u32 , 0 : i16 } chunks { 0 2 , 2 2 } , no : union size 4 align 4 { } chunks { } , e : enum size 2 align 1 disc u8 { 0 : tuple size 2 align 1 { } tag { 0 : u8 = 0 } , 1 : tuple size 2 align 1 { 1 : u8 } tag { 0 : u8 = 1 } } branch 0 u8 { 0 => known 0 , 1 => known 1 , _ => invalid } , m : enum size 2 align 1 disc i8 { - 1 : unit tag { } , 1 : unit tag { 0 : i8 = - 1 , 1 : u8 = 2 } } branch 1 i8 { - 5 => branch 0 u8 { _ => invalid } , _ => known - 1 } ;
+let r : u32 , a : u8 , b : raw , t0 : u16 , t1 : u64 , t2 : u128 , t3 : i8 , t4 : i16 , t5 : i32 , t6 : i64 , t7 : i128 , t8 : bool , t9 : fnptr , u : unit , v : unit , w : tuple size 4 align 4 { } , re : ref 4 4 , ne : ref 4 4 never , p : tuple size 8 align 4 { 0 : u8 , 4 : u32 } , arr : array ( 3 , u16 ) , nest : array ( 0 , array ( 2 , unit ) ) , un : union size 4 align 4 { 0 : u32 , 0 : i16 } chunks { 0 2 , 2 2 } , no : union size 4 align 4 { } chunks { } , e : enum size 2 align 1 disc u8 { 0 : tuple size 2 align 1 { } tag { 0 : u8 = 0 } , 1 : tuple size 2 align 1 { 1 : u8 } tag { 0 : u8 = 1 } } branch 0 u8 { 0 => known 0 , 1 => known 1 , _ => invalid } , m : enum size 2 align 1 disc i8 { - 1 : tuple size 2 align 1 { } tag { } , 1 : tuple size 2 align 1 { } tag { 0 : i8 = - 1 , 1 : u8 = 2 } } branch 1 i8 { - 5 => branch 0 u8 { _ => invalid } , _ => known - 1 } , k : enum size 0 align 1 disc i8 { - 1 : unit tag { } } known - 1 , y : tuple size 2 align 1 { } , o : tuple size 8 align 4 { 0 : u32 , 4 : bool } ;
 b0 regular :
 live t0 ;
 dead t0 ;
@@ -196,13 +201,13 @@ b = global g + 4 ;
 u = tuple ( unit ) ;
 arr = tuple ( array ( 3 , u16 ) , u16 1 , u16 2 , u16 3 ) ;
 un = union ( union size 4 align 4 { 0 : u32 , 0 : i16 } chunks { 0 2 , 2 2 } , 0 , u32 1 ) ;
-m = variant ( enum size 0 align 1 disc i8 { - 1 : unit tag { } } known - 1 , - 1 , tuple ( unit ) ) ;
+k = variant ( enum size 0 align 1 disc i8 { - 1 : unit tag { } } known - 1 , - 1 , tuple ( unit ) ) ;
 deref ( load ( b ) , u8 ) = load ( a ) ;
 p . 0 = load ( p . 0 ) ;
 arr [ u64 1 ] = load ( arr [ load ( t1 ) ] ) ;
 e @ 1 . 0 = load ( e @ 1 . 0 ) ;
-r = load ( m @ - 1 ) ;
-t0 = disc ( e ) ;
+y = load ( m @ - 1 ) ;
+a = disc ( e ) ;
 b = addrof ( raw , p . 1 ) ;
 re = addrof ( ref 4 4 , deref ( load ( b ) , u32 ) ) ;
 t3 = cast ( i8 , u32 200 ) ;
@@ -213,9 +218,9 @@ r = add ( u32 1 , sub ( u32 3 , mul ( u32 1 , u32 2 ) ) ) ;
 r = div ( rem ( u32 7 , u32 4 ) , u32 1 ) ;
 r = and ( or ( u32 1 , u32 2 ) , xor ( u32 3 , u32 4 ) ) ;
 r = add_unchecked ( u32 1 , sub_unchecked ( u32 2 , mul_unchecked ( u32 1 , u32 1 ) ) ) ;
-p = add_overflow ( u32 1 , u32 2 ) ;
-p = sub_overflow ( u32 1 , u32 2 ) ;
-p = mul_overflow ( u32 1 , u32 2 ) ;
+o = add_overflow ( u32 1 , u32 2 ) ;
+o = sub_overflow ( u32 1 , u32 2 ) ;
+o = mul_overflow ( u32 1 , u32 2 ) ;
 r = shl ( shr ( u32 1 , u8 1 ) , u8 2 ) ;
 r = shl_unchecked ( shr_unchecked ( u32 1 , u8 1 ) , u8 2 ) ;
 t8 = eq ( u8 1 , u8 2 ) ;
@@ -289,11 +294,16 @@ do fetch_and ( load ( b ) , u32 1 ) -> r to c15 ;
 c15 regular :
 do fetch_or ( load ( b ) , u32 1 ) -> r to c16 ;
 c16 regular :
-do fetch_xor ( load ( b ) , u32 1 ) -> r to c17 ;
+do fetch_xor ( load ( b ) , u32 1 ) -> r to c0 ;
 c17 catch :
-do payload ( ) -> b to c0 ;
+do payload ( ) -> b to b7 ;
 }
-main f
+fn main ( ) -> r {
+let r : unit ;
+b0 regular :
+exit ;
+}
+main main
 ";
 
 // The text is checked to this canonical text, and that to itself.

@@ -3,7 +3,7 @@ use Rattle.mr_ast.specs.declared.program.Function.{Function}
 use Rattle.mr_step.specs.Progress.{IsSound}
 use Rattle.mr_step.proofs.Starting.{start_refused, start_fault_is, kept_is, sound_first}
 use Rattle.mr_step.proofs.Soundness.{within}
-use Rattle.mr_step.proofs.machine.Machine.start.Goals as goal
+use Rattle.mr_step.proofs.machine.Machine.started.Goals as goal
 
 pub returns-in-Err : goal.returns-in-Err
 returns-in-Err c =
