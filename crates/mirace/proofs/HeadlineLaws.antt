@@ -132,7 +132,7 @@ module _ (files : Contents) (command : Option Command) (files_rose out_rose : Ty
 
   pub of_machine : (p : Program) (w : Schedule) → Names files command p w → Ends files command files_rose out_rose old new status
       → IsOfMachine p w files_rose out_rose old new status
-  of_machine p w h e = record { sound = sound_run p w h.built h.legal; report = ends_told (reported (run_of p w)) (named_answer files command p w h) e }
+  of_machine p w h e = record { sound = sound_run p w h.built h.well_formed h.legal; report = ends_told (reported (run_of p w)) (named_answer files command p w h) e }
 
   pub canonical_told : (p : Program) → ChecksProgram files command p → Ends files command files_rose out_rose old new status
       → IsTold (canonical p) files_rose out_rose old new status

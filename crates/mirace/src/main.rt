@@ -2,9 +2,10 @@
 //! `mirace check P`: the canonical text of the program in file P, where it is well-formed.
 //!
 //! Where the text denotes no program, both write the first fault of it: its line, its column, a code and a name. A program that
-//! the machine doesn't run so far is refused by `run` alone. What is run so far are thin programs: one function without arguments
-//! whose steps are `live`, `dead`, `goto`, the print of a constant and `exit`. Of a program that breaks a rule of well-formedness
-//! both write where the first one is broken: the global or function, the block, a place, a code and a name.
+//! the machine doesn't run so far is refused by `run` alone. What is run so far is one frame: each program without `call`, `unwind`,
+//! `resume` and `stop`, and without intrinsics other than `print` and `assume`; its globals, types, places, values and statements are
+//! those of the whole language. Of a program that breaks a rule of well-formedness both write where the first one is broken: the global
+//! or function, the block, a place, a code and a name.
 //!
 //! The public call is [`mirace`], over files and a sink. Its promises are clauses of it: what is written and the status are those
 //! of `specs/Answer.antt`, and each fault has its cause. Of a well-formed program and a legal schedule the report is that of the

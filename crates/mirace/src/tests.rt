@@ -1,10 +1,17 @@
 mod canonical;
+mod examples;
+mod expressions;
 mod forms;
+mod layouts;
+mod reasons;
 mod runs;
+mod steps;
 mod texts;
+mod values;
 
 use super::*;
 use mr_io::{Drawer, OutOfMemory, Tray};
+use std::process::Abort;
 use std::test::Fail;
 
 // One block that exits.
@@ -48,6 +55,37 @@ fn answer_of_run(alloc: Global, program: &str, schedule: &str) -> Result<(Tray, 
 fn answer_of_check(alloc: Global, program: &str) -> Result<(Tray, u8), OutOfMemory> {
     let mut files = both(alloc, program, "")?;
     answer_over(alloc, &mut files, &["check", "P"])
+}
+
+// The text between a head and a tail.
+fn between(alloc: Global, frame: (&str, &str), piece: &str) -> Result<String, OutOfMemory> {
+    let (head, tail) = frame;
+    format!(in alloc; "{head}{piece}{tail}")
+}
+
+// What stands around the pieces of a table: in the program, in the schedule and in the report; and the status.
+struct Setting {
+    program: (&'static str, &'static str),
+    schedule: (&'static str, &'static str),
+    report: (&'static str, &'static str),
+    status: u8,
+}
+
+// Each piece of a program, run under its piece of a schedule, comes to its piece of a report.
+fn expect_reports(
+    rt: &(impl AllocGlobal + Abort),
+    setting: &Setting,
+    table: &[(&str, &str, &str)],
+) -> Result<(), Fail> {
+    for (piece, entries, told) in table {
+        let program = between(rt.alloc(), setting.program, piece)?;
+        let schedule = between(rt.alloc(), setting.schedule, entries)?;
+        let report = between(rt.alloc(), setting.report, told)?;
+        let (out, status) = answer_of_run(rt.alloc(), program.as_str(), schedule.as_str())?;
+        assert_eq!(rt; out.taken(), report.as_bytes(), "{program}");
+        assert_eq!(rt; status, setting.status, "{program}");
+    }
+    Ok(())
 }
 
 #[test]

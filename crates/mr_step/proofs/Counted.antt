@@ -29,7 +29,7 @@ same_or_not : (a b : ℕ) → (a ≡ b) ⊎ (a ≢ b)
 same_or_not = cases_eq
 
 -- with the value of an identity that is there or is the next
-insert_cases : (m : Memory) (id : AllocId) (v : Allocation) (q : AllocId) (a : Allocation) → fin.get (fin.insert m id v) q ≡ Some a → (q ≡ id) ⊎ (fin.get m q ≡ Some a)
+pub insert_cases : (m : Memory) (id : AllocId) (v : Allocation) (q : AllocId) (a : Allocation) → fin.get (fin.insert m id v) q ≡ Some a → (q ≡ id) ⊎ (fin.get m q ≡ Some a)
 insert_cases m id v q a h =
     elim (same_or_not q.thread id.thread) [
       | inl t ↦ elim (same_or_not q.count id.count) [

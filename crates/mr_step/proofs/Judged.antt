@@ -1,49 +1,62 @@
 -- What an entry of a machine of one thread is judged by.
-use Rattle.std.proofs.Common.{◌≡◌, ◌≢◌, refl, sym, ap, ◌∙◌, [], ◌∷◌, Bool, true, false, cond, map, arith}
-use Rattle.std.specs.Prelude.{Some, None, Option, slice_get, Result, Ok, Err, OnOk, not}
+use Rattle.std.proofs.Common.{◌≡◌, ◌≢◌, ℕ, refl, sym, ap, ◌∙◌, List, [], ◌∷◌, Bool, true, false, cond, map}
+use Rattle.std.specs.Prelude.{Some, None, Option, slice_get, Result, Ok, Err, not}
 use Rattle.mr_base.specs.declared.reason.Verdict.{Verdict}
 use Rattle.mr_base.specs.declared.reason.Verdict.TheVariants.{Running}
 use Rattle.mr_ast.specs.declared.program.Function.{Function}
-use Rattle.mr_ast.specs.declared.program.Program.{Program}
+use Rattle.mr_ast.specs.declared.program.Local.{Local}
+use Rattle.mr_ast.specs.declared.program.Stmt.TheVariants as stmt
+use Rattle.mr_mem.specs.Memory.{pick_fault}
+use Rattle.mr_sched.specs.declared.schedule.Ask.{Ask}
+use Rattle.mr_sched.specs.declared.schedule.Ask.TheVariants.{Address}
 use Rattle.mr_sched.specs.declared.schedule.Entry.{Entry}
-use Rattle.mr_step.specs.declared.action.Action.{Action}
-use Rattle.mr_step.specs.declared.action.Action.TheVariants as action
 use Rattle.mr_step.specs.declared.fault.StepFault.{StepFault}
 use Rattle.mr_step.specs.declared.fault.StepFault.TheVariants as answer
 use Rattle.mr_step.specs.declared.progress.Progress.{Progress}
 use Rattle.mr_step.specs.Machine.{Plan, State, Bare, Completed, Stops, IllFormedStep, bare}
 use Rattle.mr_step.specs.Queries.{StepScript}
-use Rattle.mr_step.specs.Legal.{Fault, fault}
+use Rattle.mr_step.specs.Legal.{Fault, address_fault, else_fault, fault}
+use Rattle.mr_step.specs.Picks.{Tells}
 use Rattle.mr_step.specs.Runs.{Config, entry_fault, machine_step, stepped_from, after_bare, fault_in, is_running, has_rule, is_ill_formed}
-use Rattle.mr_step.specs.Language.{Frame, Own, Look, step, in_function}
+use Rattle.mr_step.specs.Language.{Frame, Own, Look, dead, live, on_local, step}
 use Rattle.mr_step.specs.Start.{main_thread}
-use Rattle.mr_step.specs.Actions.{frame_of, Fits, ActionFits}
-use Rattle.mr_step.specs.Progress.{progress_config, printed_of, act_fault, IsDue, IsPossible, ActAnswer}
-use Rattle.mr_step.specs.Advance.{AdvanceAnswer, IsSoundFor}
-use Rattle.mr_step.specs.Standing.{config_of, state_if}
-use Rattle.mr_step.proofs.OneThread.{fault_of_main, fault_of_other}
+use Rattle.mr_step.specs.Frames.{AtStatement, AtTerminator, Due, frame_of}
+use Rattle.mr_step.specs.Progress.{ActAnswer, asks_fault, due_asks, due_script, local_asks, printed_of, progress_at, progress_config}
+use Rattle.mr_step.specs.Advance.{AdvanceAnswer}
+use Rattle.mr_step.specs.Standing.{state_if}
+use Rattle.mr_step.proofs.OneThread.{AsksFor, fault_of_main, fault_of_other}
 
--- the step of the only frame of the only function
-pub due_is : (look : Look) (program : Program) (fn : Function) (f : Frame) (s : StepScript (Plan Own)) → look.program ≡ program → program.functions ≡ fn ∷ [] → f.function ≡ 0
-    → in_function (main_thread f) [] f (Some fn) ≡ s → step look (main_thread f) ≡ s
-unfolding step
-due_is look program fn f s l only zeroth h =
-    ap (λ (p : Program). in_function (main_thread f) [] f (slice_get p.functions f.function)) l
-    ∙ ap (λ fs. in_function (main_thread f) [] f (slice_get fs f.function)) only
-    ∙ ap (λ k. in_function (main_thread f) [] f (slice_get (fn ∷ []) k)) zeroth
-    ∙ h
+-- what is due asks for, whatever it finds
+pub due_asks_for : (look : Look) (fn : Function) (f : Frame) (due : Due) → AsksFor (due_script look fn f due) (due_asks fn due)
+due_asks_for look fn f (AtTerminator t) w = refl
+due_asks_for look fn f (AtStatement (stmt.Live x)) w = by_local (slice_get fn.locals x.0) w
+  where
+    by_local : (o : Option Local) → AsksFor (on_local o (live (main_thread f) [] f x.0)) (local_asks o)
+    by_local None v = refl
+    by_local (Some l) v = refl
+due_asks_for look fn f (AtStatement (stmt.Dead x)) w = by_local (slice_get fn.locals x.0) w
+  where
+    by_local : (o : Option Local) → AsksFor (on_local o (dead (main_thread f) [] f x.0)) []
+    by_local None v = refl
+    by_local (Some l) v = refl
+due_asks_for look fn f (AtStatement (stmt.Assign place value)) w = refl
+due_asks_for look fn f (AtStatement (stmt.Mention place)) w = refl
+due_asks_for look fn f (AtStatement (stmt.Disc place number)) w = refl
+due_asks_for look fn f (AtStatement (stmt.Deinit place)) w = refl
+due_asks_for look fn f (AtStatement (stmt.Validate place)) w = refl
 
 module _ (look : Look) (p : Progress) (e : Entry) where
   abbrev with_verdict : Verdict → Option Fault
-  with_verdict v = entry_fault (step look) (config_of p.memory (frame_of p.frame) p.count (map printed_of p.output.items) p.completed v) e
+  with_verdict v = entry_fault (step look) (progress_at p v) e
 
-  pub fault_main : (act : Action) → IsDue look p act → p.verdict ≡ Running → e.thread ≡ 0 → entry_fault (step look) (progress_config p) e ≡ act_fault act e.picks p
-  fault_main act due v t =
-      ap with_verdict v ∙ fault_of_main look p.memory (frame_of p.frame) p.count (map printed_of p.output.items) p.completed act due e t
+  module _ (script : StepScript (Plan Own)) (due : step look (main_thread (frame_of p.frame)) ≡ script) (running : p.verdict ≡ Running) where
+    pub fault_main : (asks : List Ask) → AsksFor script asks → e.thread ≡ 0 → entry_fault (step look) (progress_config p) e ≡ asks_fault asks e.picks p
+    fault_main asks needs t =
+        ap with_verdict running ∙ fault_of_main look p.memory (frame_of p.frame) p.count (map printed_of p.output.items) p.last p.completed script due asks needs e t
 
-  pub fault_other : (act : Action) → IsDue look p act → p.verdict ≡ Running → e.thread ≢ 0 → entry_fault (step look) (progress_config p) e ≡ fault 60
-  fault_other act due v t =
-      ap with_verdict v ∙ fault_of_other look p.memory (frame_of p.frame) p.count (map printed_of p.output.items) p.completed act due e t
+    pub fault_other : e.thread ≢ 0 → entry_fault (step look) (progress_config p) e ≡ fault 60
+    fault_other t =
+        ap with_verdict running ∙ fault_of_other look p.memory (frame_of p.frame) p.count (map printed_of p.output.items) p.last p.completed script due e t
 
   pub fault_stopped : is_running p.verdict ≡ false → entry_fault (step look) (progress_config p) e ≡ fault 66
   unfolding entry_fault
@@ -57,23 +70,24 @@ running_is Rattle.mr_base.specs.declared.reason.Verdict.TheVariants.Abort h = cc
 running_is Rattle.mr_base.specs.declared.reason.Verdict.TheVariants.Deadlock h = cc
 running_is (Rattle.mr_base.specs.declared.reason.Verdict.TheVariants.Undefined r) h = cc
 
--- an action that fits its frame is possible
-pub possible_is : (fn : Function) (p : Progress) (act : Action) → Fits fn (frame_of p.frame) → ActionFits fn (frame_of p.frame) act → IsPossible p act
-possible_is fn p (action.Live x size align) f a = (omega (arith, f.locals, a.0), a.3.3, a.1, a.2)
-possible_is fn p (action.Dead x size align) f a = (omega (arith, f.locals, a.0), a.1.3)
-possible_is fn p (action.Goto b) f a = tt
-possible_is fn p (action.Print n b) f a = tt
-possible_is fn p action.Exit f a = tt
+-- a refusal by the picks
+pub act_refused : (script : StepScript (Plan Own)) (asks : List Ask) (picks : List ℕ) (p : Progress) (f : StepFault) → Tells f (asks_fault asks picks p) → ActAnswer script asks picks p p (Err f)
+act_refused script asks picks p (answer.BadEntry code earlier) h = (h, refl)
+act_refused script asks picks p answer.Memory h = absurd h
+act_refused script asks picks p answer.Failed h = h
 
--- the answer to an entry of thread 0, from that of its action
-pub answer_of : (program : Program) (p p' : Progress) (act : Action) (e : Entry) (r : Result (Unit {0}) StepFault)
-    → ((look : Look) → look.program ≡ program → IsDue look p act) → p.verdict ≡ Running → e.thread ≡ 0
-    → ActAnswer act e.picks p p' r → OnOk r (IsSoundFor program p') → AdvanceAnswer program e p p' r
-answer_of program p p' act e (Ok x) due v t h s =
-    ((λ look l. fault_main look p e act (due look l) v t ∙ h.0), (λ look l. h.1 look e v (due look l) t refl), s)
-answer_of program p p' act e (Err (answer.BadEntry code earlier)) due v t h s = ((λ look l. fault_main look p e act (due look l) v t ∙ h.0), h.1)
-answer_of program p p' act e (Err answer.Memory) due v t h s = λ look l. fault_main look p e act (due look l) v t ∙ h
-answer_of program p p' act e (Err answer.Failed) due v t h s = h
+-- one lawful address is all that is asked for
+pub none_left : (p : Progress) (size align addr : ℕ) → pick_fault p.memory addr size align ≡ None → asks_fault (Address size align ∷ []) (addr ∷ []) p ≡ None
+none_left p size align addr h = ap (λ o. else_fault (address_fault o) None) h
+
+-- the answer to an entry of thread 0, from that of what is due
+pub answer_of : (look : Look) (p p' : Progress) (script : StepScript (Plan Own)) (asks : List Ask) (e : Entry) (r : Result (Unit {0}) StepFault)
+    → step look (main_thread (frame_of p.frame)) ≡ script → AsksFor script asks → p.verdict ≡ Running → e.thread ≡ 0
+    → ActAnswer script asks e.picks p p' r → AdvanceAnswer look e p p' r
+answer_of look p p' script asks e (Ok x) due needs v t h = (fault_main look p e script due v asks needs t ∙ h.0, h.1 look e v due t refl)
+answer_of look p p' script asks e (Err (answer.BadEntry code earlier)) due needs v t h = (fault_main look p e script due v asks needs t ∙ h.0, h.1)
+answer_of look p p' script asks e (Err answer.Memory) due needs v t h = fault_main look p e script due v asks needs t ∙ h
+answer_of look p p' script asks e (Err answer.Failed) due needs v t h = h
 
 state_some : (b : Bool) (s r : State Own) → state_if b s ≡ Some r → b ≡ true
 state_some true s r h = refl

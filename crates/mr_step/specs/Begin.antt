@@ -1,48 +1,45 @@
--- How the picks of a start with one function and one local are answered.
-use Rattle.std.specs.Prelude.{◌≡◌, ℕ, List, [], ◌∷◌, Option, None, Some, Result, Ok, Err, slice_get}
+-- How the picks of a start are answered.
+use Rattle.std.specs.Prelude.{◌≡◌, ℕ, ◌^◌, ◌<◌, ◌≤◌, All, List, [], ◌∷◌, map, Option, None, Some, Result, Ok, Err}
 use Rattle.std.specs.FinMap as fin
-use Rattle.mr_base.specs.declared.byte.Kind.TheVariants as kind
 use Rattle.mr_base.specs.declared.thread.Status.TheVariants.{Enabled}
-use Rattle.mr_ast.specs.declared.program.Local.{Local}
-use Rattle.mr_ast.specs.declared.program.Function.{Function}
-use Rattle.mr_ast.specs.declared.program.Program.{Program}
-use Rattle.mr_layout.specs.Sizes.{size_of, align_of}
-use Rattle.mr_mem.specs.Memory.{Memory, allocated}
-use Rattle.mr_sched.specs.declared.schedule.Ask.TheVariants.{Address}
+use Rattle.mr_ast.specs.declared.program.Global_.{Global_}
+use Rattle.mr_mem.specs.Memory.{IsAsked, IsPowerOfTwo}
+use Rattle.mr_wf.specs.Broken.{items_size}
 use Rattle.mr_step.specs.declared.begin.Begun.{Begun}
+use Rattle.mr_step.specs.declared.pieces.Piece.{Piece as Made}
 use Rattle.mr_step.specs.declared.fault.StepFault.{StepFault}
 use Rattle.mr_step.specs.declared.fault.StepFault.TheVariants as answer
-use Rattle.mr_step.specs.MemoryQueries.{pointer_to}
 use Rattle.mr_step.specs.Answers.{fault_of}
 use Rattle.mr_step.specs.Legal.{Fault, picks_fault}
-use Rattle.mr_step.specs.Standing.{own_id}
+use Rattle.mr_step.specs.Start.{Piece, ask_of, placed}
 
--- the memory with a function at one address and a local of thread 0 at another
-abbrev pub begun_memory : ℕ → ℕ → ℕ → ℕ → Memory
-begun_memory code place size align =
-    allocated (allocated fin.empty (own_id 0) kind.Function 1 1 code) (own_id 1) kind.Stack size align place
+-- a piece as the code has it
+abbrev pub piece_of : Made → Piece
+piece_of p = record { kind = p.kind; size = p.size; align = p.align }
 
--- the rule that the picks break, if they break one
-abbrev pub begin_fault : ℕ → ℕ → List ℕ → Option Fault
-begin_fault size align picks = picks_fault (Enabled ∷ []) [] 0 0 (Address 1 1 ∷ Address size align ∷ []) picks
+-- a piece that memory can allocate
+pub record IsPossible (p : Piece) : Type 0 where
+  pub size : p.size < 2 ^ 63
+  pub align : IsPowerOfTwo p.align
+  pub asked : IsAsked p.kind p.size p.align
 
-pub record IsBegun (size align : ℕ) (picks : List ℕ) (b : Begun) : Type 0 where
-  pub code : ℕ
-  pub place : ℕ
-  pub picked : picks ≡ code ∷ place ∷ []
-  pub legal : begin_fault size align picks ≡ None
-  pub memory : b.memory ≡ begun_memory code place size align
-  pub function : b.function ≡ pointer_to (own_id 0) code
-  pub local : b.local ≡ pointer_to (own_id 1) place
+-- each global has at most 2^20 bytes
+abbrev pub HaveRoom : List Global_ → Type 0
+HaveRoom globals = All (λ g. items_size g.items ≤ 2 ^ 20) globals
+
+-- the rule that the picks for these pieces break, if they break one
+abbrev pub pieces_fault : List Piece → List ℕ → Option Fault
+pieces_fault pieces picks = picks_fault (Enabled ∷ []) [] 0 0 (map ask_of pieces) picks
+
+-- the pieces are allocated at the picks, in order
+pub record IsBegun (pieces : List Piece) (picks : List ℕ) (b : Begun) : Type 0 where
+  pub legal : pieces_fault pieces picks ≡ None
+  pub memory : b.memory ≡ (placed fin.empty 0 pieces picks).memory
+  pub pointers : b.pointers.items ≡ (placed fin.empty 0 pieces picks).pointers
 
 -- the start is made, or its picks break a rule, or memory ran out
-abbrev pub BeginAnswer : ℕ → ℕ → List ℕ → Result Begun StepFault → Type 0
-BeginAnswer size align picks (Ok b) = IsBegun size align picks b
-BeginAnswer size align picks (Err (answer.BadEntry code earlier)) = begin_fault size align picks ≡ Some (fault_of code earlier)
-BeginAnswer size align picks (Err answer.Memory) = Unit {0}
-BeginAnswer size align picks (Err answer.Failed) = ⊥
-
--- the same of the main function's return local
-abbrev pub MainAnswer : Program → List ℕ → Result Begun StepFault → Type 0
-MainAnswer p picks r =
-    (f : Function) (l : Local) → p.functions ≡ f ∷ [] → slice_get f.locals f.ret.0 ≡ Some l → BeginAnswer (size_of l.ty) (align_of l.ty) picks r
+abbrev pub BeginAnswer : List Piece → List ℕ → Result Begun StepFault → Type 0
+BeginAnswer pieces picks (Ok b) = IsBegun pieces picks b
+BeginAnswer pieces picks (Err (answer.BadEntry code earlier)) = pieces_fault pieces picks ≡ Some (fault_of code earlier)
+BeginAnswer pieces picks (Err answer.Memory) = Unit {0}
+BeginAnswer pieces picks (Err answer.Failed) = ⊥

@@ -1,28 +1,24 @@
 -- The language: what the next statement or terminator of a thread does, as a script. Those that are not built yet have no rule here.
 -- (MiniRust, lang: statements and terminators.)
-use Rattle.std.specs.Prelude.{ℕ, ◌+◌, ◌==◌, List, [], ◌∷◌, length, slice_set, Option, None, Some, slice_get, if◌then◌else◌, decimal}
+use Rattle.std.specs.Prelude.{ℕ, ◌+◌, ◌==◌, Bool, true, false, List, [], ◌∷◌, length, slice_set, Option, None, Some, slice_get, if◌then◌else◌}
 use Rattle.mr_base.specs.declared.byte.Pointer.{Pointer}
 use Rattle.mr_base.specs.declared.byte.Kind.TheVariants.{Stack}
-use Rattle.mr_ast.specs.declared.types.Num.{Num}
-use Rattle.mr_ast.specs.declared.expr.Place.{Place}
-use Rattle.mr_ast.specs.declared.expr.Value.{Value, out-Value}
-use Rattle.mr_ast.specs.declared.expr.Place.TheOpen.{Value-F}
-use Rattle.mr_ast.specs.declared.program.Intrinsic.{Intrinsic}
-use Rattle.mr_ast.specs.declared.program.Intrinsic.TheVariants as intrinsic
 use Rattle.mr_ast.specs.declared.program.Local.{Local}
 use Rattle.mr_ast.specs.declared.program.Stmt.{Stmt}
 use Rattle.mr_ast.specs.declared.program.Stmt.TheVariants as stmt
 use Rattle.mr_ast.specs.declared.program.Term.{Term}
-use Rattle.mr_ast.specs.declared.program.Term.TheVariants as term
 use Rattle.mr_ast.specs.declared.program.Block.{Block}
 use Rattle.mr_ast.specs.declared.program.Function.{Function}
 use Rattle.mr_ast.specs.declared.program.Program.{Program}
 use Rattle.mr_layout.specs.Sizes.{size_of, align_of}
 use Rattle.mr_sched.specs.declared.schedule.Ask.TheVariants.{Address}
 use Rattle.mr_script.specs.Script.{Done, IllFormed, Ask, ◌>>=◌}
+use Rattle.mr_eval.specs.Evaluation.{Scene}
 use Rattle.mr_step.specs.MemoryQueries.{Allocate, Free}
-use Rattle.mr_step.specs.Queries.{OfMemory, Print, StepScript}
-use Rattle.mr_step.specs.Machine.{Flow, Goes, Exits, Plan, CreatesNothing}
+use Rattle.mr_step.specs.Queries.{OfMemory, Print, StepScript, reading_part}
+use Rattle.mr_step.specs.Machine.{Flow, Goes, Exits, Aborts, Plan, CreatesNothing}
+use Rattle.mr_step.specs.Changes.{Change, assign, deinit, mention, set_discriminant, validate}
+use Rattle.mr_step.specs.Endings.{Ending, EndsByAbort, EndsByExit, Prints, ToBlock, ending}
 
 -- A function at work: its number, the storage of each local, and the block and the position at which it goes on.
 pub record Frame : Type 0 where
@@ -68,6 +64,10 @@ abbrev pub with_pick : List ℕ → (ℕ → StepScript (Flow Own)) → StepScri
 with_pick (a ∷ []) f = f a
 with_pick _ f = IllFormed
 
+-- where the expressions of a frame of a function are evaluated
+abbrev pub scene_in : Look → Function → Frame → Scene
+scene_in look fn f = record { locals = fn.locals; storage = f.locals; functions = look.functions; globals = look.globals }
+
 -- ---- statements
 
 -- frees the storage of a local, where there is some; the local's size and alignment
@@ -95,70 +95,53 @@ abbrev pub on_local : Option Local → (ℕ → ℕ → StepScript (Plan Own)) �
 on_local None f = IllFormed
 on_local (Some l) f = f (size_of l.ty) (align_of l.ty)
 
-abbrev pub statement : Function → Own → List Frame → Frame → Stmt → StepScript (Plan Own)
-statement fn own below f (stmt.Live x) = on_local (slice_get fn.locals x.0) (live own below f x.0)
-statement fn own below f (stmt.Dead x) = on_local (slice_get fn.locals x.0) (dead own below f x.0)
-statement fn own below f (stmt.Assign to from) = IllFormed
-statement fn own below f (stmt.Mention place) = IllFormed
-statement fn own below f (stmt.Disc place number) = IllFormed
-statement fn own below f (stmt.Deinit place) = IllFormed
-statement fn own below f (stmt.Validate place) = IllFormed
+-- a change of memory, and on to the next statement
+abbrev pub then_next : Own → List Frame → Frame → Change → StepScript (Plan Own)
+then_next own below f change = plain (change >>= λ _. Done (next own below f))
+
+abbrev pub statement : Look → Function → Own → List Frame → Frame → Stmt → StepScript (Plan Own)
+statement look fn own below f (stmt.Live x) = on_local (slice_get fn.locals x.0) (live own below f x.0)
+statement look fn own below f (stmt.Dead x) = on_local (slice_get fn.locals x.0) (dead own below f x.0)
+statement look fn own below f (stmt.Assign place value) = then_next own below f (assign (scene_in look fn f) place value)
+statement look fn own below f (stmt.Mention place) = then_next own below f (mention (scene_in look fn f) place)
+statement look fn own below f (stmt.Disc place number) = then_next own below f (set_discriminant (scene_in look fn f) place number)
+statement look fn own below f (stmt.Deinit place) = then_next own below f (deinit (scene_in look fn f) place)
+statement look fn own below f (stmt.Validate place) = then_next own below f (validate (scene_in look fn f) place)
 
 -- ---- terminators
 
--- a number in decimal, with its sign
-abbrev pub number_text : Num → List ℕ
-number_text n = if n.neg then 45 ∷ decimal n.mag else decimal n.mag
+abbrev pub is_bottom : List Frame → Bool
+is_bottom [] = true
+is_bottom (f ∷ below) = false
 
-abbrev pub constant_layer : Value-F Place Value → Option Num
-constant_layer (Value-F.Int i n) = Some n
-constant_layer _ = None
+-- what is done behind the decision of a terminator
+abbrev pub finish : Own → List Frame → Frame → Ending → StepScript (Flow Own)
+finish own below f (ToBlock b) = Done (to_block own below f b)
+finish own below f (Prints text b) = Ask (Print text) (λ _. Done (to_block own below f b))
+finish own below f EndsByExit = Done Exits
+finish own below f EndsByAbort = Done Aborts
 
--- the number of a list of one integer constant
-unfoldable pub constant_of : List Value → Option Num
-constant_of [] = None
-constant_of (v ∷ []) = constant_layer (out-Value v)
-constant_of (v ∷ w ∷ vs) = None
-
-abbrev pub print_number : Own → List Frame → Frame → ℕ → Option Num → StepScript (Plan Own)
-print_number own below f b None = IllFormed
-print_number own below f b (Some n) = plain (Ask (Print (number_text n)) (λ _. Done (to_block own below f b)))
-
-abbrev pub operation : Own → List Frame → Frame → Intrinsic → List Value → Option Place → ℕ → StepScript (Plan Own)
-operation own below f intrinsic.Print args None b = print_number own below f b (constant_of args)
-operation own below f _ args result b = IllFormed
-
-abbrev pub terminator : Own → List Frame → Frame → Term → StepScript (Plan Own)
-terminator own below f (term.Goto b) = plain (Done (to_block own below f b.0))
-terminator own below f term.Exit = plain (Done Exits)
-terminator own below f (term.Do op args result b) = operation own below f op args result b.0
-terminator own below f (term.Switch v cases other) = IllFormed
-terminator own below f term.Unreachable = IllFormed
-terminator own below f term.Return = IllFormed
-terminator own below f term.Abort = IllFormed
-terminator own below f term.Resume = IllFormed
-terminator own below f (term.Stop b) = IllFormed
-terminator own below f (term.Unwind v b) = IllFormed
-terminator own below f (term.Call callee args place to unwind) = IllFormed
+abbrev pub terminator : Look → Function → Own → List Frame → Frame → Term → StepScript (Plan Own)
+terminator look fn own below f t = plain (reading_part (ending (scene_in look fn f) (is_bottom below) t) >>= finish own below f)
 
 -- ---- the step
 
 -- behind the last statement stands the terminator
-abbrev pub at_position : Function → Own → List Frame → Frame → Block → Option Stmt → StepScript (Plan Own)
-at_position fn own below f b (Some s) = statement fn own below f s
-at_position fn own below f b None = if f.at == length b.stmts then terminator own below f b.term else IllFormed
+abbrev pub at_position : Look → Function → Own → List Frame → Frame → Block → Option Stmt → StepScript (Plan Own)
+at_position look fn own below f b (Some s) = statement look fn own below f s
+at_position look fn own below f b None = if f.at == length b.stmts then terminator look fn own below f b.term else IllFormed
 
-abbrev pub in_block : Function → Own → List Frame → Frame → Option Block → StepScript (Plan Own)
-in_block fn own below f None = IllFormed
-in_block fn own below f (Some b) = at_position fn own below f b (slice_get b.stmts f.at)
+abbrev pub in_block : Look → Function → Own → List Frame → Frame → Option Block → StepScript (Plan Own)
+in_block look fn own below f None = IllFormed
+in_block look fn own below f (Some b) = at_position look fn own below f b (slice_get b.stmts f.at)
 
-abbrev pub in_function : Own → List Frame → Frame → Option Function → StepScript (Plan Own)
-in_function own below f None = IllFormed
-in_function own below f (Some fn) = in_block fn own below f (slice_get fn.blocks f.block)
+abbrev pub in_function : Look → Own → List Frame → Frame → Option Function → StepScript (Plan Own)
+in_function look own below f None = IllFormed
+in_function look own below f (Some fn) = in_block look fn own below f (slice_get fn.blocks f.block)
 
 abbrev pub in_frames : Look → Own → List Frame → StepScript (Plan Own)
 in_frames look own [] = IllFormed
-in_frames look own (f ∷ below) = in_function own below f (slice_get look.program.functions f.function)
+in_frames look own (f ∷ below) = in_function look own below f (slice_get look.program.functions f.function)
 
 -- THE NEXT STEP of a thread, as a script
 unfoldable pub step : Look → Own → StepScript (Plan Own)

@@ -1,35 +1,27 @@
 -- What a step may ask of memory, and what memory answers.
-use Rattle.std.specs.Prelude.{ℕ, ◌+◌, Bool, true, false, List, [], ◌∷◌, ◌++◌, length, Some, Result, Ok, Err}
+use Rattle.std.specs.Prelude.{ℕ, ◌+◌, Bool, List, [], ◌∷◌, ◌++◌, Some}
 use Rattle.mr_base.specs.declared.byte.AllocId.{AllocId}
 use Rattle.mr_base.specs.declared.byte.Pointer.{Pointer}
 use Rattle.mr_base.specs.declared.byte.AbstractByte.{AbstractByte}
 use Rattle.mr_base.specs.declared.byte.Kind.{Kind}
-use Rattle.mr_base.specs.declared.reason.Reason.{Reason}
-use Rattle.mr_mem.specs.Memory.{Memory, allocated, freed, checked, read, written}
-use Rattle.mr_script.specs.Script.{Script, Outcome, Went, Refused}
-use Rattle.mr_step.specs.Notes.{Notes, touching, accessing}
+use Rattle.mr_mem.specs.Memory.{Memory, allocated, freed}
+use Rattle.mr_script.specs.Script.{Outcome, Went, on}
+use Rattle.mr_eval.specs.Reads.{ReadQuery, ReadReply, answered, reading}
+use Rattle.mr_eval.specs.Stores.{storing}
+use Rattle.mr_step.specs.Notes.{Notes, seen_of, with_seen}
 
--- a range check; a load; a store; a new allocation at a picked address; the end of one
+-- what evaluation asks; a store; a new allocation at a picked address; the end of one
 pub data MemoryQuery : Type 0 where
-  Check : (p : Pointer) (len : ℕ) → MemoryQuery
-  Read : (atomic : Bool) (p : Pointer) (len align : ℕ) → MemoryQuery
+  Reading : (q : ReadQuery) → MemoryQuery
   Write : (atomic : Bool) (p : Pointer) (bytes : List AbstractByte) (align : ℕ) → MemoryQuery
   Allocate : (kind : Kind) (size align addr : ℕ) → MemoryQuery
   Free : (p : Pointer) (kind : Kind) (size align : ℕ) → MemoryQuery
 
 abbrev pub MemoryReply : MemoryQuery → Type 0
-MemoryReply (Check p len) = Unit {0}
-MemoryReply (Read atomic p len align) = List AbstractByte
+MemoryReply (Reading q) = ReadReply q
 MemoryReply (Write atomic p bytes align) = Unit {0}
 MemoryReply (Allocate kind size align addr) = Pointer
 MemoryReply (Free p kind size align) = Unit {0}
-
-abbrev pub MemoryScript : Type 0 → Type 0
-MemoryScript A = Script MemoryQuery MemoryReply A
-
-abbrev pub answered : {X A S : Type 0} → Result X Reason → (X → Outcome A S) → Outcome A S
-answered (Ok x) f = f x
-answered (Err r) f = Refused r
 
 -- an allocation's identity: the thread that made it, and how many that thread had made
 abbrev pub next_id : Notes → AllocId
@@ -40,14 +32,9 @@ pointer_to id addr = record { addr = addr; prov = Some id }
 
 -- what memory answers, and what stands in it and in the notes afterwards
 abbrev pub memory_answer : (q : MemoryQuery) → Memory × Notes → Outcome (MemoryReply q) (Memory × Notes)
-memory_answer (Check p len) w =
-    answered (checked w.0 p len) (λ _. Went tt (w.0, record w.1 { touched = w.1.touched ++ touching p len }))
-memory_answer (Read atomic p len align) w =
-    answered (read w.0 p len align) (λ bytes. Went bytes
-    (w.0, record w.1 { touched = w.1.touched ++ touching p len; accesses = w.1.accesses ++ accessing false atomic p len }))
+memory_answer (Reading q) w = on (reading w.0 q (seen_of w.1)) (λ x s. Went x (w.0, with_seen w.1 s))
 memory_answer (Write atomic p bytes align) w =
-    answered (written w.0 p bytes align) (λ m. Went tt
-    (m, record w.1 { touched = w.1.touched ++ touching p (length bytes); accesses = w.1.accesses ++ accessing true atomic p (length bytes) }))
+    on (storing w.0 atomic p bytes align (seen_of w.1)) (λ m s. Went tt (m, with_seen w.1 s))
 memory_answer (Allocate kind size align addr) w =
     Went (pointer_to (next_id w.1) addr)
     (allocated w.0 (next_id w.1) kind size align addr, record w.1 { made = w.1.made ++ next_id w.1 ∷ []; ranges = w.1.ranges ++ (addr, size) ∷ []; count = w.1.count + 1 })

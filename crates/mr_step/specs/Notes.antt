@@ -1,9 +1,9 @@
 -- What a step notes of what it did.
-use Rattle.std.specs.Prelude.{ℕ, Bool, false, List, [], ◌∷◌, Option, None, Some, if◌then◌else◌, ◌==◌}
+use Rattle.std.specs.Prelude.{ℕ, Bool, false, List, []}
 use Rattle.mr_base.specs.declared.byte.AllocId.{AllocId}
-use Rattle.mr_base.specs.declared.byte.Pointer.{Pointer}
 use Rattle.mr_base.specs.declared.access.Access.{Access}
 use Rattle.mr_base.specs.declared.thread.Event.{Event}
+use Rattle.mr_eval.specs.Reads.{Seen}
 
 -- Beside its thread and how many allocations this has made: the accesses in order; the allocations touched, made and freed, and the ranges
 -- of those made; what it did to locks and threads; the threads that it woke; its prints; whether its thread ended, or can't go on.
@@ -38,15 +38,10 @@ start_notes thread count = record {
   printed = [];
 }
 
-abbrev pub ids : Option AllocId → List AllocId
-ids None = []
-ids (Some id) = id ∷ []
+-- what evaluation sees of them: the accesses, and the allocations touched
+abbrev pub seen_of : Notes → Seen
+seen_of n = record { accesses = n.accesses; touched = n.touched }
 
--- what a range check of this pointer and length touches
-abbrev pub touching : Pointer → ℕ → List AllocId
-touching p len = if len == 0 then [] else ids p.prov
-
--- a load or store of this length, noted where it isn't 0
-abbrev pub accessing : Bool → Bool → Pointer → ℕ → List Access
-accessing store atomic p len =
-    if len == 0 then [] else (record { store = store; atomic = atomic; addr = p.addr; len = len }) ∷ []
+-- the notes with what was seen by then in their place
+abbrev pub with_seen : Notes → Seen → Notes
+with_seen n s = record n { accesses = s.accesses; touched = s.touched }

@@ -8,7 +8,8 @@ use Rattle.mr_base.specs.declared.thread.Event.TheVariants.{CreateLock, Acquire,
 use Rattle.mr_mem.specs.Memory.{Memory}
 use Rattle.mr_script.specs.Script.{Script, Done, Undefined, IllFormed, Ask, Outcome, Went, Refused, Broken, on}
 use Rattle.mr_step.specs.Notes.{Notes}
-use Rattle.mr_step.specs.MemoryQueries.{MemoryQuery, MemoryReply, MemoryScript, memory_answer}
+use Rattle.mr_eval.specs.Reads.{ReadScript}
+use Rattle.mr_step.specs.MemoryQueries.{MemoryQuery, MemoryReply, Reading, memory_answer}
 
 -- the memory, the status of each thread, and the holder of each lock
 pub record Shared : Type 0 where
@@ -72,12 +73,12 @@ Reply (Print text) = Unit {0}
 abbrev pub StepScript : Type 0 → Type 0
 StepScript A = Script Query Reply A
 
--- a script that asks memory alone, as a part of a step
-abbrev pub lift : {A : Type 0} → MemoryScript A → StepScript A
-lift (Done a) = Done a
-lift (Undefined r) = Undefined r
-lift IllFormed = IllFormed
-lift (Ask q k) = Ask (OfMemory q) (λ x. lift (k x))
+-- a script of evaluation, as a part of a step
+abbrev pub reading_part : {A : Type 0} → ReadScript A → StepScript A
+reading_part (Done a) = Done a
+reading_part (Undefined r) = Undefined r
+reading_part IllFormed = IllFormed
+reading_part (Ask q k) = Ask (OfMemory (Reading q)) (λ x. reading_part (k x))
 
 abbrev pub note : Event → Notes → Notes
 note e n = record n { events = n.events ++ e ∷ [] }

@@ -1,20 +1,29 @@
 -- The start of a run, and legal schedules of a program.
-use Rattle.std.specs.Prelude.{◌≡◌, ℕ, ◌+◌, List, [], ◌∷◌, ◌++◌, map, length, replicate, take, drop, sum, slice_set, Option, None, Some, slice_get}
+use Rattle.std.specs.Prelude.{◌≡◌, ℕ, ◌+◌, List, [], ◌∷◌, ◌++◌, map, length, replicate, take, drop, slice_set, Option, None, Some, Result, Ok, Err, slice_get}
+use Rattle.std.specs.List.{flat_map}
 use Rattle.std.specs.FinMap as fin
 use Rattle.mr_base.specs.declared.byte.AllocId.{AllocId}
 use Rattle.mr_base.specs.declared.byte.Pointer.{Pointer}
+use Rattle.mr_base.specs.declared.byte.AbstractByte.TheVariants.{Init}
 use Rattle.mr_base.specs.declared.byte.Kind.{Kind}
 use Rattle.mr_base.specs.declared.byte.Kind.TheVariants as kind
+use Rattle.mr_base.specs.declared.reason.Reason.{Reason}
 use Rattle.mr_base.specs.declared.reason.Verdict.TheVariants as verdict
 use Rattle.mr_base.specs.declared.thread.Status.TheVariants.{Enabled}
 use Rattle.mr_ast.specs.declared.program.Item_.{Item_}
 use Rattle.mr_ast.specs.declared.program.Item_.TheVariants as item
+use Rattle.mr_ast.specs.declared.program.Target.{Target}
+use Rattle.mr_ast.specs.declared.program.Target.TheVariants as target
 use Rattle.mr_ast.specs.declared.program.Global_.{Global_}
 use Rattle.mr_ast.specs.declared.program.Local.{Local}
 use Rattle.mr_ast.specs.declared.program.Function.{Function}
 use Rattle.mr_ast.specs.declared.program.Program.{Program}
 use Rattle.mr_layout.specs.Sizes.{size_of, align_of}
-use Rattle.mr_mem.specs.Memory.{Memory, allocated}
+use Rattle.mr_mem.specs.Memory.{Memory, allocated, written}
+use Rattle.mr_value.specs.Encode.{blank}
+use Rattle.mr_value.specs.Numbers.{Bytes, pointer_bytes}
+use Rattle.mr_wf.specs.Broken.{items_size}
+use Rattle.mr_eval.specs.Moves.{behind}
 use Rattle.mr_sched.specs.declared.schedule.Ask.{Ask}
 use Rattle.mr_sched.specs.declared.schedule.Ask.TheVariants.{Address}
 use Rattle.mr_sched.specs.declared.schedule.Entry.{Entry}
@@ -32,13 +41,8 @@ pub record Piece : Type 0 where
   pub size : ℕ
   pub align : ℕ
 
-abbrev pub item_size : Item_ → ℕ
-item_size (item.Byte b count) = count
-item_size (item.Uninit count) = count
-item_size (item.Reloc target offset) = 8
-
 abbrev pub global_piece : Global_ → Piece
-global_piece g = record { kind = kind.Static; size = sum (map item_size g.items); align = g.align }
+global_piece g = record { kind = kind.Static; size = items_size g.items; align = g.align }
 
 -- a function takes an address and holds no byte
 abbrev pub function_piece : Function → Piece
@@ -83,6 +87,38 @@ placed m count (piece ∷ pieces) [] = record { memory = m; pointers = [] }
 abbrev pub start_placed : Program → List ℕ → Placed
 start_placed p picks = placed fin.empty 0 (pieces p) picks
 
+-- ---- the bytes of the globals
+
+-- where the thing begins that a pointer in a global points to
+abbrev pub target_of : List Pointer → List Pointer → Target → Option Pointer
+target_of functions globals (target.Function f) = slice_get functions f.0
+target_of functions globals (target.Global g) = slice_get globals g.0
+
+-- the bytes of a pointer so many bytes behind; uninitialised ones where there is none
+abbrev pub pointer_behind : Option Pointer → ℕ → Bytes
+pointer_behind None offset = blank 8
+pointer_behind (Some p) offset = pointer_bytes (behind p offset)
+
+abbrev pub item_bytes : List Pointer → List Pointer → Item_ → Bytes
+item_bytes functions globals (item.Byte b count) = replicate count (Init b None)
+item_bytes functions globals (item.Uninit count) = blank count
+item_bytes functions globals (item.Reloc to offset) = pointer_behind (target_of functions globals to) offset
+
+abbrev pub global_bytes : List Pointer → List Pointer → List Item_ → Bytes
+global_bytes functions globals items = flat_map (item_bytes functions globals) items
+
+-- the memory behind a store that can be made; no step notes it
+abbrev pub behind_store : Memory → Result Memory Reason → Memory
+behind_store m (Ok new) = new
+behind_store m (Err r) = m
+
+-- the memory in which each global has its bytes, from the pointers to functions and globals
+abbrev pub filled : List Pointer → List Pointer → Memory → List Global_ → List Pointer → Memory
+filled functions globals m [] ps = m
+filled functions globals m (g ∷ gs) [] = m
+filled functions globals m (g ∷ gs) (p ∷ ps) =
+    filled functions globals (behind_store m (written m p (global_bytes functions globals g.items) g.align)) gs ps
+
 -- what every step of the run looks up
 unfoldable pub look_of : Program → List ℕ → Look
 look_of p picks = record {
@@ -90,6 +126,11 @@ look_of p picks = record {
   functions = take (length p.functions) (start_placed p picks).pointers;
   globals = take (length p.globals) (drop (length p.functions) (start_placed p picks).pointers);
 }
+
+-- the memory before the first entry
+abbrev pub start_memory : Program → List ℕ → Memory
+start_memory p picks =
+    filled (look_of p picks).functions (look_of p picks).globals (start_placed p picks).memory p.globals (look_of p picks).globals
 
 -- the return local has storage, and no other local
 abbrev pub start_locals : Option Function → Option Pointer → List (Option Pointer)
@@ -113,7 +154,7 @@ start_config p picks =
     let made = start_placed p picks in
     record {
       state = Some (record {
-        shared = record { memory = made.memory; statuses = Enabled ∷ []; holders = [] };
+        shared = record { memory = start_memory p picks; statuses = Enabled ∷ []; holders = [] };
         threads = thread_of (main_thread (start_frame p (slice_get made.pointers (length p.functions + length p.globals)))) (length (pieces p)) ∷ [];
       });
       output = [];

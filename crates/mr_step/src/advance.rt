@@ -1,13 +1,14 @@
-ghost use Rattle.std.specs.Prelude.{◌≡◌, ◌∷◌, [], ◌<◌, ◌^◌, IsTrue};
-ghost use Rattle.mr_ast.specs.Thin.{IsThin, IsThinFunction};
-ghost use Rattle.mr_step.specs.Advance.{AdvanceAnswer, IsSoundFor};
+ghost use Rattle.std.specs.Prelude.{◌≡◌, ◌<◌, ◌^◌, OnOk};
+ghost use Rattle.mr_step.specs.Advance.{AdvanceAnswer};
+ghost use Rattle.mr_step.specs.Frames.{IsReady, look_at};
+ghost use Rattle.mr_step.specs.Progress.{IsSoundWhile};
 ghost use Rattle.mr_step.specs.Runs.{is_running as is_running_lem};
 
-use crate::action::next_action;
 use crate::fault::StepFault;
+use crate::frame::next_of;
+use crate::look::Look;
 use crate::picks::broken;
-use crate::progress::{Progress, act};
-use mr_ast::{Function, Program};
+use crate::progress::{Progress, perform};
 use mr_base::Verdict;
 use mr_sched::Entry;
 use std::alloc::Global;
@@ -21,23 +22,25 @@ pub const AFTER_STOP: u8 = 66;
 /// The step of an entry.
 pub fn advance(
     alloc: Global,
-    program: &Program,
+    look: &Look<'_>,
     p: &mut Progress,
     entry: &Entry,
 ) -> Result<(), StepFault>
-    requires thin { IsThin program.now }
-    requires sound { IsSoundFor program.now p.old }
+    requires ready { IsReady look.now }
+    requires sound { IsSoundWhile look.now.program.now p.old }
     requires steps { p.old.completed < 2 ^ 32 }
-    ensures { AdvanceAnswer program.now entry.now p.old p.new result }
+    ensures answer { AdvanceAnswer (look_at look.now) entry.now p.old p.new result }
+    ensures sound { OnOk result (IsSoundWhile look.now.program.now p.new) }
 {
     if !is_running(p.verdict) {
         return Err(broken(AFTER_STOP));
     }
-    let action = next_action(main_function(program), &p.frame);
+    let function = look.function(p.frame.function);
+    let next = next_of(function, &p.frame);
     if entry.thread != 0 {
         return Err(broken(NOT_ENABLED));
     }
-    act(alloc, p, action, entry.picks.as_slice())
+    perform(alloc, look, function, p, next, entry.picks.as_slice())
 }
 
 fn is_running(verdict: Verdict) -> bool
@@ -47,13 +50,4 @@ fn is_running(verdict: Verdict) -> bool
         Verdict::Running => true,
         _ => false,
     }
-}
-
-/// The only function of a thin program.
-pub fn main_function(program: &Program) -> &Function
-    requires { IsThin program.now }
-    ensures only { program.now.functions ≡ result.now ∷ [] }
-    ensures thin { IsThinFunction result.now }
-{
-    &program.functions.as_slice()[0]
 }

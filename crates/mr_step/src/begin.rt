@@ -1,47 +1,44 @@
-ghost use Rattle.std.specs.Prelude.{◌≡◌, ◌<◌, ◌^◌};
-ghost use Rattle.mr_mem.specs.Memory.{IsPowerOfTwo};
-ghost use Rattle.mr_step.specs.Begin.{BeginAnswer};
+ghost use Rattle.std.specs.Prelude.{◌≡◌, All, map};
+ghost use Rattle.mr_step.specs.Begin.{BeginAnswer, IsPossible, piece_of};
 ghost use Rattle.mr_step.specs.MemoryQueries.{pointer_to};
 ghost use Rattle.mr_step.specs.Standing.{own_id};
 
 use crate::fault::StepFault;
-use crate::picks::{first_address, one_address};
-use mr_base::{AllocId, Kind, Pointer};
+use crate::picks::{EXTRA_PICK, broken, first_address};
+use crate::pieces::Piece;
+use mr_base::{AllocId, Pointer};
 use mr_mem::Memory;
 use std::alloc::Global;
 
-/// What the start allocates: the function, and the return local.
+/// The memory with the allocations of the start, and the pointers to them.
 #[derive(Drop)]
 pub struct Begun {
     pub memory: Memory,
-    pub function: Pointer,
-    pub local: Pointer,
+    pub pointers: Vec<Pointer>,
 }
 
-/// Allocates the function and a local of this size and alignment, in bytes, at the picked addresses.
-pub fn begin(alloc: Global, size: u64, align: u64, picks: &[u64]) -> Result<Begun, StepFault>
-    requires size { size < 2 ^ 63 }
-    requires align { IsPowerOfTwo align }
-    ensures { BeginAnswer size align picks.now result }
+/// Allocates the pieces at the picked addresses, as thread 0.
+pub fn begin(alloc: Global, pieces: &[Piece], picks: &[u64]) -> Result<Begun, StepFault>
+    requires { All (λ piece. IsPossible (piece_of piece)) pieces.now }
+    ensures { BeginAnswer (map piece_of pieces.now) picks.now result }
 {
     let mut memory = Memory::new(alloc);
-    let (code, rest) = match first_address(&memory, 1, 1, picks) {
-        Ok(first) => first,
-        Err(fault) => return Err(fault),
-    };
-    let first = own(0);
-    memory.allocate(first, Kind::Function, 1, 1, code)?;
-    let place = match one_address(&memory, size, align, rest) {
-        Ok(place) => place,
-        Err(fault) => return Err(fault),
-    };
-    let second = own(1);
-    memory.allocate(second, Kind::Stack, size, align, place)?;
-    Ok(Begun {
-        memory,
-        function: to(first, code),
-        local: to(second, place),
-    })
+    let mut pointers = Vec::new(alloc);
+    let mut rest = picks;
+    for (count, piece) in pieces.iter().enumerate() {
+        let (addr, others) = match first_address(&memory, piece.size, piece.align, rest) {
+            Ok(first) => first,
+            Err(fault) => return Err(fault),
+        };
+        let id = own(count as u64);
+        memory.allocate(id, piece.kind, piece.size, piece.align, addr)?;
+        pointers.push(to(id, addr))?;
+        rest = others;
+    }
+    if !rest.is_empty() {
+        return Err(broken(EXTRA_PICK));
+    }
+    Ok(Begun { memory, pointers })
 }
 
 // The identity of an allocation of thread 0.

@@ -1,48 +1,65 @@
-ghost use Rattle.std.specs.Prelude.{◌≡◌, ◌<◌, IfOk, length, map, slice_get};
+ghost use Rattle.std.specs.Prelude.{◌≡◌, ◌+◌, ◌<◌, ◌≤◌, IfOk, length, map, slice_get};
 ghost use Rattle.std.specs.Option.{option_map};
-ghost use Rattle.mr_ast.specs.Thin.{IsThin, IsThinFunction};
-ghost use Rattle.mr_step.specs.Begin.{MainAnswer};
-ghost use Rattle.mr_step.specs.First.{IsFirst};
+ghost use Rattle.mr_step.specs.First.{IsFirst, IsLook};
 ghost use Rattle.mr_step.specs.Progress.{printed_of};
 ghost use Rattle.mr_step.specs.Standing.{seen_line};
 
-use crate::action::{Frame, byte_align, byte_size, local_at};
-use crate::advance::main_function;
-use crate::begin::{Begun, begin};
-use crate::fault::StepFault;
+use crate::frame::Frame;
+use crate::look::Look;
 use crate::progress::{Line, Progress};
-use mr_ast::{Function, Program};
-use mr_base::Verdict;
+use mr_ast::Function;
+use mr_base::{Pointer, Verdict};
+use mr_layout::Cache;
+use mr_mem::Memory;
+use mr_wf::Checked;
 use std::alloc::{AllocError, Global};
 
-/// Allocates the function and its return local at the picked addresses.
-pub fn begin_main(alloc: Global, p: &Program, picks: &[u64]) -> Result<Begun, StepFault>
-    requires { IsThin p.now }
-    ensures { MainAnswer p.now picks.now result }
+/// What every step looks up, from the pointers to the functions and, behind those, to the globals.
+#[tactic(auto, using(mr_wf::proofs::WrittenOk::written_ok))]
+pub fn first_look<'p>(
+    alloc: Global,
+    p: &'p Checked,
+    pointers: &[Pointer],
+) -> Result<Look<'p>, AllocError>
+    requires { length p.now.functions + length p.now.globals ≤ length pointers.now }
+    ensures { IfOk result (IsLook p.now pointers.now) }
 {
-    let f = main_function(p);
-    let t = &local_at(f.locals.as_slice(), f.ret.0).ty;
-    begin(alloc, byte_size(t), byte_align(t), picks)
+    let program = p.program();
+    let (functions, behind) = pointers.split_at(program.functions.len());
+    let (globals, _) = behind.split_at(program.globals.len());
+    Ok(Look {
+        program: p,
+        functions: Vec::from_slice(alloc, functions)?,
+        globals: Vec::from_slice(alloc, globals)?,
+        cache: Cache::new(alloc, program)?,
+    })
 }
 
-/// Where the thread stands before the first entry.
-pub fn first_progress(alloc: Global, f: &Function, begun: Begun) -> Result<Progress, AllocError>
+/// Where the thread stands before the first entry: in the function of this number, whose return local alone has storage.
+pub fn first_progress(
+    alloc: Global,
+    f: &Function,
+    number: u32,
+    memory: Memory,
+    count: u64,
+    local: Pointer,
+) -> Result<Progress, AllocError>
     requires { f.now.ret.0 < length f.now.locals }
-    ensures { IfOk result (IsFirst f.now begun) }
+    ensures { IfOk result (IsFirst f.now number memory count local) }
 {
     let mut locals = vec![in alloc; None; f.locals.len()]?;
-    locals[f.ret.0 as usize] = Some(begun.local);
-    let Begun { memory, .. } = begun;
+    locals[f.ret.0 as usize] = Some(local);
     Ok(Progress {
         memory,
         frame: Frame {
-            function: 0,
+            function: number,
             locals,
             block: 0,
             at: 0,
         },
-        count: 2,
+        count,
         output: Vec::new(alloc),
+        last: None,
         completed: 0,
         verdict: Verdict::Running,
     })

@@ -1,15 +1,16 @@
 ghost use Rattle.std.specs.Prelude.{◌≡◌, ℕ, ◌+◌, ◌≤◌, ◌↔◌, None};
-ghost use Rattle.mr_ast.specs.Thin.{IsThin};
 ghost use Rattle.mr_ast.specs.declared.program.Program.{Program};
 ghost use Rattle.mr_sched.specs.declared.schedule.Entry.{Entry};
 ghost use Rattle.mr_sched.specs.declared.schedule.Schedule.{Schedule};
+ghost use Rattle.mr_wf.specs.Walk.{WellFormed};
+ghost use Rattle.mr_step.specs.Built.{Built};
 ghost use Rattle.mr_step.specs.Language.{Look, Own};
 ghost use Rattle.mr_step.specs.Runs.{Config};
 ghost use Rattle.mr_step.specs.Start.{IsSoundRun, Legal, program_step, schedule_fault};
 
-/// A law: no step of a thin program under a legal schedule is ill-formed.
+/// A law: no step of a built, well-formed program under a legal schedule is ill-formed.
 pub fn never_ill_formed()
-    ensures { (p : Program) (w : Schedule) → IsThin p → Legal p w → IsSoundRun p w }
+    ensures { (p : Program) (w : Schedule) → Built p → WellFormed p → Legal p w → IsSoundRun p w }
 {}
 
 /// A law: a schedule is legal exactly where there is no rule that it breaks first.

@@ -1,19 +1,24 @@
-use crate::advance::{advance, main_function};
+ghost use Rattle.std.specs.Prelude.{◌≡◌, ◌-◌, ◌<◌, Some, length, slice_get};
+
+use crate::advance::advance;
+use crate::begin::{Begun, begin};
 use crate::fault::{StepFault, Turn};
-use crate::first::{begin_main, first_progress, line_at};
+use crate::first::{first_look, first_progress, line_at};
+use crate::frame::function_at;
+use crate::globals::fill;
+use crate::look::Look;
+use crate::pieces::pieces;
 use crate::progress::Progress;
-use mr_ast::Program;
 use mr_base::{Pointer, Verdict};
 use mr_sched::Entry;
 use mr_wf::Checked;
-use std::alloc::Global;
+use std::alloc::{AllocError, Global};
 use std::marker::Model;
 
 /// The machine of a program under a schedule. (MiniRust, lang: the machine.)
 #[derive(Drop)]
 pub struct Machine<'p> {
-    program: &'p Program,
-    functions: Vec<Pointer>,
+    look: Look<'p>,
     progress: Progress,
     failed: bool,
     alloc: Global,
@@ -40,11 +45,21 @@ impl<'p> Model for Machine<'p> {
     ghost invariant = { IsKept };
 }
 
+// The last of some pointers.
+fn last_of(pointers: &[Pointer]) -> Pointer
+    requires { 0 < length pointers.now }
+    ensures { slice_get pointers.now (length pointers.now - 1) ≡ Some result }
+{
+    pointers[pointers.len() - 1]
+}
+
 impl<'p> Machine<'p> {
-    ghost use Rattle.std.specs.Prelude.{◌≡◌, ◌<◌, ◌^◌, map, length, slice_get};
+    ghost use Rattle.std.specs.Prelude.{◌≡◌, ℕ, ◌<◌, ◌^◌, IfOk, List, length, slice_get};
     ghost use Rattle.std.specs.Option.{option_map};
     ghost use Rattle.mr_step.specs.Built.{Built};
-    ghost use Rattle.mr_step.specs.Answers.{StartAnswer, StepAnswer};
+    ghost use Rattle.mr_step.specs.Answers.{StartAnswer, StepAnswer, standing};
+    ghost use Rattle.mr_step.specs.Begin.{IsBegun};
+    ghost use Rattle.mr_step.specs.Start.{pieces};
     ghost use Rattle.mr_step.specs.Standing.{seen_line};
 
     /// The machine before the first entry, with these start picks.
@@ -52,23 +67,35 @@ impl<'p> Machine<'p> {
         requires { Built p.now }
         ensures { StartAnswer p.now picks.now result }
     {
-        Machine::started(alloc, p.program(), picks)
+        let made = pieces(alloc, p.program())?;
+        match begin(alloc, made.as_slice(), picks) {
+            Ok(begun) => Ok(Machine::begun(alloc, p, begun)?),
+            Err(fault) => Err(fault),
+        }
     }
 
-    // The same over a program itself.
-    fn started(alloc: Global, p: &'p Program, picks: &[u64]) -> Result<Machine<'p>, StepFault>
-        requires { Built p.now }
-        ensures { StartAnswer p.now picks.now result }
+    // The machine of a start that is allocated.
+    fn begun(alloc: Global, p: &'p Checked, begun: Begun) -> Result<Machine<'p>, AllocError>
+        requires built { Built p.now }
+        requires made { (picks : List ℕ) × IsBegun (pieces p.now) picks begun }
+        ensures { IfOk result (λ m. (picks : List ℕ) → IsBegun (pieces p.now) picks begun → m ≡ standing p.now picks) }
     {
-        let begun = match begin_main(alloc, p, picks) {
-            Ok(begun) => begun,
-            Err(fault) => return Err(fault),
-        };
-        let functions = vec![in alloc; begun.function]?;
-        let progress = first_progress(alloc, main_function(p), begun)?;
+        let Begun {
+            mut memory,
+            pointers,
+        } = begun;
+        let program = p.program();
+        let start = program.start.0;
+        let main = function_at(program, start);
+        let pointers = pointers.as_slice();
+        let look = first_look(alloc, p, pointers)?;
+        let globals = program.globals.as_slice();
+        let (functions, places) = (look.functions.as_slice(), look.globals.as_slice());
+        fill(alloc, &mut memory, globals, functions, places)?;
+        let count = pointers.len() as u64;
+        let progress = first_progress(alloc, main, start, memory, count, last_of(pointers))?;
         Ok(Machine {
-            program: p,
-            functions,
+            look,
             progress,
             failed: false,
             alloc,
@@ -83,7 +110,7 @@ impl<'p> Machine<'p> {
         if self.failed {
             return Err(StepFault::Failed);
         }
-        match advance(self.alloc, self.program, &mut self.progress, entry) {
+        match advance(self.alloc, &self.look, &mut self.progress, entry) {
             Ok(()) => Ok(Turn::behind(self.progress.verdict)),
             Err(StepFault::Memory) => {
                 self.failed = true;

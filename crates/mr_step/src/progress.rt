@@ -1,20 +1,29 @@
-ghost use Rattle.std.specs.Prelude.{◌≡◌, ◌+◌, ◌<◌, ◌≤◌, ◌^◌, [], ◌∷◌, length, OnOk, IfOk, if◌then◌else◌};
-ghost use Rattle.mr_ast.specs.declared.program.Function.{Function};
+ghost use Rattle.std.specs.Prelude.{◌≡◌, ◌+◌, ◌<◌, ◌≤◌, ◌^◌, [], ◌∷◌, None, OnOk, if◌then◌else◌, length};
+ghost use Rattle.mr_ast.specs.declared.program.Program.{Program};
+ghost use Rattle.mr_ast.specs.declared.program.Stmt.TheVariants as stmt;
+ghost use Rattle.mr_base.specs.declared.reason.Verdict.TheVariants.{Running};
+ghost use Rattle.mr_eval.specs.Answers.{seen};
 ghost use Rattle.mr_mem.specs.Memory.{leaks, pick_fault, IsPowerOfTwo};
-ghost use Rattle.mr_step.specs.declared.action.Action.TheVariants as act;
-ghost use Rattle.mr_step.specs.Actions.{frame_of, action_asks, IsAtStatement, ActionFits};
-ghost use Rattle.mr_step.specs.Language.{number_text};
-ghost use Rattle.mr_step.specs.Progress.{Leads, IsSound, IsPossible, ActAnswer};
+ghost use Rattle.mr_step.specs.Frames.{AtStatement, AtTerminator, GoesOn, IsBeforeEnd, due_of, frame_of, look_at};
+ghost use Rattle.mr_step.specs.Inside.{IsChange, ending_of};
+ghost use Rattle.mr_step.specs.Language.{dead as dead_script, live as live_script};
+ghost use Rattle.mr_step.specs.Progress.{ActAnswer, Finishes, IsDue, IsSound, IsSoundWhile, Leads, due_asks, due_script};
 ghost use Rattle.mr_step.specs.Standing.{AreCounted};
+ghost use Rattle.mr_step.specs.Start.{main_thread};
 
-use crate::action::{Action, Frame};
+use crate::changes::change;
+use crate::endings::{Ending, decide};
 use crate::fault::StepFault;
+use crate::frame::{Frame, Next, local_at};
+use crate::look::Look;
 use crate::picks::{EXTRA_PICK, broken, one_address};
 use crate::storage::{release, renew};
-use itoa::Buffer;
-use mr_ast::Num;
-use mr_base::{Pointer, Verdict};
-use mr_mem::{Fault, Memory};
+use crate::types::{byte_align, byte_size};
+use mr_ast::{Function, LocalName, Stmt, Term};
+use mr_base::Verdict;
+use mr_eval::{Fault, Notes};
+use mr_mem::Memory;
+use mr_track::Accesses;
 use std::alloc::{AllocError, Global};
 
 /// A print of a thread.
@@ -32,48 +41,25 @@ pub struct Progress {
     /// How many allocations the thread has made.
     pub count: u64,
     pub output: Vec<Line>,
+    /// The accesses of the last completed step.
+    pub last: Option<Accesses>,
     /// How many steps were completed.
     pub completed: u64,
     pub verdict: Verdict,
 }
 
-impl Frame {
-    ghost use Rattle.std.specs.Prelude.{◌≡◌, ◌+◌, ◌<◌, ◌^◌, length, slice_get, slice_set, Some};
-    ghost use Rattle.mr_step.specs.Actions.{frame_of};
+impl Progress {
+    ghost use Rattle.std.specs.Prelude.{◌≡◌, ◌+◌, ◌<◌, ◌^◌, Some};
 
-    /// The storage of a local.
-    pub fn storage_of(&self, local: u32) -> Option<Pointer>
-        requires { local < length self.now.locals.items }
-        ensures { slice_get self.now.locals.items local ≡ Some result }
+    // A step with these notes was completed.
+    fn complete(&mut self, notes: Notes)
+        requires { self.old.completed < 2 ^ 32 }
+        ensures { self.new ≡ record self.old { last = Some notes.accesses; completed = self.old.completed + 1 } }
     {
-        self.locals[local as usize]
+        let Notes { accesses, .. } = notes;
+        self.last = Some(accesses);
+        self.completed += 1;
     }
-
-    /// To the next statement, a local having this storage or none.
-    pub fn advance(&mut self, local: u32, storage: Option<Pointer>)
-        requires local { local < length self.old.locals.items }
-        requires room { self.old.at + 1 < 2 ^ 64 }
-        ensures { frame_of self.new ≡ record (frame_of self.old) { locals = slice_set self.old.locals.items local storage; at = self.old.at + 1 } }
-    {
-        self.locals[local as usize] = storage;
-        self.at += 1;
-    }
-
-    /// To the start of a block.
-    pub fn jump(&mut self, block: u32)
-        ensures { frame_of self.new ≡ record (frame_of self.old) { block = block; at = 0 } }
-    {
-        self.block = block;
-        self.at = 0;
-    }
-}
-
-/// The end of the run.
-pub fn exit(p: &mut Progress)
-    ensures leads { Leads act.Exit [] p.old p.new }
-    ensures sound { (fn : Function) → IsSound fn p.old → IsSound fn p.new }
-{
-    p.verdict = end_of(&p.memory);
 }
 
 // An exit while a heap allocation is live is a leak.
@@ -87,49 +73,13 @@ fn end_of(memory: &Memory) -> Verdict
     }
 }
 
-/// On to a block.
-pub fn goto(p: &mut Progress, block: u32)
-    requires { p.old.completed < 2 ^ 32 }
-    ensures leads { Leads (act.Goto block) [] p.old p.new }
-    ensures sound { (fn : Function) → IsSound fn p.old → block < length fn.blocks → IsSound fn p.new }
-{
-    p.frame.jump(block);
-    p.completed += 1;
-}
-
-/// A number is printed, and it goes on to a block.
-pub fn print(alloc: Global, p: &mut Progress, number: Num, block: u32) -> Result<(), AllocError>
-    requires { p.old.completed < 2 ^ 32 }
-    ensures leads { OnOk result (Leads (act.Print number block) [] p.old p.new) }
-    ensures sound { (fn : Function) → IsSound fn p.old → block < length fn.blocks → IsSound fn p.new }
-{
-    let text = decimal_text(alloc, number)?;
-    p.output.push(Line { thread: 0, text })?;
-    p.frame.jump(block);
-    p.completed += 1;
-    Ok(())
-}
-
-// The number in decimal, with its sign.
-fn decimal_text(alloc: Global, number: Num) -> Result<Vec<u8>, AllocError>
-    ensures { IfOk result (λ text. text.items ≡ number_text number) }
-{
-    let mut buffer = Buffer::new();
-    let mut text = Vec::new(alloc);
-    if number.neg {
-        text.push(b'-')?;
-    }
-    text.extend_from_slice(buffer.format(number.mag).as_bytes())?;
-    Ok(text)
-}
-
 /// The storage of a local goes. Size and alignment are in bytes.
-pub fn dead(p: &mut Progress, local: u32, size: u64, align: u64)
+pub fn dead(alloc: Global, p: &mut Progress, local: u32, size: u64, align: u64)
     requires steps { p.old.completed < 2 ^ 32 }
     requires local { local < length p.old.frame.locals.items }
     requires room { p.old.frame.at + 1 < 2 ^ 64 }
-    ensures leads { Leads (act.Dead local size align) [] p.old p.new }
-    ensures sound { (fn : Function) → IsSound fn p.old → IsAtStatement fn (frame_of p.old.frame) → IsSound fn p.new }
+    ensures leads { Leads (dead_script (main_thread (frame_of p.old.frame)) [] (frame_of p.old.frame) local size align) [] p.old p.new }
+    ensures sound { (program : Program) → IsSound program p.old → IsBeforeEnd program (frame_of p.old.frame) → IsSoundWhile program p.new }
 {
     let storage = p.frame.storage_of(local);
     match release(&mut p.memory, storage, size, align) {
@@ -137,14 +87,15 @@ pub fn dead(p: &mut Progress, local: u32, size: u64, align: u64)
             p.verdict = Verdict::Undefined(reason);
         }
         Ok(_) => {
-            p.frame.advance(local, None);
-            p.completed += 1;
+            p.frame.set_storage(local, None);
+            p.complete(Notes::new(alloc));
         }
     }
 }
 
 /// A local gets new storage at the picked address. Size and alignment are in bytes.
 pub fn live(
+    alloc: Global,
     p: &mut Progress,
     local: u32,
     size: u64,
@@ -152,15 +103,15 @@ pub fn live(
     addr: u64,
 ) -> Result<(), AllocError>
     requires steps { p.old.completed < 2 ^ 32 }
-    requires count { p.old.count ≤ p.old.completed + 2 }
+    requires count { p.old.count ≤ p.old.completed + 513 }
     requires local { local < length p.old.frame.locals.items }
     requires room { p.old.frame.at + 1 < 2 ^ 64 }
     requires counted { AreCounted p.old.memory p.old.count }
     requires lawful { pick_fault p.old.memory addr size align ≡ None }
     requires size { size < 2 ^ 63 }
     requires align { IsPowerOfTwo align }
-    ensures leads { OnOk result (Leads (act.Live local size align) (addr ∷ []) p.old p.new) }
-    ensures sound { (fn : Function) → IsSound fn p.old → IsAtStatement fn (frame_of p.old.frame) → OnOk result (IsSound fn p.new) }
+    ensures leads { OnOk result (Leads (live_script (main_thread (frame_of p.old.frame)) [] (frame_of p.old.frame) local size align) (addr ∷ []) p.old p.new) }
+    ensures sound { (program : Program) → IsSound program p.old → IsBeforeEnd program (frame_of p.old.frame) → OnOk result (IsSoundWhile program p.new) }
 {
     let storage = p.frame.storage_of(local);
     match renew(&mut p.memory, storage, p.count, size, align, addr) {
@@ -170,52 +121,170 @@ pub fn live(
             Ok(())
         }
         Ok(pointer) => {
-            p.frame.advance(local, Some(pointer));
+            p.frame.set_storage(local, Some(pointer));
             p.count += 1;
-            p.completed += 1;
+            p.complete(Notes::new(alloc));
             Ok(())
         }
     }
 }
 
-/// The step of an action with these picks.
-pub fn act(alloc: Global, p: &mut Progress, action: Action, picks: &[u64]) -> Result<(), StepFault>
-    requires steps { p.old.completed < 2 ^ 32 }
-    requires count { p.old.count ≤ p.old.completed + 2 }
-    requires counted { AreCounted p.old.memory p.old.count }
-    requires possible { IsPossible p.old action }
-    ensures answer { ActAnswer action picks.now p.old p.new result }
-    ensures sound { (fn : Function) → IsSound fn p.old → ActionFits fn (frame_of p.old.frame) action → OnOk result (IsSound fn p.new) }
+// `live` of a local, at the one address that is picked.
+fn make_live(
+    alloc: Global,
+    look: &Look<'_>,
+    f: &Function,
+    p: &mut Progress,
+    x: LocalName,
+    picks: &[u64],
+) -> Result<(), StepFault>
+    requires { IsDue look.now f.now p.old (AtStatement (stmt.Live x)) }
+    ensures answer { ActAnswer (due_script (look_at look.now) f.now (frame_of p.old.frame) (AtStatement (stmt.Live x))) (due_asks f.now (AtStatement (stmt.Live x))) picks.now p.old p.new result }
+    ensures sound { OnOk result (IsSoundWhile look.now.program.now p.new) }
 {
-    if let Action::Live { local, size, align } = action {
-        let addr = match one_address(&p.memory, size, align, picks) {
-            Ok(addr) => addr,
-            Err(fault) => return Err(fault),
-        };
-        live(p, local, size, align, addr)?;
-        return Ok(());
+    let t = &local_at(f, x).ty;
+    let (size, align) = (byte_size(t), byte_align(t));
+    let addr = match one_address(&p.memory, size, align, picks) {
+        Ok(addr) => addr,
+        Err(fault) => return Err(fault),
+    };
+    match live(alloc, p, x.0, size, align, addr) {
+        Ok(()) => Ok(()),
+        Err(_) => Err(StepFault::Memory),
+    }
+}
+
+// `dead` of a local.
+fn make_dead(alloc: Global, look: &Look<'_>, f: &Function, p: &mut Progress, x: LocalName)
+    requires { IsDue look.now f.now p.old (AtStatement (stmt.Dead x)) }
+    ensures leads { Leads (due_script (look_at look.now) f.now (frame_of p.old.frame) (AtStatement (stmt.Dead x))) [] p.old p.new }
+    ensures sound { IsSoundWhile look.now.program.now p.new }
+{
+    let t = &local_at(f, x).ty;
+    dead(alloc, p, x.0, byte_size(t), byte_align(t));
+}
+
+// A statement that changes memory.
+fn change_memory(
+    alloc: Global,
+    look: &Look<'_>,
+    f: &Function,
+    p: &mut Progress,
+    s: &Stmt,
+) -> Result<(), AllocError>
+    requires due { IsDue look.now f.now p.old (AtStatement s.now) }
+    requires kind { IsChange s.now }
+    ensures leads { OnOk result (Leads (due_script (look_at look.now) f.now (frame_of p.old.frame) (AtStatement s.now)) [] p.old p.new) }
+    ensures sound { OnOk result (IsSoundWhile look.now.program.now p.new) }
+{
+    let mut notes = Notes::new(alloc);
+    let env = look.env(&p.frame);
+    match change(alloc, &env, &mut p.memory, &mut notes, s) {
+        Err(Fault::Memory) => Err(AllocError),
+        Err(Fault::Undefined(reason)) => {
+            p.verdict = Verdict::Undefined(reason);
+            Ok(())
+        }
+        Ok(()) => {
+            p.frame.step_on();
+            p.complete(notes);
+            Ok(())
+        }
+    }
+}
+
+// A statement that asks for nothing.
+fn act(
+    alloc: Global,
+    look: &Look<'_>,
+    f: &Function,
+    p: &mut Progress,
+    s: &Stmt,
+) -> Result<(), AllocError>
+    requires due { IsDue look.now f.now p.old (AtStatement s.now) }
+    requires asks { due_asks f.now (AtStatement s.now) ≡ [] }
+    ensures leads { OnOk result (Leads (due_script (look_at look.now) f.now (frame_of p.old.frame) (AtStatement s.now)) [] p.old p.new) }
+    ensures sound { OnOk result (IsSoundWhile look.now.program.now p.new) }
+{
+    match s {
+        Stmt::Live(_) => unreachable!(),
+        Stmt::Dead(x) => {
+            make_dead(alloc, look, f, p, *x);
+            Ok(())
+        }
+        _ => change_memory(alloc, look, f, p, s),
+    }
+}
+
+// What is done behind the decision of a terminator.
+fn finish(p: &mut Progress, ending: Ending, notes: Notes) -> Result<(), AllocError>
+    requires steps { p.old.completed < 2 ^ 32 }
+    requires running { p.old.verdict ≡ Running }
+    ensures finishes { OnOk result (Finishes (ending_of ending) (seen notes) p.old p.new) }
+    ensures sound { (program : Program) → IsSound program p.old → GoesOn program (frame_of p.old.frame) (ending_of ending) → OnOk result (IsSoundWhile program p.new) }
+{
+    match ending {
+        Ending::Goto(block) => {
+            p.frame.jump(block);
+            p.complete(notes);
+        }
+        Ending::Print(text, block) => {
+            p.output.push(Line { thread: 0, text })?;
+            p.frame.jump(block);
+            p.complete(notes);
+        }
+        Ending::Exit => p.verdict = end_of(&p.memory),
+        Ending::Abort => p.verdict = Verdict::Abort,
+    }
+    Ok(())
+}
+
+// A terminator.
+fn end_block(
+    alloc: Global,
+    look: &Look<'_>,
+    f: &Function,
+    p: &mut Progress,
+    t: &Term,
+) -> Result<(), AllocError>
+    requires { IsDue look.now f.now p.old (AtTerminator t.now) }
+    ensures leads { OnOk result (Leads (due_script (look_at look.now) f.now (frame_of p.old.frame) (AtTerminator t.now)) [] p.old p.new) }
+    ensures sound { OnOk result (IsSoundWhile look.now.program.now p.new) }
+{
+    let mut notes = Notes::new(alloc);
+    let env = look.env(&p.frame);
+    match decide(alloc, &env, &p.memory, &mut notes, t) {
+        Err(Fault::Memory) => Err(AllocError),
+        Err(Fault::Undefined(reason)) => {
+            p.verdict = Verdict::Undefined(reason);
+            Ok(())
+        }
+        Ok(ending) => finish(p, ending, notes),
+    }
+}
+
+/// What is due, with these picks.
+pub fn perform(
+    alloc: Global,
+    look: &Look<'_>,
+    f: &Function,
+    p: &mut Progress,
+    next: Next<'_>,
+    picks: &[u64],
+) -> Result<(), StepFault>
+    requires { IsDue look.now f.now p.old (due_of next) }
+    ensures answer { ActAnswer (due_script (look_at look.now) f.now (frame_of p.old.frame) (due_of next.entry)) (due_asks f.now (due_of next.entry)) picks.now p.old p.new result }
+    ensures sound { OnOk result (IsSoundWhile look.now.program.now p.new) }
+{
+    if let Next::Statement(Stmt::Live(x)) = next {
+        return make_live(alloc, look, f, p, *x, picks);
     }
     if !picks.is_empty() {
         return Err(broken(EXTRA_PICK));
     }
-    act_without_picks(alloc, p, action)?;
-    Ok(())
-}
-
-// The step of an action that asks for nothing.
-fn act_without_picks(alloc: Global, p: &mut Progress, action: Action) -> Result<(), AllocError>
-    requires asks { action_asks action ≡ [] }
-    requires steps { p.old.completed < 2 ^ 32 }
-    requires possible { IsPossible p.old action }
-    ensures leads { OnOk result (Leads action [] p.old p.new) }
-    ensures sound { (fn : Function) → IsSound fn p.old → ActionFits fn (frame_of p.old.frame) action → OnOk result (IsSound fn p.new) }
-{
-    match action {
-        Action::Live { .. } => unreachable!(),
-        Action::Dead { local, size, align } => dead(p, local, size, align),
-        Action::Goto(block) => goto(p, block),
-        Action::Print(number, block) => print(alloc, p, number, block)?,
-        Action::Exit => exit(p),
+    match next {
+        Next::Statement(s) => act(alloc, look, f, p, s)?,
+        Next::Terminator(t) => end_block(alloc, look, f, p, t)?,
     }
     Ok(())
 }

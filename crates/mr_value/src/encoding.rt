@@ -54,8 +54,8 @@ fn append_bool(truth: bool, out: &mut Vec<AbstractByte>) -> Result<(), OutOfMemo
     Ok(())
 }
 
-// The bits of a number that fits the integer type.
-fn bits_of_number(int: IntType, number: Num) -> u128
+/// The bits of a number that fits the integer type.
+pub fn bits_of_number(int: IntType, number: Num) -> u128
     requires { is_fitting int number ≡ true }
     ensures { result ≡ bits_of_number int number }
 {

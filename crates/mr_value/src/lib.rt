@@ -32,12 +32,13 @@ mod val;
 mod walking;
 
 pub use decoding::decode;
-pub use encoding::encode;
+pub use encoding::{bits_of_number, encode};
 pub use laws::{has_shape, one_value, reads_back};
 pub use mr_ast::{Boxed, Items};
 pub use scalars::decode_scalar;
 pub use std::alloc::AllocError as OutOfMemory;
 pub use val::Val;
+pub use walking::number_of_bits;
 
 #[cfg(test)]
 mod tests;

@@ -35,7 +35,7 @@ pub(crate) fn highest_bit(int: IntType) -> u128
 }
 
 /// The number that an integer's bits mean.
-pub(crate) fn number_of_bits(int: IntType, bits: u128) -> Num
+pub fn number_of_bits(int: IntType, bits: u128) -> Num
     requires { bits < 2 ^ (8 * int_size int) }
     ensures { result ≡ number_of_bits int bits }
 {

@@ -49,8 +49,8 @@ fn there(code: u8, found: Option<&Ty>) -> Result<&Ty, Broken>
     found.ok_or(Broken::Rule(code))
 }
 
-// The type of the local of this name.
-fn local_type(locals: &[Local], x: LocalName) -> Option<&Ty>
+/// The type of the local of this name.
+pub fn local_type(locals: &[Local], x: LocalName) -> Option<&Ty>
     ensures { option_copied result ≡ option_map (λ l. l.ty) (slice_get locals.now x.0) }
 {
     match locals.get(x.0 as usize) {
@@ -317,15 +317,8 @@ pub fn judged_values<'p>(
 fn result_type<'p>(op: BinaryOp, left: Known<'p>) -> Result<Known<'p>, Broken>
     ensures { Gives ty_of result (there 34 (result_type op (ty_of left.entry))) }
 {
-    match op {
-        BinaryOp::Eq | BinaryOp::Ne | BinaryOp::Lt | BinaryOp::Le | BinaryOp::Gt | BinaryOp::Ge =>
-            Ok(Known::Bool),
-        BinaryOp::AddOverflow | BinaryOp::SubOverflow | BinaryOp::MulOverflow => {
-            match left.integer() {
-                Some(int) => Ok(Known::Overflow(int)),
-                None => Err(Broken::Rule(34)),
-            }
-        }
-        _ => Ok(left),
+    match left.under(op) {
+        Some(t) => Ok(t),
+        None => Err(Broken::Rule(34)),
     }
 }

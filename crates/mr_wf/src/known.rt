@@ -1,12 +1,12 @@
-ghost use Rattle.std.specs.Prelude.{◌≡◌, ◌^◌, nat_lt, if◌then◌else◌};
+ghost use Rattle.std.specs.Prelude.{◌≡◌, ◌^◌, nat_lt, if◌then◌else◌, option_map};
 ghost use Rattle.mr_ast.specs.declared.types.Ty.{out-Ty};
 ghost use Rattle.mr_layout.specs.Sizes.{size_of};
 ghost use Rattle.mr_wf.specs.Known.{are_overflow_fields, is_overflow_layer, ty_of};
 ghost use Rattle.mr_wf.specs.SameTypes.{same_type};
-ghost use Rattle.mr_wf.specs.Types.{integer_of, overflow_type};
+ghost use Rattle.mr_wf.specs.Types.{integer_of, overflow_type, result_type};
 ghost use Rattle.mr_wf.specs.Operands.{is_bool, is_fn_ptr, is_int, is_pointer, is_raw, is_ref, is_scalar_number};
 
-use mr_ast::{IntType, Ty};
+use mr_ast::{BinaryOp, IntType, Ty};
 use mr_layout::{int_bytes, size};
 
 /// The type of a value: as the program writes it, or one that it need not write.
@@ -119,6 +119,27 @@ impl<'p> Known<'p> {
             Known::Bool => Some(1),
             Known::Raw | Known::FnPtr => Some(8),
             Known::Overflow(i) => Some(2 * int_bytes(i)),
+        }
+    }
+
+    /// What an operator gives, where this is the type of its left operand.
+    pub fn under(self, op: BinaryOp) -> Option<Known<'p>>
+        ensures { option_map ty_of result ≡ result_type op (ty_of self.entry) }
+    {
+        match op {
+            BinaryOp::Eq
+            | BinaryOp::Ne
+            | BinaryOp::Lt
+            | BinaryOp::Le
+            | BinaryOp::Gt
+            | BinaryOp::Ge => Some(Known::Bool),
+            BinaryOp::AddOverflow | BinaryOp::SubOverflow | BinaryOp::MulOverflow => {
+                match self.integer() {
+                    Some(int) => Some(Known::Overflow(int)),
+                    None => None,
+                }
+            }
+            _ => Some(self),
         }
     }
 

@@ -26,4 +26,7 @@ mod walk;
 
 pub use checked::{Checked, well_formed};
 pub use fault::{FormFault, Item, WfFault};
+pub use judging::local_type;
+pub use known::Known;
 pub use laws::{equal_types, has_type, keeps_rules, place_has_type, writes_sound_types};
+pub use parts::{discriminant, element, field, variant};

@@ -14,18 +14,12 @@ use self::terminators::{
     TERMINATORS,
 };
 use self::types::{ENUM_TYPES, FAULTY_TWICE, LOCAL, SOUND_TYPES, TYPES};
-use super::{answer_of_check, answer_over, both, words_of};
+use super::{answer_of_check, answer_over, between, both, words_of};
 use crate::mirace;
 use mr_io::{Drawer, OutOfMemory, Tray};
 use std::alloc::Global;
 use std::process::Abort;
 use std::test::Fail;
-
-// The text between a head and a tail.
-fn between(alloc: Global, frame: (&str, &str), piece: &str) -> Result<String, OutOfMemory> {
-    let (head, tail) = frame;
-    format!(in alloc; "{head}{piece}{tail}")
-}
 
 // Each program is told its line.
 fn expect_told(rt: &(impl AllocGlobal + Abort), table: &[(&str, &str)]) -> Result<(), Fail> {

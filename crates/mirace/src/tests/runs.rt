@@ -13,6 +13,36 @@ const TWICE: &str =
 const EMPTY: &str =
     "minirust 1\nfn main() -> r {\nlet r: unit, a: unit, c: unit;\nb0 regular: live a; live c; exit;\n}\nmain main\n";
 
+// A local without storage is written to.
+const DEAD: &str =
+    "minirust 1\nfn main() -> r {\nlet r: unit, x: u8;\nb0 regular: x = u8 1; exit;\n}\nmain main\n";
+
+// The main function returns.
+const RETURN: &str =
+    "minirust 1\nfn main() -> r {\nlet r: unit;\nb0 regular: return;\n}\nmain main\n";
+
+#[test]
+fn undefined_runs_are_reported(rt: HostRuntime) -> Result<(), Fail> {
+    let runs = [
+        (
+            DEAD,
+            "schedule 1\nstart 16 32\n0\n",
+            "verdict undefined 102 DeadLocal\nraces 0\n",
+        ),
+        (
+            RETURN,
+            "schedule 1\nstart 16 4096\n0\n",
+            "verdict undefined 120 MainReturned\nraces 0\n",
+        ),
+    ];
+    for (program, schedule, text) in runs {
+        let (out, status) = answer_of_run(rt.alloc(), program, schedule)?;
+        assert_eq!(rt; out.taken(), text.as_bytes());
+        assert_eq!(rt; status, 1);
+    }
+    Ok(())
+}
+
 #[test]
 fn runs_are_reported(rt: HostRuntime) -> Result<(), Fail> {
     let runs = [

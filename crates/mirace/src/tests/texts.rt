@@ -1,4 +1,4 @@
-use super::{EXIT, answer_of_check, answer_of_run, answer_over};
+use super::{EXIT, answer_of_check, answer_of_run, answer_over, between};
 use mr_io::{Drawer, OutOfMemory, Tray};
 use std::alloc::Global;
 use std::test::Fail;
@@ -7,9 +7,52 @@ use std::test::Fail;
 const CANONICAL_EXIT: &str =
     "minirust 1\nfn main ( ) -> r {\nlet r : unit ;\nb0 regular :\nexit ;\n}\nmain main\n";
 
-// The program of one block that returns.
-const RETURN: &str =
-    "minirust 1\nfn main() -> r {\nlet r: unit;\nb0 regular: return;\n}\nmain main\n";
+// Around the rest of the first block of the main function, and further blocks of it.
+const UNBUILT: (&str, &str) = (
+    "minirust 1
+fn f ( p ) -> r {
+let p : raw , r : unit ;
+b0 regular :
+exit ;
+}
+fn main ( ) -> r {
+let r : unit , p : raw , t : u32 ;
+b0 regular :
+",
+    " ;
+b1 regular :
+exit ;
+}
+main main
+",
+);
+
+// Terminators that the machine doesn't run so far.
+const UNBUILT_TERMINATORS: [&str; 23] = [
+    "call fn f ( raw 0 ) -> r to b1",
+    "call fn f ( raw 0 ) -> r",
+    "call load ( deref ( load ( p ) , fnptr ) ) ( ) -> t to b1",
+    "unwind raw 0 to c ;\nc cleanup :\nexit",
+    "exit ;\nc cleanup :\nresume",
+    "exit ;\nc catch :\nstop to b1",
+    "do allocate ( u64 1 , u64 1 ) -> p to b1",
+    "do deallocate ( load ( p ) , u64 1 , u64 1 ) to b1",
+    "do spawn ( fn f , raw 0 ) -> t to b1",
+    "do join ( u32 0 ) to b1",
+    "do create_lock ( ) -> t to b1",
+    "do acquire ( u32 0 ) to b1",
+    "do release ( u32 0 ) to b1",
+    "do atomic_store ( load ( p ) , u8 0 ) to b1",
+    "do atomic_load ( load ( p ) ) -> t to b1",
+    "do compare_exchange ( load ( p ) , u32 0 , u32 1 ) -> t to b1",
+    "do fetch_add ( load ( p ) , u32 1 ) -> t to b1",
+    "do fetch_sub ( load ( p ) , u32 1 ) -> t to b1",
+    "do fetch_and ( load ( p ) , u32 1 ) -> t to b1",
+    "do fetch_or ( load ( p ) , u32 1 ) -> t to b1",
+    "do fetch_xor ( load ( p ) , u32 1 ) -> t to b1",
+    "do payload ( ) -> p to b1",
+    "goto b2 ;\nb2 regular :\ndo release ( u32 0 ) to b1",
+];
 
 // Texts that denote no program, and what each is told.
 const REFUSED: [(&str, &str); 7] = [
@@ -106,13 +149,29 @@ fn long_texts_are_told(rt: HostRuntime) -> Result<(), Fail> {
 
 #[test]
 fn what_is_not_built_is_told_by_run(rt: HostRuntime) -> Result<(), Fail> {
-    let (out, status) = answer_of_run(rt.alloc(), RETURN, "no schedule")?;
+    for terminator in UNBUILT_TERMINATORS {
+        let program = between(rt.alloc(), UNBUILT, terminator)?;
+        let (out, status) = answer_of_run(rt.alloc(), program.as_str(), "no schedule")?;
+        assert_eq!(rt;
+            out.taken(),
+            b"text 1 1 90 NotBuilt\n".as_slice(),
+            "{terminator}"
+        );
+        assert_eq!(rt; status, 3);
+        let (checked, checks) = answer_of_check(rt.alloc(), program.as_str())?;
+        assert_eq!(rt; checked.taken(), program.as_bytes(), "{terminator}");
+        assert_eq!(rt; checks, 0);
+    }
+    Ok(())
+}
+
+// A function that isn't built is told also where nothing calls it.
+#[test]
+fn what_is_not_built_is_told_of_each_function(rt: HostRuntime) -> Result<(), Fail> {
+    let program =
+        "minirust 1\nfn f() -> r {\nlet r: unit;\nb0 regular: exit;\nc cleanup: resume;\n}\nfn main() -> r {\nlet r: unit;\nb0 regular: exit;\n}\nmain main\n";
+    let (out, status) = answer_of_run(rt.alloc(), program, "schedule 1\nstart 16 17 32\n0\n")?;
     assert_eq!(rt; out.taken(), b"text 1 1 90 NotBuilt\n".as_slice());
     assert_eq!(rt; status, 3);
-    let canonical =
-        b"minirust 1\nfn main ( ) -> r {\nlet r : unit ;\nb0 regular :\nreturn ;\n}\nmain main\n";
-    let (checked, checks) = answer_of_check(rt.alloc(), RETURN)?;
-    assert_eq!(rt; checked.taken(), canonical.as_slice());
-    assert_eq!(rt; checks, 0);
     Ok(())
 }

@@ -203,10 +203,10 @@ main main
 
 // Programs that break a rule and that the machine doesn't run yet.
 pub const UNBUILT: [&str; 6] = [
-    "minirust 1\nfn main() -> r {\nlet r: unit;\nb0 regular: goto c;\nc cleanup: exit;\n}\nmain main\n",
-    "minirust 1\nfn main() -> r {\nlet r: unit;\nb0 cleanup: exit;\n}\nmain main\n",
-    "minirust 1\nfn main(a) -> r {\nlet r: unit, a: u8;\nb0 regular: exit;\n}\nmain main\n",
-    "minirust 1\nfn main() -> r {\nlet r: unit;\nb0 regular: live r; exit;\n}\nmain main\n",
-    "minirust 1\nfn main() -> r {\nlet r: unit;\nb0 regular: do print(i8 200) to b1;\nb1 regular: exit;\n}\nmain main\n",
-    "minirust 1\nglobal g align 3 { }\nfn main() -> r {\nlet r: unit;\nb0 regular: exit;\n}\nmain main\n",
+    "minirust 1\nfn main() -> r {\nlet r: unit;\nb0 regular: goto c;\nc cleanup: resume;\n}\nmain main\n",
+    "minirust 1\nfn main() -> r {\nlet r: unit;\nb0 cleanup: resume;\n}\nmain main\n",
+    "minirust 1\nfn main(a) -> r {\nlet r: unit, a: u8;\nb0 regular: call fn main(u8 1) -> r to b0;\n}\nmain main\n",
+    "minirust 1\nfn main() -> r {\nlet r: unit;\nb0 regular: live r; unwind raw 0 to c;\nc cleanup: exit;\n}\nmain main\n",
+    "minirust 1\nfn main() -> r {\nlet r: unit, t: u32;\nb0 regular: do print(i8 200) to b1;\nb1 regular: do create_lock() -> t to b1;\n}\nmain main\n",
+    "minirust 1\nglobal g align 3 { }\nfn main() -> r {\nlet r: unit;\nb0 regular: exit;\nc catch: stop to b0;\n}\nmain main\n",
 ];

@@ -1,65 +1,53 @@
-use Rattle.std.proofs.Common.{sym, ap, ◌∙◌, subst, List, [], ◌∷◌}
-use Rattle.std.specs.FinMap as fin
-use Rattle.mr_base.specs.declared.byte.Kind.TheVariants.{Function, Stack}
-use Rattle.mr_mem.specs.Memory.{Memory, pick_fault, allocated}
-use Rattle.mr_sched.specs.declared.schedule.Ask.{Ask}
-use Rattle.mr_sched.specs.declared.schedule.Ask.TheVariants.{Address}
+use Rattle.std.proofs.Common.{◌≡◌, ℕ, List, [], ◌∷◌, ◌++◌, ap, ap₂, sym, subst, ◌∙◌, drop, get_or, map, arith, ◌+◌}
+use Rattle.mr_base.specs.declared.byte.Kind.TheVariants.{Heap}
+use Rattle.mr_base.specs.declared.byte.Pointer.{Pointer}
+use Rattle.mr_mem.specs.Memory.{Memory, allocated}
+use Rattle.mr_step.specs.declared.pieces.Piece.{Piece as Made}
+use Rattle.mr_step.specs.Begin.{piece_of}
 use Rattle.mr_step.specs.MemoryQueries.{pointer_to}
-use Rattle.mr_step.specs.Begin.{begin_fault}
-use Rattle.mr_step.specs.Picks.{Tells, fault_over}
-use Rattle.mr_step.specs.Standing.{own_id, AreCounted}
-use Rattle.mr_step.proofs.Counted.{next_is_new, counted_allocated, none_counted}
-use Rattle.mr_step.proofs.Starting.{begin_refused, over_empty, behind_function, none_left}
+use Rattle.mr_step.specs.Picks.{fault_over}
+use Rattle.mr_step.specs.Standing.{AreCounted, own_id}
+use Rattle.mr_step.specs.Start.{Piece, ask_of, placed}
+use Rattle.mr_step.proofs.Counted.{none_counted}
+use Rattle.mr_step.proofs.Starting.{counted_next, fault_next, memory_next, over_empty, piece_at, pointers_next}
 use Rattle.mr_step.proofs.begin.begin.Goals as goal
 
-pub returns-in-Err : goal.returns-in-Err
-returns-in-Err c =
-    let rest : List Ask = Address c.args.size c.args.align ∷ [] in
-    let over = ap (λ (m : Memory). fault_over m 0 (Address 1 1 ∷ rest) c.args.picks.now) c.new-memory.ensures ∙ over_empty (Address 1 1 ∷ rest) c.args.picks.now in
-    begin_refused c.args.size c.args.align c.args.picks.now c.in-Err.fault (subst (Tells c.in-Err.fault) over (c.in-Err.ensures rest 0))
-
-pub allocate-requires-clause-new : goal.allocate-requires-clause-new
-allocate-requires-clause-new c =
-    let empty : Memory = fin.empty in
-    ap (λ (m : Memory). fin.get m c.own-first.result) c.new-memory.ensures ∙ ap (fin.get empty) c.own-first.ensures ∙ next_is_new empty 0 none_counted
-
-pub returns-in-Err-one_address : goal.returns-in-Err-one_address
-returns-in-Err-one_address c =
-    let code = c.in-Ok.first.0 in
-    let size = c.args.size in
-    let align = c.args.align in
-    let made = c.in_ok-allocate.ensures.ok ∙ ap (λ (m : Memory). allocated m c.own-first.result Function 1 1 code) c.new-memory.ensures ∙ ap (λ i. allocated fin.empty i Function 1 1 code) c.own-first.ensures in
-    let lawful = ap (λ (m : Memory). pick_fault m code 1 1) (sym c.new-memory.ensures) ∙ c.in-Ok.ensures.1 in
-    let over = ap (begin_fault size align) c.in-Ok.ensures.0 ∙ behind_function size align code c.in-Ok.first.1.now c.allocate.new.self made lawful in
-    begin_refused size align c.args.picks.now c.in-Err-one_address.fault (subst (Tells c.in-Err-one_address.fault) (sym over) (c.in-Err-one_address.ensures 1))
-
-pub allocate-requires-2-clause-new : goal.allocate-requires-2-clause-new
-allocate-requires-2-clause-new c =
-    let code = c.in-Ok.first.0 in
-    let made = c.in_ok-allocate.ensures.ok ∙ ap (λ (m : Memory). allocated m c.own-first.result Function 1 1 code) c.new-memory.ensures ∙ ap (λ i. allocated fin.empty i Function 1 1 code) c.own-first.ensures in
-    let P : Memory → Type 0 = λ m. AreCounted m 1 in
-    let counted : AreCounted c.allocate.new.self 1 = subst P (sym made) (counted_allocated fin.empty 0 Function 1 1 code none_counted) in
-    ap (fin.get c.allocate.new.self) c.own-second.ensures ∙ next_is_new c.allocate.new.self 1 counted
-
-pub returns : goal.returns
-returns c =
-    let code = c.in-Ok.first.0 in
-    let place = c.in-Ok-one_address.place in
-    let size = c.args.size in
-    let align = c.args.align in
-    let made = c.in_ok-allocate.ensures.ok ∙ ap (λ (m : Memory). allocated m c.own-first.result Function 1 1 code) c.new-memory.ensures ∙ ap (λ i. allocated fin.empty i Function 1 1 code) c.own-first.ensures in
-    let lawful = ap (λ (m : Memory). pick_fault m code 1 1) (sym c.new-memory.ensures) ∙ c.in-Ok.ensures.1 in
+pub loop-count-init : goal.loop-count-init
+loop-count-init c =
+    let pieces = map piece_of c.args.pieces.now in
+    let picks = c.args.picks.now in
+    let empty = c.new-memory.ensures in
+    let P : Memory → Type 0 = λ m. AreCounted m 0 in
     record {
-      code = code;
-      place = place;
-      picked = c.in-Ok.ensures.0 ∙ ap (λ r. code ∷ r) c.in-Ok-one_address.ensures.0;
-      legal = ap (begin_fault size align) c.in-Ok.ensures.0
-          ∙ behind_function size align code c.in-Ok.first.1.now c.allocate.new.self made lawful
-          ∙ ap (fault_over c.allocate.new.self 1 (Address size align ∷ [])) c.in-Ok-one_address.ensures.0
-          ∙ none_left c.allocate.new.self size align place c.in-Ok-one_address.ensures.1;
-      memory = c.in_ok-allocate-2.ensures.ok
-          ∙ ap (λ (m : Memory). allocated m c.own-second.result Stack size align place) made
-          ∙ ap (λ i. allocated (allocated fin.empty (own_id 0) Function 1 1 code) i Stack size align place) c.own-second.ensures;
-      function = c.to.ensures ∙ ap (λ i. pointer_to i code) c.own-first.ensures;
-      local = c.to-2.ensures ∙ ap (λ i. pointer_to i place) c.own-second.ensures;
+      counted = subst P (sym empty) none_counted;
+      fault = over_empty c.new-memory.result (map ask_of pieces) picks empty;
+      memory = ap (λ m. (placed m 0 pieces picks).memory) (sym empty);
+      pointers = ap (λ m. (placed m 0 pieces picks).pointers) (sym empty) ∙ ap (λ ps. ps ++ (placed c.new-memory.result 0 pieces picks).pointers) (sym c.new-pointers.ensures.items);
+    }
+
+-- what stands for a piece that isn't there
+abbrev no_piece : Made
+no_piece = record { kind = Heap; size = 0; align = 0 }
+
+pub loop-count-preserved : goal.loop-count-preserved
+loop-count-preserved c =
+    let l = c.loop-count in
+    let pieces = c.args.pieces.now in
+    let here : Made = get_or pieces l.count no_piece in
+    let piece : Piece = piece_of here in
+    let left = map piece_of (drop (l.count + 1) pieces) in
+    let addr = c.in-Ok.first.0 in
+    let rest = c.in-Ok.first.1.now in
+    let new = c.allocate.new.self in
+    let made : new ≡ allocated l.memory (own_id l.count) here.kind here.size here.align addr =
+    c.in_ok-allocate.ensures.ok ∙ ap (λ i. allocated l.memory i here.kind here.size here.align addr) c.own-id.ensures in
+    let pushed : c.push.new.self.items ≡ l.pointers.items ++ pointer_to (own_id l.count) addr ∷ [] =
+    c.in_ok-push.ensures.items ∙ ap (λ (q : Pointer). l.pointers.items ++ q ∷ []) (c.to.ensures ∙ ap (λ i. pointer_to i addr) c.own-id.ensures) in
+    let split = piece_at pieces l.count no_piece (omega arith) in
+    let both = λ (A : Type 0) (f : List Piece → List ℕ → A). ap₂ f split c.in-Ok.ensures.0 in
+    record {
+      counted = counted_next l.memory l.count piece addr new made l.invariant.counted;
+      fault = l.invariant.fault ∙ both _ (λ ps ks. fault_over l.memory l.count (map ask_of ps) ks) ∙ fault_next l.memory l.count piece addr new made left rest c.in-Ok.ensures.1;
+      memory = l.invariant.memory ∙ both _ (λ ps ks. (placed l.memory l.count ps ks).memory) ∙ memory_next l.memory l.count piece addr new made left rest;
+      pointers = l.invariant.pointers ∙ both _ (λ ps ks. l.pointers.items ++ (placed l.memory l.count ps ks).pointers) ∙ pointers_next l.memory l.count piece addr new made left rest l.pointers.items c.push.new.self.items pushed;
     }

@@ -1,0 +1,143 @@
+-- The public calls: what stands in a function of a well-formed program is sound there, and no call comes to a state without a rule.
+use Rattle.std.proofs.Common.{◌≡◌, ◌<◌, ℕ, List, [], Err, true, All, length, false, sym, ap, ap₂, subst, ◌∙◌}
+use Rattle.std.proofs.lemmas.Option.{get_or_from_slice_get, slice_get_within}
+use Rattle.mr_ast.specs.Shaped.{named_in}
+use Rattle.mr_ast.proofs.ShapedLaws.{shaped_load, shaped_local_place}
+use Rattle.mr_ast.specs.declared.expr.Place.{Place}
+use Rattle.mr_ast.specs.declared.expr.Value.{Value}
+use Rattle.mr_ast.specs.declared.expr.Place.TheVariants as place
+use Rattle.mr_ast.specs.declared.expr.Value.TheVariants as value
+use Rattle.mr_ast.specs.declared.program.Function.{Function}
+use Rattle.mr_ast.specs.declared.program.Local.{Local}
+use Rattle.mr_ast.specs.declared.program.LocalName.{LocalName}
+use Rattle.mr_ast.specs.declared.types.Ty.{Ty}
+use Rattle.mr_base.specs.declared.byte.Pointer.{Pointer}
+use Rattle.mr_layout.specs.TypeOk.{TypeOk}
+use Rattle.mr_mem.specs.Memory.{Memory}
+use Rattle.mr_script.specs.Script.{Broken, Outcome, Refused, Went}
+use Rattle.mr_layout.specs.Sizes.{align_of}
+use Rattle.mr_value.specs.Encode.{encoding_of}
+use Rattle.mr_value.specs.Numbers.{Bytes}
+use Rattle.mr_value.specs.Shape.{has_shape}
+use Rattle.mr_value.specs.declared.val.Val.{Val}
+use Rattle.mr_wf.specs.Broken.{broken_in_place, broken_in_value, sizes_of, surroundings}
+use Rattle.mr_wf.specs.Unbroken.{UnbrokenFunction}
+use Rattle.mr_wf.specs.Walk.{WellFormed}
+use Rattle.mr_wf.proofs.BrokenInLaws.{broken_in_load, broken_in_local}
+use Rattle.mr_wf.proofs.UnbrokenLaws.{well_formed_keeps}
+use Rattle.mr_value.proofs.Comparisons.{lt_test}
+use Rattle.mr_eval.specs.declared.env.Env.{Env}
+use Rattle.mr_eval.specs.declared.halt.Halt.{Halt}
+use Rattle.mr_eval.specs.declared.halt.Halt.TheVariants as halt
+use Rattle.mr_eval.specs.Answers.{Gives}
+use Rattle.mr_eval.specs.Environment.{IsEnvOf, IsRuled, PlaceIn, ShapedAs, ValueIn, env_scene, locals_of}
+use Rattle.mr_eval.specs.Evaluated.{placed, read_typed, valued}
+use Rattle.mr_eval.specs.Evaluation.{Scene}
+use Rattle.mr_eval.specs.Reads.{Seen}
+use Rattle.mr_eval.specs.Sound.{Comes, SoundPlace, SoundValue, Stands, any_result}
+use Rattle.mr_eval.specs.Stores.{stored_typed, storing}
+use Rattle.mr_eval.specs.Typed.{loading}
+use Rattle.mr_eval.proofs.SafeLaws.{loading_safe}
+use Rattle.mr_eval.proofs.SafeRuns.{place_comes, safe_comes, value_comes}
+use Rattle.mr_eval.proofs.ExprSafe.{value_safe}
+use Rattle.mr_eval.proofs.FoundFits.{comes_to}
+
+-- a scene with these locals
+abbrev pub with_locals : Scene → List Local → Scene
+with_locals s ls = record s { locals = ls }
+
+-- a stop of a run that is never without a rule
+pub ruled : {X Y S : Type 0} (view : X → Y) (h : Halt) (o : Outcome Y S) (s : S) (P : Y → Type 0) → Gives view (Err h) o s → Comes P o → IsRuled h
+ruled view (halt.Undefined r) o s P given comes = tt
+ruled view halt.IllFormed o s P given comes = subst (Comes P) given comes
+ruled view halt.Memory o s P given comes = tt
+
+module _ (e : Env) (well : WellFormed e.program.now) where
+  -- the locals of the function are those of the scene, and their types break no rule
+  scene_locals : (f : Function) → IsEnvOf f e → (env_scene e).locals ≡ f.locals
+  scene_locals f env = ap locals_of env.function
+
+  types_ok : (f : Function) → IsEnvOf f e → All (λ (l : Local). TypeOk l.ty) (env_scene e).locals
+  types_ok f env =
+      let all = (well_formed_keeps e.program.now well).functions in
+      let within = slice_get_within e.program.now.functions e.function.0 f env.function in
+      let whole : UnbrokenFunction e.program.now f = subst (UnbrokenFunction e.program.now) (get_or_from_slice_get e.program.now.functions e.function.0 f f env.function) (all e.function.0 f within) in
+      subst (All (λ (l : Local). TypeOk l.ty)) (sym (scene_locals f env)) whole.locals
+
+  scene_stands : (f : Function) → IsEnvOf f e → Stands (named_in e.program.now f) (env_scene e)
+  scene_stands f env = record {
+    locals = sym (ap length (scene_locals f env));
+    storage = env.locals ∙ sym (ap length (scene_locals f env));
+    functions = env.functions;
+    globals = env.globals;
+    types = types_ok f env;
+  }
+
+  pub env_place : (p : Place) → PlaceIn e p → SoundPlace (env_scene e) p
+  env_place p h = record {
+    named = named_in e.program.now h.function;
+    sizes = sizes_of e.program.now.globals;
+    stands = scene_stands h.function h.env;
+    shaped = h.shaped;
+    unbroken = subst (λ (ls : List Local). broken_in_place (record { sizes = sizes_of e.program.now.globals; locals = ls }) p ≡ []) (sym (scene_locals h.function h.env)) h.unbroken;
+  }
+
+  pub env_value : (v : Value) → ValueIn e v → SoundValue (env_scene e) v
+  env_value v h = record {
+    named = named_in e.program.now h.function;
+    sizes = sizes_of e.program.now.globals;
+    stands = scene_stands h.function h.env;
+    shaped = h.shaped;
+    unbroken = subst (λ (ls : List Local). broken_in_value (record { sizes = sizes_of e.program.now.globals; locals = ls }) v ≡ []) (sym (scene_locals h.function h.env)) h.unbroken;
+  }
+
+-- ---- what the calls come to
+
+comes_also : {A S : Type 0} (P Q : A → Type 0) → ((x : A) → P x → Q x) → (o : Outcome A S) → Comes P o → Comes Q o
+comes_also P Q f (Went x s) h = f x h
+comes_also P Q f (Refused r) h = tt
+comes_also P Q f Broken h = h
+
+pub place_ruled : (m : Memory) (s : Scene) (p : Place) (old : Seen) → SoundPlace s p → Comes any_result (placed m s p old)
+place_ruled m s p old h = place_comes h.named h.sizes s h.stands m old p h.shaped h.unbroken
+
+pub value_ruled : (m : Memory) (s : Scene) (v : Value) (old : Seen) → SoundValue s v → Comes (ShapedAs s v) (valued m s v old)
+value_ruled m s v old h =
+    let is = value_safe h.named h.sizes s h.stands v h.shaped h.unbroken in
+    comes_also (λ x. has_shape is.ty x ≡ true) (ShapedAs s v) (λ x k. record { ty = is.ty; is = is.is; shape = k }) (valued m s v old)
+    (value_comes h.named h.sizes s h.stands m old v h.shaped h.unbroken)
+
+pub load_ruled : (m : Memory) (t : Ty) (p : Pointer) (old : Seen) → TypeOk t → Comes (λ v. has_shape t v ≡ true) (read_typed m t p old)
+unfolding read_typed
+load_ruled m t p old ok = safe_comes (λ v. has_shape t v ≡ true) m (loading t p) (loading_safe t p ok) old
+
+pub value_shaped : (m : Memory) (s : Scene) (v : Value) (x : Val) (old new : Seen) → SoundValue s v → valued m s v old ≡ Went x new → ShapedAs s v x
+value_shaped m s v x old new h went = comes_to (ShapedAs s v) _ x new went (value_ruled m s v old h)
+
+-- the store of the bytes of a value
+pub store_run : (m : Memory) (t : Ty) (p : Pointer) (v : Val) (seen : Seen) (bytes : Bytes) (align : ℕ) → bytes ≡ encoding_of t v → align ≡ align_of t
+    → stored_typed m t p v seen ≡ storing m false p bytes align seen
+unfolding stored_typed
+store_run m t p v seen bytes align written aligned = sym (ap₂ (λ (b : Bytes) (a : ℕ). storing m false p b a seen) written aligned)
+
+-- ---- expressions that stand in a function
+
+-- a local that is there
+pub local_stands : (f : Function) (e : Env) (x : LocalName) → IsEnvOf f e → x.0 < length f.locals → PlaceIn e (place.Local x)
+local_stands f e x env lt = record {
+  function = f;
+  env = env;
+  shaped = shaped_local_place (named_in e.program.now f) x ∙ lt_test x.0 (length f.locals) lt;
+  unbroken = broken_in_local (surroundings e.program.now f) x;
+}
+
+-- the load of a place
+pub load_stands : (e : Env) (p : Place) → PlaceIn e p → ValueIn e (value.Load p)
+load_stands e p h = record {
+  function = h.function;
+  env = h.env;
+  shaped = shaped_load (named_in e.program.now h.function) p ∙ h.shaped;
+  unbroken = broken_in_load (surroundings e.program.now h.function) p ∙ h.unbroken;
+}
+
+pub ruleset stand_laws = (local_stands, load_stands)

@@ -1,0 +1,32 @@
+-- What follows of an answer for what comes behind it.
+use Rattle.std.proofs.Common.{◌≡◌, ℤ, Result, Err, sym, ap, subst, ◌∙◌}
+use Rattle.mr_base.specs.declared.byte.Pointer.{Pointer}
+use Rattle.mr_mem.specs.Memory.{Memory}
+use Rattle.mr_script.specs.Script.{Done, Outcome, Went, on, run}
+use Rattle.mr_script.proofs.Runs.{run_bind}
+use Rattle.mr_value.specs.declared.val.Val.TheVariants as val
+use Rattle.mr_eval.specs.Moves.{moved}
+use Rattle.mr_eval.specs.Operators.{moved_pointer}
+use Rattle.mr_eval.specs.Reads.{Seen, reading}
+use Rattle.mr_eval.specs.declared.halt.Halt.{Halt}
+use Rattle.mr_eval.specs.declared.halt.Halt.TheVariants as halt
+use Rattle.mr_eval.specs.Answers.{Gives, same}
+
+-- what stops a part stops the whole
+pub gives_stop : {X Y Z W S T : Type 0} (view : X → Y) (last : Z → W) (e : Halt) (o : Outcome Y S) (whole : Outcome W T) (f : Y → S → Outcome W T) (s : S) (t : T)
+    → whole ≡ on o f → Gives view (Err e) o s → Gives last (Err e) whole t
+gives_stop view last (halt.Undefined r) o whole f s t is h = is ∙ ap (λ (u : Outcome _ _). on u f) h
+gives_stop view last halt.IllFormed o whole f s t is h = is ∙ ap (λ (u : Outcome _ _). on u f) h
+gives_stop view last halt.Memory o whole f s t is h = tt
+
+-- what is given of what comes behind a part that went is given of the whole
+pub gives_on : {X Y Z S T : Type 0} (view : X → Y) (r : Result X Halt) (o : Outcome Z S) (whole : Outcome Y T) (f : Z → S → Outcome Y T) (z : Z) (s : S) (t : T)
+    → whole ≡ on o f → o ≡ Went z s → Gives view r (f z s) t → Gives view r whole t
+gives_on view r o whole f z s t is went h = subst (λ (u : Outcome _ _). Gives view r u t) (sym (is ∙ ap (λ (u : Outcome _ _). on u f) went)) h
+
+-- what stops a move stops what is made of it
+pub moved_stop : (m : Memory) (p : Pointer) (n : ℤ) (e : Halt) (old new : Seen)
+    → Gives same (Err e) (run (reading m) (moved p n) old) new → Gives same (Err e) (run (reading m) (moved_pointer p n) old) new
+moved_stop m p n e old new h =
+    gives_stop same same e (run (reading m) (moved p n) old) (run (reading m) (moved_pointer p n) old) (λ q s. Went (val.Ptr q) s) new new
+    (run_bind (reading m) (moved p n) (λ q. Done (val.Ptr q)) old) h

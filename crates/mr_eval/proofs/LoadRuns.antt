@@ -1,0 +1,45 @@
+-- What the load of a value comes to.
+use Rattle.std.proofs.Common.{◌≡◌, ℕ, false, Option, None, Some, refl, sym, ap, ap₂, ◌∙◌}
+use Rattle.mr_ast.specs.declared.types.Ty.{Ty}
+use Rattle.mr_base.specs.declared.byte.Pointer.{Pointer}
+use Rattle.mr_base.specs.declared.reason.Reason.{Reason}
+use Rattle.mr_base.specs.declared.reason.Reason.TheVariants.{InvalidValue}
+use Rattle.mr_layout.specs.Sizes.{align_of, size_of}
+use Rattle.mr_mem.specs.Memory.{Memory}
+use Rattle.mr_script.specs.Script.{◌>>=◌, Done, Outcome, Refused, Went, on, run}
+use Rattle.mr_script.proofs.Runs.{run_bind}
+use Rattle.mr_value.specs.declared.val.Val.{Val}
+use Rattle.mr_value.specs.Decode.{decoded}
+use Rattle.mr_value.specs.Numbers.{Bytes}
+use Rattle.mr_eval.specs.Reads.{Read, Seen, reading}
+use Rattle.mr_eval.specs.Typed.{loading, or_undefined, referred, referring, targets_of}
+use Rattle.mr_eval.specs.Evaluated.{meant_by, read_typed, referred_to}
+
+pub read_run : (m : Memory) (t : Ty) (p : Pointer) (seen : Seen) → read_typed m t p seen ≡ on (reading m (Read false p (size_of t) (align_of t)) seen) (λ bytes s. meant_by m InvalidValue t bytes s)
+unfolding read_typed meant_by loading
+read_run m t p seen = refl
+
+abbrev meant_as : (m : Memory) (r : Reason) (t : Ty) (o : Option Val) (seen : Seen) → Outcome Val Seen
+meant_as m r t o seen = run (reading m) (or_undefined r o >>= referred t) seen
+
+pub meant_none : (m : Memory) (r : Reason) (t : Ty) (bytes : Bytes) (seen : Seen) → decoded t bytes ≡ None → meant_by m r t bytes seen ≡ Refused r
+unfolding meant_by
+meant_none m r t bytes seen e = ap (λ (o : Option Val). meant_as m r t o seen) e
+
+pub meant_some : (m : Memory) (r : Reason) (t : Ty) (bytes : Bytes) (v : Val) (seen : Seen) → decoded t bytes ≡ Some v
+    → meant_by m r t bytes seen ≡ on (referred_to m (targets_of t v) seen) (λ u s. Went v s)
+unfolding meant_by referred_to
+meant_some m r t bytes v seen e =
+    ap (λ (o : Option Val). meant_as m r t o seen) e ∙ run_bind (reading m) (referring (targets_of t v)) (λ u. Done v) seen
+
+-- bytes that mean a value
+pub read_found : (m : Memory) (t : Ty) (p : Pointer) (size align : ℕ) (old : Seen) (bytes : Bytes) (new : Seen) (v : Val)
+    → size ≡ size_of t → align ≡ align_of t → reading m (Read false p size align) old ≡ Went bytes new → decoded t bytes ≡ Some v
+    → read_typed m t p old ≡ on (referred_to m (targets_of t v) new) (λ u s. Went v s)
+read_found m t p size align old bytes new v sized aligned lent is =
+    read_run m t p old
+    ∙ ap (λ (o : Outcome Bytes Seen). on o (λ found s. meant_by m InvalidValue t found s))
+    (sym (ap₂ (λ (n a : ℕ). reading m (Read false p n a) old) sized aligned) ∙ lent)
+    ∙ meant_some m InvalidValue t bytes v new is
+
+pub ruleset load_laws = (read_run, meant_none, meant_some)

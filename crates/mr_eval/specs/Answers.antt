@@ -1,0 +1,64 @@
+-- What the code's answers stand for.
+use Rattle.std.specs.Prelude.{◌≡◌, ℕ, true, List, ◌++◌, Some, Result, Ok, Err}
+use Rattle.mr_ast.specs.declared.types.Ty.{Ty}
+use Rattle.mr_base.specs.declared.access.Access.{Access}
+use Rattle.mr_base.specs.declared.byte.AllocId.{AllocId}
+use Rattle.mr_base.specs.declared.byte.Pointer.{Pointer}
+use Rattle.mr_script.specs.Script.{Broken, Done, IllFormed, Outcome, Refused, Undefined, Went}
+use Rattle.mr_eval.specs.declared.halt.Halt.{Halt}
+use Rattle.mr_eval.specs.declared.halt.Halt.TheVariants as halt
+use Rattle.mr_eval.specs.declared.notes.Notes.{Notes}
+use Rattle.mr_eval.specs.declared.here.Here.{Here}
+use Rattle.mr_eval.specs.declared.placing.Placed.{Placed}
+use Rattle.mr_eval.specs.declared.valuing.Valued.{Valued}
+use Rattle.mr_value.specs.declared.val.Val.{Val}
+use Rattle.mr_value.specs.Shape.{has_shape}
+use Rattle.mr_wf.specs.Types.{field_type}
+use Rattle.mr_eval.specs.Evaluation.{Scene}
+use Rattle.mr_eval.specs.Reads.{ReadScript, Seen}
+
+-- notes without where they lie
+abbrev pub seen : Notes → Seen
+seen n = record { accesses = n.accesses; touched = n.touched.items }
+
+-- Notes that were only added to.
+pub record Extends (old new : Seen) : Type 0 where
+  pub accesses : List Access
+  pub touched : List AllocId
+  pub is : new ≡ record { accesses = old.accesses ++ accesses; touched = old.touched ++ touched }
+
+-- What a function returned, seen by view, and the notes that it left are what the run comes to, unless memory ran out.
+abbrev pub Gives : {X Y S : Type 0} → (X → Y) → Result X Halt → Outcome Y S → S → Type 0
+Gives view (Ok x) o s = o ≡ Went (view x) s
+Gives view (Err (halt.Undefined r)) o s = o ≡ Refused r
+Gives view (Err halt.IllFormed) o s = o ≡ Broken
+Gives view (Err halt.Memory) o s = Unit {0}
+
+-- what a function returned is what a script that asks nothing comes to
+abbrev pub Says : {X Y : Type 0} → (X → Y) → Result X Halt → ReadScript Y → Type 0
+Says view (Ok x) m = m ≡ Done (view x)
+Says view (Err (halt.Undefined r)) m = m ≡ Undefined r
+Says view (Err halt.IllFormed) m = m ≡ IllFormed
+Says view (Err halt.Memory) m = Unit {0}
+
+-- where a place begins
+abbrev pub at_pointer : Placed → Pointer
+at_pointer p = p.at
+
+-- a value without its type
+abbrev pub value_in : Valued → Val
+value_in v = v.value
+
+-- the scene of an evaluation
+abbrev pub scene_of : Here → Scene
+scene_of h = record { locals = h.locals.now; storage = h.storage.now; functions = h.functions.now; globals = h.globals.now }
+
+-- a result as it is
+abbrev pub same : {X : Type 0} → X → X
+same x = x
+
+-- a value of the shape of a type's field
+pub record FieldShaped (t : Ty) (k : ℕ) (v : Val) : Type 0 where
+  pub ty : Ty
+  pub is : field_type t k ≡ Some ty
+  pub shape : has_shape ty v ≡ true

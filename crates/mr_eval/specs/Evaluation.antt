@@ -1,0 +1,188 @@
+-- THE EVALUATION of places and values, as scripts that ask memory. (MiniRust, lang: evaluation of expressions.)
+use Rattle.std.specs.Prelude.{ℕ, ◌*◌, true, false, nat_lt, if◌then◌else◌, List, [], ◌∷◌, Option, None, Some, slice_get, pos}
+use Rattle.std.specs.Option.{option_map}
+use Rattle.mr_ast.specs.declared.types.Ty.{Ty, out-Ty}
+use Rattle.mr_ast.specs.declared.types.Ty.TheOpen.{Ty-F}
+use Rattle.mr_ast.specs.declared.types.Variant.{Variant}
+use Rattle.mr_ast.specs.declared.expr.Place.{Place}
+use Rattle.mr_ast.specs.declared.expr.Value.{Value}
+use Rattle.mr_ast.specs.declared.expr.Place.TheOpen.{Place-F, Value-F}
+use Rattle.mr_ast.specs.declared.expr.Place.TheFolds.{para-Place, para-Value}
+use Rattle.mr_ast.specs.declared.program.Local.{Local}
+use Rattle.mr_base.specs.declared.byte.Pointer.{Pointer}
+use Rattle.mr_base.specs.declared.reason.Reason.TheVariants.{DeadLocal, IndexOutOfRange, TransmuteInvalid}
+use Rattle.mr_layout.specs.Sizes.{size_of}
+use Rattle.mr_runs.specs.Ranges.{with_range_replaced}
+use Rattle.mr_value.specs.declared.val.Val.{Val}
+use Rattle.mr_value.specs.declared.val.Val.TheVariants as val
+use Rattle.mr_value.specs.Decode.{chunks_in}
+use Rattle.mr_value.specs.Discriminants.{bits_of_number}
+use Rattle.mr_value.specs.Encode.{blank, encoding_of}
+use Rattle.mr_value.specs.Numbers.{Bytes}
+use Rattle.mr_script.specs.Script.{Done, Undefined, IllFormed, ◌>>=◌}
+use Rattle.mr_wf.specs.Types.{type_of_place, type_of_value}
+use Rattle.mr_eval.specs.Reads.{ReadScript}
+use Rattle.mr_eval.specs.Moves.{behind, moved}
+use Rattle.mr_eval.specs.Typed.{loading, meant, searched}
+use Rattle.mr_eval.specs.Operators.{binary_of, bits_of_value, cast_value, or_ill_formed, pointer_of_value, unary_of}
+
+-- Where an expression is evaluated: the locals of its function and the storage that each has, and the pointers to the functions and the
+-- globals of the program.
+pub record Scene : Type 0 where
+  pub locals : List Local
+  pub storage : List (Option Pointer)
+  pub functions : List Pointer
+  pub globals : List Pointer
+
+-- ---- places
+
+-- the storage of a local
+abbrev pub stored : Option (Option Pointer) → ReadScript Pointer
+stored None = IllFormed
+stored (Some None) = Undefined DeadLocal
+stored (Some (Some p)) = Done p
+
+-- where the field of this number begins
+abbrev pub field_offset : Ty-F Ty Variant → ℕ → Option ℕ
+field_offset (Ty-F.Tuple size align fields) n = option_map (λ f. f.0) (slice_get fields n)
+field_offset (Ty-F.Union size align fields chunks) n = option_map (λ f. f.0) (slice_get fields n)
+field_offset _ n = None
+
+abbrev pub offset_in : Option Ty → ℕ → Option ℕ
+offset_in None n = None
+offset_in (Some t) n = field_offset (out-Ty t) n
+
+-- how many elements an array has, and how many bytes each
+abbrev pub elements : Ty-F Ty Variant → Option (ℕ × ℕ)
+elements (Ty-F.Array count elem) = Some (count, size_of elem)
+elements _ = None
+
+abbrev pub elements_in : Option Ty → Option (ℕ × ℕ)
+elements_in None = None
+elements_in (Some t) = elements (out-Ty t)
+
+-- the element at a position
+abbrev pub element_at : Pointer → ℕ → ℕ × ℕ → ReadScript Pointer
+element_at p i e = if nat_lt i e.0 then moved p (pos (i * e.1)) else Undefined IndexOutOfRange
+
+-- one level of a place, with each part beside its evaluation
+abbrev pub place_step : Scene → Place-F (Place × ReadScript Pointer) (Value × ReadScript Val) → ReadScript Pointer
+place_step s (Place-F.Local x) = stored (slice_get s.storage x.0)
+place_step s (Place-F.Deref pointer ty) = do
+  v ← pointer.1
+  pointer_of_value v
+place_step s (Place-F.Field whole number) = do
+  p ← whole.1
+  offset ← or_ill_formed (offset_in (type_of_place s.locals whole.0) number)
+  moved p (pos offset)
+place_step s (Place-F.Index array index) = do
+  p ← array.1
+  v ← index.1
+  i ← bits_of_value v
+  e ← or_ill_formed (elements_in (type_of_place s.locals array.0))
+  element_at p i e
+place_step s (Place-F.Place::Variant whole number) = whole.1
+
+-- ---- values
+
+-- the values of parts, from left to right
+abbrev pub in_order : List (Value × ReadScript Val) → ReadScript (List Val)
+in_order [] = Done []
+in_order (v ∷ vs) = do
+  x ← v.1
+  xs ← in_order vs
+  Done (x ∷ xs)
+
+-- the bytes of a union's chunks, of which a field is written
+abbrev pub union_layer : Ty-F Ty Variant → ℕ → Val → Option Bytes
+union_layer (Ty-F.Union size align fields chunks) n v =
+    option_map (λ f. chunks_in chunks (with_range_replaced (blank size) f.0 (encoding_of f.1 v))) (slice_get fields n)
+union_layer _ n v = None
+
+abbrev pub union_of : Ty → ℕ → Val → ReadScript Val
+union_of t n v = do
+  bytes ← or_ill_formed (union_layer (out-Ty t) n v)
+  Done (val.Union bytes)
+
+-- the discriminant of what lies at a pointer, as an integer of its type
+abbrev pub discriminant_layer : Ty-F Ty Variant → Pointer → ReadScript Val
+discriminant_layer (Ty-F.Enum size align disc variants tree) p = do
+  n ← searched tree p
+  Done (val.Int (bits_of_number disc n))
+discriminant_layer _ p = IllFormed
+
+abbrev pub discriminant_at : Option Ty → Pointer → ReadScript Val
+discriminant_at None p = IllFormed
+discriminant_at (Some t) p = discriminant_layer (out-Ty t) p
+
+abbrev pub loaded : Option Ty → Pointer → ReadScript Val
+loaded None p = IllFormed
+loaded (Some t) p = loading t p
+
+-- the bytes of a value, taken for another type
+abbrev pub transmuted : Ty → Option Ty → Val → ReadScript Val
+transmuted to None v = IllFormed
+transmuted to (Some from) v = meant TransmuteInvalid to (encoding_of from v)
+
+-- a pointer without provenance
+abbrev pub bare : ℕ → Pointer
+bare address = record { addr = address; prov = None }
+
+-- one level of a value, with each part beside its evaluation
+abbrev pub value_step : Scene → Value-F (Place × ReadScript Pointer) (Value × ReadScript Val) → ReadScript Val
+value_step s (Value-F.Int int number) = Done (val.Int (bits_of_number int number))
+value_step s Value-F.True = Done (val.Bool true)
+value_step s Value-F.False = Done (val.Bool false)
+value_step s (Value-F.Raw address) = Done (val.Ptr (bare address))
+value_step s (Value-F.Fn f) = do
+  p ← or_ill_formed (slice_get s.functions f.0)
+  Done (val.Ptr p)
+value_step s (Value-F.Global g offset) = do
+  p ← or_ill_formed (slice_get s.globals g.0)
+  Done (val.Ptr (behind p offset))
+value_step s (Value-F.Tuple ty values) = do
+  vs ← in_order values
+  Done (val.Tuple vs)
+value_step s (Value-F.Union ty number content) = do
+  v ← content.1
+  union_of ty number v
+value_step s (Value-F.Value::Variant ty number content) = do
+  v ← content.1
+  Done (val.Variant number v)
+value_step s (Value-F.Load place) = do
+  p ← place.1
+  loaded (type_of_place s.locals place.0) p
+value_step s (Value-F.Disc place) = do
+  p ← place.1
+  discriminant_at (type_of_place s.locals place.0) p
+value_step s (Value-F.AddrOf ty place) = do
+  p ← place.1
+  Done (val.Ptr p)
+value_step s (Value-F.Cast int operand) = do
+  v ← operand.1
+  cast_value int (type_of_value s.locals operand.0) v
+value_step s (Value-F.Transmute ty operand) = do
+  v ← operand.1
+  transmuted ty (type_of_value s.locals operand.0) v
+value_step s (Value-F.Unary op operand) = do
+  v ← operand.1
+  unary_of op (type_of_value s.locals operand.0) v
+value_step s (Value-F.Binary op left right) = do
+  a ← left.1
+  b ← right.1
+  binary_of op (type_of_value s.locals left.0) (type_of_value s.locals right.0) a b
+
+-- the pointer to a place, and the value of an expression
+unfoldable pub place_script : Scene → Place → ReadScript Pointer
+place_script s = para-Place (ReadScript Pointer) (ReadScript Val) (place_step s) (value_step s)
+
+unfoldable pub value_script : Scene → Value → ReadScript Val
+value_script s = para-Value (ReadScript Pointer) (ReadScript Val) (place_step s) (value_step s)
+
+-- the values of expressions, from left to right
+abbrev pub values_script : Scene → List Value → ReadScript (List Val)
+values_script s [] = Done []
+values_script s (v ∷ vs) = do
+  x ← value_script s v
+  xs ← values_script s vs
+  Done (x ∷ xs)

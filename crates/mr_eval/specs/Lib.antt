@@ -1,0 +1,11 @@
+pub mod Answers
+pub mod Environment
+pub mod Evaluated
+pub mod Evaluation
+pub mod Moves
+pub mod Operators
+pub mod Reads
+pub mod Sound
+pub mod Stores
+pub mod Trial
+pub mod Typed

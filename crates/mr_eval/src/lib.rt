@@ -1,0 +1,47 @@
+//! The evaluation of places and values, and the typed load and store. (MiniRust, lang: evaluation of expressions, typed accesses.)
+//!
+//! What an expression is evaluated to is defined as a script that asks memory (`specs/Evaluation.antt`, `specs/Typed.antt`,
+//! `specs/Operators.antt`, `specs/Moves.antt`): range checks and loads, one after the other, each noted with its access and with the
+//! allocation that it touches (`specs/Reads.antt`). Over a memory such a script comes to a pointer or a value, to a reason, or to a
+//! state without a rule (`specs/Evaluated.antt`); stores are in `specs/Stores.antt`. Public calls, each proved to give exactly that,
+//! unless memory runs out, and to leave notes that begin with what they held:
+//!
+//! - [`place`]: the pointer to a place that stands in the function of its [`Env`].
+//! - [`value`]: the value of an expression that stands in the function, which has the shape of the expression's type.
+//! - [`load_typed`]: the load of a value of a well-formed type, with the range checks of the references in it.
+//! - [`store_typed`]: the store of a value of a type's shape. A refused one changes no memory. [`store_bytes`] and [`store_uninit`] do
+//!   the same with bytes and with uninitialised ones.
+//! - [`behind`]: a pointer so many bytes behind another, around the end of the address space.
+//!
+//! None of them comes to a state without a rule: an expression of a well-formed program never does (`proofs/ExprSafe.antt`), so a
+//! refusal is undefined behaviour of the program, or want of memory.
+#![tactic(auto)]
+
+mod calls;
+mod env;
+mod evaluating;
+mod halt;
+mod here;
+mod kinds;
+mod loading;
+mod moving;
+mod notes;
+mod operands;
+mod operators;
+mod placing;
+mod reads;
+mod recasting;
+mod search;
+mod stores;
+mod targets;
+mod valuing;
+
+pub use calls::{load_typed, place, store_typed, value};
+pub use env::Env;
+pub use moving::behind;
+pub use mr_mem::Fault;
+pub use notes::Notes;
+pub use stores::{store_bytes, store_uninit};
+
+#[cfg(test)]
+mod tests;

@@ -1,0 +1,57 @@
+use mr_base::{Access, AllocId, Pointer};
+use mr_track::Accesses;
+use std::alloc::{AllocError, Global};
+
+/// What evaluation notes of what it read: its accesses in order, and the allocations that its range checks touched.
+#[derive(Drop)]
+pub struct Notes {
+    pub accesses: Accesses,
+    pub touched: Vec<AllocId>,
+}
+
+impl Notes {
+    ghost use Rattle.std.specs.Prelude.{◌≡◌, [], OnOk, false};
+    ghost use Rattle.mr_eval.specs.Answers.{Extends, seen};
+    ghost use Rattle.mr_eval.specs.Reads.{accessing, seeing, touching};
+
+    /// Nothing noted.
+    pub fn new(alloc: Global) -> Notes
+        ensures { seen result ≡ record { accesses = []; touched = [] } }
+    {
+        Notes {
+            accesses: Accesses::new(alloc),
+            touched: Vec::new(alloc),
+        }
+    }
+
+    // Notes what a range check of this pointer and length touches.
+    #[tactic(auto, using(crate::proofs::ExtendsLaws::extends_laws))]
+    pub(crate) fn touch(&mut self, p: Pointer, len: u64) -> Result<(), AllocError>
+        ensures noted { OnOk result (seen self.new ≡ seeing [] (touching p len) (seen self.old)) }
+        ensures kept { Extends (seen self.old) (seen self.new) }
+    {
+        if len != 0 {
+            if let Some(id) = p.prov {
+                self.touched.push(id)?;
+            }
+        }
+        Ok(())
+    }
+
+    // Notes a load or a store of this length, which isn't atomic.
+    #[tactic(auto, using(crate::proofs::ExtendsLaws::extends_laws))]
+    pub(crate) fn access(&mut self, store: bool, p: Pointer, len: u64) -> Result<(), AllocError>
+        ensures noted { OnOk result (seen self.new ≡ seeing (accessing store false p len) [] (seen self.old)) }
+        ensures kept { Extends (seen self.old) (seen self.new) }
+    {
+        if len != 0 {
+            self.accesses.add(Access {
+                store,
+                atomic: false,
+                addr: p.addr,
+                len,
+            })?;
+        }
+        Ok(())
+    }
+}

@@ -1,0 +1,59 @@
+ghost use Rattle.std.specs.Prelude.{◌≡◌, false, true, OnErr, OnOk};
+ghost use Rattle.mr_value.specs.Encode.{blank};
+ghost use Rattle.mr_eval.specs.Answers.{Extends, seen};
+ghost use Rattle.mr_eval.specs.Environment.{Leaves};
+ghost use Rattle.mr_eval.specs.Reads.{accessing, seeing, touching};
+ghost use Rattle.mr_eval.specs.Stores.{storing};
+
+use crate::notes::Notes;
+use mr_base::{AbstractByte, Pointer};
+use mr_mem::{Fault, Memory};
+use std::alloc::AllocError;
+
+// Notes a store of this length and the range check before it.
+#[tactic(auto, using(crate::proofs::ExtendsLaws::extends_laws))]
+fn note_store(notes: &mut Notes, p: Pointer, len: u64) -> Result<(), AllocError>
+    ensures noted { OnOk result (seen notes.new ≡ seeing (accessing true false p len) (touching p len) (seen notes.old)) }
+    ensures kept { Extends (seen notes.old) (seen notes.new) }
+{
+    notes.touch(p, len)?;
+    notes.access(true, p, len)
+}
+
+/// The store of bytes, which isn't atomic: 103 before the range check.
+///
+/// After `Err` memory is as before, and the notes begin with what they held.
+#[tactic(auto, using(crate::proofs::ExtendsLaws::extends_laws))]
+pub fn store_bytes(
+    m: &mut Memory,
+    notes: &mut Notes,
+    p: Pointer,
+    bytes: &[AbstractByte],
+    align: u64,
+) -> Result<(), Fault>
+    ensures given { Leaves result (storing m.old false p bytes.now align (seen notes.old)) m.new (seen notes.new) }
+    ensures kept { Extends (seen notes.old) (seen notes.new) }
+    ensures err { OnErr result (m.new ≡ m.old) }
+{
+    note_store(notes, p, bytes.len() as u64)?;
+    m.store(p, bytes, align)
+}
+
+/// Makes bytes uninitialised, which is noted as a store of so many bytes.
+///
+/// After `Err` memory is as before, and the notes begin with what they held.
+#[tactic(auto, using(crate::proofs::ExtendsLaws::extends_laws))]
+pub fn store_uninit(
+    m: &mut Memory,
+    notes: &mut Notes,
+    p: Pointer,
+    len: u64,
+    align: u64,
+) -> Result<(), Fault>
+    ensures given { Leaves result (storing m.old false p (blank len) align (seen notes.old)) m.new (seen notes.new) }
+    ensures kept { Extends (seen notes.old) (seen notes.new) }
+    ensures err { OnErr result (m.new ≡ m.old) }
+{
+    note_store(notes, p, len)?;
+    m.deinit(p, len, align)
+}

@@ -1,0 +1,65 @@
+-- What each statement comes to, by its parts.
+use Rattle.std.proofs.Common.{◌≡◌, ℕ, ◌+◌, ◌<◌, false, List, ◌∷◌, length, drop, get_or, Result, Err, refl, sym, ap, ◌∙◌, subst, add-one}
+use Rattle.std.proofs.Math.Seq.{drop-cons}
+use Rattle.mr_ast.specs.declared.types.Tag.{Tag}
+use Rattle.mr_base.specs.declared.byte.Pointer.{Pointer}
+use Rattle.mr_value.specs.Encode.{tag_bytes}
+use Rattle.mr_eval.specs.Moves.{behind}
+use Rattle.mr_eval.specs.Stores.{storing}
+use Rattle.mr_ast.specs.declared.types.Num.{Num}
+use Rattle.mr_ast.specs.declared.expr.Place.{Place}
+use Rattle.mr_ast.specs.declared.expr.Value.{Value}
+use Rattle.mr_mem.specs.Memory.{Memory}
+use Rattle.mr_mem.specs.declared.fault.Fault.{Fault}
+use Rattle.mr_mem.specs.declared.fault.Fault.TheVariants as fault
+use Rattle.mr_script.specs.Script.{Outcome, Went, on}
+use Rattle.mr_wf.specs.Types.{type_of_place}
+use Rattle.mr_eval.specs.Environment.{Leaves, Tells}
+use Rattle.mr_eval.specs.Evaluated.{placed, valued}
+use Rattle.mr_eval.specs.Evaluation.{Scene}
+use Rattle.mr_eval.specs.Reads.{Seen}
+use Rattle.mr_step.specs.Changes.{tags_in}
+use Rattle.mr_step.specs.Effects.{Left, assigned, deinited, deinited_at, discriminated, mentioned, stored_at, tagged, tagged_at, validated, validated_at}
+
+module _ (m : Memory) (s : Scene) (place : Place) (seen : Seen) where
+  pub effect_assign : (value : Value) → assigned m s place value seen ≡ on (placed m s place seen) (λ p seen'. on (valued m s value seen') (λ v last. stored_at m (type_of_place s.locals place) p v last))
+  unfolding assigned
+  effect_assign value = refl
+
+  pub effect_mention : mentioned m s place seen ≡ on (placed m s place seen) (λ p last. Went m last)
+  unfolding mentioned
+  effect_mention = refl
+
+  pub effect_validate : validated m s place seen ≡ on (placed m s place seen) (λ p last. validated_at m (type_of_place s.locals place) p last)
+  unfolding validated
+  effect_validate = refl
+
+  pub effect_deinit : deinited m s place seen ≡ on (placed m s place seen) (λ p last. deinited_at m (type_of_place s.locals place) p last)
+  unfolding deinited
+  effect_deinit = refl
+
+  pub effect_disc : (number : Num) → discriminated m s place number seen ≡ on (placed m s place seen) (λ p last. tagged_at m (tags_in (type_of_place s.locals place) number) p last)
+  unfolding discriminated
+  effect_disc number = refl
+
+-- ---- tags
+
+-- the tag at a position, and those behind it
+pub tag_stored : (m : Memory) (p : Pointer) (tags : List Tag) (i : ℕ) (d : Tag) (old : Seen) (new : Memory) (last : Seen) → i < length tags
+    → storing m false (behind p (get_or tags i d).at) (tag_bytes (get_or tags i d)) 1 old ≡ Went new last → tagged m p (drop i tags) old ≡ tagged new p (drop (i + 1) tags) last
+tag_stored m p tags i d old new last lt h =
+    ap (λ ts. tagged m p ts old) (drop-cons tags i d lt ∙ ap (λ n. get_or tags i d ∷ drop n tags) (sym (add-one i)))
+    ∙ ap (λ (o : Left). on o (λ m' s. tagged m' p (drop (i + 1) tags) s)) h
+
+-- ---- answers
+
+-- what stops a part stops the whole
+pub leaves_stop : {A S T : Type 0} (f : Fault) (o : Outcome A S) (k : A → S → Outcome Memory T) (whole : Outcome Memory T) (m : Memory) (s : S) (t : T) → whole ≡ on o k → Tells (Err f) o s → Leaves (Err f) whole m t
+leaves_stop (fault.Undefined r) o k whole m s t is h = is ∙ ap (λ (u : Outcome _ _). on u k) h
+leaves_stop fault.Memory o k whole m s t is h = tt
+
+-- what a store leaves behind a part that went, the whole leaves
+pub leaves_then : {A S T : Type 0} (r : Result (Unit {0}) Fault) (o : Outcome A S) (k : A → S → Outcome Memory T) (whole : Outcome Memory T) (m : Memory) (x : A) (s : S) (t : T) → whole ≡ on o k → o ≡ Went x s → Leaves r (k x s) m t → Leaves r whole m t
+leaves_then r o k whole m x s t is went h = subst (λ (u : Outcome _ _). Leaves r u m t) (sym (is ∙ ap (λ (u : Outcome _ _). on u k) went)) h
+
+pub ruleset effect_laws = (effect_assign, effect_mention, effect_validate, effect_deinit, effect_disc)
