@@ -34,6 +34,7 @@ pub mod SoundRuns
 pub mod Soundness
 pub mod SplicedLaws
 pub mod StartFacts
+pub mod StartStores
 pub mod Starting
 pub mod StoreLaws
 pub mod TagLaws

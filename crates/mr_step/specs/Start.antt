@@ -107,7 +107,7 @@ item_bytes functions globals (item.Reloc to offset) = pointer_behind (target_of 
 abbrev pub global_bytes : List Pointer → List Pointer → List Item_ → Bytes
 global_bytes functions globals items = flat_map (item_bytes functions globals) items
 
--- the memory behind a store that can be made; no step notes it
+-- the memory behind a store; behind a legal start line each can be made. No step notes it
 abbrev pub behind_store : Memory → Result Memory Reason → Memory
 behind_store m (Ok new) = new
 behind_store m (Err r) = m
@@ -118,6 +118,13 @@ filled functions globals m [] ps = m
 filled functions globals m (g ∷ gs) [] = m
 filled functions globals m (g ∷ gs) (p ∷ ps) =
     filled functions globals (behind_store m (written m p (global_bytes functions globals g.items) g.align)) gs ps
+
+-- the bytes of each global can be stored behind those of the globals before it
+abbrev pub CanBeFilled : List Pointer → List Pointer → Memory → List Global_ → List Pointer → Type 0
+CanBeFilled functions globals m [] ps = Unit {0}
+CanBeFilled functions globals m (g ∷ gs) [] = ⊥
+CanBeFilled functions globals m (g ∷ gs) (p ∷ ps) =
+    (new : Memory) × (written m p (global_bytes functions globals g.items) g.align ≡ Ok new) × CanBeFilled functions globals new gs ps
 
 -- what every step of the run looks up
 unfoldable pub look_of : Program → List ℕ → Look
@@ -131,6 +138,11 @@ look_of p picks = record {
 abbrev pub start_memory : Program → List ℕ → Memory
 start_memory p picks =
     filled (look_of p picks).functions (look_of p picks).globals (start_placed p picks).memory p.globals (look_of p picks).globals
+
+-- each store of the start can be made
+abbrev pub IsWholeStart : Program → List ℕ → Type 0
+IsWholeStart p picks =
+    CanBeFilled (look_of p picks).functions (look_of p picks).globals (start_placed p picks).memory p.globals (look_of p picks).globals
 
 -- the return local has storage, and no other local
 abbrev pub start_locals : Option Function → Option Pointer → List (Option Pointer)

@@ -1,4 +1,4 @@
-ghost use Rattle.std.specs.Prelude.{◌≡◌, ℕ, ◌+◌, ◌≤◌, ◌↔◌, None};
+ghost use Rattle.std.specs.Prelude.{◌≡◌, ℕ, ◌+◌, ◌≤◌, ◌↔◌, List, None};
 ghost use Rattle.mr_ast.specs.declared.program.Program.{Program};
 ghost use Rattle.mr_sched.specs.declared.schedule.Entry.{Entry};
 ghost use Rattle.mr_sched.specs.declared.schedule.Schedule.{Schedule};
@@ -6,7 +6,7 @@ ghost use Rattle.mr_wf.specs.Walk.{WellFormed};
 ghost use Rattle.mr_step.specs.Built.{Built};
 ghost use Rattle.mr_step.specs.Language.{Look, Own};
 ghost use Rattle.mr_step.specs.Runs.{Config};
-ghost use Rattle.mr_step.specs.Start.{IsSoundRun, Legal, program_step, schedule_fault};
+ghost use Rattle.mr_step.specs.Start.{IsSoundRun, IsWholeStart, Legal, program_step, schedule_fault, start_fault};
 
 /// A law: no step of a built, well-formed program under a legal schedule is ill-formed.
 pub fn never_ill_formed()
@@ -21,4 +21,9 @@ pub fn legal_schedules()
 /// A law: an entry completes one step at most.
 pub fn one_at_most()
     ensures { (look : Look) (c : Config Own) (e : Entry) → (program_step look c e).completed ≤ c.completed + 1 }
+{}
+
+/// A law: behind a legal start line the bytes of each global can be stored.
+pub fn whole_start()
+    ensures { (p : Program) (picks : List ℕ) → start_fault p picks ≡ None → IsWholeStart p picks }
 {}

@@ -11,8 +11,8 @@
 //!
 //! Proved: `built` tells exactly which programs the machine runs (`specs/Built.antt`). A start and a step lead exactly where the
 //! definitions say or tell the first rule that is broken, a refused entry changes nothing, and memory apart there is no other
-//! answer. The laws [`never_ill_formed`], [`legal_schedules`] and [`one_at_most`] are of the definitions alone: a legal run of a
-//! built, well-formed program has a rule for each step.
+//! answer. The laws [`never_ill_formed`], [`legal_schedules`], [`whole_start`] and [`one_at_most`] are of the definitions alone: a
+//! legal run of a built, well-formed program has a rule for each step, and behind a legal start line each global has its bytes.
 #![tactic(auto)]
 
 mod advance;
@@ -39,5 +39,5 @@ mod types;
 
 pub use builds::built;
 pub use fault::{StepFault, Turn};
-pub use laws::{legal_schedules, never_ill_formed, one_at_most};
+pub use laws::{legal_schedules, never_ill_formed, one_at_most, whole_start};
 pub use machine::Machine;
