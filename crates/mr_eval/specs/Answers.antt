@@ -62,3 +62,8 @@ pub record FieldShaped (t : Ty) (k : ℕ) (v : Val) : Type 0 where
   pub ty : Ty
   pub is : field_type t k ≡ Some ty
   pub shape : has_shape ty v ≡ true
+
+-- a thing beside an answer, where there is one
+abbrev pub beside_of : {A B E : Type 0} → A → Result B E → Result (A × B) E
+beside_of x (Ok y) = Ok (x, y)
+beside_of x (Err e) = Err e

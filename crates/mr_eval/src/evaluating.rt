@@ -3,7 +3,7 @@ ghost use Rattle.mr_ast.specs.declared.types.Ty.{out-Ty};
 ghost use Rattle.mr_script.specs.Script.{run};
 ghost use Rattle.mr_value.specs.declared.val.Val.{out-Val};
 ghost use Rattle.mr_value.specs.declared.val.Val.TheVariants as val;
-ghost use Rattle.mr_eval.specs.Answers.{Extends, Gives, Says, at_pointer, same, scene_of, seen, value_in};
+ghost use Rattle.mr_eval.specs.Answers.{Extends, Gives, Says, at_pointer, beside_of, same, scene_of, seen, value_in};
 ghost use Rattle.mr_eval.specs.Evaluated.{each_valued, placed, valued};
 ghost use Rattle.mr_eval.specs.Evaluation.{bare};
 ghost use Rattle.mr_eval.specs.Sound.{SoundPlace, SoundValue, SoundValues};
@@ -126,7 +126,8 @@ pub fn valued<'p>(here: Here<'p>, notes: &mut Notes, value: &'p Value) -> Result
         }
         Value::Cast(int, operand) => {
             let v = valued(here, notes, operand.get())?;
-            let value = cast(*int, v.ty.integer(), &v.value)?;
+            let answer = cast(*int, v.ty.integer(), &v.value);
+            let value = behind_it(v, answer)?;
             Ok(Valued {
                 value,
                 ty: Known::Int(*int),
@@ -134,8 +135,10 @@ pub fn valued<'p>(here: Here<'p>, notes: &mut Notes, value: &'p Value) -> Result
         }
         Value::Unary(op, operand) => {
             let v = valued(here, notes, operand.get())?;
-            let value = unary(*op, v.ty.integer(), &v.value)?;
-            Ok(Valued { value, ty: v.ty })
+            let ty = v.ty;
+            let answer = unary(*op, ty.integer(), &v.value);
+            let value = behind_it(v, answer)?;
+            Ok(Valued { value, ty })
         }
         Value::Variant(ty, number, content) => {
             let v = valued(here, notes, content.get())?;
@@ -154,7 +157,8 @@ pub fn valued<'p>(here: Here<'p>, notes: &mut Notes, value: &'p Value) -> Result
         }
         Value::Union(ty, number, content) => {
             let v = valued(here, notes, content.get())?;
-            let value = union_of(here.alloc, ty, *number, &v.value)?;
+            let answer = union_of(here.alloc, ty, *number, &v.value);
+            let value = behind_it(v, answer)?;
             Ok(Valued {
                 value,
                 ty: Known::Written(ty),
@@ -162,7 +166,8 @@ pub fn valued<'p>(here: Here<'p>, notes: &mut Notes, value: &'p Value) -> Result
         }
         Value::Transmute(ty, operand) => {
             let v = valued(here, notes, operand.get())?;
-            let value = transmuted(here.alloc, here.memory, notes, ty, v.ty, &v.value)?;
+            let answer = transmuted(here.alloc, here.memory, notes, ty, v.ty, &v.value);
+            let value = behind_it(v, answer)?;
             Ok(Valued {
                 value,
                 ty: Known::Written(ty),
@@ -170,9 +175,11 @@ pub fn valued<'p>(here: Here<'p>, notes: &mut Notes, value: &'p Value) -> Result
         }
         Value::Binary(op, left, right) => {
             let a = valued(here, notes, left.get())?;
-            let b = valued(here, notes, right.get())?;
-            let told = (a.ty.integer(), b.ty.integer());
-            let value = binary(
+            let ty = a.ty;
+            let right = valued(here, notes, right.get());
+            let (a, b) = beside(a, right)?;
+            let told = (ty.integer(), b.ty.integer());
+            let answer = binary(
                 here.alloc,
                 here.memory,
                 notes,
@@ -180,12 +187,30 @@ pub fn valued<'p>(here: Here<'p>, notes: &mut Notes, value: &'p Value) -> Result
                 told,
                 &a.value,
                 &b.value,
-            )?;
+            );
+            let value = behind_it((a, b), answer)?;
             Ok(Valued {
                 value,
-                ty: given(*op, a.ty),
+                ty: given(*op, ty),
             })
         }
+    }
+}
+
+// An answer, where a thing is let go behind it.
+fn behind_it<T: Drop, U: Drop>(_thing: T, answer: Result<U, Halt>) -> Result<U, Halt>
+    ensures { result ≡ answer }
+{
+    answer
+}
+
+// A thing beside an answer.
+fn beside<T: Drop, U: Drop>(thing: T, answer: Result<U, Halt>) -> Result<(T, U), Halt>
+    ensures { result ≡ beside_of thing answer }
+{
+    match answer {
+        Ok(x) => Ok((thing, x)),
+        Err(halt) => Err(halt),
     }
 }
 

@@ -1,5 +1,5 @@
 -- What contracts see of what is read beside the syntax.
-use Rattle.std.specs.Prelude.{ℕ, List, Option, Result, Ok, codes, false}
+use Rattle.std.specs.Prelude.{ℕ, List, Option, Result, Ok, Err, codes, false}
 use Rattle.mr_ast.specs.declared.program.Block.{Block}
 use Rattle.mr_ast.specs.declared.program.Function.{Function}
 use Rattle.mr_ast.specs.declared.program.Local.{Local}
@@ -10,8 +10,10 @@ use Rattle.mr_ast.specs.declared.program.BlockName.{BlockName}
 use Rattle.mr_ast.specs.declared.program.Term.{Term}
 use Rattle.mr_ast.specs.declared.program.Term.TheVariants as term
 use Rattle.mr_ast.specs.Forms.{Word, Part}
-use Rattle.mr_ast.specs.Writing.{ThePlace, Writing, block_use, optional, ◌▪◌, ◌▸◌}
-use Rattle.mr_ast.specs.ProgramGrammar.{FunctionBody, ProgramBody, with_name}
+use Rattle.mr_ast.specs.declared.words.Bracket.TheVariants.{Round}
+use Rattle.mr_ast.specs.Scope.{Scope}
+use Rattle.mr_ast.specs.Writing.{ThePlace, Writing, block_use, listed, optional, ◌▪◌, ◌▸◌}
+use Rattle.mr_ast.specs.ProgramGrammar.{FunctionBody, ProgramBody, values_form, with_name}
 use Rattle.mr_ast.specs.TypeGrammar.{Shape}
 use Rattle.mr_parse.specs.declared.fault.Stop.{Stop}
 use Rattle.mr_parse.specs.declared.program.Head.{Head}
@@ -19,7 +21,7 @@ use Rattle.mr_parse.specs.declared.program.Inner.{Inner}
 use Rattle.mr_parse.specs.declared.program.Parts.{Parts}
 use Rattle.mr_parse.specs.declared.statements.Ways.{Ways}
 use Rattle.mr_parse.specs.declared.types.Shape.{Shape as Written}
-use Rattle.mr_parse.specs.Reading.{◌>>=◌, expected}
+use Rattle.mr_parse.specs.Reading.{◌>>=◌, expected, read}
 
 abbrev pub shape_of : Written → Shape
 shape_of s = record { size = s.size; align = s.align }
@@ -55,3 +57,17 @@ named n read = read >>= λ x. Ok (with_name n x.0, x.1)
 -- a thing that was read, where this word stands behind it
 abbrev pub followed_by : {A : Type 0} → List ℕ → A → List Word → Result (A × List Word) Stop
 followed_by text x words = expected text words >>= λ rest. Ok (x, rest)
+
+-- a thing beside what was read behind it, where it was
+abbrev pub beside_of : {A B E : Type 0} → A → Result B E → Result (A × B) E
+beside_of x (Ok y) = Ok (x, y)
+beside_of x (Err e) = Err e
+
+-- the unwinding with this payload and what was read
+abbrev pub unwound : Value → Result (BlockName × List Word) Stop → Result (Term × List Word) Stop
+unwound payload read = read >>= λ x. Ok (term.Unwind payload x.0, x.1)
+
+-- the call with this callee, behind which its arguments stand
+abbrev pub called_behind : ℕ → Scope → Value → List Word → Result (Term × List Word) Stop
+called_behind room scope callee words =
+    read room scope (listed Round values_form) words >>= λ args. called callee args.0 (read room scope call_end_form args.1)

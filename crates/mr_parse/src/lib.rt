@@ -30,8 +30,6 @@ mod reader;
 mod scope;
 mod statements;
 mod table;
-#[cfg(test)]
-mod tests;
 mod types;
 mod values;
 

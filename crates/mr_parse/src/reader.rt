@@ -130,6 +130,13 @@ impl<'a> Reader<'a> {
         Ok(thing)
     }
 
+    /// What was read, where this bracket is closed behind it.
+    pub fn closed<T: Drop>(&mut self, thing: T, bracket: Bracket) -> Result<T, ReadFault>
+        ensures { Gives (λ x. (x, self.new)) result (followed_by (closing bracket) thing self.old) }
+    {
+        self.followed(thing, closing(bracket))
+    }
+
     /// Whether a word but this is the next.
     pub fn is_other(&self, word: &[u8]) -> bool
         ensures { result ≡ is_next (other_than word.now) self.now }

@@ -1,11 +1,11 @@
 ghost use Rattle.std.specs.Prelude.{◌≡◌, codes, false, is_some};
 ghost use Rattle.mr_ast.specs.declared.words.Bracket.TheVariants.{Round};
-ghost use Rattle.mr_ast.specs.Forms.{Part};
+ghost use Rattle.mr_ast.specs.Forms.{Cases, Either, Part};
 ghost use Rattle.mr_ast.specs.Writing.{ThePlace, TheValue, block_use, listed, optional, ◌▸◌};
 ghost use Rattle.mr_ast.specs.ProgramGrammar.{assign_form, begins_stmt, call_form, disc_form, do_form, is_stmt_word, judged_intrinsic, judged_stmt, judged_term, stmt_behind, stmt_form, stmts_form, switch_case_form, switch_cases_form, switch_form, term_behind, term_form, unwind_form, values_form};
 ghost use Rattle.mr_parse.specs.Gives.{Gives};
 ghost use Rattle.mr_parse.specs.Reading.{first_at, is_next, read};
-ghost use Rattle.mr_parse.specs.Views.{call_end_form, called, ways_form, ways_of};
+ghost use Rattle.mr_parse.specs.Views.{beside_of, call_end_form, called, called_behind, unwound, ways_form, ways_of};
 
 use crate::fault::{EXPOSED, ReadFault, TOO_MANY, UNEXPECTED};
 use crate::reader::Reader;
@@ -24,6 +24,16 @@ const MAX_STMTS: usize = 4096;
 struct Ways {
     next: Option<BlockName>,
     unwind: Option<BlockName>,
+}
+
+// A thing beside what was read behind it.
+fn beside<T: Drop, U: Drop>(thing: T, read: Result<U, ReadFault>) -> Result<(T, U), ReadFault>
+    ensures { result ≡ beside_of thing read }
+{
+    match read {
+        Ok(x) => Ok((thing, x)),
+        Err(fault) => Err(fault),
+    }
 }
 
 impl<'a> Reader<'a> {
@@ -70,15 +80,27 @@ impl<'a> Reader<'a> {
     fn stmt(&mut self, alloc: Global, scope: &Scope, room: u32, k: usize) -> Result<Stmt, ReadFault>
         ensures { Gives (λ s. (s, self.new)) result (read room scope.now (stmt_form k) self.old) }
     {
-        let over = k >= MAX_STMTS;
-        let stmt = if self.is_stmt_word_next() {
-            let word = self.stmt_word(over)?;
-            self.stmt_behind(alloc, scope, room, word)?
-        } else {
-            self.assign(alloc, scope, room, over)?
-        };
-        self.expect(b";")?;
-        Ok(stmt)
+        match self.bare_stmt(alloc, scope, room, k >= MAX_STMTS) {
+            Ok(stmt) => self.followed(stmt, b";"),
+            Err(fault) => Err(fault),
+        }
+    }
+
+    // A statement without its end.
+    fn bare_stmt(
+        &mut self,
+        alloc: Global,
+        scope: &Scope,
+        room: u32,
+        over: bool,
+    ) -> Result<Stmt, ReadFault>
+        ensures { Gives (λ s. (s, self.new)) result (read room scope.now (Either is_stmt_word (Cases (λ _. judged_stmt over) stmt_behind) (assign_form over)) self.old) }
+    {
+        if !self.is_stmt_word_next() {
+            return self.assign(alloc, scope, room, over);
+        }
+        let word = self.stmt_word(over)?;
+        self.stmt_behind(alloc, scope, room, word)
     }
 
     // What stands behind the first word of a statement.
@@ -250,8 +272,21 @@ impl<'a> Reader<'a> {
     fn unwind(&mut self, alloc: Global, scope: &Scope, room: u32) -> Result<Term, ReadFault>
         ensures { Gives (λ t. (t, self.new)) result (read room scope.now unwind_form self.old) }
     {
-        let payload = self.value(alloc, scope, room)?;
-        Ok(Term::Unwind(payload, self.to_block(scope)?))
+        match self.value(alloc, scope, room) {
+            Ok(payload) => self.unwound(scope, payload),
+            Err(fault) => Err(fault),
+        }
+    }
+
+    // The end of an unwinding behind its payload.
+    fn unwound(&mut self, scope: &Scope, payload: Value) -> Result<Term, ReadFault>
+        ensures { Gives (λ t. (t, self.new)) result (unwound payload (read 0 scope.now (codes "to" ▸ block_use) self.old)) }
+    {
+        let block = self.to_block(scope);
+        match beside(payload, block) {
+            Ok((payload, block)) => Ok(Term::Unwind(payload, block)),
+            Err(fault) => Err(fault),
+        }
     }
 
     // A block behind `to`.
@@ -320,9 +355,27 @@ impl<'a> Reader<'a> {
     fn call(&mut self, alloc: Global, scope: &Scope, room: u32) -> Result<Term, ReadFault>
         ensures { Gives (λ t. (t, self.new)) result (read room scope.now call_form self.old) }
     {
-        let callee = self.value(alloc, scope, room)?;
-        let args = self.values(alloc, scope, room)?;
-        self.call_end(alloc, scope, room, callee, args)
+        match self.value(alloc, scope, room) {
+            Ok(callee) => self.called(alloc, scope, room, callee),
+            Err(fault) => Err(fault),
+        }
+    }
+
+    // What stands behind the callee of a call.
+    fn called(
+        &mut self,
+        alloc: Global,
+        scope: &Scope,
+        room: u32,
+        callee: Value,
+    ) -> Result<Term, ReadFault>
+        ensures { Gives (λ t. (t, self.new)) result (called_behind room scope.now callee self.old) }
+    {
+        let args = self.values(alloc, scope, room);
+        match beside(callee, args) {
+            Ok((callee, args)) => self.call_end(alloc, scope, room, callee, args),
+            Err(fault) => Err(fault),
+        }
     }
 
     // What stands behind the arguments of a call.
@@ -336,9 +389,32 @@ impl<'a> Reader<'a> {
     ) -> Result<Term, ReadFault>
         ensures { Gives (λ t. (t, self.new)) result (called callee args (read room scope.now call_end_form self.old)) }
     {
-        let place = self.place_behind(alloc, scope, room)?;
-        let ways = self.ways(scope, room)?;
-        Ok(Term::Call(callee, args, place, ways.next, ways.unwind))
+        let end = self.place_and_ways(alloc, scope, room);
+        match beside((callee, args), end) {
+            Ok(((callee, args), (place, ways))) => {
+                Ok(Term::Call(callee, args, place, ways.next, ways.unwind))
+            }
+            Err(fault) => Err(fault),
+        }
+    }
+
+    // The place of a call's result, and the blocks behind it.
+    fn place_and_ways(
+        &mut self,
+        alloc: Global,
+        scope: &Scope,
+        room: u32,
+    ) -> Result<(Place, Ways), ReadFault>
+        ensures { Gives (λ e. ((e.0, ways_of e.1), self.new)) result (read room scope.now call_end_form self.old) }
+    {
+        let place = self.place_behind(alloc, scope, room);
+        match place {
+            Ok(place) => {
+                let ways = self.ways(scope, room);
+                beside(place, ways)
+            }
+            Err(fault) => Err(fault),
+        }
     }
 
     // The blocks behind a call.

@@ -5,7 +5,7 @@ ghost use Rattle.mr_ast.specs.ValueGrammar.{base_form, begins_postfix, deref_for
 ghost use Rattle.mr_parse.specs.Gives.{Gives};
 ghost use Rattle.mr_parse.specs.Insides.{begins_with_type, is_bracketed, value_inside};
 ghost use Rattle.mr_parse.specs.Reading.{first_at, is_next, read, read_outside, read_part};
-ghost use Rattle.mr_parse.specs.Postfixes.{postfix_of, with_all};
+ghost use Rattle.mr_parse.specs.Postfixes.{indexed, postfix_of, with_all};
 
 use crate::fault::{EXPOSED, ReadFault, TOO_DEEP, TOO_MANY, UNEXPECTED};
 use crate::reader::Reader;
@@ -110,9 +110,10 @@ impl<'a> Reader<'a> {
         ensures { Gives (λ v. (v, self.new)) result (read_outside room scope.now (value_behind word) self.old) }
     {
         let inner = self.open(Bracket::Round, room)?;
-        let value = self.value_inside(alloc, scope, inner, word)?;
-        self.close(Bracket::Round)?;
-        Ok(value)
+        match self.value_inside(alloc, scope, inner, word) {
+            Ok(value) => self.closed(value, Bracket::Round),
+            Err(fault) => Err(fault),
+        }
     }
 
     // A value, from what stands in its brackets.
@@ -327,6 +328,16 @@ impl<'a> Reader<'a> {
         self.is_next(b".") || self.is_next(b"[") || self.is_next(b"@")
     }
 
+    // An index, where its bracket is closed.
+    fn index(&mut self, index: Value) -> Result<Postfix, ReadFault>
+        ensures { Gives (λ x. (postfix_of x, self.new)) result (indexed index self.old) }
+    {
+        match self.closed(index, Bracket::Square) {
+            Ok(index) => Ok(Postfix::Index(index)),
+            Err(fault) => Err(fault),
+        }
+    }
+
     // The postfix of number k.
     #[cycle(values)]
     #[tactic(auto, unfolding(mr_ast::specs::ValueGrammar::postfix_form), using(crate::proofs::InsideLaws::inside))]
@@ -342,9 +353,10 @@ impl<'a> Reader<'a> {
         let over = k >= MAX_POSTFIXES;
         if self.is_next(b"[") {
             let inner = self.open_limited(Bracket::Square, room, over)?;
-            let index = self.value(alloc, scope, inner)?;
-            self.close(Bracket::Square)?;
-            return Ok(Postfix::Index(index));
+            return match self.value(alloc, scope, inner) {
+                Ok(index) => self.index(index),
+                Err(fault) => Err(fault),
+            };
         }
         if self.is_next(b".") {
             self.expect_limited(b".", over, TOO_DEEP)?;
@@ -359,10 +371,24 @@ impl<'a> Reader<'a> {
 fn with_postfix(alloc: Global, place: Place, postfix: Postfix) -> Result<Place, AllocError>
     ensures { IfOk result (λ p. p ≡ with_postfix place (postfix_of postfix)) }
 {
-    let place = Boxed::new(alloc, place)?;
     match postfix {
-        Postfix::Field(field) => Ok(Place::Field(place, field)),
-        Postfix::Index(index) => Ok(Place::Index(place, Boxed::new(alloc, index)?)),
-        Postfix::Variant(number) => Ok(Place::Variant(place, number)),
+        Postfix::Field(field) => Ok(Place::Field(Boxed::new(alloc, place)?, field)),
+        Postfix::Index(index) => {
+            let (place, index) = two_boxes(alloc, place, index)?;
+            Ok(Place::Index(place, index))
+        }
+        Postfix::Variant(number) => Ok(Place::Variant(Boxed::new(alloc, place)?, number)),
     }
+}
+
+// Two things, each in a box.
+fn two_boxes<A: Drop, B: Drop>(
+    alloc: Global,
+    first: A,
+    second: B,
+) -> Result<(Boxed<A>, Boxed<B>), AllocError>
+    ensures { IfOk result (λ boxes. boxes ≡ (first, second)) }
+{
+    let first = Boxed::new(alloc, first)?;
+    Ok((first, Boxed::new(alloc, second)?))
 }

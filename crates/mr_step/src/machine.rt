@@ -131,9 +131,8 @@ impl<'p> Machine<'p> {
         self.progress.verdict
     }
 
-    // How many steps were completed.
-    #[cfg(test)]
-    pub(crate) fn completed(&self) -> u64
+    /// How many steps were completed.
+    pub fn completed(&self) -> u64
         ensures { result ≡ self.now.config.completed }
     {
         self.progress.completed

@@ -172,15 +172,15 @@ valued-valued-requires-in-Union t c =
     let w : value_weight c.get-in-Union.result.now ≡ value_weight c.in-Union.content = ap value_weight same in
     (omega (arith, c.decreases), subst (SoundValue (scene_of c.args.here)) (sym same) (sound_union (scene_of c.args.here) _ c.in-Union.ty c.in-Union.number c.in-Union.content c.in-Union.is c.requires))
 
-pub valued-union_of-requires-clause-ok : goal.valued-union_of-requires-clause-ok
-valued-union_of-requires-clause-ok t c =
+pub valued-union_of-answer-requires-clause-ok : goal.valued-union_of-answer-requires-clause-ok
+valued-union_of-answer-requires-clause-ok t c =
     let s = scene_of c.args.here in
     let ty = subst (λ (v : Value). type_of_value s.locals v ≡ Some (ty_of c.in_ok-v-in-Union.v.ty)) c.get-in-Union.ensures c.in_ok-v-in-Union.ensures.ty in
     let went = subst (λ (v : Value). valued c.args.here.memory.now s v (seen c.args.notes.now) ≡ Went c.in_ok-v-in-Union.v.value (seen c.valued-in-Union.new.notes)) c.get-in-Union.ensures c.in_ok-v-in-Union.ensures.given in
     (union_content s c.args.here.memory.now c.args.value.now c.in-Union.content c.in-Union.ty _ c.in-Union.number c.in_ok-v-in-Union.v.value (seen c.args.notes.now) (seen c.valued-in-Union.new.notes) c.in-Union.is c.requires ty went).0
 
-pub valued-union_of-requires-clause-shape : goal.valued-union_of-requires-clause-shape
-valued-union_of-requires-clause-shape t c =
+pub valued-union_of-answer-requires-clause-shape : goal.valued-union_of-answer-requires-clause-shape
+valued-union_of-answer-requires-clause-shape t c =
     let s = scene_of c.args.here in
     let ty = subst (λ (v : Value). type_of_value s.locals v ≡ Some (ty_of c.in_ok-v-in-Union.v.ty)) c.get-in-Union.ensures c.in_ok-v-in-Union.ensures.ty in
     let went = subst (λ (v : Value). valued c.args.here.memory.now s v (seen c.args.notes.now) ≡ Went c.in_ok-v-in-Union.v.value (seen c.valued-in-Union.new.notes)) c.get-in-Union.ensures c.in_ok-v-in-Union.ensures.given in
@@ -193,27 +193,27 @@ valued-valued-requires-in-Transmute t c =
     let w : value_weight c.get-in-Transmute.result.now ≡ value_weight c.in-Transmute.operand = ap value_weight same in
     (omega (arith, c.decreases), subst (SoundValue (scene_of c.args.here)) (sym same) (sound_transmute (scene_of c.args.here) _ c.in-Transmute.ty c.in-Transmute.operand c.in-Transmute.is c.requires))
 
-pub valued-transmuted-requires-clause-ok : goal.valued-transmuted-requires-clause-ok
-valued-transmuted-requires-clause-ok t c =
+pub valued-transmuted-answer-requires-clause-ok : goal.valued-transmuted-answer-requires-clause-ok
+valued-transmuted-answer-requires-clause-ok t c =
     let s = scene_of c.args.here in
     let ty = subst (λ (v : Value). type_of_value s.locals v ≡ Some (ty_of c.in_ok-v-in-Transmute.v.ty)) c.get-in-Transmute.ensures c.in_ok-v-in-Transmute.ensures.ty in
     (transmute_types s c.args.value.now c.in-Transmute.operand c.in-Transmute.ty _ c.in-Transmute.is c.requires ty).0
 
-pub valued-transmuted-requires-clause-from_ok : goal.valued-transmuted-requires-clause-from_ok
-valued-transmuted-requires-clause-from_ok t c =
+pub valued-transmuted-answer-requires-clause-from_ok : goal.valued-transmuted-answer-requires-clause-from_ok
+valued-transmuted-answer-requires-clause-from_ok t c =
     let s = scene_of c.args.here in
     let ty = subst (λ (v : Value). type_of_value s.locals v ≡ Some (ty_of c.in_ok-v-in-Transmute.v.ty)) c.get-in-Transmute.ensures c.in_ok-v-in-Transmute.ensures.ty in
     value_ok s c.in-Transmute.operand _ (sound_transmute s _ c.in-Transmute.ty c.in-Transmute.operand c.in-Transmute.is c.requires) ty
 
-pub valued-transmuted-requires-clause-shape : goal.valued-transmuted-requires-clause-shape
-valued-transmuted-requires-clause-shape t c =
+pub valued-transmuted-answer-requires-clause-shape : goal.valued-transmuted-answer-requires-clause-shape
+valued-transmuted-answer-requires-clause-shape t c =
     let s = scene_of c.args.here in
     let ty = subst (λ (v : Value). type_of_value s.locals v ≡ Some (ty_of c.in_ok-v-in-Transmute.v.ty)) c.get-in-Transmute.ensures c.in_ok-v-in-Transmute.ensures.ty in
     let went = subst (λ (v : Value). valued c.args.here.memory.now s v (seen c.args.notes.now) ≡ Went c.in_ok-v-in-Transmute.v.value (seen c.valued-in-Transmute.new.notes)) c.get-in-Transmute.ensures c.in_ok-v-in-Transmute.ensures.given in
     shape_given s c.args.here.memory.now c.in-Transmute.operand _ c.in_ok-v-in-Transmute.v.value (seen c.args.notes.now) (seen c.valued-in-Transmute.new.notes) (sound_transmute s _ c.in-Transmute.ty c.in-Transmute.operand c.in-Transmute.is c.requires) ty went
 
-pub valued-transmuted-requires-clause-same : goal.valued-transmuted-requires-clause-same
-valued-transmuted-requires-clause-same t c =
+pub valued-transmuted-answer-requires-clause-same : goal.valued-transmuted-answer-requires-clause-same
+valued-transmuted-answer-requires-clause-same t c =
     let s = scene_of c.args.here in
     let ty = subst (λ (v : Value). type_of_value s.locals v ≡ Some (ty_of c.in_ok-v-in-Transmute.v.ty)) c.get-in-Transmute.ensures c.in_ok-v-in-Transmute.ensures.ty in
     (transmute_types s c.args.value.now c.in-Transmute.operand c.in-Transmute.ty _ c.in-Transmute.is c.requires ty).1
@@ -225,8 +225,8 @@ valued-valued-requires-in-Binary t c =
     let w : value_weight c.get-in-Binary.result.now ≡ value_weight c.in-Binary.left = ap value_weight same in
     (omega (arith, c.decreases), subst (SoundValue (scene_of c.args.here)) (sym same) (sound_left (scene_of c.args.here) _ c.in-Binary.op c.in-Binary.left c.in-Binary.right c.in-Binary.is c.requires))
 
-pub valued-valued-requires-in-Binary-2 : goal.valued-valued-requires-in-Binary-2
-valued-valued-requires-in-Binary-2 t c =
+pub valued-valued-right-requires : goal.valued-valued-right-requires
+valued-valued-right-requires t c =
     let is : value_weight c.args.value.now ≡ _ = ap value_weight c.in-Binary.is ∙ weight_binary c.in-Binary.op c.in-Binary.left c.in-Binary.right in
     let same = c.get-in-Binary-2.ensures in
     let w : value_weight c.get-in-Binary-2.result.now ≡ value_weight c.in-Binary.right = ap value_weight same in
