@@ -2,7 +2,7 @@ mod constructs;
 mod faults;
 mod limits;
 
-use crate::{ParseFault, parse};
+use mr_parse::{ParseFault, parse};
 use mr_lex::TextFault;
 use std::process::Abort;
 

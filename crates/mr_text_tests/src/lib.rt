@@ -1,0 +1,5 @@
+//! The tests of the text layer: tokens, the parser, the canonical printer and the text of schedules. It has no code of its own.
+#![tactic(auto)]
+
+#[cfg(test)]
+mod parsing;
