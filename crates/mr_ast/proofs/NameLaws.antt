@@ -10,7 +10,7 @@ use Rattle.std.specs.Option.{option_map}
 use Rattle.std.specs.Str.{bytes_eq}
 use Rattle.std.specs.String.{string_bytes, string_eq}
 use Rattle.indexmap.specs.IndexSet.{insert_key}
-use Rattle.mr_ast.specs.Names.{Adds, IsFirst}
+use Rattle.mr_ast.specs.Names.{Adds, AddsEach, IsFirst}
 
 slice_get_last : {A : Type 0} (xs : List A) (x : A) (n : ℕ) → n ≡ length xs → slice_get (xs ++ x ∷ []) n ≡ Some x
 slice_get_last [] x n last = ap (slice_get (x ∷ [])) last
@@ -100,3 +100,17 @@ IsFirst-unique texts text n m a b =
 pub Adds-again : (texts later : List (List ℕ)) (text : List ℕ) (n m : ℕ) → IsFirst texts text n → Adds texts text later m → m ≡ n
 Adds-again texts later text n m held (inl (same, first)) = IsFirst-unique texts text n m held first
 Adds-again texts later text n m held (inr (missing, later_is, last)) = absurd (missing n held.here)
+
+-- and keeps it while others are added
+pub IsFirst-each : (texts : List (List ℕ)) (old new : List (List ℕ)) (held : List ℕ) (k : ℕ) → AddsEach old texts new → IsFirst old held k → IsFirst new held k
+IsFirst-each [] old new held k same first = subst (λ l. IsFirst l held k) (sym same) first
+IsFirst-each (text ∷ texts) old new held k (between, n, one, rest) first =
+    IsFirst-each texts between new held k rest (IsFirst-kept old between text held n k one first)
+
+-- the number of a text, after further ones were added
+pub IsFirst-later : (old new later : List (List ℕ)) (text : List ℕ) (texts : List (List ℕ)) (n : ℕ) → Adds old text new n → AddsEach new texts later → IsFirst later text n
+IsFirst-later old new later text texts n added each = IsFirst-each texts new later text n each (IsFirst-Adds old new text n added)
+
+-- two texts at one place are one text
+pub one_text : (texts : List (List ℕ)) (text other : List ℕ) (n : ℕ) → slice_get texts n ≡ Some text → slice_get texts n ≡ Some other → other ≡ text
+one_text texts text other n a b = cc

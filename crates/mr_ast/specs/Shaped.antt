@@ -136,9 +136,3 @@ pub record Shaped (p : Program) : Type 0 where
   pub start : p.start.0 < length p.functions
   pub few_globals : length p.globals ≤ 256
   pub few_functions : length p.functions ≤ 256
-
--- each text that a function, a local or a block of the function goes by is held
-pub record HoldsNamesOf (p : Program) (f : Function) : Type 0 where
-  pub name : IsText p f.name
-  pub locals : All (λ (l : Local). IsText p l.name) f.locals
-  pub blocks : All (λ (b : Block). IsText p b.name) f.blocks

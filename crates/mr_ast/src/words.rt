@@ -1,3 +1,5 @@
+//! The words of the text form, by what they stand for.
+
 use crate::expr::{BinaryOp, UnaryOp};
 use crate::types::IntType;
 

@@ -1,1 +1,4 @@
+pub mod Comparisons
 pub mod Examples
+pub mod Options
+pub mod Twins

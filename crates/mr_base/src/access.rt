@@ -1,3 +1,5 @@
+//! A load or a store.
+
 /// A load or a store of `len` bytes from the address `addr` on. (MiniRust, memory and concurrency.)
 #[derive(Clone, Copy, Debug, Default, PartialEq, Eq)]
 pub struct Access {

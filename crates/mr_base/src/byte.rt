@@ -1,3 +1,5 @@
+//! Identities of allocations, pointers, and bytes of memory.
+
 /// The identity of an allocation: the thread that made it, and how many that thread had made before.
 #[derive(Clone, Copy, Debug, PartialEq, Eq, PartialOrd, Ord)]
 pub struct AllocId {

@@ -1,3 +1,4 @@
+//! Why a step is undefined behaviour, and what a run came to.
 ghost use Rattle.std.specs.Prelude.{◌≡◌};
 ghost use Rattle.mr_base.specs.Reasons.{code_of, name_of};
 

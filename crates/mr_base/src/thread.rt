@@ -1,3 +1,5 @@
+//! Whether a thread can go on, and what a step did to locks and threads.
+
 /// Whether a thread can go on. (MiniRust, lang: threads.)
 #[derive(Clone, Copy, Debug, PartialEq, Eq)]
 pub enum Status {

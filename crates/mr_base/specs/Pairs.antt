@@ -1,0 +1,30 @@
+-- Whether a test holds of two elements of a list.
+use Rattle.std.specs.Prelude.{ℕ, ◌+◌, Bool, false, ◌&&◌, ◌||◌, ◌==◌, nat_lt, List, [], ◌∷◌}
+use Rattle.std.specs.List.{list_any}
+
+-- whether the test holds of an element and a later one
+abbrev pub some_pair : {A : Type 0} → (A → A → Bool) → List A → Bool
+some_pair test [] = false
+some_pair test (x ∷ xs) = list_any (test x) xs || some_pair test xs
+
+-- whether the test holds of this element and the first, or of an element and the next
+abbrev pub some_next : {A : Type 0} → (A → A → Bool) → A → List A → Bool
+some_next test x [] = false
+some_next test x (y ∷ ys) = test x y || some_next test y ys
+
+-- whether the test holds of an element and the next
+abbrev pub some_neighbours : {A : Type 0} → (A → A → Bool) → List A → Bool
+some_neighbours test [] = false
+some_neighbours test (x ∷ xs) = some_next test x xs
+
+-- whether the two pairs are equal
+abbrev pub same_pair : ℕ × ℕ → ℕ × ℕ → Bool
+same_pair x y = (x.0 == y.0) && (x.1 == y.1)
+
+-- two ranges, by start and length, have a byte in common; a range of length 0 has none
+abbrev pub is_meeting : ℕ → ℕ → ℕ → ℕ → Bool
+is_meeting a len b count = nat_lt 0 len && (nat_lt 0 count && (nat_lt a (b + count) && nat_lt b (a + len)))
+
+-- the same of two pairs
+abbrev pub are_meeting : ℕ × ℕ → ℕ × ℕ → Bool
+are_meeting x y = is_meeting x.0 x.1 y.0 y.1
