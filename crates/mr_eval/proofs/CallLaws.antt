@@ -25,7 +25,7 @@ use Rattle.mr_wf.specs.Unbroken.{UnbrokenFunction}
 use Rattle.mr_wf.specs.Walk.{WellFormed}
 use Rattle.mr_wf.proofs.BrokenInLaws.{broken_in_load, broken_in_local}
 use Rattle.mr_wf.proofs.UnbrokenLaws.{well_formed_keeps}
-use Rattle.mr_value.proofs.Comparisons.{lt_test}
+use Rattle.mr_base.proofs.Comparisons.{lt_test}
 use Rattle.mr_eval.specs.declared.env.Env.{Env}
 use Rattle.mr_eval.specs.declared.halt.Halt.{Halt}
 use Rattle.mr_eval.specs.declared.halt.Halt.TheVariants as halt

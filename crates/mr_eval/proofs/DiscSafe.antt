@@ -14,7 +14,8 @@ use Rattle.mr_ast.specs.declared.types.Ty.TheOpen.{Ty-F}
 use Rattle.mr_ast.specs.declared.types.Variant.{Variant}
 use Rattle.mr_base.specs.declared.byte.Pointer.{Pointer}
 use Rattle.mr_base.specs.declared.reason.Reason.TheVariants.{InvalidDiscriminant}
-use Rattle.mr_layout.specs.EnumRules.{are_tree_cases, are_variants, is_case, is_fitting, is_number_of, is_tree, same_num}
+use Rattle.mr_layout.specs.EnumRules.{are_tree_cases, are_variants, is_case, is_number_of, is_tree, same_num}
+use Rattle.mr_ast.specs.Integers.{is_fitting}
 use Rattle.mr_layout.specs.Sizes.{align_of, size_of}
 use Rattle.mr_layout.specs.TypeOk.{TypeOk}
 use Rattle.mr_layout.proofs.PartsOk.{and_true}

@@ -38,7 +38,7 @@ use Rattle.mr_value.specs.Discriminants.{bits_of_number}
 use Rattle.mr_value.specs.Encode.{encoding_of}
 use Rattle.mr_value.specs.Numbers.{Bytes}
 use Rattle.mr_value.specs.Shape.{has_shape}
-use Rattle.mr_value.proofs.Comparisons.{lt_from}
+use Rattle.mr_base.proofs.Comparisons.{lt_from}
 use Rattle.mr_value.proofs.EncodeLength.{length-encoding_of}
 use Rattle.mr_value.proofs.ShapeLaws.{has_bool, has_fn_ptr, has_raw, has_ref, shape_fn_ptr, shape_raw, shape_ref}
 use Rattle.mr_script.specs.Script.{Done, Undefined, ◌>>=◌}

@@ -6,7 +6,7 @@ use Rattle.mr_ast.specs.declared.types.Tree.{Tree}
 use Rattle.mr_ast.specs.declared.types.Ty.TheVariants as ty
 use Rattle.mr_ast.specs.declared.types.Variant.{Variant}
 use Rattle.mr_base.specs.declared.byte.Pointer.{Pointer}
-use Rattle.mr_layout.specs.EnumRules.{is_fitting}
+use Rattle.mr_ast.specs.Integers.{is_fitting}
 use Rattle.mr_layout.specs.TypeOk.{TypeOk}
 use Rattle.mr_layout.proofs.WellFormed.{enum_ok}
 use Rattle.mr_mem.specs.Memory.{Memory}

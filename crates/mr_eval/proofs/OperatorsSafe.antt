@@ -4,7 +4,7 @@ use Rattle.std.specs.Prelude.{not, ◌&&◌, ◌||◌, ◌==◌, is_some, neg_�
 use Rattle.std.specs.Option.{option_map}
 use Rattle.std.specs.Cmp.Derive.{both_true}
 use Rattle.std.proofs.lemmas.Option.{same_Some}
-use Rattle.mr_ast.specs.Thin.{bits_of}
+use Rattle.mr_ast.specs.Integers.{bits_of, int_size}
 use Rattle.mr_ast.specs.declared.types.IntType.{IntType}
 use Rattle.mr_ast.specs.declared.types.IntType.TheVariants.{U8, U16, U32, U64, U128, I8, I16, I32, I64, I128}
 use Rattle.mr_ast.specs.declared.types.Ty.{Ty}
@@ -26,13 +26,12 @@ use Rattle.mr_intops.specs.Compare.{compare_of}
 use Rattle.mr_intops.specs.Numbers.{value_of}
 use Rattle.mr_intops.specs.Shift.{shift_of}
 use Rattle.mr_intops.proofs.Within.{arith_of-within, bits_for-lt, invert_of-lt, overflowing_of-within, shift_of-within}
-use Rattle.mr_layout.specs.Sizes.{int_size}
 use Rattle.mr_layout.proofs.PartsOk.{and_true}
 use Rattle.mr_value.specs.declared.val.Val.{Val, out-Val}
 use Rattle.mr_value.specs.declared.val.Val.TheOpen.{Val-F}
 use Rattle.mr_value.specs.declared.val.Val.TheVariants as val
 use Rattle.mr_value.specs.Shape.{has_shape}
-use Rattle.mr_value.proofs.Comparisons.{lt_from, lt_test}
+use Rattle.mr_base.proofs.Comparisons.{lt_from, lt_test}
 use Rattle.mr_value.proofs.ShapeLaws.{has_bool, has_int, has_raw, has_tuple, shape_bool, shape_int, shape_raw}
 use Rattle.mr_script.specs.Script.{Done, ◌>>=◌}
 use Rattle.mr_wf.specs.SameTypes.{same_type}

@@ -6,7 +6,7 @@ use Rattle.std.specs.Cmp.Derive.{both_true}
 use Rattle.std.proofs.lemmas.Bool.Decides.{nat_tests}
 use Rattle.std.proofs.lemmas.List.{length-replicate}
 use Rattle.std.proofs.lemmas.Option.{same_Some}
-use Rattle.mr_ast.specs.Thin.{is_signed}
+use Rattle.mr_ast.specs.Integers.{is_signed, is_fitting, int_size}
 use Rattle.mr_ast.specs.declared.types.IntType.{IntType}
 use Rattle.mr_ast.specs.declared.types.IntType.TheVariants.{U8, U16, U32, U64, U128, I8, I16, I32, I64, I128}
 use Rattle.mr_ast.specs.declared.types.Num.{Num}
@@ -14,9 +14,9 @@ use Rattle.mr_ast.specs.declared.types.Ty.{Ty, out-Ty, roll-Ty}
 use Rattle.mr_ast.specs.declared.types.Ty.TheVariants as ty
 use Rattle.mr_ast.specs.declared.types.Ty.TheOpen.{Ty-F}
 use Rattle.mr_ast.specs.declared.types.Variant.{Variant}
-use Rattle.mr_layout.specs.EnumRules.{is_fitting, same_num}
+use Rattle.mr_layout.specs.EnumRules.{same_num}
 use Rattle.mr_layout.specs.Parts.{FieldsOk, PartOk}
-use Rattle.mr_layout.specs.Sizes.{int_size, size_of}
+use Rattle.mr_layout.specs.Sizes.{size_of}
 use Rattle.mr_layout.specs.TypeOk.{TypeOk}
 use Rattle.mr_layout.proofs.PartsOk.{and_true}
 use Rattle.mr_layout.proofs.WellFormed.{UnionOk, union_ok}
@@ -30,7 +30,7 @@ use Rattle.mr_value.specs.Discriminants.{bits_of_number}
 use Rattle.mr_value.specs.Encode.{blank, encoding_of}
 use Rattle.mr_value.specs.Numbers.{Bytes}
 use Rattle.mr_value.specs.Shape.{elements_pass, fields_have_shape, has_shape, variant_has_shape}
-use Rattle.mr_value.proofs.Comparisons.{eq_test}
+use Rattle.mr_base.proofs.Comparisons.{eq_test}
 use Rattle.mr_value.proofs.DecodeShape.{length-chunks_in}
 use Rattle.mr_value.proofs.EncodeLength.{length-encoding_of}
 use Rattle.mr_value.proofs.ShapeLaws.{has_array, has_enum, has_int, has_tuple, has_union}

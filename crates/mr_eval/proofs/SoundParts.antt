@@ -16,7 +16,7 @@ use Rattle.mr_ast.specs.ShapedValues.{Named, is_shaped_place, is_shaped_value}
 use Rattle.mr_ast.proofs.ShapedLaws.{shaped_addr_of, shaped_binary, shaped_cast, shaped_deref, shaped_disc, shaped_field_place, shaped_index_place, shaped_load, shaped_transmute, shaped_tuple, shaped_unary, shaped_union, shaped_variant, shaped_variant_place}
 use Rattle.std.proofs.lemmas.List.{drop_more}
 use Rattle.std.proofs.lemmas.Option.{same_Some}
-use Rattle.mr_layout.specs.EnumRules.{is_fitting}
+use Rattle.mr_ast.specs.Integers.{is_fitting}
 use Rattle.mr_layout.specs.TypeOk.{TypeOk}
 use Rattle.mr_layout.specs.Sizes.{size_of}
 use Rattle.mr_layout.proofs.PartsOk.{and_true, same_of}

@@ -1,7 +1,7 @@
 -- What the operators give on values, by the types of their operands. (MiniRust, lang: operators.)
 use Rattle.std.specs.Prelude.{ℕ, ◌^◌, ◌==◌, nat_lt, Bool, not, if◌then◌else◌, [], ◌∷◌, Option, None, Some, Result, Ok, Err, ℤ, pos, ◌+ℤ◌}
 use Rattle.std.specs.Option.{option_and_then}
-use Rattle.mr_ast.specs.Thin.{bits_of}
+use Rattle.mr_ast.specs.Integers.{bits_of}
 use Rattle.mr_ast.specs.declared.types.IntType.{IntType}
 use Rattle.mr_ast.specs.declared.types.IntType.TheVariants.{U8, U64, I64}
 use Rattle.mr_ast.specs.declared.types.Ty.{Ty}

@@ -1,5 +1,5 @@
 ghost use Rattle.std.specs.Prelude.{◌≡◌, ◌<◌, ◌^◌, IfSome, Some, nat_lt, option_map};
-ghost use Rattle.mr_ast.specs.Thin.{bits_of};
+ghost use Rattle.mr_ast.specs.Integers.{bits_of};
 ghost use Rattle.mr_value.specs.declared.val.Val.{out-Val};
 ghost use Rattle.mr_eval.specs.Operators.{bits_in, integer_like, pointer_in, right_in};
 

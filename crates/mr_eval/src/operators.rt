@@ -1,5 +1,5 @@
 ghost use Rattle.std.specs.Prelude.{◌≡◌, ◌<◌, ◌^◌};
-ghost use Rattle.mr_ast.specs.Thin.{bits_of};
+ghost use Rattle.mr_ast.specs.Integers.{bits_of};
 ghost use Rattle.mr_value.specs.declared.val.Val.{out-Val};
 ghost use Rattle.mr_eval.specs.Answers.{Says, same};
 ghost use Rattle.mr_intops.specs.Arith.{overflowing_of};

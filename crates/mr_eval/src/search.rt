@@ -1,5 +1,5 @@
 ghost use Rattle.std.specs.Prelude.{◌≡◌, ℕ, OnErr, Some, length, option_map, true};
-ghost use Rattle.mr_layout.specs.Sizes.{int_size};
+ghost use Rattle.mr_ast.specs.Integers.{int_size};
 ghost use Rattle.mr_runs.specs.Pieces.{bytes_of_pieces};
 ghost use Rattle.mr_value.specs.Discriminants.{number_of_bits};
 ghost use Rattle.mr_value.specs.Numbers.{number_of};

@@ -14,7 +14,7 @@ use Rattle.mr_value.specs.declared.val.Val.TheVariants as val
 use Rattle.mr_value.specs.Discriminants.{number_of_bits}
 use Rattle.mr_value.specs.Shape.{has_shape}
 use Rattle.mr_value.proofs.ShapeLaws.{shape_bool, shape_int}
-use Rattle.mr_layout.specs.Sizes.{int_size}
+use Rattle.mr_ast.specs.Integers.{int_size}
 use Rattle.mr_eval.proofs.NumberLaws.{int_fits}
 use Rattle.mr_wf.specs.Blocks.{fits_switch, fits_switch_layer}
 use Rattle.mr_wf.specs.Operands.{is_bool, is_bool_layer, is_integer, is_scalar_number}

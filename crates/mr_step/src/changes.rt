@@ -1,7 +1,8 @@
 ghost use Rattle.std.specs.Prelude.{◌≡◌, ℕ, false, option_copied, true};
 ghost use Rattle.mr_ast.specs.declared.types.Ty.{Ty, out-Ty};
 ghost use Rattle.mr_ast.specs.declared.program.Stmt.TheVariants as stmt;
-ghost use Rattle.mr_layout.specs.EnumRules.{are_tags, is_fitting};
+ghost use Rattle.mr_layout.specs.EnumRules.{are_tags};
+ghost use Rattle.mr_ast.specs.Integers.{is_fitting};
 ghost use Rattle.mr_eval.specs.Answers.{seen};
 ghost use Rattle.mr_eval.specs.Environment.{Leaves, env_scene};
 ghost use Rattle.mr_eval.specs.Moves.{behind};

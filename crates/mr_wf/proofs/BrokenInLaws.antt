@@ -18,7 +18,7 @@ use Rattle.mr_ast.specs.declared.expr.Place.TheVariants as place
 use Rattle.mr_ast.specs.declared.expr.Value.TheVariants as value
 use Rattle.mr_ast.specs.declared.expr.Place.TheOpen.{Place-F, Value-F}
 use Rattle.mr_ast.specs.declared.expr.Place.TheFolds.{map-Place, map-Value, para-roll-Place, para-roll-Value}
-use Rattle.mr_layout.specs.EnumRules.{is_fitting}
+use Rattle.mr_ast.specs.Integers.{is_fitting}
 use Rattle.mr_wf.specs.Types.{discriminant_type, element_type, field_type, type_of_place, type_of_value, variant_type}
 use Rattle.mr_wf.specs.Operands.{fits_binary, fits_parts, fits_unary, fits_union, fits_variant, is_int, is_pointer, is_raw, is_ref, is_scalar_number, same_size}
 use Rattle.mr_wf.specs.Broken.{Codes, Surroundings, broken_in_place, broken_in_value, broken_place_step, broken_value_step, is_in_global, of_type, rule, where_all_typed, where_both_typed, where_typed}

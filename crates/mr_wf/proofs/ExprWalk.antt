@@ -22,7 +22,7 @@ use Rattle.mr_ast.specs.ShapedTypes.{fits_u64, is_shaped_num, is_shaped_type}
 use Rattle.mr_ast.specs.ShapedValues.{Named, is_shaped_place, is_shaped_value}
 use Rattle.mr_ast.proofs.ShapedLaws.{shaped_local_place, shaped_deref, shaped_field_place, shaped_index_place, shaped_variant_place, shaped_tuple, shaped_union, shaped_variant, shaped_load, shaped_disc, shaped_addr_of, shaped_cast, shaped_transmute, shaped_unary, shaped_binary}
 use Rattle.mr_ast.proofs.ExprInduction.{AllValues, ExprCases, place_induction, value_induction}
-use Rattle.mr_layout.specs.EnumRules.{is_fitting}
+use Rattle.mr_ast.specs.Integers.{is_fitting}
 use Rattle.mr_layout.proofs.PartsOk.{and_true}
 use Rattle.mr_wf.specs.SameTypes.{same_type}
 use Rattle.mr_wf.specs.Types.{chained, discriminant_type, element_type, field_type, integer_of, overflow_type, result_type, type_of_place, type_of_value, variant_type}

@@ -19,7 +19,7 @@ use Rattle.mr_ast.specs.declared.expr.Place.TheVariants as place
 use Rattle.mr_ast.specs.declared.expr.Value.TheVariants as value
 use Rattle.mr_ast.specs.declared.expr.Place.TheOpen.{Place-F, Value-F}
 use Rattle.mr_ast.specs.declared.expr.Place.TheFolds.{map-Place, map-Value, fold-roll-Place, fold-roll-Value}
-use Rattle.mr_layout.specs.EnumRules.{is_fitting}
+use Rattle.mr_ast.specs.Integers.{is_fitting}
 use Rattle.mr_wf.specs.Types.{discriminant_type, element_type, field_type, result_type, variant_type}
 use Rattle.mr_wf.specs.Operands.{fits_binary, fits_parts, fits_unary, fits_union, fits_variant, is_int, is_pointer, is_raw, is_ref, is_scalar_number, same_size}
 use Rattle.mr_wf.specs.Broken.{Surroundings, is_in_global}

@@ -7,7 +7,7 @@ use Rattle.mr_ast.specs.declared.types.Ty.{Ty, roll-Ty, out-Ty}
 use Rattle.mr_ast.specs.declared.types.Ty.TheVariants as ty
 use Rattle.mr_ast.specs.declared.types.Ty.TheOpen.{Ty-F}
 use Rattle.mr_ast.specs.declared.types.Variant.{Variant}
-use Rattle.mr_layout.specs.Sizes.{int_size}
+use Rattle.mr_ast.specs.Integers.{int_size}
 use Rattle.mr_wf.specs.SameTypes.{same_layer, same_type}
 use Rattle.mr_wf.specs.Types.{chained, field_in, field_type, integer_in, integer_of, overflow_type}
 use Rattle.mr_wf.specs.Operands.{is_bool, is_bool_layer, is_fn_ptr, is_fn_ptr_layer, is_raw, is_raw_layer}

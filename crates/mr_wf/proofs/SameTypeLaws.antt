@@ -15,8 +15,7 @@ use Rattle.mr_ast.specs.declared.types.Ty.TheVariants as ty
 use Rattle.mr_ast.specs.declared.types.Ty.TheOpen.{Ty-F, Variant-F}
 use Rattle.mr_ast.specs.declared.types.Ty.TheFolds.{map-Ty, map-Variant, fold-Variant, fold-roll-Ty, fold-roll-Variant, ind-Ty}
 use Rattle.mr_ast.specs.declared.types.Variant.{Variant, roll-Variant, out-Variant}
-use Rattle.mr_ast.specs.Thin.{is_signed}
-use Rattle.mr_layout.specs.Sizes.{int_size}
+use Rattle.mr_ast.specs.Integers.{is_signed, int_size}
 use Rattle.mr_layout.specs.EnumRules.{same_num}
 use Rattle.mr_layout.proofs.PartsOk.{and_true, same_of}
 use Rattle.mr_layout.proofs.TreeOk.{same_num_equal}

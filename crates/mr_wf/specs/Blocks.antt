@@ -18,7 +18,8 @@ use Rattle.mr_ast.specs.declared.program.Stmt.{Stmt}
 use Rattle.mr_ast.specs.declared.program.Stmt.TheVariants as stmt
 use Rattle.mr_ast.specs.declared.program.Term.{Term}
 use Rattle.mr_ast.specs.declared.program.Term.TheVariants as term
-use Rattle.mr_layout.specs.EnumRules.{is_case, is_fitting}
+use Rattle.mr_layout.specs.EnumRules.{is_case}
+use Rattle.mr_ast.specs.Integers.{is_fitting}
 use Rattle.mr_wf.specs.SameTypes.{same_type}
 use Rattle.mr_wf.specs.Types.{type_of_place, type_of_value, variant_type}
 use Rattle.mr_wf.specs.Operands.{is_fn_ptr, is_raw}

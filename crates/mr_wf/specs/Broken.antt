@@ -13,7 +13,7 @@ use Rattle.mr_ast.specs.declared.program.Item_.TheVariants as item
 use Rattle.mr_ast.specs.declared.program.Function.{Function}
 use Rattle.mr_ast.specs.declared.program.Local.{Local}
 use Rattle.mr_ast.specs.declared.program.Program.{Program}
-use Rattle.mr_layout.specs.EnumRules.{is_fitting}
+use Rattle.mr_ast.specs.Integers.{is_fitting}
 use Rattle.mr_layout.specs.TypeOk.{broken_rule}
 use Rattle.mr_wf.specs.Types.{discriminant_type, element_type, field_type, type_of_place, type_of_value, variant_type}
 use Rattle.mr_wf.specs.Operands.{fits_binary, fits_parts, fits_unary, fits_union, fits_variant, is_int, is_pointer, is_raw, is_ref, is_scalar_number, same_size}

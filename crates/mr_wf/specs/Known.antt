@@ -18,7 +18,7 @@ use Rattle.mr_wf.specs.declared.known.Known.{Known}
 use Rattle.mr_wf.specs.declared.known.Known.TheVariants as known
 use Rattle.mr_wf.specs.declared.judging.Surroundings.{Surroundings as Around}
 use Rattle.mr_wf.specs.Types.{element_type, overflow_type, result_type}
-use Rattle.mr_layout.specs.Sizes.{int_size}
+use Rattle.mr_ast.specs.Integers.{int_size}
 use Rattle.mr_wf.specs.Operands.{fits_binary, is_bool, is_int}
 use Rattle.mr_wf.specs.Broken.{Surroundings}
 use Rattle.mr_wf.specs.Judging.{◌>>=◌, kept, there}

@@ -10,8 +10,7 @@ use Rattle.mr_ast.specs.declared.types.Ty.{Ty, out-Ty}
 use Rattle.mr_ast.specs.declared.types.Ty.TheOpen.{Ty-F, Variant-F}
 use Rattle.mr_ast.specs.declared.types.Ty.TheFolds.{fold-Ty}
 use Rattle.mr_ast.specs.declared.types.Variant.{Variant, out-Variant}
-use Rattle.mr_ast.specs.Thin.{is_signed}
-use Rattle.mr_layout.specs.Sizes.{int_size}
+use Rattle.mr_ast.specs.Integers.{is_signed, int_size}
 use Rattle.mr_layout.specs.EnumRules.{same_num}
 
 abbrev pub same_bool : Bool → Bool → Bool
