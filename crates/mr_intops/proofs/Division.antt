@@ -8,8 +8,8 @@ use Rattle.std.proofs.Math.Nat.{div-le_self}
 use Rattle.mr_base.specs.declared.reason.Reason.{Reason}
 use Rattle.mr_base.specs.declared.reason.Reason.TheVariants.{ZeroDivisor, DivOverflow}
 use Rattle.mr_ast.specs.declared.types.IntType.{IntType}
-use Rattle.mr_ast.specs.Thin.{bits_of}
-use Rattle.mr_intops.specs.Numbers.{bits_for, least_of}
+use Rattle.mr_ast.specs.Integers.{bits_of, least_of}
+use Rattle.mr_intops.specs.Numbers.{bits_for}
 use Rattle.mr_intops.specs.Arith.{if_quotient_defined}
 use Rattle.mr_intops.proofs.Residues.{IsCongruent}
 use Rattle.mr_intops.proofs.NumberLaws.{bits_for-congruent}

@@ -3,7 +3,7 @@ use Rattle.std.proofs.Common.{◌≡◌, ℕ, ◌-◌, ◌*◌, ◌%◌, ◌^◌
 use Rattle.std.specs.Prelude.{ℤ, pos, ◌-ℤ◌, ◌*ℤ◌, unsigned_abs}
 use Rattle.std.proofs.lemmas.Int.{ints}
 use Rattle.mr_ast.specs.declared.types.IntType.{IntType}
-use Rattle.mr_ast.specs.Thin.{bits_of, is_signed}
+use Rattle.mr_ast.specs.Integers.{bits_of, is_signed}
 use Rattle.mr_intops.specs.Numbers.{number_at, value_of, bits_for}
 use Rattle.mr_intops.proofs.Residues.{IsCongruent, int_rem_euclid-congruent, congruent_pos, congruent_product}
 

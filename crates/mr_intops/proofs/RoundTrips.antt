@@ -6,8 +6,8 @@ use Rattle.std.proofs.lemmas.Bool.{and_parts, and_from}
 use Rattle.std.proofs.lemmas.Int.{ints}
 use Rattle.mr_ast.specs.declared.types.IntType.{IntType}
 use Rattle.mr_ast.specs.declared.types.IntType.TheVariants.{U8, U16, U32, U64, U128, I8, I16, I32, I64, I128}
-use Rattle.mr_ast.specs.Thin.{bits_of}
-use Rattle.mr_intops.specs.Numbers.{value_of, bits_for, fits}
+use Rattle.mr_ast.specs.Integers.{bits_of, fits}
+use Rattle.mr_intops.specs.Numbers.{value_of, bits_for}
 use Rattle.mr_intops.proofs.NumberLaws.{value_of-congruent, bits_for-congruent}
 
 -- the bits of the number that bits mean are those bits

@@ -3,7 +3,7 @@ use Rattle.std.proofs.Common.{◌≡◌, ℕ, ◌+◌, ◌-◌, ◌*◌, ◌%◌
 use Rattle.std.proofs.Math.Pow.{mod-mod-pow}
 use Rattle.mr_ast.specs.declared.types.IntType.{IntType}
 use Rattle.mr_ast.specs.declared.types.IntType.TheVariants.{U8, U16, U32, U64, U128, I8, I16, I32, I64, I128}
-use Rattle.mr_ast.specs.Thin.{bits_of}
+use Rattle.mr_ast.specs.Integers.{bits_of}
 
 pub spare_and_width : (t : IntType) → (128 - bits_of t) + bits_of t ≡ 128
 spare_and_width U8 = refl

@@ -6,12 +6,12 @@ use Rattle.std.proofs.lemmas.Nat.{or_lt, xor_lt, and_le_l}
 use Rattle.mr_base.specs.declared.reason.Reason.{Reason}
 use Rattle.mr_base.specs.declared.reason.Reason.TheVariants.{Overflow, ZeroDivisor, DivOverflow, ShiftAmount}
 use Rattle.mr_ast.specs.declared.types.IntType.{IntType}
-use Rattle.mr_ast.specs.Thin.{bits_of}
+use Rattle.mr_ast.specs.Integers.{bits_of, least_of}
 use Rattle.mr_intops.specs.declared.arithmetic.ArithOp.{ArithOp}
 use Rattle.mr_intops.specs.declared.arithmetic.ArithOp.TheVariants.{Add, Sub, Mul, Div, Rem, And, Or, Xor, AddUnchecked, SubUnchecked, MulUnchecked}
 use Rattle.mr_intops.specs.declared.shifts.ShiftOp.{ShiftOp}
 use Rattle.mr_intops.specs.declared.shifts.ShiftOp.TheVariants.{Shl, Shr, ShlUnchecked, ShrUnchecked}
-use Rattle.mr_intops.specs.Numbers.{value_of, bits_for, least_of}
+use Rattle.mr_intops.specs.Numbers.{value_of, bits_for}
 use Rattle.mr_intops.specs.Arith.{if_quotient_defined, arith_of, overflowing_of}
 use Rattle.mr_intops.specs.Shift.{shift_of}
 use Rattle.mr_intops.specs.Cast.{invert_of}

@@ -6,7 +6,8 @@ use Rattle.mr_base.specs.declared.reason.Reason.TheVariants.{Overflow, ZeroDivis
 use Rattle.mr_ast.specs.declared.types.IntType.{IntType}
 use Rattle.mr_intops.specs.declared.arithmetic.ArithOp.{ArithOp}
 use Rattle.mr_intops.specs.declared.arithmetic.ArithOp.TheVariants.{Add, Sub, Mul, Div, Rem, And, Or, Xor, AddUnchecked, SubUnchecked, MulUnchecked}
-use Rattle.mr_intops.specs.Numbers.{value_of, bits_for, least_of, fits}
+use Rattle.mr_intops.specs.Numbers.{value_of, bits_for}
+use Rattle.mr_ast.specs.Integers.{least_of, fits}
 
 -- the bits of an exact result, which is undefined where it isn't a number of the type
 abbrev pub unless_overflow : IntType → ℤ → Result ℕ Reason

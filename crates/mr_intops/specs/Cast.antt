@@ -1,7 +1,7 @@
 -- The conversions between integer types, and the operators on one number.
 use Rattle.std.specs.Prelude.{ℕ, ◌-◌, ◌^◌, neg_ℤ, bit_xor}
 use Rattle.mr_ast.specs.declared.types.IntType.{IntType}
-use Rattle.mr_ast.specs.Thin.{bits_of}
+use Rattle.mr_ast.specs.Integers.{bits_of}
 use Rattle.mr_intops.specs.Numbers.{value_of, bits_for}
 
 -- the same number in another type, modulo 2 to that type's width

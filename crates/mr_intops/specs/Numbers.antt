@@ -2,7 +2,7 @@
 use Rattle.std.specs.Prelude.{ℕ, ◌-◌, ◌^◌, Bool, true, false, ◌&&◌, if◌then◌else◌, nat_lt, ℤ, pos, ◌-ℤ◌, neg_ℤ, int_le, unsigned_abs}
 use Rattle.std.specs.Int.{int_rem_euclid}
 use Rattle.mr_ast.specs.declared.types.IntType.{IntType}
-use Rattle.mr_ast.specs.Thin.{bits_of, is_signed}
+use Rattle.mr_ast.specs.Integers.{bits_of, is_signed}
 
 -- the number that a signed or unsigned type of this width means by the bits: in a signed type the highest bit counts as its negative
 abbrev pub number_at : Bool → ℕ → ℕ → ℤ
@@ -15,22 +15,3 @@ value_of t a = number_at (is_signed t) (bits_of t) a
 -- the bits of a number in a type: the number modulo 2 to the width, from 0
 abbrev pub bits_for : IntType → ℤ → ℕ
 bits_for t z = unsigned_abs (int_rem_euclid z (pos (2 ^ bits_of t)))
-
--- the least and the greatest number of a signed or unsigned type of this width
-abbrev pub least_at : Bool → ℕ → ℤ
-least_at false width = pos 0
-least_at true width = neg_ℤ (pos (2 ^ (width - 1)))
-
-abbrev pub greatest_at : Bool → ℕ → ℤ
-greatest_at false width = pos (2 ^ width - 1)
-greatest_at true width = pos (2 ^ (width - 1) - 1)
-
-abbrev pub least_of : IntType → ℤ
-least_of t = least_at (is_signed t) (bits_of t)
-
-abbrev pub greatest_of : IntType → ℤ
-greatest_of t = greatest_at (is_signed t) (bits_of t)
-
--- whether the number is one of the type's
-abbrev pub fits : IntType → ℤ → Bool
-fits t z = int_le (least_of t) z && int_le z (greatest_of t)

@@ -4,7 +4,7 @@ use Rattle.std.specs.Int.{int_div_euclid, int_rem_euclid}
 use Rattle.mr_base.specs.declared.reason.Reason.{Reason}
 use Rattle.mr_base.specs.declared.reason.Reason.TheVariants.{ShiftAmount}
 use Rattle.mr_ast.specs.declared.types.IntType.{IntType}
-use Rattle.mr_ast.specs.Thin.{bits_of}
+use Rattle.mr_ast.specs.Integers.{bits_of}
 use Rattle.mr_intops.specs.declared.shifts.ShiftOp.{ShiftOp}
 use Rattle.mr_intops.specs.declared.shifts.ShiftOp.TheVariants.{Shl, Shr, ShlUnchecked, ShrUnchecked}
 use Rattle.mr_intops.specs.Numbers.{value_of, bits_for}

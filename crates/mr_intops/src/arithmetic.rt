@@ -1,10 +1,11 @@
+//! Sums, differences, products, quotients and remainders.
 ghost use Rattle.std.specs.Prelude.{◌≡◌, ◌^◌, ◌<◌, true, false, ◌+ℤ◌, ◌-ℤ◌, ◌*ℤ◌, int_div, int_rem, pos, if◌then◌else◌};
 ghost use Rattle.std.specs.Option.{option_map_or};
-ghost use Rattle.mr_ast.specs.Thin.{bits_of, is_signed as is_signed_lem};
-ghost use Rattle.mr_intops.specs.Numbers.{value_of, bits_for, fits};
+ghost use Rattle.mr_ast.specs.Integers.{bits_of, is_signed as is_signed_lem, fits};
+ghost use Rattle.mr_intops.specs.Numbers.{value_of, bits_for};
 ghost use Rattle.mr_intops.specs.Arith.{arith_of, overflowing_of, HasOverflowing, with_overflow, if_quotient_defined};
 
-use crate::bits::{all_ones, bits_of_number, greatest, is_signed, least, signed_number, truncated};
+use crate::bits::{all_ones, bits_of_number, signed_number, truncated};
 use mr_ast::IntType;
 use mr_base::Reason;
 
@@ -90,7 +91,7 @@ fn sum_fits(t: IntType, a: u128, b: u128) -> bool
     requires right { b < 2 ^ bits_of t }
     ensures { result ≡ fits t (value_of t a +ℤ value_of t b) }
 {
-    if is_signed(t) {
+    if t.signed() {
         signed_fits(t, signed_number(t, a).checked_add(signed_number(t, b)))
     } else {
         unsigned_fits(t, a.checked_add(b))
@@ -111,7 +112,7 @@ fn difference_fits(t: IntType, a: u128, b: u128) -> bool
     requires right { b < 2 ^ bits_of t }
     ensures { result ≡ fits t (value_of t a -ℤ value_of t b) }
 {
-    if is_signed(t) {
+    if t.signed() {
         signed_fits(t, signed_number(t, a).checked_sub(signed_number(t, b)))
     } else {
         unsigned_fits(t, a.checked_sub(b))
@@ -132,7 +133,7 @@ fn product_fits(t: IntType, a: u128, b: u128) -> bool
     requires right { b < 2 ^ bits_of t }
     ensures { result ≡ fits t (value_of t a *ℤ value_of t b) }
 {
-    if is_signed(t) {
+    if t.signed() {
         signed_fits(t, signed_number(t, a).checked_mul(signed_number(t, b)))
     } else {
         unsigned_fits(t, a.checked_mul(b))
@@ -146,7 +147,7 @@ fn signed_fits(t: IntType, exact: Option<i128>) -> bool
 {
     match exact {
         None => false,
-        Some(number) => least(t) <= number && number <= greatest(t),
+        Some(number) => t.least() <= number && number <= t.greatest(),
     }
 }
 
@@ -176,7 +177,7 @@ fn quotient_bits(t: IntType, a: u128, b: u128) -> u128
     requires nonzero { 0 < b }
     ensures { result ≡ bits_for t (int_div (value_of t a) (value_of t b)) }
 {
-    if is_signed(t) {
+    if t.signed() {
         let quotient = signed_number(t, a).wrapping_div(signed_number(t, b));
         bits_of_number(t, quotient)
     } else {
@@ -199,7 +200,7 @@ fn remainder_bits(t: IntType, a: u128, b: u128) -> u128
     requires nonzero { 0 < b }
     ensures { result ≡ bits_for t (int_rem (value_of t a) (value_of t b)) }
 {
-    if is_signed(t) {
+    if t.signed() {
         let remainder = signed_number(t, a).wrapping_rem(signed_number(t, b));
         bits_of_number(t, remainder)
     } else {
@@ -216,7 +217,7 @@ fn check_division(t: IntType, a: u128, b: u128) -> Result<(), Reason>
     if b == 0 {
         return Err(Reason::ZeroDivisor);
     }
-    if is_signed(t) && signed_number(t, a) == least(t) && b == all_ones(t) {
+    if t.signed() && signed_number(t, a) == t.least() && b == all_ones(t) {
         return Err(Reason::DivOverflow);
     }
     Ok(())

@@ -1,8 +1,9 @@
+//! Casts between integer types, and the operators on one number.
 ghost use Rattle.std.specs.Prelude.{◌≡◌, ◌^◌, ◌<◌};
-ghost use Rattle.mr_ast.specs.Thin.{bits_of};
+ghost use Rattle.mr_ast.specs.Integers.{bits_of};
 ghost use Rattle.mr_intops.specs.Cast.{cast_of, negate_of, invert_of};
 
-use crate::bits::{bits_of_number, is_signed, signed_number, truncated};
+use crate::bits::{bits_of_number, signed_number, truncated};
 use mr_ast::IntType;
 
 /// The bits of the same number in the type `to`, modulo 2 to its width.
@@ -10,7 +11,7 @@ pub fn cast(from: IntType, to: IntType, a: u128) -> u128
     requires { a < 2 ^ bits_of from }
     ensures { result ≡ cast_of from to a }
 {
-    if is_signed(from) {
+    if from.signed() {
         bits_of_number(to, signed_number(from, a))
     } else {
         truncated(to, a)

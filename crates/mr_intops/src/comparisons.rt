@@ -1,10 +1,11 @@
+//! Comparisons of integers.
 ghost use Rattle.std.specs.Prelude.{◌≡◌, ◌^◌, ◌<◌};
 ghost use Rattle.std.specs.Ordering.{int_cmp};
-ghost use Rattle.mr_ast.specs.Thin.{bits_of};
+ghost use Rattle.mr_ast.specs.Integers.{bits_of};
 ghost use Rattle.mr_intops.specs.Numbers.{value_of};
 ghost use Rattle.mr_intops.specs.Compare.{compare_of};
 
-use crate::bits::{is_signed, signed_number};
+use crate::bits::{signed_number};
 use mr_ast::IntType;
 use std::cmp::Ordering;
 
@@ -41,7 +42,7 @@ fn order(t: IntType, a: u128, b: u128) -> Ordering
     requires right { b < 2 ^ bits_of t }
     ensures { result ≡ int_cmp (value_of t a) (value_of t b) }
 {
-    if is_signed(t) {
+    if t.signed() {
         signed_number(t, a).cmp(&signed_number(t, b))
     } else {
         a.cmp(&b)

@@ -14,9 +14,6 @@ mod bits;
 mod casts;
 mod comparisons;
 mod shifts;
-#[cfg(test)]
-mod tests;
-
 pub use arithmetic::{ArithOp, arith, overflowing};
 pub use casts::{cast, invert, negate};
 pub use comparisons::{CmpOp, compare};

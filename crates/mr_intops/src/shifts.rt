@@ -1,8 +1,9 @@
+//! Shifts of integers.
 ghost use Rattle.std.specs.Prelude.{◌≡◌, ◌^◌, ◌<◌};
-ghost use Rattle.mr_ast.specs.Thin.{bits_of};
+ghost use Rattle.mr_ast.specs.Integers.{bits_of};
 ghost use Rattle.mr_intops.specs.Shift.{amount_of, is_amount as is_amount_lem, shifted_left, shifted_right, shift_of};
 
-use crate::bits::{bits_of_number, is_signed, signed_number, truncated, width};
+use crate::bits::{bits_of_number, signed_number, truncated};
 use mr_ast::IntType;
 use mr_base::Reason;
 
@@ -42,7 +43,7 @@ fn amount(t: IntType, by: IntType, b: u128) -> u32
     ensures value { result ≡ amount_of t by b }
     ensures within { result < bits_of t }
 {
-    (b % u128::from(width(t))) as u32
+    (b % u128::from(t.bits())) as u32
 }
 
 // The bits of a negative number are 128 or more in each signed type.
@@ -50,7 +51,7 @@ fn is_amount(t: IntType, by: IntType, b: u128) -> bool
     requires { b < 2 ^ bits_of by }
     ensures { result ≡ is_amount_lem t by b }
 {
-    b < u128::from(width(t))
+    b < u128::from(t.bits())
 }
 
 fn left(t: IntType, a: u128, amount: u32) -> u128
@@ -66,7 +67,7 @@ fn right(t: IntType, a: u128, amount: u32) -> u128
     requires number { a < 2 ^ bits_of t }
     ensures { result ≡ shifted_right t a amount }
 {
-    if is_signed(t) {
+    if t.signed() {
         bits_of_number(t, signed_number(t, a) >> amount)
     } else {
         a >> amount

@@ -1,3 +1,5 @@
+//! Why a pick or an operation on memory is refused.
+
 use mr_base::{AllocId, Reason};
 use std::alloc::{AllocError, AllocFailed};
 

@@ -22,6 +22,3 @@ mod ranges;
 
 pub use fault::{Fault, PickFault};
 pub use memory::Memory;
-
-#[cfg(test)]
-mod tests;

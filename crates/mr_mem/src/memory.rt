@@ -1,3 +1,4 @@
+//! The allocations of a run, and what is asked of them.
 ghost use Rattle.std.specs.Prelude.{◌≡◌, map};
 ghost use Rattle.std.specs.List.{list_any};
 ghost use Rattle.std.specs.BTreeMap.{IsOrdered};
@@ -57,7 +58,7 @@ fn held_by(kind: Kind, size: u64) -> u64
 }
 
 impl Memory {
-    ghost use Rattle.std.specs.Prelude.{◌≡◌, ◌+◌, ◌-◌, ◌<◌, ◌≤◌, ◌^◌, MatchResult, OnOk, OnErr, Some, None, Ok, Err, replicate};
+    ghost use Rattle.std.specs.Prelude.{◌≡◌, ◌+◌, ◌-◌, ◌<◌, ◌≤◌, ◌^◌, MatchResult, OnOk, OnErr, IfOk, [], Some, None, Ok, Err, replicate};
     ghost use Rattle.mr_base.specs.declared.byte.AbstractByte.TheVariants.{Uninit};
     ghost use Rattle.mr_mem.specs.Stored.{IsStored, seen_view};
     ghost use Rattle.std.specs.FinMap as fin;
@@ -152,9 +153,10 @@ impl Memory {
         Ok(p.prov)
     }
 
-    /// Lends the `len` bytes from the pointer on. Misalignment is told before the range check.
+    /// Lends the `len` bytes from the pointer on, and no piece where they are none. Misalignment is told before the range check.
     pub fn load(&self, p: Pointer, len: u64, align: u64) -> Result<View<'_>, Reason>
-        ensures { seen_view result ≡ read self.now p len align }
+        ensures lent { seen_view result ≡ read self.now p len align }
+        ensures empty { len ≡ 0 → IfOk result (λ view. view ≡ []) }
     {
         if !is_multiple(p.addr, align) {
             return Err(Reason::Misaligned);

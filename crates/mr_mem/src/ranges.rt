@@ -1,3 +1,4 @@
+//! Ranges of the bytes of an allocation.
 ghost use Rattle.std.specs.Prelude.{◌≡◌, OnErr, Some, option_copied, option_map, replicate};
 ghost use Rattle.std.specs.FinMap as fin;
 ghost use Rattle.mr_base.specs.declared.byte.AbstractByte.TheVariants.{Uninit};

@@ -17,6 +17,3 @@ mod views;
 pub use runs::Runs;
 pub use std::alloc::AllocError as OutOfMemory;
 pub use views::{Piece, View};
-
-#[cfg(test)]
-mod tests;

@@ -1,3 +1,4 @@
+//! How a byte is marked: uninitialised, or initialised with a provenance.
 ghost use Rattle.std.specs.Prelude.{◌≡◌};
 ghost use Rattle.mr_runs.specs.Lists.{byte_of};
 

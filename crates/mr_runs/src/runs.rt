@@ -1,3 +1,4 @@
+//! The list of the bytes of an allocation.
 ghost use Rattle.std.specs.Prelude.{◌≡◌, ◌≤◌, ◌+◌, ◌<◌, ◌++◌, length, take, drop, replicate, slice_set, IfOk, OnOk, OnErr};
 ghost use Rattle.mr_base.specs.declared.byte.AbstractByte.TheVariants.{Uninit};
 ghost use Rattle.mr_runs.specs.Lists.{bytes_of_lists};

@@ -1,3 +1,4 @@
+//! Views of a part of the bytes.
 ghost use Rattle.std.specs.Prelude.{◌≡◌, ◌<◌, [], length, slice_get};
 ghost use Rattle.std.specs.Option.{option_map};
 ghost use Rattle.mr_runs.specs.Lists.{bytes_of_lists, pieces_of_lists};

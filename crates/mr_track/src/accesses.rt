@@ -1,3 +1,5 @@
+//! The accesses of a step.
+
 use crate::OutOfMemory;
 use mr_base::Access;
 use smallvec::SmallVec;
@@ -20,7 +22,7 @@ impl Model for Accesses {
 }
 
 impl Accesses {
-    ghost use Rattle.std.specs.Prelude.{◌≡◌, ◌<◌, ◌++◌, ◌∷◌, [], length, IsOk, OnErr, OnOk};
+    ghost use Rattle.std.specs.Prelude.{◌≡◌, ◌<◌, ◌++◌, ◌∷◌, [], length, slice_get, OnErr, OnOk};
 
     /// No access.
     pub fn new(alloc: Global) -> Accesses
@@ -38,6 +40,20 @@ impl Accesses {
     {
         self.items.push(access)?;
         Ok(())
+    }
+
+    /// How many there are.
+    pub fn len(&self) -> usize
+        ensures { result ≡ length self.now }
+    {
+        self.items.len()
+    }
+
+    /// The access with the number `n`, counted from 0; `None` past the last.
+    pub fn get(&self, n: usize) -> Option<Access>
+        ensures { result ≡ slice_get self.now n }
+    {
+        self.items.as_slice().get(n).copied()
     }
 
     /// All of them.

@@ -1,3 +1,4 @@
+//! Whether accesses conflict or race.
 ghost use Rattle.std.specs.Prelude.{◌≡◌};
 ghost use Rattle.std.specs.List.{list_any};
 ghost use Rattle.mr_base.specs.Accesses.{overlaps, conflicts as conflict_of, races as race_of, some_conflict, some_race};

@@ -3,7 +3,8 @@
 //! Contracts see [`Accesses`] as the list of the accesses in the order in which the step makes them; what overlaps, conflicts and
 //! races is defined in `mr_base/specs/Accesses.antt`. Proved of the public calls:
 //!
-//! - [`Accesses::add`]: appends an access, or changes nothing where memory runs out. The first four need none.
+//! - [`Accesses::add`]: appends an access, or changes nothing where memory runs out.
+//! - [`Accesses::len`], [`Accesses::get`], [`Accesses::as_slice`]: how many there are, each of them, and all.
 //! - [`conflicts`]: whether some access of the one list overlaps some access of the other, one of the two being a store.
 //! - [`races`]: the same, where one of the two isn't atomic as well.
 #![tactic(auto)]
@@ -14,6 +15,3 @@ mod compare;
 pub use accesses::Accesses;
 pub use compare::{conflicts, races};
 pub use std::alloc::AllocError as OutOfMemory;
-
-#[cfg(test)]
-mod tests;
