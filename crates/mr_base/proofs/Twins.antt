@@ -1,16 +1,16 @@
 -- To see that a test holds of no two elements of a list, it is enough to compare neighbours of the list in order.
 use Rattle.std.proofs.Common.{◌≡◌, ℕ, suc, ◌+◌, ◌<◌, ◌≤◌, Bool, true, false, List, [], ◌∷◌, All, get_or, refl, sym, ap, subst, ◌∙◌, true≢false, arith, inl, inr, ◌⊎◌}
-use Rattle.std.specs.Prelude.{cond, ◌==◌, nat_lt}
+use Rattle.std.specs.Prelude.{cond, if◌then◌else◌, ◌||◌, ◌==◌, nat_lt}
 use Rattle.std.specs.List.{list_any, IsDistinct, AllByRecursion}
 use Rattle.std.specs.List.Sorted.{IsPermutation, IsSortedBy}
 use Rattle.std.specs.Ordering.{is_lt, nat_cmp, ordering_then}
 use Rattle.std.specs.declared.cmp.Ordering.TheVariants.{Less, Equal, Greater}
 use Rattle.std.proofs.lemmas.Bool.{or_from, or_parts}
 use Rattle.std.proofs.lemmas.Bool.Decides.{nat_tests}
-use Rattle.std.proofs.lemmas.List.Elements.{All-head, All-tail}
+use Rattle.std.proofs.lemmas.List.Elements.{All-cons, All-head, All-nil, All-tail}
 use Rattle.std.proofs.lemmas.List.Sorted.{All-permutation, IsPermutation-sym}
 use Rattle.std.proofs.lemmas.Map.Keys.{IsDistinct-IsPermutation}
-use Rattle.mr_base.specs.Pairs.{some_pair, some_next, some_neighbours, same_pair, are_meeting}
+use Rattle.mr_base.specs.Pairs.{some_pair, some_next, some_neighbours, same_pair, are_meeting, not_empty}
 
 module _ {A : Type 0} (test : A → A → Bool) where
   none_of : (x : A) (xs : List A) → list_any (test x) xs ≡ false → AllByRecursion (λ y. test x y ≡ false) xs
@@ -183,3 +183,47 @@ pub are_meeting_sorted : (xs ys : List (ℕ × ℕ)) → IsPermutation xs ys →
     → some_neighbours are_meeting ys ≡ some_pair are_meeting xs
 are_meeting_sorted xs ys moved some up =
     some_pair-sorted are_meeting pair_lt (λ x. 0 < x.1) RangeBelow range_follows range_apart range_rises range_flips xs ys moved (each (λ x. 0 < x.1) ys (All-permutation (λ x. 0 < x.1) xs ys moved some)) up
+
+-- ranges without a byte meet none
+empty_meets : (x y : ℕ × ℕ) → nat_lt 0 y.1 ≡ false → are_meeting x y ≡ false
+empty_meets x y e = grind (arith, nat_tests)
+
+empty_meets_none : (x : ℕ × ℕ) (ranges : List (ℕ × ℕ)) → nat_lt 0 x.1 ≡ false → list_any (are_meeting x) ranges ≡ false
+empty_meets_none x [] e = refl
+empty_meets_none x (r ∷ ranges) e = or_from (are_meeting x r) (list_any (are_meeting x) ranges) (range_flips x r ∙ empty_meets r x e) (empty_meets_none x ranges e)
+
+meets_not_empty : (x : ℕ × ℕ) (ranges : List (ℕ × ℕ)) → list_any (are_meeting x) (not_empty ranges) ≡ list_any (are_meeting x) ranges
+meets_not_empty x [] = refl
+meets_not_empty x (r ∷ ranges) = by (meets_not_empty x ranges) (nat_lt 0 r.1) refl
+  where
+    by : list_any (are_meeting x) (not_empty ranges) ≡ list_any (are_meeting x) ranges → (b : Bool) → nat_lt 0 r.1 ≡ b → list_any (are_meeting x) (if nat_lt 0 r.1 then r ∷ not_empty ranges else not_empty ranges) ≡ list_any (are_meeting x) (r ∷ ranges)
+    by rest true e = ap (λ b. list_any (are_meeting x) (if b then r ∷ not_empty ranges else not_empty ranges)) e ∙ ap (λ b. are_meeting x r || b) rest
+    by rest false e =
+        ap (λ b. list_any (are_meeting x) (if b then r ∷ not_empty ranges else not_empty ranges)) e ∙ rest
+        ∙ sym (ap (λ b. b || list_any (are_meeting x) ranges) (empty_meets x r e))
+
+-- so those that have one tell
+pub some_pair_not_empty : (ranges : List (ℕ × ℕ)) → some_pair are_meeting (not_empty ranges) ≡ some_pair are_meeting ranges
+some_pair_not_empty [] = refl
+some_pair_not_empty (r ∷ ranges) = by (some_pair_not_empty ranges) (nat_lt 0 r.1) refl
+  where
+    by : some_pair are_meeting (not_empty ranges) ≡ some_pair are_meeting ranges → (b : Bool) → nat_lt 0 r.1 ≡ b → some_pair are_meeting (if nat_lt 0 r.1 then r ∷ not_empty ranges else not_empty ranges) ≡ some_pair are_meeting (r ∷ ranges)
+    by rest true e =
+        ap (λ b. some_pair are_meeting (if b then r ∷ not_empty ranges else not_empty ranges)) e
+        ∙ (λ i. meets_not_empty r ranges i || rest i)
+    by rest false e =
+        ap (λ b. some_pair are_meeting (if b then r ∷ not_empty ranges else not_empty ranges)) e ∙ rest
+        ∙ sym (ap (λ b. b || some_pair are_meeting ranges) (empty_meets_none r ranges e))
+
+all_cons : (r : ℕ × ℕ) (ranges : List (ℕ × ℕ)) → 0 < r.1 → All (λ x. 0 < x.1) ranges → All (λ x. 0 < x.1) (r ∷ ranges)
+all_cons r ranges one rest = All-cons (λ x. 0 < x.1) r ranges one rest
+
+pub all_not_empty : (ranges : List (ℕ × ℕ)) → All (λ x. 0 < x.1) (not_empty ranges)
+all_not_empty [] = All-nil (λ x. 0 < x.1)
+all_not_empty (r ∷ ranges) = by (all_not_empty ranges) (nat_lt 0 r.1) refl
+  where
+    by : All (λ x. 0 < x.1) (not_empty ranges) → (b : Bool) → nat_lt 0 r.1 ≡ b → All (λ x. 0 < x.1) (if nat_lt 0 r.1 then r ∷ not_empty ranges else not_empty ranges)
+    by rest true e =
+        let one : 0 < r.1 = grind (arith, nat_tests) in
+        subst (λ b. All (λ x. 0 < x.1) (if b then r ∷ not_empty ranges else not_empty ranges)) (sym e) (all_cons r (not_empty ranges) one rest)
+    by rest false e = subst (λ b. All (λ x. 0 < x.1) (if b then r ∷ not_empty ranges else not_empty ranges)) (sym e) rest

@@ -1,5 +1,5 @@
 -- Whether a test holds of two elements of a list.
-use Rattle.std.specs.Prelude.{ℕ, ◌+◌, Bool, false, ◌&&◌, ◌||◌, ◌==◌, nat_lt, List, [], ◌∷◌}
+use Rattle.std.specs.Prelude.{ℕ, ◌+◌, Bool, false, ◌&&◌, ◌||◌, ◌==◌, nat_lt, if◌then◌else◌, List, [], ◌∷◌}
 use Rattle.std.specs.List.{list_any}
 
 -- whether the test holds of an element and a later one
@@ -28,3 +28,8 @@ is_meeting a len b count = nat_lt 0 len && (nat_lt 0 count && (nat_lt a (b + cou
 -- the same of two pairs
 abbrev pub are_meeting : ℕ × ℕ → ℕ × ℕ → Bool
 are_meeting x y = is_meeting x.0 x.1 y.0 y.1
+
+-- the ranges that have a byte
+abbrev pub not_empty : List (ℕ × ℕ) → List (ℕ × ℕ)
+not_empty [] = []
+not_empty (r ∷ ranges) = if nat_lt 0 r.1 then r ∷ not_empty ranges else not_empty ranges

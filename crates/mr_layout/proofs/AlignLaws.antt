@@ -7,7 +7,8 @@ use Rattle.mr_ast.specs.declared.types.Ty.TheVariants as ty
 use Rattle.mr_ast.specs.declared.types.Ty.TheOpen.{Ty-F}
 use Rattle.mr_ast.specs.declared.types.Ty.TheFolds.{fold-roll-Ty}
 use Rattle.mr_ast.specs.declared.types.Variant.{Variant}
-use Rattle.mr_layout.specs.Sizes.{int_size, align_step, variant_step, align_of}
+use Rattle.mr_layout.specs.Sizes.{align_step, variant_step, align_of}
+use Rattle.mr_ast.specs.Integers.{int_size}
 
 pub align_int : (i : IntType) → align_of (ty.Int i) ≡ int_size i
 align_int i = ap align_of (sym (ty.rolls-Int i)) ∙ fold-roll-Ty ℕ ℕ align_step variant_step (Ty-F.Int i)

@@ -9,7 +9,8 @@ use Rattle.mr_ast.specs.declared.types.IntType.TheVariants.{U8, U16, U32, U64, U
 use Rattle.mr_ast.specs.declared.types.Ty.{Ty}
 use Rattle.mr_ast.specs.declared.types.Ty.TheVariants as ty
 use Rattle.mr_ast.proofs.TypeInduction.{TypeCases, type_induction}
-use Rattle.mr_layout.specs.Sizes.{int_size, size_of, align_of}
+use Rattle.mr_layout.specs.Sizes.{size_of, align_of}
+use Rattle.mr_ast.specs.Integers.{int_size}
 use Rattle.mr_layout.specs.Rules.{is_align}
 use Rattle.mr_layout.specs.TypeOk.{TypeOk}
 use Rattle.mr_layout.proofs.SizeLaws.{size_int, size_bool, size_raw, size_fn_ptr, size_ref, size_tuple, size_array, size_union, size_enum}

@@ -9,9 +9,11 @@ use Rattle.mr_ast.specs.declared.types.Tag.{Tag}
 use Rattle.mr_ast.specs.declared.types.Tree.{Tree}
 use Rattle.mr_ast.specs.declared.types.Ty.{Ty}
 use Rattle.mr_ast.specs.declared.types.Variant.{Variant}
-use Rattle.mr_layout.specs.Sizes.{int_size, size_of}
+use Rattle.mr_layout.specs.Sizes.{size_of}
+use Rattle.mr_ast.specs.Integers.{int_size}
 use Rattle.mr_layout.specs.Used.{is_in, is_in_chunk, is_used}
-use Rattle.mr_layout.specs.Rules.{is_meeting, meets_any, is_overlapping, is_rising_after, is_rising, meets_chunk, is_chunk_overlapping, is_covered, are_covered}
+use Rattle.mr_layout.specs.Rules.{meets_any, is_overlapping, is_rising_after, is_rising, meets_chunk, is_chunk_overlapping, is_covered, are_covered}
+use Rattle.mr_base.specs.Pairs.{is_meeting}
 use Rattle.mr_layout.specs.EnumRules.{same_num, is_number_of, meets_tag, is_some_used, is_case}
 use Rattle.mr_layout.proofs.Bounds.{or_false}
 use Rattle.mr_layout.proofs.PartsOk.{and_true}

@@ -10,8 +10,12 @@ use Rattle.mr_ast.specs.declared.program.Block.{Block}
 use Rattle.mr_ast.specs.declared.program.Function.{Function}
 use Rattle.mr_ast.specs.declared.program.Program.{Program}
 use Rattle.mr_layout.specs.Written.{parts_of, types_of, types_of_stmt, types_of_term, types_of_block, types_of_locals, types_of_function, written_types}
-use Rattle.mr_layout.specs.Cached.{IsCacheOf, Holds}
+use Rattle.mr_layout.specs.Cached.{IsCacheOf}
 use Rattle.mr_layout.proofs.WrittenParts.{parts_written}
+
+-- a cache holds each of some types
+unfoldable pub Holds : List Ty → List Ty → Type 0
+Holds held types = All (Contains held) types
 
 all_left : {X : Type 0} (P : X → Type 0) (xs ys : List X) → All P (xs ++ ys) → All P xs
 all_left P [] ys all = All-nil P

@@ -1,5 +1,6 @@
 pub mod AlignLaws
 pub mod Aligned
+pub mod AlikeLaws
 pub mod Apart
 pub mod Bounds
 pub mod BrokenLaws
@@ -8,6 +9,7 @@ pub mod Examples
 pub mod HeldTypes
 pub mod InhabitedLaws
 pub mod OkTests
+pub mod PartFacts
 pub mod PartsOk
 pub mod SizeLaws
 pub mod TreeLaws

@@ -7,7 +7,7 @@ use Rattle.mr_ast.specs.declared.types.Num.{Num}
 use Rattle.mr_ast.specs.declared.types.Tree.{Tree}
 use Rattle.mr_ast.specs.declared.types.Tree.TheVariants as tree
 use Rattle.mr_ast.specs.declared.types.Variant.{Variant}
-use Rattle.mr_layout.specs.Sizes.{int_size}
+use Rattle.mr_ast.specs.Integers.{int_size}
 use Rattle.mr_layout.specs.EnumRules.{same_num, is_number_of, is_tree, are_tree_cases}
 use Rattle.mr_layout.proofs.PartsOk.{and_true, same_of}
 use Rattle.mr_layout.proofs.TreeLaws.{tree_known, tree_branch}

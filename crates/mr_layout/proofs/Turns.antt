@@ -8,8 +8,9 @@ use Rattle.mr_ast.specs.declared.types.Tag.{Tag}
 use Rattle.mr_ast.specs.declared.types.Tree.{Tree}
 use Rattle.mr_ast.specs.declared.types.Ty.{Ty}
 use Rattle.mr_ast.specs.declared.types.Variant.{Variant}
-use Rattle.mr_layout.specs.Sizes.{int_size, size_of, align_of}
-use Rattle.mr_layout.specs.EnumRules.{is_fitting, is_number_of, are_variants, meets_tag, is_some_used, are_tags, are_all_tags, is_case, is_tree, are_tree_cases}
+use Rattle.mr_layout.specs.Sizes.{size_of, align_of}
+use Rattle.mr_ast.specs.Integers.{int_size, is_fitting}
+use Rattle.mr_layout.specs.EnumRules.{is_number_of, are_variants, meets_tag, is_some_used, are_tags, are_all_tags, is_case, is_tree, are_tree_cases}
 use Rattle.mr_layout.specs.Parts.{is_ok, are_ok, are_chunks_ok, are_variants_ok}
 use Rattle.mr_layout.proofs.PartsOk.{and_true, same_of}
 use Rattle.mr_layout.proofs.WellFormed.{not_true}

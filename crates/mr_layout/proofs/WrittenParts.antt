@@ -19,7 +19,7 @@ use Rattle.mr_ast.specs.declared.program.Program.{Program}
 use Rattle.mr_ast.proofs.TypeInduction.{AllFields, AllVariants, TypeCases, type_induction}
 use Rattle.mr_ast.proofs.ExprInduction.{AllValues, ExprCases, place_induction, value_induction}
 use Rattle.mr_layout.specs.TypeOk.{TypeOk}
-use Rattle.mr_layout.specs.Parts.{FieldsOk, VariantsOk}
+use Rattle.mr_layout.proofs.PartFacts.{FieldsOk, VariantsOk}
 use Rattle.mr_layout.specs.Written.{parts_of, types_of, types_of_fields, types_of_variants, types_of_place, types_of_value, types_of_values, types_of_result, types_of_stmt, types_of_term, types_of_block, types_of_locals, types_of_function, written_types}
 use Rattle.mr_layout.proofs.WrittenLaws.{parts_int, parts_bool, parts_raw, parts_fn_ptr, parts_ref, parts_tuple, parts_array, parts_union, parts_enum, types_local, types_deref, types_field, types_index, types_variant_place, types_int, types_true, types_false, types_raw, types_fn, types_global, types_tuple, types_union, types_variant, types_load, types_disc, types_addr_of, types_cast, types_transmute, types_unary, types_binary}
 use Rattle.mr_layout.proofs.WellFormed.{tuple_ok, array_ok, union_ok, enum_ok}

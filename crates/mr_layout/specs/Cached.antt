@@ -14,10 +14,6 @@ pub record AreTypesOf (held types : List Ty) : Type 0 where
 abbrev pub IsCacheOf : List Ty → Program → Type 0
 IsCacheOf held p = AreTypesOf held (written_types p)
 
--- a cache holds each of some types
-unfoldable pub Holds : List Ty → List Ty → Type 0
-Holds held types = All (Contains held) types
-
 -- a type is put last where it isn't held already
 abbrev pub Adds : List Ty → Ty → List Ty → Type 0
 Adds old t new = (Contains old t × (new ≡ old)) ⊎ ((¬ Contains old t) × (new ≡ old ++ t ∷ []))

@@ -2,6 +2,8 @@
 use Rattle.std.specs.Prelude.{ℕ, zero, suc, ◌+◌, ◌*◌, ◌%◌, ◌^◌, Bool, true, false, not, ◌&&◌, ◌||◌, ◌==◌, nat_lt, nat_le, if◌then◌else◌, List, [], ◌∷◌, Option, Some, None, count_ones}
 use Rattle.mr_ast.specs.declared.types.Ty.{Ty}
 use Rattle.mr_ast.specs.declared.types.Variant.{Variant}
+use Rattle.mr_base.specs.Pairs.{is_meeting}
+use Rattle.mr_ast.specs.Limits.{max_align, max_size}
 use Rattle.mr_layout.specs.Sizes.{size_of}
 use Rattle.mr_layout.specs.Used.{is_used, is_in_chunk}
 
@@ -16,20 +18,16 @@ or_else (Some code) next = Some code
 
 -- a size or a count passes the limit
 abbrev pub is_large : ℕ → Bool
-is_large n = nat_lt (2 ^ 20) n
+is_large n = nat_lt max_size n
 
 -- a power of two of at most 4096
 abbrev pub is_align : ℕ → Bool
-is_align n = (count_ones n == 1) && nat_le n 4096
+is_align n = (count_ones n == 1) && nat_le n max_align
 
 -- a field passes the size
 abbrev pub is_past : ℕ → List (ℕ × Ty) → Bool
 is_past size [] = false
 is_past size (f ∷ fields) = nat_lt size (f.0 + size_of f.1) || is_past size fields
-
--- two ranges have a byte in common; a range of length 0 has none
-abbrev pub is_meeting : ℕ → ℕ → ℕ → ℕ → Bool
-is_meeting a len b count = nat_lt 0 len && (nat_lt 0 count && (nat_lt a (b + count) && nat_lt b (a + len)))
 
 -- a range has a byte in common with one of these fields
 abbrev pub meets_any : ℕ → ℕ → List (ℕ × Ty) → Bool

@@ -1,3 +1,4 @@
+//! The layouts of the types of a program.
 ghost use Rattle.std.specs.Prelude.{◌≡◌, ◌<◌, ◌^◌, [], ◌∷◌, ◌++◌, All, Contains, Some, slice_get, OnOk, IfOk, IfSome, IfNone};
 ghost use Rattle.mr_layout.specs.Sizes.{size_of};
 ghost use Rattle.mr_layout.specs.TypeOk.{TypeOk};

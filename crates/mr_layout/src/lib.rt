@@ -7,9 +7,10 @@
 //! - [`inhabited`]: whether a type has a value.
 //! - [`int_bytes`]: how many bytes an integer has.
 //! - [`used`]: whether the byte at an offset carries a part of a value (`specs/Used.antt`).
-//! - [`broken_rule`] and [`type_ok`]: the code of the first rule that a type breaks, its parts before itself, and `None` where it is
+//! - [`broken_rule`], [`first_broken_rule`] and [`type_ok`]: the code of the first rule that a type breaks, its parts before itself, and `None` where it is
 //!   well-formed (`specs/TypeOk.antt`, over `specs/Rules.antt` and `specs/EnumRules.antt`).
 //! - [`is_align`] and [`is_fitting`]: whether a number is an alignment, and whether it is one of an integer type's.
+//! - [`find_types`]: the types written in a program, whole or as a part of another, in their order (`specs/Written.antt`).
 //! - [`Cache::new`]: a cache that holds each type written in a program, whole or as a part of another, once, and no other type
 //!   (`specs/Written.antt`, `specs/Cached.antt`). Its condition is that these types are well-formed.
 //! - [`Cache::get`]: the [`Layout`] that is defined for a type, lent by the cache, and `None` exactly where the type isn't held
@@ -40,6 +41,7 @@
 //!   which types the cache holds of a function, a block, a place or a value.
 #![tactic(auto)]
 
+mod alike;
 mod bytes;
 mod cache;
 mod enum_rules;
@@ -51,11 +53,7 @@ mod written;
 pub use bytes::used;
 pub use cache::{Cache, Layout};
 pub use enum_rules::is_fitting;
-pub use ok::{broken_rule, type_ok};
+pub use ok::{broken_rule, first_broken_rule, type_ok};
 pub use rules::is_align;
 pub use sizes::{align, inhabited, int_bytes, size};
-
-#[cfg(test)]
-mod cache_tests;
-#[cfg(test)]
-mod tests;
+pub use written::{Found, find_types};

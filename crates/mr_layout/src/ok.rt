@@ -1,15 +1,33 @@
+//! The first broken rule of a type.
 ghost use Rattle.std.specs.Prelude.{◌≡◌};
 ghost use Rattle.mr_layout.specs.TypeOk.{broken_rule, first_broken_field, first_broken_variant};
 
+use crate::alike::Room;
 use crate::enum_rules::enum_rules;
 use crate::rules::{array_rules, ref_rules, tuple_rules, union_rules};
 use mr_ast::{OutOfMemory, Ty, Variant};
 use std::alloc::Global;
 
-/// The code of the first broken rule of a type, its parts before itself.
+/// The code of the first broken rule of a type, its parts before itself. It takes no memory, so that it compares each two
+/// parts of a list.
+pub fn broken_rule(t: &Ty) -> Option<u8>
+    ensures { result ≡ broken_rule t.now }
+{
+    broken(None, t)
+}
+
+/// The code of the first broken rule of a type, its parts before itself. It takes memory to sort lists by, and compares each
+/// two parts of a list only where memory is wanting.
+pub fn first_broken_rule(alloc: Global, t: &Ty) -> Option<u8>
+    ensures { result ≡ broken_rule t.now }
+{
+    broken(Some(alloc), t)
+}
+
+// The code of the first broken rule of a type.
 #[cycle(broken)]
 #[tactic(auto, using(crate::proofs::BrokenLaws::broken_laws))]
-pub fn broken_rule(t: &Ty) -> Option<u8>
+fn broken(room: Room, t: &Ty) -> Option<u8>
     ensures { result ≡ broken_rule t.now }
 {
     match t {
@@ -22,11 +40,11 @@ pub fn broken_rule(t: &Ty) -> Option<u8>
             size,
             align,
             fields,
-        } => match first_broken_field(fields.as_slice()) {
+        } => match first_broken_field(room, fields.as_slice()) {
             Some(code) => Some(code),
-            None => tuple_rules(*size, *align, fields.as_slice()),
+            None => tuple_rules(room, *size, *align, fields.as_slice()),
         },
-        Ty::Array { count, elem } => match broken_rule(elem.get()) {
+        Ty::Array { count, elem } => match broken(room, elem.get()) {
             Some(code) => Some(code),
             None => array_rules(*count, elem.get()),
         },
@@ -35,9 +53,9 @@ pub fn broken_rule(t: &Ty) -> Option<u8>
             align,
             fields,
             chunks,
-        } => match first_broken_field(fields.as_slice()) {
+        } => match first_broken_field(room, fields.as_slice()) {
             Some(code) => Some(code),
-            None => union_rules(*size, *align, fields.as_slice(), chunks.as_slice()),
+            None => union_rules(room, *size, *align, fields.as_slice(), chunks.as_slice()),
         },
         Ty::Enum {
             size,
@@ -45,19 +63,19 @@ pub fn broken_rule(t: &Ty) -> Option<u8>
             disc,
             variants,
             tree,
-        } => match first_broken_variant(variants.as_slice()) {
+        } => match first_broken_variant(room, variants.as_slice()) {
             Some(code) => Some(code),
-            None => enum_rules(*size, *align, *disc, variants.as_slice(), tree),
+            None => enum_rules(room, *size, *align, *disc, variants.as_slice(), tree),
         },
     }
 }
 
 #[cycle(broken)]
-fn first_broken_field(fields: &[(u64, Ty)]) -> Option<u8>
+fn first_broken_field(room: Room, fields: &[(u64, Ty)]) -> Option<u8>
     ensures { result ≡ first_broken_field fields.now }
 {
     for field in fields {
-        if let Some(code) = broken_rule(&field.1) {
+        if let Some(code) = broken(room, &field.1) {
             return Some(code);
         }
     }
@@ -66,20 +84,20 @@ fn first_broken_field(fields: &[(u64, Ty)]) -> Option<u8>
 
 #[cycle(broken)]
 #[tactic(auto, using(crate::proofs::BrokenLaws::broken_laws))]
-fn first_broken_variant(variants: &[Variant]) -> Option<u8>
+fn first_broken_variant(room: Room, variants: &[Variant]) -> Option<u8>
     ensures { result ≡ first_broken_variant variants.now }
 {
     for variant in variants {
-        if let Some(code) = broken_rule(&variant.ty) {
+        if let Some(code) = broken(room, &variant.ty) {
             return Some(code);
         }
     }
     None
 }
 
-/// The code of the first broken rule of a type, its parts before itself, and `None` where none is broken. It takes no memory.
-pub fn type_ok(_alloc: Global, t: &Ty) -> Result<Option<u8>, OutOfMemory>
+/// The code of the first broken rule of a type, as `first_broken_rule` gives it. It does not fail.
+pub fn type_ok(alloc: Global, t: &Ty) -> Result<Option<u8>, OutOfMemory>
     ensures { result ≡ Ok (broken_rule t.now) }
 {
-    Ok(broken_rule(t))
+    Ok(first_broken_rule(alloc, t))
 }

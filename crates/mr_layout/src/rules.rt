@@ -1,13 +1,13 @@
+//! The rules of tuples, references, arrays and unions.
 ghost use Rattle.std.specs.Prelude.{◌≡◌, ◌<◌, ◌≤◌, ◌*◌, ◌+◌, ◌^◌, ℕ, false, not, ◌&&◌, ◌||◌, ◌==◌, count_ones, nat_lt, if◌then◌else◌};
 ghost use Rattle.mr_layout.specs.Sizes.{size_of};
-ghost use Rattle.mr_layout.specs.Rules.{is_align, is_past, is_meeting, meets_any, is_overlapping, is_chunk_past, is_rising, is_rising_after, meets_chunk, is_chunk_overlapping, is_covered, are_covered, tuple_rules, ref_rules, array_rules, union_rules};
+ghost use Rattle.mr_base.specs.Pairs.{is_meeting};
+ghost use Rattle.mr_layout.specs.Rules.{is_align, is_past, meets_any, is_overlapping, is_chunk_past, is_rising, is_rising_after, meets_chunk, is_chunk_overlapping, is_covered, are_covered, tuple_rules, ref_rules, array_rules, union_rules};
 
+use crate::alike::{Room, is_chunk_overlapping, is_overlapping};
 use crate::bytes::{in_chunk, used};
 use crate::sizes::size;
-use mr_ast::Ty;
-
-// The greatest size, and the greatest count of an array.
-pub(crate) const LARGE: u64 = 0x10_0000;
+use mr_ast::{MAX_ALIGN, MAX_SIZE, Ty};
 
 const MAX_POINTEE: u64 = 0x7fff_ffff_ffff_ffff;
 
@@ -15,7 +15,7 @@ const MAX_POINTEE: u64 = 0x7fff_ffff_ffff_ffff;
 pub fn is_align(n: u64) -> bool
     ensures { result ≡ is_align n }
 {
-    n.count_ones() == 1 && n <= 4096
+    n.count_ones() == 1 && n <= MAX_ALIGN
 }
 
 // Whether the range from a start passes an end.
@@ -78,7 +78,7 @@ fn field_meets(start: u64, len: u64, at: u64, t: &Ty) -> bool
     }
 }
 
-fn is_overlapping(end: u64, fields: &[(u64, Ty)]) -> bool
+pub(crate) fn are_overlapping(end: u64, fields: &[(u64, Ty)]) -> bool
     requires small { end < 2 ^ 63 }
     requires inside { is_past end fields.now ≡ false }
     ensures { result ≡ is_overlapping fields.now }
@@ -105,10 +105,10 @@ fn part_meets(end: u64, start: u64, t: &Ty, fields: &[(u64, Ty)]) -> bool
 
 // The first broken rule of a tuple, whose fields break none.
 #[tactic(auto, unfolding(crate::specs::Rules::tuple_rules))]
-pub(crate) fn tuple_rules(size: u64, align: u64, fields: &[(u64, Ty)]) -> Option<u8>
+pub(crate) fn tuple_rules(room: Room, size: u64, align: u64, fields: &[(u64, Ty)]) -> Option<u8>
     ensures { result ≡ tuple_rules size align fields.now }
 {
-    if size > LARGE {
+    if size > MAX_SIZE {
         return Some(20);
     }
     if !is_align(align) {
@@ -117,7 +117,7 @@ pub(crate) fn tuple_rules(size: u64, align: u64, fields: &[(u64, Ty)]) -> Option
     if is_past(size, fields) {
         return Some(22);
     }
-    if is_overlapping(size, fields) {
+    if is_overlapping(room, size, fields) {
         return Some(23);
     }
     if align == 0 || size % align != 0 {
@@ -145,7 +145,7 @@ pub(crate) fn ref_rules(size: u64, align: u64) -> Option<u8>
 pub(crate) fn array_rules(count: u64, elem: &Ty) -> Option<u8>
     ensures { result ≡ array_rules count elem.now }
 {
-    if count > LARGE || is_large_array(count, size(elem)) {
+    if count > MAX_SIZE || is_large_array(count, size(elem)) {
         return Some(20);
     }
     None
@@ -162,7 +162,7 @@ fn is_large_array(count: u64, elem: Option<u64>) -> bool
         None => true,
         Some(one) => match count.checked_mul(one) {
             None => true,
-            Some(all) => all > LARGE,
+            Some(all) => all > MAX_SIZE,
         },
     }
 }
@@ -211,7 +211,7 @@ fn meets_chunk(start: u64, len: u64, chunks: &[(u64, u64)]) -> bool
     false
 }
 
-fn is_chunk_overlapping(chunks: &[(u64, u64)]) -> bool
+pub(crate) fn are_chunks_overlapping(chunks: &[(u64, u64)]) -> bool
     ensures { result ≡ is_chunk_overlapping chunks.now }
 {
     for i in 0..chunks.len() {
@@ -264,6 +264,7 @@ fn are_covered(end: u64, fields: &[(u64, Ty)], chunks: &[(u64, u64)]) -> bool
 // The first broken rule of a union, whose fields break none.
 #[tactic(auto, unfolding(crate::specs::Rules::union_rules))]
 pub(crate) fn union_rules(
+    room: Room,
     size: u64,
     align: u64,
     fields: &[(u64, Ty)],
@@ -271,7 +272,7 @@ pub(crate) fn union_rules(
 ) -> Option<u8>
     ensures { result ≡ union_rules size align fields.now chunks.now }
 {
-    if size > LARGE {
+    if size > MAX_SIZE {
         return Some(20);
     }
     if !is_align(align) {
@@ -283,7 +284,10 @@ pub(crate) fn union_rules(
     if align == 0 || size % align != 0 {
         return Some(24);
     }
-    if !is_rising(chunks) || is_chunk_overlapping(chunks) || !are_covered(size, fields, chunks) {
+    if !is_rising(chunks)
+        || is_chunk_overlapping(room, chunks)
+        || !are_covered(size, fields, chunks)
+    {
         return Some(28);
     }
     None

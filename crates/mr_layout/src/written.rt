@@ -1,3 +1,4 @@
+//! The types that are written in a program.
 ghost use Rattle.std.specs.Prelude.{◌≡◌, ◌++◌, [], ◌∷◌, map, OnOk, IfOk};
 ghost use Rattle.std.specs.List.{flat_map};
 ghost use Rattle.mr_layout.specs.Written.{types_of, types_of_fields, types_of_variants, types_of_place, types_of_value, types_of_values, types_of_result, types_of_stmt, types_of_term, types_of_locals, types_of_block, types_of_function, written_types};
@@ -10,7 +11,7 @@ use std::marker::Model;
 ///
 /// A contract sees the list of the types.
 #[derive(Drop)]
-pub(crate) struct Found<'a> {
+pub struct Found<'a> {
     types: Vec<&'a Ty>,
 }
 
@@ -37,7 +38,8 @@ impl<'a> Found<'a> {
         }
     }
 
-    pub(crate) fn as_slice(&self) -> &[&'a Ty]
+    /// All of them.
+    pub fn as_slice(&self) -> &[&'a Ty]
         ensures { map (λ t. t.now) result.now ≡ self.now }
     {
         self.types.as_slice()
@@ -256,7 +258,7 @@ fn add_function<'a>(found: &mut Found<'a>, function: &'a Function) -> Result<(),
 
 /// The types written in a program, with their parts. One that is written twice is found twice.
 #[tactic(auto, unfolding(crate::specs::Written::written_types))]
-pub(crate) fn find_types<'a>(alloc: Global, p: &'a Program) -> Result<Found<'a>, OutOfMemory>
+pub fn find_types<'a>(alloc: Global, p: &'a Program) -> Result<Found<'a>, OutOfMemory>
     ensures { IfOk result (λ found. found ≡ written_types p.now) }
 {
     let mut found = Found::new(alloc);

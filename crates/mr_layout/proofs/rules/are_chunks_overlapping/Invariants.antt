@@ -1,6 +1,6 @@
 use Rattle.std.proofs.Common.{◌≡◌, drop}
 use Rattle.mr_layout.specs.Rules.{is_chunk_overlapping}
-use Rattle.mr_layout.proofs.rules.is_chunk_overlapping.Given as goal
+use Rattle.mr_layout.proofs.rules.are_chunks_overlapping.Given as goal
 
 abbrev pub invariant-loop-i : goal.invariant-loop-i
 invariant-loop-i l = is_chunk_overlapping l.chunks ≡ is_chunk_overlapping (drop l.i l.chunks)

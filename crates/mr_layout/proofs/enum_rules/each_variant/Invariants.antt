@@ -1,0 +1,6 @@
+use Rattle.std.proofs.Common.{◌≡◌, drop}
+use Rattle.mr_layout.specs.Alike.{each_variant}
+use Rattle.mr_layout.proofs.enum_rules.each_variant.Given as goal
+
+abbrev pub invariant-loop-variant : goal.invariant-loop-variant
+invariant-loop-variant l = each_variant l.size l.most l.disc l.variants ≡ each_variant l.size l.most l.disc (drop l.variant-index l.variants)
