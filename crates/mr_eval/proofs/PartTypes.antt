@@ -9,7 +9,7 @@ use Rattle.mr_ast.specs.declared.types.Ty.TheVariants as ty
 use Rattle.mr_ast.specs.declared.types.Ty.TheOpen.{Ty-F}
 use Rattle.mr_ast.specs.declared.types.Variant.{Variant}
 use Rattle.mr_layout.specs.EnumRules.{same_num}
-use Rattle.mr_layout.specs.Parts.{FieldsOk, PartOk, VariantsOk}
+use Rattle.mr_layout.proofs.PartFacts.{FieldsOk, PartOk, VariantsOk}
 use Rattle.mr_layout.specs.Sizes.{size_of}
 use Rattle.mr_layout.specs.TypeOk.{TypeOk}
 use Rattle.mr_layout.proofs.WellFormed.{array_ok, enum_ok, tuple_ok, union_ok}

@@ -15,7 +15,7 @@ use Rattle.mr_ast.specs.declared.types.Ty.TheVariants as ty
 use Rattle.mr_ast.specs.declared.types.Ty.TheOpen.{Ty-F}
 use Rattle.mr_ast.specs.declared.types.Variant.{Variant}
 use Rattle.mr_layout.specs.EnumRules.{same_num}
-use Rattle.mr_layout.specs.Parts.{FieldsOk, PartOk}
+use Rattle.mr_layout.proofs.PartFacts.{FieldsOk, PartOk}
 use Rattle.mr_layout.specs.Sizes.{size_of}
 use Rattle.mr_layout.specs.TypeOk.{TypeOk}
 use Rattle.mr_layout.proofs.PartsOk.{and_true}
