@@ -8,7 +8,7 @@ use Rattle.mr_layout.specs.TypeOk.{TypeOk, first_broken_field}
 use Rattle.mr_layout.proofs.BrokenLaws.{broken_tuple, broken_union}
 use Rattle.mr_layout.proofs.Bounds.{or_else_none, rule_none}
 use Rattle.mr_layout.proofs.PartsOk.{and_true}
-use Rattle.mr_value.proofs.Comparisons.{not_false, not_true}
+use Rattle.mr_base.proofs.Comparisons.{not_false, not_true}
 
 apart_fields : (size align : ℕ) (fields : List (ℕ × Ty)) → tuple_rules size align fields ≡ None → is_overlapping fields ≡ false
 unfolding tuple_rules

@@ -9,9 +9,10 @@ use Rattle.mr_ast.specs.declared.types.Variant.{Variant}
 use Rattle.mr_ast.proofs.TypeInduction.{AllFields, AllVariants, TypeCases, type_induction}
 use Rattle.mr_base.specs.declared.byte.Pointer.{Pointer}
 use Rattle.mr_base.specs.declared.byte.AbstractByte.TheVariants.{Uninit, Init}
-use Rattle.mr_layout.specs.Sizes.{int_size, size_of}
+use Rattle.mr_layout.specs.Sizes.{size_of}
+use Rattle.mr_ast.specs.Integers.{int_size}
 use Rattle.mr_layout.specs.EnumRules.{same_num}
-use Rattle.mr_layout.specs.Parts.{FieldsOk, ChunksInside, VariantsOk}
+use Rattle.mr_layout.proofs.PartFacts.{FieldsOk, ChunksInside, VariantsOk}
 use Rattle.mr_layout.specs.TypeOk.{TypeOk}
 use Rattle.mr_layout.proofs.PartsOk.{tuple_parts, array_part, union_parts, enum_parts}
 use Rattle.mr_layout.proofs.SizeLaws.{size_int, size_tuple, size_array, size_union, size_enum}
@@ -21,10 +22,10 @@ use Rattle.mr_value.specs.Numbers.{Bytes, part, number_of, pointer_of}
 use Rattle.mr_value.specs.Discriminants.{walk}
 use Rattle.mr_value.specs.Decode.{bool_of, pointer_where, is_not_null, is_aligned, elements_in, chunks_in, decoded, read_fields, read_variant}
 use Rattle.mr_value.specs.Shape.{chunks_size, elements_pass, has_shape, fields_have_shape, variant_has_shape}
-use Rattle.mr_value.proofs.Comparisons.{eq_test, lt_test}
+use Rattle.mr_base.proofs.Comparisons.{eq_test, lt_test}
 use Rattle.mr_value.proofs.DecodeLaws.{decode_int, decode_bool, decode_raw, decode_fn_ptr, decode_ref, decode_tuple, decode_array, decode_union, decode_enum}
 use Rattle.mr_value.proofs.Digits.{more_byte}
-use Rattle.mr_value.proofs.Options.{some_is, mapped, followed}
+use Rattle.mr_base.proofs.Options.{some_is, mapped, followed}
 use Rattle.mr_value.proofs.ShapeLaws.{has_int, has_bool, has_raw, has_fn_ptr, has_ref, has_tuple, has_array, has_union, has_enum}
 
 pub number_fits : (b : Bytes) (n : ℕ) → number_of b ≡ Some n → n < 2 ^ (8 * length b)

@@ -15,7 +15,7 @@ use Rattle.mr_value.specs.declared.val.Val.{Val}
 use Rattle.mr_value.specs.declared.val.Val.TheVariants as val
 use Rattle.mr_value.specs.Numbers.{Bytes, part}
 use Rattle.mr_value.specs.Decode.{Reader, decoded, read_fields, read_variant, elements_in, chunks_in}
-use Rattle.mr_value.proofs.Comparisons.{eq_from, le_from}
+use Rattle.mr_base.proofs.Comparisons.{eq_from, le_from}
 use Rattle.mr_value.proofs.PartLaws.{part_part}
 
 -- what is left of a list is its next item and what is left behind that

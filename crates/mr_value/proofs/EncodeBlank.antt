@@ -11,8 +11,9 @@ use Rattle.mr_ast.specs.declared.types.Variant.{Variant}
 use Rattle.mr_ast.proofs.TypeInduction.{AllFields, AllVariants, TypeCases, type_induction}
 use Rattle.mr_base.specs.declared.byte.AbstractByte.TheVariants.{Uninit}
 use Rattle.mr_layout.specs.EnumRules.{same_num, are_tags, are_all_tags}
-use Rattle.mr_layout.specs.Parts.{FieldsOk, VariantsOk}
-use Rattle.mr_layout.specs.Sizes.{int_size, size_of}
+use Rattle.mr_layout.proofs.PartFacts.{FieldsOk, VariantsOk}
+use Rattle.mr_layout.specs.Sizes.{size_of}
+use Rattle.mr_ast.specs.Integers.{int_size}
 use Rattle.mr_layout.specs.TypeOk.{TypeOk}
 use Rattle.mr_layout.specs.Used.{is_in, is_in_part, is_in_tag, is_used, is_used_variant, is_used_field, is_used_in}
 use Rattle.mr_layout.proofs.Bounds.{or_false}
@@ -25,7 +26,7 @@ use Rattle.mr_value.specs.declared.val.Val.{Val}
 use Rattle.mr_value.specs.Numbers.{Bytes}
 use Rattle.mr_value.specs.Encode.{blank, element_bytes, with_tags, encoding_of, write_fields, write_variant}
 use Rattle.mr_value.specs.Shape.{chunks_size, elements_pass, has_shape, fields_have_shape, variant_has_shape}
-use Rattle.mr_value.proofs.Comparisons.{below_or, eq_from}
+use Rattle.mr_base.proofs.Comparisons.{below_or, eq_from}
 use Rattle.mr_value.proofs.EncodeLaws.{encode_tuple, encode_array, encode_union, encode_enum}
 use Rattle.mr_value.proofs.EncodeLength.{length-encoding_of}
 use Rattle.mr_value.proofs.EncodePieces.{chunk_pieces, with_chunks_is, chunks_inside, in_chunks, tag_pieces, with_tags_is, tags_inside, in_tags}

@@ -10,9 +10,10 @@ use Rattle.mr_ast.specs.declared.types.Variant.{Variant}
 use Rattle.mr_ast.proofs.TypeInduction.{AllFields, AllVariants, TypeCases, type_induction}
 use Rattle.mr_base.specs.declared.byte.AllocId.{AllocId}
 use Rattle.mr_base.specs.declared.byte.AbstractByte.TheVariants.{Uninit, Init}
-use Rattle.mr_layout.specs.Sizes.{int_size, size_of}
+use Rattle.mr_layout.specs.Sizes.{size_of}
+use Rattle.mr_ast.specs.Integers.{int_size}
 use Rattle.mr_layout.specs.EnumRules.{same_num, are_tags, are_all_tags}
-use Rattle.mr_layout.specs.Parts.{FieldsOk, ChunksInside, VariantsOk}
+use Rattle.mr_layout.proofs.PartFacts.{FieldsOk, ChunksInside, VariantsOk}
 use Rattle.mr_layout.specs.TypeOk.{TypeOk}
 use Rattle.mr_layout.proofs.PartsOk.{and_true, tuple_parts, array_part, union_parts, enum_parts}
 use Rattle.mr_layout.proofs.SizeLaws.{size_int, size_bool, size_raw, size_fn_ptr, size_ref, size_tuple, size_array, size_union, size_enum}
@@ -23,7 +24,7 @@ use Rattle.mr_value.specs.Numbers.{Bytes, little_endian, initialised}
 use Rattle.mr_value.specs.Discriminants.{bits_of_number}
 use Rattle.mr_value.specs.Encode.{blank, element_bytes, with_chunks, tag_bytes, with_tags, encoding_of, write_fields, write_variant}
 use Rattle.mr_value.specs.Shape.{chunks_size, elements_pass, has_shape, fields_have_shape, variant_has_shape}
-use Rattle.mr_value.proofs.Comparisons.{eq_from}
+use Rattle.mr_base.proofs.Comparisons.{eq_from}
 use Rattle.mr_value.proofs.EncodeLaws.{encode_int, encode_bool, encode_raw, encode_fn_ptr, encode_ref, encode_tuple, encode_array, encode_union, encode_enum}
 use Rattle.mr_value.proofs.ShapeLaws.{shape_int, shape_bool, shape_raw, shape_fn_ptr, shape_ref, shape_tuple, shape_array, shape_union, shape_enum}
 use Rattle.mr_value.proofs.TagParts.{enum_tags, first_tag}

@@ -4,9 +4,11 @@ use Rattle.std.specs.Prelude.{◌||◌}
 use Rattle.mr_ast.specs.declared.types.Tag.{Tag}
 use Rattle.mr_ast.specs.declared.types.Ty.{Ty}
 use Rattle.mr_layout.specs.EnumRules.{are_tags}
-use Rattle.mr_layout.specs.Parts.{FieldsOk, ChunksInside}
-use Rattle.mr_layout.specs.Rules.{is_meeting, meets_any, meets_chunk}
-use Rattle.mr_layout.specs.Sizes.{int_size, size_of}
+use Rattle.mr_layout.proofs.PartFacts.{FieldsOk, ChunksInside}
+use Rattle.mr_layout.specs.Rules.{meets_any, meets_chunk}
+use Rattle.mr_base.specs.Pairs.{is_meeting}
+use Rattle.mr_layout.specs.Sizes.{size_of}
+use Rattle.mr_ast.specs.Integers.{int_size}
 use Rattle.mr_layout.specs.Used.{is_in, is_in_chunk, is_in_tag}
 use Rattle.mr_layout.proofs.PartsOk.{and_true}
 use Rattle.mr_runs.specs.Ranges.{with_range_replaced}

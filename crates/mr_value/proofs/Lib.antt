@@ -1,5 +1,4 @@
 pub mod ApartParts
-pub mod Comparisons
 pub mod DecodeLaws
 pub mod DecodeShape
 pub mod DecodeSteps
@@ -13,7 +12,6 @@ pub mod Examples
 pub mod FaithfulLaws
 pub mod Meanings
 pub mod NumbersBack
-pub mod Options
 pub mod PartLaws
 pub mod Pieces
 pub mod ReadsBack

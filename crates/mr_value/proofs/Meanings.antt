@@ -13,7 +13,7 @@ use Rattle.mr_value.specs.Numbers.{Bytes, part}
 use Rattle.mr_value.specs.Shape.{has_shape}
 use Rattle.mr_value.proofs.DecodeShape.{decoded_has_shape}
 use Rattle.mr_value.proofs.EncodeLength.{length-encoding_of}
-use Rattle.mr_value.proofs.Options.{some_is}
+use Rattle.mr_base.proofs.Options.{some_is}
 use Rattle.mr_value.proofs.ReadsBack.{decoded-encoding_of}
 
 pub same_meaning : (t : Ty) (b : Bytes) (v w : Val) → Means t b v → Means t b w → v ≡ w

@@ -5,7 +5,7 @@ use Rattle.std.proofs.lemmas.List.{get_or-take, get_or-drop, get_or_append_left,
 use Rattle.std.specs.Prelude.{◌||◌}
 use Rattle.mr_base.specs.declared.byte.AbstractByte.{AbstractByte}
 use Rattle.mr_base.specs.declared.byte.AbstractByte.TheVariants.{Uninit}
-use Rattle.mr_layout.specs.Rules.{is_meeting}
+use Rattle.mr_base.specs.Pairs.{is_meeting}
 use Rattle.mr_layout.specs.Used.{is_in}
 use Rattle.mr_layout.proofs.Bounds.{or_false}
 use Rattle.mr_runs.specs.Ranges.{with_range_replaced}

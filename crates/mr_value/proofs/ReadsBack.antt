@@ -13,9 +13,10 @@ use Rattle.mr_ast.proofs.TypeInduction.{AllFields, AllVariants, TypeCases, type_
 use Rattle.mr_base.specs.declared.byte.AbstractByte.TheVariants.{Uninit, Init}
 use Rattle.mr_base.specs.declared.byte.Pointer.{Pointer}
 use Rattle.mr_layout.specs.EnumRules.{same_num, is_some_used, are_tags, are_all_tags}
-use Rattle.mr_layout.specs.Parts.{FieldsOk, ChunksInside, VariantsOk}
+use Rattle.mr_layout.proofs.PartFacts.{FieldsOk, ChunksInside, VariantsOk}
 use Rattle.mr_layout.specs.Rules.{meets_any, is_overlapping, meets_chunk, is_chunk_overlapping}
-use Rattle.mr_layout.specs.Sizes.{int_size, size_of}
+use Rattle.mr_layout.specs.Sizes.{size_of}
+use Rattle.mr_ast.specs.Integers.{int_size}
 use Rattle.mr_layout.specs.TypeOk.{TypeOk}
 use Rattle.mr_layout.specs.Used.{is_in, is_in_part, is_in_chunk, is_in_tag, is_used, is_used_variant, is_used_field, is_used_in}
 use Rattle.mr_layout.proofs.Bounds.{or_false}
@@ -33,7 +34,7 @@ use Rattle.mr_value.specs.Encode.{blank, element_bytes, with_chunks, with_tags, 
 use Rattle.mr_value.specs.Faithful.{is_address, is_found, is_faithful, fields_faithful, variant_faithful}
 use Rattle.mr_value.specs.Shape.{chunks_size, elements_pass, has_shape, fields_have_shape, variant_has_shape}
 use Rattle.mr_value.proofs.ApartParts.{tuple_apart, union_apart}
-use Rattle.mr_value.proofs.Comparisons.{below_or, eq_from, lt_from, lt_test}
+use Rattle.mr_base.proofs.Comparisons.{below_or, eq_from, lt_from, lt_test}
 use Rattle.mr_value.proofs.DecodeLaws.{decode_int, decode_bool, decode_raw, decode_fn_ptr, decode_ref, decode_tuple, decode_array, decode_union, decode_enum}
 use Rattle.mr_value.proofs.DecodeShape.{length-part}
 use Rattle.mr_value.proofs.EncodeBlank.{unused_is_blank}

@@ -10,7 +10,7 @@ use Rattle.mr_layout.proofs.BrokenLaws.{broken_ref}
 use Rattle.mr_layout.proofs.Bounds.{rule_none}
 use Rattle.mr_layout.proofs.OkTests.{ok_of}
 use Rattle.mr_layout.proofs.PartsOk.{and_true}
-use Rattle.mr_value.proofs.Comparisons.{eq_from, not_false}
+use Rattle.mr_base.proofs.Comparisons.{eq_from, not_false}
 
 align_positive : (size align : ℕ) → ref_rules size align ≡ None → 0 < align
 unfolding ref_rules

@@ -7,12 +7,12 @@ use Rattle.mr_ast.specs.declared.types.Tree.{Tree}
 use Rattle.mr_base.specs.declared.byte.AllocId.{AllocId}
 use Rattle.mr_base.specs.declared.byte.AbstractByte.{AbstractByte}
 use Rattle.mr_base.specs.declared.byte.AbstractByte.TheVariants.{Uninit, Init}
-use Rattle.mr_layout.specs.Sizes.{int_size}
+use Rattle.mr_ast.specs.Integers.{int_size}
 use Rattle.mr_layout.specs.EnumRules.{same_num}
 use Rattle.mr_value.specs.Numbers.{Bytes, part, number_of}
 use Rattle.mr_value.specs.Discriminants.{number_of_bits, walk, walk_case}
-use Rattle.mr_value.proofs.Comparisons.{below_or}
-use Rattle.mr_value.proofs.Options.{mapped, followed}
+use Rattle.mr_base.proofs.Comparisons.{below_or}
+use Rattle.mr_base.proofs.Options.{mapped, followed}
 use Rattle.mr_value.proofs.Pieces.{byte_at}
 use Rattle.mr_value.proofs.TreeInduction.{AllCases, TreeCases, tree_induction}
 use Rattle.mr_value.proofs.WalkLaws.{walk_known, walk_invalid, walk_branch}

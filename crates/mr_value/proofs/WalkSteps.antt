@@ -6,13 +6,13 @@ use Rattle.mr_ast.specs.declared.types.Num.{Num}
 use Rattle.mr_ast.specs.declared.types.Tree.{Tree}
 use Rattle.mr_ast.specs.declared.types.Tree.TheVariants as tree
 use Rattle.mr_ast.specs.declared.types.Variant.{Variant}
-use Rattle.mr_layout.specs.Sizes.{int_size}
-use Rattle.mr_layout.specs.EnumRules.{is_fitting, is_case, is_tree, are_tree_cases}
+use Rattle.mr_ast.specs.Integers.{int_size, is_fitting}
+use Rattle.mr_layout.specs.EnumRules.{is_case, is_tree, are_tree_cases}
 use Rattle.mr_layout.proofs.PartsOk.{and_true}
 use Rattle.mr_layout.proofs.TreeLaws.{tree_branch}
 use Rattle.mr_value.specs.Numbers.{Bytes, part, number_of}
 use Rattle.mr_value.specs.Discriminants.{number_of_bits, walk, walk_case}
-use Rattle.mr_value.proofs.Comparisons.{le_from}
+use Rattle.mr_base.proofs.Comparisons.{le_from}
 use Rattle.mr_value.proofs.PartLaws.{part_part}
 use Rattle.mr_value.proofs.WalkLaws.{walk_branch}
 

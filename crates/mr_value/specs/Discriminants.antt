@@ -5,8 +5,7 @@ use Rattle.mr_ast.specs.declared.types.Num.{Num}
 use Rattle.mr_ast.specs.declared.types.Tree.{Tree}
 use Rattle.mr_ast.specs.declared.types.Tree.TheOpen.{Tree-F}
 use Rattle.mr_ast.specs.declared.types.Tree.TheFolds.{fold-Tree}
-use Rattle.mr_ast.specs.Thin.{is_signed}
-use Rattle.mr_layout.specs.Sizes.{int_size}
+use Rattle.mr_ast.specs.Integers.{is_signed, int_size}
 use Rattle.mr_layout.specs.EnumRules.{same_num}
 use Rattle.mr_value.specs.Numbers.{Bytes, part, number_of}
 

@@ -7,7 +7,7 @@ use Rattle.mr_ast.specs.declared.types.Ty.TheOpen.{Ty-F, Variant-F}
 use Rattle.mr_ast.specs.declared.types.Ty.TheFolds.{para-Ty}
 use Rattle.mr_ast.specs.declared.types.Variant.{Variant}
 use Rattle.mr_base.specs.declared.byte.AbstractByte.TheVariants.{Uninit}
-use Rattle.mr_layout.specs.Sizes.{int_size}
+use Rattle.mr_ast.specs.Integers.{int_size}
 use Rattle.mr_layout.specs.EnumRules.{same_num}
 use Rattle.mr_runs.specs.Ranges.{with_range_replaced}
 use Rattle.mr_value.specs.declared.val.Val.{Val, out-Val}

@@ -1,3 +1,4 @@
+//! What bytes mean at a type.
 ghost use Rattle.std.specs.Prelude.{◌≡◌, ◌≤◌, ◌+◌, ◌*◌, ◌++◌, true, length, IfOk, IfSome, IfNone, OnOk};
 ghost use Rattle.mr_layout.specs.Sizes.{size_of};
 ghost use Rattle.mr_layout.specs.Parts.{is_ok, are_ok, are_variants_ok, are_chunks_ok};

@@ -1,8 +1,10 @@
+//! The bytes that a value is written as.
 ghost use Rattle.std.specs.Prelude.{◌≡◌, ◌<◌, ◌≤◌, ◌+◌, ◌*◌, ◌^◌, ◌++◌, true, length, IfOk, OnOk, OnErr};
 ghost use Rattle.mr_ast.specs.declared.types.Ty.{Ty};
-ghost use Rattle.mr_layout.specs.EnumRules.{is_fitting, are_tags, are_all_tags};
+ghost use Rattle.mr_layout.specs.EnumRules.{are_tags, are_all_tags};
+ghost use Rattle.mr_ast.specs.Integers.{is_fitting, int_size};
 ghost use Rattle.mr_layout.specs.Parts.{is_ok, are_ok, are_chunks_ok, are_variants_ok};
-ghost use Rattle.mr_layout.specs.Sizes.{size_of, int_size};
+ghost use Rattle.mr_layout.specs.Sizes.{size_of};
 ghost use Rattle.mr_layout.specs.TypeOk.{TypeOk};
 ghost use Rattle.mr_runs.specs.Ranges.{with_range_replaced};
 ghost use Rattle.mr_value.specs.Discriminants.{bits_of_number};
@@ -219,7 +221,7 @@ fn write_tags(alloc: Global, tags: &[Tag], bytes: &mut Vec<AbstractByte>) -> Res
 
 /// Appends the bytes that a value is written as. Those that no part of it writes are uninitialised.
 ///
-/// The only error is want of memory. After it `out` begins with what it held.
+/// The only error is want of memory. After it `out` is as it was.
 pub fn encode(
     alloc: Global,
     v: &Val,
@@ -229,7 +231,12 @@ pub fn encode(
     requires ok { TypeOk t.now }
     requires shape { has_shape t.now v.now ≡ true }
     ensures ok { OnOk result (out.new.items ≡ out.old.items ++ encoding_of t.now v.now) }
-    ensures err { OnErr result (BeginsWith out.new.items out.old.items) }
+    ensures err { OnErr result (out.new.items ≡ out.old.items) }
 {
-    append(alloc, v, t, out)
+    let held = out.len();
+    let answer = append(alloc, v, t, out);
+    if answer.is_err() {
+        out.truncate(held);
+    }
+    answer
 }

@@ -1,3 +1,4 @@
+//! Laws of bytes and the values that they mean.
 ghost use Rattle.std.specs.Prelude.{◌≡◌, true};
 ghost use Rattle.mr_ast.specs.declared.types.Ty.{Ty};
 ghost use Rattle.mr_layout.specs.TypeOk.{TypeOk};

@@ -10,8 +10,8 @@
 //!   pieces the view has: `Some` only of what the bytes mean, `None` exactly where they mean nothing, and always of the type's shape.
 //! - [`decode_scalar`]: the same of an integer, a bool or a pointer, without memory.
 //! - [`encode`]: appends the bytes of a value that has the shape of a type (`specs/Shape.antt`). They are proved to be exactly
-//!   `encoding_of` of `specs/Encode.antt`, where what no part writes is uninitialised. After want of memory the list begins with
-//!   what it held.
+//!   `encoding_of` of `specs/Encode.antt`, where what no part writes is uninitialised. After want of memory the list is as it
+//!   was.
 //!
 //! Laws, proved of the definitions: [`one_value`], bytes mean at most one value of a type; [`has_shape`], what bytes mean has the
 //! type's shape; [`reads_back`], the bytes that a value is written as mean that value, unless a part of it is a variant that the
@@ -39,6 +39,3 @@ pub use scalars::decode_scalar;
 pub use std::alloc::AllocError as OutOfMemory;
 pub use val::Val;
 pub use walking::number_of_bits;
-
-#[cfg(test)]
-mod tests;

@@ -1,3 +1,4 @@
+//! Numbers of several bytes.
 ghost use Rattle.std.specs.Prelude.{◌≡◌, ◌<◌, ◌≤◌, ◌+◌, ◌*◌, ◌^◌, length, IfSome};
 ghost use Rattle.mr_runs.specs.Pieces.{bytes_of_pieces};
 ghost use Rattle.mr_value.specs.Numbers.{part, number_of, all_have, shared_provenance, pointer_of};

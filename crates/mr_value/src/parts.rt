@@ -1,3 +1,4 @@
+//! The parts of a value.
 ghost use Rattle.std.specs.Prelude.{◌≡◌, ℕ, Bool, List};
 ghost use Rattle.mr_ast.specs.declared.types.Num.{Num};
 ghost use Rattle.mr_base.specs.declared.byte.AbstractByte.{AbstractByte};

@@ -1,5 +1,7 @@
+//! What bytes mean at a type of one number or pointer.
 ghost use Rattle.std.specs.Prelude.{◌≡◌, ◌<◌, ◌≤◌, ◌+◌, true, length, IfSome, IfNone, IsTrue, option_map, option_and_then};
-ghost use Rattle.mr_layout.specs.Sizes.{size_of, int_size};
+ghost use Rattle.mr_layout.specs.Sizes.{size_of};
+ghost use Rattle.mr_ast.specs.Integers.{int_size};
 ghost use Rattle.mr_layout.specs.Parts.{is_ok};
 ghost use Rattle.mr_layout.specs.TypeOk.{TypeOk};
 ghost use Rattle.mr_runs.specs.Pieces.{bytes_of_pieces};

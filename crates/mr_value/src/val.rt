@@ -1,3 +1,5 @@
+//! Values.
+
 use mr_ast::{Boxed, Items, Num};
 use mr_base::{AbstractByte, Pointer};
 

@@ -1,25 +1,16 @@
+//! The variant that bytes of an enum name.
 ghost use Rattle.std.specs.Prelude.{◌≡◌, ◌<◌, ◌≤◌, ◌+◌, ◌*◌, ◌^◌, true, length, List};
 ghost use Rattle.mr_ast.specs.declared.types.Variant.{Variant};
-ghost use Rattle.mr_layout.specs.Sizes.{int_size};
+ghost use Rattle.mr_ast.specs.Integers.{int_size, is_signed};
 ghost use Rattle.mr_layout.specs.EnumRules.{is_tree, are_tree_cases};
 ghost use Rattle.mr_runs.specs.Pieces.{bytes_of_pieces};
 ghost use Rattle.mr_value.specs.Numbers.{part};
 ghost use Rattle.mr_value.specs.Discriminants.{number_of_bits, walk, walk_case};
-ghost use Rattle.mr_ast.specs.Thin.{is_signed};
 
 use crate::numbers::number_at;
 use mr_ast::{IntType, Num, Tree};
 use mr_layout::int_bytes;
 use mr_runs::View;
-
-fn is_signed(int: IntType) -> bool
-    ensures { result ≡ is_signed int }
-{
-    match int {
-        IntType::U8 | IntType::U16 | IntType::U32 | IntType::U64 | IntType::U128 => false,
-        IntType::I8 | IntType::I16 | IntType::I32 | IntType::I64 | IntType::I128 => true,
-    }
-}
 
 // The highest bit of the integer type.
 pub(crate) fn highest_bit(int: IntType) -> u128
@@ -40,7 +31,7 @@ pub fn number_of_bits(int: IntType, bits: u128) -> Num
     ensures { result ≡ number_of_bits int bits }
 {
     let highest = highest_bit(int);
-    if is_signed(int) && bits >= highest {
+    if int.signed() && bits >= highest {
         Num {
             neg: true,
             mag: highest - (bits - highest),

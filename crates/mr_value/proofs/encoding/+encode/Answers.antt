@@ -17,7 +17,7 @@ use Rattle.mr_value.specs.declared.val.Val.TheVariants as val
 use Rattle.mr_value.specs.Numbers.{Bytes}
 use Rattle.mr_value.specs.Encode.{encoding_of, write_fields}
 use Rattle.mr_value.specs.Shape.{chunks_size, elements_pass, has_shape, fields_have_shape, variant_has_shape}
-use Rattle.mr_value.proofs.Comparisons.{eq_from}
+use Rattle.mr_base.proofs.Comparisons.{eq_from}
 use Rattle.mr_value.proofs.DecodeSteps.{next_field, next_variant}
 use Rattle.mr_value.proofs.EncodeLength.{length-encoding_of}
 use Rattle.mr_value.proofs.EncodeSteps.{same_length, next_value, fields_written, variant_shaped_here, equal_is}

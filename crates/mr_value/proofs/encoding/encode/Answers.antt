@@ -1,5 +1,5 @@
 use Rattle.mr_layout.proofs.OkTests.{is_ok_of}
 use Rattle.mr_value.proofs.encoding.encode.Goals as goal
 
-pub append-requires-clause-ok : goal.append-requires-clause-ok
-append-requires-clause-ok c = is_ok_of c.args.t.now c.requires.ok
+pub append-answer-requires-clause-ok : goal.append-answer-requires-clause-ok
+append-answer-requires-clause-ok c = is_ok_of c.args.t.now c.requires.ok

@@ -2,7 +2,7 @@ use Rattle.std.proofs.Common.{◌≡◌, ◌+◌, ◌≤◌, ◌++◌, false, No
 use Rattle.mr_ast.specs.declared.types.IntType.TheVariants.{U8}
 use Rattle.mr_ast.specs.declared.types.Tag.{Tag}
 use Rattle.mr_layout.specs.EnumRules.{are_tags}
-use Rattle.mr_layout.specs.Sizes.{int_size}
+use Rattle.mr_ast.specs.Integers.{int_size}
 use Rattle.mr_runs.specs.Ranges.{with_range_replaced}
 use Rattle.mr_runs.proofs.RangeLaws.{length-with_range_replaced}
 use Rattle.mr_value.specs.Encode.{tag_bytes, with_tags}

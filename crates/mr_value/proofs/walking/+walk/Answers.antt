@@ -2,7 +2,7 @@ use Rattle.std.proofs.Common.{◌≡◌, ◌+◌, ◌<◌, true, List, Some, Non
 use Rattle.std.specs.Prelude.{option_and_then}
 use Rattle.mr_ast.specs.declared.types.Num.{Num}
 use Rattle.mr_ast.specs.declared.types.Tree.{Tree}
-use Rattle.mr_layout.specs.Sizes.{int_size}
+use Rattle.mr_ast.specs.Integers.{int_size}
 use Rattle.mr_layout.specs.EnumRules.{is_tree, are_tree_cases}
 use Rattle.mr_runs.specs.Pieces.{bytes_of_pieces}
 use Rattle.mr_value.specs.Numbers.{part, number_of}
