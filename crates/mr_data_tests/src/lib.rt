@@ -1,0 +1,22 @@
+//! The tests of the data layer: reasons, syntax, bytes, memory, accesses, layouts, values and operators. It has no code of its
+//! own.
+#![tactic(auto)]
+
+#[cfg(test)]
+mod bytes;
+#[cfg(test)]
+mod caches;
+#[cfg(test)]
+mod layouts;
+#[cfg(test)]
+mod memory;
+#[cfg(test)]
+mod operators;
+#[cfg(test)]
+mod reasons;
+#[cfg(test)]
+mod syntax;
+#[cfg(test)]
+mod tracking;
+#[cfg(test)]
+mod values;
