@@ -31,24 +31,30 @@ use Rattle.mr_ast.specs.CanonValues.{NameTexts, text_at, words_of_place, words_o
 abbrev pub global_texts : Program → Texts
 global_texts p = map (λ g. text_at p.names g.name) p.globals
 
+-- the names of the functions
 abbrev pub function_texts : Program → Texts
 function_texts p = map (λ f. text_at p.names f.name) p.functions
 
+-- the names of the locals of a function
 abbrev pub local_texts : Program → Function → Texts
 local_texts p f = map (λ l. text_at p.names l.name) f.locals
 
+-- the names of the blocks of a function
 abbrev pub block_texts : Program → Function → Texts
 block_texts p f = map (λ b. text_at p.names b.name) f.blocks
 
+-- what the names in a function stand for
 abbrev pub texts_in : Program → Function → NameTexts
 texts_in p f = record { globals = global_texts p; functions = function_texts p; locals = local_texts p f; blocks = block_texts p f }
 
+-- the word of a kind of block
 abbrev pub kind_word : BlockKind → List ℕ
 kind_word kind.Regular = codes "regular"
 kind_word kind.Cleanup = codes "cleanup"
 kind_word kind.Catch = codes "catch"
 kind_word kind.Terminate = codes "terminate"
 
+-- the word of an intrinsic
 abbrev pub intrinsic_word : Intrinsic → List ℕ
 intrinsic_word intrinsic.Assume = codes "assume"
 intrinsic_word intrinsic.Print = codes "print"
@@ -81,6 +87,7 @@ words_of_stmt names (stmt.Disc place number) = codes "disc" ∷ words_of_place n
 words_of_stmt names (stmt.Deinit place) = codes "deinit" ∷ words_of_place names place
 words_of_stmt names (stmt.Validate place) = codes "validate" ∷ words_of_place names place
 
+-- the words of the line of a statement
 abbrev pub stmt_line : NameTexts → Stmt → Texts
 stmt_line names s = words_of_stmt names s ++ codes ";" ∷ []
 
@@ -123,6 +130,7 @@ words_of_term names (term.Call callee args place next unwind) =
 words_of_term names (term.Do intrinsic args place next) =
     codes "do" ∷ intrinsic_word intrinsic ∷ arguments names args ++ optional_result names place ++ codes "to" ∷ text_at names.blocks next.0 ∷ []
 
+-- the words of the line of the end of a block
 abbrev pub term_line : NameTexts → Term → Texts
 term_line names t = words_of_term names t ++ codes ";" ∷ []
 
@@ -137,6 +145,7 @@ abbrev pub target_text : Program → Target → List ℕ
 target_text p (target.Global g) = text_at (global_texts p) g.0
 target_text p (target.Function f) = text_at (function_texts p) f.0
 
+-- the words of an item of a global
 unfoldable pub words_of_item : Program → Item_ → Texts
 words_of_item p (item.Byte value repeat) = decimal value ∷ repeat_words repeat
 words_of_item p (item.Uninit repeat) = codes "?" ∷ repeat_words repeat
@@ -147,6 +156,7 @@ abbrev pub words_of_global : Program → Global_ → Texts
 words_of_global p g =
     codes "global" ∷ text_at p.names g.name ∷ codes "align" ∷ decimal g.align ∷ codes "{" ∷ flat_map (words_of_item p) g.items
 
+-- the words of the line of a global
 unfoldable pub global_line : Program → Global_ → Texts
 global_line p g = words_of_global p g ++ codes "}" ∷ []
 
@@ -162,15 +172,19 @@ words_of_head p f =
     codes "fn" ∷ text_at p.names f.name ∷ codes "(" ∷ with_commas (map (argument_words p f) f.args)
     ++ codes ")" ∷ codes "->" ∷ text_at (local_texts p f) f.ret.0 ∷ []
 
+-- the words of the first line of a function
 unfoldable pub head_line : Program → Function → Texts
 head_line p f = words_of_head p f ++ codes "{" ∷ []
 
+-- the words of a local
 abbrev pub local_words : Program → Local → Texts
 local_words p l = text_at p.names l.name ∷ codes ":" ∷ words_of_type l.ty
 
+-- the words of the locals of a function
 abbrev pub words_of_locals : Program → Function → Texts
 words_of_locals p f = codes "let" ∷ with_commas (map (local_words p) f.locals)
 
+-- the words of the line of the locals
 unfoldable pub locals_line : Program → Function → Texts
 locals_line p f = words_of_locals p f ++ codes ";" ∷ []
 
@@ -182,14 +196,17 @@ block_head p b = text_at p.names b.name ∷ kind_word b.kind ∷ codes ":" ∷ [
 unfoldable pub block_lines : Program → Function → Block → List Texts
 block_lines p f b = block_head p b ∷ map (stmt_line (texts_in p f)) b.stmts ++ term_line (texts_in p f) b.term ∷ []
 
+-- the lines of a function
 unfoldable pub function_lines : Program → Function → List Texts
 function_lines p f = head_line p f ∷ locals_line p f ∷ flat_map (block_lines p f) f.blocks ++ (codes "}" ∷ []) ∷ []
 
 -- ---- programs
 
+-- the words of the first line of a program
 abbrev pub header_line : ℕ → Texts
 header_line edition = codes "minirust" ∷ decimal edition ∷ []
 
+-- the words of the line that names the function to begin with
 abbrev pub main_line : Program → Texts
 main_line p = codes "main" ∷ text_at (function_texts p) p.start.0 ∷ []
 
@@ -205,6 +222,7 @@ canonical_words p = flat_map (λ line. line) (lines_of p)
 abbrev pub text_of_line : Texts → List ℕ
 text_of_line words = join_with_byte 32 words ++ 10 ∷ []
 
+-- the text of some lines
 abbrev pub text_of_lines : List Texts → List ℕ
 text_of_lines lines = flat_map text_of_line lines
 

@@ -13,6 +13,7 @@ use Rattle.mr_ast.specs.declared.types.Ty.TheFolds.{fold-Ty}
 use Rattle.mr_ast.specs.declared.types.Variant.{Variant}
 use Rattle.mr_ast.specs.Words.{Texts}
 
+-- the word of an integer type
 abbrev pub int_word : IntType → List ℕ
 int_word U8 = codes "u8"
 int_word U16 = codes "u16"
@@ -38,12 +39,15 @@ with_commas (row ∷ rows) = row ++ flat_map (λ r. codes "," ∷ r) rows
 abbrev pub braced : List Texts → Texts
 braced rows = codes "{" ∷ with_commas rows ++ codes "}" ∷ []
 
+-- the words of a size and an alignment
 abbrev pub shape_words : ℕ → ℕ → Texts
 shape_words size align = codes "size" ∷ decimal size ∷ codes "align" ∷ decimal align ∷ []
 
+-- the words of a chunk
 abbrev pub chunk_words : ℕ × ℕ → Texts
 chunk_words c = decimal c.0 ∷ decimal c.1 ∷ []
 
+-- the words of a tag
 abbrev pub tag_words : Tag → Texts
 tag_words t = decimal t.at ∷ codes ":" ∷ int_word t.int ∷ codes "=" ∷ num_words t.number
 
@@ -58,6 +62,7 @@ tree_words_step Tree-F.Invalid = codes "invalid" ∷ []
 tree_words_step (Tree-F.Branch at int cases other) =
     codes "branch" ∷ decimal at ∷ int_word int ∷ codes "{" ∷ flat_map case_row cases ++ codes "_" ∷ codes "=>" ∷ other ++ codes "}" ∷ []
 
+-- the words of a tree
 unfoldable pub words_of_tree : Tree → Texts
 words_of_tree = fold-Tree Texts tree_words_step
 
@@ -89,6 +94,7 @@ type_words_step (Ty-F.Enum size align disc variants tree) =
 abbrev pub variant_words_step : Variant-F Texts Texts → Texts
 variant_words_step v = num_words v.number ++ codes ":" ∷ v.ty ++ codes "tag" ∷ braced (map tag_words v.tags)
 
+-- the words of a type
 unfoldable pub words_of_type : Ty → Texts
 words_of_type = fold-Ty Texts Texts type_words_step variant_words_step
 

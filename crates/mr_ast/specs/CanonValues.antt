@@ -22,10 +22,12 @@ pub record NameTexts : Type 0 where
 abbrev pub text_at : Texts → ℕ → List ℕ
 text_at texts n = slice_index_or texts n []
 
+-- the word of an operator with one operand
 abbrev pub unary_word : UnaryOp → List ℕ
 unary_word unary.Neg = codes "neg"
 unary_word unary.Not = codes "not"
 
+-- the word of an operator with two operands
 abbrev pub binary_word : BinaryOp → List ℕ
 binary_word binary.Add = codes "add"
 binary_word binary.Sub = codes "sub"
@@ -85,8 +87,10 @@ value_words_step names (Value-F.Unary operator value) = unary_word operator ∷ 
 value_words_step names (Value-F.Binary operator left right) =
     binary_word operator ∷ codes "(" ∷ left ++ codes "," ∷ right ++ codes ")" ∷ []
 
+-- the words of a place
 unfoldable pub words_of_place : NameTexts → Place → Texts
 words_of_place names = fold-Place Texts Texts (place_words_step names) (value_words_step names)
 
+-- the words of a value
 unfoldable pub words_of_value : NameTexts → Value → Texts
 words_of_value names = fold-Value Texts Texts (place_words_step names) (value_words_step names)

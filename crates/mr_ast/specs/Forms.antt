@@ -13,11 +13,13 @@ pub record Mark : Type 0 where
   pub word : Word
   pub flaw : Option ℕ
 
+-- the bracket that opens
 abbrev pub opening : Bracket → List ℕ
 opening Round = codes "("
 opening Curly = codes "{"
 opening Square = codes "["
 
+-- the bracket that closes
 abbrev pub closing : Bracket → List ℕ
 closing Round = codes ")"
 closing Curly = codes "}"

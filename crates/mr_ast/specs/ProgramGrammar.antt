@@ -31,12 +31,15 @@ use Rattle.mr_ast.specs.Scope.{Scope}
 use Rattle.mr_ast.specs.Words.{is_name, is_number, value_of, looked_up, stmt_words, term_words, kind_words, intrinsic_words, is_exposed}
 use Rattle.mr_ast.specs.Writing.{Judged, ThePlace, TheType, TheValue, Writing, block_use, fine, function_use, giving, is_word, judged_repeat, limit, listed, local_use, name_form, num_form, optional, other_than, separated, target_use, token, u64_form, within, ◌▪◌, ◌▸◌, ◌◂◌}
 
+-- which statement a word begins; there may be one too many
 unfoldable pub judged_stmt : Bool → Word → Judged StmtWord
 judged_stmt over w = option_map (λ s. (s, limit 8 over)) (looked_up stmt_words w.text)
 
+-- a statement that sets a discriminant
 unfoldable pub disc_form : Writing Stmt
 disc_form = Then (λ p n. stmt.Disc p n) (Part (ThePlace false)) (codes "=" ▸ num_form)
 
+-- what stands behind the word of a statement
 abbrev pub stmt_behind : StmtWord → Writing Stmt
 stmt_behind stmt_word.Live = giving stmt.Live local_use
 stmt_behind stmt_word.Dead = giving stmt.Dead local_use
@@ -45,6 +48,7 @@ stmt_behind stmt_word.Disc = disc_form
 stmt_behind stmt_word.Deinit = giving stmt.Deinit (Part (ThePlace false))
 stmt_behind stmt_word.Validate = giving stmt.Validate (Part (ThePlace false))
 
+-- whether a word begins a statement that is no assignment
 abbrev pub is_stmt_word : List ℕ → Bool
 is_stmt_word text = is_some (looked_up stmt_words text)
 
@@ -52,6 +56,7 @@ is_stmt_word text = is_some (looked_up stmt_words text)
 abbrev pub begins_stmt : List ℕ → Bool
 begins_stmt text = is_stmt_word text || (is_word (codes "deref") text || is_name text)
 
+-- an assignment
 unfoldable pub assign_form : Bool → Writing Stmt
 assign_form over = Then (λ p v. stmt.Assign p v) (Part (ThePlace over)) (codes "=" ▸ Part TheValue)
 
@@ -65,14 +70,17 @@ stmt_form k =
 unfoldable pub switch_case_form : Writing (Num × BlockName)
 switch_case_form = num_form ◂ codes "=>" ▪ block_use ◂ codes ","
 
+-- the cases of a switch
 unfoldable pub switch_cases_form : Writing (List (Num × BlockName))
 switch_cases_form = Many (other_than (codes "_")) (λ k. switch_case_form)
 
+-- a switch
 unfoldable pub switch_form : Writing Term
 switch_form =
     Then (λ v cases. term.Switch v cases.0 cases.1) (Part TheValue)
     (within Curly (switch_cases_form ▪ codes "_" ▸ codes "=>" ▸ block_use))
 
+-- an unwinding
 unfoldable pub unwind_form : Writing Term
 unwind_form = Then (λ v b. term.Unwind v b) (Part TheValue) (codes "to" ▸ block_use)
 
@@ -80,6 +88,7 @@ unwind_form = Then (λ v b. term.Unwind v b) (Part TheValue) (codes "to" ▸ blo
 unfoldable pub values_form : Writing (List Value)
 values_form = separated (Part TheValue)
 
+-- a call
 unfoldable pub call_form : Writing Term
 call_form =
     Then (λ callee rest. term.Call callee.0 callee.1 rest.0 rest.1.0 rest.1.1) (Part TheValue ▪ listed Round values_form)
@@ -89,14 +98,17 @@ call_form =
 unfoldable pub judged_intrinsic : Word → Judged Intrinsic
 judged_intrinsic w = if is_exposed w.text then Some (intrinsic.Assume, Some 9) else fine (looked_up intrinsic_words w.text)
 
+-- the intrinsic that a word names
 abbrev pub intrinsic_form : Writing Intrinsic
 intrinsic_form = token judged_intrinsic
 
+-- an intrinsic with its operands
 unfoldable pub do_form : Writing Term
 do_form =
     Then (λ head rest. term.Do head.0 head.1 rest.0 rest.1) (intrinsic_form ▪ listed Round values_form)
     (optional (codes "->") (Part (ThePlace false)) ▪ codes "to" ▸ block_use)
 
+-- what stands behind the word of the end of a block
 abbrev pub term_behind : TermWord → Writing Term
 term_behind term_word.Goto = giving term.Goto block_use
 term_behind term_word.Switch = switch_form
@@ -110,15 +122,19 @@ term_behind term_word.Unwind = unwind_form
 term_behind term_word.Call = call_form
 term_behind term_word.Do = do_form
 
+-- which end of a block a word begins
 unfoldable pub judged_term : Word → Judged TermWord
 judged_term w = fine (looked_up term_words w.text)
 
+-- the end of a block
 unfoldable pub term_form : Writing Term
 term_form = Cases (λ scope. judged_term) term_behind ◂ codes ";"
 
+-- which kind of block a word names
 unfoldable pub judged_kind : Word → Judged BlockKind
 judged_kind w = fine (looked_up kind_words w.text)
 
+-- the statements of a block
 unfoldable pub stmts_form : Writing (List Stmt)
 stmts_form = Many begins_stmt stmt_form
 
@@ -132,12 +148,15 @@ block_form k =
 unfoldable pub local_form : ℕ → Writing Local
 local_form k = Then (λ name t. record { name = name; ty = t }) (name_form (nat_le 256 k) (DefinesLocal k)) (codes ":" ▸ Part TheType)
 
+-- the locals of a function
 unfoldable pub locals_form : Writing (List Local)
 locals_form = Then (λ l ls. l ∷ ls) (local_form 0) (Many (is_word (codes ",")) (λ k. codes "," ▸ local_form (suc k)))
 
+-- the blocks of a function
 unfoldable pub blocks_form : Writing (List Block)
 blocks_form = Then (λ b bs. b ∷ bs) (block_form 0) (Many (other_than (codes "}")) (λ k. block_form (suc k)))
 
+-- the arguments of a function
 unfoldable pub args_form : Writing (List LocalName)
 args_form = separated local_use
 
@@ -148,11 +167,13 @@ pub record FunctionBody : Type 0 where
   pub locals : List Local
   pub blocks : List Block
 
+-- the body of a function
 unfoldable pub body_form : Writing FunctionBody
 body_form =
     Then (λ head body. record { args = head.0; ret = head.1; locals = body.0; blocks = body.1 })
     (listed Round args_form ▪ codes "->" ▸ local_use) (within Curly (codes "let" ▸ locals_form ◂ codes ";" ▪ blocks_form))
 
+-- a function with its name
 abbrev pub with_name : ℕ → FunctionBody → Function
 with_name n f = record { name = n; args = f.args; ret = f.ret; locals = f.locals; blocks = f.blocks }
 
@@ -174,20 +195,25 @@ item_word_of text =
     if is_number text then (if nat_le (value_of text) 255 then Some (item_word.Byte (value_of text)) else None)
     else (if is_word (codes "?") text then Some item_word.Uninit else (if is_word (codes "&") text then Some item_word.Reloc else None))
 
+-- a pointer in a global
 unfoldable pub reloc_form : Writing Item_
 reloc_form = Then (λ to offset. item.Reloc to offset) target_use (codes "+" ▸ u64_form)
 
+-- what stands behind the word of an item
 abbrev pub item_behind : ItemWord → Writing Item_
 item_behind (item_word.Byte b) = giving (item.Byte b) repeat_form
 item_behind item_word.Uninit = giving item.Uninit repeat_form
 item_behind item_word.Reloc = reloc_form
 
+-- which item a word begins
 unfoldable pub judged_item : Word → Judged ItemWord
 judged_item w = fine (item_word_of w.text)
 
+-- an item of a global
 unfoldable pub item_form : Writing Item_
 item_form = Cases (λ scope. judged_item) item_behind
 
+-- the items of a global
 unfoldable pub items_form : Writing (List Item_)
 items_form = Many (other_than (codes "}")) (λ k. item_form)
 
@@ -203,12 +229,15 @@ pub record ProgramBody : Type 0 where
   pub functions : List Function
   pub start : FnName
 
+-- the globals
 unfoldable pub globals_form : Writing (List Global_)
 globals_form = Many (is_word (codes "global")) global_form
 
+-- the functions
 unfoldable pub functions_form : Writing (List Function)
 functions_form = Many (is_word (codes "fn")) function_form
 
+-- a program
 unfoldable pub program_form : Writing ProgramBody
 program_form =
     codes "minirust" ▸ codes "1" ▸ Then (λ items start. record { globals = items.0; functions = items.1; start = start })

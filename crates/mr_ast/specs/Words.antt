@@ -70,6 +70,7 @@ abbrev pub looked_up : {X : Type 0} → Table X → List ℕ → Option X
 looked_up [] text = None
 looked_up (entry ∷ entries) text = if bytes_eq text entry.0 then Some entry.1 else looked_up entries text
 
+-- the integer types
 abbrev pub int_words : Table IntType
 int_words =
     (codes "u8", int.U8) ∷ (codes "u16", int.U16) ∷ (codes "u32", int.U32) ∷ (codes "u64", int.U64) ∷ (codes "u128", int.U128)
@@ -81,12 +82,15 @@ type_words =
     (codes "bool", type.Bool) ∷ (codes "raw", type.Raw) ∷ (codes "fnptr", type.FnPtr) ∷ (codes "unit", type.Unit) ∷ (codes "ref", type.Ref)
     ∷ (codes "tuple", type.Tuple) ∷ (codes "array", type.Array) ∷ (codes "union", type.Union) ∷ (codes "enum", type.Enum) ∷ []
 
+-- the trees
 abbrev pub tree_words : Table TreeWord
 tree_words = (codes "known", tree.Known) ∷ (codes "invalid", tree.Invalid) ∷ (codes "branch", tree.Branch) ∷ []
 
+-- the operators with one operand
 abbrev pub unary_words : Table UnaryOp
 unary_words = (codes "neg", unary.Neg) ∷ (codes "not", unary.Not) ∷ []
 
+-- the operators with two operands
 abbrev pub binary_words : Table BinaryOp
 binary_words =
     (codes "add", binary.Add) ∷ (codes "sub", binary.Sub) ∷ (codes "mul", binary.Mul) ∷ (codes "div", binary.Div)
@@ -106,21 +110,25 @@ value_words =
     ∷ (codes "load", value.Load) ∷ (codes "disc", value.Disc) ∷ (codes "addrof", value.AddrOf) ∷ (codes "cast", value.Cast)
     ∷ (codes "transmute", value.Transmute) ∷ []
 
+-- the statements that are no assignment
 abbrev pub stmt_words : Table StmtWord
 stmt_words =
     (codes "live", stmt.Live) ∷ (codes "dead", stmt.Dead) ∷ (codes "mention", stmt.Mention) ∷ (codes "disc", stmt.Disc)
     ∷ (codes "deinit", stmt.Deinit) ∷ (codes "validate", stmt.Validate) ∷ []
 
+-- the ends of blocks
 abbrev pub term_words : Table TermWord
 term_words =
     (codes "goto", term.Goto) ∷ (codes "switch", term.Switch) ∷ (codes "unreachable", term.Unreachable) ∷ (codes "return", term.Return)
     ∷ (codes "exit", term.Exit) ∷ (codes "abort", term.Abort) ∷ (codes "resume", term.Resume) ∷ (codes "stop", term.Stop)
     ∷ (codes "unwind", term.Unwind) ∷ (codes "call", term.Call) ∷ (codes "do", term.Do) ∷ []
 
+-- the kinds of blocks
 abbrev pub kind_words : Table BlockKind
 kind_words =
     (codes "regular", kind.Regular) ∷ (codes "cleanup", kind.Cleanup) ∷ (codes "catch", kind.Catch) ∷ (codes "terminate", kind.Terminate) ∷ []
 
+-- the intrinsics
 abbrev pub intrinsic_words : Table Intrinsic
 intrinsic_words =
     (codes "assume", intrinsic.Assume) ∷ (codes "print", intrinsic.Print) ∷ (codes "allocate", intrinsic.Allocate)

@@ -1,12 +1,12 @@
 -- When two accesses overlap, conflict and race. (FastTrack: races; the profile's rule on atomic accesses.)
-use Rattle.std.specs.Prelude.{◌+◌, List, Bool, not, ◌&&◌, ◌||◌, nat_lt}
+use Rattle.std.specs.Prelude.{List, Bool, not, ◌&&◌, ◌||◌}
 use Rattle.std.specs.List.{list_any}
 use Rattle.mr_base.specs.declared.access.Access.{Access}
+use Rattle.mr_base.specs.Pairs.{is_meeting}
 
 -- whether some byte belongs to both
 abbrev pub overlaps : Access → Access → Bool
-overlaps a b =
-    nat_lt a.addr (b.addr + b.len) && nat_lt b.addr (a.addr + a.len) && nat_lt 0 a.len && nat_lt 0 b.len
+overlaps a b = is_meeting a.addr a.len b.addr b.len
 
 -- whether they overlap, and at least one of them stores
 abbrev pub conflicts : Access → Access → Bool

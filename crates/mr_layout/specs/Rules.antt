@@ -1,5 +1,7 @@
 -- The rules of a well-formed type, each with its number, and the first that is broken.
 use Rattle.std.specs.Prelude.{ℕ, zero, suc, ◌+◌, ◌*◌, ◌%◌, ◌^◌, Bool, true, false, not, ◌&&◌, ◌||◌, ◌==◌, nat_lt, nat_le, if◌then◌else◌, List, [], ◌∷◌, Option, Some, None, count_ones}
+use Rattle.mr_ast.specs.FormRules.{code_of}
+use Rattle.mr_ast.specs.declared.rule.Rule.TheVariants.{TypeSize, TypeAlign, FieldOutside, FieldOverlap, SizeMultiple, UnionChunk}
 use Rattle.mr_ast.specs.declared.types.Ty.{Ty}
 use Rattle.mr_ast.specs.declared.types.Variant.{Variant}
 use Rattle.mr_base.specs.Pairs.{is_meeting}
@@ -42,15 +44,19 @@ is_overlapping (f ∷ fields) = meets_any f.0 (size_of f.1) fields || is_overlap
 -- the first broken rule of a tuple, whose fields break none
 unfoldable pub tuple_rules : ℕ → ℕ → List (ℕ × Ty) → Option ℕ
 tuple_rules size align fields =
-    rule 20 (is_large size) (rule 21 (not (is_align align)) (rule 22 (is_past size fields) (rule 23 (is_overlapping fields) (rule 24 (not (size % align == 0)) None))))
+    rule (code_of TypeSize) (is_large size)
+    (rule (code_of TypeAlign) (not (is_align align))
+    (rule (code_of FieldOutside) (is_past size fields)
+    (rule (code_of FieldOverlap) (is_overlapping fields)
+    (rule (code_of SizeMultiple) (not (size % align == 0)) None))))
 
 -- the first broken rule of a reference
 unfoldable pub ref_rules : ℕ → ℕ → Option ℕ
-ref_rules size align = rule 20 (not (nat_lt size (2 ^ 63))) (rule 21 (not (is_align align)) None)
+ref_rules size align = rule (code_of TypeSize) (not (nat_lt size (2 ^ 63))) (rule (code_of TypeAlign) (not (is_align align)) None)
 
 -- the first broken rule of an array, whose element breaks none
 unfoldable pub array_rules : ℕ → Ty → Option ℕ
-array_rules count elem = rule 20 (is_large count || is_large (count * size_of elem)) None
+array_rules count elem = rule (code_of TypeSize) (is_large count || is_large (count * size_of elem)) None
 
 -- a chunk passes the size
 abbrev pub is_chunk_past : ℕ → List (ℕ × ℕ) → Bool
@@ -62,6 +68,7 @@ abbrev pub is_rising_after : ℕ → List (ℕ × ℕ) → Bool
 is_rising_after start [] = true
 is_rising_after start (c ∷ chunks) = nat_lt start c.0 && is_rising_after c.0 chunks
 
+-- each chunk begins after the one before
 abbrev pub is_rising : List (ℕ × ℕ) → Bool
 is_rising [] = true
 is_rising (c ∷ chunks) = is_rising_after c.0 chunks
@@ -89,7 +96,11 @@ are_covered (f ∷ fields) chunks = is_covered f.0 f.1 chunks (size_of f.1) && a
 -- the first broken rule of a union, whose fields break none
 unfoldable pub union_rules : ℕ → ℕ → List (ℕ × Ty) → List (ℕ × ℕ) → Option ℕ
 union_rules size align fields chunks =
-    rule 20 (is_large size) (rule 21 (not (is_align align)) (rule 22 (is_past size fields || is_chunk_past size chunks) (rule 24 (not (size % align == 0)) (rule 28 (not (is_rising chunks && (not (is_chunk_overlapping chunks) && are_covered fields chunks))) None))))
+    rule (code_of TypeSize) (is_large size)
+    (rule (code_of TypeAlign) (not (is_align align))
+    (rule (code_of FieldOutside) (is_past size fields || is_chunk_past size chunks)
+    (rule (code_of SizeMultiple) (not (size % align == 0))
+    (rule (code_of UnionChunk) (not (is_rising chunks && (not (is_chunk_overlapping chunks) && are_covered fields chunks))) None))))
 
 -- the first broken rule of these fields
 abbrev pub first_field : List (ℕ × (Ty × Option ℕ)) → Option ℕ
@@ -106,6 +117,7 @@ abbrev pub field_types : List (ℕ × (Ty × Option ℕ)) → List (ℕ × Ty)
 field_types [] = []
 field_types (f ∷ fields) = (f.0, f.1.0) ∷ field_types fields
 
+-- the variants alone
 abbrev pub variant_types : List (Variant × Option ℕ) → List Variant
 variant_types [] = []
 variant_types (v ∷ variants) = v.0 ∷ variant_types variants

@@ -89,6 +89,7 @@ value_types_step (Value-F.Binary operator left right) = left ++ right
 unfoldable pub types_of_place : Place → List Ty
 types_of_place = fold-Place (List Ty) (List Ty) place_types_step value_types_step
 
+-- the types written in a value
 unfoldable pub types_of_value : Value → List Ty
 types_of_value = fold-Value (List Ty) (List Ty) place_types_step value_types_step
 

@@ -7,7 +7,7 @@ ghost use Rattle.mr_layout.specs.Rules.{is_align, is_past, meets_any, is_overlap
 use crate::alike::{Room, is_chunk_overlapping, is_overlapping};
 use crate::bytes::{in_chunk, used};
 use crate::sizes::size;
-use mr_ast::{MAX_ALIGN, MAX_SIZE, Ty};
+use mr_ast::{MAX_ALIGN, MAX_SIZE, Rule, Ty};
 
 const MAX_POINTEE: u64 = 0x7fff_ffff_ffff_ffff;
 
@@ -109,19 +109,19 @@ pub(crate) fn tuple_rules(room: Room, size: u64, align: u64, fields: &[(u64, Ty)
     ensures { result ≡ tuple_rules size align fields.now }
 {
     if size > MAX_SIZE {
-        return Some(20);
+        return Some(Rule::TypeSize.code());
     }
     if !is_align(align) {
-        return Some(21);
+        return Some(Rule::TypeAlign.code());
     }
     if is_past(size, fields) {
-        return Some(22);
+        return Some(Rule::FieldOutside.code());
     }
     if is_overlapping(room, size, fields) {
-        return Some(23);
+        return Some(Rule::FieldOverlap.code());
     }
     if align == 0 || size % align != 0 {
-        return Some(24);
+        return Some(Rule::SizeMultiple.code());
     }
     None
 }
@@ -132,10 +132,10 @@ pub(crate) fn ref_rules(size: u64, align: u64) -> Option<u8>
     ensures { result ≡ ref_rules size align }
 {
     if size > MAX_POINTEE {
-        return Some(20);
+        return Some(Rule::TypeSize.code());
     }
     if !is_align(align) {
-        return Some(21);
+        return Some(Rule::TypeAlign.code());
     }
     None
 }
@@ -146,7 +146,7 @@ pub(crate) fn array_rules(count: u64, elem: &Ty) -> Option<u8>
     ensures { result ≡ array_rules count elem.now }
 {
     if count > MAX_SIZE || is_large_array(count, size(elem)) {
-        return Some(20);
+        return Some(Rule::TypeSize.code());
     }
     None
 }
@@ -273,22 +273,22 @@ pub(crate) fn union_rules(
     ensures { result ≡ union_rules size align fields.now chunks.now }
 {
     if size > MAX_SIZE {
-        return Some(20);
+        return Some(Rule::TypeSize.code());
     }
     if !is_align(align) {
-        return Some(21);
+        return Some(Rule::TypeAlign.code());
     }
     if is_past(size, fields) || is_chunk_past(size, chunks) {
-        return Some(22);
+        return Some(Rule::FieldOutside.code());
     }
     if align == 0 || size % align != 0 {
-        return Some(24);
+        return Some(Rule::SizeMultiple.code());
     }
     if !is_rising(chunks)
         || is_chunk_overlapping(room, chunks)
         || !are_covered(size, fields, chunks)
     {
-        return Some(28);
+        return Some(Rule::UnionChunk.code());
     }
     None
 }
