@@ -8,6 +8,7 @@ use Rattle.mr_intops.specs.Numbers.{value_of, bits_for}
 abbrev pub cast_of : IntType → IntType → ℕ → ℕ
 cast_of from to a = bits_for to (value_of from a)
 
+-- the number with the other sign, modulo 2 to the width
 abbrev pub negate_of : IntType → ℕ → ℕ
 negate_of t a = bits_for t (neg_ℤ (value_of t a))
 

@@ -15,5 +15,6 @@ compares Le x y = int_le x y
 compares Gt x y = int_lt y x
 compares Ge x y = int_le y x
 
+-- what a comparison of two numbers answers
 abbrev pub compare_of : CmpOp → IntType → ℕ → ℕ → Bool
 compare_of op t a b = compares op (value_of t a) (value_of t b)

@@ -9,6 +9,7 @@ abbrev pub number_at : Bool → ℕ → ℕ → ℤ
 number_at false width a = pos a
 number_at true width a = if nat_lt a (2 ^ (width - 1)) then pos a else pos a -ℤ pos (2 ^ width)
 
+-- the number that the bits of a type mean
 abbrev pub value_of : IntType → ℕ → ℤ
 value_of t a = number_at (is_signed t) (bits_of t) a
 

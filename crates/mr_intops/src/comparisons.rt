@@ -5,7 +5,7 @@ ghost use Rattle.mr_ast.specs.Integers.{bits_of};
 ghost use Rattle.mr_intops.specs.Numbers.{value_of};
 ghost use Rattle.mr_intops.specs.Compare.{compare_of};
 
-use crate::bits::{signed_number};
+use crate::bits::signed_number;
 use mr_ast::IntType;
 use std::cmp::Ordering;
 

@@ -14,6 +14,7 @@ mod bits;
 mod casts;
 mod comparisons;
 mod shifts;
+
 pub use arithmetic::{ArithOp, arith, overflowing};
 pub use casts::{cast, invert, negate};
 pub use comparisons::{CmpOp, compare};

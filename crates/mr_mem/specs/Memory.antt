@@ -6,6 +6,7 @@ use Rattle.std.specs.declared.cmp.Ordering.{Ordering}
 use Rattle.std.specs.FinMap as fin
 use Rattle.std.specs.FinMap.{FinMap}
 use Rattle.std.specs.FinMap.Entries.{put}
+use Rattle.mr_base.specs.Pairs.{is_meeting}
 use Rattle.mr_base.specs.declared.byte.AllocId.{AllocId}
 use Rattle.mr_base.specs.declared.byte.Pointer.{Pointer}
 use Rattle.mr_base.specs.declared.byte.AbstractByte.{AbstractByte}
@@ -30,6 +31,7 @@ pub record Allocation : Type 0 where
   pub live : Bool
   pub bytes : List AbstractByte
 
+-- the allocations by identity
 abbrev pub Memory : Type 0
 Memory = FinMap id_cmp Allocation
 
@@ -53,9 +55,11 @@ fresh kind size align addr = record {
   bytes = replicate (held kind size) Uninit;
 }
 
+-- a memory with one more allocation, whose bytes are uninitialised
 abbrev pub allocated : Memory → AllocId → Kind → ℕ → ℕ → ℕ → Memory
 allocated m id kind size align addr = fin.insert m id (fresh kind size align addr)
 
+-- a power of two
 abbrev pub IsPowerOfTwo : ℕ → Type 0
 IsPowerOfTwo n = (k : ℕ) × (n ≡ 2 ^ k)
 
@@ -67,11 +71,6 @@ IsAsked Stack size align = Unit {0}
 IsAsked Static size align = Unit {0}
 
 -- ---- picked addresses
-
--- two ranges share an address; a range of length 0 shares none
-abbrev pub overlaps : ℕ → ℕ → ℕ → ℕ → Bool
-overlaps addr size addr' size' =
-    not (size == 0) && (not (size' == 0) && (nat_lt addr (addr' + size') && nat_lt addr' (addr + size)))
 
 -- a number above 0 is no multiple of 0
 abbrev pub is_multiple : ℕ → ℕ → Bool
@@ -86,9 +85,11 @@ pub record Range : Type 0 where
   pub addr : ℕ
   pub size : ℕ
 
+-- the ranges of allocations by identity
 abbrev pub Ranges : Type 0
 Ranges = List (AllocId × Range)
 
+-- the range of an allocation
 abbrev pub range_of : AllocId × Allocation → AllocId × Range
 range_of e = (e.0, record { addr = e.1.addr; size = e.1.span })
 
@@ -104,8 +105,9 @@ with_range rs id addr size = put id_cmp id (record { addr = addr; size = size })
 abbrev pub first_overlapped : ℕ → ℕ → Ranges → Option AllocId
 first_overlapped addr size [] = None
 first_overlapped addr size (r ∷ rs) =
-    if overlaps addr size r.1.addr r.1.size then Some r.0 else first_overlapped addr size rs
+    if is_meeting addr size r.1.addr r.1.size then Some r.0 else first_overlapped addr size rs
 
+-- the fault that names what is overlapped
 abbrev pub reused : Option AllocId → Option PickFault
 reused None = None
 reused (Some id) = Some (Reused id)
@@ -131,6 +133,7 @@ abbrev pub first_failed : List (Bool × Reason) → Option Reason
 first_failed [] = None
 first_failed (t ∷ ts) = if t.0 then first_failed ts else Some t.1
 
+-- each kind has a number, to compare kinds by
 abbrev pub kind_number : Kind → ℕ
 kind_number Heap = 0
 kind_number Stack = 1
@@ -158,10 +161,12 @@ abbrev pub without_life : Memory → AllocId → Option Allocation → Memory
 without_life m id None = m
 without_life m id (Some a) = fin.insert m id (record a { live = false })
 
+-- a value, unless there is a reason against it
 abbrev pub unless : {A : Type 0} → Option Reason → A → Result A Reason
 unless None x = Ok x
 unless (Some r) x = Err r
 
+-- the same by the provenance of the pointer
 abbrev pub freed_of : Memory → Option AllocId → ℕ → Kind → ℕ → ℕ → Result (AllocId × Memory) Reason
 freed_of m None addr kind size align = Err NoProvenance
 freed_of m (Some id) addr kind size align =
@@ -173,6 +178,7 @@ freed m p kind size align = freed_of m p.prov p.addr kind size align
 
 -- ---- checking, reading and writing ranges
 
+-- the allocation, where it is live and the range lies in it, or the first reason against it
 abbrev pub inside : Option Allocation → ℕ → ℕ → Result Allocation Reason
 inside None addr len = Err NoProvenance
 inside (Some a) addr len =
@@ -180,6 +186,7 @@ inside (Some a) addr len =
     then (if nat_le a.addr addr && nat_le (addr + len) (a.addr + length a.bytes) then Ok a else Err OutOfBounds)
     else Err DeadAllocation
 
+-- what is made of a value, where there is one
 abbrev pub then_give : {A B : Type 0} → Result A Reason → (A → B) → Result B Reason
 then_give (Ok x) f = Ok (f x)
 then_give (Err r) f = Err r
@@ -196,6 +203,7 @@ bytes_at a addr len = take len (drop (addr - a.addr) a.bytes)
 abbrev pub aligned : {A : Type 0} → Pointer → ℕ → Result A Reason → Result A Reason
 aligned p align r = if is_multiple p.addr align then r else Err Misaligned
 
+-- the bytes from a pointer on
 abbrev pub read : Memory → Pointer → ℕ → ℕ → Result (List AbstractByte) Reason
 read m p len align =
     aligned p align (if len == 0 then Ok [] else then_give (inside (found m p.prov) p.addr len) (λ a. bytes_at a p.addr len))
@@ -208,6 +216,7 @@ spliced xs i ys = take i xs ++ (ys ++ drop (i + length ys) xs)
 abbrev pub put_bytes : Allocation → ℕ → List AbstractByte → Result Allocation Reason
 put_bytes a addr bytes = then_give (inside (Some a) addr (length bytes)) (λ _. record a { bytes = spliced a.bytes (addr - a.addr) bytes })
 
+-- the memory with bytes put into the allocation of an identity
 abbrev pub put_at : Memory → AllocId → Option Allocation → ℕ → List AbstractByte → Result Memory Reason
 put_at m id None addr bytes = Err NoProvenance
 put_at m id (Some a) addr bytes = then_give (put_bytes a addr bytes) (fin.insert m id)
@@ -216,17 +225,20 @@ put_at m id (Some a) addr bytes = then_give (put_bytes a addr bytes) (fin.insert
 abbrev pub put_in : Memory → Pointer → List AbstractByte → Result Memory Reason
 put_in m p bytes = elim p.prov as (λ _. Result Memory Reason) [ None ↦ Err NoProvenance | Some id ↦ put_at m id (fin.get m id) p.addr bytes ]
 
+-- the memory with bytes put from a pointer on
 abbrev pub written : Memory → Pointer → List AbstractByte → ℕ → Result Memory Reason
 written m p bytes align = aligned p align (if length bytes == 0 then Ok m else put_in m p bytes)
 
 -- ---- leaks
 
+-- whether an allocation is of the heap
 abbrev pub is_heap : Kind → Bool
 is_heap Heap = true
 is_heap Stack = false
 is_heap Static = false
 is_heap Function = false
 
+-- a live allocation of the heap
 abbrev pub is_leak : AllocId × Allocation → Bool
 is_leak e = e.1.live && is_heap e.1.kind
 

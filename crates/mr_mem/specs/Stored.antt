@@ -14,9 +14,11 @@ use Rattle.mr_mem.specs.Memory.{Memory, Allocation, put_bytes}
 abbrev pub allocation_of : Stored → Allocation
 allocation_of a = record { addr = a.addr; span = a.span; align = a.align; kind = a.kind; live = a.live; bytes = a.bytes }
 
+-- the entries without where their bytes are kept
 abbrev pub entries_of : List (AllocId × Stored) → List (AllocId × Allocation)
 entries_of es = map (λ e. (e.0, allocation_of e.1)) es
 
+-- the memory that some entries are
 abbrev pub memory_of : List (AllocId × Stored) → Memory
 memory_of es = fin.from_entries (entries_of es)
 

@@ -2,7 +2,8 @@
 ghost use Rattle.std.specs.Prelude.{◌≡◌, map};
 ghost use Rattle.std.specs.List.{list_any};
 ghost use Rattle.std.specs.BTreeMap.{IsOrdered};
-ghost use Rattle.mr_mem.specs.Memory.{first_overlapped, free_fault, held, id_cmp, is_bad_address, is_leak, is_multiple, kind_number, overlaps, range_of, refusal, without_life};
+ghost use Rattle.mr_base.specs.Pairs.{is_meeting};
+ghost use Rattle.mr_mem.specs.Memory.{first_overlapped, free_fault, held, id_cmp, is_bad_address, is_leak, is_multiple, kind_number, range_of, refusal, without_life};
 ghost use Rattle.mr_mem.specs.Stored.{allocation_of, entries_of, memory_of};
 ghost use Rattle.std.specs.FinMap as fin;
 
@@ -226,7 +227,7 @@ fn is_multiple(addr: u64, align: u64) -> bool
 
 // Whether a range shares an address with that of the allocation.
 fn shares(addr: u64, size: u64, a: &Stored) -> bool
-    ensures { result ≡ overlaps addr size a.now.addr a.now.span }
+    ensures { result ≡ is_meeting addr size a.now.addr a.now.span }
 {
     size != 0
         && a.span != 0

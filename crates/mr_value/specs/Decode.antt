@@ -31,6 +31,7 @@ pointer_where test bytes = option_and_then (λ (p : Pointer). if test p.addr the
 abbrev pub is_not_null : ℕ → Bool
 is_not_null addr = not (addr == 0)
 
+-- an address is not null, and a multiple of the alignment
 abbrev pub is_aligned : ℕ → ℕ → Bool
 is_aligned align addr = is_not_null addr && (addr % align == 0)
 
@@ -67,6 +68,7 @@ decode_step (Ty-F.Array count elem) bytes = option_map val.Tuple (elements_in co
 decode_step (Ty-F.Union size align fields chunks) bytes = Some (val.Union (chunks_in chunks bytes))
 decode_step (Ty-F.Enum size align disc variants tree) bytes = option_and_then (variant_in variants bytes) (walk tree bytes)
 
+-- a variant means what its type means
 abbrev pub variant_decode_step : Variant-F (Ty × Reader) (Variant × Reader) → Reader
 variant_decode_step v = v.ty.1
 
@@ -83,11 +85,13 @@ pub record Means (t : Ty) (bytes : Bytes) (v : Val) : Type 0 where
 abbrev pub read_fields : List (ℕ × Ty) → Bytes → Option (List Val)
 read_fields fields = fields_in (map (λ f. (f.0, (f.1, decoded f.1))) fields)
 
+-- what bytes mean at a variant
 abbrev pub read_variant : List Variant → Bytes → Num → Option Val
 read_variant [] bytes n = None
 read_variant (v ∷ variants) bytes n =
     if same_num v.number n then option_map (λ x. val.Variant n x) (decoded v.ty bytes) else read_variant variants bytes n
 
+-- an integer, a bool or a pointer
 abbrev pub is_scalar_layer : Ty-F Ty Variant → Bool
 is_scalar_layer (Ty-F.Int int) = true
 is_scalar_layer Ty-F.Bool = true

@@ -66,6 +66,7 @@ encode_step (Ty-F.Union size align fields chunks) (Val-F.Union content) = with_c
 encode_step (Ty-F.Enum size align disc variants tree) (Val-F.Variant n v) = variant_bytes variants n v
 encode_step _ _ = []
 
+-- a variant is written as its type's value is
 abbrev pub variant_encode_step : Variant-F (Ty × Writer) (Variant × Writer) → Writer
 variant_encode_step v = v.ty.1
 
@@ -77,6 +78,7 @@ encoding_of = para-Ty Writer Writer (λ layer v. encode_step layer (out-Val v)) 
 abbrev pub write_fields : List (ℕ × Ty) → List Val → Bytes → Bytes
 write_fields fields = with_fields (map (λ f. (f.0, (f.1, encoding_of f.1))) fields)
 
+-- the bytes of a variant
 abbrev pub write_variant : List Variant → Num → Val → Bytes
 write_variant [] n v = []
 write_variant (w ∷ variants) n v = if same_num w.number n then with_tags w.tags (encoding_of w.ty v) else write_variant variants n v

@@ -38,6 +38,7 @@ faithful_step (Ty-F.Enum size align disc variants tree) (Val-F.Variant n v) =
     is_found n (walk tree (encoding_of (ty.Enum size align disc (map (λ w. w.0) variants) tree) (val.Variant n v))) && variant_passes variants n v
 faithful_step _ _ = false
 
+-- a variant is faithful where its value is
 abbrev pub variant_faithful_step : Variant-F (Ty × ValueTest) (Variant × ValueTest) → ValueTest
 variant_faithful_step v = v.ty.1
 
@@ -50,6 +51,7 @@ is_faithful = para-Ty ValueTest ValueTest (λ layer v. faithful_step layer (out-
 abbrev pub fields_faithful : List (ℕ × Ty) → List Val → Bool
 fields_faithful fields = fields_pass (map (λ f. (f.0, (f.1, is_faithful f.1))) fields)
 
+-- whether the value of a variant is faithful
 abbrev pub variant_faithful : List Variant → Num → Val → Bool
 variant_faithful [] n v = false
 variant_faithful (w ∷ variants) n v = if same_num w.number n then is_faithful w.ty v else variant_faithful variants n v

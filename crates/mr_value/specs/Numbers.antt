@@ -5,6 +5,7 @@ use Rattle.mr_base.specs.declared.byte.Pointer.{Pointer}
 use Rattle.mr_base.specs.declared.byte.AbstractByte.{AbstractByte}
 use Rattle.mr_base.specs.declared.byte.AbstractByte.TheVariants.{Uninit, Init}
 
+-- abstract bytes in a row
 abbrev pub Bytes : Type 0
 Bytes = List AbstractByte
 
@@ -27,6 +28,7 @@ little_endian (suc count) n = (n % 256) ∷ little_endian count (n / 256)
 abbrev pub initialised : Option AllocId → List ℕ → Bytes
 initialised provenance numbers = map (λ n. Init n provenance) numbers
 
+-- two identities are equal
 abbrev pub is_same_id : AllocId → AllocId → Bool
 is_same_id a b = (a.thread == b.thread) && (a.count == b.count)
 

@@ -49,6 +49,7 @@ shape_step (Ty-F.Union size align fields chunks) (Val-F.Union bytes) = length by
 shape_step (Ty-F.Enum size align disc variants tree) (Val-F.Variant n v) = variant_passes variants n v
 shape_step _ _ = false
 
+-- a variant's shape is that of its type
 abbrev pub variant_shape_step : Variant-F (Ty × ValueTest) (Variant × ValueTest) → ValueTest
 variant_shape_step v = v.ty.1
 
@@ -61,6 +62,7 @@ has_shape = para-Ty ValueTest ValueTest (λ layer v. shape_step layer (out-Val v
 abbrev pub fields_have_shape : List (ℕ × Ty) → List Val → Bool
 fields_have_shape fields = fields_pass (map (λ f. (f.0, (f.1, has_shape f.1))) fields)
 
+-- whether a value has the shape of a variant
 abbrev pub variant_has_shape : List Variant → Num → Val → Bool
 variant_has_shape [] n v = false
 variant_has_shape (w ∷ variants) n v = if same_num w.number n then has_shape w.ty v else variant_has_shape variants n v
