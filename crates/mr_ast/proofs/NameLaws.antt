@@ -75,10 +75,6 @@ IsFirst-Adds old new text n (inr (missing, new_is, last)) =
       first = λ k before h. missing k (sym (slice_get_before old text k (omega (arith, last))) ∙ subst (λ l. slice_get l k ≡ Some text) new_is h);
     }
 
--- and so reads back as that text
-pub slice_get-Adds : (old new : List (List ℕ)) (text : List ℕ) (n : ℕ) → Adds old text new n → slice_get new n ≡ Some text
-slice_get-Adds old new text n added = (IsFirst-Adds old new text n added).here
-
 -- a text that was held keeps its first position
 pub IsFirst-kept : (old new : List (List ℕ)) (text held : List ℕ) (n k : ℕ) → Adds old text new n → IsFirst old held k → IsFirst new held k
 IsFirst-kept old new text held n k (inl (same, first)) h = subst (λ l. IsFirst l held k) (sym same) h

@@ -28,36 +28,16 @@ pub record FieldTurn (size : ℕ) (fields : List (ℕ × Ty)) (i : ℕ) (f : ℕ
   pub inside : f.0 + size_of f.1 ≤ size
   pub rest : are_ok size (drop (i + 1) fields) ≡ true
 
-pub field_turn : (size : ℕ) (fields : List (ℕ × Ty)) (i : ℕ) (d : ℕ × Ty) → i < length fields → are_ok size (drop i fields) ≡ true → FieldTurn size fields i (get_or fields i d)
-field_turn size fields i d p u =
-    let f = get_or fields i d in
-    let a = and_true (is_ok f.1) _ (sym (ap (are_ok size) (left_at fields i d p)) ∙ u) in
-    let b = and_true (nat_le (f.0 + size_of f.1) size) (are_ok size (drop (i + 1) fields)) a.1 in
-    record { ok = a.0; inside = at_most (f.0 + size_of f.1) size b.0; rest = b.1 }
-
 -- a chunk lies inside
 pub record ChunkTurn (size : ℕ) (chunks : List (ℕ × ℕ)) (i : ℕ) (c : ℕ × ℕ) : Type 0 where
   pub inside : c.0 + c.1 ≤ size
   pub rest : are_chunks_ok size (drop (i + 1) chunks) ≡ true
-
-pub chunk_turn : (size : ℕ) (chunks : List (ℕ × ℕ)) (i : ℕ) (d : ℕ × ℕ) → i < length chunks → are_chunks_ok size (drop i chunks) ≡ true → ChunkTurn size chunks i (get_or chunks i d)
-chunk_turn size chunks i d p u =
-    let c = get_or chunks i d in
-    let a = and_true (nat_le (c.0 + c.1) size) (are_chunks_ok size (drop (i + 1) chunks)) (sym (ap (are_chunks_ok size) (left_at chunks i d p)) ∙ u) in
-    record { inside = at_most (c.0 + c.1) size a.0; rest = a.1 }
 
 -- a variant breaks no rule and has the size
 pub record VariantTurn (size : ℕ) (variants : List Variant) (i : ℕ) (v : Variant) : Type 0 where
   pub ok : is_ok v.ty ≡ true
   pub sized : size_of v.ty ≡ size
   pub rest : are_variants_ok size (drop (i + 1) variants) ≡ true
-
-pub variant_turn : (size : ℕ) (variants : List Variant) (i : ℕ) (d : Variant) → i < length variants → are_variants_ok size (drop i variants) ≡ true → VariantTurn size variants i (get_or variants i d)
-variant_turn size variants i d p u =
-    let v = get_or variants i d in
-    let a = and_true (is_ok v.ty) _ (sym (ap (are_variants_ok size) (left_at variants i d p)) ∙ u) in
-    let b = and_true (size_of v.ty == size) (are_variants_ok size (drop (i + 1) variants)) a.1 in
-    record { ok = a.0; sized = same_of (size_of v.ty) size b.0; rest = b.1 }
 
 -- a variant has at most the alignment, a number that fits, and one that none of the later ones has
 pub record NumberTurn (size align : ℕ) (disc : IntType) (variants : List Variant) (i : ℕ) (v : Variant) : Type 0 where
@@ -66,22 +46,6 @@ pub record NumberTurn (size align : ℕ) (disc : IntType) (variants : List Varia
   pub fits : is_fitting disc v.number ≡ true
   pub once : is_number_of v.number (drop (i + 1) variants) ≡ false
   pub rest : are_variants size align disc (drop (i + 1) variants) ≡ true
-
-pub number_turn : (size align : ℕ) (disc : IntType) (variants : List Variant) (i : ℕ) (d : Variant) → i < length variants → are_variants size align disc (drop i variants) ≡ true → NumberTurn size align disc variants i (get_or variants i d)
-number_turn size align disc variants i d p u =
-    let v = get_or variants i d in
-    let others = drop (i + 1) variants in
-    let a = and_true (size_of v.ty == size) _ (sym (ap (are_variants size align disc) (left_at variants i d p)) ∙ u) in
-    let b = and_true (nat_le (align_of v.ty) align) _ a.1 in
-    let c = and_true (is_fitting disc v.number) _ b.1 in
-    let e = and_true (not (is_number_of v.number others)) (are_variants size align disc others) c.1 in
-    record {
-      sized = same_of (size_of v.ty) size a.0;
-      aligned = at_most (align_of v.ty) align b.0;
-      fits = c.0;
-      once = not_true _ e.0;
-      rest = e.1;
-    }
 
 -- a tag lies inside, has a number that fits, and has no byte in common with a later one or with the used bytes of its variant's type
 pub record TagTurn (size : ℕ) (t : Ty) (tags : List Tag) (i : ℕ) (g : Tag) : Type 0 where
@@ -112,24 +76,9 @@ pub record TagsTurn (size : ℕ) (variants : List Variant) (i : ℕ) (v : Varian
   pub tags : are_tags size v.ty v.tags ≡ true
   pub rest : are_all_tags size (drop (i + 1) variants) ≡ true
 
-pub tags_turn : (size : ℕ) (variants : List Variant) (i : ℕ) (d : Variant) → i < length variants → are_all_tags size (drop i variants) ≡ true → TagsTurn size variants i (get_or variants i d)
-tags_turn size variants i d p u =
-    let v = get_or variants i d in
-    let a = and_true (are_tags size v.ty v.tags) (are_all_tags size (drop (i + 1) variants)) (sym (ap (are_all_tags size) (left_at variants i d p)) ∙ u) in
-    record { tags = a.0; rest = a.1 }
-
 -- a case of a branch has a number that fits and stands in no later case, and a tree without a fault
 pub record CaseTurn (size : ℕ) (variants : List Variant) (int : IntType) (cases : List (Num × Tree)) (i : ℕ) (c : Num × Tree) : Type 0 where
   pub fits : is_fitting int c.0 ≡ true
   pub once : is_case c.0 (drop (i + 1) cases) ≡ false
   pub told : is_tree size variants c.1 ≡ true
   pub rest : are_tree_cases size variants int (drop (i + 1) cases) ≡ true
-
-pub case_turn : (size : ℕ) (variants : List Variant) (int : IntType) (cases : List (Num × Tree)) (i : ℕ) (d : Num × Tree) → i < length cases → are_tree_cases size variants int (drop i cases) ≡ true → CaseTurn size variants int cases i (get_or cases i d)
-case_turn size variants int cases i d p u =
-    let c = get_or cases i d in
-    let others = drop (i + 1) cases in
-    let a = and_true (is_fitting int c.0) _ (sym (ap (are_tree_cases size variants int) (left_at cases i d p)) ∙ u) in
-    let b = and_true (not (is_case c.0 others)) _ a.1 in
-    let e = and_true (is_tree size variants c.1) (are_tree_cases size variants int others) b.1 in
-    record { fits = a.0; once = not_true _ b.0; told = e.0; rest = e.1 }

@@ -34,16 +34,6 @@ pub record RefOk (size align : ℕ) : Type 0 where
 below : (a b : ℕ) → nat_lt a b ≡ true → a < b
 below a b e = grind (arith, nat_tests)
 
-refs : (size align : ℕ) → ref_rules size align ≡ None → RefOk size align
-unfolding ref_rules
-refs size align e =
-    let a = rule_none 20 (not (nat_lt size (2 ^ 63))) _ e in
-    let b = rule_none 21 (not (is_align align)) None a.1 in
-    record { small = below size (2 ^ 63) (not_false _ a.0); power = not_false _ b.0 }
-
-pub ref_ok : (size align : ℕ) (never : Bool) → TypeOk (ty.Ref size align never) → RefOk size align
-ref_ok size align never ok = refs size align (sym (broken_ref size align never) ∙ ok)
-
 -- a tuple's fields break no rule, lie inside it, and have no byte in common
 pub record TupleOk (size align : ℕ) (fields : List (ℕ × Ty)) : Type 0 where
   pub sized : SizeOk size align
