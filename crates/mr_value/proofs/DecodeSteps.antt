@@ -97,19 +97,6 @@ elements_next b at count size read i values p q =
 pub element_inside : (i count size : ℕ) → i < count → i * size + size ≤ count * size
 element_inside i count size p = let h : (i + 1) * size ≤ count * size = mul-le-mul_right size (omega arith) in omega arith
 
--- the variant with a number, where the next one has it and where it hasn't
-pub variant_here : (b : Bytes) (variants : List Variant) (i : ℕ) (d : Variant) (n : Num) → i < length variants → same_num (get_or variants i d).number n ≡ true → read_variant (drop i variants) b n ≡ option_map (λ x. val.Variant n x) (decoded (get_or variants i d).ty b)
-variant_here b variants i d n p e =
-    let v = get_or variants i d in
-    ap (λ (x : List Variant). read_variant x b n) (at_drop variants i d p)
-    ∙ ap (λ t. if t then option_map (λ x. val.Variant n x) (decoded v.ty b) else read_variant (drop (i + 1) variants) b n) e
-
-pub variant_further : (b : Bytes) (variants : List Variant) (i : ℕ) (d : Variant) (n : Num) → i < length variants → same_num (get_or variants i d).number n ≡ false → read_variant (drop i variants) b n ≡ read_variant (drop (i + 1) variants) b n
-variant_further b variants i d n p e =
-    let v = get_or variants i d in
-    ap (λ (x : List Variant). read_variant x b n) (at_drop variants i d p)
-    ∙ ap (λ t. if t then option_map (λ x. val.Variant n x) (decoded v.ty b) else read_variant (drop (i + 1) variants) b n) e
-
 -- the chunks' bytes, one chunk further
 pub chunks_next : (b : Bytes) (at size : ℕ) (chunks : List (ℕ × ℕ)) (i : ℕ) (d : ℕ × ℕ) (content more : Bytes) → i < length chunks → (get_or chunks i d).0 + (get_or chunks i d).1 ≤ size
     → more ≡ content ++ part (at + (get_or chunks i d).0) (get_or chunks i d).1 b

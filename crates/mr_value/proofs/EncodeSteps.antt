@@ -23,9 +23,6 @@ use Rattle.mr_value.proofs.TagParts.{TagOk, first_tag}
 pub begins_with_itself : (bytes : Bytes) → BeginsWith bytes bytes
 begins_with_itself bytes = ([], sym (append-nil bytes))
 
-pub begins_with_less : (bytes front more : Bytes) → BeginsWith bytes (front ++ more) → BeginsWith bytes front
-begins_with_less bytes front more h = (more ++ h.0, h.1 ∙ append_assoc front more h.0)
-
 pub begins_with_more : (bytes front more longer : Bytes) → longer ≡ bytes ++ more → BeginsWith bytes front → BeginsWith longer front
 begins_with_more bytes front more longer e h = (h.0 ++ more, e ∙ ap (λ (x : Bytes). x ++ more) h.1 ∙ append_assoc front h.0 more)
 
@@ -78,38 +75,11 @@ pub record NextElement (elem : Ty) (vs : List Val) (i : ℕ) (v : Val) : Type 0 
   pub here : has_shape elem v ≡ true
   pub rest : elements_pass (has_shape elem) (drop (i + 1) vs) ≡ true
 
-pub next_element : (elem : Ty) (vs : List Val) (i : ℕ) (v : Val) → i < length vs → elements_pass (has_shape elem) (drop i vs) ≡ true → NextElement elem vs i (get_or vs i v)
-next_element elem vs i v p e =
-    let h = and_true (has_shape elem (get_or vs i v)) (elements_pass (has_shape elem) (drop (i + 1) vs)) (sym (ap (elements_pass (has_shape elem)) (at_drop vs i v p)) ∙ e) in
-    record { here = h.0; rest = h.1 }
-
-pub elements_written : (elem : Ty) (vs : List Val) (out more : Bytes) (i : ℕ) (v : Val) → i < length vs → more ≡ out ++ encoding_of elem (get_or vs i v)
-    → out ++ element_bytes (encoding_of elem) (drop i vs) ≡ more ++ element_bytes (encoding_of elem) (drop (i + 1) vs)
-elements_written elem vs out more i v p e =
-    let rest = element_bytes (encoding_of elem) (drop (i + 1) vs) in
-    ap (λ (x : List Val). out ++ element_bytes (encoding_of elem) x) (at_drop vs i v p)
-    ∙ sym (append_assoc out (encoding_of elem (get_or vs i v)) rest)
-    ∙ ap (λ (x : Bytes). x ++ rest) (sym e)
-
 -- the next chunk lies inside and takes as much of the content as it has
 pub record NextContent (chunks : List (ℕ × ℕ)) (content : Bytes) (i : ℕ) (c : ℕ × ℕ) : Type 0 where
   pub enough : c.1 ≤ length content
   pub taken : length (take c.1 content) ≡ c.1
   pub rest : length (drop c.1 content) ≡ chunks_size (drop (i + 1) chunks)
-
-pub next_content : (chunks : List (ℕ × ℕ)) (content : Bytes) (i : ℕ) (c : ℕ × ℕ) → i < length chunks → length content ≡ chunks_size (drop i chunks) → NextContent chunks content i (get_or chunks i c)
-next_content chunks content i c p e =
-    let d = get_or chunks i c in
-    let h : length content ≡ d.1 + chunks_size (drop (i + 1) chunks) = e ∙ ap chunks_size (at_drop chunks i c p) in
-    record {
-      enough = omega arith;
-      taken = omega (arith, length-take d.1 content);
-      rest = omega (arith, length-drop d.1 content);
-    }
-
-pub chunks_written : (chunks : List (ℕ × ℕ)) (content bytes : Bytes) (i : ℕ) (c : ℕ × ℕ) → i < length chunks
-    → with_chunks (drop i chunks) content bytes ≡ with_chunks (drop (i + 1) chunks) (drop (get_or chunks i c).1 content) (with_range_replaced bytes (get_or chunks i c).0 (take (get_or chunks i c).1 content))
-chunks_written chunks content bytes i c p = ap (λ (x : List (ℕ × ℕ)). with_chunks x content bytes) (at_drop chunks i c p)
 
 -- the next tag of an enum that breaks no rule
 pub next_tag : (size : ℕ) (t : Ty) (tags : List Tag) (i : ℕ) (g : Tag) → i < length tags → are_tags size t (drop i tags) ≡ true → TagOk size t (get_or tags i g) (drop (i + 1) tags)
@@ -123,25 +93,6 @@ pub variant_shaped_here : (variants : List Variant) (i : ℕ) (w : Variant) (n :
 variant_shaped_here variants i w n v p e =
     ap (λ (x : List Variant). variant_has_shape x n v) (at_drop variants i w p)
     ∙ ap (λ t. if t then has_shape (get_or variants i w).ty v else variant_has_shape (drop (i + 1) variants) n v) e
-
-pub variant_shaped_further : (variants : List Variant) (i : ℕ) (w : Variant) (n : Num) (v : Val) → i < length variants → same_num (get_or variants i w).number n ≡ false → variant_has_shape (drop i variants) n v ≡ variant_has_shape (drop (i + 1) variants) n v
-variant_shaped_further variants i w n v p e =
-    ap (λ (x : List Variant). variant_has_shape x n v) (at_drop variants i w p)
-    ∙ ap (λ t. if t then has_shape (get_or variants i w).ty v else variant_has_shape (drop (i + 1) variants) n v) e
-
-pub variant_written_here : (variants : List Variant) (i : ℕ) (w : Variant) (n : Num) (v : Val) → i < length variants → same_num (get_or variants i w).number n ≡ true → write_variant (drop i variants) n v ≡ with_tags (get_or variants i w).tags (encoding_of (get_or variants i w).ty v)
-variant_written_here variants i w n v p e =
-    ap (λ (x : List Variant). write_variant x n v) (at_drop variants i w p)
-    ∙ ap (λ t. if t then with_tags (get_or variants i w).tags (encoding_of (get_or variants i w).ty v) else write_variant (drop (i + 1) variants) n v) e
-
-pub variant_written_further : (variants : List Variant) (i : ℕ) (w : Variant) (n : Num) (v : Val) → i < length variants → same_num (get_or variants i w).number n ≡ false → write_variant (drop i variants) n v ≡ write_variant (drop (i + 1) variants) n v
-variant_written_further variants i w n v p e =
-    ap (λ (x : List Variant). write_variant x n v) (at_drop variants i w p)
-    ∙ ap (λ t. if t then with_tags (get_or variants i w).tags (encoding_of (get_or variants i w).ty v) else write_variant (drop (i + 1) variants) n v) e
-
-pub next_tags : (size : ℕ) (variants : List Variant) (i : ℕ) (w : Variant) → i < length variants → are_all_tags size (drop i variants) ≡ true → (are_tags size (get_or variants i w).ty (get_or variants i w).tags ≡ true) × (are_all_tags size (drop (i + 1) variants) ≡ true)
-next_tags size variants i w p e =
-    and_true (are_tags size (get_or variants i w).ty (get_or variants i w).tags) (are_all_tags size (drop (i + 1) variants)) (sym (ap (are_all_tags size) (at_drop variants i w p)) ∙ e)
 
 beq_is : (a b : Bool) → beq a b ≡ (if a then b else not b)
 beq_is true true = refl
