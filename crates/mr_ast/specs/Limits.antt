@@ -21,6 +21,7 @@ max_open = 32
 abbrev pub max_align : ℕ
 max_align = 4096
 
--- the greatest size of a type in bytes, the greatest count of an array, the longest text, and how often an item may be repeated
+-- the greatest size of a type in bytes, the greatest count of an array, the longest text, and how often an item may be
+-- repeated
 abbrev pub max_size : ℕ
 max_size = 2 ^ 20

@@ -35,17 +35,24 @@ fn a_write_replaces_its_range(rt: HostRuntime) -> Result<(), Fail> {
     Ok(())
 }
 
+// Whether views of four such bytes show the middle and the last.
+fn is_shown(runs: &Runs) -> bool
+    requires { length runs.now ≡ 4 }
+{
+    let middle = runs.view(1, 2);
+    middle.len() == 2
+        && middle.byte(0) == FIVE
+        && middle.byte(1) == SIX
+        && middle.piece(0) == Some(Piece::Bytes(&[5], Some(OWNER)))
+        && middle.piece(1) == Some(Piece::Bytes(&[6], Some(OWNER)))
+        && middle.piece(2) == None
+        && runs.view(3, 1).piece(0) == Some(Piece::Uninit(1))
+}
+
 #[test]
 fn a_view_shows_the_middle(rt: HostRuntime) -> Result<(), Fail> {
     let runs = four(rt.alloc())?;
-    let middle = runs.view(1, 2);
-    assert_eq!(rt; middle.len(), 2);
-    assert_eq!(rt; middle.byte(0), FIVE);
-    assert_eq!(rt; middle.byte(1), SIX);
-    assert_eq!(rt; middle.piece(0), Some(Piece::Bytes(&[5], Some(OWNER))));
-    assert_eq!(rt; middle.piece(1), Some(Piece::Bytes(&[6], Some(OWNER))));
-    assert_eq!(rt; middle.piece(2), None);
-    assert_eq!(rt; runs.view(3, 1).piece(0), Some(Piece::Uninit(1)));
+    assert!(rt; is_shown(&runs));
     Ok(())
 }
 

@@ -12,7 +12,7 @@ use mr_intops::{
 };
 use std::cmp::Ordering;
 use std::cmp::Ordering::{Equal, Greater, Less};
-use std::process::Abort;
+use std::test::*;
 
 // The bits of the greatest and the least numbers of the types.
 const U64_MAX: u128 = 0xffff_ffff_ffff_ffff;
@@ -310,133 +310,130 @@ fn unchecked(op: ArithOp) -> ArithOp {
     }
 }
 
-fn expect_arith(
-    rt: &impl Abort,
-    op: ArithOp,
-    t: IntType,
-    a: u128,
-    b: u128,
-    want: Result<u128, Reason>,
-) {
-    assert!(rt; is_within(t, a));
-    assert!(rt; is_within(t, b));
-    assert_eq!(rt; arith(op, t, a, b), want, "{op:?} {t:?} {a} {b}");
+fn is_arith(op: ArithOp, t: IntType, a: u128, b: u128, want: Result<u128, Reason>) -> bool {
+    is_within(t, a) && is_within(t, b) && arith(op, t, a, b) == want
 }
 
-fn expect_overflowing(
-    rt: &impl Abort,
-    op: ArithOp,
-    t: IntType,
-    a: u128,
-    b: u128,
-    want: (u128, bool),
-) {
-    assert!(rt; matches!(op, Add | Sub | Mul));
-    assert!(rt; is_within(t, a));
-    assert!(rt; is_within(t, b));
-    assert_eq!(rt; overflowing(op, t, a, b), want, "{op:?} {t:?} {a} {b}");
+fn is_overflowing(op: ArithOp, t: IntType, a: u128, b: u128, want: (u128, bool)) -> bool {
+    matches!(op, Add | Sub | Mul)
+        && is_within(t, a)
+        && is_within(t, b)
+        && overflowing(op, t, a, b) == want
 }
 
-fn expect_shift(
-    rt: &impl Abort,
+fn is_shift(
     op: ShiftOp,
     t: IntType,
     a: u128,
     by: IntType,
     b: u128,
     want: Result<u128, Reason>,
-) {
-    assert!(rt; is_within(t, a));
-    assert!(rt; is_within(by, b));
-    assert_eq!(rt; shift(op, t, a, by, b), want, "{op:?} {t:?} {a} {by:?} {b}");
+) -> bool {
+    is_within(t, a) && is_within(by, b) && shift(op, t, a, by, b) == want
 }
 
-fn expect_compare(rt: &impl Abort, op: CmpOp, t: IntType, a: u128, b: u128, want: bool) {
-    assert!(rt; is_within(t, a));
-    assert!(rt; is_within(t, b));
-    assert_eq!(rt; compare(op, t, a, b), want, "{op:?} {t:?} {a} {b}");
+fn is_compare(op: CmpOp, t: IntType, a: u128, b: u128, want: bool) -> bool {
+    is_within(t, a) && is_within(t, b) && compare(op, t, a, b) == want
 }
 
-fn expect_cast(rt: &impl Abort, from: IntType, to: IntType, a: u128, want: u128) {
-    assert!(rt; is_within(from, a));
-    assert_eq!(rt; cast(from, to, a), want, "{from:?} {to:?} {a}");
-}
-
-fn expect_unary(rt: &impl Abort, t: IntType, a: u128, negated: u128, inverted: u128) {
-    assert!(rt; is_within(t, a));
-    assert_eq!(rt; negate(t, a), negated, "{t:?} {a}");
-    assert_eq!(rt; invert(t, a), inverted, "{t:?} {a}");
+fn is_wrapping(row: (ArithOp, IntType, u128, u128, (u128, bool))) -> bool {
+    let (op, t, a, b, want) = row;
+    let exact = if want.1 {
+        Err(Reason::Overflow)
+    } else {
+        Ok(want.0)
+    };
+    is_arith(op, t, a, b, Ok(want.0))
+        && is_arith(unchecked(op), t, a, b, exact)
+        && is_overflowing(op, t, a, b, want)
 }
 
 #[test]
 fn wrapping(rt: HostRuntime) {
-    for &(op, t, a, b, want) in &WRAPPING {
-        let (bits, overflow) = want;
-        let exact = if overflow {
-            Err(Reason::Overflow)
-        } else {
-            Ok(bits)
-        };
-        expect_arith(&rt, op, t, a, b, Ok(bits));
-        expect_arith(&rt, unchecked(op), t, a, b, exact);
-        expect_overflowing(&rt, op, t, a, b, want);
+    for (n, row) in WRAPPING.iter().enumerate() {
+        assert!(rt; is_wrapping(*row), "row {n}");
     }
 }
 
 #[test]
 fn divisions(rt: HostRuntime) {
-    for &(t, a, b, quotient, remainder) in &DIVISIONS {
-        expect_arith(&rt, ArithOp::Div, t, a, b, quotient);
-        expect_arith(&rt, ArithOp::Rem, t, a, b, remainder);
+    for (n, row) in DIVISIONS.iter().enumerate() {
+        let (t, a, b, quotient, remainder) = *row;
+        let holds = is_arith(ArithOp::Div, t, a, b, quotient)
+            && is_arith(ArithOp::Rem, t, a, b, remainder);
+        assert!(rt; holds, "row {n}");
     }
 }
 
 #[test]
 fn bit_by_bit(rt: HostRuntime) {
-    for &(t, a, b, and, or, xor) in &BIT_BY_BIT {
-        expect_arith(&rt, ArithOp::And, t, a, b, Ok(and));
-        expect_arith(&rt, ArithOp::Or, t, a, b, Ok(or));
-        expect_arith(&rt, ArithOp::Xor, t, a, b, Ok(xor));
+    for (n, row) in BIT_BY_BIT.iter().enumerate() {
+        let (t, a, b, and, or, xor) = *row;
+        let holds = is_arith(ArithOp::And, t, a, b, Ok(and))
+            && is_arith(ArithOp::Or, t, a, b, Ok(or))
+            && is_arith(ArithOp::Xor, t, a, b, Ok(xor));
+        assert!(rt; holds, "row {n}");
     }
+}
+
+fn are_shifts(row: (IntType, u128, IntType, u128, u128, u128, bool)) -> bool {
+    let (t, a, by, b, left, right, defined) = row;
+    let undefined = Err(Reason::ShiftAmount);
+    is_shift(ShiftOp::Shl, t, a, by, b, Ok(left))
+        && is_shift(ShiftOp::Shr, t, a, by, b, Ok(right))
+        && is_shift(
+            ShiftOp::ShlUnchecked,
+            t,
+            a,
+            by,
+            b,
+            if defined { Ok(left) } else { undefined },
+        )
+        && is_shift(
+            ShiftOp::ShrUnchecked,
+            t,
+            a,
+            by,
+            b,
+            if defined { Ok(right) } else { undefined },
+        )
 }
 
 #[test]
 fn shifts(rt: HostRuntime) {
-    for &(t, a, by, b, left, right, defined) in &SHIFTS {
-        expect_shift(&rt, ShiftOp::Shl, t, a, by, b, Ok(left));
-        expect_shift(&rt, ShiftOp::Shr, t, a, by, b, Ok(right));
-        let (left, right) = if defined {
-            (Ok(left), Ok(right))
-        } else {
-            (Err(Reason::ShiftAmount), Err(Reason::ShiftAmount))
-        };
-        expect_shift(&rt, ShiftOp::ShlUnchecked, t, a, by, b, left);
-        expect_shift(&rt, ShiftOp::ShrUnchecked, t, a, by, b, right);
+    for (n, row) in SHIFTS.iter().enumerate() {
+        assert!(rt; are_shifts(*row), "row {n}");
     }
+}
+
+fn are_comparisons(row: (IntType, u128, u128, Ordering)) -> bool {
+    let (t, a, b, order) = row;
+    is_compare(CmpOp::Eq, t, a, b, order == Equal)
+        && is_compare(CmpOp::Ne, t, a, b, order != Equal)
+        && is_compare(CmpOp::Lt, t, a, b, order == Less)
+        && is_compare(CmpOp::Le, t, a, b, order != Greater)
+        && is_compare(CmpOp::Gt, t, a, b, order == Greater)
+        && is_compare(CmpOp::Ge, t, a, b, order != Less)
 }
 
 #[test]
 fn comparisons(rt: HostRuntime) {
-    for &(t, a, b, order) in &ORDERS {
-        expect_compare(&rt, CmpOp::Eq, t, a, b, order == Equal);
-        expect_compare(&rt, CmpOp::Ne, t, a, b, order != Equal);
-        expect_compare(&rt, CmpOp::Lt, t, a, b, order == Less);
-        expect_compare(&rt, CmpOp::Le, t, a, b, order != Greater);
-        expect_compare(&rt, CmpOp::Gt, t, a, b, order == Greater);
-        expect_compare(&rt, CmpOp::Ge, t, a, b, order != Less);
+    for (n, row) in ORDERS.iter().enumerate() {
+        assert!(rt; are_comparisons(*row), "row {n}");
     }
 }
 
 #[test]
-fn casts(rt: HostRuntime) {
-    for &(from, to, a, want) in &CASTS {
-        expect_cast(&rt, from, to, a, want);
+fn casts_and_unary(rt: HostRuntime) {
+    for (n, row) in CASTS.iter().enumerate() {
+        let (from, to, a, want) = *row;
+        assert!(rt; is_within(from, a) && cast(from, to, a) == want, "row {n}");
     }
-}
-
-#[test]
-fn unary(rt: HostRuntime) {
-    for &(t, a, negated, inverted) in &UNARY {
-        expect_unary(&rt, t, a, negated, inverted);
+    for (n, row) in UNARY.iter().enumerate() {
+        let (t, a, negated, inverted) = *row;
+        assert!(rt;
+            is_within(t, a) && negate(t, a) == negated && invert(t, a) == inverted,
+            "row {n}"
+        );
     }
 }

@@ -49,33 +49,37 @@ fn six_accesses_are_kept_in_order(rt: HostRuntime) -> Result<(), Fail> {
     Ok(())
 }
 
-#[test]
-fn a_store_beside_a_load_races(rt: HostRuntime) -> Result<(), Fail> {
-    let stores = one(rt.alloc(), store(16, 4))?;
-    for (access, conflict, race) in [
-        (load(19, 1), true, true),
-        (load(20, 1), false, false),
-        (load(12, 4), false, false),
-        (load(12, 5), true, true),
-        (load(16, 0), false, false),
-        (atomic(load(16, 4)), true, true),
-        (store(0, u64::MAX), true, true),
-    ] {
-        let others = one(rt.alloc(), access)?;
-        assert_eq!(rt; conflicts(&stores, &others), conflict);
-        assert_eq!(rt; races(&stores, &others), race);
-        assert_eq!(rt; races(&others, &stores), race);
-    }
-    Ok(())
+// Whether an access conflicts with a store, and whether they race, in both orders.
+fn beside(
+    alloc: Global,
+    stored: Access,
+    access: Access,
+) -> Result<(bool, bool, bool), OutOfMemory> {
+    let stores = one(alloc, stored)?;
+    let others = one(alloc, access)?;
+    Ok((
+        conflicts(&stores, &others),
+        races(&stores, &others),
+        races(&others, &stores),
+    ))
 }
 
 #[test]
-fn atomic_accesses_and_loads_do_not_race(rt: HostRuntime) -> Result<(), Fail> {
-    let stores = one(rt.alloc(), atomic(store(16, 4)))?;
-    assert!(rt; conflicts(&stores, &stores));
-    assert!(rt; !races(&stores, &stores));
-    let loads = one(rt.alloc(), load(16, 4))?;
-    assert!(rt; !conflicts(&loads, &loads));
-    assert!(rt; !races(&loads, &loads));
+fn accesses_conflict_and_race(rt: HostRuntime) -> Result<(), Fail> {
+    let stored = store(16, 4);
+    for (first, second, conflict, race) in [
+        (stored, load(19, 1), true, true),
+        (stored, load(20, 1), false, false),
+        (stored, load(12, 4), false, false),
+        (stored, load(12, 5), true, true),
+        (stored, load(16, 0), false, false),
+        (stored, atomic(load(16, 4)), true, true),
+        (stored, store(0, u64::MAX), true, true),
+        (atomic(stored), atomic(stored), true, false),
+        (load(16, 4), load(16, 4), false, false),
+    ] {
+        let told = beside(rt.alloc(), first, second)?;
+        assert!(rt; told == (conflict, race, race), "{first:?} {second:?}");
+    }
     Ok(())
 }

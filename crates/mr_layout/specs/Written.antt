@@ -1,4 +1,5 @@
--- The types that are written in a program: those of its locals, those in its places and values, and the parts of them all.
+-- The types that are written in a program: those of its locals, those in its places and values, and the parts of them
+-- all.
 use Rattle.std.specs.Prelude.{ℕ, List, [], ◌∷◌, ◌++◌, Option, None, Some}
 use Rattle.std.specs.List.{flat_map}
 use Rattle.mr_ast.specs.declared.types.Ty.{Ty}
@@ -38,7 +39,8 @@ parts_step (Ty-F.Enum size align disc variants tree) = flat_map (λ v. v.1) vari
 abbrev pub variant_parts_step : Variant-F (Ty × List Ty) (Variant × List Ty) → List Ty
 variant_parts_step v = part_and_its_parts v.ty
 
--- the parts of a type: of a tuple or a union its fields' types, of an array its element, of an enum its variants' types, and the parts of each
+-- the parts of a type: of a tuple or a union its fields' types, of an array its element, of an enum its variants' types,
+-- and the parts of each
 unfoldable pub parts_of : Ty → List Ty
 parts_of = para-Ty (List Ty) (List Ty) parts_step variant_parts_step
 

@@ -36,6 +36,8 @@
 //!   and `proofs/Turns.antt` of the next element in a loop.
 //! - `proofs/Bounds.antt`, `Aligned`, `UsedInside`: such a type has at most 2^20 bytes, a power of two as its alignment that divides its
 //!   size, and no used byte at or past its end.
+//! - `proofs/AlikeLaws.antt`: to compare each two parts of a list, as the rules do, is to look at what is asked of each part alone and
+//!   at the pairs of numbers that `mr_base` compares in the time of a sort. Where memory is wanting, parts are compared one by one.
 //! - `proofs/Apart.antt`, `TreeOk`: fields, chunks and tags have no byte in common, and a tree's leaf names a variant.
 //! - `proofs/WrittenParts.antt`, `HeldTypes`: the parts of a well-formed type are well-formed, those of a written type are written, and
 //!   which types the cache holds of a function, a block, a place or a value.
