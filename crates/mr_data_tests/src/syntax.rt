@@ -137,6 +137,41 @@ fn types_are_equal_in_all_parts(rt: HostRuntime) -> Result<(), Fail> {
     Ok(())
 }
 
+// Whether a copy of a variant is equal to it.
+fn is_variant_copied(
+    alloc: Global,
+    variant: Result<Variant, OutOfMemory>,
+) -> Result<bool, OutOfMemory> {
+    match variant {
+        Ok(variant) => is_copied(&variant, variant.copy(alloc)),
+        Err(fault) => Err(fault),
+    }
+}
+
+fn is_copied(variant: &Variant, copy: Result<Variant, OutOfMemory>) -> Result<bool, OutOfMemory> {
+    match copy {
+        Ok(copy) => Ok(variant.same(&copy)),
+        Err(fault) => Err(fault),
+    }
+}
+
+// Whether a copy of a tree is the tree with this leaf.
+fn is_leaf(copy: Result<Tree, OutOfMemory>, leaf: u128) -> Result<bool, OutOfMemory> {
+    match copy {
+        Ok(copy) => Ok(copy.same(&Tree::Known(number(leaf)))),
+        Err(fault) => Err(fault),
+    }
+}
+
+#[test]
+fn parts_are_copied(rt: HostRuntime) -> Result<(), Fail> {
+    let alloc = rt.alloc();
+    assert!(rt; is_variant_copied(alloc, variant(alloc, 1, Ty::Bool, 2))?);
+    assert!(rt; is_leaf(Tree::Known(number(3)).copy(alloc), 3)?);
+    assert!(rt; !is_leaf(Tree::Known(number(3)).copy(alloc), 4)?);
+    Ok(())
+}
+
 // The number of a text, unless there are a thousand.
 fn added(names: &mut Names, text: &str) -> Result<u32, OutOfMemory> {
     if names.len() <= 1000 {
