@@ -17,8 +17,6 @@ mod piece;
 mod place;
 mod reading;
 mod scan;
-#[cfg(test)]
-mod tests;
 mod token;
 
 pub use list::Tokens;

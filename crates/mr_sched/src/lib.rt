@@ -20,6 +20,3 @@ pub use laws::{one_schedule, reads_back};
 pub use printing::print;
 pub use reading::read;
 pub use schedule::{Ask, Entry, Items, MAX_BYTES, MAX_ENTRIES, Schedule};
-
-#[cfg(test)]
-mod tests;
