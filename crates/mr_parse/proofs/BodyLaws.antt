@@ -7,11 +7,13 @@ use Rattle.mr_ast.specs.Forms.{Word, Mark}
 use Rattle.mr_ast.specs.Scope.{Scope}
 use Rattle.mr_ast.specs.Spelled.{Spelled}
 use Rattle.mr_ast.specs.ProgramGrammar.{ProgramBody, program_form}
-use Rattle.mr_parse.specs.declared.fault.Stop.{Stop}
+use Rattle.mr_words.specs.declared.fault.Stop.{Stop}
 use Rattle.mr_parse.specs.Reading.{◌>>=◌, read}
 use Rattle.mr_parse.specs.Denotes.{IsFine, SpelledProgram, Writes, words_in}
-use Rattle.mr_parse.specs.Faults.{BreaksFirst, BreaksLimit, GoesOn, NothingFits, code_of_unexpected, is_bracket_too_many}
-use Rattle.mr_parse.specs.Parsing.{body_of, ended, told}
+use Rattle.mr_parse.specs.Faults.{BreaksFirst, BreaksLimit, GoesOn, NothingFits, code_of_unexpected}
+use Rattle.mr_words.specs.Brackets.{is_bracket_too_many}
+use Rattle.mr_parse.specs.Parsing.{body_of, ended}
+use Rattle.mr_words.specs.Brackets.{told}
 use Rattle.mr_parse.proofs.Rows.{words-append, words-append-rest}
 use Rattle.mr_parse.proofs.SoundLaws.{Row}
 use Rattle.mr_parse.proofs.StopLaws.{StopsAt, Breaks, err-same}

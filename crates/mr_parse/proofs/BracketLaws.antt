@@ -7,7 +7,7 @@ use Rattle.mr_ast.specs.Forms.{Word, closing}
 use Rattle.mr_ast.specs.Scope.{Scope}
 use Rattle.mr_ast.specs.Writing.{Writing, giving, within}
 use Rattle.mr_ast.specs.ValueGrammar.{addr_of_form, binary_form, cast_form, transmute_form, tuple_value_form, union_value_form, value_behind, variant_value_form}
-use Rattle.mr_parse.specs.declared.fault.Stop.{Stop}
+use Rattle.mr_words.specs.declared.fault.Stop.{Stop}
 use Rattle.mr_parse.specs.Insides.{is_bracketed, value_inside}
 use Rattle.mr_parse.specs.Reading.{◌>>=◌, expected, opened, read, read_inside, read_outside, read_part}
 

@@ -5,8 +5,8 @@ use Rattle.mr_ast.specs.declared.expr.Value.{Value}
 use Rattle.mr_ast.specs.Forms.{Word, Part}
 use Rattle.mr_ast.specs.Scope.{Scope}
 use Rattle.mr_ast.specs.Writing.{ThePlace, ◌▸◌}
-use Rattle.mr_parse.specs.declared.fault.ReadFault.{ReadFault}
-use Rattle.mr_parse.specs.declared.fault.ReadFault.TheVariants.{At, Memory}
+use Rattle.mr_words.specs.declared.fault.ReadFault.{ReadFault}
+use Rattle.mr_words.specs.declared.fault.ReadFault.TheVariants.{At, Memory}
 use Rattle.mr_parse.specs.Gives.{Fails}
 use Rattle.mr_parse.specs.Reading.{read}
 use Rattle.mr_parse.specs.Views.{call_end_form, called, ways_form}

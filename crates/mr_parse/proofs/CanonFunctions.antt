@@ -29,7 +29,7 @@ use Rattle.mr_parse.proofs.CanonForms.{AllStand, Stands, each_stand, rows_with_c
 use Rattle.mr_parse.proofs.CanonStmts.{local_use_stands, stmt_stands, term_stands}
 use Rattle.mr_parse.proofs.CanonTypes.{type_part_stands}
 use Rattle.mr_parse.proofs.KnownNames.{all_at, block_name_stands, few_at, function_name_stands, known_names, local_name_stands}
-use Rattle.mr_parse.proofs.ScopeLaws.{scope_at}
+use Rattle.mr_words.proofs.ScopeLaws.{scope_at}
 use Rattle.mr_parse.proofs.ShapedNames.{less_test}
 
 -- ---- words by lines

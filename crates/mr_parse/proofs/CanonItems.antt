@@ -19,7 +19,7 @@ use Rattle.mr_parse.proofs.HeightLaws.{SomePart}
 use Rattle.mr_parse.proofs.CanonForms.{Parts, Stands, each_stand, stands_before, stands_cases, stands_empty, stands_first, stands_giving, stands_many, stands_pair, stands_second, stands_then, stands_within}
 use Rattle.mr_parse.proofs.CanonNumbers.{is_number-decimal, stands_repeat, stands_u64, value_of-decimal}
 use Rattle.mr_parse.proofs.KnownNames.{all_at, global_name_stands, target_use_stands}
-use Rattle.mr_parse.proofs.ScopeLaws.{scope_at}
+use Rattle.mr_words.proofs.ScopeLaws.{scope_at}
 use Rattle.mr_parse.proofs.ShapedNames.{less_test}
 
 byte_judged : (v k : ℕ) → v ≤ 255 → judged_item (record { text = decimal v; place = k }) ≡ Some (item_word.Byte v, None)

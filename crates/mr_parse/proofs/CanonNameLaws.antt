@@ -10,7 +10,7 @@ use Rattle.mr_ast.specs.Words.{Texts}
 use Rattle.mr_ast.specs.Scope.{each_once, number_in, with_text}
 use Rattle.mr_ast.specs.CanonValues.{text_at}
 use Rattle.mr_parse.specs.CanonNames.{IsDistinct}
-use Rattle.mr_parse.proofs.NamingLaws.{any_first, any_none, place_first}
+use Rattle.mr_words.proofs.NamingLaws.{any_first, any_none, place_first}
 
 -- ---- distinct texts
 

@@ -11,9 +11,10 @@ use Rattle.mr_ast.specs.Writing.{is_word}
 use Rattle.mr_ast.specs.ProgramGrammar.{function_form, functions_form, global_form, globals_form, program_form}
 use Rattle.mr_ast.specs.Canon.{canonical_words, function_lines, global_line, header_line, lines_of, main_line}
 use Rattle.mr_parse.specs.CanonNames.{IsNamed, body_of, definitions_of}
-use Rattle.mr_parse.specs.Denotes.{IsFine, Writes, knowing, words_in}
+use Rattle.mr_parse.specs.Denotes.{IsFine, Writes, words_in}
+use Rattle.mr_words.specs.Defined.{knowing}
 use Rattle.mr_parse.specs.NestingPrograms.{ProgramFits}
-use Rattle.mr_parse.specs.Places.{numbered}
+use Rattle.mr_words.specs.Places.{numbered}
 use Rattle.mr_parse.proofs.HeightLaws.{SomePart, settled}
 use Rattle.mr_parse.proofs.CanonForms.{Stands, each_stand, marked, stands_before, stands_many, stands_pair, stands_same, stands_then}
 use Rattle.mr_parse.proofs.CanonFunctions.{function_stands, function_words, lines_of_each, words_of_lines}

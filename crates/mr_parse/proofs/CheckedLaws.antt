@@ -1,7 +1,7 @@
 -- What reading gives where a row of marks writes a thing: the thing, or the first limit that the row breaks.
 use Rattle.std.proofs.Common.{◌≡◌, ℕ, List, [], ◌∷◌, ◌++◌, Option, None, Some, Result, Ok, refl, ap, sym}
 use Rattle.mr_ast.specs.Forms.{Word, Mark}
-use Rattle.mr_parse.specs.declared.fault.Stop.{Stop}
+use Rattle.mr_words.specs.declared.fault.Stop.{Stop}
 use Rattle.mr_parse.specs.Reading.{stop, ◌>>=◌}
 use Rattle.mr_parse.specs.Denotes.{IsFine, words_in}
 use Rattle.mr_parse.proofs.Rows.{words-append-rest}

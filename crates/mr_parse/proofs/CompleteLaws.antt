@@ -2,7 +2,7 @@
 use Rattle.std.proofs.Common.{◌≡◌, ℕ, ◌||◌, inl, inr, Bool, true, false, if◌then◌else◌, List, [], ◌∷◌, ◌++◌, length, bytes_eq, Option, None, Some, Result, Ok, refl, ap, sym, ◌∙◌, arith}
 use Rattle.std.proofs.lemmas.Slice.Eq.{bytes_eq-Decides}
 use Rattle.mr_ast.specs.Forms.{Word, Mark, Form, Empty, Then, Cases, Either, Many, Within, Part, In, opening, closing, Spelling, SpelledBy}
-use Rattle.mr_parse.specs.declared.fault.Stop.{Stop}
+use Rattle.mr_words.specs.declared.fault.Stop.{Stop}
 use Rattle.mr_parse.specs.Reading.{Reads, Reading, ◌>>=◌, taken, expected, opened, is_next, read_by}
 use Rattle.mr_parse.proofs.Conditions.{Begins, Stops, IsPredictive}
 use Rattle.mr_parse.specs.Denotes.{IsFine, words_in}

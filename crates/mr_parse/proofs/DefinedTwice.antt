@@ -11,7 +11,8 @@ use Rattle.mr_ast.specs.Scope.{Definitions, Scope, function_names, name_number}
 use Rattle.mr_ast.specs.Words.{is_name}
 use Rattle.mr_ast.specs.Writing.{judged_name, name_form}
 use Rattle.mr_ast.specs.ProgramGrammar.{ProgramBody, block_form, blocks_form, body_form, function_form, functions_form, global_form, globals_form, inside_function, local_form, locals_form, program_form}
-use Rattle.mr_parse.specs.Denotes.{IsFine, Writes, definitions_in, function_names_in, knowing, unknown, words_in}
+use Rattle.mr_parse.specs.Denotes.{IsFine, Writes, definitions_in, words_in}
+use Rattle.mr_words.specs.Defined.{function_names_in, knowing, unknown}
 use Rattle.mr_parse.proofs.BodyLaws.{writes_body}
 use Rattle.mr_parse.proofs.NameFlaws.{IsUnknown, KeptOrForgotten, to_unknown, unknown_number}
 use Rattle.mr_parse.proofs.NeutralForms.{block_neutral, body_neutral, global_neutral, local_neutral, none_plain, program_neutral}

@@ -14,12 +14,13 @@ use Rattle.mr_ast.specs.Words.{Texts, is_name}
 use Rattle.mr_ast.specs.Canon.{block_texts, local_texts}
 use Rattle.mr_ast.specs.ProgramGrammar.{ProgramBody}
 use Rattle.mr_parse.specs.CanonNames.{IsDistinct, IsNamed, definitions_of}
-use Rattle.mr_parse.specs.Denotes.{Denotes, definitions_in, function_names_in, knowing, program_of, text_at as word_at}
-use Rattle.mr_parse.specs.Places.{words_of}
+use Rattle.mr_parse.specs.Denotes.{Denotes, definitions_in, program_of}
+use Rattle.mr_words.specs.Defined.{function_names_in, knowing, text_at as word_at}
+use Rattle.mr_words.specs.Places.{words_of}
 use Rattle.mr_parse.proofs.DefinedTwice.{FunctionTwice, ProgramTwice, defined_twice, functions_twice}
 use Rattle.mr_parse.proofs.EnsureLaws.{EachFrom}
 use Rattle.mr_parse.proofs.NamedBack.{ReadsBack, block_back, each_joined, each_shifted, function_back, global_back, local_back, space_distinct, texts_back, texts_first, texts_names}
-use Rattle.mr_parse.proofs.PlaceLaws.{StandsIn, words_stand}
+use Rattle.mr_words.proofs.PlaceLaws.{StandsIn, words_stand}
 use Rattle.mr_parse.proofs.SameDefinitions.{same_definitions}
 use Rattle.mr_parse.proofs.TwoScopes.{EachTwo, each_first, each_two_also}
 

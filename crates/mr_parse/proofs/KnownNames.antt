@@ -26,7 +26,7 @@ use Rattle.mr_parse.specs.CanonNames.{IsDistinct, IsNamed, definitions_of, funct
 use Rattle.mr_parse.proofs.CanonForms.{Parts, Stands, stands_cases, stands_empty, stands_giving}
 use Rattle.mr_parse.proofs.CanonNameLaws.{each_once-distinct, number_distinct, place_distinct}
 use Rattle.mr_parse.proofs.CanonValues.{Known}
-use Rattle.mr_parse.proofs.ScopeLaws.{scope_at}
+use Rattle.mr_words.proofs.ScopeLaws.{scope_at}
 use Rattle.mr_parse.proofs.ShapedNames.{less_test, test_less}
 
 -- ---- what stands at a position of a list

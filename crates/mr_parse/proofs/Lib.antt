@@ -1,7 +1,6 @@
 pub mod AsciiLaws
 pub mod BeginLaws
 pub mod BodyLaws
-pub mod BracketCounts
 pub mod BracketLaws
 pub mod CallLaws
 pub mod CanonForms
@@ -20,7 +19,6 @@ pub mod Conditions
 pub mod DefinedTwice
 pub mod DenotedFits
 pub mod DenotedNames
-pub mod EndLaws
 pub mod EnsureLaws
 pub mod FitsPrograms
 pub mod FitsTypes
@@ -37,7 +35,6 @@ pub mod LoopLaws
 pub mod ManyLaws
 pub mod NameFlaws
 pub mod NamedBack
-pub mod NamingLaws
 pub mod NestingLaws
 pub mod NestingValueLaws
 pub mod NeutralForms
@@ -45,7 +42,6 @@ pub mod ParseLaws
 pub mod ParsingLaws
 pub mod PartLaws
 pub mod PieceLaws
-pub mod PlaceLaws
 pub mod PlainLaws
 pub mod PostfixLaws
 pub mod Predictive
@@ -58,7 +54,6 @@ pub mod Rows
 pub mod SameDefinitions
 pub mod SampledForms
 pub mod Samples
-pub mod ScopeLaws
 pub mod ShapedBlocks
 pub mod ShapedLaws
 pub mod ShapedNames
@@ -69,7 +64,6 @@ pub mod ShapedValues
 pub mod SmallLaws
 pub mod SoundLaws
 pub mod StopLaws
-pub mod TextLaws
 pub mod TokenRows
 pub mod TokenStmts
 pub mod TokenTypes

@@ -2,7 +2,7 @@
 use Rattle.std.proofs.Common.{◌≡◌, ℕ, zero, suc, ◌≤◌, ◌<◌, ◌||◌, ◌&&◌, ◌⊎◌, inl, inr, Bool, true, false, if◌then◌else◌, List, [], ◌∷◌, ◌++◌, length, bytes_eq, Option, None, Some, Result, Ok, Err, refl, arith}
 use Rattle.mr_ast.specs.declared.words.Bracket.{Bracket}
 use Rattle.mr_ast.specs.Forms.{Word, Form, Empty, Then, Cases, Either, Many, Within, Part, In, opening, closing}
-use Rattle.mr_parse.specs.declared.fault.Stop.{Stop}
+use Rattle.mr_words.specs.declared.fault.Stop.{Stop}
 use Rattle.mr_parse.specs.Reading.{stop, Reads, Reading, ◌>>=◌, taken, first_at, expected, opened, is_next, many_at, read_by}
 use Rattle.mr_parse.proofs.Conditions.{is_nullable, IsPredictive}
 

@@ -4,9 +4,9 @@ use Rattle.std.proofs.lemmas.List.{append-nil}
 use Rattle.mr_ast.specs.Forms.{Word}
 use Rattle.mr_ast.specs.Scope.{Scope}
 use Rattle.mr_ast.specs.Writing.{Writing, ◌▸◌, is_word}
-use Rattle.mr_parse.specs.declared.fault.Stop.{Stop}
-use Rattle.mr_parse.specs.declared.fault.ReadFault.{ReadFault}
-use Rattle.mr_parse.specs.declared.fault.ReadFault.TheVariants.{At, Memory}
+use Rattle.mr_words.specs.declared.fault.Stop.{Stop}
+use Rattle.mr_words.specs.declared.fault.ReadFault.{ReadFault}
+use Rattle.mr_words.specs.declared.fault.ReadFault.TheVariants.{At, Memory}
 use Rattle.mr_parse.specs.Gives.{Fails}
 use Rattle.mr_parse.specs.Reading.{◌>>=◌, Reads, expected, is_next, many_at, read, stop}
 

@@ -2,7 +2,7 @@
 use Rattle.std.proofs.Common.{◌≡◌, ℕ, zero, suc, ◌≤◌, Bool, true, false, List, [], ◌∷◌, ◌++◌, length, Result, Ok, refl, ap, ◌∙◌, arith}
 use Rattle.std.proofs.lemmas.List.{length-append}
 use Rattle.mr_ast.specs.Forms.{Word, Mark, EachSpelled}
-use Rattle.mr_parse.specs.declared.fault.Stop.{Stop}
+use Rattle.mr_words.specs.declared.fault.Stop.{Stop}
 use Rattle.mr_parse.specs.Reading.{Reads, ◌>>=◌, is_next, many_at}
 use Rattle.mr_parse.specs.Denotes.{IsFine, words_in}
 use Rattle.mr_parse.proofs.Rows.{words-append-rest, fine-append}

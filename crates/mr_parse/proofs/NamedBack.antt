@@ -11,13 +11,13 @@ use Rattle.mr_ast.specs.Scope.{Definitions, all_names, defined_in, function_name
 use Rattle.mr_ast.specs.Words.{Texts, is_name}
 use Rattle.mr_ast.specs.CanonValues.{text_at}
 use Rattle.mr_parse.specs.CanonNames.{IsDistinct}
-use Rattle.mr_parse.specs.Denotes.{text_at as word_at}
-use Rattle.mr_parse.specs.Naming.{IsAmong}
+use Rattle.mr_words.specs.Defined.{text_at as word_at}
+use Rattle.mr_words.specs.Naming.{IsAmong}
 use Rattle.mr_parse.proofs.DefinedTwice.{NamedTwice}
 use Rattle.mr_parse.proofs.EnsureLaws.{EachFrom}
-use Rattle.mr_parse.proofs.NamingLaws.{block_named, item_named, local_named, position_from_among}
-use Rattle.mr_parse.proofs.PlaceLaws.{StandsIn}
-use Rattle.mr_parse.proofs.ScopeLaws.{once-any, scope_at}
+use Rattle.mr_words.proofs.NamingLaws.{block_named, item_named, local_named, position_from_among}
+use Rattle.mr_words.proofs.PlaceLaws.{StandsIn}
+use Rattle.mr_words.proofs.ScopeLaws.{once-any, scope_at}
 use Rattle.mr_parse.proofs.ShapedNumbers.{some_same}
 use Rattle.mr_parse.proofs.TwoScopes.{EachTwo}
 

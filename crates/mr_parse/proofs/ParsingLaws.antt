@@ -6,10 +6,12 @@ use Rattle.mr_ast.specs.ProgramGrammar.{ProgramBody}
 use Rattle.mr_lex.specs.Tokens.{Lexeme}
 use Rattle.mr_lex.specs.Reading.{lexed}
 use Rattle.mr_lex.specs.declared.token.TextFault.{TextFault}
-use Rattle.mr_parse.specs.declared.fault.Stop.{Stop}
-use Rattle.mr_parse.specs.Places.{words_of}
-use Rattle.mr_parse.specs.Denotes.{Denotes, Writes, definitions_in, knowing, program_of, unknown}
-use Rattle.mr_parse.specs.Faults.{BreaksFirst, FirstFault, OfTokens, OfGrammar, OfNames, fault_at}
+use Rattle.mr_words.specs.declared.fault.Stop.{Stop}
+use Rattle.mr_words.specs.Places.{words_of}
+use Rattle.mr_parse.specs.Denotes.{Denotes, Writes, definitions_in, program_of}
+use Rattle.mr_words.specs.Defined.{knowing, unknown}
+use Rattle.mr_parse.specs.Faults.{BreaksFirst, FirstFault, OfTokens, OfGrammar, OfNames}
+use Rattle.mr_words.specs.TextFaults.{fault_at}
 use Rattle.mr_parse.specs.Parsing.{body_of, parsed, program_in}
 use Rattle.mr_parse.specs.Reading.{◌>>=◌}
 use Rattle.mr_parse.proofs.SoundLaws.{given}

@@ -3,9 +3,9 @@ use Rattle.std.proofs.Common.{◌≡◌, ℕ, zero, suc, ◌+◌, ◌-◌, ◌<�
 use Rattle.mr_ast.specs.declared.expr.Place.{Place}
 use Rattle.mr_ast.specs.Forms.{Word}
 use Rattle.mr_ast.specs.ValueGrammar.{Postfix, with_postfix}
-use Rattle.mr_parse.specs.declared.fault.Stop.{Stop}
-use Rattle.mr_parse.specs.declared.fault.ReadFault.{ReadFault}
-use Rattle.mr_parse.specs.declared.fault.ReadFault.TheVariants.{At, Memory}
+use Rattle.mr_words.specs.declared.fault.Stop.{Stop}
+use Rattle.mr_words.specs.declared.fault.ReadFault.{ReadFault}
+use Rattle.mr_words.specs.declared.fault.ReadFault.TheVariants.{At, Memory}
 use Rattle.mr_parse.specs.Gives.{Fails}
 use Rattle.mr_parse.specs.Postfixes.{with_all}
 use Rattle.mr_parse.specs.Reading.{◌>>=◌, Reads, is_next, many_at}

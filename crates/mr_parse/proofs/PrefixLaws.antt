@@ -6,7 +6,7 @@ use Rattle.mr_ast.specs.Scope.{Scope}
 use Rattle.mr_ast.specs.Writing.{Writing}
 use Rattle.mr_ast.specs.Spelled.{form_of, NoPart, SpelledInside, SpelledPart, Spelled}
 use Rattle.mr_ast.specs.ProgramGrammar.{ProgramBody, program_form}
-use Rattle.mr_parse.specs.declared.fault.Stop.{Stop}
+use Rattle.mr_words.specs.declared.fault.Stop.{Stop}
 use Rattle.mr_parse.specs.Reading.{stop, read_by, no_part, read_inside, read_part, read}
 use Rattle.mr_parse.specs.Denotes.{IsFine, words_in}
 use Rattle.mr_parse.proofs.Rows.{words-append-rest}

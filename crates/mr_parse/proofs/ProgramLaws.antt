@@ -4,7 +4,7 @@ use Rattle.mr_ast.specs.Forms.{Word}
 use Rattle.mr_ast.specs.Scope.{Scope}
 use Rattle.mr_ast.specs.ProgramGrammar.{ProgramBody, program_form}
 use Rattle.mr_ast.specs.Spelled.{Spelled}
-use Rattle.mr_parse.specs.declared.fault.Stop.{Stop}
+use Rattle.mr_words.specs.declared.fault.Stop.{Stop}
 use Rattle.mr_parse.specs.Reading.{read}
 use Rattle.mr_parse.proofs.HeightLaws.{SomeSpelled}
 use Rattle.mr_parse.proofs.SoundLaws.{Row, sound}

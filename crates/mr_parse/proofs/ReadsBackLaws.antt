@@ -8,15 +8,16 @@ use Rattle.mr_ast.specs.Canon.{canonical_text, canonical_words}
 use Rattle.mr_lex.specs.Tokens.{Lexeme}
 use Rattle.mr_lex.specs.Reading.{lexed}
 use Rattle.mr_parse.specs.CanonNames.{IsNamed, body_of, definitions_of}
-use Rattle.mr_parse.specs.Denotes.{Denotes, Writes, definitions_in, knowing, unknown}
+use Rattle.mr_parse.specs.Denotes.{Denotes, Writes, definitions_in}
+use Rattle.mr_words.specs.Defined.{knowing, unknown}
 use Rattle.mr_parse.specs.NestingPrograms.{ProgramFits}
-use Rattle.mr_parse.specs.Places.{numbered, words_from, words_of}
+use Rattle.mr_words.specs.Places.{numbered, words_from, words_of}
 use Rattle.mr_parse.proofs.CanonPrograms.{canonical_words_write}
 use Rattle.mr_parse.proofs.CanonTokens.{canonical_text_is_lexed}
 use Rattle.mr_parse.proofs.DefinedTwice.{written_twice}
 use Rattle.mr_parse.proofs.DenotedFits.{denoted_fits}
 use Rattle.mr_parse.proofs.DenotedNames.{denoted_named}
-use Rattle.mr_parse.proofs.PlaceLaws.{StandsIn, words_stand}
+use Rattle.mr_words.proofs.PlaceLaws.{StandsIn, words_stand}
 use Rattle.mr_parse.proofs.SameDefinitions.{same_definitions}
 use Rattle.mr_parse.proofs.ShapedLaws.{denoted_is_shaped}
 

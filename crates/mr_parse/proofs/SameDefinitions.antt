@@ -11,11 +11,12 @@ use Rattle.mr_ast.specs.Words.{Texts}
 use Rattle.mr_ast.specs.CanonValues.{text_at}
 use Rattle.mr_ast.specs.ProgramGrammar.{ProgramBody}
 use Rattle.mr_parse.specs.CanonNames.{body_of, definitions_of, function_definitions}
-use Rattle.mr_parse.specs.Denotes.{definitions_in, function_names_in, knowing}
-use Rattle.mr_parse.specs.Denotes.{text_at as word_at}
+use Rattle.mr_parse.specs.Denotes.{definitions_in}
+use Rattle.mr_words.specs.Defined.{function_names_in, knowing}
+use Rattle.mr_words.specs.Defined.{text_at as word_at}
 use Rattle.mr_parse.proofs.DefinedTwice.{FunctionTwice, ProgramTwice}
 use Rattle.mr_parse.proofs.NamedBack.{ReadsBack, block_back, function_back, global_back, local_back}
-use Rattle.mr_parse.proofs.PlaceLaws.{StandsIn}
+use Rattle.mr_words.proofs.PlaceLaws.{StandsIn}
 use Rattle.mr_parse.proofs.TwoScopes.{EachTwo}
 
 pub each_map : {A B : Type 0} (R : ℕ → A → A → Type 0) (one other : A → B) → ((k : ℕ) (x y : A) → R k x y → other y ≡ one x) → (k : ℕ) (xs ys : List A) → EachTwo R k xs ys

@@ -22,7 +22,7 @@ use Rattle.mr_parse.proofs.EnsureLaws.{EachFrom, Ensures, Parts, ensures_all, en
 use Rattle.mr_parse.proofs.ShapedNames.{below, ensures_block_name, ensures_block_use, ensures_local_use}
 use Rattle.mr_parse.proofs.ShapedNumbers.{all_pass, both, ensures_num, some_same}
 use Rattle.mr_parse.proofs.ShapedValues.{ensures_place_part, ensures_value_part, places_shaped, values_shaped}
-use Rattle.mr_parse.proofs.ScopeLaws.{named_at, scope_at}
+use Rattle.mr_words.proofs.ScopeLaws.{named_at, scope_at}
 
 -- where each thing of a row has a number below a bound, there are no more of them
 pub each_few : {A : Type 0} (P : ℕ → A → Type 0) (n : ℕ) → ((k : ℕ) (x : A) → P k x → k < n) → (k : ℕ) (xs : List A) → k ≤ n → EachFrom P k xs → k + length xs ≤ n

@@ -10,11 +10,12 @@ use Rattle.mr_ast.specs.Scope.{Definitions, function_names}
 use Rattle.mr_ast.specs.Shaped.{Shaped, ShapedFunction}
 use Rattle.mr_ast.specs.ProgramGrammar.{ProgramBody, program_form}
 use Rattle.mr_ast.specs.Spelled.{SpelledPart}
-use Rattle.mr_parse.specs.Places.{words_of}
-use Rattle.mr_parse.specs.Denotes.{Denotes, Writes, definitions_in, function_names_in, knowing, program_of, text_at, unknown}
+use Rattle.mr_words.specs.Places.{words_of}
+use Rattle.mr_parse.specs.Denotes.{Denotes, Writes, definitions_in, program_of}
+use Rattle.mr_words.specs.Defined.{function_names_in, knowing, text_at, unknown}
 use Rattle.mr_parse.proofs.DefinedTwice.{FunctionTwice, ProgramTwice, defined_twice, functions_twice}
 use Rattle.mr_parse.proofs.EnsureLaws.{EachFrom, Ensures}
-use Rattle.mr_parse.proofs.PlaceLaws.{StandsIn, words_stand}
+use Rattle.mr_words.proofs.PlaceLaws.{StandsIn, words_stand}
 use Rattle.mr_parse.proofs.ShapedPrograms.{BodyShaped, Counted, ensures_program}
 use Rattle.mr_parse.proofs.TwoScopes.{EachTwo, each_length}
 

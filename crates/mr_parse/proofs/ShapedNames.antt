@@ -15,7 +15,7 @@ use Rattle.mr_ast.specs.Words.{is_name}
 use Rattle.mr_ast.specs.Writing.{block_use, function_use, global_use, judged_name, judged_target, local_use, name_form, target_use}
 use Rattle.mr_parse.proofs.EnsureLaws.{Ensures, Parts, ensures_giving, ensures_cases, ensures_empty}
 use Rattle.mr_parse.proofs.ShapedNumbers.{some_same}
-use Rattle.mr_parse.proofs.ScopeLaws.{define_block, define_function, define_global, define_local, named_at, number_within, scope_at, use_block, use_function, use_global, use_local}
+use Rattle.mr_words.proofs.ScopeLaws.{define_block, define_function, define_global, define_local, named_at, number_within, scope_at, use_block, use_function, use_global, use_local}
 
 pub less_test : (m n : ℕ) → m < n → nat_lt m n ≡ true
 less_test m n le = grind (arith, nat_tests)

@@ -21,7 +21,7 @@ use Rattle.mr_parse.proofs.ShapedBlocks.{each_also, each_few, ensures_block}
 use Rattle.mr_parse.proofs.ShapedNames.{IsWithin, below, ensures_function_name, ensures_function_use, ensures_global_name, ensures_local_name, ensures_local_use, ensures_target_use, test_less}
 use Rattle.mr_parse.proofs.ShapedNumbers.{ensures_repeat, ensures_u64, some_same}
 use Rattle.mr_parse.proofs.ShapedTypes.{ensures_type_part, types_shaped}
-use Rattle.mr_parse.proofs.ScopeLaws.{named_at, scope_at}
+use Rattle.mr_words.proofs.ScopeLaws.{named_at, scope_at}
 
 -- a byte of an item
 byte_small : (w : Word) (b : ℕ) → judged_item w ≡ Some (item_word.Byte b, None) → b ≤ 255

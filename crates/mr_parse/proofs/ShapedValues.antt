@@ -17,7 +17,7 @@ use Rattle.mr_parse.proofs.EnsureLaws.{Ensures, Parts, ensures_all, ensures_also
 use Rattle.mr_parse.proofs.ShapedNames.{ensures_function_use, ensures_global_use, ensures_name, less_test}
 use Rattle.mr_parse.proofs.ShapedNumbers.{all_pass, both, ensures_limited, ensures_num, ensures_u64}
 use Rattle.mr_parse.proofs.ShapedTypes.{ensures_int, ensures_type_part, types_shaped}
-use Rattle.mr_parse.proofs.ScopeLaws.{named_at, scope_at, use_local}
+use Rattle.mr_words.proofs.ScopeLaws.{named_at, scope_at, use_local}
 
 -- a place and what makes another of it
 abbrev ShapedPostfix : Named → Postfix → Type 0

@@ -11,8 +11,9 @@ use Rattle.mr_ast.specs.Scope.{Scope}
 use Rattle.mr_ast.specs.Writing.{name_form}
 use Rattle.mr_ast.specs.ProgramGrammar.{ProgramBody, block_form, blocks_form, body_form, function_form, functions_form, global_form, globals_form, local_form, locals_form, program_form}
 use Rattle.mr_ast.specs.Spelled.{SpelledPart}
-use Rattle.mr_parse.specs.Denotes.{Writes, definitions_in, function_names_in, text_at}
-use Rattle.mr_parse.specs.Naming.{IsSmall, IsSmallFunction}
+use Rattle.mr_parse.specs.Denotes.{Writes, definitions_in}
+use Rattle.mr_words.specs.Defined.{function_names_in, text_at}
+use Rattle.mr_words.specs.Naming.{IsSmall, IsSmallFunction}
 use Rattle.mr_parse.proofs.EnsureLaws.{Ensures, Parts, ensures_any, ensures_before, ensures_behind, ensures_cases, ensures_empty, ensures_in, ensures_many, ensures_pair, ensures_then, ensures_within}
 use Rattle.mr_parse.proofs.ShapedBlocks.{each_also, each_few}
 use Rattle.mr_parse.proofs.ShapedNames.{below, name_fine}

@@ -8,7 +8,7 @@ use Rattle.mr_ast.specs.Forms.{Word, Mark, Form, Empty, Then, Cases, Either, Man
 use Rattle.mr_ast.specs.Scope.{Scope}
 use Rattle.mr_ast.specs.Writing.{Kind, Meaning, Writing}
 use Rattle.mr_ast.specs.Spelled.{form_of, NoPart, SpelledInside}
-use Rattle.mr_parse.specs.declared.fault.Stop.{Stop}
+use Rattle.mr_words.specs.declared.fault.Stop.{Stop}
 use Rattle.mr_parse.specs.Reading.{stop, Reads, Reading, ◌>>=◌, taken, first_at, expected, opened, is_next, many_at, read_by, no_part, read_inside, read_part, read}
 use Rattle.mr_parse.proofs.Conditions.{IsSampled}
 use Rattle.mr_parse.specs.Denotes.{IsFine, words_in}

@@ -9,7 +9,7 @@ use Rattle.mr_ast.specs.ProgramGrammar.{ProgramBody, program_form}
 use Rattle.mr_ast.specs.Spelled.{Spelled}
 use Rattle.mr_lex.specs.Tokens.{Lexeme}
 use Rattle.mr_lex.specs.Reading.{lexed}
-use Rattle.mr_parse.specs.Places.{words_of}
+use Rattle.mr_words.specs.Places.{words_of}
 
 -- the words of a row
 abbrev pub words_in : List Mark → List Word
@@ -29,26 +29,6 @@ pub record Writes (scope : Scope) (words : List Word) (body : ProgramBody) : Typ
   pub row : words ≡ words_in marks
   pub fine : IsFine marks
   pub written : SpelledProgram scope body marks
-
--- where names stand for their places
-abbrev pub unknown : Scope
-unknown = record { known = None; function = 0 }
-
--- where names stand for what a text defines
-abbrev pub knowing : Definitions → Scope
-knowing d = record { known = Some d; function = 0 }
-
--- the text of the word at a place
-abbrev pub text_at : List Word → ℕ → List ℕ
-text_at words place = elim (slice_get words place) as (λ _. List ℕ) [ Some w ↦ w.text | None ↦ [] ]
-
--- the names that a function defines, where each is written as its place
-abbrev pub function_names_in : List Word → Function → FunctionNames
-function_names_in words f = record {
-  name = text_at words f.name;
-  locals = map (λ l. text_at words l.name) f.locals;
-  blocks = map (λ b. text_at words b.name) f.blocks;
-}
 
 -- the names that a program defines, where each is written as its place
 abbrev pub definitions_in : List Word → ProgramBody → Definitions

@@ -8,20 +8,10 @@ use Rattle.mr_lex.specs.Tokens.{Lexeme}
 use Rattle.mr_lex.specs.Reading.{lexed}
 use Rattle.mr_lex.specs.Places.{line_of, column_of}
 use Rattle.mr_lex.specs.declared.token.TextFault.{TextFault}
-use Rattle.mr_parse.specs.declared.fault.Stop.{Stop}
-use Rattle.mr_parse.specs.Places.{words_of}
-use Rattle.mr_parse.specs.Denotes.{IsFine, SpelledProgram, Writes, definitions_in, knowing, unknown, words_in}
-
-abbrev pub opens : Word → Bool
-opens w = bytes_eq w.text (codes "(") || (bytes_eq w.text (codes "{") || bytes_eq w.text (codes "["))
-
-abbrev pub closes : Word → Bool
-closes w = bytes_eq w.text (codes ")") || (bytes_eq w.text (codes "}") || bytes_eq w.text (codes "]"))
-
--- an opening bracket, behind words that leave 32 brackets open
-abbrev pub is_bracket_too_many : List Word → List Word → Bool
-is_bracket_too_many front [] = false
-is_bracket_too_many front (w ∷ ws) = opens w && nat_le (count_by closes front + 32) (count_by opens front)
+use Rattle.mr_words.specs.declared.fault.Stop.{Stop}
+use Rattle.mr_words.specs.Places.{words_of}
+use Rattle.mr_parse.specs.Denotes.{IsFine, SpelledProgram, Writes, definitions_in, words_in}
+use Rattle.mr_words.specs.Defined.{knowing, unknown}
 
 -- the code of a word with which no text can go on
 abbrev pub code_of_unexpected : List Word → List Word → ℕ
@@ -56,13 +46,6 @@ pub record BreaksFirst (scope : Scope) (words : List Word) (s : Stop) : Type 0 w
   pub left : length rest ≡ s.left
   pub fine : IsFine front
   pub ending : BreaksLimit scope front rest s.code ⊎ ((s.code ≡ code_of_unexpected (words_in front) rest) × GoesOn scope front × NothingFits scope (words_in front) rest)
-
--- the fault at a token, where so many tokens are left, or at the end
-abbrev pub fault_at : List ℕ → List Lexeme → Stop → TextFault
-fault_at text lexemes s = elim (slice_get lexemes (length lexemes - s.left)) as (λ _. TextFault) [
-  | Some l ↦ record { line = l.line; col = l.col; code = s.code }
-  | None ↦ record { line = line_of text (length text); col = column_of text (length text); code = s.code }
-]
 
 -- The first fault of a text: of its tokens, of the grammar, or of its names. Of an earlier walk the text has none then.
 pub data FirstFault (text : List ℕ) (fault : TextFault) : Type 0 where

@@ -3,13 +3,10 @@ pub mod Denotes
 pub mod Faults
 pub mod Gives
 pub mod Insides
-pub mod Naming
 pub mod Nesting
 pub mod NestingPrograms
 pub mod NestingValues
-pub mod Numbers
 pub mod Parsing
-pub mod Places
 pub mod Postfixes
 pub mod Reading
 pub mod TokenTexts

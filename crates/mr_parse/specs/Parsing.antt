@@ -6,25 +6,18 @@ use Rattle.mr_ast.specs.Scope.{Scope}
 use Rattle.mr_ast.specs.ProgramGrammar.{ProgramBody, program_form}
 use Rattle.mr_lex.specs.Reading.{lexed}
 use Rattle.mr_lex.specs.declared.token.TextFault.{TextFault}
-use Rattle.mr_parse.specs.declared.fault.Stop.{Stop}
-use Rattle.mr_parse.specs.Places.{words_of}
-use Rattle.mr_parse.specs.Denotes.{definitions_in, knowing, program_of, unknown}
-use Rattle.mr_parse.specs.Faults.{fault_at, is_bracket_too_many}
+use Rattle.mr_words.specs.declared.fault.Stop.{Stop}
+use Rattle.mr_words.specs.Places.{words_of}
+use Rattle.mr_parse.specs.Denotes.{definitions_in, program_of}
+use Rattle.mr_words.specs.Defined.{knowing, unknown}
+use Rattle.mr_words.specs.TextFaults.{fault_at}
+use Rattle.mr_words.specs.Brackets.{is_bracket_too_many}
 use Rattle.mr_parse.specs.Reading.{◌>>=◌, read, stop}
 
 -- the program that the words write, where nothing is left behind it
 abbrev pub ended : ProgramBody × List Word → Result ProgramBody Stop
 ended (body, []) = Ok body
 ended (body, w ∷ ws) = stop 4 (w ∷ ws)
-
--- the words from a stop on
-abbrev pub left_at : List Word → Stop → List Word
-left_at words s = drop (length words - s.left) words
-
--- a bracket too many is told before a word that doesn't fit
-abbrev pub told : List Word → Stop → Stop
-told words s =
-    if (s.code == 4) && is_bracket_too_many (take (length words - s.left) words) (left_at words s) then record { code = 7; left = s.left } else s
 
 -- what all of the words write
 abbrev pub whole_of : Scope → List Word → Result ProgramBody Stop

@@ -15,7 +15,7 @@ use Rattle.mr_ast.specs.Scope.{Scope}
 use Rattle.mr_ast.specs.Writing.{ThePlace, Writing, block_use, listed, optional, ◌▪◌, ◌▸◌}
 use Rattle.mr_ast.specs.ProgramGrammar.{FunctionBody, ProgramBody, values_form, with_name}
 use Rattle.mr_ast.specs.TypeGrammar.{Shape}
-use Rattle.mr_parse.specs.declared.fault.Stop.{Stop}
+use Rattle.mr_words.specs.declared.fault.Stop.{Stop}
 use Rattle.mr_parse.specs.declared.program.Head.{Head}
 use Rattle.mr_parse.specs.declared.program.Inner.{Inner}
 use Rattle.mr_parse.specs.declared.program.Parts.{Parts}

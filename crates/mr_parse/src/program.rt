@@ -6,14 +6,12 @@ ghost use Rattle.mr_parse.specs.Gives.{Gives};
 ghost use Rattle.mr_parse.specs.Reading.{first_at, read};
 ghost use Rattle.mr_parse.specs.Views.{body_of_parts, head_of, named, parts_of};
 
-use crate::fault::{ReadFault, UNEXPECTED};
 use crate::reader::Reader;
-use crate::scope::Scope;
-use crate::table::{item_word_of, kind_of};
 use mr_ast::{
     Block, BlockKind, Bracket, FnName, Function, Global_, Item_, ItemWord, Items, Local, LocalName,
     Role,
 };
+use mr_words::{ReadFault, Scope, UNEXPECTED, item_word_of, kind_of};
 use std::alloc::Global;
 
 /// How many functions and how many globals a text may have, and how many locals a function.

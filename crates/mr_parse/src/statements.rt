@@ -7,12 +7,13 @@ ghost use Rattle.mr_parse.specs.Gives.{Gives};
 ghost use Rattle.mr_parse.specs.Reading.{first_at, is_next, read};
 ghost use Rattle.mr_parse.specs.Views.{beside_of, call_end_form, called, called_behind, unwound, ways_form, ways_of};
 
-use crate::fault::{EXPOSED, ReadFault, TOO_MANY, UNEXPECTED};
 use crate::reader::Reader;
-use crate::scope::Scope;
-use crate::table::{intrinsic_of, is_exposed, is_name, stmt_word_of, term_word_of};
 use mr_ast::{
     BlockName, Bracket, Intrinsic, Items, Num, Place, Stmt, StmtWord, Term, TermWord, Value,
+};
+use mr_words::{
+    EXPOSED, ReadFault, Scope, TOO_MANY, UNEXPECTED, intrinsic_of, is_exposed, is_name,
+    stmt_word_of, term_word_of,
 };
 use std::alloc::Global;
 

@@ -7,11 +7,9 @@ ghost use Rattle.mr_parse.specs.Gives.{Gives};
 ghost use Rattle.mr_parse.specs.Reading.{first_at, read, read_outside, read_part};
 ghost use Rattle.mr_parse.specs.Views.{shape_of};
 
-use crate::fault::{ReadFault, UNEXPECTED};
 use crate::reader::Reader;
-use crate::scope::Scope;
-use crate::table::{tree_word_of, type_word_of};
 use mr_ast::{Boxed, Bracket, Items, Num, Tag, Tree, TreeWord, Ty, TypeWord, Variant};
+use mr_words::{ReadFault, Scope, UNEXPECTED, tree_word_of, type_word_of};
 use std::alloc::Global;
 
 // A size and an alignment.

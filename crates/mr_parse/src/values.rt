@@ -7,12 +7,12 @@ ghost use Rattle.mr_parse.specs.Insides.{begins_with_type, is_bracketed, value_i
 ghost use Rattle.mr_parse.specs.Reading.{first_at, is_next, read, read_outside, read_part};
 ghost use Rattle.mr_parse.specs.Postfixes.{indexed, postfix_of, with_all};
 
-use crate::fault::{EXPOSED, ReadFault, TOO_DEEP, TOO_MANY, UNEXPECTED};
 use crate::reader::Reader;
-use crate::scope::Scope;
-use crate::table::{is_exposed, value_word_of};
 use mr_ast::{
     Boxed, Bracket, FnName, GlobalName, Items, LocalName, Num, Place, Role, Value, ValueWord,
+};
+use mr_words::{
+    EXPOSED, ReadFault, Scope, TOO_DEEP, TOO_MANY, UNEXPECTED, is_exposed, value_word_of,
 };
 use std::alloc::{AllocError, Global};
 
