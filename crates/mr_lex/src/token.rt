@@ -1,3 +1,4 @@
+//! Tokens, and the faults of a text that has none.
 use std::alloc::AllocFailed;
 
 /// What a token is.

@@ -42,8 +42,8 @@ abbrev pub program_of : Definitions → ProgramBody → Program
 program_of d body =
     record { edition = 1; globals = body.globals; functions = body.functions; names = names_of d; start = body.start }
 
--- The words are in the grammar, whatever their names stand for; and where names stand for what the text itself defines, they write
--- the program. Each name is defined once in its space then, and each that is used is defined.
+-- The words are in the grammar, whatever their names stand for; and where names stand for what the text itself
+-- defines, they write the program. Each name is defined once in its space then, and each that is used is defined.
 pub record Denotes (text : List ℕ) (p : Program) : Type 0 where
   pub lexemes : List Lexeme
   pub lexes : lexed text ≡ Ok lexemes

@@ -1,13 +1,8 @@
-pub mod CanonNames
 pub mod Denotes
 pub mod Faults
 pub mod Gives
 pub mod Insides
-pub mod Nesting
-pub mod NestingPrograms
-pub mod NestingValues
 pub mod Parsing
 pub mod Postfixes
 pub mod Reading
-pub mod TokenTexts
 pub mod Views

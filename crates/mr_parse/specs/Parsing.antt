@@ -24,7 +24,8 @@ abbrev pub whole_of : Scope → List Word → Result ProgramBody Stop
 whole_of scope words = read 32 scope program_form words >>= ended
 
 unfoldable pub body_of : Scope → List Word → Result ProgramBody Stop
-body_of scope words = elim (whole_of scope words) as (λ _. Result ProgramBody Stop) [ Ok body ↦ Ok body | Err s ↦ Err (told words s) ]
+body_of scope words =
+    elim (whole_of scope words) as (λ _. Result ProgramBody Stop) [ Ok body ↦ Ok body | Err s ↦ Err (told words s) ]
 
 -- the program of the tokens
 unfoldable pub program_in : List Word → Result Program Stop
@@ -37,6 +38,7 @@ program_in words = do
 -- the program of a text, or its first fault
 unfoldable pub parsed : List ℕ → Result Program TextFault
 parsed text = elim (lexed text) as (λ _. Result Program TextFault) [
-  | Ok lexemes ↦ elim (program_in (words_of lexemes)) as (λ _. Result Program TextFault) [ Ok p ↦ Ok p | Err s ↦ Err (fault_at text lexemes s) ]
+  | Ok lexemes ↦ elim (program_in (words_of lexemes)) as (λ _. Result Program TextFault)
+      [ Ok p ↦ Ok p | Err s ↦ Err (fault_at text lexemes s) ]
   | Err fault ↦ Err fault
 ]

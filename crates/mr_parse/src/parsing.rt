@@ -1,3 +1,4 @@
+//! Parsing: from the tokens of a text to its program, or to its first fault.
 ghost use Rattle.std.specs.Prelude.{◌≡◌, ◌≤◌, ◌^◌, ℕ, length, IfOk, IsErrOf, Ok, Err};
 ghost use Rattle.std.specs.Str.{IsAscii};
 ghost use Rattle.mr_ast.specs.declared.program.Program.{Program};

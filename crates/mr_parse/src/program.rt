@@ -1,3 +1,4 @@
+//! Programs, globals, functions and blocks.
 ghost use Rattle.std.specs.Prelude.{◌≡◌, ◌<◌, ◌^◌, codes};
 ghost use Rattle.mr_ast.specs.declared.words.Bracket.TheVariants.{Curly, Round};
 ghost use Rattle.mr_ast.specs.Writing.{judged_target, listed, within, ◌▪◌, ◌◂◌, ◌▸◌, local_use};
@@ -128,7 +129,7 @@ impl<'a> Reader<'a> {
     }
 
     // The arguments of a function, in their brackets.
-    #[tactic(auto, using(crate::proofs::InsideLaws::inside))]
+    #[tactic(auto, using(crate::proofs::Walk::InsideLaws::inside))]
     fn args(
         &mut self,
         alloc: Global,
@@ -190,7 +191,7 @@ impl<'a> Reader<'a> {
     }
 
     // The locals and the blocks, in their braces.
-    #[tactic(auto, using(crate::proofs::InsideLaws::inside))]
+    #[tactic(auto, using(crate::proofs::Walk::InsideLaws::inside))]
     fn braced(&mut self, alloc: Global, scope: &Scope, room: u32) -> Result<Inner, ReadFault>
         ensures { Gives (λ i. (parts_of i, self.new)) result (read room scope.now (within Curly (codes "let" ▸ locals_form ◂ codes ";" ▪ blocks_form)) self.old) }
     {
@@ -332,7 +333,7 @@ impl<'a> Reader<'a> {
     }
 
     // The global of number k.
-    #[tactic(auto, unfolding(mr_ast::specs::ProgramGrammar::global_form), using(crate::proofs::InsideLaws::inside))]
+    #[tactic(auto, unfolding(mr_ast::specs::ProgramGrammar::global_form), using(crate::proofs::Walk::InsideLaws::inside))]
     fn global(
         &mut self,
         alloc: Global,

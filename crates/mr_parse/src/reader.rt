@@ -1,10 +1,11 @@
+//! The tokens that are left, and what is taken from their front.
 ghost use Rattle.std.specs.Prelude.{◌≡◌, ◌==◌, ◌-◌, ◌||◌, false, [], ◌∷◌, List, length, bytes_eq, if◌then◌else◌, Some, None, IfOk, IfSome, MatchOption, ◌≤◌, ◌<◌, ◌^◌};
 ghost use Rattle.mr_ast.specs.Forms.{Word, opening, closing};
 ghost use Rattle.mr_ast.specs.Writing.{block_use, is_word, judged_int, judged_name, judged_target, local_use, other_than};
 ghost use Rattle.mr_parse.specs.Gives.{Gives};
 ghost use Rattle.mr_parse.specs.Reading.{expected, first_at, is_next, limited, opened, read};
 ghost use Rattle.mr_words.specs.Places.{words_of};
-ghost use Rattle.mr_parse.specs.Views.{followed_by};
+ghost use Rattle.mr_parse.specs.Views.{beside_of, followed_by};
 
 use mr_ast::{BlockName, Bracket, IntType, LocalName, Role, Target};
 use mr_lex::Tokens;
@@ -270,6 +271,16 @@ impl<'a> Reader<'a> {
             }
             None => Err(self.stop(UNEXPECTED)),
         }
+    }
+}
+
+/// A thing beside what was read behind it.
+pub fn beside<T: Drop, U: Drop>(thing: T, read: Result<U, ReadFault>) -> Result<(T, U), ReadFault>
+    ensures { result ≡ beside_of thing read }
+{
+    match read {
+        Ok(x) => Ok((thing, x)),
+        Err(fault) => Err(fault),
     }
 }
 

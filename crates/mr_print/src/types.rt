@@ -1,3 +1,4 @@
+//! The words of types.
 ghost use Rattle.std.specs.Prelude.{◌≡◌, ◌++◌, ◌∷◌, [], OnOk, length, map, flat_map};
 ghost use Rattle.mr_ast.specs.CanonTypes.{braced, shape_words, chunk_words, tag_words, case_words, field_words, is_unit, variant_words, words_of_tree, words_of_type};
 ghost use Rattle.mr_print.specs.Appends.{with_words};

@@ -1,3 +1,4 @@
+//! The words of places and values.
 ghost use Rattle.std.specs.Prelude.{◌≡◌, ◌∷◌, ◌++◌, [], OnOk, codes, decimal, flat_map, map};
 ghost use Rattle.mr_ast.specs.CanonTypes.{int_word, num_words, with_commas};
 ghost use Rattle.mr_ast.specs.CanonValues.{binary_word, text_at, unary_word, words_of_place, words_of_value};

@@ -56,9 +56,6 @@ too_many_at front (w ∷ ws) (suc n) = too_many_at front ws n
 
 -- ---- the fault that is told
 
-pub told_unchanged : (ws : List Word) (s : Stop) → (s.code == 4) ≡ false → s ≡ told ws s
-told_unchanged ws s other = rw other refl
-
 module _ (ws : List Word) (s : Stop) (at : ℕ) (is_at : at ≡ length ws - s.left) where
   told_by : (is_too_many : Bool) → is_too_many ≡ is_bracket_too_many (take at ws) (drop at ws) → (if (s.code == 4) && is_too_many then record { code = 7; left = s.left } else s) ≡ told ws s
   told_by is_too_many e = ap (λ b. if (s.code == 4) && b then record { code = 7; left = s.left } else s) (e ∙ ap (λ n. is_bracket_too_many (take n ws) (drop n ws)) is_at)

@@ -42,13 +42,6 @@ pub once-length : (texts : Texts) → length (each_once texts) ≤ length texts
 unfolding each_once
 once-length texts = omega (arith, fold-length texts [])
 
--- and has the same texts
-either_of : (a b : Bool) → (a ≡ true → b ≡ true) → (b ≡ true → a ≡ true) → a ≡ b
-either_of true true f g = refl
-either_of true false f g = sym (f refl)
-either_of false true f g = g refl
-either_of false false f g = refl
-
 fold-any : (text : List ℕ) (texts acc : Texts) → list_any (bytes_eq text) (fold with_text acc texts) ≡ (list_any (bytes_eq text) acc || list_any (bytes_eq text) texts)
 fold-any text [] acc = sym (or-false (list_any (bytes_eq text) acc))
 fold-any text (t ∷ texts) acc = go (list_any (bytes_eq t) acc) refl (fold-any text texts acc) (fold-any text texts (acc ++ t ∷ []))

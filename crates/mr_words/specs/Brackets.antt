@@ -24,4 +24,5 @@ left_at words s = drop (length words - s.left) words
 -- a bracket too many is told before a word that doesn't fit
 abbrev pub told : List Word → Stop → Stop
 told words s =
-    if (s.code == 4) && is_bracket_too_many (take (length words - s.left) words) (left_at words s) then record { code = 7; left = s.left } else s
+    if (s.code == 4) && is_bracket_too_many (take (length words - s.left) words) (left_at words s)
+    then record { code = 7; left = s.left } else s
