@@ -1,5 +1,5 @@
 -- Parsing a text gives the program that it denotes, or its first fault.
-use Rattle.std.proofs.Common.{◌≡◌, ◌⊎◌, ◌↔◌, inl, inr, ℕ, List, Result, Ok, Err, refl, ap, sym, ◌∙◌}
+use Rattle.std.proofs.Common.{◌≡◌, ◌⊎◌, inl, inr, ℕ, List, Result, Ok, Err, refl, ap, sym, ◌∙◌}
 use Rattle.mr_ast.specs.declared.program.Program.{Program}
 use Rattle.mr_ast.specs.Forms.{Word}
 use Rattle.mr_ast.specs.ProgramGrammar.{ProgramBody}

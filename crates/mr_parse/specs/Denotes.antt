@@ -1,15 +1,15 @@
 -- What a text denotes.
-use Rattle.std.specs.Prelude.{◌≡◌, ℕ, List, [], map, None, Some, Ok, slice_get}
+use Rattle.std.specs.Prelude.{◌≡◌, ℕ, List, map, None, Ok}
 use Rattle.std.specs.List.{AllByRecursion}
-use Rattle.mr_ast.specs.declared.program.Function.{Function}
 use Rattle.mr_ast.specs.declared.program.Program.{Program}
 use Rattle.mr_ast.specs.Forms.{Word, Mark}
-use Rattle.mr_ast.specs.Scope.{Scope, Definitions, FunctionNames, names_of}
+use Rattle.mr_ast.specs.Scope.{Scope, Definitions, names_of}
 use Rattle.mr_ast.specs.ProgramGrammar.{ProgramBody, program_form}
 use Rattle.mr_ast.specs.Spelled.{Spelled}
 use Rattle.mr_lex.specs.Tokens.{Lexeme}
 use Rattle.mr_lex.specs.Reading.{lexed}
 use Rattle.mr_words.specs.Places.{words_of}
+use Rattle.mr_words.specs.Defined.{function_names_in, knowing, text_at, unknown}
 
 -- the words of a row
 abbrev pub words_in : List Mark → List Word

@@ -1,17 +1,17 @@
 -- The first fault of a text.
-use Rattle.std.specs.Prelude.{◌≡◌, ℕ, ◌+◌, ◌-◌, ◌⊎◌, Bool, false, ◌&&◌, ◌||◌, nat_le, if◌then◌else◌, List, [], ◌∷◌, ◌++◌, length, codes, bytes_eq, None, Some, Ok, Err, slice_get}
-use Rattle.std.specs.List.{count_by}
+use Rattle.std.specs.Prelude.{◌≡◌, ℕ, ◌⊎◌, if◌then◌else◌, List, [], ◌∷◌, ◌++◌, length, Some, Ok, Err}
 use Rattle.mr_ast.specs.Forms.{Word, Mark}
 use Rattle.mr_ast.specs.Scope.{Scope}
 use Rattle.mr_ast.specs.ProgramGrammar.{ProgramBody}
 use Rattle.mr_lex.specs.Tokens.{Lexeme}
 use Rattle.mr_lex.specs.Reading.{lexed}
-use Rattle.mr_lex.specs.Places.{line_of, column_of}
 use Rattle.mr_lex.specs.declared.token.TextFault.{TextFault}
 use Rattle.mr_words.specs.declared.fault.Stop.{Stop}
 use Rattle.mr_words.specs.Places.{words_of}
 use Rattle.mr_parse.specs.Denotes.{IsFine, SpelledProgram, Writes, definitions_in, words_in}
 use Rattle.mr_words.specs.Defined.{knowing, unknown}
+use Rattle.mr_words.specs.Brackets.{is_bracket_too_many}
+use Rattle.mr_words.specs.TextFaults.{fault_at}
 
 -- the code of a word with which no text can go on
 abbrev pub code_of_unexpected : List Word → List Word → ℕ

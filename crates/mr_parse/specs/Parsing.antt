@@ -1,5 +1,5 @@
 -- Parsing a text, computed: its tokens, its grammar, its names.
-use Rattle.std.specs.Prelude.{ℕ, ◌-◌, ◌==◌, ◌&&◌, if◌then◌else◌, List, [], ◌∷◌, length, take, drop, Result, Ok, Err}
+use Rattle.std.specs.Prelude.{ℕ, List, [], ◌∷◌, Result, Ok, Err}
 use Rattle.mr_ast.specs.declared.program.Program.{Program}
 use Rattle.mr_ast.specs.Forms.{Word}
 use Rattle.mr_ast.specs.Scope.{Scope}
@@ -11,8 +11,8 @@ use Rattle.mr_words.specs.Places.{words_of}
 use Rattle.mr_parse.specs.Denotes.{definitions_in, program_of}
 use Rattle.mr_words.specs.Defined.{knowing, unknown}
 use Rattle.mr_words.specs.TextFaults.{fault_at}
-use Rattle.mr_words.specs.Brackets.{is_bracket_too_many}
 use Rattle.mr_parse.specs.Reading.{◌>>=◌, read, stop}
+use Rattle.mr_words.specs.Brackets.{told}
 
 -- the program that the words write, where nothing is left behind it
 abbrev pub ended : ProgramBody × List Word → Result ProgramBody Stop

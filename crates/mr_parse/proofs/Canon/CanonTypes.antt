@@ -33,7 +33,7 @@ use Rattle.mr_ast.proofs.WordLaws.{int_word_found}
 use Rattle.mr_parse.proofs.Nesting.Nesting.{case_fits, field_fits, inside, tree_fits, type_fits, variant_fits}
 use Rattle.mr_parse.proofs.Walk.HeightLaws.{SomePart}
 use Rattle.mr_parse.proofs.Nesting.NestingLaws.{array_fits, branch_fits, enum_fits, tuple_fits, union_fits}
-use Rattle.mr_parse.proofs.Canon.CanonForms.{AllStand, EachStands, Parts, Stands, stands_before, stands_behind, stands_cases, stands_empty, stands_first, stands_giving, stands_listed, stands_any, stands_many, stands_pair, stands_part, stands_same, stands_second, stands_then, stands_within, stands_word}
+use Rattle.mr_parse.proofs.Canon.CanonForms.{AllStand, EachStands, Parts, Stands, stands_before, stands_behind, stands_cases, stands_empty, stands_first, stands_giving, stands_listed, stands_many, stands_pair, stands_part, stands_same, stands_second, stands_then, stands_within, stands_word}
 use Rattle.mr_parse.proofs.Canon.CanonNumbers.{stands_int, stands_num, stands_u64}
 
 pub is_open : (room : ℕ) → not (room == 0) ≡ true → (room == 0) ≡ false
