@@ -10,7 +10,8 @@ ghost use Rattle.mr_parse.specs.Postfixes.{indexed, postfix_of, with_all};
 
 use crate::reader::{Reader, beside};
 use mr_ast::{
-    Boxed, Bracket, FnName, GlobalName, Items, LocalName, Num, Place, Role, Ty, Value, ValueWord,
+    BinaryOp, Boxed, Bracket, FnName, GlobalName, Items, LocalName, Num, Place, Role, Ty, Value,
+    ValueWord,
 };
 use mr_words::{
     EXPOSED, ReadFault, Scope, TOO_DEEP, TOO_MANY, UNEXPECTED, is_exposed, value_word_of,
@@ -139,13 +140,43 @@ impl<'a> Reader<'a> {
                 Ok(Value::Cast(int, value))
             }
             ValueWord::Unary(op) => Ok(Value::Unary(op, self.boxed_value(alloc, scope, room)?)),
-            ValueWord::Binary(op) => {
-                let left = self.boxed_value(alloc, scope, room)?;
-                self.expect(b",")?;
-                let right = self.boxed_value(alloc, scope, room)?;
-                Ok(Value::Binary(op, left, right))
-            }
+            ValueWord::Binary(op) => self.binary_inside(alloc, scope, room, op),
             _ => self.typed_inside(alloc, scope, room, word),
+        }
+    }
+
+    #[cycle(values)]
+    fn binary_inside(
+        &mut self,
+        alloc: Global,
+        scope: &Scope<'_>,
+        room: u32,
+        op: BinaryOp,
+    ) -> Result<Value, ReadFault>
+        ensures { Gives (λ v. (v, self.new)) result (read room scope.now (value_inside (ValueWord.Binary op)) self.old) }
+    {
+        match self.value_and_comma(alloc, scope, room) {
+            Ok(left) => match beside(left, self.boxed_value(alloc, scope, room)) {
+                Ok((left, right)) => Ok(Value::Binary(op, left, right)),
+                Err(fault) => Err(fault),
+            },
+            Err(fault) => Err(fault),
+        }
+    }
+
+    // A value, and a comma behind it.
+    #[cycle(values)]
+    fn value_and_comma(
+        &mut self,
+        alloc: Global,
+        scope: &Scope<'_>,
+        room: u32,
+    ) -> Result<Boxed<Value>, ReadFault>
+        ensures { Gives (λ v. (v, self.new)) result (read room scope.now (Part TheValue ◂ codes ",") self.old) }
+    {
+        match self.boxed_value(alloc, scope, room) {
+            Ok(value) => self.followed(value, b","),
+            Err(fault) => Err(fault),
         }
     }
 

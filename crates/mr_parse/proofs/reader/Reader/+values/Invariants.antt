@@ -16,6 +16,12 @@ decreases-bracketed l = 8 * l.room + 3
 abbrev pub decreases-value_inside : goal.decreases-value_inside
 decreases-value_inside l = 8 * l.room + 9
 
+abbrev pub decreases-binary_inside : goal.decreases-binary_inside
+decreases-binary_inside l = 8 * l.room + 7
+
+abbrev pub decreases-value_and_comma : goal.decreases-value_and_comma
+decreases-value_and_comma l = 8 * l.room + 6
+
 abbrev pub decreases-typed_inside : goal.decreases-typed_inside
 decreases-typed_inside l = 8 * l.room + 8
 
