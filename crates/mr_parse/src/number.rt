@@ -1,9 +1,4 @@
 //! Numbers of a text: within their ranges, or with their sign.
-ghost use Rattle.std.specs.Prelude.{◌≡◌, ◌+◌, ◌-◌, ◌*◌, ◌^◌, ◌<◌, ◌&&◌, ◌||◌, ◌==◌, not, nat_lt, length, slice_index, None, Some, if◌then◌else◌};
-ghost use Rattle.std.specs.List.{list_all};
-ghost use Rattle.std.specs.Option.{SomeIff};
-ghost use Rattle.std.specs.Char.{is_ascii_digit};
-ghost use Rattle.mr_ast.specs.Words.{first_passes, is_number, value_of};
 ghost use Rattle.mr_ast.specs.Writing.{judged_any, judged_positive, judged_repeat, judged_u64, num_form};
 ghost use Rattle.mr_parse.specs.Gives.{Gives};
 ghost use Rattle.mr_parse.specs.Reading.{first_at, read};
