@@ -1,7 +1,6 @@
 pub mod AnswerLaws
 pub mod ByteLaws
 pub mod DecimalLaws
-pub mod Examples
 pub mod NumberLaws
 pub mod PieceLaws
 pub mod PlaceLaws

@@ -3,6 +3,7 @@ pub mod Numbers
 pub mod Pieces
 pub mod Places
 pub mod Reading
+pub mod Rules
 pub mod Scanning
 pub mod Spans
 pub mod Tokens

@@ -25,7 +25,8 @@ found_in text found = piece_of found.kind (take found.len text)
 
 -- what was found at the front of a text is what reading gives, with its length
 abbrev pub Finds : List ℕ → Result Found ℕ → Result Piece ℕ → Type 0
-Finds text (Ok found) read = (read ≡ Ok (found_in text found)) × (found.len ≡ length (spelling_of (found_in text found)))
+Finds text (Ok found) read =
+    (read ≡ Ok (found_in text found)) × (found.len ≡ length (spelling_of (found_in text found)))
 Finds text (Err code) read = read ≡ Err code
 
 -- the place has the line and the column of its offset in the text

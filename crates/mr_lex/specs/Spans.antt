@@ -25,4 +25,5 @@ AreBetween from to (span ∷ spans) = (from ≤ span.at) × AreBetween (span.at 
 abbrev pub spans_of : Place → PieceKind → ℕ → List Span
 spans_of place Blank len = []
 spans_of place Comment len = []
-spans_of place (Token kind) len = record { kind = kind; at = place.at; len = len; line = place.line; col = place.col } ∷ []
+spans_of place (Token kind) len =
+    record { kind = kind; at = place.at; len = len; line = place.line; col = place.col } ∷ []

@@ -24,7 +24,8 @@ lexeme_of token = record { kind = token.kind; text = token.text.now; at = token.
 
 -- the lexeme of these bytes at a place of a text
 abbrev pub lexeme_at : List ℕ → ℕ → TokenKind → List ℕ → Lexeme
-lexeme_at text at kind bytes = record { kind = kind; text = bytes; at = at; line = line_of text at; col = column_of text at }
+lexeme_at text at kind bytes =
+    record { kind = kind; text = bytes; at = at; line = line_of text at; col = column_of text at }
 
 -- the lexeme of a piece at a place, where it is a word, a number or a symbol
 abbrev pub lexemes_at : List ℕ → ℕ → Piece → List Lexeme

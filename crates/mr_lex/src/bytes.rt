@@ -1,3 +1,4 @@
+//! Kinds of bytes, and how many of a kind stand in front.
 ghost use Rattle.std.specs.Prelude.{◌≡◌};
 ghost use Rattle.std.specs.List.{prefix_len};
 ghost use Rattle.mr_lex.specs.Bytes.{is_blank, is_inline, is_letter, is_digit, is_word_byte, is_symbol};

@@ -7,7 +7,8 @@
 //! text at its place; an answer `Bad` is the text's first fault (`FirstFault`), with its place and code; and a text
 //! that has these tokens, or this fault, gets no other answer than that or `Memory`. Proved of `one_reading`: each
 //! text has one list of tokens or one first fault, and `lexed` computes it. `value_of` gives the value of decimal digits, and
-//! `None` exactly where it has more than 128 bits.
+//! `None` exactly where it has more than 128 bits. [`TextRule`] has the number and the name of each rule that a text may break, those
+//! of the grammar and of names too; the law `codes_differ` says that rules with one number are one rule.
 #![tactic(auto)]
 
 mod bytes;
@@ -16,14 +17,14 @@ mod number;
 mod piece;
 mod place;
 mod reading;
+mod rule;
 mod scan;
-#[cfg(test)]
-mod tests;
 mod token;
 
 pub use list::Tokens;
 pub use number::value_of;
 pub use reading::one_reading;
+pub use rule::{TextRule, codes_differ};
 pub use scan::tokens;
 pub use token::{LexFault, TextFault, Token, TokenKind};
 

@@ -1,3 +1,4 @@
+//! The tokens of a text, which borrow it.
 ghost use Rattle.std.specs.Prelude.{◌≡◌, ◌+◌, ◌≤◌, ◌==◌, length, slice_get};
 ghost use Rattle.std.specs.Option.{option_map};
 ghost use Rattle.mr_lex.specs.Tokens.{lexeme_of};

@@ -1,3 +1,4 @@
+//! Numbers of a text, and their values.
 ghost use Rattle.std.specs.Prelude.{◌≡◌, ◌^◌, ◌<◌, SomeIff};
 ghost use Rattle.std.specs.List.{AllPass};
 ghost use Rattle.mr_lex.specs.Bytes.{is_digit};

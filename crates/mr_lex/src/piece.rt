@@ -1,3 +1,4 @@
+//! The longest piece at the front of a text.
 ghost use Rattle.std.specs.Prelude.{◌≡◌, ◌<◌, ◌&&◌, length, slice_index};
 ghost use Rattle.mr_lex.specs.Bytes.{begins_arrow, ends_arrow};
 ghost use Rattle.mr_lex.specs.Reading.{number_at, symbol_at, piece_at};

@@ -1,3 +1,4 @@
+//! Places in a text: offset, line and column.
 ghost use Rattle.std.specs.Prelude.{◌≡◌, ◌+◌, ◌^◌, ◌<◌, ◌≤◌, length, slice_range};
 ghost use Rattle.mr_lex.specs.Scanning.{IsPlaceIn, IsOneLine};
 

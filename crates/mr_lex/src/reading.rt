@@ -1,3 +1,4 @@
+//! The law that a text has one reading.
 ghost use Rattle.std.specs.Prelude.{◌≡◌, ◌↔◌, ℕ, List, Ok, Err};
 ghost use Rattle.mr_lex.specs.Tokens.{Lexeme, Lexes, FirstFault};
 ghost use Rattle.mr_lex.specs.Reading.{lexed};

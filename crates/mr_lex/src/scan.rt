@@ -1,3 +1,4 @@
+//! Reading a text into its tokens.
 ghost use Rattle.std.specs.Prelude.{◌≡◌, List, ◌^◌, ◌≤◌, ◌++◌, length, IfOk, IfErr, OnOk, IsErrOf, Ok, Err};
 ghost use Rattle.mr_lex.specs.Tokens.{Lexeme, Lexes, AreInOrder, FirstFault};
 ghost use Rattle.mr_lex.specs.Reading.{lexed, Gives};

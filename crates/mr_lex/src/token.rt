@@ -1,3 +1,4 @@
+//! Tokens, and the faults of a text that has none.
 use std::alloc::AllocFailed;
 
 /// What a token is.
@@ -31,7 +32,7 @@ pub struct TextFault {
     pub line: u32,
     /// The column in bytes, from 1 on.
     pub col: u32,
-    /// `BAD_BYTE`, `BAD_NUMBER` or `LONG_TEXT`.
+    /// The number of the rule ([`crate::TextRule`]).
     pub code: u8,
 }
 

@@ -11,9 +11,9 @@ use Rattle.mr_lex.specs.declared.token.TokenKind.{TokenKind}
 use Rattle.mr_lex.specs.declared.token.TokenKind.TheVariants as kinds
 use Rattle.mr_lex.proofs.PieceLaws.{spelling_some}
 use Rattle.mr_lex.proofs.ShapeLaws.{HasShape, IsShaped, lexes_shaped}
-use Rattle.mr_parse.specs.Denotes.{text_at}
-use Rattle.mr_parse.specs.Places.{words_of}
-use Rattle.mr_parse.proofs.TextLaws.{text_at_place, text_of}
+use Rattle.mr_words.specs.Defined.{text_at}
+use Rattle.mr_words.specs.Places.{words_of}
+use Rattle.mr_words.proofs.TextLaws.{text_at_place, text_of}
 
 word_small : (b : ℕ) → is_word_byte b ≡ true → b < 128
 word_small b e = grind (arith, nat_tests)

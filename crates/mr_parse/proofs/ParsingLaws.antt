@@ -1,20 +1,22 @@
 -- Parsing a text gives the program that it denotes, or its first fault.
-use Rattle.std.proofs.Common.{◌≡◌, ◌⊎◌, ◌↔◌, inl, inr, ℕ, List, Result, Ok, Err, refl, ap, sym, ◌∙◌}
+use Rattle.std.proofs.Common.{◌≡◌, ◌⊎◌, inl, inr, ℕ, List, Result, Ok, Err, refl, ap, sym, ◌∙◌}
 use Rattle.mr_ast.specs.declared.program.Program.{Program}
 use Rattle.mr_ast.specs.Forms.{Word}
 use Rattle.mr_ast.specs.ProgramGrammar.{ProgramBody}
 use Rattle.mr_lex.specs.Tokens.{Lexeme}
 use Rattle.mr_lex.specs.Reading.{lexed}
 use Rattle.mr_lex.specs.declared.token.TextFault.{TextFault}
-use Rattle.mr_parse.specs.declared.fault.Stop.{Stop}
-use Rattle.mr_parse.specs.Places.{words_of}
-use Rattle.mr_parse.specs.Denotes.{Denotes, Writes, definitions_in, knowing, program_of, unknown}
-use Rattle.mr_parse.specs.Faults.{BreaksFirst, FirstFault, OfTokens, OfGrammar, OfNames, fault_at}
+use Rattle.mr_words.specs.declared.fault.Stop.{Stop}
+use Rattle.mr_words.specs.Places.{words_of}
+use Rattle.mr_parse.specs.Denotes.{Denotes, Writes, definitions_in, program_of}
+use Rattle.mr_words.specs.Defined.{knowing, unknown}
+use Rattle.mr_parse.specs.Faults.{BreaksFirst, FirstFault, OfTokens, OfGrammar, OfNames}
+use Rattle.mr_words.specs.TextFaults.{fault_at}
 use Rattle.mr_parse.specs.Parsing.{body_of, parsed, program_in}
 use Rattle.mr_parse.specs.Reading.{◌>>=◌}
-use Rattle.mr_parse.proofs.SoundLaws.{given}
-use Rattle.mr_parse.proofs.StopLaws.{stopped}
-use Rattle.mr_parse.proofs.BodyLaws.{body_writes, writes_body, body_breaks, breaks_body}
+use Rattle.mr_parse.proofs.Walk.SoundLaws.{given}
+use Rattle.mr_parse.proofs.Stops.StopLaws.{stopped}
+use Rattle.mr_parse.proofs.Stops.BodyLaws.{body_writes, writes_body, body_breaks, breaks_body}
 
 -- The words are in the grammar whatever their names stand for, and where names stand for what the words define, they write the program.
 pub record WritesProgram (words : List Word) (p : Program) : Type 0 where
@@ -133,18 +135,9 @@ fault_parsed text fault (OfGrammar lexemes s at b same) =
 fault_parsed text fault (OfNames lexemes s shape at w b same) =
     ap (of_tokens text) at ∙ ap (of_program text lexemes) (breaks_program (words_of lexemes) s (inr (shape, w, b))) ∙ ap Err (sym same)
 
--- The answer is the program that the text denotes, or its first fault.
-pub parsing_laws : (text : List ℕ)
-    → ((p : Program) → (parsed text ≡ Ok p) ↔ Denotes text p) × ((fault : TextFault) → (parsed text ≡ Err fault) ↔ FirstFault text fault)
-parsing_laws text = ((λ p. (parsed_denotes text p, denotes_parsed text p)), (λ fault. (parsed_fault text fault, fault_parsed text fault)))
-
 -- A text denotes one program at most.
 pub one_program : (text : List ℕ) (p q : Program) → Denotes text p → Denotes text q → p ≡ q
 one_program text p q d e = let same = sym (denotes_parsed text p d) ∙ denotes_parsed text q e in cc
-
--- A text that denotes a program has no fault.
-pub denotes_no_fault : (text : List ℕ) (p : Program) (fault : TextFault) → Denotes text p → FirstFault text fault → ⊥
-denotes_no_fault text p fault d f = let clash = sym (denotes_parsed text p d) ∙ fault_parsed text fault f in absurd (cc)
 
 -- A text has one first fault at most.
 pub one_first_fault : (text : List ℕ) (f g : TextFault) → FirstFault text f → FirstFault text g → f ≡ g

@@ -1,15 +1,15 @@
 -- What a text denotes.
-use Rattle.std.specs.Prelude.{◌≡◌, ℕ, List, [], map, None, Some, Ok, slice_get}
+use Rattle.std.specs.Prelude.{◌≡◌, ℕ, List, map, None, Ok}
 use Rattle.std.specs.List.{AllByRecursion}
-use Rattle.mr_ast.specs.declared.program.Function.{Function}
 use Rattle.mr_ast.specs.declared.program.Program.{Program}
 use Rattle.mr_ast.specs.Forms.{Word, Mark}
-use Rattle.mr_ast.specs.Scope.{Scope, Definitions, FunctionNames, names_of}
+use Rattle.mr_ast.specs.Scope.{Scope, Definitions, names_of}
 use Rattle.mr_ast.specs.ProgramGrammar.{ProgramBody, program_form}
 use Rattle.mr_ast.specs.Spelled.{Spelled}
 use Rattle.mr_lex.specs.Tokens.{Lexeme}
 use Rattle.mr_lex.specs.Reading.{lexed}
-use Rattle.mr_parse.specs.Places.{words_of}
+use Rattle.mr_words.specs.Places.{words_of}
+use Rattle.mr_words.specs.Defined.{function_names_in, knowing, text_at, unknown}
 
 -- the words of a row
 abbrev pub words_in : List Mark → List Word
@@ -30,26 +30,6 @@ pub record Writes (scope : Scope) (words : List Word) (body : ProgramBody) : Typ
   pub fine : IsFine marks
   pub written : SpelledProgram scope body marks
 
--- where names stand for their places
-abbrev pub unknown : Scope
-unknown = record { known = None; function = 0 }
-
--- where names stand for what a text defines
-abbrev pub knowing : Definitions → Scope
-knowing d = record { known = Some d; function = 0 }
-
--- the text of the word at a place
-abbrev pub text_at : List Word → ℕ → List ℕ
-text_at words place = elim (slice_get words place) as (λ _. List ℕ) [ Some w ↦ w.text | None ↦ [] ]
-
--- the names that a function defines, where each is written as its place
-abbrev pub function_names_in : List Word → Function → FunctionNames
-function_names_in words f = record {
-  name = text_at words f.name;
-  locals = map (λ l. text_at words l.name) f.locals;
-  blocks = map (λ b. text_at words b.name) f.blocks;
-}
-
 -- the names that a program defines, where each is written as its place
 abbrev pub definitions_in : List Word → ProgramBody → Definitions
 definitions_in words body = record {
@@ -62,8 +42,8 @@ abbrev pub program_of : Definitions → ProgramBody → Program
 program_of d body =
     record { edition = 1; globals = body.globals; functions = body.functions; names = names_of d; start = body.start }
 
--- The words are in the grammar, whatever their names stand for; and where names stand for what the text itself defines, they write
--- the program. Each name is defined once in its space then, and each that is used is defined.
+-- The words are in the grammar, whatever their names stand for; and where names stand for what the text itself
+-- defines, they write the program. Each name is defined once in its space then, and each that is used is defined.
 pub record Denotes (text : List ℕ) (p : Program) : Type 0 where
   pub lexemes : List Lexeme
   pub lexes : lexed text ≡ Ok lexemes

@@ -1,27 +1,17 @@
 -- The first fault of a text.
-use Rattle.std.specs.Prelude.{◌≡◌, ℕ, ◌+◌, ◌-◌, ◌⊎◌, Bool, false, ◌&&◌, ◌||◌, nat_le, if◌then◌else◌, List, [], ◌∷◌, ◌++◌, length, codes, bytes_eq, None, Some, Ok, Err, slice_get}
-use Rattle.std.specs.List.{count_by}
+use Rattle.std.specs.Prelude.{◌≡◌, ℕ, ◌⊎◌, if◌then◌else◌, List, [], ◌∷◌, ◌++◌, length, Some, Ok, Err}
 use Rattle.mr_ast.specs.Forms.{Word, Mark}
 use Rattle.mr_ast.specs.Scope.{Scope}
 use Rattle.mr_ast.specs.ProgramGrammar.{ProgramBody}
 use Rattle.mr_lex.specs.Tokens.{Lexeme}
 use Rattle.mr_lex.specs.Reading.{lexed}
-use Rattle.mr_lex.specs.Places.{line_of, column_of}
 use Rattle.mr_lex.specs.declared.token.TextFault.{TextFault}
-use Rattle.mr_parse.specs.declared.fault.Stop.{Stop}
-use Rattle.mr_parse.specs.Places.{words_of}
-use Rattle.mr_parse.specs.Denotes.{IsFine, SpelledProgram, Writes, definitions_in, knowing, unknown, words_in}
-
-abbrev pub opens : Word → Bool
-opens w = bytes_eq w.text (codes "(") || (bytes_eq w.text (codes "{") || bytes_eq w.text (codes "["))
-
-abbrev pub closes : Word → Bool
-closes w = bytes_eq w.text (codes ")") || (bytes_eq w.text (codes "}") || bytes_eq w.text (codes "]"))
-
--- an opening bracket, behind words that leave 32 brackets open
-abbrev pub is_bracket_too_many : List Word → List Word → Bool
-is_bracket_too_many front [] = false
-is_bracket_too_many front (w ∷ ws) = opens w && nat_le (count_by closes front + 32) (count_by opens front)
+use Rattle.mr_words.specs.declared.fault.Stop.{Stop}
+use Rattle.mr_words.specs.Places.{words_of}
+use Rattle.mr_parse.specs.Denotes.{IsFine, SpelledProgram, Writes, definitions_in, words_in}
+use Rattle.mr_words.specs.Defined.{knowing, unknown}
+use Rattle.mr_words.specs.Brackets.{is_bracket_too_many}
+use Rattle.mr_words.specs.TextFaults.{fault_at}
 
 -- the code of a word with which no text can go on
 abbrev pub code_of_unexpected : List Word → List Word → ℕ
@@ -45,30 +35,30 @@ pub record GoesOn (scope : Scope) (front : List Mark) : Type 0 where
 
 -- No text of the grammar goes on with the first of the words; where there is none, no text ends there.
 abbrev pub NothingFits : Scope → List Word → List Word → Type 0
-NothingFits scope front [] = (body : ProgramBody) (marks : List Mark) → words_in marks ≡ front → SpelledProgram scope body marks → ⊥
-NothingFits scope front (w ∷ ws) = (body : ProgramBody) (marks : List Mark) (behind : List Word) → words_in marks ≡ front ++ w ∷ behind → SpelledProgram scope body marks → ⊥
+NothingFits scope front [] =
+    (body : ProgramBody) (marks : List Mark) → words_in marks ≡ front → SpelledProgram scope body marks → ⊥
+NothingFits scope front (w ∷ ws) =
+    (body : ProgramBody) (marks : List Mark) (behind : List Word) → words_in marks ≡ front ++ w ∷ behind
+    → SpelledProgram scope body marks → ⊥
 
--- The first word at which the words leave the grammar or break a limit, where so many are left: the words before it are fine.
+-- The first word at which the words leave the grammar or break a limit, where so many are left: those before
+-- it are fine.
 pub record BreaksFirst (scope : Scope) (words : List Word) (s : Stop) : Type 0 where
   pub front : List Mark
   pub rest : List Word
   pub whole : words ≡ words_in front ++ rest
   pub left : length rest ≡ s.left
   pub fine : IsFine front
-  pub ending : BreaksLimit scope front rest s.code ⊎ ((s.code ≡ code_of_unexpected (words_in front) rest) × GoesOn scope front × NothingFits scope (words_in front) rest)
-
--- the fault at a token, where so many tokens are left, or at the end
-abbrev pub fault_at : List ℕ → List Lexeme → Stop → TextFault
-fault_at text lexemes s = elim (slice_get lexemes (length lexemes - s.left)) as (λ _. TextFault) [
-  | Some l ↦ record { line = l.line; col = l.col; code = s.code }
-  | None ↦ record { line = line_of text (length text); col = column_of text (length text); code = s.code }
-]
+  pub ending : BreaksLimit scope front rest s.code
+      ⊎ ((s.code ≡ code_of_unexpected (words_in front) rest) × GoesOn scope front
+      × NothingFits scope (words_in front) rest)
 
 -- The first fault of a text: of its tokens, of the grammar, or of its names. Of an earlier walk the text has none then.
 pub data FirstFault (text : List ℕ) (fault : TextFault) : Type 0 where
   OfTokens : lexed text ≡ Err fault → FirstFault text fault
   OfGrammar : (lexemes : List Lexeme) (s : Stop) → lexed text ≡ Ok lexemes → BreaksFirst unknown (words_of lexemes) s
       → fault ≡ fault_at text lexemes s → FirstFault text fault
-  OfNames : (lexemes : List Lexeme) (s : Stop) (shape : ProgramBody) → lexed text ≡ Ok lexemes → Writes unknown (words_of lexemes) shape
+  OfNames : (lexemes : List Lexeme) (s : Stop) (shape : ProgramBody) → lexed text ≡ Ok lexemes
+      → Writes unknown (words_of lexemes) shape
       → BreaksFirst (knowing (definitions_in (words_of lexemes) shape)) (words_of lexemes) s
       → fault ≡ fault_at text lexemes s → FirstFault text fault

@@ -4,9 +4,9 @@ use Rattle.mr_ast.specs.declared.program.Program.{Program}
 use Rattle.mr_lex.specs.declared.token.TextFault.{TextFault}
 use Rattle.mr_parse.specs.declared.fault.ParseFault.{ParseFault}
 use Rattle.mr_parse.specs.declared.fault.ParseFault.TheVariants as parse_fault
-use Rattle.mr_parse.specs.declared.fault.Stop.{Stop}
-use Rattle.mr_parse.specs.declared.fault.ReadFault.{ReadFault}
-use Rattle.mr_parse.specs.declared.fault.ReadFault.TheVariants.{At, Memory}
+use Rattle.mr_words.specs.declared.fault.Stop.{Stop}
+use Rattle.mr_words.specs.declared.fault.ReadFault.{ReadFault}
+use Rattle.mr_words.specs.declared.fault.ReadFault.TheVariants.{At, Memory}
 
 -- reading stops there, unless memory ran out
 abbrev pub Fails : {Y : Type 0} → ReadFault → Result Y Stop → Type 0

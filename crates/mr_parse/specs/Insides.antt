@@ -36,15 +36,22 @@ value_inside value_word.Raw = Empty value.True
 value_inside value_word.Fn = Empty value.True
 value_inside value_word.Global = Empty value.True
 value_inside value_word.Tuple = giving (λ parts. value.Tuple parts.0 parts.1) (Part TheType ▪ more_values_form)
-value_inside value_word.Union = giving (λ parts. value.Union parts.0 parts.1.0 parts.1.1) (Part TheType ◂ codes "," ▪ u64_form ◂ codes "," ▪ Part TheValue)
-value_inside value_word.Variant = giving (λ parts. value.Variant parts.0 parts.1.0 parts.1.1) (Part TheType ◂ codes "," ▪ num_form ◂ codes "," ▪ Part TheValue)
+value_inside value_word.Union =
+    giving (λ parts. value.Union parts.0 parts.1.0 parts.1.1)
+    (Part TheType ◂ codes "," ▪ u64_form ◂ codes "," ▪ Part TheValue)
+value_inside value_word.Variant =
+    giving (λ parts. value.Variant parts.0 parts.1.0 parts.1.1)
+    (Part TheType ◂ codes "," ▪ num_form ◂ codes "," ▪ Part TheValue)
 value_inside value_word.Load = giving value.Load (Part (ThePlace false))
 value_inside value_word.Disc = giving value.Disc (Part (ThePlace false))
-value_inside value_word.AddrOf = giving (λ parts. value.AddrOf parts.0 parts.1) (Part TheType ◂ codes "," ▪ Part (ThePlace false))
+value_inside value_word.AddrOf =
+    giving (λ parts. value.AddrOf parts.0 parts.1) (Part TheType ◂ codes "," ▪ Part (ThePlace false))
 value_inside value_word.Cast = giving (λ parts. value.Cast parts.0 parts.1) (int_form ◂ codes "," ▪ Part TheValue)
-value_inside value_word.Transmute = giving (λ parts. value.Transmute parts.0 parts.1) (Part TheType ◂ codes "," ▪ Part TheValue)
+value_inside value_word.Transmute =
+    giving (λ parts. value.Transmute parts.0 parts.1) (Part TheType ◂ codes "," ▪ Part TheValue)
 value_inside (value_word.Unary o) = giving (value.Unary o) (Part TheValue)
-value_inside (value_word.Binary o) = giving (λ parts. value.Binary o parts.0 parts.1) (Part TheValue ◂ codes "," ▪ Part TheValue)
+value_inside (value_word.Binary o) =
+    giving (λ parts. value.Binary o parts.0 parts.1) (Part TheValue ◂ codes "," ▪ Part TheValue)
 
 -- whether a type stands first in the brackets
 abbrev pub begins_with_type : ValueWord → Bool

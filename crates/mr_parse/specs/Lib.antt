@@ -1,16 +1,8 @@
-pub mod CanonNames
 pub mod Denotes
 pub mod Faults
 pub mod Gives
 pub mod Insides
-pub mod Naming
-pub mod Nesting
-pub mod NestingPrograms
-pub mod NestingValues
-pub mod Numbers
 pub mod Parsing
-pub mod Places
 pub mod Postfixes
 pub mod Reading
-pub mod TokenTexts
 pub mod Views

@@ -8,7 +8,7 @@ use Rattle.mr_ast.specs.Forms.{Word, closing}
 use Rattle.mr_ast.specs.ValueGrammar.{Postfix, ByField, ByIndex, ByVariant, with_postfix}
 use Rattle.mr_parse.specs.declared.values.Postfix.{Postfix as Written}
 use Rattle.mr_parse.specs.declared.values.Postfix.TheVariants as written
-use Rattle.mr_parse.specs.declared.fault.Stop.{Stop}
+use Rattle.mr_words.specs.declared.fault.Stop.{Stop}
 use Rattle.mr_parse.specs.Reading.{◌>>=◌, expected}
 
 -- what a postfix is, however it is kept

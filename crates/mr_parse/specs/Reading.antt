@@ -1,7 +1,8 @@
--- Reading what words write in a form, computed from left to right. Each part answers what it read and the words behind it, or where it stops.
+-- Reading what words write in a form, computed from left to right. Each part answers what it read and the words
+-- behind it, or where it stops.
 use Rattle.std.specs.Prelude.{ℕ, zero, suc, ◌==◌, ◌||◌, Bool, false, if◌then◌else◌, List, [], ◌∷◌, length, bytes_eq, Option, None, Some, Result, Ok, Err}
 use Rattle.mr_ast.specs.Scope.{Scope}
-use Rattle.mr_parse.specs.declared.fault.Stop.{Stop}
+use Rattle.mr_words.specs.declared.fault.Stop.{Stop}
 use Rattle.mr_ast.specs.Writing.{Kind, Meaning, Writing}
 use Rattle.mr_ast.specs.Spelled.{form_of}
 use Rattle.mr_ast.specs.declared.words.Bracket.{Bracket}
@@ -37,12 +38,14 @@ expected text (w ∷ ws) = if bytes_eq w.text text then Ok ws else stop 4 (w ∷
 -- the words behind an opening bracket, where one may be opened
 abbrev pub opened : Bool → Bracket → List Word → Result (List Word) Stop
 opened full bracket [] = stop 4 []
-opened full bracket (w ∷ ws) = if bytes_eq w.text (opening bracket) then (if full then stop 7 (w ∷ ws) else Ok ws) else stop 4 (w ∷ ws)
+opened full bracket (w ∷ ws) =
+    if bytes_eq w.text (opening bracket) then (if full then stop 7 (w ∷ ws) else Ok ws) else stop 4 (w ∷ ws)
 
 -- the words behind this one, where it is the next and not one too many
 abbrev pub limited : ℕ → Bool → List ℕ → List Word → Result (List Word) Stop
 limited code over text [] = stop 4 []
-limited code over text (w ∷ ws) = if bytes_eq w.text text then (if over then stop code (w ∷ ws) else Ok ws) else stop 4 (w ∷ ws)
+limited code over text (w ∷ ws) =
+    if bytes_eq w.text text then (if over then stop code (w ∷ ws) else Ok ws) else stop 4 (w ∷ ws)
 
 -- whether the next word passes the test
 abbrev pub is_next : (List ℕ → Bool) → List Word → Bool
@@ -63,7 +66,8 @@ abbrev pub Reading : (S P : Type 0) (M : P → Type 0) → Type 1
 Reading S P M = S → (A : Type 0) → Form S P M A → Reads A
 
 -- what the words write in the form
-abbrev pub read_by : {S P : Type 0} {M : P → Type 0} → Bool → Reading S P M → (S → (p : P) → Reads (M p)) → S → {A : Type 0} → Form S P M A → Reads A
+abbrev pub read_by : {S P : Type 0} {M : P → Type 0} → Bool → Reading S P M → (S → (p : P) → Reads (M p)) → S
+    → {A : Type 0} → Form S P M A → Reads A
 read_by full inside part scope (Empty a) ws = Ok (a, ws)
 read_by full inside part scope (Then f a b) ws = do
   x ← read_by full inside part scope a ws
@@ -74,7 +78,8 @@ read_by full inside part scope (Cases judge form) ws = do
   read_by full inside part scope (form i.0) i.1
 read_by full inside part scope (Either test a b) ws =
     if is_next test ws then read_by full inside part scope a ws else read_by full inside part scope b ws
-read_by full inside part scope (Many test form) ws = many_at (λ k. read_by full inside part scope (form k)) test (length ws) 0 ws
+read_by full inside part scope (Many test form) ws =
+    many_at (λ k. read_by full inside part scope (form k)) test (length ws) 0 ws
 read_by full inside part scope (Within {A} over bracket a) ws = do
   rest ← opened (over || full) bracket ws
   x ← inside scope A a rest
@@ -91,7 +96,8 @@ no_part scope kind ws = stop 4 ws
 unfoldable pub read_inside : ℕ → Scope → (A : Type 0) → Writing A → Reads A
 read_inside zero scope A form ws = stop 7 ws
 read_inside (suc room) scope A form ws =
-    read_by (room == 0) (read_inside room) (λ inner kind. read_by (room == 0) (read_inside room) no_part inner (form_of kind)) scope form ws
+    read_by (room == 0) (read_inside room)
+    (λ inner kind. read_by (room == 0) (read_inside room) no_part inner (form_of kind)) scope form ws
 
 -- a thing of a kind, where so many brackets may be opened
 unfoldable pub read_part : ℕ → Scope → (kind : Kind) → Reads (Meaning kind)

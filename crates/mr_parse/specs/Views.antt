@@ -15,7 +15,7 @@ use Rattle.mr_ast.specs.Scope.{Scope}
 use Rattle.mr_ast.specs.Writing.{ThePlace, Writing, block_use, listed, optional, ◌▪◌, ◌▸◌}
 use Rattle.mr_ast.specs.ProgramGrammar.{FunctionBody, ProgramBody, values_form, with_name}
 use Rattle.mr_ast.specs.TypeGrammar.{Shape}
-use Rattle.mr_parse.specs.declared.fault.Stop.{Stop}
+use Rattle.mr_words.specs.declared.fault.Stop.{Stop}
 use Rattle.mr_parse.specs.declared.program.Head.{Head}
 use Rattle.mr_parse.specs.declared.program.Inner.{Inner}
 use Rattle.mr_parse.specs.declared.program.Parts.{Parts}
@@ -47,7 +47,8 @@ abbrev pub call_end_form : Writing (Place × (Option BlockName × Option BlockNa
 call_end_form = codes "->" ▸ Part (ThePlace false) ▪ ways_form
 
 -- the call with this callee, these arguments and what was read
-abbrev pub called : Value → List Value → Result ((Place × (Option BlockName × Option BlockName)) × List Word) Stop → Result (Term × List Word) Stop
+abbrev pub called : Value → List Value
+    → Result ((Place × (Option BlockName × Option BlockName)) × List Word) Stop → Result (Term × List Word) Stop
 called callee args read = read >>= λ x. Ok (term.Call callee args x.0.0 x.0.1.0 x.0.1.1, x.1)
 
 -- the function that has this name and what was read
@@ -70,4 +71,5 @@ unwound payload read = read >>= λ x. Ok (term.Unwind payload x.0, x.1)
 -- the call with this callee, behind which its arguments stand
 abbrev pub called_behind : ℕ → Scope → Value → List Word → Result (Term × List Word) Stop
 called_behind room scope callee words =
-    read room scope (listed Round values_form) words >>= λ args. called callee args.0 (read room scope call_end_form args.1)
+    read room scope (listed Round values_form) words >>= λ args.
+    called callee args.0 (read room scope call_end_form args.1)

@@ -1,3 +1,4 @@
+//! The laws of parsing.
 ghost use Rattle.std.specs.Prelude.{◌≡◌, ◌↔◌, ◌≤◌, ◌^◌, ℕ, List, length, Ok, Err};
 ghost use Rattle.mr_ast.specs.declared.program.Program.{Program};
 ghost use Rattle.mr_ast.specs.Canon.{canonical_text};

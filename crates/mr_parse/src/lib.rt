@@ -17,19 +17,14 @@
 //! on with it.
 #![tactic(auto)]
 
-mod bracket;
 mod definitions;
 mod fault;
 mod law;
-mod naming;
 mod number;
 mod parsing;
-mod place;
 mod program;
 mod reader;
-mod scope;
 mod statements;
-mod table;
 mod types;
 mod values;
 

@@ -1,24 +1,24 @@
+//! Parsing: from the tokens of a text to its program, or to its first fault.
 ghost use Rattle.std.specs.Prelude.{◌≡◌, ◌≤◌, ◌^◌, ℕ, length, IfOk, IsErrOf, Ok, Err};
 ghost use Rattle.std.specs.Str.{IsAscii};
 ghost use Rattle.mr_ast.specs.declared.program.Program.{Program};
 ghost use Rattle.mr_ast.specs.Shaped.{Shaped};
 ghost use Rattle.mr_lex.specs.declared.token.TextFault.{TextFault as Fault};
-ghost use Rattle.mr_parse.specs.Denotes.{Denotes, knowing, text_at};
+ghost use Rattle.mr_parse.specs.Denotes.{Denotes};
+ghost use Rattle.mr_words.specs.Defined.{knowing, text_at};
 ghost use Rattle.mr_parse.specs.Faults.{FirstFault};
 ghost use Rattle.mr_parse.specs.Gives.{Gives, ParseGives};
 ghost use Rattle.mr_parse.specs.Parsing.{body_of, parsed, program_in, whole_of};
-ghost use Rattle.mr_parse.specs.Places.{words_of};
+ghost use Rattle.mr_words.specs.Places.{words_of};
 ghost use Rattle.mr_parse.specs.Views.{body_of_parts};
 
-use crate::bracket::{MAX_OPEN, told};
 use crate::definitions::definitions_in;
-use crate::fault::{ParseFault, ReadFault, UNEXPECTED};
-use crate::place::fault_at;
+use crate::fault::ParseFault;
 use crate::program::Parts;
 use crate::reader::Reader;
-use crate::scope::{Scope, Tables};
 use mr_ast::Program;
 use mr_lex::{LexFault, Tokens, tokens};
+use mr_words::{MAX_OPEN, ReadFault, Scope, Tables, UNEXPECTED, fault_at, told};
 use std::alloc::Global;
 
 // What all tokens write.

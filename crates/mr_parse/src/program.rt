@@ -1,3 +1,4 @@
+//! Programs, globals, functions and blocks.
 ghost use Rattle.std.specs.Prelude.{◌≡◌, ◌<◌, ◌^◌, codes};
 ghost use Rattle.mr_ast.specs.declared.words.Bracket.TheVariants.{Curly, Round};
 ghost use Rattle.mr_ast.specs.Writing.{judged_target, listed, within, ◌▪◌, ◌◂◌, ◌▸◌, local_use};
@@ -6,14 +7,12 @@ ghost use Rattle.mr_parse.specs.Gives.{Gives};
 ghost use Rattle.mr_parse.specs.Reading.{first_at, read};
 ghost use Rattle.mr_parse.specs.Views.{body_of_parts, head_of, named, parts_of};
 
-use crate::fault::{ReadFault, UNEXPECTED};
 use crate::reader::Reader;
-use crate::scope::Scope;
-use crate::table::{item_word_of, kind_of};
 use mr_ast::{
     Block, BlockKind, Bracket, FnName, Function, Global_, Item_, ItemWord, Items, Local, LocalName,
     Role,
 };
+use mr_words::{ReadFault, Scope, UNEXPECTED, item_word_of, kind_of};
 use std::alloc::Global;
 
 /// How many functions and how many globals a text may have, and how many locals a function.
@@ -130,7 +129,7 @@ impl<'a> Reader<'a> {
     }
 
     // The arguments of a function, in their brackets.
-    #[tactic(auto, using(crate::proofs::InsideLaws::inside))]
+    #[tactic(auto, using(crate::proofs::Walk::InsideLaws::inside))]
     fn args(
         &mut self,
         alloc: Global,
@@ -192,7 +191,7 @@ impl<'a> Reader<'a> {
     }
 
     // The locals and the blocks, in their braces.
-    #[tactic(auto, using(crate::proofs::InsideLaws::inside))]
+    #[tactic(auto, using(crate::proofs::Walk::InsideLaws::inside))]
     fn braced(&mut self, alloc: Global, scope: &Scope, room: u32) -> Result<Inner, ReadFault>
         ensures { Gives (λ i. (parts_of i, self.new)) result (read room scope.now (within Curly (codes "let" ▸ locals_form ◂ codes ";" ▪ blocks_form)) self.old) }
     {
@@ -334,7 +333,7 @@ impl<'a> Reader<'a> {
     }
 
     // The global of number k.
-    #[tactic(auto, unfolding(mr_ast::specs::ProgramGrammar::global_form), using(crate::proofs::InsideLaws::inside))]
+    #[tactic(auto, unfolding(mr_ast::specs::ProgramGrammar::global_form), using(crate::proofs::Walk::InsideLaws::inside))]
     fn global(
         &mut self,
         alloc: Global,

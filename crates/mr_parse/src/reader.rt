@@ -1,16 +1,15 @@
+//! The tokens that are left, and what is taken from their front.
 ghost use Rattle.std.specs.Prelude.{◌≡◌, ◌==◌, ◌-◌, ◌||◌, false, [], ◌∷◌, List, length, bytes_eq, if◌then◌else◌, Some, None, IfOk, IfSome, MatchOption, ◌≤◌, ◌<◌, ◌^◌};
 ghost use Rattle.mr_ast.specs.Forms.{Word, opening, closing};
 ghost use Rattle.mr_ast.specs.Writing.{block_use, is_word, judged_int, judged_name, judged_target, local_use, other_than};
 ghost use Rattle.mr_parse.specs.Gives.{Gives};
 ghost use Rattle.mr_parse.specs.Reading.{expected, first_at, is_next, limited, opened, read};
-ghost use Rattle.mr_parse.specs.Places.{words_of};
-ghost use Rattle.mr_parse.specs.Views.{followed_by};
+ghost use Rattle.mr_words.specs.Places.{words_of};
+ghost use Rattle.mr_parse.specs.Views.{beside_of, followed_by};
 
-use crate::fault::{ReadFault, Stop, TOO_DEEP, TOO_MANY, UNEXPECTED};
-use crate::scope::Scope;
-use crate::table::{int_of, is_name};
 use mr_ast::{BlockName, Bracket, IntType, LocalName, Role, Target};
 use mr_lex::Tokens;
+use mr_words::{ReadFault, Scope, Stop, TOO_DEEP, TOO_MANY, UNEXPECTED, int_of, is_name};
 use std::marker::Model;
 
 /// The tokens that are left.
@@ -23,7 +22,7 @@ pub struct Reader<'a> {
 impl<'a> Model for Reader<'a> {
     ghost use Rattle.std.specs.Prelude.{List, length, ◌≤◌, ◌^◌};
     ghost use Rattle.mr_ast.specs.Forms.{Word};
-    ghost use Rattle.mr_parse.specs.Places.{words_from};
+    ghost use Rattle.mr_words.specs.Places.{words_from};
 
     ghost Value = { List Word };
 
@@ -49,7 +48,7 @@ impl<'a> Reader<'a> {
     }
 
     /// How many tokens are left.
-    #[tactic(auto, using(crate::proofs::PlaceLaws::words_length))]
+    #[tactic(auto, using(mr_words::proofs::PlaceLaws::words_length))]
     pub fn left(&self) -> usize
         ensures left { result ≡ length self.now }
         ensures few { result ≤ 2 ^ 20 }
@@ -58,7 +57,7 @@ impl<'a> Reader<'a> {
     }
 
     /// The same, for a loop that counts what it reads.
-    #[tactic(auto, using(crate::proofs::PlaceLaws::words_length))]
+    #[tactic(auto, using(mr_words::proofs::PlaceLaws::words_length))]
     pub fn turns(&self) -> u32
         ensures { result ≡ length self.now }
     {
@@ -76,7 +75,7 @@ impl<'a> Reader<'a> {
     }
 
     /// The next token.
-    #[tactic(auto, using(crate::proofs::PlaceLaws::words_here, crate::proofs::PlaceLaws::words_end))]
+    #[tactic(auto, using(mr_words::proofs::PlaceLaws::words_here, mr_words::proofs::PlaceLaws::words_end))]
     pub fn peek(&self) -> Option<Next<'a>>
         ensures small { IfSome result (λ next. next.place < 2 ^ 20) }
         ensures next { MatchOption result (self.now ≡ []) (λ next. (rest : List Word) × (self.now ≡ record { text = next.text.now; place = next.place } ∷ rest)) }
@@ -272,6 +271,16 @@ impl<'a> Reader<'a> {
             }
             None => Err(self.stop(UNEXPECTED)),
         }
+    }
+}
+
+/// A thing beside what was read behind it.
+pub fn beside<T: Drop, U: Drop>(thing: T, read: Result<U, ReadFault>) -> Result<(T, U), ReadFault>
+    ensures { result ≡ beside_of thing read }
+{
+    match read {
+        Ok(x) => Ok((thing, x)),
+        Err(fault) => Err(fault),
     }
 }
 

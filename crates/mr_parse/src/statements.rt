@@ -1,18 +1,20 @@
+//! Statements and terminators.
 ghost use Rattle.std.specs.Prelude.{◌≡◌, codes, false, is_some};
 ghost use Rattle.mr_ast.specs.declared.words.Bracket.TheVariants.{Round};
 ghost use Rattle.mr_ast.specs.Forms.{Cases, Either, Part};
-ghost use Rattle.mr_ast.specs.Writing.{ThePlace, TheValue, block_use, listed, optional, ◌▸◌};
+ghost use Rattle.mr_ast.specs.Writing.{ThePlace, TheValue, block_use, listed, num_form, optional, ◌▸◌};
 ghost use Rattle.mr_ast.specs.ProgramGrammar.{assign_form, begins_stmt, call_form, disc_form, do_form, is_stmt_word, judged_intrinsic, judged_stmt, judged_term, stmt_behind, stmt_form, stmts_form, switch_case_form, switch_cases_form, switch_form, term_behind, term_form, unwind_form, values_form};
 ghost use Rattle.mr_parse.specs.Gives.{Gives};
 ghost use Rattle.mr_parse.specs.Reading.{first_at, is_next, read};
-ghost use Rattle.mr_parse.specs.Views.{beside_of, call_end_form, called, called_behind, unwound, ways_form, ways_of};
+ghost use Rattle.mr_parse.specs.Views.{call_end_form, called, called_behind, unwound, ways_form, ways_of};
 
-use crate::fault::{EXPOSED, ReadFault, TOO_MANY, UNEXPECTED};
-use crate::reader::Reader;
-use crate::scope::Scope;
-use crate::table::{intrinsic_of, is_exposed, is_name, stmt_word_of, term_word_of};
+use crate::reader::{Reader, beside};
 use mr_ast::{
     BlockName, Bracket, Intrinsic, Items, Num, Place, Stmt, StmtWord, Term, TermWord, Value,
+};
+use mr_words::{
+    EXPOSED, ReadFault, Scope, TOO_MANY, UNEXPECTED, intrinsic_of, is_exposed, is_name,
+    stmt_word_of, term_word_of,
 };
 use std::alloc::Global;
 
@@ -24,16 +26,6 @@ const MAX_STMTS: usize = 4096;
 struct Ways {
     next: Option<BlockName>,
     unwind: Option<BlockName>,
-}
-
-// A thing beside what was read behind it.
-fn beside<T: Drop, U: Drop>(thing: T, read: Result<U, ReadFault>) -> Result<(T, U), ReadFault>
-    ensures { result ≡ beside_of thing read }
-{
-    match read {
-        Ok(x) => Ok((thing, x)),
-        Err(fault) => Err(fault),
-    }
 }
 
 impl<'a> Reader<'a> {
@@ -127,9 +119,13 @@ impl<'a> Reader<'a> {
     fn disc(&mut self, alloc: Global, scope: &Scope, room: u32) -> Result<Stmt, ReadFault>
         ensures { Gives (λ s. (s, self.new)) result (read room scope.now disc_form self.old) }
     {
-        let place = self.place(alloc, scope, room, false)?;
-        self.expect(b"=")?;
-        Ok(Stmt::Disc(place, self.num(scope, room)?))
+        match self.place(alloc, scope, room, false) {
+            Ok(place) => match beside(place, self.assigned_number(scope, room)) {
+                Ok((place, number)) => Ok(Stmt::Disc(place, number)),
+                Err(fault) => Err(fault),
+            },
+            Err(fault) => Err(fault),
+        }
     }
 
     #[tactic(auto, unfolding(mr_ast::specs::ProgramGrammar::assign_form))]
@@ -142,9 +138,34 @@ impl<'a> Reader<'a> {
     ) -> Result<Stmt, ReadFault>
         ensures { Gives (λ s. (s, self.new)) result (read room scope.now (assign_form over) self.old) }
     {
-        let place = self.place(alloc, scope, room, over)?;
+        match self.place(alloc, scope, room, over) {
+            Ok(place) => match beside(place, self.assigned_value(alloc, scope, room)) {
+                Ok((place, value)) => Ok(Stmt::Assign(place, value)),
+                Err(fault) => Err(fault),
+            },
+            Err(fault) => Err(fault),
+        }
+    }
+
+    // A number behind `=`.
+    fn assigned_number(&mut self, scope: &Scope, room: u32) -> Result<Num, ReadFault>
+        ensures { Gives (λ n. (n, self.new)) result (read room scope.now (codes "=" ▸ num_form) self.old) }
+    {
         self.expect(b"=")?;
-        Ok(Stmt::Assign(place, self.value(alloc, scope, room)?))
+        self.num(scope, room)
+    }
+
+    // A value behind `=`.
+    fn assigned_value(
+        &mut self,
+        alloc: Global,
+        scope: &Scope,
+        room: u32,
+    ) -> Result<Value, ReadFault>
+        ensures { Gives (λ v. (v, self.new)) result (read room scope.now (codes "=" ▸ Part TheValue) self.old) }
+    {
+        self.expect(b"=")?;
+        self.value(alloc, scope, room)
     }
 
     /// The statements of a block.
@@ -222,7 +243,7 @@ impl<'a> Reader<'a> {
         }
     }
 
-    #[tactic(auto, unfolding(mr_ast::specs::ProgramGrammar::switch_form), using(crate::proofs::InsideLaws::inside))]
+    #[tactic(auto, unfolding(mr_ast::specs::ProgramGrammar::switch_form), using(crate::proofs::Walk::InsideLaws::inside))]
     fn switch(&mut self, alloc: Global, scope: &Scope, room: u32) -> Result<Term, ReadFault>
         ensures { Gives (λ t. (t, self.new)) result (read room scope.now switch_form self.old) }
     {
@@ -298,7 +319,7 @@ impl<'a> Reader<'a> {
     }
 
     // The arguments of a call, in their brackets.
-    #[tactic(auto, using(crate::proofs::InsideLaws::inside))]
+    #[tactic(auto, using(crate::proofs::Walk::InsideLaws::inside))]
     fn values(&mut self, alloc: Global, scope: &Scope, room: u32) -> Result<Items<Value>, ReadFault>
         ensures { Gives (λ vs. (vs, self.new)) result (read room scope.now (listed Round values_form) self.old) }
     {

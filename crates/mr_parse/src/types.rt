@@ -1,17 +1,16 @@
+//! Types and the trees of enums.
 ghost use Rattle.std.specs.Prelude.{◌≡◌, codes};
 ghost use Rattle.mr_ast.specs.declared.words.Bracket.TheVariants.{Curly};
 ghost use Rattle.mr_ast.specs.Forms.{Part};
-ghost use Rattle.mr_ast.specs.Writing.{TheTree, TheType, listed, ◌▪◌, ◌▸◌};
+ghost use Rattle.mr_ast.specs.Writing.{TheTree, TheType, listed, num_form, ◌▪◌, ◌▸◌, ◌◂◌};
 ghost use Rattle.mr_ast.specs.TypeGrammar.{array_form, branch_form, case_form, cases_form, chunk_form, chunks_form, enum_form, field_form, fields_form, judged_tree, judged_type, ref_form, shape_form, tag_form, tags_form, tuple_type_form, union_type_form, variant_form, variants_form};
 ghost use Rattle.mr_parse.specs.Gives.{Gives};
 ghost use Rattle.mr_parse.specs.Reading.{first_at, read, read_outside, read_part};
 ghost use Rattle.mr_parse.specs.Views.{shape_of};
 
-use crate::fault::{ReadFault, UNEXPECTED};
-use crate::reader::Reader;
-use crate::scope::Scope;
-use crate::table::{tree_word_of, type_word_of};
+use crate::reader::{Reader, beside};
 use mr_ast::{Boxed, Bracket, Items, Num, Tag, Tree, TreeWord, Ty, TypeWord, Variant};
+use mr_words::{ReadFault, Scope, UNEXPECTED, tree_word_of, type_word_of};
 use std::alloc::Global;
 
 // A size and an alignment.
@@ -105,7 +104,7 @@ impl<'a> Reader<'a> {
     }
 
     #[cycle(types)]
-    #[tactic(auto, unfolding(mr_ast::specs::TypeGrammar::array_form), using(crate::proofs::InsideLaws::inside))]
+    #[tactic(auto, unfolding(mr_ast::specs::TypeGrammar::array_form), using(crate::proofs::Walk::InsideLaws::inside))]
     fn array(&mut self, alloc: Global, scope: &Scope, room: u32) -> Result<Ty, ReadFault>
         ensures { Gives (λ t. (t, self.new)) result (read_outside room scope.now array_form self.old) }
     {
@@ -172,7 +171,7 @@ impl<'a> Reader<'a> {
 
     // The fields of a type, in their brackets.
     #[cycle(types)]
-    #[tactic(auto, using(crate::proofs::InsideLaws::inside))]
+    #[tactic(auto, using(crate::proofs::Walk::InsideLaws::inside))]
     fn fields(
         &mut self,
         alloc: Global,
@@ -226,7 +225,7 @@ impl<'a> Reader<'a> {
     }
 
     // The chunks of a union, in their brackets.
-    #[tactic(auto, using(crate::proofs::InsideLaws::inside))]
+    #[tactic(auto, using(crate::proofs::Walk::InsideLaws::inside))]
     fn chunks(
         &mut self,
         alloc: Global,
@@ -279,7 +278,7 @@ impl<'a> Reader<'a> {
 
     // The variants of an enum, in their brackets.
     #[cycle(types)]
-    #[tactic(auto, using(crate::proofs::InsideLaws::inside))]
+    #[tactic(auto, using(crate::proofs::Walk::InsideLaws::inside))]
     fn variants(
         &mut self,
         alloc: Global,
@@ -327,16 +326,45 @@ impl<'a> Reader<'a> {
     fn variant(&mut self, alloc: Global, scope: &Scope, room: u32) -> Result<Variant, ReadFault>
         ensures { Gives (λ v. (v, self.new)) result (read room scope.now variant_form self.old) }
     {
+        match self.variant_head(alloc, scope, room) {
+            Ok(head) => match beside(head, self.tags_behind(alloc, scope, room)) {
+                Ok(((number, ty), tags)) => Ok(Variant { number, ty, tags }),
+                Err(fault) => Err(fault),
+            },
+            Err(fault) => Err(fault),
+        }
+    }
+
+    // The number and the type of a variant.
+    #[cycle(types)]
+    fn variant_head(
+        &mut self,
+        alloc: Global,
+        scope: &Scope,
+        room: u32,
+    ) -> Result<(Num, Ty), ReadFault>
+        ensures { Gives (λ x. (x, self.new)) result (read room scope.now (num_form ◂ codes ":" ▪ Part TheType) self.old) }
+    {
         let number = self.num(scope, room)?;
         self.expect(b":")?;
-        let ty = self.ty(alloc, scope, room)?;
+        Ok((number, self.ty(alloc, scope, room)?))
+    }
+
+    // The tags of a variant, behind their word.
+    fn tags_behind(
+        &mut self,
+        alloc: Global,
+        scope: &Scope,
+        room: u32,
+    ) -> Result<Items<Tag>, ReadFault>
+        ensures { Gives (λ xs. (xs, self.new)) result (read room scope.now (codes "tag" ▸ listed Curly tags_form) self.old) }
+    {
         self.expect(b"tag")?;
-        let tags = self.tags(alloc, scope, room)?;
-        Ok(Variant { number, ty, tags })
+        self.tags(alloc, scope, room)
     }
 
     // The tags of a variant, in their brackets.
-    #[tactic(auto, using(crate::proofs::InsideLaws::inside))]
+    #[tactic(auto, using(crate::proofs::Walk::InsideLaws::inside))]
     fn tags(&mut self, alloc: Global, scope: &Scope, room: u32) -> Result<Items<Tag>, ReadFault>
         ensures { Gives (λ xs. (xs, self.new)) result (read room scope.now (listed Curly tags_form) self.old) }
     {
@@ -399,7 +427,7 @@ impl<'a> Reader<'a> {
     }
 
     #[cycle(trees)]
-    #[tactic(auto, unfolding(mr_ast::specs::TypeGrammar::branch_form), using(crate::proofs::InsideLaws::inside))]
+    #[tactic(auto, unfolding(mr_ast::specs::TypeGrammar::branch_form), using(crate::proofs::Walk::InsideLaws::inside))]
     fn branch(&mut self, alloc: Global, scope: &Scope, room: u32) -> Result<Tree, ReadFault>
         ensures { Gives (λ t. (t, self.new)) result (read_outside room scope.now branch_form self.old) }
     {

@@ -1,18 +1,20 @@
+//! Values and places.
 ghost use Rattle.std.specs.Prelude.{◌≡◌, codes, true, false, IfOk};
 ghost use Rattle.mr_ast.specs.Forms.{Part};
-ghost use Rattle.mr_ast.specs.Writing.{ThePlace, TheType, TheValue, giving, ◌▪◌, ◌◂◌};
+ghost use Rattle.mr_ast.specs.Writing.{ThePlace, TheType, TheValue, giving, num_form, u64_form, ◌▪◌, ◌◂◌};
 ghost use Rattle.mr_ast.specs.ValueGrammar.{base_form, begins_postfix, deref_form, global_value_form, judged_value, more_values_form, place_from, postfix_form, postfixes_form, value_behind, with_postfix};
 ghost use Rattle.mr_parse.specs.Gives.{Gives};
 ghost use Rattle.mr_parse.specs.Insides.{begins_with_type, is_bracketed, value_inside};
 ghost use Rattle.mr_parse.specs.Reading.{first_at, is_next, read, read_outside, read_part};
 ghost use Rattle.mr_parse.specs.Postfixes.{indexed, postfix_of, with_all};
 
-use crate::fault::{EXPOSED, ReadFault, TOO_DEEP, TOO_MANY, UNEXPECTED};
-use crate::reader::Reader;
-use crate::scope::Scope;
-use crate::table::{is_exposed, value_word_of};
+use crate::reader::{Reader, beside};
 use mr_ast::{
-    Boxed, Bracket, FnName, GlobalName, Items, LocalName, Num, Place, Role, Value, ValueWord,
+    BinaryOp, Boxed, Bracket, FnName, GlobalName, Items, LocalName, Num, Place, Role, Ty, Value,
+    ValueWord,
+};
+use mr_words::{
+    EXPOSED, ReadFault, Scope, TOO_DEEP, TOO_MANY, UNEXPECTED, is_exposed, value_word_of,
 };
 use std::alloc::{AllocError, Global};
 
@@ -98,7 +100,7 @@ impl<'a> Reader<'a> {
 
     // What stands behind the first word of a value with brackets.
     #[cycle(values)]
-    #[tactic(auto, using(crate::proofs::InsideLaws::inside, crate::proofs::BracketLaws::behind_bracketed))]
+    #[tactic(auto, using(crate::proofs::Walk::InsideLaws::inside, crate::proofs::Walk::BracketLaws::behind_bracketed))]
     fn bracketed(
         &mut self,
         alloc: Global,
@@ -138,13 +140,43 @@ impl<'a> Reader<'a> {
                 Ok(Value::Cast(int, value))
             }
             ValueWord::Unary(op) => Ok(Value::Unary(op, self.boxed_value(alloc, scope, room)?)),
-            ValueWord::Binary(op) => {
-                let left = self.boxed_value(alloc, scope, room)?;
-                self.expect(b",")?;
-                let right = self.boxed_value(alloc, scope, room)?;
-                Ok(Value::Binary(op, left, right))
-            }
+            ValueWord::Binary(op) => self.binary_inside(alloc, scope, room, op),
             _ => self.typed_inside(alloc, scope, room, word),
+        }
+    }
+
+    #[cycle(values)]
+    fn binary_inside(
+        &mut self,
+        alloc: Global,
+        scope: &Scope<'_>,
+        room: u32,
+        op: BinaryOp,
+    ) -> Result<Value, ReadFault>
+        ensures { Gives (λ v. (v, self.new)) result (read room scope.now (value_inside (ValueWord.Binary op)) self.old) }
+    {
+        match self.value_and_comma(alloc, scope, room) {
+            Ok(left) => match beside(left, self.boxed_value(alloc, scope, room)) {
+                Ok((left, right)) => Ok(Value::Binary(op, left, right)),
+                Err(fault) => Err(fault),
+            },
+            Err(fault) => Err(fault),
+        }
+    }
+
+    // A value, and a comma behind it.
+    #[cycle(values)]
+    fn value_and_comma(
+        &mut self,
+        alloc: Global,
+        scope: &Scope<'_>,
+        room: u32,
+    ) -> Result<Boxed<Value>, ReadFault>
+        ensures { Gives (λ v. (v, self.new)) result (read room scope.now (Part TheValue ◂ codes ",") self.old) }
+    {
+        match self.boxed_value(alloc, scope, room) {
+            Ok(value) => self.followed(value, b","),
+            Err(fault) => Err(fault),
         }
     }
 
@@ -160,28 +192,149 @@ impl<'a> Reader<'a> {
         requires { begins_with_type word ≡ true }
         ensures { Gives (λ v. (v, self.new)) result (read room scope.now (value_inside word) self.old) }
     {
-        let ty = self.ty(alloc, scope, room)?;
-        if let ValueWord::Tuple = word {
-            return Ok(Value::Tuple(ty, self.more_values(alloc, scope, room)?));
-        }
-        self.expect(b",")?;
         match word {
-            ValueWord::AddrOf => Ok(Value::AddrOf(ty, self.place(alloc, scope, room, false)?)),
-            ValueWord::Transmute => {
-                Ok(Value::Transmute(ty, self.boxed_value(alloc, scope, room)?))
-            }
-            ValueWord::Union => {
-                let field = self.number()?;
-                self.expect(b",")?;
-                Ok(Value::Union(ty, field, self.boxed_value(alloc, scope, room)?))
-            }
-            ValueWord::Variant => {
-                let number = self.num(scope, room)?;
-                self.expect(b",")?;
-                Ok(Value::Variant(ty, number, self.boxed_value(alloc, scope, room)?))
-            }
+            ValueWord::Tuple => self.tuple_inside(alloc, scope, room),
+            ValueWord::AddrOf => self.address_inside(alloc, scope, room),
+            ValueWord::Transmute => self.transmuted_inside(alloc, scope, room),
+            ValueWord::Union => self.union_inside(alloc, scope, room),
+            ValueWord::Variant => self.variant_inside(alloc, scope, room),
             _ => unreachable!(),
         }
+    }
+
+    // A type, and a comma behind it.
+    fn type_and_comma(
+        &mut self,
+        alloc: Global,
+        scope: &Scope<'_>,
+        room: u32,
+    ) -> Result<Ty, ReadFault>
+        ensures { Gives (λ t. (t, self.new)) result (read room scope.now (Part TheType ◂ codes ",") self.old) }
+    {
+        match self.ty(alloc, scope, room) {
+            Ok(ty) => self.followed(ty, b","),
+            Err(fault) => Err(fault),
+        }
+    }
+
+    #[cycle(values)]
+    fn tuple_inside(
+        &mut self,
+        alloc: Global,
+        scope: &Scope<'_>,
+        room: u32,
+    ) -> Result<Value, ReadFault>
+        ensures { Gives (λ v. (v, self.new)) result (read room scope.now (value_inside ValueWord.Tuple) self.old) }
+    {
+        match self.ty(alloc, scope, room) {
+            Ok(ty) => match beside(ty, self.more_values(alloc, scope, room)) {
+                Ok((ty, values)) => Ok(Value::Tuple(ty, values)),
+                Err(fault) => Err(fault),
+            },
+            Err(fault) => Err(fault),
+        }
+    }
+
+    #[cycle(values)]
+    fn address_inside(
+        &mut self,
+        alloc: Global,
+        scope: &Scope<'_>,
+        room: u32,
+    ) -> Result<Value, ReadFault>
+        ensures { Gives (λ v. (v, self.new)) result (read room scope.now (value_inside ValueWord.AddrOf) self.old) }
+    {
+        match self.type_and_comma(alloc, scope, room) {
+            Ok(ty) => match beside(ty, self.place(alloc, scope, room, false)) {
+                Ok((ty, place)) => Ok(Value::AddrOf(ty, place)),
+                Err(fault) => Err(fault),
+            },
+            Err(fault) => Err(fault),
+        }
+    }
+
+    #[cycle(values)]
+    fn transmuted_inside(
+        &mut self,
+        alloc: Global,
+        scope: &Scope<'_>,
+        room: u32,
+    ) -> Result<Value, ReadFault>
+        ensures { Gives (λ v. (v, self.new)) result (read room scope.now (value_inside ValueWord.Transmute) self.old) }
+    {
+        match self.type_and_comma(alloc, scope, room) {
+            Ok(ty) => match beside(ty, self.boxed_value(alloc, scope, room)) {
+                Ok((ty, value)) => Ok(Value::Transmute(ty, value)),
+                Err(fault) => Err(fault),
+            },
+            Err(fault) => Err(fault),
+        }
+    }
+
+    #[cycle(values)]
+    fn union_inside(
+        &mut self,
+        alloc: Global,
+        scope: &Scope<'_>,
+        room: u32,
+    ) -> Result<Value, ReadFault>
+        ensures { Gives (λ v. (v, self.new)) result (read room scope.now (value_inside ValueWord.Union) self.old) }
+    {
+        match self.type_and_comma(alloc, scope, room) {
+            Ok(ty) => match beside(ty, self.field_and_value(alloc, scope, room)) {
+                Ok((ty, (field, value))) => Ok(Value::Union(ty, field, value)),
+                Err(fault) => Err(fault),
+            },
+            Err(fault) => Err(fault),
+        }
+    }
+
+    #[cycle(values)]
+    fn variant_inside(
+        &mut self,
+        alloc: Global,
+        scope: &Scope<'_>,
+        room: u32,
+    ) -> Result<Value, ReadFault>
+        ensures { Gives (λ v. (v, self.new)) result (read room scope.now (value_inside ValueWord.Variant) self.old) }
+    {
+        match self.type_and_comma(alloc, scope, room) {
+            Ok(ty) => match beside(ty, self.number_and_value(alloc, scope, room)) {
+                Ok((ty, (number, value))) => Ok(Value::Variant(ty, number, value)),
+                Err(fault) => Err(fault),
+            },
+            Err(fault) => Err(fault),
+        }
+    }
+
+    // The position of a field, and its value.
+    #[cycle(values)]
+    fn field_and_value(
+        &mut self,
+        alloc: Global,
+        scope: &Scope<'_>,
+        room: u32,
+    ) -> Result<(u64, Boxed<Value>), ReadFault>
+        ensures { Gives (λ x. (x, self.new)) result (read room scope.now (u64_form ◂ codes "," ▪ Part TheValue) self.old) }
+    {
+        let field = self.number()?;
+        self.expect(b",")?;
+        Ok((field, self.boxed_value(alloc, scope, room)?))
+    }
+
+    // The number of a variant, and its value.
+    #[cycle(values)]
+    fn number_and_value(
+        &mut self,
+        alloc: Global,
+        scope: &Scope<'_>,
+        room: u32,
+    ) -> Result<(Num, Boxed<Value>), ReadFault>
+        ensures { Gives (λ x. (x, self.new)) result (read room scope.now (num_form ◂ codes "," ▪ Part TheValue) self.old) }
+    {
+        let number = self.num(scope, room)?;
+        self.expect(b",")?;
+        Ok((number, self.boxed_value(alloc, scope, room)?))
     }
 
     #[cycle(values)]
@@ -265,7 +418,7 @@ impl<'a> Reader<'a> {
     }
 
     #[cycle(values)]
-    #[tactic(auto, unfolding(mr_ast::specs::ValueGrammar::deref_form), using(crate::proofs::InsideLaws::inside))]
+    #[tactic(auto, unfolding(mr_ast::specs::ValueGrammar::deref_form), using(crate::proofs::Walk::InsideLaws::inside))]
     fn deref(
         &mut self,
         alloc: Global,
@@ -340,7 +493,7 @@ impl<'a> Reader<'a> {
 
     // The postfix of number k.
     #[cycle(values)]
-    #[tactic(auto, unfolding(mr_ast::specs::ValueGrammar::postfix_form), using(crate::proofs::InsideLaws::inside))]
+    #[tactic(auto, unfolding(mr_ast::specs::ValueGrammar::postfix_form), using(crate::proofs::Walk::InsideLaws::inside))]
     fn postfix(
         &mut self,
         alloc: Global,

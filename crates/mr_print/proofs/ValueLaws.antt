@@ -21,10 +21,6 @@ module _ (names : NameTexts) where
       ≡ with_word (with_words (with_word (with_words (with_words old (codes "deref" ∷ codes "(" ∷ [])) (words_of_value names v)) (codes ",")) (words_of_type t)) (codes ")")
   written_deref old v t = rw words_deref (simp word_laws)
 
-  pub written_index : (old : List ℕ) (p : Place) (i : Value) → with_words old (words_of_place names (place.Index p i))
-      ≡ with_word (with_words (with_word (with_words old (words_of_place names p)) (codes "[")) (words_of_value names i)) (codes "]")
-  written_index old p i = rw words_index (simp word_laws)
-
   pub written_tuple : (old : List ℕ) (t : Ty) (vs : List Value) → with_words old (words_of_value names (value.Tuple t vs))
       ≡ with_word (with_words (with_words (with_words old (codes "tuple" ∷ codes "(" ∷ [])) (words_of_type t)) (flat_map (λ v. codes "," ∷ words_of_value names v) vs)) (codes ")")
   written_tuple old t vs = rw words_tuple (simp word_laws)
@@ -53,11 +49,7 @@ module _ (names : NameTexts) where
       ≡ with_word (with_words (with_words old (unary_word o ∷ codes "(" ∷ [])) (words_of_value names v)) (codes ")")
   written_unary old o v = rw words_unary (simp word_laws)
 
-  pub written_binary : (old : List ℕ) (o : BinaryOp) (a : Value) (b : Value) → with_words old (words_of_value names (value.Binary o a b))
-      ≡ with_word (with_words (with_word (with_words (with_words old (binary_word o ∷ codes "(" ∷ [])) (words_of_value names a)) (codes ",")) (words_of_value names b)) (codes ")")
-  written_binary old o a b = rw words_binary (simp word_laws)
-
 -- places and values of few words
-pub ruleset place_laws = (word_laws, words_local, words_field, written_index, words_variant_place)
+pub ruleset place_laws = (word_laws, words_local, words_field, words_index, words_variant_place)
 
-pub ruleset value_laws = (word_laws, words_int, words_true, words_false, words_raw, words_fn, words_global, words_load, words_disc, written_binary)
+pub ruleset value_laws = (word_laws, words_int, words_true, words_false, words_raw, words_fn, words_global, words_load, words_disc, words_binary)

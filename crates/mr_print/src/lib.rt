@@ -15,8 +15,6 @@
 mod names;
 mod program;
 mod stmts;
-#[cfg(test)]
-mod tests;
 mod types;
 mod values;
 mod words;

@@ -1,3 +1,4 @@
+//! The texts of names.
 ghost use Rattle.std.specs.Prelude.{◌≡◌};
 ghost use Rattle.mr_ast.specs.CanonValues.{text_at};
 ghost use Rattle.mr_ast.specs.Canon.{block_texts, function_texts, global_texts, local_texts, target_text};

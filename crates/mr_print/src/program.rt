@@ -1,3 +1,4 @@
+//! The lines of a program.
 ghost use Rattle.std.specs.Prelude.{◌≡◌, ◌++◌, OnOk, OnErr, flat_map, map};
 ghost use Rattle.mr_ast.specs.CanonTypes.{with_commas};
 ghost use Rattle.mr_ast.specs.Canon.{argument_words, block_lines, canonical_text, function_lines, global_line, head_line, header_line, kind_word, lines_of, local_words, locals_line, main_line, repeat_words, stmt_line, texts_in, words_of_item};

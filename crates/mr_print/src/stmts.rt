@@ -1,3 +1,4 @@
+//! The words of statements and terminators.
 ghost use Rattle.std.specs.Prelude.{◌≡◌, ◌∷◌, [], OnOk, flat_map};
 ghost use Rattle.mr_ast.specs.CanonValues.{text_at, words_of_place};
 ghost use Rattle.mr_ast.specs.Canon.{arguments, block_texts, intrinsic_word, local_texts, optional_block, optional_result, target_words, texts_in, words_of_stmt, words_of_term};

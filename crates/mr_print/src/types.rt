@@ -1,5 +1,6 @@
-ghost use Rattle.std.specs.Prelude.{◌≡◌, ◌++◌, ◌∷◌, [], OnOk, length, map, flat_map};
-ghost use Rattle.mr_ast.specs.CanonTypes.{braced, shape_words, chunk_words, tag_words, case_words, field_words, is_unit, variant_words, words_of_tree, words_of_type};
+//! The words of types.
+ghost use Rattle.std.specs.Prelude.{◌≡◌, ◌++◌, ◌∷◌, [], OnOk, codes, decimal, length, map, flat_map};
+ghost use Rattle.mr_ast.specs.CanonTypes.{braced, int_word, shape_words, chunk_words, tag_words, case_words, field_words, is_unit, variant_words, words_of_tree, words_of_type};
 ghost use Rattle.mr_print.specs.Appends.{with_words};
 
 use crate::OutOfMemory;
@@ -19,17 +20,34 @@ pub(crate) fn print_tree(tree: &Tree, text: &mut Vec<u8>) -> Result<(), OutOfMem
         }
         Tree::Invalid => word("invalid", text),
         Tree::Branch(at, int, cases, rest) => {
-            word("branch", text)?;
-            number(*at, text)?;
-            int_type(*int, text)?;
-            word("{", text)?;
+            print_branch_head(*at, *int, text)?;
             print_cases(cases.as_slice(), text)?;
-            word("_", text)?;
-            word("=>", text)?;
-            print_tree(rest.get(), text)?;
-            word("}", text)
+            print_other_case(rest.get(), text)
         }
     }
+}
+
+// Writes what stands before the cases of a branch.
+#[tactic(auto, using(crate::proofs::AppendLaws::word_laws))]
+fn print_branch_head(at: u64, int: IntType, text: &mut Vec<u8>) -> Result<(), OutOfMemory>
+    ensures { OnOk result (text.new.items ≡ with_words text.old.items (codes "branch" ∷ decimal at ∷ int_word int ∷ codes "{" ∷ [])) }
+{
+    word("branch", text)?;
+    number(at, text)?;
+    int_type(int, text)?;
+    word("{", text)
+}
+
+// Writes the tree of all other numbers, and the end of a branch.
+#[cycle(print_tree)]
+#[tactic(auto, using(crate::proofs::AppendLaws::word_laws))]
+fn print_other_case(tree: &Tree, text: &mut Vec<u8>) -> Result<(), OutOfMemory>
+    ensures { OnOk result (text.new.items ≡ with_words text.old.items (codes "_" ∷ codes "=>" ∷ words_of_tree tree.now ++ codes "}" ∷ [])) }
+{
+    word("_", text)?;
+    word("=>", text)?;
+    print_tree(tree, text)?;
+    word("}", text)
 }
 
 #[cycle(print_tree)]

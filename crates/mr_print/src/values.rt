@@ -1,3 +1,4 @@
+//! The words of places and values.
 ghost use Rattle.std.specs.Prelude.{◌≡◌, ◌∷◌, ◌++◌, [], OnOk, codes, decimal, flat_map, map};
 ghost use Rattle.mr_ast.specs.CanonTypes.{int_word, num_words, with_commas};
 ghost use Rattle.mr_ast.specs.CanonValues.{binary_word, text_at, unary_word, words_of_place, words_of_value};
@@ -28,21 +29,49 @@ pub(crate) fn print_place(
         Place::Deref(pointer, ty) => print_deref(program, function, pointer.get(), ty, text),
         Place::Field(whole, field) => {
             print_place(program, function, whole.get(), text)?;
-            word(".", text)?;
-            number(*field, text)
+            print_field(*field, text)
         }
         Place::Index(array, index) => {
             print_place(program, function, array.get(), text)?;
-            word("[", text)?;
-            print_value(program, function, index.get(), text)?;
-            word("]", text)
+            print_index(program, function, index.get(), text)
         }
         Place::Variant(whole, variant) => {
             print_place(program, function, whole.get(), text)?;
-            word("@", text)?;
-            signed(*variant, text)
+            print_variant_of(*variant, text)
         }
     }
+}
+
+// Writes the postfixes of a place.
+#[tactic(auto, using(crate::proofs::AppendLaws::word_laws))]
+fn print_field(field: u64, text: &mut Vec<u8>) -> Result<(), OutOfMemory>
+    ensures { OnOk result (text.new.items ≡ with_words text.old.items (codes "." ∷ decimal field ∷ [])) }
+{
+    word(".", text)?;
+    number(field, text)
+}
+
+#[tactic(auto, using(crate::proofs::AppendLaws::word_laws))]
+fn print_variant_of(variant: Num, text: &mut Vec<u8>) -> Result<(), OutOfMemory>
+    ensures { OnOk result (text.new.items ≡ with_words text.old.items (codes "@" ∷ num_words variant)) }
+{
+    word("@", text)?;
+    signed(variant, text)
+}
+
+#[cycle(print_value)]
+#[tactic(auto, using(crate::proofs::AppendLaws::word_laws))]
+fn print_index(
+    program: &Program,
+    function: &Function,
+    index: &Value,
+    text: &mut Vec<u8>,
+) -> Result<(), OutOfMemory>
+    ensures { OnOk result (text.new.items ≡ with_words text.old.items (codes "[" ∷ words_of_value (texts_in program.now function.now) index.now ++ codes "]" ∷ [])) }
+{
+    word("[", text)?;
+    print_value(program, function, index, text)?;
+    word("]", text)
 }
 
 #[cycle(print_value)]
@@ -104,11 +133,8 @@ pub(crate) fn print_value(
             text,
         ),
         Value::Binary(operator, left, right) => {
-            opened(binary_word(*operator), text)?;
-            print_value(program, function, left.get(), text)?;
-            word(",", text)?;
-            print_value(program, function, right.get(), text)?;
-            word(")", text)
+            print_left(program, function, left.get(), *operator, text)?;
+            print_right(program, function, right.get(), text)
         }
     }
 }
@@ -326,6 +352,38 @@ fn print_unary(
 {
     opened(unary_word(operator), text)?;
     print_value(program, function, value, text)?;
+    word(")", text)
+}
+
+// Writes what stands before the second operand of an operator.
+#[cycle(print_value)]
+#[tactic(auto, using(crate::proofs::AppendLaws::word_laws))]
+fn print_left(
+    program: &Program,
+    function: &Function,
+    left: &Value,
+    operator: BinaryOp,
+    text: &mut Vec<u8>,
+) -> Result<(), OutOfMemory>
+    ensures { OnOk result (text.new.items ≡ with_words text.old.items (binary_word operator ∷ codes "(" ∷ words_of_value (texts_in program.now function.now) left.now ++ codes "," ∷ [])) }
+{
+    opened(binary_word(operator), text)?;
+    print_value(program, function, left, text)?;
+    word(",", text)
+}
+
+// Writes the second operand of an operator, and what stands behind it.
+#[cycle(print_value)]
+#[tactic(auto, using(crate::proofs::AppendLaws::word_laws))]
+fn print_right(
+    program: &Program,
+    function: &Function,
+    right: &Value,
+    text: &mut Vec<u8>,
+) -> Result<(), OutOfMemory>
+    ensures { OnOk result (text.new.items ≡ with_words text.old.items (words_of_value (texts_in program.now function.now) right.now ++ codes ")" ∷ [])) }
+{
+    print_value(program, function, right, text)?;
     word(")", text)
 }
 

@@ -1,3 +1,4 @@
+//! Words of a line, and the spaces and commas between them.
 ghost use Rattle.std.specs.Prelude.{◌≡◌, ◌∷◌, [], OnOk, codes};
 ghost use Rattle.mr_ast.specs.CanonTypes.{int_word, num_words};
 ghost use Rattle.mr_print.specs.Appends.{with_word, with_words, with_last, comma_at};

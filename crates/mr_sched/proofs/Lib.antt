@@ -1,5 +1,4 @@
 pub mod EntryLaws
-pub mod Examples
 pub mod FirstLines
 pub mod LineLaws
 pub mod Loops

@@ -58,7 +58,8 @@ pub record BodyFails (lines : List (List ℕ)) (rest : List ℕ) (line code : �
   pub good : List (List ℕ)
   pub before : AreGood good
   pub place : line ≡ length good + 2
-  pub why : (HasOtherLine lines good × (code ≡ BAD_LINE)) ⊎ ((HasUnendedLine lines rest good × (code ≡ BAD_LINE)) ⊎ (HasEntryTooMany lines good × (code ≡ TOO_LONG)))
+  pub why : (HasOtherLine lines good × (code ≡ BAD_LINE))
+      ⊎ ((HasUnendedLine lines rest good × (code ≡ BAD_LINE)) ⊎ (HasEntryTooMany lines good × (code ≡ TOO_LONG)))
 
 -- line 1 isn't the header, or it isn't ended
 abbrev pub HasBadHeader : List (List ℕ) → Type 0
@@ -74,4 +75,5 @@ LinesFail lines rest line code =
 abbrev pub FirstFault : List ℕ → ℕ → ℕ → Type 0
 FirstFault text line code =
     ((2 ^ 26 < length text) × (line ≡ 1) × (code ≡ TOO_LONG))
-    ⊎ ((length text ≤ 2 ^ 26) × ((lines : List (List ℕ)) × (rest : List ℕ) × Lines text lines rest × LinesFail lines rest line code))
+    ⊎ ((length text ≤ 2 ^ 26) × ((lines : List (List ℕ)) × (rest : List ℕ) × Lines text lines rest
+    × LinesFail lines rest line code))

@@ -39,7 +39,8 @@ is_numeral (digit ∷ next ∷ digits) = not (digit == 48) && all_ascii_digits (
 
 -- the number that a word spells, if it is below the limit
 unfoldable pub number_of : ℕ → List ℕ → Option ℕ
-number_of limit word = if is_numeral word && nat_lt (digits_value 10 word) limit then Some (digits_value 10 word) else None
+number_of limit word =
+    if is_numeral word && nat_lt (digits_value 10 word) limit then Some (digits_value 10 word) else None
 
 -- the picks that the words of a line spell
 unfoldable pub picks_of : List (List ℕ) → Option (List ℕ)
@@ -54,7 +55,9 @@ start_of (word ∷ words) = if bytes_eq word (codes "start") then picks_of words
 -- the entry that the words of a line spell
 unfoldable pub entry_of : List (List ℕ) → Option Entry
 entry_of [] = None
-entry_of (word ∷ words) = option_and_then (λ t. option_map (λ ns. record { thread = t; picks = ns }) (picks_of words)) (number_of (2 ^ 32) word)
+entry_of (word ∷ words) =
+    option_and_then (λ t. option_map (λ ns. record { thread = t; picks = ns }) (picks_of words))
+    (number_of (2 ^ 32) word)
 
 -- what a line gives, or the fault at it
 abbrev pub at_line : {A : Type 0} → ℕ → Option A → Result A Fault
@@ -69,7 +72,8 @@ with_entry e (Err f) = Err f
 -- what the entry of line n + 3 makes of the entries behind it, n being how many stand before it
 abbrev pub entry_then : ℕ → Option Entry → Result (List Entry) Fault → Result (List Entry) Fault
 entry_then n None others = Err (record { line = n + 3; code = BAD_LINE })
-entry_then n (Some e) others = if nat_lt n (2 ^ 20) then with_entry e others else Err (record { line = n + 3; code = TOO_LONG })
+entry_then n (Some e) others =
+    if nat_lt n (2 ^ 20) then with_entry e others else Err (record { line = n + 3; code = TOO_LONG })
 
 -- the entries of the lines from line n + 3 on
 unfoldable pub entries_of : ℕ → List (List ℕ) → Result (List Entry) Fault
@@ -93,8 +97,11 @@ body_of (line ∷ next ∷ lines) = start_then (start_of (parts_at 32 line)) (en
 unfoldable pub lines_schedule : List (List ℕ) → Result Schedule Fault
 lines_schedule [] = Err (record { line = 1; code = BAD_HEADER })
 lines_schedule (rest ∷ []) = Err (record { line = 1; code = BAD_HEADER })
-lines_schedule (line ∷ next ∷ lines) = if bytes_eq line header_line then body_of (next ∷ lines) else Err (record { line = 1; code = BAD_HEADER })
+lines_schedule (line ∷ next ∷ lines) =
+    if bytes_eq line header_line then body_of (next ∷ lines) else Err (record { line = 1; code = BAD_HEADER })
 
 -- the schedule that the text spells, or its first fault
 unfoldable pub schedule_of : List ℕ → Result Schedule Fault
-schedule_of text = if nat_lt (2 ^ 26) (length text) then Err (record { line = 1; code = TOO_LONG }) else lines_schedule (parts_at 10 text)
+schedule_of text =
+    if nat_lt (2 ^ 26) (length text) then Err (record { line = 1; code = TOO_LONG })
+    else lines_schedule (parts_at 10 text)

@@ -1,3 +1,4 @@
+//! Why a schedule could not be read.
 ghost use Rattle.std.specs.Prelude.{◌≡◌};
 ghost use Rattle.mr_sched.specs.declared.fault.SchedFault.TheVariants.{Memory};
 

@@ -1,3 +1,4 @@
+//! The laws of schedules and their texts.
 ghost use Rattle.std.specs.Prelude.{◌≡◌, ◌↔◌, List, ℕ};
 ghost use Rattle.mr_sched.specs.declared.schedule.Schedule.{Schedule};
 ghost use Rattle.mr_sched.specs.Faults.{FirstFault};

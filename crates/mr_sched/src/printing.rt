@@ -1,3 +1,4 @@
+//! The text of a schedule.
 ghost use Rattle.std.specs.Prelude.{◌≡◌, ◌++◌, OnOk, OnErr, flat_map};
 ghost use Rattle.mr_sched.specs.Spelling.{Extends, ended, entry_line, spaced, text_of};
 
@@ -5,11 +6,26 @@ use crate::schedule::{Entry, Schedule};
 use itoa::Buffer;
 use std::alloc::{AllocError, Global};
 
-/// Writes the text of a schedule at the end of `out`, and asks for no memory but that of `out`.
-#[tactic(auto, unfolding(crate::specs::Spelling::text_of))]
+/// Writes the text of a schedule at the end of `out`, and asks for no memory but that of `out`. An `Err` is for want of memory, and leaves
+/// `out` as it was.
 pub fn print(_alloc: Global, s: &Schedule, out: &mut Vec<u8>) -> Result<(), AllocError>
     ensures ok { OnOk result (out.new.items ≡ out.old.items ++ text_of s.now) }
-    // After want of memory a part of the text may stand behind what was there.
+    ensures err { OnErr result (out.new.items ≡ out.old.items) }
+{
+    let len = out.len();
+    match print_text(s, out) {
+        Ok(()) => Ok(()),
+        Err(error) => {
+            out.truncate(len);
+            Err(error)
+        }
+    }
+}
+
+// The same, where a part of the text may stand behind what was there after want of memory.
+#[tactic(auto, unfolding(crate::specs::Spelling::text_of))]
+fn print_text(s: &Schedule, out: &mut Vec<u8>) -> Result<(), AllocError>
+    ensures ok { OnOk result (out.new.items ≡ out.old.items ++ text_of s.now) }
     ensures err { OnErr result (Extends out.old.items out.new.items) }
 {
     out.extend_from_slice(b"schedule 1\nstart")?;

@@ -1,3 +1,4 @@
+//! Schedules and their limits.
 pub use sqlite_items::Items;
 
 /// The bytes that a schedule's text may have at most.

@@ -3,3 +3,9 @@
 
 #[cfg(test)]
 mod parsing;
+#[cfg(test)]
+mod printing;
+#[cfg(test)]
+mod schedules;
+#[cfg(test)]
+mod tokens;

@@ -1,24 +1,21 @@
+//! Parsing of texts: whole programs, each construct, first faults and limits.
 mod constructs;
 mod faults;
 mod limits;
 
-use mr_parse::{ParseFault, parse};
 use mr_lex::TextFault;
-use std::process::Abort;
+use mr_parse::{ParseFault, parse};
+use std::alloc::Global;
 
-// The first fault of the text has this place and code.
-fn expect_fault(rt: &(impl AllocGlobal + Abort), text: &str, line: u32, col: u32, code: u8) {
-    let wanted = ParseFault::Text(TextFault { line, col, code });
-    match parse(rt.alloc(), text.as_bytes()) {
-        Ok(_) => assert!(rt; false, "no fault"),
-        Err(fault) => assert_eq!(rt; fault, wanted),
+// What parsing of a text comes to, `Ok` where it denotes a program.
+fn outcome(alloc: Global, text: &str) -> Result<(), ParseFault> {
+    match parse(alloc, text.as_bytes()) {
+        Ok(_) => Ok(()),
+        Err(fault) => Err(fault),
     }
 }
 
-// The text denotes a program.
-fn expect_program(rt: &(impl AllocGlobal + Abort), text: &str) {
-    match parse(rt.alloc(), text.as_bytes()) {
-        Ok(_) => (),
-        Err(fault) => assert!(rt; false, "{fault:?}"),
-    }
+// The outcome of a text whose first fault has this place and code.
+fn fault(line: u32, col: u32, code: u8) -> Result<(), ParseFault> {
+    Err(ParseFault::Text(TextFault { line, col, code }))
 }

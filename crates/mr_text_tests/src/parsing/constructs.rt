@@ -1,7 +1,7 @@
-// A text for each construct of the language.
-use super::{expect_fault, expect_program};
-use std::alloc::{AllocError, Global};
-use std::string::String;
+//! A text for each construct of the language.
+use super::outcome;
+use std::alloc::Global;
+use std::process::Abort;
 use std::test::Fail;
 
 const TYPES: [&str; 25] = [
@@ -156,21 +156,10 @@ const ITEMS: [&str; 10] = [
     "",
 ];
 
-// A program with this type of a local, statement and terminator of its first block, and items of its global.
-fn program(
-    alloc: Global,
-    ty: &str,
-    statement: &str,
-    terminator: &str,
-    items: &str,
-) -> Result<String, AllocError> {
-    format!(in alloc;
-        "minirust 1\nglobal g align 1 {{ {items} }}\nfn f() -> r {{\nlet r: unit, x: {ty};\nb regular: {statement}; {terminator};\nc cleanup: resume;\nd catch: goto d;\ne terminate: abort;\n}}\nmain f\n"
-    )
-}
-
-// The program that the language's page begins with.
-const FIRST: &str = "minirust 1
+// Whole programs: the one that the language's page begins with, one whose names are words of the grammar that aren't kept for it, with
+// a comment and other blanks, and one whose names begin with `_`.
+const PROGRAMS: [&str; 3] = [
+    "minirust 1
 global g align 8 { 0*8 &main + 4 }
 fn main() -> r {
 let r: unit, x: u64;
@@ -178,101 +167,70 @@ b0 regular: live x; x = load(deref(global g + 0, u64)); do print(load(x)) to b1;
 b1 regular: exit;
 }
 main main
-";
+",
+    "minirust 1#one\r\nfn\tfn(u8,let)->let{let let:unit,u8:u8;regular regular:exit;}main fn",
+    "minirust 1 fn __() -> _0 { let _0: unit; a regular: exit; } main __",
+];
 
-#[test]
-fn a_program(rt: HostRuntime) {
-    expect_program(&rt, FIRST);
-}
+// What stands before and behind a piece in a program.
+type Around = (&'static str, &'static str);
 
-#[test]
-fn types(rt: HostRuntime) -> Result<(), Fail> {
-    for ty in TYPES {
-        expect_program(&rt, program(rt.alloc(), ty, "live x", "exit", "")?.as_str());
+const AROUND_TYPE: Around = (
+    "minirust 1 global g align 1 { } fn f() -> r { let r: unit, x: ",
+    "; b regular: live x; exit; c cleanup: resume; d catch: goto d; e terminate: abort; } main f",
+);
+
+const AROUND_VALUE: Around = (
+    "minirust 1 global g align 1 { } fn f() -> r { let r: unit, x: u8; b regular: x = ",
+    "; exit; c cleanup: resume; d catch: goto d; e terminate: abort; } main f",
+);
+
+const AROUND_OPERATOR: Around = (
+    "minirust 1 global g align 1 { } fn f() -> r { let r: unit, x: u8; b regular: x = ",
+    "(u8 1, load(x)); exit; c cleanup: resume; d catch: goto d; e terminate: abort; } main f",
+);
+
+const AROUND_STATEMENT: Around = (
+    "minirust 1 global g align 1 { } fn f() -> r { let r: unit, x: u8; b regular: ",
+    "; exit; c cleanup: resume; d catch: goto d; e terminate: abort; } main f",
+);
+
+const AROUND_TERMINATOR: Around = (
+    "minirust 1 global g align 1 { } fn f() -> r { let r: unit, x: u8; b regular: live x; ",
+    "; c cleanup: resume; d catch: goto d; e terminate: abort; } main f",
+);
+
+const AROUND_INTRINSIC: Around = (
+    "minirust 1 global g align 1 { } fn f() -> r { let r: unit, x: u8; b regular: live x; do ",
+    "(u8 1, load(x)) -> x to b; c cleanup: resume; d catch: goto d; e terminate: abort; } main f",
+);
+
+const AROUND_ITEM: Around = (
+    "minirust 1 global g align 1 { ",
+    " } fn f() -> r { let r: unit, x: u8; b regular: live x; exit; c cleanup: resume; d catch: goto d; e terminate: abort; } main f",
+);
+
+// Each of the pieces makes a program.
+fn expect_programs(
+    rt: &(impl AllocGlobal + Abort),
+    pieces: &[&str],
+    around: Around,
+) -> Result<(), Fail> {
+    for piece in pieces {
+        let text = format!(in rt.alloc(); "{}{piece}{}", around.0, around.1)?;
+        assert_eq!(rt; outcome(rt.alloc(), text.as_str()), Ok(()), "{piece}");
     }
     Ok(())
 }
 
 #[test]
-fn values(rt: HostRuntime) -> Result<(), Fail> {
-    for value in VALUES {
-        let statement = format!(in rt.alloc(); "x = {value}")?;
-        expect_program(
-            &rt,
-            program(rt.alloc(), "u8", statement.as_str(), "exit", "")?.as_str(),
-        );
-    }
-    Ok(())
-}
-
-#[test]
-fn operators(rt: HostRuntime) -> Result<(), Fail> {
-    for operator in OPERATORS {
-        let statement = format!(in rt.alloc(); "x = {operator}(u8 1, load(x))")?;
-        expect_program(
-            &rt,
-            program(rt.alloc(), "u8", statement.as_str(), "exit", "")?.as_str(),
-        );
-    }
-    Ok(())
-}
-
-#[test]
-fn statements(rt: HostRuntime) -> Result<(), Fail> {
-    for statement in STATEMENTS {
-        expect_program(
-            &rt,
-            program(rt.alloc(), "u8", statement, "exit", "")?.as_str(),
-        );
-    }
-    Ok(())
-}
-
-#[test]
-fn terminators(rt: HostRuntime) -> Result<(), Fail> {
-    for terminator in TERMINATORS {
-        expect_program(
-            &rt,
-            program(rt.alloc(), "u8", "live x", terminator, "")?.as_str(),
-        );
-    }
-    Ok(())
-}
-
-#[test]
-fn intrinsics(rt: HostRuntime) -> Result<(), Fail> {
-    for intrinsic in INTRINSICS {
-        let terminator = format!(in rt.alloc(); "do {intrinsic}(u8 1, load(x)) -> x to b")?;
-        expect_program(
-            &rt,
-            program(rt.alloc(), "u8", "live x", terminator.as_str(), "")?.as_str(),
-        );
-    }
-    Ok(())
-}
-
-#[test]
-fn items(rt: HostRuntime) -> Result<(), Fail> {
-    for item in ITEMS {
-        expect_program(
-            &rt,
-            program(rt.alloc(), "u8", "live x", "exit", item)?.as_str(),
-        );
-    }
-    Ok(())
-}
-
-#[test]
-fn words_that_name_something(rt: HostRuntime) {
-    // A word of the grammar that isn't kept for it may be a name; a comment and any blank stand between tokens.
-    expect_program(
-        &rt,
-        "minirust 1#one\r\nfn\tfn(u8,let)->let{let let:unit,u8:u8;regular regular:exit;}main fn",
-    );
-    expect_fault(&rt, "minirust 1 fn live", 1, 15, 4);
-    expect_fault(&rt, "minirust 1 fn _", 1, 15, 4);
-    expect_program(
-        &rt,
-        "minirust 1 fn __() -> _0 { let _0: unit; a regular: exit; } main __",
-    );
+fn constructs(rt: HostRuntime) -> Result<(), Fail> {
+    expect_programs(&rt, PROGRAMS.as_slice(), ("", ""))?;
+    expect_programs(&rt, TYPES.as_slice(), AROUND_TYPE)?;
+    expect_programs(&rt, VALUES.as_slice(), AROUND_VALUE)?;
+    expect_programs(&rt, OPERATORS.as_slice(), AROUND_OPERATOR)?;
+    expect_programs(&rt, STATEMENTS.as_slice(), AROUND_STATEMENT)?;
+    expect_programs(&rt, TERMINATORS.as_slice(), AROUND_TERMINATOR)?;
+    expect_programs(&rt, INTRINSICS.as_slice(), AROUND_INTRINSIC)?;
+    expect_programs(&rt, ITEMS.as_slice(), AROUND_ITEM)
 }

@@ -1,4 +1,4 @@
-use Rattle.mr_parse.proofs.ReadsBackLaws.{reads_back}
+use Rattle.mr_parse.proofs.Canon.ReadsBackLaws.{reads_back}
 use Rattle.mr_parse.proofs.law.reads_back.Goals as goal
 
 pub returns : goal.returns

@@ -1,6 +1,6 @@
 use Rattle.std.proofs.Common.{sym, subst}
-use Rattle.mr_parse.specs.Naming.{IsSmall}
-use Rattle.mr_parse.specs.Places.{words_of}
+use Rattle.mr_words.specs.Naming.{IsSmall}
+use Rattle.mr_words.specs.Places.{words_of}
 use Rattle.mr_parse.specs.Views.{body_of_parts}
 use Rattle.mr_parse.proofs.ParseLaws.{small}
 use Rattle.mr_parse.proofs.parsing.program_in.Goals as goal

@@ -2,7 +2,7 @@ use Rattle.std.proofs.Common.{◌≡◌, ◌+◌, ◌-◌, ◌*◌, codes}
 use Rattle.mr_ast.specs.Writing.{◌▸◌, is_word}
 use Rattle.mr_ast.specs.TypeGrammar.{field_form, fields_form, variant_form, variants_form}
 use Rattle.mr_parse.specs.Reading.{read, many_at}
-use Rattle.mr_parse.proofs.LoopLaws.{with_front}
+use Rattle.mr_parse.proofs.Walk.LoopLaws.{with_front}
 use Rattle.mr_parse.proofs.reader.Reader.+types.Given as goal
 
 abbrev pub decreases-ty : goal.decreases-ty
@@ -37,6 +37,9 @@ decreases-field l = 6 * l.room + 4
 
 abbrev pub decreases-variant : goal.decreases-variant
 decreases-variant l = 6 * l.room + 4
+
+abbrev pub decreases-variant_head : goal.decreases-variant_head
+decreases-variant_head l = 6 * l.room + 3
 
 abbrev pub invariant-some_fields-loop : goal.invariant-some_fields-loop
 invariant-some_fields-loop l =

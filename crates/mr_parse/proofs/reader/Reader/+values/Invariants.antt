@@ -4,7 +4,7 @@ use Rattle.mr_ast.specs.Writing.{TheValue, ◌▸◌, is_word}
 use Rattle.mr_ast.specs.ValueGrammar.{begins_postfix, more_values_form, postfix_form, postfixes_form}
 use Rattle.mr_parse.specs.Postfixes.{with_all}
 use Rattle.mr_parse.specs.Reading.{read, read_outside, many_at}
-use Rattle.mr_parse.proofs.LoopLaws.{with_front}
+use Rattle.mr_parse.proofs.Walk.LoopLaws.{with_front}
 use Rattle.mr_parse.proofs.reader.Reader.+values.Given as goal
 
 abbrev pub decreases-value : goal.decreases-value
@@ -14,10 +14,37 @@ abbrev pub decreases-bracketed : goal.decreases-bracketed
 decreases-bracketed l = 8 * l.room + 3
 
 abbrev pub decreases-value_inside : goal.decreases-value_inside
-decreases-value_inside l = 8 * l.room + 7
+decreases-value_inside l = 8 * l.room + 9
+
+abbrev pub decreases-binary_inside : goal.decreases-binary_inside
+decreases-binary_inside l = 8 * l.room + 7
+
+abbrev pub decreases-value_and_comma : goal.decreases-value_and_comma
+decreases-value_and_comma l = 8 * l.room + 6
 
 abbrev pub decreases-typed_inside : goal.decreases-typed_inside
-decreases-typed_inside l = 8 * l.room + 6
+decreases-typed_inside l = 8 * l.room + 8
+
+abbrev pub decreases-tuple_inside : goal.decreases-tuple_inside
+decreases-tuple_inside l = 8 * l.room + 7
+
+abbrev pub decreases-address_inside : goal.decreases-address_inside
+decreases-address_inside l = 8 * l.room + 7
+
+abbrev pub decreases-transmuted_inside : goal.decreases-transmuted_inside
+decreases-transmuted_inside l = 8 * l.room + 7
+
+abbrev pub decreases-union_inside : goal.decreases-union_inside
+decreases-union_inside l = 8 * l.room + 7
+
+abbrev pub decreases-variant_inside : goal.decreases-variant_inside
+decreases-variant_inside l = 8 * l.room + 7
+
+abbrev pub decreases-field_and_value : goal.decreases-field_and_value
+decreases-field_and_value l = 8 * l.room + 6
+
+abbrev pub decreases-number_and_value : goal.decreases-number_and_value
+decreases-number_and_value l = 8 * l.room + 6
 
 abbrev pub decreases-boxed_value : goal.decreases-boxed_value
 decreases-boxed_value l = 8 * l.room + 5

@@ -1,5 +1,5 @@
 use Rattle.std.proofs.Common.{◌∙◌, arith}
-use Rattle.mr_parse.proofs.PlaceLaws.{words_next, none_past}
+use Rattle.mr_words.proofs.PlaceLaws.{words_next, none_past}
 use Rattle.mr_parse.proofs.reader.Reader.advance.Goals as goal
 
 pub returns-then-self-len : goal.returns-then-self-len

@@ -3,7 +3,7 @@ use Rattle.mr_ast.specs.ProgramGrammar.{body_form}
 use Rattle.mr_parse.specs.Gives.{Gives}
 use Rattle.mr_parse.specs.Reading.{read}
 use Rattle.mr_parse.specs.Views.{named}
-use Rattle.mr_parse.proofs.FunctionLaws.{function_reads}
+use Rattle.mr_parse.proofs.Walk.FunctionLaws.{function_reads}
 use Rattle.mr_parse.proofs.reader.Reader.function.Goals as goal
 
 pub returns : goal.returns

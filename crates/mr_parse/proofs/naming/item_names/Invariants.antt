@@ -1,7 +1,0 @@
-use Rattle.std.proofs.Common.{◌≡◌, ◌≤◌, ◌+◌, ◌++◌, length, map, take}
-use Rattle.mr_ast.specs.Scope.{FunctionNames, each_once}
-use Rattle.mr_parse.proofs.naming.item_names.Given as goal
-
-abbrev pub invariant-loop-function : goal.invariant-loop-function
-invariant-loop-function l =
-    (l.names ≡ each_once (l.definitions.globals ++ map (λ (f : FunctionNames). f.name) (take l.function-index l.functions))) × (length l.names ≤ 256 + l.function-index)

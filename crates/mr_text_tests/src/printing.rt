@@ -1,0 +1,178 @@
+//! The canonical text of programs that are written in another way.
+use mr_ast::Program;
+use mr_parse::parse;
+use mr_print::print;
+use std::alloc::Global;
+use std::string::String;
+use std::test::Fail;
+
+// The canonical text of a program, behind what the output held.
+fn printed(alloc: Global, program: &Program) -> Result<String, Fail> {
+    let mut out = Vec::from_slice(alloc, b"# ")?;
+    print(alloc, program, &mut out)?;
+    Ok(String::from_utf8_lossy(alloc, out.as_slice())?)
+}
+
+// The canonical text of the program that a text denotes.
+fn canonical(alloc: Global, text: &str) -> Result<String, Fail> {
+    match parse(alloc, text.as_bytes()) {
+        Ok(program) => printed(alloc, &program),
+        Err(_) => Err("no program".into()),
+    }
+}
+
+// The lines, each with LF behind it.
+fn text_of(alloc: Global, front: &str, lines: &[&str]) -> Result<String, Fail> {
+    let mut text = String::from_str(alloc, front)?;
+    for line in lines {
+        text.push_str(line)?;
+        text.push_str("\n")?;
+    }
+    Ok(text)
+}
+
+// The smallest program, as it may be written and in its canonical text.
+const SMALLEST: &str =
+    "minirust 1 fn main()->r{let r:tuple size 0 align 1{};b0 regular:exit;}main main";
+
+const SMALLEST_LINES: [&str; 7] = [
+    "minirust 1",
+    "fn main ( ) -> r {",
+    "let r : unit ;",
+    "b0 regular :",
+    "exit ;",
+    "}",
+    "main main",
+];
+
+// A program with every construct, with blanks only where they are needed, and repeats of 1.
+const EVERY_CONSTRUCT: [&str; 54] = [
+    "minirust 1#the first edition\r",
+    "global g align 8{7*1\t9*2?*1?*1048576&h+0&f+8}",
+    "global h align 1{}",
+    "fn f(x,y)->r{",
+    "let x:u8,y:i128,r:unit,t:tuple size 16 align 8{0:bool,8:raw},a:array(3,fnptr),u:union size 16 align 8{0:ref 4 2 never,8:ref 8 1}chunks{0 4,8 3},e:enum size 2 align 1 disc i8{-128:tuple size 2 align 1{}tag{0:u8=1,1:i8=-1},0:unit tag{}}branch 0 u8{1=>known-128,_=>invalid};",
+    "b0 regular:",
+    "deref(raw 4096,i8)=i8-128;",
+    "t.1=global h+8;",
+    "a[load(x)]=fn f;",
+    "e@-128=tuple(unit,u8 1,false);",
+    "exit;",
+    "b1 cleanup:",
+    "x=union(unit,1,true);",
+    "x=variant(unit,-3,u8 2);",
+    "x=disc(e);",
+    "x=addrof(raw,y);",
+    "x=cast(u16,u8 3);",
+    "x=transmute(bool,u8 4);",
+    "x=add_unchecked(neg(u8 5),u8 6);",
+    "exit;",
+    "b2 catch:",
+    "live t;",
+    "dead a;",
+    "mention x;",
+    "disc e=-128;",
+    "deinit y;",
+    "validate r;",
+    "exit;",
+    "b3 terminate:",
+    "goto b1;",
+    "b4 terminate:",
+    "switch u8 0{1=>b0,-2=>b1,_=>b1};",
+    "b5 terminate:",
+    "unreachable;",
+    "b6 terminate:",
+    "return;",
+    "b7 terminate:",
+    "abort;",
+    "b8 terminate:",
+    "resume;",
+    "b9 terminate:",
+    "stop to b0;",
+    "b10 terminate:",
+    "unwind raw 0 to b1;",
+    "b11 terminate:",
+    "call fn f()->r;",
+    "b12 terminate:",
+    "call fn f(u8 1,u8 2)->r to b0 unwind b1;",
+    "b13 terminate:",
+    "do print(u8 3)to b0;",
+    "b14 terminate:",
+    "do create_lock()->x to b1;",
+    "}",
+    "main f",
+];
+
+// Its canonical text.
+const EVERY_CONSTRUCT_LINES: [&str; 54] = [
+    "minirust 1",
+    "global g align 8 { 7 9 * 2 ? ? * 1048576 & h + 0 & f + 8 }",
+    "global h align 1 { }",
+    "fn f ( x , y ) -> r {",
+    "let x : u8 , y : i128 , r : unit , t : tuple size 16 align 8 { 0 : bool , 8 : raw } , a : array ( 3 , fnptr ) , u : union size 16 align 8 { 0 : ref 4 2 never , 8 : ref 8 1 } chunks { 0 4 , 8 3 } , e : enum size 2 align 1 disc i8 { - 128 : tuple size 2 align 1 { } tag { 0 : u8 = 1 , 1 : i8 = - 1 } , 0 : unit tag { } } branch 0 u8 { 1 => known - 128 , _ => invalid } ;",
+    "b0 regular :",
+    "deref ( raw 4096 , i8 ) = i8 - 128 ;",
+    "t . 1 = global h + 8 ;",
+    "a [ load ( x ) ] = fn f ;",
+    "e @ - 128 = tuple ( unit , u8 1 , false ) ;",
+    "exit ;",
+    "b1 cleanup :",
+    "x = union ( unit , 1 , true ) ;",
+    "x = variant ( unit , - 3 , u8 2 ) ;",
+    "x = disc ( e ) ;",
+    "x = addrof ( raw , y ) ;",
+    "x = cast ( u16 , u8 3 ) ;",
+    "x = transmute ( bool , u8 4 ) ;",
+    "x = add_unchecked ( neg ( u8 5 ) , u8 6 ) ;",
+    "exit ;",
+    "b2 catch :",
+    "live t ;",
+    "dead a ;",
+    "mention x ;",
+    "disc e = - 128 ;",
+    "deinit y ;",
+    "validate r ;",
+    "exit ;",
+    "b3 terminate :",
+    "goto b1 ;",
+    "b4 terminate :",
+    "switch u8 0 { 1 => b0 , - 2 => b1 , _ => b1 } ;",
+    "b5 terminate :",
+    "unreachable ;",
+    "b6 terminate :",
+    "return ;",
+    "b7 terminate :",
+    "abort ;",
+    "b8 terminate :",
+    "resume ;",
+    "b9 terminate :",
+    "stop to b0 ;",
+    "b10 terminate :",
+    "unwind raw 0 to b1 ;",
+    "b11 terminate :",
+    "call fn f ( ) -> r ;",
+    "b12 terminate :",
+    "call fn f ( u8 1 , u8 2 ) -> r to b0 unwind b1 ;",
+    "b13 terminate :",
+    "do print ( u8 3 ) to b0 ;",
+    "b14 terminate :",
+    "do create_lock ( ) -> x to b1 ;",
+    "}",
+    "main f",
+];
+
+#[test]
+fn canonical_texts(rt: HostRuntime) -> Result<(), Fail> {
+    let smallest = text_of(rt.alloc(), "# ", SMALLEST_LINES.as_slice())?;
+    assert_eq!(rt;
+        canonical(rt.alloc(), SMALLEST)?.as_str(),
+        smallest.as_str()
+    );
+    let written = text_of(rt.alloc(), "", EVERY_CONSTRUCT.as_slice())?;
+    let every_construct = text_of(rt.alloc(), "# ", EVERY_CONSTRUCT_LINES.as_slice())?;
+    assert_eq!(rt;
+        canonical(rt.alloc(), written.as_str())?.as_str(),
+        every_construct.as_str()
+    );
+    Ok(())
+}

@@ -1,0 +1,6 @@
+pub mod BracketCounts
+pub mod EndLaws
+pub mod NamingLaws
+pub mod PlaceLaws
+pub mod ScopeLaws
+pub mod TextLaws

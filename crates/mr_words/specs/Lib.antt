@@ -1,0 +1,6 @@
+pub mod Brackets
+pub mod Defined
+pub mod Naming
+pub mod Numbers
+pub mod Places
+pub mod TextFaults
