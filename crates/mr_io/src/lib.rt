@@ -27,6 +27,3 @@ pub use sqlite_items::Items;
 pub use std::alloc::AllocError as OutOfMemory;
 pub use text::Text;
 pub use tray::Tray;
-
-#[cfg(test)]
-mod tests;

@@ -1,0 +1,43 @@
+use Rattle.std.proofs.Common.{subst}
+use Rattle.std.specs.Prelude.{Option}
+use Rattle.mr_io.specs.Counts.{Rose}
+use Rattle.mr_command.specs.Command.{Command}
+use Rattle.mr_command.specs.Outcome.{Ends}
+use Rattle.mr_command.proofs.HeadlineLaws.{of_machine, canonical_told, fault_told, form_told, unbuilt_told, unless_faults}
+use Rattle.mr_command.proofs.UnreadLaws.{unread_because}
+use Rattle.mr_command.proofs.mirace.Goals as goal
+
+pub returns-in-Some-clause-ends : goal.returns-in-Some-clause-ends
+returns-in-Some-clause-ends g c = λ contents told.
+    let E : Option Command → Type 0 = λ command.
+    Ends contents command (Rose (g.F.Files.faults c.args.files.now) (g.F.Files.faults c.obey.new.files))
+    (Rose (g.O.Sink.faults c.args.out.now) (g.O.Sink.faults c.obey.new.out)) (g.O.Sink.taken c.args.out.now) (g.O.Sink.taken c.obey.new.out) c.obey.result in
+    subst E c.in-Some.ensures (c.obey.ensures.ends contents told)
+
+pub returns-in-Some-clause-headline : goal.returns-in-Some-clause-headline
+returns-in-Some-clause-headline g c = λ contents p w told names.
+    of_machine contents _ _ _ _ _ _ p w names (returns-in-Some-clause-ends g c contents told)
+
+pub returns-in-Some-clause-complete : goal.returns-in-Some-clause-complete
+returns-in-Some-clause-complete g c = λ contents p w told names.
+    unless_faults p w _ _ _ _ _ (returns-in-Some-clause-headline g c contents p w told names)
+
+pub returns-in-Some-clause-canonical : goal.returns-in-Some-clause-canonical
+returns-in-Some-clause-canonical g c = λ contents p told checks.
+    canonical_told contents _ _ _ _ _ _ p checks (returns-in-Some-clause-ends g c contents told)
+
+pub returns-in-Some-clause-text_fault : goal.returns-in-Some-clause-text_fault
+returns-in-Some-clause-text_fault g c = λ contents fault told names.
+    fault_told contents _ _ _ _ _ _ fault names (returns-in-Some-clause-ends g c contents told)
+
+pub returns-in-Some-clause-form : goal.returns-in-Some-clause-form
+returns-in-Some-clause-form g c = λ contents p fault told names.
+    form_told contents _ _ _ _ _ _ p fault names (returns-in-Some-clause-ends g c contents told)
+
+pub returns-in-Some-clause-not_built : goal.returns-in-Some-clause-not_built
+returns-in-Some-clause-not_built g c = λ contents p told runs.
+    unbuilt_told contents _ _ _ _ _ _ p runs (returns-in-Some-clause-ends g c contents told)
+
+pub returns-in-Some-clause-read_fault : goal.returns-in-Some-clause-read_fault
+returns-in-Some-clause-read_fault g c = λ six.
+    unread_because _ _ _ _ _ _ six _ (λ untold. c.obey.ensures.untold untold six) (returns-in-Some-clause-ends g c)
