@@ -1,5 +1,6 @@
 -- How a command that was answered ends.
-use Rattle.std.proofs.Common.{◌≡◌, ℕ, ap, sym, List, ◌⊎◌, inl, inr, refl}
+use Rattle.std.proofs.Common.{◌≡◌, ℕ, ◌+◌, ap, ◌∙◌, sym, arith, List, ◌++◌, length, ◌⊎◌, inl, inr, refl}
+use Rattle.std.proofs.lemmas.List.{length-append}
 use Rattle.std.specs.Prelude.{Some, Option, Result, Ok, Err}
 use Rattle.mr_io.specs.Files.{Contents}
 use Rattle.mr_command.specs.declared.answer.Written.{Written}
@@ -9,6 +10,7 @@ use Rattle.mr_command.specs.Command.{Command, Run, Check}
 use Rattle.mr_command.specs.Answer.{Answer, answer_of, refused}
 use Rattle.mr_command.specs.Answering.{IsAnswered, Tells, seen}
 use Rattle.mr_command.specs.Outcome.{Ends, IsLeft, IsPossible, IsRefusedOrLeft, IsWritten}
+use Rattle.mr_command.specs.Report.{refusal_text}
 
 -- a refusal is what the answer says, unless memory ran out
 refusal_told : (answer : Answer) (r : Refusal) → Tells answer (Err r) → (r ≡ refusal.Memory) ⊎ (answer ≡ refused r)
@@ -64,3 +66,34 @@ module _ (files : Contents) (files_rose out_rose : Type 0) (old new : Option (Li
       go defined (inl left) = inl left
       go (inl memory) (inr written) = absurd (written.0 memory)
       go (inr possible) (inr written) = inr (refused r, possible, written.1)
+
+-- ---- which file was not read
+
+same_some : {A : Type 0} {x y : A} → Some x ≡ Some y → x ≡ y
+same_some e = cc
+
+-- the lines of the two reads that fail have 13 and 14 bytes
+other_line : (taken : List ℕ) → ◌≡◌ {A = Option (List ℕ)} (Some (taken ++ refusal_text refusal.ReadSchedule)) (Some (taken ++ refusal_text refusal.ReadProgram)) → ⊥
+other_line taken e =
+    let schedule : length (taken ++ refusal_text refusal.ReadSchedule) ≡ length taken + 14 = length-append taken (refusal_text refusal.ReadSchedule) in
+    let program : length (taken ++ refusal_text refusal.ReadProgram) ≡ length taken + 13 = length-append taken (refusal_text refusal.ReadProgram) in
+    let same : length (taken ++ refusal_text refusal.ReadSchedule) ≡ length (taken ++ refusal_text refusal.ReadProgram) = ap length (same_some e) in
+    absurd (omega arith)
+
+module _ (rose : Type 0) (taken : List ℕ) (new : Option (List ℕ)) (status : ℕ) (six : status ≡ 6) (line : new ≡ Some (taken ++ refusal_text refusal.ReadProgram)) where
+  -- where a read of the program is told, that is what refuses
+  pub program_unread : (r : Refusal) → IsRefusedOrLeft r rose (Some taken) new status → r ≡ refusal.ReadProgram
+  program_unread refusal.ReadProgram h = refl
+  program_unread refusal.Memory h = let eight = h.0 in absurd (omega arith)
+  program_unread (refusal.Text at col code) (inl h) = let eight = h.0 in absurd (omega arith)
+  program_unread (refusal.Text at col code) (inr (inl h)) = let three : status ≡ 3 = h.0 in absurd (omega arith)
+  program_unread (refusal.Text at col code) (inr (inr h)) = let seven = h.0 in absurd (omega arith)
+  program_unread refusal.NotBuilt (inl h) = let eight = h.0 in absurd (omega arith)
+  program_unread refusal.NotBuilt (inr (inl h)) = let three : status ≡ 3 = h.0 in absurd (omega arith)
+  program_unread refusal.NotBuilt (inr (inr h)) = let seven = h.0 in absurd (omega arith)
+  program_unread refusal.ReadSchedule (inl h) = let eight = h.0 in absurd (omega arith)
+  program_unread refusal.ReadSchedule (inr (inl h)) = absurd (other_line taken (sym h.1 ∙ line))
+  program_unread refusal.ReadSchedule (inr (inr h)) = let seven = h.0 in absurd (omega arith)
+  program_unread (refusal.Schedule at code earlier) (inl h) = let eight = h.0 in absurd (omega arith)
+  program_unread (refusal.Schedule at code earlier) (inr (inl h)) = let five : status ≡ 5 = h.0 in absurd (omega arith)
+  program_unread (refusal.Schedule at code earlier) (inr (inr h)) = let seven = h.0 in absurd (omega arith)

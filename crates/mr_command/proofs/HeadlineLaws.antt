@@ -10,9 +10,9 @@ use Rattle.mr_parse.specs.Denotes.{Denotes}
 use Rattle.mr_parse.specs.Faults.{FirstFault}
 use Rattle.mr_parse.proofs.ParsingLaws.{denotes_parsed, fault_parsed}
 use Rattle.mr_sched.specs.declared.schedule.Schedule.{Schedule}
-use Rattle.mr_sched.proofs.TextLaws.{schedule_again}
+use Rattle.mr_sched.proofs.TextLaws.{schedule_again, schedule_fails_at}
 use Rattle.mr_step.specs.Built.{Built}
-use Rattle.mr_step.specs.Start.{run_of}
+use Rattle.mr_step.specs.Start.{PlacedFault, run_of}
 use Rattle.mr_step.proofs.BuiltLaws.{built_told, not_built_told}
 use Rattle.mr_step.proofs.RunLaws.{no_schedule_fault}
 use Rattle.mr_step.proofs.SoundRuns.{sound_run}
@@ -23,7 +23,7 @@ use Rattle.mr_command.specs.Command.{Command, Run, Check}
 use Rattle.mr_command.specs.Answer.{Answer, program_in, if_built, built_in, schedule_in, denoted, spelled, text_refusal, legal_run, unless_broken, canonical, check_answer, form_answer, form_or, refused, report_under, reported, run_answer, told, answer_of, ◌>>=◌}
 use Rattle.mr_command.specs.Report.{verdict_status}
 use Rattle.mr_command.specs.Outcome.{Ends, RanOut, IsLeft, IsPossible, IsUnread, IsWritten}
-use Rattle.mr_command.specs.Headline.{ChecksProgram, Names, NamesBroken, NamesFault, RunsUnbuilt, IsOfMachine, IsTold}
+use Rattle.mr_command.specs.Headline.{ChecksProgram, Names, NamesBroken, NamesBrokenSchedule, NamesFault, NamesScheduleFault, RunsProgram, RunsUnbuilt, IsOfMachine, IsTold}
 use Rattle.mr_command.proofs.AnswerLaws.{first_told}
 
 -- ---- what a file holds
@@ -43,7 +43,7 @@ unbuilt_program p none = ap (λ (b : Bool). if b then Ok p else Err refusal.NotB
 -- ---- the answers by definition
 
 -- a well-formed program and a legal schedule are answered by the report of their run
-named_answer : (files : Contents) (command : Option Command) (p : Program) (w : Schedule) → Names files command p w → answer_of files command ≡ reported (run_of p w)
+pub named_answer : (files : Contents) (command : Option Command) (p : Program) (w : Schedule) → Names files command p w → answer_of files command ≡ reported (run_of p w)
 named_answer files command p w h =
     let program : built_in (files h.program_name) ≡ Ok p =
     ap (λ r. r >>= if_built) (denoted_in (files h.program_name) h.program_text p h.program_there h.denotes) ∙ built_program p h.built in
@@ -56,7 +56,7 @@ named_answer files command p w h =
     ∙ ap (told reported) legal
 
 -- a well-formed program that is checked is answered by its canonical text
-checked_answer : (files : Contents) (command : Option Command) (p : Program) → ChecksProgram files command p → answer_of files command ≡ canonical p
+pub checked_answer : (files : Contents) (command : Option Command) (p : Program) → ChecksProgram files command p → answer_of files command ≡ canonical p
 checked_answer files command p h =
     ap (answer_of files) h.is_check
     ∙ ap (told check_answer) (denoted_in (files h.name) h.text p h.there h.denotes)
@@ -95,6 +95,33 @@ broken_answer files command p fault h = go h.judges
         ∙ ap (told (run_answer (files schedule))) (built_program p built)
         ∙ first_told p (faults_of p) fault (report_under (files schedule) p) h.first
 
+-- a well-formed program that is run is answered by what its schedule's file gives
+run_answer_of : (files : Contents) (command : Option Command) (p : Program) (schedule : List ℕ) → RunsProgram files command p schedule
+    → answer_of files command ≡ report_under (files schedule) p
+run_answer_of files command p schedule h =
+    let program : built_in (files h.name) ≡ Ok p =
+    ap (λ r. r >>= if_built) (denoted_in (files h.name) h.text p h.there h.denotes) ∙ built_program p h.built in
+    ap (answer_of files) h.is_run
+    ∙ ap (told (run_answer (files schedule))) program
+    ∙ ap (λ faults. form_or p faults (report_under (files schedule) p)) h.well_formed.unbroken
+
+-- the first fault of a schedule's text is told
+schedule_fault_answer : (files : Contents) (command : Option Command) (line code : ℕ) → NamesScheduleFault files command line code
+    → answer_of files command ≡ refused (refusal.Schedule line code None)
+schedule_fault_answer files command line code h =
+    run_answer_of files command h.program h.schedule_name h.runs
+    ∙ ap (λ file. report_under file h.program) h.there
+    ∙ ap (λ r. told reported (spelled r >>= legal_run h.program)) (schedule_fails_at h.text line code h.first)
+
+-- the first rule that a schedule breaks is told
+broken_schedule_answer : (files : Contents) (command : Option Command) (fault : PlacedFault) → NamesBrokenSchedule files command fault
+    → answer_of files command ≡ refused (refusal.Schedule fault.line fault.fault.code fault.fault.earlier)
+broken_schedule_answer files command fault h =
+    run_answer_of files command h.program h.schedule_name h.runs
+    ∙ ap (λ file. report_under file h.program) h.there
+    ∙ ap (λ r. told reported (spelled r >>= legal_run h.program)) (schedule_again h.text h.schedule h.schedules)
+    ∙ ap (λ f. told reported (unless_broken f (run_of h.program h.schedule))) h.first
+
 -- ---- how a call ends
 
 pub ran_out : (command : Option Command) (old new : Option (List ℕ)) (status : ℕ) → RanOut command old new status → IsLeft old new status
@@ -102,7 +129,7 @@ ran_out None old new status h = absurd h
 ran_out (Some c) old new status h = h
 
 -- the status of the line of a read that failed
-unread_status : (files : Contents) (command : Option Command) (a : Answer) → IsUnread files command a → a.status ≡ 6
+pub unread_status : (files : Contents) (command : Option Command) (a : Answer) → IsUnread files command a → a.status ≡ 6
 unread_status files None a h = absurd h
 unread_status files (Some (Run program schedule)) a (inl h) = ap (λ (b : Answer). b.status) h
 unread_status files (Some (Run program schedule)) a (inr h) = ap (λ (b : Answer). b.status) h.3
@@ -149,6 +176,15 @@ module _ (files : Contents) (command : Option Command) (files_rose out_rose : Ty
   pub unbuilt_told : (p : Program) → RunsUnbuilt files command p → Ends files command files_rose out_rose old new status
       → IsTold (refused refusal.NotBuilt) files_rose out_rose old new status
   unbuilt_told p h e = ends_told (refused refusal.NotBuilt) (unbuilt_answer files command p h) e
+
+  pub schedule_fault_told : (line code : ℕ) → NamesScheduleFault files command line code → Ends files command files_rose out_rose old new status
+      → IsTold (refused (refusal.Schedule line code None)) files_rose out_rose old new status
+  schedule_fault_told line code h e = ends_told (refused (refusal.Schedule line code None)) (schedule_fault_answer files command line code h) e
+
+  pub broken_schedule_told : (fault : PlacedFault) → NamesBrokenSchedule files command fault → Ends files command files_rose out_rose old new status
+      → IsTold (refused (refusal.Schedule fault.line fault.fault.code fault.fault.earlier)) files_rose out_rose old new status
+  broken_schedule_told fault h e =
+      ends_told (refused (refusal.Schedule fault.line fault.fault.code fault.fault.earlier)) (broken_schedule_answer files command fault h) e
 
 pub at_most_one : (v : Verdict) → verdict_status v ≤ 1
 at_most_one verdict.Running = omega arith

@@ -4,6 +4,7 @@ pub mod Examples
 pub mod HeadlineLaws
 pub mod InputLaws
 pub mod NameLaws
+pub mod OnlyLaws
 pub mod PrintLaws
 pub mod RunLaws
 pub mod UnreadLaws

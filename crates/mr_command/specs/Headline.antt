@@ -1,20 +1,21 @@
 -- The headline: of a program and a legal schedule of it the report is what the machine comes to, and the machine always has a rule.
 -- And what is said of a program's text, by what it denotes or breaks.
-use Rattle.std.specs.Prelude.{◌≡◌, ℕ, ◌⊎◌, List, Option, None, Some}
+use Rattle.std.specs.Prelude.{◌≡◌, ℕ, ◌⊎◌, List, [], Option, None, Some, Ok}
 use Rattle.mr_ast.specs.declared.program.Program.{Program}
 use Rattle.mr_io.specs.Files.{Contents}
 use Rattle.mr_lex.specs.declared.token.TextFault.{TextFault}
 use Rattle.mr_parse.specs.Denotes.{Denotes}
 use Rattle.mr_parse.specs.Faults.{FirstFault}
 use Rattle.mr_sched.specs.declared.schedule.Schedule.{Schedule}
+use Rattle.mr_sched.specs.Faults.{FirstFault as FirstScheduleFault}
 use Rattle.mr_sched.specs.Spelling.{Schedules}
 use Rattle.mr_step.specs.Built.{Built}
-use Rattle.mr_step.specs.Start.{Legal, IsSoundRun, run_of}
+use Rattle.mr_step.specs.Start.{Legal, IsSoundRun, PlacedFault, run_of, schedule_fault}
 use Rattle.mr_wf.specs.declared.fault.FormFault.{FormFault}
-use Rattle.mr_wf.specs.Walk.{FirstBroken, WellFormed}
+use Rattle.mr_wf.specs.Walk.{FirstBroken, WellFormed, faults_of}
 use Rattle.mr_command.specs.Command.{Command, Run, Check, NamesProgram}
-use Rattle.mr_command.specs.Answer.{Answer, reported}
-use Rattle.mr_command.specs.Outcome.{IsLeft, IsWritten}
+use Rattle.mr_command.specs.Answer.{Answer, built_in, canonical, reported}
+use Rattle.mr_command.specs.Outcome.{IsLeft, IsWhole, IsWritten}
 
 -- a read failed and was told, or the write of that failed
 abbrev pub IsReadFault : Type 0 → ℕ → Type 0
@@ -47,6 +48,41 @@ pub record IsOfMachine (p : Program) (w : Schedule) (files_rose out_rose : Type 
   pub sound : IsSoundRun p w
   pub report : IsTold (reported (run_of p w)) files_rose out_rose old new status
 
+-- The files denote a well-formed program that is built, and a legal schedule of it; and the whole report of that run was written.
+abbrev pub ReportsLegalRun : Contents → Option Command → Option (List ℕ) → Option (List ℕ) → ℕ → Type 0
+ReportsLegalRun files command old new status =
+    (p : Program) × (w : Schedule) × Names files command p w × IsWhole (reported (run_of p w)) old new status
+
+-- The command is to run a file whose text denotes the program, which is built and well-formed, under a file of this name.
+pub record RunsProgram (files : Contents) (command : Option Command) (p : Program) (schedule_name : List ℕ) : Type 0 where
+  pub name : List ℕ
+  pub is_run : command ≡ Some (Run name schedule_name)
+  pub text : List ℕ
+  pub there : files name ≡ Some text
+  pub denotes : Denotes text p
+  pub built : Built p
+  pub well_formed : WellFormed p
+
+-- Such a program is run under a file whose text has its first fault as a schedule on this line, with this code.
+pub record NamesScheduleFault (files : Contents) (command : Option Command) (line code : ℕ) : Type 0 where
+  pub program : Program
+  pub schedule_name : List ℕ
+  pub runs : RunsProgram files command program schedule_name
+  pub text : List ℕ
+  pub there : files schedule_name ≡ Some text
+  pub first : FirstScheduleFault text line code
+
+-- Such a program is run under a file whose text is that of a schedule, and this is the first rule that the schedule breaks.
+pub record NamesBrokenSchedule (files : Contents) (command : Option Command) (fault : PlacedFault) : Type 0 where
+  pub program : Program
+  pub schedule_name : List ℕ
+  pub runs : RunsProgram files command program schedule_name
+  pub text : List ℕ
+  pub there : files schedule_name ≡ Some text
+  pub schedule : Schedule
+  pub schedules : Schedules text schedule
+  pub first : schedule_fault program schedule ≡ Some fault
+
 -- ---- texts
 
 -- the command is to check a file whose text denotes the program, which is well-formed
@@ -57,6 +93,11 @@ pub record ChecksProgram (files : Contents) (command : Option Command) (p : Prog
   pub there : files name ≡ Some text
   pub denotes : Denotes text p
   pub well_formed : WellFormed p
+
+-- A file denotes a well-formed program; and its whole canonical text was written.
+abbrev pub WritesCanonical : Contents → Option Command → Option (List ℕ) → Option (List ℕ) → ℕ → Type 0
+WritesCanonical files command old new status =
+    (p : Program) × ChecksProgram files command p × IsWhole (canonical p) old new status
 
 -- the command names a file of a program whose text has this first fault
 pub record NamesFault (files : Contents) (command : Option Command) (fault : TextFault) : Type 0 where
@@ -86,6 +127,10 @@ pub record NamesBroken (files : Contents) (command : Option Command) (p : Progra
   pub first : FirstBroken p fault
 
 -- ---- files that were not read
+
+-- The file's text denotes a program that is built and breaks no rule: only then its schedule is read.
+abbrev pub AsksForSchedule : Option (List ℕ) → Type 0
+AsksForSchedule file = (p : Program) × (built_in file ≡ Ok p) × (faults_of p ≡ [])
 
 -- a file that the command names isn't there
 abbrev pub LacksFile : Contents → Option Command → Type 0

@@ -31,10 +31,14 @@ IsUnread files (Some (Check program)) a = a ≡ refused refusal.ReadProgram
 abbrev pub IsPossible : Contents → Option Command → Type 0 → Answer → Type 0
 IsPossible files command rose a = (a ≡ answer_of files command) ⊎ (rose × IsUnread files command a)
 
+-- The sink took the whole text of an answer, and the status is the answer's.
+abbrev pub IsWhole : Answer → Option (List ℕ) → Option (List ℕ) → ℕ → Type 0
+IsWhole a old new status = (status ≡ a.status) × (new ≡ append_known old a.text)
+
 -- The sink took the whole text, and the status is the answer's; or the count of its faults rose, and it took a part from the front that is not the whole.
 abbrev pub IsWritten : Answer → Type 0 → Option (List ℕ) → Option (List ℕ) → ℕ → Type 0
 IsWritten a rose old new status =
-    ((status ≡ a.status) × (new ≡ append_known old a.text))
+    IsWhole a old new status
     ⊎ ((status ≡ 7) × rose × ((n : ℕ) × (n < length a.text) × (new ≡ append_known old (take n a.text))))
 
 -- memory ran out before anything was written, which comes for no words without a form

@@ -1,11 +1,13 @@
-ghost use Rattle.std.specs.Prelude.{◌≡◌, ◌+◌, ◌^◌, ◌≤◌, None, Some, Ok, length, IfOk};
+ghost use Rattle.std.specs.Prelude.{◌≡◌, ◌+◌, ◌^◌, ◌≤◌, ℕ, List, [], None, Some, Ok, Err, length, IfOk};
 ghost use Rattle.mr_io.specs.Counts.{Rose};
 ghost use Rattle.mr_io.specs.Files.{Contents};
 ghost use Rattle.mr_ast.specs.Shaped.{Shaped};
 ghost use Rattle.mr_step.specs.Built.{Built};
-ghost use Rattle.mr_command.specs.Answer.{canonical, check_answer, form_answer, legal_run, report_under, reported, told};
+ghost use Rattle.mr_wf.specs.Walk.{faults_of};
+ghost use Rattle.mr_command.specs.Answer.{canonical, check_answer, form_answer, if_built, legal_run, report_under, reported, told};
 ghost use Rattle.mr_command.specs.Answering.{IsAnswered, IsChecked, IsFormOrReport, IsReported, IsRunOrUnread, IsStatus, Tells, TellsOrUnread};
-ghost use Rattle.mr_command.specs.Command.{asked, named_files};
+ghost use Rattle.mr_command.specs.Command.{asked, named_files, NamesProgram};
+ghost use Rattle.mr_command.specs.Headline.{AsksForSchedule};
 ghost use Rattle.mr_command.specs.Outcome.{IsUnreadFault};
 
 use crate::command::Command;
@@ -35,6 +37,10 @@ pub fn answer<F: Files>(
 ) -> Result<Written, Refusal>
     ensures same { F.told files.new ≡ F.told files.old }
     ensures reads { F.reads files.new ≤ F.reads files.old + named_files (Some (asked command.entry)) }
+    ensures once { (contents : Contents) (program : List ℕ) → F.told files.old ≡ Some contents
+        → NamesProgram (Some (asked command.entry)) program → ¬ AsksForSchedule (contents program)
+        → F.reads files.new ≤ F.reads files.old + 1 }
+    ensures first { result ≡ Err Refusal.ReadProgram → F.reads files.new ≤ F.reads files.old + 1 }
     ensures faults { F.faults files.old ≤ F.faults files.new }
     ensures answer { (contents : Contents) → F.told files.old ≡ Some contents
         → IsAnswered contents (asked command.entry) (Rose (F.faults files.old) (F.faults files.new)) result }
@@ -57,6 +63,9 @@ fn report_files<F: Files>(
 ) -> Result<Written, Refusal>
     ensures same { F.told files.new ≡ F.told files.old }
     ensures reads { F.reads files.new ≤ F.reads files.old + 2 }
+    ensures once { (contents : Contents) → F.told files.old ≡ Some contents → ¬ AsksForSchedule (contents program.now)
+        → F.reads files.new ≤ F.reads files.old + 1 }
+    ensures first { result ≡ Err Refusal.ReadProgram → F.reads files.new ≤ F.reads files.old + 1 }
     ensures faults { F.faults files.old ≤ F.faults files.new }
     ensures answer { (contents : Contents) → F.told files.old ≡ Some contents
         → IsReported contents program.now schedule.now (Rose (F.faults files.old) (F.faults files.new)) result }
@@ -80,6 +89,8 @@ fn report_program<F: Files>(
     requires { Shaped p }
     ensures same { F.told files.new ≡ F.told files.old }
     ensures reads { F.reads files.new ≤ F.reads files.old + 1 }
+    ensures none { ¬ ((if_built p ≡ Ok p) × (faults_of p ≡ [])) → F.reads files.new ≤ F.reads files.old }
+    ensures second { ¬ result ≡ Err Refusal.ReadProgram }
     ensures faults { F.faults files.old ≤ F.faults files.new }
     ensures answer { (contents : Contents) → F.told files.old ≡ Some contents
         → IsRunOrUnread (Rose (F.faults files.old) (F.faults files.new))
@@ -106,6 +117,8 @@ fn report_built<F: Files>(
     requires built { Built p }
     ensures same { F.told files.new ≡ F.told files.old }
     ensures reads { F.reads files.new ≤ F.reads files.old + 1 }
+    ensures none { ¬ faults_of p ≡ [] → F.reads files.new ≤ F.reads files.old }
+    ensures second { ¬ result ≡ Err Refusal.ReadProgram }
     ensures faults { F.faults files.old ≤ F.faults files.new }
     ensures answer { (contents : Contents) → F.told files.old ≡ Some contents
         → IsFormOrReport (Rose (F.faults files.old) (F.faults files.new))
@@ -131,6 +144,7 @@ fn report_schedule<F: Files>(
     requires { Built p.now }
     ensures same { F.told files.new ≡ F.told files.old }
     ensures reads { F.reads files.new ≤ F.reads files.old + 1 }
+    ensures second { ¬ result ≡ Err Refusal.ReadProgram }
     ensures faults { F.faults files.old ≤ F.faults files.new }
     ensures answer { (contents : Contents) → F.told files.old ≡ Some contents
         → TellsOrUnread (Rose (F.faults files.old) (F.faults files.new))

@@ -1,4 +1,4 @@
-ghost use Rattle.std.specs.Prelude.{◌≡◌, ◌+◌, ◌^◌, ◌≤◌, None, Some, length, IfOk};
+ghost use Rattle.std.specs.Prelude.{◌≡◌, ◌+◌, ◌^◌, ◌≤◌, None, Some, Err, length, IfOk};
 ghost use Rattle.mr_ast.specs.Shaped.{Shaped};
 ghost use Rattle.mr_io.specs.Counts.{Rose};
 ghost use Rattle.mr_io.specs.Files.{Contents};
@@ -78,6 +78,7 @@ pub fn read_schedule<F: Files>(
     ensures same { F.told files.new ≡ F.told files.old }
     ensures reads { F.reads files.new ≤ F.reads files.old + 1 }
     ensures faults { F.faults files.old ≤ F.faults files.new }
+    ensures second { ¬ result ≡ Err Refusal.ReadProgram }
     ensures few { IfOk result (λ w. length w.entries ≤ 2 ^ 20) }
     ensures read { (contents : Contents) → F.told files.old ≡ Some contents
         → IsRead (Rose (F.faults files.old) (F.faults files.new)) ReadSchedule result (schedule_in (contents name.now)) }

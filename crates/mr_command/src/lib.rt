@@ -13,18 +13,20 @@
 //! (`specs/Headline.antt`).
 #![tactic(auto)]
 
-ghost use Rattle.std.specs.Prelude.{◌≡◌, ◌+◌, ◌≤◌, ◌⊎◌, None, Some, map, string_bytes};
+ghost use Rattle.std.specs.Prelude.{◌≡◌, ℕ, ◌+◌, ◌≤◌, ◌⊎◌, List, ◌++◌, None, Some, map, string_bytes};
 ghost use Rattle.mr_ast.specs.declared.program.Program.{Program};
 ghost use Rattle.mr_io.specs.Counts.{Rose};
 ghost use Rattle.mr_io.specs.Files.{Contents};
 ghost use Rattle.mr_lex.specs.declared.token.TextFault.{TextFault};
-ghost use Rattle.mr_sched.specs.declared.schedule.Schedule.{Schedule};
+ghost use Rattle.mr_sched.specs.declared.schedule.Schedule.{Schedule as Recorded};
+ghost use Rattle.mr_step.specs.Start.{PlacedFault};
 ghost use Rattle.mr_wf.specs.declared.fault.FormFault.{FormFault};
 ghost use Rattle.mr_command.specs.Answer.{canonical, form_answer, refused, text_refusal, usage};
-ghost use Rattle.mr_command.specs.Command.{asked, command_of, named_files};
-ghost use Rattle.mr_command.specs.Headline.{ChecksProgram, IsOfMachine, IsTold, IsUnreadBecause, Names, NamesBroken, NamesFault, RunsUnbuilt};
+ghost use Rattle.mr_command.specs.Command.{asked, command_of, named_files, Check, NamesProgram, Run};
+ghost use Rattle.mr_command.specs.Headline.{AsksForSchedule, ChecksProgram, IsOfMachine, IsTold, IsUnreadBecause, Names, NamesBroken, NamesBrokenSchedule, NamesFault, NamesScheduleFault, ReportsLegalRun, RunsUnbuilt, WritesCanonical};
 ghost use Rattle.mr_command.specs.Outcome.{Ends, IsWritten};
-ghost use Rattle.mr_command.specs.declared.refusal.Refusal.TheVariants.{NotBuilt};
+ghost use Rattle.mr_command.specs.Report.{refusal_text};
+ghost use Rattle.mr_command.specs.declared.refusal.Refusal.TheVariants.{NotBuilt, ReadProgram, Schedule};
 
 mod answer;
 mod command;
@@ -53,14 +55,22 @@ pub fn mirace<F: Files, O: Sink>(alloc: Global, words: &[String], files: &mut F,
         (Rose (O.faults out.old) (O.faults out.new)) (O.taken out.old) (O.taken out.new) result }
 
     // The headline.
-    ensures headline { (contents : Contents) (p : Program) (w : Schedule) → F.told files.old ≡ Some contents
+    ensures headline { (contents : Contents) (p : Program) (w : Recorded) → F.told files.old ≡ Some contents
         → Names contents (command_of (map string_bytes words.now)) p w
         → IsOfMachine p w (Rose (F.faults files.old) (F.faults files.new))
         (Rose (O.faults out.old) (O.faults out.new)) (O.taken out.old) (O.taken out.new) result }
-    ensures complete { (contents : Contents) (p : Program) (w : Schedule) → F.told files.old ≡ Some contents
+    ensures complete { (contents : Contents) (p : Program) (w : Recorded) → F.told files.old ≡ Some contents
         → Names contents (command_of (map string_bytes words.now)) p w
         → ¬ Rose (F.faults files.old) (F.faults files.new) → ¬ Rose (O.faults out.old) (O.faults out.new)
         → (result ≤ 1) ⊎ (result ≡ 8) }
+
+    // 0 and 1 are answered to nothing else: where a run is reported, the files denote a well-formed program and a legal schedule.
+    ensures only_legal { (contents : Contents) (program schedule : List ℕ) → F.told files.old ≡ Some contents
+        → command_of (map string_bytes words.now) ≡ Some (Run program schedule) → result ≤ 1
+        → ReportsLegalRun contents (command_of (map string_bytes words.now)) (O.taken out.old) (O.taken out.new) result }
+    ensures only_sound { (contents : Contents) (program : List ℕ) → F.told files.old ≡ Some contents
+        → command_of (map string_bytes words.now) ≡ Some (Check program) → result ≤ 1
+        → WritesCanonical contents (command_of (map string_bytes words.now)) (O.taken out.old) (O.taken out.new) result }
 
     // A program's text is answered by what it denotes or breaks, and a program by the first rule that it breaks.
     ensures canonical { (contents : Contents) (p : Program) → F.told files.old ≡ Some contents
@@ -80,7 +90,18 @@ pub fn mirace<F: Files, O: Sink>(alloc: Global, words: &[String], files: &mut F,
         → IsTold (refused NotBuilt) (Rose (F.faults files.old) (F.faults files.new))
         (Rose (O.faults out.old) (O.faults out.new)) (O.taken out.old) (O.taken out.new) result }
 
+    // So is a schedule: by its text's first fault, and by the first rule that it breaks.
+    ensures schedule_fault { (contents : Contents) (line code : ℕ) → F.told files.old ≡ Some contents
+        → NamesScheduleFault contents (command_of (map string_bytes words.now)) line code
+        → IsTold (refused (Schedule line code None)) (Rose (F.faults files.old) (F.faults files.new))
+        (Rose (O.faults out.old) (O.faults out.new)) (O.taken out.old) (O.taken out.new) result }
+    ensures broken_schedule { (contents : Contents) (fault : PlacedFault) → F.told files.old ≡ Some contents
+        → NamesBrokenSchedule contents (command_of (map string_bytes words.now)) fault
+        → IsTold (refused (Schedule fault.line fault.fault.code fault.fault.earlier)) (Rose (F.faults files.old) (F.faults files.new))
+        (Rose (O.faults out.old) (O.faults out.new)) (O.taken out.old) (O.taken out.new) result }
+
     // Whatever the files tell.
+    ensures bounded { result ≤ 8 }
     ensures usage { command_of (map string_bytes words.now) ≡ None
         → IsWritten usage (Rose (O.faults out.old) (O.faults out.new)) (O.taken out.old) (O.taken out.new) result }
     ensures no_usage { result ≡ 2 → command_of (map string_bytes words.now) ≡ None }
@@ -89,6 +110,13 @@ pub fn mirace<F: Files, O: Sink>(alloc: Global, words: &[String], files: &mut F,
     ensures memory { result ≡ 8 → O.taken out.new ≡ O.taken out.old }
     ensures same { F.told files.new ≡ F.told files.old }
     ensures reads { F.reads files.new ≤ F.reads files.old + named_files (command_of (map string_bytes words.now)) }
+
+    // The schedule is read behind the program alone, and where that is built and breaks no rule.
+    ensures once { (contents : Contents) (program : List ℕ) → F.told files.old ≡ Some contents
+        → NamesProgram (command_of (map string_bytes words.now)) program → ¬ AsksForSchedule (contents program)
+        → F.reads files.new ≤ F.reads files.old + 1 }
+    ensures first { (taken : List ℕ) → result ≡ 6 → O.taken out.old ≡ Some taken
+        → O.taken out.new ≡ Some (taken ++ refusal_text ReadProgram) → F.reads files.new ≤ F.reads files.old + 1 }
 {
     match command_of(words) {
         None => finish(out, USAGE, 2),
@@ -102,11 +130,17 @@ fn obey<F: Files, O: Sink>(alloc: Global, files: &mut F, out: &mut O, command: C
         → Ends contents (Some (asked command.entry)) (Rose (F.faults files.old) (F.faults files.new))
         (Rose (O.faults out.old) (O.faults out.new)) (O.taken out.old) (O.taken out.new) result }
     ensures no_usage { ¬ result ≡ 2 }
+    ensures bounded { result ≤ 8 }
     ensures untold { F.told files.old ≡ None → result ≡ 6 → Rose (F.faults files.old) (F.faults files.new) }
     ensures write_fault { result ≡ 7 → Rose (O.faults out.old) (O.faults out.new) }
     ensures memory { result ≡ 8 → O.taken out.new ≡ O.taken out.old }
     ensures same { F.told files.new ≡ F.told files.old }
     ensures reads { F.reads files.new ≤ F.reads files.old + named_files (Some (asked command.entry)) }
+    ensures once { (contents : Contents) (program : List ℕ) → F.told files.old ≡ Some contents
+        → NamesProgram (Some (asked command.entry)) program → ¬ AsksForSchedule (contents program)
+        → F.reads files.new ≤ F.reads files.old + 1 }
+    ensures first { (taken : List ℕ) → result ≡ 6 → O.taken out.old ≡ Some taken
+        → O.taken out.new ≡ Some (taken ++ refusal_text ReadProgram) → F.reads files.new ≤ F.reads files.old + 1 }
 {
     match answer(alloc, files, command) {
         Ok(written) => finish(out, written.text.as_slice(), written.status),

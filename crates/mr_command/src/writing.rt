@@ -12,6 +12,7 @@ use std::alloc::Global;
 pub fn finish<O: Sink>(out: &mut O, text: &[u8], status: u8) -> u8
     ensures written { IsWritten (record { text = text.now; status = status }) (Rose (O.faults out.old) (O.faults out.new))
         (O.taken out.old) (O.taken out.new) result }
+    ensures bounded { (result ≡ status) ⊎ (result ≡ 7) }
     ensures empty { text.now ≡ [] → (result ≡ status) × (O.taken out.new ≡ O.taken out.old) }
 {
     match write_whole(out, text) {
@@ -22,7 +23,8 @@ pub fn finish<O: Sink>(out: &mut O, text: &[u8], status: u8) -> u8
 
 /// Writes the line of a refusal.
 pub fn refuse<O: Sink>(alloc: Global, out: &mut O, refusal: Refusal) -> u8
-    ensures { IsRefusedOrLeft refusal (Rose (O.faults out.old) (O.faults out.new)) (O.taken out.old) (O.taken out.new) result }
+    ensures told { IsRefusedOrLeft refusal (Rose (O.faults out.old) (O.faults out.new)) (O.taken out.old) (O.taken out.new) result }
+    ensures bounded { result ≤ 8 }
 {
     match refusal.text(alloc) {
         Ok(text) => finish(out, text.as_slice(), refusal.status()),

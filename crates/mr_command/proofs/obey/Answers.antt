@@ -1,8 +1,9 @@
-use Rattle.std.proofs.Common.{subst, ℕ, List}
+use Rattle.std.proofs.Common.{ap, subst, ℕ, List}
+use Rattle.std.specs.Prelude.{Err, Option}
 use Rattle.mr_io.specs.Counts.{Rose}
 use Rattle.mr_command.specs.Command.{asked}
-use Rattle.mr_command.specs.Outcome.{IsWritten}
-use Rattle.mr_command.proofs.EndLaws.{written_ends, refused_ends}
+use Rattle.mr_command.specs.Outcome.{IsRefusedOrLeft, IsWritten}
+use Rattle.mr_command.proofs.EndLaws.{program_unread, refused_ends, written_ends}
 use Rattle.mr_command.proofs.obey.Goals as goal
 
 pub returns-in-Ok-clause-ends : goal.returns-in-Ok-clause-ends
@@ -15,4 +16,11 @@ returns-in-Ok-clause-ends g c = λ contents told.
 
 pub returns-in-Err-clause-ends : goal.returns-in-Err-clause-ends
 returns-in-Err-clause-ends g c = λ contents told.
-    refused_ends contents _ _ _ _ _ (asked c.args.command) c.in-Err.refusal (c.in-Err.ensures.answer contents told) c.refuse.ensures
+    refused_ends contents _ _ _ _ _ (asked c.args.command) c.in-Err.refusal (c.in-Err.ensures.answer contents told) c.refuse.ensures.told
+
+pub returns-in-Err-clause-first : goal.returns-in-Err-clause-first
+returns-in-Err-clause-first g c = λ taken six old new.
+    let R : Option (List ℕ) → Type 0 = λ before.
+    IsRefusedOrLeft c.in-Err.refusal (Rose (g.O.Sink.faults c.args.out.now) (g.O.Sink.faults c.refuse.new.out)) before (g.O.Sink.taken c.refuse.new.out)
+    c.refuse.result in
+    c.in-Err.ensures.first (ap Err (program_unread _ taken _ _ six new c.in-Err.refusal (subst R old c.refuse.ensures.told)))

@@ -1,0 +1,146 @@
+//! The program: `mirace run P S` writes the report of the run of a program under a recorded schedule, and `mirace check P` the canonical
+//! text of a program.
+//!
+//! The public call is [`mirace`], over files and a sink, whose promises are its clauses; the library `mr_command` does what it asks
+//! for. `ended` gives the exit status of the process, and `words` the words behind the program's name, none of which is lost.
+#![tactic(auto)]
+
+ghost use Rattle.std.specs.Prelude.{◌≡◌, ℕ, drop, IfOk, IfErr, ◌+◌, ◌≤◌, ◌⊎◌, List, ◌++◌, None, Some, map, string_bytes};
+ghost use Rattle.mr_ast.specs.declared.program.Program.{Program};
+ghost use Rattle.mr_io.specs.Counts.{Rose};
+ghost use Rattle.mr_io.specs.Files.{Contents};
+ghost use Rattle.mr_lex.specs.declared.token.TextFault.{TextFault};
+ghost use Rattle.mr_sched.specs.declared.schedule.Schedule.{Schedule as Recorded};
+ghost use Rattle.mr_step.specs.Start.{PlacedFault};
+ghost use Rattle.mr_wf.specs.declared.fault.FormFault.{FormFault};
+ghost use Rattle.mr_command.specs.Answer.{canonical, form_answer, refused, text_refusal, usage};
+ghost use Rattle.mr_command.specs.Command.{command_of, named_files, Check, NamesProgram, Run};
+ghost use Rattle.mr_command.specs.Headline.{AsksForSchedule, ChecksProgram, IsOfMachine, IsTold, IsUnreadBecause, Names, NamesBroken, NamesBrokenSchedule, NamesFault, NamesScheduleFault, ReportsLegalRun, RunsUnbuilt, WritesCanonical};
+ghost use Rattle.mr_command.specs.Outcome.{Ends, IsWritten};
+ghost use Rattle.mr_command.specs.Report.{refusal_text};
+ghost use Rattle.mr_command.specs.declared.refusal.Refusal.TheVariants.{NotBuilt, ReadProgram, Schedule};
+ghost use Rattle.std.specs.Process.{exit_status};
+ghost use Rattle.std.specs.Vec.Iter.{into_iter_items};
+
+use mr_io::{Files, HostFiles, HostOut, Sink};
+use std::alloc::{AllocError, Global};
+use std::env::{self, Args};
+use std::io::{self, ErrorKind};
+use std::process::ExitCode;
+
+/// Does what the words behind the program's name ask for, and answers the exit status: 0 or 1 of a report, 0 of a canonical text,
+/// 2 of words without a form, 3 of a text that denotes no program or a program that isn't built, 4 of a program that breaks a rule
+/// of well-formedness, 5 of a schedule, 6 of a file that was not read, 7 of a failed write and 8 where memory ran out.
+pub fn mirace<F: Files, O: Sink>(alloc: Global, words: &[String], files: &mut F, out: &mut O) -> u8
+    // What is written and answered, over files that tell what they hold.
+    ensures ends { (contents : Contents) → F.told files.old ≡ Some contents
+        → Ends contents (command_of (map string_bytes words.now)) (Rose (F.faults files.old) (F.faults files.new))
+        (Rose (O.faults out.old) (O.faults out.new)) (O.taken out.old) (O.taken out.new) result }
+
+    // The headline.
+    ensures headline { (contents : Contents) (p : Program) (w : Recorded) → F.told files.old ≡ Some contents
+        → Names contents (command_of (map string_bytes words.now)) p w
+        → IsOfMachine p w (Rose (F.faults files.old) (F.faults files.new))
+        (Rose (O.faults out.old) (O.faults out.new)) (O.taken out.old) (O.taken out.new) result }
+    ensures complete { (contents : Contents) (p : Program) (w : Recorded) → F.told files.old ≡ Some contents
+        → Names contents (command_of (map string_bytes words.now)) p w
+        → ¬ Rose (F.faults files.old) (F.faults files.new) → ¬ Rose (O.faults out.old) (O.faults out.new)
+        → (result ≤ 1) ⊎ (result ≡ 8) }
+
+    // 0 and 1 are answered to nothing else: where a run is reported, the files denote a well-formed program and a legal schedule.
+    ensures only_legal { (contents : Contents) (program schedule : List ℕ) → F.told files.old ≡ Some contents
+        → command_of (map string_bytes words.now) ≡ Some (Run program schedule) → result ≤ 1
+        → ReportsLegalRun contents (command_of (map string_bytes words.now)) (O.taken out.old) (O.taken out.new) result }
+    ensures only_sound { (contents : Contents) (program : List ℕ) → F.told files.old ≡ Some contents
+        → command_of (map string_bytes words.now) ≡ Some (Check program) → result ≤ 1
+        → WritesCanonical contents (command_of (map string_bytes words.now)) (O.taken out.old) (O.taken out.new) result }
+
+    // A program's text is answered by what it denotes or breaks, and a program by the first rule that it breaks.
+    ensures canonical { (contents : Contents) (p : Program) → F.told files.old ≡ Some contents
+        → ChecksProgram contents (command_of (map string_bytes words.now)) p
+        → IsTold (canonical p) (Rose (F.faults files.old) (F.faults files.new))
+        (Rose (O.faults out.old) (O.faults out.new)) (O.taken out.old) (O.taken out.new) result }
+    ensures text_fault { (contents : Contents) (fault : TextFault) → F.told files.old ≡ Some contents
+        → NamesFault contents (command_of (map string_bytes words.now)) fault
+        → IsTold (refused (text_refusal fault)) (Rose (F.faults files.old) (F.faults files.new))
+        (Rose (O.faults out.old) (O.faults out.new)) (O.taken out.old) (O.taken out.new) result }
+    ensures form { (contents : Contents) (p : Program) (fault : FormFault) → F.told files.old ≡ Some contents
+        → NamesBroken contents (command_of (map string_bytes words.now)) p fault
+        → IsTold (form_answer p fault) (Rose (F.faults files.old) (F.faults files.new))
+        (Rose (O.faults out.old) (O.faults out.new)) (O.taken out.old) (O.taken out.new) result }
+    ensures not_built { (contents : Contents) (p : Program) → F.told files.old ≡ Some contents
+        → RunsUnbuilt contents (command_of (map string_bytes words.now)) p
+        → IsTold (refused NotBuilt) (Rose (F.faults files.old) (F.faults files.new))
+        (Rose (O.faults out.old) (O.faults out.new)) (O.taken out.old) (O.taken out.new) result }
+
+    // So is a schedule: by its text's first fault, and by the first rule that it breaks.
+    ensures schedule_fault { (contents : Contents) (line code : ℕ) → F.told files.old ≡ Some contents
+        → NamesScheduleFault contents (command_of (map string_bytes words.now)) line code
+        → IsTold (refused (Schedule line code None)) (Rose (F.faults files.old) (F.faults files.new))
+        (Rose (O.faults out.old) (O.faults out.new)) (O.taken out.old) (O.taken out.new) result }
+    ensures broken_schedule { (contents : Contents) (fault : PlacedFault) → F.told files.old ≡ Some contents
+        → NamesBrokenSchedule contents (command_of (map string_bytes words.now)) fault
+        → IsTold (refused (Schedule fault.line fault.fault.code fault.fault.earlier)) (Rose (F.faults files.old) (F.faults files.new))
+        (Rose (O.faults out.old) (O.faults out.new)) (O.taken out.old) (O.taken out.new) result }
+
+    // Whatever the files tell.
+    ensures bounded { result ≤ 8 }
+    ensures usage { command_of (map string_bytes words.now) ≡ None
+        → IsWritten usage (Rose (O.faults out.old) (O.faults out.new)) (O.taken out.old) (O.taken out.new) result }
+    ensures no_usage { result ≡ 2 → command_of (map string_bytes words.now) ≡ None }
+    ensures read_fault { result ≡ 6 → IsUnreadBecause (Rose (F.faults files.old) (F.faults files.new)) (F.told files.old) (command_of (map string_bytes words.now)) }
+    ensures write_fault { result ≡ 7 → Rose (O.faults out.old) (O.faults out.new) }
+    ensures memory { result ≡ 8 → O.taken out.new ≡ O.taken out.old }
+    ensures same { F.told files.new ≡ F.told files.old }
+    ensures reads { F.reads files.new ≤ F.reads files.old + named_files (command_of (map string_bytes words.now)) }
+
+    // The schedule is read behind the program alone, and where that is built and breaks no rule.
+    ensures once { (contents : Contents) (program : List ℕ) → F.told files.old ≡ Some contents
+        → NamesProgram (command_of (map string_bytes words.now)) program → ¬ AsksForSchedule (contents program)
+        → F.reads files.new ≤ F.reads files.old + 1 }
+    ensures first { (taken : List ℕ) → result ≡ 6 → O.taken out.old ≡ Some taken
+        → O.taken out.new ≡ Some (taken ++ refusal_text ReadProgram) → F.reads files.new ≤ F.reads files.old + 1 }
+{
+    mr_command::mirace(alloc, words, files, out)
+}
+
+// What the process ends with: the status of the call, and 8 or 10 where the host doesn't give the words.
+fn ended<F: Files, O: Sink>(
+    alloc: Global,
+    words: io::Result<Vec<String>>,
+    files: &mut F,
+    out: &mut O,
+) -> ExitCode
+    ensures ends { IfOk words (λ given. (contents : Contents) → F.told files.old ≡ Some contents
+        → Ends contents (command_of (map string_bytes given.items)) (Rose (F.faults files.old) (F.faults files.new))
+        (Rose (O.faults out.old) (O.faults out.new)) (O.taken out.old) (O.taken out.new) (exit_status result)) }
+    ensures usage { IfOk words (λ given. command_of (map string_bytes given.items) ≡ None
+        → IsWritten usage (Rose (O.faults out.old) (O.faults out.new)) (O.taken out.old) (O.taken out.new) (exit_status result)) }
+    ensures no_usage { IfOk words (λ given. exit_status result ≡ 2 → command_of (map string_bytes given.items) ≡ None) }
+    ensures no_words { IfErr words (λ _. (exit_status result ≡ 8) ⊎ (exit_status result ≡ 10)) }
+{
+    match words {
+        Ok(words) => ExitCode::from(mirace(alloc, words.as_slice(), files, out)),
+        Err(error) if error.kind() == ErrorKind::OutOfMemory => ExitCode::from(8),
+        Err(_) => ExitCode::from(10),
+    }
+}
+
+// The words behind the program's name.
+fn words(alloc: Global, all: Args) -> Result<Vec<String>, AllocError>
+    ensures { IfOk result (λ words. words.items ≡ drop 1 (into_iter_items all)) }
+{
+    let mut all = all;
+    all.next();
+    all.collect(alloc)
+}
+
+fn given(rt: &HostRuntime) -> io::Result<Vec<String>> {
+    Ok(words(rt.alloc(), env::args(rt)?)?)
+}
+
+fn main(rt: HostRuntime) -> ExitCode {
+    let mut out = HostOut::new(rt.stdout());
+    let mut files = HostFiles::new(&rt);
+    ended(rt.alloc(), given(&rt), &mut files, &mut out)
+}
