@@ -16,7 +16,7 @@ ghost use Rattle.mr_wf.specs.declared.fault.FormFault.{FormFault};
 ghost use Rattle.mr_command.specs.Answer.{canonical, form_answer, refused, text_refusal, usage};
 ghost use Rattle.mr_command.specs.Command.{command_of, named_files, Check, NamesProgram, Run};
 ghost use Rattle.mr_command.specs.Headline.{AsksForSchedule, ChecksProgram, IsOfMachine, IsTold, IsUnreadBecause, Names, NamesBroken, NamesBrokenSchedule, NamesFault, NamesScheduleFault, ReportsLegalRun, RunsUnbuilt, WritesCanonical};
-ghost use Rattle.mr_command.specs.Outcome.{Ends, IsWritten};
+ghost use Rattle.mr_command.specs.Outcome.{Ends, EndsOverTexts, IsWritten};
 ghost use Rattle.mr_command.specs.Report.{refusal_text};
 ghost use Rattle.mr_command.specs.declared.refusal.Refusal.TheVariants.{NotBuilt, ReadProgram, Schedule};
 ghost use Rattle.std.specs.Process.{exit_status};
@@ -35,6 +35,11 @@ pub fn mirace<F: Files, O: Sink>(alloc: Global, words: &[String], files: &mut F,
     // What is written and answered, over files that tell what they hold.
     ensures ends { (contents : Contents) → F.told files.old ≡ Some contents
         → Ends contents (command_of (map string_bytes words.now)) (Rose (F.faults files.old) (F.faults files.new))
+        (Rose (O.faults out.old) (O.faults out.new)) (O.taken out.old) (O.taken out.new) result }
+
+    // Over files that don't: there are texts of which they are.
+    ensures untold { F.told files.old ≡ None
+        → EndsOverTexts (command_of (map string_bytes words.now)) (Rose (F.faults files.old) (F.faults files.new))
         (Rose (O.faults out.old) (O.faults out.new)) (O.taken out.old) (O.taken out.new) result }
 
     // The headline.
@@ -113,6 +118,9 @@ fn ended<F: Files, O: Sink>(
 ) -> ExitCode
     ensures ends { IfOk words (λ given. (contents : Contents) → F.told files.old ≡ Some contents
         → Ends contents (command_of (map string_bytes given.items)) (Rose (F.faults files.old) (F.faults files.new))
+        (Rose (O.faults out.old) (O.faults out.new)) (O.taken out.old) (O.taken out.new) (exit_status result)) }
+    ensures untold { IfOk words (λ given. F.told files.old ≡ None
+        → EndsOverTexts (command_of (map string_bytes given.items)) (Rose (F.faults files.old) (F.faults files.new))
         (Rose (O.faults out.old) (O.faults out.new)) (O.taken out.old) (O.taken out.new) (exit_status result)) }
     ensures usage { IfOk words (λ given. command_of (map string_bytes given.items) ≡ None
         → IsWritten usage (Rose (O.faults out.old) (O.faults out.new)) (O.taken out.old) (O.taken out.new) (exit_status result)) }

@@ -7,4 +7,5 @@ pub mod NameLaws
 pub mod OnlyLaws
 pub mod PrintLaws
 pub mod RunLaws
+pub mod TextLaws
 pub mod UnreadLaws

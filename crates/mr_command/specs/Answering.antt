@@ -1,5 +1,5 @@
 -- How a command is answered, whatever the files do.
-use Rattle.std.specs.Prelude.{◌≡◌, ℕ, ◌≤◌, ◌⊎◌, List, [], Option, Result, Ok, Err}
+use Rattle.std.specs.Prelude.{◌≡◌, ℕ, ◌≤◌, ◌⊎◌, List, [], Option, Some, Result, Ok, Err}
 use Rattle.mr_ast.specs.declared.program.Program.{Program}
 use Rattle.mr_io.specs.Files.{Contents}
 use Rattle.mr_wf.specs.Walk.{faults_of}
@@ -8,6 +8,7 @@ use Rattle.mr_command.specs.declared.refusal.Refusal.{Refusal}
 use Rattle.mr_command.specs.declared.refusal.Refusal.TheVariants as refusal
 use Rattle.mr_command.specs.Answer.{Answer, built_in, check_answer, if_built, program_in, refused, run_answer, told}
 use Rattle.mr_command.specs.Command.{Command, Run, Check}
+use Rattle.mr_command.specs.Outcome.{holding, over_holding}
 
 -- what is written, seen as an answer
 abbrev pub seen : Written → Answer
@@ -55,7 +56,16 @@ IsReported files program schedule rose result =
 abbrev pub IsChecked : Contents → List ℕ → Type 0 → Result Written Refusal → Type 0
 IsChecked files program rose result = Tells (told check_answer (program_in (files program))) result ⊎ (rose × (result ≡ Err refusal.ReadProgram))
 
+-- a schedule's file has some text, of which a program that is read is answered
+abbrev pub IsRunOverText : Type 0 → Program → Result Written Refusal → Type 0
+IsRunOverText rose p result = (text : List ℕ) × IsRunOrUnread rose (Some text) p result
+
 -- how a command is answered
 abbrev pub IsAnswered : Contents → Command → Type 0 → Result Written Refusal → Type 0
 IsAnswered files (Run program schedule) rose result = IsReported files program schedule rose result
 IsAnswered files (Check program) rose result = IsChecked files program rose result
+
+-- there are texts of the named files of which a command is answered so
+abbrev pub IsAnsweredOverTexts : Command → Type 0 → Result Written Refusal → Type 0
+IsAnsweredOverTexts command rose result =
+    (program : List ℕ) × (schedule : List ℕ) × IsAnswered (holding program schedule) (over_holding command) rose result

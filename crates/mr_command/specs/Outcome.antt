@@ -1,5 +1,5 @@
 -- How a call ends, whatever the files and the sink do.
-use Rattle.std.specs.Prelude.{◌≡◌, ℕ, ◌<◌, ◌⊎◌, List, [], length, take, Option, None, Some, Result, Ok, Err}
+use Rattle.std.specs.Prelude.{◌≡◌, ℕ, ◌<◌, ◌⊎◌, List, [], length, take, Option, None, Some, Result, Ok, Err, bytes_eq, codes, if◌then◌else◌}
 use Rattle.std.specs.Io.KnownBytes.{append_known}
 use Rattle.mr_ast.specs.declared.program.Program.{Program}
 use Rattle.mr_io.specs.Files.{Contents}
@@ -7,7 +7,7 @@ use Rattle.mr_wf.specs.Walk.{faults_of}
 use Rattle.mr_command.specs.declared.refusal.Refusal.{Refusal}
 use Rattle.mr_command.specs.declared.refusal.Refusal.TheVariants as refusal
 use Rattle.mr_command.specs.Command.{Command, Run, Check}
-use Rattle.mr_command.specs.Answer.{Answer, built_in, refused, answer_of}
+use Rattle.mr_command.specs.Answer.{Answer, built_in, refused, answer_of, usage}
 
 -- What a function returned is what is defined, unless memory ran out.
 abbrev pub Gives : {A : Type 0} → Result A Refusal → Result A Refusal → Type 0
@@ -51,6 +51,23 @@ abbrev pub Ends : Contents → Option Command → Type 0 → Type 0 → Option (
 Ends files command files_rose out_rose old new status =
     RanOut command old new status
     ⊎ ((a : Answer) × IsPossible files command files_rose a × IsWritten a out_rose old new status)
+
+-- two files, named `program` and `schedule`, that hold these texts
+abbrev pub holding : List ℕ → List ℕ → Contents
+holding program schedule name =
+    if bytes_eq name (codes "program") then Some program else (if bytes_eq name (codes "schedule") then Some schedule else None)
+
+-- the same command over these files
+abbrev pub over_holding : Command → Command
+over_holding (Run program schedule) = Run (codes "program") (codes "schedule")
+over_holding (Check program) = Check (codes "program")
+
+-- How a call ends over files that don't tell what they hold: there are texts of the named files of which it ends as defined.
+-- Where a file is read twice, each read may have found another text.
+abbrev pub EndsOverTexts : Option Command → Type 0 → Type 0 → Option (List ℕ) → Option (List ℕ) → ℕ → Type 0
+EndsOverTexts None files_rose out_rose old new status = IsWritten usage out_rose old new status
+EndsOverTexts (Some c) files_rose out_rose old new status =
+    (program : List ℕ) × (schedule : List ℕ) × Ends (holding program schedule) (Some (over_holding c)) files_rose out_rose old new status
 
 -- what a file was read for: as defined, or the read failed where the count of faults rose
 abbrev pub IsRead : {A : Type 0} → Type 0 → Refusal → Result A Refusal → Result A Refusal → Type 0

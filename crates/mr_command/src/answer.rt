@@ -1,3 +1,4 @@
+//! The answer to a command: what is written, and the exit status, or why there is none.
 ghost use Rattle.std.specs.Prelude.{◌≡◌, ◌+◌, ◌^◌, ◌≤◌, ℕ, List, [], None, Some, Ok, Err, length, IfOk};
 ghost use Rattle.mr_io.specs.Counts.{Rose};
 ghost use Rattle.mr_io.specs.Files.{Contents};
@@ -5,8 +6,8 @@ ghost use Rattle.mr_ast.specs.Shaped.{Shaped};
 ghost use Rattle.mr_step.specs.Built.{Built};
 ghost use Rattle.mr_wf.specs.Walk.{faults_of};
 ghost use Rattle.mr_command.specs.Answer.{canonical, check_answer, form_answer, if_built, legal_run, report_under, reported, told};
-ghost use Rattle.mr_command.specs.Answering.{IsAnswered, IsChecked, IsFormOrReport, IsReported, IsRunOrUnread, IsStatus, Tells, TellsOrUnread};
-ghost use Rattle.mr_command.specs.Command.{asked, named_files, NamesProgram};
+ghost use Rattle.mr_command.specs.Answering.{IsAnswered, IsAnsweredOverTexts, IsChecked, IsFormOrReport, IsReported, IsRunOrUnread, IsRunOverText, IsStatus, Tells, TellsOrUnread};
+ghost use Rattle.mr_command.specs.Command.{asked, named_files, Check, NamesProgram, Run};
 ghost use Rattle.mr_command.specs.Headline.{AsksForSchedule};
 ghost use Rattle.mr_command.specs.Outcome.{IsUnreadFault};
 
@@ -45,6 +46,8 @@ pub fn answer<F: Files>(
     ensures answer { (contents : Contents) → F.told files.old ≡ Some contents
         → IsAnswered contents (asked command.entry) (Rose (F.faults files.old) (F.faults files.new)) result }
     ensures status { IfOk result (λ a. IsStatus a.status) }
+    ensures texts { F.told files.old ≡ None
+        → IsAnsweredOverTexts (asked command.entry) (Rose (F.faults files.old) (F.faults files.new)) result }
     ensures untold { F.told files.old ≡ None → IsUnreadFault result
         → Rose (F.faults files.old) (F.faults files.new) }
 {
@@ -70,6 +73,8 @@ fn report_files<F: Files>(
     ensures answer { (contents : Contents) → F.told files.old ≡ Some contents
         → IsReported contents program.now schedule.now (Rose (F.faults files.old) (F.faults files.new)) result }
     ensures status { IfOk result (λ a. IsStatus a.status) }
+    ensures texts { F.told files.old ≡ None
+        → IsAnsweredOverTexts (Run program.now schedule.now) (Rose (F.faults files.old) (F.faults files.new)) result }
     ensures untold { F.told files.old ≡ None → IsUnreadFault result
         → Rose (F.faults files.old) (F.faults files.new) }
 {
@@ -96,6 +101,7 @@ fn report_program<F: Files>(
         → IsRunOrUnread (Rose (F.faults files.old) (F.faults files.new))
         (contents schedule.now) p result }
     ensures status { IfOk result (λ a. IsStatus a.status) }
+    ensures texts { F.told files.old ≡ None → IsRunOverText (Rose (F.faults files.old) (F.faults files.new)) p result }
     ensures untold { F.told files.old ≡ None → IsUnreadFault result
         → Rose (F.faults files.old) (F.faults files.new) }
 {
@@ -124,6 +130,8 @@ fn report_built<F: Files>(
         → IsFormOrReport (Rose (F.faults files.old) (F.faults files.new))
         (contents schedule.now) p result }
     ensures status { IfOk result (λ a. IsStatus a.status) }
+    ensures texts { F.told files.old ≡ None → (text : List ℕ)
+        × IsFormOrReport (Rose (F.faults files.old) (F.faults files.new)) (Some text) p result }
     ensures untold { F.told files.old ≡ None → IsUnreadFault result
         → Rose (F.faults files.old) (F.faults files.new) }
 {
@@ -150,6 +158,8 @@ fn report_schedule<F: Files>(
         → TellsOrUnread (Rose (F.faults files.old) (F.faults files.new))
         (report_under (contents schedule.now) p.now) result }
     ensures status { IfOk result (λ a. IsStatus a.status) }
+    ensures texts { F.told files.old ≡ None → (text : List ℕ)
+        × TellsOrUnread (Rose (F.faults files.old) (F.faults files.new)) (report_under (Some text) p.now) result }
     ensures untold { F.told files.old ≡ None → IsUnreadFault result
         → Rose (F.faults files.old) (F.faults files.new) }
 {
@@ -187,6 +197,8 @@ fn canonical_file<F: Files>(alloc: Global, files: &mut F, program: &str) -> Resu
     ensures answer { (contents : Contents) → F.told files.old ≡ Some contents
         → IsChecked contents program.now (Rose (F.faults files.old) (F.faults files.new)) result }
     ensures status { IfOk result (λ a. IsStatus a.status) }
+    ensures texts { F.told files.old ≡ None
+        → IsAnsweredOverTexts (Check program.now) (Rose (F.faults files.old) (F.faults files.new)) result }
     ensures untold { F.told files.old ≡ None → IsUnreadFault result
         → Rose (F.faults files.old) (F.faults files.new) }
 {

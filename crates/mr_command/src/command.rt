@@ -1,3 +1,4 @@
+//! The commands, and the words that ask for them.
 ghost use Rattle.std.specs.Prelude.{◌≡◌, map, string_bytes};
 ghost use Rattle.std.specs.Option.{option_map};
 ghost use Rattle.mr_command.specs.Command.{asked, command_of};

@@ -1,3 +1,4 @@
+//! The line of a rule of well-formedness that a program breaks.
 ghost use Rattle.std.specs.Prelude.{◌≡◌, IfOk};
 ghost use Rattle.mr_ast.specs.Canon.{block_texts, function_texts, global_texts};
 ghost use Rattle.mr_ast.specs.CanonValues.{text_at};

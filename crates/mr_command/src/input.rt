@@ -1,4 +1,5 @@
-ghost use Rattle.std.specs.Prelude.{◌≡◌, ◌+◌, ◌^◌, ◌≤◌, None, Some, Err, length, IfOk};
+//! The program and the schedule that a command names, read from files.
+ghost use Rattle.std.specs.Prelude.{◌≡◌, ℕ, ◌+◌, ◌^◌, ◌≤◌, List, None, Some, Err, length, IfOk};
 ghost use Rattle.mr_ast.specs.Shaped.{Shaped};
 ghost use Rattle.mr_io.specs.Counts.{Rose};
 ghost use Rattle.mr_io.specs.Files.{Contents};
@@ -29,6 +30,8 @@ pub fn read_program<F: Files>(alloc: Global, files: &mut F, name: &str) -> Resul
     ensures shaped { IfOk result Shaped }
     ensures read { (contents : Contents) → F.told files.old ≡ Some contents
         → IsRead (Rose (F.faults files.old) (F.faults files.new)) ReadProgram result (program_in (contents name.now)) }
+    ensures texts { F.told files.old ≡ None → (bytes : List ℕ)
+        × IsRead (Rose (F.faults files.old) (F.faults files.new)) ReadProgram result (program_in (Some bytes)) }
     ensures untold { F.told files.old ≡ None → IsUnreadFault result
         → Rose (F.faults files.old) (F.faults files.new) }
 {
@@ -82,6 +85,8 @@ pub fn read_schedule<F: Files>(
     ensures few { IfOk result (λ w. length w.entries ≤ 2 ^ 20) }
     ensures read { (contents : Contents) → F.told files.old ≡ Some contents
         → IsRead (Rose (F.faults files.old) (F.faults files.new)) ReadSchedule result (schedule_in (contents name.now)) }
+    ensures texts { F.told files.old ≡ None → (bytes : List ℕ)
+        × IsRead (Rose (F.faults files.old) (F.faults files.new)) ReadSchedule result (schedule_in (Some bytes)) }
     ensures untold { F.told files.old ≡ None → IsUnreadFault result
         → Rose (F.faults files.old) (F.faults files.new) }
 {

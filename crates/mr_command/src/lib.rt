@@ -24,7 +24,7 @@ ghost use Rattle.mr_wf.specs.declared.fault.FormFault.{FormFault};
 ghost use Rattle.mr_command.specs.Answer.{canonical, form_answer, refused, text_refusal, usage};
 ghost use Rattle.mr_command.specs.Command.{asked, command_of, named_files, Check, NamesProgram, Run};
 ghost use Rattle.mr_command.specs.Headline.{AsksForSchedule, ChecksProgram, IsOfMachine, IsTold, IsUnreadBecause, Names, NamesBroken, NamesBrokenSchedule, NamesFault, NamesScheduleFault, ReportsLegalRun, RunsUnbuilt, WritesCanonical};
-ghost use Rattle.mr_command.specs.Outcome.{Ends, IsWritten};
+ghost use Rattle.mr_command.specs.Outcome.{Ends, EndsOverTexts, IsWritten};
 ghost use Rattle.mr_command.specs.Report.{refusal_text};
 ghost use Rattle.mr_command.specs.declared.refusal.Refusal.TheVariants.{NotBuilt, ReadProgram, Schedule};
 
@@ -52,6 +52,11 @@ pub fn mirace<F: Files, O: Sink>(alloc: Global, words: &[String], files: &mut F,
     // What is written and answered, over files that tell what they hold.
     ensures ends { (contents : Contents) → F.told files.old ≡ Some contents
         → Ends contents (command_of (map string_bytes words.now)) (Rose (F.faults files.old) (F.faults files.new))
+        (Rose (O.faults out.old) (O.faults out.new)) (O.taken out.old) (O.taken out.new) result }
+
+    // Over files that don't: there are texts of which they are.
+    ensures untold { F.told files.old ≡ None
+        → EndsOverTexts (command_of (map string_bytes words.now)) (Rose (F.faults files.old) (F.faults files.new))
         (Rose (O.faults out.old) (O.faults out.new)) (O.taken out.old) (O.taken out.new) result }
 
     // The headline.
@@ -131,6 +136,9 @@ fn obey<F: Files, O: Sink>(alloc: Global, files: &mut F, out: &mut O, command: C
         (Rose (O.faults out.old) (O.faults out.new)) (O.taken out.old) (O.taken out.new) result }
     ensures no_usage { ¬ result ≡ 2 }
     ensures bounded { result ≤ 8 }
+    ensures texts { F.told files.old ≡ None
+        → EndsOverTexts (Some (asked command.entry)) (Rose (F.faults files.old) (F.faults files.new))
+        (Rose (O.faults out.old) (O.faults out.new)) (O.taken out.old) (O.taken out.new) result }
     ensures untold { F.told files.old ≡ None → result ≡ 6 → Rose (F.faults files.old) (F.faults files.new) }
     ensures write_fault { result ≡ 7 → Rose (O.faults out.old) (O.faults out.new) }
     ensures memory { result ≡ 8 → O.taken out.new ≡ O.taken out.old }

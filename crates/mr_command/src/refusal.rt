@@ -1,3 +1,4 @@
+//! Why there is no report and no canonical text: the lines that tell it, and their exit statuses.
 ghost use Rattle.std.specs.Prelude.{◌≡◌, ◌++◌, IfOk, OnOk, decimal};
 ghost use Rattle.mr_command.specs.Report.{earlier_text, fault_name, refusal_text, text_fault_name, text_line};
 

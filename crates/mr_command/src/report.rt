@@ -1,3 +1,4 @@
+//! The text and the exit status of the report of a run.
 ghost use Rattle.std.specs.Prelude.{◌≡◌, ◌<◌, ◌≤◌, ◌++◌, length, slice_get, Some, IfOk, OnOk, flat_map, codes};
 ghost use Rattle.mr_step.specs.Runs.{Printed};
 ghost use Rattle.mr_command.specs.Report.{line, print_line, report_of, verdict_status, verdict_text};

@@ -1,3 +1,4 @@
+//! The run of a program under a schedule.
 ghost use Rattle.std.specs.Prelude.{◌≡◌, ℕ, ◌+◌, ◌^◌, ◌<◌, ◌≤◌, false, length, IfOk};
 ghost use Rattle.mr_step.specs.Built.{Built};
 ghost use Rattle.mr_command.specs.Running.{RunAnswer, EntriesAnswer, EntryAnswer, placed};

@@ -1,3 +1,4 @@
+//! What is written to the sink at the end of a call.
 ghost use Rattle.std.specs.Prelude.{◌≡◌, ◌<◌, ◌≤◌, length, take, [], ◌⊎◌};
 ghost use Rattle.mr_io.specs.Counts.{Rose};
 ghost use Rattle.mr_command.specs.Answer.{refused};

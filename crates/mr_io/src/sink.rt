@@ -1,3 +1,4 @@
+//! What takes bytes, some at a time, and how a whole text is written.
 ghost use Rattle.std.specs.Prelude.{◌≡◌, ℕ, ◌<◌, ◌≤◌, List, Option, take, length, IfOk, OnOk, OnErr};
 ghost use Rattle.std.specs.Io.KnownBytes.{append_known};
 ghost use Rattle.mr_io.specs.Counts.{Rose};

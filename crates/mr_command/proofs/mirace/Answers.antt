@@ -2,7 +2,7 @@ use Rattle.std.proofs.Common.{subst, sym}
 use Rattle.std.specs.Prelude.{Option}
 use Rattle.mr_io.specs.Counts.{Rose}
 use Rattle.mr_command.specs.Command.{Command, NamesProgram}
-use Rattle.mr_command.specs.Outcome.{Ends}
+use Rattle.mr_command.specs.Outcome.{Ends, EndsOverTexts}
 use Rattle.mr_command.proofs.HeadlineLaws.{of_machine, broken_schedule_told, canonical_told, fault_told, form_told, schedule_fault_told, unbuilt_told, unless_faults}
 use Rattle.mr_command.proofs.OnlyLaws.{only_legal, only_sound}
 use Rattle.mr_command.proofs.UnreadLaws.{unread_because}
@@ -14,6 +14,13 @@ returns-in-Some-clause-ends g c = λ contents told.
     Ends contents command (Rose (g.F.Files.faults c.args.files.now) (g.F.Files.faults c.obey.new.files))
     (Rose (g.O.Sink.faults c.args.out.now) (g.O.Sink.faults c.obey.new.out)) (g.O.Sink.taken c.args.out.now) (g.O.Sink.taken c.obey.new.out) c.obey.result in
     subst E c.in-Some.ensures (c.obey.ensures.ends contents told)
+
+pub returns-in-Some-clause-untold : goal.returns-in-Some-clause-untold
+returns-in-Some-clause-untold g c = λ untold.
+    let E : Option Command → Type 0 = λ command.
+    EndsOverTexts command (Rose (g.F.Files.faults c.args.files.now) (g.F.Files.faults c.obey.new.files))
+    (Rose (g.O.Sink.faults c.args.out.now) (g.O.Sink.faults c.obey.new.out)) (g.O.Sink.taken c.args.out.now) (g.O.Sink.taken c.obey.new.out) c.obey.result in
+    subst E c.in-Some.ensures (c.obey.ensures.texts untold)
 
 pub returns-in-Some-clause-headline : goal.returns-in-Some-clause-headline
 returns-in-Some-clause-headline g c = λ contents p w told names.
