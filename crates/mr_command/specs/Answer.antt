@@ -19,6 +19,7 @@ use Rattle.mr_command.specs.Command.{Command, Run, Check}
 use Rattle.mr_command.specs.Form.{form_line}
 use Rattle.mr_command.specs.Report.{report_of, verdict_status, refusal_text, refusal_status, usage_text}
 
+-- What is found leads on, and what refuses it stays.
 infixl 10 ◌>>=◌
 abbrev pub ◌>>=◌ : {A B : Type 0} → Result A Refusal → (A → Result B Refusal) → Result B Refusal
 (Ok x) >>= f = f x
@@ -46,6 +47,7 @@ if_built p = if is_built p then Ok p else Err refusal.NotBuilt
 abbrev pub built_in : Option (List ℕ) → Result Program Refusal
 built_in file = program_in file >>= if_built
 
+-- the schedule that a text spells, or the text's first fault, as a refusal
 abbrev pub spelled : Result Schedule Fault → Result Schedule Refusal
 spelled (Ok w) = Ok w
 spelled (Err f) = Err (refusal.Schedule f.line f.code None)
@@ -55,6 +57,7 @@ abbrev pub schedule_in : Option (List ℕ) → Result Schedule Refusal
 schedule_in None = Err refusal.ReadSchedule
 schedule_in (Some bytes) = spelled (schedule_of bytes)
 
+-- a thing, or the rule that is broken, as a refusal
 abbrev pub unless_broken : {A : Type 0} → Option PlacedFault → A → Result A Refusal
 unless_broken None x = Ok x
 unless_broken (Some f) x = Err (refusal.Schedule f.line f.fault.code f.fault.earlier)
@@ -67,13 +70,16 @@ legal_run p w = unless_broken (schedule_fault p w) (run_of p w)
 abbrev pub run_under : Option (List ℕ) → Program → Result (Config Own) Refusal
 run_under file p = schedule_in file >>= legal_run p
 
+-- What is written, and the exit status.
 pub record Answer : Type 0 where
   pub text : List ℕ
   pub status : ℕ
 
+-- the line of a refusal, and its status
 abbrev pub refused : Refusal → Answer
 refused r = record { text = refusal_text r; status = refusal_status r }
 
+-- the report of a run that stands here, and its status
 abbrev pub reported : Config Own → Answer
 reported c = record { text = report_of c.output c.verdict; status = verdict_status c.verdict }
 
@@ -99,7 +105,8 @@ form_or p (fault ∷ faults) a = form_answer p fault
 abbrev pub check_answer : Program → Answer
 check_answer p = form_or p (faults_of p) (canonical p)
 
--- the report of the run of a program under the schedule in a file, or what refuses it: first of the schedule's file, then of the run
+-- the report of the run of a program under the schedule in a file, or what refuses it: first of the schedule's file,
+-- then of the run
 abbrev pub report_under : Option (List ℕ) → Program → Answer
 report_under file p = told reported (run_under file p)
 
@@ -107,6 +114,7 @@ report_under file p = told reported (run_under file p)
 abbrev pub run_answer : Option (List ℕ) → Program → Answer
 run_answer file p = form_or p (faults_of p) (report_under file p)
 
+-- what words of no form are told
 abbrev pub usage : Answer
 usage = record { text = usage_text; status = 2 }
 

@@ -32,14 +32,18 @@ Tells answer (Err (refusal.Schedule at code earlier)) = answer ≡ refused (refu
 abbrev pub TellsOrUnread : Type 0 → Answer → Result Written Refusal → Type 0
 TellsOrUnread rose answer result = Tells answer result ⊎ (rose × (result ≡ Err refusal.ReadSchedule))
 
--- what is said of a built program that is run under the schedule in a file; or, where it breaks no rule, the read of that failed
+-- what is said of a built program that is run under the schedule in a file; or, where it breaks no rule, the read of
+-- that failed
 abbrev pub IsFormOrReport : Type 0 → Option (List ℕ) → Program → Result Written Refusal → Type 0
-IsFormOrReport rose file p result = Tells (run_answer file p) result ⊎ (rose × (faults_of p ≡ []) × (result ≡ Err refusal.ReadSchedule))
+IsFormOrReport rose file p result =
+    Tells (run_answer file p) result
+    ⊎ (rose × (faults_of p ≡ []) × (result ≡ Err refusal.ReadSchedule))
 
 -- the same of a program that may not be built
 abbrev pub IsRunOrUnread : Type 0 → Option (List ℕ) → Program → Result Written Refusal → Type 0
 IsRunOrUnread rose file p result =
-    Tells (told (run_answer file) (if_built p)) result ⊎ (rose × (if_built p ≡ Ok p) × (faults_of p ≡ []) × (result ≡ Err refusal.ReadSchedule))
+    Tells (told (run_answer file) (if_built p)) result
+    ⊎ (rose × (if_built p ≡ Ok p) × (faults_of p ≡ []) × (result ≡ Err refusal.ReadSchedule))
 
 -- a read failed: that of the program, or that of the schedule behind a program that is built and breaks no rule
 abbrev pub IsUnreadHere : Contents → List ℕ → Result Written Refusal → Type 0
@@ -47,14 +51,18 @@ IsUnreadHere files program result =
     (result ≡ Err refusal.ReadProgram)
     ⊎ ((p : Program) × (built_in (files program) ≡ Ok p) × (faults_of p ≡ []) × (result ≡ Err refusal.ReadSchedule))
 
--- what is said of the program in one file that is run under the schedule in another, or what refuses it; or a read failed
+-- what is said of the program in one file that is run under the schedule in another, or what refuses it; or a read
+-- failed
 abbrev pub IsReported : Contents → List ℕ → List ℕ → Type 0 → Result Written Refusal → Type 0
 IsReported files program schedule rose result =
-    Tells (told (run_answer (files schedule)) (built_in (files program))) result ⊎ (rose × IsUnreadHere files program result)
+    Tells (told (run_answer (files schedule)) (built_in (files program))) result
+    ⊎ (rose × IsUnreadHere files program result)
 
 -- what is said of the program in a file that is checked, or what refuses it; or the read failed
 abbrev pub IsChecked : Contents → List ℕ → Type 0 → Result Written Refusal → Type 0
-IsChecked files program rose result = Tells (told check_answer (program_in (files program))) result ⊎ (rose × (result ≡ Err refusal.ReadProgram))
+IsChecked files program rose result =
+    Tells (told check_answer (program_in (files program))) result
+    ⊎ (rose × (result ≡ Err refusal.ReadProgram))
 
 -- a schedule's file has some text, of which a program that is read is answered
 abbrev pub IsRunOverText : Type 0 → Program → Result Written Refusal → Type 0

@@ -3,7 +3,8 @@ use Rattle.std.specs.Prelude.{◌≡◌, ℕ, ◌⊎◌, List, [], ◌∷◌, Op
 use Rattle.mr_command.specs.declared.command.Command.{Command as Words}
 use Rattle.mr_command.specs.declared.command.Command.TheVariants as words
 
--- What is asked for: a run of the program in one file under the schedule in another, or the canonical text of the program in a file.
+-- What is asked for: a run of the program in one file under the schedule in another, or the canonical text of the
+-- program in a file.
 pub data Command : Type 0 where
   Run : (program schedule : List ℕ) → Command
   Check : (program : List ℕ) → Command
@@ -22,7 +23,9 @@ named_files (Some (Check program)) = 1
 
 -- the command names this file for the program
 abbrev pub NamesProgram : Option Command → List ℕ → Type 0
-NamesProgram command program = (command ≡ Some (Check program)) ⊎ ((schedule : List ℕ) × (command ≡ Some (Run program schedule)))
+NamesProgram command program =
+    (command ≡ Some (Check program))
+    ⊎ ((schedule : List ℕ) × (command ≡ Some (Run program schedule)))
 
 -- the command that the words ask for
 abbrev pub asked : Words → Command

@@ -61,6 +61,7 @@ rule_name code =
 abbrev pub form_line : Program → FormFault → List ℕ
 form_line p fault =
     line (
-    codes "form " ++ item_text p fault.item ++ codes " " ++ block_text p fault.item fault.block ++ codes " " ++ decimal fault.place
+    codes "form " ++ item_text p fault.item ++ codes " " ++ block_text p fault.item fault.block ++ codes " "
+    ++ decimal fault.place
     ++ codes " " ++ decimal fault.code ++ codes " " ++ rule_name fault.code
     )

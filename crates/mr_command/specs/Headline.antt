@@ -1,4 +1,5 @@
--- The headline: of a program and a legal schedule of it the report is what the machine comes to, and the machine always has a rule.
+-- The headline: of a program and a legal schedule of it the report is what the machine comes to, and the machine
+-- always has a rule.
 -- And what is said of a program's text, by what it denotes or breaks.
 use Rattle.std.specs.Prelude.{◌≡◌, ℕ, ◌⊎◌, List, [], Option, None, Some, Ok}
 use Rattle.mr_ast.specs.declared.program.Program.{Program}
@@ -23,11 +24,14 @@ IsReadFault rose status = rose × ((status ≡ 6) ⊎ (status ≡ 7))
 
 -- The answer is written, with its status, unless memory ran out or a read or a write failed.
 abbrev pub IsTold : Answer → Type 0 → Type 0 → Option (List ℕ) → Option (List ℕ) → ℕ → Type 0
-IsTold a files_rose out_rose old new status = IsWritten a out_rose old new status ⊎ (IsLeft old new status ⊎ IsReadFault files_rose status)
+IsTold a files_rose out_rose old new status =
+    IsWritten a out_rose old new status
+    ⊎ (IsLeft old new status ⊎ IsReadFault files_rose status)
 
 -- ---- runs
 
--- The command names a file whose text denotes the program, which is built and well-formed, and a file whose text is that of the schedule,
+-- The command names a file whose text denotes the program, which is built and well-formed, and a file whose text is
+-- that of the schedule,
 -- which is legal.
 pub record Names (files : Contents) (command : Option Command) (p : Program) (w : Schedule) : Type 0 where
   pub program_name : List ℕ
@@ -44,17 +48,21 @@ pub record Names (files : Contents) (command : Option Command) (p : Program) (w 
   pub legal : Legal p w
 
 -- No step is ill-formed; and the report of the run is written.
-pub record IsOfMachine (p : Program) (w : Schedule) (files_rose out_rose : Type 0) (old new : Option (List ℕ)) (status : ℕ) : Type 0 where
+pub record IsOfMachine (p : Program) (w : Schedule) (files_rose out_rose : Type 0) (old new : Option (List ℕ))
+    (status : ℕ) : Type 0 where
   pub sound : IsSoundRun p w
   pub report : IsTold (reported (run_of p w)) files_rose out_rose old new status
 
--- The files denote a well-formed program that is built, and a legal schedule of it; and the whole report of that run was written.
+-- The files denote a well-formed program that is built, and a legal schedule of it; and the whole report of that run
+-- was written.
 abbrev pub ReportsLegalRun : Contents → Option Command → Option (List ℕ) → Option (List ℕ) → ℕ → Type 0
 ReportsLegalRun files command old new status =
     (p : Program) × (w : Schedule) × Names files command p w × IsWhole (reported (run_of p w)) old new status
 
--- The command is to run a file whose text denotes the program, which is built and well-formed, under a file of this name.
-pub record RunsProgram (files : Contents) (command : Option Command) (p : Program) (schedule_name : List ℕ) : Type 0 where
+-- The command is to run a file whose text denotes the program, which is built and well-formed, under a file of this
+-- name.
+pub record RunsProgram (files : Contents) (command : Option Command) (p : Program) (schedule_name : List ℕ)
+    : Type 0 where
   pub name : List ℕ
   pub is_run : command ≡ Some (Run name schedule_name)
   pub text : List ℕ
@@ -72,7 +80,8 @@ pub record NamesScheduleFault (files : Contents) (command : Option Command) (lin
   pub there : files schedule_name ≡ Some text
   pub first : FirstScheduleFault text line code
 
--- Such a program is run under a file whose text is that of a schedule, and this is the first rule that the schedule breaks.
+-- Such a program is run under a file whose text is that of a schedule, and this is the first rule that the schedule
+-- breaks.
 pub record NamesBrokenSchedule (files : Contents) (command : Option Command) (fault : PlacedFault) : Type 0 where
   pub program : Program
   pub schedule_name : List ℕ
@@ -117,7 +126,8 @@ pub record RunsUnbuilt (files : Contents) (command : Option Command) (p : Progra
   pub denotes : Denotes text p
   pub not_built : ¬ Built p
 
--- the command is to check a file whose text denotes the program, or to run it where it is built, and this is the first rule that it breaks
+-- the command is to check a file whose text denotes the program, or to run it where it is built, and this is the
+-- first rule that it breaks
 pub record NamesBroken (files : Contents) (command : Option Command) (p : Program) (fault : FormFault) : Type 0 where
   pub name : List ℕ
   pub judges : (command ≡ Some (Check name)) ⊎ ((schedule : List ℕ) × (command ≡ Some (Run name schedule)) × Built p)

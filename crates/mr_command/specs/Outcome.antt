@@ -1,5 +1,6 @@
 -- How a call ends, whatever the files and the sink do.
-use Rattle.std.specs.Prelude.{◌≡◌, ℕ, ◌<◌, ◌⊎◌, List, [], length, take, Option, None, Some, Result, Ok, Err, bytes_eq, codes, if◌then◌else◌}
+use Rattle.std.specs.Prelude.{◌≡◌, ℕ, ◌<◌, ◌⊎◌, List, [], length, take, Option, None, Some, Result, Ok, Err}
+use Rattle.std.specs.Prelude.{bytes_eq, codes, if◌then◌else◌}
 use Rattle.std.specs.Io.KnownBytes.{append_known}
 use Rattle.mr_ast.specs.declared.program.Program.{Program}
 use Rattle.mr_io.specs.Files.{Contents}
@@ -19,7 +20,8 @@ Gives (Err refusal.NotBuilt) defined = defined ≡ Err refusal.NotBuilt
 Gives (Err refusal.ReadSchedule) defined = defined ≡ Err refusal.ReadSchedule
 Gives (Err (refusal.Schedule at code earlier)) defined = defined ≡ Err (refusal.Schedule at code earlier)
 
--- A read failed, which is counted: that of the program, or that of the schedule, behind a program that is built and breaks no rule.
+-- A read failed, which is counted: that of the program, or that of the schedule, behind a program that is built and
+-- breaks no rule.
 abbrev pub IsUnread : Contents → Option Command → Answer → Type 0
 IsUnread files None a = ⊥
 IsUnread files (Some (Run program schedule)) a =
@@ -35,7 +37,8 @@ IsPossible files command rose a = (a ≡ answer_of files command) ⊎ (rose × I
 abbrev pub IsWhole : Answer → Option (List ℕ) → Option (List ℕ) → ℕ → Type 0
 IsWhole a old new status = (status ≡ a.status) × (new ≡ append_known old a.text)
 
--- The sink took the whole text, and the status is the answer's; or the count of its faults rose, and it took a part from the front that is not the whole.
+-- The sink took the whole text, and the status is the answer's; or the count of its faults rose, and it took a part
+-- from the front that is not the whole.
 abbrev pub IsWritten : Answer → Type 0 → Option (List ℕ) → Option (List ℕ) → ℕ → Type 0
 IsWritten a rose old new status =
     IsWhole a old new status
@@ -55,19 +58,22 @@ Ends files command files_rose out_rose old new status =
 -- two files, named `program` and `schedule`, that hold these texts
 abbrev pub holding : List ℕ → List ℕ → Contents
 holding program schedule name =
-    if bytes_eq name (codes "program") then Some program else (if bytes_eq name (codes "schedule") then Some schedule else None)
+    if bytes_eq name (codes "program") then Some program
+    else (if bytes_eq name (codes "schedule") then Some schedule else None)
 
 -- the same command over these files
 abbrev pub over_holding : Command → Command
 over_holding (Run program schedule) = Run (codes "program") (codes "schedule")
 over_holding (Check program) = Check (codes "program")
 
--- How a call ends over files that don't tell what they hold: there are texts of the named files of which it ends as defined.
+-- How a call ends over files that don't tell what they hold: there are texts of the named files of which it ends as
+-- defined.
 -- Where a file is read twice, each read may have found another text.
 abbrev pub EndsOverTexts : Option Command → Type 0 → Type 0 → Option (List ℕ) → Option (List ℕ) → ℕ → Type 0
 EndsOverTexts None files_rose out_rose old new status = IsWritten usage out_rose old new status
 EndsOverTexts (Some c) files_rose out_rose old new status =
-    (program : List ℕ) × (schedule : List ℕ) × Ends (holding program schedule) (Some (over_holding c)) files_rose out_rose old new status
+    (program : List ℕ) × (schedule : List ℕ)
+    × Ends (holding program schedule) (Some (over_holding c)) files_rose out_rose old new status
 
 -- what a file was read for: as defined, or the read failed where the count of faults rose
 abbrev pub IsRead : {A : Type 0} → Type 0 → Refusal → Result A Refusal → Result A Refusal → Type 0

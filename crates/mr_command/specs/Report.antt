@@ -18,6 +18,7 @@ line text = text ++ 10 ∷ []
 abbrev pub print_line : Printed → List ℕ
 print_line p = line (codes "> " ++ p.text)
 
+-- what a verdict is called; behind an undefined one stand the reason's code and name
 abbrev pub verdict_text : Verdict → List ℕ
 verdict_text verdict.Running = codes "running"
 verdict_text verdict.Exit = codes "exit"
@@ -57,7 +58,9 @@ text_fault_name code =
 
 -- `text LINE COL CODE NAME`
 abbrev pub text_line : ℕ → ℕ → ℕ → List ℕ
-text_line at col code = line (codes "text " ++ decimal at ++ codes " " ++ decimal col ++ codes " " ++ decimal code ++ codes " " ++ text_fault_name code)
+text_line at col code =
+    line (codes "text " ++ decimal at ++ codes " " ++ decimal col
+    ++ codes " " ++ decimal code ++ codes " " ++ text_fault_name code)
 
 -- the name of a schedule's fault, by its code
 abbrev pub fault_name : ℕ → List ℕ
@@ -80,15 +83,18 @@ abbrev pub earlier_text : Option AllocId → List ℕ
 earlier_text None = []
 earlier_text (Some id) = codes " " ++ decimal id.thread ++ codes " " ++ decimal id.count
 
+-- the line of a refusal, and none for want of memory
 abbrev pub refusal_text : Refusal → List ℕ
 refusal_text refusal.ReadProgram = line (codes "read program")
 refusal_text (refusal.Text at col code) = text_line at col code
 refusal_text refusal.NotBuilt = text_line 1 1 90
 refusal_text refusal.ReadSchedule = line (codes "read schedule")
 refusal_text (refusal.Schedule at code earlier) =
-    line (codes "schedule " ++ decimal at ++ codes " " ++ decimal code ++ codes " " ++ fault_name code ++ earlier_text earlier)
+    line (codes "schedule " ++ decimal at ++ codes " " ++ decimal code
+    ++ codes " " ++ fault_name code ++ earlier_text earlier)
 refusal_text refusal.Memory = []
 
+-- the exit status of a refusal
 abbrev pub refusal_status : Refusal → ℕ
 refusal_status refusal.ReadProgram = 6
 refusal_status (refusal.Text at col code) = 3
@@ -97,5 +103,6 @@ refusal_status refusal.ReadSchedule = 6
 refusal_status (refusal.Schedule at code earlier) = 5
 refusal_status refusal.Memory = 8
 
+-- the line for words of no form
 abbrev pub usage_text : List ℕ
 usage_text = line (codes "usage: see the table of commands")

@@ -32,10 +32,12 @@ Stands look m defined = (m.failed ≡ false) × (m.look ≡ look) × (defined �
 abbrev pub Refuses : Refusal → Result (Config Own) Refusal → Type 0
 Refuses r defined = Gives (Err r) defined
 
+-- how a run is answered: by the machine where it ends, or by what refuses it
 abbrev pub RunAnswer : Program → Schedule → Result Standing Refusal → Type 0
 RunAnswer p w (Ok m) = (m.failed ≡ false) × (legal_run p w ≡ Ok m.config)
 RunAnswer p w (Err r) = Refuses r (legal_run p w)
 
+-- how entries from line 3 on are answered
 abbrev pub EntriesAnswer : List Entry → Standing → Standing → Result (Unit {0}) Refusal → Type 0
 EntriesAnswer es old new (Ok u) = Stands old.look new (legal_after old.look old.config 3 es)
 EntriesAnswer es old new (Err r) = Refuses r (legal_after old.look old.config 3 es)
@@ -44,6 +46,7 @@ EntriesAnswer es old new (Err r) = Refuses r (legal_after old.look old.config 3 
 abbrev pub legal_step : Look → Config Own → ℕ → Entry → Result (Config Own) Refusal
 legal_step look c line e = unless_broken (at_line line (program_fault look c e) None) (program_step look c e)
 
+-- how one entry is answered
 abbrev pub EntryAnswer : Entry → ℕ → Standing → Standing → Result (Unit {0}) Refusal → Type 0
 EntryAnswer e line old new (Ok u) = Stands old.look new (legal_step old.look old.config line e)
 EntryAnswer e line old new (Err r) = Refuses r (legal_step old.look old.config line e)
