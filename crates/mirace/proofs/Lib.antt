@@ -1,9 +1,1 @@
-pub mod AnswerLaws
-pub mod EndLaws
-pub mod Examples
-pub mod HeadlineLaws
-pub mod InputLaws
-pub mod NameLaws
-pub mod PrintLaws
-pub mod RunLaws
-pub mod UnreadLaws
+pub mod FirstLaws

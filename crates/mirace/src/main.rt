@@ -1,50 +1,32 @@
-//! `mirace run P S`: what the machine comes to that runs the program in file P under the recorded schedule in file S.
-//! `mirace check P`: the canonical text of the program in file P, where it is well-formed.
+//! The program: `mirace run P S` writes the report of the run of a program under a recorded schedule, and `mirace check P` the canonical
+//! text of a program.
 //!
-//! Where the text denotes no program, both write the first fault of it: its line, its column, a code and a name. A program that
-//! the machine doesn't run so far is refused by `run` alone. What is run so far is one frame: each program without `call`, `unwind`,
-//! `resume` and `stop`, and without intrinsics other than `print` and `assume`; its globals, types, places, values and statements are
-//! those of the whole language. Of a program that breaks a rule of well-formedness both write where the first one is broken: the global
-//! or function, the block, a place, a code and a name.
-//!
-//! The public call is [`mirace`], over files and a sink. Its promises are clauses of it: what is written and the status are those
-//! of `specs/Answer.antt`, and each fault has its cause. Of a well-formed program and a legal schedule the report is that of the
-//! machine of MiniRust, none of whose steps is ill-formed; and a text is answered by what it denotes or breaks
-//! (`specs/Headline.antt`).
+//! The public call is [`mirace`], over files and a sink, whose promises are its clauses; the library `mr_command` does what it asks
+//! for. `ended` gives the exit status of the process, and `words` the words behind the program's name, none of which is lost.
 #![tactic(auto)]
 
-ghost use Rattle.std.specs.Prelude.{◌≡◌, ◌+◌, ◌≤◌, ◌⊎◌, None, Some, map, string_bytes};
+ghost use Rattle.std.specs.Prelude.{◌≡◌, ℕ, drop, IfOk, IfErr, ◌+◌, ◌≤◌, ◌⊎◌, List, ◌++◌, None, Some, map, string_bytes};
 ghost use Rattle.mr_ast.specs.declared.program.Program.{Program};
 ghost use Rattle.mr_io.specs.Counts.{Rose};
 ghost use Rattle.mr_io.specs.Files.{Contents};
 ghost use Rattle.mr_lex.specs.declared.token.TextFault.{TextFault};
-ghost use Rattle.mr_sched.specs.declared.schedule.Schedule.{Schedule};
+ghost use Rattle.mr_sched.specs.declared.schedule.Schedule.{Schedule as Recorded};
+ghost use Rattle.mr_step.specs.Start.{PlacedFault};
 ghost use Rattle.mr_wf.specs.declared.fault.FormFault.{FormFault};
-ghost use Rattle.mirace.specs.Answer.{canonical, form_answer, refused, text_refusal, usage};
-ghost use Rattle.mirace.specs.Command.{asked, command_of, named_files};
-ghost use Rattle.mirace.specs.Headline.{ChecksProgram, IsOfMachine, IsTold, IsUnreadBecause, Names, NamesBroken, NamesFault, RunsUnbuilt};
-ghost use Rattle.mirace.specs.Outcome.{Ends, IsWritten};
-ghost use Rattle.mirace.specs.declared.refusal.Refusal.TheVariants.{NotBuilt};
+ghost use Rattle.mr_command.specs.Answer.{canonical, form_answer, refused, text_refusal, usage};
+ghost use Rattle.mr_command.specs.Command.{command_of, named_files, Check, NamesProgram, Run};
+ghost use Rattle.mr_command.specs.Headline.{AsksForSchedule, ChecksProgram, IsOfMachine, IsTold, IsUnreadBecause, Names, NamesBroken, NamesBrokenSchedule, NamesFault, NamesScheduleFault, ReportsLegalRun, RunsUnbuilt, WritesCanonical};
+ghost use Rattle.mr_command.specs.Outcome.{Ends, EndsOverTexts, IsWritten};
+ghost use Rattle.mr_command.specs.Report.{refusal_text};
+ghost use Rattle.mr_command.specs.declared.refusal.Refusal.TheVariants.{NotBuilt, ReadProgram, Schedule};
+ghost use Rattle.std.specs.Process.{exit_status};
+ghost use Rattle.std.specs.Vec.Iter.{into_iter_items};
 
-mod answer;
-mod command;
-mod form;
-mod input;
-mod refusal;
-mod report;
-mod run;
-mod writing;
-
-use crate::answer::answer;
-use crate::command::{Command, command_of};
-use crate::writing::{finish, refuse};
 use mr_io::{Files, HostFiles, HostOut, Sink};
-use std::alloc::Global;
-use std::env;
+use std::alloc::{AllocError, Global};
+use std::env::{self, Args};
 use std::io::{self, ErrorKind};
 use std::process::ExitCode;
-
-const USAGE: &[u8] = b"usage: see the table of commands\n";
 
 /// Does what the words behind the program's name ask for, and answers the exit status: 0 or 1 of a report, 0 of a canonical text,
 /// 2 of words without a form, 3 of a text that denotes no program or a program that isn't built, 4 of a program that breaks a rule
@@ -55,15 +37,28 @@ pub fn mirace<F: Files, O: Sink>(alloc: Global, words: &[String], files: &mut F,
         → Ends contents (command_of (map string_bytes words.now)) (Rose (F.faults files.old) (F.faults files.new))
         (Rose (O.faults out.old) (O.faults out.new)) (O.taken out.old) (O.taken out.new) result }
 
+    // Over files that don't: there are texts of which they are.
+    ensures untold { F.told files.old ≡ None
+        → EndsOverTexts (command_of (map string_bytes words.now)) (Rose (F.faults files.old) (F.faults files.new))
+        (Rose (O.faults out.old) (O.faults out.new)) (O.taken out.old) (O.taken out.new) result }
+
     // The headline.
-    ensures headline { (contents : Contents) (p : Program) (w : Schedule) → F.told files.old ≡ Some contents
+    ensures headline { (contents : Contents) (p : Program) (w : Recorded) → F.told files.old ≡ Some contents
         → Names contents (command_of (map string_bytes words.now)) p w
         → IsOfMachine p w (Rose (F.faults files.old) (F.faults files.new))
         (Rose (O.faults out.old) (O.faults out.new)) (O.taken out.old) (O.taken out.new) result }
-    ensures complete { (contents : Contents) (p : Program) (w : Schedule) → F.told files.old ≡ Some contents
+    ensures complete { (contents : Contents) (p : Program) (w : Recorded) → F.told files.old ≡ Some contents
         → Names contents (command_of (map string_bytes words.now)) p w
         → ¬ Rose (F.faults files.old) (F.faults files.new) → ¬ Rose (O.faults out.old) (O.faults out.new)
         → (result ≤ 1) ⊎ (result ≡ 8) }
+
+    // 0 and 1 are answered to nothing else: where a run is reported, the files denote a well-formed program and a legal schedule.
+    ensures only_legal { (contents : Contents) (program schedule : List ℕ) → F.told files.old ≡ Some contents
+        → command_of (map string_bytes words.now) ≡ Some (Run program schedule) → result ≤ 1
+        → ReportsLegalRun contents (command_of (map string_bytes words.now)) (O.taken out.old) (O.taken out.new) result }
+    ensures only_sound { (contents : Contents) (program : List ℕ) → F.told files.old ≡ Some contents
+        → command_of (map string_bytes words.now) ≡ Some (Check program) → result ≤ 1
+        → WritesCanonical contents (command_of (map string_bytes words.now)) (O.taken out.old) (O.taken out.new) result }
 
     // A program's text is answered by what it denotes or breaks, and a program by the first rule that it breaks.
     ensures canonical { (contents : Contents) (p : Program) → F.told files.old ≡ Some contents
@@ -83,7 +78,18 @@ pub fn mirace<F: Files, O: Sink>(alloc: Global, words: &[String], files: &mut F,
         → IsTold (refused NotBuilt) (Rose (F.faults files.old) (F.faults files.new))
         (Rose (O.faults out.old) (O.faults out.new)) (O.taken out.old) (O.taken out.new) result }
 
+    // So is a schedule: by its text's first fault, and by the first rule that it breaks.
+    ensures schedule_fault { (contents : Contents) (line code : ℕ) → F.told files.old ≡ Some contents
+        → NamesScheduleFault contents (command_of (map string_bytes words.now)) line code
+        → IsTold (refused (Schedule line code None)) (Rose (F.faults files.old) (F.faults files.new))
+        (Rose (O.faults out.old) (O.faults out.new)) (O.taken out.old) (O.taken out.new) result }
+    ensures broken_schedule { (contents : Contents) (fault : PlacedFault) → F.told files.old ≡ Some contents
+        → NamesBrokenSchedule contents (command_of (map string_bytes words.now)) fault
+        → IsTold (refused (Schedule fault.line fault.fault.code fault.fault.earlier)) (Rose (F.faults files.old) (F.faults files.new))
+        (Rose (O.faults out.old) (O.faults out.new)) (O.taken out.old) (O.taken out.new) result }
+
     // Whatever the files tell.
+    ensures bounded { result ≤ 8 }
     ensures usage { command_of (map string_bytes words.now) ≡ None
         → IsWritten usage (Rose (O.faults out.old) (O.faults out.new)) (O.taken out.old) (O.taken out.new) result }
     ensures no_usage { result ≡ 2 → command_of (map string_bytes words.now) ≡ None }
@@ -92,49 +98,57 @@ pub fn mirace<F: Files, O: Sink>(alloc: Global, words: &[String], files: &mut F,
     ensures memory { result ≡ 8 → O.taken out.new ≡ O.taken out.old }
     ensures same { F.told files.new ≡ F.told files.old }
     ensures reads { F.reads files.new ≤ F.reads files.old + named_files (command_of (map string_bytes words.now)) }
+
+    // The schedule is read behind the program alone, and where that is built and breaks no rule.
+    ensures once { (contents : Contents) (program : List ℕ) → F.told files.old ≡ Some contents
+        → NamesProgram (command_of (map string_bytes words.now)) program → ¬ AsksForSchedule (contents program)
+        → F.reads files.new ≤ F.reads files.old + 1 }
+    ensures first { (taken : List ℕ) → result ≡ 6 → O.taken out.old ≡ Some taken
+        → O.taken out.new ≡ Some (taken ++ refusal_text ReadProgram) → F.reads files.new ≤ F.reads files.old + 1 }
 {
-    match command_of(words) {
-        None => finish(out, USAGE, 2),
-        Some(command) => obey(alloc, files, out, command),
-    }
+    mr_command::mirace(alloc, words, files, out)
 }
 
-// Does what a command asks for.
-fn obey<F: Files, O: Sink>(alloc: Global, files: &mut F, out: &mut O, command: Command<'_>) -> u8
-    ensures ends { (contents : Contents) → F.told files.old ≡ Some contents
-        → Ends contents (Some (asked command.entry)) (Rose (F.faults files.old) (F.faults files.new))
-        (Rose (O.faults out.old) (O.faults out.new)) (O.taken out.old) (O.taken out.new) result }
-    ensures no_usage { ¬ result ≡ 2 }
-    ensures untold { F.told files.old ≡ None → result ≡ 6 → Rose (F.faults files.old) (F.faults files.new) }
-    ensures write_fault { result ≡ 7 → Rose (O.faults out.old) (O.faults out.new) }
-    ensures memory { result ≡ 8 → O.taken out.new ≡ O.taken out.old }
-    ensures same { F.told files.new ≡ F.told files.old }
-    ensures reads { F.reads files.new ≤ F.reads files.old + named_files (Some (asked command.entry)) }
+// What the process ends with: the status of the call, and 8 or 10 where the host doesn't give the words.
+fn ended<F: Files, O: Sink>(
+    alloc: Global,
+    words: io::Result<Vec<String>>,
+    files: &mut F,
+    out: &mut O,
+) -> ExitCode
+    ensures ends { IfOk words (λ given. (contents : Contents) → F.told files.old ≡ Some contents
+        → Ends contents (command_of (map string_bytes given.items)) (Rose (F.faults files.old) (F.faults files.new))
+        (Rose (O.faults out.old) (O.faults out.new)) (O.taken out.old) (O.taken out.new) (exit_status result)) }
+    ensures untold { IfOk words (λ given. F.told files.old ≡ None
+        → EndsOverTexts (command_of (map string_bytes given.items)) (Rose (F.faults files.old) (F.faults files.new))
+        (Rose (O.faults out.old) (O.faults out.new)) (O.taken out.old) (O.taken out.new) (exit_status result)) }
+    ensures usage { IfOk words (λ given. command_of (map string_bytes given.items) ≡ None
+        → IsWritten usage (Rose (O.faults out.old) (O.faults out.new)) (O.taken out.old) (O.taken out.new) (exit_status result)) }
+    ensures no_usage { IfOk words (λ given. exit_status result ≡ 2 → command_of (map string_bytes given.items) ≡ None) }
+    ensures no_words { IfErr words (λ _. (exit_status result ≡ 8) ⊎ (exit_status result ≡ 10)) }
 {
-    match answer(alloc, files, command) {
-        Ok(written) => finish(out, written.text.as_slice(), written.status),
-        Err(refusal) => refuse(alloc, out, refusal),
-    }
-}
-
-fn main(rt: HostRuntime) -> ExitCode {
-    match words(&rt) {
-        Ok(words) => {
-            let mut out = HostOut::new(rt.stdout());
-            let mut files = HostFiles::new(&rt);
-            ExitCode::from(mirace(rt.alloc(), words.as_slice(), &mut files, &mut out))
-        }
+    match words {
+        Ok(words) => ExitCode::from(mirace(alloc, words.as_slice(), files, out)),
         Err(error) if error.kind() == ErrorKind::OutOfMemory => ExitCode::from(8),
         Err(_) => ExitCode::from(10),
     }
 }
 
 // The words behind the program's name.
-fn words(rt: &HostRuntime) -> io::Result<Vec<String>> {
-    let mut words = env::args(rt)?;
-    words.next();
-    Ok(words.collect(rt.alloc())?)
+fn words(alloc: Global, all: Args) -> Result<Vec<String>, AllocError>
+    ensures { IfOk result (λ words. words.items ≡ drop 1 (into_iter_items all)) }
+{
+    let mut all = all;
+    all.next();
+    all.collect(alloc)
 }
 
-#[cfg(test)]
-mod tests;
+fn given(rt: &HostRuntime) -> io::Result<Vec<String>> {
+    Ok(words(rt.alloc(), env::args(rt)?)?)
+}
+
+fn main(rt: HostRuntime) -> ExitCode {
+    let mut out = HostOut::new(rt.stdout());
+    let mut files = HostFiles::new(&rt);
+    ended(rt.alloc(), given(&rt), &mut files, &mut out)
+}

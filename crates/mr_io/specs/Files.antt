@@ -15,7 +15,8 @@ GrowsBy n old new = (bytes : List ℕ) × (length bytes ≡ n) × (new ≡ old +
 
 -- at the end stand all the bytes of the file of the name, which are at most max
 abbrev pub GainsFile : Contents → List ℕ → ℕ → List ℕ → List ℕ → Type 0
-GainsFile files name max old new = (bytes : List ℕ) × (files name ≡ Some bytes) × (length bytes ≤ max) × (new ≡ old ++ bytes)
+GainsFile files name max old new =
+    (bytes : List ℕ) × (files name ≡ Some bytes) × (length bytes ≤ max) × (new ≡ old ++ bytes)
 
 -- the file of the name has more than max bytes
 abbrev pub IsLonger : Contents → List ℕ → ℕ → Type 0

@@ -1,3 +1,4 @@
+//! What reads files by name.
 ghost use Rattle.std.specs.Prelude.{◌≡◌, ℕ, ◌≤◌, Option, None, Some, IsSome, IsErrOf, OnOk, OnErr};
 ghost use Rattle.mr_io.specs.Counts.{raised, Rose};
 ghost use Rattle.mr_io.specs.Files.{Contents, GainsFile, Grows, IsLonger};

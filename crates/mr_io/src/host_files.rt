@@ -1,8 +1,9 @@
-ghost use Rattle.std.specs.Prelude.{◌≡◌, ◌+◌, ◌<◌, ◌≤◌, ◌^◌, None, IsErrOf, IfOk, OnOk, OnErr};
+//! Files of the host, read in pieces.
+ghost use Rattle.std.specs.Prelude.{◌≡◌, ◌+◌, ◌<◌, ◌≤◌, ◌^◌, ◌↔◌, ◌++◌, length, take, None, Ok, IsErr, IsErrOf, IfOk, OnOk, OnErr};
 ghost use Rattle.std.specs.Io.KnownBytes.{IsAtEnd};
 ghost use Rattle.mr_io.specs.Counts.{raised};
 ghost use Rattle.mr_io.specs.Files.{Grows, GrowsBy};
-ghost use Rattle.mr_io.specs.Host.{Moves};
+ghost use Rattle.mr_io.specs.Host.{IsTaken, Moves};
 
 use crate::files::{FileFault, Files};
 use std::alloc::Global;
@@ -98,7 +99,27 @@ fn take_file<R: rt::Files>(
     ensures long { IsErrOf result FileFault.Long → max < taken.new }
     ensures told { ¬ IsErrOf result FileFault.Missing }
 {
-    match fs::open(rt, name) {
+    take_opened(fs::open(rt, name), max, taken, into)
+}
+
+// Takes the bytes of a file, where the host opened it.
+fn take_opened<F: Read + Drop, E: Drop>(
+    opened: Result<F, E>,
+    max: u64,
+    taken: &mut u64,
+    into: &mut Vec<u8>,
+) -> Result<(), FileFault>
+    requires { taken.old ≡ 0 }
+    ensures taken { taken.new ≤ max + 1 }
+    ensures unopened { OnErr opened (IsErrOf result FileFault.Failed) }
+    ensures whole { IfOk opened (λ file.
+        OnOk result ((taken.new ≤ max) × IsTaken (F.remaining file) taken.new into.old.items into.new.items)) }
+    ensures ok { OnOk result ((taken.new ≤ max) × GrowsBy taken.new into.old.items into.new.items) }
+    ensures err { OnErr result (Grows into.old.items into.new.items) }
+    ensures long { IsErrOf result FileFault.Long → max < taken.new }
+    ensures told { ¬ IsErrOf result FileFault.Missing }
+{
+    match opened {
         Ok(mut file) => take_bytes(&mut file, max, taken, into),
         Err(_) => Err(FileFault::Failed),
     }
@@ -146,7 +167,27 @@ fn take_piece<F: Read>(
 {
     let mut piece = [0u8; PIECE];
     let most = left.min(PIECE as u64 - 1) as usize + 1;
-    let Ok(n) = file.read(&mut piece[..most]) else {
+    let read = file.read(&mut piece[..most]);
+    keep_piece(read, &piece, taken, into)
+}
+
+// Keeps the bytes that the host gave. It failed only where the host did.
+fn keep_piece<E: Drop>(
+    read: Result<usize, E>,
+    piece: &[u8],
+    taken: &mut u64,
+    into: &mut Vec<u8>,
+) -> Result<usize, FileFault>
+    requires within { IfOk read (λ n. n ≤ length piece.now) }
+    requires few { IfOk read (λ n. taken.old + n < 2 ^ 64) }
+    ensures failed { IsErrOf result FileFault.Failed ↔ IsErr read }
+    ensures taken { IfOk read (λ n. taken.new ≡ taken.old + n) }
+    ensures unread { IsErr read → taken.new ≡ taken.old }
+    ensures ok { IfOk result (λ n. (read ≡ Ok n) × (into.new.items ≡ into.old.items ++ take n piece.now)) }
+    ensures err { OnErr result (into.new.items ≡ into.old.items) }
+    ensures fault { (¬ IsErrOf result FileFault.Missing) × (¬ IsErrOf result FileFault.Long) }
+{
+    let Ok(n) = read else {
         return Err(FileFault::Failed);
     };
     *taken += n as u64;

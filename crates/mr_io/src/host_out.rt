@@ -1,4 +1,5 @@
-ghost use Rattle.std.specs.Prelude.{◌≡◌, ◌<◌, ◌≤◌, length, take, None, IfOk, IfSome, OnOk, OnErr};
+//! A writer of the host, as standard output.
+ghost use Rattle.std.specs.Prelude.{◌≡◌, ℕ, ◌<◌, ◌≤◌, length, take, None, Some, IsOk, IfOk, IfSome, OnOk, OnErr};
 ghost use Rattle.std.specs.Io.KnownBytes.{Appends};
 ghost use Rattle.mr_io.specs.Counts.{raised};
 
@@ -36,6 +37,10 @@ impl<W: Write + Drop> Sink for HostOut<W> {
         ensures taken { IfOk result (λ n.
             Appends (W.contents self.old.out) (W.contents self.new.out) (take n piece.now)) }
 
+        // A failed write leaves a part from the front at most.
+        ensures part { OnErr result ((n : ℕ) × (n ≤ length piece.now)
+            × Appends (W.contents self.old.out) (W.contents self.new.out) (take n piece.now)) }
+
         // A fault is counted.
         ensures ok { OnOk result (self.new.faults ≡ self.old.faults) }
         ensures failed { OnErr result (self.new.faults ≡ raised self.old.faults) }
@@ -55,9 +60,22 @@ impl<W: Write + Drop> Sink for HostOut<W> {
 fn put<W: Write>(out: &mut W, piece: &[u8]) -> Option<usize>
     ensures some { IfSome result (λ n. (1 ≤ n) × (n ≤ length piece.now)) }
     ensures taken { IfSome result (λ n. Appends (W.contents out.old) (W.contents out.new) (take n piece.now)) }
+    ensures part { (n : ℕ) × (n ≤ length piece.now)
+        × Appends (W.contents out.old) (W.contents out.new) (take n piece.now) }
 {
     match out.write(piece) {
-        Ok(n) if n > 0 && out.flush().is_ok() => Some(n),
+        Ok(n) => flushed(n, out.flush()),
+        Err(_) => None,
+    }
+}
+
+// How many bytes the host took, be they fewer than it was given, where there are some and it flushed them.
+fn flushed<E: Drop>(n: usize, flush: Result<(), E>) -> Option<usize>
+    ensures ok { 1 ≤ n → IsOk flush → result ≡ Some n }
+    ensures some { IfSome result (λ taken. (taken ≡ n) × (1 ≤ taken) × IsOk flush) }
+{
+    match flush {
+        Ok(()) if n > 0 => Some(n),
         _ => None,
     }
 }

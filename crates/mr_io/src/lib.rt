@@ -6,8 +6,10 @@
 //!
 //! Proved: a read appends the whole file or leaves what was there, and each answer has its cause: a failure of the host
 //! comes only where the count of faults rose, and the others only where the contents, if the object tells them, say so.
-//! `write_whole` has written the whole text, or has stopped at a fault behind a part of it. Of the host's files no clause
-//! says what they hold, and of standard output none says where its bytes go.
+//! `write_whole` has written the whole text, or has stopped at a fault behind a part of it; where it has, no write failed.
+//! A file that the host doesn't open is a failed read, and one that is read was taken up to its end. A piece fails only
+//! where the host's read did, and a write that took some bytes, be they few, and flushed them is Ok. Of the host's files no
+//! clause says what they hold, and of standard output none says where its bytes go.
 #![tactic(auto)]
 
 mod drawer;
@@ -27,6 +29,3 @@ pub use sqlite_items::Items;
 pub use std::alloc::AllocError as OutOfMemory;
 pub use text::Text;
 pub use tray::Tray;
-
-#[cfg(test)]
-mod tests;

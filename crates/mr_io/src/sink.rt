@@ -1,3 +1,4 @@
+//! What takes bytes, some at a time, and how a whole text is written.
 ghost use Rattle.std.specs.Prelude.{◌≡◌, ℕ, ◌<◌, ◌≤◌, List, Option, take, length, IfOk, OnOk, OnErr};
 ghost use Rattle.std.specs.Io.KnownBytes.{append_known};
 ghost use Rattle.mr_io.specs.Counts.{Rose};
@@ -23,6 +24,7 @@ pub trait Sink {
         ensures some { IfOk result (λ n. (1 ≤ n) × (n ≤ length piece.now)) }
         ensures ok { IfOk result (λ n. taken self.new ≡ append_known (taken self.old) (take n piece.now)) }
         ensures err { OnErr result (taken self.new ≡ taken self.old) }
+        ensures quiet { OnOk result (faults self.new ≡ faults self.old) }
         ensures failed { OnErr result (Rose (faults self.old) (faults self.new)) }
         ensures faults { faults self.old ≤ faults self.new };
 }
@@ -32,6 +34,7 @@ pub fn write_whole<O: Sink>(out: &mut O, text: &[u8]) -> Result<(), Failed>
     ensures whole { OnOk result (O.taken out.new ≡ append_known (O.taken out.old) text.now) }
     ensures prefix { OnErr result ((n : ℕ) × (n < length text.now)
         × (O.taken out.new ≡ append_known (O.taken out.old) (take n text.now))) }
+    ensures quiet { OnOk result (O.faults out.new ≡ O.faults out.old) }
     ensures failed { OnErr result (Rose (O.faults out.old) (O.faults out.new)) }
     ensures faults { O.faults out.old ≤ O.faults out.new }
     ensures empty { length text.now ≡ 0 → out.new ≡ out.old }

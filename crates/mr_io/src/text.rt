@@ -1,3 +1,4 @@
+//! Texts that contracts see as lists of bytes.
 ghost use Rattle.std.specs.Prelude.{◌≡◌, ◌++◌, ◌↔◌, [], length, slice_get, encode_utf8, IsTrue, IfOk, OnOk, OnErr};
 
 use crate::OutOfMemory;

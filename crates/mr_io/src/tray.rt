@@ -1,3 +1,4 @@
+//! A sink in memory, with room for so many bytes.
 ghost use Rattle.std.specs.Prelude.{◌≡◌, ◌-◌, ◌<◌, ◌≤◌, ◌↔◌, [], ◌++◌, length, min, take, Some, IfOk, IsErr, OnErr};
 ghost use Rattle.mr_io.specs.Counts.{raised};
 

@@ -6,7 +6,7 @@ abbrev pub invariant-loop-done : goal.invariant-loop-done
 invariant-loop-done g l = record {
   within : l.done ≤ length l.text;
   so_far : g.O.Sink.taken l.out ≡ append_known (g.O.Sink.taken l.initial.out) (take l.done l.text);
-  faults : g.O.Sink.faults l.initial.out ≤ g.O.Sink.faults l.out;
+  faults : g.O.Sink.faults l.out ≡ g.O.Sink.faults l.initial.out;
   none_yet : l.done ≡ 0 → l.out ≡ l.initial.out;
 }
 

@@ -1,9 +1,0 @@
-use Rattle.std.proofs.Common.{inl, ap}
-use Rattle.std.specs.Prelude.{Err}
-use Rattle.mirace.proofs.InputLaws.{long_program}
-use Rattle.mirace.proofs.input.read_program.Goals as goal
-
-pub returns-in-Err-Long-clause-read : goal.returns-in-Err-Long-clause-read
-returns-in-Err-Long-clause-read g c = λ contents told.
-    let long = c.in-Err-Long.ensures.long contents told (ap Err c.in-Err-Long.field-0-is) in
-    inl (long_program (contents c.args.name.now) long.0 long.1 long.2)

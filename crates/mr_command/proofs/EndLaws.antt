@@ -1,0 +1,99 @@
+-- How a command that was answered ends.
+use Rattle.std.proofs.Common.{◌≡◌, ℕ, ◌+◌, ap, ◌∙◌, sym, arith, List, ◌++◌, length, ◌⊎◌, inl, inr, refl}
+use Rattle.std.proofs.lemmas.List.{length-append}
+use Rattle.std.specs.Prelude.{Some, Option, Result, Ok, Err}
+use Rattle.mr_io.specs.Files.{Contents}
+use Rattle.mr_command.specs.declared.answer.Written.{Written}
+use Rattle.mr_command.specs.declared.refusal.Refusal.{Refusal}
+use Rattle.mr_command.specs.declared.refusal.Refusal.TheVariants as refusal
+use Rattle.mr_command.specs.Command.{Command, Run, Check}
+use Rattle.mr_command.specs.Answer.{Answer, answer_of, refused}
+use Rattle.mr_command.specs.Answering.{IsAnswered, Tells, seen}
+use Rattle.mr_command.specs.Outcome.{Ends, IsLeft, IsPossible, IsRefusedOrLeft, IsWritten}
+use Rattle.mr_command.specs.Report.{refusal_text}
+
+-- a refusal is what the answer says, unless memory ran out
+refusal_told : (answer : Answer) (r : Refusal) → Tells answer (Err r) → (r ≡ refusal.Memory) ⊎ (answer ≡ refused r)
+refusal_told answer refusal.Memory h = inl refl
+refusal_told answer refusal.ReadProgram h = inr h
+refusal_told answer (refusal.Text at col code) h = inr h
+refusal_told answer refusal.NotBuilt h = inr h
+refusal_told answer refusal.ReadSchedule h = inr h
+refusal_told answer (refusal.Schedule at code earlier) h = inr h
+
+same_refusal : {r s : Refusal} → ◌≡◌ {A = Result Written Refusal} (Err r) (Err s) → r ≡ s
+same_refusal e = cc
+
+module _ (files : Contents) (files_rose out_rose : Type 0) (old new : Option (List ℕ)) (status : ℕ) where
+  pub written_ends : (command : Command) (a : Written) → IsAnswered files command files_rose (Ok a) → IsWritten (seen a) out_rose old new status
+      → Ends files (Some command) files_rose out_rose old new status
+  written_ends (Run program schedule) a (inl tells) written = inr (seen a, inl tells, written)
+  written_ends (Run program schedule) a (inr (rose, inl e)) written = absurd (cc)
+  written_ends (Run program schedule) a (inr (rose, inr (p, built, unbroken, e))) written = absurd (cc)
+  written_ends (Check program) a (inl tells) written = inr (seen a, inl tells, written)
+  written_ends (Check program) a (inr (rose, e)) written = absurd (cc)
+
+  -- a refusal that is defined
+  is_defined : (command : Command) (r : Refusal) → IsAnswered files command files_rose (Err r) → (r ≡ refusal.Memory) ⊎ IsPossible files (Some command) files_rose (refused r)
+  is_defined (Run program schedule) r (inl tells) =
+      elim (refusal_told (answer_of files (Some (Run program schedule))) r tells) [ inl e ↦ inl e | inr e ↦ inr (inl (sym e)) ]
+  is_defined (Run program schedule) r (inr (rose, inl e)) = inr (inr (rose, inl (ap refused (same_refusal e))))
+  is_defined (Run program schedule) r (inr (rose, inr (p, built, unbroken, e))) = inr (inr (rose, inr (p, built, unbroken, ap refused (same_refusal e))))
+  is_defined (Check program) r (inl tells) =
+      elim (refusal_told (answer_of files (Some (Check program))) r tells) [ inl e ↦ inl e | inr e ↦ inr (inl (sym e)) ]
+  is_defined (Check program) r (inr (rose, e)) = inr (inr (rose, ap refused (same_refusal e)))
+
+  -- nothing was written, or the line of a refusal that isn't for want of memory
+  left_or_written : (r : Refusal) → IsRefusedOrLeft r out_rose old new status → IsLeft old new status ⊎ ((r ≡ refusal.Memory → ⊥) × IsWritten (refused r) out_rose old new status)
+  left_or_written refusal.Memory h = inl h
+  left_or_written refusal.ReadProgram (inl h) = inl h
+  left_or_written refusal.ReadProgram (inr h) = inr ((λ e. absurd (cc)), h)
+  left_or_written (refusal.Text at col code) (inl h) = inl h
+  left_or_written (refusal.Text at col code) (inr h) = inr ((λ e. absurd (cc)), h)
+  left_or_written refusal.NotBuilt (inl h) = inl h
+  left_or_written refusal.NotBuilt (inr h) = inr ((λ e. absurd (cc)), h)
+  left_or_written refusal.ReadSchedule (inl h) = inl h
+  left_or_written refusal.ReadSchedule (inr h) = inr ((λ e. absurd (cc)), h)
+  left_or_written (refusal.Schedule at code earlier) (inl h) = inl h
+  left_or_written (refusal.Schedule at code earlier) (inr h) = inr ((λ e. absurd (cc)), h)
+
+  pub refused_ends : (command : Command) (r : Refusal) → IsAnswered files command files_rose (Err r) → IsRefusedOrLeft r out_rose old new status
+      → Ends files (Some command) files_rose out_rose old new status
+  refused_ends command r answered ended = go (is_defined command r answered) (left_or_written r ended)
+    where
+      go : (r ≡ refusal.Memory) ⊎ IsPossible files (Some command) files_rose (refused r)
+          → IsLeft old new status ⊎ ((r ≡ refusal.Memory → ⊥) × IsWritten (refused r) out_rose old new status) → Ends files (Some command) files_rose out_rose old new status
+      go defined (inl left) = inl left
+      go (inl memory) (inr written) = absurd (written.0 memory)
+      go (inr possible) (inr written) = inr (refused r, possible, written.1)
+
+-- ---- which file was not read
+
+same_some : {A : Type 0} {x y : A} → Some x ≡ Some y → x ≡ y
+same_some e = cc
+
+-- the lines of the two reads that fail have 13 and 14 bytes
+other_line : (taken : List ℕ) → ◌≡◌ {A = Option (List ℕ)} (Some (taken ++ refusal_text refusal.ReadSchedule)) (Some (taken ++ refusal_text refusal.ReadProgram)) → ⊥
+other_line taken e =
+    let schedule : length (taken ++ refusal_text refusal.ReadSchedule) ≡ length taken + 14 = length-append taken (refusal_text refusal.ReadSchedule) in
+    let program : length (taken ++ refusal_text refusal.ReadProgram) ≡ length taken + 13 = length-append taken (refusal_text refusal.ReadProgram) in
+    let same : length (taken ++ refusal_text refusal.ReadSchedule) ≡ length (taken ++ refusal_text refusal.ReadProgram) = ap length (same_some e) in
+    absurd (omega arith)
+
+module _ (rose : Type 0) (taken : List ℕ) (new : Option (List ℕ)) (status : ℕ) (six : status ≡ 6) (line : new ≡ Some (taken ++ refusal_text refusal.ReadProgram)) where
+  -- where a read of the program is told, that is what refuses
+  pub program_unread : (r : Refusal) → IsRefusedOrLeft r rose (Some taken) new status → r ≡ refusal.ReadProgram
+  program_unread refusal.ReadProgram h = refl
+  program_unread refusal.Memory h = let eight = h.0 in absurd (omega arith)
+  program_unread (refusal.Text at col code) (inl h) = let eight = h.0 in absurd (omega arith)
+  program_unread (refusal.Text at col code) (inr (inl h)) = let three : status ≡ 3 = h.0 in absurd (omega arith)
+  program_unread (refusal.Text at col code) (inr (inr h)) = let seven = h.0 in absurd (omega arith)
+  program_unread refusal.NotBuilt (inl h) = let eight = h.0 in absurd (omega arith)
+  program_unread refusal.NotBuilt (inr (inl h)) = let three : status ≡ 3 = h.0 in absurd (omega arith)
+  program_unread refusal.NotBuilt (inr (inr h)) = let seven = h.0 in absurd (omega arith)
+  program_unread refusal.ReadSchedule (inl h) = let eight = h.0 in absurd (omega arith)
+  program_unread refusal.ReadSchedule (inr (inl h)) = absurd (other_line taken (sym h.1 ∙ line))
+  program_unread refusal.ReadSchedule (inr (inr h)) = let seven = h.0 in absurd (omega arith)
+  program_unread (refusal.Schedule at code earlier) (inl h) = let eight = h.0 in absurd (omega arith)
+  program_unread (refusal.Schedule at code earlier) (inr (inl h)) = let five : status ≡ 5 = h.0 in absurd (omega arith)
+  program_unread (refusal.Schedule at code earlier) (inr (inr h)) = let seven = h.0 in absurd (omega arith)

@@ -1,0 +1,11 @@
+pub mod AnswerLaws
+pub mod EndLaws
+pub mod Examples
+pub mod HeadlineLaws
+pub mod InputLaws
+pub mod NameLaws
+pub mod OnlyLaws
+pub mod PrintLaws
+pub mod RunLaws
+pub mod TextLaws
+pub mod UnreadLaws

@@ -1,0 +1,158 @@
+-- Where 0 or 1 is answered, the files hold what is defined for it.
+use Rattle.std.proofs.Common.{◌≡◌, ℕ, ◌≤◌, Bool, true, false, ap, ◌∙◌, sym, subst, arith, List, [], ◌∷◌, inl, inr, refl}
+use Rattle.std.specs.Prelude.{Some, None, Option, Result, Ok, Err, if◌then◌else◌}
+use Rattle.std.specs.Io.KnownBytes.{append_known}
+use Rattle.mr_ast.specs.declared.program.Program.{Program}
+use Rattle.mr_io.specs.Files.{Contents}
+use Rattle.mr_lex.specs.declared.token.TextFault.{TextFault}
+use Rattle.mr_parse.specs.Parsing.{parsed}
+use Rattle.mr_parse.proofs.ParsingLaws.{parsed_denotes}
+use Rattle.mr_parse.proofs.ShapedLaws.{denoted_is_shaped}
+use Rattle.mr_sched.specs.declared.schedule.Schedule.{Schedule}
+use Rattle.mr_sched.specs.Reading.{Fault, schedule_of}
+use Rattle.mr_sched.proofs.TextLaws.{schedule_read}
+use Rattle.mr_step.specs.Built.{is_built}
+use Rattle.mr_step.specs.Runs.{Config}
+use Rattle.mr_step.specs.Language.{Own}
+use Rattle.mr_step.specs.Start.{PlacedFault, run_of, schedule_fault}
+use Rattle.mr_step.proofs.BuiltLaws.{built_then}
+use Rattle.mr_step.proofs.RunLaws.{legal_schedule}
+use Rattle.mr_wf.specs.declared.fault.FormFault.{FormFault}
+use Rattle.mr_wf.specs.Walk.{WellFormed, faults_of}
+use Rattle.mr_command.specs.declared.refusal.Refusal.TheVariants as refusal
+use Rattle.mr_command.specs.Command.{Command, Run, Check}
+use Rattle.mr_command.specs.Answer.{Answer, answer_of, built_in, canonical, check_answer, denoted, form_or, if_built, legal_run, program_in, report_under, reported, run_answer, spelled, told, unless_broken, ◌>>=◌}
+use Rattle.mr_command.specs.Outcome.{Ends, IsWhole}
+use Rattle.mr_command.specs.Headline.{ChecksProgram, Names, ReportsLegalRun, WritesCanonical}
+use Rattle.mr_command.proofs.HeadlineLaws.{checked_answer, named_answer, ran_out, unread_status}
+
+-- a program that a text denotes and that breaks no rule is well-formed
+unbroken_well_formed : (text : List ℕ) (p : Program) → parsed text ≡ Ok p → faults_of p ≡ [] → WellFormed p
+unbroken_well_formed text p parses none = record { shaped = denoted_is_shaped text p (parsed_denotes text p parses); unbroken = none }
+
+-- ---- where a status is at most 1
+
+no_fault : (f : Option PlacedFault) (c : Config Own) → (told reported (unless_broken f c)).status ≤ 1 → f ≡ None
+no_fault None c s = refl
+no_fault (Some f) c s = let five : 5 ≤ 1 = s in absurd (omega arith)
+
+legal_schedule_of : (p : Program) (r : Result Schedule Fault) → (told reported (spelled r >>= legal_run p)).status ≤ 1
+    → (w : Schedule) × (r ≡ Ok w) × (schedule_fault p w ≡ None)
+legal_schedule_of p (Ok w) s = (w, refl, no_fault (schedule_fault p w) (run_of p w) s)
+legal_schedule_of p (Err f) s = let five : 5 ≤ 1 = s in absurd (omega arith)
+
+legal_schedule_in : (p : Program) (file : Option (List ℕ)) → (report_under file p).status ≤ 1
+    → (text : List ℕ) × (file ≡ Some text) × (w : Schedule) × (schedule_of text ≡ Ok w) × (schedule_fault p w ≡ None)
+legal_schedule_in p None s = let six : 6 ≤ 1 = s in absurd (omega arith)
+legal_schedule_in p (Some text) s = let (w, spells, lawful) = legal_schedule_of p (schedule_of text) s in (text, refl, w, spells, lawful)
+
+no_broken_rule : (p : Program) (faults : List FormFault) (a : Answer) → (form_or p faults a).status ≤ 1 → (faults ≡ []) × (a.status ≤ 1)
+no_broken_rule p [] a s = (refl, s)
+no_broken_rule p (f ∷ faults) a s = let four : 4 ≤ 1 = s in absurd (omega arith)
+
+-- a program that is run to a report is built, breaks no rule, and its schedule is reported
+pub record IsRunSoundly (p : Program) (schedule : Option (List ℕ)) : Type 0 where
+  pub built : is_built p ≡ true
+  pub unbroken : faults_of p ≡ []
+  pub small : (report_under schedule p).status ≤ 1
+
+run_soundly : (b : Bool) (p : Program) (schedule : Option (List ℕ)) → is_built p ≡ b
+    → (told (run_answer schedule) (if b then Ok p else Err refusal.NotBuilt)).status ≤ 1 → IsRunSoundly p schedule
+run_soundly true p schedule e s =
+    let unbroken = no_broken_rule p (faults_of p) (report_under schedule p) s in record { built = e; unbroken = unbroken.0; small = unbroken.1 }
+run_soundly false p schedule e s = let three : 3 ≤ 1 = s in absurd (omega arith)
+
+sound_program_of : (r : Result Program TextFault) (schedule : Option (List ℕ)) → (told (run_answer schedule) (denoted r >>= if_built)).status ≤ 1
+    → (p : Program) × (r ≡ Ok p) × IsRunSoundly p schedule
+sound_program_of (Ok p) schedule s = (p, refl, run_soundly (is_built p) p schedule refl s)
+sound_program_of (Err f) schedule s = let three : 3 ≤ 1 = s in absurd (omega arith)
+
+unbroken_program_of : (r : Result Program TextFault) → (told check_answer (denoted r)).status ≤ 1 → (p : Program) × (r ≡ Ok p) × (faults_of p ≡ [])
+unbroken_program_of (Ok p) s = (p, refl, (no_broken_rule p (faults_of p) (canonical p) s).0)
+unbroken_program_of (Err f) s = let three : 3 ≤ 1 = s in absurd (omega arith)
+
+module _ (files : Contents) where
+  named_of : (program schedule : List ℕ) (file : Option (List ℕ)) → files program ≡ file → (told (run_answer (files schedule)) (built_in file)).status ≤ 1
+      → (p : Program) × (w : Schedule) × Names files (Some (Run program schedule)) p w
+  named_of program schedule None e s = let six : 6 ≤ 1 = s in absurd (omega arith)
+  named_of program schedule (Some text) e s =
+      let (p, parses, sound) = sound_program_of (parsed text) (files schedule) s in
+      let (schedule_text, there, w, spells, lawful) = legal_schedule_in p (files schedule) sound.small in (
+        p,
+        w,
+        record {
+          program_name = program;
+          schedule_name = schedule;
+          is_run = refl;
+          program_text = text;
+          program_there = e;
+          denotes = parsed_denotes text p parses;
+          built = built_then p sound.built;
+          well_formed = unbroken_well_formed text p parses sound.unbroken;
+          schedule_text = schedule_text;
+          schedule_there = there;
+          schedules = schedule_read schedule_text w spells;
+          legal = legal_schedule p w lawful;
+        },
+      )
+
+  checked_of : (program : List ℕ) (file : Option (List ℕ)) → files program ≡ file → (told check_answer (program_in file)).status ≤ 1
+      → (p : Program) × ChecksProgram files (Some (Check program)) p
+  checked_of program None e s = let six : 6 ≤ 1 = s in absurd (omega arith)
+  checked_of program (Some text) e s =
+      let (p, parses, unbroken) = unbroken_program_of (parsed text) s in (
+        p,
+        record {
+          name = program;
+          is_check = refl;
+          text = text;
+          there = e;
+          denotes = parsed_denotes text p parses;
+          well_formed = unbroken_well_formed text p parses unbroken;
+        },
+      )
+
+-- ---- how a call ends with 0 or 1
+
+module _ (files : Contents) (files_rose out_rose : Type 0) (old new : Option (List ℕ)) (status : ℕ) where
+  -- the answer by definition is written whole
+  whole_answer : (command : Option Command) → Ends files command files_rose out_rose old new status → status ≤ 1 → IsWhole (answer_of files command) old new status
+  whole_answer command (inl out) s = let eight = (ran_out command old new status out).0 in absurd (omega arith)
+  whole_answer command (inr (a, inl is, inl (same, text))) s = (same ∙ ap (λ (b : Answer). b.status) is, text ∙ ap (λ (b : Answer). append_known old b.text) is)
+  whole_answer command (inr (a, inl is, inr (seven, rises, part))) s = absurd (omega arith)
+  whole_answer command (inr (a, inr (rose, unread), inl (same, text))) s = let six = unread_status files command a unread in absurd (omega arith)
+  whole_answer command (inr (a, inr (rose, unread), inr (seven, rises, part))) s = absurd (omega arith)
+
+  small_answer : (a : Answer) → IsWhole a old new status → status ≤ 1 → a.status ≤ 1
+  small_answer a whole s = let same = whole.0 in omega arith
+
+  same_whole : (a b : Answer) → a ≡ b → IsWhole a old new status → IsWhole b old new status
+  same_whole a b e whole = subst (λ c. IsWhole c old new status) e whole
+
+  run_only : (program schedule : List ℕ) → Ends files (Some (Run program schedule)) files_rose out_rose old new status → status ≤ 1
+      → ReportsLegalRun files (Some (Run program schedule)) old new status
+  run_only program schedule ends s =
+      let command = Some (Run program schedule) in
+      let whole = whole_answer command ends s in
+      let (p, w, names) = named_of files program schedule (files program) refl (small_answer (answer_of files command) whole s) in
+      (p, w, names, same_whole (answer_of files command) (reported (run_of p w)) (named_answer files command p w names) whole)
+
+  check_only : (program : List ℕ) → Ends files (Some (Check program)) files_rose out_rose old new status → status ≤ 1
+      → WritesCanonical files (Some (Check program)) old new status
+  check_only program ends s =
+      let command = Some (Check program) in
+      let whole = whole_answer command ends s in
+      let (p, checks) = checked_of files program (files program) refl (small_answer (answer_of files command) whole s) in
+      (p, checks, same_whole (answer_of files command) (canonical p) (checked_answer files command p checks) whole)
+
+  pub only_legal : (command : Option Command) (program schedule : List ℕ) → command ≡ Some (Run program schedule)
+      → Ends files command files_rose out_rose old new status → status ≤ 1 → ReportsLegalRun files command old new status
+  only_legal command program schedule e =
+      let P : Option Command → Type 0 = λ c. Ends files c files_rose out_rose old new status → status ≤ 1 → ReportsLegalRun files c old new status in
+      subst P (sym e) (run_only program schedule)
+
+  pub only_sound : (command : Option Command) (program : List ℕ) → command ≡ Some (Check program)
+      → Ends files command files_rose out_rose old new status → status ≤ 1 → WritesCanonical files command old new status
+  only_sound command program e =
+      let P : Option Command → Type 0 = λ c. Ends files c files_rose out_rose old new status → status ≤ 1 → WritesCanonical files c old new status in
+      subst P (sym e) (check_only program)

@@ -1,0 +1,52 @@
+-- How a command is answered over texts that its files have, whatever they tell.
+use Rattle.std.proofs.Common.{◌≡◌, ℕ, ◌≤◌, ap, ◌∙◌, sym, subst, arith, List, [], inl, inr, codes}
+use Rattle.std.specs.Prelude.{Some, Option, Result, Ok, Err}
+use Rattle.mr_ast.specs.declared.program.Program.{Program}
+use Rattle.mr_io.specs.Counts.{Rose, raised}
+use Rattle.mr_wf.specs.Walk.{WellFormed}
+use Rattle.mr_command.specs.declared.answer.Written.{Written}
+use Rattle.mr_command.specs.declared.refusal.Refusal.{Refusal}
+use Rattle.mr_command.specs.declared.refusal.Refusal.TheVariants as refusal
+use Rattle.mr_command.specs.Answer.{built_in, form_or, if_built, program_in, report_under, run_answer, told, ◌>>=◌}
+use Rattle.mr_command.specs.Answering.{IsFormOrReport, IsReported, IsRunOrUnread, Tells, TellsOrUnread}
+use Rattle.mr_command.specs.Outcome.{Gives, IsRead, holding}
+
+-- a count that rose later rose in all
+pub rose_in_all : (first then last : ℕ) → first ≤ then → Rose then last → Rose first last
+rose_in_all first then last h rose = grind arith
+
+-- what was read is defined
+pub was_read : {A : Type 0} (x : A) (rose : Type 0) (unread : Refusal) (defined : Result A Refusal) → IsRead rose unread (Ok x) defined → defined ≡ Ok x
+was_read x rose unread defined (inl h) = h
+was_read x rose unread defined (inr h) = let e = h.1 in absurd (cc)
+
+-- a checked program is answered by the report
+pub checked_reported : (p q : Program) (file : Option (List ℕ)) (rose : Type 0) (result : Result Written Refusal) → (q ≡ p) × WellFormed p
+    → TellsOrUnread rose (report_under file q) result → IsFormOrReport rose file p result
+checked_reported p q file rose result (same, well) (inl tells) =
+    inl (subst (λ a. Tells a result) (ap (report_under file) same ∙ sym (ap (λ faults. form_or p faults (report_under file p)) well.unbroken)) tells)
+checked_reported p q file rose result (same, well) (inr (rises, is)) = inr (rises, well.unbroken, is)
+
+-- a program that was read is answered by its run
+pub run_over : (program schedule : List ℕ) (p : Program) (later rose : Type 0) (result : Result Written Refusal) → (later → rose) → program_in (Some program) ≡ Ok p
+    → IsRunOrUnread later (Some schedule) p result → IsReported (holding program schedule) (codes "program") (codes "schedule") rose result
+run_over program schedule p later rose result up e (inl tells) =
+    inl (subst (λ r. Tells (told (run_answer (Some schedule)) r) result) (sym (ap (λ r. r >>= if_built) e)) tells)
+run_over program schedule p later rose result up e (inr (rises, built, unbroken, is)) = inr (up rises, inr (p, ap (λ r. r >>= if_built) e ∙ built, unbroken, is))
+
+-- what refuses a program's text is told
+refused_over : (program : List ℕ) (r : Refusal) → Gives {A = Program} (Err r) (program_in (Some program)) → Tells (told (run_answer (Some [])) (built_in (Some program))) (Err r)
+refused_over program refusal.Memory h = tt
+refused_over program refusal.ReadProgram h = ap (λ x. told (run_answer (Some [])) (x >>= if_built)) h
+refused_over program (refusal.Text at col code) h = ap (λ x. told (run_answer (Some [])) (x >>= if_built)) h
+refused_over program refusal.NotBuilt h = ap (λ x. told (run_answer (Some [])) (x >>= if_built)) h
+refused_over program refusal.ReadSchedule h = ap (λ x. told (run_answer (Some [])) (x >>= if_built)) h
+refused_over program (refusal.Schedule at code earlier) h = ap (λ x. told (run_answer (Some [])) (x >>= if_built)) h
+
+same_refusal : {r s : Refusal} → ◌≡◌ {A = Result Program Refusal} (Err r) (Err s) → r ≡ s
+same_refusal e = cc
+
+pub unread_over : (program : List ℕ) (r : Refusal) (rose : Type 0) → IsRead {A = Program} rose refusal.ReadProgram (Err r) (program_in (Some program))
+    → IsReported (holding program []) (codes "program") (codes "schedule") rose (Err r)
+unread_over program r rose (inl h) = inl (refused_over program r h)
+unread_over program r rose (inr (rises, e)) = inr (rises, inl (ap Err (same_refusal e)))

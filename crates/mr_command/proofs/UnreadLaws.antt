@@ -1,0 +1,90 @@
+-- Why a file was not read.
+use Rattle.std.proofs.Common.{◌≡◌, ℕ, Bool, true, false, ap, ◌∙◌, sym, arith, List, [], ◌∷◌, ◌⊎◌, inl, inr, refl}
+use Rattle.std.specs.Prelude.{Some, None, Option, Result, Ok, Err, if◌then◌else◌}
+use Rattle.mr_ast.specs.declared.program.Program.{Program}
+use Rattle.mr_io.specs.Files.{Contents}
+use Rattle.mr_lex.specs.declared.token.TextFault.{TextFault}
+use Rattle.mr_parse.specs.Parsing.{parsed}
+use Rattle.mr_sched.specs.declared.schedule.Schedule.{Schedule}
+use Rattle.mr_sched.specs.Reading.{Fault, schedule_of}
+use Rattle.mr_step.specs.Built.{is_built}
+use Rattle.mr_step.specs.Runs.{Config}
+use Rattle.mr_step.specs.Language.{Own}
+use Rattle.mr_step.specs.Start.{PlacedFault, run_of, schedule_fault}
+use Rattle.mr_wf.specs.declared.fault.FormFault.{FormFault}
+use Rattle.mr_wf.specs.Walk.{faults_of}
+use Rattle.mr_command.specs.declared.refusal.Refusal.TheVariants as refusal
+use Rattle.mr_command.specs.Command.{Command, Run, Check}
+use Rattle.mr_command.specs.Answer.{Answer, answer_of, built_in, canonical, check_answer, denoted, form_or, if_built, legal_run, program_in, report_under, reported, run_answer, spelled, told, unless_broken, ◌>>=◌}
+use Rattle.mr_command.specs.Outcome.{Ends, IsPossible}
+use Rattle.mr_command.specs.Headline.{IsUnreadBecause, LacksFile}
+use Rattle.mr_command.proofs.HeadlineLaws.{at_most_one, ran_out, written_status}
+
+-- ---- the status 6 is that of a file that isn't there
+
+of_legal : (f : Option PlacedFault) (c : Config Own) → (told reported (unless_broken f c)).status ≡ 6 → ⊥
+of_legal None c s = let least = at_most_one c.verdict in absurd (omega arith)
+of_legal (Some f) c s = let five : 5 ≡ 6 = s in absurd (omega arith)
+
+of_schedule : (p : Program) (r : Result Schedule Fault) → (told reported (spelled r >>= legal_run p)).status ≡ 6 → ⊥
+of_schedule p (Ok w) s = of_legal (schedule_fault p w) (run_of p w) s
+of_schedule p (Err f) s = let five : 5 ≡ 6 = s in absurd (omega arith)
+
+of_report : (p : Program) (file : Option (List ℕ)) → (report_under file p).status ≡ 6 → file ≡ None
+of_report p None s = refl
+of_report p (Some bytes) s = absurd (of_schedule p (schedule_of bytes) s)
+
+-- the line of a broken rule has another status
+of_form : (p : Program) (faults : List FormFault) (a : Answer) → (form_or p faults a).status ≡ 6 → a.status ≡ 6
+of_form p [] a s = s
+of_form p (f ∷ faults) a s = let four : 4 ≡ 6 = s in absurd (omega arith)
+
+of_built : (b : Bool) (p : Program) (file : Option (List ℕ)) → (told (run_answer file) (if b then Ok p else Err refusal.NotBuilt)).status ≡ 6 → file ≡ None
+of_built true p file s = of_report p file (of_form p (faults_of p) (report_under file p) s)
+of_built false p file s = let three : 3 ≡ 6 = s in absurd (omega arith)
+
+of_run : (r : Result Program TextFault) (file : Option (List ℕ)) → (told (run_answer file) (denoted r >>= if_built)).status ≡ 6 → file ≡ None
+of_run (Ok p) file s = of_built (is_built p) p file s
+of_run (Err f) file s = let three : 3 ≡ 6 = s in absurd (omega arith)
+
+of_canonical : (p : Program) → (canonical p).status ≡ 6 → ⊥
+of_canonical p s = let zero : 0 ≡ 6 = s in absurd (omega arith)
+
+of_check : (r : Result Program TextFault) → (told check_answer (denoted r)).status ≡ 6 → ⊥
+of_check (Ok p) s = of_canonical p (of_form p (faults_of p) (canonical p) s)
+of_check (Err f) s = let three : 3 ≡ 6 = s in absurd (omega arith)
+
+run_lacks : (files : Contents) (program schedule : List ℕ) (file : Option (List ℕ)) → files program ≡ file
+    → (told (run_answer (files schedule)) (built_in file)).status ≡ 6 → LacksFile files (Some (Run program schedule))
+run_lacks files program schedule None e s = inl (program, inr (schedule, refl), e)
+run_lacks files program schedule (Some bytes) e s = inr (program, schedule, refl, of_run (parsed bytes) (files schedule) s)
+
+check_lacks : (files : Contents) (program : List ℕ) (file : Option (List ℕ)) → files program ≡ file
+    → (told check_answer (program_in file)).status ≡ 6 → LacksFile files (Some (Check program))
+check_lacks files program None e s = inl (program, inl refl, e)
+check_lacks files program (Some bytes) e s = absurd (of_check (parsed bytes) s)
+
+lacks : (files : Contents) (command : Option Command) → (answer_of files command).status ≡ 6 → LacksFile files command
+lacks files None s = let two : 2 ≡ 6 = s in absurd (omega arith)
+lacks files (Some (Run program schedule)) s = run_lacks files program schedule (files program) refl s
+lacks files (Some (Check program)) s = check_lacks files program (files program) refl s
+
+-- ---- how a call ends with it
+
+module _ (command : Option Command) (files_rose out_rose : Type 0) (old new : Option (List ℕ)) (status : ℕ) (six : status ≡ 6) where
+  possible_unread : (files : Contents) (a : Answer) → IsPossible files command files_rose a → a.status ≡ 6 → files_rose ⊎ LacksFile files command
+  possible_unread files a (inl is) s = inr (lacks files command (sym (ap (λ (b : Answer). b.status) is) ∙ s))
+  possible_unread files a (inr unread) s = inl unread.0
+
+  ends_unread : (files : Contents) → Ends files command files_rose out_rose old new status → files_rose ⊎ LacksFile files command
+  ends_unread files (inl out) = let eight = (ran_out command old new status out).0 in absurd (omega arith)
+  ends_unread files (inr (a, possible, written)) =
+      elim (written_status a out_rose old new status written) [
+        | inl s ↦ possible_unread files a possible (sym s ∙ six)
+        | inr f ↦ let seven = f.1 in absurd (omega arith)
+      ]
+
+  pub unread_because : (tale : Option Contents) → (tale ≡ None → files_rose)
+      → ((files : Contents) → tale ≡ Some files → Ends files command files_rose out_rose old new status) → IsUnreadBecause files_rose tale command
+  unread_because None untold ends = inl (untold refl)
+  unread_because (Some files) untold ends = elim (ends_unread files (ends files refl)) [ inl rose ↦ inl rose | inr lacking ↦ inr (files, refl, lacking) ]

@@ -1,0 +1,125 @@
+-- What a call answers by definition: a text and a status, from the words and what the files hold.
+use Rattle.std.specs.Prelude.{ℕ, List, [], ◌∷◌, Option, None, Some, Result, Ok, Err, if◌then◌else◌}
+use Rattle.mr_ast.specs.declared.program.Program.{Program}
+use Rattle.mr_ast.specs.Canon.{canonical_text}
+use Rattle.mr_io.specs.Files.{Contents}
+use Rattle.mr_lex.specs.declared.token.TextFault.{TextFault}
+use Rattle.mr_parse.specs.Parsing.{parsed}
+use Rattle.mr_sched.specs.declared.schedule.Schedule.{Schedule}
+use Rattle.mr_sched.specs.Reading.{Fault, schedule_of}
+use Rattle.mr_step.specs.Built.{is_built}
+use Rattle.mr_step.specs.Runs.{Config}
+use Rattle.mr_step.specs.Language.{Own}
+use Rattle.mr_step.specs.Start.{run_of, schedule_fault, PlacedFault}
+use Rattle.mr_wf.specs.declared.fault.FormFault.{FormFault}
+use Rattle.mr_wf.specs.Walk.{faults_of}
+use Rattle.mr_command.specs.declared.refusal.Refusal.{Refusal}
+use Rattle.mr_command.specs.declared.refusal.Refusal.TheVariants as refusal
+use Rattle.mr_command.specs.Command.{Command, Run, Check}
+use Rattle.mr_command.specs.Form.{form_line}
+use Rattle.mr_command.specs.Report.{report_of, verdict_status, refusal_text, refusal_status, usage_text}
+
+-- What is found leads on, and what refuses it stays.
+infixl 10 ◌>>=◌
+abbrev pub ◌>>=◌ : {A B : Type 0} → Result A Refusal → (A → Result B Refusal) → Result B Refusal
+(Ok x) >>= f = f x
+(Err r) >>= f = Err r
+
+-- the first fault of a text, as a refusal
+abbrev pub text_refusal : TextFault → Refusal
+text_refusal f = refusal.Text f.line f.col f.code
+
+-- the program that a text denotes, or the text's first fault
+abbrev pub denoted : Result Program TextFault → Result Program Refusal
+denoted (Ok p) = Ok p
+denoted (Err f) = Err (text_refusal f)
+
+-- the program in a file
+abbrev pub program_in : Option (List ℕ) → Result Program Refusal
+program_in None = Err refusal.ReadProgram
+program_in (Some bytes) = denoted (parsed bytes)
+
+-- the program, where the machine runs it
+abbrev pub if_built : Program → Result Program Refusal
+if_built p = if is_built p then Ok p else Err refusal.NotBuilt
+
+-- the program in a file, where the machine runs it
+abbrev pub built_in : Option (List ℕ) → Result Program Refusal
+built_in file = program_in file >>= if_built
+
+-- the schedule that a text spells, or the text's first fault, as a refusal
+abbrev pub spelled : Result Schedule Fault → Result Schedule Refusal
+spelled (Ok w) = Ok w
+spelled (Err f) = Err (refusal.Schedule f.line f.code None)
+
+-- the schedule in a file
+abbrev pub schedule_in : Option (List ℕ) → Result Schedule Refusal
+schedule_in None = Err refusal.ReadSchedule
+schedule_in (Some bytes) = spelled (schedule_of bytes)
+
+-- a thing, or the rule that is broken, as a refusal
+abbrev pub unless_broken : {A : Type 0} → Option PlacedFault → A → Result A Refusal
+unless_broken None x = Ok x
+unless_broken (Some f) x = Err (refusal.Schedule f.line f.fault.code f.fault.earlier)
+
+-- where the run of a program under a schedule ends, or the first rule that the schedule breaks
+abbrev pub legal_run : Program → Schedule → Result (Config Own) Refusal
+legal_run p w = unless_broken (schedule_fault p w) (run_of p w)
+
+-- the run of a program under the schedule in a file
+abbrev pub run_under : Option (List ℕ) → Program → Result (Config Own) Refusal
+run_under file p = schedule_in file >>= legal_run p
+
+-- What is written, and the exit status.
+pub record Answer : Type 0 where
+  pub text : List ℕ
+  pub status : ℕ
+
+-- the line of a refusal, and its status
+abbrev pub refused : Refusal → Answer
+refused r = record { text = refusal_text r; status = refusal_status r }
+
+-- the report of a run that stands here, and its status
+abbrev pub reported : Config Own → Answer
+reported c = record { text = report_of c.output c.verdict; status = verdict_status c.verdict }
+
+-- the canonical text of a program
+abbrev pub canonical : Program → Answer
+canonical p = record { text = canonical_text p; status = 0 }
+
+-- what is said of what was found, or what refuses it
+abbrev pub told : {A : Type 0} → (A → Answer) → Result A Refusal → Answer
+told say (Ok x) = say x
+told say (Err r) = refused r
+
+-- the line of a rule that a program breaks
+abbrev pub form_answer : Program → FormFault → Answer
+form_answer p fault = record { text = form_line p fault; status = 4 }
+
+-- the line of the first of these faults of a program, and what is said where there is none
+abbrev pub form_or : Program → List FormFault → Answer → Answer
+form_or p [] a = a
+form_or p (fault ∷ faults) a = form_answer p fault
+
+-- what is said of a program that is checked: its canonical text, where it breaks no rule
+abbrev pub check_answer : Program → Answer
+check_answer p = form_or p (faults_of p) (canonical p)
+
+-- the report of the run of a program under the schedule in a file, or what refuses it: first of the schedule's file,
+-- then of the run
+abbrev pub report_under : Option (List ℕ) → Program → Answer
+report_under file p = told reported (run_under file p)
+
+-- what is said of a program that is run under the schedule in a file: the report, where the program breaks no rule
+abbrev pub run_answer : Option (List ℕ) → Program → Answer
+run_answer file p = form_or p (faults_of p) (report_under file p)
+
+-- what words of no form are told
+abbrev pub usage : Answer
+usage = record { text = usage_text; status = 2 }
+
+-- THE ANSWER to a command over these files; words of no form are told the usage
+abbrev pub answer_of : Contents → Option Command → Answer
+answer_of files None = usage
+answer_of files (Some (Run program schedule)) = told (run_answer (files schedule)) (built_in (files program))
+answer_of files (Some (Check program)) = told check_answer (program_in (files program))

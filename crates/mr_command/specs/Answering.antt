@@ -1,0 +1,79 @@
+-- How a command is answered, whatever the files do.
+use Rattle.std.specs.Prelude.{◌≡◌, ℕ, ◌≤◌, ◌⊎◌, List, [], Option, Some, Result, Ok, Err}
+use Rattle.mr_ast.specs.declared.program.Program.{Program}
+use Rattle.mr_io.specs.Files.{Contents}
+use Rattle.mr_wf.specs.Walk.{faults_of}
+use Rattle.mr_command.specs.declared.answer.Written.{Written}
+use Rattle.mr_command.specs.declared.refusal.Refusal.{Refusal}
+use Rattle.mr_command.specs.declared.refusal.Refusal.TheVariants as refusal
+use Rattle.mr_command.specs.Answer.{Answer, built_in, check_answer, if_built, program_in, refused, run_answer, told}
+use Rattle.mr_command.specs.Command.{Command, Run, Check}
+use Rattle.mr_command.specs.Outcome.{holding, over_holding}
+
+-- what is written, seen as an answer
+abbrev pub seen : Written → Answer
+seen a = record { text = a.text.items; status = a.status }
+
+-- the status of a report, of a canonical text, or of a rule that a program breaks
+abbrev pub IsStatus : ℕ → Type 0
+IsStatus status = (status ≤ 1) ⊎ (status ≡ 4)
+
+-- What is written is the answer, or what refuses is; unless memory ran out.
+abbrev pub Tells : Answer → Result Written Refusal → Type 0
+Tells answer (Ok a) = seen a ≡ answer
+Tells answer (Err refusal.Memory) = Unit {0}
+Tells answer (Err refusal.ReadProgram) = answer ≡ refused refusal.ReadProgram
+Tells answer (Err (refusal.Text at col code)) = answer ≡ refused (refusal.Text at col code)
+Tells answer (Err refusal.NotBuilt) = answer ≡ refused refusal.NotBuilt
+Tells answer (Err refusal.ReadSchedule) = answer ≡ refused refusal.ReadSchedule
+Tells answer (Err (refusal.Schedule at code earlier)) = answer ≡ refused (refusal.Schedule at code earlier)
+
+-- or the read of the schedule failed
+abbrev pub TellsOrUnread : Type 0 → Answer → Result Written Refusal → Type 0
+TellsOrUnread rose answer result = Tells answer result ⊎ (rose × (result ≡ Err refusal.ReadSchedule))
+
+-- what is said of a built program that is run under the schedule in a file; or, where it breaks no rule, the read of
+-- that failed
+abbrev pub IsFormOrReport : Type 0 → Option (List ℕ) → Program → Result Written Refusal → Type 0
+IsFormOrReport rose file p result =
+    Tells (run_answer file p) result
+    ⊎ (rose × (faults_of p ≡ []) × (result ≡ Err refusal.ReadSchedule))
+
+-- the same of a program that may not be built
+abbrev pub IsRunOrUnread : Type 0 → Option (List ℕ) → Program → Result Written Refusal → Type 0
+IsRunOrUnread rose file p result =
+    Tells (told (run_answer file) (if_built p)) result
+    ⊎ (rose × (if_built p ≡ Ok p) × (faults_of p ≡ []) × (result ≡ Err refusal.ReadSchedule))
+
+-- a read failed: that of the program, or that of the schedule behind a program that is built and breaks no rule
+abbrev pub IsUnreadHere : Contents → List ℕ → Result Written Refusal → Type 0
+IsUnreadHere files program result =
+    (result ≡ Err refusal.ReadProgram)
+    ⊎ ((p : Program) × (built_in (files program) ≡ Ok p) × (faults_of p ≡ []) × (result ≡ Err refusal.ReadSchedule))
+
+-- what is said of the program in one file that is run under the schedule in another, or what refuses it; or a read
+-- failed
+abbrev pub IsReported : Contents → List ℕ → List ℕ → Type 0 → Result Written Refusal → Type 0
+IsReported files program schedule rose result =
+    Tells (told (run_answer (files schedule)) (built_in (files program))) result
+    ⊎ (rose × IsUnreadHere files program result)
+
+-- what is said of the program in a file that is checked, or what refuses it; or the read failed
+abbrev pub IsChecked : Contents → List ℕ → Type 0 → Result Written Refusal → Type 0
+IsChecked files program rose result =
+    Tells (told check_answer (program_in (files program))) result
+    ⊎ (rose × (result ≡ Err refusal.ReadProgram))
+
+-- a schedule's file has some text, of which a program that is read is answered
+abbrev pub IsRunOverText : Type 0 → Program → Result Written Refusal → Type 0
+IsRunOverText rose p result = (text : List ℕ) × IsRunOrUnread rose (Some text) p result
+
+-- how a command is answered
+abbrev pub IsAnswered : Contents → Command → Type 0 → Result Written Refusal → Type 0
+IsAnswered files (Run program schedule) rose result = IsReported files program schedule rose result
+IsAnswered files (Check program) rose result = IsChecked files program rose result
+
+-- there are texts of the named files of which a command is answered so
+abbrev pub IsAnsweredOverTexts : Command → Type 0 → Result Written Refusal → Type 0
+IsAnsweredOverTexts command rose result =
+    (program : List ℕ) × (schedule : List ℕ) × IsAnswered (holding program schedule) (over_holding command) rose result

@@ -1,0 +1,153 @@
+-- The headline: of a program and a legal schedule of it the report is what the machine comes to, and the machine
+-- always has a rule.
+-- And what is said of a program's text, by what it denotes or breaks.
+use Rattle.std.specs.Prelude.{◌≡◌, ℕ, ◌⊎◌, List, [], Option, None, Some, Ok}
+use Rattle.mr_ast.specs.declared.program.Program.{Program}
+use Rattle.mr_io.specs.Files.{Contents}
+use Rattle.mr_lex.specs.declared.token.TextFault.{TextFault}
+use Rattle.mr_parse.specs.Denotes.{Denotes}
+use Rattle.mr_parse.specs.Faults.{FirstFault}
+use Rattle.mr_sched.specs.declared.schedule.Schedule.{Schedule}
+use Rattle.mr_sched.specs.Faults.{FirstFault as FirstScheduleFault}
+use Rattle.mr_sched.specs.Spelling.{Schedules}
+use Rattle.mr_step.specs.Built.{Built}
+use Rattle.mr_step.specs.Start.{Legal, IsSoundRun, PlacedFault, run_of, schedule_fault}
+use Rattle.mr_wf.specs.declared.fault.FormFault.{FormFault}
+use Rattle.mr_wf.specs.Walk.{FirstBroken, WellFormed, faults_of}
+use Rattle.mr_command.specs.Command.{Command, Run, Check, NamesProgram}
+use Rattle.mr_command.specs.Answer.{Answer, built_in, canonical, reported}
+use Rattle.mr_command.specs.Outcome.{IsLeft, IsWhole, IsWritten}
+
+-- a read failed and was told, or the write of that failed
+abbrev pub IsReadFault : Type 0 → ℕ → Type 0
+IsReadFault rose status = rose × ((status ≡ 6) ⊎ (status ≡ 7))
+
+-- The answer is written, with its status, unless memory ran out or a read or a write failed.
+abbrev pub IsTold : Answer → Type 0 → Type 0 → Option (List ℕ) → Option (List ℕ) → ℕ → Type 0
+IsTold a files_rose out_rose old new status =
+    IsWritten a out_rose old new status
+    ⊎ (IsLeft old new status ⊎ IsReadFault files_rose status)
+
+-- ---- runs
+
+-- The command names a file whose text denotes the program, which is built and well-formed, and a file whose text is
+-- that of the schedule,
+-- which is legal.
+pub record Names (files : Contents) (command : Option Command) (p : Program) (w : Schedule) : Type 0 where
+  pub program_name : List ℕ
+  pub schedule_name : List ℕ
+  pub is_run : command ≡ Some (Run program_name schedule_name)
+  pub program_text : List ℕ
+  pub program_there : files program_name ≡ Some program_text
+  pub denotes : Denotes program_text p
+  pub built : Built p
+  pub well_formed : WellFormed p
+  pub schedule_text : List ℕ
+  pub schedule_there : files schedule_name ≡ Some schedule_text
+  pub schedules : Schedules schedule_text w
+  pub legal : Legal p w
+
+-- No step is ill-formed; and the report of the run is written.
+pub record IsOfMachine (p : Program) (w : Schedule) (files_rose out_rose : Type 0) (old new : Option (List ℕ))
+    (status : ℕ) : Type 0 where
+  pub sound : IsSoundRun p w
+  pub report : IsTold (reported (run_of p w)) files_rose out_rose old new status
+
+-- The files denote a well-formed program that is built, and a legal schedule of it; and the whole report of that run
+-- was written.
+abbrev pub ReportsLegalRun : Contents → Option Command → Option (List ℕ) → Option (List ℕ) → ℕ → Type 0
+ReportsLegalRun files command old new status =
+    (p : Program) × (w : Schedule) × Names files command p w × IsWhole (reported (run_of p w)) old new status
+
+-- The command is to run a file whose text denotes the program, which is built and well-formed, under a file of this
+-- name.
+pub record RunsProgram (files : Contents) (command : Option Command) (p : Program) (schedule_name : List ℕ)
+    : Type 0 where
+  pub name : List ℕ
+  pub is_run : command ≡ Some (Run name schedule_name)
+  pub text : List ℕ
+  pub there : files name ≡ Some text
+  pub denotes : Denotes text p
+  pub built : Built p
+  pub well_formed : WellFormed p
+
+-- Such a program is run under a file whose text has its first fault as a schedule on this line, with this code.
+pub record NamesScheduleFault (files : Contents) (command : Option Command) (line code : ℕ) : Type 0 where
+  pub program : Program
+  pub schedule_name : List ℕ
+  pub runs : RunsProgram files command program schedule_name
+  pub text : List ℕ
+  pub there : files schedule_name ≡ Some text
+  pub first : FirstScheduleFault text line code
+
+-- Such a program is run under a file whose text is that of a schedule, and this is the first rule that the schedule
+-- breaks.
+pub record NamesBrokenSchedule (files : Contents) (command : Option Command) (fault : PlacedFault) : Type 0 where
+  pub program : Program
+  pub schedule_name : List ℕ
+  pub runs : RunsProgram files command program schedule_name
+  pub text : List ℕ
+  pub there : files schedule_name ≡ Some text
+  pub schedule : Schedule
+  pub schedules : Schedules text schedule
+  pub first : schedule_fault program schedule ≡ Some fault
+
+-- ---- texts
+
+-- the command is to check a file whose text denotes the program, which is well-formed
+pub record ChecksProgram (files : Contents) (command : Option Command) (p : Program) : Type 0 where
+  pub name : List ℕ
+  pub is_check : command ≡ Some (Check name)
+  pub text : List ℕ
+  pub there : files name ≡ Some text
+  pub denotes : Denotes text p
+  pub well_formed : WellFormed p
+
+-- A file denotes a well-formed program; and its whole canonical text was written.
+abbrev pub WritesCanonical : Contents → Option Command → Option (List ℕ) → Option (List ℕ) → ℕ → Type 0
+WritesCanonical files command old new status =
+    (p : Program) × ChecksProgram files command p × IsWhole (canonical p) old new status
+
+-- the command names a file of a program whose text has this first fault
+pub record NamesFault (files : Contents) (command : Option Command) (fault : TextFault) : Type 0 where
+  pub name : List ℕ
+  pub names_program : NamesProgram command name
+  pub text : List ℕ
+  pub there : files name ≡ Some text
+  pub first : FirstFault text fault
+
+-- the command is to run a file whose text denotes the program, which isn't built
+pub record RunsUnbuilt (files : Contents) (command : Option Command) (p : Program) : Type 0 where
+  pub name : List ℕ
+  pub schedule_name : List ℕ
+  pub is_run : command ≡ Some (Run name schedule_name)
+  pub text : List ℕ
+  pub there : files name ≡ Some text
+  pub denotes : Denotes text p
+  pub not_built : ¬ Built p
+
+-- the command is to check a file whose text denotes the program, or to run it where it is built, and this is the
+-- first rule that it breaks
+pub record NamesBroken (files : Contents) (command : Option Command) (p : Program) (fault : FormFault) : Type 0 where
+  pub name : List ℕ
+  pub judges : (command ≡ Some (Check name)) ⊎ ((schedule : List ℕ) × (command ≡ Some (Run name schedule)) × Built p)
+  pub text : List ℕ
+  pub there : files name ≡ Some text
+  pub denotes : Denotes text p
+  pub first : FirstBroken p fault
+
+-- ---- files that were not read
+
+-- The file's text denotes a program that is built and breaks no rule: only then its schedule is read.
+abbrev pub AsksForSchedule : Option (List ℕ) → Type 0
+AsksForSchedule file = (p : Program) × (built_in file ≡ Ok p) × (faults_of p ≡ [])
+
+-- a file that the command names isn't there
+abbrev pub LacksFile : Contents → Option Command → Type 0
+LacksFile files command =
+    ((program : List ℕ) × NamesProgram command program × (files program ≡ None))
+    ⊎ ((program : List ℕ) × (schedule : List ℕ) × (command ≡ Some (Run program schedule)) × (files schedule ≡ None))
+
+-- Why a file was not read: a failure, which is counted, or where the files tell what they hold, that it isn't there.
+abbrev pub IsUnreadBecause : Type 0 → Option Contents → Option Command → Type 0
+IsUnreadBecause rose told command = rose ⊎ ((files : Contents) × (told ≡ Some files) × LacksFile files command)

@@ -1,0 +1,184 @@
+//! Why there is no report and no canonical text: the lines that tell it, and their exit statuses.
+ghost use Rattle.std.specs.Prelude.{◌≡◌, ◌++◌, IfOk, OnOk, decimal};
+ghost use Rattle.mr_command.specs.Report.{earlier_text, fault_name, refusal_text, text_fault_name, text_line};
+
+use itoa::Buffer;
+use mr_base::AllocId;
+use std::alloc::{AllocError, AllocFailed, Global};
+
+// The code of a program that the machine doesn't run so far.
+const NOT_BUILT: u8 = 90;
+
+/// Why there is no report, and no canonical text.
+#[derive(Clone, Copy, Debug, PartialEq, Eq)]
+pub enum Refusal {
+    /// The file of the program was not read.
+    ReadProgram,
+    /// The program's text is wrong at this line and column.
+    Text {
+        line: u32,
+        col: u32,
+        code: u8,
+    },
+    /// The machine doesn't run the program so far.
+    NotBuilt,
+    /// The file of the schedule was not read.
+    ReadSchedule,
+    /// The schedule's text or a rule is broken at this line, with the allocation whose range is overlapped, for 64.
+    Schedule {
+        line: u32,
+        code: u8,
+        earlier: Option<AllocId>,
+    },
+    /// Memory ran out.
+    Memory,
+}
+
+impl From<AllocError> for Refusal {
+    ghost use Rattle.std.specs.Prelude.{◌≡◌};
+    ghost use Rattle.mr_command.specs.declared.refusal.Refusal.TheVariants.{Memory};
+
+    ghost from_gives = { λ _ e. e ≡ Memory };
+
+    fn from(_: AllocError) -> Self {
+        Refusal::Memory
+    }
+}
+
+impl<T: Drop> From<AllocFailed<T>> for Refusal {
+    ghost use Rattle.std.specs.Prelude.{◌≡◌};
+    ghost use Rattle.mr_command.specs.declared.refusal.Refusal.TheVariants.{Memory};
+
+    ghost from_gives = { λ _ e. e ≡ Memory };
+
+    fn from(_: AllocFailed<T>) -> Self {
+        Refusal::Memory
+    }
+}
+
+impl Refusal {
+    ghost use Rattle.std.specs.Prelude.{◌≡◌, IfOk};
+    ghost use Rattle.mr_command.specs.Report.{refusal_text, refusal_status};
+
+    /// The exit status.
+    pub fn status(self) -> u8
+        ensures { result ≡ refusal_status self }
+    {
+        match self {
+            Refusal::ReadProgram | Refusal::ReadSchedule => 6,
+            Refusal::Text { .. } | Refusal::NotBuilt => 3,
+            Refusal::Schedule { .. } => 5,
+            Refusal::Memory => 8,
+        }
+    }
+
+    /// The line that is written, ended by LF.
+    pub fn text(self, alloc: Global) -> Result<Vec<u8>, AllocError>
+        ensures { IfOk result (λ text. text.items ≡ refusal_text self) }
+    {
+        match self {
+            Refusal::ReadProgram => Vec::from_slice(alloc, b"read program\n"),
+            Refusal::Text { line, col, code } => text_line(alloc, line, col, code),
+            Refusal::NotBuilt => text_line(alloc, 1, 1, NOT_BUILT),
+            Refusal::ReadSchedule => Vec::from_slice(alloc, b"read schedule\n"),
+            Refusal::Schedule {
+                line,
+                code,
+                earlier,
+            } => schedule_line(alloc, line, code, earlier),
+            Refusal::Memory => Ok(Vec::new(alloc)),
+        }
+    }
+}
+
+fn text_line(alloc: Global, line: u32, col: u32, code: u8) -> Result<Vec<u8>, AllocError>
+    ensures { IfOk result (λ text. text.items ≡ text_line line col code) }
+{
+    let mut text = Vec::from_slice(alloc, b"text ")?;
+    push_number(&mut text, line.into())?;
+    text.push(b' ')?;
+    push_number(&mut text, col.into())?;
+    text.push(b' ')?;
+    push_number(&mut text, code.into())?;
+    text.push(b' ')?;
+    text.extend_from_slice(text_fault_name(code).as_bytes())?;
+    text.push(b'\n')?;
+    Ok(text)
+}
+
+fn text_fault_name(code: u8) -> &'static str
+    ensures { result.now ≡ text_fault_name code }
+{
+    match code {
+        1 => "BadByte",
+        2 => "BadNumber",
+        3 => "LongText",
+        4 => "Unexpected",
+        5 => "UnknownName",
+        6 => "DoubleName",
+        7 => "TooDeep",
+        8 => "TooMany",
+        9 => "Exposed",
+        NOT_BUILT => "NotBuilt",
+        _ => "",
+    }
+}
+
+fn schedule_line(
+    alloc: Global,
+    line: u32,
+    code: u8,
+    earlier: Option<AllocId>,
+) -> Result<Vec<u8>, AllocError>
+    ensures { IfOk result (λ text. text.items ≡ refusal_text (Refusal.Schedule line code earlier)) }
+{
+    let mut text = Vec::from_slice(alloc, b"schedule ")?;
+    push_number(&mut text, line.into())?;
+    text.push(b' ')?;
+    push_number(&mut text, code.into())?;
+    text.push(b' ')?;
+    text.extend_from_slice(name_of(code).as_bytes())?;
+    push_earlier(&mut text, earlier)?;
+    text.push(b'\n')?;
+    Ok(text)
+}
+
+/// Appends a number in decimal.
+pub fn push_number(text: &mut Vec<u8>, number: u64) -> Result<(), AllocError>
+    ensures { OnOk result (text.new.items ≡ text.old.items ++ decimal number) }
+{
+    let mut buffer = Buffer::new();
+    text.extend_from_slice(buffer.format(number).as_bytes())
+}
+
+fn push_earlier(text: &mut Vec<u8>, earlier: Option<AllocId>) -> Result<(), AllocError>
+    ensures { OnOk result (text.new.items ≡ text.old.items ++ earlier_text earlier) }
+{
+    if let Some(id) = earlier {
+        text.push(b' ')?;
+        push_number(text, id.thread.into())?;
+        text.push(b' ')?;
+        push_number(text, id.count)?;
+    }
+    Ok(())
+}
+
+fn name_of(code: u8) -> &'static str
+    ensures { result.now ≡ fault_name code }
+{
+    match code {
+        50 => "BadHeader",
+        51 => "BadLine",
+        52 => "TooLong",
+        60 => "NotEnabled",
+        61 => "MissingPick",
+        62 => "ExtraPick",
+        63 => "BadAddress",
+        64 => "Reused",
+        65 => "NotWaiting",
+        66 => "AfterStop",
+        67 => "TooManyThreads",
+        68 => "TooManyLocks",
+        _ => "",
+    }
+}
