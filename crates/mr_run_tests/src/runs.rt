@@ -35,9 +35,7 @@ fn step(machine: &mut Machine, entry: &Entry) -> Result<Turn, StepFault> {
 // line for each print.
 fn told(alloc: Global, machine: &mut Machine, entries: &[Entry]) -> Result<String, Fail> {
     let mut told = String::new(alloc);
-    told.push_str(
-        format!(in alloc; "{:?} {}\n", machine.verdict(), machine.lines())?.as_str(),
-    )?;
+    told.push_str(format!(in alloc; "{:?} {}\n", machine.verdict(), machine.lines())?.as_str())?;
     for entry in entries {
         let turn = step(machine, entry);
         let verdict = machine.verdict();
