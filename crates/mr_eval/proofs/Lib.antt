@@ -22,4 +22,3 @@ pub mod SearchRuns
 pub mod ShapeOf
 pub mod SoundParts
 pub mod TargetLaws
-pub mod ThinPrograms

@@ -40,10 +40,12 @@ use Rattle.mr_wf.specs.Types.{integer_in, integer_of, overflow_type, result_type
 use Rattle.mr_wf.proofs.KindLaws.{bool_is, integer_is, raw_is}
 use Rattle.mr_wf.proofs.SameTypeLaws.{same_type_equal}
 use Rattle.mr_eval.specs.Reads.{ReadScript}
-use Rattle.mr_eval.specs.Moves.{moved}
+use Rattle.mr_eval.specs.Moves.{behind, moved}
 use Rattle.mr_eval.specs.declared.kinds.Operator.{Operator}
+use Rattle.mr_eval.specs.declared.kinds.OverflowOp.{OverflowOp}
+use Rattle.mr_eval.specs.declared.kinds.OverflowOp.TheVariants as overflow_op
 use Rattle.mr_eval.specs.declared.kinds.Operator.TheVariants.{Arith, Comparing, Moving, Overflowing, Shifting, Wrapping}
-use Rattle.mr_eval.specs.Operators.{binary_of, cast_layer, cast_value, integer_like, like, operated, or_ill_formed, or_reason, right_in, unary_in, unary_of, wrapped}
+use Rattle.mr_eval.specs.Operators.{binary_of, cast_layer, cast_value, integer_like, like, operated, or_ill_formed, or_reason, right_in, unary_in, unary_of, exact}
 use Rattle.mr_eval.specs.Sound.{IsSafe, any_result}
 use Rattle.mr_eval.proofs.SafeLaws.{moved_safe, safe_result, safe_then}
 
@@ -154,13 +156,13 @@ module _ (l r : Ty) (a b : Val) (ha : Shaped l a) (hb : Shaped r b) where
       (safe_then any_result (Shaped l) (or_reason (arith_of op U8 m n)) (like (Val-F.Bool x.0)) (safe_result any_result (arith_of op U8 m n) (λ k e. tt))
       (λ k u. subst (λ (u : Ty). Shaped u (val.Bool (not (k == 0)))) (sym (bool_is l bl)) (has_bool (not (k == 0)))))
 
-  overflowing_ints : (op : ArithOp) (i : IntType) → integer_of l ≡ Some i → same_type l r ≡ true
+  overflowing_ints : (op : OverflowOp) (i : IntType) → integer_of l ≡ Some i → same_type l r ≡ true
       → IsSafe (Shaped (overflow_type i)) (operated (Overflowing op) (integer_of l) (integer_of r) (out-Val a) (out-Val b))
   overflowing_ints op i told same =
       let x = int_layer l a i told ha in
       let y = int_layer r b i (subst (λ (u : Ty). integer_of u ≡ Some i) (same_type_equal l r same) told) hb in
-      let result = overflowing_of op i x.bits y.bits in
-      let first = int_result i result.0 (overflowing_of-within op i x.bits y.bits) in
+      let result = overflowing_of (exact op) i x.bits y.bits in
+      let first = int_result i result.0 (overflowing_of-within (exact op) i x.bits y.bits) in
       at_layers (Shaped (overflow_type i)) (Overflowing op) (integer_of l) (integer_of r) a b (Val-F.Int x.bits) (Val-F.Int y.bits) x.layer y.layer
       (found_then (Shaped (overflow_type i)) (integer_like (Val-F.Int x.bits) (integer_of l)) i _ (like_int l a x ∙ ap (λ (j : IntType). Some j) (same_Some x.int i (sym x.told ∙ told)))
       (found_then (Shaped (overflow_type i)) (right_in i (Val-F.Int y.bits)) y.bits _ (right_int i y.bits (same_within i y told same))
@@ -227,7 +229,7 @@ module _ (l r : Ty) (a b : Val) (ha : Shaped l a) (hb : Shaped r b) where
       let x = raw_layer l a rl ha in
       let y = moved_by e in
       at_layers (Shaped l) Wrapping (integer_of l) (integer_of r) a b (Val-F.Ptr x.0) (Val-F.Int y.bits) x.1 y.layer
-      (found_then (Shaped l) (right_in I64 (Val-F.Int y.bits)) y.bits _ (right_int I64 y.bits (i64_within e)) (raw_result (wrapped x.0 y.bits) rl))
+      (found_then (Shaped l) (right_in I64 (Val-F.Int y.bits)) y.bits _ (right_int I64 y.bits (i64_within e)) (raw_result (behind x.0 y.bits) rl))
 
   -- ---- by the operator
 
@@ -242,13 +244,13 @@ module _ (l r : Ty) (a b : Val) (ha : Shaped l a) (hb : Shaped r b) where
       let p = and_true (is_scalar_number l) (same_type l r) fits in
       same_result (Arith op) t e (or_cases (is_integer l) (is_bool l) p.0 (λ i. arith_ints op i p.1) (λ i. arith_bools op i p.1))
 
-  overflow_given : (op : ArithOp) (o : Option IntType) (t : Ty) → integer_of l ≡ o → option_map overflow_type o ≡ Some t → same_type l r ≡ true
+  overflow_given : (op : OverflowOp) (o : Option IntType) (t : Ty) → integer_of l ≡ o → option_map overflow_type o ≡ Some t → same_type l r ≡ true
       → IsSafe (Shaped t) (operated (Overflowing op) (integer_of l) (integer_of r) (out-Val a) (out-Val b))
   overflow_given op None t told e same = absurd (cc)
   overflow_given op (Some i) t told e same =
       subst (λ (u : Ty). IsSafe (Shaped u) (operated (Overflowing op) (integer_of l) (integer_of r) (out-Val a) (out-Val b))) (same_Some (overflow_type i) t e) (overflowing_ints op i told same)
 
-  by_overflow : (op : ArithOp) (t : Ty) → option_map overflow_type (integer_of l) ≡ Some t → (is_integer l && same_type l r) ≡ true
+  by_overflow : (op : OverflowOp) (t : Ty) → option_map overflow_type (integer_of l) ≡ Some t → (is_integer l && same_type l r) ≡ true
       → IsSafe (Shaped t) (operated (Overflowing op) (integer_of l) (integer_of r) (out-Val a) (out-Val b))
   by_overflow op t e fits = overflow_given op (integer_of l) t refl e (and_true (is_integer l) (same_type l r) fits).1
 
@@ -274,9 +276,9 @@ module _ (l r : Ty) (a b : Val) (ha : Shaped l a) (hb : Shaped r b) where
   binary_safe binary.AddUnchecked t fits e = by_integers arith_op.AddUnchecked t e fits
   binary_safe binary.SubUnchecked t fits e = by_integers arith_op.SubUnchecked t e fits
   binary_safe binary.MulUnchecked t fits e = by_integers arith_op.MulUnchecked t e fits
-  binary_safe binary.AddOverflow t fits e = by_overflow arith_op.Add t e fits
-  binary_safe binary.SubOverflow t fits e = by_overflow arith_op.Sub t e fits
-  binary_safe binary.MulOverflow t fits e = by_overflow arith_op.Mul t e fits
+  binary_safe binary.AddOverflow t fits e = by_overflow overflow_op.Add t e fits
+  binary_safe binary.SubOverflow t fits e = by_overflow overflow_op.Sub t e fits
+  binary_safe binary.MulOverflow t fits e = by_overflow overflow_op.Mul t e fits
   binary_safe binary.Shl t fits e = by_shift shift_op.Shl t e fits
   binary_safe binary.Shr t fits e = by_shift shift_op.Shr t e fits
   binary_safe binary.ShlUnchecked t fits e = by_shift shift_op.ShlUnchecked t e fits

@@ -67,3 +67,10 @@ pub record FieldShaped (t : Ty) (k : ℕ) (v : Val) : Type 0 where
 abbrev pub beside_of : {A B E : Type 0} → A → Result B E → Result (A × B) E
 beside_of x (Ok y) = Ok (x, y)
 beside_of x (Err e) = Err e
+
+-- a refusal notes nothing
+abbrev pub IsUnnoted : {X : Type 0} → Result X Halt → Seen → Seen → Type 0
+IsUnnoted (Ok x) old new = Unit {0}
+IsUnnoted (Err (halt.Undefined r)) old new = new ≡ old
+IsUnnoted (Err halt.IllFormed) old new = Unit {0}
+IsUnnoted (Err halt.Memory) old new = Unit {0}

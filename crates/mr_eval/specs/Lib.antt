@@ -7,5 +7,4 @@ pub mod Operators
 pub mod Reads
 pub mod Sound
 pub mod Stores
-pub mod Trial
 pub mod Typed

@@ -1,5 +1,5 @@
 -- What the operators give on values, by the types of their operands. (MiniRust, lang: operators.)
-use Rattle.std.specs.Prelude.{ℕ, ◌^◌, ◌==◌, nat_lt, Bool, not, if◌then◌else◌, [], ◌∷◌, Option, None, Some, Result, Ok, Err, ℤ, pos, ◌+ℤ◌}
+use Rattle.std.specs.Prelude.{ℕ, ◌^◌, ◌==◌, nat_lt, Bool, not, if◌then◌else◌, [], ◌∷◌, Option, None, Some, Result, Ok, Err, ℤ}
 use Rattle.std.specs.Option.{option_and_then}
 use Rattle.mr_ast.specs.Integers.{bits_of}
 use Rattle.mr_ast.specs.declared.types.IntType.{IntType}
@@ -19,7 +19,7 @@ use Rattle.mr_intops.specs.declared.shifts.ShiftOp.TheVariants as shift
 use Rattle.mr_intops.specs.Arith.{arith_of, overflowing_of}
 use Rattle.mr_intops.specs.Cast.{cast_of, invert_of, negate_of}
 use Rattle.mr_intops.specs.Compare.{compare_of}
-use Rattle.mr_intops.specs.Numbers.{bits_for, value_of}
+use Rattle.mr_intops.specs.Numbers.{value_of}
 use Rattle.mr_intops.specs.Shift.{shift_of}
 use Rattle.mr_value.specs.declared.val.Val.{Val, out-Val}
 use Rattle.mr_value.specs.declared.val.Val.TheOpen.{Val-F}
@@ -27,10 +27,12 @@ use Rattle.mr_value.specs.declared.val.Val.TheVariants as val
 use Rattle.mr_script.specs.Script.{Done, Undefined, IllFormed, ◌>>=◌}
 use Rattle.mr_wf.specs.SameTypes.{same_int}
 use Rattle.mr_wf.specs.Types.{integer_of}
+use Rattle.mr_eval.specs.declared.kinds.OverflowOp.{OverflowOp}
+use Rattle.mr_eval.specs.declared.kinds.OverflowOp.TheVariants as overflow
 use Rattle.mr_eval.specs.declared.kinds.Operator.{Operator}
 use Rattle.mr_eval.specs.declared.kinds.Operator.TheVariants.{Arith, Overflowing, Shifting, Comparing, Moving, Wrapping}
 use Rattle.mr_eval.specs.Reads.{ReadScript}
-use Rattle.mr_eval.specs.Moves.{at_address, moved}
+use Rattle.mr_eval.specs.Moves.{behind, moved}
 
 -- ---- the parts of operands
 
@@ -69,6 +71,13 @@ integer_like _ told = None
 
 -- ---- kinds of operators
 
+-- the operator of which this one tells whether its result wrapped
+abbrev pub exact : OverflowOp → ArithOp
+exact overflow.Add = arith.Add
+exact overflow.Sub = arith.Sub
+exact overflow.Mul = arith.Mul
+
+-- what an operator does
 abbrev pub kind_of : BinaryOp → Operator
 kind_of binary.Add = Arith arith.Add
 kind_of binary.Sub = Arith arith.Sub
@@ -81,9 +90,9 @@ kind_of binary.Xor = Arith arith.Xor
 kind_of binary.AddUnchecked = Arith arith.AddUnchecked
 kind_of binary.SubUnchecked = Arith arith.SubUnchecked
 kind_of binary.MulUnchecked = Arith arith.MulUnchecked
-kind_of binary.AddOverflow = Overflowing arith.Add
-kind_of binary.SubOverflow = Overflowing arith.Sub
-kind_of binary.MulOverflow = Overflowing arith.Mul
+kind_of binary.AddOverflow = Overflowing overflow.Add
+kind_of binary.SubOverflow = Overflowing overflow.Sub
+kind_of binary.MulOverflow = Overflowing overflow.Mul
 kind_of binary.Shl = Shifting shift.Shl
 kind_of binary.Shr = Shifting shift.Shr
 kind_of binary.ShlUnchecked = Shifting shift.ShlUnchecked
@@ -108,10 +117,6 @@ abbrev pub like : Val-F Val → ℕ → ReadScript Val
 like (Val-F.Int n) bits = Done (val.Int bits)
 like (Val-F.Bool b) bits = Done (val.Bool (not (bits == 0)))
 like _ bits = IllFormed
-
--- an address that is moved around the end of the address space
-abbrev pub wrapped : Pointer → ℕ → Pointer
-wrapped p bits = at_address p (bits_for U64 (pos p.addr +ℤ value_of I64 bits))
 
 -- the wrapped result, and whether it wrapped
 abbrev pub with_flag : ℕ × Bool → Val
@@ -142,7 +147,8 @@ moved_pointer p n = do
   q ← moved p n
   Done (val.Ptr q)
 
--- what an operator of a kind gives, by the types of its operands
+-- what an operator of a kind gives, by the types of its operands; a pointer that is moved around the end of the address
+-- space is as many bytes behind as the bits of the number say, for 2^64 bytes more or less are none
 abbrev pub operated : Operator → Option IntType → Option IntType → Val-F Val → Val-F Val → ReadScript Val
 operated (Arith op) left right a b = do
   int ← or_ill_formed (integer_like a left)
@@ -153,7 +159,7 @@ operated (Overflowing op) left right a b = do
   int ← or_ill_formed (integer_like a left)
   x ← or_ill_formed (bits_in a)
   y ← or_ill_formed (right_in int b)
-  Done (with_flag (overflowing_of op int x y))
+  Done (with_flag (overflowing_of (exact op) int x y))
 operated (Shifting op) left right a b = do
   int ← or_ill_formed (integer_like a left)
   by ← or_ill_formed (integer_like b right)
@@ -172,7 +178,7 @@ operated Moving left right a b = do
 operated Wrapping left right a b = do
   p ← or_ill_formed (pointer_in a)
   n ← or_ill_formed (right_in I64 b)
-  Done (val.Ptr (wrapped p n))
+  Done (val.Ptr (behind p n))
 
 abbrev pub binary_of : BinaryOp → Option Ty → Option Ty → Val → Val → ReadScript Val
 binary_of op left right a b = operated (kind_of op) (integer_told left) (integer_told right) (out-Val a) (out-Val b)

@@ -1,6 +1,6 @@
+//! The public calls: places, values, typed loads and stores.
 ghost use Rattle.std.specs.Prelude.{◌≡◌, IfOk, OnErr, true};
 ghost use Rattle.mr_layout.specs.TypeOk.{TypeOk};
-ghost use Rattle.mr_wf.specs.Walk.{WellFormed};
 ghost use Rattle.mr_value.specs.Shape.{has_shape};
 ghost use Rattle.mr_eval.specs.Answers.{Extends, seen};
 ghost use Rattle.mr_eval.specs.Environment.{IsRuled, Leaves, PlaceIn, ShapedAs, Tells, ValueIn, env_scene, fault_of};
@@ -15,7 +15,7 @@ use crate::notes::Notes;
 use crate::placing::Placed;
 use crate::stores::store_bytes;
 use crate::valuing;
-use mr_ast::{Local, Place, Ty, Value};
+use mr_ast::{Place, Ty, Value};
 use mr_base::Pointer;
 use mr_layout::align;
 use mr_mem::{Fault, Memory};
@@ -31,18 +31,6 @@ fn fault_of(h: Halt) -> Fault
         Halt::Undefined(reason) => Fault::Undefined(reason),
         Halt::IllFormed => unreachable!(),
         Halt::Memory => Fault::Memory,
-    }
-}
-
-// The locals of the function of an environment.
-fn locals_in<'a>(e: &Env<'a>) -> &'a [Local]
-    ensures locals { result.now ≡ (env_scene e.now).locals }
-    ensures well_formed { WellFormed e.now.program.now }
-{
-    let program = e.program.program();
-    match program.functions.get(e.function.0 as usize) {
-        Some(f) => f.locals.as_slice(),
-        None => &[],
     }
 }
 
@@ -63,7 +51,7 @@ pub fn place(
     let here = Here {
         alloc,
         memory: m,
-        locals: locals_in(e),
+        locals: e.function_locals(),
         storage: e.locals,
         functions: e.functions,
         globals: e.globals,
@@ -86,7 +74,7 @@ pub fn value(alloc: Global, e: &Env<'_>, m: &Memory, n: &mut Notes, v: &Value) -
     let here = Here {
         alloc,
         memory: m,
-        locals: locals_in(e),
+        locals: e.function_locals(),
         storage: e.locals,
         functions: e.functions,
         globals: e.globals,

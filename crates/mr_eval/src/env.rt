@@ -1,4 +1,5 @@
-use mr_ast::FnName;
+//! What an evaluation stands in, as a caller gives it.
+use mr_ast::{FnName, Local};
 use mr_base::Pointer;
 use mr_layout::Cache;
 use mr_wf::Checked;
@@ -13,4 +14,26 @@ pub struct Env<'a> {
     pub functions: &'a [Pointer],
     pub globals: &'a [Pointer],
     pub cache: &'a Cache,
+}
+
+impl<'a> Env<'a> {
+    ghost use Rattle.std.specs.Prelude.{◌≡◌};
+    ghost use Rattle.mr_wf.specs.Walk.{WellFormed};
+    ghost use Rattle.mr_eval.specs.Environment.{env_scene};
+
+    /// The locals of the function.
+    pub fn function_locals(&self) -> &'a [Local]
+        ensures locals { result.now ≡ (env_scene self.now).locals }
+        ensures well_formed { WellFormed self.now.program.now }
+    {
+        match self
+            .program
+            .program()
+            .functions
+            .get(self.function.0 as usize)
+        {
+            Some(f) => f.locals.as_slice(),
+            None => &[],
+        }
+    }
 }

@@ -1,3 +1,4 @@
+//! The evaluation of places and values, by their cases.
 ghost use Rattle.std.specs.Prelude.{◌≡◌, IfOk, Some, is_some, option_map, slice_get, true};
 ghost use Rattle.mr_ast.specs.declared.types.Ty.{out-Ty};
 ghost use Rattle.mr_script.specs.Script.{run};
@@ -14,11 +15,12 @@ use crate::halt::Halt;
 use crate::here::Here;
 use crate::moving::behind;
 use crate::notes::Notes;
-use crate::operators::{cast, unary};
-use crate::placing::{Placed, element, field, local, pointer_of, variant};
-use crate::recasting::{transmuted, union_of};
-use crate::valuing::{Valued, binary, discriminant, load};
-use mr_ast::{BinaryOp, Boxed, Items, Place, Value};
+use crate::placing::{Placed, element_by, field, local, target, variant};
+use crate::valuing::{
+    Valued, binary_value, cast_value, discriminant, loaded_value, transmuted_value, typed,
+    unary_value, union_value, variant_value,
+};
+use mr_ast::{Items, Place, Value};
 use mr_base::Pointer;
 use mr_value::{Val, bits_of_number};
 use mr_wf::Known;
@@ -36,8 +38,7 @@ pub fn placed<'p>(here: Here<'p>, notes: &mut Notes, place: &'p Place) -> Result
         Place::Local(x) => local(here.locals, here.storage, *x),
         Place::Deref(pointer, ty) => {
             let v = valued(here, notes, pointer.get())?;
-            let at = pointer_of(&v.value)?;
-            Ok(Placed { at, ty })
+            target(v.value, ty)
         }
         Place::Field(whole, number) => {
             let p = placed(here, notes, whole.get())?;
@@ -46,7 +47,7 @@ pub fn placed<'p>(here: Here<'p>, notes: &mut Notes, place: &'p Place) -> Result
         Place::Index(array, index) => {
             let p = placed(here, notes, array.get())?;
             let i = valued(here, notes, index.get())?;
-            element(here.memory, notes, p, &i.value)
+            element_by(here.memory, notes, p, i.value)
         }
         Place::Variant(whole, number) => {
             let p = placed(here, notes, whole.get())?;
@@ -62,6 +63,13 @@ fn named(pointers: &[Pointer], number: u32) -> Option<Pointer>
     pointers.get(number as usize).copied()
 }
 
+// A pointer without provenance.
+fn bare(addr: u64) -> Pointer
+    ensures { result ≡ bare addr }
+{
+    Pointer { addr, prov: None }
+}
+
 /// What a value is, and its type.
 #[cycle(evaluated)]
 #[tactic(auto, using(crate::proofs::EvalRuns::eval_laws, crate::proofs::SoundParts::sound_laws, crate::proofs::SoundParts::type_facts, crate::proofs::SoundParts::int_fits, mr_wf::proofs::TypeLaws::type_laws, crate::proofs::ExtendsLaws::extends_laws))]
@@ -74,43 +82,20 @@ pub fn valued<'p>(here: Here<'p>, notes: &mut Notes, value: &'p Value) -> Result
     match value {
         Value::Load(place) => {
             let p = placed(here, notes, place)?;
-            let value = load(here.alloc, here.memory, notes, p)?;
-            Ok(Valued {
-                value,
-                ty: Known::Written(p.ty),
-            })
+            loaded_value(here, notes, p)
         }
-        Value::Int(int, number) => Ok(Valued {
-            value: Val::Int(bits_of_number(*int, *number)),
-            ty: Known::Int(*int),
-        }),
-        Value::True => Ok(Valued {
-            value: Val::Bool(true),
-            ty: Known::Bool,
-        }),
-        Value::False => Ok(Valued {
-            value: Val::Bool(false),
-            ty: Known::Bool,
-        }),
-        Value::Raw(addr) => Ok(Valued {
-            value: Val::Ptr(Pointer {
-                addr: *addr,
-                prov: None,
-            }),
-            ty: Known::Raw,
-        }),
+        Value::Int(int, number) => {
+            Ok(typed(Val::Int(bits_of_number(*int, *number)), Known::Int(*int)))
+        }
+        Value::True => Ok(typed(Val::Bool(true), Known::Bool)),
+        Value::False => Ok(typed(Val::Bool(false), Known::Bool)),
+        Value::Raw(addr) => Ok(typed(Val::Ptr(bare(*addr)), Known::Raw)),
         Value::Fn(f) => match named(here.functions, f.0) {
-            Some(p) => Ok(Valued {
-                value: Val::Ptr(p),
-                ty: Known::FnPtr,
-            }),
+            Some(p) => Ok(typed(Val::Ptr(p), Known::FnPtr)),
             None => Err(Halt::IllFormed),
         },
         Value::Global(g, offset) => match named(here.globals, g.0) {
-            Some(p) => Ok(Valued {
-                value: Val::Ptr(behind(p, *offset)),
-                ty: Known::Raw,
-            }),
+            Some(p) => Ok(typed(Val::Ptr(behind(p, *offset)), Known::Raw)),
             None => Err(Halt::IllFormed),
         },
         Value::Disc(place) => {
@@ -119,89 +104,33 @@ pub fn valued<'p>(here: Here<'p>, notes: &mut Notes, value: &'p Value) -> Result
         }
         Value::AddrOf(ty, place) => {
             let p = placed(here, notes, place)?;
-            Ok(Valued {
-                value: Val::Ptr(p.at),
-                ty: Known::Written(ty),
-            })
+            Ok(typed(Val::Ptr(p.at), Known::Written(ty)))
         }
-        Value::Cast(int, operand) => {
-            let v = valued(here, notes, operand.get())?;
-            let answer = cast(*int, v.ty.integer(), &v.value);
-            let value = behind_it(v, answer)?;
-            Ok(Valued {
-                value,
-                ty: Known::Int(*int),
-            })
-        }
-        Value::Unary(op, operand) => {
-            let v = valued(here, notes, operand.get())?;
-            let ty = v.ty;
-            let answer = unary(*op, ty.integer(), &v.value);
-            let value = behind_it(v, answer)?;
-            Ok(Valued { value, ty })
-        }
+        Value::Cast(int, operand) => cast_value(*int, valued(here, notes, operand.get())?),
+        Value::Unary(op, operand) => unary_value(*op, valued(here, notes, operand.get())?),
         Value::Variant(ty, number, content) => {
             let v = valued(here, notes, content.get())?;
-            let content = Boxed::new(here.alloc, v.value)?;
-            Ok(Valued {
-                value: Val::Variant(*number, content),
-                ty: Known::Written(ty),
-            })
+            variant_value(here.alloc, ty, *number, v.value)
         }
         Value::Tuple(ty, values) => {
             let row = each_valued(here, notes, values.as_slice())?;
-            Ok(Valued {
-                value: Val::Tuple(row),
-                ty: Known::Written(ty),
-            })
+            Ok(typed(Val::Tuple(row), Known::Written(ty)))
         }
         Value::Union(ty, number, content) => {
             let v = valued(here, notes, content.get())?;
-            let answer = union_of(here.alloc, ty, *number, &v.value);
-            let value = behind_it(v, answer)?;
-            Ok(Valued {
-                value,
-                ty: Known::Written(ty),
-            })
+            union_value(here.alloc, ty, *number, v.value)
         }
         Value::Transmute(ty, operand) => {
             let v = valued(here, notes, operand.get())?;
-            let answer = transmuted(here.alloc, here.memory, notes, ty, v.ty, &v.value);
-            let value = behind_it(v, answer)?;
-            Ok(Valued {
-                value,
-                ty: Known::Written(ty),
-            })
+            transmuted_value(here, notes, ty, v)
         }
         Value::Binary(op, left, right) => {
             let a = valued(here, notes, left.get())?;
-            let ty = a.ty;
             let right = valued(here, notes, right.get());
             let (a, b) = beside(a, right)?;
-            let told = (ty.integer(), b.ty.integer());
-            let answer = binary(
-                here.alloc,
-                here.memory,
-                notes,
-                *op,
-                told,
-                &a.value,
-                &b.value,
-            );
-            let value = behind_it((a, b), answer)?;
-            Ok(Valued {
-                value,
-                ty: given(*op, ty),
-            })
+            binary_value(here, notes, *op, a, b)
         }
     }
-}
-
-// An answer, where a thing is let go behind it.
-fn behind_it<T: Drop, U: Drop>(_thing: T, answer: Result<U, Halt>) -> Result<U, Halt>
-    ensures { result ≡ answer }
-{
-    answer
 }
 
 // A thing beside an answer.
@@ -211,17 +140,6 @@ fn beside<T: Drop, U: Drop>(thing: T, answer: Result<U, Halt>) -> Result<(T, U),
     match answer {
         Ok(x) => Ok((thing, x)),
         Err(halt) => Err(halt),
-    }
-}
-
-// The type of what an operator gives, where this is the type of its left operand.
-fn given(op: BinaryOp, left: Known<'_>) -> Known<'_>
-    requires { is_some (result_type op (ty_of left)) ≡ true }
-    ensures { result_type op (ty_of left.entry) ≡ Some (ty_of result) }
-{
-    match left.under(op) {
-        Some(ty) => ty,
-        None => unreachable!(),
     }
 }
 

@@ -1,3 +1,4 @@
+//! Why an evaluation stops.
 use mr_base::Reason;
 use std::alloc::{AllocError, AllocFailed};
 

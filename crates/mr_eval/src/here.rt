@@ -1,3 +1,4 @@
+//! What an evaluation stands in, as it is handed on.
 use mr_ast::Local;
 use mr_base::Pointer;
 use mr_mem::Memory;

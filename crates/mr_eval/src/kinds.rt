@@ -1,15 +1,37 @@
+//! The kinds of binary operators.
 ghost use Rattle.std.specs.Prelude.{◌≡◌};
-ghost use Rattle.mr_eval.specs.Operators.{kind_of};
+ghost use Rattle.mr_intops.specs.Arith.{HasOverflowing};
+ghost use Rattle.mr_eval.specs.Operators.{exact, kind_of};
 
 use mr_ast::BinaryOp;
 use mr_intops::{ArithOp, CmpOp, ShiftOp};
+
+/// An operator that tells whether its result wrapped.
+#[derive(Clone, Copy)]
+pub enum OverflowOp {
+    Add,
+    Sub,
+    Mul,
+}
+
+/// The operator without that.
+pub fn exact(op: OverflowOp) -> ArithOp
+    ensures is { result ≡ exact op }
+    ensures told { HasOverflowing result }
+{
+    match op {
+        OverflowOp::Add => ArithOp::Add,
+        OverflowOp::Sub => ArithOp::Sub,
+        OverflowOp::Mul => ArithOp::Mul,
+    }
+}
 
 /// What an operator with two operands does.
 #[derive(Clone, Copy)]
 pub enum Operator {
     Arith(ArithOp),
     /// The wrapped result, and whether it wrapped.
-    Overflowing(ArithOp),
+    Overflowing(OverflowOp),
     Shifting(ShiftOp),
     Comparing(CmpOp),
     /// A pointer moved in bounds.
@@ -33,9 +55,9 @@ pub fn kind_of(op: BinaryOp) -> Operator
         BinaryOp::AddUnchecked => Operator::Arith(ArithOp::AddUnchecked),
         BinaryOp::SubUnchecked => Operator::Arith(ArithOp::SubUnchecked),
         BinaryOp::MulUnchecked => Operator::Arith(ArithOp::MulUnchecked),
-        BinaryOp::AddOverflow => Operator::Overflowing(ArithOp::Add),
-        BinaryOp::SubOverflow => Operator::Overflowing(ArithOp::Sub),
-        BinaryOp::MulOverflow => Operator::Overflowing(ArithOp::Mul),
+        BinaryOp::AddOverflow => Operator::Overflowing(OverflowOp::Add),
+        BinaryOp::SubOverflow => Operator::Overflowing(OverflowOp::Sub),
+        BinaryOp::MulOverflow => Operator::Overflowing(OverflowOp::Mul),
         BinaryOp::Shl => Operator::Shifting(ShiftOp::Shl),
         BinaryOp::Shr => Operator::Shifting(ShiftOp::Shr),
         BinaryOp::ShlUnchecked => Operator::Shifting(ShiftOp::ShlUnchecked),

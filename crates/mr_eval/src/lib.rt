@@ -42,6 +42,3 @@ pub use moving::behind;
 pub use mr_mem::Fault;
 pub use notes::Notes;
 pub use stores::{store_bytes, store_uninit};
-
-#[cfg(test)]
-mod tests;

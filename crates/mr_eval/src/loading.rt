@@ -1,3 +1,4 @@
+//! Typed loads.
 ghost use Rattle.std.specs.Prelude.{◌≡◌, IfOk, true};
 ghost use Rattle.mr_layout.specs.Sizes.{align_of, size_of};
 ghost use Rattle.mr_layout.specs.TypeOk.{TypeOk};

@@ -1,3 +1,4 @@
+//! Pointers that are moved.
 ghost use Rattle.std.specs.Prelude.{◌≡◌, ◌<◌, ◌^◌, OnErr, unsigned_abs};
 ghost use Rattle.mr_script.specs.Script.{run};
 ghost use Rattle.mr_eval.specs.Answers.{Extends, Gives, same, seen};

@@ -1,3 +1,4 @@
+//! What is noted of accesses and range checks.
 use mr_base::{Access, AllocId, Pointer};
 use mr_track::Accesses;
 use std::alloc::{AllocError, Global};

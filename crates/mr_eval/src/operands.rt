@@ -1,3 +1,4 @@
+//! What operators read in their operands.
 ghost use Rattle.std.specs.Prelude.{◌≡◌, ◌<◌, ◌^◌, IfSome, Some, nat_lt, option_map};
 ghost use Rattle.mr_ast.specs.Integers.{bits_of};
 ghost use Rattle.mr_value.specs.declared.val.Val.{out-Val};

@@ -1,16 +1,17 @@
-ghost use Rattle.std.specs.Prelude.{◌≡◌, ◌<◌, ◌^◌};
+//! Operators on numbers and pointers.
+ghost use Rattle.std.specs.Prelude.{◌≡◌, ◌<◌, ◌^◌, None};
 ghost use Rattle.mr_ast.specs.Integers.{bits_of};
 ghost use Rattle.mr_value.specs.declared.val.Val.{out-Val};
 ghost use Rattle.mr_eval.specs.Answers.{Says, same};
-ghost use Rattle.mr_intops.specs.Arith.{overflowing_of};
 ghost use Rattle.mr_eval.specs.declared.kinds.Operator.TheVariants.{Arith, Comparing, Overflowing, Shifting, Wrapping};
-ghost use Rattle.mr_eval.specs.Operators.{arith_like, cast_layer, like, operated, shift_like, unary_bits, unary_in, with_flag, wrapped};
+ghost use Rattle.mr_eval.specs.Operators.{arith_like, cast_layer, like, operated, shift_like, unary_bits, unary_in, with_flag};
 ghost use Rattle.mr_script.specs.Script.{Done};
 
 use crate::halt::Halt;
+use crate::kinds::{OverflowOp, exact};
+use crate::moving::behind;
 use crate::operands::{left_in, pointer_in, right_in};
 use mr_ast::{IntType, UnaryOp};
-use mr_base::Pointer;
 use mr_intops::{ArithOp, CmpOp, ShiftOp};
 use mr_value::{Items, Val};
 use std::alloc::Global;
@@ -39,14 +40,8 @@ fn arith_bits(op: ArithOp, int: IntType, x: u128, y: u128, a: &Val) -> Result<Va
 }
 
 /// An arithmetic operator.
-pub fn arith(
-    op: ArithOp,
-    left: Option<IntType>,
-    right: Option<IntType>,
-    a: &Val,
-    b: &Val,
-) -> Result<Val, Halt>
-    ensures { Says same result (operated (Arith op) left right (out-Val a.now) (out-Val b.now)) }
+pub fn arith(op: ArithOp, left: Option<IntType>, a: &Val, b: &Val) -> Result<Val, Halt>
+    ensures { Says same result (operated (Arith op) left None (out-Val a.now) (out-Val b.now)) }
 {
     match left_in(a, left) {
         Some((int, x)) => match right_in(int, b) {
@@ -86,14 +81,8 @@ pub fn shift(
 }
 
 /// A comparison.
-pub fn compare(
-    op: CmpOp,
-    left: Option<IntType>,
-    right: Option<IntType>,
-    a: &Val,
-    b: &Val,
-) -> Result<Val, Halt>
-    ensures { Says same result (operated (Comparing op) left right (out-Val a.now) (out-Val b.now)) }
+pub fn compare(op: CmpOp, left: Option<IntType>, a: &Val, b: &Val) -> Result<Val, Halt>
+    ensures { Says same result (operated (Comparing op) left None (out-Val a.now) (out-Val b.now)) }
 {
     match left_in(a, left) {
         Some((int, x)) => match right_in(int, b) {
@@ -101,18 +90,6 @@ pub fn compare(
             None => Err(Halt::IllFormed),
         },
         None => Err(Halt::IllFormed),
-    }
-}
-
-// The wrapped result of an operator on the bits of an integer, and whether it wrapped.
-fn overflowing_bits(op: ArithOp, int: IntType, x: u128, y: u128) -> (u128, bool)
-    requires left { x < 2 ^ bits_of int }
-    requires right { y < 2 ^ bits_of int }
-    ensures { result ≡ overflowing_of op int x y }
-{
-    match op {
-        ArithOp::Add | ArithOp::Sub | ArithOp::Mul => mr_intops::overflowing(op, int, x, y),
-        _ => (0, false),
     }
 }
 
@@ -129,48 +106,29 @@ fn with_flag(alloc: Global, told: (u128, bool)) -> Result<Val, Halt>
 /// An operator that tells of overflow.
 pub fn overflowing(
     alloc: Global,
-    op: ArithOp,
+    op: OverflowOp,
     left: Option<IntType>,
-    right: Option<IntType>,
     a: &Val,
     b: &Val,
 ) -> Result<Val, Halt>
-    ensures { Says same result (operated (Overflowing op) left right (out-Val a.now) (out-Val b.now)) }
+    ensures { Says same result (operated (Overflowing op) left None (out-Val a.now) (out-Val b.now)) }
 {
     match left_in(a, left) {
         Some((int, x)) => match right_in(int, b) {
-            Some(y) => with_flag(alloc, overflowing_bits(op, int, x, y)),
+            Some(y) => with_flag(alloc, mr_intops::overflowing(exact(op), int, x, y)),
             None => Err(Halt::IllFormed),
         },
         None => Err(Halt::IllFormed),
-    }
-}
-
-// A pointer that is moved around the end of the address space.
-fn wrapped(p: Pointer, bits: u64) -> Pointer
-    ensures { result ≡ wrapped p bits }
-{
-    Pointer {
-        addr: p.addr.wrapping_add(bits),
-        prov: p.prov,
     }
 }
 
 /// A pointer moved around the end of the address space.
-pub fn moved_around(
-    left: Option<IntType>,
-    right: Option<IntType>,
-    a: &Val,
-    b: &Val,
-) -> Result<Val, Halt>
-    ensures { Says same result (operated Wrapping left right (out-Val a.now) (out-Val b.now)) }
+pub fn moved_around(a: &Val, b: &Val) -> Result<Val, Halt>
+    ensures { Says same result (operated Wrapping None None (out-Val a.now) (out-Val b.now)) }
 {
-    match pointer_in(a) {
-        Some(p) => match right_in(IntType::I64, b) {
-            Some(n) => Ok(Val::Ptr(wrapped(p, n as u64))),
-            None => Err(Halt::IllFormed),
-        },
-        None => Err(Halt::IllFormed),
+    match (pointer_in(a), right_in(IntType::I64, b)) {
+        (Some(p), Some(n)) => Ok(Val::Ptr(behind(p, n as u64))),
+        _ => Err(Halt::IllFormed),
     }
 }
 

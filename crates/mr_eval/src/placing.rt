@@ -1,3 +1,4 @@
+//! Places and their parts.
 ghost use Rattle.std.specs.Prelude.{◌≡◌, ◌*◌, ◌<◌, ◌^◌, IfOk, Some, is_some, length, option_map, slice_get, true};
 ghost use Rattle.mr_layout.specs.TypeOk.{TypeOk};
 ghost use Rattle.mr_value.specs.declared.val.Val.{out-Val};
@@ -43,11 +44,22 @@ pub fn local<'p>(
     }
 }
 
-/// The pointer that a value is.
-pub fn pointer_of(v: &Val) -> Result<Pointer, Halt>
+// The pointer that a value is.
+fn pointer_of(v: &Val) -> Result<Pointer, Halt>
     ensures { Says same result (pointer_of_value v.now) }
 {
     pointer_in(v).ok_or(Halt::IllFormed)
+}
+
+/// The target of a pointer.
+pub fn target<'p>(pointer: Val, ty: &'p Ty) -> Result<Placed<'p>, Halt>
+    ensures given { Says at_pointer result (pointer_of_value pointer) }
+    ensures ty { IfOk result (λ p. p.ty.now ≡ ty.entry.now) }
+{
+    match pointer_of(&pointer) {
+        Ok(at) => Ok(Placed { at, ty }),
+        Err(halt) => Err(halt),
+    }
 }
 
 // The bits that a value is.
@@ -175,4 +187,19 @@ pub fn element<'p>(
         }
         _ => Err(Halt::IllFormed),
     }
+}
+
+/// An element of an array, at the position that a value tells.
+pub fn element_by<'p>(
+    m: &Memory,
+    notes: &mut Notes,
+    array: Placed<'p>,
+    index: Val,
+) -> Result<Placed<'p>, Halt>
+    requires { TypeOk array.ty.now }
+    ensures given { Gives at_pointer result (in_array m.now (Some array.entry.ty.now) index array.entry.at (seen notes.old)) (seen notes.new) }
+    ensures ty { IfOk result (λ p. element_type array.entry.ty.now ≡ Some p.ty.now) }
+    ensures kept { Extends (seen notes.old) (seen notes.new) }
+{
+    element(m, notes, array, &index)
 }

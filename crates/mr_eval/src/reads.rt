@@ -1,7 +1,8 @@
+//! Range checks and loads, each noted.
 ghost use Rattle.std.specs.Prelude.{◌≡◌, [], IfOk, OnErr, false, length};
 ghost use Rattle.mr_runs.specs.Pieces.{bytes_of_pieces};
 ghost use Rattle.mr_script.specs.Script.{Went};
-ghost use Rattle.mr_eval.specs.Answers.{Extends, Gives, same, seen};
+ghost use Rattle.mr_eval.specs.Answers.{Extends, Gives, IsUnnoted, same, seen};
 ghost use Rattle.mr_eval.specs.Reads.{Check, Read, Refer, accessing, reading, seeing, touching};
 
 use crate::halt::Halt;
@@ -15,6 +16,7 @@ use mr_runs::View;
 pub fn look(m: &Memory, notes: &mut Notes, p: Pointer, len: u64) -> Result<(), Halt>
     ensures given { Gives same result (reading m.now (Check p len) (seen notes.old)) (seen notes.new) }
     ensures kept { Extends (seen notes.old) (seen notes.new) }
+    ensures refused { IsUnnoted result (seen notes.old) (seen notes.new) }
 {
     match m.check(p, len) {
         Ok(_) => Ok(notes.touch(p, len)?),
@@ -27,6 +29,7 @@ pub fn look(m: &Memory, notes: &mut Notes, p: Pointer, len: u64) -> Result<(), H
 pub fn refer(m: &Memory, notes: &mut Notes, p: Pointer, len: u64) -> Result<(), Halt>
     ensures given { Gives same result (reading m.now (Refer p len) (seen notes.old)) (seen notes.new) }
     ensures kept { Extends (seen notes.old) (seen notes.new) }
+    ensures refused { IsUnnoted result (seen notes.old) (seen notes.new) }
 {
     match m.check(p, len) {
         Ok(_) => Ok(notes.touch(p, len)?),
@@ -46,6 +49,7 @@ pub fn lend<'m>(
     ensures given { Gives bytes_of_pieces result (reading m.now (Read false p len align) (seen notes.old)) (seen notes.new) }
     ensures sized { IfOk result (λ v. length (bytes_of_pieces v) ≡ len) }
     ensures kept { Extends (seen notes.old) (seen notes.new) }
+    ensures refused { IsUnnoted result (seen notes.old) (seen notes.new) }
 {
     match m.load(p, len, align) {
         Ok(view) => {

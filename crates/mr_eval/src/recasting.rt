@@ -1,3 +1,4 @@
+//! Unions from a field, and transmutes.
 ghost use Rattle.std.specs.Prelude.{◌≡◌, ◌≤◌, ◌+◌, ◌++◌, IfOk, OnOk, Some, length, true};
 ghost use Rattle.mr_layout.specs.Sizes.{size_of};
 ghost use Rattle.mr_layout.specs.TypeOk.{TypeOk};
@@ -79,6 +80,15 @@ fn overflow_type(alloc: Global, int: IntType) -> Result<Ty, OutOfMemory>
     })
 }
 
+// Appends the bytes of a value of a type.
+fn encode_as(alloc: Global, v: &Val, t: Ty, out: &mut Vec<AbstractByte>) -> Result<(), OutOfMemory>
+    requires ok { TypeOk t }
+    requires shape { has_shape t v.now ≡ true }
+    ensures { OnOk result (out.new.items ≡ out.old.items ++ encoding_of t v.now) }
+{
+    encode(alloc, v, &t, out)
+}
+
 // Appends the bytes of a value of a known type.
 #[tactic(auto, using(mr_layout::proofs::BrokenLaws::broken_int, mr_layout::proofs::BrokenLaws::broken_bool, mr_layout::proofs::BrokenLaws::broken_raw, mr_layout::proofs::BrokenLaws::broken_fn_ptr, crate::proofs::OverflowTypes::overflow_ok))]
 fn encode_known(
@@ -93,14 +103,11 @@ fn encode_known(
 {
     match known {
         Known::Written(t) => encode(alloc, v, t, out),
-        Known::Int(int) => encode(alloc, v, &Ty::Int(int), out),
-        Known::Bool => encode(alloc, v, &Ty::Bool, out),
-        Known::Raw => encode(alloc, v, &Ty::Raw, out),
-        Known::FnPtr => encode(alloc, v, &Ty::FnPtr, out),
-        Known::Overflow(int) => {
-            let t = overflow_type(alloc, int)?;
-            encode(alloc, v, &t, out)
-        }
+        Known::Int(int) => encode_as(alloc, v, Ty::Int(int), out),
+        Known::Bool => encode_as(alloc, v, Ty::Bool, out),
+        Known::Raw => encode_as(alloc, v, Ty::Raw, out),
+        Known::FnPtr => encode_as(alloc, v, Ty::FnPtr, out),
+        Known::Overflow(int) => encode_as(alloc, v, overflow_type(alloc, int)?, out),
     }
 }
 

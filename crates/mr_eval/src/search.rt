@@ -1,3 +1,4 @@
+//! The number that the discriminant tree of an enum leads to.
 ghost use Rattle.std.specs.Prelude.{◌≡◌, ℕ, OnErr, Some, length, option_map, true};
 ghost use Rattle.mr_ast.specs.Integers.{int_size};
 ghost use Rattle.mr_runs.specs.Pieces.{bytes_of_pieces};

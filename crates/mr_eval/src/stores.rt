@@ -1,3 +1,4 @@
+//! Stores, each noted.
 ghost use Rattle.std.specs.Prelude.{◌≡◌, false, true, OnErr, OnOk};
 ghost use Rattle.mr_value.specs.Encode.{blank};
 ghost use Rattle.mr_eval.specs.Answers.{Extends, seen};

@@ -1,3 +1,4 @@
+//! The references in a value, and the range checks of what they point to.
 ghost use Rattle.std.specs.Prelude.{◌≡◌, ◌++◌, OnOk};
 ghost use Rattle.mr_value.specs.declared.val.Val.{out-Val};
 ghost use Rattle.mr_eval.specs.Answers.{Extends, Gives, same, seen};

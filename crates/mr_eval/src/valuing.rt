@@ -1,28 +1,33 @@
-ghost use Rattle.std.specs.Prelude.{◌≡◌, ◌<◌, ◌^◌, IfOk, Some, true, unsigned_abs};
+//! Values with their types, from loads and operators.
+ghost use Rattle.std.specs.Prelude.{◌≡◌, ◌<◌, ◌^◌, IfOk, None, Some, is_some, true, unsigned_abs};
+ghost use Rattle.mr_layout.specs.Sizes.{size_of};
 ghost use Rattle.mr_layout.specs.TypeOk.{TypeOk};
 ghost use Rattle.mr_value.specs.Shape.{has_shape};
 ghost use Rattle.mr_value.specs.declared.val.Val.{out-Val};
-ghost use Rattle.mr_script.specs.Script.{run};
+ghost use Rattle.mr_script.specs.Script.{Done, run};
 ghost use Rattle.mr_ast.specs.declared.types.IntType.TheVariants.{I64};
 ghost use Rattle.mr_intops.specs.Numbers.{value_of};
 ghost use Rattle.mr_eval.specs.declared.kinds.Operator.TheVariants.{Moving};
-ghost use Rattle.mr_eval.specs.Answers.{Extends, Gives, Says, same, seen, value_in};
-ghost use Rattle.mr_eval.specs.Evaluated.{disc_at, read_typed};
-ghost use Rattle.mr_eval.specs.Operators.{kind_of, moved_pointer, operated};
+ghost use Rattle.mr_eval.specs.Answers.{Extends, FieldShaped, Gives, Says, same, seen, value_in};
+ghost use Rattle.mr_eval.specs.Evaluated.{disc_at, read_typed, transmuted_to};
+ghost use Rattle.mr_eval.specs.Operators.{cast_layer, kind_of, moved_pointer, operated, unary_in};
 ghost use Rattle.mr_eval.specs.Reads.{reading};
 ghost use Rattle.mr_wf.specs.Known.{ty_of};
-ghost use Rattle.mr_wf.specs.Types.{discriminant_type};
+ghost use Rattle.mr_eval.specs.Evaluation.{union_of};
+ghost use Rattle.mr_wf.specs.Types.{discriminant_type, integer_of, result_type};
 
 use crate::halt::Halt;
+use crate::here::Here;
 use crate::kinds::{Operator, kind_of};
 use crate::loading::read_typed;
 use crate::moving::moved;
 use crate::notes::Notes;
 use crate::operands::{pointer_in, right_in};
-use crate::operators::{arith, compare, moved_around, overflowing, shift};
+use crate::operators::{arith, cast, compare, moved_around, overflowing, shift, unary};
 use crate::placing::Placed;
+use crate::recasting;
 use crate::search::found_number;
-use mr_ast::{BinaryOp, IntType, Ty};
+use mr_ast::{BinaryOp, Boxed, IntType, Num, Ty, UnaryOp};
 use mr_base::Pointer;
 use mr_layout::{align, size};
 use mr_mem::Memory;
@@ -37,6 +42,14 @@ pub struct Valued<'p> {
     pub ty: Known<'p>,
 }
 
+/// A value of a type.
+pub fn typed(value: Val, ty: Known<'_>) -> Valued<'_>
+    ensures value { result.value ≡ value }
+    ensures ty { result.ty ≡ ty.entry }
+{
+    Valued { value, ty }
+}
+
 /// The load of a place.
 #[tactic(auto, using(mr_layout::proofs::Bounds::type_ok_size))]
 pub fn load(alloc: Global, m: &Memory, notes: &mut Notes, p: Placed<'_>) -> Result<Val, Halt>
@@ -48,6 +61,23 @@ pub fn load(alloc: Global, m: &Memory, notes: &mut Notes, p: Placed<'_>) -> Resu
     match size(p.ty) {
         Some(bytes) => read_typed(alloc, m, notes, p.at, p.ty, bytes, align(p.ty)),
         None => unreachable!(),
+    }
+}
+
+/// The load of a place, as a value of its type.
+pub fn loaded_value<'p>(
+    here: Here<'p>,
+    notes: &mut Notes,
+    p: Placed<'p>,
+) -> Result<Valued<'p>, Halt>
+    requires { TypeOk p.ty.now }
+    ensures given { Gives value_in result (read_typed here.entry.memory.now p.entry.ty.now p.entry.at (seen notes.old)) (seen notes.new) }
+    ensures ty { IfOk result (λ v. ty_of v.ty ≡ p.entry.ty.now) }
+    ensures kept { Extends (seen notes.old) (seen notes.new) }
+{
+    match load(here.alloc, here.memory, notes, p) {
+        Ok(value) => Ok(typed(value, Known::Written(p.ty))),
+        Err(halt) => Err(halt),
     }
 }
 
@@ -96,15 +126,8 @@ fn moved_value(m: &Memory, notes: &mut Notes, p: Pointer, n: i128) -> Result<Val
 
 // A pointer moved in bounds, by a number in two's complement.
 #[tactic(auto, using(crate::proofs::ExtendsLaws::extends_laws))]
-fn moved_by(
-    m: &Memory,
-    notes: &mut Notes,
-    left: Option<IntType>,
-    right: Option<IntType>,
-    a: &Val,
-    b: &Val,
-) -> Result<Val, Halt>
-    ensures given { Gives same result (run (reading m.now) (operated Moving left right (out-Val a.now) (out-Val b.now)) (seen notes.old)) (seen notes.new) }
+fn moved_by(m: &Memory, notes: &mut Notes, a: &Val, b: &Val) -> Result<Val, Halt>
+    ensures given { Gives same result (run (reading m.now) (operated Moving None None (out-Val a.now) (out-Val b.now)) (seen notes.old)) (seen notes.new) }
     ensures kept { Extends (seen notes.old) (seen notes.new) }
 {
     match (pointer_in(a), right_in(IntType::I64, b)) {
@@ -113,9 +136,9 @@ fn moved_by(
     }
 }
 
-/// An operator with two operands, which are read as these integers.
+// An operator with two operands, which are read as these integers.
 #[tactic(auto, using(crate::proofs::ExtendsLaws::extends_laws))]
-pub fn binary(
+fn binary(
     alloc: Global,
     m: &Memory,
     notes: &mut Notes,
@@ -129,11 +152,117 @@ pub fn binary(
 {
     let (left, right) = told;
     match kind_of(op) {
-        Operator::Arith(op) => arith(op, left, right, a, b),
-        Operator::Overflowing(op) => overflowing(alloc, op, left, right, a, b),
+        Operator::Arith(op) => arith(op, left, a, b),
+        Operator::Overflowing(op) => overflowing(alloc, op, left, a, b),
         Operator::Shifting(op) => shift(op, left, right, a, b),
-        Operator::Comparing(op) => compare(op, left, right, a, b),
-        Operator::Moving => moved_by(m, notes, left, right, a, b),
-        Operator::Wrapping => moved_around(left, right, a, b),
+        Operator::Comparing(op) => compare(op, left, a, b),
+        Operator::Moving => moved_by(m, notes, a, b),
+        Operator::Wrapping => moved_around(a, b),
+    }
+}
+
+/// A value as another integer type.
+pub fn cast_value<'p>(int: IntType, v: Valued<'p>) -> Result<Valued<'p>, Halt>
+    ensures given { Says value_in result (cast_layer int (integer_of (ty_of v.entry.ty)) (out-Val v.entry.value)) }
+    ensures ty { IfOk result (λ w. ty_of w.ty ≡ Ty.Int int) }
+{
+    match cast(int, v.ty.integer(), &v.value) {
+        Ok(value) => Ok(typed(value, Known::Int(int))),
+        Err(halt) => Err(halt),
+    }
+}
+
+/// An operator with one operand.
+pub fn unary_value<'p>(op: UnaryOp, v: Valued<'p>) -> Result<Valued<'p>, Halt>
+    ensures given { Says value_in result (unary_in op (integer_of (ty_of v.entry.ty)) (out-Val v.entry.value)) }
+    ensures ty { IfOk result (λ w. ty_of w.ty ≡ ty_of v.entry.ty) }
+{
+    match unary(op, v.ty.integer(), &v.value) {
+        Ok(value) => Ok(typed(value, v.ty)),
+        Err(halt) => Err(halt),
+    }
+}
+
+/// The variant of an enum with this content.
+pub fn variant_value<'p>(
+    alloc: Global,
+    ty: &'p Ty,
+    number: Num,
+    content: Val,
+) -> Result<Valued<'p>, Halt>
+    ensures given { Says value_in result (Done (Val.Variant number content)) }
+    ensures ty { IfOk result (λ w. ty_of w.ty ≡ ty.entry.now) }
+{
+    let content = Boxed::new(alloc, content)?;
+    Ok(typed(Val::Variant(number, content), Known::Written(ty)))
+}
+
+/// A union of which a field is written.
+pub fn union_value<'p>(
+    alloc: Global,
+    ty: &'p Ty,
+    number: u64,
+    content: Val,
+) -> Result<Valued<'p>, Halt>
+    requires ok { TypeOk ty.now }
+    requires shape { FieldShaped ty.now number content }
+    ensures given { Says value_in result (union_of ty.entry.now number content) }
+    ensures ty { IfOk result (λ w. ty_of w.ty ≡ ty.entry.now) }
+{
+    match recasting::union_of(alloc, ty, number, &content) {
+        Ok(value) => Ok(typed(value, Known::Written(ty))),
+        Err(halt) => Err(halt),
+    }
+}
+
+/// The bytes of a value, taken for another type of the same size.
+pub fn transmuted_value<'p>(
+    here: Here<'p>,
+    notes: &mut Notes,
+    to: &'p Ty,
+    v: Valued<'p>,
+) -> Result<Valued<'p>, Halt>
+    requires ok { TypeOk to.now }
+    requires from_ok { TypeOk (ty_of v.ty) }
+    requires shape { has_shape (ty_of v.ty) v.value ≡ true }
+    requires same { size_of (ty_of v.ty) ≡ size_of to.now }
+    ensures given { Gives value_in result (transmuted_to here.entry.memory.now to.entry.now (Some (ty_of v.entry.ty)) v.entry.value (seen notes.old)) (seen notes.new) }
+    ensures ty { IfOk result (λ w. ty_of w.ty ≡ to.entry.now) }
+    ensures kept { Extends (seen notes.old) (seen notes.new) }
+{
+    match recasting::transmuted(here.alloc, here.memory, notes, to, v.ty, &v.value) {
+        Ok(value) => Ok(typed(value, Known::Written(to))),
+        Err(halt) => Err(halt),
+    }
+}
+
+// The type of what an operator gives, where this is the type of its left operand.
+fn given(op: BinaryOp, left: Known<'_>) -> Known<'_>
+    requires { is_some (result_type op (ty_of left)) ≡ true }
+    ensures { result_type op (ty_of left.entry) ≡ Some (ty_of result) }
+{
+    match left.under(op) {
+        Some(ty) => ty,
+        None => unreachable!(),
+    }
+}
+
+/// An operator with two operands.
+pub fn binary_value<'p>(
+    here: Here<'p>,
+    notes: &mut Notes,
+    op: BinaryOp,
+    a: Valued<'p>,
+    b: Valued<'p>,
+) -> Result<Valued<'p>, Halt>
+    requires { is_some (result_type op (ty_of a.ty)) ≡ true }
+    ensures given { Gives value_in result (run (reading here.entry.memory.now) (operated (kind_of op) (integer_of (ty_of a.entry.ty)) (integer_of (ty_of b.entry.ty)) (out-Val a.entry.value) (out-Val b.entry.value)) (seen notes.old)) (seen notes.new) }
+    ensures ty { IfOk result (λ w. result_type op (ty_of a.entry.ty) ≡ Some (ty_of w.ty)) }
+    ensures kept { Extends (seen notes.old) (seen notes.new) }
+{
+    let told = (a.ty.integer(), b.ty.integer());
+    match binary(here.alloc, here.memory, notes, op, told, &a.value, &b.value) {
+        Ok(value) => Ok(typed(value, given(op, a.ty))),
+        Err(halt) => Err(halt),
     }
 }

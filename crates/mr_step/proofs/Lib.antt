@@ -29,7 +29,6 @@ pub mod ProgressLaws
 pub mod RangeChecks
 pub mod ReadingRuns
 pub mod RunLaws
-pub mod SmallPrograms
 pub mod SoundRuns
 pub mod Soundness
 pub mod SplicedLaws

@@ -32,8 +32,6 @@ mod pieces;
 mod progress;
 mod scalars;
 mod storage;
-#[cfg(test)]
-mod tests;
 mod texts;
 mod types;
 

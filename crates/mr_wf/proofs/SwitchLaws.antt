@@ -1,12 +1,15 @@
 -- What a switch takes, from the kind of its value's type.
-use Rattle.std.proofs.Common.{◌≡◌, List, refl, ap}
-use Rattle.std.specs.Prelude.{◌&&◌, None, Some}
+use Rattle.std.proofs.Common.{◌≡◌, ℕ, zero, suc, ◌+◌, ◌<◌, Bool, true, false, List, [], ◌∷◌, drop, get_or, length, refl, ap, ◌∙◌}
+use Rattle.std.proofs.lemmas.List.{drop_more}
+use Rattle.std.specs.Prelude.{◌&&◌, not, None, Some}
 use Rattle.mr_ast.specs.declared.program.BlockName.{BlockName}
 use Rattle.mr_ast.specs.declared.types.IntType.{IntType}
 use Rattle.mr_ast.specs.declared.types.Num.{Num}
 use Rattle.mr_ast.specs.declared.types.Ty.{Ty, out-Ty}
 use Rattle.mr_ast.specs.declared.types.Ty.TheOpen.{Ty-F}
 use Rattle.mr_ast.specs.declared.types.Variant.{Variant}
+use Rattle.mr_layout.specs.EnumRules.{is_case}
+use Rattle.mr_ast.specs.Integers.{is_fitting}
 use Rattle.mr_wf.specs.Blocks.{are_bool_cases, are_int_cases, fits_switch, fits_switch_layer}
 use Rattle.mr_wf.specs.Operands.{is_bool, is_bool_layer}
 use Rattle.mr_wf.specs.Types.{integer_in, integer_of}
@@ -24,3 +27,37 @@ switch_on_int cases t i e = int_layer cases (out-Ty t) i e
 
 pub switch_on_other : (cases : List (Num × BlockName)) (t : Ty) → integer_of t ≡ None → fits_switch cases t ≡ (is_bool t && are_bool_cases cases)
 switch_on_other cases t e = other_layer cases (out-Ty t) e
+
+none_of_three : (a b : Bool) → (a && (b && false)) ≡ false
+none_of_three true true = refl
+none_of_three true false = refl
+none_of_three false b = refl
+
+-- what is wrong with the cases from a position on is wrong with all
+pub wrong_behind : (i : IntType) (cases : List (Num × BlockName)) (k : ℕ) → are_int_cases i (drop k cases) ≡ false → are_int_cases i cases ≡ false
+wrong_behind i cases zero e = e
+wrong_behind i [] (suc k) e = e
+wrong_behind i (c ∷ cases) (suc k) e =
+    ap (λ (rest : Bool). is_fitting i c.0 && (not (is_case c.0 cases) && rest)) (wrong_behind i cases k e) ∙ none_of_three (is_fitting i c.0) (not (is_case c.0 cases))
+
+module _ (i : IntType) (cases : List (Num × BlockName)) (k : ℕ) (d : Num × BlockName) (lt : k < length cases) where
+  abbrev number : Num
+  number = (get_or cases k d).0
+
+  -- the cases from a position on: the one there, and those behind it
+  cases_from : are_int_cases i (drop k cases) ≡ (is_fitting i number && (not (is_case number (drop (k + 1) cases)) && are_int_cases i (drop (k + 1) cases)))
+  cases_from = ap (are_int_cases i) (drop_more cases k d lt)
+
+  -- a case that does not fit
+  pub case_unfit : is_fitting i number ≡ false → are_int_cases i cases ≡ false
+  case_unfit e =
+      wrong_behind i cases k (cases_from ∙ ap (λ (b : Bool). b && (not (is_case number (drop (k + 1) cases)) && are_int_cases i (drop (k + 1) cases))) e)
+
+  -- a case that comes again behind
+  pub case_again : is_case number (drop (k + 1) cases) ≡ true → are_int_cases i cases ≡ false
+  case_again e =
+      wrong_behind i cases k (cases_from ∙ ap (λ (b : Bool). is_fitting i number && (not b && are_int_cases i (drop (k + 1) cases))) e ∙ never (is_fitting i number))
+    where
+      never : (b : Bool) → (b && false) ≡ false
+      never true = refl
+      never false = refl

@@ -1,4 +1,5 @@
 pub mod SameTypes
+pub mod Seen
 pub mod Types
 pub mod Unbroken
 pub mod Operands

@@ -1,4 +1,5 @@
 -- The faults of a program: each position at which a rule is broken, with its code, in the order of the walk.
+-- A type counts with the first rule that it breaks.
 use Rattle.std.specs.Prelude.{◌≡◌, ℕ, suc, ◌^◌, Bool, true, false, not, ◌&&◌, ◌==◌, nat_le, List, [], ◌∷◌, ◌++◌, map, flat_map, length, Option, None, Some, slice_get}
 use Rattle.std.specs.List.{list_any}
 use Rattle.mr_ast.specs.declared.program.LocalName.{LocalName}
@@ -90,16 +91,13 @@ is_main_form p = elim (slice_get p.functions p.start.0) as (λ _. Bool) [ Some f
 abbrev pub faults_in_global : Program → ℕ → Global_ → List FormFault
 faults_in_global p n g = at_position (Static n) None 0 (broken_in_global (sizes_of p.globals) g)
 
--- all faults of a program, in the order of the walk
+-- The faults of a program, in the order of the walk: of each type that stands in it the first rule that the type breaks,
+-- and every other rule that is broken.
 unfoldable pub faults_of : Program → List FormFault
 faults_of p =
     each_at (faults_in_global p) 0 p.globals
     ++ each_at (faults_in_function p) 0 p.functions
     ++ at_position (InFunction p.start.0) None 0 (rule 45 (is_main_form p))
-
--- the set of positions with a rule that is broken there
-abbrev pub IsBroken : Program → FormFault → Type 0
-IsBroken p fault = (n : ℕ) × (slice_get (faults_of p) n ≡ Some fault)
 
 -- the first broken rule of the walk
 abbrev pub FirstBroken : Program → FormFault → Type 0

@@ -1,4 +1,5 @@
-ghost use Rattle.std.specs.Prelude.{◌≡◌, ◌==◌, map};
+//! The rules of statements, of terminators and of the kinds of blocks.
+ghost use Rattle.std.specs.Prelude.{◌≡◌, ◌==◌, Ok, map};
 ghost use Rattle.std.specs.Option.{option_map};
 ghost use Rattle.std.specs.List.{list_all, list_any};
 ghost use Rattle.mr_layout.specs.EnumRules.{is_case};
@@ -11,6 +12,7 @@ use crate::intrinsics::fits_intrinsic;
 use crate::judging::{Surroundings, judged_place, judged_value, judged_values, kept};
 use crate::known::Known;
 use crate::parts::variant;
+use crate::seen::Seen;
 use mr_ast::{
     BlockKind, BlockName, Function, IntType, Intrinsic, LocalName, Num, Place, Stmt, Term, Value,
 };
@@ -65,6 +67,25 @@ pub fn judged_stmt(
 
 // ---- switches
 
+// Whether each case fits the integer, and stands once: from the last one on, each is no number behind it.
+#[tactic(auto, using(crate::proofs::SwitchLaws::case_unfit, crate::proofs::SwitchLaws::case_again))]
+fn are_int_cases(alloc: Global, int: IntType, cases: &[(Num, BlockName)]) -> Result<bool, Broken>
+    ensures { Gives (λ b. b) result (Ok (are_int_cases int cases.now)) }
+{
+    let mut seen = Seen::new(alloc);
+    for i in (0..cases.len()).rev() {
+        let number = cases[i].0;
+        if !is_fitting(int, number) {
+            return Ok(false);
+        }
+        if !seen.add(number)? {
+            return Ok(false);
+        }
+    }
+    Ok(true)
+}
+
+// Whether a number is one of the cases.
 fn is_case(number: Num, cases: &[(Num, BlockName)]) -> bool
     ensures { result ≡ is_case number cases.now }
 {
@@ -76,19 +97,7 @@ fn is_case(number: Num, cases: &[(Num, BlockName)]) -> bool
     false
 }
 
-// Whether each case fits the integer, and stands once.
-fn are_int_cases(int: IntType, cases: &[(Num, BlockName)]) -> bool
-    ensures { result ≡ are_int_cases int cases.now }
-{
-    match cases {
-        [first, rest @ ..] => {
-            is_fitting(int, first.0) && !is_case(first.0, rest) && are_int_cases(int, rest)
-        }
-        [] => true,
-    }
-}
-
-// Whether each case is 0 or 1, and stands once.
+// Whether each case is 0 or 1, and stands once. The third one is no such case.
 fn are_bool_cases(cases: &[(Num, BlockName)]) -> bool
     ensures { result ≡ are_bool_cases cases.now }
 {
@@ -101,12 +110,12 @@ fn are_bool_cases(cases: &[(Num, BlockName)]) -> bool
 }
 
 #[tactic(auto, using(crate::proofs::SwitchLaws::switch_on_int, crate::proofs::SwitchLaws::switch_on_other))]
-fn fits_switch(cases: &[(Num, BlockName)], t: Known<'_>) -> bool
-    ensures { result ≡ fits_switch cases.now (ty_of t.entry) }
+fn fits_switch(alloc: Global, cases: &[(Num, BlockName)], t: Known<'_>) -> Result<bool, Broken>
+    ensures { Gives (λ b. b) result (Ok (fits_switch cases.now (ty_of t.entry))) }
 {
     match t.integer() {
-        Some(int) => are_int_cases(int, cases),
-        None => t.is_bool() && are_bool_cases(cases),
+        Some(int) => are_int_cases(alloc, int, cases),
+        None => Ok(t.is_bool() && are_bool_cases(cases)),
     }
 }
 
@@ -231,7 +240,7 @@ fn judged_parts(alloc: Global, at: Surroundings<'_>, term: &Term) -> Result<(), 
     match term {
         Term::Switch(value, cases, _) => {
             let t = judged_value(alloc, at, value)?;
-            kept(39, fits_switch(cases.as_slice(), t))
+            kept(39, fits_switch(alloc, cases.as_slice(), t)?)
         }
         Term::Unwind(payload, _) => {
             let t = judged_value(alloc, at, payload)?;

@@ -1,3 +1,4 @@
+//! A program that breaks no rule, and the walk that makes one.
 ghost use Rattle.std.specs.Prelude.{◌≡◌};
 ghost use Rattle.mr_ast.specs.declared.program.Program.{Program};
 ghost use Rattle.mr_ast.specs.Shaped.{Shaped};

@@ -1,3 +1,4 @@
+//! What breaks a rule, and where; and why a walk stops.
 use mr_ast::{BlockName, Program};
 use std::alloc::{AllocError, AllocFailed};
 

@@ -1,3 +1,4 @@
+//! The rules of globals, and the sizes of their items.
 ghost use Rattle.std.specs.Prelude.{◌≡◌, ◌<◌, ◌^◌, IfOk};
 ghost use Rattle.mr_wf.specs.Broken.{is_in_global, item_size, items_size, sizes_of};
 ghost use Rattle.mr_wf.specs.JudgingBlocks.{judged_global, judged_items};
@@ -22,8 +23,8 @@ fn item_size(item: &Item_) -> u32
     }
 }
 
-// How many bytes items take.
-fn items_size(items: &[Item_]) -> u128
+/// How many bytes the items of a global take together.
+pub fn items_size(items: &[Item_]) -> u128
     ensures { result ≡ items_size items.now }
 {
     let mut size = 0;

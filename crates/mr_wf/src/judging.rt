@@ -1,4 +1,6 @@
+//! The types of places and values, or the first rule that is broken in them.
 ghost use Rattle.std.specs.Prelude.{◌≡◌, ◌||◌, map, option_copied, option_map, slice_get};
+ghost use Rattle.mr_ast.specs.declared.expr.Place.TheVariants as place;
 ghost use Rattle.mr_ast.specs.declared.expr.Value.TheVariants as value;
 ghost use Rattle.mr_wf.specs.Judging.{judged_place, judged_value, judged_values, kept, sound_type, there};
 ghost use Rattle.mr_wf.specs.Known.{Gives, element_at, operated, surroundings_of, ty_of};
@@ -71,12 +73,7 @@ pub fn judged_place<'p>(
 {
     match place {
         Place::Local(x) => there(33, local_type(at.locals, *x)),
-        Place::Deref(pointer, ty) => {
-            let t = judged_value(alloc, at, pointer.get())?;
-            sound_type(ty)?;
-            kept(33, t.is_pointer())?;
-            Ok(ty)
-        }
+        Place::Deref(pointer, ty) => judged_target(alloc, at, pointer.get(), ty),
         Place::Field(whole, number) => {
             there(33, field(judged_place(alloc, at, whole.get())?, *number))
         }
@@ -89,6 +86,23 @@ pub fn judged_place<'p>(
             there(33, variant(judged_place(alloc, at, whole.get())?, *number))
         }
     }
+}
+
+// The target of a pointer.
+#[cycle(judged)]
+#[tactic(auto, using(crate::proofs::JudgedLaws::judged_laws))]
+fn judged_target<'p>(
+    alloc: Global,
+    at: Surroundings<'p>,
+    pointer: &'p Value,
+    ty: &'p Ty,
+) -> Result<&'p Ty, Broken>
+    ensures { Gives (λ t. t.now) result (judged_place (surroundings_of at.entry) (place.Deref pointer.now ty.now)) }
+{
+    let t = judged_value(alloc, at, pointer)?;
+    sound_type(ty)?;
+    kept(33, t.is_pointer())?;
+    Ok(ty)
 }
 
 // The type of an element of an array.

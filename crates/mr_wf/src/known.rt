@@ -1,3 +1,4 @@
+//! A type as a program writes it, or one that it need not write.
 ghost use Rattle.std.specs.Prelude.{◌≡◌, ◌^◌, nat_lt, if◌then◌else◌, option_map};
 ghost use Rattle.mr_ast.specs.declared.types.Ty.{out-Ty};
 ghost use Rattle.mr_layout.specs.Sizes.{size_of};

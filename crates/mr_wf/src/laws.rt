@@ -1,3 +1,4 @@
+//! Laws of well-formed programs, for the layers above.
 ghost use Rattle.std.specs.Prelude.{◌≡◌, ◌↔◌, [], All, Some, true};
 ghost use Rattle.mr_ast.specs.Shaped.{named_in};
 ghost use Rattle.mr_ast.specs.ShapedValues.{is_shaped_place, is_shaped_value};

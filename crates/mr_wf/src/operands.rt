@@ -1,3 +1,4 @@
+//! The types that operators and aggregates take.
 ghost use Rattle.std.specs.Prelude.{◌≡◌, map, length, option_copied};
 ghost use Rattle.mr_ast.specs.declared.types.Ty.{out-Ty};
 ghost use Rattle.mr_layout.specs.TypeOk.{TypeOk};
@@ -77,16 +78,14 @@ pub fn fits_binary(op: BinaryOp, left: Known<'_>, right: Known<'_>) -> bool
 fn match_fields(fields: &[(u64, Ty)], types: &[Known<'_>]) -> bool
     ensures { result ≡ match_fields fields.now (map ty_of types.now) }
 {
-    match fields {
-        [first, fields @ ..] => match types {
-            [t, types @ ..] => t.same(Known::Written(&first.1)) && match_fields(fields, types),
-            [] => false,
-        },
-        [] => match types {
-            [_, ..] => false,
-            [] => true,
-        },
+    let mut left = types;
+    for field in fields {
+        match left {
+            [t, rest @ ..] if t.same(Known::Written(&field.1)) => left = rest,
+            _ => return false,
+        }
     }
+    left.is_empty()
 }
 
 // Whether each type is that of the elements.

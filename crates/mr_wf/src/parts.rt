@@ -1,3 +1,4 @@
+//! The parts of a type: fields, elements, variants and the discriminant.
 ghost use Rattle.std.specs.Prelude.{◌≡◌, option_copied, option_map, slice_get};
 ghost use Rattle.mr_ast.specs.declared.types.Ty.{out-Ty};
 ghost use Rattle.mr_ast.specs.declared.types.Ty.TheVariants as ty;

@@ -1,3 +1,4 @@
+//! The walk over a program, to the first position at which a rule is broken.
 ghost use Rattle.std.specs.Prelude.{◌≡◌, ◌==◌, ◌≤◌, ◌^◌, All, None, Some, length};
 ghost use Rattle.mr_ast.specs.declared.program.Block.{Block};
 ghost use Rattle.mr_ast.specs.Shaped.{Shaped};

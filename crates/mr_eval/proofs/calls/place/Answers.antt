@@ -10,13 +10,13 @@ use Rattle.mr_eval.proofs.calls.place.Goals as goal
 
 pub placed-requires : goal.placed-requires
 placed-requires c =
-    subst (λ (ls : List Local). SoundPlace (with_locals (env_scene c.args.e.now) ls) c.args.p.now) (sym c.locals_in.ensures.locals)
-    (env_place c.args.e.now c.locals_in.ensures.well_formed c.args.p.now c.requires)
+    subst (λ (ls : List Local). SoundPlace (with_locals (env_scene c.args.e.now) ls) c.args.p.now) (sym c.function_locals.ensures.locals)
+    (env_place c.args.e.now c.function_locals.ensures.well_formed c.args.p.now c.requires)
 
 pub fault_of-requires : goal.fault_of-requires
 fault_of-requires c =
-    let s : Scene = with_locals (env_scene c.args.e.now) c.locals_in.result.now in
-    let sound = subst (λ (ls : List Local). SoundPlace (with_locals (env_scene c.args.e.now) ls) c.args.p.now) (sym c.locals_in.ensures.locals)
-    (env_place c.args.e.now c.locals_in.ensures.well_formed c.args.p.now c.requires) in
+    let s : Scene = with_locals (env_scene c.args.e.now) c.function_locals.result.now in
+    let sound = subst (λ (ls : List Local). SoundPlace (with_locals (env_scene c.args.e.now) ls) c.args.p.now) (sym c.function_locals.ensures.locals)
+    (env_place c.args.e.now c.function_locals.ensures.well_formed c.args.p.now c.requires) in
     ruled at_pointer c.in-Err.h (placed c.args.m.now s c.args.p.now (seen c.args.n.now)) (seen c.placed.new.notes) any_result c.in-Err.ensures.given
     (place_ruled c.args.m.now s c.args.p.now (seen c.args.n.now) sound)

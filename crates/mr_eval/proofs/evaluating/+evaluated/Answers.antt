@@ -1,10 +1,11 @@
-use Rattle.std.proofs.Common.{drop, get_or, sym, ap, subst, ◌∙◌, arith, ◌≡◌, Some, ◌+◌}
+use Rattle.std.proofs.Common.{drop, get_or, sym, ap, subst, ◌∙◌, arith, ◌≡◌, Some, ◌+◌, true}
 use Rattle.mr_script.specs.Script.{Went}
 use Rattle.mr_eval.specs.Answers.{scene_of, seen}
 use Rattle.mr_eval.specs.Evaluated.{each_valued, valued}
 use Rattle.mr_eval.specs.Sound.{SoundPlace, SoundValue, SoundValues}
 use Rattle.mr_wf.specs.Known.{ty_of}
-use Rattle.mr_wf.specs.Types.{type_of_place, type_of_value}
+use Rattle.std.specs.Option.{is_some}
+use Rattle.mr_wf.specs.Types.{result_type, type_of_place, type_of_value}
 use Rattle.mr_ast.specs.declared.expr.Place.{Place}
 use Rattle.mr_ast.specs.declared.expr.Value.{Value}
 use Rattle.mr_eval.proofs.EvalRuns.{fn_there}
@@ -13,6 +14,9 @@ use Rattle.mr_eval.proofs.ExtendsLaws.{extends_then}
 use Rattle.mr_eval.proofs.RowRuns.{behind_row, row_end, row_next, row_stop}
 use Rattle.mr_eval.proofs.ExprWeights.{place_weight, row_weight, value_weight, weight_addr_of, weight_binary, weight_cast, weight_deref, weight_disc, weight_field, weight_in_row, weight_index, weight_load, weight_transmute, weight_tuple, weight_unary, weight_union, weight_variant, weight_variant_place}
 use Rattle.mr_eval.proofs.SoundParts.{int_fits, place_ok, result_given, shape_given, sound_addr_of, sound_array, sound_at, sound_behind, sound_cast, sound_deref, sound_disc, sound_field, sound_index, sound_left, sound_load, sound_right, sound_transmute, sound_tuple, sound_unary, sound_union, sound_variant, sound_variant_place, transmute_types, union_content, value_ok, variant_there}
+use Rattle.mr_value.specs.declared.val.Val.{Val}
+use Rattle.mr_eval.specs.declared.valuing.Valued.{Valued}
+use Rattle.mr_eval.proofs.GivesLaws.{beside_first}
 use Rattle.mr_eval.proofs.evaluating.+evaluated.Goals as goal
 
 -- src/evaluating.rt:35:21
@@ -48,8 +52,8 @@ placed-valued-requires-in-Index t c =
     (omega (arith, c.decreases), subst (SoundValue (scene_of c.args.here)) (sym same) (sound_index (scene_of c.args.here) _ c.in-Index.array c.in-Index.index c.in-Index.is c.requires))
 
 -- src/evaluating.rt:46:13
-pub placed-element-requires : goal.placed-element-requires
-placed-element-requires t c =
+pub placed-element_by-requires : goal.placed-element_by-requires
+placed-element_by-requires t c =
     let sound = sound_array (scene_of c.args.here) _ c.in-Index.array c.in-Index.index c.in-Index.is c.requires in
     place_ok (scene_of c.args.here) _ _ (subst (SoundPlace (scene_of c.args.here)) (sym c.get-in-Index.ensures) sound) c.in_ok-p-in-Index.ensures.ty
 
@@ -74,8 +78,8 @@ valued-placed-requires t c =
     (omega (arith, c.decreases), sound_load (scene_of c.args.here) _ c.in-Load.place c.in-Load.is c.requires)
 
 -- src/evaluating.rt:67:25
-pub valued-load-requires : goal.valued-load-requires
-valued-load-requires t c =
+pub valued-loaded_value-requires : goal.valued-loaded_value-requires
+valued-loaded_value-requires t c =
     place_ok (scene_of c.args.here) _ _ (sound_load (scene_of c.args.here) _ c.in-Load.place c.in-Load.is c.requires) c.in_ok-p-in-Load.ensures.ty
 
 pub valued-bits_of_number-requires : goal.valued-bits_of_number-requires
@@ -124,6 +128,7 @@ valued-returns-in-Some-clause-given t c =
     let old = seen c.args.notes.now in
     ap (λ (v : Value). valued m s v old) c.in-Fn.is
     ∙ fn_there m s old c.in-Fn.f c.in-Some.p (sym c.named.ensures ∙ c.in-Some.is)
+    ∙ ap (λ (v : Val). Went v old) (sym c.typed-in-Some.ensures.value)
 
 pub each_valued-valued-requires : goal.each_valued-valued-requires
 each_valued-valued-requires t c =
@@ -172,15 +177,15 @@ valued-valued-requires-in-Union t c =
     let w : value_weight c.get-in-Union.result.now ≡ value_weight c.in-Union.content = ap value_weight same in
     (omega (arith, c.decreases), subst (SoundValue (scene_of c.args.here)) (sym same) (sound_union (scene_of c.args.here) _ c.in-Union.ty c.in-Union.number c.in-Union.content c.in-Union.is c.requires))
 
-pub valued-union_of-answer-requires-clause-ok : goal.valued-union_of-answer-requires-clause-ok
-valued-union_of-answer-requires-clause-ok t c =
+pub valued-union_value-requires-clause-ok : goal.valued-union_value-requires-clause-ok
+valued-union_value-requires-clause-ok t c =
     let s = scene_of c.args.here in
     let ty = subst (λ (v : Value). type_of_value s.locals v ≡ Some (ty_of c.in_ok-v-in-Union.v.ty)) c.get-in-Union.ensures c.in_ok-v-in-Union.ensures.ty in
     let went = subst (λ (v : Value). valued c.args.here.memory.now s v (seen c.args.notes.now) ≡ Went c.in_ok-v-in-Union.v.value (seen c.valued-in-Union.new.notes)) c.get-in-Union.ensures c.in_ok-v-in-Union.ensures.given in
     (union_content s c.args.here.memory.now c.args.value.now c.in-Union.content c.in-Union.ty _ c.in-Union.number c.in_ok-v-in-Union.v.value (seen c.args.notes.now) (seen c.valued-in-Union.new.notes) c.in-Union.is c.requires ty went).0
 
-pub valued-union_of-answer-requires-clause-shape : goal.valued-union_of-answer-requires-clause-shape
-valued-union_of-answer-requires-clause-shape t c =
+pub valued-union_value-requires-clause-shape : goal.valued-union_value-requires-clause-shape
+valued-union_value-requires-clause-shape t c =
     let s = scene_of c.args.here in
     let ty = subst (λ (v : Value). type_of_value s.locals v ≡ Some (ty_of c.in_ok-v-in-Union.v.ty)) c.get-in-Union.ensures c.in_ok-v-in-Union.ensures.ty in
     let went = subst (λ (v : Value). valued c.args.here.memory.now s v (seen c.args.notes.now) ≡ Went c.in_ok-v-in-Union.v.value (seen c.valued-in-Union.new.notes)) c.get-in-Union.ensures c.in_ok-v-in-Union.ensures.given in
@@ -193,27 +198,27 @@ valued-valued-requires-in-Transmute t c =
     let w : value_weight c.get-in-Transmute.result.now ≡ value_weight c.in-Transmute.operand = ap value_weight same in
     (omega (arith, c.decreases), subst (SoundValue (scene_of c.args.here)) (sym same) (sound_transmute (scene_of c.args.here) _ c.in-Transmute.ty c.in-Transmute.operand c.in-Transmute.is c.requires))
 
-pub valued-transmuted-answer-requires-clause-ok : goal.valued-transmuted-answer-requires-clause-ok
-valued-transmuted-answer-requires-clause-ok t c =
+pub valued-transmuted_value-requires-clause-ok : goal.valued-transmuted_value-requires-clause-ok
+valued-transmuted_value-requires-clause-ok t c =
     let s = scene_of c.args.here in
     let ty = subst (λ (v : Value). type_of_value s.locals v ≡ Some (ty_of c.in_ok-v-in-Transmute.v.ty)) c.get-in-Transmute.ensures c.in_ok-v-in-Transmute.ensures.ty in
     (transmute_types s c.args.value.now c.in-Transmute.operand c.in-Transmute.ty _ c.in-Transmute.is c.requires ty).0
 
-pub valued-transmuted-answer-requires-clause-from_ok : goal.valued-transmuted-answer-requires-clause-from_ok
-valued-transmuted-answer-requires-clause-from_ok t c =
+pub valued-transmuted_value-requires-clause-from_ok : goal.valued-transmuted_value-requires-clause-from_ok
+valued-transmuted_value-requires-clause-from_ok t c =
     let s = scene_of c.args.here in
     let ty = subst (λ (v : Value). type_of_value s.locals v ≡ Some (ty_of c.in_ok-v-in-Transmute.v.ty)) c.get-in-Transmute.ensures c.in_ok-v-in-Transmute.ensures.ty in
     value_ok s c.in-Transmute.operand _ (sound_transmute s _ c.in-Transmute.ty c.in-Transmute.operand c.in-Transmute.is c.requires) ty
 
-pub valued-transmuted-answer-requires-clause-shape : goal.valued-transmuted-answer-requires-clause-shape
-valued-transmuted-answer-requires-clause-shape t c =
+pub valued-transmuted_value-requires-clause-shape : goal.valued-transmuted_value-requires-clause-shape
+valued-transmuted_value-requires-clause-shape t c =
     let s = scene_of c.args.here in
     let ty = subst (λ (v : Value). type_of_value s.locals v ≡ Some (ty_of c.in_ok-v-in-Transmute.v.ty)) c.get-in-Transmute.ensures c.in_ok-v-in-Transmute.ensures.ty in
     let went = subst (λ (v : Value). valued c.args.here.memory.now s v (seen c.args.notes.now) ≡ Went c.in_ok-v-in-Transmute.v.value (seen c.valued-in-Transmute.new.notes)) c.get-in-Transmute.ensures c.in_ok-v-in-Transmute.ensures.given in
     shape_given s c.args.here.memory.now c.in-Transmute.operand _ c.in_ok-v-in-Transmute.v.value (seen c.args.notes.now) (seen c.valued-in-Transmute.new.notes) (sound_transmute s _ c.in-Transmute.ty c.in-Transmute.operand c.in-Transmute.is c.requires) ty went
 
-pub valued-transmuted-answer-requires-clause-same : goal.valued-transmuted-answer-requires-clause-same
-valued-transmuted-answer-requires-clause-same t c =
+pub valued-transmuted_value-requires-clause-same : goal.valued-transmuted_value-requires-clause-same
+valued-transmuted_value-requires-clause-same t c =
     let s = scene_of c.args.here in
     let ty = subst (λ (v : Value). type_of_value s.locals v ≡ Some (ty_of c.in_ok-v-in-Transmute.v.ty)) c.get-in-Transmute.ensures c.in_ok-v-in-Transmute.ensures.ty in
     (transmute_types s c.args.value.now c.in-Transmute.operand c.in-Transmute.ty _ c.in-Transmute.is c.requires ty).1
@@ -232,8 +237,10 @@ valued-valued-right-requires t c =
     let w : value_weight c.get-in-Binary-2.result.now ≡ value_weight c.in-Binary.right = ap value_weight same in
     (omega (arith, c.decreases), subst (SoundValue (scene_of c.args.here)) (sym same) (sound_right (scene_of c.args.here) _ c.in-Binary.op c.in-Binary.left c.in-Binary.right c.in-Binary.is c.requires))
 
-pub valued-given-requires : goal.valued-given-requires
-valued-given-requires t c =
+pub valued-binary_value-requires : goal.valued-binary_value-requires
+valued-binary_value-requires t c =
     let s = scene_of c.args.here in
     let ty = subst (λ (v : Value). type_of_value s.locals v ≡ Some (ty_of c.in_ok-a-in-Binary.a.ty)) c.get-in-Binary.ensures c.in_ok-a-in-Binary.ensures.ty in
-    result_given s c.args.value.now c.in-Binary.op c.in-Binary.left c.in-Binary.right _ c.in-Binary.is c.requires ty
+    let there = result_given s c.args.value.now c.in-Binary.op c.in-Binary.left c.in-Binary.right _ c.in-Binary.is c.requires ty in
+    let same = beside_first c.in_ok-a-in-Binary.a c.valued-right.result c.in_ok-a-in-Binary-2.a c.in_ok-a-in-Binary-2.b c.in_ok-a-in-Binary-2.ensures in
+    subst (λ (v : Valued). is_some (result_type c.in-Binary.op (ty_of v.ty)) ≡ true) (sym same) there

@@ -1,0 +1,235 @@
+//! Programs and schedules as texts, and what each entry of their runs comes to.
+ghost use Rattle.std.specs.Prelude.{IfOk};
+ghost use Rattle.mr_step.specs.Built.{Built};
+
+use mr_sched::Entry;
+use mr_step::{Machine, StepFault, Turn, built};
+use mr_wf::{Checked, well_formed};
+use std::alloc::Global;
+use std::test::Fail;
+
+// The program that a text denotes, which is built and breaks no rule.
+fn checked(alloc: Global, text: &str) -> Result<Checked, Fail>
+    ensures { IfOk result Built }
+{
+    match mr_parse::parse(alloc, text.as_bytes()) {
+        Ok(program) if built(&program) => match well_formed(alloc, program) {
+            Ok(checked) => Ok(checked),
+            Err(_) => Err("a broken rule".into()),
+        },
+        Ok(_) => Err("not built".into()),
+        Err(_) => Err("no program".into()),
+    }
+}
+
+// The step of an entry, within the number of steps that is allowed for.
+fn step(machine: &mut Machine, entry: &Entry) -> Result<Turn, StepFault> {
+    if machine.completed() < 1_000_000 {
+        machine.step(entry)
+    } else {
+        Err(StepFault::Failed)
+    }
+}
+
+// The verdict before the first entry; a line for each entry, with its answer, the verdict behind it and the number of prints; and a
+// line for each print.
+fn told(alloc: Global, machine: &mut Machine, entries: &[Entry]) -> Result<String, Fail> {
+    let mut told = String::new(alloc);
+    told.push_str(format!(in alloc; "{:?} {}\n", machine.verdict(), machine.lines())?.as_str())?;
+    for entry in entries {
+        let turn = step(machine, entry);
+        let verdict = machine.verdict();
+        let prints = machine.lines();
+        told.push_str(format!(in alloc; "{turn:?} {verdict:?} {prints}\n")?.as_str())?;
+    }
+    for i in 0..machine.lines() {
+        let (thread, text) = machine.line(i).ok_or("a line")?;
+        let text = String::from_utf8_lossy(alloc, text)?;
+        told.push_str(format!(in alloc; "{thread}> {text}\n")?.as_str())?;
+    }
+    Ok(told)
+}
+
+// What the run of a program under a schedule comes to.
+fn run(alloc: Global, program: &str, schedule: &str) -> Result<String, Fail> {
+    let program = checked(alloc, program)?;
+    let schedule = match mr_sched::read(alloc, schedule.as_bytes()) {
+        Ok(schedule) => schedule,
+        Err(_) => return Err("no schedule".into()),
+    };
+    match Machine::start(alloc, &program, schedule.start.as_slice()) {
+        Ok(mut machine) => told(alloc, &mut machine, schedule.entries.as_slice()),
+        Err(fault) => Ok(format!(in alloc; "{fault:?}\n")?),
+    }
+}
+
+// What stands before and behind the first block of each case: a global that points to its own last four bytes, the main function,
+// and a block that exits.
+const HEAD: &str = "minirust 1
+global g align 8 { &g + 8 7*4 }
+fn main() -> r {
+let r: unit, x: u32;
+b0 regular: ";
+
+const TAIL: &str = "
+b1 regular: exit;
+}
+main main
+";
+
+// The first block, the lines of the schedule, and what is told.
+const CASES: [(&str, &str, &str); 16] = [
+    // A program exits, and takes no entry behind that.
+    (
+        "exit;",
+        "schedule 1\nstart 16 32 4096\n0\n0\n",
+        "Running 0
+Ok(Stopped(Exit)) Exit 0
+Err(BadEntry { code: 66, earlier: None }) Exit 0
+",
+    ),
+    // A start without an address for the return local.
+    (
+        "exit;",
+        "schedule 1\nstart 16 32\n0\n",
+        "BadEntry { code: 61, earlier: None }\n",
+    ),
+    // A refused entry, of another thread or with a pick too many, changes nothing.
+    (
+        "exit;",
+        "schedule 1\nstart 16 32 4096\n1\n0 5\n0\n",
+        "Running 0
+Err(BadEntry { code: 60, earlier: None }) Running 0
+Err(BadEntry { code: 62, earlier: None }) Running 0
+Ok(Stopped(Exit)) Exit 0
+",
+    ),
+    // An address is aligned, and taken once.
+    (
+        "live x; dead x; live x; exit;",
+        "schedule 1\nstart 16 32 64\n0 8193\n0 8192\n0\n0 8192\n",
+        "Running 0
+Err(BadEntry { code: 63, earlier: None }) Running 0
+Ok(Went) Running 0
+Ok(Went) Running 0
+Err(BadEntry { code: 64, earlier: Some(AllocId { thread: 0, count: 3 }) }) Running 0
+",
+    ),
+    // A dead local has no place: to store into, and to evaluate.
+    (
+        "x = u32 7; exit;",
+        "schedule 1\nstart 16 32 64\n0\n",
+        "Running 0
+Ok(Stopped(Undefined(DeadLocal))) Undefined(DeadLocal) 0
+",
+    ),
+    (
+        "live x; dead x; mention x; exit;",
+        "schedule 1\nstart 16 32 64\n0 8192\n0\n0\n",
+        "Running 0
+Ok(Went) Running 0
+Ok(Went) Running 0
+Ok(Stopped(Undefined(DeadLocal))) Undefined(DeadLocal) 0
+",
+    ),
+    // The main function does not return.
+    (
+        "return;",
+        "schedule 1\nstart 16 32 64\n0\n",
+        "Running 0
+Ok(Stopped(Undefined(MainReturned))) Undefined(MainReturned) 0
+",
+    ),
+    // A print is kept; what is stored is loaded.
+    (
+        "live x; x = u32 7; do print(load(x), true, i8 -5) to b1;",
+        "schedule 1\nstart 16 32 64\n0 8192\n0\n0\n",
+        "Running 0
+Ok(Went) Running 0
+Ok(Went) Running 0
+Ok(Went) Running 1
+0> 7 true -5
+",
+    ),
+    // A place is the pointer to the storage of its local: its address, and its provenance, through which the 7 is loaded.
+    (
+        "live x; x = u32 7; do print(eq(addrof(raw, x), raw 8192), load(deref(addrof(raw, x), u32)), load(x)) to b1;",
+        "schedule 1\nstart 16 32 64\n0 8192\n0\n0\n",
+        "Running 0
+Ok(Went) Running 0
+Ok(Went) Running 0
+Ok(Went) Running 1
+0> true 7 7
+",
+    ),
+    // A typed store through a pointer is what the local holds.
+    (
+        "live x; deref(addrof(raw, x), u32) = u32 7; do print(load(x)) to b1;",
+        "schedule 1\nstart 16 32 64\n0 8192\n0\n0\n",
+        "Running 0
+Ok(Went) Running 0
+Ok(Went) Running 0
+Ok(Went) Running 1
+0> 7
+",
+    ),
+    // A print without arguments is an empty line.
+    (
+        "do print() to b1;",
+        "schedule 1\nstart 16 32 64\n0\n",
+        "Running 0
+Ok(Went) Running 1
+0> \n",
+    ),
+    // A global holds a pointer.
+    (
+        "do print(load(deref(load(deref(global g + 0, raw)), u32))) to b1;",
+        "schedule 1\nstart 16 32 64\n0\n",
+        "Running 0
+Ok(Went) Running 1
+0> 117901063
+",
+    ),
+    // An address alone gives no access.
+    (
+        "do print(load(deref(raw 32, u32))) to b1;",
+        "schedule 1\nstart 16 32 64\n0\n",
+        "Running 0
+Ok(Stopped(Undefined(NoProvenance))) Undefined(NoProvenance) 0
+",
+    ),
+    // The case of the number is taken.
+    (
+        "switch u32 7 { 8 => b0, 7 => b1, _ => b0 };",
+        "schedule 1\nstart 16 32 64\n0\n0\n",
+        "Running 0
+Ok(Went) Running 0
+Ok(Stopped(Exit)) Exit 0
+",
+    ),
+    // What is assumed is true.
+    (
+        "do assume(false) to b1;",
+        "schedule 1\nstart 16 32 64\n0\n",
+        "Running 0
+Ok(Stopped(Undefined(AssumeFalse))) Undefined(AssumeFalse) 0
+",
+    ),
+    (
+        "do assume(true) to b1;",
+        "schedule 1\nstart 16 32 64\n0\n",
+        "Running 0
+Ok(Went) Running 0
+",
+    ),
+];
+
+#[test]
+fn runs_are_told(rt: HostRuntime) -> Result<(), Fail> {
+    for (piece, schedule, wanted) in CASES {
+        let program = format!(in rt.alloc(); "{HEAD}{piece}{TAIL}")?;
+        let said = run(rt.alloc(), program.as_str(), schedule)?;
+        assert_eq!(rt; said.as_str(), wanted, "{piece}");
+    }
+    Ok(())
+}
