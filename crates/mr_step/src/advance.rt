@@ -1,3 +1,4 @@
+//! One entry of a schedule: its rules, and then its step.
 ghost use Rattle.std.specs.Prelude.{◌≡◌, ◌<◌, ◌^◌, OnOk};
 ghost use Rattle.mr_step.specs.Advance.{AdvanceAnswer};
 ghost use Rattle.mr_step.specs.Frames.{IsReady, look_at};

@@ -1,3 +1,4 @@
+//! The start line: its rules, and the allocations that it makes.
 ghost use Rattle.std.specs.Prelude.{◌≡◌, All, map};
 ghost use Rattle.mr_step.specs.Begin.{BeginAnswer, IsPossible, piece_of};
 ghost use Rattle.mr_step.specs.MemoryQueries.{pointer_to};

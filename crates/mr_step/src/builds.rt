@@ -1,3 +1,4 @@
+//! Which programs the machine runs.
 ghost use Rattle.std.specs.Prelude.{◌≡◌, true, false};
 ghost use Rattle.std.specs.List.{list_all};
 ghost use Rattle.mr_step.specs.Built.{Built, is_built, is_built_block, is_built_function, is_built_op, is_built_term};

@@ -1,4 +1,5 @@
-ghost use Rattle.std.specs.Prelude.{◌≡◌, ℕ, false, option_copied, true};
+//! What statements change in memory.
+ghost use Rattle.std.specs.Prelude.{◌≡◌, ℕ, ◌++◌, OnOk, false, option_copied, true};
 ghost use Rattle.mr_ast.specs.declared.types.Ty.{Ty, out-Ty};
 ghost use Rattle.mr_ast.specs.declared.program.Stmt.TheVariants as stmt;
 ghost use Rattle.mr_layout.specs.EnumRules.{are_tags};
@@ -14,12 +15,12 @@ ghost use Rattle.mr_step.specs.Inside.{IsChange, StmtIn};
 
 use crate::types::{byte_align, byte_size, type_at};
 use mr_ast::{Num, Place, Stmt, Tag, Ty, Value, Variant};
-use mr_base::Pointer;
+use mr_base::{AbstractByte, Pointer};
 use mr_eval::{
     Env, Fault, Notes, behind, load_typed, place, store_bytes, store_typed, store_uninit, value,
 };
 use mr_mem::Memory;
-use mr_value::{Val, bits_of_number, encode};
+use mr_value::{OutOfMemory, Val, bits_of_number, encode};
 use std::alloc::Global;
 
 /// The change that a statement makes to memory.
@@ -171,6 +172,16 @@ fn write_tags(
     Ok(())
 }
 
+// Appends the bytes of a tag's number.
+#[tactic(auto, using(crate::proofs::TagLaws::tag_laws))]
+fn encode_tag(alloc: Global, tag: &Tag, out: &mut Vec<AbstractByte>) -> Result<(), OutOfMemory>
+    requires { is_fitting tag.now.int tag.now.number ≡ true }
+    ensures { OnOk result (out.new.items ≡ out.old.items ++ tag_bytes tag.now) }
+{
+    let number = Val::Int(bits_of_number(tag.int, tag.number));
+    encode(alloc, &number, &Ty::Int(tag.int), out)
+}
+
 // A tag, at its offset.
 #[tactic(auto, using(crate::proofs::TagLaws::tag_laws))]
 fn write_tag(
@@ -184,7 +195,6 @@ fn write_tag(
     ensures { Leaves result (storing m.old false (behind p tag.now.at) (tag_bytes tag.now) 1 (seen n.old)) m.new (seen n.new) }
 {
     let mut bytes = Vec::new(alloc);
-    let number = Val::Int(bits_of_number(tag.int, tag.number));
-    encode(alloc, &number, &Ty::Int(tag.int), &mut bytes)?;
+    encode_tag(alloc, tag, &mut bytes)?;
     store_bytes(m, n, behind(p, tag.at), bytes.as_slice(), 1)
 }

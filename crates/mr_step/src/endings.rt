@@ -1,3 +1,4 @@
+//! What terminators decide.
 ghost use Rattle.std.specs.Prelude.{◌≡◌, All, Option, None, true};
 ghost use Rattle.mr_ast.specs.declared.expr.Place.{Place};
 ghost use Rattle.mr_wf.specs.Operands.{is_bool, is_scalar_number};

@@ -1,3 +1,4 @@
+//! What an entry comes to.
 use mr_base::{AllocId, Verdict};
 use std::alloc::{AllocError, AllocFailed};
 

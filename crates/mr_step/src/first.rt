@@ -1,3 +1,4 @@
+//! The machine before the first entry.
 ghost use Rattle.std.specs.Prelude.{◌≡◌, ◌+◌, ◌<◌, ◌≤◌, IfOk, length, map, slice_get};
 ghost use Rattle.std.specs.Option.{option_map};
 ghost use Rattle.mr_step.specs.First.{IsFirst, IsLook};

@@ -1,3 +1,4 @@
+//! A frame, and what stands next in it.
 ghost use Rattle.std.specs.Prelude.{◌≡◌, ◌<◌, Some, length, slice_get};
 ghost use Rattle.mr_step.specs.Frames.{Fits, StandsAt, due_of, frame_of};
 

@@ -1,3 +1,4 @@
+//! The bytes of globals, stored at the start.
 ghost use Rattle.std.specs.Prelude.{◌≡◌, ◌++◌, IfOk, OnOk, length, replicate};
 ghost use Rattle.mr_eval.specs.Moves.{behind};
 ghost use Rattle.mr_value.specs.Numbers.{pointer_bytes};

@@ -1,3 +1,4 @@
+//! Laws of runs and schedules, for the layers above.
 ghost use Rattle.std.specs.Prelude.{◌≡◌, ℕ, ◌+◌, ◌≤◌, ◌↔◌, List, None};
 ghost use Rattle.mr_ast.specs.declared.program.Program.{Program};
 ghost use Rattle.mr_sched.specs.declared.schedule.Entry.{Entry};

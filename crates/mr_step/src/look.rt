@@ -1,3 +1,4 @@
+//! What does not change in a run.
 use crate::frame::{Frame, function_at};
 use mr_ast::{FnName, Function};
 use mr_base::Pointer;

@@ -1,3 +1,4 @@
+//! The machine and its public calls.
 ghost use Rattle.std.specs.Prelude.{◌≡◌, ◌-◌, ◌<◌, Some, length, slice_get};
 
 use crate::advance::advance;

@@ -1,3 +1,4 @@
+//! The rules of picks.
 ghost use Rattle.std.specs.Prelude.{◌≡◌, None, Some};
 ghost use Rattle.mr_step.specs.Legal.{address_fault};
 ghost use Rattle.mr_step.specs.Picks.{AddressAnswer, FirstAnswer, Tells, seen_rest};

@@ -1,15 +1,17 @@
+//! What the start allocates.
 ghost use Rattle.std.specs.Prelude.{◌≡◌, ◌≤◌, ◌^◌, ◌++◌, ◌∷◌, [], IfOk, OnOk, map, slice_get, Some};
 ghost use Rattle.mr_ast.specs.declared.program.Function.{Function};
 ghost use Rattle.mr_layout.specs.TypeOk.{TypeOk};
-ghost use Rattle.mr_wf.specs.Broken.{item_size, items_size};
+ghost use Rattle.mr_wf.specs.Broken.{items_size};
 ghost use Rattle.mr_wf.specs.Walk.{WellFormed};
 ghost use Rattle.mr_step.specs.Begin.{HaveRoom, piece_of};
 ghost use Rattle.mr_step.specs.Start.{function_piece, global_piece, local_piece, pieces};
 
 use crate::frame::{function_at, local_at};
 use crate::types::{byte_align, byte_size};
-use mr_ast::{Function, Global_, Item_, Local, Program};
+use mr_ast::{Function, Global_, Local, Program};
 use mr_base::Kind;
+use mr_wf::items_size;
 use std::alloc::{AllocError, Global};
 
 /// One allocation of the start.
@@ -20,28 +22,6 @@ pub struct Piece {
     pub align: u64,
 }
 
-// How many bytes an item of a global takes.
-fn item_size(item: &Item_) -> u64
-    ensures { result ≡ item_size item.now }
-{
-    match item {
-        Item_::Byte(_, repeat) | Item_::Uninit(repeat) => u64::from(*repeat),
-        Item_::Reloc(_, _) => 8,
-    }
-}
-
-// How many bytes the items of a global take together.
-fn items_size(items: &[Item_]) -> u64
-    requires { items_size items.now ≤ 2 ^ 20 }
-    ensures { result ≡ items_size items.now }
-{
-    let mut size = 0;
-    for item in items {
-        size += item_size(item);
-    }
-    size
-}
-
 // What a global asks for.
 fn piece_of_global(g: &Global_) -> Piece
     requires { items_size g.now.items ≤ 2 ^ 20 }
@@ -49,7 +29,7 @@ fn piece_of_global(g: &Global_) -> Piece
 {
     Piece {
         kind: Kind::Static,
-        size: items_size(g.items.as_slice()),
+        size: items_size(g.items.as_slice()) as u64,
         align: g.align,
     }
 }

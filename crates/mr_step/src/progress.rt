@@ -1,3 +1,4 @@
+//! What changes in a run, and the step of each statement and terminator.
 ghost use Rattle.std.specs.Prelude.{◌≡◌, ◌+◌, ◌<◌, ◌≤◌, ◌^◌, [], ◌∷◌, None, OnOk, if◌then◌else◌, length};
 ghost use Rattle.mr_ast.specs.declared.program.Program.{Program};
 ghost use Rattle.mr_ast.specs.declared.program.Stmt.TheVariants as stmt;

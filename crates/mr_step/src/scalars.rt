@@ -1,3 +1,4 @@
+//! The text of a number or a bool that is printed.
 ghost use Rattle.std.specs.Prelude.{◌≡◌, ℕ, Bool, true};
 ghost use Rattle.mr_value.specs.Shape.{has_shape};
 ghost use Rattle.mr_wf.specs.Known.{ty_of};

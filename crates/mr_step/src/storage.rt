@@ -1,3 +1,4 @@
+//! Storage of a local that is given up or renewed.
 ghost use Rattle.std.specs.Prelude.{◌≡◌, ◌<◌, ◌^◌, MatchResult, OnErr, None, Some, Ok, Err};
 ghost use Rattle.mr_mem.specs.Memory.{Memory as Allocations, allocated, pick_fault, IsPowerOfTwo};
 ghost use Rattle.mr_base.specs.declared.byte.AllocId.{AllocId};

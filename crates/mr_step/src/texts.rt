@@ -1,3 +1,4 @@
+//! Prints as they are kept.
 ghost use Rattle.std.specs.Prelude.{◌≡◌, ◌++◌, OnOk};
 ghost use Rattle.mr_step.specs.Scalars.{text_of};
 ghost use Rattle.mr_step.specs.Texts.{bool_text, number_text};

@@ -1,3 +1,4 @@
+//! Sizes and types that the machine looks up.
 ghost use Rattle.std.specs.Prelude.{◌≡◌, Some, option_copied, option_map};
 ghost use Rattle.mr_ast.specs.declared.types.Ty.{Ty};
 ghost use Rattle.mr_eval.specs.Environment.{env_scene};
@@ -58,28 +59,12 @@ pub fn value_type<'p>(locals: &'p [Local], value: &'p Value) -> Option<Known<'p>
     }
 }
 
-/// The locals of the function of an environment.
-pub fn locals_of<'a>(e: &Env<'a>) -> &'a [Local]
-    ensures { result.now ≡ (env_scene e.now).locals }
-{
-    match e
-        .program
-        .program()
-        .functions
-        .as_slice()
-        .get(e.function.0 as usize)
-    {
-        Some(f) => f.locals.as_slice(),
-        None => &[],
-    }
-}
-
 /// The type of a place.
 pub fn type_at<'a>(e: &Env<'a>, at: &'a Place) -> &'a Ty
     requires { (t : Ty) × TypeAt e.now at.now t }
     ensures { TypeAt e.now at.now result.now }
 {
-    match place_type(locals_of(e), at) {
+    match place_type(e.function_locals(), at) {
         Some(t) => t,
         None => unreachable!(),
     }
@@ -90,7 +75,7 @@ pub fn type_with<'a>(e: &Env<'a>, v: &'a Value) -> Known<'a>
     requires { (t : Ty) × (type_of_value (env_scene e.now).locals v.now ≡ Some t) }
     ensures { type_of_value (env_scene e.now).locals v.now ≡ Some (ty_of result) }
 {
-    match value_type(locals_of(e), v) {
+    match value_type(e.function_locals(), v) {
         Some(t) => t,
         None => unreachable!(),
     }
