@@ -13,7 +13,7 @@ use crate::known::Known;
 use crate::operands::{fits_binary, fits_parts, fits_unary, fits_union, fits_variant, same_size};
 use crate::parts::{discriminant, element, field, variant};
 use mr_ast::{BinaryOp, GlobalName, IntType, Local, LocalName, Num, Place, Ty, UnaryOp, Value};
-use mr_layout::{broken_rule, is_fitting};
+use mr_layout::{first_broken_rule, is_fitting};
 use std::alloc::Global;
 
 /// What an expression may speak of: the globals of its program, of which the sizes count, and the locals of its function.
@@ -35,10 +35,10 @@ pub fn kept(code: u8, test: bool) -> Result<(), Broken>
 }
 
 /// The rules of a written type.
-pub fn sound_type(t: &Ty) -> Result<(), Broken>
+pub fn sound_type(alloc: Global, t: &Ty) -> Result<(), Broken>
     ensures { Gives (λ u. u) result (sound_type t.now) }
 {
-    match broken_rule(t) {
+    match first_broken_rule(alloc, t) {
         Some(code) => Err(Broken::Rule(code)),
         None => Ok(()),
     }
@@ -100,7 +100,7 @@ fn judged_target<'p>(
     ensures { Gives (λ t. t.now) result (judged_place (surroundings_of at.entry) (place.Deref pointer.now ty.now)) }
 {
     let t = judged_value(alloc, at, pointer)?;
-    sound_type(ty)?;
+    sound_type(alloc, ty)?;
     kept(33, t.is_pointer())?;
     Ok(ty)
 }
@@ -227,7 +227,7 @@ fn judged_tuple<'p>(
 ) -> Result<Known<'p>, Broken>
     ensures { Gives ty_of result (judged_value (surroundings_of at.entry) (value.Tuple ty.now values.now)) }
 {
-    sound_type(ty)?;
+    sound_type(alloc, ty)?;
     let types = judged_values(alloc, at, values)?;
     kept(46, fits_parts(ty, types.as_slice()))?;
     Ok(Known::Written(ty))
@@ -245,7 +245,7 @@ fn judged_union<'p>(
 ) -> Result<Known<'p>, Broken>
     ensures { Gives ty_of result (judged_value (surroundings_of at.entry) (value.Union ty.now number content.now)) }
 {
-    sound_type(ty)?;
+    sound_type(alloc, ty)?;
     let t = judged_value(alloc, at, content)?;
     kept(46, fits_union(ty, number, t))?;
     Ok(Known::Written(ty))
@@ -263,7 +263,7 @@ fn judged_variant<'p>(
 ) -> Result<Known<'p>, Broken>
     ensures { Gives ty_of result (judged_value (surroundings_of at.entry) (value.Variant ty.now number content.now)) }
 {
-    sound_type(ty)?;
+    sound_type(alloc, ty)?;
     let t = judged_value(alloc, at, content)?;
     kept(46, fits_variant(ty, number, t))?;
     Ok(Known::Written(ty))
@@ -280,7 +280,7 @@ fn judged_address<'p>(
 ) -> Result<Known<'p>, Broken>
     ensures { Gives ty_of result (judged_value (surroundings_of at.entry) (value.AddrOf ty.now place.now)) }
 {
-    sound_type(ty)?;
+    sound_type(alloc, ty)?;
     judged_place(alloc, at, place)?;
     kept(47, is_address(ty))?;
     Ok(Known::Written(ty))
@@ -297,7 +297,7 @@ fn judged_transmute<'p>(
 ) -> Result<Known<'p>, Broken>
     ensures { Gives ty_of result (judged_value (surroundings_of at.entry) (value.Transmute ty.now operand.now)) }
 {
-    sound_type(ty)?;
+    sound_type(alloc, ty)?;
     let t = judged_value(alloc, at, operand)?;
     kept(47, same_size(ty, t))?;
     Ok(Known::Written(ty))

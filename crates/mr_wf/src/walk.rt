@@ -61,19 +61,19 @@ fn walked_globals(sizes: &[u128], globals: &[Global_]) -> Result<(), Stopped>
 }
 
 // The type of a local of function n.
-fn walked_local(n: u32, place: u32, local: &Local) -> Result<(), Stopped>
+fn walked_local(alloc: Global, n: u32, place: u32, local: &Local) -> Result<(), Stopped>
     ensures { Walks result (walked_local n place local.now) }
 {
-    placed(Item::Function(n), None, place, sound_type(&local.ty))
+    placed(Item::Function(n), None, place, sound_type(alloc, &local.ty))
 }
 
 // The types of the locals of function n.
-fn walked_locals(n: u32, locals: &[Local]) -> Result<(), Stopped>
+fn walked_locals(alloc: Global, n: u32, locals: &[Local]) -> Result<(), Stopped>
     requires { length locals.now ≤ 2 ^ 20 }
     ensures { Walks result (each_walked (walked_local n) 0 locals.now) }
 {
     for (place, local) in locals.iter().enumerate() {
-        walked_local(n, place as u32, local)?;
+        walked_local(alloc, n, place as u32, local)?;
     }
     Ok(())
 }
@@ -187,7 +187,7 @@ fn walked_function(
     ensures { Walks result (walked_function sizes.now n function.now) }
 {
     let locals = function.locals.as_slice();
-    walked_locals(n, locals)?;
+    walked_locals(alloc, n, locals)?;
     walked_head(n, function)?;
     let inside = Inside {
         n,
