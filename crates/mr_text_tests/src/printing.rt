@@ -1,4 +1,5 @@
 //! The canonical text of programs that are written in another way.
+use crate::expect_same;
 use mr_ast::Program;
 use mr_parse::parse;
 use mr_print::print;
@@ -45,7 +46,7 @@ fn expect_lines(
 ) -> Result<(), AllocError> {
     let wanted = text_of(rt.alloc(), "# ", lines)?;
     let canonical = canonical(rt.alloc(), text)?;
-    assert_eq!(rt; canonical.as_str(), wanted.as_str());
+    expect_same(rt, canonical.as_str(), wanted.as_str(), text);
     Ok(())
 }
 

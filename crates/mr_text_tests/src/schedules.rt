@@ -1,4 +1,5 @@
 //! The texts of schedules: what is read of them, what is printed of that, and their first faults.
+use crate::expect_same;
 use mr_sched::{Entry, MAX_ENTRIES, SchedFault, Schedule, print, read};
 use std::alloc::{AllocError, Global};
 use std::process::Abort;
@@ -53,7 +54,7 @@ fn expect_told(
     wanted: &str,
 ) -> Result<(), AllocError> {
     let told = told(rt.alloc(), text.as_bytes())?;
-    assert_eq!(rt; told.as_str(), wanted, "{text}");
+    expect_same(rt, told.as_str(), wanted, text);
     Ok(())
 }
 

@@ -1,4 +1,5 @@
 //! The tokens of texts, or the first fault of a text that has none.
+use crate::expect_same;
 use mr_lex::{TEXT_LIMIT, Token, Tokens, tokens};
 use std::alloc::{AllocError, Global};
 use std::process::Abort;
@@ -61,7 +62,7 @@ fn expect_told(
     wanted: &str,
 ) -> Result<(), AllocError> {
     let told = told(rt.alloc(), text)?;
-    assert_eq!(rt; told.as_str(), wanted);
+    expect_same(rt, told.as_str(), wanted, "tokens of a text");
     Ok(())
 }
 
