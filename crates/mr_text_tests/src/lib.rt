@@ -9,3 +9,9 @@ mod printing;
 mod schedules;
 #[cfg(test)]
 mod tokens;
+
+// What is told is what is wanted. A failure tells the name of the case.
+#[cfg(test)]
+fn expect_same(rt: &impl std::process::Abort, told: &str, wanted: &str, case: &str) {
+    assert_eq!(rt; told, wanted, "{case}");
+}

@@ -5,7 +5,9 @@ mod limits;
 
 use mr_lex::TextFault;
 use mr_parse::{ParseFault, parse};
-use std::alloc::Global;
+use std::alloc::{AllocError, Global};
+use std::process::Abort;
+use std::string::String;
 
 // What parsing of a text comes to, `Ok` where it denotes a program.
 fn outcome(alloc: Global, text: &str) -> Result<(), ParseFault> {
@@ -15,7 +17,25 @@ fn outcome(alloc: Global, text: &str) -> Result<(), ParseFault> {
     }
 }
 
-// The outcome of a text whose first fault has this place and code.
-fn fault(line: u32, col: u32, code: u8) -> Result<(), ParseFault> {
-    Err(ParseFault::Text(TextFault { line, col, code }))
+// The line, the column and the code of the first fault of a text; none where the text denotes a program.
+type Wanted = Option<(u32, u32, u8)>;
+
+fn wanted_outcome(wanted: Wanted) -> Result<(), ParseFault> {
+    match wanted {
+        None => Ok(()),
+        Some((line, col, code)) => Err(ParseFault::Text(TextFault { line, col, code })),
+    }
+}
+
+// Parsing of a text comes to what is wanted. A failure tells the name of the case.
+fn expect(rt: &(impl AllocGlobal + Abort), text: &str, wanted: Wanted, case: &str) {
+    assert_eq!(rt; outcome(rt.alloc(), text), wanted_outcome(wanted), "{case}");
+}
+
+// The piece so many times, at the end of the text.
+fn push_times(text: &mut String, piece: &str, count: usize) -> Result<(), AllocError> {
+    for _ in 0..count {
+        text.push_str(piece)?;
+    }
+    Ok(())
 }

@@ -1,41 +1,60 @@
 //! The canonical text of programs that are written in another way.
+use crate::expect_same;
 use mr_ast::Program;
 use mr_parse::parse;
 use mr_print::print;
-use std::alloc::Global;
+use std::alloc::{AllocError, Global};
+use std::process::Abort;
 use std::string::String;
 use std::test::Fail;
 
 // The canonical text of a program, behind what the output held.
-fn printed(alloc: Global, program: &Program) -> Result<String, Fail> {
+fn printed(alloc: Global, program: &Program) -> Result<String, AllocError> {
     let mut out = Vec::from_slice(alloc, b"# ")?;
     print(alloc, program, &mut out)?;
-    Ok(String::from_utf8_lossy(alloc, out.as_slice())?)
+    String::from_utf8_lossy(alloc, out.as_slice())
 }
 
 // The canonical text of the program that a text denotes.
-fn canonical(alloc: Global, text: &str) -> Result<String, Fail> {
+fn canonical(alloc: Global, text: &str) -> Result<String, AllocError> {
     match parse(alloc, text.as_bytes()) {
         Ok(program) => printed(alloc, &program),
-        Err(_) => Err("no program".into()),
+        Err(fault) => format!(in alloc; "{fault:?}"),
     }
 }
 
-// The lines, each with LF behind it.
-fn text_of(alloc: Global, front: &str, lines: &[&str]) -> Result<String, Fail> {
-    let mut text = String::from_str(alloc, front)?;
+// The lines, each with LF behind it, at the end of the text.
+fn push_lines(text: &mut String, lines: &[&str]) -> Result<(), AllocError> {
     for line in lines {
         text.push_str(line)?;
         text.push_str("\n")?;
     }
+    Ok(())
+}
+
+fn text_of(alloc: Global, front: &str, lines: &[&str]) -> Result<String, AllocError> {
+    let mut text = String::from_str(alloc, front)?;
+    push_lines(&mut text, lines)?;
     Ok(text)
+}
+
+// The canonical text of the program that a text denotes has these lines.
+fn expect_lines(
+    rt: &(impl AllocGlobal + Abort),
+    text: &str,
+    lines: &[&str],
+) -> Result<(), AllocError> {
+    let wanted = text_of(rt.alloc(), "# ", lines)?;
+    let canonical = canonical(rt.alloc(), text)?;
+    expect_same(rt, canonical.as_str(), wanted.as_str(), text);
+    Ok(())
 }
 
 // The smallest program, as it may be written and in its canonical text.
 const SMALLEST: &str =
     "minirust 1 fn main()->r{let r:tuple size 0 align 1{};b0 regular:exit;}main main";
 
-const SMALLEST_LINES: [&str; 7] = [
+static SMALLEST_LINES: [&str; 7] = [
     "minirust 1",
     "fn main ( ) -> r {",
     "let r : unit ;",
@@ -46,7 +65,7 @@ const SMALLEST_LINES: [&str; 7] = [
 ];
 
 // A program with every construct, with blanks only where they are needed, and repeats of 1.
-const EVERY_CONSTRUCT: [&str; 54] = [
+static EVERY_CONSTRUCT: [&str; 54] = [
     "minirust 1#the first edition\r",
     "global g align 8{7*1\t9*2?*1?*1048576&h+0&f+8}",
     "global h align 1{}",
@@ -104,7 +123,7 @@ const EVERY_CONSTRUCT: [&str; 54] = [
 ];
 
 // Its canonical text.
-const EVERY_CONSTRUCT_LINES: [&str; 54] = [
+static EVERY_CONSTRUCT_LINES: [&str; 54] = [
     "minirust 1",
     "global g align 8 { 7 9 * 2 ? ? * 1048576 & h + 0 & f + 8 }",
     "global h align 1 { }",
@@ -162,17 +181,14 @@ const EVERY_CONSTRUCT_LINES: [&str; 54] = [
 ];
 
 #[test]
-fn canonical_texts(rt: HostRuntime) -> Result<(), Fail> {
-    let smallest = text_of(rt.alloc(), "# ", SMALLEST_LINES.as_slice())?;
-    assert_eq!(rt;
-        canonical(rt.alloc(), SMALLEST)?.as_str(),
-        smallest.as_str()
-    );
-    let written = text_of(rt.alloc(), "", EVERY_CONSTRUCT.as_slice())?;
-    let every_construct = text_of(rt.alloc(), "# ", EVERY_CONSTRUCT_LINES.as_slice())?;
-    assert_eq!(rt;
-        canonical(rt.alloc(), written.as_str())?.as_str(),
-        every_construct.as_str()
-    );
+fn the_smallest_program(rt: HostRuntime) -> Result<(), Fail> {
+    expect_lines(&rt, SMALLEST, SMALLEST_LINES.as_slice())?;
+    Ok(())
+}
+
+#[test]
+fn every_construct(rt: HostRuntime) -> Result<(), Fail> {
+    let text = text_of(rt.alloc(), "", EVERY_CONSTRUCT.as_slice())?;
+    expect_lines(&rt, text.as_str(), EVERY_CONSTRUCT_LINES.as_slice())?;
     Ok(())
 }

@@ -1,10 +1,10 @@
 //! A text for each construct of the language.
-use super::outcome;
-use std::alloc::Global;
+use super::expect;
+use std::alloc::AllocError;
 use std::process::Abort;
 use std::test::Fail;
 
-const TYPES: [&str; 25] = [
+const TYPES: &[&str] = &[
     "u8",
     "u16",
     "u32",
@@ -32,7 +32,7 @@ const TYPES: [&str; 25] = [
     "enum size 2 align 1 disc i8 { -1: unit tag { } } branch 1 i16 { -5 => branch 0 u8 { _ => invalid }, _ => known -1 }",
 ];
 
-const VALUES: [&str; 27] = [
+const VALUES: &[&str] = &[
     "u8 7",
     "i32 -1",
     "u128 340282366920938463463374607431768211455",
@@ -62,7 +62,7 @@ const VALUES: [&str; 27] = [
     "load(x@1)",
 ];
 
-const OPERATORS: [&str; 26] = [
+const OPERATORS: &[&str] = &[
     "add",
     "sub",
     "mul",
@@ -91,7 +91,7 @@ const OPERATORS: [&str; 26] = [
     "wrapping_offset",
 ];
 
-const STATEMENTS: [&str; 9] = [
+const STATEMENTS: &[&str] = &[
     "live x",
     "dead x",
     "x = u8 1",
@@ -103,7 +103,7 @@ const STATEMENTS: [&str; 9] = [
     "validate x",
 ];
 
-const TERMINATORS: [&str; 16] = [
+const TERMINATORS: &[&str] = &[
     "goto b",
     "switch load(x) { _ => b }",
     "switch load(x) { 0 => b, -1 => c, _ => b }",
@@ -122,7 +122,7 @@ const TERMINATORS: [&str; 16] = [
     "do atomic_load(raw 8, u8 1) -> x to b",
 ];
 
-const INTRINSICS: [&str; 18] = [
+const INTRINSICS: &[&str] = &[
     "assume",
     "print",
     "allocate",
@@ -143,7 +143,7 @@ const INTRINSICS: [&str; 18] = [
     "payload",
 ];
 
-const ITEMS: [&str; 10] = [
+const ITEMS: &[&str] = &[
     "0",
     "255",
     "0*1",
@@ -158,7 +158,7 @@ const ITEMS: [&str; 10] = [
 
 // Whole programs: the one that the language's page begins with, one whose names are words of the grammar that aren't kept for it, with
 // a comment and other blanks, and one whose names begin with `_`.
-const PROGRAMS: [&str; 3] = [
+const PROGRAMS: &[&str] = &[
     "minirust 1
 global g align 8 { 0*8 &main + 4 }
 fn main() -> r {
@@ -210,27 +210,35 @@ const AROUND_ITEM: Around = (
     " } fn f() -> r { let r: unit, x: u8; b regular: live x; exit; c cleanup: resume; d catch: goto d; e terminate: abort; } main f",
 );
 
+// The pieces, and what stands around them.
+static CONSTRUCTS: [(&[&str], Around); 8] = [
+    (PROGRAMS, ("", "")),
+    (TYPES, AROUND_TYPE),
+    (VALUES, AROUND_VALUE),
+    (OPERATORS, AROUND_OPERATOR),
+    (STATEMENTS, AROUND_STATEMENT),
+    (TERMINATORS, AROUND_TERMINATOR),
+    (INTRINSICS, AROUND_INTRINSIC),
+    (ITEMS, AROUND_ITEM),
+];
+
 // Each of the pieces makes a program.
 fn expect_programs(
     rt: &(impl AllocGlobal + Abort),
     pieces: &[&str],
-    around: Around,
-) -> Result<(), Fail> {
+    around: &Around,
+) -> Result<(), AllocError> {
     for piece in pieces {
         let text = format!(in rt.alloc(); "{}{piece}{}", around.0, around.1)?;
-        assert_eq!(rt; outcome(rt.alloc(), text.as_str()), Ok(()), "{piece}");
+        expect(rt, text.as_str(), None, piece);
     }
     Ok(())
 }
 
 #[test]
 fn constructs(rt: HostRuntime) -> Result<(), Fail> {
-    expect_programs(&rt, PROGRAMS.as_slice(), ("", ""))?;
-    expect_programs(&rt, TYPES.as_slice(), AROUND_TYPE)?;
-    expect_programs(&rt, VALUES.as_slice(), AROUND_VALUE)?;
-    expect_programs(&rt, OPERATORS.as_slice(), AROUND_OPERATOR)?;
-    expect_programs(&rt, STATEMENTS.as_slice(), AROUND_STATEMENT)?;
-    expect_programs(&rt, TERMINATORS.as_slice(), AROUND_TERMINATOR)?;
-    expect_programs(&rt, INTRINSICS.as_slice(), AROUND_INTRINSIC)?;
-    expect_programs(&rt, ITEMS.as_slice(), AROUND_ITEM)
+    for (pieces, around) in &CONSTRUCTS {
+        expect_programs(&rt, pieces, around)?;
+    }
+    Ok(())
 }

@@ -1,10 +1,10 @@
 //! The first fault of a text, with its place. Of most codes there is a case at the first, a middle and the last token.
-use super::{fault, outcome};
+use super::{expect, push_times};
 use std::string::String;
 use std::test::Fail;
 
 // Texts, each with the line, the column and the code of its first fault.
-const FAULTS: [(&str, u32, u32, u8); 48] = [
+static FAULTS: [(&str, u32, u32, u8); 48] = [
     // A byte that begins no token.
     ("$minirust 1", 1, 1, 1),
     ("minirust 1\nfn main() -> r {\n let r%: unit;", 3, 7, 1),
@@ -193,19 +193,22 @@ const FAULTS: [(&str, u32, u32, u8); 48] = [
 
 #[test]
 fn first_faults(rt: HostRuntime) {
-    for (text, line, col, code) in FAULTS {
-        assert_eq!(rt; outcome(rt.alloc(), text), fault(line, col, code), "{text}");
+    for (text, line, col, code) in &FAULTS {
+        expect(&rt, text, Some((*line, *col, *code)), text);
     }
 }
 
 #[test]
 fn a_text_that_is_too_long(rt: HostRuntime) -> Result<(), Fail> {
     let mut text = String::new(rt.alloc());
-    for _ in 0..65536 {
-        text.push_str("                ")?;
-    }
-    assert_eq!(rt; outcome(rt.alloc(), text.as_str()), fault(1, 1048577, 4));
+    push_times(&mut text, " ", 1048576)?;
+    expect(
+        &rt,
+        text.as_str(),
+        Some((1, 1048577, 4)),
+        "blanks up to the limit",
+    );
     text.push_str(" ")?;
-    assert_eq!(rt; outcome(rt.alloc(), text.as_str()), fault(1, 1, 3));
+    expect(&rt, text.as_str(), Some((1, 1, 3)), "a blank too many");
     Ok(())
 }

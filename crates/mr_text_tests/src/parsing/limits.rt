@@ -1,5 +1,5 @@
 //! A text at each limit, and one above it.
-use super::{fault, outcome};
+use super::{Wanted, expect, push_times};
 use std::alloc::{AllocError, Global};
 use std::string::String;
 use std::test::Fail;
@@ -12,80 +12,72 @@ struct Numbered {
     back: &'static str,
 }
 
+// The piece with this number, at the end of the text.
+fn push_numbered(
+    alloc: Global,
+    text: &mut String,
+    parts: &Numbered,
+    number: u32,
+) -> Result<(), AllocError> {
+    let piece = format!(in alloc; "{}{number}{}", parts.before, parts.behind)?;
+    text.push_str(piece.as_str())
+}
+
 fn with_pieces(alloc: Global, parts: &Numbered, count: u32) -> Result<String, AllocError> {
     let mut text = String::from_str(alloc, parts.front)?;
-    for i in 0..count {
-        text.push_str(format!(in alloc; "{}{i}{}", parts.before, parts.behind)?.as_str())?;
+    for number in 0..count {
+        push_numbered(alloc, &mut text, parts, number)?;
     }
     text.push_str(parts.back)?;
     Ok(text)
 }
 
-// Globals, functions, locals and blocks: how many there may be, and the place of one more.
-const COUNTS: [(Numbered, u32, u32, u32); 4] = [
-    (
-        Numbered {
-            front: "minirust 1\n",
-            before: "global g",
-            behind: " align 1 { }\n",
-            back: "fn f() -> r { let r: unit; b regular: exit; }\nmain f\n",
-        },
-        256,
-        258,
-        8,
-    ),
-    (
-        Numbered {
-            front: "minirust 1\n",
-            before: "fn f",
-            behind: "() -> r { let r: unit; b regular: exit; }\n",
-            back: "main f0\n",
-        },
-        256,
-        258,
-        4,
-    ),
-    (
-        Numbered {
-            front: "minirust 1\nfn f() -> r { let r: unit",
-            before: ",\nx",
-            behind: ": u8",
-            back: "; b regular: exit; }\nmain f\n",
-        },
-        255,
-        258,
-        1,
-    ),
-    (
-        Numbered {
-            front: "minirust 1\nfn f() -> r { let r: unit;\n",
-            before: "b",
-            behind: " regular: exit;\n",
-            back: "}\nmain f\n",
-        },
-        1024,
-        1027,
-        1,
-    ),
+const GLOBALS: Numbered = Numbered {
+    front: "minirust 1\n",
+    before: "global g",
+    behind: " align 1 { }\n",
+    back: "fn f() -> r { let r: unit; b regular: exit; }\nmain f\n",
+};
+
+const FUNCTIONS: Numbered = Numbered {
+    front: "minirust 1\n",
+    before: "fn f",
+    behind: "() -> r { let r: unit; b regular: exit; }\n",
+    back: "main f0\n",
+};
+
+// Locals behind the return local.
+const LOCALS: Numbered = Numbered {
+    front: "minirust 1\nfn f() -> r { let r: unit",
+    before: ",\nx",
+    behind: ": u8",
+    back: "; b regular: exit; }\nmain f\n",
+};
+
+const BLOCKS: Numbered = Numbered {
+    front: "minirust 1\nfn f() -> r { let r: unit;\n",
+    before: "b",
+    behind: " regular: exit;\n",
+    back: "}\nmain f\n",
+};
+
+// As many as there may be, and one more.
+static COUNTS: [(Numbered, u32, Wanted); 8] = [
+    (GLOBALS, 256, None),
+    (GLOBALS, 257, Some((258, 8, 8))),
+    (FUNCTIONS, 256, None),
+    (FUNCTIONS, 257, Some((258, 4, 8))),
+    (LOCALS, 255, None),
+    (LOCALS, 256, Some((258, 1, 8))),
+    (BLOCKS, 1024, None),
+    (BLOCKS, 1025, Some((1027, 1, 8))),
 ];
 
 #[test]
 fn counts(rt: HostRuntime) -> Result<(), Fail> {
-    for (parts, most, line, col) in &COUNTS {
-        let full = with_pieces(rt.alloc(), parts, *most)?;
-        assert_eq!(rt;
-            outcome(rt.alloc(), full.as_str()),
-            Ok(()),
-            "{}",
-            parts.before
-        );
-        let over = with_pieces(rt.alloc(), parts, *most + 1)?;
-        assert_eq!(rt;
-            outcome(rt.alloc(), over.as_str()),
-            fault(*line, *col, 8),
-            "{}",
-            parts.before
-        );
+    for (parts, count, wanted) in &COUNTS {
+        let text = with_pieces(rt.alloc(), parts, *count)?;
+        expect(&rt, text.as_str(), *wanted, parts.before);
     }
     Ok(())
 }
@@ -98,21 +90,27 @@ struct Repeated {
     back: &'static str,
 }
 
+// What is repeated, around what stands inside, at the end of the text.
+fn push_repeated(
+    text: &mut String,
+    parts: &Repeated,
+    count: usize,
+    inner: &str,
+) -> Result<(), AllocError> {
+    push_times(text, parts.open, count)?;
+    text.push_str(inner)?;
+    push_times(text, parts.close, count)?;
+    text.push_str(parts.back)
+}
+
 fn with_repeats(
     alloc: Global,
     parts: &Repeated,
-    count: u32,
+    count: usize,
     inner: &str,
 ) -> Result<String, AllocError> {
     let mut text = String::from_str(alloc, parts.front)?;
-    for _ in 0..count {
-        text.push_str(parts.open)?;
-    }
-    text.push_str(inner)?;
-    for _ in 0..count {
-        text.push_str(parts.close)?;
-    }
-    text.push_str(parts.back)?;
+    push_repeated(&mut text, parts, count, inner)?;
     Ok(text)
 }
 
@@ -140,66 +138,47 @@ const POSTFIXES: Repeated = Repeated {
     back: ";\nexit; }\nmain f\n",
 };
 
-// How many of them a text may hold, and what may stand inside.
-const FITTING: [(Repeated, u32, &str); 3] = [
-    (STATEMENTS, 4096, ""),
-    (BRACKETS, 30, "i8 1"),
-    (POSTFIXES, 32, ""),
+// How many of them a text may hold, with what may stand inside, and what is one too many.
+// A bracket too many is told, of any kind, also where no bracket may stand.
+static REPEATS: [(Repeated, usize, &str, Wanted); 14] = [
+    (STATEMENTS, 4096, "", None),
+    (STATEMENTS, 4096, " live r;", Some((4099, 2, 8))),
+    (STATEMENTS, 4096, "\tr = true;", Some((4099, 2, 8))),
+    (
+        STATEMENTS,
+        4096,
+        "  deref(raw 0, u8) = true;",
+        Some((4099, 3, 8)),
+    ),
+    (BRACKETS, 30, "i8 1", None),
+    (BRACKETS, 31, "i8 1", Some((3, 144, 7))),
+    (BRACKETS, 30, "load(r)", Some((3, 145, 7))),
+    (BRACKETS, 29, "load(r[", Some((3, 143, 7))),
+    (BRACKETS, 30, "{", Some((3, 141, 7))),
+    (BRACKETS, 30, "}", Some((3, 141, 4))),
+    (POSTFIXES, 32, "", None),
+    (POSTFIXES, 32, ".0", Some((4, 97, 7))),
+    (POSTFIXES, 32, "@1", Some((4, 97, 7))),
+    (POSTFIXES, 32, "[u8 1]", Some((4, 97, 7))),
 ];
 
 #[test]
-fn fitting(rt: HostRuntime) -> Result<(), Fail> {
-    for (parts, count, inner) in &FITTING {
+fn repeats(rt: HostRuntime) -> Result<(), Fail> {
+    for (parts, count, inner, wanted) in &REPEATS {
         let text = with_repeats(rt.alloc(), parts, *count, inner)?;
-        assert_eq!(rt;
-            outcome(rt.alloc(), text.as_str()),
-            Ok(()),
-            "{}",
-            parts.open
-        );
+        expect(&rt, text.as_str(), *wanted, inner);
     }
     Ok(())
 }
 
-// What is one too many, with its place and code. A bracket too many is told, of any kind, also where no bracket may stand.
-const TOO_MANY: [(Repeated, u32, &str, u32, u32, u8); 11] = [
-    (STATEMENTS, 4096, " live r;", 4099, 2, 8),
-    (STATEMENTS, 4096, "\tr = true;", 4099, 2, 8),
-    (STATEMENTS, 4096, "  deref(raw 0, u8) = true;", 4099, 3, 8),
-    (BRACKETS, 31, "i8 1", 3, 144, 7),
-    (BRACKETS, 30, "load(r)", 3, 145, 7),
-    (BRACKETS, 29, "load(r[", 3, 143, 7),
-    (BRACKETS, 30, "{", 3, 141, 7),
-    (BRACKETS, 30, "}", 3, 141, 4),
-    (POSTFIXES, 32, ".0", 4, 97, 7),
-    (POSTFIXES, 32, "@1", 4, 97, 7),
-    (POSTFIXES, 32, "[u8 1]", 4, 97, 7),
-];
-
-#[test]
-fn one_too_many(rt: HostRuntime) -> Result<(), Fail> {
-    for (parts, count, inner, line, col, code) in &TOO_MANY {
-        let text = with_repeats(rt.alloc(), parts, *count, inner)?;
-        assert_eq!(rt;
-            outcome(rt.alloc(), text.as_str()),
-            fault(*line, *col, *code),
-            "{inner}"
-        );
-    }
-    Ok(())
-}
-
+// The text of a program that is filled with a comment up to the limit, and with one byte more.
 #[test]
 fn bytes(rt: HostRuntime) -> Result<(), Fail> {
-    let mut text = String::from_str(
-        rt.alloc(),
-        "minirust 1\nfn f0() -> r { let r: unit; b regular: exit; }\nmain f0\n",
-    )?;
-    for _ in text.len()..1048576 {
-        text.push_str("#")?;
-    }
-    assert_eq!(rt; outcome(rt.alloc(), text.as_str()), Ok(()));
+    let mut text = with_pieces(rt.alloc(), &FUNCTIONS, 1)?;
+    let room = 1048576usize.saturating_sub(text.len());
+    push_times(&mut text, "#", room)?;
+    expect(&rt, text.as_str(), None, "at the limit");
     text.push_str("#")?;
-    assert_eq!(rt; outcome(rt.alloc(), text.as_str()), fault(1, 1, 3));
+    expect(&rt, text.as_str(), Some((1, 1, 3)), "a byte too many");
     Ok(())
 }
