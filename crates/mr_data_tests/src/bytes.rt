@@ -1,89 +1,78 @@
 //! Runs of bytes and views of them.
-ghost use Rattle.std.specs.Prelude.{◌≡◌, length, IfOk};
+ghost use Rattle.std.specs.Prelude.{◌≡◌, length};
 
-use mr_base::{AbstractByte, AllocId};
-use mr_runs::{OutOfMemory, Piece, Runs, View};
+use crate::spelled::{SECOND, shown};
+use mr_base::AbstractByte;
+use mr_runs::{Runs, View};
 use std::alloc::Global;
-use std::test::*;
+use std::string::String;
+use std::test::Fail;
 
-const OWNER: AllocId = AllocId {
-    thread: 1,
-    count: 7,
-};
+const FIVE: AbstractByte = AbstractByte::Init(5, Some(SECOND));
 
-const FIVE: AbstractByte = AbstractByte::Init(5, Some(OWNER));
+const SIX: AbstractByte = AbstractByte::Init(6, Some(SECOND));
 
-const SIX: AbstractByte = AbstractByte::Init(6, Some(OWNER));
-
-// Four bytes, of which the middle two are written.
-fn four(alloc: Global) -> Result<Runs, OutOfMemory>
-    ensures { IfOk result (λ runs. length runs ≡ 4) }
+// Four bytes, and the second behind a six.
+fn copied(alloc: Global, runs: &Runs) -> Result<String, Fail>
+    requires { length runs.now ≡ 4 }
 {
-    let mut runs = Runs::uninit(alloc, 4)?;
-    let written = [FIVE, SIX];
-    runs.write(1, &written)?;
-    Ok(runs)
+    let mut bytes = Vec::new(alloc);
+    runs.copy_out(alloc, 0, 4, &mut bytes)?;
+    let all = shown(alloc, bytes.as_slice())?;
+    let mut bytes = vec![in alloc; SIX]?;
+    runs.copy_out(alloc, 1, 1, &mut bytes)?;
+    let second = shown(alloc, bytes.as_slice())?;
+    Ok(format!(in alloc; "{all}, {second}\n")?)
 }
 
-#[test]
-fn a_write_replaces_its_range(rt: HostRuntime) -> Result<(), Fail> {
-    let runs = four(rt.alloc())?;
-    let mut bytes = Vec::new(rt.alloc());
-    runs.copy_out(rt.alloc(), 0, 4, &mut bytes)?;
-    let want = [AbstractByte::Uninit, FIVE, SIX, AbstractByte::Uninit];
-    assert_eq!(rt; bytes.as_slice(), want.as_slice());
-    Ok(())
+// The length of a view and its first three pieces.
+fn pieces(alloc: Global, view: &View<'_>) -> Result<String, Fail> {
+    let (first, second, third) = (view.piece(0), view.piece(1), view.piece(2));
+    Ok(format!(in alloc; "{} {first:?} {second:?} {third:?}\n", view.len())?)
 }
 
-// Whether views of four such bytes show the middle and the last.
-fn is_shown(runs: &Runs) -> bool
+// The views of the middle two of four bytes, of the last, and of none.
+fn viewed(alloc: Global, runs: &Runs) -> Result<String, Fail>
     requires { length runs.now ≡ 4 }
 {
     let middle = runs.view(1, 2);
-    middle.len() == 2
-        && middle.byte(0) == FIVE
-        && middle.byte(1) == SIX
-        && middle.piece(0) == Some(Piece::Bytes(&[5], Some(OWNER)))
-        && middle.piece(1) == Some(Piece::Bytes(&[6], Some(OWNER)))
-        && middle.piece(2) == None
-        && runs.view(3, 1).piece(0) == Some(Piece::Uninit(1))
+    let bytes = [middle.byte(0), middle.byte(1)];
+    let bytes = shown(alloc, &bytes)?;
+    let middle = pieces(alloc, &middle)?;
+    let last = pieces(alloc, &runs.view(3, 1))?;
+    let none = pieces(alloc, &View::empty())?;
+    Ok(format!(in alloc; "{bytes}\n{middle}{last}{none}")?)
 }
 
-#[test]
-fn a_view_shows_the_middle(rt: HostRuntime) -> Result<(), Fail> {
-    let runs = four(rt.alloc())?;
-    assert!(rt; is_shown(&runs));
-    Ok(())
-}
-
-#[test]
-fn a_fill_makes_one_byte_uninitialised(rt: HostRuntime) -> Result<(), Fail> {
-    let mut runs = four(rt.alloc())?;
+// The middle two of four bytes are written, and the second of them is made uninitialised again.
+fn told(alloc: Global, runs: &mut Runs) -> Result<String, Fail>
+    requires { length runs.old ≡ 4 }
+{
+    runs.write(1, &[FIVE, SIX])?;
+    let written = copied(alloc, runs)?;
+    let viewed = viewed(alloc, runs)?;
     runs.fill_uninit(1, 1)?;
-    let mut bytes = Vec::new(rt.alloc());
-    runs.copy_out(rt.alloc(), 0, 4, &mut bytes)?;
-    let want = [
-        AbstractByte::Uninit,
-        AbstractByte::Uninit,
-        SIX,
-        AbstractByte::Uninit,
-    ];
-    assert_eq!(rt; bytes.as_slice(), want.as_slice());
-    Ok(())
+    let filled = copied(alloc, runs)?;
+    Ok(format!(in alloc; "{written}{viewed}{filled}")?)
 }
 
-#[test]
-fn a_copy_is_appended(rt: HostRuntime) -> Result<(), Fail> {
-    let runs = four(rt.alloc())?;
-    let mut bytes = vec![in rt.alloc(); SIX]?;
-    runs.copy_out(rt.alloc(), 1, 1, &mut bytes)?;
-    assert_eq!(rt; bytes.as_slice(), [SIX, FIVE].as_slice());
-    Ok(())
+fn told_anew(alloc: Global) -> Result<String, Fail> {
+    match Runs::uninit(alloc, 4) {
+        Ok(mut runs) => told(alloc, &mut runs),
+        Err(fault) => Err(fault.into()),
+    }
 }
 
+const WANTED: &str = "-- 05@1.7 06@1.7 --, 06@1.7 05@1.7
+05@1.7 06@1.7
+2 Some(Bytes([5], Some(AllocId { thread: 1, count: 7 }))) Some(Bytes([6], Some(AllocId { thread: 1, count: 7 }))) None
+1 Some(Uninit(1)) None None
+0 None None None
+-- -- 06@1.7 --, 06@1.7 --
+";
+
 #[test]
-fn an_empty_view_has_no_piece(rt: HostRuntime) {
-    let view = View::empty();
-    assert_eq!(rt; view.len(), 0);
-    assert_eq!(rt; view.piece(0), None);
+fn bytes_are_written_and_viewed(rt: HostRuntime) -> Result<(), Fail> {
+    assert_eq!(rt; told_anew(rt.alloc())?.as_str(), WANTED);
+    Ok(())
 }

@@ -1,60 +1,62 @@
 //! Reasons and rules by number and name, identities in order, and lists of pairs.
 use mr_ast::Rule;
 use mr_base::{AllocId, Pair, Reason, Status, Verdict, any_meeting, any_twice};
-use std::test::*;
+use std::alloc::Global;
+use std::string::String;
+use std::test::Fail;
 
-const REASONS: [(Reason, u16, &str); 3] = [
-    (Reason::DataRace, 100, "DataRace"),
-    (Reason::Overflow, 109, "Overflow"),
-    (Reason::NotHolder, 133, "NotHolder"),
-];
-
-const RULES: [(Rule, u8, &str); 4] = [
-    (Rule::TypeSize, 20, "TypeSize"),
-    (Rule::UnionChunk, 28, "UnionChunk"),
-    (Rule::Arguments, 30, "Arguments"),
-    (Rule::Cast, 47, "Cast"),
-];
-
-#[test]
-fn numbers_and_names(rt: HostRuntime) {
-    for (reason, code, name) in REASONS {
-        assert_eq!(rt; reason.code(), code, "at {name}");
-        assert_eq!(rt; reason.name(), name);
+fn reasons(alloc: Global) -> Result<String, Fail> {
+    let mut told = String::new(alloc);
+    for reason in [Reason::DataRace, Reason::Overflow, Reason::NotHolder] {
+        let line = format!(in alloc; "{} {}\n", reason.code(), reason.name())?;
+        told.push_str(line.as_str())?;
     }
-    for (rule, code, name) in RULES {
-        assert_eq!(rt; rule.code(), code, "at {name}");
-        assert_eq!(rt; rule.name(), name);
-    }
+    Ok(told)
 }
 
-#[test]
-fn copies_are_equal(rt: HostRuntime) {
+fn rules(alloc: Global) -> Result<String, Fail> {
+    let mut told = String::new(alloc);
+    for rule in [
+        Rule::TypeSize,
+        Rule::UnionChunk,
+        Rule::Arguments,
+        Rule::Cast,
+    ] {
+        let line = format!(in alloc; "{} {}\n", rule.code(), rule.name())?;
+        told.push_str(line.as_str())?;
+    }
+    Ok(told)
+}
+
+// Whether a verdict is equal to its copy and to two others.
+fn equal_verdicts() -> [bool; 3] {
     let verdict = Verdict::Undefined(Reason::DataRace);
-    let same_verdict = verdict;
-    assert!(rt; verdict == same_verdict);
-    assert!(rt; verdict != Verdict::Undefined(Reason::Overflow));
-    assert!(rt; verdict != Verdict::Deadlock);
-    let status = Status::OnJoin(1);
-    let same_status = status;
-    assert!(rt; status == same_status);
-    assert!(rt; status != Status::OnJoin(2));
-    assert!(rt; status != Status::OnLock(1));
+    let same = verdict;
+    [
+        verdict == same,
+        verdict == Verdict::Undefined(Reason::Overflow),
+        verdict == Verdict::Deadlock,
+    ]
 }
 
-#[test]
-fn identities_by_thread_then_count(rt: HostRuntime) {
-    let identities: [(u32, u64); 3] = [(0, 9), (1, 3), (1, 4)];
-    for i in 0..2 {
-        let (thread, count) = identities[i];
-        let (next_thread, next_count) = identities[i + 1];
-        let first = AllocId { thread, count };
-        let second = AllocId {
-            thread: next_thread,
-            count: next_count,
-        };
-        assert!(rt; first < second);
-    }
+// Whether a status is equal to its copy and to two others.
+fn equal_statuses() -> [bool; 3] {
+    let status = Status::OnJoin(1);
+    let same = status;
+    [
+        status == same,
+        status == Status::OnJoin(2),
+        status == Status::OnLock(1),
+    ]
+}
+
+// Whether each of three identities comes before the next one, by thread and then by count.
+fn ordered_identities() -> [bool; 2] {
+    let [first, second, third] = [(0, 9), (1, 3), (1, 4)].map(|(thread, count)| AllocId {
+        thread,
+        count,
+    });
+    [first < second, second < third]
 }
 
 /// A list of pairs, and whether one stands twice in it.
@@ -74,15 +76,51 @@ const MEETING: [([Pair; 3], bool); 4] = [
     ([(5, 1), (5, 1), (9, 1)], true),
 ];
 
+// The first row that is told otherwise.
+fn first_wrong_twice() -> Option<usize> {
+    for (n, (pairs, twice)) in TWICE.iter().enumerate() {
+        let mut list = *pairs;
+        if any_twice(&mut list) != *twice {
+            return Some(n);
+        }
+    }
+    None
+}
+
+// Whether ranges of which none is empty meet.
+fn are_meeting(ranges: [Pair; 3]) -> Option<bool> {
+    let mut list = ranges;
+    if 0 < list[0].1 && 0 < list[1].1 && 0 < list[2].1 {
+        Some(any_meeting(&mut list))
+    } else {
+        None
+    }
+}
+
+fn first_wrong_meeting() -> Option<usize> {
+    for (n, (ranges, meet)) in MEETING.iter().enumerate() {
+        if are_meeting(*ranges) != Some(*meet) {
+            return Some(n);
+        }
+    }
+    None
+}
+
 #[test]
-fn pairs_are_compared(rt: HostRuntime) {
-    for (pairs, want) in TWICE {
-        let mut list = pairs;
-        assert_eq!(rt; any_twice(&mut list), want, "{pairs:?}");
-    }
-    for (ranges, want) in MEETING {
-        let mut list = ranges;
-        assert!(rt; 0 < list[0].1 && 0 < list[1].1 && 0 < list[2].1);
-        assert_eq!(rt; any_meeting(&mut list), want, "{ranges:?}");
-    }
+fn reasons_and_pairs(rt: HostRuntime) -> Result<(), Fail> {
+    let (reasons, rules) = (reasons(rt.alloc())?, rules(rt.alloc())?);
+    assert_eq!(rt;
+        reasons.as_str(),
+        "100 DataRace\n109 Overflow\n133 NotHolder\n"
+    );
+    assert_eq!(rt;
+        rules.as_str(),
+        "20 TypeSize\n28 UnionChunk\n30 Arguments\n47 Cast\n"
+    );
+    assert_eq!(rt; equal_verdicts(), [true, false, false]);
+    assert_eq!(rt; equal_statuses(), [true, false, false]);
+    assert_eq!(rt; ordered_identities(), [true, true]);
+    assert_eq!(rt; first_wrong_twice(), None);
+    assert_eq!(rt; first_wrong_meeting(), None);
+    Ok(())
 }
