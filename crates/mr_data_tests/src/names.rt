@@ -13,30 +13,30 @@ fn added(names: &mut Names, text: &str) -> Result<u32, OutOfMemory> {
     }
 }
 
-// The numbers of three texts, of which the last is an old one, and what is held then.
+// The numbers of three texts, of which the last is an old one; how many are held then, whether the second is, and the numbers of
+// that and of a fourth.
 fn numbered(alloc: Global, names: &mut Names) -> Result<String, Fail> {
     let numbers = [added(names, "a")?, added(names, "b")?, added(names, "a")?];
     let (len, found) = (names.len(), [names.find("b"), names.find("c")]);
-    let second = if 1 < len { names.text(1) } else { "" };
+    let second = 1 < len && names.text(1) == "b";
     Ok(format!(in alloc; "{numbers:?} {len} {second} {found:?}")?)
 }
 
-// How many of two thousand texts get the number of the thousand that they repeat.
-fn repeated(alloc: Global, names: &mut Names) -> Result<u32, Fail> {
-    let mut right = 0;
+// Whether each of two thousand texts gets the number of the thousand that they repeat.
+fn are_repeated(alloc: Global, names: &mut Names) -> Result<bool, Fail> {
     for k in 0..2000u32 {
         let text = format!(in alloc; "name {}", k % 1000)?;
-        if added(names, text.as_str())? == k % 1000 {
-            right += 1;
+        if added(names, text.as_str())? != k % 1000 {
+            return Ok(false);
         }
     }
-    Ok(right)
+    Ok(true)
 }
 
 fn told(alloc: Global, few: &mut Names, many: &mut Names) -> Result<String, Fail> {
     let few = numbered(alloc, few)?;
-    let right = repeated(alloc, many)?;
-    Ok(format!(in alloc; "{few}, {right} {}", many.len())?)
+    let repeated = are_repeated(alloc, many)?;
+    Ok(format!(in alloc; "{few}, {repeated} {}", many.len())?)
 }
 
 fn told_anew(alloc: Global) -> Result<String, Fail> {
@@ -47,6 +47,9 @@ fn told_anew(alloc: Global) -> Result<String, Fail> {
 #[test]
 fn texts_are_numbered(rt: HostRuntime) -> Result<(), Fail> {
     let told = told_anew(rt.alloc())?;
-    assert_eq!(rt; told.as_str(), "[0, 1, 0] 2 b [Some(1), None], 2000 1000");
+    assert_eq!(rt;
+        told.as_str(),
+        "[0, 1, 0] 2 true [Some(1), None], true 1000"
+    );
     Ok(())
 }

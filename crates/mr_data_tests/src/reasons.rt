@@ -50,12 +50,13 @@ fn equal_statuses() -> [bool; 3] {
     ]
 }
 
+fn identity(thread: u32, count: u64) -> AllocId {
+    AllocId { thread, count }
+}
+
 // Whether each of three identities comes before the next one, by thread and then by count.
 fn ordered_identities() -> [bool; 2] {
-    let [first, second, third] = [(0, 9), (1, 3), (1, 4)].map(|(thread, count)| AllocId {
-        thread,
-        count,
-    });
+    let (first, second, third) = (identity(0, 9), identity(1, 3), identity(1, 4));
     [first < second, second < third]
 }
 

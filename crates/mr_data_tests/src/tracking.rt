@@ -5,7 +5,7 @@ use std::alloc::Global;
 use std::test::Fail;
 
 /// What an access does.
-#[derive(Clone, Copy, Debug)]
+#[derive(Clone, Copy)]
 enum Act {
     Load,
     Store,

@@ -1,5 +1,5 @@
 //! What bytes mean, and what values are written as.
-ghost use Rattle.std.specs.Prelude.{◌≡◌, OnSome, length};
+ghost use Rattle.std.specs.Prelude.{◌≡◌, OnSome, length, true};
 ghost use Rattle.mr_layout.specs.Sizes.{size_of};
 ghost use Rattle.mr_layout.specs.TypeOk.{TypeOk};
 ghost use Rattle.mr_runs.specs.Pieces.{bytes_of_pieces};
