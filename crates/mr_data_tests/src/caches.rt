@@ -1,6 +1,6 @@
 //! The layouts that a cache holds of a program.
-use crate::texts::{HEAD, TAIL};
-use mr_ast::{OutOfMemory, Program};
+use crate::texts::program_of;
+use mr_ast::{Local, OutOfMemory, Program};
 use mr_layout::{Cache, broken_rule, find_types};
 use mr_parse::parse;
 use std::alloc::Global;
@@ -18,38 +18,64 @@ fn cache_of(alloc: Global, p: &Program) -> Result<Option<Cache>, OutOfMemory> {
     Ok(Some(Cache::new(alloc, p)?))
 }
 
-// A line for the type of each local of the main function: the layout that the cache holds of it.
-fn held(alloc: Global, cache: &Cache, asked: &Program) -> Result<String, Fail> {
-    let function = asked.functions.as_slice().get(0).ok_or("no function")?;
-    let mut told = String::new(alloc);
-    for local in function.locals.as_slice() {
+// Tells the layouts that the cache holds of the types of these locals.
+fn tell(told: &mut String, cache: &Cache, locals: &[Local]) -> Result<(), OutOfMemory> {
+    for local in locals {
         let layout = cache.get(&local.ty).copied();
-        told.push_str(format!(in alloc; "{layout:?}\n")?.as_str())?;
+        write!(told, "{layout:?}\n")?;
     }
-    Ok(told)
+    Ok(())
 }
 
-fn held_of(alloc: Global, cache: &Cache, types: &str) -> Result<String, Fail> {
-    let text = format!(in alloc; "{HEAD}{types}{TAIL}")?;
-    match parse(alloc, text.as_bytes()) {
-        Ok(asked) => held(alloc, cache, &asked),
-        Err(_) => Err("no program of the types".into()),
+fn tell_in(told: &mut String, cache: &Cache, asked: &Program) -> Result<(), OutOfMemory> {
+    match asked.functions.as_slice().get(0) {
+        Some(function) => tell(told, cache, function.locals.as_slice()),
+        None => write!(told, "no function"),
     }
 }
 
-fn held_in(alloc: Global, program: &Program, types: &str) -> Result<String, Fail> {
+fn tell_of(
+    alloc: Global,
+    told: &mut String,
+    cache: &Cache,
+    types: &str,
+) -> Result<(), OutOfMemory> {
+    match parse(alloc, types.as_bytes()) {
+        Ok(asked) => tell_in(told, cache, &asked),
+        Err(_) => write!(told, "no program of the types"),
+    }
+}
+
+fn tell_cached(
+    alloc: Global,
+    told: &mut String,
+    program: &Program,
+    types: &str,
+) -> Result<(), OutOfMemory> {
     match cache_of(alloc, program) {
-        Ok(Some(cache)) => held_of(alloc, &cache, types),
-        Ok(None) => Err("a broken rule".into()),
-        Err(fault) => Err(fault.into()),
+        Ok(Some(cache)) => tell_of(alloc, told, &cache, types),
+        Ok(None) => write!(told, "a broken rule"),
+        Err(fault) => Err(fault),
     }
 }
 
-fn told(alloc: Global, program: &str, types: &str) -> Result<String, Fail> {
+fn tell_program(
+    alloc: Global,
+    told: &mut String,
+    program: &str,
+    types: &str,
+) -> Result<(), OutOfMemory> {
     match parse(alloc, program.as_bytes()) {
-        Ok(program) => held_in(alloc, &program, types),
-        Err(_) => Err("no program".into()),
+        Ok(program) => tell_cached(alloc, told, &program, types),
+        Err(_) => write!(told, "no program"),
     }
+}
+
+fn told(alloc: Global, program: &str, types: &[&str]) -> Result<String, OutOfMemory> {
+    let types = program_of(alloc, types)?;
+    let mut told = String::new(alloc);
+    tell_program(alloc, &mut told, program, types.as_str())?;
+    Ok(told)
 }
 
 // Types stand in a local, behind a `deref`, at an address, and in a `transmute`.
@@ -64,16 +90,17 @@ main main
 ";
 
 // The types that are asked for behind `unit`: those that stand there, their parts, and others.
-const ASKED: &str = "
-a: array(3, tuple size 8 align 4 { 0: u32, 4: bool }),
-b: union size 2 align 2 { 0: u16 } chunks { 0 2 },
-c: ref 0 1 never,
-d: i16,
-e: tuple size 8 align 4 { 0: u32, 4: bool },
-f: u32,
-g: u16,
-h: array(4, tuple size 8 align 4 { 0: u32, 4: bool }),
-i: i8";
+const ASKED: [&str; 9] = [
+    "array(3, tuple size 8 align 4 { 0: u32, 4: bool })",
+    "union size 2 align 2 { 0: u16 } chunks { 0 2 }",
+    "ref 0 1 never",
+    "i16",
+    "tuple size 8 align 4 { 0: u32, 4: bool }",
+    "u32",
+    "u16",
+    "array(4, tuple size 8 align 4 { 0: u32, 4: bool })",
+    "i8",
+];
 
 const HELD: &str = "None
 Some(Layout { size: 24, align: 4, inhabited: true })
@@ -89,6 +116,6 @@ None
 
 #[test]
 fn written_types_and_their_parts_are_held(rt: HostRuntime) -> Result<(), Fail> {
-    assert_eq!(rt; told(rt.alloc(), PROGRAM, ASKED)?.as_str(), HELD);
+    assert_eq!(rt; told(rt.alloc(), PROGRAM, &ASKED)?.as_str(), HELD);
     Ok(())
 }

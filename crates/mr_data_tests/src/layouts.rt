@@ -1,5 +1,5 @@
 //! Sizes, alignments, used bytes and broken rules of types.
-use crate::texts::{HEAD, TAIL, type_of};
+use crate::texts::{program_of, type_of};
 use mr_ast::{OutOfMemory, Program, Ty};
 use mr_layout::{align, broken_rule, first_broken_rule, inhabited, int_bytes, size, type_ok, used};
 use mr_parse::parse;
@@ -7,52 +7,57 @@ use std::alloc::Global;
 use std::string::String;
 use std::test::Fail;
 
-// A mark for each of the first seven bytes, a dot for those that carry no part of a value.
-fn first_bytes(alloc: Global, ty: &Ty) -> Result<String, OutOfMemory> {
-    let mut marks = String::new(alloc);
+// Tells which of the first seven bytes carry a part of a value, by a mark or a dot for each.
+fn tell_bytes(told: &mut String, ty: &Ty) -> Result<(), OutOfMemory> {
     for at in 0..7 {
-        marks.push(if used(ty, at) { '#' } else { '.' })?;
+        told.push(if used(ty, at) { '#' } else { '.' })?;
     }
-    Ok(marks)
+    Ok(())
 }
 
 // Whether the calls that tell the broken rule of a type have one answer, and those that tell the size of an integer.
-fn are_agreed(alloc: Global, ty: &Ty) -> Result<bool, OutOfMemory> {
+fn are_agreed(alloc: Global, ty: &Ty) -> bool {
     let rule = broken_rule(ty);
     let sized = match ty {
         Ty::Int(int) => size(ty) == Some(int_bytes(*int)),
         _ => true,
     };
-    Ok(sized && first_broken_rule(alloc, ty) == rule && type_ok(alloc, ty)? == rule)
+    sized && first_broken_rule(alloc, ty) == rule && type_ok(alloc, ty) == Ok(rule)
 }
 
-// What is told of a type: its size, its alignment, whether it has a value, its broken rule and its used bytes.
-fn described(alloc: Global, ty: &Ty) -> Result<String, Fail> {
-    if !are_agreed(alloc, ty)? {
-        return Err("the calls differ".into());
+// Tells of a type its size, its alignment, whether it has a value, its broken rule and its used bytes.
+fn tell(alloc: Global, told: &mut String, ty: &Ty) -> Result<(), OutOfMemory> {
+    if !are_agreed(alloc, ty) {
+        return write!(told, "the calls differ");
     }
     let (size, align, inhabited, rule) = (size(ty), align(ty), inhabited(ty), broken_rule(ty));
-    let bytes = first_bytes(alloc, ty)?;
-    Ok(format!(in alloc; "{size:?} {align} {inhabited} {rule:?} {bytes}")?)
+    write!(told, "{size:?} {align} {inhabited} {rule:?} ")?;
+    tell_bytes(told, ty)
 }
 
-fn described_in(alloc: Global, program: &Program) -> Result<String, Fail> {
+fn tell_in(alloc: Global, told: &mut String, program: &Program) -> Result<(), OutOfMemory> {
     match type_of(program, 1) {
-        Some(ty) => described(alloc, ty),
-        None => Err("no type".into()),
+        Some(ty) => tell(alloc, told, ty),
+        None => write!(told, "no type"),
     }
 }
 
-fn told(alloc: Global, ty: &str) -> Result<String, Fail> {
-    let text = format!(in alloc; "{HEAD}x: {ty}{TAIL}")?;
+fn tell_of(alloc: Global, told: &mut String, text: &str) -> Result<(), OutOfMemory> {
     match parse(alloc, text.as_bytes()) {
-        Ok(program) => described_in(alloc, &program),
-        Err(_) => Err("no program".into()),
+        Ok(program) => tell_in(alloc, told, &program),
+        Err(_) => write!(told, "no program"),
     }
+}
+
+fn told(alloc: Global, ty: &str) -> Result<String, OutOfMemory> {
+    let text = program_of(alloc, &[ty])?;
+    let mut told = String::new(alloc);
+    tell_of(alloc, &mut told, text.as_str())?;
+    Ok(told)
 }
 
 // A type, and what is told of it.
-const TYPES: [(&str, &str); 48] = [
+static TYPES: [(&str, &str); 48] = [
     ("u8", "Some(1) 1 true None #......"),
     ("u16", "Some(2) 2 true None ##....."),
     ("u32", "Some(4) 4 true None ####..."),
@@ -195,7 +200,8 @@ const TYPES: [(&str, &str); 48] = [
 
 #[test]
 fn types_are_described(rt: HostRuntime) -> Result<(), Fail> {
-    for (ty, wanted) in TYPES {
+    for row in TYPES.iter() {
+        let (ty, wanted) = *row;
         assert_eq!(rt; told(rt.alloc(), ty)?.as_str(), wanted, "{ty}");
     }
     Ok(())

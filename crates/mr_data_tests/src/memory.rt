@@ -1,25 +1,26 @@
 //! Memory: which ranges may be taken, what is freed, what leaks, and what is stored and lent.
 ghost use Rattle.mr_mem.specs.Memory.{IsAsked};
 
-use crate::spelled::{FIRST, SECOND, shown, spelled};
-use mr_base::{AllocId, Kind, Pointer};
+use crate::spelled::{FIRST, SECOND, show};
+use mr_base::{AbstractByte, AllocId, Kind, Pointer};
 use mr_mem::Memory;
-use mr_runs::View;
+use mr_runs::{OutOfMemory, View};
 use std::alloc::Global;
 use std::string::String;
 use std::test::Fail;
 
 // A memory with four bytes at 16.
-fn with_four(alloc: Global, kind: Kind) -> Result<Memory, Fail>
+fn with_four(alloc: Global, kind: Kind) -> Result<Option<Memory>, OutOfMemory>
     requires { IsAsked kind 4 4 }
 {
     let mut memory = Memory::new(alloc);
-    memory
-        .lawful(16, 4, 4)
-        .ok()
-        .ok_or("the memory has no range")?;
-    memory.allocate(FIRST, kind, 4, 4, 16)?;
-    Ok(memory)
+    match memory.lawful(16, 4, 4) {
+        Ok(()) => {
+            memory.allocate(FIRST, kind, 4, 4, 16)?;
+            Ok(Some(memory))
+        }
+        Err(_) => Ok(None),
+    }
 }
 
 /// A call, with its numbers in their order. A pointer is its address and its provenance.
@@ -29,7 +30,7 @@ enum Call {
     Leaks,
     Check(u64, Option<AllocId>, u64),
     Load(u64, u64, u64),
-    Store(u64, &'static str, u64),
+    Store(u64, [u8; 2], u64),
     Deinit(u64, u64, u64),
     Free(u64, Option<AllocId>, Kind, u64, u64),
 }
@@ -41,85 +42,97 @@ fn at(addr: u64) -> Pointer {
     }
 }
 
-// The bytes of a view, or that it has no piece.
-fn lent(alloc: Global, view: &View<'_>) -> Result<String, Fail> {
+// Tells the bytes of a view, or that it has no piece.
+fn tell_view(told: &mut String, view: &View<'_>) -> Result<(), OutOfMemory> {
     if view.len() == 0 && view.piece(0).is_none() {
-        return Ok(String::from_str(alloc, "empty")?);
+        return write!(told, "empty");
     }
-    let mut bytes = Vec::new(alloc);
     for k in 0..view.len() {
-        bytes.push(view.byte(k))?;
+        show(told, &[view.byte(k)])?;
     }
-    shown(alloc, bytes.as_slice())
+    Ok(())
 }
 
-fn loaded(alloc: Global, memory: &Memory, addr: u64, len: u64, align: u64) -> Result<String, Fail> {
-    match memory.load(at(addr), len, align) {
-        Ok(view) => lent(alloc, &view),
-        Err(reason) => Ok(format!(in alloc; "{reason:?}")?),
-    }
-}
-
-fn stored(
-    alloc: Global,
-    memory: &mut Memory,
+fn tell_load(
+    told: &mut String,
+    memory: &Memory,
     addr: u64,
-    bytes: &str,
+    len: u64,
     align: u64,
-) -> Result<String, Fail> {
-    let bytes = spelled(alloc, bytes)?;
-    let answer = memory.store(at(addr), bytes.as_slice(), align);
-    Ok(format!(in alloc; "{answer:?}")?)
+) -> Result<(), OutOfMemory> {
+    match memory.load(at(addr), len, align) {
+        Ok(view) => tell_view(told, &view),
+        Err(reason) => write!(told, "{reason:?}"),
+    }
 }
 
-// What a call answers.
-fn answer(alloc: Global, memory: &mut Memory, call: Call) -> Result<String, Fail> {
+// Tells what a call answers that changes nothing.
+fn tell_seen(told: &mut String, memory: &Memory, call: Call) -> Result<(), OutOfMemory> {
     match call {
-        Call::Lawful(addr, size, align) => Ok(format!(in alloc;
-            "{:?}",
-            memory.lawful(addr, size, align)
-        )?),
-        Call::Leaks => Ok(format!(in alloc; "{}", memory.leaks())?),
-        Call::Check(addr, prov, len) => Ok(format!(in alloc;
+        Call::Lawful(addr, size, align) => write!(told, "{:?}", memory.lawful(addr, size, align)),
+        Call::Leaks => write!(told, "{}", memory.leaks()),
+        Call::Check(addr, prov, len) => write!(
+            told,
             "{:?}",
             memory.check(Pointer { addr, prov }, len)
-        )?),
-        Call::Load(addr, len, align) => loaded(alloc, memory, addr, len, align),
-        Call::Store(addr, bytes, align) => stored(alloc, memory, addr, bytes, align),
-        Call::Deinit(addr, len, align) => Ok(format!(in alloc;
-            "{:?}",
-            memory.deinit(at(addr), len, align)
-        )?),
-        Call::Free(addr, prov, kind, size, align) => Ok(format!(in alloc;
+        ),
+        Call::Load(addr, len, align) => tell_load(told, memory, addr, len, align),
+        _ => write!(told, "another call"),
+    }
+}
+
+// Tells what a call answers.
+fn tell(told: &mut String, memory: &mut Memory, call: Call) -> Result<(), OutOfMemory> {
+    match call {
+        Call::Store(addr, numbers, align) => {
+            let bytes = [
+                AbstractByte::Init(numbers[0], None),
+                AbstractByte::Init(numbers[1], None),
+            ];
+            write!(told, "{:?}", memory.store(at(addr), &bytes, align))
+        }
+        Call::Deinit(addr, len, align) => write!(told, "{:?}", memory.deinit(at(addr), len, align)),
+        Call::Free(addr, prov, kind, size, align) => write!(
+            told,
             "{:?}",
             memory.deallocate(Pointer { addr, prov }, kind, size, align)
-        )?),
+        ),
+        _ => tell_seen(told, memory, call),
     }
 }
 
-// A line for the answer of each call.
-fn answers(alloc: Global, memory: &mut Memory, calls: &[Call]) -> Result<String, Fail> {
-    let mut told = String::new(alloc);
+// Tells what each of the calls answers.
+fn tell_all(told: &mut String, memory: &mut Memory, calls: &[Call]) -> Result<(), OutOfMemory> {
     for call in calls {
-        told.push_str(answer(alloc, memory, *call)?.as_str())?;
-        told.push('\n')?;
+        tell(told, memory, *call)?;
+        write!(told, "\n")?;
     }
-    Ok(told)
+    Ok(())
 }
 
-fn answers_of(alloc: Global, memory: Result<Memory, Fail>, calls: &[Call]) -> Result<String, Fail> {
+fn tell_of(
+    told: &mut String,
+    memory: Result<Option<Memory>, OutOfMemory>,
+    calls: &[Call],
+) -> Result<(), OutOfMemory> {
     match memory {
-        Ok(mut memory) => answers(alloc, &mut memory, calls),
+        Ok(Some(mut memory)) => tell_all(told, &mut memory, calls),
+        Ok(None) => write!(told, "no range"),
         Err(fault) => Err(fault),
     }
 }
 
-fn told(alloc: Global, kind: Kind, calls: &[Call]) -> Result<String, Fail> {
+fn tell_case(
+    alloc: Global,
+    told: &mut String,
+    kind: Kind,
+    calls: &[Call],
+) -> Result<(), OutOfMemory> {
     match kind {
-        Kind::Heap => answers_of(alloc, with_four(alloc, Kind::Heap), calls),
-        Kind::Stack => answers_of(alloc, with_four(alloc, Kind::Stack), calls),
-        Kind::Static => answers_of(alloc, with_four(alloc, Kind::Static), calls),
-        Kind::Function => Err("no four bytes".into()),
+        Kind::Heap => tell_of(told, with_four(alloc, Kind::Heap), calls),
+        Kind::Stack => tell_of(told, with_four(alloc, Kind::Stack), calls),
+        Kind::Static => tell_of(told, with_four(alloc, Kind::Static), calls),
+        Kind::Function => write!(told, "no four bytes"),
     }
 }
 
@@ -127,7 +140,7 @@ fn told(alloc: Global, kind: Kind, calls: &[Call]) -> Result<String, Fail> {
 const LAST: u64 = 18446744073709551612;
 
 // The kind of the four bytes, the calls, and their answers.
-const CASES: [(Kind, &[Call], &str); 9] = [
+static CASES: [(Kind, &[Call], &str); 9] = [
     // Addresses that may be picked.
     (
         Kind::Heap,
@@ -200,18 +213,18 @@ false
         Kind::Heap,
         &[
             Call::Load(16, 4, 4),
-            Call::Store(17, "07 08", 1),
+            Call::Store(17, [7, 8], 1),
             Call::Load(16, 4, 4),
             Call::Deinit(18, 2, 2),
             Call::Load(16, 4, 4),
             Call::Free(16, Some(FIRST), Kind::Heap, 4, 4),
             Call::Load(16, 4, 4),
         ],
-        "-- -- -- --
+        " -- -- -- --
 Ok(())
--- 07 08 --
+ -- 07 08 --
 Ok(())
--- 07 -- --
+ -- 07 -- --
 Ok(AllocId { thread: 0, count: 0 })
 DeadAllocation
 ",
@@ -239,16 +252,16 @@ Err(OutOfBounds)
     (
         Kind::Stack,
         &[
-            Call::Store(17, "07 07", 2),
+            Call::Store(17, [7, 7], 2),
             Call::Deinit(16, 4, 0),
-            Call::Store(19, "07 07", 1),
+            Call::Store(19, [7, 7], 1),
             Call::Load(16, 4, 4),
             Call::Load(18, 2, 4),
         ],
         "Err(Undefined(Misaligned))
 Err(Undefined(Misaligned))
 Err(Undefined(OutOfBounds))
--- -- -- --
+ -- -- -- --
 Misaligned
 ",
     ),
@@ -271,8 +284,11 @@ empty
 
 #[test]
 fn calls_are_answered(rt: HostRuntime) -> Result<(), Fail> {
-    for (kind, calls, wanted) in CASES {
-        assert_eq!(rt; told(rt.alloc(), kind, calls)?.as_str(), wanted);
+    for row in CASES.iter() {
+        let (kind, calls, wanted) = *row;
+        let mut told = String::new(rt.alloc());
+        tell_case(rt.alloc(), &mut told, kind, calls)?;
+        assert_eq!(rt; told.as_str(), wanted);
     }
     Ok(())
 }

@@ -456,11 +456,14 @@ fn first_wrong_unary() -> Option<usize> {
 
 #[test]
 fn operators(rt: HostRuntime) {
-    assert_eq!(rt; first_wrong_wrapping(), None);
-    assert_eq!(rt; first_wrong_division(), None);
-    assert_eq!(rt; first_wrong_bits(), None);
-    assert_eq!(rt; first_wrong_shift(), None);
-    assert_eq!(rt; first_wrong_order(), None);
-    assert_eq!(rt; first_wrong_cast(), None);
-    assert_eq!(rt; first_wrong_unary(), None);
+    let wrong = [
+        first_wrong_wrapping(),
+        first_wrong_division(),
+        first_wrong_bits(),
+        first_wrong_shift(),
+        first_wrong_order(),
+        first_wrong_cast(),
+        first_wrong_unary(),
+    ];
+    assert_eq!(rt; wrong, [None; 7]);
 }

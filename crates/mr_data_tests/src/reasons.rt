@@ -1,31 +1,26 @@
 //! Reasons and rules by number and name, identities in order, and lists of pairs.
-use mr_ast::Rule;
+use mr_ast::{OutOfMemory, Rule};
 use mr_base::{AllocId, Pair, Reason, Status, Verdict, any_meeting, any_twice};
-use std::alloc::Global;
 use std::string::String;
 use std::test::Fail;
 
-fn reasons(alloc: Global) -> Result<String, Fail> {
-    let mut told = String::new(alloc);
+fn tell_reasons(told: &mut String) -> Result<(), OutOfMemory> {
     for reason in [Reason::DataRace, Reason::Overflow, Reason::NotHolder] {
-        let line = format!(in alloc; "{} {}\n", reason.code(), reason.name())?;
-        told.push_str(line.as_str())?;
+        write!(told, "{} {}\n", reason.code(), reason.name())?;
     }
-    Ok(told)
+    Ok(())
 }
 
-fn rules(alloc: Global) -> Result<String, Fail> {
-    let mut told = String::new(alloc);
+fn tell_rules(told: &mut String) -> Result<(), OutOfMemory> {
     for rule in [
         Rule::TypeSize,
         Rule::UnionChunk,
         Rule::Arguments,
         Rule::Cast,
     ] {
-        let line = format!(in alloc; "{} {}\n", rule.code(), rule.name())?;
-        told.push_str(line.as_str())?;
+        write!(told, "{} {}\n", rule.code(), rule.name())?;
     }
-    Ok(told)
+    Ok(())
 }
 
 // Whether a verdict is equal to its copy and to two others.
@@ -61,7 +56,7 @@ fn ordered_identities() -> [bool; 2] {
 }
 
 /// A list of pairs, and whether one stands twice in it.
-const TWICE: [([Pair; 3], bool); 5] = [
+static TWICE: [([Pair; 3], bool); 5] = [
     ([(0, 2), (0, 1), (0, 3)], false),
     ([(0, 2), (0, 1), (0, 2)], true),
     ([(1, 2), (0, 2), (2, 1)], false),
@@ -70,7 +65,7 @@ const TWICE: [([Pair; 3], bool); 5] = [
 ];
 
 /// A list of ranges, and whether two of them meet.
-const MEETING: [([Pair; 3], bool); 4] = [
+static MEETING: [([Pair; 3], bool); 4] = [
     ([(8, 4), (0, 4), (4, 4)], false),
     ([(8, 4), (0, 5), (4, 4)], true),
     ([(0, 100), (200, 1), (50, 1)], true),
@@ -107,21 +102,38 @@ fn first_wrong_meeting() -> Option<usize> {
     None
 }
 
+fn tell(told: &mut String) -> Result<(), OutOfMemory> {
+    tell_reasons(told)?;
+    tell_rules(told)?;
+    let (verdicts, statuses) = (equal_verdicts(), equal_statuses());
+    write!(
+        told,
+        "{verdicts:?} {statuses:?} {:?}\n",
+        ordered_identities()
+    )?;
+    write!(
+        told,
+        "{:?} {:?}\n",
+        first_wrong_twice(),
+        first_wrong_meeting()
+    )
+}
+
+const WANTED: &str = "100 DataRace
+109 Overflow
+133 NotHolder
+20 TypeSize
+28 UnionChunk
+30 Arguments
+47 Cast
+[true, false, false] [true, false, false] [true, true]
+None None
+";
+
 #[test]
 fn reasons_and_pairs(rt: HostRuntime) -> Result<(), Fail> {
-    let (reasons, rules) = (reasons(rt.alloc())?, rules(rt.alloc())?);
-    assert_eq!(rt;
-        reasons.as_str(),
-        "100 DataRace\n109 Overflow\n133 NotHolder\n"
-    );
-    assert_eq!(rt;
-        rules.as_str(),
-        "20 TypeSize\n28 UnionChunk\n30 Arguments\n47 Cast\n"
-    );
-    assert_eq!(rt; equal_verdicts(), [true, false, false]);
-    assert_eq!(rt; equal_statuses(), [true, false, false]);
-    assert_eq!(rt; ordered_identities(), [true, true]);
-    assert_eq!(rt; first_wrong_twice(), None);
-    assert_eq!(rt; first_wrong_meeting(), None);
+    let mut told = String::new(rt.alloc());
+    tell(&mut told)?;
+    assert_eq!(rt; told.as_str(), WANTED);
     Ok(())
 }

@@ -1,9 +1,8 @@
-//! Bytes as texts: a word a byte, with two hexadecimal digits, and behind `@` the allocation of its provenance, where it has one;
-//! `--` is an uninitialised byte.
+//! Bytes as texts: a word a byte, with two hexadecimal digits, and behind `@` the allocation of its provenance, where it has one.
 use mr_base::{AbstractByte, AllocId};
+use mr_runs::OutOfMemory;
 use std::alloc::Global;
 use std::string::String;
-use std::test::Fail;
 
 /// The allocations of the tests, `0.0` and `1.7` in texts.
 pub const FIRST: AllocId = AllocId {
@@ -16,55 +15,49 @@ pub const SECOND: AllocId = AllocId {
     count: 7,
 };
 
-fn provenance(word: &str) -> Result<AllocId, Fail> {
+fn provenance(word: &str) -> Option<AllocId> {
     match word {
-        "0.0" => Ok(FIRST),
-        "1.7" => Ok(SECOND),
-        _ => Err("no allocation".into()),
+        "0.0" => Some(FIRST),
+        "1.7" => Some(SECOND),
+        _ => None,
     }
 }
 
-fn byte(word: &str) -> Result<AbstractByte, Fail> {
-    if word == "--" {
-        return Ok(AbstractByte::Uninit);
-    }
+// The byte of a word, which is uninitialised if the word has no digits.
+fn byte(word: &str) -> AbstractByte {
     let (digits, provenance) = match word.split_once('@') {
-        Some((digits, owner)) => (digits, Some(provenance(owner)?)),
+        Some((digits, owner)) => (digits, provenance(owner)),
         None => (word, None),
     };
     match u8::from_str_radix(digits, 16) {
-        Ok(number) => Ok(AbstractByte::Init(number, provenance)),
-        Err(_) => Err("no byte".into()),
+        Ok(number) => AbstractByte::Init(number, provenance),
+        Err(_) => AbstractByte::Uninit,
     }
 }
 
 /// The bytes of a text.
-pub fn spelled(alloc: Global, text: &str) -> Result<Vec<AbstractByte>, Fail> {
+pub fn spelled(alloc: Global, text: &str) -> Result<Vec<AbstractByte>, OutOfMemory> {
     let mut bytes = Vec::new(alloc);
     for word in text.split(' ') {
-        bytes.push(byte(word)?)?;
+        bytes.push(byte(word))?;
     }
     Ok(bytes)
 }
 
-fn word(alloc: Global, byte: AbstractByte) -> Result<String, Fail> {
+fn show_byte(told: &mut String, byte: AbstractByte) -> Result<(), OutOfMemory> {
     match byte {
-        AbstractByte::Uninit => Ok(String::from_str(alloc, "--")?),
-        AbstractByte::Init(number, None) => Ok(format!(in alloc; "{number:02x}")?),
+        AbstractByte::Uninit => write!(told, " --"),
+        AbstractByte::Init(number, None) => write!(told, " {number:02x}"),
         AbstractByte::Init(number, Some(AllocId { thread, count })) => {
-            Ok(format!(in alloc; "{number:02x}@{thread}.{count}")?)
+            write!(told, " {number:02x}@{thread}.{count}")
         }
     }
 }
 
-/// The text of bytes.
-pub fn shown(alloc: Global, bytes: &[AbstractByte]) -> Result<String, Fail> {
-    let mut text = String::new(alloc);
+/// Appends the words of bytes, each behind a blank.
+pub fn show(told: &mut String, bytes: &[AbstractByte]) -> Result<(), OutOfMemory> {
     for byte in bytes {
-        if !text.is_empty() {
-            text.push(' ')?;
-        }
-        text.push_str(word(alloc, *byte)?.as_str())?;
+        show_byte(told, *byte)?;
     }
-    Ok(text)
+    Ok(())
 }

@@ -1,12 +1,12 @@
 //! Types are compared and copied.
-use crate::texts::{HEAD, TAIL, type_of};
+use crate::texts::{program_of, type_of};
 use mr_ast::{OutOfMemory, Program, Tree, Ty, Variant};
 use mr_parse::parse;
 use std::alloc::Global;
 use std::string::String;
 use std::test::Fail;
 
-// Whether a copy of a type is another, and the same of trees and of variants.
+// Whether a copy of a type, a tree or a variant is another.
 fn is_copied(copy: Result<Ty, OutOfMemory>, other: &Ty) -> Result<bool, OutOfMemory> {
     match copy {
         Ok(copy) => Ok(copy.same(other)),
@@ -31,55 +31,79 @@ fn is_variant_copied(
     }
 }
 
-// Whether two types are equal, and whether a copy of the first is equal to the second; of enums, the same of their trees and of each
-// variant of both.
-fn compared(alloc: Global, first: &Ty, second: &Ty) -> Result<String, Fail> {
-    let (same, copied) = (first.same(second), is_copied(first.copy(alloc), second)?);
-    let mut told = format!(in alloc; "{same} {copied}")?;
-    if let (
-        Ty::Enum { variants, tree, .. },
-        Ty::Enum {
-            variants: others,
-            tree: other,
-            ..
-        },
-    ) = (first, second)
-    {
-        let (same, copied) = (tree.same(other), is_tree_copied(tree.copy(alloc), other)?);
-        told.push_str(format!(in alloc; ", {same} {copied}")?.as_str())?;
-        let parts = compared_variants(alloc, variants.as_slice(), others.as_slice())?;
-        told.push_str(parts.as_str())?;
-    }
-    Ok(told)
+// Whether two types are equal, themselves and by a copy of the first.
+fn compared(alloc: Global, first: &Ty, second: &Ty) -> Result<[bool; 2], OutOfMemory> {
+    let copied = is_copied(first.copy(alloc), second)?;
+    Ok([first.same(second), copied])
 }
 
+// The same of two trees.
+fn compared_trees(alloc: Global, first: &Tree, second: &Tree) -> Result<[bool; 2], OutOfMemory> {
+    let copied = is_tree_copied(first.copy(alloc), second)?;
+    Ok([first.same(second), copied])
+}
+
+// The same of two variants.
 fn compared_variants(
     alloc: Global,
-    variants: &[Variant],
-    others: &[Variant],
-) -> Result<String, Fail> {
-    let mut told = String::new(alloc);
-    for (variant, other) in variants.iter().zip(others.iter()) {
-        let same = variant.same(other);
-        let copied = is_variant_copied(variant.copy(alloc), other)?;
-        told.push_str(format!(in alloc; ", {same} {copied}")?.as_str())?;
-    }
-    Ok(told)
+    first: &Variant,
+    second: &Variant,
+) -> Result<[bool; 2], OutOfMemory> {
+    let copied = is_variant_copied(first.copy(alloc), second)?;
+    Ok([first.same(second), copied])
 }
 
-fn compared_in(alloc: Global, program: &Program) -> Result<String, Fail> {
+// Tells the same of the trees of two enums, and of their first variants.
+fn tell_parts(
+    alloc: Global,
+    told: &mut String,
+    first: &Ty,
+    second: &Ty,
+) -> Result<(), OutOfMemory> {
+    let Some((variant, tree)) = parts(first) else {
+        return Ok(());
+    };
+    let Some((other_variant, other_tree)) = parts(second) else {
+        return Ok(());
+    };
+    let trees = compared_trees(alloc, tree, other_tree)?;
+    let variants = compared_variants(alloc, variant, other_variant)?;
+    write!(told, " {trees:?} {variants:?}")
+}
+
+// The first variant of an enum, and its tree.
+fn parts(ty: &Ty) -> Option<(&Variant, &Tree)> {
+    match ty {
+        Ty::Enum { variants, tree, .. } => Some((variants.as_slice().get(0)?, tree)),
+        _ => None,
+    }
+}
+
+fn tell(alloc: Global, told: &mut String, first: &Ty, second: &Ty) -> Result<(), OutOfMemory> {
+    let types = compared(alloc, first, second)?;
+    write!(told, "{types:?}")?;
+    tell_parts(alloc, told, first, second)
+}
+
+fn tell_in(alloc: Global, told: &mut String, program: &Program) -> Result<(), OutOfMemory> {
     match (type_of(program, 1), type_of(program, 2)) {
-        (Some(first), Some(second)) => compared(alloc, first, second),
-        _ => Err("no types".into()),
+        (Some(first), Some(second)) => tell(alloc, told, first, second),
+        _ => write!(told, "no types"),
     }
 }
 
-fn told(alloc: Global, first: &str, second: &str) -> Result<String, Fail> {
-    let text = format!(in alloc; "{HEAD}x: {first}, y: {second}{TAIL}")?;
+fn tell_of(alloc: Global, told: &mut String, text: &str) -> Result<(), OutOfMemory> {
     match parse(alloc, text.as_bytes()) {
-        Ok(program) => compared_in(alloc, &program),
-        Err(_) => Err("no program".into()),
+        Ok(program) => tell_in(alloc, told, &program),
+        Err(_) => write!(told, "no program"),
     }
+}
+
+fn told(alloc: Global, first: &str, second: &str) -> Result<String, OutOfMemory> {
+    let text = program_of(alloc, &[first, second])?;
+    let mut told = String::new(alloc);
+    tell_of(alloc, &mut told, text.as_str())?;
+    Ok(told)
 }
 
 // Three pairs of an enum and a bool: with another tag, another chunk and another reference than in the first.
@@ -101,22 +125,27 @@ const LEAF: &str = "enum size 16 align 8 disc i8 { 1: bool tag { 8: u8 = 2 } } k
 
 const OTHER_LEAF: &str = "enum size 16 align 8 disc i8 { 1: bool tag { 8: u8 = 2 } } known 4";
 
-// Two types, and whether they are equal, themselves and by a copy; of enums, behind it of the trees and of the variants.
-const TYPES: [(&str, &str, &str); 9] = [
-    (DEEP, DEEP, "true true"),
-    (DEEP, OTHER_TAG, "false false"),
-    (DEEP, OTHER_CHUNK, "false false"),
-    (DEEP, OTHER_REF, "false false"),
-    (OTHER_REF, OTHER_REF, "true true"),
-    (OTHER_REF, DEEP, "false false"),
-    (SCALARS, SCALARS, "true true"),
-    (LEAF, LEAF, "true true, true true, true true"),
-    (LEAF, OTHER_LEAF, "false false, false false, true true"),
+// Two types, and whether they are equal, themselves and by a copy; of enums, the same of their trees and of their first variants.
+static TYPES: [(&str, &str, &str); 9] = [
+    (DEEP, DEEP, "[true, true]"),
+    (DEEP, OTHER_TAG, "[false, false]"),
+    (DEEP, OTHER_CHUNK, "[false, false]"),
+    (DEEP, OTHER_REF, "[false, false]"),
+    (OTHER_REF, OTHER_REF, "[true, true]"),
+    (OTHER_REF, DEEP, "[false, false]"),
+    (SCALARS, SCALARS, "[true, true]"),
+    (LEAF, LEAF, "[true, true] [true, true] [true, true]"),
+    (
+        LEAF,
+        OTHER_LEAF,
+        "[false, false] [false, false] [true, true]",
+    ),
 ];
 
 #[test]
 fn types_are_compared(rt: HostRuntime) -> Result<(), Fail> {
-    for (first, second, wanted) in TYPES {
+    for row in TYPES.iter() {
+        let (first, second, wanted) = *row;
         assert_eq!(rt;
             told(rt.alloc(), first, second)?.as_str(),
             wanted,

@@ -1,10 +1,21 @@
 //! Programs whose main function has locals of a test's types.
-use mr_ast::{Program, Ty};
+use mr_ast::{OutOfMemory, Program, Ty};
+use std::alloc::Global;
+use std::string::String;
 
-/// What stands before and behind the locals of a test, of which the first is the second of the function.
-pub const HEAD: &str = "minirust 1 fn main() -> r { let r: unit, ";
+const HEAD: &str = "minirust 1 fn main() -> r { let r: unit";
 
-pub const TAIL: &str = "; b0 regular: exit; } main main";
+const TAIL: &str = "; b0 regular: exit; } main main";
+
+/// The text of a program whose main function has a local of each of the types, behind its first, which is a unit.
+pub fn program_of(alloc: Global, types: &[&str]) -> Result<String, OutOfMemory> {
+    let mut text = String::from_str(alloc, HEAD)?;
+    for (n, ty) in types.iter().enumerate() {
+        write!(text, ", x{n}: {ty}")?;
+    }
+    text.push_str(TAIL)?;
+    Ok(text)
+}
 
 /// The type of the main function's local with this number, counted from 0.
 pub fn type_of(program: &Program, n: usize) -> Option<&Ty> {

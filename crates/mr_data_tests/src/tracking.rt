@@ -86,7 +86,7 @@ fn beside(alloc: Global, first: Access, second: Access) -> Result<(bool, bool, b
 }
 
 /// Two accesses, whether they conflict, and whether they race.
-const ACCESSES: [(Row, Row, bool, bool); 9] = [
+static ACCESSES: [(Row, Row, bool, bool); 9] = [
     ((Act::Store, 16, 4), (Act::Load, 19, 1), true, true),
     ((Act::Store, 16, 4), (Act::Load, 20, 1), false, false),
     ((Act::Store, 16, 4), (Act::Load, 12, 4), false, false),
@@ -116,7 +116,7 @@ fn first_wrong(alloc: Global) -> Result<Option<usize>, OutOfMemory> {
 
 #[test]
 fn accesses_are_kept_and_compared(rt: HostRuntime) -> Result<(), Fail> {
-    assert!(rt; are_six_kept(rt.alloc())?);
-    assert_eq!(rt; first_wrong(rt.alloc())?, None);
+    let (kept, wrong) = (are_six_kept(rt.alloc())?, first_wrong(rt.alloc())?);
+    assert_eq!(rt; (kept, wrong), (true, None));
     Ok(())
 }

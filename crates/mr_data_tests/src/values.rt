@@ -5,9 +5,9 @@ ghost use Rattle.mr_layout.specs.TypeOk.{TypeOk};
 ghost use Rattle.mr_runs.specs.Pieces.{bytes_of_pieces};
 ghost use Rattle.mr_value.specs.Shape.{has_shape};
 
-use crate::spelled::{shown, spelled};
-use crate::texts::{HEAD, TAIL, type_of};
-use mr_ast::{Program, Ty};
+use crate::spelled::{show, spelled};
+use crate::texts::{program_of, type_of};
+use mr_ast::{OutOfMemory, Program, Ty};
 use mr_base::{AbstractByte, AllocId, Pointer};
 use mr_layout::{broken_rule, size};
 use mr_parse::parse;
@@ -30,88 +30,126 @@ fn has_size(t: &Ty, len: u64) -> Option<()>
     }
 }
 
-fn pointer(alloc: Global, pointer: Pointer) -> Result<String, Fail> {
+fn tell_pointer(told: &mut String, pointer: Pointer) -> Result<(), OutOfMemory> {
     let Pointer { addr, prov } = pointer;
     match prov {
-        Some(AllocId { thread, count }) => Ok(format!(in alloc; "{addr}@{thread}.{count}")?),
-        None => Ok(format!(in alloc; "{addr}")?),
+        Some(AllocId { thread, count }) => write!(told, "{addr}@{thread}.{count}"),
+        None => write!(told, "{addr}"),
     }
 }
 
-// A value, without its parts.
-fn named(alloc: Global, value: &Val) -> Result<String, Fail> {
+fn tell_union(told: &mut String, bytes: &[AbstractByte]) -> Result<(), OutOfMemory> {
+    write!(told, "union")?;
+    show(told, bytes)
+}
+
+// Tells a value, without its parts.
+fn tell(told: &mut String, value: &Val) -> Result<(), OutOfMemory> {
     match value {
-        Val::Int(bits) => Ok(format!(in alloc; "{bits}")?),
-        Val::Bool(truth) => Ok(format!(in alloc; "{truth}")?),
-        Val::Ptr(to) => pointer(alloc, *to),
-        Val::Tuple(parts) => Ok(format!(in alloc; "tuple of {}", parts.as_slice().len())?),
-        Val::Union(bytes) => shown(alloc, bytes.as_slice()),
-        Val::Variant(number, _) => Ok(format!(in alloc; "variant {}", number.mag)?),
+        Val::Int(bits) => write!(told, "{bits}"),
+        Val::Bool(truth) => write!(told, "{truth}"),
+        Val::Ptr(to) => tell_pointer(told, *to),
+        Val::Tuple(parts) => write!(told, "tuple of {}", parts.as_slice().len()),
+        Val::Union(bytes) => tell_union(told, bytes.as_slice()),
+        Val::Variant(number, _) => write!(told, "variant {}", number.mag),
     }
 }
 
-// A value, and the bytes that it is written as.
-fn written(alloc: Global, value: &Val, t: &Ty) -> Result<String, Fail>
+// Tells a value, and the bytes that it is written as.
+fn tell_written(alloc: Global, told: &mut String, value: &Val, t: &Ty) -> Result<(), OutOfMemory>
     requires ok { TypeOk t.now }
     requires shape { has_shape t.now value.now ≡ true }
 {
+    tell(told, value)?;
+    write!(told, ":")?;
     let mut out = Vec::new(alloc);
     encode(alloc, value, t, &mut out)?;
-    let bytes = shown(alloc, out.as_slice())?;
-    let value = named(alloc, value)?;
-    Ok(format!(in alloc; "{value}: {bytes}")?)
+    show(told, out.as_slice())
 }
 
-// The value of an integer, a bool or a pointer, and nothing of other types.
-fn scalar(alloc: Global, view: &View<'_>, t: &Ty) -> Result<String, Fail>
+// Tells the value of an integer, a bool or a pointer, and nothing of other types.
+fn tell_scalar(told: &mut String, view: &View<'_>, t: &Ty) -> Result<(), OutOfMemory>
     requires ok { TypeOk t.now }
     requires sized { length (bytes_of_pieces view.now) ≡ size_of t.now }
 {
     let value = match t {
         Ty::Int(_) | Ty::Bool | Ty::Raw | Ty::FnPtr | Ty::Ref { .. } => decode_scalar(view, t),
-        _ => return Ok(String::new(alloc)),
+        _ => return Ok(()),
     };
     match value {
-        Some(value) => named(alloc, &value),
-        None => Ok(String::from_str(alloc, "none")?),
+        Some(value) => tell(told, &value),
+        None => write!(told, "none"),
     }
 }
 
-fn compound(alloc: Global, view: &View<'_>, t: &Ty) -> Result<String, Fail>
+fn tell_any(alloc: Global, told: &mut String, view: &View<'_>, t: &Ty) -> Result<(), OutOfMemory>
     requires ok { TypeOk t.now }
     requires sized { length (bytes_of_pieces view.now) ≡ size_of t.now }
 {
     match decode(alloc, view, t) {
-        Ok(Some(value)) => written(alloc, &value, t),
-        Ok(None) => Ok(String::from_str(alloc, "none")?),
-        Err(fault) => Err(fault.into()),
+        Ok(Some(value)) => tell_written(alloc, told, &value, t),
+        Ok(None) => write!(told, "none"),
+        Err(fault) => Err(fault),
     }
 }
 
-fn meaning(alloc: Global, bytes: &[AbstractByte], t: &Ty) -> Result<String, Fail> {
+fn tell_meaning(
+    alloc: Global,
+    told: &mut String,
+    view: &View<'_>,
+    t: &Ty,
+) -> Result<(), OutOfMemory> {
+    let Some(()) = has_size(t, view.len()) else {
+        return write!(told, "another size");
+    };
+    tell_scalar(told, view, t)?;
+    write!(told, "|")?;
+    tell_any(alloc, told, view, t)
+}
+
+fn tell_bytes(
+    alloc: Global,
+    told: &mut String,
+    bytes: &[AbstractByte],
+    t: &Ty,
+) -> Result<(), OutOfMemory> {
     let len = bytes.len() as u64;
     let mut runs = Runs::uninit(alloc, len)?;
     runs.write(0, bytes)?;
-    has_size(t, len).ok_or("a type of another size")?;
-    let scalar = scalar(alloc, &runs.view(0, len), t)?;
-    let value = compound(alloc, &runs.view(0, len), t)?;
-    Ok(format!(in alloc; "{scalar}|{value}")?)
+    tell_meaning(alloc, told, &runs.view(0, len), t)
 }
 
-fn meaning_in(alloc: Global, program: &Program, bytes: &str) -> Result<String, Fail> {
-    let bytes = spelled(alloc, bytes)?;
+fn tell_in(
+    alloc: Global,
+    told: &mut String,
+    program: &Program,
+    bytes: &[AbstractByte],
+) -> Result<(), OutOfMemory> {
     match type_of(program, 1) {
-        Some(t) => meaning(alloc, bytes.as_slice(), t),
-        None => Err("no type".into()),
+        Some(t) => tell_bytes(alloc, told, bytes, t),
+        None => write!(told, "no type"),
     }
 }
 
-fn told(alloc: Global, ty: &str, bytes: &str) -> Result<String, Fail> {
-    let text = format!(in alloc; "{HEAD}x: {ty}{TAIL}")?;
+fn tell_of(
+    alloc: Global,
+    told: &mut String,
+    text: &str,
+    bytes: &[AbstractByte],
+) -> Result<(), OutOfMemory> {
     match parse(alloc, text.as_bytes()) {
-        Ok(program) => meaning_in(alloc, &program, bytes),
-        Err(_) => Err("no program".into()),
+        Ok(program) => tell_in(alloc, told, &program, bytes),
+        Err(_) => write!(told, "no program"),
     }
+}
+
+// What bytes mean at a type.
+fn told(alloc: Global, ty: &str, bytes: &str) -> Result<String, OutOfMemory> {
+    let text = program_of(alloc, &[ty])?;
+    let bytes = spelled(alloc, bytes)?;
+    let mut told = String::new(alloc);
+    tell_of(alloc, &mut told, text.as_str(), bytes.as_slice())?;
+    Ok(told)
 }
 
 const PAIR: &str = "tuple size 8 align 4 { 0: u8, 4: u32 }";
@@ -126,7 +164,7 @@ const MAYBE: &str =
 const BYTE_OR_TWO: &str = "union size 4 align 2 { 0: u8, 2: u16 } chunks { 0 1, 2 2 }";
 
 // A type and bytes; the value that they mean, if it is a scalar's, and behind it any value and the bytes that it is written as.
-const VALUES: [(&str, &str, &str); 21] = [
+static VALUES: [(&str, &str, &str); 21] = [
     (
         PAIR,
         "01 07 -- 07 02 00 00 00",
@@ -141,7 +179,7 @@ const VALUES: [(&str, &str, &str); 21] = [
     (MAYBE, "01 09", "|variant 1: 01 09"),
     (MAYBE, "02 09", "|none"),
     (MAYBE, "-- 09", "|none"),
-    (BYTE_OR_TWO, "-- 01 02 03", "|-- 02 03: -- -- 02 03"),
+    (BYTE_OR_TWO, "-- 01 02 03", "|union -- 02 03: -- -- 02 03"),
     ("bool", "01", "true|true: 01"),
     ("bool", "02", "none|none"),
     ("fnptr", "00 00 00 00 00 00 00 00", "none|none"),
@@ -186,7 +224,8 @@ const VALUES: [(&str, &str, &str); 21] = [
 
 #[test]
 fn bytes_mean_values(rt: HostRuntime) -> Result<(), Fail> {
-    for (ty, bytes, wanted) in VALUES {
+    for row in VALUES.iter() {
+        let (ty, bytes, wanted) = *row;
         assert_eq!(rt;
             told(rt.alloc(), ty, bytes)?.as_str(),
             wanted,
