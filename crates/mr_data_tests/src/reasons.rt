@@ -55,28 +55,29 @@ fn ordered_identities() -> [bool; 2] {
     [first < second, second < third]
 }
 
-/// A list of pairs, and whether one stands twice in it.
-static TWICE: [([Pair; 3], bool); 5] = [
-    ([(0, 2), (0, 1), (0, 3)], false),
-    ([(0, 2), (0, 1), (0, 2)], true),
-    ([(1, 2), (0, 2), (2, 1)], false),
-    ([(1, 7), (0, 7), (1, 7)], true),
-    ([(0, u128::MAX), (1, 0), (0, u128::MAX)], true),
+/// Three pairs, and whether one stands twice among them.
+static TWICE: [(Pair, Pair, Pair, bool); 5] = [
+    ((0, 2), (0, 1), (0, 3), false),
+    ((0, 2), (0, 1), (0, 2), true),
+    ((1, 2), (0, 2), (2, 1), false),
+    ((1, 7), (0, 7), (1, 7), true),
+    ((0, u128::MAX), (1, 0), (0, u128::MAX), true),
 ];
 
-/// A list of ranges, and whether two of them meet.
-static MEETING: [([Pair; 3], bool); 4] = [
-    ([(8, 4), (0, 4), (4, 4)], false),
-    ([(8, 4), (0, 5), (4, 4)], true),
-    ([(0, 100), (200, 1), (50, 1)], true),
-    ([(5, 1), (5, 1), (9, 1)], true),
+/// Three ranges, and whether two of them meet.
+static MEETING: [(Pair, Pair, Pair, bool); 4] = [
+    ((8, 4), (0, 4), (4, 4), false),
+    ((8, 4), (0, 5), (4, 4), true),
+    ((0, 100), (200, 1), (50, 1), true),
+    ((5, 1), (5, 1), (9, 1), true),
 ];
 
 // The first row that is told otherwise.
 fn first_wrong_twice() -> Option<usize> {
-    for (n, (pairs, twice)) in TWICE.iter().enumerate() {
-        let mut list = *pairs;
-        if any_twice(&mut list) != *twice {
+    for (n, row) in TWICE.iter().enumerate() {
+        let (first, second, third, twice) = *row;
+        let mut list = [first, second, third];
+        if any_twice(&mut list) != twice {
             return Some(n);
         }
     }
@@ -94,8 +95,9 @@ fn are_meeting(ranges: [Pair; 3]) -> Option<bool> {
 }
 
 fn first_wrong_meeting() -> Option<usize> {
-    for (n, (ranges, meet)) in MEETING.iter().enumerate() {
-        if are_meeting(*ranges) != Some(*meet) {
+    for (n, row) in MEETING.iter().enumerate() {
+        let (first, second, third, meet) = *row;
+        if are_meeting([first, second, third]) != Some(meet) {
             return Some(n);
         }
     }
