@@ -21,6 +21,8 @@ mod spelled;
 #[cfg(test)]
 mod syntax;
 #[cfg(test)]
+mod tables;
+#[cfg(test)]
 mod texts;
 #[cfg(test)]
 mod tracking;
