@@ -1,89 +1,75 @@
 //! Runs of bytes and views of them.
-ghost use Rattle.std.specs.Prelude.{◌≡◌, length, IfOk};
+ghost use Rattle.std.specs.Prelude.{◌≡◌, length};
 
-use mr_base::{AbstractByte, AllocId};
-use mr_runs::{OutOfMemory, Piece, Runs, View};
+use crate::spelled::{SECOND, show};
+use crate::texts::compare;
+use mr_base::AbstractByte;
+use mr_runs::{OutOfMemory, Runs, View};
 use std::alloc::Global;
-use std::test::*;
+use std::string::String;
 
-const OWNER: AllocId = AllocId {
-    thread: 1,
-    count: 7,
-};
+const FIVE: AbstractByte = AbstractByte::Init(5, Some(SECOND));
 
-const FIVE: AbstractByte = AbstractByte::Init(5, Some(OWNER));
+const SIX: AbstractByte = AbstractByte::Init(6, Some(SECOND));
 
-const SIX: AbstractByte = AbstractByte::Init(6, Some(OWNER));
-
-// Four bytes, of which the middle two are written.
-fn four(alloc: Global) -> Result<Runs, OutOfMemory>
-    ensures { IfOk result (λ runs. length runs ≡ 4) }
+// Tells a six, four bytes and the second of them.
+fn tell_copy(alloc: Global, told: &mut String, runs: &Runs) -> Result<(), OutOfMemory>
+    requires { length runs.now ≡ 4 }
 {
-    let mut runs = Runs::uninit(alloc, 4)?;
-    let written = [FIVE, SIX];
-    runs.write(1, &written)?;
-    Ok(runs)
+    let mut bytes = vec![in alloc; SIX]?;
+    runs.copy_out(alloc, 0, 4, &mut bytes)?;
+    runs.copy_out(alloc, 1, 1, &mut bytes)?;
+    show(told, bytes.as_slice())?;
+    write!(told, "\n")
 }
 
-#[test]
-fn a_write_replaces_its_range(rt: HostRuntime) -> Result<(), Fail> {
-    let runs = four(rt.alloc())?;
-    let mut bytes = Vec::new(rt.alloc());
-    runs.copy_out(rt.alloc(), 0, 4, &mut bytes)?;
-    let want = [AbstractByte::Uninit, FIVE, SIX, AbstractByte::Uninit];
-    assert_eq!(rt; bytes.as_slice(), want.as_slice());
-    Ok(())
+// Tells the length of a view and its first three pieces.
+fn tell_view(told: &mut String, view: &View<'_>) -> Result<(), OutOfMemory> {
+    let (first, second, third) = (view.piece(0), view.piece(1), view.piece(2));
+    write!(told, "{} {first:?} {second:?} {third:?}\n", view.len())
 }
 
-// Whether views of four such bytes show the middle and the last.
-fn is_shown(runs: &Runs) -> bool
+// Tells the middle two of four bytes, and the views of them, of the last and of none.
+fn tell_views(told: &mut String, runs: &Runs) -> Result<(), OutOfMemory>
     requires { length runs.now ≡ 4 }
 {
     let middle = runs.view(1, 2);
-    middle.len() == 2
-        && middle.byte(0) == FIVE
-        && middle.byte(1) == SIX
-        && middle.piece(0) == Some(Piece::Bytes(&[5], Some(OWNER)))
-        && middle.piece(1) == Some(Piece::Bytes(&[6], Some(OWNER)))
-        && middle.piece(2) == None
-        && runs.view(3, 1).piece(0) == Some(Piece::Uninit(1))
+    show(told, &[middle.byte(0), middle.byte(1)])?;
+    write!(told, "\n")?;
+    tell_view(told, &middle)?;
+    tell_view(told, &runs.view(3, 1))?;
+    tell_view(told, &View::empty())
 }
 
-#[test]
-fn a_view_shows_the_middle(rt: HostRuntime) -> Result<(), Fail> {
-    let runs = four(rt.alloc())?;
-    assert!(rt; is_shown(&runs));
-    Ok(())
-}
-
-#[test]
-fn a_fill_makes_one_byte_uninitialised(rt: HostRuntime) -> Result<(), Fail> {
-    let mut runs = four(rt.alloc())?;
+// The middle two of four bytes are written, and the first of them is made uninitialised again.
+fn tell(alloc: Global, told: &mut String, runs: &mut Runs) -> Result<(), OutOfMemory>
+    requires { length runs.old ≡ 4 }
+{
+    runs.write(1, &[FIVE, SIX])?;
+    tell_copy(alloc, told, runs)?;
+    tell_views(told, runs)?;
     runs.fill_uninit(1, 1)?;
-    let mut bytes = Vec::new(rt.alloc());
-    runs.copy_out(rt.alloc(), 0, 4, &mut bytes)?;
-    let want = [
-        AbstractByte::Uninit,
-        AbstractByte::Uninit,
-        SIX,
-        AbstractByte::Uninit,
-    ];
-    assert_eq!(rt; bytes.as_slice(), want.as_slice());
-    Ok(())
+    tell_copy(alloc, told, runs)
 }
 
-#[test]
-fn a_copy_is_appended(rt: HostRuntime) -> Result<(), Fail> {
-    let runs = four(rt.alloc())?;
-    let mut bytes = vec![in rt.alloc(); SIX]?;
-    runs.copy_out(rt.alloc(), 1, 1, &mut bytes)?;
-    assert_eq!(rt; bytes.as_slice(), [SIX, FIVE].as_slice());
-    Ok(())
+fn tell_four(alloc: Global, told: &mut String) -> Result<(), OutOfMemory> {
+    match Runs::uninit(alloc, 4) {
+        Ok(mut runs) => tell(alloc, told, &mut runs),
+        Err(fault) => Err(fault),
+    }
 }
 
-#[test]
-fn an_empty_view_has_no_piece(rt: HostRuntime) {
-    let view = View::empty();
-    assert_eq!(rt; view.len(), 0);
-    assert_eq!(rt; view.piece(0), None);
+const WANTED: &str = " 06@1.7 -- 05@1.7 06@1.7 -- 05@1.7
+ 05@1.7 06@1.7
+2 Some(Bytes([5], Some(AllocId { thread: 1, count: 7 }))) Some(Bytes([6], Some(AllocId { thread: 1, count: 7 }))) None
+1 Some(Uninit(1)) None None
+0 None None None
+ 06@1.7 -- -- 06@1.7 -- --
+";
+
+/// Tells what is told otherwise.
+pub fn tell_wrong(alloc: Global, wrong: &mut String) -> Result<(), OutOfMemory> {
+    let mut told = String::new(alloc);
+    tell_four(alloc, &mut told)?;
+    compare(wrong, "bytes", told.as_str(), WANTED)
 }

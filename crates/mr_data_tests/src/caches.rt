@@ -1,109 +1,10 @@
 //! The layouts that a cache holds of a program.
-use mr_ast::{
-    Block, BlockKind, BlockName, Boxed, FnName, Function, IntType, Intrinsic, Items, Local,
-    LocalName, Names, Num, OutOfMemory, Place, Program, Stmt, Term, Ty, Value,
-};
-use mr_layout::{Cache, Layout, broken_rule, find_types};
+use crate::texts::{compare, program_of};
+use mr_ast::{Local, OutOfMemory, Program};
+use mr_layout::{Cache, broken_rule, find_types};
+use mr_parse::parse;
 use std::alloc::Global;
-use std::test::*;
-
-// Items that hold one.
-fn one<T: Drop>(alloc: Global, item: T) -> Result<Items<T>, OutOfMemory> {
-    let mut items = Items::new(alloc);
-    items.push(item)?;
-    Ok(items)
-}
-
-// A number of four bytes and a bool behind it.
-fn pair(alloc: Global) -> Result<Ty, OutOfMemory> {
-    let mut fields = one(alloc, (0, Ty::Int(IntType::U32)))?;
-    fields.push((4, Ty::Bool))?;
-    Ok(Ty::Tuple {
-        size: 8,
-        align: 4,
-        fields,
-    })
-}
-
-fn pairs(alloc: Global, count: u64) -> Result<Ty, OutOfMemory> {
-    let elem = Boxed::new(alloc, pair(alloc)?)?;
-    Ok(Ty::Array { count, elem })
-}
-
-// A union of one number of two bytes.
-fn union(alloc: Global) -> Result<Ty, OutOfMemory> {
-    Ok(Ty::Union {
-        size: 2,
-        align: 2,
-        fields: one(alloc, (0, Ty::Int(IntType::U16)))?,
-        chunks: one(alloc, (0, 2))?,
-    })
-}
-
-// A reference to what has no value.
-fn never() -> Ty {
-    Ty::Ref {
-        size: 0,
-        align: 1,
-        never: true,
-    }
-}
-
-// `deref raw 8: i16 = addr_of x: never`
-fn stmt(alloc: Global) -> Result<Stmt, OutOfMemory> {
-    let target = Boxed::new(alloc, Value::Raw(8))?;
-    let place = Place::Deref(target, Ty::Int(IntType::I16));
-    let value = Value::AddrOf(never(), Place::Local(LocalName(0)));
-    Ok(Stmt::Assign(place, value))
-}
-
-// `print(transmute 1: union)`
-fn term(alloc: Global) -> Result<Term, OutOfMemory> {
-    let number = Num { neg: false, mag: 1 };
-    let bytes = Boxed::new(alloc, Value::Int(IntType::I8, number))?;
-    let args = one(alloc, Value::Transmute(union(alloc)?, bytes))?;
-    Ok(Term::Do(Intrinsic::Print, args, None, BlockName(0)))
-}
-
-fn block(alloc: Global) -> Result<Block, OutOfMemory> {
-    let term = term(alloc)?;
-    let stmts = one(alloc, stmt(alloc)?)?;
-    Ok(Block {
-        name: 1,
-        kind: BlockKind::Regular,
-        stmts,
-        term,
-    })
-}
-
-// A local of three pairs.
-fn local(alloc: Global) -> Result<Local, OutOfMemory> {
-    let ty = pairs(alloc, 3)?;
-    Ok(Local { name: 0, ty })
-}
-
-fn function(alloc: Global) -> Result<Function, OutOfMemory> {
-    let locals = one(alloc, local(alloc)?)?;
-    let blocks = one(alloc, block(alloc)?)?;
-    Ok(Function {
-        name: 2,
-        args: Items::new(alloc),
-        ret: LocalName(0),
-        locals,
-        blocks,
-    })
-}
-
-fn program(alloc: Global) -> Result<Program, OutOfMemory> {
-    let functions = one(alloc, function(alloc)?)?;
-    Ok(Program {
-        edition: 1,
-        globals: Items::new(alloc),
-        functions,
-        names: Names::new(alloc),
-        start: FnName(0),
-    })
-}
+use std::string::String;
 
 // The cache of a program, and `None` where one of its types breaks a rule.
 fn cache_of(alloc: Global, p: &Program) -> Result<Option<Cache>, OutOfMemory> {
@@ -116,59 +17,104 @@ fn cache_of(alloc: Global, p: &Program) -> Result<Option<Cache>, OutOfMemory> {
     Ok(Some(Cache::new(alloc, p)?))
 }
 
-fn layout(size: u64, align: u64, inhabited: bool) -> Option<Layout> {
-    Some(Layout {
-        size,
-        align,
-        inhabited,
-    })
-}
-
-// The layout that the cache holds of a type, and `None` where it holds none.
-fn held(cache: &Cache, ty: Result<Ty, OutOfMemory>) -> Result<Option<Layout>, OutOfMemory> {
-    match ty {
-        Ok(ty) => Ok(cache.get(&ty).copied()),
-        Err(fault) => Err(fault),
+// Tells the layouts that the cache holds of the types of these locals.
+fn tell(told: &mut String, cache: &Cache, locals: &[Local]) -> Result<(), OutOfMemory> {
+    for local in locals {
+        let layout = cache.get(&local.ty).copied();
+        write!(told, "{layout:?}\n")?;
     }
-}
-
-// Whether the cache holds the types that are written, whole and as parts, and no others.
-fn is_right(alloc: Global, cache: &Cache) -> Result<bool, OutOfMemory> {
-    let whole = held(cache, pairs(alloc, 3))? == layout(24, 4, true)
-        && held(cache, union(alloc))? == layout(2, 2, true)
-        && held(cache, Ok(never()))? == layout(8, 8, false)
-        && held(cache, Ok(Ty::Int(IntType::I16)))? == layout(2, 2, true);
-    let parts = held(cache, pair(alloc))? == layout(8, 4, true)
-        && held(cache, Ok(Ty::Int(IntType::U32)))? == layout(4, 4, true)
-        && held(cache, Ok(Ty::Int(IntType::U16)))? == layout(2, 2, true);
-    let others = held(cache, pairs(alloc, 4))? == None
-        && held(cache, Ok(Ty::Int(IntType::I8)))? == None;
-    Ok(whole && parts && others)
-}
-
-fn is_cache_right(
-    alloc: Global,
-    cache: Result<Option<Cache>, OutOfMemory>,
-) -> Result<bool, OutOfMemory> {
-    match cache {
-        Ok(Some(cache)) => is_right(alloc, &cache),
-        Ok(None) => Ok(false),
-        Err(fault) => Err(fault),
-    }
-}
-
-fn is_program_right(
-    alloc: Global,
-    program: Result<Program, OutOfMemory>,
-) -> Result<bool, OutOfMemory> {
-    match program {
-        Ok(program) => is_cache_right(alloc, cache_of(alloc, &program)),
-        Err(fault) => Err(fault),
-    }
-}
-
-#[test]
-fn written_types_and_their_parts_are_held(rt: HostRuntime) -> Result<(), Fail> {
-    assert!(rt; is_program_right(rt.alloc(), program(rt.alloc()))?);
     Ok(())
+}
+
+fn tell_in(told: &mut String, cache: &Cache, asked: &Program) -> Result<(), OutOfMemory> {
+    match asked.functions.as_slice().get(0) {
+        Some(function) => tell(told, cache, function.locals.as_slice()),
+        None => write!(told, "no function"),
+    }
+}
+
+fn tell_of(
+    alloc: Global,
+    told: &mut String,
+    cache: &Cache,
+    types: &str,
+) -> Result<(), OutOfMemory> {
+    match parse(alloc, types.as_bytes()) {
+        Ok(asked) => tell_in(told, cache, &asked),
+        Err(_) => write!(told, "no program of the types"),
+    }
+}
+
+fn tell_cached(
+    alloc: Global,
+    told: &mut String,
+    program: &Program,
+    types: &str,
+) -> Result<(), OutOfMemory> {
+    match cache_of(alloc, program) {
+        Ok(Some(cache)) => tell_of(alloc, told, &cache, types),
+        Ok(None) => write!(told, "a broken rule"),
+        Err(fault) => Err(fault),
+    }
+}
+
+fn tell_program(
+    alloc: Global,
+    told: &mut String,
+    program: &str,
+    types: &str,
+) -> Result<(), OutOfMemory> {
+    match parse(alloc, program.as_bytes()) {
+        Ok(program) => tell_cached(alloc, told, &program, types),
+        Err(_) => write!(told, "no program"),
+    }
+}
+
+fn told(alloc: Global, program: &str, types: &[&str]) -> Result<String, OutOfMemory> {
+    let types = program_of(alloc, types)?;
+    let mut told = String::new(alloc);
+    tell_program(alloc, &mut told, program, types.as_str())?;
+    Ok(told)
+}
+
+// Types stand in a local, behind a `deref`, at an address, and in a `transmute`.
+const PROGRAM: &str = "
+minirust 1
+fn main() -> x {
+let x: array(3, tuple size 8 align 4 { 0: u32, 4: bool });
+b0 regular: deref(raw 8, i16) = addrof(ref 0 1 never, x);
+do print(transmute(union size 2 align 2 { 0: u16 } chunks { 0 2 }, i8 1)) to b0;
+}
+main main
+";
+
+// The types that are asked for behind `unit`: those that stand there, their parts, and others.
+const ASKED: [&str; 9] = [
+    "array(3, tuple size 8 align 4 { 0: u32, 4: bool })",
+    "union size 2 align 2 { 0: u16 } chunks { 0 2 }",
+    "ref 0 1 never",
+    "i16",
+    "tuple size 8 align 4 { 0: u32, 4: bool }",
+    "u32",
+    "u16",
+    "array(4, tuple size 8 align 4 { 0: u32, 4: bool })",
+    "i8",
+];
+
+const HELD: &str = "None
+Some(Layout { size: 24, align: 4, inhabited: true })
+Some(Layout { size: 2, align: 2, inhabited: true })
+Some(Layout { size: 8, align: 8, inhabited: false })
+Some(Layout { size: 2, align: 2, inhabited: true })
+Some(Layout { size: 8, align: 4, inhabited: true })
+Some(Layout { size: 4, align: 4, inhabited: true })
+Some(Layout { size: 2, align: 2, inhabited: true })
+None
+None
+";
+
+/// Tells what is told otherwise.
+pub fn tell_wrong(alloc: Global, wrong: &mut String) -> Result<(), OutOfMemory> {
+    let told = told(alloc, PROGRAM, &ASKED)?;
+    compare(wrong, "cache", told.as_str(), HELD)
 }

@@ -1,285 +1,212 @@
 //! Sizes, alignments, used bytes and broken rules of types.
-use mr_ast::{Boxed, IntType, Items, Num, Tag, Tree, Ty, Variant};
+use crate::syntax::tell_equality;
+use crate::texts::{compare, program_of, type_of};
+use mr_ast::{OutOfMemory, Program, Ty};
 use mr_layout::{align, broken_rule, first_broken_rule, inhabited, int_bytes, size, type_ok, used};
-use std::alloc::{AllocError, Global};
-use std::test::*;
+use mr_parse::parse;
+use std::alloc::Global;
+use std::string::String;
 
-// The enum without variants.
-fn never(alloc: Global) -> Ty {
-    Ty::Enum {
-        size: 0,
-        align: 1,
-        disc: IntType::U8,
-        variants: Items::new(alloc),
-        tree: Tree::Invalid,
-    }
-}
-
-fn array(alloc: Global, count: u64, elem: Ty) -> Result<Ty, AllocError> {
-    Ok(Ty::Array {
-        count,
-        elem: Boxed::new(alloc, elem)?,
-    })
-}
-
-// Two numbers of two bytes.
-fn two_fields(alloc: Global, first: u64, second: u64) -> Result<Items<(u64, Ty)>, AllocError> {
-    let mut fields = Items::new(alloc);
-    fields.push((first, Ty::Int(IntType::U16)))?;
-    fields.push((second, Ty::Int(IntType::U16)))?;
-    Ok(fields)
-}
-
-fn pair(alloc: Global, size: u64, first: u64, second: u64) -> Result<Ty, AllocError> {
-    let fields = two_fields(alloc, first, second)?;
-    Ok(Ty::Tuple {
-        size,
-        align: 2,
-        fields,
-    })
-}
-
-fn union(alloc: Global, chunks: &[(u64, u64)]) -> Result<Ty, AllocError> {
-    let fields = two_fields(alloc, 0, 2)?;
-    Ok(Ty::Union {
-        size: 4,
-        align: 2,
-        fields,
-        chunks: Items::from_slice(alloc, chunks)?,
-    })
-}
-
-fn number(mag: u128) -> Num {
-    Num { neg: false, mag }
-}
-
-// A byte behind the offset of the tag.
-fn variant(alloc: Global, size: u64, tag: u64) -> Result<Variant, AllocError> {
-    let mut fields = Items::new(alloc);
-    fields.push((1, Ty::Bool))?;
-    let mut tags = Items::new(alloc);
-    tags.push(Tag {
-        at: tag,
-        int: IntType::U8,
-        number: number(7),
-    })?;
-    Ok(Variant {
-        number: number(0),
-        ty: Ty::Tuple {
-            size,
-            align: 1,
-            fields,
-        },
-        tags,
-    })
-}
-
-fn branch(alloc: Global, leaf: u128) -> Result<Tree, AllocError> {
-    let mut cases = Items::new(alloc);
-    cases.push((number(7), Tree::Known(number(leaf))))?;
-    let rest = Boxed::new(alloc, Tree::Invalid)?;
-    Ok(Tree::Branch(0, IntType::U8, cases, rest))
-}
-
-fn choice(alloc: Global, size: u64, tag: u64, leaf: u128) -> Result<Ty, AllocError> {
-    let mut variants = Items::new(alloc);
-    variants.push(variant(alloc, size, tag)?)?;
-    let tree = branch(alloc, leaf)?;
-    Ok(Ty::Enum {
-        size: 2,
-        align: 1,
-        disc: IntType::U8,
-        variants,
-        tree,
-    })
-}
-
-fn reference(size: u64, align: u64) -> Ty {
-    Ty::Ref {
-        size,
-        align,
-        never: false,
-    }
-}
-
-#[test]
-fn integers(rt: HostRuntime) {
-    let ints = [
-        (IntType::U8, 1),
-        (IntType::U16, 2),
-        (IntType::U32, 4),
-        (IntType::U64, 8),
-        (IntType::U128, 16),
-        (IntType::I8, 1),
-        (IntType::I16, 2),
-        (IntType::I32, 4),
-        (IntType::I64, 8),
-        (IntType::I128, 16),
-    ];
-    for (int, bytes) in ints {
-        assert_eq!(rt; int_bytes(int), bytes);
-        assert_eq!(rt; size(&Ty::Int(int)), Some(bytes));
-        assert_eq!(rt; align(&Ty::Int(int)), bytes);
-    }
-}
-
-// What is told of a type: its size, its alignment, and whether it has a value.
-fn layout(ty: Result<Ty, AllocError>) -> Result<(Option<u64>, u64, bool), AllocError> {
-    match ty {
-        Ok(ty) => Ok((size(&ty), align(&ty), inhabited(&ty))),
-        Err(fault) => Err(fault),
-    }
-}
-
-fn unit(alloc: Global) -> Ty {
-    Ty::Tuple {
-        size: 0,
-        align: 1,
-        fields: Items::new(alloc),
-    }
-}
-
-#[test]
-fn sizes_and_alignments(rt: HostRuntime) -> Result<(), Fail> {
-    let alloc = rt.alloc();
-    assert_eq!(rt; layout(Ok(unit(alloc)))?, (Some(0), 1, true));
-    assert_eq!(rt;
-        layout(array(alloc, 3, Ty::Int(IntType::U16)))?,
-        (Some(6), 2, true)
-    );
-    let largest = 0x7fff_ffff_ffff_ffff;
-    assert_eq!(rt;
-        layout(array(alloc, largest, Ty::Bool))?,
-        (Some(largest), 1, true)
-    );
-    assert_eq!(rt;
-        layout(array(alloc, largest + 1, Ty::Bool))?,
-        (None, 1, true)
-    );
-    assert_eq!(rt; layout(Ok(never(alloc)))?, (Some(0), 1, false));
-    assert_eq!(rt; layout(array(alloc, 0, never(alloc)))?, (Some(0), 1, true));
-    assert_eq!(rt; layout(array(alloc, 1, never(alloc)))?, (Some(0), 1, false));
-    Ok(())
-}
-
-// The broken rule of a type, by each of the calls that tell it, which have one answer.
-fn rule(alloc: Global, ty: Result<Ty, AllocError>) -> Result<Option<u8>, AllocError> {
-    match ty {
-        Ok(ty) => told(alloc, &ty),
-        Err(fault) => Err(fault),
-    }
-}
-
-// 0 is no rule: the calls differ.
-fn told(alloc: Global, ty: &Ty) -> Result<Option<u8>, AllocError> {
-    let rule = broken_rule(ty);
-    if first_broken_rule(alloc, ty) != rule || type_ok(alloc, ty)? != rule {
-        return Ok(Some(0));
-    }
-    Ok(rule)
-}
-
-#[test]
-fn scalars_and_references(rt: HostRuntime) -> Result<(), Fail> {
-    let alloc = rt.alloc();
-    for int in [IntType::U8, IntType::I128] {
-        assert_eq!(rt; rule(alloc, Ok(Ty::Int(int)))?, None);
-    }
-    assert_eq!(rt; rule(alloc, Ok(Ty::Bool))?, None);
-    assert_eq!(rt; rule(alloc, Ok(Ty::Raw))?, None);
-    assert_eq!(rt; rule(alloc, Ok(Ty::FnPtr))?, None);
-    for (size, align, want) in [
-        (0x7fff_ffff_ffff_ffff, 4096, None),
-        (3, 2, None),
-        (0x8000_0000_0000_0000, 1, Some(20)),
-        (8, 0, Some(21)),
-        (8, 3, Some(21)),
-        (8, 8192, Some(21)),
-    ] {
-        assert_eq!(rt;
-            rule(alloc, Ok(reference(size, align)))?,
-            want,
-            "{size} {align}"
-        );
-    }
-    Ok(())
-}
-
-#[test]
-fn arrays_and_tuples(rt: HostRuntime) -> Result<(), Fail> {
-    let alloc = rt.alloc();
-    assert_eq!(rt; rule(alloc, array(alloc, 0x10_0000, Ty::Bool))?, None);
-    assert_eq!(rt; rule(alloc, array(alloc, 0x10_0001, Ty::Bool))?, Some(20));
-    assert_eq!(rt;
-        rule(alloc, array(alloc, 0x10_0001, reference(8, 3)))?,
-        Some(21)
-    );
-    for (size, second, want) in [
-        (4, 2, None),
-        (4, 3, Some(22)),
-        (4, 1, Some(23)),
-        (5, 2, Some(24)),
-    ] {
-        assert_eq!(rt;
-            rule(alloc, pair(alloc, size, 0, second))?,
-            want,
-            "{size} {second}"
-        );
-        assert_eq!(rt;
-            rule(alloc, pair(alloc, size, second, 0))?,
-            want,
-            "{size} {second}"
-        );
-    }
-    Ok(())
-}
-
-#[test]
-fn enums_and_unions(rt: HostRuntime) -> Result<(), Fail> {
-    let alloc = rt.alloc();
-    for (size, tag, leaf, want) in [
-        (2, 0, 0, None),
-        (3, 0, 0, Some(25)),
-        (2, 1, 0, Some(26)),
-        (2, 0, 1, Some(27)),
-    ] {
-        assert_eq!(rt;
-            rule(alloc, choice(alloc, size, tag, leaf))?,
-            want,
-            "{size} {tag} {leaf}"
-        );
-    }
-    assert_eq!(rt; rule(alloc, union(alloc, &[(0, 2), (2, 2)]))?, None);
-    assert_eq!(rt; rule(alloc, union(alloc, &[(0, 4), (1, 0)]))?, None);
-    assert_eq!(rt; rule(alloc, union(alloc, &[(0, 5)]))?, Some(22));
-    assert_eq!(rt;
-        rule(alloc, union(alloc, &[(0, 3), (1, 0), (2, 2)]))?,
-        Some(28)
-    );
-    assert_eq!(rt; rule(alloc, union(alloc, &[(2, 2), (0, 2)]))?, Some(28));
-    assert_eq!(rt; rule(alloc, union(alloc, &[(0, 3)]))?, Some(28));
-    Ok(())
-}
-
-// Which of the first seven bytes carry a part of a value.
-fn used_bytes(ty: Result<Ty, AllocError>) -> Result<[bool; 7], AllocError> {
-    match ty {
-        Ok(ty) => Ok(first_bytes(&ty)),
-        Err(fault) => Err(fault),
-    }
-}
-
-fn first_bytes(ty: &Ty) -> [bool; 7] {
-    let mut bytes = [false; 7];
+// Tells which of the first seven bytes carry a part of a value, by a mark or a dot for each.
+fn tell_bytes(told: &mut String, ty: &Ty) -> Result<(), OutOfMemory> {
     for at in 0..7 {
-        bytes[at] = used(ty, at as u64);
+        told.push(if used(ty, at) { '#' } else { '.' })?;
     }
-    bytes
+    Ok(())
 }
 
-#[test]
-fn padding(rt: HostRuntime) -> Result<(), Fail> {
-    let want = [true, true, false, false, true, true, false];
-    assert_eq!(rt; used_bytes(pair(rt.alloc(), 6, 0, 4))?, want);
+// Whether the calls that tell the broken rule of a type have one answer, and those that tell the size of an integer.
+fn are_agreed(alloc: Global, ty: &Ty) -> bool {
+    let rule = broken_rule(ty);
+    let sized = match ty {
+        Ty::Int(int) => size(ty) == Some(int_bytes(*int)),
+        _ => true,
+    };
+    sized && first_broken_rule(alloc, ty) == rule && type_ok(alloc, ty) == Ok(rule)
+}
+
+// Tells of a type its size, its alignment, whether it has a value, its broken rule and its used bytes.
+fn tell(alloc: Global, told: &mut String, ty: &Ty) -> Result<(), OutOfMemory> {
+    if !are_agreed(alloc, ty) {
+        return write!(told, "the calls differ");
+    }
+    let (size, align, inhabited, rule) = (size(ty), align(ty), inhabited(ty), broken_rule(ty));
+    write!(told, "{size:?} {align} {inhabited} {rule:?} ")?;
+    tell_bytes(told, ty)
+}
+
+// Describes one type, and compares two.
+fn tell_in(alloc: Global, told: &mut String, program: &Program) -> Result<(), OutOfMemory> {
+    match (type_of(program, 1), type_of(program, 2)) {
+        (Some(ty), None) => tell(alloc, told, ty),
+        (Some(first), Some(second)) => tell_equality(alloc, told, first, second),
+        _ => write!(told, "no types"),
+    }
+}
+
+fn tell_of(alloc: Global, told: &mut String, text: &str) -> Result<(), OutOfMemory> {
+    match parse(alloc, text.as_bytes()) {
+        Ok(program) => tell_in(alloc, told, &program),
+        Err(_) => write!(told, "no program"),
+    }
+}
+
+/// What is told of one type or of two.
+pub fn told(alloc: Global, types: &[&str]) -> Result<String, OutOfMemory> {
+    let text = program_of(alloc, types)?;
+    let mut told = String::new(alloc);
+    tell_of(alloc, &mut told, text.as_str())?;
+    Ok(told)
+}
+
+// A type, and what is told of it.
+static TYPES: [(&str, &str); 48] = [
+    ("u8", "Some(1) 1 true None #......"),
+    ("u16", "Some(2) 2 true None ##....."),
+    ("u32", "Some(4) 4 true None ####..."),
+    ("u64", "Some(8) 8 true None #######"),
+    ("u128", "Some(16) 16 true None #######"),
+    ("i8", "Some(1) 1 true None #......"),
+    ("i16", "Some(2) 2 true None ##....."),
+    ("i32", "Some(4) 4 true None ####..."),
+    ("i64", "Some(8) 8 true None #######"),
+    ("i128", "Some(16) 16 true None #######"),
+    ("bool", "Some(1) 1 true None #......"),
+    ("raw", "Some(8) 8 true None #######"),
+    ("fnptr", "Some(8) 8 true None #######"),
+    ("unit", "Some(0) 1 true None ......."),
+    // References, whose size and alignment are those of what they refer to.
+    (
+        "ref 9223372036854775807 4096",
+        "Some(8) 8 true None #######",
+    ),
+    ("ref 3 2", "Some(8) 8 true None #######"),
+    (
+        "ref 9223372036854775808 1",
+        "Some(8) 8 true Some(20) #######",
+    ),
+    ("ref 8 0", "Some(8) 8 true Some(21) #######"),
+    ("ref 8 3", "Some(8) 8 true Some(21) #######"),
+    ("ref 8 8192", "Some(8) 8 true Some(21) #######"),
+    // Arrays, at the ends of their counts.
+    ("array(3, u16)", "Some(6) 2 true None ######."),
+    ("array(1048576, bool)", "Some(1048576) 1 true None #######"),
+    (
+        "array(1048577, bool)",
+        "Some(1048577) 1 true Some(20) #######",
+    ),
+    (
+        "array(1048577, ref 8 3)",
+        "Some(8388616) 8 true Some(21) #######",
+    ),
+    (
+        "array(9223372036854775807, bool)",
+        "Some(9223372036854775807) 1 true Some(20) #######",
+    ),
+    (
+        "array(9223372036854775808, bool)",
+        "None 1 true Some(20) #######",
+    ),
+    // The enum without variants.
+    (
+        "enum size 0 align 1 disc u8 { } invalid",
+        "Some(0) 1 false None .......",
+    ),
+    (
+        "array(0, enum size 0 align 1 disc u8 { } invalid)",
+        "Some(0) 1 true None .......",
+    ),
+    (
+        "array(1, enum size 0 align 1 disc u8 { } invalid)",
+        "Some(0) 1 false None .......",
+    ),
+    // Two numbers, in both orders.
+    (
+        "tuple size 6 align 2 { 0: u16, 4: u16 }",
+        "Some(6) 2 true None ##..##.",
+    ),
+    (
+        "tuple size 4 align 2 { 0: u16, 2: u16 }",
+        "Some(4) 2 true None ####...",
+    ),
+    (
+        "tuple size 4 align 2 { 2: u16, 0: u16 }",
+        "Some(4) 2 true None ####...",
+    ),
+    (
+        "tuple size 4 align 2 { 0: u16, 3: u16 }",
+        "Some(4) 2 true Some(22) ##.##..",
+    ),
+    (
+        "tuple size 4 align 2 { 3: u16, 0: u16 }",
+        "Some(4) 2 true Some(22) ##.##..",
+    ),
+    (
+        "tuple size 4 align 2 { 0: u16, 1: u16 }",
+        "Some(4) 2 true Some(23) ###....",
+    ),
+    (
+        "tuple size 4 align 2 { 1: u16, 0: u16 }",
+        "Some(4) 2 true Some(23) ###....",
+    ),
+    (
+        "tuple size 5 align 2 { 0: u16, 2: u16 }",
+        "Some(5) 2 true Some(24) ####...",
+    ),
+    (
+        "tuple size 5 align 2 { 2: u16, 0: u16 }",
+        "Some(5) 2 true Some(24) ####...",
+    ),
+    // A byte behind the offset of the tag.
+    (
+        "enum size 2 align 1 disc u8 { 0: tuple size 2 align 1 { 1: bool } tag { 0: u8 = 7 } } branch 0 u8 { 7 => known 0, _ => invalid }",
+        "Some(2) 1 true None ##.....",
+    ),
+    (
+        "enum size 2 align 1 disc u8 { 0: tuple size 3 align 1 { 1: bool } tag { 0: u8 = 7 } } branch 0 u8 { 7 => known 0, _ => invalid }",
+        "Some(2) 1 true Some(25) ##.....",
+    ),
+    (
+        "enum size 2 align 1 disc u8 { 0: tuple size 2 align 1 { 1: bool } tag { 1: u8 = 7 } } branch 0 u8 { 7 => known 0, _ => invalid }",
+        "Some(2) 1 true Some(26) .#.....",
+    ),
+    (
+        "enum size 2 align 1 disc u8 { 0: tuple size 2 align 1 { 1: bool } tag { 0: u8 = 7 } } branch 0 u8 { 7 => known 1, _ => invalid }",
+        "Some(2) 1 true Some(27) ##.....",
+    ),
+    // Two numbers that stand in some chunks.
+    (
+        "union size 4 align 2 { 0: u16, 2: u16 } chunks { 0 2, 2 2 }",
+        "Some(4) 2 true None ####...",
+    ),
+    (
+        "union size 4 align 2 { 0: u16, 2: u16 } chunks { 0 4, 1 0 }",
+        "Some(4) 2 true None ####...",
+    ),
+    (
+        "union size 4 align 2 { 0: u16, 2: u16 } chunks { 0 5 }",
+        "Some(4) 2 true Some(22) #####..",
+    ),
+    (
+        "union size 4 align 2 { 0: u16, 2: u16 } chunks { 0 3, 1 0, 2 2 }",
+        "Some(4) 2 true Some(28) ####...",
+    ),
+    (
+        "union size 4 align 2 { 0: u16, 2: u16 } chunks { 2 2, 0 2 }",
+        "Some(4) 2 true Some(28) ####...",
+    ),
+    (
+        "union size 4 align 2 { 0: u16, 2: u16 } chunks { 0 3 }",
+        "Some(4) 2 true Some(28) ###....",
+    ),
+];
+
+/// Tells the rows that are told otherwise.
+pub fn tell_wrong(alloc: Global, wrong: &mut String) -> Result<(), OutOfMemory> {
+    for row in TYPES.iter() {
+        let (ty, wanted) = *row;
+        let told = told(alloc, &[ty])?;
+        compare(wrong, ty, told.as_str(), wanted)?;
+    }
     Ok(())
 }

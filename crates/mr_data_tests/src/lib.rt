@@ -11,11 +11,19 @@ mod layouts;
 #[cfg(test)]
 mod memory;
 #[cfg(test)]
+mod names;
+#[cfg(test)]
 mod operators;
 #[cfg(test)]
 mod reasons;
 #[cfg(test)]
+mod spelled;
+#[cfg(test)]
 mod syntax;
+#[cfg(test)]
+mod tables;
+#[cfg(test)]
+mod texts;
 #[cfg(test)]
 mod tracking;
 #[cfg(test)]

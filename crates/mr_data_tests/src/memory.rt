@@ -1,108 +1,38 @@
 //! Memory: which ranges may be taken, what is freed, what leaks, and what is stored and lent.
 ghost use Rattle.mr_mem.specs.Memory.{IsAsked};
 
-use mr_base::{AbstractByte, AllocId, Kind, Pointer, Reason};
-use mr_mem::{Fault, Memory, PickFault};
+use crate::spelled::{FIRST, SECOND, show};
+use crate::texts::compare;
+use mr_base::{AbstractByte, AllocId, Kind, Pointer};
+use mr_mem::Memory;
+use mr_runs::{OutOfMemory, View};
 use std::alloc::Global;
-use std::test::*;
-
-const FIRST: AllocId = AllocId {
-    thread: 0,
-    count: 0,
-};
-
-const TO_FIRST: Pointer = Pointer {
-    addr: 16,
-    prov: Some(FIRST),
-};
+use std::string::String;
 
 // A memory with four bytes at 16.
-fn with_four(alloc: Global, kind: Kind) -> Result<Memory, Fail>
+fn with_four(alloc: Global, kind: Kind) -> Result<Option<Memory>, OutOfMemory>
     requires { IsAsked kind 4 4 }
 {
     let mut memory = Memory::new(alloc);
-    memory
-        .lawful(16, 4, 4)
-        .ok()
-        .ok_or("the memory has no range")?;
-    memory.allocate(FIRST, kind, 4, 4, 16)?;
-    Ok(memory)
-}
-
-#[test]
-fn picks(rt: HostRuntime) -> Result<(), Fail> {
-    let memory = with_four(rt.alloc(), Kind::Heap)?;
-    let last = u64::MAX - 3;
-    let answers: [(u64, u64, u64, Result<(), PickFault>); 10] = [
-        (0, 4, 4, Err(PickFault::BadAddress)),
-        (22, 4, 4, Err(PickFault::BadAddress)),
-        (32, 4, 0, Err(PickFault::BadAddress)),
-        (last, 5, 4, Err(PickFault::BadAddress)),
-        (last, 4, 4, Ok(())),
-        (16, 4, 4, Err(PickFault::Reused(FIRST))),
-        (8, 9, 8, Err(PickFault::Reused(FIRST))),
-        (8, 8, 8, Ok(())),
-        (20, 4, 4, Ok(())),
-        (18, 0, 1, Ok(())),
-    ];
-    for (addr, size, align, answer) in answers {
-        assert!(rt;
-            memory.lawful(addr, size, align) == answer,
-            "at {addr}, {size}, {align}"
-        );
+    match memory.lawful(16, 4, 4) {
+        Ok(()) => {
+            memory.allocate(FIRST, kind, 4, 4, 16)?;
+            Ok(Some(memory))
+        }
+        Err(_) => Ok(None),
     }
-    Ok(())
 }
 
-#[test]
-fn frees(rt: HostRuntime) -> Result<(), Fail> {
-    let mut memory = with_four(rt.alloc(), Kind::Heap)?;
-    let nowhere = Pointer {
-        addr: 16,
-        prov: None,
-    };
-    let inside = Pointer {
-        addr: 18,
-        prov: Some(FIRST),
-    };
-    let of_another = Pointer {
-        addr: 16,
-        prov: Some(AllocId {
-            thread: 1,
-            count: 0,
-        }),
-    };
-    let answers: [(Pointer, Kind, u64, u64, Result<AllocId, Reason>); 8] = [
-        (nowhere, Kind::Heap, 4, 4, Err(Reason::NoProvenance)),
-        (of_another, Kind::Heap, 4, 4, Err(Reason::NoProvenance)),
-        (inside, Kind::Heap, 4, 4, Err(Reason::FreeAddress)),
-        (TO_FIRST, Kind::Stack, 4, 4, Err(Reason::FreeKind)),
-        (TO_FIRST, Kind::Heap, 3, 4, Err(Reason::FreeSize)),
-        (TO_FIRST, Kind::Heap, 4, 8, Err(Reason::FreeAlign)),
-        (TO_FIRST, Kind::Heap, 4, 4, Ok(FIRST)),
-        (TO_FIRST, Kind::Heap, 4, 4, Err(Reason::DeadAllocation)),
-    ];
-    for (p, kind, size, align, answer) in answers {
-        assert!(rt;
-            memory.deallocate(p, kind, size, align) == answer,
-            "for {answer:?}"
-        );
-    }
-    assert!(rt; memory.lawful(16, 4, 4) == Err(PickFault::Reused(FIRST)));
-    Ok(())
-}
-
-#[test]
-fn leaks(rt: HostRuntime) -> Result<(), Fail> {
-    let mut heap = with_four(rt.alloc(), Kind::Heap)?;
-    assert!(rt; heap.leaks());
-    assert!(rt; heap.deallocate(TO_FIRST, Kind::Heap, 4, 4) == Ok(FIRST));
-    assert!(rt; !heap.leaks());
-    let stack = with_four(rt.alloc(), Kind::Stack)?;
-    assert!(rt; !stack.leaks());
-    let fixed = with_four(rt.alloc(), Kind::Static)?;
-    assert!(rt; !fixed.leaks());
-    Ok(())
+/// A call, with its numbers in their order. A pointer is its address and its provenance.
+#[derive(Clone, Copy)]
+enum Call {
+    Lawful(u64, u64, u64),
+    Leaks,
+    Check(u64, Option<AllocId>, u64),
+    Load(u64, u64, u64),
+    Store(u64, [u8; 2], u64),
+    Deinit(u64, u64, u64),
+    Free(u64, Option<AllocId>, Kind, u64, u64),
 }
 
 fn at(addr: u64) -> Pointer {
@@ -112,77 +42,258 @@ fn at(addr: u64) -> Pointer {
     }
 }
 
-// The numbers of four bytes from 16 on, 0 for an uninitialised one.
-fn numbers(memory: &Memory) -> Result<[u8; 4], Reason> {
-    let view = memory.load(TO_FIRST, 4, 4)?;
-    let mut numbers = [0; 4];
-    for k in 0..4 {
-        if k < view.len() {
-            if let AbstractByte::Init(number, _) = view.byte(k) {
-                numbers[k as usize] = number;
-            }
-        }
+// Tells the bytes of a view, or that it has no piece.
+fn tell_view(told: &mut String, view: &View<'_>) -> Result<(), OutOfMemory> {
+    if view.len() == 0 && view.piece(0).is_none() {
+        return write!(told, "empty");
     }
-    Ok(numbers)
-}
-
-#[test]
-fn bytes_are_stored_and_lent(rt: HostRuntime) -> Result<(), Fail> {
-    let mut memory = with_four(rt.alloc(), Kind::Heap)?;
-    assert!(rt; numbers(&memory) == Ok([0, 0, 0, 0]));
-    let bytes = [AbstractByte::Init(7, None), AbstractByte::Init(8, None)];
-    assert!(rt; memory.store(at(17), &bytes, 1) == Ok(()));
-    assert!(rt; numbers(&memory) == Ok([0, 7, 8, 0]));
-    assert!(rt; memory.deinit(at(18), 2, 2) == Ok(()));
-    assert!(rt; numbers(&memory) == Ok([0, 7, 0, 0]));
-    assert!(rt; memory.deallocate(TO_FIRST, Kind::Heap, 4, 4) == Ok(FIRST));
-    assert!(rt; numbers(&memory) == Err(Reason::DeadAllocation));
-    Ok(())
-}
-
-#[test]
-fn ranges_are_checked(rt: HostRuntime) -> Result<(), Fail> {
-    let memory = with_four(rt.alloc(), Kind::Stack)?;
-    let nowhere = Pointer {
-        addr: 16,
-        prov: None,
-    };
-    let answers: [(Pointer, u64, Result<Option<AllocId>, Reason>); 6] = [
-        (TO_FIRST, 4, Ok(Some(FIRST))),
-        (at(20), 0, Ok(None)),
-        (nowhere, 0, Ok(None)),
-        (nowhere, 1, Err(Reason::NoProvenance)),
-        (at(15), 2, Err(Reason::OutOfBounds)),
-        (at(17), 4, Err(Reason::OutOfBounds)),
-    ];
-    for (p, len, answer) in answers {
-        assert!(rt; memory.check(p, len) == answer, "for {answer:?}");
+    for k in 0..view.len() {
+        show(told, &[view.byte(k)])?;
     }
     Ok(())
 }
 
-#[test]
-fn refused_stores_change_nothing(rt: HostRuntime) -> Result<(), Fail> {
-    let mut memory = with_four(rt.alloc(), Kind::Stack)?;
-    let bytes = [AbstractByte::Init(7, None); 2];
-    let misaligned = Err(Fault::Undefined(Reason::Misaligned));
-    assert!(rt; memory.store(at(17), &bytes, 2) == misaligned);
-    assert!(rt; memory.deinit(at(16), 4, 0) == misaligned);
-    assert!(rt; memory.store(at(19), &bytes, 1) == Err(Fault::Undefined(Reason::OutOfBounds)));
-    assert!(rt; numbers(&memory) == Ok([0, 0, 0, 0]));
-    assert!(rt; memory.load(at(18), 2, 4).is_err());
+fn tell_load(
+    told: &mut String,
+    memory: &Memory,
+    addr: u64,
+    len: u64,
+    align: u64,
+) -> Result<(), OutOfMemory> {
+    match memory.load(at(addr), len, align) {
+        Ok(view) => tell_view(told, &view),
+        Err(reason) => write!(told, "{reason:?}"),
+    }
+}
+
+// Tells what a call answers that changes nothing.
+fn tell_seen(told: &mut String, memory: &Memory, call: Call) -> Result<(), OutOfMemory> {
+    match call {
+        Call::Lawful(addr, size, align) => write!(told, "{:?}", memory.lawful(addr, size, align)),
+        Call::Leaks => write!(told, "{}", memory.leaks()),
+        Call::Check(addr, prov, len) => write!(
+            told,
+            "{:?}",
+            memory.check(Pointer { addr, prov }, len)
+        ),
+        Call::Load(addr, len, align) => tell_load(told, memory, addr, len, align),
+        _ => write!(told, "another call"),
+    }
+}
+
+// Tells what a call answers.
+fn tell(told: &mut String, memory: &mut Memory, call: Call) -> Result<(), OutOfMemory> {
+    match call {
+        Call::Store(addr, numbers, align) => {
+            let bytes = [
+                AbstractByte::Init(numbers[0], None),
+                AbstractByte::Init(numbers[1], None),
+            ];
+            write!(told, "{:?}", memory.store(at(addr), &bytes, align))
+        }
+        Call::Deinit(addr, len, align) => write!(told, "{:?}", memory.deinit(at(addr), len, align)),
+        Call::Free(addr, prov, kind, size, align) => write!(
+            told,
+            "{:?}",
+            memory.deallocate(Pointer { addr, prov }, kind, size, align)
+        ),
+        _ => tell_seen(told, memory, call),
+    }
+}
+
+// Tells what each of the calls answers.
+fn tell_all(told: &mut String, memory: &mut Memory, calls: &[Call]) -> Result<(), OutOfMemory> {
+    for call in calls {
+        tell(told, memory, *call)?;
+        write!(told, "\n")?;
+    }
     Ok(())
 }
 
-#[test]
-fn no_bytes_have_no_piece(rt: HostRuntime) -> Result<(), Fail> {
-    let memory = with_four(rt.alloc(), Kind::Stack)?;
-    for addr in [16, 18, 20, 400] {
-        let view = memory.load(at(addr), 0, 1);
-        match view {
-            Ok(view) => assert!(rt; view.len() == 0 && view.piece(0).is_none(), "at {addr}"),
-            Err(reason) => assert!(rt; false, "{reason:?} at {addr}"),
-        }
+fn tell_of(
+    told: &mut String,
+    memory: Result<Option<Memory>, OutOfMemory>,
+    calls: &[Call],
+) -> Result<(), OutOfMemory> {
+    match memory {
+        Ok(Some(mut memory)) => tell_all(told, &mut memory, calls),
+        Ok(None) => write!(told, "no range"),
+        Err(fault) => Err(fault),
+    }
+}
+
+fn tell_case(
+    alloc: Global,
+    told: &mut String,
+    kind: Kind,
+    calls: &[Call],
+) -> Result<(), OutOfMemory> {
+    match kind {
+        Kind::Heap => tell_of(told, with_four(alloc, Kind::Heap), calls),
+        Kind::Stack => tell_of(told, with_four(alloc, Kind::Stack), calls),
+        Kind::Static => tell_of(told, with_four(alloc, Kind::Static), calls),
+        Kind::Function => write!(told, "no four bytes"),
+    }
+}
+
+// The last address from which four bytes may be taken.
+const LAST: u64 = 18446744073709551612;
+
+// The kind of the four bytes, the calls, and their answers.
+static CASES: [(Kind, &[Call], &str); 9] = [
+    // Addresses that may be picked.
+    (
+        Kind::Heap,
+        &[
+            Call::Lawful(0, 4, 4),
+            Call::Lawful(22, 4, 4),
+            Call::Lawful(32, 4, 0),
+            Call::Lawful(LAST, 5, 4),
+            Call::Lawful(LAST, 4, 4),
+            Call::Lawful(16, 4, 4),
+            Call::Lawful(8, 9, 8),
+            Call::Lawful(8, 8, 8),
+            Call::Lawful(20, 4, 4),
+            Call::Lawful(18, 0, 1),
+        ],
+        "Err(BadAddress)
+Err(BadAddress)
+Err(BadAddress)
+Err(BadAddress)
+Ok(())
+Err(Reused(AllocId { thread: 0, count: 0 }))
+Err(Reused(AllocId { thread: 0, count: 0 }))
+Ok(())
+Ok(())
+Ok(())
+",
+    ),
+    // The reasons against freeing, in their order. A dead range is not taken again.
+    (
+        Kind::Heap,
+        &[
+            Call::Free(16, None, Kind::Heap, 4, 4),
+            Call::Free(16, Some(SECOND), Kind::Heap, 4, 4),
+            Call::Free(18, Some(FIRST), Kind::Heap, 4, 4),
+            Call::Free(16, Some(FIRST), Kind::Stack, 4, 4),
+            Call::Free(16, Some(FIRST), Kind::Heap, 3, 4),
+            Call::Free(16, Some(FIRST), Kind::Heap, 4, 8),
+            Call::Free(16, Some(FIRST), Kind::Heap, 4, 4),
+            Call::Free(16, Some(FIRST), Kind::Heap, 4, 4),
+            Call::Lawful(16, 4, 4),
+        ],
+        "Err(NoProvenance)
+Err(NoProvenance)
+Err(FreeAddress)
+Err(FreeKind)
+Err(FreeSize)
+Err(FreeAlign)
+Ok(AllocId { thread: 0, count: 0 })
+Err(DeadAllocation)
+Err(Reused(AllocId { thread: 0, count: 0 }))
+",
+    ),
+    // Only what is live in the heap leaks.
+    (
+        Kind::Heap,
+        &[
+            Call::Leaks,
+            Call::Free(16, Some(FIRST), Kind::Heap, 4, 4),
+            Call::Leaks,
+        ],
+        "true
+Ok(AllocId { thread: 0, count: 0 })
+false
+",
+    ),
+    (Kind::Stack, &[Call::Leaks], "false\n"),
+    (Kind::Static, &[Call::Leaks], "false\n"),
+    // What is stored is lent, until it is freed.
+    (
+        Kind::Heap,
+        &[
+            Call::Load(16, 4, 4),
+            Call::Store(17, [7, 8], 1),
+            Call::Load(16, 4, 4),
+            Call::Deinit(18, 2, 2),
+            Call::Load(16, 4, 4),
+            Call::Free(16, Some(FIRST), Kind::Heap, 4, 4),
+            Call::Load(16, 4, 4),
+        ],
+        " -- -- -- --
+Ok(())
+ -- 07 08 --
+Ok(())
+ -- 07 -- --
+Ok(AllocId { thread: 0, count: 0 })
+DeadAllocation
+",
+    ),
+    // Ranges are checked.
+    (
+        Kind::Stack,
+        &[
+            Call::Check(16, Some(FIRST), 4),
+            Call::Check(20, Some(FIRST), 0),
+            Call::Check(16, None, 0),
+            Call::Check(16, None, 1),
+            Call::Check(15, Some(FIRST), 2),
+            Call::Check(17, Some(FIRST), 4),
+        ],
+        "Ok(Some(AllocId { thread: 0, count: 0 }))
+Ok(None)
+Ok(None)
+Err(NoProvenance)
+Err(OutOfBounds)
+Err(OutOfBounds)
+",
+    ),
+    // What is refused changes nothing.
+    (
+        Kind::Stack,
+        &[
+            Call::Store(17, [7, 7], 2),
+            Call::Deinit(16, 4, 0),
+            Call::Store(19, [7, 7], 1),
+            Call::Load(16, 4, 4),
+            Call::Load(18, 2, 4),
+        ],
+        "Err(Undefined(Misaligned))
+Err(Undefined(Misaligned))
+Err(Undefined(OutOfBounds))
+ -- -- -- --
+Misaligned
+",
+    ),
+    // No bytes lie everywhere.
+    (
+        Kind::Stack,
+        &[
+            Call::Load(16, 0, 1),
+            Call::Load(18, 0, 1),
+            Call::Load(20, 0, 1),
+            Call::Load(400, 0, 1),
+        ],
+        "empty
+empty
+empty
+empty
+",
+    ),
+];
+
+fn told(alloc: Global, kind: Kind, calls: &[Call]) -> Result<String, OutOfMemory> {
+    let mut told = String::new(alloc);
+    tell_case(alloc, &mut told, kind, calls)?;
+    Ok(told)
+}
+
+/// Tells the cases that are told otherwise.
+pub fn tell_wrong(alloc: Global, wrong: &mut String) -> Result<(), OutOfMemory> {
+    for row in CASES.iter() {
+        let (kind, calls, wanted) = *row;
+        let told = told(alloc, kind, calls)?;
+        compare(wrong, "memory", told.as_str(), wanted)?;
     }
     Ok(())
 }

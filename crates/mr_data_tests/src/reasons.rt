@@ -1,88 +1,141 @@
 //! Reasons and rules by number and name, identities in order, and lists of pairs.
-use mr_ast::Rule;
+use crate::texts::compare;
+use mr_ast::{OutOfMemory, Rule};
 use mr_base::{AllocId, Pair, Reason, Status, Verdict, any_meeting, any_twice};
-use std::test::*;
+use std::alloc::Global;
+use std::string::String;
 
-const REASONS: [(Reason, u16, &str); 3] = [
-    (Reason::DataRace, 100, "DataRace"),
-    (Reason::Overflow, 109, "Overflow"),
-    (Reason::NotHolder, 133, "NotHolder"),
-];
-
-const RULES: [(Rule, u8, &str); 4] = [
-    (Rule::TypeSize, 20, "TypeSize"),
-    (Rule::UnionChunk, 28, "UnionChunk"),
-    (Rule::Arguments, 30, "Arguments"),
-    (Rule::Cast, 47, "Cast"),
-];
-
-#[test]
-fn numbers_and_names(rt: HostRuntime) {
-    for (reason, code, name) in REASONS {
-        assert_eq!(rt; reason.code(), code, "at {name}");
-        assert_eq!(rt; reason.name(), name);
+fn tell_reasons(told: &mut String) -> Result<(), OutOfMemory> {
+    for reason in [Reason::DataRace, Reason::Overflow, Reason::NotHolder] {
+        write!(told, "{} {}\n", reason.code(), reason.name())?;
     }
-    for (rule, code, name) in RULES {
-        assert_eq!(rt; rule.code(), code, "at {name}");
-        assert_eq!(rt; rule.name(), name);
-    }
+    Ok(())
 }
 
-#[test]
-fn copies_are_equal(rt: HostRuntime) {
+fn tell_rules(told: &mut String) -> Result<(), OutOfMemory> {
+    for rule in [
+        Rule::TypeSize,
+        Rule::UnionChunk,
+        Rule::Arguments,
+        Rule::Cast,
+    ] {
+        write!(told, "{} {}\n", rule.code(), rule.name())?;
+    }
+    Ok(())
+}
+
+// Whether a verdict is equal to its copy and to two others.
+fn equal_verdicts() -> [bool; 3] {
     let verdict = Verdict::Undefined(Reason::DataRace);
-    let same_verdict = verdict;
-    assert!(rt; verdict == same_verdict);
-    assert!(rt; verdict != Verdict::Undefined(Reason::Overflow));
-    assert!(rt; verdict != Verdict::Deadlock);
+    let same = verdict;
+    [
+        verdict == same,
+        verdict == Verdict::Undefined(Reason::Overflow),
+        verdict == Verdict::Deadlock,
+    ]
+}
+
+// Whether a status is equal to its copy and to two others.
+fn equal_statuses() -> [bool; 3] {
     let status = Status::OnJoin(1);
-    let same_status = status;
-    assert!(rt; status == same_status);
-    assert!(rt; status != Status::OnJoin(2));
-    assert!(rt; status != Status::OnLock(1));
+    let same = status;
+    [
+        status == same,
+        status == Status::OnJoin(2),
+        status == Status::OnLock(1),
+    ]
 }
 
-#[test]
-fn identities_by_thread_then_count(rt: HostRuntime) {
-    let identities: [(u32, u64); 3] = [(0, 9), (1, 3), (1, 4)];
-    for i in 0..2 {
-        let (thread, count) = identities[i];
-        let (next_thread, next_count) = identities[i + 1];
-        let first = AllocId { thread, count };
-        let second = AllocId {
-            thread: next_thread,
-            count: next_count,
-        };
-        assert!(rt; first < second);
+fn identity(thread: u32, count: u64) -> AllocId {
+    AllocId { thread, count }
+}
+
+// Whether each of three identities comes before the next one, by thread and then by count.
+fn ordered_identities() -> [bool; 2] {
+    let (first, second, third) = (identity(0, 9), identity(1, 3), identity(1, 4));
+    [first < second, second < third]
+}
+
+/// Three pairs, and whether one stands twice among them.
+static TWICE: [(Pair, Pair, Pair, bool); 5] = [
+    ((0, 2), (0, 1), (0, 3), false),
+    ((0, 2), (0, 1), (0, 2), true),
+    ((1, 2), (0, 2), (2, 1), false),
+    ((1, 7), (0, 7), (1, 7), true),
+    ((0, u128::MAX), (1, 0), (0, u128::MAX), true),
+];
+
+/// Three ranges, and whether two of them meet.
+static MEETING: [(Pair, Pair, Pair, bool); 4] = [
+    ((8, 4), (0, 4), (4, 4), false),
+    ((8, 4), (0, 5), (4, 4), true),
+    ((0, 100), (200, 1), (50, 1), true),
+    ((5, 1), (5, 1), (9, 1), true),
+];
+
+// The first row that is told otherwise.
+fn first_wrong_twice() -> Option<usize> {
+    for (n, row) in TWICE.iter().enumerate() {
+        let (first, second, third, twice) = *row;
+        let mut list = [first, second, third];
+        if any_twice(&mut list) != twice {
+            return Some(n);
+        }
+    }
+    None
+}
+
+// Whether ranges of which none is empty meet.
+fn are_meeting(ranges: [Pair; 3]) -> Option<bool> {
+    let mut list = ranges;
+    if 0 < list[0].1 && 0 < list[1].1 && 0 < list[2].1 {
+        Some(any_meeting(&mut list))
+    } else {
+        None
     }
 }
 
-/// A list of pairs, and whether one stands twice in it.
-const TWICE: [([Pair; 3], bool); 5] = [
-    ([(0, 2), (0, 1), (0, 3)], false),
-    ([(0, 2), (0, 1), (0, 2)], true),
-    ([(1, 2), (0, 2), (2, 1)], false),
-    ([(1, 7), (0, 7), (1, 7)], true),
-    ([(0, u128::MAX), (1, 0), (0, u128::MAX)], true),
-];
-
-/// A list of ranges, and whether two of them meet.
-const MEETING: [([Pair; 3], bool); 4] = [
-    ([(8, 4), (0, 4), (4, 4)], false),
-    ([(8, 4), (0, 5), (4, 4)], true),
-    ([(0, 100), (200, 1), (50, 1)], true),
-    ([(5, 1), (5, 1), (9, 1)], true),
-];
-
-#[test]
-fn pairs_are_compared(rt: HostRuntime) {
-    for (pairs, want) in TWICE {
-        let mut list = pairs;
-        assert_eq!(rt; any_twice(&mut list), want, "{pairs:?}");
+fn first_wrong_meeting() -> Option<usize> {
+    for (n, row) in MEETING.iter().enumerate() {
+        let (first, second, third, meet) = *row;
+        if are_meeting([first, second, third]) != Some(meet) {
+            return Some(n);
+        }
     }
-    for (ranges, want) in MEETING {
-        let mut list = ranges;
-        assert!(rt; 0 < list[0].1 && 0 < list[1].1 && 0 < list[2].1);
-        assert_eq!(rt; any_meeting(&mut list), want, "{ranges:?}");
-    }
+    None
+}
+
+fn tell(told: &mut String) -> Result<(), OutOfMemory> {
+    tell_reasons(told)?;
+    tell_rules(told)?;
+    let (verdicts, statuses) = (equal_verdicts(), equal_statuses());
+    write!(
+        told,
+        "{verdicts:?} {statuses:?} {:?}\n",
+        ordered_identities()
+    )?;
+    write!(
+        told,
+        "{:?} {:?}\n",
+        first_wrong_twice(),
+        first_wrong_meeting()
+    )
+}
+
+const WANTED: &str = "100 DataRace
+109 Overflow
+133 NotHolder
+20 TypeSize
+28 UnionChunk
+30 Arguments
+47 Cast
+[true, false, false] [true, false, false] [true, true]
+None None
+";
+
+/// Tells what is told otherwise.
+pub fn tell_wrong(alloc: Global, wrong: &mut String) -> Result<(), OutOfMemory> {
+    let mut told = String::new(alloc);
+    tell(&mut told)?;
+    compare(wrong, "reasons", told.as_str(), WANTED)
 }

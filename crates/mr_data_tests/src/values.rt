@@ -1,25 +1,20 @@
 //! What bytes mean, and what values are written as.
-ghost use Rattle.std.specs.Prelude.{◌≡◌, OnSome};
+ghost use Rattle.std.specs.Prelude.{◌≡◌, OnSome, length, true};
 ghost use Rattle.mr_layout.specs.Sizes.{size_of};
 ghost use Rattle.mr_layout.specs.TypeOk.{TypeOk};
+ghost use Rattle.mr_runs.specs.Pieces.{bytes_of_pieces};
+ghost use Rattle.mr_value.specs.Shape.{has_shape};
 
-use mr_ast::{Boxed, IntType, Items, Num, Tag, Tree, Ty, Variant};
+use crate::spelled::{show, spelled};
+use crate::texts::{compare, program_of, type_of};
+use mr_ast::{OutOfMemory, Program, Ty};
 use mr_base::{AbstractByte, AllocId, Pointer};
 use mr_layout::{broken_rule, size};
-use mr_runs::Runs;
+use mr_parse::parse;
+use mr_runs::{Runs, View};
 use mr_value::{Val, decode, decode_scalar, encode};
-use std::alloc::{AllocError, Global};
-use std::test::*;
-
-const FIRST: Option<AllocId> = Some(AllocId {
-    thread: 0,
-    count: 0,
-});
-
-const SECOND: Option<AllocId> = Some(AllocId {
-    thread: 1,
-    count: 0,
-});
+use std::alloc::Global;
+use std::string::String;
 
 // Something, if the type breaks no rule and has so many bytes.
 fn has_size(t: &Ty, len: u64) -> Option<()>
@@ -34,316 +29,204 @@ fn has_size(t: &Ty, len: u64) -> Option<()>
     }
 }
 
-// Bytes without provenance, in hexadecimal; `--` is an uninitialised one.
-fn spelled(alloc: Global, text: &str) -> Result<Vec<AbstractByte>, Fail> {
-    let mut bytes = Vec::new(alloc);
-    for word in text.split(' ') {
-        bytes.push(byte(word)?)?;
-    }
-    Ok(bytes)
-}
-
-fn byte(word: &str) -> Result<AbstractByte, Fail> {
-    if word == "--" {
-        return Ok(AbstractByte::Uninit);
-    }
-    match u8::from_str_radix(word, 16) {
-        Ok(number) => Ok(AbstractByte::Init(number, None)),
-        Err(_) => Err("no byte".into()),
+fn tell_pointer(told: &mut String, pointer: Pointer) -> Result<(), OutOfMemory> {
+    let Pointer { addr, prov } = pointer;
+    match prov {
+        Some(AllocId { thread, count }) => write!(told, "{addr}@{thread}.{count}"),
+        None => write!(told, "{addr}"),
     }
 }
 
-fn value_of(alloc: Global, bytes: &[AbstractByte], t: &Ty) -> Result<Option<Val>, Fail> {
-    let len = bytes.len() as u64;
-    let mut runs = Runs::uninit(alloc, len)?;
-    runs.write(0, bytes)?;
-    has_size(t, len).ok_or("a type of another size")?;
-    Ok(decode(alloc, &runs.view(0, len), t)?)
+fn tell_union(told: &mut String, bytes: &[AbstractByte]) -> Result<(), OutOfMemory> {
+    write!(told, "union")?;
+    show(told, bytes)
 }
 
-// The bytes that the value of some bytes is written as.
-fn rewritten(alloc: Global, bytes: &[AbstractByte], t: &Ty) -> Result<Vec<AbstractByte>, Fail> {
-    let len = bytes.len() as u64;
-    let mut runs = Runs::uninit(alloc, len)?;
-    runs.write(0, bytes)?;
-    has_size(t, len).ok_or("a type of another size")?;
-    let value = decode(alloc, &runs.view(0, len), t)?.ok_or("no value")?;
+// Tells a value, without its parts.
+fn tell(told: &mut String, value: &Val) -> Result<(), OutOfMemory> {
+    match value {
+        Val::Int(bits) => write!(told, "{bits}"),
+        Val::Bool(truth) => write!(told, "{truth}"),
+        Val::Ptr(to) => tell_pointer(told, *to),
+        Val::Tuple(parts) => write!(told, "tuple of {}", parts.as_slice().len()),
+        Val::Union(bytes) => tell_union(told, bytes.as_slice()),
+        Val::Variant(number, _) => write!(told, "variant {}", number.mag),
+    }
+}
+
+// Tells a value, and the bytes that it is written as.
+fn tell_written(alloc: Global, told: &mut String, value: &Val, t: &Ty) -> Result<(), OutOfMemory>
+    requires ok { TypeOk t.now }
+    requires shape { has_shape t.now value.now ≡ true }
+{
+    tell(told, value)?;
+    write!(told, ":")?;
     let mut out = Vec::new(alloc);
-    encode(alloc, &value, t, &mut out)?;
-    Ok(out)
+    encode(alloc, value, t, &mut out)?;
+    show(told, out.as_slice())
 }
 
-// Whether the value of some bytes is written as others.
-fn is_rewritten(alloc: Global, text: &str, want: &str, t: &Ty) -> Result<bool, Fail> {
-    let bytes = spelled(alloc, text)?;
-    let written = rewritten(alloc, bytes.as_slice(), t)?;
-    let want = spelled(alloc, want)?;
-    Ok(written.as_slice() == want.as_slice())
-}
-
-fn is_meaningless(alloc: Global, text: &str, t: &Ty) -> Result<bool, Fail> {
-    let bytes = spelled(alloc, text)?;
-    Ok(value_of(alloc, bytes.as_slice(), t)?.is_none())
-}
-
-// The bits of an integer that bytes mean, which are what it is written as.
-fn bits_of(alloc: Global, text: &str, int: IntType) -> Result<u128, Fail> {
-    let t = Ty::Int(int);
-    if !is_rewritten(alloc, text, text, &t)? {
-        return Err("written otherwise".into());
-    }
-    let bytes = spelled(alloc, text)?;
-    match value_of(alloc, bytes.as_slice(), &t)? {
-        Some(Val::Int(bits)) => Ok(bits),
-        _ => Err("no integer".into()),
+// Tells the value of an integer, a bool or a pointer, and nothing of other types.
+fn tell_scalar(told: &mut String, view: &View<'_>, t: &Ty) -> Result<(), OutOfMemory>
+    requires ok { TypeOk t.now }
+    requires sized { length (bytes_of_pieces view.now) ≡ size_of t.now }
+{
+    let value = match t {
+        Ty::Int(_) | Ty::Bool | Ty::Raw | Ty::FnPtr | Ty::Ref { .. } => decode_scalar(view, t),
+        _ => return Ok(()),
+    };
+    match value {
+        Some(value) => tell(told, &value),
+        None => write!(told, "none"),
     }
 }
 
-fn number(mag: u128) -> Num {
-    Num { neg: false, mag }
-}
-
-fn tuple(alloc: Global, size: u64, align: u64, fields: [(u64, IntType); 2]) -> Result<Ty, Fail> {
-    let mut items = Items::new(alloc);
-    for (at, int) in fields {
-        items.push((at, Ty::Int(int)))?;
-    }
-    Ok(Ty::Tuple {
-        size,
-        align,
-        fields: items,
-    })
-}
-
-fn variant(alloc: Global, mag: u128, fields: Items<(u64, Ty)>) -> Result<Variant, Fail> {
-    let mut tags = Items::new(alloc);
-    tags.push(Tag {
-        at: 0,
-        int: IntType::U8,
-        number: number(mag),
-    })?;
-    Ok(Variant {
-        number: number(mag),
-        ty: Ty::Tuple {
-            size: 2,
-            align: 1,
-            fields,
-        },
-        tags,
-    })
-}
-
-// Nothing or a byte, told apart by the first byte.
-fn maybe(alloc: Global) -> Result<Ty, Fail> {
-    let mut variants = Items::new(alloc);
-    variants.push(variant(alloc, 0, Items::new(alloc))?)?;
-    let mut fields = Items::new(alloc);
-    fields.push((1, Ty::Int(IntType::U8)))?;
-    variants.push(variant(alloc, 1, fields)?)?;
-    let mut cases = Items::new(alloc);
-    cases.push((number(0), Tree::Known(number(0))))?;
-    cases.push((number(1), Tree::Known(number(1))))?;
-    let rest = Boxed::new(alloc, Tree::Invalid)?;
-    Ok(Ty::Enum {
-        size: 2,
-        align: 1,
-        disc: IntType::U8,
-        variants,
-        tree: Tree::Branch(0, IntType::U8, cases, rest),
-    })
-}
-
-// A byte and, behind one of padding, two more.
-fn byte_or_two(alloc: Global) -> Result<Ty, Fail> {
-    let mut fields = Items::new(alloc);
-    fields.push((0, Ty::Int(IntType::U8)))?;
-    fields.push((2, Ty::Int(IntType::U16)))?;
-    let mut chunks = Items::new(alloc);
-    chunks.push((0, 1))?;
-    chunks.push((2, 2))?;
-    Ok(Ty::Union {
-        size: 4,
-        align: 2,
-        fields,
-        chunks,
-    })
-}
-
-/// The types of the cases.
-#[derive(Clone, Copy, Debug)]
-enum Shape {
-    Bool,
-    FnPtr,
-    /// A reference to four bytes.
-    Reference,
-    /// A reference to what has no value.
-    Never,
-    /// A byte, three bytes of padding, and four bytes.
-    Pair,
-    /// Two of a byte, one of padding, and two bytes.
-    Pairs,
-    Maybe,
-    ByteOrTwo,
-}
-
-fn reference(size: u64, align: u64, never: bool) -> Ty {
-    Ty::Ref { size, align, never }
-}
-
-fn pairs(alloc: Global) -> Result<Ty, Fail> {
-    let pair = tuple(alloc, 4, 2, [(0, IntType::U8), (2, IntType::U16)])?;
-    Ok(Ty::Array {
-        count: 2,
-        elem: Boxed::new(alloc, pair)?,
-    })
-}
-
-fn type_of(alloc: Global, shape: Shape) -> Result<Ty, Fail> {
-    match shape {
-        Shape::Bool => Ok(Ty::Bool),
-        Shape::FnPtr => Ok(Ty::FnPtr),
-        Shape::Reference => Ok(reference(4, 4, false)),
-        Shape::Never => Ok(reference(0, 1, true)),
-        Shape::Pair => tuple(alloc, 8, 4, [(0, IntType::U8), (4, IntType::U32)]),
-        Shape::Pairs => pairs(alloc),
-        Shape::Maybe => maybe(alloc),
-        Shape::ByteOrTwo => byte_or_two(alloc),
-    }
-}
-
-/// A type, bytes, and the bytes that their value is written as, where they mean one.
-const VALUES: [(Shape, &str, Option<&str>); 10] = [
-    (
-        Shape::Pair,
-        "01 07 -- 07 02 00 00 00",
-        Some("01 -- -- -- 02 00 00 00"),
-    ),
-    (
-        Shape::Pairs,
-        "01 02 03 04 05 06 07 08",
-        Some("01 -- 03 04 05 -- 07 08"),
-    ),
-    (Shape::Maybe, "00 09", Some("00 --")),
-    (Shape::Maybe, "01 09", Some("01 09")),
-    (Shape::Maybe, "02 09", None),
-    (Shape::Maybe, "-- 09", None),
-    (Shape::ByteOrTwo, "-- 01 02 03", Some("-- -- 02 03")),
-    (Shape::Bool, "02", None),
-    (Shape::FnPtr, "00 00 00 00 00 00 00 00", None),
-    (Shape::Reference, "02 02 02 02 02 02 02 02", None),
-];
-
-fn is_told(
-    alloc: Global,
-    ty: Result<Ty, Fail>,
-    text: &str,
-    want: Option<&str>,
-) -> Result<bool, Fail> {
-    match ty {
-        Ok(t) => match want {
-            Some(want) => is_rewritten(alloc, text, want, &t),
-            None => is_meaningless(alloc, text, &t),
-        },
+fn tell_any(alloc: Global, told: &mut String, view: &View<'_>, t: &Ty) -> Result<(), OutOfMemory>
+    requires ok { TypeOk t.now }
+    requires sized { length (bytes_of_pieces view.now) ≡ size_of t.now }
+{
+    match decode(alloc, view, t) {
+        Ok(Some(value)) => tell_written(alloc, told, &value, t),
+        Ok(None) => write!(told, "none"),
         Err(fault) => Err(fault),
     }
 }
 
-#[test]
-fn bytes_mean_values(rt: HostRuntime) -> Result<(), Fail> {
-    let alloc = rt.alloc();
-    for (shape, text, want) in VALUES {
-        assert!(rt;
-            is_told(alloc, type_of(alloc, shape), text, want)?,
-            "{shape:?} {text}"
-        );
-    }
-    let never = type_of(alloc, Shape::Never);
-    assert!(rt; is_told(alloc, never, "02 02 02 02 02 02 02 02", None)?);
-    Ok(())
+fn tell_meaning(
+    alloc: Global,
+    told: &mut String,
+    view: &View<'_>,
+    t: &Ty,
+) -> Result<(), OutOfMemory> {
+    let Some(()) = has_size(t, view.len()) else {
+        return write!(told, "another size");
+    };
+    tell_scalar(told, view, t)?;
+    write!(told, "|")?;
+    tell_any(alloc, told, view, t)
 }
 
-/// A type, bytes, and the bits that they mean, the lowest byte first.
-const INTEGERS: [(IntType, &str, u128); 6] = [
-    (IntType::U8, "fe", 254),
-    (IntType::I8, "fe", 254),
+fn tell_bytes(
+    alloc: Global,
+    told: &mut String,
+    bytes: &[AbstractByte],
+    t: &Ty,
+) -> Result<(), OutOfMemory> {
+    let len = bytes.len() as u64;
+    let mut runs = Runs::uninit(alloc, len)?;
+    runs.write(0, bytes)?;
+    tell_meaning(alloc, told, &runs.view(0, len), t)
+}
+
+fn tell_in(
+    alloc: Global,
+    told: &mut String,
+    program: &Program,
+    bytes: &[AbstractByte],
+) -> Result<(), OutOfMemory> {
+    match type_of(program, 1) {
+        Some(t) => tell_bytes(alloc, told, bytes, t),
+        None => write!(told, "no type"),
+    }
+}
+
+fn tell_of(
+    alloc: Global,
+    told: &mut String,
+    text: &str,
+    bytes: &[AbstractByte],
+) -> Result<(), OutOfMemory> {
+    match parse(alloc, text.as_bytes()) {
+        Ok(program) => tell_in(alloc, told, &program, bytes),
+        Err(_) => write!(told, "no program"),
+    }
+}
+
+// What bytes mean at a type.
+fn told(alloc: Global, ty: &str, bytes: &str) -> Result<String, OutOfMemory> {
+    let text = program_of(alloc, &[ty])?;
+    let bytes = spelled(alloc, bytes)?;
+    let mut told = String::new(alloc);
+    tell_of(alloc, &mut told, text.as_str(), bytes.as_slice())?;
+    Ok(told)
+}
+
+const PAIR: &str = "tuple size 8 align 4 { 0: u8, 4: u32 }";
+
+const PAIRS: &str = "array(2, tuple size 4 align 2 { 0: u8, 2: u16 })";
+
+// Nothing or a byte, told apart by the first byte.
+const MAYBE: &str =
+    "enum size 2 align 1 disc u8 { 0: tuple size 2 align 1 { } tag { 0: u8 = 0 }, 1: tuple size 2 align 1 { 1: u8 } tag { 0: u8 = 1 } } branch 0 u8 { 0 => known 0, 1 => known 1, _ => invalid }";
+
+// A byte and, behind one of padding, two more.
+const BYTE_OR_TWO: &str = "union size 4 align 2 { 0: u8, 2: u16 } chunks { 0 1, 2 2 }";
+
+// A type and bytes; the value that they mean, if it is a scalar's, and behind it any value and the bytes that it is written as.
+static VALUES: [(&str, &str, &str); 21] = [
     (
-        IntType::U64,
+        PAIR,
+        "01 07 -- 07 02 00 00 00",
+        "|tuple of 2: 01 -- -- -- 02 00 00 00",
+    ),
+    (
+        PAIRS,
+        "01 02 03 04 05 06 07 08",
+        "|tuple of 2: 01 -- 03 04 05 -- 07 08",
+    ),
+    (MAYBE, "00 09", "|variant 0: 00 --"),
+    (MAYBE, "01 09", "|variant 1: 01 09"),
+    (MAYBE, "02 09", "|none"),
+    (MAYBE, "-- 09", "|none"),
+    (BYTE_OR_TWO, "-- 01 02 03", "|union -- 02 03: -- -- 02 03"),
+    ("bool", "01", "true|true: 01"),
+    ("bool", "02", "none|none"),
+    ("fnptr", "00 00 00 00 00 00 00 00", "none|none"),
+    ("ref 4 4", "02 02 02 02 02 02 02 02", "none|none"),
+    ("ref 0 1 never", "02 02 02 02 02 02 02 02", "none|none"),
+    // The lowest byte comes first.
+    ("u8", "fe", "254|254: fe"),
+    ("i8", "fe", "254|254: fe"),
+    (
+        "u64",
         "01 02 03 04 05 06 07 88",
-        0x8807_0605_0403_0201,
+        "9801809732607083009|9801809732607083009: 01 02 03 04 05 06 07 88",
     ),
     (
-        IntType::I64,
+        "i64",
         "01 02 03 04 05 06 07 88",
-        0x8807_0605_0403_0201,
+        "9801809732607083009|9801809732607083009: 01 02 03 04 05 06 07 88",
     ),
     (
-        IntType::U128,
+        "u128",
         "ff ff ff ff ff ff ff ff ff ff ff ff ff ff ff ff",
-        u128::MAX,
+        "340282366920938463463374607431768211455|340282366920938463463374607431768211455: ff ff ff ff ff ff ff ff ff ff ff ff ff ff ff ff",
     ),
     (
-        IntType::I128,
+        "i128",
         "ff ff ff ff ff ff ff ff ff ff ff ff ff ff ff ff",
-        u128::MAX,
+        "340282366920938463463374607431768211455|340282366920938463463374607431768211455: ff ff ff ff ff ff ff ff ff ff ff ff ff ff ff ff",
+    ),
+    // An integer has no provenance, and a pointer has that of all its bytes.
+    ("u32", "01@0.0 02 00@0.0 00", "513|513: 01 02 00 00"),
+    (
+        "raw",
+        "10@0.0 10@0.0 10@0.0 10@0.0 10@0.0 10@0.0 10@0.0 10@0.0",
+        "1157442765409226768@0.0|1157442765409226768@0.0: 10@0.0 10@0.0 10@0.0 10@0.0 10@0.0 10@0.0 10@0.0 10@0.0",
+    ),
+    (
+        "raw",
+        "00@0.0 00@0.0 00@0.0 00@0.0 00@0.0 00@0.0 00@0.0 00@1.7",
+        "0|0: 00 00 00 00 00 00 00 00",
     ),
 ];
 
-#[test]
-fn bytes_are_their_bits(rt: HostRuntime) -> Result<(), Fail> {
-    for (int, text, want) in INTEGERS {
-        assert_eq!(rt; bits_of(rt.alloc(), text, int)?, want, "{int:?} {text}");
+/// Tells the rows that are told otherwise.
+pub fn tell_wrong(alloc: Global, wrong: &mut String) -> Result<(), OutOfMemory> {
+    for row in VALUES.iter() {
+        let (ty, bytes, wanted) = *row;
+        let told = told(alloc, ty, bytes)?;
+        compare(wrong, bytes, told.as_str(), wanted)?;
     }
-    Ok(())
-}
-
-// The number that four bytes mean.
-fn four(alloc: Global, bytes: &[AbstractByte]) -> Result<Option<u128>, Fail> {
-    match value_of(alloc, bytes, &Ty::Int(IntType::U32))? {
-        Some(Val::Int(bits)) => Ok(Some(bits)),
-        _ => Ok(None),
-    }
-}
-
-// The pointer that eight bytes mean.
-fn pointer(alloc: Global, bytes: &[AbstractByte]) -> Result<Option<Pointer>, Fail> {
-    match value_of(alloc, bytes, &Ty::Raw)? {
-        Some(Val::Ptr(pointer)) => Ok(Some(pointer)),
-        _ => Ok(None),
-    }
-}
-
-fn is_kept(alloc: Global, bytes: &[AbstractByte]) -> Result<bool, Fail> {
-    let written = rewritten(alloc, bytes, &Ty::Raw)?;
-    Ok(written.as_slice() == bytes)
-}
-
-#[test]
-fn provenance(rt: HostRuntime) -> Result<(), Fail> {
-    let mut bytes = [AbstractByte::Init(0, None); 4];
-    bytes[0] = AbstractByte::Init(1, FIRST);
-    bytes[1] = AbstractByte::Init(2, None);
-    assert_eq!(rt; four(rt.alloc(), &bytes)?, Some(513));
-    assert!(rt; is_kept(rt.alloc(), &[AbstractByte::Init(16, FIRST); 8])?);
-    let mut pair = [AbstractByte::Init(0, FIRST); 8];
-    pair[7] = AbstractByte::Init(0, SECOND);
-    let nowhere = Pointer {
-        addr: 0,
-        prov: None,
-    };
-    assert_eq!(rt; pointer(rt.alloc(), &pair)?, Some(nowhere));
-    Ok(())
-}
-
-#[test]
-fn a_scalar_needs_no_memory(rt: HostRuntime) -> Result<(), Fail> {
-    let mut runs = Runs::uninit(rt.alloc(), 1)?;
-    runs.write(0, &[AbstractByte::Init(1, None)])?;
-    has_size(&Ty::Bool, 1).ok_or("a type of another size")?;
-    assert!(rt;
-        matches!(
-            &decode_scalar(&runs.view(0, 1), &Ty::Bool),
-            Some(Val::Bool(true))
-        )
-    );
     Ok(())
 }
