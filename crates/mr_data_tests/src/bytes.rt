@@ -2,11 +2,11 @@
 ghost use Rattle.std.specs.Prelude.{◌≡◌, length};
 
 use crate::spelled::{SECOND, show};
-use crate::texts::compare;
 use mr_base::AbstractByte;
 use mr_runs::{OutOfMemory, Runs, View};
 use std::alloc::Global;
 use std::string::String;
+use std::test::Fail;
 
 const FIVE: AbstractByte = AbstractByte::Init(5, Some(SECOND));
 
@@ -67,9 +67,10 @@ const WANTED: &str = " 06@1.7 -- 05@1.7 06@1.7 -- 05@1.7
  06@1.7 -- -- 06@1.7 -- --
 ";
 
-/// Tells what is told otherwise.
-pub fn tell_wrong(alloc: Global, wrong: &mut String) -> Result<(), OutOfMemory> {
-    let mut told = String::new(alloc);
-    tell_four(alloc, &mut told)?;
-    compare(wrong, "bytes", told.as_str(), WANTED)
+#[test]
+fn bytes_are_written_and_viewed(rt: HostRuntime) -> Result<(), Fail> {
+    let mut told = String::new(rt.alloc());
+    tell_four(rt.alloc(), &mut told)?;
+    assert_eq!(rt; told.as_str(), WANTED);
+    Ok(())
 }

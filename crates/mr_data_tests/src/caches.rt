@@ -1,10 +1,11 @@
 //! The layouts that a cache holds of a program.
-use crate::texts::{compare, program_of};
+use crate::texts::program_of;
 use mr_ast::{Local, OutOfMemory, Program};
 use mr_layout::{Cache, broken_rule, find_types};
 use mr_parse::parse;
 use std::alloc::Global;
 use std::string::String;
+use std::test::Fail;
 
 // The cache of a program, and `None` where one of its types breaks a rule.
 fn cache_of(alloc: Global, p: &Program) -> Result<Option<Cache>, OutOfMemory> {
@@ -113,8 +114,8 @@ None
 None
 ";
 
-/// Tells what is told otherwise.
-pub fn tell_wrong(alloc: Global, wrong: &mut String) -> Result<(), OutOfMemory> {
-    let told = told(alloc, PROGRAM, &ASKED)?;
-    compare(wrong, "cache", told.as_str(), HELD)
+#[test]
+fn written_types_and_their_parts_are_held(rt: HostRuntime) -> Result<(), Fail> {
+    assert_eq!(rt; told(rt.alloc(), PROGRAM, &ASKED)?.as_str(), HELD);
+    Ok(())
 }

@@ -1,11 +1,11 @@
 //! Sizes, alignments, used bytes and broken rules of types.
-use crate::syntax::tell_equality;
-use crate::texts::{compare, program_of, type_of};
+use crate::texts::{program_of, type_of};
 use mr_ast::{OutOfMemory, Program, Ty};
 use mr_layout::{align, broken_rule, first_broken_rule, inhabited, int_bytes, size, type_ok, used};
 use mr_parse::parse;
 use std::alloc::Global;
 use std::string::String;
+use std::test::Fail;
 
 // Tells which of the first seven bytes carry a part of a value, by a mark or a dot for each.
 fn tell_bytes(told: &mut String, ty: &Ty) -> Result<(), OutOfMemory> {
@@ -35,12 +35,10 @@ fn tell(alloc: Global, told: &mut String, ty: &Ty) -> Result<(), OutOfMemory> {
     tell_bytes(told, ty)
 }
 
-// Describes one type, and compares two.
 fn tell_in(alloc: Global, told: &mut String, program: &Program) -> Result<(), OutOfMemory> {
-    match (type_of(program, 1), type_of(program, 2)) {
-        (Some(ty), None) => tell(alloc, told, ty),
-        (Some(first), Some(second)) => tell_equality(alloc, told, first, second),
-        _ => write!(told, "no types"),
+    match type_of(program, 1) {
+        Some(ty) => tell(alloc, told, ty),
+        None => write!(told, "no type"),
     }
 }
 
@@ -51,9 +49,8 @@ fn tell_of(alloc: Global, told: &mut String, text: &str) -> Result<(), OutOfMemo
     }
 }
 
-/// What is told of one type or of two.
-pub fn told(alloc: Global, types: &[&str]) -> Result<String, OutOfMemory> {
-    let text = program_of(alloc, types)?;
+fn told(alloc: Global, ty: &str) -> Result<String, OutOfMemory> {
+    let text = program_of(alloc, &[ty])?;
     let mut told = String::new(alloc);
     tell_of(alloc, &mut told, text.as_str())?;
     Ok(told)
@@ -201,12 +198,11 @@ static TYPES: [(&str, &str); 48] = [
     ),
 ];
 
-/// Tells the rows that are told otherwise.
-pub fn tell_wrong(alloc: Global, wrong: &mut String) -> Result<(), OutOfMemory> {
+#[test]
+fn types_are_described(rt: HostRuntime) -> Result<(), Fail> {
     for row in TYPES.iter() {
         let (ty, wanted) = *row;
-        let told = told(alloc, &[ty])?;
-        compare(wrong, ty, told.as_str(), wanted)?;
+        assert_eq!(rt; told(rt.alloc(), ty)?.as_str(), wanted, "{ty}");
     }
     Ok(())
 }

@@ -21,8 +21,6 @@ mod spelled;
 #[cfg(test)]
 mod syntax;
 #[cfg(test)]
-mod tables;
-#[cfg(test)]
 mod texts;
 #[cfg(test)]
 mod tracking;

@@ -2,12 +2,12 @@
 ghost use Rattle.mr_mem.specs.Memory.{IsAsked};
 
 use crate::spelled::{FIRST, SECOND, show};
-use crate::texts::compare;
 use mr_base::{AbstractByte, AllocId, Kind, Pointer};
 use mr_mem::Memory;
 use mr_runs::{OutOfMemory, View};
 use std::alloc::Global;
 use std::string::String;
+use std::test::Fail;
 
 // A memory with four bytes at 16.
 fn with_four(alloc: Global, kind: Kind) -> Result<Option<Memory>, OutOfMemory>
@@ -282,18 +282,13 @@ empty
     ),
 ];
 
-fn told(alloc: Global, kind: Kind, calls: &[Call]) -> Result<String, OutOfMemory> {
-    let mut told = String::new(alloc);
-    tell_case(alloc, &mut told, kind, calls)?;
-    Ok(told)
-}
-
-/// Tells the cases that are told otherwise.
-pub fn tell_wrong(alloc: Global, wrong: &mut String) -> Result<(), OutOfMemory> {
+#[test]
+fn calls_are_answered(rt: HostRuntime) -> Result<(), Fail> {
     for row in CASES.iter() {
         let (kind, calls, wanted) = *row;
-        let told = told(alloc, kind, calls)?;
-        compare(wrong, "memory", told.as_str(), wanted)?;
+        let mut told = String::new(rt.alloc());
+        tell_case(rt.alloc(), &mut told, kind, calls)?;
+        assert_eq!(rt; told.as_str(), wanted);
     }
     Ok(())
 }

@@ -1,8 +1,8 @@
 //! Texts are numbered.
-use crate::texts::compare;
 use mr_ast::{Names, OutOfMemory};
 use std::alloc::Global;
 use std::string::String;
+use std::test::Fail;
 
 // The number of a text, unless there are a thousand.
 fn added(names: &mut Names, text: &str) -> Result<u32, OutOfMemory> {
@@ -13,22 +13,13 @@ fn added(names: &mut Names, text: &str) -> Result<u32, OutOfMemory> {
     }
 }
 
-// The numbers of three texts, of which the last is an old one.
-fn numbered(names: &mut Names) -> Result<[u32; 3], OutOfMemory> {
-    Ok([added(names, "a")?, added(names, "b")?, added(names, "a")?])
-}
-
-// Tells how many texts are held, whether the second is, and the numbers of that and of another.
-fn tell_held(told: &mut String, names: &Names) -> Result<(), OutOfMemory> {
-    let second = 1 < names.len() && names.text(1) == "b";
-    let (held, other) = (names.find("b"), names.find("c"));
-    write!(told, " {} {second} {held:?} {other:?}", names.len())
-}
-
+// Tells the numbers of three texts, of which the last is an old one; how many are held then, whether the second is, and the numbers
+// of that and of a fourth.
 fn tell_few(told: &mut String, names: &mut Names) -> Result<(), OutOfMemory> {
-    let numbers = numbered(names)?;
-    write!(told, "{numbers:?}")?;
-    tell_held(told, names)
+    let numbers = [added(names, "a")?, added(names, "b")?, added(names, "a")?];
+    let (len, found) = (names.len(), [names.find("b"), names.find("c")]);
+    let second = 1 < len && names.text(1) == "b";
+    write!(told, "{numbers:?} {len} {second} {found:?}")
 }
 
 // Whether each of two thousand texts gets the number of the thousand that they repeat.
@@ -53,21 +44,15 @@ fn many(alloc: Global, text: &mut String) -> Result<bool, OutOfMemory> {
     are_repeated(text, &mut names)
 }
 
-fn tell(alloc: Global, told: &mut String) -> Result<(), OutOfMemory> {
-    let repeated = many(alloc, told)?;
+#[test]
+fn texts_are_numbered(rt: HostRuntime) -> Result<(), Fail> {
+    let mut told = String::new(rt.alloc());
+    let repeated = many(rt.alloc(), &mut told)?;
     told.clear();
-    write!(told, "{repeated} ")?;
-    few(alloc, told)
-}
-
-/// Tells what is told otherwise.
-pub fn tell_wrong(alloc: Global, wrong: &mut String) -> Result<(), OutOfMemory> {
-    let mut told = String::new(alloc);
-    tell(alloc, &mut told)?;
-    compare(
-        wrong,
-        "names",
-        told.as_str(),
-        "true [0, 1, 0] 2 true Some(1) None",
-    )
+    few(rt.alloc(), &mut told)?;
+    assert_eq!(rt;
+        (repeated, told.as_str()),
+        (true, "[0, 1, 0] 2 true [Some(1), None]")
+    );
+    Ok(())
 }

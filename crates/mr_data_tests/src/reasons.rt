@@ -1,9 +1,8 @@
 //! Reasons and rules by number and name, identities in order, and lists of pairs.
-use crate::texts::compare;
 use mr_ast::{OutOfMemory, Rule};
 use mr_base::{AllocId, Pair, Reason, Status, Verdict, any_meeting, any_twice};
-use std::alloc::Global;
 use std::string::String;
+use std::test::Fail;
 
 fn tell_reasons(told: &mut String) -> Result<(), OutOfMemory> {
     for reason in [Reason::DataRace, Reason::Overflow, Reason::NotHolder] {
@@ -133,9 +132,10 @@ const WANTED: &str = "100 DataRace
 None None
 ";
 
-/// Tells what is told otherwise.
-pub fn tell_wrong(alloc: Global, wrong: &mut String) -> Result<(), OutOfMemory> {
-    let mut told = String::new(alloc);
+#[test]
+fn reasons_and_pairs(rt: HostRuntime) -> Result<(), Fail> {
+    let mut told = String::new(rt.alloc());
     tell(&mut told)?;
-    compare(wrong, "reasons", told.as_str(), WANTED)
+    assert_eq!(rt; told.as_str(), WANTED);
+    Ok(())
 }

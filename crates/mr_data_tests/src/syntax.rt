@@ -1,9 +1,10 @@
 //! Types are compared and copied.
-use crate::layouts::told;
-use crate::texts::compare;
-use mr_ast::{OutOfMemory, Tree, Ty, Variant};
+use crate::texts::{program_of, type_of};
+use mr_ast::{OutOfMemory, Program, Tree, Ty, Variant};
+use mr_parse::parse;
 use std::alloc::Global;
 use std::string::String;
+use std::test::Fail;
 
 // Whether a copy of a type, a tree or a variant is another.
 fn is_copied(copy: Result<Ty, OutOfMemory>, other: &Ty) -> Result<bool, OutOfMemory> {
@@ -78,19 +79,34 @@ fn parts(ty: &Ty) -> Option<(&Variant, &Tree)> {
     }
 }
 
-/// Tells whether two types are equal, themselves and by a copy of the first; of enums, the same of their parts.
-pub fn tell_equality(
-    alloc: Global,
-    told: &mut String,
-    first: &Ty,
-    second: &Ty,
-) -> Result<(), OutOfMemory> {
+fn tell(alloc: Global, told: &mut String, first: &Ty, second: &Ty) -> Result<(), OutOfMemory> {
     let types = compared(alloc, first, second)?;
     write!(told, "{types:?}")?;
     tell_parts(alloc, told, first, second)
 }
 
-// Three pairs of an enum and a bool; and the same with another tag, another chunk, and another reference.
+fn tell_in(alloc: Global, told: &mut String, program: &Program) -> Result<(), OutOfMemory> {
+    match (type_of(program, 1), type_of(program, 2)) {
+        (Some(first), Some(second)) => tell(alloc, told, first, second),
+        _ => write!(told, "no types"),
+    }
+}
+
+fn tell_of(alloc: Global, told: &mut String, text: &str) -> Result<(), OutOfMemory> {
+    match parse(alloc, text.as_bytes()) {
+        Ok(program) => tell_in(alloc, told, &program),
+        Err(_) => write!(told, "no program"),
+    }
+}
+
+fn told(alloc: Global, first: &str, second: &str) -> Result<String, OutOfMemory> {
+    let text = program_of(alloc, &[first, second])?;
+    let mut told = String::new(alloc);
+    tell_of(alloc, &mut told, text.as_str())?;
+    Ok(told)
+}
+
+// Three pairs of an enum and a bool: with another tag, another chunk and another reference than in the first.
 const DEEP: &str =
     "array(3, tuple size 24 align 8 { 0: enum size 16 align 8 disc i8 { 0: ref 4 4 tag { 8: u8 = 1 }, 1: union size 16 align 8 { 0: u32 } chunks { 0 4 } tag { 8: u8 = 2 } } branch 8 u8 { 1 => known 0, _ => known 1 }, 16: bool })";
 
@@ -126,12 +142,15 @@ static TYPES: [(&str, &str, &str); 9] = [
     ),
 ];
 
-/// Tells the rows that are told otherwise.
-pub fn tell_wrong(alloc: Global, wrong: &mut String) -> Result<(), OutOfMemory> {
+#[test]
+fn types_are_compared(rt: HostRuntime) -> Result<(), Fail> {
     for row in TYPES.iter() {
         let (first, second, wanted) = *row;
-        let told = told(alloc, &[first, second])?;
-        compare(wrong, second, told.as_str(), wanted)?;
+        assert_eq!(rt;
+            told(rt.alloc(), first, second)?.as_str(),
+            wanted,
+            "{first} {second}"
+        );
     }
     Ok(())
 }

@@ -17,19 +17,6 @@ pub fn program_of(alloc: Global, types: &[&str]) -> Result<String, OutOfMemory> 
     Ok(text)
 }
 
-/// Tells what is told otherwise than it is wanted.
-pub fn compare(
-    wrong: &mut String,
-    subject: &str,
-    told: &str,
-    wanted: &str,
-) -> Result<(), OutOfMemory> {
-    if told == wanted {
-        return Ok(());
-    }
-    write!(wrong, "{subject}: {told}\n")
-}
-
 /// The type of the main function's local with this number, counted from 0.
 pub fn type_of(program: &Program, n: usize) -> Option<&Ty> {
     let function = program.functions.as_slice().get(0)?;

@@ -6,7 +6,7 @@ ghost use Rattle.mr_runs.specs.Pieces.{bytes_of_pieces};
 ghost use Rattle.mr_value.specs.Shape.{has_shape};
 
 use crate::spelled::{show, spelled};
-use crate::texts::{compare, program_of, type_of};
+use crate::texts::{program_of, type_of};
 use mr_ast::{OutOfMemory, Program, Ty};
 use mr_base::{AbstractByte, AllocId, Pointer};
 use mr_layout::{broken_rule, size};
@@ -15,6 +15,7 @@ use mr_runs::{Runs, View};
 use mr_value::{Val, decode, decode_scalar, encode};
 use std::alloc::Global;
 use std::string::String;
+use std::test::Fail;
 
 // Something, if the type breaks no rule and has so many bytes.
 fn has_size(t: &Ty, len: u64) -> Option<()>
@@ -221,12 +222,15 @@ static VALUES: [(&str, &str, &str); 21] = [
     ),
 ];
 
-/// Tells the rows that are told otherwise.
-pub fn tell_wrong(alloc: Global, wrong: &mut String) -> Result<(), OutOfMemory> {
+#[test]
+fn bytes_mean_values(rt: HostRuntime) -> Result<(), Fail> {
     for row in VALUES.iter() {
         let (ty, bytes, wanted) = *row;
-        let told = told(alloc, ty, bytes)?;
-        compare(wrong, bytes, told.as_str(), wanted)?;
+        assert_eq!(rt;
+            told(rt.alloc(), ty, bytes)?.as_str(),
+            wanted,
+            "{ty} {bytes}"
+        );
     }
     Ok(())
 }
