@@ -30,9 +30,9 @@ use Rattle.mr_eval.specs.declared.env.Env.{Env}
 use Rattle.mr_eval.specs.declared.halt.Halt.{Halt}
 use Rattle.mr_eval.specs.declared.halt.Halt.TheVariants as halt
 use Rattle.mr_eval.specs.Answers.{Gives}
-use Rattle.mr_eval.specs.Environment.{IsEnvOf, IsRuled, PlaceIn, ShapedAs, ValueIn, env_scene, locals_of}
+use Rattle.mr_eval.specs.Environment.{IsEnvOf, IsRuled, PlaceIn, ShapedAs, ValueIn, env_surround, locals_of}
 use Rattle.mr_eval.specs.Evaluated.{placed, read_typed, valued}
-use Rattle.mr_eval.specs.Evaluation.{Scene}
+use Rattle.mr_eval.specs.Evaluation.{Surround}
 use Rattle.mr_eval.specs.Reads.{Seen}
 use Rattle.mr_eval.specs.Sound.{Comes, SoundPlace, SoundValue, Stands, any_result}
 use Rattle.mr_eval.specs.Stores.{stored_typed, storing}
@@ -42,8 +42,8 @@ use Rattle.mr_eval.proofs.SafeRuns.{place_comes, safe_comes, value_comes}
 use Rattle.mr_eval.proofs.ExprSafe.{value_safe}
 use Rattle.mr_eval.proofs.FoundFits.{comes_to}
 
--- a scene with these locals
-abbrev pub with_locals : Scene → List Local → Scene
+-- a surround with these locals
+abbrev pub with_locals : Surround → List Local → Surround
 with_locals s ls = record s { locals = ls }
 
 -- a stop of a run that is never without a rule
@@ -53,42 +53,42 @@ ruled view halt.IllFormed o s P given comes = subst (Comes P) given comes
 ruled view halt.Memory o s P given comes = tt
 
 module _ (e : Env) (well : WellFormed e.program.now) where
-  -- the locals of the function are those of the scene, and their types break no rule
-  scene_locals : (f : Function) → IsEnvOf f e → (env_scene e).locals ≡ f.locals
-  scene_locals f env = ap locals_of env.function
+  -- the locals of the function are those of the surround, and their types break no rule
+  surround_locals : (f : Function) → IsEnvOf f e → (env_surround e).locals ≡ f.locals
+  surround_locals f env = ap locals_of env.function
 
-  types_ok : (f : Function) → IsEnvOf f e → All (λ (l : Local). TypeOk l.ty) (env_scene e).locals
+  types_ok : (f : Function) → IsEnvOf f e → All (λ (l : Local). TypeOk l.ty) (env_surround e).locals
   types_ok f env =
       let all = (well_formed_keeps e.program.now well).functions in
       let within = slice_get_within e.program.now.functions e.function.0 f env.function in
       let whole : UnbrokenFunction e.program.now f = subst (UnbrokenFunction e.program.now) (get_or_from_slice_get e.program.now.functions e.function.0 f f env.function) (all e.function.0 f within) in
-      subst (All (λ (l : Local). TypeOk l.ty)) (sym (scene_locals f env)) whole.locals
+      subst (All (λ (l : Local). TypeOk l.ty)) (sym (surround_locals f env)) whole.locals
 
-  scene_stands : (f : Function) → IsEnvOf f e → Stands (named_in e.program.now f) (env_scene e)
-  scene_stands f env = record {
-    locals = sym (ap length (scene_locals f env));
-    storage = env.locals ∙ sym (ap length (scene_locals f env));
+  surround_stands : (f : Function) → IsEnvOf f e → Stands (named_in e.program.now f) (env_surround e)
+  surround_stands f env = record {
+    locals = sym (ap length (surround_locals f env));
+    storage = env.locals ∙ sym (ap length (surround_locals f env));
     functions = env.functions;
     globals = env.globals;
     types = types_ok f env;
   }
 
-  pub env_place : (p : Place) → PlaceIn e p → SoundPlace (env_scene e) p
+  pub env_place : (p : Place) → PlaceIn e p → SoundPlace (env_surround e) p
   env_place p h = record {
     named = named_in e.program.now h.function;
     sizes = sizes_of e.program.now.globals;
-    stands = scene_stands h.function h.env;
+    stands = surround_stands h.function h.env;
     shaped = h.shaped;
-    unbroken = subst (λ (ls : List Local). broken_in_place (record { sizes = sizes_of e.program.now.globals; locals = ls }) p ≡ []) (sym (scene_locals h.function h.env)) h.unbroken;
+    unbroken = subst (λ (ls : List Local). broken_in_place (record { sizes = sizes_of e.program.now.globals; locals = ls }) p ≡ []) (sym (surround_locals h.function h.env)) h.unbroken;
   }
 
-  pub env_value : (v : Value) → ValueIn e v → SoundValue (env_scene e) v
+  pub env_value : (v : Value) → ValueIn e v → SoundValue (env_surround e) v
   env_value v h = record {
     named = named_in e.program.now h.function;
     sizes = sizes_of e.program.now.globals;
-    stands = scene_stands h.function h.env;
+    stands = surround_stands h.function h.env;
     shaped = h.shaped;
-    unbroken = subst (λ (ls : List Local). broken_in_value (record { sizes = sizes_of e.program.now.globals; locals = ls }) v ≡ []) (sym (scene_locals h.function h.env)) h.unbroken;
+    unbroken = subst (λ (ls : List Local). broken_in_value (record { sizes = sizes_of e.program.now.globals; locals = ls }) v ≡ []) (sym (surround_locals h.function h.env)) h.unbroken;
   }
 
 -- ---- what the calls come to
@@ -98,10 +98,10 @@ comes_also P Q f (Went x s) h = f x h
 comes_also P Q f (Refused r) h = tt
 comes_also P Q f Broken h = h
 
-pub place_ruled : (m : Memory) (s : Scene) (p : Place) (old : Seen) → SoundPlace s p → Comes any_result (placed m s p old)
+pub place_ruled : (m : Memory) (s : Surround) (p : Place) (old : Seen) → SoundPlace s p → Comes any_result (placed m s p old)
 place_ruled m s p old h = place_comes h.named h.sizes s h.stands m old p h.shaped h.unbroken
 
-pub value_ruled : (m : Memory) (s : Scene) (v : Value) (old : Seen) → SoundValue s v → Comes (ShapedAs s v) (valued m s v old)
+pub value_ruled : (m : Memory) (s : Surround) (v : Value) (old : Seen) → SoundValue s v → Comes (ShapedAs s v) (valued m s v old)
 value_ruled m s v old h =
     let is = value_safe h.named h.sizes s h.stands v h.shaped h.unbroken in
     comes_also (λ x. has_shape is.ty x ≡ true) (ShapedAs s v) (λ x k. record { ty = is.ty; is = is.is; shape = k }) (valued m s v old)
@@ -111,7 +111,7 @@ pub load_ruled : (m : Memory) (t : Ty) (p : Pointer) (old : Seen) → TypeOk t �
 unfolding read_typed
 load_ruled m t p old ok = safe_comes (λ v. has_shape t v ≡ true) m (loading t p) (loading_safe t p ok) old
 
-pub value_shaped : (m : Memory) (s : Scene) (v : Value) (x : Val) (old new : Seen) → SoundValue s v → valued m s v old ≡ Went x new → ShapedAs s v x
+pub value_shaped : (m : Memory) (s : Surround) (v : Value) (x : Val) (old new : Seen) → SoundValue s v → valued m s v old ≡ Went x new → ShapedAs s v x
 value_shaped m s v x old new h went = comes_to (ShapedAs s v) _ x new went (value_ruled m s v old h)
 
 -- the store of the bytes of a value

@@ -28,11 +28,11 @@ use Rattle.mr_eval.specs.Reads.{ReadScript, Seen, reading}
 use Rattle.mr_eval.specs.Moves.{behind, moved}
 use Rattle.mr_eval.specs.Typed.{searched}
 use Rattle.mr_eval.specs.Operators.{binary_of, bits_of_value, cast_value, or_ill_formed, pointer_of_value, unary_of}
-use Rattle.mr_eval.specs.Evaluation.{Scene, bare, discriminant_at, discriminant_layer, element_at, elements_in, loaded, offset_in, place_script, stored, transmuted, union_of, value_script, values_script}
+use Rattle.mr_eval.specs.Evaluation.{Surround, bare, discriminant_at, discriminant_layer, element_at, elements_in, loaded, offset_in, place_script, stored, transmuted, union_of, value_script, values_script}
 use Rattle.mr_eval.specs.Evaluated.{disc_at, disc_layer, each_valued, found_number, in_array, in_field, load_at, meant_by, placed, read_typed, transmuted_to, valued}
 use Rattle.mr_eval.proofs.EvaluationLaws.{script_addr_of, script_binary, script_cast, script_deref, script_disc, script_false, script_field, script_fn, script_global, script_index, script_int, script_load, script_local, script_raw, script_transmute, script_true, script_tuple, script_unary, script_union, script_variant, script_variant_place}
 
-module _ (m : Memory) (s : Scene) (old : Seen) where
+module _ (m : Memory) (s : Surround) (old : Seen) where
   -- scripts that are one run to one outcome
   along : {A : Type 0} (x y : ReadScript A) → x ≡ y → run (reading m) x old ≡ run (reading m) y old
   along x y e = ap (λ (script : ReadScript _). run (reading m) script old) e
@@ -165,25 +165,25 @@ module _ (m : Memory) where
   transmute_is to None v seen = refl
   transmute_is to (Some from) v seen = refl
 
-  pub eval_load : (s : Scene) (old : Seen) (p : Place) → valued m s (value.Load p) old ≡ on (placed m s p old) (λ a seen. load_at m (type_of_place s.locals p) a seen)
+  pub eval_load : (s : Surround) (old : Seen) (p : Place) → valued m s (value.Load p) old ≡ on (placed m s p old) (λ a seen. load_at m (type_of_place s.locals p) a seen)
   unfolding placed valued
   eval_load s old p = then m s old _ (place_script s p) (loaded (type_of_place s.locals p)) (script_load s p) ∙ on_same (placed m s p old) _ _ (load_is (type_of_place s.locals p))
 
-  pub eval_disc : (s : Scene) (old : Seen) (p : Place) → valued m s (value.Disc p) old ≡ on (placed m s p old) (λ a seen. disc_at m (type_of_place s.locals p) a seen)
+  pub eval_disc : (s : Surround) (old : Seen) (p : Place) → valued m s (value.Disc p) old ≡ on (placed m s p old) (λ a seen. disc_at m (type_of_place s.locals p) a seen)
   unfolding placed valued
   eval_disc s old p = then m s old _ (place_script s p) (discriminant_at (type_of_place s.locals p)) (script_disc s p) ∙ on_same (placed m s p old) _ _ (disc_is (type_of_place s.locals p))
 
-  pub eval_transmute : (s : Scene) (old : Seen) (t : Ty) (v : Value) → valued m s (value.Transmute t v) old ≡ on (valued m s v old) (λ a seen. transmuted_to m t (type_of_value s.locals v) a seen)
+  pub eval_transmute : (s : Surround) (old : Seen) (t : Ty) (v : Value) → valued m s (value.Transmute t v) old ≡ on (valued m s v old) (λ a seen. transmuted_to m t (type_of_value s.locals v) a seen)
   unfolding valued
   eval_transmute s old t v = then m s old _ (value_script s v) (transmuted t (type_of_value s.locals v)) (script_transmute s t v) ∙ on_same (valued m s v old) _ _ (transmute_is t (type_of_value s.locals v))
 
 -- ---- rows
 
-pub each_none : (m : Memory) (s : Scene) (old : Seen) → each_valued m s [] old ≡ Went [] old
+pub each_none : (m : Memory) (s : Surround) (old : Seen) → each_valued m s [] old ≡ Went [] old
 unfolding each_valued
 each_none m s old = refl
 
-pub each_more : (m : Memory) (s : Scene) (old : Seen) (v : Value) (vs : List Value)
+pub each_more : (m : Memory) (s : Surround) (old : Seen) (v : Value) (vs : List Value)
     → each_valued m s (v ∷ vs) old ≡ on (valued m s v old) (λ x seen. on (each_valued m s vs seen) (λ xs last. Went (x ∷ xs) last))
 unfolding valued each_valued
 each_more m s old v vs =
@@ -191,7 +191,7 @@ each_more m s old v vs =
     ∙ on_same (valued m s v old) _ _ (λ x seen. run_bind (reading m) (values_script s vs) (λ xs. Done (x ∷ xs)) seen)
 
 -- the values from a position on, of which one is first
-pub each_at : (m : Memory) (s : Scene) (old : Seen) (vs : List Value) (i : ℕ) (d : Value) → i < length vs
+pub each_at : (m : Memory) (s : Surround) (old : Seen) (vs : List Value) (i : ℕ) (d : Value) → i < length vs
     → each_valued m s (drop i vs) old ≡ on (valued m s (get_or vs i d) old) (λ x seen. on (each_valued m s (drop (i + 1) vs) seen) (λ xs last. Went (x ∷ xs) last))
 each_at m s old vs i d lt = ap (λ (row : List Value). each_valued m s row old) (drop_more vs i d lt) ∙ each_more m s old (get_or vs i d) (drop (i + 1) vs)
 

@@ -24,7 +24,7 @@ use Rattle.mr_wf.specs.Types.{type_of_place, type_of_value}
 use Rattle.mr_eval.specs.Reads.{ReadScript}
 use Rattle.mr_eval.specs.Moves.{behind, moved}
 use Rattle.mr_eval.specs.Operators.{binary_of, bits_of_value, cast_value, or_ill_formed, pointer_of_value, unary_of}
-use Rattle.mr_eval.specs.Evaluation.{Scene, bare, discriminant_at, element_at, elements_in, in_order, loaded, offset_in, place_script, place_step, stored, transmuted, union_of, value_script, value_step, values_script}
+use Rattle.mr_eval.specs.Evaluation.{Surround, bare, discriminant_at, element_at, elements_in, in_order, loaded, offset_in, place_script, place_step, stored, transmuted, union_of, value_script, value_step, values_script}
 
 abbrev Located : Type 0
 Located = Place × ReadScript Pointer
@@ -32,7 +32,7 @@ Located = Place × ReadScript Pointer
 abbrev Valued : Type 0
 Valued = Value × ReadScript Val
 
-module _ (s : Scene) where
+module _ (s : Surround) where
   abbrev with_pointer : Place → Located
   with_pointer p = (p, place_script s p)
 

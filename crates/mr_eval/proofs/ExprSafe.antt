@@ -53,7 +53,7 @@ use Rattle.mr_wf.proofs.TypeLaws.{type_of_addr_of, type_of_binary, type_of_cast,
 use Rattle.mr_wf.proofs.TypedLaws.{TypedPlace, typed_addr_of, typed_binary, typed_cast, typed_deref, typed_disc, typed_field, typed_index, typed_int, typed_load, typed_transmute, typed_tuple, typed_unary, typed_union, typed_variant, typed_variant_place}
 use Rattle.mr_eval.specs.Moves.{behind, moved}
 use Rattle.mr_eval.specs.Operators.{binary_of, bits_in, bits_of_value, cast_value, or_ill_formed, pointer_in, pointer_of_value, unary_of}
-use Rattle.mr_eval.specs.Evaluation.{Scene, bare, discriminant_at, element_at, elements_in, loaded, offset_in, place_script, stored, transmuted, union_of, value_script, values_script}
+use Rattle.mr_eval.specs.Evaluation.{Surround, bare, discriminant_at, element_at, elements_in, loaded, offset_in, place_script, stored, transmuted, union_of, value_script, values_script}
 use Rattle.mr_eval.specs.Sound.{IsSafe, Stands, any_result}
 use Rattle.mr_eval.proofs.DiscSafe.{discriminant_safe}
 use Rattle.mr_eval.proofs.EvaluationLaws.{script_addr_of, script_binary, script_cast, script_deref, script_disc, script_false, script_field, script_fn, script_global, script_index, script_int, script_load, script_local, script_raw, script_transmute, script_true, script_tuple, script_unary, script_union, script_variant, script_variant_place}
@@ -132,20 +132,20 @@ result_ok op l t e ok = by_kind (compares op) (tells_overflow op) e
 -- ---- expressions
 
 -- a place whose type is well-formed and whose evaluation is safe
-pub record IsPlace (s : Scene) (p : Place) : Type 0 where
+pub record IsPlace (s : Surround) (p : Place) : Type 0 where
   pub ty : Ty
   pub is : type_of_place s.locals p ≡ Some ty
   pub ok : TypeOk ty
   pub safe : IsSafe any_result (place_script s p)
 
 -- the same of a value
-pub record IsValue (s : Scene) (v : Value) : Type 0 where
+pub record IsValue (s : Surround) (v : Value) : Type 0 where
   pub ty : Ty
   pub is : type_of_value s.locals v ≡ Some ty
   pub ok : TypeOk ty
   pub safe : IsSafe (Shaped ty) (value_script s v)
 
-module _ (named : Named) (sizes : List ℕ) (s : Scene) (stands : Stands named s) where
+module _ (named : Named) (sizes : List ℕ) (s : Surround) (stands : Stands named s) where
   abbrev at : Surroundings
   at = record { sizes = sizes; locals = s.locals }
 

@@ -8,7 +8,7 @@ use Rattle.mr_value.specs.declared.val.Val.{Val}
 use Rattle.mr_eval.specs.declared.halt.Halt.{Halt}
 use Rattle.mr_eval.specs.Answers.{Gives, same, value_in}
 use Rattle.mr_eval.specs.Evaluated.{each_valued, valued}
-use Rattle.mr_eval.specs.Evaluation.{Scene}
+use Rattle.mr_eval.specs.Evaluation.{Surround}
 use Rattle.mr_eval.specs.Reads.{Seen}
 use Rattle.mr_eval.proofs.EvalRuns.{each_at, each_none}
 use Rattle.mr_eval.proofs.GivesLaws.{gives_stop}
@@ -22,7 +22,7 @@ one_more row x (Went xs s) = ap (λ (all : List Val). Went all s) (sym (append_a
 one_more row x (Refused r) = refl
 one_more row x Broken = refl
 
-module _ (m : Memory) (s : Scene) (vs : List Value) (i : ℕ) (row : List Val) (old last : Seen) (so_far : each_valued m s vs old ≡ behind_row row (each_valued m s (drop i vs) last)) where
+module _ (m : Memory) (s : Surround) (vs : List Value) (i : ℕ) (row : List Val) (old last : Seen) (so_far : each_valued m s vs old ≡ behind_row row (each_valued m s (drop i vs) last)) where
   -- all are there
   pub row_end : length vs ≤ i → each_valued m s vs old ≡ Went row last
   row_end le =

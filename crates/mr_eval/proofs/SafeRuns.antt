@@ -10,7 +10,7 @@ use Rattle.mr_script.specs.Script.{Done, Undefined, IllFormed, Ask, Outcome, Wen
 use Rattle.mr_wf.specs.Broken.{broken_in_place, broken_in_value}
 use Rattle.mr_eval.specs.Reads.{Check, Read, ReadQuery, ReadReply, ReadScript, Refer, Seen, accessing, answered, named, reading, seeing, touching}
 use Rattle.mr_eval.specs.Evaluated.{placed, valued}
-use Rattle.mr_eval.specs.Evaluation.{Scene, place_script, value_script}
+use Rattle.mr_eval.specs.Evaluation.{Surround, place_script, value_script}
 use Rattle.mr_eval.specs.Sound.{Comes, Good, IsSafe, Stands, any_result}
 use Rattle.mr_eval.proofs.ExprSafe.{place_safe, value_safe}
 use Rattle.mr_eval.proofs.OperatorsSafe.{Shaped}
@@ -49,7 +49,7 @@ module _ {A : Type 0} (P : A → Type 0) (m : Memory) where
 
 -- ---- expressions
 
-module _ (named : Named) (sizes : List ℕ) (s : Scene) (stands : Stands named s) (m : Memory) (seen : Seen) where
+module _ (named : Named) (sizes : List ℕ) (s : Surround) (stands : Stands named s) (m : Memory) (seen : Seen) where
   pub place_comes : (p : Place) → is_shaped_place named p ≡ true → broken_in_place (record { sizes = sizes; locals = s.locals }) p ≡ [] → Comes any_result (placed m s p seen)
   unfolding placed
   place_comes p shaped none = safe_comes any_result m (place_script s p) (place_safe named sizes s stands p shaped none).safe seen

@@ -34,7 +34,7 @@ use Rattle.mr_wf.specs.Broken.{broken_in_place, broken_in_value}
 use Rattle.mr_wf.proofs.TypedLaws.{typed_addr_of, typed_binary, typed_cast, typed_deref, typed_disc, typed_field, typed_index, typed_int, typed_load, typed_transmute, typed_tuple, typed_unary, typed_union, typed_variant, typed_variant_place}
 use Rattle.mr_eval.specs.Answers.{FieldShaped}
 use Rattle.mr_eval.specs.Evaluated.{valued}
-use Rattle.mr_eval.specs.Evaluation.{Scene}
+use Rattle.mr_eval.specs.Evaluation.{Surround}
 use Rattle.mr_eval.specs.Reads.{Seen}
 use Rattle.mr_eval.proofs.FoundFits.{comes_to}
 use Rattle.mr_eval.proofs.OperatorsSafe.{Shaped}
@@ -46,7 +46,7 @@ is_type_there : (o : Option Ty) (u : Ty) → is_type o u ≡ true → o ≡ Some
 is_type_there None u e = absurd (cc)
 is_type_there (Some t) u e = ap Some (sym (same_type_equal u t e))
 
-module _ (s : Scene) where
+module _ (s : Surround) where
   a_place : (p : Place) (named : Named) (sizes : List ℕ) → Stands named s → is_shaped_place named p ≡ true → broken_in_place (around sizes s) p ≡ [] → SoundPlace s p
   a_place p named sizes stands shaped unbroken = record { named = named; sizes = sizes; stands = stands; shaped = shaped; unbroken = unbroken }
 

@@ -14,7 +14,7 @@ use Rattle.mr_eval.specs.declared.valuing.Valued.{Valued}
 use Rattle.mr_value.specs.declared.val.Val.{Val}
 use Rattle.mr_value.specs.Shape.{has_shape}
 use Rattle.mr_wf.specs.Types.{field_type}
-use Rattle.mr_eval.specs.Evaluation.{Scene}
+use Rattle.mr_eval.specs.Evaluation.{Surround}
 use Rattle.mr_eval.specs.Reads.{ReadScript, Seen}
 
 -- notes without where they lie
@@ -49,9 +49,9 @@ at_pointer p = p.at
 abbrev pub value_in : Valued → Val
 value_in v = v.value
 
--- the scene of an evaluation
-abbrev pub scene_of : Here → Scene
-scene_of h = record { locals = h.locals.now; storage = h.storage.now; functions = h.functions.now; globals = h.globals.now }
+-- the surround of an evaluation
+abbrev pub surround_of : Here → Surround
+surround_of h = record { locals = h.locals.now; storage = h.storage.now; functions = h.functions.now; globals = h.globals.now }
 
 -- a result as it is
 abbrev pub same : {X : Type 0} → X → X

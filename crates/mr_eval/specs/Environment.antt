@@ -16,7 +16,7 @@ use Rattle.mr_value.specs.Shape.{has_shape}
 use Rattle.mr_value.specs.declared.val.Val.{Val}
 use Rattle.mr_wf.specs.Broken.{broken_in_place, broken_in_value, surroundings}
 use Rattle.mr_wf.specs.Types.{type_of_value}
-use Rattle.mr_eval.specs.Evaluation.{Scene}
+use Rattle.mr_eval.specs.Evaluation.{Surround}
 use Rattle.mr_eval.specs.declared.env.Env.{Env}
 use Rattle.mr_eval.specs.declared.halt.Halt.{Halt}
 use Rattle.mr_eval.specs.declared.halt.Halt.TheVariants as halt
@@ -26,9 +26,9 @@ abbrev pub locals_of : Option Function → List Local
 locals_of None = []
 locals_of (Some f) = f.locals
 
--- the scene of an environment
-abbrev pub env_scene : Env → Scene
-env_scene e = record {
+-- the surround of an environment
+abbrev pub env_surround : Env → Surround
+env_surround e = record {
   locals = locals_of (slice_get e.program.now.functions e.function.0);
   storage = e.locals.now;
   functions = e.functions.now;
@@ -58,7 +58,7 @@ pub record ValueIn (e : Env) (v : Value) : Type 0 where
   pub unbroken : broken_in_value (surroundings e.program.now function) v ≡ []
 
 -- a value has the shape of the expression's type
-pub record ShapedAs (s : Scene) (v : Value) (x : Val) : Type 0 where
+pub record ShapedAs (s : Surround) (v : Value) (x : Val) : Type 0 where
   pub ty : Ty
   pub is : type_of_value s.locals v ≡ Some ty
   pub shape : has_shape ty x ≡ true

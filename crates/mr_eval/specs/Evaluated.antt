@@ -21,14 +21,14 @@ use Rattle.mr_value.specs.Encode.{encoding_of}
 use Rattle.mr_script.specs.Script.{Broken, Outcome, Went, ◌>>=◌, on, run}
 use Rattle.mr_eval.specs.Reads.{Seen, reading}
 use Rattle.mr_eval.specs.Typed.{Targets, loading, meant, numbered, referring, searched}
-use Rattle.mr_eval.specs.Evaluation.{Scene, element_at, elements_in, offset_in, place_script, value_script, values_script}
+use Rattle.mr_eval.specs.Evaluation.{Surround, element_at, elements_in, offset_in, place_script, value_script, values_script}
 use Rattle.mr_eval.specs.Moves.{moved}
 use Rattle.mr_eval.specs.Operators.{bits_of_value, or_ill_formed}
 
-unfoldable pub placed : Memory → Scene → Place → Seen → Outcome Pointer Seen
+unfoldable pub placed : Memory → Surround → Place → Seen → Outcome Pointer Seen
 placed m s p seen = run (reading m) (place_script s p) seen
 
-unfoldable pub valued : Memory → Scene → Value → Seen → Outcome Val Seen
+unfoldable pub valued : Memory → Surround → Value → Seen → Outcome Val Seen
 valued m s v seen = run (reading m) (value_script s v) seen
 
 -- the integer of a branch of a tree, at a pointer
@@ -59,7 +59,7 @@ meant_by m r t bytes seen = run (reading m) (meant r t bytes) seen
 -- ---- the levels of expressions
 
 -- the values of expressions, from left to right
-unfoldable pub each_valued : Memory → Scene → List Value → Seen → Outcome (List Val) Seen
+unfoldable pub each_valued : Memory → Surround → List Value → Seen → Outcome (List Val) Seen
 each_valued m s vs seen = run (reading m) (values_script s vs) seen
 
 -- the field of this number, of a whole of a type at a pointer

@@ -28,7 +28,7 @@ use Rattle.mr_eval.specs.Operators.{binary_of, bits_of_value, cast_value, or_ill
 
 -- Where an expression is evaluated: the locals of its function and the storage that each has, and the pointers to the functions and the
 -- globals of the program.
-pub record Scene : Type 0 where
+pub record Surround : Type 0 where
   pub locals : List Local
   pub storage : List (Option Pointer)
   pub functions : List Pointer
@@ -66,7 +66,7 @@ abbrev pub element_at : Pointer → ℕ → ℕ × ℕ → ReadScript Pointer
 element_at p i e = if nat_lt i e.0 then moved p (pos (i * e.1)) else Undefined IndexOutOfRange
 
 -- one level of a place, with each part beside its evaluation
-abbrev pub place_step : Scene → Place-F (Place × ReadScript Pointer) (Value × ReadScript Val) → ReadScript Pointer
+abbrev pub place_step : Surround → Place-F (Place × ReadScript Pointer) (Value × ReadScript Val) → ReadScript Pointer
 place_step s (Place-F.Local x) = stored (slice_get s.storage x.0)
 place_step s (Place-F.Deref pointer ty) = do
   v ← pointer.1
@@ -129,7 +129,7 @@ abbrev pub bare : ℕ → Pointer
 bare address = record { addr = address; prov = None }
 
 -- one level of a value, with each part beside its evaluation
-abbrev pub value_step : Scene → Value-F (Place × ReadScript Pointer) (Value × ReadScript Val) → ReadScript Val
+abbrev pub value_step : Surround → Value-F (Place × ReadScript Pointer) (Value × ReadScript Val) → ReadScript Val
 value_step s (Value-F.Int int number) = Done (val.Int (bits_of_number int number))
 value_step s Value-F.True = Done (val.Bool true)
 value_step s Value-F.False = Done (val.Bool false)
@@ -173,14 +173,14 @@ value_step s (Value-F.Binary op left right) = do
   binary_of op (type_of_value s.locals left.0) (type_of_value s.locals right.0) a b
 
 -- the pointer to a place, and the value of an expression
-unfoldable pub place_script : Scene → Place → ReadScript Pointer
+unfoldable pub place_script : Surround → Place → ReadScript Pointer
 place_script s = para-Place (ReadScript Pointer) (ReadScript Val) (place_step s) (value_step s)
 
-unfoldable pub value_script : Scene → Value → ReadScript Val
+unfoldable pub value_script : Surround → Value → ReadScript Val
 value_script s = para-Value (ReadScript Pointer) (ReadScript Val) (place_step s) (value_step s)
 
 -- the values of expressions, from left to right
-abbrev pub values_script : Scene → List Value → ReadScript (List Val)
+abbrev pub values_script : Surround → List Value → ReadScript (List Val)
 values_script s [] = Done []
 values_script s (v ∷ vs) = do
   x ← value_script s v

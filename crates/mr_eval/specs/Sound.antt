@@ -9,7 +9,7 @@ use Rattle.mr_layout.specs.TypeOk.{TypeOk}
 use Rattle.mr_script.specs.Script.{Broken, Outcome, Refused, Safe, Went}
 use Rattle.mr_wf.specs.Broken.{Surroundings, broken_in_place, broken_in_value}
 use Rattle.mr_eval.specs.Reads.{Check, Read, ReadQuery, ReadReply, ReadScript, Refer}
-use Rattle.mr_eval.specs.Evaluation.{Scene}
+use Rattle.mr_eval.specs.Evaluation.{Surround}
 
 -- what every memory answers: a load gives as many bytes as were asked for
 abbrev pub Good : (q : ReadQuery) → ReadReply q → Type 0
@@ -31,9 +31,9 @@ Comes P Broken = ⊥
 abbrev pub any_result : {A : Type 0} → A → Type 0
 any_result x = Unit {0}
 
--- A scene in which the names of a function stand for something: a storage for each local, a pointer for each function and each global;
+-- A surround in which the names of a function stand for something: a storage for each local, a pointer for each function and each global;
 -- and the types of the locals break no rule.
-pub record Stands (named : Named) (s : Scene) : Type 0 where
+pub record Stands (named : Named) (s : Surround) : Type 0 where
   pub locals : named.locals ≡ length s.locals
   pub storage : length s.storage ≡ length s.locals
   pub functions : length s.functions ≡ named.functions
@@ -42,12 +42,12 @@ pub record Stands (named : Named) (s : Scene) : Type 0 where
 
 -- ---- expressions of well-formed programs
 
--- where an expression of a scene stands
-abbrev pub around : List ℕ → Scene → Surroundings
+-- where an expression of a surround stands
+abbrev pub around : List ℕ → Surround → Surroundings
 around sizes s = record { sizes = sizes; locals = s.locals }
 
--- A place that breaks no rule in a scene in which its names stand for something.
-pub record SoundPlace (s : Scene) (p : Place) : Type 0 where
+-- A place that breaks no rule in a surround in which its names stand for something.
+pub record SoundPlace (s : Surround) (p : Place) : Type 0 where
   pub named : Named
   pub sizes : List ℕ
   pub stands : Stands named s
@@ -55,14 +55,14 @@ pub record SoundPlace (s : Scene) (p : Place) : Type 0 where
   pub unbroken : broken_in_place (around sizes s) p ≡ []
 
 -- The same of a value, and of values in a row.
-pub record SoundValue (s : Scene) (v : Value) : Type 0 where
+pub record SoundValue (s : Surround) (v : Value) : Type 0 where
   pub named : Named
   pub sizes : List ℕ
   pub stands : Stands named s
   pub shaped : is_shaped_value named v ≡ true
   pub unbroken : broken_in_value (around sizes s) v ≡ []
 
-pub record SoundValues (s : Scene) (vs : List Value) : Type 0 where
+pub record SoundValues (s : Surround) (vs : List Value) : Type 0 where
   pub named : Named
   pub sizes : List ℕ
   pub stands : Stands named s

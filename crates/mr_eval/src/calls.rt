@@ -3,7 +3,7 @@ ghost use Rattle.std.specs.Prelude.{◌≡◌, IfOk, OnErr, true};
 ghost use Rattle.mr_layout.specs.TypeOk.{TypeOk};
 ghost use Rattle.mr_value.specs.Shape.{has_shape};
 ghost use Rattle.mr_eval.specs.Answers.{Extends, seen};
-ghost use Rattle.mr_eval.specs.Environment.{IsRuled, Leaves, PlaceIn, ShapedAs, Tells, ValueIn, env_scene, fault_of};
+ghost use Rattle.mr_eval.specs.Environment.{IsRuled, Leaves, PlaceIn, ShapedAs, Tells, ValueIn, env_surround, fault_of};
 ghost use Rattle.mr_eval.specs.Evaluated.{placed, read_typed, valued};
 ghost use Rattle.mr_eval.specs.Stores.{stored_typed};
 
@@ -45,7 +45,7 @@ pub fn place(
     p: &Place,
 ) -> Result<Pointer, Fault>
     requires { PlaceIn e.now p.now }
-    ensures given { Tells result (placed m.now (env_scene e.now) p.now (seen n.old)) (seen n.new) }
+    ensures given { Tells result (placed m.now (env_surround e.now) p.now (seen n.old)) (seen n.new) }
     ensures kept { Extends (seen n.old) (seen n.new) }
 {
     let here = Here {
@@ -67,9 +67,9 @@ pub fn place(
 /// The value stands in the function of the environment. After `Err` the notes begin with what they held.
 pub fn value(alloc: Global, e: &Env<'_>, m: &Memory, n: &mut Notes, v: &Value) -> Result<Val, Fault>
     requires { ValueIn e.now v.now }
-    ensures given { Tells result (valued m.now (env_scene e.now) v.now (seen n.old)) (seen n.new) }
+    ensures given { Tells result (valued m.now (env_surround e.now) v.now (seen n.old)) (seen n.new) }
     ensures kept { Extends (seen n.old) (seen n.new) }
-    ensures shape { IfOk result (ShapedAs (env_scene e.now) v.now) }
+    ensures shape { IfOk result (ShapedAs (env_surround e.now) v.now) }
 {
     let here = Here {
         alloc,

@@ -19,11 +19,11 @@ pub struct Env<'a> {
 impl<'a> Env<'a> {
     ghost use Rattle.std.specs.Prelude.{◌≡◌};
     ghost use Rattle.mr_wf.specs.Walk.{WellFormed};
-    ghost use Rattle.mr_eval.specs.Environment.{env_scene};
+    ghost use Rattle.mr_eval.specs.Environment.{env_surround};
 
     /// The locals of the function.
     pub fn function_locals(&self) -> &'a [Local]
-        ensures locals { result.now ≡ (env_scene self.now).locals }
+        ensures locals { result.now ≡ (env_surround self.now).locals }
         ensures well_formed { WellFormed self.now.program.now }
     {
         match self

@@ -4,7 +4,7 @@ ghost use Rattle.mr_ast.specs.declared.types.Ty.{out-Ty};
 ghost use Rattle.mr_script.specs.Script.{run};
 ghost use Rattle.mr_value.specs.declared.val.Val.{out-Val};
 ghost use Rattle.mr_value.specs.declared.val.Val.TheVariants as val;
-ghost use Rattle.mr_eval.specs.Answers.{Extends, Gives, Says, at_pointer, beside_of, same, scene_of, seen, value_in};
+ghost use Rattle.mr_eval.specs.Answers.{Extends, Gives, Says, at_pointer, beside_of, same, surround_of, seen, value_in};
 ghost use Rattle.mr_eval.specs.Evaluated.{each_valued, placed, valued};
 ghost use Rattle.mr_eval.specs.Evaluation.{bare};
 ghost use Rattle.mr_eval.specs.Sound.{SoundPlace, SoundValue, SoundValues};
@@ -29,8 +29,8 @@ use mr_wf::Known;
 #[cycle(evaluated)]
 #[tactic(auto, using(crate::proofs::EvalRuns::eval_laws, crate::proofs::SoundParts::sound_laws, crate::proofs::SoundParts::type_facts, crate::proofs::SoundParts::int_fits, mr_wf::proofs::TypeLaws::type_laws, crate::proofs::ExtendsLaws::extends_laws))]
 pub fn placed<'p>(here: Here<'p>, notes: &mut Notes, place: &'p Place) -> Result<Placed<'p>, Halt>
-    requires { SoundPlace (scene_of here) place.now }
-    ensures given { Gives at_pointer result (placed here.entry.memory.now (scene_of here.entry) place.now (seen notes.old)) (seen notes.new) }
+    requires { SoundPlace (surround_of here) place.now }
+    ensures given { Gives at_pointer result (placed here.entry.memory.now (surround_of here.entry) place.now (seen notes.old)) (seen notes.new) }
     ensures ty { IfOk result (λ p. type_of_place here.entry.locals.now place.now ≡ Some p.ty.now) }
     ensures kept { Extends (seen notes.old) (seen notes.new) }
 {
@@ -74,8 +74,8 @@ fn bare(addr: u64) -> Pointer
 #[cycle(evaluated)]
 #[tactic(auto, using(crate::proofs::EvalRuns::eval_laws, crate::proofs::SoundParts::sound_laws, crate::proofs::SoundParts::type_facts, crate::proofs::SoundParts::int_fits, mr_wf::proofs::TypeLaws::type_laws, crate::proofs::ExtendsLaws::extends_laws))]
 pub fn valued<'p>(here: Here<'p>, notes: &mut Notes, value: &'p Value) -> Result<Valued<'p>, Halt>
-    requires { SoundValue (scene_of here) value.now }
-    ensures given { Gives value_in result (valued here.entry.memory.now (scene_of here.entry) value.now (seen notes.old)) (seen notes.new) }
+    requires { SoundValue (surround_of here) value.now }
+    ensures given { Gives value_in result (valued here.entry.memory.now (surround_of here.entry) value.now (seen notes.old)) (seen notes.new) }
     ensures ty { IfOk result (λ v. type_of_value here.entry.locals.now value.now ≡ Some (ty_of v.ty)) }
     ensures kept { Extends (seen notes.old) (seen notes.new) }
 {
@@ -151,8 +151,8 @@ fn each_valued<'p>(
     notes: &mut Notes,
     values: &'p [Value],
 ) -> Result<Items<Val>, Halt>
-    requires { SoundValues (scene_of here) values.now }
-    ensures given { Gives same result (each_valued here.entry.memory.now (scene_of here.entry) values.now (seen notes.old)) (seen notes.new) }
+    requires { SoundValues (surround_of here) values.now }
+    ensures given { Gives same result (each_valued here.entry.memory.now (surround_of here.entry) values.now (seen notes.old)) (seen notes.new) }
     ensures kept { Extends (seen notes.old) (seen notes.new) }
 {
     let mut row = Items::new(here.alloc);

@@ -14,7 +14,7 @@ use Rattle.mr_value.specs.Numbers.{Bytes}
 use Rattle.mr_wf.specs.Types.{type_of_place}
 use Rattle.mr_script.specs.Script.{Done, Outcome, Went, Refused, Broken, ◌>>=◌, on, run}
 use Rattle.mr_script.proofs.Runs.{run_bind}
-use Rattle.mr_eval.specs.Evaluation.{Scene, place_script, value_script}
+use Rattle.mr_eval.specs.Evaluation.{Surround, place_script, value_script}
 use Rattle.mr_eval.specs.Evaluated.{placed, read_typed, valued}
 use Rattle.mr_eval.specs.Moves.{behind}
 use Rattle.mr_eval.specs.Reads.{Seen, reading}
@@ -72,7 +72,7 @@ store_at : (t : Option Ty) (p : Pointer) (v : Val) → Makes (with_type t (λ u.
 store_at None p v w = refl
 store_at (Some t) p v w = makes_store t p v w
 
-module _ (s : Scene) (place : Place) where
+module _ (s : Surround) (place : Place) where
   pub makes_assign : (value : Value) → Makes (assign s place value) (λ m seen. assigned m s place value seen)
   unfolding assigned placed valued
   makes_assign value w =

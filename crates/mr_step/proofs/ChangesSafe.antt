@@ -30,7 +30,7 @@ use Rattle.mr_wf.specs.Broken.{broken_in_place, broken_in_value}
 use Rattle.mr_wf.specs.Types.{type_of_place, variant_among, variant_in, variant_type}
 use Rattle.mr_wf.proofs.TypedStmts.{typed_assign, typed_disc_stmt}
 use Rattle.mr_script.specs.Script.{Broken, Outcome, Refused, Went, on, run}
-use Rattle.mr_eval.specs.Evaluation.{Scene}
+use Rattle.mr_eval.specs.Evaluation.{Surround}
 use Rattle.mr_eval.specs.Evaluated.{placed, read_typed, valued}
 use Rattle.mr_eval.specs.Moves.{behind}
 use Rattle.mr_eval.specs.Reads.{Seen, accessing, answered, reading, seeing, touching}
@@ -97,7 +97,7 @@ tagged_comes m p (tag ∷ tags) seen =
 
 -- ---- statements
 
-module _ (named : Named) (sizes : List ℕ) (s : Scene) (stands : Stands named s) (m : Memory) (seen : Seen) where
+module _ (named : Named) (sizes : List ℕ) (s : Surround) (stands : Stands named s) (m : Memory) (seen : Seen) where
   -- what is done at a place whose type is known
   at_place : (place : Place) (done : Option Ty → Pointer → Seen → Left) → is_shaped_place named place ≡ true → broken_in_place (around sizes s) place ≡ []
       → ((t : Ty) (p : Pointer) (last : Seen) → type_of_place s.locals place ≡ Some t → TypeOk t → Comes any_result (done (Some t) p last))

@@ -18,7 +18,7 @@ use Rattle.mr_value.specs.Numbers.{Bytes}
 use Rattle.mr_wf.specs.Types.{type_of_place}
 use Rattle.mr_script.specs.Script.{Broken, Outcome, Refused, Went, on}
 use Rattle.mr_eval.specs.Evaluated.{placed, read_typed, valued}
-use Rattle.mr_eval.specs.Evaluation.{Scene}
+use Rattle.mr_eval.specs.Evaluation.{Surround}
 use Rattle.mr_eval.specs.Moves.{behind}
 use Rattle.mr_eval.specs.Reads.{Seen, accessing, answered, seeing, touching}
 use Rattle.mr_eval.specs.Stores.{stored_typed, storing}
@@ -116,7 +116,7 @@ module _ (count : ℕ) where
   at_tags None m counted p seen = tt
   at_tags (Some tags) m counted p seen = tagged_counted m counted p tags seen
 
-  pub changed_counted : (m : Memory) (s : Scene) (x : Stmt) (seen : Seen) → AreCounted m count → LeavesCounted count (changed m s x seen)
+  pub changed_counted : (m : Memory) (s : Surround) (x : Stmt) (seen : Seen) → AreCounted m count → LeavesCounted count (changed m s x seen)
   unfolding assigned mentioned validated deinited discriminated
   changed_counted m s (stmt.Live x) seen counted = tt
   changed_counted m s (stmt.Dead x) seen counted = tt

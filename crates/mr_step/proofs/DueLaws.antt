@@ -17,7 +17,7 @@ use Rattle.mr_layout.proofs.Bounds.{type_ok_small}
 use Rattle.mr_script.specs.Script.{Outcome, Went}
 use Rattle.mr_wf.specs.Blocks.{broken_in_parts, broken_in_stmt}
 use Rattle.mr_wf.specs.Broken.{sizes_of, surroundings}
-use Rattle.mr_eval.specs.Evaluation.{Scene}
+use Rattle.mr_eval.specs.Evaluation.{Surround}
 use Rattle.mr_eval.specs.Reads.{Seen}
 use Rattle.mr_eval.specs.Sound.{Comes}
 use Rattle.mr_eval.specs.declared.env.Env.{Env}
@@ -29,7 +29,7 @@ use Rattle.mr_step.specs.Effects.{Left, changed, ended}
 use Rattle.mr_step.specs.Endings.{Ending, EndsByAbort, EndsByExit, Prints, ToBlock}
 use Rattle.mr_step.specs.Frames.{AtStatement, AtTerminator, Due, GoesOn, IsBeforeEnd, frame_of, look_at}
 use Rattle.mr_step.specs.Inside.{InProgram, IsChange, StmtIn, TermIn}
-use Rattle.mr_step.specs.Language.{Frame, scene_in, statement, step, then_next}
+use Rattle.mr_step.specs.Language.{Frame, surround_in, statement, step, then_next}
 use Rattle.mr_step.specs.Progress.{IsDue, Leads, due_script, printed_of, progress_at, progress_config}
 use Rattle.mr_step.specs.Runs.{machine_step}
 use Rattle.mr_step.specs.Standing.{after_change, after_ending}
@@ -125,36 +125,36 @@ module _ (l : KeptLook) (fn : Function) (p : Progress) where
 
   -- ---- where it leads
 
-  abbrev scene : Scene
-  scene = scene_in (look_at l) fn f
+  abbrev surround : Surround
+  surround = surround_in (look_at l) fn f
 
   -- the script of a statement that changes memory
   pub record StmtScript (s : Stmt) : Type 0 where
     pub script : Change
-    pub makes : Makes script (λ m seen. changed m scene s seen)
+    pub makes : Makes script (λ m seen. changed m surround s seen)
     pub is : statement (look_at l) fn (main_thread f) [] f s ≡ then_next (main_thread f) [] f script
 
   stmt_script : (s : Stmt) → IsChange s → StmtScript s
   stmt_script (stmt.Live x) k = absurd k
   stmt_script (stmt.Dead x) k = absurd k
-  stmt_script (stmt.Assign place value) k = record { script = _; makes = makes_assign scene place value; is = refl }
-  stmt_script (stmt.Mention place) k = record { script = _; makes = makes_mention scene place; is = refl }
-  stmt_script (stmt.Disc place number) k = record { script = _; makes = makes_discriminant scene place number; is = refl }
-  stmt_script (stmt.Deinit place) k = record { script = _; makes = makes_deinit scene place; is = refl }
-  stmt_script (stmt.Validate place) k = record { script = _; makes = makes_validate scene place; is = refl }
+  stmt_script (stmt.Assign place value) k = record { script = _; makes = makes_assign surround place value; is = refl }
+  stmt_script (stmt.Mention place) k = record { script = _; makes = makes_mention surround place; is = refl }
+  stmt_script (stmt.Disc place number) k = record { script = _; makes = makes_discriminant surround place number; is = refl }
+  stmt_script (stmt.Deinit place) k = record { script = _; makes = makes_deinit surround place; is = refl }
+  stmt_script (stmt.Validate place) k = record { script = _; makes = makes_validate surround place; is = refl }
 
   -- what the machine keeps behind a change is where its script leads
-  pub leads_change : (s : Stmt) → IsChange s → (new : Progress) → (o : Left) → changed p.memory scene s none_seen ≡ o
+  pub leads_change : (s : Stmt) → IsChange s → (new : Progress) → (o : Left) → changed p.memory surround s none_seen ≡ o
       → progress_config new ≡ after_change f p.count (map printed_of p.output.items) p.completed (progress_at p) o
       → Leads (due_script (look_at l) fn f (AtStatement s)) [] p new
   leads_change s k new o is h look e v due t picks =
       let x = stmt_script s k in
       ap (λ w. machine_step (step look) (progress_at p w) e) v
-      ∙ step_change look p.memory f p.count (map printed_of p.output.items) p.last p.completed x.script (λ m seen. changed m scene s seen) x.makes (due ∙ x.is) e t
+      ∙ step_change look p.memory f p.count (map printed_of p.output.items) p.last p.completed x.script (λ m seen. changed m surround s seen) x.makes (due ∙ x.is) e t
       ∙ ap (after_change f p.count (map printed_of p.output.items) p.completed (progress_at p)) is
       ∙ sym h
 
-  pub leads_ending : (t : Term) → (new : Progress) → (o : Outcome Ending Seen) → ended p.memory scene true t none_seen ≡ o
+  pub leads_ending : (t : Term) → (new : Progress) → (o : Outcome Ending Seen) → ended p.memory surround true t none_seen ≡ o
       → progress_config new ≡ after_ending p.memory f p.count (map printed_of p.output.items) p.completed (progress_at p) o
       → Leads (due_script (look_at l) fn f (AtTerminator t)) [] p new
   leads_ending t new o is h look e v due z picks =
@@ -164,12 +164,12 @@ module _ (l : KeptLook) (fn : Function) (p : Progress) where
       ∙ sym h
 
   -- a decision leads to a block that is there
-  pub ending_goes_on : (t : Term) → IsDue l fn p (AtTerminator t) → (d : Ending) (seen : Seen) → ended p.memory scene true t none_seen ≡ Went d seen → GoesOn program f d
+  pub ending_goes_on : (t : Term) → IsDue l fn p (AtTerminator t) → (d : Ending) (seen : Seen) → ended p.memory surround true t none_seen ≡ Went d seen → GoesOn program f d
   ending_goes_on t h d seen is =
       let kept = due_kept (AtTerminator t) h in
       let due = term_due t h in
       let stands = stands_in program (look_at l) f fn kept (record { program = refl; functions = h.ready.functions; globals = h.ready.globals }) h.fits.locals in
-      let comes = ended_comes (named_in program fn) (sizes_of program.globals) scene stands p.memory none_seen t due.built due.shaped due.unbroken in
+      let comes = ended_comes (named_in program fn) (sizes_of program.globals) surround stands p.memory none_seen t due.built due.shaped due.unbroken in
       by_ending d (subst (λ (o : Outcome Ending Seen). Comes (EndsIn (length fn.blocks)) o) is comes)
     where
       by_ending : (x : Ending) → EndsIn (length fn.blocks) x → GoesOn program f x

@@ -16,12 +16,12 @@ use Rattle.mr_script.specs.Script.{Outcome, Went, on}
 use Rattle.mr_wf.specs.Types.{type_of_place}
 use Rattle.mr_eval.specs.Environment.{Leaves, Tells}
 use Rattle.mr_eval.specs.Evaluated.{placed, valued}
-use Rattle.mr_eval.specs.Evaluation.{Scene}
+use Rattle.mr_eval.specs.Evaluation.{Surround}
 use Rattle.mr_eval.specs.Reads.{Seen}
 use Rattle.mr_step.specs.Changes.{tags_in}
 use Rattle.mr_step.specs.Effects.{Left, assigned, deinited, deinited_at, discriminated, mentioned, stored_at, tagged, tagged_at, validated, validated_at}
 
-module _ (m : Memory) (s : Scene) (place : Place) (seen : Seen) where
+module _ (m : Memory) (s : Surround) (place : Place) (seen : Seen) where
   pub effect_assign : (value : Value) → assigned m s place value seen ≡ on (placed m s place seen) (λ p seen'. on (valued m s value seen') (λ v last. stored_at m (type_of_place s.locals place) p v last))
   unfolding assigned
   effect_assign value = refl

@@ -16,14 +16,14 @@ use Rattle.mr_script.specs.Script.{Done, Outcome, Refused, Went, ◌>>=◌, on, 
 use Rattle.mr_script.proofs.Runs.{on_on, on_same, run_bind}
 use Rattle.mr_wf.specs.Types.{type_of_value}
 use Rattle.mr_eval.specs.Evaluated.{valued}
-use Rattle.mr_eval.specs.Evaluation.{Scene, value_script}
+use Rattle.mr_eval.specs.Evaluation.{Surround, value_script}
 use Rattle.mr_eval.specs.Operators.{or_ill_formed}
 use Rattle.mr_eval.specs.Reads.{ReadScript, Seen, reading}
 use Rattle.mr_step.specs.Effects.{argument_text, argument_texts, chosen, ended, held, printed, text_or_broken}
 use Rattle.mr_step.specs.Endings.{Ending, EndsByAbort, EndsByExit, Prints, ToBlock, assumed, first_case, number_as, texts_script, truth_in}
 use Rattle.mr_step.specs.Texts.{spaced, spaced_behind, text_as}
 
-module _ (m : Memory) (s : Scene) (seen : Seen) where
+module _ (m : Memory) (s : Surround) (seen : Seen) where
   pub ended_goto : (b : BlockName) → ended m s true (term.Goto b) seen ≡ Went (ToBlock b.0) seen
   unfolding ended
   ended_goto b = refl
@@ -63,7 +63,7 @@ module _ (m : Memory) (s : Scene) (seen : Seen) where
   unfolding held valued
   held_is v block = run_bind (reading m) (value_script s v) (λ x. or_ill_formed (truth_in (out-Val x)) >>= λ b. assumed b block) seen
 
-module _ (m : Memory) (s : Scene) where
+module _ (m : Memory) (s : Surround) where
   -- the texts of arguments are told one by one
   text_told : (o : Option (List ℕ)) (rest : List ℕ → ReadScript (List (List ℕ))) (last : Seen) → run (reading m) (or_ill_formed o >>= rest) last ≡ on (text_or_broken o last) (λ text end. run (reading m) (rest text) end)
   text_told None rest last = refl
@@ -98,7 +98,7 @@ module _ (m : Memory) (s : Scene) where
   argument_is v seen = refl
 
 -- an assumption on a bool
-pub held_known : (m : Memory) (s : Scene) (seen : Seen) (v : Value) (block : ℕ) (x : Val) (last : Seen) (b : Bool) → valued m s v seen ≡ Went x last → x ≡ val.Bool b
+pub held_known : (m : Memory) (s : Surround) (seen : Seen) (v : Value) (block : ℕ) (x : Val) (last : Seen) (b : Bool) → valued m s v seen ≡ Went x last → x ≡ val.Bool b
     → held m s v block seen ≡ run (reading m) (assumed b block) last
 held_known m s seen v block x last b went is =
     let rest : Val → Seen → Outcome Ending Seen = λ y end. run (reading m) (or_ill_formed (truth_in (out-Val y)) >>= λ t. assumed t block) end in
@@ -108,7 +108,7 @@ held_known m s seen v block x last b went is =
 -- ---- texts, one by one
 
 -- behind the text of the argument at a position
-pub text_next : (m : Memory) (s : Scene) (args : List Value) (i : ℕ) (d : Value) (seen : Seen) (words : List ℕ) (last : Seen) (done : List (List ℕ)) → i < length args → argument_text m s (get_or args i d) seen ≡ Went words last
+pub text_next : (m : Memory) (s : Surround) (args : List Value) (i : ℕ) (d : Value) (seen : Seen) (words : List ℕ) (last : Seen) (done : List (List ℕ)) → i < length args → argument_text m s (get_or args i d) seen ≡ Went words last
     → on (argument_texts m s (drop i args) seen) (λ texts end. Went (done ++ texts) end) ≡ on (argument_texts m s (drop (i + 1) args) last) (λ texts end. Went ((done ++ words ∷ []) ++ texts) end)
 text_next m s args i d seen words last done lt went =
     let rest : Outcome (List (List ℕ)) Seen = argument_texts m s (drop (i + 1) args) last in
@@ -136,11 +136,11 @@ empty_is [] e = refl
 empty_is (x ∷ xs) e = absurd (omega (arith, e))
 
 -- no arguments, and some
-pub printed_none : (m : Memory) (s : Scene) (args : List Value) (block : ℕ) (seen : Seen) → args ≡ [] → printed m s args block seen ≡ Went (Prints [] block) seen
+pub printed_none : (m : Memory) (s : Surround) (args : List Value) (block : ℕ) (seen : Seen) → args ≡ [] → printed m s args block seen ≡ Went (Prints [] block) seen
 unfolding printed
 printed_none m s args block seen e = ap (λ vs. printed m s vs block seen) e
 
-pub printed_some : (m : Memory) (s : Scene) (args : List Value) (first : Value) (rest : List Value) (block : ℕ) (seen : Seen) (words : List ℕ) (middle : Seen) (texts : List (List ℕ)) (last : Seen) → args ≡ first ∷ rest
+pub printed_some : (m : Memory) (s : Surround) (args : List Value) (first : Value) (rest : List Value) (block : ℕ) (seen : Seen) (words : List ℕ) (middle : Seen) (texts : List (List ℕ)) (last : Seen) → args ≡ first ∷ rest
     → argument_text m s first seen ≡ Went words middle → argument_texts m s rest middle ≡ Went texts last → printed m s args block seen ≡ Went (Prints (words ++ spaced_behind texts) block) last
 unfolding printed
 printed_some m s args first rest block seen words middle texts last e f g =

@@ -30,7 +30,7 @@ use Rattle.mr_wf.proofs.NothingLaws.{both_nothing}
 use Rattle.mr_wf.proofs.StmtWalk.{Gives}
 use Rattle.mr_wf.proofs.TypedStmts.{TypedDo, typed_do, typed_switch}
 use Rattle.mr_script.specs.Script.{Done}
-use Rattle.mr_eval.specs.Evaluation.{Scene, value_script}
+use Rattle.mr_eval.specs.Evaluation.{Surround, value_script}
 use Rattle.mr_eval.specs.Operators.{or_ill_formed}
 use Rattle.mr_eval.specs.Reads.{Seen}
 use Rattle.mr_eval.specs.Sound.{Comes, IsSafe, Stands, any_result, around}
@@ -73,7 +73,7 @@ heads h = cc
 tails : {A : Type 0} {x y : A} {xs ys : List A} → x ∷ xs ≡ y ∷ ys → xs ≡ ys
 tails h = cc
 
-module _ (named : Named) (sizes : List ℕ) (s : Scene) (stands : Stands named s) where
+module _ (named : Named) (sizes : List ℕ) (s : Surround) (stands : Stands named s) where
   abbrev at : Surroundings
   at = around sizes s
 

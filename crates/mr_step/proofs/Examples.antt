@@ -39,13 +39,13 @@ use Rattle.mr_sched.specs.declared.schedule.Ask.TheVariants.{Address}
 use Rattle.mr_sched.specs.declared.schedule.Entry.{Entry}
 use Rattle.mr_script.specs.Script.{Refused, on, run as run_script}
 use Rattle.mr_eval.specs.Evaluated.{placed, valued}
-use Rattle.mr_eval.specs.Evaluation.{Scene, stored}
+use Rattle.mr_eval.specs.Evaluation.{Surround, stored}
 use Rattle.mr_eval.specs.Reads.{Seen, reading}
 use Rattle.mr_eval.proofs.EvaluationLaws.{script_local}
 use Rattle.mr_step.specs.Changes.{assign}
 use Rattle.mr_step.specs.Effects.{assigned, stored_at}
 use Rattle.mr_step.specs.Endings.{first_case, number_layer}
-use Rattle.mr_step.specs.Language.{Look, Frame, Own, scene_in, step}
+use Rattle.mr_step.specs.Language.{Look, Frame, Own, surround_in, step}
 use Rattle.mr_step.specs.Legal.{Fault, fault, picks_fault, state_fault}
 use Rattle.mr_step.specs.MemoryQueries.{pointer_to}
 use Rattle.mr_step.specs.Notes.{Notes, start_notes}
@@ -191,7 +191,7 @@ abbrev seven : Value
 seven = value.Int U8 (record { neg = false; mag = 7 })
 
 -- a place of a local without storage
-no_storage : (m : Memory) (s : Scene) (seen : Seen) → slice_get s.storage 1 ≡ Some None → assigned m s x_place seven seen ≡ Refused reason.DeadLocal
+no_storage : (m : Memory) (s : Surround) (seen : Seen) → slice_get s.storage 1 ≡ Some None → assigned m s x_place seven seen ≡ Refused reason.DeadLocal
 unfolding assigned placed
 no_storage m s seen dead =
     ap (λ script. on (run_script (reading m) script seen) (λ p last. on (valued m s seven last) (λ v end. stored_at m (type_of_place s.locals x_place) p v end))) (script_local s (record { 0 = 1 }) ∙ ap stored dead)
@@ -206,7 +206,7 @@ dead_local =
     let p = storing_dead in
     let look = look_of p (16 ∷ 32 ∷ []) in
     let f : Frame = record { function = 0; locals = Some (pointer_to (own_id 1) 32) ∷ None ∷ []; block = 0; at = 0 } in
-    let s = scene_in look (record { name = 0; args = []; ret = record { 0 = 0 }; locals = result ∷ x_local ∷ []; blocks = [] }) f in
+    let s = surround_in look (record { name = 0; args = []; ret = record { 0 = 0 }; locals = result ∷ x_local ∷ []; blocks = [] }) f in
     let m = start_memory p (16 ∷ 32 ∷ []) in
     ap (λ (c : Config Own). c.verdict)
     (step_change look m f 2 [] None 0 (assign s x_place seven) (λ d seen. assigned d s x_place seven seen) (makes_assign s x_place seven) refl (own []) refl

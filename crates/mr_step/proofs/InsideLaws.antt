@@ -27,8 +27,8 @@ use Rattle.mr_wf.specs.Unbroken.{UnbrokenFunction}
 use Rattle.mr_wf.proofs.SameTypeLaws.{type_made}
 use Rattle.mr_wf.proofs.TypedStmts.{TypedAssign, typed_assign, typed_disc_stmt}
 use Rattle.mr_wf.proofs.UnbrokenLaws.{well_formed_keeps}
-use Rattle.mr_eval.specs.Environment.{PlaceIn, ShapedAs, ValueIn, env_scene, locals_of}
-use Rattle.mr_eval.specs.Evaluation.{Scene}
+use Rattle.mr_eval.specs.Environment.{PlaceIn, ShapedAs, ValueIn, env_surround, locals_of}
+use Rattle.mr_eval.specs.Evaluation.{Surround}
 use Rattle.mr_eval.specs.Sound.{Stands}
 use Rattle.mr_eval.specs.declared.env.Env.{Env}
 use Rattle.mr_eval.proofs.ExprSafe.{place_safe}
@@ -38,14 +38,14 @@ use Rattle.mr_step.proofs.ChangesSafe.{tags_there}
 use Rattle.mr_step.proofs.Soundness.{all_at}
 
 module _ (e : Env) (f : Function) (h : InProgram f e) where
-  -- the locals of the scene are those of the function
-  pub scene_locals : (env_scene e).locals ≡ f.locals
-  scene_locals = ap locals_of h.env.function
+  -- the locals of the surround are those of the function
+  pub surround_locals : (env_surround e).locals ≡ f.locals
+  surround_locals = ap locals_of h.env.function
 
-  abbrev scene : Scene
-  scene = record { locals = f.locals; storage = e.locals.now; functions = e.functions.now; globals = e.globals.now }
+  abbrev surround : Surround
+  surround = record { locals = f.locals; storage = e.locals.now; functions = e.functions.now; globals = e.globals.now }
 
-  pub env_stands : Stands (named_in e.program.now f) scene
+  pub env_stands : Stands (named_in e.program.now f) surround
   env_stands = record {
     locals = refl;
     storage = h.env.locals;
@@ -57,8 +57,8 @@ module _ (e : Env) (f : Function) (h : InProgram f e) where
   -- a place that breaks no rule has a type
   pub type_there : (p : Place) → is_shaped_place (named_in e.program.now f) p ≡ true → broken_in_place (surroundings e.program.now f) p ≡ [] → (t : Ty) × TypeAt e p t
   type_there p shaped none =
-      let is = place_safe (named_in e.program.now f) (sizes_of e.program.now.globals) scene env_stands p shaped none in
-      (is.ty, record { is = ap (λ ls. type_of_place ls p) scene_locals ∙ is.is; ok = is.ok })
+      let is = place_safe (named_in e.program.now f) (sizes_of e.program.now.globals) surround env_stands p shaped none in
+      (is.ty, record { is = ap (λ ls. type_of_place ls p) surround_locals ∙ is.is; ok = is.ok })
 
 module _ (e : Env) (p : Place) where
   pub mention_place : StmtIn e (stmt.Mention p) → PlaceIn e p
@@ -91,10 +91,10 @@ module _ (e : Env) (p : Place) where
       type_there e h.function h.inside p parts.0 (assign_typed v h).unbroken_place
 
   -- the value has the shape of the place's type
-  pub assign_shape : (v : Value) (t : Ty) (x : Val) → StmtIn e (stmt.Assign p v) → TypeAt e p t → ShapedAs (env_scene e) v x → has_shape t x ≡ true
+  pub assign_shape : (v : Value) (t : Ty) (x : Val) → StmtIn e (stmt.Assign p v) → TypeAt e p t → ShapedAs (env_surround e) v x → has_shape t x ≡ true
   assign_shape v t x h at shaped =
       let typed = assign_typed v h in
-      let locals = scene_locals e h.function h.inside in
+      let locals = surround_locals e h.function h.inside in
       let one : t ≡ typed.ty = same_Some t typed.ty (sym at.is ∙ ap (λ ls. type_of_place ls p) locals ∙ typed.place) in
       let other : shaped.ty ≡ typed.ty = same_Some shaped.ty typed.ty (sym shaped.is ∙ ap (λ ls. type_of_value ls v) locals ∙ typed.value) in
       subst (λ (u : Ty). has_shape u x ≡ true) (other ∙ sym one) shaped.shape
@@ -113,7 +113,7 @@ module _ (e : Env) (p : Place) where
   pub disc_tags : (n : Num) (t : Ty) → StmtIn e (stmt.Disc p n) → TypeAt e p t → (tags : List Tag) × (tags_in (Some t) n ≡ Some tags)
   disc_tags n t h at =
       let typed = typed_disc_stmt (named_in e.program.now h.function) h.function (surroundings e.program.now h.function) refl p n h.shaped h.unbroken in
-      let one : typed.ty ≡ t = same_Some typed.ty t (sym typed.is ∙ ap (λ ls. type_of_place ls p) (sym (scene_locals e h.function h.inside)) ∙ at.is) in
+      let one : typed.ty ≡ t = same_Some typed.ty t (sym typed.is ∙ ap (λ ls. type_of_place ls p) (sym (surround_locals e h.function h.inside)) ∙ at.is) in
       tags_there t n (subst (λ (u : Ty). is_some (variant_type u n) ≡ true) one typed.fits)
 
 -- the tags of a variant fit

@@ -28,7 +28,7 @@ use Rattle.mr_step.specs.Runs.{Config, Printed, after_bare, races_with, machine_
 use Rattle.mr_step.specs.Changes.{Change}
 use Rattle.mr_step.specs.Effects.{Left, ended}
 use Rattle.mr_step.specs.Endings.{Ending, EndsByAbort, EndsByExit, Prints, ToBlock, ending}
-use Rattle.mr_step.specs.Language.{Frame, Own, Look, dead, finish, free_storage, live, next, scene_in, step, terminator, then_next, with_storage}
+use Rattle.mr_step.specs.Language.{Frame, Own, Look, dead, finish, free_storage, live, next, surround_in, step, terminator, then_next, with_storage}
 use Rattle.mr_step.specs.Start.{main_thread}
 use Rattle.mr_step.specs.Standing.{after_change, after_ending, after_release, config_of, one_thread, own_id, own_step, released}
 use Rattle.mr_step.proofs.ReadingRuns.{reading_then}
@@ -142,12 +142,12 @@ module _ (look : Look) (m : Memory) (f : Frame) (count : ℕ) (output : List Pri
   ending_leads Broken = refl
 
   pub step_ending : (of : Look) (fn : Function) (t : Term) → step look own ≡ terminator of fn own [] f t → (e : Entry) → e.thread ≡ 0
-      → machine_step (step look) (at verdict.Running) e ≡ after_ending m f count output completed at (ended m (scene_in of fn f) true t (record { accesses = []; touched = [] }))
+      → machine_step (step look) (at verdict.Running) e ≡ after_ending m f count output completed at (ended m (surround_in of fn f) true t (record { accesses = []; touched = [] }))
   unfolding ended
   step_ending of fn t due e z =
       stepped look m f count output last completed (terminator of fn own [] f t) due e z
-      ∙ ap leads (reading_then (ending (scene_in of fn f) true t) (finish own [] f) start)
-      ∙ ending_leads (ended m (scene_in of fn f) true t (record { accesses = []; touched = [] }))
+      ∙ ap leads (reading_then (ending (surround_in of fn f) true t) (finish own [] f) start)
+      ∙ ending_leads (ended m (surround_in of fn f) true t (record { accesses = []; touched = [] }))
 
   -- ---- `live` and `dead`
 

@@ -35,7 +35,7 @@ use Rattle.mr_step.specs.Frames.{AtStatement, AtTerminator, Due, FitsIn, IsBefor
 use Rattle.mr_step.specs.MemoryQueries.{pointer_to}
 use Rattle.mr_step.specs.Legal.{Fault, fault, picks_fault, else_fault, address_fault}
 use Rattle.mr_step.specs.Runs.{Config, Printed, machine_step, entry_fault, fault_in, is_running, has_rule, AreLegal, NeverIllFormed}
-use Rattle.mr_step.specs.Language.{Frame, Own, Look, dead, live, on_local, scene_in, step, then_next}
+use Rattle.mr_step.specs.Language.{Frame, Own, Look, dead, live, on_local, surround_in, step, then_next}
 use Rattle.mr_step.specs.Progress.{due_asks, due_script, local_asks}
 use Rattle.mr_step.specs.Start.{look_of, main_thread, start_config, start_fault, Legal, IsSoundRun}
 use Rattle.mr_step.specs.Standing.{after_change, after_ending, after_release, config_of, one_thread, own_id, released}
@@ -88,8 +88,8 @@ at_release : (p : Program) (r : Result (Option AllocId × Memory) Reason) (goes 
 at_release p (Ok f) goes stops h k = h f.1
 at_release p (Err r) goes stops h k = k r
 
--- a scene of a frame stands
-pub stands_in : (p : Program) (look : Look) (f : Frame) (fn : Function) → Kept p fn → LooksAt p look → length f.locals ≡ length fn.locals → Stands (named_in p fn) (scene_in look fn f)
+-- a surround of a frame stands
+pub stands_in : (p : Program) (look : Look) (f : Frame) (fn : Function) → Kept p fn → LooksAt p look → length f.locals ≡ length fn.locals → Stands (named_in p fn) (surround_in look fn f)
 stands_in p look f fn kept looks locals = record {
   locals = refl;
   storage = locals;
@@ -109,7 +109,7 @@ module _ (p : Program) (built : Built p) (well : WellFormed p) (look : Look) (lo
     kept : Kept p fn
     kept = function_kept p built well f.function fn h.is
 
-    stands : Stands (named_in p fn) (scene_in look fn f)
+    stands : Stands (named_in p fn) (surround_in look fn f)
     stands = stands_in p look f fn kept looks h.fits.locals
 
     at_change : (o : Left) → Comes any_result o → IsBeforeEnd p f → IsAt p (after_change f count output completed at o)
@@ -126,10 +126,10 @@ module _ (p : Program) (built : Built p) (well : WellFormed p) (look : Look) (lo
     at_ending Broken k = absurd k
 
     -- a statement that changes memory
-    by_change : (s : Stmt) (script : Change) → Makes script (λ d seen. changed d (scene_in look fn f) s seen) → step look (main_thread f) ≡ then_next (main_thread f) [] f script
-        → Comes any_result (changed m (scene_in look fn f) s (record { accesses = []; touched = [] })) → IsBeforeEnd p f → IsAt p (machine_step (step look) (at verdict.Running) e)
+    by_change : (s : Stmt) (script : Change) → Makes script (λ d seen. changed d (surround_in look fn f) s seen) → step look (main_thread f) ≡ then_next (main_thread f) [] f script
+        → Comes any_result (changed m (surround_in look fn f) s (record { accesses = []; touched = [] })) → IsBeforeEnd p f → IsAt p (machine_step (step look) (at verdict.Running) e)
     by_change s script makes due comes before =
-        subst (IsAt p) (sym (step_change look m f count output last completed script (λ d seen. changed d (scene_in look fn f) s seen) makes due e t)) (at_change _ comes before)
+        subst (IsAt p) (sym (step_change look m f count output last completed script (λ d seen. changed d (surround_in look fn f) s seen) makes due e t)) (at_change _ comes before)
 
     local_there : (x : ℕ) → x < length fn.locals → (s : Option Pointer) × (slice_get f.locals x ≡ Some s)
     local_there x lt = within f.locals x (let same = h.fits.locals in omega arith)
@@ -159,15 +159,15 @@ module _ (p : Program) (built : Built p) (well : WellFormed p) (look : Look) (lo
         (λ m'. at_frame p m' _ count output (Some []) (completed + 1) verdict.Running (fits_storage p f x.0 None h before))
         (λ r. at_frame p m f count output last completed (verdict.Undefined r) h))
     by_stmt (stmt.Assign place value) due shaped none before legal =
-        by_change (stmt.Assign place value) _ (makes_assign (scene_in look fn f) place value) due (changed_comes (named_in p fn) (sizes_of p.globals) (scene_in look fn f) stands m _ fn (stmt.Assign place value) shaped none tt) before
+        by_change (stmt.Assign place value) _ (makes_assign (surround_in look fn f) place value) due (changed_comes (named_in p fn) (sizes_of p.globals) (surround_in look fn f) stands m _ fn (stmt.Assign place value) shaped none tt) before
     by_stmt (stmt.Mention place) due shaped none before legal =
-        by_change (stmt.Mention place) _ (makes_mention (scene_in look fn f) place) due (changed_comes (named_in p fn) (sizes_of p.globals) (scene_in look fn f) stands m _ fn (stmt.Mention place) shaped none tt) before
+        by_change (stmt.Mention place) _ (makes_mention (surround_in look fn f) place) due (changed_comes (named_in p fn) (sizes_of p.globals) (surround_in look fn f) stands m _ fn (stmt.Mention place) shaped none tt) before
     by_stmt (stmt.Disc place number) due shaped none before legal =
-        by_change (stmt.Disc place number) _ (makes_discriminant (scene_in look fn f) place number) due (changed_comes (named_in p fn) (sizes_of p.globals) (scene_in look fn f) stands m _ fn (stmt.Disc place number) shaped none tt) before
+        by_change (stmt.Disc place number) _ (makes_discriminant (surround_in look fn f) place number) due (changed_comes (named_in p fn) (sizes_of p.globals) (surround_in look fn f) stands m _ fn (stmt.Disc place number) shaped none tt) before
     by_stmt (stmt.Deinit place) due shaped none before legal =
-        by_change (stmt.Deinit place) _ (makes_deinit (scene_in look fn f) place) due (changed_comes (named_in p fn) (sizes_of p.globals) (scene_in look fn f) stands m _ fn (stmt.Deinit place) shaped none tt) before
+        by_change (stmt.Deinit place) _ (makes_deinit (surround_in look fn f) place) due (changed_comes (named_in p fn) (sizes_of p.globals) (surround_in look fn f) stands m _ fn (stmt.Deinit place) shaped none tt) before
     by_stmt (stmt.Validate place) due shaped none before legal =
-        by_change (stmt.Validate place) _ (makes_validate (scene_in look fn f) place) due (changed_comes (named_in p fn) (sizes_of p.globals) (scene_in look fn f) stands m _ fn (stmt.Validate place) shaped none tt) before
+        by_change (stmt.Validate place) _ (makes_validate (surround_in look fn f) place) due (changed_comes (named_in p fn) (sizes_of p.globals) (surround_in look fn f) stands m _ fn (stmt.Validate place) shaped none tt) before
 
     by_due : (d : Due) (s : StandsAt fn f d) → step look (main_thread f) ≡ due_script look fn f d → picks_fault (Enabled ∷ []) (ranges_of m) 0 count (due_asks fn d) e.picks ≡ None
         → IsAt p (machine_step (step look) (at verdict.Running) e)
@@ -180,7 +180,7 @@ module _ (p : Program) (built : Built p) (well : WellFormed p) (look : Look) (lo
     by_due (AtTerminator x) s due legal =
         let shaped = block_shaped p fn kept f.block s.block s.here in
         let unbroken = block_unbroken p fn kept f.block s.block s.here in
-        let comes = ended_comes (named_in p fn) (sizes_of p.globals) (scene_in look fn f) stands m (record { accesses = []; touched = [] }) s.block.term
+        let comes = ended_comes (named_in p fn) (sizes_of p.globals) (surround_in look fn f) stands m (record { accesses = []; touched = [] }) s.block.term
         (all_at (λ b. is_built_block b ≡ true) fn.blocks f.block s.block kept.built s.here) shaped.term unbroken.parts in
         subst (IsAt p) (sym (step_ending look m f count output last completed look fn s.block.term (due ∙ ap (λ y. due_script look fn f (AtTerminator y)) (sym s.is.1)) e t))
         (at_ending _ comes)

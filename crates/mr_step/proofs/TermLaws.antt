@@ -26,11 +26,11 @@ use Rattle.mr_wf.proofs.ExprWalk.{Judges}
 use Rattle.mr_wf.proofs.NothingLaws.{both_nothing}
 use Rattle.mr_wf.proofs.StmtWalk.{Gives}
 use Rattle.mr_wf.proofs.TypedStmts.{TypedDo, typed_do, typed_switch}
-use Rattle.mr_eval.specs.Environment.{ShapedAs, env_scene}
+use Rattle.mr_eval.specs.Environment.{ShapedAs, env_surround}
 use Rattle.mr_eval.specs.declared.env.Env.{Env}
 use Rattle.mr_step.specs.Built.{is_built_op}
 use Rattle.mr_step.specs.Inside.{InProgram, TermIn, ValueAt}
-use Rattle.mr_step.proofs.InsideLaws.{scene_locals}
+use Rattle.mr_step.proofs.InsideLaws.{surround_locals}
 use Rattle.mr_step.proofs.NumberParts.{switch_scalar}
 
 heads : {A : Type 0} {x y : A} {xs ys : List A} → x ∷ xs ≡ y ∷ ys → x ≡ y
@@ -47,7 +47,7 @@ module _ (e : Env) where
     inside = record { function = f; env = h.env; shaped = shaped; unbroken = none };
     well = h.well;
     ty = t;
-    is = ap (λ ls. type_of_value ls v) (scene_locals e f h) ∙ is;
+    is = ap (λ ls. type_of_value ls v) (surround_locals e f h) ∙ is;
     fits = fits;
   }
 
@@ -127,10 +127,10 @@ module _ (e : Env) where
       by_op _ built types result gives fits = absurd (cc)
 
   -- what a value was found to be has the shape of the type that is known
-  pub value_shape : (v : Value) (t : Ty) (x : Val) → ShapedAs (env_scene e) v x → type_of_value (env_scene e).locals v ≡ Some t → has_shape t x ≡ true
+  pub value_shape : (v : Value) (t : Ty) (x : Val) → ShapedAs (env_surround e) v x → type_of_value (env_surround e).locals v ≡ Some t → has_shape t x ≡ true
   value_shape v t x shaped is = subst (λ (u : Ty). has_shape u x ≡ true) (same_Some shaped.ty t (sym shaped.is ∙ is)) shaped.shape
 
-  pub value_test : (v : Value) (test : Ty → Bool) (t : Ty) → ValueAt e v test → type_of_value (env_scene e).locals v ≡ Some t → test t ≡ true
+  pub value_test : (v : Value) (test : Ty → Bool) (t : Ty) → ValueAt e v test → type_of_value (env_surround e).locals v ≡ Some t → test t ≡ true
   value_test v test t h is = subst (λ (u : Ty). test u ≡ true) (same_Some h.ty t (sym h.is ∙ is)) h.fits
 
 pub ruleset term_laws = (switch_value, print_values)

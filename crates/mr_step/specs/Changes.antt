@@ -15,7 +15,7 @@ use Rattle.mr_value.specs.Encode.{blank, encoding_of, tag_bytes}
 use Rattle.mr_value.specs.Numbers.{Bytes}
 use Rattle.mr_wf.specs.Types.{type_of_place}
 use Rattle.mr_script.specs.Script.{Done, IllFormed, Ask, ◌>>=◌}
-use Rattle.mr_eval.specs.Evaluation.{Scene, place_script, value_script}
+use Rattle.mr_eval.specs.Evaluation.{Surround, place_script, value_script}
 use Rattle.mr_eval.specs.Moves.{behind}
 use Rattle.mr_eval.specs.Typed.{loading}
 use Rattle.mr_step.specs.MemoryQueries.{Write}
@@ -43,14 +43,14 @@ store t p v = write p (encoding_of t v) (align_of t)
 -- ---- statements
 
 -- `P = V`: the place, the value, and the store
-abbrev pub assign : Scene → Place → Value → Change
+abbrev pub assign : Surround → Place → Value → Change
 assign s place value = do
   p ← reading_part (place_script s place)
   v ← reading_part (value_script s value)
   with_type (type_of_place s.locals place) (λ t. store t p v)
 
 -- `mention P`: the place
-abbrev pub mention : Scene → Place → Change
+abbrev pub mention : Surround → Place → Change
 mention s place = do
   _ ← reading_part (place_script s place)
   Done tt
@@ -61,13 +61,13 @@ validate_at p t = do
   v ← reading_part (loading t p)
   store t p v
 
-abbrev pub validate : Scene → Place → Change
+abbrev pub validate : Surround → Place → Change
 validate s place = do
   p ← reading_part (place_script s place)
   with_type (type_of_place s.locals place) (validate_at p)
 
 -- `deinit P`: the place, and its bytes become uninitialised
-abbrev pub deinit : Scene → Place → Change
+abbrev pub deinit : Surround → Place → Change
 deinit s place = do
   p ← reading_part (place_script s place)
   with_type (type_of_place s.locals place) (λ t. write p (blank (size_of t)) (align_of t))
@@ -97,7 +97,7 @@ write_found p None = IllFormed
 write_found p (Some tags) = write_tags p tags
 
 -- `disc P = N`: the place, and the tags of the variant
-abbrev pub set_discriminant : Scene → Place → Num → Change
+abbrev pub set_discriminant : Surround → Place → Num → Change
 set_discriminant s place number = do
   p ← reading_part (place_script s place)
   write_found p (tags_in (type_of_place s.locals place) number)

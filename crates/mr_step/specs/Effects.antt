@@ -17,7 +17,7 @@ use Rattle.mr_value.specs.declared.val.Val.{Val}
 use Rattle.mr_value.specs.Encode.{blank, tag_bytes}
 use Rattle.mr_wf.specs.Types.{type_of_place, type_of_value}
 use Rattle.mr_script.specs.Script.{Broken, Outcome, Went, on, run}
-use Rattle.mr_eval.specs.Evaluation.{Scene}
+use Rattle.mr_eval.specs.Evaluation.{Surround}
 use Rattle.mr_eval.specs.Evaluated.{placed, read_typed, valued}
 use Rattle.mr_eval.specs.Moves.{behind}
 use Rattle.mr_eval.specs.Reads.{Seen, reading}
@@ -36,11 +36,11 @@ abbrev pub stored_at : Memory → Option Ty → Pointer → Val → Seen → Lef
 stored_at m None p v seen = Broken
 stored_at m (Some t) p v seen = stored_typed m t p v seen
 
-unfoldable pub assigned : Memory → Scene → Place → Value → Seen → Left
+unfoldable pub assigned : Memory → Surround → Place → Value → Seen → Left
 assigned m s place value seen =
     on (placed m s place seen) (λ p seen'. on (valued m s value seen') (λ v last. stored_at m (type_of_place s.locals place) p v last))
 
-unfoldable pub mentioned : Memory → Scene → Place → Seen → Left
+unfoldable pub mentioned : Memory → Surround → Place → Seen → Left
 mentioned m s place seen = on (placed m s place seen) (λ p last. Went m last)
 
 -- the load and the store of a place of a type
@@ -48,7 +48,7 @@ abbrev pub validated_at : Memory → Option Ty → Pointer → Seen → Left
 validated_at m None p seen = Broken
 validated_at m (Some t) p seen = on (read_typed m t p seen) (λ v last. stored_typed m t p v last)
 
-unfoldable pub validated : Memory → Scene → Place → Seen → Left
+unfoldable pub validated : Memory → Surround → Place → Seen → Left
 validated m s place seen = on (placed m s place seen) (λ p last. validated_at m (type_of_place s.locals place) p last)
 
 -- the bytes of a place of a type made uninitialised
@@ -56,7 +56,7 @@ abbrev pub deinited_at : Memory → Option Ty → Pointer → Seen → Left
 deinited_at m None p seen = Broken
 deinited_at m (Some t) p seen = storing m false p (blank (size_of t)) (align_of t) seen
 
-unfoldable pub deinited : Memory → Scene → Place → Seen → Left
+unfoldable pub deinited : Memory → Surround → Place → Seen → Left
 deinited m s place seen = on (placed m s place seen) (λ p last. deinited_at m (type_of_place s.locals place) p last)
 
 -- the stores of tags
@@ -68,11 +68,11 @@ abbrev pub tagged_at : Memory → Option (List Tag) → Pointer → Seen → Lef
 tagged_at m None p seen = Broken
 tagged_at m (Some tags) p seen = tagged m p tags seen
 
-unfoldable pub discriminated : Memory → Scene → Place → Num → Seen → Left
+unfoldable pub discriminated : Memory → Surround → Place → Num → Seen → Left
 discriminated m s place number seen = on (placed m s place seen) (λ p last. tagged_at m (tags_in (type_of_place s.locals place) number) p last)
 
 -- a statement other than `live` and `dead`, which do more than change memory
-abbrev pub changed : Memory → Scene → Stmt → Seen → Left
+abbrev pub changed : Memory → Surround → Stmt → Seen → Left
 changed m s (stmt.Live x) seen = Broken
 changed m s (stmt.Dead x) seen = Broken
 changed m s (stmt.Assign place value) seen = assigned m s place value seen
@@ -83,11 +83,11 @@ changed m s (stmt.Validate place) seen = validated m s place seen
 
 -- ---- terminators
 
-unfoldable pub ended : Memory → Scene → Bool → Term → Seen → Outcome Ending Seen
+unfoldable pub ended : Memory → Surround → Bool → Term → Seen → Outcome Ending Seen
 ended m s bottom t seen = run (reading m) (ending s bottom t) seen
 
 -- where a switch goes on
-unfoldable pub chosen : Memory → Scene → Value → List (Num × BlockName) → BlockName → Seen → Outcome Ending Seen
+unfoldable pub chosen : Memory → Surround → Value → List (Num × BlockName) → BlockName → Seen → Outcome Ending Seen
 chosen m s value cases other seen = run (reading m) (switched s value cases other) seen
 
 -- the text of an argument
@@ -95,18 +95,18 @@ abbrev pub text_or_broken : Option (List ℕ) → Seen → Outcome (List ℕ) Se
 text_or_broken None seen = Broken
 text_or_broken (Some text) seen = Went text seen
 
-unfoldable pub argument_text : Memory → Scene → Value → Seen → Outcome (List ℕ) Seen
+unfoldable pub argument_text : Memory → Surround → Value → Seen → Outcome (List ℕ) Seen
 argument_text m s value seen = on (valued m s value seen) (λ v last. text_or_broken (text_as (type_of_value s.locals value) v) last)
 
 -- the texts of arguments, from left to right
-abbrev pub argument_texts : Memory → Scene → List Value → Seen → Outcome (List (List ℕ)) Seen
+abbrev pub argument_texts : Memory → Surround → List Value → Seen → Outcome (List (List ℕ)) Seen
 argument_texts m s [] seen = Went [] seen
 argument_texts m s (value ∷ values) seen =
     on (argument_text m s value seen) (λ text seen'. on (argument_texts m s values seen') (λ texts last. Went (text ∷ texts) last))
 
-unfoldable pub printed : Memory → Scene → List Value → ℕ → Seen → Outcome Ending Seen
+unfoldable pub printed : Memory → Surround → List Value → ℕ → Seen → Outcome Ending Seen
 printed m s values block seen = on (argument_texts m s values seen) (λ texts last. Went (Prints (spaced texts) block) last)
 
 -- where an assumption goes on
-unfoldable pub held : Memory → Scene → Value → ℕ → Seen → Outcome Ending Seen
+unfoldable pub held : Memory → Surround → Value → ℕ → Seen → Outcome Ending Seen
 held m s value block seen = run (reading m) (assuming s value block) seen

@@ -19,7 +19,7 @@ use Rattle.mr_value.specs.Discriminants.{number_of_bits}
 use Rattle.mr_wf.specs.Types.{type_of_value}
 use Rattle.mr_script.specs.Script.{Done, Undefined, IllFormed, ◌>>=◌}
 use Rattle.mr_eval.specs.Reads.{ReadScript}
-use Rattle.mr_eval.specs.Evaluation.{Scene, value_script}
+use Rattle.mr_eval.specs.Evaluation.{Surround, value_script}
 use Rattle.mr_eval.specs.Operators.{or_ill_formed}
 use Rattle.mr_step.specs.Texts.{spaced, text_as}
 
@@ -47,7 +47,7 @@ abbrev pub first_case : Num → List (Num × BlockName) → BlockName → ℕ
 first_case n [] other = other.0
 first_case n (c ∷ cases) other = if same_num c.0 n then c.1.0 else first_case n cases other
 
-abbrev pub switched : Scene → Value → List (Num × BlockName) → BlockName → ReadScript Ending
+abbrev pub switched : Surround → Value → List (Num × BlockName) → BlockName → ReadScript Ending
 switched s value cases other = do
   v ← value_script s value
   n ← or_ill_formed (number_as (type_of_value s.locals value) v)
@@ -56,7 +56,7 @@ switched s value cases other = do
 -- ---- intrinsics
 
 -- the texts of arguments, from left to right
-abbrev pub texts_script : Scene → List Value → ReadScript (List (List ℕ))
+abbrev pub texts_script : Surround → List Value → ReadScript (List (List ℕ))
 texts_script s [] = Done []
 texts_script s (value ∷ values) = do
   v ← value_script s value
@@ -64,7 +64,7 @@ texts_script s (value ∷ values) = do
   texts ← texts_script s values
   Done (text ∷ texts)
 
-abbrev pub printing : Scene → List Value → ℕ → ReadScript Ending
+abbrev pub printing : Surround → List Value → ℕ → ReadScript Ending
 printing s args block = do
   texts ← texts_script s args
   Done (Prints (spaced texts) block)
@@ -77,14 +77,14 @@ truth_in _ = None
 abbrev pub assumed : Bool → ℕ → ReadScript Ending
 assumed b block = if b then Done (ToBlock block) else Undefined AssumeFalse
 
-abbrev pub assuming : Scene → Value → ℕ → ReadScript Ending
+abbrev pub assuming : Surround → Value → ℕ → ReadScript Ending
 assuming s value block = do
   v ← value_script s value
   b ← or_ill_formed (truth_in (out-Val v))
   assumed b block
 
 -- an intrinsic, by its arguments and the place for its result; those that are not built yet have no rule here
-abbrev pub operation : Scene → Intrinsic → List Value → Option Place → ℕ → ReadScript Ending
+abbrev pub operation : Surround → Intrinsic → List Value → Option Place → ℕ → ReadScript Ending
 operation s intrinsic.Print args None block = printing s args block
 operation s intrinsic.Assume (value ∷ []) None block = assuming s value block
 operation s _ args place block = IllFormed
@@ -96,7 +96,7 @@ abbrev pub returned : Bool → ReadScript Ending
 returned bottom = if bottom then Undefined MainReturned else IllFormed
 
 -- what a terminator of a frame decides, which is the bottom one or not; those that are not built yet have no rule here
-abbrev pub ending : Scene → Bool → Term → ReadScript Ending
+abbrev pub ending : Surround → Bool → Term → ReadScript Ending
 ending s bottom (term.Goto b) = Done (ToBlock b.0)
 ending s bottom (term.Switch value cases other) = switched s value cases other
 ending s bottom term.Unreachable = Undefined Unreachable

@@ -16,7 +16,7 @@ use Rattle.mr_wf.specs.Blocks.{broken_in_parts, broken_in_stmt}
 use Rattle.mr_wf.specs.Broken.{surroundings}
 use Rattle.mr_wf.specs.Types.{type_of_place, type_of_value}
 use Rattle.mr_wf.specs.Walk.{WellFormed}
-use Rattle.mr_eval.specs.Environment.{IsEnvOf, ValueIn, env_scene}
+use Rattle.mr_eval.specs.Environment.{IsEnvOf, ValueIn, env_surround}
 use Rattle.mr_eval.specs.declared.env.Env.{Env}
 use Rattle.mr_step.specs.Built.{is_built_term}
 use Rattle.mr_step.specs.Endings.{Ending as Decided, EndsByAbort, EndsByExit, Prints, ToBlock}
@@ -51,7 +51,7 @@ IsChange s = Unit {0}
 
 -- the type of a place in the function of an environment, which breaks no rule
 pub record TypeAt (e : Env) (p : Place) (t : Ty) : Type 0 where
-  pub is : type_of_place (env_scene e).locals p ≡ Some t
+  pub is : type_of_place (env_surround e).locals p ≡ Some t
   pub ok : TypeOk t
 
 -- a value in the function of an environment that breaks no rule, of a type that passes a test
@@ -59,7 +59,7 @@ pub record ValueAt (e : Env) (v : Value) (test : Ty → Bool) : Type 0 where
   pub inside : ValueIn e v
   pub well : WellFormed e.program.now
   pub ty : Ty
-  pub is : type_of_value (env_scene e).locals v ≡ Some ty
+  pub is : type_of_value (env_surround e).locals v ≡ Some ty
   pub fits : test ty ≡ true
 
 -- ---- answers

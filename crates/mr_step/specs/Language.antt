@@ -13,7 +13,7 @@ use Rattle.mr_ast.specs.declared.program.Program.{Program}
 use Rattle.mr_layout.specs.Sizes.{size_of, align_of}
 use Rattle.mr_sched.specs.declared.schedule.Ask.TheVariants.{Address}
 use Rattle.mr_script.specs.Script.{Done, IllFormed, Ask, ◌>>=◌}
-use Rattle.mr_eval.specs.Evaluation.{Scene}
+use Rattle.mr_eval.specs.Evaluation.{Surround}
 use Rattle.mr_step.specs.MemoryQueries.{Allocate, Free}
 use Rattle.mr_step.specs.Queries.{OfMemory, Print, StepScript, reading_part}
 use Rattle.mr_step.specs.Machine.{Flow, Goes, Exits, Aborts, Plan, CreatesNothing}
@@ -65,8 +65,8 @@ with_pick (a ∷ []) f = f a
 with_pick _ f = IllFormed
 
 -- where the expressions of a frame of a function are evaluated
-abbrev pub scene_in : Look → Function → Frame → Scene
-scene_in look fn f = record { locals = fn.locals; storage = f.locals; functions = look.functions; globals = look.globals }
+abbrev pub surround_in : Look → Function → Frame → Surround
+surround_in look fn f = record { locals = fn.locals; storage = f.locals; functions = look.functions; globals = look.globals }
 
 -- ---- statements
 
@@ -102,11 +102,11 @@ then_next own below f change = plain (change >>= λ _. Done (next own below f))
 abbrev pub statement : Look → Function → Own → List Frame → Frame → Stmt → StepScript (Plan Own)
 statement look fn own below f (stmt.Live x) = on_local (slice_get fn.locals x.0) (live own below f x.0)
 statement look fn own below f (stmt.Dead x) = on_local (slice_get fn.locals x.0) (dead own below f x.0)
-statement look fn own below f (stmt.Assign place value) = then_next own below f (assign (scene_in look fn f) place value)
-statement look fn own below f (stmt.Mention place) = then_next own below f (mention (scene_in look fn f) place)
-statement look fn own below f (stmt.Disc place number) = then_next own below f (set_discriminant (scene_in look fn f) place number)
-statement look fn own below f (stmt.Deinit place) = then_next own below f (deinit (scene_in look fn f) place)
-statement look fn own below f (stmt.Validate place) = then_next own below f (validate (scene_in look fn f) place)
+statement look fn own below f (stmt.Assign place value) = then_next own below f (assign (surround_in look fn f) place value)
+statement look fn own below f (stmt.Mention place) = then_next own below f (mention (surround_in look fn f) place)
+statement look fn own below f (stmt.Disc place number) = then_next own below f (set_discriminant (surround_in look fn f) place number)
+statement look fn own below f (stmt.Deinit place) = then_next own below f (deinit (surround_in look fn f) place)
+statement look fn own below f (stmt.Validate place) = then_next own below f (validate (surround_in look fn f) place)
 
 -- ---- terminators
 
@@ -122,7 +122,7 @@ finish own below f EndsByExit = Done Exits
 finish own below f EndsByAbort = Done Aborts
 
 abbrev pub terminator : Look → Function → Own → List Frame → Frame → Term → StepScript (Plan Own)
-terminator look fn own below f t = plain (reading_part (ending (scene_in look fn f) (is_bottom below) t) >>= finish own below f)
+terminator look fn own below f t = plain (reading_part (ending (surround_in look fn f) (is_bottom below) t) >>= finish own below f)
 
 -- ---- the step
 

@@ -5,7 +5,7 @@ ghost use Rattle.mr_ast.specs.declared.program.Stmt.TheVariants as stmt;
 ghost use Rattle.mr_layout.specs.EnumRules.{are_tags};
 ghost use Rattle.mr_ast.specs.Integers.{is_fitting};
 ghost use Rattle.mr_eval.specs.Answers.{seen};
-ghost use Rattle.mr_eval.specs.Environment.{Leaves, env_scene};
+ghost use Rattle.mr_eval.specs.Environment.{Leaves, env_surround};
 ghost use Rattle.mr_eval.specs.Moves.{behind};
 ghost use Rattle.mr_eval.specs.Stores.{storing};
 ghost use Rattle.mr_value.specs.Encode.{tag_bytes};
@@ -33,7 +33,7 @@ pub fn change(
 ) -> Result<(), Fault>
     requires inside { StmtIn e.now s.now }
     requires kind { IsChange s.now }
-    ensures { Leaves result (changed m.old (env_scene e.now) s.now (seen n.old)) m.new (seen n.new) }
+    ensures { Leaves result (changed m.old (env_surround e.now) s.now (seen n.old)) m.new (seen n.new) }
 {
     match s {
         Stmt::Assign(to, from) => assign(alloc, e, m, n, to, from),
@@ -56,7 +56,7 @@ fn assign<'a>(
     from: &'a Value,
 ) -> Result<(), Fault>
     requires { StmtIn e.now (stmt.Assign to.now from.now) }
-    ensures { Leaves result (assigned m.old (env_scene e.now) to.now from.now (seen n.old)) m.new (seen n.new) }
+    ensures { Leaves result (assigned m.old (env_surround e.now) to.now from.now (seen n.old)) m.new (seen n.new) }
 {
     let p = place(alloc, e, m, n, to)?;
     let v = value(alloc, e, m, n, from)?;
@@ -73,7 +73,7 @@ fn mention(
     at: &Place,
 ) -> Result<(), Fault>
     requires { StmtIn e.now (stmt.Mention at.now) }
-    ensures { Leaves result (mentioned m.old (env_scene e.now) at.now (seen n.old)) m.new (seen n.new) }
+    ensures { Leaves result (mentioned m.old (env_surround e.now) at.now (seen n.old)) m.new (seen n.new) }
 {
     place(alloc, e, m, n, at)?;
     Ok(())
@@ -89,7 +89,7 @@ fn validate<'a>(
     at: &'a Place,
 ) -> Result<(), Fault>
     requires { StmtIn e.now (stmt.Validate at.now) }
-    ensures { Leaves result (validated m.old (env_scene e.now) at.now (seen n.old)) m.new (seen n.new) }
+    ensures { Leaves result (validated m.old (env_surround e.now) at.now (seen n.old)) m.new (seen n.new) }
 {
     let p = place(alloc, e, m, n, at)?;
     let t = type_at(e, at);
@@ -107,7 +107,7 @@ fn deinit<'a>(
     at: &'a Place,
 ) -> Result<(), Fault>
     requires { StmtIn e.now (stmt.Deinit at.now) }
-    ensures { Leaves result (deinited m.old (env_scene e.now) at.now (seen n.old)) m.new (seen n.new) }
+    ensures { Leaves result (deinited m.old (env_surround e.now) at.now (seen n.old)) m.new (seen n.new) }
 {
     let p = place(alloc, e, m, n, at)?;
     let t = type_at(e, at);
@@ -146,7 +146,7 @@ fn set_discriminant<'a>(
     number: Num,
 ) -> Result<(), Fault>
     requires { StmtIn e.now (stmt.Disc at.now number) }
-    ensures { Leaves result (discriminated m.old (env_scene e.now) at.now number (seen n.old)) m.new (seen n.new) }
+    ensures { Leaves result (discriminated m.old (env_surround e.now) at.now number (seen n.old)) m.new (seen n.new) }
 {
     let p = place(alloc, e, m, n, at)?;
     match tags_of(type_at(e, at), number) {

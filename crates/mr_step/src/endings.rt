@@ -3,7 +3,7 @@ ghost use Rattle.std.specs.Prelude.{◌≡◌, All, Option, None, true};
 ghost use Rattle.mr_ast.specs.declared.expr.Place.{Place};
 ghost use Rattle.mr_wf.specs.Operands.{is_bool, is_scalar_number};
 ghost use Rattle.mr_eval.specs.Answers.{seen};
-ghost use Rattle.mr_eval.specs.Environment.{env_scene};
+ghost use Rattle.mr_eval.specs.Environment.{env_surround};
 ghost use Rattle.mr_step.specs.Effects.{argument_text, argument_texts, chosen, ended, held, printed};
 ghost use Rattle.mr_step.specs.Endings.{first_case};
 ghost use Rattle.mr_step.specs.Inside.{Appends, TellsBy, TermIn, ValueAt, ending_of};
@@ -39,7 +39,7 @@ pub fn decide<'a>(
     t: &'a Term,
 ) -> Result<Ending, Fault>
     requires { TermIn e.now t.now }
-    ensures { TellsBy ending_of result (ended m.now (env_scene e.now) true t.now (seen n.old)) (seen n.new) }
+    ensures { TellsBy ending_of result (ended m.now (env_surround e.now) true t.now (seen n.old)) (seen n.new) }
 {
     match t {
         Term::Goto(b) => Ok(Ending::Goto(b.0)),
@@ -67,7 +67,7 @@ fn operate<'a>(
     next: BlockName,
 ) -> Result<Ending, Fault>
     requires { (place : Option Place) × TermIn e.now (Term.Do op args.now place next) }
-    ensures { TellsBy ending_of result (ended m.now (env_scene e.now) true (Term.Do op args.now None next) (seen n.old)) (seen n.new) }
+    ensures { TellsBy ending_of result (ended m.now (env_surround e.now) true (Term.Do op args.now None next) (seen n.old)) (seen n.new) }
 {
     match op {
         Intrinsic::Print => print(alloc, e, m, n, args, next),
@@ -88,7 +88,7 @@ fn switch<'a>(
     other: BlockName,
 ) -> Result<Ending, Fault>
     requires { ValueAt e.now on.now is_scalar_number }
-    ensures { TellsBy ending_of result (chosen m.now (env_scene e.now) on.now cases.now other (seen n.old)) (seen n.new) }
+    ensures { TellsBy ending_of result (chosen m.now (env_surround e.now) on.now cases.now other (seen n.old)) (seen n.new) }
 {
     let v = value(alloc, e, m, n, on)?;
     let number = scalar_of(type_with(e, on), &v).number();
@@ -118,7 +118,7 @@ fn print<'a>(
     next: BlockName,
 ) -> Result<Ending, Fault>
     requires { All (λ v. ValueAt e.now v is_scalar_number) args.now }
-    ensures { TellsBy ending_of result (printed m.now (env_scene e.now) args.now next.0 (seen n.old)) (seen n.new) }
+    ensures { TellsBy ending_of result (printed m.now (env_surround e.now) args.now next.0 (seen n.old)) (seen n.new) }
 {
     let mut text = Vec::new(alloc);
     let Some((first, rest)) = args.split_first() else {
@@ -140,7 +140,7 @@ fn push_argument<'a>(
     text: &mut Vec<u8>,
 ) -> Result<(), Fault>
     requires { ValueAt e.now arg.now is_scalar_number }
-    ensures { Appends (λ words. words) result (argument_text m.now (env_scene e.now) arg.now (seen n.old)) text.old.items text.new.items (seen n.new) }
+    ensures { Appends (λ words. words) result (argument_text m.now (env_surround e.now) arg.now (seen n.old)) text.old.items text.new.items (seen n.new) }
 {
     let v = value(alloc, e, m, n, arg)?;
     push_scalar(text, scalar_of(type_with(e, arg), &v))?;
@@ -157,7 +157,7 @@ fn push_others<'a>(
     text: &mut Vec<u8>,
 ) -> Result<(), Fault>
     requires { All (λ v. ValueAt e.now v is_scalar_number) args.now }
-    ensures { Appends spaced_behind result (argument_texts m.now (env_scene e.now) args.now (seen n.old)) text.old.items text.new.items (seen n.new) }
+    ensures { Appends spaced_behind result (argument_texts m.now (env_surround e.now) args.now (seen n.old)) text.old.items text.new.items (seen n.new) }
 {
     for arg in args {
         text.push(b' ')?;
@@ -177,7 +177,7 @@ fn assume(
     next: BlockName,
 ) -> Result<Ending, Fault>
     requires { ValueAt e.now arg.now is_bool }
-    ensures { TellsBy ending_of result (held m.now (env_scene e.now) arg.now next.0 (seen n.old)) (seen n.new) }
+    ensures { TellsBy ending_of result (held m.now (env_surround e.now) arg.now next.0 (seen n.old)) (seen n.new) }
 {
     let v = value(alloc, e, m, n, arg)?;
     if truth_in(&v) {

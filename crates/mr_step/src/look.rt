@@ -18,10 +18,10 @@ pub struct Look<'p> {
 impl<'p> Look<'p> {
     ghost use Rattle.std.specs.Prelude.{◌≡◌, ◌<◌, Some, length, slice_get};
     ghost use Rattle.mr_ast.specs.declared.program.Function.{Function};
-    ghost use Rattle.mr_eval.specs.Environment.{env_scene};
+    ghost use Rattle.mr_eval.specs.Environment.{env_surround};
     ghost use Rattle.mr_step.specs.Frames.{Fits, IsReady, frame_of, look_at};
     ghost use Rattle.mr_step.specs.Inside.{InProgram};
-    ghost use Rattle.mr_step.specs.Language.{scene_in};
+    ghost use Rattle.mr_step.specs.Language.{surround_in};
 
     /// The function of this number.
     pub fn function(&self, number: u32) -> &'p Function
@@ -34,7 +34,7 @@ impl<'p> Look<'p> {
     /// Where the expressions of a frame are evaluated.
     pub fn env<'a>(&'a self, frame: &'a Frame) -> Env<'a>
         requires { IsReady self.now }
-        ensures scene { (fn : Function) → slice_get self.now.program.now.functions frame.now.function ≡ Some fn → env_scene result ≡ scene_in (look_at self.now) fn (frame_of frame.now) }
+        ensures surround { (fn : Function) → slice_get self.now.program.now.functions frame.now.function ≡ Some fn → env_surround result ≡ surround_in (look_at self.now) fn (frame_of frame.now) }
         ensures inside { (fn : Function) → slice_get self.now.program.now.functions frame.now.function ≡ Some fn → Fits fn (frame_of frame.now) → InProgram fn result }
         ensures program { result.program.now ≡ self.now.program.now }
     {

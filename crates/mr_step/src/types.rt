@@ -1,7 +1,7 @@
 //! Sizes and types that the machine looks up.
 ghost use Rattle.std.specs.Prelude.{◌≡◌, Some, option_copied, option_map};
 ghost use Rattle.mr_ast.specs.declared.types.Ty.{Ty};
-ghost use Rattle.mr_eval.specs.Environment.{env_scene};
+ghost use Rattle.mr_eval.specs.Environment.{env_surround};
 ghost use Rattle.mr_layout.specs.Sizes.{align_of, size_of};
 ghost use Rattle.mr_layout.specs.TypeOk.{TypeOk};
 ghost use Rattle.mr_mem.specs.Memory.{IsPowerOfTwo};
@@ -72,8 +72,8 @@ pub fn type_at<'a>(e: &Env<'a>, at: &'a Place) -> &'a Ty
 
 /// The type of a value.
 pub fn type_with<'a>(e: &Env<'a>, v: &'a Value) -> Known<'a>
-    requires { (t : Ty) × (type_of_value (env_scene e.now).locals v.now ≡ Some t) }
-    ensures { type_of_value (env_scene e.now).locals v.now ≡ Some (ty_of result) }
+    requires { (t : Ty) × (type_of_value (env_surround e.now).locals v.now ≡ Some t) }
+    ensures { type_of_value (env_surround e.now).locals v.now ≡ Some (ty_of result) }
 {
     match value_type(e.function_locals(), v) {
         Some(t) => t,

@@ -1,6 +1,6 @@
 use Rattle.std.proofs.Common.{◌≡◌, ◌++◌, drop}
 use Rattle.mr_script.specs.Script.{Went, on}
-use Rattle.mr_eval.specs.Answers.{Extends, scene_of, seen}
+use Rattle.mr_eval.specs.Answers.{Extends, surround_of, seen}
 use Rattle.mr_eval.specs.Evaluated.{each_valued}
 use Rattle.mr_eval.specs.Sound.{SoundValues}
 use Rattle.mr_eval.proofs.ExprWeights.{place_weight, row_weight, value_weight}
@@ -17,8 +17,8 @@ decreases-each_valued l = row_weight l.values.now
 
 abbrev pub invariant-each_valued-loop-value : goal.invariant-each_valued-loop-value
 invariant-each_valued-loop-value l = record {
-  sound : SoundValues (scene_of l.fn.here) (drop l.value-index l.values);
-  all : each_valued l.fn.here.memory.now (scene_of l.fn.here) l.values (seen l.fn.notes)
-      ≡ on (each_valued l.fn.here.memory.now (scene_of l.fn.here) (drop l.value-index l.values) (seen l.notes)) (λ xs last. Went (l.row ++ xs) last);
+  sound : SoundValues (surround_of l.fn.here) (drop l.value-index l.values);
+  all : each_valued l.fn.here.memory.now (surround_of l.fn.here) l.values (seen l.fn.notes)
+      ≡ on (each_valued l.fn.here.memory.now (surround_of l.fn.here) (drop l.value-index l.values) (seen l.notes)) (λ xs last. Went (l.row ++ xs) last);
   kept : Extends (seen l.fn.notes) (seen l.notes);
 }

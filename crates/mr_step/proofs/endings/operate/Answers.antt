@@ -6,7 +6,7 @@ use Rattle.mr_ast.specs.declared.program.Term.TheVariants.{Do}
 use Rattle.mr_script.specs.Script.{Outcome}
 use Rattle.mr_wf.specs.Operands.{is_bool}
 use Rattle.mr_eval.specs.Answers.{seen}
-use Rattle.mr_eval.specs.Environment.{env_scene}
+use Rattle.mr_eval.specs.Environment.{env_surround}
 use Rattle.mr_eval.specs.Reads.{Seen}
 use Rattle.mr_step.specs.Effects.{ended, held}
 use Rattle.mr_step.specs.Endings.{Ending}
@@ -39,7 +39,7 @@ returns-in-Assume c =
     let P : Intrinsic → Type 0 = λ op. TermIn c.args.e.now (Do op c.args.args.now c.requires.0 c.args.next) in
     let one = assume_value c.args.e.now c.args.args.now c.requires.0 c.args.next (subst P c.in-Assume.is c.requires.1) in
     let m = c.args.m.now in
-    let s = env_scene c.args.e.now in
+    let s = env_surround c.args.e.now in
     let old = seen c.args.n.now in
     let same : one.value ≡ c.index-args-0.result = sym (c.index-args-0.is ∙ ap (λ vs. get_or vs 0 c.index-args-0.result) one.is) in
     let is : ended m s true (Do c.args.op c.args.args.now None c.args.next) old ≡ held m s c.index-args-0.result c.args.next.0 old =

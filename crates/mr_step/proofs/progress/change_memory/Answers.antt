@@ -2,8 +2,8 @@ use Rattle.std.proofs.Common.{[], ap, ◌∙◌, sym, refl, subst, arith}
 use Rattle.mr_base.specs.declared.reason.Verdict.TheVariants.{Undefined}
 use Rattle.mr_script.specs.Script.{Refused, Went}
 use Rattle.mr_eval.specs.Answers.{seen}
-use Rattle.mr_eval.specs.Environment.{env_scene}
-use Rattle.mr_eval.specs.Evaluation.{Scene}
+use Rattle.mr_eval.specs.Environment.{env_surround}
+use Rattle.mr_eval.specs.Evaluation.{Surround}
 use Rattle.mr_eval.specs.Reads.{Seen}
 use Rattle.mr_step.specs.declared.progress.Progress.{Progress}
 use Rattle.mr_step.specs.Effects.{changed}
@@ -25,17 +25,17 @@ pub returns-in-Err-Undefined-clause-leads : goal.returns-in-Err-Undefined-clause
 returns-in-Err-Undefined-clause-leads c =
     let p = c.args.p.now in
     let h = rw c.in-Err-Undefined.field-0-is at c.in-Err-Undefined.ensures in
-    let scene = sym (c.env-env.ensures.scene c.args.f.now c.requires.due.function) in
-    let is = ap (λ (s : Scene). changed p.memory s c.args.s.now (record { accesses = []; touched = [] })) scene
-    ∙ ap (λ (n : Seen). changed p.memory (env_scene c.env-env.result) c.args.s.now n) (sym c.new-notes.ensures) ∙ h in
+    let surround = sym (c.env-env.ensures.surround c.args.f.now c.requires.due.function) in
+    let is = ap (λ (s : Surround). changed p.memory s c.args.s.now (record { accesses = []; touched = [] })) surround
+    ∙ ap (λ (n : Seen). changed p.memory (env_surround c.env-env.result) c.args.s.now n) (sym c.new-notes.ensures) ∙ h in
     leads_change c.args.look.now c.args.f.now p c.args.s.now c.requires.kind (record p { memory = c.change.new.m; verdict = Undefined c.in-Err-Undefined.reason }) (Refused c.in-Err-Undefined.reason) is refl
 
 pub returns-clause-leads : goal.returns-clause-leads
 returns-clause-leads c =
     let p = c.args.p.now in
-    let scene = sym (c.env-env.ensures.scene c.args.f.now c.requires.due.function) in
-    let is = ap (λ (s : Scene). changed p.memory s c.args.s.now (record { accesses = []; touched = [] })) scene
-    ∙ ap (λ (n : Seen). changed p.memory (env_scene c.env-env.result) c.args.s.now n) (sym c.new-notes.ensures) ∙ c.in-Ok.ensures in
+    let surround = sym (c.env-env.ensures.surround c.args.f.now c.requires.due.function) in
+    let is = ap (λ (s : Surround). changed p.memory s c.args.s.now (record { accesses = []; touched = [] })) surround
+    ∙ ap (λ (n : Seen). changed p.memory (env_surround c.env-env.result) c.args.s.now n) (sym c.new-notes.ensures) ∙ c.in-Ok.ensures in
     let base : Progress = record p { memory = c.change.new.m; frame = c.step_on.new.self } in
     leads_change c.args.look.now c.args.f.now p c.args.s.now c.requires.kind c.complete.new.self (Went c.change.new.m (seen c.change.new.n)) is
     (completed_config base c.change.new.n.accesses c.complete.new.self c.complete.ensures _ c.step_on.ensures c.change.new.n.accesses refl c.requires.due.running)
