@@ -1,15 +1,11 @@
 -- The public calls: what stands in a function of a well-formed program is sound there, and no call comes to a state without a rule.
-use Rattle.std.proofs.Common.{◌≡◌, ◌<◌, ℕ, List, [], Err, true, All, length, false, sym, ap, ap₂, subst, ◌∙◌}
+use Rattle.std.proofs.Common.{◌≡◌, ℕ, List, [], Err, true, All, length, false, sym, ap, ap₂, subst, ◌∙◌}
 use Rattle.std.proofs.lemmas.Option.{get_or_from_slice_get, slice_get_within}
 use Rattle.mr_ast.specs.Shaped.{named_in}
-use Rattle.mr_ast.proofs.ShapedLaws.{shaped_load, shaped_local_place}
 use Rattle.mr_ast.specs.declared.expr.Place.{Place}
 use Rattle.mr_ast.specs.declared.expr.Value.{Value}
-use Rattle.mr_ast.specs.declared.expr.Place.TheVariants as place
-use Rattle.mr_ast.specs.declared.expr.Value.TheVariants as value
 use Rattle.mr_ast.specs.declared.program.Function.{Function}
 use Rattle.mr_ast.specs.declared.program.Local.{Local}
-use Rattle.mr_ast.specs.declared.program.LocalName.{LocalName}
 use Rattle.mr_ast.specs.declared.types.Ty.{Ty}
 use Rattle.mr_base.specs.declared.byte.Pointer.{Pointer}
 use Rattle.mr_layout.specs.TypeOk.{TypeOk}
@@ -20,12 +16,10 @@ use Rattle.mr_value.specs.Encode.{encoding_of}
 use Rattle.mr_value.specs.Numbers.{Bytes}
 use Rattle.mr_value.specs.Shape.{has_shape}
 use Rattle.mr_value.specs.declared.val.Val.{Val}
-use Rattle.mr_wf.specs.Broken.{broken_in_place, broken_in_value, sizes_of, surroundings}
+use Rattle.mr_wf.specs.Broken.{broken_in_place, broken_in_value, sizes_of}
 use Rattle.mr_wf.specs.Unbroken.{UnbrokenFunction}
 use Rattle.mr_wf.specs.Walk.{WellFormed}
-use Rattle.mr_wf.proofs.BrokenInLaws.{broken_in_load, broken_in_local}
 use Rattle.mr_wf.proofs.UnbrokenLaws.{well_formed_keeps}
-use Rattle.mr_base.proofs.Comparisons.{lt_test}
 use Rattle.mr_eval.specs.declared.env.Env.{Env}
 use Rattle.mr_eval.specs.declared.halt.Halt.{Halt}
 use Rattle.mr_eval.specs.declared.halt.Halt.TheVariants as halt
@@ -119,25 +113,3 @@ pub store_run : (m : Memory) (t : Ty) (p : Pointer) (v : Val) (seen : Seen) (byt
     → stored_typed m t p v seen ≡ storing m false p bytes align seen
 unfolding stored_typed
 store_run m t p v seen bytes align written aligned = sym (ap₂ (λ (b : Bytes) (a : ℕ). storing m false p b a seen) written aligned)
-
--- ---- expressions that stand in a function
-
--- a local that is there
-pub local_stands : (f : Function) (e : Env) (x : LocalName) → IsEnvOf f e → x.0 < length f.locals → PlaceIn e (place.Local x)
-local_stands f e x env lt = record {
-  function = f;
-  env = env;
-  shaped = shaped_local_place (named_in e.program.now f) x ∙ lt_test x.0 (length f.locals) lt;
-  unbroken = broken_in_local (surroundings e.program.now f) x;
-}
-
--- the load of a place
-pub load_stands : (e : Env) (p : Place) → PlaceIn e p → ValueIn e (value.Load p)
-load_stands e p h = record {
-  function = h.function;
-  env = h.env;
-  shaped = shaped_load (named_in e.program.now h.function) p ∙ h.shaped;
-  unbroken = broken_in_load (surroundings e.program.now h.function) p ∙ h.unbroken;
-}
-
-pub ruleset stand_laws = (local_stands, load_stands)

@@ -1,7 +1,7 @@
 -- What the evaluation of each construct comes to, over a memory.
 use Rattle.std.proofs.Common.{◌≡◌, ℕ, ◌+◌, ◌<◌, length, drop, get_or, List, [], ◌∷◌, Option, None, Some, pos, true, false, refl, ap, ◌∙◌}
 use Rattle.std.proofs.lemmas.List.{drop_more}
-use Rattle.std.specs.Prelude.{slice_get}
+use Rattle.std.specs.Prelude.{Bool, is_some, if◌then◌else◌, slice_get}
 use Rattle.mr_ast.specs.declared.types.IntType.{IntType}
 use Rattle.mr_ast.specs.declared.types.Num.{Num}
 use Rattle.mr_ast.specs.declared.types.Ty.{Ty, out-Ty}
@@ -17,19 +17,22 @@ use Rattle.mr_ast.specs.declared.program.FnName.{FnName}
 use Rattle.mr_ast.specs.declared.program.GlobalName.{GlobalName}
 use Rattle.mr_ast.specs.declared.program.LocalName.{LocalName}
 use Rattle.mr_base.specs.declared.byte.Pointer.{Pointer}
+use Rattle.mr_base.specs.declared.reason.Reason.TheVariants.{TransmuteInvalid}
 use Rattle.mr_mem.specs.Memory.{Memory}
-use Rattle.mr_script.specs.Script.{◌>>=◌, Broken, Done, Went, on, run}
+use Rattle.mr_script.specs.Script.{◌>>=◌, Broken, Done, IllFormed, Outcome, Went, on, run}
 use Rattle.mr_script.proofs.Runs.{on_same, run_bind}
 use Rattle.mr_value.specs.declared.val.Val.{Val}
 use Rattle.mr_value.specs.declared.val.Val.TheVariants as val
 use Rattle.mr_value.specs.Discriminants.{bits_of_number}
-use Rattle.mr_wf.specs.Types.{type_of_place, type_of_value}
+use Rattle.mr_value.specs.Encode.{encoding_of}
+use Rattle.mr_value.specs.Shape.{has_shape}
+use Rattle.mr_wf.specs.Types.{chained, type_of_place, type_of_value, variant_type}
 use Rattle.mr_eval.specs.Reads.{ReadScript, Seen, reading}
 use Rattle.mr_eval.specs.Moves.{behind, moved}
-use Rattle.mr_eval.specs.Typed.{searched}
+use Rattle.mr_eval.specs.Typed.{meant, searched}
 use Rattle.mr_eval.specs.Operators.{binary_of, bits_of_value, cast_value, or_ill_formed, pointer_of_value, unary_of}
-use Rattle.mr_eval.specs.Evaluation.{Surround, bare, discriminant_at, discriminant_layer, element_at, elements_in, loaded, offset_in, place_script, stored, transmuted, union_of, value_script, values_script}
-use Rattle.mr_eval.specs.Evaluated.{disc_at, disc_layer, each_valued, found_number, in_array, in_field, load_at, meant_by, placed, read_typed, transmuted_to, valued}
+use Rattle.mr_eval.specs.Evaluation.{Surround, as_variant, bare, discriminant_at, discriminant_layer, element_at, elements_in, loaded, offset_in, place_script, stored, transmuted, union_of, value_script, values_script}
+use Rattle.mr_eval.specs.Evaluated.{at_variant, disc_at, disc_layer, each_valued, found_number, in_array, in_field, load_at, meant_by, placed, read_typed, transmuted_to, valued}
 use Rattle.mr_eval.proofs.EvaluationLaws.{script_addr_of, script_binary, script_cast, script_deref, script_disc, script_false, script_field, script_fn, script_global, script_index, script_int, script_load, script_local, script_raw, script_transmute, script_true, script_tuple, script_unary, script_union, script_variant, script_variant_place}
 
 module _ (m : Memory) (s : Surround) (old : Seen) where
@@ -38,8 +41,8 @@ module _ (m : Memory) (s : Surround) (old : Seen) where
   along x y e = ap (λ (script : ReadScript _). run (reading m) script old) e
 
   -- a script that goes on behind another
-  then : {A B : Type 0} (x : ReadScript B) (y : ReadScript A) (f : A → ReadScript B) → x ≡ (y >>= f) → run (reading m) x old ≡ on (run (reading m) y old) (λ a t. run (reading m) (f a) t)
-  then x y f e = along x (y >>= f) e ∙ run_bind (reading m) y f old
+  runs_on : {A B : Type 0} (x : ReadScript B) (y : ReadScript A) (f : A → ReadScript B) → x ≡ (y >>= f) → run (reading m) x old ≡ on (run (reading m) y old) (λ a t. run (reading m) (f a) t)
+  runs_on x y f e = along x (y >>= f) e ∙ run_bind (reading m) y f old
 
   -- ---- places
 
@@ -49,22 +52,37 @@ module _ (m : Memory) (s : Surround) (old : Seen) where
 
   pub eval_deref : (v : Value) (t : Ty) → placed m s (place.Deref v t) old ≡ on (valued m s v old) (λ a seen. run (reading m) (pointer_of_value a) seen)
   unfolding placed valued
-  eval_deref v t = then _ (value_script s v) pointer_of_value (script_deref s v t)
+  eval_deref v t = runs_on _ (value_script s v) pointer_of_value (script_deref s v t)
 
   pub eval_field : (p : Place) (k : ℕ) → placed m s (place.Field p k) old ≡ on (placed m s p old) (λ a seen. in_field m (type_of_place s.locals p) k a seen)
   unfolding placed in_field
-  eval_field p k = then _ (place_script s p) (λ a. or_ill_formed (offset_in (type_of_place s.locals p) k) >>= (λ n. moved a (pos n))) (script_field s p k)
+  eval_field p k = runs_on _ (place_script s p) (λ a. or_ill_formed (offset_in (type_of_place s.locals p) k) >>= (λ n. moved a (pos n))) (script_field s p k)
 
   pub eval_index : (p : Place) (i : Value) → placed m s (place.Index p i) old ≡ on (placed m s p old) (λ a seen. on (valued m s i seen) (λ v last. in_array m (type_of_place s.locals p) v a last))
   unfolding placed valued in_array
   eval_index p i =
       let last : Pointer → Val → ReadScript Pointer = λ a v. bits_of_value v >>= (λ n. or_ill_formed (elements_in (type_of_place s.locals p)) >>= element_at a n) in
-      then _ (place_script s p) (λ a. value_script s i >>= last a) (script_index s p i)
+      runs_on _ (place_script s p) (λ a. value_script s i >>= last a) (script_index s p i)
       ∙ on_same (placed m s p old) _ _ (λ a seen. run_bind (reading m) (value_script s i) (last a) seen)
 
-  pub eval_variant_place : (p : Place) (n : Num) → placed m s (place.Variant p n) old ≡ placed m s p old
+  tested_run : (b : Bool) (a : Pointer) (seen : Seen) → run (reading m) (if b then Done a else IllFormed) seen ≡ (if b then Went a seen else Broken)
+  tested_run true a seen = refl
+  tested_run false a seen = refl
+
+  pub eval_variant_place : (p : Place) (n : Num) → placed m s (place.Variant p n) old ≡ on (placed m s p old) (λ a seen. at_variant (type_of_place s.locals p) n a seen)
   unfolding placed
-  eval_variant_place p n = along _ _ (script_variant_place s p n)
+  eval_variant_place p n =
+      runs_on _ (place_script s p) (as_variant (type_of_place s.locals p) n) (script_variant_place s p n)
+      ∙ on_same (placed m s p old) _ _ (tested_run (is_some (chained (type_of_place s.locals p) (λ u. variant_type u n))))
+
+  -- a place whose type has the variant stays where it is
+  pub variant_stays : (p : Place) (n : Num) (a : Pointer) (new : Seen) (t : Ty) → type_of_place s.locals p ≡ Some t → is_some (variant_type t n) ≡ true
+      → placed m s p old ≡ Went a new → placed m s (place.Variant p n) old ≡ Went a new
+  variant_stays p n a new t typed there went =
+      eval_variant_place p n
+      ∙ ap (λ (o : Outcome Pointer Seen). on o (λ b seen. at_variant (type_of_place s.locals p) n b seen)) went
+      ∙ ap (λ (o : Option Ty). at_variant o n a new) typed
+      ∙ ap (λ (b : Bool). if b then Went a new else Broken) there
 
   -- ---- values
 
@@ -107,33 +125,33 @@ module _ (m : Memory) (s : Surround) (old : Seen) where
 
   pub eval_tuple : (t : Ty) (vs : List Value) → valued m s (value.Tuple t vs) old ≡ on (each_valued m s vs old) (λ xs seen. Went (val.Tuple xs) seen)
   unfolding valued each_valued
-  eval_tuple t vs = then _ (values_script s vs) (λ xs. Done (val.Tuple xs)) (script_tuple s t vs)
+  eval_tuple t vs = runs_on _ (values_script s vs) (λ xs. Done (val.Tuple xs)) (script_tuple s t vs)
 
   pub eval_union : (t : Ty) (k : ℕ) (v : Value) → valued m s (value.Union t k v) old ≡ on (valued m s v old) (λ a seen. run (reading m) (union_of t k a) seen)
   unfolding valued
-  eval_union t k v = then _ (value_script s v) (union_of t k) (script_union s t k v)
+  eval_union t k v = runs_on _ (value_script s v) (union_of t k) (script_union s t k v)
 
   pub eval_variant : (t : Ty) (n : Num) (v : Value) → valued m s (value.Variant t n v) old ≡ on (valued m s v old) (λ a seen. Went (val.Variant n a) seen)
   unfolding valued
-  eval_variant t n v = then _ (value_script s v) (λ a. Done (val.Variant n a)) (script_variant s t n v)
+  eval_variant t n v = runs_on _ (value_script s v) (λ a. Done (val.Variant n a)) (script_variant s t n v)
 
   pub eval_addr_of : (t : Ty) (p : Place) → valued m s (value.AddrOf t p) old ≡ on (placed m s p old) (λ a seen. Went (val.Ptr a) seen)
   unfolding placed valued
-  eval_addr_of t p = then _ (place_script s p) (λ a. Done (val.Ptr a)) (script_addr_of s t p)
+  eval_addr_of t p = runs_on _ (place_script s p) (λ a. Done (val.Ptr a)) (script_addr_of s t p)
 
   pub eval_cast : (i : IntType) (v : Value) → valued m s (value.Cast i v) old ≡ on (valued m s v old) (λ a seen. run (reading m) (cast_value i (type_of_value s.locals v) a) seen)
   unfolding valued
-  eval_cast i v = then _ (value_script s v) (cast_value i (type_of_value s.locals v)) (script_cast s i v)
+  eval_cast i v = runs_on _ (value_script s v) (cast_value i (type_of_value s.locals v)) (script_cast s i v)
 
   pub eval_unary : (o : UnaryOp) (v : Value) → valued m s (value.Unary o v) old ≡ on (valued m s v old) (λ a seen. run (reading m) (unary_of o (type_of_value s.locals v) a) seen)
   unfolding valued
-  eval_unary o v = then _ (value_script s v) (unary_of o (type_of_value s.locals v)) (script_unary s o v)
+  eval_unary o v = runs_on _ (value_script s v) (unary_of o (type_of_value s.locals v)) (script_unary s o v)
 
   pub eval_binary : (o : BinaryOp) (a b : Value) → valued m s (value.Binary o a b) old ≡ on (valued m s a old) (λ x seen. on (valued m s b seen) (λ y last. run (reading m) (binary_of o (type_of_value s.locals a) (type_of_value s.locals b) x y) last))
   unfolding valued
   eval_binary o a b =
       let last : Val → Val → ReadScript Val = binary_of o (type_of_value s.locals a) (type_of_value s.locals b) in
-      then _ (value_script s a) (λ x. value_script s b >>= last x) (script_binary s o a b)
+      runs_on _ (value_script s a) (λ x. value_script s b >>= last x) (script_binary s o a b)
       ∙ on_same (valued m s a old) _ _ (λ x seen. run_bind (reading m) (value_script s b) (last x) seen)
 
 -- ---- what reads memory behind its operand
@@ -163,19 +181,24 @@ module _ (m : Memory) where
   transmute_is : (to : Ty) (from : Option Ty) (v : Val) (seen : Seen) → run (reading m) (transmuted to from v) seen ≡ transmuted_to m to from v seen
   unfolding meant_by
   transmute_is to None v seen = refl
-  transmute_is to (Some from) v seen = refl
+  transmute_is to (Some from) v seen = by_shape (has_shape from v)
+    where
+      by_shape : (b : Bool) → run (reading m) (if b then meant TransmuteInvalid to (encoding_of from v) else IllFormed) seen
+          ≡ (if b then run (reading m) (meant TransmuteInvalid to (encoding_of from v)) seen else Broken)
+      by_shape true = refl
+      by_shape false = refl
 
   pub eval_load : (s : Surround) (old : Seen) (p : Place) → valued m s (value.Load p) old ≡ on (placed m s p old) (λ a seen. load_at m (type_of_place s.locals p) a seen)
   unfolding placed valued
-  eval_load s old p = then m s old _ (place_script s p) (loaded (type_of_place s.locals p)) (script_load s p) ∙ on_same (placed m s p old) _ _ (load_is (type_of_place s.locals p))
+  eval_load s old p = runs_on m s old _ (place_script s p) (loaded (type_of_place s.locals p)) (script_load s p) ∙ on_same (placed m s p old) _ _ (load_is (type_of_place s.locals p))
 
   pub eval_disc : (s : Surround) (old : Seen) (p : Place) → valued m s (value.Disc p) old ≡ on (placed m s p old) (λ a seen. disc_at m (type_of_place s.locals p) a seen)
   unfolding placed valued
-  eval_disc s old p = then m s old _ (place_script s p) (discriminant_at (type_of_place s.locals p)) (script_disc s p) ∙ on_same (placed m s p old) _ _ (disc_is (type_of_place s.locals p))
+  eval_disc s old p = runs_on m s old _ (place_script s p) (discriminant_at (type_of_place s.locals p)) (script_disc s p) ∙ on_same (placed m s p old) _ _ (disc_is (type_of_place s.locals p))
 
   pub eval_transmute : (s : Surround) (old : Seen) (t : Ty) (v : Value) → valued m s (value.Transmute t v) old ≡ on (valued m s v old) (λ a seen. transmuted_to m t (type_of_value s.locals v) a seen)
   unfolding valued
-  eval_transmute s old t v = then m s old _ (value_script s v) (transmuted t (type_of_value s.locals v)) (script_transmute s t v) ∙ on_same (valued m s v old) _ _ (transmute_is t (type_of_value s.locals v))
+  eval_transmute s old t v = runs_on m s old _ (value_script s v) (transmuted t (type_of_value s.locals v)) (script_transmute s t v) ∙ on_same (valued m s v old) _ _ (transmute_is t (type_of_value s.locals v))
 
 -- ---- rows
 
@@ -195,4 +218,4 @@ pub each_at : (m : Memory) (s : Surround) (old : Seen) (vs : List Value) (i : �
     → each_valued m s (drop i vs) old ≡ on (valued m s (get_or vs i d) old) (λ x seen. on (each_valued m s (drop (i + 1) vs) seen) (λ xs last. Went (x ∷ xs) last))
 each_at m s old vs i d lt = ap (λ (row : List Value). each_valued m s row old) (drop_more vs i d lt) ∙ each_more m s old (get_or vs i d) (drop (i + 1) vs)
 
-pub ruleset eval_laws = (eval_local, eval_deref, eval_field, eval_index, eval_variant_place, eval_int, eval_true, eval_false, eval_raw, fn_there, fn_missing, global_there, global_missing, eval_tuple, eval_union, eval_variant, eval_addr_of, eval_cast, eval_unary, eval_binary, eval_load, eval_disc, eval_transmute)
+pub ruleset eval_laws = (eval_local, eval_deref, eval_field, eval_index, eval_variant_place, variant_stays, eval_int, eval_true, eval_false, eval_raw, fn_there, fn_missing, global_there, global_missing, eval_tuple, eval_union, eval_variant, eval_addr_of, eval_cast, eval_unary, eval_binary, eval_load, eval_disc, eval_transmute)

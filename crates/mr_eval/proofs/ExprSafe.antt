@@ -1,9 +1,9 @@
 -- The evaluation of an expression that breaks no rule is never ill-formed, and the value has the shape of the expression's type.
-use Rattle.std.proofs.Common.{◌≡◌, ℕ, ◌*◌, ◌<◌, List, [], ◌∷◌, Option, None, Some, All, Bool, true, false, length, refl, sym, ap, subst, ◌∙◌, arith}
-use Rattle.std.specs.Prelude.{◌||◌, is_some, nat_lt, pos, slice_get, if◌then◌else◌}
+use Rattle.std.proofs.Common.{◌≡◌, ℕ, ◌*◌, ◌<◌, List, [], ◌∷◌, Option, None, Some, Bool, true, false, length, refl, sym, ap, subst, ◌∙◌, arith}
+use Rattle.std.specs.Prelude.{◌||◌, is_some, nat_lt, pos, if◌then◌else◌}
 use Rattle.std.specs.Option.{option_map}
 use Rattle.std.specs.List.{list_all, flat_map}
-use Rattle.std.proofs.lemmas.Option.{same_Some, slice_get_within, get_or_from_slice_get}
+use Rattle.std.proofs.lemmas.Option.{same_Some}
 use Rattle.mr_ast.specs.declared.types.IntType.{IntType}
 use Rattle.mr_ast.specs.declared.types.IntType.TheVariants.{U64}
 use Rattle.mr_ast.specs.declared.types.Num.{Num}
@@ -41,7 +41,7 @@ use Rattle.mr_value.specs.Shape.{has_shape}
 use Rattle.mr_base.proofs.Comparisons.{lt_from}
 use Rattle.mr_value.proofs.EncodeLength.{length-encoding_of}
 use Rattle.mr_value.proofs.ShapeLaws.{has_bool, has_fn_ptr, has_raw, has_ref, shape_fn_ptr, shape_raw, shape_ref}
-use Rattle.mr_script.specs.Script.{Done, Undefined, ◌>>=◌}
+use Rattle.mr_script.specs.Script.{Done, IllFormed, Undefined, ◌>>=◌}
 use Rattle.mr_wf.specs.Broken.{Surroundings, broken_in_place, broken_in_value}
 use Rattle.mr_wf.specs.Operands.{is_fn_ptr, is_int, is_pointer, is_raw, is_ref, is_ref_layer}
 use Rattle.mr_wf.specs.Types.{chained, compares, discriminant_in, discriminant_type, element_type, field_type, integer_in, integer_of, overflow_type, result_type, tells_overflow, type_of_place, type_of_value, variant_type}
@@ -52,15 +52,16 @@ use Rattle.mr_wf.proofs.SameTypeLaws.{same_type_equal, type_made}
 use Rattle.mr_wf.proofs.TypeLaws.{type_of_addr_of, type_of_binary, type_of_cast, type_of_deref, type_of_disc, type_of_false, type_of_field, type_of_fn, type_of_global, type_of_index, type_of_int, type_of_load, type_of_local, type_of_raw, type_of_transmute, type_of_true, type_of_tuple, type_of_unary, type_of_union, type_of_variant, type_of_variant_place}
 use Rattle.mr_wf.proofs.TypedLaws.{TypedPlace, typed_addr_of, typed_binary, typed_cast, typed_deref, typed_disc, typed_field, typed_index, typed_int, typed_load, typed_transmute, typed_tuple, typed_unary, typed_union, typed_variant, typed_variant_place}
 use Rattle.mr_eval.specs.Moves.{behind, moved}
+use Rattle.mr_eval.specs.Typed.{meant}
 use Rattle.mr_eval.specs.Operators.{binary_of, bits_in, bits_of_value, cast_value, or_ill_formed, pointer_in, pointer_of_value, unary_of}
-use Rattle.mr_eval.specs.Evaluation.{Surround, bare, discriminant_at, element_at, elements_in, loaded, offset_in, place_script, stored, transmuted, union_of, value_script, values_script}
+use Rattle.mr_eval.specs.Evaluation.{Surround, as_variant, bare, discriminant_at, element_at, elements_in, loaded, offset_in, place_script, stored, transmuted, union_of, value_script, values_script}
 use Rattle.mr_eval.specs.Sound.{IsSafe, Stands, any_result}
 use Rattle.mr_eval.proofs.DiscSafe.{discriminant_safe}
 use Rattle.mr_eval.proofs.EvaluationLaws.{script_addr_of, script_binary, script_cast, script_deref, script_disc, script_false, script_field, script_fn, script_global, script_index, script_int, script_load, script_local, script_raw, script_transmute, script_true, script_tuple, script_unary, script_union, script_variant, script_variant_place}
 use Rattle.mr_eval.proofs.OperatorsSafe.{Shaped, binary_safe, cast_safe, int_layer, unary_safe}
 use Rattle.mr_eval.proofs.OverflowTypes.{overflow_ok}
 use Rattle.mr_eval.proofs.PartTypes.{element_ok, field_ok, variant_ok}
-use Rattle.mr_eval.proofs.SafeLaws.{item_there, loading_safe, meant_safe, moved_safe, safe_found, safe_if, safe_then}
+use Rattle.mr_eval.proofs.SafeLaws.{item_ok, item_there, loading_safe, meant_safe, moved_safe, safe_found, safe_if, safe_then}
 use Rattle.mr_eval.proofs.ShapeOf.{HaveShapes, int_shape, parts_shape, union_shape, variant_shape}
 
 -- ---- pointers in values
@@ -107,9 +108,6 @@ address_shape t e p = either (is_raw t) e refl
 some_type : (o : Option Ty) → is_some o ≡ true → (t : Ty) × (o ≡ Some t)
 some_type None e = absurd (cc)
 some_type (Some t) e = (t, refl)
-
-item_ok : {A : Type 0} (P : A → Type 0) (xs : List A) (i : ℕ) (x : A) → All P xs → slice_get xs i ≡ Some x → P x
-item_ok P xs i x all e = subst P (get_or_from_slice_get xs i x x e) (all i x (slice_get_within xs i x e))
 
 -- the integers by which an enum's variants are told
 discriminant_ok : (l : Ty-F Ty Variant) (t : Ty) → discriminant_in l ≡ Some t → TypeOk t
@@ -223,7 +221,9 @@ module _ (named : Named) (sizes : List ℕ) (s : Surround) (stands : Stands name
         ty = t.0;
         is = type_of_variant_place s.locals p n ∙ ap (λ (o : Option Ty). chained o (λ u. variant_type u n)) typed.is ∙ t.1;
         ok = variant_ok typed.ty whole n t.0 t.1;
-        safe = subst (IsSafe any_result) (sym (script_variant_place s p n)) g.safe;
+        safe = subst (IsSafe any_result) (sym (script_variant_place s p n)) (safe_then any_result any_result (place_script s p) _ g.safe (λ a u.
+            subst (λ (o : Option Ty). IsSafe any_result (as_variant o n a)) (sym typed.is)
+            (subst (λ (b : Bool). IsSafe any_result (if b then Done a else IllFormed)) (sym typed.fits) tt)));
       }
 
   index_safe : (p : Place) (i : Value) → PlaceSafe p → ValueSafe i → PlaceSafe (place.Index p i)
@@ -390,7 +390,8 @@ module _ (named : Named) (sizes : List ℕ) (s : Surround) (stands : Stands name
         ok = typed.0;
         safe = subst (IsSafe (Shaped t)) (sym (script_transmute s t v)) (safe_then (Shaped u) (Shaped t) (value_script s v) (transmuted t (type_of_value s.locals v)) (value_at v u typed.1.is g) (λ x h.
             subst (λ (o : Option Ty). IsSafe (Shaped t) (transmuted t o x)) (sym typed.1.is)
-            (meant_safe TransmuteInvalid t (encoding_of u x) typed.0 (length-encoding_of u ok_u x h ∙ sym (same_of (size_of t) (size_of u) typed.1.fits)))));
+            (subst (λ (b : Bool). IsSafe (Shaped t) (if b then meant TransmuteInvalid t (encoding_of u x) else IllFormed)) (sym h)
+            (meant_safe TransmuteInvalid t (encoding_of u x) typed.0 (length-encoding_of u ok_u x h ∙ sym (same_of (size_of t) (size_of u) typed.1.fits))))));
       }
 
   unary_value_safe : (o : UnaryOp) (v : Value) → ValueSafe v → ValueSafe (value.Unary o v)

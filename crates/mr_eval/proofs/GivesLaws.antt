@@ -1,5 +1,5 @@
 -- What follows of an answer for what comes behind it.
-use Rattle.std.proofs.Common.{◌≡◌, ℤ, Result, Ok, Err, sym, ap, subst, ◌∙◌}
+use Rattle.std.proofs.Common.{◌≡◌, ℤ, Result, Ok, Err, ap, ◌∙◌}
 use Rattle.mr_base.specs.declared.byte.Pointer.{Pointer}
 use Rattle.mr_mem.specs.Memory.{Memory}
 use Rattle.mr_script.specs.Script.{Done, Outcome, Went, on, run}
@@ -18,11 +18,6 @@ pub gives_stop : {X Y Z W S T : Type 0} (view : X → Y) (last : Z → W) (e : H
 gives_stop view last (halt.Undefined r) o whole f s t is h = is ∙ ap (λ (u : Outcome _ _). on u f) h
 gives_stop view last halt.IllFormed o whole f s t is h = is ∙ ap (λ (u : Outcome _ _). on u f) h
 gives_stop view last halt.Memory o whole f s t is h = tt
-
--- what is given of what comes behind a part that went is given of the whole
-pub gives_on : {X Y Z S T : Type 0} (view : X → Y) (r : Result X Halt) (o : Outcome Z S) (whole : Outcome Y T) (f : Z → S → Outcome Y T) (z : Z) (s : S) (t : T)
-    → whole ≡ on o f → o ≡ Went z s → Gives view r (f z s) t → Gives view r whole t
-gives_on view r o whole f z s t is went h = subst (λ (u : Outcome _ _). Gives view r u t) (sym (is ∙ ap (λ (u : Outcome _ _). on u f) went)) h
 
 -- what stops a move stops what is made of it
 pub moved_stop : (m : Memory) (p : Pointer) (n : ℤ) (e : Halt) (old new : Seen)

@@ -2,6 +2,7 @@ pub mod CallLaws
 pub mod DiscSafe
 pub mod EvalRuns
 pub mod EvaluationLaws
+pub mod Examples
 pub mod ExprSafe
 pub mod ExprWeights
 pub mod ExtendsLaws

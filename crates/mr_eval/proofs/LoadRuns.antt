@@ -1,19 +1,22 @@
 -- What the load of a value comes to.
-use Rattle.std.proofs.Common.{◌≡◌, ℕ, false, Option, None, Some, refl, sym, ap, ap₂, ◌∙◌}
+use Rattle.std.proofs.Common.{◌≡◌, ℕ, Bool, true, false, Option, None, Some, refl, sym, ap, ap₂, ◌∙◌}
+use Rattle.std.specs.Prelude.{if◌then◌else◌}
 use Rattle.mr_ast.specs.declared.types.Ty.{Ty}
 use Rattle.mr_base.specs.declared.byte.Pointer.{Pointer}
 use Rattle.mr_base.specs.declared.reason.Reason.{Reason}
-use Rattle.mr_base.specs.declared.reason.Reason.TheVariants.{InvalidValue}
+use Rattle.mr_base.specs.declared.reason.Reason.TheVariants.{InvalidValue, TransmuteInvalid}
 use Rattle.mr_layout.specs.Sizes.{align_of, size_of}
 use Rattle.mr_mem.specs.Memory.{Memory}
-use Rattle.mr_script.specs.Script.{◌>>=◌, Done, Outcome, Refused, Went, on, run}
+use Rattle.mr_script.specs.Script.{◌>>=◌, Broken, Done, Outcome, Refused, Went, on, run}
 use Rattle.mr_script.proofs.Runs.{run_bind}
 use Rattle.mr_value.specs.declared.val.Val.{Val}
 use Rattle.mr_value.specs.Decode.{decoded}
+use Rattle.mr_value.specs.Encode.{encoding_of}
 use Rattle.mr_value.specs.Numbers.{Bytes}
+use Rattle.mr_value.specs.Shape.{has_shape}
 use Rattle.mr_eval.specs.Reads.{Read, Seen, reading}
 use Rattle.mr_eval.specs.Typed.{loading, or_undefined, referred, referring, targets_of}
-use Rattle.mr_eval.specs.Evaluated.{meant_by, read_typed, referred_to}
+use Rattle.mr_eval.specs.Evaluated.{meant_by, read_typed, referred_to, transmuted_to}
 
 pub read_run : (m : Memory) (t : Ty) (p : Pointer) (seen : Seen) → read_typed m t p seen ≡ on (reading m (Read false p (size_of t) (align_of t)) seen) (λ bytes s. meant_by m InvalidValue t bytes s)
 unfolding read_typed meant_by loading
@@ -31,6 +34,11 @@ pub meant_some : (m : Memory) (r : Reason) (t : Ty) (bytes : Bytes) (v : Val) (s
 unfolding meant_by referred_to
 meant_some m r t bytes v seen e =
     ap (λ (o : Option Val). meant_as m r t o seen) e ∙ run_bind (reading m) (referring (targets_of t v)) (λ u. Done v) seen
+
+-- a value of its type's shape, transmuted
+pub transmuted_run : (m : Memory) (to from : Ty) (v : Val) (seen : Seen) → has_shape from v ≡ true
+    → transmuted_to m to (Some from) v seen ≡ meant_by m TransmuteInvalid to (encoding_of from v) seen
+transmuted_run m to from v seen e = ap (λ (b : Bool). if b then meant_by m TransmuteInvalid to (encoding_of from v) seen else Broken) e
 
 -- bytes that mean a value
 pub read_found : (m : Memory) (t : Ty) (p : Pointer) (size align : ℕ) (old : Seen) (bytes : Bytes) (new : Seen) (v : Val)

@@ -1,8 +1,8 @@
 -- Values that are made of the bytes of others: unions of which a field is written, and transmuted values.
-use Rattle.std.proofs.Common.{◌≡◌, ℕ, ◌+◌, ◌≤◌, List, ◌++◌, Option, None, Some, true, length, take, drop, sym, ap, ap₂, subst, ◌∙◌, arith, append-nil}
+use Rattle.std.proofs.Common.{◌≡◌, ℕ, ◌+◌, ◌≤◌, List, ◌++◌, Option, None, Some, true, length, sym, ap, ap₂, subst, ◌∙◌, arith, append-nil}
 use Rattle.std.specs.Prelude.{slice_get}
 use Rattle.std.specs.Option.{option_map}
-use Rattle.std.proofs.lemmas.List.{drop_all, length-replicate, take_all}
+use Rattle.std.proofs.lemmas.List.{drop_all, length-replicate}
 use Rattle.std.proofs.lemmas.Option.{same_Some}
 use Rattle.mr_ast.specs.declared.types.Ty.{Ty, out-Ty}
 use Rattle.mr_ast.specs.declared.types.Ty.TheVariants as ty
@@ -33,14 +33,6 @@ pub replaced_whole : (bytes : Bytes) (n : ℕ) → n ≡ length bytes → with_r
 replaced_whole bytes n e =
     ap (λ (rest : Bytes). bytes ++ rest) (drop_all (0 + length bytes) (blank n) (omega (arith, length-replicate n Uninit, e)))
     ∙ append-nil bytes
-
--- what lies in bytes that are as many as they were
-pub all_laid : (seen bytes : Bytes) (n at : ℕ) (piece : Bytes) → bytes ≡ with_range_replaced (blank n) at piece → at + length piece ≤ n → seen ≡ take n (drop 0 bytes)
-    → (seen ≡ with_range_replaced (blank n) at piece) × (length seen ≡ n)
-all_laid seen bytes n at piece e le is =
-    let sized : length bytes ≡ n = ap length e ∙ replaced_length n at piece le in
-    let whole : seen ≡ bytes = is ∙ take_all n bytes (omega (arith, sized)) in
-    (whole ∙ e, ap length whole ∙ sized)
 
 -- a field of a union, and a value of its shape
 pub record PartFits (size : ℕ) (f : ℕ × Ty) (v : Val) : Type 0 where

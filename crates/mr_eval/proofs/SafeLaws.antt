@@ -1,7 +1,8 @@
 -- Scripts that are never ill-formed, by their parts.
-use Rattle.std.proofs.Common.{◌≡◌, ℕ, zero, suc, ◌<◌, List, [], ◌∷◌, Option, None, Some, Result, Ok, Err, Bool, true, false, length, refl, sym, subst, arith}
+use Rattle.std.proofs.Common.{◌≡◌, ℕ, zero, suc, ◌<◌, List, [], ◌∷◌, All, Option, None, Some, Result, Ok, Err, Bool, true, false, length, refl, sym, subst, arith}
 use Rattle.std.specs.Prelude.{◌^◌, ◌&&◌, ℤ, pos, ◌+ℤ◌, int_le, int_lt, slice_get, unsigned_abs, if◌then◌else◌}
 use Rattle.std.specs.Ordering.{int_eq}
+use Rattle.std.proofs.lemmas.Option.{get_or_from_slice_get, slice_get_within}
 use Rattle.mr_ast.specs.declared.types.Ty.{Ty}
 use Rattle.mr_base.specs.declared.byte.Pointer.{Pointer}
 use Rattle.mr_base.specs.declared.reason.Reason.{Reason}
@@ -46,6 +47,10 @@ pub item_there : {A : Type 0} (xs : List A) (i : ℕ) → i < length xs → (x :
 item_there [] i lt = absurd (omega arith)
 item_there (x ∷ xs) zero lt = (x, refl)
 item_there (x ∷ xs) (suc i) lt = item_there xs i (omega arith)
+
+-- what holds of all holds of the one at a position
+pub item_ok : {A : Type 0} (P : A → Type 0) (xs : List A) (i : ℕ) (x : A) → All P xs → slice_get xs i ≡ Some x → P x
+item_ok P xs i x all e = subst P (get_or_from_slice_get xs i x x e) (all i x (slice_get_within xs i x e))
 
 -- ---- pointers
 

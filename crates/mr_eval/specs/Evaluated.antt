@@ -1,5 +1,6 @@
 -- What the evaluation of an expression over a memory comes to: a pointer or a value with what was seen by then, a reason, or no rule.
 use Rattle.std.specs.Prelude.{ℕ, if◌then◌else◌, List, [], ◌∷◌, Option, None, Some, pos}
+use Rattle.std.specs.Option.{is_some}
 use Rattle.mr_ast.specs.declared.types.IntType.{IntType}
 use Rattle.mr_ast.specs.declared.types.Num.{Num}
 use Rattle.mr_ast.specs.declared.types.Tree.{Tree}
@@ -18,6 +19,8 @@ use Rattle.mr_value.specs.declared.val.Val.{Val}
 use Rattle.mr_value.specs.declared.val.Val.TheVariants as val
 use Rattle.mr_value.specs.Discriminants.{bits_of_number}
 use Rattle.mr_value.specs.Encode.{encoding_of}
+use Rattle.mr_value.specs.Shape.{has_shape}
+use Rattle.mr_wf.specs.Types.{chained, variant_type}
 use Rattle.mr_script.specs.Script.{Broken, Outcome, Went, ◌>>=◌, on, run}
 use Rattle.mr_eval.specs.Reads.{Seen, reading}
 use Rattle.mr_eval.specs.Typed.{Targets, loading, meant, numbered, referring, searched}
@@ -70,6 +73,10 @@ in_field m t k p seen = run (reading m) (or_ill_formed (offset_in t k) >>= (λ n
 unfoldable pub in_array : Memory → Option Ty → Val → Pointer → Seen → Outcome Pointer Seen
 in_array m t i p seen = run (reading m) (bits_of_value i >>= (λ n. or_ill_formed (elements_in t) >>= element_at p n)) seen
 
+-- a place of a type, as a variant of it
+abbrev pub at_variant : Option Ty → Num → Pointer → Seen → Outcome Pointer Seen
+at_variant t n p seen = if is_some (chained t (λ u. variant_type u n)) then Went p seen else Broken
+
 -- the load of a place of a type
 abbrev pub load_at : Memory → Option Ty → Pointer → Seen → Outcome Val Seen
 load_at m None p seen = Broken
@@ -84,7 +91,8 @@ abbrev pub disc_at : Memory → Option Ty → Pointer → Seen → Outcome Val S
 disc_at m None p seen = Broken
 disc_at m (Some t) p seen = disc_layer m (out-Ty t) p seen
 
--- the bytes of a value of a type, taken for another
+-- the bytes of a value of a type's shape, taken for another type
 abbrev pub transmuted_to : Memory → Ty → Option Ty → Val → Seen → Outcome Val Seen
 transmuted_to m to None v seen = Broken
-transmuted_to m to (Some from) v seen = meant_by m TransmuteInvalid to (encoding_of from v) seen
+transmuted_to m to (Some from) v seen =
+    if has_shape from v then meant_by m TransmuteInvalid to (encoding_of from v) seen else Broken

@@ -1,6 +1,7 @@
 -- THE EVALUATION of places and values, as scripts that ask memory. (MiniRust, lang: evaluation of expressions.)
 use Rattle.std.specs.Prelude.{ℕ, ◌*◌, true, false, nat_lt, if◌then◌else◌, List, [], ◌∷◌, Option, None, Some, slice_get, pos}
-use Rattle.std.specs.Option.{option_map}
+use Rattle.std.specs.Option.{is_some, option_map}
+use Rattle.mr_ast.specs.declared.types.Num.{Num}
 use Rattle.mr_ast.specs.declared.types.Ty.{Ty, out-Ty}
 use Rattle.mr_ast.specs.declared.types.Ty.TheOpen.{Ty-F}
 use Rattle.mr_ast.specs.declared.types.Variant.{Variant}
@@ -19,8 +20,9 @@ use Rattle.mr_value.specs.Decode.{chunks_in}
 use Rattle.mr_value.specs.Discriminants.{bits_of_number}
 use Rattle.mr_value.specs.Encode.{blank, encoding_of}
 use Rattle.mr_value.specs.Numbers.{Bytes}
+use Rattle.mr_value.specs.Shape.{has_shape}
 use Rattle.mr_script.specs.Script.{Done, Undefined, IllFormed, ◌>>=◌}
-use Rattle.mr_wf.specs.Types.{type_of_place, type_of_value}
+use Rattle.mr_wf.specs.Types.{chained, type_of_place, type_of_value, variant_type}
 use Rattle.mr_eval.specs.Reads.{ReadScript}
 use Rattle.mr_eval.specs.Moves.{behind, moved}
 use Rattle.mr_eval.specs.Typed.{loading, meant, searched}
@@ -65,6 +67,10 @@ elements_in (Some t) = elements (out-Ty t)
 abbrev pub element_at : Pointer → ℕ → ℕ × ℕ → ReadScript Pointer
 element_at p i e = if nat_lt i e.0 then moved p (pos (i * e.1)) else Undefined IndexOutOfRange
 
+-- a place as a variant of its type, which must have it
+abbrev pub as_variant : Option Ty → Num → Pointer → ReadScript Pointer
+as_variant t n p = if is_some (chained t (λ u. variant_type u n)) then Done p else IllFormed
+
 -- one level of a place, with each part beside its evaluation
 abbrev pub place_step : Surround → Place-F (Place × ReadScript Pointer) (Value × ReadScript Val) → ReadScript Pointer
 place_step s (Place-F.Local x) = stored (slice_get s.storage x.0)
@@ -81,7 +87,9 @@ place_step s (Place-F.Index array index) = do
   i ← bits_of_value v
   e ← or_ill_formed (elements_in (type_of_place s.locals array.0))
   element_at p i e
-place_step s (Place-F.Place::Variant whole number) = whole.1
+place_step s (Place-F.Place::Variant whole number) = do
+  p ← whole.1
+  as_variant (type_of_place s.locals whole.0) number p
 
 -- ---- values
 
@@ -119,10 +127,10 @@ abbrev pub loaded : Option Ty → Pointer → ReadScript Val
 loaded None p = IllFormed
 loaded (Some t) p = loading t p
 
--- the bytes of a value, taken for another type
+-- the bytes of a value, whose type's shape it must have, taken for another type
 abbrev pub transmuted : Ty → Option Ty → Val → ReadScript Val
 transmuted to None v = IllFormed
-transmuted to (Some from) v = meant TransmuteInvalid to (encoding_of from v)
+transmuted to (Some from) v = if has_shape from v then meant TransmuteInvalid to (encoding_of from v) else IllFormed
 
 -- a pointer without provenance
 abbrev pub bare : ℕ → Pointer

@@ -20,7 +20,7 @@ use crate::valuing::{
     Valued, binary_value, cast_value, discriminant, loaded_value, transmuted_value, typed,
     unary_value, union_value, variant_value,
 };
-use mr_ast::{Items, Place, Value};
+use mr_ast::{BinaryOp, Items, Num, Place, Ty, Value};
 use mr_base::Pointer;
 use mr_value::{Val, bits_of_number};
 use mr_wf::Known;
@@ -44,16 +44,31 @@ pub fn placed<'p>(here: Here<'p>, notes: &mut Notes, place: &'p Place) -> Result
             let p = placed(here, notes, whole.get())?;
             field(here.memory, notes, p, *number)
         }
-        Place::Index(array, index) => {
-            let p = placed(here, notes, array.get())?;
-            let i = valued(here, notes, index.get())?;
-            element_by(here.memory, notes, p, i.value)
-        }
+        Place::Index(array, index) => indexed_place(here, notes, array.get(), index.get()),
         Place::Variant(whole, number) => {
             let p = placed(here, notes, whole.get())?;
             Ok(variant(p, *number))
         }
     }
+}
+
+// The element of an array at the position that a value tells.
+#[cycle(evaluated)]
+#[tactic(auto, using(crate::proofs::EvalRuns::eval_laws, crate::proofs::SoundParts::sound_laws, crate::proofs::SoundParts::type_facts, crate::proofs::SoundParts::int_fits, mr_wf::proofs::TypeLaws::type_laws, crate::proofs::ExtendsLaws::extends_laws))]
+fn indexed_place<'p>(
+    here: Here<'p>,
+    notes: &mut Notes,
+    array: &'p Place,
+    index: &'p Value,
+) -> Result<Placed<'p>, Halt>
+    requires { SoundPlace (surround_of here) (Place.Index array.now index.now) }
+    ensures given { Gives at_pointer result (placed here.entry.memory.now (surround_of here.entry) (Place.Index array.now index.now) (seen notes.old)) (seen notes.new) }
+    ensures ty { IfOk result (λ p. type_of_place here.entry.locals.now (Place.Index array.now index.now) ≡ Some p.ty.now) }
+    ensures kept { Extends (seen notes.old) (seen notes.new) }
+{
+    let p = placed(here, notes, array)?;
+    let i = valued(here, notes, index)?;
+    element_by(here.memory, notes, p, i.value)
 }
 
 // The pointer with this number.
@@ -109,28 +124,97 @@ pub fn valued<'p>(here: Here<'p>, notes: &mut Notes, value: &'p Value) -> Result
         Value::Cast(int, operand) => cast_value(*int, valued(here, notes, operand.get())?),
         Value::Unary(op, operand) => unary_value(*op, valued(here, notes, operand.get())?),
         Value::Variant(ty, number, content) => {
-            let v = valued(here, notes, content.get())?;
-            variant_value(here.alloc, ty, *number, v.value)
+            variant_expression(here, notes, ty, *number, content.get())
         }
         Value::Tuple(ty, values) => {
             let row = each_valued(here, notes, values.as_slice())?;
             Ok(typed(Val::Tuple(row), Known::Written(ty)))
         }
         Value::Union(ty, number, content) => {
-            let v = valued(here, notes, content.get())?;
-            union_value(here.alloc, ty, *number, v.value)
+            union_expression(here, notes, ty, *number, content.get())
         }
-        Value::Transmute(ty, operand) => {
-            let v = valued(here, notes, operand.get())?;
-            transmuted_value(here, notes, ty, v)
-        }
+        Value::Transmute(ty, operand) => transmute_expression(here, notes, ty, operand.get()),
         Value::Binary(op, left, right) => {
-            let a = valued(here, notes, left.get())?;
-            let right = valued(here, notes, right.get());
-            let (a, b) = beside(a, right)?;
-            binary_value(here, notes, *op, a, b)
+            binary_expression(here, notes, *op, left.get(), right.get())
         }
     }
+}
+
+// A variant of an enum.
+#[cycle(evaluated)]
+#[tactic(auto, using(crate::proofs::EvalRuns::eval_laws, crate::proofs::SoundParts::sound_laws, crate::proofs::SoundParts::type_facts, crate::proofs::SoundParts::int_fits, mr_wf::proofs::TypeLaws::type_laws, crate::proofs::ExtendsLaws::extends_laws))]
+fn variant_expression<'p>(
+    here: Here<'p>,
+    notes: &mut Notes,
+    ty: &'p Ty,
+    number: Num,
+    content: &'p Value,
+) -> Result<Valued<'p>, Halt>
+    requires { SoundValue (surround_of here) (Value.Variant ty.now number content.now) }
+    ensures given { Gives value_in result (valued here.entry.memory.now (surround_of here.entry) (Value.Variant ty.now number content.now) (seen notes.old)) (seen notes.new) }
+    ensures ty { IfOk result (λ v. type_of_value here.entry.locals.now (Value.Variant ty.now number content.now) ≡ Some (ty_of v.ty)) }
+    ensures kept { Extends (seen notes.old) (seen notes.new) }
+{
+    let v = valued(here, notes, content)?;
+    variant_value(here.alloc, ty, number, v.value)
+}
+
+// A union of which a field is written.
+#[cycle(evaluated)]
+#[tactic(auto, using(crate::proofs::EvalRuns::eval_laws, crate::proofs::SoundParts::sound_laws, crate::proofs::SoundParts::type_facts, crate::proofs::SoundParts::int_fits, mr_wf::proofs::TypeLaws::type_laws, crate::proofs::ExtendsLaws::extends_laws))]
+fn union_expression<'p>(
+    here: Here<'p>,
+    notes: &mut Notes,
+    ty: &'p Ty,
+    number: u64,
+    content: &'p Value,
+) -> Result<Valued<'p>, Halt>
+    requires { SoundValue (surround_of here) (Value.Union ty.now number content.now) }
+    ensures given { Gives value_in result (valued here.entry.memory.now (surround_of here.entry) (Value.Union ty.now number content.now) (seen notes.old)) (seen notes.new) }
+    ensures ty { IfOk result (λ v. type_of_value here.entry.locals.now (Value.Union ty.now number content.now) ≡ Some (ty_of v.ty)) }
+    ensures kept { Extends (seen notes.old) (seen notes.new) }
+{
+    let v = valued(here, notes, content)?;
+    union_value(here.alloc, ty, number, v.value)
+}
+
+// A value of another type of the same bytes.
+#[cycle(evaluated)]
+#[tactic(auto, using(crate::proofs::EvalRuns::eval_laws, crate::proofs::SoundParts::sound_laws, crate::proofs::SoundParts::type_facts, crate::proofs::SoundParts::int_fits, mr_wf::proofs::TypeLaws::type_laws, crate::proofs::ExtendsLaws::extends_laws))]
+fn transmute_expression<'p>(
+    here: Here<'p>,
+    notes: &mut Notes,
+    ty: &'p Ty,
+    operand: &'p Value,
+) -> Result<Valued<'p>, Halt>
+    requires { SoundValue (surround_of here) (Value.Transmute ty.now operand.now) }
+    ensures given { Gives value_in result (valued here.entry.memory.now (surround_of here.entry) (Value.Transmute ty.now operand.now) (seen notes.old)) (seen notes.new) }
+    ensures ty { IfOk result (λ v. type_of_value here.entry.locals.now (Value.Transmute ty.now operand.now) ≡ Some (ty_of v.ty)) }
+    ensures kept { Extends (seen notes.old) (seen notes.new) }
+{
+    let v = valued(here, notes, operand)?;
+    transmuted_value(here, notes, ty, v)
+}
+
+// An operator with two operands, from left to right.
+#[cycle(evaluated)]
+#[tactic(auto, using(crate::proofs::EvalRuns::eval_laws, crate::proofs::SoundParts::sound_laws, crate::proofs::SoundParts::type_facts, crate::proofs::SoundParts::int_fits, mr_wf::proofs::TypeLaws::type_laws, crate::proofs::ExtendsLaws::extends_laws))]
+fn binary_expression<'p>(
+    here: Here<'p>,
+    notes: &mut Notes,
+    op: BinaryOp,
+    left: &'p Value,
+    right: &'p Value,
+) -> Result<Valued<'p>, Halt>
+    requires { SoundValue (surround_of here) (Value.Binary op left.now right.now) }
+    ensures given { Gives value_in result (valued here.entry.memory.now (surround_of here.entry) (Value.Binary op left.now right.now) (seen notes.old)) (seen notes.new) }
+    ensures ty { IfOk result (λ v. type_of_value here.entry.locals.now (Value.Binary op left.now right.now) ≡ Some (ty_of v.ty)) }
+    ensures kept { Extends (seen notes.old) (seen notes.new) }
+{
+    let a = valued(here, notes, left)?;
+    let right = valued(here, notes, right);
+    let (a, b) = beside(a, right)?;
+    binary_value(here, notes, op, a, b)
 }
 
 // A thing beside an answer.

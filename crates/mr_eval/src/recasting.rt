@@ -89,8 +89,23 @@ fn encode_as(alloc: Global, v: &Val, t: Ty, out: &mut Vec<AbstractByte>) -> Resu
     encode(alloc, v, &t, out)
 }
 
+// Appends the bytes of what an overflowing operator gives on integers of this type.
+#[tactic(auto, using(crate::proofs::OverflowTypes::overflow_ok))]
+fn encode_overflow(
+    alloc: Global,
+    v: &Val,
+    int: IntType,
+    out: &mut Vec<AbstractByte>,
+) -> Result<(), OutOfMemory>
+    requires { has_shape (overflow_type int) v.now ≡ true }
+    ensures { OnOk result (out.new.items ≡ out.old.items ++ encoding_of (overflow_type int) v.now) }
+{
+    let t = overflow_type(alloc, int)?;
+    encode_as(alloc, v, t, out)
+}
+
 // Appends the bytes of a value of a known type.
-#[tactic(auto, using(mr_layout::proofs::BrokenLaws::broken_int, mr_layout::proofs::BrokenLaws::broken_bool, mr_layout::proofs::BrokenLaws::broken_raw, mr_layout::proofs::BrokenLaws::broken_fn_ptr, crate::proofs::OverflowTypes::overflow_ok))]
+#[tactic(auto, using(mr_layout::proofs::BrokenLaws::broken_int, mr_layout::proofs::BrokenLaws::broken_bool, mr_layout::proofs::BrokenLaws::broken_raw, mr_layout::proofs::BrokenLaws::broken_fn_ptr))]
 fn encode_known(
     alloc: Global,
     v: &Val,
@@ -107,7 +122,7 @@ fn encode_known(
         Known::Bool => encode_as(alloc, v, Ty::Bool, out),
         Known::Raw => encode_as(alloc, v, Ty::Raw, out),
         Known::FnPtr => encode_as(alloc, v, Ty::FnPtr, out),
-        Known::Overflow(int) => encode_as(alloc, v, overflow_type(alloc, int)?, out),
+        Known::Overflow(int) => encode_overflow(alloc, v, int, out),
     }
 }
 

@@ -1,13 +1,15 @@
-use Rattle.std.proofs.Common.{drop, get_or, sym, ap, subst, ◌∙◌, arith, ◌≡◌, Some, ◌+◌, true}
+use Rattle.std.proofs.Common.{drop, get_or, refl, sym, ap, ap₂, subst, ◌∙◌, arith, ◌≡◌, Some, ◌+◌, true}
 use Rattle.mr_script.specs.Script.{Went}
 use Rattle.mr_eval.specs.Answers.{surround_of, seen}
 use Rattle.mr_eval.specs.Evaluated.{each_valued, valued}
 use Rattle.mr_eval.specs.Sound.{SoundPlace, SoundValue, SoundValues}
 use Rattle.mr_wf.specs.Known.{ty_of}
 use Rattle.std.specs.Option.{is_some}
-use Rattle.mr_wf.specs.Types.{result_type, type_of_place, type_of_value}
+use Rattle.mr_wf.specs.Types.{result_type, type_of_place}
 use Rattle.mr_ast.specs.declared.expr.Place.{Place}
 use Rattle.mr_ast.specs.declared.expr.Value.{Value}
+use Rattle.mr_ast.specs.declared.expr.Place.TheVariants as place
+use Rattle.mr_ast.specs.declared.expr.Value.TheVariants as value
 use Rattle.mr_eval.proofs.EvalRuns.{fn_there}
 use Rattle.std.proofs.lemmas.Result.{err_from_is_err_and}
 use Rattle.mr_eval.proofs.ExtendsLaws.{extends_then}
@@ -19,7 +21,6 @@ use Rattle.mr_eval.specs.declared.valuing.Valued.{Valued}
 use Rattle.mr_eval.proofs.GivesLaws.{beside_first}
 use Rattle.mr_eval.proofs.evaluating.+evaluated.Goals as goal
 
--- src/evaluating.rt:35:21
 pub placed-valued-requires : goal.placed-valued-requires
 placed-valued-requires t c =
     let is : place_weight c.args.place.now ≡ _ = ap place_weight c.in-Deref.is ∙ weight_deref c.in-Deref.pointer c.in-Deref.ty in
@@ -27,7 +28,6 @@ placed-valued-requires t c =
     let w : value_weight c.get.result.now ≡ value_weight c.in-Deref.pointer = ap value_weight same in
     (omega (arith, c.decreases), subst (SoundValue (surround_of c.args.here)) (sym same) (sound_deref (surround_of c.args.here) _ c.in-Deref.pointer c.in-Deref.ty c.in-Deref.is c.requires))
 
--- src/evaluating.rt:40:21
 pub placed-placed-requires : goal.placed-placed-requires
 placed-placed-requires t c =
     let is : place_weight c.args.place.now ≡ _ = ap place_weight c.in-Field.is ∙ weight_field c.in-Field.whole c.in-Field.number in
@@ -35,29 +35,28 @@ placed-placed-requires t c =
     let w : place_weight c.get-in-Field.result.now ≡ place_weight c.in-Field.whole = ap place_weight same in
     (omega (arith, c.decreases), subst (SoundPlace (surround_of c.args.here)) (sym same) (sound_field (surround_of c.args.here) _ c.in-Field.whole c.in-Field.number c.in-Field.is c.requires))
 
--- src/evaluating.rt:44:21
-pub placed-placed-requires-in-Index : goal.placed-placed-requires-in-Index
-placed-placed-requires-in-Index t c =
+pub placed-indexed_place-requires : goal.placed-indexed_place-requires
+placed-indexed_place-requires t c =
     let is : place_weight c.args.place.now ≡ _ = ap place_weight c.in-Index.is ∙ weight_index c.in-Index.array c.in-Index.index in
-    let same = c.get-in-Index.ensures in
-    let w : place_weight c.get-in-Index.result.now ≡ place_weight c.in-Index.array = ap place_weight same in
-    (omega (arith, c.decreases), subst (SoundPlace (surround_of c.args.here)) (sym same) (sound_array (surround_of c.args.here) _ c.in-Index.array c.in-Index.index c.in-Index.is c.requires))
+    let array = c.get-in-Index.ensures in
+    let index = c.get-in-Index-2.ensures in
+    let w : place_weight c.get-in-Index.result.now ≡ place_weight c.in-Index.array = ap place_weight array in
+    let v : value_weight c.get-in-Index-2.result.now ≡ value_weight c.in-Index.index = ap value_weight index in
+    (omega (arith, c.decreases), subst (SoundPlace (surround_of c.args.here)) (c.in-Index.is ∙ sym (ap₂ place.Index array index)) c.requires)
 
--- src/evaluating.rt:45:21
-pub placed-valued-requires-in-Index : goal.placed-valued-requires-in-Index
-placed-valued-requires-in-Index t c =
-    let is : place_weight c.args.place.now ≡ _ = ap place_weight c.in-Index.is ∙ weight_index c.in-Index.array c.in-Index.index in
-    let same = c.get-in-Index-2.ensures in
-    let w : value_weight c.get-in-Index-2.result.now ≡ value_weight c.in-Index.index = ap value_weight same in
-    (omega (arith, c.decreases), subst (SoundValue (surround_of c.args.here)) (sym same) (sound_index (surround_of c.args.here) _ c.in-Index.array c.in-Index.index c.in-Index.is c.requires))
+pub indexed_place-placed-requires : goal.indexed_place-placed-requires
+indexed_place-placed-requires t c =
+    (omega (arith, c.decreases), sound_array (surround_of c.args.here) _ c.args.array.now c.args.index.now refl c.requires)
 
--- src/evaluating.rt:46:13
-pub placed-element_by-requires : goal.placed-element_by-requires
-placed-element_by-requires t c =
-    let sound = sound_array (surround_of c.args.here) _ c.in-Index.array c.in-Index.index c.in-Index.is c.requires in
-    place_ok (surround_of c.args.here) _ _ (subst (SoundPlace (surround_of c.args.here)) (sym c.get-in-Index.ensures) sound) c.in_ok-p-in-Index.ensures.ty
+pub indexed_place-valued-requires : goal.indexed_place-valued-requires
+indexed_place-valued-requires t c =
+    (omega (arith, c.decreases), sound_index (surround_of c.args.here) _ c.args.array.now c.args.index.now refl c.requires)
 
--- src/evaluating.rt:49:21
+pub indexed_place-element_by-requires : goal.indexed_place-element_by-requires
+indexed_place-element_by-requires t c =
+    let s = surround_of c.args.here in
+    place_ok s c.args.array.now _ (sound_array s _ c.args.array.now c.args.index.now refl c.requires) c.in_ok-p.ensures.ty
+
 pub placed-placed-requires-in-Variant : goal.placed-placed-requires-in-Variant
 placed-placed-requires-in-Variant t c =
     let is : place_weight c.args.place.now ≡ _ = ap place_weight c.in-Variant.is ∙ weight_variant_place c.in-Variant.whole c.in-Variant.number in
@@ -65,19 +64,16 @@ placed-placed-requires-in-Variant t c =
     let w : place_weight c.get-in-Variant.result.now ≡ place_weight c.in-Variant.whole = ap place_weight same in
     (omega (arith, c.decreases), subst (SoundPlace (surround_of c.args.here)) (sym same) (sound_variant_place (surround_of c.args.here) _ c.in-Variant.whole c.in-Variant.number c.in-Variant.is c.requires))
 
--- src/evaluating.rt:50:16
 pub placed-variant-requires : goal.placed-variant-requires
 placed-variant-requires t c =
     let ty = subst (λ (p : Place). type_of_place c.args.here.locals.now p ≡ Some c.in_ok-p-in-Variant.p.ty.now) c.get-in-Variant.ensures c.in_ok-p-in-Variant.ensures.ty in
     variant_there (surround_of c.args.here) _ c.in-Variant.whole c.in-Variant.number _ c.in-Variant.is c.requires ty
 
--- src/evaluating.rt:66:21
 pub valued-placed-requires : goal.valued-placed-requires
 valued-placed-requires t c =
     let is : value_weight c.args.value.now ≡ _ = ap value_weight c.in-Load.is ∙ weight_load c.in-Load.place in
     (omega (arith, c.decreases), sound_load (surround_of c.args.here) _ c.in-Load.place c.in-Load.is c.requires)
 
--- src/evaluating.rt:67:25
 pub valued-loaded_value-requires : goal.valued-loaded_value-requires
 valued-loaded_value-requires t c =
     place_ok (surround_of c.args.here) _ _ (sound_load (surround_of c.args.here) _ c.in-Load.place c.in-Load.is c.requires) c.in_ok-p-in-Load.ensures.ty
@@ -114,12 +110,16 @@ valued-valued-requires-in-Unary t c =
     let w : value_weight c.get-in-Unary.result.now ≡ value_weight c.in-Unary.operand = ap value_weight same in
     (omega (arith, c.decreases), subst (SoundValue (surround_of c.args.here)) (sym same) (sound_unary (surround_of c.args.here) _ c.in-Unary.op c.in-Unary.operand c.in-Unary.is c.requires))
 
-pub valued-valued-requires-in-Variant : goal.valued-valued-requires-in-Variant
-valued-valued-requires-in-Variant t c =
+pub valued-variant_expression-requires : goal.valued-variant_expression-requires
+valued-variant_expression-requires t c =
     let is : value_weight c.args.value.now ≡ _ = ap value_weight c.in-Variant.is ∙ weight_variant c.in-Variant.ty c.in-Variant.number c.in-Variant.content in
     let same = c.get-in-Variant.ensures in
     let w : value_weight c.get-in-Variant.result.now ≡ value_weight c.in-Variant.content = ap value_weight same in
-    (omega (arith, c.decreases), subst (SoundValue (surround_of c.args.here)) (sym same) (sound_variant (surround_of c.args.here) _ c.in-Variant.ty c.in-Variant.number c.in-Variant.content c.in-Variant.is c.requires))
+    (omega (arith, c.decreases), subst (SoundValue (surround_of c.args.here)) (c.in-Variant.is ∙ sym (ap (value.Variant c.in-Variant.ty c.in-Variant.number) same)) c.requires)
+
+pub variant_expression-valued-requires : goal.variant_expression-valued-requires
+variant_expression-valued-requires t c =
+    (omega (arith, c.decreases), sound_variant (surround_of c.args.here) _ c.args.ty.now c.args.number c.args.content.now refl c.requires)
 
 pub valued-returns-in-Some-clause-given : goal.valued-returns-in-Some-clause-given
 valued-returns-in-Some-clause-given t c =
@@ -170,77 +170,76 @@ valued-each_valued-requires t c =
     let w : row_weight c.as_slice.result.now ≡ row_weight c.in-Tuple.values = ap row_weight same in
     (omega (arith, c.decreases), subst (SoundValues (surround_of c.args.here)) (sym same) (sound_tuple (surround_of c.args.here) _ c.in-Tuple.ty c.in-Tuple.values c.in-Tuple.is c.requires))
 
-pub valued-valued-requires-in-Union : goal.valued-valued-requires-in-Union
-valued-valued-requires-in-Union t c =
+pub valued-union_expression-requires : goal.valued-union_expression-requires
+valued-union_expression-requires t c =
     let is : value_weight c.args.value.now ≡ _ = ap value_weight c.in-Union.is ∙ weight_union c.in-Union.ty c.in-Union.number c.in-Union.content in
     let same = c.get-in-Union.ensures in
     let w : value_weight c.get-in-Union.result.now ≡ value_weight c.in-Union.content = ap value_weight same in
-    (omega (arith, c.decreases), subst (SoundValue (surround_of c.args.here)) (sym same) (sound_union (surround_of c.args.here) _ c.in-Union.ty c.in-Union.number c.in-Union.content c.in-Union.is c.requires))
+    (omega (arith, c.decreases), subst (SoundValue (surround_of c.args.here)) (c.in-Union.is ∙ sym (ap (value.Union c.in-Union.ty c.in-Union.number) same)) c.requires)
 
-pub valued-union_value-requires-clause-ok : goal.valued-union_value-requires-clause-ok
-valued-union_value-requires-clause-ok t c =
-    let s = surround_of c.args.here in
-    let ty = subst (λ (v : Value). type_of_value s.locals v ≡ Some (ty_of c.in_ok-v-in-Union.v.ty)) c.get-in-Union.ensures c.in_ok-v-in-Union.ensures.ty in
-    let went = subst (λ (v : Value). valued c.args.here.memory.now s v (seen c.args.notes.now) ≡ Went c.in_ok-v-in-Union.v.value (seen c.valued-in-Union.new.notes)) c.get-in-Union.ensures c.in_ok-v-in-Union.ensures.given in
-    (union_content s c.args.here.memory.now c.args.value.now c.in-Union.content c.in-Union.ty _ c.in-Union.number c.in_ok-v-in-Union.v.value (seen c.args.notes.now) (seen c.valued-in-Union.new.notes) c.in-Union.is c.requires ty went).0
+pub union_expression-valued-requires : goal.union_expression-valued-requires
+union_expression-valued-requires t c =
+    (omega (arith, c.decreases), sound_union (surround_of c.args.here) _ c.args.ty.now c.args.number c.args.content.now refl c.requires)
 
-pub valued-union_value-requires-clause-shape : goal.valued-union_value-requires-clause-shape
-valued-union_value-requires-clause-shape t c =
-    let s = surround_of c.args.here in
-    let ty = subst (λ (v : Value). type_of_value s.locals v ≡ Some (ty_of c.in_ok-v-in-Union.v.ty)) c.get-in-Union.ensures c.in_ok-v-in-Union.ensures.ty in
-    let went = subst (λ (v : Value). valued c.args.here.memory.now s v (seen c.args.notes.now) ≡ Went c.in_ok-v-in-Union.v.value (seen c.valued-in-Union.new.notes)) c.get-in-Union.ensures c.in_ok-v-in-Union.ensures.given in
-    (union_content s c.args.here.memory.now c.args.value.now c.in-Union.content c.in-Union.ty _ c.in-Union.number c.in_ok-v-in-Union.v.value (seen c.args.notes.now) (seen c.valued-in-Union.new.notes) c.in-Union.is c.requires ty went).1
+pub union_expression-union_value-requires-clause-ok : goal.union_expression-union_value-requires-clause-ok
+union_expression-union_value-requires-clause-ok t c =
+    (union_content (surround_of c.args.here) c.args.here.memory.now _ c.args.content.now c.args.ty.now _ c.args.number c.in_ok-v.v.value (seen c.args.notes.now) (seen c.valued.new.notes)
+    refl c.requires c.in_ok-v.ensures.ty c.in_ok-v.ensures.given).0
 
-pub valued-valued-requires-in-Transmute : goal.valued-valued-requires-in-Transmute
-valued-valued-requires-in-Transmute t c =
+pub union_expression-union_value-requires-clause-shape : goal.union_expression-union_value-requires-clause-shape
+union_expression-union_value-requires-clause-shape t c =
+    (union_content (surround_of c.args.here) c.args.here.memory.now _ c.args.content.now c.args.ty.now _ c.args.number c.in_ok-v.v.value (seen c.args.notes.now) (seen c.valued.new.notes)
+    refl c.requires c.in_ok-v.ensures.ty c.in_ok-v.ensures.given).1
+
+pub valued-transmute_expression-requires : goal.valued-transmute_expression-requires
+valued-transmute_expression-requires t c =
     let is : value_weight c.args.value.now ≡ _ = ap value_weight c.in-Transmute.is ∙ weight_transmute c.in-Transmute.ty c.in-Transmute.operand in
     let same = c.get-in-Transmute.ensures in
     let w : value_weight c.get-in-Transmute.result.now ≡ value_weight c.in-Transmute.operand = ap value_weight same in
-    (omega (arith, c.decreases), subst (SoundValue (surround_of c.args.here)) (sym same) (sound_transmute (surround_of c.args.here) _ c.in-Transmute.ty c.in-Transmute.operand c.in-Transmute.is c.requires))
+    (omega (arith, c.decreases), subst (SoundValue (surround_of c.args.here)) (c.in-Transmute.is ∙ sym (ap (value.Transmute c.in-Transmute.ty) same)) c.requires)
 
-pub valued-transmuted_value-requires-clause-ok : goal.valued-transmuted_value-requires-clause-ok
-valued-transmuted_value-requires-clause-ok t c =
+pub transmute_expression-valued-requires : goal.transmute_expression-valued-requires
+transmute_expression-valued-requires t c =
+    (omega (arith, c.decreases), sound_transmute (surround_of c.args.here) _ c.args.ty.now c.args.operand.now refl c.requires)
+
+pub transmute_expression-transmuted_value-requires-clause-ok : goal.transmute_expression-transmuted_value-requires-clause-ok
+transmute_expression-transmuted_value-requires-clause-ok t c =
+    (transmute_types (surround_of c.args.here) _ c.args.operand.now c.args.ty.now _ refl c.requires c.in_ok-v.ensures.ty).0
+
+pub transmute_expression-transmuted_value-requires-clause-from_ok : goal.transmute_expression-transmuted_value-requires-clause-from_ok
+transmute_expression-transmuted_value-requires-clause-from_ok t c =
     let s = surround_of c.args.here in
-    let ty = subst (λ (v : Value). type_of_value s.locals v ≡ Some (ty_of c.in_ok-v-in-Transmute.v.ty)) c.get-in-Transmute.ensures c.in_ok-v-in-Transmute.ensures.ty in
-    (transmute_types s c.args.value.now c.in-Transmute.operand c.in-Transmute.ty _ c.in-Transmute.is c.requires ty).0
+    value_ok s c.args.operand.now _ (sound_transmute s _ c.args.ty.now c.args.operand.now refl c.requires) c.in_ok-v.ensures.ty
 
-pub valued-transmuted_value-requires-clause-from_ok : goal.valued-transmuted_value-requires-clause-from_ok
-valued-transmuted_value-requires-clause-from_ok t c =
+pub transmute_expression-transmuted_value-requires-clause-shape : goal.transmute_expression-transmuted_value-requires-clause-shape
+transmute_expression-transmuted_value-requires-clause-shape t c =
     let s = surround_of c.args.here in
-    let ty = subst (λ (v : Value). type_of_value s.locals v ≡ Some (ty_of c.in_ok-v-in-Transmute.v.ty)) c.get-in-Transmute.ensures c.in_ok-v-in-Transmute.ensures.ty in
-    value_ok s c.in-Transmute.operand _ (sound_transmute s _ c.in-Transmute.ty c.in-Transmute.operand c.in-Transmute.is c.requires) ty
+    shape_given s c.args.here.memory.now c.args.operand.now _ c.in_ok-v.v.value (seen c.args.notes.now) (seen c.valued.new.notes)
+    (sound_transmute s _ c.args.ty.now c.args.operand.now refl c.requires) c.in_ok-v.ensures.ty c.in_ok-v.ensures.given
 
-pub valued-transmuted_value-requires-clause-shape : goal.valued-transmuted_value-requires-clause-shape
-valued-transmuted_value-requires-clause-shape t c =
-    let s = surround_of c.args.here in
-    let ty = subst (λ (v : Value). type_of_value s.locals v ≡ Some (ty_of c.in_ok-v-in-Transmute.v.ty)) c.get-in-Transmute.ensures c.in_ok-v-in-Transmute.ensures.ty in
-    let went = subst (λ (v : Value). valued c.args.here.memory.now s v (seen c.args.notes.now) ≡ Went c.in_ok-v-in-Transmute.v.value (seen c.valued-in-Transmute.new.notes)) c.get-in-Transmute.ensures c.in_ok-v-in-Transmute.ensures.given in
-    shape_given s c.args.here.memory.now c.in-Transmute.operand _ c.in_ok-v-in-Transmute.v.value (seen c.args.notes.now) (seen c.valued-in-Transmute.new.notes) (sound_transmute s _ c.in-Transmute.ty c.in-Transmute.operand c.in-Transmute.is c.requires) ty went
+pub transmute_expression-transmuted_value-requires-clause-same : goal.transmute_expression-transmuted_value-requires-clause-same
+transmute_expression-transmuted_value-requires-clause-same t c =
+    (transmute_types (surround_of c.args.here) _ c.args.operand.now c.args.ty.now _ refl c.requires c.in_ok-v.ensures.ty).1
 
-pub valued-transmuted_value-requires-clause-same : goal.valued-transmuted_value-requires-clause-same
-valued-transmuted_value-requires-clause-same t c =
-    let s = surround_of c.args.here in
-    let ty = subst (λ (v : Value). type_of_value s.locals v ≡ Some (ty_of c.in_ok-v-in-Transmute.v.ty)) c.get-in-Transmute.ensures c.in_ok-v-in-Transmute.ensures.ty in
-    (transmute_types s c.args.value.now c.in-Transmute.operand c.in-Transmute.ty _ c.in-Transmute.is c.requires ty).1
-
-pub valued-valued-requires-in-Binary : goal.valued-valued-requires-in-Binary
-valued-valued-requires-in-Binary t c =
+pub valued-binary_expression-requires : goal.valued-binary_expression-requires
+valued-binary_expression-requires t c =
     let is : value_weight c.args.value.now ≡ _ = ap value_weight c.in-Binary.is ∙ weight_binary c.in-Binary.op c.in-Binary.left c.in-Binary.right in
-    let same = c.get-in-Binary.ensures in
-    let w : value_weight c.get-in-Binary.result.now ≡ value_weight c.in-Binary.left = ap value_weight same in
-    (omega (arith, c.decreases), subst (SoundValue (surround_of c.args.here)) (sym same) (sound_left (surround_of c.args.here) _ c.in-Binary.op c.in-Binary.left c.in-Binary.right c.in-Binary.is c.requires))
+    let left = c.get-in-Binary.ensures in
+    let right = c.get-in-Binary-2.ensures in
+    let w : value_weight c.get-in-Binary.result.now ≡ value_weight c.in-Binary.left = ap value_weight left in
+    let v : value_weight c.get-in-Binary-2.result.now ≡ value_weight c.in-Binary.right = ap value_weight right in
+    (omega (arith, c.decreases), subst (SoundValue (surround_of c.args.here)) (c.in-Binary.is ∙ sym (ap₂ (value.Binary c.in-Binary.op) left right)) c.requires)
 
-pub valued-valued-right-requires : goal.valued-valued-right-requires
-valued-valued-right-requires t c =
-    let is : value_weight c.args.value.now ≡ _ = ap value_weight c.in-Binary.is ∙ weight_binary c.in-Binary.op c.in-Binary.left c.in-Binary.right in
-    let same = c.get-in-Binary-2.ensures in
-    let w : value_weight c.get-in-Binary-2.result.now ≡ value_weight c.in-Binary.right = ap value_weight same in
-    (omega (arith, c.decreases), subst (SoundValue (surround_of c.args.here)) (sym same) (sound_right (surround_of c.args.here) _ c.in-Binary.op c.in-Binary.left c.in-Binary.right c.in-Binary.is c.requires))
+pub binary_expression-valued-requires : goal.binary_expression-valued-requires
+binary_expression-valued-requires t c =
+    (omega (arith, c.decreases), sound_left (surround_of c.args.here) _ c.args.op c.args.left.now c.args.right.now refl c.requires)
 
-pub valued-binary_value-requires : goal.valued-binary_value-requires
-valued-binary_value-requires t c =
-    let s = surround_of c.args.here in
-    let ty = subst (λ (v : Value). type_of_value s.locals v ≡ Some (ty_of c.in_ok-a-in-Binary.a.ty)) c.get-in-Binary.ensures c.in_ok-a-in-Binary.ensures.ty in
-    let there = result_given s c.args.value.now c.in-Binary.op c.in-Binary.left c.in-Binary.right _ c.in-Binary.is c.requires ty in
-    let same = beside_first c.in_ok-a-in-Binary.a c.valued-right.result c.in_ok-a-in-Binary-2.a c.in_ok-a-in-Binary-2.b c.in_ok-a-in-Binary-2.ensures in
-    subst (λ (v : Valued). is_some (result_type c.in-Binary.op (ty_of v.ty)) ≡ true) (sym same) there
+pub binary_expression-valued-right-requires : goal.binary_expression-valued-right-requires
+binary_expression-valued-right-requires t c =
+    (omega (arith, c.decreases), sound_right (surround_of c.args.here) _ c.args.op c.args.left.now c.args.right.now refl c.requires)
+
+pub binary_expression-binary_value-requires : goal.binary_expression-binary_value-requires
+binary_expression-binary_value-requires t c =
+    let there = result_given (surround_of c.args.here) _ c.args.op c.args.left.now c.args.right.now _ refl c.requires c.in_ok-a.ensures.ty in
+    let same = beside_first c.in_ok-a.a c.valued-right.result c.in_ok-a-2.a c.in_ok-a-2.b c.in_ok-a-2.ensures in
+    subst (λ (v : Valued). is_some (result_type c.args.op (ty_of v.ty)) ≡ true) (sym same) there

@@ -1,4 +1,4 @@
-use Rattle.std.proofs.Common.{◌≡◌, ◌++◌, drop}
+use Rattle.std.proofs.Common.{◌≡◌, ◌+◌, ◌*◌, ◌++◌, drop}
 use Rattle.mr_script.specs.Script.{Went, on}
 use Rattle.mr_eval.specs.Answers.{Extends, surround_of, seen}
 use Rattle.mr_eval.specs.Evaluated.{each_valued}
@@ -7,13 +7,28 @@ use Rattle.mr_eval.proofs.ExprWeights.{place_weight, row_weight, value_weight}
 use Rattle.mr_eval.proofs.evaluating.+evaluated.Given as goal
 
 abbrev pub decreases-placed : goal.decreases-placed
-decreases-placed l = place_weight l.place.now
+decreases-placed l = 2 * place_weight l.place.now
+
+abbrev pub decreases-indexed_place : goal.decreases-indexed_place
+decreases-indexed_place l = 2 * (place_weight l.array.now + value_weight l.index.now) + 1
 
 abbrev pub decreases-valued : goal.decreases-valued
-decreases-valued l = value_weight l.value.now
+decreases-valued l = 2 * value_weight l.value.now
+
+abbrev pub decreases-variant_expression : goal.decreases-variant_expression
+decreases-variant_expression l = 2 * value_weight l.content.now + 1
+
+abbrev pub decreases-union_expression : goal.decreases-union_expression
+decreases-union_expression l = 2 * value_weight l.content.now + 1
+
+abbrev pub decreases-transmute_expression : goal.decreases-transmute_expression
+decreases-transmute_expression l = 2 * value_weight l.operand.now + 1
+
+abbrev pub decreases-binary_expression : goal.decreases-binary_expression
+decreases-binary_expression l = 2 * (value_weight l.left.now + value_weight l.right.now) + 1
 
 abbrev pub decreases-each_valued : goal.decreases-each_valued
-decreases-each_valued l = row_weight l.values.now
+decreases-each_valued l = 2 * row_weight l.values.now
 
 abbrev pub invariant-each_valued-loop-value : goal.invariant-each_valued-loop-value
 invariant-each_valued-loop-value l = record {

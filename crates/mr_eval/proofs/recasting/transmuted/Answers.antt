@@ -7,7 +7,7 @@ use Rattle.mr_value.specs.Numbers.{Bytes}
 use Rattle.mr_value.specs.declared.val.Val.{Val}
 use Rattle.mr_wf.specs.Known.{ty_of}
 use Rattle.mr_eval.specs.Answers.{Gives, same, seen}
-use Rattle.mr_eval.proofs.LoadRuns.{meant_none, meant_some}
+use Rattle.mr_eval.proofs.LoadRuns.{meant_none, meant_some, transmuted_run}
 use Rattle.mr_eval.proofs.RecastLaws.{replaced_whole, transmute_sized}
 use Rattle.mr_eval.proofs.recasting.transmuted.Goals as goal
 
@@ -27,7 +27,8 @@ returns-in-Some-clause-given c =
     let found : decoded c.args.to.now new ≡ Some c.in-Some.v =
     ap (decoded c.args.to.now) (sym (laid ∙ c.as_slice-bytes.ensures.value ∙ bytes)) ∙ sym c.in_ok-v.ensures ∙ c.in-Some.is in
     subst (λ (o : Outcome Val _). Gives same c.referred.result o (seen c.referred.new.notes))
-    (sym (meant_some c.args.m.now TransmuteInvalid c.args.to.now new c.in-Some.v (seen c.args.notes.now) found)) c.referred.ensures.given
+    (sym (transmuted_run c.args.m.now c.args.to.now (ty_of c.args.from) c.args.v.now (seen c.args.notes.now) c.requires.shape
+    ∙ meant_some c.args.m.now TransmuteInvalid c.args.to.now new c.in-Some.v (seen c.args.notes.now) found)) c.referred.ensures.given
 
 -- src/recasting.rt:108:1
 pub returns-clause-given : goal.returns-clause-given
@@ -37,4 +38,5 @@ returns-clause-given c =
     let laid = replaced_whole c.as_slice-bytes.result.now (length c.as_slice-bytes.result.now) refl in
     let found : decoded c.args.to.now new ≡ None =
     ap (decoded c.args.to.now) (sym (laid ∙ c.as_slice-bytes.ensures.value ∙ bytes)) ∙ sym c.in_ok-v.ensures ∙ c.in-None.is in
-    meant_none c.args.m.now TransmuteInvalid c.args.to.now new (seen c.args.notes.now) found
+    transmuted_run c.args.m.now c.args.to.now (ty_of c.args.from) c.args.v.now (seen c.args.notes.now) c.requires.shape
+    ∙ meant_none c.args.m.now TransmuteInvalid c.args.to.now new (seen c.args.notes.now) found
