@@ -50,10 +50,9 @@ pub record Refuses (e : Entry) (old new : Standing) (f : Fault) : Type 0 where
   pub broken : program_fault old.look old.config e ≡ Some f
   pub same : new ≡ old
 
--- memory ran out in the step of a legal entry, and the machine has failed
-pub record RunsOut (e : Entry) (old new : Standing) : Type 0 where
+-- Memory ran out, and the machine has failed. The entry may break a rule, for a step can ask behind what ran out.
+pub record RunsOut (old new : Standing) : Type 0 where
   pub working : old.failed ≡ false
-  pub legal : program_fault old.look old.config e ≡ None
   pub failed : new.failed ≡ true
   pub look : new.look ≡ old.look
 
@@ -65,5 +64,5 @@ pub record IsFailed (old new : Standing) : Type 0 where
 abbrev pub StepAnswer : Entry → Standing → Standing → Result Turn StepFault → Type 0
 StepAnswer e old new (Ok t) = Steps e old new t
 StepAnswer e old new (Err (answer.BadEntry code earlier)) = Refuses e old new (fault_of code earlier)
-StepAnswer e old new (Err answer.Memory) = RunsOut e old new
+StepAnswer e old new (Err answer.Memory) = RunsOut old new
 StepAnswer e old new (Err answer.Failed) = IsFailed old new
