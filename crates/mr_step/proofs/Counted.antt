@@ -55,14 +55,15 @@ counted_dead m count id (Some v) e h = λ q a g.
       | inr k ↦ h q a k
     ]
 
+-- the memory that an answer leaves
+abbrev ok_memory : {A : Type 0} → Memory → Result (A × Memory) Reason → Memory
+ok_memory d (Ok x) = x.1
+ok_memory d (Err r) = d
+
 counted_unless : (m m' : Memory) (count : ℕ) (id id' : AllocId) (r : Option Reason) → unless {A = AllocId × Memory} r (id, without_life m id (fin.get m id)) ≡ Ok (id', m') → AreCounted m count → AreCounted m' count
 counted_unless m m' count id id' None h k =
     let P : Memory → Type 0 = λ w. AreCounted w count in
-    subst P (ap (ok_memory m) h) (counted_dead m count id (fin.get m id) refl k)
-  where
-    ok_memory : Memory → Result (AllocId × Memory) Reason → Memory
-    ok_memory d (Ok x) = x.1
-    ok_memory d (Err r) = d
+    subst P (ap (ok_memory {A = AllocId} m) h) (counted_dead m count id (fin.get m id) refl k)
 counted_unless m m' count id id' (Some r) h k = cc
 
 counted_freed_of : (m m' : Memory) (count : ℕ) (prov : Option AllocId) (addr : ℕ) (kind : Kind) (size align : ℕ) (id' : AllocId) → freed_of m prov addr kind size align ≡ Ok (id', m') → AreCounted m count → AreCounted m' count
@@ -81,24 +82,16 @@ pub record IsLeft (m m' : Memory) (count : ℕ) : Type 0 where
 left_by : (m m' : Memory) (count : ℕ) (p : Pointer) (size align : ℕ) (id : Option AllocId) (r : Result (AllocId × Memory) Reason) → freed m p Stack size align ≡ r
     → then_give {B = Option AllocId × Memory} r (λ f. (Some f.0, f.1)) ≡ Ok (id, m') → AreCounted m count → IsLeft m m' count
 left_by m m' count p size align id (Ok f) e h k =
-    let same : f.1 ≡ m' = ap (ok_memory m) h in
+    let same : f.1 ≡ m' = ap (ok_memory {A = Option AllocId} m) h in
     let P : Memory → Type 0 = λ w. IsLeft m w count in
     subst P same (record { ranges = ranges-freed m f.1 p Stack size align f.0 e; counted = counted_freed m f.1 count p size align f.0 e k })
-  where
-    ok_memory : Memory → Result (Option AllocId × Memory) Reason → Memory
-    ok_memory d (Ok x) = x.1
-    ok_memory d (Err r) = d
 left_by m m' count p size align id (Err r) e h k = cc
 
 pub released_leaves : (m m' : Memory) (count : ℕ) (s : Option Pointer) (size align : ℕ) (id : Option AllocId) → released m s size align ≡ Ok (id, m') → AreCounted m count → IsLeft m m' count
 released_leaves m m' count None size align id h k =
-    let same : m ≡ m' = ap (ok_memory m) h in
+    let same : m ≡ m' = ap (ok_memory {A = Option AllocId} m) h in
     let P : Memory → Type 0 = λ w. IsLeft m w count in
     subst P same (record { ranges = refl; counted = k })
-  where
-    ok_memory : Memory → Result (Option AllocId × Memory) Reason → Memory
-    ok_memory d (Ok x) = x.1
-    ok_memory d (Err r) = d
 released_leaves m m' count (Some p) size align id h k = left_by m m' count p size align id (freed m p Stack size align) refl h k
 
 -- no allocation is counted

@@ -37,7 +37,8 @@ use Rattle.mr_step.specs.Start.{main_thread}
 use Rattle.mr_step.proofs.ChangeRuns.{Makes, makes_assign, makes_deinit, makes_discriminant, makes_mention, makes_validate}
 use Rattle.mr_step.proofs.EndingsSafe.{EndsIn, ended_comes}
 use Rattle.mr_step.proofs.OneThread.{step_change, step_ending}
-use Rattle.mr_step.proofs.Soundness.{Kept, all_at, block_shaped, block_unbroken, fits_jump, function_kept}
+use Rattle.mr_eval.proofs.SafeLaws.{item_ok}
+use Rattle.mr_step.proofs.Soundness.{Kept, block_shaped, block_unbroken, fits_jump, function_kept}
 use Rattle.mr_step.proofs.SoundRuns.{stands_in}
 
 abbrev pub none_seen : Seen
@@ -73,8 +74,8 @@ module _ (l : KeptLook) (fn : Function) (p : Progress) where
       let before : f.at < length b.stmts = slice_get_within b.stmts f.at s h.stands.is in
       let few = (block_shaped program fn kept f.block b h.stands.here).few_stmts in
       record {
-        shaped = all_at (λ y. is_shaped_stmt (named_in program fn) y ≡ true) b.stmts f.at s (block_shaped program fn kept f.block b h.stands.here).stmts h.stands.is;
-        unbroken = all_at (λ y. broken_in_stmt fn (surroundings program fn) y ≡ []) b.stmts f.at s (block_unbroken program fn kept f.block b h.stands.here).stmts h.stands.is;
+        shaped = item_ok (λ y. is_shaped_stmt (named_in program fn) y ≡ true) b.stmts f.at s (block_shaped program fn kept f.block b h.stands.here).stmts h.stands.is;
+        unbroken = item_ok (λ y. broken_in_stmt fn (surroundings program fn) y ≡ []) b.stmts f.at s (block_unbroken program fn kept f.block b h.stands.here).stmts h.stands.is;
         before = record { function = fn; is = h.function; block = b; here = h.stands.here; before = before };
         room = omega (arith, few, before);
       }
@@ -87,7 +88,7 @@ module _ (l : KeptLook) (fn : Function) (p : Progress) where
       subst Q h.stands.is.1 (record {
         shaped = (block_shaped program fn kept f.block b h.stands.here).term;
         unbroken = (block_unbroken program fn kept f.block b h.stands.here).parts;
-        built = all_at (λ c. is_built_block c ≡ true) fn.blocks f.block b kept.built h.stands.here;
+        built = item_ok (λ c. is_built_block c ≡ true) fn.blocks f.block b kept.built h.stands.here;
       })
 
   -- the local of `live` and `dead`
@@ -95,7 +96,7 @@ module _ (l : KeptLook) (fn : Function) (p : Progress) where
   local_below x s below h = let lt = below (stmt_due s h).shaped in let same = h.fits.locals in omega arith
 
   pub type_of_local_ok : (d : Due) → IsDue l fn p d → (n : ℕ) (c : Local) → slice_get fn.locals n ≡ Some c → TypeOk c.ty
-  type_of_local_ok d h n c here = all_at (λ (k : Local). TypeOk k.ty) fn.locals n c (due_kept d h).unbroken.locals here
+  type_of_local_ok d h n c here = item_ok (λ (k : Local). TypeOk k.ty) fn.locals n c (due_kept d h).unbroken.locals here
 
   pub size_small : (t : Ty) → TypeOk t → size_of t < 2 ^ 63
   size_small t ok = let small = type_ok_small t ok in omega arith

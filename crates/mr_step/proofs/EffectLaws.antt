@@ -1,5 +1,5 @@
 -- What each statement comes to, by its parts.
-use Rattle.std.proofs.Common.{◌≡◌, ℕ, ◌+◌, ◌<◌, false, List, ◌∷◌, length, drop, get_or, Result, Err, refl, sym, ap, ◌∙◌, subst, add-one}
+use Rattle.std.proofs.Common.{◌≡◌, ℕ, ◌+◌, ◌<◌, false, List, ◌∷◌, length, drop, get_or, refl, sym, ap, ◌∙◌, add-one}
 use Rattle.std.proofs.Math.Seq.{drop-cons}
 use Rattle.mr_ast.specs.declared.types.Tag.{Tag}
 use Rattle.mr_base.specs.declared.byte.Pointer.{Pointer}
@@ -10,11 +10,8 @@ use Rattle.mr_ast.specs.declared.types.Num.{Num}
 use Rattle.mr_ast.specs.declared.expr.Place.{Place}
 use Rattle.mr_ast.specs.declared.expr.Value.{Value}
 use Rattle.mr_mem.specs.Memory.{Memory}
-use Rattle.mr_mem.specs.declared.fault.Fault.{Fault}
-use Rattle.mr_mem.specs.declared.fault.Fault.TheVariants as fault
-use Rattle.mr_script.specs.Script.{Outcome, Went, on}
+use Rattle.mr_script.specs.Script.{Went, on}
 use Rattle.mr_wf.specs.Types.{type_of_place}
-use Rattle.mr_eval.specs.Environment.{Leaves, Tells}
 use Rattle.mr_eval.specs.Evaluated.{placed, valued}
 use Rattle.mr_eval.specs.Evaluation.{Surround}
 use Rattle.mr_eval.specs.Reads.{Seen}
@@ -50,16 +47,5 @@ pub tag_stored : (m : Memory) (p : Pointer) (tags : List Tag) (i : ℕ) (d : Tag
 tag_stored m p tags i d old new last lt h =
     ap (λ ts. tagged m p ts old) (drop-cons tags i d lt ∙ ap (λ n. get_or tags i d ∷ drop n tags) (sym (add-one i)))
     ∙ ap (λ (o : Left). on o (λ m' s. tagged m' p (drop (i + 1) tags) s)) h
-
--- ---- answers
-
--- what stops a part stops the whole
-pub leaves_stop : {A S T : Type 0} (f : Fault) (o : Outcome A S) (k : A → S → Outcome Memory T) (whole : Outcome Memory T) (m : Memory) (s : S) (t : T) → whole ≡ on o k → Tells (Err f) o s → Leaves (Err f) whole m t
-leaves_stop (fault.Undefined r) o k whole m s t is h = is ∙ ap (λ (u : Outcome _ _). on u k) h
-leaves_stop fault.Memory o k whole m s t is h = tt
-
--- what a store leaves behind a part that went, the whole leaves
-pub leaves_then : {A S T : Type 0} (r : Result (Unit {0}) Fault) (o : Outcome A S) (k : A → S → Outcome Memory T) (whole : Outcome Memory T) (m : Memory) (x : A) (s : S) (t : T) → whole ≡ on o k → o ≡ Went x s → Leaves r (k x s) m t → Leaves r whole m t
-leaves_then r o k whole m x s t is went h = subst (λ (u : Outcome _ _). Leaves r u m t) (sym (is ∙ ap (λ (u : Outcome _ _). on u k) went)) h
 
 pub ruleset effect_laws = (effect_assign, effect_mention, effect_validate, effect_deinit, effect_disc)

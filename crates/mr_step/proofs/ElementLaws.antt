@@ -16,3 +16,10 @@ Any-append_left P xs ys h = let c = Contains-append_left xs ys h.1 (h.0, h.2, h.
 
 pub Any-append_right : {A : Type 0} (P : A → Type 0) (xs ys : List A) → Any P ys → Any P (xs ++ ys)
 Any-append_right P xs ys h = let c = Contains-append_right xs ys h.1 (h.0, h.2, h.3) in (c.0, h.1, c.1, c.2, h.4)
+
+-- lists with a first element that are one have the same first one, and the same others
+pub heads : {A : Type 0} {x y : A} {xs ys : List A} → x ∷ xs ≡ y ∷ ys → x ≡ y
+heads h = cc
+
+pub tails : {A : Type 0} {x y : A} {xs ys : List A} → x ∷ xs ≡ y ∷ ys → xs ≡ ys
+tails h = cc

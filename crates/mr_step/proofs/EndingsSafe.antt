@@ -1,7 +1,6 @@
 -- The decision of a built terminator that breaks no rule is never ill-formed, and leads to a block that is there.
-use Rattle.std.proofs.Common.{◌≡◌, ℕ, ◌<◌, Bool, true, false, List, [], ◌∷◌, Option, None, Some, refl, sym, ap, ◌∙◌, subst, arith}
-use Rattle.std.proofs.lemmas.Bool.Decides.{nat_tests}
-use Rattle.std.specs.Prelude.{◌&&◌, nat_lt, if◌then◌else◌}
+use Rattle.std.proofs.Common.{◌≡◌, ℕ, ◌<◌, Bool, true, false, List, [], ◌∷◌, Option, None, Some, refl, sym, ap, ◌∙◌, subst}
+use Rattle.std.specs.Prelude.{◌&&◌, if◌then◌else◌}
 use Rattle.std.specs.List.{flat_map, list_all}
 use Rattle.std.proofs.lemmas.Option.{same_Some}
 use Rattle.mr_ast.specs.Shaped.{is_block, is_optional_place, is_shaped_target, is_shaped_term}
@@ -43,6 +42,8 @@ use Rattle.mr_step.specs.Effects.{ended}
 use Rattle.mr_step.specs.Endings.{Ending, EndsByAbort, EndsByExit, Prints, ToBlock, assumed, assuming, ending, first_case, number_as, operation, switched, texts_script, truth_in}
 use Rattle.mr_step.specs.Texts.{spaced, text_as}
 use Rattle.mr_step.proofs.NumberParts.{number_there, switch_scalar, text_there, truth_there}
+use Rattle.mr_base.proofs.Comparisons.{lt_from}
+use Rattle.mr_step.proofs.ElementLaws.{heads, tails}
 
 -- a frame goes on at one of so many blocks
 abbrev pub EndsIn : ℕ → Ending → Type 0
@@ -51,27 +52,17 @@ EndsIn blocks (Prints text b) = b < blocks
 EndsIn blocks EndsByExit = Unit {0}
 EndsIn blocks EndsByAbort = Unit {0}
 
-below_of : (m n : ℕ) → nat_lt m n ≡ true → m < n
-below_of m n h = grind (arith, nat_tests)
-
 -- the cases of a switch are blocks that are there
 case_there : (named : Named) (n : Num) (cases : List (Num × BlockName)) (other : BlockName) → list_all (is_shaped_target named) cases ≡ true → is_block named other ≡ true → first_case n cases other < named.blocks
-case_there named n [] other all last = below_of other.0 named.blocks last
+case_there named n [] other all last = lt_from other.0 named.blocks last
 case_there named n (c ∷ cases) other all last =
     let parts = and_true (is_shaped_target named c) (list_all (is_shaped_target named) cases) all in
     let block = and_true (is_shaped_num c.0) (is_block named c.1) parts.0 in
-    by_test (same_num c.0 n) (below_of c.1.0 named.blocks block.1) (case_there named n cases other parts.1 last)
+    by_test (same_num c.0 n) (lt_from c.1.0 named.blocks block.1) (case_there named n cases other parts.1 last)
   where
     by_test : (b : Bool) → c.1.0 < named.blocks → first_case n cases other < named.blocks → (if b then c.1.0 else first_case n cases other) < named.blocks
     by_test true h k = h
     by_test false h k = k
-
--- values in a row and their types, one by one
-heads : {A : Type 0} {x y : A} {xs ys : List A} → x ∷ xs ≡ y ∷ ys → x ≡ y
-heads h = cc
-
-tails : {A : Type 0} {x y : A} {xs ys : List A} → x ∷ xs ≡ y ∷ ys → xs ≡ ys
-tails h = cc
 
 module _ (named : Named) (sizes : List ℕ) (s : Surround) (stands : Stands named s) where
   abbrev at : Surroundings
@@ -156,7 +147,7 @@ module _ (named : Named) (sizes : List ℕ) (s : Surround) (stands : Stands name
   operation_safe _ args place block built typed shaped lt = absurd (cc)
 
   pub ending_safe : (t : Term) → is_built_term t ≡ true → is_shaped_term named t ≡ true → broken_in_parts at t ≡ [] → IsSafe (EndsIn named.blocks) (ending s true t)
-  ending_safe (term.Goto b) built shaped none = below_of b.0 named.blocks shaped
+  ending_safe (term.Goto b) built shaped none = lt_from b.0 named.blocks shaped
   ending_safe (term.Switch v cases other) built shaped none = switch_safe v cases other shaped none
   ending_safe term.Unreachable built shaped none = tt
   ending_safe term.Return built shaped none = tt
@@ -166,7 +157,7 @@ module _ (named : Named) (sizes : List ℕ) (s : Surround) (stands : Stands name
       let row = and_true (list_all (is_shaped_value named) args) (is_optional_place named place && is_block named next) shaped in
       let last = and_true (is_optional_place named place) (is_block named next) row.1 in
       let typed = typed_do named (record { name = 0; args = []; ret = record { 0 = 0 }; locals = []; blocks = [] }) at stands.locals op args place next shaped none in
-      operation_safe op args place next.0 built typed row.0 (below_of next.0 named.blocks last.1)
+      operation_safe op args place next.0 built typed row.0 (lt_from next.0 named.blocks last.1)
   ending_safe term.Resume built shaped none = absurd (cc)
   ending_safe (term.Stop b) built shaped none = absurd (cc)
   ending_safe (term.Unwind value b) built shaped none = absurd (cc)

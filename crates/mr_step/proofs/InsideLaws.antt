@@ -35,7 +35,7 @@ use Rattle.mr_eval.proofs.ExprSafe.{place_safe}
 use Rattle.mr_step.specs.Changes.{tags_among, tags_in, tags_layer}
 use Rattle.mr_step.specs.Inside.{InProgram, StmtIn, TypeAt}
 use Rattle.mr_step.proofs.ChangesSafe.{tags_there}
-use Rattle.mr_step.proofs.Soundness.{all_at}
+use Rattle.mr_eval.proofs.SafeLaws.{item_ok}
 
 module _ (e : Env) (f : Function) (h : InProgram f e) where
   -- the locals of the surround are those of the function
@@ -51,7 +51,7 @@ module _ (e : Env) (f : Function) (h : InProgram f e) where
     storage = h.env.locals;
     functions = h.env.functions;
     globals = h.env.globals;
-    types = (all_at (UnbrokenFunction e.program.now) e.program.now.functions e.function.0 f (well_formed_keeps e.program.now h.well).functions h.env.function).locals;
+    types = (item_ok (UnbrokenFunction e.program.now) e.program.now.functions e.function.0 f (well_formed_keeps e.program.now h.well).functions h.env.function).locals;
   }
 
   -- a place that breaks no rule has a type
@@ -61,9 +61,6 @@ module _ (e : Env) (f : Function) (h : InProgram f e) where
       (is.ty, record { is = ap (λ ls. type_of_place ls p) surround_locals ∙ is.is; ok = is.ok })
 
 module _ (e : Env) (p : Place) where
-  pub mention_place : StmtIn e (stmt.Mention p) → PlaceIn e p
-  mention_place h = record { function = h.function; env = h.inside.env; shaped = h.shaped; unbroken = h.unbroken }
-
   pub deinit_type : StmtIn e (stmt.Deinit p) → (t : Ty) × TypeAt e p t
   deinit_type h = type_there e h.function h.inside p h.shaped h.unbroken
 

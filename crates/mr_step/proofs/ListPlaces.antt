@@ -44,10 +44,3 @@ slice_get-take xs zero k h = absurd (omega arith)
 slice_get-take [] (suc n) k h = refl
 slice_get-take (x ∷ xs) (suc n) zero h = refl
 slice_get-take (x ∷ xs) (suc n) (suc k) h = slice_get-take xs n k (omega arith)
-
-pub slice_get-drop : {A : Type 0} (xs : List A) (n k : ℕ) → slice_get (drop n xs) k ≡ slice_get xs (n + k)
-slice_get-drop xs zero k = let e : k ≡ 0 + k = omega arith in ap (slice_get xs) e
-slice_get-drop [] (suc n) k = refl
-slice_get-drop (x ∷ xs) (suc n) k =
-    let e : suc n + k ≡ suc (n + k) = omega arith in
-    slice_get-drop xs n k ∙ ap (slice_get (x ∷ xs)) (sym e)

@@ -44,7 +44,9 @@ use Rattle.mr_step.proofs.ChangesSafe.{changed_comes}
 use Rattle.mr_step.proofs.EndingsSafe.{EndsIn, ended_comes}
 use Rattle.mr_step.proofs.Judged.{due_asks_for, rule_is, running_is}
 use Rattle.mr_step.proofs.OneThread.{fault_of_main, fault_of_other, step_change, step_dead, step_ending, step_live}
-use Rattle.mr_step.proofs.Soundness.{Kept, all_at, below_of, block_shaped, block_unbroken, due_there, fits_jump, fits_next, fits_storage, function_kept, step_due, within}
+use Rattle.mr_base.proofs.Comparisons.{lt_from}
+use Rattle.mr_eval.proofs.SafeLaws.{item_ok, item_there}
+use Rattle.mr_step.proofs.Soundness.{Kept, block_shaped, block_unbroken, due_there, fits_jump, fits_next, fits_storage, function_kept, step_due}
 use Rattle.mr_step.proofs.StartFacts.{functions_length, globals_length, start_fits}
 
 -- ---- picks that meet what is asked
@@ -132,13 +134,13 @@ module _ (p : Program) (built : Built p) (well : WellFormed p) (look : Look) (lo
         subst (IsAt p) (sym (step_change look m f count output last completed script (λ d seen. changed d (surround_in look fn f) s seen) makes due e t)) (at_change _ comes before)
 
     local_there : (x : ℕ) → x < length fn.locals → (s : Option Pointer) × (slice_get f.locals x ≡ Some s)
-    local_there x lt = within f.locals x (let same = h.fits.locals in omega arith)
+    local_there x lt = item_there f.locals x (let same = h.fits.locals in omega arith)
 
     by_stmt : (s : Stmt) → step look (main_thread f) ≡ due_script look fn f (AtStatement s) → is_shaped_stmt (named_in p fn) s ≡ true → broken_in_stmt fn (surroundings p fn) s ≡ [] → IsBeforeEnd p f
         → picks_fault (Enabled ∷ []) (ranges_of m) 0 count (due_asks fn (AtStatement s)) e.picks ≡ None → IsAt p (machine_step (step look) (at verdict.Running) e)
     by_stmt (stmt.Live x) due shaped none before legal =
-        let lt = below_of x.0 (length fn.locals) shaped in
-        let l = within fn.locals x.0 lt in
+        let lt = lt_from x.0 (length fn.locals) shaped in
+        let l = item_there fn.locals x.0 lt in
         let s = local_there x.0 lt in
         let size = size_of l.0.ty in
         let align = align_of l.0.ty in
@@ -149,8 +151,8 @@ module _ (p : Program) (built : Built p) (well : WellFormed p) (look : Look) (lo
         (λ m'. at_frame p (allocated m' (own_id count) Stack size align pick.0) _ (count + 1) output (Some []) (completed + 1) verdict.Running (fits_storage p f x.0 (Some (pointer_to (own_id count) pick.0)) h before))
         (λ r. at_frame p m f count output last completed (verdict.Undefined r) h))
     by_stmt (stmt.Dead x) due shaped none before legal =
-        let lt = below_of x.0 (length fn.locals) shaped in
-        let l = within fn.locals x.0 lt in
+        let lt = lt_from x.0 (length fn.locals) shaped in
+        let l = item_there fn.locals x.0 lt in
         let s = local_there x.0 lt in
         let size = size_of l.0.ty in
         let align = align_of l.0.ty in
@@ -174,14 +176,14 @@ module _ (p : Program) (built : Built p) (well : WellFormed p) (look : Look) (lo
     by_due (AtStatement x) s due legal =
         let before : IsBeforeEnd p f = record { function = fn; is = h.is; block = s.block; here = s.here; before = slice_get_within s.block.stmts f.at x s.is } in
         by_stmt x due
-        (all_at (λ y. is_shaped_stmt (named_in p fn) y ≡ true) s.block.stmts f.at x (block_shaped p fn kept f.block s.block s.here).stmts s.is)
-        (all_at (λ y. broken_in_stmt fn (surroundings p fn) y ≡ []) s.block.stmts f.at x (block_unbroken p fn kept f.block s.block s.here).stmts s.is)
+        (item_ok (λ y. is_shaped_stmt (named_in p fn) y ≡ true) s.block.stmts f.at x (block_shaped p fn kept f.block s.block s.here).stmts s.is)
+        (item_ok (λ y. broken_in_stmt fn (surroundings p fn) y ≡ []) s.block.stmts f.at x (block_unbroken p fn kept f.block s.block s.here).stmts s.is)
         before legal
     by_due (AtTerminator x) s due legal =
         let shaped = block_shaped p fn kept f.block s.block s.here in
         let unbroken = block_unbroken p fn kept f.block s.block s.here in
         let comes = ended_comes (named_in p fn) (sizes_of p.globals) (surround_in look fn f) stands m (record { accesses = []; touched = [] }) s.block.term
-        (all_at (λ b. is_built_block b ≡ true) fn.blocks f.block s.block kept.built s.here) shaped.term unbroken.parts in
+        (item_ok (λ b. is_built_block b ≡ true) fn.blocks f.block s.block kept.built s.here) shaped.term unbroken.parts in
         subst (IsAt p) (sym (step_ending look m f count output last completed look fn s.block.term (due ∙ ap (λ y. due_script look fn f (AtTerminator y)) (sym s.is.1)) e t))
         (at_ending _ comes)
 

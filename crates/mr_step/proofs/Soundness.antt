@@ -1,9 +1,7 @@
 -- What a frame keeps as it goes on, and what is due where it stands.
-use Rattle.std.proofs.Common.{◌≡◌, ℕ, zero, suc, ◌+◌, ◌<◌, refl, sym, ap, ◌∙◌, subst, arith, List, [], ◌∷◌, length, true, cond, inl, inr}
-use Rattle.std.proofs.lemmas.Bool.Decides.{nat_tests}
-use Rattle.std.proofs.lemmas.Option.{slice_get_cases, slice_get_within, get_or_from_slice_get}
-use Rattle.std.proofs.lemmas.List.Elements.{All-get_or}
-use Rattle.std.specs.Prelude.{Some, None, Option, slice_get, slice_set, All, nat_lt, ◌==◌}
+use Rattle.std.proofs.Common.{◌≡◌, ℕ, ◌+◌, ◌<◌, refl, sym, ap, ◌∙◌, subst, arith, List, [], length, cond, inl, inr}
+use Rattle.std.proofs.lemmas.Option.{slice_get_cases}
+use Rattle.std.specs.Prelude.{Some, None, Option, slice_get, slice_set}
 use Rattle.std.proofs.Math.ListN.{length-set}
 use Rattle.mr_base.specs.declared.byte.Pointer.{Pointer}
 use Rattle.mr_ast.specs.Shaped.{ShapedBlock, ShapedFunction}
@@ -19,25 +17,9 @@ use Rattle.mr_step.specs.Frames.{AtStatement, AtTerminator, Due, Fits, FitsIn, I
 use Rattle.mr_step.specs.Language.{Frame, Look, at_position, in_block, in_function, step, terminator}
 use Rattle.mr_step.specs.Progress.{due_script}
 use Rattle.mr_step.specs.Start.{main_thread}
-
--- there is an element within the list
-pub within : {A : Type 0} (xs : List A) (i : ℕ) → i < length xs → (x : A) × (slice_get xs i ≡ Some x)
-within [] i h = absurd (omega arith)
-within (x ∷ xs) zero h = (x, refl)
-within (x ∷ xs) (suc i) h = within xs i (omega arith)
-
--- what holds of all holds of the one at a position
-pub all_at : {A : Type 0} (P : A → Type 0) (xs : List A) (i : ℕ) (x : A) → All P xs → slice_get xs i ≡ Some x → P x
-all_at P xs i x h here = subst P (get_or_from_slice_get xs i x x here) (All-get_or P xs i x (slice_get_within xs i x here) h)
-
-pub some_same : {A : Type 0} {x y : A} → Some x ≡ Some y → x ≡ y
-some_same h = cc
-
-pub below_of : (m n : ℕ) → nat_lt m n ≡ true → m < n
-below_of m n h = grind (arith, nat_tests)
-
-equal_test : (m n : ℕ) → m ≡ n → (m == n) ≡ true
-equal_test m n h = grind (arith, nat_tests)
+use Rattle.mr_base.proofs.Comparisons.{eq_test}
+use Rattle.mr_base.proofs.Options.{some_is}
+use Rattle.mr_eval.proofs.SafeLaws.{item_ok, item_there}
 
 -- ---- what a function of a well-formed program keeps
 
@@ -48,29 +30,29 @@ pub record Kept (p : Program) (fn : Function) : Type 0 where
 
 pub function_kept : (p : Program) → Built p → WellFormed p → (number : ℕ) (fn : Function) → slice_get p.functions number ≡ Some fn → Kept p fn
 function_kept p built well number fn is = record {
-  shaped = all_at (ShapedFunction p) p.functions number fn well.shaped.functions is;
-  unbroken = all_at (UnbrokenFunction p) p.functions number fn (well_formed_keeps p well).functions is;
-  built = all_at BuiltFunction p.functions number fn built.functions is;
+  shaped = item_ok (ShapedFunction p) p.functions number fn well.shaped.functions is;
+  unbroken = item_ok (UnbrokenFunction p) p.functions number fn (well_formed_keeps p well).functions is;
+  built = item_ok BuiltFunction p.functions number fn built.functions is;
 }
 
 module _ (p : Program) (fn : Function) (kept : Kept p fn) (number : ℕ) (b : Block) (here : slice_get fn.blocks number ≡ Some b) where
   pub block_shaped : ShapedBlock p fn b
-  block_shaped = all_at (ShapedBlock p fn) fn.blocks number b kept.shaped.blocks here
+  block_shaped = item_ok (ShapedBlock p fn) fn.blocks number b kept.shaped.blocks here
 
   pub block_unbroken : UnbrokenBlock p fn b
-  block_unbroken = all_at (UnbrokenBlock p fn) fn.blocks number b kept.unbroken.blocks here
+  block_unbroken = item_ok (UnbrokenBlock p fn) fn.blocks number b kept.unbroken.blocks here
 
 -- ---- frames
 
 pub fits_jump : (p : Program) (f : Frame) (fn : Function) (b : ℕ) → slice_get p.functions f.function ≡ Some fn → length f.locals ≡ length fn.locals → b < length fn.blocks → FitsIn p (record f { block = b; at = 0 })
 fits_jump p f fn b is locals k =
-    let there = within fn.blocks b k in
+    let there = item_there fn.blocks b k in
     record { function = fn; is = is; fits = record { locals = locals; block = there.0; here = there.1; at = omega arith } }
 
 -- behind a statement, with the storage of as many locals
 pub fits_next : (p : Program) (f : Frame) (locals : List (Option Pointer)) → FitsIn p f → length locals ≡ length f.locals → IsBeforeEnd p f → FitsIn p (record f { locals = locals; at = f.at + 1 })
 fits_next p f locals h same k =
-    let one : h.function ≡ k.function = some_same (sym h.is ∙ k.is) in
+    let one : h.function ≡ k.function = some_is (sym h.is ∙ k.is) in
     record {
       function = k.function;
       is = k.is;
@@ -87,7 +69,7 @@ fits_storage p f x s h k = fits_next p f (slice_set f.locals x s) h (length-set 
 
 -- the function of a frame that fits
 pub fits_of : (p : Program) (f : Frame) (fn : Function) → FitsIn p f → slice_get p.functions f.function ≡ Some fn → Fits fn f
-fits_of p f fn h is = subst (λ (g : Function). Fits g f) (some_same (sym h.is ∙ is)) h.fits
+fits_of p f fn h is = subst (λ (g : Function). Fits g f) (some_is (sym h.is ∙ is)) h.fits
 
 -- ---- what is due
 
@@ -110,5 +92,5 @@ step_due look fn f due is stands = ap (in_function look (main_thread f) [] f) is
     by_due (AtStatement x) s = ap (at_position look fn (main_thread f) [] f s.block) s.is
     by_due (AtTerminator t) s =
         ap (at_position look fn (main_thread f) [] f s.block) (none_at f.at s.block s.is.0)
-        ∙ ap (λ b. cond b (terminator look fn (main_thread f) [] f s.block.term) IllFormed) (equal_test f.at (length s.block.stmts) s.is.0)
+        ∙ ap (λ b. cond b (terminator look fn (main_thread f) [] f s.block.term) IllFormed) (eq_test f.at (length s.block.stmts) s.is.0)
         ∙ ap (terminator look fn (main_thread f) [] f) s.is.1

@@ -2,7 +2,8 @@
 use Rattle.std.proofs.Common.{◌≡◌, ℕ, ◌+◌, ◌-◌, ◌<◌, ◌≤◌, ap, ◌∙◌, List, ◌++◌, length, take, drop, arith, length-take, length-drop, length-append, slice_get}
 use Rattle.mr_base.specs.declared.byte.AbstractByte.{AbstractByte}
 use Rattle.mr_mem.specs.Memory.{spliced}
-use Rattle.mr_step.proofs.ListPlaces.{slice_get-append_left, slice_get-append_right, slice_get-drop, slice_get-take}
+use Rattle.mr_value.proofs.PartLaws.{slice_get-drop}
+use Rattle.mr_step.proofs.ListPlaces.{slice_get-append_left, slice_get-append_right, slice_get-take}
 
 module _ (xs : List AbstractByte) (i : ℕ) (ys : List AbstractByte) (fits : i + length ys ≤ length xs) where
   length-front : length (take i xs) ≡ i

@@ -1,9 +1,8 @@
 -- What a legal start makes: as many pointers as pieces, and a frame of the main function.
-use Rattle.std.proofs.Common.{◌≡◌, ◌^◌, lit<, true, subst, ℕ, suc, ◌+◌, ◌-◌, ◌≤◌, refl, sym, ap, ◌∙◌, arith, List, [], ◌∷◌, ◌++◌, length, map, drop, replicate, length-append, length-drop}
+use Rattle.std.proofs.Common.{◌≡◌, ◌^◌, lit<, subst, ℕ, suc, ◌+◌, ◌-◌, ◌≤◌, refl, sym, ap, ◌∙◌, arith, List, [], ◌∷◌, ◌++◌, length, map, drop, replicate, length-append, length-drop}
 use Rattle.std.proofs.lemmas.List.{length-map, length-take-le}
 use Rattle.std.proofs.Math.ListN.{length-set, length-replicate}
 use Rattle.std.specs.Prelude.{All, Some, None, Option, nat_le, slice_get}
-use Rattle.std.proofs.lemmas.Bool.Decides.{nat_tests}
 use Rattle.std.proofs.lemmas.List.Elements.{All-append, All-cons, All-head, All-nil, All-tail}
 use Rattle.std.specs.FinMap as fin
 use Rattle.mr_base.specs.declared.byte.Pointer.{Pointer}
@@ -28,7 +27,8 @@ use Rattle.mr_step.specs.Legal.{Fault, address_fault, else_fault, picks_fault}
 use Rattle.mr_step.specs.Standing.{own_id}
 use Rattle.mr_step.specs.Start.{Piece, ask_of, function_piece, global_piece, local_piece, look_of, pieces, placed, return_piece, start_fault, start_frame, start_locals, start_placed}
 use Rattle.mr_step.proofs.AlignPowers.{align_power, type_ok_power}
-use Rattle.mr_step.proofs.Soundness.{all_at, within}
+use Rattle.mr_base.proofs.Comparisons.{le_from}
+use Rattle.mr_eval.proofs.SafeLaws.{item_ok, item_there}
 
 pub later_none : (f g : Option Fault) → else_fault f g ≡ None → g ≡ None
 later_none None g h = h
@@ -51,9 +51,9 @@ pub record HasMain (p : Program) : Type 0 where
 
 pub has_main : (p : Program) → Shaped p → HasMain p
 has_main p shaped =
-    let f = within p.functions p.start.0 shaped.start in
-    let k = all_at (ShapedFunction p) p.functions p.start.0 f.0 shaped.functions f.1 in
-    let l = within f.0.locals f.0.ret.0 k.ret in
+    let f = item_there p.functions p.start.0 shaped.start in
+    let k = item_ok (ShapedFunction p) p.functions p.start.0 f.0 shaped.functions f.1 in
+    let l = item_there f.0.locals f.0.ret.0 k.ret in
     record { function = f.0; is = f.1; shaped = k; local = l.0; here = l.1 }
 
 pub return_is : (p : Program) (h : HasMain p) → return_piece (slice_get p.functions p.start.0) ≡ local_piece (Some h.local)
@@ -89,7 +89,7 @@ module _ (p : Program) (shaped : Shaped p) (picks : List ℕ) (legal : start_fau
 pub start_fits : (p : Program) → Shaped p → (ret : Option Pointer) → FitsIn p (start_frame p ret)
 start_fits p shaped ret =
     let h = has_main p shaped in
-    let first = within h.function.blocks 0 h.shaped.has_start in
+    let first = item_there h.function.blocks 0 h.shaped.has_start in
     record {
       function = h.function;
       is = h.is;
@@ -115,13 +115,10 @@ pub all_behind : {A B : Type 0} (f : A → B) (Q : B → Type 0) (xs : List A) �
 all_behind f Q [] h = All-nil (λ x. Q (f x))
 all_behind f Q (x ∷ xs) h = All-cons (λ y. Q (f y)) x xs (All-head Q (f x) (map f xs) h) (all_behind f Q xs (All-tail Q (f x) (map f xs) h))
 
-at_most : (a b : ℕ) → nat_le a b ≡ true → a ≤ b
-at_most a b e = grind (arith, nat_tests)
-
 pub have_room : (p : Program) → WellFormed p → HaveRoom p.globals
 have_room p well =
     all_turned (UnbrokenGlobal p) (λ (g : Global_). items_size g.items ≤ 2 ^ 20)
-    (λ g h. at_most (items_size g.items) (2 ^ 20) (and_true (nat_le (items_size g.items) (2 ^ 20)) (is_align g.align) h.form).0) p.globals (well_formed_keeps p well).globals
+    (λ g h. le_from (items_size g.items) (2 ^ 20) (and_true (nat_le (items_size g.items) (2 ^ 20)) (is_align g.align) h.form).0) p.globals (well_formed_keeps p well).globals
 
 function_possible : (fs : List Function) → All IsPossible (map function_piece fs)
 function_possible [] = All-nil IsPossible
@@ -130,14 +127,14 @@ function_possible (f ∷ fs) = All-cons IsPossible (function_piece f) (map funct
 global_possible : (p : Program) (g : Global_) → UnbrokenGlobal p g → IsPossible (global_piece g)
 global_possible p g h =
     let parts = and_true (nat_le (items_size g.items) (2 ^ 20)) (is_align g.align) h.form in
-    let small = at_most (items_size g.items) (2 ^ 20) parts.0 in
+    let small = le_from (items_size g.items) (2 ^ 20) parts.0 in
     record { size = omega arith; align = align_power g.align parts.1; asked = tt }
 
 pub pieces_possible : (p : Program) → WellFormed p → All IsPossible (pieces p)
 pieces_possible p well =
     let h = has_main p well.shaped in
-    let ok = all_at (λ (l : Local). TypeOk l.ty) h.function.locals h.function.ret.0 h.local
-    (all_at (UnbrokenFunction p) p.functions p.start.0 h.function (well_formed_keeps p well).functions h.is).locals h.here in
+    let ok = item_ok (λ (l : Local). TypeOk l.ty) h.function.locals h.function.ret.0 h.local
+    (item_ok (UnbrokenFunction p) p.functions p.start.0 h.function (well_formed_keeps p well).functions h.is).locals h.here in
     let small = type_ok_small h.local.ty ok in
     let last : All IsPossible (return_piece (slice_get p.functions p.start.0)) =
     subst (All IsPossible) (sym (return_is p h))

@@ -32,12 +32,7 @@ use Rattle.mr_step.specs.Built.{is_built_op}
 use Rattle.mr_step.specs.Inside.{InProgram, TermIn, ValueAt}
 use Rattle.mr_step.proofs.InsideLaws.{surround_locals}
 use Rattle.mr_step.proofs.NumberParts.{switch_scalar}
-
-heads : {A : Type 0} {x y : A} {xs ys : List A} → x ∷ xs ≡ y ∷ ys → x ≡ y
-heads h = cc
-
-tails : {A : Type 0} {x y : A} {xs ys : List A} → x ∷ xs ≡ y ∷ ys → xs ≡ ys
-tails h = cc
+use Rattle.mr_step.proofs.ElementLaws.{heads, tails}
 
 module _ (e : Env) where
   -- a value of a known type

@@ -1,5 +1,5 @@
 //! What statements change in memory.
-ghost use Rattle.std.specs.Prelude.{◌≡◌, ℕ, ◌++◌, OnOk, false, option_copied, true};
+ghost use Rattle.std.specs.Prelude.{◌≡◌, ℕ, ◌++◌, IfOk, OnOk, false, option_copied, true};
 ghost use Rattle.mr_ast.specs.declared.types.Ty.{Ty, out-Ty};
 ghost use Rattle.mr_ast.specs.declared.program.Stmt.TheVariants as stmt;
 ghost use Rattle.mr_layout.specs.EnumRules.{are_tags};
@@ -182,6 +182,16 @@ fn encode_tag(alloc: Global, tag: &Tag, out: &mut Vec<AbstractByte>) -> Result<(
     encode(alloc, &number, &Ty::Int(tag.int), out)
 }
 
+// The bytes of a tag's number.
+fn tag_bytes(alloc: Global, tag: &Tag) -> Result<Vec<AbstractByte>, OutOfMemory>
+    requires { is_fitting tag.now.int tag.now.number ≡ true }
+    ensures { IfOk result (λ bytes. bytes.items ≡ tag_bytes tag.now) }
+{
+    let mut bytes = Vec::new(alloc);
+    encode_tag(alloc, tag, &mut bytes)?;
+    Ok(bytes)
+}
+
 // A tag, at its offset.
 #[tactic(auto, using(crate::proofs::TagLaws::tag_laws))]
 fn write_tag(
@@ -194,7 +204,6 @@ fn write_tag(
     requires { is_fitting tag.now.int tag.now.number ≡ true }
     ensures { Leaves result (storing m.old false (behind p tag.now.at) (tag_bytes tag.now) 1 (seen n.old)) m.new (seen n.new) }
 {
-    let mut bytes = Vec::new(alloc);
-    encode_tag(alloc, tag, &mut bytes)?;
+    let bytes = tag_bytes(alloc, tag)?;
     store_bytes(m, n, behind(p, tag.at), bytes.as_slice(), 1)
 }

@@ -6,11 +6,11 @@ use Rattle.mr_step.specs.Frames.{AtStatement, frame_of}
 use Rattle.mr_step.specs.Language.{dead, on_local}
 use Rattle.mr_step.specs.Start.{main_thread}
 use Rattle.mr_step.proofs.DueLaws.{local_below, stmt_due, type_of_local_ok}
-use Rattle.mr_step.proofs.Soundness.{below_of}
+use Rattle.mr_base.proofs.Comparisons.{lt_from}
 use Rattle.mr_step.proofs.progress.make_dead.Goals as goal
 
 pub local_at-requires : goal.local_at-requires
-local_at-requires c = below_of c.args.x.0 (length c.args.f.now.locals) (stmt_due c.args.look.now c.args.f.now c.args.p.now (Dead c.args.x) c.requires).shaped
+local_at-requires c = lt_from c.args.x.0 (length c.args.f.now.locals) (stmt_due c.args.look.now c.args.f.now c.args.p.now (Dead c.args.x) c.requires).shaped
 
 pub byte_size-requires : goal.byte_size-requires
 byte_size-requires c = type_of_local_ok c.args.look.now c.args.f.now c.args.p.now (AtStatement (Dead c.args.x)) c.requires c.args.x.0 c.local_at.result.now c.local_at.ensures
@@ -19,7 +19,7 @@ pub byte_align-requires : goal.byte_align-requires
 byte_align-requires c = type_of_local_ok c.args.look.now c.args.f.now c.args.p.now (AtStatement (Dead c.args.x)) c.requires c.args.x.0 c.local_at.result.now c.local_at.ensures
 
 pub dead-requires-clause-local : goal.dead-requires-clause-local
-dead-requires-clause-local c = local_below c.args.look.now c.args.f.now c.args.p.now c.args.x (Dead c.args.x) (below_of c.args.x.0 (length c.args.f.now.locals)) c.requires
+dead-requires-clause-local c = local_below c.args.look.now c.args.f.now c.args.p.now c.args.x (Dead c.args.x) (lt_from c.args.x.0 (length c.args.f.now.locals)) c.requires
 
 pub dead-requires-clause-room : goal.dead-requires-clause-room
 dead-requires-clause-room c = (stmt_due c.args.look.now c.args.f.now c.args.p.now (Dead c.args.x) c.requires).room

@@ -14,11 +14,11 @@ use Rattle.mr_step.specs.Progress.{asks_fault, due_script, local_asks}
 use Rattle.mr_step.specs.Start.{main_thread}
 use Rattle.mr_step.proofs.DueLaws.{local_below, size_small, stmt_due, type_of_local_ok}
 use Rattle.mr_step.proofs.Judged.{act_refused, none_left}
-use Rattle.mr_step.proofs.Soundness.{below_of}
+use Rattle.mr_base.proofs.Comparisons.{lt_from}
 use Rattle.mr_step.proofs.progress.make_live.Goals as goal
 
 pub local_at-requires : goal.local_at-requires
-local_at-requires c = below_of c.args.x.0 (length c.args.f.now.locals) (stmt_due c.args.look.now c.args.f.now c.args.p.now (Live c.args.x) c.requires).shaped
+local_at-requires c = lt_from c.args.x.0 (length c.args.f.now.locals) (stmt_due c.args.look.now c.args.f.now c.args.p.now (Live c.args.x) c.requires).shaped
 
 pub byte_size-size-requires : goal.byte_size-size-requires
 byte_size-size-requires c = type_of_local_ok c.args.look.now c.args.f.now c.args.p.now (AtStatement (Live c.args.x)) c.requires c.args.x.0 c.local_at.result.now c.local_at.ensures
@@ -27,7 +27,7 @@ pub byte_align-align-requires : goal.byte_align-align-requires
 byte_align-align-requires c = type_of_local_ok c.args.look.now c.args.f.now c.args.p.now (AtStatement (Live c.args.x)) c.requires c.args.x.0 c.local_at.result.now c.local_at.ensures
 
 pub live-requires-clause-local : goal.live-requires-clause-local
-live-requires-clause-local c = local_below c.args.look.now c.args.f.now c.args.p.now c.args.x (Live c.args.x) (below_of c.args.x.0 (length c.args.f.now.locals)) c.requires
+live-requires-clause-local c = local_below c.args.look.now c.args.f.now c.args.p.now c.args.x (Live c.args.x) (lt_from c.args.x.0 (length c.args.f.now.locals)) c.requires
 
 pub live-requires-clause-room : goal.live-requires-clause-room
 live-requires-clause-room c = (stmt_due c.args.look.now c.args.f.now c.args.p.now (Live c.args.x) c.requires).room

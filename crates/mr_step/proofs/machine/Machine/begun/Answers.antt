@@ -1,4 +1,4 @@
-use Rattle.std.proofs.Common.{◌≡◌, ℕ, ◌+◌, ◌-◌, ◌≤◌, ◌<◌, refl, sym, ap, ◌∙◌, subst, arith, length, List}
+use Rattle.std.proofs.Common.{◌≡◌, ◌-◌, ◌<◌, sym, ap, ◌∙◌, subst, arith, length}
 use Rattle.std.specs.Prelude.{Some, slice_get}
 use Rattle.mr_ast.specs.declared.program.Function.{Function}
 use Rattle.mr_ast.specs.declared.program.Program.{Program}
@@ -6,7 +6,7 @@ use Rattle.mr_wf.specs.Walk.{WellFormed}
 use Rattle.mr_step.specs.First.{IsFirst}
 use Rattle.mr_step.specs.Start.{filled}
 use Rattle.mr_step.proofs.FirstLaws.{begun_length, config_is, first_sound, look_is, look_ready}
-use Rattle.mr_step.proofs.Soundness.{some_same}
+use Rattle.mr_base.proofs.Options.{some_is}
 use Rattle.mr_step.proofs.StartFacts.{has_main}
 use Rattle.mr_step.proofs.machine.Machine.begun.Goals as goal
 
@@ -32,7 +32,7 @@ last_of-requires c =
 pub first_progress-requires : goal.first_progress-requires
 first_progress-requires c =
     let h = has_main c.program-program.result.now c.program-program.ensures.well_formed.shaped in
-    subst (λ (f : Function). f.ret.0 < length f.locals) (some_same (sym h.is ∙ c.function_at-main.ensures)) h.shaped.ret
+    subst (λ (f : Function). f.ret.0 < length f.locals) (some_is (sym h.is ∙ c.function_at-main.ensures)) h.shaped.ret
 
 pub invariant_of-result : goal.invariant_of-result
 invariant_of-result c =
