@@ -20,7 +20,7 @@ use crate::valuing::{
     Valued, binary_value, cast_value, discriminant, loaded_value, transmuted_value, typed,
     unary_value, union_value, variant_value,
 };
-use mr_ast::{BinaryOp, Items, Num, Place, Ty, Value};
+use mr_ast::{BinaryOp, IntType, Items, Num, Place, Ty, UnaryOp, Value};
 use mr_base::Pointer;
 use mr_value::{Val, bits_of_number};
 use mr_wf::Known;
@@ -121,15 +121,12 @@ pub fn valued<'p>(here: Here<'p>, notes: &mut Notes, value: &'p Value) -> Result
             let p = placed(here, notes, place)?;
             Ok(typed(Val::Ptr(p.at), Known::Written(ty)))
         }
-        Value::Cast(int, operand) => cast_value(*int, valued(here, notes, operand.get())?),
-        Value::Unary(op, operand) => unary_value(*op, valued(here, notes, operand.get())?),
+        Value::Cast(int, operand) => cast_expression(here, notes, *int, operand.get()),
+        Value::Unary(op, operand) => unary_expression(here, notes, *op, operand.get()),
         Value::Variant(ty, number, content) => {
             variant_expression(here, notes, ty, *number, content.get())
         }
-        Value::Tuple(ty, values) => {
-            let row = each_valued(here, notes, values.as_slice())?;
-            Ok(typed(Val::Tuple(row), Known::Written(ty)))
-        }
+        Value::Tuple(ty, values) => tuple_expression(here, notes, ty, values.as_slice()),
         Value::Union(ty, number, content) => {
             union_expression(here, notes, ty, *number, content.get())
         }
@@ -138,6 +135,60 @@ pub fn valued<'p>(here: Here<'p>, notes: &mut Notes, value: &'p Value) -> Result
             binary_expression(here, notes, *op, left.get(), right.get())
         }
     }
+}
+
+// A value as another integer type.
+#[cycle(evaluated)]
+#[tactic(auto, using(crate::proofs::EvalRuns::eval_laws, crate::proofs::SoundParts::sound_laws, crate::proofs::SoundParts::type_facts, crate::proofs::SoundParts::int_fits, mr_wf::proofs::TypeLaws::type_laws, crate::proofs::ExtendsLaws::extends_laws))]
+fn cast_expression<'p>(
+    here: Here<'p>,
+    notes: &mut Notes,
+    int: IntType,
+    operand: &'p Value,
+) -> Result<Valued<'p>, Halt>
+    requires { SoundValue (surround_of here) (Value.Cast int operand.now) }
+    ensures given { Gives value_in result (valued here.entry.memory.now (surround_of here.entry) (Value.Cast int operand.now) (seen notes.old)) (seen notes.new) }
+    ensures ty { IfOk result (λ v. type_of_value here.entry.locals.now (Value.Cast int operand.now) ≡ Some (ty_of v.ty)) }
+    ensures kept { Extends (seen notes.old) (seen notes.new) }
+{
+    let v = valued(here, notes, operand)?;
+    cast_value(int, v)
+}
+
+// An operator with one operand.
+#[cycle(evaluated)]
+#[tactic(auto, using(crate::proofs::EvalRuns::eval_laws, crate::proofs::SoundParts::sound_laws, crate::proofs::SoundParts::type_facts, crate::proofs::SoundParts::int_fits, mr_wf::proofs::TypeLaws::type_laws, crate::proofs::ExtendsLaws::extends_laws))]
+fn unary_expression<'p>(
+    here: Here<'p>,
+    notes: &mut Notes,
+    op: UnaryOp,
+    operand: &'p Value,
+) -> Result<Valued<'p>, Halt>
+    requires { SoundValue (surround_of here) (Value.Unary op operand.now) }
+    ensures given { Gives value_in result (valued here.entry.memory.now (surround_of here.entry) (Value.Unary op operand.now) (seen notes.old)) (seen notes.new) }
+    ensures ty { IfOk result (λ v. type_of_value here.entry.locals.now (Value.Unary op operand.now) ≡ Some (ty_of v.ty)) }
+    ensures kept { Extends (seen notes.old) (seen notes.new) }
+{
+    let v = valued(here, notes, operand)?;
+    unary_value(op, v)
+}
+
+// The values of a row as one.
+#[cycle(evaluated)]
+#[tactic(auto, using(crate::proofs::EvalRuns::eval_laws, crate::proofs::SoundParts::sound_laws, crate::proofs::SoundParts::type_facts, crate::proofs::SoundParts::int_fits, mr_wf::proofs::TypeLaws::type_laws, crate::proofs::ExtendsLaws::extends_laws))]
+fn tuple_expression<'p>(
+    here: Here<'p>,
+    notes: &mut Notes,
+    ty: &'p Ty,
+    values: &'p [Value],
+) -> Result<Valued<'p>, Halt>
+    requires { SoundValue (surround_of here) (Value.Tuple ty.now values.now) }
+    ensures given { Gives value_in result (valued here.entry.memory.now (surround_of here.entry) (Value.Tuple ty.now values.now) (seen notes.old)) (seen notes.new) }
+    ensures ty { IfOk result (λ v. type_of_value here.entry.locals.now (Value.Tuple ty.now values.now) ≡ Some (ty_of v.ty)) }
+    ensures kept { Extends (seen notes.old) (seen notes.new) }
+{
+    let row = each_valued(here, notes, values)?;
+    Ok(typed(Val::Tuple(row), Known::Written(ty)))
 }
 
 // A variant of an enum.

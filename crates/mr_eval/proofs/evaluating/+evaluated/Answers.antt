@@ -96,19 +96,27 @@ valued-placed-requires-in-AddrOf t c =
     let is : value_weight c.args.value.now ≡ _ = ap value_weight c.in-AddrOf.is ∙ weight_addr_of c.in-AddrOf.ty c.in-AddrOf.place in
     (omega (arith, c.decreases), sound_addr_of (surround_of c.args.here) _ c.in-AddrOf.ty c.in-AddrOf.place c.in-AddrOf.is c.requires)
 
-pub valued-valued-requires : goal.valued-valued-requires
-valued-valued-requires t c =
+pub valued-cast_expression-requires : goal.valued-cast_expression-requires
+valued-cast_expression-requires t c =
     let is : value_weight c.args.value.now ≡ _ = ap value_weight c.in-Cast.is ∙ weight_cast c.in-Cast.int c.in-Cast.operand in
     let same = c.get.ensures in
     let w : value_weight c.get.result.now ≡ value_weight c.in-Cast.operand = ap value_weight same in
-    (omega (arith, c.decreases), subst (SoundValue (surround_of c.args.here)) (sym same) (sound_cast (surround_of c.args.here) _ c.in-Cast.int c.in-Cast.operand c.in-Cast.is c.requires))
+    (omega (arith, c.decreases), subst (SoundValue (surround_of c.args.here)) (c.in-Cast.is ∙ sym (ap (value.Cast c.in-Cast.int) same)) c.requires)
 
-pub valued-valued-requires-in-Unary : goal.valued-valued-requires-in-Unary
-valued-valued-requires-in-Unary t c =
+pub cast_expression-valued-requires : goal.cast_expression-valued-requires
+cast_expression-valued-requires t c =
+    (omega (arith, c.decreases), sound_cast (surround_of c.args.here) _ c.args.int c.args.operand.now refl c.requires)
+
+pub valued-unary_expression-requires : goal.valued-unary_expression-requires
+valued-unary_expression-requires t c =
     let is : value_weight c.args.value.now ≡ _ = ap value_weight c.in-Unary.is ∙ weight_unary c.in-Unary.op c.in-Unary.operand in
     let same = c.get-in-Unary.ensures in
     let w : value_weight c.get-in-Unary.result.now ≡ value_weight c.in-Unary.operand = ap value_weight same in
-    (omega (arith, c.decreases), subst (SoundValue (surround_of c.args.here)) (sym same) (sound_unary (surround_of c.args.here) _ c.in-Unary.op c.in-Unary.operand c.in-Unary.is c.requires))
+    (omega (arith, c.decreases), subst (SoundValue (surround_of c.args.here)) (c.in-Unary.is ∙ sym (ap (value.Unary c.in-Unary.op) same)) c.requires)
+
+pub unary_expression-valued-requires : goal.unary_expression-valued-requires
+unary_expression-valued-requires t c =
+    (omega (arith, c.decreases), sound_unary (surround_of c.args.here) _ c.args.op c.args.operand.now refl c.requires)
 
 pub valued-variant_expression-requires : goal.valued-variant_expression-requires
 valued-variant_expression-requires t c =
@@ -163,12 +171,16 @@ each_valued-returns-clause-given t c =
     row_end c.args.here.memory.now (surround_of c.args.here) c.args.values.now c.loop-value.value-index c.loop-value.row (seen c.args.notes.now) (seen c.loop-value.notes)
     c.loop-value.invariant.all (omega (arith, c.loop-value-test.false))
 
-pub valued-each_valued-requires : goal.valued-each_valued-requires
-valued-each_valued-requires t c =
+pub valued-tuple_expression-requires : goal.valued-tuple_expression-requires
+valued-tuple_expression-requires t c =
     let is : value_weight c.args.value.now ≡ _ = ap value_weight c.in-Tuple.is ∙ weight_tuple c.in-Tuple.ty c.in-Tuple.values in
     let same = c.as_slice.ensures in
     let w : row_weight c.as_slice.result.now ≡ row_weight c.in-Tuple.values = ap row_weight same in
-    (omega (arith, c.decreases), subst (SoundValues (surround_of c.args.here)) (sym same) (sound_tuple (surround_of c.args.here) _ c.in-Tuple.ty c.in-Tuple.values c.in-Tuple.is c.requires))
+    (omega (arith, c.decreases), subst (SoundValue (surround_of c.args.here)) (c.in-Tuple.is ∙ sym (ap (value.Tuple c.in-Tuple.ty) same)) c.requires)
+
+pub tuple_expression-each_valued-requires : goal.tuple_expression-each_valued-requires
+tuple_expression-each_valued-requires t c =
+    (omega (arith, c.decreases), sound_tuple (surround_of c.args.here) _ c.args.ty.now c.args.values.now refl c.requires)
 
 pub valued-union_expression-requires : goal.valued-union_expression-requires
 valued-union_expression-requires t c =

@@ -15,6 +15,15 @@ decreases-indexed_place l = 2 * (place_weight l.array.now + value_weight l.index
 abbrev pub decreases-valued : goal.decreases-valued
 decreases-valued l = 2 * value_weight l.value.now
 
+abbrev pub decreases-cast_expression : goal.decreases-cast_expression
+decreases-cast_expression l = 2 * value_weight l.operand.now + 1
+
+abbrev pub decreases-unary_expression : goal.decreases-unary_expression
+decreases-unary_expression l = 2 * value_weight l.operand.now + 1
+
+abbrev pub decreases-tuple_expression : goal.decreases-tuple_expression
+decreases-tuple_expression l = 2 * row_weight l.values.now + 1
+
 abbrev pub decreases-variant_expression : goal.decreases-variant_expression
 decreases-variant_expression l = 2 * value_weight l.content.now + 1
 
