@@ -7,6 +7,7 @@ pub mod Bounds
 pub mod BrokenLaws
 pub mod CacheLaws
 pub mod Examples
+pub mod GapLaws
 pub mod HeldTypes
 pub mod InhabitedLaws
 pub mod MetLaws

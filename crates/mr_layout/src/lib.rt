@@ -47,6 +47,7 @@ mod alike;
 mod bytes;
 mod cache;
 mod enum_rules;
+mod gaps;
 mod met;
 mod ok;
 mod rules;
