@@ -50,7 +50,7 @@ in_gap at end k (c ∷ chunks) h e =
     ap (λ b. is_in at (c.0 - at) k || b) (in_gap (end_of at c) end k chunks h (rest_rises c.0 chunks e))
     ∙ gap_at at c.0 c.1 (end_of at c) k (is_in_chunk chunks k) (λ l. before_rising c.0 k chunks l e) refl
 
-in_not_empty : (ranges : List (ℕ × ℕ)) (k : ℕ) → is_in_chunk (not_empty ranges) k ≡ is_in_chunk ranges k
+pub in_not_empty : (ranges : List (ℕ × ℕ)) (k : ℕ) → is_in_chunk (not_empty ranges) k ≡ is_in_chunk ranges k
 in_not_empty [] k = refl
 in_not_empty (r ∷ ranges) k = by (in_not_empty ranges k) (nat_lt 0 r.1) refl
   where

@@ -17,6 +17,7 @@ pub mod PartsOk
 pub mod RowLaws
 pub mod RunLaws
 pub mod SizeLaws
+pub mod TagLaws
 pub mod TreeLaws
 pub mod TreeOk
 pub mod Turns

@@ -213,7 +213,7 @@ pub met_none : (whole : Use) (start end : ℕ) → is_met whole start end [] ≡
 unfolding is_met
 met_none whole start end = none_below (λ at. is_in_part start whole at && is_in_chunk [] at) end (λ k l. never (is_in_part start whole k))
 
-met_one : (whole : Use) (start end : ℕ) (r : ℕ × ℕ) (ranges : List (ℕ × ℕ)) → is_met whole start end (r ∷ ranges) ≡ (is_met whole start end (r ∷ []) || is_met whole start end ranges)
+pub met_one : (whole : Use) (start end : ℕ) (r : ℕ × ℕ) (ranges : List (ℕ × ℕ)) → is_met whole start end (r ∷ ranges) ≡ (is_met whole start end (r ∷ []) || is_met whole start end ranges)
 unfolding is_met
 met_one whole start end r ranges =
     same_tests _ _ end (λ k l. spread (is_in_part start whole k) (is_in r.0 r.1 k) (is_in_chunk ranges k))

@@ -104,7 +104,7 @@ pub(crate) fn push_range(ranges: &mut Vec<Pair>, start: u64, len: u64) -> Result
     Ok(())
 }
 
-fn tag_ranges(alloc: Global, tags: &[Tag]) -> Result<Vec<Pair>, OutOfMemory>
+pub(crate) fn tag_ranges(alloc: Global, tags: &[Tag]) -> Result<Vec<Pair>, OutOfMemory>
     ensures { IfOk result (λ ranges. ranges.items ≡ not_empty (map tag_range tags.now)) }
 {
     let mut ranges = Vec::new(alloc);
