@@ -6,7 +6,6 @@ use Rattle.std.proofs.lemmas.Bool.{or_parts}
 use Rattle.std.proofs.lemmas.Bool.Decides.{nat_tests}
 use Rattle.std.proofs.lemmas.List.{map-append, take_more}
 use Rattle.mr_ast.specs.declared.types.IntType.{IntType}
-use Rattle.mr_ast.specs.declared.types.IntType.TheVariants.{U8, U16, U32, U64, U128, I8, I16, I32, I64, I128}
 use Rattle.mr_ast.specs.declared.types.Num.{Num}
 use Rattle.mr_ast.specs.declared.types.Tag.{Tag}
 use Rattle.mr_ast.specs.declared.types.Tree.{Tree}

@@ -1,8 +1,7 @@
 -- What ranges meet of elements in a row is what they meet of one element.
-use Rattle.std.proofs.Common.{◌≡◌, ℕ, zero, suc, ◌+◌, ◌-◌, ◌*◌, ◌%◌, ◌/◌, ◌^◌, ◌<◌, ◌≤◌, ◌⊎◌, ⊎_elim, inl, inr, Bool, true, false, List, [], ◌∷◌, refl, sym, subst, ap, ◌∙◌, length, get_or, drop, arith}
+use Rattle.std.proofs.Common.{◌≡◌, ℕ, suc, ◌+◌, ◌-◌, ◌*◌, ◌%◌, ◌/◌, ◌^◌, ◌<◌, ◌≤◌, ◌⊎◌, inl, inr, Bool, true, false, List, [], ◌∷◌, refl, sym, ap, ◌∙◌, length, get_or, drop, arith}
 use Rattle.std.specs.Prelude.{nat_lt, nat_le, ◌&&◌, ◌||◌, min, if◌then◌else◌}
 use Rattle.std.proofs.lemmas.Bool.{and_parts, and_from, and_left, or_from}
-use Rattle.std.proofs.lemmas.Bool.Decides.{nat_tests}
 use Rattle.std.proofs.Math.Nat.{mod-add-div', mod-eq_of_lt, suc-mul}
 use Rattle.std.proofs.lemmas.Nat.{mod-mul-add}
 use Rattle.std.proofs.lemmas.Bool.{or_cases, or_left, or_right}
@@ -14,7 +13,7 @@ use Rattle.mr_layout.specs.Met.{is_some_below, is_met, is_row_met, are_rows_met,
 use Rattle.mr_layout.proofs.RunLaws.{First, first_of_order, earlier, le_test, lt_test, le_of, lt_of}
 use Rattle.mr_layout.proofs.Turns.{left_at}
 use Rattle.mr_layout.proofs.UsedLaws.{used_array}
-use Rattle.mr_layout.proofs.Below.{some_at, some_of, none_below, same_some, same_tests, some_either}
+use Rattle.mr_layout.proofs.Below.{some_at, none_below, same_some, same_tests, some_either}
 
 in_of : (start len at : ℕ) → is_in start len at ≡ true → (start ≤ at) × (at < start + len)
 in_of start len at h = let p = and_parts (nat_le start at) (nat_lt at (start + len)) h in (le_of _ _ p.0, lt_of _ _ p.1)
@@ -72,6 +71,7 @@ module _ (part : Use) (len from to end : ℕ) where
     where
       cases_le : (a b : ℕ) → (a ≤ b) ⊎ (b < a)
       cases_le a b = grind arith
+
       whole : (k : ℕ) → k < len → (from % len ≤ k) ⊎ (k < from % len) → (at : ℕ) × (from ≤ at) × (at < to) × (at < end) × (at % len ≡ k)
       whole k l (inl h) =
           let r = mod-add-div' from (len) in
@@ -91,9 +91,11 @@ module _ (part : Use) (len from to end : ℕ) where
     where
       r : from % len + from / len * len ≡ from
       r = mod-add-div' from (len)
+
       one : {b : Bool} → (b || false) ≡ true → b ≡ true
       one {b = true} e = refl
       one {b = false} e = e
+
       there : (at : ℕ) → from ≤ at → at < to → at < end → is_in first bytes (at % len) ≡ true
       there at h k l =
           let w = r in
@@ -101,6 +103,7 @@ module _ (part : Use) (len from to end : ℕ) where
           let same : from / len * len + (first + (at - from)) ≡ at = omega arith in
           let m : at % len ≡ first + (at - from) = ap (λ n. n % len) (sym same) ∙ mod-mul-add (from / len) (len) (first + (at - from)) inner in
           in_from first bytes (at % len) (omega arith) (omega arith)
+
       back : (k : ℕ) → k < len → is_in first bytes k ≡ true → (at : ℕ) × (from ≤ at) × (at < to) × (at < end) × (at % len ≡ k)
       back k l e =
           let w = r in
@@ -119,13 +122,17 @@ module _ (part : Use) (len from to end : ℕ) where
     where
       r : from % len + from / len * len ≡ from
       r = mod-add-div' from (len)
+
       next : suc (from / len) * len ≡ from / len * len + len
       next = suc-mul (from / len) (len)
+
       one : {b : Bool} → (b || false) ≡ true → b ≡ true
       one {b = true} e = refl
       one {b = false} e = e
+
       below_or : (a b : ℕ) → (a < b) ⊎ (b ≤ a)
       below_or a b = grind arith
+
       there : (at : ℕ) → from ≤ at → at < to → at < end → (first + (at - from) < len) ⊎ (len ≤ first + (at - from))
           → is_in_chunk ((0, bytes - (len - first)) ∷ (first, len - first) ∷ []) (at % len) ≡ true
       there at h k l (inl inner) =
@@ -141,9 +148,10 @@ module _ (part : Use) (len from to end : ℕ) where
           let inner : (first + (at - from)) - len < len = omega arith in
           let same : suc (from / len) * len + ((first + (at - from)) - len) ≡ at = omega arith in
           let m : at % len ≡ (first + (at - from)) - len =
-              ap (λ n. n % len) (sym same) ∙ mod-mul-add (suc (from / len)) (len) ((first + (at - from)) - len) inner in
+          ap (λ n. n % len) (sym same) ∙ mod-mul-add (suc (from / len)) (len) ((first + (at - from)) - len) inner in
           or_left (is_in 0 (bytes - (len - first)) (at % len)) (is_in first (len - first) (at % len) || false)
           (in_from 0 (bytes - (len - first)) (at % len) (omega arith) (omega arith))
+
       back : (k : ℕ) → k < len → (is_in 0 (bytes - (len - first)) k ≡ true) ⊎ ((is_in first (len - first) k || false) ≡ true)
           → (at : ℕ) × (from ≤ at) × (at < to) × (at < end) × (at % len ≡ k)
       back k l (inl e) =
@@ -185,6 +193,7 @@ one_row part whole len most start end r same =
         some_at (λ at. nat_le (r.0 - start) at && (nat_lt at ((r.0 + r.1) - start) && part (at % len))) (min end (start + most) - start) (k - start) (omega arith)
         (and_from (nat_le (r.0 - start) (k - start)) (nat_lt (k - start) ((r.0 + r.1) - start) && part ((k - start) % len)) (le_test _ _ (omega arith))
         (and_from (nat_lt (k - start) ((r.0 + r.1) - start)) (part ((k - start) % len)) (lt_test _ _ (omega arith)) u.1))
+
     back : (k : ℕ) → k < min end (start + most) - start → (nat_le (r.0 - start) k && (nat_lt k ((r.0 + r.1) - start) && part (k % len))) ≡ true
         → is_some_below (λ at. is_in_part start whole at && (is_in r.0 r.1 at || false)) end ≡ true
     back k l e =
@@ -234,6 +243,7 @@ array_rows count elem start end ranges small =
   where
     below_or : (a b : ℕ) → (a < b) ⊎ (b ≤ a)
     below_or a b = grind arith
+
     same : (at : ℕ) → at < 2 ^ 63 → (size_of elem < 2 ^ 63) ⊎ (2 ^ 63 ≤ size_of elem) → at % size_of elem ≡ at % min (size_of elem) (2 ^ 63)
     same at l (inl h) = let e : size_of elem ≡ min (size_of elem) (2 ^ 63) = omega arith in ap (λ n. at % n) e
     same at l (inr h) =

@@ -1,5 +1,5 @@
 -- Ranges in order: which of them come behind a byte, and what a run of bytes meets of them.
-use Rattle.std.proofs.Common.{◌≡◌, ℕ, zero, suc, ◌+◌, ◌-◌, ◌^◌, ◌<◌, ◌≤◌, ◌⊎◌, inl, inr, Bool, true, false, List, [], ◌∷◌, length, get_or, drop, refl, sym, ap, ◌∙◌, arith, drop-cons, subst}
+use Rattle.std.proofs.Common.{◌≡◌, ℕ, zero, suc, ◌+◌, ◌^◌, ◌<◌, ◌≤◌, ◌⊎◌, inl, inr, Bool, true, false, List, [], ◌∷◌, length, get_or, drop, refl, sym, ap, ◌∙◌, arith, subst}
 use Rattle.std.specs.Prelude.{nat_lt, nat_le, ◌&&◌, ◌||◌, min, if◌then◌else◌}
 use Rattle.std.specs.List.Sorted.{IsNonDecreasingBy}
 use Rattle.std.proofs.lemmas.Bool.{and_parts, and_from, and_left, or_from, or_left, both_ways, cases_lt}
@@ -117,9 +117,11 @@ run_first start len end r ranges order ends = by (nat_lt start (min end (start +
         (and_from (is_in start len start) (is_in_chunk (r ∷ ranges) start)
         (and_from (nat_le start start) (nat_lt start (start + len)) (le_test start start (omega arith)) (lt_test start (start + len) (omega arith)))
         (or_left (is_in r.0 r.1 start) (is_in_chunk ranges start) (and_from (nat_le r.0 start) (nat_lt start (r.0 + r.1)) (le_test r.0 start (omega arith)) (lt_test start (r.0 + r.1) ends))))
+
     either : (b : Bool) → (b ≡ true) ⊎ (b ≡ false)
     either true = inl refl
     either false = inr refl
+
     missed : (k : ℕ) → k < end → ((a : start < min end (start + len)) → r.0 < min end (start + len) → ⊥) → (is_in start len k && is_in_chunk (r ∷ ranges) k) ≡ false
     missed k l never_both = at_byte (is_in start len k) refl
       where
@@ -132,8 +134,8 @@ run_first start len end r ranges order ends = by (nat_lt start (min end (start +
             let c : min end (start + len) ≤ r.0 = above (λ h. never_both (omega arith) h) in
             let f = first_of_order 0 r ranges order in
             let h : is_in_order_after r.0 (r ∷ ranges) ≡ true =
-                and_from (nat_le r.0 r.0) (nat_lt 0 r.1 && (nat_le (r.0 + r.1) (2 ^ 64) && is_in_order_after (r.0 + r.1) ranges)) (le_test r.0 r.0 (omega arith))
-                (and_parts (nat_le 0 r.0) (nat_lt 0 r.1 && (nat_le (r.0 + r.1) (2 ^ 64) && is_in_order_after (r.0 + r.1) ranges)) order).1 in
+            and_from (nat_le r.0 r.0) (nat_lt 0 r.1 && (nat_le (r.0 + r.1) (2 ^ 64) && is_in_order_after (r.0 + r.1) ranges)) (le_test r.0 r.0 (omega arith))
+            (and_parts (nat_le 0 r.0) (nat_lt 0 r.1 && (nat_le (r.0 + r.1) (2 ^ 64) && is_in_order_after (r.0 + r.1) ranges)) order).1 in
             ap (λ x. is_in start len k && x) (before_all r.0 k (r ∷ ranges) (omega arith) h) ∙ never (is_in start len k)
           where
             above : (r.0 < min end (start + len) → ⊥) → min end (start + len) ≤ r.0
@@ -142,9 +144,11 @@ run_first start len end r ranges order ends = by (nat_lt start (min end (start +
                 by_order : (r.0 < min end (start + len)) ⊎ (min end (start + len) ≤ r.0) → min end (start + len) ≤ r.0
                 by_order (inl k) = absurd (h k)
                 by_order (inr k) = k
+
             never : (b : Bool) → (b && false) ≡ false
             never true = refl
             never false = refl
+
     by : (a b : Bool) → nat_lt start (min end (start + len)) ≡ a → nat_lt r.0 (min end (start + len)) ≡ b
         → is_some_below (λ at. is_in start len at && is_in_chunk (r ∷ ranges) at) end ≡ (nat_lt start (min end (start + len)) && nat_lt r.0 (min end (start + len)))
     by true true e f = met (lt_of _ _ e) (lt_of _ _ f) (either (nat_le start r.0)) ∙ sym (λ i. e i && f i)

@@ -1,6 +1,6 @@
 -- Whether a byte of a tag is used, by the ranges of the tags.
 use Rattle.std.proofs.Common.{◌≡◌, ℕ, zero, suc, ◌+◌, ◌-◌, ◌<◌, ◌≤◌, Bool, true, false, List, [], ◌∷◌, map, refl, sym, ap, ◌∙◌, arith}
-use Rattle.std.specs.Prelude.{nat_lt, nat_le, ◌&&◌, ◌||◌, not}
+use Rattle.std.specs.Prelude.{nat_lt, nat_le, ◌&&◌, ◌||◌}
 use Rattle.std.specs.List.{list_any}
 use Rattle.std.specs.List.Sorted.{IsPermutation}
 use Rattle.std.proofs.lemmas.Bool.{and_parts, and_from, and_right}
@@ -14,8 +14,7 @@ use Rattle.mr_layout.specs.Alike.{tag_range, are_tags_fitting, is_some_tag_used}
 use Rattle.mr_layout.specs.EnumRules.{is_some_used}
 use Rattle.mr_layout.specs.Used.{is_in, is_in_part, is_in_chunk, is_used}
 use Rattle.mr_layout.specs.Met.{is_some_below, is_met}
-use Rattle.mr_layout.proofs.Apart.{unused_byte}
-use Rattle.mr_layout.proofs.Below.{some_of, none_below, same_tests, some_either}
+use Rattle.mr_layout.proofs.Below.{none_below, same_tests}
 use Rattle.mr_layout.proofs.GapLaws.{in_not_empty}
 use Rattle.mr_layout.proofs.RunLaws.{le_test, lt_test, not_lt_test, le_of}
 use Rattle.mr_layout.proofs.RowLaws.{met_none, met_one}
@@ -42,6 +41,7 @@ within t start len k l h =
   where
     same : k - 0 ≡ k
     same = omega arith
+
     last : (b : Bool) → (b && true) ≡ b
     last true = refl
     last false = refl
@@ -67,6 +67,7 @@ further t start len (suc more) =
   where
     next : (start + len) + suc more ≡ suc ((start + len) + more)
     next = omega arith
+
     last : (b : Bool) → (b || false) ≡ b
     last true = refl
     last false = refl

@@ -8,6 +8,7 @@ use mr_ast::{Tag, Ty, Variant};
 use mr_base::Pair;
 
 const MAX_END: u128 = 0x1_0000_0000_0000_0000;
+
 const MAX_LEN: u128 = 0x8000_0000_0000_0000;
 
 /// Whether each range has a byte, and ends at 2^64 or before, where the next begins, or before.
@@ -68,13 +69,7 @@ fn row_stop(count: u64, elem: Option<u64>, start: u128, end: u128) -> u128
 {
     match elem {
         Some(len) => end.min(start + count as u128 * len as u128),
-        None => {
-            if count == 0 {
-                start
-            } else {
-                end
-            }
-        }
+        None => { if count == 0 { start } else { end } }
     }
 }
 
@@ -198,4 +193,3 @@ fn is_variant_met(variants: &[Variant], start: u128, end: u128, ranges: &[Pair])
     }
     false
 }
-
