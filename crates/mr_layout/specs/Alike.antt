@@ -54,7 +54,8 @@ each_variant size align disc (v ∷ variants) =
 -- each tag lies inside the size, and has a number that fits
 abbrev pub are_tags_fitting : ℕ → List Tag → Bool
 are_tags_fitting size [] = true
-are_tags_fitting size (g ∷ tags) = nat_le (g.at + int_size g.int) size && (is_fitting g.int g.number && are_tags_fitting size tags)
+are_tags_fitting size (g ∷ tags) =
+    nat_le (g.at + int_size g.int) size && (is_fitting g.int g.number && are_tags_fitting size tags)
 
 -- a byte of a tag is used
 abbrev pub is_some_tag_used : Ty → List Tag → Bool

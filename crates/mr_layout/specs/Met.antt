@@ -23,23 +23,27 @@ is_run_met start len end ranges = is_some_below (λ at. is_in start len at && is
 -- the same of some of these fields, in a tuple that begins at an offset
 abbrev pub is_field_met : List (ℕ × Ty) → ℕ → ℕ → List (ℕ × ℕ) → Bool
 is_field_met [] start end ranges = false
-is_field_met (f ∷ fields) start end ranges = is_met (is_used f.1) (start + f.0) end ranges || is_field_met fields start end ranges
+is_field_met (f ∷ fields) start end ranges =
+    is_met (is_used f.1) (start + f.0) end ranges || is_field_met fields start end ranges
 
 -- the same of some of these chunks
 abbrev pub is_chunk_met : List (ℕ × ℕ) → ℕ → ℕ → List (ℕ × ℕ) → Bool
 is_chunk_met [] start end ranges = false
-is_chunk_met (c ∷ chunks) start end ranges = is_run_met (start + c.0) c.1 end ranges || is_chunk_met chunks start end ranges
+is_chunk_met (c ∷ chunks) start end ranges =
+    is_run_met (start + c.0) c.1 end ranges || is_chunk_met chunks start end ranges
 
 -- the same of some of these tags
 abbrev pub is_tag_met : List Tag → ℕ → ℕ → List (ℕ × ℕ) → Bool
 is_tag_met [] start end ranges = false
-is_tag_met (t ∷ tags) start end ranges = is_run_met (start + t.at) (int_size t.int) end ranges || is_tag_met tags start end ranges
+is_tag_met (t ∷ tags) start end ranges =
+    is_run_met (start + t.at) (int_size t.int) end ranges || is_tag_met tags start end ranges
 
 -- the same of some of these variants
 abbrev pub is_variant_met : List Variant → ℕ → ℕ → List (ℕ × ℕ) → Bool
 is_variant_met [] start end ranges = false
 is_variant_met (v ∷ variants) start end ranges =
-    (is_met (is_used v.ty) start end ranges || is_tag_met v.tags start end ranges) || is_variant_met variants start end ranges
+    (is_met (is_used v.ty) start end ranges || is_tag_met v.tags start end ranges)
+    || is_variant_met variants start end ranges
 
 -- of elements of a length in a row, a used byte lies from one offset to another and before an end
 unfoldable pub is_row_met : Use → ℕ → ℕ → ℕ → ℕ → Bool

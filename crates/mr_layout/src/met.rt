@@ -7,8 +7,10 @@ use crate::sizes::{int_bytes, size};
 use mr_ast::{Tag, Ty, Variant};
 use mr_base::Pair;
 
+// Where ranges end at the latest.
 const MAX_END: u128 = 0x1_0000_0000_0000_0000;
 
+// How many bytes of an element are looked at at the most.
 const MAX_LEN: u128 = 0x8000_0000_0000_0000;
 
 /// Whether each range has a byte, and ends at 2^64 or before, where the next begins, or before.
