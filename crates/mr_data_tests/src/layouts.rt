@@ -57,7 +57,7 @@ fn told(alloc: Global, ty: &str) -> Result<String, OutOfMemory> {
 }
 
 // A type, and what is told of it.
-static TYPES: [(&str, &str); 48] = [
+static TYPES: [(&str, &str); 56] = [
     ("u8", "Some(1) 1 true None #......"),
     ("u16", "Some(2) 2 true None ##....."),
     ("u32", "Some(4) 4 true None ####..."),
@@ -195,6 +195,39 @@ static TYPES: [(&str, &str); 48] = [
     (
         "union size 4 align 2 { 0: u16, 2: u16 } chunks { 0 3 }",
         "Some(4) 2 true Some(28) ###....",
+    ),
+    // Padding in each element of an array, which chunks leave out or tags take.
+    (
+        "union size 6 align 1 { 0: array(3, tuple size 2 align 1 { 0: u8 }) } chunks { 0 1, 2 1, 4 1 }",
+        "Some(6) 1 true None #.#.#..",
+    ),
+    (
+        "union size 6 align 1 { 0: array(3, tuple size 2 align 1 { 0: u8 }) } chunks { 0 1, 2 2 }",
+        "Some(6) 1 true Some(28) #.##...",
+    ),
+    (
+        "union size 8 align 1 { 1: array(2, tuple size 3 align 1 { 1: u8 }) } chunks { 2 1, 5 1 }",
+        "Some(8) 1 true None ..#..#.",
+    ),
+    (
+        "union size 8 align 1 { 1: array(2, tuple size 3 align 1 { 1: u8 }) } chunks { 2 2 }",
+        "Some(8) 1 true Some(28) ..##...",
+    ),
+    (
+        "union size 8 align 1 { 4: array(2, array(2, tuple size 1 align 1 { })) } chunks { }",
+        "Some(8) 1 true None .......",
+    ),
+    (
+        "enum size 4 align 1 disc u8 { 0: array(2, tuple size 2 align 1 { 1: u8 }) tag { 2: u8 = 1, 0: u8 = 2 } } known 0",
+        "Some(4) 1 true None ####...",
+    ),
+    (
+        "enum size 4 align 1 disc u8 { 0: array(2, tuple size 2 align 1 { 1: u8 }) tag { 3: u8 = 1, 0: u8 = 2 } } known 0",
+        "Some(4) 1 true Some(26) ##.#...",
+    ),
+    (
+        "enum size 4 align 1 disc u8 { 0: array(2, tuple size 2 align 1 { 1: u8 }) tag { 1: u16 = 1 } } known 0",
+        "Some(4) 1 true Some(26) .###...",
     ),
 ];
 

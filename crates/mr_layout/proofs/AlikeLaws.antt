@@ -6,7 +6,6 @@ use Rattle.std.proofs.lemmas.Bool.{or_parts}
 use Rattle.std.proofs.lemmas.Bool.Decides.{nat_tests}
 use Rattle.std.proofs.lemmas.List.{map-append, take_more}
 use Rattle.mr_ast.specs.declared.types.IntType.{IntType}
-use Rattle.mr_ast.specs.declared.types.IntType.TheVariants.{U8, U16, U32, U64, U128, I8, I16, I32, I64, I128}
 use Rattle.mr_ast.specs.declared.types.Num.{Num}
 use Rattle.mr_ast.specs.declared.types.Tag.{Tag}
 use Rattle.mr_ast.specs.declared.types.Tree.{Tree}
@@ -15,7 +14,7 @@ use Rattle.mr_ast.specs.declared.types.Variant.{Variant}
 use Rattle.mr_ast.specs.Integers.{int_size, is_fitting}
 use Rattle.mr_base.specs.Pairs.{some_pair, same_pair, are_meeting, not_empty}
 use Rattle.mr_base.proofs.Twins.{some_pair_not_empty}
-use Rattle.mr_layout.specs.Alike.{number_key, variant_key, case_key, tag_range, field_range, number_twice, case_twice, tags_meeting, each_variant, each_tag, each_case}
+use Rattle.mr_layout.specs.Alike.{number_key, variant_key, case_key, tag_range, field_range, number_twice, case_twice, tags_meeting, each_variant, are_tags_fitting, is_some_tag_used, each_case}
 use Rattle.mr_layout.specs.EnumRules.{same_num, is_number_of, are_variants, meets_tag, is_some_used, are_tags, is_case, is_tree, are_tree_cases}
 use Rattle.mr_layout.proofs.Turns.{left_at}
 use Rattle.mr_layout.specs.Rules.{is_past, meets_any, is_overlapping, meets_chunk, is_chunk_overlapping}
@@ -35,20 +34,6 @@ past_three true true true true t e = refl
 past_three true true true false true e = refl
 past_three true true true false false e = refl
 
-past_two : (a b c d t e : Bool) → (a && (b && (not d && (c && (not t && e))))) ≡ (not (d || t) && (a && (b && (c && e))))
-past_two false b c true t e = refl
-past_two false b c false true e = refl
-past_two false b c false false e = refl
-past_two true false c true t e = refl
-past_two true false c false true e = refl
-past_two true false c false false e = refl
-past_two true true false true t e = refl
-past_two true true false false true e = refl
-past_two true true false false false e = refl
-past_two true true true true t e = refl
-past_two true true true false true e = refl
-past_two true true true false false e = refl
-
 past_one : (a b d t e : Bool) → (a && (not d && (b && (not t && e)))) ≡ (not (d || t) && (a && (b && e)))
 past_one false b true t e = refl
 past_one false b false true e = refl
@@ -67,12 +52,26 @@ are_variants_apart size align disc (v ∷ variants) =
     ap (λ r. (size_of v.ty == size) && (nat_le (align_of v.ty) align && (is_fitting disc v.number && (not (is_number_of v.number variants) && r)))) (are_variants_apart size align disc variants)
     ∙ past_three (size_of v.ty == size) (nat_le (align_of v.ty) align) (is_fitting disc v.number) (is_number_of v.number variants) (number_twice variants) (each_variant size align disc variants)
 
--- the tags of a variant: no two meet, and each is in order
-pub are_tags_apart : (size : ℕ) (t : Ty) (tags : List Tag) → are_tags size t tags ≡ (not (tags_meeting tags) && each_tag size t tags)
+past_four : (a b d t u v x : Bool) → (a && (b && (not d && (not u && (not t && (x && not v)))))) ≡ (not (d || t) && ((a && (b && x)) && not (u || v)))
+past_four false b true t u v x = refl
+past_four false b false true u v x = refl
+past_four false b false false u v x = refl
+past_four true false true t u v x = refl
+past_four true false false true u v x = refl
+past_four true false false false u v x = refl
+past_four true true true t u v x = refl
+past_four true true false true true v x = refl
+past_four true true false true false v x = refl
+past_four true true false false true v true = refl
+past_four true true false false true v false = refl
+past_four true true false false false v x = refl
+
+-- the tags of a variant: no two meet, each fits, and none has a used byte
+pub are_tags_apart : (size : ℕ) (t : Ty) (tags : List Tag) → are_tags size t tags ≡ (not (tags_meeting tags) && (are_tags_fitting size tags && not (is_some_tag_used t tags)))
 are_tags_apart size t [] = refl
 are_tags_apart size t (g ∷ tags) =
     ap (λ r. nat_le (g.at + int_size g.int) size && (is_fitting g.int g.number && (not (meets_tag g tags) && (not (is_some_used t g.at (int_size g.int)) && r)))) (are_tags_apart size t tags)
-    ∙ past_two (nat_le (g.at + int_size g.int) size) (is_fitting g.int g.number) (not (is_some_used t g.at (int_size g.int))) (meets_tag g tags) (tags_meeting tags) (each_tag size t tags)
+    ∙ past_four (nat_le (g.at + int_size g.int) size) (is_fitting g.int g.number) (meets_tag g tags) (tags_meeting tags) (is_some_used t g.at (int_size g.int)) (is_some_tag_used t tags) (are_tags_fitting size tags)
 
 -- the cases of a branch: none twice, and each in order
 pub are_cases_apart : (size : ℕ) (variants : List Variant) (i : IntType) (cases : List (Num × Tree)) → are_tree_cases size variants i cases ≡ (not (case_twice cases) && each_case size variants i cases)

@@ -1,7 +1,7 @@
 -- One turn of a loop over the parts of a type: what a test of those that are left says of the next one.
 use Rattle.std.proofs.Common.{◌≡◌, ℕ, suc, ◌+◌, ◌<◌, ◌≤◌, true, false, List, ◌∷◌, length, get_or, drop, sym, ap, ◌∙◌, arith, drop-cons}
 use Rattle.std.proofs.lemmas.Bool.Decides.{nat_tests}
-use Rattle.std.specs.Prelude.{nat_le, not, ◌==◌}
+use Rattle.std.specs.Prelude.{nat_le, not}
 use Rattle.mr_ast.specs.declared.types.IntType.{IntType}
 use Rattle.mr_ast.specs.declared.types.Num.{Num}
 use Rattle.mr_ast.specs.declared.types.Tag.{Tag}
@@ -12,7 +12,7 @@ use Rattle.mr_layout.specs.Sizes.{size_of, align_of}
 use Rattle.mr_ast.specs.Integers.{int_size, is_fitting}
 use Rattle.mr_layout.specs.EnumRules.{is_number_of, are_variants, meets_tag, is_some_used, are_tags, are_all_tags, is_case, is_tree, are_tree_cases}
 use Rattle.mr_layout.specs.Parts.{is_ok, are_ok, are_chunks_ok, are_variants_ok}
-use Rattle.mr_layout.proofs.PartsOk.{and_true, same_of}
+use Rattle.mr_layout.proofs.PartsOk.{and_true}
 use Rattle.mr_layout.proofs.WellFormed.{not_true}
 
 pub at_most : (a b : ℕ) → nat_le a b ≡ true → a ≤ b

@@ -8,12 +8,12 @@ use Rattle.mr_ast.specs.declared.types.Ty.{Ty}
 use Rattle.mr_ast.specs.declared.types.Ty.TheVariants as ty
 use Rattle.mr_ast.specs.declared.types.Variant.{Variant}
 use Rattle.mr_layout.specs.Sizes.{size_of}
-use Rattle.mr_layout.specs.Rules.{is_large, is_align, is_past, is_overlapping, is_chunk_past, is_rising, is_chunk_overlapping, are_covered, tuple_rules, ref_rules, array_rules, union_rules}
+use Rattle.mr_layout.specs.Rules.{is_large, is_align, is_past, is_overlapping, is_chunk_past, is_rising, is_chunk_overlapping, are_covered, tuple_rules, array_rules, union_rules}
 use Rattle.mr_layout.specs.EnumRules.{are_variants, are_all_tags, is_tree, enum_rules}
 use Rattle.mr_layout.specs.TypeOk.{TypeOk, broken_rule, first_broken_field, first_broken_variant}
 use Rattle.mr_layout.proofs.PartFacts.{FieldsOk, ChunksInside, VariantsOk}
 use Rattle.mr_layout.proofs.Bounds.{or_else_none, rule_none, small_of, or_false}
-use Rattle.mr_layout.proofs.BrokenLaws.{broken_ref, broken_tuple, broken_array, broken_union, broken_enum}
+use Rattle.mr_layout.proofs.BrokenLaws.{broken_tuple, broken_array, broken_union, broken_enum}
 use Rattle.mr_layout.proofs.PartsOk.{fields_ok, chunks_inside, variants_ok, and_true, not_false, same_of}
 
 pub not_true : (b : Bool) → not b ≡ true → b ≡ false

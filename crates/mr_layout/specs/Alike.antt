@@ -1,5 +1,5 @@
 -- The parts of a list that are compared with one another, and what is asked of each of them alone.
-use Rattle.std.specs.Prelude.{ℕ, ◌+◌, Bool, true, false, not, ◌&&◌, ◌||◌, ◌==◌, nat_le, if◌then◌else◌, List, [], ◌∷◌}
+use Rattle.std.specs.Prelude.{ℕ, ◌+◌, Bool, true, false, ◌&&◌, ◌||◌, ◌==◌, nat_le, if◌then◌else◌, List, [], ◌∷◌}
 use Rattle.mr_ast.specs.declared.types.IntType.{IntType}
 use Rattle.mr_ast.specs.declared.types.Num.{Num}
 use Rattle.mr_ast.specs.declared.types.Tag.{Tag}
@@ -51,11 +51,16 @@ each_variant size align disc [] = true
 each_variant size align disc (v ∷ variants) =
     (size_of v.ty == size) && (nat_le (align_of v.ty) align && (is_fitting disc v.number && each_variant size align disc variants))
 
--- each tag lies inside the size, has a number that fits, and meets no used byte of the variant's type
-abbrev pub each_tag : ℕ → Ty → List Tag → Bool
-each_tag size t [] = true
-each_tag size t (g ∷ tags) =
-    nat_le (g.at + int_size g.int) size && (is_fitting g.int g.number && (not (is_some_used t g.at (int_size g.int)) && each_tag size t tags))
+-- each tag lies inside the size, and has a number that fits
+abbrev pub are_tags_fitting : ℕ → List Tag → Bool
+are_tags_fitting size [] = true
+are_tags_fitting size (g ∷ tags) =
+    nat_le (g.at + int_size g.int) size && (is_fitting g.int g.number && are_tags_fitting size tags)
+
+-- a byte of a tag is used
+abbrev pub is_some_tag_used : Ty → List Tag → Bool
+is_some_tag_used t [] = false
+is_some_tag_used t (g ∷ tags) = is_some_used t g.at (int_size g.int) || is_some_tag_used t tags
 
 -- each case fits and has a tree without a fault
 abbrev pub each_case : ℕ → List Variant → IntType → List (Num × Tree) → Bool

@@ -95,7 +95,7 @@ fn is_case_in_two(cases: &[(Num, Tree)]) -> bool
 }
 
 // A range behind others, unless it has no byte.
-fn push_range(ranges: &mut Vec<Pair>, start: u64, len: u64) -> Result<(), OutOfMemory>
+pub(crate) fn push_range(ranges: &mut Vec<Pair>, start: u64, len: u64) -> Result<(), OutOfMemory>
     ensures { OnOk result (ranges.new.items ≡ ranges.old.items ++ not_empty ((start, len) ∷ [])) }
 {
     if len > 0 {
@@ -104,7 +104,7 @@ fn push_range(ranges: &mut Vec<Pair>, start: u64, len: u64) -> Result<(), OutOfM
     Ok(())
 }
 
-fn tag_ranges(alloc: Global, tags: &[Tag]) -> Result<Vec<Pair>, OutOfMemory>
+pub(crate) fn tag_ranges(alloc: Global, tags: &[Tag]) -> Result<Vec<Pair>, OutOfMemory>
     ensures { IfOk result (λ ranges. ranges.items ≡ not_empty (map tag_range tags.now)) }
 {
     let mut ranges = Vec::new(alloc);
@@ -164,7 +164,7 @@ pub(crate) fn is_chunk_overlapping(room: Room, chunks: &[(u64, u64)]) -> bool
 }
 
 // The size of a field that ends below 2^63.
-fn field_size(end: u64, start: u64, t: &Ty) -> u64
+pub(crate) fn field_size(end: u64, start: u64, t: &Ty) -> u64
     requires small { end < 2 ^ 63 }
     requires inside { start + size_of t.now ≤ end }
     ensures { result ≡ size_of t.now }

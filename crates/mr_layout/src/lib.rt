@@ -9,7 +9,8 @@
 //! - [`used`]: whether the byte at an offset carries a part of a value (`specs/Used.antt`).
 //! - [`broken_rule`], [`first_broken_rule`] and [`type_ok`]: the code of the first rule that a type breaks, its parts before itself, and `None` where it is
 //!   well-formed (`specs/TypeOk.antt`, over `specs/Rules.antt` and `specs/EnumRules.antt`).
-//! - [`is_align`] and [`is_fitting`]: whether a number is an alignment, and whether it is one of an integer type's.
+//! - [`is_align`], [`is_fitting`] and [`is_case`]: whether a number is an alignment, whether it is one of an integer type's, and whether
+//!   one of some cases has it.
 //! - [`find_types`]: the types written in a program, whole or as a part of another, in their order (`specs/Written.antt`).
 //! - [`Cache::new`]: a cache that holds each type written in a program, whole or as a part of another, once, and no other type
 //!   (`specs/Written.antt`, `specs/Cached.antt`). Its condition is that these types are well-formed.
@@ -38,6 +39,8 @@
 //!   size, and no used byte at or past its end.
 //! - `proofs/AlikeLaws.antt`: to compare each two parts of a list, as the rules do, is to look at what is asked of each part alone and
 //!   at the pairs of numbers that `mr_base` compares in the time of a sort. Where memory is wanting, parts are compared one by one.
+//! - `proofs/MetLaws.antt`, `RunLaws`, `RowLaws`: what ranges in order meet of a type is found by a search among them for each part of the
+//!   type, and of an array by the bytes of one element. `GapLaws` and `TagLaws` say so of a union's chunks and of a variant's tags.
 //! - `proofs/Apart.antt`, `TreeOk`: fields, chunks and tags have no byte in common, and a tree's leaf names a variant.
 //! - `proofs/WrittenParts.antt`, `HeldTypes`: the parts of a well-formed type are well-formed, those of a written type are written, and
 //!   which types the cache holds of a function, a block, a place or a value.
@@ -47,6 +50,8 @@ mod alike;
 mod bytes;
 mod cache;
 mod enum_rules;
+mod gaps;
+mod met;
 mod ok;
 mod rules;
 mod sizes;
@@ -54,7 +59,7 @@ mod written;
 
 pub use bytes::used;
 pub use cache::{Cache, Layout};
-pub use enum_rules::is_fitting;
+pub use enum_rules::{is_case, is_fitting};
 pub use ok::{broken_rule, first_broken_rule, type_ok};
 pub use rules::is_align;
 pub use sizes::{align, inhabited, int_bytes, size};

@@ -6,6 +6,7 @@ ghost use Rattle.mr_layout.specs.Rules.{is_align, is_past, meets_any, is_overlap
 
 use crate::alike::{Room, is_chunk_overlapping, is_overlapping};
 use crate::bytes::{in_chunk, used};
+use crate::gaps::are_in_chunks;
 use crate::sizes::size;
 use mr_ast::{MAX_ALIGN, MAX_SIZE, Rule, Ty};
 
@@ -248,7 +249,7 @@ fn field_covered(end: u64, start: u64, t: &Ty, chunks: &[(u64, u64)]) -> bool
     }
 }
 
-fn are_covered(end: u64, fields: &[(u64, Ty)], chunks: &[(u64, u64)]) -> bool
+pub(crate) fn are_covered(end: u64, fields: &[(u64, Ty)], chunks: &[(u64, u64)]) -> bool
     requires small { end < 2 ^ 63 }
     requires inside { is_past end fields.now ≡ false }
     ensures { result ≡ are_covered fields.now chunks.now }
@@ -286,7 +287,7 @@ pub(crate) fn union_rules(
     }
     if !is_rising(chunks)
         || is_chunk_overlapping(room, chunks)
-        || !are_covered(size, fields, chunks)
+        || !are_in_chunks(room, size, fields, chunks)
     {
         return Some(Rule::UnionChunk.code());
     }

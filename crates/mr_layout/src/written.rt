@@ -126,37 +126,51 @@ fn add_value<'a>(found: &mut Found<'a>, value: &'a Value) -> Result<(), OutOfMem
         | Value::False
         | Value::Raw(_)
         | Value::Fn(_)
-        | Value::Global(_, _) => {}
-        Value::Tuple(t, values) => {
-            add_type(found, t)?;
-            add_values(found, values.as_slice())?;
-        }
-        Value::Union(t, _, value) => {
-            add_type(found, t)?;
-            add_value(found, value.get())?;
-        }
-        Value::Variant(t, _, value) => {
-            add_type(found, t)?;
-            add_value(found, value.get())?;
-        }
-        Value::Load(place) => add_place(found, place)?,
-        Value::Disc(place) => add_place(found, place)?,
-        Value::AddrOf(t, place) => {
-            add_type(found, t)?;
-            add_place(found, place)?;
-        }
-        Value::Cast(_, value) => add_value(found, value.get())?,
-        Value::Transmute(t, value) => {
-            add_type(found, t)?;
-            add_value(found, value.get())?;
-        }
-        Value::Unary(_, value) => add_value(found, value.get())?,
+        | Value::Global(_, _) => Ok(()),
+        Value::Tuple(t, values) => add_tuple(found, values.as_slice(), t),
+        Value::Union(t, _, value) => add_typed(found, value.get(), t),
+        Value::Variant(t, _, value) => add_typed(found, value.get(), t),
+        Value::Load(place) => add_place(found, place),
+        Value::Disc(place) => add_place(found, place),
+        Value::AddrOf(t, place) => add_address(found, place, t),
+        Value::Cast(_, value) => add_value(found, value.get()),
+        Value::Transmute(t, value) => add_typed(found, value.get(), t),
+        Value::Unary(_, value) => add_value(found, value.get()),
         Value::Binary(_, left, right) => {
             add_value(found, left.get())?;
-            add_value(found, right.get())?;
+            add_value(found, right.get())
         }
     }
-    Ok(())
+}
+
+// Adds the types written in a tuple's or an array's type and in its parts.
+#[cycle(add_expr)]
+#[tactic(auto, using(crate::proofs::WrittenLaws::written_laws))]
+fn add_tuple<'a>(found: &mut Found<'a>, values: &'a [Value], t: &'a Ty) -> Result<(), OutOfMemory>
+    ensures { OnOk result (found.new ≡ found.old ++ (types_of t.now ++ types_of_values values.now)) }
+{
+    add_type(found, t)?;
+    add_values(found, values)
+}
+
+// Adds the types written in a type and in a value.
+#[cycle(add_expr)]
+#[tactic(auto, using(crate::proofs::WrittenLaws::written_laws))]
+fn add_typed<'a>(found: &mut Found<'a>, value: &'a Value, t: &'a Ty) -> Result<(), OutOfMemory>
+    ensures { OnOk result (found.new ≡ found.old ++ (types_of t.now ++ types_of_value value.now)) }
+{
+    add_type(found, t)?;
+    add_value(found, value)
+}
+
+// Adds the types written in an address's type and in its place.
+#[cycle(add_expr)]
+#[tactic(auto, using(crate::proofs::WrittenLaws::written_laws))]
+fn add_address<'a>(found: &mut Found<'a>, place: &'a Place, t: &'a Ty) -> Result<(), OutOfMemory>
+    ensures { OnOk result (found.new ≡ found.old ++ (types_of t.now ++ types_of_place place.now)) }
+{
+    add_type(found, t)?;
+    add_place(found, place)
 }
 
 #[cycle(add_expr)]

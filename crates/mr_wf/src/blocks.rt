@@ -2,7 +2,6 @@
 ghost use Rattle.std.specs.Prelude.{◌≡◌, ◌==◌, Ok, map};
 ghost use Rattle.std.specs.Option.{option_map};
 ghost use Rattle.std.specs.List.{list_all, list_any};
-ghost use Rattle.mr_layout.specs.EnumRules.{is_case};
 ghost use Rattle.mr_wf.specs.Blocks.{are_bool_cases, are_int_cases, call_unwinds_to, fits_switch, goes_to, is_allowed, is_kept, unwinds_to, where_there};
 ghost use Rattle.mr_wf.specs.JudgingBlocks.{judged_call, judged_intrinsic, judged_parts, judged_result, judged_stmt, judged_term};
 ghost use Rattle.mr_wf.specs.Known.{Gives, surroundings_of, ty_of};
@@ -16,7 +15,7 @@ use crate::seen::Seen;
 use mr_ast::{
     BlockKind, BlockName, Function, IntType, Intrinsic, LocalName, Num, Place, Stmt, Term, Value,
 };
-use mr_layout::is_fitting;
+use mr_layout::{is_case, is_fitting};
 use std::alloc::Global;
 
 /// Whether a local is one of these.
@@ -83,18 +82,6 @@ fn are_int_cases(alloc: Global, int: IntType, cases: &[(Num, BlockName)]) -> Res
         }
     }
     Ok(true)
-}
-
-// Whether a number is one of the cases.
-fn is_case(number: Num, cases: &[(Num, BlockName)]) -> bool
-    ensures { result ≡ is_case number cases.now }
-{
-    for case in cases {
-        if case.0 == number {
-            return true;
-        }
-    }
-    false
 }
 
 // Whether each case is 0 or 1, and stands once. The third one is no such case.

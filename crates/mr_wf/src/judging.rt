@@ -74,9 +74,7 @@ pub fn judged_place<'p>(
     match place {
         Place::Local(x) => there(33, local_type(at.locals, *x)),
         Place::Deref(pointer, ty) => judged_target(alloc, at, pointer.get(), ty),
-        Place::Field(whole, number) => {
-            there(33, field(judged_place(alloc, at, whole.get())?, *number))
-        }
+        Place::Field(whole, number) => judged_field(alloc, at, whole.get(), *number),
         Place::Index(array, index) => {
             let t = judged_place(alloc, at, array.get())?;
             let i = judged_value(alloc, at, index.get())?;
@@ -103,6 +101,20 @@ fn judged_target<'p>(
     sound_type(alloc, ty)?;
     kept(33, t.is_pointer())?;
     Ok(ty)
+}
+
+// A field of a whole.
+#[cycle(judged)]
+#[tactic(auto, using(crate::proofs::JudgedLaws::judged_laws))]
+fn judged_field<'p>(
+    alloc: Global,
+    at: Surroundings<'p>,
+    whole: &'p Place,
+    number: u64,
+) -> Result<&'p Ty, Broken>
+    ensures { Gives (λ t. t.now) result (judged_place (surroundings_of at.entry) (place.Field whole.now number)) }
+{
+    there(33, field(judged_place(alloc, at, whole)?, number))
 }
 
 // The type of an element of an array.
@@ -135,8 +147,8 @@ pub fn judged_value<'p>(
         Value::Variant(ty, number, content) => {
             judged_variant(alloc, at, content.get(), ty, *number)
         }
-        Value::Load(place) => Ok(Known::Written(judged_place(alloc, at, place)?)),
-        Value::Disc(place) => discriminant_of(judged_place(alloc, at, place)?),
+        Value::Load(place) => judged_load(alloc, at, place),
+        Value::Disc(place) => judged_discriminant(alloc, at, place),
         Value::AddrOf(ty, place) => judged_address(alloc, at, place, ty),
         Value::Cast(int, operand) => judged_cast(alloc, at, *int, operand.get()),
         Value::Transmute(ty, operand) => judged_transmute(alloc, at, operand.get(), ty),
@@ -164,6 +176,32 @@ fn judged_pointer<'p>(at: Surroundings<'p>, g: GlobalName, offset: u64) -> Resul
 {
     kept(43, is_in_global(at.sizes, g, offset))?;
     Ok(Known::Raw)
+}
+
+// A value that is loaded from a place.
+#[cycle(judged)]
+#[tactic(auto, using(crate::proofs::JudgedLaws::judged_laws))]
+fn judged_load<'p>(
+    alloc: Global,
+    at: Surroundings<'p>,
+    place: &'p Place,
+) -> Result<Known<'p>, Broken>
+    ensures { Gives ty_of result (judged_value (surroundings_of at.entry) (value.Load place.now)) }
+{
+    Ok(Known::Written(judged_place(alloc, at, place)?))
+}
+
+// The discriminant of the enum at a place.
+#[cycle(judged)]
+#[tactic(auto, using(crate::proofs::JudgedLaws::judged_laws))]
+fn judged_discriminant<'p>(
+    alloc: Global,
+    at: Surroundings<'p>,
+    place: &'p Place,
+) -> Result<Known<'p>, Broken>
+    ensures { Gives ty_of result (judged_value (surroundings_of at.entry) (value.Disc place.now)) }
+{
+    discriminant_of(judged_place(alloc, at, place)?)
 }
 
 // The type of the discriminant of an enum.
