@@ -21,7 +21,7 @@ use Rattle.mr_parse.specs.declared.program.Inner.{Inner}
 use Rattle.mr_parse.specs.declared.program.Parts.{Parts}
 use Rattle.mr_parse.specs.declared.statements.Ways.{Ways}
 use Rattle.mr_parse.specs.declared.types.Shape.{Shape as Written}
-use Rattle.mr_parse.specs.Reading.{◌>>=◌, expected, read}
+use Rattle.mr_grammar.specs.Reading.{◌>>=◌, expected, read}
 
 abbrev pub shape_of : Written → Shape
 shape_of s = record { size = s.size; align = s.align }

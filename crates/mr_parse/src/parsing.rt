@@ -4,11 +4,11 @@ ghost use Rattle.std.specs.Str.{IsAscii};
 ghost use Rattle.mr_ast.specs.declared.program.Program.{Program};
 ghost use Rattle.mr_ast.specs.Shaped.{Shaped};
 ghost use Rattle.mr_lex.specs.declared.token.TextFault.{TextFault as Fault};
-ghost use Rattle.mr_parse.specs.Denotes.{Denotes};
+ghost use Rattle.mr_grammar.specs.Denotes.{Denotes};
 ghost use Rattle.mr_words.specs.Defined.{knowing, text_at};
-ghost use Rattle.mr_parse.specs.Faults.{FirstFault};
+ghost use Rattle.mr_grammar.specs.Faults.{FirstFault};
 ghost use Rattle.mr_parse.specs.Gives.{Gives, ParseGives};
-ghost use Rattle.mr_parse.specs.Parsing.{body_of, parsed, program_in, whole_of};
+ghost use Rattle.mr_grammar.specs.Parsing.{body_of, parsed, program_in, whole_of};
 ghost use Rattle.mr_words.specs.Places.{words_of};
 ghost use Rattle.mr_parse.specs.Views.{body_of_parts};
 
@@ -56,7 +56,7 @@ fn named(alloc: Global, tokens: &Tokens<'_>, tables: &Tables<'_>) -> Result<Part
 }
 
 // The program of the tokens: its names are found in a first reading, and stand for what they name in a second.
-#[tactic(auto, unfolding(crate::specs::Parsing::program_in))]
+#[tactic(auto, unfolding(mr_grammar::specs::Parsing::program_in))]
 fn program_in(alloc: Global, tokens: &Tokens<'_>) -> Result<Program, ReadFault>
     requires few { length tokens.now ≤ 2 ^ 20 }
     requires ascii { (n : ℕ) → IsAscii (text_at (words_of tokens.now) n) }

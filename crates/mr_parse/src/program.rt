@@ -4,7 +4,7 @@ ghost use Rattle.mr_ast.specs.declared.words.Bracket.TheVariants.{Curly, Round};
 ghost use Rattle.mr_ast.specs.Writing.{judged_target, listed, within, ◌▪◌, ◌◂◌, ◌▸◌, local_use};
 ghost use Rattle.mr_ast.specs.ProgramGrammar.{args_form, block_form, blocks_form, body_form, function_form, functions_form, global_form, globals_form, item_behind, item_form, items_form, judged_item, judged_kind, local_form, locals_form, program_form, reloc_form, repeat_form};
 ghost use Rattle.mr_parse.specs.Gives.{Gives};
-ghost use Rattle.mr_parse.specs.Reading.{first_at, read};
+ghost use Rattle.mr_grammar.specs.Reading.{first_at, read};
 ghost use Rattle.mr_parse.specs.Views.{body_of_parts, head_of, named, parts_of};
 
 use crate::reader::Reader;
@@ -129,7 +129,7 @@ impl<'a> Reader<'a> {
     }
 
     // The arguments of a function, in their brackets.
-    #[tactic(auto, using(crate::proofs::Walk::InsideLaws::inside))]
+    #[tactic(auto, using(mr_grammar::proofs::Walk::InsideLaws::inside))]
     fn args(
         &mut self,
         alloc: Global,
@@ -191,7 +191,7 @@ impl<'a> Reader<'a> {
     }
 
     // The locals and the blocks, in their braces.
-    #[tactic(auto, using(crate::proofs::Walk::InsideLaws::inside))]
+    #[tactic(auto, using(mr_grammar::proofs::Walk::InsideLaws::inside))]
     fn braced(&mut self, alloc: Global, scope: &Scope, room: u32) -> Result<Inner, ReadFault>
         ensures { Gives (λ i. (parts_of i, self.new)) result (read room scope.now (within Curly (codes "let" ▸ locals_form ◂ codes ";" ▪ blocks_form)) self.old) }
     {
@@ -333,7 +333,7 @@ impl<'a> Reader<'a> {
     }
 
     // The global of number k.
-    #[tactic(auto, unfolding(mr_ast::specs::ProgramGrammar::global_form), using(crate::proofs::Walk::InsideLaws::inside))]
+    #[tactic(auto, unfolding(mr_ast::specs::ProgramGrammar::global_form), using(mr_grammar::proofs::Walk::InsideLaws::inside))]
     fn global(
         &mut self,
         alloc: Global,

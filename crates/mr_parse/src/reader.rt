@@ -3,7 +3,7 @@ ghost use Rattle.std.specs.Prelude.{◌≡◌, ◌==◌, ◌-◌, ◌||◌, fals
 ghost use Rattle.mr_ast.specs.Forms.{Word, opening, closing};
 ghost use Rattle.mr_ast.specs.Writing.{block_use, is_word, judged_int, judged_name, judged_target, local_use, other_than};
 ghost use Rattle.mr_parse.specs.Gives.{Gives};
-ghost use Rattle.mr_parse.specs.Reading.{expected, first_at, is_next, limited, opened, read};
+ghost use Rattle.mr_grammar.specs.Reading.{expected, first_at, is_next, limited, opened, read};
 ghost use Rattle.mr_words.specs.Places.{words_of};
 ghost use Rattle.mr_parse.specs.Views.{beside_of, followed_by};
 

@@ -5,7 +5,7 @@ ghost use Rattle.mr_ast.specs.Forms.{Cases, Either, Part};
 ghost use Rattle.mr_ast.specs.Writing.{ThePlace, TheValue, block_use, listed, num_form, optional, ◌▸◌};
 ghost use Rattle.mr_ast.specs.ProgramGrammar.{assign_form, begins_stmt, call_form, disc_form, do_form, is_stmt_word, judged_intrinsic, judged_stmt, judged_term, stmt_behind, stmt_form, stmts_form, switch_case_form, switch_cases_form, switch_form, term_behind, term_form, unwind_form, values_form};
 ghost use Rattle.mr_parse.specs.Gives.{Gives};
-ghost use Rattle.mr_parse.specs.Reading.{first_at, is_next, read};
+ghost use Rattle.mr_grammar.specs.Reading.{first_at, is_next, read};
 ghost use Rattle.mr_parse.specs.Views.{call_end_form, called, called_behind, unwound, ways_form, ways_of};
 
 use crate::reader::{Reader, beside};
@@ -243,7 +243,7 @@ impl<'a> Reader<'a> {
         }
     }
 
-    #[tactic(auto, unfolding(mr_ast::specs::ProgramGrammar::switch_form), using(crate::proofs::Walk::InsideLaws::inside))]
+    #[tactic(auto, unfolding(mr_ast::specs::ProgramGrammar::switch_form), using(mr_grammar::proofs::Walk::InsideLaws::inside))]
     fn switch(&mut self, alloc: Global, scope: &Scope, room: u32) -> Result<Term, ReadFault>
         ensures { Gives (λ t. (t, self.new)) result (read room scope.now switch_form self.old) }
     {
@@ -319,7 +319,7 @@ impl<'a> Reader<'a> {
     }
 
     // The arguments of a call, in their brackets.
-    #[tactic(auto, using(crate::proofs::Walk::InsideLaws::inside))]
+    #[tactic(auto, using(mr_grammar::proofs::Walk::InsideLaws::inside))]
     fn values(&mut self, alloc: Global, scope: &Scope, room: u32) -> Result<Items<Value>, ReadFault>
         ensures { Gives (λ vs. (vs, self.new)) result (read room scope.now (listed Round values_form) self.old) }
     {

@@ -5,7 +5,7 @@ ghost use Rattle.mr_ast.specs.Forms.{Part};
 ghost use Rattle.mr_ast.specs.Writing.{TheTree, TheType, listed, num_form, ◌▪◌, ◌▸◌, ◌◂◌};
 ghost use Rattle.mr_ast.specs.TypeGrammar.{array_form, branch_form, case_form, cases_form, chunk_form, chunks_form, enum_form, field_form, fields_form, judged_tree, judged_type, ref_form, shape_form, tag_form, tags_form, tuple_type_form, union_type_form, variant_form, variants_form};
 ghost use Rattle.mr_parse.specs.Gives.{Gives};
-ghost use Rattle.mr_parse.specs.Reading.{first_at, read, read_outside, read_part};
+ghost use Rattle.mr_grammar.specs.Reading.{first_at, read, read_outside, read_part};
 ghost use Rattle.mr_parse.specs.Views.{shape_of};
 
 use crate::reader::{Reader, beside};
@@ -57,7 +57,7 @@ impl<'a> Reader<'a> {
 
     /// A type, in which so many brackets may be opened.
     #[cycle(types)]
-    #[tactic(auto, unfolding(crate::specs::Reading::read_part, mr_ast::specs::TypeGrammar::type_form))]
+    #[tactic(auto, unfolding(mr_grammar::specs::Reading::read_part, mr_ast::specs::TypeGrammar::type_form))]
     pub fn ty(&mut self, alloc: Global, scope: &Scope, room: u32) -> Result<Ty, ReadFault>
         ensures { Gives (λ t. (t, self.new)) result (read_part room scope.now TheType self.old) }
     {
@@ -104,7 +104,7 @@ impl<'a> Reader<'a> {
     }
 
     #[cycle(types)]
-    #[tactic(auto, unfolding(mr_ast::specs::TypeGrammar::array_form), using(crate::proofs::Walk::InsideLaws::inside))]
+    #[tactic(auto, unfolding(mr_ast::specs::TypeGrammar::array_form), using(mr_grammar::proofs::Walk::InsideLaws::inside))]
     fn array(&mut self, alloc: Global, scope: &Scope, room: u32) -> Result<Ty, ReadFault>
         ensures { Gives (λ t. (t, self.new)) result (read_outside room scope.now array_form self.old) }
     {
@@ -151,7 +151,7 @@ impl<'a> Reader<'a> {
     }
 
     #[cycle(types)]
-    #[tactic(auto, unfolding(crate::specs::Reading::read_part, mr_ast::specs::TypeGrammar::enum_form))]
+    #[tactic(auto, unfolding(mr_grammar::specs::Reading::read_part, mr_ast::specs::TypeGrammar::enum_form))]
     fn enumeration(&mut self, alloc: Global, scope: &Scope, room: u32) -> Result<Ty, ReadFault>
         ensures { Gives (λ t. (t, self.new)) result (read_outside room scope.now enum_form self.old) }
     {
@@ -171,7 +171,7 @@ impl<'a> Reader<'a> {
 
     // The fields of a type, in their brackets.
     #[cycle(types)]
-    #[tactic(auto, using(crate::proofs::Walk::InsideLaws::inside))]
+    #[tactic(auto, using(mr_grammar::proofs::Walk::InsideLaws::inside))]
     fn fields(
         &mut self,
         alloc: Global,
@@ -225,7 +225,7 @@ impl<'a> Reader<'a> {
     }
 
     // The chunks of a union, in their brackets.
-    #[tactic(auto, using(crate::proofs::Walk::InsideLaws::inside))]
+    #[tactic(auto, using(mr_grammar::proofs::Walk::InsideLaws::inside))]
     fn chunks(
         &mut self,
         alloc: Global,
@@ -278,7 +278,7 @@ impl<'a> Reader<'a> {
 
     // The variants of an enum, in their brackets.
     #[cycle(types)]
-    #[tactic(auto, using(crate::proofs::Walk::InsideLaws::inside))]
+    #[tactic(auto, using(mr_grammar::proofs::Walk::InsideLaws::inside))]
     fn variants(
         &mut self,
         alloc: Global,
@@ -364,7 +364,7 @@ impl<'a> Reader<'a> {
     }
 
     // The tags of a variant, in their brackets.
-    #[tactic(auto, using(crate::proofs::Walk::InsideLaws::inside))]
+    #[tactic(auto, using(mr_grammar::proofs::Walk::InsideLaws::inside))]
     fn tags(&mut self, alloc: Global, scope: &Scope, room: u32) -> Result<Items<Tag>, ReadFault>
         ensures { Gives (λ xs. (xs, self.new)) result (read room scope.now (listed Curly tags_form) self.old) }
     {
@@ -415,7 +415,7 @@ impl<'a> Reader<'a> {
 
     /// The tree of an enum, in which so many brackets may be opened.
     #[cycle(trees)]
-    #[tactic(auto, unfolding(crate::specs::Reading::read_part, mr_ast::specs::TypeGrammar::tree_form))]
+    #[tactic(auto, unfolding(mr_grammar::specs::Reading::read_part, mr_ast::specs::TypeGrammar::tree_form))]
     fn tree(&mut self, alloc: Global, scope: &Scope, room: u32) -> Result<Tree, ReadFault>
         ensures { Gives (λ t. (t, self.new)) result (read_part room scope.now TheTree self.old) }
     {
@@ -427,7 +427,7 @@ impl<'a> Reader<'a> {
     }
 
     #[cycle(trees)]
-    #[tactic(auto, unfolding(mr_ast::specs::TypeGrammar::branch_form), using(crate::proofs::Walk::InsideLaws::inside))]
+    #[tactic(auto, unfolding(mr_ast::specs::TypeGrammar::branch_form), using(mr_grammar::proofs::Walk::InsideLaws::inside))]
     fn branch(&mut self, alloc: Global, scope: &Scope, room: u32) -> Result<Tree, ReadFault>
         ensures { Gives (λ t. (t, self.new)) result (read_outside room scope.now branch_form self.old) }
     {

@@ -4,8 +4,8 @@ ghost use Rattle.mr_ast.specs.Forms.{Part};
 ghost use Rattle.mr_ast.specs.Writing.{ThePlace, TheType, TheValue, giving, num_form, u64_form, ◌▪◌, ◌◂◌};
 ghost use Rattle.mr_ast.specs.ValueGrammar.{base_form, begins_postfix, deref_form, global_value_form, judged_value, more_values_form, place_from, postfix_form, postfixes_form, value_behind, with_postfix};
 ghost use Rattle.mr_parse.specs.Gives.{Gives};
-ghost use Rattle.mr_parse.specs.Insides.{begins_with_type, is_bracketed, value_inside};
-ghost use Rattle.mr_parse.specs.Reading.{first_at, is_next, read, read_outside, read_part};
+ghost use Rattle.mr_grammar.specs.Insides.{begins_with_type, is_bracketed, value_inside};
+ghost use Rattle.mr_grammar.specs.Reading.{first_at, is_next, read, read_outside, read_part};
 ghost use Rattle.mr_parse.specs.Postfixes.{indexed, postfix_of, with_all};
 
 use crate::reader::{Reader, beside};
@@ -67,7 +67,7 @@ impl<'a> Reader<'a> {
 
     /// A value, in which so many brackets may be opened.
     #[cycle(values)]
-    #[tactic(auto, unfolding(crate::specs::Reading::read_part, mr_ast::specs::ValueGrammar::value_form))]
+    #[tactic(auto, unfolding(mr_grammar::specs::Reading::read_part, mr_ast::specs::ValueGrammar::value_form))]
     pub fn value(&mut self, alloc: Global, scope: &Scope<'_>, room: u32) -> Result<Value, ReadFault>
         ensures { Gives (λ v. (v, self.new)) result (read_part room scope.now TheValue self.old) }
     {
@@ -100,7 +100,7 @@ impl<'a> Reader<'a> {
 
     // What stands behind the first word of a value with brackets.
     #[cycle(values)]
-    #[tactic(auto, using(crate::proofs::Walk::InsideLaws::inside, crate::proofs::Walk::BracketLaws::behind_bracketed))]
+    #[tactic(auto, using(mr_grammar::proofs::Walk::InsideLaws::inside, mr_grammar::proofs::Walk::BracketLaws::behind_bracketed))]
     fn bracketed(
         &mut self,
         alloc: Global,
@@ -384,7 +384,7 @@ impl<'a> Reader<'a> {
 
     /// A place, in which so many brackets may be opened. Its first word may be one too many.
     #[cycle(values)]
-    #[tactic(auto, unfolding(crate::specs::Reading::read_part, mr_ast::specs::ValueGrammar::place_from))]
+    #[tactic(auto, unfolding(mr_grammar::specs::Reading::read_part, mr_ast::specs::ValueGrammar::place_from))]
     pub fn place(
         &mut self,
         alloc: Global,
@@ -418,7 +418,7 @@ impl<'a> Reader<'a> {
     }
 
     #[cycle(values)]
-    #[tactic(auto, unfolding(mr_ast::specs::ValueGrammar::deref_form), using(crate::proofs::Walk::InsideLaws::inside))]
+    #[tactic(auto, unfolding(mr_ast::specs::ValueGrammar::deref_form), using(mr_grammar::proofs::Walk::InsideLaws::inside))]
     fn deref(
         &mut self,
         alloc: Global,
@@ -493,7 +493,7 @@ impl<'a> Reader<'a> {
 
     // The postfix of number k.
     #[cycle(values)]
-    #[tactic(auto, unfolding(mr_ast::specs::ValueGrammar::postfix_form), using(crate::proofs::Walk::InsideLaws::inside))]
+    #[tactic(auto, unfolding(mr_ast::specs::ValueGrammar::postfix_form), using(mr_grammar::proofs::Walk::InsideLaws::inside))]
     fn postfix(
         &mut self,
         alloc: Global,

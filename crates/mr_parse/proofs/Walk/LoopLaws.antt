@@ -8,7 +8,7 @@ use Rattle.mr_words.specs.declared.fault.Stop.{Stop}
 use Rattle.mr_words.specs.declared.fault.ReadFault.{ReadFault}
 use Rattle.mr_words.specs.declared.fault.ReadFault.TheVariants.{At, Memory}
 use Rattle.mr_parse.specs.Gives.{Fails}
-use Rattle.mr_parse.specs.Reading.{◌>>=◌, Reads, expected, is_next, many_at, read, stop}
+use Rattle.mr_grammar.specs.Reading.{◌>>=◌, Reads, expected, is_next, many_at, read, stop}
 
 -- what is read, behind what was read before
 abbrev pub with_front : {A : Type 0} → List A → Result (List A × List Word) Stop → Result (List A × List Word) Stop

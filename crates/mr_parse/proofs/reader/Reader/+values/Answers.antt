@@ -4,7 +4,7 @@ use Rattle.mr_ast.specs.Forms.{Part}
 use Rattle.mr_ast.specs.Writing.{TheValue}
 use Rattle.mr_ast.specs.ValueGrammar.{begins_postfix, more_values_form, postfix_form, postfixes_form}
 use Rattle.mr_parse.specs.Postfixes.{postfix_of, with_all}
-use Rattle.mr_parse.specs.Reading.{read, read_outside}
+use Rattle.mr_grammar.specs.Reading.{read, read_outside}
 use Rattle.mr_parse.proofs.Walk.PostfixLaws.{postfix_goes_on, postfix_stops, postfix_is_done, postfix_is_past}
 use Rattle.mr_parse.proofs.Walk.LoopLaws.{comma_goes_on, comma_stops, comma_is_done, comma_is_past}
 use Rattle.mr_parse.proofs.reader.Reader.+values.Goals as goal

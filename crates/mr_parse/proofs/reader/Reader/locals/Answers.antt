@@ -2,7 +2,7 @@ use Rattle.std.proofs.Common.{◌≡◌, ◌+◌, suc, Ok, sym, subst, arith}
 use Rattle.std.proofs.lemmas.Result.{err_from_is_err_and}
 use Rattle.mr_ast.specs.ProgramGrammar.{local_form, locals_form}
 use Rattle.mr_parse.specs.Gives.{Fails}
-use Rattle.mr_parse.specs.Reading.{read}
+use Rattle.mr_grammar.specs.Reading.{read}
 use Rattle.mr_parse.proofs.Walk.LoopLaws.{comma_goes_on, comma_stops, comma_is_done, comma_is_past}
 use Rattle.mr_parse.proofs.reader.Reader.locals.Goals as goal
 
