@@ -5,7 +5,8 @@ ghost use Rattle.mr_grammar.specs.Reading.{first_at, read};
 
 use crate::reader::Reader;
 use mr_ast::Num;
-use mr_words::{BAD_NUMBER, ReadFault, Scope, UNEXPECTED, number_of};
+use mr_lex::BAD_NUMBER;
+use mr_words::{ReadFault, Scope, UNEXPECTED, number_of};
 
 impl<'a> Reader<'a> {
     /// A number below 2^64.

@@ -4,6 +4,7 @@ use Rattle.std.specs.Prelude.{flat_map}
 use Rattle.std.proofs.lemmas.Grind.{flat_map-append}
 use Rattle.std.proofs.lemmas.List.Folds.{flat_map-map}
 use Rattle.std.proofs.lemmas.Option.{slice_get_within}
+use Rattle.mr_base.proofs.Comparisons.{lt_test}
 use Rattle.mr_ast.specs.declared.program.Block.{Block}
 use Rattle.mr_ast.specs.declared.program.BlockKind.{BlockKind}
 use Rattle.mr_ast.specs.declared.program.BlockKind.TheVariants as kind
@@ -30,7 +31,6 @@ use Rattle.mr_grammar.proofs.Canon.CanonStmts.{local_use_stands, stmt_stands, te
 use Rattle.mr_grammar.proofs.Canon.CanonTypes.{type_part_stands}
 use Rattle.mr_grammar.proofs.Canon.KnownNames.{all_at, block_name_stands, few_at, function_name_stands, known_names, local_name_stands}
 use Rattle.mr_words.proofs.ScopeLaws.{scope_at}
-use Rattle.mr_grammar.proofs.Shape.ShapedNames.{less_test}
 
 -- ---- words by lines
 
@@ -132,7 +132,7 @@ module _ (p : Program) (shaped : Shaped p) (named : IsNamed p) (fits : ProgramFi
   args_stand (x ∷ xs) all =
       let inside : x.0 < length f.locals = all 0 x (omega arith) in
       let known = known_names p shaped named k f at in (
-        local_use_stands (named_in p f) (texts_in p f) scope known x (less_test x.0 (length f.locals) inside),
+        local_use_stands (named_in p f) (texts_in p f) scope known x (lt_test x.0 (length f.locals) inside),
         args_stand xs (λ i y lt. all (suc i) y (omega arith)),
       )
 
@@ -148,7 +148,7 @@ module _ (p : Program) (shaped : Shaped p) (named : IsNamed p) (fits : ProgramFi
       let known = known_names p shaped named k f at in
       let some : 0 < length f.locals = omega (arith, good.ret) in
       let args = stands_listed {room = 32} {part = SomePart 32} {scope = scope} {bracket = Round} (argument_words p f) f.args refl (args_stand f.args good.args) in
-      let ret = local_use_stands (named_in p f) (texts_in p f) scope known {room = 32} {part = SomePart 32} f.ret (less_test f.ret.0 (length f.locals) good.ret) in
+      let ret = local_use_stands (named_in p f) (texts_in p f) scope known {room = 32} {part = SomePart 32} f.ret (lt_test f.ret.0 (length f.locals) good.ret) in
       let inner = stands_pair (stands_before (codes "let") (stands_behind (locals_stand f.locals refl some) (codes ";"))) (blocks_stand f.blocks refl good.has_start) in
       let body = stands_then (stands_pair args (stands_before (codes "->") ret)) (stands_within {room = 32} {bracket = Curly} refl inner) refl refl in
       let words = function_words_are

@@ -2,6 +2,7 @@
 use Rattle.std.proofs.Common.{◌≡◌, ℕ, ◌-◌, ◌≤◌, ◌<◌, ◌^◌, ◌==◌, Bool, true, false, if◌then◌else◌, [], ◌∷◌, codes, slice_get, Some, None, refl, sym, subst, arith}
 use Rattle.std.specs.Prelude.{decimal, nat_le}
 use Rattle.std.proofs.lemmas.Bool.Decides.{nat_tests}
+use Rattle.mr_base.proofs.Comparisons.{lt_test}
 use Rattle.mr_ast.specs.declared.program.Global_.{Global_}
 use Rattle.mr_ast.specs.declared.program.Item_.{Item_}
 use Rattle.mr_ast.specs.declared.program.Item_.TheVariants as item
@@ -20,7 +21,6 @@ use Rattle.mr_grammar.proofs.Canon.CanonForms.{Parts, Stands, each_stand, stands
 use Rattle.mr_grammar.proofs.Canon.CanonNumbers.{is_number-decimal, stands_repeat, stands_u64, value_of-decimal}
 use Rattle.mr_grammar.proofs.Canon.KnownNames.{all_at, global_name_stands, target_use_stands}
 use Rattle.mr_words.proofs.ScopeLaws.{scope_at}
-use Rattle.mr_grammar.proofs.Shape.ShapedNames.{less_test}
 
 byte_judged : (v k : ℕ) → v ≤ 255 → judged_item (record { text = decimal v; place = k }) ≡ Some (item_word.Byte v, None)
 unfolding judged_item
@@ -47,7 +47,7 @@ module _ (p : Program) (shaped : Shaped p) (named : IsNamed p) (j : ℕ) where
   item_stands (item.Uninit repeat) is = stands_cases {i = item_word.Uninit} (λ k. refl) (stands_giving (repeat_stands repeat is) refl)
   item_stands (item.Reloc to offset) is =
       stands_cases {i = item_word.Reloc} (λ k. refl)
-      (stands_then (target_use_stands p shaped named j to is.0) (stands_before (codes "+") (stands_u64 offset (less_test offset (2 ^ 64) is.1))) refl refl)
+      (stands_then (target_use_stands p shaped named j to is.0) (stands_before (codes "+") (stands_u64 offset (lt_test offset (2 ^ 64) is.1))) refl refl)
 
   pub global_stands : {room : ℕ} {part : Parts} (k : ℕ) (g : Global_) → slice_get p.globals k ≡ Some g → (room == 0) ≡ false
       → Stands room part (scope_at (definitions_of p) j) (global_form k) g (global_line p g)
@@ -56,5 +56,5 @@ module _ (p : Program) (shaped : Shaped p) (named : IsNamed p) (j : ℕ) where
       let good = all_at (ShapedGlobal p) p.globals k g shaped.globals at in
       let items = each_stand {room = room - 1} {part = SomePart (room - 1)} {scope = scope_at (definitions_of p) j} (λ i. item_form) (words_of_item p) g.items
       (λ i x here. item_stands x (all_at (ShapedItem p) g.items i x good.items here)) in
-      let head = stands_pair (global_name_stands p shaped named j k g at) (stands_before (codes "align") (stands_u64 g.align (less_test g.align (2 ^ 64) good.align))) in
+      let head = stands_pair (global_name_stands p shaped named j k g at) (stands_before (codes "align") (stands_u64 g.align (lt_test g.align (2 ^ 64) good.align))) in
       stands_before (codes "global") (stands_then head (stands_within {bracket = Curly} some (stands_many {test = other_than (codes "}")} (words_of_item p) items)) refl refl)

@@ -6,6 +6,7 @@ use Rattle.std.proofs.lemmas.Bool.{cases_lt}
 use Rattle.std.proofs.lemmas.Bool.Decides.{nat_tests}
 use Rattle.std.proofs.lemmas.List.{get_or-append-add, get_or_append_left}
 use Rattle.std.proofs.lemmas.Option.{slice_get-get_or, slice_get_within}
+use Rattle.mr_base.proofs.Options.{some_is}
 use Rattle.mr_ast.specs.Words.{Texts}
 use Rattle.mr_ast.specs.Scope.{each_once, number_in, with_text}
 use Rattle.mr_ast.specs.CanonValues.{text_at}
@@ -17,13 +18,10 @@ use Rattle.mr_words.proofs.NamingLaws.{any_first, any_none, place_first}
 text_here : (texts : Texts) (k : ℕ) → k < length texts → slice_get texts k ≡ Some (text_at texts k)
 text_here texts k inside = slice_get-get_or texts k [] inside
 
-same_some : {A : Type 0} {x y : A} → Some x ≡ Some y → x ≡ y
-same_some e = cc
-
 pub place_distinct : (texts : Texts) (k : ℕ) → IsDistinct texts → k < length texts → position_or_len (bytes_eq (text_at texts k)) texts ≡ k
 place_distinct texts k distinct inside = place_first (text_at texts k) texts k (record {
   here = text_here texts k inside;
-  first = λ j before at. distinct j k before inside (same_some (sym (text_here texts j (omega arith)) ∙ at));
+  first = λ j before at. distinct j k before inside (some_is (sym (text_here texts j (omega arith)) ∙ at));
 })
 
 -- a text that isn't there yet goes to the end
@@ -35,7 +33,7 @@ added front x rest distinct =
     (let before : k < length front = slice_get_within front k x at in
     let there : text_at whole k ≡ text_at front k = get_or_append_left front (x ∷ rest) [] k before in
     let inside : length front < length whole = omega (arith, length-append front (x ∷ rest)) in
-    distinct k (length front) before inside (there ∙ same_some (sym (text_here front k before) ∙ at) ∙ sym here))) in
+    distinct k (length front) before inside (there ∙ some_is (sym (text_here front k before) ∙ at) ∙ sym here))) in
     rw absent refl
 
 once_from : (front rest : Texts) → IsDistinct (front ++ rest) → fold with_text front rest ≡ front ++ rest

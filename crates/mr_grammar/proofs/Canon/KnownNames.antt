@@ -6,6 +6,7 @@ use Rattle.std.proofs.lemmas.Bool.Decides.{nat_tests}
 use Rattle.std.proofs.lemmas.List.{get_or-append-add, get_or_append_left, length-map}
 use Rattle.std.proofs.lemmas.List.Elements.{All-get_or, All-map, All-weaker}
 use Rattle.std.proofs.lemmas.Option.{get_or_from_slice_get, slice_get-map, slice_get_within}
+use Rattle.mr_base.proofs.Comparisons.{lt_from, lt_test}
 use Rattle.mr_ast.specs.declared.program.Block.{Block}
 use Rattle.mr_ast.specs.declared.program.FnName.{FnName}
 use Rattle.mr_ast.specs.declared.program.Function.{Function}
@@ -27,7 +28,6 @@ use Rattle.mr_grammar.proofs.Canon.CanonForms.{Parts, Stands, stands_cases, stan
 use Rattle.mr_grammar.proofs.Canon.CanonNameLaws.{each_once-distinct, number_distinct, place_distinct}
 use Rattle.mr_grammar.proofs.Canon.CanonValues.{Known}
 use Rattle.mr_words.proofs.ScopeLaws.{scope_at}
-use Rattle.mr_grammar.proofs.Shape.ShapedNames.{less_test, test_less}
 
 -- ---- what stands at a position of a list
 
@@ -57,7 +57,7 @@ name_stands over role d f n text few name is = stands_cases {i = n} (λ k. rw fe
 used_global : (d : Definitions) (f n : ℕ) (text : List ℕ) → n < length d.globals → number_in (item_names d) text ≡ Some n → number_of_name d f UsesGlobal text ≡ (n, None)
 unfolding number_of_name
 used_global d f n text inside number =
-    ap (λ found. used_in (as_global (length d.globals) found)) number ∙ ap (λ b. used_in (if b then Some n else None)) (less_test n (length d.globals) inside)
+    ap (λ found. used_in (as_global (length d.globals) found)) number ∙ ap (λ b. used_in (if b then Some n else None)) (lt_test n (length d.globals) inside)
 
 not_less : (m n : ℕ) → nat_lt (m + n) m ≡ false
 not_less m n = grind (arith, nat_tests)
@@ -79,7 +79,7 @@ unfolding number_of_name
 used_block d f n text number = ap used_in number
 
 target_global : (globals n : ℕ) → n < globals → target_of globals (Some n) ≡ (target.Global (record { 0 = n }), None)
-target_global globals n inside = rw (less_test n globals inside) refl
+target_global globals n inside = rw (lt_test n globals inside) refl
 
 target_function : (globals n : ℕ) → target_of globals (Some (globals + n)) ≡ (target.Function (record { 0 = n }), None)
 target_function globals n =
@@ -225,17 +225,17 @@ module _ (p : Program) (shaped : Shaped p) (named : IsNamed p) where
     pub known_names : Known (named_in p f) (texts_in p f) (scope_at d k)
     known_names = record {
       globals = λ n j is.
-          (let inside = test_less n (length p.globals) is in
+          (let inside = lt_from n (length p.globals) is in
           let small : n < length (global_texts p) = omega (arith, globals_length) in
           let text = text_at (global_texts p) n in
           judged_so UsesGlobal (scope_at d k) text j n (global_is_name n inside) (used_global d k n text small (global_number n inside)));
-      functions = λ n j is. function_judged k n j (test_less n (length p.functions) is);
+      functions = λ n j is. function_judged k n j (lt_from n (length p.functions) is);
       locals = λ n j is.
-          (let inside = test_less n (length f.locals) is in
+          (let inside = lt_from n (length f.locals) is in
           let text = text_at (local_texts p f) n in
           judged_so UsesLocal (scope_at d k) text j n (names_at (local_texts p f) n local_names (omega (arith, locals_length))) (used_local d k n text (local_number n inside)));
       blocks = λ n j is.
-          (let inside = test_less n (length f.blocks) is in
+          (let inside = lt_from n (length f.blocks) is in
           let text = text_at (block_texts p f) n in
           judged_so UsesBlock (scope_at d k) text j n (names_at (block_texts p f) n block_names (omega (arith, blocks_length))) (used_block d k n text (block_number n inside)));
     }

@@ -5,6 +5,8 @@ use Rattle.std.proofs.lemmas.Bool.Decides.{nat_tests}
 use Rattle.std.proofs.lemmas.List.Elements.{All-cons, All-nil}
 use Rattle.std.proofs.lemmas.List.Quantifiers.{position-Some}
 use Rattle.std.proofs.lemmas.Slice.Eq.{bytes_eq-Decides}
+use Rattle.mr_base.proofs.Comparisons.{eq_from}
+use Rattle.mr_base.proofs.Options.{some_is}
 use Rattle.mr_ast.specs.declared.words.Role.TheVariants.{DefinesBlock, DefinesFunction, DefinesGlobal, DefinesLocal}
 use Rattle.mr_ast.specs.Forms.{Word}
 use Rattle.mr_ast.specs.Scope.{Definitions, all_names, defined_in, function_names, is_number, item_names, names_of, number_in, number_of_name}
@@ -18,7 +20,6 @@ use Rattle.mr_grammar.proofs.Walk.EnsureLaws.{EachFrom}
 use Rattle.mr_words.proofs.NamingLaws.{block_named, item_named, local_named, position_from_among}
 use Rattle.mr_words.proofs.PlaceLaws.{StandsIn}
 use Rattle.mr_words.proofs.ScopeLaws.{once-any, scope_at}
-use Rattle.mr_grammar.proofs.Shape.ShapedNumbers.{some_same}
 use Rattle.mr_grammar.proofs.Names.TwoScopes.{EachTwo}
 
 -- the word at a place is a name, the text of this number, and the one of number k in its space
@@ -34,10 +35,7 @@ text_back d text among =
     sym ((bytes_eq-Decides text _).0 (position-Some (bytes_eq text) (names_of d) _ [] there).1)
 
 number_is : (k : ℕ) (found : Option ℕ) → is_number k found ≡ true → found ≡ Some k
-number_is k (Some n) e = ap Some (same n k e)
-  where
-    same : (a b : ℕ) → (a == b) ≡ true → a ≡ b
-    same a b t = grind (arith, nat_tests)
+number_is k (Some n) e = ap Some (eq_from n k e)
 number_is k None e = absurd (cc)
 
 defined_back : (d : Definitions) (words : List Word) (space : Texts) (k number place : ℕ) (w : Word) → StandsIn words w → place ≡ w.place → is_name w.text ≡ true
@@ -116,7 +114,7 @@ pub space_distinct : (space : Texts) → EachFrom (λ k text. number_in space te
 space_distinct space each i j before inside same =
     let one = text_first (λ k text. number_in space text ≡ Some k) 0 space i each (omega (arith, before, inside)) in
     let other = text_first (λ k text. number_in space text ≡ Some k) 0 space j each inside in
-    let both : 0 + i ≡ 0 + j = some_same (sym one ∙ ap (number_in space) same ∙ other) in absurd (omega (arith, both, before))
+    let both : 0 + i ≡ 0 + j = some_is (sym one ∙ ap (number_in space) same ∙ other) in absurd (omega (arith, both, before))
 
 -- numbers that are counted from another on
 pub each_shifted : {A : Type 0} (P : ℕ → A → Type 0) (m k : ℕ) (xs : List A) → EachFrom (λ j. P (m + j)) k xs → EachFrom P (m + k) xs

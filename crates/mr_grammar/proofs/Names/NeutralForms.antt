@@ -1,5 +1,6 @@
 -- In each form of the grammar names alone are judged by what they stand for, and nothing stands behind a name that hangs on it.
 use Rattle.std.proofs.Common.{◌≡◌, ◌≢◌, ℕ, ◌⊎◌, inl, inr, Bool, true, false, if◌then◌else◌, List, codes, bytes_eq, Option, Some, None, option_map, refl, ap, nat_le}
+use Rattle.mr_base.proofs.Options.{some_is}
 use Rattle.mr_ast.specs.declared.program.Target.{Target}
 use Rattle.mr_ast.specs.declared.words.Role.{Role}
 use Rattle.mr_ast.specs.declared.words.Role.TheVariants.{DefinesFunction}
@@ -38,9 +39,6 @@ pub record IsRenaming (Alike : Scope → Scope → Type 0) (Kept : Option ℕ �
   pub number : (s t : Scope) → Alike s t → (role : Role) (w : Word) → Kept (name_number s role w).1 (name_number t role w).1
   pub target : (s t : Scope) → Alike s t → (w : Word) → Kept (name_target s w).1 (name_target t w).1
 
-some_same : {A : Type 0} {x y : A} → ◌≡◌ {A = Option A} (Some x) (Some y) → x ≡ y
-some_same e = cc
-
 pub none_plain : IsPlain None
 none_plain = ((λ e. absurd (cc)), λ e. absurd (cc))
 
@@ -49,7 +47,7 @@ limit_plain code true p = p
 limit_plain code false p = none_plain
 
 code_plain : (code : ℕ) → code ≢ 5 → code ≢ 6 → IsPlain (Some code)
-code_plain code five six = ((λ e. five (some_same e)), λ e. six (some_same e))
+code_plain code five six = ((λ e. five (some_is e)), λ e. six (some_is e))
 
 two_plain : IsPlain (Some 2)
 two_plain = code_plain 2 (λ e. absurd (cc)) (λ e. absurd (cc))
@@ -71,7 +69,7 @@ none_all : {I : Type 0} → AllPlain {I = I} None
 none_all i flaw e = absurd (cc)
 
 one_all : {I : Type 0} (j : I) (f : Option ℕ) → IsPlain f → AllPlain (Some (j, f))
-one_all j f p i flaw e = let same : f ≡ flaw = ap (λ r. r.1) (some_same e) in rw same at p
+one_all j f p i flaw e = let same : f ≡ flaw = ap (λ r. r.1) (some_is e) in rw same at p
 
 fine_all : {I : Type 0} (o : Option I) → AllPlain (fine o)
 fine_all None = none_all
@@ -95,7 +93,7 @@ if_plain true a b all_a all_b = all_a
 if_plain false a b all_a all_b = all_b
 
 some_plain : (f : Option ℕ) → IsPlain f → (g : Option ℕ) → Some f ≡ Some g → IsPlain g
-some_plain f p g e = let same : f ≡ g = some_same e in rw same at p
+some_plain f p g e = let same : f ≡ g = some_is e in rw same at p
 
 no_plain : (g : Option ℕ) → None ≡ Some g → IsPlain g
 no_plain g e = absurd (cc)
@@ -161,7 +159,7 @@ module _ {Alike : Scope → Scope → Type 0} {Kept : Option ℕ → Option ℕ 
           → ◌≡◌ {A = Judged ℕ} (if b then Some ((name_number s role w).0, if over then Some 8 else (name_number s role w).1) else None) (Some (i, flaw))
           → (j : ℕ) × (other : Option ℕ) × (judged_name over role t w ≡ Some (j, other)) × Kept flaw other × ((j ≡ i) ⊎ (true ≡ true) × (true ≡ true))
       go s t w i flaw alike true is e =
-          let same : (if over then Some 8 else (name_number s role w).1) ≡ flaw = ap (λ p. p.1) (some_same e) in
+          let same : (if over then Some 8 else (name_number s role w).1) ≡ flaw = ap (λ p. p.1) (some_is e) in
           ((name_number t role w).0, if over then Some 8 else (name_number t role w).1, rw is refl, rw (← same) (flaw_kept s t alike w over), inr (refl, refl))
       go s t w i flaw alike false is e = absurd (cc)
 
@@ -172,7 +170,7 @@ module _ {Alike : Scope → Scope → Type 0} {Kept : Option ℕ → Option ℕ 
       go : (s t : Scope) (w : Word) (i : Target) (flaw : Option ℕ) → Alike s t → (b : Bool) → is_name w.text ≡ b → ◌≡◌ {A = Judged Target} (if b then Some (name_target s w) else None) (Some (i, flaw))
           → (j : Target) × (other : Option ℕ) × (judged_target t w ≡ Some (j, other)) × Kept flaw other × ((j ≡ i) ⊎ (true ≡ true) × (true ≡ true))
       go s t w i flaw alike true is e =
-          let same : (name_target s w).1 ≡ flaw = ap (λ p. p.1) (some_same e) in
+          let same : (name_target s w).1 ≡ flaw = ap (λ p. p.1) (some_is e) in
           ((name_target t w).0, (name_target t w).1, rw is refl, rw (← same) (r.target s t alike w), inr (refl, refl))
       go s t w i flaw alike false is e = absurd (cc)
 

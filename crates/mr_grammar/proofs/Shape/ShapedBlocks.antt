@@ -3,6 +3,7 @@ use Rattle.std.proofs.Common.{◌≡◌, ℕ, suc, ◌+◌, ◌-◌, ◌≤◌, 
 use Rattle.std.specs.Prelude.{option_map}
 use Rattle.std.specs.List.{AllByRecursion}
 use Rattle.std.proofs.lemmas.List.Sums.{AllPass-from_list_all}
+use Rattle.mr_base.proofs.Options.{some_is}
 use Rattle.mr_ast.specs.declared.program.Function.{Function}
 use Rattle.mr_ast.specs.declared.program.Program.{Program}
 use Rattle.mr_ast.specs.declared.words.StmtWord.{StmtWord}
@@ -20,7 +21,7 @@ use Rattle.mr_ast.specs.ProgramGrammar.{assign_form, block_form, call_form, disc
 use Rattle.mr_ast.specs.Spelled.{SpelledPart}
 use Rattle.mr_grammar.proofs.Walk.EnsureLaws.{EachFrom, Ensures, Parts, ensures_all, ensures_also, ensures_before, ensures_behind, ensures_cases, ensures_either, ensures_empty, ensures_giving, ensures_listed, ensures_many, ensures_optional, ensures_pair, ensures_separated, ensures_then, ensures_token, ensures_within}
 use Rattle.mr_grammar.proofs.Shape.ShapedNames.{below, ensures_block_name, ensures_block_use, ensures_local_use}
-use Rattle.mr_grammar.proofs.Shape.ShapedNumbers.{all_pass, both, ensures_num, some_same}
+use Rattle.mr_grammar.proofs.Shape.ShapedNumbers.{all_pass, both, ensures_num}
 use Rattle.mr_grammar.proofs.Shape.ShapedValues.{ensures_place_part, ensures_value_part, places_shaped, values_shaped}
 use Rattle.mr_words.proofs.ScopeLaws.{named_at, scope_at}
 
@@ -41,7 +42,7 @@ stmt_fine over w i e = go over (looked_up stmt_words w.text) e
   where
     go : (many : Bool) (found : Option StmtWord) → ◌≡◌ {A = Option (StmtWord × Option ℕ)} (option_map {U = StmtWord × Option ℕ} (λ s. (s, limit 8 many)) found) (Some (i, None)) → many ≡ false
     go many None e = absurd (cc)
-    go true (Some s) e = let clash = ap (λ p. p.1) (some_same e) in absurd (cc)
+    go true (Some s) e = let clash = ap (λ p. p.1) (some_is e) in absurd (cc)
     go false (Some s) e = refl
 
 ensures_switch_case : {height room : ℕ} {part : Parts} (d : Definitions) (k : ℕ) → Ensures height room part (scope_at d k) switch_case_form (λ c. is_shaped_target (named_at d k) c ≡ true)

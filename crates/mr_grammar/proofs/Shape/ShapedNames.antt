@@ -2,6 +2,8 @@
 use Rattle.std.proofs.Common.{◌≡◌, ℕ, ◌+◌, ◌-◌, ◌<◌, ◌≤◌, Bool, true, false, if◌then◌else◌, List, length, map, Option, None, Some, refl, ap, sym, ◌∙◌, arith}
 use Rattle.std.specs.Prelude.{nat_le, nat_lt}
 use Rattle.std.proofs.lemmas.Bool.Decides.{nat_tests}
+use Rattle.mr_base.proofs.Comparisons.{lt_from, lt_test}
+use Rattle.mr_base.proofs.Options.{some_is}
 use Rattle.mr_ast.specs.declared.words.Role.{Role}
 use Rattle.mr_ast.specs.declared.words.Role.TheVariants.{DefinesGlobal, DefinesFunction, DefinesLocal, DefinesBlock, UsesGlobal, UsesFunction, UsesLocal, UsesBlock}
 use Rattle.mr_ast.specs.declared.program.Target.{Target}
@@ -14,14 +16,7 @@ use Rattle.std.proofs.lemmas.List.{length-append, length-map}
 use Rattle.mr_ast.specs.Words.{is_name}
 use Rattle.mr_ast.specs.Writing.{block_use, function_use, global_use, judged_name, judged_target, local_use, name_form, target_use}
 use Rattle.mr_grammar.proofs.Walk.EnsureLaws.{Ensures, Parts, ensures_giving, ensures_cases, ensures_empty}
-use Rattle.mr_grammar.proofs.Shape.ShapedNumbers.{some_same}
 use Rattle.mr_words.proofs.ScopeLaws.{define_block, define_function, define_global, define_local, named_at, number_within, scope_at, use_block, use_function, use_global, use_local}
-
-pub less_test : (m n : ℕ) → m < n → nat_lt m n ≡ true
-less_test m n le = grind (arith, nat_tests)
-
-pub test_less : (m n : ℕ) → nat_lt m n ≡ true → m < n
-test_less m n e = grind (arith, nat_tests)
 
 pub below : (m n : ℕ) → nat_le n m ≡ false → m < n
 below m n e = grind (arith, nat_tests)
@@ -36,8 +31,8 @@ name_fine over role scope w n e = go (is_name w.text) over (name_number scope ro
         → ◌≡◌ {A = Option (ℕ × Option ℕ)} (if name then Some (found.0, if many then Some 8 else found.1) else None) (Some (n, None))
         → (many ≡ false) × (is_name w.text ≡ true) × (found ≡ (n, None))
     go false many found is e = absurd (cc)
-    go true true found is e = let clash = ap (λ p. p.1) (some_same e) in absurd (cc)
-    go true false found is e = (refl, is, some_same e)
+    go true true found is e = let clash = ap (λ p. p.1) (some_is e) in absurd (cc)
+    go true false found is e = (refl, is, some_is e)
 
 -- a target is one of the text's globals or functions
 abbrev pub IsWithin : Named → Target → Type 0
@@ -54,7 +49,7 @@ target_fine d k (Some n) t within e = rw (sym (ap (λ p. p.0) e)) (go (nat_lt n 
 
     go : (small : Bool) → nat_lt n (length d.globals) ≡ small
         → IsWithin (named_at d k) (if small then target.Global (record { 0 = n }) else target.Function (record { 0 = n - length d.globals }))
-    go true h = test_less n (length d.globals) h
+    go true h = lt_from n (length d.globals) h
     go false h = omega (arith, more n (length d.globals) h, within n refl)
 
 items-length : (d : Definitions) → length (item_names d) ≡ length d.globals + length d.functions
@@ -67,16 +62,16 @@ module _ {height room : ℕ} {part : Parts} (d : Definitions) (k : ℕ) where
   ensures_name {over} role law = ensures_cases (λ w n e. (let fine = name_fine over role (scope_at d k) w n e in ensures_empty (fine.0, law w.text n fine.2)))
 
   pub ensures_local_use : Ensures height room part (scope_at d k) local_use (λ x. is_local (named_at d k) x ≡ true)
-  ensures_local_use = ensures_giving (ensures_name UsesLocal (λ text n e. use_local d k n text e)) (λ n p. less_test n (named_at d k).locals p.1)
+  ensures_local_use = ensures_giving (ensures_name UsesLocal (λ text n e. use_local d k n text e)) (λ n p. lt_test n (named_at d k).locals p.1)
 
   pub ensures_block_use : Ensures height room part (scope_at d k) block_use (λ b. is_block (named_at d k) b ≡ true)
-  ensures_block_use = ensures_giving (ensures_name UsesBlock (λ text n e. use_block d k n text e)) (λ n p. less_test n (named_at d k).blocks p.1)
+  ensures_block_use = ensures_giving (ensures_name UsesBlock (λ text n e. use_block d k n text e)) (λ n p. lt_test n (named_at d k).blocks p.1)
 
   pub ensures_function_use : Ensures height room part (scope_at d k) function_use (λ f. nat_lt f.0 (named_at d k).functions ≡ true)
-  ensures_function_use = ensures_giving (ensures_name UsesFunction (λ text n e. use_function d k n text e)) (λ n p. less_test n (named_at d k).functions p.1)
+  ensures_function_use = ensures_giving (ensures_name UsesFunction (λ text n e. use_function d k n text e)) (λ n p. lt_test n (named_at d k).functions p.1)
 
   pub ensures_global_use : Ensures height room part (scope_at d k) global_use (λ g. nat_lt g.0 (named_at d k).globals ≡ true)
-  ensures_global_use = ensures_giving (ensures_name UsesGlobal (λ text n e. use_global d k n text e)) (λ n p. less_test n (named_at d k).globals p.1)
+  ensures_global_use = ensures_giving (ensures_name UsesGlobal (λ text n e. use_global d k n text e)) (λ n p. lt_test n (named_at d k).globals p.1)
 
   pub ensures_target_use : Ensures height room part (scope_at d k) target_use (IsWithin (named_at d k))
   unfolding judged_target
@@ -86,7 +81,7 @@ module _ {height room : ℕ} {part : Parts} (d : Definitions) (k : ℕ) where
       go w t false e = absurd (cc)
       go w t true e =
           target_fine d k (number_in (item_names d) w.text) t
-          (λ n found. (let within = number_within (item_names d) w.text n found in omega (arith, items-length d))) (some_same e)
+          (λ n found. (let within = number_within (item_names d) w.text n found in omega (arith, items-length d))) (some_is e)
 
   -- names that are defined
   pub ensures_global_name : {over : Bool} (j : ℕ) → Ensures height room part (scope_at d k) (name_form over (DefinesGlobal j)) (λ n. (over ≡ false) × (n < length (names_of d)))

@@ -4,6 +4,8 @@ use Rattle.std.specs.Prelude.{option_map, nat_lt, nat_le}
 use Rattle.std.specs.List.{AllByRecursion, list_all}
 use Rattle.std.proofs.lemmas.Bool.{and_parts}
 use Rattle.std.proofs.lemmas.Bool.Decides.{nat_tests}
+use Rattle.mr_base.proofs.Comparisons.{le_from, lt_from, not_false}
+use Rattle.mr_base.proofs.Options.{some_is}
 use Rattle.mr_ast.specs.Forms.{Word}
 use Rattle.mr_ast.specs.Scope.{Scope}
 use Rattle.mr_ast.specs.Shaped.{IsRepeat}
@@ -21,9 +23,6 @@ pub all_pass : {A : Type 0} (test : A → Bool) (xs : List A) → AllByRecursion
 all_pass test [] all = refl
 all_pass test (x ∷ xs) all = both all.0 (all_pass test xs all.1)
 
-pub some_same : {A : Type 0} {x y : A} → Some x ≡ Some y → x ≡ y
-some_same e = cc
-
 -- a number that may stand there and breaks no limit
 pub number_fine : (judge : ℕ → Option (Option ℕ)) (w : Word) (n : ℕ) → judged_number judge w ≡ Some (n, None) → (is_number w.text ≡ true) × (n ≡ value_of w.text) × (judge n ≡ Some None)
 number_fine judge w n e = go (is_number w.text) (judge (value_of w.text)) refl refl e
@@ -33,17 +32,13 @@ number_fine judge w n e = go (is_number w.text) (judge (value_of w.text)) refl r
     go false verdict is same at = absurd (cc)
     go true None is same at = absurd (cc)
     go true (Some flaw) is same at =
-        let pair = some_same at in
+        let pair = some_is at in
         let value = sym (ap (λ p. p.0) pair) in
         (is, value, ap judge value ∙ same ∙ ap Some (ap (λ p. p.1) pair))
 
 limit_kept : (code : ℕ) (broken : Bool) → Some (limit code broken) ≡ Some None → broken ≡ false
 limit_kept code true e = absurd (cc)
 limit_kept code false e = refl
-
-not_false : (b : Bool) → not b ≡ false → b ≡ true
-not_false true e = refl
-not_false false e = absurd (cc)
 
 -- a number below 2^128
 number_small : (text : List ℕ) → is_number text ≡ true → nat_lt (value_of text) (2 ^ 128) ≡ true
@@ -67,13 +62,7 @@ minus_shaped : (n : ℕ) → nat_lt n (2 ^ 128) ≡ true → (n == 0) ≡ false 
 minus_shaped n small some = both small (ap not some)
 
 repeat_shaped : (n : ℕ) → (nat_lt 0 n && nat_le n (2 ^ 20)) ≡ true → IsRepeat n
-repeat_shaped n e = let tests = and_parts (nat_lt 0 n) (nat_le n (2 ^ 20)) e in record { some = some n tests.0; bounded = bounded n (2 ^ 20) tests.1 }
-  where
-    some : (m : ℕ) → nat_lt 0 m ≡ true → 1 ≤ m
-    some m p = grind (arith, nat_tests)
-
-    bounded : (m k : ℕ) → nat_le m k ≡ true → m ≤ k
-    bounded m k p = grind (arith, nat_tests)
+repeat_shaped n e = let tests = and_parts (nat_lt 0 n) (nat_le n (2 ^ 20)) e in record { some = lt_from 0 n tests.0; bounded = le_from n (2 ^ 20) tests.1 }
 
 small_value : (judge : ℕ → Option (Option ℕ)) (w : Word) (n : ℕ) → judged_number judge w ≡ Some (n, None) → nat_lt n (2 ^ 128) ≡ true
 small_value judge w n e = let fine = number_fine judge w n e in ap (λ m. nat_lt m (2 ^ 128)) fine.1 ∙ number_small w.text fine.0
@@ -101,5 +90,5 @@ module _ {height room : ℕ} {part : Parts} {scope : Scope} where
   ensures_limited code over {text} = ensures_cases (λ w i e. ensures_empty (kept (bytes_eq w.text text) i e))
     where
       kept : (same : Bool) (i : Unit {0}) → ◌≡◌ {A = Option (Unit {0} × Option ℕ)} (if same then Some (tt, limit code over) else None) (Some (i, None)) → over ≡ false
-      kept true i e = limit_kept code over (ap Some (ap (λ p. p.1) (some_same e)))
+      kept true i e = limit_kept code over (ap Some (ap (λ p. p.1) (some_is e)))
       kept false i e = absurd (cc)

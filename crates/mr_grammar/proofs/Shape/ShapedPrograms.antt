@@ -2,6 +2,8 @@
 use Rattle.std.proofs.Common.{◌≡◌, ℕ, suc, ◌≤◌, ◌<◌, ◌^◌, Bool, true, false, if◌then◌else◌, nat_le, List, [], ◌∷◌, length, codes, None, Some, refl, ap, sym, arith, All}
 use Rattle.std.proofs.lemmas.Bool.Decides.{nat_tests}
 use Rattle.std.proofs.lemmas.List.Elements.{All-cons, All-from_recursion, All-weaker}
+use Rattle.mr_base.proofs.Comparisons.{le_from, lt_from}
+use Rattle.mr_base.proofs.Options.{some_is}
 use Rattle.mr_ast.specs.declared.program.Block.{Block}
 use Rattle.mr_ast.specs.declared.program.Function.{Function}
 use Rattle.mr_ast.specs.declared.program.Program.{Program}
@@ -18,8 +20,8 @@ use Rattle.mr_ast.specs.ProgramGrammar.{ProgramBody, args_form, blocks_form, bod
 use Rattle.mr_ast.specs.Spelled.{SpelledPart}
 use Rattle.mr_grammar.proofs.Walk.EnsureLaws.{EachFrom, Ensures, Parts, ensures_all, ensures_before, ensures_behind, ensures_cases, ensures_either, ensures_empty, ensures_giving, ensures_in, ensures_listed, ensures_many, ensures_pair, ensures_separated, ensures_then, ensures_within}
 use Rattle.mr_grammar.proofs.Shape.ShapedBlocks.{each_also, each_few, ensures_block}
-use Rattle.mr_grammar.proofs.Shape.ShapedNames.{IsWithin, below, ensures_function_name, ensures_function_use, ensures_global_name, ensures_local_name, ensures_local_use, ensures_target_use, test_less}
-use Rattle.mr_grammar.proofs.Shape.ShapedNumbers.{ensures_repeat, ensures_u64, some_same}
+use Rattle.mr_grammar.proofs.Shape.ShapedNames.{IsWithin, below, ensures_function_name, ensures_function_use, ensures_global_name, ensures_local_name, ensures_local_use, ensures_target_use}
+use Rattle.mr_grammar.proofs.Shape.ShapedNumbers.{ensures_repeat, ensures_u64}
 use Rattle.mr_grammar.proofs.Shape.ShapedTypes.{ensures_type_part, types_shaped}
 use Rattle.mr_words.proofs.ScopeLaws.{named_at, scope_at}
 
@@ -28,18 +30,15 @@ byte_small : (w : Word) (b : ℕ) → judged_item w ≡ Some (item_word.Byte b, 
 unfolding judged_item
 byte_small w b e = go (is_number w.text) (nat_le (value_of w.text) 255) (is_word (codes "?") w.text) (is_word (codes "&") w.text) refl e
   where
-    small : (m n : ℕ) → nat_le m n ≡ true → m ≤ n
-    small m n t = grind (arith, nat_tests)
-
     go : (number little uninit reloc : Bool) → nat_le (value_of w.text) 255 ≡ little
         → fine (if number then (if little then Some (item_word.Byte (value_of w.text)) else None) else (if uninit then Some item_word.Uninit else (if reloc then Some item_word.Reloc else None)))
         ≡ Some (item_word.Byte b, None) → b ≤ 255
     go true true uninit reloc t e =
-        let same : item_word.Byte (value_of w.text) ≡ item_word.Byte b = ap (λ p. p.0) (some_same e) in
-        let value : value_of w.text ≡ b = cc in rw (sym value) (small (value_of w.text) 255 t)
+        let same : item_word.Byte (value_of w.text) ≡ item_word.Byte b = ap (λ p. p.0) (some_is e) in
+        let value : value_of w.text ≡ b = cc in rw (sym value) (le_from (value_of w.text) 255 t)
     go true false uninit reloc t e = absurd (cc)
-    go false little true reloc t e = let clash = ap (λ p. p.0) (some_same e) in absurd (cc)
-    go false little false true t e = let clash = ap (λ p. p.0) (some_same e) in absurd (cc)
+    go false little true reloc t e = let clash = ap (λ p. p.0) (some_is e) in absurd (cc)
+    go false little false true t e = let clash = ap (λ p. p.0) (some_is e) in absurd (cc)
     go false little false false t e = absurd (cc)
 
 -- a function that has as many locals and blocks as are defined in it
@@ -75,7 +74,7 @@ module _ (p : Program) (d : Definitions) (names : length p.names ≡ length (nam
       behind : (w : Word) (i : ItemWord) → judged_item w ≡ Some (i, None) → Ensures height room part (scope_at d k) (item_behind i) (ShapedItem p)
       behind w (item_word.Byte b) e = ensures_giving (ensures_repeat_form k) (λ n r. (byte_small w b e, r))
       behind w item_word.Uninit e = ensures_giving (ensures_repeat_form k) (λ n r. r)
-      behind w item_word.Reloc e = ensures_then (ensures_target_use d k) (ensures_behind ensures_u64) (λ t n within fits. (target_shaped k t within, test_less n (2 ^ 64) fits))
+      behind w item_word.Reloc e = ensures_then (ensures_target_use d k) (ensures_behind ensures_u64) (λ t n within fits. (target_shaped k t within, lt_from n (2 ^ 64) fits))
 
   -- globals, of which none is one too many
   ensures_global : {height room : ℕ} {part : Parts} (j : ℕ) → Ensures height room part (scope_at d 0) (global_form j) (λ g. (j < 256) × ShapedGlobal p g)
@@ -84,7 +83,7 @@ module _ (p : Program) (d : Definitions) (names : length p.names ≡ length (nam
       ensures_behind (ensures_then (ensures_pair (ensures_global_name d 0 j) (ensures_behind ensures_u64)) (ensures_within (λ lower e. ensures_all (λ i. ensures_item 0)))
       (λ head items q all. (
         below j 256 q.0.0,
-        record { name = omega (arith, q.0.1, names); align = test_less head.1 (2 ^ 64) q.1; items = All-from_recursion (ShapedItem p) items all },
+        record { name = omega (arith, q.0.1, names); align = lt_from head.1 (2 ^ 64) q.1; items = All-from_recursion (ShapedItem p) items all },
       )))
 
   -- locals, of which none is one too many
@@ -128,9 +127,9 @@ module _ (p : Program) (d : Definitions) (names : length p.names ≡ length (nam
       (ensures_within (λ lower e. ensures_pair (ensures_behind (ensures_before (ensures_locals k))) (ensures_blocks k)))
       (λ head body q r. λ n held counted. record {
         name = held;
-        args = All-weaker (λ x. is_local (named_at d k) x ≡ true) (λ x. x.0 < length body.0) (λ x e. rw counted.0 (test_less x.0 (named_at d k).locals e)) head.0
+        args = All-weaker (λ x. is_local (named_at d k) x ≡ true) (λ x. x.0 < length body.0) (λ x e. rw counted.0 (lt_from x.0 (named_at d k).locals e)) head.0
             (All-from_recursion (λ x. is_local (named_at d k) x ≡ true) head.0 q.0);
-        ret = rw counted.0 (test_less head.1.0 (named_at d k).locals q.1);
+        ret = rw counted.0 (lt_from head.1.0 (named_at d k).locals q.1);
         locals = r.0.1;
         blocks =
             let f : Function = with_name n (record { args = head.0; ret = head.1; locals = body.0; blocks = body.1 }) in r.1.2 f (same_named k f counted);
@@ -155,5 +154,5 @@ module _ (p : Program) (d : Definitions) (names : length p.names ≡ length (nam
         few_globals = omega (arith, each_few _ 256 (λ k g one. one.0) 0 items.0 (omega arith) q.0);
         functions_shaped = each_kept _ (λ k f. Counted d k f → ShapedFunction p f) (λ k f one. one.1) 0 items.1 q.1;
         few_functions = omega (arith, each_few _ 256 (λ k f one. one.0) 0 items.1 (omega arith) q.1);
-        start_within = rw functions (test_less start.0 (named_at d 0).functions within);
+        start_within = rw functions (lt_from start.0 (named_at d 0).functions within);
       })))

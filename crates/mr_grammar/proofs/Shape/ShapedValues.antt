@@ -1,6 +1,7 @@
 -- The places and values that a row without a broken limit writes are shaped.
 use Rattle.std.proofs.Common.{◌≡◌, ℕ, zero, suc, ◌-◌, Bool, true, false, nat_le, List, [], ◌∷◌, ◌∙◌, subst}
 use Rattle.std.specs.List.{AllByRecursion, fold}
+use Rattle.mr_base.proofs.Comparisons.{lt_test}
 use Rattle.mr_ast.specs.declared.expr.Place.{Place}
 use Rattle.mr_ast.specs.declared.words.ValueWord.{ValueWord}
 use Rattle.mr_ast.specs.declared.words.ValueWord.TheVariants as value_word
@@ -14,7 +15,7 @@ use Rattle.mr_ast.specs.ValueGrammar.{ByField, ByIndex, ByVariant, Postfix, addr
 use Rattle.mr_ast.specs.Spelled.{SpelledPart, form_of}
 use Rattle.mr_ast.proofs.ShapedLaws.{shaped_addr_of, shaped_binary, shaped_cast, shaped_deref, shaped_disc, shaped_false, shaped_field_place, shaped_fn, shaped_global, shaped_index_place, shaped_int, shaped_load, shaped_local_place, shaped_raw, shaped_transmute, shaped_true, shaped_tuple, shaped_unary, shaped_union, shaped_variant, shaped_variant_place}
 use Rattle.mr_grammar.proofs.Walk.EnsureLaws.{Ensures, Parts, ensures_all, ensures_also, ensures_before, ensures_behind, ensures_cases, ensures_either, ensures_empty, ensures_giving, ensures_pair, ensures_part, ensures_then, ensures_within, no_parts}
-use Rattle.mr_grammar.proofs.Shape.ShapedNames.{ensures_function_use, ensures_global_use, ensures_name, less_test}
+use Rattle.mr_grammar.proofs.Shape.ShapedNames.{ensures_function_use, ensures_global_use, ensures_name}
 use Rattle.mr_grammar.proofs.Shape.ShapedNumbers.{all_pass, both, ensures_limited, ensures_num, ensures_u64}
 use Rattle.mr_grammar.proofs.Shape.ShapedTypes.{ensures_int, ensures_type_part, types_shaped}
 use Rattle.mr_words.proofs.ScopeLaws.{named_at, scope_at, use_local}
@@ -63,7 +64,7 @@ module _ (d : Definitions) (k : ℕ) where
         (ensures_then (ensures_limited 8 over)
         (ensures_within (λ lower e. ensures_pair (ensures_before (ensures_value_part (values lower e))) (ensures_type_part (types_shaped lower (room - 1) (scope_at d k)))))
         (λ u parts p q. (p, shaped_deref (named_at d k) parts.0 parts.1 ∙ both q.0 q.1)))
-        (ensures_giving (ensures_name d k UsesLocal (λ text n e. use_local d k n text e)) (λ n p. (p.0, shaped_local_place (named_at d k) (record { 0 = n }) ∙ less_test n (named_at d k).locals p.1)))
+        (ensures_giving (ensures_name d k UsesLocal (λ text n e. use_local d k n text e)) (λ n p. (p.0, shaped_local_place (named_at d k) (record { 0 = n }) ∙ lt_test n (named_at d k).locals p.1)))
 
     ensures_place : {part : Parts} (over : Bool) → Ensures height room part (scope_at d k) (place_from over) (λ p. (over ≡ false) × (is_shaped_place (named_at d k) p ≡ true))
     unfolding place_from postfixes_form

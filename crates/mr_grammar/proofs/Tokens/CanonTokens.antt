@@ -3,6 +3,7 @@ use Rattle.std.proofs.Common.{◌≡◌, ℕ, ◌<◌, ◌≤◌, ◌^◌, ◌==
 use Rattle.std.specs.Prelude.{Ok, decimal, flat_map}
 use Rattle.std.proofs.lemmas.List.{length-map}
 use Rattle.std.proofs.lemmas.List.Elements.{All-from_recursion, All-get_or, All-map, All-weaker}
+use Rattle.mr_base.proofs.Comparisons.{lt_from}
 use Rattle.mr_ast.specs.declared.program.Block.{Block}
 use Rattle.mr_ast.specs.declared.program.Function.{Function}
 use Rattle.mr_ast.specs.declared.program.Global_.{Global_}
@@ -24,7 +25,6 @@ use Rattle.mr_lex.specs.Tokens.{Lexeme}
 use Rattle.mr_grammar.proofs.Canon.CanonNames.{IsNamed}
 use Rattle.mr_grammar.proofs.Tokens.TokenTexts.{IsTokenText}
 use Rattle.mr_grammar.proofs.Tokens.LexedWords.{words_are_lexed}
-use Rattle.mr_grammar.proofs.Shape.ShapedNames.{test_less}
 use Rattle.mr_grammar.proofs.Tokens.TokenRows.{AllTokens, Tokens, all_rows_for, all_tokens_append, alone, comma_tokens, decimal_token, fixed, flat_tokens, name_token, no_tokens, row_tokens, rows_for, table_fixed, token, tokens_append, tokens_either}
 use Rattle.mr_grammar.proofs.Tokens.TokenTypes.{type_tokens}
 use Rattle.mr_grammar.proofs.Tokens.TokenStmts.{stmt_tokens, term_tokens}
@@ -60,11 +60,11 @@ module _ (p : Program) (shaped : Shaped p) (words : All (λ text. is_name text �
 
   name_tokens : (f : Function) → ShapedFunction p f → NameTokens (named_in p f) (texts_in p f)
   name_tokens f good = record {
-    globals = λ n is. global_text n (test_less n (length p.globals) is);
-    functions = λ n is. function_text n (test_less n (length p.functions) is);
-    locals = λ n is. local_text f n good (test_less n (length f.locals) is);
+    globals = λ n is. global_text n (lt_from n (length p.globals) is);
+    functions = λ n is. function_text n (lt_from n (length p.functions) is);
+    locals = λ n is. local_text f n good (lt_from n (length f.locals) is);
     blocks = λ n is.
-        text_of_named (λ (b : Block). b.name) f.blocks n (All-weaker (ShapedBlock p f) (λ b. IsText p b.name) (λ b one. one.name) f.blocks good.blocks) (test_less n (length f.blocks) is);
+        text_of_named (λ (b : Block). b.name) f.blocks n (All-weaker (ShapedBlock p f) (λ b. IsText p b.name) (λ b one. one.name) f.blocks good.blocks) (lt_from n (length f.blocks) is);
   }
 
   -- ---- globals
