@@ -1,6 +1,5 @@
 -- The globals and functions that a row without a broken limit writes are shaped, where the program has as many of each as are defined.
 use Rattle.std.proofs.Common.{◌≡◌, ℕ, suc, ◌≤◌, ◌<◌, ◌^◌, Bool, true, false, if◌then◌else◌, nat_le, List, [], ◌∷◌, length, codes, None, Some, refl, ap, sym, arith, All}
-use Rattle.std.proofs.lemmas.Bool.Decides.{nat_tests}
 use Rattle.std.proofs.lemmas.List.Elements.{All-cons, All-from_recursion, All-weaker}
 use Rattle.mr_base.proofs.Comparisons.{le_from, lt_from}
 use Rattle.mr_base.proofs.Options.{some_is}
