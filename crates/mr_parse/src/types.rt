@@ -8,7 +8,7 @@ ghost use Rattle.mr_parse.specs.Gives.{Gives};
 ghost use Rattle.mr_grammar.specs.Reading.{first_at, read, read_outside, read_part};
 ghost use Rattle.mr_parse.specs.Views.{shape_of};
 
-use crate::reader::{Reader, beside};
+use crate::reader::{Reader, beside, pushed};
 use mr_ast::{Boxed, Bracket, Items, Num, Tag, Tree, TreeWord, Ty, TypeWord, Variant};
 use mr_words::{ReadFault, Scope, UNEXPECTED, tree_word_of, type_word_of};
 use std::alloc::Global;
@@ -111,8 +111,10 @@ impl<'a> Reader<'a> {
         let inner = self.open(Bracket::Round, room)?;
         let count = self.number()?;
         self.expect(b",")?;
-        let elem = self.ty(alloc, scope, inner)?;
-        self.close(Bracket::Round)?;
+        let elem = match self.ty(alloc, scope, inner) {
+            Ok(elem) => self.closed(elem, Bracket::Round)?,
+            Err(fault) => return Err(fault),
+        };
         Ok(Ty::Array {
             count,
             elem: Boxed::new(alloc, elem)?,
@@ -185,9 +187,10 @@ impl<'a> Reader<'a> {
             self.close(Bracket::Curly)?;
             return Ok(Items::new(alloc));
         }
-        let fields = self.some_fields(alloc, scope, inner)?;
-        self.close(Bracket::Curly)?;
-        Ok(fields)
+        match self.some_fields(alloc, scope, inner) {
+            Ok(fields) => self.closed(fields, Bracket::Curly),
+            Err(fault) => Err(fault),
+        }
     }
 
     #[cycle(types)]
@@ -211,15 +214,16 @@ impl<'a> Reader<'a> {
     ) -> Result<Items<(u64, Ty)>, ReadFault>
         ensures { Gives (λ fs. (fs, self.new)) result (read room scope.now fields_form self.old) }
     {
+        let first = self.field(alloc, scope, room)?;
         let mut fields = Items::new(alloc);
-        fields.push(self.field(alloc, scope, room)?)?;
+        fields.push(first)?;
         let most = self.left();
         for _ in 0..most {
             if !self.is_next(b",") {
                 return Ok(fields);
             }
             self.expect(b",")?;
-            fields.push(self.field(alloc, scope, room)?)?;
+            fields = pushed(fields, self.field(alloc, scope, room))?;
         }
         Ok(fields)
     }
@@ -239,9 +243,10 @@ impl<'a> Reader<'a> {
             self.close(Bracket::Curly)?;
             return Ok(Items::new(alloc));
         }
-        let chunks = self.some_chunks(alloc, scope, inner)?;
-        self.close(Bracket::Curly)?;
-        Ok(chunks)
+        match self.some_chunks(alloc, scope, inner) {
+            Ok(chunks) => self.closed(chunks, Bracket::Curly),
+            Err(fault) => Err(fault),
+        }
     }
 
     #[tactic(auto, unfolding(mr_ast::specs::TypeGrammar::chunk_form))]
@@ -263,15 +268,16 @@ impl<'a> Reader<'a> {
     ) -> Result<Items<(u64, u64)>, ReadFault>
         ensures { Gives (λ xs. (xs, self.new)) result (read room scope.now chunks_form self.old) }
     {
+        let first = self.chunk(scope, room)?;
         let mut chunks = Items::new(alloc);
-        chunks.push(self.chunk(scope, room)?)?;
+        chunks.push(first)?;
         let most = self.left();
         for _ in 0..most {
             if !self.is_next(b",") {
                 return Ok(chunks);
             }
             self.expect(b",")?;
-            chunks.push(self.chunk(scope, room)?)?;
+            chunks = pushed(chunks, self.chunk(scope, room))?;
         }
         Ok(chunks)
     }
@@ -292,9 +298,10 @@ impl<'a> Reader<'a> {
             self.close(Bracket::Curly)?;
             return Ok(Items::new(alloc));
         }
-        let variants = self.some_variants(alloc, scope, inner)?;
-        self.close(Bracket::Curly)?;
-        Ok(variants)
+        match self.some_variants(alloc, scope, inner) {
+            Ok(variants) => self.closed(variants, Bracket::Curly),
+            Err(fault) => Err(fault),
+        }
     }
 
     // One variant or more, with commas between them.
@@ -308,15 +315,16 @@ impl<'a> Reader<'a> {
     ) -> Result<Items<Variant>, ReadFault>
         ensures { Gives (λ xs. (xs, self.new)) result (read room scope.now variants_form self.old) }
     {
+        let first = self.variant(alloc, scope, room)?;
         let mut variants = Items::new(alloc);
-        variants.push(self.variant(alloc, scope, room)?)?;
+        variants.push(first)?;
         let most = self.left();
         for _ in 0..most {
             if !self.is_next(b",") {
                 return Ok(variants);
             }
             self.expect(b",")?;
-            variants.push(self.variant(alloc, scope, room)?)?;
+            variants = pushed(variants, self.variant(alloc, scope, room))?;
         }
         Ok(variants)
     }
@@ -373,9 +381,10 @@ impl<'a> Reader<'a> {
             self.close(Bracket::Curly)?;
             return Ok(Items::new(alloc));
         }
-        let tags = self.some_tags(alloc, scope, inner)?;
-        self.close(Bracket::Curly)?;
-        Ok(tags)
+        match self.some_tags(alloc, scope, inner) {
+            Ok(tags) => self.closed(tags, Bracket::Curly),
+            Err(fault) => Err(fault),
+        }
     }
 
     // One tag or more, with commas between them.
@@ -388,15 +397,16 @@ impl<'a> Reader<'a> {
     ) -> Result<Items<Tag>, ReadFault>
         ensures { Gives (λ xs. (xs, self.new)) result (read room scope.now tags_form self.old) }
     {
+        let first = self.tag(scope, room)?;
         let mut tags = Items::new(alloc);
-        tags.push(self.tag(scope, room)?)?;
+        tags.push(first)?;
         let most = self.left();
         for _ in 0..most {
             if !self.is_next(b",") {
                 return Ok(tags);
             }
             self.expect(b",")?;
-            tags.push(self.tag(scope, room)?)?;
+            tags = pushed(tags, self.tag(scope, room))?;
         }
         Ok(tags)
     }
@@ -434,9 +444,13 @@ impl<'a> Reader<'a> {
         let at = self.number()?;
         let int = self.int()?;
         let inner = self.open(Bracket::Curly, room)?;
-        let (cases, rest) = self.all_cases(alloc, scope, inner)?;
-        self.close(Bracket::Curly)?;
-        Ok(Tree::Branch(at, int, cases, Boxed::new(alloc, rest)?))
+        match self.all_cases(alloc, scope, inner) {
+            Ok(cases) => {
+                let (cases, rest) = self.closed(cases, Bracket::Curly)?;
+                Ok(Tree::Branch(at, int, cases, rest))
+            }
+            Err(fault) => Err(fault),
+        }
     }
 
     // The trees for some numbers, and that for all others.
@@ -446,13 +460,29 @@ impl<'a> Reader<'a> {
         alloc: Global,
         scope: &Scope,
         room: u32,
-    ) -> Result<(Items<(Num, Tree)>, Tree), ReadFault>
+    ) -> Result<(Items<(Num, Tree)>, Boxed<Tree>), ReadFault>
         ensures { Gives (λ cs. (cs, self.new)) result (read room scope.now (cases_form ▪ codes "_" ▸ codes "=>" ▸ Part TheTree) self.old) }
     {
-        let cases = self.cases(alloc, scope, room)?;
+        match self.cases(alloc, scope, room) {
+            Ok(cases) => beside(cases, self.other_tree(alloc, scope, room)),
+            Err(fault) => Err(fault),
+        }
+    }
+
+    // The tree for all other numbers.
+    #[cycle(trees)]
+    fn other_tree(
+        &mut self,
+        alloc: Global,
+        scope: &Scope,
+        room: u32,
+    ) -> Result<Boxed<Tree>, ReadFault>
+        ensures { Gives (λ t. (t, self.new)) result (read room scope.now (codes "_" ▸ codes "=>" ▸ Part TheTree) self.old) }
+    {
         self.expect(b"_")?;
         self.expect(b"=>")?;
-        Ok((cases, self.tree(alloc, scope, room)?))
+        let tree = self.tree(alloc, scope, room)?;
+        Ok(Boxed::new(alloc, tree)?)
     }
 
     // The trees for some numbers.
@@ -484,8 +514,9 @@ impl<'a> Reader<'a> {
     {
         let number = self.num(scope, room)?;
         self.expect(b"=>")?;
-        let tree = self.tree(alloc, scope, room)?;
-        self.expect(b",")?;
-        Ok((number, tree))
+        match self.tree(alloc, scope, room) {
+            Ok(tree) => self.followed((number, tree), b","),
+            Err(fault) => Err(fault),
+        }
     }
 }

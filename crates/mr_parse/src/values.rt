@@ -8,18 +8,15 @@ ghost use Rattle.mr_grammar.specs.Insides.{begins_with_type, is_bracketed, value
 ghost use Rattle.mr_grammar.specs.Reading.{first_at, is_next, read, read_outside, read_part};
 ghost use Rattle.mr_parse.specs.Postfixes.{indexed, postfix_of, with_all};
 
-use crate::reader::{Reader, beside};
+use crate::reader::{Reader, beside, pushed};
 use mr_ast::{
-    BinaryOp, Boxed, Bracket, FnName, GlobalName, Items, LocalName, Num, Place, Role, Ty, Value,
-    ValueWord,
+    BinaryOp, Boxed, Bracket, FnName, GlobalName, Items, LocalName, MAX_OPEN, Num, Place, Role, Ty,
+    Value, ValueWord,
 };
 use mr_words::{
     EXPOSED, ReadFault, Scope, TOO_DEEP, TOO_MANY, UNEXPECTED, is_exposed, value_word_of,
 };
 use std::alloc::{AllocError, Global};
-
-/// How many postfix operators a place may have.
-const MAX_POSTFIXES: usize = 32;
 
 // What stands behind a place and makes another of it.
 #[derive(Drop)]
@@ -377,7 +374,7 @@ impl<'a> Reader<'a> {
                 return Ok(values);
             }
             self.expect(b",")?;
-            values.push(self.value(alloc, scope, room)?)?;
+            values = pushed(values, self.value(alloc, scope, room))?;
         }
         Ok(values)
     }
@@ -430,9 +427,10 @@ impl<'a> Reader<'a> {
     {
         self.expect_limited(b"deref", over, TOO_MANY)?;
         let inner = self.open(Bracket::Round, room)?;
-        let place = self.target_of_pointer(alloc, scope, inner)?;
-        self.close(Bracket::Round)?;
-        Ok(place)
+        match self.target_of_pointer(alloc, scope, inner) {
+            Ok(place) => self.closed(place, Bracket::Round),
+            Err(fault) => Err(fault),
+        }
     }
 
     // The target of a pointer, at a type.
@@ -503,7 +501,7 @@ impl<'a> Reader<'a> {
     ) -> Result<Postfix, ReadFault>
         ensures { Gives (λ x. (postfix_of x, self.new)) result (read_outside room scope.now (postfix_form k) self.old) }
     {
-        let over = k >= MAX_POSTFIXES;
+        let over = k >= MAX_OPEN as usize;
         if self.is_next(b"[") {
             let inner = self.open_limited(Bracket::Square, room, over)?;
             return match self.value(alloc, scope, inner) {

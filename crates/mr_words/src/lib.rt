@@ -21,7 +21,7 @@ mod place;
 mod scope;
 mod table;
 
-pub use bracket::{MAX_OPEN, told};
+pub use bracket::told;
 pub use definitions::{Definitions, FunctionNames, definitions_in};
 pub use fault::{
     DOUBLE_NAME, EXPOSED, ReadFault, Stop, TOO_DEEP, TOO_MANY, UNEXPECTED, UNKNOWN_NAME,

@@ -14,6 +14,9 @@ decreases-branch l = 5 * l.room
 abbrev pub decreases-all_cases : goal.decreases-all_cases
 decreases-all_cases l = 5 * l.room + 4
 
+abbrev pub decreases-other_tree : goal.decreases-other_tree
+decreases-other_tree l = 5 * l.room + 2
+
 abbrev pub decreases-cases : goal.decreases-cases
 decreases-cases l = 5 * l.room + 3
 
