@@ -1,5 +1,7 @@
 -- The rules of a well-formed program, by number and by name.
-use Rattle.std.specs.Prelude.{ℕ, List, codes}
+use Rattle.std.specs.Prelude.{ℕ, ◌==◌, List, [], ◌∷◌, codes, Option}
+use Rattle.std.specs.List.{find}
+use Rattle.std.specs.Option.{option_map_or}
 use Rattle.mr_ast.specs.declared.rule.Rule.{Rule}
 use Rattle.mr_ast.specs.declared.rule.Rule.TheVariants as rule
 
@@ -62,3 +64,20 @@ name_of rule.GlobalForm = codes "GlobalForm"
 name_of rule.MainForm = codes "MainForm"
 name_of rule.Aggregate = codes "Aggregate"
 name_of rule.Cast = codes "Cast"
+
+-- all rules, by their numbers
+abbrev pub rules : List Rule
+rules =
+    rule.TypeSize ∷ rule.TypeAlign ∷ rule.FieldOutside ∷ rule.FieldOverlap ∷ rule.SizeMultiple ∷
+    rule.EnumVariant ∷ rule.EnumTag ∷ rule.EnumTree ∷ rule.UnionChunk ∷ rule.Arguments ∷ rule.FirstBlock ∷
+    rule.BlockKind ∷ rule.Place ∷ rule.Operand ∷ rule.ConstRange ∷ rule.Assign ∷ rule.Discriminant ∷
+    rule.LiveLocal ∷ rule.Switch ∷ rule.Callee ∷ rule.Intrinsic ∷ rule.Payload ∷ rule.GlobalRef ∷
+    rule.GlobalForm ∷ rule.MainForm ∷ rule.Aggregate ∷ rule.Cast ∷ []
+
+-- the rule of a number, where there is one
+abbrev pub rule_of : ℕ → Option Rule
+rule_of code = find (λ r. code_of r == code) rules
+
+-- the name of the rule of a number, and none where there is no such rule
+abbrev pub name_by_code : ℕ → List ℕ
+name_by_code code = option_map_or name_of (rule_of code) []

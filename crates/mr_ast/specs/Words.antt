@@ -1,5 +1,5 @@
 -- The words of the text form: names, numbers, and the words that stand for themselves.
-use Rattle.std.specs.Prelude.{ℕ, ◌+◌, ◌-◌, ◌*◌, ◌^◌, Bool, false, not, ◌||◌, ◌&&◌, ◌==◌, nat_lt, if◌then◌else◌, List, [], ◌∷◌, length, slice_index, codes, bytes_eq, Option, None, Some}
+use Rattle.std.specs.Prelude.{ℕ, ◌+◌, ◌-◌, ◌*◌, ◌^◌, Bool, false, not, ◌||◌, ◌&&◌, ◌==◌, nat_lt, if◌then◌else◌, List, [], ◌∷◌, ◌++◌, length, map, slice_index, codes, bytes_eq, Option, None, Some}
 use Rattle.std.specs.List.{fold, list_all, list_any}
 use Rattle.std.specs.Char.{is_ascii_alphabetic, is_ascii_digit}
 use Rattle.mr_ast.specs.declared.types.IntType.{IntType}
@@ -40,17 +40,6 @@ abbrev pub first_passes : (ℕ → Bool) → List ℕ → Bool
 first_passes test [] = false
 first_passes test (b ∷ bs) = test b
 
--- the words that are no names
-abbrev pub reserved : Texts
-reserved =
-    codes "live" ∷ codes "dead" ∷ codes "mention" ∷ codes "disc" ∷ codes "deinit" ∷ codes "validate" ∷ codes "goto"
-    ∷ codes "switch" ∷ codes "unreachable" ∷ codes "return" ∷ codes "exit" ∷ codes "abort" ∷ codes "resume" ∷ codes "stop"
-    ∷ codes "unwind" ∷ codes "call" ∷ codes "do" ∷ codes "deref" ∷ codes "_" ∷ []
-
--- a letter or `_`, then letters, digits and `_`, and no reserved word
-unfoldable pub is_name : List ℕ → Bool
-is_name text = first_passes begins_name text && list_all is_in_name text && not (list_any (bytes_eq text) reserved)
-
 -- the value of decimal digits, the highest first
 abbrev pub value_of : List ℕ → ℕ
 value_of digits = fold (λ n digit. n * 10 + (digit - 48)) 0 digits
@@ -64,6 +53,10 @@ is_number text =
 -- words, each with what it stands for
 abbrev pub Table : Type 0 → Type 0
 Table X = List (List ℕ × X)
+
+-- the words of a table
+abbrev pub texts_of : {X : Type 0} → Table X → Texts
+texts_of table = map (λ entry. entry.0) table
 
 -- what the word stands for
 abbrev pub looked_up : {X : Type 0} → Table X → List ℕ → Option X
@@ -122,6 +115,14 @@ term_words =
     (codes "goto", term.Goto) ∷ (codes "switch", term.Switch) ∷ (codes "unreachable", term.Unreachable) ∷ (codes "return", term.Return)
     ∷ (codes "exit", term.Exit) ∷ (codes "abort", term.Abort) ∷ (codes "resume", term.Resume) ∷ (codes "stop", term.Stop)
     ∷ (codes "unwind", term.Unwind) ∷ (codes "call", term.Call) ∷ (codes "do", term.Do) ∷ []
+
+-- the words that are no names: those of statements and of terminators, and two more
+abbrev pub reserved : Texts
+reserved = texts_of stmt_words ++ texts_of term_words ++ codes "deref" ∷ codes "_" ∷ []
+
+-- a letter or `_`, then letters, digits and `_`, and no reserved word
+unfoldable pub is_name : List ℕ → Bool
+is_name text = first_passes begins_name text && list_all is_in_name text && not (list_any (bytes_eq text) reserved)
 
 -- the kinds of blocks
 abbrev pub kind_words : Table BlockKind

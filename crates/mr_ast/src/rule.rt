@@ -1,6 +1,6 @@
 //! The rules of a well-formed program.
-ghost use Rattle.std.specs.Prelude.{◌≡◌};
-ghost use Rattle.mr_ast.specs.FormRules.{code_of, name_of};
+ghost use Rattle.std.specs.Prelude.{◌≡◌, IfSome, Some};
+ghost use Rattle.mr_ast.specs.FormRules.{code_of, name_of, rule_of};
 
 /// A rule of a well-formed program. Those up to `UnionChunk` are on types.
 #[derive(Clone, Copy, Debug, PartialEq, Eq)]
@@ -111,6 +111,44 @@ impl Rule {
             Rule::MainForm => "MainForm",
             Rule::Aggregate => "Aggregate",
             Rule::Cast => "Cast",
+        }
+    }
+
+    /// The rule of a number.
+    pub fn of_code(code: u8) -> Option<Rule>
+        ensures some { IfSome result (λ rule. code_of rule ≡ code) }
+        ensures only { (rule : Rule) → code_of rule ≡ code → result ≡ Some rule }
+        ensures is { result ≡ rule_of code }
+    {
+        match code {
+            20 => Some(Rule::TypeSize),
+            21 => Some(Rule::TypeAlign),
+            22 => Some(Rule::FieldOutside),
+            23 => Some(Rule::FieldOverlap),
+            24 => Some(Rule::SizeMultiple),
+            25 => Some(Rule::EnumVariant),
+            26 => Some(Rule::EnumTag),
+            27 => Some(Rule::EnumTree),
+            28 => Some(Rule::UnionChunk),
+            30 => Some(Rule::Arguments),
+            31 => Some(Rule::FirstBlock),
+            32 => Some(Rule::BlockKind),
+            33 => Some(Rule::Place),
+            34 => Some(Rule::Operand),
+            35 => Some(Rule::ConstRange),
+            36 => Some(Rule::Assign),
+            37 => Some(Rule::Discriminant),
+            38 => Some(Rule::LiveLocal),
+            39 => Some(Rule::Switch),
+            40 => Some(Rule::Callee),
+            41 => Some(Rule::Intrinsic),
+            42 => Some(Rule::Payload),
+            43 => Some(Rule::GlobalRef),
+            44 => Some(Rule::GlobalForm),
+            45 => Some(Rule::MainForm),
+            46 => Some(Rule::Aggregate),
+            47 => Some(Rule::Cast),
+            _ => None,
         }
     }
 }

@@ -6,9 +6,9 @@ use Rattle.mr_base.specs.declared.reason.Verdict.{Verdict}
 use Rattle.mr_base.specs.declared.reason.Verdict.TheVariants as verdict
 use Rattle.mr_io.specs.Files.{Contents}
 use Rattle.mr_lex.specs.declared.token.TextFault.{TextFault}
-use Rattle.mr_parse.specs.Denotes.{Denotes}
-use Rattle.mr_parse.specs.Faults.{FirstFault}
-use Rattle.mr_parse.proofs.ParsingLaws.{denotes_parsed, fault_parsed}
+use Rattle.mr_grammar.specs.Denotes.{Denotes}
+use Rattle.mr_grammar.specs.Faults.{FirstFault}
+use Rattle.mr_grammar.proofs.ParsingLaws.{denotes_parsed, fault_parsed}
 use Rattle.mr_sched.specs.declared.schedule.Schedule.{Schedule}
 use Rattle.mr_sched.proofs.TextLaws.{schedule_again, schedule_fails_at}
 use Rattle.mr_step.specs.Built.{Built}

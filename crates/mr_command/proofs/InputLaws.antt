@@ -4,9 +4,9 @@ use Rattle.std.proofs.lemmas.Bool.Decides.{nat_tests}
 use Rattle.std.proofs.lemmas.List.{length-replicate}
 use Rattle.std.specs.Prelude.{Some, None, Option, Err, nat_lt, replicate, if◌then◌else◌}
 use Rattle.mr_lex.specs.Reading.{lexed, outcome_of, split_of}
-use Rattle.mr_parse.specs.Faults.{OfTokens}
-use Rattle.mr_parse.specs.Parsing.{parsed}
-use Rattle.mr_parse.proofs.ParsingLaws.{fault_parsed}
+use Rattle.mr_grammar.specs.Faults.{OfTokens}
+use Rattle.mr_grammar.specs.Parsing.{parsed}
+use Rattle.mr_grammar.proofs.ParsingLaws.{fault_parsed}
 use Rattle.mr_sched.specs.Reading.{schedule_of}
 use Rattle.mr_command.specs.Answer.{denoted, program_in, schedule_in, spelled}
 use Rattle.mr_command.specs.declared.refusal.Refusal.TheVariants.{Schedule, Text}

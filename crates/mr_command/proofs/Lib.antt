@@ -3,7 +3,6 @@ pub mod EndLaws
 pub mod Examples
 pub mod HeadlineLaws
 pub mod InputLaws
-pub mod NameLaws
 pub mod OnlyLaws
 pub mod PrintLaws
 pub mod RunLaws

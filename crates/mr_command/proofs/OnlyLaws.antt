@@ -5,9 +5,9 @@ use Rattle.std.specs.Io.KnownBytes.{append_known}
 use Rattle.mr_ast.specs.declared.program.Program.{Program}
 use Rattle.mr_io.specs.Files.{Contents}
 use Rattle.mr_lex.specs.declared.token.TextFault.{TextFault}
-use Rattle.mr_parse.specs.Parsing.{parsed}
-use Rattle.mr_parse.proofs.ParsingLaws.{parsed_denotes}
-use Rattle.mr_parse.proofs.Shape.ShapedLaws.{denoted_is_shaped}
+use Rattle.mr_grammar.specs.Parsing.{parsed}
+use Rattle.mr_grammar.proofs.ParsingLaws.{parsed_denotes}
+use Rattle.mr_grammar.proofs.Shape.ShapedLaws.{denoted_is_shaped}
 use Rattle.mr_sched.specs.declared.schedule.Schedule.{Schedule}
 use Rattle.mr_sched.specs.Reading.{Fault, schedule_of}
 use Rattle.mr_sched.proofs.TextLaws.{schedule_read}

@@ -4,7 +4,7 @@ use Rattle.mr_ast.specs.declared.program.Program.{Program}
 use Rattle.mr_ast.specs.Canon.{canonical_text}
 use Rattle.mr_io.specs.Files.{Contents}
 use Rattle.mr_lex.specs.declared.token.TextFault.{TextFault}
-use Rattle.mr_parse.specs.Parsing.{parsed}
+use Rattle.mr_grammar.specs.Parsing.{parsed}
 use Rattle.mr_sched.specs.declared.schedule.Schedule.{Schedule}
 use Rattle.mr_sched.specs.Reading.{Fault, schedule_of}
 use Rattle.mr_step.specs.Built.{is_built}

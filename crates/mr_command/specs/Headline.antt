@@ -5,8 +5,8 @@ use Rattle.std.specs.Prelude.{◌≡◌, ℕ, ◌⊎◌, List, [], Option, None,
 use Rattle.mr_ast.specs.declared.program.Program.{Program}
 use Rattle.mr_io.specs.Files.{Contents}
 use Rattle.mr_lex.specs.declared.token.TextFault.{TextFault}
-use Rattle.mr_parse.specs.Denotes.{Denotes}
-use Rattle.mr_parse.specs.Faults.{FirstFault}
+use Rattle.mr_grammar.specs.Denotes.{Denotes}
+use Rattle.mr_grammar.specs.Faults.{FirstFault}
 use Rattle.mr_sched.specs.declared.schedule.Schedule.{Schedule}
 use Rattle.mr_sched.specs.Faults.{FirstFault as FirstScheduleFault}
 use Rattle.mr_sched.specs.Spelling.{Schedules}

@@ -1,9 +1,11 @@
 -- What is written: the report of a run, and the line of each refusal.
-use Rattle.std.specs.Prelude.{ℕ, List, [], ◌∷◌, ◌++◌, flat_map, codes, decimal, Option, None, Some, if◌then◌else◌, ◌==◌}
+use Rattle.std.specs.Prelude.{ℕ, List, [], ◌∷◌, ◌++◌, flat_map, codes, decimal, Option, None, Some}
 use Rattle.mr_base.specs.declared.byte.AllocId.{AllocId}
 use Rattle.mr_base.specs.declared.reason.Verdict.{Verdict}
 use Rattle.mr_base.specs.declared.reason.Verdict.TheVariants as verdict
 use Rattle.mr_base.specs.Reasons.{code_of, name_of}
+use Rattle.mr_lex.specs.Rules as text
+use Rattle.mr_sched.specs.Rules as schedule
 use Rattle.mr_step.specs.Runs.{Printed}
 use Rattle.mr_command.specs.declared.refusal.Refusal.{Refusal}
 use Rattle.mr_command.specs.declared.refusal.Refusal.TheVariants as refusal
@@ -42,41 +44,11 @@ verdict_status (verdict.Undefined r) = 1
 
 -- ---- refusals
 
--- the name of a text's fault, by its code
-abbrev pub text_fault_name : ℕ → List ℕ
-text_fault_name code =
-    if code == 1 then codes "BadByte"
-    else (if code == 2 then codes "BadNumber"
-    else (if code == 3 then codes "LongText"
-    else (if code == 4 then codes "Unexpected"
-    else (if code == 5 then codes "UnknownName"
-    else (if code == 6 then codes "DoubleName"
-    else (if code == 7 then codes "TooDeep"
-    else (if code == 8 then codes "TooMany"
-    else (if code == 9 then codes "Exposed"
-    else (if code == 90 then codes "NotBuilt" else [])))))))))
-
 -- `text LINE COL CODE NAME`
-abbrev pub text_line : ℕ → ℕ → ℕ → List ℕ
-text_line at col code =
+abbrev pub text_line : ℕ → ℕ → ℕ → List ℕ → List ℕ
+text_line at col code name =
     line (codes "text " ++ decimal at ++ codes " " ++ decimal col
-    ++ codes " " ++ decimal code ++ codes " " ++ text_fault_name code)
-
--- the name of a schedule's fault, by its code
-abbrev pub fault_name : ℕ → List ℕ
-fault_name code =
-    if code == 50 then codes "BadHeader"
-    else (if code == 51 then codes "BadLine"
-    else (if code == 52 then codes "TooLong"
-    else (if code == 60 then codes "NotEnabled"
-    else (if code == 61 then codes "MissingPick"
-    else (if code == 62 then codes "ExtraPick"
-    else (if code == 63 then codes "BadAddress"
-    else (if code == 64 then codes "Reused"
-    else (if code == 65 then codes "NotWaiting"
-    else (if code == 66 then codes "AfterStop"
-    else (if code == 67 then codes "TooManyThreads"
-    else (if code == 68 then codes "TooManyLocks" else [])))))))))))
+    ++ codes " " ++ decimal code ++ codes " " ++ name)
 
 -- the allocation whose range is overlapped
 abbrev pub earlier_text : Option AllocId → List ℕ
@@ -86,12 +58,12 @@ earlier_text (Some id) = codes " " ++ decimal id.thread ++ codes " " ++ decimal 
 -- the line of a refusal, and none for want of memory
 abbrev pub refusal_text : Refusal → List ℕ
 refusal_text refusal.ReadProgram = line (codes "read program")
-refusal_text (refusal.Text at col code) = text_line at col code
-refusal_text refusal.NotBuilt = text_line 1 1 90
+refusal_text (refusal.Text at col code) = text_line at col code (text.name_by_code code)
+refusal_text refusal.NotBuilt = text_line 1 1 90 (codes "NotBuilt")
 refusal_text refusal.ReadSchedule = line (codes "read schedule")
 refusal_text (refusal.Schedule at code earlier) =
     line (codes "schedule " ++ decimal at ++ codes " " ++ decimal code
-    ++ codes " " ++ fault_name code ++ earlier_text earlier)
+    ++ codes " " ++ schedule.name_by_code code ++ earlier_text earlier)
 refusal_text refusal.Memory = []
 
 -- the exit status of a refusal

@@ -1,9 +1,13 @@
 //! Why there is no report and no canonical text: the lines that tell it, and their exit statuses.
 ghost use Rattle.std.specs.Prelude.{◌≡◌, ◌++◌, IfOk, OnOk, decimal};
-ghost use Rattle.mr_command.specs.Report.{earlier_text, fault_name, refusal_text, text_fault_name, text_line};
+ghost use Rattle.mr_lex.specs.Rules.{name_by_code as text_name_of};
+ghost use Rattle.mr_sched.specs.Rules.{name_by_code as schedule_name_of};
+ghost use Rattle.mr_command.specs.Report.{earlier_text, refusal_text, text_line};
 
 use itoa::Buffer;
 use mr_base::AllocId;
+use mr_lex::TextRule;
+use mr_sched::ScheduleRule;
 use std::alloc::{AllocError, AllocFailed, Global};
 
 // The code of a program that the machine doesn't run so far.
@@ -78,8 +82,14 @@ impl Refusal {
     {
         match self {
             Refusal::ReadProgram => Vec::from_slice(alloc, b"read program\n"),
-            Refusal::Text { line, col, code } => text_line(alloc, line, col, code),
-            Refusal::NotBuilt => text_line(alloc, 1, 1, NOT_BUILT),
+            Refusal::Text { line, col, code } => text_line(
+                alloc,
+                line,
+                col,
+                code,
+                text_rule_name(code),
+            ),
+            Refusal::NotBuilt => text_line(alloc, 1, 1, NOT_BUILT, "NotBuilt"),
             Refusal::ReadSchedule => Vec::from_slice(alloc, b"read schedule\n"),
             Refusal::Schedule {
                 line,
@@ -91,8 +101,14 @@ impl Refusal {
     }
 }
 
-fn text_line(alloc: Global, line: u32, col: u32, code: u8) -> Result<Vec<u8>, AllocError>
-    ensures { IfOk result (λ text. text.items ≡ text_line line col code) }
+fn text_line(
+    alloc: Global,
+    line: u32,
+    col: u32,
+    code: u8,
+    name: &str,
+) -> Result<Vec<u8>, AllocError>
+    ensures { IfOk result (λ text. text.items ≡ text_line line col code name.now) }
 {
     let mut text = Vec::from_slice(alloc, b"text ")?;
     push_number(&mut text, line.into())?;
@@ -101,26 +117,18 @@ fn text_line(alloc: Global, line: u32, col: u32, code: u8) -> Result<Vec<u8>, Al
     text.push(b' ')?;
     push_number(&mut text, code.into())?;
     text.push(b' ')?;
-    text.extend_from_slice(text_fault_name(code).as_bytes())?;
+    text.extend_from_slice(name.as_bytes())?;
     text.push(b'\n')?;
     Ok(text)
 }
 
-fn text_fault_name(code: u8) -> &'static str
-    ensures { result.now ≡ text_fault_name code }
+// The name of the rule that a text breaks, by its code.
+fn text_rule_name(code: u8) -> &'static str
+    ensures { result.now ≡ text_name_of code }
 {
-    match code {
-        1 => "BadByte",
-        2 => "BadNumber",
-        3 => "LongText",
-        4 => "Unexpected",
-        5 => "UnknownName",
-        6 => "DoubleName",
-        7 => "TooDeep",
-        8 => "TooMany",
-        9 => "Exposed",
-        NOT_BUILT => "NotBuilt",
-        _ => "",
+    match TextRule::of_code(code) {
+        Some(rule) => rule.name(),
+        None => "",
     }
 }
 
@@ -137,7 +145,7 @@ fn schedule_line(
     text.push(b' ')?;
     push_number(&mut text, code.into())?;
     text.push(b' ')?;
-    text.extend_from_slice(name_of(code).as_bytes())?;
+    text.extend_from_slice(schedule_rule_name(code).as_bytes())?;
     push_earlier(&mut text, earlier)?;
     text.push(b'\n')?;
     Ok(text)
@@ -163,22 +171,12 @@ fn push_earlier(text: &mut Vec<u8>, earlier: Option<AllocId>) -> Result<(), Allo
     Ok(())
 }
 
-fn name_of(code: u8) -> &'static str
-    ensures { result.now ≡ fault_name code }
+// The name of the rule that a schedule breaks, by its code.
+fn schedule_rule_name(code: u8) -> &'static str
+    ensures { result.now ≡ schedule_name_of code }
 {
-    match code {
-        50 => "BadHeader",
-        51 => "BadLine",
-        52 => "TooLong",
-        60 => "NotEnabled",
-        61 => "MissingPick",
-        62 => "ExtraPick",
-        63 => "BadAddress",
-        64 => "Reused",
-        65 => "NotWaiting",
-        66 => "AfterStop",
-        67 => "TooManyThreads",
-        68 => "TooManyLocks",
-        _ => "",
+    match ScheduleRule::of_code(code) {
+        Some(rule) => rule.name(),
+        None => "",
     }
 }

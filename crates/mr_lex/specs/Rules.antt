@@ -1,5 +1,7 @@
 -- The rules of texts, by number and by name.
-use Rattle.std.specs.Prelude.{ℕ, List, codes}
+use Rattle.std.specs.Prelude.{ℕ, ◌==◌, List, [], ◌∷◌, codes, Option}
+use Rattle.std.specs.List.{find}
+use Rattle.std.specs.Option.{option_map_or}
 use Rattle.mr_lex.specs.declared.rule.TextRule.{TextRule}
 use Rattle.mr_lex.specs.declared.rule.TextRule.TheVariants.{BadByte, BadNumber, LongText, Unexpected, UnknownName, DoubleName, TooDeep, TooMany, Exposed}
 
@@ -26,3 +28,16 @@ name_of DoubleName = codes "DoubleName"
 name_of TooDeep = codes "TooDeep"
 name_of TooMany = codes "TooMany"
 name_of Exposed = codes "Exposed"
+
+-- all rules, by their numbers
+abbrev pub rules : List TextRule
+rules =
+    BadByte ∷ BadNumber ∷ LongText ∷ Unexpected ∷ UnknownName ∷ DoubleName ∷ TooDeep ∷ TooMany ∷ Exposed ∷ []
+
+-- the rule of a number, where there is one
+abbrev pub rule_of : ℕ → Option TextRule
+rule_of code = find (λ r. code_of r == code) rules
+
+-- the name of the rule of a number, and none where there is no such rule
+abbrev pub name_by_code : ℕ → List ℕ
+name_by_code code = option_map_or name_of (rule_of code) []

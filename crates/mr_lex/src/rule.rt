@@ -1,6 +1,6 @@
 //! The rules of texts, each with its code and its name.
 ghost use Rattle.std.specs.Prelude.{◌≡◌, IfSome, Some};
-ghost use Rattle.mr_lex.specs.Rules.{code_of, name_of};
+ghost use Rattle.mr_lex.specs.Rules.{code_of, name_of, rule_of};
 ghost use Rattle.mr_lex.specs.declared.rule.TextRule.{TextRule as Rule};
 
 /// Which rule a text breaks: one of its tokens, of the grammar, or of its names.
@@ -65,6 +65,7 @@ impl TextRule {
     pub fn of_code(code: u8) -> Option<TextRule>
         ensures some { IfSome result (λ rule. code_of rule ≡ code) }
         ensures only { (rule : Rule) → code_of rule ≡ code → result ≡ Some rule }
+        ensures is { result ≡ rule_of code }
     {
         match code {
             1 => Some(TextRule::BadByte),

@@ -1,10 +1,2 @@
-pub mod AsciiLaws
-pub mod Canon
-pub mod Names
-pub mod Nesting
 pub mod ParseLaws
-pub mod ParsingLaws
-pub mod Shape
-pub mod Stops
-pub mod Tokens
 pub mod Walk

@@ -13,19 +13,19 @@ use Rattle.mr_lex.specs.Tokens.{Lexeme}
 use Rattle.mr_words.specs.declared.fault.Stop.{Stop}
 use Rattle.mr_parse.specs.declared.fault.ParseFault.{ParseFault}
 use Rattle.mr_parse.specs.declared.fault.ParseFault.TheVariants.{Text, Memory}
-use Rattle.mr_parse.specs.Denotes.{Denotes, definitions_in}
+use Rattle.mr_grammar.specs.Denotes.{Denotes, definitions_in}
 use Rattle.mr_words.specs.Defined.{text_at}
-use Rattle.mr_parse.specs.Faults.{FirstFault}
+use Rattle.mr_grammar.specs.Faults.{FirstFault}
 use Rattle.mr_words.specs.TextFaults.{fault_at}
 use Rattle.mr_parse.specs.Gives.{ParseGives}
 use Rattle.mr_words.specs.Naming.{IsSmall}
-use Rattle.mr_parse.specs.Parsing.{body_of, parsed, program_in, whole_of}
+use Rattle.mr_grammar.specs.Parsing.{body_of, parsed, program_in, whole_of}
 use Rattle.mr_words.specs.Brackets.{told}
 use Rattle.mr_words.specs.Places.{words_of}
-use Rattle.mr_parse.proofs.Stops.BodyLaws.{body_writes}
-use Rattle.mr_parse.proofs.ParsingLaws.{denotes_parsed, fault_parsed, parsed_denotes, parsed_fault}
-use Rattle.mr_parse.proofs.Shape.ShapedLaws.{denoted_is_shaped}
-use Rattle.mr_parse.proofs.Shape.SmallLaws.{few_written, names_small}
+use Rattle.mr_grammar.proofs.Stops.BodyLaws.{body_writes}
+use Rattle.mr_grammar.proofs.ParsingLaws.{denotes_parsed, fault_parsed, parsed_denotes, parsed_fault}
+use Rattle.mr_grammar.proofs.Shape.ShapedLaws.{denoted_is_shaped}
+use Rattle.mr_grammar.proofs.Shape.SmallLaws.{few_written, names_small}
 
 -- the names of a program that was read can be held
 pub small : (scope : Scope) (words : List Word) (body : ProgramBody) → ((n : ℕ) → IsAscii (text_at words n)) → body_of scope words ≡ Ok body → IsSmall (definitions_in words body)

@@ -1,15 +1,4 @@
 -- What reading computes against what the grammar spells.
-pub mod BeginLaws
-pub mod BracketLaws
-pub mod CheckedLaws
-pub mod CompleteLaws
-pub mod Conditions
-pub mod EnsureLaws
 pub mod FunctionLaws
-pub mod HeightLaws
-pub mod InsideLaws
 pub mod LoopLaws
-pub mod ManyLaws
 pub mod PostfixLaws
-pub mod Rows
-pub mod SoundLaws

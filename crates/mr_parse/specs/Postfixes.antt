@@ -9,7 +9,7 @@ use Rattle.mr_ast.specs.ValueGrammar.{Postfix, ByField, ByIndex, ByVariant, with
 use Rattle.mr_parse.specs.declared.values.Postfix.{Postfix as Written}
 use Rattle.mr_parse.specs.declared.values.Postfix.TheVariants as written
 use Rattle.mr_words.specs.declared.fault.Stop.{Stop}
-use Rattle.mr_parse.specs.Reading.{◌>>=◌, expected}
+use Rattle.mr_grammar.specs.Reading.{◌>>=◌, expected}
 
 -- what a postfix is, however it is kept
 abbrev pub postfix_of : Written → Postfix

@@ -1,5 +1,5 @@
 -- What contracts see of what is read beside the syntax.
-use Rattle.std.specs.Prelude.{ℕ, List, Option, Result, Ok, Err, codes, false}
+use Rattle.std.specs.Prelude.{◌≡◌, ℕ, List, [], ◌∷◌, ◌++◌, Option, Result, Ok, Err, codes, false}
 use Rattle.mr_ast.specs.declared.program.Block.{Block}
 use Rattle.mr_ast.specs.declared.program.Function.{Function}
 use Rattle.mr_ast.specs.declared.program.Local.{Local}
@@ -11,17 +11,22 @@ use Rattle.mr_ast.specs.declared.program.Term.{Term}
 use Rattle.mr_ast.specs.declared.program.Term.TheVariants as term
 use Rattle.mr_ast.specs.Forms.{Word, Part}
 use Rattle.mr_ast.specs.declared.words.Bracket.TheVariants.{Round}
-use Rattle.mr_ast.specs.Scope.{Scope}
+use Rattle.mr_ast.specs.Scope.{Definitions, Scope}
 use Rattle.mr_ast.specs.Writing.{ThePlace, Writing, block_use, listed, optional, ◌▪◌, ◌▸◌}
 use Rattle.mr_ast.specs.ProgramGrammar.{FunctionBody, ProgramBody, values_form, with_name}
 use Rattle.mr_ast.specs.TypeGrammar.{Shape}
+use Rattle.mr_words.specs.Defined.{unknown}
+use Rattle.mr_words.specs.declared.fault.ReadFault.{ReadFault}
+use Rattle.mr_words.specs.declared.fault.ReadFault.TheVariants.{Memory}
 use Rattle.mr_words.specs.declared.fault.Stop.{Stop}
 use Rattle.mr_parse.specs.declared.program.Head.{Head}
 use Rattle.mr_parse.specs.declared.program.Inner.{Inner}
 use Rattle.mr_parse.specs.declared.program.Parts.{Parts}
 use Rattle.mr_parse.specs.declared.statements.Ways.{Ways}
 use Rattle.mr_parse.specs.declared.types.Shape.{Shape as Written}
-use Rattle.mr_parse.specs.Reading.{◌>>=◌, expected, read}
+use Rattle.mr_grammar.specs.Denotes.{definitions_in}
+use Rattle.mr_grammar.specs.Parsing.{body_of}
+use Rattle.mr_grammar.specs.Reading.{◌>>=◌, expected, read}
 
 abbrev pub shape_of : Written → Shape
 shape_of s = record { size = s.size; align = s.align }
@@ -64,6 +69,12 @@ abbrev pub beside_of : {A B E : Type 0} → A → Result B E → Result (A × B)
 beside_of x (Ok y) = Ok (x, y)
 beside_of x (Err e) = Err e
 
+-- a list with one more thing at its end, where that was read; memory may run out then
+abbrev pub Pushes : {A : Type 0} → List A → Result A ReadFault → Result (List A) ReadFault → Type 0
+Pushes xs (Ok x) (Ok ys) = ys ≡ xs ++ x ∷ []
+Pushes xs (Ok x) (Err fault) = fault ≡ Memory
+Pushes xs (Err f) result = result ≡ Err f
+
 -- the unwinding with this payload and what was read
 abbrev pub unwound : Value → Result (BlockName × List Word) Stop → Result (Term × List Word) Stop
 unwound payload read = read >>= λ x. Ok (term.Unwind payload x.0, x.1)
@@ -73,3 +84,7 @@ abbrev pub called_behind : ℕ → Scope → Value → List Word → Result (Ter
 called_behind room scope callee words =
     read room scope (listed Round values_form) words >>= λ args.
     called callee args.0 (read room scope call_end_form args.1)
+
+-- the names that the words define, which are found where no name is known
+abbrev pub defined_by : List Word → Result Definitions Stop
+defined_by words = body_of unknown words >>= λ shape. Ok (definitions_in words shape)

@@ -1,6 +1,6 @@
 //! The names that a text defines, from what its words are read as.
 ghost use Rattle.std.specs.Prelude.{◌≡◌, IfOk};
-ghost use Rattle.mr_parse.specs.Denotes.{definitions_in};
+ghost use Rattle.mr_grammar.specs.Denotes.{definitions_in};
 ghost use Rattle.mr_parse.specs.Views.{body_of_parts};
 ghost use Rattle.mr_words.specs.Places.{words_of};
 

@@ -1,11 +1,12 @@
 //! Numbers of a text: within their ranges, or with their sign.
 ghost use Rattle.mr_ast.specs.Writing.{judged_any, judged_positive, judged_repeat, judged_u64, num_form};
 ghost use Rattle.mr_parse.specs.Gives.{Gives};
-ghost use Rattle.mr_parse.specs.Reading.{first_at, read};
+ghost use Rattle.mr_grammar.specs.Reading.{first_at, read};
 
 use crate::reader::Reader;
 use mr_ast::Num;
-use mr_words::{BAD_NUMBER, ReadFault, Scope, UNEXPECTED, number_of};
+use mr_lex::BAD_NUMBER;
+use mr_words::{ReadFault, Scope, UNEXPECTED, number_of};
 
 impl<'a> Reader<'a> {
     /// A number below 2^64.

@@ -4,21 +4,22 @@ ghost use Rattle.std.specs.Str.{IsAscii};
 ghost use Rattle.mr_ast.specs.declared.program.Program.{Program};
 ghost use Rattle.mr_ast.specs.Shaped.{Shaped};
 ghost use Rattle.mr_lex.specs.declared.token.TextFault.{TextFault as Fault};
-ghost use Rattle.mr_parse.specs.Denotes.{Denotes};
+ghost use Rattle.mr_grammar.specs.Denotes.{Denotes, definitions_in, program_of};
 ghost use Rattle.mr_words.specs.Defined.{knowing, text_at};
-ghost use Rattle.mr_parse.specs.Faults.{FirstFault};
+ghost use Rattle.mr_grammar.specs.Faults.{FirstFault};
 ghost use Rattle.mr_parse.specs.Gives.{Gives, ParseGives};
-ghost use Rattle.mr_parse.specs.Parsing.{body_of, parsed, program_in, whole_of};
+ghost use Rattle.mr_grammar.specs.Parsing.{body_of, parsed, program_in, whole_of};
+ghost use Rattle.mr_words.specs.Naming.{IsSmall};
 ghost use Rattle.mr_words.specs.Places.{words_of};
-ghost use Rattle.mr_parse.specs.Views.{body_of_parts};
+ghost use Rattle.mr_parse.specs.Views.{body_of_parts, defined_by};
 
-use crate::definitions::definitions_in;
+use crate::definitions::definitions_in as names_defined;
 use crate::fault::ParseFault;
 use crate::program::Parts;
 use crate::reader::Reader;
-use mr_ast::Program;
+use mr_ast::{MAX_OPEN, OutOfMemory, Program};
 use mr_lex::{LexFault, Tokens, tokens};
-use mr_words::{MAX_OPEN, ReadFault, Scope, Tables, UNEXPECTED, fault_at, told};
+use mr_words::{ReadFault, Scope, Tables, UNEXPECTED, fault_at, told};
 use std::alloc::Global;
 
 // What all tokens write.
@@ -55,24 +56,59 @@ fn named(alloc: Global, tokens: &Tokens<'_>, tables: &Tables<'_>) -> Result<Part
     body(alloc, tokens, &scope)
 }
 
+// The tables of the names that the tokens define.
+fn tables_in<'a>(
+    alloc: Global,
+    tokens: &'a Tokens<'a>,
+    parts: &Parts,
+) -> Result<Tables<'a>, OutOfMemory>
+    requires { IsSmall (definitions_in (words_of tokens.now) (body_of_parts parts.now)) }
+    ensures { IfOk result (λ t. t ≡ definitions_in (words_of tokens.now) (body_of_parts parts.now)) }
+{
+    let definitions = names_defined(alloc, tokens, parts)?;
+    Tables::new(alloc, definitions)
+}
+
+// The same, from a first reading, in which no name is known.
+fn tables_of<'a>(alloc: Global, tokens: &'a Tokens<'a>) -> Result<Tables<'a>, ReadFault>
+    requires few { length tokens.now ≤ 2 ^ 20 }
+    requires ascii { (n : ℕ) → IsAscii (text_at (words_of tokens.now) n) }
+    ensures { Gives (λ t. t) result (defined_by (words_of tokens.now)) }
+{
+    match body(alloc, tokens, &Scope::unknown(alloc)) {
+        Ok(parts) => match tables_in(alloc, tokens, &parts) {
+            Ok(tables) => Ok(tables),
+            Err(_) => Err(ReadFault::Memory),
+        },
+        Err(fault) => Err(fault),
+    }
+}
+
+// A program from its parts, in which names stand for what the tables say.
+fn program_of(parts: Parts, tables: Tables<'_>) -> Program
+    ensures { result ≡ program_of tables.entry (body_of_parts parts) }
+{
+    Program {
+        edition: 1,
+        globals: parts.globals,
+        functions: parts.functions,
+        names: tables.into_names(),
+        start: parts.start,
+    }
+}
+
 // The program of the tokens: its names are found in a first reading, and stand for what they name in a second.
-#[tactic(auto, unfolding(crate::specs::Parsing::program_in))]
+#[tactic(auto, unfolding(mr_grammar::specs::Parsing::program_in))]
 fn program_in(alloc: Global, tokens: &Tokens<'_>) -> Result<Program, ReadFault>
     requires few { length tokens.now ≤ 2 ^ 20 }
     requires ascii { (n : ℕ) → IsAscii (text_at (words_of tokens.now) n) }
     ensures { Gives (λ p. p) result (program_in (words_of tokens.now)) }
 {
-    let shape = body(alloc, tokens, &Scope::unknown(alloc))?;
-    let definitions = definitions_in(alloc, tokens, &shape)?;
-    let tables = Tables::new(alloc, definitions)?;
-    let named = named(alloc, tokens, &tables)?;
-    Ok(Program {
-        edition: 1,
-        globals: named.globals,
-        functions: named.functions,
-        names: tables.into_names(),
-        start: named.start,
-    })
+    let tables = tables_of(alloc, tokens)?;
+    match named(alloc, tokens, &tables) {
+        Ok(parts) => Ok(program_of(parts, tables)),
+        Err(fault) => Err(fault),
+    }
 }
 
 fn parsed(alloc: Global, text: &[u8]) -> Result<Program, ParseFault>

@@ -1,24 +1,19 @@
 //! Programs, globals, functions and blocks.
 ghost use Rattle.std.specs.Prelude.{◌≡◌, ◌<◌, ◌^◌, codes};
 ghost use Rattle.mr_ast.specs.declared.words.Bracket.TheVariants.{Curly, Round};
-ghost use Rattle.mr_ast.specs.Writing.{judged_target, listed, within, ◌▪◌, ◌◂◌, ◌▸◌, local_use};
+ghost use Rattle.mr_ast.specs.Writing.{function_use, judged_target, listed, within, ◌▪◌, ◌◂◌, ◌▸◌, local_use};
 ghost use Rattle.mr_ast.specs.ProgramGrammar.{args_form, block_form, blocks_form, body_form, function_form, functions_form, global_form, globals_form, item_behind, item_form, items_form, judged_item, judged_kind, local_form, locals_form, program_form, reloc_form, repeat_form};
 ghost use Rattle.mr_parse.specs.Gives.{Gives};
-ghost use Rattle.mr_parse.specs.Reading.{first_at, read};
+ghost use Rattle.mr_grammar.specs.Reading.{first_at, read};
 ghost use Rattle.mr_parse.specs.Views.{body_of_parts, head_of, named, parts_of};
 
-use crate::reader::Reader;
+use crate::reader::{Reader, beside, pushed};
 use mr_ast::{
     Block, BlockKind, Bracket, FnName, Function, Global_, Item_, ItemWord, Items, Local, LocalName,
-    Role,
+    MAX_BLOCKS, MAX_ITEMS, Role,
 };
 use mr_words::{ReadFault, Scope, UNEXPECTED, item_word_of, kind_of};
 use std::alloc::Global;
-
-/// How many functions and how many globals a text may have, and how many locals a function.
-const MAX_ITEMS: u32 = 256;
-/// How many blocks a function may have.
-const MAX_BLOCKS: u32 = 1024;
 
 /// A program without its names.
 #[derive(Drop)]
@@ -68,28 +63,33 @@ impl<'a> Reader<'a> {
         let name = self.name(scope, k >= MAX_BLOCKS, Role::DefinesBlock(k))?;
         let kind = self.kind()?;
         self.expect(b":")?;
-        let stmts = self.stmts(alloc, scope, room)?;
-        let term = self.term(alloc, scope, room)?;
-        Ok(Block {
-            name,
-            kind,
-            stmts,
-            term,
-        })
+        match self.stmts(alloc, scope, room) {
+            Ok(stmts) => match beside(stmts, self.term(alloc, scope, room)) {
+                Ok((stmts, term)) => Ok(Block {
+                    name,
+                    kind,
+                    stmts,
+                    term,
+                }),
+                Err(fault) => Err(fault),
+            },
+            Err(fault) => Err(fault),
+        }
     }
 
     #[tactic(auto, unfolding(mr_ast::specs::ProgramGrammar::blocks_form))]
     fn blocks(&mut self, alloc: Global, scope: &Scope, room: u32) -> Result<Items<Block>, ReadFault>
         ensures { Gives (λ bs. (bs, self.new)) result (read room scope.now blocks_form self.old) }
     {
+        let first = self.block(alloc, scope, room, 0)?;
         let mut blocks = Items::new(alloc);
-        blocks.push(self.block(alloc, scope, room, 0)?)?;
+        blocks.push(first)?;
         let most = self.turns();
         for k in 0..most {
             if !self.is_other(b"}") {
                 return Ok(blocks);
             }
-            blocks.push(self.block(alloc, scope, room, k + 1)?)?;
+            blocks = pushed(blocks, self.block(alloc, scope, room, k + 1))?;
         }
         Ok(blocks)
     }
@@ -115,21 +115,22 @@ impl<'a> Reader<'a> {
     fn locals(&mut self, alloc: Global, scope: &Scope, room: u32) -> Result<Items<Local>, ReadFault>
         ensures { Gives (λ ls. (ls, self.new)) result (read room scope.now locals_form self.old) }
     {
+        let first = self.local_definition(alloc, scope, room, 0)?;
         let mut locals = Items::new(alloc);
-        locals.push(self.local_definition(alloc, scope, room, 0)?)?;
+        locals.push(first)?;
         let most = self.turns();
         for k in 0..most {
             if !self.is_next(b",") {
                 return Ok(locals);
             }
             self.expect(b",")?;
-            locals.push(self.local_definition(alloc, scope, room, k + 1)?)?;
+            locals = pushed(locals, self.local_definition(alloc, scope, room, k + 1))?;
         }
         Ok(locals)
     }
 
     // The arguments of a function, in their brackets.
-    #[tactic(auto, using(crate::proofs::Walk::InsideLaws::inside))]
+    #[tactic(auto, using(mr_grammar::proofs::Walk::InsideLaws::inside))]
     fn args(
         &mut self,
         alloc: Global,
@@ -143,9 +144,10 @@ impl<'a> Reader<'a> {
             self.close(Bracket::Round)?;
             return Ok(Items::new(alloc));
         }
-        let args = self.some_args(alloc, scope, inner)?;
-        self.close(Bracket::Round)?;
-        Ok(args)
+        match self.some_args(alloc, scope, inner) {
+            Ok(args) => self.closed(args, Bracket::Round),
+            Err(fault) => Err(fault),
+        }
     }
 
     // One argument or more, with commas between them.
@@ -158,15 +160,16 @@ impl<'a> Reader<'a> {
     ) -> Result<Items<LocalName>, ReadFault>
         ensures { Gives (λ xs. (xs, self.new)) result (read room scope.now args_form self.old) }
     {
+        let first = self.local(scope)?;
         let mut args = Items::new(alloc);
-        args.push(self.local(scope)?)?;
+        args.push(first)?;
         let most = self.left();
         for _ in 0..most {
             if !self.is_next(b",") {
                 return Ok(args);
             }
             self.expect(b",")?;
-            args.push(self.local(scope)?)?;
+            args = pushed(args, self.local(scope))?;
         }
         Ok(args)
     }
@@ -174,31 +177,61 @@ impl<'a> Reader<'a> {
     fn head(&mut self, alloc: Global, scope: &Scope, room: u32) -> Result<Head, ReadFault>
         ensures { Gives (λ h. (head_of h, self.new)) result (read room scope.now (listed Round args_form ▪ codes "->" ▸ local_use) self.old) }
     {
-        let args = self.args(alloc, scope, room)?;
+        match self.args(alloc, scope, room) {
+            Ok(args) => match beside(args, self.return_local(scope)) {
+                Ok((args, ret)) => Ok(Head { args, ret }),
+                Err(fault) => Err(fault),
+            },
+            Err(fault) => Err(fault),
+        }
+    }
+
+    // The local of a function's result, behind an arrow.
+    fn return_local(&mut self, scope: &Scope) -> Result<LocalName, ReadFault>
+        ensures { Gives (λ x. (x, self.new)) result (read 0 scope.now (codes "->" ▸ local_use) self.old) }
+    {
         self.expect(b"->")?;
-        let ret = self.local(scope)?;
-        Ok(Head { args, ret })
+        self.local(scope)
     }
 
     fn inner(&mut self, alloc: Global, scope: &Scope, room: u32) -> Result<Inner, ReadFault>
         ensures { Gives (λ i. (parts_of i, self.new)) result (read room scope.now (codes "let" ▸ locals_form ◂ codes ";" ▪ blocks_form) self.old) }
     {
+        match self.locals_of_function(alloc, scope, room) {
+            Ok(locals) => match beside(locals, self.blocks(alloc, scope, room)) {
+                Ok((locals, blocks)) => Ok(Inner { locals, blocks }),
+                Err(fault) => Err(fault),
+            },
+            Err(fault) => Err(fault),
+        }
+    }
+
+    // The locals of a function, between their words.
+    fn locals_of_function(
+        &mut self,
+        alloc: Global,
+        scope: &Scope,
+        room: u32,
+    ) -> Result<Items<Local>, ReadFault>
+        ensures { Gives (λ ls. (ls, self.new)) result (read room scope.now (codes "let" ▸ locals_form ◂ codes ";") self.old) }
+    {
         self.expect(b"let")?;
-        let locals = self.locals(alloc, scope, room)?;
-        self.expect(b";")?;
-        let blocks = self.blocks(alloc, scope, room)?;
-        Ok(Inner { locals, blocks })
+        match self.locals(alloc, scope, room) {
+            Ok(locals) => self.followed(locals, b";"),
+            Err(fault) => Err(fault),
+        }
     }
 
     // The locals and the blocks, in their braces.
-    #[tactic(auto, using(crate::proofs::Walk::InsideLaws::inside))]
+    #[tactic(auto, using(mr_grammar::proofs::Walk::InsideLaws::inside))]
     fn braced(&mut self, alloc: Global, scope: &Scope, room: u32) -> Result<Inner, ReadFault>
         ensures { Gives (λ i. (parts_of i, self.new)) result (read room scope.now (within Curly (codes "let" ▸ locals_form ◂ codes ";" ▪ blocks_form)) self.old) }
     {
         let within = self.open(Bracket::Curly, room)?;
-        let inner = self.inner(alloc, scope, within)?;
-        self.close(Bracket::Curly)?;
-        Ok(inner)
+        match self.inner(alloc, scope, within) {
+            Ok(inner) => self.closed(inner, Bracket::Curly),
+            Err(fault) => Err(fault),
+        }
     }
 
     // What stands behind the name of a function.
@@ -332,8 +365,25 @@ impl<'a> Reader<'a> {
         Ok(items)
     }
 
+    // The items of a global, in their braces.
+    #[tactic(auto, using(mr_grammar::proofs::Walk::InsideLaws::inside))]
+    fn braced_items(
+        &mut self,
+        alloc: Global,
+        scope: &Scope,
+        room: u32,
+    ) -> Result<Items<Item_>, ReadFault>
+        ensures { Gives (λ is. (is, self.new)) result (read room scope.now (within Curly items_form) self.old) }
+    {
+        let inner = self.open(Bracket::Curly, room)?;
+        match self.items(alloc, scope, inner) {
+            Ok(items) => self.closed(items, Bracket::Curly),
+            Err(fault) => Err(fault),
+        }
+    }
+
     // The global of number k.
-    #[tactic(auto, unfolding(mr_ast::specs::ProgramGrammar::global_form), using(crate::proofs::Walk::InsideLaws::inside))]
+    #[tactic(auto, unfolding(mr_ast::specs::ProgramGrammar::global_form))]
     fn global(
         &mut self,
         alloc: Global,
@@ -347,9 +397,7 @@ impl<'a> Reader<'a> {
         let name = self.name(scope, k >= MAX_ITEMS, Role::DefinesGlobal(k))?;
         self.expect(b"align")?;
         let align = self.number()?;
-        let inner = self.open(Bracket::Curly, room)?;
-        let items = self.items(alloc, scope, inner)?;
-        self.close(Bracket::Curly)?;
+        let items = self.braced_items(alloc, scope, room)?;
         Ok(Global_ { name, align, items })
     }
 
@@ -380,14 +428,39 @@ impl<'a> Reader<'a> {
     {
         self.expect(b"minirust")?;
         self.expect(b"1")?;
-        let globals = self.globals(alloc, scope, room)?;
-        let functions = self.functions(alloc, scope, room)?;
+        match self.definitions(alloc, scope, room) {
+            Ok(definitions) => match beside(definitions, self.start(scope)) {
+                Ok(((globals, functions), start)) => Ok(Parts {
+                    globals,
+                    functions,
+                    start,
+                }),
+                Err(fault) => Err(fault),
+            },
+            Err(fault) => Err(fault),
+        }
+    }
+
+    // The globals and the functions of a program.
+    fn definitions(
+        &mut self,
+        alloc: Global,
+        scope: &Scope,
+        room: u32,
+    ) -> Result<(Items<Global_>, Items<Function>), ReadFault>
+        ensures { Gives (λ d. (d, self.new)) result (read room scope.now (globals_form ▪ functions_form) self.old) }
+    {
+        match self.globals(alloc, scope, room) {
+            Ok(globals) => beside(globals, self.functions(alloc, scope, room)),
+            Err(fault) => Err(fault),
+        }
+    }
+
+    // The function that a program begins with, behind its word.
+    fn start(&mut self, scope: &Scope) -> Result<FnName, ReadFault>
+        ensures { Gives (λ f. (f, self.new)) result (read 0 scope.now (codes "main" ▸ function_use) self.old) }
+    {
         self.expect(b"main")?;
-        let start = FnName(self.name(scope, false, Role::UsesFunction)?);
-        Ok(Parts {
-            globals,
-            functions,
-            start,
-        })
+        Ok(FnName(self.name(scope, false, Role::UsesFunction)?))
     }
 }

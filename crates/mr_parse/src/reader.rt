@@ -3,11 +3,11 @@ ghost use Rattle.std.specs.Prelude.{◌≡◌, ◌==◌, ◌-◌, ◌||◌, fals
 ghost use Rattle.mr_ast.specs.Forms.{Word, opening, closing};
 ghost use Rattle.mr_ast.specs.Writing.{block_use, is_word, judged_int, judged_name, judged_target, local_use, other_than};
 ghost use Rattle.mr_parse.specs.Gives.{Gives};
-ghost use Rattle.mr_parse.specs.Reading.{expected, first_at, is_next, limited, opened, read};
+ghost use Rattle.mr_grammar.specs.Reading.{expected, first_at, is_next, limited, opened, read};
 ghost use Rattle.mr_words.specs.Places.{words_of};
-ghost use Rattle.mr_parse.specs.Views.{beside_of, followed_by};
+ghost use Rattle.mr_parse.specs.Views.{Pushes, beside_of, followed_by};
 
-use mr_ast::{BlockName, Bracket, IntType, LocalName, Role, Target};
+use mr_ast::{BlockName, Bracket, IntType, Items, LocalName, Role, Target};
 use mr_lex::Tokens;
 use mr_words::{ReadFault, Scope, Stop, TOO_DEEP, TOO_MANY, UNEXPECTED, int_of, is_name};
 use std::marker::Model;
@@ -280,6 +280,20 @@ pub fn beside<T: Drop, U: Drop>(thing: T, read: Result<U, ReadFault>) -> Result<
 {
     match read {
         Ok(x) => Ok((thing, x)),
+        Err(fault) => Err(fault),
+    }
+}
+
+/// A list with one more thing at its end, where that was read.
+pub fn pushed<T: Drop>(items: Items<T>, read: Result<T, ReadFault>) -> Result<Items<T>, ReadFault>
+    ensures { Pushes items read result }
+{
+    let mut items = items;
+    match read {
+        Ok(item) => {
+            items.push(item)?;
+            Ok(items)
+        }
         Err(fault) => Err(fault),
     }
 }

@@ -1,25 +1,23 @@
 //! Statements and terminators.
 ghost use Rattle.std.specs.Prelude.{◌≡◌, codes, false, is_some};
-ghost use Rattle.mr_ast.specs.declared.words.Bracket.TheVariants.{Round};
+ghost use Rattle.mr_ast.specs.declared.words.Bracket.TheVariants.{Curly, Round};
 ghost use Rattle.mr_ast.specs.Forms.{Cases, Either, Part};
-ghost use Rattle.mr_ast.specs.Writing.{ThePlace, TheValue, block_use, listed, num_form, optional, ◌▸◌};
+ghost use Rattle.mr_ast.specs.Writing.{ThePlace, TheValue, block_use, listed, num_form, optional, within, ◌▪◌, ◌▸◌};
 ghost use Rattle.mr_ast.specs.ProgramGrammar.{assign_form, begins_stmt, call_form, disc_form, do_form, is_stmt_word, judged_intrinsic, judged_stmt, judged_term, stmt_behind, stmt_form, stmts_form, switch_case_form, switch_cases_form, switch_form, term_behind, term_form, unwind_form, values_form};
 ghost use Rattle.mr_parse.specs.Gives.{Gives};
-ghost use Rattle.mr_parse.specs.Reading.{first_at, is_next, read};
+ghost use Rattle.mr_grammar.specs.Reading.{first_at, is_next, read};
 ghost use Rattle.mr_parse.specs.Views.{call_end_form, called, called_behind, unwound, ways_form, ways_of};
 
-use crate::reader::{Reader, beside};
+use crate::reader::{Reader, beside, pushed};
 use mr_ast::{
-    BlockName, Bracket, Intrinsic, Items, Num, Place, Stmt, StmtWord, Term, TermWord, Value,
+    BlockName, Bracket, Intrinsic, Items, MAX_STMTS, Num, Place, Stmt, StmtWord, Term, TermWord,
+    Value,
 };
 use mr_words::{
     EXPOSED, ReadFault, Scope, TOO_MANY, UNEXPECTED, intrinsic_of, is_exposed, is_name,
     stmt_word_of, term_word_of,
 };
 use std::alloc::Global;
-
-/// How many statements a block may have.
-const MAX_STMTS: usize = 4096;
 
 // Where a call goes on: behind a return, and behind an unwinding.
 #[derive(Clone, Copy)]
@@ -243,18 +241,58 @@ impl<'a> Reader<'a> {
         }
     }
 
-    #[tactic(auto, unfolding(mr_ast::specs::ProgramGrammar::switch_form), using(crate::proofs::Walk::InsideLaws::inside))]
+    #[tactic(auto, unfolding(mr_ast::specs::ProgramGrammar::switch_form))]
     fn switch(&mut self, alloc: Global, scope: &Scope, room: u32) -> Result<Term, ReadFault>
         ensures { Gives (λ t. (t, self.new)) result (read room scope.now switch_form self.old) }
     {
-        let value = self.value(alloc, scope, room)?;
+        match self.value(alloc, scope, room) {
+            Ok(value) => match beside(value, self.braced_cases(alloc, scope, room)) {
+                Ok((value, (cases, other))) => Ok(Term::Switch(value, cases, other)),
+                Err(fault) => Err(fault),
+            },
+            Err(fault) => Err(fault),
+        }
+    }
+
+    // Where the numbers of a switch lead, in their braces.
+    #[tactic(auto, using(mr_grammar::proofs::Walk::InsideLaws::inside))]
+    fn braced_cases(
+        &mut self,
+        alloc: Global,
+        scope: &Scope,
+        room: u32,
+    ) -> Result<(Items<(Num, BlockName)>, BlockName), ReadFault>
+        ensures { Gives (λ cs. (cs, self.new)) result (read room scope.now (within Curly (switch_cases_form ▪ codes "_" ▸ codes "=>" ▸ block_use)) self.old) }
+    {
         let inner = self.open(Bracket::Curly, room)?;
-        let cases = self.switch_cases(alloc, scope, inner)?;
+        match self.all_switch_cases(alloc, scope, inner) {
+            Ok(cases) => self.closed(cases, Bracket::Curly),
+            Err(fault) => Err(fault),
+        }
+    }
+
+    // Where some numbers lead, and where all others do.
+    fn all_switch_cases(
+        &mut self,
+        alloc: Global,
+        scope: &Scope,
+        room: u32,
+    ) -> Result<(Items<(Num, BlockName)>, BlockName), ReadFault>
+        ensures { Gives (λ cs. (cs, self.new)) result (read room scope.now (switch_cases_form ▪ codes "_" ▸ codes "=>" ▸ block_use) self.old) }
+    {
+        match self.switch_cases(alloc, scope, room) {
+            Ok(cases) => beside(cases, self.other_case(scope)),
+            Err(fault) => Err(fault),
+        }
+    }
+
+    // Where all other numbers lead.
+    fn other_case(&mut self, scope: &Scope) -> Result<BlockName, ReadFault>
+        ensures { Gives (λ b. (b, self.new)) result (read 0 scope.now (codes "_" ▸ codes "=>" ▸ block_use) self.old) }
+    {
         self.expect(b"_")?;
         self.expect(b"=>")?;
-        let other = self.block_name(scope)?;
-        self.close(Bracket::Curly)?;
-        Ok(Term::Switch(value, cases, other))
+        self.block_name(scope)
     }
 
     // Where some numbers lead.
@@ -319,7 +357,7 @@ impl<'a> Reader<'a> {
     }
 
     // The arguments of a call, in their brackets.
-    #[tactic(auto, using(crate::proofs::Walk::InsideLaws::inside))]
+    #[tactic(auto, using(mr_grammar::proofs::Walk::InsideLaws::inside))]
     fn values(&mut self, alloc: Global, scope: &Scope, room: u32) -> Result<Items<Value>, ReadFault>
         ensures { Gives (λ vs. (vs, self.new)) result (read room scope.now (listed Round values_form) self.old) }
     {
@@ -328,9 +366,10 @@ impl<'a> Reader<'a> {
             self.close(Bracket::Round)?;
             return Ok(Items::new(alloc));
         }
-        let values = self.some_values(alloc, scope, inner)?;
-        self.close(Bracket::Round)?;
-        Ok(values)
+        match self.some_values(alloc, scope, inner) {
+            Ok(values) => self.closed(values, Bracket::Round),
+            Err(fault) => Err(fault),
+        }
     }
 
     // One value or more, with commas between them.
@@ -343,15 +382,16 @@ impl<'a> Reader<'a> {
     ) -> Result<Items<Value>, ReadFault>
         ensures { Gives (λ vs. (vs, self.new)) result (read room scope.now values_form self.old) }
     {
+        let first = self.value(alloc, scope, room)?;
         let mut values = Items::new(alloc);
-        values.push(self.value(alloc, scope, room)?)?;
+        values.push(first)?;
         let most = self.left();
         for _ in 0..most {
             if !self.is_next(b",") {
                 return Ok(values);
             }
             self.expect(b",")?;
-            values.push(self.value(alloc, scope, room)?)?;
+            values = pushed(values, self.value(alloc, scope, room))?;
         }
         Ok(values)
     }
@@ -472,10 +512,28 @@ impl<'a> Reader<'a> {
         ensures { Gives (λ t. (t, self.new)) result (read room scope.now do_form self.old) }
     {
         let intrinsic = self.intrinsic()?;
-        let args = self.values(alloc, scope, room)?;
-        let place = self.result_place(alloc, scope, room)?;
-        let next = self.to_block(scope)?;
-        Ok(Term::Do(intrinsic, args, place, next))
+        match self.values(alloc, scope, room) {
+            Ok(args) => match beside(args, self.place_and_next(alloc, scope, room)) {
+                Ok((args, (place, next))) => Ok(Term::Do(intrinsic, args, place, next)),
+                Err(fault) => Err(fault),
+            },
+            Err(fault) => Err(fault),
+        }
+    }
+
+    // The place of an intrinsic's result, where there is one, and the block behind it.
+    fn place_and_next(
+        &mut self,
+        alloc: Global,
+        scope: &Scope,
+        room: u32,
+    ) -> Result<(Option<Place>, BlockName), ReadFault>
+        ensures { Gives (λ e. (e, self.new)) result (read room scope.now (optional (codes "->") (Part (ThePlace false)) ▪ codes "to" ▸ block_use) self.old) }
+    {
+        match self.result_place(alloc, scope, room) {
+            Ok(place) => beside(place, self.to_block(scope)),
+            Err(fault) => Err(fault),
+        }
     }
 
     // The place of a result, where there is one.

@@ -5,10 +5,10 @@ ghost use Rattle.mr_ast.specs.Forms.{Part};
 ghost use Rattle.mr_ast.specs.Writing.{TheTree, TheType, listed, num_form, ◌▪◌, ◌▸◌, ◌◂◌};
 ghost use Rattle.mr_ast.specs.TypeGrammar.{array_form, branch_form, case_form, cases_form, chunk_form, chunks_form, enum_form, field_form, fields_form, judged_tree, judged_type, ref_form, shape_form, tag_form, tags_form, tuple_type_form, union_type_form, variant_form, variants_form};
 ghost use Rattle.mr_parse.specs.Gives.{Gives};
-ghost use Rattle.mr_parse.specs.Reading.{first_at, read, read_outside, read_part};
+ghost use Rattle.mr_grammar.specs.Reading.{first_at, read, read_outside, read_part};
 ghost use Rattle.mr_parse.specs.Views.{shape_of};
 
-use crate::reader::{Reader, beside};
+use crate::reader::{Reader, beside, pushed};
 use mr_ast::{Boxed, Bracket, Items, Num, Tag, Tree, TreeWord, Ty, TypeWord, Variant};
 use mr_words::{ReadFault, Scope, UNEXPECTED, tree_word_of, type_word_of};
 use std::alloc::Global;
@@ -57,7 +57,7 @@ impl<'a> Reader<'a> {
 
     /// A type, in which so many brackets may be opened.
     #[cycle(types)]
-    #[tactic(auto, unfolding(crate::specs::Reading::read_part, mr_ast::specs::TypeGrammar::type_form))]
+    #[tactic(auto, unfolding(mr_grammar::specs::Reading::read_part, mr_ast::specs::TypeGrammar::type_form))]
     pub fn ty(&mut self, alloc: Global, scope: &Scope, room: u32) -> Result<Ty, ReadFault>
         ensures { Gives (λ t. (t, self.new)) result (read_part room scope.now TheType self.old) }
     {
@@ -104,15 +104,17 @@ impl<'a> Reader<'a> {
     }
 
     #[cycle(types)]
-    #[tactic(auto, unfolding(mr_ast::specs::TypeGrammar::array_form), using(crate::proofs::Walk::InsideLaws::inside))]
+    #[tactic(auto, unfolding(mr_ast::specs::TypeGrammar::array_form), using(mr_grammar::proofs::Walk::InsideLaws::inside))]
     fn array(&mut self, alloc: Global, scope: &Scope, room: u32) -> Result<Ty, ReadFault>
         ensures { Gives (λ t. (t, self.new)) result (read_outside room scope.now array_form self.old) }
     {
         let inner = self.open(Bracket::Round, room)?;
         let count = self.number()?;
         self.expect(b",")?;
-        let elem = self.ty(alloc, scope, inner)?;
-        self.close(Bracket::Round)?;
+        let elem = match self.ty(alloc, scope, inner) {
+            Ok(elem) => self.closed(elem, Bracket::Round)?,
+            Err(fault) => return Err(fault),
+        };
         Ok(Ty::Array {
             count,
             elem: Boxed::new(alloc, elem)?,
@@ -151,7 +153,7 @@ impl<'a> Reader<'a> {
     }
 
     #[cycle(types)]
-    #[tactic(auto, unfolding(crate::specs::Reading::read_part, mr_ast::specs::TypeGrammar::enum_form))]
+    #[tactic(auto, unfolding(mr_grammar::specs::Reading::read_part, mr_ast::specs::TypeGrammar::enum_form))]
     fn enumeration(&mut self, alloc: Global, scope: &Scope, room: u32) -> Result<Ty, ReadFault>
         ensures { Gives (λ t. (t, self.new)) result (read_outside room scope.now enum_form self.old) }
     {
@@ -171,7 +173,7 @@ impl<'a> Reader<'a> {
 
     // The fields of a type, in their brackets.
     #[cycle(types)]
-    #[tactic(auto, using(crate::proofs::Walk::InsideLaws::inside))]
+    #[tactic(auto, using(mr_grammar::proofs::Walk::InsideLaws::inside))]
     fn fields(
         &mut self,
         alloc: Global,
@@ -185,9 +187,10 @@ impl<'a> Reader<'a> {
             self.close(Bracket::Curly)?;
             return Ok(Items::new(alloc));
         }
-        let fields = self.some_fields(alloc, scope, inner)?;
-        self.close(Bracket::Curly)?;
-        Ok(fields)
+        match self.some_fields(alloc, scope, inner) {
+            Ok(fields) => self.closed(fields, Bracket::Curly),
+            Err(fault) => Err(fault),
+        }
     }
 
     #[cycle(types)]
@@ -211,21 +214,22 @@ impl<'a> Reader<'a> {
     ) -> Result<Items<(u64, Ty)>, ReadFault>
         ensures { Gives (λ fs. (fs, self.new)) result (read room scope.now fields_form self.old) }
     {
+        let first = self.field(alloc, scope, room)?;
         let mut fields = Items::new(alloc);
-        fields.push(self.field(alloc, scope, room)?)?;
+        fields.push(first)?;
         let most = self.left();
         for _ in 0..most {
             if !self.is_next(b",") {
                 return Ok(fields);
             }
             self.expect(b",")?;
-            fields.push(self.field(alloc, scope, room)?)?;
+            fields = pushed(fields, self.field(alloc, scope, room))?;
         }
         Ok(fields)
     }
 
     // The chunks of a union, in their brackets.
-    #[tactic(auto, using(crate::proofs::Walk::InsideLaws::inside))]
+    #[tactic(auto, using(mr_grammar::proofs::Walk::InsideLaws::inside))]
     fn chunks(
         &mut self,
         alloc: Global,
@@ -239,9 +243,10 @@ impl<'a> Reader<'a> {
             self.close(Bracket::Curly)?;
             return Ok(Items::new(alloc));
         }
-        let chunks = self.some_chunks(alloc, scope, inner)?;
-        self.close(Bracket::Curly)?;
-        Ok(chunks)
+        match self.some_chunks(alloc, scope, inner) {
+            Ok(chunks) => self.closed(chunks, Bracket::Curly),
+            Err(fault) => Err(fault),
+        }
     }
 
     #[tactic(auto, unfolding(mr_ast::specs::TypeGrammar::chunk_form))]
@@ -263,22 +268,23 @@ impl<'a> Reader<'a> {
     ) -> Result<Items<(u64, u64)>, ReadFault>
         ensures { Gives (λ xs. (xs, self.new)) result (read room scope.now chunks_form self.old) }
     {
+        let first = self.chunk(scope, room)?;
         let mut chunks = Items::new(alloc);
-        chunks.push(self.chunk(scope, room)?)?;
+        chunks.push(first)?;
         let most = self.left();
         for _ in 0..most {
             if !self.is_next(b",") {
                 return Ok(chunks);
             }
             self.expect(b",")?;
-            chunks.push(self.chunk(scope, room)?)?;
+            chunks = pushed(chunks, self.chunk(scope, room))?;
         }
         Ok(chunks)
     }
 
     // The variants of an enum, in their brackets.
     #[cycle(types)]
-    #[tactic(auto, using(crate::proofs::Walk::InsideLaws::inside))]
+    #[tactic(auto, using(mr_grammar::proofs::Walk::InsideLaws::inside))]
     fn variants(
         &mut self,
         alloc: Global,
@@ -292,9 +298,10 @@ impl<'a> Reader<'a> {
             self.close(Bracket::Curly)?;
             return Ok(Items::new(alloc));
         }
-        let variants = self.some_variants(alloc, scope, inner)?;
-        self.close(Bracket::Curly)?;
-        Ok(variants)
+        match self.some_variants(alloc, scope, inner) {
+            Ok(variants) => self.closed(variants, Bracket::Curly),
+            Err(fault) => Err(fault),
+        }
     }
 
     // One variant or more, with commas between them.
@@ -308,15 +315,16 @@ impl<'a> Reader<'a> {
     ) -> Result<Items<Variant>, ReadFault>
         ensures { Gives (λ xs. (xs, self.new)) result (read room scope.now variants_form self.old) }
     {
+        let first = self.variant(alloc, scope, room)?;
         let mut variants = Items::new(alloc);
-        variants.push(self.variant(alloc, scope, room)?)?;
+        variants.push(first)?;
         let most = self.left();
         for _ in 0..most {
             if !self.is_next(b",") {
                 return Ok(variants);
             }
             self.expect(b",")?;
-            variants.push(self.variant(alloc, scope, room)?)?;
+            variants = pushed(variants, self.variant(alloc, scope, room))?;
         }
         Ok(variants)
     }
@@ -364,7 +372,7 @@ impl<'a> Reader<'a> {
     }
 
     // The tags of a variant, in their brackets.
-    #[tactic(auto, using(crate::proofs::Walk::InsideLaws::inside))]
+    #[tactic(auto, using(mr_grammar::proofs::Walk::InsideLaws::inside))]
     fn tags(&mut self, alloc: Global, scope: &Scope, room: u32) -> Result<Items<Tag>, ReadFault>
         ensures { Gives (λ xs. (xs, self.new)) result (read room scope.now (listed Curly tags_form) self.old) }
     {
@@ -373,9 +381,10 @@ impl<'a> Reader<'a> {
             self.close(Bracket::Curly)?;
             return Ok(Items::new(alloc));
         }
-        let tags = self.some_tags(alloc, scope, inner)?;
-        self.close(Bracket::Curly)?;
-        Ok(tags)
+        match self.some_tags(alloc, scope, inner) {
+            Ok(tags) => self.closed(tags, Bracket::Curly),
+            Err(fault) => Err(fault),
+        }
     }
 
     // One tag or more, with commas between them.
@@ -388,15 +397,16 @@ impl<'a> Reader<'a> {
     ) -> Result<Items<Tag>, ReadFault>
         ensures { Gives (λ xs. (xs, self.new)) result (read room scope.now tags_form self.old) }
     {
+        let first = self.tag(scope, room)?;
         let mut tags = Items::new(alloc);
-        tags.push(self.tag(scope, room)?)?;
+        tags.push(first)?;
         let most = self.left();
         for _ in 0..most {
             if !self.is_next(b",") {
                 return Ok(tags);
             }
             self.expect(b",")?;
-            tags.push(self.tag(scope, room)?)?;
+            tags = pushed(tags, self.tag(scope, room))?;
         }
         Ok(tags)
     }
@@ -415,7 +425,7 @@ impl<'a> Reader<'a> {
 
     /// The tree of an enum, in which so many brackets may be opened.
     #[cycle(trees)]
-    #[tactic(auto, unfolding(crate::specs::Reading::read_part, mr_ast::specs::TypeGrammar::tree_form))]
+    #[tactic(auto, unfolding(mr_grammar::specs::Reading::read_part, mr_ast::specs::TypeGrammar::tree_form))]
     fn tree(&mut self, alloc: Global, scope: &Scope, room: u32) -> Result<Tree, ReadFault>
         ensures { Gives (λ t. (t, self.new)) result (read_part room scope.now TheTree self.old) }
     {
@@ -427,16 +437,20 @@ impl<'a> Reader<'a> {
     }
 
     #[cycle(trees)]
-    #[tactic(auto, unfolding(mr_ast::specs::TypeGrammar::branch_form), using(crate::proofs::Walk::InsideLaws::inside))]
+    #[tactic(auto, unfolding(mr_ast::specs::TypeGrammar::branch_form), using(mr_grammar::proofs::Walk::InsideLaws::inside))]
     fn branch(&mut self, alloc: Global, scope: &Scope, room: u32) -> Result<Tree, ReadFault>
         ensures { Gives (λ t. (t, self.new)) result (read_outside room scope.now branch_form self.old) }
     {
         let at = self.number()?;
         let int = self.int()?;
         let inner = self.open(Bracket::Curly, room)?;
-        let (cases, rest) = self.all_cases(alloc, scope, inner)?;
-        self.close(Bracket::Curly)?;
-        Ok(Tree::Branch(at, int, cases, Boxed::new(alloc, rest)?))
+        match self.all_cases(alloc, scope, inner) {
+            Ok(cases) => {
+                let (cases, rest) = self.closed(cases, Bracket::Curly)?;
+                Ok(Tree::Branch(at, int, cases, rest))
+            }
+            Err(fault) => Err(fault),
+        }
     }
 
     // The trees for some numbers, and that for all others.
@@ -446,13 +460,29 @@ impl<'a> Reader<'a> {
         alloc: Global,
         scope: &Scope,
         room: u32,
-    ) -> Result<(Items<(Num, Tree)>, Tree), ReadFault>
+    ) -> Result<(Items<(Num, Tree)>, Boxed<Tree>), ReadFault>
         ensures { Gives (λ cs. (cs, self.new)) result (read room scope.now (cases_form ▪ codes "_" ▸ codes "=>" ▸ Part TheTree) self.old) }
     {
-        let cases = self.cases(alloc, scope, room)?;
+        match self.cases(alloc, scope, room) {
+            Ok(cases) => beside(cases, self.other_tree(alloc, scope, room)),
+            Err(fault) => Err(fault),
+        }
+    }
+
+    // The tree for all other numbers.
+    #[cycle(trees)]
+    fn other_tree(
+        &mut self,
+        alloc: Global,
+        scope: &Scope,
+        room: u32,
+    ) -> Result<Boxed<Tree>, ReadFault>
+        ensures { Gives (λ t. (t, self.new)) result (read room scope.now (codes "_" ▸ codes "=>" ▸ Part TheTree) self.old) }
+    {
         self.expect(b"_")?;
         self.expect(b"=>")?;
-        Ok((cases, self.tree(alloc, scope, room)?))
+        let tree = self.tree(alloc, scope, room)?;
+        Ok(Boxed::new(alloc, tree)?)
     }
 
     // The trees for some numbers.
@@ -484,8 +514,9 @@ impl<'a> Reader<'a> {
     {
         let number = self.num(scope, room)?;
         self.expect(b"=>")?;
-        let tree = self.tree(alloc, scope, room)?;
-        self.expect(b",")?;
-        Ok((number, tree))
+        match self.tree(alloc, scope, room) {
+            Ok(tree) => self.followed((number, tree), b","),
+            Err(fault) => Err(fault),
+        }
     }
 }

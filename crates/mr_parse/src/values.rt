@@ -4,22 +4,19 @@ ghost use Rattle.mr_ast.specs.Forms.{Part};
 ghost use Rattle.mr_ast.specs.Writing.{ThePlace, TheType, TheValue, giving, num_form, u64_form, ◌▪◌, ◌◂◌};
 ghost use Rattle.mr_ast.specs.ValueGrammar.{base_form, begins_postfix, deref_form, global_value_form, judged_value, more_values_form, place_from, postfix_form, postfixes_form, value_behind, with_postfix};
 ghost use Rattle.mr_parse.specs.Gives.{Gives};
-ghost use Rattle.mr_parse.specs.Insides.{begins_with_type, is_bracketed, value_inside};
-ghost use Rattle.mr_parse.specs.Reading.{first_at, is_next, read, read_outside, read_part};
+ghost use Rattle.mr_grammar.specs.Insides.{begins_with_type, is_bracketed, value_inside};
+ghost use Rattle.mr_grammar.specs.Reading.{first_at, is_next, read, read_outside, read_part};
 ghost use Rattle.mr_parse.specs.Postfixes.{indexed, postfix_of, with_all};
 
-use crate::reader::{Reader, beside};
+use crate::reader::{Reader, beside, pushed};
 use mr_ast::{
-    BinaryOp, Boxed, Bracket, FnName, GlobalName, Items, LocalName, Num, Place, Role, Ty, Value,
-    ValueWord,
+    BinaryOp, Boxed, Bracket, FnName, GlobalName, Items, LocalName, MAX_OPEN, Num, Place, Role, Ty,
+    Value, ValueWord,
 };
 use mr_words::{
     EXPOSED, ReadFault, Scope, TOO_DEEP, TOO_MANY, UNEXPECTED, is_exposed, value_word_of,
 };
 use std::alloc::{AllocError, Global};
-
-/// How many postfix operators a place may have.
-const MAX_POSTFIXES: usize = 32;
 
 // What stands behind a place and makes another of it.
 #[derive(Drop)]
@@ -67,7 +64,7 @@ impl<'a> Reader<'a> {
 
     /// A value, in which so many brackets may be opened.
     #[cycle(values)]
-    #[tactic(auto, unfolding(crate::specs::Reading::read_part, mr_ast::specs::ValueGrammar::value_form))]
+    #[tactic(auto, unfolding(mr_grammar::specs::Reading::read_part, mr_ast::specs::ValueGrammar::value_form))]
     pub fn value(&mut self, alloc: Global, scope: &Scope<'_>, room: u32) -> Result<Value, ReadFault>
         ensures { Gives (λ v. (v, self.new)) result (read_part room scope.now TheValue self.old) }
     {
@@ -100,7 +97,7 @@ impl<'a> Reader<'a> {
 
     // What stands behind the first word of a value with brackets.
     #[cycle(values)]
-    #[tactic(auto, using(crate::proofs::Walk::InsideLaws::inside, crate::proofs::Walk::BracketLaws::behind_bracketed))]
+    #[tactic(auto, using(mr_grammar::proofs::Walk::InsideLaws::inside, mr_grammar::proofs::Walk::BracketLaws::behind_bracketed))]
     fn bracketed(
         &mut self,
         alloc: Global,
@@ -377,14 +374,14 @@ impl<'a> Reader<'a> {
                 return Ok(values);
             }
             self.expect(b",")?;
-            values.push(self.value(alloc, scope, room)?)?;
+            values = pushed(values, self.value(alloc, scope, room))?;
         }
         Ok(values)
     }
 
     /// A place, in which so many brackets may be opened. Its first word may be one too many.
     #[cycle(values)]
-    #[tactic(auto, unfolding(crate::specs::Reading::read_part, mr_ast::specs::ValueGrammar::place_from))]
+    #[tactic(auto, unfolding(mr_grammar::specs::Reading::read_part, mr_ast::specs::ValueGrammar::place_from))]
     pub fn place(
         &mut self,
         alloc: Global,
@@ -418,7 +415,7 @@ impl<'a> Reader<'a> {
     }
 
     #[cycle(values)]
-    #[tactic(auto, unfolding(mr_ast::specs::ValueGrammar::deref_form), using(crate::proofs::Walk::InsideLaws::inside))]
+    #[tactic(auto, unfolding(mr_ast::specs::ValueGrammar::deref_form), using(mr_grammar::proofs::Walk::InsideLaws::inside))]
     fn deref(
         &mut self,
         alloc: Global,
@@ -430,9 +427,10 @@ impl<'a> Reader<'a> {
     {
         self.expect_limited(b"deref", over, TOO_MANY)?;
         let inner = self.open(Bracket::Round, room)?;
-        let place = self.target_of_pointer(alloc, scope, inner)?;
-        self.close(Bracket::Round)?;
-        Ok(place)
+        match self.target_of_pointer(alloc, scope, inner) {
+            Ok(place) => self.closed(place, Bracket::Round),
+            Err(fault) => Err(fault),
+        }
     }
 
     // The target of a pointer, at a type.
@@ -493,7 +491,7 @@ impl<'a> Reader<'a> {
 
     // The postfix of number k.
     #[cycle(values)]
-    #[tactic(auto, unfolding(mr_ast::specs::ValueGrammar::postfix_form), using(crate::proofs::Walk::InsideLaws::inside))]
+    #[tactic(auto, unfolding(mr_ast::specs::ValueGrammar::postfix_form), using(mr_grammar::proofs::Walk::InsideLaws::inside))]
     fn postfix(
         &mut self,
         alloc: Global,
@@ -503,7 +501,7 @@ impl<'a> Reader<'a> {
     ) -> Result<Postfix, ReadFault>
         ensures { Gives (λ x. (postfix_of x, self.new)) result (read_outside room scope.now (postfix_form k) self.old) }
     {
-        let over = k >= MAX_POSTFIXES;
+        let over = k >= MAX_OPEN as usize;
         if self.is_next(b"[") {
             let inner = self.open_limited(Bracket::Square, room, over)?;
             return match self.value(alloc, scope, inner) {

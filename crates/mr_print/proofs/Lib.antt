@@ -3,4 +3,3 @@ pub mod TypeLaws
 pub mod ValueLaws
 pub mod StmtLaws
 pub mod ProgramLaws
-pub mod NameLaws

@@ -12,7 +12,6 @@
 //! word of a line with LF (`specs/Appends.antt`).
 #![tactic(auto)]
 
-mod names;
 mod program;
 mod stmts;
 mod types;

@@ -1,11 +1,10 @@
 //! The lines of a program.
 ghost use Rattle.std.specs.Prelude.{◌≡◌, ◌++◌, OnOk, OnErr, flat_map, map};
 ghost use Rattle.mr_ast.specs.CanonTypes.{with_commas};
-ghost use Rattle.mr_ast.specs.Canon.{argument_words, block_lines, canonical_text, function_lines, global_line, head_line, header_line, kind_word, lines_of, local_words, locals_line, main_line, repeat_words, stmt_line, texts_in, words_of_item};
+ghost use Rattle.mr_ast.specs.Canon.{argument_words, block_lines, canonical_text, function_lines, global_line, head_line, header_line, kind_word, lines_of, local_words, locals_line, main_line, repeat_words, stmt_line, target_text, texts_in, words_of_item};
 ghost use Rattle.mr_print.specs.Appends.{with_line, with_lines, with_words};
 
 use crate::OutOfMemory;
-use crate::names::{function_name, local_name, target_name, text_of};
 use crate::stmts::{print_stmt, print_term};
 use crate::types::print_type;
 use crate::words::{comma, last_word, number, word};
@@ -50,7 +49,7 @@ fn print_main(program: &Program, text: &mut Vec<u8>) -> Result<(), OutOfMemory>
     ensures { OnOk result (text.new.items ≡ with_line text.old.items (main_line program.now)) }
 {
     word("main", text)?;
-    last_word(function_name(program, program.start), text)
+    last_word(program.function_name(program.start), text)
 }
 
 #[tactic(auto, using(crate::proofs::AppendLaws::lines_laws))]
@@ -72,7 +71,7 @@ fn print_global(program: &Program, global: &Global_, text: &mut Vec<u8>) -> Resu
     ensures { OnOk result (text.new.items ≡ with_line text.old.items (global_line program.now global.now)) }
 {
     word("global", text)?;
-    word(text_of(program, global.name), text)?;
+    word(program.names.text_or_empty(global.name), text)?;
     word("align", text)?;
     number(global.align, text)?;
     word("{", text)?;
@@ -109,6 +108,16 @@ fn print_item(program: &Program, item: Item_, text: &mut Vec<u8>) -> Result<(), 
             word("+", text)?;
             number(offset, text)
         }
+    }
+}
+
+// The name of what a pointer in a global points to.
+fn target_name(program: &Program, to: Target) -> &str
+    ensures { result.now ≡ target_text program.now to }
+{
+    match to {
+        Target::Global(name) => program.global_name(name),
+        Target::Function(name) => program.function_name(name),
     }
 }
 
@@ -158,12 +167,12 @@ fn print_head(program: &Program, function: &Function, text: &mut Vec<u8>) -> Res
     ensures { OnOk result (text.new.items ≡ with_line text.old.items (head_line program.now function.now)) }
 {
     word("fn", text)?;
-    word(text_of(program, function.name), text)?;
+    word(program.names.text_or_empty(function.name), text)?;
     word("(", text)?;
     print_arguments(program, function, text)?;
     word(")", text)?;
     word("->", text)?;
-    word(local_name(program, function, function.ret), text)?;
+    word(program.local_name(function, function.ret), text)?;
     last_word("{", text)
 }
 
@@ -192,7 +201,7 @@ fn print_argument(
 ) -> Result<(), OutOfMemory>
     ensures { OnOk result (text.new.items ≡ with_words text.old.items (argument_words program.now function.now local)) }
 {
-    word(local_name(program, function, local), text)
+    word(program.local_name(function, local), text)
 }
 
 #[tactic(auto, using(crate::proofs::ProgramLaws::locals_laws))]
@@ -216,7 +225,7 @@ fn print_locals(
 fn print_local(program: &Program, local: &Local, text: &mut Vec<u8>) -> Result<(), OutOfMemory>
     ensures { OnOk result (text.new.items ≡ with_words text.old.items (local_words program.now local.now)) }
 {
-    word(text_of(program, local.name), text)?;
+    word(program.names.text_or_empty(local.name), text)?;
     word(":", text)?;
     print_type(&local.ty, text)
 }
@@ -246,7 +255,7 @@ fn print_block(
 ) -> Result<(), OutOfMemory>
     ensures { OnOk result (text.new.items ≡ with_lines text.old.items (block_lines program.now function.now block.now)) }
 {
-    word(text_of(program, block.name), text)?;
+    word(program.names.text_or_empty(block.name), text)?;
     word(kind_word(block.kind), text)?;
     last_word(":", text)?;
     print_stmts(program, function, block.stmts.as_slice(), text)?;

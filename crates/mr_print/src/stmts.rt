@@ -6,7 +6,6 @@ ghost use Rattle.mr_print.specs.Appends.{with_words};
 ghost use Rattle.mr_print.specs.Calls.{call_words, do_words};
 
 use crate::OutOfMemory;
-use crate::names::{block_name, local_name};
 use crate::values::{print_place, print_value, print_values};
 use crate::words::{signed, word};
 use mr_ast::{BlockName, Function, Intrinsic, LocalName, Num, Place, Program, Stmt, Term, Value};
@@ -44,7 +43,7 @@ fn print_of_local(
     ensures { OnOk result (text.new.items ≡ with_words text.old.items (head.now ∷ text_at (local_texts program.now function.now) local.0 ∷ [])) }
 {
     word(head, text)?;
-    word(local_name(program, function, local), text)
+    word(program.local_name(function, local), text)
 }
 
 // Writes a word, and a place.
@@ -139,7 +138,7 @@ fn print_of_block(
     ensures { OnOk result (text.new.items ≡ with_words text.old.items (head.now ∷ text_at (block_texts program.now function.now) block.0 ∷ [])) }
 {
     word(head, text)?;
-    word(block_name(program, function, block), text)
+    word(program.block_name(function, block), text)
 }
 
 #[tactic(auto, using(crate::proofs::StmtLaws::stop_laws))]

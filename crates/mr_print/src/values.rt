@@ -6,7 +6,6 @@ ghost use Rattle.mr_ast.specs.Canon.{function_texts, global_texts, texts_in};
 ghost use Rattle.mr_print.specs.Appends.{with_words};
 
 use crate::OutOfMemory;
-use crate::names::{function_name, global_name, local_name};
 use crate::types::print_type;
 use crate::words::{comma, int_type, number, opened, signed, word};
 use mr_ast::{
@@ -25,7 +24,7 @@ pub(crate) fn print_place(
     ensures { OnOk result (text.new.items ≡ with_words text.old.items (words_of_place (texts_in program.now function.now) place.now)) }
 {
     match place {
-        Place::Local(local) => word(local_name(program, function, *local), text),
+        Place::Local(local) => word(program.local_name(function, *local), text),
         Place::Deref(pointer, ty) => print_deref(program, function, pointer.get(), ty, text),
         Place::Field(whole, field) => {
             print_place(program, function, whole.get(), text)?;
@@ -160,7 +159,7 @@ fn print_function(program: &Program, name: FnName, text: &mut Vec<u8>) -> Result
     ensures { OnOk result (text.new.items ≡ with_words text.old.items (codes "fn" ∷ text_at (function_texts program.now) name.0 ∷ [])) }
 {
     word("fn", text)?;
-    word(function_name(program, name), text)
+    word(program.function_name(name), text)
 }
 
 #[tactic(auto, using(crate::proofs::AppendLaws::word_laws))]
@@ -173,7 +172,7 @@ fn print_global(
     ensures { OnOk result (text.new.items ≡ with_words text.old.items (codes "global" ∷ text_at (global_texts program.now) name.0 ∷ codes "+" ∷ decimal offset ∷ [])) }
 {
     word("global", text)?;
-    word(global_name(program, name), text)?;
+    word(program.global_name(name), text)?;
     word("+", text)?;
     number(offset, text)
 }

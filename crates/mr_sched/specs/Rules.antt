@@ -1,5 +1,7 @@
 -- The rules of schedules, by number and by name.
-use Rattle.std.specs.Prelude.{ℕ, List, codes}
+use Rattle.std.specs.Prelude.{ℕ, ◌==◌, List, [], ◌∷◌, codes, Option}
+use Rattle.std.specs.List.{find}
+use Rattle.std.specs.Option.{option_map_or}
 use Rattle.mr_sched.specs.declared.rule.ScheduleRule.{ScheduleRule}
 use Rattle.mr_sched.specs.declared.rule.ScheduleRule.TheVariants.{BadHeader, BadLine, TooLong, NotEnabled, MissingPick, ExtraPick, BadAddress, Reused, NotWaiting, AfterStop, TooManyThreads, TooManyLocks}
 
@@ -32,3 +34,17 @@ name_of NotWaiting = codes "NotWaiting"
 name_of AfterStop = codes "AfterStop"
 name_of TooManyThreads = codes "TooManyThreads"
 name_of TooManyLocks = codes "TooManyLocks"
+
+-- all rules, by their numbers
+abbrev pub rules : List ScheduleRule
+rules =
+    BadHeader ∷ BadLine ∷ TooLong ∷ NotEnabled ∷ MissingPick ∷ ExtraPick ∷ BadAddress ∷ Reused ∷ NotWaiting ∷
+    AfterStop ∷ TooManyThreads ∷ TooManyLocks ∷ []
+
+-- the rule of a number, where there is one
+abbrev pub rule_of : ℕ → Option ScheduleRule
+rule_of code = find (λ r. code_of r == code) rules
+
+-- the name of the rule of a number, and none where there is no such rule
+abbrev pub name_by_code : ℕ → List ℕ
+name_by_code code = option_map_or name_of (rule_of code) []

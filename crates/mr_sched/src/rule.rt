@@ -1,6 +1,6 @@
 //! The rules of schedules, each with its code and its name.
 ghost use Rattle.std.specs.Prelude.{◌≡◌, IfSome, Some};
-ghost use Rattle.mr_sched.specs.Rules.{code_of, name_of};
+ghost use Rattle.mr_sched.specs.Rules.{code_of, name_of, rule_of};
 ghost use Rattle.mr_sched.specs.declared.rule.ScheduleRule.{ScheduleRule as Rule};
 
 /// Which rule a schedule breaks: one of its text, or one of a step that it records.
@@ -77,6 +77,7 @@ impl ScheduleRule {
     pub fn of_code(code: u8) -> Option<ScheduleRule>
         ensures some { IfSome result (λ rule. code_of rule ≡ code) }
         ensures only { (rule : Rule) → code_of rule ≡ code → result ≡ Some rule }
+        ensures is { result ≡ rule_of code }
     {
         match code {
             50 => Some(ScheduleRule::BadHeader),

@@ -3,4 +3,5 @@ pub mod EndLaws
 pub mod NamingLaws
 pub mod PlaceLaws
 pub mod ScopeLaws
+pub mod TableLaws
 pub mod TextLaws

@@ -9,6 +9,7 @@ use Rattle.std.proofs.lemmas.List.{length-append, length-map}
 use Rattle.std.proofs.lemmas.List.Folds.{list_any-append, list_any_at}
 use Rattle.std.proofs.lemmas.List.Quantifiers.{position-Some}
 use Rattle.std.proofs.lemmas.Slice.Eq.{bytes_eq-Decides}
+use Rattle.mr_base.proofs.Comparisons.{lt_from}
 use Rattle.mr_ast.specs.declared.words.Role.TheVariants.{DefinesGlobal, DefinesFunction, DefinesLocal, DefinesBlock, UsesGlobal, UsesFunction, UsesLocal, UsesBlock}
 use Rattle.mr_ast.specs.Scope.{Definitions, FunctionNames, Scope, all_names, as_function, as_global, defined_in, each_once, function_names, is_number, item_names, names_of, number_in, number_of_name, used_in, with_text}
 use Rattle.mr_ast.specs.ShapedValues.{Named}
@@ -145,11 +146,8 @@ global_fine : (globals n : ℕ) (found : Option ℕ) → as_global globals found
 global_fine globals n None e = absurd (cc)
 global_fine globals n (Some m) e = go (nat_lt m globals) refl e
   where
-    less : (a b : ℕ) → nat_lt a b ≡ true → a < b
-    less a b t = grind (arith, nat_tests)
-
     go : (small : Bool) → nat_lt m globals ≡ small → (if small then Some m else None) ≡ Some n → n < globals
-    go true t e = let same : m ≡ n = cc in rw (sym same) (less m globals t)
+    go true t e = let same : m ≡ n = cc in rw (sym same) (lt_from m globals t)
     go false t e = absurd (cc)
 
 function_fine : (globals n : ℕ) (found : Option ℕ) → as_function globals found ≡ Some n → (m : ℕ) × (found ≡ Some m) × (globals + n ≡ m)

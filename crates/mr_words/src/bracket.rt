@@ -7,10 +7,8 @@ ghost use Rattle.mr_words.specs.Places.{words_of};
 
 use crate::definitions::text_at;
 use crate::fault::{Stop, TOO_DEEP, UNEXPECTED};
+use mr_ast::MAX_OPEN;
 use mr_lex::Tokens;
-
-/// How many brackets of a text may be open.
-pub const MAX_OPEN: u32 = 32;
 
 // How many brackets are opened, and how many are closed.
 #[derive(Clone, Copy)]

@@ -1,8 +1,6 @@
 //! Where reading stops, and why.
 use std::alloc::{AllocError, AllocFailed};
 
-/// The code of a number that is too large.
-pub const BAD_NUMBER: u8 = 2;
 /// The code of a token with which no text can go on.
 pub const UNEXPECTED: u8 = 4;
 /// The code of a use of a name that its space doesn't hold.

@@ -21,10 +21,10 @@ mod place;
 mod scope;
 mod table;
 
-pub use bracket::{MAX_OPEN, told};
+pub use bracket::told;
 pub use definitions::{Definitions, FunctionNames, definitions_in};
 pub use fault::{
-    BAD_NUMBER, DOUBLE_NAME, EXPOSED, ReadFault, Stop, TOO_DEEP, TOO_MANY, UNEXPECTED, UNKNOWN_NAME,
+    DOUBLE_NAME, EXPOSED, ReadFault, Stop, TOO_DEEP, TOO_MANY, UNEXPECTED, UNKNOWN_NAME,
 };
 pub use number::number_of;
 pub use place::fault_at;

@@ -12,28 +12,6 @@ use mr_ast::{
     UnaryOp, ValueWord,
 };
 
-const RESERVED: [&[u8]; 19] = [
-    b"live",
-    b"dead",
-    b"mention",
-    b"disc",
-    b"deinit",
-    b"validate",
-    b"goto",
-    b"switch",
-    b"unreachable",
-    b"return",
-    b"exit",
-    b"abort",
-    b"resume",
-    b"stop",
-    b"unwind",
-    b"call",
-    b"do",
-    b"deref",
-    b"_",
-];
-
 const INTS: [(&[u8], IntType); 10] = [
     (b"u8", IntType::U8),
     (b"u16", IntType::U16),
@@ -308,21 +286,15 @@ fn has_word_bytes(text: &[u8]) -> bool
     text.iter().all(|byte| is_in_name(*byte))
 }
 
-fn is_among(text: &[u8], words: &[&[u8]]) -> bool
-    ensures { result ≡ list_any (bytes_eq text.now) (map (λ w. w.now) words.now) }
-{
-    for word in words {
-        if text == *word {
-            return true;
-        }
-    }
-    false
-}
-
+// Whether the word begins a statement or a terminator, or is one of the two others that no name may be.
+#[tactic(auto, using(crate::proofs::TableLaws::is_reserved))]
 fn is_reserved(text: &[u8]) -> bool
     ensures { result ≡ list_any (bytes_eq text.now) reserved }
 {
-    is_among(text, &RESERVED)
+    stmt_word_of(text).is_some()
+        || term_word_of(text).is_some()
+        || is_same(text, b"deref")
+        || is_same(text, b"_")
 }
 
 /// Whether the text is a word that may be a name.

@@ -5,7 +5,7 @@ use Rattle.mr_ast.specs.Forms.{Word, Then, In}
 use Rattle.mr_ast.specs.Scope.{Scope}
 use Rattle.mr_ast.specs.Writing.{judged_name, name_form}
 use Rattle.mr_ast.specs.ProgramGrammar.{body_form, function_form, inside_function, with_name}
-use Rattle.mr_parse.specs.Reading.{expected, first_at, read}
+use Rattle.mr_grammar.specs.Reading.{expected, first_at, read}
 use Rattle.mr_parse.specs.Views.{named}
 use Rattle.mr_parse.proofs.Walk.LoopLaws.{behind_word}
 

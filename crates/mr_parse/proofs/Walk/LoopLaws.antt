@@ -7,8 +7,9 @@ use Rattle.mr_ast.specs.Writing.{Writing, ◌▸◌, is_word}
 use Rattle.mr_words.specs.declared.fault.Stop.{Stop}
 use Rattle.mr_words.specs.declared.fault.ReadFault.{ReadFault}
 use Rattle.mr_words.specs.declared.fault.ReadFault.TheVariants.{At, Memory}
-use Rattle.mr_parse.specs.Gives.{Fails}
-use Rattle.mr_parse.specs.Reading.{◌>>=◌, Reads, expected, is_next, many_at, read, stop}
+use Rattle.mr_parse.specs.Gives.{Fails, Gives}
+use Rattle.mr_parse.specs.Views.{Pushes}
+use Rattle.mr_grammar.specs.Reading.{◌>>=◌, Reads, expected, is_next, many_at, read, stop}
 
 -- what is read, behind what was read before
 abbrev pub with_front : {A : Type 0} → List A → Result (List A × List Word) Stop → Result (List A × List Word) Stop
@@ -55,6 +56,18 @@ module _ {A : Type 0} (read : ℕ → Reads A) (test : List ℕ → Bool) (front
       let now : many_at read test (n - k) k ws ≡ Err s = rw (turn, is, e) refl in
       sym so_far ∙ ap (with_front front) now
 
+  -- one more that was read is put at the end
+  pub pushed_goes_on : (answer : Result A ReadFault) (rest : List Word) (all : List A) → k < n → is_next test ws ≡ true → Gives (λ x. (x, rest)) answer (read k ws) → Pushes front answer (Ok all)
+      → with_front all (many_at read test (n - (k + 1)) (k + 1) rest) ≡ total
+  pushed_goes_on (Ok x) rest all lt is gives put = rw put (goes_on x rest lt is gives)
+  pushed_goes_on (Err f) rest all lt is gives put = absurd (cc)
+
+  -- one more can't be read, or memory runs out
+  pub pushed_stops : (answer : Result A ReadFault) (rest : List Word) (fault : ReadFault) → k < n → is_next test ws ≡ true → Gives (λ x. (x, rest)) answer (read k ws) → Pushes front answer (Err fault)
+      → Fails fault total
+  pushed_stops (Ok x) rest fault lt is gives put = rw put tt
+  pushed_stops (Err f) rest fault lt is gives put = let same : fault ≡ f = cc in rw same (stops f lt is gives)
+
 -- what is read and given again
 unit_law : {A : Type 0} (m : Result (A × List Word) Stop) → (m >>= λ x. Ok (x.0, x.1)) ≡ m
 unit_law (Ok x) = refl
@@ -90,6 +103,19 @@ module _ {A : Type 0} (room : ℕ) (scope : Scope) (a : ℕ → Writing A) (fron
   comma_stops fault here lt is comma e =
       stops (λ k. read room scope (codes "," ▸ a k)) (is_word (codes ",")) front n k ws total so_far fault lt is
       (subst (Fails fault) (sym (behind_word room scope (codes ",") (a k) ws here comma)) e)
+
+  -- one more that was read behind a comma is put at the end
+  pub comma_pushed_goes_on : (answer : Result A ReadFault) (here rest : List Word) (all : List A) → k < n → is_next (is_word (codes ",")) ws ≡ true → expected (codes ",") ws ≡ Ok here
+      → Gives (λ x. (x, rest)) answer (read room scope (a k) here) → Pushes front answer (Ok all)
+      → with_front all (many_at (λ k. read room scope (codes "," ▸ a k)) (is_word (codes ",")) (n - (k + 1)) (k + 1) rest) ≡ total
+  comma_pushed_goes_on (Ok x) here rest all lt is comma gives put = rw put (comma_goes_on x here rest lt is comma gives)
+  comma_pushed_goes_on (Err f) here rest all lt is comma gives put = absurd (cc)
+
+  -- one more can't be read behind a comma, or memory runs out
+  pub comma_pushed_stops : (answer : Result A ReadFault) (here rest : List Word) (fault : ReadFault) → k < n → is_next (is_word (codes ",")) ws ≡ true → expected (codes ",") ws ≡ Ok here
+      → Gives (λ x. (x, rest)) answer (read room scope (a k) here) → Pushes front answer (Err fault) → Fails fault total
+  comma_pushed_stops (Ok x) here rest fault lt is comma gives put = rw put tt
+  comma_pushed_stops (Err f) here rest fault lt is comma gives put = let same : fault ≡ f = cc in rw same (comma_stops f here lt is comma gives)
 
   -- no comma stands there
   pub comma_is_done : is_next (is_word (codes ",")) ws ≡ false → total ≡ Ok (front, ws)

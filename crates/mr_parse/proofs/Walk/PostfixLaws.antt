@@ -8,7 +8,7 @@ use Rattle.mr_words.specs.declared.fault.ReadFault.{ReadFault}
 use Rattle.mr_words.specs.declared.fault.ReadFault.TheVariants.{At, Memory}
 use Rattle.mr_parse.specs.Gives.{Fails}
 use Rattle.mr_parse.specs.Postfixes.{with_all}
-use Rattle.mr_parse.specs.Reading.{◌>>=◌, Reads, is_next, many_at}
+use Rattle.mr_grammar.specs.Reading.{◌>>=◌, Reads, is_next, many_at}
 
 with_all-push : (p : Place) (x : Postfix) (read : Result (List Postfix × List Word) Stop) → with_all p (read >>= λ xs. Ok (x ∷ xs.0, xs.1)) ≡ with_all (with_postfix p x) read
 with_all-push p x (Err s) = refl

@@ -1,4 +1,3 @@
-use Rattle.std.proofs.Common.{◌≡◌, Some, slice_get}
 use Rattle.mr_ast.proofs.NameLaws.{Adds-again, IsFirst-Adds, IsFirst-kept, IsFirst-later, one_text}
 use Rattle.mr_ast.proofs.names.names_read_back.Goals as goal
 

@@ -1,5 +1,5 @@
 use Rattle.std.proofs.Common.{◌≡◌, Err}
-use Rattle.mr_parse.specs.Parsing.{whole_of}
+use Rattle.mr_grammar.specs.Parsing.{whole_of}
 use Rattle.mr_words.specs.Places.{words_of}
 use Rattle.mr_parse.proofs.ParseLaws.{whole_stopped, whole_written}
 use Rattle.mr_parse.proofs.parsing.body.Goals as goal

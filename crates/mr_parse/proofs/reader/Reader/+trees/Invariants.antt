@@ -1,7 +1,7 @@
 use Rattle.std.proofs.Common.{◌≡◌, ◌+◌, ◌-◌, ◌*◌, codes}
 use Rattle.mr_ast.specs.Writing.{other_than}
 use Rattle.mr_ast.specs.TypeGrammar.{case_form, cases_form}
-use Rattle.mr_parse.specs.Reading.{read, many_at}
+use Rattle.mr_grammar.specs.Reading.{read, many_at}
 use Rattle.mr_parse.proofs.Walk.LoopLaws.{with_front}
 use Rattle.mr_parse.proofs.reader.Reader.+trees.Given as goal
 
@@ -13,6 +13,9 @@ decreases-branch l = 5 * l.room
 
 abbrev pub decreases-all_cases : goal.decreases-all_cases
 decreases-all_cases l = 5 * l.room + 4
+
+abbrev pub decreases-other_tree : goal.decreases-other_tree
+decreases-other_tree l = 5 * l.room + 2
 
 abbrev pub decreases-cases : goal.decreases-cases
 decreases-cases l = 5 * l.room + 3

@@ -4,25 +4,25 @@ use Rattle.mr_ast.specs.Forms.{Part}
 use Rattle.mr_ast.specs.Writing.{TheValue}
 use Rattle.mr_ast.specs.ValueGrammar.{begins_postfix, more_values_form, postfix_form, postfixes_form}
 use Rattle.mr_parse.specs.Postfixes.{postfix_of, with_all}
-use Rattle.mr_parse.specs.Reading.{read, read_outside}
+use Rattle.mr_grammar.specs.Reading.{read, read_outside}
 use Rattle.mr_parse.proofs.Walk.PostfixLaws.{postfix_goes_on, postfix_stops, postfix_is_done, postfix_is_past}
-use Rattle.mr_parse.proofs.Walk.LoopLaws.{comma_goes_on, comma_stops, comma_is_done, comma_is_past}
+use Rattle.mr_parse.proofs.Walk.LoopLaws.{comma_pushed_goes_on, comma_pushed_stops, comma_is_done, comma_is_past}
 use Rattle.mr_parse.proofs.reader.Reader.+values.Goals as goal
 
 pub more_values-returns-then-not-is_next : goal.more_values-returns-then-not-is_next
 more_values-returns-then-not-is_next t c =
     comma_is_done c.args.room c.args.scope.now (λ k. Part TheValue) c.loop.values c.left-most.result c.loop.counter c.loop.self (read c.args.room c.args.scope.now more_values_form c.args.self.now) c.loop.invariant (sym c.if-not-is_next.ensures)
 
-pub more_values-returns-in_err-value : goal.more_values-returns-in_err-value
-more_values-returns-in_err-value t c =
-    let p = err_from_is_err_and c.from_residual-in_err-value.result c.from_residual-in_err-value.ensures.1 in
-    rw (p.1, p.2) (comma_stops c.args.room c.args.scope.now (λ k. Part TheValue) c.loop.values c.left-most.result c.loop.counter c.loop.self (read c.args.room c.args.scope.now more_values_form c.args.self.now) c.loop.invariant
-    c.in_err-value.field-0.0 c.expect.new.self (omega arith) (sym c.if-not-is_next.ensures) c.in_ok-expect.ensures c.in_err-value.ensures)
+pub more_values-returns-in_err-values : goal.more_values-returns-in_err-values
+more_values-returns-in_err-values t c =
+    let p = err_from_is_err_and c.from_residual-in_err-values.result c.from_residual-in_err-values.ensures.1 in
+    rw (p.1, p.2) (comma_pushed_stops c.args.room c.args.scope.now (λ k. Part TheValue) c.loop.values c.left-most.result c.loop.counter c.loop.self (read c.args.room c.args.scope.now more_values_form c.args.self.now) c.loop.invariant
+    c.value.result c.expect.new.self c.value.new.self c.in_err-values.field-0.0 (omega arith) (sym c.if-not-is_next.ensures) c.in_ok-expect.ensures c.value.ensures c.in_err-values.ensures)
 
 pub more_values-loop-preserved : goal.more_values-loop-preserved
 more_values-loop-preserved t c =
-    rw c.in_ok-push.ensures.ok (comma_goes_on c.args.room c.args.scope.now (λ k. Part TheValue) c.loop.values c.left-most.result c.loop.counter c.loop.self (read c.args.room c.args.scope.now more_values_form c.args.self.now) c.loop.invariant
-    c.in_ok-value.field-0 c.expect.new.self c.value.new.self (omega arith) (sym c.if-not-is_next.ensures) c.in_ok-expect.ensures c.in_ok-value.ensures)
+    comma_pushed_goes_on c.args.room c.args.scope.now (λ k. Part TheValue) c.loop.values c.left-most.result c.loop.counter c.loop.self (read c.args.room c.args.scope.now more_values_form c.args.self.now) c.loop.invariant
+    c.value.result c.expect.new.self c.value.new.self _ (omega arith) (sym c.if-not-is_next.ensures) c.in_ok-expect.ensures c.value.ensures c.in_ok-values.ensures
 
 pub more_values-returns : goal.more_values-returns
 more_values-returns t c =

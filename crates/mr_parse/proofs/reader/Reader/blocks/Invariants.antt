@@ -1,7 +1,7 @@
 use Rattle.std.proofs.Common.{◌≡◌, ◌-◌, suc, codes}
 use Rattle.mr_ast.specs.ProgramGrammar.{block_form, blocks_form}
 use Rattle.mr_ast.specs.Writing.{other_than}
-use Rattle.mr_parse.specs.Reading.{read, many_at}
+use Rattle.mr_grammar.specs.Reading.{read, many_at}
 use Rattle.mr_parse.proofs.Walk.LoopLaws.{with_front}
 use Rattle.mr_parse.proofs.reader.Reader.blocks.Given as goal
 

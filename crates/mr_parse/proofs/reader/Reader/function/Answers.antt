@@ -1,7 +1,7 @@
 use Rattle.std.proofs.Common.{sym, subst}
 use Rattle.mr_ast.specs.ProgramGrammar.{body_form}
 use Rattle.mr_parse.specs.Gives.{Gives}
-use Rattle.mr_parse.specs.Reading.{read}
+use Rattle.mr_grammar.specs.Reading.{read}
 use Rattle.mr_parse.specs.Views.{named}
 use Rattle.mr_parse.proofs.Walk.FunctionLaws.{function_reads}
 use Rattle.mr_parse.proofs.reader.Reader.function.Goals as goal

@@ -1,29 +1,29 @@
-use Rattle.std.proofs.Common.{◌≡◌, ◌+◌, suc, Ok, sym, subst, arith}
+use Rattle.std.proofs.Common.{◌≡◌, ◌+◌, suc, sym, subst, arith}
 use Rattle.std.proofs.lemmas.Result.{err_from_is_err_and}
 use Rattle.mr_ast.specs.ProgramGrammar.{local_form, locals_form}
-use Rattle.mr_parse.specs.Gives.{Fails}
-use Rattle.mr_parse.specs.Reading.{read}
-use Rattle.mr_parse.proofs.Walk.LoopLaws.{comma_goes_on, comma_stops, comma_is_done, comma_is_past}
+use Rattle.mr_parse.specs.Gives.{Gives}
+use Rattle.mr_grammar.specs.Reading.{read}
+use Rattle.mr_parse.proofs.Walk.LoopLaws.{comma_pushed_goes_on, comma_pushed_stops, comma_is_done, comma_is_past}
 use Rattle.mr_parse.proofs.reader.Reader.locals.Goals as goal
 
 pub returns-then-not-is_next : goal.returns-then-not-is_next
 returns-then-not-is_next c =
     comma_is_done c.args.room c.args.scope.now (λ k. local_form (suc k)) c.loop-k.locals c.turns-most.result c.loop-k.k c.loop-k.self (read c.args.room c.args.scope.now locals_form c.args.self.now) c.loop-k.invariant (sym c.if-not-is_next.ensures)
 
-pub returns-in_err-local_definition-2 : goal.returns-in_err-local_definition-2
-returns-in_err-local_definition-2 c =
-    let p = err_from_is_err_and c.from_residual-in_err-local_definition-2.result c.from_residual-in_err-local_definition-2.ensures.1 in
+pub returns-in_err-locals : goal.returns-in_err-locals
+returns-in_err-locals c =
+    let p = err_from_is_err_and c.from_residual-in_err-locals.result c.from_residual-in_err-locals.ensures.1 in
     let next : c.loop-k.k + 1 ≡ suc c.loop-k.k = omega arith in
-    let failed = subst (λ n. Fails c.in_err-local_definition-2.field-0.0 (read c.args.room c.args.scope.now (local_form n) c.expect.new.self)) next c.in_err-local_definition-2.ensures in
-    rw (p.1, p.2) (comma_stops c.args.room c.args.scope.now (λ k. local_form (suc k)) c.loop-k.locals c.turns-most.result c.loop-k.k c.loop-k.self (read c.args.room c.args.scope.now locals_form c.args.self.now) c.loop-k.invariant
-    c.in_err-local_definition-2.field-0.0 c.expect.new.self (omega arith) (sym c.if-not-is_next.ensures) c.in_ok-expect.ensures failed)
+    let given = subst (λ n. Gives (λ x. (x, c.local_definition-in-loop-k.new.self)) c.local_definition-in-loop-k.result (read c.args.room c.args.scope.now (local_form n) c.expect.new.self)) next c.local_definition-in-loop-k.ensures in
+    rw (p.1, p.2) (comma_pushed_stops c.args.room c.args.scope.now (λ k. local_form (suc k)) c.loop-k.locals c.turns-most.result c.loop-k.k c.loop-k.self (read c.args.room c.args.scope.now locals_form c.args.self.now) c.loop-k.invariant
+    c.local_definition-in-loop-k.result c.expect.new.self c.local_definition-in-loop-k.new.self c.in_err-locals.field-0.0 (omega arith) (sym c.if-not-is_next.ensures) c.in_ok-expect.ensures given c.in_err-locals.ensures)
 
 pub loop-k-preserved : goal.loop-k-preserved
 loop-k-preserved c =
     let next : c.loop-k.k + 1 ≡ suc c.loop-k.k = omega arith in
-    let one = subst (λ n. read c.args.room c.args.scope.now (local_form n) c.expect.new.self ≡ Ok (c.in_ok-local_definition-2.field-0, c.local_definition-in-loop-k.new.self)) next c.in_ok-local_definition-2.ensures in
-    rw c.in_ok-push-2.ensures.ok (comma_goes_on c.args.room c.args.scope.now (λ k. local_form (suc k)) c.loop-k.locals c.turns-most.result c.loop-k.k c.loop-k.self (read c.args.room c.args.scope.now locals_form c.args.self.now) c.loop-k.invariant
-    c.in_ok-local_definition-2.field-0 c.expect.new.self c.local_definition-in-loop-k.new.self (omega arith) (sym c.if-not-is_next.ensures) c.in_ok-expect.ensures one)
+    let given = subst (λ n. Gives (λ x. (x, c.local_definition-in-loop-k.new.self)) c.local_definition-in-loop-k.result (read c.args.room c.args.scope.now (local_form n) c.expect.new.self)) next c.local_definition-in-loop-k.ensures in
+    comma_pushed_goes_on c.args.room c.args.scope.now (λ k. local_form (suc k)) c.loop-k.locals c.turns-most.result c.loop-k.k c.loop-k.self (read c.args.room c.args.scope.now locals_form c.args.self.now) c.loop-k.invariant
+    c.local_definition-in-loop-k.result c.expect.new.self c.local_definition-in-loop-k.new.self _ (omega arith) (sym c.if-not-is_next.ensures) c.in_ok-expect.ensures given c.in_ok-locals.ensures
 
 pub returns : goal.returns
 returns c =

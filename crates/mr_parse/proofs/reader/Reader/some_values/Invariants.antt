@@ -3,7 +3,7 @@ use Rattle.mr_ast.specs.Writing.{◌▸◌, is_word}
 use Rattle.mr_ast.specs.Forms.{Part}
 use Rattle.mr_ast.specs.Writing.{TheValue}
 use Rattle.mr_ast.specs.ProgramGrammar.{values_form}
-use Rattle.mr_parse.specs.Reading.{read, many_at}
+use Rattle.mr_grammar.specs.Reading.{read, many_at}
 use Rattle.mr_parse.proofs.Walk.LoopLaws.{with_front}
 use Rattle.mr_parse.proofs.reader.Reader.some_values.Given as goal
 

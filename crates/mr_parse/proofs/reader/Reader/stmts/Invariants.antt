@@ -1,6 +1,6 @@
 use Rattle.std.proofs.Common.{◌≡◌, ◌-◌}
 use Rattle.mr_ast.specs.ProgramGrammar.{begins_stmt, stmt_form, stmts_form}
-use Rattle.mr_parse.specs.Reading.{read, many_at}
+use Rattle.mr_grammar.specs.Reading.{read, many_at}
 use Rattle.mr_parse.proofs.Walk.LoopLaws.{with_front}
 use Rattle.mr_parse.proofs.reader.Reader.stmts.Given as goal
 

@@ -1,0 +1,9 @@
+pub mod AsciiLaws
+pub mod Canon
+pub mod Names
+pub mod Nesting
+pub mod ParsingLaws
+pub mod Shape
+pub mod Stops
+pub mod Tokens
+pub mod Walk

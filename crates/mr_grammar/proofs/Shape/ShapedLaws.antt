@@ -1,0 +1,72 @@
+-- Each program that a text denotes is shaped.
+use Rattle.std.proofs.Common.{◌≡◌, ℕ, suc, List, [], ◌∷◌, length, refl, ap, sym, ◌∙◌}
+use Rattle.std.specs.List.{AllByRecursion}
+use Rattle.std.proofs.lemmas.List.{length-map}
+use Rattle.std.proofs.lemmas.List.Elements.{All-from_recursion}
+use Rattle.mr_ast.specs.declared.program.Function.{Function}
+use Rattle.mr_ast.specs.declared.program.Program.{Program}
+use Rattle.mr_ast.specs.Forms.{Word}
+use Rattle.mr_ast.specs.Scope.{Definitions, function_names}
+use Rattle.mr_ast.specs.Shaped.{Shaped, ShapedFunction}
+use Rattle.mr_ast.specs.ProgramGrammar.{ProgramBody, program_form}
+use Rattle.mr_ast.specs.Spelled.{SpelledPart}
+use Rattle.mr_words.specs.Places.{words_of}
+use Rattle.mr_grammar.specs.Denotes.{Denotes, Writes, definitions_in, program_of}
+use Rattle.mr_words.specs.Defined.{function_names_in, knowing, text_at, unknown}
+use Rattle.mr_grammar.proofs.Names.DefinedTwice.{FunctionTwice, ProgramTwice, defined_twice, functions_twice}
+use Rattle.mr_grammar.proofs.Walk.EnsureLaws.{EachFrom, Ensures}
+use Rattle.mr_words.proofs.PlaceLaws.{StandsIn, words_stand}
+use Rattle.mr_grammar.proofs.Shape.ShapedPrograms.{BodyShaped, Counted, ensures_program}
+use Rattle.mr_grammar.proofs.Names.TwoScopes.{EachTwo, each_length}
+
+-- the functions have as many locals and blocks as are defined in them
+functions_shaped : (IsGood : Word → Type 0) (p : Program) (d : Definitions) (words : List Word) (k : ℕ) (fs gs : List Function)
+    → EachTwo (λ j f g. FunctionTwice IsGood (knowing d) j f g × (function_names d j ≡ function_names_in words g)) k fs gs
+    → EachFrom (λ j f. Counted d j f → ShapedFunction p f) k fs → AllByRecursion (ShapedFunction p) fs
+functions_shaped IsGood p d words k [] gs twice each = tt
+functions_shaped IsGood p d words k (f ∷ fs) [] twice each = absurd twice
+functions_shaped IsGood p d words k (f ∷ fs) (g ∷ gs) twice each =
+    (each.0 (counted twice.0.0 twice.0.1), functions_shaped IsGood p d words (suc k) fs gs twice.1 each.1)
+  where
+    counted : FunctionTwice IsGood (knowing d) k f g → function_names d k ≡ function_names_in words g → Counted d k f
+    counted both here = (
+      each_length _ 0 f.locals g.locals both.locals ∙ sym (length-map g.locals (λ l. text_at words l.name)) ∙ sym (ap (λ names. length names.locals) here),
+      each_length _ 0 f.blocks g.blocks both.blocks ∙ sym (length-map g.blocks (λ b. text_at words b.name)) ∙ sym (ap (λ names. length names.blocks) here),
+    )
+
+-- the program of the words, where the names stand for what the words define
+named_is_shaped : (words : List Word) (shape body : ProgramBody) → AllByRecursion (StandsIn words) words → Writes unknown words shape → Writes (knowing (definitions_in words shape)) words body
+    → Shaped (program_of (definitions_in words shape) body)
+named_is_shaped words shape body stand grammatical named = record {
+  edition = refl;
+  globals = shaped.globals_shaped;
+  functions = All-from_recursion (ShapedFunction p) body.functions
+      (functions_shaped (StandsIn words) p d words 0 body.functions shape.functions (functions_twice (StandsIn words) words shape body twice) shaped.functions_shaped);
+  start = shaped.start_within;
+  few_globals = shaped.few_globals;
+  few_functions = shaped.few_functions;
+}
+  where
+    d : Definitions
+    d = definitions_in words shape
+
+    p : Program
+    p = program_of (definitions_in words shape) body
+
+    twice : ProgramTwice (StandsIn words) (knowing d) body shape
+    twice = defined_twice (StandsIn words) d words shape body stand grammatical named
+
+    globals : length body.globals ≡ length d.globals
+    globals = each_length _ 0 body.globals shape.globals twice.globals ∙ sym (length-map shape.globals (λ g. text_at words g.name))
+
+    functions : length body.functions ≡ length d.functions
+    functions = each_length _ 0 body.functions shape.functions twice.functions ∙ sym (length-map shape.functions (function_names_in words))
+
+    shaped : BodyShaped p d body
+    shaped =
+        let law : Ensures named.written.0 32 (SpelledPart named.written.0) (knowing d) program_form (BodyShaped p d) = ensures_program p d refl globals functions in
+        law.holds body named.marks named.fine named.written.1
+
+-- Each program that a text denotes is shaped.
+pub denoted_is_shaped : (text : List ℕ) (p : Program) → Denotes text p → Shaped p
+denoted_is_shaped text p den = rw den.program (named_is_shaped (words_of den.lexemes) den.shape den.body (words_stand den.lexemes) den.grammatical den.named)

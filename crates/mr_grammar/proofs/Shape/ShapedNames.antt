@@ -1,0 +1,97 @@
+-- The names that a row without a broken limit writes, where the text's definitions are known.
+use Rattle.std.proofs.Common.{◌≡◌, ℕ, ◌+◌, ◌-◌, ◌<◌, ◌≤◌, Bool, true, false, if◌then◌else◌, List, length, map, Option, None, Some, refl, ap, sym, ◌∙◌, arith}
+use Rattle.std.specs.Prelude.{nat_le, nat_lt}
+use Rattle.std.proofs.lemmas.Bool.Decides.{nat_tests}
+use Rattle.mr_base.proofs.Comparisons.{lt_from, lt_test}
+use Rattle.mr_base.proofs.Options.{some_is}
+use Rattle.mr_ast.specs.declared.words.Role.{Role}
+use Rattle.mr_ast.specs.declared.words.Role.TheVariants.{DefinesGlobal, DefinesFunction, DefinesLocal, DefinesBlock, UsesGlobal, UsesFunction, UsesLocal, UsesBlock}
+use Rattle.mr_ast.specs.declared.program.Target.{Target}
+use Rattle.mr_ast.specs.declared.program.Target.TheVariants as target
+use Rattle.mr_ast.specs.Forms.{Word}
+use Rattle.mr_ast.specs.Scope.{Definitions, Scope, item_names, name_number, names_of, number_in, number_of_name, target_of}
+use Rattle.mr_ast.specs.Shaped.{is_block, is_local}
+use Rattle.mr_ast.specs.ShapedValues.{Named}
+use Rattle.std.proofs.lemmas.List.{length-append, length-map}
+use Rattle.mr_ast.specs.Words.{is_name}
+use Rattle.mr_ast.specs.Writing.{block_use, function_use, global_use, judged_name, judged_target, local_use, name_form, target_use}
+use Rattle.mr_grammar.proofs.Walk.EnsureLaws.{Ensures, Parts, ensures_giving, ensures_cases, ensures_empty}
+use Rattle.mr_words.proofs.ScopeLaws.{define_block, define_function, define_global, define_local, named_at, number_within, scope_at, use_block, use_function, use_global, use_local}
+
+pub below : (m n : ℕ) → nat_le n m ≡ false → m < n
+below m n e = grind (arith, nat_tests)
+
+-- a name that breaks no limit: it isn't one too many, and what it stands for is no fault
+pub name_fine : (over : Bool) (role : Role) (scope : Scope) (w : Word) (n : ℕ) → judged_name over role scope w ≡ Some (n, None)
+    → (over ≡ false) × (is_name w.text ≡ true) × (name_number scope role w ≡ (n, None))
+unfolding judged_name
+name_fine over role scope w n e = go (is_name w.text) over (name_number scope role w) refl e
+  where
+    go : (name many : Bool) (found : ℕ × Option ℕ) → is_name w.text ≡ name
+        → ◌≡◌ {A = Option (ℕ × Option ℕ)} (if name then Some (found.0, if many then Some 8 else found.1) else None) (Some (n, None))
+        → (many ≡ false) × (is_name w.text ≡ true) × (found ≡ (n, None))
+    go false many found is e = absurd (cc)
+    go true true found is e = let clash = ap (λ p. p.1) (some_is e) in absurd (cc)
+    go true false found is e = (refl, is, some_is e)
+
+-- a target is one of the text's globals or functions
+abbrev pub IsWithin : Named → Target → Type 0
+IsWithin named (target.Global g) = g.0 < named.globals
+IsWithin named (target.Function f) = f.0 < named.functions
+
+target_fine : (d : Definitions) (k : ℕ) (found : Option ℕ) (t : Target) → ((n : ℕ) → found ≡ Some n → n < length d.globals + length d.functions)
+    → target_of (length d.globals) found ≡ (t, None) → IsWithin (named_at d k) t
+target_fine d k None t within e = let clash = ap (λ p. p.1) e in absurd (cc)
+target_fine d k (Some n) t within e = rw (sym (ap (λ p. p.0) e)) (go (nat_lt n (length d.globals)) refl)
+  where
+    more : (a b : ℕ) → nat_lt a b ≡ false → b ≤ a
+    more a b h = grind (arith, nat_tests)
+
+    go : (small : Bool) → nat_lt n (length d.globals) ≡ small
+        → IsWithin (named_at d k) (if small then target.Global (record { 0 = n }) else target.Function (record { 0 = n - length d.globals }))
+    go true h = lt_from n (length d.globals) h
+    go false h = omega (arith, more n (length d.globals) h, within n refl)
+
+items-length : (d : Definitions) → length (item_names d) ≡ length d.globals + length d.functions
+items-length d = length-append d.globals (map (λ f. f.name) d.functions) ∙ ap (λ n. length d.globals + n) (length-map d.functions (λ f. f.name))
+
+module _ {height room : ℕ} {part : Parts} (d : Definitions) (k : ℕ) where
+  -- the name's number is what the role says, and the name is not one too many
+  pub ensures_name : {over : Bool} (role : Role) {Q : ℕ → Type 0} → ((text : List ℕ) (n : ℕ) → number_of_name d k role text ≡ (n, None) → Q n)
+      → Ensures height room part (scope_at d k) (name_form over role) (λ n. (over ≡ false) × Q n)
+  ensures_name {over} role law = ensures_cases (λ w n e. (let fine = name_fine over role (scope_at d k) w n e in ensures_empty (fine.0, law w.text n fine.2)))
+
+  pub ensures_local_use : Ensures height room part (scope_at d k) local_use (λ x. is_local (named_at d k) x ≡ true)
+  ensures_local_use = ensures_giving (ensures_name UsesLocal (λ text n e. use_local d k n text e)) (λ n p. lt_test n (named_at d k).locals p.1)
+
+  pub ensures_block_use : Ensures height room part (scope_at d k) block_use (λ b. is_block (named_at d k) b ≡ true)
+  ensures_block_use = ensures_giving (ensures_name UsesBlock (λ text n e. use_block d k n text e)) (λ n p. lt_test n (named_at d k).blocks p.1)
+
+  pub ensures_function_use : Ensures height room part (scope_at d k) function_use (λ f. nat_lt f.0 (named_at d k).functions ≡ true)
+  ensures_function_use = ensures_giving (ensures_name UsesFunction (λ text n e. use_function d k n text e)) (λ n p. lt_test n (named_at d k).functions p.1)
+
+  pub ensures_global_use : Ensures height room part (scope_at d k) global_use (λ g. nat_lt g.0 (named_at d k).globals ≡ true)
+  ensures_global_use = ensures_giving (ensures_name UsesGlobal (λ text n e. use_global d k n text e)) (λ n p. lt_test n (named_at d k).globals p.1)
+
+  pub ensures_target_use : Ensures height room part (scope_at d k) target_use (IsWithin (named_at d k))
+  unfolding judged_target
+  ensures_target_use = ensures_cases (λ w t e. ensures_empty (go w t (is_name w.text) e))
+    where
+      go : (w : Word) (t : Target) (name : Bool) → (if name then Some (target_of (length d.globals) (number_in (item_names d) w.text)) else None) ≡ Some (t, None) → IsWithin (named_at d k) t
+      go w t false e = absurd (cc)
+      go w t true e =
+          target_fine d k (number_in (item_names d) w.text) t
+          (λ n found. (let within = number_within (item_names d) w.text n found in omega (arith, items-length d))) (some_is e)
+
+  -- names that are defined
+  pub ensures_global_name : {over : Bool} (j : ℕ) → Ensures height room part (scope_at d k) (name_form over (DefinesGlobal j)) (λ n. (over ≡ false) × (n < length (names_of d)))
+  ensures_global_name j = ensures_name (DefinesGlobal j) (λ text n e. define_global d k j n text e)
+
+  pub ensures_function_name : {over : Bool} (j : ℕ) → Ensures height room part (scope_at d k) (name_form over (DefinesFunction j)) (λ n. (over ≡ false) × (n < length (names_of d)))
+  ensures_function_name j = ensures_name (DefinesFunction j) (λ text n e. define_function d k j n text e)
+
+  pub ensures_local_name : {over : Bool} (j : ℕ) → Ensures height room part (scope_at d k) (name_form over (DefinesLocal j)) (λ n. (over ≡ false) × (n < length (names_of d)))
+  ensures_local_name j = ensures_name (DefinesLocal j) (λ text n e. define_local d k j n text e)
+
+  pub ensures_block_name : {over : Bool} (j : ℕ) → Ensures height room part (scope_at d k) (name_form over (DefinesBlock j)) (λ n. (over ≡ false) × (n < length (names_of d)))
+  ensures_block_name j = ensures_name (DefinesBlock j) (λ text n e. define_block d k j n text e)

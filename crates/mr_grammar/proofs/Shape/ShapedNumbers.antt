@@ -1,0 +1,93 @@
+-- The numbers that a row without a broken limit writes can be written.
+use Rattle.std.proofs.Common.{◌≡◌, ℕ, ◌^◌, ◌==◌, Bool, true, false, not, ◌&&◌, if◌then◌else◌, bytes_eq, List, [], ◌∷◌, Option, None, Some, refl, ap, sym, ◌∙◌}
+use Rattle.std.specs.Prelude.{option_map, nat_lt, nat_le}
+use Rattle.std.specs.List.{AllByRecursion, list_all}
+use Rattle.std.proofs.lemmas.Bool.{and_parts}
+use Rattle.mr_base.proofs.Comparisons.{le_from, lt_from, not_false}
+use Rattle.mr_base.proofs.Options.{some_is}
+use Rattle.mr_ast.specs.Forms.{Word}
+use Rattle.mr_ast.specs.Scope.{Scope}
+use Rattle.mr_ast.specs.Shaped.{IsRepeat}
+use Rattle.mr_ast.specs.ShapedTypes.{fits_u64, is_shaped_num}
+use Rattle.mr_ast.specs.Words.{is_number, value_of}
+use Rattle.mr_ast.specs.Writing.{judged_any, judged_number, judged_positive, judged_repeat, judged_u64, limit, limited_word, num_form, token, u64_form}
+use Rattle.mr_grammar.proofs.Walk.EnsureLaws.{Ensures, Parts, ensures_behind, ensures_cases, ensures_either, ensures_empty, ensures_giving, ensures_token}
+
+-- both tests pass
+pub both : {a b : Bool} → a ≡ true → b ≡ true → (a && b) ≡ true
+both p q = rw (p, q) refl
+
+-- each thing of a list passes
+pub all_pass : {A : Type 0} (test : A → Bool) (xs : List A) → AllByRecursion (λ x. test x ≡ true) xs → list_all test xs ≡ true
+all_pass test [] all = refl
+all_pass test (x ∷ xs) all = both all.0 (all_pass test xs all.1)
+
+-- a number that may stand there and breaks no limit
+pub number_fine : (judge : ℕ → Option (Option ℕ)) (w : Word) (n : ℕ) → judged_number judge w ≡ Some (n, None) → (is_number w.text ≡ true) × (n ≡ value_of w.text) × (judge n ≡ Some None)
+number_fine judge w n e = go (is_number w.text) (judge (value_of w.text)) refl refl e
+  where
+    go : (number : Bool) (verdict : Option (Option ℕ)) → is_number w.text ≡ number → judge (value_of w.text) ≡ verdict
+        → (if number then option_map {U = ℕ × Option ℕ} (λ flaw. (value_of w.text, flaw)) verdict else None) ≡ Some (n, None) → (is_number w.text ≡ true) × (n ≡ value_of w.text) × (judge n ≡ Some None)
+    go false verdict is same at = absurd (cc)
+    go true None is same at = absurd (cc)
+    go true (Some flaw) is same at =
+        let pair = some_is at in
+        let value = sym (ap (λ p. p.0) pair) in
+        (is, value, ap judge value ∙ same ∙ ap Some (ap (λ p. p.1) pair))
+
+limit_kept : (code : ℕ) (broken : Bool) → Some (limit code broken) ≡ Some None → broken ≡ false
+limit_kept code true e = absurd (cc)
+limit_kept code false e = refl
+
+-- a number below 2^128
+number_small : (text : List ℕ) → is_number text ≡ true → nat_lt (value_of text) (2 ^ 128) ≡ true
+unfolding is_number
+number_small text e = (and_parts _ (nat_lt (value_of text) (2 ^ 128)) e).1
+
+-- what a choice gives, where it gives that no limit is broken
+first_choice : (test : Bool) → ◌≡◌ {A = Option (Option ℕ)} (if test then None else Some None) (Some None) → test ≡ false
+first_choice true e = absurd (cc)
+first_choice false e = refl
+
+second_choice : (small good : Bool) → ◌≡◌ {A = Option (Option ℕ)} (if small then (if good then Some None else None) else Some (Some 2)) (Some None) → good ≡ true
+second_choice true true e = refl
+second_choice true false e = absurd (cc)
+second_choice false good e = absurd (cc)
+
+plus_shaped : (n : ℕ) → nat_lt n (2 ^ 128) ≡ true → is_shaped_num (record { neg = false; mag = n }) ≡ true
+plus_shaped n small = both small refl
+
+minus_shaped : (n : ℕ) → nat_lt n (2 ^ 128) ≡ true → (n == 0) ≡ false → is_shaped_num (record { neg = true; mag = n }) ≡ true
+minus_shaped n small some = both small (ap not some)
+
+repeat_shaped : (n : ℕ) → (nat_lt 0 n && nat_le n (2 ^ 20)) ≡ true → IsRepeat n
+repeat_shaped n e = let tests = and_parts (nat_lt 0 n) (nat_le n (2 ^ 20)) e in record { some = lt_from 0 n tests.0; bounded = le_from n (2 ^ 20) tests.1 }
+
+small_value : (judge : ℕ → Option (Option ℕ)) (w : Word) (n : ℕ) → judged_number judge w ≡ Some (n, None) → nat_lt n (2 ^ 128) ≡ true
+small_value judge w n e = let fine = number_fine judge w n e in ap (λ m. nat_lt m (2 ^ 128)) fine.1 ∙ number_small w.text fine.0
+
+module _ {height room : ℕ} {part : Parts} {scope : Scope} where
+  pub ensures_u64 : Ensures height room part scope u64_form (λ n. fits_u64 n ≡ true)
+  unfolding judged_u64
+  ensures_u64 = ensures_token (λ w n e. not_false (fits_u64 n) (limit_kept 2 (not (fits_u64 n)) (number_fine (λ m. Some (limit 2 (not (nat_lt m (2 ^ 64))))) w n e).2))
+
+  pub ensures_num : Ensures height room part scope num_form (λ n. is_shaped_num n ≡ true)
+  unfolding judged_any judged_positive
+  ensures_num = ensures_either
+      (ensures_giving (ensures_behind (ensures_token {Q = λ n. (nat_lt n (2 ^ 128) ≡ true) × ((n == 0) ≡ false)}
+      (λ w n e. (small_value (λ m. if m == 0 then None else Some None) w n e, first_choice (n == 0) (number_fine (λ m. if m == 0 then None else Some None) w n e).2))))
+      (λ n p. minus_shaped n p.0 p.1))
+      (ensures_giving (ensures_token {Q = λ n. nat_lt n (2 ^ 128) ≡ true} (λ w n e. small_value (λ m. Some None) w n e)) (λ n p. plus_shaped n p))
+
+  pub ensures_repeat : Ensures height room part scope (token judged_repeat) IsRepeat
+  unfolding judged_repeat
+  ensures_repeat = ensures_token (λ w n e. repeat_shaped n (second_choice (nat_lt n (2 ^ 64)) (nat_lt 0 n && nat_le n (2 ^ 20))
+      (number_fine (λ m. if nat_lt m (2 ^ 64) then (if nat_lt 0 m && nat_le m (2 ^ 20) then Some None else None) else Some (Some 2)) w n e).2))
+
+  -- a word that is not one too many
+  pub ensures_limited : (code : ℕ) (over : Bool) {text : List ℕ} → Ensures height room part scope (limited_word code over text) (λ u. over ≡ false)
+  ensures_limited code over {text} = ensures_cases (λ w i e. ensures_empty (kept (bytes_eq w.text text) i e))
+    where
+      kept : (same : Bool) (i : Unit {0}) → ◌≡◌ {A = Option (Unit {0} × Option ℕ)} (if same then Some (tt, limit code over) else None) (Some (i, None)) → over ≡ false
+      kept true i e = limit_kept code over (ap Some (ap (λ p. p.1) (some_is e)))
+      kept false i e = absurd (cc)

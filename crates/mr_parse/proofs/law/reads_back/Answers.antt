@@ -1,5 +1,0 @@
-use Rattle.mr_parse.proofs.Canon.ReadsBackLaws.{reads_back}
-use Rattle.mr_parse.proofs.law.reads_back.Goals as goal
-
-pub returns : goal.returns
-returns c = reads_back
