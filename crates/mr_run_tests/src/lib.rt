@@ -1,5 +1,10 @@
-//! The tests of runs, by texts: what the machine makes of a program under a schedule, step by step. It has no code of its own.
+//! The tests of runs, by texts: what the machine makes of a program under a schedule, step by step; what the tables of threads and
+//! locks answer; and which steps of a run depend, are ordered and race. It has no code of its own.
 #![tactic(auto)]
 
 #[cfg(test)]
+mod orders;
+#[cfg(test)]
 mod runs;
+#[cfg(test)]
+mod tables;

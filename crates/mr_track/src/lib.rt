@@ -7,11 +7,14 @@
 //! - [`Accesses::len`], [`Accesses::get`], [`Accesses::as_slice`]: how many there are, each of them, and all.
 //! - [`conflicts`]: whether some access of the one list overlaps some access of the other, one of the two being a store.
 //! - [`races`]: the same, where one of the two isn't atomic as well.
+//! - [`AllocIds`], [`ThreadIds`]: lists of allocations and of threads, which contracts see as lists; `push` changes nothing where memory runs out.
 #![tactic(auto)]
 
 mod accesses;
 mod compare;
+mod lists;
 
 pub use accesses::Accesses;
 pub use compare::{conflicts, races};
+pub use lists::{AllocIds, ThreadIds};
 pub use std::alloc::AllocError as OutOfMemory;

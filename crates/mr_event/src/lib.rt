@@ -1,0 +1,37 @@
+//! The footprints of steps, when a step depends on another, happens-before, and the races that a run shows.
+//! (Lamport: happens-before; FastTrack: races; which steps wake, depend and have an edge is this project's.)
+//!
+//! - [`Footprint`]: what a completed step read, changed and woke. A run is the list of its steps' footprints.
+//!   [`AllocIds`] and [`ThreadIds`] are its lists; contracts see them as lists.
+//! - [`Event`]: what a step did to a lock or to another thread.
+//! - [`Pair`]: a race, by the places of its two steps in the run.
+//!
+//! Definitions: `specs/Footprints.antt` says when a step wakes a thread and depends on another step, `specs/Order.antt` what
+//! happens before what and which pairs are races, `specs/Predicted.antt` computes both, `specs/FootOk.antt` has the
+//! machine's limits, and `specs/Kept.antt` the steps of a witness. Proved of the public calls:
+//!
+//! - [`depends`]: whether a later step of another thread depends on a step, exactly.
+//! - [`predicted_plain`]: each step that races with an earlier one unordered by happens-before, with the greatest such
+//!   one, by rising second step; want of memory is its only error. It compares all steps.
+//! - [`follows_plain`]: for each step of a run whether a given step happens before it, likewise.
+//! - [`foot_ok`]: whether a footprint keeps the machine's limits, exactly.
+//!
+//! Laws: [`decided`] (what computes is the order and its races), [`predicted_lists`] (the list is that of the
+//! definition, and no other list is), [`racing_steps_depend`].
+#![tactic(auto)]
+
+mod dependence;
+mod footprint;
+mod laws;
+mod limits;
+mod order;
+mod races;
+
+pub use dependence::depends;
+pub use footprint::{Footprint, Pair};
+pub use laws::{decided, predicted_lists, racing_steps_depend};
+pub use limits::foot_ok;
+pub use mr_base::Event;
+pub use mr_track::{AllocIds, OutOfMemory, ThreadIds};
+pub use order::follows_plain;
+pub use races::predicted_plain;

@@ -1,0 +1,377 @@
+//! Footprints as texts: which depend on one another, which keep the machine's limits, and the order and the races of their runs.
+//!
+//! A step is a thread and what it does, as `1 store 4096,wake 2`. Each access has four bytes; an allocation is named by the
+//! thread that made it; a number that says nothing is 0. A run is its steps, with `; ` between them.
+ghost use Rattle.std.specs.Prelude.{◌<◌, length};
+
+use mr_base::{Access, AllocId};
+use mr_event::{
+    AllocIds, Event, Footprint, OutOfMemory, ThreadIds, depends, follows_plain, foot_ok,
+    predicted_plain,
+};
+use mr_track::Accesses;
+use std::alloc::Global;
+use std::test::Fail;
+
+fn number(word: &str) -> u32 {
+    match u32::from_str_radix(word, 10) {
+        Ok(number) => number,
+        Err(_) => 0,
+    }
+}
+
+fn access(verb: &str, number: u32) -> Access {
+    Access {
+        store: verb.ends_with("store"),
+        atomic: verb.starts_with("atomic"),
+        addr: u64::from(number),
+        len: 4,
+    }
+}
+
+fn event(verb: &str, number: u32) -> Option<Event> {
+    match verb {
+        "create" => Some(Event::CreateLock(number)),
+        "acquire" => Some(Event::Acquire(number)),
+        "release" => Some(Event::Release(number)),
+        "spawn" => Some(Event::Spawn(number)),
+        "join" => Some(Event::Join(number)),
+        _ => None,
+    }
+}
+
+// Notes in a footprint what a verb with a number says.
+fn note(foot: &mut Footprint, verb: &str, number: u32) -> Result<(), OutOfMemory> {
+    let id = AllocId {
+        thread: number,
+        count: 5,
+    };
+    match verb {
+        "make" => foot.allocated.push(id),
+        "free" => foot.freed.push(id),
+        "touch" => foot.touched.push(id),
+        "wake" => foot.woken.push(number),
+        "end" => {
+            foot.ended = true;
+            Ok(())
+        }
+        _ => match event(verb, number) {
+            Some(event) => {
+                foot.event = event;
+                Ok(())
+            }
+            None => foot.accesses.add(access(verb, number)),
+        },
+    }
+}
+
+fn quiet(alloc: Global, thread: u32) -> Footprint {
+    Footprint {
+        thread,
+        accesses: Accesses::new(alloc),
+        allocated: AllocIds::new(alloc),
+        freed: AllocIds::new(alloc),
+        touched: AllocIds::new(alloc),
+        event: Event::Quiet,
+        ended: false,
+        woken: ThreadIds::new(alloc),
+    }
+}
+
+fn note_all(foot: &mut Footprint, acts: &str) -> Result<(), OutOfMemory> {
+    for act in acts.split(',') {
+        if let Some((verb, word)) = act.split_once(' ') {
+            note(foot, verb, number(word))?;
+        }
+    }
+    Ok(())
+}
+
+// The footprint of a step's text.
+fn step(alloc: Global, text: &str) -> Result<Footprint, OutOfMemory> {
+    let (thread, acts) = match text.split_once(' ') {
+        Some((thread, acts)) => (thread, acts),
+        None => (text, ""),
+    };
+    let mut foot = quiet(alloc, number(thread));
+    note_all(&mut foot, acts)?;
+    Ok(foot)
+}
+
+fn run_of(alloc: Global, text: &str) -> Result<Vec<Footprint>, OutOfMemory> {
+    let mut run = Vec::new(alloc);
+    for line in text.split(';') {
+        let foot = step(alloc, line.trim())?;
+        run.push(foot)?;
+    }
+    Ok(run)
+}
+
+// The pairs of the predicted races.
+fn show_races(told: &mut String, alloc: Global, run: &[Footprint]) -> Result<(), OutOfMemory> {
+    let pairs = predicted_plain(alloc, run)?;
+    for pair in pairs.iter() {
+        write!(told, "{} {}, ", pair.first, pair.second)?;
+    }
+    Ok(())
+}
+
+// The steps that the step `first` happens before.
+fn show_followers(
+    told: &mut String,
+    alloc: Global,
+    run: &[Footprint],
+    first: usize,
+) -> Result<(), OutOfMemory>
+    requires { first < length run.now }
+{
+    let follows = follows_plain(alloc, run, first)?;
+    for (k, follows) in follows.iter().enumerate() {
+        if *follows {
+            write!(told, " {k}")?;
+        }
+    }
+    Ok(())
+}
+
+fn told(alloc: Global, text: &str, first: usize) -> Result<String, OutOfMemory> {
+    let mut told = String::new(alloc);
+    let run = run_of(alloc, text)?;
+    show_races(&mut told, alloc, run.as_slice())?;
+    write!(told, "behind {first}:")?;
+    if first < run.len() {
+        show_followers(&mut told, alloc, run.as_slice(), first)?;
+    }
+    Ok(told)
+}
+
+/// A run, a place in it, and the races of the run with the steps behind that place.
+static RUNS: [(&str, usize, &str); 13] = [
+    // Two threads store: the one doesn't wait for the other.
+    (
+        "0; 0 spawn 1,wake 1; 0 spawn 2,wake 2; 1 store 64; 1 end 0; 2 store 64; 2 end 0; 0",
+        3,
+        "3 5, behind 3: 4",
+    ),
+    // A third store stands with the greatest of its partners.
+    (
+        "0; 0 spawn 1,wake 1; 0 spawn 2,wake 2; 1 store 64; 1 end 0; 2 store 64; 2 end 0; 0 store 64",
+        5,
+        "3 5, 5 7, behind 5: 6",
+    ),
+    // Atomic stores are ordered; an atomic one and another race.
+    (
+        "0; 0 spawn 1,wake 1; 0 spawn 2,wake 2; 1 atomic-store 64; 1 end 0; 2 atomic-store 64; 2 end 0",
+        3,
+        "behind 3: 4 5 6",
+    ),
+    (
+        "0; 0 spawn 1,wake 1; 0 spawn 2,wake 2; 1 atomic-store 64; 1 end 0; 2 store 64; 2 end 0",
+        3,
+        "3 5, behind 3: 4",
+    ),
+    // A lock orders what its holders do, also by an acquire that blocks.
+    (
+        "0 create 0; 0 spawn 1,wake 1; 0 spawn 2,wake 2; 1 acquire 0; 1 store 64,release 0; 2 acquire 0; 2 store 64,release 0",
+        3,
+        "behind 3: 4 5 6",
+    ),
+    (
+        "0 create 0; 0 spawn 1,wake 1; 0 spawn 2,wake 2; 1 acquire 0; 2 acquire 0; 1 store 64,release 0,wake 2; 2 store 64,release 0",
+        4,
+        "behind 4: 5 6",
+    ),
+    // What the creator of a thread stored is before its first step, and before no step of another thread.
+    (
+        "0 spawn 1,store 64,wake 1; 1 load 64; 1 end 0; 0",
+        0,
+        "behind 0: 1 2 3",
+    ),
+    (
+        "0 spawn 1,store 64,wake 1; 0 spawn 2,store 64,wake 2; 1 load 64",
+        1,
+        "1 2, behind 1:",
+    ),
+    // The end of one reader is waited for, and not that of the other.
+    (
+        "0; 0 spawn 1,wake 1; 0 spawn 2,wake 2; 1 load 64; 2 load 64; 2 end 0; 0 join 2; 0 store 64; 0",
+        4,
+        "3 7, behind 4: 5 6 7 8",
+    ),
+    // Two bytes are stored by two threads, and loaded by a third step together: it has two partners.
+    (
+        "0; 0; 0 spawn 1,wake 1; 0 spawn 2,wake 2; 1 store 62; 1 end 0; 2 store 66; 2 end 0; 0 load 64; 0",
+        4,
+        "6 8, behind 4: 5",
+    ),
+    // Atomic at one place and a race at another: no edge.
+    (
+        "0; 0 spawn 1,wake 1; 0 spawn 2,wake 2; 1 load 68,atomic-store 64; 1 end 0; 2 atomic-load 64,store 68; 2 end 0; 0",
+        3,
+        "3 5, behind 3: 4",
+    ),
+    // Who touched an allocation is before who frees it.
+    (
+        "0 make 0; 0 spawn 1,wake 1; 0 touch 0; 1 free 0; 1 end 0; 0 join 1",
+        2,
+        "behind 2: 3 4 5",
+    ),
+    ("0 store 64", 0, "behind 0:"),
+];
+
+/// Two steps, and whether the later one depends on the earlier one.
+static DEPENDENCE: [(&str, bool); 24] = [
+    ("1 load 64; 2 load 64", false),
+    ("1 atomic-store 64; 2 load 64", true),
+    ("1 load 64; 2 store 64", true),
+    ("1 load 64; 2 store 67", true),
+    ("1 load 64; 2 store 68", false),
+    ("1 acquire 3; 2 release 3", true),
+    ("1 acquire 3; 2 acquire 3", true),
+    ("1 acquire 3; 2 acquire 4", false),
+    ("1 create 3; 2 acquire 3", true),
+    ("1 create 3; 2 create 4", true),
+    ("1 spawn 3; 2 spawn 4", true),
+    ("1 spawn 3; 2 join 3", true),
+    ("1 spawn 3; 2 join 4", false),
+    ("1 join 3; 2 spawn 3", true),
+    ("1 acquire 3; 2 join 3", false),
+    ("1 end 0; 2 join 1", true),
+    ("1 end 0; 2 join 3", false),
+    ("1 join 2; 2 end 0", true),
+    ("1 join 3; 2 join 3", false),
+    ("1 make 4; 2 touch 4", true),
+    ("1 make 4; 2 free 4", true),
+    ("1 touch 4; 2 free 4", true),
+    ("1 touch 4; 2 touch 4", false),
+    ("1 free 4; 2 touch 4,make 5", false),
+];
+
+fn is_dependent(alloc: Global, text: &str) -> Result<bool, OutOfMemory> {
+    let run = run_of(alloc, text)?;
+    Ok(match (run.first(), run.get(1)) {
+        (Some(f), Some(g)) => depends(f, g),
+        _ => false,
+    })
+}
+
+/// A step, and whether it keeps the limits.
+static LIMITS: [(&str, bool); 18] = [
+    ("1023", true),
+    ("1024", false),
+    ("0 create 4095", true),
+    ("0 create 4096", false),
+    ("0 acquire 4096", false),
+    ("0 release 4096", false),
+    ("0 spawn 1023", true),
+    ("0 spawn 1024", false),
+    ("0 join 1024", false),
+    ("0 wake 2,wake 1023", true),
+    ("0 wake 2,wake 1024", false),
+    ("0 wake 2,wake 2", false),
+    ("0 wake 3,wake 2", false),
+    ("0 make 1,touch 2,free 3,load 4", true),
+    ("0 make 1023", true),
+    ("0 make 1024", false),
+    ("0 free 1024", false),
+    ("0 touch 1024", false),
+];
+
+fn keeps_limits(alloc: Global, text: &str) -> Result<bool, OutOfMemory> {
+    let foot = step(alloc, text)?;
+    Ok(foot_ok(&foot))
+}
+
+/// The address and the length of an access, and whether it keeps the limits.
+static ACCESSES: [(u64, u64, bool); 5] = [
+    (0, 0, false),
+    (u64::MAX, 1, true),
+    (u64::MAX, 2, false),
+    (0, u64::MAX, true),
+    (2, u64::MAX, false),
+];
+
+fn access_keeps_limits(alloc: Global, addr: u64, len: u64) -> Result<bool, OutOfMemory> {
+    let mut foot = quiet(alloc, 0);
+    foot.accesses.add(Access {
+        store: false,
+        atomic: false,
+        addr,
+        len,
+    })?;
+    Ok(foot_ok(&foot))
+}
+
+// Whether the lists of the step `0 make 5,make 6,wake 9` hold what it says.
+fn has_lists(foot: &Footprint) -> bool {
+    let (ids, threads) = (&foot.allocated, &foot.woken);
+    let second = AllocId {
+        thread: 6,
+        count: 5,
+    };
+    ids.len() == 2
+        && ids.get(1).copied() == Some(second)
+        && ids.get(2).is_none()
+        && threads.len() == 1
+        && threads.get(0).copied() == Some(9)
+        && threads.get(1).is_none()
+        && threads.as_slice() == [9].as_slice()
+}
+
+fn are_lists_kept(alloc: Global) -> Result<bool, OutOfMemory> {
+    let foot = step(alloc, "0 make 5,make 6,wake 9")?;
+    Ok(has_lists(&foot))
+}
+
+// Whether what is told of a run is what is wanted.
+fn is_told(alloc: Global, text: &str, first: usize, wanted: &str) -> Result<bool, OutOfMemory> {
+    let said = told(alloc, text, first)?;
+    Ok(said.as_str() == wanted)
+}
+
+// The first row that is told otherwise, in each table.
+fn first_wrong_run(alloc: Global) -> Result<Option<usize>, OutOfMemory> {
+    for (n, (text, first, wanted)) in RUNS.iter().enumerate() {
+        if !is_told(alloc, text, *first, wanted)? {
+            return Ok(Some(n));
+        }
+    }
+    Ok(None)
+}
+
+fn first_wrong_dependence(alloc: Global) -> Result<Option<usize>, OutOfMemory> {
+    for (n, (text, wanted)) in DEPENDENCE.iter().enumerate() {
+        if is_dependent(alloc, text)? != *wanted {
+            return Ok(Some(n));
+        }
+    }
+    Ok(None)
+}
+
+fn first_wrong_limit(alloc: Global) -> Result<Option<usize>, OutOfMemory> {
+    for (n, (text, wanted)) in LIMITS.iter().enumerate() {
+        if keeps_limits(alloc, text)? != *wanted {
+            return Ok(Some(n));
+        }
+    }
+    Ok(None)
+}
+
+fn first_wrong_access(alloc: Global) -> Result<Option<usize>, OutOfMemory> {
+    for (n, (addr, len, wanted)) in ACCESSES.iter().enumerate() {
+        if access_keeps_limits(alloc, *addr, *len)? != *wanted {
+            return Ok(Some(n));
+        }
+    }
+    Ok(None)
+}
+
+#[test]
+fn footprints_are_ordered(rt: HostRuntime) -> Result<(), Fail> {
+    let alloc = rt.alloc();
+    let (run, dependence) = (first_wrong_run(alloc)?, first_wrong_dependence(alloc)?);
+    assert_eq!(rt; (run, dependence), (None, None));
+    let (limit, access) = (first_wrong_limit(alloc)?, first_wrong_access(alloc)?);
+    assert_eq!(rt; (limit, access, are_lists_kept(alloc)?), (None, None, true));
+    Ok(())
+}
