@@ -19,6 +19,7 @@ pub mod ReferRuns
 pub mod RowRuns
 pub mod SafeLaws
 pub mod SafeRuns
+pub mod ScalarLaws
 pub mod SearchRuns
 pub mod ShapeOf
 pub mod SoundParts

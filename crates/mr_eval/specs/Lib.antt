@@ -2,9 +2,13 @@ pub mod Answers
 pub mod Environment
 pub mod Evaluated
 pub mod Evaluation
+pub mod MemoryQueries
 pub mod Moves
 pub mod Operators
 pub mod Reads
+pub mod Scalars
 pub mod Sound
 pub mod Stores
+pub mod Tally
 pub mod Typed
+pub mod World

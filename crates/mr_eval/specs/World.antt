@@ -1,0 +1,34 @@
+-- What a step changes of memory, and what it notes of that, as the code's scene keeps it.
+use Rattle.std.specs.Prelude.{◌≡◌, Result, Ok, Err}
+use Rattle.mr_mem.specs.Memory.{Memory}
+use Rattle.mr_mem.specs.declared.fault.Fault.{Fault}
+use Rattle.mr_mem.specs.declared.fault.Fault.TheVariants as fault
+use Rattle.mr_script.specs.Script.{Outcome, Refused, Went}
+use Rattle.mr_eval.specs.declared.scene.Scene.{Scene}
+use Rattle.mr_eval.specs.Tally.{Tally}
+
+-- memory, and what a step noted of it by then
+abbrev pub World : Type 0
+World = Memory × Tally
+
+-- what a scene has noted
+abbrev pub tally_of : Scene → Tally
+tally_of s = record {
+  thread = s.thread;
+  count = s.count;
+  accesses = s.notes.accesses;
+  touched = s.notes.touched.items;
+  made = s.made.items;
+  ranges = s.ranges.items;
+  freed = s.freed.items;
+}
+
+-- a scene without where its lists lie
+abbrev pub world_of : Scene → World
+world_of s = (s.memory, tally_of s)
+
+-- What a call returned, seen by view, and left of the state is what the run comes to, unless memory ran out.
+abbrev pub TellsBy : {X Y S : Type 0} → (X → Y) → Result X Fault → Outcome Y S → S → Type 0
+TellsBy view (Ok x) o s = o ≡ Went (view x) s
+TellsBy view (Err (fault.Undefined r)) o s = o ≡ Refused r
+TellsBy view (Err fault.Memory) o s = Unit {0}

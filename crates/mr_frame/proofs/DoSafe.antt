@@ -1,0 +1,203 @@
+-- What an intrinsic of a well-formed program is given is never ill-formed, and so is how it ends; the frames fit again behind it.
+use Rattle.std.proofs.Common.{◌≡◌, ℕ, ◌<◌, refl, sym, ap, ◌∙◌, subst, subst₂, arith, List, [], ◌∷◌, length, Bool, true, false, inl, inr, Option, Some, None, map}
+use Rattle.std.proofs.lemmas.Option.{same_Some, slice_get_cases}
+use Rattle.std.specs.Prelude.{slice_get, ◌&&◌}
+use Rattle.std.specs.List.{flat_map, list_all}
+use Rattle.mr_ast.specs.Shaped.{is_block, is_optional_place, is_shaped_term, named_in}
+use Rattle.mr_ast.specs.ShapedValues.{is_shaped_place, is_shaped_value}
+use Rattle.mr_ast.specs.declared.expr.Place.{Place}
+use Rattle.mr_ast.specs.declared.expr.Value.{Value}
+use Rattle.mr_ast.specs.declared.program.BlockName.{BlockName}
+use Rattle.mr_ast.specs.declared.program.Function.{Function}
+use Rattle.mr_ast.specs.declared.program.Intrinsic.{Intrinsic}
+use Rattle.mr_ast.specs.declared.program.Program.{Program}
+use Rattle.mr_ast.specs.declared.program.Stmt.{Stmt}
+use Rattle.mr_ast.specs.declared.program.Term.{Term}
+use Rattle.mr_ast.specs.declared.program.Term.TheVariants as term
+use Rattle.mr_ast.specs.declared.types.Ty.{Ty}
+use Rattle.mr_base.specs.declared.byte.Pointer.{Pointer}
+use Rattle.mr_layout.proofs.PartsOk.{and_true}
+use Rattle.mr_value.specs.declared.val.Val.{Val}
+use Rattle.mr_value.specs.Shape.{has_shape}
+use Rattle.mr_wf.specs.Blocks.{broken_in_parts, broken_in_result}
+use Rattle.mr_wf.specs.Broken.{broken_in_place, sizes_of, surroundings}
+use Rattle.mr_wf.specs.Intrinsics.{fits_intrinsic}
+use Rattle.mr_wf.specs.Types.{type_of_place, type_of_value}
+use Rattle.mr_wf.specs.Walk.{WellFormed}
+use Rattle.mr_wf.proofs.StmtWalk.{Gives}
+use Rattle.mr_wf.proofs.TypedStmts.{TypedDo, typed_do}
+use Rattle.mr_script.specs.Script.{Done, ◌>>=◌}
+use Rattle.mr_eval.specs.Evaluation.{Surround, place_script, values_script}
+use Rattle.mr_eval.specs.Operators.{or_ill_formed}
+use Rattle.mr_eval.specs.Sound.{IsSafe, Stands, any_result}
+use Rattle.mr_eval.proofs.ExprSafe.{place_safe}
+use Rattle.mr_eval.proofs.SafeLaws.{safe_found, safe_then}
+use Rattle.mr_eval.proofs.ShapeOf.{HaveShapes}
+use Rattle.mr_plan.specs.Safety.{IsSafeChange}
+use Rattle.mr_plan.proofs.SafetyLaws.{change_then}
+use Rattle.mr_frame.specs.Calls.{all_there, local_type}
+use Rattle.mr_frame.specs.Changes.{store}
+use Rattle.mr_frame.specs.Fits.{AreCalling, FitFrames, FitsFrame, FitsStack, IsLook}
+use Rattle.mr_frame.specs.Frames.{Frame, Look, Stack, at_block, scene_in}
+use Rattle.mr_frame.specs.Operations.{DueDo, Operands, do_at, do_due, done_stack, finish, next_do, operands, operands_in, result_place, result_type, store_result}
+use Rattle.mr_frame.specs.Sites.{AtStatement, Due, Site, due_of, due_term, site_of, site_of_frames}
+use Rattle.mr_frame.proofs.CallSafe.{judged_there, row_safe}
+use Rattle.mr_frame.proofs.ChangesSafe.{store_safe}
+use Rattle.mr_frame.proofs.Frames.{block_shaped, block_unbroken, due_end, due_stmt, fits_block, here, site_is, stands}
+use Rattle.mr_frame.proofs.Places.{below_of}
+
+-- An intrinsic that is due in a thread whose frames fit.
+pub record DoStands (look : Look) (is : IsLook look) (well : WellFormed look.program) (s : Stack) (d : DueDo) : Type 0 where
+  pub frame : Frame
+  pub below : List Frame
+  pub frames : s.frames ≡ frame ∷ below
+  pub fits : FitsFrame look.program frame
+  pub calling : AreCalling look.program (local_type fits.function fits.function.ret) below
+  pub site : d.site ≡ here look is well frame below fits
+  pub term : fits.block.term ≡ term.Do d.op d.args d.place d.next
+
+module _ (look : Look) (is : IsLook look) (well : WellFormed look.program) (s : Stack) (d : DueDo) where
+  module _ (f : Frame) (below : List Frame) (frames : s.frames ≡ f ∷ below) (fits : FitsFrame look.program f) (calling : AreCalling look.program (local_type fits.function fits.function.ret) below) where
+    abbrev at : Site
+    at = here look is well f below fits
+
+    -- from what the block ends with
+    from_term : (t : Term) → fits.block.term ≡ t → do_due at (Some (due_term t)) ≡ Some d → DoStands look is well s d
+    from_term (term.Do op args place next) due h =
+        let same : record { site = at; op = op; args = args; place = place; next = next } ≡ d = same_Some _ d h in
+        record {
+          frame = f;
+          below = below;
+          frames = frames;
+          fits = fits;
+          calling = calling;
+          site = ap (λ (e : DueDo). e.site) (sym same);
+          term = due ∙ ap (λ (e : DueDo). term.Do e.op e.args e.place e.next) same;
+        }
+    from_term (term.Goto b) due h = absurd (cc)
+    from_term (term.Switch v cases other) due h = absurd (cc)
+    from_term term.Unreachable due h = absurd (cc)
+    from_term (term.Call callee args place next unwind) due h = absurd (cc)
+    from_term term.Return due h = absurd (cc)
+    from_term (term.Unwind v b) due h = absurd (cc)
+    from_term term.Resume due h = absurd (cc)
+    from_term (term.Stop b) due h = absurd (cc)
+    from_term term.Exit due h = absurd (cc)
+    from_term term.Abort due h = absurd (cc)
+
+    from_due : do_due at (due_of at) ≡ Some d → DoStands look is well s d
+    from_due h = elim (slice_get_cases fits.block.stmts f.at).1 [
+      | inl x ↦ absurd (by_stmt x.0 (ap (do_due at) (sym (due_stmt look is well f below fits x.0 x.2)) ∙ h))
+      | inr none ↦
+          let end : f.at ≡ length fits.block.stmts = (let low = none.0 in let high = fits.at in omega arith) in
+          from_term fits.block.term refl (ap (do_due at) (sym (due_end look is well f below fits end)) ∙ h)
+    ]
+      where
+        by_stmt : (x : Stmt) → do_due at (Some (AtStatement x)) ≡ Some d → ⊥
+        by_stmt x e = cc
+
+  by_frames : (frames : List Frame) → s.frames ≡ frames → FitFrames look.program frames → do_at (site_of_frames look frames) ≡ Some d → DoStands look is well s d
+  by_frames [] e fits h = absurd fits
+  by_frames (f ∷ below) e fits h = from_due f below e fits.0 fits.2 (ap do_at (sym (site_is look is well f below fits.0)) ∙ h)
+
+  -- where an intrinsic is due, it stands in the top frame
+  pub do_stands : FitsStack look.program s → next_do look s ≡ Some d → DoStands look is well s d
+  unfolding next_do site_of
+  do_stands fits h = by_frames s.frames refl fits h
+
+-- ---- what it is given
+
+-- a place for a result is there exactly where its type is
+abbrev pub PlaceFits : Option Pointer → Option Ty → Type 0
+PlaceFits None result = result ≡ None
+PlaceFits (Some p) result = (t : Ty) × (result ≡ Some t)
+
+-- What an intrinsic is given fits it: values of the shapes of their types, a place where there is a result, and types that the intrinsic takes.
+pub record OperandsFit (op : Intrinsic) (o : Operands) : Type 0 where
+  pub shapes : HaveShapes o.arg_types o.args
+  pub place : PlaceFits o.result o.result_type
+  pub fits : fits_intrinsic op o.arg_types o.result_type ≡ true
+
+-- a value of the result's type exactly where there is one
+abbrev pub ValueFits : Option Ty → Option Val → Type 0
+ValueFits None v = v ≡ None
+ValueFits (Some t) v = (x : Val) × (v ≡ Some x) × (has_shape t x ≡ true)
+
+module _ (look : Look) (is : IsLook look) (well : WellFormed look.program) (s : Stack) (d : DueDo) (h : DoStands look is well s d) where
+  abbrev p : Program
+  p = look.program
+
+  abbrev fn : Function
+  fn = h.fits.function
+
+  abbrev scene : Surround
+  scene = scene_in look fn h.frame
+
+  shaped : is_shaped_term (named_in p fn) (term.Do d.op d.args d.place d.next) ≡ true
+  shaped = ap (is_shaped_term (named_in p fn)) (sym h.term) ∙ (block_shaped p well h.frame h.fits).term
+
+  unbroken : broken_in_parts (surroundings p fn) (term.Do d.op d.args d.place d.next) ≡ []
+  unbroken = ap (broken_in_parts (surroundings p fn)) (sym h.term) ∙ (block_unbroken p well h.frame h.fits).parts
+
+  typed : TypedDo (surroundings p fn) d.op d.args d.place
+  typed = typed_do (named_in p fn) fn (surroundings p fn) refl d.op d.args d.place d.next shaped unbroken
+
+  -- the place for a result, and its type
+  place_there : (place : Option Place) (result : Option Ty) → Gives (surroundings p fn) place result → is_optional_place (named_in p fn) place ≡ true → broken_in_result (surroundings p fn) place ≡ []
+      → IsSafe (λ o. PlaceFits o result) (result_place scene place)
+  place_there None result gives there none = gives
+  place_there (Some q) result gives there none =
+      let at_place = place_safe (named_in p fn) (sizes_of p.globals) scene (stands look is well h.frame h.below h.fits) q there none in
+      safe_then any_result (λ o. PlaceFits o result) (place_script scene q) _ at_place.safe (λ a u. (gives.0, gives.1))
+
+  type_there : (place : Option Place) (result : Option Ty) → Gives (surroundings p fn) place result → IsSafe (λ t. t ≡ result) (result_type scene place)
+  type_there None result gives = sym gives
+  type_there (Some q) result gives =
+      safe_then (λ t. t ≡ gives.0) (λ t. t ≡ result) (or_ill_formed (type_of_place fn.locals q)) _ (safe_found (λ t. t ≡ gives.0) (type_of_place fn.locals q) gives.0 gives.2 refl)
+      (λ t e. ap (λ (u : Ty). Some u) e ∙ sym gives.1)
+
+  -- WHAT AN INTRINSIC IS GIVEN
+  pub operands_safe : IsSafe (OperandsFit d.op) (operands look d)
+  operands_safe =
+      let named = named_in p fn in
+      let row = and_true (list_all (is_shaped_value named) d.args) (is_optional_place named d.place && is_block named d.next) shaped in
+      let last = and_true (is_optional_place named d.place) (is_block named d.next) row.1 in
+      let judged : all_there (map (type_of_value fn.locals) d.args) ≡ Some typed.types = judged_there (map (type_of_value fn.locals) d.args) typed.types typed.are in
+      subst (λ (site : Site). IsSafe (OperandsFit d.op) (operands_in (scene_in look site.function site.frame) d)) (sym h.site)
+      (safe_then (λ o. PlaceFits o typed.result) (OperandsFit d.op) (result_place scene d.place) _ (place_there d.place typed.result typed.gives last.0 typed.unbroken_place)
+      (λ q place. safe_then (HaveShapes typed.types) (OperandsFit d.op) (values_script scene d.args) _ (row_safe named (sizes_of p.globals) scene (stands look is well h.frame h.below h.fits) d.args typed.types typed.are row.0 typed.unbroken_args)
+      (λ vs shapes. safe_then (λ t. t ≡ typed.result) (OperandsFit d.op) (result_type scene d.place) _ (type_there d.place typed.result typed.gives)
+      (λ t told. safe_then (λ ts. ts ≡ typed.types) (OperandsFit d.op) (or_ill_formed (all_there (map (type_of_value fn.locals) d.args))) _ (safe_found (λ ts. ts ≡ typed.types) (all_there (map (type_of_value fn.locals) d.args)) typed.types judged refl)
+      (λ ts same. record {
+        shapes = subst (λ us. HaveShapes us vs) (sym same) shapes;
+        place = subst (λ u. PlaceFits q u) (sym told) place;
+        fits = subst₂ (λ us u. fits_intrinsic d.op us u ≡ true) (sym same) (sym told) typed.fits;
+      })))))
+
+  -- ---- how it ends
+
+  result_safe : (q : Option Pointer) (t : Option Ty) (v : Option Val) → PlaceFits q t → ValueFits t v → IsSafeChange any_result (store_result q t v)
+  result_safe None t v place value = by_none t v place value
+    where
+      by_none : (u : Option Ty) (w : Option Val) → u ≡ None → ValueFits u w → IsSafeChange any_result (store_result None u w)
+      by_none None w e fits = subst (λ (o : Option Val). IsSafeChange any_result (store_result None None o)) (sym fits) tt
+      by_none (Some u) w e fits = absurd (cc)
+  result_safe (Some q) None v place value = absurd (by_some place.1)
+    where
+      by_some : None ≡ Some place.0 → ⊥
+      by_some e = cc
+  result_safe (Some q) (Some t) v place value =
+      subst (λ (o : Option Val). IsSafeChange any_result (store_result (Some q) (Some t) o)) (sym value.1) (store_safe t q value.0 value.2)
+
+  done_fits : FitsStack p (done_stack s d)
+  done_fits =
+      let named = named_in p fn in
+      let row = and_true (list_all (is_shaped_value named) d.args) (is_optional_place named d.place && is_block named d.next) shaped in
+      let last = and_true (is_optional_place named d.place) (is_block named d.next) row.1 in
+      subst (λ (site : Site). FitFrames p (at_block site.frame d.next.0 ∷ site.below)) (sym h.site)
+      (fits_block p h.frame h.fits d.next.0 (below_of d.next.0 (length fn.blocks) last.1), refl, h.calling)
+
+  -- HOW AN INTRINSIC ENDS
+  pub finish_safe : (o : Operands) (v : Option Val) → OperandsFit d.op o → ValueFits o.result_type v → IsSafeChange (FitsStack p) (finish s d o v)
+  finish_safe o v fit value =
+      change_then any_result (FitsStack p) (store_result o.result o.result_type v) _ (result_safe o.result o.result_type v fit.place value) (λ u k. done_fits)

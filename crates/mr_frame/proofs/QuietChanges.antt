@@ -1,0 +1,63 @@
+-- Statements that change memory neither make nor free an allocation.
+use Rattle.std.proofs.Common.{List, [], ◌∷◌, Bool, true, false, Option, Some, None}
+use Rattle.std.specs.Prelude.{if◌then◌else◌}
+use Rattle.mr_ast.specs.declared.program.Stmt.{Stmt}
+use Rattle.mr_ast.specs.declared.program.Stmt.TheVariants as stmt
+use Rattle.mr_ast.specs.declared.types.Num.{Num}
+use Rattle.mr_ast.specs.declared.types.Tag.{Tag}
+use Rattle.mr_ast.specs.declared.types.Ty.{Ty}
+use Rattle.mr_base.specs.declared.byte.Pointer.{Pointer}
+use Rattle.mr_layout.specs.Sizes.{align_of, size_of}
+use Rattle.mr_value.specs.declared.val.Val.{Val}
+use Rattle.mr_value.specs.Encode.{blank, encoding_of, tag_bytes}
+use Rattle.mr_value.specs.Shape.{has_shape}
+use Rattle.mr_wf.specs.Types.{type_of_place}
+use Rattle.mr_script.specs.Script.{IllFormed, ◌>>=◌}
+use Rattle.mr_eval.specs.Evaluation.{Surround, place_script, value_script}
+use Rattle.mr_eval.specs.MemoryQueries.{MemoryScript, reading_part}
+use Rattle.mr_eval.specs.Moves.{behind}
+use Rattle.mr_eval.specs.Reads.{ReadScript}
+use Rattle.mr_eval.specs.Typed.{loading}
+use Rattle.mr_plan.proofs.QuietRuns.{IsQuiet, quiet_then, reading_quiet}
+use Rattle.mr_frame.specs.Calls.{store_each}
+use Rattle.mr_frame.specs.Changes.{Change, change, set_discriminant, store, tags_in, with_type, write, write_found, write_tags}
+
+-- what follows a reading part
+pub read_quiet : {A B : Type 0} (m : ReadScript A) (f : A → MemoryScript B) → ((x : A) → IsQuiet (f x)) → IsQuiet (reading_part m >>= f)
+read_quiet m f h = quiet_then (reading_part m) f (reading_quiet m) h
+
+pub store_quiet : (t : Ty) (p : Pointer) (v : Val) → IsQuiet (store t p v)
+store_quiet t p v = by_test (has_shape t v)
+  where
+    by_test : (b : Bool) → IsQuiet (if b then write p (encoding_of t v) (align_of t) else IllFormed)
+    by_test true = (tt, λ x. tt)
+    by_test false = tt
+
+with_type_quiet : (t : Option Ty) (f : Ty → Change) → ((u : Ty) → IsQuiet (f u)) → IsQuiet (with_type t f)
+with_type_quiet None f h = tt
+with_type_quiet (Some t) f h = h t
+
+tagging_quiet : (p : Pointer) (tags : List Tag) → IsQuiet (write_tags p tags)
+tagging_quiet p [] = tt
+tagging_quiet p (tag ∷ tags) = quiet_then (write (behind p tag.at) (tag_bytes tag) 1) (λ u. write_tags p tags) (tt, λ x. tt) (λ u. tagging_quiet p tags)
+
+found_quiet : (p : Pointer) (tags : Option (List Tag)) → IsQuiet (write_found p tags)
+found_quiet p None = tt
+found_quiet p (Some tags) = tagging_quiet p tags
+
+pub change_quiet : (s : Surround) (x : Stmt) → IsQuiet (change s x)
+change_quiet s (stmt.Assign place value) = read_quiet (place_script s place) _ (λ p. read_quiet (value_script s value) _ (λ v. with_type_quiet (type_of_place s.locals place) (λ t. store t p v) (λ t. store_quiet t p v)))
+change_quiet s (stmt.Mention place) = read_quiet (place_script s place) _ (λ p. tt)
+change_quiet s (stmt.Disc place number) = read_quiet (place_script s place) _ (λ p. found_quiet p (tags_in (type_of_place s.locals place) number))
+change_quiet s (stmt.Deinit place) = read_quiet (place_script s place) _ (λ p. with_type_quiet (type_of_place s.locals place) (λ t. write p (blank (size_of t)) (align_of t)) (λ t. (tt, λ x. tt)))
+change_quiet s (stmt.Validate place) = read_quiet (place_script s place) _ (λ p. with_type_quiet (type_of_place s.locals place) (λ t. reading_part (loading t p) >>= λ v. store t p v) (λ t. read_quiet (loading t p) _ (λ v. store_quiet t p v)))
+change_quiet s (stmt.Live x) = tt
+change_quiet s (stmt.Dead x) = tt
+
+pub stores_quiet : (ts : List Ty) (ps : List Pointer) (vs : List Val) → IsQuiet (store_each ts ps vs)
+stores_quiet [] [] [] = tt
+stores_quiet [] [] (v ∷ vs) = tt
+stores_quiet [] (p ∷ ps) vs = tt
+stores_quiet (t ∷ ts) [] vs = tt
+stores_quiet (t ∷ ts) (p ∷ ps) [] = tt
+stores_quiet (t ∷ ts) (p ∷ ps) (v ∷ vs) = quiet_then (store t p v) (λ _. store_each ts ps vs) (store_quiet t p v) (λ u. stores_quiet ts ps vs)

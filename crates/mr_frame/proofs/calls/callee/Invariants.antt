@@ -1,0 +1,6 @@
+use Rattle.std.proofs.Common.{◌≡◌, drop}
+use Rattle.mr_frame.specs.Calls.{position_from}
+use Rattle.mr_frame.proofs.calls.callee.Given as goal
+
+abbrev pub invariant-loop-number : goal.invariant-loop-number
+invariant-loop-number l = position_from 0 l.functions l.p ≡ position_from l.number (drop l.number l.functions) l.p

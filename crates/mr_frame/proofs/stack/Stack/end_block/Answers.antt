@@ -1,0 +1,35 @@
+use Rattle.std.proofs.Common.{◌≡◌, ◌∷◌, sym, ap, ◌∙◌, subst}
+use Rattle.mr_ast.specs.declared.program.Term.{Term}
+use Rattle.mr_script.specs.Script.{Went}
+use Rattle.mr_eval.specs.World.{world_of}
+use Rattle.mr_frame.specs.Frames.{Frame, GoesOn}
+use Rattle.mr_frame.specs.Kept.{below_of, frame_of, stack_of}
+use Rattle.mr_frame.specs.Sites.{due_term}
+use Rattle.mr_frame.specs.Standing.{IsDue}
+use Rattle.mr_frame.proofs.ActedLaws.{acted_abort, acted_exit, acted_goto, acted_unreachable}
+use Rattle.mr_frame.proofs.stack.Stack.end_block.Goals as goal
+
+pub returns-in-Goto : goal.returns-in-Goto
+returns-in-Goto c =
+    let s = c.args.self.now in
+    let due = subst (λ (t : Term). IsDue c.args.look.now s (due_term t)) c.in-Goto.is c.requires.due in
+    acted_goto c.args.look.now due.ready (frame_of s.top) (below_of s) (stack_of s).payloads c.in-Goto.b due.stands c.args.s.now.thread c.args.picks.now (world_of c.args.s.now)
+    ∙ ap (λ (f : Frame). Went (GoesOn (record { frames = f ∷ below_of s; payloads = (stack_of s).payloads })) (world_of c.args.s.now)) (sym c.jump.ensures)
+
+pub returns-in-Unreachable : goal.returns-in-Unreachable
+returns-in-Unreachable c =
+    let s = c.args.self.now in
+    let due = subst (λ (t : Term). IsDue c.args.look.now s (due_term t)) c.in-Unreachable.is c.requires.due in
+    acted_unreachable c.args.look.now due.ready (frame_of s.top) (below_of s) (stack_of s).payloads due.stands c.args.s.now.thread c.args.picks.now (world_of c.args.s.now)
+
+pub returns-in-Exit : goal.returns-in-Exit
+returns-in-Exit c =
+    let s = c.args.self.now in
+    let due = subst (λ (t : Term). IsDue c.args.look.now s (due_term t)) c.in-Exit.is c.requires.due in
+    acted_exit c.args.look.now due.ready (frame_of s.top) (below_of s) (stack_of s).payloads due.stands c.args.s.now.thread c.args.picks.now (world_of c.args.s.now)
+
+pub returns-in-Abort : goal.returns-in-Abort
+returns-in-Abort c =
+    let s = c.args.self.now in
+    let due = subst (λ (t : Term). IsDue c.args.look.now s (due_term t)) c.in-Abort.is c.requires.due in
+    acted_abort c.args.look.now due.ready (frame_of s.top) (below_of s) (stack_of s).payloads due.stands c.args.s.now.thread c.args.picks.now (world_of c.args.s.now)

@@ -1,0 +1,31 @@
+use Rattle.std.proofs.Common.{◌≡◌, true, subst, sym, ap, ◌∙◌}
+use Rattle.std.proofs.lemmas.Option.{same_Some}
+use Rattle.std.specs.Option.{option_map}
+use Rattle.std.specs.Prelude.{IfOk}
+use Rattle.mr_ast.specs.declared.program.Local.{Local}
+use Rattle.mr_ast.specs.declared.types.Ty.{Ty}
+use Rattle.mr_value.specs.Shape.{has_shape}
+use Rattle.mr_script.specs.Script.{Outcome}
+use Rattle.mr_ast.specs.declared.program.Term.TheVariants as term
+use Rattle.mr_value.specs.declared.val.Val.{Val}
+use Rattle.mr_eval.specs.Answers.{seen}
+use Rattle.mr_eval.specs.Environment.{Tells}
+use Rattle.mr_eval.specs.Reads.{Seen}
+use Rattle.mr_frame.specs.Kept.{frame_of}
+use Rattle.mr_frame.specs.Sites.{AtTerminator}
+use Rattle.mr_frame.proofs.EndLaws.{returned_is}
+use Rattle.mr_frame.proofs.StandLaws.{ret_ok}
+use Rattle.mr_frame.proofs.stack.Stack.return_value.Goals as goal
+
+pub load_typed-requires : goal.load_typed-requires
+load_typed-requires c = ret_ok c.args.look.now c.args.self.now (AtTerminator term.Return) c.requires.due c.args.f.now c.requires.function c.local_at.result.now c.local_at.ensures
+
+pub returns-clause-given : goal.returns-clause-given
+returns-clause-given c =
+    let P : Outcome Val Seen → Type 0 = λ o. Tells c.load_typed.result o (seen c.load_typed.new.n) in
+    subst P (sym (returned_is c.args.s.now.memory c.args.f.now (frame_of c.args.self.now.top) (seen c.args.s.now.notes) c.in-Some.p c.local_at.result.now c.in-Some.ensures c.local_at.ensures)) c.load_typed.ensures.given
+
+pub returns-clause-shape : goal.returns-clause-shape
+returns-clause-shape c =
+    λ t e. let same = same_Some c.local_at.result.now.ty t (sym (ap (λ o. option_map (λ (l : Local). l.ty) o) c.local_at.ensures) ∙ e) in
+    subst (λ (u : Ty). IfOk c.load_typed.result (λ v. has_shape u v ≡ true)) same c.load_typed.ensures.shape

@@ -1,0 +1,97 @@
+-- What an intrinsic's operation leaves, on the way to what the next state keeps.
+use Rattle.std.proofs.Common.{◌≡◌, ◌≢◌, ℕ, ◌<◌, refl, subst, sym, ap, ◌∙◌, arith, List, [], ◌∷◌, length, Option, Some, None, Bool, true, false, Result, Ok, Err}
+use Rattle.std.proofs.lemmas.Option.{same_Some, slice_get_within}
+use Rattle.std.proofs.Math.ListN.{length-set}
+use Rattle.std.specs.Prelude.{slice_get, slice_set, if◌then◌else◌}
+use Rattle.mr_ast.specs.declared.types.Ty.{Ty}
+use Rattle.mr_base.specs.declared.reason.Reason.{Reason}
+use Rattle.mr_base.specs.declared.thread.Event.{Event}
+use Rattle.mr_base.specs.declared.thread.Status.{Status}
+use Rattle.mr_base.specs.declared.thread.Status.TheVariants.{Enabled, Ended, OnJoin, OnLock}
+use Rattle.mr_mem.specs.Memory.{Memory, ranges_of}
+use Rattle.mr_value.specs.declared.val.Val.{Val}
+use Rattle.mr_value.specs.Shape.{has_shape}
+use Rattle.mr_script.specs.Script.{Done, Undefined, IllFormed, Ask, Outcome, Went, Refused, Broken, on, run}
+use Rattle.mr_eval.specs.MemoryQueries.{MemoryScript}
+use Rattle.mr_eval.specs.Tally.{Tally}
+use Rattle.mr_sync.specs.Sound.{IsSoundTables}
+use Rattle.mr_sync.specs.Tables.{Tables, over}
+use Rattle.mr_plan.specs.Legal.{needs_fault}
+use Rattle.mr_plan.specs.Machine.{Plan}
+use Rattle.mr_plan.specs.Notes.{Notes, start_notes}
+use Rattle.mr_plan.specs.Queries.{Shared, StepScript, answer, memory_part, tables_of}
+use Rattle.mr_plan.specs.Safety.{IsSafeChange}
+use Rattle.mr_plan.specs.Storage.{AreHeld, Slot}
+use Rattle.mr_plan.proofs.MemoryFacts.{MemoryFacts}
+use Rattle.mr_plan.proofs.MemoryParts.{Leaves, Left, leaves_then, memory_after}
+use Rattle.mr_plan.proofs.Outcomes.{After, after_weaker}
+use Rattle.mr_plan.proofs.StorageRuns.{Keeps}
+use Rattle.mr_plan.proofs.Positions.{set_here, set_there}
+
+-- a value of the result's type exactly where there is one
+abbrev pub ResultFits : Option Ty → Option Val → Type 0
+ResultFits None v = v ≡ None
+ResultFits (Some t) v = (x : Val) × (v ≡ Some x) × (has_shape t x ≡ true)
+
+-- What it leaves of a state in which thread t, which can go on, began its step: sound tables, in which no thread ended or came back, and the
+-- storage of all rooms.
+pub record OpLeaves (s : Shared) (t c : ℕ) (rooms : List Slot) (u : Shared × Notes) : Type 0 where
+  pub tables : IsSoundTables (tables_of u.0)
+  pub many : length u.0.statuses ≡ length s.statuses
+  pub own : over (slice_get u.0.statuses t) ≡ Some false
+  pub other : (k : ℕ) → k ≢ t → k < length s.statuses → over (slice_get u.0.statuses k) ≡ over (slice_get s.statuses k)
+  pub facts : MemoryFacts s.memory t c u.0.memory u.1.tally
+  pub held : AreHeld u.0.memory rooms
+
+-- its result, and what it leaves
+abbrev pub AfterOp : Shared → ℕ → ℕ → List Slot → Option Ty → Option Val → Shared × Notes → Type 0
+AfterOp s t c rooms result v u = ResultFits result v × OpLeaves s t c rooms u
+
+-- whatever picks an entry brings that breaks no rule
+abbrev pub OpPlan : Shared → ℕ → ℕ → List Slot → Option Ty → Plan (StepScript (Option Val)) → Shared × Notes → Type 0
+OpPlan s t c rooms result plan v =
+    (picks : List ℕ) → needs_fault s t c (record { creates = plan.creates; asks = plan.asks }) picks ≡ None → After (AfterOp s t c rooms result) (run answer (plan.go picks) v)
+
+module _ (s : Shared) (t c : ℕ) (sound : IsSoundTables (tables_of s)) (enabled : slice_get s.statuses t ≡ Some Enabled) (rooms : List Slot) where
+  -- other tables over the memory and the notes of a state
+  pub with_other : (w u : Shared × Notes) → Leaves s.memory t c (s, start_notes t c) w → AreHeld w.0.memory rooms → u.0.memory ≡ w.0.memory → u.1.tally ≡ w.1.tally
+      → IsSoundTables (tables_of u.0) → length u.0.statuses ≡ length s.statuses → over (slice_get u.0.statuses t) ≡ Some false
+      → ((k : ℕ) → k ≢ t → k < length s.statuses → over (slice_get u.0.statuses k) ≡ over (slice_get s.statuses k)) → OpLeaves s t c rooms u
+  with_other w u leaves held memory tally tables many own other = record {
+    tables = tables;
+    many = many;
+    own = own;
+    other = other;
+    facts = subst (λ (x : Memory × Tally). MemoryFacts s.memory t c x.0 x.1) (λ i. (sym memory i, sym tally i)) leaves.facts;
+    held = subst (λ m. AreHeld m rooms) (sym memory) held;
+  }
+
+  -- the same tables
+  pub same_left : (w u : Shared × Notes) → Leaves s.memory t c (s, start_notes t c) w → AreHeld w.0.memory rooms → u.0 ≡ w.0 → u.1.tally ≡ w.1.tally → OpLeaves s t c rooms u
+  same_left w u leaves held shared tally =
+      let all : u.0 ≡ record s { memory = w.0.memory } = shared ∙ leaves.shared in
+      with_other w u leaves held (ap (λ (x : Shared). x.memory) shared) tally
+      (subst (λ (x : Shared). IsSoundTables (tables_of x)) (sym all) sound)
+      (ap (λ (x : Shared). length x.statuses) all)
+      (ap (λ (x : Shared). over (slice_get x.statuses t)) all ∙ ap over enabled)
+      (λ k d lt. ap (λ (x : Shared). over (slice_get x.statuses k)) all)
+
+  -- a part that asks memory alone
+  pub memory_op : (result : Option Ty) (script : MemoryScript (Option Val)) → IsSafeChange (ResultFits result) script → Keeps (λ r. rooms) rooms script
+      → (w : Shared × Notes) → Leaves s.memory t c (s, start_notes t c) w → AreHeld w.0.memory rooms → After (AfterOp s t c rooms result) (run answer (memory_part script) w)
+  memory_op result script safe keeps w leaves held =
+      after_weaker (Left s.memory t c (ResultFits result) (λ r. rooms) w) (AfterOp s t c rooms result) (run answer (memory_part script) w)
+      (memory_after s.memory t c (ResultFits result) (λ r. rooms) rooms script safe keeps w leaves.facts held)
+      (λ v u left. (left.value, same_left u u (leaves_then s.memory t c (s, start_notes t c) w u leaves left.leaves) left.held refl refl))
+
+  t_there : t < length s.statuses
+  t_there = slice_get_within s.statuses t Enabled enabled
+
+  -- a status of a thread that waits now
+  pub blocked_left : (status : Status) (w u : Shared × Notes) → over (Some status) ≡ Some false → Leaves s.memory t c (s, start_notes t c) w → AreHeld w.0.memory rooms
+      → u.0.memory ≡ w.0.memory → u.1.tally ≡ w.1.tally → IsSoundTables (tables_of u.0) → u.0.statuses ≡ slice_set s.statuses t status → OpLeaves s t c rooms u
+  blocked_left status w u not_over leaves held memory tally tables is =
+      with_other w u leaves held memory tally tables
+      (ap (λ x. length x) is ∙ length-set s.statuses t status)
+      (ap (λ x. over (slice_get x t)) is ∙ ap over (set_here s.statuses t status t_there) ∙ not_over)
+      (λ k d lt. ap (λ x. over (slice_get x k)) is ∙ ap over (set_there s.statuses t k status d))

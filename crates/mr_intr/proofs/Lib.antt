@@ -1,0 +1,4 @@
+pub mod Leaving
+pub mod LockSafe
+pub mod Operates
+pub mod OperationSafe

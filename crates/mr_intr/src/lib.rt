@@ -1,0 +1,2 @@
+//! What the intrinsics do, but for the start of a thread and the look at a payload. (MiniRust, lang: intrinsics.)
+#![tactic(auto)]

@@ -1,0 +1,14 @@
+-- Two identities are one, or differ.
+use Rattle.std.proofs.Common.{◌≡◌, ◌≢◌, ap, ◌⊎◌, inl, inr}
+use Rattle.std.proofs.lemmas.Bool.{cases_eq}
+use Rattle.mr_base.specs.declared.byte.AllocId.{AllocId}
+
+pub id_cases : (a b : AllocId) → (a ≡ b) ⊎ (a ≢ b)
+id_cases a b =
+    elim (cases_eq a.thread b.thread) [
+      | inl t ↦ elim (cases_eq a.count b.count) [
+        | inl c ↦ inl (λ i. record { thread = t i; count = c i })
+        | inr n ↦ inr (λ e. n (ap (λ (w : AllocId). w.count) e))
+      ]
+      | inr n ↦ inr (λ e. n (ap (λ (w : AllocId). w.thread) e))
+    ]
