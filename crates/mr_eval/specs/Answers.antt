@@ -19,7 +19,7 @@ use Rattle.mr_eval.specs.Reads.{ReadScript, Seen}
 
 -- notes without where they lie
 abbrev pub seen : Notes → Seen
-seen n = record { accesses = n.accesses; touched = n.touched.items }
+seen n = record { accesses = n.accesses; touched = n.touched }
 
 -- Notes that were only added to.
 pub record Extends (old new : Seen) : Type 0 where

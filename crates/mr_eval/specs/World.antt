@@ -17,10 +17,10 @@ tally_of s = record {
   thread = s.thread;
   count = s.count;
   accesses = s.notes.accesses;
-  touched = s.notes.touched.items;
-  made = s.made.items;
+  touched = s.notes.touched;
+  made = s.made;
   ranges = s.ranges.items;
-  freed = s.freed.items;
+  freed = s.freed;
 }
 
 -- a scene without where its lists lie

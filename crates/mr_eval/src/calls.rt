@@ -129,5 +129,5 @@ pub fn store_typed(
 {
     let mut bytes = Vec::new(alloc);
     encode(alloc, v, t, &mut bytes)?;
-    store_bytes(m, n, p, bytes.as_slice(), align(t))
+    store_bytes(m, n, false, p, bytes.as_slice(), align(t))
 }

@@ -1,17 +1,17 @@
 //! What is noted of accesses and range checks.
-use mr_base::{Access, AllocId, Pointer};
-use mr_track::Accesses;
+use mr_base::{Access, Pointer};
+use mr_track::{Accesses, AllocIds};
 use std::alloc::{AllocError, Global};
 
 /// What evaluation notes of what it read: its accesses in order, and the allocations that its range checks touched.
 #[derive(Drop)]
 pub struct Notes {
     pub accesses: Accesses,
-    pub touched: Vec<AllocId>,
+    pub touched: AllocIds,
 }
 
 impl Notes {
-    ghost use Rattle.std.specs.Prelude.{◌≡◌, [], OnOk, false};
+    ghost use Rattle.std.specs.Prelude.{◌≡◌, [], OnOk};
     ghost use Rattle.mr_eval.specs.Answers.{Extends, seen};
     ghost use Rattle.mr_eval.specs.Reads.{accessing, seeing, touching};
 
@@ -21,13 +21,13 @@ impl Notes {
     {
         Notes {
             accesses: Accesses::new(alloc),
-            touched: Vec::new(alloc),
+            touched: AllocIds::new(alloc),
         }
     }
 
-    // Notes what a range check of this pointer and length touches.
+    /// Notes what a range check of this pointer and length touches.
     #[tactic(auto, using(crate::proofs::ExtendsLaws::extends_laws))]
-    pub(crate) fn touch(&mut self, p: Pointer, len: u64) -> Result<(), AllocError>
+    pub fn touch(&mut self, p: Pointer, len: u64) -> Result<(), AllocError>
         ensures noted { OnOk result (seen self.new ≡ seeing [] (touching p len) (seen self.old)) }
         ensures kept { Extends (seen self.old) (seen self.new) }
     {
@@ -39,16 +39,22 @@ impl Notes {
         Ok(())
     }
 
-    // Notes a load or a store of this length, which isn't atomic.
+    /// Notes a load or a store of this length in bytes.
     #[tactic(auto, using(crate::proofs::ExtendsLaws::extends_laws))]
-    pub(crate) fn access(&mut self, store: bool, p: Pointer, len: u64) -> Result<(), AllocError>
-        ensures noted { OnOk result (seen self.new ≡ seeing (accessing store false p len) [] (seen self.old)) }
+    pub fn access(
+        &mut self,
+        store: bool,
+        atomic: bool,
+        p: Pointer,
+        len: u64,
+    ) -> Result<(), AllocError>
+        ensures noted { OnOk result (seen self.new ≡ seeing (accessing store atomic p len) [] (seen self.old)) }
         ensures kept { Extends (seen self.old) (seen self.new) }
     {
         if len != 0 {
             self.accesses.add(Access {
                 store,
-                atomic: false,
+                atomic,
                 addr: p.addr,
                 len,
             })?;

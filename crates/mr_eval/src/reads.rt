@@ -54,7 +54,7 @@ pub fn lend<'m>(
     match m.load(p, len, align) {
         Ok(view) => {
             notes.touch(p, len)?;
-            notes.access(false, p, len)?;
+            notes.access(false, false, p, len)?;
             Ok(view)
         }
         Err(reason) => Err(Halt::Undefined(reason)),

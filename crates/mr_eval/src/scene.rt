@@ -2,6 +2,7 @@
 use crate::notes::Notes;
 use mr_base::{AllocId, Kind, Pointer};
 use mr_mem::{Fault, Memory};
+use mr_track::AllocIds;
 use std::alloc::{AllocError, Global};
 
 /// What a step of a thread changes of memory, and what it notes of that.
@@ -10,11 +11,11 @@ pub struct Scene {
     pub memory: Memory,
     pub notes: Notes,
     /// The allocations that it made.
-    pub made: Vec<AllocId>,
+    pub made: AllocIds,
     /// The address and the size of each of them, in bytes.
     pub ranges: Vec<(u64, u64)>,
     /// The allocations that it freed.
-    pub freed: Vec<AllocId>,
+    pub freed: AllocIds,
     pub thread: u32,
     /// How many allocations the thread has made.
     pub count: u64,
@@ -37,9 +38,9 @@ impl Scene {
         Scene {
             memory,
             notes: Notes::new(alloc),
-            made: Vec::new(alloc),
+            made: AllocIds::new(alloc),
             ranges: Vec::new(alloc),
-            freed: Vec::new(alloc),
+            freed: AllocIds::new(alloc),
             thread,
             count,
         }

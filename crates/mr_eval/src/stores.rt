@@ -13,30 +13,36 @@ use std::alloc::AllocError;
 
 // Notes a store of this length and the range check before it.
 #[tactic(auto, using(crate::proofs::ExtendsLaws::extends_laws))]
-fn note_store(notes: &mut Notes, p: Pointer, len: u64) -> Result<(), AllocError>
-    ensures noted { OnOk result (seen notes.new ≡ seeing (accessing true false p len) (touching p len) (seen notes.old)) }
+fn note_store(
+    notes: &mut Notes,
+    atomic: bool,
+    p: Pointer,
+    len: u64,
+) -> Result<(), AllocError>
+    ensures noted { OnOk result (seen notes.new ≡ seeing (accessing true atomic p len) (touching p len) (seen notes.old)) }
     ensures kept { Extends (seen notes.old) (seen notes.new) }
 {
     notes.touch(p, len)?;
-    notes.access(true, p, len)
+    notes.access(true, atomic, p, len)
 }
 
-/// The store of bytes, which isn't atomic: 103 before the range check.
+/// The store of bytes, atomic or not: 103 before the range check.
 ///
 /// After `Err` memory is as before, and the notes begin with what they held.
 #[tactic(auto, using(crate::proofs::ExtendsLaws::extends_laws))]
 pub fn store_bytes(
     m: &mut Memory,
     notes: &mut Notes,
+    atomic: bool,
     p: Pointer,
     bytes: &[AbstractByte],
     align: u64,
 ) -> Result<(), Fault>
-    ensures given { Leaves result (storing m.old false p bytes.now align (seen notes.old)) m.new (seen notes.new) }
+    ensures given { Leaves result (storing m.old atomic p bytes.now align (seen notes.old)) m.new (seen notes.new) }
     ensures kept { Extends (seen notes.old) (seen notes.new) }
     ensures err { OnErr result (m.new ≡ m.old) }
 {
-    note_store(notes, p, bytes.len() as u64)?;
+    note_store(notes, atomic, p, bytes.len() as u64)?;
     m.store(p, bytes, align)
 }
 
@@ -55,6 +61,6 @@ pub fn store_uninit(
     ensures kept { Extends (seen notes.old) (seen notes.new) }
     ensures err { OnErr result (m.new ≡ m.old) }
 {
-    note_store(notes, p, len)?;
+    note_store(notes, false, p, len)?;
     m.deinit(p, len, align)
 }

@@ -196,5 +196,5 @@ fn write_tag(
 {
     let mut bytes = Vec::new(alloc);
     encode_tag(alloc, tag, &mut bytes)?;
-    store_bytes(m, n, behind(p, tag.at), bytes.as_slice(), 1)
+    store_bytes(m, n, false, behind(p, tag.at), bytes.as_slice(), 1)
 }

@@ -205,5 +205,5 @@ fn write_tag(
     ensures { Leaves result (storing m.old false (behind p tag.now.at) (tag_bytes tag.now) 1 (seen n.old)) m.new (seen n.new) }
 {
     let bytes = tag_bytes(alloc, tag)?;
-    store_bytes(m, n, behind(p, tag.at), bytes.as_slice(), 1)
+    store_bytes(m, n, false, behind(p, tag.at), bytes.as_slice(), 1)
 }
