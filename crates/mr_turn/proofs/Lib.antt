@@ -1,0 +1,2 @@
+pub mod FrameTurns
+pub mod PlanAsks

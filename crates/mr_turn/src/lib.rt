@@ -7,5 +7,7 @@
 #![tactic(auto)]
 
 mod deed;
+mod framed;
+mod judged;
 
 pub use deed::{Deed, TurnFault};
