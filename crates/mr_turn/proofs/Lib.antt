@@ -1,2 +1,3 @@
+pub mod DoTurns
 pub mod FrameTurns
 pub mod PlanAsks

@@ -24,7 +24,7 @@ use Rattle.mr_frame.specs.declared.look.Look.{Look as KeptLook}
 use Rattle.mr_frame.specs.declared.stack.Stack.{Stack as KeptStack}
 use Rattle.mr_frame.specs.Fits.{FitsStack}
 use Rattle.mr_frame.specs.Frames.{Look}
-use Rattle.mr_frame.specs.Kept.{IsReady, stack_of}
+use Rattle.mr_frame.specs.Kept.{IsReady, look_of, stack_of}
 use Rattle.mr_frame.specs.Standing.{IsUncounted}
 use Rattle.mr_thread.specs.Steps.{Own, Turn, thread_step, with_stack}
 use Rattle.mr_start.specs.Judging.{fault_of}
@@ -161,3 +161,16 @@ DeedAnswer (Ok d) o Went' = Went' d
 DeedAnswer (Err (answer.Broken e)) o Went' = ⊥
 DeedAnswer (Err (answer.Undefined r)) o Went' = o ≡ Refused r
 DeedAnswer (Err answer.Memory) o Went' = Unit {0}
+
+-- ---- of a thread with this stack, scene and tables
+
+-- the rule that the picks break, and what its step comes to
+abbrev pub breaks : KeptLook → KeptStack → Scene → Tables → List ℕ → Option Fault
+breaks look stack s x picks = picks_break (begun s x) (planned (look_of look) (own_of s.thread stack) (begun s x)) picks
+
+abbrev pub comes_to : KeptLook → KeptStack → Scene → Tables → List ℕ → Outcome Turn (Shared × Notes)
+comes_to look stack s x picks = turned (look_of look) (own_of s.thread stack) picks (begun s x)
+
+-- a deed of it, with what stands behind it
+abbrev pub Does : KeptStack → Scene → Tables → Outcome Turn (Shared × Notes) → KeptStack → Scene → Tables → Deed → Type 0
+Does stack s x o stack' s' x' d = Turned (own_of s.thread stack) (length x.statuses) o d stack' s' x'

@@ -1,10 +1,10 @@
 //! The turn of a thread whose next step is a statement or a terminator that is no intrinsic.
-ghost use Rattle.std.specs.Prelude.{◌≡◌, IfOk, None, length};
+ghost use Rattle.std.specs.Prelude.{◌≡◌, IfOk, None};
 ghost use Rattle.mr_sync.specs.Tables.{IsEnabled};
 ghost use Rattle.mr_frame.specs.Acting.{AreLawful};
 ghost use Rattle.mr_frame.specs.Kept.{look_of, stack_of};
 ghost use Rattle.mr_frame.specs.Operations.{next_do};
-ghost use Rattle.mr_turn.specs.Turning.{BeginsTurn, DeedAnswer, IsFlow, IsSame, TurnAnswer, Turned, begun, own_of, picks_break, planned, turned};
+ghost use Rattle.mr_turn.specs.Turning.{BeginsTurn, DeedAnswer, Does, IsFlow, IsSame, TurnAnswer, breaks, comes_to};
 
 use crate::deed::{Deed, TurnFault};
 use crate::judged::judged;
@@ -50,7 +50,7 @@ fn take(
     requires begins { BeginsTurn look.now stack.old s.old sync.old }
     requires other { next_do (look_of look.now) (stack_of stack.old) ≡ None }
     requires lawful { AreLawful (look_of look.now) (stack_of stack.old) picks.now s.old }
-    ensures { DeedAnswer result (turned (look_of look.now) (own_of s.old.thread stack.old) picks.now (begun s.old sync.old)) (λ d. Turned (own_of s.old.thread stack.old) (length sync.old.statuses) (turned (look_of look.now) (own_of s.old.thread stack.old) picks.now (begun s.old sync.old)) d stack.new s.new sync.new) }
+    ensures { DeedAnswer result (comes_to look.now stack.old s.old sync.old picks.now) (Does stack.old s.old sync.old (comes_to look.now stack.old s.old sync.old picks.now) stack.new s.new sync.new) }
 {
     let thread = s.thread;
     match stack.act(alloc, look, s, picks) {
@@ -70,7 +70,7 @@ pub fn frame_turn(
 ) -> Result<Deed, TurnFault>
     requires begins { BeginsTurn look.now stack.old s.old sync.old }
     requires other { next_do (look_of look.now) (stack_of stack.old) ≡ None }
-    ensures { TurnAnswer result (picks_break (begun s.old sync.old) (planned (look_of look.now) (own_of s.old.thread stack.old) (begun s.old sync.old)) picks.now) (turned (look_of look.now) (own_of s.old.thread stack.old) picks.now (begun s.old sync.old)) (λ d. Turned (own_of s.old.thread stack.old) (length sync.old.statuses) (turned (look_of look.now) (own_of s.old.thread stack.old) picks.now (begun s.old sync.old)) d stack.new s.new sync.new) (IsSame stack.old s.old sync.old stack.new s.new sync.new) }
+    ensures { TurnAnswer result (breaks look.now stack.old s.old sync.old picks.now) (comes_to look.now stack.old s.old sync.old picks.now) (Does stack.old s.old sync.old (comes_to look.now stack.old s.old sync.old picks.now) stack.new s.new sync.new) (IsSame stack.old s.old sync.old stack.new s.new sync.new) }
 {
     let mut asks = Vec::new(alloc);
     stack.asks(alloc, look, &s.memory, &mut asks)?;
