@@ -1,3 +1,4 @@
 pub mod DoTurns
 pub mod FrameTurns
 pub mod PlanAsks
+pub mod SpawnTurns
