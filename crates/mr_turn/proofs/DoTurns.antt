@@ -73,7 +73,7 @@ module _ (look : Look) (own : Own) (d : DueDo) (o : Operands) (w : Shared × Not
     abbrev plans : Outcome (Plan (StepScript (Option Val))) (Shared × Notes)
     plans = run answer operating w
 
-    plan_is : run answer (operated look own d o d.op) w ≡ on plans (λ plan v. Went (plan_behind plan (λ x. finishing own d o x None)) v)
+    pub plan_is : run answer (operated look own d o d.op) w ≡ on plans (λ plan v. Went (plan_behind plan (λ x. finishing own d o x None)) v)
     plan_is = ap (λ script. run answer script w) is ∙ run_bind answer operating (λ plan. Done (plan_behind plan (λ x. finishing own d o x None))) w
 
     -- it needs what the operation needs

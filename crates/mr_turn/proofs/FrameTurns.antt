@@ -17,7 +17,7 @@ use Rattle.mr_eval.specs.declared.scene.Scene.{Scene}
 use Rattle.mr_plan.specs.Legal.{Fault, needs_fault, picks_fault}
 use Rattle.mr_plan.specs.Machine.{CreatesNothing, Goes, Needs, Plan, needs_of, no_needs}
 use Rattle.mr_plan.specs.Notes.{Notes}
-use Rattle.mr_plan.specs.Queries.{Shared, StepScript, answer, ending, memory_part}
+use Rattle.mr_plan.specs.Queries.{Shared, StepScript, answer, memory_part, with_tables}
 use Rattle.mr_plan.proofs.ReadingRuns.{memory_run, memory_then, moved_to, on_then, reading_run, reading_then, tallied}
 use Rattle.mr_frame.specs.declared.flow.Flow.{Flow}
 use Rattle.mr_frame.specs.declared.flow.Flow.TheVariants as flow
@@ -88,9 +88,15 @@ module _ (look : Look) (thread threads : ℕ) (stack stack' : KeptStack) (s s' :
   abbrev moved : Shared × Notes
   moved = moved_to (begun s x) (world_of s')
 
-  -- the notes behind the end of a thread
+  -- the notes behind the end of a thread, and where it leads
+  abbrev notes_behind : ℕ → Notes
+  notes_behind t = record moved.1 { ended = true; stopped = true; woken = (ended t x).1 }
+
   abbrev end_notes : Notes
-  end_notes = record moved.1 { ended = true; stopped = true; woken = (ended thread x).1 }
+  end_notes = notes_behind thread
+
+  abbrev led_to : ℕ → Outcome Turn (Shared × Notes)
+  led_to t = Went (turn_by flow.Ended own stack' None) (with_tables moved.0 (ended t x).0, notes_behind t)
 
   told : (f : Flow) (n : Notes) → outcome ≡ Went (turn_by f own stack' None) (shared_in s' x', n) → d.flow ≡ f → d.started ≡ None
       → outcome ≡ Went (turn_by d.flow own stack' (option_map (own_of threads) d.started)) (shared_in s' x', n)
@@ -112,17 +118,13 @@ module _ (look : Look) (thread threads : ℕ) (stack stack' : KeptStack) (s s' :
   ends : s'.thread ≡ thread → outcome ≡ run answer (onward own (onward_of flow.Ended (stack_of stack'))) moved → IsFlow flow.Ended thread x x' d → Turned own threads outcome d stack' s' x'
   ends same goes is = record {
     notes = end_notes;
-    goes = told flow.Ended end_notes (goes ∙ by_thread s'.thread same ∙ ap (λ (y : Tables). Went (turn_by flow.Ended own stack' None) (shared_in s' y, end_notes)) (sym is.wakes.0)) is.flow is.started;
+    goes = told flow.Ended end_notes (goes ∙ ap led_to same ∙ ap (λ (y : Tables). Went (turn_by flow.Ended own stack' None) (shared_in s' y, end_notes)) (sym is.wakes.0)) is.flow is.started;
     tally = refl;
     event = sym is.event;
     ended = sym (ap is_end is.flow);
     woken = sym is.wakes.1;
     printed = sym (ap (λ t. printed_lines (option_map (λ text. text.items) t)) is.text);
   }
-    where
-      by_thread : (t : ℕ) → t ≡ thread
-          → ending (ended t x) moved.0 moved.1 ≡ ending (ended thread x) moved.0 moved.1
-      by_thread t e = ap (λ u. ending (ended u x) moved.0 moved.1) e
 
   pub flow_turned : (f : Flow) → next_do look (stack_of stack) ≡ None → acted look thread (stack_of stack) picks (world_of s) ≡ Went (onward_of f (stack_of stack')) (world_of s')
       → s'.thread ≡ thread → IsFlow f thread x x' d → Turned own threads outcome d stack' s' x'

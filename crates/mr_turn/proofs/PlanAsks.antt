@@ -137,14 +137,15 @@ WentSo P (Went x s) = P x
 WentSo P (Refused r) = Unit {0}
 WentSo P Broken = Unit {0}
 
+-- where a run goes on from an answer
+went_on : {A R : Type 0} (P : A → Type 0) (o : Outcome R Seen) (f : R → Seen → Outcome A Seen) → ((x : R) (s : Seen) → WentSo P (f x s)) → WentSo P (on o f)
+went_on P (Went x s) f h = h x s
+went_on P (Refused r) f h = tt
+went_on P Broken f h = tt
+
 -- what a reading part leads to holds of where its run goes on
 pub led : {A : Type 0} (P : A → Type 0) (script : ReadScript A) → Leads P script → (m : Memory) (s : Seen) → WentSo P (run (reading m) script s)
 led P (Done a) h m s = h
 led P (Undefined r) h m s = tt
 led P IllFormed h m s = tt
-led P (Asks q k) h m s = by_answer (reading m q s)
-  where
-    by_answer : (o : Outcome (ReadReply q) Seen) → WentSo P (on o (λ y u. run (reading m) (k y) u))
-    by_answer (Went y u) = led P (k y) (h y) m u
-    by_answer (Refused r) = tt
-    by_answer Broken = tt
+led P (Asks q k) h m s = went_on P (reading m q s) (λ y u. run (reading m) (k y) u) (λ y u. led P (k y) (h y) m u)

@@ -1,5 +1,12 @@
 -- What the turn of a thread comes to whose next step is an intrinsic, behind the evaluation of what it is given.
-use Rattle.std.specs.Prelude.{◌≡◌, ℕ, ◌<◌, ◌^◌, List, Option, Some}
+use Rattle.std.specs.Prelude.{◌≡◌, ℕ, ◌<◌, ◌^◌, List, Option, None, Some, if◌then◌else◌}
+use Rattle.std.specs.Option.{option_map}
+use Rattle.mr_ast.specs.declared.program.Intrinsic.{Intrinsic}
+use Rattle.mr_wf.specs.Intrinsics.{is_print}
+use Rattle.mr_intr.specs.Effects.{listed}
+use Rattle.mr_intr.specs.declared.effect.Effect.{Effect}
+use Rattle.mr_frame.specs.declared.flow.Flow.TheVariants as flow
+use Rattle.mr_turn.specs.declared.deed.Deed.{Deed}
 use Rattle.mr_script.specs.Script.{Outcome, run, ◌>>=◌}
 use Rattle.mr_sync.specs.Tables.{IsEnabled, Tables}
 use Rattle.mr_eval.specs.declared.scene.Scene.{Scene}
@@ -44,3 +51,11 @@ do_breaks look stack s x call d picks = picks_break (begun s x) (do_planned (loo
 
 abbrev pub do_comes_to : KeptLook → KeptStack → Scene → Tables → DoCall → DueDo → List ℕ → Outcome Turn (Shared × Notes)
 do_comes_to look stack s x call d picks = do_turned (look_of look) (own_of s.thread stack) d (operands_of call) picks (begun s x)
+
+-- the deed of an operation, with the text of a print
+pub record IsTold (op : Intrinsic) (e : Effect) (printed : List ℕ) (d : Deed) : Type 0 where
+  pub flow : d.flow ≡ flow.Went
+  pub event : d.event ≡ e.event
+  pub woken : d.woken.items ≡ listed e.woken
+  pub started : d.started ≡ None
+  pub text : option_map (λ t. t.items) d.text ≡ (if is_print op then Some printed else None)

@@ -109,8 +109,8 @@ pub record IsFlow (f : Flow) (thread : ℕ) (x x' : Tables) (d : Deed) : Type 0 
   pub wakes : Wakes f thread x x' d.woken.items
 
 -- what is left where an entry is refused
-pub record IsSame (stack : KeptStack) (s : Scene) (x : Tables) (stack' : KeptStack) (s' : Scene) (x' : Tables) : Type 0 where
-  pub stack : stack' ≡ stack
+pub record IsSame (k : KeptStack) (s : Scene) (x : Tables) (k' : KeptStack) (s' : Scene) (x' : Tables) : Type 0 where
+  pub stack : k' ≡ k
   pub memory : s'.memory ≡ s.memory
   pub tables : x' ≡ x
 

@@ -8,7 +8,7 @@ ghost use Rattle.mr_turn.specs.Doing.{CanFinish, IsGiven, MeetsNeeds, do_breaks,
 ghost use Rattle.mr_turn.specs.Turning.{BeginsTurn, DeedAnswer, Does, IsSame, JudgeAnswer, TurnAnswer, breaks, comes_to};
 
 use crate::deed::{Deed, TurnFault};
-use crate::judged::{judged, stopped};
+use crate::judging::{judged, stopped};
 use crate::spawning::spawn;
 use mr_ast::Intrinsic;
 use mr_base::{Event, Reason};

@@ -7,7 +7,7 @@ ghost use Rattle.mr_frame.specs.Operations.{next_do};
 ghost use Rattle.mr_turn.specs.Turning.{BeginsTurn, DeedAnswer, Does, IsFlow, IsSame, TurnAnswer, breaks, comes_to};
 
 use crate::deed::{Deed, TurnFault};
-use crate::judged::judged;
+use crate::judging::judged;
 use mr_base::Event;
 use mr_eval::Scene;
 use mr_frame::{Flow, Look, Stack};

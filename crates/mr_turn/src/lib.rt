@@ -8,6 +8,6 @@
 
 mod deed;
 mod framed;
-mod judged;
+mod judging;
 
 pub use deed::{Deed, TurnFault};

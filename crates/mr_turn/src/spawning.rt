@@ -1,19 +1,18 @@
 //! The start of a thread.
-ghost use Rattle.std.specs.Prelude.{◌≡◌, ◌<◌, Some, length, slice_get};
+ghost use Rattle.std.specs.Prelude.{◌≡◌, ◌<◌, List, Some, length};
 ghost use Rattle.mr_ast.specs.declared.types.Ty.{Ty as TypeOf};
 ghost use Rattle.mr_base.specs.declared.byte.Pointer.{Pointer as PointerOf};
 ghost use Rattle.mr_value.specs.declared.val.Val.TheVariants as val;
-ghost use Rattle.mr_wf.specs.SameTypes.{same_type};
 ghost use Rattle.mr_frame.specs.Calling.{HasLocals};
-ghost use Rattle.mr_frame.specs.Calls.{kept_types, same_types};
+ghost use Rattle.mr_frame.specs.Calls.{kept_types, local_type, same_types};
 ghost use Rattle.mr_frame.specs.Kept.{look_of, stack_of};
 ghost use Rattle.mr_frame.specs.Operations.{DueDo, next_do};
-ghost use Rattle.mr_thread.specs.Steps.{thread_types, unit};
+ghost use Rattle.mr_thread.specs.Steps.{thread_types};
 ghost use Rattle.mr_turn.specs.Doing.{IsGiven, StartsThread, do_breaks, do_comes_to};
 ghost use Rattle.mr_turn.specs.Turning.{DeedAnswer, Does, IsSame, TurnAnswer};
 
 use crate::deed::{Deed, TurnFault};
-use crate::judged::{judged, stopped};
+use crate::judging::{judged, stopped};
 use mr_ast::{FnName, Function, LocalName, Ty};
 use mr_base::{Event, Pointer, Reason};
 use mr_eval::Scene;
@@ -22,6 +21,8 @@ use mr_sched::Ask;
 use mr_start::PickFailure;
 use mr_sync::SyncTable;
 use mr_value::Val;
+use mr_wf::Known;
+use sqlite_items::Items;
 use std::alloc::Global;
 
 /// As many threads may be.
@@ -30,43 +31,30 @@ const THREADS: u32 = 1024;
 /// There are as many threads as may be.
 const TOO_MANY_THREADS: u8 = 67;
 
-// The empty tuple.
-fn is_unit(t: &Ty) -> bool
-    ensures { result ≡ same_type unit t.now }
-{
-    match t {
-        Ty::Tuple {
-            size,
-            align,
-            fields,
-        } => *size == 0 && *align == 1 && fields.len() == 0,
-        _ => false,
-    }
-}
-
-fn is_raw(t: &Ty) -> bool
-    ensures { result ≡ same_type TypeOf.Raw t.now }
-{
-    matches!(t, Ty::Raw)
-}
-
 // The type of a local.
 fn type_of(f: &Function, x: LocalName) -> &Ty
     requires { x.0 < length f.now.locals }
-    ensures { IsTypeOf f.now x result.now }
+    ensures { local_type f.now x ≡ Some result.now }
 {
     &f.locals.as_slice()[x.0 as usize].ty
 }
 
-// Whether a thread may begin with a function: it gives the unit, and takes a raw pointer.
-fn begins_thread(f: &Function) -> bool
+// Whether a thread may begin with a function: it gives the empty tuple, and takes a raw pointer.
+fn begins_thread(alloc: Global, f: &Function) -> bool
     requires { HasLocals f.now }
     ensures { (types : List TypeOf) → kept_types f.now ≡ Some types → result ≡ same_types thread_types types }
 {
-    match f.args.as_slice() {
-        [x] => is_unit(type_of(f, f.ret)) && is_raw(type_of(f, *x)),
-        _ => false,
+    let args = f.args.as_slice();
+    if args.len() != 1 {
+        return false;
     }
+    let unit = Ty::Tuple {
+        size: 0,
+        align: 1,
+        fields: Items::new(alloc),
+    };
+    let gives = Known::Written(&unit).same(Known::Written(type_of(f, f.ret)));
+    gives && Known::Written(&Ty::Raw).same(Known::Written(type_of(f, args[0])))
 }
 
 // The pointer that a value is.
@@ -96,7 +84,7 @@ pub fn spawn(
     let Some(f) = callee(look.functions, pointer_in(&call.args.as_slice()[0])) else {
         return Err(stopped(Reason::NotAFunction, picks));
     };
-    if !begins_thread(&look.program.program().functions.as_slice()[f.0 as usize]) {
+    if !begins_thread(alloc, &look.program.program().functions.as_slice()[f.0 as usize]) {
         return Err(stopped(Reason::SignatureMismatch, picks));
     }
     if sync.threads() >= THREADS {

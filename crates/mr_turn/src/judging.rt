@@ -1,6 +1,5 @@
 //! What is judged before a step does anything.
-ghost use Rattle.std.specs.Prelude.{◌≡◌, ◌+◌, ◌<◌, ◌^◌, [], ◌∷◌, List, length};
-ghost use Rattle.std.specs.Option.{option_list};
+ghost use Rattle.std.specs.Prelude.{◌+◌, ◌<◌, ◌^◌, length};
 ghost use Rattle.mr_frame.specs.Standing.{IsUncounted};
 ghost use Rattle.mr_turn.specs.Turning.{JudgeAnswer, StopAnswer, asks_break};
 
@@ -8,8 +7,11 @@ use crate::deed::TurnFault;
 use mr_base::Reason;
 use mr_eval::Scene;
 use mr_sched::Ask;
-use mr_start::{EXTRA_PICK, PickFailure, judge};
+use mr_start::{PickFailure, judge};
 use mr_sync::SyncTable;
+
+/// The step needs no pick, and there is one.
+const EXTRA_PICK: u8 = 62;
 
 /// The picks for what a step asks.
 pub fn judged(s: &Scene, sync: &SyncTable, asks: &[Ask], picks: &[u64]) -> Result<(), TurnFault>
