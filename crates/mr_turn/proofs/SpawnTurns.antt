@@ -72,7 +72,7 @@ module _ (look : Look) (own : Own) (d : DueDo) (o : Operands) (is : d.op ≡ int
     number_now = length w.0.statuses
 
     -- what is shared behind the start of the thread
-    abbrev with_thread : Shared × Notes → Shared × Notes
+    abbrev pub with_thread : Shared × Notes → Shared × Notes
     with_thread u = (with_tables u.0 (spawned (tables_of u.0)).1, woke (Some (length u.0.statuses)) (note (Spawn (length u.0.statuses)) u.1))
 
     pub start_turned : (picks : List ℕ) → same_types thread_types types ≡ true

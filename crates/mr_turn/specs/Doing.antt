@@ -1,7 +1,19 @@
 -- What the turn of a thread comes to whose next step is an intrinsic, behind the evaluation of what it is given.
-use Rattle.std.specs.Prelude.{◌≡◌, ℕ, ◌<◌, ◌^◌, List, Option, None, Some, if◌then◌else◌}
+use Rattle.std.specs.Prelude.{◌≡◌, ℕ, ◌<◌, ◌^◌, true, List, [], ◌∷◌, length, Option, None, Some, if◌then◌else◌, slice_get}
 use Rattle.std.specs.Option.{option_map}
+use Rattle.mr_ast.specs.declared.program.Function.{Function}
 use Rattle.mr_ast.specs.declared.program.Intrinsic.{Intrinsic}
+use Rattle.mr_ast.specs.declared.program.Intrinsic.TheVariants as intrinsic
+use Rattle.mr_ast.specs.declared.types.IntType.TheVariants.{U32}
+use Rattle.mr_ast.specs.declared.types.Ty.{Ty}
+use Rattle.mr_ast.specs.declared.types.Ty.TheVariants as ty
+use Rattle.mr_base.specs.declared.byte.Pointer.{Pointer}
+use Rattle.mr_mem.specs.Memory.{ranges_of}
+use Rattle.mr_value.specs.declared.val.Val.{Val}
+use Rattle.mr_value.specs.declared.val.Val.TheVariants as val
+use Rattle.mr_value.specs.Shape.{has_shape}
+use Rattle.mr_plan.specs.Legal.{Fault, picks_fault}
+use Rattle.mr_frame.specs.Calls.{callee_of, kept_types, same_types, storage_asks}
 use Rattle.mr_wf.specs.Intrinsics.{is_print}
 use Rattle.mr_intr.specs.Effects.{listed}
 use Rattle.mr_intr.specs.declared.effect.Effect.{Effect}
@@ -10,7 +22,6 @@ use Rattle.mr_turn.specs.declared.deed.Deed.{Deed}
 use Rattle.mr_script.specs.Script.{Outcome, run, ◌>>=◌}
 use Rattle.mr_sync.specs.Tables.{IsEnabled, Tables}
 use Rattle.mr_eval.specs.declared.scene.Scene.{Scene}
-use Rattle.mr_plan.specs.Legal.{Fault}
 use Rattle.mr_plan.specs.Machine.{Plan}
 use Rattle.mr_plan.specs.Notes.{Notes}
 use Rattle.mr_plan.specs.Queries.{Shared, StepScript, answer}
@@ -24,7 +35,7 @@ use Rattle.mr_frame.specs.Frames.{Look}
 use Rattle.mr_frame.specs.Kept.{IsReady, look_of, stack_of}
 use Rattle.mr_frame.specs.Operations.{DueDo, Operands, next_do}
 use Rattle.mr_frame.specs.Standing.{IsUncounted}
-use Rattle.mr_thread.specs.Steps.{Own, Turn, operated}
+use Rattle.mr_thread.specs.Steps.{Own, Turn, operated, thread_types}
 use Rattle.mr_turn.specs.Turning.{begun, own_of, picks_break}
 
 -- the plan of an intrinsic that is given this, or why it stops before it has one
@@ -59,3 +70,31 @@ pub record IsTold (op : Intrinsic) (e : Effect) (printed : List ℕ) (d : Deed) 
   pub woken : d.woken.items ≡ listed e.woken
   pub started : d.started ≡ None
   pub text : option_map (λ t. t.items) d.text ≡ (if is_print op then Some printed else None)
+
+-- ---- the start of a thread
+
+-- what it is given: a pointer to a function, an argument that is a raw pointer, and a place for the thread's number
+pub record SpawnGiven (o : Operands) : Type 0 where
+  pub callee : Pointer
+  pub argument : Val
+  pub args : o.args ≡ val.Ptr callee ∷ argument ∷ []
+  pub raw : has_shape ty.Raw argument ≡ true
+  pub result : o.result_type ≡ Some (ty.Int U32)
+
+-- the function of this number, which is that of a thread
+pub record IsStart (look : KeptLook) {o : Operands} (g : SpawnGiven o) (number : ℕ) : Type 0 where
+  pub called : callee_of look.functions.now g.callee ≡ Some number
+  pub function : Function
+  pub there : slice_get look.program.now.functions number ≡ Some function
+  pub types : List Ty
+  pub typed : kept_types function ≡ Some types
+  pub same : same_types thread_types types ≡ true
+
+-- It is due, and its picks break no rule.
+pub record StartsThread (look : KeptLook) (stack : KeptStack) (s : Scene) (x : Tables) (call : DoCall) (d : DueDo) (number : ℕ) (picks : List ℕ) : Type 0 where
+  pub given : IsGiven look stack s x call d
+  pub is : d.op ≡ intrinsic.Spawn
+  pub given_to : SpawnGiven (operands_of call)
+  pub at : IsStart look given_to number
+  pub lawful : picks_fault [] (ranges_of s.memory) s.thread s.count (storage_asks thread_types) picks ≡ None
+  pub few : length x.statuses < 1024
