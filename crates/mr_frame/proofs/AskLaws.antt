@@ -1,4 +1,4 @@
--- What a step that is no intrinsic asks for, by what is due; and that no intrinsic is due then.
+-- What a step that is no intrinsic asks for, by what is due.
 use Rattle.std.proofs.Common.{◌≡◌, ℕ, ◌+◌, ◌<◌, ◌≤◌, refl, sym, ap, ◌∙◌, subst, List, [], ◌∷◌, ◌++◌, length, drop, get_or, Option, None, Some, add-one, append-nil, append_assoc}
 use Rattle.std.proofs.Math.Seq.{drop-cons}
 use Rattle.std.proofs.lemmas.List.{drop_all}
@@ -15,22 +15,18 @@ use Rattle.mr_ast.specs.declared.types.Ty.{Ty}
 use Rattle.mr_base.specs.declared.byte.Pointer.{Pointer}
 use Rattle.mr_sched.specs.declared.schedule.Ask.{Ask}
 use Rattle.mr_mem.specs.Memory.{Memory}
-use Rattle.mr_script.specs.Script.{run}
-use Rattle.mr_eval.specs.Reads.{Seen, reading}
+use Rattle.mr_eval.specs.Reads.{Seen}
 use Rattle.mr_frame.specs.declared.look.Look.{Look as KeptLook}
 use Rattle.mr_frame.specs.Beginning.{HasTypes}
 use Rattle.mr_frame.specs.Calling.{written_types}
 use Rattle.mr_frame.specs.Calls.{kept_types, storage_asks}
-use Rattle.mr_frame.specs.Effects.{asked, asks_of}
+use Rattle.mr_frame.specs.Effects.{asked}
 use Rattle.mr_frame.specs.Frames.{Frame, Look, Stack}
 use Rattle.mr_frame.specs.Kept.{IsReady, look_of}
-use Rattle.mr_frame.specs.Operations.{DueDo, do_at, do_due, next_do}
-use Rattle.mr_frame.specs.Sites.{AtStatement, AtTerminator, Due, NoDo, Site, due_term, kept_locals, site_of}
+use Rattle.mr_frame.specs.Sites.{AtStatement, AtTerminator, NoDo, due_term, kept_locals}
 use Rattle.mr_frame.specs.Standing.{StandsAt}
-use Rattle.mr_frame.specs.Steps.{plan_due}
-use Rattle.mr_frame.proofs.ActedLaws.{asked_change, asked_dead, asked_is, site, stack}
+use Rattle.mr_frame.proofs.ActedLaws.{asked_change, asked_dead, asked_is, stack}
 use Rattle.mr_frame.proofs.BeginSteps.{first_typed, kept_known}
-use Rattle.mr_frame.proofs.Frames.{site_is}
 use Rattle.mr_frame.proofs.TypeRows.{none_there}
 
 -- ---- what the start of a function asks for, one local after another
@@ -98,37 +94,14 @@ module _ (look : KeptLook) (ready : IsReady look) (f : Frame) (below : List Fram
   asked_stmt (stmt.Validate place) other h m t s = asked_change look ready f below payloads (stmt.Validate place) tt h m t s
 
   pub asked_term : (x : Term) → NoDo x → NoCall x → StandsAt look.program.now f below (due_term x) → (m : Memory) (t : ℕ) (s : Seen) → asked m lk t whole s ≡ []
-  asked_term (term.Goto b) no other h m t s = asked_is look ready f below payloads (AtTerminator (term.Goto b)) h m t s
-  asked_term (term.Switch v cases last) no other h m t s = asked_is look ready f below payloads (AtTerminator (term.Switch v cases last)) h m t s
-  asked_term term.Unreachable no other h m t s = asked_is look ready f below payloads (AtTerminator term.Unreachable) h m t s
-  asked_term (term.Call callee args place next unwind) no other h m t s = absurd other
-  asked_term term.Return no other h m t s = asked_is look ready f below payloads (AtTerminator term.Return) h m t s
-  asked_term (term.Unwind v b) no other h m t s = asked_is look ready f below payloads (AtTerminator (term.Unwind v b)) h m t s
-  asked_term term.Resume no other h m t s = asked_is look ready f below payloads (AtTerminator term.Resume) h m t s
-  asked_term (term.Stop b) no other h m t s = asked_is look ready f below payloads (AtTerminator (term.Stop b)) h m t s
-  asked_term term.Exit no other h m t s = asked_is look ready f below payloads (AtTerminator term.Exit) h m t s
-  asked_term term.Abort no other h m t s = asked_is look ready f below payloads (AtTerminator term.Abort) h m t s
-  asked_term (term.Do op args place next) no other h m t s = absurd no
-
-  -- ---- intrinsics
-
-  module _ (due : Due) (h : StandsAt look.program.now f below due) where
-    pub next_do_is : next_do lk whole ≡ do_due (site look ready f below payloads due h) (Some due)
-    unfolding next_do site_of
-    next_do_is =
-        ap do_at (site_is lk (record { functions = ready.functions; globals = ready.globals }) ready.well f below h.fits)
-        ∙ ap (do_due (site look ready f below payloads due h)) h.is
-
-  -- where none is due, the terminator is none
-  pub no_do : (x : Term) → StandsAt look.program.now f below (due_term x) → next_do lk whole ≡ None → NoDo x
-  no_do (term.Goto b) h none = tt
-  no_do (term.Switch v cases last) h none = tt
-  no_do term.Unreachable h none = tt
-  no_do (term.Call callee args place next unwind) h none = tt
-  no_do term.Return h none = tt
-  no_do (term.Unwind v b) h none = tt
-  no_do term.Resume h none = tt
-  no_do (term.Stop b) h none = tt
-  no_do term.Exit h none = tt
-  no_do term.Abort h none = tt
-  no_do (term.Do op args place next) h none = absurd (let both = sym none ∙ next_do_is (due_term (term.Do op args place next)) h in absurd (cc))
+  asked_term (term.Goto b) clear other h m t s = asked_is look ready f below payloads (AtTerminator (term.Goto b)) h m t s
+  asked_term (term.Switch v cases last) clear other h m t s = asked_is look ready f below payloads (AtTerminator (term.Switch v cases last)) h m t s
+  asked_term term.Unreachable clear other h m t s = asked_is look ready f below payloads (AtTerminator term.Unreachable) h m t s
+  asked_term (term.Call callee args place next unwind) clear other h m t s = absurd other
+  asked_term term.Return clear other h m t s = asked_is look ready f below payloads (AtTerminator term.Return) h m t s
+  asked_term (term.Unwind v b) clear other h m t s = asked_is look ready f below payloads (AtTerminator (term.Unwind v b)) h m t s
+  asked_term term.Resume clear other h m t s = asked_is look ready f below payloads (AtTerminator term.Resume) h m t s
+  asked_term (term.Stop b) clear other h m t s = asked_is look ready f below payloads (AtTerminator (term.Stop b)) h m t s
+  asked_term term.Exit clear other h m t s = asked_is look ready f below payloads (AtTerminator term.Exit) h m t s
+  asked_term term.Abort clear other h m t s = asked_is look ready f below payloads (AtTerminator term.Abort) h m t s
+  asked_term (term.Do op args place next) clear other h m t s = absurd clear
