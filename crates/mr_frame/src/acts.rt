@@ -40,8 +40,9 @@ fn push_asks(function: &Function, out: &mut Vec<Ask>) -> Result<(), AllocError>
     requires { HasTypes function.now }
     ensures { (types : List TypeOf) → kept_types function.now ≡ Some types → OnOk result (out.new.items ≡ out.old.items ++ storage_asks types) }
 {
+    let names = function.args.as_slice();
     push_ask(&local_at(function, function.ret).ty, out)?;
-    for x in function.args.as_slice() {
+    for x in names {
         push_ask(&local_at(function, *x).ty, out)?;
     }
     Ok(())
@@ -164,14 +165,14 @@ impl Stack {
     }
 
     // `call`: the place, the callee and the arguments; then the callee's frame.
-    fn call(
+    fn call<'p>(
         &mut self,
         alloc: Global,
-        look: &Look<'_>,
+        look: &Look<'p>,
         s: &mut Scene,
-        callee: &Value,
-        args: &[Value],
-        place: &Place,
+        callee: &'p Value,
+        args: &'p [Value],
+        place: &'p Place,
         picks: &[u64],
     ) -> Result<Flow, Fault>
         requires due { IsDueCall look.now self.old callee.now args.now place.now }
@@ -211,12 +212,12 @@ impl Stack {
     }
 
     // A terminator that is no intrinsic.
-    fn end_block(
+    fn end_block<'p>(
         &mut self,
         alloc: Global,
-        look: &Look<'_>,
+        look: &Look<'p>,
         s: &mut Scene,
-        t: &Term,
+        t: &'p Term,
         picks: &[u64],
     ) -> Result<Flow, Fault>
         requires due { IsDue look.now self.old (due_term t.now) }
@@ -302,14 +303,14 @@ impl Stack {
     }
 
     // What a call asks for: an address for the return local and for each argument, where it comes to that.
-    fn call_asks(
+    fn call_asks<'p>(
         &self,
         alloc: Global,
-        look: &Look<'_>,
+        look: &Look<'p>,
         m: &Memory,
-        callee: &Value,
-        args: &[Value],
-        place: &Place,
+        callee: &'p Value,
+        args: &'p [Value],
+        place: &'p Place,
         out: &mut Vec<Ask>,
     ) -> Result<(), AllocError>
         requires { IsDueCall look.now self.now callee.now args.now place.now }

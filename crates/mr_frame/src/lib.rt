@@ -7,6 +7,7 @@ mod calls;
 mod changes;
 mod dos;
 mod ends;
+mod enters;
 mod fitting;
 mod flow;
 mod frame;
