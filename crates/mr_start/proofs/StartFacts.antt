@@ -5,6 +5,7 @@ use Rattle.std.proofs.Math.ListN.{length-set, length-replicate}
 use Rattle.std.specs.Prelude.{All, Some, None, Option, Bool, true, false, ◌&&◌, ◌==◌, ◌<◌, is_some, nat_le, slice_get, slice_set}
 use Rattle.std.specs.List.{list_all}
 use Rattle.std.specs.Option.{option_and_then}
+use Rattle.std.proofs.lemmas.Bool.Decides.{nat_tests}
 use Rattle.std.proofs.lemmas.Option.{same_Some}
 use Rattle.std.proofs.lemmas.List.Elements.{All-append, All-cons, All-head, All-nil, All-tail}
 use Rattle.std.specs.FinMap as fin
@@ -94,7 +95,7 @@ no_argument p well h = by_length h.function.args (by_form (slice_get p.functions
   where
     by_length : (xs : List LocalName) → (length xs == 0) ≡ true → xs ≡ []
     by_length [] e = refl
-    by_length (x ∷ xs) e = absurd (cc)
+    by_length (x ∷ xs) e = absurd (let k : suc (length xs) ≡ 0 = grind (arith, nat_tests) in omega (arith, k))
 
     by_form : (o : Option Function) → o ≡ Some h.function → (elim o as (λ _. Bool) [ Some f ↦ length f.args == 0 | None ↦ false ]) ≡ true → (length h.function.args == 0) ≡ true
     by_form None is e = absurd (cc)

@@ -99,7 +99,7 @@ placed_keeps m count (x ∷ xs) (addr ∷ picks) q below =
     placed_keeps (allocated m (id_of 0 count) x.kind x.size x.align addr) (count + 1) xs picks q (omega arith)
     ∙ get_there m (id_of 0 count) (fresh x.kind x.size x.align addr) q (λ e. let k : q.count ≡ count = ap (λ (i : AllocId). i.count) e in omega arith)
 
-lawful_address : (o : Option PickFault) → address_fault o ≡ None → o ≡ None
+pub lawful_address : (o : Option PickFault) → address_fault o ≡ None → o ≡ None
 lawful_address None h = refl
 lawful_address (Some BadAddress) h = absurd (cc)
 lawful_address (Some (Reused id)) h = absurd (cc)
@@ -145,10 +145,10 @@ placed_lie m rs count (x ∷ xs) (addr ∷ picks) h =
 -- ---- identities are counted
 
 pub none_counted : AreCounted fin.empty 0
-none_counted id a h = absurd (no_one (sym (fin.get-empty id_cmp Allocation id) ∙ h))
+none_counted id a h = let none : fin.get fin.empty id ≡ None = fin.get-empty id_cmp id in absurd (not_both none h)
   where
-    no_one : None ≡ Some a → ⊥
-    no_one e = cc
+    not_both : {x : Option Allocation} → x ≡ None → x ≡ Some a → ⊥
+    not_both n s = cc
 
 counted_more : (m : Memory) (a b : ℕ) → a ≤ b → AreCounted m a → AreCounted m b
 counted_more m a b le h = λ id x g. ((h id x g).0, let lt = (h id x g).1 in omega arith)

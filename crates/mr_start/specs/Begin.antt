@@ -1,9 +1,10 @@
 -- How a start is judged and made.
-use Rattle.std.specs.Prelude.{◌≡◌, ℕ, ◌+◌, ◌^◌, ◌<◌, ◌≤◌, All, List, [], ◌∷◌, drop, length, map, take, Option, None, Some, Result, Ok, Err}
+use Rattle.std.specs.Prelude.{◌≡◌, ℕ, ◌+◌, ◌^◌, ◌<◌, ◌≤◌, All, List, [], ◌∷◌, drop, length, map, slice_get, take, Option, None, Some, Result, Ok, Err}
 use Rattle.std.specs.FinMap as fin
 use Rattle.mr_ast.specs.declared.program.Global_.{Global_}
 use Rattle.mr_ast.specs.declared.program.Program.{Program}
 use Rattle.mr_base.specs.declared.byte.AllocId.{AllocId}
+use Rattle.mr_base.specs.declared.byte.Pointer.{Pointer}
 use Rattle.mr_base.specs.declared.reason.Verdict.TheVariants.{Running}
 use Rattle.mr_base.specs.declared.thread.Status.TheVariants.{Enabled}
 use Rattle.mr_layout.specs.Cached.{IsCacheOf}
@@ -15,13 +16,14 @@ use Rattle.mr_plan.specs.Runs.{Config}
 use Rattle.mr_frame.specs.Frames.{Look}
 use Rattle.mr_frame.specs.Kept.{stack_of}
 use Rattle.mr_thread.specs.Steps.{Own}
+use Rattle.mr_start.specs.declared.beginning.Entered.{Entered}
 use Rattle.mr_start.specs.declared.beginning.Start.{Start}
 use Rattle.mr_start.specs.declared.beginning.StartFault.{StartFault}
 use Rattle.mr_start.specs.declared.beginning.StartFault.TheVariants as refused
 use Rattle.mr_start.specs.declared.pieces.Piece.{Piece as Made}
 use Rattle.mr_start.specs.declared.placing.Begun.{Begun}
 use Rattle.mr_start.specs.Judging.{fault_of}
-use Rattle.mr_start.specs.Start.{Piece, ask_of, look_of, pieces, placed, start_config, start_fault}
+use Rattle.mr_start.specs.Start.{Piece, Placed, ask_of, look_of, main_thread, pieces, placed, start_config, start_fault, start_frame, start_placed}
 
 -- a piece as the code has it
 abbrev pub piece_of : Made → Piece
@@ -65,8 +67,21 @@ abbrev pub before_frame : Program → ℕ
 before_frame p = length p.functions + length p.globals
 
 -- those are allocated
+abbrev pub first_placed : Program → List ℕ → Placed
+first_placed p picks = placed fin.empty 0 (take (before_frame p) (pieces p)) (take (before_frame p) picks)
+
 abbrev pub IsBegun : Program → List ℕ → Begun → Type 0
 IsBegun p picks b = IsPlaced (take (before_frame p) (pieces p)) (take (before_frame p) picks) b
+
+-- the pointer to the return local, behind all allocations
+abbrev pub return_pointer : Program → List ℕ → Option Pointer
+return_pointer p picks = slice_get (start_placed p picks).pointers (before_frame p)
+
+-- the main function is entered, behind all allocations
+pub record IsEntered (p : Program) (picks : List ℕ) (e : Entered) : Type 0 where
+  pub memory : e.memory ≡ (start_placed p picks).memory
+  pub stack : stack_of e.stack ≡ (main_thread (start_frame p (return_pointer p picks))).stack
+  pub count : e.count ≡ length (pieces p)
 
 -- where the machine stands that a start makes
 abbrev pub config_of : Start → Config Own

@@ -1,6 +1,7 @@
 //! The start of a run.
 ghost use Rattle.std.specs.Prelude.{◌≡◌, IfOk, None, map};
-ghost use Rattle.mr_start.specs.Begin.{BeginAnswer, IsBegun, IsStart, JudgeAnswer, piece_of, pieces_fault};
+ghost use Rattle.mr_frame.specs.Kept.{IsReady};
+ghost use Rattle.mr_start.specs.Begin.{BeginAnswer, IsBegun, IsEntered, IsStart, JudgeAnswer, first_placed, piece_of, pieces_fault};
 ghost use Rattle.mr_start.specs.Start.{ask_of, start_fault};
 
 use crate::failure::PickFailure;
@@ -88,7 +89,39 @@ fn judge_start(alloc: Global, pieces: &[Piece], picks: &[u64]) -> Result<(), Sta
     }
 }
 
-// The start behind the allocations of functions and globals: the frame of the main function, and then the bytes of the globals.
+// What stands behind the entry of the main function: memory, its frame, and how many allocations thread 0 has made.
+#[derive(Drop)]
+struct Entered {
+    memory: Memory,
+    stack: Stack,
+    count: u64,
+}
+
+// The main function is entered, behind the allocations of functions and globals.
+fn enter_main(
+    alloc: Global,
+    look: &Look<'_>,
+    memory: Memory,
+    picks: &[u64],
+) -> Result<Entered, AllocError>
+    requires ready { IsReady look.now }
+    requires legal { start_fault look.now.program.now picks.now ≡ None }
+    requires memory { memory ≡ (first_placed look.now.program.now picks.now).memory }
+    ensures { IfOk result (IsEntered look.now.program.now picks.now) }
+{
+    let made = look.functions.len() + look.globals.len();
+    let mut scene = Scene::new(alloc, memory, 0, made as u64);
+    let start = look.program.program().start;
+    let stack = Stack::enter(alloc, look, &mut scene, start, &[], &picks[made..])?;
+    Ok(Entered {
+        memory: scene.memory,
+        stack,
+        count: scene.count,
+    })
+}
+
+// The start behind the allocations of functions and globals: the main function's frame, and then the bytes of the globals.
+#[tactic(auto, using(mr_wf::proofs::WrittenOk::written_ok))]
 fn started(
     alloc: Global,
     p: &Checked,
@@ -99,9 +132,9 @@ fn started(
     requires begun { IsBegun p.now picks.now begun }
     ensures { IfOk result (IsStart p.now picks.now) }
 {
+    let Begun { memory, pointers } = begun;
     let program = p.program();
-    let made = begun.pointers.len();
-    let (functions, globals) = begun.pointers.as_slice().split_at(program.functions.len());
+    let (functions, globals) = pointers.as_slice().split_at(program.functions.len());
     let cache = Cache::new(alloc, program)?;
     let look = Look {
         program: p,
@@ -109,11 +142,11 @@ fn started(
         globals,
         cache: &cache,
     };
-    let mut scene = Scene::new(alloc, begun.memory, 0, made as u64);
-    let stack = Stack::enter(alloc, &look, &mut scene, program.start, &[], &picks[made..])?;
-    let Scene {
-        mut memory, count, ..
-    } = scene;
+    let Entered {
+        mut memory,
+        stack,
+        count,
+    } = enter_main(alloc, &look, memory, picks)?;
     fill(alloc, &mut memory, program.globals.as_slice(), functions, globals)?;
     Ok(Start {
         memory,

@@ -1,5 +1,5 @@
 //! What the start allocates.
-ghost use Rattle.std.specs.Prelude.{◌≡◌, ◌≤◌, ◌^◌, ◌++◌, ◌∷◌, [], IfOk, OnOk, map, slice_get, Some};
+ghost use Rattle.std.specs.Prelude.{◌≡◌, ◌<◌, ◌≤◌, ◌^◌, ◌++◌, ◌∷◌, [], IfOk, OnOk, length, map, slice_get, Some};
 ghost use Rattle.mr_ast.specs.declared.program.Function.{Function};
 ghost use Rattle.mr_layout.specs.TypeOk.{TypeOk};
 ghost use Rattle.mr_wf.specs.Broken.{items_size};
@@ -8,7 +8,7 @@ ghost use Rattle.mr_start.specs.Begin.{HaveRoom, piece_of};
 ghost use Rattle.mr_start.specs.Start.{function_piece, global_piece, local_piece, pieces};
 
 use crate::types::byte_size;
-use mr_ast::{Function, Global_, Local, Program};
+use mr_ast::{FnName, Function, Global_, Local, LocalName, Program};
 use mr_base::Kind;
 use mr_layout::align;
 use mr_wf::items_size;
@@ -71,13 +71,29 @@ fn piece_of_local(l: &Local) -> Piece
     }
 }
 
+// The function of this name.
+fn function_at(p: &Program, f: FnName) -> &Function
+    requires { f.0 < length p.now.functions }
+    ensures { slice_get p.now.functions f.0 ≡ Some result.now }
+{
+    &p.functions.as_slice()[f.0 as usize]
+}
+
+// The local of this name.
+fn local_at(f: &Function, x: LocalName) -> &Local
+    requires { x.0 < length f.now.locals }
+    ensures { slice_get f.now.locals x.0 ≡ Some result.now }
+{
+    &f.locals.as_slice()[x.0 as usize]
+}
+
 // The return local of the main function.
 fn return_local(p: &Program) -> &Local
     requires { WellFormed p.now }
     ensures { (f : Function) × (slice_get p.now.functions p.now.start.0 ≡ Some f) × (slice_get f.locals f.ret.0 ≡ Some result.now) × TypeOk result.now.ty }
 {
-    let main = &p.functions.as_slice()[p.start.0 as usize];
-    &main.locals.as_slice()[main.ret.0 as usize]
+    let main = function_at(p, p.start);
+    local_at(main, main.ret)
 }
 
 /// What the start allocates: one piece for each function, one for each global, and the return local of the main function.
