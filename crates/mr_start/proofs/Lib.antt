@@ -1,3 +1,4 @@
+pub mod Begun
 pub mod Entering
 pub mod Overlaps
 pub mod PickLaws

@@ -13,7 +13,7 @@ use Rattle.mr_wf.specs.Broken.{items_size}
 use Rattle.mr_plan.specs.Legal.{Fault, picks_fault}
 use Rattle.mr_plan.specs.Machine.{thread_of}
 use Rattle.mr_plan.specs.Runs.{Config}
-use Rattle.mr_frame.specs.Frames.{Look}
+use Rattle.mr_frame.specs.Frames.{Look, Stack}
 use Rattle.mr_frame.specs.Kept.{stack_of}
 use Rattle.mr_thread.specs.Steps.{Own}
 use Rattle.mr_start.specs.declared.beginning.Entered.{Entered}
@@ -83,12 +83,12 @@ pub record IsEntered (p : Program) (picks : List ℕ) (e : Entered) : Type 0 whe
   pub stack : stack_of e.stack ≡ (main_thread (start_frame p (return_pointer p picks))).stack
   pub count : e.count ≡ length (pieces p)
 
--- where the machine stands that a start makes
-abbrev pub config_of : Start → Config Own
-config_of s = record {
+-- where a machine stands before the first entry, with this memory, this stack of thread 0 and so many allocations of it
+abbrev pub standing : Memory → Stack → ℕ → Config Own
+standing m stack count = record {
   state = Some (record {
-    shared = record { memory = s.memory; statuses = Enabled ∷ []; holders = [] };
-    threads = thread_of (record { thread = 0; stack = stack_of s.stack }) s.count ∷ [];
+    shared = record { memory = m; statuses = Enabled ∷ []; holders = [] };
+    threads = thread_of (record { thread = 0; stack = stack }) count ∷ [];
   });
   output = [];
   last = None;
@@ -104,7 +104,7 @@ looked p s = record { program = p; functions = s.functions.items; globals = s.gl
 pub record IsStart (p : Program) (picks : List ℕ) (s : Start) : Type 0 where
   pub look : looked p s ≡ look_of p picks
   pub cache : IsCacheOf s.cache p
-  pub config : config_of s ≡ start_config p picks
+  pub config : standing s.memory (stack_of s.stack) s.count ≡ start_config p picks
 
 -- the start is made, or its picks break this rule, unless memory ran out
 abbrev pub BeginAnswer : Program → List ℕ → Result Start StartFault → Type 0
