@@ -1,4 +1,9 @@
+pub mod Arguments
+pub mod HeapLaws
 pub mod Leaving
 pub mod LockSafe
-pub mod Operates
+pub mod OperatedLaws
 pub mod OperationSafe
+pub mod Operates
+pub mod Powers
+pub mod TextLaws

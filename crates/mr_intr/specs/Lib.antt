@@ -1,2 +1,5 @@
+pub mod Effects
+pub mod Heap
 pub mod Operations
+pub mod Printed
 pub mod Texts
