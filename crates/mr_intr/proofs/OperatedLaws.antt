@@ -1,5 +1,6 @@
 -- What an intrinsic comes to on arguments that are known, and what the code that asks memory alone leaves.
-use Rattle.std.proofs.Common.{◌≡◌, ℕ, refl, subst, sym, ap, ◌∙◌, List, [], ◌∷◌, Option, Some, None, Bool}
+use Rattle.std.proofs.Common.{◌≡◌, ℕ, refl, subst, sym, ap, ◌∙◌, List, [], ◌∷◌, Option, Some, None, Bool, Err}
+use Rattle.mr_ast.specs.declared.program.Intrinsic.{Intrinsic}
 use Rattle.mr_ast.specs.declared.program.Intrinsic.TheVariants as intrinsic
 use Rattle.mr_ast.specs.declared.types.Ty.{Ty}
 use Rattle.mr_base.specs.declared.byte.Kind.TheVariants.{Heap}
@@ -10,12 +11,15 @@ use Rattle.mr_value.specs.declared.val.Val.{Val, out-Val}
 use Rattle.mr_value.specs.declared.val.Val.TheVariants as val
 use Rattle.mr_script.specs.Script.{Done, Ask, ◌>>=◌, Outcome, Went, Refused, on, run}
 use Rattle.mr_eval.specs.MemoryQueries.{Allocate, Free, MemoryQuery, MemoryReply, Modify, Write, memory_answer}
-use Rattle.mr_eval.specs.World.{world_of}
+use Rattle.mr_mem.specs.declared.fault.Fault.{Fault}
+use Rattle.mr_mem.specs.declared.fault.Fault.TheVariants as fault
+use Rattle.mr_eval.specs.Environment.{Tells}
+use Rattle.mr_eval.specs.World.{World, world_of}
 use Rattle.mr_eval.specs.declared.scene.Scene.{Scene}
 use Rattle.mr_sync.specs.Tables.{Tables}
 use Rattle.mr_plan.specs.Notes.{Notes}
 use Rattle.mr_plan.specs.Queries.{OfMemory, Shared, answer, in_shared}
-use Rattle.mr_intr.specs.Effects.{IsDone, begun, notes_in, operated}
+use Rattle.mr_intr.specs.Effects.{Does, IsDone, Prints, begun, notes_in, operated}
 use Rattle.mr_intr.specs.Operations.{allocating, assuming, found, number_in, pointer_in, truth_in}
 use Rattle.mr_intr.specs.declared.effect.Effect.{Effect}
 
@@ -39,15 +43,28 @@ asked q give w = on (on (memory_answer q (w.0.memory, w.1.tally)) (in_shared w))
 abbrev pub quiet : Option Val → Effect
 quiet v = record { value = v; event = Quiet; woken = None }
 
-module _ (q : MemoryQuery) (give : MemoryReply q → Option Val) (s : Scene) (x : Tables) where
-  abbrev comes : Outcome (MemoryReply q) (Rattle.mr_eval.specs.World.World) → Outcome (Option Val) (Shared × Notes)
+module _ (op : Intrinsic) (q : MemoryQuery) (give : MemoryReply q → Option Val) (s : Scene) (x : Tables) where
+  abbrev comes : Outcome (MemoryReply q) World → Outcome (Option Val) (Shared × Notes)
   comes o = on (on o (in_shared (begun s x))) (λ y u. Went (give y) u)
 
-  pub memory_went : (new : Scene) (y : MemoryReply q) → memory_answer q (world_of s) ≡ Went y (world_of new) → IsDone (quiet (give y)) (asked q give (begun s x)) new x []
-  memory_went new y h = record { notes = notes_in new; went = ap comes h; tally = refl; event = refl; going = refl; woken = refl; printed = refl }
+  pub memory_went : (new : Scene) (out : List ℕ) (y : MemoryReply q) → memory_answer q (world_of s) ≡ Went y (world_of new) → Prints op [] out out → IsDone op (quiet (give y)) (asked q give (begun s x)) new x out out
+  memory_went new out y h prints = record { notes = notes_in new; went = ap comes h; tally = refl; event = refl; going = refl; woken = refl; printed = prints }
 
   pub memory_refused : (r : Reason) → memory_answer q (world_of s) ≡ Refused r → asked q give (begun s x) ≡ Refused r
   memory_refused r h = ap comes h
+
+  -- what the code returned of it
+  pub memory_fault : (new : Scene) (out : List ℕ) (f : Fault) → Tells {X = MemoryReply q} (Err f) (memory_answer q (world_of s)) (world_of new) → Does op (Err f) (asked q give (begun s x)) new x out out
+  memory_fault new out (fault.Undefined r) h = (memory_refused r h, refl)
+  memory_fault new out fault.Memory h = tt
+
+-- the same effect, or fault, of the same run
+module _ (op : Intrinsic) (s : Scene) (x : Tables) (old new : List ℕ) (o o' : Outcome (Option Val) (Shared × Notes)) (same : o ≡ o') where
+  pub done_as : (e e' : Effect) → e ≡ e' → IsDone op e' o' s x old new → IsDone op e o s x old new
+  done_as e e' is h = subst (λ f. IsDone op f o s x old new) (sym is) (subst (λ (r : Outcome (Option Val) (Shared × Notes)). IsDone op e' r s x old new) (sym same) h)
+
+  pub fault_as : (f : Fault) → Does op (Err f) o' s x old new → Does op (Err f) o s x old new
+  fault_as f h = subst (λ (r : Outcome (Option Val) (Shared × Notes)). Does op (Err f) r s x old new) (sym same) h
 
 -- ---- by intrinsic
 

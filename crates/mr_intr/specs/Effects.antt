@@ -1,5 +1,5 @@
 -- What the code of an intrinsic needs, and what it answers.
-use Rattle.std.specs.Prelude.{◌≡◌, ℕ, ◌<◌, ◌≤◌, ◌^◌, ◌++◌, Bool, false, List, [], ◌∷◌, Option, None, Some, Result, Ok, Err}
+use Rattle.std.specs.Prelude.{◌≡◌, ℕ, ◌<◌, ◌≤◌, ◌^◌, ◌++◌, true, false, List, [], ◌∷◌, Option, None, Some, Result, Ok, Err}
 use Rattle.std.specs.FinMap as fin
 use Rattle.mr_ast.specs.declared.program.Intrinsic.{Intrinsic}
 use Rattle.mr_ast.specs.declared.program.Intrinsic.TheVariants as intrinsic
@@ -9,6 +9,7 @@ use Rattle.mr_mem.specs.Memory.{Memory}
 use Rattle.mr_mem.specs.declared.fault.Fault.{Fault}
 use Rattle.mr_mem.specs.declared.fault.Fault.TheVariants as fault
 use Rattle.mr_value.specs.declared.val.Val.{Val}
+use Rattle.mr_value.specs.Shape.{has_shape}
 use Rattle.mr_wf.specs.Intrinsics.{fits_intrinsic}
 use Rattle.mr_script.specs.Script.{Outcome, Refused, Went, run, ◌>>=◌}
 use Rattle.mr_eval.specs.World.{tally_of}
@@ -63,8 +64,14 @@ IsOperation _ = Unit {0}
 
 -- The types fit the intrinsic, and the arguments have the shapes of theirs.
 pub record Fits (op : Intrinsic) (args : List Val) (types : List Ty) (place : Option Ty) : Type 0 where
-  pub types : fits_intrinsic op types place ≡ true
+  pub fitting : fits_intrinsic op types place ≡ true
   pub shapes : HaveShapes types args
+
+-- The arguments fit the intrinsic, with some types and some place.
+pub record CanTake (op : Intrinsic) (args : List Val) : Type 0 where
+  pub types : List Ty
+  pub place : Option Ty
+  pub fits : Fits op args types place
 
 -- the thread has no allocation with this count or a greater one
 abbrev pub IsUncounted : Memory → ℕ → ℕ → Type 0
@@ -108,12 +115,17 @@ Does op (Ok e) o s x old new = IsDone op e o s x old new
 Does op (Err (fault.Undefined r)) o s x old new = (o ≡ Refused r) × (new ≡ old)
 Does op (Err fault.Memory) o s x old new = Unit {0}
 
--- the same of code that changes memory alone, whatever the tables and the output are
+-- a value of the shape of the place's type exactly where there is a place
+abbrev pub FitsPlace : Option Ty → Option Val → Type 0
+FitsPlace None v = v ≡ None
+FitsPlace (Some t) v = (x : Val) × (v ≡ Some x) × (has_shape t x ≡ true)
+
+-- what code does that changes memory alone, whatever the tables and the output are
 abbrev pub ChangesMemory : Intrinsic → Result Effect Fault → List Val → List Ty → Option Ty → List ℕ → Scene → Scene → Type 0
 ChangesMemory op result args types place picks old new =
     (x : Tables) (out : List ℕ) → Does op result (operated op args types place picks (begun old x)) new x out out
 
--- the same of code that changes the tables alone, whatever the memory, the output and the types are
+-- what code does that changes the tables alone, whatever the memory, the output and the types are
 abbrev pub ChangesTables : Intrinsic → Result Effect Fault → List Val → List ℕ → ℕ → Tables → Tables → Type 0
 ChangesTables op result args picks thread old new =
     (s : Scene) (types : List Ty) (place : Option Ty) (out : List ℕ) → s.thread ≡ thread

@@ -1,3 +1,4 @@
+pub mod Arguments
 pub mod Effects
 pub mod Heap
 pub mod Operations

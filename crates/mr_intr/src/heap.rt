@@ -4,10 +4,10 @@ ghost use Rattle.mr_ast.specs.declared.program.Intrinsic.TheVariants as intrinsi
 ghost use Rattle.mr_ast.specs.declared.types.Ty.{Ty};
 ghost use Rattle.mr_ast.specs.declared.types.Ty.TheVariants as ty;
 ghost use Rattle.mr_sync.specs.Tables.{Tables};
-ghost use Rattle.mr_intr.specs.Effects.{AreLawful, CanCount, ChangesMemory, Fits};
+ghost use Rattle.mr_intr.specs.Effects.{AreLawful, CanCount, ChangesMemory, CanTake, Fits, FitsPlace};
 ghost use Rattle.mr_intr.specs.Heap.{allocation_fault};
-ghost use Rattle.mr_intr.proofs.Leaving.{ResultFits};
 
+use crate::args::{pointer_at, size_at};
 use crate::effect::Effect;
 use mr_base::{Kind, Reason};
 use mr_eval::{Fault, Scene};
@@ -29,17 +29,14 @@ pub fn allocation_fault(size: u64, align: u64) -> Option<Reason>
 
 /// A new allocation at the picked address, and the pointer to it.
 pub fn allocate(args: &[Val], s: &mut Scene, picks: &[u64]) -> Result<Effect, Fault>
-    requires fits { (types : List Ty) (place : Option Ty) × Fits intrinsic.Allocate args.now types place }
-    requires lawful { (types : List Ty) (place : Option Ty) (x : Tables) × AreLawful intrinsic.Allocate args.now types place picks.now s.old x }
+    requires fits { CanTake intrinsic.Allocate args.now }
+    requires lawful { (types : List Ty) × (place : Option Ty) × (x : Tables) × AreLawful intrinsic.Allocate args.now types place picks.now s.old x }
     requires count { CanCount s.old }
     ensures done { (types : List Ty) (place : Option Ty) → ChangesMemory intrinsic.Allocate result args.now types place picks.now s.old s.new }
-    ensures value { IfOk result (λ e. ResultFits (Some ty.Raw) e.value) }
+    ensures value { IfOk result (λ e. FitsPlace (Some ty.Raw) e.value) }
 {
-    let [Val::Int(size), Val::Int(align)] = args else {
-        unreachable!()
-    };
-    let size = *size as u64;
-    let align = *align as u64;
+    let size = size_at(args, 0);
+    let align = size_at(args, 1);
     match allocation_fault(size, align) {
         Some(reason) => Err(Fault::Undefined(reason)),
         None => {
@@ -51,13 +48,15 @@ pub fn allocate(args: &[Val], s: &mut Scene, picks: &[u64]) -> Result<Effect, Fa
 
 /// The end of an allocation.
 pub fn deallocate(args: &[Val], s: &mut Scene) -> Result<Effect, Fault>
-    requires { (types : List Ty) (place : Option Ty) × Fits intrinsic.Deallocate args.now types place }
+    requires { CanTake intrinsic.Deallocate args.now }
     ensures done { (types : List Ty) (place : Option Ty) (picks : List ℕ) → ChangesMemory intrinsic.Deallocate result args.now types place picks s.old s.new }
-    ensures value { IfOk result (λ e. ResultFits None e.value) }
+    ensures value { IfOk result (λ e. FitsPlace None e.value) }
 {
-    let [Val::Ptr(p), Val::Int(size), Val::Int(align)] = args else {
-        unreachable!()
-    };
-    s.free(*p, Kind::Heap, *size as u64, *align as u64)?;
-    Ok(Effect::quiet(None))
+    let p = pointer_at(args, 0);
+    let size = size_at(args, 1);
+    let align = size_at(args, 2);
+    match s.free(p, Kind::Heap, size, align) {
+        Ok(()) => Ok(Effect::quiet(None)),
+        Err(fault) => Err(fault),
+    }
 }

@@ -8,11 +8,11 @@ ghost use Rattle.mr_sync.specs.Tables.{Tables};
 ghost use Rattle.mr_value.specs.Shape.{has_shape};
 ghost use Rattle.mr_wf.specs.Operands.{is_scalar_number};
 ghost use Rattle.std.specs.List.{list_all};
-ghost use Rattle.mr_intr.specs.Effects.{Does, Fits, begun, operated};
-ghost use Rattle.mr_intr.specs.Printed.{AppendsTexts, text_in};
-ghost use Rattle.mr_intr.specs.Texts.{bool_text, number_text};
-ghost use Rattle.mr_intr.proofs.Leaving.{ResultFits};
+ghost use Rattle.mr_intr.specs.Effects.{Does, CanTake, Fits, begun, operated, FitsPlace};
+ghost use Rattle.mr_intr.specs.Printed.{text_in, texts_in};
+ghost use Rattle.mr_intr.specs.Texts.{bool_text, number_text, spaced_behind};
 
+use crate::args::truth_at;
 use crate::effect::Effect;
 use itoa::Buffer;
 use mr_ast::{Num, Ty};
@@ -24,14 +24,11 @@ use std::alloc::AllocError;
 
 /// Nothing, where the argument is true.
 pub fn assume(args: &[Val]) -> Result<Effect, Fault>
-    requires { (types : List Ty) (place : Option Ty) × Fits intrinsic.Assume args.now types place }
+    requires { CanTake intrinsic.Assume args.now }
     ensures done { (types : List Ty) (place : Option Ty) (picks out : List ℕ) (s : Scene) (x : Tables) → Does intrinsic.Assume result (operated intrinsic.Assume args.now types place picks (begun s x)) s x out out }
-    ensures value { IfOk result (λ e. ResultFits None e.value) }
+    ensures value { IfOk result (λ e. FitsPlace None e.value) }
 {
-    let [Val::Bool(truth)] = args else {
-        unreachable!()
-    };
-    if *truth {
+    if truth_at(args, 0) {
         Ok(Effect::quiet(None))
     } else {
         Err(Fault::Undefined(Reason::AssumeFalse))
@@ -74,11 +71,11 @@ fn push_value(text: &mut Vec<u8>, t: &Ty, v: &Val) -> Result<(), AllocError>
 fn push_others(text: &mut Vec<u8>, types: &[Ty], args: &[Val]) -> Result<(), AllocError>
     requires scalars { list_all is_scalar_number types.now ≡ true }
     requires shapes { HaveShapes types.now args.now }
-    ensures { OnOk result (AppendsTexts types.now args.now text.old.items text.new.items) }
+    ensures { OnOk result (text.new.items ≡ text.old.items ++ spaced_behind (texts_in types.now args.now)) }
 {
-    for (t, v) in types.iter().zip(args) {
+    for (i, v) in args.iter().enumerate() {
         text.push(b' ')?;
-        push_value(text, t, v)?;
+        push_value(text, &types[i], v)?;
     }
     Ok(())
 }
@@ -87,11 +84,12 @@ fn push_others(text: &mut Vec<u8>, types: &[Ty], args: &[Val]) -> Result<(), All
 pub fn print(args: &[Val], types: &[Ty], output: &mut Vec<u8>) -> Result<Effect, Fault>
     requires { (place : Option Ty) × Fits intrinsic.Print args.now types.now place }
     ensures done { (place : Option Ty) (picks : List ℕ) (s : Scene) (x : Tables) → Does intrinsic.Print result (operated intrinsic.Print args.now types.now place picks (begun s x)) s x output.old.items output.new.items }
-    ensures value { IfOk result (λ e. ResultFits None e.value) }
+    ensures value { IfOk result (λ e. FitsPlace None e.value) }
 {
-    if let ([t, types @ ..], [v, args @ ..]) = (types, args) {
-        push_value(output, t, v)?;
-        push_others(output, types, args)?;
-    }
+    let Some((first, rest)) = args.split_first() else {
+        return Ok(Effect::quiet(None));
+    };
+    push_value(output, &types[0], first)?;
+    push_others(output, &types[1..], rest)?;
     Ok(Effect::quiet(None))
 }
