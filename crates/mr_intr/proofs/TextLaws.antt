@@ -1,6 +1,6 @@
 -- The texts of values that are integers and bools.
-use Rattle.std.proofs.Common.{◌≡◌, ℕ, zero, suc, ◌+◌, ◌*◌, ◌^◌, ◌<◌, ◌≤◌, refl, sym, ap, ◌∙◌, arith, List, [], ◌∷◌, ◌++◌, length, drop,  get_or, append_assoc, add-one, Option, None, Some, Bool, true}
-use Rattle.std.proofs.lemmas.List.{drop_all}
+use Rattle.std.proofs.Common.{◌≡◌, ℕ, zero, suc, ◌+◌, ◌*◌, ◌^◌, ◌<◌, ◌≤◌, ◌-◌, refl, sym, ap, ◌∙◌, arith, List, [], ◌∷◌, ◌++◌, length, take, drop, get_or, append_assoc, add-one, Option, None, Some, Bool, true}
+use Rattle.std.proofs.lemmas.List.{drop_all, take_all}
 use Rattle.std.proofs.Math.Seq.{drop-cons}
 use Rattle.std.specs.List.{list_all}
 use Rattle.std.specs.Prelude.{◌&&◌}
@@ -15,6 +15,7 @@ use Rattle.mr_value.specs.declared.val.Val.TheOpen.{Val-F}
 use Rattle.mr_value.specs.Discriminants.{number_of_bits}
 use Rattle.mr_value.specs.Shape.{has_shape}
 use Rattle.mr_layout.proofs.PartsOk.{and_true}
+use Rattle.mr_wf.specs.Intrinsics.{gives_nothing}
 use Rattle.mr_wf.specs.Operands.{is_scalar_number}
 use Rattle.mr_wf.specs.Types.{integer_of}
 use Rattle.mr_script.specs.Script.{Ask, Done, ◌>>=◌, run}
@@ -29,7 +30,7 @@ use Rattle.mr_eval.specs.MemoryQueries.{reading_part}
 use Rattle.mr_eval.specs.declared.scene.Scene.{Scene}
 use Rattle.mr_sync.specs.Tables.{Tables}
 use Rattle.mr_plan.specs.Queries.{Print, answer, memory_part}
-use Rattle.mr_intr.specs.Effects.{IsDone, begun, notes_in, operated}
+use Rattle.mr_intr.specs.Effects.{Fits, IsDone, begun, notes_in, operated}
 use Rattle.mr_intr.proofs.OperatedLaws.{quiet}
 use Rattle.mr_intr.specs.Printed.{text_in, texts_in}
 use Rattle.mr_intr.specs.Texts.{bool_text, number_text, spaced, spaced_behind, text_layer, text_of, texts_of}
@@ -118,6 +119,15 @@ shapes_behind (t ∷ types) first rest shapes = shapes.1
 pub texts_first : (types : List Ty) (t : Ty) (first : Val) (rest : List Val) → HaveShapes types (first ∷ rest) → t ≡ get_or types 0 t → spaced (texts_in types (first ∷ rest)) ≡ text_in t first ++ spaced_behind (texts_in (drop 1 types) rest)
 texts_first [] t first rest shapes is = absurd shapes
 texts_first (a ∷ types) t first rest shapes is = ap (λ (u : Ty). text_in u first ++ spaced_behind (texts_in types rest)) (sym is)
+
+-- the types behind the first one, as a part of them all
+pub behind_first : (types : List Ty) → take (length types - 1) (drop 1 types) ≡ drop 1 types
+behind_first [] = refl
+behind_first (t ∷ types) = take_all (length (t ∷ types) - 1) types (omega arith)
+
+-- a print takes integers and bools, and gives nothing
+pub print_kinds : (types : List Ty) (args : List Val) (place : Option Ty) → Fits intrinsic.Print args types place → list_all is_scalar_number types ≡ true
+print_kinds types args place fit = (and_true (list_all is_scalar_number types) (gives_nothing place) fit.fitting).0
 
 pub no_args : {A : Type 0} (xs : List A) → length xs ≡ 0 → xs ≡ []
 no_args [] e = refl
