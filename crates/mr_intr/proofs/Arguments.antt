@@ -24,6 +24,8 @@ use Rattle.mr_wf.specs.Types.{integer_of}
 use Rattle.mr_wf.proofs.KindLaws.{bool_is, integer_is, raw_is}
 use Rattle.mr_wf.proofs.SameTypeLaws.{same_type_equal}
 use Rattle.mr_eval.proofs.ShapeOf.{HaveShapes}
+use Rattle.mr_intr.specs.Atomics.{IsFetch}
+use Rattle.mr_intr.specs.Atomics.{IsFetch}
 use Rattle.mr_intr.specs.Effects.{Fits}
 use Rattle.mr_intr.proofs.OperationSafe.{no_result, result_is}
 
@@ -181,3 +183,188 @@ deallocate_takes args (a ∷ b ∷ d ∷ []) place fit =
     let k = number_of_int U64 d three.z r.0 three.third in
     record { pointer = at.0; size = n.bits; align = k.bits; is = three.is ∙ (λ i. at.1 i ∷ n.is i ∷ k.is i ∷ []); size_small = n.small; align_small = k.small; gives = no_result place r.1 }
 deallocate_takes args (a ∷ b ∷ d ∷ w ∷ types) place fit = absurd (let e = fit.fitting in cc)
+
+-- ---- threads and locks
+
+-- a thread or a lock, by its number
+pub record TakesNumber (args : List Val) (place : Option Ty) : Type 0 where
+  pub number : ℕ
+  pub is : args ≡ val.Int number ∷ []
+  pub small : number < 2 ^ 32
+  pub gives : place ≡ None
+
+number_takes : (args : List Val) (a : Ty) (place : Option Ty) → (is_int U32 a && gives_nothing place) ≡ true → HaveShapes (a ∷ []) args → TakesNumber args place
+number_takes args a place e shapes =
+    let p = and_true (is_int U32 a) (gives_nothing place) e in
+    let one = one_value a args shapes in
+    let n = number_of_int U32 a one.x p.0 one.shape in
+    record { number = n.bits; is = one.is ∙ ap (λ v. v ∷ []) n.is; small = n.small; gives = no_result place p.1 }
+
+pub join_takes : (args : List Val) (types : List Ty) (place : Option Ty) → Fits intrinsic.Join args types place → TakesNumber args place
+join_takes args [] place fit = absurd (let e = fit.fitting in cc)
+join_takes args (a ∷ []) place fit = number_takes args a place fit.fitting fit.shapes
+join_takes args (a ∷ b ∷ types) place fit = absurd (let e = fit.fitting in cc)
+
+pub acquire_takes : (args : List Val) (types : List Ty) (place : Option Ty) → Fits intrinsic.Acquire args types place → TakesNumber args place
+acquire_takes args [] place fit = absurd (let e = fit.fitting in cc)
+acquire_takes args (a ∷ []) place fit = number_takes args a place fit.fitting fit.shapes
+acquire_takes args (a ∷ b ∷ types) place fit = absurd (let e = fit.fitting in cc)
+
+pub release_takes : (args : List Val) (types : List Ty) (place : Option Ty) → Fits intrinsic.Release args types place → TakesNumber args place
+release_takes args [] place fit = absurd (let e = fit.fitting in cc)
+release_takes args (a ∷ []) place fit = number_takes args a place fit.fitting fit.shapes
+release_takes args (a ∷ b ∷ types) place fit = absurd (let e = fit.fitting in cc)
+
+pub record TakesNothing (args : List Val) (place : Option Ty) : Type 0 where
+  pub is : args ≡ []
+  pub gives : place ≡ Some (ty.Int U32)
+
+pub create_lock_takes : (args : List Val) (types : List Ty) (place : Option Ty) → Fits intrinsic.CreateLock args types place → TakesNothing args place
+create_lock_takes [] [] place fit = record { is = refl; gives = result_is (ty.Int U32) place fit.fitting }
+create_lock_takes (x ∷ args) [] place fit = absurd fit.shapes
+create_lock_takes args (a ∷ types) place fit = absurd (let e = fit.fitting in cc)
+
+-- ---- atomics
+
+pub record TakesStore (args : List Val) (types : List Ty) (place : Option Ty) : Type 0 where
+  pub pointer : Pointer
+  pub int : IntType
+  pub bits : ℕ
+  pub first : Ty
+  pub is : args ≡ val.Ptr pointer ∷ val.Int bits ∷ []
+  pub typed : types ≡ first ∷ ty.Int int ∷ []
+  pub small : bits < 2 ^ (8 * int_size int)
+  pub shape : has_shape (ty.Int int) (val.Int bits) ≡ true
+  pub gives : place ≡ None
+
+pub atomic_store_takes : (args : List Val) (types : List Ty) (place : Option Ty) → Fits intrinsic.AtomicStore args types place → TakesStore args types place
+atomic_store_takes args [] place fit = absurd (let e = fit.fitting in cc)
+atomic_store_takes args (a ∷ []) place fit = absurd (let e = fit.fitting in cc)
+atomic_store_takes args (a ∷ b ∷ []) place fit =
+    let p = and_true (is_raw a) (is_atomic b && gives_nothing place) fit.fitting in
+    let q = and_true (is_atomic b) (gives_nothing place) p.1 in
+    let two = two_values a b args fit.shapes in
+    let at = pointer_there a two.x p.0 two.first in
+    let int = atomic_there b q.0 in
+    let n = number_at int.int b two.y int.is two.second in
+    record {
+      pointer = at.0;
+      int = int.int;
+      bits = n.bits;
+      first = a;
+      is = two.is ∙ (λ i. at.1 i ∷ n.is i ∷ []);
+      typed = ap (λ t. a ∷ t ∷ []) int.is;
+      small = n.small;
+      shape = (λ i. has_shape (sym int.is i) (sym n.is i)) ∙ two.second;
+      gives = no_result place q.1;
+    }
+atomic_store_takes args (a ∷ b ∷ d ∷ types) place fit = absurd (let e = fit.fitting in cc)
+
+pub record TakesLoad (args : List Val) (place : Option Ty) : Type 0 where
+  pub pointer : Pointer
+  pub int : IntType
+  pub is : args ≡ val.Ptr pointer ∷ []
+  pub gives : place ≡ Some (ty.Int int)
+
+pub atomic_load_takes : (args : List Val) (types : List Ty) (place : Option Ty) → Fits intrinsic.AtomicLoad args types place → TakesLoad args place
+atomic_load_takes args [] place fit = absurd (let e = fit.fitting in cc)
+atomic_load_takes args (a ∷ []) None fit = absurd (let e = fit.fitting in cc)
+atomic_load_takes args (a ∷ []) (Some t) fit =
+    let p = and_true (is_raw a) (is_atomic t) fit.fitting in
+    let one = one_value a args fit.shapes in
+    let at = pointer_there a one.x p.0 one.shape in
+    let int = atomic_there t p.1 in
+    record { pointer = at.0; int = int.int; is = one.is ∙ ap (λ v. v ∷ []) at.1; gives = ap (λ (u : Ty). Some u) int.is }
+atomic_load_takes args (a ∷ b ∷ types) place fit = absurd (let e = fit.fitting in cc)
+
+pub record TakesExchange (args : List Val) (place : Option Ty) : Type 0 where
+  pub pointer : Pointer
+  pub int : IntType
+  pub expected : ℕ
+  pub new : ℕ
+  pub is : args ≡ val.Ptr pointer ∷ val.Int expected ∷ val.Int new ∷ []
+  pub small : new < 2 ^ (8 * int_size int)
+  pub gives : place ≡ Some (ty.Int int)
+
+pub exchange_takes : (args : List Val) (types : List Ty) (place : Option Ty) → Fits intrinsic.CompareExchange args types place → TakesExchange args place
+exchange_takes args [] place fit = absurd (let e = fit.fitting in cc)
+exchange_takes args (a ∷ []) place fit = absurd (let e = fit.fitting in cc)
+exchange_takes args (a ∷ b ∷ []) place fit = absurd (let e = fit.fitting in cc)
+exchange_takes args (a ∷ b ∷ d ∷ []) place fit =
+    let p = and_true (is_raw a) (is_atomic b && (same_type d b && gives b place)) fit.fitting in
+    let q = and_true (is_atomic b) (same_type d b && gives b place) p.1 in
+    let r = and_true (same_type d b) (gives b place) q.1 in
+    let three = three_values a b d args fit.shapes in
+    let at = pointer_there a three.x p.0 three.first in
+    let int = atomic_there b q.0 in
+    let n = number_at int.int b three.y int.is three.second in
+    let k = number_at int.int d three.z (same_type_equal d b r.0 ∙ int.is) three.third in
+    record {
+      pointer = at.0;
+      int = int.int;
+      expected = n.bits;
+      new = k.bits;
+      is = three.is ∙ (λ i. at.1 i ∷ n.is i ∷ k.is i ∷ []);
+      small = k.small;
+      gives = result_is b place r.1 ∙ ap (λ (u : Ty). Some u) int.is;
+    }
+exchange_takes args (a ∷ b ∷ d ∷ w ∷ types) place fit = absurd (let e = fit.fitting in cc)
+
+pub record TakesFetch (args : List Val) (place : Option Ty) : Type 0 where
+  pub pointer : Pointer
+  pub int : IntType
+  pub by : ℕ
+  pub is : args ≡ val.Ptr pointer ∷ val.Int by ∷ []
+  pub small : by < 2 ^ (8 * int_size int)
+  pub gives : place ≡ Some (ty.Int int)
+
+-- the types of a fetch
+abbrev fetch_types : List Ty → Option Ty → Bool
+fetch_types (a ∷ b ∷ []) place = is_raw a && (is_atomic b && gives b place)
+fetch_types _ place = false
+
+fetch_fits : (op : Intrinsic) (types : List Ty) (place : Option Ty) → IsFetch op → fits_intrinsic op types place ≡ true → fetch_types types place ≡ true
+fetch_fits intrinsic.FetchAdd [] place is e = e
+fetch_fits intrinsic.FetchAdd (a ∷ []) place is e = e
+fetch_fits intrinsic.FetchAdd (a ∷ b ∷ []) place is e = e
+fetch_fits intrinsic.FetchAdd (a ∷ b ∷ d ∷ types) place is e = e
+fetch_fits intrinsic.FetchSub [] place is e = e
+fetch_fits intrinsic.FetchSub (a ∷ []) place is e = e
+fetch_fits intrinsic.FetchSub (a ∷ b ∷ []) place is e = e
+fetch_fits intrinsic.FetchSub (a ∷ b ∷ d ∷ types) place is e = e
+fetch_fits intrinsic.FetchAnd [] place is e = e
+fetch_fits intrinsic.FetchAnd (a ∷ []) place is e = e
+fetch_fits intrinsic.FetchAnd (a ∷ b ∷ []) place is e = e
+fetch_fits intrinsic.FetchAnd (a ∷ b ∷ d ∷ types) place is e = e
+fetch_fits intrinsic.FetchOr [] place is e = e
+fetch_fits intrinsic.FetchOr (a ∷ []) place is e = e
+fetch_fits intrinsic.FetchOr (a ∷ b ∷ []) place is e = e
+fetch_fits intrinsic.FetchOr (a ∷ b ∷ d ∷ types) place is e = e
+fetch_fits intrinsic.FetchXor [] place is e = e
+fetch_fits intrinsic.FetchXor (a ∷ []) place is e = e
+fetch_fits intrinsic.FetchXor (a ∷ b ∷ []) place is e = e
+fetch_fits intrinsic.FetchXor (a ∷ b ∷ d ∷ types) place is e = e
+fetch_fits _ types place is e = absurd is
+
+pub fetch_takes : (op : Intrinsic) (args : List Val) (types : List Ty) (place : Option Ty) → IsFetch op → Fits op args types place → TakesFetch args place
+fetch_takes op args types place is fit = by_types types (fetch_fits op types place is fit.fitting) fit.shapes
+  where
+    by_types : (ts : List Ty) → fetch_types ts place ≡ true → HaveShapes ts args → TakesFetch args place
+    by_types [] e shapes = absurd (cc)
+    by_types (a ∷ []) e shapes = absurd (cc)
+    by_types (a ∷ b ∷ []) e shapes =
+        let p = and_true (is_raw a) (is_atomic b && gives b place) e in
+        let q = and_true (is_atomic b) (gives b place) p.1 in
+        let two = two_values a b args shapes in
+        let at = pointer_there a two.x p.0 two.first in
+        let int = atomic_there b q.0 in
+        let n = number_at int.int b two.y int.is two.second in
+        record {
+          pointer = at.0;
+          int = int.int;
+          by = n.bits;
+          is = two.is ∙ (λ i. at.1 i ∷ n.is i ∷ []);
+          small = n.small;
+          gives = result_is b place q.1 ∙ ap (λ (u : Ty). Some u) int.is;
+        }
+    by_types (a ∷ b ∷ d ∷ ts) e shapes = absurd (cc)

@@ -1,6 +1,7 @@
 pub mod Arguments
 pub mod HeapLaws
 pub mod Leaving
+pub mod LockLaws
 pub mod LockSafe
 pub mod OperatedLaws
 pub mod OperationSafe

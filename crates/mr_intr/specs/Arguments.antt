@@ -6,6 +6,7 @@ use Rattle.mr_ast.specs.declared.types.Ty.TheVariants as ty
 use Rattle.mr_base.specs.declared.byte.Pointer.{Pointer}
 use Rattle.mr_value.specs.declared.val.Val.{Val}
 use Rattle.mr_value.specs.declared.val.Val.TheVariants as val
+use Rattle.mr_intr.specs.Effects.{listed}
 
 pub record HasTruth (args : List Val) (at : ℕ) : Type 0 where
   pub truth : Bool
@@ -25,3 +26,9 @@ pub record HasNumber (width : ℕ) (args : List Val) (at : ℕ) : Type 0 where
 pub record HasInteger (place : Option Ty) : Type 0 where
   pub int : IntType
   pub is : place ≡ Some (ty.Int int)
+
+-- the picks name one of so many threads, or none
+pub record PicksThread (threads : ℕ) (picks : List ℕ) : Type 0 where
+  pub to : Option ℕ
+  pub is : picks ≡ listed to
+  pub known : (u : ℕ) → to ≡ Some u → u < threads

@@ -1,4 +1,5 @@
 pub mod Arguments
+pub mod Atomics
 pub mod Effects
 pub mod Heap
 pub mod Operations

@@ -4,6 +4,7 @@
 mod args;
 mod effect;
 mod heap;
+mod locks;
 mod texts;
 
 pub use effect::Effect;
