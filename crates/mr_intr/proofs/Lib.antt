@@ -1,4 +1,5 @@
 pub mod Arguments
+pub mod AtomicLaws
 pub mod HeapLaws
 pub mod Leaving
 pub mod LockLaws

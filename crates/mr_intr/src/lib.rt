@@ -2,6 +2,7 @@
 #![tactic(auto)]
 
 mod args;
+mod atomics;
 mod effect;
 mod heap;
 mod locks;
