@@ -1,12 +1,12 @@
 -- What the arguments of an intrinsic are, where their types fit it.
-use Rattle.std.proofs.Common.{◌≡◌, ℕ, ◌<◌, ◌*◌, ◌^◌, refl, subst, sym, ap, ◌∙◌, List, [], ◌∷◌, Option, Some, None, Bool, true, false}
+use Rattle.std.proofs.Common.{◌≡◌, ℕ, ◌<◌, ◌*◌, ◌^◌, arith, refl, subst, sym, ap, ◌∙◌, List, [], ◌∷◌, Option, Some, None, Bool, true, false}
 use Rattle.std.proofs.lemmas.Option.{same_Some}
 use Rattle.std.specs.Prelude.{◌&&◌, is_some, nat_le, nat_lt, slice_get}
 use Rattle.mr_ast.specs.Integers.{int_size}
 use Rattle.mr_ast.specs.declared.program.Intrinsic.{Intrinsic}
 use Rattle.mr_ast.specs.declared.program.Intrinsic.TheVariants as intrinsic
 use Rattle.mr_ast.specs.declared.types.IntType.{IntType}
-use Rattle.mr_ast.specs.declared.types.IntType.TheVariants.{U32, U64}
+use Rattle.mr_ast.specs.declared.types.IntType.TheVariants.{U8, U16, U32, U64, U128, I8, I16, I32, I64, I128}
 use Rattle.mr_ast.specs.declared.types.Ty.{Ty}
 use Rattle.mr_ast.specs.declared.types.Ty.TheVariants as ty
 use Rattle.mr_base.specs.declared.byte.Pointer.{Pointer}
@@ -50,6 +50,19 @@ truth_there t v e h = let made = shape_bool v (subst (λ (u : Ty). has_shape u v
 
 pointer_there : (t : Ty) (v : Val) → is_raw t ≡ true → has_shape t v ≡ true → (p : Pointer) × (v ≡ val.Ptr p)
 pointer_there t v e h = let made = shape_raw v (subst (λ (u : Ty). has_shape u v ≡ true) (raw_is t e) h) in (made.pointer, made.is)
+
+-- no integer has more than 128 bits
+pub wide_int : (i : IntType) (n : ℕ) → n < 2 ^ (8 * int_size i) → n < 2 ^ 128
+wide_int U8 n lt = omega arith
+wide_int U16 n lt = omega arith
+wide_int U32 n lt = omega arith
+wide_int U64 n lt = omega arith
+wide_int U128 n lt = lt
+wide_int I8 n lt = omega arith
+wide_int I16 n lt = omega arith
+wide_int I32 n lt = omega arith
+wide_int I64 n lt = omega arith
+wide_int I128 n lt = lt
 
 -- an integer type of at most eight bytes
 pub record IsAtomic (t : Ty) : Type 0 where
@@ -283,6 +296,7 @@ pub record TakesExchange (args : List Val) (place : Option Ty) : Type 0 where
   pub expected : ℕ
   pub new : ℕ
   pub is : args ≡ val.Ptr pointer ∷ val.Int expected ∷ val.Int new ∷ []
+  pub expected_small : expected < 2 ^ (8 * int_size int)
   pub small : new < 2 ^ (8 * int_size int)
   pub gives : place ≡ Some (ty.Int int)
 
@@ -304,6 +318,7 @@ exchange_takes args (a ∷ b ∷ d ∷ []) place fit =
       int = int.int;
       expected = n.bits;
       new = k.bits;
+      expected_small = n.small;
       is = three.is ∙ (λ i. at.1 i ∷ n.is i ∷ k.is i ∷ []);
       small = k.small;
       gives = result_is b place r.1 ∙ ap (λ (u : Ty). Some u) int.is;

@@ -1,5 +1,6 @@
 pub mod Arguments
 pub mod AtomicLaws
+pub mod AtomicRuns
 pub mod HeapLaws
 pub mod Leaving
 pub mod LockLaws
