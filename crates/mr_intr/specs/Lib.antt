@@ -1,2 +1,7 @@
+pub mod Arguments
+pub mod Atomics
+pub mod Effects
+pub mod Heap
 pub mod Operations
+pub mod Printed
 pub mod Texts
