@@ -1,5 +1,6 @@
 pub mod CompletedLaws
 pub mod EntryLaws
+pub mod FirstLaws
 pub mod Numbered
 pub mod SoundLaws
 pub mod TakenLaws

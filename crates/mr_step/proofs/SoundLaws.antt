@@ -7,18 +7,22 @@ use Rattle.mr_ast.specs.declared.program.Program.{Program}
 use Rattle.mr_base.specs.declared.byte.AllocId.{AllocId}
 use Rattle.mr_base.specs.declared.thread.Status.TheVariants.{Enabled}
 use Rattle.mr_mem.specs.Memory.{Allocation, Memory}
+use Rattle.mr_sched.specs.declared.schedule.Entry.{Entry}
 use Rattle.mr_plan.specs.Machine.{State, Thread}
+use Rattle.mr_plan.specs.Runs.{Config, entry_fault, has_rule, machine_step}
 use Rattle.mr_frame.specs.declared.stack.Stack.{Stack as KeptStack}
 use Rattle.mr_frame.specs.declared.look.Look.{Look as KeptLook}
 use Rattle.mr_frame.specs.Fits.{FitsStack, IsLook}
-use Rattle.mr_frame.specs.Kept.{IsReady, look_of, stack_of}
+use Rattle.mr_frame.specs.Kept.{stack_of}
 use Rattle.mr_frame.specs.Standing.{IsUncounted}
 use Rattle.mr_thread.specs.SoundState.{IsCounted, SoundState}
-use Rattle.mr_thread.specs.Steps.{Own}
+use Rattle.mr_thread.specs.Steps.{Own, thread_step}
+use Rattle.mr_thread.proofs.RunSound.{entry_sound}
 use Rattle.mr_step.specs.declared.progress.Progress.{Progress}
 use Rattle.mr_step.specs.declared.progress.Thread.{Thread as KeptThread}
 use Rattle.mr_step.specs.Advance.{BeginsAct, IsDue}
-use Rattle.mr_step.specs.Kept.{config_of, numbered, stack_in, state_of, state_unless}
+use Rattle.mr_step.specs.declared.setting.Setting.{Setting}
+use Rattle.mr_step.specs.Kept.{IsSet, IsSound, config_of, setting_look, stack_in, state_of, state_unless}
 use Rattle.mr_step.proofs.Numbered.{numbered_at, numbered_length, thread_as}
 
 -- a stack that fits has a frame, so its thread hasn't ended
@@ -72,6 +76,11 @@ module _ (look : KeptLook) (t : ℕ) (p : Progress) (due : IsDue look t p) where
     pub own_is : (thread_as t th).own ≡ record { thread = t; stack = stack_of th.stack }
     own_is = ap (λ (g : Bool). record { thread = t; stack = stack_in g th.stack }) fits.0
 
--- what the code looks up has a pointer for each function and global
-pub is_look : (look : KeptLook) → IsReady look → IsLook (look_of look)
-is_look look ready = record { functions = ready.functions; globals = ready.globals }
+-- what the machine looks up has a pointer for each function and global
+is_look : (s : Setting) → IsSet s → IsLook (setting_look s)
+is_look s set = record { functions = set.functions; globals = set.globals }
+
+-- a legal entry has a rule, and leads to what keeps it all
+pub advanced_sound : (s : Setting) → IsSet s → (c : Config Own) (e : Entry) → IsSound s.program.now c → entry_fault (thread_step (setting_look s)) c e ≡ None
+    → (has_rule (thread_step (setting_look s)) e.thread e.picks c.state ≡ true) × IsSound s.program.now (machine_step (thread_step (setting_look s)) c e)
+advanced_sound s set c e sound legal = entry_sound (setting_look s) (is_look s set) set.well c e sound legal

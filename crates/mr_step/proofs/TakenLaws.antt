@@ -1,6 +1,6 @@
 -- Where the turn of an enabled thread leads.
-use Rattle.std.proofs.Common.{◌≡◌, ℕ, ◌+◌, ◌++◌, arith, refl, sym, ap, ◌∙◌, subst, List, [], map, length, Bool, true, false, Option, Some, None}
-use Rattle.std.proofs.lemmas.Option.{slice_get_within}
+use Rattle.std.proofs.Common.{◌≡◌, ℕ, zero, suc, ◌+◌, ◌++◌, arith, refl, sym, ap, ◌∙◌, subst, List, [], ◌∷◌, map, length, Bool, true, false, Option, Some, None, Result, Err}
+use Rattle.std.proofs.lemmas.Option.{same_Some, slice_get_within}
 use Rattle.std.proofs.Math.ListN.{length-set}
 use Rattle.std.specs.Prelude.{slice_get, slice_set}
 use Rattle.std.specs.Option.{option_map}
@@ -25,13 +25,15 @@ use Rattle.mr_frame.specs.declared.stack.Stack.{Stack as KeptStack}
 use Rattle.mr_frame.specs.Frames.{Look}
 use Rattle.mr_frame.specs.Kept.{look_of}
 use Rattle.mr_thread.specs.Steps.{Own, Turn, thread_step}
-use Rattle.mr_turn.specs.declared.deed.Deed.{Deed}
+use Rattle.mr_turn.specs.declared.deed.TurnFault.{TurnFault}
+use Rattle.mr_turn.specs.declared.deed.TurnFault.TheVariants as turn
 use Rattle.mr_turn.specs.Turning.{own_of, picks_break, planned, shared_in, turn_by, turned}
 use Rattle.mr_step.specs.declared.progress.Progress.{Progress}
 use Rattle.mr_step.specs.declared.progress.Thread.{Thread as KeptThread}
 use Rattle.mr_step.specs.declared.settle.Act.{Act}
-use Rattle.mr_step.specs.Advance.{Acts, Advances, IsDue, act_fault, act_outcome, world_at}
-use Rattle.mr_step.specs.Answers.{Hands, completed, stopped}
+use Rattle.mr_step.specs.Advance.{ActAnswer, Acts, AdvanceAnswer, Advances, IsDue, Keeps, Stays, WithoutAnswer, act_fault, act_outcome, world_at}
+use Rattle.mr_step.specs.Answers.{Hands, fault_of, stopped}
+use Rattle.mr_step.specs.declared.fault.StepFault.{StepFault}
 use Rattle.mr_step.specs.Kept.{config_of, numbered, printed_of, standing_thread, state_of, state_unless}
 use Rattle.mr_step.specs.Settling.{LeadsTo, Settles, Tells, bare_by}
 use Rattle.mr_step.proofs.EntryLaws.{fault_is, feet_are, step_is}
@@ -60,6 +62,12 @@ turn_over flow.Went t a b stack started = refl
 turn_over flow.Ended t a b stack started = refl
 turn_over flow.Exit t a b stack started = refl
 turn_over flow.Abort t a b stack started = refl
+
+-- a thread put in the place that it has
+set_same : {A : Type 0} (xs : List A) (i : ℕ) (x : A) → slice_get xs i ≡ Some x → slice_set xs i x ≡ xs
+set_same [] i x h = refl
+set_same (y ∷ xs) zero x h = ap (λ z. z ∷ xs) (sym (same_Some y x h))
+set_same (y ∷ xs) (suc i) x h = ap (λ zs. y ∷ zs) (set_same xs i x h)
 
 -- where a step leads that itself stops
 pub stops_leads : (p : Progress) (v : Verdict) (foot : Footprint) → LeadsTo (Stops v) (config_of p) (config_of (record p { gone = true; verdict = v })) foot foot
@@ -110,6 +118,41 @@ module _ (look : KeptLook) (e : Entry) (p : Progress) (due : IsDue look e.thread
       → Advances l e (config_of p) (config_of (record p { gone = true; verdict = verdict.Undefined r })) foot foot
   halts r foot legal is = leads_on (Stops (verdict.Undefined r)) (record p { gone = true; verdict = verdict.Undefined r }) foot foot legal (ap (settled s t) is) (stops_leads p (verdict.Undefined r) foot)
 
+  -- the picks break a rule, and nothing changed
+  pub stays : (fault : Fault) (new : KeptThread) (m : Memory) (x : Tables) → Keeps l t e.picks th new p.memory m p.sync x fault
+      → (q : Progress) → q.threads.items ≡ slice_set p.threads.items t new → q ≡ record p { memory = m; threads = q.threads; sync = x }
+      → (foot : Footprint) → Stays l e (config_of p) (config_of q) foot foot fault
+  stays fault new m x h q threads same foot = record { broken = legal_is ∙ h.broken; same = config_is; foot = refl }
+    where
+      threads_are : numbered 0 q.threads.items ≡ numbered 0 p.threads.items
+      threads_are = ap (numbered 0) (threads ∙ ap (slice_set p.threads.items t) h.thread ∙ set_same p.threads.items t th here)
+
+      config_is : config_of q ≡ config_of p
+      config_is =
+          ap config_of same
+          ∙ λ i. record (config_of p) {
+            state = state_unless p.gone (record {
+              shared = record { memory = h.memory i; statuses = (h.tables i).statuses; holders = (h.tables i).holders };
+              threads = threads_are i;
+            });
+          }
+
+  -- there is no turn
+  pub untaken : (fault : TurnFault) (new : KeptThread) (m : Memory) (x : Tables) → ActAnswer l t e.picks th new p.memory m p.sync x (Err fault)
+      → (mid q : Progress) → mid.threads.items ≡ slice_set p.threads.items t new → mid ≡ record p { memory = m; threads = mid.threads; sync = x }
+      → (result : Result (Unit {0}) StepFault) → WithoutAnswer fault mid q result
+      → (foot : Footprint) → AdvanceAnswer l e (config_of p) (config_of q) foot foot result
+  untaken (turn.Undefined r) new m x h mid q threads same result w foot =
+      subst (AdvanceAnswer l e (config_of p) (config_of q) foot foot) (sym w.0)
+      (subst (λ (y : Config Own). Advances l e (config_of p) y foot foot)
+      (sym (ap config_of (w.1 ∙ ap (λ (y : Progress). record y { gone = true; verdict = verdict.Undefined r }) same)))
+      (halts r foot h.legal h.refused))
+  untaken (turn.Broken failure) new m x h mid q threads same result w foot =
+      subst (AdvanceAnswer l e (config_of p) (config_of q) foot foot) (sym w.0)
+      (subst (λ (y : Progress). Stays l e (config_of p) (config_of y) foot foot (fault_of failure.code failure.earlier)) (sym w.1)
+      (stays (fault_of failure.code failure.earlier) new m x h mid threads same foot))
+  untaken turn.Memory new m x h mid q threads same result w foot = subst (AdvanceAnswer l e (config_of p) (config_of q) foot foot) (sym w) tt
+
   -- the turn is taken, and settled
   module _ (mid q : Progress) (new : KeptThread) (a : Act) (foot foot' : Footprint) (acts : Acts l t e.picks th new p.memory p.sync mid.sync a) (threads : mid.threads.items ≡ slice_set p.threads.items t new)
       (same : mid ≡ record p { memory = mid.memory; threads = mid.threads; sync = mid.sync }) (settles : Settles mid q t a foot foot') where
@@ -132,7 +175,7 @@ module _ (look : KeptLook) (e : Entry) (p : Progress) (due : IsDue look e.thread
     numbers = ap (numbered 0) threads ∙ numbered_set 0 t t p.threads.items new (omega arith)
 
     many : length (state_of mid).threads ≡ length p.sync.statuses
-    many = ap length numbers ∙ sym (length-set s.threads t (thread_as t new)) ∙ sym (sound look t p due).many
+    many = ap length numbers ∙ length-set s.threads t (thread_as t new) ∙ sym (sound look t p due).many
 
     abbrev ways : Option Own → Ways Own
     ways started = turn_by a.deed.flow (own_of t new.stack) new.stack started

@@ -1,7 +1,7 @@
 -- How an entry is answered, and the turn of its thread.
-use Rattle.std.specs.Prelude.{◌≡◌, ℕ, ◌<◌, ◌^◌, false, List, length, Option, None, Some, Result, Ok, Err}
+use Rattle.std.specs.Prelude.{◌≡◌, ℕ, ◌<◌, ◌^◌, true, false, List, length, Option, None, Some, Result, Ok, Err}
 use Rattle.mr_base.specs.declared.reason.Reason.{Reason}
-use Rattle.mr_base.specs.declared.reason.Verdict.TheVariants.{Running}
+use Rattle.mr_base.specs.declared.reason.Verdict.TheVariants.{Running, Undefined}
 use Rattle.mr_event.specs.declared.footprint.Footprint.{Footprint}
 use Rattle.mr_mem.specs.Memory.{Memory}
 use Rattle.mr_sched.specs.declared.schedule.Entry.{Entry}
@@ -72,6 +72,12 @@ ActAnswer look t picks old new m n x y (Ok a) = Acts look t picks old new m x y 
 ActAnswer look t picks old new m n x y (Err (turn.Broken e)) = Keeps look t picks old new m n x y (fault_of e.code e.earlier)
 ActAnswer look t picks old new m n x y (Err (turn.Undefined r)) = Halts look t picks old m x r
 ActAnswer look t picks old new m n x y (Err turn.Memory) = Unit {0}
+
+-- a step without a turn stops, or its picks break a rule, or memory ran out
+abbrev pub WithoutAnswer : TurnFault → Progress → Progress → Result (Unit {0}) StepFault → Type 0
+WithoutAnswer (turn.Undefined r) old new result = (result ≡ Ok tt) × (new ≡ record old { gone = true; verdict = Undefined r })
+WithoutAnswer (turn.Broken e) old new result = (result ≡ Err (answer.BadEntry e.code e.earlier)) × (new ≡ old)
+WithoutAnswer turn.Memory old new result = result ≡ Err answer.Memory
 
 -- ---- an entry
 

@@ -3,7 +3,7 @@ ghost use Rattle.std.specs.Prelude.{◌≡◌, ◌<◌, ◌^◌, None, Some};
 ghost use Rattle.mr_frame.specs.Kept.{IsReady, look_of};
 ghost use Rattle.mr_plan.specs.Runs.{is_running as running_in};
 ghost use Rattle.mr_sync.specs.Tables.{is_enabled as enabled_in};
-ghost use Rattle.mr_step.specs.Advance.{ActAnswer, AdvanceAnswer, BeginsAct, IsDue, IsSoundBefore};
+ghost use Rattle.mr_step.specs.Advance.{ActAnswer, AdvanceAnswer, BeginsAct, IsDue, IsSoundBefore, WithoutAnswer};
 ghost use Rattle.mr_step.specs.Kept.{config_of};
 
 use crate::fault::{AFTER_STOP, NOT_ENABLED, StepFault, broken, refused};
@@ -62,6 +62,20 @@ fn act(
     }
 }
 
+// The step of a thread that has no turn.
+fn without(p: &mut Progress, fault: TurnFault) -> Result<(), StepFault>
+    ensures { WithoutAnswer fault p.old p.new result }
+{
+    match fault {
+        TurnFault::Undefined(reason) => {
+            p.stop(Verdict::Undefined(reason));
+            Ok(())
+        }
+        TurnFault::Broken(failure) => Err(refused(failure)),
+        TurnFault::Memory => Err(StepFault::Memory),
+    }
+}
+
 // The step of an enabled thread, in a state in which the machine runs.
 fn take(
     alloc: Global,
@@ -77,12 +91,12 @@ fn take(
     let picks = entry.picks.as_slice();
     let thread = &mut p.threads[number as usize];
     match act(alloc, look, number, thread, &mut p.memory, &mut p.sync, picks) {
-        Ok(act) => settle(alloc, p, number, act, foot)?,
-        Err(TurnFault::Undefined(reason)) => p.stop(Verdict::Undefined(reason)),
-        Err(TurnFault::Broken(failure)) => return Err(refused(failure)),
-        Err(TurnFault::Memory) => return Err(StepFault::Memory),
+        Ok(act) => {
+            settle(alloc, p, number, act, foot)?;
+            Ok(())
+        }
+        Err(fault) => without(p, fault),
     }
-    Ok(())
 }
 
 /// The step of an entry.

@@ -1,8 +1,9 @@
 //! What an entry comes to.
 ghost use Rattle.std.specs.Prelude.{◌≡◌, None};
+ghost use Rattle.mr_step.specs.First.{unmade_by};
 
 use mr_base::{AllocId, Verdict};
-use mr_start::PickFailure;
+use mr_start::{PickFailure, StartFault};
 use std::alloc::{AllocError, AllocFailed};
 
 /// Why a start or a step was refused.
@@ -62,6 +63,16 @@ pub fn refused(failure: PickFailure) -> StepFault
     StepFault::BadEntry {
         code: failure.code,
         earlier: failure.earlier,
+    }
+}
+
+/// Why there is no machine.
+pub fn unmade(fault: StartFault) -> StepFault
+    ensures { result ≡ unmade_by fault }
+{
+    match fault {
+        StartFault::Broken(failure) => refused(failure),
+        StartFault::Memory => StepFault::Memory,
     }
 }
 

@@ -15,6 +15,7 @@
 mod advance;
 mod copies;
 mod fault;
+mod first;
 mod footprint;
 mod machine;
 mod progress;

@@ -1,12 +1,15 @@
 //! The machine and its public calls.
 use crate::advance::advance;
-use crate::fault::{StepFault, Turn};
+use crate::fault::{StepFault, Turn, unmade};
+use crate::first::first;
 use crate::progress::{Progress, line_at};
 use crate::setting::Setting;
 use mr_base::{Status, Verdict};
 use mr_event::Footprint;
 use mr_sched::Entry;
-use std::alloc::Global;
+use mr_start::{Start, begin};
+use mr_wf::Checked;
+use std::alloc::{AllocError, Global};
 use std::marker::Model;
 
 /// The machine of a program under a schedule. (MiniRust, lang: the machine.)
@@ -40,14 +43,57 @@ impl<'p> Model for Machine<'p> {
 }
 
 impl<'p> Machine<'p> {
-    ghost use Rattle.std.specs.Prelude.{◌≡◌, ◌<◌, ◌^◌, Some, length, slice_get};
+    ghost use Rattle.std.specs.Prelude.{◌≡◌, ℕ, ◌<◌, ◌^◌, IfOk, List, None, Some, length, slice_get};
     ghost use Rattle.std.specs.Option.{option_map};
     ghost use Rattle.mr_sync.specs.Tables.{is_enabled, waits};
     ghost use Rattle.mr_plan.specs.Machine.{State};
     ghost use Rattle.mr_plan.specs.Queries.{tables_of};
     ghost use Rattle.mr_thread.specs.Steps.{Own};
-    ghost use Rattle.mr_step.specs.Answers.{StepAnswer};
+    ghost use Rattle.mr_start.specs.Begin.{IsStart};
+    ghost use Rattle.mr_start.specs.Start.{start_fault};
+    ghost use Rattle.mr_step.specs.Answers.{StartAnswer, StepAnswer, standing};
     ghost use Rattle.mr_step.specs.Standing.{seen_line};
+
+    /// The machine before the first entry, with these start picks.
+    pub fn start(alloc: Global, p: &'p Checked, picks: &[u64]) -> Result<Machine<'p>, StepFault>
+        ensures { StartAnswer p.now picks.now result }
+    {
+        match begin(alloc, p, picks) {
+            Ok(start) => Ok(Machine::begun(alloc, p, start)?),
+            Err(fault) => Err(unmade(fault)),
+        }
+    }
+
+    // The machine of a start that is made.
+    fn begun(alloc: Global, p: &'p Checked, start: Start) -> Result<Machine<'p>, AllocError>
+        requires { (picks : List ℕ) × (start_fault p.now picks ≡ None) × IsStart p.now picks start }
+        ensures { IfOk result (λ m. (picks : List ℕ) → IsStart p.now picks start → m ≡ standing p.now picks) }
+    {
+        let Start {
+            memory,
+            functions,
+            globals,
+            cache,
+            stack,
+            count,
+        } = start;
+        let program = p.program();
+        prove!(functions.len() == program.functions.len());
+        prove!(globals.len() == program.globals.len());
+        let progress = first(alloc, memory, stack, count)?;
+        let setting = Setting {
+            program: p,
+            functions,
+            globals,
+            cache,
+        };
+        Ok(Machine {
+            setting,
+            progress,
+            failed: false,
+            alloc,
+        })
+    }
 
     /// One step of the machine. The footprint of a step that completes takes the place of what stood in `foot`. A refused entry changes
     /// nothing. Once a step ran out of memory the machine has failed.

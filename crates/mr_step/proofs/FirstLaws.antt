@@ -1,0 +1,25 @@
+-- What a start keeps.
+use Rattle.std.proofs.Common.{◌≡◌, ℕ, sym, ap, ◌∙◌, subst, List, length, None}
+use Rattle.mr_ast.specs.declared.program.Program.{Program}
+use Rattle.mr_wf.specs.Walk.{WellFormed}
+use Rattle.mr_plan.specs.Runs.{Config}
+use Rattle.mr_frame.specs.Frames.{Look}
+use Rattle.mr_thread.specs.Steps.{Own}
+use Rattle.mr_start.specs.declared.beginning.Start.{Start}
+use Rattle.mr_start.specs.Begin.{IsStart}
+use Rattle.mr_start.specs.Start.{start_fault}
+use Rattle.mr_start.proofs.StartSound.{start_look, start_sound}
+use Rattle.mr_step.specs.First.{first_config}
+use Rattle.mr_step.specs.Kept.{IsSound}
+
+module _ (p : Program) (well : WellFormed p) (picks : List ℕ) (legal : start_fault p picks ≡ None) (s : Start) (h : IsStart p picks s) where
+  -- there is a pointer for each function and global
+  pub functions_are : length s.functions.items ≡ length p.functions
+  functions_are = ap (λ (l : Look). length l.functions) h.look ∙ (start_look p well picks legal).functions ∙ ap (λ (l : Look). length l.program.functions) (sym h.look)
+
+  pub globals_are : length s.globals.items ≡ length p.globals
+  globals_are = ap (λ (l : Look). length l.globals) h.look ∙ (start_look p well picks legal).globals ∙ ap (λ (l : Look). length l.program.globals) (sym h.look)
+
+  -- and the state keeps what states keep
+  pub first_sound : (c : Config Own) → c ≡ first_config s.memory s.stack s.count → IsSound p c
+  first_sound c e = subst (IsSound p) (sym (e ∙ h.config)) (start_sound p well picks legal)

@@ -1,0 +1,23 @@
+use Rattle.std.proofs.Common.{◌≡◌, false, sym, ap, ◌∙◌, subst, length}
+use Rattle.mr_wf.specs.Walk.{WellFormed}
+use Rattle.mr_step.specs.Kept.{config_of}
+use Rattle.mr_step.proofs.FirstLaws.{first_sound, functions_are, globals_are}
+use Rattle.mr_step.proofs.machine.Machine.begun.Goals as goal
+
+pub invariant_of-result : goal.invariant_of-result
+invariant_of-result c =
+    let p = c.args.p.now in
+    let well = subst WellFormed c.program-program.ensures.same c.program-program.ensures.well_formed in
+    let r = c.requires in
+    record {
+      set = record {
+        well = well;
+        functions = functions_are p well r.0 r.1 c.args.start r.2;
+        globals = globals_are p well r.0 r.1 c.args.start r.2;
+        cache = r.2.cache;
+      };
+      sound = λ e. first_sound p well r.0 r.1 c.args.start r.2 (config_of c.in_ok-progress.progress) c.in_ok-progress.ensures;
+    }
+
+pub returns : goal.returns
+returns c = λ picks h i. record { look = h.look i; failed = false; config = (c.in_ok-progress.ensures ∙ h.config) i }
