@@ -1,18 +1,19 @@
 -- How starts and steps are answered, each answer with its cause.
-use Rattle.std.specs.Prelude.{◌≡◌, ℕ, true, false, List, Option, None, Some, Result, Ok, Err}
+use Rattle.std.specs.Prelude.{◌≡◌, ℕ, ◌+◌, true, false, List, [], ◌∷◌, Option, None, Some, Result, Ok, Err}
 use Rattle.mr_base.specs.declared.byte.AllocId.{AllocId}
 use Rattle.mr_base.specs.declared.reason.Verdict.{Verdict}
 use Rattle.mr_base.specs.declared.reason.Verdict.TheVariants as verdict
 use Rattle.mr_ast.specs.declared.program.Program.{Program}
+use Rattle.mr_event.specs.declared.footprint.Footprint.{Footprint}
 use Rattle.mr_sched.specs.declared.schedule.Entry.{Entry}
+use Rattle.mr_plan.specs.Legal.{Fault}
+use Rattle.mr_plan.specs.Runs.{foot_from, has_rule}
+use Rattle.mr_thread.specs.Steps.{thread_step}
+use Rattle.mr_start.specs.Start.{start_fault, start_config, look_of, program_fault, program_step}
 use Rattle.mr_step.specs.declared.fault.StepFault.{StepFault}
 use Rattle.mr_step.specs.declared.fault.StepFault.TheVariants as answer
 use Rattle.mr_step.specs.declared.fault.Turn.{Turn}
 use Rattle.mr_step.specs.declared.fault.Turn.TheVariants as turn
-use Rattle.mr_step.specs.Legal.{Fault}
-use Rattle.mr_step.specs.Runs.{has_rule}
-use Rattle.mr_step.specs.Language.{step}
-use Rattle.mr_step.specs.Start.{start_fault, start_config, look_of, program_fault, program_step}
 use Rattle.mr_step.specs.Standing.{Standing}
 
 abbrev pub fault_of : ℕ → Option AllocId → Fault
@@ -36,19 +37,27 @@ StartAnswer p picks (Err (answer.BadEntry code earlier)) = start_fault p picks �
 StartAnswer p picks (Err answer.Memory) = Unit {0}
 StartAnswer p picks (Err answer.Failed) = ⊥
 
--- the machine made the step of a legal entry, which has a rule
-pub record Steps (e : Entry) (old new : Standing) (t : Turn) : Type 0 where
+-- What is handed out behind a step with these footprints, before and behind which so many steps were completed: the footprint of a step that
+-- completed; a step that itself stopped has none, and leaves what was there.
+pub data Hands (feet : List Footprint) (before after : ℕ) (old new : Footprint) : Type 0 where
+  completed : feet ≡ new ∷ [] → after ≡ before + 1 → Hands feet before after old new
+  stopped : feet ≡ [] → after ≡ before → new ≡ old → Hands feet before after old new
+
+-- the machine made the step of a legal entry, which has a rule, and handed out its footprint
+pub record Steps (e : Entry) (old new : Standing) (f f' : Footprint) (went : Turn) : Type 0 where
   pub working : old.failed ≡ false
   pub legal : program_fault old.look old.config e ≡ None
-  pub has_rule : has_rule (step old.look) e.thread e.picks old.config.state ≡ true
+  pub has_rule : has_rule (thread_step old.look) e.thread e.picks old.config.state ≡ true
   pub after : new ≡ record { look = old.look; failed = false; config = program_step old.look old.config e }
-  pub turn : t ≡ turn_of new.config.verdict
+  pub foot : Hands (foot_from (thread_step old.look) e.thread e.picks old.config.state) old.config.completed new.config.completed f f'
+  pub turn : went ≡ turn_of new.config.verdict
 
 -- the entry breaks this rule, and nothing changed
-pub record Refuses (e : Entry) (old new : Standing) (f : Fault) : Type 0 where
+pub record Refuses (e : Entry) (old new : Standing) (f f' : Footprint) (fault : Fault) : Type 0 where
   pub working : old.failed ≡ false
-  pub broken : program_fault old.look old.config e ≡ Some f
+  pub broken : program_fault old.look old.config e ≡ Some fault
   pub same : new ≡ old
+  pub foot : f' ≡ f
 
 -- Memory ran out, and the machine has failed. The entry may break a rule, for a step can ask behind what ran out.
 pub record RunsOut (old new : Standing) : Type 0 where
@@ -57,12 +66,13 @@ pub record RunsOut (old new : Standing) : Type 0 where
   pub look : new.look ≡ old.look
 
 -- an earlier step had failed
-pub record IsFailed (old new : Standing) : Type 0 where
+pub record IsFailed (old new : Standing) (f f' : Footprint) : Type 0 where
   pub failed : old.failed ≡ true
   pub same : new ≡ old
+  pub foot : f' ≡ f
 
-abbrev pub StepAnswer : Entry → Standing → Standing → Result Turn StepFault → Type 0
-StepAnswer e old new (Ok t) = Steps e old new t
-StepAnswer e old new (Err (answer.BadEntry code earlier)) = Refuses e old new (fault_of code earlier)
-StepAnswer e old new (Err answer.Memory) = RunsOut old new
-StepAnswer e old new (Err answer.Failed) = IsFailed old new
+abbrev pub StepAnswer : Entry → Standing → Standing → Footprint → Footprint → Result Turn StepFault → Type 0
+StepAnswer e old new f f' (Ok t) = Steps e old new f f' t
+StepAnswer e old new f f' (Err (answer.BadEntry code earlier)) = Refuses e old new f f' (fault_of code earlier)
+StepAnswer e old new f f' (Err answer.Memory) = RunsOut old new
+StepAnswer e old new f f' (Err answer.Failed) = IsFailed old new f f'

@@ -1,24 +1,103 @@
 //! One entry of a schedule: its rules, and then its step.
-ghost use Rattle.std.specs.Prelude.{◌≡◌, ◌<◌, ◌^◌, OnOk};
-ghost use Rattle.mr_step.specs.Advance.{AdvanceAnswer};
-ghost use Rattle.mr_step.specs.Frames.{IsReady, look_at};
-ghost use Rattle.mr_step.specs.Progress.{IsSoundWhile};
-ghost use Rattle.mr_step.specs.Runs.{is_running as is_running_lem};
+ghost use Rattle.std.specs.Prelude.{◌≡◌, ◌<◌, ◌^◌, None, Some};
+ghost use Rattle.mr_frame.specs.Kept.{IsReady, look_of};
+ghost use Rattle.mr_plan.specs.Runs.{is_running as running_in};
+ghost use Rattle.mr_sync.specs.Tables.{is_enabled as enabled_in};
+ghost use Rattle.mr_step.specs.Advance.{ActAnswer, AdvanceAnswer, BeginsAct, IsDue, IsSoundBefore, WithoutAnswer};
+ghost use Rattle.mr_step.specs.Kept.{config_of};
 
-use crate::fault::StepFault;
-use crate::frame::next_of;
-use crate::look::Look;
-use crate::picks::broken;
-use crate::progress::{Progress, perform};
+use crate::fault::{AFTER_STOP, NOT_ENABLED, StepFault, broken, refused};
+use crate::progress::{Progress, Thread};
+use crate::settle::{Act, settle};
 use mr_base::Verdict;
+use mr_event::Footprint;
+use mr_eval::Scene;
+use mr_frame::Look;
+use mr_mem::Memory;
 use mr_sched::Entry;
+use mr_sync::{Status, SyncTable};
+use mr_turn::{TurnFault, turn};
 use std::alloc::Global;
+use std::mem::replace;
 
-/// No thread has the number, or it isn't enabled.
-pub const NOT_ENABLED: u8 = 60;
+/// No memory holds so many allocations of one thread.
+const MOST_ALLOCATIONS: u64 = 0x4000_0000_0000_0000;
 
-/// The machine had stopped before the entry.
-pub const AFTER_STOP: u8 = 66;
+fn is_running(verdict: Verdict) -> bool
+    ensures { result ≡ running_in verdict }
+{
+    matches!(verdict, Verdict::Running)
+}
+
+fn is_enabled(status: Option<Status>) -> bool
+    ensures { result ≡ enabled_in status }
+{
+    matches!(status, Some(Status::Enabled))
+}
+
+// The turn of an enabled thread. Where there is none, memory stays.
+fn act(
+    alloc: Global,
+    look: &Look<'_>,
+    number: u32,
+    thread: &mut Thread,
+    memory: &mut Memory,
+    sync: &mut SyncTable,
+    picks: &[u64],
+) -> Result<Act, TurnFault>
+    requires { BeginsAct look.now number thread.old memory.old sync.old }
+    ensures { ActAnswer (look_of look.now) number picks.now thread.old thread.new memory.old memory.new sync.old sync.new result }
+{
+    if thread.count >= MOST_ALLOCATIONS {
+        return Err(TurnFault::Memory);
+    }
+    let held = replace(memory, Memory::new(alloc));
+    let mut scene = Scene::new(alloc, held, number, thread.count);
+    match turn(alloc, look, &mut thread.stack, &mut scene, sync, picks) {
+        Ok(deed) => Ok(Act { scene, deed }),
+        Err(fault) => {
+            *memory = scene.memory;
+            Err(fault)
+        }
+    }
+}
+
+// The step of a thread that has no turn.
+fn without(p: &mut Progress, fault: TurnFault) -> Result<(), StepFault>
+    ensures { WithoutAnswer fault p.old p.new result }
+{
+    match fault {
+        TurnFault::Undefined(reason) => {
+            p.stop(Verdict::Undefined(reason));
+            Ok(())
+        }
+        TurnFault::Broken(failure) => Err(refused(failure)),
+        TurnFault::Memory => Err(StepFault::Memory),
+    }
+}
+
+// The step of an enabled thread, in a state in which the machine runs.
+fn take(
+    alloc: Global,
+    look: &Look<'_>,
+    p: &mut Progress,
+    entry: &Entry,
+    foot: &mut Footprint,
+) -> Result<(), StepFault>
+    requires { IsDue look.now entry.now.thread p.old }
+    ensures { AdvanceAnswer (look_of look.now) entry.now (config_of p.old) (config_of p.new) foot.old foot.new result }
+{
+    let number = entry.thread;
+    let picks = entry.picks.as_slice();
+    let thread = &mut p.threads[number as usize];
+    match act(alloc, look, number, thread, &mut p.memory, &mut p.sync, picks) {
+        Ok(act) => {
+            settle(alloc, p, number, act, foot)?;
+            Ok(())
+        }
+        Err(fault) => without(p, fault),
+    }
+}
 
 /// The step of an entry.
 pub fn advance(
@@ -26,29 +105,16 @@ pub fn advance(
     look: &Look<'_>,
     p: &mut Progress,
     entry: &Entry,
+    foot: &mut Footprint,
 ) -> Result<(), StepFault>
-    requires ready { IsReady look.now }
-    requires sound { IsSoundWhile look.now.program.now p.old }
-    requires steps { p.old.completed < 2 ^ 32 }
-    ensures answer { AdvanceAnswer (look_at look.now) entry.now p.old p.new result }
-    ensures sound { OnOk result (IsSoundWhile look.now.program.now p.new) }
+    requires { IsSoundBefore look.now p.old }
+    ensures { AdvanceAnswer (look_of look.now) entry.now (config_of p.old) (config_of p.new) foot.old foot.new result }
 {
-    if !is_running(p.verdict) {
+    if p.gone || !is_running(p.verdict) {
         return Err(broken(AFTER_STOP));
     }
-    let function = look.function(p.frame.function);
-    let next = next_of(function, &p.frame);
-    if entry.thread != 0 {
+    if !is_enabled(p.sync.status(entry.thread)) {
         return Err(broken(NOT_ENABLED));
     }
-    perform(alloc, look, function, p, next, entry.picks.as_slice())
-}
-
-fn is_running(verdict: Verdict) -> bool
-    ensures { result ≡ is_running_lem verdict }
-{
-    match verdict {
-        Verdict::Running => true,
-        _ => false,
-    }
+    take(alloc, look, p, entry, foot)
 }

@@ -1,5 +1,9 @@
 //! What an entry comes to.
+ghost use Rattle.std.specs.Prelude.{◌≡◌, None};
+ghost use Rattle.mr_step.specs.First.{unmade_by};
+
 use mr_base::{AllocId, Verdict};
+use mr_start::{PickFailure, StartFault};
 use std::alloc::{AllocError, AllocFailed};
 
 /// Why a start or a step was refused.
@@ -33,6 +37,42 @@ impl<T: Drop> From<AllocFailed<T>> for StepFault {
 
     fn from(_: AllocFailed<T>) -> Self {
         StepFault::Memory
+    }
+}
+
+/// The machine had stopped before the entry.
+pub const AFTER_STOP: u8 = 66;
+
+/// No thread has the number, or it isn't enabled.
+pub const NOT_ENABLED: u8 = 60;
+
+/// A refusal by a rule without an identity.
+pub fn broken(code: u8) -> StepFault
+    ensures { result ≡ StepFault.BadEntry code None }
+{
+    StepFault::BadEntry {
+        code,
+        earlier: None,
+    }
+}
+
+/// A refusal by a rule that the picks break.
+pub fn refused(failure: PickFailure) -> StepFault
+    ensures { result ≡ StepFault.BadEntry failure.code failure.earlier }
+{
+    StepFault::BadEntry {
+        code: failure.code,
+        earlier: failure.earlier,
+    }
+}
+
+/// Why there is no machine.
+pub fn unmade(fault: StartFault) -> StepFault
+    ensures { result ≡ unmade_by fault }
+{
+    match fault {
+        StartFault::Broken(failure) => refused(failure),
+        StartFault::Memory => StepFault::Memory,
     }
 }
 

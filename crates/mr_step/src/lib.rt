@@ -1,41 +1,26 @@
-//! The machine: what a run of a program under a recorded schedule comes to, one step at a time.
+//! The machine: what a run of a program under a recorded schedule comes to, one step at a time, with any number of threads.
 //!
-//! The definitions are the specification machine's (MiniRust, lang): `specs/Language.antt` has the next step of a thread as a
-//! script, with `specs/Changes.antt` for what statements change in memory and `specs/Endings.antt` for what terminators decide;
-//! `specs/Machine.antt` has the bare step over any language of such scripts, `specs/Runs.antt` the machine step with its race
-//! check, `specs/Legal.antt` the rules that an entry of a schedule may break, and `specs/Start.antt` the start, with the bytes of
-//! globals, and whole runs. Expressions are evaluated by `mr_eval`. What is built runs one thread in the frame of the main
-//! function: all statements, and each terminator but those of calls and unwinding, of threads, locks and the heap.
+//! The definitions are the specification machine's (MiniRust, lang), over scripts: the step of a thread (`mr_thread`), and over any language of
+//! such steps the machine step with its race check and the rules that an entry of a schedule may break (`mr_plan`). `specs/Standing.antt` has
+//! what contracts see of a machine, `specs/Answers.antt` how its calls answer, and `specs/Kept.antt` how it keeps what it stands for.
 //!
-//! Public calls: [`built`], [`Machine::start`], [`Machine::step`], [`Machine::verdict`], [`Machine::lines`] and [`Machine::line`].
+//! Public calls: [`Machine::start`], [`Machine::step`], and what a machine tells of where it stands: [`Machine::verdict`],
+//! [`Machine::completed`], [`Machine::lines`] and [`Machine::line`], [`Machine::threads`], [`Machine::enabled`] and [`Machine::waiting`].
 //!
-//! Proved: `built` tells exactly which programs the machine runs (`specs/Built.antt`). A start and a step lead exactly where the
-//! definitions say or tell the first rule that is broken, a refused entry changes nothing, and memory apart there is no other
-//! answer. The laws [`never_ill_formed`], [`legal_schedules`], [`whole_start`] and [`one_at_most`] are of the definitions alone: a
-//! legal run of a built, well-formed program has a rule for each step, and behind a legal start line each global has its bytes.
+//! Proved: a start and a step lead exactly where the definitions say, or tell the first rule that is broken; a refused entry changes nothing;
+//! a completed step hands out its footprint; memory apart there is no other answer. The laws [`never_ill_formed`], [`legal_schedules`],
+//! [`whole_start`], [`one_at_most`] and [`feet_counted`] are of the definitions alone.
 #![tactic(auto)]
 
 mod advance;
-mod begin;
-mod builds;
-mod changes;
-mod endings;
+mod copies;
 mod fault;
 mod first;
-mod frame;
-mod globals;
-mod laws;
-mod look;
+mod footprint;
 mod machine;
-mod picks;
-mod pieces;
 mod progress;
-mod scalars;
-mod storage;
-mod texts;
-mod types;
+mod settle;
+mod setting;
 
-pub use builds::built;
 pub use fault::{StepFault, Turn};
-pub use laws::{legal_schedules, never_ill_formed, one_at_most, whole_start};
 pub use machine::Machine;

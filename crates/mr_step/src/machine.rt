@@ -1,17 +1,13 @@
 //! The machine and its public calls.
-ghost use Rattle.std.specs.Prelude.{◌≡◌, ◌-◌, ◌<◌, Some, length, slice_get};
-
 use crate::advance::advance;
-use crate::begin::{Begun, begin};
-use crate::fault::{StepFault, Turn};
-use crate::first::{first_look, first_progress, line_at};
-use crate::frame::function_at;
-use crate::globals::fill;
-use crate::look::Look;
-use crate::pieces::pieces;
-use crate::progress::Progress;
-use mr_base::{Pointer, Verdict};
+use crate::fault::{StepFault, Turn, unmade};
+use crate::first::first;
+use crate::progress::{Progress, line_at};
+use crate::setting::Setting;
+use mr_base::{Status, Verdict};
+use mr_event::Footprint;
 use mr_sched::Entry;
+use mr_start::{Start, begin};
 use mr_wf::Checked;
 use std::alloc::{AllocError, Global};
 use std::marker::Model;
@@ -19,7 +15,7 @@ use std::marker::Model;
 /// The machine of a program under a schedule. (MiniRust, lang: the machine.)
 #[derive(Drop)]
 pub struct Machine<'p> {
-    look: Look<'p>,
+    setting: Setting<'p>,
     progress: Progress,
     failed: bool,
     alloc: Global,
@@ -46,72 +42,70 @@ impl<'p> Model for Machine<'p> {
     ghost invariant = { IsKept };
 }
 
-// The last of some pointers.
-fn last_of(pointers: &[Pointer]) -> Pointer
-    requires { 0 < length pointers.now }
-    ensures { slice_get pointers.now (length pointers.now - 1) ≡ Some result }
-{
-    pointers[pointers.len() - 1]
-}
-
 impl<'p> Machine<'p> {
-    ghost use Rattle.std.specs.Prelude.{◌≡◌, ℕ, ◌<◌, ◌^◌, IfOk, List, length, slice_get};
+    ghost use Rattle.std.specs.Prelude.{◌≡◌, ℕ, ◌<◌, ◌^◌, IfOk, List, None, Some, length, slice_get};
     ghost use Rattle.std.specs.Option.{option_map};
-    ghost use Rattle.mr_step.specs.Built.{Built};
+    ghost use Rattle.mr_sync.specs.Tables.{is_enabled, waits};
+    ghost use Rattle.mr_plan.specs.Machine.{State};
+    ghost use Rattle.mr_plan.specs.Queries.{tables_of};
+    ghost use Rattle.mr_thread.specs.Steps.{Own};
+    ghost use Rattle.mr_start.specs.Begin.{IsStart};
+    ghost use Rattle.mr_start.specs.Start.{start_fault};
     ghost use Rattle.mr_step.specs.Answers.{StartAnswer, StepAnswer, standing};
-    ghost use Rattle.mr_step.specs.Begin.{IsBegun};
-    ghost use Rattle.mr_step.specs.Start.{pieces};
     ghost use Rattle.mr_step.specs.Standing.{seen_line};
 
     /// The machine before the first entry, with these start picks.
     pub fn start(alloc: Global, p: &'p Checked, picks: &[u64]) -> Result<Machine<'p>, StepFault>
-        requires { Built p.now }
         ensures { StartAnswer p.now picks.now result }
     {
-        let made = pieces(alloc, p.program())?;
-        match begin(alloc, made.as_slice(), picks) {
-            Ok(begun) => Ok(Machine::begun(alloc, p, begun)?),
-            Err(fault) => Err(fault),
+        match begin(alloc, p, picks) {
+            Ok(start) => Ok(Machine::begun(alloc, p, start)?),
+            Err(fault) => Err(unmade(fault)),
         }
     }
 
-    // The machine of a start that is allocated.
-    fn begun(alloc: Global, p: &'p Checked, begun: Begun) -> Result<Machine<'p>, AllocError>
-        requires built { Built p.now }
-        requires made { (picks : List ℕ) × IsBegun (pieces p.now) picks begun }
-        ensures { IfOk result (λ m. (picks : List ℕ) → IsBegun (pieces p.now) picks begun → m ≡ standing p.now picks) }
+    // The machine of a start that is made.
+    fn begun(alloc: Global, p: &'p Checked, start: Start) -> Result<Machine<'p>, AllocError>
+        requires { (picks : List ℕ) × (start_fault p.now picks ≡ None) × IsStart p.now picks start }
+        ensures { IfOk result (λ m. (picks : List ℕ) → IsStart p.now picks start → m ≡ standing p.now picks) }
     {
-        let Begun {
-            mut memory,
-            pointers,
-        } = begun;
+        let Start {
+            memory,
+            functions,
+            globals,
+            cache,
+            stack,
+            count,
+        } = start;
         let program = p.program();
-        let start = program.start.0;
-        let main = function_at(program, start);
-        let pointers = pointers.as_slice();
-        let look = first_look(alloc, p, pointers)?;
-        let globals = program.globals.as_slice();
-        let (functions, places) = (look.functions.as_slice(), look.globals.as_slice());
-        fill(alloc, &mut memory, globals, functions, places)?;
-        let count = pointers.len() as u64;
-        let progress = first_progress(alloc, main, start, memory, count, last_of(pointers))?;
+        prove!(functions.len() == program.functions.len());
+        prove!(globals.len() == program.globals.len());
+        let progress = first(alloc, memory, stack, count)?;
+        let setting = Setting {
+            program: p,
+            functions,
+            globals,
+            cache,
+        };
         Ok(Machine {
-            look,
+            setting,
             progress,
             failed: false,
             alloc,
         })
     }
 
-    /// One step of the machine. A refused entry changes nothing. Once a step ran out of memory the machine has failed.
-    pub fn step(&mut self, entry: &Entry) -> Result<Turn, StepFault>
+    /// One step of the machine. The footprint of a step that completes takes the place of what stood in `foot`. A refused entry changes
+    /// nothing. Once a step ran out of memory the machine has failed.
+    pub fn step(&mut self, entry: &Entry, foot: &mut Footprint) -> Result<Turn, StepFault>
         requires { self.old.config.completed < 2 ^ 32 }
-        ensures { StepAnswer entry.now self.old self.new result }
+        ensures { StepAnswer entry.now self.old self.new foot.old foot.new result }
     {
         if self.failed {
             return Err(StepFault::Failed);
         }
-        match advance(self.alloc, &self.look, &mut self.progress, entry) {
+        let look = self.setting.look();
+        match advance(self.alloc, &look, &mut self.progress, entry, foot) {
             Ok(()) => Ok(Turn::behind(self.progress.verdict)),
             Err(StepFault::Memory) => {
                 self.failed = true;
@@ -151,5 +145,26 @@ impl<'p> Machine<'p> {
         ensures { option_map seen_line result ≡ slice_get self.now.config.output i }
     {
         line_at(self.progress.output.as_slice(), i)
+    }
+
+    /// How many threads there are, ended ones included.
+    pub fn threads(&self) -> u32
+        ensures { (s : State Own) → self.now.config.state ≡ Some s → result ≡ length s.shared.statuses }
+    {
+        self.progress.sync.threads()
+    }
+
+    /// Whether a thread exists and can go on.
+    pub fn enabled(&self, t: u32) -> bool
+        ensures { (s : State Own) → self.now.config.state ≡ Some s → result ≡ is_enabled (slice_get s.shared.statuses t) }
+    {
+        matches!(self.progress.sync.status(t), Some(Status::Enabled))
+    }
+
+    /// Whether a thread waits for this lock.
+    pub fn waiting(&self, lock: u32, t: u32) -> bool
+        ensures { (s : State Own) → self.now.config.state ≡ Some s → result ≡ waits lock t (tables_of s.shared) }
+    {
+        self.progress.sync.waiting(lock, t)
     }
 }

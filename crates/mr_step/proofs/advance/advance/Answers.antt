@@ -1,62 +1,44 @@
-use Rattle.std.proofs.Common.{◌≡◌, refl, sym, ◌∙◌}
-use Rattle.std.proofs.lemmas.Option.{slice_get_within}
-use Rattle.mr_base.specs.declared.reason.Verdict.TheVariants.{Running}
-use Rattle.mr_step.specs.Frames.{due_of, frame_of, look_at}
-use Rattle.mr_step.specs.Progress.{ActAnswer, due_asks, due_script}
-use Rattle.mr_step.proofs.Judged.{answer_of, due_asks_for, fault_other, fault_stopped, running_is}
-use Rattle.mr_step.proofs.Soundness.{fits_of, step_due}
+use Rattle.std.proofs.Common.{◌≡◌, true, false, refl, sym, ap, ◌∙◌, None, Option}
+use Rattle.mr_base.specs.declared.thread.Status.{Status}
+use Rattle.mr_frame.specs.Kept.{look_of}
+use Rattle.mr_plan.specs.Legal.{fault}
+use Rattle.mr_plan.specs.Runs.{entry_fault}
+use Rattle.mr_sync.specs.Tables.{is_enabled}
+use Rattle.mr_thread.specs.Steps.{thread_step}
+use Rattle.mr_step.specs.Kept.{config_of, state_of, state_unless}
+use Rattle.mr_step.proofs.EntryLaws.{disabled_breaks, enabled_is, gone_breaks, running_is, stopped_breaks}
+use Rattle.mr_step.proofs.SoundLaws.{state_is}
 use Rattle.mr_step.proofs.advance.advance.Goals as goal
+use Rattle.mr_step.proofs.advance.advance.Goals.{then-p-via-then-p, then-p-via-else-p+then-not-is_running}
 
-pub returns-then-not-is_running-clause-answer : goal.returns-then-not-is_running-clause-answer
-returns-then-not-is_running-clause-answer c =
-    rw c.broken.ensures (fault_stopped (look_at c.args.look.now) c.args.p.now c.args.entry.now (sym c.is_running.ensures ∙ c.if-not-is_running.true), refl)
-
-pub function-function-requires : goal.function-function-requires
-function-function-requires c =
-    let running : c.args.p.now.verdict ≡ Running = running_is c.args.p.now.verdict (sym c.is_running.ensures ∙ c.if-not-is_running.false) in
-    let fits = (c.requires.sound running).fits in
-    slice_get_within c.args.look.now.program.now.functions c.args.p.now.frame.function fits.function fits.is
-
-pub next_of-next-requires : goal.next_of-next-requires
-next_of-next-requires c =
-    let running : c.args.p.now.verdict ≡ Running = running_is c.args.p.now.verdict (sym c.is_running.ensures ∙ c.if-not-is_running.false) in
-    fits_of c.args.look.now.program.now (frame_of c.args.p.now.frame) c.function-function.result.now (c.requires.sound running).fits c.function-function.ensures
-
-pub returns-then-entry-ne0-clause-answer : goal.returns-then-entry-ne0-clause-answer
-returns-then-entry-ne0-clause-answer c =
+pub returns-then-p : goal.returns-then-p
+returns-then-p c =
     let p = c.args.p.now in
-    let look = look_at c.args.look.now in
-    let due = due_of c.next_of-next.result in
-    let running : p.verdict ≡ Running = running_is p.verdict (sym c.is_running.ensures ∙ c.if-not-is_running.false) in
-    rw c.broken-then-entry-ne0.ensures (
-      fault_other look p c.args.entry.now (due_script look c.function-function.result.now (frame_of p.frame) due)
-          (step_due look c.function-function.result.now (frame_of p.frame) due c.function-function.ensures c.next_of-next.ensures) running c.if-entry-ne0.true,
-      refl,
-    )
+    let l = look_of c.args.look.now in
+    let e = c.args.entry.now in
+    let broken : entry_fault (thread_step l) (config_of p) e ≡ fault 66 =
+    elim c.then-p.branch [
+      | then-p-via-then-p w ↦ gone_breaks l (config_of p) e (ap (λ g. state_unless g (state_of p)) w.if-p.true)
+      | then-p-via-else-p+then-not-is_running w ↦ stopped_breaks l (config_of p) e (sym w.is_running.ensures ∙ w.if-not-is_running.true)
+    ] in
+    rw c.broken.ensures (record { broken = broken; same = refl; foot = refl })
 
-pub perform-requires : goal.perform-requires
-perform-requires c =
+pub returns-then-not-is_enabled : goal.returns-then-not-is_enabled
+returns-then-not-is_enabled c =
     let p = c.args.p.now in
-    let running : p.verdict ≡ Running = running_is p.verdict (sym c.is_running.ensures ∙ c.if-not-is_running.false) in
-    let sound = c.requires.sound running in
+    let l = look_of c.args.look.now in
+    let e = c.args.entry.now in
+    let running = running_is p.verdict (sym c.is_running.ensures ∙ c.if-not-is_running.false) in
+    let disabled = ap is_enabled (sym c.status.ensures) ∙ sym c.is_enabled.ensures ∙ c.if-not-is_enabled.true in
+    let broken : entry_fault (thread_step l) (config_of p) e ≡ fault 60 = disabled_breaks l (config_of p) e (state_of p) (state_is p c.if-p.false) running disabled in
+    rw c.broken-then-not-is_enabled.ensures (record { broken = broken; same = refl; foot = refl })
+
+pub take-requires : goal.take-requires
+take-requires c =
+    let p = c.args.p.now in
     record {
-      ready = c.requires.ready;
-      sound = sound;
-      running = running;
-      steps = c.requires.steps;
-      function = c.function-function.ensures;
-      fits = fits_of c.args.look.now.program.now (frame_of p.frame) c.function-function.result.now sound.fits c.function-function.ensures;
-      stands = c.next_of-next.ensures;
+      before = c.requires;
+      there = c.if-p.false;
+      running = running_is p.verdict (sym c.is_running.ensures ∙ c.if-not-is_running.false);
+      enabled = sym c.status.ensures ∙ enabled_is c.status.result (sym c.is_enabled.ensures ∙ c.if-not-is_enabled.false);
     }
-
-pub returns-clause-answer : goal.returns-clause-answer
-returns-clause-answer c =
-    let p = c.args.p.now in
-    let look = look_at c.args.look.now in
-    let fn = c.function-function.result.now in
-    let due = due_of c.next_of-next.result in
-    let script = due_script look fn (frame_of p.frame) due in
-    let running : p.verdict ≡ Running = running_is p.verdict (sym c.is_running.ensures ∙ c.if-not-is_running.false) in
-    let answer : ActAnswer script (due_asks fn due) c.args.entry.now.picks p c.perform.new.p c.perform.result = rw c.as_slice.ensures at c.perform.ensures.answer in
-    answer_of look p c.perform.new.p script (due_asks fn due) c.args.entry.now c.perform.result
-    (step_due look fn (frame_of p.frame) due c.function-function.ensures c.next_of-next.ensures) (due_asks_for look fn (frame_of p.frame) due) running c.if-entry-ne0.false answer

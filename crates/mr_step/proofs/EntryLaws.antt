@@ -1,0 +1,96 @@
+-- What an entry comes to, by the state in which it finds the machine.
+use Rattle.std.proofs.Common.{◌≡◌, ap, ◌∙◌, refl, Bool, true, false, Option, Some, None}
+use Rattle.std.specs.Prelude.{slice_get, if◌then◌else◌}
+use Rattle.mr_base.specs.declared.reason.Verdict.{Verdict}
+use Rattle.mr_base.specs.declared.reason.Verdict.TheVariants as verdict
+use Rattle.mr_base.specs.declared.thread.Status.{Status}
+use Rattle.mr_base.specs.declared.thread.Status.TheVariants.{Enabled, Ended, OnJoin, OnLock}
+use Rattle.mr_sched.specs.declared.schedule.Entry.{Entry}
+use Rattle.mr_sync.specs.Tables.{is_enabled}
+use Rattle.mr_plan.specs.Legal.{Fault, count_of, else_fault, fault, needs_fault, status_fault}
+use Rattle.mr_plan.specs.Machine.{State, Thread, acted, bare, needed, needs, settled}
+use Rattle.mr_plan.specs.Notes.{Notes, start_notes}
+use Rattle.mr_plan.specs.Queries.{Shared}
+use Rattle.mr_plan.specs.Runs.{Config, after_bare, entry_fault, fault_in, foot_from, foot_of_bare, is_running, machine_step, stepped_from}
+use Rattle.mr_frame.specs.Frames.{Look}
+use Rattle.mr_thread.specs.Steps.{Own, thread_step}
+use Rattle.mr_turn.specs.Turning.{picks_break, planned, turned}
+
+-- a verdict with which the machine runs
+pub running_is : (v : Verdict) → is_running v ≡ true → v ≡ verdict.Running
+running_is verdict.Running h = refl
+running_is verdict.Exit h = absurd (cc)
+running_is verdict.Leak h = absurd (cc)
+running_is verdict.Abort h = absurd (cc)
+running_is verdict.Deadlock h = absurd (cc)
+running_is (verdict.Undefined r) h = absurd (cc)
+
+-- a status of a thread that can go on
+pub enabled_is : (o : Option Status) → is_enabled o ≡ true → o ≡ Some Enabled
+enabled_is None h = absurd (cc)
+enabled_is (Some Enabled) h = refl
+enabled_is (Some (OnJoin u)) h = absurd (cc)
+enabled_is (Some (OnLock l)) h = absurd (cc)
+enabled_is (Some Ended) h = absurd (cc)
+
+-- another status, or none
+status_breaks : (o : Option Status) → is_enabled o ≡ false → status_fault o ≡ fault 60
+status_breaks None h = refl
+status_breaks (Some Enabled) h = absurd (cc)
+status_breaks (Some (OnJoin u)) h = refl
+status_breaks (Some (OnLock l)) h = refl
+status_breaks (Some Ended) h = refl
+
+module _ (look : Look) (c : Config Own) (e : Entry) where
+  -- an entry behind a stop
+  pub stopped_breaks : is_running c.verdict ≡ false → entry_fault (thread_step look) c e ≡ fault 66
+  unfolding entry_fault
+  stopped_breaks h = ap (λ (b : Bool). if b then fault_in (thread_step look) e.thread e.picks c.state else fault 66) h
+
+  -- an entry where there is no state
+  pub gone_breaks : c.state ≡ None → entry_fault (thread_step look) c e ≡ fault 66
+  unfolding entry_fault
+  gone_breaks h = ap (λ (o : Option (State Own)). if is_running c.verdict then fault_in (thread_step look) e.thread e.picks o else fault 66) h ∙ both (is_running c.verdict)
+    where
+      both : (b : Bool) → (if b then fault 66 else fault 66) ≡ fault 66
+      both true = refl
+      both false = refl
+
+  module _ (s : State Own) (state : c.state ≡ Some s) where
+    by_state : c.verdict ≡ verdict.Running
+        → entry_fault (thread_step look) c e
+        ≡ else_fault (status_fault (slice_get s.shared.statuses e.thread)) (needs_fault s.shared e.thread (count_of (slice_get s.threads e.thread)) (needs (thread_step look) s e.thread) e.picks)
+    unfolding entry_fault
+    by_state running =
+        ap (λ (v : Verdict). if is_running v then fault_in (thread_step look) e.thread e.picks c.state else fault 66) running
+        ∙ ap (fault_in (thread_step look) e.thread e.picks) state
+
+    -- an entry of a thread that can't go on, or isn't there
+    pub disabled_breaks : c.verdict ≡ verdict.Running → is_enabled (slice_get s.shared.statuses e.thread) ≡ false → entry_fault (thread_step look) c e ≡ fault 60
+    disabled_breaks running h =
+        by_state running
+        ∙ ap (λ (f : Option Fault). else_fault f (needs_fault s.shared e.thread (count_of (slice_get s.threads e.thread)) (needs (thread_step look) s e.thread) e.picks)) (status_breaks (slice_get s.shared.statuses e.thread) h)
+
+    module _ (th : Thread Own) (here : slice_get s.threads e.thread ≡ Some th) where
+      abbrev w : Shared × Notes
+      w = (s.shared, start_notes e.thread th.count)
+
+      -- an entry of a thread that can go on breaks the rule that its picks break
+      pub fault_is : c.verdict ≡ verdict.Running → slice_get s.shared.statuses e.thread ≡ Some Enabled → entry_fault (thread_step look) c e ≡ picks_break w (planned look th.own w) e.picks
+      unfolding planned
+      fault_is running enabled =
+          by_state running
+          ∙ ap (λ (o : Option Status). else_fault (status_fault o) (needs_fault s.shared e.thread (count_of (slice_get s.threads e.thread)) (needs (thread_step look) s e.thread) e.picks)) enabled
+          ∙ ap (λ (o : Option (Thread Own)). needs_fault s.shared e.thread (count_of o) (needed (thread_step look) s e.thread o) e.picks) here
+
+      bare_is : bare (thread_step look) s e.thread e.picks ≡ settled s e.thread (turned look th.own e.picks w)
+      unfolding turned
+      bare_is = ap (acted (thread_step look) s e.thread e.picks) here
+
+      -- where the entry leads, and the footprint of its step
+      pub step_is : machine_step (thread_step look) c e ≡ after_bare c (settled s e.thread (turned look th.own e.picks w))
+      unfolding machine_step
+      step_is = ap (stepped_from (thread_step look) c e.thread e.picks) state ∙ ap (after_bare c) bare_is
+
+      pub feet_are : foot_from (thread_step look) e.thread e.picks c.state ≡ foot_of_bare (settled s e.thread (turned look th.own e.picks w))
+      feet_are = ap (foot_from (thread_step look) e.thread e.picks) state ∙ ap foot_of_bare bare_is

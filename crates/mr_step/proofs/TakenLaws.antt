@@ -1,0 +1,202 @@
+-- Where the turn of an enabled thread leads.
+use Rattle.std.proofs.Common.{◌≡◌, ℕ, zero, suc, ◌+◌, ◌++◌, arith, refl, sym, ap, ◌∙◌, subst, List, [], ◌∷◌, map, length, Bool, true, false, Option, Some, None, Result, Err}
+use Rattle.std.proofs.lemmas.Option.{same_Some, slice_get_within}
+use Rattle.std.proofs.Math.ListN.{length-set}
+use Rattle.std.specs.Prelude.{slice_get, slice_set}
+use Rattle.std.specs.Option.{option_map}
+use Rattle.mr_base.specs.declared.reason.Reason.{Reason}
+use Rattle.mr_base.specs.declared.reason.Verdict.{Verdict}
+use Rattle.mr_base.specs.declared.reason.Verdict.TheVariants as verdict
+use Rattle.mr_event.specs.declared.footprint.Footprint.{Footprint}
+use Rattle.mr_mem.specs.Memory.{Memory}
+use Rattle.mr_sched.specs.declared.schedule.Entry.{Entry}
+use Rattle.mr_script.specs.Script.{Outcome, Refused}
+use Rattle.mr_sync.specs.Tables.{Tables}
+use Rattle.mr_eval.specs.declared.scene.Scene.{Scene}
+use Rattle.mr_plan.specs.Legal.{Fault}
+use Rattle.mr_plan.specs.Machine.{Aborts, Bare, Completed, Exits, Flow as Ways, Goes, IllFormedStep, State, Stops, Thread, settle, settled, started_threads, thread_of}
+use Rattle.mr_plan.specs.Notes.{Notes}
+use Rattle.mr_plan.specs.Queries.{Shared}
+use Rattle.mr_plan.specs.Runs.{Config, after_bare, entry_fault, foot_from, foot_of_bare, machine_step}
+use Rattle.mr_frame.specs.declared.flow.Flow.{Flow}
+use Rattle.mr_frame.specs.declared.flow.Flow.TheVariants as flow
+use Rattle.mr_frame.specs.declared.look.Look.{Look as KeptLook}
+use Rattle.mr_frame.specs.declared.stack.Stack.{Stack as KeptStack}
+use Rattle.mr_frame.specs.Frames.{Look}
+use Rattle.mr_frame.specs.Kept.{look_of}
+use Rattle.mr_thread.specs.Steps.{Own, Turn, thread_step}
+use Rattle.mr_turn.specs.declared.deed.TurnFault.{TurnFault}
+use Rattle.mr_turn.specs.declared.deed.TurnFault.TheVariants as turn
+use Rattle.mr_turn.specs.Turning.{own_of, picks_break, planned, shared_in, turn_by, turned}
+use Rattle.mr_step.specs.declared.progress.Progress.{Progress}
+use Rattle.mr_step.specs.declared.progress.Thread.{Thread as KeptThread}
+use Rattle.mr_step.specs.declared.settle.Act.{Act}
+use Rattle.mr_step.specs.Advance.{ActAnswer, Acts, AdvanceAnswer, Advances, IsDue, Keeps, Stays, WithoutAnswer, act_fault, act_outcome, world_at}
+use Rattle.mr_step.specs.Answers.{Hands, fault_of, stopped}
+use Rattle.mr_step.specs.declared.fault.StepFault.{StepFault}
+use Rattle.mr_step.specs.Kept.{config_of, numbered, printed_of, standing_thread, state_of, state_unless}
+use Rattle.mr_step.specs.Settling.{LeadsTo, Settles, Tells, bare_by}
+use Rattle.mr_step.proofs.EntryLaws.{fault_is, feet_are, step_is}
+use Rattle.mr_step.proofs.Numbered.{numbered_length, numbered_set, set_twice, thread_as}
+use Rattle.mr_step.proofs.SoundLaws.{own_is, sound, state_is, thread_here}
+use Rattle.mr_plan.proofs.Positions.{set_here}
+
+-- a bare step leads on from no state
+bare_leads : {L : Type 0} (c : Config L) (o : Option (State L)) (b : Bare L) → after_bare (record c { state = o }) b ≡ after_bare c b
+bare_leads c o (Completed n s) = refl
+bare_leads c o (Stops v) = refl
+bare_leads c o IllFormedStep = refl
+
+-- what stood in the place of the thread before doesn't matter
+settle_over : (s s' : State Own) (t : ℕ) (x : Thread Own) → s'.threads ≡ slice_set s.threads t x → (f : Ways Own) (w : Shared × Notes) → settle s' t f w ≡ settle s t f w
+settle_over s s' t x e (Goes own started) w = λ i. Completed w.1 (record {
+  shared = w.0;
+  threads = (ap (λ ts. slice_set ts t (thread_of own w.1.tally.count)) e ∙ set_twice s.threads t x (thread_of own w.1.tally.count)) i ++ started_threads started;
+})
+settle_over s s' t x e Exits w = refl
+settle_over s s' t x e Aborts w = refl
+
+-- nor does the stack with which it began
+turn_over : (f : Flow) (t : ℕ) (a b stack : KeptStack) (started : Option Own) → turn_by f (own_of t a) stack started ≡ turn_by f (own_of t b) stack started
+turn_over flow.Went t a b stack started = refl
+turn_over flow.Ended t a b stack started = refl
+turn_over flow.Exit t a b stack started = refl
+turn_over flow.Abort t a b stack started = refl
+
+-- a thread put in the place that it has
+set_same : {A : Type 0} (xs : List A) (i : ℕ) (x : A) → slice_get xs i ≡ Some x → slice_set xs i x ≡ xs
+set_same [] i x h = refl
+set_same (y ∷ xs) zero x h = ap (λ z. z ∷ xs) (sym (same_Some y x h))
+set_same (y ∷ xs) (suc i) x h = ap (λ zs. y ∷ zs) (set_same xs i x h)
+
+-- where a step leads that itself stops
+pub stops_leads : (p : Progress) (v : Verdict) (foot : Footprint) → LeadsTo (Stops v) (config_of p) (config_of (record p { gone = true; verdict = v })) foot foot
+stops_leads p v foot = record { config = refl; foot = stopped refl refl refl }
+
+module _ (look : KeptLook) (e : Entry) (p : Progress) (due : IsDue look e.thread p) (th : KeptThread) (here : slice_get p.threads.items e.thread ≡ Some th) where
+  abbrev t : ℕ
+  t = e.thread
+
+  abbrev l : Look
+  l = look_of look
+
+  abbrev s : State Own
+  s = state_of p
+
+  abbrev outcome : Outcome Turn (Shared × Notes)
+  outcome = act_outcome l t e.picks th p.memory p.sync
+
+  there : (config_of p).state ≡ Some s
+  there = state_is p due.there
+
+  at : slice_get s.threads t ≡ Some (thread_as t th)
+  at = thread_here look t p due th here
+
+  own : (thread_as t th).own ≡ own_of t th.stack
+  own = own_is look t p due th here
+
+  -- the rule that the entry breaks is the one that its picks break
+  pub legal_is : entry_fault (thread_step l) (config_of p) e ≡ act_fault l t e.picks th p.memory p.sync
+  legal_is =
+      fault_is l (config_of p) e s there (thread_as t th) at due.running due.enabled
+      ∙ ap (λ (o : Own). picks_break (world_at t th p.memory p.sync) (planned l o (world_at t th p.memory p.sync)) e.picks) own
+
+  settled_is : settled s t (turned l (thread_as t th).own e.picks (world_at t th p.memory p.sync)) ≡ settled s t outcome
+  settled_is = ap (λ (o : Own). settled s t (turned l o e.picks (world_at t th p.memory p.sync))) own
+
+  -- a legal entry leads where the bare step of its turn does
+  pub leads_on : (b : Bare Own) (q : Progress) (foot foot' : Footprint) → act_fault l t e.picks th p.memory p.sync ≡ None → settled s t outcome ≡ b
+      → LeadsTo b (config_of p) (config_of q) foot foot' → Advances l e (config_of p) (config_of q) foot foot'
+  leads_on b q foot foot' legal is h = record {
+    legal = legal_is ∙ legal;
+    after = h.config ∙ sym (step_is l (config_of p) e s there (thread_as t th) at ∙ ap (after_bare (config_of p)) (settled_is ∙ is));
+    foot = subst (λ (fs : List Footprint). Hands fs p.completed q.completed foot foot') (sym (feet_are l (config_of p) e s there (thread_as t th) at ∙ ap foot_of_bare (settled_is ∙ is))) h.foot;
+  }
+
+  -- the turn stops for a reason
+  pub halts : (r : Reason) (foot : Footprint) → act_fault l t e.picks th p.memory p.sync ≡ None → outcome ≡ Refused r
+      → Advances l e (config_of p) (config_of (record p { gone = true; verdict = verdict.Undefined r })) foot foot
+  halts r foot legal is = leads_on (Stops (verdict.Undefined r)) (record p { gone = true; verdict = verdict.Undefined r }) foot foot legal (ap (settled s t) is) (stops_leads p (verdict.Undefined r) foot)
+
+  -- the picks break a rule, and nothing changed
+  pub stays : (fault : Fault) (new : KeptThread) (m : Memory) (x : Tables) → Keeps l t e.picks th new p.memory m p.sync x fault
+      → (q : Progress) → q.threads.items ≡ slice_set p.threads.items t new → q ≡ record p { memory = m; threads = q.threads; sync = x }
+      → (foot : Footprint) → Stays l e (config_of p) (config_of q) foot foot fault
+  stays fault new m x h q threads same foot = record { broken = legal_is ∙ h.broken; same = config_is; foot = refl }
+    where
+      threads_are : numbered 0 q.threads.items ≡ numbered 0 p.threads.items
+      threads_are = ap (numbered 0) (threads ∙ ap (slice_set p.threads.items t) h.thread ∙ set_same p.threads.items t th here)
+
+      config_is : config_of q ≡ config_of p
+      config_is =
+          ap config_of same
+          ∙ λ i. record (config_of p) {
+            state = state_unless p.gone (record {
+              shared = record { memory = h.memory i; statuses = (h.tables i).statuses; holders = (h.tables i).holders };
+              threads = threads_are i;
+            });
+          }
+
+  -- there is no turn
+  pub untaken : (fault : TurnFault) (new : KeptThread) (m : Memory) (x : Tables) → ActAnswer l t e.picks th new p.memory m p.sync x (Err fault)
+      → (mid q : Progress) → mid.threads.items ≡ slice_set p.threads.items t new → mid ≡ record p { memory = m; threads = mid.threads; sync = x }
+      → (result : Result (Unit {0}) StepFault) → WithoutAnswer fault mid q result
+      → (foot : Footprint) → AdvanceAnswer l e (config_of p) (config_of q) foot foot result
+  untaken (turn.Undefined r) new m x h mid q threads same result w foot =
+      subst (AdvanceAnswer l e (config_of p) (config_of q) foot foot) (sym w.0)
+      (subst (λ (y : Config Own). Advances l e (config_of p) y foot foot)
+      (sym (ap config_of (w.1 ∙ ap (λ (y : Progress). record y { gone = true; verdict = verdict.Undefined r }) same)))
+      (halts r foot h.legal h.refused))
+  untaken (turn.Broken failure) new m x h mid q threads same result w foot =
+      subst (AdvanceAnswer l e (config_of p) (config_of q) foot foot) (sym w.0)
+      (subst (λ (y : Progress). Stays l e (config_of p) (config_of y) foot foot (fault_of failure.code failure.earlier)) (sym w.1)
+      (stays (fault_of failure.code failure.earlier) new m x h mid threads same foot))
+  untaken turn.Memory new m x h mid q threads same result w foot = subst (AdvanceAnswer l e (config_of p) (config_of q) foot foot) (sym w) tt
+
+  -- the turn is taken, and settled
+  module _ (mid q : Progress) (new : KeptThread) (a : Act) (foot foot' : Footprint) (acts : Acts l t e.picks th new p.memory p.sync mid.sync a) (threads : mid.threads.items ≡ slice_set p.threads.items t new)
+      (same : mid ≡ record p { memory = mid.memory; threads = mid.threads; sync = mid.sync }) (settles : Settles mid q t a foot foot') where
+    tells : Tells a.scene a.deed acts.turned.notes
+    tells = record {
+      tally = acts.turned.tally;
+      event = acts.turned.event;
+      ended = acts.turned.ended;
+      woken = acts.turned.woken;
+      printed = acts.turned.printed;
+    }
+
+    at_mid : slice_get mid.threads.items t ≡ Some new
+    at_mid = ap (λ ts. slice_get ts t) threads ∙ set_here p.threads.items t new (slice_get_within p.threads.items t th here)
+
+    abbrev bare_mid : Bare Own
+    bare_mid = bare_by (state_of mid) t new.stack mid.sync a.scene a.deed acts.turned.notes
+
+    numbers : (state_of mid).threads ≡ slice_set s.threads t (thread_as t new)
+    numbers = ap (numbered 0) threads ∙ numbered_set 0 t t p.threads.items new (omega arith)
+
+    many : length (state_of mid).threads ≡ length p.sync.statuses
+    many = ap length numbers ∙ length-set s.threads t (thread_as t new) ∙ sym (sound look t p due).many
+
+    abbrev ways : Option Own → Ways Own
+    ways started = turn_by a.deed.flow (own_of t new.stack) new.stack started
+
+    bare_is : settled s t outcome ≡ bare_mid
+    bare_is =
+        ap (settled s t) acts.turned.goes
+        ∙ ap (λ f. settle s t f (shared_in a.scene mid.sync, acts.turned.notes)) (turn_over a.deed.flow t th.stack new.stack new.stack (option_map (own_of (length p.sync.statuses)) a.deed.started))
+        ∙ ap (λ k. settle s t (ways (option_map (own_of k) a.deed.started)) (shared_in a.scene mid.sync, acts.turned.notes)) (sym many)
+        ∙ sym (settle_over s (state_of mid) t (thread_as t new) numbers (ways (option_map (own_of (length (state_of mid).threads)) a.deed.started)) (shared_in a.scene mid.sync, acts.turned.notes))
+
+    abbrev base : Progress → Config Own
+    base x = record (config_of p) { state = (config_of x).state }
+
+    base_is : config_of mid ≡ base mid
+    base_is = ap (λ (x : Progress). record (config_of x) { state = (config_of mid).state }) same
+
+    pub takes : Advances l e (config_of p) (config_of q) foot foot'
+    takes =
+        let h = settles new acts.turned.notes at_mid tells in
+        leads_on bare_mid q foot foot' acts.legal bare_is (record {
+          config = h.config ∙ ap (λ (x : Config Own). after_bare x bare_mid) base_is ∙ bare_leads (config_of p) (config_of mid).state bare_mid;
+          foot = subst (λ k. Hands (foot_of_bare bare_mid) k q.completed foot foot') (ap (λ (x : Progress). x.completed) same) h.foot;
+        })

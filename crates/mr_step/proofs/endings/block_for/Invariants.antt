@@ -1,6 +1,0 @@
-use Rattle.std.proofs.Common.{◌≡◌, drop}
-use Rattle.mr_step.specs.Endings.{first_case}
-use Rattle.mr_step.proofs.endings.block_for.Given as goal
-
-abbrev pub invariant-loop-case : goal.invariant-loop-case
-invariant-loop-case l = first_case l.number l.cases l.other ≡ first_case l.number (drop l.case-index l.cases) l.other

@@ -1,7 +1,0 @@
-use Rattle.std.proofs.Common.{sym, subst}
-use Rattle.mr_step.specs.Begin.{HaveRoom}
-use Rattle.mr_step.proofs.StartFacts.{have_room}
-use Rattle.mr_step.proofs.pieces.pieces.Goals as goal
-
-pub push_globals-requires : goal.push_globals-requires
-push_globals-requires c = subst HaveRoom (sym c.as_slice-2.ensures) (have_room c.args.p.now c.requires)

@@ -1,0 +1,16 @@
+use Rattle.std.proofs.Common.{◌≡◌, ap, ◌∙◌, arith}
+use Rattle.std.proofs.lemmas.Option.{get_or_from_slice_get}
+use Rattle.std.specs.Prelude.{slice_set}
+use Rattle.mr_step.specs.declared.progress.Thread.{Thread as KeptThread}
+use Rattle.mr_step.specs.Kept.{numbered, standing_thread}
+use Rattle.mr_step.proofs.Numbered.{numbered_set}
+use Rattle.mr_step.proofs.settle.mark.Goals as goal
+
+pub returns : goal.returns
+returns c = λ th here.
+    let all = c.args.threads.now.items in
+    let t = c.args.thread in
+    let one = c.index_mut-one.result.now in
+    let same : one ≡ th = c.index_mut-one.ensures.value ∙ get_or_from_slice_get all t th one here in
+    numbered_set 0 t t all (record { stack = one.stack; ended = c.args.ended; count = c.args.count }) (omega arith)
+    ∙ ap (λ (x : KeptThread). slice_set (numbered 0 all) t (standing_thread t c.args.ended c.args.count x.stack)) same

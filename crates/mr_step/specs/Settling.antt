@@ -1,0 +1,87 @@
+-- What the turn of a thread leads to.
+use Rattle.std.specs.Prelude.{◌≡◌, ℕ, ◌<◌, ◌^◌, false, length, Option, Some, if◌then◌else◌, slice_get}
+use Rattle.std.specs.Option.{option_map}
+use Rattle.mr_base.specs.declared.reason.Reason.TheVariants.{DataRace}
+use Rattle.mr_base.specs.declared.reason.Verdict.{Verdict}
+use Rattle.mr_base.specs.declared.reason.Verdict.TheVariants as verdict
+use Rattle.mr_event.specs.declared.footprint.Footprint.{Footprint}
+use Rattle.mr_sync.specs.Tables.{Tables, is_any_enabled}
+use Rattle.mr_eval.specs.World.{tally_of}
+use Rattle.mr_eval.specs.declared.scene.Scene.{Scene}
+use Rattle.mr_plan.specs.Machine.{Bare, State, settle}
+use Rattle.mr_plan.specs.Notes.{Notes, event_of}
+use Rattle.mr_plan.specs.Runs.{Config, after_bare, foot_of_bare, races_with}
+use Rattle.mr_frame.specs.declared.flow.Flow.{Flow}
+use Rattle.mr_frame.specs.declared.flow.Flow.TheVariants as flow
+use Rattle.mr_frame.specs.declared.stack.Stack.{Stack as KeptStack}
+use Rattle.mr_thread.specs.Steps.{Own}
+use Rattle.mr_turn.specs.declared.deed.Deed.{Deed}
+use Rattle.mr_turn.specs.Turning.{is_end, own_of, printed_lines, shared_in, turn_by}
+use Rattle.mr_step.specs.declared.footprint.Left.{Left}
+use Rattle.mr_step.specs.declared.progress.Progress.{Progress}
+use Rattle.mr_step.specs.declared.progress.Thread.{Thread as KeptThread}
+use Rattle.mr_step.specs.declared.settle.Act.{Act}
+use Rattle.mr_step.specs.Answers.{Hands}
+use Rattle.mr_step.specs.Kept.{config_of, state_of}
+
+-- the footprint of a turn
+abbrev pub foot_by : Scene → Deed → Footprint
+foot_by s d = record {
+  thread = s.thread;
+  accesses = s.notes.accesses;
+  allocated = s.made;
+  freed = s.freed;
+  touched = s.notes.touched;
+  event = d.event;
+  ended = is_end d.flow;
+  woken = d.woken.items;
+}
+
+-- what a completed step leaves
+pub record IsLeft (s : Scene) (d : Deed) (left : Left) : Type 0 where
+  pub foot : left.foot ≡ foot_by s d
+  pub memory : left.memory ≡ s.memory
+  pub count : left.count ≡ s.count
+
+-- the verdict behind a completed step with this footprint, by the footprint of the step before and the tables
+abbrev pub verdict_in : Option Footprint → Footprint → Tables → Verdict
+verdict_in last f x =
+    if races_with f last then verdict.Undefined DataRace
+    else (if is_any_enabled x then verdict.Running else verdict.Deadlock)
+
+-- the notes tell what the scene and the deed have
+pub record Tells (s : Scene) (d : Deed) (n : Notes) : Type 0 where
+  pub tally : n.tally ≡ tally_of s
+  pub event : event_of n.events ≡ d.event
+  pub ended : n.ended ≡ is_end d.flow
+  pub woken : n.woken ≡ d.woken.items
+  pub printed : n.printed ≡ printed_lines (option_map (λ text. text.items) d.text)
+
+-- what the turn of thread t comes to, with this stack and these tables behind it
+abbrev pub bare_by : State Own → ℕ → KeptStack → Tables → Scene → Deed → Notes → Bare Own
+bare_by s t stack x scene d n =
+    settle s t (turn_by d.flow (own_of t stack) stack (option_map (own_of (length s.threads)) d.started)) (shared_in scene x, n)
+
+-- where a bare step leads, and what footprint is handed out
+pub record LeadsTo (b : Bare Own) (old new : Config Own) (f f' : Footprint) : Type 0 where
+  pub config : new ≡ after_bare old b
+  pub foot : Hands (foot_of_bare b) old.completed new.completed f f'
+
+-- the thread goes on, or has ended
+abbrev pub IsOn : Flow → Type 0
+IsOn flow.Went = Unit {0}
+IsOn flow.Ended = Unit {0}
+IsOn flow.Exit = ⊥
+IsOn flow.Abort = ⊥
+
+-- there is a state in which thread t stands, and fewer than 2^32 steps were completed
+pub record CanSettle (p : Progress) (t : ℕ) : Type 0 where
+  pub thread : t < length p.threads.items
+  pub there : p.gone ≡ false
+  pub steps : p.completed < 2 ^ 32
+
+-- the act of thread t, whose new stack already stands in its place, leads from old to new
+abbrev pub Settles : Progress → Progress → ℕ → Act → Footprint → Footprint → Type 0
+Settles old new t a f f' =
+    (th : KeptThread) (n : Notes) → slice_get old.threads.items t ≡ Some th → Tells a.scene a.deed n
+    → LeadsTo (bare_by (state_of old) t th.stack old.sync a.scene a.deed n) (config_of old) (config_of new) f f'

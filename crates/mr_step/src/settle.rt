@@ -1,0 +1,119 @@
+//! What the turn of a thread leads to.
+ghost use Rattle.std.specs.Prelude.{◌≡◌, ◌+◌, ◌++◌, ◌<◌, ◌^◌, OnOk, length, map, slice_get, slice_set, if◌then◌else◌};
+ghost use Rattle.std.specs.Option.{option_map};
+ghost use Rattle.mr_mem.specs.Memory.{leaks};
+ghost use Rattle.mr_base.specs.declared.reason.Verdict.TheVariants as verdict;
+ghost use Rattle.mr_plan.specs.Machine.{started_threads};
+ghost use Rattle.mr_plan.specs.Runs.{printed_by};
+ghost use Rattle.mr_turn.specs.Turning.{own_of, printed_lines};
+ghost use Rattle.mr_step.specs.Kept.{numbered, printed_of, standing_thread};
+ghost use Rattle.mr_step.specs.declared.progress.Thread.{Thread as KeptThread};
+ghost use Rattle.mr_step.specs.Settling.{CanSettle, IsOn, Settles};
+
+use crate::copies::copied;
+use crate::footprint::{done, is_end, verdict_behind};
+use crate::progress::{Line, Progress, Thread};
+use mr_base::Verdict;
+use mr_eval::Scene;
+use mr_event::Footprint;
+use mr_frame::{Flow, Stack};
+use mr_mem::Memory;
+use mr_turn::Deed;
+use std::alloc::{AllocError, Global};
+
+/// What the turn of a thread did: what it left of memory and noted of it, and its deed.
+#[derive(Drop)]
+pub struct Act {
+    pub scene: Scene,
+    pub deed: Deed,
+}
+
+// The print of a step, where it made one.
+fn print(output: &mut Vec<Line>, thread: u32, text: Option<Vec<u8>>) -> Result<(), AllocError>
+    ensures { OnOk result (map printed_of output.new.items ≡ map printed_of output.old.items ++ map (printed_by thread) (printed_lines (option_map (λ t. t.items) text))) }
+{
+    if let Some(text) = text {
+        output.push(Line { thread, text })?;
+    }
+    Ok(())
+}
+
+// A thread that was started joins the others.
+fn join(threads: &mut Vec<Thread>, started: Option<Stack>) -> Result<(), AllocError>
+    ensures { OnOk result (numbered 0 threads.new.items ≡ numbered 0 threads.old.items ++ started_threads (option_map (own_of (length threads.old.items)) started)) }
+{
+    if let Some(stack) = started {
+        threads.push(Thread {
+            stack,
+            ended: false,
+            count: 0,
+        })?;
+    }
+    Ok(())
+}
+
+// Whether the thread has ended, and how many allocations it has made.
+fn mark(threads: &mut Vec<Thread>, thread: u32, ended: bool, count: u64)
+    requires { thread < length threads.old.items }
+    ensures { (th : KeptThread) → slice_get threads.old.items thread ≡ Some th → numbered 0 threads.new.items ≡ slice_set (numbered 0 threads.old.items) thread (standing_thread thread ended count th.stack) }
+{
+    let one = &mut threads[thread as usize];
+    one.ended = ended;
+    one.count = count;
+}
+
+// A completed step.
+fn complete(
+    alloc: Global,
+    p: &mut Progress,
+    thread: u32,
+    act: Act,
+    foot: &mut Footprint,
+) -> Result<(), AllocError>
+    requires flow { IsOn act.deed.flow }
+    requires at { CanSettle p.old thread }
+    ensures { OnOk result (Settles p.old p.new thread act foot.old foot.new) }
+{
+    let Act { scene, deed } = act;
+    let left = done(alloc, scene, &deed)?;
+    let handed = copied(alloc, &left.foot)?;
+    print(&mut p.output, left.foot.thread, deed.text)?;
+    mark(&mut p.threads, thread, is_end(deed.flow), left.count);
+    join(&mut p.threads, deed.started)?;
+    p.verdict = verdict_behind(p.last.as_ref(), &left.foot, &p.sync);
+    p.memory = left.memory;
+    p.last = Some(left.foot);
+    p.completed += 1;
+    *foot = handed;
+    Ok(())
+}
+
+// An exit while a heap allocation is live is a leak.
+fn end_of(memory: &Memory) -> Verdict
+    ensures { result ≡ (if leaks memory.now then verdict.Leak else verdict.Exit) }
+{
+    if memory.leaks() {
+        Verdict::Leak
+    } else {
+        Verdict::Exit
+    }
+}
+
+/// Where the turn of a thread leads.
+pub fn settle(
+    alloc: Global,
+    p: &mut Progress,
+    thread: u32,
+    act: Act,
+    foot: &mut Footprint,
+) -> Result<(), AllocError>
+    requires { CanSettle p.old thread }
+    ensures { OnOk result (Settles p.old p.new thread act foot.old foot.new) }
+{
+    match act.deed.flow {
+        Flow::Went | Flow::Ended => complete(alloc, p, thread, act, foot)?,
+        Flow::Exit => p.stop(end_of(&act.scene.memory)),
+        Flow::Abort => p.stop(Verdict::Abort),
+    }
+    Ok(())
+}
