@@ -17,7 +17,6 @@ refusal_told : (answer : Answer) (r : Refusal) → Tells answer (Err r) → (r �
 refusal_told answer refusal.Memory h = inl refl
 refusal_told answer refusal.ReadProgram h = inr h
 refusal_told answer (refusal.Text at col code) h = inr h
-refusal_told answer refusal.NotBuilt h = inr h
 refusal_told answer refusal.ReadSchedule h = inr h
 refusal_told answer (refusal.Schedule at code earlier) h = inr h
 
@@ -29,7 +28,7 @@ module _ (files : Contents) (files_rose out_rose : Type 0) (old new : Option (Li
       → Ends files (Some command) files_rose out_rose old new status
   written_ends (Run program schedule) a (inl tells) written = inr (seen a, inl tells, written)
   written_ends (Run program schedule) a (inr (rose, inl e)) written = absurd (cc)
-  written_ends (Run program schedule) a (inr (rose, inr (p, built, unbroken, e))) written = absurd (cc)
+  written_ends (Run program schedule) a (inr (rose, inr (p, read, unbroken, e))) written = absurd (cc)
   written_ends (Check program) a (inl tells) written = inr (seen a, inl tells, written)
   written_ends (Check program) a (inr (rose, e)) written = absurd (cc)
 
@@ -38,7 +37,7 @@ module _ (files : Contents) (files_rose out_rose : Type 0) (old new : Option (Li
   is_defined (Run program schedule) r (inl tells) =
       elim (refusal_told (answer_of files (Some (Run program schedule))) r tells) [ inl e ↦ inl e | inr e ↦ inr (inl (sym e)) ]
   is_defined (Run program schedule) r (inr (rose, inl e)) = inr (inr (rose, inl (ap refused (same_refusal e))))
-  is_defined (Run program schedule) r (inr (rose, inr (p, built, unbroken, e))) = inr (inr (rose, inr (p, built, unbroken, ap refused (same_refusal e))))
+  is_defined (Run program schedule) r (inr (rose, inr (p, read, unbroken, e))) = inr (inr (rose, inr (p, read, unbroken, ap refused (same_refusal e))))
   is_defined (Check program) r (inl tells) =
       elim (refusal_told (answer_of files (Some (Check program))) r tells) [ inl e ↦ inl e | inr e ↦ inr (inl (sym e)) ]
   is_defined (Check program) r (inr (rose, e)) = inr (inr (rose, ap refused (same_refusal e)))
@@ -50,8 +49,6 @@ module _ (files : Contents) (files_rose out_rose : Type 0) (old new : Option (Li
   left_or_written refusal.ReadProgram (inr h) = inr ((λ e. absurd (cc)), h)
   left_or_written (refusal.Text at col code) (inl h) = inl h
   left_or_written (refusal.Text at col code) (inr h) = inr ((λ e. absurd (cc)), h)
-  left_or_written refusal.NotBuilt (inl h) = inl h
-  left_or_written refusal.NotBuilt (inr h) = inr ((λ e. absurd (cc)), h)
   left_or_written refusal.ReadSchedule (inl h) = inl h
   left_or_written refusal.ReadSchedule (inr h) = inr ((λ e. absurd (cc)), h)
   left_or_written (refusal.Schedule at code earlier) (inl h) = inl h
@@ -88,9 +85,6 @@ module _ (rose : Type 0) (taken : List ℕ) (new : Option (List ℕ)) (status : 
   program_unread (refusal.Text at col code) (inl h) = let eight = h.0 in absurd (omega arith)
   program_unread (refusal.Text at col code) (inr (inl h)) = let three : status ≡ 3 = h.0 in absurd (omega arith)
   program_unread (refusal.Text at col code) (inr (inr h)) = let seven = h.0 in absurd (omega arith)
-  program_unread refusal.NotBuilt (inl h) = let eight = h.0 in absurd (omega arith)
-  program_unread refusal.NotBuilt (inr (inl h)) = let three : status ≡ 3 = h.0 in absurd (omega arith)
-  program_unread refusal.NotBuilt (inr (inr h)) = let seven = h.0 in absurd (omega arith)
   program_unread refusal.ReadSchedule (inl h) = let eight = h.0 in absurd (omega arith)
   program_unread refusal.ReadSchedule (inr (inl h)) = absurd (other_line taken (sym h.1 ∙ line))
   program_unread refusal.ReadSchedule (inr (inr h)) = let seven = h.0 in absurd (omega arith)

@@ -11,19 +11,19 @@ use Rattle.mr_grammar.specs.Faults.{FirstFault}
 use Rattle.mr_grammar.proofs.ParsingLaws.{denotes_parsed, fault_parsed}
 use Rattle.mr_sched.specs.declared.schedule.Schedule.{Schedule}
 use Rattle.mr_sched.proofs.TextLaws.{schedule_again, schedule_fails_at}
-use Rattle.mr_step.specs.Built.{Built}
-use Rattle.mr_step.specs.Start.{PlacedFault, run_of}
-use Rattle.mr_step.proofs.BuiltLaws.{built_told, not_built_told}
-use Rattle.mr_step.proofs.RunLaws.{no_schedule_fault}
-use Rattle.mr_step.proofs.SoundRuns.{sound_run}
+use Rattle.mr_event.specs.declared.footprint.Pair.{Pair}
+use Rattle.mr_event.specs.Predicted.{predicted}
+use Rattle.mr_start.specs.Start.{PlacedFault, run_of, steps_of}
+use Rattle.mr_start.proofs.RunLaws.{no_schedule_fault}
+use Rattle.mr_start.proofs.StartSound.{sound_run}
 use Rattle.mr_wf.specs.declared.fault.FormFault.{FormFault}
 use Rattle.mr_wf.specs.Walk.{faults_of}
 use Rattle.mr_command.specs.declared.refusal.Refusal.TheVariants as refusal
 use Rattle.mr_command.specs.Command.{Command, Run, Check}
-use Rattle.mr_command.specs.Answer.{Answer, program_in, if_built, built_in, schedule_in, denoted, spelled, text_refusal, legal_run, unless_broken, canonical, check_answer, form_answer, form_or, refused, report_under, reported, run_answer, told, answer_of, ◌>>=◌}
-use Rattle.mr_command.specs.Report.{verdict_status}
+use Rattle.mr_command.specs.Answer.{Answer, program_in, ran, schedule_in, denoted, spelled, text_refusal, legal_run, unless_broken, canonical, check_answer, form_answer, form_or, refused, report_under, reported, run_answer, told, answer_of, ◌>>=◌}
+use Rattle.mr_command.specs.Report.{report_status, verdict_status}
 use Rattle.mr_command.specs.Outcome.{Ends, RanOut, IsLeft, IsPossible, IsUnread, IsWritten}
-use Rattle.mr_command.specs.Headline.{ChecksProgram, Names, NamesBroken, NamesBrokenSchedule, NamesFault, NamesScheduleFault, RunsProgram, RunsUnbuilt, IsOfMachine, IsTold}
+use Rattle.mr_command.specs.Headline.{ChecksProgram, Names, NamesBroken, NamesBrokenSchedule, NamesFault, NamesScheduleFault, RunsProgram, IsOfMachine, IsTold}
 use Rattle.mr_command.proofs.AnswerLaws.{first_told}
 
 -- ---- what a file holds
@@ -34,21 +34,14 @@ denoted_in file text p there d = ap program_in there ∙ ap denoted (denotes_par
 fault_in : (file : Option (List ℕ)) (text : List ℕ) (fault : TextFault) → file ≡ Some text → FirstFault text fault → program_in file ≡ Err (text_refusal fault)
 fault_in file text fault there f = ap program_in there ∙ ap denoted (fault_parsed text fault f)
 
-built_program : (p : Program) → Built p → if_built p ≡ Ok p
-built_program p h = ap (λ (b : Bool). if b then Ok p else Err refusal.NotBuilt) (built_told p h)
-
-unbuilt_program : (p : Program) → ¬ Built p → if_built p ≡ Err refusal.NotBuilt
-unbuilt_program p none = ap (λ (b : Bool). if b then Ok p else Err refusal.NotBuilt) (not_built_told p none)
-
 -- ---- the answers by definition
 
 -- a well-formed program and a legal schedule are answered by the report of their run
-pub named_answer : (files : Contents) (command : Option Command) (p : Program) (w : Schedule) → Names files command p w → answer_of files command ≡ reported (run_of p w)
+pub named_answer : (files : Contents) (command : Option Command) (p : Program) (w : Schedule) → Names files command p w → answer_of files command ≡ reported (ran p w)
 named_answer files command p w h =
-    let program : built_in (files h.program_name) ≡ Ok p =
-    ap (λ r. r >>= if_built) (denoted_in (files h.program_name) h.program_text p h.program_there h.denotes) ∙ built_program p h.built in
+    let program = denoted_in (files h.program_name) h.program_text p h.program_there h.denotes in
     let schedule : schedule_in (files h.schedule_name) ≡ Ok w = ap schedule_in h.schedule_there ∙ ap spelled (schedule_again h.schedule_text w h.schedules) in
-    let legal : legal_run p w ≡ Ok (run_of p w) = ap (λ f. unless_broken f (run_of p w)) (no_schedule_fault p w h.legal) in
+    let legal : legal_run p w ≡ Ok (ran p w) = ap (λ f. unless_broken f (ran p w)) (no_schedule_fault p w h.legal) in
     ap (answer_of files) h.is_run
     ∙ ap (told (run_answer (files h.schedule_name))) program
     ∙ ap (λ faults. form_or p faults (report_under (files h.schedule_name) p)) h.well_formed.unbroken
@@ -71,36 +64,27 @@ fault_answer files command fault h = go h.names_program
 
     go : (command ≡ Some (Check h.name)) ⊎ ((schedule : List ℕ) × (command ≡ Some (Run h.name schedule))) → answer_of files command ≡ refused (text_refusal fault)
     go (inl is) = ap (answer_of files) is ∙ ap (told check_answer) at
-    go (inr run) = ap (answer_of files) run.1 ∙ ap (λ r. told (run_answer (files run.0)) (r >>= if_built)) at
+    go (inr run) = ap (answer_of files) run.1 ∙ ap (told (run_answer (files run.0))) at
 
--- a program that isn't built is refused by a run
-unbuilt_answer : (files : Contents) (command : Option Command) (p : Program) → RunsUnbuilt files command p → answer_of files command ≡ refused refusal.NotBuilt
-unbuilt_answer files command p h =
-    ap (answer_of files) h.is_run
-    ∙ ap (λ r. told (run_answer (files h.schedule_name)) (r >>= if_built)) (denoted_in (files h.name) h.text p h.there h.denotes)
-    ∙ ap (told (run_answer (files h.schedule_name))) (unbuilt_program p h.not_built)
-
--- the first rule that a program breaks is told by a check, and by a run of a program that is built
+-- the first rule that a program breaks is told by each command
 broken_answer : (files : Contents) (command : Option Command) (p : Program) (fault : FormFault) → NamesBroken files command p fault → answer_of files command ≡ form_answer p fault
 broken_answer files command p fault h = go h.judges
   where
     at : program_in (files h.name) ≡ Ok p
     at = denoted_in (files h.name) h.text p h.there h.denotes
 
-    go : (command ≡ Some (Check h.name)) ⊎ ((schedule : List ℕ) × (command ≡ Some (Run h.name schedule)) × Built p) → answer_of files command ≡ form_answer p fault
+    go : (command ≡ Some (Check h.name)) ⊎ ((schedule : List ℕ) × (command ≡ Some (Run h.name schedule))) → answer_of files command ≡ form_answer p fault
     go (inl is) = ap (answer_of files) is ∙ ap (told check_answer) at ∙ first_told p (faults_of p) fault (canonical p) h.first
-    go (inr (schedule, is, built)) =
+    go (inr (schedule, is)) =
         ap (answer_of files) is
-        ∙ ap (λ r. told (run_answer (files schedule)) (r >>= if_built)) at
-        ∙ ap (told (run_answer (files schedule))) (built_program p built)
+        ∙ ap (told (run_answer (files schedule))) at
         ∙ first_told p (faults_of p) fault (report_under (files schedule) p) h.first
 
 -- a well-formed program that is run is answered by what its schedule's file gives
 run_answer_of : (files : Contents) (command : Option Command) (p : Program) (schedule : List ℕ) → RunsProgram files command p schedule
     → answer_of files command ≡ report_under (files schedule) p
 run_answer_of files command p schedule h =
-    let program : built_in (files h.name) ≡ Ok p =
-    ap (λ r. r >>= if_built) (denoted_in (files h.name) h.text p h.there h.denotes) ∙ built_program p h.built in
+    let program = denoted_in (files h.name) h.text p h.there h.denotes in
     ap (answer_of files) h.is_run
     ∙ ap (told (run_answer (files schedule))) program
     ∙ ap (λ faults. form_or p faults (report_under (files schedule) p)) h.well_formed.unbroken
@@ -120,7 +104,7 @@ broken_schedule_answer files command fault h =
     run_answer_of files command h.program h.schedule_name h.runs
     ∙ ap (λ file. report_under file h.program) h.there
     ∙ ap (λ r. told reported (spelled r >>= legal_run h.program)) (schedule_again h.text h.schedule h.schedules)
-    ∙ ap (λ f. told reported (unless_broken f (run_of h.program h.schedule))) h.first
+    ∙ ap (λ f. told reported (unless_broken f (ran h.program h.schedule))) h.first
 
 -- ---- how a call ends
 
@@ -159,7 +143,7 @@ module _ (files : Contents) (command : Option Command) (files_rose out_rose : Ty
 
   pub of_machine : (p : Program) (w : Schedule) → Names files command p w → Ends files command files_rose out_rose old new status
       → IsOfMachine p w files_rose out_rose old new status
-  of_machine p w h e = record { sound = sound_run p w h.built h.well_formed h.legal; report = ends_told (reported (run_of p w)) (named_answer files command p w h) e }
+  of_machine p w h e = record { sound = sound_run p w h.well_formed h.legal; report = ends_told (reported (ran p w)) (named_answer files command p w h) e }
 
   pub canonical_told : (p : Program) → ChecksProgram files command p → Ends files command files_rose out_rose old new status
       → IsTold (canonical p) files_rose out_rose old new status
@@ -173,10 +157,6 @@ module _ (files : Contents) (command : Option Command) (files_rose out_rose : Ty
       → IsTold (form_answer p fault) files_rose out_rose old new status
   form_told p fault h e = ends_told (form_answer p fault) (broken_answer files command p fault h) e
 
-  pub unbuilt_told : (p : Program) → RunsUnbuilt files command p → Ends files command files_rose out_rose old new status
-      → IsTold (refused refusal.NotBuilt) files_rose out_rose old new status
-  unbuilt_told p h e = ends_told (refused refusal.NotBuilt) (unbuilt_answer files command p h) e
-
   pub schedule_fault_told : (line code : ℕ) → NamesScheduleFault files command line code → Ends files command files_rose out_rose old new status
       → IsTold (refused (refusal.Schedule line code None)) files_rose out_rose old new status
   schedule_fault_told line code h e = ends_told (refused (refusal.Schedule line code None)) (schedule_fault_answer files command line code h) e
@@ -186,21 +166,25 @@ module _ (files : Contents) (command : Option Command) (files_rose out_rose : Ty
   broken_schedule_told fault h e =
       ends_told (refused (refusal.Schedule fault.line fault.fault.code fault.fault.earlier)) (broken_schedule_answer files command fault h) e
 
-pub at_most_one : (v : Verdict) → verdict_status v ≤ 1
-at_most_one verdict.Running = omega arith
-at_most_one verdict.Exit = omega arith
-at_most_one verdict.Leak = omega arith
-at_most_one verdict.Abort = omega arith
-at_most_one verdict.Deadlock = omega arith
-at_most_one (verdict.Undefined r) = omega arith
+verdict_at_most_one : (v : Verdict) → verdict_status v ≤ 1
+verdict_at_most_one verdict.Running = omega arith
+verdict_at_most_one verdict.Exit = omega arith
+verdict_at_most_one verdict.Leak = omega arith
+verdict_at_most_one verdict.Abort = omega arith
+verdict_at_most_one verdict.Deadlock = omega arith
+verdict_at_most_one (verdict.Undefined r) = omega arith
+
+pub at_most_one : (v : Verdict) (races : List Pair) → report_status v races ≤ 1
+at_most_one v [] = verdict_at_most_one v
+at_most_one v (p ∷ races) = omega arith
 
 -- without faults the status is that of the report, unless memory ran out
 pub unless_faults : (p : Program) (w : Schedule) (files_rose out_rose : Type 0) (old new : Option (List ℕ)) (status : ℕ) → IsOfMachine p w files_rose out_rose old new status
     → ¬ files_rose → ¬ out_rose → (status ≤ 1) ⊎ (status ≡ 8)
 unless_faults p w files_rose out_rose old new status m no_read no_write =
     elim m.report [
-      | inl written ↦ elim (written_status (reported (run_of p w)) out_rose old new status written) [
-        | inl s ↦ inl (let least = at_most_one (run_of p w).verdict in omega arith)
+      | inl written ↦ elim (written_status (reported (ran p w)) out_rose old new status written) [
+        | inl s ↦ inl (let least = at_most_one (run_of p w).verdict (predicted (steps_of p w)) in omega arith)
         | inr f ↦ absurd (no_write f.0)
       ]
       | inr left ↦ elim left [

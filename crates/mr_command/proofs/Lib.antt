@@ -1,10 +1,10 @@
+pub mod AloneLaws
 pub mod AnswerLaws
 pub mod EndLaws
 pub mod Examples
 pub mod HeadlineLaws
 pub mod InputLaws
 pub mod OnlyLaws
-pub mod PrintLaws
 pub mod RunLaws
 pub mod TextLaws
 pub mod UnreadLaws

@@ -11,17 +11,13 @@ use Rattle.mr_grammar.proofs.Shape.ShapedLaws.{denoted_is_shaped}
 use Rattle.mr_sched.specs.declared.schedule.Schedule.{Schedule}
 use Rattle.mr_sched.specs.Reading.{Fault, schedule_of}
 use Rattle.mr_sched.proofs.TextLaws.{schedule_read}
-use Rattle.mr_step.specs.Built.{is_built}
-use Rattle.mr_step.specs.Runs.{Config}
-use Rattle.mr_step.specs.Language.{Own}
-use Rattle.mr_step.specs.Start.{PlacedFault, run_of, schedule_fault}
-use Rattle.mr_step.proofs.BuiltLaws.{built_then}
-use Rattle.mr_step.proofs.RunLaws.{legal_schedule}
+use Rattle.mr_start.specs.Start.{PlacedFault, schedule_fault}
+use Rattle.mr_start.proofs.RunLaws.{legal_schedule}
 use Rattle.mr_wf.specs.declared.fault.FormFault.{FormFault}
 use Rattle.mr_wf.specs.Walk.{WellFormed, faults_of}
 use Rattle.mr_command.specs.declared.refusal.Refusal.TheVariants as refusal
 use Rattle.mr_command.specs.Command.{Command, Run, Check}
-use Rattle.mr_command.specs.Answer.{Answer, answer_of, built_in, canonical, check_answer, denoted, form_or, if_built, legal_run, program_in, report_under, reported, run_answer, spelled, told, unless_broken, ◌>>=◌}
+use Rattle.mr_command.specs.Answer.{Answer, Ran, answer_of, canonical, check_answer, denoted, form_or, legal_run, program_in, ran, report_under, reported, run_answer, spelled, told, unless_broken, ◌>>=◌}
 use Rattle.mr_command.specs.Outcome.{Ends, IsWhole}
 use Rattle.mr_command.specs.Headline.{ChecksProgram, Names, ReportsLegalRun, WritesCanonical}
 use Rattle.mr_command.proofs.HeadlineLaws.{checked_answer, named_answer, ran_out, unread_status}
@@ -32,13 +28,13 @@ unbroken_well_formed text p parses none = record { shaped = denoted_is_shaped te
 
 -- ---- where a status is at most 1
 
-no_fault : (f : Option PlacedFault) (c : Config Own) → (told reported (unless_broken f c)).status ≤ 1 → f ≡ None
+no_fault : (f : Option PlacedFault) (c : Ran) → (told reported (unless_broken f c)).status ≤ 1 → f ≡ None
 no_fault None c s = refl
 no_fault (Some f) c s = let five : 5 ≤ 1 = s in absurd (omega arith)
 
 legal_schedule_of : (p : Program) (r : Result Schedule Fault) → (told reported (spelled r >>= legal_run p)).status ≤ 1
     → (w : Schedule) × (r ≡ Ok w) × (schedule_fault p w ≡ None)
-legal_schedule_of p (Ok w) s = (w, refl, no_fault (schedule_fault p w) (run_of p w) s)
+legal_schedule_of p (Ok w) s = (w, refl, no_fault (schedule_fault p w) (ran p w) s)
 legal_schedule_of p (Err f) s = let five : 5 ≤ 1 = s in absurd (omega arith)
 
 legal_schedule_in : (p : Program) (file : Option (List ℕ)) → (report_under file p).status ≤ 1
@@ -50,21 +46,18 @@ no_broken_rule : (p : Program) (faults : List FormFault) (a : Answer) → (form_
 no_broken_rule p [] a s = (refl, s)
 no_broken_rule p (f ∷ faults) a s = let four : 4 ≤ 1 = s in absurd (omega arith)
 
--- a program that is run to a report is built, breaks no rule, and its schedule is reported
+-- a program that is run to a report breaks no rule, and its schedule is reported
 pub record IsRunSoundly (p : Program) (schedule : Option (List ℕ)) : Type 0 where
-  pub built : is_built p ≡ true
   pub unbroken : faults_of p ≡ []
   pub small : (report_under schedule p).status ≤ 1
 
-run_soundly : (b : Bool) (p : Program) (schedule : Option (List ℕ)) → is_built p ≡ b
-    → (told (run_answer schedule) (if b then Ok p else Err refusal.NotBuilt)).status ≤ 1 → IsRunSoundly p schedule
-run_soundly true p schedule e s =
-    let unbroken = no_broken_rule p (faults_of p) (report_under schedule p) s in record { built = e; unbroken = unbroken.0; small = unbroken.1 }
-run_soundly false p schedule e s = let three : 3 ≤ 1 = s in absurd (omega arith)
+run_soundly : (p : Program) (schedule : Option (List ℕ)) → (run_answer schedule p).status ≤ 1 → IsRunSoundly p schedule
+run_soundly p schedule s =
+    let unbroken = no_broken_rule p (faults_of p) (report_under schedule p) s in record { unbroken = unbroken.0; small = unbroken.1 }
 
-sound_program_of : (r : Result Program TextFault) (schedule : Option (List ℕ)) → (told (run_answer schedule) (denoted r >>= if_built)).status ≤ 1
+sound_program_of : (r : Result Program TextFault) (schedule : Option (List ℕ)) → (told (run_answer schedule) (denoted r)).status ≤ 1
     → (p : Program) × (r ≡ Ok p) × IsRunSoundly p schedule
-sound_program_of (Ok p) schedule s = (p, refl, run_soundly (is_built p) p schedule refl s)
+sound_program_of (Ok p) schedule s = (p, refl, run_soundly p schedule s)
 sound_program_of (Err f) schedule s = let three : 3 ≤ 1 = s in absurd (omega arith)
 
 unbroken_program_of : (r : Result Program TextFault) → (told check_answer (denoted r)).status ≤ 1 → (p : Program) × (r ≡ Ok p) × (faults_of p ≡ [])
@@ -72,7 +65,7 @@ unbroken_program_of (Ok p) s = (p, refl, (no_broken_rule p (faults_of p) (canoni
 unbroken_program_of (Err f) s = let three : 3 ≤ 1 = s in absurd (omega arith)
 
 module _ (files : Contents) where
-  named_of : (program schedule : List ℕ) (file : Option (List ℕ)) → files program ≡ file → (told (run_answer (files schedule)) (built_in file)).status ≤ 1
+  named_of : (program schedule : List ℕ) (file : Option (List ℕ)) → files program ≡ file → (told (run_answer (files schedule)) (program_in file)).status ≤ 1
       → (p : Program) × (w : Schedule) × Names files (Some (Run program schedule)) p w
   named_of program schedule None e s = let six : 6 ≤ 1 = s in absurd (omega arith)
   named_of program schedule (Some text) e s =
@@ -87,7 +80,6 @@ module _ (files : Contents) where
           program_text = text;
           program_there = e;
           denotes = parsed_denotes text p parses;
-          built = built_then p sound.built;
           well_formed = unbroken_well_formed text p parses sound.unbroken;
           schedule_text = schedule_text;
           schedule_there = there;
@@ -135,7 +127,7 @@ module _ (files : Contents) (files_rose out_rose : Type 0) (old new : Option (Li
       let command = Some (Run program schedule) in
       let whole = whole_answer command ends s in
       let (p, w, names) = named_of files program schedule (files program) refl (small_answer (answer_of files command) whole s) in
-      (p, w, names, same_whole (answer_of files command) (reported (run_of p w)) (named_answer files command p w names) whole)
+      (p, w, names, same_whole (answer_of files command) (reported (ran p w)) (named_answer files command p w names) whole)
 
   check_only : (program : List ℕ) → Ends files (Some (Check program)) files_rose out_rose old new status → status ≤ 1
       → WritesCanonical files (Some (Check program)) old new status

@@ -1,77 +1,135 @@
 -- Where entries lead from where a machine stands.
-use Rattle.std.proofs.Common.{◌≡◌, ℕ, ◌+◌, refl, sym, ap, ◌∙◌, subst, List, [], ◌∷◌, false, suc, ◌<◌, ◌≤◌, arith, drop, length}
+use Rattle.std.proofs.Common.{◌≡◌, ℕ, ◌+◌, refl, sym, ap, ap₂, ◌∙◌, subst, Bool, List, [], ◌∷◌, ◌++◌, true, false, not, suc, ◌<◌, ◌≤◌, arith, drop, length, append-nil, append_assoc}
+use Rattle.std.proofs.lemmas.Bool.Decides.{nat_tests}
 use Rattle.std.proofs.Math.Seq.{drop-cons}
-use Rattle.std.specs.Prelude.{get_or, Some, None, Option, Ok, Err}
+use Rattle.std.specs.Prelude.{get_or, Some, None, Option, Result, Ok, Err, if◌then◌else◌, ◌==◌}
 use Rattle.mr_ast.specs.declared.program.Program.{Program}
 use Rattle.mr_sched.specs.declared.schedule.Entry.{Entry}
 use Rattle.mr_sched.specs.declared.schedule.Schedule.{Schedule}
 use Rattle.mr_step.specs.declared.fault.StepFault.{StepFault}
 use Rattle.mr_step.specs.declared.fault.StepFault.TheVariants as answer
 use Rattle.mr_step.specs.declared.fault.Turn.{Turn}
-use Rattle.mr_step.specs.Legal.{Fault}
-use Rattle.mr_step.specs.Runs.{Config, after}
-use Rattle.mr_step.specs.Language.{Own, Look, step}
+use Rattle.mr_plan.specs.Legal.{Fault}
+use Rattle.mr_event.specs.declared.footprint.Footprint.{Footprint}
+use Rattle.mr_plan.specs.Runs.{Config, after, feet, foot_from}
+use Rattle.mr_frame.specs.Frames.{Look}
+use Rattle.mr_thread.specs.Steps.{Own, thread_step}
 use Rattle.mr_step.specs.Standing.{Standing}
-use Rattle.mr_step.specs.Answers.{StartAnswer, StepAnswer}
-use Rattle.mr_step.specs.Start.{PlacedFault, at_line, entries_fault, program_fault, program_step, start_fault, schedule_fault, look_of, start_config, run_of}
-use Rattle.mr_step.proofs.RunLaws.{completed_by_step}
+use Rattle.mr_step.specs.Answers.{Hands, StartAnswer, StepAnswer, Steps, completed, stopped}
+use Rattle.mr_start.specs.Start.{PlacedFault, at_line, entries_fault, program_fault, program_step, start_fault, schedule_fault, look_of, start_config, run_of, steps_of}
+use Rattle.mr_plan.proofs.RunLaws.{completed_by_step}
 use Rattle.mr_command.specs.declared.refusal.Refusal.{Refusal}
 use Rattle.mr_command.specs.declared.refusal.Refusal.TheVariants as refusal
-use Rattle.mr_command.specs.Answer.{legal_run, unless_broken}
+use Rattle.mr_command.specs.declared.run.Finished.{Finished}
+use Rattle.mr_command.specs.Answer.{Ran, legal_run, ran, unless_broken}
 use Rattle.mr_command.specs.Running.{placed, legal_after, Refuses, RunAnswer, EntriesAnswer, EntryAnswer, legal_step}
 
--- the answer to an entry, from that of the machine
-pub entry_taken : (e : Entry) (line : ℕ) (old new : Standing) (t : Turn) → StepAnswer e old new (Ok t) → EntryAnswer e line old new (Ok tt)
-entry_taken e line old new t h = (
-  ap (λ (m : Standing). m.failed) h.after,
-  ap (λ (m : Standing). m.look) h.after,
-  ap (λ f. unless_broken (at_line line f None) (program_step old.look old.config e)) h.legal ∙ ap (λ (m : Standing). Ok m.config) (sym h.after),
-)
+-- numbers that differ, and that don't
+other_number : (a b : ℕ) → a ≡ b + 1 → (a == b) ≡ false
+other_number a b h = grind (arith, nat_tests)
 
-pub entry_refused : (e : Entry) (line : ℕ) (old new : Standing) (f : StepFault) → StepAnswer e old new (Err f) → EntryAnswer e line old new (Err (placed line f))
-entry_refused e line old new (answer.BadEntry code earlier) h =
-    ap (λ f. unless_broken (at_line line f None) (program_step old.look old.config e)) h.broken
-entry_refused e line old new answer.Memory h = tt
-entry_refused e line old new answer.Failed h = tt
+same_number : (a b : ℕ) → a ≡ b → (a == b) ≡ true
+same_number a b h = grind (arith, nat_tests)
+
+-- the answer to an entry, from that of the machine
+module _ (e : Entry) (line : ℕ) (old new : Standing) (f f' : Footprint) (was : List Footprint) where
+  -- what the step of the entry comes to, where it breaks no rule
+  abbrev one : Ran
+  one = record { config = program_step old.look old.config e; steps = foot_from (thread_step old.look) e.thread e.picks old.config.state }
+
+  led_to : (t : Turn) → Steps e old new f f' t → (fs : List Footprint) → one.steps ≡ fs → legal_step old.look old.config line e ≡ Ok (record { config = new.config; steps = fs })
+  led_to t h fs k =
+      ap (λ o. unless_broken (at_line line o None) one) h.legal
+      ∙ ap₂ (λ (c : Config Own) xs. Ok (record { config = c; steps = xs })) (ap (λ (m : Standing). m.config) (sym h.after)) k
+
+  -- the footprint of the step joins those before, where the count of completed steps rose
+  pub entry_taken : (t : Turn) (rose : Bool) (is : List Footprint) → StepAnswer e old new f f' (Ok t) → rose ≡ not (new.config.completed == old.config.completed)
+      → is ≡ (if rose then was ++ f' ∷ [] else was) → EntryAnswer e line old new was is (Ok tt)
+  entry_taken t rose is h counted joins = by_hands h.foot
+    where
+      stands : (fs : List Footprint) → one.steps ≡ fs → is ≡ was ++ fs → EntryAnswer e line old new was is (Ok tt)
+      stands fs k joined = record {
+        working = ap (λ (m : Standing). m.failed) h.after;
+        look = ap (λ (m : Standing). m.look) h.after;
+        steps = fs;
+        joined = joined;
+        is = led_to t h fs k;
+      }
+
+      by_hands : Hands one.steps old.config.completed new.config.completed f f' → EntryAnswer e line old new was is (Ok tt)
+      by_hands (completed feet more) =
+          stands (f' ∷ []) feet (joins ∙ ap (λ (b : Bool). if b then was ++ f' ∷ [] else was) (counted ∙ ap not (other_number new.config.completed old.config.completed more)))
+      by_hands (stopped feet same foot) =
+          stands [] feet (joins ∙ ap (λ (b : Bool). if b then was ++ f' ∷ [] else was) (counted ∙ ap not (same_number new.config.completed old.config.completed same)) ∙ sym (append-nil was))
+
+  pub entry_refused : (fault : StepFault) (is : List Footprint) → StepAnswer e old new f f' (Err fault) → EntryAnswer e line old new was is (Err (placed line fault))
+  entry_refused (answer.BadEntry code earlier) is h = ap (λ o. unless_broken (at_line line o None) one) h.broken
+  entry_refused answer.Memory is h = tt
+  entry_refused answer.Failed is h = tt
 
 -- an entry that breaks no rule leads on
-unbroken : (line : ℕ) (f : Option Fault) (x c : Config Own) (later : Option PlacedFault) (z : Config Own) → unless_broken (at_line line f None) x ≡ Ok c
-    → (x ≡ c) × (unless_broken (at_line line f later) z ≡ unless_broken later z)
-unbroken line None x c later z h = (cc, refl)
-unbroken line (Some f) x c later z h = absurd (cc)
+unbroken : (line : ℕ) (f : Option Fault) (x r : Ran) (later : Option PlacedFault) (z : Ran) → unless_broken (at_line line f None) x ≡ Ok r
+    → (x ≡ r) × (unless_broken (at_line line f later) z ≡ unless_broken later z)
+unbroken line None x r later z h = (cc, refl)
+unbroken line (Some f) x r later z h = absurd (cc)
 
-pub leads_on : (look : Look) (c d : Config Own) (line : ℕ) (e : Entry) (es : List Entry) → legal_step look c line e ≡ Ok d
-    → legal_after look c line (e ∷ es) ≡ legal_after look d (line + 1) es
-leads_on look c d line e es h =
-    let both = unbroken line (program_fault look c e) (program_step look c e) d (entries_fault look (program_step look c e) (line + 1) es) (after (step look) (program_step look c e) es) h in
-    both.1 ∙ ap (λ x. legal_after look x (line + 1) es) both.0
+-- what entries come to behind footprints of steps before them
+abbrev pub behind : List Footprint → Ran → Ran
+behind fs r = record { config = r.config; steps = fs ++ r.steps }
+
+abbrev pub behind_all : List Footprint → Result Ran Refusal → Result Ran Refusal
+behind_all fs (Ok r) = Ok (behind fs r)
+behind_all fs (Err r) = Err r
+
+joined_behind : (fs : List Footprint) (later : Option PlacedFault) (z : Ran) → unless_broken later (behind fs z) ≡ behind_all fs (unless_broken later z)
+joined_behind fs None z = refl
+joined_behind fs (Some f) z = refl
+
+pub leads_on : (look : Look) (c : Config Own) (r : Ran) (line : ℕ) (e : Entry) (es : List Entry) → legal_step look c line e ≡ Ok r
+    → legal_after look c line (e ∷ es) ≡ behind_all r.steps (legal_after look r.config (line + 1) es)
+leads_on look c r line e es h =
+    let first : Ran = record { config = program_step look c e; steps = foot_from (thread_step look) e.thread e.picks c.state } in
+    let rest : Ran = record { config = after (thread_step look) (program_step look c e) es; steps = feet (thread_step look) (program_step look c e) es } in
+    let both = unbroken line (program_fault look c e) first r (entries_fault look (program_step look c e) (line + 1) es) (behind first.steps rest) h in
+    both.1
+    ∙ joined_behind first.steps (entries_fault look (program_step look c e) (line + 1) es) rest
+    ∙ ap (λ (x : Ran). behind_all x.steps (legal_after look x.config (line + 1) es)) both.0
 
 -- an entry that breaks a rule ends the run
-broken : (line : ℕ) (f : Option Fault) (x : Config Own) (later : Option PlacedFault) (z : Config Own) (r : Refusal) → unless_broken (at_line line f None) x ≡ Err r
+broken : (line : ℕ) (f : Option Fault) (x : Ran) (later : Option PlacedFault) (z : Ran) (r : Refusal) → unless_broken (at_line line f None) x ≡ Err r
     → unless_broken (at_line line f later) z ≡ Err r
 broken line None x later z r h = absurd (cc)
 broken line (Some f) x later z r h = h
 
-broken_gives : (line : ℕ) (f : Option Fault) (x : Config Own) (later : Option PlacedFault) (z : Config Own) (r : Refusal) → Refuses r (unless_broken (at_line line f None) x)
+broken_gives : (line : ℕ) (f : Option Fault) (x : Ran) (later : Option PlacedFault) (z : Ran) (r : Refusal) → Refuses r (unless_broken (at_line line f None) x)
     → Refuses r (unless_broken (at_line line f later) z)
 broken_gives line f x later z refusal.Memory h = tt
 broken_gives line f x later z refusal.ReadProgram h = broken line f x later z _ h
 broken_gives line f x later z (refusal.Text at col code) h = broken line f x later z _ h
-broken_gives line f x later z refusal.NotBuilt h = broken line f x later z _ h
 broken_gives line f x later z refusal.ReadSchedule h = broken line f x later z _ h
 broken_gives line f x later z (refusal.Schedule at code earlier) h = broken line f x later z _ h
 
 pub stops_at : (look : Look) (c : Config Own) (line : ℕ) (e : Entry) (es : List Entry) (r : Refusal) → Refuses r (legal_step look c line e)
     → Refuses r (legal_after look c line (e ∷ es))
 stops_at look c line e es r h =
-    broken_gives line (program_fault look c e) (program_step look c e) (entries_fault look (program_step look c e) (line + 1) es) (after (step look) (program_step look c e) es) r h
+    broken_gives line (program_fault look c e) (record { config = program_step look c e; steps = foot_from (thread_step look) e.thread e.picks c.state })
+    (entries_fault look (program_step look c e) (line + 1) es)
+    (record { config = after (thread_step look) c (e ∷ es); steps = feet (thread_step look) c (e ∷ es) }) r h
+
+-- a refusal is the same behind footprints
+refuses_behind : (fs : List Footprint) (r : Refusal) (o : Result Ran Refusal) → Refuses r o → Refuses r (behind_all fs o)
+refuses_behind fs refusal.Memory o h = tt
+refuses_behind fs refusal.ReadProgram o h = ap (behind_all fs) h
+refuses_behind fs (refusal.Text at col code) o h = ap (behind_all fs) h
+refuses_behind fs refusal.ReadSchedule o h = ap (behind_all fs) h
+refuses_behind fs (refusal.Schedule at code earlier) o h = ap (behind_all fs) h
 
 -- ---- the whole run
 
 -- behind a legal start the run is that of the entries
 pub from_start : (p : Program) (w : Schedule) → start_fault p w.start ≡ None → legal_run p w ≡ legal_after (look_of p w.start) (start_config p w.start) 3 w.entries
-unfolding schedule_fault run_of
-from_start p w h = ap (λ f. unless_broken (at_line 2 f (entries_fault (look_of p w.start) (start_config p w.start) 3 w.entries)) (run_of p w)) h
+unfolding schedule_fault run_of steps_of
+from_start p w h = ap (λ f. unless_broken (at_line 2 f (entries_fault (look_of p w.start) (start_config p w.start) 3 w.entries)) (ran p w)) h
 
 pub start_stops : (p : Program) (w : Schedule) (picks : List ℕ) (f : StepFault) → picks ≡ w.start → StartAnswer p picks (Err f) → RunAnswer p w (Err (placed 2 f))
 unfolding schedule_fault
@@ -79,7 +137,7 @@ start_stops p w picks f e h = stops f (subst (λ ps. StartAnswer p ps (Err f)) e
   where
     stops : (f : StepFault) → StartAnswer p w.start (Err f) → Refuses (placed 2 f) (legal_run p w)
     stops (answer.BadEntry code earlier) h =
-        ap (λ f. unless_broken (at_line 2 f (entries_fault (look_of p w.start) (start_config p w.start) 3 w.entries)) (run_of p w)) h
+        ap (λ f. unless_broken (at_line 2 f (entries_fault (look_of p w.start) (start_config p w.start) 3 w.entries)) (ran p w)) h
     stops answer.Memory h = tt
     stops answer.Failed h = absurd h
 
@@ -89,58 +147,78 @@ unfolding start_config
 none_completed p picks m h = ap (λ (s : Standing). s.config.completed) h.1
 
 -- entries that a started machine took
-pub run_taken : (p : Program) (w : Schedule) (picks : List ℕ) (es : List Entry) (m new : Standing) → picks ≡ w.start → es ≡ w.entries
-    → StartAnswer p picks (Ok m) → EntriesAnswer es m new (Ok tt) → RunAnswer p w (Ok new)
-run_taken p w picks es m new e k h a =
+pub run_taken : (p : Program) (w : Schedule) (picks : List ℕ) (es : List Entry) (m : Standing) (was : List Footprint) (done : Finished) → picks ≡ w.start → es ≡ w.entries → was ≡ []
+    → StartAnswer p picks (Ok m) → EntriesAnswer es m done.machine was done.steps.items (Ok tt) → RunAnswer p w (Ok done)
+run_taken p w picks es m was done e k none h a =
     let begun : StartAnswer p w.start (Ok m) = subst (λ ps. StartAnswer p ps (Ok m)) e h in
-    let P : Standing → Type 0 = λ s. EntriesAnswer w.entries s new (Ok tt) in
-    let at = subst P begun.1 (subst (λ xs. EntriesAnswer xs m new (Ok tt)) k a) in
-    (at.0, from_start p w begun.0 ∙ at.2)
+    let P : Standing → Type 0 = λ s. EntriesAnswer w.entries s done.machine was done.steps.items (Ok tt) in
+    let at = subst P begun.1 (subst (λ xs. EntriesAnswer xs m done.machine was done.steps.items (Ok tt)) k a) in
+    let all : at.steps ≡ done.steps.items = sym (at.joined ∙ ap (λ xs. xs ++ at.steps) none) in
+    (at.working, from_start p w begun.0 ∙ at.is ∙ ap (λ xs. Ok (record { config = done.machine.config; steps = xs })) all)
 
-pub run_refused : (p : Program) (w : Schedule) (picks : List ℕ) (es : List Entry) (m new : Standing) (r : Refusal) → picks ≡ w.start → es ≡ w.entries
-    → StartAnswer p picks (Ok m) → EntriesAnswer es m new (Err r) → RunAnswer p w (Err r)
-run_refused p w picks es m new r e k h a =
+pub run_refused : (p : Program) (w : Schedule) (picks : List ℕ) (es : List Entry) (m new : Standing) (was is : List Footprint) (r : Refusal) → picks ≡ w.start → es ≡ w.entries
+    → StartAnswer p picks (Ok m) → EntriesAnswer es m new was is (Err r) → RunAnswer p w (Err r)
+run_refused p w picks es m new was is r e k h a =
     let begun : StartAnswer p w.start (Ok m) = subst (λ ps. StartAnswer p ps (Ok m)) e h in
-    let P : Standing → Type 0 = λ s. EntriesAnswer w.entries s new (Err r) in
-    subst (Refuses r) (sym (from_start p w begun.0)) (subst P begun.1 (subst (λ xs. EntriesAnswer xs m new (Err r)) k a))
+    let P : Standing → Type 0 = λ s. EntriesAnswer w.entries s new was is (Err r) in
+    subst (Refuses r) (sym (from_start p w begun.0)) (subst P begun.1 (subst (λ xs. EntriesAnswer xs m new was is (Err r)) k a))
 
 -- ---- the loop over the entries
 
--- what stays true: the machine works over the same program, and leads where all entries lead
-pub record IsUnderWay (first m : Standing) (line index : ℕ) (es : List Entry) : Type 0 where
+-- what stays true: the machine works over the same program, and behind the footprints so far leads where all entries lead
+pub record IsUnderWay (first m : Standing) (was now : List Footprint) (line index : ℕ) (es : List Entry) : Type 0 where
   pub working : m.failed ≡ false
   pub look : m.look ≡ first.look
   pub place : line ≡ 3 + index
   pub completed : m.config.completed ≤ first.config.completed + index
-  pub leads : legal_after m.look m.config line (drop index es) ≡ legal_after first.look first.config 3 es
+  pub steps : List Footprint
+  pub joined : now ≡ was ++ steps
+  pub leads : behind_all steps (legal_after m.look m.config line (drop index es)) ≡ legal_after first.look first.config 3 es
 
-pub goes_on : (first m new : Standing) (line index : ℕ) (e : Entry) (es : List Entry) → drop index es ≡ e ∷ drop (index + 1) es
-    → IsUnderWay first m line index es → EntryAnswer e line m new (Ok tt) → IsUnderWay first new (line + 1) (index + 1) es
-goes_on first m new line index e es d h k =
-    let on = unbroken line (program_fault m.look m.config e) (program_step m.look m.config e) new.config None new.config k.2 in
+behind_twice : (a b : List Footprint) (o : Result Ran Refusal) → behind_all (a ++ b) o ≡ behind_all a (behind_all b o)
+behind_twice a b (Ok r) = ap (λ xs. Ok (record { config = r.config; steps = xs })) (append_assoc a b r.steps)
+behind_twice a b (Err r) = refl
+
+pub goes_on : (first m new : Standing) (was now then : List Footprint) (line index : ℕ) (e : Entry) (es : List Entry) → drop index es ≡ e ∷ drop (index + 1) es
+    → IsUnderWay first m was now line index es → EntryAnswer e line m new now then (Ok tt) → IsUnderWay first new was then (line + 1) (index + 1) es
+goes_on first m new was now then line index e es d h k =
+    let one : Ran = record { config = new.config; steps = k.steps } in
+    let to : (program_step m.look m.config e) ≡ new.config = ap (λ (r : Ran). r.config) (unbroken line (program_fault m.look m.config e) (record { config = program_step m.look m.config e; steps = foot_from (thread_step m.look) e.thread e.picks m.config.state }) one None one k.is).0 in
     record {
-      working = k.0;
-      look = k.1 ∙ h.look;
+      working = k.working;
+      look = k.look ∙ h.look;
       place = (let at = h.place in omega arith);
       completed =
           (let more = h.completed in
-          let one = completed_by_step (step m.look) m.config e in
-          let same : (program_step m.look m.config e).completed ≡ new.config.completed = ap (λ (c : Config Own). c.completed) on.0 in
+          let one = completed_by_step (thread_step m.look) m.config e in
+          let same : (program_step m.look m.config e).completed ≡ new.config.completed = ap (λ (c : Config Own). c.completed) to in
           omega arith);
+      steps = h.steps ++ k.steps;
+      joined = k.joined ∙ ap (λ xs. xs ++ k.steps) h.joined ∙ append_assoc was h.steps k.steps;
       leads =
-          ap (λ l. legal_after l new.config (line + 1) (drop (index + 1) es)) k.1
-          ∙ sym (leads_on m.look m.config new.config line e (drop (index + 1) es) k.2)
-          ∙ ap (legal_after m.look m.config line) (sym d)
+          ap (λ l. behind_all (h.steps ++ k.steps) (legal_after l new.config (line + 1) (drop (index + 1) es))) k.look
+          ∙ behind_twice h.steps k.steps (legal_after m.look new.config (line + 1) (drop (index + 1) es))
+          ∙ ap (behind_all h.steps) (sym (leads_on m.look m.config one line e (drop (index + 1) es) k.is))
+          ∙ ap (λ xs. behind_all h.steps (legal_after m.look m.config line xs)) (sym d)
           ∙ h.leads;
     }
 
-pub ends_at : (first m : Standing) (line index : ℕ) (es : List Entry) → drop index es ≡ [] → IsUnderWay first m line index es → EntriesAnswer es first m (Ok tt)
-ends_at first m line index es d h = (h.working, h.look, sym h.leads ∙ ap (legal_after m.look m.config line) d)
+pub ends_at : (first m : Standing) (was now : List Footprint) (line index : ℕ) (es : List Entry) → drop index es ≡ [] → IsUnderWay first m was now line index es → EntriesAnswer es first m was now (Ok tt)
+ends_at first m was now line index es d h = record {
+  working = h.working;
+  look = h.look;
+  steps = h.steps;
+  joined = h.joined;
+  is =
+      sym h.leads ∙ ap (λ xs. behind_all h.steps (legal_after m.look m.config line xs)) d
+      ∙ ap (λ xs. Ok (record { config = m.config; steps = xs })) (append-nil h.steps);
+}
 
-pub breaks_off : (first m new : Standing) (line index : ℕ) (e : Entry) (es : List Entry) (r : Refusal) → drop index es ≡ e ∷ drop (index + 1) es
-    → IsUnderWay first m line index es → EntryAnswer e line m new (Err r) → EntriesAnswer es first new (Err r)
-breaks_off first m new line index e es r d h k =
-    subst (Refuses r) (ap (legal_after m.look m.config line) (sym d) ∙ h.leads) (stops_at m.look m.config line e (drop (index + 1) es) r k)
+pub breaks_off : (first m new : Standing) (was now then : List Footprint) (line index : ℕ) (e : Entry) (es : List Entry) (r : Refusal) → drop index es ≡ e ∷ drop (index + 1) es
+    → IsUnderWay first m was now line index es → EntryAnswer e line m new now then (Err r) → EntriesAnswer es first new was then (Err r)
+breaks_off first m new was now then line index e es r d h k =
+    subst (Refuses r) (ap (λ xs. behind_all h.steps (legal_after m.look m.config line xs)) (sym d) ∙ h.leads)
+    (refuses_behind h.steps r (legal_after m.look m.config line (e ∷ drop (index + 1) es)) (stops_at m.look m.config line e (drop (index + 1) es) r k))
 
 -- what is left at a position within the list
 pub left_at : (es : List Entry) (i : ℕ) (e : Entry) → i < length es → e ≡ get_or es i e → drop i es ≡ e ∷ drop (i + 1) es

@@ -7,8 +7,8 @@ use Rattle.mr_wf.specs.Walk.{WellFormed}
 use Rattle.mr_command.specs.declared.answer.Written.{Written}
 use Rattle.mr_command.specs.declared.refusal.Refusal.{Refusal}
 use Rattle.mr_command.specs.declared.refusal.Refusal.TheVariants as refusal
-use Rattle.mr_command.specs.Answer.{built_in, form_or, if_built, program_in, report_under, run_answer, told, ◌>>=◌}
-use Rattle.mr_command.specs.Answering.{IsFormOrReport, IsReported, IsRunOrUnread, Tells, TellsOrUnread}
+use Rattle.mr_command.specs.Answer.{form_or, program_in, report_under, run_answer, told}
+use Rattle.mr_command.specs.Answering.{IsFormOrReport, IsReported, Tells, TellsOrUnread}
 use Rattle.mr_command.specs.Outcome.{Gives, IsRead, holding}
 
 -- a count that rose later rose in all
@@ -29,19 +29,18 @@ checked_reported p q file rose result (same, well) (inr (rises, is)) = inr (rise
 
 -- a program that was read is answered by its run
 pub run_over : (program schedule : List ℕ) (p : Program) (later rose : Type 0) (result : Result Written Refusal) → (later → rose) → program_in (Some program) ≡ Ok p
-    → IsRunOrUnread later (Some schedule) p result → IsReported (holding program schedule) (codes "program") (codes "schedule") rose result
+    → IsFormOrReport later (Some schedule) p result → IsReported (holding program schedule) (codes "program") (codes "schedule") rose result
 run_over program schedule p later rose result up e (inl tells) =
-    inl (subst (λ r. Tells (told (run_answer (Some schedule)) r) result) (sym (ap (λ r. r >>= if_built) e)) tells)
-run_over program schedule p later rose result up e (inr (rises, built, unbroken, is)) = inr (up rises, inr (p, ap (λ r. r >>= if_built) e ∙ built, unbroken, is))
+    inl (subst (λ r. Tells (told (run_answer (Some schedule)) r) result) (sym e) tells)
+run_over program schedule p later rose result up e (inr (rises, unbroken, is)) = inr (up rises, inr (p, e, unbroken, is))
 
 -- what refuses a program's text is told
-refused_over : (program : List ℕ) (r : Refusal) → Gives {A = Program} (Err r) (program_in (Some program)) → Tells (told (run_answer (Some [])) (built_in (Some program))) (Err r)
+refused_over : (program : List ℕ) (r : Refusal) → Gives {A = Program} (Err r) (program_in (Some program)) → Tells (told (run_answer (Some [])) (program_in (Some program))) (Err r)
 refused_over program refusal.Memory h = tt
-refused_over program refusal.ReadProgram h = ap (λ x. told (run_answer (Some [])) (x >>= if_built)) h
-refused_over program (refusal.Text at col code) h = ap (λ x. told (run_answer (Some [])) (x >>= if_built)) h
-refused_over program refusal.NotBuilt h = ap (λ x. told (run_answer (Some [])) (x >>= if_built)) h
-refused_over program refusal.ReadSchedule h = ap (λ x. told (run_answer (Some [])) (x >>= if_built)) h
-refused_over program (refusal.Schedule at code earlier) h = ap (λ x. told (run_answer (Some [])) (x >>= if_built)) h
+refused_over program refusal.ReadProgram h = ap (told (run_answer (Some []))) h
+refused_over program (refusal.Text at col code) h = ap (told (run_answer (Some []))) h
+refused_over program refusal.ReadSchedule h = ap (told (run_answer (Some []))) h
+refused_over program (refusal.Schedule at code earlier) h = ap (told (run_answer (Some []))) h
 
 same_refusal : {r s : Refusal} → ◌≡◌ {A = Result Program Refusal} (Err r) (Err s) → r ≡ s
 same_refusal e = cc

@@ -7,27 +7,25 @@ use Rattle.mr_lex.specs.declared.token.TextFault.{TextFault}
 use Rattle.mr_grammar.specs.Parsing.{parsed}
 use Rattle.mr_sched.specs.declared.schedule.Schedule.{Schedule}
 use Rattle.mr_sched.specs.Reading.{Fault, schedule_of}
-use Rattle.mr_step.specs.Built.{is_built}
-use Rattle.mr_step.specs.Runs.{Config}
-use Rattle.mr_step.specs.Language.{Own}
-use Rattle.mr_step.specs.Start.{PlacedFault, run_of, schedule_fault}
+use Rattle.mr_event.specs.Predicted.{predicted}
+use Rattle.mr_start.specs.Start.{PlacedFault, schedule_fault}
 use Rattle.mr_wf.specs.declared.fault.FormFault.{FormFault}
 use Rattle.mr_wf.specs.Walk.{faults_of}
 use Rattle.mr_command.specs.declared.refusal.Refusal.TheVariants as refusal
 use Rattle.mr_command.specs.Command.{Command, Run, Check}
-use Rattle.mr_command.specs.Answer.{Answer, answer_of, built_in, canonical, check_answer, denoted, form_or, if_built, legal_run, program_in, report_under, reported, run_answer, spelled, told, unless_broken, ◌>>=◌}
+use Rattle.mr_command.specs.Answer.{Answer, Ran, answer_of, canonical, check_answer, denoted, form_or, legal_run, program_in, ran, report_under, reported, run_answer, spelled, told, unless_broken, ◌>>=◌}
 use Rattle.mr_command.specs.Outcome.{Ends, IsPossible}
 use Rattle.mr_command.specs.Headline.{IsUnreadBecause, LacksFile}
 use Rattle.mr_command.proofs.HeadlineLaws.{at_most_one, ran_out, written_status}
 
 -- ---- the status 6 is that of a file that isn't there
 
-of_legal : (f : Option PlacedFault) (c : Config Own) → (told reported (unless_broken f c)).status ≡ 6 → ⊥
-of_legal None c s = let least = at_most_one c.verdict in absurd (omega arith)
-of_legal (Some f) c s = let five : 5 ≡ 6 = s in absurd (omega arith)
+of_legal : (f : Option PlacedFault) (r : Ran) → (told reported (unless_broken f c)).status ≡ 6 → ⊥
+of_legal None r s = let least = at_most_one r.config.verdict (predicted r.steps) in absurd (omega arith)
+of_legal (Some f) r s = let five : 5 ≡ 6 = s in absurd (omega arith)
 
 of_schedule : (p : Program) (r : Result Schedule Fault) → (told reported (spelled r >>= legal_run p)).status ≡ 6 → ⊥
-of_schedule p (Ok w) s = of_legal (schedule_fault p w) (run_of p w) s
+of_schedule p (Ok w) s = of_legal (schedule_fault p w) (ran p w) s
 of_schedule p (Err f) s = let five : 5 ≡ 6 = s in absurd (omega arith)
 
 of_report : (p : Program) (file : Option (List ℕ)) → (report_under file p).status ≡ 6 → file ≡ None
@@ -39,12 +37,8 @@ of_form : (p : Program) (faults : List FormFault) (a : Answer) → (form_or p fa
 of_form p [] a s = s
 of_form p (f ∷ faults) a s = let four : 4 ≡ 6 = s in absurd (omega arith)
 
-of_built : (b : Bool) (p : Program) (file : Option (List ℕ)) → (told (run_answer file) (if b then Ok p else Err refusal.NotBuilt)).status ≡ 6 → file ≡ None
-of_built true p file s = of_report p file (of_form p (faults_of p) (report_under file p) s)
-of_built false p file s = let three : 3 ≡ 6 = s in absurd (omega arith)
-
-of_run : (r : Result Program TextFault) (file : Option (List ℕ)) → (told (run_answer file) (denoted r >>= if_built)).status ≡ 6 → file ≡ None
-of_run (Ok p) file s = of_built (is_built p) p file s
+of_run : (r : Result Program TextFault) (file : Option (List ℕ)) → (told (run_answer file) (denoted r)).status ≡ 6 → file ≡ None
+of_run (Ok p) file s = of_report p file (of_form p (faults_of p) (report_under file p) s)
 of_run (Err f) file s = let three : 3 ≡ 6 = s in absurd (omega arith)
 
 of_canonical : (p : Program) → (canonical p).status ≡ 6 → ⊥
@@ -55,7 +49,7 @@ of_check (Ok p) s = of_canonical p (of_form p (faults_of p) (canonical p) s)
 of_check (Err f) s = let three : 3 ≡ 6 = s in absurd (omega arith)
 
 run_lacks : (files : Contents) (program schedule : List ℕ) (file : Option (List ℕ)) → files program ≡ file
-    → (told (run_answer (files schedule)) (built_in file)).status ≡ 6 → LacksFile files (Some (Run program schedule))
+    → (told (run_answer (files schedule)) (program_in file)).status ≡ 6 → LacksFile files (Some (Run program schedule))
 run_lacks files program schedule None e s = inl (program, inr (schedule, refl), e)
 run_lacks files program schedule (Some bytes) e s = inr (program, schedule, refl, of_run (parsed bytes) (files schedule) s)
 

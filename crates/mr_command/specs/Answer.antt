@@ -1,5 +1,5 @@
 -- What a call answers by definition: a text and a status, from the words and what the files hold.
-use Rattle.std.specs.Prelude.{ℕ, List, [], ◌∷◌, Option, None, Some, Result, Ok, Err, if◌then◌else◌}
+use Rattle.std.specs.Prelude.{ℕ, List, [], ◌∷◌, Option, None, Some, Result, Ok, Err}
 use Rattle.mr_ast.specs.declared.program.Program.{Program}
 use Rattle.mr_ast.specs.Canon.{canonical_text}
 use Rattle.mr_io.specs.Files.{Contents}
@@ -7,17 +7,18 @@ use Rattle.mr_lex.specs.declared.token.TextFault.{TextFault}
 use Rattle.mr_grammar.specs.Parsing.{parsed}
 use Rattle.mr_sched.specs.declared.schedule.Schedule.{Schedule}
 use Rattle.mr_sched.specs.Reading.{Fault, schedule_of}
-use Rattle.mr_step.specs.Built.{is_built}
-use Rattle.mr_step.specs.Runs.{Config}
-use Rattle.mr_step.specs.Language.{Own}
-use Rattle.mr_step.specs.Start.{run_of, schedule_fault, PlacedFault}
+use Rattle.mr_plan.specs.Runs.{Config}
+use Rattle.mr_thread.specs.Steps.{Own}
+use Rattle.mr_event.specs.declared.footprint.Footprint.{Footprint}
+use Rattle.mr_event.specs.Predicted.{predicted}
+use Rattle.mr_start.specs.Start.{run_of, schedule_fault, steps_of, PlacedFault}
 use Rattle.mr_wf.specs.declared.fault.FormFault.{FormFault}
 use Rattle.mr_wf.specs.Walk.{faults_of}
 use Rattle.mr_command.specs.declared.refusal.Refusal.{Refusal}
 use Rattle.mr_command.specs.declared.refusal.Refusal.TheVariants as refusal
 use Rattle.mr_command.specs.Command.{Command, Run, Check}
 use Rattle.mr_command.specs.Form.{form_line}
-use Rattle.mr_command.specs.Report.{report_of, verdict_status, refusal_text, refusal_status, usage_text}
+use Rattle.mr_command.specs.Report.{report_of, report_status, refusal_text, refusal_status, usage_text}
 
 -- What is found leads on, and what refuses it stays.
 infixl 10 ◌>>=◌
@@ -39,14 +40,6 @@ abbrev pub program_in : Option (List ℕ) → Result Program Refusal
 program_in None = Err refusal.ReadProgram
 program_in (Some bytes) = denoted (parsed bytes)
 
--- the program, where the machine runs it
-abbrev pub if_built : Program → Result Program Refusal
-if_built p = if is_built p then Ok p else Err refusal.NotBuilt
-
--- the program in a file, where the machine runs it
-abbrev pub built_in : Option (List ℕ) → Result Program Refusal
-built_in file = program_in file >>= if_built
-
 -- the schedule that a text spells, or the text's first fault, as a refusal
 abbrev pub spelled : Result Schedule Fault → Result Schedule Refusal
 spelled (Ok w) = Ok w
@@ -62,12 +55,21 @@ abbrev pub unless_broken : {A : Type 0} → Option PlacedFault → A → Result 
 unless_broken None x = Ok x
 unless_broken (Some f) x = Err (refusal.Schedule f.line f.fault.code f.fault.earlier)
 
--- where the run of a program under a schedule ends, or the first rule that the schedule breaks
-abbrev pub legal_run : Program → Schedule → Result (Config Own) Refusal
-legal_run p w = unless_broken (schedule_fault p w) (run_of p w)
+-- WHAT A RUN COMES TO: where the machine stands, and the footprints of the steps that completed
+pub record Ran : Type 0 where
+  pub config : Config Own
+  pub steps : List Footprint
+
+-- what the run of a program under a schedule comes to
+abbrev pub ran : Program → Schedule → Ran
+ran p w = record { config = run_of p w; steps = steps_of p w }
+
+-- the same, or the first rule that the schedule breaks
+abbrev pub legal_run : Program → Schedule → Result Ran Refusal
+legal_run p w = unless_broken (schedule_fault p w) (ran p w)
 
 -- the run of a program under the schedule in a file
-abbrev pub run_under : Option (List ℕ) → Program → Result (Config Own) Refusal
+abbrev pub run_under : Option (List ℕ) → Program → Result Ran Refusal
 run_under file p = schedule_in file >>= legal_run p
 
 -- What is written, and the exit status.
@@ -79,9 +81,9 @@ pub record Answer : Type 0 where
 abbrev pub refused : Refusal → Answer
 refused r = record { text = refusal_text r; status = refusal_status r }
 
--- the report of a run that stands here, and its status
-abbrev pub reported : Config Own → Answer
-reported c = record { text = report_of c.output c.verdict; status = verdict_status c.verdict }
+-- the report of a run, and its status
+abbrev pub reported : Ran → Answer
+reported r = record { text = report_of r.config.output r.config.verdict (predicted r.steps); status = report_status r.config.verdict (predicted r.steps) }
 
 -- the canonical text of a program
 abbrev pub canonical : Program → Answer
@@ -121,5 +123,5 @@ usage = record { text = usage_text; status = 2 }
 -- THE ANSWER to a command over these files; words of no form are told the usage
 abbrev pub answer_of : Contents → Option Command → Answer
 answer_of files None = usage
-answer_of files (Some (Run program schedule)) = told (run_answer (files schedule)) (built_in (files program))
+answer_of files (Some (Run program schedule)) = told (run_answer (files schedule)) (program_in (files program))
 answer_of files (Some (Check program)) = told check_answer (program_in (files program))

@@ -6,7 +6,7 @@ use Rattle.mr_wf.specs.Walk.{faults_of}
 use Rattle.mr_command.specs.declared.answer.Written.{Written}
 use Rattle.mr_command.specs.declared.refusal.Refusal.{Refusal}
 use Rattle.mr_command.specs.declared.refusal.Refusal.TheVariants as refusal
-use Rattle.mr_command.specs.Answer.{Answer, built_in, check_answer, if_built, program_in, refused, run_answer, told}
+use Rattle.mr_command.specs.Answer.{Answer, check_answer, program_in, refused, run_answer, told}
 use Rattle.mr_command.specs.Command.{Command, Run, Check}
 use Rattle.mr_command.specs.Outcome.{holding, over_holding}
 
@@ -24,7 +24,6 @@ Tells answer (Ok a) = seen a ≡ answer
 Tells answer (Err refusal.Memory) = Unit {0}
 Tells answer (Err refusal.ReadProgram) = answer ≡ refused refusal.ReadProgram
 Tells answer (Err (refusal.Text at col code)) = answer ≡ refused (refusal.Text at col code)
-Tells answer (Err refusal.NotBuilt) = answer ≡ refused refusal.NotBuilt
 Tells answer (Err refusal.ReadSchedule) = answer ≡ refused refusal.ReadSchedule
 Tells answer (Err (refusal.Schedule at code earlier)) = answer ≡ refused (refusal.Schedule at code earlier)
 
@@ -32,30 +31,24 @@ Tells answer (Err (refusal.Schedule at code earlier)) = answer ≡ refused (refu
 abbrev pub TellsOrUnread : Type 0 → Answer → Result Written Refusal → Type 0
 TellsOrUnread rose answer result = Tells answer result ⊎ (rose × (result ≡ Err refusal.ReadSchedule))
 
--- what is said of a built program that is run under the schedule in a file; or, where it breaks no rule, the read of
--- that failed
+-- what is said of a program that is run under the schedule in a file; or, where it breaks no rule, the read of that
+-- failed
 abbrev pub IsFormOrReport : Type 0 → Option (List ℕ) → Program → Result Written Refusal → Type 0
 IsFormOrReport rose file p result =
     Tells (run_answer file p) result
     ⊎ (rose × (faults_of p ≡ []) × (result ≡ Err refusal.ReadSchedule))
 
--- the same of a program that may not be built
-abbrev pub IsRunOrUnread : Type 0 → Option (List ℕ) → Program → Result Written Refusal → Type 0
-IsRunOrUnread rose file p result =
-    Tells (told (run_answer file) (if_built p)) result
-    ⊎ (rose × (if_built p ≡ Ok p) × (faults_of p ≡ []) × (result ≡ Err refusal.ReadSchedule))
-
--- a read failed: that of the program, or that of the schedule behind a program that is built and breaks no rule
+-- a read failed: that of the program, or that of the schedule behind a program that breaks no rule
 abbrev pub IsUnreadHere : Contents → List ℕ → Result Written Refusal → Type 0
 IsUnreadHere files program result =
     (result ≡ Err refusal.ReadProgram)
-    ⊎ ((p : Program) × (built_in (files program) ≡ Ok p) × (faults_of p ≡ []) × (result ≡ Err refusal.ReadSchedule))
+    ⊎ ((p : Program) × (program_in (files program) ≡ Ok p) × (faults_of p ≡ []) × (result ≡ Err refusal.ReadSchedule))
 
 -- what is said of the program in one file that is run under the schedule in another, or what refuses it; or a read
 -- failed
 abbrev pub IsReported : Contents → List ℕ → List ℕ → Type 0 → Result Written Refusal → Type 0
 IsReported files program schedule rose result =
-    Tells (told (run_answer (files schedule)) (built_in (files program))) result
+    Tells (told (run_answer (files schedule)) (program_in (files program))) result
     ⊎ (rose × IsUnreadHere files program result)
 
 -- what is said of the program in a file that is checked, or what refuses it; or the read failed
@@ -66,7 +59,7 @@ IsChecked files program rose result =
 
 -- a schedule's file has some text, of which a program that is read is answered
 abbrev pub IsRunOverText : Type 0 → Program → Result Written Refusal → Type 0
-IsRunOverText rose p result = (text : List ℕ) × IsRunOrUnread rose (Some text) p result
+IsRunOverText rose p result = (text : List ℕ) × IsFormOrReport rose (Some text) p result
 
 -- how a command is answered
 abbrev pub IsAnswered : Contents → Command → Type 0 → Result Written Refusal → Type 0

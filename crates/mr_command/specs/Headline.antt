@@ -10,12 +10,11 @@ use Rattle.mr_grammar.specs.Faults.{FirstFault}
 use Rattle.mr_sched.specs.declared.schedule.Schedule.{Schedule}
 use Rattle.mr_sched.specs.Faults.{FirstFault as FirstScheduleFault}
 use Rattle.mr_sched.specs.Spelling.{Schedules}
-use Rattle.mr_step.specs.Built.{Built}
-use Rattle.mr_step.specs.Start.{Legal, IsSoundRun, PlacedFault, run_of, schedule_fault}
+use Rattle.mr_start.specs.Start.{Legal, IsSoundRun, PlacedFault, schedule_fault}
 use Rattle.mr_wf.specs.declared.fault.FormFault.{FormFault}
 use Rattle.mr_wf.specs.Walk.{FirstBroken, WellFormed, faults_of}
 use Rattle.mr_command.specs.Command.{Command, Run, Check, NamesProgram}
-use Rattle.mr_command.specs.Answer.{Answer, built_in, canonical, reported}
+use Rattle.mr_command.specs.Answer.{Answer, canonical, program_in, ran, reported}
 use Rattle.mr_command.specs.Outcome.{IsLeft, IsWhole, IsWritten}
 
 -- a read failed and was told, or the write of that failed
@@ -30,9 +29,8 @@ IsTold a files_rose out_rose old new status =
 
 -- ---- runs
 
--- The command names a file whose text denotes the program, which is built and well-formed, and a file whose text is
--- that of the schedule,
--- which is legal.
+-- The command names a file whose text denotes the program, which is well-formed, and a file whose text is that of the
+-- schedule, which is legal.
 pub record Names (files : Contents) (command : Option Command) (p : Program) (w : Schedule) : Type 0 where
   pub program_name : List ℕ
   pub schedule_name : List ℕ
@@ -40,7 +38,6 @@ pub record Names (files : Contents) (command : Option Command) (p : Program) (w 
   pub program_text : List ℕ
   pub program_there : files program_name ≡ Some program_text
   pub denotes : Denotes program_text p
-  pub built : Built p
   pub well_formed : WellFormed p
   pub schedule_text : List ℕ
   pub schedule_there : files schedule_name ≡ Some schedule_text
@@ -51,16 +48,14 @@ pub record Names (files : Contents) (command : Option Command) (p : Program) (w 
 pub record IsOfMachine (p : Program) (w : Schedule) (files_rose out_rose : Type 0) (old new : Option (List ℕ))
     (status : ℕ) : Type 0 where
   pub sound : IsSoundRun p w
-  pub report : IsTold (reported (run_of p w)) files_rose out_rose old new status
+  pub report : IsTold (reported (ran p w)) files_rose out_rose old new status
 
--- The files denote a well-formed program that is built, and a legal schedule of it; and the whole report of that run
--- was written.
+-- The files denote a well-formed program, and a legal schedule of it; and the whole report of that run was written.
 abbrev pub ReportsLegalRun : Contents → Option Command → Option (List ℕ) → Option (List ℕ) → ℕ → Type 0
 ReportsLegalRun files command old new status =
-    (p : Program) × (w : Schedule) × Names files command p w × IsWhole (reported (run_of p w)) old new status
+    (p : Program) × (w : Schedule) × Names files command p w × IsWhole (reported (ran p w)) old new status
 
--- The command is to run a file whose text denotes the program, which is built and well-formed, under a file of this
--- name.
+-- The command is to run a file whose text denotes the program, which is well-formed, under a file of this name.
 pub record RunsProgram (files : Contents) (command : Option Command) (p : Program) (schedule_name : List ℕ)
     : Type 0 where
   pub name : List ℕ
@@ -68,7 +63,6 @@ pub record RunsProgram (files : Contents) (command : Option Command) (p : Progra
   pub text : List ℕ
   pub there : files name ≡ Some text
   pub denotes : Denotes text p
-  pub built : Built p
   pub well_formed : WellFormed p
 
 -- Such a program is run under a file whose text has its first fault as a schedule on this line, with this code.
@@ -116,21 +110,11 @@ pub record NamesFault (files : Contents) (command : Option Command) (fault : Tex
   pub there : files name ≡ Some text
   pub first : FirstFault text fault
 
--- the command is to run a file whose text denotes the program, which isn't built
-pub record RunsUnbuilt (files : Contents) (command : Option Command) (p : Program) : Type 0 where
-  pub name : List ℕ
-  pub schedule_name : List ℕ
-  pub is_run : command ≡ Some (Run name schedule_name)
-  pub text : List ℕ
-  pub there : files name ≡ Some text
-  pub denotes : Denotes text p
-  pub not_built : ¬ Built p
-
--- the command is to check a file whose text denotes the program, or to run it where it is built, and this is the
--- first rule that it breaks
+-- the command is to check a file whose text denotes the program, or to run it, and this is the first rule that it
+-- breaks
 pub record NamesBroken (files : Contents) (command : Option Command) (p : Program) (fault : FormFault) : Type 0 where
   pub name : List ℕ
-  pub judges : (command ≡ Some (Check name)) ⊎ ((schedule : List ℕ) × (command ≡ Some (Run name schedule)) × Built p)
+  pub judges : (command ≡ Some (Check name)) ⊎ ((schedule : List ℕ) × (command ≡ Some (Run name schedule)))
   pub text : List ℕ
   pub there : files name ≡ Some text
   pub denotes : Denotes text p
@@ -138,9 +122,9 @@ pub record NamesBroken (files : Contents) (command : Option Command) (p : Progra
 
 -- ---- files that were not read
 
--- The file's text denotes a program that is built and breaks no rule: only then its schedule is read.
+-- The file's text denotes a program that breaks no rule: only then its schedule is read.
 abbrev pub AsksForSchedule : Option (List ℕ) → Type 0
-AsksForSchedule file = (p : Program) × (built_in file ≡ Ok p) × (faults_of p ≡ [])
+AsksForSchedule file = (p : Program) × (program_in file ≡ Ok p) × (faults_of p ≡ [])
 
 -- a file that the command names isn't there
 abbrev pub LacksFile : Contents → Option Command → Type 0

@@ -8,7 +8,7 @@ use Rattle.mr_wf.specs.Walk.{faults_of}
 use Rattle.mr_command.specs.declared.refusal.Refusal.{Refusal}
 use Rattle.mr_command.specs.declared.refusal.Refusal.TheVariants as refusal
 use Rattle.mr_command.specs.Command.{Command, Run, Check}
-use Rattle.mr_command.specs.Answer.{Answer, built_in, refused, answer_of, usage}
+use Rattle.mr_command.specs.Answer.{Answer, program_in, refused, answer_of, usage}
 
 -- What a function returned is what is defined, unless memory ran out.
 abbrev pub Gives : {A : Type 0} → Result A Refusal → Result A Refusal → Type 0
@@ -16,17 +16,16 @@ Gives (Ok x) defined = defined ≡ Ok x
 Gives (Err refusal.Memory) defined = Unit {0}
 Gives (Err refusal.ReadProgram) defined = defined ≡ Err refusal.ReadProgram
 Gives (Err (refusal.Text at col code)) defined = defined ≡ Err (refusal.Text at col code)
-Gives (Err refusal.NotBuilt) defined = defined ≡ Err refusal.NotBuilt
 Gives (Err refusal.ReadSchedule) defined = defined ≡ Err refusal.ReadSchedule
 Gives (Err (refusal.Schedule at code earlier)) defined = defined ≡ Err (refusal.Schedule at code earlier)
 
--- A read failed, which is counted: that of the program, or that of the schedule, behind a program that is built and
--- breaks no rule.
+-- A read failed, which is counted: that of the program, or that of the schedule, behind a program that breaks no
+-- rule.
 abbrev pub IsUnread : Contents → Option Command → Answer → Type 0
 IsUnread files None a = ⊥
 IsUnread files (Some (Run program schedule)) a =
     (a ≡ refused refusal.ReadProgram)
-    ⊎ ((p : Program) × (built_in (files program) ≡ Ok p) × (faults_of p ≡ []) × (a ≡ refused refusal.ReadSchedule))
+    ⊎ ((p : Program) × (program_in (files program) ≡ Ok p) × (faults_of p ≡ []) × (a ≡ refused refusal.ReadSchedule))
 IsUnread files (Some (Check program)) a = a ≡ refused refusal.ReadProgram
 
 -- the answer by definition, or that of a read that failed where the count of faults of the files rose

@@ -1,12 +1,14 @@
 -- What is written: the report of a run, and the line of each refusal.
-use Rattle.std.specs.Prelude.{ℕ, List, [], ◌∷◌, ◌++◌, flat_map, codes, decimal, Option, None, Some}
+use Rattle.std.specs.Prelude.{ℕ, List, [], ◌∷◌, ◌++◌, map, codes, decimal, Option, None, Some}
 use Rattle.mr_base.specs.declared.byte.AllocId.{AllocId}
 use Rattle.mr_base.specs.declared.reason.Verdict.{Verdict}
 use Rattle.mr_base.specs.declared.reason.Verdict.TheVariants as verdict
-use Rattle.mr_base.specs.Reasons.{code_of, name_of}
+use Rattle.mr_event.specs.declared.footprint.Pair.{Pair}
+use Rattle.mr_report.specs.declared.report.Line.{Line}
+use Rattle.mr_report.specs.Report.{report_text}
 use Rattle.mr_lex.specs.Rules as text
 use Rattle.mr_sched.specs.Rules as schedule
-use Rattle.mr_step.specs.Runs.{Printed}
+use Rattle.mr_plan.specs.Runs.{Printed}
 use Rattle.mr_command.specs.declared.refusal.Refusal.{Refusal}
 use Rattle.mr_command.specs.declared.refusal.Refusal.TheVariants as refusal
 
@@ -16,22 +18,13 @@ line text = text ++ 10 ∷ []
 
 -- ---- the report
 
--- `> TEXT`
-abbrev pub print_line : Printed → List ℕ
-print_line p = line (codes "> " ++ p.text)
+-- a print, as the report has it
+abbrev pub line_of : Printed → Line
+line_of p = record { thread = p.thread; text = p.text }
 
--- what a verdict is called; behind an undefined one stand the reason's code and name
-abbrev pub verdict_text : Verdict → List ℕ
-verdict_text verdict.Running = codes "running"
-verdict_text verdict.Exit = codes "exit"
-verdict_text verdict.Leak = codes "leak"
-verdict_text verdict.Abort = codes "abort"
-verdict_text verdict.Deadlock = codes "deadlock"
-verdict_text (verdict.Undefined r) = codes "undefined " ++ decimal (code_of r) ++ codes " " ++ name_of r
-
--- The prints in order, the verdict, and the races: a run of one thread has none.
-abbrev pub report_of : List Printed → Verdict → List ℕ
-report_of output v = flat_map print_line output ++ line (codes "verdict " ++ verdict_text v) ++ line (codes "races 0")
+-- The prints in order, the verdict, and the races.
+abbrev pub report_of : List Printed → Verdict → List Pair → List ℕ
+report_of output v races = report_text (map line_of output) v races None
 
 -- 0 where the run ended by exit or is running still
 abbrev pub verdict_status : Verdict → ℕ
@@ -41,6 +34,11 @@ verdict_status verdict.Leak = 1
 verdict_status verdict.Abort = 1
 verdict_status verdict.Deadlock = 1
 verdict_status (verdict.Undefined r) = 1
+
+-- and no race is listed
+abbrev pub report_status : Verdict → List Pair → ℕ
+report_status v [] = verdict_status v
+report_status v (p ∷ races) = 1
 
 -- ---- refusals
 
@@ -59,7 +57,6 @@ earlier_text (Some id) = codes " " ++ decimal id.thread ++ codes " " ++ decimal 
 abbrev pub refusal_text : Refusal → List ℕ
 refusal_text refusal.ReadProgram = line (codes "read program")
 refusal_text (refusal.Text at col code) = text_line at col code (text.name_by_code code)
-refusal_text refusal.NotBuilt = text_line 1 1 90 (codes "NotBuilt")
 refusal_text refusal.ReadSchedule = line (codes "read schedule")
 refusal_text (refusal.Schedule at code earlier) =
     line (codes "schedule " ++ decimal at ++ codes " " ++ decimal code
@@ -70,7 +67,6 @@ refusal_text refusal.Memory = []
 abbrev pub refusal_status : Refusal → ℕ
 refusal_status refusal.ReadProgram = 6
 refusal_status (refusal.Text at col code) = 3
-refusal_status refusal.NotBuilt = 3
 refusal_status refusal.ReadSchedule = 6
 refusal_status (refusal.Schedule at code earlier) = 5
 refusal_status refusal.Memory = 8

@@ -1,17 +1,20 @@
 -- How the run of a program is answered, and the steps of it.
-use Rattle.std.specs.Prelude.{◌≡◌, ℕ, false, List, None, Result, Ok, Err}
+use Rattle.std.specs.Prelude.{◌≡◌, ◌++◌, ℕ, false, List, None, Result, Ok, Err}
 use Rattle.mr_ast.specs.declared.program.Program.{Program}
 use Rattle.mr_sched.specs.declared.schedule.Entry.{Entry}
 use Rattle.mr_sched.specs.declared.schedule.Schedule.{Schedule}
 use Rattle.mr_step.specs.declared.fault.StepFault.{StepFault}
 use Rattle.mr_step.specs.declared.fault.StepFault.TheVariants as answer
-use Rattle.mr_step.specs.Runs.{Config, after}
-use Rattle.mr_step.specs.Language.{Own, Look, step}
+use Rattle.mr_event.specs.declared.footprint.Footprint.{Footprint}
+use Rattle.mr_plan.specs.Runs.{Config, after, feet, foot_from}
+use Rattle.mr_frame.specs.Frames.{Look}
+use Rattle.mr_thread.specs.Steps.{Own, thread_step}
 use Rattle.mr_step.specs.Standing.{Standing}
-use Rattle.mr_step.specs.Start.{at_line, entries_fault, program_fault, program_step}
+use Rattle.mr_start.specs.Start.{at_line, entries_fault, program_fault, program_step}
 use Rattle.mr_command.specs.declared.refusal.Refusal.{Refusal}
 use Rattle.mr_command.specs.declared.refusal.Refusal.TheVariants as refusal
-use Rattle.mr_command.specs.Answer.{legal_run, unless_broken}
+use Rattle.mr_command.specs.declared.run.Finished.{Finished}
+use Rattle.mr_command.specs.Answer.{Ran, legal_run, unless_broken}
 use Rattle.mr_command.specs.Outcome.{Gives}
 
 -- a fault of a start or a step, which stands on this line
@@ -20,33 +23,43 @@ placed line (answer.BadEntry code earlier) = refusal.Schedule line code earlier
 placed line answer.Memory = refusal.Memory
 placed line answer.Failed = refusal.Memory
 
--- where a configuration is led by entries, the first of which stands on this line, or the first rule that they break
-abbrev pub legal_after : Look → Config Own → ℕ → List Entry → Result (Config Own) Refusal
-legal_after look c line es = unless_broken (entries_fault look c line es) (after (step look) c es)
+-- what entries come to from a configuration, the first of which stands on this line, or the first rule that they break
+abbrev pub legal_after : Look → Config Own → ℕ → List Entry → Result Ran Refusal
+legal_after look c line es =
+    unless_broken (entries_fault look c line es) (record { config = after (thread_step look) c es; steps = feet (thread_step look) c es })
 
--- a machine that didn't fail stands where it should, or the refusal is the one that is defined
-abbrev pub Stands : Look → Standing → Result (Config Own) Refusal → Type 0
-Stands look m defined = (m.failed ≡ false) × (m.look ≡ look) × (defined ≡ Ok m.config)
+-- a machine that didn't fail stands where it should, and the steps that completed joined those before them
+pub record Stands (look : Look) (m : Standing) (old new : List Footprint) (defined : Result Ran Refusal) : Type 0 where
+  pub working : m.failed ≡ false
+  pub look : m.look ≡ look
+  pub steps : List Footprint
+  pub joined : new ≡ old ++ steps
+  pub is : defined ≡ Ok (record { config = m.config; steps = steps })
 
 -- what a refusal says, except of memory
-abbrev pub Refuses : Refusal → Result (Config Own) Refusal → Type 0
+abbrev pub Refuses : Refusal → Result Ran Refusal → Type 0
 Refuses r defined = Gives (Err r) defined
 
--- how a run is answered: by the machine where it ends, or by what refuses it
-abbrev pub RunAnswer : Program → Schedule → Result Standing Refusal → Type 0
-RunAnswer p w (Ok m) = (m.failed ≡ false) × (legal_run p w ≡ Ok m.config)
+-- what a run came to, as the code keeps it
+abbrev pub ran_by : Finished → Ran
+ran_by f = record { config = f.machine.config; steps = f.steps.items }
+
+-- how a run is answered: by the machine where it ends and the footprints, or by what refuses it
+abbrev pub RunAnswer : Program → Schedule → Result Finished Refusal → Type 0
+RunAnswer p w (Ok f) = (f.machine.failed ≡ false) × (legal_run p w ≡ Ok (ran_by f))
 RunAnswer p w (Err r) = Refuses r (legal_run p w)
 
 -- how entries from line 3 on are answered
-abbrev pub EntriesAnswer : List Entry → Standing → Standing → Result (Unit {0}) Refusal → Type 0
-EntriesAnswer es old new (Ok u) = Stands old.look new (legal_after old.look old.config 3 es)
-EntriesAnswer es old new (Err r) = Refuses r (legal_after old.look old.config 3 es)
+abbrev pub EntriesAnswer : List Entry → Standing → Standing → List Footprint → List Footprint → Result (Unit {0}) Refusal → Type 0
+EntriesAnswer es old new was is (Ok u) = Stands old.look new was is (legal_after old.look old.config 3 es)
+EntriesAnswer es old new was is (Err r) = Refuses r (legal_after old.look old.config 3 es)
 
 -- one entry
-abbrev pub legal_step : Look → Config Own → ℕ → Entry → Result (Config Own) Refusal
-legal_step look c line e = unless_broken (at_line line (program_fault look c e) None) (program_step look c e)
+abbrev pub legal_step : Look → Config Own → ℕ → Entry → Result Ran Refusal
+legal_step look c line e =
+    unless_broken (at_line line (program_fault look c e) None) (record { config = program_step look c e; steps = foot_from (thread_step look) e.thread e.picks c.state })
 
 -- how one entry is answered
-abbrev pub EntryAnswer : Entry → ℕ → Standing → Standing → Result (Unit {0}) Refusal → Type 0
-EntryAnswer e line old new (Ok u) = Stands old.look new (legal_step old.look old.config line e)
-EntryAnswer e line old new (Err r) = Refuses r (legal_step old.look old.config line e)
+abbrev pub EntryAnswer : Entry → ℕ → Standing → Standing → List Footprint → List Footprint → Result (Unit {0}) Refusal → Type 0
+EntryAnswer e line old new was is (Ok u) = Stands old.look new was is (legal_step old.look old.config line e)
+EntryAnswer e line old new was is (Err r) = Refuses r (legal_step old.look old.config line e)

@@ -3,10 +3,9 @@ ghost use Rattle.std.specs.Prelude.{◌≡◌, ◌+◌, ◌^◌, ◌≤◌, ℕ,
 ghost use Rattle.mr_io.specs.Counts.{Rose};
 ghost use Rattle.mr_io.specs.Files.{Contents};
 ghost use Rattle.mr_ast.specs.Shaped.{Shaped};
-ghost use Rattle.mr_step.specs.Built.{Built};
 ghost use Rattle.mr_wf.specs.Walk.{faults_of};
-ghost use Rattle.mr_command.specs.Answer.{canonical, check_answer, form_answer, if_built, legal_run, report_under, reported, told};
-ghost use Rattle.mr_command.specs.Answering.{IsAnswered, IsAnsweredOverTexts, IsChecked, IsFormOrReport, IsReported, IsRunOrUnread, IsRunOverText, IsStatus, Tells, TellsOrUnread};
+ghost use Rattle.mr_command.specs.Answer.{canonical, check_answer, form_answer, legal_run, report_under, reported, told};
+ghost use Rattle.mr_command.specs.Answering.{IsAnswered, IsAnsweredOverTexts, IsChecked, IsFormOrReport, IsReported, IsRunOverText, IsStatus, Tells, TellsOrUnread};
 ghost use Rattle.mr_command.specs.Command.{asked, named_files, Check, NamesProgram, Run};
 ghost use Rattle.mr_command.specs.Headline.{AsksForSchedule};
 ghost use Rattle.mr_command.specs.Outcome.{IsUnreadFault};
@@ -15,7 +14,7 @@ use crate::command::Command;
 use crate::form::form_line;
 use crate::input::{read_program, read_schedule};
 use crate::refusal::Refusal;
-use crate::report::{report, status_of};
+use crate::report::report;
 use crate::run::run;
 use mr_ast::Program;
 use mr_io::Files;
@@ -84,7 +83,7 @@ fn report_files<F: Files>(
     }
 }
 
-// The report of the run of a program under the schedule in a file, where the program is built.
+// The report of the run of a program that breaks no rule under the schedule in a file, and else the line of the first rule that it breaks.
 fn report_program<F: Files>(
     alloc: Global,
     files: &mut F,
@@ -94,35 +93,6 @@ fn report_program<F: Files>(
     requires { Shaped p }
     ensures same { F.told files.new ≡ F.told files.old }
     ensures reads { F.reads files.new ≤ F.reads files.old + 1 }
-    ensures none { ¬ ((if_built p ≡ Ok p) × (faults_of p ≡ [])) → F.reads files.new ≤ F.reads files.old }
-    ensures second { ¬ result ≡ Err Refusal.ReadProgram }
-    ensures faults { F.faults files.old ≤ F.faults files.new }
-    ensures answer { (contents : Contents) → F.told files.old ≡ Some contents
-        → IsRunOrUnread (Rose (F.faults files.old) (F.faults files.new))
-        (contents schedule.now) p result }
-    ensures status { IfOk result (λ a. IsStatus a.status) }
-    ensures texts { F.told files.old ≡ None → IsRunOverText (Rose (F.faults files.old) (F.faults files.new)) p result }
-    ensures untold { F.told files.old ≡ None → IsUnreadFault result
-        → Rose (F.faults files.old) (F.faults files.new) }
-{
-    if mr_step::built(&p) {
-        report_built(alloc, files, p, schedule)
-    } else {
-        Err(Refusal::NotBuilt)
-    }
-}
-
-// The same of a program that is built: the report where it breaks no rule, and else the line of the first rule that it breaks.
-fn report_built<F: Files>(
-    alloc: Global,
-    files: &mut F,
-    p: Program,
-    schedule: &str,
-) -> Result<Written, Refusal>
-    requires shaped { Shaped p }
-    requires built { Built p }
-    ensures same { F.told files.new ≡ F.told files.old }
-    ensures reads { F.reads files.new ≤ F.reads files.old + 1 }
     ensures none { ¬ faults_of p ≡ [] → F.reads files.new ≤ F.reads files.old }
     ensures second { ¬ result ≡ Err Refusal.ReadProgram }
     ensures faults { F.faults files.old ≤ F.faults files.new }
@@ -130,8 +100,7 @@ fn report_built<F: Files>(
         → IsFormOrReport (Rose (F.faults files.old) (F.faults files.new))
         (contents schedule.now) p result }
     ensures status { IfOk result (λ a. IsStatus a.status) }
-    ensures texts { F.told files.old ≡ None → (text : List ℕ)
-        × IsFormOrReport (Rose (F.faults files.old) (F.faults files.new)) (Some text) p result }
+    ensures texts { F.told files.old ≡ None → IsRunOverText (Rose (F.faults files.old) (F.faults files.new)) p result }
     ensures untold { F.told files.old ≡ None → IsUnreadFault result
         → Rose (F.faults files.old) (F.faults files.new) }
 {
@@ -149,7 +118,6 @@ fn report_schedule<F: Files>(
     p: &Checked,
     schedule: &str,
 ) -> Result<Written, Refusal>
-    requires { Built p.now }
     ensures same { F.told files.new ≡ F.told files.old }
     ensures reads { F.reads files.new ≤ F.reads files.old + 1 }
     ensures second { ¬ result ≡ Err Refusal.ReadProgram }
@@ -171,20 +139,13 @@ fn report_schedule<F: Files>(
 
 // The report of the run of a program under a schedule.
 fn report_run(alloc: Global, p: &Checked, w: &Schedule) -> Result<Written, Refusal>
-    requires built { Built p.now }
-    requires few { length w.now.entries ≤ 2 ^ 20 }
+    requires { length w.now.entries ≤ 2 ^ 20 }
     ensures answer { Tells (told reported (legal_run p.now w.now)) result }
     ensures status { IfOk result (λ a. IsStatus a.status) }
     ensures read { ¬ IsUnreadFault result }
 {
     match run(alloc, p, w) {
-        Ok(machine) => {
-            let text = report(alloc, &machine)?;
-            Ok(Written {
-                text,
-                status: status_of(machine.verdict()),
-            })
-        }
+        Ok(finished) => report(alloc, &finished),
         Err(refusal) => Err(refusal),
     }
 }

@@ -1,11 +1,9 @@
 //! `mirace run P S`: what the machine comes to that runs the program in file P under the recorded schedule in file S.
 //! `mirace check P`: the canonical text of the program in file P, where it is well-formed.
 //!
-//! Where the text denotes no program, both write the first fault of it: its line, its column, a code and a name. A program that
-//! the machine doesn't run so far is refused by `run` alone. What is run so far is one frame: each program without `call`, `unwind`,
-//! `resume` and `stop`, and without intrinsics other than `print` and `assume`; its globals, types, places, values and statements are
-//! those of the whole language. Of a program that breaks a rule of well-formedness both write where the first one is broken: the global
-//! or function, the block, a place, a code and a name.
+//! Where the text denotes no program, both write the first fault of it: its line, its column, a code and a name. Of a program
+//! that breaks a rule of well-formedness both write where the first one is broken: the global or function, the block, a place, a code and
+//! a name.
 //!
 //! The public call is [`mirace`], over files and a sink. Its promises are clauses of it: what is written and the status are those
 //! of `specs/Answer.antt`, and each fault has its cause. Of a well-formed program and a legal schedule the report is that of the
@@ -19,14 +17,14 @@ ghost use Rattle.mr_io.specs.Counts.{Rose};
 ghost use Rattle.mr_io.specs.Files.{Contents};
 ghost use Rattle.mr_lex.specs.declared.token.TextFault.{TextFault};
 ghost use Rattle.mr_sched.specs.declared.schedule.Schedule.{Schedule as Recorded};
-ghost use Rattle.mr_step.specs.Start.{PlacedFault};
+ghost use Rattle.mr_start.specs.Start.{PlacedFault};
 ghost use Rattle.mr_wf.specs.declared.fault.FormFault.{FormFault};
 ghost use Rattle.mr_command.specs.Answer.{canonical, form_answer, refused, text_refusal, usage};
 ghost use Rattle.mr_command.specs.Command.{asked, command_of, named_files, Check, NamesProgram, Run};
-ghost use Rattle.mr_command.specs.Headline.{AsksForSchedule, ChecksProgram, IsOfMachine, IsTold, IsUnreadBecause, Names, NamesBroken, NamesBrokenSchedule, NamesFault, NamesScheduleFault, ReportsLegalRun, RunsUnbuilt, WritesCanonical};
+ghost use Rattle.mr_command.specs.Headline.{AsksForSchedule, ChecksProgram, IsOfMachine, IsTold, IsUnreadBecause, Names, NamesBroken, NamesBrokenSchedule, NamesFault, NamesScheduleFault, ReportsLegalRun, WritesCanonical};
 ghost use Rattle.mr_command.specs.Outcome.{Ends, EndsOverTexts, IsWritten};
 ghost use Rattle.mr_command.specs.Report.{refusal_text};
-ghost use Rattle.mr_command.specs.declared.refusal.Refusal.TheVariants.{NotBuilt, ReadProgram, Schedule};
+ghost use Rattle.mr_command.specs.declared.refusal.Refusal.TheVariants.{ReadProgram, Schedule};
 
 mod answer;
 mod command;
@@ -46,7 +44,7 @@ use std::alloc::Global;
 const USAGE: &[u8] = b"usage: see the table of commands\n";
 
 /// Does what the words behind the program's name ask for, and answers the exit status: 0 or 1 of a report, 0 of a canonical text,
-/// 2 of words without a form, 3 of a text that denotes no program or a program that isn't built, 4 of a program that breaks a rule
+/// 2 of words without a form, 3 of a text that denotes no program, 4 of a program that breaks a rule
 /// of well-formedness, 5 of a schedule, 6 of a file that was not read, 7 of a failed write and 8 where memory ran out.
 pub fn mirace<F: Files, O: Sink>(alloc: Global, words: &[String], files: &mut F, out: &mut O) -> u8
     // What is written and answered, over files that tell what they hold.
@@ -90,10 +88,6 @@ pub fn mirace<F: Files, O: Sink>(alloc: Global, words: &[String], files: &mut F,
         → NamesBroken contents (command_of (map string_bytes words.now)) p fault
         → IsTold (form_answer p fault) (Rose (F.faults files.old) (F.faults files.new))
         (Rose (O.faults out.old) (O.faults out.new)) (O.taken out.old) (O.taken out.new) result }
-    ensures not_built { (contents : Contents) (p : Program) → F.told files.old ≡ Some contents
-        → RunsUnbuilt contents (command_of (map string_bytes words.now)) p
-        → IsTold (refused NotBuilt) (Rose (F.faults files.old) (F.faults files.new))
-        (Rose (O.faults out.old) (O.faults out.new)) (O.taken out.old) (O.taken out.new) result }
 
     // So is a schedule: by its text's first fault, and by the first rule that it breaks.
     ensures schedule_fault { (contents : Contents) (line code : ℕ) → F.told files.old ≡ Some contents
@@ -116,7 +110,7 @@ pub fn mirace<F: Files, O: Sink>(alloc: Global, words: &[String], files: &mut F,
     ensures same { F.told files.new ≡ F.told files.old }
     ensures reads { F.reads files.new ≤ F.reads files.old + named_files (command_of (map string_bytes words.now)) }
 
-    // The schedule is read behind the program alone, and where that is built and breaks no rule.
+    // The schedule is read behind the program alone, and where that breaks no rule.
     ensures once { (contents : Contents) (program : List ℕ) → F.told files.old ≡ Some contents
         → NamesProgram (command_of (map string_bytes words.now)) program → ¬ AsksForSchedule (contents program)
         → F.reads files.new ≤ F.reads files.old + 1 }

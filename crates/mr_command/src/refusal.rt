@@ -10,9 +10,6 @@ use mr_lex::TextRule;
 use mr_sched::ScheduleRule;
 use std::alloc::{AllocError, AllocFailed, Global};
 
-// The code of a program that the machine doesn't run so far.
-const NOT_BUILT: u8 = 90;
-
 /// Why there is no report, and no canonical text.
 #[derive(Clone, Copy, Debug, PartialEq, Eq)]
 pub enum Refusal {
@@ -24,8 +21,6 @@ pub enum Refusal {
         col: u32,
         code: u8,
     },
-    /// The machine doesn't run the program so far.
-    NotBuilt,
     /// The file of the schedule was not read.
     ReadSchedule,
     /// The schedule's text or a rule is broken at this line, with the allocation whose range is overlapped, for 64.
@@ -70,7 +65,7 @@ impl Refusal {
     {
         match self {
             Refusal::ReadProgram | Refusal::ReadSchedule => 6,
-            Refusal::Text { .. } | Refusal::NotBuilt => 3,
+            Refusal::Text { .. } => 3,
             Refusal::Schedule { .. } => 5,
             Refusal::Memory => 8,
         }
@@ -89,7 +84,6 @@ impl Refusal {
                 code,
                 text_rule_name(code),
             ),
-            Refusal::NotBuilt => text_line(alloc, 1, 1, NOT_BUILT, "NotBuilt"),
             Refusal::ReadSchedule => Vec::from_slice(alloc, b"read schedule\n"),
             Refusal::Schedule {
                 line,

@@ -1,26 +1,57 @@
-//! The text and the exit status of the report of a run.
-ghost use Rattle.std.specs.Prelude.{◌≡◌, ◌<◌, ◌≤◌, ◌++◌, length, slice_get, Some, IfOk, OnOk, flat_map, codes};
-ghost use Rattle.mr_step.specs.Runs.{Printed};
-ghost use Rattle.mr_command.specs.Report.{line, print_line, report_of, verdict_status, verdict_text};
+//! The report of a run: its text, and the exit status.
+ghost use Rattle.std.specs.Prelude.{◌≡◌, ◌≤◌, ◌⊎◌, All, IfOk, map, true};
+ghost use Rattle.mr_base.specs.declared.reason.Verdict.{Verdict as VerdictOf};
+ghost use Rattle.mr_event.specs.Predicted.{predicted};
+ghost use Rattle.mr_command.specs.Answer.{reported};
+ghost use Rattle.mr_command.specs.Answering.{IsStatus, seen};
+ghost use Rattle.mr_command.specs.Report.{line_of, report_of, report_status, verdict_status};
+ghost use Rattle.mr_command.specs.Running.{ran_by};
 
-use crate::refusal::push_number;
+use crate::answer::Written;
+use crate::run::Finished;
 use mr_base::Verdict;
+use mr_event::{Footprint, Pair, predicted_plain};
+use mr_report::{Line, Report, text};
+use mr_sched::Items;
 use mr_step::Machine;
 use std::alloc::{AllocError, Global};
 
-/// The text of the report of a machine's run.
-pub fn report(alloc: Global, machine: &Machine<'_>) -> Result<Vec<u8>, AllocError>
-    ensures { IfOk result (λ text. text.items ≡ report_of machine.now.config.output machine.now.config.verdict) }
+/// The report of a run that was taken to its end.
+pub fn report(alloc: Global, finished: &Finished<'_>) -> Result<Written, AllocError>
+    ensures answer { IfOk result (λ w. seen w ≡ reported (ran_by finished.now)) }
+    ensures status { IfOk result (λ w. IsStatus w.status) }
 {
-    let mut text = Vec::new(alloc);
-    push_prints(&mut text, machine)?;
-    push_verdict(&mut text, machine.verdict())?;
-    text.extend_from_slice(b"races 0\n")?;
-    Ok(text)
+    let machine = &finished.machine;
+    let lines = lines_of(alloc, machine)?;
+    let races = races_of(alloc, finished.steps.as_slice())?;
+    let verdict = machine.verdict();
+    let mut out = Vec::new(alloc);
+    let report = Report {
+        output: lines.as_slice(),
+        verdict,
+        races: races.as_slice(),
+        witness: None,
+    };
+    text(alloc, &report, &mut out)?;
+    Ok(Written {
+        text: out,
+        status: status_of(verdict, races.as_slice()),
+    })
 }
 
-/// The exit status of a run that came to this.
-pub fn status_of(verdict: Verdict) -> u8
+// The exit status of a run that came to this.
+fn status_of(verdict: Verdict, races: &[Pair]) -> u8
+    ensures status { result ≡ report_status verdict races.now }
+    ensures least { result ≤ 1 }
+{
+    if races.is_empty() {
+        verdict_status(verdict)
+    } else {
+        1
+    }
+}
+
+fn verdict_status(verdict: Verdict) -> u8
     ensures status { result ≡ verdict_status verdict }
     ensures least { result ≤ 1 }
 {
@@ -30,53 +61,40 @@ pub fn status_of(verdict: Verdict) -> u8
     }
 }
 
-fn push_prints(text: &mut Vec<u8>, machine: &Machine<'_>) -> Result<(), AllocError>
-    ensures { OnOk result (text.new.items ≡ text.old.items ++ flat_map print_line machine.now.config.output) }
+// The prints of a run, in order.
+fn lines_of(alloc: Global, machine: &Machine<'_>) -> Result<Vec<Line>, AllocError>
+    ensures { IfOk result (λ lines. lines.items ≡ map line_of machine.now.config.output) }
 {
+    let mut lines = Vec::new(alloc);
     for i in 0..machine.lines() {
-        push_line(text, machine, i)?;
-    }
-    Ok(())
-}
-
-// The print of this number, counted from 0.
-fn push_line(text: &mut Vec<u8>, machine: &Machine<'_>, i: usize) -> Result<(), AllocError>
-    requires { i < length machine.now.config.output }
-    ensures { (p : Printed) → slice_get machine.now.config.output i ≡ Some p
-        → OnOk result (text.new.items ≡ text.old.items ++ print_line p) }
-{
-    match machine.line(i) {
-        Some((_, print)) => push_print(text, print),
-        None => unreachable!(),
-    }
-}
-
-fn push_print(text: &mut Vec<u8>, print: &[u8]) -> Result<(), AllocError>
-    ensures { OnOk result (text.new.items ≡ text.old.items ++ line (codes "> " ++ print.now)) }
-{
-    text.extend_from_slice(b"> ")?;
-    text.extend_from_slice(print)?;
-    text.push(b'\n')?;
-    Ok(())
-}
-
-fn push_verdict(text: &mut Vec<u8>, verdict: Verdict) -> Result<(), AllocError>
-    ensures { OnOk result (text.new.items ≡ text.old.items ++ line (codes "verdict " ++ verdict_text verdict)) }
-{
-    text.extend_from_slice(b"verdict ")?;
-    match verdict {
-        Verdict::Running => text.extend_from_slice(b"running")?,
-        Verdict::Exit => text.extend_from_slice(b"exit")?,
-        Verdict::Leak => text.extend_from_slice(b"leak")?,
-        Verdict::Abort => text.extend_from_slice(b"abort")?,
-        Verdict::Deadlock => text.extend_from_slice(b"deadlock")?,
-        Verdict::Undefined(reason) => {
-            text.extend_from_slice(b"undefined ")?;
-            push_number(text, reason.code().into())?;
-            text.push(b' ')?;
-            text.extend_from_slice(reason.name().as_bytes())?;
+        if let Some((thread, bytes)) = machine.line(i) {
+            lines.push(Line {
+                thread,
+                text: Items::from_slice(alloc, bytes)?,
+            })?;
         }
     }
-    text.push(b'\n')?;
-    Ok(())
+    Ok(lines)
+}
+
+// Whether all steps are of thread 0.
+fn are_alone(steps: &[Footprint]) -> bool
+    ensures { result ≡ true → All (λ f. f.thread ≡ 0) steps.now }
+{
+    for step in steps {
+        if step.thread != 0 {
+            return false;
+        }
+    }
+    true
+}
+
+// The races of a run. Where one thread took all steps there is none, so that they aren't compared.
+fn races_of(alloc: Global, steps: &[Footprint]) -> Result<Vec<Pair>, AllocError>
+    ensures { IfOk result (λ races. races.items ≡ predicted steps.now) }
+{
+    if are_alone(steps) {
+        return Ok(Vec::new(alloc));
+    }
+    predicted_plain(alloc, steps)
 }

@@ -3,7 +3,7 @@ use Rattle.std.specs.Prelude.{Option}
 use Rattle.mr_io.specs.Counts.{Rose}
 use Rattle.mr_command.specs.Command.{Command, NamesProgram}
 use Rattle.mr_command.specs.Outcome.{Ends, EndsOverTexts}
-use Rattle.mr_command.proofs.HeadlineLaws.{of_machine, broken_schedule_told, canonical_told, fault_told, form_told, schedule_fault_told, unbuilt_told, unless_faults}
+use Rattle.mr_command.proofs.HeadlineLaws.{of_machine, broken_schedule_told, canonical_told, fault_told, form_told, schedule_fault_told, unless_faults}
 use Rattle.mr_command.proofs.OnlyLaws.{only_legal, only_sound}
 use Rattle.mr_command.proofs.UnreadLaws.{unread_because}
 use Rattle.mr_command.proofs.mirace.Goals as goal
@@ -41,10 +41,6 @@ returns-in-Some-clause-text_fault g c = λ contents fault told names.
 pub returns-in-Some-clause-form : goal.returns-in-Some-clause-form
 returns-in-Some-clause-form g c = λ contents p fault told names.
     form_told contents _ _ _ _ _ _ p fault names (returns-in-Some-clause-ends g c contents told)
-
-pub returns-in-Some-clause-not_built : goal.returns-in-Some-clause-not_built
-returns-in-Some-clause-not_built g c = λ contents p told runs.
-    unbuilt_told contents _ _ _ _ _ _ p runs (returns-in-Some-clause-ends g c contents told)
 
 pub returns-in-Some-clause-only_legal : goal.returns-in-Some-clause-only_legal
 returns-in-Some-clause-only_legal g c = λ contents program schedule told is_run.

@@ -5,7 +5,7 @@ use Rattle.mr_wf.specs.Answers.{IsCheck}
 use Rattle.mr_command.specs.Answer.{report_under}
 use Rattle.mr_command.proofs.AnswerLaws.{broken_told}
 use Rattle.mr_command.proofs.TextLaws.{checked_reported}
-use Rattle.mr_command.proofs.answer.report_built.Goals as goal
+use Rattle.mr_command.proofs.answer.report_program.Goals as goal
 
 pub returns-in-Err-Form-clause-answer : goal.returns-in-Err-Form-clause-answer
 returns-in-Err-Form-clause-answer g c = λ contents told.

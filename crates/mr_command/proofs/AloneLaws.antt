@@ -1,0 +1,47 @@
+-- A run of one thread has no race.
+use Rattle.std.proofs.Common.{◌≡◌, ℕ, zero, suc, ◌<◌, ◌≤◌, refl, sym, ap, ◌∙◌, arith, Bool, true, false, not, List, [], ◌∷◌, ◌++◌, length, Option, Some, None}
+use Rattle.std.proofs.lemmas.Bool.Decides.{nat_tests}
+use Rattle.std.specs.Prelude.{All, ◌==◌, ◌&&◌, nat_lt, cond}
+use Rattle.mr_base.specs.Accesses.{some_race}
+use Rattle.mr_event.specs.declared.footprint.Footprint.{Footprint}
+use Rattle.mr_event.specs.declared.footprint.Pair.{Pair}
+use Rattle.mr_event.specs.Order.{step_at, thread_at}
+use Rattle.mr_event.specs.Predicted.{greatest_below, happens_before, pair_with, predicted, predicted_below, race_pair}
+
+-- all steps are of thread 0
+abbrev pub AreAlone : List Footprint → Type 0
+AreAlone run = All (λ f. f.thread ≡ 0) run
+
+thread_zero : (run : List Footprint) (i : ℕ) → AreAlone run → thread_at run i ≡ 0
+thread_zero [] i h = refl
+thread_zero (f ∷ run) zero h = h.0
+thread_zero (f ∷ run) (suc i) h = thread_zero run i h.1
+
+same_is : (a b : ℕ) → a ≡ b → (a == b) ≡ true
+same_is a b h = grind (arith, nat_tests)
+
+both_false : (a b c : Bool) → (a && (not true && (b && c))) ≡ false
+both_false true b c = refl
+both_false false b c = refl
+
+no_pair : (run : List Footprint) (i j : ℕ) → AreAlone run → race_pair run i j ≡ false
+unfolding race_pair
+no_pair run i j h =
+    ap (λ (b : Bool). nat_lt i j && (not b && (some_race (step_at run i).accesses (step_at run j).accesses && not (happens_before run i j))))
+    (same_is (thread_at run i) (thread_at run j) (thread_zero run i h ∙ sym (thread_zero run j h)))
+    ∙ both_false (nat_lt i j) (some_race (step_at run i).accesses (step_at run j).accesses) (not (happens_before run i j))
+
+none_below : (p : ℕ → Bool) (n : ℕ) → ((i : ℕ) → p i ≡ false) → greatest_below p n ≡ None
+none_below p zero h = refl
+none_below p (suc n) h = ap (λ (b : Bool). cond b (Some n) (greatest_below p n)) (h n) ∙ none_below p n h
+
+none_to : (run : List Footprint) (n : ℕ) → AreAlone run → predicted_below run n ≡ []
+none_to run zero h = refl
+none_to run (suc n) h =
+    ap (λ o. predicted_below run n ++ pair_with o n) (none_below (λ i. race_pair run i n) n (λ i. no_pair run i n h))
+    ∙ ap (λ ps. ps ++ []) (none_to run n h)
+
+-- NO RACE is predicted of it
+pub none_predicted : (run : List Footprint) → AreAlone run → predicted run ≡ []
+unfolding predicted
+none_predicted run h = none_to run (length run) h

@@ -1,0 +1,44 @@
+-- The text of a report.
+use Rattle.std.specs.Prelude.{ℕ, ◌+◌, List, [], ◌∷◌, ◌++◌, flat_map, codes, decimal, length, Option, None, Some}
+use Rattle.mr_base.specs.declared.reason.Verdict.{Verdict}
+use Rattle.mr_base.specs.declared.reason.Verdict.TheVariants as verdict
+use Rattle.mr_base.specs.Reasons.{code_of, name_of}
+use Rattle.mr_event.specs.declared.footprint.Pair.{Pair}
+use Rattle.mr_sched.specs.declared.schedule.Schedule.{Schedule}
+use Rattle.mr_sched.specs.Spelling.{text_of}
+use Rattle.mr_report.specs.declared.report.Line.{Line}
+
+-- a line, ended by LF
+abbrev pub line : List ℕ → List ℕ
+line text = text ++ 10 ∷ []
+
+-- `> TEXT`
+abbrev pub print_line : Line → List ℕ
+print_line l = line (codes "> " ++ l.text)
+
+-- what a verdict is called; behind an undefined one stand the reason's code and name
+abbrev pub verdict_text : Verdict → List ℕ
+verdict_text verdict.Running = codes "running"
+verdict_text verdict.Exit = codes "exit"
+verdict_text verdict.Leak = codes "leak"
+verdict_text verdict.Abort = codes "abort"
+verdict_text verdict.Deadlock = codes "deadlock"
+verdict_text (verdict.Undefined r) = codes "undefined " ++ decimal (code_of r) ++ codes " " ++ name_of r
+
+-- `race I J`, whose steps are counted from 1
+abbrev pub race_line : Pair → List ℕ
+race_line p = line (codes "race " ++ decimal (p.first + 1) ++ codes " " ++ decimal (p.second + 1))
+
+-- `races K`, and a line for each of them
+abbrev pub races_text : List Pair → List ℕ
+races_text races = line (codes "races " ++ decimal (length races)) ++ flat_map race_line races
+
+-- `witness N`, and the text of the schedule, which has N entries
+abbrev pub witness_text : Option Schedule → List ℕ
+witness_text None = []
+witness_text (Some w) = line (codes "witness " ++ decimal (length w.entries)) ++ text_of w
+
+-- THE TEXT OF A REPORT: the prints in order, the verdict, the races, and the witness where there is one
+abbrev pub report_text : List Line → Verdict → List Pair → Option Schedule → List ℕ
+report_text output v races witness =
+    flat_map print_line output ++ line (codes "verdict " ++ verdict_text v) ++ races_text races ++ witness_text witness
