@@ -5,11 +5,13 @@ use Rattle.std.proofs.lemmas.Option.{same_Some}
 use Rattle.std.specs.Prelude.{All, replicate, slice_get}
 use Rattle.mr_ast.specs.declared.program.Function.{Function}
 use Rattle.mr_ast.specs.declared.program.Local.{Local}
+use Rattle.mr_ast.specs.declared.program.Program.{Program}
 use Rattle.mr_ast.specs.declared.types.Ty.{Ty}
 use Rattle.mr_base.specs.declared.byte.Pointer.{Pointer}
 use Rattle.mr_base.specs.declared.reason.Reason.{Reason}
 use Rattle.mr_layout.specs.TypeOk.{TypeOk}
 use Rattle.mr_value.specs.declared.val.Val.{Val}
+use Rattle.mr_wf.specs.Walk.{WellFormed}
 use Rattle.mr_script.specs.Script.{Outcome, Refused, Went, on}
 use Rattle.mr_eval.proofs.ShapeOf.{HaveShapes}
 use Rattle.mr_eval.specs.World.{World}
@@ -28,6 +30,12 @@ use Rattle.mr_frame.proofs.TypeRows.{First, first_there}
 use Rattle.mr_frame.specs.Calls.{local_type}
 use Rattle.std.specs.Prelude.{map}
 
+-- what a function of a well-formed program keeps are locals of it
+pub function_typed : (p : Program) → WellFormed p → (number : ℕ) (fn : Function) → slice_get p.functions number ≡ Some fn → HasTypes fn
+function_typed p well number fn there =
+    let kept = function_keeps p well number fn there in
+    record { locals = record { ret = kept.shaped.ret; args = kept.shaped.args }; ok = kept.unbroken.locals }
+
 first_dropped : (ps : List Pointer) → behind_first ps ≡ drop 1 ps
 first_dropped [] = refl
 first_dropped (p ∷ ps) = refl
@@ -43,7 +51,7 @@ module _ (look : KeptLook) (number : ℕ) (vs : List Val) (picks : List ℕ) (w 
   typed = ap kept_types (sym same) ∙ can.typed
 
   pub begins_typed : HasTypes fn
-  begins_typed = record { locals = record { ret = kept.shaped.ret; args = kept.shaped.args }; ok = kept.unbroken.locals }
+  begins_typed = function_typed look.program.now can.ready.well number fn there
 
   pub begins_allocating : (types : List Ty) → kept_types fn ≡ Some types → CanAllocate types picks w
   begins_allocating types e = subst (λ (ts : List Ty). CanAllocate ts picks w) (same_Some can.types types (sym typed ∙ e)) can.allocates
