@@ -100,7 +100,7 @@ judged_there os xs e = ap all_there e ∙ all_some xs
     all_some (y ∷ ys) = ap (λ o. option_map (λ e. e.0 ∷ e.1) (both_there (Some y) o)) (all_some ys)
 
 -- the types of locals that are within
-types_there : (fn : Function) (xs : List LocalName) → AllWithin (length fn.locals) xs → (types : List Ty) × (all_there (map (local_type fn) xs) ≡ Some types) × (length types ≡ length xs)
+pub types_there : (fn : Function) (xs : List LocalName) → AllWithin (length fn.locals) xs → (types : List Ty) × (all_there (map (local_type fn) xs) ≡ Some types) × (length types ≡ length xs)
 types_there fn [] all = ([], refl, refl)
 types_there fn (x ∷ xs) all =
     let l = within fn.locals x.0 all.0 in
@@ -142,7 +142,7 @@ rest_lengths [] (y ∷ ys) e = absurd (omega arith)
 rest_lengths (x ∷ xs) [] e = absurd (omega arith)
 rest_lengths (x ∷ xs) (y ∷ ys) e = omega arith
 
-all_within : (n : ℕ) (xs : List LocalName) → ((i : ℕ) (x : LocalName) → slice_get xs i ≡ Some x → x.0 < n) → AllWithin n xs
+pub all_within : (n : ℕ) (xs : List LocalName) → ((i : ℕ) (x : LocalName) → slice_get xs i ≡ Some x → x.0 < n) → AllWithin n xs
 all_within n [] h = tt
 all_within n (x ∷ xs) h = (h 0 x refl, all_within n xs (λ i y e. h (suc i) y e))
 
