@@ -9,5 +9,6 @@
 mod deed;
 mod framed;
 mod judging;
+mod spawning;
 
 pub use deed::{Deed, TurnFault};
