@@ -2,10 +2,16 @@
 #![tactic(auto)]
 
 mod args;
+mod asks;
 mod atomics;
 mod effect;
 mod heap;
 mod locks;
+mod need;
+mod operating;
 mod texts;
 
 pub use effect::Effect;
+pub use asks::needs_of;
+pub use need::{Creation, Needs};
+pub use operating::operate;
