@@ -5,6 +5,7 @@ pub mod HeapLaws
 pub mod Leaving
 pub mod LockLaws
 pub mod LockSafe
+pub mod NeedLaws
 pub mod OperatedLaws
 pub mod OperationSafe
 pub mod Operates
