@@ -32,9 +32,8 @@ use Rattle.mr_frame.specs.Frames.{Look}
 use Rattle.mr_frame.specs.Kept.{look_of, stack_of}
 use Rattle.mr_frame.specs.Operations.{DueDo, Operands, next_do}
 use Rattle.mr_intr.specs.Operations.{Operation, operation}
-use Rattle.mr_intr.specs.Effects.{IsDone, Prints, listed, operated}
+use Rattle.mr_intr.specs.Effects.{IsDone, IsOperation, Prints, operated}
 use Rattle.mr_intr.specs.declared.effect.Effect.{Effect}
-use Rattle.mr_intr.proofs.Operates.{IsOperation}
 use Rattle.mr_thread.specs.Steps.{Own, Turn, finishing, planned as plan_behind, with_stack}
 use Rattle.mr_turn.specs.declared.deed.Deed.{Deed}
 use Rattle.mr_turn.specs.declared.deed.TurnFault.{TurnFault}

@@ -12,10 +12,12 @@ use Rattle.mr_mem.specs.Memory.{ranges_of}
 use Rattle.mr_value.specs.declared.val.Val.{Val}
 use Rattle.mr_value.specs.declared.val.Val.TheVariants as val
 use Rattle.mr_value.specs.Shape.{has_shape}
-use Rattle.mr_plan.specs.Legal.{Fault, picks_fault}
+use Rattle.mr_plan.specs.Legal.{Fault, creation_fault, else_fault, picks_fault}
 use Rattle.mr_frame.specs.Calls.{callee_of, kept_types, same_types, storage_asks}
 use Rattle.mr_wf.specs.Intrinsics.{is_print}
 use Rattle.mr_intr.specs.Effects.{listed}
+use Rattle.mr_intr.specs.Needs.{asks_of, creation_of}
+use Rattle.mr_intr.specs.declared.need.Needs.{Needs}
 use Rattle.mr_intr.specs.declared.effect.Effect.{Effect}
 use Rattle.mr_frame.specs.declared.flow.Flow.TheVariants as flow
 use Rattle.mr_turn.specs.declared.deed.Deed.{Deed}
@@ -36,7 +38,7 @@ use Rattle.mr_frame.specs.Kept.{IsReady, look_of, stack_of}
 use Rattle.mr_frame.specs.Operations.{DueDo, Operands, next_do}
 use Rattle.mr_frame.specs.Standing.{IsUncounted}
 use Rattle.mr_thread.specs.Steps.{Own, Turn, operated, thread_types}
-use Rattle.mr_turn.specs.Turning.{begun, own_of, picks_break}
+use Rattle.mr_turn.specs.Turning.{asks_break, begun, own_of, picks_break, shared_in}
 
 -- the plan of an intrinsic that is given this, or why it stops before it has one
 unfoldable pub do_planned : Look → Own → DueDo → Operands → Shared × Notes → Outcome (Plan (StepScript Turn)) (Shared × Notes)
@@ -62,6 +64,15 @@ do_breaks look stack s x call d picks = picks_break (begun s x) (do_planned (loo
 
 abbrev pub do_comes_to : KeptLook → KeptStack → Scene → Tables → DoCall → DueDo → List ℕ → Outcome Turn (Shared × Notes)
 do_comes_to look stack s x call d picks = do_turned (look_of look) (own_of s.thread stack) d (operands_of call) picks (begun s x)
+
+-- the thread has made fewer than 2^62 allocations, none of them with its count or a greater one
+pub record CanAsk (s : Scene) : Type 0 where
+  pub uncounted : IsUncounted s.memory s.thread s.count
+  pub few : s.count < 2 ^ 62
+
+-- the rule that the picks break for what an operation needs
+abbrev pub MeetsNeeds : Scene → Tables → Needs → List ℕ → Option Fault
+MeetsNeeds s x n picks = else_fault (creation_fault (shared_in s x) (creation_of n.creates)) (asks_break s x (asks_of n.ask) picks)
 
 -- the deed of an operation, with the text of a print
 pub record IsTold (op : Intrinsic) (e : Effect) (printed : List ℕ) (d : Deed) : Type 0 where

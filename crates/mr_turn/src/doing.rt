@@ -1,30 +1,22 @@
 //! The turn of a thread whose next step is an intrinsic.
-ghost use Rattle.std.specs.Prelude.{◌≡◌, Some};
-ghost use Rattle.mr_intr.proofs.Operates.{IsOperation};
+ghost use Rattle.std.specs.Prelude.{◌≡◌, IfOk, None, Some};
+ghost use Rattle.mr_intr.specs.Effects.{IsOperation};
 ghost use Rattle.mr_frame.specs.Kept.{look_of, stack_of};
 ghost use Rattle.mr_frame.specs.Operations.{DueDo, next_do};
-ghost use Rattle.mr_plan.specs.Machine.{Needs as NeedsOf};
-ghost use Rattle.mr_turn.specs.Doing.{CanFinish, IsGiven, MeetsNeeds, do_breaks, do_comes_to};
+ghost use Rattle.mr_turn.specs.Doing.{CanAsk, IsGiven, IsTold, MeetsNeeds, do_breaks, do_comes_to};
 ghost use Rattle.mr_turn.specs.Turning.{BeginsTurn, DeedAnswer, Does, IsSame, JudgeAnswer, TurnAnswer, breaks, comes_to};
 
 use crate::deed::{Deed, TurnFault};
-use crate::judging::{judged, stopped};
+use crate::judging::{judged, met, stopped};
 use crate::spawning::spawn;
 use mr_ast::Intrinsic;
 use mr_base::{Event, Reason};
 use mr_eval::{Fault, Scene};
 use mr_frame::{DoCall, Flow, Look, Stack};
-use mr_intr::{Creation, Effect, Needs, needs, operate};
-use mr_start::PickFailure;
+use mr_intr::{Effect, Needs, needs_of, operate};
 use mr_sync::SyncTable;
 use mr_value::Val;
-use std::alloc::Global;
-
-/// As many locks may be.
-const LOCKS: u32 = 4096;
-
-/// There are as many locks as may be.
-const TOO_MANY_LOCKS: u8 = 68;
+use std::alloc::{AllocError, Global};
 
 /// The turn of a thread whose next step is this intrinsic: what it is given comes first.
 pub fn do_turn(
@@ -96,20 +88,14 @@ fn payload(
     })
 }
 
-// 68, where a lock is to be created; then the picks.
+// What an operation needs: what it creates, and a pick where it asks for one.
 fn meets(s: &Scene, sync: &SyncTable, needs: Needs, picks: &[u64]) -> Result<(), TurnFault>
-    requires { CanFinish s.now }
+    requires { CanAsk s.now }
     ensures { JudgeAnswer result (MeetsNeeds s.now sync.now needs picks.now) }
 {
-    if matches!(needs.creates, Creation::Lock) && sync.locks() >= LOCKS {
-        return Err(TurnFault::Broken(PickFailure {
-            code: TOO_MANY_LOCKS,
-            earlier: None,
-        }));
-    }
     match needs.ask {
-        None => judged(s, sync, &[], picks),
-        Some(ask) => judged(s, sync, &[ask], picks),
+        None => met(s, sync, needs.creates, &[], picks),
+        Some(ask) => met(s, sync, needs.creates, &[ask], picks),
     }
 }
 
@@ -128,7 +114,7 @@ fn operation(
     requires kind { IsOperation op }
     ensures { (d : DueDo) → next_do (look_of look.now) (stack_of stack.old) ≡ Some d → TurnAnswer result (do_breaks look.now stack.old s.old sync.old call.now d picks.now) (do_comes_to look.now stack.old s.old sync.old call.now d picks.now) (Does stack.old s.old sync.old (do_comes_to look.now stack.old s.old sync.old call.now d picks.now) stack.new s.new sync.new) (IsSame stack.old s.old sync.old stack.new s.new sync.new) }
 {
-    let needs = match needs(op, call.args.as_slice(), sync, s.thread) {
+    let needs = match needs_of(op, call.args.as_slice(), sync, s.thread) {
         Err(reason) => return Err(stopped(reason, picks)),
         Ok(needs) => needs,
     };
@@ -166,7 +152,7 @@ fn carry_out(
         picks,
     )?;
     stack.finish(alloc, look, s, call, effect.value.as_ref())?;
-    told(alloc, op, effect, text)
+    Ok(told(alloc, op, effect, text)?)
 }
 
 // What an operation did, as a deed.
@@ -175,7 +161,9 @@ fn told(
     op: Intrinsic,
     effect: Effect,
     text: Vec<u8>,
-) -> Result<Deed, TurnFault> {
+) -> Result<Deed, AllocError>
+    ensures { IfOk result (IsTold op effect text.items) }
+{
     let mut woken = Vec::new(alloc);
     if let Some(thread) = effect.woken {
         woken.push(thread)?;

@@ -12,24 +12,18 @@ ghost use Rattle.mr_turn.specs.Doing.{IsGiven, StartsThread, do_breaks, do_comes
 ghost use Rattle.mr_turn.specs.Turning.{DeedAnswer, Does, IsSame, TurnAnswer};
 
 use crate::deed::{Deed, TurnFault};
-use crate::judging::{judged, stopped};
+use crate::judging::{met, stopped};
 use mr_ast::{FnName, Function, LocalName, Ty};
 use mr_base::{Event, Pointer, Reason};
 use mr_eval::Scene;
 use mr_frame::{DoCall, Flow, Look, Stack, callee};
+use mr_intr::Creation;
 use mr_sched::Ask;
-use mr_start::PickFailure;
 use mr_sync::SyncTable;
 use mr_value::Val;
 use mr_wf::Known;
 use sqlite_items::Items;
 use std::alloc::Global;
-
-/// As many threads may be.
-const THREADS: u32 = 1024;
-
-/// There are as many threads as may be.
-const TOO_MANY_THREADS: u8 = 67;
 
 // The type of a local.
 fn type_of(f: &Function, x: LocalName) -> &Ty
@@ -87,17 +81,11 @@ pub fn spawn(
     if !begins_thread(alloc, &look.program.program().functions.as_slice()[f.0 as usize]) {
         return Err(stopped(Reason::SignatureMismatch, picks));
     }
-    if sync.threads() >= THREADS {
-        return Err(TurnFault::Broken(PickFailure {
-            code: TOO_MANY_THREADS,
-            earlier: None,
-        }));
-    }
     let asks = [
         Ask::Address { size: 0, align: 1 },
         Ask::Address { size: 8, align: 8 },
     ];
-    match judged(s, sync, &asks, picks) {
+    match met(s, sync, Creation::Thread, &asks, picks) {
         Err(fault) => Err(fault),
         Ok(()) => start(alloc, look, stack, s, sync, call, f, picks),
     }
