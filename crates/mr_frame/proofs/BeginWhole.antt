@@ -1,15 +1,12 @@
 -- The start of a function as a whole, from its parts.
-use Rattle.std.proofs.Common.{◌≡◌, ℕ, ◌+◌, ◌<◌, refl, sym, ap, ◌∙◌, subst, arith, List, [], ◌∷◌, length, drop, Option, None, Some}
-use Rattle.std.proofs.lemmas.List.{length-map}
+use Rattle.std.proofs.Common.{◌≡◌, ℕ, ◌+◌, refl, sym, ap, ◌∙◌, subst, arith, List, [], ◌∷◌, length, drop, Option, None, Some}
 use Rattle.std.proofs.lemmas.Option.{same_Some}
-use Rattle.std.specs.Prelude.{All, replicate, slice_get}
+use Rattle.std.specs.Prelude.{replicate, slice_get}
 use Rattle.mr_ast.specs.declared.program.Function.{Function}
-use Rattle.mr_ast.specs.declared.program.Local.{Local}
 use Rattle.mr_ast.specs.declared.program.Program.{Program}
 use Rattle.mr_ast.specs.declared.types.Ty.{Ty}
 use Rattle.mr_base.specs.declared.byte.Pointer.{Pointer}
 use Rattle.mr_base.specs.declared.reason.Reason.{Reason}
-use Rattle.mr_layout.specs.TypeOk.{TypeOk}
 use Rattle.mr_value.specs.declared.val.Val.{Val}
 use Rattle.mr_wf.specs.Walk.{WellFormed}
 use Rattle.mr_script.specs.Script.{Outcome, Refused, Went, on}
@@ -20,13 +17,12 @@ use Rattle.mr_frame.specs.Beginning.{CanAllocate, CanBegin, HasTypes, allocated_
 use Rattle.mr_frame.specs.Calling.{written_types}
 use Rattle.mr_frame.specs.Calls.{behind_first, first_frame, kept_types, with_each}
 use Rattle.mr_frame.specs.Effects.{entered}
-use Rattle.mr_frame.specs.Frames.{Frame}
 use Rattle.mr_frame.specs.Sites.{kept_locals}
 use Rattle.mr_frame.proofs.BeginLaws.{entered_is}
 use Rattle.mr_frame.proofs.BeginSteps.{args_behind, names_length}
 use Rattle.mr_frame.proofs.EnterLaws.{allocated_many}
 use Rattle.mr_frame.proofs.Frames.{Keeps, function_keeps}
-use Rattle.mr_frame.proofs.TypeRows.{First, first_there}
+use Rattle.mr_frame.proofs.TypeRows.{first_there}
 use Rattle.mr_frame.specs.Calls.{local_type}
 use Rattle.std.specs.Prelude.{map}
 

@@ -1,6 +1,6 @@
 -- A call that is due can be prepared, and then the function can begin: the values have the shapes of its types, and the picks are lawful for its
 -- storage.
-use Rattle.std.proofs.Common.{◌≡◌, ℕ, suc, ◌+◌, ◌<◌, ◌≤◌, ◌^◌, refl, sym, ap, ◌∙◌, subst, arith, Bool, true, false, List, [], ◌∷◌, length, map, Option, None, Some}
+use Rattle.std.proofs.Common.{◌≡◌, ℕ, ◌+◌, ◌<◌, ◌≤◌, ◌^◌, refl, sym, ap, ◌∙◌, subst, arith, Bool, true, false, List, [], ◌∷◌, length, map, Option, None, Some}
 use Rattle.std.specs.List.{list_all}
 use Rattle.std.specs.Option.{option_map}
 use Rattle.std.specs.Prelude.{slice_get, ◌&&◌, if◌then◌else◌}
@@ -22,7 +22,7 @@ use Rattle.mr_sched.specs.declared.schedule.Ask.{Ask}
 use Rattle.mr_value.specs.declared.val.Val.{Val}
 use Rattle.mr_wf.specs.Blocks.{broken_in_parts}
 use Rattle.mr_wf.specs.Broken.{sizes_of, surroundings}
-use Rattle.mr_wf.specs.Types.{type_of_place, type_of_value}
+use Rattle.mr_wf.specs.Types.{type_of_value}
 use Rattle.mr_wf.proofs.TypedStmts.{typed_call}
 use Rattle.mr_script.specs.Script.{Broken, Outcome, Refused, Went, on, run}
 use Rattle.mr_eval.specs.Answers.{seen}
@@ -42,13 +42,13 @@ use Rattle.mr_frame.specs.declared.stack.Stack.{Stack as KeptStack}
 use Rattle.mr_frame.specs.Acting.{AreLawful, IsDueCall}
 use Rattle.mr_frame.specs.Beginning.{CanBegin}
 use Rattle.mr_frame.specs.Calling.{CallIn, Prepared, called, called_function, called_with, prepared}
-use Rattle.mr_frame.specs.Calls.{all_there, behind_first, both_there, callee_of, given_types, kept_types, same_types, storage_asks}
+use Rattle.mr_frame.specs.Calls.{behind_first, both_there, callee_of, given_types, kept_types, same_types, storage_asks}
 use Rattle.mr_frame.specs.Effects.{acted, asked, entered, pointed}
 use Rattle.mr_frame.specs.Fits.{FitsFrame, IsLook}
-use Rattle.mr_frame.specs.Frames.{Frame, GoesOn, Look, scene_in}
+use Rattle.mr_frame.specs.Frames.{GoesOn, Look, scene_in}
 use Rattle.mr_frame.specs.Inside.{InProgram}
 use Rattle.mr_frame.specs.Kept.{below_of as under, frame_of, look_of, stack_of}
-use Rattle.mr_frame.specs.Sites.{AtTerminator, Site}
+use Rattle.mr_frame.specs.Sites.{AtTerminator}
 use Rattle.mr_frame.proofs.CallLaws.{call_in}
 use Rattle.mr_frame.proofs.CallRuns.{acted_call, asked_call, prepared_asks}
 use Rattle.mr_frame.proofs.CallSafe.{equal_types, judged_there, row_safe}

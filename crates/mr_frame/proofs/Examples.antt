@@ -1,18 +1,17 @@
 -- Small calls and frames, and what the definitions say of them, computed.
-use Rattle.std.proofs.Common.{◌≡◌, ℕ, true, false, List, [], ◌∷◌, Option, Some, None, refl}
+use Rattle.std.proofs.Common.{◌≡◌, ℕ, true, false, List, [], ◌∷◌, Some, None, refl}
 use Rattle.mr_ast.specs.declared.program.BlockName.{BlockName}
 use Rattle.mr_ast.specs.declared.program.Function.{Function}
 use Rattle.mr_ast.specs.declared.program.LocalName.{LocalName}
 use Rattle.mr_ast.specs.declared.types.Num.{Num}
 use Rattle.mr_ast.specs.declared.types.Ty.TheVariants as ty
-use Rattle.mr_base.specs.declared.byte.AllocId.{AllocId}
 use Rattle.mr_base.specs.declared.byte.Pointer.{Pointer}
 use Rattle.mr_base.specs.declared.reason.Reason.TheVariants.{NotAFunction, SignatureMismatch}
-use Rattle.mr_script.specs.Script.{Broken, Refused}
+use Rattle.mr_script.specs.Script.{Refused}
 use Rattle.mr_frame.specs.Acting.{nothing_seen}
 use Rattle.mr_frame.specs.Calling.{called, called_with}
-use Rattle.mr_frame.specs.Calls.{behind_first, callee_of, is_main, same_types, with_each}
-use Rattle.mr_frame.specs.Frames.{Frame, Look, Stack, at_block}
+use Rattle.mr_frame.specs.Calls.{callee_of, is_main, same_types, with_each}
+use Rattle.mr_frame.specs.Frames.{Frame, Look, at_block}
 use Rattle.mr_frame.specs.Switches.{first_case}
 
 -- ---- callees

@@ -1,8 +1,7 @@
-use Rattle.std.proofs.Common.{◌≡◌, ◌+◌, List, None, length, sym, ap, ◌∙◌, drop}
+use Rattle.std.proofs.Common.{List, None, length, sym, ap, ◌∙◌, drop}
 use Rattle.std.specs.Prelude.{replicate, slice_get}
 use Rattle.mr_base.specs.declared.byte.Pointer.{Pointer}
-use Rattle.mr_script.specs.Script.{Outcome, Went}
-use Rattle.mr_eval.specs.World.{World, world_of}
+use Rattle.mr_eval.specs.World.{world_of}
 use Rattle.mr_frame.specs.Beginning.{stored_each}
 use Rattle.mr_frame.specs.Calls.{behind_first, with_each}
 use Rattle.mr_frame.specs.Effects.{entered}

@@ -1,4 +1,4 @@
-use Rattle.std.proofs.Common.{◌≡◌, sym, subst}
+use Rattle.std.proofs.Common.{sym, subst}
 use Rattle.mr_script.specs.Script.{Outcome}
 use Rattle.mr_eval.specs.Answers.{seen}
 use Rattle.mr_eval.specs.Environment.{env_surround}

@@ -1,13 +1,10 @@
-use Rattle.std.proofs.Common.{◌≡◌, List, Option, Some, refl, sym, ap, ◌∙◌, subst}
-use Rattle.std.specs.Prelude.{All, option_copied}
+use Rattle.std.proofs.Common.{List, Option, refl, sym, ap, ◌∙◌, subst}
+use Rattle.std.specs.Prelude.{All}
 use Rattle.mr_ast.specs.declared.expr.Place.{Place}
 use Rattle.mr_ast.specs.declared.expr.Value.{Value}
 use Rattle.mr_ast.specs.declared.program.Term.{Term}
-use Rattle.mr_ast.specs.declared.program.Term.TheVariants as term
 use Rattle.mr_script.specs.Script.{Outcome}
 use Rattle.mr_eval.specs.Answers.{seen}
-use Rattle.mr_eval.specs.Environment.{env_surround}
-use Rattle.mr_eval.specs.Evaluation.{Surround}
 use Rattle.mr_eval.specs.Reads.{Seen}
 use Rattle.mr_eval.specs.World.{TellsBy}
 use Rattle.mr_frame.specs.Doing.{PlainIn, ResultIn, given_operands, operands_of}

@@ -1,8 +1,8 @@
-use Rattle.std.proofs.Common.{◌≡◌, ◌∷◌, ◌<◌, ◌^◌, Some, length, sym, ap, ◌∙◌, subst, arith}
+use Rattle.std.proofs.Common.{◌<◌, ◌^◌, length, sym, subst, arith}
 use Rattle.mr_script.specs.Script.{Outcome}
 use Rattle.mr_eval.specs.Answers.{seen}
 use Rattle.mr_eval.specs.Tally.{seen_of, with_seen}
-use Rattle.mr_eval.specs.World.{TellsBy, World, tally_of, world_of}
+use Rattle.mr_eval.specs.World.{TellsBy, World, world_of}
 use Rattle.mr_frame.specs.Calling.{Prepared, prepared}
 use Rattle.mr_frame.specs.Effects.{acted}
 use Rattle.mr_frame.specs.Frames.{Onward}

@@ -1,4 +1,4 @@
-use Rattle.std.proofs.Common.{◌≡◌, subst}
+use Rattle.std.proofs.Common.{subst}
 use Rattle.mr_ast.specs.declared.program.Program.{Program}
 use Rattle.mr_eval.specs.Answers.{seen}
 use Rattle.mr_eval.specs.Evaluation.{Surround}

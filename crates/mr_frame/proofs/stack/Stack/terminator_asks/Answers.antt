@@ -1,4 +1,4 @@
-use Rattle.std.proofs.Common.{◌≡◌, ◌++◌, [], List, sym, ap, ◌∙◌, append-nil}
+use Rattle.std.proofs.Common.{◌++◌, List, sym, ap, ◌∙◌, append-nil}
 use Rattle.mr_sched.specs.declared.schedule.Ask.{Ask}
 use Rattle.mr_frame.specs.Acting.{nothing_seen}
 use Rattle.mr_frame.specs.Kept.{below_of, frame_of, stack_of}
