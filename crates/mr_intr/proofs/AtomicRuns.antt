@@ -1,5 +1,5 @@
 -- What atomic accesses come to, by the loads and stores that the code makes.
-use Rattle.std.proofs.Common.{◌≡◌, ℕ, ◌*◌, ◌^◌, ◌<◌, refl, subst, sym, ap, ap₂, ◌∙◌, List, [], ◌∷◌, length, Option, Some, None, Bool, true, Result, Ok, Err}
+use Rattle.std.proofs.Common.{◌≡◌, ℕ, ◌*◌, ◌^◌, ◌<◌, refl, subst, sym, ap, ◌∙◌, List, [], ◌∷◌, Option, Some, None, Bool, true, Result, Ok, Err}
 use Rattle.mr_base.proofs.Comparisons.{eq_test, lt_test}
 use Rattle.std.specs.Prelude.{if◌then◌else◌, slice_get}
 use Rattle.std.proofs.lemmas.Option.{same_Some}
@@ -13,7 +13,7 @@ use Rattle.mr_ast.specs.declared.types.Ty.TheVariants as ty
 use Rattle.mr_base.specs.declared.byte.AbstractByte.{AbstractByte}
 use Rattle.mr_base.specs.declared.byte.Pointer.{Pointer}
 use Rattle.mr_base.specs.declared.reason.Reason.{Reason}
-use Rattle.mr_layout.specs.Sizes.{align_of, size_of}
+use Rattle.mr_layout.specs.Sizes.{align_of}
 use Rattle.mr_layout.proofs.AlignLaws.{align_int}
 use Rattle.mr_layout.proofs.SizeLaws.{size_int}
 use Rattle.mr_mem.specs.Memory.{Memory, written}

@@ -10,4 +10,5 @@ pub mod OperatedLaws
 pub mod OperationSafe
 pub mod Operates
 pub mod Powers
+pub mod SameWords
 pub mod TextLaws

@@ -1,22 +1,19 @@
 -- What an intrinsic needs before it acts.
-use Rattle.std.proofs.Common.{◌≡◌, ◌≢◌, ℕ, refl, subst, sym, ap, ◌∙◌, List, [], ◌∷◌, Option, Some, None, Bool, true, false, Result, Ok, Err, ◌==◌}
-use Rattle.std.proofs.lemmas.Option.{same_Some}
-use Rattle.std.specs.Prelude.{if◌then◌else◌, slice_get}
+use Rattle.std.proofs.Common.{◌≡◌, ◌≢◌, ℕ, refl, subst, sym, ap, ◌∙◌, List, [], ◌∷◌, Option, Some, None, Bool, true, false, Result, Ok, Err}
+use Rattle.std.specs.Prelude.{slice_get}
 use Rattle.mr_ast.specs.declared.program.Intrinsic.{Intrinsic}
 use Rattle.mr_ast.specs.declared.program.Intrinsic.TheVariants as intrinsic
 use Rattle.mr_ast.specs.declared.types.Ty.{Ty}
 use Rattle.mr_ast.specs.declared.types.Ty.TheVariants as ty
 use Rattle.mr_base.specs.declared.byte.Pointer.{Pointer}
 use Rattle.mr_base.specs.declared.reason.Reason.{Reason}
-use Rattle.mr_base.specs.declared.reason.Reason.TheVariants.{NotHolder}
 use Rattle.mr_base.specs.declared.thread.Event.TheVariants.{Release}
-use Rattle.mr_base.proofs.Comparisons.{eq_from, eq_test}
 use Rattle.mr_mem.specs.Memory.{Memory}
 use Rattle.mr_sched.specs.declared.schedule.Ask.TheVariants.{Address, Waiter}
 use Rattle.mr_value.specs.declared.val.Val.{Val}
 use Rattle.mr_value.specs.declared.val.Val.TheVariants as val
 use Rattle.mr_script.specs.Script.{Done, Undefined, IllFormed, Ask as Asks, ◌>>=◌, Outcome, Refused, Went, on, run}
-use Rattle.mr_sync.specs.Tables.{Tables, any_waits, holding, taken_by}
+use Rattle.mr_sync.specs.Tables.{Tables, any_waits, holding}
 use Rattle.mr_plan.specs.Machine.{CreatesNothing, Plan}
 use Rattle.mr_plan.specs.Notes.{Notes}
 use Rattle.mr_plan.specs.Queries.{Shared, StepScript, Waiting, answer, telling}
@@ -43,20 +40,6 @@ allocation_asks args size align can first second types place w needs is none =
     (record { plan = _; left = w; went = ap (λ (o : Operation). run answer o w) (allocation_planned args size align can first second types place ∙ allowed.is); creates = refl; asks = refl })
 
 -- ---- a waiter
-
--- the lock of a thread that holds it, and of one that doesn't
-pub held_by : {A : Type 0} (t : ℕ) (h : Option (Option ℕ)) (a : A) → taken_by h ≡ Some t → holding t h a ≡ Ok a
-held_by t None a e = absurd (cc)
-held_by t (Some None) a e = absurd (cc)
-held_by t (Some (Some k)) a e = ap (λ (b : Bool). if b then Ok a else Err NotHolder) (eq_test k t (same_Some k t e))
-
-pub not_held : {A : Type 0} (t : ℕ) (h : Option (Option ℕ)) (a : A) (holder : Option ℕ) → h ≡ Some holder → (holder ≡ Some t → ⊥) → holding t h a ≡ Err NotHolder
-not_held t h a None is not = ap (λ o. holding t o a) is
-not_held t h a (Some k) is not = ap (λ o. holding t o a) is ∙ by_test (k == t) refl
-  where
-    by_test : (b : Bool) → (k == t) ≡ b → (if b then Ok a else Err NotHolder) ≡ Err NotHolder
-    by_test true e = absurd (not (ap (λ n. Some n) (eq_from k t e)))
-    by_test false e = refl
 
 module _ (args : List Val) (can : CanTake intrinsic.Release args) (l : ℕ) (read : slice_get args 0 ≡ Some (val.Int l)) (types : List Ty) (place : Option Ty) (m : Memory) (n : Notes) (x : Tables) (thread : ℕ) (same : n.tally.thread ≡ thread) where
   abbrev asked : Result Bool Reason → Outcome (Plan (StepScript (Option Val))) (Shared × Notes)

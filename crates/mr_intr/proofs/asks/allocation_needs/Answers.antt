@@ -1,7 +1,6 @@
-use Rattle.std.proofs.Common.{List, ap, sym, subst, ◌∙◌}
+use Rattle.std.proofs.Common.{List, ap, sym, ◌∙◌}
 use Rattle.std.specs.Prelude.{slice_get}
 use Rattle.mr_value.specs.declared.val.Val.{Val}
-use Rattle.mr_intr.specs.Needs.{IsPlanned}
 use Rattle.mr_intr.proofs.Arguments.{allocate_takes}
 use Rattle.mr_intr.proofs.NeedLaws.{allocation_asks}
 use Rattle.mr_intr.proofs.asks.allocation_needs.Goals as goal

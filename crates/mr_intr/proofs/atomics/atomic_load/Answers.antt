@@ -1,4 +1,4 @@
-use Rattle.std.proofs.Common.{◌≡◌, List, Some, ap, refl, ◌∙◌}
+use Rattle.std.proofs.Common.{List, ap, refl}
 use Rattle.std.specs.Prelude.{option_copied, slice_get}
 use Rattle.mr_value.specs.declared.val.Val.{Val}
 use Rattle.mr_ast.specs.declared.program.Intrinsic.TheVariants as intrinsic

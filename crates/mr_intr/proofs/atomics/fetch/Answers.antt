@@ -1,8 +1,7 @@
-use Rattle.std.proofs.Common.{◌≡◌, List, Some, ap, refl, ◌∙◌}
+use Rattle.std.proofs.Common.{List, Some, ap}
 use Rattle.std.specs.Prelude.{option_copied, slice_get}
 use Rattle.mr_value.specs.declared.val.Val.{Val}
 use Rattle.mr_ast.specs.Integers.{int_size}
-use Rattle.mr_ast.specs.declared.program.Intrinsic.TheVariants as intrinsic
 use Rattle.mr_value.specs.declared.val.Val.TheVariants as val
 use Rattle.mr_eval.specs.MemoryQueries.{Modify}
 use Rattle.mr_intr.specs.Effects.{begun}
