@@ -124,6 +124,23 @@ allocating_last fn picks first_picks first done w h all e =
     no_picks [] k = refl
     no_picks (p ∷ ps) k = absurd (omega arith)
 
+-- the return local comes first
+module _ (fn : Function) (has : HasTypes fn) (picks : List ℕ) (w : World) (can : (types : List Ty) → kept_types fn ≡ Some types → CanAllocate types picks w) where
+  pub start_inside : 0 < length picks
+  start_inside = let left = picks_left fn (kept_locals fn) picks picks w [] w (allocating_first fn has picks w can) in omega arith
+
+  start_cut : Allocating fn (kept_locals fn) (get_or picks 0 0 ∷ drop 1 picks) picks w [] w
+  start_cut = subst (λ (ps : List ℕ). Allocating fn (kept_locals fn) ps picks w [] w) (drop-cons picks 0 0 start_inside) (allocating_first fn has picks w can)
+
+  module _ (l : Local) (there : slice_get fn.locals fn.ret.0 ≡ Some l) where
+    pub start_can : CanAllocate (l.ty ∷ []) (get_or picks 0 0 ∷ []) w
+    start_can = can_here fn fn.ret fn.args (get_or picks 0 0) (drop 1 picks) picks w [] w start_cut l there
+
+    pub start_next : (names : List LocalName) → names ≡ fn.args → (before after : List Pointer) → before ≡ [] → (v : World) → IsAllocated l.ty (get_or picks 0 0) w v before after → Allocating fn names (drop 1 picks) picks w after v
+    start_next names same before after none v is =
+        subst (λ (xs : List LocalName). Allocating fn xs (drop 1 picks) picks w after v) (sym same)
+        (allocating_next fn fn.ret fn.args (get_or picks 0 0) (drop 1 picks) picks w [] w start_cut l there after v (subst (λ (qs : List Pointer). IsAllocated l.ty (get_or picks 0 0) w v qs after) none is))
+
 -- the same by the positions at which a loop stands
 module _ (fn : Function) (xs : List LocalName) (k : ℕ) (d : LocalName) (picks : List ℕ) (first : World) (done : List Pointer) (w : World) where
   pub allocating_cut : k < length xs → Allocating fn (drop k xs) (drop (k + 1) picks) picks first done w
@@ -235,9 +252,10 @@ module _ (fn : Function) (xs : List LocalName) (k : ℕ) (dx : LocalName) (ps : 
       ))
       h
 
-  pub storing_end : length vs ≤ k → StoringAt → (all : List Ty) → written_types fn fn.args ≡ Some all → stored_each all (drop 1 ps) vs first ≡ Went tt w
-  storing_end le h =
-      storing_last fn (drop k xs) (drop (k + 1) ps) (drop 1 ps) vs first w (subst (λ (ys : List Val). Storing fn (drop k xs) (drop (k + 1) ps) ys (drop 1 ps) vs first w) (drop_all k vs le) h)
+pub storing_end : (fn : Function) (xs : List LocalName) (k : ℕ) (ps : List Pointer) (vs : List Val) (first w : World) → length vs ≤ k → Storing fn (drop k xs) (drop (k + 1) ps) (drop k vs) (drop 1 ps) vs first w
+    → (all : List Ty) → written_types fn fn.args ≡ Some all → stored_each all (drop 1 ps) vs first ≡ Went tt w
+storing_end fn xs k ps vs first w le h =
+    storing_last fn (drop k xs) (drop (k + 1) ps) (drop 1 ps) vs first w (subst (λ (ys : List Val). Storing fn (drop k xs) (drop (k + 1) ps) ys (drop 1 ps) vs first w) (drop_all k vs le) h)
 
 -- ---- locals
 

@@ -1,6 +1,6 @@
 -- A call that is due in a well-formed program: what it is prepared with, and that the function can begin with it.
 use Rattle.std.proofs.Common.{◌≡◌, ℕ, suc, ◌+◌, ◌<◌, ◌≤◌, ◌^◌, refl, sym, ap, ◌∙◌, subst, arith, Bool, true, false, List, [], ◌∷◌, length, map, Option, None, Some}
-use Rattle.std.proofs.lemmas.List.Elements.{All-cons, All-nil}
+use Rattle.std.proofs.lemmas.List.Elements.{All-cons, All-nil, All-weaker}
 use Rattle.std.proofs.lemmas.Option.{same_Some}
 use Rattle.std.specs.List.{flat_map, list_all}
 use Rattle.std.specs.Option.{option_map}
@@ -11,6 +11,7 @@ use Rattle.mr_ast.specs.declared.expr.Place.{Place}
 use Rattle.mr_ast.specs.declared.expr.Value.{Value}
 use Rattle.mr_ast.specs.declared.program.BlockName.{BlockName}
 use Rattle.mr_ast.specs.declared.program.Function.{Function}
+use Rattle.mr_ast.specs.declared.program.Program.{Program}
 use Rattle.mr_ast.specs.declared.program.Term.TheVariants as term
 use Rattle.mr_ast.specs.declared.types.Ty.{Ty}
 use Rattle.mr_base.specs.declared.byte.Pointer.{Pointer}
@@ -28,7 +29,7 @@ use Rattle.mr_wf.proofs.NothingLaws.{both_nothing}
 use Rattle.mr_wf.proofs.TypedLaws.{typed_value}
 use Rattle.mr_wf.proofs.TypedStmts.{typed_call}
 use Rattle.mr_script.specs.Script.{Broken, Outcome, Refused, Went, on}
-use Rattle.mr_eval.specs.Environment.{Tells, env_surround}
+use Rattle.mr_eval.specs.Environment.{Tells, ValueIn, env_surround}
 use Rattle.mr_eval.specs.Evaluated.{each_valued, placed}
 use Rattle.mr_eval.specs.Evaluation.{Surround}
 use Rattle.mr_eval.specs.Reads.{Seen}
@@ -41,6 +42,7 @@ use Rattle.mr_frame.specs.Frames.{Look}
 use Rattle.mr_frame.specs.Inside.{InProgram, TermIn, TypeAt, ValueAt, is_address}
 use Rattle.mr_frame.proofs.CallSafe.{position_below}
 use Rattle.mr_frame.proofs.CalleeLaws.{callee_is}
+use Rattle.mr_frame.proofs.FittingLaws.{args_known}
 use Rattle.mr_frame.proofs.Frames.{function_keeps}
 use Rattle.mr_frame.proofs.InsideLaws.{scene_locals, type_there}
 use Rattle.mr_frame.proofs.TermLaws.{value_at}
@@ -96,6 +98,16 @@ call_in e callee args to next unwind h =
       };
     }
 
+-- the types of the place for the result and of the arguments are there
+pub given_known : (e : Env) (args : List Value) (to : Place) → GivenIn e args to → (ts : List Ty) × (given_types (env_surround e) to args ≡ Some ts)
+given_known e args to h =
+    let rest = args_known e args h.row in
+    (h.ty ∷ rest.0, λ i. option_map (λ e. e.0 ∷ e.1) (both_there (h.typed.is i) (rest.1 i)))
+
+-- the arguments stand in the function
+pub args_stand : (e : Env) (args : List Value) → ArgsIn e args → All (ValueIn e) args
+args_stand e args h = All-weaker (TypedIn e) (ValueIn e) (λ v t. t.inside) args h
+
 -- ---- the function that is called
 
 -- what a function keeps are locals of it
@@ -133,15 +145,20 @@ module _ (look : Look) (given : Option (List Ty)) (place : Pointer) (vs : List V
 
 -- ---- the parts of a call that is prepared
 
-pub prepares_stop : {A S : Type 0} (e : Env) (f : Fault) (o : Outcome A S) (whole : Outcome Prepared Seen) (v : S) (t : Seen) → Tells {X = A} (Err f) o v → ((r : Reason) → o ≡ Refused r → whole ≡ Refused r) → Prepares e (Err f) whole t
-prepares_stop e (fault.Undefined r) o whole v t h k = k r h
-prepares_stop e fault.Memory o whole v t h k = tt
+pub prepares_stop : {A S : Type 0} (p : Program) (f : Fault) (o : Outcome A S) (whole : Outcome Prepared Seen) (v : S) (t : Seen) → Tells {X = A} (Err f) o v → ((r : Reason) → o ≡ Refused r → whole ≡ Refused r) → Prepares p (Err f) whole t
+prepares_stop p (fault.Undefined r) o whole v t h k = k r h
+prepares_stop p fault.Memory o whole v t h k = tt
+
+-- and of what is behind it
+pub prepared_stop : {B T : Type 0} (p : Program) (f : Fault) (o : Outcome Prepared Seen) (whole : Outcome B T) (v : Seen) (t : T) → Prepares p (Err f) o v → ((r : Reason) → o ≡ Refused r → whole ≡ Refused r) → Tells {X = B} (Err f) whole t
+prepared_stop p (fault.Undefined r) o whole v t h k = k r h
+prepared_stop p fault.Memory o whole v t h k = tt
 
 module _ (m : Memory) (look : Look) (s : Surround) (callee : Value) (args : List Value) (to : Place) (s0 : Seen) where
-  abbrev last : Pointer → Pointer → List Val → Seen → Outcome Prepared Seen
+  abbrev pub last : Pointer → Pointer → List Val → Seen → Outcome Prepared Seen
   last p c vs s3 = called look (given_types s to args) p vs (callee_of look.functions c) s3
 
-  prepared_is : prepared m look s callee args to s0 ≡ on (placed m s to s0) (λ p s1. on (pointed m s callee s1) (λ c s2. on (each_valued m s args s2) (λ vs s3. last p c vs s3)))
+  pub prepared_is : prepared m look s callee args to s0 ≡ on (placed m s to s0) (λ p s1. on (pointed m s callee s1) (λ c s2. on (each_valued m s args s2) (λ vs s3. last p c vs s3)))
   unfolding prepared
   prepared_is = refl
 
@@ -164,3 +181,5 @@ module _ (m : Memory) (look : Look) (s : Surround) (callee : Value) (args : List
 
       pub prepared_called : (vs : List Val) (s3 : Seen) → each_valued m s args s2 ≡ Went vs s3 → prepared m look s callee args to s0 ≡ called look (given_types s to args) p vs (callee_of look.functions c) s3
       prepared_called vs s3 e = behind_callee ∙ ap (λ (o : Outcome (List Val) Seen). on o (λ xs l. last p c xs l)) e
+
+pub ruleset prepared_laws = (prepared_is)

@@ -41,14 +41,16 @@ use Rattle.mr_eval.specs.declared.env.Env.{Env}
 use Rattle.mr_frame.specs.Calling.{TypedIn, arg_types}
 use Rattle.mr_frame.specs.Calls.{all_there, both_there}
 use Rattle.mr_frame.specs.Doing.{PlainIn, PlainPlace, ResultIn, given_operands, is_plain, result_placed, result_stored, result_typed, with_types}
-use Rattle.mr_frame.specs.Effects.{argued, finished}
-use Rattle.mr_frame.specs.Frames.{Look, Stack, scene_in}
+use Rattle.mr_frame.specs.Effects.{argued, finished, stored_in}
+use Rattle.mr_frame.specs.Frames.{Look, Stack, at_block, scene_in, with_top}
 use Rattle.mr_frame.specs.Inside.{InProgram, TermIn}
 use Rattle.mr_frame.specs.Operations.{DueDo, Operands, done_stack, finish, operands_in, result_place, result_type, store_result}
+use Rattle.mr_frame.specs.Sites.{Site}
 use Rattle.mr_frame.proofs.ActedLaws.{memory_bind, on_same}
 use Rattle.mr_frame.proofs.CallSafe.{heads, tails}
 use Rattle.mr_frame.proofs.InsideLaws.{scene_locals, type_there}
 use Rattle.mr_frame.proofs.PlainLaws.{AllPlain, PlainResult, plain_intrinsic}
+use Rattle.mr_frame.proofs.TypeRows.{first_there, none_there}
 
 -- ---- what stands in it
 
@@ -114,6 +116,30 @@ plain_known e (v ∷ args) h =
 pub typing_first : (e : Env) (args : List Value) → All (PlainIn e) args → Typing (env_surround e) args args []
 typing_first e args h = let known = plain_known e args h in record { types = known.0; are = known.1; so_far = known.1 }
 
+pub typing_next : (s : Surround) (v : Value) (args all_args : List Value) (done after : List Ty) (t : Ty) → Typing s (v ∷ args) all_args done → type_of_value s.locals v ≡ Some t → after ≡ done ++ t ∷ [] → Typing s args all_args after
+typing_next s v args all_args done after t h typed joins =
+    let f = first_there (type_of_value s.locals v) (map (type_of_value s.locals) args) h.types h.are in
+    let same : f.first ≡ t = same_Some f.first t (sym f.here ∙ typed) in
+    record {
+      types = f.rest;
+      are = f.behind;
+      so_far =
+          h.so_far
+          ∙ ap (λ (ts : List Ty). Some (done ++ ts)) (f.is ∙ ap (λ (u : Ty). u ∷ f.rest) same)
+          ∙ sym (ap (λ (ts : List Ty). Some ts) (append_assoc done (t ∷ []) f.rest))
+          ∙ ap (λ (ts : List Ty). Some (ts ++ f.rest)) (sym joins);
+    }
+
+module _ (s : Surround) (args : List Value) (k : ℕ) (done : List Ty) where
+  pub typing_cut : (v : Value) → k < length args → v ≡ get_or args k v → Typing s (drop k args) args done → Typing s (v ∷ drop (k + 1) args) args done
+  typing_cut v lt is h =
+      subst (λ (vs : List Value). Typing s vs args done) (drop-cons args k v lt ∙ (λ i. sym is i ∷ drop (sym (add-one k) i) args)) h
+
+  pub typing_end : length args ≤ k → Typing s (drop k args) args done → arg_types s args ≡ Some done
+  typing_end le h =
+      let last = subst (λ (vs : List Value). Typing s vs args done) (drop_all k args le) h in
+      last.so_far ∙ ap (λ (ts : List Ty). Some (done ++ ts)) (none_there last.types last.are) ∙ ap (λ (ts : List Ty). Some ts) (append-nil done)
+
 -- ---- what it comes to
 
 -- the place for the result
@@ -142,6 +168,20 @@ module _ (m : Memory) (s : Surround) (p : Option Pointer) (vs : List Val) (seen 
       by_type None = refl
       by_type (Some t) = last_run (Some t) ts
 
+module _ (m : Memory) (s : Surround) (args : List Value) (place : Option Place) (seen : Seen) where
+  pub given_is : given_operands m s args place seen ≡ on (result_placed m s place seen) (λ p s1. on (each_valued m s args s1) (λ vs s2. with_types p vs (result_typed s place) (arg_types s args) s2))
+  unfolding given_operands
+  given_is = refl
+
+  pub given_known : (p : Option Pointer) (s1 : Seen) (vs : List Val) (s2 : Seen) → result_placed m s place seen ≡ Went p s1 → each_valued m s args s1 ≡ Went vs s2
+      → given_operands m s args place seen ≡ with_types p vs (result_typed s place) (arg_types s args) s2
+  given_known p s1 vs s2 at row =
+      given_is
+      ∙ ap (λ (o : Outcome (Option Pointer) Seen). on o (λ q l. on (each_valued m s args l) (λ xs last. with_types q xs (result_typed s place) (arg_types s args) last))) at
+      ∙ ap (λ (o : Outcome (List Val) Seen). on o (λ xs last. with_types p xs (result_typed s place) (arg_types s args) last)) row
+
+pub ruleset operand_laws = (given_is)
+
 -- WHAT AN INTRINSIC IS GIVEN, by its parts
 pub argued_is : (m : Memory) (look : Look) (d : DueDo) (seen : Seen) → argued m look d seen ≡ given_operands m (scene_in look d.site.function d.site.frame) d.args d.place seen
 unfolding argued given_operands each_valued
@@ -155,6 +195,14 @@ argued_is m look d seen =
 
 -- ---- how it ends
 
+pub stored_some : (p : Pointer) (t : Ty) (v : Val) (w : World) → result_stored (Some p) (Some t) (Some v) w ≡ stored_in t p v w
+unfolding result_stored stored_in
+stored_some p t v w = refl
+
+pub stored_none : (w : World) → result_stored None None None w ≡ Went tt w
+unfolding result_stored
+stored_none w = refl
+
 pub finished_is : (s : Stack) (d : DueDo) (o : Operands) (v : Option Val) (w : World) → finished s d o v w ≡ on (result_stored o.result o.result_type v w) (λ _ u. Went (done_stack s d) u)
 unfolding finished result_stored
 finished_is s d o v w = memory_bind (store_result o.result o.result_type v) (λ _. Done (done_stack s d)) w
@@ -164,3 +212,7 @@ finished_stop s d o v w r e = finished_is s d o v w ∙ ap (λ (x : Outcome (Uni
 
 pub finished_went : (s : Stack) (d : DueDo) (o : Operands) (v : Option Val) (w u : World) → result_stored o.result o.result_type v w ≡ Went tt u → finished s d o v w ≡ Went (done_stack s d) u
 finished_went s d o v w u e = finished_is s d o v w ∙ ap (λ (x : Outcome (Unit {0}) World). on x (λ _ u. Went (done_stack s d) u)) e
+
+-- the stack behind it, by where it stands
+pub done_is : (s : Stack) (d : DueDo) (at : Site) → d.site ≡ at → done_stack s d ≡ with_top s at.below (at_block at.frame d.next.0)
+done_is s d at e = λ i. with_top s ((e i).below) (at_block ((e i).frame) d.next.0)

@@ -126,39 +126,44 @@ pub record Made (types : List Ty) (picks : List ℕ) (w : World) : Type 0 where
   pub lie : AllLie world.0 types pointers
   pub still : StillLies w.0 world.0
 
+-- one more of them
+module _ (t : Ty) (types : List Ty) (a : ℕ) (picks : List ℕ) (w : World) (can : CanAllocate (t ∷ types) (a ∷ picks) w) where
+  abbrev first_pointer : Pointer
+  first_pointer = pointer_to (next_id w.1) a
+
+  abbrev first_world : World
+  first_world = (allocated w.0 (next_id w.1) OnStack (size_of t) (align_of t) a, record w.1 { made = w.1.made ++ next_id w.1 ∷ []; ranges = w.1.ranges ++ (a, size_of t) ∷ []; count = w.1.count + 1 })
+
+  first_lies : Lies first_world.0 t first_pointer
+  first_lies = record {
+    id = next_id w.1;
+    prov = refl;
+    alloc = fresh OnStack (size_of t) (align_of t) a;
+    there = get_here w.0 (next_id w.1) (fresh OnStack (size_of t) (align_of t) a);
+    addr = refl;
+    live = refl;
+    size = length-replicate (size_of t) Uninit;
+    multiple = multiple_from (ranges_of w.0) a (size_of t) (align_of t) (first_lawful t types a picks w can);
+  }
+
+  rest_allocates : CanAllocate types picks first_world
+  rest_allocates = rest_can t types a picks w can first_pointer first_world refl
+
+  made_more : Made types picks first_world → Made (t ∷ types) (a ∷ picks) w
+  made_more rest = record {
+    pointers = first_pointer ∷ rest.pointers;
+    world = rest.world;
+    is = next_allocated t types a picks w can first_pointer first_world refl ∙ ap (λ (o : Outcome (List Pointer) World). on o (λ ps u. Went (first_pointer ∷ ps) u)) rest.is;
+    lie = (rest.still t first_pointer first_lies, rest.lie);
+    still = λ u q l. rest.still u q (new_apart w.0 (next_id w.1) (first_new t types a picks w can) (size_of t) (align_of t) a u q l);
+  }
+
 -- LAWFUL PICKS MAKE storage of each type
 pub made : (types : List Ty) (picks : List ℕ) (w : World) → CanAllocate types picks w → Made types picks w
 made [] [] w can = record { pointers = []; world = w; is = none_allocated w; lie = tt; still = λ t p l. l }
 made [] (a ∷ picks) w can = absurd (let l = can.lawful in absurd (cc))
 made (t ∷ types) [] w can = absurd (let l = can.lawful in absurd (cc))
-made (t ∷ types) (a ∷ picks) w can = record {
-  pointers = p ∷ rest.pointers;
-  world = rest.world;
-  is = next_allocated t types a picks w can p v refl ∙ ap (λ (o : Outcome (List Pointer) World). on o (λ ps u. Went (p ∷ ps) u)) rest.is;
-  lie = (rest.still t p here, rest.lie);
-  still = λ u q l. rest.still u q (new_apart w.0 (next_id w.1) (first_new t types a picks w can) (size_of t) (align_of t) a u q l);
-}
-  where
-    p : Pointer
-    p = pointer_to (next_id w.1) a
-
-    v : World
-    v = (allocated w.0 (next_id w.1) OnStack (size_of t) (align_of t) a, record w.1 { made = w.1.made ++ next_id w.1 ∷ []; ranges = w.1.ranges ++ (a, size_of t) ∷ []; count = w.1.count + 1 })
-
-    rest : Made types picks v
-    rest = made types picks v (rest_can t types a picks w can p v refl)
-
-    here : Lies v.0 t p
-    here = record {
-      id = next_id w.1;
-      prov = refl;
-      alloc = fresh OnStack (size_of t) (align_of t) a;
-      there = get_here w.0 (next_id w.1) (fresh OnStack (size_of t) (align_of t) a);
-      addr = refl;
-      live = refl;
-      size = length-replicate (size_of t) Uninit;
-      multiple = multiple_from (ranges_of w.0) a (size_of t) (align_of t) (first_lawful t types a picks w can);
-    }
+made (t ∷ types) (a ∷ picks) w can = made_more t types a picks w can (made types picks (first_world t types a picks w can) (rest_allocates t types a picks w can))
 
 lie_many : (m : Memory) (ts : List Ty) (ps : List Pointer) → AllLie m ts ps → length ps ≡ length ts
 lie_many m [] [] h = refl

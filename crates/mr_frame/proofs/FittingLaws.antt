@@ -4,7 +4,7 @@ use Rattle.std.proofs.Math.Seq.{drop-cons}
 use Rattle.std.proofs.lemmas.Bool.Decides.{nat_tests}
 use Rattle.std.proofs.lemmas.List.{drop_all, length-map}
 use Rattle.std.proofs.lemmas.List.Elements.{All-head, All-tail}
-use Rattle.std.proofs.lemmas.Option.{same_Some}
+use Rattle.std.proofs.lemmas.Option.{get_or_from_slice_get, same_Some, slice_get_within}
 use Rattle.std.specs.Option.{option_map}
 use Rattle.std.specs.Prelude.{All, slice_get, ◌==◌, ◌&&◌}
 use Rattle.mr_ast.specs.declared.expr.Place.{Place}
@@ -98,21 +98,22 @@ fitting_last s fn names all_args all_names h ts us p q =
 
 -- ---- by the positions at which a loop stands
 
-module _ (s : Surround) (fn : Function) (args : List Value) (names : List LocalName) (k : ℕ) (lt : k < length args) where
+module _ (s : Surround) (fn : Function) (args : List Value) (names : List LocalName) (k : ℕ) (lt : k < length args) (v : Value) (is : v ≡ get_or args k v) where
   abbrev pub FittingAt : Type 0
   FittingAt = Fitting s fn (drop k args) (drop k names) args names
 
-  module _ (d : Value) where
-    args_cut : drop k args ≡ get_or args k d ∷ drop (k + 1) args
-    args_cut = drop-cons args k d lt ∙ ap (λ n. get_or args k d ∷ drop n args) (sym (add-one k))
+  args_cut : drop k args ≡ v ∷ drop (k + 1) args
+  args_cut = drop-cons args k v lt ∙ (λ i. sym is i ∷ drop (sym (add-one k) i) args)
 
-    pub cut_none : length names ≤ k → FittingAt → Fitting s fn (get_or args k d ∷ drop (k + 1) args) [] args names
-    cut_none le h = subst (λ (z : List Value × List LocalName). Fitting s fn z.0 z.1 args names) (λ i. (args_cut i, drop_all k names le i)) h
+  pub cut_none : length names ≤ k → FittingAt → Fitting s fn (v ∷ drop (k + 1) args) [] args names
+  cut_none le h = subst (λ (z : List Value × List LocalName). Fitting s fn z.0 z.1 args names) (λ i. (args_cut i, drop_all k names le i)) h
 
-    pub cut_both : (x : LocalName) → k < length names → FittingAt → Fitting s fn (get_or args k d ∷ drop (k + 1) args) (get_or names k x ∷ drop (k + 1) names) args names
-    cut_both x inside h =
-        subst (λ (z : List Value × List LocalName). Fitting s fn z.0 z.1 args names)
-        (λ i. (args_cut i, (drop-cons names k x inside ∙ ap (λ n. get_or names k x ∷ drop n names) (sym (add-one k))) i)) h
+  pub cut_both : (x : LocalName) → slice_get names k ≡ Some x → FittingAt → Fitting s fn (v ∷ drop (k + 1) args) (x ∷ drop (k + 1) names) args names
+  cut_both x there h =
+      let inside = slice_get_within names k x there in
+      let here = get_or_from_slice_get names k x x there in
+      subst (λ (z : List Value × List LocalName). Fitting s fn z.0 z.1 args names)
+      (λ i. (args_cut i, (drop-cons names k x inside ∙ (λ j. here j ∷ drop (sym (add-one k) j) names)) i)) h
 
 pub cut_last : (s : Surround) (fn : Function) (args : List Value) (names : List LocalName) (k : ℕ) → length args ≤ k → k ≤ length args → k ≤ length names → Fitting s fn (drop k args) (drop k names) args names
     → (ts us : List Ty) → arg_types s args ≡ Some ts → written_types fn names ≡ Some us → (length args == length names) ≡ same_types ts us

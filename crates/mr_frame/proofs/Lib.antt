@@ -3,6 +3,7 @@ pub mod AlignPowers
 pub mod AskLaws
 pub mod BeginLaws
 pub mod BeginSteps
+pub mod BeginWhole
 pub mod CallLaws
 pub mod CallRuns
 pub mod CallSafe
@@ -16,10 +17,12 @@ pub mod EffectLaws
 pub mod EndLaws
 pub mod EndSafe
 pub mod EnterLaws
+mod Examples
 pub mod FittingLaws
 pub mod FrameSafe
 pub mod Frames
 pub mod InsideLaws
+pub mod IntrinsicLaws
 pub mod LiveLaws
 pub mod Places
 pub mod PlainLaws

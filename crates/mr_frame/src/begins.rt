@@ -92,7 +92,10 @@ fn store_each(
     let names = function.args.as_slice();
     for (k, v) in args.iter().enumerate() {
         let t = &local_at(function, names[k]).ty;
-        store(alloc, e, s, pointers[k + 1], t, v)?;
+        match store(alloc, e, s, pointers[k + 1], t, v) {
+            Err(fault) => return Err(fault),
+            Ok(()) => {}
+        }
     }
     Ok(())
 }
@@ -131,13 +134,17 @@ pub fn begin(
     let function = look.function(f.0);
     let mut pointers = Vec::new(alloc);
     allocate_each(s, function, picks, &mut pointers)?;
-    store_each(alloc, &look.bare(f), s, function, pointers.as_slice(), args)?;
-    let locals = first_locals(alloc, function, pointers.as_slice())?;
-    Ok(Frame {
-        function: f.0,
-        locals,
-        block: 0,
-        at: 0,
-        call: None,
-    })
+    match store_each(alloc, &look.bare(f), s, function, pointers.as_slice(), args) {
+        Err(fault) => Err(fault),
+        Ok(()) => {
+            let locals = first_locals(alloc, function, pointers.as_slice())?;
+            Ok(Frame {
+                function: f.0,
+                locals,
+                block: 0,
+                at: 0,
+                call: None,
+            })
+        }
+    }
 }
