@@ -29,13 +29,8 @@ fn least(a: Option<AllocId>, b: Option<AllocId>) -> Option<AllocId>
     match (a, b) {
         (None, _) => b,
         (Some(_), None) => a,
-        (Some(first), Some(second)) => {
-            if second < first {
-                b
-            } else {
-                a
-            }
-        }
+        (Some(first), Some(second)) if second < first => b,
+        (Some(_), Some(_)) => a,
     }
 }
 
