@@ -1,5 +1,6 @@
 //! The start of a thread.
 ghost use Rattle.std.specs.Prelude.{◌≡◌, ◌<◌, List, Some, length};
+ghost use Rattle.mr_ast.specs.declared.program.Intrinsic.TheVariants as intrinsic;
 ghost use Rattle.mr_ast.specs.declared.types.Ty.{Ty as TypeOf};
 ghost use Rattle.mr_base.specs.declared.byte.Pointer.{Pointer as PointerOf};
 ghost use Rattle.mr_value.specs.declared.val.Val.TheVariants as val;
@@ -72,7 +73,7 @@ pub fn spawn(
     call: &DoCall,
     picks: &[u64],
 ) -> Result<Deed, TurnFault>
-    requires { (d : DueDo) × IsGiven look.now stack.old s.old sync.old call.now d × (d.op ≡ Intrinsic.Spawn) }
+    requires { (d : DueDo) × IsGiven look.now stack.old s.old sync.old call.now d × (d.op ≡ intrinsic.Spawn) }
     ensures { (d : DueDo) → next_do (look_of look.now) (stack_of stack.old) ≡ Some d → TurnAnswer result (do_breaks look.now stack.old s.old sync.old call.now d picks.now) (do_comes_to look.now stack.old s.old sync.old call.now d picks.now) (Does stack.old s.old sync.old (do_comes_to look.now stack.old s.old sync.old call.now d picks.now) stack.new s.new sync.new) (IsSame stack.old s.old sync.old stack.new s.new sync.new) }
 {
     let Some(f) = callee(look.functions, pointer_in(&call.args.as_slice()[0])) else {
