@@ -1,5 +1,5 @@
 -- What the turn of a thread comes to whose next step is an intrinsic, behind the evaluation of what it is given.
-use Rattle.std.specs.Prelude.{◌≡◌, ℕ, ◌<◌, ◌^◌, true, List, [], ◌∷◌, length, Option, None, Some, if◌then◌else◌, slice_get}
+use Rattle.std.specs.Prelude.{◌≡◌, ℕ, ◌<◌, ◌^◌, true, List, [], ◌∷◌, length, Option, None, Some, Result, Ok, Err, if◌then◌else◌, slice_get}
 use Rattle.std.specs.Option.{option_map}
 use Rattle.mr_ast.specs.declared.program.Function.{Function}
 use Rattle.mr_ast.specs.declared.program.Intrinsic.{Intrinsic}
@@ -21,7 +21,12 @@ use Rattle.mr_intr.specs.declared.need.Needs.{Needs}
 use Rattle.mr_intr.specs.declared.effect.Effect.{Effect}
 use Rattle.mr_frame.specs.declared.flow.Flow.TheVariants as flow
 use Rattle.mr_turn.specs.declared.deed.Deed.{Deed}
-use Rattle.mr_script.specs.Script.{Outcome, run, ◌>>=◌}
+use Rattle.mr_base.specs.declared.thread.Event.{Event}
+use Rattle.mr_base.specs.declared.thread.Event.TheVariants.{Quiet, Spawn}
+use Rattle.mr_script.specs.Script.{Outcome, Refused, Went, run, ◌>>=◌}
+use Rattle.mr_eval.specs.World.{World}
+use Rattle.mr_turn.specs.declared.deed.TurnFault.{TurnFault}
+use Rattle.mr_turn.specs.declared.deed.TurnFault.TheVariants as answer
 use Rattle.mr_sync.specs.Tables.{IsEnabled, Tables}
 use Rattle.mr_eval.specs.declared.scene.Scene.{Scene}
 use Rattle.mr_plan.specs.Machine.{Plan}
@@ -31,9 +36,9 @@ use Rattle.mr_frame.proofs.DoSafe.{OperandsFit}
 use Rattle.mr_frame.specs.declared.dos.DoCall.{DoCall}
 use Rattle.mr_frame.specs.declared.look.Look.{Look as KeptLook}
 use Rattle.mr_frame.specs.declared.stack.Stack.{Stack as KeptStack}
-use Rattle.mr_frame.specs.Doing.{operands_of}
+use Rattle.mr_frame.specs.Doing.{FitsResult, operands_of}
 use Rattle.mr_frame.specs.Fits.{FitsStack}
-use Rattle.mr_frame.specs.Frames.{Look}
+use Rattle.mr_frame.specs.Frames.{Look, Stack}
 use Rattle.mr_frame.specs.Kept.{IsReady, look_of, stack_of}
 use Rattle.mr_frame.specs.Operations.{DueDo, Operands, next_do}
 use Rattle.mr_frame.specs.Standing.{IsUncounted}
@@ -74,13 +79,47 @@ pub record CanAsk (s : Scene) : Type 0 where
 abbrev pub MeetsNeeds : Scene → Tables → Needs → List ℕ → Option Fault
 MeetsNeeds s x n picks = else_fault (creation_fault (shared_in s x) (creation_of n.creates)) (asks_break s x (asks_of n.ask) picks)
 
--- the deed of an operation, with the text of a print
-pub record IsTold (op : Intrinsic) (e : Effect) (printed : List ℕ) (d : Deed) : Type 0 where
+-- an intrinsic that is due can end with this value
+pub record CanEnd (look : KeptLook) (stack : KeptStack) (call : DoCall) (v : Option Val) : Type 0 where
+  pub ready : IsReady look
+  pub fits : FitsStack look.program.now (stack_of stack)
+  pub due : DueDo
+  pub is : next_do (look_of look) (stack_of stack) ≡ Some due
+  pub result : FitsResult call.result call.result_type v
+
+-- The deed of an intrinsic that ended, or the reason for which the store of its result stops.
+abbrev pub EndAnswer : Result Deed TurnFault → Outcome Stack World → Stack → World → (Deed → Type 0) → Type 0
+EndAnswer (Ok d) o k w IsSo = (o ≡ Went k w) × IsSo d
+EndAnswer (Err (answer.Broken e)) o k w IsSo = ⊥
+EndAnswer (Err (answer.Undefined r)) o k w IsSo = o ≡ Refused r
+EndAnswer (Err answer.Memory) o k w IsSo = Unit {0}
+
+-- the thread goes on, and nothing else was done
+pub record IsNoted (d : Deed) : Type 0 where
   pub flow : d.flow ≡ flow.Went
-  pub event : d.event ≡ e.event
-  pub woken : d.woken.items ≡ listed e.woken
+  pub event : d.event ≡ Quiet
+  pub woken : d.woken.items ≡ []
+  pub started : d.started ≡ None
+  pub text : d.text ≡ None
+
+-- a thread with this stack and number was started
+pub record IsNewThread (new : KeptStack) (number : ℕ) (d : Deed) : Type 0 where
+  pub flow : d.flow ≡ flow.Went
+  pub event : d.event ≡ Spawn number
+  pub woken : d.woken.items ≡ number ∷ []
+  pub started : d.started ≡ Some new
+  pub text : d.text ≡ None
+
+-- the deed of an operation, with the text of a print
+pub record IsDeed (op : Intrinsic) (event : Event) (woken : Option ℕ) (printed : List ℕ) (d : Deed) : Type 0 where
+  pub flow : d.flow ≡ flow.Went
+  pub noted : d.event ≡ event
+  pub awakened : d.woken.items ≡ listed woken
   pub started : d.started ≡ None
   pub text : option_map (λ t. t.items) d.text ≡ (if is_print op then Some printed else None)
+
+abbrev pub IsTold : Intrinsic → Effect → List ℕ → Deed → Type 0
+IsTold op e printed d = IsDeed op e.event e.woken printed d
 
 -- ---- the start of a thread
 

@@ -1,9 +1,12 @@
 //! The turn of a thread whose next step is an intrinsic.
 ghost use Rattle.std.specs.Prelude.{◌≡◌, IfOk, None, Some};
 ghost use Rattle.mr_intr.specs.Effects.{IsOperation};
+ghost use Rattle.mr_eval.specs.World.{world_of};
+ghost use Rattle.mr_frame.specs.Doing.{operands_of};
+ghost use Rattle.mr_frame.specs.Effects.{finished};
 ghost use Rattle.mr_frame.specs.Kept.{look_of, stack_of};
 ghost use Rattle.mr_frame.specs.Operations.{DueDo, next_do};
-ghost use Rattle.mr_turn.specs.Doing.{CanAsk, IsGiven, IsTold, MeetsNeeds, do_breaks, do_comes_to};
+ghost use Rattle.mr_turn.specs.Doing.{CanAsk, CanEnd, EndAnswer, IsDeed, IsGiven, IsNoted, IsTold, MeetsNeeds, do_breaks, do_comes_to};
 ghost use Rattle.mr_turn.specs.Turning.{BeginsTurn, DeedAnswer, Does, IsSame, JudgeAnswer, TurnAnswer, breaks, comes_to};
 
 use crate::deed::{Deed, TurnFault};
@@ -76,16 +79,34 @@ fn payload(
     let Some(last) = stack.payload() else {
         return Err(stopped(Reason::NoPayload, picks));
     };
-    judged(s, sync, &[], picks)?;
-    let value = Val::Ptr(last);
-    stack.finish(alloc, look, s, call, Some(&value))?;
-    Ok(Deed {
-        flow: Flow::Went,
-        event: Event::Quiet,
-        woken: Vec::new(alloc),
-        started: None,
-        text: None,
-    })
+    match judged(s, sync, &[], picks) {
+        Err(fault) => Err(fault),
+        Ok(()) => end(alloc, look, stack, s, call, &Val::Ptr(last)),
+    }
+}
+
+// The end of an intrinsic with this result, which did nothing else.
+fn end(
+    alloc: Global,
+    look: &Look<'_>,
+    stack: &mut Stack,
+    s: &mut Scene,
+    call: &DoCall,
+    value: &Val,
+) -> Result<Deed, TurnFault>
+    requires { CanEnd look.now stack.old call.now (Some value.now) }
+    ensures { (d : DueDo) → next_do (look_of look.now) (stack_of stack.old) ≡ Some d → EndAnswer result (finished (stack_of stack.old) d (operands_of call.now) (Some value.now) (world_of s.old)) (stack_of stack.new) (world_of s.new) IsNoted }
+{
+    match stack.finish(alloc, look, s, call, Some(value)) {
+        Err(fault) => Err(TurnFault::from(fault)),
+        Ok(()) => Ok(Deed {
+            flow: Flow::Went,
+            event: Event::Quiet,
+            woken: Vec::new(alloc),
+            started: None,
+            text: None,
+        }),
+    }
 }
 
 // What an operation needs: what it creates, and a pick where it asks for one.
@@ -140,32 +161,46 @@ fn carry_out(
     ensures { (d : DueDo) → next_do (look_of look.now) (stack_of stack.old) ≡ Some d → DeedAnswer result (do_comes_to look.now stack.old s.old sync.old call.now d picks.now) (Does stack.old s.old sync.old (do_comes_to look.now stack.old s.old sync.old call.now d picks.now) stack.new s.new sync.new) }
 {
     let mut text = Vec::new(alloc);
-    let effect = operate(
-        alloc,
-        op,
-        call.args.as_slice(),
-        call.arg_types.as_slice(),
-        call.result_type.as_ref(),
-        s,
-        sync,
-        &mut text,
-        picks,
-    )?;
-    stack.finish(alloc, look, s, call, effect.value.as_ref())?;
-    Ok(told(alloc, op, effect, text)?)
+    let (args, types) = (call.args.as_slice(), call.arg_types.as_slice());
+    let place = call.result_type.as_ref();
+    match operate(alloc, op, args, types, place, s, sync, &mut text, picks) {
+        Err(fault) => Err(TurnFault::from(fault)),
+        Ok(effect) => end_told(alloc, look, stack, s, call, op, effect, text),
+    }
+}
+
+// The end of an operation that had this effect and printed this text.
+fn end_told(
+    alloc: Global,
+    look: &Look<'_>,
+    stack: &mut Stack,
+    s: &mut Scene,
+    call: &DoCall,
+    op: Intrinsic,
+    effect: Effect,
+    text: Vec<u8>,
+) -> Result<Deed, TurnFault>
+    requires { CanEnd look.now stack.old call.now effect.value }
+    ensures { (d : DueDo) → next_do (look_of look.now) (stack_of stack.old) ≡ Some d → EndAnswer result (finished (stack_of stack.old) d (operands_of call.now) effect.entry.value (world_of s.old)) (stack_of stack.new) (world_of s.new) (IsTold op effect.entry text.entry.items) }
+{
+    match stack.finish(alloc, look, s, call, effect.value.as_ref()) {
+        Err(fault) => Err(TurnFault::from(fault)),
+        Ok(()) => Ok(told(alloc, op, effect.event, effect.woken, text)?),
+    }
 }
 
 // What an operation did, as a deed.
 fn told(
     alloc: Global,
     op: Intrinsic,
-    effect: Effect,
+    event: Event,
+    awakened: Option<u32>,
     text: Vec<u8>,
 ) -> Result<Deed, AllocError>
-    ensures { IfOk result (IsTold op effect text.items) }
+    ensures { IfOk result (IsDeed op event awakened text.items) }
 {
     let mut woken = Vec::new(alloc);
-    if let Some(thread) = effect.woken {
+    if let Some(thread) = awakened {
         woken.push(thread)?;
     }
     let text = match op {
@@ -174,7 +209,7 @@ fn told(
     };
     Ok(Deed {
         flow: Flow::Went,
-        event: effect.event,
+        event,
         woken,
         started: None,
         text,

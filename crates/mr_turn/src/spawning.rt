@@ -6,10 +6,13 @@ ghost use Rattle.mr_base.specs.declared.byte.Pointer.{Pointer as PointerOf};
 ghost use Rattle.mr_value.specs.declared.val.Val.TheVariants as val;
 ghost use Rattle.mr_frame.specs.Calling.{HasLocals};
 ghost use Rattle.mr_frame.specs.Calls.{kept_types, local_type, same_types};
+ghost use Rattle.mr_eval.specs.World.{world_of};
+ghost use Rattle.mr_frame.specs.Doing.{operands_of};
+ghost use Rattle.mr_frame.specs.Effects.{finished};
 ghost use Rattle.mr_frame.specs.Kept.{look_of, stack_of};
 ghost use Rattle.mr_frame.specs.Operations.{DueDo, next_do};
 ghost use Rattle.mr_thread.specs.Steps.{thread_types};
-ghost use Rattle.mr_turn.specs.Doing.{IsGiven, StartsThread, do_breaks, do_comes_to};
+ghost use Rattle.mr_turn.specs.Doing.{CanEnd, EndAnswer, IsGiven, IsNewThread, StartsThread, do_breaks, do_comes_to};
 ghost use Rattle.mr_turn.specs.Turning.{DeedAnswer, Does, IsSame, TurnAnswer};
 
 use crate::deed::{Deed, TurnFault};
@@ -108,15 +111,34 @@ fn start(
 {
     let new = Stack::enter(alloc, look, s, f, &call.args.as_slice()[1..], picks)?;
     let number = sync.spawn()?;
-    let value = Val::Int(u128::from(number));
-    stack.finish(alloc, look, s, call, Some(&value))?;
-    let mut woken = Vec::new(alloc);
-    woken.push(number)?;
-    Ok(Deed {
-        flow: Flow::Went,
-        event: Event::Spawn(number),
-        woken,
-        started: Some(new),
-        text: None,
-    })
+    end_start(alloc, look, stack, s, call, new, number)
+}
+
+// The store of a new thread's number as the result.
+fn end_start(
+    alloc: Global,
+    look: &Look<'_>,
+    stack: &mut Stack,
+    s: &mut Scene,
+    call: &DoCall,
+    new: Stack,
+    number: u32,
+) -> Result<Deed, TurnFault>
+    requires { CanEnd look.now stack.old call.now (Some (val.Int number)) }
+    ensures { (d : DueDo) → next_do (look_of look.now) (stack_of stack.old) ≡ Some d → EndAnswer result (finished (stack_of stack.old) d (operands_of call.now) (Some (val.Int number)) (world_of s.old)) (stack_of stack.new) (world_of s.new) (IsNewThread new.entry number) }
+{
+    match stack.finish(alloc, look, s, call, Some(&Val::Int(u128::from(number)))) {
+        Err(fault) => Err(TurnFault::from(fault)),
+        Ok(()) => {
+            let mut woken = Vec::new(alloc);
+            woken.push(number)?;
+            Ok(Deed {
+                flow: Flow::Went,
+                event: Event::Spawn(number),
+                woken,
+                started: Some(new),
+                text: None,
+            })
+        }
+    }
 }
