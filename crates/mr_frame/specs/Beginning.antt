@@ -1,9 +1,9 @@
 -- What the code of a function's start needs and answers.
-use Rattle.std.specs.Prelude.{◌≡◌, ℕ, ◌+◌, ◌<◌, ◌^◌, ◌++◌, All, List, [], ◌∷◌, length, Option, None, Some, slice_get}
+use Rattle.std.specs.Prelude.{◌≡◌, ℕ, ◌+◌, ◌<◌, ◌^◌, ◌++◌, All, List, [], ◌∷◌, length, None, Some, slice_get}
 use Rattle.mr_ast.specs.declared.program.Function.{Function}
 use Rattle.mr_ast.specs.declared.program.Local.{Local}
 use Rattle.mr_ast.specs.declared.types.Ty.{Ty}
-use Rattle.mr_base.specs.declared.byte.Kind.TheVariants.{Stack}
+use Rattle.mr_base.specs.declared.byte.Kind.TheVariants.{Stack as OnStack}
 use Rattle.mr_base.specs.declared.byte.Pointer.{Pointer}
 use Rattle.mr_layout.specs.Sizes.{align_of, size_of}
 use Rattle.mr_layout.specs.TypeOk.{TypeOk}
@@ -17,6 +17,7 @@ use Rattle.mr_plan.specs.Legal.{picks_fault}
 use Rattle.mr_frame.specs.declared.look.Look.{Look as KeptLook}
 use Rattle.mr_frame.specs.Calling.{HasLocals}
 use Rattle.mr_frame.specs.Calls.{allocate_each, behind_first, kept_types, storage_asks, store_each}
+use Rattle.mr_frame.specs.Frames.{Frame, Stack}
 use Rattle.mr_frame.specs.Kept.{IsReady}
 use Rattle.mr_frame.specs.Standing.{IsUncounted}
 
@@ -44,8 +45,14 @@ pub record HasTypes (fn : Function) : Type 0 where
 -- one more allocation, whose pointer joins others
 pub record IsAllocated (t : Ty) (addr : ℕ) (old new : World) (before after : List Pointer) : Type 0 where
   pub at : Pointer
-  pub is : memory_answer (Allocate Stack (size_of t) (align_of t) addr) old ≡ Went at new
+  pub is : memory_answer (Allocate OnStack (size_of t) (align_of t) addr) old ≡ Went at new
   pub joins : after ≡ before ++ at ∷ []
+
+-- The run came to a frame, and the stack is that frame alone, without payloads.
+pub record IsBottom (o : Outcome Frame World) (s : Stack) (w : World) : Type 0 where
+  pub frame : Frame
+  pub went : o ≡ Went frame w
+  pub is : s ≡ record { frames = frame ∷ []; payloads = [] }
 
 -- ---- what they come to
 

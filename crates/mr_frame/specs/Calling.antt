@@ -1,10 +1,11 @@
 -- What a call comes to before it needs a pick, and what the code of calls answers.
-use Rattle.std.specs.Prelude.{◌≡◌, ℕ, ◌<◌, All, if◌then◌else◌, List, [], ◌∷◌, length, map, Option, None, Some, slice_get, Result, Ok, Err}
+use Rattle.std.specs.Prelude.{◌≡◌, ℕ, ◌<◌, All, if◌then◌else◌, List, length, map, Option, None, Some, slice_get, Result, Ok, Err}
 use Rattle.mr_ast.specs.declared.expr.Place.{Place}
 use Rattle.mr_ast.specs.declared.expr.Value.{Value}
 use Rattle.mr_ast.specs.declared.program.Function.{Function}
 use Rattle.mr_ast.specs.declared.program.LocalName.{LocalName}
-use Rattle.mr_ast.specs.declared.types.Ty.{Ty, out-Ty}
+use Rattle.mr_ast.specs.declared.program.Program.{Program}
+use Rattle.mr_ast.specs.declared.types.Ty.{Ty}
 use Rattle.mr_base.specs.declared.byte.Pointer.{Pointer}
 use Rattle.mr_base.specs.declared.reason.Reason.TheVariants.{NotAFunction, SignatureMismatch}
 use Rattle.mr_mem.specs.Memory.{Memory}
@@ -13,7 +14,6 @@ use Rattle.mr_mem.specs.declared.fault.Fault.TheVariants as fault
 use Rattle.mr_value.specs.declared.val.Val.{Val}
 use Rattle.mr_script.specs.Script.{Broken, Outcome, Refused, Went, on}
 use Rattle.mr_wf.specs.Types.{type_of_value}
-use Rattle.mr_wf.specs.Walk.{WellFormed}
 use Rattle.mr_eval.specs.Environment.{PlaceIn, ValueIn, env_surround}
 use Rattle.mr_eval.specs.Evaluated.{each_valued, placed}
 use Rattle.mr_eval.specs.Evaluation.{Surround}
@@ -62,17 +62,17 @@ abbrev pub look_in : Env → Look
 look_in e = record { program = e.program.now; functions = e.functions.now; globals = e.globals.now }
 
 -- the code's call is one of a function that is there, whose types are these
-pub record IsPrepared (e : Env) (p : KeptPrepared) (o : Outcome Prepared Seen) (s : Seen) : Type 0 where
+pub record IsPrepared (p : Program) (kept : KeptPrepared) (o : Outcome Prepared Seen) (s : Seen) : Type 0 where
   pub function : Function
   pub types : List Ty
-  pub there : slice_get e.program.now.functions p.function.0 ≡ Some function
+  pub there : slice_get p.functions kept.function.0 ≡ Some function
   pub typed : kept_types function ≡ Some types
-  pub is : o ≡ Went (record { place = p.place; number = p.function.0; function = function; types = types; args = p.args.items }) s
+  pub is : o ≡ Went (record { place = kept.place; number = kept.function.0; function = function; types = types; args = kept.args.items }) s
 
-abbrev pub Prepares : Env → Result KeptPrepared Fault → Outcome Prepared Seen → Seen → Type 0
-Prepares e (Ok p) o s = IsPrepared e p o s
-Prepares e (Err (fault.Undefined r)) o s = o ≡ Refused r
-Prepares e (Err fault.Memory) o s = Unit {0}
+abbrev pub Prepares : Program → Result KeptPrepared Fault → Outcome Prepared Seen → Seen → Type 0
+Prepares p (Ok kept) o s = IsPrepared p kept o s
+Prepares p (Err (fault.Undefined r)) o s = o ≡ Refused r
+Prepares p (Err fault.Memory) o s = Unit {0}
 
 -- ---- what stands in the function of an environment
 

@@ -1,7 +1,10 @@
 -- What the code of intrinsics' operands and ends needs and answers.
-use Rattle.std.specs.Prelude.{◌≡◌, Bool, true, ◌||◌, List, [], ◌∷◌, Option, None, Some}
+use Rattle.std.specs.Prelude.{◌≡◌, Bool, true, ◌||◌, List, Option, None, Some}
 use Rattle.mr_ast.specs.declared.expr.Place.{Place}
 use Rattle.mr_ast.specs.declared.expr.Value.{Value}
+use Rattle.mr_ast.specs.declared.program.Intrinsic.{Intrinsic}
+use Rattle.mr_ast.specs.declared.program.Term.{Term}
+use Rattle.mr_ast.specs.declared.program.Term.TheVariants as term
 use Rattle.mr_ast.specs.declared.types.Ty.{Ty}
 use Rattle.mr_base.specs.declared.byte.Pointer.{Pointer}
 use Rattle.mr_layout.specs.TypeOk.{TypeOk}
@@ -10,8 +13,8 @@ use Rattle.mr_value.specs.declared.val.Val.{Val}
 use Rattle.mr_value.specs.Shape.{has_shape}
 use Rattle.mr_script.specs.Script.{Broken, Outcome, Went, on, run}
 use Rattle.mr_wf.specs.Operands.{is_bool, is_fn_ptr, is_integer, is_raw}
-use Rattle.mr_wf.specs.Types.{type_of_place, type_of_value}
-use Rattle.mr_eval.specs.Environment.{PlaceIn, env_surround}
+use Rattle.mr_wf.specs.Types.{type_of_place}
+use Rattle.mr_eval.specs.Environment.{PlaceIn}
 use Rattle.mr_eval.specs.Evaluated.{each_valued, placed}
 use Rattle.mr_eval.specs.Evaluation.{Surround}
 use Rattle.mr_eval.specs.MemoryQueries.{memory_answer}
@@ -26,6 +29,11 @@ use Rattle.mr_frame.specs.Operations.{Operands, store_result}
 -- what an intrinsic is given, without where it lies
 abbrev pub operands_of : DoCall → Operands
 operands_of c = record { result = c.result; result_type = c.result_type; args = c.args.items; arg_types = c.arg_types.items }
+
+-- the operation of an intrinsic; none of another terminator
+abbrev pub operation_in : Term → Option Intrinsic
+operation_in (term.Do op args place next) = Some op
+operation_in t = None
 
 -- an integer, a bool, a raw pointer or a pointer to a function
 abbrev pub is_plain : Ty → Bool

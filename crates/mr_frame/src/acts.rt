@@ -40,8 +40,9 @@ fn push_asks(function: &Function, out: &mut Vec<Ask>) -> Result<(), AllocError>
     requires { HasTypes function.now }
     ensures { (types : List TypeOf) → kept_types function.now ≡ Some types → OnOk result (out.new.items ≡ out.old.items ++ storage_asks types) }
 {
+    let names = function.args.as_slice();
     push_ask(&local_at(function, function.ret).ty, out)?;
-    for x in function.args.as_slice() {
+    for x in names {
         push_ask(&local_at(function, *x).ty, out)?;
     }
     Ok(())
@@ -58,12 +59,14 @@ impl Stack {
     ghost use Rattle.mr_frame.specs.Changes.{IsChange};
     ghost use Rattle.mr_frame.specs.Effects.{acted, asked, entered};
     ghost use Rattle.mr_frame.specs.Fits.{FitsStack};
-    ghost use Rattle.mr_frame.specs.Frames.{GoesOn};
+    ghost use Rattle.mr_frame.specs.Calling.{Prepares, prepared};
+    ghost use Rattle.mr_frame.specs.Frames.{GoesOn, scene_in};
     ghost use Rattle.mr_frame.specs.Kept.{IsReady, below_of, frame_of, look_of, onward_of, stack_of};
     ghost use Rattle.mr_frame.specs.Operations.{next_do};
     ghost use Rattle.mr_frame.specs.Sites.{AtStatement, AtTerminator, NoDo, due_term};
     ghost use Rattle.mr_ast.specs.declared.program.Function.{Function as FunctionOf};
     ghost use Rattle.mr_frame.specs.Standing.{Holds, IsDue, IsSlot};
+    ghost use Rattle.mr_mem.specs.Memory.{Memory as MemoryOf};
     ghost use Rattle.mr_script.specs.Script.{Went, on};
 
     // What a local of the top frame has.
@@ -164,25 +167,42 @@ impl Stack {
     }
 
     // `call`: the place, the callee and the arguments; then the callee's frame.
-    fn call(
+    fn call<'p>(
         &mut self,
         alloc: Global,
-        look: &Look<'_>,
+        look: &Look<'p>,
         s: &mut Scene,
-        callee: &Value,
-        args: &[Value],
-        place: &Place,
+        callee: &'p Value,
+        args: &'p [Value],
+        place: &'p Place,
         picks: &[u64],
     ) -> Result<Flow, Fault>
         requires due { IsDueCall look.now self.old callee.now args.now place.now }
         requires lawful { AreLawful (look_of look.now) (stack_of self.old) picks.now s.old }
         ensures { TellsBy (λ flow. onward_of flow (stack_of self.new)) result (acted (look_of look.now) s.old.thread (stack_of self.old) picks.now (world_of s.old)) (world_of s.new) }
     {
-        let env = look.env(&self.top);
-        match prepare(alloc, &env, &s.memory, &mut s.notes, callee, args, place) {
+        match self.prepared(alloc, look, &s.memory, &mut s.notes, callee, args, place) {
             Err(fault) => Err(fault),
             Ok(prepared) => self.enter_call(alloc, look, s, &prepared, picks),
         }
+    }
+
+    // What a call finds out before it needs a pick.
+    fn prepared<'p>(
+        &self,
+        alloc: Global,
+        look: &Look<'p>,
+        m: &Memory,
+        notes: &mut Notes,
+        callee: &'p Value,
+        args: &'p [Value],
+        place: &'p Place,
+    ) -> Result<Prepared, Fault>
+        requires { IsDueCall look.now self.now callee.now args.now place.now }
+        ensures { (fn : FunctionOf) → slice_get look.now.program.now.functions self.now.top.function ≡ Some fn → Prepares look.now.program.now result (prepared m.now (look_of look.now) (scene_in (look_of look.now) fn (frame_of self.now.top)) callee.now args.now place.now (seen notes.old)) (seen notes.new) }
+    {
+        let env = look.env(&self.top);
+        prepare(alloc, &env, m, notes, callee, args, place)
     }
 
     // Behind the evaluations of a call: the callee's frame stands above the caller's, which keeps the place.
@@ -197,26 +217,24 @@ impl Stack {
         requires { CanBegin look.now prepared.now.function.0 prepared.now.args.items picks.now (world_of s.old) }
         ensures { TellsBy (λ flow. onward_of flow (stack_of self.new)) result (on (entered prepared.now.function.0 (slice_get look.now.program.now.functions prepared.now.function.0) prepared.now.args.items picks.now (world_of s.old)) (λ f w. Went (GoesOn (record (stack_of self.old) { frames = f ∷ record (frame_of self.old.top) { call = Some prepared.now.place } ∷ below_of self.old })) w)) (world_of s.new) }
     {
-        let frame = begin(
-            alloc,
-            look,
-            s,
-            prepared.function,
-            prepared.args.as_slice(),
-            picks,
-        )?;
-        self.top.keep_place(prepared.place);
-        self.push(frame)?;
-        Ok(Flow::Went)
+        let args = prepared.args.as_slice();
+        match begin(alloc, look, s, prepared.function, args, picks) {
+            Err(fault) => Err(fault),
+            Ok(frame) => {
+                self.top.keep_place(prepared.place);
+                self.push(frame)?;
+                Ok(Flow::Went)
+            }
+        }
     }
 
     // A terminator that is no intrinsic.
-    fn end_block(
+    fn end_block<'p>(
         &mut self,
         alloc: Global,
-        look: &Look<'_>,
+        look: &Look<'p>,
         s: &mut Scene,
-        t: &Term,
+        t: &'p Term,
         picks: &[u64],
     ) -> Result<Flow, Fault>
         requires due { IsDue look.now self.old (due_term t.now) }
@@ -289,11 +307,45 @@ impl Stack {
         ensures { (thread : ℕ) → OnOk result (out.new.items ≡ out.old.items ++ asked m.now (look_of look.now) thread (stack_of self.now) nothing_seen) }
     {
         match self.due(look) {
-            Next::Statement(Stmt::Live(x)) => {
-                let t = &local_at(look.function(self.top.function), *x).ty;
-                push_ask(t, out)
+            Next::Statement(stmt) => self.statement_asks(look, stmt, out),
+            Next::Terminator(t) => self.terminator_asks(alloc, look, m, t, out),
+        }
+    }
+
+    // `live` asks for an address, and no other statement asks for anything.
+    fn statement_asks(
+        &self,
+        look: &Look<'_>,
+        stmt: &Stmt,
+        out: &mut Vec<Ask>,
+    ) -> Result<(), AllocError>
+        requires { IsDue look.now self.now (AtStatement stmt.now) }
+        ensures { (m : MemoryOf) → (thread : ℕ) → OnOk result (out.new.items ≡ out.old.items ++ asked m (look_of look.now) thread (stack_of self.now) nothing_seen) }
+    {
+        match stmt {
+            Stmt::Live(x) => {
+                let function = look.function(self.top.function);
+                push_ask(&local_at(function, *x).ty, out)
             }
-            Next::Terminator(Term::Call(callee, args, place, _, _)) => {
+            _ => Ok(()),
+        }
+    }
+
+    // Of the terminators that are no intrinsics, a call alone asks for anything.
+    fn terminator_asks<'p>(
+        &self,
+        alloc: Global,
+        look: &Look<'p>,
+        m: &Memory,
+        t: &'p Term,
+        out: &mut Vec<Ask>,
+    ) -> Result<(), AllocError>
+        requires due { IsDue look.now self.now (due_term t.now) }
+        requires other { NoDo t.now }
+        ensures { (thread : ℕ) → OnOk result (out.new.items ≡ out.old.items ++ asked m.now (look_of look.now) thread (stack_of self.now) nothing_seen) }
+    {
+        match t {
+            Term::Call(callee, args, place, _, _) => {
                 let args = args.as_slice();
                 self.call_asks(alloc, look, m, callee, args, place, out)
             }
@@ -302,22 +354,21 @@ impl Stack {
     }
 
     // What a call asks for: an address for the return local and for each argument, where it comes to that.
-    fn call_asks(
+    fn call_asks<'p>(
         &self,
         alloc: Global,
-        look: &Look<'_>,
+        look: &Look<'p>,
         m: &Memory,
-        callee: &Value,
-        args: &[Value],
-        place: &Place,
+        callee: &'p Value,
+        args: &'p [Value],
+        place: &'p Place,
         out: &mut Vec<Ask>,
     ) -> Result<(), AllocError>
         requires { IsDueCall look.now self.now callee.now args.now place.now }
         ensures { (thread : ℕ) → OnOk result (out.new.items ≡ out.old.items ++ asked m.now (look_of look.now) thread (stack_of self.now) nothing_seen) }
     {
         let mut notes = Notes::new(alloc);
-        let env = look.env(&self.top);
-        match prepare(alloc, &env, m, &mut notes, callee, args, place) {
+        match self.prepared(alloc, look, m, &mut notes, callee, args, place) {
             Ok(prepared) => push_asks(look.function(prepared.function.0), out),
             Err(Fault::Undefined(_)) => Ok(()),
             Err(Fault::Memory) => Err(AllocError),

@@ -67,8 +67,9 @@ fn allocate_each(
     requires allocates { (types : List TypeOf) → kept_types function.now ≡ Some types → CanAllocate types picks.now (world_of s.old) }
     ensures { (types : List TypeOf) → kept_types function.now ≡ Some types → OnOk result (allocated_each types picks.now (world_of s.old) ≡ Went out.new.items (world_of s.new)) }
 {
+    let names = function.args.as_slice();
     allocate_local(s, &local_at(function, function.ret).ty, picks[0], out)?;
-    for (k, x) in function.args.as_slice().iter().enumerate() {
+    for (k, x) in names.iter().enumerate() {
         allocate_local(s, &local_at(function, *x).ty, picks[k + 1], out)?;
     }
     Ok(())
@@ -88,9 +89,13 @@ fn store_each(
     requires pointers { length pointers.now ≡ length function.now.args + 1 }
     ensures { (types : List TypeOf) → written_types function.now function.now.args ≡ Some types → Tells result (stored_each types (drop 1 pointers.now) args.now (world_of s.old)) (world_of s.new) }
 {
+    let names = function.args.as_slice();
     for (k, v) in args.iter().enumerate() {
-        let t = &local_at(function, function.args.as_slice()[k]).ty;
-        store(alloc, e, s, pointers[k + 1], t, v)?;
+        let t = &local_at(function, names[k]).ty;
+        match store(alloc, e, s, pointers[k + 1], t, v) {
+            Err(fault) => return Err(fault),
+            Ok(()) => {}
+        }
     }
     Ok(())
 }
@@ -105,9 +110,10 @@ fn first_locals(
     requires pointers { length pointers.now ≡ length function.now.args + 1 }
     ensures { IfOk result (λ locals. locals.items ≡ with_each (replicate (length function.now.locals) None) (kept_locals function.now) pointers.now) }
 {
+    let names = function.args.as_slice();
     let mut locals = vec![in alloc; None; function.locals.len()]?;
     locals[function.ret.0 as usize] = Some(pointers[0]);
-    for (k, x) in function.args.as_slice().iter().enumerate() {
+    for (k, x) in names.iter().enumerate() {
         locals[x.0 as usize] = Some(pointers[k + 1]);
     }
     Ok(locals)
@@ -128,13 +134,17 @@ pub fn begin(
     let function = look.function(f.0);
     let mut pointers = Vec::new(alloc);
     allocate_each(s, function, picks, &mut pointers)?;
-    store_each(alloc, &look.bare(f), s, function, pointers.as_slice(), args)?;
-    let locals = first_locals(alloc, function, pointers.as_slice())?;
-    Ok(Frame {
-        function: f.0,
-        locals,
-        block: 0,
-        at: 0,
-        call: None,
-    })
+    match store_each(alloc, &look.bare(f), s, function, pointers.as_slice(), args) {
+        Err(fault) => Err(fault),
+        Ok(()) => {
+            let locals = first_locals(alloc, function, pointers.as_slice())?;
+            Ok(Frame {
+                function: f.0,
+                locals,
+                block: 0,
+                at: 0,
+                call: None,
+            })
+        }
+    }
 }

@@ -47,6 +47,7 @@ pub fn callee(functions: &[Pointer], p: Pointer) -> Option<FnName>
 }
 
 /// What a call does before it needs a pick: the place, the callee and the arguments; then 117, and 118.
+#[tactic(auto, using(crate::proofs::CallLaws::prepared_laws, mr_eval::proofs::ExtendsLaws::extends_laws))]
 pub fn prepare<'a>(
     alloc: Global,
     e: &Env<'a>,
@@ -57,7 +58,7 @@ pub fn prepare<'a>(
     to: &'a Place,
 ) -> Result<Prepared, Fault>
     requires { CallIn e.now written.now args.now to.now }
-    ensures given { Prepares e.now result (prepared m.now (look_in e.now) (env_surround e.now) written.now args.now to.now (seen n.old)) (seen n.new) }
+    ensures given { Prepares e.now.program.now result (prepared m.now (look_in e.now) (env_surround e.now) written.now args.now to.now (seen n.old)) (seen n.new) }
     ensures kept { Extends (seen n.old) (seen n.new) }
 {
     let at = place(alloc, e, m, n, to)?;
@@ -77,7 +78,7 @@ fn called<'a>(
 ) -> Result<Prepared, Fault>
     requires inside { (f : Function) × InProgram f e.now }
     requires call { GivenIn e.now args.now to.now }
-    ensures { (s : Seen) → Prepares e.now result (called (look_in e.now) (given_types (env_surround e.now) to.now args.now) place row.items (callee_of e.now.functions.now function) s) s }
+    ensures { (s : Seen) → Prepares e.now.program.now result (called (look_in e.now) (given_types (env_surround e.now) to.now args.now) place row.items (callee_of e.now.functions.now function) s) s }
 {
     let Some(function) = callee(e.functions, function) else {
         return Err(Fault::Undefined(Reason::NotAFunction));

@@ -5,7 +5,7 @@ ghost use Rattle.mr_eval.specs.Environment.{Tells, env_surround};
 ghost use Rattle.mr_eval.specs.World.{TellsBy, world_of};
 ghost use Rattle.mr_wf.specs.Known.{ty_of};
 ghost use Rattle.mr_frame.specs.Calling.{arg_types};
-ghost use Rattle.mr_frame.specs.Doing.{FitsResult, PlainIn, ResultIn, given_operands, is_plain, operands_of, result_placed, result_stored, result_typed, with_types};
+ghost use Rattle.mr_frame.specs.Doing.{FitsResult, PlainIn, ResultIn, given_operands, is_plain, operands_of, operation_in, result_placed, result_stored, result_typed, with_types};
 ghost use Rattle.mr_eval.specs.Reads.{Seen};
 
 use crate::begins::store;
@@ -89,7 +89,7 @@ fn result_place(
 }
 
 // The place for the result, and then the arguments from left to right.
-#[tactic(auto, using(mr_eval::proofs::ExtendsLaws::extends_laws))]
+#[tactic(auto, using(crate::proofs::DoLaws::operand_laws, mr_eval::proofs::ExtendsLaws::extends_laws))]
 fn operands<'a>(
     alloc: Global,
     e: &Env<'a>,
@@ -149,6 +149,16 @@ fn store_result(
     }
 }
 
+// The operation of an intrinsic; none of another terminator.
+fn operation(t: &Term) -> Option<Intrinsic>
+    ensures { result ≡ operation_in t.now }
+{
+    match t {
+        Term::Do(op, _, _, _) => Some(*op),
+        _ => None,
+    }
+}
+
 impl Stack {
     ghost use Rattle.std.specs.Prelude.{◌≡◌, List, Some, option_copied, slice_get};
     ghost use Rattle.std.specs.Option.{option_map};
@@ -160,6 +170,9 @@ impl Stack {
     ghost use Rattle.mr_frame.specs.Fits.{FitsStack};
     ghost use Rattle.mr_frame.specs.Kept.{IsReady, look_of, stack_of};
     ghost use Rattle.mr_frame.specs.Operations.{DueDo, next_do};
+    ghost use Rattle.mr_frame.specs.Sites.{due_term};
+    ghost use Rattle.mr_frame.specs.Standing.{IsDue};
+    ghost use Rattle.mr_ast.specs.declared.program.Term.TheVariants as term;
 
     /// The intrinsic that is due, if one is.
     pub fn intrinsic(&self, program: &Checked) -> Option<Intrinsic>
@@ -168,8 +181,22 @@ impl Stack {
     {
         let function = function_at(program.program(), self.top.function);
         match next_of(function, &self.top) {
-            Next::Terminator(Term::Do(op, _, _, _)) => Some(*op),
-            _ => None,
+            Next::Statement(_) => None,
+            Next::Terminator(t) => operation(t),
+        }
+    }
+
+    // The terminator of the intrinsic that is due.
+    fn due_do<'a>(&self, look: &Look<'a>) -> &'a Term
+        requires ready { IsReady look.now }
+        requires fits { FitsStack look.now.program.now (stack_of self.now) }
+        requires due { (d : DueDo) × (next_do (look_of look.now) (stack_of self.now) ≡ Some d) }
+        ensures due { IsDue look.now self.now (due_term result.now) }
+        ensures is { (d : DueDo) → next_do (look_of look.now) (stack_of self.now) ≡ Some d → result.now ≡ term.Do d.op d.args d.place d.next }
+    {
+        match self.due(look) {
+            Next::Statement(_) => unreachable!(),
+            Next::Terminator(t) => t,
         }
     }
 
@@ -189,7 +216,7 @@ impl Stack {
         ensures given { (d : DueDo) → next_do (look_of look.now) (stack_of self.now) ≡ Some d → TellsBy operands_of result (argued m.now (look_of look.now) d (seen notes.old)) (seen notes.new) }
         ensures kept { Extends (seen notes.old) (seen notes.new) }
     {
-        let Next::Terminator(Term::Do(_, args, place, _)) = self.due(look) else {
+        let Term::Do(_, args, place, _) = self.due_do(look) else {
             unreachable!()
         };
         let env = look.env(&self.top);
@@ -213,12 +240,16 @@ impl Stack {
         requires result { FitsResult call.now.result call.now.result_type (option_copied value) }
         ensures { (d : DueDo) → next_do (look_of look.now) (stack_of self.old) ≡ Some d → TellsBy (λ u. stack_of self.new) result (finished (stack_of self.old) d (operands_of call.now) (option_copied value.entry) (world_of s.old)) (world_of s.new) }
     {
-        let Next::Terminator(Term::Do(_, _, _, next)) = self.due(look) else {
+        let Term::Do(_, _, _, next) = self.due_do(look) else {
             unreachable!()
         };
-        store_result(alloc, &look.env(&self.top), s, call, value)?;
-        self.top.jump(next.0);
-        Ok(())
+        match store_result(alloc, &look.env(&self.top), s, call, value) {
+            Err(fault) => Err(fault),
+            Ok(()) => {
+                self.top.jump(next.0);
+                Ok(())
+            }
+        }
     }
 
     /// The last payload; none where there is none.

@@ -1,0 +1,24 @@
+use Rattle.std.proofs.Common.{◌∙◌, sym, subst, Option}
+use Rattle.std.specs.Prelude.{option_copied}
+use Rattle.mr_base.specs.declared.byte.Pointer.{Pointer}
+use Rattle.mr_script.specs.Script.{Outcome}
+use Rattle.mr_eval.specs.Environment.{Tells}
+use Rattle.mr_eval.specs.World.{World, world_of}
+use Rattle.mr_frame.specs.Doing.{FitsResult, result_stored}
+use Rattle.mr_frame.proofs.DoLaws.{stored_none, stored_some}
+use Rattle.mr_frame.proofs.dos.store_result.Goals as goal
+
+pub returns-in-Some-Some-Some : goal.returns-in-Some-Some-Some
+returns-in-Some-Some-Some c =
+    let here = c.in-Some-Some-Some in
+    let w = world_of c.args.s.now in
+    let P : Outcome (Unit {0}) World → Type 0 = λ o. Tells c.store.result o (world_of c.store.new.s) in
+    subst P (sym ((λ i. result_stored (here.is-0 i) (here.is-1 i) (option_copied (here.is-2 i)) w) ∙ stored_some here.p here.t here.v.now w)) c.store.ensures
+
+pub returns-in_default-3 : goal.returns-in_default-3
+returns-in_default-3 c =
+    let none = c.in_default.is-0 in
+    let w = world_of c.args.s.now in
+    let P : Option Pointer → Type 0 = λ o. FitsResult o c.args.call.now.result_type (option_copied c.args.value) in
+    let fits = subst P none c.requires in
+    (λ i. result_stored (none i) (fits.0 i) (fits.1 i) w) ∙ stored_none w
