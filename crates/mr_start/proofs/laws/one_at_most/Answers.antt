@@ -1,0 +1,6 @@
+use Rattle.mr_plan.proofs.RunLaws.{completed_by_step}
+use Rattle.mr_thread.specs.Steps.{thread_step}
+use Rattle.mr_start.proofs.laws.one_at_most.Goals as goal
+
+pub returns : goal.returns
+returns c = λ look. completed_by_step (thread_step look)
