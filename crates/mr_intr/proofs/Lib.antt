@@ -1,4 +1,13 @@
+pub mod Arguments
+pub mod AtomicLaws
+pub mod AtomicRuns
+pub mod HeapLaws
 pub mod Leaving
+pub mod LockLaws
 pub mod LockSafe
-pub mod Operates
+pub mod NeedLaws
+pub mod OperatedLaws
 pub mod OperationSafe
+pub mod Operates
+pub mod Powers
+pub mod TextLaws

@@ -4,13 +4,17 @@ use Rattle.std.specs.Option.{option_map}
 use Rattle.std.specs.FinMap as fin
 use Rattle.mr_base.specs.declared.byte.AllocId.{AllocId}
 use Rattle.mr_base.specs.declared.reason.Reason.{Reason}
-use Rattle.mr_mem.specs.Memory.{Memory}
+use Rattle.mr_base.specs.declared.thread.Event.TheVariants.{Quiet}
+use Rattle.mr_mem.specs.Memory.{Memory, ranges_of}
+use Rattle.mr_sched.specs.declared.schedule.Ask.{Ask}
+use Rattle.mr_mem.specs.declared.fault.Fault.{Fault as MemoryFault}
+use Rattle.mr_mem.specs.declared.fault.Fault.TheVariants as memory_fault
 use Rattle.mr_script.specs.Script.{Outcome, Refused, Went, run, ◌>>=◌}
-use Rattle.mr_sync.specs.Tables.{IsEnabled, Tables}
+use Rattle.mr_sync.specs.Tables.{IsEnabled, Tables, ended}
 use Rattle.mr_eval.specs.Tally.{start_tally}
 use Rattle.mr_eval.specs.World.{tally_of}
 use Rattle.mr_eval.specs.declared.scene.Scene.{Scene}
-use Rattle.mr_plan.specs.Legal.{Fault, needs_fault}
+use Rattle.mr_plan.specs.Legal.{Fault, needs_fault, picks_fault}
 use Rattle.mr_plan.specs.Machine.{Aborts, Exits, Goes, Plan, needs_of}
 use Rattle.mr_plan.specs.Notes.{Notes, event_of, start_notes}
 use Rattle.mr_plan.specs.Queries.{Shared, StepScript, answer}
@@ -20,9 +24,10 @@ use Rattle.mr_frame.specs.declared.look.Look.{Look as KeptLook}
 use Rattle.mr_frame.specs.declared.stack.Stack.{Stack as KeptStack}
 use Rattle.mr_frame.specs.Fits.{FitsStack}
 use Rattle.mr_frame.specs.Frames.{Look}
-use Rattle.mr_frame.specs.Kept.{IsReady, stack_of}
+use Rattle.mr_frame.specs.Kept.{IsReady, look_of, stack_of}
 use Rattle.mr_frame.specs.Standing.{IsUncounted}
 use Rattle.mr_thread.specs.Steps.{Own, Turn, thread_step, with_stack}
+use Rattle.mr_start.specs.Judging.{fault_of}
 use Rattle.mr_turn.specs.declared.deed.Deed.{Deed}
 use Rattle.mr_turn.specs.declared.deed.TurnFault.{TurnFault}
 use Rattle.mr_turn.specs.declared.deed.TurnFault.TheVariants as answer
@@ -89,16 +94,30 @@ pub record Turned (own : Own) (threads : ℕ) (o : Outcome Turn (Shared × Notes
   pub woken : notes.woken ≡ d.woken.items
   pub printed : notes.printed ≡ printed_lines (option_map (λ text. text.items) d.text)
 
+-- the deed of a frame's step: a thread that ended wakes those that wait for that
+abbrev pub Wakes : Flow → ℕ → Tables → Tables → List ℕ → Type 0
+Wakes flow.Ended thread x x' woken = (x' ≡ (ended thread x).0) × (woken ≡ (ended thread x).1)
+Wakes flow.Went thread x x' woken = (x' ≡ x) × (woken ≡ [])
+Wakes flow.Exit thread x x' woken = (x' ≡ x) × (woken ≡ [])
+Wakes flow.Abort thread x x' woken = (x' ≡ x) × (woken ≡ [])
+
+pub record IsFlow (f : Flow) (thread : ℕ) (x x' : Tables) (d : Deed) : Type 0 where
+  pub flow : d.flow ≡ f
+  pub event : d.event ≡ Quiet
+  pub started : d.started ≡ None
+  pub text : d.text ≡ None
+  pub wakes : Wakes f thread x x' d.woken.items
+
 -- what is left where an entry is refused
-pub record IsSame (stack : KeptStack) (s : Scene) (x : Tables) (stack' : KeptStack) (s' : Scene) (x' : Tables) : Type 0 where
-  pub stack : stack' ≡ stack
+pub record IsSame (k : KeptStack) (s : Scene) (x : Tables) (k' : KeptStack) (s' : Scene) (x' : Tables) : Type 0 where
+  pub stack : k' ≡ k
   pub memory : s'.memory ≡ s.memory
   pub tables : x' ≡ x
 
 -- The deed of a step whose picks break no rule, or the rule that they break, or the reason for which the step itself stops.
 abbrev pub TurnAnswer : Result Deed TurnFault → Option Fault → Outcome Turn (Shared × Notes) → (Deed → Type 0) → Type 0 → Type 0
 TurnAnswer (Ok d) fault o Went' same = (fault ≡ None) × Went' d
-TurnAnswer (Err (answer.Broken e)) fault o Went' same = (fault ≡ Some (record { code = e.code; earlier = e.earlier })) × same
+TurnAnswer (Err (answer.Broken e)) fault o Went' same = (fault ≡ Some (fault_of e)) × same
 TurnAnswer (Err (answer.Undefined r)) fault o Went' same = (fault ≡ None) × (o ≡ Refused r)
 TurnAnswer (Err answer.Memory) fault o Went' same = Unit {0}
 
@@ -111,3 +130,47 @@ pub record BeginsTurn (look : KeptLook) (stack : KeptStack) (s : Scene) (x : Tab
   pub enabled : IsEnabled s.thread x
   pub uncounted : IsUncounted s.memory s.thread s.count
   pub few : s.count < 2 ^ 62
+
+-- ---- parts
+
+-- a refusal of memory
+abbrev pub fault_from : MemoryFault → TurnFault
+fault_from (memory_fault.Undefined r) = answer.Undefined r
+fault_from memory_fault.Memory = answer.Memory
+
+-- whether the picks for these asks of the step's thread break a rule
+abbrev pub asks_break : Scene → Tables → List Ask → List ℕ → Option Fault
+asks_break s x asks picks = picks_fault x.statuses (ranges_of s.memory) s.thread s.count asks picks
+
+-- the judging of picks, which comes before anything is done
+abbrev pub JudgeAnswer : Result (Unit {0}) TurnFault → Option Fault → Type 0
+JudgeAnswer (Ok u) fault = fault ≡ None
+JudgeAnswer (Err (answer.Broken e)) fault = fault ≡ Some (fault_of e)
+JudgeAnswer (Err (answer.Undefined r)) fault = ⊥
+JudgeAnswer (Err answer.Memory) fault = ⊥
+
+-- why a step stops that needs no pick: it may have none
+abbrev pub StopAnswer : TurnFault → Reason → List ℕ → Type 0
+StopAnswer (answer.Broken e) r picks = (s : Scene) (x : Tables) → asks_break s x [] picks ≡ Some (fault_of e)
+StopAnswer (answer.Undefined q) r picks = (q ≡ r) × (picks ≡ [])
+StopAnswer answer.Memory r picks = ⊥
+
+-- the deed of a step whose picks were judged, or the reason for which it stops
+abbrev pub DeedAnswer : Result Deed TurnFault → Outcome Turn (Shared × Notes) → (Deed → Type 0) → Type 0
+DeedAnswer (Ok d) o Went' = Went' d
+DeedAnswer (Err (answer.Broken e)) o Went' = ⊥
+DeedAnswer (Err (answer.Undefined r)) o Went' = o ≡ Refused r
+DeedAnswer (Err answer.Memory) o Went' = Unit {0}
+
+-- ---- of a thread with this stack, scene and tables
+
+-- the rule that the picks break, and what its step comes to
+abbrev pub breaks : KeptLook → KeptStack → Scene → Tables → List ℕ → Option Fault
+breaks look stack s x picks = picks_break (begun s x) (planned (look_of look) (own_of s.thread stack) (begun s x)) picks
+
+abbrev pub comes_to : KeptLook → KeptStack → Scene → Tables → List ℕ → Outcome Turn (Shared × Notes)
+comes_to look stack s x picks = turned (look_of look) (own_of s.thread stack) picks (begun s x)
+
+-- a deed of it, with what stands behind it
+abbrev pub Does : KeptStack → Scene → Tables → Outcome Turn (Shared × Notes) → KeptStack → Scene → Tables → Deed → Type 0
+Does stack s x o stack' s' x' d = Turned (own_of s.thread stack) (length x.statuses) o d stack' s' x'

@@ -1,8 +1,9 @@
 //! What a turn did, or why there is none.
 use mr_base::{Event, Reason};
+use mr_eval::Fault;
 use mr_frame::{Flow, Stack};
 use mr_start::PickFailure;
-use std::alloc::{AllocError, AllocFailed, Global};
+use std::alloc::{AllocError, AllocFailed};
 
 /// What the turn of a thread did beside what it changed of memory.
 #[derive(Drop)]
@@ -52,24 +53,16 @@ impl<T: Drop> From<AllocFailed<T>> for TurnFault {
     }
 }
 
-impl Deed {
-    ghost use Rattle.std.specs.Prelude.{◌≡◌, [], None};
-    ghost use Rattle.mr_base.specs.declared.thread.Event.TheVariants.{Quiet};
+impl From<Fault> for TurnFault {
+    ghost use Rattle.std.specs.Prelude.{◌≡◌};
+    ghost use Rattle.mr_turn.specs.Turning.{fault_from};
 
-    // A deed that changed memory and the thread's stack alone.
-    pub(crate) fn quiet(alloc: Global, flow: Flow) -> Deed
-        ensures flow { result.flow ≡ flow }
-        ensures event { result.event ≡ Quiet }
-        ensures woken { result.woken.items ≡ [] }
-        ensures started { result.started ≡ None }
-        ensures text { result.text ≡ None }
-    {
-        Deed {
-            flow,
-            event: Event::Quiet,
-            woken: Vec::new(alloc),
-            started: None,
-            text: None,
+    ghost from_gives = { λ f e. e ≡ fault_from f };
+
+    fn from(fault: Fault) -> Self {
+        match fault {
+            Fault::Undefined(reason) => TurnFault::Undefined(reason),
+            Fault::Memory => TurnFault::Memory,
         }
     }
 }

@@ -1,0 +1,94 @@
+-- What the code of a frame's turn answers, by its parts.
+use Rattle.std.proofs.Common.{◌≡◌, ℕ, refl, sym, ap, ◌∙◌, subst, List, [], ◌∷◌, Option, Some, None, Result, Ok, Err}
+use Rattle.mr_base.specs.declared.reason.Reason.{Reason}
+use Rattle.mr_base.specs.declared.thread.Status.{Status}
+use Rattle.mr_mem.specs.Memory.{Memory, ranges_of}
+use Rattle.mr_mem.specs.declared.fault.Fault.{Fault as MemoryFault}
+use Rattle.mr_mem.specs.declared.fault.Fault.TheVariants as memory_fault
+use Rattle.mr_sched.specs.declared.schedule.Ask.{Ask}
+use Rattle.mr_script.specs.Script.{Outcome, Went, Refused, Broken, run}
+use Rattle.mr_sync.specs.Tables.{Tables}
+use Rattle.mr_eval.specs.MemoryQueries.{MemoryScript}
+use Rattle.mr_eval.specs.Reads.{Seen, reading}
+use Rattle.mr_eval.specs.Tally.{Tally, seen_of, start_tally}
+use Rattle.mr_eval.specs.Answers.{seen}
+use Rattle.mr_eval.specs.World.{TellsBy, tally_of}
+use Rattle.mr_eval.specs.declared.scene.Scene.{Scene}
+use Rattle.mr_plan.specs.Legal.{Fault, needs_fault, picks_fault}
+use Rattle.mr_plan.specs.Machine.{Needs, Plan}
+use Rattle.mr_plan.specs.Notes.{Notes}
+use Rattle.mr_plan.specs.Queries.{Shared}
+use Rattle.mr_frame.specs.Acting.{nothing_seen}
+use Rattle.mr_frame.specs.Effects.{asked, asks_of, planned as frame_planned}
+use Rattle.mr_frame.specs.Frames.{Look, Onward, Stack}
+use Rattle.mr_frame.specs.Kept.{look_of, stack_of}
+use Rattle.mr_frame.specs.Operations.{next_do}
+use Rattle.mr_frame.specs.Steps.{frame_plan}
+use Rattle.mr_frame.specs.declared.look.Look.{Look as KeptLook}
+use Rattle.mr_frame.specs.declared.stack.Stack.{Stack as KeptStack}
+use Rattle.mr_thread.specs.Steps.{Turn}
+use Rattle.mr_turn.specs.declared.deed.Deed.{Deed}
+use Rattle.mr_turn.specs.declared.deed.TurnFault.{TurnFault}
+use Rattle.mr_turn.specs.declared.deed.TurnFault.TheVariants as answer
+use Rattle.mr_turn.specs.Turning.{DeedAnswer, JudgeAnswer, TurnAnswer, asks_break, begun, breaks, fault_from, own_of}
+use Rattle.mr_turn.proofs.FrameTurns.{frame_needs}
+use Rattle.mr_turn.proofs.PlanAsks.{AreAddresses, IsPlain, WentSo, frame_plain, led, same_statuses}
+
+-- ---- answers
+
+-- the deed of a step whose picks break no rule
+pub deed_is_turn : (r : Result Deed TurnFault) (fault : Option Fault) (o : Outcome Turn (Shared × Notes)) (W : Deed → Type 0) (same : Type 0)
+    → fault ≡ None → DeedAnswer r o W → TurnAnswer r fault o W same
+deed_is_turn (Ok d) fault o W same e h = (e, h)
+deed_is_turn (Err (answer.Broken f)) fault o W same e h = absurd h
+deed_is_turn (Err (answer.Undefined r)) fault o W same e h = (e, h)
+deed_is_turn (Err answer.Memory) fault o W same e h = tt
+
+-- picks that break a rule
+pub judged_broken : (f : TurnFault) (fault : Option Fault) (o : Outcome Turn (Shared × Notes)) (W : Deed → Type 0) (same : Type 0)
+    → JudgeAnswer (Err f) fault → same → TurnAnswer (Err f) fault o W same
+judged_broken (answer.Broken e) fault o W same h k = (h, k)
+judged_broken (answer.Undefined r) fault o W same h k = absurd h
+judged_broken answer.Memory fault o W same h k = absurd h
+
+-- memory that refuses
+pub stopped_deed : (f : MemoryFault) (o : Outcome Turn (Shared × Notes)) (W : Deed → Type 0)
+    → ((r : Reason) → f ≡ memory_fault.Undefined r → o ≡ Refused r) → DeedAnswer (Err (fault_from f)) o W
+stopped_deed (memory_fault.Undefined r) o W h = h r refl
+stopped_deed memory_fault.Memory o W h = tt
+
+-- ---- what a frame's step asks
+
+asked_plain : (o : Outcome (Plan (MemoryScript Onward)) Seen) → WentSo IsPlain o → AreAddresses (asks_of o)
+asked_plain (Went plan s) h = h.asks
+asked_plain (Refused r) h = tt
+asked_plain Broken h = tt
+
+-- it asks for addresses alone
+pub asks_addresses : (m : Memory) (look : Look) (thread : ℕ) (s : Stack) (seen : Seen) → AreAddresses (asked m look thread s seen)
+unfolding asked frame_planned
+asks_addresses m look thread s seen = asked_plain (run (reading m) (frame_plan look thread s) seen) (led IsPlain (frame_plan look thread s) (frame_plain look thread s) m seen)
+
+module _ (look : KeptLook) (stack : KeptStack) (s : Scene) (x : Tables) (picks : List ℕ) (none : next_do (look_of look) (stack_of stack) ≡ None) where
+  abbrev asks : List Ask
+  asks = asked s.memory (look_of look) s.thread (stack_of stack) nothing_seen
+
+  -- the rule that the picks break is that of what is asked
+  pub frame_breaks : tally_of s ≡ start_tally s.thread s.count → breaks look stack s x picks ≡ asks_break s x asks picks
+  frame_breaks fresh =
+      ap (λ (n : Needs). needs_fault (begun s x).0 s.thread s.count n picks) (frame_needs (look_of look) (own_of s.thread stack) none (begun s x))
+      ∙ ap (λ (t : Tally). asks_break s x (asked s.memory (look_of look) s.thread (stack_of stack) (seen_of t)) picks) fresh
+
+  -- and statuses don't count for it
+  pub lawful_picks : asks_break s x asks picks ≡ None → picks_fault [] (ranges_of s.memory) s.thread s.count asks picks ≡ None
+  lawful_picks h = sym (same_statuses x.statuses [] (ranges_of s.memory) s.thread s.count asks picks (asks_addresses s.memory (look_of look) s.thread (stack_of stack) nothing_seen)) ∙ h
+
+  -- the same where the step has seen nothing yet
+  pub lawful_fresh : tally_of s ≡ start_tally s.thread s.count → asks_break s x asks picks ≡ None
+      → picks_fault [] (ranges_of s.memory) s.thread s.count (asked s.memory (look_of look) s.thread (stack_of stack) (seen s.notes)) picks ≡ None
+  lawful_fresh fresh h =
+      ap (λ (t : Tally). picks_fault [] (ranges_of s.memory) s.thread s.count (asked s.memory (look_of look) s.thread (stack_of stack) (seen_of t)) picks) fresh ∙ lawful_picks h
+
+-- a refusal of memory, by its reason
+pub refused_by : {X Y S : Type 0} (view : X → Y) (f : MemoryFault) (o : Outcome Y S) (v : S) → TellsBy view (Err f) o v → (r : Reason) → f ≡ memory_fault.Undefined r → o ≡ Refused r
+refused_by view f o v h r e = subst (λ g. TellsBy view (Err g) o v) e h

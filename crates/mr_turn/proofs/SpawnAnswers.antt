@@ -1,0 +1,176 @@
+-- What the code of a thread's start finds and answers, by its parts.
+use Rattle.std.proofs.Common.{◌≡◌, ℕ, ◌+◌, ◌<◌, ◌≤◌, ◌^◌, refl, sym, ap, ap₂, ◌∙◌, subst, arith, List, [], ◌∷◌, length, drop, Bool, true, false, Option, Some, None}
+use Rattle.std.specs.Prelude.{◌&&◌, nat_lt, slice_get, if◌then◌else◌}
+use Rattle.std.specs.Option.{option_map}
+use Rattle.mr_ast.specs.declared.program.Function.{Function}
+use Rattle.mr_ast.specs.declared.program.Intrinsic.{Intrinsic}
+use Rattle.mr_ast.specs.declared.program.Intrinsic.TheVariants as intrinsic
+use Rattle.mr_ast.specs.declared.types.IntType.TheVariants.{U32}
+use Rattle.mr_ast.specs.declared.types.Ty.{Ty}
+use Rattle.mr_ast.specs.declared.types.Ty.TheVariants as ty
+use Rattle.mr_base.proofs.Comparisons.{lt_from, lt_test}
+use Rattle.mr_base.specs.declared.byte.Pointer.{Pointer}
+use Rattle.mr_base.specs.declared.reason.Reason.{Reason}
+use Rattle.mr_base.specs.declared.thread.Event.TheVariants.{Spawn}
+use Rattle.mr_frame.specs.declared.flow.Flow.TheVariants as flow
+use Rattle.mr_layout.proofs.AlignLaws.{align_raw, align_tuple}
+use Rattle.mr_layout.proofs.PartsOk.{and_true}
+use Rattle.mr_layout.proofs.SizeLaws.{size_raw, size_tuple}
+use Rattle.mr_layout.specs.Sizes.{align_of, size_of}
+use Rattle.mr_mem.specs.Memory.{Memory, ranges_of}
+use Rattle.mr_sched.specs.declared.schedule.Ask.{Ask}
+use Rattle.mr_sched.specs.declared.schedule.Ask.TheVariants.{Address}
+use Rattle.mr_value.specs.declared.val.Val.{Val}
+use Rattle.mr_value.specs.declared.val.Val.TheVariants as val
+use Rattle.mr_value.specs.Shape.{has_shape}
+use Rattle.mr_value.proofs.ShapeLaws.{has_int, shape_fn_ptr}
+use Rattle.mr_wf.specs.Intrinsics.{fits_intrinsic, gives}
+use Rattle.mr_wf.specs.Operands.{is_fn_ptr, is_raw}
+use Rattle.mr_wf.proofs.KindLaws.{fn_ptr_is, raw_is}
+use Rattle.mr_script.specs.Script.{Outcome, Went, Refused, on, run}
+use Rattle.mr_sync.specs.Tables.{Tables, spawned}
+use Rattle.mr_eval.proofs.ShapeOf.{HaveShapes}
+use Rattle.mr_eval.specs.Tally.{Tally}
+use Rattle.mr_eval.specs.World.{tally_of, world_of}
+use Rattle.mr_eval.specs.declared.scene.Scene.{Scene}
+use Rattle.mr_plan.specs.Legal.{Fault, creation_fault, else_fault, fault, picks_fault}
+use Rattle.mr_plan.specs.Machine.{CreatesThread, Goes}
+use Rattle.mr_plan.specs.Notes.{Notes}
+use Rattle.mr_plan.specs.Queries.{Shared, answer}
+use Rattle.mr_plan.proofs.ReadingRuns.{moved_to}
+use Rattle.mr_frame.proofs.CallSafe.{equal_types}
+use Rattle.mr_frame.proofs.DoSafe.{OperandsFit, ValueFits}
+use Rattle.mr_frame.specs.Beginning.{CanAllocate, CanBegin, IsBottom}
+use Rattle.mr_frame.specs.Calls.{behind_first, callee_of, kept_types, same_types, storage_asks}
+use Rattle.mr_frame.specs.Doing.{operands_of}
+use Rattle.mr_frame.specs.Effects.{entered, finished as ended}
+use Rattle.mr_frame.specs.Frames.{Frame}
+use Rattle.mr_frame.specs.Kept.{look_of, stack_of}
+use Rattle.mr_frame.specs.Operations.{DueDo, Operands}
+use Rattle.mr_frame.specs.declared.dos.DoCall.{DoCall}
+use Rattle.mr_frame.specs.declared.look.Look.{Look as KeptLook}
+use Rattle.mr_frame.specs.declared.stack.Stack.{Stack as KeptStack}
+use Rattle.mr_intr.proofs.OperationSafe.{result_is}
+use Rattle.mr_thread.specs.Steps.{Own, Turn, finishing, new_thread, thread_types, unit, with_stack}
+use Rattle.mr_turn.specs.declared.deed.Deed.{Deed}
+use Rattle.mr_turn.specs.Doing.{IsGiven, IsStart, SpawnGiven, StartsThread, do_breaks, do_comes_to, do_planned}
+use Rattle.mr_turn.specs.Turning.{Turned, asks_break, begun, is_end, own_of, picks_break, printed_lines, shared_in, turn_by}
+use Rattle.mr_turn.proofs.DoTurns.{finishing_run}
+use Rattle.mr_turn.proofs.SpawnTurns.{start_planned, start_turned, with_thread}
+
+-- there are fewer than 1,024 threads
+pub few_from : (w : Shared) → creation_fault w CreatesThread ≡ None → length w.statuses < 1024
+few_from w h = by_test (nat_lt (length w.statuses) 1024) refl h
+  where
+    by_test : (b : Bool) → nat_lt (length w.statuses) 1024 ≡ b → (if b then None else fault 67) ≡ None → length w.statuses < 1024
+    by_test true e k = lt_from (length w.statuses) 1024 e
+    by_test false e k = absurd (cc)
+
+-- ---- what a start is given
+
+-- a pointer to a function, a raw pointer, and a place for the number
+pub spawn_given : (o : Operands) → OperandsFit intrinsic.Spawn o → SpawnGiven o
+spawn_given o fit = by_types o.arg_types o.args o.result_type fit.shapes fit.fits refl refl
+  where
+    by_types : (types : List Ty) (args : List Val) (result : Option Ty) → HaveShapes types args → fits_intrinsic intrinsic.Spawn types result ≡ true → args ≡ o.args → result ≡ o.result_type → SpawnGiven o
+    by_types [] args result shapes fits is to = absurd (cc)
+    by_types (a ∷ []) args result shapes fits is to = absurd (cc)
+    by_types (a ∷ b ∷ []) [] result shapes fits is to = absurd shapes
+    by_types (a ∷ b ∷ []) (x ∷ []) result shapes fits is to = absurd (shapes.1)
+    by_types (a ∷ b ∷ []) (x ∷ y ∷ []) result shapes fits is to =
+        let parts = and_true (is_fn_ptr a) (is_raw b && gives (ty.Int U32) result) fits in
+        let rest = and_true (is_raw b) (gives (ty.Int U32) result) parts.1 in
+        let made = shape_fn_ptr x (subst (λ (u : Ty). has_shape u x ≡ true) (fn_ptr_is a parts.0) shapes.0) in
+        record {
+          callee = made.pointer;
+          argument = y;
+          args = sym is ∙ ap (λ v. v ∷ y ∷ []) made.is;
+          raw = subst (λ (u : Ty). has_shape u y ≡ true) (raw_is b rest.0) shapes.1.0;
+          result = sym to ∙ result_is (ty.Int U32) result rest.1;
+        }
+    by_types (a ∷ b ∷ []) (x ∷ y ∷ z ∷ args) result shapes fits is to = absurd (shapes.1.1)
+    by_types (a ∷ b ∷ c ∷ types) args result shapes fits is to = absurd (cc)
+
+-- the storage of a thread's first frame
+pub thread_asks : storage_asks thread_types ≡ Address 0 1 ∷ Address 8 8 ∷ []
+thread_asks =
+    ap₂ (λ size align. Address size align ∷ Address (size_of ty.Raw) (align_of ty.Raw) ∷ []) (size_tuple 0 1 []) (align_tuple 0 1 [])
+    ∙ ap₂ (λ size align. Address 0 1 ∷ Address size align ∷ []) size_raw align_raw
+
+module _ (look : KeptLook) (stack : KeptStack) (s : Scene) (x : Tables) (call : DoCall) (d : DueDo) (number : ℕ) (picks : List ℕ) where
+  abbrev o : Operands
+  o = operands_of call
+
+  abbrev own : Own
+  own = own_of s.thread stack
+
+  module _ (is : d.op ≡ intrinsic.Spawn) (g : SpawnGiven o) (at : IsStart look g number) where
+    -- what the plan of it needs
+    pub start_breaks : do_breaks look stack s x call d picks ≡ else_fault (creation_fault (shared_in s x) CreatesThread) (asks_break s x (Address 0 1 ∷ Address 8 8 ∷ []) picks)
+    start_breaks =
+        ap (λ p. picks_break (begun s x) p picks)
+        (start_planned (look_of look) own d o is g.callee g.argument g.args (begun s x) number at.called at.function at.there at.types at.typed at.same)
+        ∙ ap (λ ts. else_fault (creation_fault (shared_in s x) CreatesThread) (asks_break s x (storage_asks ts) picks)) (sym (equal_types thread_types at.types at.same))
+        ∙ ap (λ asks. else_fault (creation_fault (shared_in s x) CreatesThread) (asks_break s x asks picks)) thread_asks
+
+  -- ---- the start
+
+  module _ (h : StartsThread look stack s x call d number picks) where
+    -- the first frame can begin
+    pub thread_begins : CanBegin look number (h.given_to.argument ∷ []) picks (world_of s)
+    thread_begins =
+        let same : h.at.types ≡ thread_types = sym (equal_types thread_types h.at.types h.at.same) in
+        record {
+          ready = h.given.ready;
+          function = h.at.function;
+          there = h.at.there;
+          types = h.at.types;
+          typed = h.at.typed;
+          shapes = subst (λ ts. HaveShapes (behind_first ts) (h.given_to.argument ∷ [])) (sym same) (h.given_to.raw, tt);
+          allocates = record {
+            lawful = subst (λ ts. picks_fault [] (ranges_of s.memory) s.thread s.count (storage_asks ts) picks ≡ None) (sym same) h.lawful;
+            uncounted = h.given.uncounted;
+            room = (let two : length h.at.types ≡ 2 = ap (λ ts. length ts) same in let few = h.given.few in omega arith);
+          };
+        }
+
+    abbrev behind : Scene → KeptStack → Shared × Notes
+    behind s' new = with_thread (look_of look) own d o h.is h.given_to.callee h.given_to.argument h.given_to.args (begun s x) number h.at.called h.at.function h.at.there h.at.types h.at.typed (moved_to (begun s x) (world_of s'))
+
+    -- the number of the new thread fits its place
+    pub number_fits : ValueFits o.result_type (Some (val.Int (length x.statuses)))
+    number_fits =
+        subst (λ r. ValueFits r (Some (val.Int (length x.statuses)))) (sym h.given_to.result)
+        (val.Int (length x.statuses), refl, has_int U32 (length x.statuses) ∙ lt_test (length x.statuses) (2 ^ 32) (let few = h.few in omega arith))
+
+    module _ (s' : Scene) (new : KeptStack) (bottom : IsBottom (entered number (slice_get look.program.now.functions number) (h.given_to.argument ∷ []) picks (world_of s)) (stack_of new) (world_of s')) where
+      starts : do_comes_to look stack s x call d picks
+          ≡ on (ended (stack_of stack) d o (Some (val.Int (length x.statuses))) (world_of s')) (λ k z. Went (Goes (with_stack own k) (Some (own_of (length x.statuses) new))) (moved_to (behind s' new) z))
+      starts =
+          start_turned (look_of look) own d o h.is h.given_to.callee h.given_to.argument h.given_to.args (begun s x) number h.at.called h.at.function h.at.there h.at.types h.at.typed picks h.at.same
+          ∙ ap (λ e. on e (λ frame v. run answer (finishing own d o (Some (val.Int (length x.statuses))) (Some (new_thread (length x.statuses) frame))) (with_thread (look_of look) own d o h.is h.given_to.callee h.given_to.argument h.given_to.args (begun s x) number h.at.called h.at.function h.at.there h.at.types h.at.typed (moved_to (begun s x) v))))
+          (ap (λ f. entered number f (h.given_to.argument ∷ []) picks (world_of s)) (sym h.at.there) ∙ bottom.went)
+          ∙ finishing_run own d o (Some (val.Int (length x.statuses))) (Some (new_thread (length x.statuses) bottom.frame)) (behind s' new)
+          ∙ ap (λ k. on (ended (stack_of stack) d o (Some (val.Int (length x.statuses))) (world_of s')) (λ j z. Went (Goes (with_stack own j) (Some (record { thread = length x.statuses; stack = k }))) (moved_to (behind s' new) z))) (sym bottom.is)
+
+      pub start_refused : (r : Reason) → ended (stack_of stack) d o (Some (val.Int (length x.statuses))) (world_of s') ≡ Refused r → do_comes_to look stack s x call d picks ≡ Refused r
+      start_refused r e = starts ∙ ap (λ p. on p (λ k z. Went (Goes (with_stack own k) (Some (own_of (length x.statuses) new))) (moved_to (behind s' new) z))) e
+
+      -- THE THREAD is started
+      pub start_done : (stack' : KeptStack) (s'' : Scene) (x'' : Tables) (deed : Deed) → ended (stack_of stack) d o (Some (val.Int (length x.statuses))) (world_of s') ≡ Went (stack_of stack') (world_of s'')
+          → x'' ≡ (spawned x).1 → deed.flow ≡ flow.Went → deed.event ≡ Spawn (length x.statuses) → deed.woken.items ≡ length x.statuses ∷ [] → deed.started ≡ Some new → deed.text ≡ None
+          → Turned own (length x.statuses) (do_comes_to look stack s x call d picks) deed stack' s'' x''
+      start_done stack' s'' x'' deed e tables goes event woken started text =
+          let notes : Notes = record (behind s' new).1 { tally = tally_of s'' } in
+          record {
+            notes = notes;
+            goes =
+                starts ∙ ap (λ p. on p (λ k z. Went (Goes (with_stack own k) (Some (own_of (length x.statuses) new))) (moved_to (behind s' new) z))) e
+                ∙ ap₂ (λ f st. Went (turn_by f own stack' (option_map (own_of (length x.statuses)) st)) (shared_in s'' (spawned x).1, notes)) (sym goes) (sym started)
+                ∙ ap (λ (t : Tables). Went (turn_by deed.flow own stack' (option_map (own_of (length x.statuses)) deed.started)) (shared_in s'' t, notes)) (sym tables);
+            tally = refl;
+            event = sym event;
+            ended = sym (ap is_end goes);
+            woken = sym woken;
+            printed = sym (ap (λ t. printed_lines (option_map (λ y. y.items) t)) text);
+          }

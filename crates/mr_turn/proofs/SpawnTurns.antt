@@ -1,0 +1,85 @@
+-- The turn of a thread that starts another one, by the function that it calls and the frame with which that begins.
+use Rattle.std.proofs.Common.{◌≡◌, ℕ, refl, sym, ap, ◌∙◌, List, [], ◌∷◌, length, Option, Some, None, Bool, true, false}
+use Rattle.std.specs.Prelude.{slice_get, if◌then◌else◌}
+use Rattle.mr_ast.specs.declared.program.Function.{Function}
+use Rattle.mr_ast.specs.declared.program.Intrinsic.{Intrinsic}
+use Rattle.mr_ast.specs.declared.program.Intrinsic.TheVariants as intrinsic
+use Rattle.mr_ast.specs.declared.types.Ty.{Ty}
+use Rattle.mr_base.specs.declared.byte.Pointer.{Pointer}
+use Rattle.mr_base.specs.declared.reason.Reason.TheVariants.{NotAFunction, SignatureMismatch}
+use Rattle.mr_base.specs.declared.thread.Event.TheVariants.{Spawn}
+use Rattle.mr_value.specs.declared.val.Val.{Val, out-Val}
+use Rattle.mr_value.specs.declared.val.Val.TheVariants as val
+use Rattle.mr_script.specs.Script.{Done, Undefined, Ask, ◌>>=◌, Outcome, Went, Refused, on, run}
+use Rattle.mr_sync.specs.Tables.{spawned}
+use Rattle.mr_plan.specs.Machine.{CreatesThread, Plan, needs_of}
+use Rattle.mr_plan.specs.Notes.{Notes}
+use Rattle.mr_plan.specs.Queries.{Shared, Start, StepScript, answer, memory_part, note, tables_of, with_tables, woke}
+use Rattle.mr_plan.proofs.ReadingRuns.{memory_then, moved_to}
+use Rattle.mr_frame.specs.Calls.{callee_of, enter, kept_types, same_types, storage_asks}
+use Rattle.mr_frame.specs.Effects.{entered}
+use Rattle.mr_frame.specs.Frames.{Look}
+use Rattle.mr_frame.specs.Operations.{DueDo, Operands}
+use Rattle.mr_intr.specs.Operations.{found, pointer_in}
+use Rattle.mr_thread.specs.Steps.{Own, Turn, TurnPlan, finishing, new_thread, operated, spawn, spawn_function, spawn_number, spawn_types, start, thread_types}
+use Rattle.mr_turn.specs.Doing.{do_planned, do_turned}
+
+module _ (look : Look) (own : Own) (d : DueDo) (o : Operands) (is : d.op ≡ intrinsic.Spawn) (c : Pointer) (argument : Val) (args : o.args ≡ val.Ptr c ∷ argument ∷ []) (w : Shared × Notes) where
+  script_is : operated look own d o d.op ≡ spawn_number look own d o argument (callee_of look.functions c)
+  script_is =
+      ap (λ (op : Intrinsic). operated look own d o op) is
+      ∙ ap (λ vs. spawn look own d o vs) args
+      ∙ ap (λ p. found p >>= λ q. spawn_number look own d o argument (callee_of look.functions q)) (ap pointer_in (val.outs-Ptr c))
+
+  -- a pointer to no function
+  pub none_planned : callee_of look.functions c ≡ None → do_planned look own d o w ≡ Refused NotAFunction
+  unfolding do_planned
+  none_planned e = ap (λ script. run answer script w) (script_is ∙ ap (spawn_number look own d o argument) e)
+
+  pub none_turned : (picks : List ℕ) → callee_of look.functions c ≡ None → do_turned look own d o picks w ≡ Refused NotAFunction
+  unfolding do_turned
+  none_turned picks e = ap (λ script. run answer (script >>= λ plan. plan.go picks) w) (script_is ∙ ap (spawn_number look own d o argument) e)
+
+  module _ (number : ℕ) (called : callee_of look.functions c ≡ Some number) (fn : Function) (there : slice_get look.program.functions number ≡ Some fn) (types : List Ty) (typed : kept_types fn ≡ Some types) where
+    typed_is : operated look own d o d.op ≡ spawn_types own d o number fn argument (Some types)
+    typed_is =
+        script_is
+        ∙ ap (spawn_number look own d o argument) called
+        ∙ ap (spawn_function own d o number argument) there
+        ∙ ap (spawn_types own d o number fn argument) typed
+
+    abbrev starts : Plan (StepScript Turn)
+    starts = record { creates = CreatesThread; asks = storage_asks types; go = start own d o number fn argument }
+
+    tested : (b : Bool) → same_types thread_types types ≡ b → operated look own d o d.op ≡ (if b then Done starts else Undefined SignatureMismatch)
+    tested b e = typed_is ∙ ap (λ (x : Bool). if x then Done starts else Undefined SignatureMismatch) e
+
+    -- a function of other types
+    pub other_planned : same_types thread_types types ≡ false → do_planned look own d o w ≡ Refused SignatureMismatch
+    unfolding do_planned
+    other_planned e = ap (λ script. run answer script w) (tested false e)
+
+    pub other_turned : (picks : List ℕ) → same_types thread_types types ≡ false → do_turned look own d o picks w ≡ Refused SignatureMismatch
+    unfolding do_turned
+    other_turned picks e = ap (λ script. run answer (script >>= λ plan. plan.go picks) w) (tested false e)
+
+    -- a function of a thread
+    pub start_planned : same_types thread_types types ≡ true → do_planned look own d o w ≡ Went starts w
+    unfolding do_planned
+    start_planned e = ap (λ script. run answer script w) (tested true e)
+
+    abbrev number_now : ℕ
+    number_now = length w.0.statuses
+
+    -- what is shared behind the start of the thread
+    abbrev pub with_thread : Shared × Notes → Shared × Notes
+    with_thread u = (with_tables u.0 (spawned (tables_of u.0)).1, woke (Some (length u.0.statuses)) (note (Spawn (length u.0.statuses)) u.1))
+
+    pub start_turned : (picks : List ℕ) → same_types thread_types types ≡ true
+        → do_turned look own d o picks w
+        ≡ on (entered number (Some fn) (argument ∷ []) picks (w.0.memory, w.1.tally))
+        (λ frame v. run answer (finishing own d o (Some (val.Int number_now)) (Some (new_thread number_now frame))) (with_thread (moved_to w v)))
+    unfolding do_turned entered
+    start_turned picks e =
+        ap (λ script. run answer (script >>= λ plan. plan.go picks) w) (tested true e)
+        ∙ memory_then (enter number (Some fn) (argument ∷ []) picks) (λ frame. Ask Start Done >>= λ thread. finishing own d o (Some (val.Int thread)) (Some (new_thread thread frame))) w

@@ -1,0 +1,57 @@
+-- The types of a function with which a thread may begin.
+use Rattle.std.proofs.Common.{◌≡◌, ℕ, suc, refl, sym, ap, ◌∙◌, arith, List, [], ◌∷◌, length, map, Bool, true, false, Option, Some, None}
+use Rattle.std.proofs.lemmas.List.{length-map}
+use Rattle.std.proofs.lemmas.Option.{same_Some}
+use Rattle.std.specs.Prelude.{◌&&◌}
+use Rattle.std.specs.Option.{option_map}
+use Rattle.mr_ast.specs.declared.program.Function.{Function}
+use Rattle.mr_ast.specs.declared.program.LocalName.{LocalName}
+use Rattle.mr_ast.specs.declared.types.Ty.{Ty}
+use Rattle.mr_ast.specs.declared.types.Ty.TheVariants as ty
+use Rattle.mr_wf.specs.SameTypes.{same_type}
+use Rattle.mr_frame.specs.Calls.{all_there, both_there, kept_types, local_type, same_types}
+use Rattle.mr_thread.specs.Steps.{thread_types, unit}
+
+-- ---- as many types as there are
+
+behind_one : {A : Type 0} (x : A) (os : Option (List A)) (xs : List A) (n : ℕ) → ((ys : List A) → os ≡ Some ys → length ys ≡ n) → option_map (λ e. e.0 ∷ e.1) (both_there (Some x) os) ≡ Some xs → length xs ≡ suc n
+behind_one x None xs n h e = absurd (cc)
+behind_one x (Some ys) xs n h e = ap (λ l. length l) (sym (same_Some (x ∷ ys) xs e)) ∙ ap suc (h ys refl)
+
+all_length : {A : Type 0} (os : List (Option A)) (xs : List A) → all_there os ≡ Some xs → length xs ≡ length os
+all_length [] xs e = ap (λ l. length l) (sym (same_Some [] xs e))
+all_length (None ∷ os) xs e = absurd (cc)
+all_length (Some x ∷ os) xs e = behind_one x (all_there os) xs (length os) (all_length os) e
+
+last_false : (b : Bool) → (b && false) ≡ false
+last_false true = refl
+last_false false = refl
+
+last_true : (b : Bool) → (b && true) ≡ b
+last_true true = refl
+last_true false = refl
+
+-- ---- the test
+
+-- more or fewer arguments
+pub other_types : (fn : Function) (types : List Ty) → (length fn.args ≡ 1 → ⊥) → kept_types fn ≡ Some types → same_types thread_types types ≡ false
+other_types fn types other e = by_types types (all_length (map (local_type fn) (fn.ret ∷ fn.args)) types e ∙ ap suc (length-map fn.args (local_type fn)))
+  where
+    by_types : (types : List Ty) → length types ≡ suc (length fn.args) → same_types thread_types types ≡ false
+    by_types [] h = refl
+    by_types (t ∷ []) h = last_false (same_type unit t)
+    by_types (t ∷ u ∷ []) h = absurd (other (omega arith))
+    by_types (t ∷ u ∷ v ∷ rest) h = ap (λ b. same_type unit t && b) (last_false (same_type ty.Raw u)) ∙ last_false (same_type unit t)
+
+-- one argument
+pub two_types : (fn : Function) (x : LocalName) (types : List Ty) (t u : Ty) → fn.args ≡ x ∷ [] → local_type fn fn.ret ≡ Some t → local_type fn x ≡ Some u → kept_types fn ≡ Some types
+    → same_types thread_types types ≡ (same_type unit t && same_type ty.Raw u)
+two_types fn x types t u args ret arg e =
+    ap (same_types thread_types) (same_Some types (t ∷ u ∷ []) (sym e ∙ are))
+    ∙ ap (λ b. same_type unit t && b) (last_true (same_type ty.Raw u))
+  where
+    are : kept_types fn ≡ Some (t ∷ u ∷ [])
+    are =
+        ap (λ xs. all_there (local_type fn fn.ret ∷ map (local_type fn) xs)) args
+        ∙ ap (λ o. all_there (o ∷ local_type fn x ∷ [])) ret
+        ∙ ap (λ o. all_there (Some t ∷ o ∷ [])) arg

@@ -1,0 +1,81 @@
+//! The turn of a thread whose next step is a statement or a terminator that is no intrinsic.
+ghost use Rattle.std.specs.Prelude.{◌≡◌, IfOk, None};
+ghost use Rattle.mr_sync.specs.Tables.{IsEnabled};
+ghost use Rattle.mr_frame.specs.Acting.{AreLawful};
+ghost use Rattle.mr_frame.specs.Kept.{look_of, stack_of};
+ghost use Rattle.mr_frame.specs.Operations.{next_do};
+ghost use Rattle.mr_turn.specs.Turning.{BeginsTurn, DeedAnswer, Does, IsFlow, IsSame, TurnAnswer, breaks, comes_to};
+
+use crate::deed::{Deed, TurnFault};
+use crate::judging::judged;
+use mr_base::Event;
+use mr_eval::Scene;
+use mr_frame::{Flow, Look, Stack};
+use mr_sync::SyncTable;
+use std::alloc::{AllocError, Global};
+
+// A thread goes on, or has ended; its end wakes those that wait for it.
+fn deed_of(
+    alloc: Global,
+    flow: Flow,
+    thread: u32,
+    sync: &mut SyncTable,
+) -> Result<Deed, AllocError>
+    requires { IsEnabled thread sync.old }
+    ensures { IfOk result (λ d. IsFlow flow thread sync.old sync.new d) }
+{
+    let mut woken = Vec::new(alloc);
+    match flow {
+        Flow::Ended => sync.end(thread, &mut woken)?,
+        Flow::Went | Flow::Exit | Flow::Abort => {}
+    }
+    Ok(Deed {
+        flow,
+        event: Event::Quiet,
+        woken,
+        started: None,
+        text: None,
+    })
+}
+
+// The step, whose picks are judged.
+fn take(
+    alloc: Global,
+    look: &Look<'_>,
+    stack: &mut Stack,
+    s: &mut Scene,
+    sync: &mut SyncTable,
+    picks: &[u64],
+) -> Result<Deed, TurnFault>
+    requires begins { BeginsTurn look.now stack.old s.old sync.old }
+    requires other { next_do (look_of look.now) (stack_of stack.old) ≡ None }
+    requires lawful { AreLawful (look_of look.now) (stack_of stack.old) picks.now s.old }
+    ensures { DeedAnswer result (comes_to look.now stack.old s.old sync.old picks.now) (Does stack.old s.old sync.old (comes_to look.now stack.old s.old sync.old picks.now) stack.new s.new sync.new) }
+{
+    let thread = s.thread;
+    match stack.act(alloc, look, s, picks) {
+        Err(fault) => Err(TurnFault::from(fault)),
+        Ok(flow) => Ok(deed_of(alloc, flow, thread, sync)?),
+    }
+}
+
+/// The turn of a thread whose next step is no intrinsic.
+pub fn frame_turn(
+    alloc: Global,
+    look: &Look<'_>,
+    stack: &mut Stack,
+    s: &mut Scene,
+    sync: &mut SyncTable,
+    picks: &[u64],
+) -> Result<Deed, TurnFault>
+    requires begins { BeginsTurn look.now stack.old s.old sync.old }
+    requires other { next_do (look_of look.now) (stack_of stack.old) ≡ None }
+    ensures { TurnAnswer result (breaks look.now stack.old s.old sync.old picks.now) (comes_to look.now stack.old s.old sync.old picks.now) (Does stack.old s.old sync.old (comes_to look.now stack.old s.old sync.old picks.now) stack.new s.new sync.new) (IsSame stack.old s.old sync.old stack.new s.new sync.new) }
+{
+    let mut asks = Vec::new(alloc);
+    stack.asks(alloc, look, &s.memory, &mut asks)?;
+    match judged(s, sync, asks.as_slice(), picks) {
+        Err(fault) => Err(fault),
+        Ok(()) => take(alloc, look, stack, s, sync, picks),
+    }
+}

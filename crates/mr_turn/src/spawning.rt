@@ -1,0 +1,121 @@
+//! The start of a thread.
+ghost use Rattle.std.specs.Prelude.{◌≡◌, ◌<◌, List, Some, length};
+ghost use Rattle.mr_ast.specs.declared.types.Ty.{Ty as TypeOf};
+ghost use Rattle.mr_base.specs.declared.byte.Pointer.{Pointer as PointerOf};
+ghost use Rattle.mr_value.specs.declared.val.Val.TheVariants as val;
+ghost use Rattle.mr_frame.specs.Calling.{HasLocals};
+ghost use Rattle.mr_frame.specs.Calls.{kept_types, local_type, same_types};
+ghost use Rattle.mr_frame.specs.Kept.{look_of, stack_of};
+ghost use Rattle.mr_frame.specs.Operations.{DueDo, next_do};
+ghost use Rattle.mr_thread.specs.Steps.{thread_types};
+ghost use Rattle.mr_turn.specs.Doing.{IsGiven, StartsThread, do_breaks, do_comes_to};
+ghost use Rattle.mr_turn.specs.Turning.{DeedAnswer, Does, IsSame, TurnAnswer};
+
+use crate::deed::{Deed, TurnFault};
+use crate::judging::{met, stopped};
+use mr_ast::{FnName, Function, LocalName, Ty};
+use mr_base::{Event, Pointer, Reason};
+use mr_eval::Scene;
+use mr_frame::{DoCall, Flow, Look, Stack, callee};
+use mr_intr::Creation;
+use mr_sched::Ask;
+use mr_sync::SyncTable;
+use mr_value::Val;
+use mr_wf::Known;
+use sqlite_items::Items;
+use std::alloc::Global;
+
+// The type of a local.
+fn type_of(f: &Function, x: LocalName) -> &Ty
+    requires { x.0 < length f.now.locals }
+    ensures { local_type f.now x ≡ Some result.now }
+{
+    &f.locals.as_slice()[x.0 as usize].ty
+}
+
+// Whether a thread may begin with a function: it gives the empty tuple, and takes a raw pointer.
+fn begins_thread(alloc: Global, f: &Function) -> bool
+    requires { HasLocals f.now }
+    ensures { (types : List TypeOf) → kept_types f.now ≡ Some types → result ≡ same_types thread_types types }
+{
+    let args = f.args.as_slice();
+    if args.len() != 1 {
+        return false;
+    }
+    let unit = Ty::Tuple {
+        size: 0,
+        align: 1,
+        fields: Items::new(alloc),
+    };
+    let gives = Known::Written(&unit).same(Known::Written(type_of(f, f.ret)));
+    gives && Known::Written(&Ty::Raw).same(Known::Written(type_of(f, args[0])))
+}
+
+// The pointer that a value is.
+fn pointer_in(v: &Val) -> Pointer
+    requires { (p : PointerOf) × (v.now ≡ val.Ptr p) }
+    ensures { v.now ≡ val.Ptr result }
+{
+    match v {
+        Val::Ptr(p) => *p,
+        _ => unreachable!(),
+    }
+}
+
+/// `spawn`: 117, 118; then 67, where there are as many threads as may be; then the picks for the new thread's first frame.
+pub fn spawn(
+    alloc: Global,
+    look: &Look<'_>,
+    stack: &mut Stack,
+    s: &mut Scene,
+    sync: &mut SyncTable,
+    call: &DoCall,
+    picks: &[u64],
+) -> Result<Deed, TurnFault>
+    requires { (d : DueDo) × IsGiven look.now stack.old s.old sync.old call.now d × (d.op ≡ Intrinsic.Spawn) }
+    ensures { (d : DueDo) → next_do (look_of look.now) (stack_of stack.old) ≡ Some d → TurnAnswer result (do_breaks look.now stack.old s.old sync.old call.now d picks.now) (do_comes_to look.now stack.old s.old sync.old call.now d picks.now) (Does stack.old s.old sync.old (do_comes_to look.now stack.old s.old sync.old call.now d picks.now) stack.new s.new sync.new) (IsSame stack.old s.old sync.old stack.new s.new sync.new) }
+{
+    let Some(f) = callee(look.functions, pointer_in(&call.args.as_slice()[0])) else {
+        return Err(stopped(Reason::NotAFunction, picks));
+    };
+    if !begins_thread(alloc, &look.program.program().functions.as_slice()[f.0 as usize]) {
+        return Err(stopped(Reason::SignatureMismatch, picks));
+    }
+    let asks = [
+        Ask::Address { size: 0, align: 1 },
+        Ask::Address { size: 8, align: 8 },
+    ];
+    match met(s, sync, Creation::Thread, &asks, picks) {
+        Err(fault) => Err(fault),
+        Ok(()) => start(alloc, look, stack, s, sync, call, f, picks),
+    }
+}
+
+// The new thread, whose picks are judged: its first frame, its number, and the store of this as the result.
+fn start(
+    alloc: Global,
+    look: &Look<'_>,
+    stack: &mut Stack,
+    s: &mut Scene,
+    sync: &mut SyncTable,
+    call: &DoCall,
+    f: FnName,
+    picks: &[u64],
+) -> Result<Deed, TurnFault>
+    requires { (d : DueDo) × StartsThread look.now stack.old s.old sync.old call.now d f.0 picks.now }
+    ensures { (d : DueDo) → next_do (look_of look.now) (stack_of stack.old) ≡ Some d → DeedAnswer result (do_comes_to look.now stack.old s.old sync.old call.now d picks.now) (Does stack.old s.old sync.old (do_comes_to look.now stack.old s.old sync.old call.now d picks.now) stack.new s.new sync.new) }
+{
+    let new = Stack::enter(alloc, look, s, f, &call.args.as_slice()[1..], picks)?;
+    let number = sync.spawn()?;
+    let value = Val::Int(u128::from(number));
+    stack.finish(alloc, look, s, call, Some(&value))?;
+    let mut woken = Vec::new(alloc);
+    woken.push(number)?;
+    Ok(Deed {
+        flow: Flow::Went,
+        event: Event::Spawn(number),
+        woken,
+        started: Some(new),
+        text: None,
+    })
+}
