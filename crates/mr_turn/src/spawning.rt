@@ -12,7 +12,7 @@ ghost use Rattle.mr_frame.specs.Effects.{finished};
 ghost use Rattle.mr_frame.specs.Kept.{look_of, stack_of};
 ghost use Rattle.mr_frame.specs.Operations.{DueDo, next_do};
 ghost use Rattle.mr_thread.specs.Steps.{thread_types};
-ghost use Rattle.mr_turn.specs.Doing.{CanEnd, EndAnswer, IsGiven, IsNewThread, StartsThread, do_breaks, do_comes_to};
+ghost use Rattle.mr_turn.specs.Doing.{CanEnd, EndAnswer, IsGiven, IsNewThread, SpawnsFunction, StartsThread, do_breaks, do_comes_to};
 ghost use Rattle.mr_turn.specs.Turning.{DeedAnswer, Does, IsSame, TurnAnswer};
 
 use crate::deed::{Deed, TurnFault};
@@ -79,9 +79,27 @@ pub fn spawn(
     requires { (d : DueDo) × IsGiven look.now stack.old s.old sync.old call.now d × (d.op ≡ intrinsic.Spawn) }
     ensures { (d : DueDo) → next_do (look_of look.now) (stack_of stack.old) ≡ Some d → TurnAnswer result (do_breaks look.now stack.old s.old sync.old call.now d picks.now) (do_comes_to look.now stack.old s.old sync.old call.now d picks.now) (Does stack.old s.old sync.old (do_comes_to look.now stack.old s.old sync.old call.now d picks.now) stack.new s.new sync.new) (IsSame stack.old s.old sync.old stack.new s.new sync.new) }
 {
-    let Some(f) = callee(look.functions, pointer_in(&call.args.as_slice()[0])) else {
-        return Err(stopped(Reason::NotAFunction, picks));
-    };
+    let pointer = pointer_in(&call.args.as_slice()[0]);
+    match callee(look.functions, pointer) {
+        None => Err(stopped(Reason::NotAFunction, picks)),
+        Some(f) => spawn_function(alloc, look, stack, s, sync, call, f, picks),
+    }
+}
+
+// The start of a thread with this function: 118 and what comes behind it.
+fn spawn_function(
+    alloc: Global,
+    look: &Look<'_>,
+    stack: &mut Stack,
+    s: &mut Scene,
+    sync: &mut SyncTable,
+    call: &DoCall,
+    f: FnName,
+    picks: &[u64],
+) -> Result<Deed, TurnFault>
+    requires { (d : DueDo) × SpawnsFunction look.now stack.old s.old sync.old call.now d f.0 }
+    ensures { (d : DueDo) → next_do (look_of look.now) (stack_of stack.old) ≡ Some d → TurnAnswer result (do_breaks look.now stack.old s.old sync.old call.now d picks.now) (do_comes_to look.now stack.old s.old sync.old call.now d picks.now) (Does stack.old s.old sync.old (do_comes_to look.now stack.old s.old sync.old call.now d picks.now) stack.new s.new sync.new) (IsSame stack.old s.old sync.old stack.new s.new sync.new) }
+{
     if !begins_thread(alloc, &look.program.program().functions.as_slice()[f.0 as usize]) {
         return Err(stopped(Reason::SignatureMismatch, picks));
     }
