@@ -193,7 +193,7 @@ module _ (look : KeptLook) (stack : KeptStack) (s : Scene) (x : Tables) (call : 
 -- ---- the end of an intrinsic
 
 -- a stack that can't store the result
-pub ended_refused : (f : MemoryFault) (o : Outcome Stack World) (k : Stack) (w : World) (IsSo : Deed → Type 0) {v : World} → TellsBy {X = Unit {0}} (λ u. k) (Err f) o v → EndAnswer (Err (fault_from f)) o k w IsSo
+pub ended_refused : (f : MemoryFault) (o : Outcome Stack World) (k : Stack) (w : World) (IsSo : Deed → Type 0) → TellsBy {X = Unit {0}} (λ u. k) (Err f) o w → EndAnswer (Err (fault_from f)) o k w IsSo
 ended_refused (memory_fault.Undefined r) o k w IsSo h = h
 ended_refused memory_fault.Memory o k w IsSo h = tt
 

@@ -180,7 +180,7 @@ fn end_told(
     text: Vec<u8>,
 ) -> Result<Deed, TurnFault>
     requires { CanEnd look.now stack.old call.now effect.value }
-    ensures { (d : DueDo) → next_do (look_of look.now) (stack_of stack.old) ≡ Some d → EndAnswer result (finished (stack_of stack.old) d (operands_of call.now) effect.entry.value (world_of s.old)) (stack_of stack.new) (world_of s.new) (IsTold op effect.entry text.entry.items) }
+    ensures { (d : DueDo) → next_do (look_of look.now) (stack_of stack.old) ≡ Some d → EndAnswer result (finished (stack_of stack.old) d (operands_of call.now) effect.value (world_of s.old)) (stack_of stack.new) (world_of s.new) (IsTold op effect text.items) }
 {
     match stack.finish(alloc, look, s, call, effect.value.as_ref()) {
         Err(fault) => Err(TurnFault::from(fault)),

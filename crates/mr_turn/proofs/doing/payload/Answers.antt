@@ -57,8 +57,8 @@ end-requires c =
       result = result_fits d.op (operands_of call) (Some (val.Ptr c.in-Some.last)) g.operands (payload_fits d.op (operands_of call) c.in-Some.last is g.operands);
     }
 
-pub returns : goal.returns
-returns c = λ d due.
+pub returns-in-Ok : goal.returns-in-Ok
+returns-in-Ok c = λ d due.
     let look = c.args.look.now in
     let stack = c.args.stack.now in
     let s = c.args.s.now in
