@@ -1,5 +1,5 @@
 -- What the code of an intrinsic's turn answers, by its parts.
-use Rattle.std.proofs.Common.{◌≡◌, ℕ, ◌<◌, ◌^◌, refl, subst, sym, ap, ap₂, ◌∙◌, List, [], ◌∷◌, true, Option, Some, None, Result, Ok, Err}
+use Rattle.std.proofs.Common.{◌≡◌, ℕ, refl, subst, sym, ap, ap₂, ◌∙◌, List, [], ◌∷◌, true, Option, Some, None, Result, Ok, Err}
 use Rattle.std.specs.Prelude.{if◌then◌else◌, slice_get}
 use Rattle.std.proofs.lemmas.Option.{same_Some}
 use Rattle.std.specs.Option.{option_map}
@@ -11,12 +11,12 @@ use Rattle.mr_base.specs.declared.reason.Reason.{Reason}
 use Rattle.mr_base.specs.declared.reason.Reason.TheVariants.{NoPayload}
 use Rattle.mr_mem.specs.declared.fault.Fault.{Fault as MemoryFault}
 use Rattle.mr_mem.specs.declared.fault.Fault.TheVariants as memory_fault
-use Rattle.mr_mem.specs.Memory.{Memory, ranges_of}
+use Rattle.mr_mem.specs.Memory.{Memory}
 use Rattle.mr_value.specs.declared.val.Val.{Val}
 use Rattle.mr_value.specs.declared.val.Val.TheVariants as val
 use Rattle.mr_ast.specs.declared.types.Ty.TheVariants as ty
 use Rattle.mr_value.proofs.ShapeLaws.{has_raw}
-use Rattle.mr_frame.proofs.DoSafe.{OperandsFit, ValueFits}
+use Rattle.mr_frame.proofs.DoSafe.{OperandsFit, ValueFits, do_stands, operands_safe}
 use Rattle.mr_intr.proofs.OperationSafe.{result_is}
 use Rattle.mr_wf.specs.Intrinsics.{fits_intrinsic, is_print}
 use Rattle.mr_script.specs.Script.{Done, Undefined, ◌>>=◌, Outcome, Went, Refused, on, run}
@@ -27,20 +27,23 @@ use Rattle.mr_eval.specs.World.{TellsBy, World, tally_of, world_of}
 use Rattle.mr_eval.specs.declared.notes.Notes.{Notes as KeptNotes}
 use Rattle.mr_eval.specs.declared.scene.Scene.{Scene}
 use Rattle.mr_eval.specs.Tally.{Tally}
-use Rattle.mr_plan.specs.Legal.{Fault, needs_fault, picks_fault}
+use Rattle.mr_plan.specs.Legal.{needs_fault}
 use Rattle.mr_plan.specs.Machine.{Goes, Needs, Plan, needs_of}
-use Rattle.mr_plan.specs.Notes.{Notes, event_of}
-use Rattle.mr_plan.specs.Queries.{Shared, StepScript, answer}
+use Rattle.mr_plan.specs.Notes.{Notes}
+use Rattle.mr_plan.specs.Queries.{Shared, answer}
 use Rattle.mr_plan.proofs.ReadingRuns.{moved_to}
 use Rattle.mr_frame.specs.declared.dos.DoCall.{DoCall}
-use Rattle.mr_frame.specs.declared.flow.Flow.TheVariants as flow
 use Rattle.mr_frame.specs.declared.look.Look.{Look as KeptLook}
 use Rattle.mr_frame.specs.declared.stack.Stack.{Stack as KeptStack}
 use Rattle.mr_frame.specs.Doing.{operands_of}
 use Rattle.mr_frame.specs.Effects.{argued, finished as ended}
-use Rattle.mr_frame.specs.Frames.{Look, Stack}
-use Rattle.mr_frame.specs.Kept.{look_of, stack_of}
-use Rattle.mr_frame.specs.Operations.{DueDo, Operands, next_do}
+use Rattle.mr_eval.proofs.SafeRuns.{safe_comes}
+use Rattle.mr_eval.specs.Reads.{Seen}
+use Rattle.mr_eval.specs.Sound.{Comes}
+use Rattle.mr_frame.specs.Fits.{FitsStack, IsLook}
+use Rattle.mr_frame.specs.Frames.{Stack}
+use Rattle.mr_frame.specs.Kept.{IsReady, look_of, stack_of}
+use Rattle.mr_frame.specs.Operations.{DueDo, Operands, next_do, operands}
 use Rattle.mr_intr.specs.Operations.{Operation, instant, operation}
 use Rattle.mr_intr.specs.Effects as Effects
 use Rattle.mr_intr.specs.Effects.{IsDone, IsOperation, Prints, operated}
@@ -50,7 +53,7 @@ use Rattle.mr_turn.specs.declared.deed.Deed.{Deed}
 use Rattle.mr_turn.specs.declared.deed.TurnFault.{TurnFault}
 use Rattle.mr_turn.specs.declared.deed.TurnFault.TheVariants as answer
 use Rattle.mr_turn.specs.Doing.{EndAnswer, IsGiven, IsNoted, IsTold, do_breaks, do_comes_to, do_planned, do_turned}
-use Rattle.mr_turn.specs.Turning.{DeedAnswer, StopAnswer, TurnAnswer, Turned, asks_break, begun, breaks, comes_to, fault_from, own_of, picks_break, printed_lines, shared_in, turn_by}
+use Rattle.mr_turn.specs.Turning.{DeedAnswer, StopAnswer, TurnAnswer, Turned, asks_break, begun, breaks, comes_to, fault_from, own_of, picks_break, planned, printed_lines, shared_in, turn_by}
 use Rattle.mr_turn.proofs.DoTurns.{argued_planned, argued_turned, by_operation, finishing_run, operation_needs, operation_turned, plan_is}
 
 -- a step that stops before it has a plan needs no pick, and may have none
@@ -90,15 +93,29 @@ module _ (look : KeptLook) (stack : KeptStack) (s : Scene) (x : Tables) (d : Due
 
   -- its evaluation stopped
   module _ (r : Reason) (given : argued s.memory (look_of look) d (seen s.notes) ≡ Refused r) where
-    pub stopped_breaks : breaks look stack s x picks ≡ asks_break s x [] picks
-    stopped_breaks =
-        ap (λ o. picks_break (begun s x) o picks)
-        (argued_planned (look_of look) own d due (begun s x) ∙ ap (λ o. on o (λ q v. do_planned (look_of look) own d q (moved_to (begun s x) (s.memory, record (tally_of s) { accesses = v.accesses; touched = v.touched })))) given)
+    pub stopped_planned : planned (look_of look) own (begun s x) ≡ Refused r
+    stopped_planned =
+        argued_planned (look_of look) own d due (begun s x)
+        ∙ ap (λ o. on o (λ q v. do_planned (look_of look) own d q (moved_to (begun s x) (s.memory, record (tally_of s) { accesses = v.accesses; touched = v.touched })))) given
 
     pub stopped_comes : comes_to look stack s x picks ≡ Refused r
     stopped_comes =
         argued_turned (look_of look) own d due (begun s x) picks
         ∙ ap (λ o. on o (λ q v. do_turned (look_of look) own d q picks (moved_to (begun s x) (s.memory, record (tally_of s) { accesses = v.accesses; touched = v.touched })))) given
+
+-- what it was given fits it
+pub operands_fit : (look : KeptLook) → IsReady look → (stack : KeptStack) → FitsStack look.program.now (stack_of stack) → (d : DueDo) → next_do (look_of look) (stack_of stack) ≡ Some d
+    → (m : Memory) (v w : Seen) (o : Operands) → argued m (look_of look) d v ≡ Went o w → OperandsFit d.op o
+unfolding argued
+operands_fit look ready stack fits d due m v w o e =
+    let is : IsLook (look_of look) = record { functions = ready.functions; globals = ready.globals } in
+    subst (Comes (OperandsFit d.op)) e
+    (safe_comes (OperandsFit d.op) m (operands (look_of look) d) (operands_safe (look_of look) is ready.well (stack_of stack) d (do_stands (look_of look) is ready.well (stack_of stack) d fits due)) v)
+
+-- the intrinsic that is due, by its name
+pub due_named : (o : Option DueDo) (op : Intrinsic) → Some op ≡ option_map (λ d. d.op) o → (d : DueDo) × (o ≡ Some d) × (d.op ≡ op)
+due_named None op h = absurd (cc)
+due_named (Some d) op h = (d, refl, same_Some d.op op (sym h))
 
 -- ---- operations
 

@@ -1,5 +1,5 @@
 -- What the code of a thread's start finds and answers, by its parts.
-use Rattle.std.proofs.Common.{◌≡◌, ℕ, ◌+◌, ◌<◌, ◌≤◌, ◌^◌, refl, sym, ap, ap₂, ◌∙◌, subst, arith, List, [], ◌∷◌, length, drop, take, Bool, true, false, Option, Some, None, Result}
+use Rattle.std.proofs.Common.{◌≡◌, ℕ, ◌<◌, ◌^◌, refl, sym, ap, ap₂, ◌∙◌, subst, arith, List, [], ◌∷◌, length, drop, take, Bool, true, false, Option, Some, None, Result}
 use Rattle.std.specs.Prelude.{◌-◌, ◌&&◌, nat_lt, slice_get, if◌then◌else◌}
 use Rattle.std.specs.Option.{option_map}
 use Rattle.mr_ast.specs.declared.program.Function.{Function}
@@ -17,8 +17,7 @@ use Rattle.mr_layout.proofs.AlignLaws.{align_raw, align_tuple}
 use Rattle.mr_layout.proofs.PartsOk.{and_true}
 use Rattle.mr_layout.proofs.SizeLaws.{size_raw, size_tuple}
 use Rattle.mr_layout.specs.Sizes.{align_of, size_of}
-use Rattle.mr_mem.specs.Memory.{Memory, ranges_of}
-use Rattle.mr_sched.specs.declared.schedule.Ask.{Ask}
+use Rattle.mr_mem.specs.Memory.{ranges_of}
 use Rattle.mr_sched.specs.declared.schedule.Ask.TheVariants.{Address}
 use Rattle.mr_value.specs.declared.val.Val.{Val, out-Val}
 use Rattle.mr_value.specs.declared.val.Val.TheVariants as val
@@ -27,13 +26,12 @@ use Rattle.mr_value.proofs.ShapeLaws.{has_int, shape_fn_ptr}
 use Rattle.mr_wf.specs.Intrinsics.{fits_intrinsic, gives}
 use Rattle.mr_wf.specs.Operands.{is_fn_ptr, is_raw}
 use Rattle.mr_wf.proofs.KindLaws.{fn_ptr_is, raw_is}
-use Rattle.mr_script.specs.Script.{Outcome, Went, Refused, on, run}
+use Rattle.mr_script.specs.Script.{Went, Refused, on, run}
 use Rattle.mr_sync.specs.Tables.{Tables, spawned}
 use Rattle.mr_eval.proofs.ShapeOf.{HaveShapes}
-use Rattle.mr_eval.specs.Tally.{Tally}
 use Rattle.mr_eval.specs.World.{tally_of, world_of}
 use Rattle.mr_eval.specs.declared.scene.Scene.{Scene}
-use Rattle.mr_plan.specs.Legal.{Fault, creation_fault, else_fault, fault, picks_fault}
+use Rattle.mr_plan.specs.Legal.{creation_fault, else_fault, fault, picks_fault}
 use Rattle.mr_plan.specs.Machine.{CreatesThread, Goes}
 use Rattle.mr_plan.specs.Notes.{Notes}
 use Rattle.mr_plan.specs.Queries.{Shared, answer}
@@ -43,11 +41,10 @@ use Rattle.mr_frame.proofs.CallSafe.{equal_types, kept_there, position_below}
 use Rattle.mr_frame.proofs.Frames.{function_keeps}
 use Rattle.mr_frame.proofs.Places.{within}
 use Rattle.mr_frame.proofs.DoSafe.{OperandsFit, ValueFits}
-use Rattle.mr_frame.specs.Beginning.{CanAllocate, CanBegin, IsBottom}
+use Rattle.mr_frame.specs.Beginning.{CanBegin, IsBottom}
 use Rattle.mr_frame.specs.Calls.{behind_first, callee_of, kept_types, same_types, storage_asks}
 use Rattle.mr_frame.specs.Doing.{operands_of}
 use Rattle.mr_frame.specs.Effects.{entered, finished as ended}
-use Rattle.mr_frame.specs.Frames.{Frame}
 use Rattle.mr_frame.specs.Kept.{look_of, stack_of}
 use Rattle.mr_frame.specs.Operations.{DueDo, Operands, next_do}
 use Rattle.mr_frame.specs.declared.dos.DoCall.{DoCall}
@@ -57,9 +54,9 @@ use Rattle.mr_intr.proofs.OperationSafe.{result_is}
 use Rattle.mr_intr.specs.Operations.{pointer_in}
 use Rattle.std.proofs.lemmas.Option.{same_Some}
 use Rattle.mr_turn.proofs.PlanAsks.{same_statuses}
-use Rattle.mr_thread.specs.Steps.{Own, Turn, finishing, new_thread, thread_types, unit, with_stack}
+use Rattle.mr_thread.specs.Steps.{Own, finishing, new_thread, thread_types, with_stack}
 use Rattle.mr_turn.specs.declared.deed.Deed.{Deed}
-use Rattle.mr_turn.specs.Doing.{CanEnd, EndAnswer, IsGiven, IsNewThread, IsStart, SpawnGiven, SpawnsFunction, StartsThread, do_breaks, do_comes_to, do_planned}
+use Rattle.mr_turn.specs.Doing.{CanEnd, EndAnswer, IsGiven, IsNewThread, IsStart, SpawnGiven, SpawnsFunction, StartsThread, do_breaks, do_comes_to}
 use Rattle.mr_turn.specs.declared.deed.TurnFault.{TurnFault}
 use Rattle.mr_turn.proofs.DoAnswers.{end_is_deed}
 use Rattle.mr_frame.proofs.ResultFits.{result_fits}

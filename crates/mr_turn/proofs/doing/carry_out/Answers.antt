@@ -1,9 +1,5 @@
-use Rattle.std.proofs.Common.{[], subst, sym, List}
-use Rattle.std.specs.Prelude.{Err, Ok, Option, Result}
-use Rattle.mr_ast.specs.declared.types.Ty.{Ty}
-use Rattle.mr_value.specs.declared.val.Val.{Val}
-use Rattle.mr_frame.specs.Doing.{operands_of}
-use Rattle.mr_intr.specs.declared.effect.Effect.{Effect}
+use Rattle.std.proofs.Common.{[], subst, sym}
+use Rattle.std.specs.Prelude.{Err, Ok}
 use Rattle.mr_turn.specs.declared.deed.TurnFault.{TurnFault}
 use Rattle.mr_turn.specs.Doing.{do_comes_to}
 use Rattle.mr_turn.specs.Turning.{DeedAnswer, Does}

@@ -1,5 +1,5 @@
-use Rattle.std.proofs.Common.{◌≡◌, ◌∙◌, refl, subst, sym}
-use Rattle.std.specs.Prelude.{Err, Ok, None}
+use Rattle.std.proofs.Common.{◌∙◌, refl, subst, sym}
+use Rattle.std.specs.Prelude.{Err, Ok}
 use Rattle.mr_frame.specs.Doing.{operands_of}
 use Rattle.mr_frame.specs.Kept.{look_of}
 use Rattle.mr_turn.specs.Doing.{do_breaks, do_comes_to, do_planned}

@@ -1,4 +1,4 @@
-use Rattle.std.proofs.Common.{◌≡◌, ◌∙◌, [], Some, length, refl, subst, sym}
+use Rattle.std.proofs.Common.{◌∙◌, [], Some, length, refl, subst, sym}
 use Rattle.std.specs.Prelude.{Err}
 use Rattle.mr_ast.specs.declared.program.Intrinsic.TheVariants as intrinsic
 use Rattle.mr_base.specs.declared.reason.Reason.TheVariants.{NoPayload}

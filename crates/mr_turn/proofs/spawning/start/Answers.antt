@@ -1,4 +1,3 @@
-use Rattle.std.proofs.Common.{sym}
 use Rattle.mr_turn.proofs.SpawnAnswers.{begins_with, start_ends, started, starts_for}
 use Rattle.mr_turn.proofs.spawning.start.Goals as goal
 
