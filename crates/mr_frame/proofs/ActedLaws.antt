@@ -1,7 +1,6 @@
 -- What the next step of a thread comes to, by what is due.
-use Rattle.std.proofs.Common.{◌≡◌, ℕ, refl, sym, ap, ◌∙◌, Bool, true, false, cond, List, [], ◌∷◌, Option, None, Some}
-use Rattle.std.specs.Prelude.{slice_get, if◌then◌else◌}
-use Rattle.mr_ast.specs.declared.expr.Place.{Place}
+use Rattle.std.proofs.Common.{◌≡◌, ℕ, refl, sym, ap, ◌∙◌, List, [], ◌∷◌, Option, None, Some}
+use Rattle.std.specs.Prelude.{slice_get}
 use Rattle.mr_ast.specs.declared.expr.Value.{Value}
 use Rattle.mr_ast.specs.declared.program.BlockName.{BlockName}
 use Rattle.mr_ast.specs.declared.program.Function.{Function}
@@ -9,19 +8,17 @@ use Rattle.mr_ast.specs.declared.program.Local.{Local}
 use Rattle.mr_ast.specs.declared.program.LocalName.{LocalName}
 use Rattle.mr_ast.specs.declared.program.Stmt.{Stmt}
 use Rattle.mr_ast.specs.declared.program.Stmt.TheVariants as stmt
-use Rattle.mr_ast.specs.declared.program.Term.{Term}
 use Rattle.mr_ast.specs.declared.program.Term.TheVariants as term
 use Rattle.mr_ast.specs.declared.types.Num.{Num}
 use Rattle.mr_ast.specs.declared.types.Ty.{Ty}
 use Rattle.mr_base.specs.declared.byte.Kind.TheVariants.{Stack as OnStack}
 use Rattle.mr_base.specs.declared.byte.Pointer.{Pointer}
-use Rattle.mr_base.specs.declared.reason.Reason.TheVariants.{MainReturned, Unreachable}
+use Rattle.mr_base.specs.declared.reason.Reason.TheVariants.{Unreachable}
 use Rattle.mr_layout.specs.Sizes.{align_of, size_of}
 use Rattle.mr_mem.specs.Memory.{Memory}
-use Rattle.mr_sched.specs.declared.schedule.Ask.{Ask}
 use Rattle.mr_sched.specs.declared.schedule.Ask.TheVariants.{Address}
-use Rattle.mr_value.specs.declared.val.Val.{Val, out-Val}
-use Rattle.mr_script.specs.Script.{Broken, Done, IllFormed, Outcome, Refused, Undefined, Went, ◌>>=◌, on, run}
+use Rattle.mr_value.specs.declared.val.Val.{out-Val}
+use Rattle.mr_script.specs.Script.{Broken, Done, Outcome, Refused, Went, ◌>>=◌, on, run}
 use Rattle.mr_script.proofs.Runs.{run_bind}
 use Rattle.mr_eval.specs.Evaluated.{valued}
 use Rattle.mr_eval.specs.Evaluation.{Surround, value_script}
@@ -30,14 +27,12 @@ use Rattle.mr_eval.specs.Operators.{or_ill_formed, pointer_in, pointer_of_value}
 use Rattle.mr_eval.specs.Reads.{ReadScript, Seen, reading}
 use Rattle.mr_eval.specs.Tally.{seen_of, with_seen}
 use Rattle.mr_eval.specs.World.{World}
-use Rattle.mr_plan.specs.Machine.{Plan}
-use Rattle.mr_plan.proofs.ReadingRuns.{on_then, reading_then, tallied}
+use Rattle.mr_plan.proofs.ReadingRuns.{on_then, reading_then}
 use Rattle.mr_frame.specs.declared.look.Look.{Look as KeptLook}
-use Rattle.mr_frame.specs.Calls.{free_each, goes_to, leave, local_type, return_from, return_value, stop}
+use Rattle.mr_frame.specs.Calls.{free_each, leave, local_type, return_from, return_value, stop}
 use Rattle.mr_frame.specs.Changes.{IsChange, change, free_storage}
 use Rattle.mr_frame.specs.Effects.{acted, asked, asks_of, changed, chosen, planned, pointed, there_or_broken, unstored}
 use Rattle.mr_frame.specs.Ending.{freed_each, left_by, returned}
-use Rattle.mr_frame.specs.Fits.{IsLook}
 use Rattle.mr_frame.specs.Frames.{Aborts, Exits, Frame, GoesOn, Look, Onward, Stack, at_block, scene_in, with_storage, with_top}
 use Rattle.mr_frame.specs.Kept.{IsReady, look_of}
 use Rattle.mr_frame.specs.Sites.{AtStatement, AtTerminator, Due, Site, site_of}

@@ -1,9 +1,12 @@
 -- What a step that is no intrinsic asks for, by what is due.
-use Rattle.std.proofs.Common.{◌≡◌, ℕ, ◌+◌, ◌<◌, ◌≤◌, refl, sym, ap, ◌∙◌, subst, List, [], ◌∷◌, ◌++◌, length, drop, get_or, Option, None, Some, add-one, append-nil, append_assoc}
+use Rattle.std.proofs.Common.{◌≡◌, ℕ, ◌+◌, ◌<◌, ◌≤◌, refl, sym, ap, ◌∙◌, subst, List, [], ◌∷◌, ◌++◌, length, drop, get_or, Option, Some, add-one, append-nil, append_assoc}
 use Rattle.std.proofs.Math.Seq.{drop-cons}
 use Rattle.std.proofs.lemmas.List.{drop_all}
 use Rattle.std.proofs.lemmas.Option.{same_Some}
-use Rattle.std.specs.Prelude.{slice_get}
+use Rattle.std.specs.Prelude.{All, slice_get}
+use Rattle.mr_ast.specs.declared.expr.Place.{Place}
+use Rattle.mr_ast.specs.declared.expr.Value.{Value}
+use Rattle.mr_ast.specs.declared.program.BlockName.{BlockName}
 use Rattle.mr_ast.specs.declared.program.Function.{Function}
 use Rattle.mr_ast.specs.declared.program.Local.{Local}
 use Rattle.mr_ast.specs.declared.program.LocalName.{LocalName}
@@ -14,19 +17,23 @@ use Rattle.mr_ast.specs.declared.program.Term.TheVariants as term
 use Rattle.mr_ast.specs.declared.types.Ty.{Ty}
 use Rattle.mr_base.specs.declared.byte.Pointer.{Pointer}
 use Rattle.mr_sched.specs.declared.schedule.Ask.{Ask}
+use Rattle.mr_layout.specs.TypeOk.{TypeOk}
 use Rattle.mr_mem.specs.Memory.{Memory}
 use Rattle.mr_eval.specs.Reads.{Seen}
 use Rattle.mr_frame.specs.declared.look.Look.{Look as KeptLook}
+use Rattle.mr_frame.specs.declared.stack.Stack.{Stack as KeptStack}
 use Rattle.mr_frame.specs.Beginning.{HasTypes}
 use Rattle.mr_frame.specs.Calling.{written_types}
 use Rattle.mr_frame.specs.Calls.{kept_types, storage_asks}
 use Rattle.mr_frame.specs.Effects.{asked}
 use Rattle.mr_frame.specs.Frames.{Frame, Look, Stack}
-use Rattle.mr_frame.specs.Kept.{IsReady, look_of}
+use Rattle.mr_frame.specs.Kept.{IsReady, below_of, frame_of, look_of, stack_of}
 use Rattle.mr_frame.specs.Sites.{AtStatement, AtTerminator, NoDo, due_term, kept_locals}
-use Rattle.mr_frame.specs.Standing.{StandsAt}
-use Rattle.mr_frame.proofs.ActedLaws.{asked_change, asked_dead, asked_is, stack}
+use Rattle.mr_frame.specs.Standing.{Holds, IsDue, StandsAt}
+use Rattle.mr_frame.proofs.ActedLaws.{asked_change, asked_dead, asked_is, asked_live, stack}
 use Rattle.mr_frame.proofs.BeginSteps.{first_typed, kept_known}
+use Rattle.mr_frame.proofs.Places.{all_at, within}
+use Rattle.mr_frame.proofs.StandLaws.{holds_below, live_holds}
 use Rattle.mr_frame.proofs.TypeRows.{none_there}
 
 -- ---- what the start of a function asks for, one local after another
@@ -105,3 +112,49 @@ module _ (look : KeptLook) (ready : IsReady look) (f : Frame) (below : List Fram
   asked_term term.Exit clear other h m t s = asked_is look ready f below payloads (AtTerminator term.Exit) h m t s
   asked_term term.Abort clear other h m t s = asked_is look ready f below payloads (AtTerminator term.Abort) h m t s
   asked_term (term.Do op args place next) clear other h m t s = absurd clear
+
+-- of a statement that isn't `live`, and of a terminator that is no call
+pub no_live : (x : Stmt) → ((y : LocalName) → x ≡ stmt.Live y → ⊥) → NoLive x
+no_live (stmt.Live y) h = h y refl
+no_live (stmt.Dead y) h = tt
+no_live (stmt.Assign place value) h = tt
+no_live (stmt.Mention place) h = tt
+no_live (stmt.Disc place number) h = tt
+no_live (stmt.Deinit place) h = tt
+no_live (stmt.Validate place) h = tt
+
+pub no_call : (x : Term) → ((callee : Value) (args : List Value) (place : Place) (next unwind : Option BlockName) → x ≡ term.Call callee args place next unwind → ⊥) → NoCall x
+no_call (term.Goto b) h = tt
+no_call (term.Switch v cases last) h = tt
+no_call term.Unreachable h = tt
+no_call (term.Call callee args place next unwind) h = h callee args place next unwind refl
+no_call term.Return h = tt
+no_call (term.Unwind v b) h = tt
+no_call term.Resume h = tt
+no_call (term.Stop b) h = tt
+no_call term.Exit h = tt
+no_call term.Abort h = tt
+no_call (term.Do op args place next) h = tt
+
+-- ---- `live`
+
+module _ (look : KeptLook) (s : KeptStack) (x : LocalName) (h : IsDue look s (AtStatement (stmt.Live x))) (fn : Function) (there : slice_get look.program.now.functions s.top.function ≡ Some fn) where
+  holds : Holds look s x
+  holds = live_holds look s (AtStatement (stmt.Live x)) h x refl
+
+  same_held : holds.function ≡ fn
+  same_held = same_Some holds.function fn (sym holds.there ∙ there)
+
+  pub live_inside : x.0 < length fn.locals
+  live_inside = subst (λ (f : Function). x.0 < length f.locals) same_held holds.inside
+
+  module _ (l : Local) (at : slice_get fn.locals x.0 ≡ Some l) where
+    pub live_ok : TypeOk l.ty
+    live_ok = all_at (λ (k : Local). TypeOk k.ty) fn.locals x.0 l (subst (λ (f : Function). All (λ (k : Local). TypeOk k.ty) f.locals) same_held holds.types) at
+
+    pub live_asks : (m : Memory) (t : ℕ) (seen : Seen) → asked m (look_of look) t (stack_of s) seen ≡ storage_asks (l.ty ∷ [])
+    live_asks m t seen =
+        let fits = h.stands.fits in
+        let same : fits.function ≡ fn = same_Some fits.function fn (sym fits.is ∙ there) in
+        let storage = within (frame_of s.top).locals x.0 (holds_below look s x holds) in
+        asked_live look h.ready (frame_of s.top) (below_of s) (stack_of s).payloads x h.stands l (ap (λ (f : Function). slice_get f.locals x.0) same ∙ at) storage.0 storage.1 m t seen

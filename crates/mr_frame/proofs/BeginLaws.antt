@@ -1,5 +1,5 @@
 -- The start of a function, part by part.
-use Rattle.std.proofs.Common.{◌≡◌, ◌≢◌, ℕ, suc, ◌+◌, ◌<◌, ◌≤◌, ◌^◌, refl, sym, ap, ◌∙◌, subst, arith, Bool, true, false, List, [], ◌∷◌, ◌++◌, length, Option, None, Some}
+use Rattle.std.proofs.Common.{◌≡◌, ℕ, ◌+◌, refl, ap, ◌∙◌, subst, arith, true, List, [], ◌∷◌, ◌++◌, Option, None, Some}
 use Rattle.std.specs.Prelude.{if◌then◌else◌}
 use Rattle.std.specs.FinMap as fin
 use Rattle.mr_ast.specs.declared.program.Function.{Function}
@@ -9,15 +9,15 @@ use Rattle.mr_base.specs.declared.byte.Kind.TheVariants.{Stack as OnStack}
 use Rattle.mr_base.specs.declared.byte.Pointer.{Pointer}
 use Rattle.mr_base.specs.declared.reason.Reason.{Reason}
 use Rattle.mr_layout.specs.Sizes.{align_of, size_of}
-use Rattle.mr_mem.specs.Memory.{Memory, allocated, fresh, pick_fault, range_fault, ranges_of, with_range}
+use Rattle.mr_mem.specs.Memory.{allocated, fresh, pick_fault, range_fault, ranges_of, with_range}
 use Rattle.mr_mem.specs.declared.fault.PickFault.{PickFault}
 use Rattle.mr_mem.specs.declared.fault.PickFault.TheVariants.{BadAddress, Reused}
 use Rattle.mr_mem.proofs.Identities.{get_there}
 use Rattle.mr_mem.proofs.RangeLaws.{ranges-allocated}
 use Rattle.mr_value.specs.declared.val.Val.{Val}
-use Rattle.mr_script.specs.Script.{Broken, Done, IllFormed, Outcome, Refused, Went, ◌>>=◌, on, run}
+use Rattle.mr_script.specs.Script.{Broken, Done, IllFormed, Outcome, Refused, Went, on, run}
 use Rattle.mr_wf.specs.Walk.{begins_regular}
-use Rattle.mr_eval.specs.MemoryQueries.{Allocate, MemoryScript, memory_answer, next_id, pointer_to}
+use Rattle.mr_eval.specs.MemoryQueries.{Allocate, memory_answer, next_id}
 use Rattle.mr_eval.specs.World.{World}
 use Rattle.mr_plan.specs.Legal.{address_fault, else_fault, picks_fault}
 use Rattle.mr_plan.proofs.LegalLaws.{no_faults}
@@ -26,7 +26,6 @@ use Rattle.mr_frame.specs.Beginning.{CanAllocate, allocated_each, stored_each}
 use Rattle.mr_frame.specs.Calls.{allocate_each, behind_first, enter_at, enter_with, first_frame, kept_types, storage_asks, store_each}
 use Rattle.mr_frame.specs.Changes.{store}
 use Rattle.mr_frame.specs.Effects.{entered, stored_in}
-use Rattle.mr_frame.specs.Frames.{Frame}
 use Rattle.mr_frame.specs.Standing.{IsUncounted}
 use Rattle.mr_frame.proofs.ActedLaws.{memory_bind, on_same}
 

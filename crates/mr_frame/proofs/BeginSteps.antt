@@ -1,10 +1,10 @@
 -- The start of a function, one of its locals after another: what is left at each.
-use Rattle.std.proofs.Common.{◌≡◌, ℕ, suc, ◌+◌, ◌-◌, ◌<◌, ◌≤◌, refl, sym, ap, ◌∙◌, subst, arith, List, [], ◌∷◌, ◌++◌, length, map, drop, get_or, Option, None, Some, true, append-nil, append_assoc, add-one, length-drop}
+use Rattle.std.proofs.Common.{◌≡◌, ℕ, suc, ◌+◌, ◌<◌, ◌≤◌, refl, sym, ap, ◌∙◌, subst, arith, List, [], ◌∷◌, ◌++◌, length, map, drop, get_or, Option, Some, true, append-nil, append_assoc, add-one, length-drop}
 use Rattle.std.proofs.Math.Seq.{drop-cons}
 use Rattle.std.proofs.lemmas.List.{drop_all, length-map}
 use Rattle.std.proofs.lemmas.Option.{same_Some}
 use Rattle.std.specs.Option.{option_map}
-use Rattle.std.specs.Prelude.{All, replicate, slice_get, slice_set}
+use Rattle.std.specs.Prelude.{All, slice_get, slice_set}
 use Rattle.mr_ast.specs.declared.program.Function.{Function}
 use Rattle.mr_ast.specs.declared.program.Local.{Local}
 use Rattle.mr_ast.specs.declared.program.LocalName.{LocalName}
@@ -27,7 +27,7 @@ use Rattle.mr_frame.proofs.ActedLaws.{on_itself, on_same}
 use Rattle.mr_frame.proofs.BeginLaws.{allocated_behind, first_can, next_allocated, next_stored, none_allocated, none_stored, rest_can, stop_stored}
 use Rattle.mr_frame.proofs.CallSafe.{all_within, types_there}
 use Rattle.mr_frame.proofs.Places.{AllWithin, all_at}
-use Rattle.mr_frame.proofs.TypeRows.{First, first_there, none_there}
+use Rattle.mr_frame.proofs.TypeRows.{first_there, none_there}
 
 -- ---- types in a row
 
@@ -150,11 +150,11 @@ module _ (fn : Function) (xs : List LocalName) (k : ℕ) (d : LocalName) (picks 
       let inside : k + 1 < length picks = omega (arith, left, length-drop k xs, length-drop (k + 1) picks) in (
         inside,
         subst (λ (z : List LocalName × List ℕ). Allocating fn z.0 z.1 picks first done w)
-        (λ i. (
-          (drop-cons xs k d lt ∙ ap (λ n. get_or xs k d ∷ drop n xs) (sym (add-one k))) i,
-          (drop-cons picks (k + 1) 0 inside ∙ ap (λ n. get_or picks (k + 1) 0 ∷ drop n picks) (sym (add-one (k + 1)))) i,
-        ))
-        h,
+            (λ i. (
+              (drop-cons xs k d lt ∙ ap (λ n. get_or xs k d ∷ drop n xs) (sym (add-one k))) i,
+              (drop-cons picks (k + 1) 0 inside ∙ ap (λ n. get_or picks (k + 1) 0 ∷ drop n picks) (sym (add-one (k + 1)))) i,
+            ))
+            h,
       )
 
   pub allocating_end : length xs ≤ k → Allocating fn (drop k xs) (drop (k + 1) picks) picks first done w → (all : List Ty) → kept_types fn ≡ Some all → allocated_each all picks first ≡ Went done w
@@ -264,8 +264,8 @@ pub with_next : (locals : List (Option Pointer)) (xs : List LocalName) (k : ℕ)
     → with_each locals (drop k xs) (drop (k + 1) ps) ≡ with_each (slice_set locals (get_or xs k d).0 (Some (get_or ps (k + 1) dp))) (drop (k + 1) xs) (drop (k + 1 + 1) ps)
 with_next locals xs k d ps dp lt below =
     λ i. with_each locals
-        ((drop-cons xs k d lt ∙ ap (λ n. get_or xs k d ∷ drop n xs) (sym (add-one k))) i)
-        ((drop-cons ps (k + 1) dp below ∙ ap (λ n. get_or ps (k + 1) dp ∷ drop n ps) (sym (add-one (k + 1)))) i)
+    ((drop-cons xs k d lt ∙ ap (λ n. get_or xs k d ∷ drop n xs) (sym (add-one k))) i)
+    ((drop-cons ps (k + 1) dp below ∙ ap (λ n. get_or ps (k + 1) dp ∷ drop n ps) (sym (add-one (k + 1)))) i)
 
 pub with_none : (locals : List (Option Pointer)) (xs : List LocalName) (k : ℕ) (ps : List Pointer) → length xs ≤ k → with_each locals (drop k xs) ps ≡ locals
 with_none locals xs k ps le = ap (λ (ys : List LocalName). with_each locals ys ps) (drop_all k xs le)

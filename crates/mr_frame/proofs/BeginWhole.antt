@@ -1,15 +1,14 @@
 -- The start of a function as a whole, from its parts.
-use Rattle.std.proofs.Common.{◌≡◌, ℕ, ◌+◌, ◌<◌, refl, sym, ap, ◌∙◌, subst, arith, List, [], ◌∷◌, length, drop, Option, None, Some}
-use Rattle.std.proofs.lemmas.List.{length-map}
+use Rattle.std.proofs.Common.{◌≡◌, ℕ, ◌+◌, refl, sym, ap, ◌∙◌, subst, arith, List, [], ◌∷◌, length, drop, Option, None, Some}
 use Rattle.std.proofs.lemmas.Option.{same_Some}
-use Rattle.std.specs.Prelude.{All, replicate, slice_get}
+use Rattle.std.specs.Prelude.{replicate, slice_get}
 use Rattle.mr_ast.specs.declared.program.Function.{Function}
-use Rattle.mr_ast.specs.declared.program.Local.{Local}
+use Rattle.mr_ast.specs.declared.program.Program.{Program}
 use Rattle.mr_ast.specs.declared.types.Ty.{Ty}
 use Rattle.mr_base.specs.declared.byte.Pointer.{Pointer}
 use Rattle.mr_base.specs.declared.reason.Reason.{Reason}
-use Rattle.mr_layout.specs.TypeOk.{TypeOk}
 use Rattle.mr_value.specs.declared.val.Val.{Val}
+use Rattle.mr_wf.specs.Walk.{WellFormed}
 use Rattle.mr_script.specs.Script.{Outcome, Refused, Went, on}
 use Rattle.mr_eval.proofs.ShapeOf.{HaveShapes}
 use Rattle.mr_eval.specs.World.{World}
@@ -18,15 +17,20 @@ use Rattle.mr_frame.specs.Beginning.{CanAllocate, CanBegin, HasTypes, allocated_
 use Rattle.mr_frame.specs.Calling.{written_types}
 use Rattle.mr_frame.specs.Calls.{behind_first, first_frame, kept_types, with_each}
 use Rattle.mr_frame.specs.Effects.{entered}
-use Rattle.mr_frame.specs.Frames.{Frame}
 use Rattle.mr_frame.specs.Sites.{kept_locals}
 use Rattle.mr_frame.proofs.BeginLaws.{entered_is}
 use Rattle.mr_frame.proofs.BeginSteps.{args_behind, names_length}
 use Rattle.mr_frame.proofs.EnterLaws.{allocated_many}
 use Rattle.mr_frame.proofs.Frames.{Keeps, function_keeps}
-use Rattle.mr_frame.proofs.TypeRows.{First, first_there}
+use Rattle.mr_frame.proofs.TypeRows.{first_there}
 use Rattle.mr_frame.specs.Calls.{local_type}
 use Rattle.std.specs.Prelude.{map}
+
+-- what a function of a well-formed program keeps are locals of it
+pub function_typed : (p : Program) → WellFormed p → (number : ℕ) (fn : Function) → slice_get p.functions number ≡ Some fn → HasTypes fn
+function_typed p well number fn there =
+    let kept = function_keeps p well number fn there in
+    record { locals = record { ret = kept.shaped.ret; args = kept.shaped.args }; ok = kept.unbroken.locals }
 
 first_dropped : (ps : List Pointer) → behind_first ps ≡ drop 1 ps
 first_dropped [] = refl
@@ -43,7 +47,7 @@ module _ (look : KeptLook) (number : ℕ) (vs : List Val) (picks : List ℕ) (w 
   typed = ap kept_types (sym same) ∙ can.typed
 
   pub begins_typed : HasTypes fn
-  begins_typed = record { locals = record { ret = kept.shaped.ret; args = kept.shaped.args }; ok = kept.unbroken.locals }
+  begins_typed = function_typed look.program.now can.ready.well number fn there
 
   pub begins_allocating : (types : List Ty) → kept_types fn ≡ Some types → CanAllocate types picks w
   begins_allocating types e = subst (λ (ts : List Ty). CanAllocate ts picks w) (same_Some can.types types (sym typed ∙ e)) can.allocates

@@ -1,11 +1,10 @@
 -- A call that is due in a well-formed program: what it is prepared with, and that the function can begin with it.
-use Rattle.std.proofs.Common.{◌≡◌, ℕ, suc, ◌+◌, ◌<◌, ◌≤◌, ◌^◌, refl, sym, ap, ◌∙◌, subst, arith, Bool, true, false, List, [], ◌∷◌, length, map, Option, None, Some}
+use Rattle.std.proofs.Common.{◌≡◌, ℕ, ◌<◌, ◌^◌, refl, sym, ap, ◌∙◌, arith, Bool, true, false, List, [], ◌∷◌, length, Option, None, Some}
 use Rattle.std.proofs.lemmas.List.Elements.{All-cons, All-nil, All-weaker}
-use Rattle.std.proofs.lemmas.Option.{same_Some}
 use Rattle.std.specs.List.{flat_map, list_all}
 use Rattle.std.specs.Option.{option_map}
-use Rattle.std.specs.Prelude.{All, Err, Result, slice_get, ◌&&◌, ◌||◌, if◌then◌else◌}
-use Rattle.mr_ast.specs.Shaped.{is_optional_block, is_shaped_term, named_in}
+use Rattle.std.specs.Prelude.{All, Err, slice_get, ◌&&◌, ◌||◌, if◌then◌else◌}
+use Rattle.mr_ast.specs.Shaped.{is_optional_block, named_in}
 use Rattle.mr_ast.specs.ShapedValues.{Named, is_shaped_place, is_shaped_value}
 use Rattle.mr_ast.specs.declared.expr.Place.{Place}
 use Rattle.mr_ast.specs.declared.expr.Value.{Value}
@@ -24,22 +23,21 @@ use Rattle.mr_mem.specs.declared.fault.Fault.TheVariants as fault
 use Rattle.mr_value.specs.declared.val.Val.{Val}
 use Rattle.mr_wf.specs.Broken.{broken_in_value, surroundings}
 use Rattle.mr_wf.specs.Operands.{is_fn_ptr, is_raw}
-use Rattle.mr_wf.specs.Types.{type_of_place, type_of_value}
+use Rattle.mr_wf.specs.Types.{type_of_value}
 use Rattle.mr_wf.proofs.NothingLaws.{both_nothing}
 use Rattle.mr_wf.proofs.TypedLaws.{typed_value}
 use Rattle.mr_wf.proofs.TypedStmts.{typed_call}
-use Rattle.mr_script.specs.Script.{Broken, Outcome, Refused, Went, on}
+use Rattle.mr_script.specs.Script.{Outcome, Refused, Went, on}
 use Rattle.mr_eval.specs.Environment.{Tells, ValueIn, env_surround}
 use Rattle.mr_eval.specs.Evaluated.{each_valued, placed}
 use Rattle.mr_eval.specs.Evaluation.{Surround}
 use Rattle.mr_eval.specs.Reads.{Seen}
 use Rattle.mr_eval.specs.declared.env.Env.{Env}
-use Rattle.mr_frame.specs.declared.calls.Prepared.{Prepared as KeptPrepared}
-use Rattle.mr_frame.specs.Calling.{ArgsIn, CallIn, GivenIn, HasLocals, IsPrepared, Prepared, Prepares, TypedIn, called, called_function, called_with, look_in, prepared}
-use Rattle.mr_frame.specs.Calls.{all_there, both_there, callee_of, given_types, kept_types, same_types}
+use Rattle.mr_frame.specs.Calling.{ArgsIn, CallIn, GivenIn, HasLocals, Prepared, Prepares, TypedIn, called, called_function, called_with, prepared}
+use Rattle.mr_frame.specs.Calls.{both_there, callee_of, given_types, kept_types, same_types}
 use Rattle.mr_frame.specs.Effects.{pointed}
 use Rattle.mr_frame.specs.Frames.{Look}
-use Rattle.mr_frame.specs.Inside.{InProgram, TermIn, TypeAt, ValueAt, is_address}
+use Rattle.mr_frame.specs.Inside.{InProgram, TermIn, is_address}
 use Rattle.mr_frame.proofs.CallSafe.{position_below}
 use Rattle.mr_frame.proofs.CalleeLaws.{callee_is}
 use Rattle.mr_frame.proofs.FittingLaws.{args_known}

@@ -1,5 +1,5 @@
 -- What a call comes to: first what it finds out, and then the callee's frame.
-use Rattle.std.proofs.Common.{◌≡◌, ℕ, refl, sym, ap, ◌∙◌, Bool, true, false, List, [], ◌∷◌, Option, None, Some}
+use Rattle.std.proofs.Common.{◌≡◌, ℕ, refl, sym, ap, ◌∙◌, Bool, true, false, List, [], Option, None, Some}
 use Rattle.std.specs.Prelude.{slice_get, if◌then◌else◌}
 use Rattle.mr_ast.specs.declared.expr.Place.{Place}
 use Rattle.mr_ast.specs.declared.expr.Value.{Value}
@@ -11,13 +11,13 @@ use Rattle.mr_base.specs.declared.byte.Pointer.{Pointer}
 use Rattle.mr_base.specs.declared.reason.Reason.TheVariants.{SignatureMismatch}
 use Rattle.mr_mem.specs.Memory.{Memory}
 use Rattle.mr_sched.specs.declared.schedule.Ask.{Ask}
-use Rattle.mr_value.specs.declared.val.Val.{Val, out-Val}
+use Rattle.mr_value.specs.declared.val.Val.{Val}
 use Rattle.mr_script.specs.Script.{Broken, Done, Outcome, Refused, Undefined, Went, ◌>>=◌, on, run}
 use Rattle.mr_script.proofs.Runs.{run_bind}
-use Rattle.mr_eval.specs.Evaluated.{each_valued, placed, valued}
+use Rattle.mr_eval.specs.Evaluated.{each_valued, placed}
 use Rattle.mr_eval.specs.Evaluation.{Surround, place_script, value_script, values_script}
 use Rattle.mr_eval.specs.MemoryQueries.{MemoryScript, memory_answer}
-use Rattle.mr_eval.specs.Operators.{pointer_in, pointer_of_value}
+use Rattle.mr_eval.specs.Operators.{pointer_of_value}
 use Rattle.mr_eval.specs.Reads.{Seen, reading}
 use Rattle.mr_eval.specs.Tally.{seen_of, with_seen}
 use Rattle.mr_eval.specs.World.{World}

@@ -1,35 +1,30 @@
 -- A call in a frame of a well-formed program is never ill-formed, and the frames fit again behind it; so does a function's first frame.
-use Rattle.std.proofs.Common.{◌≡◌, ℕ, suc, ◌+◌, ◌<◌, refl, sym, ap, ◌∙◌, subst, arith, List, [], ◌∷◌, length, Bool, true, false, cond, Option, Some, None, map}
+use Rattle.std.proofs.Common.{◌≡◌, ℕ, suc, ◌+◌, ◌<◌, refl, sym, ap, ◌∙◌, subst, arith, List, [], ◌∷◌, length, Bool, true, false, Option, Some, None, map}
 use Rattle.std.proofs.lemmas.List.{length-replicate}
 use Rattle.std.proofs.lemmas.Option.{same_Some}
-use Rattle.std.specs.Prelude.{slice_get, All, ◌==◌, ◌&&◌, if◌then◌else◌, replicate}
+use Rattle.std.specs.Prelude.{slice_get, ◌&&◌, if◌then◌else◌, replicate}
 use Rattle.std.specs.Option.{option_map}
 use Rattle.std.specs.List.{flat_map, list_all}
 use Rattle.mr_ast.specs.Shaped.{is_optional_block, is_shaped_term, named_in}
 use Rattle.mr_ast.specs.ShapedValues.{Named, is_shaped_place, is_shaped_value}
 use Rattle.mr_ast.specs.declared.expr.Place.{Place}
 use Rattle.mr_ast.specs.declared.expr.Value.{Value}
-use Rattle.mr_ast.specs.declared.program.Block.{Block}
 use Rattle.mr_ast.specs.declared.program.BlockName.{BlockName}
 use Rattle.mr_ast.specs.declared.program.Function.{Function}
 use Rattle.mr_ast.specs.declared.program.Local.{Local}
 use Rattle.mr_ast.specs.declared.program.LocalName.{LocalName}
 use Rattle.mr_ast.specs.declared.program.Program.{Program}
-use Rattle.mr_ast.specs.declared.program.Term.{Term}
 use Rattle.mr_ast.specs.declared.program.Term.TheVariants as term
 use Rattle.mr_ast.specs.declared.types.Ty.{Ty}
-use Rattle.mr_base.specs.declared.byte.Kind.TheVariants.{Stack as OnStack}
 use Rattle.mr_base.specs.declared.byte.Pointer.{Pointer}
 use Rattle.mr_base.specs.declared.reason.Reason.TheVariants.{SignatureMismatch}
-use Rattle.mr_layout.specs.Sizes.{align_of, size_of}
 use Rattle.mr_layout.proofs.PartsOk.{and_true}
-use Rattle.mr_sched.specs.declared.schedule.Ask.{Ask}
 use Rattle.mr_value.specs.declared.val.Val.{Val, out-Val}
 use Rattle.mr_value.specs.declared.val.Val.TheOpen.{Val-F}
 use Rattle.mr_value.specs.declared.val.Val.TheVariants as val
 use Rattle.mr_value.proofs.ShapeLaws.{shape_fn_ptr}
 use Rattle.mr_wf.specs.Blocks.{broken_in_parts}
-use Rattle.mr_wf.specs.Broken.{Surroundings, broken_in_value, sizes_of, surroundings}
+use Rattle.mr_wf.specs.Broken.{broken_in_value, sizes_of, surroundings}
 use Rattle.mr_wf.specs.Operands.{is_fn_ptr}
 use Rattle.mr_wf.specs.SameTypes.{same_type}
 use Rattle.mr_wf.specs.Types.{type_of_place, type_of_value}
@@ -39,23 +34,21 @@ use Rattle.mr_wf.proofs.KindLaws.{fn_ptr_is}
 use Rattle.mr_wf.proofs.NothingLaws.{both_nothing}
 use Rattle.mr_wf.proofs.SameTypeLaws.{same_type_equal}
 use Rattle.mr_wf.proofs.TypedStmts.{typed_call}
-use Rattle.mr_script.specs.Script.{Done, Undefined, IllFormed, Ask as Asks, ◌>>=◌}
+use Rattle.mr_script.specs.Script.{Done, Undefined, IllFormed, ◌>>=◌}
 use Rattle.mr_eval.specs.Evaluation.{Surround, place_script, value_script, values_script}
-use Rattle.mr_eval.specs.MemoryQueries.{Allocate, MemoryScript}
 use Rattle.mr_eval.specs.Operators.{pointer_in, pointer_of_value}
-use Rattle.mr_eval.specs.Reads.{ReadScript}
 use Rattle.mr_eval.specs.Sound.{IsSafe, Stands, any_result, around}
 use Rattle.mr_eval.proofs.ExprSafe.{place_safe, value_safe}
 use Rattle.mr_eval.proofs.OperatorsSafe.{Shaped}
 use Rattle.mr_eval.proofs.SafeLaws.{safe_found, safe_then}
 use Rattle.mr_eval.proofs.ShapeOf.{HaveShapes}
-use Rattle.mr_plan.specs.Machine.{Plan, CreatesNothing}
+use Rattle.mr_plan.specs.Machine.{CreatesNothing}
 use Rattle.mr_plan.specs.Safety.{IsSafeChange}
 use Rattle.mr_plan.proofs.SafetyLaws.{change_then}
-use Rattle.mr_frame.specs.Calls.{all_there, allocate_each, behind_first, both_there, call, call_function, call_number, call_plan, callee_of, calling, enter, enter_at, enter_with, first_frame, given_types, kept_types, local_type, position_from, same_pointer, same_types, storage_asks, store_each, with_each}
+use Rattle.mr_frame.specs.Calls.{all_there, allocate_each, behind_first, both_there, call, call_function, call_number, call_plan, callee_of, calling, enter, enter_at, enter_with, first_frame, given_types, kept_types, local_type, position_from, same_pointer, same_types, storage_asks, store_each}
 use Rattle.mr_frame.specs.Changes.{store}
 use Rattle.mr_frame.specs.Fits.{AreCalling, FitsFrame, FitsOnward, IsCalling, IsLook, IsSafePlan}
-use Rattle.mr_frame.specs.Frames.{Frame, GoesOn, Look, Onward, Stack, scene_in, with_top}
+use Rattle.mr_frame.specs.Frames.{Frame, GoesOn, Look, Stack, scene_in}
 use Rattle.mr_frame.specs.Sites.{Site, kept_locals}
 use Rattle.mr_frame.proofs.ChangesSafe.{store_safe}
 use Rattle.mr_frame.proofs.Frames.{Keeps, function_keeps, here, stands}

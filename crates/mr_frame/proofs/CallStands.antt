@@ -1,7 +1,6 @@
 -- A call that is due can be prepared, and then the function can begin: the values have the shapes of its types, and the picks are lawful for its
 -- storage.
-use Rattle.std.proofs.Common.{◌≡◌, ℕ, suc, ◌+◌, ◌<◌, ◌≤◌, ◌^◌, refl, sym, ap, ◌∙◌, subst, arith, Bool, true, false, List, [], ◌∷◌, length, map, Option, None, Some}
-use Rattle.std.proofs.lemmas.List.{length-map}
+use Rattle.std.proofs.Common.{◌≡◌, ℕ, ◌+◌, ◌<◌, ◌≤◌, ◌^◌, refl, sym, ap, ◌∙◌, subst, arith, Bool, true, false, List, [], ◌∷◌, length, map, Option, None, Some}
 use Rattle.std.specs.List.{list_all}
 use Rattle.std.specs.Option.{option_map}
 use Rattle.std.specs.Prelude.{slice_get, ◌&&◌, if◌then◌else◌}
@@ -23,7 +22,7 @@ use Rattle.mr_sched.specs.declared.schedule.Ask.{Ask}
 use Rattle.mr_value.specs.declared.val.Val.{Val}
 use Rattle.mr_wf.specs.Blocks.{broken_in_parts}
 use Rattle.mr_wf.specs.Broken.{sizes_of, surroundings}
-use Rattle.mr_wf.specs.Types.{type_of_place, type_of_value}
+use Rattle.mr_wf.specs.Types.{type_of_value}
 use Rattle.mr_wf.proofs.TypedStmts.{typed_call}
 use Rattle.mr_script.specs.Script.{Broken, Outcome, Refused, Went, on, run}
 use Rattle.mr_eval.specs.Answers.{seen}
@@ -36,21 +35,20 @@ use Rattle.mr_eval.specs.World.{World, tally_of}
 use Rattle.mr_eval.specs.declared.env.Env.{Env}
 use Rattle.mr_eval.specs.declared.scene.Scene.{Scene}
 use Rattle.mr_eval.proofs.SafeRuns.{safe_comes}
-use Rattle.mr_eval.proofs.ShapeOf.{HaveShapes}
+use Rattle.mr_eval.proofs.ShapeOf.{HaveShapes, shapes_length}
 use Rattle.mr_plan.specs.Legal.{picks_fault}
-use Rattle.mr_plan.proofs.LegalLaws.{picks_length}
 use Rattle.mr_frame.specs.declared.look.Look.{Look as KeptLook}
 use Rattle.mr_frame.specs.declared.stack.Stack.{Stack as KeptStack}
 use Rattle.mr_frame.specs.Acting.{AreLawful, IsDueCall}
 use Rattle.mr_frame.specs.Beginning.{CanBegin}
 use Rattle.mr_frame.specs.Calling.{CallIn, Prepared, called, called_function, called_with, prepared}
-use Rattle.mr_frame.specs.Calls.{all_there, behind_first, both_there, callee_of, given_types, kept_types, same_types, storage_asks}
+use Rattle.mr_frame.specs.Calls.{behind_first, both_there, callee_of, given_types, kept_types, same_types, storage_asks}
 use Rattle.mr_frame.specs.Effects.{acted, asked, entered, pointed}
 use Rattle.mr_frame.specs.Fits.{FitsFrame, IsLook}
-use Rattle.mr_frame.specs.Frames.{Frame, GoesOn, Look, scene_in}
+use Rattle.mr_frame.specs.Frames.{GoesOn, Look, scene_in}
 use Rattle.mr_frame.specs.Inside.{InProgram}
 use Rattle.mr_frame.specs.Kept.{below_of as under, frame_of, look_of, stack_of}
-use Rattle.mr_frame.specs.Sites.{AtTerminator, Site}
+use Rattle.mr_frame.specs.Sites.{AtTerminator}
 use Rattle.mr_frame.proofs.CallLaws.{call_in}
 use Rattle.mr_frame.proofs.CallRuns.{acted_call, asked_call, prepared_asks}
 use Rattle.mr_frame.proofs.CallSafe.{equal_types, judged_there, row_safe}
@@ -166,9 +164,16 @@ module _ (look : KeptLook) (s : KeptStack) (callee : Value) (args : List Value) 
       (λ later. comes_went (HaveShapes typed.1.types) (run (reading m) (values_script scene args) later)
       (safe_comes (HaveShapes typed.1.types) m (values_script scene args) (row_safe named (sizes_of p.globals) scene stand args typed.1.types typed.1.are row.0 typed.1.unbroken) later))
 
-  -- what a call that is prepared asks for
-  pub call_asks_is : (m : Memory) (t : ℕ) (s0 : Seen) → asked m lk t (stack_of s) s0 ≡ prepared_asks look h.due.ready (frame_of s.top) (under s) (stack_of s).payloads callee args to h.next h.unwind h.due.stands (prepared m lk scene callee args to s0)
-  call_asks_is m t s0 = asked_call look h.due.ready (frame_of s.top) (under s) (stack_of s).payloads callee args to h.next h.unwind h.due.stands m t s0
+  -- what it asks for
+  asked_by : (m : Memory) (t : ℕ) (s0 : Seen) → asked m lk t (stack_of s) s0 ≡ prepared_asks look h.due.ready (frame_of s.top) (under s) (stack_of s).payloads callee args to h.next h.unwind h.due.stands (prepared m lk scene callee args to s0)
+  asked_by m t s0 = asked_call look h.due.ready (frame_of s.top) (under s) (stack_of s).payloads callee args to h.next h.unwind h.due.stands m t s0
+
+  module _ (m : Memory) (t : ℕ) (s0 : Seen) where
+    pub asked_prepared : (pr : Prepared) (last : Seen) → prepared m lk scene callee args to s0 ≡ Went pr last → asked m lk t (stack_of s) s0 ≡ storage_asks pr.types
+    asked_prepared pr last e = asked_by m t s0 ∙ ap (λ (o : Outcome Prepared Seen). prepared_asks look h.due.ready (frame_of s.top) (under s) (stack_of s).payloads callee args to h.next h.unwind h.due.stands o) e
+
+    pub asked_nothing : (r : Reason) → prepared m lk scene callee args to s0 ≡ Refused r → asked m lk t (stack_of s) s0 ≡ []
+    asked_nothing r e = asked_by m t s0 ∙ ap (λ (o : Outcome Prepared Seen). prepared_asks look h.due.ready (frame_of s.top) (under s) (stack_of s).payloads callee args to h.next h.unwind h.due.stands o) e
 
   -- the refusal of one that is not
   pub call_stops : (t : ℕ) (picks : List ℕ) (w : World) (r : Reason) → prepared w.0 lk scene callee args to (seen_of w.1) ≡ Refused r → acted lk t (stack_of s) picks w ≡ Refused r
@@ -184,20 +189,16 @@ module _ (look : KeptLook) (s : KeptStack) (callee : Value) (args : List Value) 
       ∙ ap (λ (o : Outcome Prepared Seen). on o (λ q l. on (entered q.number (Some q.function) q.args picks (w.0, with_seen w.1 l)) (λ f v. Went (GoesOn (record (stack_of s) { frames = f ∷ record (frame_of s.top) { call = Some q.place } ∷ under s })) v))) e
       ∙ ap (λ (o : Option Function). on (entered pr.number o pr.args picks (w.0, with_seen w.1 last)) (λ f v. Went (GoesOn (record (stack_of s) { frames = f ∷ record (frame_of s.top) { call = Some pr.place } ∷ under s })) v)) (sym there)
 
-  module _ (at : Scene) (picks : List ℕ) (ok : AreLawful lk (stack_of s) picks at) (few : length picks < 2 ^ 63) (pr : Prepared) (last : Seen) (went : prepared at.memory lk scene callee args to (seen at.notes) ≡ Went pr last) where
-    asks_are : asked at.memory lk at.thread (stack_of s) (seen at.notes) ≡ storage_asks pr.types
-    asks_are =
-        call_asks_is at.memory at.thread (seen at.notes)
-        ∙ ap (λ (o : Outcome Prepared Seen). prepared_asks look h.due.ready (frame_of s.top) (under s) (stack_of s).payloads callee args to h.next h.unwind h.due.stands o) went
-
+  module _ (at : Scene) (picks : List ℕ) (ok : AreLawful lk (stack_of s) picks at) (pr : Prepared) (few : length pr.args < 2 ^ 63) (last : Seen) (went : prepared at.memory lk scene callee args to (seen at.notes) ≡ Went pr last) where
     lawful : picks_fault [] (ranges_of at.memory) at.thread at.count (storage_asks pr.types) picks ≡ None
-    lawful = ap (λ (asks : List Ask). picks_fault [] (ranges_of at.memory) at.thread at.count asks picks) (sym asks_are) ∙ ok.lawful
-
-    many : length picks ≡ length pr.types
-    many = picks_length [] (ranges_of at.memory) at.thread at.count (storage_asks pr.types) picks lawful ∙ length-map pr.types _
+    lawful = ap (λ (asks : List Ask). picks_fault [] (ranges_of at.memory) at.thread at.count asks picks) (sym (asked_prepared at.memory at.thread (seen at.notes) pr last went)) ∙ ok.lawful
 
     shapes_there : AreShaped pr
     shapes_there = let w = call_shapes at.memory (seen at.notes) in subst (λ (o : Outcome Prepared Seen). IfWent AreShaped o) went w
+
+    one_more : (ts : List Ty) → length ts ≤ length (behind_first ts) + 1
+    one_more [] = omega arith
+    one_more (t ∷ ts) = omega arith
 
     -- THE FUNCTION CAN BEGIN
     pub call_begins : (number : ℕ) → slice_get p.functions number ≡ Some pr.function → kept_types pr.function ≡ Some pr.types → CanBegin look number pr.args picks (at.memory, with_seen (tally_of at) last)
@@ -208,5 +209,5 @@ module _ (look : KeptLook) (s : KeptStack) (callee : Value) (args : List Value) 
       types = pr.types;
       typed = typed;
       shapes = shapes_there;
-      allocates = record { lawful = lawful; uncounted = ok.uncounted; room = (let count = ok.few in let same = many in omega arith) };
+      allocates = record { lawful = lawful; uncounted = ok.uncounted; room = (let count = ok.few in let row = shapes_length (behind_first pr.types) pr.args shapes_there in let one = one_more pr.types in omega arith) };
     }

@@ -1,5 +1,5 @@
 -- The function for which a pointer stands, pointer by pointer.
-use Rattle.std.proofs.Common.{◌≡◌, ℕ, suc, ◌+◌, ◌<◌, true, false, refl, sym, ap, ◌∙◌, List, [], ◌∷◌, length, drop, get_or, Option, None, Some, add-one}
+use Rattle.std.proofs.Common.{◌≡◌, ℕ, suc, ◌+◌, ◌<◌, true, false, refl, sym, ap, ◌∙◌, List, length, drop, get_or, Some, add-one}
 use Rattle.std.specs.Prelude.{if◌then◌else◌}
 use Rattle.std.proofs.Math.Seq.{drop-cons}
 use Rattle.mr_base.specs.declared.byte.Pointer.{Pointer}

@@ -1,5 +1,5 @@
 -- The change of a statement that breaks no rule is never ill-formed.
-use Rattle.std.proofs.Common.{◌≡◌, ℕ, Bool, true, false, List, [], ◌∷◌, Option, None, Some, refl, sym, ap, ◌∙◌, subst}
+use Rattle.std.proofs.Common.{◌≡◌, ℕ, Bool, true, false, List, [], ◌∷◌, Option, None, Some, refl, sym, ◌∙◌, subst}
 use Rattle.std.specs.Prelude.{is_some, if◌then◌else◌}
 use Rattle.std.proofs.lemmas.Option.{same_Some}
 use Rattle.mr_ast.specs.Shaped.{is_shaped_stmt}
@@ -33,7 +33,7 @@ use Rattle.mr_eval.specs.Evaluation.{Surround, place_script, value_script}
 use Rattle.mr_eval.specs.Moves.{behind}
 use Rattle.mr_eval.specs.Sound.{Stands, any_result, around}
 use Rattle.mr_eval.specs.Typed.{loading}
-use Rattle.mr_eval.proofs.ExprSafe.{IsPlace, place_safe, value_safe}
+use Rattle.mr_eval.proofs.ExprSafe.{place_safe, value_safe}
 use Rattle.mr_eval.proofs.OperatorsSafe.{Shaped}
 use Rattle.mr_eval.proofs.SafeLaws.{loading_safe}
 use Rattle.mr_plan.specs.Safety.{IsSafeChange}

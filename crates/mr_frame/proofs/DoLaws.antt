@@ -1,5 +1,5 @@
 -- An intrinsic that is due: what it is given, and how it ends, part by part.
-use Rattle.std.proofs.Common.{◌≡◌, ℕ, ◌+◌, ◌<◌, ◌≤◌, refl, sym, ap, ◌∙◌, subst, Bool, true, List, [], ◌∷◌, ◌++◌, length, map, drop, get_or, Option, None, Some, add-one, append-nil, append_assoc}
+use Rattle.std.proofs.Common.{◌≡◌, ℕ, ◌+◌, ◌<◌, ◌≤◌, refl, sym, ap, ◌∙◌, subst, true, List, [], ◌∷◌, ◌++◌, length, map, drop, get_or, Option, None, Some, add-one, append-nil, append_assoc}
 use Rattle.std.proofs.Math.Seq.{drop-cons}
 use Rattle.std.proofs.lemmas.List.{drop_all}
 use Rattle.std.proofs.lemmas.List.Elements.{All-cons, All-head, All-nil, All-tail}
@@ -8,7 +8,7 @@ use Rattle.std.specs.List.{flat_map, list_all}
 use Rattle.std.specs.Option.{option_map}
 use Rattle.std.specs.Prelude.{All, ◌&&◌}
 use Rattle.mr_ast.specs.Shaped.{is_block, is_optional_place, named_in}
-use Rattle.mr_ast.specs.ShapedValues.{Named, is_shaped_value}
+use Rattle.mr_ast.specs.ShapedValues.{is_shaped_value}
 use Rattle.mr_ast.specs.declared.expr.Place.{Place}
 use Rattle.mr_ast.specs.declared.expr.Value.{Value}
 use Rattle.mr_ast.specs.declared.program.BlockName.{BlockName}
@@ -28,23 +28,22 @@ use Rattle.mr_wf.proofs.ExprWalk.{Judges}
 use Rattle.mr_wf.proofs.NothingLaws.{both_nothing}
 use Rattle.mr_wf.proofs.StmtWalk.{Gives}
 use Rattle.mr_wf.proofs.TypedStmts.{typed_do}
-use Rattle.mr_script.specs.Script.{Broken, Done, Outcome, Refused, Went, ◌>>=◌, on, run}
+use Rattle.mr_script.specs.Script.{Done, Outcome, Refused, Went, ◌>>=◌, on, run}
 use Rattle.mr_script.proofs.Runs.{run_bind}
 use Rattle.mr_eval.specs.Environment.{env_surround}
 use Rattle.mr_eval.specs.Evaluated.{each_valued, placed}
 use Rattle.mr_eval.specs.Evaluation.{Surround, place_script, values_script}
-use Rattle.mr_eval.specs.MemoryQueries.{memory_answer}
 use Rattle.mr_eval.specs.Operators.{or_ill_formed}
 use Rattle.mr_eval.specs.Reads.{ReadScript, Seen, reading}
 use Rattle.mr_eval.specs.World.{World}
 use Rattle.mr_eval.specs.declared.env.Env.{Env}
-use Rattle.mr_frame.specs.Calling.{TypedIn, arg_types}
+use Rattle.mr_frame.specs.Calling.{arg_types}
 use Rattle.mr_frame.specs.Calls.{all_there, both_there}
-use Rattle.mr_frame.specs.Doing.{PlainIn, PlainPlace, ResultIn, given_operands, is_plain, result_placed, result_stored, result_typed, with_types}
+use Rattle.mr_frame.specs.Doing.{PlainIn, ResultIn, given_operands, is_plain, result_placed, result_stored, result_typed, with_types}
 use Rattle.mr_frame.specs.Effects.{argued, finished, stored_in}
 use Rattle.mr_frame.specs.Frames.{Look, Stack, at_block, scene_in, with_top}
 use Rattle.mr_frame.specs.Inside.{InProgram, TermIn}
-use Rattle.mr_frame.specs.Operations.{DueDo, Operands, done_stack, finish, operands_in, result_place, result_type, store_result}
+use Rattle.mr_frame.specs.Operations.{DueDo, Operands, done_stack, result_place, result_type, store_result}
 use Rattle.mr_frame.specs.Sites.{Site}
 use Rattle.mr_frame.proofs.ActedLaws.{memory_bind, on_same}
 use Rattle.mr_frame.proofs.CallSafe.{heads, tails}

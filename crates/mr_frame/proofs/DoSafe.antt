@@ -1,13 +1,11 @@
 -- What an intrinsic of a well-formed program is given is never ill-formed, and so is how it ends; the frames fit again behind it.
-use Rattle.std.proofs.Common.{◌≡◌, ℕ, ◌<◌, refl, sym, ap, ◌∙◌, subst, subst₂, arith, List, [], ◌∷◌, length, Bool, true, false, inl, inr, Option, Some, None, map}
+use Rattle.std.proofs.Common.{◌≡◌, refl, sym, ap, ◌∙◌, subst, subst₂, arith, List, [], ◌∷◌, length, true, inl, inr, Option, Some, None, map}
 use Rattle.std.proofs.lemmas.Option.{same_Some, slice_get_cases}
-use Rattle.std.specs.Prelude.{slice_get, ◌&&◌}
-use Rattle.std.specs.List.{flat_map, list_all}
+use Rattle.std.specs.Prelude.{◌&&◌}
+use Rattle.std.specs.List.{list_all}
 use Rattle.mr_ast.specs.Shaped.{is_block, is_optional_place, is_shaped_term, named_in}
-use Rattle.mr_ast.specs.ShapedValues.{is_shaped_place, is_shaped_value}
+use Rattle.mr_ast.specs.ShapedValues.{is_shaped_value}
 use Rattle.mr_ast.specs.declared.expr.Place.{Place}
-use Rattle.mr_ast.specs.declared.expr.Value.{Value}
-use Rattle.mr_ast.specs.declared.program.BlockName.{BlockName}
 use Rattle.mr_ast.specs.declared.program.Function.{Function}
 use Rattle.mr_ast.specs.declared.program.Intrinsic.{Intrinsic}
 use Rattle.mr_ast.specs.declared.program.Program.{Program}
@@ -20,27 +18,25 @@ use Rattle.mr_layout.proofs.PartsOk.{and_true}
 use Rattle.mr_value.specs.declared.val.Val.{Val}
 use Rattle.mr_value.specs.Shape.{has_shape}
 use Rattle.mr_wf.specs.Blocks.{broken_in_parts, broken_in_result}
-use Rattle.mr_wf.specs.Broken.{broken_in_place, sizes_of, surroundings}
+use Rattle.mr_wf.specs.Broken.{sizes_of, surroundings}
 use Rattle.mr_wf.specs.Intrinsics.{fits_intrinsic}
 use Rattle.mr_wf.specs.Types.{type_of_place, type_of_value}
 use Rattle.mr_wf.specs.Walk.{WellFormed}
 use Rattle.mr_wf.proofs.StmtWalk.{Gives}
 use Rattle.mr_wf.proofs.TypedStmts.{TypedDo, typed_do}
-use Rattle.mr_script.specs.Script.{Done, ◌>>=◌}
 use Rattle.mr_eval.specs.Evaluation.{Surround, place_script, values_script}
 use Rattle.mr_eval.specs.Operators.{or_ill_formed}
-use Rattle.mr_eval.specs.Sound.{IsSafe, Stands, any_result}
+use Rattle.mr_eval.specs.Sound.{IsSafe, any_result}
 use Rattle.mr_eval.proofs.ExprSafe.{place_safe}
 use Rattle.mr_eval.proofs.SafeLaws.{safe_found, safe_then}
 use Rattle.mr_eval.proofs.ShapeOf.{HaveShapes}
 use Rattle.mr_plan.specs.Safety.{IsSafeChange}
 use Rattle.mr_plan.proofs.SafetyLaws.{change_then}
 use Rattle.mr_frame.specs.Calls.{all_there, local_type}
-use Rattle.mr_frame.specs.Changes.{store}
 use Rattle.mr_frame.specs.Fits.{AreCalling, FitFrames, FitsFrame, FitsStack, IsLook}
 use Rattle.mr_frame.specs.Frames.{Frame, Look, Stack, at_block, scene_in}
 use Rattle.mr_frame.specs.Operations.{DueDo, Operands, do_at, do_due, done_stack, finish, next_do, operands, operands_in, result_place, result_type, store_result}
-use Rattle.mr_frame.specs.Sites.{AtStatement, Due, Site, due_of, due_term, site_of, site_of_frames}
+use Rattle.mr_frame.specs.Sites.{AtStatement, Site, due_of, due_term, site_of, site_of_frames}
 use Rattle.mr_frame.proofs.CallSafe.{judged_there, row_safe}
 use Rattle.mr_frame.proofs.ChangesSafe.{store_safe}
 use Rattle.mr_frame.proofs.Frames.{block_shaped, block_unbroken, due_end, due_stmt, fits_block, here, site_is, stands}

@@ -1,18 +1,16 @@
 -- Returns and unwinding of a frame of a well-formed program are never ill-formed, and the frames fit again behind them.
-use Rattle.std.proofs.Common.{◌≡◌, ℕ, ◌<◌, refl, sym, ap, ◌∙◌, subst, arith, List, [], ◌∷◌, length, Bool, true, false, cond, Option, Some, None}
+use Rattle.std.proofs.Common.{◌≡◌, ℕ, ◌<◌, refl, sym, ap, ◌∙◌, subst, arith, List, [], ◌∷◌, length, Bool, true, false, Option, Some, None}
 use Rattle.std.proofs.lemmas.Option.{same_Some}
-use Rattle.std.specs.Prelude.{slice_get, All, ◌==◌, ◌&&◌, if◌then◌else◌}
+use Rattle.std.specs.Prelude.{slice_get, ◌&&◌, if◌then◌else◌}
 use Rattle.std.specs.Option.{option_map}
 use Rattle.std.specs.List.{list_all}
 use Rattle.mr_ast.specs.Shaped.{is_block, is_optional_block, is_shaped_term, named_in}
-use Rattle.mr_ast.specs.ShapedValues.{Named, is_shaped_place, is_shaped_value}
+use Rattle.mr_ast.specs.ShapedValues.{is_shaped_place, is_shaped_value}
 use Rattle.mr_ast.specs.declared.expr.Value.{Value}
 use Rattle.mr_ast.specs.declared.program.BlockName.{BlockName}
 use Rattle.mr_ast.specs.declared.program.Function.{Function}
 use Rattle.mr_ast.specs.declared.program.Local.{Local}
-use Rattle.mr_ast.specs.declared.program.LocalName.{LocalName}
 use Rattle.mr_ast.specs.declared.program.Program.{Program}
-use Rattle.mr_ast.specs.declared.program.Term.{Term}
 use Rattle.mr_ast.specs.declared.program.Term.TheVariants as term
 use Rattle.mr_ast.specs.declared.types.Ty.{Ty}
 use Rattle.mr_base.specs.declared.byte.Pointer.{Pointer}
@@ -26,22 +24,21 @@ use Rattle.mr_wf.specs.Broken.{sizes_of, surroundings}
 use Rattle.mr_wf.specs.Operands.{is_raw}
 use Rattle.mr_wf.specs.Walk.{WellFormed}
 use Rattle.mr_wf.proofs.TypedStmts.{typed_unwind}
-use Rattle.mr_script.specs.Script.{Done, Undefined, ◌>>=◌}
+use Rattle.mr_script.specs.Script.{Undefined, ◌>>=◌}
 use Rattle.mr_eval.specs.Evaluation.{Surround, stored, value_script}
-use Rattle.mr_eval.specs.MemoryQueries.{MemoryScript, reading_part}
+use Rattle.mr_eval.specs.MemoryQueries.{reading_part}
 use Rattle.mr_eval.specs.Operators.{or_ill_formed, pointer_in, pointer_of_value}
-use Rattle.mr_eval.specs.Reads.{ReadScript}
-use Rattle.mr_eval.specs.Sound.{IsSafe, Stands, any_result}
+use Rattle.mr_eval.specs.Sound.{IsSafe, any_result}
 use Rattle.mr_eval.specs.Typed.{loading}
 use Rattle.mr_eval.proofs.ExprSafe.{value_safe}
 use Rattle.mr_eval.proofs.OperatorsSafe.{Shaped, raw_layer}
-use Rattle.mr_eval.proofs.SafeLaws.{loading_safe, safe_found, safe_then}
+use Rattle.mr_eval.proofs.SafeLaws.{loading_safe, safe_found}
 use Rattle.mr_plan.specs.Safety.{IsSafeChange}
 use Rattle.mr_plan.proofs.SafetyLaws.{change_then, read_then}
-use Rattle.mr_frame.specs.Calls.{Targets, free_each, give_result, give_to, goes_to, is_main, leave, local_type, resume, return_from, return_value, targets_at, targets_in, targets_in_function, targets_of, unwind, unwind_in, unwind_to}
+use Rattle.mr_frame.specs.Calls.{Targets, free_each, give_result, give_to, is_main, leave, local_type, resume, return_from, return_value, targets_at, targets_in, targets_in_function, targets_of, unwind, unwind_in, unwind_to}
 use Rattle.mr_frame.specs.Changes.{free_storage, store}
 use Rattle.mr_frame.specs.Fits.{AreCalling, FitsFrame, FitsOnward, IsCalling, IsLook}
-use Rattle.mr_frame.specs.Frames.{Frame, GoesOn, Look, Onward, Stack, at_block, scene_in, with_top}
+use Rattle.mr_frame.specs.Frames.{Frame, GoesOn, Look, Stack, at_block, scene_in, with_top}
 use Rattle.mr_frame.specs.Sites.{Site, has_storage}
 use Rattle.mr_frame.proofs.ChangesSafe.{free_safe, store_safe}
 use Rattle.mr_frame.proofs.Frames.{block_shaped, fits_block, here, keeps, onward_block, stands}

@@ -1,5 +1,5 @@
 -- Lawful picks give each local of a function that begins an allocation of its own, into which its argument can be stored.
-use Rattle.std.proofs.Common.{◌≡◌, ◌≢◌, ℕ, suc, ◌+◌, ◌-◌, ◌<◌, ◌≤◌, refl, sym, ap, ◌∙◌, subst, arith, inl, inr, Bool, true, false, cond, List, [], ◌∷◌, ◌++◌, length, Option, None, Some, Ok}
+use Rattle.std.proofs.Common.{◌≡◌, ◌≢◌, ℕ, suc, ◌+◌, refl, sym, ap, ◌∙◌, subst, arith, inl, inr, Bool, true, false, cond, List, [], ◌∷◌, ◌++◌, length, Option, None, Some, Ok}
 use Rattle.std.proofs.lemmas.Bool.{cases_eq}
 use Rattle.std.proofs.lemmas.List.{length-replicate}
 use Rattle.std.proofs.lemmas.List.Elements.{All-cons, All-head, All-nil, All-tail}
@@ -30,7 +30,7 @@ use Rattle.mr_value.proofs.EncodeLength.{length-encoding_of}
 use Rattle.mr_script.specs.Script.{Outcome, Refused, Went, on}
 use Rattle.mr_eval.proofs.ShapeOf.{HaveShapes}
 use Rattle.mr_eval.specs.MemoryQueries.{next_id, pointer_to}
-use Rattle.mr_eval.specs.Reads.{Seen, accessing, answered, seeing, touching}
+use Rattle.mr_eval.specs.Reads.{accessing, answered, seeing, touching}
 use Rattle.mr_eval.specs.Stores.{stored_typed}
 use Rattle.mr_eval.specs.Tally.{seen_of, with_seen}
 use Rattle.mr_eval.specs.World.{World}

@@ -1,5 +1,5 @@
 -- Whether the types of a call are those of a function, one after another.
-use Rattle.std.proofs.Common.{◌≡◌, ℕ, zero, suc, ◌+◌, ◌<◌, ◌≤◌, refl, sym, ap, ◌∙◌, subst, arith, Bool, true, false, List, [], ◌∷◌, length, map, drop, get_or, Option, None, Some, add-one, length-drop}
+use Rattle.std.proofs.Common.{◌≡◌, ℕ, ◌+◌, ◌<◌, ◌≤◌, refl, sym, ap, ◌∙◌, subst, arith, true, false, List, [], ◌∷◌, length, map, drop, get_or, Some, add-one, length-drop}
 use Rattle.std.proofs.Math.Seq.{drop-cons}
 use Rattle.std.proofs.lemmas.Bool.Decides.{nat_tests}
 use Rattle.std.proofs.lemmas.List.{drop_all, length-map}
@@ -18,8 +18,8 @@ use Rattle.mr_wf.specs.Types.{type_of_place, type_of_value}
 use Rattle.mr_eval.specs.Environment.{env_surround}
 use Rattle.mr_eval.specs.Evaluation.{Surround}
 use Rattle.mr_eval.specs.declared.env.Env.{Env}
-use Rattle.mr_frame.specs.Calling.{ArgsIn, HasLocals, TypedIn, arg_types, written_types}
-use Rattle.mr_frame.specs.Calls.{all_there, both_there, given_types, kept_types, local_type, same_types}
+use Rattle.mr_frame.specs.Calling.{ArgsIn, TypedIn, arg_types, written_types}
+use Rattle.mr_frame.specs.Calls.{both_there, given_types, kept_types, local_type, same_types}
 use Rattle.mr_frame.proofs.BeginSteps.{FirstTyped, first_typed, names_within, row_length}
 use Rattle.mr_frame.proofs.CallSafe.{types_there}
 use Rattle.mr_frame.proofs.TypeRows.{First, first_there, none_there}

@@ -1,14 +1,10 @@
 -- The step of a frame of a well-formed program is never ill-formed, and the frames fit again behind it.
-use Rattle.std.proofs.Common.{◌≡◌, ℕ, suc, ◌<◌, ◌≤◌, refl, sym, ap, ◌∙◌, subst, arith, List, [], ◌∷◌, length, Bool, true, false, cond, inl, inr, Option, Some, None, map}
-use Rattle.std.proofs.lemmas.Option.{same_Some, slice_get_cases}
-use Rattle.std.specs.Prelude.{slice_get, slice_set, All, ◌==◌, ◌&&◌, ◌||◌, not, if◌then◌else◌, replicate}
-use Rattle.std.specs.List.{flat_map, list_all, AllPass}
-use Rattle.mr_ast.specs.Shaped.{is_block, is_optional_block, is_shaped_stmt, is_shaped_target, is_shaped_term, named_in}
-use Rattle.mr_ast.specs.ShapedTypes.{is_shaped_num}
-use Rattle.mr_ast.specs.ShapedValues.{Named, is_shaped_place, is_shaped_value}
-use Rattle.mr_ast.specs.declared.expr.Place.{Place}
+use Rattle.std.proofs.Common.{◌≡◌, ℕ, ◌<◌, refl, sym, subst, arith, List, [], ◌∷◌, length, Bool, true, false, inl, inr, Option, Some, None}
+use Rattle.std.proofs.lemmas.Option.{slice_get_cases}
+use Rattle.std.specs.Prelude.{slice_get, not}
+use Rattle.mr_ast.specs.Shaped.{is_block, is_shaped_stmt, is_shaped_term, named_in}
+use Rattle.mr_ast.specs.ShapedValues.{Named}
 use Rattle.mr_ast.specs.declared.expr.Value.{Value}
-use Rattle.mr_ast.specs.declared.program.Block.{Block}
 use Rattle.mr_ast.specs.declared.program.BlockName.{BlockName}
 use Rattle.mr_ast.specs.declared.program.Function.{Function}
 use Rattle.mr_ast.specs.declared.program.Local.{Local}
@@ -21,35 +17,28 @@ use Rattle.mr_ast.specs.declared.program.Term.TheVariants as term
 use Rattle.mr_ast.specs.declared.types.Num.{Num}
 use Rattle.mr_ast.specs.declared.types.Ty.{Ty}
 use Rattle.mr_base.specs.declared.byte.Pointer.{Pointer}
-use Rattle.mr_layout.specs.EnumRules.{same_num}
-use Rattle.mr_layout.specs.TypeOk.{TypeOk}
-use Rattle.mr_layout.proofs.PartsOk.{and_true}
-use Rattle.mr_value.specs.declared.val.Val.{Val}
-use Rattle.mr_value.specs.Shape.{has_shape}
 use Rattle.mr_wf.specs.Blocks.{broken_in_parts, broken_in_stmt, is_kept}
-use Rattle.mr_wf.specs.Broken.{broken_in_place, broken_in_value, sizes_of, surroundings}
-use Rattle.mr_wf.specs.Types.{type_of_place, type_of_value}
+use Rattle.mr_wf.specs.Broken.{sizes_of, surroundings}
 use Rattle.mr_wf.specs.Walk.{WellFormed}
-use Rattle.mr_wf.proofs.TypedStmts.{typed_dead, typed_live}
-use Rattle.mr_script.specs.Script.{Done, Undefined, IllFormed, ◌>>=◌}
+use Rattle.mr_wf.proofs.TypedStmts.{typed_dead}
+use Rattle.mr_script.specs.Script.{Done, ◌>>=◌}
 use Rattle.mr_eval.specs.Evaluation.{Surround}
 use Rattle.mr_eval.specs.MemoryQueries.{MemoryScript, reading_part}
-use Rattle.mr_eval.specs.Sound.{IsSafe, Stands, any_result, around}
-use Rattle.mr_plan.specs.Machine.{Plan}
+use Rattle.mr_eval.specs.Sound.{IsSafe, Stands, any_result}
 use Rattle.mr_plan.specs.Safety.{IsSafeChange}
 use Rattle.mr_plan.proofs.SafetyLaws.{change_then, read_then}
 use Rattle.mr_frame.specs.Calls.{behind_first, goes_to, local_type}
 use Rattle.mr_frame.specs.Changes.{IsChange, change, free_storage}
 use Rattle.mr_frame.specs.Fits.{AreCalling, FitFrames, FitsFrame, FitsOnward, FitsStack, IsLook, IsSafePlan}
-use Rattle.mr_frame.specs.Frames.{Frame, GoesOn, Look, Onward, Stack, behind_stmt, scene_in, with_storage, with_top}
+use Rattle.mr_frame.specs.Frames.{Frame, Look, Onward, Stack, scene_in, with_storage}
 use Rattle.mr_frame.specs.Operations.{do_at, do_due, next_do}
-use Rattle.mr_frame.specs.Sites.{NoDo, AtStatement, Due, Site, due_of, due_term, site_of, site_of_frames}
-use Rattle.mr_frame.specs.Steps.{FramePlan, dead, frame_plan, live, live_at, next, plain, plan_at, plan_due, statement, terminator}
+use Rattle.mr_frame.specs.Sites.{NoDo, Due, Site, due_of, due_term, site_of, site_of_frames}
+use Rattle.mr_frame.specs.Steps.{dead, frame_plan, live, live_at, next, plain, plan_at, plan_due, statement, terminator}
 use Rattle.mr_frame.specs.Switches.{switched}
 use Rattle.mr_frame.proofs.ChangesSafe.{change_safe, free_safe}
 use Rattle.mr_frame.proofs.CallSafe.{call_safe}
 use Rattle.mr_frame.proofs.EndSafe.{resume_safe, return_safe, unwind_safe}
-use Rattle.mr_frame.proofs.Frames.{block_shaped, block_unbroken, due_end, due_stmt, fits_next, fits_stored, fits_unstored, here, keeps, onward_block, site_is, stands}
+use Rattle.mr_frame.proofs.Frames.{block_shaped, block_unbroken, due_end, due_stmt, fits_next, fits_stored, fits_unstored, here, onward_block, site_is, stands}
 use Rattle.mr_frame.proofs.SwitchSafe.{switch_safe}
 use Rattle.mr_frame.proofs.Places.{all_at, below_of, within}
 

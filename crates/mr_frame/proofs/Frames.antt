@@ -1,12 +1,10 @@
 -- Frames that fit: where they stand, and how they go on.
-use Rattle.std.proofs.Common.{◌≡◌, ℕ, suc, ◌<◌, ◌≤◌, refl, sym, ap, ◌∙◌, subst, arith, List, [], ◌∷◌, length, Bool, true, false, cond, Option, Some, None}
+use Rattle.std.proofs.Common.{◌≡◌, ℕ, ◌<◌, refl, ap, ◌∙◌, arith, List, ◌∷◌, length, Bool, true, false, cond, Some, None}
 use Rattle.std.proofs.Math.ListN.{length-set}
-use Rattle.std.proofs.lemmas.Option.{same_Some}
-use Rattle.std.specs.Prelude.{slice_get, slice_set, All, ◌==◌, ◌&&◌, ◌||◌, not}
+use Rattle.std.specs.Prelude.{slice_get, ◌==◌, ◌||◌}
 use Rattle.std.specs.List.{list_any}
 use Rattle.std.proofs.lemmas.Bool.Decides.{nat_tests}
 use Rattle.mr_ast.specs.Shaped.{ShapedBlock, ShapedFunction, named_in}
-use Rattle.mr_ast.specs.declared.program.Block.{Block}
 use Rattle.mr_ast.specs.declared.program.Function.{Function}
 use Rattle.mr_ast.specs.declared.program.LocalName.{LocalName}
 use Rattle.mr_ast.specs.declared.program.Program.{Program}
@@ -18,10 +16,9 @@ use Rattle.mr_wf.specs.Walk.{WellFormed}
 use Rattle.mr_wf.proofs.UnbrokenLaws.{well_formed_keeps}
 use Rattle.mr_eval.specs.Sound.{Stands}
 use Rattle.mr_frame.specs.Calls.{goes_to, local_type}
-use Rattle.mr_frame.specs.Fits.{AreCalling, FitFrames, FitsFrame, FitsOnward, IsLook}
-use Rattle.mr_frame.specs.Frames.{Frame, GoesOn, Look, Stack, at_block, behind_stmt, scene_in, with_storage, with_top}
-use Rattle.mr_frame.specs.Sites.{AtStatement, Due, Site, due_at, due_of, due_term, keeps_storage, kept_locals, site_in, site_of, site_of_frame, site_of_frames}
-use Rattle.mr_frame.specs.Steps.{next}
+use Rattle.mr_frame.specs.Fits.{AreCalling, FitsFrame, FitsOnward, IsLook}
+use Rattle.mr_frame.specs.Frames.{Frame, Look, Stack, at_block, behind_stmt, scene_in, with_storage}
+use Rattle.mr_frame.specs.Sites.{AtStatement, Site, due_at, due_of, due_term, kept_locals, site_in, site_of_frame, site_of_frames}
 use Rattle.mr_frame.proofs.Places.{all_apart, all_at, all_stay, both_true, equal_test, none_behind, or_false, within}
 
 -- ---- what a function of a well-formed program keeps

@@ -1,5 +1,5 @@
 -- The intrinsic that is due, if one is.
-use Rattle.std.proofs.Common.{◌≡◌, ℕ, refl, sym, ap, ◌∙◌, List, [], ◌∷◌, length, Option, None, Some}
+use Rattle.std.proofs.Common.{◌≡◌, refl, sym, ap, ◌∙◌, List, ◌∷◌, length, Option, None, Some}
 use Rattle.std.proofs.lemmas.List.{length-replicate}
 use Rattle.std.proofs.lemmas.Option.{same_Some}
 use Rattle.std.specs.Option.{option_map}
@@ -24,7 +24,7 @@ use Rattle.mr_frame.specs.Fits.{FitsFrame, IsLook}
 use Rattle.mr_frame.specs.Frames.{Frame, Look, Stack}
 use Rattle.mr_frame.specs.Kept.{IsReady, look_of}
 use Rattle.mr_frame.specs.Operations.{DueDo, do_at, do_due, next_do}
-use Rattle.mr_frame.specs.Sites.{AtDo, AtStatement, Due, NoDo, Site, due_of, due_term, site_of, site_of_frames}
+use Rattle.mr_frame.specs.Sites.{AtStatement, Due, NoDo, Site, due_of, due_term, site_of}
 use Rattle.mr_frame.specs.Standing.{IsAt, StandsAt, due_in}
 use Rattle.mr_frame.proofs.ActedLaws.{site, stack}
 use Rattle.mr_frame.proofs.Frames.{due_end, due_stmt, site_is}

@@ -17,6 +17,7 @@ pub mod EffectLaws
 pub mod EndLaws
 pub mod EndSafe
 pub mod EnterLaws
+mod Examples
 pub mod FittingLaws
 pub mod FrameSafe
 pub mod Frames

@@ -1,28 +1,21 @@
 -- Storage of a local that is given up or renewed.
-use Rattle.std.proofs.Common.{◌≡◌, ◌≢◌, ℕ, ◌+◌, ◌<◌, ◌≤◌, refl, sym, ap, ◌∙◌, subst, arith, List, [], ◌∷◌, length, Option, None, Some, Result, Ok, Err}
-use Rattle.std.specs.Prelude.{slice_get, slice_index_or}
-use Rattle.std.specs.FinMap as fin
+use Rattle.std.proofs.Common.{◌≡◌, ℕ, refl, sym, ap, ◌∙◌, arith, List, [], ◌∷◌, length, None, Some}
+use Rattle.std.specs.Prelude.{slice_index_or}
 use Rattle.mr_ast.specs.declared.program.LocalName.{LocalName}
 use Rattle.mr_ast.specs.declared.program.Stmt.TheVariants as stmt
-use Rattle.mr_base.specs.declared.byte.AllocId.{AllocId}
 use Rattle.mr_base.specs.declared.byte.Kind.TheVariants.{Stack as OnStack}
 use Rattle.mr_base.specs.declared.byte.Pointer.{Pointer}
 use Rattle.mr_base.specs.declared.reason.Reason.{Reason}
 use Rattle.mr_layout.specs.Sizes.{align_of, size_of}
-use Rattle.mr_mem.specs.Memory.{Allocation, Memory, freed, pick_fault, range_fault, ranges_of}
-use Rattle.mr_mem.proofs.Identities.{get_there}
-use Rattle.mr_mem.proofs.RangeLaws.{ranges-freed}
+use Rattle.mr_mem.specs.Memory.{range_fault, ranges_of}
 use Rattle.mr_sched.specs.declared.schedule.Ask.{Ask}
 use Rattle.mr_sched.specs.declared.schedule.Ask.TheVariants.{Address}
-use Rattle.mr_script.specs.Script.{Outcome, Refused, Broken, Went, on}
+use Rattle.mr_script.specs.Script.{Outcome, Refused, Went, on}
 use Rattle.mr_eval.specs.Answers.{seen}
-use Rattle.mr_eval.specs.MemoryQueries.{Allocate, memory_answer, next_id}
-use Rattle.mr_eval.specs.Reads.{answered}
-use Rattle.mr_eval.specs.Tally.{Tally}
-use Rattle.mr_eval.specs.World.{World, tally_of, world_of}
+use Rattle.mr_eval.specs.MemoryQueries.{Allocate, memory_answer}
+use Rattle.mr_eval.specs.World.{World, world_of}
 use Rattle.mr_eval.specs.declared.scene.Scene.{Scene}
 use Rattle.mr_plan.specs.Legal.{picks_fault}
-use Rattle.mr_plan.proofs.FreeLaws.{dead, frees}
 use Rattle.mr_plan.proofs.LegalLaws.{picks_length}
 use Rattle.mr_frame.specs.declared.slot.Slot.{Slot}
 use Rattle.mr_frame.specs.declared.look.Look.{Look as KeptLook}

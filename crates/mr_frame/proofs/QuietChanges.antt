@@ -3,7 +3,6 @@ use Rattle.std.proofs.Common.{List, [], ◌∷◌, Bool, true, false, Option, So
 use Rattle.std.specs.Prelude.{if◌then◌else◌}
 use Rattle.mr_ast.specs.declared.program.Stmt.{Stmt}
 use Rattle.mr_ast.specs.declared.program.Stmt.TheVariants as stmt
-use Rattle.mr_ast.specs.declared.types.Num.{Num}
 use Rattle.mr_ast.specs.declared.types.Tag.{Tag}
 use Rattle.mr_ast.specs.declared.types.Ty.{Ty}
 use Rattle.mr_base.specs.declared.byte.Pointer.{Pointer}
@@ -20,7 +19,7 @@ use Rattle.mr_eval.specs.Reads.{ReadScript}
 use Rattle.mr_eval.specs.Typed.{loading}
 use Rattle.mr_plan.proofs.QuietRuns.{IsQuiet, quiet_then, reading_quiet}
 use Rattle.mr_frame.specs.Calls.{store_each}
-use Rattle.mr_frame.specs.Changes.{Change, change, set_discriminant, store, tags_in, with_type, write, write_found, write_tags}
+use Rattle.mr_frame.specs.Changes.{Change, change, store, tags_in, with_type, write, write_found, write_tags}
 
 -- what follows a reading part
 pub read_quiet : {A B : Type 0} (m : ReadScript A) (f : A → MemoryScript B) → ((x : A) → IsQuiet (f x)) → IsQuiet (reading_part m >>= f)

@@ -1,5 +1,5 @@
 -- Stacks as the code keeps them.
-use Rattle.std.proofs.Common.{◌≡◌, ℕ, zero, suc, ◌-◌, ◌<◌, refl, sym, ap, ◌∙◌, subst, arith, Bool, true, false, List, [], ◌∷◌, ◌++◌, length, map, take, Option, None, Some}
+use Rattle.std.proofs.Common.{◌≡◌, ℕ, zero, suc, ◌-◌, refl, sym, ap, ◌∙◌, arith, Bool, true, false, List, [], ◌∷◌, ◌++◌, length, map, None, Some}
 use Rattle.std.specs.Prelude.{reverse, slice_get, ◌==◌, ◌&&◌}
 use Rattle.std.specs.Bool.{IsFalse, IsTrue}
 use Rattle.std.proofs.lemmas.Bool.Decides.{nat_tests}

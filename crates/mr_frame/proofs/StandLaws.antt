@@ -1,13 +1,9 @@
 -- What is due in a thread stands in its top frame's function, and breaks no rule there.
-use Rattle.std.proofs.Common.{◌≡◌, ℕ, ◌+◌, ◌<◌, ◌≤◌, ◌^◌, refl, sym, ap, ◌∙◌, subst, arith, Bool, true, false, List, [], ◌∷◌, length, inl, inr, Option, None, Some}
+use Rattle.std.proofs.Common.{◌≡◌, ℕ, ◌+◌, ◌<◌, ◌^◌, refl, sym, ap, ◌∙◌, subst, arith, Bool, true, false, List, [], length, inl, inr, Option, None, Some}
 use Rattle.std.proofs.lemmas.Option.{same_Some, slice_get_cases}
-use Rattle.std.specs.Prelude.{All, slice_get, ◌==◌, ◌&&◌, if◌then◌else◌, nat_lt}
+use Rattle.std.specs.Prelude.{All, slice_get, ◌==◌, ◌&&◌, if◌then◌else◌}
 use Rattle.mr_ast.specs.Shaped.{is_shaped_stmt, is_shaped_term, named_in}
-use Rattle.mr_ast.specs.declared.expr.Place.{Place}
-use Rattle.mr_ast.specs.declared.expr.Value.{Value}
-use Rattle.mr_ast.specs.declared.program.BlockName.{BlockName}
 use Rattle.mr_ast.specs.declared.program.Function.{Function}
-use Rattle.mr_ast.specs.declared.program.Intrinsic.{Intrinsic}
 use Rattle.mr_ast.specs.declared.program.Local.{Local}
 use Rattle.mr_ast.specs.declared.program.LocalName.{LocalName}
 use Rattle.mr_ast.specs.declared.program.Program.{Program}
@@ -27,7 +23,7 @@ use Rattle.mr_frame.specs.declared.frame.Next.TheVariants as next
 use Rattle.mr_frame.specs.Fits.{FitsFrame}
 use Rattle.mr_frame.specs.Frames.{Frame}
 use Rattle.mr_frame.specs.Kept.{IsReady, frame_of, below_of as under, look_of}
-use Rattle.mr_frame.specs.Sites.{AtDo, AtStatement, AtTerminator, Due, NoDo, Site, due_at, due_of, due_term}
+use Rattle.mr_frame.specs.Sites.{AtDo, AtStatement, AtTerminator, Due, Site, due_at, due_of, due_term}
 use Rattle.mr_frame.specs.Standing.{Holds, IsAt, IsDue, due_in}
 use Rattle.mr_frame.proofs.Frames.{block_shaped, block_unbroken, due_end, due_stmt, keeps}
 use Rattle.mr_frame.proofs.Places.{all_at, below_of}

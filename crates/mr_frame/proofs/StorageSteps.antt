@@ -18,33 +18,31 @@ use Rattle.mr_ast.specs.declared.program.Stmt.TheVariants as stmt
 use Rattle.mr_ast.specs.declared.program.Term.{Term}
 use Rattle.mr_ast.specs.declared.program.Term.TheVariants as term
 use Rattle.mr_ast.specs.declared.types.Ty.{Ty}
-use Rattle.mr_base.specs.declared.byte.Kind.TheVariants.{Stack as OnStack}
 use Rattle.mr_base.specs.declared.byte.Pointer.{Pointer}
 use Rattle.mr_base.specs.declared.reason.Reason.TheVariants.{MainReturned, SignatureMismatch}
-use Rattle.mr_layout.specs.Sizes.{align_of, size_of}
 use Rattle.mr_value.specs.declared.val.Val.{Val}
 use Rattle.mr_wf.specs.Walk.{WellFormed, begins_regular}
 use Rattle.mr_script.specs.Script.{Done, Undefined, IllFormed, Ask as Asks, ◌>>=◌}
 use Rattle.mr_eval.specs.Evaluation.{place_script, value_script, values_script}
-use Rattle.mr_eval.specs.MemoryQueries.{Allocate, MemoryScript, reading_part}
+use Rattle.mr_eval.specs.MemoryQueries.{MemoryScript, reading_part}
 use Rattle.mr_eval.specs.Operators.{pointer_of_value}
 use Rattle.mr_eval.specs.Reads.{ReadReply, ReadScript}
 use Rattle.mr_plan.specs.Machine.{CreatesNothing, Plan}
 use Rattle.mr_plan.specs.Storage.{Slot}
 use Rattle.mr_plan.proofs.QuietRuns.{IsQuiet}
 use Rattle.mr_plan.proofs.StorageRuns.{Entails, Keeps, entails_same, entails_then, in_place, keeps_from, keeps_then, quiet_first, with_empty, without_first, without_front}
-use Rattle.mr_frame.specs.Calls.{Targets, all_there, allocate_each, behind_first, both_there, call, call_function, call_number, call_plan, callee_of, calling, enter, enter_at, enter_with, first_frame, is_main, storage_asks, free_each, give_result, give_to, given_types, goes_to, kept_types, leave, local_type, resume, return_from, return_value, same_types, store_each, targets_of, unwind, unwind_in, unwind_to, with_each}
+use Rattle.mr_frame.specs.Calls.{Targets, all_there, allocate_each, behind_first, both_there, call, call_function, call_number, call_plan, callee_of, calling, enter, enter_at, enter_with, is_main, storage_asks, free_each, give_result, give_to, given_types, goes_to, kept_types, leave, local_type, resume, return_from, return_value, same_types, store_each, targets_of, unwind, unwind_in, unwind_to, with_each}
 use Rattle.mr_frame.specs.Changes.{change, free_storage, store}
-use Rattle.mr_frame.specs.Frames.{Aborts, EndsThread, Exits, Frame, GoesOn, Look, Onward, Stack, at_block, scene_in, with_storage}
+use Rattle.mr_frame.specs.Frames.{Frame, GoesOn, Look, Onward, Stack, at_block, scene_in}
 use Rattle.mr_frame.specs.Fits.{IsLook}
 use Rattle.mr_frame.specs.Operations.{DueDo, Operands, done_stack, finish, store_result}
 use Rattle.mr_frame.specs.Sites.{AtDo, AtStatement, AtTerminator, Due, Site, due_of, kept_locals, keeps_storage, site_in, site_of, site_of_frame, site_of_frames}
-use Rattle.mr_frame.specs.Steps.{FramePlan, dead, frame_plan, live, live_at, next, plan_at, plan_due, statement, terminator}
+use Rattle.mr_frame.specs.Steps.{dead, frame_plan, live, live_at, next, plan_at, plan_due, statement, terminator}
 use Rattle.mr_frame.specs.Storage.{frame_slots, onward_slots, slot_of, slots_in, slots_with}
 use Rattle.mr_frame.specs.Switches.{switched}
 use Rattle.mr_frame.proofs.CallSafe.{heads, tails}
 use Rattle.mr_frame.proofs.DoSafe.{DoStands}
-use Rattle.mr_frame.proofs.QuietChanges.{change_quiet, read_quiet, store_quiet, stores_quiet}
+use Rattle.mr_frame.proofs.QuietChanges.{change_quiet, store_quiet, stores_quiet}
 use Rattle.mr_plan.proofs.QuietRuns.{reading_quiet}
 
 -- ---- rooms by position

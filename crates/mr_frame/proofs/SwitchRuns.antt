@@ -19,7 +19,7 @@ use Rattle.mr_eval.specs.Operators.{or_ill_formed}
 use Rattle.mr_eval.specs.Reads.{Seen, reading}
 use Rattle.mr_eval.specs.Scalars.{number_of, scalar_as, scalar_layer}
 use Rattle.mr_frame.specs.Effects.{chosen}
-use Rattle.mr_frame.specs.Switches.{first_case, number_as, number_layer, switched}
+use Rattle.mr_frame.specs.Switches.{first_case, number_as, number_layer}
 
 module _ (m : Memory) (s : Surround) (value : Value) (cases : List (Num × BlockName)) (other : BlockName) (seen : Seen) where
   -- the block for a number, where there is one

@@ -1,5 +1,5 @@
 -- The values of a terminator that breaks no rule: they stand in the function, and have types that fit.
-use Rattle.std.proofs.Common.{◌≡◌, Bool, true, List, [], ◌∷◌, Option, None, Some, refl, sym, ap, ◌∙◌, subst}
+use Rattle.std.proofs.Common.{◌≡◌, Bool, true, List, [], Some, refl, ap, ◌∙◌}
 use Rattle.std.specs.Prelude.{◌&&◌, ◌||◌}
 use Rattle.std.specs.List.{list_all}
 use Rattle.mr_ast.specs.Shaped.{is_block, is_shaped_target, named_in}
@@ -11,12 +11,10 @@ use Rattle.mr_ast.specs.declared.program.BlockName.{BlockName}
 use Rattle.mr_ast.specs.declared.program.Function.{Function}
 use Rattle.mr_ast.specs.declared.program.Term.TheVariants as term
 use Rattle.mr_layout.proofs.PartsOk.{and_true}
-use Rattle.mr_wf.specs.Blocks.{fits_switch, fits_switch_layer}
 use Rattle.mr_wf.specs.Broken.{broken_in_value, surroundings}
-use Rattle.mr_wf.specs.Operands.{is_bool_layer, is_fn_ptr, is_raw, is_scalar_number}
-use Rattle.mr_wf.specs.Types.{integer_in, type_of_value}
+use Rattle.mr_wf.specs.Operands.{is_fn_ptr, is_raw, is_scalar_number}
+use Rattle.mr_wf.specs.Types.{type_of_value}
 use Rattle.mr_wf.proofs.TypedStmts.{typed_switch, typed_unwind}
-use Rattle.mr_eval.specs.Environment.{env_surround}
 use Rattle.mr_eval.specs.declared.env.Env.{Env}
 use Rattle.mr_frame.specs.Inside.{InProgram, TermIn, ValueAt, is_address}
 use Rattle.mr_frame.proofs.InsideLaws.{scene_locals}

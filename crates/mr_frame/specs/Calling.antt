@@ -1,11 +1,11 @@
 -- What a call comes to before it needs a pick, and what the code of calls answers.
-use Rattle.std.specs.Prelude.{◌≡◌, ℕ, ◌<◌, All, if◌then◌else◌, List, [], ◌∷◌, length, map, Option, None, Some, slice_get, Result, Ok, Err}
+use Rattle.std.specs.Prelude.{◌≡◌, ℕ, ◌<◌, All, if◌then◌else◌, List, length, map, Option, None, Some, slice_get, Result, Ok, Err}
 use Rattle.mr_ast.specs.declared.expr.Place.{Place}
 use Rattle.mr_ast.specs.declared.expr.Value.{Value}
 use Rattle.mr_ast.specs.declared.program.Function.{Function}
 use Rattle.mr_ast.specs.declared.program.LocalName.{LocalName}
 use Rattle.mr_ast.specs.declared.program.Program.{Program}
-use Rattle.mr_ast.specs.declared.types.Ty.{Ty, out-Ty}
+use Rattle.mr_ast.specs.declared.types.Ty.{Ty}
 use Rattle.mr_base.specs.declared.byte.Pointer.{Pointer}
 use Rattle.mr_base.specs.declared.reason.Reason.TheVariants.{NotAFunction, SignatureMismatch}
 use Rattle.mr_mem.specs.Memory.{Memory}
@@ -14,7 +14,6 @@ use Rattle.mr_mem.specs.declared.fault.Fault.TheVariants as fault
 use Rattle.mr_value.specs.declared.val.Val.{Val}
 use Rattle.mr_script.specs.Script.{Broken, Outcome, Refused, Went, on}
 use Rattle.mr_wf.specs.Types.{type_of_value}
-use Rattle.mr_wf.specs.Walk.{WellFormed}
 use Rattle.mr_eval.specs.Environment.{PlaceIn, ValueIn, env_surround}
 use Rattle.mr_eval.specs.Evaluated.{each_valued, placed}
 use Rattle.mr_eval.specs.Evaluation.{Surround}

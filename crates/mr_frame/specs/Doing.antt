@@ -1,5 +1,5 @@
 -- What the code of intrinsics' operands and ends needs and answers.
-use Rattle.std.specs.Prelude.{◌≡◌, Bool, true, ◌||◌, List, [], ◌∷◌, Option, None, Some}
+use Rattle.std.specs.Prelude.{◌≡◌, Bool, true, ◌||◌, List, Option, None, Some}
 use Rattle.mr_ast.specs.declared.expr.Place.{Place}
 use Rattle.mr_ast.specs.declared.expr.Value.{Value}
 use Rattle.mr_ast.specs.declared.program.Intrinsic.{Intrinsic}
@@ -13,8 +13,8 @@ use Rattle.mr_value.specs.declared.val.Val.{Val}
 use Rattle.mr_value.specs.Shape.{has_shape}
 use Rattle.mr_script.specs.Script.{Broken, Outcome, Went, on, run}
 use Rattle.mr_wf.specs.Operands.{is_bool, is_fn_ptr, is_integer, is_raw}
-use Rattle.mr_wf.specs.Types.{type_of_place, type_of_value}
-use Rattle.mr_eval.specs.Environment.{PlaceIn, env_surround}
+use Rattle.mr_wf.specs.Types.{type_of_place}
+use Rattle.mr_eval.specs.Environment.{PlaceIn}
 use Rattle.mr_eval.specs.Evaluated.{each_valued, placed}
 use Rattle.mr_eval.specs.Evaluation.{Surround}
 use Rattle.mr_eval.specs.MemoryQueries.{memory_answer}

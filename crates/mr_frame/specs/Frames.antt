@@ -1,5 +1,5 @@
 -- Frames and stacks of frames, and what each step looks up. (MiniRust, lang: stack frames.)
-use Rattle.std.specs.Prelude.{ℕ, suc, List, [], ◌∷◌, slice_set, Option, None, Some}
+use Rattle.std.specs.Prelude.{ℕ, suc, List, ◌∷◌, slice_set, Option, None}
 use Rattle.mr_ast.specs.declared.program.Function.{Function}
 use Rattle.mr_ast.specs.declared.program.Program.{Program}
 use Rattle.mr_base.specs.declared.byte.Pointer.{Pointer}

@@ -1,5 +1,5 @@
 -- What the code keeps of frames and stacks, without where it lies.
-use Rattle.std.specs.Prelude.{◌≡◌, ℕ, List, [], ◌∷◌, length, map, reverse}
+use Rattle.std.specs.Prelude.{◌≡◌, List, [], ◌∷◌, length, map, reverse}
 use Rattle.mr_layout.specs.Cached.{IsCacheOf}
 use Rattle.mr_wf.specs.Walk.{WellFormed}
 use Rattle.mr_frame.specs.declared.flow.Flow.{Flow}

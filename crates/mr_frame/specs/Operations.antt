@@ -1,5 +1,5 @@
 -- The steps that are intrinsics: what they are given, and how they end. The operation between is no frame's. (MiniRust, lang: intrinsics.)
-use Rattle.std.specs.Prelude.{ℕ, List, [], ◌∷◌, map, Option, None, Some}
+use Rattle.std.specs.Prelude.{List, map, Option, None, Some}
 use Rattle.mr_ast.specs.declared.expr.Place.{Place}
 use Rattle.mr_ast.specs.declared.expr.Value.{Value}
 use Rattle.mr_ast.specs.declared.program.BlockName.{BlockName}
@@ -16,7 +16,7 @@ use Rattle.mr_eval.specs.Reads.{ReadScript}
 use Rattle.mr_frame.specs.Calls.{all_there}
 use Rattle.mr_frame.specs.Changes.{Change, store}
 use Rattle.mr_frame.specs.Frames.{Look, Stack, at_block, scene_in, with_top}
-use Rattle.mr_frame.specs.Sites.{Due, AtStatement, AtDo, AtTerminator, Site, due_of, site_of}
+use Rattle.mr_frame.specs.Sites.{Due, AtDo, Site, due_of, site_of}
 
 -- what an intrinsic is given: the place for its result and the type of this, and the arguments with their types
 pub record Operands : Type 0 where

@@ -1,5 +1,5 @@
 -- Where a thread stands, and what it does next.
-use Rattle.std.specs.Prelude.{ℕ, Bool, ◌==◌, ◌&&◌, List, [], ◌∷◌, length, Option, None, Some, slice_get, is_some, if◌then◌else◌}
+use Rattle.std.specs.Prelude.{Bool, ◌==◌, ◌&&◌, List, [], ◌∷◌, length, Option, None, Some, slice_get, is_some, if◌then◌else◌}
 use Rattle.std.specs.Option.{option_and_then}
 use Rattle.std.specs.List.{list_all}
 use Rattle.mr_ast.specs.declared.expr.Place.{Place}

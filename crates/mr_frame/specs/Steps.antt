@@ -16,7 +16,7 @@ use Rattle.mr_eval.specs.MemoryQueries.{Allocate, MemoryScript, reading_part}
 use Rattle.mr_eval.specs.Reads.{ReadScript}
 use Rattle.mr_plan.specs.Machine.{Plan, CreatesNothing}
 use Rattle.mr_frame.specs.Calls.{call, goes_to, resume, return_from, stop, unwind}
-use Rattle.mr_frame.specs.Changes.{Change, change, free_storage}
+use Rattle.mr_frame.specs.Changes.{change, free_storage}
 use Rattle.mr_frame.specs.Frames.{Frame, Look, Stack, Onward, GoesOn, Exits, Aborts, behind_stmt, scene_in, with_storage, with_top}
 use Rattle.mr_frame.specs.Sites.{Due, AtStatement, AtDo, AtTerminator, Site, due_of, site_of}
 use Rattle.mr_frame.specs.Switches.{switched}

@@ -1,7 +1,7 @@
 -- What the arguments of an intrinsic are, where their types fit it.
 use Rattle.std.proofs.Common.{◌≡◌, ℕ, ◌<◌, ◌*◌, ◌^◌, arith, refl, subst, sym, ap, ◌∙◌, List, [], ◌∷◌, Option, Some, None, Bool, true, false}
 use Rattle.std.proofs.lemmas.Option.{same_Some}
-use Rattle.std.specs.Prelude.{◌&&◌, is_some, nat_le, nat_lt, slice_get}
+use Rattle.std.specs.Prelude.{◌&&◌, is_some, nat_le, slice_get}
 use Rattle.mr_ast.specs.Integers.{int_size}
 use Rattle.mr_ast.specs.declared.program.Intrinsic.{Intrinsic}
 use Rattle.mr_ast.specs.declared.program.Intrinsic.TheVariants as intrinsic
@@ -239,7 +239,7 @@ create_lock_takes args (a ∷ types) place fit = absurd (let e = fit.fitting in 
 
 -- ---- atomics
 
-pub record TakesStore (args : List Val) (types : List Ty) (place : Option Ty) : Type 0 where
+pub record TakesStore (args : List Val) (types : List Ty) : Type 0 where
   pub pointer : Pointer
   pub int : IntType
   pub bits : ℕ
@@ -248,9 +248,8 @@ pub record TakesStore (args : List Val) (types : List Ty) (place : Option Ty) : 
   pub typed : types ≡ first ∷ ty.Int int ∷ []
   pub small : bits < 2 ^ (8 * int_size int)
   pub shape : has_shape (ty.Int int) (val.Int bits) ≡ true
-  pub gives : place ≡ None
 
-pub atomic_store_takes : (args : List Val) (types : List Ty) (place : Option Ty) → Fits intrinsic.AtomicStore args types place → TakesStore args types place
+pub atomic_store_takes : (args : List Val) (types : List Ty) (place : Option Ty) → Fits intrinsic.AtomicStore args types place → TakesStore args types
 atomic_store_takes args [] place fit = absurd (let e = fit.fitting in cc)
 atomic_store_takes args (a ∷ []) place fit = absurd (let e = fit.fitting in cc)
 atomic_store_takes args (a ∷ b ∷ []) place fit =
@@ -269,9 +268,14 @@ atomic_store_takes args (a ∷ b ∷ []) place fit =
       typed = ap (λ t. a ∷ t ∷ []) int.is;
       small = n.small;
       shape = (λ i. has_shape (sym int.is i) (sym n.is i)) ∙ two.second;
-      gives = no_result place q.1;
     }
 atomic_store_takes args (a ∷ b ∷ d ∷ types) place fit = absurd (let e = fit.fitting in cc)
+
+pub atomic_store_gives : (args : List Val) (types : List Ty) (place : Option Ty) → Fits intrinsic.AtomicStore args types place → place ≡ None
+atomic_store_gives args [] place fit = absurd (let e = fit.fitting in cc)
+atomic_store_gives args (a ∷ []) place fit = absurd (let e = fit.fitting in cc)
+atomic_store_gives args (a ∷ b ∷ []) place fit = no_result place (and_true (is_atomic b) (gives_nothing place) (and_true (is_raw a) (is_atomic b && gives_nothing place) fit.fitting).1).1
+atomic_store_gives args (a ∷ b ∷ d ∷ types) place fit = absurd (let e = fit.fitting in cc)
 
 pub record TakesLoad (args : List Val) (place : Option Ty) : Type 0 where
   pub pointer : Pointer

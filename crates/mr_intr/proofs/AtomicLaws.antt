@@ -1,16 +1,11 @@
 -- Atomic accesses to integers, and what a read and a change in one comes to.
-use Rattle.std.proofs.Common.{◌≡◌, ℕ, ◌*◌, ◌^◌, ◌<◌, refl, subst, sym, ap, ◌∙◌, List, [], length, Option, Some, None, Bool, true, IsTrue, Result, Ok, Err}
+use Rattle.std.proofs.Common.{◌≡◌, ℕ, ◌*◌, ◌^◌, ◌<◌, refl, subst, sym, ap, ◌∙◌, Option, Some, None, Ok}
 use Rattle.std.proofs.lemmas.Option.{same_Some}
 use Rattle.std.specs.Prelude.{option_map}
 use Rattle.mr_ast.specs.Integers.{bits_of, int_size}
 use Rattle.mr_ast.specs.declared.types.IntType.{IntType}
 use Rattle.mr_ast.specs.declared.types.IntType.TheVariants.{U8, U16, U32, U64, U128, I8, I16, I32, I64, I128}
-use Rattle.mr_ast.specs.declared.types.Ty.{Ty}
 use Rattle.mr_ast.specs.declared.types.Ty.TheVariants as ty
-use Rattle.mr_base.specs.declared.byte.AbstractByte.{AbstractByte}
-use Rattle.mr_base.specs.declared.byte.Pointer.{Pointer}
-use Rattle.mr_base.specs.declared.reason.Reason.{Reason}
-use Rattle.mr_layout.specs.Sizes.{size_of}
 use Rattle.mr_layout.specs.TypeOk.{TypeOk}
 use Rattle.mr_layout.proofs.BrokenLaws.{broken_int}
 use Rattle.mr_layout.proofs.SizeLaws.{size_int}
@@ -19,16 +14,12 @@ use Rattle.mr_intops.specs.declared.arithmetic.ArithOp.{ArithOp}
 use Rattle.mr_intops.proofs.Within.{arith_of-within}
 use Rattle.mr_value.specs.declared.val.Val.{Val, out-Val}
 use Rattle.mr_value.specs.declared.val.Val.TheVariants as val
-use Rattle.mr_value.specs.Decode.{decoded, is_scalar}
+use Rattle.mr_value.specs.Decode.{decoded}
 use Rattle.mr_value.specs.Encode.{encoding_of}
 use Rattle.mr_value.specs.Numbers.{Bytes, number_of}
-use Rattle.mr_value.specs.Shape.{has_shape}
 use Rattle.mr_value.proofs.DecodeLaws.{decode_int}
-use Rattle.mr_value.proofs.DecodeShape.{number_fits}
 use Rattle.mr_value.proofs.EncodeLaws.{encode_int}
-use Rattle.mr_value.proofs.ShapeLaws.{has_int}
 use Rattle.mr_eval.specs.MemoryQueries.{number_bytes}
-use Rattle.mr_intr.specs.Atomics.{numbered}
 use Rattle.mr_intr.specs.Operations.{number_in}
 use Rattle.mr_intr.proofs.OperatedLaws.{int_number}
 
@@ -77,4 +68,3 @@ pub int_bytes_are : (i : IntType) (n : ℕ) → encoding_of (ty.Int i) (val.Int 
 int_bytes_are i n = encode_int i n
 
 pub ruleset number_laws = (int_ok, size_int)
-pub ruleset load_laws = (int_ok, size_int)

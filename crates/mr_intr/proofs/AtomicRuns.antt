@@ -1,7 +1,8 @@
 -- What atomic accesses come to, by the loads and stores that the code makes.
-use Rattle.std.proofs.Common.{◌≡◌, ℕ, ◌*◌, ◌^◌, ◌<◌, refl, subst, sym, ap, ap₂, ◌∙◌, List, [], ◌∷◌, length, Option, Some, None, Bool, true, Result, Ok, Err}
-use Rattle.mr_base.proofs.Comparisons.{eq_test}
+use Rattle.std.proofs.Common.{◌≡◌, ℕ, ◌*◌, ◌^◌, ◌<◌, refl, subst, sym, ap, ◌∙◌, List, [], ◌∷◌, Option, Some, None, Bool, true, Result, Ok, Err}
+use Rattle.mr_base.proofs.Comparisons.{eq_test, lt_test}
 use Rattle.std.specs.Prelude.{if◌then◌else◌, slice_get}
+use Rattle.std.proofs.lemmas.Option.{same_Some}
 use Rattle.std.specs.Result.{IsErrAnd}
 use Rattle.mr_ast.specs.Integers.{int_size}
 use Rattle.mr_ast.specs.declared.program.Intrinsic.{Intrinsic}
@@ -12,7 +13,7 @@ use Rattle.mr_ast.specs.declared.types.Ty.TheVariants as ty
 use Rattle.mr_base.specs.declared.byte.AbstractByte.{AbstractByte}
 use Rattle.mr_base.specs.declared.byte.Pointer.{Pointer}
 use Rattle.mr_base.specs.declared.reason.Reason.{Reason}
-use Rattle.mr_layout.specs.Sizes.{align_of, size_of}
+use Rattle.mr_layout.specs.Sizes.{align_of}
 use Rattle.mr_layout.proofs.AlignLaws.{align_int}
 use Rattle.mr_layout.proofs.SizeLaws.{size_int}
 use Rattle.mr_mem.specs.Memory.{Memory, written}
@@ -21,6 +22,7 @@ use Rattle.mr_mem.specs.declared.fault.Fault.{Fault}
 use Rattle.mr_mem.specs.declared.fault.Fault.TheVariants as fault
 use Rattle.mr_value.specs.declared.val.Val.{Val}
 use Rattle.mr_value.specs.declared.val.Val.TheVariants as val
+use Rattle.mr_value.proofs.ShapeLaws.{has_int}
 use Rattle.mr_value.specs.Encode.{encoding_of}
 use Rattle.mr_value.specs.Numbers.{Bytes, number_of}
 use Rattle.mr_script.specs.Script.{Done, Ask, ◌>>=◌, Outcome, Broken, Went, Refused, on, run}
@@ -36,8 +38,11 @@ use Rattle.mr_sync.specs.Tables.{Tables}
 use Rattle.mr_plan.specs.Notes.{Notes}
 use Rattle.mr_plan.specs.Queries.{OfMemory, Shared, answer, in_shared, memory_part}
 use Rattle.mr_intr.specs.Atomics.{IsFetch, number_read, number_written, numbered}
-use Rattle.mr_intr.specs.Effects.{CanTake, Does, IsDone, begun, notes_in, operated}
+use Rattle.mr_intr.specs.Effects.{Does, Fits, FitsPlace, IsDone, Prints, begun, notes_in, operated}
 use Rattle.mr_intr.specs.Operations.{exchanged, fetched, found, int_in, loaded, modify}
+use Rattle.mr_intr.specs.declared.effect.Effect.{Effect}
+use Rattle.mr_intr.proofs.Arguments.{TakesStore, atomic_load_takes, exchange_takes, fetch_takes, one_read, three_read, two_read}
+use Rattle.mr_intr.proofs.AtomicLaws.{same_bits}
 use Rattle.mr_intr.proofs.OperatedLaws.{asked, int_number, ptr_pointer, quiet}
 
 -- ---- faults that are handed on
@@ -204,3 +209,72 @@ module _ (types : List Ty) (picks : List ℕ) (p : Pointer) (int : IntType) wher
         → Does intrinsic.AtomicLoad (Err f) (operated intrinsic.AtomicLoad (val.Ptr p ∷ []) types (Some (ty.Int int)) picks (begun s x)) new x out out
     load_fault (fault.Undefined r) new out l h = (operated_load ∙ ap read_in h, refl)
     load_fault fault.Memory new out l h = tt
+
+-- ---- with the arguments as they are read
+
+same_int : (a b : IntType) → Some (ty.Int a) ≡ Some (ty.Int b) → a ≡ b
+same_int a b e = same_Some a b (sym (int_there a) ∙ ap (λ (t : Ty). int_in (out-Ty t)) (same_Some (ty.Int a) (ty.Int b) e) ∙ int_there b)
+
+-- a number of the type of the place
+pub place_value : (place : Option Ty) (int : IntType) (n : ℕ) (e : Effect) → place ≡ Some (ty.Int int) → e ≡ quiet (Some (val.Int n)) → n < 2 ^ (8 * int_size int) → FitsPlace place e.value
+place_value place int n e is q lt =
+    subst (λ (o : Option Ty). FitsPlace o e.value) (sym is) (val.Int n, ap (λ (f : Effect). f.value) q, has_int int n ∙ lt_test n (2 ^ (8 * int_size int)) lt)
+
+pub fetch_prints : (op : Intrinsic) (out : List ℕ) → IsFetch op → Prints op [] out out
+fetch_prints intrinsic.FetchAdd out is = (refl, refl)
+fetch_prints intrinsic.FetchSub out is = (refl, refl)
+fetch_prints intrinsic.FetchAnd out is = (refl, refl)
+fetch_prints intrinsic.FetchOr out is = (refl, refl)
+fetch_prints intrinsic.FetchXor out is = (refl, refl)
+fetch_prints _ out is = absurd is
+
+-- a fault that is handed on
+pub does_handed : (op : Intrinsic) (r : Result Effect Fault) (f : Fault) (o : Outcome (Option Val) (Shared × Notes)) (s : Scene) (x : Tables) (out : List ℕ) → IsErrAnd r (λ e. e ≡ f) → Does op (Err f) o s x out out → Does op r o s x out out
+does_handed op (Ok e) f o s x out is h = absurd is
+does_handed op (Err e) f o s x out is h = subst (λ g. Does op (Err g) o s x out out) (sym is) h
+
+module _ (args : List Val) (types : List Ty) (place : Option Ty) (picks : List ℕ) (w : Shared × Notes) (p : Pointer) (at : slice_get args 0 ≡ Some (val.Ptr p)) where
+  pub load_read : (int : IntType) (kinds : List Ty) → Fits intrinsic.AtomicLoad args kinds place → place ≡ Some (ty.Int int)
+      → operated intrinsic.AtomicLoad args types place picks w ≡ operated intrinsic.AtomicLoad (val.Ptr p ∷ []) types (Some (ty.Int int)) picks w
+  load_read int kinds fits there =
+      let takes = atomic_load_takes args kinds place fits in
+      let is = one_read args (val.Ptr takes.pointer) (val.Ptr p) takes.is at in
+      (λ i. operated intrinsic.AtomicLoad (is i) types (there i) picks w)
+
+  pub store_read : (takes : TakesStore args types)
+      → operated intrinsic.AtomicStore args types place picks w ≡ asked (Write true p (encoding_of (ty.Int takes.int) (val.Int takes.bits)) (align_of (ty.Int takes.int))) (λ u. None) w
+  store_read takes =
+      let second = ap (λ (l : List Val). slice_get l 1) takes.is in
+      let is = two_read args (val.Ptr takes.pointer) (val.Int takes.bits) (val.Ptr p) (val.Int takes.bits) takes.is at second in
+      (λ i. operated intrinsic.AtomicStore (is i) (takes.typed i) place picks w) ∙ operated_store types picks p takes.int takes.bits takes.first place w
+
+  module _ (int : IntType) (kinds : List Ty) (there : place ≡ Some (ty.Int int)) where
+    pub exchange_read : (expected new : ℕ) → Fits intrinsic.CompareExchange args kinds place → slice_get args 1 ≡ Some (val.Int expected) → slice_get args 2 ≡ Some (val.Int new)
+        → operated intrinsic.CompareExchange args types place picks w ≡ asked (Modify p (int_size int) (exchanged expected new)) (λ n. Some (val.Int n)) w
+    exchange_read expected new fits second third =
+        let takes = exchange_takes args kinds place fits in
+        let is = three_read args (val.Ptr takes.pointer) (val.Int takes.expected) (val.Int takes.new) (val.Ptr p) (val.Int expected) (val.Int new) takes.is at second third in
+        (λ i. operated intrinsic.CompareExchange (is i) types (there i) picks w) ∙ operated_exchange types picks p int expected new w
+
+    pub fetch_read : (op : Intrinsic) (by : ℕ) → IsFetch op → Fits op args kinds place → slice_get args 1 ≡ Some (val.Int by)
+        → operated op args types place picks w ≡ asked (Modify p (int_size int) (fetched op int by)) (λ n. Some (val.Int n)) w
+    fetch_read op by of fits second =
+        let takes = fetch_takes op args kinds place of fits in
+        let is = two_read args (val.Ptr takes.pointer) (val.Int takes.by) (val.Ptr p) (val.Int by) takes.is at second in
+        (λ i. operated op (is i) types (there i) picks w) ∙ operated_fetch types picks p int op by w of
+
+-- the numbers that are put are of the type
+module _ (args : List Val) (kinds : List Ty) (place : Option Ty) (int : IntType) (n : ℕ) (there : place ≡ Some (ty.Int int)) where
+  small_as : (i : IntType) (k at : ℕ) → slice_get args at ≡ Some (val.Int n) → slice_get args at ≡ Some (val.Int k) → place ≡ Some (ty.Int i) → k < 2 ^ (8 * int_size i) → n < 2 ^ (8 * int_size int)
+  small_as i k at read is gives lt =
+      let same = same_bits k n (same_Some (val.Int k) (val.Int n) (sym is ∙ read)) in
+      let P : ℕ → IntType → Type 0 = λ a j. a < 2 ^ (8 * int_size j) in
+      subst (P n) (same_int i int (sym gives ∙ there)) (subst (λ a. P a i) same lt)
+
+  pub new_small : Fits intrinsic.CompareExchange args kinds place → slice_get args 2 ≡ Some (val.Int n) → n < 2 ^ (8 * int_size int)
+  new_small fits read =
+      let takes = exchange_takes args kinds place fits in small_as takes.int takes.new 2 read (ap (λ (l : List Val). slice_get l 2) takes.is) takes.gives takes.small
+
+  pub by_small : (op : Intrinsic) → IsFetch op → Fits op args kinds place → slice_get args 1 ≡ Some (val.Int n) → n < 2 ^ (8 * int_size int)
+  by_small op of fits read =
+      let takes = fetch_takes op args kinds place of fits in small_as takes.int takes.by 1 read (ap (λ (l : List Val). slice_get l 1) takes.is) takes.gives takes.small

@@ -1,23 +1,21 @@
 -- An allocation on the heap, by the reason against it.
-use Rattle.std.proofs.Common.{◌≡◌, ℕ, ◌<◌, ◌≤◌, ◌+◌, ◌-◌, ◌^◌, refl, subst, sym, ap, ◌∙◌, arith, List, [], ◌∷◌, get_or, Option, Some, None, Bool, true, false}
+use Rattle.std.proofs.Common.{◌≡◌, ℕ, ◌<◌, ◌+◌, ◌-◌, ◌^◌, refl, subst, ap, ◌∙◌, arith, List, [], ◌∷◌, get_or, Option, Some, None, Bool, true, false}
 use Rattle.std.specs.Prelude.{if◌then◌else◌, nat_lt, slice_get}
 use Rattle.std.proofs.lemmas.Bool.Decides.{nat_tests}
-use Rattle.std.specs.FinMap as fin
 use Rattle.mr_ast.specs.declared.program.Intrinsic.TheVariants as intrinsic
 use Rattle.mr_ast.specs.declared.types.Ty.{Ty}
 use Rattle.mr_base.specs.declared.byte.Kind.TheVariants.{Heap}
 use Rattle.mr_base.specs.declared.reason.Reason.{Reason}
 use Rattle.mr_base.specs.declared.reason.Reason.TheVariants.{BadAlign, SizeTooLarge}
 use Rattle.mr_base.specs.declared.thread.Status.{Status}
-use Rattle.mr_mem.specs.Memory.{IsPowerOfTwo, Ranges, pick_fault, range_fault, ranges_of, with_range}
+use Rattle.mr_mem.specs.Memory.{IsPowerOfTwo, Ranges, range_fault, ranges_of, with_range}
 use Rattle.mr_mem.specs.declared.fault.PickFault.{PickFault}
 use Rattle.mr_mem.specs.declared.fault.PickFault.TheVariants.{BadAddress, Reused}
 use Rattle.mr_sched.specs.declared.schedule.Ask.TheVariants.{Address}
 use Rattle.mr_value.specs.declared.val.Val.{Val}
 use Rattle.mr_value.specs.declared.val.Val.TheVariants as val
 use Rattle.mr_script.specs.Script.{Done, Undefined, Ask as Asks, ◌>>=◌, Refused, run}
-use Rattle.mr_eval.specs.MemoryQueries.{Allocate, Free, next_id}
-use Rattle.mr_eval.specs.World.{tally_of}
+use Rattle.mr_eval.specs.MemoryQueries.{Allocate, Free}
 use Rattle.mr_eval.specs.declared.scene.Scene.{Scene}
 use Rattle.mr_sync.specs.Tables.{Tables}
 use Rattle.mr_plan.specs.Legal.{address_fault, creation_fault, needs_fault, picks_fault}

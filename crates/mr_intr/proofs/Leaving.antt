@@ -1,21 +1,19 @@
 -- What an intrinsic's operation leaves, on the way to what the next state keeps.
-use Rattle.std.proofs.Common.{◌≡◌, ◌≢◌, ℕ, ◌<◌, refl, subst, sym, ap, ◌∙◌, arith, List, [], ◌∷◌, length, Option, Some, None, Bool, true, false, Result, Ok, Err}
-use Rattle.std.proofs.lemmas.Option.{same_Some, slice_get_within}
+use Rattle.std.proofs.Common.{◌≡◌, ◌≢◌, ℕ, ◌<◌, refl, subst, sym, ap, ◌∙◌, List, length, Option, Some, None, true, false}
+use Rattle.std.proofs.lemmas.Option.{slice_get_within}
 use Rattle.std.proofs.Math.ListN.{length-set}
-use Rattle.std.specs.Prelude.{slice_get, slice_set, if◌then◌else◌}
+use Rattle.std.specs.Prelude.{slice_get, slice_set}
 use Rattle.mr_ast.specs.declared.types.Ty.{Ty}
-use Rattle.mr_base.specs.declared.reason.Reason.{Reason}
-use Rattle.mr_base.specs.declared.thread.Event.{Event}
 use Rattle.mr_base.specs.declared.thread.Status.{Status}
-use Rattle.mr_base.specs.declared.thread.Status.TheVariants.{Enabled, Ended, OnJoin, OnLock}
-use Rattle.mr_mem.specs.Memory.{Memory, ranges_of}
+use Rattle.mr_base.specs.declared.thread.Status.TheVariants.{Enabled}
+use Rattle.mr_mem.specs.Memory.{Memory}
 use Rattle.mr_value.specs.declared.val.Val.{Val}
 use Rattle.mr_value.specs.Shape.{has_shape}
-use Rattle.mr_script.specs.Script.{Done, Undefined, IllFormed, Ask, Outcome, Went, Refused, Broken, on, run}
+use Rattle.mr_script.specs.Script.{run}
 use Rattle.mr_eval.specs.MemoryQueries.{MemoryScript}
 use Rattle.mr_eval.specs.Tally.{Tally}
 use Rattle.mr_sync.specs.Sound.{IsSoundTables}
-use Rattle.mr_sync.specs.Tables.{Tables, over}
+use Rattle.mr_sync.specs.Tables.{over}
 use Rattle.mr_plan.specs.Legal.{needs_fault}
 use Rattle.mr_plan.specs.Machine.{Plan}
 use Rattle.mr_plan.specs.Notes.{Notes, start_notes}

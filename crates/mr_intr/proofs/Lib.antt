@@ -5,8 +5,10 @@ pub mod HeapLaws
 pub mod Leaving
 pub mod LockLaws
 pub mod LockSafe
+pub mod NeedLaws
 pub mod OperatedLaws
 pub mod OperationSafe
 pub mod Operates
 pub mod Powers
+pub mod SameWords
 pub mod TextLaws

@@ -10,9 +10,8 @@ use Rattle.mr_base.specs.declared.reason.Reason.TheVariants.{NotHolder}
 use Rattle.mr_base.specs.declared.thread.Event.{Event}
 use Rattle.mr_base.specs.declared.thread.Event.TheVariants.{Acquire, CreateLock, Join, Release}
 use Rattle.mr_base.specs.declared.thread.Status.{Status}
-use Rattle.mr_base.specs.declared.thread.Status.TheVariants.{Enabled, Ended, OnJoin, OnLock}
 use Rattle.mr_base.proofs.Comparisons.{eq_test, lt_from}
-use Rattle.mr_mem.specs.Memory.{Ranges, ranges_of}
+use Rattle.mr_mem.specs.Memory.{ranges_of}
 use Rattle.mr_sched.specs.declared.schedule.Ask.TheVariants.{Waiter}
 use Rattle.mr_value.specs.declared.val.Val.{Val}
 use Rattle.mr_value.specs.declared.val.Val.TheVariants as val
@@ -21,13 +20,13 @@ use Rattle.mr_eval.specs.World.{tally_of}
 use Rattle.mr_eval.specs.declared.scene.Scene.{Scene}
 use Rattle.mr_sync.specs.Tables.{Tables, acquired, any_waits, created, handed, holder_of, holding, joined, names_waiter, on_lock, released, taken_by, waits}
 use Rattle.mr_plan.specs.Legal.{creation_fault, fault, needs_fault, picks_fault}
-use Rattle.mr_plan.specs.Machine.{CreatesLock, CreatesNothing, Plan, needs_of}
+use Rattle.mr_plan.specs.Machine.{CreatesLock, CreatesNothing, needs_of}
 use Rattle.mr_plan.specs.Notes.{Notes, event_of}
-use Rattle.mr_plan.specs.Queries.{Await, Shared, StepScript, TryLock, Waiting, answer, blocked, creating, fits, giving, going, note, tables_of, telling, with_tables, woke}
+use Rattle.mr_plan.specs.Queries.{Await, Shared, StepScript, TryLock, Waiting, answer, blocked, fits, giving, going, note, telling, with_tables, woke}
 use Rattle.mr_plan.proofs.LegalLaws.{no_faults, one_waiter, picks_length}
 use Rattle.mr_intr.specs.Arguments.{PicksThread}
-use Rattle.mr_intr.specs.Effects.{AreLawful, CanTake, Does, IsDone, Prints, begun, listed, notes_in, operated, shared_in}
-use Rattle.mr_intr.specs.Operations.{Operation, found, operation, releasing, unlocking}
+use Rattle.mr_intr.specs.Effects.{AreLawful, CanTake, IsDone, Prints, begun, listed, notes_in, operated, shared_in}
+use Rattle.mr_intr.specs.Operations.{found, operation, releasing, unlocking}
 use Rattle.mr_intr.specs.declared.effect.Effect.{Effect}
 use Rattle.mr_intr.proofs.Arguments.{acquire_takes, join_takes, one_read, release_takes}
 use Rattle.mr_intr.proofs.OperatedLaws.{int_number}

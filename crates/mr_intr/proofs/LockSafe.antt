@@ -1,7 +1,7 @@
 -- The operations on threads and locks have a rule, and what they leave.
-use Rattle.std.proofs.Common.{◌≡◌, ◌≢◌, ℕ, ◌<◌, ◌^◌, refl, subst, sym, ap, ◌∙◌, arith, List, [], ◌∷◌, ◌++◌, length, ◌⊎◌, inl, inr, Option, Some, None, Bool, true, false, cond, Result, Ok, Err, not, ◌==◌}
+use Rattle.std.proofs.Common.{◌≡◌, ◌≢◌, ℕ, ◌<◌, ◌^◌, refl, subst, sym, ap, ◌∙◌, arith, List, [], ◌∷◌, length, inl, inr, Option, Some, None, Bool, true, false, Result, Ok, Err, not, ◌==◌}
 use Rattle.std.proofs.lemmas.Bool.{cases_eq}
-use Rattle.std.proofs.lemmas.Option.{same_Some, slice_get_within}
+use Rattle.std.proofs.lemmas.Option.{slice_get_within}
 use Rattle.std.proofs.Math.ListN.{length-set}
 use Rattle.std.specs.Prelude.{slice_get, slice_set, if◌then◌else◌, nat_lt}
 use Rattle.mr_ast.specs.declared.types.IntType.TheVariants.{U32}
@@ -21,20 +21,20 @@ use Rattle.mr_value.specs.declared.val.Val.TheVariants as val
 use Rattle.mr_value.specs.Shape.{has_shape}
 use Rattle.mr_value.proofs.ShapeLaws.{has_int}
 use Rattle.mr_wf.specs.Operands.{is_int}
-use Rattle.mr_script.specs.Script.{Done, Undefined, IllFormed, Ask, ◌>>=◌, Outcome, Went, Refused, Broken, on, run}
+use Rattle.mr_script.specs.Script.{Went, Broken, on, run}
 use Rattle.mr_sync.specs.Sound.{IsSoundTables}
-use Rattle.mr_sync.specs.Tables.{Tables, acquired, any_waits, awaiting, created, handed, holder_of, holding, joined, names_waiter, on_lock, over, released, trying, waits}
+use Rattle.mr_sync.specs.Tables.{Tables, acquired, any_waits, awaiting, created, handed, holding, joined, names_waiter, on_lock, over, released, trying, waits}
 use Rattle.mr_sync.proofs.SoundTables.{stay_sound}
-use Rattle.mr_plan.specs.Legal.{creation_fault, fault, needs_fault, picks_fault}
-use Rattle.mr_plan.specs.Machine.{CreatesLock, CreatesNothing, Plan}
+use Rattle.mr_plan.specs.Legal.{creation_fault, fault, picks_fault}
+use Rattle.mr_plan.specs.Machine.{CreatesLock, CreatesNothing}
 use Rattle.mr_plan.specs.Notes.{Notes, start_notes}
-use Rattle.mr_plan.specs.Queries.{Await, NewLock, Shared, StepScript, TryLock, Unlock, Waiting, answer, blocked, creating, fits, giving, going, note, tables_of, telling, with_tables, woke}
+use Rattle.mr_plan.specs.Queries.{Await, Shared, TryLock, Unlock, Waiting, answer, blocked, fits, giving, going, note, tables_of, telling, with_tables, woke}
 use Rattle.mr_plan.specs.Storage.{AreHeld, Slot}
 use Rattle.mr_plan.proofs.LegalLaws.{no_faults, one_waiter, picks_length}
 use Rattle.mr_plan.proofs.MemoryParts.{Leaves}
 use Rattle.mr_plan.proofs.Outcomes.{After}
 use Rattle.mr_plan.proofs.Positions.{set_here, set_there}
-use Rattle.mr_intr.specs.Operations.{Operation, acquire, create_lock, join, number_in, release, releasing, unlocking}
+use Rattle.mr_intr.specs.Operations.{acquire, create_lock, join, number_in, release, releasing, unlocking}
 use Rattle.mr_intr.proofs.Leaving.{AfterOp, OpLeaves, OpPlan, ResultFits, with_other}
 use Rattle.mr_intr.proofs.OperationSafe.{found_then, int_there}
 
@@ -208,10 +208,11 @@ module _ (s : Shared) (t c : ℕ) (sound : IsSoundTables (tables_of s)) (enabled
       let few = few_locks parts.0 in
       let same : length v.0.holders ≡ length s.holders = ap (λ (x : Shared). length x.holders) leaves.shared in
       let after : TablesLeft (tables_of s) t (created (tables_of s)).1 = same_statuses (tables_of s) t enabled (created (tables_of s)).1 (stay_sound.create (tables_of s) sound) refl in
-      let value : has_shape (ty.Int U32) (val.Int (length v.0.holders)) ≡ true = has_int U32 (length v.0.holders) ∙ lt_test (length v.0.holders) (2 ^ 32) (omega arith) in
-      (subst (λ r. ResultFits r (Some (val.Int (length v.0.holders)))) (sym int) (val.Int (length v.0.holders), refl, value),
-      left_with (with_tables v.0 (created (tables_of v.0)).1, note (CreateLock (length v.0.holders)) v.1) refl refl
-      (subst (λ (x : Tables). TablesLeft (tables_of s) t (created x).1) (sym the_tables) after))
+      let value : has_shape (ty.Int U32) (val.Int (length v.0.holders)) ≡ true = has_int U32 (length v.0.holders) ∙ lt_test (length v.0.holders) (2 ^ 32) (omega arith) in (
+        subst (λ r. ResultFits r (Some (val.Int (length v.0.holders)))) (sym int) (val.Int (length v.0.holders), refl, value),
+        left_with (with_tables v.0 (created (tables_of v.0)).1, note (CreateLock (length v.0.holders)) v.1) refl refl
+            (subst (λ (x : Tables). TablesLeft (tables_of s) t (created x).1) (sym the_tables) after),
+      )
 
   -- ---- release
 

@@ -1,5 +1,5 @@
 -- Each intrinsic but the start of a thread and the look at a payload, on what fits it, has a rule.
-use Rattle.std.proofs.Common.{◌≡◌, ℕ, refl, subst, sym, List, [], ◌∷◌, Option, None, Some, Bool, true, false}
+use Rattle.std.proofs.Common.{◌≡◌, ℕ, subst, sym, List, [], ◌∷◌, Option, None, Some, true}
 use Rattle.std.specs.Prelude.{◌&&◌, nat_le, slice_get}
 use Rattle.std.specs.List.{list_all}
 use Rattle.mr_ast.specs.declared.program.Intrinsic.{Intrinsic}

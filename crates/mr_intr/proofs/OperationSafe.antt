@@ -1,11 +1,10 @@
 -- The operations of intrinsics on arguments that fit them have a rule, and what they leave.
-use Rattle.std.proofs.Common.{◌≡◌, ◌≢◌, ℕ, suc, ◌<◌, ◌*◌, ◌^◌, refl, subst, sym, ap, ◌∙◌, arith, List, [], ◌∷◌, length, Option, Some, None, Bool, true, false, Result, Ok, Err}
-use Rattle.std.proofs.lemmas.Option.{same_Some}
-use Rattle.std.specs.Prelude.{◌&&◌, ◌||◌, slice_get, if◌then◌else◌, is_some, nat_lt, ◌-◌, ◌++◌}
+use Rattle.std.proofs.Common.{◌≡◌, ℕ, ◌<◌, ◌*◌, ◌^◌, refl, subst, sym, ap, ◌∙◌, arith, List, [], ◌∷◌, length, Option, Some, None, Bool, true, false}
+use Rattle.std.specs.Prelude.{◌||◌, slice_get, if◌then◌else◌, is_some, nat_lt, ◌-◌, ◌++◌}
 use Rattle.std.specs.List.{list_all}
 use Rattle.mr_ast.specs.Integers.{int_size}
 use Rattle.mr_ast.specs.declared.types.IntType.{IntType}
-use Rattle.mr_ast.specs.declared.types.IntType.TheVariants.{U32, U64}
+use Rattle.mr_ast.specs.declared.types.IntType.TheVariants.{U64}
 use Rattle.mr_ast.specs.declared.types.Ty.{Ty, out-Ty}
 use Rattle.mr_ast.specs.declared.types.Ty.TheVariants as ty
 use Rattle.mr_base.specs.declared.byte.AbstractByte.{AbstractByte}
@@ -13,7 +12,6 @@ use Rattle.mr_base.specs.declared.byte.Kind.TheVariants.{Heap}
 use Rattle.mr_base.specs.declared.byte.Pointer.{Pointer}
 use Rattle.mr_base.specs.declared.reason.Reason.TheVariants.{BadAlign, SizeTooLarge}
 use Rattle.mr_ast.specs.declared.program.Intrinsic.{Intrinsic}
-use Rattle.mr_base.specs.declared.thread.Status.{Status}
 use Rattle.mr_base.specs.declared.thread.Status.TheVariants.{Enabled}
 use Rattle.mr_layout.specs.Sizes.{align_of, size_of}
 use Rattle.mr_base.proofs.Comparisons.{lt_test}
@@ -21,31 +19,29 @@ use Rattle.mr_layout.proofs.PartsOk.{and_true}
 use Rattle.mr_layout.proofs.SizeLaws.{size_int}
 use Rattle.mr_mem.specs.Memory.{ranges_of}
 use Rattle.mr_value.specs.declared.val.Val.{Val, out-Val}
-use Rattle.mr_value.specs.declared.val.Val.TheOpen.{Val-F}
 use Rattle.mr_value.specs.declared.val.Val.TheVariants as val
 use Rattle.mr_value.specs.Encode.{encoding_of}
 use Rattle.mr_value.specs.Numbers.{number_of}
 use Rattle.mr_value.specs.Shape.{has_shape}
 use Rattle.mr_value.proofs.DecodeShape.{number_fits}
 use Rattle.mr_value.proofs.ShapeLaws.{has_int, has_raw, shape_int}
-use Rattle.mr_wf.specs.Intrinsics.{gives, gives_nothing, is_atomic}
+use Rattle.mr_wf.specs.Intrinsics.{gives, gives_nothing}
 use Rattle.mr_wf.specs.Operands.{is_bool, is_int, is_integer, is_raw, is_scalar_number}
-use Rattle.mr_wf.specs.SameTypes.{same_type}
 use Rattle.mr_wf.specs.Types.{integer_of}
 use Rattle.mr_wf.proofs.KindLaws.{bool_is, integer_is}
 use Rattle.mr_wf.proofs.SameTypeLaws.{same_type_equal}
-use Rattle.mr_script.specs.Script.{Done, Undefined, IllFormed, Ask, ◌>>=◌, Outcome, Went, run}
-use Rattle.mr_eval.specs.MemoryQueries.{Allocate, Free, MemoryScript, Modify, Reading, Write, reading_part}
+use Rattle.mr_script.specs.Script.{Done, Undefined, Ask, ◌>>=◌, run}
+use Rattle.mr_eval.specs.MemoryQueries.{Allocate, Free, MemoryScript, Modify, Write, reading_part}
 use Rattle.mr_eval.specs.Operators.{or_ill_formed}
-use Rattle.mr_eval.specs.Reads.{Read, ReadScript}
+use Rattle.mr_eval.specs.Reads.{Read}
 use Rattle.mr_eval.specs.Sound.{IsSafe, any_result}
 use Rattle.mr_eval.proofs.OperatorsSafe.{bool_layer, integer_layer, raw_layer}
 use Rattle.mr_eval.proofs.SafeLaws.{safe_found, safe_then}
 use Rattle.mr_eval.proofs.ShapeOf.{HaveShapes}
 use Rattle.mr_sched.specs.declared.schedule.Ask.TheVariants.{Address}
 use Rattle.mr_sync.specs.Sound.{IsSoundTables}
-use Rattle.mr_plan.specs.Legal.{creation_fault, needs_fault, picks_fault}
-use Rattle.mr_plan.specs.Machine.{CreatesNothing, Plan}
+use Rattle.mr_plan.specs.Legal.{creation_fault, picks_fault}
+use Rattle.mr_plan.specs.Machine.{CreatesNothing}
 use Rattle.mr_plan.specs.Notes.{Notes, start_notes}
 use Rattle.mr_plan.specs.Queries.{OfMemory, Print, Shared, StepScript, answer, memory_part, tables_of}
 use Rattle.mr_plan.specs.Safety.{IsSafeChange}
@@ -56,7 +52,7 @@ use Rattle.mr_plan.proofs.Outcomes.{After, after_then}
 use Rattle.mr_plan.proofs.SafetyLaws.{reading_safe}
 use Rattle.mr_plan.proofs.StorageRuns.{Keeps, entails_same, quiet_keeps}
 use Rattle.mr_plan.proofs.QuietRuns.{reading_quiet}
-use Rattle.mr_intr.specs.Operations.{Operation, allocate, allocating, assume, assuming, atomic_load, atomic_store, compare_exchange, deallocate, exchanged, fetch, fetched, found, instant, int_in, loaded, modify, number, number_in, pointer, pointer_in, print, truth_in, is_power_of_two, with_pick}
+use Rattle.mr_intr.specs.Operations.{Operation, allocate, allocating, assume, assuming, atomic_load, atomic_store, compare_exchange, deallocate, exchanged, fetch, fetched, found, instant, int_in, loaded, modify, number_in, pointer_in, print, truth_in, is_power_of_two, with_pick}
 use Rattle.mr_intr.specs.Texts.{bool_text, number_text, spaced, text_layer, text_of, texts_of}
 use Rattle.mr_value.specs.Discriminants.{number_of_bits}
 use Rattle.mr_intr.proofs.Leaving.{AfterOp, OpPlan, ResultFits, memory_op, same_left}
@@ -110,7 +106,6 @@ text_there t v e h = by_test (is_integer t) refl
     by_test : (b : Bool) → is_integer t ≡ b → (text : List ℕ) × (text_of t v ≡ Some text)
     by_test true int = let made = integer_layer t v int h in (number_text (number_of_bits made.int made.bits), (λ i. text_layer ((ap out-Ty made.ty ∙ ty.outs-Int made.int) i) (made.layer i)))
     by_test false int = let b = bool_layer t v (is_the_bool int e) h in (bool_text b.0, (λ i. text_layer ((ap out-Ty (bool_is t (is_the_bool int e)) ∙ ty.outs-Bool) i) (b.1 i)))
-
 
 module _ (s : Shared) (t c : ℕ) (sound : IsSoundTables (tables_of s)) (enabled : slice_get s.statuses t ≡ Some Enabled) (rooms : List Slot)
     (v : Shared × Notes) (leaves : Leaves s.memory t c (s, start_notes t c) v) (held : AreHeld v.0.memory rooms) where

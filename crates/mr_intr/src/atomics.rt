@@ -40,7 +40,6 @@ fn number_in(view: &View<'_>, int: IntType) -> Result<u128, Reason>
 }
 
 // The atomic load of an integer.
-#[tactic(auto, using(crate::proofs::AtomicLaws::load_laws))]
 fn load_number(m: &Memory, notes: &mut Notes, p: Pointer, int: IntType) -> Result<u128, Fault>
     ensures told { Tells result (number_read m.now p (int_size int) (seen notes.old)) (seen notes.new) }
     ensures small { IfOk result (λ n. n < 2 ^ (8 * int_size int)) }
@@ -156,7 +155,12 @@ pub fn atomic_load(args: &[Val], place: Option<&Ty>, s: &mut Scene) -> Result<Ef
     ensures done { (types : List Ty) (picks : List ℕ) → ChangesMemory intrinsic.AtomicLoad result args.now types (option_copied place.entry) picks s.old s.new }
     ensures value { IfOk result (λ e. FitsPlace (option_copied place.entry) e.value) }
 {
-    let n = load_number(&s.memory, &mut s.notes, pointer_at(args, 0), integer_of(place))?;
+    let n = load_number(
+        &s.memory,
+        &mut s.notes,
+        pointer_at(args, 0),
+        integer_of(place),
+    )?;
     Ok(Effect::quiet(Some(Val::Int(n))))
 }
 
@@ -175,7 +179,14 @@ pub fn atomic_store(
     let t = &types[1];
     let mut bytes = Vec::new(alloc);
     encode(alloc, &args[1], t, &mut bytes)?;
-    store_bytes(&mut s.memory, &mut s.notes, true, p, bytes.as_slice(), align(t))?;
+    store_bytes(
+        &mut s.memory,
+        &mut s.notes,
+        true,
+        p,
+        bytes.as_slice(),
+        align(t),
+    )?;
     Ok(Effect::quiet(None))
 }
 

@@ -1,19 +1,18 @@
 -- The start as the code makes it.
-use Rattle.std.proofs.Common.{◌≡◌, ℕ, suc, ◌+◌, ◌-◌, ◌<◌, ◌≤◌, refl, sym, ap, ◌∙◌, subst, arith, List, [], ◌∷◌, length, map, drop, take, get_or, length-drop, Err}
+use Rattle.std.proofs.Common.{◌≡◌, ℕ, ◌+◌, ◌-◌, ◌≤◌, refl, sym, ap, ◌∙◌, subst, arith, List, [], length, map, drop, take, length-drop, Err}
 use Rattle.std.proofs.lemmas.List.{length-map, take-map, take_all}
 use Rattle.std.proofs.lemmas.List.Elements.{All-take}
-use Rattle.std.specs.Prelude.{All, None, Some, slice_get}
+use Rattle.std.specs.Prelude.{All, None, slice_get}
 use Rattle.mr_ast.specs.declared.program.Program.{Program}
 use Rattle.mr_base.specs.declared.byte.Pointer.{Pointer}
 use Rattle.mr_mem.specs.Memory.{Memory}
 use Rattle.mr_wf.specs.Walk.{WellFormed}
-use Rattle.mr_script.specs.Script.{Outcome}
 use Rattle.mr_eval.specs.Tally.{start_tally}
 use Rattle.mr_eval.specs.World.{World}
 use Rattle.mr_frame.specs.declared.look.Look.{Look as KeptLook}
 use Rattle.mr_frame.specs.Beginning.{CanBegin, IsBottom}
 use Rattle.mr_frame.specs.Effects.{entered}
-use Rattle.mr_frame.specs.Frames.{Frame, Stack}
+use Rattle.mr_frame.specs.Frames.{Stack}
 use Rattle.mr_frame.specs.Kept.{IsReady}
 use Rattle.mr_start.specs.declared.beginning.StartFault.{StartFault}
 use Rattle.mr_start.specs.declared.beginning.StartFault.TheVariants as refused

@@ -1,6 +1,6 @@
 -- How an entry's picks are judged one by one.
 use Rattle.std.proofs.Common.{◌≡◌, ℕ, suc, ◌+◌, ◌<◌, ◌≤◌, refl, sym, ap, ◌∙◌, subst, arith, List, [], ◌∷◌, ◌++◌, length, Option, Bool, true, false, cond, map, take, drop, get_or, drop-cons, take-suc, drop_of_length-le, length-take-le}
-use Rattle.std.specs.Prelude.{Some, None, T, ◌&&◌, slice_get, if◌then◌else◌}
+use Rattle.std.specs.Prelude.{Some, None, T, ◌&&◌, slice_get}
 use Rattle.std.specs.FinMap as fin
 use Rattle.std.specs.FinMap.Entries.{put, below_all, is_sorted, find}
 use Rattle.std.specs.Ordering.{is_eq, is_lt}
@@ -8,7 +8,7 @@ use Rattle.mr_base.specs.Pairs.{is_meeting}
 use Rattle.mr_base.specs.declared.byte.AllocId.{AllocId}
 use Rattle.mr_base.specs.declared.thread.Status.{Status}
 use Rattle.mr_mem.specs.Memory.{Allocation, Memory, Ranges, first_overlapped, id_cmp, is_bad_address, pick_fault, range_fault, range_of, ranges_of, reused, with_range}
-use Rattle.mr_mem.specs.declared.fault.PickFault.TheVariants.{BadAddress, Reused}
+use Rattle.mr_mem.specs.declared.fault.PickFault.TheVariants.{BadAddress}
 use Rattle.mr_sched.specs.declared.schedule.Ask.{Ask}
 use Rattle.mr_sched.specs.declared.schedule.Ask.TheVariants.{Address, Waiter}
 use Rattle.mr_sync.specs.Tables.{on_lock}
@@ -236,7 +236,7 @@ module _ (addr size t : ℕ) (asks : List Ask) (picks : List ℕ) (i next : ℕ)
 
   pub overlap_at : (s align : ℕ) → get_or asks i d ≡ Address s align
       → first_overlapped addr size (picked t next (drop i asks) (drop i picks))
-        ≡ cond (is_meeting addr size (get_or picks i 0) s) (Some (id_of t next)) (first_overlapped addr size (picked t (next + 1) (drop (i + 1) asks) (drop (i + 1) picks)))
+      ≡ cond (is_meeting addr size (get_or picks i 0) s) (Some (id_of t next)) (first_overlapped addr size (picked t (next + 1) (drop (i + 1) asks) (drop (i + 1) picks)))
   overlap_at s align is = ap (first_overlapped addr size) (begins ∙ (λ k. picked t next (is k ∷ drop (i + 1) asks) (get_or picks i 0 ∷ drop (i + 1) picks)))
 
   pub no_overlap_at : (lock : ℕ) → get_or asks i d ≡ Waiter lock

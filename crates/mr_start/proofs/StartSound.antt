@@ -1,17 +1,14 @@
 -- The state behind a legal start line keeps what each state keeps.
-use Rattle.std.proofs.Common.{◌≡◌, ◌≢◌, ℕ, zero, suc, ◌+◌, ◌<◌, refl, sym, ap, ◌∙◌, subst, inl, inr, List, [], ◌∷◌, ◌++◌, length, drop, replicate, arith, append-nil}
+use Rattle.std.proofs.Common.{◌≡◌, ℕ, zero, suc, ◌+◌, refl, sym, ap, ◌∙◌, subst, inl, inr, List, [], ◌∷◌, ◌++◌, length, drop, replicate, arith, append-nil}
 use Rattle.std.proofs.lemmas.Option.{same_Some}
 use Rattle.std.specs.Prelude.{Option, Some, None, slice_get, slice_set}
-use Rattle.std.specs.FinMap as fin
-use Rattle.mr_base.specs.declared.byte.AllocId.{AllocId}
 use Rattle.mr_base.specs.declared.byte.Kind.TheVariants.{Stack}
 use Rattle.mr_base.specs.declared.byte.Pointer.{Pointer}
 use Rattle.mr_base.specs.declared.thread.Status.{Status}
 use Rattle.mr_base.specs.declared.thread.Status.TheVariants.{Enabled}
-use Rattle.mr_ast.specs.declared.program.Function.{Function}
 use Rattle.mr_ast.specs.declared.program.Local.{Local}
 use Rattle.mr_ast.specs.declared.program.Program.{Program}
-use Rattle.mr_mem.specs.Memory.{Allocation, Memory}
+use Rattle.mr_mem.specs.Memory.{Memory}
 use Rattle.mr_layout.specs.Sizes.{align_of, size_of}
 use Rattle.mr_wf.specs.Walk.{WellFormed}
 use Rattle.mr_sched.specs.declared.schedule.Schedule.{Schedule}
@@ -22,11 +19,11 @@ use Rattle.mr_plan.proofs.ListPlaces.{slice_get-drop}
 use Rattle.mr_plan.proofs.StorageRuns.{set_cases}
 use Rattle.mr_frame.specs.Fits.{IsLook}
 use Rattle.mr_frame.specs.Storage.{slot_of, slots_in, slots_with}
-use Rattle.mr_thread.specs.SoundState.{FitsStatus, IsCounted, SoundState, thread_slots}
+use Rattle.mr_thread.specs.SoundState.{FitsStatus, SoundState, thread_slots}
 use Rattle.mr_thread.specs.Steps.{Own}
 use Rattle.mr_thread.proofs.RunSound.{IsSoundConfig, never_ill_formed}
-use Rattle.mr_start.specs.Start.{IsSoundRun, Legal, Piece, local_piece, look_of, main_thread, pieces, return_piece, start_config, start_fault, start_frame, start_locals, start_memory, start_placed}
-use Rattle.mr_start.proofs.StartFacts.{HasMain, functions_length, globals_length, has_main, pointers_length, return_is, start_fits}
+use Rattle.mr_start.specs.Start.{IsSoundRun, Legal, Piece, look_of, main_thread, pieces, start_config, start_fault, start_frame, start_locals, start_memory, start_placed}
+use Rattle.mr_start.proofs.StartFacts.{HasMain, functions_length, globals_length, has_main, return_is, start_fits}
 use Rattle.mr_start.proofs.StartStores.{AllLie, Lies, start_kept}
 
 -- ---- the one local that has storage

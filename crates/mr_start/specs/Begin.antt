@@ -1,5 +1,5 @@
 -- How a start is judged and made.
-use Rattle.std.specs.Prelude.{◌≡◌, ℕ, ◌+◌, ◌^◌, ◌<◌, ◌≤◌, All, List, [], ◌∷◌, drop, length, map, slice_get, take, Option, None, Some, Result, Ok, Err}
+use Rattle.std.specs.Prelude.{◌≡◌, ℕ, ◌+◌, ◌^◌, ◌<◌, ◌≤◌, All, List, [], ◌∷◌, length, map, slice_get, take, Option, None, Some, Result, Ok, Err}
 use Rattle.std.specs.FinMap as fin
 use Rattle.mr_ast.specs.declared.program.Global_.{Global_}
 use Rattle.mr_ast.specs.declared.program.Program.{Program}

@@ -122,12 +122,7 @@ fn enter_main(
 
 // The start behind the allocations of functions and globals: the main function's frame, and then the bytes of the globals.
 #[tactic(auto, using(mr_wf::proofs::WrittenOk::written_ok))]
-fn started(
-    alloc: Global,
-    p: &Checked,
-    begun: Begun,
-    picks: &[u64],
-) -> Result<Start, AllocError>
+fn started(alloc: Global, p: &Checked, begun: Begun, picks: &[u64]) -> Result<Start, AllocError>
     requires legal { start_fault p.now picks.now ≡ None }
     requires begun { IsBegun p.now picks.now begun }
     ensures { IfOk result (IsStart p.now picks.now) }
@@ -147,7 +142,13 @@ fn started(
         stack,
         count,
     } = enter_main(alloc, &look, memory, picks)?;
-    fill(alloc, &mut memory, program.globals.as_slice(), functions, globals)?;
+    fill(
+        alloc,
+        &mut memory,
+        program.globals.as_slice(),
+        functions,
+        globals,
+    )?;
     Ok(Start {
         memory,
         functions: Vec::from_slice(alloc, functions)?,

@@ -29,13 +29,8 @@ fn least(a: Option<AllocId>, b: Option<AllocId>) -> Option<AllocId>
     match (a, b) {
         (None, _) => b,
         (Some(_), None) => a,
-        (Some(first), Some(second)) => {
-            if second < first {
-                b
-            } else {
-                a
-            }
-        }
+        (Some(first), Some(second)) if second < first => b,
+        (Some(_), Some(_)) => a,
     }
 }
 
@@ -98,7 +93,8 @@ fn judge_waiter(sync: &SyncTable, lock: u32, thread: u64) -> Result<(), PickFail
     Err(PickFailure::of(NOT_WAITING))
 }
 
-/// An entry's picks against what its step asks for, pick by pick: the first rule that they break. The thread has made so many allocations.
+/// An entry's picks against what its step asks for, pick by pick: the first rule that they break. `count` is how many allocations the thread
+/// has made; those at earlier picks of the entry get the next identities.
 pub fn judge(
     memory: &Memory,
     sync: &SyncTable,

@@ -1,5 +1,5 @@
 -- What a completed step leaves.
-use Rattle.std.proofs.Common.{◌≡◌, ℕ, ◌+◌, ◌++◌, refl, sym, ap, ◌∙◌, List, [], ◌∷◌, map, length, Bool, true, false, Option, Some}
+use Rattle.std.proofs.Common.{◌≡◌, ℕ, ◌+◌, ◌++◌, sym, ap, ◌∙◌, List, [], ◌∷◌, map, length, true, false, Some}
 use Rattle.std.specs.Prelude.{slice_set}
 use Rattle.std.specs.Option.{option_map}
 use Rattle.mr_event.specs.declared.footprint.Footprint.{Footprint}

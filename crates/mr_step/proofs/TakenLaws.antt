@@ -1,5 +1,5 @@
 -- Where the turn of an enabled thread leads.
-use Rattle.std.proofs.Common.{◌≡◌, ℕ, zero, suc, ◌+◌, ◌++◌, arith, refl, sym, ap, ◌∙◌, subst, List, [], ◌∷◌, map, length, Bool, true, false, Option, Some, None, Result, Err}
+use Rattle.std.proofs.Common.{◌≡◌, ℕ, zero, suc, ◌++◌, arith, refl, sym, ap, ◌∙◌, subst, List, [], ◌∷◌, length, true, Option, Some, None, Result, Err}
 use Rattle.std.proofs.lemmas.Option.{same_Some, slice_get_within}
 use Rattle.std.proofs.Math.ListN.{length-set}
 use Rattle.std.specs.Prelude.{slice_get, slice_set}
@@ -12,12 +12,11 @@ use Rattle.mr_mem.specs.Memory.{Memory}
 use Rattle.mr_sched.specs.declared.schedule.Entry.{Entry}
 use Rattle.mr_script.specs.Script.{Outcome, Refused}
 use Rattle.mr_sync.specs.Tables.{Tables}
-use Rattle.mr_eval.specs.declared.scene.Scene.{Scene}
 use Rattle.mr_plan.specs.Legal.{Fault}
 use Rattle.mr_plan.specs.Machine.{Aborts, Bare, Completed, Exits, Flow as Ways, Goes, IllFormedStep, State, Stops, Thread, settle, settled, started_threads, thread_of}
 use Rattle.mr_plan.specs.Notes.{Notes}
 use Rattle.mr_plan.specs.Queries.{Shared}
-use Rattle.mr_plan.specs.Runs.{Config, after_bare, entry_fault, foot_from, foot_of_bare, machine_step}
+use Rattle.mr_plan.specs.Runs.{Config, after_bare, entry_fault, foot_of_bare}
 use Rattle.mr_frame.specs.declared.flow.Flow.{Flow}
 use Rattle.mr_frame.specs.declared.flow.Flow.TheVariants as flow
 use Rattle.mr_frame.specs.declared.look.Look.{Look as KeptLook}
@@ -34,10 +33,10 @@ use Rattle.mr_step.specs.declared.settle.Act.{Act}
 use Rattle.mr_step.specs.Advance.{ActAnswer, Acts, AdvanceAnswer, Advances, IsDue, Keeps, Stays, WithoutAnswer, act_fault, act_outcome, world_at}
 use Rattle.mr_step.specs.Answers.{Hands, fault_of, stopped}
 use Rattle.mr_step.specs.declared.fault.StepFault.{StepFault}
-use Rattle.mr_step.specs.Kept.{config_of, numbered, printed_of, standing_thread, state_of, state_unless}
+use Rattle.mr_step.specs.Kept.{config_of, numbered, state_of, state_unless}
 use Rattle.mr_step.specs.Settling.{LeadsTo, Settles, Tells, bare_by}
 use Rattle.mr_step.proofs.EntryLaws.{fault_is, feet_are, step_is}
-use Rattle.mr_step.proofs.Numbered.{numbered_length, numbered_set, set_twice, thread_as}
+use Rattle.mr_step.proofs.Numbered.{numbered_set, set_twice, thread_as}
 use Rattle.mr_step.proofs.SoundLaws.{own_is, sound, state_is, thread_here}
 use Rattle.mr_plan.proofs.Positions.{set_here}
 

@@ -8,9 +8,8 @@ use Rattle.mr_sched.specs.declared.schedule.Entry.{Entry}
 use Rattle.mr_script.specs.Script.{Outcome, Refused}
 use Rattle.mr_sync.specs.Tables.{IsEnabled, Tables}
 use Rattle.mr_plan.specs.Legal.{Fault}
-use Rattle.mr_plan.specs.Machine.{Plan}
 use Rattle.mr_plan.specs.Notes.{Notes, start_notes}
-use Rattle.mr_plan.specs.Queries.{Shared, StepScript}
+use Rattle.mr_plan.specs.Queries.{Shared}
 use Rattle.mr_plan.specs.Runs.{Config, entry_fault, foot_from, machine_step}
 use Rattle.mr_frame.specs.declared.look.Look.{Look as KeptLook}
 use Rattle.mr_frame.specs.Fits.{FitsStack}

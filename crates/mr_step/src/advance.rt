@@ -10,8 +10,8 @@ use crate::fault::{AFTER_STOP, NOT_ENABLED, StepFault, broken, refused};
 use crate::progress::{Progress, Thread};
 use crate::settle::{Act, settle};
 use mr_base::Verdict;
-use mr_event::Footprint;
 use mr_eval::Scene;
+use mr_event::Footprint;
 use mr_frame::Look;
 use mr_mem::Memory;
 use mr_sched::Entry;
@@ -90,7 +90,15 @@ fn take(
     let number = entry.thread;
     let picks = entry.picks.as_slice();
     let thread = &mut p.threads[number as usize];
-    match act(alloc, look, number, thread, &mut p.memory, &mut p.sync, picks) {
+    match act(
+        alloc,
+        look,
+        number,
+        thread,
+        &mut p.memory,
+        &mut p.sync,
+        picks,
+    ) {
         Ok(act) => {
             settle(alloc, p, number, act, foot)?;
             Ok(())

@@ -19,8 +19,9 @@ mod first;
 mod footprint;
 mod machine;
 mod progress;
-mod settle;
 mod setting;
+mod settle;
 
 pub use fault::{StepFault, Turn};
 pub use machine::Machine;
+pub use mr_start::{feet_counted, legal_schedules, never_ill_formed, one_at_most, whole_start};

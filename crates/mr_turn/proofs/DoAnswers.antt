@@ -32,9 +32,8 @@ use Rattle.mr_frame.specs.Frames.{Look}
 use Rattle.mr_frame.specs.Kept.{look_of, stack_of}
 use Rattle.mr_frame.specs.Operations.{DueDo, Operands, next_do}
 use Rattle.mr_intr.specs.Operations.{Operation, operation}
-use Rattle.mr_intr.specs.Effects.{IsDone, Prints, listed, operated}
+use Rattle.mr_intr.specs.Effects.{IsDone, IsOperation, Prints, operated}
 use Rattle.mr_intr.specs.declared.effect.Effect.{Effect}
-use Rattle.mr_intr.proofs.Operates.{IsOperation}
 use Rattle.mr_thread.specs.Steps.{Own, Turn, finishing, planned as plan_behind, with_stack}
 use Rattle.mr_turn.specs.declared.deed.Deed.{Deed}
 use Rattle.mr_turn.specs.declared.deed.TurnFault.{TurnFault}
@@ -168,8 +167,8 @@ module _ (look : KeptLook) (stack : KeptStack) (s : Scene) (x : Tables) (call : 
           ends ∙ ap (λ p. on p (λ k z. Went (Goes (with_stack mine k) None) (moved_to behind z))) h
           ∙ ap₂ (λ f st. Went (turn_by f mine stack' (option_map (own_of threads) st)) (shared_in s'' x', record done.notes { tally = tally_of s'' })) (sym told.flow) (sym told.started);
       tally = refl;
-      event = done.event ∙ sym told.event;
+      event = done.event ∙ sym told.noted;
       ended = done.going ∙ sym (ap Rattle.mr_turn.specs.Turning.is_end told.flow);
-      woken = done.woken ∙ sym told.woken;
+      woken = done.woken ∙ sym told.awakened;
       printed = printed_told d.op done.notes.printed text done.printed ∙ ap printed_lines (sym told.text);
     }

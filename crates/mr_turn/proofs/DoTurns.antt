@@ -16,8 +16,8 @@ use Rattle.mr_plan.proofs.ReadingRuns.{memory_then, moved_to, on_then, reading_r
 use Rattle.mr_frame.specs.Effects.{argued, finished as ended}
 use Rattle.mr_frame.specs.Frames.{Look}
 use Rattle.mr_frame.specs.Operations.{DueDo, Operands, finish, next_do, operands}
+use Rattle.mr_intr.specs.Effects.{IsOperation}
 use Rattle.mr_intr.specs.Operations.{Operation, operation}
-use Rattle.mr_intr.proofs.Operates.{IsOperation}
 use Rattle.mr_thread.specs.Steps.{Own, Turn, finished, finishing, operated, planned as plan_behind, step_due, thread_step, with_stack}
 use Rattle.mr_turn.specs.Doing.{do_planned, do_turned}
 use Rattle.mr_turn.specs.Turning.{planned, turned}

@@ -1,5 +1,5 @@
 -- What the code of a frame's turn answers, by its parts.
-use Rattle.std.proofs.Common.{◌≡◌, ℕ, refl, sym, ap, ◌∙◌, List, [], ◌∷◌, Option, Some, None, Result, Ok, Err}
+use Rattle.std.proofs.Common.{◌≡◌, ℕ, refl, sym, ap, ◌∙◌, subst, List, [], ◌∷◌, Option, Some, None, Result, Ok, Err}
 use Rattle.mr_base.specs.declared.reason.Reason.{Reason}
 use Rattle.mr_base.specs.declared.thread.Status.{Status}
 use Rattle.mr_mem.specs.Memory.{Memory, ranges_of}
@@ -11,7 +11,8 @@ use Rattle.mr_sync.specs.Tables.{Tables}
 use Rattle.mr_eval.specs.MemoryQueries.{MemoryScript}
 use Rattle.mr_eval.specs.Reads.{Seen, reading}
 use Rattle.mr_eval.specs.Tally.{Tally, seen_of, start_tally}
-use Rattle.mr_eval.specs.World.{tally_of}
+use Rattle.mr_eval.specs.Answers.{seen}
+use Rattle.mr_eval.specs.World.{TellsBy, tally_of}
 use Rattle.mr_eval.specs.declared.scene.Scene.{Scene}
 use Rattle.mr_plan.specs.Legal.{Fault, needs_fault, picks_fault}
 use Rattle.mr_plan.specs.Machine.{Needs, Plan}
@@ -81,3 +82,13 @@ module _ (look : KeptLook) (stack : KeptStack) (s : Scene) (x : Tables) (picks :
   -- and statuses don't count for it
   pub lawful_picks : asks_break s x asks picks ≡ None → picks_fault [] (ranges_of s.memory) s.thread s.count asks picks ≡ None
   lawful_picks h = sym (same_statuses x.statuses [] (ranges_of s.memory) s.thread s.count asks picks (asks_addresses s.memory (look_of look) s.thread (stack_of stack) nothing_seen)) ∙ h
+
+  -- the same where the step has seen nothing yet
+  pub lawful_fresh : tally_of s ≡ start_tally s.thread s.count → asks_break s x asks picks ≡ None
+      → picks_fault [] (ranges_of s.memory) s.thread s.count (asked s.memory (look_of look) s.thread (stack_of stack) (seen s.notes)) picks ≡ None
+  lawful_fresh fresh h =
+      ap (λ (t : Tally). picks_fault [] (ranges_of s.memory) s.thread s.count (asked s.memory (look_of look) s.thread (stack_of stack) (seen_of t)) picks) fresh ∙ lawful_picks h
+
+-- a refusal of memory, by its reason
+pub refused_by : {X Y S : Type 0} (view : X → Y) (f : MemoryFault) (o : Outcome Y S) (v : S) → TellsBy view (Err f) o v → (r : Reason) → f ≡ memory_fault.Undefined r → o ≡ Refused r
+refused_by view f o v h r e = subst (λ g. TellsBy view (Err g) o v) e h

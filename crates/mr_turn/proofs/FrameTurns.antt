@@ -137,6 +137,8 @@ module _ (look : Look) (thread threads : ℕ) (stack stack' : KeptStack) (s s' :
       by_flow flow.Abort goes is = quiet flow.Abort refl goes is is.wakes.0 is.wakes.1
       by_flow flow.Ended goes is = ends same goes is
 
-  -- a step that itself stops
-  pub flow_refused : (r : Reason) → next_do look (stack_of stack) ≡ None → acted look thread (stack_of stack) picks (world_of s) ≡ Refused r → outcome ≡ Refused r
-  flow_refused r none acts = frame_turned look own none (begun s x) picks ∙ ap (λ o. on o (λ y v. run answer (onward own y) (moved_to (begun s x) v))) acts
+-- a step that itself stops
+pub flow_refused : (look : Look) (thread : ℕ) (stack : KeptStack) (s : Scene) (x : Tables) (picks : List ℕ) (r : Reason) → next_do look (stack_of stack) ≡ None
+    → acted look thread (stack_of stack) picks (world_of s) ≡ Refused r → turned look (own_of thread stack) picks (begun s x) ≡ Refused r
+flow_refused look thread stack s x picks r none acts =
+    frame_turned look (own_of thread stack) none (begun s x) picks ∙ ap (λ o. on o (λ y v. run answer (onward (own_of thread stack) y) (moved_to (begun s x) v))) acts

@@ -8,12 +8,11 @@ use Rattle.mr_ast.specs.declared.program.Intrinsic.TheVariants as intrinsic
 use Rattle.mr_ast.specs.declared.types.IntType.TheVariants.{U32}
 use Rattle.mr_ast.specs.declared.types.Ty.{Ty}
 use Rattle.mr_ast.specs.declared.types.Ty.TheVariants as ty
-use Rattle.mr_base.proofs.Comparisons.{lt_test}
+use Rattle.mr_base.proofs.Comparisons.{lt_from, lt_test}
 use Rattle.mr_base.specs.declared.byte.Pointer.{Pointer}
 use Rattle.mr_base.specs.declared.reason.Reason.{Reason}
 use Rattle.mr_base.specs.declared.thread.Event.TheVariants.{Spawn}
 use Rattle.mr_frame.specs.declared.flow.Flow.TheVariants as flow
-use Rattle.std.proofs.lemmas.Bool.Decides.{nat_tests}
 use Rattle.mr_layout.proofs.AlignLaws.{align_raw, align_tuple}
 use Rattle.mr_layout.proofs.PartsOk.{and_true}
 use Rattle.mr_layout.proofs.SizeLaws.{size_raw, size_tuple}
@@ -58,6 +57,14 @@ use Rattle.mr_turn.specs.Doing.{IsGiven, IsStart, SpawnGiven, StartsThread, do_b
 use Rattle.mr_turn.specs.Turning.{Turned, asks_break, begun, is_end, own_of, picks_break, printed_lines, shared_in, turn_by}
 use Rattle.mr_turn.proofs.DoTurns.{finishing_run}
 use Rattle.mr_turn.proofs.SpawnTurns.{start_planned, start_turned, with_thread}
+
+-- there are fewer than 1,024 threads
+pub few_from : (w : Shared) → creation_fault w CreatesThread ≡ None → length w.statuses < 1024
+few_from w h = by_test (nat_lt (length w.statuses) 1024) refl h
+  where
+    by_test : (b : Bool) → nat_lt (length w.statuses) 1024 ≡ b → (if b then None else fault 67) ≡ None → length w.statuses < 1024
+    by_test true e k = lt_from (length w.statuses) 1024 e
+    by_test false e k = absurd (cc)
 
 -- ---- what a start is given
 
@@ -105,18 +112,6 @@ module _ (look : KeptLook) (stack : KeptStack) (s : Scene) (x : Tables) (call : 
         (start_planned (look_of look) own d o is g.callee g.argument g.args (begun s x) number at.called at.function at.there at.types at.typed at.same)
         ∙ ap (λ ts. else_fault (creation_fault (shared_in s x) CreatesThread) (asks_break s x (storage_asks ts) picks)) (sym (equal_types thread_types at.types at.same))
         ∙ ap (λ asks. else_fault (creation_fault (shared_in s x) CreatesThread) (asks_break s x asks picks)) thread_asks
-
-    -- too many threads
-    pub many_threads : 1024 ≤ length x.statuses → do_breaks look stack s x call d picks ≡ fault 67
-    many_threads many =
-        start_breaks ∙ ap (λ (b : Bool). else_fault (if b then None else fault 67) (asks_break s x (Address 0 1 ∷ Address 8 8 ∷ []) picks)) (not_less (length x.statuses) 1024 many)
-      where
-        not_less : (a b : ℕ) → b ≤ a → nat_lt a b ≡ false
-        not_less a b h = grind (arith, nat_tests)
-
-    pub few_threads : length x.statuses < 1024 → do_breaks look stack s x call d picks ≡ asks_break s x (Address 0 1 ∷ Address 8 8 ∷ []) picks
-    few_threads few =
-        start_breaks ∙ ap (λ (b : Bool). else_fault (if b then None else fault 67) (asks_break s x (Address 0 1 ∷ Address 8 8 ∷ []) picks)) (lt_test (length x.statuses) 1024 few)
 
   -- ---- the start
 

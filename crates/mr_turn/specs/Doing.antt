@@ -1,5 +1,5 @@
 -- What the turn of a thread comes to whose next step is an intrinsic, behind the evaluation of what it is given.
-use Rattle.std.specs.Prelude.{◌≡◌, ℕ, ◌<◌, ◌^◌, true, List, [], ◌∷◌, length, Option, None, Some, if◌then◌else◌, slice_get}
+use Rattle.std.specs.Prelude.{◌≡◌, ℕ, ◌<◌, ◌^◌, true, List, [], ◌∷◌, length, Option, None, Some, Result, Ok, Err, if◌then◌else◌, slice_get}
 use Rattle.std.specs.Option.{option_map}
 use Rattle.mr_ast.specs.declared.program.Function.{Function}
 use Rattle.mr_ast.specs.declared.program.Intrinsic.{Intrinsic}
@@ -12,14 +12,21 @@ use Rattle.mr_mem.specs.Memory.{ranges_of}
 use Rattle.mr_value.specs.declared.val.Val.{Val}
 use Rattle.mr_value.specs.declared.val.Val.TheVariants as val
 use Rattle.mr_value.specs.Shape.{has_shape}
-use Rattle.mr_plan.specs.Legal.{Fault, picks_fault}
+use Rattle.mr_plan.specs.Legal.{Fault, creation_fault, else_fault, picks_fault}
 use Rattle.mr_frame.specs.Calls.{callee_of, kept_types, same_types, storage_asks}
 use Rattle.mr_wf.specs.Intrinsics.{is_print}
 use Rattle.mr_intr.specs.Effects.{listed}
+use Rattle.mr_intr.specs.Needs.{asks_of, creation_of}
+use Rattle.mr_intr.specs.declared.need.Needs.{Needs}
 use Rattle.mr_intr.specs.declared.effect.Effect.{Effect}
 use Rattle.mr_frame.specs.declared.flow.Flow.TheVariants as flow
 use Rattle.mr_turn.specs.declared.deed.Deed.{Deed}
-use Rattle.mr_script.specs.Script.{Outcome, run, ◌>>=◌}
+use Rattle.mr_base.specs.declared.thread.Event.{Event}
+use Rattle.mr_base.specs.declared.thread.Event.TheVariants.{Quiet, Spawn}
+use Rattle.mr_script.specs.Script.{Outcome, Refused, Went, run, ◌>>=◌}
+use Rattle.mr_eval.specs.World.{World}
+use Rattle.mr_turn.specs.declared.deed.TurnFault.{TurnFault}
+use Rattle.mr_turn.specs.declared.deed.TurnFault.TheVariants as answer
 use Rattle.mr_sync.specs.Tables.{IsEnabled, Tables}
 use Rattle.mr_eval.specs.declared.scene.Scene.{Scene}
 use Rattle.mr_plan.specs.Machine.{Plan}
@@ -29,14 +36,14 @@ use Rattle.mr_frame.proofs.DoSafe.{OperandsFit}
 use Rattle.mr_frame.specs.declared.dos.DoCall.{DoCall}
 use Rattle.mr_frame.specs.declared.look.Look.{Look as KeptLook}
 use Rattle.mr_frame.specs.declared.stack.Stack.{Stack as KeptStack}
-use Rattle.mr_frame.specs.Doing.{operands_of}
+use Rattle.mr_frame.specs.Doing.{FitsResult, operands_of}
 use Rattle.mr_frame.specs.Fits.{FitsStack}
-use Rattle.mr_frame.specs.Frames.{Look}
+use Rattle.mr_frame.specs.Frames.{Look, Stack}
 use Rattle.mr_frame.specs.Kept.{IsReady, look_of, stack_of}
 use Rattle.mr_frame.specs.Operations.{DueDo, Operands, next_do}
 use Rattle.mr_frame.specs.Standing.{IsUncounted}
 use Rattle.mr_thread.specs.Steps.{Own, Turn, operated, thread_types}
-use Rattle.mr_turn.specs.Turning.{begun, own_of, picks_break}
+use Rattle.mr_turn.specs.Turning.{asks_break, begun, own_of, picks_break, shared_in}
 
 -- the plan of an intrinsic that is given this, or why it stops before it has one
 unfoldable pub do_planned : Look → Own → DueDo → Operands → Shared × Notes → Outcome (Plan (StepScript Turn)) (Shared × Notes)
@@ -63,13 +70,56 @@ do_breaks look stack s x call d picks = picks_break (begun s x) (do_planned (loo
 abbrev pub do_comes_to : KeptLook → KeptStack → Scene → Tables → DoCall → DueDo → List ℕ → Outcome Turn (Shared × Notes)
 do_comes_to look stack s x call d picks = do_turned (look_of look) (own_of s.thread stack) d (operands_of call) picks (begun s x)
 
--- the deed of an operation, with the text of a print
-pub record IsTold (op : Intrinsic) (e : Effect) (printed : List ℕ) (d : Deed) : Type 0 where
+-- the thread has made fewer than 2^62 allocations, none of them with its count or a greater one
+pub record CanAsk (s : Scene) : Type 0 where
+  pub uncounted : IsUncounted s.memory s.thread s.count
+  pub few : s.count < 2 ^ 62
+
+-- the rule that the picks break for what an operation needs
+abbrev pub MeetsNeeds : Scene → Tables → Needs → List ℕ → Option Fault
+MeetsNeeds s x n picks = else_fault (creation_fault (shared_in s x) (creation_of n.creates)) (asks_break s x (asks_of n.ask) picks)
+
+-- an intrinsic that is due can end with this value
+pub record CanEnd (look : KeptLook) (stack : KeptStack) (call : DoCall) (v : Option Val) : Type 0 where
+  pub ready : IsReady look
+  pub fits : FitsStack look.program.now (stack_of stack)
+  pub due : DueDo
+  pub is : next_do (look_of look) (stack_of stack) ≡ Some due
+  pub result : FitsResult call.result call.result_type v
+
+-- The deed of an intrinsic that ended, or the reason for which the store of its result stops.
+abbrev pub EndAnswer : Result Deed TurnFault → Outcome Stack World → Stack → World → (Deed → Type 0) → Type 0
+EndAnswer (Ok d) o k w IsSo = (o ≡ Went k w) × IsSo d
+EndAnswer (Err (answer.Broken e)) o k w IsSo = ⊥
+EndAnswer (Err (answer.Undefined r)) o k w IsSo = o ≡ Refused r
+EndAnswer (Err answer.Memory) o k w IsSo = Unit {0}
+
+-- the thread goes on, and nothing else was done
+pub record IsNoted (d : Deed) : Type 0 where
   pub flow : d.flow ≡ flow.Went
-  pub event : d.event ≡ e.event
-  pub woken : d.woken.items ≡ listed e.woken
+  pub event : d.event ≡ Quiet
+  pub woken : d.woken.items ≡ []
+  pub started : d.started ≡ None
+  pub text : d.text ≡ None
+
+-- a thread with this stack and number was started
+pub record IsNewThread (new : KeptStack) (number : ℕ) (d : Deed) : Type 0 where
+  pub flow : d.flow ≡ flow.Went
+  pub event : d.event ≡ Spawn number
+  pub woken : d.woken.items ≡ number ∷ []
+  pub started : d.started ≡ Some new
+  pub text : d.text ≡ None
+
+-- the deed of an operation, with the text of a print
+pub record IsDeed (op : Intrinsic) (event : Event) (woken : Option ℕ) (printed : List ℕ) (d : Deed) : Type 0 where
+  pub flow : d.flow ≡ flow.Went
+  pub noted : d.event ≡ event
+  pub awakened : d.woken.items ≡ listed woken
   pub started : d.started ≡ None
   pub text : option_map (λ t. t.items) d.text ≡ (if is_print op then Some printed else None)
+
+abbrev pub IsTold : Intrinsic → Effect → List ℕ → Deed → Type 0
+IsTold op e printed d = IsDeed op e.event e.woken printed d
 
 -- ---- the start of a thread
 

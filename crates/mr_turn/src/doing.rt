@@ -1,30 +1,25 @@
 //! The turn of a thread whose next step is an intrinsic.
-ghost use Rattle.std.specs.Prelude.{◌≡◌, Some};
-ghost use Rattle.mr_intr.proofs.Operates.{IsOperation};
+ghost use Rattle.std.specs.Prelude.{◌≡◌, IfOk, None, Some};
+ghost use Rattle.mr_intr.specs.Effects.{IsOperation};
+ghost use Rattle.mr_eval.specs.World.{world_of};
+ghost use Rattle.mr_frame.specs.Doing.{operands_of};
+ghost use Rattle.mr_frame.specs.Effects.{finished};
 ghost use Rattle.mr_frame.specs.Kept.{look_of, stack_of};
 ghost use Rattle.mr_frame.specs.Operations.{DueDo, next_do};
-ghost use Rattle.mr_plan.specs.Machine.{Needs as NeedsOf};
-ghost use Rattle.mr_turn.specs.Doing.{CanFinish, IsGiven, MeetsNeeds, do_breaks, do_comes_to};
+ghost use Rattle.mr_turn.specs.Doing.{CanAsk, CanEnd, EndAnswer, IsDeed, IsGiven, IsNoted, IsTold, MeetsNeeds, do_breaks, do_comes_to};
 ghost use Rattle.mr_turn.specs.Turning.{BeginsTurn, DeedAnswer, Does, IsSame, JudgeAnswer, TurnAnswer, breaks, comes_to};
 
 use crate::deed::{Deed, TurnFault};
-use crate::judging::{judged, stopped};
+use crate::judging::{judged, met, stopped};
 use crate::spawning::spawn;
 use mr_ast::Intrinsic;
 use mr_base::{Event, Reason};
 use mr_eval::{Fault, Scene};
 use mr_frame::{DoCall, Flow, Look, Stack};
-use mr_intr::{Creation, Effect, Needs, needs, operate};
-use mr_start::PickFailure;
+use mr_intr::{Effect, Needs, needs_of, operate};
 use mr_sync::SyncTable;
 use mr_value::Val;
-use std::alloc::Global;
-
-/// As many locks may be.
-const LOCKS: u32 = 4096;
-
-/// There are as many locks as may be.
-const TOO_MANY_LOCKS: u8 = 68;
+use std::alloc::{AllocError, Global};
 
 /// The turn of a thread whose next step is this intrinsic: what it is given comes first.
 pub fn do_turn(
@@ -84,32 +79,44 @@ fn payload(
     let Some(last) = stack.payload() else {
         return Err(stopped(Reason::NoPayload, picks));
     };
-    judged(s, sync, &[], picks)?;
-    let value = Val::Ptr(last);
-    stack.finish(alloc, look, s, call, Some(&value))?;
-    Ok(Deed {
-        flow: Flow::Went,
-        event: Event::Quiet,
-        woken: Vec::new(alloc),
-        started: None,
-        text: None,
-    })
+    match judged(s, sync, &[], picks) {
+        Err(fault) => Err(fault),
+        Ok(()) => end(alloc, look, stack, s, call, &Val::Ptr(last)),
+    }
 }
 
-// 68, where a lock is to be created; then the picks.
+// The end of an intrinsic with this result, which did nothing else.
+fn end(
+    alloc: Global,
+    look: &Look<'_>,
+    stack: &mut Stack,
+    s: &mut Scene,
+    call: &DoCall,
+    value: &Val,
+) -> Result<Deed, TurnFault>
+    requires { CanEnd look.now stack.old call.now (Some value.now) }
+    ensures { (d : DueDo) → next_do (look_of look.now) (stack_of stack.old) ≡ Some d → EndAnswer result (finished (stack_of stack.old) d (operands_of call.now) (Some value.now) (world_of s.old)) (stack_of stack.new) (world_of s.new) IsNoted }
+{
+    match stack.finish(alloc, look, s, call, Some(value)) {
+        Err(fault) => Err(TurnFault::from(fault)),
+        Ok(()) => Ok(Deed {
+            flow: Flow::Went,
+            event: Event::Quiet,
+            woken: Vec::new(alloc),
+            started: None,
+            text: None,
+        }),
+    }
+}
+
+// What an operation needs: what it creates, and a pick where it asks for one.
 fn meets(s: &Scene, sync: &SyncTable, needs: Needs, picks: &[u64]) -> Result<(), TurnFault>
-    requires { CanFinish s.now }
+    requires { CanAsk s.now }
     ensures { JudgeAnswer result (MeetsNeeds s.now sync.now needs picks.now) }
 {
-    if matches!(needs.creates, Creation::Lock) && sync.locks() >= LOCKS {
-        return Err(TurnFault::Broken(PickFailure {
-            code: TOO_MANY_LOCKS,
-            earlier: None,
-        }));
-    }
     match needs.ask {
-        None => judged(s, sync, &[], picks),
-        Some(ask) => judged(s, sync, &[ask], picks),
+        None => met(s, sync, needs.creates, &[], picks),
+        Some(ask) => met(s, sync, needs.creates, &[ask], picks),
     }
 }
 
@@ -128,7 +135,7 @@ fn operation(
     requires kind { IsOperation op }
     ensures { (d : DueDo) → next_do (look_of look.now) (stack_of stack.old) ≡ Some d → TurnAnswer result (do_breaks look.now stack.old s.old sync.old call.now d picks.now) (do_comes_to look.now stack.old s.old sync.old call.now d picks.now) (Does stack.old s.old sync.old (do_comes_to look.now stack.old s.old sync.old call.now d picks.now) stack.new s.new sync.new) (IsSame stack.old s.old sync.old stack.new s.new sync.new) }
 {
-    let needs = match needs(op, call.args.as_slice(), sync, s.thread) {
+    let needs = match needs_of(op, call.args.as_slice(), sync, s.thread) {
         Err(reason) => return Err(stopped(reason, picks)),
         Ok(needs) => needs,
     };
@@ -154,30 +161,46 @@ fn carry_out(
     ensures { (d : DueDo) → next_do (look_of look.now) (stack_of stack.old) ≡ Some d → DeedAnswer result (do_comes_to look.now stack.old s.old sync.old call.now d picks.now) (Does stack.old s.old sync.old (do_comes_to look.now stack.old s.old sync.old call.now d picks.now) stack.new s.new sync.new) }
 {
     let mut text = Vec::new(alloc);
-    let effect = operate(
-        alloc,
-        op,
-        call.args.as_slice(),
-        call.arg_types.as_slice(),
-        call.result_type.as_ref(),
-        s,
-        sync,
-        &mut text,
-        picks,
-    )?;
-    stack.finish(alloc, look, s, call, effect.value.as_ref())?;
-    told(alloc, op, effect, text)
+    let (args, types) = (call.args.as_slice(), call.arg_types.as_slice());
+    let place = call.result_type.as_ref();
+    match operate(alloc, op, args, types, place, s, sync, &mut text, picks) {
+        Err(fault) => Err(TurnFault::from(fault)),
+        Ok(effect) => end_told(alloc, look, stack, s, call, op, effect, text),
+    }
+}
+
+// The end of an operation that had this effect and printed this text.
+fn end_told(
+    alloc: Global,
+    look: &Look<'_>,
+    stack: &mut Stack,
+    s: &mut Scene,
+    call: &DoCall,
+    op: Intrinsic,
+    effect: Effect,
+    text: Vec<u8>,
+) -> Result<Deed, TurnFault>
+    requires { CanEnd look.now stack.old call.now effect.value }
+    ensures { (d : DueDo) → next_do (look_of look.now) (stack_of stack.old) ≡ Some d → EndAnswer result (finished (stack_of stack.old) d (operands_of call.now) effect.entry.value (world_of s.old)) (stack_of stack.new) (world_of s.new) (IsTold op effect.entry text.entry.items) }
+{
+    match stack.finish(alloc, look, s, call, effect.value.as_ref()) {
+        Err(fault) => Err(TurnFault::from(fault)),
+        Ok(()) => Ok(told(alloc, op, effect.event, effect.woken, text)?),
+    }
 }
 
 // What an operation did, as a deed.
 fn told(
     alloc: Global,
     op: Intrinsic,
-    effect: Effect,
+    event: Event,
+    awakened: Option<u32>,
     text: Vec<u8>,
-) -> Result<Deed, TurnFault> {
+) -> Result<Deed, AllocError>
+    ensures { IfOk result (IsDeed op event awakened text.items) }
+{
     let mut woken = Vec::new(alloc);
-    if let Some(thread) = effect.woken {
+    if let Some(thread) = awakened {
         woken.push(thread)?;
     }
     let text = match op {
@@ -186,7 +209,7 @@ fn told(
     };
     Ok(Deed {
         flow: Flow::Went,
-        event: effect.event,
+        event,
         woken,
         started: None,
         text,

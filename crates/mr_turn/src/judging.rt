@@ -1,14 +1,31 @@
 //! What is judged before a step does anything.
-ghost use Rattle.std.specs.Prelude.{◌+◌, ◌<◌, ◌^◌, length};
+ghost use Rattle.std.specs.Prelude.{◌≡◌, ◌+◌, ◌<◌, ◌^◌, Err, None, Option, if◌then◌else◌, length, nat_lt};
+ghost use Rattle.mr_mem.specs.Memory.{Memory};
+ghost use Rattle.mr_plan.specs.Legal.{Fault as FaultOf, creation_fault, else_fault, fault};
+ghost use Rattle.mr_intr.specs.Effects.{shared_of};
+ghost use Rattle.mr_intr.specs.Needs.{creation_of};
 ghost use Rattle.mr_frame.specs.Standing.{IsUncounted};
-ghost use Rattle.mr_turn.specs.Turning.{JudgeAnswer, StopAnswer, asks_break};
+ghost use Rattle.mr_turn.specs.Turning.{JudgeAnswer, StopAnswer, asks_break, shared_in};
 
 use crate::deed::TurnFault;
 use mr_base::Reason;
 use mr_eval::Scene;
+use mr_intr::Creation;
 use mr_sched::Ask;
 use mr_start::{PickFailure, judge};
 use mr_sync::SyncTable;
+
+/// As many threads may be.
+const THREADS: u32 = 1024;
+
+/// As many locks may be.
+const LOCKS: u32 = 4096;
+
+/// There are as many threads as may be.
+const TOO_MANY_THREADS: u8 = 67;
+
+/// There are as many locks as may be.
+const TOO_MANY_LOCKS: u8 = 68;
 
 /// The step needs no pick, and there is one.
 const EXTRA_PICK: u8 = 62;
@@ -22,6 +39,56 @@ pub fn judged(s: &Scene, sync: &SyncTable, asks: &[Ask], picks: &[u64]) -> Resul
     match judge(&s.memory, sync, s.thread, s.count, asks, picks) {
         Ok(()) => Ok(()),
         Err(failure) => Err(TurnFault::Broken(failure)),
+    }
+}
+
+// A refusal by a rule without an identity.
+fn broken(code: u8) -> TurnFault
+    ensures { (o : Option FaultOf) → o ≡ fault code → JudgeAnswer (Err result) o }
+{
+    TurnFault::Broken(PickFailure {
+        code,
+        earlier: None,
+    })
+}
+
+// There may be so many of something.
+fn below(count: u32, limit: u32, code: u8) -> Result<(), TurnFault>
+    ensures { JudgeAnswer result (if nat_lt count limit then None else fault code) }
+{
+    if count < limit {
+        Ok(())
+    } else {
+        Err(broken(code))
+    }
+}
+
+// 67 and 68: there are as many threads or locks as may be, and one more is to be created.
+fn limited(creates: Creation, sync: &SyncTable) -> Result<(), TurnFault>
+    ensures { (m : Memory) → JudgeAnswer result (creation_fault (shared_of m sync.now) (creation_of creates)) }
+{
+    match creates {
+        Creation::Nothing => Ok(()),
+        Creation::Thread => below(sync.threads(), THREADS, TOO_MANY_THREADS),
+        Creation::Lock => below(sync.locks(), LOCKS, TOO_MANY_LOCKS),
+    }
+}
+
+/// What a step creates, and then its picks.
+pub fn met(
+    s: &Scene,
+    sync: &SyncTable,
+    creates: Creation,
+    asks: &[Ask],
+    picks: &[u64],
+) -> Result<(), TurnFault>
+    requires room { s.now.count + length asks.now < 2 ^ 64 }
+    requires uncounted { IsUncounted s.now.memory s.now.thread s.now.count }
+    ensures { JudgeAnswer result (else_fault (creation_fault (shared_in s.now sync.now) (creation_of creates)) (asks_break s.now sync.now asks.now picks.now)) }
+{
+    match limited(creates, sync) {
+        Err(fault) => Err(fault),
+        Ok(()) => judged(s, sync, asks, picks),
     }
 }
 

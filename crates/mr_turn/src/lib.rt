@@ -7,7 +7,11 @@
 #![tactic(auto)]
 
 mod deed;
+mod doing;
 mod framed;
 mod judging;
+mod spawning;
+mod turning;
 
 pub use deed::{Deed, TurnFault};
+pub use turning::turn;

@@ -1,35 +1,33 @@
 //! The start of a thread.
 ghost use Rattle.std.specs.Prelude.{◌≡◌, ◌<◌, List, Some, length};
+ghost use Rattle.mr_ast.specs.declared.program.Intrinsic.TheVariants as intrinsic;
 ghost use Rattle.mr_ast.specs.declared.types.Ty.{Ty as TypeOf};
 ghost use Rattle.mr_base.specs.declared.byte.Pointer.{Pointer as PointerOf};
 ghost use Rattle.mr_value.specs.declared.val.Val.TheVariants as val;
 ghost use Rattle.mr_frame.specs.Calling.{HasLocals};
 ghost use Rattle.mr_frame.specs.Calls.{kept_types, local_type, same_types};
+ghost use Rattle.mr_eval.specs.World.{world_of};
+ghost use Rattle.mr_frame.specs.Doing.{operands_of};
+ghost use Rattle.mr_frame.specs.Effects.{finished};
 ghost use Rattle.mr_frame.specs.Kept.{look_of, stack_of};
 ghost use Rattle.mr_frame.specs.Operations.{DueDo, next_do};
 ghost use Rattle.mr_thread.specs.Steps.{thread_types};
-ghost use Rattle.mr_turn.specs.Doing.{IsGiven, StartsThread, do_breaks, do_comes_to};
+ghost use Rattle.mr_turn.specs.Doing.{CanEnd, EndAnswer, IsGiven, IsNewThread, StartsThread, do_breaks, do_comes_to};
 ghost use Rattle.mr_turn.specs.Turning.{DeedAnswer, Does, IsSame, TurnAnswer};
 
 use crate::deed::{Deed, TurnFault};
-use crate::judging::{judged, stopped};
+use crate::judging::{met, stopped};
 use mr_ast::{FnName, Function, LocalName, Ty};
 use mr_base::{Event, Pointer, Reason};
 use mr_eval::Scene;
 use mr_frame::{DoCall, Flow, Look, Stack, callee};
+use mr_intr::Creation;
 use mr_sched::Ask;
-use mr_start::PickFailure;
 use mr_sync::SyncTable;
 use mr_value::Val;
 use mr_wf::Known;
 use sqlite_items::Items;
 use std::alloc::Global;
-
-/// As many threads may be.
-const THREADS: u32 = 1024;
-
-/// There are as many threads as may be.
-const TOO_MANY_THREADS: u8 = 67;
 
 // The type of a local.
 fn type_of(f: &Function, x: LocalName) -> &Ty
@@ -78,7 +76,7 @@ pub fn spawn(
     call: &DoCall,
     picks: &[u64],
 ) -> Result<Deed, TurnFault>
-    requires { (d : DueDo) × IsGiven look.now stack.old s.old sync.old call.now d × (d.op ≡ Intrinsic.Spawn) }
+    requires { (d : DueDo) × IsGiven look.now stack.old s.old sync.old call.now d × (d.op ≡ intrinsic.Spawn) }
     ensures { (d : DueDo) → next_do (look_of look.now) (stack_of stack.old) ≡ Some d → TurnAnswer result (do_breaks look.now stack.old s.old sync.old call.now d picks.now) (do_comes_to look.now stack.old s.old sync.old call.now d picks.now) (Does stack.old s.old sync.old (do_comes_to look.now stack.old s.old sync.old call.now d picks.now) stack.new s.new sync.new) (IsSame stack.old s.old sync.old stack.new s.new sync.new) }
 {
     let Some(f) = callee(look.functions, pointer_in(&call.args.as_slice()[0])) else {
@@ -87,17 +85,11 @@ pub fn spawn(
     if !begins_thread(alloc, &look.program.program().functions.as_slice()[f.0 as usize]) {
         return Err(stopped(Reason::SignatureMismatch, picks));
     }
-    if sync.threads() >= THREADS {
-        return Err(TurnFault::Broken(PickFailure {
-            code: TOO_MANY_THREADS,
-            earlier: None,
-        }));
-    }
     let asks = [
         Ask::Address { size: 0, align: 1 },
         Ask::Address { size: 8, align: 8 },
     ];
-    match judged(s, sync, &asks, picks) {
+    match met(s, sync, Creation::Thread, &asks, picks) {
         Err(fault) => Err(fault),
         Ok(()) => start(alloc, look, stack, s, sync, call, f, picks),
     }
@@ -119,15 +111,34 @@ fn start(
 {
     let new = Stack::enter(alloc, look, s, f, &call.args.as_slice()[1..], picks)?;
     let number = sync.spawn()?;
-    let value = Val::Int(u128::from(number));
-    stack.finish(alloc, look, s, call, Some(&value))?;
-    let mut woken = Vec::new(alloc);
-    woken.push(number)?;
-    Ok(Deed {
-        flow: Flow::Went,
-        event: Event::Spawn(number),
-        woken,
-        started: Some(new),
-        text: None,
-    })
+    end_start(alloc, look, stack, s, call, new, number)
+}
+
+// The store of a new thread's number as the result.
+fn end_start(
+    alloc: Global,
+    look: &Look<'_>,
+    stack: &mut Stack,
+    s: &mut Scene,
+    call: &DoCall,
+    new: Stack,
+    number: u32,
+) -> Result<Deed, TurnFault>
+    requires { CanEnd look.now stack.old call.now (Some (val.Int number)) }
+    ensures { (d : DueDo) → next_do (look_of look.now) (stack_of stack.old) ≡ Some d → EndAnswer result (finished (stack_of stack.old) d (operands_of call.now) (Some (val.Int number)) (world_of s.old)) (stack_of stack.new) (world_of s.new) (IsNewThread new.entry number) }
+{
+    match stack.finish(alloc, look, s, call, Some(&Val::Int(u128::from(number)))) {
+        Err(fault) => Err(TurnFault::from(fault)),
+        Ok(()) => {
+            let mut woken = Vec::new(alloc);
+            woken.push(number)?;
+            Ok(Deed {
+                flow: Flow::Went,
+                event: Event::Spawn(number),
+                woken,
+                started: Some(new),
+                text: None,
+            })
+        }
+    }
 }

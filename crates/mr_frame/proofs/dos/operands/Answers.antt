@@ -1,4 +1,4 @@
-use Rattle.std.proofs.Common.{◌≡◌, sym, subst}
+use Rattle.std.proofs.Common.{sym, subst}
 use Rattle.std.specs.Prelude.{option_copied}
 use Rattle.mr_script.specs.Script.{Outcome}
 use Rattle.mr_eval.specs.Answers.{seen}

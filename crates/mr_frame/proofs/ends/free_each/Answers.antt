@@ -1,8 +1,5 @@
-use Rattle.std.proofs.Common.{◌≡◌, None, sym, ap, ◌∙◌, subst, arith, get_or, length}
-use Rattle.mr_ast.specs.declared.program.Local.{Local}
-use Rattle.mr_layout.specs.Sizes.{align_of, size_of}
-use Rattle.mr_script.specs.Script.{Outcome}
-use Rattle.mr_eval.specs.World.{World, world_of}
+use Rattle.std.proofs.Common.{None, ◌∙◌, arith, get_or}
+use Rattle.mr_eval.specs.World.{world_of}
 use Rattle.mr_frame.specs.Effects.{unstored}
 use Rattle.mr_frame.specs.Ending.{freed_each}
 use Rattle.mr_frame.proofs.EndLaws.{found_freed, freed_end, freed_step, freed_stop}

@@ -1,6 +1,4 @@
-use Rattle.std.proofs.Common.{◌≡◌, ℕ, ◌*◌, ◌^◌, ◌<◌, Option, Some, ap, subst, sym, ◌∙◌}
-use Rattle.std.specs.Prelude.{length}
-use Rattle.mr_ast.specs.Integers.{int_size}
+use Rattle.std.proofs.Common.{◌≡◌, ℕ, ◌*◌, ◌^◌, ◌<◌, Some, ap, subst, sym, ◌∙◌}
 use Rattle.mr_runs.specs.Pieces.{bytes_of_pieces}
 use Rattle.mr_value.specs.Numbers.{number_of}
 use Rattle.mr_value.proofs.DecodeShape.{number_fits}

@@ -1,9 +1,8 @@
-use Rattle.std.proofs.Common.{List, Some, ap, sym, refl, ◌∙◌, arith}
+use Rattle.std.proofs.Common.{List, Some, ap, sym, refl, ◌∙◌}
 use Rattle.std.specs.Prelude.{slice_get}
 use Rattle.mr_ast.specs.declared.program.Intrinsic.TheVariants as intrinsic
 use Rattle.mr_base.specs.declared.byte.Kind.TheVariants.{Heap}
-use Rattle.mr_eval.specs.MemoryQueries.{Allocate, next_id}
-use Rattle.mr_eval.specs.World.{tally_of}
+use Rattle.mr_eval.specs.MemoryQueries.{Allocate}
 use Rattle.mr_value.specs.declared.val.Val.{Val}
 use Rattle.mr_value.specs.declared.val.Val.TheVariants as val
 use Rattle.mr_value.proofs.ShapeLaws.{has_raw}
@@ -31,7 +30,7 @@ pub returns-in-Some-clause-done : goal.returns-in-Some-clause-done
 returns-in-Some-clause-done c =
     λ types place x out. (
       allocated c.args.args.now types place c.args.picks.now (begun c.args.s.now x) c.size_at-size.result c.size_at-align.result c.requires.fits c.size_at-size.ensures c.size_at-align.ensures
-      ∙ allocation_refused c.size_at-size.result c.size_at-align.result c.args.picks.now (begun c.args.s.now x) c.in-Some.reason (sym c.allocation_fault.ensures ∙ c.in-Some.is),
+          ∙ allocation_refused c.size_at-size.result c.size_at-align.result c.args.picks.now (begun c.args.s.now x) c.in-Some.reason (sym c.allocation_fault.ensures ∙ c.in-Some.is),
       refl,
     )
 

@@ -25,6 +25,6 @@ returns-in-Err-clause-done c =
     λ picks s types place out same.
     let number = c.number_at-lock.result in (
       acquire_read c.args.args.now types place picks s c.args.sync.now number c.number_at-lock.ensures c.requires.fits
-      ∙ acquire_refused types place picks s c.args.sync.now c.args.thread same number c.in-Err.reason c.in-Err.ensures.acquired,
+          ∙ acquire_refused types place picks s c.args.sync.now c.args.thread same number c.in-Err.reason c.in-Err.ensures.acquired,
       refl,
     )

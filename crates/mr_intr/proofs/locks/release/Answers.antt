@@ -2,10 +2,9 @@ use Rattle.std.proofs.Common.{List, ap, refl, ◌∙◌}
 use Rattle.std.specs.Prelude.{slice_get}
 use Rattle.mr_ast.specs.declared.program.Intrinsic.TheVariants as intrinsic
 use Rattle.mr_value.specs.declared.val.Val.{Val}
-use Rattle.mr_intr.specs.Arguments.{PicksThread}
 use Rattle.mr_intr.specs.Effects.{begun, operated}
 use Rattle.mr_intr.proofs.Arguments.{release_takes}
-use Rattle.mr_intr.proofs.LockLaws.{handing, picks_of, release_read, release_refused, release_went, waiter_given, waiter_known}
+use Rattle.mr_intr.proofs.LockLaws.{picks_of, release_read, release_refused, release_went, waiter_given, waiter_known}
 use Rattle.mr_intr.proofs.OperatedLaws.{done_as}
 use Rattle.mr_intr.proofs.locks.release.Goals as goal
 
@@ -50,6 +49,6 @@ returns-in-Err-clause-done c =
     let l = c.number_at-lock.result in
     let is = release_read c.args.args.now l c.number_at-lock.ensures c.requires.fits in (
       ap (λ (vs : List Val). operated intrinsic.Release vs types place c.args.picks.now (begun s x)) is
-      ∙ release_refused types place c.args.picks.now s x c.args.thread same l c.picked-to.result c.in-Err.reason c.in-Err.ensures.released,
+          ∙ release_refused types place c.args.picks.now s x c.args.thread same l c.picked-to.result c.in-Err.reason c.in-Err.ensures.released,
       refl,
     )

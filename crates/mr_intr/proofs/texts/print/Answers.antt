@@ -1,11 +1,11 @@
-use Rattle.std.proofs.Common.{◌≡◌, ℕ, List, ◌++◌, [], ◌∷◌, drop, ap, sym, subst, ◌∙◌, arith, append-nil, append_assoc}
-use Rattle.mr_eval.proofs.ShapeOf.{HaveShapes, shapes_length}
+use Rattle.std.proofs.Common.{◌≡◌, ℕ, List, ◌++◌, [], ◌∷◌, drop, ap, sym, subst, ◌∙◌, append-nil, append_assoc}
+use Rattle.mr_eval.proofs.ShapeOf.{HaveShapes}
 use Rattle.mr_ast.specs.declared.program.Intrinsic.TheVariants as intrinsic
 use Rattle.mr_ast.specs.declared.types.Ty.{Ty}
 use Rattle.mr_value.specs.declared.val.Val.{Val}
 use Rattle.mr_intr.specs.Printed.{text_in, texts_in}
 use Rattle.mr_intr.specs.Texts.{spaced, spaced_behind}
-use Rattle.mr_intr.specs.Effects.{IsDone, begun, operated}
+use Rattle.mr_intr.specs.Effects.{begun, operated}
 use Rattle.mr_intr.proofs.OperatedLaws.{done_as}
 use Rattle.mr_intr.proofs.TextLaws.{behind_first, no_args, no_texts, printed_done, print_kinds, texts_first}
 use Rattle.mr_intr.proofs.texts.print.Goals as goal

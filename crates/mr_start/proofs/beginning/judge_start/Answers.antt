@@ -1,13 +1,9 @@
-use Rattle.std.proofs.Common.{◌≡◌, ℕ, List, ap, sym, ◌∙◌, subst, map}
-use Rattle.std.specs.Prelude.{None, Option}
+use Rattle.std.proofs.Common.{List, ap, sym, ◌∙◌, map}
 use Rattle.std.specs.FinMap as fin
-use Rattle.mr_base.specs.declared.byte.AllocId.{AllocId}
 use Rattle.mr_mem.specs.Memory.{Memory, id_cmp, ranges_of}
 use Rattle.mr_sched.specs.declared.schedule.Ask.{Ask}
-use Rattle.mr_plan.specs.Legal.{Fault, picks_fault}
-use Rattle.mr_sync.specs.Tables.{Tables}
-use Rattle.mr_start.specs.Begin.{fault_over, piece_of, pieces_fault}
-use Rattle.mr_start.specs.Start.{ask_of}
+use Rattle.mr_plan.specs.Legal.{picks_fault}
+use Rattle.mr_start.specs.Begin.{piece_of}
 use Rattle.mr_start.proofs.PlacedLaws.{over_empty}
 use Rattle.mr_start.proofs.beginning.judge_start.Goals as goal
 

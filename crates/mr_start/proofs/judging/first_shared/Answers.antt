@@ -1,8 +1,6 @@
 use Rattle.std.proofs.Common.{◌≡◌, ℕ, ◌+◌, ◌<◌, sym, ap, ◌∙◌, arith, cond, length, drop}
 use Rattle.std.specs.Prelude.{Some}
-use Rattle.mr_base.specs.declared.byte.AllocId.{AllocId}
 use Rattle.mr_mem.specs.Memory.{first_overlapped}
-use Rattle.mr_sched.specs.declared.schedule.Ask.{Ask}
 use Rattle.mr_sched.specs.declared.schedule.Ask.TheVariants.{Address}
 use Rattle.mr_start.specs.Judging.{picked}
 use Rattle.mr_start.proofs.Overlaps.{id_of}

@@ -1,8 +1,6 @@
-use Rattle.std.proofs.Common.{◌≡◌, Some, None, Option, sym, ap, ◌∙◌}
-use Rattle.mr_base.specs.declared.byte.AllocId.{AllocId}
-use Rattle.mr_mem.specs.Memory.{pick_fault, reused}
+use Rattle.std.proofs.Common.{Some, sym, ap, ◌∙◌}
+use Rattle.mr_mem.specs.Memory.{reused}
 use Rattle.mr_plan.specs.Legal.{address_fault}
-use Rattle.mr_start.specs.Judging.{least}
 use Rattle.mr_start.proofs.PickLaws.{bad_among, known_among}
 use Rattle.mr_start.proofs.judging.judge_address.Goals as goal
 use Rattle.mr_start.proofs.judging.judge_address.Goals.{in-Err-Reused, in-Ok}

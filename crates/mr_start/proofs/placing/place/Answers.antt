@@ -8,7 +8,7 @@ use Rattle.mr_start.specs.declared.pieces.Piece.{Piece as Made}
 use Rattle.mr_start.specs.Begin.{fault_over, own_id, piece_of}
 use Rattle.mr_start.specs.Start.{Piece, placed}
 use Rattle.mr_start.proofs.PickLaws.{left_at}
-use Rattle.mr_start.proofs.PlacedLaws.{counted_next, first_lawful, legal_next, memory_next, over_empty, pick_there, piece_at, pointers_next}
+use Rattle.mr_start.proofs.PlacedLaws.{counted_next, legal_next, memory_next, over_empty, pick_there, piece_at, pointers_next}
 use Rattle.mr_start.proofs.StartStores.{AreCounted, none_counted}
 use Rattle.mr_start.proofs.placing.place.Goals as goal
 

@@ -1,5 +1,4 @@
-use Rattle.std.proofs.Common.{◌≡◌, true, false, refl, sym, ap, ◌∙◌, None, Option}
-use Rattle.mr_base.specs.declared.thread.Status.{Status}
+use Rattle.std.proofs.Common.{◌≡◌, refl, sym, ap, ◌∙◌}
 use Rattle.mr_frame.specs.Kept.{look_of}
 use Rattle.mr_plan.specs.Legal.{fault}
 use Rattle.mr_plan.specs.Runs.{entry_fault}

@@ -4,7 +4,7 @@ use Rattle.std.specs.Prelude.{slice_set}
 use Rattle.std.specs.Option.{option_map}
 use Rattle.mr_event.specs.declared.footprint.Footprint.{Footprint}
 use Rattle.mr_plan.specs.Machine.{started_threads}
-use Rattle.mr_turn.specs.Turning.{is_end, own_of}
+use Rattle.mr_turn.specs.Turning.{own_of}
 use Rattle.mr_step.specs.declared.progress.Progress.{Progress}
 use Rattle.mr_step.specs.Kept.{config_of, numbered, standing_thread, state_of}
 use Rattle.mr_step.specs.Settling.{LeadsTo, bare_by, verdict_in}
@@ -39,8 +39,8 @@ returns c = λ th n here tells.
       sync = refl;
       gone = refl;
       threads = c.in_ok-join.ensures
-      ∙ (λ i. marks i ++ started_threads (option_map (own_of (many i)) d.started))
-      ∙ (λ i. slice_set (numbered 0 p.threads.items) t (standing_thread t (c.is_end.ensures i) (c.in_ok-left.ensures.count i) th.stack) ++ started_threads (option_map (own_of (length p.threads.items)) d.started));
+          ∙ (λ i. marks i ++ started_threads (option_map (own_of (many i)) d.started))
+          ∙ (λ i. slice_set (numbered 0 p.threads.items) t (standing_thread t (c.is_end.ensures i) (c.in_ok-left.ensures.count i) th.stack) ++ started_threads (option_map (own_of (length p.threads.items)) d.started));
       output = c.in_ok-print.ensures;
       last = refl;
       completed = refl;

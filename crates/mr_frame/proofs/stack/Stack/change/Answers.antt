@@ -1,12 +1,10 @@
-use Rattle.std.proofs.Common.{◌≡◌, ◌∷◌, ℕ, ◌+◌, ◌<◌, ◌^◌, refl, sym, ap, ◌∙◌, subst}
-use Rattle.mr_mem.specs.Memory.{Memory}
-use Rattle.mr_script.specs.Script.{Outcome, Went, on}
+use Rattle.std.proofs.Common.{◌∷◌, refl, sym, ap, ◌∙◌}
+use Rattle.mr_script.specs.Script.{Went, on}
 use Rattle.mr_eval.specs.Answers.{seen}
 use Rattle.mr_eval.specs.Environment.{env_surround}
 use Rattle.mr_eval.specs.Evaluation.{Surround}
-use Rattle.mr_eval.specs.Reads.{Seen}
 use Rattle.mr_eval.specs.Tally.{seen_of, with_seen}
-use Rattle.mr_eval.specs.World.{World, world_of}
+use Rattle.mr_eval.specs.World.{world_of}
 use Rattle.mr_frame.specs.Effects.{Left, acted, changed}
 use Rattle.mr_frame.specs.Frames.{Frame, GoesOn, behind_stmt}
 use Rattle.mr_frame.specs.Kept.{below_of, frame_of, look_of, stack_of}

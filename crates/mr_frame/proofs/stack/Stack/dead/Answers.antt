@@ -1,7 +1,7 @@
-use Rattle.std.proofs.Common.{◌≡◌, ℕ, ◌+◌, ◌<◌, ◌^◌, [], ◌∷◌, refl, sym, ap, ◌∙◌, subst, arith}
+use Rattle.std.proofs.Common.{ℕ, ◌+◌, ◌<◌, ◌^◌, refl, sym, ap, ◌∙◌, subst}
 use Rattle.mr_ast.specs.declared.program.Stmt.TheVariants as stmt
 use Rattle.mr_eval.specs.World.{world_of}
-use Rattle.mr_frame.specs.Effects.{acted, renewed, unstored}
+use Rattle.mr_frame.specs.Effects.{acted, unstored}
 use Rattle.mr_frame.specs.Frames.{Frame, behind_stmt}
 use Rattle.mr_frame.specs.Kept.{frame_of, look_of, stack_of}
 use Rattle.mr_frame.specs.Sites.{AtStatement}

@@ -1,10 +1,10 @@
-use Rattle.std.proofs.Common.{◌≡◌, [], ◌∷◌, List, Some, refl, sym, ap, ◌∙◌}
+use Rattle.std.proofs.Common.{[], List, Some, sym, ap, ◌∙◌}
 use Rattle.mr_base.specs.declared.byte.Pointer.{Pointer}
-use Rattle.mr_script.specs.Script.{Outcome, Went}
-use Rattle.mr_eval.specs.World.{World, world_of}
+use Rattle.mr_script.specs.Script.{Went}
+use Rattle.mr_eval.specs.World.{world_of}
 use Rattle.mr_frame.specs.Effects.{stored_in}
 use Rattle.mr_frame.specs.Ending.{found_targets, left_by}
-use Rattle.mr_frame.specs.Frames.{EndsThread, Frame, Onward}
+use Rattle.mr_frame.specs.Frames.{EndsThread, Frame}
 use Rattle.mr_frame.specs.Kept.{below_of, frame_of, look_of, stack_of}
 use Rattle.mr_frame.proofs.CallSafe.{tails}
 use Rattle.mr_frame.proofs.EndLaws.{caller_targets, gives_at, gives_nowhere, gives_stop, left_none}

@@ -1,8 +1,8 @@
-use Rattle.std.proofs.Common.{◌≡◌, ℕ, ◌+◌, ◌<◌, ◌^◌, [], ◌∷◌, refl, sym, ap, ◌∙◌, subst, arith}
+use Rattle.std.proofs.Common.{ℕ, ◌+◌, ◌<◌, ◌^◌, refl, sym, ap, ◌∙◌, subst, arith}
 use Rattle.mr_ast.specs.declared.program.Stmt.TheVariants as stmt
 use Rattle.std.specs.Prelude.{slice_index_or}
 use Rattle.mr_eval.specs.World.{world_of}
-use Rattle.mr_frame.specs.Effects.{acted, renewed, unstored}
+use Rattle.mr_frame.specs.Effects.{acted, renewed}
 use Rattle.mr_frame.specs.Frames.{Frame, behind_stmt}
 use Rattle.mr_frame.specs.Kept.{frame_of, look_of, stack_of}
 use Rattle.mr_frame.specs.Sites.{AtStatement}

@@ -1,7 +1,5 @@
-use Rattle.std.proofs.Common.{◌≡◌, [], ◌∷◌, List, None, Some, sym, ap, ◌∙◌, subst}
+use Rattle.std.proofs.Common.{[], List, sym, ap, ◌∙◌, subst}
 use Rattle.std.specs.Prelude.{All, length, slice_get, ◌-◌}
-use Rattle.std.proofs.lemmas.Option.{same_Some}
-use Rattle.mr_ast.specs.declared.program.Function.{Function}
 use Rattle.mr_ast.specs.declared.program.Local.{Local}
 use Rattle.mr_ast.specs.declared.program.Term.TheVariants as term
 use Rattle.mr_layout.specs.TypeOk.{TypeOk}

@@ -1,14 +1,13 @@
-use Rattle.std.proofs.Common.{◌≡◌, Some, sym, ap, ◌∙◌, subst}
+use Rattle.std.proofs.Common.{sym, ap, ◌∙◌, subst}
 use Rattle.mr_ast.specs.declared.program.Function.{Function}
 use Rattle.mr_ast.specs.declared.program.Term.TheVariants as term
-use Rattle.mr_value.specs.declared.val.Val.{Val}
 use Rattle.mr_script.specs.Script.{Outcome, on}
 use Rattle.mr_eval.specs.Answers.{seen}
 use Rattle.mr_eval.specs.World.{TellsBy, World, world_of}
 use Rattle.mr_frame.specs.Frames.{Onward}
 use Rattle.mr_frame.specs.Kept.{below_of, frame_of, look_of, onward_of, stack_of}
 use Rattle.mr_frame.specs.Sites.{AtTerminator}
-use Rattle.mr_eval.specs.Tally.{seen_of, with_seen}
+use Rattle.mr_eval.specs.Tally.{seen_of}
 use Rattle.mr_frame.specs.Effects.{acted}
 use Rattle.mr_frame.specs.Calls.{local_type}
 use Rattle.mr_frame.specs.Ending.{freed_each, left_by, returned}

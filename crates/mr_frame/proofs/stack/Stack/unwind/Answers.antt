@@ -1,4 +1,4 @@
-use Rattle.std.proofs.Common.{◌≡◌, ◌∷◌, ℕ, refl, sym, ap, ◌∙◌}
+use Rattle.std.proofs.Common.{◌∷◌, refl, sym, ap, ◌∙◌}
 use Rattle.mr_ast.specs.declared.program.Term.TheVariants as term
 use Rattle.mr_base.specs.declared.byte.Pointer.{Pointer}
 use Rattle.mr_script.specs.Script.{Outcome, Went, on}
@@ -9,7 +9,7 @@ use Rattle.mr_eval.specs.Reads.{Seen}
 use Rattle.mr_eval.specs.Tally.{seen_of, with_seen}
 use Rattle.mr_eval.specs.World.{world_of}
 use Rattle.mr_frame.specs.Effects.{acted, pointed}
-use Rattle.mr_frame.specs.Frames.{Frame, GoesOn, Stack, at_block, with_top}
+use Rattle.mr_frame.specs.Frames.{GoesOn, Stack, at_block}
 use Rattle.mr_frame.specs.Kept.{below_of, frame_of, look_of, stack_of}
 use Rattle.mr_frame.specs.Sites.{AtTerminator}
 use Rattle.mr_frame.proofs.ActedLaws.{acted_unwind}

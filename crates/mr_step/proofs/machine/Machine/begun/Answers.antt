@@ -1,8 +1,25 @@
-use Rattle.std.proofs.Common.{◌≡◌, false, sym, ap, ◌∙◌, subst, length}
+use Rattle.std.proofs.Common.{false, ap, ◌∙◌, subst, arith, length}
+use Rattle.mr_ast.specs.declared.program.Program.{Program}
 use Rattle.mr_wf.specs.Walk.{WellFormed}
 use Rattle.mr_step.specs.Kept.{config_of}
 use Rattle.mr_step.proofs.FirstLaws.{first_sound, functions_are, globals_are}
 use Rattle.mr_step.proofs.machine.Machine.begun.Goals as goal
+
+pub prove-unreachable-requires : goal.prove-unreachable-requires
+prove-unreachable-requires c =
+    let r = c.requires in
+    let same = c.program-program.ensures.same in
+    let many = functions_are c.args.p.now (subst WellFormed same c.program-program.ensures.well_formed) r.0 r.1 c.args.start r.2 in
+    let written = ap (λ (p : Program). length p.functions) same in
+    c.if-prove.true (omega (arith, c.args.start.functions.ok.0))
+
+pub prove-unreachable-requires-2 : goal.prove-unreachable-requires-2
+prove-unreachable-requires-2 c =
+    let r = c.requires in
+    let same = c.program-program.ensures.same in
+    let many = globals_are c.args.p.now (subst WellFormed same c.program-program.ensures.well_formed) r.0 r.1 c.args.start r.2 in
+    let written = ap (λ (p : Program). length p.globals) same in
+    c.if-prove-2.true (omega (arith, c.args.start.globals.ok.0))
 
 pub invariant_of-result : goal.invariant_of-result
 invariant_of-result c =

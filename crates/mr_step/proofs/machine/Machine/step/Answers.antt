@@ -1,12 +1,9 @@
-use Rattle.std.proofs.Common.{◌≡◌, ◌<◌, ◌^◌, ℕ, refl, sym, subst, ap, ◌∙◌, false}
+use Rattle.std.proofs.Common.{◌<◌, ◌^◌, sym, subst}
 use Rattle.mr_ast.specs.declared.program.Program.{Program}
-use Rattle.mr_plan.specs.Runs.{Config, entry_fault, machine_step}
 use Rattle.mr_frame.specs.Frames.{Look}
-use Rattle.mr_thread.specs.Steps.{Own, thread_step}
-use Rattle.mr_thread.proofs.RunSound.{entry_sound}
 use Rattle.mr_step.specs.Advance.{Advances}
 use Rattle.mr_step.specs.Answers.{Steps}
-use Rattle.mr_step.specs.Kept.{IsSound, config_of, setting_look, standing_of}
+use Rattle.mr_step.specs.Kept.{IsSound, config_of, setting_look}
 use Rattle.mr_step.specs.Standing.{Standing}
 use Rattle.mr_step.proofs.SoundLaws.{advanced_sound}
 use Rattle.mr_step.proofs.machine.Machine.step.Goals as goal

@@ -1,0 +1,57 @@
+use Rattle.std.proofs.Common.{◌≡◌, ◌++◌, List, sym, ap, ◌∙◌, subst, append-nil}
+use Rattle.std.proofs.lemmas.Option.{same_Some}
+use Rattle.std.specs.Prelude.{Err, OnOk}
+use Rattle.mr_mem.specs.declared.fault.Fault.{Fault}
+use Rattle.mr_sched.specs.declared.schedule.Ask.{Ask}
+use Rattle.mr_eval.specs.Answers.{seen}
+use Rattle.mr_eval.specs.Reads.{Seen}
+use Rattle.mr_frame.specs.Acting.{nothing_seen}
+use Rattle.mr_frame.specs.Calling.{Prepared, Prepares, prepared}
+use Rattle.mr_frame.specs.Calls.{kept_types}
+use Rattle.mr_frame.specs.Kept.{look_of}
+use Rattle.mr_frame.proofs.BeginWhole.{function_typed}
+use Rattle.mr_frame.proofs.CallStands.{asked_nothing, asked_prepared, scene}
+use Rattle.mr_frame.proofs.StandLaws.{at_below}
+use Rattle.mr_frame.proofs.stack.Stack.call_asks.Goals as goal
+
+pub function-requires : goal.function-requires
+function-requires c =
+    let fits = c.requires.due.stands.fits in
+    let is = c.in-Ok.ensures fits.function fits.is in
+    at_below c.args.look.now.program.now.functions c.in-Ok.prepared.function.0 is.function is.there
+
+pub push_asks-requires : goal.push_asks-requires
+push_asks-requires c = function_typed c.args.look.now.program.now c.requires.due.ready.well c.in-Ok.prepared.function.0 c.function.result.now c.function.ensures
+
+pub returns-in-Ok : goal.returns-in-Ok
+returns-in-Ok c =
+    let look = c.args.look.now in
+    let s = c.args.self.now in
+    let callee = c.args.callee.now in
+    let args = c.args.args.now in
+    let to = c.args.place.now in
+    let m = c.args.m.now in
+    let fits = c.requires.due.stands.fits in
+    let kept = c.in-Ok.prepared in
+    let is = c.in-Ok.ensures fits.function fits.is in
+    let pr : Prepared = record { place = kept.place; number = kept.function.0; function = is.function; types = is.types; args = kept.args.items } in
+    let went = ap (λ (q : Seen). prepared m (look_of look) (scene look s callee args to c.requires) callee args to q) (sym c.new-notes.ensures) ∙ is.is in
+    let same : is.function ≡ c.function.result.now = same_Some is.function c.function.result.now (sym is.there ∙ c.function.ensures) in
+    let P : List Ask → Type 0 = λ asks. OnOk c.push_asks.result (c.push_asks.new.out.items ≡ c.args.out.now.items ++ asks) in
+    λ thread. subst P (sym (asked_prepared look s callee args to c.requires m thread nothing_seen pr (seen c.prepared.new.notes) went)) (c.push_asks.ensures is.types (ap kept_types (sym same) ∙ is.typed))
+
+pub returns-in-Err-Undefined : goal.returns-in-Err-Undefined
+returns-in-Err-Undefined c =
+    let look = c.args.look.now in
+    let s = c.args.self.now in
+    let callee = c.args.callee.now in
+    let args = c.args.args.now in
+    let to = c.args.place.now in
+    let m = c.args.m.now in
+    let here = c.in-Err-Undefined in
+    let fits = c.requires.due.stands.fits in
+    let at = scene look s callee args to c.requires in
+    let P : Fault → Type 0 = λ f. Prepares look.program.now (Err f) (prepared m (look_of look) at callee args to (seen c.new-notes.result)) (seen c.prepared.new.notes) in
+    let refused = subst P here.field-0-is (here.ensures fits.function fits.is) in
+    let none = ap (λ (q : Seen). prepared m (look_of look) at callee args to q) (sym c.new-notes.ensures) ∙ refused in
+    λ thread. sym (ap (λ (asks : List Ask). c.args.out.now.items ++ asks) (asked_nothing look s callee args to c.requires m thread nothing_seen here.field-0-0 none) ∙ append-nil c.args.out.now.items)

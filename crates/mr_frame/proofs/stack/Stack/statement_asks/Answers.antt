@@ -1,0 +1,31 @@
+use Rattle.std.proofs.Common.{◌≡◌, ◌++◌, List, sym, ap, ◌∙◌, subst, append-nil}
+use Rattle.std.specs.Prelude.{OnOk}
+use Rattle.mr_ast.specs.declared.program.Stmt.{Stmt}
+use Rattle.mr_sched.specs.declared.schedule.Ask.{Ask}
+use Rattle.mr_frame.specs.Acting.{nothing_seen}
+use Rattle.mr_frame.specs.Kept.{below_of, frame_of, stack_of}
+use Rattle.mr_frame.specs.Sites.{AtStatement}
+use Rattle.mr_frame.specs.Standing.{IsDue}
+use Rattle.mr_frame.proofs.AskLaws.{asked_stmt, live_asks, live_inside, live_ok, no_live}
+use Rattle.mr_frame.proofs.stack.Stack.statement_asks.Goals as goal
+
+pub local_at-requires : goal.local_at-requires
+local_at-requires c =
+    let due = subst (λ (x : Stmt). IsDue c.args.look.now c.args.self.now (AtStatement x)) c.in-Live.is c.requires in
+    live_inside c.args.look.now c.args.self.now c.in-Live.x due c.function-function.result.now c.function-function.ensures
+
+pub push_ask-requires : goal.push_ask-requires
+push_ask-requires c =
+    let due = subst (λ (x : Stmt). IsDue c.args.look.now c.args.self.now (AtStatement x)) c.in-Live.is c.requires in
+    live_ok c.args.look.now c.args.self.now c.in-Live.x due c.function-function.result.now c.function-function.ensures c.local_at.result.now c.local_at.ensures
+
+pub returns-in-Live : goal.returns-in-Live
+returns-in-Live c =
+    let due = subst (λ (x : Stmt). IsDue c.args.look.now c.args.self.now (AtStatement x)) c.in-Live.is c.requires in
+    let P : List Ask → Type 0 = λ asks. OnOk c.push_ask.result (c.push_ask.new.out.items ≡ c.args.out.now.items ++ asks) in
+    λ m thread. subst P (sym (live_asks c.args.look.now c.args.self.now c.in-Live.x due c.function-function.result.now c.function-function.ensures c.local_at.result.now c.local_at.ensures m thread nothing_seen)) c.push_ask.ensures
+
+pub returns-in_default : goal.returns-in_default
+returns-in_default c =
+    let s = c.args.self.now in
+    λ m thread. sym (ap (λ (asks : List Ask). c.args.out.now.items ++ asks) (asked_stmt c.args.look.now c.requires.ready (frame_of s.top) (below_of s) (stack_of s).payloads c.args.stmt.now (no_live c.args.stmt.now c.in_default.not-Live) c.requires.stands m thread nothing_seen) ∙ append-nil c.args.out.now.items)
