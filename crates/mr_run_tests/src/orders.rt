@@ -65,7 +65,8 @@ fn note(foot: &mut Footprint, verb: &str, number: u32) -> Result<(), OutOfMemory
     }
 }
 
-fn quiet(alloc: Global, thread: u32) -> Footprint {
+/// A footprint that says nothing but the thread.
+pub fn quiet(alloc: Global, thread: u32) -> Footprint {
     Footprint {
         thread,
         accesses: Accesses::new(alloc),

@@ -1,31 +1,31 @@
 //! Programs and schedules as texts, and what each entry of their runs comes to.
-ghost use Rattle.std.specs.Prelude.{IfOk};
-ghost use Rattle.mr_step.specs.Built.{Built};
-
+use crate::orders::quiet;
+use mr_event::Footprint;
 use mr_sched::Entry;
-use mr_step::{Machine, StepFault, Turn, built};
+use mr_step::{Machine, StepFault, Turn};
 use mr_wf::{Checked, well_formed};
 use std::alloc::Global;
 use std::test::Fail;
 
-// The program that a text denotes, which is built and breaks no rule.
-fn checked(alloc: Global, text: &str) -> Result<Checked, Fail>
-    ensures { IfOk result Built }
-{
+// The program that a text denotes, which breaks no rule.
+fn checked(alloc: Global, text: &str) -> Result<Checked, Fail> {
     match mr_parse::parse(alloc, text.as_bytes()) {
-        Ok(program) if built(&program) => match well_formed(alloc, program) {
+        Ok(program) => match well_formed(alloc, program) {
             Ok(checked) => Ok(checked),
             Err(_) => Err("a broken rule".into()),
         },
-        Ok(_) => Err("not built".into()),
         Err(_) => Err("no program".into()),
     }
 }
 
 // The step of an entry, within the number of steps that is allowed for.
-fn step(machine: &mut Machine, entry: &Entry) -> Result<Turn, StepFault> {
+fn step(
+    machine: &mut Machine,
+    entry: &Entry,
+    foot: &mut Footprint,
+) -> Result<Turn, StepFault> {
     if machine.completed() < 1_000_000 {
-        machine.step(entry)
+        machine.step(entry, foot)
     } else {
         Err(StepFault::Failed)
     }
@@ -36,8 +36,9 @@ fn step(machine: &mut Machine, entry: &Entry) -> Result<Turn, StepFault> {
 fn told(alloc: Global, machine: &mut Machine, entries: &[Entry]) -> Result<String, Fail> {
     let mut told = String::new(alloc);
     told.push_str(format!(in alloc; "{:?} {}\n", machine.verdict(), machine.lines())?.as_str())?;
+    let mut foot = quiet(alloc, 0);
     for entry in entries {
-        let turn = step(machine, entry);
+        let turn = step(machine, entry, &mut foot);
         let verdict = machine.verdict();
         let prints = machine.lines();
         told.push_str(format!(in alloc; "{turn:?} {verdict:?} {prints}\n")?.as_str())?;
