@@ -145,7 +145,7 @@ fn report_run(alloc: Global, p: &Checked, w: &Schedule) -> Result<Written, Refus
     ensures read { ¬ IsUnreadFault result }
 {
     match run(alloc, p, w) {
-        Ok(finished) => report(alloc, &finished),
+        Ok(finished) => Ok(report(alloc, &finished)?),
         Err(refusal) => Err(refusal),
     }
 }

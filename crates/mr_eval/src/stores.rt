@@ -13,12 +13,7 @@ use std::alloc::AllocError;
 
 // Notes a store of this length and the range check before it.
 #[tactic(auto, using(crate::proofs::ExtendsLaws::extends_laws))]
-fn note_store(
-    notes: &mut Notes,
-    atomic: bool,
-    p: Pointer,
-    len: u64,
-) -> Result<(), AllocError>
+fn note_store(notes: &mut Notes, atomic: bool, p: Pointer, len: u64) -> Result<(), AllocError>
     ensures noted { OnOk result (seen notes.new ≡ seeing (accessing true atomic p len) (touching p len) (seen notes.old)) }
     ensures kept { Extends (seen notes.old) (seen notes.new) }
 {

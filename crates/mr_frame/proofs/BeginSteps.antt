@@ -4,7 +4,7 @@ use Rattle.std.proofs.Math.Seq.{drop-cons}
 use Rattle.std.proofs.lemmas.List.{drop_all, length-map}
 use Rattle.std.proofs.lemmas.Option.{same_Some}
 use Rattle.std.specs.Option.{option_map}
-use Rattle.std.specs.Prelude.{All, slice_get, slice_set}
+use Rattle.std.specs.Prelude.{All, slice_get}
 use Rattle.mr_ast.specs.declared.program.Function.{Function}
 use Rattle.mr_ast.specs.declared.program.Local.{Local}
 use Rattle.mr_ast.specs.declared.program.LocalName.{LocalName}
@@ -20,7 +20,7 @@ use Rattle.mr_eval.specs.World.{World}
 use Rattle.mr_plan.proofs.LegalLaws.{picks_length}
 use Rattle.mr_frame.specs.Beginning.{CanAllocate, HasTypes, IsAllocated, allocated_each, stored_each}
 use Rattle.mr_frame.specs.Calling.{HasLocals, written_types}
-use Rattle.mr_frame.specs.Calls.{all_there, behind_first, kept_types, local_type, storage_asks, with_each}
+use Rattle.mr_frame.specs.Calls.{all_there, behind_first, kept_types, local_type, storage_asks}
 use Rattle.mr_frame.specs.Effects.{stored_in}
 use Rattle.mr_frame.specs.Sites.{kept_locals}
 use Rattle.mr_frame.proofs.ActedLaws.{on_itself, on_same}
@@ -256,16 +256,3 @@ pub storing_end : (fn : Function) (xs : List LocalName) (k : ℕ) (ps : List Poi
     → (all : List Ty) → written_types fn fn.args ≡ Some all → stored_each all (drop 1 ps) vs first ≡ Went tt w
 storing_end fn xs k ps vs first w le h =
     storing_last fn (drop k xs) (drop (k + 1) ps) (drop 1 ps) vs first w (subst (λ (ys : List Val). Storing fn (drop k xs) (drop (k + 1) ps) ys (drop 1 ps) vs first w) (drop_all k vs le) h)
-
--- ---- locals
-
--- one more local has storage
-pub with_next : (locals : List (Option Pointer)) (xs : List LocalName) (k : ℕ) (d : LocalName) (ps : List Pointer) (dp : Pointer) → k < length xs → k + 1 < length ps
-    → with_each locals (drop k xs) (drop (k + 1) ps) ≡ with_each (slice_set locals (get_or xs k d).0 (Some (get_or ps (k + 1) dp))) (drop (k + 1) xs) (drop (k + 1 + 1) ps)
-with_next locals xs k d ps dp lt below =
-    λ i. with_each locals
-    ((drop-cons xs k d lt ∙ ap (λ n. get_or xs k d ∷ drop n xs) (sym (add-one k))) i)
-    ((drop-cons ps (k + 1) dp below ∙ ap (λ n. get_or ps (k + 1) dp ∷ drop n ps) (sym (add-one (k + 1)))) i)
-
-pub with_none : (locals : List (Option Pointer)) (xs : List LocalName) (k : ℕ) (ps : List Pointer) → length xs ≤ k → with_each locals (drop k xs) ps ≡ locals
-with_none locals xs k ps le = ap (λ (ys : List LocalName). with_each locals ys ps) (drop_all k xs le)

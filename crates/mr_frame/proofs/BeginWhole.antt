@@ -1,5 +1,5 @@
 -- The start of a function as a whole, from its parts.
-use Rattle.std.proofs.Common.{◌≡◌, ℕ, ◌+◌, refl, sym, ap, ◌∙◌, subst, arith, List, [], ◌∷◌, length, drop, Option, None, Some}
+use Rattle.std.proofs.Common.{◌≡◌, ℕ, ◌+◌, refl, sym, ap, ◌∙◌, arith, List, [], ◌∷◌, length, drop, Option, None, Some}
 use Rattle.std.proofs.lemmas.Option.{same_Some}
 use Rattle.std.specs.Prelude.{replicate, slice_get}
 use Rattle.mr_ast.specs.declared.program.Function.{Function}
@@ -10,16 +10,15 @@ use Rattle.mr_base.specs.declared.reason.Reason.{Reason}
 use Rattle.mr_value.specs.declared.val.Val.{Val}
 use Rattle.mr_wf.specs.Walk.{WellFormed}
 use Rattle.mr_script.specs.Script.{Outcome, Refused, Went, on}
-use Rattle.mr_eval.proofs.ShapeOf.{HaveShapes}
 use Rattle.mr_eval.specs.World.{World}
 use Rattle.mr_frame.specs.declared.look.Look.{Look as KeptLook}
-use Rattle.mr_frame.specs.Beginning.{CanAllocate, CanBegin, HasTypes, allocated_each, stored_each}
+use Rattle.mr_frame.specs.Beginning.{CanBegin, HasTypes, allocated_each, stored_each}
 use Rattle.mr_frame.specs.Calling.{written_types}
 use Rattle.mr_frame.specs.Calls.{behind_first, first_frame, kept_types, with_each}
 use Rattle.mr_frame.specs.Effects.{entered}
 use Rattle.mr_frame.specs.Sites.{kept_locals}
 use Rattle.mr_frame.proofs.BeginLaws.{entered_is}
-use Rattle.mr_frame.proofs.BeginSteps.{args_behind, names_length}
+use Rattle.mr_frame.proofs.BeginSteps.{names_length}
 use Rattle.mr_frame.proofs.EnterLaws.{allocated_many}
 use Rattle.mr_frame.proofs.Frames.{Keeps, function_keeps}
 use Rattle.mr_frame.proofs.TypeRows.{first_there}
@@ -48,12 +47,6 @@ module _ (look : KeptLook) (number : ℕ) (vs : List Val) (picks : List ℕ) (w 
 
   pub begins_typed : HasTypes fn
   begins_typed = function_typed look.program.now can.ready.well number fn there
-
-  pub begins_allocating : (types : List Ty) → kept_types fn ≡ Some types → CanAllocate types picks w
-  begins_allocating types e = subst (λ (ts : List Ty). CanAllocate ts picks w) (same_Some can.types types (sym typed ∙ e)) can.allocates
-
-  pub begins_shaped : (types : List Ty) → written_types fn fn.args ≡ Some types → HaveShapes types vs
-  begins_shaped types e = subst (λ (ts : List Ty). HaveShapes ts vs) (sym (args_behind fn can.types types typed e)) can.shapes
 
   -- the types of the arguments
   pub args_typed : written_types fn fn.args ≡ Some (behind_first can.types)

@@ -1,9 +1,9 @@
 -- A call that is due in a well-formed program: what it is prepared with, and that the function can begin with it.
-use Rattle.std.proofs.Common.{◌≡◌, ℕ, ◌<◌, ◌^◌, refl, sym, ap, ◌∙◌, arith, Bool, true, false, List, [], ◌∷◌, length, Option, None, Some}
-use Rattle.std.proofs.lemmas.List.Elements.{All-cons, All-nil, All-weaker}
+use Rattle.std.proofs.Common.{◌≡◌, ℕ, ◌<◌, refl, sym, ap, ◌∙◌, arith, Bool, true, false, List, [], ◌∷◌, length, Option, Some}
+use Rattle.std.proofs.lemmas.List.Elements.{All-cons, All-nil}
 use Rattle.std.specs.List.{flat_map, list_all}
 use Rattle.std.specs.Option.{option_map}
-use Rattle.std.specs.Prelude.{All, Err, slice_get, ◌&&◌, ◌||◌, if◌then◌else◌}
+use Rattle.std.specs.Prelude.{Err, slice_get, ◌&&◌, ◌||◌, if◌then◌else◌}
 use Rattle.mr_ast.specs.Shaped.{is_optional_block, named_in}
 use Rattle.mr_ast.specs.ShapedValues.{Named, is_shaped_place, is_shaped_value}
 use Rattle.mr_ast.specs.declared.expr.Place.{Place}
@@ -15,7 +15,7 @@ use Rattle.mr_ast.specs.declared.program.Term.TheVariants as term
 use Rattle.mr_ast.specs.declared.types.Ty.{Ty}
 use Rattle.mr_base.specs.declared.byte.Pointer.{Pointer}
 use Rattle.mr_base.specs.declared.reason.Reason.{Reason}
-use Rattle.mr_base.specs.declared.reason.Reason.TheVariants.{NotAFunction, SignatureMismatch}
+use Rattle.mr_base.specs.declared.reason.Reason.TheVariants.{SignatureMismatch}
 use Rattle.mr_layout.proofs.PartsOk.{and_true}
 use Rattle.mr_mem.specs.Memory.{Memory}
 use Rattle.mr_mem.specs.declared.fault.Fault.{Fault}
@@ -28,7 +28,7 @@ use Rattle.mr_wf.proofs.NothingLaws.{both_nothing}
 use Rattle.mr_wf.proofs.TypedLaws.{typed_value}
 use Rattle.mr_wf.proofs.TypedStmts.{typed_call}
 use Rattle.mr_script.specs.Script.{Outcome, Refused, Went, on}
-use Rattle.mr_eval.specs.Environment.{Tells, ValueIn, env_surround}
+use Rattle.mr_eval.specs.Environment.{Tells, env_surround}
 use Rattle.mr_eval.specs.Evaluated.{each_valued, placed}
 use Rattle.mr_eval.specs.Evaluation.{Surround}
 use Rattle.mr_eval.specs.Reads.{Seen}
@@ -102,10 +102,6 @@ given_known e args to h =
     let rest = args_known e args h.row in
     (h.ty ∷ rest.0, λ i. option_map (λ e. e.0 ∷ e.1) (both_there (h.typed.is i) (rest.1 i)))
 
--- the arguments stand in the function
-pub args_stand : (e : Env) (args : List Value) → ArgsIn e args → All (ValueIn e) args
-args_stand e args h = All-weaker (TypedIn e) (ValueIn e) (λ v t. t.inside) args h
-
 -- ---- the function that is called
 
 -- what a function keeps are locals of it
@@ -114,10 +110,6 @@ has_locals e f h number fn there =
     let kept = function_keeps e.program.now h.well number fn there in
     record { ret = kept.shaped.ret; args = kept.shaped.args }
 
--- there are few functions, each with a pointer
-pub few_pointers : (e : Env) (f : Function) → InProgram f e → length e.functions.now < 2 ^ 32
-few_pointers e f h = let few = h.well.shaped.few_functions in let many = h.env.functions in omega arith
-
 pub callee_below : (e : Env) (f : Function) → InProgram f e → (p : Pointer) (n : ℕ) → callee_of e.functions.now p ≡ Some n → n < length e.program.now.functions
 callee_below e f h p n is =
     let low = position_below 0 e.functions.now p n (sym (callee_is e.functions.now p) ∙ is) in
@@ -125,9 +117,6 @@ callee_below e f h p n is =
     omega arith
 
 module _ (look : Look) (given : Option (List Ty)) (place : Pointer) (vs : List Val) (seen : Seen) where
-  pub called_nowhere : (o : Option ℕ) → o ≡ None → called look given place vs o seen ≡ Refused NotAFunction
-  called_nowhere o e = ap (λ p. called look given place vs p seen) e
-
   module _ (o : Option ℕ) (number : ℕ) (is : o ≡ Some number) (fn : Function) (there : slice_get look.program.functions number ≡ Some fn) (ts us : List Ty) (typed : given ≡ Some ts) (kept : kept_types fn ≡ Some us) where
     called_by : called look given place vs o seen ≡ (if same_types ts us then Went (record { place = place; number = number; function = fn; types = us; args = vs }) seen else Refused SignatureMismatch)
     called_by =
@@ -141,13 +130,9 @@ module _ (look : Look) (given : Option (List Ty)) (place : Pointer) (vs : List V
     pub called_fits : same_types ts us ≡ true → called look given place vs o seen ≡ Went (record { place = place; number = number; function = fn; types = us; args = vs }) seen
     called_fits e = called_by ∙ ap (λ b. if b then Went (record { place = place; number = number; function = fn; types = us; args = vs }) seen else Refused SignatureMismatch) e
 
--- ---- the parts of a call that is prepared
+-- ---- a call that is prepared
 
-pub prepares_stop : {A S : Type 0} (p : Program) (f : Fault) (o : Outcome A S) (whole : Outcome Prepared Seen) (v : S) (t : Seen) → Tells {X = A} (Err f) o v → ((r : Reason) → o ≡ Refused r → whole ≡ Refused r) → Prepares p (Err f) whole t
-prepares_stop p (fault.Undefined r) o whole v t h k = k r h
-prepares_stop p fault.Memory o whole v t h k = tt
-
--- and of what is behind it
+-- where a call cannot be prepared, what is behind it stops too
 pub prepared_stop : {B T : Type 0} (p : Program) (f : Fault) (o : Outcome Prepared Seen) (whole : Outcome B T) (v : Seen) (t : T) → Prepares p (Err f) o v → ((r : Reason) → o ≡ Refused r → whole ≡ Refused r) → Tells {X = B} (Err f) whole t
 prepared_stop p (fault.Undefined r) o whole v t h k = k r h
 prepared_stop p fault.Memory o whole v t h k = tt
@@ -159,25 +144,5 @@ module _ (m : Memory) (look : Look) (s : Surround) (callee : Value) (args : List
   pub prepared_is : prepared m look s callee args to s0 ≡ on (placed m s to s0) (λ p s1. on (pointed m s callee s1) (λ c s2. on (each_valued m s args s2) (λ vs s3. last p c vs s3)))
   unfolding prepared
   prepared_is = refl
-
-  pub prepared_stop_at : (r : Reason) → placed m s to s0 ≡ Refused r → prepared m look s callee args to s0 ≡ Refused r
-  prepared_stop_at r e = prepared_is ∙ ap (λ (o : Outcome Pointer Seen). on o (λ p s1. on (pointed m s callee s1) (λ c s2. on (each_valued m s args s2) (λ vs s3. last p c vs s3)))) e
-
-  module _ (p : Pointer) (s1 : Seen) (at : placed m s to s0 ≡ Went p s1) where
-    behind_place : prepared m look s callee args to s0 ≡ on (pointed m s callee s1) (λ c s2. on (each_valued m s args s2) (λ vs s3. last p c vs s3))
-    behind_place = prepared_is ∙ ap (λ (o : Outcome Pointer Seen). on o (λ q l. on (pointed m s callee l) (λ c s2. on (each_valued m s args s2) (λ vs s3. last q c vs s3)))) at
-
-    pub prepared_stop_callee : (r : Reason) → pointed m s callee s1 ≡ Refused r → prepared m look s callee args to s0 ≡ Refused r
-    prepared_stop_callee r e = behind_place ∙ ap (λ (o : Outcome Pointer Seen). on o (λ c s2. on (each_valued m s args s2) (λ vs s3. last p c vs s3))) e
-
-    module _ (c : Pointer) (s2 : Seen) (points : pointed m s callee s1 ≡ Went c s2) where
-      behind_callee : prepared m look s callee args to s0 ≡ on (each_valued m s args s2) (λ vs s3. last p c vs s3)
-      behind_callee = behind_place ∙ ap (λ (o : Outcome Pointer Seen). on o (λ d l. on (each_valued m s args l) (λ vs s3. last p d vs s3))) points
-
-      pub prepared_stop_args : (r : Reason) → each_valued m s args s2 ≡ Refused r → prepared m look s callee args to s0 ≡ Refused r
-      prepared_stop_args r e = behind_callee ∙ ap (λ (o : Outcome (List Val) Seen). on o (λ vs s3. last p c vs s3)) e
-
-      pub prepared_called : (vs : List Val) (s3 : Seen) → each_valued m s args s2 ≡ Went vs s3 → prepared m look s callee args to s0 ≡ called look (given_types s to args) p vs (callee_of look.functions c) s3
-      prepared_called vs s3 e = behind_callee ∙ ap (λ (o : Outcome (List Val) Seen). on o (λ xs l. last p c xs l)) e
 
 pub ruleset prepared_laws = (prepared_is)

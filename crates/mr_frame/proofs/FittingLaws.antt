@@ -7,19 +7,18 @@ use Rattle.std.proofs.lemmas.List.Elements.{All-head, All-tail}
 use Rattle.std.proofs.lemmas.Option.{get_or_from_slice_get, same_Some, slice_get_within}
 use Rattle.std.specs.Option.{option_map}
 use Rattle.std.specs.Prelude.{All, slice_get, ◌==◌, ◌&&◌}
-use Rattle.mr_ast.specs.declared.expr.Place.{Place}
 use Rattle.mr_ast.specs.declared.expr.Value.{Value}
 use Rattle.mr_ast.specs.declared.program.Function.{Function}
 use Rattle.mr_ast.specs.declared.program.Local.{Local}
 use Rattle.mr_ast.specs.declared.program.LocalName.{LocalName}
 use Rattle.mr_ast.specs.declared.types.Ty.{Ty}
 use Rattle.mr_wf.specs.SameTypes.{same_type}
-use Rattle.mr_wf.specs.Types.{type_of_place, type_of_value}
+use Rattle.mr_wf.specs.Types.{type_of_value}
 use Rattle.mr_eval.specs.Environment.{env_surround}
 use Rattle.mr_eval.specs.Evaluation.{Surround}
 use Rattle.mr_eval.specs.declared.env.Env.{Env}
 use Rattle.mr_frame.specs.Calling.{ArgsIn, TypedIn, arg_types, written_types}
-use Rattle.mr_frame.specs.Calls.{both_there, given_types, kept_types, local_type, same_types}
+use Rattle.mr_frame.specs.Calls.{both_there, local_type, same_types}
 use Rattle.mr_frame.proofs.BeginSteps.{FirstTyped, first_typed, names_within, row_length}
 use Rattle.mr_frame.proofs.CallSafe.{types_there}
 use Rattle.mr_frame.proofs.TypeRows.{First, first_there, none_there}
@@ -124,18 +123,3 @@ cut_last s fn args names k low high inside h ts us p q =
   where
     tests : (a b c : ℕ) → a ≤ b → c + a ≡ b → (a == b) ≡ (c == 0)
     tests a b c le e = grind (arith, nat_tests)
-
--- ---- the whole
-
--- the types of the place for a result and of the return local come first
-pub whole_fits : (s : Surround) (fn : Function) (to : Place) (args : List Value) (given kept : List Ty) (t : Ty) (l : Local) → given_types s to args ≡ Some given → kept_types fn ≡ Some kept → type_of_place s.locals to ≡ Some t → slice_get fn.locals fn.ret.0 ≡ Some l
-    → (ts us : List Ty) × (arg_types s args ≡ Some ts) × (written_types fn fn.args ≡ Some us) × (same_types given kept ≡ same_type t l.ty && same_types ts us)
-whole_fits s fn to args given kept t l e k typed there =
-    let first = first_there (type_of_place s.locals to) (map (type_of_value s.locals) args) given e in
-    let wanted = first_typed fn fn.ret fn.args kept l there k in (
-      first.rest,
-      wanted.rest,
-      first.behind,
-      wanted.behind,
-      (λ i. same_types (first.is i) (wanted.is i)) ∙ ap (λ (u : Ty). same_type u l.ty && same_types first.rest wanted.rest) (same_Some first.first t (sym first.here ∙ typed)),
-    )

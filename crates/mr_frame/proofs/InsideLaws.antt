@@ -61,9 +61,6 @@ module _ (e : Env) (f : Function) (h : InProgram f e) where
       (is.ty, record { is = ap (λ ls. type_of_place ls p) scene_locals ∙ is.is; ok = is.ok })
 
 module _ (e : Env) (p : Place) where
-  pub mention_place : StmtIn e (stmt.Mention p) → PlaceIn e p
-  mention_place h = record { function = h.function; env = h.inside.env; shaped = h.shaped; unbroken = h.unbroken }
-
   pub deinit_type : StmtIn e (stmt.Deinit p) → (t : Ty) × TypeAt e p t
   deinit_type h = type_there e h.function h.inside p h.shaped h.unbroken
 

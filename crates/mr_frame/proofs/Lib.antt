@@ -28,6 +28,7 @@ pub mod Places
 pub mod PlainLaws
 pub mod PointedLaws
 pub mod QuietChanges
+pub mod ResultFits
 pub mod StackLaws
 pub mod StandLaws
 pub mod StorageLaws

@@ -1,5 +1,5 @@
 -- Types that hold no other: what they are, and that intrinsics take and give no others.
-use Rattle.std.proofs.Common.{◌≡◌, Bool, true, false, refl, sym, ap, ◌∙◌, List, [], ◌∷◌, Option, None, Some}
+use Rattle.std.proofs.Common.{◌≡◌, Bool, true, false, refl, sym, ap, ◌∙◌, List, [], ◌∷◌, Option, None, Some, subst}
 use Rattle.std.specs.List.{list_all}
 use Rattle.std.specs.Prelude.{◌&&◌, ◌||◌, is_some, nat_le}
 use Rattle.mr_ast.specs.declared.program.Intrinsic.{Intrinsic}
@@ -9,6 +9,8 @@ use Rattle.mr_ast.specs.declared.types.IntType.TheVariants.{U32, U64}
 use Rattle.mr_ast.specs.declared.types.Ty.{Ty}
 use Rattle.mr_ast.specs.declared.types.Ty.TheVariants as ty
 use Rattle.mr_layout.specs.Sizes.{size_of}
+use Rattle.mr_layout.specs.TypeOk.{TypeOk}
+use Rattle.mr_layout.proofs.BrokenLaws.{broken_bool, broken_fn_ptr, broken_int, broken_raw}
 use Rattle.mr_layout.proofs.PartsOk.{and_true}
 use Rattle.mr_wf.specs.Intrinsics.{fits_intrinsic, gives, gives_nothing, is_atomic}
 use Rattle.mr_wf.specs.Operands.{is_bool, is_fn_ptr, is_int, is_integer, is_raw, is_raw_layer, is_scalar_number}
@@ -151,5 +153,21 @@ plain_intrinsic intrinsic.FetchOr (a ∷ b ∷ []) result e = plain_fetch a b re
 plain_intrinsic intrinsic.FetchXor (a ∷ b ∷ []) result e = plain_fetch a b result e
 plain_intrinsic intrinsic.Payload [] result e = (tt, plain_given ty.Raw raw_plain result e)
 plain_intrinsic _ ts result e = absurd (cc)
+
+-- such types break no rule
+pub plain_ok : (t : Ty) → is_plain t ≡ true → TypeOk t
+plain_ok t e = by_integer (integer_of t) refl
+  where
+    made : (u : Ty) → u ≡ t → TypeOk u → TypeOk t
+    made u same ok = subst TypeOk same ok
+
+    by_others : (b r : Bool) → integer_of t ≡ None → is_bool t ≡ b → is_raw t ≡ r → TypeOk t
+    by_others true r none is_b is_r = made ty.Bool (plain_bool t is_b) broken_bool
+    by_others false true none is_b is_r = made ty.Raw (plain_raw t is_r) broken_raw
+    by_others false false none is_b is_r = made ty.FnPtr (plain_fn_ptr t none is_b is_r e) broken_fn_ptr
+
+    by_integer : (o : Option IntType) → integer_of t ≡ o → TypeOk t
+    by_integer (Some i) is = made (ty.Int i) (plain_int t i is) (broken_int i)
+    by_integer None is = by_others (is_bool t) (is_raw t) is refl refl
 
 pub ruleset plain_laws = (plain_int, plain_bool, plain_raw, plain_fn_ptr)

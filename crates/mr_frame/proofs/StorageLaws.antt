@@ -78,7 +78,4 @@ module _ (slot : Slot) (a : ℕ) (s t : Scene) (can : CanRenew slot a s) (gone :
   pub renew_new : fin.get t.memory (next_id (tally_of t)) ≡ None
   renew_new = ap (fin.get t.memory) (λ i. record { thread = left.thread i; count = left.count i }) ∙ left.none (next_id (tally_of s)) can.new
 
-  pub renew_count : t.count ≡ s.count
-  renew_count = left.count
-
 pub ruleset storage_laws = (renewed_is, renew_lawful, renew_new)

@@ -54,11 +54,4 @@ number_known t x sc e = by_layers (out-Ty t) (out-Val x) e
     by_layers Ty-F.Bool (Val-F.Bool b) h = ap numbered h
     by_layers _ _ h = absurd (cc)
 
-pub switch_known : (m : Memory) (s : Surround) (value : Value) (cases : List (Num × BlockName)) (other : BlockName) (seen last : Seen) (t : Ty) (x : Val) (sc : Scalar)
-    → valued m s value seen ≡ Went x last → type_of_value s.locals value ≡ Some t → scalar_as t x ≡ Some sc → chosen m s value cases other seen ≡ Went (first_case (number_of sc) cases other) last
-switch_known m s value cases other seen last t x sc went typed told =
-    chosen_is m s value cases other seen
-    ∙ ap (λ (o : Outcome Val Seen). on o (λ y v. at_number m s value cases other seen (number_as (type_of_value s.locals value) y) v)) went
-    ∙ ap (λ (o : Option Num). at_number m s value cases other seen o last) (ap (λ (o : Option Ty). number_as o x) typed ∙ number_known t x sc told)
-
 pub ruleset switch_laws = (chosen_is)

@@ -54,10 +54,10 @@ came_from a b c i slot h = elim (append_cases b (a ++ c) i slot h) [
   | inr r ↦ elim (append_cases a c r.0 slot r.2) [
     | inl l ↦ record { index = r.0; moved = second r.0 l.0 r.1 refl; here = in_front a (b ++ c) r.0 slot l.1 }
     | inr s ↦ record {
-        index = length a + (length b + s.0);
-        moved = third s.0 (r.1 ∙ ap (λ k. length b + k) s.1) refl;
-        here = behind a (b ++ c) (length b + s.0) slot (behind b c s.0 slot s.2);
-      }
+      index = length a + (length b + s.0);
+      moved = third s.0 (r.1 ∙ ap (λ k. length b + k) s.1) refl;
+      here = behind a (b ++ c) (length b + s.0) slot (behind b c s.0 slot s.2);
+    }
   ]
 ]
 

@@ -21,4 +21,3 @@ completed_from step c t picks (Some s) = completed_bare c (bare step s t picks)
 pub completed_by_step : {L : Type 0} (step : Language L) (c : Config L) (e : Entry) → (machine_step step c e).completed ≤ c.completed + 1
 unfolding machine_step
 completed_by_step step c e = completed_from step c e.thread e.picks c.state
-

@@ -58,9 +58,9 @@ module _ (look : Look) (is : IsLook look) (well : WellFormed look.program) (s : 
 
     facts : MemoryFacts s.shared.memory t th.count s.shared.memory (start_tally t th.count)
     facts = start_facts s.shared.memory t th.count (λ id a e same.
-      let c = sound.counted id a e in
-      let at : c.thread ≡ th = same_Some c.thread th (sym c.is ∙ ap (slice_get s.threads) same ∙ here) in
-      subst (λ (x : Thread Own). id.count < x.count) at c.below)
+        let c = sound.counted id a e in
+        let at : c.thread ≡ th = same_Some c.thread th (sym c.is ∙ ap (slice_get s.threads) same ∙ here) in
+        subst (λ (x : Thread Own). id.count < x.count) at c.below)
 
     front : AreHeld s.shared.memory (frame_slots p th.own.stack.frames others)
     front = in_front_of_others p s.threads t th here s.shared.memory sound.held

@@ -56,10 +56,11 @@ module _ (look : Look) (is : IsLook look) (well : WellFormed look.program) where
   unfolding machine_step
   entry_sound c e sound legal =
       let at = legal_at look c e legal in
-      let step = bare_sound look is well at.state (sound at.state at.is) e.thread e.picks at.legal in
-      (ap (has_rule (thread_step look) e.thread e.picks) at.is ∙ rule_there look.program (bare (thread_step look) at.state e.thread e.picks) step,
-      subst (λ (o : Option (State Own)). IsSoundConfig look.program (stepped_from (thread_step look) c e.thread e.picks o)) (sym at.is)
-      (sound_behind look.program c (bare (thread_step look) at.state e.thread e.picks) step))
+      let step = bare_sound look is well at.state (sound at.state at.is) e.thread e.picks at.legal in (
+        ap (has_rule (thread_step look) e.thread e.picks) at.is ∙ rule_there look.program (bare (thread_step look) at.state e.thread e.picks) step,
+        subst (λ (o : Option (State Own)). IsSoundConfig look.program (stepped_from (thread_step look) c e.thread e.picks o)) (sym at.is)
+            (sound_behind look.program c (bare (thread_step look) at.state e.thread e.picks) step),
+      )
 
   -- NO BARE STEP OF A LEGAL RUN IS ILL-FORMED, in a well-formed program
   pub never_ill_formed : (c : Config Own) (es : List Entry) → IsSoundConfig look.program c → AreLegal (thread_step look) c es → NeverIllFormed (thread_step look) c es

@@ -2,13 +2,12 @@
 use Rattle.std.proofs.Common.{◌≡◌, ℕ, refl, sym, ap, ◌∙◌, List, Option, Some, None}
 use Rattle.mr_ast.specs.declared.program.Intrinsic.{Intrinsic}
 use Rattle.mr_ast.specs.declared.program.Intrinsic.TheVariants as intrinsic
-use Rattle.mr_mem.specs.Memory.{Memory}
 use Rattle.mr_value.specs.declared.val.Val.{Val}
 use Rattle.mr_script.specs.Script.{Done, ◌>>=◌, Outcome, Went, Refused, Broken, on, run}
 use Rattle.mr_script.proofs.Runs.{run_bind}
 use Rattle.mr_eval.specs.MemoryQueries.{reading_part}
 use Rattle.mr_eval.specs.Reads.{Seen}
-use Rattle.mr_eval.specs.Tally.{Tally, seen_of, with_seen}
+use Rattle.mr_eval.specs.Tally.{seen_of, with_seen}
 use Rattle.mr_plan.specs.Machine.{Goes, Plan, needs_of}
 use Rattle.mr_plan.specs.Notes.{Notes}
 use Rattle.mr_plan.specs.Queries.{Shared, StepScript, answer}
@@ -18,7 +17,7 @@ use Rattle.mr_frame.specs.Frames.{Look}
 use Rattle.mr_frame.specs.Operations.{DueDo, Operands, finish, next_do, operands}
 use Rattle.mr_intr.specs.Effects.{IsOperation}
 use Rattle.mr_intr.specs.Operations.{Operation, operation}
-use Rattle.mr_thread.specs.Steps.{Own, Turn, finished, finishing, operated, planned as plan_behind, step_due, thread_step, with_stack}
+use Rattle.mr_thread.specs.Steps.{Own, finished, finishing, operated, planned as plan_behind, step_due, thread_step, with_stack}
 use Rattle.mr_turn.specs.Doing.{do_planned, do_turned}
 use Rattle.mr_turn.specs.Turning.{planned, turned}
 

@@ -1,7 +1,6 @@
 -- What the code of a frame's turn answers, by its parts.
-use Rattle.std.proofs.Common.{◌≡◌, ℕ, refl, sym, ap, ◌∙◌, subst, List, [], ◌∷◌, Option, Some, None, Result, Ok, Err}
+use Rattle.std.proofs.Common.{◌≡◌, ℕ, refl, sym, ap, ◌∙◌, subst, List, [], Option, None, Result, Ok, Err}
 use Rattle.mr_base.specs.declared.reason.Reason.{Reason}
-use Rattle.mr_base.specs.declared.thread.Status.{Status}
 use Rattle.mr_mem.specs.Memory.{Memory, ranges_of}
 use Rattle.mr_mem.specs.declared.fault.Fault.{Fault as MemoryFault}
 use Rattle.mr_mem.specs.declared.fault.Fault.TheVariants as memory_fault
@@ -43,6 +42,13 @@ deed_is_turn (Ok d) fault o W same e h = (e, h)
 deed_is_turn (Err (answer.Broken f)) fault o W same e h = absurd h
 deed_is_turn (Err (answer.Undefined r)) fault o W same e h = (e, h)
 deed_is_turn (Err answer.Memory) fault o W same e h = tt
+
+-- what else follows where an entry is refused
+pub turn_same : (r : Result Deed TurnFault) (fault : Option Fault) (o : Outcome Turn (Shared × Notes)) (W : Deed → Type 0) (A B : Type 0) → (A → B) → TurnAnswer r fault o W A → TurnAnswer r fault o W B
+turn_same (Ok d) fault o W A B f h = h
+turn_same (Err (answer.Broken e)) fault o W A B f h = (h.0, f h.1)
+turn_same (Err (answer.Undefined r)) fault o W A B f h = h
+turn_same (Err answer.Memory) fault o W A B f h = tt
 
 -- picks that break a rule
 pub judged_broken : (f : TurnFault) (fault : Option Fault) (o : Outcome Turn (Shared × Notes)) (W : Deed → Type 0) (same : Type 0)

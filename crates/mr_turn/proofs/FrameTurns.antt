@@ -1,24 +1,20 @@
 -- The turn of a thread whose next step is no intrinsic: what it needs, and what it comes to, by what the frame's step comes to.
-use Rattle.std.proofs.Common.{◌≡◌, ℕ, refl, sym, ap, ap₂, ◌∙◌, List, [], ◌∷◌, ◌++◌, Option, Some, None, Bool, true, false}
+use Rattle.std.proofs.Common.{◌≡◌, ℕ, refl, sym, ap, ap₂, ◌∙◌, List, [], Option, None, true, false}
 use Rattle.std.specs.Option.{option_map}
 use Rattle.mr_base.specs.declared.reason.Reason.{Reason}
-use Rattle.mr_base.specs.declared.thread.Event.TheVariants.{Quiet}
-use Rattle.mr_mem.specs.Memory.{Memory, ranges_of}
-use Rattle.mr_mem.specs.declared.fault.Fault.{Fault as MemoryFault}
-use Rattle.mr_mem.specs.declared.fault.Fault.TheVariants as memory_fault
-use Rattle.mr_script.specs.Script.{Done, Ask, ◌>>=◌, Outcome, Went, Refused, Broken, on, run}
-use Rattle.mr_script.proofs.Runs.{on_on, on_same, run_bind}
+use Rattle.mr_mem.specs.Memory.{Memory}
+use Rattle.mr_script.specs.Script.{Done, ◌>>=◌, Outcome, Went, Refused, Broken, on, run}
+use Rattle.mr_script.proofs.Runs.{run_bind}
 use Rattle.mr_sync.specs.Tables.{Tables, ended}
 use Rattle.mr_eval.specs.MemoryQueries.{MemoryScript, memory_answer, reading_part}
 use Rattle.mr_eval.specs.Reads.{Seen, reading}
 use Rattle.mr_eval.specs.Tally.{Tally, seen_of, with_seen}
-use Rattle.mr_eval.specs.World.{tally_of, world_of}
+use Rattle.mr_eval.specs.World.{world_of}
 use Rattle.mr_eval.specs.declared.scene.Scene.{Scene}
-use Rattle.mr_plan.specs.Legal.{Fault, needs_fault, picks_fault}
-use Rattle.mr_plan.specs.Machine.{CreatesNothing, Goes, Needs, Plan, needs_of, no_needs}
+use Rattle.mr_plan.specs.Machine.{CreatesNothing, Plan, needs_of}
 use Rattle.mr_plan.specs.Notes.{Notes}
-use Rattle.mr_plan.specs.Queries.{Shared, StepScript, answer, memory_part, with_tables}
-use Rattle.mr_plan.proofs.ReadingRuns.{memory_run, memory_then, moved_to, on_then, reading_run, reading_then, tallied}
+use Rattle.mr_plan.specs.Queries.{Shared, answer, memory_part, with_tables}
+use Rattle.mr_plan.proofs.ReadingRuns.{memory_then, moved_to, on_then, reading_run, reading_then, tallied}
 use Rattle.mr_frame.specs.declared.flow.Flow.{Flow}
 use Rattle.mr_frame.specs.declared.flow.Flow.TheVariants as flow
 use Rattle.mr_frame.specs.declared.stack.Stack.{Stack as KeptStack}
@@ -27,7 +23,7 @@ use Rattle.mr_frame.specs.Frames.{Look, Onward}
 use Rattle.mr_frame.specs.Kept.{onward_of, stack_of}
 use Rattle.mr_frame.specs.Operations.{DueDo, next_do}
 use Rattle.mr_frame.specs.Steps.{frame_plan}
-use Rattle.mr_thread.specs.Steps.{Own, Turn, frame_step, in_step, onward, step_due, thread_step}
+use Rattle.mr_thread.specs.Steps.{Own, Turn, in_step, onward, step_due, thread_step}
 use Rattle.mr_turn.specs.declared.deed.Deed.{Deed}
 use Rattle.mr_turn.specs.Turning.{IsFlow, Turned, begun, is_end, own_of, planned, printed_lines, shared_in, turn_by, turned}
 use Rattle.mr_turn.proofs.PlanAsks.{IsPlain, WentSo, frame_plain, led}

@@ -3,7 +3,6 @@ use Rattle.std.proofs.Common.{◌≡◌, ℕ, ◌+◌, refl, ap, List, [], ◌�
 use Rattle.std.specs.Prelude.{slice_get, if◌then◌else◌}
 use Rattle.mr_ast.specs.declared.expr.Place.{Place}
 use Rattle.mr_ast.specs.declared.expr.Value.{Value}
-use Rattle.mr_ast.specs.declared.program.Block.{Block}
 use Rattle.mr_ast.specs.declared.program.Function.{Function}
 use Rattle.mr_ast.specs.declared.program.Local.{Local}
 use Rattle.mr_ast.specs.declared.program.Stmt.{Stmt}
@@ -14,7 +13,6 @@ use Rattle.mr_ast.specs.declared.types.Ty.{Ty}
 use Rattle.mr_base.specs.declared.byte.Pointer.{Pointer}
 use Rattle.mr_base.specs.declared.reason.Reason.TheVariants.{SignatureMismatch}
 use Rattle.mr_base.specs.declared.thread.Status.{Status}
-use Rattle.mr_layout.specs.Sizes.{align_of, size_of}
 use Rattle.mr_mem.specs.Memory.{Memory, Ranges, range_fault, with_range}
 use Rattle.mr_sched.specs.declared.schedule.Ask.{Ask}
 use Rattle.mr_sched.specs.declared.schedule.Ask.TheVariants.{Address, Waiter}
@@ -23,12 +21,12 @@ use Rattle.mr_script.specs.Script.{Done, Undefined, IllFormed, Ask as Asks, ◌>
 use Rattle.mr_eval.specs.Evaluation.{place_script, value_script, values_script}
 use Rattle.mr_eval.specs.MemoryQueries.{MemoryScript}
 use Rattle.mr_eval.specs.Operators.{pointer_of_value}
-use Rattle.mr_eval.specs.Reads.{ReadReply, ReadScript, Seen, reading}
+use Rattle.mr_eval.specs.Reads.{ReadScript, Seen, reading}
 use Rattle.mr_plan.specs.Legal.{address_fault, else_fault, picks_fault}
 use Rattle.mr_plan.specs.Machine.{CreatesNothing, Plan}
 use Rattle.mr_frame.specs.Calls.{both_there, call, call_function, call_number, call_plan, callee_of, enter, calling, given_types, kept_types, same_types, storage_asks}
-use Rattle.mr_frame.specs.Frames.{Frame, GoesOn, Look, Onward, Stack, scene_in}
-use Rattle.mr_frame.specs.Sites.{AtDo, AtStatement, AtTerminator, Due, Site, due_of, keeps_storage, site_in, site_of, site_of_frame, site_of_frames}
+use Rattle.mr_frame.specs.Frames.{GoesOn, Look, Onward, Stack, scene_in}
+use Rattle.mr_frame.specs.Sites.{AtDo, AtStatement, AtTerminator, Due, Site, due_of, site_of}
 use Rattle.mr_frame.specs.Steps.{frame_plan, live, plan_at, plan_due, statement, terminator}
 use Rattle.mr_frame.proofs.StorageSteps.{Leads}
 

@@ -1,6 +1,6 @@
 -- What the code of a thread's start finds and answers, by its parts.
-use Rattle.std.proofs.Common.{◌≡◌, ℕ, ◌+◌, ◌<◌, ◌≤◌, ◌^◌, refl, sym, ap, ap₂, ◌∙◌, subst, arith, List, [], ◌∷◌, length, drop, Bool, true, false, Option, Some, None}
-use Rattle.std.specs.Prelude.{◌&&◌, nat_lt, slice_get, if◌then◌else◌}
+use Rattle.std.proofs.Common.{◌≡◌, ℕ, ◌<◌, ◌^◌, refl, sym, ap, ap₂, ◌∙◌, subst, arith, List, [], ◌∷◌, length, drop, take, Bool, true, false, Option, Some, None, Result}
+use Rattle.std.specs.Prelude.{◌-◌, ◌&&◌, nat_lt, slice_get, if◌then◌else◌}
 use Rattle.std.specs.Option.{option_map}
 use Rattle.mr_ast.specs.declared.program.Function.{Function}
 use Rattle.mr_ast.specs.declared.program.Intrinsic.{Intrinsic}
@@ -17,44 +17,50 @@ use Rattle.mr_layout.proofs.AlignLaws.{align_raw, align_tuple}
 use Rattle.mr_layout.proofs.PartsOk.{and_true}
 use Rattle.mr_layout.proofs.SizeLaws.{size_raw, size_tuple}
 use Rattle.mr_layout.specs.Sizes.{align_of, size_of}
-use Rattle.mr_mem.specs.Memory.{Memory, ranges_of}
-use Rattle.mr_sched.specs.declared.schedule.Ask.{Ask}
+use Rattle.mr_mem.specs.Memory.{ranges_of}
 use Rattle.mr_sched.specs.declared.schedule.Ask.TheVariants.{Address}
-use Rattle.mr_value.specs.declared.val.Val.{Val}
+use Rattle.mr_value.specs.declared.val.Val.{Val, out-Val}
 use Rattle.mr_value.specs.declared.val.Val.TheVariants as val
 use Rattle.mr_value.specs.Shape.{has_shape}
 use Rattle.mr_value.proofs.ShapeLaws.{has_int, shape_fn_ptr}
 use Rattle.mr_wf.specs.Intrinsics.{fits_intrinsic, gives}
 use Rattle.mr_wf.specs.Operands.{is_fn_ptr, is_raw}
 use Rattle.mr_wf.proofs.KindLaws.{fn_ptr_is, raw_is}
-use Rattle.mr_script.specs.Script.{Outcome, Went, Refused, on, run}
+use Rattle.mr_script.specs.Script.{Went, Refused, on, run}
 use Rattle.mr_sync.specs.Tables.{Tables, spawned}
 use Rattle.mr_eval.proofs.ShapeOf.{HaveShapes}
-use Rattle.mr_eval.specs.Tally.{Tally}
 use Rattle.mr_eval.specs.World.{tally_of, world_of}
 use Rattle.mr_eval.specs.declared.scene.Scene.{Scene}
-use Rattle.mr_plan.specs.Legal.{Fault, creation_fault, else_fault, fault, picks_fault}
+use Rattle.mr_plan.specs.Legal.{creation_fault, else_fault, fault, picks_fault}
 use Rattle.mr_plan.specs.Machine.{CreatesThread, Goes}
 use Rattle.mr_plan.specs.Notes.{Notes}
 use Rattle.mr_plan.specs.Queries.{Shared, answer}
 use Rattle.mr_plan.proofs.ReadingRuns.{moved_to}
-use Rattle.mr_frame.proofs.CallSafe.{equal_types}
+use Rattle.mr_plan.proofs.LegalLaws.{no_faults}
+use Rattle.mr_frame.proofs.CallSafe.{equal_types, kept_there, position_below}
+use Rattle.mr_frame.proofs.Frames.{function_keeps}
+use Rattle.mr_frame.proofs.Places.{within}
 use Rattle.mr_frame.proofs.DoSafe.{OperandsFit, ValueFits}
-use Rattle.mr_frame.specs.Beginning.{CanAllocate, CanBegin, IsBottom}
+use Rattle.mr_frame.specs.Beginning.{CanBegin, IsBottom}
 use Rattle.mr_frame.specs.Calls.{behind_first, callee_of, kept_types, same_types, storage_asks}
 use Rattle.mr_frame.specs.Doing.{operands_of}
 use Rattle.mr_frame.specs.Effects.{entered, finished as ended}
-use Rattle.mr_frame.specs.Frames.{Frame}
 use Rattle.mr_frame.specs.Kept.{look_of, stack_of}
-use Rattle.mr_frame.specs.Operations.{DueDo, Operands}
+use Rattle.mr_frame.specs.Operations.{DueDo, Operands, next_do}
 use Rattle.mr_frame.specs.declared.dos.DoCall.{DoCall}
 use Rattle.mr_frame.specs.declared.look.Look.{Look as KeptLook}
 use Rattle.mr_frame.specs.declared.stack.Stack.{Stack as KeptStack}
 use Rattle.mr_intr.proofs.OperationSafe.{result_is}
-use Rattle.mr_thread.specs.Steps.{Own, Turn, finishing, new_thread, thread_types, unit, with_stack}
+use Rattle.mr_intr.specs.Operations.{pointer_in}
+use Rattle.std.proofs.lemmas.Option.{same_Some}
+use Rattle.mr_turn.proofs.PlanAsks.{same_statuses}
+use Rattle.mr_thread.specs.Steps.{Own, finishing, new_thread, thread_types, with_stack}
 use Rattle.mr_turn.specs.declared.deed.Deed.{Deed}
-use Rattle.mr_turn.specs.Doing.{IsGiven, IsStart, SpawnGiven, StartsThread, do_breaks, do_comes_to, do_planned}
-use Rattle.mr_turn.specs.Turning.{Turned, asks_break, begun, is_end, own_of, picks_break, printed_lines, shared_in, turn_by}
+use Rattle.mr_turn.specs.Doing.{CanEnd, EndAnswer, IsGiven, IsNewThread, IsStart, SpawnGiven, SpawnsFunction, StartsThread, do_breaks, do_comes_to}
+use Rattle.mr_turn.specs.declared.deed.TurnFault.{TurnFault}
+use Rattle.mr_turn.proofs.DoAnswers.{end_is_deed}
+use Rattle.mr_frame.proofs.ResultFits.{result_fits}
+use Rattle.mr_turn.specs.Turning.{DeedAnswer, Does, Turned, asks_break, begun, is_end, own_of, picks_break, printed_lines, shared_in, turn_by}
 use Rattle.mr_turn.proofs.DoTurns.{finishing_run}
 use Rattle.mr_turn.proofs.SpawnTurns.{start_planned, start_turned, with_thread}
 
@@ -174,3 +180,110 @@ module _ (look : KeptLook) (stack : KeptStack) (s : Scene) (x : Tables) (call : 
             woken = sym woken;
             printed = sym (ap (λ t. printed_lines (option_map (λ y. y.items) t)) text);
           }
+
+-- ---- what the code finds
+
+-- the intrinsic that is due is the start of a thread
+pub spawn_given_for : (d : DueDo) → d.op ≡ intrinsic.Spawn → (o : Operands) → OperandsFit d.op o → SpawnGiven o
+spawn_given_for d is o fit = spawn_given o (subst (λ (y : Intrinsic). OperandsFit y o) is fit)
+
+pub spawns_for : (look : KeptLook) (stack : KeptStack) (s : Scene) (x : Tables) (call : DoCall) (number : ℕ) → (e : DueDo) × SpawnsFunction look stack s x call e number
+    → (d : DueDo) → next_do (look_of look) (stack_of stack) ≡ Some d → SpawnsFunction look stack s x call d number
+spawns_for look stack s x call number (e, h) d due = subst (λ (f : DueDo). SpawnsFunction look stack s x call f number) (same_Some e d (sym h.given.due ∙ due)) h
+
+module _ (o : Operands) (g : SpawnGiven o) (xs : List Val) (are : xs ≡ o.args) where
+  -- the first argument is the pointer to the function
+  pub first_pointer : (p : Pointer) × (slice_get xs 0 ≡ Some (val.Ptr p))
+  first_pointer = (g.callee, ap (λ l. slice_get l 0) (are ∙ g.args))
+
+  pub callee_found : (q : Pointer) → slice_get xs 0 ≡ Some (val.Ptr q) → q ≡ g.callee
+  callee_found q at =
+      let same : val.Ptr q ≡ val.Ptr g.callee = same_Some (val.Ptr q) (val.Ptr g.callee) (sym at ∙ ap (λ l. slice_get l 0) (are ∙ g.args)) in
+      same_Some q g.callee (sym (ap pointer_in (val.outs-Ptr q)) ∙ ap (λ v. pointer_in (out-Val v)) same ∙ ap pointer_in (val.outs-Ptr g.callee))
+
+pub no_callee : (look : KeptLook) (o : Operands) (g : SpawnGiven o) (xs : List Val) → xs ≡ o.args → (q : Pointer) → slice_get xs 0 ≡ Some (val.Ptr q) → None ≡ callee_of look.functions.now q → callee_of look.functions.now g.callee ≡ None
+no_callee look o g xs are q at none = ap (callee_of look.functions.now) (sym (callee_found o g xs are q at)) ∙ sym none
+
+callee_below : (functions : List Pointer) (q : Pointer) (n : ℕ) → callee_of functions q ≡ Some n → n < length functions
+unfolding callee_of
+callee_below functions q n e = let k = position_below 0 functions q n e in omega arith
+
+-- the function that it stands for, with the types of what that keeps
+pub spawns : (look : KeptLook) (stack : KeptStack) (s : Scene) (x : Tables) (call : DoCall) (d : DueDo) → IsGiven look stack s x call d → d.op ≡ intrinsic.Spawn → (to : SpawnGiven (operands_of call))
+    → (xs : List Val) → xs ≡ call.args.items → (q : Pointer) → slice_get xs 0 ≡ Some (val.Ptr q) → (number : ℕ) → Some number ≡ callee_of look.functions.now q → SpawnsFunction look stack s x call d number
+spawns look stack s x call d g is to xs are q at number found =
+    let called : callee_of look.functions.now to.callee ≡ Some number = ap (callee_of look.functions.now) (sym (callee_found (operands_of call) to xs are q at)) ∙ sym found in
+    let below : number < length look.program.now.functions = (let k = callee_below look.functions.now to.callee number called in let many = g.ready.functions in omega arith) in
+    let fn = within look.program.now.functions number below in
+    let kept = kept_there look.program.now fn.0 (function_keeps look.program.now g.ready.well number fn.0 fn.1) in
+    record {
+      given = g;
+      is = is;
+      given_to = to;
+      called = called;
+      function = fn.0;
+      there = fn.1;
+      types = kept.ret ∷ kept.args;
+      typed = kept.is;
+    }
+
+-- what is found of its types
+pub found_start : (look : KeptLook) (stack : KeptStack) (s : Scene) (x : Tables) (call : DoCall) (d : DueDo) (number : ℕ) (h : SpawnsFunction look stack s x call d number) (f : Function)
+    → slice_get look.program.now.functions number ≡ Some f → (b : Bool) → ((types : List Ty) → kept_types f ≡ Some types → b ≡ same_types thread_types types) → b ≡ same_types thread_types h.types
+found_start look stack s x call d number h f at b told = told h.types (ap kept_types (same_Some f h.function (sym at ∙ h.there)) ∙ h.typed)
+
+-- its picks break no rule
+pub start_fits : (look : KeptLook) (stack : KeptStack) (s : Scene) (x : Tables) (call : DoCall) (d : DueDo) (number : ℕ) (picks : List ℕ) (h : SpawnsFunction look stack s x call d number) → same_types thread_types h.types ≡ true
+    → else_fault (creation_fault (shared_in s x) CreatesThread) (asks_break s x (Address 0 1 ∷ Address 8 8 ∷ []) picks) ≡ None → StartsThread look stack s x call d number picks
+start_fits look stack s x call d number picks h same met =
+    let parts = no_faults (creation_fault (shared_in s x) CreatesThread) (asks_break s x (Address 0 1 ∷ Address 8 8 ∷ []) picks) met in
+    record {
+      given = h.given;
+      is = h.is;
+      given_to = h.given_to;
+      at = record { called = h.called; function = h.function; there = h.there; types = h.types; typed = h.typed; same = same };
+      lawful =
+          ap (λ asks. picks_fault [] (ranges_of s.memory) s.thread s.count asks picks) thread_asks
+          ∙ sym (same_statuses x.statuses [] (ranges_of s.memory) s.thread s.count (Address 0 1 ∷ Address 8 8 ∷ []) picks tt) ∙ parts.1;
+      few = few_from (shared_in s x) parts.0;
+    }
+
+-- ---- the start, as the code takes it
+
+pub starts_for : (look : KeptLook) (stack : KeptStack) (s : Scene) (x : Tables) (call : DoCall) (number : ℕ) (picks : List ℕ) → (e : DueDo) × StartsThread look stack s x call e number picks
+    → (d : DueDo) → next_do (look_of look) (stack_of stack) ≡ Some d → StartsThread look stack s x call d number picks
+starts_for look stack s x call number picks (e, h) d due = subst (λ (f : DueDo). StartsThread look stack s x call f number picks) (same_Some e d (sym h.given.due ∙ due)) h
+
+-- what stands behind the first argument
+behind_callee : (o : Operands) (g : SpawnGiven o) (xs : List Val) → xs ≡ o.args → take (length xs - 1) (drop 1 xs) ≡ g.argument ∷ []
+behind_callee o g xs are = ap (λ l. take (length l - 1) (drop 1 l)) (are ∙ g.args)
+
+module _ (look : KeptLook) (stack : KeptStack) (s : Scene) (x : Tables) (call : DoCall) (d : DueDo) (number : ℕ) (picks : List ℕ) (h : StartsThread look stack s x call d number picks) (xs : List Val) (are : xs ≡ call.args.items) where
+  pub begins_with : CanBegin look number (take (length xs - 1) (drop 1 xs)) picks (world_of s)
+  begins_with =
+      subst (λ vs. CanBegin look number vs picks (world_of s)) (sym (behind_callee (operands_of call) h.given_to xs are)) (thread_begins look stack s x call d number picks h)
+
+  module _ (m : ℕ) (count : m ≡ length x.statuses) where
+    pub start_ends : CanEnd look stack call (Some (val.Int m))
+    start_ends = record {
+      ready = h.given.ready;
+      fits = h.given.fits;
+      due = d;
+      is = h.given.due;
+      result =
+          result_fits d.op (operands_of call) (Some (val.Int m)) h.given.operands
+          (subst (λ n. ValueFits call.result_type (Some (val.Int n))) (sym count) (number_fits look stack s x call d number picks h));
+    }
+
+    pub started : (s' : Scene) (new : KeptStack) → IsBottom (entered number (slice_get look.program.now.functions number) (take (length xs - 1) (drop 1 xs)) picks (world_of s)) (stack_of new) (world_of s')
+        → (x' : Tables) → x' ≡ (spawned x).1 → (r : Result Deed TurnFault) (stack' : KeptStack) (s'' : Scene)
+        → EndAnswer r (ended (stack_of stack) d (operands_of call) (Some (val.Int m)) (world_of s')) (stack_of stack') (world_of s'') (IsNewThread new m)
+        → DeedAnswer r (do_comes_to look stack s x call d picks) (Does stack s x (do_comes_to look stack s x call d picks) stack' s'' x')
+    started s' new bottom x' tables r stack' s'' e =
+        let bottom_of : IsBottom (entered number (slice_get look.program.now.functions number) (h.given_to.argument ∷ []) picks (world_of s)) (stack_of new) (world_of s') =
+        subst (λ vs. IsBottom (entered number (slice_get look.program.now.functions number) vs picks (world_of s)) (stack_of new) (world_of s')) (behind_callee (operands_of call) h.given_to xs are) bottom in
+        end_is_deed r (ended (stack_of stack) d (operands_of call) (Some (val.Int (length x.statuses))) (world_of s')) (stack_of stack') (world_of s'') (IsNewThread new (length x.statuses))
+        (Does stack s x (do_comes_to look stack s x call d picks) stack' s'' x') (do_comes_to look stack s x call d picks)
+        (subst (λ n. EndAnswer r (ended (stack_of stack) d (operands_of call) (Some (val.Int n)) (world_of s')) (stack_of stack') (world_of s'') (IsNewThread new n)) count e)
+        (λ deed went n. start_done look stack s x call d number picks h s' new bottom_of stack' s'' x' deed went tables n.flow n.event n.woken n.started n.text)
+        (λ q went. start_refused look stack s x call d number picks h s' new bottom_of q went)

@@ -1,5 +1,5 @@
 -- The turn of a thread that starts another one, by the function that it calls and the frame with which that begins.
-use Rattle.std.proofs.Common.{◌≡◌, ℕ, refl, sym, ap, ◌∙◌, List, [], ◌∷◌, length, Option, Some, None, Bool, true, false}
+use Rattle.std.proofs.Common.{◌≡◌, ℕ, ap, ◌∙◌, List, [], ◌∷◌, length, Some, None, Bool, true, false}
 use Rattle.std.specs.Prelude.{slice_get, if◌then◌else◌}
 use Rattle.mr_ast.specs.declared.program.Function.{Function}
 use Rattle.mr_ast.specs.declared.program.Intrinsic.{Intrinsic}
@@ -8,20 +8,20 @@ use Rattle.mr_ast.specs.declared.types.Ty.{Ty}
 use Rattle.mr_base.specs.declared.byte.Pointer.{Pointer}
 use Rattle.mr_base.specs.declared.reason.Reason.TheVariants.{NotAFunction, SignatureMismatch}
 use Rattle.mr_base.specs.declared.thread.Event.TheVariants.{Spawn}
-use Rattle.mr_value.specs.declared.val.Val.{Val, out-Val}
+use Rattle.mr_value.specs.declared.val.Val.{Val}
 use Rattle.mr_value.specs.declared.val.Val.TheVariants as val
-use Rattle.mr_script.specs.Script.{Done, Undefined, Ask, ◌>>=◌, Outcome, Went, Refused, on, run}
+use Rattle.mr_script.specs.Script.{Done, Undefined, Ask, ◌>>=◌, Went, Refused, on, run}
 use Rattle.mr_sync.specs.Tables.{spawned}
-use Rattle.mr_plan.specs.Machine.{CreatesThread, Plan, needs_of}
+use Rattle.mr_plan.specs.Machine.{CreatesThread, Plan}
 use Rattle.mr_plan.specs.Notes.{Notes}
-use Rattle.mr_plan.specs.Queries.{Shared, Start, StepScript, answer, memory_part, note, tables_of, with_tables, woke}
+use Rattle.mr_plan.specs.Queries.{Shared, Start, StepScript, answer, note, tables_of, with_tables, woke}
 use Rattle.mr_plan.proofs.ReadingRuns.{memory_then, moved_to}
 use Rattle.mr_frame.specs.Calls.{callee_of, enter, kept_types, same_types, storage_asks}
 use Rattle.mr_frame.specs.Effects.{entered}
 use Rattle.mr_frame.specs.Frames.{Look}
 use Rattle.mr_frame.specs.Operations.{DueDo, Operands}
 use Rattle.mr_intr.specs.Operations.{found, pointer_in}
-use Rattle.mr_thread.specs.Steps.{Own, Turn, TurnPlan, finishing, new_thread, operated, spawn, spawn_function, spawn_number, spawn_types, start, thread_types}
+use Rattle.mr_thread.specs.Steps.{Own, Turn, finishing, new_thread, operated, spawn, spawn_function, spawn_number, spawn_types, start, thread_types}
 use Rattle.mr_turn.specs.Doing.{do_planned, do_turned}
 
 module _ (look : Look) (own : Own) (d : DueDo) (o : Operands) (is : d.op ≡ intrinsic.Spawn) (c : Pointer) (argument : Val) (args : o.args ≡ val.Ptr c ∷ argument ∷ []) (w : Shared × Notes) where

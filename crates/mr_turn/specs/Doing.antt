@@ -140,6 +140,17 @@ pub record IsStart (look : KeptLook) {o : Operands} (g : SpawnGiven o) (number :
   pub typed : kept_types function ≡ Some types
   pub same : same_types thread_types types ≡ true
 
+-- It is due, and its callee is the function of this number.
+pub record SpawnsFunction (look : KeptLook) (stack : KeptStack) (s : Scene) (x : Tables) (call : DoCall) (d : DueDo) (number : ℕ) : Type 0 where
+  pub given : IsGiven look stack s x call d
+  pub is : d.op ≡ intrinsic.Spawn
+  pub given_to : SpawnGiven (operands_of call)
+  pub called : callee_of look.functions.now given_to.callee ≡ Some number
+  pub function : Function
+  pub there : slice_get look.program.now.functions number ≡ Some function
+  pub types : List Ty
+  pub typed : kept_types function ≡ Some types
+
 -- It is due, and its picks break no rule.
 pub record StartsThread (look : KeptLook) (stack : KeptStack) (s : Scene) (x : Tables) (call : DoCall) (d : DueDo) (number : ℕ) (picks : List ℕ) : Type 0 where
   pub given : IsGiven look stack s x call d

@@ -1,11 +1,9 @@
 -- What the turn of a thread comes to, and how the code answers it.
 use Rattle.std.specs.Prelude.{◌≡◌, ℕ, ◌<◌, ◌^◌, Bool, true, false, List, [], ◌∷◌, length, Option, None, Some, Result, Ok, Err}
 use Rattle.std.specs.Option.{option_map}
-use Rattle.std.specs.FinMap as fin
-use Rattle.mr_base.specs.declared.byte.AllocId.{AllocId}
 use Rattle.mr_base.specs.declared.reason.Reason.{Reason}
 use Rattle.mr_base.specs.declared.thread.Event.TheVariants.{Quiet}
-use Rattle.mr_mem.specs.Memory.{Memory, ranges_of}
+use Rattle.mr_mem.specs.Memory.{ranges_of}
 use Rattle.mr_sched.specs.declared.schedule.Ask.{Ask}
 use Rattle.mr_mem.specs.declared.fault.Fault.{Fault as MemoryFault}
 use Rattle.mr_mem.specs.declared.fault.Fault.TheVariants as memory_fault

@@ -76,12 +76,12 @@ fn payload(
     requires { (d : DueDo) × IsGiven look.now stack.old s.old sync.now call.now d × (d.op ≡ Intrinsic.Payload) }
     ensures { (d : DueDo) → next_do (look_of look.now) (stack_of stack.old) ≡ Some d → TurnAnswer result (do_breaks look.now stack.old s.old sync.now call.now d picks.now) (do_comes_to look.now stack.old s.old sync.now call.now d picks.now) (Does stack.old s.old sync.now (do_comes_to look.now stack.old s.old sync.now call.now d picks.now) stack.new s.new sync.now) (IsSame stack.old s.old sync.now stack.new s.new sync.now) }
 {
-    let Some(last) = stack.payload() else {
-        return Err(stopped(Reason::NoPayload, picks));
-    };
-    match judged(s, sync, &[], picks) {
-        Err(fault) => Err(fault),
-        Ok(()) => end(alloc, look, stack, s, call, &Val::Ptr(last)),
+    match stack.payload() {
+        None => Err(stopped(Reason::NoPayload, picks)),
+        Some(last) => match judged(s, sync, &[], picks) {
+            Err(fault) => Err(fault),
+            Ok(()) => end(alloc, look, stack, s, call, &Val::Ptr(last)),
+        },
     }
 }
 
@@ -135,13 +135,12 @@ fn operation(
     requires kind { IsOperation op }
     ensures { (d : DueDo) → next_do (look_of look.now) (stack_of stack.old) ≡ Some d → TurnAnswer result (do_breaks look.now stack.old s.old sync.old call.now d picks.now) (do_comes_to look.now stack.old s.old sync.old call.now d picks.now) (Does stack.old s.old sync.old (do_comes_to look.now stack.old s.old sync.old call.now d picks.now) stack.new s.new sync.new) (IsSame stack.old s.old sync.old stack.new s.new sync.new) }
 {
-    let needs = match needs_of(op, call.args.as_slice(), sync, s.thread) {
-        Err(reason) => return Err(stopped(reason, picks)),
-        Ok(needs) => needs,
-    };
-    match meets(s, sync, needs, picks) {
-        Err(fault) => Err(fault),
-        Ok(()) => carry_out(alloc, look, stack, s, sync, op, call, picks),
+    match needs_of(op, call.args.as_slice(), sync, s.thread) {
+        Err(reason) => Err(stopped(reason, picks)),
+        Ok(needs) => match meets(s, sync, needs, picks) {
+            Err(fault) => Err(fault),
+            Ok(()) => carry_out(alloc, look, stack, s, sync, op, call, picks),
+        },
     }
 }
 
@@ -181,7 +180,7 @@ fn end_told(
     text: Vec<u8>,
 ) -> Result<Deed, TurnFault>
     requires { CanEnd look.now stack.old call.now effect.value }
-    ensures { (d : DueDo) → next_do (look_of look.now) (stack_of stack.old) ≡ Some d → EndAnswer result (finished (stack_of stack.old) d (operands_of call.now) effect.entry.value (world_of s.old)) (stack_of stack.new) (world_of s.new) (IsTold op effect.entry text.entry.items) }
+    ensures { (d : DueDo) → next_do (look_of look.now) (stack_of stack.old) ≡ Some d → EndAnswer result (finished (stack_of stack.old) d (operands_of call.now) effect.value (world_of s.old)) (stack_of stack.new) (world_of s.new) (IsTold op effect text.items) }
 {
     match stack.finish(alloc, look, s, call, effect.value.as_ref()) {
         Err(fault) => Err(TurnFault::from(fault)),

@@ -15,12 +15,7 @@ use mr_sync::SyncTable;
 use std::alloc::{AllocError, Global};
 
 // A thread goes on, or has ended; its end wakes those that wait for it.
-fn deed_of(
-    alloc: Global,
-    flow: Flow,
-    thread: u32,
-    sync: &mut SyncTable,
-) -> Result<Deed, AllocError>
+fn deed_of(alloc: Global, flow: Flow, thread: u32, sync: &mut SyncTable) -> Result<Deed, AllocError>
     requires { IsEnabled thread sync.old }
     ensures { IfOk result (λ d. IsFlow flow thread sync.old sync.new d) }
 {

@@ -1,5 +1,5 @@
 //! The start of a thread.
-ghost use Rattle.std.specs.Prelude.{◌≡◌, ◌<◌, List, Some, length};
+ghost use Rattle.std.specs.Prelude.{◌≡◌, ◌<◌, List, Some, length, slice_get};
 ghost use Rattle.mr_ast.specs.declared.program.Intrinsic.TheVariants as intrinsic;
 ghost use Rattle.mr_ast.specs.declared.types.Ty.{Ty as TypeOf};
 ghost use Rattle.mr_base.specs.declared.byte.Pointer.{Pointer as PointerOf};
@@ -12,7 +12,7 @@ ghost use Rattle.mr_frame.specs.Effects.{finished};
 ghost use Rattle.mr_frame.specs.Kept.{look_of, stack_of};
 ghost use Rattle.mr_frame.specs.Operations.{DueDo, next_do};
 ghost use Rattle.mr_thread.specs.Steps.{thread_types};
-ghost use Rattle.mr_turn.specs.Doing.{CanEnd, EndAnswer, IsGiven, IsNewThread, StartsThread, do_breaks, do_comes_to};
+ghost use Rattle.mr_turn.specs.Doing.{CanEnd, EndAnswer, IsGiven, IsNewThread, SpawnsFunction, StartsThread, do_breaks, do_comes_to};
 ghost use Rattle.mr_turn.specs.Turning.{DeedAnswer, Does, IsSame, TurnAnswer};
 
 use crate::deed::{Deed, TurnFault};
@@ -55,15 +55,23 @@ fn begins_thread(alloc: Global, f: &Function) -> bool
     gives && Known::Written(&Ty::Raw).same(Known::Written(type_of(f, args[0])))
 }
 
-// The pointer that a value is.
-fn pointer_in(v: &Val) -> Pointer
-    requires { (p : PointerOf) × (v.now ≡ val.Ptr p) }
-    ensures { v.now ≡ val.Ptr result }
+// The pointer that the first argument is.
+fn callee_in(args: &[Val]) -> Pointer
+    requires { (p : PointerOf) × (slice_get args.now 0 ≡ Some (val.Ptr p)) }
+    ensures { slice_get args.now 0 ≡ Some (val.Ptr result) }
 {
-    match v {
+    match &args[0] {
         Val::Ptr(p) => *p,
         _ => unreachable!(),
     }
+}
+
+// The function of this name.
+fn function_of<'a>(look: &Look<'a>, f: FnName) -> &'a Function
+    requires { f.0 < length look.now.program.now.functions }
+    ensures { slice_get look.now.program.now.functions f.0 ≡ Some result.now }
+{
+    &look.program.program().functions.as_slice()[f.0 as usize]
 }
 
 /// `spawn`: 117, 118; then 67, where there are as many threads as may be; then the picks for the new thread's first frame.
@@ -79,10 +87,27 @@ pub fn spawn(
     requires { (d : DueDo) × IsGiven look.now stack.old s.old sync.old call.now d × (d.op ≡ intrinsic.Spawn) }
     ensures { (d : DueDo) → next_do (look_of look.now) (stack_of stack.old) ≡ Some d → TurnAnswer result (do_breaks look.now stack.old s.old sync.old call.now d picks.now) (do_comes_to look.now stack.old s.old sync.old call.now d picks.now) (Does stack.old s.old sync.old (do_comes_to look.now stack.old s.old sync.old call.now d picks.now) stack.new s.new sync.new) (IsSame stack.old s.old sync.old stack.new s.new sync.new) }
 {
-    let Some(f) = callee(look.functions, pointer_in(&call.args.as_slice()[0])) else {
-        return Err(stopped(Reason::NotAFunction, picks));
-    };
-    if !begins_thread(alloc, &look.program.program().functions.as_slice()[f.0 as usize]) {
+    match callee(look.functions, callee_in(call.args.as_slice())) {
+        None => Err(stopped(Reason::NotAFunction, picks)),
+        Some(f) => spawn_function(alloc, look, stack, s, sync, call, f, picks),
+    }
+}
+
+// The start of a thread with this function: 118 and what comes behind it.
+fn spawn_function(
+    alloc: Global,
+    look: &Look<'_>,
+    stack: &mut Stack,
+    s: &mut Scene,
+    sync: &mut SyncTable,
+    call: &DoCall,
+    f: FnName,
+    picks: &[u64],
+) -> Result<Deed, TurnFault>
+    requires { (d : DueDo) × SpawnsFunction look.now stack.old s.old sync.old call.now d f.0 }
+    ensures { (d : DueDo) → next_do (look_of look.now) (stack_of stack.old) ≡ Some d → TurnAnswer result (do_breaks look.now stack.old s.old sync.old call.now d picks.now) (do_comes_to look.now stack.old s.old sync.old call.now d picks.now) (Does stack.old s.old sync.old (do_comes_to look.now stack.old s.old sync.old call.now d picks.now) stack.new s.new sync.new) (IsSame stack.old s.old sync.old stack.new s.new sync.new) }
+{
+    if !begins_thread(alloc, function_of(look, f)) {
         return Err(stopped(Reason::SignatureMismatch, picks));
     }
     let asks = [
@@ -125,9 +150,9 @@ fn end_start(
     number: u32,
 ) -> Result<Deed, TurnFault>
     requires { CanEnd look.now stack.old call.now (Some (val.Int number)) }
-    ensures { (d : DueDo) → next_do (look_of look.now) (stack_of stack.old) ≡ Some d → EndAnswer result (finished (stack_of stack.old) d (operands_of call.now) (Some (val.Int number)) (world_of s.old)) (stack_of stack.new) (world_of s.new) (IsNewThread new.entry number) }
+    ensures { (d : DueDo) → next_do (look_of look.now) (stack_of stack.old) ≡ Some d → EndAnswer result (finished (stack_of stack.old) d (operands_of call.now) (Some (val.Int number)) (world_of s.old)) (stack_of stack.new) (world_of s.new) (IsNewThread new number) }
 {
-    match stack.finish(alloc, look, s, call, Some(&Val::Int(u128::from(number)))) {
+    match stack.finish(alloc, look, s, call, Some(&Val::Int(number as u128))) {
         Err(fault) => Err(TurnFault::from(fault)),
         Ok(()) => {
             let mut woken = Vec::new(alloc);

@@ -1,0 +1,73 @@
+use Rattle.std.proofs.Common.{refl, subst, subst₂, sym}
+use Rattle.std.specs.Prelude.{Err, Option}
+use Rattle.mr_mem.specs.declared.fault.Fault.{Fault}
+use Rattle.mr_script.specs.Script.{Outcome}
+use Rattle.mr_eval.specs.Answers.{seen}
+use Rattle.mr_eval.specs.World.{TellsBy}
+use Rattle.mr_plan.specs.Legal.{Fault as FaultOf}
+use Rattle.mr_plan.specs.Notes.{Notes}
+use Rattle.mr_plan.specs.Queries.{Shared}
+use Rattle.mr_frame.specs.Doing.{operands_of}
+use Rattle.mr_frame.specs.Effects.{argued}
+use Rattle.mr_frame.specs.Kept.{look_of}
+use Rattle.mr_thread.specs.Steps.{Turn}
+use Rattle.mr_turn.specs.Turning.{Does, IsSame, StopAnswer, TurnAnswer, begun, comes_to, own_of, planned}
+use Rattle.mr_eval.specs.declared.scene.Scene.{Scene}
+use Rattle.mr_turn.specs.Doing.{do_breaks, do_comes_to}
+use Rattle.mr_turn.proofs.FrameAnswers.{turn_same}
+use Rattle.mr_turn.proofs.DoAnswers.{given_breaks, given_comes, operands_fit, stopped_comes, stopped_planned, stopped_turn}
+use Rattle.mr_turn.proofs.doing.do_turn.Goals as goal
+
+pub act-requires : goal.act-requires
+act-requires c =
+    let look = c.args.look.now in
+    let stack = c.args.stack.now in
+    let s = c.args.s.now in
+    let x = c.args.sync.now in
+    let picks = c.args.picks.now in
+    let (d, due, is) = c.requires.due in (
+      d,
+      record {
+        ready = c.requires.begins.ready;
+        fits = c.requires.begins.fits;
+        due = due;
+        operands = operands_fit look c.requires.begins.ready stack c.requires.begins.fits d due s.memory (seen s.notes) (seen c.arguments.new.notes) (operands_of c.in-Ok.call) (c.in-Ok.ensures.given d due);
+        enabled = c.requires.begins.enabled;
+        uncounted = c.requires.begins.uncounted;
+        few = c.requires.begins.few;
+      },
+      is,
+    )
+
+pub returns-in-Err-Undefined : goal.returns-in-Err-Undefined
+returns-in-Err-Undefined c =
+    let look = c.args.look.now in
+    let stack = c.args.stack.now in
+    let s = c.args.s.now in
+    let x = c.args.sync.now in
+    let picks = c.args.picks.now in
+    let (d, due, is) = c.requires.due in
+    let r = c.in-Err-Undefined.reason in
+    let given = subst (λ (f : Fault). TellsBy operands_of (Err f) (argued s.memory (look_of look) d (seen s.notes)) (seen c.arguments.new.notes)) c.in-Err-Undefined.field-0-is (c.in-Err-Undefined.ensures.given d due) in
+    let o = comes_to look stack s x picks in
+    let later = record s { notes = c.arguments.new.notes } in
+    stopped_turn c.stopped.result r picks s x (planned (look_of look) (own_of s.thread stack) (begun s x)) o (Does stack s x o stack later x) (IsSame stack s x stack later x)
+    (subst (λ q. StopAnswer c.stopped.result q picks) c.in-Err-Undefined.reason-is c.stopped.ensures) (stopped_planned look stack s x d due picks r given) (stopped_comes look stack s x d due picks r given)
+    (record { stack = refl; memory = refl; tables = refl })
+
+pub returns-in-Ok : goal.returns-in-Ok
+returns-in-Ok c =
+    let look = c.args.look.now in
+    let stack = c.args.stack.now in
+    let s = c.args.s.now in
+    let x = c.args.sync.now in
+    let picks = c.args.picks.now in
+    let (d, due, is) = c.requires.due in
+    let given = c.in-Ok.ensures.given d due in
+    let later : Scene = record s { notes = c.arguments.new.notes } in
+    let b = do_breaks look stack later x c.in-Ok.call d picks in
+    let o = do_comes_to look stack later x c.in-Ok.call d picks in
+    subst₂ (λ (b : Option FaultOf) (o : Outcome Turn (Shared × Notes)). TurnAnswer c.act.result b o (Does stack s x o c.act.new.stack c.act.new.s c.act.new.sync) (IsSame stack s x c.act.new.stack c.act.new.s c.act.new.sync))
+    (sym (given_breaks look stack s x d due picks c.arguments.new.notes c.in-Ok.call given)) (sym (given_comes look stack s x d due picks c.arguments.new.notes c.in-Ok.call given))
+    (turn_same c.act.result b o (Does stack s x o c.act.new.stack c.act.new.s c.act.new.sync) (IsSame stack later x c.act.new.stack c.act.new.s c.act.new.sync) (IsSame stack s x c.act.new.stack c.act.new.s c.act.new.sync)
+    (λ same. record { stack = same.stack; memory = same.memory; tables = same.tables }) (c.act.ensures d due))

@@ -1,0 +1,17 @@
+use Rattle.std.proofs.Common.{subst, sym}
+use Rattle.std.specs.Prelude.{Err, Some}
+use Rattle.mr_eval.specs.World.{world_of}
+use Rattle.mr_frame.specs.Doing.{operands_of}
+use Rattle.mr_frame.specs.Effects.{finished}
+use Rattle.mr_frame.specs.Kept.{stack_of}
+use Rattle.mr_turn.specs.declared.deed.TurnFault.{TurnFault}
+use Rattle.mr_turn.specs.Doing.{EndAnswer, IsNoted}
+use Rattle.mr_turn.proofs.DoAnswers.{ended_refused}
+use Rattle.mr_turn.proofs.doing.end.Goals as goal
+
+pub returns-in-Err : goal.returns-in-Err
+returns-in-Err c = λ d due.
+    let o = finished (stack_of c.args.stack.now) d (operands_of c.args.call.now) (Some c.args.value.now) (world_of c.args.s.now) in
+    let k = stack_of c.finish.new.self in
+    let w = world_of c.finish.new.s in
+    subst (λ (f : TurnFault). EndAnswer (Err f) o k w IsNoted) (sym c.from.ensures) (ended_refused c.in-Err.fault o k w IsNoted (c.in-Err.ensures d due))

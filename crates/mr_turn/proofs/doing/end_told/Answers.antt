@@ -1,0 +1,20 @@
+use Rattle.std.proofs.Common.{subst, sym}
+use Rattle.std.specs.Prelude.{Err}
+use Rattle.mr_eval.specs.World.{TellsBy, world_of}
+use Rattle.mr_frame.specs.Doing.{operands_of}
+use Rattle.mr_frame.specs.Effects.{finished}
+use Rattle.mr_frame.specs.Frames.{Stack}
+use Rattle.mr_frame.specs.Kept.{stack_of}
+use Rattle.mr_turn.specs.declared.deed.TurnFault.{TurnFault}
+use Rattle.mr_turn.specs.Doing.{EndAnswer, IsTold}
+use Rattle.mr_turn.proofs.DoAnswers.{ended_refused}
+use Rattle.mr_turn.proofs.doing.end_told.Goals as goal
+
+pub returns-in-Err : goal.returns-in-Err
+returns-in-Err c = λ d due.
+    let o = finished (stack_of c.args.stack.now) d (operands_of c.args.call.now) c.args.effect.value (world_of c.args.s.now) in
+    let k = stack_of c.finish.new.self in
+    let w = world_of c.finish.new.s in
+    subst (λ (f : TurnFault). EndAnswer (Err f) o k w (IsTold c.args.op c.args.effect c.args.text.items)) (sym c.from.ensures)
+    (ended_refused c.in-Err.fault o k w (IsTold c.args.op c.args.effect c.args.text.items)
+    (subst (λ v. TellsBy {X = Unit {0}} {Y = Stack} (λ u. k) (Err c.in-Err.fault) (finished (stack_of c.args.stack.now) d (operands_of c.args.call.now) v (world_of c.args.s.now)) w) c.as_ref.ensures.value (c.in-Err.ensures d due)))
