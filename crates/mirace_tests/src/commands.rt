@@ -12,9 +12,9 @@ const EXIT: &[u8] =
 const ILL_FORMED: &[u8] =
     b"minirust 1\nfn main() -> r {\nlet r: unit;\nb0 regular: goto c;\nc cleanup: exit;\n}\nmain main\n";
 
-// A block that isn't run so far.
-const UNBUILT: &[u8] =
-    b"minirust 1\nfn main() -> r {\nlet r: unit;\nb0 regular: exit;\nc cleanup: resume;\n}\nmain main\n";
+// A main function that returns.
+const UNDEFINED: &[u8] =
+    b"minirust 1\nfn main() -> r {\nlet r: unit;\nb0 regular: return;\n}\nmain main\n";
 
 // The words, the number of the read that fails, the room of the sink, and what the command comes to.
 const CASES: [(&str, u64, usize, &str); 21] = [
@@ -97,10 +97,10 @@ const CASES: [(&str, u64, usize, &str); 21] = [
         "text 1 1 4 Unexpected\n= 3: reads 1 0, writes 0",
     ),
     (
-        "run unbuilt S",
+        "run undefined S",
         0,
         99,
-        "text 1 1 90 NotBuilt\n= 3: reads 1 0, writes 0",
+        "verdict undefined 120 MainReturned\nraces 0\n= 1: reads 2 0, writes 0",
     ),
     (
         "run broken S",
@@ -121,7 +121,7 @@ fn drawer(alloc: Global, fails: u64) -> Result<Drawer, OutOfMemory> {
     let mut files = Drawer::new(alloc);
     files.add(alloc, "exit", EXIT)?;
     files.add(alloc, "broken", ILL_FORMED)?;
-    files.add(alloc, "unbuilt", UNBUILT)?;
+    files.add(alloc, "undefined", UNDEFINED)?;
     files.add(alloc, "S", b"schedule 1\nstart 16 4096\n0\n")?;
     files.fails.push(fails)?;
     Ok(files)

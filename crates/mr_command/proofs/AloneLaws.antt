@@ -1,6 +1,7 @@
 -- A run of one thread has no race.
 use Rattle.std.proofs.Common.{◌≡◌, ℕ, zero, suc, ◌<◌, ◌≤◌, refl, sym, ap, ◌∙◌, arith, Bool, true, false, not, List, [], ◌∷◌, ◌++◌, length, Option, Some, None}
 use Rattle.std.proofs.lemmas.Bool.Decides.{nat_tests}
+use Rattle.std.specs.List.{list_all}
 use Rattle.std.specs.Prelude.{All, ◌==◌, ◌&&◌, nat_lt, cond}
 use Rattle.mr_base.specs.Accesses.{some_race}
 use Rattle.mr_event.specs.declared.footprint.Footprint.{Footprint}
@@ -9,8 +10,19 @@ use Rattle.mr_event.specs.Order.{step_at, thread_at}
 use Rattle.mr_event.specs.Predicted.{greatest_below, happens_before, pair_with, predicted, predicted_below, race_pair}
 
 -- all steps are of thread 0
-abbrev pub AreAlone : List Footprint → Type 0
+abbrev AreAlone : List Footprint → Type 0
 AreAlone run = All (λ f. f.thread ≡ 0) run
+
+both_true : (a b : Bool) → (a && b) ≡ true → (a ≡ true) × (b ≡ true)
+both_true true b h = (refl, h)
+both_true false b h = absurd (cc)
+
+is_zero : (n : ℕ) → (n == 0) ≡ true → n ≡ 0
+is_zero n h = grind (arith, nat_tests)
+
+are_alone : (run : List Footprint) → list_all (λ f. f.thread == 0) run ≡ true → AreAlone run
+are_alone [] h = tt
+are_alone (f ∷ run) h = let both = both_true (f.thread == 0) (list_all (λ f. f.thread == 0) run) h in (is_zero f.thread both.0, are_alone run both.1)
 
 thread_zero : (run : List Footprint) (i : ℕ) → AreAlone run → thread_at run i ≡ 0
 thread_zero [] i h = refl
@@ -42,6 +54,6 @@ none_to run (suc n) h =
     ∙ ap (λ ps. ps ++ []) (none_to run n h)
 
 -- NO RACE is predicted of it
-pub none_predicted : (run : List Footprint) → AreAlone run → predicted run ≡ []
+pub none_predicted : (run : List Footprint) → list_all (λ f. f.thread == 0) run ≡ true → predicted run ≡ []
 unfolding predicted
-none_predicted run h = none_to run (length run) h
+none_predicted run h = none_to run (length run) (are_alone run h)

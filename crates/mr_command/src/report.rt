@@ -1,7 +1,8 @@
 //! The report of a run: its text, and the exit status.
-ghost use Rattle.std.specs.Prelude.{◌≡◌, ◌≤◌, ◌⊎◌, All, IfOk, map, true};
-ghost use Rattle.mr_base.specs.declared.reason.Verdict.{Verdict as VerdictOf};
+ghost use Rattle.std.specs.Prelude.{◌≡◌, ◌≤◌, ◌<◌, ◌==◌, IfOk, Some, length, map, slice_get};
+ghost use Rattle.std.specs.List.{list_all};
 ghost use Rattle.mr_event.specs.Predicted.{predicted};
+ghost use Rattle.mr_plan.specs.Runs.{Printed};
 ghost use Rattle.mr_command.specs.Answer.{reported};
 ghost use Rattle.mr_command.specs.Answering.{IsStatus, seen};
 ghost use Rattle.mr_command.specs.Report.{line_of, report_of, report_status, verdict_status};
@@ -16,26 +17,49 @@ use mr_sched::Items;
 use mr_step::Machine;
 use std::alloc::{AllocError, Global};
 
+/// What is told of a run.
+#[derive(Drop)]
+struct Told {
+    lines: Vec<Line>,
+    verdict: Verdict,
+    races: Vec<Pair>,
+}
+
+impl Told {
+    ghost use Rattle.std.specs.Prelude.{◌≡◌, None};
+    ghost use Rattle.mr_command.specs.Report.{report_status};
+
+    // No witness is told so far.
+    fn report(&self) -> Report<'_>
+        ensures output { result.output.now ≡ self.now.lines.items }
+        ensures verdict { result.verdict ≡ self.now.verdict }
+        ensures races { result.races.now ≡ self.now.races.items }
+        ensures witness { result.witness ≡ None }
+    {
+        Report {
+            output: self.lines.as_slice(),
+            verdict: self.verdict,
+            races: self.races.as_slice(),
+            witness: None,
+        }
+    }
+}
+
 /// The report of a run that was taken to its end.
 pub fn report(alloc: Global, finished: &Finished<'_>) -> Result<Written, AllocError>
     ensures answer { IfOk result (λ w. seen w ≡ reported (ran_by finished.now)) }
     ensures status { IfOk result (λ w. IsStatus w.status) }
 {
-    let machine = &finished.machine;
-    let lines = lines_of(alloc, machine)?;
-    let races = races_of(alloc, finished.steps.as_slice())?;
-    let verdict = machine.verdict();
-    let mut out = Vec::new(alloc);
-    let report = Report {
-        output: lines.as_slice(),
-        verdict,
-        races: races.as_slice(),
-        witness: None,
+    let told = Told {
+        lines: lines_of(alloc, &finished.machine)?,
+        verdict: finished.machine.verdict(),
+        races: races_of(alloc, finished.steps.as_slice())?,
     };
-    text(alloc, &report, &mut out)?;
+    let mut out = Vec::new(alloc);
+    text(alloc, &told.report(), &mut out)?;
     Ok(Written {
         text: out,
-        status: status_of(verdict, races.as_slice()),
+        status: status_of(told.verdict, told.races.as_slice()),
     })
 }
 
@@ -67,26 +91,30 @@ fn lines_of(alloc: Global, machine: &Machine<'_>) -> Result<Vec<Line>, AllocErro
 {
     let mut lines = Vec::new(alloc);
     for i in 0..machine.lines() {
-        if let Some((thread, bytes)) = machine.line(i) {
-            lines.push(Line {
-                thread,
-                text: Items::from_slice(alloc, bytes)?,
-            })?;
-        }
+        lines.push(line_at(alloc, machine, i)?)?;
     }
     Ok(lines)
 }
 
+// The print of this number, counted from 0.
+fn line_at(alloc: Global, machine: &Machine<'_>, i: usize) -> Result<Line, AllocError>
+    requires { i < length machine.now.config.output }
+    ensures { (p : Printed) → slice_get machine.now.config.output i ≡ Some p → IfOk result (λ l. l ≡ line_of p) }
+{
+    match machine.line(i) {
+        Some((thread, bytes)) => Ok(Line {
+            thread,
+            text: Items::from_slice(alloc, bytes)?,
+        }),
+        None => unreachable!(),
+    }
+}
+
 // Whether all steps are of thread 0.
 fn are_alone(steps: &[Footprint]) -> bool
-    ensures { result ≡ true → All (λ f. f.thread ≡ 0) steps.now }
+    ensures { result ≡ list_all (λ f. f.thread == 0) steps.now }
 {
-    for step in steps {
-        if step.thread != 0 {
-            return false;
-        }
-    }
-    true
+    steps.iter().all(|step| step.thread == 0)
 }
 
 // The races of a run. Where one thread took all steps there is none, so that they aren't compared.
