@@ -29,9 +29,9 @@ legal_after look c line es =
     unless_broken (entries_fault look c line es) (record { config = after (thread_step look) c es; steps = feet (thread_step look) c es })
 
 -- a machine that didn't fail stands where it should, and the steps that completed joined those before them
-pub record Stands (look : Look) (m : Standing) (old new : List Footprint) (defined : Result Ran Refusal) : Type 0 where
+pub record Stands (over : Look) (m : Standing) (old new : List Footprint) (defined : Result Ran Refusal) : Type 0 where
   pub working : m.failed ≡ false
-  pub look : m.look ≡ look
+  pub look : m.look ≡ over
   pub steps : List Footprint
   pub joined : new ≡ old ++ steps
   pub is : defined ≡ Ok (record { config = m.config; steps = steps })

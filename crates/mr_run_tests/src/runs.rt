@@ -19,11 +19,7 @@ fn checked(alloc: Global, text: &str) -> Result<Checked, Fail> {
 }
 
 // The step of an entry, within the number of steps that is allowed for.
-fn step(
-    machine: &mut Machine,
-    entry: &Entry,
-    foot: &mut Footprint,
-) -> Result<Turn, StepFault> {
+fn step(machine: &mut Machine, entry: &Entry, foot: &mut Footprint) -> Result<Turn, StepFault> {
     if machine.completed() < 1_000_000 {
         machine.step(entry, foot)
     } else {
