@@ -179,9 +179,9 @@ behind_twice : (a b : List Footprint) (o : Result Ran Refusal) → behind_all (a
 behind_twice a b (Ok r) = ap (λ xs. Ok (record { config = r.config; steps = xs })) (append_assoc a b r.steps)
 behind_twice a b (Err r) = refl
 
-pub goes_on : (first m new : Standing) (was now then : List Footprint) (line index : ℕ) (e : Entry) (es : List Entry) → drop index es ≡ e ∷ drop (index + 1) es
-    → IsUnderWay first m was now line index es → EntryAnswer e line m new now then (Ok tt) → IsUnderWay first new was then (line + 1) (index + 1) es
-goes_on first m new was now then line index e es d h k =
+pub goes_on : (first m new : Standing) (was now next : List Footprint) (line index : ℕ) (e : Entry) (es : List Entry) → drop index es ≡ e ∷ drop (index + 1) es
+    → IsUnderWay first m was now line index es → EntryAnswer e line m new now next (Ok tt) → IsUnderWay first new was next (line + 1) (index + 1) es
+goes_on first m new was now next line index e es d h k =
     let one : Ran = record { config = new.config; steps = k.steps } in
     let to : (program_step m.look m.config e) ≡ new.config = ap (λ (r : Ran). r.config) (unbroken line (program_fault m.look m.config e) (record { config = program_step m.look m.config e; steps = foot_from (thread_step m.look) e.thread e.picks m.config.state }) one None one k.is).0 in
     record {
@@ -214,9 +214,9 @@ ends_at first m was now line index es d h = record {
       ∙ ap (λ xs. Ok (record { config = m.config; steps = xs })) (append-nil h.steps);
 }
 
-pub breaks_off : (first m new : Standing) (was now then : List Footprint) (line index : ℕ) (e : Entry) (es : List Entry) (r : Refusal) → drop index es ≡ e ∷ drop (index + 1) es
-    → IsUnderWay first m was now line index es → EntryAnswer e line m new now then (Err r) → EntriesAnswer es first new was then (Err r)
-breaks_off first m new was now then line index e es r d h k =
+pub breaks_off : (first m new : Standing) (was now next : List Footprint) (line index : ℕ) (e : Entry) (es : List Entry) (r : Refusal) → drop index es ≡ e ∷ drop (index + 1) es
+    → IsUnderWay first m was now line index es → EntryAnswer e line m new now next (Err r) → EntriesAnswer es first new was next (Err r)
+breaks_off first m new was now next line index e es r d h k =
     subst (Refuses r) (ap (λ xs. behind_all h.steps (legal_after m.look m.config line xs)) (sym d) ∙ h.leads)
     (refuses_behind h.steps r (legal_after m.look m.config line (e ∷ drop (index + 1) es)) (stops_at m.look m.config line e (drop (index + 1) es) r k))
 

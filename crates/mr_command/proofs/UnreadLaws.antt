@@ -20,7 +20,7 @@ use Rattle.mr_command.proofs.HeadlineLaws.{at_most_one, ran_out, written_status}
 
 -- ---- the status 6 is that of a file that isn't there
 
-of_legal : (f : Option PlacedFault) (r : Ran) → (told reported (unless_broken f c)).status ≡ 6 → ⊥
+of_legal : (f : Option PlacedFault) (r : Ran) → (told reported (unless_broken f r)).status ≡ 6 → ⊥
 of_legal None r s = let least = at_most_one r.config.verdict (predicted r.steps) in absurd (omega arith)
 of_legal (Some f) r s = let five : 5 ≡ 6 = s in absurd (omega arith)
 

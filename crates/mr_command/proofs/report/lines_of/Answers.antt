@@ -16,6 +16,6 @@ loop-i-preserved c =
     let within = subst (λ n. c.loop-i.i < n) c.lines-i-end.ensures c.loop-i-test.true in
     let p = get_or ps c.loop-i.i no_print in
     let there = slice_get-get_or ps c.loop-i.i no_print within in
-    c.in_ok-push.ensures
+    c.in_ok-push.ensures.items
     ∙ ap₂ (λ front (l : Line). front ++ l ∷ []) c.loop-i.invariant (c.in_ok-line_at.ensures p there)
     ∙ sym (map_more line_of ps c.loop-i.i no_print within)

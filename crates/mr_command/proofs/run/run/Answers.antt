@@ -14,9 +14,9 @@ run_entries-requires-clause-completed c =
 
 pub returns-in-Ok-run_entries : goal.returns-in-Ok-run_entries
 returns-in-Ok-run_entries c =
-    run_taken c.args.p.now c.args.w.now c.as_slice.result.now c.as_slice-2.result.now c.in-Ok.machine c.new.result.items _ c.as_slice.ensures c.as_slice-2.ensures c.new.ensures c.in-Ok.ensures c.in-Ok-run_entries.ensures
+    run_taken c.args.p.now c.args.w.now c.as_slice.result.now c.as_slice-2.result.now c.in-Ok.machine c.new-steps.result.items (record { machine = c.run_entries.new.machine; steps = c.run_entries.new.steps }) c.as_slice.ensures c.as_slice-2.ensures c.new-steps.ensures.items c.in-Ok.ensures c.in-Ok-run_entries.ensures
 
 pub returns : goal.returns
 returns c =
-    run_refused c.args.p.now c.args.w.now c.as_slice.result.now c.as_slice-2.result.now c.in-Ok.machine c.run_entries.new.machine _ _ c.in-Err-run_entries.refusal
+    run_refused c.args.p.now c.args.w.now c.as_slice.result.now c.as_slice-2.result.now c.in-Ok.machine c.run_entries.new.machine c.new-steps.result.items c.run_entries.new.steps.items c.in-Err-run_entries.refusal
     c.as_slice.ensures c.as_slice-2.ensures c.in-Ok.ensures c.in-Err-run_entries.ensures
