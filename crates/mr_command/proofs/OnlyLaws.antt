@@ -1,6 +1,6 @@
 -- Where 0 or 1 is answered, the files hold what is defined for it.
-use Rattle.std.proofs.Common.{◌≡◌, ℕ, ◌≤◌, Bool, true, false, ap, ◌∙◌, sym, subst, arith, List, [], ◌∷◌, inl, inr, refl}
-use Rattle.std.specs.Prelude.{Some, None, Option, Result, Ok, Err, if◌then◌else◌}
+use Rattle.std.proofs.Common.{◌≡◌, ℕ, ◌≤◌, ap, ◌∙◌, sym, subst, arith, List, [], ◌∷◌, inl, inr, refl}
+use Rattle.std.specs.Prelude.{Some, None, Option, Result, Ok, Err}
 use Rattle.std.specs.Io.KnownBytes.{append_known}
 use Rattle.mr_ast.specs.declared.program.Program.{Program}
 use Rattle.mr_io.specs.Files.{Contents}
@@ -15,7 +15,6 @@ use Rattle.mr_start.specs.Start.{PlacedFault, schedule_fault}
 use Rattle.mr_start.proofs.RunLaws.{legal_schedule}
 use Rattle.mr_wf.specs.declared.fault.FormFault.{FormFault}
 use Rattle.mr_wf.specs.Walk.{WellFormed, faults_of}
-use Rattle.mr_command.specs.declared.refusal.Refusal.TheVariants as refusal
 use Rattle.mr_command.specs.Command.{Command, Run, Check}
 use Rattle.mr_command.specs.Answer.{Answer, Ran, answer_of, canonical, check_answer, denoted, form_or, legal_run, program_in, ran, report_under, reported, run_answer, spelled, told, unless_broken, ◌>>=◌}
 use Rattle.mr_command.specs.Outcome.{Ends, IsWhole}

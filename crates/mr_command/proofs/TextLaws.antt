@@ -2,7 +2,7 @@
 use Rattle.std.proofs.Common.{◌≡◌, ℕ, ◌≤◌, ap, ◌∙◌, sym, subst, arith, List, [], inl, inr, codes}
 use Rattle.std.specs.Prelude.{Some, Option, Result, Ok, Err}
 use Rattle.mr_ast.specs.declared.program.Program.{Program}
-use Rattle.mr_io.specs.Counts.{Rose, raised}
+use Rattle.mr_io.specs.Counts.{Rose}
 use Rattle.mr_wf.specs.Walk.{WellFormed}
 use Rattle.mr_command.specs.declared.answer.Written.{Written}
 use Rattle.mr_command.specs.declared.refusal.Refusal.{Refusal}

@@ -1,6 +1,6 @@
 -- Why a file was not read.
-use Rattle.std.proofs.Common.{◌≡◌, ℕ, Bool, true, false, ap, ◌∙◌, sym, arith, List, [], ◌∷◌, ◌⊎◌, inl, inr, refl}
-use Rattle.std.specs.Prelude.{Some, None, Option, Result, Ok, Err, if◌then◌else◌}
+use Rattle.std.proofs.Common.{◌≡◌, ℕ, ap, ◌∙◌, sym, arith, List, [], ◌∷◌, ◌⊎◌, inl, inr, refl}
+use Rattle.std.specs.Prelude.{Some, None, Option, Result, Ok, Err}
 use Rattle.mr_ast.specs.declared.program.Program.{Program}
 use Rattle.mr_io.specs.Files.{Contents}
 use Rattle.mr_lex.specs.declared.token.TextFault.{TextFault}
@@ -11,7 +11,6 @@ use Rattle.mr_event.specs.Predicted.{predicted}
 use Rattle.mr_start.specs.Start.{PlacedFault, schedule_fault}
 use Rattle.mr_wf.specs.declared.fault.FormFault.{FormFault}
 use Rattle.mr_wf.specs.Walk.{faults_of}
-use Rattle.mr_command.specs.declared.refusal.Refusal.TheVariants as refusal
 use Rattle.mr_command.specs.Command.{Command, Run, Check}
 use Rattle.mr_command.specs.Answer.{Answer, Ran, answer_of, canonical, check_answer, denoted, form_or, legal_run, program_in, ran, report_under, reported, run_answer, spelled, told, unless_broken, ◌>>=◌}
 use Rattle.mr_command.specs.Outcome.{Ends, IsPossible}

@@ -1,4 +1,4 @@
-use Rattle.std.proofs.Common.{ap, ap₂, ◌∙◌, sym, [], ◌∷◌, ◌++◌, take, get_or, subst, ◌<◌}
+use Rattle.std.proofs.Common.{ap₂, ◌∙◌, sym, [], ◌∷◌, ◌++◌, get_or, subst, ◌<◌}
 use Rattle.std.proofs.lemmas.List.{map_more}
 use Rattle.std.proofs.lemmas.Option.{slice_get-get_or}
 use Rattle.mr_plan.specs.Runs.{Printed}
