@@ -1,6 +1,6 @@
 //! The tests of runs, by texts: what the machine makes of a program under a schedule, step by step; what the tables of threads and
-//! locks answer; and which steps of a run depend, are ordered and race. It has no code of its own. `proofs/Examples.antt` has picks, races and short
-//! runs that the definitions alone compute.
+//! locks answer; and which steps of a run depend, are ordered and race. It has no code of its own. `proofs/Examples.antt` has picks,
+//! races and short runs that the definitions alone compute.
 #![tactic(auto)]
 
 #[cfg(test)]
