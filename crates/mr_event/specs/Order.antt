@@ -85,6 +85,14 @@ pub record IsPredictedBelow (run : List Footprint) (n : ℕ) (pairs : List Pair)
 abbrev pub IsPredicted : List Footprint → List Pair → Type 0
 IsPredicted run pairs = IsPredictedBelow run (length run) pairs
 
+-- the steps are of two threads, and some of their accesses race
+abbrev pub AreRivals : List Footprint → ℕ → ℕ → Type 0
+AreRivals run i j = (thread_at run i ≢ thread_at run j) × IsTrue (some_race (step_at run i).accesses (step_at run j).accesses)
+
+-- no step below i is a rival of j
+abbrev pub HasNoRivalBelow : List Footprint → ℕ → ℕ → Type 0
+HasNoRivalBelow run i j = (k : ℕ) → k < i → ¬ AreRivals run k j
+
 -- an edge to k comes from a step that is marked
 abbrev pub HasLink : List Footprint → List Bool → ℕ → Type 0
 HasLink run marked k = (m : ℕ) × (m < k) × IsTrue (slice_index_or marked m false) × Edge run m k

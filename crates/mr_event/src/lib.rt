@@ -12,7 +12,8 @@
 //!
 //! - [`depends`]: whether a later step of another thread depends on a step, exactly.
 //! - [`predicted_plain`]: each step that races with an earlier one unordered by happens-before, with the greatest such
-//!   one, by rising second step; want of memory is its only error. It compares all steps.
+//!   one, by rising second step; want of memory is its only error. It compares each two steps, and looks at their order
+//!   only where some step of another thread has an access that races.
 //! - [`follows_plain`]: for each step of a run whether a given step happens before it, likewise.
 //! - [`foot_ok`]: whether a footprint keeps the machine's limits, exactly.
 //!

@@ -1,7 +1,7 @@
 //! The races that a run shows, by comparing all steps.
 
-ghost use Rattle.std.specs.Prelude.{◌≡◌, ℕ, ◌<◌, ◌↔◌, IsTrue, IfOk, MatchOption, length, slice_index_or, vec_len, false};
-ghost use Rattle.mr_event.specs.Order.{HappensBefore, HasWay, IsGreatestPartner, HasNoPartner};
+ghost use Rattle.std.specs.Prelude.{◌≡◌, ℕ, ◌<◌, ◌↔◌, IsTrue, IfOk, MatchOption, length, slice_index_or, false};
+ghost use Rattle.mr_event.specs.Order.{AreRivals, HappensBefore, HasNoPartner, HasNoRivalBelow, HasWay, IsGreatestPartner};
 ghost use Rattle.mr_event.specs.Predicted.{predicted};
 
 use crate::OutOfMemory;
@@ -24,21 +24,41 @@ fn leads(run: &[Footprint], marked: &[bool], i: usize, j: usize) -> bool
     false
 }
 
-// For each step before `j`, whether it happens before `j`.
-fn steps_before(alloc: Global, run: &[Footprint], j: usize) -> Result<Vec<bool>, OutOfMemory>
-    requires { j < length run.now }
-    ensures length { IfOk result (λ v. vec_len v ≡ j) }
-    ensures each { IfOk result (λ v. (i : ℕ) → i < j → IsTrue (slice_index_or v.items i false) ↔ HappensBefore run.now i j) }
+// Whether step `i` happens before step `j`, where those between them that do are marked.
+fn comes_before(run: &[Footprint], marked: &[bool], i: usize, j: usize) -> bool
+    requires marks { length marked.now ≡ j }
+    requires between { (m : ℕ) → i < m → m < j → IsTrue (slice_index_or marked.now m false) ↔ HappensBefore run.now m j }
+    requires order { i < j }
+    requires within { j < length run.now }
+    ensures { IsTrue result ↔ HappensBefore run.now i j }
 {
-    let mut marked = vec![in alloc; false; j]?;
-    for i in (0..j).rev() {
-        let before = edge(run, i, j) || leads(run, &marked, i, j);
-        marked[i] = before;
-    }
-    Ok(marked)
+    edge(run, i, j) || leads(run, marked, i, j)
 }
 
-// The greatest partner of step `j`, by comparing it with each earlier step.
+// Whether the steps are of two threads and some of their accesses race.
+fn are_rivals(run: &[Footprint], i: usize, j: usize) -> bool
+    requires first { i < length run.now }
+    requires second { j < length run.now }
+    ensures { IsTrue result ↔ AreRivals run.now i j }
+{
+    thread_at(run, i) != thread_at(run, j) && step_races(run, i, j)
+}
+
+// The first step before `j` that could be its partner.
+fn first_rival(run: &[Footprint], j: usize) -> Option<usize>
+    requires { j < length run.now }
+    ensures { MatchOption result (HasNoRivalBelow run.now j j) (λ i. (i < j) × HasNoRivalBelow run.now i j) }
+{
+    for i in 0..j {
+        if are_rivals(run, i, j) {
+            return Some(i);
+        }
+    }
+    None
+}
+
+// The greatest partner of step `j`: which earlier steps happen before `j` is looked at only down to the first that could
+// be one, and not where there is none.
 fn greatest_partner(
     alloc: Global,
     run: &[Footprint],
@@ -47,13 +67,16 @@ fn greatest_partner(
     requires { j < length run.now }
     ensures { IfOk result (λ o. MatchOption o (HasNoPartner run.now j) (λ i. IsGreatestPartner run.now i j)) }
 {
-    let before = steps_before(alloc, run, j)?;
-    for i in (0..j).rev() {
-        if thread_at(run, i) != thread_at(run, j) && step_races(run, i, j) {
-            if !before[i] {
-                return Ok(Some(i));
-            }
+    let Some(first) = first_rival(run, j) else {
+        return Ok(None);
+    };
+    let mut marked = vec![in alloc; false; j]?;
+    for i in (first..j).rev() {
+        let before = comes_before(run, &marked, i, j);
+        if !before && are_rivals(run, i, j) {
+            return Ok(Some(i));
         }
+        marked[i] = before;
     }
     Ok(None)
 }

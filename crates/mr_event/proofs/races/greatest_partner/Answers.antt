@@ -1,17 +1,32 @@
-use Rattle.std.proofs.Common.{◌≡◌, ◌<◌, ◌-◌, arith, sym, ◌∙◌, false, length, get_or}
+use Rattle.std.proofs.Common.{ℕ, ◌<◌, ◌-◌, ◌↔◌, IsTrue, arith, sym, ◌∙◌, refl}
 use Rattle.std.proofs.lemmas.Bool.{both_ways}
-use Rattle.std.proofs.lemmas.List.{get_or_read}
-use Rattle.mr_event.proofs.Follows.{partner_found}
+use native.Mathlib.Decide.{ℕ_discrete}
+use Rattle.mr_event.specs.Order.{HappensBefore, RacePair}
+use Rattle.mr_event.proofs.Follows.{partner_found, set_mark}
 use Rattle.mr_event.proofs.races.greatest_partner.Goals as goal
+use Rattle.mr_event.proofs.races.greatest_partner.Goals.{else-not-before-via-then-not-before+else-are_rivals, else-not-before-via-else-not-before}
 
-pub returns-then-not-index : goal.returns-then-not-index
-returns-then-not-index c =
+pub returns-then-are_rivals : goal.returns-then-are_rivals
+returns-then-are_rivals c =
+    let rivals = c.are_rivals.ensures.0 c.if-are_rivals.true in
+    partner_found c.args.run.now (c.loop-i.i - 1) c.args.j (omega arith) rivals.0 rivals.1
+    (λ h. both_ways _ c.if-not-before.true (c.comes_before-before.ensures.1 h))
+    (λ k lt. c.loop-i.invariant.none k (omega arith))
+
+pub loop-i-preserved : goal.loop-i-preserved
+loop-i-preserved c =
     let low : c.loop-i.i - 1 < c.args.j = omega arith in
-    let within : c.loop-i.i - 1 < length c.in_ok-before.before.items = omega (arith, c.in_ok-before.before.ok.0, c.in_ok-before.ensures.length, low) in
-    let unmarked : get_or c.in_ok-before.before.items (c.loop-i.i - 1) false ≡ false =
-    sym (get_or_read c.in_ok-before.before.items (c.loop-i.i - 1) c.index.result.now within c.index.ensures false) ∙ c.if-not-index.true in
-    partner_found c.args.run.now (c.loop-i.i - 1) c.args.j low
-    (λ e. c.if-thread_at.true (c.thread_at.ensures ∙ e ∙ sym c.thread_at-in-loop-i.ensures))
-    (sym c.step_races.ensures ∙ c.if-step_races.true)
-    (λ h. both_ways _ unmarked ((c.in_ok-before.ensures.each (c.loop-i.i - 1) low).1 h))
-    (λ k lt. c.loop-i.invariant k (omega arith))
+    let above : (m : ℕ) → c.loop-i.i - 1 < m → m < c.args.j → IsTrue _ ↔ HappensBefore c.args.run.now m c.args.j = λ m over lt. c.loop-i.invariant.each m (omega arith) lt in
+    let here : RacePair c.args.run.now (c.loop-i.i - 1) c.args.j → ⊥ =
+    elim c.else-not-before.branch [
+      | else-not-before-via-then-not-before+else-are_rivals w ↦ λ pair. both_ways _ w.if-are_rivals.false (w.are_rivals.ensures.1 (pair.races.apart, pair.races.race))
+      | else-not-before-via-else-not-before w ↦ λ pair. pair.unordered (c.comes_before-before.ensures.0 w.if-not-before.false)
+    ] in
+    record {
+      len = c.loop-i.invariant.len;
+      each = set_mark (λ m. HappensBefore c.args.run.now m c.args.j) c.loop-i.marked.items _ c.comes_before-before.result (c.loop-i.i - 1) c.args.j (sym c.loop-i.marked.ok.0 ∙ c.loop-i.invariant.len) low refl above c.comes_before-before.ensures;
+      none = λ k low' pair. elim (ℕ_discrete k (c.loop-i.i - 1)) [
+        | yes same ↦ here (rw same at pair)
+        | no other ↦ c.loop-i.invariant.none k (omega arith) pair
+      ];
+    }
