@@ -1,0 +1,3 @@
+pub mod Meets
+pub mod Spots
+pub mod Swap

@@ -1,0 +1,2 @@
+//! The swap law.
+#![tactic(auto)]

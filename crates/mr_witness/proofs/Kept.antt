@@ -1,0 +1,37 @@
+-- The kept schedule of the first pair is a witness.
+use Rattle.std.proofs.Common.{◌≡◌, ℕ, refl, ◌∙◌, ap, List, [], ◌∷◌, map}
+use Rattle.mr_ast.specs.declared.program.Program.{Program}
+use Rattle.mr_base.specs.declared.reason.Verdict.TheVariants as verdict
+use Rattle.mr_event.specs.declared.footprint.Footprint.{Footprint}
+use Rattle.mr_event.specs.Kept.{kept}
+use Rattle.mr_event.specs.Order.{step_at}
+use Rattle.mr_order.specs.Trace.{IsFirstPair}
+use Rattle.mr_order.proofs.Choices.{kept_selects}
+use Rattle.mr_sched.specs.declared.schedule.Schedule.{Schedule}
+use Rattle.mr_wf.specs.Walk.{WellFormed}
+use Rattle.mr_plan.specs.Machine.{State}
+use Rattle.mr_thread.specs.SoundState.{SoundState}
+use Rattle.mr_thread.specs.Steps.{Own, thread_step}
+use Rattle.mr_start.specs.Start.{Legal, look_of, run_of, start_config, steps_of}
+use Rattle.mr_start.proofs.StartSound.{start_look, start_sound}
+use Rattle.mr_swap.specs.Swap.{IsSane, SwapLaw}
+use Rattle.mr_exchange.proofs.Exchanged.{NotesThread}
+use Rattle.mr_exchange.specs.Witness.{IsWitness, kept_schedule, schedule_at}
+use Rattle.mr_witness.proofs.Shown.{ShowsRace, choice_shows}
+
+-- THE KEPT SCHEDULE IS A WITNESS, of every well-formed program under a legal schedule
+pub kept_is_witness : (p : Program) (w : Schedule) (law : SwapLaw (thread_step (look_of p w.start))) (noted : NotesThread (look_of p w.start)) (sane : (s : State Own) → SoundState p s → IsSane s)
+    → WellFormed p → Legal p w → (i j : ℕ) → IsFirstPair (steps_of p w) i j → IsWitness p w i j (kept_schedule (steps_of p w) w i j)
+unfolding steps_of run_of start_config look_of kept_schedule
+kept_is_witness p w law noted sane well legal i j first =
+    let shows = choice_shows (look_of p w.start) (start_look p well w.start legal.start) well w.entries law noted sane _ (start_sound p well w.start legal.start _ refl) legal.entries i j _ first (kept_selects (steps_of p w) i j first) in
+    record {
+      front = shows.front;
+      from = ap (schedule_at w) shows.ends;
+      legal = record { start = legal.start; entries = shows.legal };
+      prefix = shows.prefix;
+      steps = shows.steps ∙ ap (map (step_at (steps_of p w))) shows.ends;
+      running = shows.running;
+      race = shows.race;
+    }
+
