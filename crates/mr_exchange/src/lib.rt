@@ -9,4 +9,6 @@
 //! same footprints and prints, and lead to the same state. It holds at each state that a run may come to, and for whole runs.
 #![tactic(auto)]
 
+mod laws;
 
+pub use laws::swap;

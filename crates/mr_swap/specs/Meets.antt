@@ -97,7 +97,8 @@ TakesOnly rs es rs' = (q : ℕ × ℕ) → IsTaken rs' q → IsTaken rs q ⊎ Co
 
 -- What two neighbouring entries come to, once exchanged: the picks of the second are apart from those of the first, and
 -- meet its asks without it; and those of the first meet its asks behind the second.
-pub record Exchanged (ss0 ss2 : List Status) (rs0 rs2 : Ranges) (asks : List Ask) (picks : List ℕ) (asks' : List Ask) (picks' : List ℕ) : Type 0 where
+pub record Exchanged (ss0 ss2 : List Status) (rs0 rs2 : Ranges) (asks : List Ask) (picks : List ℕ)
+    (asks' : List Ask) (picks' : List ℕ) : Type 0 where
   pub apart :
       (r q : ℕ × ℕ) → Contains (addresses asks picks) r → Contains (addresses asks' picks') q → AreApart q r
   pub second : Meets ss0 rs0 asks' picks'
@@ -109,8 +110,8 @@ HasRoom s CreatesNothing = Unit {0}
 HasRoom s CreatesThread = length s.statuses < 1024
 HasRoom s CreatesLock = length s.holders < 4096
 
--- An entry of thread t with these picks is legal, as far as its bare step goes: the thread is enabled, there is room for
--- what its step creates, and the picks meet what it asks for.
+-- An entry of thread t with these picks is legal, as far as its bare step goes: the thread is enabled, there is room
+-- for what its step creates, and the picks meet what it asks for.
 pub record IsLegalEntry {L : Type 0} (step : Language L) (s : State L) (t : ℕ) (picks : List ℕ) : Type 0 where
   pub enabled : slice_get s.shared.statuses t ≡ Some Enabled
   pub room : HasRoom s.shared (needs step s t).creates

@@ -10,7 +10,8 @@ use Rattle.mr_sched.specs.declared.schedule.Ask.{Ask}
 use Rattle.mr_sched.specs.declared.schedule.Ask.TheVariants.{Address, Waiter}
 use Rattle.mr_script.specs.Script.{Went, run}
 use Rattle.mr_plan.specs.Legal.{state_fault}
-use Rattle.mr_plan.specs.Machine.{Completed, Creation, CreatesLock, CreatesNothing, CreatesThread, Flow, Goes, Language, Plan, State, Thread, bare}
+use Rattle.mr_plan.specs.Machine.{Completed, Creation, CreatesLock, CreatesNothing, CreatesThread, Flow, Goes}
+use Rattle.mr_plan.specs.Machine.{Language, Plan, State, Thread, bare}
 use Rattle.mr_plan.specs.Notes.{Notes, event_of, foot_of, start_notes}
 use Rattle.mr_plan.specs.Queries.{Shared, StepScript, answer}
 use Rattle.mr_swap.specs.Meets.{addresses}
@@ -40,7 +41,8 @@ IsStarted (Some new) es = Any IsSpawn es
 
 -- A step that goes makes the allocations that it asked for, in this order; it has one event at most; it creates what it
 -- said; and it starts a thread where it hands one out.
-pub record StepTold {L : Type 0} (plan : Plan (StepScript (Flow L))) (picks : List ℕ) (started : Option L) (n : Notes) : Type 0 where
+pub record StepTold {L : Type 0} (plan : Plan (StepScript (Flow L))) (picks : List ℕ)
+    (started : Option L) (n : Notes) : Type 0 where
   pub allocates : n.tally.ranges ≡ addresses plan.asks picks
   pub one_event : HasOneEvent n.events
   pub creates : IsCreated plan.creates n.events
@@ -72,7 +74,8 @@ pub record IsSane {L : Type 0} (s : State L) : Type 0 where
 
 -- the two entries in the other order break no rule, and their steps complete with the same notes and lead to the same
 -- state
-pub record AreExchanged {L : Type 0} (step : Language L) (s s2 : State L) (t u : ℕ) (ps qs : List ℕ) (nf ng : Notes) : Type 0 where
+pub record AreExchanged {L : Type 0} (step : Language L) (s s2 : State L) (t u : ℕ) (ps qs : List ℕ)
+    (nf ng : Notes) : Type 0 where
   pub between : State L
   pub second_legal : state_fault step s u qs ≡ None
   pub second_first : bare step s u qs ≡ Completed ng between

@@ -1,12 +1,15 @@
 -- The kept schedule of the first pair is a witness.
-use Rattle.std.proofs.Common.{◌≡◌, ℕ, refl, ◌∙◌, ap, List, [], ◌∷◌, map}
+use Rattle.std.proofs.Common.{◌≡◌, ℕ, refl, ◌∙◌, ap, subst, List, ◌∷◌, map}
 use Rattle.mr_ast.specs.declared.program.Program.{Program}
 use Rattle.mr_base.specs.declared.reason.Verdict.TheVariants as verdict
 use Rattle.mr_event.specs.declared.footprint.Footprint.{Footprint}
+use Rattle.mr_event.specs.declared.footprint.Pair.{Pair}
 use Rattle.mr_event.specs.Kept.{kept}
 use Rattle.mr_event.specs.Order.{step_at}
+use Rattle.mr_event.specs.Predicted.{predicted}
 use Rattle.mr_order.specs.Trace.{IsFirstPair}
 use Rattle.mr_order.proofs.Choices.{kept_selects}
+use Rattle.mr_order.proofs.First.{first_of_predicted}
 use Rattle.mr_sched.specs.declared.schedule.Schedule.{Schedule}
 use Rattle.mr_wf.specs.Walk.{WellFormed}
 use Rattle.mr_plan.specs.Machine.{State}
@@ -15,7 +18,9 @@ use Rattle.mr_thread.specs.Steps.{Own, thread_step}
 use Rattle.mr_start.specs.Start.{Legal, look_of, run_of, start_config, steps_of}
 use Rattle.mr_start.proofs.StartSound.{start_look, start_sound}
 use Rattle.mr_swap.specs.Swap.{IsSane, SwapLaw}
+use Rattle.mr_tracks.proofs.Sane.{sound_is_sane}
 use Rattle.mr_exchange.proofs.Exchanged.{NotesThread}
+use Rattle.mr_exchange.proofs.Law.{law_of, thread_noted}
 use Rattle.mr_exchange.specs.Witness.{IsWitness, kept_schedule, schedule_at}
 use Rattle.mr_witness.proofs.Shown.{ShowsRace, choice_shows}
 
@@ -35,3 +40,14 @@ kept_is_witness p w law noted sane well legal i j first =
       race = shows.race;
     }
 
+-- THE FIRST RACE HAS A WITNESS
+pub first_witness : (p : Program) (w : Schedule) → WellFormed p → Legal p w → (pair : Pair) (races : List Pair) → predicted (steps_of p w) ≡ pair ∷ races
+    → IsWitness p w pair.first pair.second (kept_schedule (steps_of p w) w pair.first pair.second)
+first_witness p w well legal pair races e =
+    kept_is_witness p w (law_of (look_of p w.start)) (thread_noted (look_of p w.start)) (sound_is_sane p) well legal pair.first pair.second (first_of_predicted (steps_of p w) pair races e)
+
+-- the same of a run that is the program's
+pub witness_of_run : (p : Program) (w : Schedule) (run : List Footprint) (pair : Pair) (races : List Pair) → WellFormed p → Legal p w → steps_of p w ≡ run
+    → predicted run ≡ pair ∷ races → IsWitness p w pair.first pair.second (kept_schedule run w pair.first pair.second)
+witness_of_run p w run pair races well legal same e =
+    subst (λ r. IsWitness p w pair.first pair.second (kept_schedule r w pair.first pair.second)) same (first_witness p w well legal pair races (ap predicted same ∙ e))

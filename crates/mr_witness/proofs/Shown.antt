@@ -75,10 +75,10 @@ module _ (look : Look) (is : IsLook look) (well : WellFormed look.program) (es :
       let all = thread_entries es run t (places (length run)) (runs_threads look is well es run law noted sane (s, sound) whole.0 (places (length run)) whole.1) in (
         map (entry_at es) rest ++ entries_of t later,
         ap (λ l. l ++ (map (entry_at es) rest ++ entries_of t later)) here
-        ∙ sym (append_assoc (map (entry_at es) (steps_of run t ks)) (map (entry_at es) rest) (entries_of t later))
-        ∙ ap (λ l. l ++ entries_of t later) (sym (map_append (entry_at es) (steps_of run t ks) rest) ∙ ap (map (entry_at es)) e ∙ sym all)
-        ∙ sym (filter-append (λ (e : Entry). e.thread == t) (map (entry_at es) (places (length run))) later)
-        ∙ ap (entries_of t) parts,
+            ∙ sym (append_assoc (map (entry_at es) (steps_of run t ks)) (map (entry_at es) rest) (entries_of t later))
+            ∙ ap (λ l. l ++ entries_of t later) (sym (map_append (entry_at es) (steps_of run t ks) rest) ∙ ap (map (entry_at es)) e ∙ sym all)
+            ∙ sym (filter-append (λ (e : Entry). e.thread == t) (map (entry_at es) (places (length run))) later)
+            ∙ ap (entries_of t) parts,
       )
 
   -- A CHOICE OF STEPS SHOWS THE FIRST PAIR

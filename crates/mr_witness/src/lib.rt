@@ -8,7 +8,9 @@
 #![tactic(auto)]
 
 mod choosing;
+mod laws;
 
 pub use choosing::witness;
+pub use laws::first_race_has_a_witness;
 pub use mr_event::{Footprint, OutOfMemory, Pair};
 pub use mr_sched::{Entry, Schedule};

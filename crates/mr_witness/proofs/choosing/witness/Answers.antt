@@ -5,6 +5,7 @@ use Rattle.mr_event.specs.Predicted.{predicted}
 use Rattle.mr_order.proofs.First.{first_of_predicted}
 use Rattle.mr_exchange.specs.Witness.{IsWitness, kept_schedule}
 use Rattle.mr_witness.proofs.Chosen.{both_copied, pushed_twice}
+use Rattle.mr_witness.proofs.Kept.{witness_of_run}
 use Rattle.mr_witness.proofs.choosing.witness.Goals as goal
 
 pub follows_plain-requires : goal.follows_plain-requires
@@ -52,4 +53,5 @@ returns-clause-kept c =
     (λ k lt. subst (λ (l : List Bool). IsTrue (slice_index_or l k false) ↔ HappensBefore c.args.run.now c.args.pair.first k) (sym c.deref.ensures.value) (c.in_ok-marked.ensures.each k (omega (arith, within, lt))))
 
 pub returns-clause-witness : goal.returns-clause-witness
-returns-clause-witness c = ?
+returns-clause-witness c = λ p well legal same.
+    subst (IsWitness p c.args.s.now c.args.pair.first c.args.pair.second) (sym (returns-clause-kept c)) (witness_of_run p c.args.s.now c.args.run.now c.args.pair c.requires.first.0 well legal same c.requires.first.1)

@@ -1,0 +1,17 @@
+pub mod BareSteps
+pub mod CallAnswers
+pub mod Changes
+pub mod ElementTests
+pub mod Examples
+pub mod FreeSteps
+pub mod Independence
+pub mod LegalEntries
+pub mod LocalCalls
+pub mod MeetsLaws
+pub mod PushedLists
+pub mod RangeLists
+pub mod StatusFacts
+pub mod Statuses
+pub mod StepGrows
+pub mod StepRuns
+pub mod SwapLaw

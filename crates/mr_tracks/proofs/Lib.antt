@@ -1,0 +1,10 @@
+pub mod Calls
+pub mod FrameSteps
+pub mod Intrinsics
+pub mod Marks
+pub mod Parts
+pub mod Sane
+pub mod Telling
+pub mod Tells
+pub mod Threads
+pub mod Tracked
