@@ -29,11 +29,11 @@ a_word_short = refl
 another_word : command_of (codes "walk" ∷ codes "P" ∷ codes "S" ∷ []) ≡ None
 another_word = refl
 
-one_print : report_of (record { thread = 0; text = codes "42" } ∷ []) verdict.Exit [] ≡ line (codes "> 42") ++ line (codes "verdict exit") ++ line (codes "races 0")
+one_print : report_of (record { thread = 0; text = codes "42" } ∷ []) verdict.Exit [] None ≡ line (codes "> 42") ++ line (codes "verdict exit") ++ line (codes "races 0")
 unfolding digits
 one_print = refl
 
-with_reason : report_of [] (verdict.Undefined DataRace) [] ≡ line (codes "verdict undefined 100 DataRace") ++ line (codes "races 0")
+with_reason : report_of [] (verdict.Undefined DataRace) [] None ≡ line (codes "verdict undefined 100 DataRace") ++ line (codes "races 0")
 unfolding digits
 with_reason = refl
 

@@ -20,7 +20,8 @@ use Rattle.mr_wf.specs.declared.fault.FormFault.{FormFault}
 use Rattle.mr_wf.specs.Walk.{faults_of}
 use Rattle.mr_command.specs.declared.refusal.Refusal.TheVariants as refusal
 use Rattle.mr_command.specs.Command.{Command, Run, Check}
-use Rattle.mr_command.specs.Answer.{Answer, program_in, ran, schedule_in, denoted, spelled, text_refusal, legal_run, unless_broken, canonical, check_answer, form_answer, form_or, refused, report_under, reported, run_answer, told, answer_of, ◌>>=◌}
+use Rattle.mr_command.specs.Answer.{Answer, program_in, ran, schedule_in, denoted, spelled, text_refusal, legal_run, unless_broken, canonical, check_answer, form_answer, form_or, refused, report_under, reported, run_answer, run_report, told, answer_of}
+use Rattle.mr_witness.proofs.Kept.{first_witness}
 use Rattle.mr_command.specs.Report.{report_status, verdict_status}
 use Rattle.mr_command.specs.Outcome.{Ends, RanOut, IsLeft, IsPossible, IsUnread, IsWritten}
 use Rattle.mr_command.specs.Headline.{ChecksProgram, Names, NamesBroken, NamesBrokenSchedule, NamesFault, NamesScheduleFault, RunsProgram, IsOfMachine, IsTold}
@@ -37,7 +38,7 @@ fault_in file text fault there f = ap program_in there ∙ ap denoted (fault_par
 -- ---- the answers by definition
 
 -- a well-formed program and a legal schedule are answered by the report of their run
-pub named_answer : (files : Contents) (command : Option Command) (p : Program) (w : Schedule) → Names files command p w → answer_of files command ≡ reported (ran p w)
+pub named_answer : (files : Contents) (command : Option Command) (p : Program) (w : Schedule) → Names files command p w → answer_of files command ≡ reported w (ran p w)
 named_answer files command p w h =
     let program = denoted_in (files h.program_name) h.program_text p h.program_there h.denotes in
     let schedule : schedule_in (files h.schedule_name) ≡ Ok w = ap schedule_in h.schedule_there ∙ ap spelled (schedule_again h.schedule_text w h.schedules) in
@@ -45,8 +46,8 @@ named_answer files command p w h =
     ap (answer_of files) h.is_run
     ∙ ap (told (run_answer (files h.schedule_name))) program
     ∙ ap (λ faults. form_or p faults (report_under (files h.schedule_name) p)) h.well_formed.unbroken
-    ∙ ap (λ r. told reported (r >>= legal_run p)) schedule
-    ∙ ap (told reported) legal
+    ∙ ap (told (run_report p)) schedule
+    ∙ ap (told (reported w)) legal
 
 -- a well-formed program that is checked is answered by its canonical text
 pub checked_answer : (files : Contents) (command : Option Command) (p : Program) → ChecksProgram files command p → answer_of files command ≡ canonical p
@@ -95,7 +96,7 @@ schedule_fault_answer : (files : Contents) (command : Option Command) (line code
 schedule_fault_answer files command line code h =
     run_answer_of files command h.program h.schedule_name h.runs
     ∙ ap (λ file. report_under file h.program) h.there
-    ∙ ap (λ r. told reported (spelled r >>= legal_run h.program)) (schedule_fails_at h.text line code h.first)
+    ∙ ap (λ r. told (run_report h.program) (spelled r)) (schedule_fails_at h.text line code h.first)
 
 -- the first rule that a schedule breaks is told
 broken_schedule_answer : (files : Contents) (command : Option Command) (fault : PlacedFault) → NamesBrokenSchedule files command fault
@@ -103,8 +104,8 @@ broken_schedule_answer : (files : Contents) (command : Option Command) (fault : 
 broken_schedule_answer files command fault h =
     run_answer_of files command h.program h.schedule_name h.runs
     ∙ ap (λ file. report_under file h.program) h.there
-    ∙ ap (λ r. told reported (spelled r >>= legal_run h.program)) (schedule_again h.text h.schedule h.schedules)
-    ∙ ap (λ f. told reported (unless_broken f (ran h.program h.schedule))) h.first
+    ∙ ap (λ r. told (run_report h.program) (spelled r)) (schedule_again h.text h.schedule h.schedules)
+    ∙ ap (λ f. told (reported h.schedule) (unless_broken f (ran h.program h.schedule))) h.first
 
 -- ---- how a call ends
 
@@ -143,7 +144,7 @@ module _ (files : Contents) (command : Option Command) (files_rose out_rose : Ty
 
   pub of_machine : (p : Program) (w : Schedule) → Names files command p w → Ends files command files_rose out_rose old new status
       → IsOfMachine p w files_rose out_rose old new status
-  of_machine p w h e = record { sound = sound_run p w h.well_formed h.legal; report = ends_told (reported (ran p w)) (named_answer files command p w h) e }
+  of_machine p w h e = record { sound = sound_run p w h.well_formed h.legal; witness = first_witness p w h.well_formed h.legal; report = ends_told (reported w (ran p w)) (named_answer files command p w h) e }
 
   pub canonical_told : (p : Program) → ChecksProgram files command p → Ends files command files_rose out_rose old new status
       → IsTold (canonical p) files_rose out_rose old new status
@@ -183,7 +184,7 @@ pub unless_faults : (p : Program) (w : Schedule) (files_rose out_rose : Type 0) 
     → ¬ files_rose → ¬ out_rose → (status ≤ 1) ⊎ (status ≡ 8)
 unless_faults p w files_rose out_rose old new status m no_read no_write =
     elim m.report [
-      | inl written ↦ elim (written_status (reported (ran p w)) out_rose old new status written) [
+      | inl written ↦ elim (written_status (reported w (ran p w)) out_rose old new status written) [
         | inl s ↦ inl (let least = at_most_one (run_of p w).verdict (predicted (steps_of p w)) in omega arith)
         | inr f ↦ absurd (no_write f.0)
       ]

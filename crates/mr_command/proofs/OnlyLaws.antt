@@ -16,7 +16,7 @@ use Rattle.mr_start.proofs.RunLaws.{legal_schedule}
 use Rattle.mr_wf.specs.declared.fault.FormFault.{FormFault}
 use Rattle.mr_wf.specs.Walk.{WellFormed, faults_of}
 use Rattle.mr_command.specs.Command.{Command, Run, Check}
-use Rattle.mr_command.specs.Answer.{Answer, Ran, answer_of, canonical, check_answer, denoted, form_or, legal_run, program_in, ran, report_under, reported, run_answer, spelled, told, unless_broken, ◌>>=◌}
+use Rattle.mr_command.specs.Answer.{Answer, Ran, answer_of, canonical, check_answer, denoted, form_or, program_in, ran, report_under, reported, run_answer, run_report, spelled, told, unless_broken}
 use Rattle.mr_command.specs.Outcome.{Ends, IsWhole}
 use Rattle.mr_command.specs.Headline.{ChecksProgram, Names, ReportsLegalRun, WritesCanonical}
 use Rattle.mr_command.proofs.HeadlineLaws.{checked_answer, named_answer, ran_out, unread_status}
@@ -27,13 +27,13 @@ unbroken_well_formed text p parses none = record { shaped = denoted_is_shaped te
 
 -- ---- where a status is at most 1
 
-no_fault : (f : Option PlacedFault) (c : Ran) → (told reported (unless_broken f c)).status ≤ 1 → f ≡ None
-no_fault None c s = refl
-no_fault (Some f) c s = let five : 5 ≤ 1 = s in absurd (omega arith)
+no_fault : (w : Schedule) (f : Option PlacedFault) (c : Ran) → (told (reported w) (unless_broken f c)).status ≤ 1 → f ≡ None
+no_fault w None c s = refl
+no_fault w (Some f) c s = let five : 5 ≤ 1 = s in absurd (omega arith)
 
-legal_schedule_of : (p : Program) (r : Result Schedule Fault) → (told reported (spelled r >>= legal_run p)).status ≤ 1
+legal_schedule_of : (p : Program) (r : Result Schedule Fault) → (told (run_report p) (spelled r)).status ≤ 1
     → (w : Schedule) × (r ≡ Ok w) × (schedule_fault p w ≡ None)
-legal_schedule_of p (Ok w) s = (w, refl, no_fault (schedule_fault p w) (ran p w) s)
+legal_schedule_of p (Ok w) s = (w, refl, no_fault w (schedule_fault p w) (ran p w) s)
 legal_schedule_of p (Err f) s = let five : 5 ≤ 1 = s in absurd (omega arith)
 
 legal_schedule_in : (p : Program) (file : Option (List ℕ)) → (report_under file p).status ≤ 1
@@ -126,7 +126,7 @@ module _ (files : Contents) (files_rose out_rose : Type 0) (old new : Option (Li
       let command = Some (Run program schedule) in
       let whole = whole_answer command ends s in
       let (p, w, names) = named_of files program schedule (files program) refl (small_answer (answer_of files command) whole s) in
-      (p, w, names, same_whole (answer_of files command) (reported (ran p w)) (named_answer files command p w names) whole)
+      (p, w, names, same_whole (answer_of files command) (reported w (ran p w)) (named_answer files command p w names) whole)
 
   check_only : (program : List ℕ) → Ends files (Some (Check program)) files_rose out_rose old new status → status ≤ 1
       → WritesCanonical files (Some (Check program)) old new status

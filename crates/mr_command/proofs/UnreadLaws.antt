@@ -12,19 +12,19 @@ use Rattle.mr_start.specs.Start.{PlacedFault, schedule_fault}
 use Rattle.mr_wf.specs.declared.fault.FormFault.{FormFault}
 use Rattle.mr_wf.specs.Walk.{faults_of}
 use Rattle.mr_command.specs.Command.{Command, Run, Check}
-use Rattle.mr_command.specs.Answer.{Answer, Ran, answer_of, canonical, check_answer, denoted, form_or, legal_run, program_in, ran, report_under, reported, run_answer, spelled, told, unless_broken, ◌>>=◌}
+use Rattle.mr_command.specs.Answer.{Answer, Ran, answer_of, canonical, check_answer, denoted, form_or, program_in, ran, report_under, reported, run_answer, run_report, spelled, told, unless_broken}
 use Rattle.mr_command.specs.Outcome.{Ends, IsPossible}
 use Rattle.mr_command.specs.Headline.{IsUnreadBecause, LacksFile}
 use Rattle.mr_command.proofs.HeadlineLaws.{at_most_one, ran_out, written_status}
 
 -- ---- the status 6 is that of a file that isn't there
 
-of_legal : (f : Option PlacedFault) (r : Ran) → (told reported (unless_broken f r)).status ≡ 6 → ⊥
-of_legal None r s = let least = at_most_one r.config.verdict (predicted r.steps) in absurd (omega arith)
-of_legal (Some f) r s = let five : 5 ≡ 6 = s in absurd (omega arith)
+of_legal : (w : Schedule) (f : Option PlacedFault) (r : Ran) → (told (reported w) (unless_broken f r)).status ≡ 6 → ⊥
+of_legal w None r s = let least = at_most_one r.config.verdict (predicted r.steps) in absurd (omega arith)
+of_legal w (Some f) r s = let five : 5 ≡ 6 = s in absurd (omega arith)
 
-of_schedule : (p : Program) (r : Result Schedule Fault) → (told reported (spelled r >>= legal_run p)).status ≡ 6 → ⊥
-of_schedule p (Ok w) s = of_legal (schedule_fault p w) (ran p w) s
+of_schedule : (p : Program) (r : Result Schedule Fault) → (told (run_report p) (spelled r)).status ≡ 6 → ⊥
+of_schedule p (Ok w) s = of_legal w (schedule_fault p w) (ran p w) s
 of_schedule p (Err f) s = let five : 5 ≡ 6 = s in absurd (omega arith)
 
 of_report : (p : Program) (file : Option (List ℕ)) → (report_under file p).status ≡ 6 → file ≡ None

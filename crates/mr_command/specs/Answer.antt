@@ -10,8 +10,10 @@ use Rattle.mr_sched.specs.Reading.{Fault, schedule_of}
 use Rattle.mr_plan.specs.Runs.{Config}
 use Rattle.mr_thread.specs.Steps.{Own}
 use Rattle.mr_event.specs.declared.footprint.Footprint.{Footprint}
+use Rattle.mr_event.specs.declared.footprint.Pair.{Pair}
 use Rattle.mr_event.specs.Predicted.{predicted}
 use Rattle.mr_start.specs.Start.{run_of, schedule_fault, steps_of, PlacedFault}
+use Rattle.mr_exchange.specs.Witness.{kept_schedule}
 use Rattle.mr_wf.specs.declared.fault.FormFault.{FormFault}
 use Rattle.mr_wf.specs.Walk.{faults_of}
 use Rattle.mr_command.specs.declared.refusal.Refusal.{Refusal}
@@ -19,12 +21,6 @@ use Rattle.mr_command.specs.declared.refusal.Refusal.TheVariants as refusal
 use Rattle.mr_command.specs.Command.{Command, Run, Check}
 use Rattle.mr_command.specs.Form.{form_line}
 use Rattle.mr_command.specs.Report.{report_of, report_status, refusal_text, refusal_status, usage_text}
-
--- What is found leads on, and what refuses it stays.
-infixl 10 ◌>>=◌
-abbrev pub ◌>>=◌ : {A B : Type 0} → Result A Refusal → (A → Result B Refusal) → Result B Refusal
-(Ok x) >>= f = f x
-(Err r) >>= f = Err r
 
 -- the first fault of a text, as a refusal
 abbrev pub text_refusal : TextFault → Refusal
@@ -68,10 +64,6 @@ ran p w = record { config = run_of p w; steps = steps_of p w }
 abbrev pub legal_run : Program → Schedule → Result Ran Refusal
 legal_run p w = unless_broken (schedule_fault p w) (ran p w)
 
--- the run of a program under the schedule in a file
-abbrev pub run_under : Option (List ℕ) → Program → Result Ran Refusal
-run_under file p = schedule_in file >>= legal_run p
-
 -- What is written, and the exit status.
 pub record Answer : Type 0 where
   pub text : List ℕ
@@ -81,9 +73,17 @@ pub record Answer : Type 0 where
 abbrev pub refused : Refusal → Answer
 refused r = record { text = refusal_text r; status = refusal_status r }
 
--- the report of a run, and its status
-abbrev pub reported : Ran → Answer
-reported r = record { text = report_of r.config.output r.config.verdict (predicted r.steps); status = report_status r.config.verdict (predicted r.steps) }
+-- the witness for the first of some races, where there is one
+abbrev pub witness_for : List Footprint → Schedule → List Pair → Option Schedule
+witness_for steps w [] = None
+witness_for steps w (pair ∷ races) = Some (kept_schedule steps w pair.first pair.second)
+
+-- the report of a run under a schedule, and its status
+abbrev pub reported : Schedule → Ran → Answer
+reported w r = record {
+  text = report_of r.config.output r.config.verdict (predicted r.steps) (witness_for r.steps w (predicted r.steps));
+  status = report_status r.config.verdict (predicted r.steps);
+}
 
 -- the canonical text of a program
 abbrev pub canonical : Program → Answer
@@ -107,10 +107,14 @@ form_or p (fault ∷ faults) a = form_answer p fault
 abbrev pub check_answer : Program → Answer
 check_answer p = form_or p (faults_of p) (canonical p)
 
+-- the report of the run of a program under a schedule, or the first rule that the schedule breaks
+abbrev pub run_report : Program → Schedule → Answer
+run_report p w = told (reported w) (legal_run p w)
+
 -- the report of the run of a program under the schedule in a file, or what refuses it: first of the schedule's file,
 -- then of the run
 abbrev pub report_under : Option (List ℕ) → Program → Answer
-report_under file p = told reported (run_under file p)
+report_under file p = told (run_report p) (schedule_in file)
 
 -- what is said of a program that is run under the schedule in a file: the report, where the program breaks no rule
 abbrev pub run_answer : Option (List ℕ) → Program → Answer

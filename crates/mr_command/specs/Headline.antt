@@ -1,7 +1,7 @@
 -- The headline: of a program and a legal schedule of it the report is what the machine comes to, and the machine
 -- always has a rule.
 -- And what is said of a program's text, by what it denotes or breaks.
-use Rattle.std.specs.Prelude.{◌≡◌, ℕ, ◌⊎◌, List, [], Option, None, Some, Ok}
+use Rattle.std.specs.Prelude.{◌≡◌, ℕ, ◌⊎◌, List, [], ◌∷◌, Option, None, Some, Ok}
 use Rattle.mr_ast.specs.declared.program.Program.{Program}
 use Rattle.mr_io.specs.Files.{Contents}
 use Rattle.mr_lex.specs.declared.token.TextFault.{TextFault}
@@ -10,10 +10,13 @@ use Rattle.mr_grammar.specs.Faults.{FirstFault}
 use Rattle.mr_sched.specs.declared.schedule.Schedule.{Schedule}
 use Rattle.mr_sched.specs.Faults.{FirstFault as FirstScheduleFault}
 use Rattle.mr_sched.specs.Spelling.{Schedules}
-use Rattle.mr_start.specs.Start.{Legal, IsSoundRun, PlacedFault, schedule_fault}
+use Rattle.mr_start.specs.Start.{Legal, IsSoundRun, PlacedFault, schedule_fault, steps_of}
 use Rattle.mr_wf.specs.declared.fault.FormFault.{FormFault}
 use Rattle.mr_wf.specs.Walk.{FirstBroken, WellFormed, faults_of}
 use Rattle.mr_command.specs.Command.{Command, Run, Check, NamesProgram}
+use Rattle.mr_event.specs.declared.footprint.Pair.{Pair}
+use Rattle.mr_event.specs.Predicted.{predicted}
+use Rattle.mr_exchange.specs.Witness.{IsWitness, kept_schedule}
 use Rattle.mr_command.specs.Answer.{Answer, canonical, program_in, ran, reported}
 use Rattle.mr_command.specs.Outcome.{IsLeft, IsWhole, IsWritten}
 
@@ -44,16 +47,23 @@ pub record Names (files : Contents) (command : Option Command) (p : Program) (w 
   pub schedules : Schedules schedule_text w
   pub legal : Legal p w
 
--- No step is ill-formed; and the report of the run is written.
+-- what is written as the witness for the first race that the run shows is one
+abbrev pub ShowsFirstRace : Program → Schedule → Type 0
+ShowsFirstRace p w =
+    (pair : Pair) (races : List Pair) → predicted (steps_of p w) ≡ pair ∷ races
+    → IsWitness p w pair.first pair.second (kept_schedule (steps_of p w) w pair.first pair.second)
+
+-- No step is ill-formed; the witness brings the machine to the first race; and the report of the run is written.
 pub record IsOfMachine (p : Program) (w : Schedule) (files_rose out_rose : Type 0) (old new : Option (List ℕ))
     (status : ℕ) : Type 0 where
   pub sound : IsSoundRun p w
-  pub report : IsTold (reported (ran p w)) files_rose out_rose old new status
+  pub witness : ShowsFirstRace p w
+  pub report : IsTold (reported w (ran p w)) files_rose out_rose old new status
 
 -- The files denote a well-formed program, and a legal schedule of it; and the whole report of that run was written.
 abbrev pub ReportsLegalRun : Contents → Option Command → Option (List ℕ) → Option (List ℕ) → ℕ → Type 0
 ReportsLegalRun files command old new status =
-    (p : Program) × (w : Schedule) × Names files command p w × IsWhole (reported (ran p w)) old new status
+    (p : Program) × (w : Schedule) × Names files command p w × IsWhole (reported w (ran p w)) old new status
 
 -- The command is to run a file whose text denotes the program, which is well-formed, under a file of this name.
 pub record RunsProgram (files : Contents) (command : Option Command) (p : Program) (schedule_name : List ℕ)

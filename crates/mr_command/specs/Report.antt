@@ -5,16 +5,13 @@ use Rattle.mr_base.specs.declared.reason.Verdict.{Verdict}
 use Rattle.mr_base.specs.declared.reason.Verdict.TheVariants as verdict
 use Rattle.mr_event.specs.declared.footprint.Pair.{Pair}
 use Rattle.mr_report.specs.declared.report.Line.{Line}
-use Rattle.mr_report.specs.Report.{report_text}
+use Rattle.mr_report.specs.Report.{line, report_text}
+use Rattle.mr_sched.specs.declared.schedule.Schedule.{Schedule}
 use Rattle.mr_lex.specs.Rules as text
 use Rattle.mr_sched.specs.Rules as schedule
 use Rattle.mr_plan.specs.Runs.{Printed}
 use Rattle.mr_command.specs.declared.refusal.Refusal.{Refusal}
 use Rattle.mr_command.specs.declared.refusal.Refusal.TheVariants as refusal
-
--- a line, ended by LF
-abbrev pub line : List ℕ → List ℕ
-line text = text ++ 10 ∷ []
 
 -- ---- the report
 
@@ -22,9 +19,9 @@ line text = text ++ 10 ∷ []
 abbrev pub line_of : Printed → Line
 line_of p = record { thread = p.thread; text = p.text }
 
--- The prints in order, the verdict, and the races.
-abbrev pub report_of : List Printed → Verdict → List Pair → List ℕ
-report_of output v races = report_text (map line_of output) v races None
+-- The prints in order, the verdict, the races, and the witness where there is one.
+abbrev pub report_of : List Printed → Verdict → List Pair → Option Schedule → List ℕ
+report_of output v races witness = report_text (map line_of output) v races witness
 
 -- 0 where the run ended by exit or is running still
 abbrev pub verdict_status : Verdict → ℕ

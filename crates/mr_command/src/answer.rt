@@ -4,7 +4,7 @@ ghost use Rattle.mr_io.specs.Counts.{Rose};
 ghost use Rattle.mr_io.specs.Files.{Contents};
 ghost use Rattle.mr_ast.specs.Shaped.{Shaped};
 ghost use Rattle.mr_wf.specs.Walk.{faults_of};
-ghost use Rattle.mr_command.specs.Answer.{canonical, check_answer, form_answer, legal_run, report_under, reported, told};
+ghost use Rattle.mr_command.specs.Answer.{canonical, check_answer, form_answer, report_under, run_report};
 ghost use Rattle.mr_command.specs.Answering.{IsAnswered, IsAnsweredOverTexts, IsChecked, IsFormOrReport, IsReported, IsRunOverText, IsStatus, Tells, TellsOrUnread};
 ghost use Rattle.mr_command.specs.Command.{asked, named_files, Check, NamesProgram, Run};
 ghost use Rattle.mr_command.specs.Headline.{AsksForSchedule};
@@ -140,12 +140,12 @@ fn report_schedule<F: Files>(
 // The report of the run of a program under a schedule.
 fn report_run(alloc: Global, p: &Checked, w: &Schedule) -> Result<Written, Refusal>
     requires { length w.now.entries ≤ 2 ^ 20 }
-    ensures answer { Tells (told reported (legal_run p.now w.now)) result }
+    ensures answer { Tells (run_report p.now w.now) result }
     ensures status { IfOk result (λ a. IsStatus a.status) }
     ensures read { ¬ IsUnreadFault result }
 {
     match run(alloc, p, w) {
-        Ok(finished) => Ok(report(alloc, &finished)?),
+        Ok(finished) => Ok(report(alloc, &finished, w)?),
         Err(refusal) => Err(refusal),
     }
 }

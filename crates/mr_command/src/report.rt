@@ -3,7 +3,7 @@ ghost use Rattle.std.specs.Prelude.{◌≡◌, ◌≤◌, ◌<◌, ◌==◌, IfO
 ghost use Rattle.std.specs.List.{list_all};
 ghost use Rattle.mr_event.specs.Predicted.{predicted};
 ghost use Rattle.mr_plan.specs.Runs.{Printed};
-ghost use Rattle.mr_command.specs.Answer.{reported};
+ghost use Rattle.mr_command.specs.Answer.{reported, witness_for};
 ghost use Rattle.mr_command.specs.Answering.{IsStatus, seen};
 ghost use Rattle.mr_command.specs.Report.{line_of, report_of, report_status, verdict_status};
 ghost use Rattle.mr_command.specs.Running.{ran_by};
@@ -13,8 +13,9 @@ use crate::run::Finished;
 use mr_base::Verdict;
 use mr_event::{Footprint, Pair, predicted_plain};
 use mr_report::{Line, Report, text};
-use mr_sched::Items;
+use mr_sched::{Items, Schedule};
 use mr_step::Machine;
+use mr_witness::witness;
 use std::alloc::{AllocError, Global};
 
 /// What is told of a run.
@@ -23,37 +24,46 @@ struct Told {
     lines: Vec<Line>,
     verdict: Verdict,
     races: Vec<Pair>,
+    witness: Option<Schedule>,
 }
 
 impl Told {
-    ghost use Rattle.std.specs.Prelude.{◌≡◌, None};
+    ghost use Rattle.std.specs.Prelude.{◌≡◌, option_copied};
     ghost use Rattle.mr_command.specs.Report.{report_status};
 
-    // No witness is told so far.
     fn report(&self) -> Report<'_>
         ensures output { result.output.now ≡ self.now.lines.items }
         ensures verdict { result.verdict ≡ self.now.verdict }
         ensures races { result.races.now ≡ self.now.races.items }
-        ensures witness { result.witness ≡ None }
+        ensures witness { option_copied result.witness ≡ self.now.witness }
     {
         Report {
             output: self.lines.as_slice(),
             verdict: self.verdict,
             races: self.races.as_slice(),
-            witness: None,
+            witness: self.witness.as_ref(),
         }
     }
 }
 
-/// The report of a run that was taken to its end.
-pub fn report(alloc: Global, finished: &Finished<'_>) -> Result<Written, AllocError>
-    ensures answer { IfOk result (λ w. seen w ≡ reported (ran_by finished.now)) }
-    ensures status { IfOk result (λ w. IsStatus w.status) }
+/// The report of a run under a schedule that was taken to its end.
+pub fn report(
+    alloc: Global,
+    finished: &Finished<'_>,
+    w: &Schedule,
+) -> Result<Written, AllocError>
+    requires { length finished.now.steps.items ≤ length w.now.entries }
+    ensures answer { IfOk result (λ a. seen a ≡ reported w.now (ran_by finished.now)) }
+    ensures status { IfOk result (λ a. IsStatus a.status) }
 {
+    let steps = finished.steps.as_slice();
+    let races = races_of(alloc, steps)?;
+    let witness = witness_of(alloc, steps, w, races.as_slice())?;
     let told = Told {
         lines: lines_of(alloc, &finished.machine)?,
         verdict: finished.machine.verdict(),
-        races: races_of(alloc, finished.steps.as_slice())?,
+        races,
+        witness,
     };
     let mut out = Vec::new(alloc);
     text(alloc, &told.report(), &mut out)?;
@@ -82,6 +92,23 @@ fn verdict_status(verdict: Verdict) -> u8
     match verdict {
         Verdict::Running | Verdict::Exit => 0,
         Verdict::Leak | Verdict::Abort | Verdict::Deadlock | Verdict::Undefined(_) => 1,
+    }
+}
+
+// The witness for the first of the races, where there is one.
+fn witness_of(
+    alloc: Global,
+    steps: &[Footprint],
+    w: &Schedule,
+    races: &[Pair],
+) -> Result<Option<Schedule>, AllocError>
+    requires many { length steps.now ≤ length w.now.entries }
+    requires races { races.now ≡ predicted steps.now }
+    ensures { IfOk result (λ v. v ≡ witness_for steps.now w.now races.now) }
+{
+    match races.first() {
+        Some(pair) => Ok(Some(witness(alloc, steps, w, *pair)?)),
+        None => Ok(None),
     }
 }
 
