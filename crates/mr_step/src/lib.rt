@@ -9,7 +9,7 @@
 //!
 //! Proved: a start and a step lead exactly where the definitions say, or tell the first rule that is broken; a refused entry changes nothing;
 //! a completed step hands out its footprint; memory apart there is no other answer. The laws [`never_ill_formed`], [`legal_schedules`],
-//! [`whole_start`], [`one_at_most`] and [`feet_counted`] are of the definitions alone.
+//! [`whole_start`], [`one_at_most`], [`feet_counted`] and [`swap`] are of the definitions alone.
 #![tactic(auto)]
 
 mod advance;
@@ -24,4 +24,5 @@ mod settle;
 
 pub use fault::{StepFault, Turn};
 pub use machine::Machine;
+pub use mr_exchange::swap;
 pub use mr_start::{feet_counted, legal_schedules, never_ill_formed, one_at_most, whole_start};
