@@ -1,5 +1,4 @@
-//! The tests of the data layer: reasons, syntax, bytes, memory, accesses, layouts, values and operators. It has no code of its
-//! own.
+//! The tests of the data layer: syntax, bytes, memory, accesses, layouts, values and operators. It has no code of its own.
 #![tactic(auto)]
 
 #[cfg(test)]
@@ -11,11 +10,7 @@ mod layouts;
 #[cfg(test)]
 mod memory;
 #[cfg(test)]
-mod names;
-#[cfg(test)]
 mod operators;
-#[cfg(test)]
-mod reasons;
 #[cfg(test)]
 mod spelled;
 #[cfg(test)]

@@ -1,10 +1,15 @@
-//! The tests of the text layer: tokens, the parser, the canonical printer and the text of schedules. It has no code of its own.
+//! The tests of the text layer: names, tokens, the parser, the canonical printer, the text of schedules, and what reasons and rules
+//! are called. It has no code of its own.
 #![tactic(auto)]
 
+#[cfg(test)]
+mod names;
 #[cfg(test)]
 mod parsing;
 #[cfg(test)]
 mod printing;
+#[cfg(test)]
+mod reasons;
 #[cfg(test)]
 mod schedules;
 #[cfg(test)]
