@@ -6,5 +6,6 @@ pub mod HeadlineLaws
 pub mod InputLaws
 pub mod OnlyLaws
 pub mod RunLaws
+pub mod StepCount
 pub mod TextLaws
 pub mod UnreadLaws

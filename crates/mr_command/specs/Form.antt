@@ -9,7 +9,7 @@ use Rattle.mr_ast.specs.FormRules.{name_by_code}
 use Rattle.mr_wf.specs.declared.fault.FormFault.{FormFault}
 use Rattle.mr_wf.specs.declared.fault.Item.{Item}
 use Rattle.mr_wf.specs.declared.fault.Item.TheVariants.{Static, Function as InFunction}
-use Rattle.mr_command.specs.Report.{line}
+use Rattle.mr_report.specs.Report.{line}
 
 -- the name of the global or function at this position
 abbrev pub item_text : Program → Item → List ℕ

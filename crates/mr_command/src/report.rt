@@ -47,11 +47,7 @@ impl Told {
 }
 
 /// The report of a run under a schedule that was taken to its end.
-pub fn report(
-    alloc: Global,
-    finished: &Finished<'_>,
-    w: &Schedule,
-) -> Result<Written, AllocError>
+pub fn report(alloc: Global, finished: &Finished<'_>, w: &Schedule) -> Result<Written, AllocError>
     requires { length finished.now.steps.items ≤ length w.now.entries }
     ensures answer { IfOk result (λ a. seen a ≡ reported w.now (ran_by finished.now)) }
     ensures status { IfOk result (λ a. IsStatus a.status) }
