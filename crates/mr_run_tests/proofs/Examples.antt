@@ -15,34 +15,25 @@ use Rattle.mr_base.specs.declared.thread.Status.TheVariants.{OnLock, Enabled}
 use Rattle.mr_ast.specs.declared.types.Ty.{Ty}
 use Rattle.mr_ast.specs.declared.types.Ty.TheVariants as ty
 use Rattle.mr_ast.specs.declared.expr.Place.TheVariants as place
-use Rattle.mr_ast.specs.declared.expr.Value.{Value}
 use Rattle.mr_ast.specs.declared.expr.Value.TheVariants as value
-use Rattle.mr_ast.specs.declared.types.IntType.TheVariants as int
 use Rattle.mr_ast.specs.declared.program.Block.{Block}
 use Rattle.mr_ast.specs.declared.program.BlockKind.{BlockKind}
-use Rattle.mr_ast.specs.declared.program.BlockKind.TheVariants.{Cleanup, Regular}
+use Rattle.mr_ast.specs.declared.program.BlockKind.TheVariants.{Regular}
 use Rattle.mr_ast.specs.declared.program.BlockName.{BlockName}
 use Rattle.mr_ast.specs.declared.program.Function.{Function}
 use Rattle.mr_ast.specs.declared.program.Item_.TheVariants as item
 use Rattle.mr_ast.specs.declared.program.LocalName.{LocalName}
 use Rattle.mr_ast.specs.declared.program.Program.{Program}
 use Rattle.mr_ast.specs.declared.program.Stmt.{Stmt}
-use Rattle.mr_ast.specs.declared.program.Stmt.TheVariants as stmt
 use Rattle.mr_ast.specs.declared.program.Target.TheVariants as target
 use Rattle.mr_ast.specs.declared.program.Term.{Term}
 use Rattle.mr_ast.specs.declared.program.Term.TheVariants as term
-use Rattle.mr_mem.specs.Memory as memory
 use Rattle.mr_mem.specs.Memory.{Ranges, range_fault}
-use Rattle.mr_value.specs.Shape as shape
-use Rattle.mr_wf.specs.SameTypes as same
-use Rattle.mr_wf.specs.Types as types
-use Rattle.mr_eval.specs.Evaluation as evaluation
 use Rattle.mr_sched.specs.declared.schedule.Ask.{Ask}
 use Rattle.mr_sched.specs.declared.schedule.Ask.TheVariants.{Address, Waiter}
 use Rattle.mr_sched.specs.declared.schedule.Entry.{Entry}
 use Rattle.mr_event.specs.declared.footprint.Footprint.{Footprint}
 use Rattle.mr_event.specs.Footprints as footprints
-use Rattle.mr_frame.specs.Calls as calls
 use Rattle.mr_frame.specs.Operations as operations
 use Rattle.mr_frame.specs.Sites as sites
 use Rattle.mr_frame.specs.Steps as steps
@@ -235,15 +226,6 @@ begins_by_rule p start picks = has_rule (thread_step (look_of p start)) 0 picks 
 abbrev calling : Option BlockName → Term
 calling unwind = term.Call (value.Fn (record { 0 = 1 })) [] (place.Local result) None unwind
 
--- the rule of first blocks: the function that is called begins with a block that isn't regular
-begun_elsewhere : Program
-begun_elsewhere =
-    program (function [] (block Regular [] (calling None) ∷ []) ∷ function [] (block Cleanup [] term.Resume ∷ []) ∷ [])
-
-ill_formed_first_block : begins_by_rule begun_elsewhere (16 ∷ 32 ∷ 48 ∷ []) (64 ∷ []) ≡ false
-unfolding thread_step look_of start_config begun_elsewhere operations.next_do sites.site_of sites.due_of steps.frame_plan calls.callee_of evaluation.place_script evaluation.value_script types.type_of_place types.type_of_value same.same_type
-ill_formed_first_block = refl
-
 -- the rule of block kinds: `stop` in a regular block has no payload to take
 stopping : Program
 stopping = small Regular (term.Stop (record { 0 = 0 }))
@@ -261,42 +243,6 @@ ill_formed_unwind_target : begins_by_rule unwinding (16 ∷ 32 ∷ 48 ∷ []) (6
 unfolding thread_step look_of start_config unwinding operations.next_do sites.site_of sites.due_of steps.frame_plan
 ill_formed_unwind_target = refl
 
--- a main function whose one block has these statements, and then returns
-abbrev stating : List Stmt → Program
-stating stmts = program (function [] (block Regular stmts term.Return ∷ []) ∷ [])
-
--- five, as a byte
-abbrev five : Value
-five = value.Int int.U8 (record { neg = false; mag = 5 })
-
--- the rule of places: the first field of a unit
-missing_field : Program
-missing_field = stating (stmt.Mention (place.Field (place.Local result) 0) ∷ [])
-
-ill_formed_place : begins_by_rule missing_field (16 ∷ 32 ∷ []) [] ≡ false
-unfolding thread_step look_of start_config missing_field operations.next_do sites.site_of sites.due_of steps.frame_plan evaluation.place_script types.type_of_place
-ill_formed_place = refl
-
--- the rule of assignments: a byte for a unit
-other_type : Program
-other_type = stating (stmt.Assign (place.Local result) five ∷ [])
-
-ill_formed_assignment : begins_by_rule other_type (16 ∷ 32 ∷ []) [] ≡ false
-unfolding thread_step look_of start_config other_type operations.next_do sites.site_of sites.due_of steps.frame_plan evaluation.place_script evaluation.value_script types.type_of_place types.type_of_value shape.has_shape
-ill_formed_assignment = refl
-
--- the rule of live locals: behind `dead` of the local that it returns, a function has no step
-dead_result : Program
-dead_result = stating (stmt.Dead result ∷ [])
-
-first_dead : begins_by_rule dead_result (16 ∷ 32 ∷ []) [] ≡ true
-unfolding thread_step look_of start_config dead_result operations.next_do sites.site_of sites.due_of steps.frame_plan memory.freed memory.free_fault
-first_dead = refl
-
-ill_formed_behind_dead : has_rule (thread_step (look_of dead_result (16 ∷ 32 ∷ []))) 0 [] (run dead_result (own [] ∷ [])).state ≡ false
-unfolding run_of machine_step thread_step look_of start_config dead_result operations.next_do sites.site_of sites.due_of steps.frame_plan memory.freed memory.free_fault
-ill_formed_behind_dead = refl
-
 -- the rule of main functions: one with an argument, which has no storage at the start
 main_with_argument : Program
 main_with_argument = program (function (record { 0 = 1 } ∷ []) (block Regular [] term.Exit ∷ []) ∷ [])
@@ -304,14 +250,6 @@ main_with_argument = program (function (record { 0 = 1 } ∷ []) (block Regular 
 ill_formed_main : begins_by_rule main_with_argument (16 ∷ 32 ∷ []) [] ≡ false
 unfolding thread_step look_of start_config main_with_argument operations.next_do sites.site_of sites.due_of steps.frame_plan
 ill_formed_main = refl
-
--- the rule of aggregates: a unit that is built of a byte
-built_of_a_byte : Program
-built_of_a_byte = stating (stmt.Assign (place.Local result) (value.Tuple unit (five ∷ [])) ∷ [])
-
-ill_formed_aggregate : begins_by_rule built_of_a_byte (16 ∷ 32 ∷ []) [] ≡ false
-unfolding thread_step look_of start_config built_of_a_byte operations.next_do sites.site_of sites.due_of steps.frame_plan evaluation.place_script evaluation.value_script types.type_of_place types.type_of_value shape.has_shape
-ill_formed_aggregate = refl
 
 -- ---- the bytes of globals
 
