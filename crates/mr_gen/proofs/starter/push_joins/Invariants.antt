@@ -1,0 +1,8 @@
+use Rattle.std.proofs.Common.{◌≡◌, ◌-◌, ◌++◌, map}
+use Rattle.std.specs.List.{range_with_len}
+use Rattle.mr_gen.specs.Generated.{join_block}
+use Rattle.mr_gen.proofs.starter.push_joins.Given as goal
+
+-- the workers before this one have their blocks
+abbrev pub invariant-loop-k : goal.invariant-loop-k
+invariant-loop-k l = l.blocks ≡ l.fn.blocks ++ map (join_block l.workers) (range_with_len 1 (l.k - 1))
