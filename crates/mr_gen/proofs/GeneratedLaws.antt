@@ -7,7 +7,7 @@ use Rattle.mr_gen.proofs.NoFaults.{program_nothing}
 use Rattle.mr_gen.proofs.ShapedProgram.{program_shaped}
 use Rattle.mr_gen.proofs.UnbrokenProgram.{program_unbroken}
 
-pub few_workers : (number : ℕ) → workers_of number ≤ 8
+few_workers : (number : ℕ) → workers_of number ≤ 8
 few_workers number = omega arith
 
 few_rounds : (number : ℕ) → rounds_of number < 2 ^ 64

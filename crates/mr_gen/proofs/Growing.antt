@@ -1,5 +1,5 @@
 -- Lists that a loop makes, one element a turn.
-use Rattle.std.proofs.Common.{◌≡◌, ℕ, ◌+◌, ◌-◌, ◌≤◌, List, [], ◌∷◌, ◌++◌, map, sym, ap, subst, ◌∙◌, append_assoc, arith}
+use Rattle.std.proofs.Common.{◌≡◌, ℕ, ◌+◌, ◌-◌, ◌≤◌, List, [], ◌∷◌, ◌++◌, map, sym, ap, ◌∙◌, append_assoc, arith}
 use Rattle.std.specs.List.{fold, range_with_len}
 use Rattle.std.proofs.lemmas.List.FromFn.{map-range_with_len_more}
 use Rattle.std.proofs.lemmas.List.Sums.{fold_push}
@@ -18,12 +18,6 @@ module _ {A : Type 0} (f : ℕ → A) where
       ap (λ xs. xs ++ x ∷ []) here ∙ ap (λ y. (old ++ map f (range_with_len 1 (k - 1))) ++ y ∷ []) is
       ∙ append_assoc old (map f (range_with_len 1 (k - 1))) (f k ∷ []) ∙ ap (λ xs. old ++ xs) (sym (map-range_next k le))
 
-  -- behind the last turn
-  pub pushed_all : (old now : List A) (k n : ℕ) → k ≡ n + 1 → now ≡ old ++ map f (range_with_len 1 (k - 1)) → now ≡ old ++ map f (range_with_len 1 n)
-  pushed_all old now k n e here =
-      let last : k - 1 ≡ n = omega arith in
-      subst (λ m. now ≡ old ++ map f (range_with_len 1 m)) last here
-
   module _ {B : Type 0} (step : B → A → B) where
     -- turn k takes the step of element k
     pub folded_next : (old now new : B) (k : ℕ) → 1 ≤ k → now ≡ fold step old (map f (range_with_len 1 (k - 1))) → new ≡ step now (f k)
@@ -31,9 +25,3 @@ module _ {A : Type 0} (f : ℕ → A) where
     folded_next old now new k le here is =
         is ∙ ap (λ b. step b (f k)) here ∙ sym (fold_push step old (map f (range_with_len 1 (k - 1))) (f k))
         ∙ ap (fold step old) (sym (map-range_next k le))
-
-    -- behind the last turn
-    pub folded_all : (old now : B) (k n : ℕ) → k ≡ n + 1 → now ≡ fold step old (map f (range_with_len 1 (k - 1))) → now ≡ fold step old (map f (range_with_len 1 n))
-    folded_all old now k n e here =
-        let last : k - 1 ≡ n = omega arith in
-        subst (λ m. now ≡ fold step old (map f (range_with_len 1 m))) last here

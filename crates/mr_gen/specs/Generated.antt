@@ -79,9 +79,13 @@ u32_value n = value.Int U32 (plain_num n)
 abbrev pub u64_value : ℕ → Value
 u64_value n = value.Int U64 (plain_num n)
 
+-- `global g + 0`, where the counter lies
+abbrev pub address : Value
+address = value.Global (record { 0 = 0 }) 0
+
 -- `deref(global g + 0, u64)`, the counter
 abbrev pub counter : Place
-counter = place.Deref (value.Global (record { 0 = 0 }) 0) (ty.Int U64)
+counter = place.Deref address (ty.Int U64)
 
 -- `n`, the rounds that a worker has behind it
 abbrev pub round : Place

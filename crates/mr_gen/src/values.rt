@@ -1,6 +1,6 @@
 //! The places, values and parts of blocks that both functions have.
 ghost use Rattle.std.specs.Prelude.{◌≡◌, ◌∷◌, [], IfOk};
-ghost use Rattle.mr_gen.specs.Generated.{action, counter, handle, increment, jump, local, plain_num, regular_block, round, u32_value, u64_value, unit, with_number};
+ghost use Rattle.mr_gen.specs.Generated.{action, address, counter, handle, increment, jump, local, plain_num, regular_block, round, u32_value, u64_value, unit, with_number};
 
 use crate::lists::{one_item, two_boxes};
 use mr_ast::{
@@ -33,11 +33,18 @@ pub fn u64_value(number: u64) -> Value
     Value::Int(IntType::U64, plain_num(number))
 }
 
-/// The counter, which the global holds.
+/// Where the counter lies: at the start of the global.
+pub fn address() -> Value
+    ensures { result ≡ address }
+{
+    Value::Global(GlobalName(0), 0)
+}
+
+/// The counter.
 pub fn counter(alloc: Global) -> Result<Place, OutOfMemory>
     ensures { IfOk result (λ p. p ≡ counter) }
 {
-    let pointer = Boxed::new(alloc, Value::Global(GlobalName(0), 0))?;
+    let pointer = Boxed::new(alloc, address())?;
     Ok(Place::Deref(pointer, Ty::Int(IntType::U64)))
 }
 
@@ -80,8 +87,10 @@ pub fn next_round(alloc: Global) -> Result<Stmt, OutOfMemory>
 pub fn count(alloc: Global) -> Result<Stmt, OutOfMemory>
     ensures { IfOk result (λ s. s ≡ increment counter) }
 {
-    let sum = with_number(alloc, BinaryOp::Add, counter(alloc)?, 1)?;
-    Ok(Stmt::Assign(counter(alloc)?, sum))
+    let (from, to) = two_boxes(alloc, address(), address())?;
+    let old = Place::Deref(from, Ty::Int(IntType::U64));
+    let sum = with_number(alloc, BinaryOp::Add, old, 1)?;
+    Ok(Stmt::Assign(Place::Deref(to, Ty::Int(IntType::U64)), sum))
 }
 
 /// A jump to the block of this number.
