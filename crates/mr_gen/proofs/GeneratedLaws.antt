@@ -1,5 +1,5 @@
 -- The program of each number is well-formed.
-use Rattle.std.proofs.Common.{◌≡◌, ℕ, ◌+◌, ◌<◌, ◌≤◌, ◌^◌, sym, subst, arith}
+use Rattle.std.proofs.Common.{◌≡◌, ℕ, ◌<◌, ◌≤◌, ◌^◌, sym, subst, arith}
 use Rattle.mr_ast.specs.declared.program.Program.{Program}
 use Rattle.mr_wf.specs.Walk.{WellFormed}
 use Rattle.mr_gen.specs.Generated.{generated, is_resetting, program_with, rounds_of, workers_of}

@@ -1,5 +1,5 @@
 -- A program each of whose parts keeps its rules has no fault.
-use Rattle.std.proofs.Common.{◌≡◌, ℕ, suc, Bool, true, List, [], ◌∷◌, ◌++◌, map, length, Option, None, Some, All, refl, ap, ◌∙◌}
+use Rattle.std.proofs.Common.{◌≡◌, ℕ, suc, Bool, true, List, [], ◌∷◌, ◌++◌, length, Option, None, Some, All, refl, ap}
 use Rattle.std.specs.List.{AllPass, flat_map}
 use Rattle.std.proofs.lemmas.List.Elements.{All-head, All-tail}
 use Rattle.mr_ast.specs.declared.program.Block.{Block}
@@ -15,10 +15,10 @@ use Rattle.mr_layout.specs.TypeOk.{TypeOk}
 use Rattle.mr_wf.specs.declared.fault.FormFault.{FormFault}
 use Rattle.mr_wf.specs.declared.fault.Item.{Item}
 use Rattle.mr_wf.specs.declared.fault.Item.TheVariants.{Static, Function as InFunction}
-use Rattle.mr_wf.specs.Blocks.{broken_in_parts, broken_in_stmt, broken_in_term, is_allowed}
+use Rattle.mr_wf.specs.Blocks.{broken_in_stmt}
 use Rattle.mr_wf.specs.Unbroken.{UnbrokenBlock, UnbrokenFunction, UnbrokenGlobal, UnbrokenProgram}
 use Rattle.mr_wf.specs.Broken.{Codes, of_type, rule, sizes_of, surroundings}
-use Rattle.mr_wf.specs.Walk.{are_arguments, at_position, begins_regular, broken_in_global, each_at, faults_in_block, faults_in_function, faults_in_global, faults_in_local, faults_in_stmt, faults_of, is_global_form, is_main_form, is_target}
+use Rattle.mr_wf.specs.Walk.{at_position, each_at, faults_in_block, faults_in_function, faults_in_global, faults_in_local, faults_in_stmt, faults_of, is_target}
 
 -- ---- lists of nothing
 

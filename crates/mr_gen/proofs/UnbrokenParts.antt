@@ -1,5 +1,5 @@
 -- Places, values, statements and ends that break no rule, from parts that break none.
-use Rattle.std.proofs.Common.{◌≡◌, ℕ, ◌^◌, Bool, true, false, List, [], ◌∷◌, ◌++◌, Option, None, Some, refl, ap, ◌∙◌, option_map}
+use Rattle.std.proofs.Common.{◌≡◌, ℕ, ◌^◌, Bool, true, List, [], ◌∷◌, Option, None, Some, refl, ap, ◌∙◌, option_map}
 use Rattle.std.specs.Prelude.{◌&&◌, ◌||◌, is_some, nat_lt, slice_get}
 use Rattle.mr_ast.specs.declared.types.IntType.{IntType}
 use Rattle.mr_ast.specs.declared.types.IntType.TheVariants.{U32, U64}
@@ -30,12 +30,12 @@ use Rattle.mr_wf.specs.SameTypes.{same_type}
 use Rattle.mr_wf.specs.Types.{chained, integer_in, result_type, type_of_place, type_of_value}
 use Rattle.mr_wf.specs.Operands.{fits_binary, is_bool_layer, is_fn_ptr_layer, is_integer, is_pointer, is_raw, is_raw_layer, is_ref_layer, is_scalar_number}
 use Rattle.mr_wf.specs.Intrinsics.{fits_intrinsic}
-use Rattle.mr_wf.specs.Broken.{Surroundings, broken_in_place, broken_in_value, is_in_global, rule, where_all_typed, where_both_typed, where_typed}
+use Rattle.mr_wf.specs.Broken.{Surroundings, broken_in_place, broken_in_value, is_in_global, where_all_typed, where_both_typed, where_typed}
 use Rattle.mr_wf.specs.Blocks.{broken_in_parts, broken_in_stmt, fits_switch, fits_switch_layer, where_result_typed}
 use Rattle.mr_wf.proofs.BrokenInLaws.{broken_in_binary, broken_in_deref, broken_in_fn, broken_in_global, broken_in_int, broken_in_load, broken_in_local, broken_in_raw}
 use Rattle.mr_wf.proofs.SameTypeLaws.{same_type_itself}
 use Rattle.mr_wf.proofs.TypeLaws.{type_of_binary, type_of_deref, type_of_fn, type_of_global, type_of_int, type_of_load, type_of_local, type_of_raw}
-use Rattle.mr_gen.specs.Generated.{action, counter, creation, handle, increment, plain_num, u32_value, u64_value, with_number}
+use Rattle.mr_gen.specs.Generated.{action, counter, creation, handle, increment, plain_num, u64_value, with_number}
 use Rattle.mr_gen.proofs.NoFaults.{both_nothing, rule_nothing, type_nothing}
 
 -- ---- types
