@@ -1,2 +1,2 @@
+pub mod FunctionLaws
 pub mod ParseLaws
-pub mod Walk

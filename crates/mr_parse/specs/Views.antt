@@ -1,5 +1,5 @@
--- What contracts see of what is read beside the syntax.
-use Rattle.std.specs.Prelude.{◌≡◌, ℕ, List, [], ◌∷◌, ◌++◌, Option, Result, Ok, Err, codes, false}
+-- What contracts see of what is read beside the syntax: parts of functions, calls and programs.
+use Rattle.std.specs.Prelude.{ℕ, List, Option, Result, Ok, codes, false}
 use Rattle.mr_ast.specs.declared.program.Block.{Block}
 use Rattle.mr_ast.specs.declared.program.Function.{Function}
 use Rattle.mr_ast.specs.declared.program.Local.{Local}
@@ -14,22 +14,15 @@ use Rattle.mr_ast.specs.declared.words.Bracket.TheVariants.{Round}
 use Rattle.mr_ast.specs.Scope.{Definitions, Scope}
 use Rattle.mr_ast.specs.Writing.{ThePlace, Writing, block_use, listed, optional, ◌▪◌, ◌▸◌}
 use Rattle.mr_ast.specs.ProgramGrammar.{FunctionBody, ProgramBody, values_form, with_name}
-use Rattle.mr_ast.specs.TypeGrammar.{Shape}
 use Rattle.mr_words.specs.Defined.{unknown}
-use Rattle.mr_words.specs.declared.fault.ReadFault.{ReadFault}
-use Rattle.mr_words.specs.declared.fault.ReadFault.TheVariants.{Memory}
 use Rattle.mr_words.specs.declared.fault.Stop.{Stop}
 use Rattle.mr_parse.specs.declared.program.Head.{Head}
 use Rattle.mr_parse.specs.declared.program.Inner.{Inner}
 use Rattle.mr_parse.specs.declared.program.Parts.{Parts}
 use Rattle.mr_parse.specs.declared.statements.Ways.{Ways}
-use Rattle.mr_parse.specs.declared.types.Shape.{Shape as Written}
 use Rattle.mr_grammar.specs.Denotes.{definitions_in}
 use Rattle.mr_grammar.specs.Parsing.{body_of}
-use Rattle.mr_grammar.specs.Reading.{◌>>=◌, expected, read}
-
-abbrev pub shape_of : Written → Shape
-shape_of s = record { size = s.size; align = s.align }
+use Rattle.mr_grammar.specs.Reading.{◌>>=◌, read}
 
 abbrev pub body_of_parts : Parts → ProgramBody
 body_of_parts p = record { globals = p.globals; functions = p.functions; start = p.start }
@@ -59,21 +52,6 @@ called callee args read = read >>= λ x. Ok (term.Call callee args x.0.0 x.0.1.0
 -- the function that has this name and what was read
 abbrev pub named : ℕ → Result (FunctionBody × List Word) Stop → Result (Function × List Word) Stop
 named n read = read >>= λ x. Ok (with_name n x.0, x.1)
-
--- a thing that was read, where this word stands behind it
-abbrev pub followed_by : {A : Type 0} → List ℕ → A → List Word → Result (A × List Word) Stop
-followed_by text x words = expected text words >>= λ rest. Ok (x, rest)
-
--- a thing beside what was read behind it, where it was
-abbrev pub beside_of : {A B E : Type 0} → A → Result B E → Result (A × B) E
-beside_of x (Ok y) = Ok (x, y)
-beside_of x (Err e) = Err e
-
--- a list with one more thing at its end, where that was read; memory may run out then
-abbrev pub Pushes : {A : Type 0} → List A → Result A ReadFault → Result (List A) ReadFault → Type 0
-Pushes xs (Ok x) (Ok ys) = ys ≡ xs ++ x ∷ []
-Pushes xs (Ok x) (Err fault) = fault ≡ Memory
-Pushes xs (Err f) result = result ≡ Err f
 
 -- the unwinding with this payload and what was read
 abbrev pub unwound : Value → Result (BlockName × List Word) Stop → Result (Term × List Word) Stop

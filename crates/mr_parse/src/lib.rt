@@ -1,7 +1,8 @@
 //! Reads the text form: from the bytes of a text to the program that it denotes, or to its first fault.
 //!
 //! `mr_grammar` says which program a text denotes, and which fault is its first. A text is read three times: into tokens; by the grammar, where
-//! a name stands for its place; and by the grammar again, where a name stands for what the text defines.
+//! a name stands for its place; and by the grammar again, where a name stands for what the text defines. `mr_reader` reads words, names, numbers, types,
+//! values and places; this crate puts statements, functions and programs together from them.
 //!
 //! Public calls, and what is proved of them:
 //!
@@ -12,13 +13,9 @@
 
 mod definitions;
 mod fault;
-mod number;
 mod parsing;
 mod program;
-mod reader;
 mod statements;
-mod types;
-mod values;
 
 pub use fault::ParseFault;
 pub use mr_grammar::{one_fault, one_program, reads_back};

@@ -7,7 +7,8 @@ ghost use Rattle.mr_lex.specs.declared.token.TextFault.{TextFault as Fault};
 ghost use Rattle.mr_grammar.specs.Denotes.{Denotes, definitions_in, program_of};
 ghost use Rattle.mr_words.specs.Defined.{knowing, text_at};
 ghost use Rattle.mr_grammar.specs.Faults.{FirstFault};
-ghost use Rattle.mr_parse.specs.Gives.{Gives, ParseGives};
+ghost use Rattle.mr_reader.specs.Gives.{Gives};
+ghost use Rattle.mr_parse.specs.Gives.{ParseGives};
 ghost use Rattle.mr_grammar.specs.Parsing.{body_of, parsed, program_in, whole_of};
 ghost use Rattle.mr_words.specs.Naming.{IsSmall};
 ghost use Rattle.mr_words.specs.Places.{words_of};
@@ -15,10 +16,10 @@ ghost use Rattle.mr_parse.specs.Views.{body_of_parts, defined_by};
 
 use crate::definitions::definitions_in as names_defined;
 use crate::fault::ParseFault;
-use crate::program::Parts;
-use crate::reader::Reader;
+use crate::program::{Parts, program};
 use mr_ast::{MAX_OPEN, OutOfMemory, Program};
 use mr_lex::{LexFault, Tokens, tokens};
+use mr_reader::Reader;
 use mr_words::{ReadFault, Scope, Tables, UNEXPECTED, fault_at, told};
 use std::alloc::Global;
 
@@ -28,7 +29,7 @@ fn whole(alloc: Global, tokens: &Tokens<'_>, scope: &Scope<'_>) -> Result<Parts,
     ensures { Gives body_of_parts result (whole_of scope.now (words_of tokens.now)) }
 {
     let mut reader = Reader::new(tokens);
-    let parts = reader.program(alloc, scope, MAX_OPEN)?;
+    let parts = program(&mut reader, alloc, scope, MAX_OPEN)?;
     match reader.peek() {
         None => Ok(parts),
         Some(_) => Err(reader.stop(UNEXPECTED)),

@@ -1,4 +1,0 @@
--- What reading computes against what the grammar spells.
-pub mod FunctionLaws
-pub mod LoopLaws
-pub mod PostfixLaws

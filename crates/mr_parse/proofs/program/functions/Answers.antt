@@ -1,0 +1,26 @@
+use Rattle.std.proofs.Common.{sym, arith, codes}
+use Rattle.std.proofs.lemmas.Result.{err_from_is_err_and}
+use Rattle.mr_ast.specs.ProgramGrammar.{function_form, functions_form}
+use Rattle.mr_ast.specs.Writing.{is_word}
+use Rattle.mr_grammar.specs.Reading.{read}
+use Rattle.mr_reader.proofs.Walk.LoopLaws.{goes_on, stops, is_done, is_past}
+use Rattle.mr_parse.proofs.program.functions.Goals as goal
+
+pub returns-then-not-is_next : goal.returns-then-not-is_next
+returns-then-not-is_next c =
+    is_done (λ k. read c.args.room c.args.scope.now (function_form k)) (is_word (codes "fn")) c.loop-k.functions c.turns-most.result c.loop-k.k c.loop-k.reader (read c.args.room c.args.scope.now functions_form c.args.reader.now) c.loop-k.invariant (sym c.if-not-is_next.ensures)
+
+pub returns-in_err-function : goal.returns-in_err-function
+returns-in_err-function c =
+    let p = err_from_is_err_and c.from_residual.result c.from_residual.ensures.1 in
+    rw (p.1, p.2) (stops (λ k. read c.args.room c.args.scope.now (function_form k)) (is_word (codes "fn")) c.loop-k.functions c.turns-most.result c.loop-k.k c.loop-k.reader (read c.args.room c.args.scope.now functions_form c.args.reader.now) c.loop-k.invariant
+    c.in_err-function.field-0.0 (omega arith) (sym c.if-not-is_next.ensures) c.in_err-function.ensures)
+
+pub loop-k-preserved : goal.loop-k-preserved
+loop-k-preserved c =
+    rw c.in_ok-push.ensures.ok (goes_on (λ k. read c.args.room c.args.scope.now (function_form k)) (is_word (codes "fn")) c.loop-k.functions c.turns-most.result c.loop-k.k c.loop-k.reader (read c.args.room c.args.scope.now functions_form c.args.reader.now) c.loop-k.invariant
+    c.in_ok-function.field-0 c.function.new.reader (omega arith) (sym c.if-not-is_next.ensures) c.in_ok-function.ensures)
+
+pub returns : goal.returns
+returns c =
+    is_past (λ k. read c.args.room c.args.scope.now (function_form k)) (is_word (codes "fn")) c.loop-k.functions c.turns-most.result c.loop-k.k c.loop-k.reader (read c.args.room c.args.scope.now functions_form c.args.reader.now) c.loop-k.invariant (omega arith)

@@ -1,0 +1,11 @@
+use Rattle.std.proofs.Common.{◌≡◌, ◌-◌, codes}
+use Rattle.mr_ast.specs.ProgramGrammar.{function_form, functions_form}
+use Rattle.mr_ast.specs.Writing.{is_word}
+use Rattle.mr_grammar.specs.Reading.{read, many_at}
+use Rattle.mr_reader.proofs.Walk.LoopLaws.{with_front}
+use Rattle.mr_parse.proofs.program.functions.Given as goal
+
+abbrev pub invariant-loop-k : goal.invariant-loop-k
+invariant-loop-k l =
+    with_front l.functions (many_at (λ k. read l.room l.scope (function_form k)) (is_word (codes "fn")) (l.most - l.k) l.k l.reader)
+    ≡ read l.room l.scope functions_form l.fn.reader

@@ -1,0 +1,13 @@
+use Rattle.std.proofs.Common.{◌≡◌, ◌-◌, codes}
+use Rattle.mr_ast.specs.Writing.{◌▸◌, is_word}
+use Rattle.mr_ast.specs.Forms.{Part}
+use Rattle.mr_ast.specs.Writing.{TheValue}
+use Rattle.mr_ast.specs.ProgramGrammar.{values_form}
+use Rattle.mr_grammar.specs.Reading.{read, many_at}
+use Rattle.mr_reader.proofs.Walk.LoopLaws.{with_front}
+use Rattle.mr_parse.proofs.statements.some_values.Given as goal
+
+abbrev pub invariant-loop : goal.invariant-loop
+invariant-loop l =
+    with_front l.values (many_at (λ k. read l.room l.scope (codes "," ▸ (Part TheValue))) (is_word (codes ",")) (l.most - l.counter) l.counter l.reader)
+    ≡ read l.room l.scope values_form l.fn.reader

@@ -1,0 +1,3 @@
+-- What reading computes against what the grammar spells.
+pub mod LoopLaws
+pub mod PostfixLaws
