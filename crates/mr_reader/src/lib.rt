@@ -1,8 +1,8 @@
 //! Reads what stands at the front of a text's tokens: words, names, numbers, types, values and places.
 //!
 //! A [`Reader`] is the tokens that are left, and contracts see it as the list of their words. `mr_grammar/specs/Reading.antt` says what the words at the
-//! front write in a form of `mr_ast`. Where they write something, a call gives that, and the words behind it are left; where they don't, it tells the fault
-//! and how many words were left there. In each case it answers exactly so (`specs/Gives.antt`), unless memory runs out, and that is told.
+//! front write in a form of `mr_ast`. Where they write something, a call gives that, and leaves the words behind it; where they don't, it tells the code of
+//! the fault and how many words are left there. Both are exact (`specs/Gives.antt`); want of memory alone is free.
 //!
 //! Public calls, and what is proved of them:
 //!
