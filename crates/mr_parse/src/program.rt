@@ -1,7 +1,7 @@
 //! Programs, globals, functions and blocks.
-ghost use Rattle.std.specs.Prelude.{◌≡◌, ◌<◌, ◌^◌, codes};
+ghost use Rattle.std.specs.Prelude.{codes};
 ghost use Rattle.mr_ast.specs.declared.words.Bracket.TheVariants.{Curly, Round};
-ghost use Rattle.mr_ast.specs.Writing.{function_use, judged_target, listed, within, ◌▪◌, ◌◂◌, ◌▸◌, local_use};
+ghost use Rattle.mr_ast.specs.Writing.{function_use, listed, within, ◌▪◌, ◌◂◌, ◌▸◌, local_use};
 ghost use Rattle.mr_ast.specs.ProgramGrammar.{args_form, block_form, blocks_form, body_form, function_form, functions_form, global_form, globals_form, item_behind, item_form, items_form, judged_item, judged_kind, local_form, locals_form, program_form, reloc_form, repeat_form};
 ghost use Rattle.mr_reader.specs.Gives.{Gives};
 ghost use Rattle.mr_grammar.specs.Reading.{first_at, read};
@@ -57,7 +57,13 @@ fn block_kind(reader: &mut Reader<'_>) -> Result<BlockKind, ReadFault>
 
 // The block of number k in a function.
 #[tactic(auto, unfolding(mr_ast::specs::ProgramGrammar::block_form))]
-fn block(reader: &mut Reader<'_>, alloc: Global, scope: &Scope, room: u32, k: u32) -> Result<Block, ReadFault>
+fn block(
+    reader: &mut Reader<'_>,
+    alloc: Global,
+    scope: &Scope,
+    room: u32,
+    k: u32,
+) -> Result<Block, ReadFault>
     ensures { Gives (λ b. (b, reader.new)) result (read room scope.now (block_form k) reader.old) }
 {
     let name = reader.name(scope, k >= MAX_BLOCKS, Role::DefinesBlock(k))?;
@@ -78,7 +84,12 @@ fn block(reader: &mut Reader<'_>, alloc: Global, scope: &Scope, room: u32, k: u3
 }
 
 #[tactic(auto, unfolding(mr_ast::specs::ProgramGrammar::blocks_form))]
-fn blocks(reader: &mut Reader<'_>, alloc: Global, scope: &Scope, room: u32) -> Result<Items<Block>, ReadFault>
+fn blocks(
+    reader: &mut Reader<'_>,
+    alloc: Global,
+    scope: &Scope,
+    room: u32,
+) -> Result<Items<Block>, ReadFault>
     ensures { Gives (λ bs. (bs, reader.new)) result (read room scope.now blocks_form reader.old) }
 {
     let first = block(reader, alloc, scope, room, 0)?;
@@ -112,7 +123,12 @@ fn local_definition(
 }
 
 #[tactic(auto, unfolding(mr_ast::specs::ProgramGrammar::locals_form))]
-fn locals(reader: &mut Reader<'_>, alloc: Global, scope: &Scope, room: u32) -> Result<Items<Local>, ReadFault>
+fn locals(
+    reader: &mut Reader<'_>,
+    alloc: Global,
+    scope: &Scope,
+    room: u32,
+) -> Result<Items<Local>, ReadFault>
     ensures { Gives (λ ls. (ls, reader.new)) result (read room scope.now locals_form reader.old) }
 {
     let first = local_definition(reader, alloc, scope, room, 0)?;
@@ -174,7 +190,12 @@ fn some_arguments(
     Ok(args)
 }
 
-fn arguments_and_return(reader: &mut Reader<'_>, alloc: Global, scope: &Scope, room: u32) -> Result<Head, ReadFault>
+fn arguments_and_return(
+    reader: &mut Reader<'_>,
+    alloc: Global,
+    scope: &Scope,
+    room: u32,
+) -> Result<Head, ReadFault>
     ensures { Gives (λ h. (head_of h, reader.new)) result (read room scope.now (listed Round args_form ▪ codes "->" ▸ local_use) reader.old) }
 {
     match arguments(reader, alloc, scope, room) {
@@ -194,7 +215,12 @@ fn return_local(reader: &mut Reader<'_>, scope: &Scope) -> Result<LocalName, Rea
     reader.local(scope)
 }
 
-fn locals_and_blocks(reader: &mut Reader<'_>, alloc: Global, scope: &Scope, room: u32) -> Result<Inner, ReadFault>
+fn locals_and_blocks(
+    reader: &mut Reader<'_>,
+    alloc: Global,
+    scope: &Scope,
+    room: u32,
+) -> Result<Inner, ReadFault>
     ensures { Gives (λ i. (parts_of i, reader.new)) result (read room scope.now (codes "let" ▸ locals_form ◂ codes ";" ▪ blocks_form) reader.old) }
 {
     match locals_of_function(reader, alloc, scope, room) {
@@ -224,7 +250,12 @@ fn locals_of_function(
 
 // The locals and the blocks, in their braces.
 #[tactic(auto, using(mr_grammar::proofs::Walk::InsideLaws::inside))]
-fn braced_locals_and_blocks(reader: &mut Reader<'_>, alloc: Global, scope: &Scope, room: u32) -> Result<Inner, ReadFault>
+fn braced_locals_and_blocks(
+    reader: &mut Reader<'_>,
+    alloc: Global,
+    scope: &Scope,
+    room: u32,
+) -> Result<Inner, ReadFault>
     ensures { Gives (λ i. (parts_of i, reader.new)) result (read room scope.now (within Curly (codes "let" ▸ locals_form ◂ codes ";" ▪ blocks_form)) reader.old) }
 {
     let within = reader.open(Bracket::Curly, room)?;
@@ -332,7 +363,12 @@ fn relocation(reader: &mut Reader<'_>, scope: &Scope, room: u32) -> Result<Item_
 }
 
 // What stands behind the first word of an item.
-fn item_behind(reader: &mut Reader<'_>, scope: &Scope, room: u32, word: ItemWord) -> Result<Item_, ReadFault>
+fn item_behind(
+    reader: &mut Reader<'_>,
+    scope: &Scope,
+    room: u32,
+    word: ItemWord,
+) -> Result<Item_, ReadFault>
     ensures { Gives (λ i. (i, reader.new)) result (read room scope.now (item_behind word) reader.old) }
 {
     match word {
@@ -351,7 +387,12 @@ fn item(reader: &mut Reader<'_>, scope: &Scope, room: u32) -> Result<Item_, Read
 }
 
 #[tactic(auto, unfolding(mr_ast::specs::ProgramGrammar::items_form))]
-fn items(reader: &mut Reader<'_>, alloc: Global, scope: &Scope, room: u32) -> Result<Items<Item_>, ReadFault>
+fn items(
+    reader: &mut Reader<'_>,
+    alloc: Global,
+    scope: &Scope,
+    room: u32,
+) -> Result<Items<Item_>, ReadFault>
     ensures { Gives (λ is. (is, reader.new)) result (read room scope.now items_form reader.old) }
 {
     let mut items = Items::new(alloc);
@@ -423,7 +464,12 @@ fn globals(
 
 /// A program without its names.
 #[tactic(auto, unfolding(mr_ast::specs::ProgramGrammar::program_form))]
-pub fn program(reader: &mut Reader<'_>, alloc: Global, scope: &Scope, room: u32) -> Result<Parts, ReadFault>
+pub fn program(
+    reader: &mut Reader<'_>,
+    alloc: Global,
+    scope: &Scope,
+    room: u32,
+) -> Result<Parts, ReadFault>
     ensures { Gives (λ p. (body_of_parts p, reader.new)) result (read room scope.now program_form reader.old) }
 {
     reader.expect(b"minirust")?;

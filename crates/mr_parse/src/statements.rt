@@ -1,5 +1,5 @@
 //! Statements and terminators.
-ghost use Rattle.std.specs.Prelude.{◌≡◌, codes, false, is_some};
+ghost use Rattle.std.specs.Prelude.{◌≡◌, codes, false};
 ghost use Rattle.mr_ast.specs.declared.words.Bracket.TheVariants.{Curly, Round};
 ghost use Rattle.mr_ast.specs.Forms.{Cases, Either, Part};
 ghost use Rattle.mr_ast.specs.Writing.{ThePlace, TheValue, block_use, listed, num_form, optional, within, ◌▪◌, ◌▸◌};
@@ -66,7 +66,13 @@ fn statement_word(reader: &mut Reader<'_>, over: bool) -> Result<StmtWord, ReadF
 
 // The statement of number k in a block.
 #[tactic(auto, unfolding(mr_ast::specs::ProgramGrammar::stmt_form))]
-fn statement(reader: &mut Reader<'_>, alloc: Global, scope: &Scope, room: u32, k: usize) -> Result<Stmt, ReadFault>
+fn statement(
+    reader: &mut Reader<'_>,
+    alloc: Global,
+    scope: &Scope,
+    room: u32,
+    k: usize,
+) -> Result<Stmt, ReadFault>
     ensures { Gives (λ s. (s, reader.new)) result (read room scope.now (stmt_form k) reader.old) }
 {
     match bare_statement(reader, alloc, scope, room, k >= MAX_STMTS) {
@@ -113,7 +119,12 @@ fn statement_behind(
 }
 
 #[tactic(auto, unfolding(mr_ast::specs::ProgramGrammar::disc_form))]
-fn discriminant(reader: &mut Reader<'_>, alloc: Global, scope: &Scope, room: u32) -> Result<Stmt, ReadFault>
+fn discriminant(
+    reader: &mut Reader<'_>,
+    alloc: Global,
+    scope: &Scope,
+    room: u32,
+) -> Result<Stmt, ReadFault>
     ensures { Gives (λ s. (s, reader.new)) result (read room scope.now disc_form reader.old) }
 {
     match reader.place(alloc, scope, room, false) {
@@ -205,7 +216,12 @@ fn terminator_word(reader: &mut Reader<'_>) -> Result<TermWord, ReadFault>
 
 /// The end of a block.
 #[tactic(auto, unfolding(mr_ast::specs::ProgramGrammar::term_form))]
-pub fn terminator(reader: &mut Reader<'_>, alloc: Global, scope: &Scope, room: u32) -> Result<Term, ReadFault>
+pub fn terminator(
+    reader: &mut Reader<'_>,
+    alloc: Global,
+    scope: &Scope,
+    room: u32,
+) -> Result<Term, ReadFault>
     ensures { Gives (λ t. (t, reader.new)) result (read room scope.now term_form reader.old) }
 {
     let word = terminator_word(reader)?;
@@ -241,7 +257,12 @@ fn terminator_behind(
 }
 
 #[tactic(auto, unfolding(mr_ast::specs::ProgramGrammar::switch_form))]
-fn switch(reader: &mut Reader<'_>, alloc: Global, scope: &Scope, room: u32) -> Result<Term, ReadFault>
+fn switch(
+    reader: &mut Reader<'_>,
+    alloc: Global,
+    scope: &Scope,
+    room: u32,
+) -> Result<Term, ReadFault>
     ensures { Gives (λ t. (t, reader.new)) result (read room scope.now switch_form reader.old) }
 {
     match reader.value(alloc, scope, room) {
@@ -316,7 +337,11 @@ fn switch_cases(
 }
 
 #[tactic(auto, unfolding(mr_ast::specs::ProgramGrammar::switch_case_form))]
-fn switch_case(reader: &mut Reader<'_>, scope: &Scope, room: u32) -> Result<(Num, BlockName), ReadFault>
+fn switch_case(
+    reader: &mut Reader<'_>,
+    scope: &Scope,
+    room: u32,
+) -> Result<(Num, BlockName), ReadFault>
     ensures { Gives (λ c. (c, reader.new)) result (read room scope.now switch_case_form reader.old) }
 {
     let number = reader.num(scope, room)?;
@@ -327,7 +352,12 @@ fn switch_case(reader: &mut Reader<'_>, scope: &Scope, room: u32) -> Result<(Num
 }
 
 #[tactic(auto, unfolding(mr_ast::specs::ProgramGrammar::unwind_form))]
-fn unwind(reader: &mut Reader<'_>, alloc: Global, scope: &Scope, room: u32) -> Result<Term, ReadFault>
+fn unwind(
+    reader: &mut Reader<'_>,
+    alloc: Global,
+    scope: &Scope,
+    room: u32,
+) -> Result<Term, ReadFault>
     ensures { Gives (λ t. (t, reader.new)) result (read room scope.now unwind_form reader.old) }
 {
     match reader.value(alloc, scope, room) {
@@ -357,7 +387,12 @@ fn to_block(reader: &mut Reader<'_>, scope: &Scope) -> Result<BlockName, ReadFau
 
 // The arguments of a call, in their brackets.
 #[tactic(auto, using(mr_grammar::proofs::Walk::InsideLaws::inside))]
-fn values(reader: &mut Reader<'_>, alloc: Global, scope: &Scope, room: u32) -> Result<Items<Value>, ReadFault>
+fn values(
+    reader: &mut Reader<'_>,
+    alloc: Global,
+    scope: &Scope,
+    room: u32,
+) -> Result<Items<Value>, ReadFault>
     ensures { Gives (λ vs. (vs, reader.new)) result (read room scope.now (listed Round values_form) reader.old) }
 {
     let inner = reader.open(Bracket::Round, room)?;
@@ -507,7 +542,12 @@ fn intrinsic_word(reader: &mut Reader<'_>) -> Result<Intrinsic, ReadFault>
 }
 
 #[tactic(auto, unfolding(mr_ast::specs::ProgramGrammar::do_form))]
-fn intrinsic_call(reader: &mut Reader<'_>, alloc: Global, scope: &Scope, room: u32) -> Result<Term, ReadFault>
+fn intrinsic_call(
+    reader: &mut Reader<'_>,
+    alloc: Global,
+    scope: &Scope,
+    room: u32,
+) -> Result<Term, ReadFault>
     ensures { Gives (λ t. (t, reader.new)) result (read room scope.now do_form reader.old) }
 {
     let intrinsic = intrinsic_word(reader)?;
@@ -551,7 +591,12 @@ fn result_place(
 }
 
 // A place behind an arrow.
-fn place_behind(reader: &mut Reader<'_>, alloc: Global, scope: &Scope, room: u32) -> Result<Place, ReadFault>
+fn place_behind(
+    reader: &mut Reader<'_>,
+    alloc: Global,
+    scope: &Scope,
+    room: u32,
+) -> Result<Place, ReadFault>
     ensures { Gives (λ p. (p, reader.new)) result (read room scope.now (codes "->" ▸ Part (ThePlace false)) reader.old) }
 {
     reader.expect(b"->")?;

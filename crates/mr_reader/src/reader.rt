@@ -1,5 +1,5 @@
 //! The tokens that are left, and what is taken from their front.
-ghost use Rattle.std.specs.Prelude.{◌≡◌, ◌==◌, ◌-◌, ◌||◌, false, [], ◌∷◌, List, length, bytes_eq, if◌then◌else◌, Some, None, IfOk, IfSome, MatchOption, ◌≤◌, ◌<◌, ◌^◌};
+ghost use Rattle.std.specs.Prelude.{◌≡◌, ◌==◌, ◌-◌, ◌||◌, false, [], ◌∷◌, List, length, IfOk, IfSome, MatchOption, ◌≤◌, ◌<◌, ◌^◌};
 ghost use Rattle.mr_ast.specs.Forms.{Word, opening, closing};
 ghost use Rattle.mr_ast.specs.Writing.{block_use, is_word, judged_int, judged_name, judged_target, local_use, other_than};
 ghost use Rattle.mr_reader.specs.Gives.{Gives};
@@ -187,7 +187,12 @@ impl<'a> Reader<'a> {
     }
 
     /// Takes this word, which must be the next, and may be one too many.
-    pub(crate) fn expect_limited(&mut self, word: &[u8], over: bool, code: u8) -> Result<(), ReadFault>
+    pub(crate) fn expect_limited(
+        &mut self,
+        word: &[u8],
+        over: bool,
+        code: u8,
+    ) -> Result<(), ReadFault>
         ensures { Gives (λ _. self.new) result (limited code over word.now self.old) }
     {
         match self.peek() {

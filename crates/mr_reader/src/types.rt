@@ -1,5 +1,5 @@
 //! Types and the trees of enums.
-ghost use Rattle.std.specs.Prelude.{◌≡◌, codes};
+ghost use Rattle.std.specs.Prelude.{codes};
 ghost use Rattle.mr_ast.specs.declared.words.Bracket.TheVariants.{Curly};
 ghost use Rattle.mr_ast.specs.Forms.{Part};
 ghost use Rattle.mr_ast.specs.Writing.{TheTree, TheType, listed, num_form, ◌▪◌, ◌▸◌, ◌◂◌};

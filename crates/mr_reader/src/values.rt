@@ -2,7 +2,7 @@
 ghost use Rattle.std.specs.Prelude.{◌≡◌, codes, true, false, IfOk};
 ghost use Rattle.mr_ast.specs.Forms.{Part};
 ghost use Rattle.mr_ast.specs.Writing.{ThePlace, TheType, TheValue, giving, num_form, u64_form, ◌▪◌, ◌◂◌};
-ghost use Rattle.mr_ast.specs.ValueGrammar.{base_form, begins_postfix, deref_form, global_value_form, judged_value, more_values_form, place_from, postfix_form, postfixes_form, value_behind, with_postfix};
+ghost use Rattle.mr_ast.specs.ValueGrammar.{base_form, begins_postfix, deref_form, global_value_form, judged_value, more_values_form, postfix_form, postfixes_form, value_behind, with_postfix};
 ghost use Rattle.mr_reader.specs.Gives.{Gives};
 ghost use Rattle.mr_grammar.specs.Insides.{begins_with_type, is_bracketed, value_inside};
 ghost use Rattle.mr_grammar.specs.Reading.{first_at, is_next, read, read_outside, read_part};
