@@ -6,9 +6,9 @@
 //! - [`Status`] and [`Event`]: whether a thread can go on, and what a step did to locks and threads.
 //! - [`Reason`] and [`Verdict`]: why a step is undefined behaviour, and what a run came to.
 //!
-//! Public calls: [`Reason::code`] and [`Reason::name`], [`any_twice`] and [`any_meeting`]. Proved: a reason has the number and the name that
+//! Public calls: [`Reason::code`] and [`Reason::name`], [`ranges_meet`], [`any_twice`] and [`any_meeting`]. Proved: a reason has the number and the name that
 //! `specs/Reasons.antt` gives it. The law [`codes_differ`] says that reasons with one number are one reason.
-//! [`any_twice`] and [`any_meeting`] answer whether a pair of numbers stands twice in a list, and whether two ranges in it
+//! [`ranges_meet`] answers whether two ranges have an address in common, [`any_twice`] and [`any_meeting`] whether a pair of numbers stands twice in a list, and whether two ranges in it
 //! have a byte in common (`specs/Pairs.antt`), in the time of a sort.
 //!
 //! For the proofs of other crates, `proofs/Comparisons.antt`, `Options` and `Twins` hold plain facts on tests, options
@@ -23,6 +23,6 @@ mod thread;
 
 pub use access::Access;
 pub use byte::{AbstractByte, AllocId, Kind, Pointer};
-pub use pairs::{Pair, any_meeting, any_twice};
+pub use pairs::{Pair, any_meeting, any_twice, ranges_meet};
 pub use reason::{Reason, Verdict, codes_differ};
 pub use thread::{Event, Status};

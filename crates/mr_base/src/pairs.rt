@@ -1,9 +1,17 @@
-//! Lists of pairs of numbers: whether a pair stands twice in one, and whether two ranges meet.
+//! Whether two ranges meet; lists of pairs of numbers: whether a pair stands twice in one, and whether two ranges in it meet.
 ghost use Rattle.std.specs.Prelude.{◌≡◌, ◌<◌, All};
-ghost use Rattle.mr_base.specs.Pairs.{some_pair, some_next, some_neighbours, same_pair, are_meeting};
+ghost use Rattle.mr_base.specs.Pairs.{some_pair, some_next, some_neighbours, same_pair, are_meeting, is_meeting};
 
 /// A pair of numbers; of a range of bytes its start and its length.
 pub type Pair = (u128, u128);
+
+/// Whether two ranges of addresses have one in common, also where one of them reaches past the last address. A range of
+/// length 0 has none.
+pub fn ranges_meet(a: u64, len: u64, b: u64, count: u64) -> bool
+    ensures { result ≡ is_meeting a len b count }
+{
+    len != 0 && count != 0 && (a < b || a - b < count) && (b < a || b - a < len)
+}
 
 /// Whether a pair stands twice in a list, which is sorted for it.
 pub fn any_twice(pairs: &mut [Pair]) -> bool

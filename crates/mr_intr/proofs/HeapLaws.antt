@@ -29,7 +29,7 @@ use Rattle.mr_intr.specs.Operations.{Operation, allocating, found, is_power_of_t
 use Rattle.mr_base.specs.declared.byte.Pointer.{Pointer}
 use Rattle.mr_intr.proofs.Arguments.{allocate_takes, deallocate_takes, three_read, two_read}
 use Rattle.mr_intr.proofs.OperatedLaws.{asked, int_number, operated_allocate, operated_deallocate}
-use Rattle.mr_intr.proofs.Powers.{power_there}
+use Rattle.mr_mem.proofs.Powers.{one_bit_power}
 
 -- ---- by the reason against it
 
@@ -64,7 +64,7 @@ module _ (size align : ℕ) where
 
       by_cases : (large power : Bool) → nat_lt (2 ^ 63 - 1) size ≡ large → is_power_of_two align ≡ power → fault_by large power ≡ None → IsAllowed
       by_cases true power l p h = absurd (cc)
-      by_cases false true l p h = record { small = small l; power = power_there align p; is = λ i. by_tests (l i) (p i) }
+      by_cases false true l p h = record { small = small l; power = one_bit_power align p; is = λ i. by_tests (l i) (p i) }
       by_cases false false l p h = absurd (cc)
 
 -- ---- the pick

@@ -25,11 +25,7 @@ use Rattle.mr_plan.proofs.MemoryParts.{Leaves, Left, leaves_then, memory_after}
 use Rattle.mr_plan.proofs.Outcomes.{After, after_weaker}
 use Rattle.mr_plan.proofs.StorageRuns.{Keeps}
 use Rattle.mr_plan.proofs.Positions.{set_here, set_there}
-
--- a value of the result's type exactly where there is one
-abbrev pub ResultFits : Option Ty → Option Val → Type 0
-ResultFits None v = v ≡ None
-ResultFits (Some t) v = (x : Val) × (v ≡ Some x) × (has_shape t x ≡ true)
+use Rattle.mr_intr.specs.Effects.{FitsPlace}
 
 -- What it leaves of a state in which thread t, which can go on, began its step: sound tables, in which no thread ended or came back, and the
 -- storage of all rooms.
@@ -43,7 +39,7 @@ pub record OpLeaves (s : Shared) (t c : ℕ) (rooms : List Slot) (u : Shared × 
 
 -- its result, and what it leaves
 abbrev pub AfterOp : Shared → ℕ → ℕ → List Slot → Option Ty → Option Val → Shared × Notes → Type 0
-AfterOp s t c rooms result v u = ResultFits result v × OpLeaves s t c rooms u
+AfterOp s t c rooms result v u = FitsPlace result v × OpLeaves s t c rooms u
 
 -- whatever picks an entry brings that breaks no rule
 abbrev pub OpPlan : Shared → ℕ → ℕ → List Slot → Option Ty → Plan (StepScript (Option Val)) → Shared × Notes → Type 0
@@ -75,11 +71,11 @@ module _ (s : Shared) (t c : ℕ) (sound : IsSoundTables (tables_of s)) (enabled
       (λ k d lt. ap (λ (x : Shared). over (slice_get x.statuses k)) all)
 
   -- a part that asks memory alone
-  pub memory_op : (result : Option Ty) (script : MemoryScript (Option Val)) → IsSafeChange (ResultFits result) script → Keeps (λ r. rooms) rooms script
+  pub memory_op : (result : Option Ty) (script : MemoryScript (Option Val)) → IsSafeChange (FitsPlace result) script → Keeps (λ r. rooms) rooms script
       → (w : Shared × Notes) → Leaves s.memory t c (s, start_notes t c) w → AreHeld w.0.memory rooms → After (AfterOp s t c rooms result) (run answer (memory_part script) w)
   memory_op result script safe keeps w leaves held =
-      after_weaker (Left s.memory t c (ResultFits result) (λ r. rooms) w) (AfterOp s t c rooms result) (run answer (memory_part script) w)
-      (memory_after s.memory t c (ResultFits result) (λ r. rooms) rooms script safe keeps w leaves.facts held)
+      after_weaker (Left s.memory t c (FitsPlace result) (λ r. rooms) w) (AfterOp s t c rooms result) (run answer (memory_part script) w)
+      (memory_after s.memory t c (FitsPlace result) (λ r. rooms) rooms script safe keeps w leaves.facts held)
       (λ v u left. (left.value, same_left u u (leaves_then s.memory t c (s, start_notes t c) w u leaves left.leaves) left.held refl refl))
 
   t_there : t < length s.statuses

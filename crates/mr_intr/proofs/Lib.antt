@@ -9,6 +9,4 @@ pub mod NeedLaws
 pub mod OperatedLaws
 pub mod OperationSafe
 pub mod Operates
-pub mod Powers
-pub mod SameWords
 pub mod TextLaws

@@ -34,8 +34,9 @@ use Rattle.mr_plan.proofs.LegalLaws.{no_faults, one_waiter, picks_length}
 use Rattle.mr_plan.proofs.MemoryParts.{Leaves}
 use Rattle.mr_plan.proofs.Outcomes.{After}
 use Rattle.mr_plan.proofs.Positions.{set_here, set_there}
+use Rattle.mr_intr.specs.Effects.{FitsPlace}
 use Rattle.mr_intr.specs.Operations.{acquire, create_lock, join, number_in, release, releasing, unlocking}
-use Rattle.mr_intr.proofs.Leaving.{AfterOp, OpLeaves, OpPlan, ResultFits, with_other}
+use Rattle.mr_intr.proofs.Leaving.{AfterOp, OpLeaves, OpPlan, with_other}
 use Rattle.mr_intr.proofs.OperationSafe.{found_then, int_there}
 
 -- What a call leaves of sound tables in which thread t can go on: sound ones, in which no thread ended or came back.
@@ -161,7 +162,7 @@ module _ (s : Shared) (t c : ℕ) (sound : IsSoundTables (tables_of s)) (enabled
       → After (Ends result) (on (going e r v.0 v.1) (λ b u. Went None u))
   going_ends result none e (Err reason) left = tt
   going_ends result none e (Ok p) left =
-      (subst (λ r. ResultFits r None) (sym none) refl, left_with (with_tables v.0 p.1, if p.0 then note e v.1 else blocked e v.1) refl (same_tally p.0) (left p refl))
+      (subst (λ r. FitsPlace r None) (sym none) refl, left_with (with_tables v.0 p.1, if p.0 then note e v.1 else blocked e v.1) refl (same_tally p.0) (left p refl))
     where
       same_tally : (b : Bool) → (if b then note e v.1 else blocked e v.1).tally ≡ v.1.tally
       same_tally true = refl
@@ -209,7 +210,7 @@ module _ (s : Shared) (t c : ℕ) (sound : IsSoundTables (tables_of s)) (enabled
       let same : length v.0.holders ≡ length s.holders = ap (λ (x : Shared). length x.holders) leaves.shared in
       let after : TablesLeft (tables_of s) t (created (tables_of s)).1 = same_statuses (tables_of s) t enabled (created (tables_of s)).1 (stay_sound.create (tables_of s) sound) refl in
       let value : has_shape (ty.Int U32) (val.Int (length v.0.holders)) ≡ true = has_int U32 (length v.0.holders) ∙ lt_test (length v.0.holders) (2 ^ 32) (omega arith) in (
-        subst (λ r. ResultFits r (Some (val.Int (length v.0.holders)))) (sym int) (val.Int (length v.0.holders), refl, value),
+        subst (λ r. FitsPlace r (Some (val.Int (length v.0.holders)))) (sym int) (val.Int (length v.0.holders), refl, value),
         left_with (with_tables v.0 (created (tables_of v.0)).1, note (CreateLock (length v.0.holders)) v.1) refl refl
             (subst (λ (x : Tables). TablesLeft (tables_of s) t (created x).1) (sym the_tables) after),
       )
@@ -227,7 +228,7 @@ module _ (s : Shared) (t c : ℕ) (sound : IsSoundTables (tables_of s)) (enabled
     gives to (Err reason) fit left = tt
     gives to (Ok x) fit left =
         subst (λ b. After (Ends result) (on (if b then Went tt (with_tables v.0 x, woke to (note (Release l) noted)) else Broken) (λ y u. Went None u))) (sym fit)
-        (subst (λ r. ResultFits r None) (sym none) refl, left_with (with_tables v.0 x, woke to (note (Release l) noted)) refl (same_tally to) (left x refl))
+        (subst (λ r. FitsPlace r None) (sym none) refl, left_with (with_tables v.0 x, woke to (note (Release l) noted)) refl (same_tally to) (left x refl))
       where
         same_tally : (o : Option ℕ) → (woke o (note (Release l) noted)).tally ≡ v.1.tally
         same_tally None = refl

@@ -23,16 +23,11 @@ use Rattle.mr_plan.specs.Queries.{Shared, answer, tables_of}
 use Rattle.mr_plan.specs.Storage.{AreHeld, Slot}
 use Rattle.mr_plan.proofs.MemoryParts.{Leaves}
 use Rattle.mr_plan.proofs.Outcomes.{After}
+use Rattle.mr_intr.specs.Effects.{IsOperation}
 use Rattle.mr_intr.specs.Operations.{Operation, operation}
 use Rattle.mr_intr.proofs.Leaving.{OpPlan}
 use Rattle.mr_intr.proofs.LockSafe.{acquire_safe, create_safe, join_safe, release_safe}
 use Rattle.mr_intr.proofs.OperationSafe.{allocate_safe, assume_safe, atomic_load_safe, atomic_store_safe, deallocate_safe, exchange_safe, fetch_safe, no_result, print_safe, result_is}
-
--- the intrinsics of this crate
-abbrev pub IsOperation : Intrinsic → Type 0
-IsOperation intrinsic.Spawn = ⊥
-IsOperation intrinsic.Payload = ⊥
-IsOperation op = Unit {0}
 
 module _ (s : Shared) (t c : ℕ) (sound : IsSoundTables (tables_of s)) (enabled : slice_get s.statuses t ≡ Some Enabled) (rooms : List Slot)
     (v : Shared × Notes) (leaves : Leaves s.memory t c (s, start_notes t c) v) (held : AreHeld v.0.memory rooms) where

@@ -52,10 +52,11 @@ use Rattle.mr_plan.proofs.Outcomes.{After, after_then}
 use Rattle.mr_plan.proofs.SafetyLaws.{reading_safe}
 use Rattle.mr_plan.proofs.StorageRuns.{Keeps, entails_same, quiet_keeps}
 use Rattle.mr_plan.proofs.QuietRuns.{reading_quiet}
+use Rattle.mr_intr.specs.Effects.{FitsPlace}
 use Rattle.mr_intr.specs.Operations.{Operation, allocate, allocating, assume, assuming, atomic_load, atomic_store, compare_exchange, deallocate, exchanged, fetch, fetched, found, instant, int_in, loaded, modify, number_in, pointer_in, print, truth_in, is_power_of_two, with_pick}
 use Rattle.mr_intr.specs.Texts.{bool_text, number_text, spaced, text_layer, text_of, texts_of}
 use Rattle.mr_value.specs.Discriminants.{number_of_bits}
-use Rattle.mr_intr.proofs.Leaving.{AfterOp, OpPlan, ResultFits, memory_op, same_left}
+use Rattle.mr_intr.proofs.Leaving.{AfterOp, OpPlan, memory_op, same_left}
 
 -- ---- types
 
@@ -123,7 +124,7 @@ module _ (s : Shared) (t c : ℕ) (sound : IsSoundTables (tables_of s)) (enabled
   found_then P o x f e h = subst (λ w. After P (run answer (found w >>= f) v)) (sym e) h
 
   nothing : (result : Option Ty) → result ≡ None → AfterDone result None v
-  nothing result e = (subst (λ r. ResultFits r None) (sym e) refl, same_left s t c sound enabled rooms v v leaves held refl refl)
+  nothing result e = (subst (λ r. FitsPlace r None) (sym e) refl, same_left s t c sound enabled rooms v v leaves held refl refl)
 
   pub assume_safe : (a : Ty) (x : Val) (result : Option Ty) → is_bool a ≡ true → has_shape a x ≡ true → result ≡ None → Planned result (assume x)
   assume_safe a x result is shape none =
@@ -135,7 +136,7 @@ module _ (s : Shared) (t c : ℕ) (sound : IsSoundTables (tables_of s)) (enabled
       by_truth false = tt
 
   -- a change of memory that neither makes nor frees on the stack
-  memory_does : (result : Option Ty) (script : MemoryScript (Option Val)) → IsSafeChange (ResultFits result) script → Keeps (λ r. rooms) rooms script → After (AfterDone result) (run answer (memory_part script) v)
+  memory_does : (result : Option Ty) (script : MemoryScript (Option Val)) → IsSafeChange (FitsPlace result) script → Keeps (λ r. rooms) rooms script → After (AfterDone result) (run answer (memory_part script) v)
   memory_does result script safe keeps = memory_op s t c sound enabled rooms result script safe keeps v leaves held
 
   pub allocate_safe : (a b : Ty) (x y : Val) (result : Option Ty) → is_int U64 a ≡ true → is_int U64 b ≡ true → has_shape a x ≡ true → has_shape b y ≡ true → result ≡ Some ty.Raw → Planned result (allocate x y)
@@ -148,7 +149,7 @@ module _ (s : Shared) (t c : ℕ) (sound : IsSoundTables (tables_of s)) (enabled
       with_pick_safe : (size align : ℕ) (picks : List ℕ) → length picks ≡ 1 → After (AfterDone result) (run answer ((with_pick (Address size align) (λ a. Ask (OfMemory (Allocate Heap size align a)) (λ p. Done (Some (val.Ptr p))))).go picks) v)
       with_pick_safe size align [] e = absurd (omega arith)
       with_pick_safe size align (a ∷ []) e =
-          memory_does result (Ask (Allocate Heap size align a) (λ p. Done (Some (val.Ptr p)))) (λ p good. subst (λ r. ResultFits r (Some (val.Ptr p))) (sym raw) (val.Ptr p, refl, has_raw p)) (rooms, entails_same rooms, tt, λ p. entails_same rooms)
+          memory_does result (Ask (Allocate Heap size align a) (λ p. Done (Some (val.Ptr p)))) (λ p good. subst (λ r. FitsPlace r (Some (val.Ptr p))) (sym raw) (val.Ptr p, refl, has_raw p)) (rooms, entails_same rooms, tt, λ p. entails_same rooms)
       with_pick_safe size align (a ∷ b ∷ picks) e = absurd (omega arith)
 
       by_tests : (size align : ℕ) (large power : Bool) → Planned result (if large then Undefined SizeTooLarge else (if power then Done (with_pick (Address size align) (λ a. Ask (OfMemory (Allocate Heap size align a)) (λ p. Done (Some (val.Ptr p))))) else Undefined BadAlign))
@@ -168,14 +169,14 @@ module _ (s : Shared) (t c : ℕ) (sound : IsSoundTables (tables_of s)) (enabled
       found_then (AfterDone result) (pointer_in (out-Val x)) p.0 _ p.1
       (found_then (AfterDone result) (number_in (out-Val y)) n.0 _ n.1
       (found_then (AfterDone result) (number_in (out-Val z)) m.0 _ m.1
-      (memory_does result (Ask (Free p.0 Heap n.0 m.0) (λ u. Done None)) (λ u good. subst (λ r. ResultFits r None) (sym none) refl) (rooms, entails_same rooms, tt, λ u. entails_same rooms))))
+      (memory_does result (Ask (Free p.0 Heap n.0 m.0) (λ u. Done None)) (λ u good. subst (λ r. FitsPlace r None) (sym none) refl) (rooms, entails_same rooms, tt, λ u. entails_same rooms))))
 
   pub atomic_store_safe : (a b : Ty) (x y : Val) (result : Option Ty) → is_raw a ≡ true → has_shape a x ≡ true → result ≡ None → Planned result (atomic_store x b y)
   atomic_store_safe a b x y result is_a shape_a none =
       let p = raw_there a x is_a shape_a in
       λ picks legal.
       found_then (AfterDone result) (pointer_in (out-Val x)) p.0 _ p.1
-      (memory_does result (Ask (Write true p.0 (encoding_of b y) (align_of b)) (λ u. Done None)) (λ u good. subst (λ r. ResultFits r None) (sym none) refl) (rooms, entails_same rooms, tt, λ u. entails_same rooms))
+      (memory_does result (Ask (Write true p.0 (encoding_of b y) (align_of b)) (λ u. Done None)) (λ u good. subst (λ r. FitsPlace r None) (sym none) refl) (rooms, entails_same rooms, tt, λ u. entails_same rooms))
 
   pub atomic_load_safe : (a b : Ty) (x : Val) → is_raw a ≡ true → has_shape a x ≡ true → is_integer b ≡ true → Planned (Some b) (atomic_load x b)
   atomic_load_safe a b x is_a shape_a int =
@@ -183,10 +184,10 @@ module _ (s : Shared) (t c : ℕ) (sound : IsSoundTables (tables_of s)) (enabled
       λ picks legal.
       found_then (AfterDone (Some b)) (pointer_in (out-Val x)) p.0 _ p.1
       (memory_does (Some b) (reading_part (Ask (Read true p.0 (size_of b) (align_of b)) (λ bytes. loaded (number_of bytes))))
-      (reading_safe (ResultFits (Some b)) (Ask (Read true p.0 (size_of b) (align_of b)) (λ bytes. loaded (number_of bytes))) (λ bytes good. by_number bytes good (number_of bytes) refl))
+      (reading_safe (FitsPlace (Some b)) (Ask (Read true p.0 (size_of b) (align_of b)) (λ bytes. loaded (number_of bytes))) (λ bytes good. by_number bytes good (number_of bytes) refl))
       (quiet_keeps rooms (reading_part (Ask (Read true p.0 (size_of b) (align_of b)) (λ bytes. loaded (number_of bytes)))) (reading_quiet (Ask (Read true p.0 (size_of b) (align_of b)) (λ bytes. loaded (number_of bytes))))))
     where
-      by_number : (bytes : List AbstractByte) → length bytes ≡ size_of b → (o : Option ℕ) → number_of bytes ≡ o → IsSafe (ResultFits (Some b)) (loaded o)
+      by_number : (bytes : List AbstractByte) → length bytes ≡ size_of b → (o : Option ℕ) → number_of bytes ≡ o → IsSafe (FitsPlace (Some b)) (loaded o)
       by_number bytes good None e = tt
       by_number bytes good (Some n) e = (val.Int n, refl, fits_int b n int (subst (λ k. n < 2 ^ (8 * k)) good (number_fits bytes n e)))
 
@@ -234,4 +235,4 @@ module _ (s : Shared) (t c : ℕ) (sound : IsSoundTables (tables_of s)) (enabled
       λ picks legal.
       after_then answer (Left s.memory t c any_result (λ x. rooms) v) (AfterDone result) (memory_part (reading_part (texts_of types args))) (λ texts. Ask (Print (spaced texts)) (λ u. Done None)) v
       (reading_after s.memory t c any_result rooms (texts_of types args) (texts_safe types args all shapes) v leaves.facts held)
-      (λ texts u left. (subst (λ r. ResultFits r None) (sym none) refl, same_left s t c sound enabled rooms u (u.0, record u.1 { printed = u.1.printed ++ spaced texts ∷ [] }) (leaves_then s.memory t c (s, start_notes t c) v u leaves left.leaves) left.held refl refl))
+      (λ texts u left. (subst (λ r. FitsPlace r None) (sym none) refl, same_left s t c sound enabled rooms u (u.0, record u.1 { printed = u.1.printed ++ spaced texts ∷ [] }) (leaves_then s.memory t c (s, start_notes t c) v u leaves left.leaves) left.held refl refl))

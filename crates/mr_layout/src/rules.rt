@@ -9,6 +9,7 @@ use crate::bytes::{in_chunk, used};
 use crate::gaps::are_in_chunks;
 use crate::sizes::size;
 use mr_ast::{MAX_ALIGN, MAX_SIZE, Rule, Ty};
+use mr_base::ranges_meet;
 
 const MAX_POINTEE: u64 = 0x7fff_ffff_ffff_ffff;
 
@@ -51,12 +52,6 @@ fn is_past(size: u64, fields: &[(u64, Ty)]) -> bool
     false
 }
 
-pub(crate) fn is_meeting(a: u64, len: u64, b: u64, count: u64) -> bool
-    ensures { result ≡ is_meeting a len b count }
-{
-    0 < len && (0 < count && (passes(b, count, a) && passes(a, len, b)))
-}
-
 fn meets_any(start: u64, len: u64, fields: &[(u64, Ty)]) -> bool
     requires { start + len < 2 ^ 63 }
     ensures { result ≡ meets_any start len fields.now }
@@ -74,7 +69,7 @@ fn field_meets(start: u64, len: u64, at: u64, t: &Ty) -> bool
     ensures { result ≡ is_meeting start len at (size_of t.now) }
 {
     match size(t) {
-        Some(count) => is_meeting(start, len, at, count),
+        Some(count) => ranges_meet(start, len, at, count),
         None => 0 < len && at < start + len,
     }
 }
@@ -205,7 +200,7 @@ fn meets_chunk(start: u64, len: u64, chunks: &[(u64, u64)]) -> bool
     ensures { result ≡ meets_chunk start len chunks.now }
 {
     for chunk in chunks {
-        if is_meeting(start, len, chunk.0, chunk.1) {
+        if ranges_meet(start, len, chunk.0, chunk.1) {
             return true;
         }
     }

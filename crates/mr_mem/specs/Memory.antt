@@ -17,6 +17,7 @@ use Rattle.mr_base.specs.declared.reason.Reason.{Reason}
 use Rattle.mr_base.specs.declared.reason.Reason.TheVariants.{Misaligned, NoProvenance, DeadAllocation, OutOfBounds, FreeAddress, FreeKind, FreeSize, FreeAlign}
 use Rattle.mr_mem.specs.declared.fault.PickFault.{PickFault}
 use Rattle.mr_mem.specs.declared.fault.PickFault.TheVariants.{BadAddress, Reused}
+use Rattle.mr_runs.specs.Ranges.{with_range_replaced}
 
 -- identities by thread, then by count
 abbrev pub id_cmp : AllocId → AllocId → Ordering
@@ -208,13 +209,9 @@ abbrev pub read : Memory → Pointer → ℕ → ℕ → Result (List AbstractBy
 read m p len align =
     aligned p align (if len == 0 then Ok [] else then_give (inside (found m p.prov) p.addr len) (λ a. bytes_at a p.addr len))
 
--- a list with a part of it replaced
-abbrev pub spliced : List AbstractByte → ℕ → List AbstractByte → List AbstractByte
-spliced xs i ys = take i xs ++ (ys ++ drop (i + length ys) xs)
-
 -- an allocation in which bytes are replaced from an address on, where their range lies in it
 abbrev pub put_bytes : Allocation → ℕ → List AbstractByte → Result Allocation Reason
-put_bytes a addr bytes = then_give (inside (Some a) addr (length bytes)) (λ _. record a { bytes = spliced a.bytes (addr - a.addr) bytes })
+put_bytes a addr bytes = then_give (inside (Some a) addr (length bytes)) (λ _. record a { bytes = with_range_replaced a.bytes (addr - a.addr) bytes })
 
 -- the memory with bytes put into the allocation of an identity
 abbrev pub put_at : Memory → AllocId → Option Allocation → ℕ → List AbstractByte → Result Memory Reason

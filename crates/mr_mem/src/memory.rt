@@ -9,7 +9,7 @@ ghost use Rattle.std.specs.FinMap as fin;
 
 use crate::fault::{Fault, PickFault};
 use crate::ranges::{lent, missed, put, put_uninit, stored_at};
-use mr_base::{AbstractByte, AllocId, Kind, Pointer, Reason};
+use mr_base::{AbstractByte, AllocId, Kind, Pointer, Reason, ranges_meet};
 use mr_runs::{Runs, View};
 use std::alloc::{AllocError, Global};
 use std::collections::BTreeMap;
@@ -229,10 +229,7 @@ fn is_multiple(addr: u64, align: u64) -> bool
 fn shares(addr: u64, size: u64, a: &Stored) -> bool
     ensures { result ≡ is_meeting addr size a.now.addr a.now.span }
 {
-    size != 0
-        && a.span != 0
-        && (addr < a.addr || addr - a.addr < a.span)
-        && (a.addr < addr || a.addr - addr < size)
+    ranges_meet(addr, size, a.addr, a.span)
 }
 
 // The first allocation, in the order of identities, whose range the new one shares.

@@ -7,10 +7,11 @@ use Rattle.mr_base.specs.declared.byte.AllocId.{AllocId}
 use Rattle.mr_base.specs.declared.byte.Pointer.{Pointer}
 use Rattle.mr_base.specs.declared.reason.Reason.{Reason}
 use Rattle.mr_base.specs.declared.reason.Reason.TheVariants.{NoProvenance}
-use Rattle.mr_mem.specs.Memory.{Allocation, Memory, aligned, found, inside, put_at, spliced, then_give, written}
+use Rattle.mr_mem.specs.Memory.{Allocation, Memory, aligned, found, inside, put_at, then_give, written}
 use Rattle.mr_plan.specs.Places.{byte_at, header_of}
 use Rattle.mr_plan.proofs.Headers.{like_header}
 use Rattle.mr_plan.proofs.RangeChecks.{by_tests, range_test, ranged}
+use Rattle.mr_runs.specs.Ranges.{with_range_replaced}
 use Rattle.mr_plan.proofs.SplicedLaws.{length-spliced, spliced_above, spliced_below, spliced_in}
 
 -- ---- bytes by their addresses
@@ -25,7 +26,7 @@ byte_below a x h = ap (λ b. cond b (slice_get a.bytes (x - a.addr)) None) (lt-l
 
 -- the allocation with these bytes from the address on
 abbrev pub rewritten : Allocation → ℕ → List AbstractByte → Allocation
-rewritten a addr ys = record a { bytes = spliced a.bytes (addr - a.addr) ys }
+rewritten a addr ys = record a { bytes = with_range_replaced a.bytes (addr - a.addr) ys }
 
 -- the memory with this allocation in the place of the one that a provenance names
 abbrev pub put_one : Memory → Option AllocId → Allocation → Memory
@@ -62,7 +63,7 @@ module _ (a : Allocation) (addr : ℕ) (ys : List AbstractByte) (from : a.addr �
   fits = omega arith
 
   pub rewritten_size : length (rewritten a addr ys).bytes ≡ length a.bytes
-  rewritten_size = length-spliced a.bytes (addr - a.addr) ys fits
+  rewritten_size = length-with_range_replaced a.bytes (addr - a.addr) ys fits
 
   pub rewritten_header : header_of (Some (rewritten a addr ys)) ≡ header_of (Some a)
   rewritten_header = like_header (rewritten a addr ys) a (record { lasting = record { addr = refl; span = refl; align = refl; kind = refl; size = rewritten_size }; live = refl })

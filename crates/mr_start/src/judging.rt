@@ -1,26 +1,15 @@
 //! The judging of an entry's picks.
 ghost use Rattle.std.specs.Prelude.{◌≡◌, ◌+◌, ◌<◌, ◌^◌, MatchResult, None, Some, length};
-ghost use Rattle.mr_base.specs.Pairs.{is_meeting};
 ghost use Rattle.mr_mem.specs.Memory.{first_overlapped, ranges_of};
 ghost use Rattle.mr_frame.specs.Standing.{IsUncounted};
 ghost use Rattle.mr_plan.specs.Legal.{address_fault, picks_fault};
 ghost use Rattle.mr_start.specs.Judging.{address_among, fault_of, least, picked, waiter_fault};
 
 use crate::failure::{BAD_ADDRESS, EXTRA_PICK, MISSING_PICK, NOT_WAITING, PickFailure};
-use mr_base::AllocId;
+use mr_base::{AllocId, ranges_meet};
 use mr_mem::{Memory, PickFault};
 use mr_sched::Ask;
 use mr_sync::SyncTable;
-
-// Whether two ranges share an address.
-fn meet(addr: u64, size: u64, other: u64, length: u64) -> bool
-    ensures { result ≡ is_meeting addr size other length }
-{
-    size != 0
-        && length != 0
-        && (addr < other || addr - other < length)
-        && (other < addr || other - addr < size)
-}
 
 // The lesser of two identities.
 fn least(a: Option<AllocId>, b: Option<AllocId>) -> Option<AllocId>
@@ -50,7 +39,7 @@ fn first_shared(
     let mut next = count;
     for (i, ask) in asks.iter().enumerate() {
         if let Ask::Address { size: taken, .. } = *ask {
-            if meet(addr, size, picks[i], taken) {
+            if ranges_meet(addr, size, picks[i], taken) {
                 return Some(AllocId {
                     thread,
                     count: next,

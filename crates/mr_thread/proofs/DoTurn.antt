@@ -53,8 +53,9 @@ use Rattle.mr_frame.proofs.DoSafe.{DoStands, OperandsFit, ValueFits, do_stands, 
 use Rattle.mr_frame.proofs.Frames.{function_keeps}
 use Rattle.mr_frame.proofs.Places.{within}
 use Rattle.mr_frame.proofs.StorageSteps.{enter_keeps, finish_keeps}
+use Rattle.mr_intr.specs.Effects.{FitsPlace}
 use Rattle.mr_intr.specs.Operations.{Operation, instant, operation, pointer, pointer_in}
-use Rattle.mr_intr.proofs.Leaving.{AfterOp, OpLeaves, OpPlan, ResultFits, same_left}
+use Rattle.mr_intr.proofs.Leaving.{AfterOp, OpLeaves, OpPlan, same_left}
 use Rattle.mr_intr.proofs.Operates.{IsOperation, operation_safe}
 use Rattle.mr_intr.proofs.OperationSafe.{found_then, result_is}
 use Rattle.mr_thread.specs.SoundState.{FitsStatus}
@@ -62,7 +63,7 @@ use Rattle.mr_thread.specs.Steps.{Own, Turn, do_step, finished, finishing, last_
 use Rattle.mr_thread.proofs.FrameTurn.{PlanTurns}
 use Rattle.mr_thread.proofs.Turns.{AfterTurn, StartedFits, TurnLeaves, fits_over, many_started, started_slots}
 
-value_fits : (t : Option Ty) (v : Option Val) → ResultFits t v → ValueFits t v
+value_fits : (t : Option Ty) (v : Option Val) → FitsPlace t v → ValueFits t v
 value_fits None v h = h
 value_fits (Some t) v h = h
 
@@ -102,7 +103,7 @@ module _ (look : Look) (is : IsLook look) (well : WellFormed look.program) (s : 
       plus_none n = omega arith
 
   -- its value is stored, and the thread goes on
-  finishing_turn : (o : Operands) (fit : OperandsFit d.op o) (r : Option Val) (started : Option Own) (u : Shared × Notes) → ResultFits o.result_type r → OpLeft started u → After (AfterTurn p s t c others) (run answer (finishing own d o r started) u)
+  finishing_turn : (o : Operands) (fit : OperandsFit d.op o) (r : Option Val) (started : Option Own) (u : Shared × Notes) → FitsPlace o.result_type r → OpLeft started u → After (AfterTurn p s t c others) (run answer (finishing own d o r started) u)
   finishing_turn o fit r started u value left =
       let target : Stack → List Slot = λ (x : Stack). started_slots p started (frame_slots p x.frames others) in
       after_then answer (Left s.memory t c (FitsStack p) target u) (AfterTurn p s t c others) (memory_part (finish own.stack d o r)) (λ x. Done (Goes (with_stack own x) started)) u
@@ -142,7 +143,7 @@ module _ (look : Look) (is : IsLook look) (well : WellFormed look.program) (s : 
         by_payloads : (payloads : List Pointer) (types : List Ty) (result : Option Ty) → fits_intrinsic intrinsic.Payload types result ≡ true → After (OpPlan s t c rooms result) (run answer (last_payload payloads) v)
         by_payloads [] types result fits = tt
         by_payloads (q ∷ payloads) [] result fits =
-            λ picks legal. (subst (λ r. ResultFits r (Some (val.Ptr q))) (sym (result_is ty.Raw result fits)) (val.Ptr q, refl, has_raw q), same_left s t c sound enabled rooms v v leaves held refl refl)
+            λ picks legal. (subst (λ r. FitsPlace r (Some (val.Ptr q))) (sym (result_is ty.Raw result fits)) (val.Ptr q, refl, has_raw q), same_left s t c sound enabled rooms v v leaves held refl refl)
         by_payloads (q ∷ payloads) (a ∷ types) result fits = absurd (cc)
 
     -- ---- spawn
@@ -200,7 +201,7 @@ module _ (look : Look) (is : IsLook look) (well : WellFormed look.program) (s : 
           let size : length w.0.statuses ≡ length s.statuses = ap (λ (x : Shared). length x.statuses) gone.shared in
           let fits32 : has_shape (ty.Int U32) (val.Int (length w.0.statuses)) ≡ true = has_int U32 (length w.0.statuses) ∙ lt_test (length w.0.statuses) (2 ^ 32) (omega arith) in
           finishing_turn o fit (Some (val.Int (length w.0.statuses))) (Some (new_own w frame)) (with_tables w.0 (spawned (tables_of w.0)).1, woke (Some (length w.0.statuses)) (note (Spawn (length w.0.statuses)) w.1))
-          (subst (λ r. ResultFits r (Some (val.Int (length w.0.statuses)))) (sym int) (val.Int (length w.0.statuses), refl, fits32))
+          (subst (λ r. FitsPlace r (Some (val.Int (length w.0.statuses)))) (sym int) (val.Int (length w.0.statuses), refl, fits32))
           (started_left frame w done.value gone done.held))
 
       typed_spawn : (types : Option (List Ty)) → kept_types fn ≡ types → After (PlanTurns p s t c others) (run answer (spawn_types own d o number fn argument types) v)

@@ -4,17 +4,13 @@ ghost use Rattle.std.specs.List.{list_any};
 ghost use Rattle.mr_base.specs.Accesses.{overlaps, conflicts as conflict_of, races as race_of, some_conflict, some_race};
 
 use crate::accesses::Accesses;
-use mr_base::Access;
+use mr_base::{Access, ranges_meet};
 
 // Whether some byte belongs to both, also where one of them reaches past the last address.
 fn overlap(a: Access, b: Access) -> bool
     ensures { result ≡ overlaps a b }
 {
-    if a.addr <= b.addr {
-        b.len != 0 && b.addr - a.addr < a.len
-    } else {
-        a.len != 0 && a.addr - b.addr < b.len
-    }
+    ranges_meet(a.addr, a.len, b.addr, b.len)
 }
 
 fn conflict(a: Access, b: Access) -> bool

@@ -1,11 +1,10 @@
 -- A number with one bit set is a power of two.
 use Rattle.std.proofs.Common.{◌≡◌, ℕ, zero, suc, ◌*◌, ◌/◌, ◌%◌, ◌^◌, ◌<◌, refl, arith, true, ◌⊎◌, inl, inr}
 use Rattle.std.specs.Int.Count.{ones, ones_in}
-use Rattle.std.specs.Prelude.{count_ones}
+use Rattle.std.specs.Prelude.{count_ones, ◌==◌}
+use Rattle.std.proofs.lemmas.Bool.{eqb-true}
 use Rattle.std.proofs.Math.Nat.{pow-suc}
-use Rattle.mr_layout.proofs.PartsOk.{same_of}
 use Rattle.mr_mem.specs.Memory.{IsPowerOfTwo}
-use Rattle.mr_intr.specs.Operations.{is_power_of_two}
 
 -- a number is below so many doublings
 below_power : (n : ℕ) → n < 2 ^ n
@@ -50,6 +49,6 @@ one_set (suc d) n lt e =
           (0, omega (arith, none, odd))
     ]
 
-pub power_there : (n : ℕ) → is_power_of_two n ≡ true → IsPowerOfTwo n
+pub one_bit_power : (n : ℕ) → (count_ones n == 1) ≡ true → IsPowerOfTwo n
 unfolding ones
-power_there n e = one_set n n (below_power n) (same_of (count_ones n) 1 e)
+one_bit_power n e = one_set n n (below_power n) (eqb-true (count_ones n) 1 e)
