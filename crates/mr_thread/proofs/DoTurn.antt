@@ -53,10 +53,10 @@ use Rattle.mr_frame.proofs.DoSafe.{DoStands, OperandsFit, ValueFits, do_stands, 
 use Rattle.mr_frame.proofs.Frames.{function_keeps}
 use Rattle.mr_frame.proofs.Places.{within}
 use Rattle.mr_frame.proofs.StorageSteps.{enter_keeps, finish_keeps}
-use Rattle.mr_intr.specs.Effects.{FitsPlace}
+use Rattle.mr_intr.specs.Effects.{FitsPlace, IsOperation}
 use Rattle.mr_intr.specs.Operations.{Operation, instant, operation, pointer, pointer_in}
 use Rattle.mr_intr.proofs.Leaving.{AfterOp, OpLeaves, OpPlan, same_left}
-use Rattle.mr_intr.proofs.Operates.{IsOperation, operation_safe}
+use Rattle.mr_intr.proofs.Operates.{operation_safe}
 use Rattle.mr_intr.proofs.OperationSafe.{found_then, result_is}
 use Rattle.mr_thread.specs.SoundState.{FitsStatus}
 use Rattle.mr_thread.specs.Steps.{Own, Turn, do_step, finished, finishing, last_payload, new_thread, operated, reads, spawn, spawn_function, spawn_number, spawn_types, start, thread_types, with_stack}
