@@ -1,5 +1,6 @@
 -- The canonical text of a program: its words, by lines.
-use Rattle.std.specs.Prelude.{ℕ, ◌==◌, if◌then◌else◌, List, [], ◌∷◌, ◌++◌, map, flat_map, codes, decimal, Option, None, Some}
+use Rattle.std.specs.Prelude.{ℕ, ◌==◌, if◌then◌else◌, List, [], ◌∷◌, ◌++◌, map, flat_map, codes, decimal, Option, None}
+use Rattle.std.specs.Prelude.{Some}
 use Rattle.std.specs.List.{join_with_byte}
 use Rattle.mr_ast.specs.declared.types.Num.{Num}
 use Rattle.mr_ast.specs.declared.expr.Place.{Place}
@@ -45,7 +46,13 @@ block_texts p f = map (λ b. text_at p.names b.name) f.blocks
 
 -- what the names in a function stand for
 abbrev pub texts_in : Program → Function → NameTexts
-texts_in p f = record { globals = global_texts p; functions = function_texts p; locals = local_texts p f; blocks = block_texts p f }
+texts_in p f =
+    record {
+      globals = global_texts p;
+      functions = function_texts p;
+      locals = local_texts p f;
+      blocks = block_texts p f;
+    }
 
 -- the word of a kind of block
 abbrev pub kind_word : BlockKind → List ℕ
@@ -123,12 +130,14 @@ words_of_term names term.Exit = codes "exit" ∷ []
 words_of_term names term.Abort = codes "abort" ∷ []
 words_of_term names term.Resume = codes "resume" ∷ []
 words_of_term names (term.Stop b) = codes "stop" ∷ codes "to" ∷ text_at names.blocks b.0 ∷ []
-words_of_term names (term.Unwind payload b) = codes "unwind" ∷ words_of_value names payload ++ codes "to" ∷ text_at names.blocks b.0 ∷ []
+words_of_term names (term.Unwind payload b) =
+    codes "unwind" ∷ words_of_value names payload ++ codes "to" ∷ text_at names.blocks b.0 ∷ []
 words_of_term names (term.Call callee args place next unwind) =
     codes "call" ∷ words_of_value names callee ++ arguments names args ++ codes "->" ∷ words_of_place names place
     ++ optional_block names (codes "to") next ++ optional_block names (codes "unwind") unwind
 words_of_term names (term.Do intrinsic args place next) =
-    codes "do" ∷ intrinsic_word intrinsic ∷ arguments names args ++ optional_result names place ++ codes "to" ∷ text_at names.blocks next.0 ∷ []
+    codes "do" ∷ intrinsic_word intrinsic ∷ arguments names args ++ optional_result names place ++ codes "to"
+    ∷ text_at names.blocks next.0 ∷ []
 
 -- the words of the line of the end of a block
 abbrev pub term_line : NameTexts → Term → Texts
@@ -154,7 +163,8 @@ words_of_item p (item.Reloc to offset) = codes "&" ∷ target_text p to ∷ code
 -- a global without its closing brace
 abbrev pub words_of_global : Program → Global_ → Texts
 words_of_global p g =
-    codes "global" ∷ text_at p.names g.name ∷ codes "align" ∷ decimal g.align ∷ codes "{" ∷ flat_map (words_of_item p) g.items
+    codes "global" ∷ text_at p.names g.name ∷ codes "align" ∷ decimal g.align ∷ codes "{"
+    ∷ flat_map (words_of_item p) g.items
 
 -- the words of the line of a global
 unfoldable pub global_line : Program → Global_ → Texts
@@ -212,7 +222,8 @@ main_line p = codes "main" ∷ text_at (function_texts p) p.start.0 ∷ []
 
 -- the words of a program, by lines
 unfoldable pub lines_of : Program → List Texts
-lines_of p = header_line p.edition ∷ map (global_line p) p.globals ++ flat_map (function_lines p) p.functions ++ main_line p ∷ []
+lines_of p =
+    header_line p.edition ∷ map (global_line p) p.globals ++ flat_map (function_lines p) p.functions ++ main_line p ∷ []
 
 -- all words of a program
 abbrev pub canonical_words : Program → Texts

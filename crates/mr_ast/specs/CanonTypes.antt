@@ -1,5 +1,6 @@
 -- The canonical words of types: those of the text in which a type is printed.
-use Rattle.std.specs.Prelude.{ℕ, Bool, ◌&&◌, ◌==◌, if◌then◌else◌, List, [], ◌∷◌, ◌++◌, length, map, flat_map, codes, decimal}
+use Rattle.std.specs.Prelude.{ℕ, Bool, ◌&&◌, ◌==◌, if◌then◌else◌, List, [], ◌∷◌, ◌++◌, length, map, flat_map, codes}
+use Rattle.std.specs.Prelude.{decimal}
 use Rattle.mr_ast.specs.declared.types.IntType.{IntType}
 use Rattle.mr_ast.specs.declared.types.IntType.TheVariants.{U8, U16, U32, U64, U128, I8, I16, I32, I64, I128}
 use Rattle.mr_ast.specs.declared.types.Num.{Num}
@@ -60,7 +61,8 @@ abbrev pub tree_words_step : Tree-F Texts → Texts
 tree_words_step (Tree-F.Known n) = codes "known" ∷ num_words n
 tree_words_step Tree-F.Invalid = codes "invalid" ∷ []
 tree_words_step (Tree-F.Branch at int cases other) =
-    codes "branch" ∷ decimal at ∷ int_word int ∷ codes "{" ∷ flat_map case_row cases ++ codes "_" ∷ codes "=>" ∷ other ++ codes "}" ∷ []
+    codes "branch" ∷ decimal at ∷ int_word int ∷ codes "{" ∷ flat_map case_row cases ++ codes "_" ∷ codes "=>" ∷ other
+    ++ codes "}" ∷ []
 
 -- the words of a tree
 unfoldable pub words_of_tree : Tree → Texts
@@ -80,13 +82,15 @@ type_words_step (Ty-F.Int i) = int_word i ∷ []
 type_words_step Ty-F.Bool = codes "bool" ∷ []
 type_words_step Ty-F.Raw = codes "raw" ∷ []
 type_words_step Ty-F.FnPtr = codes "fnptr" ∷ []
-type_words_step (Ty-F.Ref size align never) = codes "ref" ∷ decimal size ∷ decimal align ∷ (if never then codes "never" ∷ [] else [])
+type_words_step (Ty-F.Ref size align never) =
+    codes "ref" ∷ decimal size ∷ decimal align ∷ (if never then codes "never" ∷ [] else [])
 type_words_step (Ty-F.Tuple size align fields) =
     if is_unit size align (length fields) then codes "unit" ∷ []
     else codes "tuple" ∷ shape_words size align ++ braced (map field_row fields)
 type_words_step (Ty-F.Array count elem) = codes "array" ∷ codes "(" ∷ decimal count ∷ codes "," ∷ elem ++ codes ")" ∷ []
 type_words_step (Ty-F.Union size align fields chunks) =
-    codes "union" ∷ shape_words size align ++ braced (map field_row fields) ++ codes "chunks" ∷ braced (map chunk_words chunks)
+    codes "union" ∷ shape_words size align ++ braced (map field_row fields) ++ codes "chunks"
+    ∷ braced (map chunk_words chunks)
 type_words_step (Ty-F.Enum size align disc variants tree) =
     codes "enum" ∷ shape_words size align ++ codes "disc" ∷ int_word disc ∷ braced variants ++ words_of_tree tree
 

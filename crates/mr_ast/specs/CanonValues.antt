@@ -11,7 +11,8 @@ use Rattle.mr_ast.specs.declared.expr.BinaryOp.TheVariants as binary
 use Rattle.mr_ast.specs.Words.{Texts}
 use Rattle.mr_ast.specs.CanonTypes.{int_word, num_words, words_of_type}
 
--- The texts of names, by position: those of a program's globals and functions, and those of the locals and blocks of one function.
+-- The texts of names, by position: those of a program's globals and functions, and those of the locals and blocks of
+-- one function.
 pub record NameTexts : Type 0 where
   pub globals : Texts
   pub functions : Texts
@@ -59,7 +60,8 @@ binary_word binary.WrappingOffset = codes "wrapping_offset"
 -- one level of a place, where the words of each part stand in its place
 abbrev pub place_words_step : NameTexts → Place-F Texts Texts → Texts
 place_words_step names (Place-F.Local x) = text_at names.locals x.0 ∷ []
-place_words_step names (Place-F.Deref pointer ty) = codes "deref" ∷ codes "(" ∷ pointer ++ codes "," ∷ words_of_type ty ++ codes ")" ∷ []
+place_words_step names (Place-F.Deref pointer ty) =
+    codes "deref" ∷ codes "(" ∷ pointer ++ codes "," ∷ words_of_type ty ++ codes ")" ∷ []
 place_words_step names (Place-F.Field place field) = place ++ codes "." ∷ decimal field ∷ []
 place_words_step names (Place-F.Index place index) = place ++ codes "[" ∷ index ++ codes "]" ∷ []
 place_words_step names (Place-F.Place::Variant place number) = place ++ codes "@" ∷ num_words number
@@ -71,18 +73,23 @@ value_words_step names Value-F.True = codes "true" ∷ []
 value_words_step names Value-F.False = codes "false" ∷ []
 value_words_step names (Value-F.Raw address) = codes "raw" ∷ decimal address ∷ []
 value_words_step names (Value-F.Fn f) = codes "fn" ∷ text_at names.functions f.0 ∷ []
-value_words_step names (Value-F.Global g offset) = codes "global" ∷ text_at names.globals g.0 ∷ codes "+" ∷ decimal offset ∷ []
+value_words_step names (Value-F.Global g offset) =
+    codes "global" ∷ text_at names.globals g.0 ∷ codes "+" ∷ decimal offset ∷ []
 value_words_step names (Value-F.Tuple ty values) =
     codes "tuple" ∷ codes "(" ∷ words_of_type ty ++ flat_map (λ v. codes "," ∷ v) values ++ codes ")" ∷ []
 value_words_step names (Value-F.Union ty field value) =
     codes "union" ∷ codes "(" ∷ words_of_type ty ++ codes "," ∷ decimal field ∷ codes "," ∷ value ++ codes ")" ∷ []
 value_words_step names (Value-F.Value::Variant ty number value) =
-    codes "variant" ∷ codes "(" ∷ words_of_type ty ++ codes "," ∷ num_words number ++ codes "," ∷ value ++ codes ")" ∷ []
+    codes "variant" ∷ codes "(" ∷ words_of_type ty ++ codes "," ∷ num_words number ++ codes "," ∷ value ++ codes ")"
+    ∷ []
 value_words_step names (Value-F.Load place) = codes "load" ∷ codes "(" ∷ place ++ codes ")" ∷ []
 value_words_step names (Value-F.Disc place) = codes "disc" ∷ codes "(" ∷ place ++ codes ")" ∷ []
-value_words_step names (Value-F.AddrOf ty place) = codes "addrof" ∷ codes "(" ∷ words_of_type ty ++ codes "," ∷ place ++ codes ")" ∷ []
-value_words_step names (Value-F.Cast int value) = codes "cast" ∷ codes "(" ∷ int_word int ∷ codes "," ∷ value ++ codes ")" ∷ []
-value_words_step names (Value-F.Transmute ty value) = codes "transmute" ∷ codes "(" ∷ words_of_type ty ++ codes "," ∷ value ++ codes ")" ∷ []
+value_words_step names (Value-F.AddrOf ty place) =
+    codes "addrof" ∷ codes "(" ∷ words_of_type ty ++ codes "," ∷ place ++ codes ")" ∷ []
+value_words_step names (Value-F.Cast int value) =
+    codes "cast" ∷ codes "(" ∷ int_word int ∷ codes "," ∷ value ++ codes ")" ∷ []
+value_words_step names (Value-F.Transmute ty value) =
+    codes "transmute" ∷ codes "(" ∷ words_of_type ty ++ codes "," ∷ value ++ codes ")" ∷ []
 value_words_step names (Value-F.Unary operator value) = unary_word operator ∷ codes "(" ∷ value ++ codes ")" ∷ []
 value_words_step names (Value-F.Binary operator left right) =
     binary_word operator ∷ codes "(" ∷ left ++ codes "," ∷ right ++ codes ")" ∷ []

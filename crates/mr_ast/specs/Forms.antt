@@ -1,5 +1,6 @@
 -- How things are written as rows of words. A form says it for one kind of thing; a grammar is a form for each kind.
-use Rattle.std.specs.Prelude.{◌≡◌, ℕ, suc, Bool, if◌then◌else◌, ◌⊎◌, ◌||◌, List, [], ◌∷◌, ◌++◌, codes, Option, None, Some}
+use Rattle.std.specs.Prelude.{◌≡◌, ℕ, suc, Bool, if◌then◌else◌, ◌⊎◌, ◌||◌, List, [], ◌∷◌, ◌++◌, codes, Option, None}
+use Rattle.std.specs.Prelude.{Some}
 use Rattle.mr_ast.specs.declared.words.Bracket.{Bracket}
 use Rattle.mr_ast.specs.declared.words.Bracket.TheVariants.{Round, Curly, Square}
 
@@ -27,9 +28,10 @@ closing Square = codes "]"
 
 -- How a thing of a type is written. S is what names stand for, and P names the kinds of parts that a form may refer to.
 --
--- Empty: no word. Then: one behind the other. Cases: a word that tells which of some forms stands behind it; the word may break a
--- limit. Either: one of two, told by the next word. Many: any number in a row, counted from 0; the next word tells whether one more
--- stands there. Within: something in brackets, of which the opening one may be one too many (7). Part: a part of the kind. In: what stands in a function of this number.
+-- Empty: no word. Then: one behind the other. Cases: a word that tells which of some forms stands behind it; the word
+-- may break a limit. Either: one of two, told by the next word. Many: any number in a row, counted from 0; the next
+-- word tells whether one more stands there. Within: something in brackets, of which the opening one may be one too many
+-- (7). Part: a part of the kind. In: what stands in a function of this number.
 pub data Form (S : Type 0) (P : Type 0) (M : P → Type 0) : Type 0 → Type 1 where
   Empty : {A : Type 0} → A → Form S P M A
   Then : {A B C : Type 0} → (A → B → C) → Form S P M A → Form S P M B → Form S P M C
@@ -48,11 +50,13 @@ Spelling S P M = S → (A : Type 0) → Form S P M A → A → List Mark → Typ
 abbrev pub EachSpelled : {A : Type 0} → (ℕ → A → List Mark → Type 0) → ℕ → List A → List Mark → Type 0
 EachSpelled spelled k [] marks = marks ≡ []
 EachSpelled spelled k (x ∷ xs) marks =
-    (front : List Mark) × (back : List Mark) × (marks ≡ front ++ back) × spelled k x front × EachSpelled spelled (suc k) xs back
+    (front : List Mark) × (back : List Mark) × (marks ≡ front ++ back) × spelled k x front
+    × EachSpelled spelled (suc k) xs back
 
--- The row of marks writes the thing in this form. Where no bracket may be opened any more (full), one that is opened breaks the limit 7.
--- What stands inside a bracket, and what writes a part, the two functions say.
-abbrev pub SpelledBy : {S P : Type 0} {M : P → Type 0} → Bool → Spelling S P M → (S → (p : P) → M p → List Mark → Type 0) → S → {A : Type 0} → Form S P M A → A → List Mark → Type 0
+-- The row of marks writes the thing in this form. Where no bracket may be opened any more (full), one that is opened
+-- breaks the limit 7. What stands inside a bracket, and what writes a part, the two functions say.
+abbrev pub SpelledBy : {S P : Type 0} {M : P → Type 0} → Bool → Spelling S P M
+    → (S → (p : P) → M p → List Mark → Type 0) → S → {A : Type 0} → Form S P M A → A → List Mark → Type 0
 SpelledBy full inside part scope (Empty a) x marks = (x ≡ a) × (marks ≡ [])
 SpelledBy full inside part scope (Then {A} {B} f a b) z marks =
     (x : A) × (y : B) × (front : List Mark) × (back : List Mark) × (z ≡ f x y) × (marks ≡ front ++ back)
@@ -65,8 +69,11 @@ SpelledBy full inside part scope (Either test a b) x marks =
 SpelledBy full inside part scope (Many test form) xs marks =
     EachSpelled (λ k. SpelledBy full inside part scope (form k)) 0 xs marks
 SpelledBy full inside part scope (Within {A} over bracket a) x marks =
-    (start : Word) × (end : Word) × (between : List Mark) × (start.text ≡ opening bracket) × (end.text ≡ closing bracket)
-    × (marks ≡ record { word = start; flaw = if over || full then Some 7 else None } ∷ between ++ record { word = end; flaw = None } ∷ [])
+    (start : Word) × (end : Word) × (between : List Mark) × (start.text ≡ opening bracket)
+    × (end.text ≡ closing bracket)
+    × (marks
+    ≡ record { word = start; flaw = if over || full then Some 7 else None }
+    ∷ between ++ record { word = end; flaw = None } ∷ [])
     × inside scope A a x between
 SpelledBy full inside part scope (Part p) x marks = part scope p x marks
 SpelledBy full inside part scope (In into a) x marks = SpelledBy full inside part (into scope) a x marks

@@ -1,5 +1,6 @@
 -- The integer types: how wide they are, whether they have a sign, and which numbers are theirs.
-use Rattle.std.specs.Prelude.{ℕ, ◌-◌, ◌*◌, ◌^◌, Bool, true, false, not, ◌&&◌, if◌then◌else◌, nat_lt, nat_le, ℤ, pos, neg_ℤ, int_le}
+use Rattle.std.specs.Prelude.{ℕ, ◌-◌, ◌*◌, ◌^◌, Bool, true, false, not, ◌&&◌, if◌then◌else◌, nat_lt, nat_le, ℤ, pos}
+use Rattle.std.specs.Prelude.{neg_ℤ, int_le}
 use Rattle.mr_ast.specs.declared.types.IntType.{IntType}
 use Rattle.mr_ast.specs.declared.types.IntType.TheVariants.{U8, U16, U32, U64, U128, I8, I16, I32, I64, I128}
 use Rattle.mr_ast.specs.declared.types.Num.{Num}
@@ -69,5 +70,6 @@ fits t z = int_le (least_of t) z && int_le z (greatest_of t)
 abbrev pub is_fitting : IntType → Num → Bool
 is_fitting i n =
     if is_signed i
-    then (if n.neg then nat_lt 0 n.mag && nat_le n.mag (2 ^ (8 * int_size i - 1)) else nat_lt n.mag (2 ^ (8 * int_size i - 1)))
+    then (if n.neg then nat_lt 0 n.mag && nat_le n.mag (2 ^ (8 * int_size i - 1))
+    else nat_lt n.mag (2 ^ (8 * int_size i - 1)))
     else ((not n.neg) && nat_lt n.mag (2 ^ (8 * int_size i)))

@@ -1,5 +1,6 @@
 -- How statements, terminators, functions, globals and whole programs are written.
-use Rattle.std.specs.Prelude.{ℕ, suc, Bool, false, ◌||◌, nat_le, if◌then◌else◌, List, ◌∷◌, codes, Option, None, Some, option_map, is_some}
+use Rattle.std.specs.Prelude.{ℕ, suc, Bool, false, ◌||◌, nat_le, if◌then◌else◌, List, ◌∷◌, codes, Option, None, Some}
+use Rattle.std.specs.Prelude.{option_map, is_some}
 use Rattle.mr_ast.specs.declared.types.Num.{Num}
 use Rattle.mr_ast.specs.declared.expr.Value.{Value}
 use Rattle.mr_ast.specs.declared.program.LocalName.{LocalName}
@@ -28,8 +29,11 @@ use Rattle.mr_ast.specs.Forms.{Word, Empty, Then, Cases, Either, Many, Part, In}
 use Rattle.mr_ast.specs.declared.words.Bracket.TheVariants.{Round, Curly}
 use Rattle.mr_ast.specs.declared.words.Role.TheVariants.{DefinesGlobal, DefinesFunction, DefinesLocal, DefinesBlock}
 use Rattle.mr_ast.specs.Scope.{Scope}
-use Rattle.mr_ast.specs.Words.{is_name, is_number, value_of, looked_up, stmt_words, term_words, kind_words, intrinsic_words, is_exposed}
-use Rattle.mr_ast.specs.Writing.{Judged, ThePlace, TheType, TheValue, Writing, block_use, fine, function_use, giving, is_word, judged_repeat, limit, listed, local_use, name_form, num_form, optional, other_than, separated, target_use, token, u64_form, within, ◌▪◌, ◌▸◌, ◌◂◌}
+use Rattle.mr_ast.specs.Words.{is_name, is_number, value_of, looked_up, stmt_words, term_words, kind_words}
+use Rattle.mr_ast.specs.Words.{intrinsic_words, is_exposed}
+use Rattle.mr_ast.specs.Writing.{Judged, ThePlace, TheType, TheValue, Writing, block_use, fine, function_use, giving}
+use Rattle.mr_ast.specs.Writing.{is_word, judged_repeat, limit, listed, local_use, name_form, num_form, optional}
+use Rattle.mr_ast.specs.Writing.{other_than, separated, target_use, token, u64_form, within, ◌▪◌, ◌▸◌, ◌◂◌}
 
 -- which statement a word begins; there may be one too many
 unfoldable pub judged_stmt : Bool → Word → Judged StmtWord
@@ -91,12 +95,14 @@ values_form = separated (Part TheValue)
 -- a call
 unfoldable pub call_form : Writing Term
 call_form =
-    Then (λ callee rest. term.Call callee.0 callee.1 rest.0 rest.1.0 rest.1.1) (Part TheValue ▪ listed Round values_form)
+    Then (λ callee rest. term.Call callee.0 callee.1 rest.0 rest.1.0 rest.1.1)
+    (Part TheValue ▪ listed Round values_form)
     (codes "->" ▸ Part (ThePlace false) ▪ optional (codes "to") block_use ▪ optional (codes "unwind") block_use)
 
 -- the casts between pointers and integers break the limit 9
 unfoldable pub judged_intrinsic : Word → Judged Intrinsic
-judged_intrinsic w = if is_exposed w.text then Some (intrinsic.Assume, Some 9) else fine (looked_up intrinsic_words w.text)
+judged_intrinsic w =
+    if is_exposed w.text then Some (intrinsic.Assume, Some 9) else fine (looked_up intrinsic_words w.text)
 
 -- the intrinsic that a word names
 abbrev pub intrinsic_form : Writing Intrinsic
@@ -146,7 +152,9 @@ block_form k =
 
 -- the local of number k in a function, of which there may be 256
 unfoldable pub local_form : ℕ → Writing Local
-local_form k = Then (λ name t. record { name = name; ty = t }) (name_form (nat_le 256 k) (DefinesLocal k)) (codes ":" ▸ Part TheType)
+local_form k =
+    Then (λ name t. record { name = name; ty = t })
+    (name_form (nat_le 256 k) (DefinesLocal k)) (codes ":" ▸ Part TheType)
 
 -- the locals of a function
 unfoldable pub locals_form : Writing (List Local)
@@ -171,7 +179,8 @@ pub record FunctionBody : Type 0 where
 unfoldable pub body_form : Writing FunctionBody
 body_form =
     Then (λ head body. record { args = head.0; ret = head.1; locals = body.0; blocks = body.1 })
-    (listed Round args_form ▪ codes "->" ▸ local_use) (within Curly (codes "let" ▸ locals_form ◂ codes ";" ▪ blocks_form))
+    (listed Round args_form ▪ codes "->" ▸ local_use)
+    (within Curly (codes "let" ▸ locals_form ◂ codes ";" ▪ blocks_form))
 
 -- a function with its name
 abbrev pub with_name : ℕ → FunctionBody → Function
@@ -183,7 +192,8 @@ inside_function k scope = record { known = scope.known; function = k }
 
 -- the function of number k, of which there may be 256
 unfoldable pub function_form : ℕ → Writing Function
-function_form k = codes "fn" ▸ Then with_name (name_form (nat_le 256 k) (DefinesFunction k)) (In (inside_function k) body_form)
+function_form k =
+    codes "fn" ▸ Then with_name (name_form (nat_le 256 k) (DefinesFunction k)) (In (inside_function k) body_form)
 
 -- a repeat, which is 1 where none is written
 unfoldable pub repeat_form : Writing ℕ
@@ -193,7 +203,8 @@ repeat_form = Either (is_word (codes "*")) (codes "*" ▸ token judged_repeat) (
 abbrev pub item_word_of : List ℕ → Option ItemWord
 item_word_of text =
     if is_number text then (if nat_le (value_of text) 255 then Some (item_word.Byte (value_of text)) else None)
-    else (if is_word (codes "?") text then Some item_word.Uninit else (if is_word (codes "&") text then Some item_word.Reloc else None))
+    else (if is_word (codes "?") text then Some item_word.Uninit
+    else (if is_word (codes "&") text then Some item_word.Reloc else None))
 
 -- a pointer in a global
 unfoldable pub reloc_form : Writing Item_
@@ -240,5 +251,6 @@ functions_form = Many (is_word (codes "fn")) function_form
 -- a program
 unfoldable pub program_form : Writing ProgramBody
 program_form =
-    codes "minirust" ▸ codes "1" ▸ Then (λ items start. record { globals = items.0; functions = items.1; start = start })
+    codes "minirust" ▸ codes "1"
+    ▸ Then (λ items start. record { globals = items.0; functions = items.1; start = start })
     (globals_form ▪ functions_form) (codes "main" ▸ function_use)

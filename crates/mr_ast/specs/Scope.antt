@@ -1,10 +1,12 @@
 -- What the names of a text stand for.
-use Rattle.std.specs.Prelude.{ℕ, ◌+◌, ◌-◌, Bool, false, ◌==◌, nat_lt, if◌then◌else◌, List, [], ◌∷◌, ◌++◌, length, map, flat_map, bytes_eq, slice_index_or, position, Option, None, Some}
+use Rattle.std.specs.Prelude.{ℕ, ◌+◌, ◌-◌, Bool, false, ◌==◌, nat_lt, if◌then◌else◌, List, [], ◌∷◌, ◌++◌, length, map}
+use Rattle.std.specs.Prelude.{flat_map, bytes_eq, slice_index_or, position, Option, None, Some}
 use Rattle.std.specs.List.{fold, list_any, position_or_len}
 use Rattle.mr_ast.specs.declared.program.Target.{Target}
 use Rattle.mr_ast.specs.declared.program.Target.TheVariants as target
 use Rattle.mr_ast.specs.declared.words.Role.{Role}
-use Rattle.mr_ast.specs.declared.words.Role.TheVariants.{DefinesGlobal, DefinesFunction, DefinesLocal, DefinesBlock, UsesGlobal, UsesFunction, UsesLocal, UsesBlock}
+use Rattle.mr_ast.specs.declared.words.Role.TheVariants.{DefinesGlobal, DefinesFunction, DefinesLocal, DefinesBlock}
+use Rattle.mr_ast.specs.declared.words.Role.TheVariants.{UsesGlobal, UsesFunction, UsesLocal, UsesBlock}
 use Rattle.mr_ast.specs.Forms.{Word}
 use Rattle.mr_ast.specs.Words.{Texts}
 
@@ -19,7 +21,8 @@ pub record Definitions : Type 0 where
   pub globals : Texts
   pub functions : List FunctionNames
 
--- Where a word stands: in a text that defines these names, or of which they aren't known yet; and in the function of this number.
+-- Where a word stands: in a text that defines these names, or of which they aren't known yet; and in the function of
+-- this number.
 pub record Scope : Type 0 where
   pub known : Option Definitions
   pub function : ℕ
@@ -72,9 +75,11 @@ abbrev pub is_number : ℕ → Option ℕ → Bool
 is_number k (Some n) = n == k
 is_number k None = false
 
--- The number of a name's text, where the thing of number k in the space is the first of this name; else the name is there twice.
+-- The number of a name's text, where the thing of number k in the space is the first of this name; else the name is
+-- there twice.
 abbrev pub defined_in : Definitions → Texts → ℕ → List ℕ → ℕ × Option ℕ
-defined_in d space k text = (position_or_len (bytes_eq text) (names_of d), if is_number k (number_in space text) then None else Some 6)
+defined_in d space k text =
+    (position_or_len (bytes_eq text) (names_of d), if is_number k (number_in space text) then None else Some 6)
 
 -- what a name stands for in a text that defines these names: a number, and the code of its fault
 unfoldable pub number_of_name : Definitions → ℕ → Role → List ℕ → ℕ × Option ℕ
@@ -89,7 +94,8 @@ number_of_name d f UsesBlock text = used_in (number_in (function_names d f).bloc
 
 -- the global or function of a number among both
 abbrev pub target_of : ℕ → Option ℕ → Target × Option ℕ
-target_of globals (Some n) = (if nat_lt n globals then target.Global (record { 0 = n }) else target.Function (record { 0 = n - globals }), None)
+target_of globals (Some n) =
+    (if nat_lt n globals then target.Global (record { 0 = n }) else target.Function (record { 0 = n - globals }), None)
 target_of globals None = (target.Global (record { 0 = 0 }), Some 5)
 
 -- what a name stands for; where the definitions aren't known yet, its place among the words

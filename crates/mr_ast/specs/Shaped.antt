@@ -1,5 +1,5 @@
--- The shaped programs: those whose every name stands for something and whose every number the text form can write, within the limits.
--- Each program that a text denotes is shaped.
+-- The shaped programs: those whose every name stands for something and whose every number the text form can write,
+-- within the limits. Each program that a text denotes is shaped.
 use Rattle.std.specs.Prelude.{◌≡◌, ℕ, ◌<◌, ◌≤◌, ◌^◌, Bool, true, ◌&&◌, nat_lt, length, All, Option, None, Some}
 use Rattle.std.specs.List.{AllPass, list_all}
 use Rattle.mr_ast.specs.declared.types.Num.{Num}
@@ -66,7 +66,8 @@ is_shaped_stmt named (stmt.Validate place) = is_shaped_place named place
 -- the same of the end of a block
 abbrev pub is_shaped_term : Named → Term → Bool
 is_shaped_term named (term.Goto b) = is_block named b
-is_shaped_term named (term.Switch value cases other) = is_shaped_value named value && (list_all (is_shaped_target named) cases && is_block named other)
+is_shaped_term named (term.Switch value cases other) =
+    is_shaped_value named value && (list_all (is_shaped_target named) cases && is_block named other)
 is_shaped_term named term.Unreachable = true
 is_shaped_term named term.Return = true
 is_shaped_term named term.Exit = true
@@ -75,8 +76,11 @@ is_shaped_term named term.Resume = true
 is_shaped_term named (term.Stop b) = is_block named b
 is_shaped_term named (term.Unwind payload b) = is_shaped_value named payload && is_block named b
 is_shaped_term named (term.Call callee args place next unwind) =
-    is_shaped_value named callee && (list_all (is_shaped_value named) args && (is_shaped_place named place && (is_optional_block named next && is_optional_block named unwind)))
-is_shaped_term named (term.Do intrinsic args place next) = list_all (is_shaped_value named) args && (is_optional_place named place && is_block named next)
+    is_shaped_value named callee
+    && (list_all (is_shaped_value named) args
+    && (is_shaped_place named place && (is_optional_block named next && is_optional_block named unwind)))
+is_shaped_term named (term.Do intrinsic args place next) =
+    list_all (is_shaped_value named) args && (is_optional_place named place && is_block named next)
 
 -- the number of a text that the program holds
 abbrev pub IsText : Program → ℕ → Type 0
@@ -116,7 +120,8 @@ pub record ShapedBlock (p : Program) (f : Function) (b : Block) : Type 0 where
   pub term : is_shaped_term (named_in p f) b.term ≡ true
   pub few_stmts : length b.stmts ≤ 4096
 
--- a function's name is held, its arguments and its return local are locals of its own, it begins at a first block, and it keeps the limits
+-- a function's name is held, its arguments and its return local are locals of its own, it begins at a first block, and
+-- it keeps the limits
 pub record ShapedFunction (p : Program) (f : Function) : Type 0 where
   pub name : IsText p f.name
   pub args : All (λ (x : LocalName). x.0 < length f.locals) f.args
@@ -127,8 +132,8 @@ pub record ShapedFunction (p : Program) (f : Function) : Type 0 where
   pub few_locals : length f.locals ≤ 256
   pub few_blocks : length f.blocks ≤ 1024
 
--- a program of the one edition that there is, whose globals and functions are shaped, whose start is one of its functions, and which keeps
--- the limits
+-- a program of the one edition that there is, whose globals and functions are shaped, whose start is one of its
+-- functions, and which keeps the limits
 pub record Shaped (p : Program) : Type 0 where
   pub edition : p.edition ≡ 1
   pub globals : All (ShapedGlobal p) p.globals

@@ -31,7 +31,8 @@ is_shaped_chunk c = fits_u64 c.0 && fits_u64 c.1
 abbrev pub shaped_tree_step : Tree-F Bool → Bool
 shaped_tree_step (Tree-F.Known n) = is_shaped_num n
 shaped_tree_step Tree-F.Invalid = true
-shaped_tree_step (Tree-F.Branch at int cases other) = fits_u64 at && (list_all (λ c. is_shaped_num c.0 && c.1) cases && other)
+shaped_tree_step (Tree-F.Branch at int cases other) =
+    fits_u64 at && (list_all (λ c. is_shaped_num c.0 && c.1) cases && other)
 
 -- each number of the tree is one that can be written
 unfoldable pub is_shaped_tree : Tree → Bool
@@ -48,10 +49,13 @@ shaped_type_step Ty-F.Bool = true
 shaped_type_step Ty-F.Raw = true
 shaped_type_step Ty-F.FnPtr = true
 shaped_type_step (Ty-F.Ref size align never) = fits_u64 size && fits_u64 align
-shaped_type_step (Ty-F.Tuple size align fields) = fits_u64 size && (fits_u64 align && list_all (λ f. fits_u64 f.0 && f.1) fields)
+shaped_type_step (Ty-F.Tuple size align fields) =
+    fits_u64 size && (fits_u64 align && list_all (λ f. fits_u64 f.0 && f.1) fields)
 shaped_type_step (Ty-F.Array count elem) = fits_u64 count && elem
-shaped_type_step (Ty-F.Union size align fields chunks) = fits_u64 size && (fits_u64 align && (list_all (λ f. fits_u64 f.0 && f.1) fields && list_all is_shaped_chunk chunks))
-shaped_type_step (Ty-F.Enum size align disc variants tree) = fits_u64 size && (fits_u64 align && (list_all (λ v. v) variants && is_shaped_tree tree))
+shaped_type_step (Ty-F.Union size align fields chunks) =
+    fits_u64 size && (fits_u64 align && (list_all (λ f. fits_u64 f.0 && f.1) fields && list_all is_shaped_chunk chunks))
+shaped_type_step (Ty-F.Enum size align disc variants tree) =
+    fits_u64 size && (fits_u64 align && (list_all (λ v. v) variants && is_shaped_tree tree))
 
 -- the same of a variant
 abbrev pub shaped_variant_step : Variant-F Bool Bool → Bool

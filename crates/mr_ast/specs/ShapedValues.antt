@@ -7,7 +7,8 @@ use Rattle.mr_ast.specs.declared.expr.Place.TheOpen.{Place-F, Value-F}
 use Rattle.mr_ast.specs.declared.expr.Place.TheFolds.{fold-Place, fold-Value}
 use Rattle.mr_ast.specs.ShapedTypes.{fits_u64, is_shaped_num, is_shaped_type}
 
--- how many things of each kind a text can name: the globals and functions of a program, and the locals and blocks of one function
+-- how many things of each kind a text can name: the globals and functions of a program, and the locals and blocks of
+-- one function
 pub record Named : Type 0 where
   pub globals : ℕ
   pub functions : ℕ

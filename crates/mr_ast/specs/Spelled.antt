@@ -22,7 +22,8 @@ unfoldable pub SpelledInside : ℕ → ℕ → Scope → (A : Type 0) → Writin
 SpelledInside zero room scope A form x marks = ⊥
 SpelledInside (suc height) room scope A form x marks =
     SpelledBy (room == 0) (SpelledInside height (room - 1))
-    (λ inner kind. SpelledBy (room == 0) (SpelledInside height (room - 1)) NoPart inner (form_of kind)) scope form x marks
+    (λ inner kind. SpelledBy (room == 0) (SpelledInside height (room - 1)) NoPart inner (form_of kind))
+    scope form x marks
 
 -- a thing of a kind, where brackets nest so deep and so many may be open
 abbrev pub SpelledPart : ℕ → ℕ → Scope → (kind : Kind) → Meaning kind → List Mark → Type 0
@@ -30,4 +31,5 @@ SpelledPart height room scope kind = SpelledBy (room == 0) (SpelledInside height
 
 -- a thing in a form
 abbrev pub Spelled : ℕ → ℕ → Scope → {A : Type 0} → Writing A → A → List Mark → Type 0
-Spelled height room scope form x marks = SpelledBy (room == 0) (SpelledInside height (room - 1)) (SpelledPart height room) scope form x marks
+Spelled height room scope form x marks =
+    SpelledBy (room == 0) (SpelledInside height (room - 1)) (SpelledPart height room) scope form x marks

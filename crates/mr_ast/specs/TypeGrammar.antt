@@ -14,7 +14,8 @@ use Rattle.mr_ast.specs.declared.words.TreeWord.TheVariants as tree_word
 use Rattle.mr_ast.specs.Forms.{Word, Empty, Then, Cases, Either, Many, Part}
 use Rattle.mr_ast.specs.declared.words.Bracket.TheVariants.{Round, Curly}
 use Rattle.mr_ast.specs.Words.{looked_up, int_words, type_words, tree_words}
-use Rattle.mr_ast.specs.Writing.{Judged, TheTree, TheType, Writing, fine, giving, int_form, is_word, listed, num_form, other_than, separated, u64_form, within, word, ◌▪◌, ◌▸◌, ◌◂◌}
+use Rattle.mr_ast.specs.Writing.{Judged, TheTree, TheType, Writing, fine, giving, int_form, is_word, listed, num_form}
+use Rattle.mr_ast.specs.Writing.{other_than, separated, u64_form, within, word, ◌▪◌, ◌▸◌, ◌◂◌}
 
 -- a size and an alignment
 pub record Shape : Type 0 where
@@ -23,7 +24,8 @@ pub record Shape : Type 0 where
 
 -- a size and an alignment
 unfoldable pub shape_form : Writing Shape
-shape_form = Then (λ size align. record { size = size; align = align }) (codes "size" ▸ u64_form) (codes "align" ▸ u64_form)
+shape_form =
+    Then (λ size align. record { size = size; align = align }) (codes "size" ▸ u64_form) (codes "align" ▸ u64_form)
 
 -- a field of a type: its offset and its type
 unfoldable pub field_form : Writing (ℕ × Ty)
@@ -44,7 +46,8 @@ chunks_form = separated chunk_form
 -- a tag
 unfoldable pub tag_form : Writing Tag
 tag_form =
-    Then (λ at rest. record { at = at; int = rest.0; number = rest.1 }) (u64_form ◂ codes ":") (int_form ◂ codes "=" ▪ num_form)
+    Then (λ at rest. record { at = at; int = rest.0; number = rest.1 })
+    (u64_form ◂ codes ":") (int_form ◂ codes "=" ▪ num_form)
 
 -- the tags of a variant
 unfoldable pub tags_form : Writing (List Tag)
@@ -90,7 +93,9 @@ tree_form = Cases (λ scope. judged_tree) tree_behind
 
 -- the word with which a type begins: that of an integer, or another
 abbrev pub type_word_of : List ℕ → Option TypeWord
-type_word_of text = elim (looked_up int_words text) as (λ _. Option TypeWord) [ Some i ↦ Some (type_word.Int i) | None ↦ looked_up type_words text ]
+type_word_of text =
+    elim (looked_up int_words text) as
+    (λ _. Option TypeWord) [ Some i ↦ Some (type_word.Int i) | None ↦ looked_up type_words text ]
 
 -- a reference
 unfoldable pub ref_form : Writing Ty

@@ -13,7 +13,8 @@ use Rattle.mr_ast.specs.Forms.{Word, Empty, Then, Cases, Either, Many, Within, P
 use Rattle.mr_ast.specs.declared.words.Bracket.TheVariants.{Round, Square}
 use Rattle.mr_ast.specs.declared.words.Role.TheVariants.{UsesLocal}
 use Rattle.mr_ast.specs.Words.{looked_up, int_words, unary_words, binary_words, value_words, is_exposed}
-use Rattle.mr_ast.specs.Writing.{Judged, ThePlace, TheType, TheValue, Writing, fine, function_use, giving, global_use, int_form, is_word, limited_word, name_form, num_form, u64_form, within, ◌▪◌, ◌▸◌, ◌◂◌}
+use Rattle.mr_ast.specs.Writing.{Judged, ThePlace, TheType, TheValue, Writing, fine, function_use, giving, global_use}
+use Rattle.mr_ast.specs.Writing.{int_form, is_word, limited_word, name_form, num_form, u64_form, within, ◌▪◌, ◌▸◌, ◌◂◌}
 
 -- what stands behind a place and makes another of it
 pub data Postfix : Type 0 where
@@ -42,11 +43,14 @@ postfix_form k =
 -- a place without postfixes; its first word is one too many (8) or not
 unfoldable pub deref_form : Bool → Writing Place
 deref_form over =
-    Then (λ u parts. place.Deref parts.0 parts.1) (limited_word 8 over (codes "deref")) (within Round (Part TheValue ◂ codes "," ▪ Part TheType))
+    Then (λ u parts. place.Deref parts.0 parts.1)
+    (limited_word 8 over (codes "deref")) (within Round (Part TheValue ◂ codes "," ▪ Part TheType))
 
 -- a place without its postfixes
 unfoldable pub base_form : Bool → Writing Place
-base_form over = Either (is_word (codes "deref")) (deref_form over) (giving (λ n. place.Local (record { 0 = n })) (name_form over UsesLocal))
+base_form over =
+    Either (is_word (codes "deref"))
+    (deref_form over) (giving (λ n. place.Local (record { 0 = n })) (name_form over UsesLocal))
 
 -- the postfixes of a place
 unfoldable pub postfixes_form : Writing (List Postfix)
@@ -100,7 +104,8 @@ variant_value_form =
 
 -- the address of a place
 unfoldable pub addr_of_form : Writing Value
-addr_of_form = giving (λ parts. value.AddrOf parts.0 parts.1) (within Round (Part TheType ◂ codes "," ▪ Part (ThePlace false)))
+addr_of_form =
+    giving (λ parts. value.AddrOf parts.0 parts.1) (within Round (Part TheType ◂ codes "," ▪ Part (ThePlace false)))
 
 -- a cast
 unfoldable pub cast_form : Writing Value
@@ -108,11 +113,13 @@ cast_form = giving (λ parts. value.Cast parts.0 parts.1) (within Round (int_for
 
 -- a transmute
 unfoldable pub transmute_form : Writing Value
-transmute_form = giving (λ parts. value.Transmute parts.0 parts.1) (within Round (Part TheType ◂ codes "," ▪ Part TheValue))
+transmute_form =
+    giving (λ parts. value.Transmute parts.0 parts.1) (within Round (Part TheType ◂ codes "," ▪ Part TheValue))
 
 -- an operator with two operands
 unfoldable pub binary_form : BinaryOp → Writing Value
-binary_form o = giving (λ parts. value.Binary o parts.0 parts.1) (within Round (Part TheValue ◂ codes "," ▪ Part TheValue))
+binary_form o =
+    giving (λ parts. value.Binary o parts.0 parts.1) (within Round (Part TheValue ◂ codes "," ▪ Part TheValue))
 
 -- what stands behind the word of a value
 abbrev pub value_behind : ValueWord → Writing Value

@@ -1,5 +1,6 @@
 -- The pieces of the grammar: words, names, numbers, lists.
-use Rattle.std.specs.Prelude.{ℕ, ◌^◌, Bool, true, false, not, ◌&&◌, ◌==◌, nat_lt, nat_le, if◌then◌else◌, List, [], ◌∷◌, codes, bytes_eq, Option, None, Some, option_map}
+use Rattle.std.specs.Prelude.{ℕ, ◌^◌, Bool, true, false, not, ◌&&◌, ◌==◌, nat_lt, nat_le, if◌then◌else◌, List, [], ◌∷◌}
+use Rattle.std.specs.Prelude.{codes, bytes_eq, Option, None, Some, option_map}
 use Rattle.mr_ast.specs.declared.types.IntType.{IntType}
 use Rattle.mr_ast.specs.declared.types.Num.{Num}
 use Rattle.mr_ast.specs.declared.types.Tree.{Tree}
@@ -18,7 +19,8 @@ use Rattle.mr_ast.specs.declared.words.Role.TheVariants.{UsesGlobal, UsesFunctio
 use Rattle.mr_ast.specs.Scope.{Scope, name_number, name_target}
 use Rattle.mr_ast.specs.Words.{is_name, is_number, value_of, looked_up, int_words}
 
--- the kinds of things that stand inside things of their own kind; of a place, whether its first word is one too many (8)
+-- the kinds of things that stand inside things of their own kind; of a place, whether its first word is one too many
+-- (8)
 pub data Kind : Type 0 where
   TheType : Kind
   TheTree : Kind
@@ -95,7 +97,8 @@ optional text a = Either (is_word text) (giving Some (text ▸ a)) (Empty None)
 
 -- a number, of which the judge says whether it may stand there and which limit it breaks
 abbrev pub judged_number : (ℕ → Option (Option ℕ)) → Word → Judged ℕ
-judged_number judge w = if is_number w.text then option_map (λ flaw. (value_of w.text, flaw)) (judge (value_of w.text)) else None
+judged_number judge w =
+    if is_number w.text then option_map (λ flaw. (value_of w.text, flaw)) (judge (value_of w.text)) else None
 
 -- a number below 2^64; a greater one breaks the limit 2
 unfoldable pub judged_u64 : Word → Judged ℕ
@@ -103,7 +106,9 @@ judged_u64 = judged_number (λ n. Some (limit 2 (not (nat_lt n (2 ^ 64)))))
 
 -- a repeat is 1 to 2^20, and breaks the limit 2 from 2^64 on
 unfoldable pub judged_repeat : Word → Judged ℕ
-judged_repeat = judged_number (λ n. if nat_lt n (2 ^ 64) then (if nat_lt 0 n && nat_le n (2 ^ 20) then Some None else None) else Some (Some 2))
+judged_repeat =
+    judged_number
+    (λ n. if nat_lt n (2 ^ 64) then (if nat_lt 0 n && nat_le n (2 ^ 20) then Some None else None) else Some (Some 2))
 
 -- any number, and any but 0
 unfoldable pub judged_any : Word → Judged ℕ
@@ -127,7 +132,8 @@ minus n = record { neg = true; mag = n }
 
 -- a number with its sign; there is no minus 0
 abbrev pub num_form : Writing Num
-num_form = Either (is_word (codes "-")) (giving minus (codes "-" ▸ token judged_positive)) (giving plus (token judged_any))
+num_form =
+    Either (is_word (codes "-")) (giving minus (codes "-" ▸ token judged_positive)) (giving plus (token judged_any))
 
 -- a name, one too many (8) or not, and what it stands for
 unfoldable pub judged_name : Bool → Role → Scope → Word → Judged ℕ

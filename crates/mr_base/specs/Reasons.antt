@@ -1,7 +1,15 @@
 -- The reasons of undefined behaviour, by number and by name.
 use Rattle.std.specs.Prelude.{ℕ, List, codes}
 use Rattle.mr_base.specs.declared.reason.Reason.{Reason}
-use Rattle.mr_base.specs.declared.reason.Reason.TheVariants.{DataRace, Unreachable, DeadLocal, Misaligned, NoProvenance, DeadAllocation, OutOfBounds, InvalidValue, DanglingReference, Overflow, ZeroDivisor, DivOverflow, ShiftAmount, OffsetOverflow, IndexOutOfRange, InvalidDiscriminant, TransmuteInvalid, NotAFunction, SignatureMismatch, NoReturnBlock, MainReturned, NoUnwindBlock, UnwoundThread, NoPayload, AssumeFalse, SizeTooLarge, BadAlign, FreeAddress, FreeKind, FreeSize, FreeAlign, UnknownThread, UnknownLock, NotHolder}
+use Rattle.mr_base.specs.declared.reason.Reason.TheVariants.{DataRace, Unreachable, DeadLocal, Misaligned, NoProvenance}
+use Rattle.mr_base.specs.declared.reason.Reason.TheVariants.{DeadAllocation, OutOfBounds, InvalidValue}
+use Rattle.mr_base.specs.declared.reason.Reason.TheVariants.{DanglingReference, Overflow, ZeroDivisor, DivOverflow}
+use Rattle.mr_base.specs.declared.reason.Reason.TheVariants.{ShiftAmount, OffsetOverflow, IndexOutOfRange}
+use Rattle.mr_base.specs.declared.reason.Reason.TheVariants.{InvalidDiscriminant, TransmuteInvalid, NotAFunction}
+use Rattle.mr_base.specs.declared.reason.Reason.TheVariants.{SignatureMismatch, NoReturnBlock, MainReturned}
+use Rattle.mr_base.specs.declared.reason.Reason.TheVariants.{NoUnwindBlock, UnwoundThread, NoPayload, AssumeFalse}
+use Rattle.mr_base.specs.declared.reason.Reason.TheVariants.{SizeTooLarge, BadAlign, FreeAddress, FreeKind, FreeSize}
+use Rattle.mr_base.specs.declared.reason.Reason.TheVariants.{FreeAlign, UnknownThread, UnknownLock, NotHolder}
 
 -- each reason has a number, from 100 on
 abbrev pub code_of : Reason → ℕ

@@ -19,7 +19,6 @@ use Rattle.mr_step.specs.Answers.{Hands, StartAnswer, StepAnswer, Steps, complet
 use Rattle.mr_start.specs.Start.{PlacedFault, at_line, entries_fault, program_fault, program_step, start_fault, schedule_fault, look_of, start_config, run_of, steps_of}
 use Rattle.mr_plan.proofs.RunLaws.{completed_by_step}
 use Rattle.mr_command.specs.declared.refusal.Refusal.{Refusal}
-use Rattle.mr_command.specs.declared.refusal.Refusal.TheVariants as refusal
 use Rattle.mr_command.specs.declared.run.Finished.{Finished}
 use Rattle.mr_command.specs.Answer.{Ran, legal_run, ran, unless_broken}
 use Rattle.mr_command.specs.Running.{placed, legal_after, Refuses, RunAnswer, EntriesAnswer, EntryAnswer, legal_step}
@@ -100,29 +99,6 @@ broken : (line : ℕ) (f : Option Fault) (x : Ran) (later : Option PlacedFault) 
     → unless_broken (at_line line f later) z ≡ Err r
 broken line None x later z r h = absurd (cc)
 broken line (Some f) x later z r h = h
-
-broken_gives : (line : ℕ) (f : Option Fault) (x : Ran) (later : Option PlacedFault) (z : Ran) (r : Refusal) → Refuses r (unless_broken (at_line line f None) x)
-    → Refuses r (unless_broken (at_line line f later) z)
-broken_gives line f x later z refusal.Memory h = tt
-broken_gives line f x later z refusal.ReadProgram h = broken line f x later z _ h
-broken_gives line f x later z (refusal.Text at col code) h = broken line f x later z _ h
-broken_gives line f x later z refusal.ReadSchedule h = broken line f x later z _ h
-broken_gives line f x later z (refusal.Schedule at code earlier) h = broken line f x later z _ h
-
-pub stops_at : (look : Look) (c : Config Own) (line : ℕ) (e : Entry) (es : List Entry) (r : Refusal) → Refuses r (legal_step look c line e)
-    → Refuses r (legal_after look c line (e ∷ es))
-stops_at look c line e es r h =
-    broken_gives line (program_fault look c e) (record { config = program_step look c e; steps = foot_from (thread_step look) e.thread e.picks c.state })
-    (entries_fault look (program_step look c e) (line + 1) es)
-    (record { config = after (thread_step look) c (e ∷ es); steps = feet (thread_step look) c (e ∷ es) }) r h
-
--- a refusal is the same behind footprints
-refuses_behind : (fs : List Footprint) (r : Refusal) (o : Result Ran Refusal) → Refuses r o → Refuses r (behind_all fs o)
-refuses_behind fs refusal.Memory o h = tt
-refuses_behind fs refusal.ReadProgram o h = ap (behind_all fs) h
-refuses_behind fs (refusal.Text at col code) o h = ap (behind_all fs) h
-refuses_behind fs refusal.ReadSchedule o h = ap (behind_all fs) h
-refuses_behind fs (refusal.Schedule at code earlier) o h = ap (behind_all fs) h
 
 -- ---- the whole run
 
@@ -213,12 +189,6 @@ ends_at first m was now line index es d h = record {
       sym h.leads ∙ ap (λ xs. behind_all h.steps (legal_after m.look m.config line xs)) d
       ∙ ap (λ xs. Ok (record { config = m.config; steps = xs })) (append-nil h.steps);
 }
-
-pub breaks_off : (first m new : Standing) (was now next : List Footprint) (line index : ℕ) (e : Entry) (es : List Entry) (r : Refusal) → drop index es ≡ e ∷ drop (index + 1) es
-    → IsUnderWay first m was now line index es → EntryAnswer e line m new now next (Err r) → EntriesAnswer es first new was next (Err r)
-breaks_off first m new was now next line index e es r d h k =
-    subst (Refuses r) (ap (λ xs. behind_all h.steps (legal_after m.look m.config line xs)) (sym d) ∙ h.leads)
-    (refuses_behind h.steps r (legal_after m.look m.config line (e ∷ drop (index + 1) es)) (stops_at m.look m.config line e (drop (index + 1) es) r k))
 
 -- what is left at a position within the list
 pub left_at : (es : List Entry) (i : ℕ) (e : Entry) → i < length es → e ≡ get_or es i e → drop i es ≡ e ∷ drop (i + 1) es

@@ -26,7 +26,8 @@ placed line answer.Failed = refusal.Memory
 -- what entries come to from a configuration, the first of which stands on this line, or the first rule that they break
 abbrev pub legal_after : Look → Config Own → ℕ → List Entry → Result Ran Refusal
 legal_after look c line es =
-    unless_broken (entries_fault look c line es) (record { config = after (thread_step look) c es; steps = feet (thread_step look) c es })
+    unless_broken (entries_fault look c line es)
+    (record { config = after (thread_step look) c es; steps = feet (thread_step look) c es })
 
 -- a machine that didn't fail stands where it should, and the steps that completed joined those before them
 pub record Stands (over : Look) (m : Standing) (old new : List Footprint) (defined : Result Ran Refusal) : Type 0 where
@@ -50,16 +51,19 @@ RunAnswer p w (Ok f) = (f.machine.failed ≡ false) × (legal_run p w ≡ Ok (ra
 RunAnswer p w (Err r) = Refuses r (legal_run p w)
 
 -- how entries from line 3 on are answered
-abbrev pub EntriesAnswer : List Entry → Standing → Standing → List Footprint → List Footprint → Result (Unit {0}) Refusal → Type 0
+abbrev pub EntriesAnswer : List Entry → Standing → Standing → List Footprint → List Footprint
+    → Result (Unit {0}) Refusal → Type 0
 EntriesAnswer es old new was is (Ok u) = Stands old.look new was is (legal_after old.look old.config 3 es)
 EntriesAnswer es old new was is (Err r) = Refuses r (legal_after old.look old.config 3 es)
 
 -- one entry
 abbrev pub legal_step : Look → Config Own → ℕ → Entry → Result Ran Refusal
 legal_step look c line e =
-    unless_broken (at_line line (program_fault look c e) None) (record { config = program_step look c e; steps = foot_from (thread_step look) e.thread e.picks c.state })
+    unless_broken (at_line line (program_fault look c e) None)
+    (record { config = program_step look c e; steps = foot_from (thread_step look) e.thread e.picks c.state })
 
 -- how one entry is answered
-abbrev pub EntryAnswer : Entry → ℕ → Standing → Standing → List Footprint → List Footprint → Result (Unit {0}) Refusal → Type 0
+abbrev pub EntryAnswer : Entry → ℕ → Standing → Standing → List Footprint → List Footprint → Result (Unit {0}) Refusal
+    → Type 0
 EntryAnswer e line old new was is (Ok u) = Stands old.look new was is (legal_step old.look old.config line e)
 EntryAnswer e line old new was is (Err r) = Refuses r (legal_step old.look old.config line e)

@@ -51,7 +51,8 @@ value_in v = v.value
 
 -- the surround of an evaluation
 abbrev pub surround_of : Here → Surround
-surround_of h = record { locals = h.locals.now; storage = h.storage.now; functions = h.functions.now; globals = h.globals.now }
+surround_of h =
+    record { locals = h.locals.now; storage = h.storage.now; functions = h.functions.now; globals = h.globals.now }
 
 -- a result as it is
 abbrev pub same : {X : Type 0} → X → X

@@ -35,7 +35,8 @@ env_surround e = record {
   globals = e.globals.now;
 }
 
--- An environment of this function: an entry for each of its locals, a pointer for each function and each global, and the program's layouts.
+-- An environment of this function: an entry for each of its locals, a pointer for each function and each global, and
+-- the program's layouts.
 pub record IsEnvOf (f : Function) (e : Env) : Type 0 where
   pub function : slice_get e.program.now.functions e.function.0 ≡ Some f
   pub locals : length e.locals.now ≡ length f.locals

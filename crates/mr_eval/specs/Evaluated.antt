@@ -1,4 +1,5 @@
--- What the evaluation of an expression over a memory comes to: a pointer or a value with what was seen by then, a reason, or no rule.
+-- What the evaluation of an expression over a memory comes to: a pointer or a value with what was seen by then, a
+-- reason, or no rule.
 use Rattle.std.specs.Prelude.{ℕ, if◌then◌else◌, List, [], ◌∷◌, Option, None, Some, pos}
 use Rattle.std.specs.Option.{is_some}
 use Rattle.mr_ast.specs.declared.types.IntType.{IntType}
@@ -24,7 +25,8 @@ use Rattle.mr_wf.specs.Types.{chained, variant_type}
 use Rattle.mr_script.specs.Script.{Broken, Outcome, Went, ◌>>=◌, on, run}
 use Rattle.mr_eval.specs.Reads.{Seen, reading}
 use Rattle.mr_eval.specs.Typed.{Targets, loading, meant, numbered, referring, searched}
-use Rattle.mr_eval.specs.Evaluation.{Surround, element_at, elements_in, offset_in, place_script, value_script, values_script}
+use Rattle.mr_eval.specs.Evaluation.{Surround, element_at, elements_in, offset_in, place_script, value_script}
+use Rattle.mr_eval.specs.Evaluation.{values_script}
 use Rattle.mr_eval.specs.Moves.{moved}
 use Rattle.mr_eval.specs.Operators.{bits_of_value, or_ill_formed}
 
@@ -45,7 +47,8 @@ found_number m t p seen = run (reading m) (searched t p) seen
 -- the same, behind the branch that a number chooses
 abbrev pub chosen_number : Memory → Num → List (Num × Tree) → Tree → Pointer → Seen → Outcome Num Seen
 chosen_number m n [] rest p seen = found_number m rest p seen
-chosen_number m n (c ∷ cases) rest p seen = if same_num c.0 n then found_number m c.1 p seen else chosen_number m n cases rest p seen
+chosen_number m n (c ∷ cases) rest p seen =
+    if same_num c.0 n then found_number m c.1 p seen else chosen_number m n cases rest p seen
 
 -- the load of a value of a type
 unfoldable pub read_typed : Memory → Ty → Pointer → Seen → Outcome Val Seen
@@ -71,7 +74,8 @@ in_field m t k p seen = run (reading m) (or_ill_formed (offset_in t k) >>= (λ n
 
 -- the element at a position, of an array of a type at a pointer
 unfoldable pub in_array : Memory → Option Ty → Val → Pointer → Seen → Outcome Pointer Seen
-in_array m t i p seen = run (reading m) (bits_of_value i >>= (λ n. or_ill_formed (elements_in t) >>= element_at p n)) seen
+in_array m t i p seen =
+    run (reading m) (bits_of_value i >>= (λ n. or_ill_formed (elements_in t) >>= element_at p n)) seen
 
 -- a place of a type, as a variant of it
 abbrev pub at_variant : Option Ty → Num → Pointer → Seen → Outcome Pointer Seen
@@ -84,7 +88,8 @@ load_at m (Some t) p seen = read_typed m t p seen
 
 -- the discriminant that a place of a type holds
 abbrev pub disc_layer : Memory → Ty-F Ty Variant → Pointer → Seen → Outcome Val Seen
-disc_layer m (Ty-F.Enum size align disc variants tree) p seen = on (found_number m tree p seen) (λ n s. Went (val.Int (bits_of_number disc n)) s)
+disc_layer m (Ty-F.Enum size align disc variants tree) p seen =
+    on (found_number m tree p seen) (λ n s. Went (val.Int (bits_of_number disc n)) s)
 disc_layer m _ p seen = Broken
 
 abbrev pub disc_at : Memory → Option Ty → Pointer → Seen → Outcome Val Seen

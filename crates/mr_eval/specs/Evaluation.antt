@@ -1,5 +1,6 @@
 -- THE EVALUATION of places and values, as scripts that ask memory. (MiniRust, lang: evaluation of expressions.)
-use Rattle.std.specs.Prelude.{ℕ, ◌*◌, true, false, nat_lt, if◌then◌else◌, List, [], ◌∷◌, Option, None, Some, slice_get, pos}
+use Rattle.std.specs.Prelude.{ℕ, ◌*◌, true, false, nat_lt, if◌then◌else◌, List, [], ◌∷◌, Option, None, Some, slice_get}
+use Rattle.std.specs.Prelude.{pos}
 use Rattle.std.specs.Option.{is_some, option_map}
 use Rattle.mr_ast.specs.declared.types.Num.{Num}
 use Rattle.mr_ast.specs.declared.types.Ty.{Ty, out-Ty}
@@ -28,8 +29,8 @@ use Rattle.mr_eval.specs.Moves.{behind, moved}
 use Rattle.mr_eval.specs.Typed.{loading, meant, searched}
 use Rattle.mr_eval.specs.Operators.{binary_of, bits_of_value, cast_value, or_ill_formed, pointer_of_value, unary_of}
 
--- Where an expression is evaluated: the locals of its function and the storage that each has, and the pointers to the functions and the
--- globals of the program.
+-- Where an expression is evaluated: the locals of its function and the storage that each has, and the pointers to the
+-- functions and the globals of the program.
 pub record Surround : Type 0 where
   pub locals : List Local
   pub storage : List (Option Pointer)

@@ -12,8 +12,8 @@ use Rattle.mr_eval.specs.Reads.{Read, ReadQuery, ReadReply, ReadScript, Seen, ac
 use Rattle.mr_eval.specs.Stores.{storing}
 use Rattle.mr_eval.specs.Tally.{Tally, seen_of, with_seen}
 
--- What evaluation asks; a store; the read of an integer and, where the change gives one, the store of another in its place; a new allocation at a
--- picked address; the end of one.
+-- What evaluation asks; a store; the read of an integer and, where the change gives one, the store of another in its
+-- place; a new allocation at a picked address; the end of one.
 pub data MemoryQuery : Type 0 where
   Reading : (q : ReadQuery) → MemoryQuery
   Write : (atomic : Bool) (p : Pointer) (bytes : List AbstractByte) (align : ℕ) → MemoryQuery
@@ -57,14 +57,16 @@ number_bytes size n = initialised None (little_endian size n)
 abbrev pub replacing : Memory → Pointer → ℕ → ℕ → Option ℕ → Seen → Outcome ℕ (Memory × Seen)
 replacing m p size old None s = Went old (m, s)
 replacing m p size old (Some new) s =
-    answered (written m p (number_bytes size new) size) (λ after. Went old (after, seeing (accessing true true p size) [] s))
+    answered (written m p (number_bytes size new) size)
+    (λ after. Went old (after, seeing (accessing true true p size) [] s))
 
 -- of the bytes that were read: the number that they are, and the change of it
 abbrev pub changing : Memory → Pointer → ℕ → (ℕ → Option ℕ) → Option ℕ → Seen → Outcome ℕ (Memory × Seen)
 changing m p size change None s = Refused InvalidValue
 changing m p size change (Some n) s = replacing m p size n (change n) s
 
--- the read and the change of an integer of so many bytes: one range check, an atomic load, and an atomic store where there is a new number
+-- the read and the change of an integer of so many bytes: one range check, an atomic load, and an atomic store where
+-- there is a new number
 abbrev pub modifying : Memory → Pointer → ℕ → (ℕ → Option ℕ) → Seen → Outcome ℕ (Memory × Seen)
 modifying m p size change s =
     on (reading m (Read true p size size) s) (λ bytes s'. changing m p size change (number_of bytes) s')
@@ -77,7 +79,13 @@ memory_answer (Write atomic p bytes align) w =
 memory_answer (Modify p size change) w =
     on (modifying w.0 p size change (seen_of w.1)) (λ x v. Went x (v.0, with_seen w.1 v.1))
 memory_answer (Allocate kind size align addr) w =
-    Went (pointer_to (next_id w.1) addr)
-    (allocated w.0 (next_id w.1) kind size align addr, record w.1 { made = w.1.made ++ next_id w.1 ∷ []; ranges = w.1.ranges ++ (addr, size) ∷ []; count = w.1.count + 1 })
+    Went (pointer_to (next_id w.1) addr) (
+      allocated w.0 (next_id w.1) kind size align addr,
+      record w.1 {
+        made = w.1.made ++ next_id w.1 ∷ [];
+        ranges = w.1.ranges ++ (addr, size) ∷ [];
+        count = w.1.count + 1;
+      },
+    )
 memory_answer (Free p kind size align) w =
     answered (freed w.0 p kind size align) (λ f. Went tt (f.1, record w.1 { freed = w.1.freed ++ f.0 ∷ [] }))

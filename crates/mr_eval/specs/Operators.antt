@@ -1,5 +1,6 @@
 -- What the operators give on values, by the types of their operands. (MiniRust, lang: operators.)
-use Rattle.std.specs.Prelude.{ℕ, ◌^◌, ◌==◌, nat_lt, Bool, not, if◌then◌else◌, [], ◌∷◌, Option, None, Some, Result, Ok, Err, ℤ}
+use Rattle.std.specs.Prelude.{ℕ, ◌^◌, ◌==◌, nat_lt, Bool, not, if◌then◌else◌, [], ◌∷◌, Option, None, Some, Result, Ok}
+use Rattle.std.specs.Prelude.{Err, ℤ}
 use Rattle.std.specs.Option.{option_and_then}
 use Rattle.mr_ast.specs.Integers.{bits_of}
 use Rattle.mr_ast.specs.declared.types.IntType.{IntType}
@@ -194,7 +195,8 @@ unary_bool unary.Neg b = IllFormed
 unary_bool unary.Not b = Done (val.Bool (not b))
 
 abbrev pub unary_in : UnaryOp → Option IntType → Val-F Val → ReadScript Val
-unary_in op t (Val-F.Int n) = or_ill_formed (integer_like (Val-F.Int n) t) >>= λ int. Done (val.Int (unary_bits op int n))
+unary_in op t (Val-F.Int n) =
+    or_ill_formed (integer_like (Val-F.Int n) t) >>= λ int. Done (val.Int (unary_bits op int n))
 unary_in op t (Val-F.Bool b) = unary_bool op b
 unary_in op t _ = IllFormed
 

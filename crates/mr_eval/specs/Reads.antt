@@ -1,5 +1,7 @@
--- What evaluation may ask of memory, and what is noted of it. Evaluation changes nothing. (MiniRust, mem: the basic memory.)
-use Rattle.std.specs.Prelude.{ℕ, Bool, false, ◌==◌, if◌then◌else◌, List, [], ◌∷◌, ◌++◌, Option, None, Some, Result, Ok, Err}
+-- What evaluation may ask of memory, and what is noted of it. Evaluation changes nothing. (MiniRust, mem: the basic
+-- memory.)
+use Rattle.std.specs.Prelude.{ℕ, Bool, false, ◌==◌, if◌then◌else◌, List, [], ◌∷◌, ◌++◌, Option, None, Some, Result, Ok}
+use Rattle.std.specs.Prelude.{Err}
 use Rattle.mr_base.specs.declared.access.Access.{Access}
 use Rattle.mr_base.specs.declared.byte.AbstractByte.{AbstractByte}
 use Rattle.mr_base.specs.declared.byte.AllocId.{AllocId}
@@ -60,5 +62,7 @@ named r (Err cause) = Err r
 -- what a memory answers, and what is noted then
 abbrev pub reading : Memory → (q : ReadQuery) → Seen → Outcome (ReadReply q) Seen
 reading m (Check p len) s = answered (checked m p len) (λ _. Went tt (seeing [] (touching p len) s))
-reading m (Refer p len) s = answered (named DanglingReference (checked m p len)) (λ _. Went tt (seeing [] (touching p len) s))
-reading m (Read atomic p len align) s = answered (read m p len align) (λ bytes. Went bytes (seeing (accessing false atomic p len) (touching p len) s))
+reading m (Refer p len) s =
+    answered (named DanglingReference (checked m p len)) (λ _. Went tt (seeing [] (touching p len) s))
+reading m (Read atomic p len align) s =
+    answered (read m p len align) (λ bytes. Went bytes (seeing (accessing false atomic p len) (touching p len) s))

@@ -31,8 +31,8 @@ Comes P Broken = ⊥
 abbrev pub any_result : {A : Type 0} → A → Type 0
 any_result x = Unit {0}
 
--- A surround in which the names of a function stand for something: a storage for each local, a pointer for each function and each global;
--- and the types of the locals break no rule.
+-- A surround in which the names of a function stand for something: a storage for each local, a pointer for each
+-- function and each global; and the types of the locals break no rule.
 pub record Stands (named : Named) (s : Surround) : Type 0 where
   pub locals : named.locals ≡ length s.locals
   pub storage : length s.storage ≡ length s.locals

@@ -13,7 +13,8 @@ use Rattle.mr_eval.specs.Reads.{Seen, accessing, answered, seeing, touching}
 -- the store of bytes: the memory behind it, and what is noted then
 abbrev pub storing : Memory → Bool → Pointer → List AbstractByte → ℕ → Seen → Outcome Memory Seen
 storing m atomic p bytes align seen =
-    answered (written m p bytes align) (λ new. Went new (seeing (accessing true atomic p (length bytes)) (touching p (length bytes)) seen))
+    answered (written m p bytes align)
+    (λ new. Went new (seeing (accessing true atomic p (length bytes)) (touching p (length bytes)) seen))
 
 -- the store of a value of a type
 unfoldable pub stored_typed : Memory → Ty → Pointer → Val → Seen → Outcome Memory Seen

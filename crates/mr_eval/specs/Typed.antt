@@ -79,7 +79,8 @@ targets_of_fields (f ∷ fields) (v ∷ vs) = targets_of f.1 v ++ targets_of_fie
 
 abbrev pub targets_of_variant : List Variant → Num → Val → Targets
 targets_of_variant [] n v = []
-targets_of_variant (w ∷ variants) n v = if same_num w.number n then targets_of w.ty v else targets_of_variant variants n v
+targets_of_variant (w ∷ variants) n v =
+    if same_num w.number n then targets_of w.ty v else targets_of_variant variants n v
 
 -- The reference check.
 abbrev pub referring : Targets → ReadScript (Unit {0})

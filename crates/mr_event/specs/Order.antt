@@ -1,6 +1,7 @@
 -- What happens before what in a run, the races that it shows, and its rearrangements. (Lamport: happens-before.) A run
 -- is the list of the footprints of its completed steps; a step is named by its place in the run, counted from 0.
-use Rattle.std.specs.Prelude.{◌≡◌, ◌≢◌, ℕ, ◌<◌, List, [], length, Bool, false, IsTrue, slice_index_or, All, Any, AllPairs, IsPermutation}
+use Rattle.std.specs.Prelude.{◌≡◌, ◌≢◌, ℕ, ◌<◌, List, [], length, Bool, false, IsTrue, slice_index_or, All, Any}
+use Rattle.std.specs.Prelude.{AllPairs, IsPermutation}
 use Rattle.std.specs.List.{range_with_len}
 use Rattle.mr_base.specs.Accesses.{some_race}
 use Rattle.mr_base.specs.declared.thread.Event.TheVariants.{Quiet}
@@ -87,7 +88,8 @@ IsPredicted run pairs = IsPredictedBelow run (length run) pairs
 
 -- the steps are of two threads, and some of their accesses race
 abbrev pub AreRivals : List Footprint → ℕ → ℕ → Type 0
-AreRivals run i j = (thread_at run i ≢ thread_at run j) × IsTrue (some_race (step_at run i).accesses (step_at run j).accesses)
+AreRivals run i j =
+    (thread_at run i ≢ thread_at run j) × IsTrue (some_race (step_at run i).accesses (step_at run j).accesses)
 
 -- no step below i is a rival of j
 abbrev pub HasNoRivalBelow : List Footprint → ℕ → ℕ → Type 0

@@ -1,4 +1,5 @@
--- What a witness for a race is: a rearranged part of a run that brings the machine to the two racing steps side by side.
+-- What a witness for a race is: a rearranged part of a run that brings the machine to the two racing steps side by
+-- side.
 use Rattle.std.specs.Prelude.{◌≡◌, ℕ, Bool, ◌==◌, List, [], ◌∷◌, ◌++◌, map, slice_index_or}
 use Rattle.std.specs.List.{filter}
 use Rattle.mr_ast.specs.declared.program.Program.{Program}

@@ -20,7 +20,7 @@ use Rattle.mr_eval.specs.World.{World}
 use Rattle.mr_plan.proofs.LegalLaws.{picks_length}
 use Rattle.mr_frame.specs.Beginning.{CanAllocate, HasTypes, IsAllocated, allocated_each, stored_each}
 use Rattle.mr_frame.specs.Calling.{HasLocals, written_types}
-use Rattle.mr_frame.specs.Calls.{all_there, behind_first, kept_types, local_type, storage_asks}
+use Rattle.mr_frame.specs.Calls.{all_there, kept_types, local_type, storage_asks}
 use Rattle.mr_frame.specs.Effects.{stored_in}
 use Rattle.mr_frame.specs.Sites.{kept_locals}
 use Rattle.mr_frame.proofs.ActedLaws.{on_itself, on_same}
@@ -57,12 +57,6 @@ names_within fn names h = all_within (length fn.locals) names (λ i x e. all_at 
 
 pub kept_known : (fn : Function) → HasLocals fn → (types : List Ty) × (kept_types fn ≡ Some types)
 kept_known fn has = let there = types_there fn (kept_locals fn) (has.ret, names_within fn fn.args has.args) in (there.0, there.1)
-
--- those of the arguments are behind the first one
-pub args_behind : (fn : Function) (all args : List Ty) → kept_types fn ≡ Some all → written_types fn fn.args ≡ Some args → args ≡ behind_first all
-args_behind fn all args e k =
-    let f = first_there (local_type fn fn.ret) (map (local_type fn) fn.args) all e in
-    same_Some args f.rest (sym k ∙ f.behind) ∙ sym (ap (λ (ts : List Ty). behind_first ts) f.is)
 
 -- ---- storage
 

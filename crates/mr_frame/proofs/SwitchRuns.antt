@@ -1,25 +1,19 @@
 -- Where a switch goes on, by what its value is.
-use Rattle.std.proofs.Common.{◌≡◌, ℕ, refl, ap, ◌∙◌, Option, None, Some, List}
+use Rattle.std.proofs.Common.{◌≡◌, ℕ, refl, ◌∙◌, Option, None, Some, List}
 use Rattle.mr_ast.specs.declared.expr.Value.{Value}
 use Rattle.mr_ast.specs.declared.program.BlockName.{BlockName}
 use Rattle.mr_ast.specs.declared.types.Num.{Num}
-use Rattle.mr_ast.specs.declared.types.Ty.{Ty, out-Ty}
-use Rattle.mr_ast.specs.declared.types.Ty.TheOpen.{Ty-F}
-use Rattle.mr_ast.specs.declared.types.Variant.{Variant}
 use Rattle.mr_mem.specs.Memory.{Memory}
-use Rattle.mr_value.specs.declared.val.Val.{Val, out-Val}
-use Rattle.mr_value.specs.declared.val.Val.TheOpen.{Val-F}
+use Rattle.mr_value.specs.declared.val.Val.{Val}
 use Rattle.mr_script.specs.Script.{Broken, Done, Outcome, Refused, Went, ◌>>=◌, on, run}
 use Rattle.mr_script.proofs.Runs.{run_bind}
 use Rattle.mr_wf.specs.Types.{type_of_value}
-use Rattle.mr_eval.specs.declared.scalars.Scalar.{Scalar}
 use Rattle.mr_eval.specs.Evaluated.{valued}
 use Rattle.mr_eval.specs.Evaluation.{Surround, value_script}
 use Rattle.mr_eval.specs.Operators.{or_ill_formed}
 use Rattle.mr_eval.specs.Reads.{Seen, reading}
-use Rattle.mr_eval.specs.Scalars.{number_of, scalar_as, scalar_layer}
 use Rattle.mr_frame.specs.Effects.{chosen}
-use Rattle.mr_frame.specs.Switches.{first_case, number_as, number_layer}
+use Rattle.mr_frame.specs.Switches.{first_case, number_as}
 
 module _ (m : Memory) (s : Surround) (value : Value) (cases : List (Num × BlockName)) (other : BlockName) (seen : Seen) where
   -- the block for a number, where there is one
@@ -40,18 +34,5 @@ module _ (m : Memory) (s : Surround) (value : Value) (cases : List (Num × Block
   pub chosen_is : chosen m s value cases other seen ≡ on (valued m s value seen) (λ x last. at_number (number_as (type_of_value s.locals value) x) last)
   unfolding chosen valued
   chosen_is = run_bind (reading m) (value_script s value) _ seen ∙ each_number (run (reading m) (value_script s value) seen)
-
--- the number of an integer or a bool
-pub number_known : (t : Ty) (x : Val) (sc : Scalar) → scalar_as t x ≡ Some sc → number_as (Some t) x ≡ Some (number_of sc)
-number_known t x sc e = by_layers (out-Ty t) (out-Val x) e
-  where
-    numbered : Option Scalar → Option Num
-    numbered None = None
-    numbered (Some k) = Some (number_of k)
-
-    by_layers : (l : Ty-F Ty Variant) (v : Val-F Val) → scalar_layer l v ≡ Some sc → number_layer l v ≡ Some (number_of sc)
-    by_layers (Ty-F.Int i) (Val-F.Int n) h = ap numbered h
-    by_layers Ty-F.Bool (Val-F.Bool b) h = ap numbered h
-    by_layers _ _ h = absurd (cc)
 
 pub ruleset switch_laws = (chosen_is)

@@ -16,15 +16,17 @@ use Rattle.mr_frame.specs.Frames.{Look, Stack}
 use Rattle.mr_frame.specs.Sites.{AtTerminator}
 use Rattle.mr_frame.specs.Standing.{IsDue, IsUncounted}
 
--- The picks are lawful for what the next step asks, and the thread has made fewer than 2^63 allocations, none of them with its count or a
--- greater one.
+-- The picks are lawful for what the next step asks, and the thread has made fewer than 2^63 allocations, none of them
+-- with its count or a greater one.
 pub record AreLawful (look : Look) (s : Stack) (picks : List ℕ) (scene : Scene) : Type 0 where
-  pub lawful : picks_fault [] (ranges_of scene.memory) scene.thread scene.count (asked scene.memory look scene.thread s (seen scene.notes)) picks ≡ None
+  pub lawful : picks_fault [] (ranges_of scene.memory) scene.thread scene.count
+      (asked scene.memory look scene.thread s (seen scene.notes)) picks ≡ None
   pub uncounted : IsUncounted scene.memory scene.thread scene.count
   pub few : scene.count < 2 ^ 63
 
 -- a call is due
-pub record IsDueCall (look : KeptLook) (s : KeptStack) (callee : Value) (args : List Value) (place : Place) : Type 0 where
+pub record IsDueCall (look : KeptLook) (s : KeptStack) (callee : Value) (args : List Value)
+    (place : Place) : Type 0 where
   pub next : Option BlockName
   pub unwind : Option BlockName
   pub due : IsDue look s (AtTerminator (term.Call callee args place next unwind))

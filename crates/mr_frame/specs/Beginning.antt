@@ -21,7 +21,8 @@ use Rattle.mr_frame.specs.Frames.{Frame, Stack}
 use Rattle.mr_frame.specs.Kept.{IsReady}
 use Rattle.mr_frame.specs.Standing.{IsUncounted}
 
--- The picks are lawful for these types, and the thread has no allocation with its count or a greater one, which is below 2^63.
+-- The picks are lawful for these types, and the thread has no allocation with its count or a greater one, which is
+-- below 2^63.
 pub record CanAllocate (types : List Ty) (picks : List ℕ) (w : World) : Type 0 where
   pub lawful : picks_fault [] (ranges_of w.0) w.1.thread w.1.count (storage_asks types) picks ≡ None
   pub uncounted : IsUncounted w.0 w.1.thread w.1.count

@@ -1,5 +1,6 @@
 -- What a call comes to before it needs a pick, and what the code of calls answers.
-use Rattle.std.specs.Prelude.{◌≡◌, ℕ, ◌<◌, All, if◌then◌else◌, List, length, map, Option, None, Some, slice_get, Result, Ok, Err}
+use Rattle.std.specs.Prelude.{◌≡◌, ℕ, ◌<◌, All, if◌then◌else◌, List, length, map, Option, None, Some, slice_get, Result}
+use Rattle.std.specs.Prelude.{Ok, Err}
 use Rattle.mr_ast.specs.declared.expr.Place.{Place}
 use Rattle.mr_ast.specs.declared.expr.Value.{Value}
 use Rattle.mr_ast.specs.declared.program.Function.{Function}
@@ -25,7 +26,8 @@ use Rattle.mr_frame.specs.Effects.{pointed}
 use Rattle.mr_frame.specs.Frames.{Look}
 use Rattle.mr_frame.specs.Inside.{InProgram, TypeAt, ValueAt, is_address}
 
--- a call that is prepared: the place for its result, the function with the types of what it keeps, and the values of its arguments
+-- a call that is prepared: the place for its result, the function with the types of what it keeps, and the values of
+-- its arguments
 pub record Prepared : Type 0 where
   pub place : Pointer
   pub number : ℕ
@@ -43,17 +45,22 @@ called_with place args number fn (Some types) seen =
 
 abbrev pub called_function : Option (List Ty) → Pointer → List Val → ℕ → Option Function → Seen → Outcome Prepared Seen
 called_function given place args number None seen = Broken
-called_function given place args number (Some fn) seen = called_with place args number fn (both_there given (kept_types fn)) seen
+called_function given place args number (Some fn) seen =
+    called_with place args number fn (both_there given (kept_types fn)) seen
 
 -- 117 where the pointer stands for no function
 abbrev pub called : Look → Option (List Ty) → Pointer → List Val → Option ℕ → Seen → Outcome Prepared Seen
 called look given place args None seen = Refused NotAFunction
-called look given place args (Some number) seen = called_function given place args number (slice_get look.program.functions number) seen
+called look given place args (Some number) seen =
+    called_function given place args number (slice_get look.program.functions number) seen
 
 -- the place, the callee and the arguments, and then 117, 118
 unfoldable pub prepared : Memory → Look → Surround → Value → List Value → Place → Seen → Outcome Prepared Seen
 prepared m look s callee args place seen =
-    on (placed m s place seen) (λ p s1. on (pointed m s callee s1) (λ c s2. on (each_valued m s args s2) (λ vs s3. called look (given_types s place args) p vs (callee_of look.functions c) s3)))
+    on (placed m s place seen)
+    (λ p s1. on (pointed m s callee s1)
+    (λ c s2. on (each_valued m s args s2)
+    (λ vs s3. called look (given_types s place args) p vs (callee_of look.functions c) s3)))
 
 -- ---- answers
 
@@ -67,7 +74,14 @@ pub record IsPrepared (p : Program) (kept : KeptPrepared) (o : Outcome Prepared 
   pub types : List Ty
   pub there : slice_get p.functions kept.function.0 ≡ Some function
   pub typed : kept_types function ≡ Some types
-  pub is : o ≡ Went (record { place = kept.place; number = kept.function.0; function = function; types = types; args = kept.args.items }) s
+  pub is : o ≡ Went
+      (record {
+        place = kept.place;
+        number = kept.function.0;
+        function = function;
+        types = types;
+        args = kept.args.items;
+      }) s
 
 abbrev pub Prepares : Program → Result KeptPrepared Fault → Outcome Prepared Seen → Seen → Type 0
 Prepares p (Ok kept) o s = IsPrepared p kept o s

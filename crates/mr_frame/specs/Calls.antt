@@ -1,5 +1,6 @@
 -- How functions are called and how they end, as scripts. (MiniRust, lang: calls and returns, unwinding.)
-use Rattle.std.specs.Prelude.{ℕ, Bool, true, false, ◌==◌, ◌&&◌, if◌then◌else◌, List, [], ◌∷◌, length, map, replicate, slice_set, slice_get, suc, Option, None, Some}
+use Rattle.std.specs.Prelude.{ℕ, Bool, true, false, ◌==◌, ◌&&◌, if◌then◌else◌, List, [], ◌∷◌, length, map, replicate}
+use Rattle.std.specs.Prelude.{slice_set, slice_get, suc, Option, None, Some}
 use Rattle.std.specs.Option.{option_map}
 use Rattle.mr_ast.specs.declared.expr.Place.{Place}
 use Rattle.mr_ast.specs.declared.expr.Value.{Value}
@@ -14,7 +15,8 @@ use Rattle.mr_ast.specs.declared.types.Ty.{Ty}
 use Rattle.mr_base.specs.declared.byte.AllocId.{AllocId}
 use Rattle.mr_base.specs.declared.byte.Kind.TheVariants.{Stack as OnStack}
 use Rattle.mr_base.specs.declared.byte.Pointer.{Pointer}
-use Rattle.mr_base.specs.declared.reason.Reason.TheVariants.{MainReturned, NoReturnBlock, NoUnwindBlock, NotAFunction, SignatureMismatch, UnwoundThread}
+use Rattle.mr_base.specs.declared.reason.Reason.TheVariants.{MainReturned, NoReturnBlock, NoUnwindBlock, NotAFunction}
+use Rattle.mr_base.specs.declared.reason.Reason.TheVariants.{SignatureMismatch, UnwoundThread}
 use Rattle.mr_layout.specs.Sizes.{align_of, size_of}
 use Rattle.mr_sched.specs.declared.schedule.Ask.{Ask}
 use Rattle.mr_sched.specs.declared.schedule.Ask.TheVariants.{Address}
@@ -135,7 +137,8 @@ enter_with number fn types vs picks = do
 
 abbrev pub enter_at : ℕ → Function → Option (List Ty) → List Val → List ℕ → MemoryScript Frame
 enter_at number fn None vs picks = IllFormed
-enter_at number fn (Some types) vs picks = if begins_regular fn.blocks then enter_with number fn types vs picks else IllFormed
+enter_at number fn (Some types) vs picks =
+    if begins_regular fn.blocks then enter_with number fn types vs picks else IllFormed
 
 -- THE START OF A FUNCTION: its frame, with the values of its arguments
 abbrev pub enter : ℕ → Option Function → List Val → List ℕ → MemoryScript Frame
@@ -149,7 +152,8 @@ abbrev pub calling : Stack → Site → Pointer → Frame → Stack
 calling s site place new = with_top s (record site.frame { call = Some place } ∷ site.below) new
 
 -- the plan of a call of a function with these types: 118 where those that are given differ
-abbrev pub call_plan : Stack → Site → Pointer → ℕ → Function → List Val → Option (List Ty × List Ty) → ReadScript (Plan (MemoryScript Onward))
+abbrev pub call_plan : Stack → Site → Pointer → ℕ → Function → List Val → Option (List Ty × List Ty)
+    → ReadScript (Plan (MemoryScript Onward))
 call_plan s site place number fn vs None = IllFormed
 call_plan s site place number fn vs (Some types) =
     if same_types types.0 types.1
@@ -160,13 +164,17 @@ call_plan s site place number fn vs (Some types) =
     })
     else Undefined SignatureMismatch
 
-abbrev pub call_function : Look → Stack → Site → Option (List Ty) → Pointer → List Val → ℕ → Option Function → ReadScript (Plan (MemoryScript Onward))
+abbrev pub call_function : Look → Stack → Site → Option (List Ty) → Pointer → List Val → ℕ → Option Function
+    → ReadScript (Plan (MemoryScript Onward))
 call_function look s site given place vs number None = IllFormed
-call_function look s site given place vs number (Some fn) = call_plan s site place number fn vs (both_there given (kept_types fn))
+call_function look s site given place vs number (Some fn) =
+    call_plan s site place number fn vs (both_there given (kept_types fn))
 
-abbrev pub call_number : Look → Stack → Site → Option (List Ty) → Pointer → List Val → Option ℕ → ReadScript (Plan (MemoryScript Onward))
+abbrev pub call_number : Look → Stack → Site → Option (List Ty) → Pointer → List Val → Option ℕ
+    → ReadScript (Plan (MemoryScript Onward))
 call_number look s site given place vs None = Undefined NotAFunction
-call_number look s site given place vs (Some number) = call_function look s site given place vs number (slice_get look.program.functions number)
+call_number look s site given place vs (Some number) =
+    call_function look s site given place vs number (slice_get look.program.functions number)
 
 -- `call`: the place for the result, the callee, the arguments; then 117, 118; then the callee's frame
 abbrev pub call : Look → Stack → Site → Value → List Value → Place → ReadScript (Plan (MemoryScript Onward))
@@ -217,9 +225,11 @@ return_value fn f = do
   loading t p
 
 -- the caller goes on at a block with the result in the place that it kept
-abbrev pub give_result : Stack → Frame → List Frame → Option Ty → Val → Option BlockName → Option Pointer → MemoryScript Onward
+abbrev pub give_result : Stack → Frame → List Frame → Option Ty → Val → Option BlockName → Option Pointer
+    → MemoryScript Onward
 give_result s caller below t v None place = Undefined NoReturnBlock
-give_result s caller below (Some t) v (Some b) (Some place) = store t place v >>= λ _. Done (GoesOn (with_top s below (at_block caller b.0)))
+give_result s caller below (Some t) v (Some b) (Some place) =
+    store t place v >>= λ _. Done (GoesOn (with_top s below (at_block caller b.0)))
 give_result s caller below _ v (Some b) _ = IllFormed
 
 abbrev pub give_to : Stack → Frame → List Frame → Option Ty → Val → Option Targets → MemoryScript Onward
@@ -236,7 +246,8 @@ abbrev pub is_main : ℕ → List Frame → Bool
 is_main thread [] = thread == 0
 is_main thread (f ∷ below) = false
 
--- `return`: 120 in the bottom frame of thread 0; else the return local is loaded, the storage of the locals goes, and the caller has the result
+-- `return`: 120 in the bottom frame of thread 0; else the return local is loaded, the storage of the locals goes, and
+-- the caller has the result
 abbrev pub return_from : Look → ℕ → Stack → Site → MemoryScript Onward
 return_from look thread s site =
     if is_main thread site.below then Undefined MainReturned
@@ -250,7 +261,8 @@ return_from look thread s site =
 -- the storage of the locals goes, and the caller goes on at the block to which its call unwinds
 abbrev pub unwind_to : Stack → Site → Frame → List Frame → Option BlockName → MemoryScript Onward
 unwind_to s site caller below None = Undefined NoUnwindBlock
-unwind_to s site caller below (Some b) = free_each site.function.locals site.frame.locals >>= λ _. Done (GoesOn (with_top s below (at_block caller b.0)))
+unwind_to s site caller below (Some b) =
+    free_each site.function.locals site.frame.locals >>= λ _. Done (GoesOn (with_top s below (at_block caller b.0)))
 
 abbrev pub unwind_in : Stack → Site → Frame → List Frame → Option Targets → MemoryScript Onward
 unwind_in s site caller below None = IllFormed

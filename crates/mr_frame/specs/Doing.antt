@@ -28,7 +28,8 @@ use Rattle.mr_frame.specs.Operations.{Operands, store_result}
 
 -- what an intrinsic is given, without where it lies
 abbrev pub operands_of : DoCall → Operands
-operands_of c = record { result = c.result; result_type = c.result_type; args = c.args.items; arg_types = c.arg_types.items }
+operands_of c =
+    record { result = c.result; result_type = c.result_type; args = c.args.items; arg_types = c.arg_types.items }
 
 -- the operation of an intrinsic; none of another terminator
 abbrev pub operation_in : Term → Option Intrinsic
@@ -62,7 +63,8 @@ result_typed s (Some place) = some_typed (type_of_place s.locals place)
 
 unfoldable pub given_operands : Memory → Surround → List Value → Option Place → Seen → Outcome Operands Seen
 given_operands m s args place seen =
-    on (result_placed m s place seen) (λ p s1. on (each_valued m s args s1) (λ vs s2. with_types p vs (result_typed s place) (arg_types s args) s2))
+    on (result_placed m s place seen)
+    (λ p s1. on (each_valued m s args s1) (λ vs s2. with_types p vs (result_typed s place) (arg_types s args) s2))
 
 unfoldable pub result_stored : Option Pointer → Option Ty → Option Val → World → Outcome (Unit {0}) World
 result_stored p t v w = run memory_answer (store_result p t v) w

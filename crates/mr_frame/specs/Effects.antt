@@ -77,7 +77,9 @@ unstored (Some p) size align w = memory_answer (Free p OnStack size align) w
 
 -- the same, and new storage at an address
 unfoldable pub renewed : Slot → ℕ → World → Outcome Pointer World
-renewed slot addr w = on (unstored slot.storage slot.size slot.align w) (λ u v. memory_answer (Allocate OnStack slot.size slot.align addr) v)
+renewed slot addr w =
+    on (unstored slot.storage slot.size slot.align w)
+    (λ u v. memory_answer (Allocate OnStack slot.size slot.align addr) v)
 
 -- ---- statements
 
@@ -95,7 +97,8 @@ stored_at m (Some t) p v seen = shaped_store m t p v seen
 
 unfoldable pub assigned : Memory → Surround → Place → Value → Seen → Left
 assigned m s place value seen =
-    on (placed m s place seen) (λ p seen'. on (valued m s value seen') (λ v last. stored_at m (type_of_place s.locals place) p v last))
+    on (placed m s place seen)
+    (λ p seen'. on (valued m s value seen') (λ v last. stored_at m (type_of_place s.locals place) p v last))
 
 unfoldable pub mentioned : Memory → Surround → Place → Seen → Left
 mentioned m s place seen = on (placed m s place seen) (λ p last. Went m last)
@@ -119,14 +122,16 @@ deinited m s place seen = on (placed m s place seen) (λ p last. deinited_at m (
 -- the stores of tags
 abbrev pub tagged : Memory → Pointer → List Tag → Seen → Left
 tagged m p [] seen = Went m seen
-tagged m p (tag ∷ tags) seen = on (storing m false (behind p tag.at) (tag_bytes tag) 1 seen) (λ new last. tagged new p tags last)
+tagged m p (tag ∷ tags) seen =
+    on (storing m false (behind p tag.at) (tag_bytes tag) 1 seen) (λ new last. tagged new p tags last)
 
 abbrev pub tagged_at : Memory → Option (List Tag) → Pointer → Seen → Left
 tagged_at m None p seen = Broken
 tagged_at m (Some tags) p seen = tagged m p tags seen
 
 unfoldable pub discriminated : Memory → Surround → Place → Num → Seen → Left
-discriminated m s place number seen = on (placed m s place seen) (λ p last. tagged_at m (tags_in (type_of_place s.locals place) number) p last)
+discriminated m s place number seen =
+    on (placed m s place seen) (λ p last. tagged_at m (tags_in (type_of_place s.locals place) number) p last)
 
 -- a statement other than `live` and `dead`, which do more than change memory
 abbrev pub changed : Memory → Surround → Stmt → Seen → Left

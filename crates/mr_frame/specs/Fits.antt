@@ -17,8 +17,8 @@ use Rattle.mr_frame.specs.Calls.{local_type}
 use Rattle.mr_frame.specs.Frames.{Aborts, EndsThread, Exits, Frame, GoesOn, Look, Onward, Stack}
 use Rattle.mr_frame.specs.Sites.{keeps_storage}
 
--- The frame is one of a function of the program: it has a storage or none for each local, storage for those that are kept, and its block and
--- position exist.
+-- The frame is one of a function of the program: it has a storage or none for each local, storage for those that are
+-- kept, and its block and position exist.
 pub record FitsFrame (p : Program) (f : Frame) : Type 0 where
   pub function : Function
   pub is : slice_get p.functions f.function ≡ Some function
@@ -45,12 +45,14 @@ pub record IsCalling (p : Program) (result : Option Ty) (f : Frame) : Type 0 whe
 -- each frame below stands at a call of the function of the frame above it, which gives this result
 abbrev pub AreCalling : Program → Option Ty → List Frame → Type 0
 AreCalling p result [] = Unit {0}
-AreCalling p result (f ∷ below) = (c : IsCalling p result f) × AreCalling p (local_type c.fits.function c.fits.function.ret) below
+AreCalling p result (f ∷ below) =
+    (c : IsCalling p result f) × AreCalling p (local_type c.fits.function c.fits.function.ret) below
 
 -- a thread's frames: a top one that stands at no call, and those below it
 abbrev pub FitFrames : Program → List Frame → Type 0
 FitFrames p [] = ⊥
-FitFrames p (f ∷ below) = (top : FitsFrame p f) × (f.call ≡ None) × AreCalling p (local_type top.function top.function.ret) below
+FitFrames p (f ∷ below) =
+    (top : FitsFrame p f) × (f.call ≡ None) × AreCalling p (local_type top.function top.function.ret) below
 
 -- THE FRAMES OF A THREAD that hasn't ended
 abbrev pub FitsStack : Program → Stack → Type 0

@@ -5,8 +5,8 @@ use Rattle.mr_ast.specs.declared.program.Program.{Program}
 use Rattle.mr_base.specs.declared.byte.Pointer.{Pointer}
 use Rattle.mr_eval.specs.Evaluation.{Surround}
 
--- A call of a function at work: its function; the storage that each local has; the block and the position in it at which it goes on; and, while
--- it stands at a call, the place for the result.
+-- A call of a function at work: its function; the storage that each local has; the block and the position in it at
+-- which it goes on; and, while it stands at a call, the place for the result.
 pub record Frame : Type 0 where
   pub function : ℕ
   pub locals : List (Option Pointer)
@@ -50,4 +50,5 @@ at_block f b = record f { block = b; at = 0; call = None }
 
 -- where the expressions of a frame of a function are evaluated
 abbrev pub scene_in : Look → Function → Frame → Surround
-scene_in look fn f = record { locals = fn.locals; storage = f.locals; functions = look.functions; globals = look.globals }
+scene_in look fn f =
+    record { locals = fn.locals; storage = f.locals; functions = look.functions; globals = look.globals }

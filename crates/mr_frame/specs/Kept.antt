@@ -32,7 +32,8 @@ onward_of flow.Ended s = EndsThread (record s { frames = [] })
 onward_of flow.Exit s = Exits
 onward_of flow.Abort s = Aborts
 
--- The program is well-formed, there is a pointer for each of its functions and globals, and the layouts are those of its types.
+-- The program is well-formed, there is a pointer for each of its functions and globals, and the layouts are those of
+-- its types.
 pub record IsReady (l : KeptLook) : Type 0 where
   pub well : WellFormed l.program.now
   pub functions : length l.functions.now ≡ length l.program.now.functions

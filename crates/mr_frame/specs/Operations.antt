@@ -1,4 +1,5 @@
--- The steps that are intrinsics: what they are given, and how they end. The operation between is no frame's. (MiniRust, lang: intrinsics.)
+-- The steps that are intrinsics: what they are given, and how they end. The operation between is no frame's. (MiniRust,
+-- lang: intrinsics.)
 use Rattle.std.specs.Prelude.{List, map, Option, None, Some}
 use Rattle.mr_ast.specs.declared.expr.Place.{Place}
 use Rattle.mr_ast.specs.declared.expr.Value.{Value}
@@ -34,7 +35,8 @@ pub record DueDo : Type 0 where
   pub next : BlockName
 
 abbrev pub do_due : Site → Option Due → Option DueDo
-do_due site (Some (AtDo op args place next)) = Some (record { site = site; op = op; args = args; place = place; next = next })
+do_due site (Some (AtDo op args place next)) =
+    Some (record { site = site; op = op; args = args; place = place; next = next })
 do_due site _ = None
 
 abbrev pub do_at : Option Site → Option DueDo

@@ -1,5 +1,6 @@
 -- Where a thread stands, and what it does next.
-use Rattle.std.specs.Prelude.{Bool, ◌==◌, ◌&&◌, List, [], ◌∷◌, length, Option, None, Some, slice_get, is_some, if◌then◌else◌}
+use Rattle.std.specs.Prelude.{Bool, ◌==◌, ◌&&◌, List, [], ◌∷◌, length, Option, None, Some, slice_get, is_some}
+use Rattle.std.specs.Prelude.{if◌then◌else◌}
 use Rattle.std.specs.Option.{option_and_then}
 use Rattle.std.specs.List.{list_all}
 use Rattle.mr_ast.specs.declared.expr.Place.{Place}
@@ -23,7 +24,8 @@ pub record Site : Type 0 where
   pub frame : Frame
   pub below : List Frame
 
--- What is due: a statement; an intrinsic, with its arguments, the place for its result and the block behind it; or another terminator.
+-- What is due: a statement; an intrinsic, with its arguments, the place for its result and the block behind it; or
+-- another terminator.
 pub data Due : Type 0 where
   AtStatement : (stmt : Stmt) → Due
   AtDo : (op : Intrinsic) (args : List Value) (place : Option Place) (next : BlockName) → Due

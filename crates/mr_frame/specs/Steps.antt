@@ -1,4 +1,5 @@
--- The next step of a frame, other than an intrinsic: what it asks for, and what it does. (MiniRust, lang: statements and terminators.)
+-- The next step of a frame, other than an intrinsic: what it asks for, and what it does. (MiniRust, lang: statements
+-- and terminators.)
 use Rattle.std.specs.Prelude.{ℕ, List, [], ◌∷◌, Option, None, Some, slice_get}
 use Rattle.mr_ast.specs.declared.program.Local.{Local}
 use Rattle.mr_ast.specs.declared.program.Stmt.{Stmt}
@@ -17,7 +18,8 @@ use Rattle.mr_eval.specs.Reads.{ReadScript}
 use Rattle.mr_plan.specs.Machine.{Plan, CreatesNothing}
 use Rattle.mr_frame.specs.Calls.{call, goes_to, resume, return_from, stop, unwind}
 use Rattle.mr_frame.specs.Changes.{change, free_storage}
-use Rattle.mr_frame.specs.Frames.{Frame, Look, Stack, Onward, GoesOn, Exits, Aborts, behind_stmt, scene_in, with_storage, with_top}
+use Rattle.mr_frame.specs.Frames.{Frame, Look, Stack, Onward, GoesOn, Exits, Aborts, behind_stmt, scene_in}
+use Rattle.mr_frame.specs.Frames.{with_storage, with_top}
 use Rattle.mr_frame.specs.Sites.{Due, AtStatement, AtDo, AtTerminator, Site, due_of, site_of}
 use Rattle.mr_frame.specs.Switches.{switched}
 
@@ -54,20 +56,26 @@ live s site x _ _ = IllFormed
 
 -- `dead`: the storage of a local goes, where it has some
 abbrev pub dead : Stack → Site → ℕ → Option Local → Option (Option Pointer) → MemoryScript Onward
-dead s site x (Some l) (Some storage) = free_storage l.ty storage >>= λ _. Done (next s site (with_storage site.frame x None))
+dead s site x (Some l) (Some storage) =
+    free_storage l.ty storage >>= λ _. Done (next s site (with_storage site.frame x None))
 dead s site x _ _ = IllFormed
 
 abbrev pub statement : Look → Stack → Site → Stmt → FramePlan
-statement look s site (stmt.Live x) = live s site x.0 (slice_get site.function.locals x.0) (slice_get site.frame.locals x.0)
-statement look s site (stmt.Dead x) = plain (dead s site x.0 (slice_get site.function.locals x.0) (slice_get site.frame.locals x.0))
-statement look s site changes = plain (change (scene_in look site.function site.frame) changes >>= λ _. Done (next s site site.frame))
+statement look s site (stmt.Live x) =
+    live s site x.0 (slice_get site.function.locals x.0) (slice_get site.frame.locals x.0)
+statement look s site (stmt.Dead x) =
+    plain (dead s site x.0 (slice_get site.function.locals x.0) (slice_get site.frame.locals x.0))
+statement look s site changes =
+    plain (change (scene_in look site.function site.frame) changes >>= λ _. Done (next s site site.frame))
 
 -- ---- terminators
 
 abbrev pub terminator : Look → ℕ → Stack → Site → Term → FramePlan
 terminator look thread s site (term.Goto b) = plain (Done (goes_to s site b.0))
 terminator look thread s site (term.Switch value cases other) =
-    plain (reading_part (switched (scene_in look site.function site.frame) value cases other) >>= λ b. Done (goes_to s site b))
+    plain
+    (reading_part (switched (scene_in look site.function site.frame) value cases other)
+    >>= λ b. Done (goes_to s site b))
 terminator look thread s site term.Unreachable = plain (Undefined Unreachable)
 terminator look thread s site (term.Call callee args place next unwind) = call look s site callee args place
 terminator look thread s site term.Return = plain (return_from look thread s site)

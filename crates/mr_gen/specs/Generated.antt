@@ -1,6 +1,7 @@
 -- The program of a number: some threads add to one counter, each time under one lock, and the main function starts
 -- them, waits for them and prints the counter. Above each block stands also its own line of the program's text.
-use Rattle.std.specs.Prelude.{ℕ, ◌+◌, ◌*◌, ◌/◌, ◌%◌, Bool, true, false, ◌==◌, List, [], ◌∷◌, ◌++◌, map, codes, decimal, None, Some}
+use Rattle.std.specs.Prelude.{ℕ, ◌+◌, ◌*◌, ◌/◌, ◌%◌, Bool, true, false, ◌==◌, List, [], ◌∷◌, ◌++◌, map, codes, decimal}
+use Rattle.std.specs.Prelude.{None, Some}
 use Rattle.std.specs.List.{range_with_len}
 use Rattle.mr_ast.specs.declared.types.IntType.TheVariants.{U32, U64}
 use Rattle.mr_ast.specs.declared.types.Num.{Num}

@@ -1,6 +1,7 @@
 -- Reading what words write in a form, computed from left to right. Each part answers what it read and the words
 -- behind it, or where it stops.
-use Rattle.std.specs.Prelude.{ℕ, zero, suc, ◌==◌, ◌||◌, Bool, false, if◌then◌else◌, List, [], ◌∷◌, length, bytes_eq, Option, None, Some, Result, Ok, Err}
+use Rattle.std.specs.Prelude.{ℕ, zero, suc, ◌==◌, ◌||◌, Bool, false, if◌then◌else◌, List, [], ◌∷◌, length, bytes_eq}
+use Rattle.std.specs.Prelude.{Option, None, Some, Result, Ok, Err}
 use Rattle.mr_ast.specs.Scope.{Scope}
 use Rattle.mr_words.specs.declared.fault.Stop.{Stop}
 use Rattle.mr_ast.specs.Writing.{Kind, Meaning, Writing}

@@ -1,10 +1,13 @@
--- Integers as bits in two's complement: the number that the bits of a type mean, and the bits that a number has in a type.
-use Rattle.std.specs.Prelude.{ℕ, ◌-◌, ◌^◌, Bool, true, false, ◌&&◌, if◌then◌else◌, nat_lt, ℤ, pos, ◌-ℤ◌, neg_ℤ, int_le, unsigned_abs}
+-- Integers as bits in two's complement: the number that the bits of a type mean, and the bits that a number has in a
+-- type.
+use Rattle.std.specs.Prelude.{ℕ, ◌-◌, ◌^◌, Bool, true, false, ◌&&◌, if◌then◌else◌, nat_lt, ℤ, pos, ◌-ℤ◌, neg_ℤ, int_le}
+use Rattle.std.specs.Prelude.{unsigned_abs}
 use Rattle.std.specs.Int.{int_rem_euclid}
 use Rattle.mr_ast.specs.declared.types.IntType.{IntType}
 use Rattle.mr_ast.specs.Integers.{bits_of, is_signed}
 
--- the number that a signed or unsigned type of this width means by the bits: in a signed type the highest bit counts as its negative
+-- the number that a signed or unsigned type of this width means by the bits: in a signed type the highest bit counts as
+-- its negative
 abbrev pub number_at : Bool → ℕ → ℕ → ℤ
 number_at false width a = pos a
 number_at true width a = if nat_lt a (2 ^ (width - 1)) then pos a else pos a -ℤ pos (2 ^ width)

@@ -1,5 +1,6 @@
 -- The shifts: a number times a power of two, or divided by one and rounded down.
-use Rattle.std.specs.Prelude.{ℕ, ◌^◌, Bool, ◌&&◌, if◌then◌else◌, pos, ◌*ℤ◌, int_lt, int_le, unsigned_abs, Result, Ok, Err}
+use Rattle.std.specs.Prelude.{ℕ, ◌^◌, Bool, ◌&&◌, if◌then◌else◌, pos, ◌*ℤ◌, int_lt, int_le, unsigned_abs, Result, Ok}
+use Rattle.std.specs.Prelude.{Err}
 use Rattle.std.specs.Int.{int_div_euclid, int_rem_euclid}
 use Rattle.mr_base.specs.declared.reason.Reason.{Reason}
 use Rattle.mr_base.specs.declared.reason.Reason.TheVariants.{ShiftAmount}
@@ -9,7 +10,8 @@ use Rattle.mr_intops.specs.declared.shifts.ShiftOp.{ShiftOp}
 use Rattle.mr_intops.specs.declared.shifts.ShiftOp.TheVariants.{Shl, Shr, ShlUnchecked, ShrUnchecked}
 use Rattle.mr_intops.specs.Numbers.{value_of, bits_for}
 
--- by how many bits a number of type t is shifted: the number that the bits b of the other type mean, modulo the width of t, from 0
+-- by how many bits a number of type t is shifted: the number that the bits b of the other type mean, modulo the width
+-- of t, from 0
 abbrev pub amount_of : IntType → IntType → ℕ → ℕ
 amount_of t by b = unsigned_abs (int_rem_euclid (value_of by b) (pos (bits_of t)))
 

@@ -271,12 +271,6 @@ atomic_store_takes args (a ∷ b ∷ []) place fit =
     }
 atomic_store_takes args (a ∷ b ∷ d ∷ types) place fit = absurd (let e = fit.fitting in cc)
 
-pub atomic_store_gives : (args : List Val) (types : List Ty) (place : Option Ty) → Fits intrinsic.AtomicStore args types place → place ≡ None
-atomic_store_gives args [] place fit = absurd (let e = fit.fitting in cc)
-atomic_store_gives args (a ∷ []) place fit = absurd (let e = fit.fitting in cc)
-atomic_store_gives args (a ∷ b ∷ []) place fit = no_result place (and_true (is_atomic b) (gives_nothing place) (and_true (is_raw a) (is_atomic b && gives_nothing place) fit.fitting).1).1
-atomic_store_gives args (a ∷ b ∷ d ∷ types) place fit = absurd (let e = fit.fitting in cc)
-
 pub record TakesLoad (args : List Val) (place : Option Ty) : Type 0 where
   pub pointer : Pointer
   pub int : IntType

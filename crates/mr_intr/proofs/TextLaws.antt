@@ -107,14 +107,6 @@ scalar_here (a ∷ types) (suc i) t all lt is = scalar_here types i t (and_true 
 
 -- ---- a print
 
-pub kinds_behind : (types : List Ty) → list_all is_scalar_number types ≡ true → list_all is_scalar_number (drop 1 types) ≡ true
-kinds_behind [] all = refl
-kinds_behind (t ∷ types) all = (and_true (is_scalar_number t) (list_all is_scalar_number types) all).1
-
-pub shapes_behind : (types : List Ty) (first : Val) (rest : List Val) → HaveShapes types (first ∷ rest) → HaveShapes (drop 1 types) rest
-shapes_behind [] first rest shapes = absurd shapes
-shapes_behind (t ∷ types) first rest shapes = shapes.1
-
 pub texts_first : (types : List Ty) (t : Ty) (first : Val) (rest : List Val) → HaveShapes types (first ∷ rest) → t ≡ get_or types 0 t → spaced (texts_in types (first ∷ rest)) ≡ text_in t first ++ spaced_behind (texts_in (drop 1 types) rest)
 texts_first [] t first rest shapes is = absurd shapes
 texts_first (a ∷ types) t first rest shapes is = ap (λ (u : Ty). text_in u first ++ spaced_behind (texts_in types rest)) (sym is)

@@ -1,5 +1,6 @@
 -- What the code of an intrinsic needs, and what it answers.
-use Rattle.std.specs.Prelude.{◌≡◌, ℕ, ◌<◌, ◌≤◌, ◌^◌, ◌++◌, true, false, List, [], ◌∷◌, Option, None, Some, Result, Ok, Err}
+use Rattle.std.specs.Prelude.{◌≡◌, ℕ, ◌<◌, ◌≤◌, ◌^◌, ◌++◌, true, false, List, [], ◌∷◌, Option, None, Some, Result, Ok}
+use Rattle.std.specs.Prelude.{Err}
 use Rattle.std.specs.FinMap as fin
 use Rattle.mr_ast.specs.declared.program.Intrinsic.{Intrinsic}
 use Rattle.mr_ast.specs.declared.program.Intrinsic.TheVariants as intrinsic
@@ -51,7 +52,8 @@ begun s x = (shared_in s x, notes_in s)
 -- ---- what an intrinsic comes to
 
 -- WHAT AN INTRINSIC COMES TO with these arguments, the types of them and of the place for its result, and these picks
-unfoldable pub operated : Intrinsic → List Val → List Ty → Option Ty → List ℕ → Shared × Notes → Outcome (Option Val) (Shared × Notes)
+unfoldable pub operated : Intrinsic → List Val → List Ty → Option Ty → List ℕ → Shared × Notes
+    → Outcome (Option Val) (Shared × Notes)
 operated op args types place picks w = run answer (operation op args types place >>= λ plan. plan.go picks) w
 
 -- ---- what the code needs
@@ -80,7 +82,9 @@ IsUncounted m thread count = (id : AllocId) → id.thread ≡ thread → count �
 -- The picks break no rule.
 abbrev pub AreLawful : Intrinsic → List Val → List Ty → Option Ty → List ℕ → Scene → Tables → Type 0
 AreLawful op args types place picks s x =
-    needs_fault (shared_in s x) s.thread s.count (needs_of (run answer (operation op args types place) (begun s x))) picks ≡ None
+    needs_fault
+    (shared_in s x) s.thread s.count (needs_of (run answer (operation op args types place) (begun s x))) picks
+    ≡ None
 
 -- The thread has made fewer than 2^63 allocations, none of them with its count or a greater one.
 pub record CanCount (s : Scene) : Type 0 where
@@ -99,8 +103,10 @@ abbrev pub Prints : Intrinsic → List (List ℕ) → List ℕ → List ℕ → 
 Prints intrinsic.Print printed old new = (text : List ℕ) × (printed ≡ text ∷ []) × (new ≡ old ++ text)
 Prints _ printed old new = (printed ≡ []) × (new ≡ old)
 
--- The run goes on with what the code gave and left: its notes tell what was done to memory and to a lock or a thread, whom it woke, and what it printed.
-pub record IsDone (op : Intrinsic) (e : Effect) (o : Outcome (Option Val) (Shared × Notes)) (s : Scene) (x : Tables) (old new : List ℕ) : Type 0 where
+-- The run goes on with what the code gave and left: its notes tell what was done to memory and to a lock or a thread,
+-- whom it woke, and what it printed.
+pub record IsDone (op : Intrinsic) (e : Effect) (o : Outcome (Option Val) (Shared × Notes)) (s : Scene) (x : Tables)
+    (old new : List ℕ) : Type 0 where
   pub notes : Notes
   pub went : o ≡ Went e.value (shared_in s x, notes)
   pub tally : notes.tally ≡ tally_of s
@@ -109,8 +115,10 @@ pub record IsDone (op : Intrinsic) (e : Effect) (o : Outcome (Option Val) (Share
   pub woken : notes.woken ≡ listed e.woken
   pub printed : Prints op notes.printed old new
 
--- What the code returned and left is what the run comes to, unless memory ran out. A refusal appends nothing to the output.
-abbrev pub Does : Intrinsic → Result Effect Fault → Outcome (Option Val) (Shared × Notes) → Scene → Tables → List ℕ → List ℕ → Type 0
+-- What the code returned and left is what the run comes to, unless memory ran out. A refusal appends nothing to the
+-- output.
+abbrev pub Does : Intrinsic → Result Effect Fault → Outcome (Option Val) (Shared × Notes) → Scene → Tables → List ℕ
+    → List ℕ → Type 0
 Does op (Ok e) o s x old new = IsDone op e o s x old new
 Does op (Err (fault.Undefined r)) o s x old new = (o ≡ Refused r) × (new ≡ old)
 Does op (Err fault.Memory) o s x old new = Unit {0}
@@ -121,7 +129,8 @@ FitsPlace None v = v ≡ None
 FitsPlace (Some t) v = (x : Val) × (v ≡ Some x) × (has_shape t x ≡ true)
 
 -- what code does that changes memory alone, whatever the tables and the output are
-abbrev pub ChangesMemory : Intrinsic → Result Effect Fault → List Val → List Ty → Option Ty → List ℕ → Scene → Scene → Type 0
+abbrev pub ChangesMemory : Intrinsic → Result Effect Fault → List Val → List Ty → Option Ty → List ℕ → Scene → Scene
+    → Type 0
 ChangesMemory op result args types place picks old new =
     (x : Tables) (out : List ℕ) → Does op result (operated op args types place picks (begun old x)) new x out out
 

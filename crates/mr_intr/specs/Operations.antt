@@ -1,6 +1,7 @@
--- What each intrinsic does with its arguments, as a script of a step; the start of a thread and the look at a payload stand with the step of a
--- thread. (MiniRust, lang: intrinsics.)
-use Rattle.std.specs.Prelude.{ℕ, ◌-◌, ◌^◌, Bool, true, false, if◌then◌else◌, ◌==◌, nat_lt, List, [], ◌∷◌, Option, None, Some, count_ones, bit_and, bit_or, bit_xor, ◌+ℤ◌, ◌-ℤ◌}
+-- What each intrinsic does with its arguments, as a script of a step; the start of a thread and the look at a payload
+-- stand with the step of a thread. (MiniRust, lang: intrinsics.)
+use Rattle.std.specs.Prelude.{ℕ, ◌-◌, ◌^◌, Bool, true, false, if◌then◌else◌, ◌==◌, nat_lt, List, [], ◌∷◌, Option, None}
+use Rattle.std.specs.Prelude.{Some, count_ones, bit_and, bit_or, bit_xor, ◌+ℤ◌, ◌-ℤ◌}
 use Rattle.mr_ast.specs.declared.program.Intrinsic.{Intrinsic}
 use Rattle.mr_ast.specs.declared.program.Intrinsic.TheVariants as intrinsic
 use Rattle.mr_ast.specs.declared.types.IntType.{IntType}
@@ -91,7 +92,8 @@ assume v = instant (found (truth_in (out-Val v)) >>= assuming)
 
 -- `print`: one text
 abbrev pub print : List Ty → List Val → Operation
-print types args = instant (memory_part (reading_part (texts_of types args)) >>= λ texts. Asks (Print (spaced texts)) (λ _. Done None))
+print types args =
+    instant (memory_part (reading_part (texts_of types args)) >>= λ texts. Asks (Print (spaced texts)) (λ _. Done None))
 
 -- ---- heap
 
@@ -104,7 +106,8 @@ abbrev pub allocating : ℕ → ℕ → Operation
 allocating size align =
     if nat_lt (2 ^ 63 - 1) size then Undefined SizeTooLarge
     else (if is_power_of_two align
-    then Done (with_pick (Address size align) (λ a. Asks (OfMemory (Allocate Heap size align a)) (λ p. Done (Some (val.Ptr p)))))
+    then Done
+    (with_pick (Address size align) (λ a. Asks (OfMemory (Allocate Heap size align a)) (λ p. Done (Some (val.Ptr p)))))
     else Undefined BadAlign)
 
 abbrev pub allocate : Val → Val → Operation
@@ -129,7 +132,8 @@ join thread = instant (number thread >>= λ u. Asks (Await u) (λ goes. Done Non
 
 -- `create_lock`
 abbrev pub create_lock : Operation
-create_lock = Done (record { creates = CreatesLock; asks = []; go = λ picks. Asks NewLock (λ l. Done (Some (val.Int l))) })
+create_lock =
+    Done (record { creates = CreatesLock; asks = []; go = λ picks. Asks NewLock (λ l. Done (Some (val.Int l))) })
 
 -- `acquire`: the thread waits, or has the lock
 abbrev pub acquire : Val → Operation
@@ -154,7 +158,8 @@ release lock = do
 
 -- `atomic_store`, of a value of an integer type
 abbrev pub atomic_store : Val → Ty → Val → Operation
-atomic_store at t v = instant (pointer at >>= λ p. Asks (OfMemory (Write true p (encoding_of t v) (align_of t))) (λ _. Done None))
+atomic_store at t v =
+    instant (pointer at >>= λ p. Asks (OfMemory (Write true p (encoding_of t v) (align_of t))) (λ _. Done None))
 
 -- the number that bytes are: 107 where they are none
 abbrev pub loaded : Option ℕ → ReadScript Result
@@ -163,7 +168,11 @@ loaded (Some n) = Done (Some (val.Int n))
 
 -- `atomic_load`, of an integer type
 abbrev pub atomic_load : Val → Ty → Operation
-atomic_load at t = instant (pointer at >>= λ p. memory_part (reading_part (Asks (Read true p (size_of t) (align_of t)) (λ bytes. loaded (number_of bytes)))))
+atomic_load at t =
+    instant
+    (pointer at
+    >>= λ p. memory_part
+    (reading_part (Asks (Read true p (size_of t) (align_of t)) (λ bytes. loaded (number_of bytes)))))
 
 -- a read and a change in one; what was read is given
 abbrev pub modify : Val → Ty → (ℕ → Option ℕ) → StepScript Result

@@ -1,6 +1,5 @@
 -- Parts that have no byte in common, and numbers that stand once.
-use Rattle.std.proofs.Common.{◌≡◌, ℕ, zero, suc, ◌+◌, ◌<◌, ◌≤◌, ◌⊎◌, ⊎_elim, Bool, true, false, List, [], ◌∷◌, refl, sym, subst, arith}
-use Rattle.std.proofs.lemmas.Bool.Decides.{nat_tests}
+use Rattle.std.proofs.Common.{◌≡◌, ℕ, zero, suc, ◌+◌, ◌<◌, ◌⊎◌, ⊎_elim, Bool, true, false, List, [], ◌∷◌, sym, subst, arith}
 use Rattle.std.proofs.lemmas.List.Elements.{All-nil, All-cons, All-weaker}
 use Rattle.std.proofs.lemmas.List.Kept.{AllPairs-cons}
 use Rattle.std.specs.Prelude.{All, AllPairs, nat_lt, not, ◌||◌}
@@ -11,28 +10,13 @@ use Rattle.mr_ast.specs.declared.types.Ty.{Ty}
 use Rattle.mr_ast.specs.declared.types.Variant.{Variant}
 use Rattle.mr_layout.specs.Sizes.{size_of}
 use Rattle.mr_ast.specs.Integers.{int_size}
-use Rattle.mr_layout.specs.Used.{is_in, is_in_chunk, is_used}
-use Rattle.mr_layout.specs.Rules.{meets_any, is_overlapping, is_rising_after, is_rising, meets_chunk, is_chunk_overlapping, is_covered, are_covered}
+use Rattle.mr_layout.specs.Used.{is_in_chunk, is_used}
+use Rattle.mr_layout.specs.Rules.{meets_any, is_overlapping, is_rising_after, meets_chunk, is_chunk_overlapping, is_covered, are_covered}
 use Rattle.mr_base.specs.Pairs.{is_meeting}
 use Rattle.mr_layout.specs.EnumRules.{same_num, is_number_of, meets_tag, is_some_used, is_case}
 use Rattle.mr_layout.proofs.Bounds.{or_false}
 use Rattle.mr_layout.proofs.PartsOk.{and_true}
 use Rattle.mr_layout.proofs.UsedInside.{below}
-
-in_both : (a len b count at : ℕ) → is_in a len at ≡ true → is_in b count at ≡ true → is_meeting a len b count ≡ true
-in_both a len b count at h k = grind (arith, nat_tests)
-
-not_yes : (b : Bool) → (b ≡ true → ⊥) → b ≡ false
-not_yes true h = absurd (h refl)
-not_yes false h = refl
-
--- a byte of a range is in no range that has no byte in common with it
-pub apart_bytes : (a len b count at : ℕ) → is_meeting a len b count ≡ false → is_in a len at ≡ true → is_in b count at ≡ false
-apart_bytes a len b count at apart h = not_yes (is_in b count at) (λ k. let both = in_both a len b count at h k in absurd (cc))
-
--- of two ranges that have bytes, and none in common, one ends before the other begins
-pub apart_ranges : (a len b count : ℕ) → is_meeting a len b count ≡ false → 0 < len → 0 < count → (a + len ≤ b) ⊎ (b + count ≤ a)
-apart_ranges a len b count apart some other = grind (arith, nat_tests)
 
 -- two fields have no byte in common
 abbrev pub FieldsApart : ℕ × Ty → ℕ × Ty → Type 0
@@ -79,10 +63,6 @@ rises_after start (c ∷ chunks) e =
       All-cons (λ (d : ℕ × ℕ). start < d.0) c chunks h (All-weaker (λ (d : ℕ × ℕ). c.0 < d.0) (λ (d : ℕ × ℕ). start < d.0) (λ d k. omega arith) chunks rest.0),
       AllPairs-cons Rises c chunks rest.0 rest.1,
     )
-
-pub chunks_rise : (chunks : List (ℕ × ℕ)) → is_rising chunks ≡ true → AllPairs Rises chunks
-chunks_rise [] e = λ i j d before inside. absurd (omega arith)
-chunks_rise (c ∷ chunks) e = let rest = rises_after c.0 chunks e in AllPairs-cons Rises c chunks rest.0 rest.1
 
 -- a used byte of a field, counted from the field's start, is in a chunk
 abbrev pub IsCovered : List (ℕ × ℕ) → ℕ × Ty → Type 0

@@ -4,10 +4,10 @@ use Rattle.std.specs.Prelude.{All, Contains, IfNone, is_some, slice_get, ◌≢�
 use Rattle.std.proofs.lemmas.List.{length-map, get_or-map, get_or_default, map_push, map_more}
 use Rattle.std.proofs.lemmas.List.Elements.{All-nil, All-push, All-weaker, Contains-append_left, Contains-push}
 use Rattle.std.proofs.lemmas.List.Quantifiers.{all_pairs_push}
-use Rattle.std.proofs.lemmas.Option.{slice_get_within, get_or_from_slice_get}
+use Rattle.std.proofs.lemmas.Option.{slice_get_within}
 use Rattle.mr_ast.specs.declared.types.Ty.{Ty}
 use Rattle.mr_layout.specs.declared.cache.Entry.{Entry}
-use Rattle.mr_layout.specs.Layouts.{layout_of, held_types, AreDefined}
+use Rattle.mr_layout.specs.Layouts.{layout_of, held_types}
 use Rattle.mr_layout.specs.TypeOk.{TypeOk}
 use Rattle.mr_layout.specs.Cached.{AreTypesOf, Adds}
 
@@ -21,20 +21,9 @@ not_held entries t none c =
     let inside : c.0 < length entries = omega (arith, c.1, length-map entries type_in) in
     none c.0 d inside (sym (get_or-map type_in entries c.0 d t inside) ∙ c.2)
 
--- a type that stands at a position is held
-pub held_at : (entries : List Entry) (t : Ty) (i : ℕ) → slice_get (held_types entries) i ≡ Some t → Contains (held_types entries) t
-held_at entries t i e = (i, slice_get_within (held_types entries) i t e, get_or_from_slice_get (held_types entries) i t t e)
-
 -- and its position is one of an entry
 pub inside_at : (entries : List Entry) (t : Ty) (i : ℕ) → slice_get (held_types entries) i ≡ Some t → i < length entries
 inside_at entries t i e = let h = slice_get_within (held_types entries) i t e in omega (arith, length-map entries type_in)
-
--- whose layout is the type's
-pub layout_at : (entries : List Entry) (t : Ty) (i : ℕ) (d : Entry) → AreDefined entries → slice_get (held_types entries) i ≡ Some t → (get_or entries i d).layout ≡ layout_of t
-layout_at entries t i d defined e =
-    let inside : i < length entries = inside_at entries t i e in
-    let same : (get_or entries i d).ty ≡ t = sym (get_or-map type_in entries i d t inside) ∙ get_or_from_slice_get (held_types entries) i t t e in
-    defined i d inside ∙ ap layout_of same
 
 pub none_yet : AreTypesOf [] []
 none_yet = record {

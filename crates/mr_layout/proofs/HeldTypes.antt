@@ -2,16 +2,13 @@
 use Rattle.std.proofs.Common.{List, [], ◌∷◌, ◌++◌}
 use Rattle.std.specs.Prelude.{All, Contains}
 use Rattle.std.specs.List.{flat_map}
-use Rattle.std.proofs.lemmas.List.Elements.{All-nil, All-cons, All-head, All-tail, All-contains, All-weaker}
+use Rattle.std.proofs.lemmas.List.Elements.{All-nil, All-cons, All-head, All-tail, All-contains}
 use Rattle.mr_ast.specs.declared.types.Ty.{Ty}
 use Rattle.mr_ast.specs.declared.program.Local.{Local}
 use Rattle.mr_ast.specs.declared.program.Stmt.{Stmt}
 use Rattle.mr_ast.specs.declared.program.Block.{Block}
 use Rattle.mr_ast.specs.declared.program.Function.{Function}
-use Rattle.mr_ast.specs.declared.program.Program.{Program}
-use Rattle.mr_layout.specs.Written.{parts_of, types_of, types_of_stmt, types_of_term, types_of_block, types_of_locals, types_of_function, written_types}
-use Rattle.mr_layout.specs.Cached.{IsCacheOf}
-use Rattle.mr_layout.proofs.WrittenParts.{parts_written}
+use Rattle.mr_layout.specs.Written.{parts_of, types_of, types_of_stmt, types_of_term, types_of_block, types_of_locals, types_of_function}
 
 -- a cache holds each of some types
 unfoldable pub Holds : List Ty → List Ty → Type 0
@@ -63,19 +60,3 @@ module _ (cache : List Ty) where
 
   pub holds_term : (b : Block) → Holds cache (types_of_block b) → Holds cache (types_of_term b.term)
   holds_term b all = holds_rest (flat_map types_of_stmt b.stmts) (types_of_term b.term) all
-
--- the cache of a program holds all its types
-pub holds_program : (cache : List Ty) (p : Program) → IsCacheOf cache p → Holds cache (written_types p)
-unfolding Holds
-holds_program cache p is = is.all
-
-pub holds_function : (cache : List Ty) (p : Program) (f : Function) → IsCacheOf cache p → Contains p.functions f → Holds cache (types_of_function f)
-unfolding written_types
-holds_function cache p f is inside = holds_one cache types_of_function p.functions f (holds_program cache p is) inside
-
--- and the parts of each type that it holds
-pub holds_its_parts : (cache : List Ty) (p : Program) (t : Ty) → IsCacheOf cache p → Contains cache t → Holds cache (parts_of t)
-unfolding Holds
-holds_its_parts cache p t is held =
-    let written : Contains (written_types p) t = All-contains (Contains (written_types p)) cache t is.alone held in
-    All-weaker (Contains (written_types p)) (Contains cache) (λ u w. All-contains (Contains cache) (written_types p) u is.all w) (parts_of t) (parts_written p t written)

@@ -297,12 +297,6 @@ pub rows_next : (part : Use) (len start stop : ℕ) (ranges : List (ℕ × ℕ))
 rows_next part len start stop ranges i d h e =
     ap (are_rows_met part len start stop) (left_at ranges i d h) ∙ ap (λ b. b || are_rows_met part len start stop (drop (i + 1) ranges)) e
 
-pub rows_found : (part : Use) (len start stop : ℕ) (ranges : List (ℕ × ℕ)) (i : ℕ) (d : ℕ × ℕ) → i < length ranges
-    → is_row_met part len ((get_or ranges i d).0 - start) (((get_or ranges i d).0 + (get_or ranges i d).1) - start) (stop - start) ≡ true
-    → are_rows_met part len start stop (drop i ranges) ≡ true
-rows_found part len start stop ranges i d h e =
-    ap (are_rows_met part len start stop) (left_at ranges i d h) ∙ ap (λ b. b || are_rows_met part len start stop (drop (i + 1) ranges)) e
-
 -- the rest from a range on that begins where the elements stop, or behind
 pub rows_over : (part : Use) (len start stop : ℕ) (ranges : List (ℕ × ℕ)) (i : ℕ) (d : ℕ × ℕ) → i < length ranges → stop ≤ (get_or ranges i d).0
     → is_in_order (drop i ranges) ≡ true → are_rows_met part len start stop (drop i ranges) ≡ false

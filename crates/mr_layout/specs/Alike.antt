@@ -49,7 +49,8 @@ tags_meeting (t ∷ tags) = meets_tag t tags || tags_meeting tags
 abbrev pub each_variant : ℕ → ℕ → IntType → List Variant → Bool
 each_variant size align disc [] = true
 each_variant size align disc (v ∷ variants) =
-    (size_of v.ty == size) && (nat_le (align_of v.ty) align && (is_fitting disc v.number && each_variant size align disc variants))
+    (size_of v.ty == size)
+    && (nat_le (align_of v.ty) align && (is_fitting disc v.number && each_variant size align disc variants))
 
 -- each tag lies inside the size, and has a number that fits
 abbrev pub are_tags_fitting : ℕ → List Tag → Bool
@@ -65,4 +66,5 @@ is_some_tag_used t (g ∷ tags) = is_some_used t g.at (int_size g.int) || is_som
 -- each case fits and has a tree without a fault
 abbrev pub each_case : ℕ → List Variant → IntType → List (Num × Tree) → Bool
 each_case size variants i [] = true
-each_case size variants i (c ∷ cases) = is_fitting i c.0 && (is_tree size variants c.1 && each_case size variants i cases)
+each_case size variants i (c ∷ cases) =
+    is_fitting i c.0 && (is_tree size variants c.1 && each_case size variants i cases)

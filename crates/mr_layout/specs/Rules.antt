@@ -1,7 +1,9 @@
 -- The rules of a well-formed type, each with its number, and the first that is broken.
-use Rattle.std.specs.Prelude.{ℕ, zero, suc, ◌+◌, ◌*◌, ◌%◌, ◌^◌, Bool, true, false, not, ◌&&◌, ◌||◌, ◌==◌, nat_lt, nat_le, if◌then◌else◌, List, [], ◌∷◌, Option, Some, None, count_ones}
+use Rattle.std.specs.Prelude.{ℕ, zero, suc, ◌+◌, ◌*◌, ◌%◌, ◌^◌, Bool, true, false, not, ◌&&◌, ◌||◌, ◌==◌, nat_lt}
+use Rattle.std.specs.Prelude.{nat_le, if◌then◌else◌, List, [], ◌∷◌, Option, Some, None, count_ones}
 use Rattle.mr_ast.specs.FormRules.{code_of}
-use Rattle.mr_ast.specs.declared.rule.Rule.TheVariants.{TypeSize, TypeAlign, FieldOutside, FieldOverlap, SizeMultiple, UnionChunk}
+use Rattle.mr_ast.specs.declared.rule.Rule.TheVariants.{TypeSize, TypeAlign, FieldOutside, FieldOverlap, SizeMultiple}
+use Rattle.mr_ast.specs.declared.rule.Rule.TheVariants.{UnionChunk}
 use Rattle.mr_ast.specs.declared.types.Ty.{Ty}
 use Rattle.mr_ast.specs.declared.types.Variant.{Variant}
 use Rattle.mr_base.specs.Pairs.{is_meeting}
@@ -52,7 +54,8 @@ tuple_rules size align fields =
 
 -- the first broken rule of a reference
 unfoldable pub ref_rules : ℕ → ℕ → Option ℕ
-ref_rules size align = rule (code_of TypeSize) (not (nat_lt size (2 ^ 63))) (rule (code_of TypeAlign) (not (is_align align)) None)
+ref_rules size align =
+    rule (code_of TypeSize) (not (nat_lt size (2 ^ 63))) (rule (code_of TypeAlign) (not (is_align align)) None)
 
 -- the first broken rule of an array, whose element breaks none
 unfoldable pub array_rules : ℕ → Ty → Option ℕ
@@ -100,7 +103,8 @@ union_rules size align fields chunks =
     (rule (code_of TypeAlign) (not (is_align align))
     (rule (code_of FieldOutside) (is_past size fields || is_chunk_past size chunks)
     (rule (code_of SizeMultiple) (not (size % align == 0))
-    (rule (code_of UnionChunk) (not (is_rising chunks && (not (is_chunk_overlapping chunks) && are_covered fields chunks))) None))))
+    (rule (code_of UnionChunk)
+    (not (is_rising chunks && (not (is_chunk_overlapping chunks) && are_covered fields chunks))) None))))
 
 -- the first broken rule of these fields
 abbrev pub first_field : List (ℕ × (Ty × Option ℕ)) → Option ℕ

@@ -39,8 +39,8 @@ parts_step (Ty-F.Enum size align disc variants tree) = flat_map (λ v. v.1) vari
 abbrev pub variant_parts_step : Variant-F (Ty × List Ty) (Variant × List Ty) → List Ty
 variant_parts_step v = part_and_its_parts v.ty
 
--- the parts of a type: of a tuple or a union its fields' types, of an array its element, of an enum its variants' types,
--- and the parts of each
+-- the parts of a type: of a tuple or a union its fields' types, of an array its element, of an enum its variants'
+-- types, and the parts of each
 unfoldable pub parts_of : Ty → List Ty
 parts_of = para-Ty (List Ty) (List Ty) parts_step variant_parts_step
 
@@ -125,7 +125,8 @@ types_of_term term.Abort = []
 types_of_term term.Resume = []
 types_of_term (term.Stop b) = []
 types_of_term (term.Unwind payload b) = types_of_value payload
-types_of_term (term.Call callee args place next unwind) = types_of_value callee ++ types_of_values args ++ types_of_place place
+types_of_term (term.Call callee args place next unwind) =
+    types_of_value callee ++ types_of_values args ++ types_of_place place
 types_of_term (term.Do intrinsic args place next) = types_of_values args ++ types_of_result place
 
 -- the types written in a block

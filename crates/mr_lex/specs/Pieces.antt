@@ -1,7 +1,8 @@
 -- A text as a row of pieces: blanks, comments, words, numbers and symbols.
 use Rattle.std.specs.Prelude.{◌≡◌, ℕ, Bool, List, [], ◌∷◌, ◌++◌, ◌&&◌, IsTrue, IsFalse}
 use Rattle.std.specs.List.{AllByRecursion}
-use Rattle.mr_lex.specs.Bytes.{is_blank, is_inline, begins_comment, is_letter, is_digit, is_word_byte, is_symbol, begins_arrow, ends_arrow, begins}
+use Rattle.mr_lex.specs.Bytes.{is_blank, is_inline, begins_comment, is_letter, is_digit, is_word_byte, is_symbol}
+use Rattle.mr_lex.specs.Bytes.{begins_arrow, ends_arrow, begins}
 use Rattle.mr_lex.specs.Numbers.{IsFineNumber}
 
 -- what a text is made of: one blank byte, a comment from its `#` on, a word, a number or a symbol

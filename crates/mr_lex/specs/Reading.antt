@@ -1,7 +1,9 @@
 -- Reading a text: what its tokens or its first fault are, computed.
-use Rattle.std.specs.Prelude.{◌≡◌, ℕ, zero, suc, ◌-◌, ◌^◌, Bool, not, ◌||◌, ◌&&◌, ◌==◌, nat_lt, if◌then◌else◌, List, [], ◌∷◌, length, take, drop, slice_index, Result, Ok, Err}
+use Rattle.std.specs.Prelude.{◌≡◌, ℕ, zero, suc, ◌-◌, ◌^◌, Bool, not, ◌||◌, ◌&&◌, ◌==◌, nat_lt, if◌then◌else◌, List, []}
+use Rattle.std.specs.Prelude.{◌∷◌, length, take, drop, slice_index, Result, Ok, Err}
 use Rattle.std.specs.List.{take_while}
-use Rattle.mr_lex.specs.Bytes.{is_blank, is_inline, begins_comment, is_letter, is_digit, is_word_byte, is_symbol, begins_arrow, ends_arrow}
+use Rattle.mr_lex.specs.Bytes.{is_blank, is_inline, begins_comment, is_letter, is_digit, is_word_byte, is_symbol}
+use Rattle.mr_lex.specs.Bytes.{begins_arrow, ends_arrow}
 use Rattle.mr_lex.specs.Numbers.{number_of}
 use Rattle.mr_lex.specs.Pieces.{Piece, Blank, Comment, Word, Number, Symbol, spelling_of}
 use Rattle.mr_lex.specs.Tokens.{Lexeme, lexemes_from, fault_at}

@@ -3,7 +3,8 @@ use Rattle.std.specs.Prelude.{ℕ, ◌==◌, List, [], ◌∷◌, codes, Option}
 use Rattle.std.specs.List.{find}
 use Rattle.std.specs.Option.{option_map_or}
 use Rattle.mr_lex.specs.declared.rule.TextRule.{TextRule}
-use Rattle.mr_lex.specs.declared.rule.TextRule.TheVariants.{BadByte, BadNumber, LongText, Unexpected, UnknownName, DoubleName, TooDeep, TooMany, Exposed}
+use Rattle.mr_lex.specs.declared.rule.TextRule.TheVariants.{BadByte, BadNumber, LongText, Unexpected, UnknownName}
+use Rattle.mr_lex.specs.declared.rule.TextRule.TheVariants.{DoubleName, TooDeep, TooMany, Exposed}
 
 -- each rule has a number, from 1 on
 abbrev pub code_of : TextRule → ℕ

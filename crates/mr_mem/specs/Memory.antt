@@ -1,5 +1,7 @@
 -- Memory: a finite map from identities to allocations, and what can be done with it. (MiniRust, mem: the basic memory.)
-use Rattle.std.specs.Prelude.{◌≡◌, ℕ, ◌+◌, ◌-◌, ◌%◌, ◌^◌, Bool, true, false, not, ◌&&◌, ◌||◌, ◌==◌, nat_lt, nat_le, if◌then◌else◌, List, [], ◌∷◌, ◌++◌, length, map, take, drop, replicate, Option, None, Some, Result, Ok, Err}
+use Rattle.std.specs.Prelude.{◌≡◌, ℕ, ◌+◌, ◌-◌, ◌%◌, ◌^◌, Bool, true, false, not, ◌&&◌, ◌||◌, ◌==◌, nat_lt, nat_le}
+use Rattle.std.specs.Prelude.{if◌then◌else◌, List, [], ◌∷◌, ◌++◌, length, map, take, drop, replicate, Option, None}
+use Rattle.std.specs.Prelude.{Some, Result, Ok, Err}
 use Rattle.std.specs.List.{list_any}
 use Rattle.std.specs.Ordering.{nat_cmp, ordering_then}
 use Rattle.std.specs.declared.cmp.Ordering.{Ordering}
@@ -14,7 +16,8 @@ use Rattle.mr_base.specs.declared.byte.AbstractByte.TheVariants.{Uninit}
 use Rattle.mr_base.specs.declared.byte.Kind.{Kind}
 use Rattle.mr_base.specs.declared.byte.Kind.TheVariants.{Heap, Stack, Static, Function}
 use Rattle.mr_base.specs.declared.reason.Reason.{Reason}
-use Rattle.mr_base.specs.declared.reason.Reason.TheVariants.{Misaligned, NoProvenance, DeadAllocation, OutOfBounds, FreeAddress, FreeKind, FreeSize, FreeAlign}
+use Rattle.mr_base.specs.declared.reason.Reason.TheVariants.{Misaligned, NoProvenance, DeadAllocation, OutOfBounds}
+use Rattle.mr_base.specs.declared.reason.Reason.TheVariants.{FreeAddress, FreeKind, FreeSize, FreeAlign}
 use Rattle.mr_mem.specs.declared.fault.PickFault.{PickFault}
 use Rattle.mr_mem.specs.declared.fault.PickFault.TheVariants.{BadAddress, Reused}
 use Rattle.mr_runs.specs.Ranges.{with_range_replaced}
@@ -207,11 +210,14 @@ aligned p align r = if is_multiple p.addr align then r else Err Misaligned
 -- the bytes from a pointer on
 abbrev pub read : Memory → Pointer → ℕ → ℕ → Result (List AbstractByte) Reason
 read m p len align =
-    aligned p align (if len == 0 then Ok [] else then_give (inside (found m p.prov) p.addr len) (λ a. bytes_at a p.addr len))
+    aligned p align
+    (if len == 0 then Ok [] else then_give (inside (found m p.prov) p.addr len) (λ a. bytes_at a p.addr len))
 
 -- an allocation in which bytes are replaced from an address on, where their range lies in it
 abbrev pub put_bytes : Allocation → ℕ → List AbstractByte → Result Allocation Reason
-put_bytes a addr bytes = then_give (inside (Some a) addr (length bytes)) (λ _. record a { bytes = with_range_replaced a.bytes (addr - a.addr) bytes })
+put_bytes a addr bytes =
+    then_give (inside (Some a) addr (length bytes))
+    (λ _. record a { bytes = with_range_replaced a.bytes (addr - a.addr) bytes })
 
 -- the memory with bytes put into the allocation of an identity
 abbrev pub put_at : Memory → AllocId → Option Allocation → ℕ → List AbstractByte → Result Memory Reason
@@ -220,7 +226,9 @@ put_at m id (Some a) addr bytes = then_give (put_bytes a addr bytes) (fin.insert
 
 -- the memory with these bytes in the allocation that a pointer's provenance names
 abbrev pub put_in : Memory → Pointer → List AbstractByte → Result Memory Reason
-put_in m p bytes = elim p.prov as (λ _. Result Memory Reason) [ None ↦ Err NoProvenance | Some id ↦ put_at m id (fin.get m id) p.addr bytes ]
+put_in m p bytes =
+    elim p.prov as
+    (λ _. Result Memory Reason) [ None ↦ Err NoProvenance | Some id ↦ put_at m id (fin.get m id) p.addr bytes ]
 
 -- the memory with bytes put from a pointer on
 abbrev pub written : Memory → Pointer → List AbstractByte → ℕ → Result Memory Reason

@@ -12,7 +12,8 @@ use Rattle.mr_mem.specs.Memory.{Memory, Allocation, put_bytes}
 
 -- an allocation without where its bytes are kept
 abbrev pub allocation_of : Stored → Allocation
-allocation_of a = record { addr = a.addr; span = a.span; align = a.align; kind = a.kind; live = a.live; bytes = a.bytes }
+allocation_of a =
+    record { addr = a.addr; span = a.span; align = a.align; kind = a.kind; live = a.live; bytes = a.bytes }
 
 -- the entries without where their bytes are kept
 abbrev pub entries_of : List (AllocId × Stored) → List (AllocId × Allocation)

@@ -1,5 +1,6 @@
 -- A machine whose independent neighbours may be exchanged, and its runs in another order.
-use Rattle.std.specs.Prelude.{◌≡◌, ◌≢◌, ℕ, ◌<◌, ◌≤◌, List, [], ◌∷◌, length, Bool, false, IsTrue, not, ◌&&◌, ◌==◌, ◌||◌, ◌⊎◌}
+use Rattle.std.specs.Prelude.{◌≡◌, ◌≢◌, ℕ, ◌<◌, ◌≤◌, List, [], ◌∷◌, length, Bool, false, IsTrue, not, ◌&&◌, ◌==◌, ◌||◌}
+use Rattle.std.specs.Prelude.{◌⊎◌}
 use Rattle.std.specs.List.{list_any}
 use Rattle.mr_base.specs.Accesses.{some_race}
 use Rattle.mr_event.specs.declared.footprint.Footprint.{Footprint}

@@ -12,7 +12,8 @@ use Rattle.mr_plan.specs.Places.{byte_at, header_of}
 use Rattle.mr_plan.proofs.Headers.{like_header}
 use Rattle.mr_plan.proofs.RangeChecks.{by_tests, range_test, ranged}
 use Rattle.mr_runs.specs.Ranges.{with_range_replaced}
-use Rattle.mr_plan.proofs.SplicedLaws.{length-spliced, spliced_above, spliced_below, spliced_in}
+use Rattle.mr_runs.proofs.RangeLaws.{length-with_range_replaced}
+use Rattle.mr_plan.proofs.SplicedLaws.{spliced_above, spliced_below, spliced_in}
 
 -- ---- bytes by their addresses
 

@@ -4,14 +4,13 @@ use Rattle.std.proofs.lemmas.List.{append_assoc}
 use Rattle.std.proofs.lemmas.List.Elements.{Contains-append_left}
 use Rattle.mr_base.specs.declared.access.Access.{Access}
 use Rattle.mr_base.specs.declared.byte.AllocId.{AllocId}
-use Rattle.mr_script.proofs.SwapRuns.{IsGrowing}
 use Rattle.mr_script.specs.Script.{Went}
 use Rattle.mr_mem.specs.Memory.{Memory}
 use Rattle.mr_eval.specs.Reads.{Check, Read, Refer, seeing}
 use Rattle.mr_base.specs.declared.byte.Pointer.{Pointer}
 use Rattle.mr_eval.specs.MemoryQueries.{Allocate, Free, Modify, MemoryQuery, MemoryReply, Reading, Write, memory_answer}
 use Rattle.mr_eval.specs.Tally.{Tally, seen_of, with_seen}
-use Rattle.mr_plan.specs.Places.{AtMemory, ByteAt, Covers, HeaderOf, MemoryPlace, ReadsMemory, StoresAt, WritesMemory, in_memory}
+use Rattle.mr_plan.specs.Places.{ByteAt, Covers, HeaderOf, MemoryPlace, ReadsMemory, StoresAt, WritesMemory}
 use Rattle.mr_plan.proofs.ElementLaws.{Any-append_left}
 use Rattle.mr_plan.proofs.MemoryAnswers.{Modifies, Replaces, changes, check_went, free_went, load_went, modify_went, refer_went, stays, store_went, with_freed, with_load, with_made}
 use Rattle.mr_plan.proofs.WentLaws.{at_outcome}
@@ -124,9 +123,3 @@ module _ (n n' : Tally) (g : TallyGrows n n') where
   writes_grow (HeaderOf id) (inr h) = inr (longer_contains _ _ id g.freed h)
   writes_grow (ByteAt id x) (inl h) = inl (longer_contains _ _ id g.touched h.0, longer_any (StoresAt x) _ _ g.accesses h.1)
   writes_grow (ByteAt id x) (inr h) = inr (longer_contains _ _ id g.made h)
-
--- THE TALLY OF EACH QUERY TO MEMORY ONLY GROWS, whatever is kept meanwhile
-pub memory_growing : (inv : Memory → Tally → Type 0) → IsGrowing MemoryQuery MemoryReply Memory Tally memory_answer MemoryPlace AtMemory in_memory ReadsMemory WritesMemory inv
-memory_growing inv q m t n n' x h =
-    let g = tally_grows q m t n n' x h in
-    record { reads_grow = reads_grow n n' g; writes_grow = writes_grow n n' g }

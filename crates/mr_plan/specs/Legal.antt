@@ -10,7 +10,8 @@ use Rattle.mr_sched.specs.declared.schedule.Ask.{Ask}
 use Rattle.mr_sched.specs.declared.schedule.Ask.TheVariants.{Address, Waiter}
 use Rattle.mr_sync.specs.Tables.{on_lock}
 use Rattle.mr_plan.specs.Queries.{Shared}
-use Rattle.mr_plan.specs.Machine.{State, Language, Thread, Creation, CreatesNothing, CreatesThread, CreatesLock, Needs, needs}
+use Rattle.mr_plan.specs.Machine.{State, Language, Thread, Creation, CreatesNothing, CreatesThread, CreatesLock, Needs}
+use Rattle.mr_plan.specs.Machine.{needs}
 
 -- the rule that an entry breaks; for 64 with the identity whose range is overlapped
 pub record Fault : Type 0 where
@@ -31,8 +32,8 @@ address_fault None = None
 address_fault (Some BadAddress) = fault 63
 address_fault (Some (Reused id)) = Some (record { code = 64; earlier = Some id })
 
--- Pick by pick: 61 MissingPick, 63, 64, 65 NotWaiting; and 62 ExtraPick behind the last ask. A picked address is tried among the ranges of all
--- allocations so far and of the earlier picks, with the identities that these get.
+-- Pick by pick: 61 MissingPick, 63, 64, 65 NotWaiting; and 62 ExtraPick behind the last ask. A picked address is tried
+-- among the ranges of all allocations so far and of the earlier picks, with the identities that these get.
 abbrev pub picks_fault : List Status → Ranges → ℕ → ℕ → List Ask → List ℕ → Option Fault
 picks_fault ss rs t count [] [] = None
 picks_fault ss rs t count [] (pick ∷ picks) = fault 62

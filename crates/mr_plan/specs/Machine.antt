@@ -1,4 +1,5 @@
--- Bare steps over any language of steps: plans, states, and what one step of a thread comes to. (MiniRust, lang: the machine.)
+-- Bare steps over any language of steps: plans, states, and what one step of a thread comes to. (MiniRust, lang: the
+-- machine.)
 use Rattle.std.specs.Prelude.{ℕ, List, [], ◌∷◌, ◌++◌, slice_set, Option, None, Some, slice_get, if◌then◌else◌}
 use Rattle.mr_base.specs.declared.reason.Verdict.{Verdict}
 use Rattle.mr_base.specs.declared.reason.Verdict.TheVariants as verdict
@@ -20,14 +21,15 @@ pub data Creation : Type 0 where
   CreatesThread : Creation
   CreatesLock : Creation
 
--- What a step finds out before it needs a pick: what it creates, which picks it asks for, and what it does with them. So what it asks for doesn't
--- depend on the picks.
+-- What a step finds out before it needs a pick: what it creates, which picks it asks for, and what it does with them.
+-- So what it asks for doesn't depend on the picks.
 pub record Plan (A : Type 0) : Type 0 where
   pub creates : Creation
   pub asks : List Ask
   pub go : List ℕ → A
 
--- A LANGUAGE OF STEPS: the next step of a thread with a state of its own, as a script that makes a plan, and behind it one that carries it out
+-- A LANGUAGE OF STEPS: the next step of a thread with a state of its own, as a script that makes a plan, and behind it
+-- one that carries it out
 abbrev pub Language : Type 0 → Type 0
 Language L = L → StepScript (Plan (StepScript (Flow L)))
 
@@ -40,7 +42,8 @@ pub record State (L : Type 0) : Type 0 where
   pub shared : Shared
   pub threads : List (Thread L)
 
--- what a bare step comes to: it completes, with what it noted and the state after it; or it stops the machine with a verdict; or it has no rule
+-- what a bare step comes to: it completes, with what it noted and the state after it; or it stops the machine with a
+-- verdict; or it has no rule
 pub data Bare (L : Type 0) : Type 0 where
   Completed : Notes → State L → Bare L
   Stops : Verdict → Bare L
@@ -59,7 +62,11 @@ exit_verdict s = if leaks s.memory then verdict.Leak else verdict.Exit
 
 abbrev pub settle : {L : Type 0} → State L → ℕ → Flow L → Shared × Notes → Bare L
 settle s t (Goes own started) w =
-    Completed w.1 (record { shared = w.0; threads = slice_set s.threads t (thread_of own w.1.tally.count) ++ started_threads started })
+    Completed w.1
+    (record {
+      shared = w.0;
+      threads = slice_set s.threads t (thread_of own w.1.tally.count) ++ started_threads started;
+    })
 settle s t Exits w = Stops (exit_verdict w.0)
 settle s t Aborts w = Stops verdict.Abort
 

@@ -6,8 +6,8 @@ use Rattle.mr_eval.specs.Tally.{Tally, start_tally}
 use Rattle.mr_event.specs.declared.footprint.Footprint.{Footprint}
 use Rattle.mr_mem.specs.Memory.{Memory}
 
--- What it did to memory; whether its thread can't go on; what it did to locks and threads; whether its thread ended; the threads that it woke;
--- its prints.
+-- What it did to memory; whether its thread can't go on; what it did to locks and threads; whether its thread ended;
+-- the threads that it woke; its prints.
 pub record Notes : Type 0 where
   pub tally : Tally
   pub stopped : Bool

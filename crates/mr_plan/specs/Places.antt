@@ -1,5 +1,6 @@
 -- At which places of memory a step reads and writes, as its tally tells.
-use Rattle.std.specs.Prelude.{◌≡◌, ℕ, ◌+◌, ◌-◌, ◌<◌, ◌≤◌, ◌⊎◌, Bool, true, Option, None, Some, length, slice_get, if◌then◌else◌, nat_le, Any, Contains}
+use Rattle.std.specs.Prelude.{◌≡◌, ℕ, ◌+◌, ◌-◌, ◌<◌, ◌≤◌, ◌⊎◌, Bool, true, Option, None, Some, length, slice_get}
+use Rattle.std.specs.Prelude.{if◌then◌else◌, nat_le, Any, Contains}
 use Rattle.std.specs.FinMap as fin
 use Rattle.mr_base.specs.declared.access.Access.{Access}
 use Rattle.mr_base.specs.declared.byte.AbstractByte.{AbstractByte}
@@ -64,7 +65,8 @@ abbrev pub ReadsMemory : Tally → MemoryPlace → Type 0
 ReadsMemory n (HeaderOf id) = Contains n.touched id ⊎ Contains n.freed id
 ReadsMemory n (ByteAt id address) = Contains n.touched id × Any (Covers address) n.accesses
 
--- It writes the header of what it made or freed, all bytes of what it made, and those of what it touched at the addresses of its stores.
+-- It writes the header of what it made or freed, all bytes of what it made, and those of what it touched at the
+-- addresses of its stores.
 abbrev pub WritesMemory : Tally → MemoryPlace → Type 0
 WritesMemory n (HeaderOf id) = Contains n.made id ⊎ Contains n.freed id
 WritesMemory n (ByteAt id address) = (Contains n.touched id × Any (StoresAt address) n.accesses) ⊎ Contains n.made id

@@ -1,5 +1,6 @@
 -- What the threads share, and what a step may ask of it. (MiniRust, lang: threads and locks.)
-use Rattle.std.specs.Prelude.{ℕ, Bool, true, not, List, [], ◌∷◌, ◌++◌, slice_get, Option, None, Some, Result, Ok, Err, if◌then◌else◌}
+use Rattle.std.specs.Prelude.{ℕ, Bool, true, not, List, [], ◌∷◌, ◌++◌, slice_get, Option, None, Some, Result, Ok, Err}
+use Rattle.std.specs.Prelude.{if◌then◌else◌}
 use Rattle.mr_base.specs.declared.reason.Reason.{Reason}
 use Rattle.mr_base.specs.declared.thread.Status.{Status}
 use Rattle.mr_base.specs.declared.thread.Event.{Event}
@@ -25,8 +26,8 @@ tables_of s = record { statuses = s.statuses; holders = s.holders }
 abbrev pub with_tables : Shared → Tables → Shared
 with_tables s x = record s { statuses = x.statuses; holders = x.holders }
 
--- a query to memory; a new lock; to take a lock; whether a thread waits for it; to give it back, to a waiting thread if there is one; a new thread; to wait
--- for the end of a thread; the end of the own thread; a print
+-- a query to memory; a new lock; to take a lock; whether a thread waits for it; to give it back, to a waiting thread if
+-- there is one; a new thread; to wait for the end of a thread; the end of the own thread; a print
 pub data Query : Type 0 where
   OfMemory : (q : MemoryQuery) → Query
   NewLock : Query
@@ -96,7 +97,8 @@ fits l (Some u) s = waits l u s
 -- a lock given back; a waiter that is named is woken
 abbrev pub giving : ℕ → Option ℕ → Result Tables Reason → Shared → Notes → Outcome (Unit {0}) (Shared × Notes)
 giving l to (Err r) s n = Refused r
-giving l to (Ok x) s n = if fits l to (tables_of s) then Went tt (with_tables s x, woke to (note (Release l) n)) else Broken
+giving l to (Ok x) s n =
+    if fits l to (tables_of s) then Went tt (with_tables s x, woke to (note (Release l) n)) else Broken
 
 -- the end of the thread, and those that this wakes
 abbrev pub ending : Tables × List ℕ → Shared → Notes → Outcome (Unit {0}) (Shared × Notes)

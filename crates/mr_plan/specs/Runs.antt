@@ -1,5 +1,6 @@
 -- Machine steps, runs and verdicts, over any language of steps.
-use Rattle.std.specs.Prelude.{◌≡◌, ℕ, ◌+◌, Bool, true, false, not, ◌&&◌, ◌==◌, List, [], ◌∷◌, ◌++◌, map, Option, None, Some, if◌then◌else◌}
+use Rattle.std.specs.Prelude.{◌≡◌, ℕ, ◌+◌, Bool, true, false, not, ◌&&◌, ◌==◌, List, [], ◌∷◌, ◌++◌, map, Option, None}
+use Rattle.std.specs.Prelude.{Some, if◌then◌else◌}
 use Rattle.mr_base.specs.Accesses.{some_race}
 use Rattle.mr_base.specs.declared.reason.Reason.TheVariants.{DataRace}
 use Rattle.mr_base.specs.declared.reason.Verdict.{Verdict}
@@ -18,7 +19,8 @@ pub record Printed : Type 0 where
   pub thread : ℕ
   pub text : List ℕ
 
--- Where a machine stands: its state, which is gone once a step itself stopped; the prints in order; the footprint of the last completed step; how many completed; the verdict so far.
+-- Where a machine stands: its state, which is gone once a step itself stopped; the prints in order; the footprint of
+-- the last completed step; how many completed; the verdict so far.
 pub record Config (L : Type 0) : Type 0 where
   pub state : Option (State L)
   pub output : List Printed
@@ -29,7 +31,8 @@ pub record Config (L : Type 0) : Type 0 where
 abbrev pub printed_by : ℕ → List ℕ → Printed
 printed_by t text = record { thread = t; text = text }
 
--- The race check: an access of the step races with one of the step immediately before, which is of another thread and did not wake this one.
+-- The race check: an access of the step races with one of the step immediately before, which is of another thread and
+-- did not wake this one.
 abbrev pub races_with : Footprint → Option Footprint → Bool
 races_with f None = false
 races_with f (Some last) =

@@ -12,7 +12,8 @@ pub record Slot : Type 0 where
   pub align : ℕ
   pub storage : Option Pointer
 
--- The pointer is the identity and the first address of a live allocation on the stack, which has this size and alignment.
+-- The pointer is the identity and the first address of a live allocation on the stack, which has this size and
+-- alignment.
 pub record IsStorage (m : Memory) (size align : ℕ) (p : Pointer) : Type 0 where
   pub id : AllocId
   pub alloc : Allocation
@@ -26,6 +27,7 @@ pub record IsStorage (m : Memory) (size align : ℕ) (p : Pointer) : Type 0 wher
 
 -- THE STORAGE OF ALL of them: each that has some has it in memory, and no two have one allocation.
 pub record AreHeld (m : Memory) (slots : List Slot) : Type 0 where
-  pub each : (i : ℕ) (slot : Slot) (p : Pointer) → slice_get slots i ≡ Some slot → slot.storage ≡ Some p → IsStorage m slot.size slot.align p
+  pub each : (i : ℕ) (slot : Slot) (p : Pointer) → slice_get slots i ≡ Some slot → slot.storage ≡ Some p
+      → IsStorage m slot.size slot.align p
   pub apart : (i k : ℕ) (a b : Slot) (p q : Pointer) → i ≢ k → slice_get slots i ≡ Some a → slice_get slots k ≡ Some b
       → a.storage ≡ Some p → b.storage ≡ Some q → p.prov ≢ q.prov

@@ -1,5 +1,6 @@
 -- Choices from a number: threads and waiters among candidates, and addresses.
-use Rattle.std.specs.Prelude.{ℕ, ◌+◌, ◌-◌, ◌*◌, ◌/◌, ◌%◌, ◌^◌, Bool, List, length, nat_lt, Option, None, Some, if◌then◌else◌, slice_index_or}
+use Rattle.std.specs.Prelude.{ℕ, ◌+◌, ◌-◌, ◌*◌, ◌/◌, ◌%◌, ◌^◌, Bool, List, length, nat_lt, Option, None, Some}
+use Rattle.std.specs.Prelude.{if◌then◌else◌, slice_index_or}
 use Rattle.mr_sched.specs.declared.chooser.Chooser.{Chooser}
 
 -- what a chooser begins with: the number, and the first address that it may find

@@ -3,7 +3,9 @@ use Rattle.std.specs.Prelude.{ℕ, ◌==◌, List, [], ◌∷◌, codes, Option}
 use Rattle.std.specs.List.{find}
 use Rattle.std.specs.Option.{option_map_or}
 use Rattle.mr_sched.specs.declared.rule.ScheduleRule.{ScheduleRule}
-use Rattle.mr_sched.specs.declared.rule.ScheduleRule.TheVariants.{BadHeader, BadLine, TooLong, NotEnabled, MissingPick, ExtraPick, BadAddress, Reused, NotWaiting, AfterStop, TooManyThreads, TooManyLocks}
+use Rattle.mr_sched.specs.declared.rule.ScheduleRule.TheVariants.{BadHeader, BadLine, TooLong, NotEnabled, MissingPick}
+use Rattle.mr_sched.specs.declared.rule.ScheduleRule.TheVariants.{ExtraPick, BadAddress, Reused, NotWaiting, AfterStop}
+use Rattle.mr_sched.specs.declared.rule.ScheduleRule.TheVariants.{TooManyThreads, TooManyLocks}
 
 -- each rule has a number: those of the text from 50 on, and those of a step from 60 on
 abbrev pub code_of : ScheduleRule → ℕ

@@ -28,14 +28,16 @@ on (Refused r) f = Refused r
 on Broken f = Broken
 
 -- The run of a script over a state, of which answer says what each query gives and leaves.
-abbrev pub run : {Q : Type 0} {R : Q → Type 0} {S A : Type 0} → ((q : Q) → S → Outcome (R q) S) → Script Q R A → S → Outcome A S
+abbrev pub run : {Q : Type 0} {R : Q → Type 0} {S A : Type 0} → ((q : Q) → S → Outcome (R q) S) → Script Q R A → S
+    → Outcome A S
 run answer (Done a) s = Went a s
 run answer (Undefined r) s = Refused r
 run answer IllFormed s = Broken
 run answer (Ask q k) s = on (answer q s) (λ x s'. run answer (k x) s')
 
 -- What each answer leaves for the script to prove, so that it never comes to IllFormed, and ends with P.
-abbrev pub Safe : {Q : Type 0} {R : Q → Type 0} {A : Type 0} → ((q : Q) → R q → Type 0) → (A → Type 0) → Script Q R A → Type 0
+abbrev pub Safe : {Q : Type 0} {R : Q → Type 0} {A : Type 0} → ((q : Q) → R q → Type 0) → (A → Type 0) → Script Q R A
+    → Type 0
 Safe good P (Done a) = P a
 Safe good P (Undefined r) = Unit {0}
 Safe good P IllFormed = ⊥

@@ -1,5 +1,6 @@
 -- How a start is judged and made.
-use Rattle.std.specs.Prelude.{◌≡◌, ℕ, ◌+◌, ◌^◌, ◌<◌, ◌≤◌, All, List, [], ◌∷◌, length, map, slice_get, take, Option, None, Some, Result, Ok, Err}
+use Rattle.std.specs.Prelude.{◌≡◌, ℕ, ◌+◌, ◌^◌, ◌<◌, ◌≤◌, All, List, [], ◌∷◌, length, map, slice_get, take, Option}
+use Rattle.std.specs.Prelude.{None, Some, Result, Ok, Err}
 use Rattle.std.specs.FinMap as fin
 use Rattle.mr_ast.specs.declared.program.Global_.{Global_}
 use Rattle.mr_ast.specs.declared.program.Program.{Program}
@@ -23,7 +24,8 @@ use Rattle.mr_start.specs.declared.beginning.StartFault.TheVariants as refused
 use Rattle.mr_start.specs.declared.pieces.Piece.{Piece as Made}
 use Rattle.mr_start.specs.declared.placing.Begun.{Begun}
 use Rattle.mr_start.specs.Judging.{fault_of}
-use Rattle.mr_start.specs.Start.{Piece, Placed, ask_of, look_of, main_thread, pieces, placed, start_config, start_fault, start_frame, start_placed}
+use Rattle.mr_start.specs.Start.{Piece, Placed, ask_of, look_of, main_thread, pieces, placed, start_config, start_fault}
+use Rattle.mr_start.specs.Start.{start_frame, start_placed}
 
 -- a piece as the code has it
 abbrev pub piece_of : Made → Piece

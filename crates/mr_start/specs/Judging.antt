@@ -32,7 +32,9 @@ least (Some a) (Some b) = if is_lt (id_cmp b a) then Some b else Some a
 -- the rule that an address breaks over a memory and an identity whose range it overlaps
 abbrev pub address_among : Memory → Option AllocId → ℕ → ℕ → ℕ → Option Fault
 address_among m earlier addr size align =
-    address_fault (if is_bad_address addr size align then Some BadAddress else reused (least (first_overlapped addr size (ranges_of m)) earlier))
+    address_fault
+    (if is_bad_address addr size align then Some BadAddress
+    else reused (least (first_overlapped addr size (ranges_of m)) earlier))
 
 -- the rule that a thread breaks which is to get a lock
 abbrev pub waiter_fault : List Status → ℕ → ℕ → Option Fault

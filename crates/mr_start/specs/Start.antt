@@ -1,5 +1,6 @@
 -- The start of a run, and legal schedules of a program.
-use Rattle.std.specs.Prelude.{◌≡◌, ℕ, ◌+◌, List, [], ◌∷◌, ◌++◌, map, length, replicate, take, drop, slice_set, Option, None, Some, Result, Ok, Err, slice_get}
+use Rattle.std.specs.Prelude.{◌≡◌, ℕ, ◌+◌, List, [], ◌∷◌, ◌++◌, map, length, replicate, take, drop, slice_set, Option}
+use Rattle.std.specs.Prelude.{None, Some, Result, Ok, Err, slice_get}
 use Rattle.std.specs.List.{flat_map}
 use Rattle.std.specs.FinMap as fin
 use Rattle.mr_base.specs.declared.byte.AllocId.{AllocId}
@@ -60,7 +61,8 @@ return_piece (Some f) = local_piece (slice_get f.locals f.ret.0)
 
 -- one for each function, one for each global, and the return local of the main function
 abbrev pub pieces : Program → List Piece
-pieces p = map function_piece p.functions ++ (map global_piece p.globals ++ return_piece (slice_get p.functions p.start.0))
+pieces p =
+    map function_piece p.functions ++ (map global_piece p.globals ++ return_piece (slice_get p.functions p.start.0))
 
 abbrev pub ask_of : Piece → Ask
 ask_of piece = Address piece.size piece.align
@@ -126,7 +128,8 @@ abbrev pub CanBeFilled : List Pointer → List Pointer → Memory → List Globa
 CanBeFilled functions globals m [] ps = Unit {0}
 CanBeFilled functions globals m (g ∷ gs) [] = ⊥
 CanBeFilled functions globals m (g ∷ gs) (p ∷ ps) =
-    (new : Memory) × (written m p (global_bytes functions globals g.items) g.align ≡ Ok new) × CanBeFilled functions globals new gs ps
+    (new : Memory) × (written m p (global_bytes functions globals g.items) g.align ≡ Ok new)
+    × CanBeFilled functions globals new gs ps
 
 -- what every step of the run looks up
 unfoldable pub look_of : Program → List ℕ → Look
@@ -139,12 +142,14 @@ look_of p picks = record {
 -- the memory before the first entry
 abbrev pub start_memory : Program → List ℕ → Memory
 start_memory p picks =
-    filled (look_of p picks).functions (look_of p picks).globals (start_placed p picks).memory p.globals (look_of p picks).globals
+    filled (look_of p picks).functions
+    (look_of p picks).globals (start_placed p picks).memory p.globals (look_of p picks).globals
 
 -- each store of the start can be made
 abbrev pub IsWholeStart : Program → List ℕ → Type 0
 IsWholeStart p picks =
-    CanBeFilled (look_of p picks).functions (look_of p picks).globals (start_placed p picks).memory p.globals (look_of p picks).globals
+    CanBeFilled (look_of p picks).functions
+    (look_of p picks).globals (start_placed p picks).memory p.globals (look_of p picks).globals
 
 -- the return local has storage, and no other local
 abbrev pub start_locals : Option Function → Option Pointer → List (Option Pointer)
@@ -171,7 +176,9 @@ start_config p picks =
     record {
       state = Some (record {
         shared = record { memory = start_memory p picks; statuses = Enabled ∷ []; holders = [] };
-        threads = thread_of (main_thread (start_frame p (slice_get made.pointers (length p.functions + length p.globals)))) (length (pieces p)) ∷ [];
+        threads = thread_of
+            (main_thread (start_frame p (slice_get made.pointers (length p.functions + length p.globals))))
+            (length (pieces p)) ∷ [];
       });
       output = [];
       last = None;

@@ -36,7 +36,8 @@ world_at t th m x = (record { memory = m; statuses = x.statuses; holders = x.hol
 
 -- the rule that these picks break for the turn, and what the turn comes to with them
 abbrev pub act_fault : Look → ℕ → List ℕ → KeptThread → Memory → Tables → Option Fault
-act_fault look t picks th m x = picks_break (world_at t th m x) (planned look (own_of t th.stack) (world_at t th m x)) picks
+act_fault look t picks th m x =
+    picks_break (world_at t th m x) (planned look (own_of t th.stack) (world_at t th m x)) picks
 
 abbrev pub act_outcome : Look → ℕ → List ℕ → KeptThread → Memory → Tables → Outcome Turn (Shared × Notes)
 act_outcome look t picks th m x = turned look (own_of t th.stack) picks (world_at t th m x)
@@ -49,32 +50,39 @@ pub record BeginsAct (look : KeptLook) (t : ℕ) (th : KeptThread) (m : Memory) 
   pub uncounted : IsUncounted m t th.count
 
 -- the turn is taken: only the stack of the thread and the tables have changed, and memory is with the act
-pub record Acts (look : Look) (t : ℕ) (picks : List ℕ) (old new : KeptThread) (m : Memory) (x y : Tables) (a : Act) : Type 0 where
+pub record Acts (look : Look) (t : ℕ) (picks : List ℕ) (old new : KeptThread) (m : Memory) (x y : Tables)
+    (a : Act) : Type 0 where
   pub legal : act_fault look t picks old m x ≡ None
-  pub turned : Turned (own_of t old.stack) (length x.statuses) (act_outcome look t picks old m x) a.deed new.stack a.scene y
+  pub turned : Turned
+      (own_of t old.stack) (length x.statuses) (act_outcome look t picks old m x) a.deed new.stack a.scene y
   pub thread : new ≡ record old { stack = new.stack }
 
 -- the picks break this rule, and nothing changed
-pub record Keeps (look : Look) (t : ℕ) (picks : List ℕ) (old new : KeptThread) (m n : Memory) (x y : Tables) (f : Fault) : Type 0 where
+pub record Keeps (look : Look) (t : ℕ) (picks : List ℕ) (old new : KeptThread) (m n : Memory) (x y : Tables)
+    (f : Fault) : Type 0 where
   pub broken : act_fault look t picks old m x ≡ Some f
   pub thread : new ≡ old
   pub memory : n ≡ m
   pub tables : y ≡ x
 
 -- the step itself stops for this reason
-pub record Halts (look : Look) (t : ℕ) (picks : List ℕ) (old : KeptThread) (m : Memory) (x : Tables) (r : Reason) : Type 0 where
+pub record Halts (look : Look) (t : ℕ) (picks : List ℕ) (old : KeptThread) (m : Memory) (x : Tables)
+    (r : Reason) : Type 0 where
   pub legal : act_fault look t picks old m x ≡ None
   pub refused : act_outcome look t picks old m x ≡ Refused r
 
-abbrev pub ActAnswer : Look → ℕ → List ℕ → KeptThread → KeptThread → Memory → Memory → Tables → Tables → Result Act TurnFault → Type 0
+abbrev pub ActAnswer : Look → ℕ → List ℕ → KeptThread → KeptThread → Memory → Memory → Tables → Tables
+    → Result Act TurnFault → Type 0
 ActAnswer look t picks old new m n x y (Ok a) = Acts look t picks old new m x y a
-ActAnswer look t picks old new m n x y (Err (turn.Broken e)) = Keeps look t picks old new m n x y (fault_of e.code e.earlier)
+ActAnswer look t picks old new m n x y (Err (turn.Broken e)) =
+    Keeps look t picks old new m n x y (fault_of e.code e.earlier)
 ActAnswer look t picks old new m n x y (Err (turn.Undefined r)) = Halts look t picks old m x r
 ActAnswer look t picks old new m n x y (Err turn.Memory) = Unit {0}
 
 -- a step without a turn stops, or its picks break a rule, or memory ran out
 abbrev pub WithoutAnswer : TurnFault → Progress → Progress → Result (Unit {0}) StepFault → Type 0
-WithoutAnswer (turn.Undefined r) old new result = (result ≡ Ok tt) × (new ≡ record old { gone = true; verdict = Undefined r })
+WithoutAnswer (turn.Undefined r) old new result =
+    (result ≡ Ok tt) × (new ≡ record old { gone = true; verdict = Undefined r })
 WithoutAnswer (turn.Broken e) old new result = (result ≡ Err (answer.BadEntry e.code e.earlier)) × (new ≡ old)
 WithoutAnswer turn.Memory old new result = result ≡ Err answer.Memory
 
@@ -105,8 +113,10 @@ pub record Stays (look : Look) (e : Entry) (old new : Config Own) (f f' : Footpr
   pub same : new ≡ old
   pub foot : f' ≡ f
 
-abbrev pub AdvanceAnswer : Look → Entry → Config Own → Config Own → Footprint → Footprint → Result (Unit {0}) StepFault → Type 0
+abbrev pub AdvanceAnswer : Look → Entry → Config Own → Config Own → Footprint → Footprint → Result (Unit {0}) StepFault
+    → Type 0
 AdvanceAnswer look e old new f f' (Ok x) = Advances look e old new f f'
-AdvanceAnswer look e old new f f' (Err (answer.BadEntry code earlier)) = Stays look e old new f f' (fault_of code earlier)
+AdvanceAnswer look e old new f f' (Err (answer.BadEntry code earlier)) =
+    Stays look e old new f f' (fault_of code earlier)
 AdvanceAnswer look e old new f f' (Err answer.Memory) = Unit {0}
 AdvanceAnswer look e old new f f' (Err answer.Failed) = ⊥

@@ -37,8 +37,8 @@ StartAnswer p picks (Err (answer.BadEntry code earlier)) = start_fault p picks �
 StartAnswer p picks (Err answer.Memory) = Unit {0}
 StartAnswer p picks (Err answer.Failed) = ⊥
 
--- What is handed out behind a step with these footprints, before and behind which so many steps were completed: the footprint of a step that
--- completed; a step that itself stopped has none, and leaves what was there.
+-- What is handed out behind a step with these footprints, before and behind which so many steps were completed: the
+-- footprint of a step that completed; a step that itself stopped has none, and leaves what was there.
 pub data Hands (feet : List Footprint) (before after : ℕ) (old new : Footprint) : Type 0 where
   completed : feet ≡ new ∷ [] → after ≡ before + 1 → Hands feet before after old new
   stopped : feet ≡ [] → after ≡ before → new ≡ old → Hands feet before after old new
@@ -49,7 +49,9 @@ pub record Steps (e : Entry) (old new : Standing) (f f' : Footprint) (went : Tur
   pub legal : program_fault old.look old.config e ≡ None
   pub has_rule : has_rule (thread_step old.look) e.thread e.picks old.config.state ≡ true
   pub after : new ≡ record { look = old.look; failed = false; config = program_step old.look old.config e }
-  pub foot : Hands (foot_from (thread_step old.look) e.thread e.picks old.config.state) old.config.completed new.config.completed f f'
+  pub foot : Hands
+      (foot_from (thread_step old.look) e.thread e.picks old.config.state)
+      old.config.completed new.config.completed f f'
   pub turn : went ≡ turn_of new.config.verdict
 
 -- the entry breaks this rule, and nothing changed

@@ -61,7 +61,8 @@ standing_of m = record { look = setting_look m.setting; failed = m.failed; confi
 
 -- ---- what stays true
 
--- The program is well-formed, there is a pointer for each of its functions and globals, and the layouts are those of its types.
+-- The program is well-formed, there is a pointer for each of its functions and globals, and the layouts are those of
+-- its types.
 pub record IsSet (s : Setting) : Type 0 where
   pub well : WellFormed s.program.now
   pub functions : length s.functions.items ≡ length s.program.now.functions

@@ -60,7 +60,9 @@ pub record Tells (s : Scene) (d : Deed) (n : Notes) : Type 0 where
 -- what the turn of thread t comes to, with this stack and these tables behind it
 abbrev pub bare_by : State Own → ℕ → KeptStack → Tables → Scene → Deed → Notes → Bare Own
 bare_by s t stack x scene d n =
-    settle s t (turn_by d.flow (own_of t stack) stack (option_map (own_of (length s.threads)) d.started)) (shared_in scene x, n)
+    settle s t
+    (turn_by d.flow (own_of t stack) stack (option_map (own_of (length s.threads)) d.started))
+    (shared_in scene x, n)
 
 -- where a bare step leads, and what footprint is handed out
 pub record LeadsTo (b : Bare Own) (old new : Config Own) (f f' : Footprint) : Type 0 where

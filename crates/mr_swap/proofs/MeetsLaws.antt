@@ -1,7 +1,5 @@
 -- Picks break no rule exactly where they meet the asks, and what the picks of neighbouring entries have to do with one another.
-use Rattle.std.proofs.Common.{◌≡◌, ◌≢◌, ℕ, ◌+◌, ◌≤◌, refl, sym, ap, ◌∙◌, subst, List, [], ◌∷◌, ◌++◌, arith, ◌⊎◌, inl, inr, Bool, true, false, cond, Option, Some, None, Contains}
-use Rattle.std.proofs.lemmas.Bool.{ltb-false, and_cases}
-use Rattle.std.proofs.lemmas.List.Elements.{Contains-append_cases}
+use Rattle.std.proofs.Common.{◌≡◌, ◌≢◌, ℕ, ◌+◌, refl, sym, ap, ◌∙◌, subst, List, [], ◌∷◌, arith, ◌⊎◌, inl, inr, Bool, true, false, cond, Option, Some, None, Contains}
 use Rattle.std.specs.Prelude.{◌&&◌, nat_lt, slice_get}
 use Rattle.mr_base.specs.declared.byte.AllocId.{AllocId}
 use Rattle.mr_base.specs.declared.thread.Status.{Status}
@@ -17,7 +15,7 @@ use Rattle.mr_plan.specs.Legal.{Fault, address_fault, else_fault, fault, picks_f
 use Rattle.mr_plan.proofs.ElementLaws.{Contains-nil}
 use Rattle.mr_plan.proofs.LegalLaws.{no_faults}
 use Rattle.mr_plan.proofs.MemoryFacts.{MemoryFacts, Ranged}
-use Rattle.mr_swap.specs.Meets.{AreApart, AreNew, AreNewIn, AreWaiting, Exchanged, IsApartFrom, IsClear, IsClearIn, IsTaken, Meets, MeetsAfter, TakesAlso, TakesOnly, addresses, ranges_after, waiters}
+use Rattle.mr_swap.specs.Meets.{AreApart, AreNew, AreNewIn, AreWaiting, Exchanged, IsApartFrom, IsClear, IsTaken, Meets, MeetsAfter, TakesAlso, TakesOnly, addresses, ranges_after, waiters}
 use Rattle.mr_swap.proofs.ElementTests.{front_cases, here, there}
 use Rattle.mr_swap.proofs.RangeLists.{put_from, put_has, put_keeps, range_from, range_there}
 
@@ -35,23 +33,6 @@ and_turned false false c d h = refl
 -- being apart goes both ways
 pub apart_back : (r q : ℕ × ℕ) → AreApart r q → AreApart q r
 apart_back r q h = and_turned (nat_lt 0 r.1) (nat_lt 0 q.1) (nat_lt r.0 (q.0 + q.1)) (nat_lt q.0 (r.0 + r.1)) h
-
-pub apart_at : (r r' q q' : ℕ × ℕ) → r ≡ r' → q ≡ q' → AreApart r q → AreApart r' q'
-apart_at r r' q q' e f h = subst (λ x. AreApart x q') e (subst (AreApart r) f h)
-
--- in numbers: one is empty, or one ends before the other begins
-pub apart_cases : (r q : ℕ × ℕ) → AreApart r q → (r.1 ≡ 0) ⊎ ((q.1 ≡ 0) ⊎ ((q.0 + q.1 ≤ r.0) ⊎ (r.0 + r.1 ≤ q.0)))
-apart_cases r q h =
-    elim (and_cases (nat_lt 0 r.1) _ h) [
-      | inl a ↦ inl (let e = ltb-false 0 r.1 a in omega arith)
-      | inr b ↦ inr (elim (and_cases (nat_lt 0 q.1) _ b) [
-        | inl c ↦ inl (let e = ltb-false 0 q.1 c in omega arith)
-        | inr d ↦ inr (elim (and_cases (nat_lt r.0 (q.0 + q.1)) _ d) [
-          | inl e ↦ inl (ltb-false _ _ e)
-          | inr e ↦ inr (ltb-false _ _ e)
-        ])
-      ])
-    ]
 
 pub clear_taken : (rs : Ranges) (r q : ℕ × ℕ) → IsClear rs r → IsTaken rs q → AreApart r q
 clear_taken rs r q c h = c h.0 (record { addr = q.0; size = q.1 }) h.1
@@ -198,11 +179,6 @@ module _ (ss : List Status) (rs : Ranges) (t count : ℕ) (asks : List Ask) (pic
   pub legal_of_meets : Meets ss rs asks picks → picks_fault ss rs t count asks picks ≡ None
   legal_of_meets m = meets_to ss rs [] rs t count asks picks (λ q z. inl z) m
 
--- the identities play no part
-pub legal_elsewhere : (ss : List Status) (rs : Ranges) (t count t' count' : ℕ) (asks : List Ask) (picks : List ℕ) → AreNew rs t count
-    → picks_fault ss rs t count asks picks ≡ None → picks_fault ss rs t' count' asks picks ≡ None
-legal_elsewhere ss rs t count t' count' asks picks new h = legal_of_meets ss rs t' count' asks picks (meets_of_legal ss rs t count asks picks new h)
-
 -- ---- what the picks meet, taken apart
 
 -- each picked range is clear
@@ -277,25 +253,6 @@ module _ (ss : List Status) (rs rs' : Ranges) (asks : List Ask) (picks : List �
   pub meets_fewer : ((q : ℕ × ℕ) → IsTaken rs' q → IsTaken rs q) → Meets ss rs' asks picks
   meets_fewer f = meets_more (λ q k. inl (f q k))
 
--- What is taken and the rest have to do with the picks one by one: they meet the asks where nothing is taken, and each picked range is clear of what is.
-pub meets_split : (ss : List Status) (rs : Ranges) (asks : List Ask) (picks : List ℕ) → Meets ss rs asks picks
-    → Meets ss [] asks picks × ((r : ℕ × ℕ) → Contains (addresses asks picks) r → IsClear rs r)
-meets_split ss rs asks picks m =
-    (meets_fewer ss rs [] asks picks m (λ q k. absurd (Contains-nil _ k.1)), meets_clear ss rs [] asks picks m)
-
-pub meets_joined : (ss : List Status) (rs : Ranges) (asks : List Ask) (picks : List ℕ) → Meets ss [] asks picks
-    → ((r : ℕ × ℕ) → Contains (addresses asks picks) r → IsClear rs r) → Meets ss rs asks picks
-meets_joined ss rs asks picks m c = meets_there ss ss [] rs [] asks picks c (meets_waiting ss [] [] asks picks m) m
-
--- with entries more, whose ranges are apart from all picks
-pub meets_append : (ss : List Status) (rs more : Ranges) (asks : List Ask) (picks : List ℕ) → ((q : ℕ × ℕ) → IsTaken more q → IsApartFrom (addresses asks picks) q)
-    → Meets ss rs asks picks → Meets ss (rs ++ more) asks picks
-meets_append ss rs more asks picks f m =
-    meets_more ss rs (rs ++ more) asks picks m (λ q k. elim (Contains-append_cases rs more (k.0, record { addr = q.0; size = q.1 }) k.1) [
-      | inl y ↦ inl (k.0, y)
-      | inr y ↦ inr (f q (k.0, y))
-    ])
-
 -- where the picked waiters wait
 pub meets_waiters : (ss ss' : List Status) (rs : Ranges) (asks : List Ask) (picks : List ℕ) → AreWaiting ss' (waiters asks picks) → Meets ss rs asks picks → Meets ss' rs asks picks
 meets_waiters ss ss' rs asks picks w m = meets_there ss ss' rs rs [] asks picks (meets_clear ss rs [] asks picks m) w m
@@ -358,14 +315,6 @@ exchanged ss0 ss1 ss2 rs rs1 rs2 asks picks asks' picks' also only w w' m m' =
 
 -- ---- in memory
 
-pub clear_in : (m : Memory) (r : ℕ × ℕ) → IsClear (ranges_of m) r → IsClearIn m r
-clear_in m r c id a h = c id (record { addr = a.addr; size = a.span }) (range_there m id a h)
-
-pub clear_of_memory : (m : Memory) (r : ℕ × ℕ) → IsClearIn m r → IsClear (ranges_of m) r
-clear_of_memory m r c id q h =
-    let f = range_from m id q h in
-    apart_at r r (f.0.addr, f.0.span) (q.addr, q.size) refl (λ i. (f.2 i, f.3 i)) (c id f.0 f.1)
-
 pub new_of_memory : (m : Memory) (t count : ℕ) → AreNewIn m t count → AreNew (ranges_of m) t count
 new_of_memory m t count new id q h e = let f = range_from m id q h in new id f.0 f.1 e
 
@@ -392,14 +341,6 @@ module _ (m0 : Memory) (t c : ℕ) (m : Memory) (n : Tally) (f : MemoryFacts m0 
         | inl made ↦ inr (subst (Contains n.ranges) (λ i. (r.addr i, r.span i)) made.1)
         | inr was ↦ inl (taken_of_memory m0 q (record { id = r.id; alloc = was.alloc; there = was.there; addr = was.lasting.addr ∙ r.addr; span = was.lasting.span ∙ r.span }))
       ]
-
--- the picks met the asks over a memory; they do over one where each range stood before or is apart from them
-pub meets_in_memory : (ss : List Status) (m m' : Memory) (asks : List Ask) (picks : List ℕ)
-    → ((r : ℕ × ℕ) → Contains (addresses asks picks) r → IsClearIn m r → IsClearIn m' r) → Meets ss (ranges_of m) asks picks → Meets ss (ranges_of m') asks picks
-meets_in_memory ss m m' asks picks f k =
-    meets_there ss ss (ranges_of m) (ranges_of m') [] asks picks
-    (λ r h. clear_of_memory m' r (f r h (clear_in m r (meets_clear ss (ranges_of m) [] asks picks k r h))))
-    (meets_waiting ss (ranges_of m) [] asks picks k) k
 
 -- TWO NEIGHBOURING STEPS, the second of which leads from m0 to m2 where it goes first
 pub steps_exchanged : (ss0 ss1 ss2 : List Status) (m0 m1 m2 : Memory) (t ct u cu : ℕ) (n n' : Tally) (asks : List Ask) (picks : List ℕ) (asks' : List Ask) (picks' : List ℕ)

@@ -1,7 +1,8 @@
 -- What holds of the tables of a run. (MiniRust, lang: threads and locks.)
 use Rattle.std.specs.Prelude.{◌≡◌, ℕ, Bool, false, Option, Some, Ok, slice_get}
 use Rattle.mr_base.specs.declared.thread.Status.TheVariants.{OnJoin, OnLock}
-use Rattle.mr_sync.specs.Tables.{Tables, IsEnabled, acquired, any_waits, created, ended, holder_of, joined, names_waiter, over, released, spawned, start_tables}
+use Rattle.mr_sync.specs.Tables.{Tables, IsEnabled, acquired, any_waits, created, ended, holder_of, joined}
+use Rattle.mr_sync.specs.Tables.{names_waiter, over, released, spawned, start_tables}
 
 -- a thread that waits for a lock waits for one that exists and has a holder; one that waits for a join waits for a
 -- thread that exists and hasn't ended

@@ -37,12 +37,14 @@ abbrev pub thread_slots : Program → List (Thread Own) → List Slot
 thread_slots p [] = []
 thread_slots p (th ∷ threads) = own_slots p th.own ++ thread_slots p threads
 
--- WHAT A STATE KEEPS: each thread has its number, a status, and frames that fit it; a waiting thread waits for what is there; each identity
--- is of a thread that counted it; each local that has storage has it in memory, apart from all others.
+-- WHAT A STATE KEEPS: each thread has its number, a status, and frames that fit it; a waiting thread waits for what is
+-- there; each identity is of a thread that counted it; each local that has storage has it in memory, apart from all
+-- others.
 pub record SoundState (p : Program) (s : State Own) : Type 0 where
   pub tables : IsSoundTables (tables_of s.shared)
   pub many : length s.shared.statuses ≡ length s.threads
   pub numbered : (t : ℕ) (th : Thread Own) → slice_get s.threads t ≡ Some th → th.own.thread ≡ t
-  pub fits : (t : ℕ) (status : Status) (th : Thread Own) → slice_get s.shared.statuses t ≡ Some status → slice_get s.threads t ≡ Some th → FitsStatus p status th.own.stack
+  pub fits : (t : ℕ) (status : Status) (th : Thread Own) → slice_get s.shared.statuses t ≡ Some status
+      → slice_get s.threads t ≡ Some th → FitsStatus p status th.own.stack
   pub counted : (id : AllocId) (a : Allocation) → fin.get s.shared.memory id ≡ Some a → IsCounted s.threads id
   pub held : AreHeld s.shared.memory (thread_slots p s.threads)

@@ -55,7 +55,8 @@ onward own Aborts = Done machine.Aborts
 
 -- what a frame plans, in a step
 abbrev pub in_step : Own → Plan (MemoryScript Onward) → Plan (StepScript Turn)
-in_step own plan = record { creates = plan.creates; asks = plan.asks; go = λ picks. memory_part (plan.go picks) >>= onward own }
+in_step own plan =
+    record { creates = plan.creates; asks = plan.asks; go = λ picks. memory_part (plan.go picks) >>= onward own }
 
 abbrev pub frame_step : Look → Own → TurnPlan
 frame_step look own = reads (frame_plan look own.thread own.stack) >>= λ plan. Done (in_step own plan)
@@ -103,11 +104,13 @@ spawn_function own d o number argument (Some fn) = spawn_types own d o number fn
 
 abbrev pub spawn_number : Look → Own → DueDo → Operands → Val → Option ℕ → TurnPlan
 spawn_number look own d o argument None = Undefined NotAFunction
-spawn_number look own d o argument (Some number) = spawn_function own d o number argument (slice_get look.program.functions number)
+spawn_number look own d o argument (Some number) =
+    spawn_function own d o number argument (slice_get look.program.functions number)
 
 -- `spawn`: 117, 118; then the storage of the new thread's first frame
 abbrev pub spawn : Look → Own → DueDo → Operands → List Val → TurnPlan
-spawn look own d o (callee ∷ argument ∷ []) = pointer callee >>= λ c. spawn_number look own d o argument (callee_of look.functions c)
+spawn look own d o (callee ∷ argument ∷ []) =
+    pointer callee >>= λ c. spawn_number look own d o argument (callee_of look.functions c)
 spawn look own d o _ = IllFormed
 
 abbrev pub finished : Own → DueDo → Operands → Operation → TurnPlan

@@ -5,7 +5,6 @@ use Rattle.std.proofs.lemmas.Option.{same_Some}
 use Rattle.std.specs.Prelude.{◌&&◌}
 use Rattle.std.specs.Option.{option_map}
 use Rattle.mr_ast.specs.declared.program.Function.{Function}
-use Rattle.mr_ast.specs.declared.program.LocalName.{LocalName}
 use Rattle.mr_ast.specs.declared.types.Ty.{Ty}
 use Rattle.mr_ast.specs.declared.types.Ty.TheVariants as ty
 use Rattle.mr_wf.specs.SameTypes.{same_type}
@@ -27,10 +26,6 @@ last_false : (b : Bool) → (b && false) ≡ false
 last_false true = refl
 last_false false = refl
 
-last_true : (b : Bool) → (b && true) ≡ b
-last_true true = refl
-last_true false = refl
-
 -- ---- the test
 
 -- more or fewer arguments
@@ -42,16 +37,3 @@ other_types fn types other e = by_types types (all_length (map (local_type fn) (
     by_types (t ∷ []) h = last_false (same_type unit t)
     by_types (t ∷ u ∷ []) h = absurd (other (omega arith))
     by_types (t ∷ u ∷ v ∷ rest) h = ap (λ b. same_type unit t && b) (last_false (same_type ty.Raw u)) ∙ last_false (same_type unit t)
-
--- one argument
-pub two_types : (fn : Function) (x : LocalName) (types : List Ty) (t u : Ty) → fn.args ≡ x ∷ [] → local_type fn fn.ret ≡ Some t → local_type fn x ≡ Some u → kept_types fn ≡ Some types
-    → same_types thread_types types ≡ (same_type unit t && same_type ty.Raw u)
-two_types fn x types t u args ret arg e =
-    ap (same_types thread_types) (same_Some types (t ∷ u ∷ []) (sym e ∙ are))
-    ∙ ap (λ b. same_type unit t && b) (last_true (same_type ty.Raw u))
-  where
-    are : kept_types fn ≡ Some (t ∷ u ∷ [])
-    are =
-        ap (λ xs. all_there (local_type fn fn.ret ∷ map (local_type fn) xs)) args
-        ∙ ap (λ o. all_there (o ∷ local_type fn x ∷ [])) ret
-        ∙ ap (λ o. all_there (Some t ∷ o ∷ [])) arg

@@ -1,5 +1,6 @@
 -- What the turn of a thread comes to whose next step is an intrinsic, behind the evaluation of what it is given.
-use Rattle.std.specs.Prelude.{◌≡◌, ℕ, ◌<◌, ◌^◌, true, List, [], ◌∷◌, length, Option, None, Some, Result, Ok, Err, if◌then◌else◌, slice_get}
+use Rattle.std.specs.Prelude.{◌≡◌, ℕ, ◌<◌, ◌^◌, true, List, [], ◌∷◌, length, Option, None, Some, Result, Ok, Err}
+use Rattle.std.specs.Prelude.{if◌then◌else◌, slice_get}
 use Rattle.std.specs.Option.{option_map}
 use Rattle.mr_ast.specs.declared.program.Function.{Function}
 use Rattle.mr_ast.specs.declared.program.Intrinsic.{Intrinsic}
@@ -46,7 +47,8 @@ use Rattle.mr_thread.specs.Steps.{Own, Turn, operated, thread_types}
 use Rattle.mr_turn.specs.Turning.{asks_break, begun, own_of, picks_break, shared_in}
 
 -- the plan of an intrinsic that is given this, or why it stops before it has one
-unfoldable pub do_planned : Look → Own → DueDo → Operands → Shared × Notes → Outcome (Plan (StepScript Turn)) (Shared × Notes)
+unfoldable pub do_planned : Look → Own → DueDo → Operands → Shared × Notes
+    → Outcome (Plan (StepScript Turn)) (Shared × Notes)
 do_planned look own d o w = run answer (operated look own d o d.op) w
 
 -- what it comes to with these picks
@@ -54,7 +56,8 @@ unfoldable pub do_turned : Look → Own → DueDo → Operands → List ℕ → 
 do_turned look own d o picks w = run answer (operated look own d o d.op >>= λ plan. plan.go picks) w
 
 -- The intrinsic is due and was given this by then, which fits it; its thread is enabled.
-pub record IsGiven (look : KeptLook) (stack : KeptStack) (s : Scene) (x : Tables) (call : DoCall) (d : DueDo) : Type 0 where
+pub record IsGiven (look : KeptLook) (stack : KeptStack) (s : Scene) (x : Tables) (call : DoCall)
+    (d : DueDo) : Type 0 where
   pub ready : IsReady look
   pub fits : FitsStack look.program.now (stack_of stack)
   pub due : next_do (look_of look) (stack_of stack) ≡ Some d
@@ -65,10 +68,12 @@ pub record IsGiven (look : KeptLook) (stack : KeptStack) (s : Scene) (x : Tables
 
 -- the rule that the picks break, and what the step comes to
 abbrev pub do_breaks : KeptLook → KeptStack → Scene → Tables → DoCall → DueDo → List ℕ → Option Fault
-do_breaks look stack s x call d picks = picks_break (begun s x) (do_planned (look_of look) (own_of s.thread stack) d (operands_of call) (begun s x)) picks
+do_breaks look stack s x call d picks =
+    picks_break (begun s x) (do_planned (look_of look) (own_of s.thread stack) d (operands_of call) (begun s x)) picks
 
 abbrev pub do_comes_to : KeptLook → KeptStack → Scene → Tables → DoCall → DueDo → List ℕ → Outcome Turn (Shared × Notes)
-do_comes_to look stack s x call d picks = do_turned (look_of look) (own_of s.thread stack) d (operands_of call) picks (begun s x)
+do_comes_to look stack s x call d picks =
+    do_turned (look_of look) (own_of s.thread stack) d (operands_of call) picks (begun s x)
 
 -- the thread has made fewer than 2^62 allocations, none of them with its count or a greater one
 pub record CanAsk (s : Scene) : Type 0 where
@@ -77,7 +82,8 @@ pub record CanAsk (s : Scene) : Type 0 where
 
 -- the rule that the picks break for what an operation needs
 abbrev pub MeetsNeeds : Scene → Tables → Needs → List ℕ → Option Fault
-MeetsNeeds s x n picks = else_fault (creation_fault (shared_in s x) (creation_of n.creates)) (asks_break s x (asks_of n.ask) picks)
+MeetsNeeds s x n picks =
+    else_fault (creation_fault (shared_in s x) (creation_of n.creates)) (asks_break s x (asks_of n.ask) picks)
 
 -- an intrinsic that is due can end with this value
 pub record CanEnd (look : KeptLook) (stack : KeptStack) (call : DoCall) (v : Option Val) : Type 0 where
@@ -141,7 +147,8 @@ pub record IsStart (look : KeptLook) {o : Operands} (g : SpawnGiven o) (number :
   pub same : same_types thread_types types ≡ true
 
 -- It is due, and its callee is the function of this number.
-pub record SpawnsFunction (look : KeptLook) (stack : KeptStack) (s : Scene) (x : Tables) (call : DoCall) (d : DueDo) (number : ℕ) : Type 0 where
+pub record SpawnsFunction (look : KeptLook) (stack : KeptStack) (s : Scene) (x : Tables) (call : DoCall) (d : DueDo)
+    (number : ℕ) : Type 0 where
   pub given : IsGiven look stack s x call d
   pub is : d.op ≡ intrinsic.Spawn
   pub given_to : SpawnGiven (operands_of call)
@@ -152,7 +159,8 @@ pub record SpawnsFunction (look : KeptLook) (stack : KeptStack) (s : Scene) (x :
   pub typed : kept_types function ≡ Some types
 
 -- It is due, and its picks break no rule.
-pub record StartsThread (look : KeptLook) (stack : KeptStack) (s : Scene) (x : Tables) (call : DoCall) (d : DueDo) (number : ℕ) (picks : List ℕ) : Type 0 where
+pub record StartsThread (look : KeptLook) (stack : KeptStack) (s : Scene) (x : Tables) (call : DoCall) (d : DueDo)
+    (number : ℕ) (picks : List ℕ) : Type 0 where
   pub given : IsGiven look stack s x call d
   pub is : d.op ≡ intrinsic.Spawn
   pub given_to : SpawnGiven (operands_of call)

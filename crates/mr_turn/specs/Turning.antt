@@ -1,5 +1,6 @@
 -- What the turn of a thread comes to, and how the code answers it.
-use Rattle.std.specs.Prelude.{◌≡◌, ℕ, ◌<◌, ◌^◌, Bool, true, false, List, [], ◌∷◌, length, Option, None, Some, Result, Ok, Err}
+use Rattle.std.specs.Prelude.{◌≡◌, ℕ, ◌<◌, ◌^◌, Bool, true, false, List, [], ◌∷◌, length, Option, None, Some, Result}
+use Rattle.std.specs.Prelude.{Ok, Err}
 use Rattle.std.specs.Option.{option_map}
 use Rattle.mr_base.specs.declared.reason.Reason.{Reason}
 use Rattle.mr_base.specs.declared.thread.Event.TheVariants.{Quiet}
@@ -81,9 +82,10 @@ abbrev pub printed_lines : Option (List ℕ) → List (List ℕ)
 printed_lines None = []
 printed_lines (Some text) = text ∷ []
 
--- The step went on to this, with this scene, these tables and this stack behind it, and noted what the deed tells. A thread that it
--- starts has the number behind those that there were.
-pub record Turned (own : Own) (threads : ℕ) (o : Outcome Turn (Shared × Notes)) (d : Deed) (stack : KeptStack) (s : Scene) (x : Tables) : Type 0 where
+-- The step went on to this, with this scene, these tables and this stack behind it, and noted what the deed tells. A
+-- thread that it starts has the number behind those that there were.
+pub record Turned (own : Own) (threads : ℕ) (o : Outcome Turn (Shared × Notes)) (d : Deed) (stack : KeptStack)
+    (s : Scene) (x : Tables) : Type 0 where
   pub notes : Notes
   pub goes : o ≡ Went (turn_by d.flow own stack (option_map (own_of threads) d.started)) (shared_in s x, notes)
   pub tally : notes.tally ≡ tally_of s
@@ -112,15 +114,17 @@ pub record IsSame (k : KeptStack) (s : Scene) (x : Tables) (k' : KeptStack) (s' 
   pub memory : s'.memory ≡ s.memory
   pub tables : x' ≡ x
 
--- The deed of a step whose picks break no rule, or the rule that they break, or the reason for which the step itself stops.
-abbrev pub TurnAnswer : Result Deed TurnFault → Option Fault → Outcome Turn (Shared × Notes) → (Deed → Type 0) → Type 0 → Type 0
+-- The deed of a step whose picks break no rule, or the rule that they break, or the reason for which the step itself
+-- stops.
+abbrev pub TurnAnswer : Result Deed TurnFault → Option Fault → Outcome Turn (Shared × Notes) → (Deed → Type 0) → Type 0
+    → Type 0
 TurnAnswer (Ok d) fault o Went' same = (fault ≡ None) × Went' d
 TurnAnswer (Err (answer.Broken e)) fault o Went' same = (fault ≡ Some (fault_of e)) × same
 TurnAnswer (Err (answer.Undefined r)) fault o Went' same = (fault ≡ None) × (o ≡ Refused r)
 TurnAnswer (Err answer.Memory) fault o Went' same = Unit {0}
 
--- An enabled thread with a stack that fits the program begins its step; it has made fewer than 2^62 allocations, none of them with its
--- count or a greater one.
+-- An enabled thread with a stack that fits the program begins its step; it has made fewer than 2^62 allocations, none
+-- of them with its count or a greater one.
 pub record BeginsTurn (look : KeptLook) (stack : KeptStack) (s : Scene) (x : Tables) : Type 0 where
   pub ready : IsReady look
   pub fits : FitsStack look.program.now (stack_of stack)
@@ -170,5 +174,6 @@ abbrev pub comes_to : KeptLook → KeptStack → Scene → Tables → List ℕ �
 comes_to look stack s x picks = turned (look_of look) (own_of s.thread stack) picks (begun s x)
 
 -- a deed of it, with what stands behind it
-abbrev pub Does : KeptStack → Scene → Tables → Outcome Turn (Shared × Notes) → KeptStack → Scene → Tables → Deed → Type 0
+abbrev pub Does : KeptStack → Scene → Tables → Outcome Turn (Shared × Notes) → KeptStack → Scene → Tables → Deed
+    → Type 0
 Does stack s x o stack' s' x' d = Turned (own_of s.thread stack) (length x.statuses) o d stack' s' x'

@@ -1,5 +1,6 @@
 -- The value that bytes mean at a type. (MiniRust, language: representation of values.)
-use Rattle.std.specs.Prelude.{◌≡◌, ℕ, zero, suc, ◌%◌, Bool, true, false, not, ◌&&◌, ◌==◌, if◌then◌else◌, List, [], ◌∷◌, ◌++◌, map, length, take, drop, Option, Some, None, option_map, option_and_then}
+use Rattle.std.specs.Prelude.{◌≡◌, ℕ, zero, suc, ◌%◌, Bool, true, false, not, ◌&&◌, ◌==◌, if◌then◌else◌, List, [], ◌∷◌}
+use Rattle.std.specs.Prelude.{◌++◌, map, length, take, drop, Option, Some, None, option_map, option_and_then}
 use Rattle.mr_ast.specs.declared.types.Num.{Num}
 use Rattle.mr_ast.specs.declared.types.Ty.{Ty, out-Ty}
 use Rattle.mr_ast.specs.declared.types.Ty.TheOpen.{Ty-F, Variant-F}
@@ -25,7 +26,8 @@ bool_of (suc (suc n)) = None
 
 -- the pointer that bytes spell, where its address passes a test
 abbrev pub pointer_where : (ℕ → Bool) → Reader
-pointer_where test bytes = option_and_then (λ (p : Pointer). if test p.addr then Some (val.Ptr p) else None) (pointer_of bytes)
+pointer_where test bytes =
+    option_and_then (λ (p : Pointer). if test p.addr then Some (val.Ptr p) else None) (pointer_of bytes)
 
 -- the addresses of functions and of references of an alignment
 abbrev pub is_not_null : ℕ → Bool
@@ -38,12 +40,15 @@ is_aligned align addr = is_not_null addr && (addr % align == 0)
 -- the values of fields, each read from its offset; bytes in none of them don't matter
 abbrev pub fields_in : List (ℕ × (Ty × Reader)) → Bytes → Option (List Val)
 fields_in [] bytes = Some []
-fields_in (f ∷ fields) bytes = option_and_then (λ v. option_map (λ vs. v ∷ vs) (fields_in fields bytes)) (f.1.1 (part f.0 (size_of f.1.0) bytes))
+fields_in (f ∷ fields) bytes =
+    option_and_then (λ v. option_map (λ vs. v ∷ vs) (fields_in fields bytes)) (f.1.1 (part f.0 (size_of f.1.0) bytes))
 
 -- the values of so many elements of a size, one behind the other
 abbrev pub elements_in : ℕ → ℕ → Reader → Bytes → Option (List Val)
 elements_in zero size read bytes = Some []
-elements_in (suc count) size read bytes = option_and_then (λ v. option_map (λ vs. v ∷ vs) (elements_in count size read (drop size bytes))) (read (take size bytes))
+elements_in (suc count) size read bytes =
+    option_and_then
+    (λ v. option_map (λ vs. v ∷ vs) (elements_in count size read (drop size bytes))) (read (take size bytes))
 
 -- the bytes of chunks, in order
 abbrev pub chunks_in : List (ℕ × ℕ) → Bytes → Bytes
@@ -66,7 +71,8 @@ decode_step (Ty-F.Ref size align never) bytes = if never then None else pointer_
 decode_step (Ty-F.Tuple size align fields) bytes = option_map val.Tuple (fields_in fields bytes)
 decode_step (Ty-F.Array count elem) bytes = option_map val.Tuple (elements_in count (size_of elem.0) elem.1 bytes)
 decode_step (Ty-F.Union size align fields chunks) bytes = Some (val.Union (chunks_in chunks bytes))
-decode_step (Ty-F.Enum size align disc variants tree) bytes = option_and_then (variant_in variants bytes) (walk tree bytes)
+decode_step (Ty-F.Enum size align disc variants tree) bytes =
+    option_and_then (variant_in variants bytes) (walk tree bytes)
 
 -- a variant means what its type means
 abbrev pub variant_decode_step : Variant-F (Ty × Reader) (Variant × Reader) → Reader
@@ -89,7 +95,8 @@ read_fields fields = fields_in (map (λ f. (f.0, (f.1, decoded f.1))) fields)
 abbrev pub read_variant : List Variant → Bytes → Num → Option Val
 read_variant [] bytes n = None
 read_variant (v ∷ variants) bytes n =
-    if same_num v.number n then option_map (λ x. val.Variant n x) (decoded v.ty bytes) else read_variant variants bytes n
+    if same_num v.number n then option_map (λ x. val.Variant n x) (decoded v.ty bytes)
+    else read_variant variants bytes n
 
 -- an integer, a bool or a pointer
 abbrev pub is_scalar_layer : Ty-F Ty Variant → Bool

@@ -1,5 +1,6 @@
 -- Discriminants as an integer's bits, and the walk of a tree that finds one in the bytes of an enum.
-use Rattle.std.specs.Prelude.{ℕ, ◌*◌, ◌-◌, ◌^◌, true, false, not, ◌&&◌, nat_lt, if◌then◌else◌, List, [], ◌∷◌, Option, Some, None, option_and_then}
+use Rattle.std.specs.Prelude.{ℕ, ◌*◌, ◌-◌, ◌^◌, true, false, not, ◌&&◌, nat_lt, if◌then◌else◌, List, [], ◌∷◌, Option}
+use Rattle.std.specs.Prelude.{Some, None, option_and_then}
 use Rattle.mr_ast.specs.declared.types.IntType.{IntType}
 use Rattle.mr_ast.specs.declared.types.Num.{Num}
 use Rattle.mr_ast.specs.declared.types.Tree.{Tree}
@@ -34,7 +35,8 @@ abbrev pub walk_step : Tree-F Walk → Walk
 walk_step (Tree-F.Known n) bytes = Some n
 walk_step Tree-F.Invalid bytes = None
 walk_step (Tree-F.Branch at int cases rest) bytes =
-    option_and_then (λ bits. chosen_case (number_of_bits int bits) cases rest bytes) (number_of (part at (int_size int) bytes))
+    option_and_then
+    (λ bits. chosen_case (number_of_bits int bits) cases rest bytes) (number_of (part at (int_size int) bytes))
 
 -- the discriminant that a tree finds in bytes
 unfoldable pub walk : Tree → Walk

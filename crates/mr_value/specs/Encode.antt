@@ -37,7 +37,8 @@ element_bytes write (v ∷ vs) = write v ++ element_bytes write vs
 -- bytes into which content is written in pieces, each in its chunk
 abbrev pub with_chunks : List (ℕ × ℕ) → Bytes → Bytes → Bytes
 with_chunks [] content bytes = bytes
-with_chunks (c ∷ chunks) content bytes = with_chunks chunks (drop c.1 content) (with_range_replaced bytes c.0 (take c.1 content))
+with_chunks (c ∷ chunks) content bytes =
+    with_chunks chunks (drop c.1 content) (with_range_replaced bytes c.0 (take c.1 content))
 
 -- the bytes of a tag's number
 abbrev pub tag_bytes : Tag → Bytes
@@ -51,7 +52,8 @@ with_tags (g ∷ tags) bytes = with_tags tags (with_range_replaced bytes g.at (t
 -- a value of the variant with a number, as the variant's type writes it, and the variant's tags over that
 abbrev pub variant_bytes : List (Variant × Writer) → Num → Val → Bytes
 variant_bytes [] n v = []
-variant_bytes (w ∷ variants) n v = if same_num w.0.number n then with_tags w.0.tags (w.1 v) else variant_bytes variants n v
+variant_bytes (w ∷ variants) n v =
+    if same_num w.0.number n then with_tags w.0.tags (w.1 v) else variant_bytes variants n v
 
 -- one level of a type and one of a value, with each part of the type beside how it is written
 abbrev pub encode_step : Ty-F (Ty × Writer) (Variant × Writer) → Val-F Val → Bytes
@@ -81,7 +83,8 @@ write_fields fields = with_fields (map (λ f. (f.0, (f.1, encoding_of f.1))) fie
 -- the bytes of a variant
 abbrev pub write_variant : List Variant → Num → Val → Bytes
 write_variant [] n v = []
-write_variant (w ∷ variants) n v = if same_num w.number n then with_tags w.tags (encoding_of w.ty v) else write_variant variants n v
+write_variant (w ∷ variants) n v =
+    if same_num w.number n then with_tags w.tags (encoding_of w.ty v) else write_variant variants n v
 
 -- a list of bytes begins with another
 abbrev pub BeginsWith : Bytes → Bytes → Type 0

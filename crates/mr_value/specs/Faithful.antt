@@ -1,5 +1,6 @@
 -- Which values are read back from the bytes that they are written as.
-use Rattle.std.specs.Prelude.{ℕ, ◌^◌, Bool, true, false, not, ◌&&◌, nat_lt, if◌then◌else◌, List, [], ◌∷◌, map, Option, Some, None}
+use Rattle.std.specs.Prelude.{ℕ, ◌^◌, Bool, true, false, not, ◌&&◌, nat_lt, if◌then◌else◌, List, [], ◌∷◌, map, Option}
+use Rattle.std.specs.Prelude.{Some, None}
 use Rattle.mr_ast.specs.declared.types.Num.{Num}
 use Rattle.mr_ast.specs.declared.types.Ty.{Ty}
 use Rattle.mr_ast.specs.declared.types.Ty.TheVariants as ty
@@ -35,15 +36,17 @@ faithful_step (Ty-F.Tuple size align fields) (Val-F.Tuple vs) = fields_pass fiel
 faithful_step (Ty-F.Array count elem) (Val-F.Tuple vs) = elements_pass elem.1 vs
 faithful_step (Ty-F.Union size align fields chunks) (Val-F.Union content) = true
 faithful_step (Ty-F.Enum size align disc variants tree) (Val-F.Variant n v) =
-    is_found n (walk tree (encoding_of (ty.Enum size align disc (map (λ w. w.0) variants) tree) (val.Variant n v))) && variant_passes variants n v
+    is_found n (walk tree (encoding_of (ty.Enum size align disc (map (λ w. w.0) variants) tree) (val.Variant n v)))
+    && variant_passes variants n v
 faithful_step _ _ = false
 
 -- a variant is faithful where its value is
 abbrev pub variant_faithful_step : Variant-F (Ty × ValueTest) (Variant × ValueTest) → ValueTest
 variant_faithful_step v = v.ty.1
 
--- a value of a type's shape is read back, where no part of it is a variant that the enum's tree, walked over the encoded
--- bytes, doesn't reach, an uninhabited reference, or a function pointer or reference whose address decoding refuses
+-- a value of a type's shape is read back, where no part of it is a variant that the enum's tree, walked over the
+-- encoded bytes, doesn't reach, an uninhabited reference, or a function pointer or reference whose address decoding
+-- refuses
 unfoldable pub is_faithful : Ty → ValueTest
 is_faithful = para-Ty ValueTest ValueTest (λ layer v. faithful_step layer (out-Val v)) variant_faithful_step
 

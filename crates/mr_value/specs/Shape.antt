@@ -1,5 +1,6 @@
 -- Which values have the shape of a type.
-use Rattle.std.specs.Prelude.{ℕ, ◌+◌, ◌*◌, ◌^◌, Bool, true, false, ◌&&◌, ◌==◌, nat_lt, if◌then◌else◌, List, [], ◌∷◌, map, length}
+use Rattle.std.specs.Prelude.{ℕ, ◌+◌, ◌*◌, ◌^◌, Bool, true, false, ◌&&◌, ◌==◌, nat_lt, if◌then◌else◌, List, [], ◌∷◌}
+use Rattle.std.specs.Prelude.{map, length}
 use Rattle.mr_ast.specs.declared.types.Num.{Num}
 use Rattle.mr_ast.specs.declared.types.Ty.{Ty}
 use Rattle.mr_ast.specs.declared.types.Ty.TheOpen.{Ty-F, Variant-F}
@@ -53,8 +54,9 @@ shape_step _ _ = false
 abbrev pub variant_shape_step : Variant-F (Ty × ValueTest) (Variant × ValueTest) → ValueTest
 variant_shape_step v = v.ty.1
 
--- a value has the shape of a type: an integer of its width, a bool, a pointer whatever its address, one value of the right
--- shape for each field or element, as many bytes as a union's chunks have, or a variant of an enum with a value of its shape
+-- a value has the shape of a type: an integer of its width, a bool, a pointer whatever its address, one value of the
+-- right shape for each field or element, as many bytes as a union's chunks have, or a variant of an enum with a value
+-- of its shape
 unfoldable pub has_shape : Ty → ValueTest
 has_shape = para-Ty ValueTest ValueTest (λ layer v. shape_step layer (out-Val v)) variant_shape_step
 

@@ -1,17 +1,16 @@
 -- Which type a kind of type is, and what it means to be written as a type that has no parts.
-use Rattle.std.proofs.Common.{◌≡◌, ◌↔◌, ℕ, ◌*◌, Bool, true, List, [], ◌∷◌, Some, refl, sym, ap, subst, ◌∙◌}
+use Rattle.std.proofs.Common.{◌≡◌, ◌↔◌, ℕ, Bool, true, List, [], ◌∷◌, Some, refl, sym, ap, subst, ◌∙◌}
 use Rattle.std.proofs.lemmas.Bool.Decides.{same_from_decides}
-use Rattle.std.proofs.lemmas.Option.{same_Some}
 use Rattle.mr_ast.specs.declared.types.IntType.{IntType}
 use Rattle.mr_ast.specs.declared.types.Ty.{Ty, roll-Ty, out-Ty}
 use Rattle.mr_ast.specs.declared.types.Ty.TheVariants as ty
 use Rattle.mr_ast.specs.declared.types.Ty.TheOpen.{Ty-F}
 use Rattle.mr_ast.specs.declared.types.Variant.{Variant}
 use Rattle.mr_ast.specs.Integers.{int_size}
-use Rattle.mr_wf.specs.SameTypes.{same_layer, same_type}
-use Rattle.mr_wf.specs.Types.{chained, field_in, field_type, integer_in, integer_of, overflow_type}
+use Rattle.mr_wf.specs.SameTypes.{same_type}
+use Rattle.mr_wf.specs.Types.{integer_in, integer_of}
 use Rattle.mr_wf.specs.Operands.{is_bool, is_bool_layer, is_fn_ptr, is_fn_ptr_layer, is_raw, is_raw_layer}
-use Rattle.mr_wf.proofs.SameTypeLaws.{same_by_layers, same_type_equal, same_type_itself, type_made, type_tests}
+use Rattle.mr_wf.proofs.SameTypeLaws.{same_type_equal, same_type_itself, type_made}
 
 -- ---- a type of a kind
 
@@ -78,15 +77,3 @@ same_with_int t i = (
 
 abbrev overflow_fields : IntType → List (ℕ × Ty)
 overflow_fields i = (0, ty.Int i) ∷ (int_size i, ty.Bool) ∷ []
-
-overflow_first : (i : IntType) → chained (field_type (overflow_type i) 0) integer_of ≡ Some i
-overflow_first i = ap (λ (x : Layer). chained (field_in x 0) integer_of) (ty.outs-Tuple (2 * int_size i) (int_size i) (overflow_fields i)) ∙ ap integer_in (ty.outs-Int i)
-
-pub same_overflows : (i j : IntType) → (same_type (overflow_type i) (overflow_type j) ≡ true) ↔ (i ≡ j)
-same_overflows i j = (
-  λ e. same_Some i j (sym (overflow_first i) ∙ ap (λ (t : Ty). chained (field_type t 0) integer_of) (same_type_equal (overflow_type i) (overflow_type j) e) ∙ overflow_first j),
-  λ e. subst (λ (k : IntType). same_type (overflow_type i) (overflow_type k) ≡ true) e (same_type_itself (overflow_type i)),
-)
-
-pub same_with_overflow : (t : Ty) (i : IntType) → same_type t (overflow_type i) ≡ same_layer (type_tests (out-Ty t)) (Ty-F.Tuple (2 * int_size i) (int_size i) (overflow_fields i))
-same_with_overflow t i = same_by_layers t (overflow_type i) ∙ ap (same_layer (type_tests (out-Ty t))) (ty.outs-Tuple (2 * int_size i) (int_size i) (overflow_fields i))

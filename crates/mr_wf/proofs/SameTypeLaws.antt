@@ -351,12 +351,3 @@ pub same_type_answer : (b : Bool) (t u : Ty) → (IsTrue b ↔ (t ≡ u)) → b 
 same_type_answer b t u tells = same_from_decides {P = t ≡ u} b (same_type t u) tells (same_type_equal t u, λ e. subst (λ (x : Ty). same_type t x ≡ true) e (same_type_itself t))
 
 -- ---- one level
-
-pub same_by_layers : (t u : Ty) → same_type t u ≡ same_layer (type_tests (out-Ty t)) (out-Ty u)
-same_by_layers t u = ap (λ (x : Ty). same_type x u) (sym (type_made t)) ∙ type_roll (out-Ty t) u
-
-pub same_tuples : (size align : ℕ) (fields : List (ℕ × Ty)) (size2 align2 : ℕ) (fields2 : List (ℕ × Ty))
-    → same_type (ty.Tuple size align fields) (ty.Tuple size2 align2 fields2) ≡ ((size == size2) && ((align == align2) && same_fields (field_tests fields) fields2))
-same_tuples size align fields size2 align2 fields2 =
-    same_by_layers (ty.Tuple size align fields) (ty.Tuple size2 align2 fields2)
-    ∙ ap₂ (λ (x y : Ty-F Ty Variant). same_layer (type_tests x) y) (ty.outs-Tuple size align fields) (ty.outs-Tuple size2 align2 fields2)

@@ -74,12 +74,6 @@ tells_type t =
 
 -- ---- what is told
 
-pub tells_ok : {A : Type 0} (r : Result A ℕ) (codes : Codes) (is : A → Type 0) (x : A) → Tells r codes is → r ≡ Ok x → (codes ≡ []) × is x
-tells_ok r codes is x tells e = subst (λ (s : Result _ ℕ). Tells s codes is) e tells
-
-pub tells_err : {A : Type 0} (r : Result A ℕ) (codes : Codes) (is : A → Type 0) (code : ℕ) → Tells r codes is → r ≡ Err code → (rest : Codes) × (codes ≡ code ∷ rest)
-tells_err r codes is code tells e = subst (λ (s : Result _ ℕ). Tells s codes is) e tells
-
 -- where no rule is broken there is an answer
 pub tells_unbroken : {A : Type 0} (r : Result A ℕ) (codes : Codes) (is : A → Type 0) → Tells r codes is → codes ≡ [] → (x : A) × is x
 tells_unbroken (Ok x) codes is tells e = (x, tells.1)

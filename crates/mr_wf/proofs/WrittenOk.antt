@@ -32,9 +32,6 @@ OkWhere codes types = codes ≡ [] → All TypeOk types
 
 -- ---- joining parts
 
-nothing_written : (codes : Codes) → OkWhere codes []
-nothing_written codes e = All-nil TypeOk
-
 ok_same : (codes parts : Codes) (types less : List Ty) → codes ≡ parts → types ≡ less → OkWhere parts less → OkWhere codes types
 ok_same codes parts types less ec et ok e = All-same TypeOk types less et (ok (sym ec ∙ e))
 

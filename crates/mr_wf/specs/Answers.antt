@@ -5,7 +5,8 @@ use Rattle.mr_wf.specs.declared.fault.WfFault.{WfFault}
 use Rattle.mr_wf.specs.declared.fault.WfFault.TheVariants as fault
 use Rattle.mr_wf.specs.Walk.{FirstBroken, WellFormed}
 
--- The program as it was, where it breaks no rule; else the first broken rule, and the program as it was; or memory ran out.
+-- The program as it was, where it breaks no rule; else the first broken rule, and the program as it was; or memory ran
+-- out.
 abbrev pub IsCheck : Program → Result Program WfFault → Type 0
 IsCheck p (Ok q) = (q ≡ p) × WellFormed p
 IsCheck p (Err (fault.Form f q)) = (q ≡ p) × FirstBroken p f

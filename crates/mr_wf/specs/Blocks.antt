@@ -1,5 +1,6 @@
 -- The rules that statements, terminators and blocks break.
-use Rattle.std.specs.Prelude.{Bool, true, false, not, ◌&&◌, ◌||◌, ◌==◌, List, [], ◌∷◌, ◌++◌, map, flat_map, Option, None, Some, is_some, slice_get}
+use Rattle.std.specs.Prelude.{Bool, true, false, not, ◌&&◌, ◌||◌, ◌==◌, List, [], ◌∷◌, ◌++◌, map, flat_map, Option}
+use Rattle.std.specs.Prelude.{None, Some, is_some, slice_get}
 use Rattle.std.specs.List.{list_all, list_any}
 use Rattle.mr_ast.specs.declared.types.IntType.{IntType}
 use Rattle.mr_ast.specs.declared.types.Num.{Num}
@@ -24,7 +25,8 @@ use Rattle.mr_wf.specs.SameTypes.{same_type}
 use Rattle.mr_wf.specs.Types.{type_of_place, type_of_value, variant_type}
 use Rattle.mr_wf.specs.Operands.{is_fn_ptr, is_raw}
 use Rattle.mr_wf.specs.Intrinsics.{fits_intrinsic}
-use Rattle.mr_wf.specs.Broken.{Codes, Surroundings, broken_in_place, broken_in_value, rule, where_all_typed, where_both_typed, where_typed}
+use Rattle.mr_wf.specs.Broken.{Codes, Surroundings, broken_in_place, broken_in_value, rule, where_all_typed}
+use Rattle.mr_wf.specs.Broken.{where_both_typed, where_typed}
 
 -- ---- statements
 
@@ -36,10 +38,12 @@ abbrev pub broken_in_stmt : Function → Surroundings → Stmt → Codes
 broken_in_stmt f at (stmt.Live x) = rule 38 (not (is_kept f x))
 broken_in_stmt f at (stmt.Dead x) = rule 38 (not (is_kept f x))
 broken_in_stmt f at (stmt.Assign place value) =
-    broken_in_place at place ++ broken_in_value at value ++ rule 36 (where_both_typed (type_of_place at.locals place) (type_of_value at.locals value) same_type)
+    broken_in_place at place ++ broken_in_value at value
+    ++ rule 36 (where_both_typed (type_of_place at.locals place) (type_of_value at.locals value) same_type)
 broken_in_stmt f at (stmt.Mention place) = broken_in_place at place
 broken_in_stmt f at (stmt.Disc place number) =
-    broken_in_place at place ++ rule 37 (where_typed (type_of_place at.locals place) (λ t. is_some (variant_type t number)))
+    broken_in_place at place
+    ++ rule 37 (where_typed (type_of_place at.locals place) (λ t. is_some (variant_type t number)))
 broken_in_stmt f at (stmt.Deinit place) = broken_in_place at place
 broken_in_stmt f at (stmt.Validate place) = broken_in_place at place
 
@@ -109,7 +113,8 @@ is_allowed f k term.Abort = true
 is_allowed f k term.Resume = same_kind k kind.Cleanup
 is_allowed f k (term.Stop b) = same_kind k kind.Catch && goes_to f kind.Regular b
 is_allowed f k (term.Unwind payload b) = same_kind k kind.Regular && unwinds_to f b
-is_allowed f k (term.Call callee args place next unwind) = where_there (goes_to f k) next && where_there (call_unwinds_to f k) unwind
+is_allowed f k (term.Call callee args place next unwind) =
+    where_there (goes_to f k) next && where_there (call_unwinds_to f k) unwind
 is_allowed f k (term.Do intrinsic args place next) = goes_to f k next
 
 -- ---- terminators
@@ -129,13 +134,18 @@ broken_in_result at (Some place) = broken_in_place at place
 
 -- the rules that a terminator breaks beside those of kinds
 abbrev pub broken_in_parts : Surroundings → Term → Codes
-broken_in_parts at (term.Switch value cases other) = broken_in_value at value ++ rule 39 (where_typed (type_of_value at.locals value) (fits_switch cases))
-broken_in_parts at (term.Unwind payload b) = broken_in_value at payload ++ rule 42 (where_typed (type_of_value at.locals payload) is_raw)
+broken_in_parts at (term.Switch value cases other) =
+    broken_in_value at value ++ rule 39 (where_typed (type_of_value at.locals value) (fits_switch cases))
+broken_in_parts at (term.Unwind payload b) =
+    broken_in_value at payload ++ rule 42 (where_typed (type_of_value at.locals payload) is_raw)
 broken_in_parts at (term.Call callee args place next unwind) =
-    broken_in_value at callee ++ broken_in_values at args ++ broken_in_place at place ++ rule 40 (where_typed (type_of_value at.locals callee) is_fn_ptr)
+    broken_in_value at callee ++ broken_in_values at args ++ broken_in_place at place
+    ++ rule 40 (where_typed (type_of_value at.locals callee) is_fn_ptr)
 broken_in_parts at (term.Do intrinsic args place next) =
     broken_in_values at args ++ broken_in_result at place
-    ++ rule 41 (where_all_typed (map (type_of_value at.locals) args) (λ types. where_result_typed at.locals place (fits_intrinsic intrinsic types)))
+    ++ rule 41
+    (where_all_typed (map (type_of_value at.locals) args)
+    (λ types. where_result_typed at.locals place (fits_intrinsic intrinsic types)))
 broken_in_parts at _ = []
 
 -- the rules that a terminator of a block of this kind breaks; that of kinds comes last

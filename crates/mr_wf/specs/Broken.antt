@@ -1,6 +1,7 @@
--- The rules that an expression breaks, in the order of the walk: the parts come first, from left to right, then the expression itself.
--- A rule is looked at only where the parts that it speaks of have types.
-use Rattle.std.specs.Prelude.{ℕ, ◌+◌, Bool, true, false, ◌&&◌, ◌||◌, nat_le, if◌then◌else◌, List, [], ◌∷◌, ◌++◌, map, flat_map, Option, None, Some, is_some, slice_get}
+-- The rules that an expression breaks, in the order of the walk: the parts come first, from left to right, then the
+-- expression itself. A rule is looked at only where the parts that it speaks of have types.
+use Rattle.std.specs.Prelude.{ℕ, ◌+◌, Bool, true, false, ◌&&◌, ◌||◌, nat_le, if◌then◌else◌, List, [], ◌∷◌, ◌++◌, map}
+use Rattle.std.specs.Prelude.{flat_map, Option, None, Some, is_some, slice_get}
 use Rattle.mr_ast.specs.declared.types.IntType.TheVariants.{U64}
 use Rattle.mr_ast.specs.declared.types.Ty.{Ty}
 use Rattle.mr_ast.specs.declared.expr.Place.{Place}
@@ -16,7 +17,8 @@ use Rattle.mr_ast.specs.declared.program.Program.{Program}
 use Rattle.mr_ast.specs.Integers.{is_fitting}
 use Rattle.mr_layout.specs.TypeOk.{broken_rule}
 use Rattle.mr_wf.specs.Types.{discriminant_type, element_type, field_type, type_of_place, type_of_value, variant_type}
-use Rattle.mr_wf.specs.Operands.{fits_binary, fits_parts, fits_unary, fits_union, fits_variant, is_int, is_pointer, is_raw, is_ref, is_scalar_number, same_size}
+use Rattle.mr_wf.specs.Operands.{fits_binary, fits_parts, fits_unary, fits_union, fits_variant, is_int, is_pointer}
+use Rattle.mr_wf.specs.Operands.{is_raw, is_ref, is_scalar_number, same_size}
 
 -- ---- rules
 
@@ -85,7 +87,10 @@ broken_place_step at (Place-F.Deref pointer ty) =
 broken_place_step at (Place-F.Field place field) =
     place.1 ++ rule 33 (where_typed (type_of_place at.locals place.0) (λ t. is_some (field_type t field)))
 broken_place_step at (Place-F.Index place index) =
-    place.1 ++ index.1 ++ rule 33 (where_both_typed (type_of_place at.locals place.0) (type_of_value at.locals index.0) (λ t i. is_some (element_type t) && is_int U64 i))
+    place.1 ++ index.1
+    ++ rule 33
+    (where_both_typed (type_of_place at.locals place.0) (type_of_value at.locals index.0)
+    (λ t i. is_some (element_type t) && is_int U64 i))
 broken_place_step at (Place-F.Place::Variant place number) =
     place.1 ++ rule 33 (where_typed (type_of_place at.locals place.0) (λ t. is_some (variant_type t number)))
 
@@ -98,7 +103,8 @@ broken_value_step at (Value-F.Raw address) = []
 broken_value_step at (Value-F.Fn f) = []
 broken_value_step at (Value-F.Global g offset) = rule 43 (is_in_global at.sizes g.0 offset)
 broken_value_step at (Value-F.Tuple ty values) =
-    of_type ty ++ flat_map (λ v. v.1) values ++ rule 46 (where_all_typed (map (λ v. type_of_value at.locals v.0) values) (fits_parts ty))
+    of_type ty ++ flat_map (λ v. v.1) values
+    ++ rule 46 (where_all_typed (map (λ v. type_of_value at.locals v.0) values) (fits_parts ty))
 broken_value_step at (Value-F.Union ty field value) =
     of_type ty ++ value.1 ++ rule 46 (where_typed (type_of_value at.locals value.0) (fits_union ty field))
 broken_value_step at (Value-F.Value::Variant ty number value) =
@@ -107,12 +113,16 @@ broken_value_step at (Value-F.Load place) = place.1
 broken_value_step at (Value-F.Disc place) =
     place.1 ++ rule 37 (where_typed (type_of_place at.locals place.0) (λ t. is_some (discriminant_type t)))
 broken_value_step at (Value-F.AddrOf ty place) = of_type ty ++ place.1 ++ rule 47 (is_raw ty || is_ref ty)
-broken_value_step at (Value-F.Cast int value) = value.1 ++ rule 47 (where_typed (type_of_value at.locals value.0) is_scalar_number)
+broken_value_step at (Value-F.Cast int value) =
+    value.1 ++ rule 47 (where_typed (type_of_value at.locals value.0) is_scalar_number)
 broken_value_step at (Value-F.Transmute ty value) =
     of_type ty ++ value.1 ++ rule 47 (where_typed (type_of_value at.locals value.0) (same_size ty))
-broken_value_step at (Value-F.Unary operator value) = value.1 ++ rule 34 (where_typed (type_of_value at.locals value.0) (fits_unary operator))
+broken_value_step at (Value-F.Unary operator value) =
+    value.1 ++ rule 34 (where_typed (type_of_value at.locals value.0) (fits_unary operator))
 broken_value_step at (Value-F.Binary operator left right) =
-    left.1 ++ right.1 ++ rule 34 (where_both_typed (type_of_value at.locals left.0) (type_of_value at.locals right.0) (fits_binary operator))
+    left.1 ++ right.1
+    ++ rule 34
+    (where_both_typed (type_of_value at.locals left.0) (type_of_value at.locals right.0) (fits_binary operator))
 
 -- the rules that are broken in a place, and in a value
 unfoldable pub broken_in_place : Surroundings → Place → Codes

@@ -34,7 +34,8 @@ abbrev pub fits_intrinsic : Intrinsic → List Ty → Option Ty → Bool
 fits_intrinsic intrinsic.Assume (a ∷ []) result = is_bool a && gives_nothing result
 fits_intrinsic intrinsic.Print args result = list_all is_scalar_number args && gives_nothing result
 fits_intrinsic intrinsic.Allocate (a ∷ b ∷ []) result = is_int U64 a && (is_int U64 b && gives ty.Raw result)
-fits_intrinsic intrinsic.Deallocate (a ∷ b ∷ c ∷ []) result = is_raw a && (is_int U64 b && (is_int U64 c && gives_nothing result))
+fits_intrinsic intrinsic.Deallocate (a ∷ b ∷ c ∷ []) result =
+    is_raw a && (is_int U64 b && (is_int U64 c && gives_nothing result))
 fits_intrinsic intrinsic.Spawn (a ∷ b ∷ []) result = is_fn_ptr a && (is_raw b && gives (ty.Int U32) result)
 fits_intrinsic intrinsic.Join (a ∷ []) result = is_int U32 a && gives_nothing result
 fits_intrinsic intrinsic.CreateLock [] result = gives (ty.Int U32) result
@@ -42,7 +43,8 @@ fits_intrinsic intrinsic.Acquire (a ∷ []) result = is_int U32 a && gives_nothi
 fits_intrinsic intrinsic.Release (a ∷ []) result = is_int U32 a && gives_nothing result
 fits_intrinsic intrinsic.AtomicStore (a ∷ b ∷ []) result = is_raw a && (is_atomic b && gives_nothing result)
 fits_intrinsic intrinsic.AtomicLoad (a ∷ []) (Some t) = is_raw a && is_atomic t
-fits_intrinsic intrinsic.CompareExchange (a ∷ b ∷ c ∷ []) result = is_raw a && (is_atomic b && (same_type c b && gives b result))
+fits_intrinsic intrinsic.CompareExchange (a ∷ b ∷ c ∷ []) result =
+    is_raw a && (is_atomic b && (same_type c b && gives b result))
 fits_intrinsic intrinsic.FetchAdd (a ∷ b ∷ []) result = is_raw a && (is_atomic b && gives b result)
 fits_intrinsic intrinsic.FetchSub (a ∷ b ∷ []) result = is_raw a && (is_atomic b && gives b result)
 fits_intrinsic intrinsic.FetchAnd (a ∷ b ∷ []) result = is_raw a && (is_atomic b && gives b result)

@@ -1,5 +1,6 @@
 -- The walk over an expression, computed: its type, or the first rule that is broken in it.
-use Rattle.std.specs.Prelude.{ℕ, Bool, ◌||◌, if◌then◌else◌, List, [], ◌∷◌, Option, None, Some, Result, Ok, Err, slice_get}
+use Rattle.std.specs.Prelude.{ℕ, Bool, ◌||◌, if◌then◌else◌, List, [], ◌∷◌, Option, None, Some, Result, Ok, Err}
+use Rattle.std.specs.Prelude.{slice_get}
 use Rattle.mr_ast.specs.declared.types.IntType.TheVariants.{U64}
 use Rattle.mr_ast.specs.declared.types.Ty.{Ty}
 use Rattle.mr_ast.specs.declared.types.Ty.TheVariants as ty
@@ -10,7 +11,8 @@ use Rattle.mr_ast.specs.declared.expr.Place.TheFolds.{fold-Place, fold-Value}
 use Rattle.mr_ast.specs.Integers.{is_fitting}
 use Rattle.mr_layout.specs.TypeOk.{broken_rule}
 use Rattle.mr_wf.specs.Types.{discriminant_type, element_type, field_type, result_type, variant_type}
-use Rattle.mr_wf.specs.Operands.{fits_binary, fits_parts, fits_unary, fits_union, fits_variant, is_int, is_pointer, is_raw, is_ref, is_scalar_number, same_size}
+use Rattle.mr_wf.specs.Operands.{fits_binary, fits_parts, fits_unary, fits_union, fits_variant, is_int, is_pointer}
+use Rattle.mr_wf.specs.Operands.{is_raw, is_ref, is_scalar_number, same_size}
 use Rattle.mr_wf.specs.Broken.{Surroundings, is_in_global}
 
 infixl 10 ◌>>=◌

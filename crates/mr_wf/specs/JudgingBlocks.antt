@@ -1,5 +1,6 @@
 -- The walk over statements, terminators and blocks, computed: the first broken rule, if there is one.
-use Rattle.std.specs.Prelude.{ℕ, suc, ◌≤◌, ◌^◌, All, not, if◌then◌else◌, List, [], ◌∷◌, length, Option, None, Some, Result, Ok, Err, is_some}
+use Rattle.std.specs.Prelude.{ℕ, suc, ◌≤◌, ◌^◌, All, not, if◌then◌else◌, List, [], ◌∷◌, length, Option, None, Some}
+use Rattle.std.specs.Prelude.{Result, Ok, Err, is_some}
 use Rattle.mr_ast.specs.declared.types.Ty.{Ty}
 use Rattle.mr_ast.specs.declared.expr.Place.{Place}
 use Rattle.mr_ast.specs.declared.expr.Value.{Value}
@@ -138,7 +139,9 @@ walked_local n place l = placed (InFunction n) None place (sound_type l.ty)
 
 -- the arguments, and the first block
 abbrev pub walked_head : ℕ → Function → Walked
-walked_head n f = placed (InFunction n) None 0 (kept 30 (are_arguments f.ret f.args)) then placed (InFunction n) None 0 (kept 31 (begins_regular f.blocks))
+walked_head n f =
+    placed (InFunction n) None 0
+    (kept 30 (are_arguments f.ret f.args)) then placed (InFunction n) None 0 (kept 31 (begins_regular f.blocks))
 
 abbrev pub walked_function : List ℕ → ℕ → Function → Walked
 walked_function sizes n f =

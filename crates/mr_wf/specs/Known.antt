@@ -39,7 +39,8 @@ are_overflow_fields i _ = false
 
 -- what is written as the type that an overflowing operator gives
 abbrev pub is_overflow_layer : IntType → Ty-F Ty Variant → Bool
-is_overflow_layer i (Ty-F.Tuple size align fields) = (size == 2 * int_size i) && ((align == int_size i) && are_overflow_fields i fields)
+is_overflow_layer i (Ty-F.Tuple size align fields) =
+    (size == 2 * int_size i) && ((align == int_size i) && are_overflow_fields i fields)
 is_overflow_layer i _ = false
 
 -- where an expression stands
@@ -72,7 +73,8 @@ Gives view (Err e) walk = Stops e walk
 -- what is judged at a position, unless memory ran out
 abbrev pub placing : Item → Option BlockName → ℕ → Result (Unit {0}) Broken → Result (Unit {0}) Stopped
 placing it block place (Ok u) = Ok u
-placing it block place (Err (Rule code)) = Err (stopped.At (record { item = it; block = block; place = place; code = code }))
+placing it block place (Err (Rule code)) =
+    Err (stopped.At (record { item = it; block = block; place = place; code = code }))
 placing it block place (Err Memory) = Err stopped.Memory
 
 -- the same of what stops at a position

@@ -1,5 +1,6 @@
 -- Which types the parts of an expression must have.
-use Rattle.std.specs.Prelude.{ℕ, Bool, true, false, ◌&&◌, ◌||◌, ◌==◌, List, [], ◌∷◌, length, Option, None, Some, is_some}
+use Rattle.std.specs.Prelude.{ℕ, Bool, true, false, ◌&&◌, ◌||◌, ◌==◌, List, [], ◌∷◌, length, Option, None, Some}
+use Rattle.std.specs.Prelude.{is_some}
 use Rattle.mr_ast.specs.declared.types.IntType.{IntType}
 use Rattle.mr_ast.specs.declared.types.IntType.TheVariants.{I64}
 use Rattle.mr_ast.specs.declared.types.Num.{Num}

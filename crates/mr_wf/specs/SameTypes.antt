@@ -27,7 +27,8 @@ same_chunks _ _ = false
 
 abbrev pub same_tags : List Tag → List Tag → Bool
 same_tags [] [] = true
-same_tags (t ∷ ts) (u ∷ us) = (t.at == u.at) && (same_int t.int u.int && (same_num t.number u.number && same_tags ts us))
+same_tags (t ∷ ts) (u ∷ us) =
+    (t.at == u.at) && (same_int t.int u.int && (same_num t.number u.number && same_tags ts us))
 same_tags _ _ = false
 
 -- the cases of two branches, where the test of each tree stands in its place
@@ -40,7 +41,8 @@ same_cases _ _ = false
 abbrev pub same_tree_layer : Tree-F (Tree → Bool) → Tree-F Tree → Bool
 same_tree_layer (Tree-F.Known n) (Tree-F.Known m) = same_num n m
 same_tree_layer Tree-F.Invalid Tree-F.Invalid = true
-same_tree_layer (Tree-F.Branch at i cases other) (Tree-F.Branch at2 j cases2 other2) = (at == at2) && (same_int i j && (same_cases cases cases2 && other other2))
+same_tree_layer (Tree-F.Branch at i cases other) (Tree-F.Branch at2 j cases2 other2) =
+    (at == at2) && (same_int i j && (same_cases cases cases2 && other other2))
 same_tree_layer _ _ = false
 
 unfoldable pub same_tree : Tree → Tree → Bool
@@ -64,13 +66,16 @@ same_layer (Ty-F.Int i) (Ty-F.Int j) = same_int i j
 same_layer Ty-F.Bool Ty-F.Bool = true
 same_layer Ty-F.Raw Ty-F.Raw = true
 same_layer Ty-F.FnPtr Ty-F.FnPtr = true
-same_layer (Ty-F.Ref size align never) (Ty-F.Ref size2 align2 never2) = (size == size2) && ((align == align2) && same_bool never never2)
-same_layer (Ty-F.Tuple size align fields) (Ty-F.Tuple size2 align2 fields2) = (size == size2) && ((align == align2) && same_fields fields fields2)
+same_layer (Ty-F.Ref size align never) (Ty-F.Ref size2 align2 never2) =
+    (size == size2) && ((align == align2) && same_bool never never2)
+same_layer (Ty-F.Tuple size align fields) (Ty-F.Tuple size2 align2 fields2) =
+    (size == size2) && ((align == align2) && same_fields fields fields2)
 same_layer (Ty-F.Array count elem) (Ty-F.Array count2 elem2) = (count == count2) && elem elem2
 same_layer (Ty-F.Union size align fields chunks) (Ty-F.Union size2 align2 fields2 chunks2) =
     (size == size2) && ((align == align2) && (same_fields fields fields2 && same_chunks chunks chunks2))
 same_layer (Ty-F.Enum size align disc variants tree) (Ty-F.Enum size2 align2 disc2 variants2 tree2) =
-    (size == size2) && ((align == align2) && (same_int disc disc2 && (same_variants variants variants2 && same_tree tree tree2)))
+    (size == size2)
+    && ((align == align2) && (same_int disc disc2 && (same_variants variants variants2 && same_tree tree tree2)))
 same_layer _ _ = false
 
 abbrev pub same_variant_layer : Variant-F (Ty → Bool) (Variant → Bool) → Variant-F Ty Variant → Bool
@@ -78,4 +83,6 @@ same_variant_layer v w = same_num v.number w.number && (v.ty w.ty && same_tags v
 
 -- two types are written alike: with all numbers, and the order of fields and variants
 unfoldable pub same_type : Ty → Ty → Bool
-same_type = fold-Ty (Ty → Bool) (Variant → Bool) (λ layer u. same_layer layer (out-Ty u)) (λ layer w. same_variant_layer layer (out-Variant w))
+same_type =
+    fold-Ty (Ty → Bool)
+    (Variant → Bool) (λ layer u. same_layer layer (out-Ty u)) (λ layer w. same_variant_layer layer (out-Variant w))

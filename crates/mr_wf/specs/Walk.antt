@@ -1,6 +1,7 @@
 -- The faults of a program: each position at which a rule is broken, with its code, in the order of the walk.
 -- A type counts with the first rule that it breaks.
-use Rattle.std.specs.Prelude.{◌≡◌, ℕ, suc, ◌^◌, Bool, true, false, not, ◌&&◌, ◌==◌, nat_le, List, [], ◌∷◌, ◌++◌, map, flat_map, length, Option, None, Some, slice_get}
+use Rattle.std.specs.Prelude.{◌≡◌, ℕ, suc, ◌^◌, Bool, true, false, not, ◌&&◌, ◌==◌, nat_le, List, [], ◌∷◌, ◌++◌, map}
+use Rattle.std.specs.Prelude.{flat_map, length, Option, None, Some, slice_get}
 use Rattle.std.specs.List.{list_any}
 use Rattle.mr_ast.specs.declared.program.LocalName.{LocalName}
 use Rattle.mr_ast.specs.declared.program.BlockName.{BlockName}
@@ -54,7 +55,8 @@ broken_in_global sizes g = rule 44 (is_global_form g) ++ flat_map (λ i. rule 43
 -- no argument stands twice, and none is the return local
 abbrev pub are_arguments : LocalName → List LocalName → Bool
 are_arguments ret [] = true
-are_arguments ret (x ∷ args) = not (x.0 == ret.0) && (not (list_any (λ (y : LocalName). y.0 == x.0) args) && are_arguments ret args)
+are_arguments ret (x ∷ args) =
+    not (x.0 == ret.0) && (not (list_any (λ (y : LocalName). y.0 == x.0) args) && are_arguments ret args)
 
 -- the function begins with a regular block
 abbrev pub begins_regular : List Block → Bool
@@ -91,8 +93,8 @@ is_main_form p = elim (slice_get p.functions p.start.0) as (λ _. Bool) [ Some f
 abbrev pub faults_in_global : Program → ℕ → Global_ → List FormFault
 faults_in_global p n g = at_position (Static n) None 0 (broken_in_global (sizes_of p.globals) g)
 
--- The faults of a program, in the order of the walk: of each type that stands in it the first rule that the type breaks,
--- and every other rule that is broken.
+-- The faults of a program, in the order of the walk: of each type that stands in it the first rule that the type
+-- breaks, and every other rule that is broken.
 unfoldable pub faults_of : Program → List FormFault
 faults_of p =
     each_at (faults_in_global p) 0 p.globals

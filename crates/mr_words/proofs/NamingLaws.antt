@@ -9,8 +9,9 @@ use Rattle.std.proofs.lemmas.Bool.{and_parts, false_from_ne_true}
 use Rattle.std.proofs.lemmas.Bool.Decides.{nat_tests}
 use Rattle.std.proofs.lemmas.Option.{slice_get_within}
 use Rattle.std.proofs.lemmas.Slice.Eq.{bytes_eq-Decides}
-use Rattle.mr_ast.specs.Names.{Adds, IsFirst}
+use Rattle.mr_ast.specs.Names.{IsFirst}
 use Rattle.mr_ast.specs.Scope.{Definitions, FunctionNames, all_names, each_once, function_names, is_number, item_names, number_in, with_text}
+use Rattle.mr_ast.proofs.TextsLaws.{length-with_text}
 use Rattle.mr_ast.specs.Words.{Texts, first_passes, begins_name, is_in_name, is_name, reserved}
 use Rattle.mr_words.specs.Naming.{IsAmong, names_in}
 use Rattle.mr_words.proofs.ScopeLaws.{function_any, items_any, number_any}
@@ -52,23 +53,12 @@ place_first t (x ∷ xs) (suc n) first =
     let rest : position_or_len (bytes_eq t) xs ≡ n = place_first t xs n (record { here = first.here; first = λ k lt. first.first (suc k) (omega arith) }) in
     rw (no, rest) (omega arith)
 
-pub any_first : (t : List ℕ) (ts : Texts) (n : ℕ) → slice_get ts n ≡ Some t → list_any (bytes_eq t) ts ≡ true
-any_first t [] n here = absurd cc
-any_first t (x ∷ xs) zero here = let is : bytes_eq t x ≡ true = (bytes_eq-Decides t x).1 cc in rw is refl
-any_first t (x ∷ xs) (suc n) here = rw (any_first t xs n here) (elim (bytes_eq t x) as (λ b. (b || true) ≡ true) [ true ↦ refl | false ↦ refl ])
-
 pub place_none : (t : List ℕ) (ts : Texts) → ((k : ℕ) → slice_get ts k ≢ Some t) → position_or_len (bytes_eq t) ts ≡ length ts
 place_none t [] absent = refl
 place_none t (x ∷ xs) absent =
     let differ : bytes_eq t x ≡ false = texts_differ t x (λ same. absent 0 (ap Some (sym same))) in
     let rest : position_or_len (bytes_eq t) xs ≡ length xs = place_none t xs (λ k. absent (suc k)) in
     rw (differ, rest) (omega arith)
-
-pub any_none : (t : List ℕ) (ts : Texts) → ((k : ℕ) → slice_get ts k ≢ Some t) → list_any (bytes_eq t) ts ≡ false
-any_none t [] absent = refl
-any_none t (x ∷ xs) absent =
-    let differ : bytes_eq t x ≡ false = texts_differ t x (λ same. absent 0 (ap Some (sym same))) in
-    rw (differ, any_none t xs (λ k. absent (suc k))) refl
 
 position_by : (n m : ℕ) → n < m → (if nat_lt n m then Some n else None) ≡ Some n
 position_by n m lt = let is : nat_lt n m ≡ true = grind (arith, nat_tests) in rw is refl
@@ -85,14 +75,6 @@ position_found names t None first missing =
     sym (ap (λ k. if nat_lt k (length names) then Some k else None) (place_none t names missing) ∙ position_past (length names))
 
 -- ---- adding names
-
-pub with_text-Adds : (old : Texts) (t : List ℕ) (new : Texts) (n : ℕ) → Adds old t new n → new ≡ with_text old t
-with_text-Adds old t new n (inl (same, first)) = let there = any_first t old n first.here in rw there same
-with_text-Adds old t new n (inr (missing, new_is, last)) = let none = any_none t old missing in rw none new_is
-
-pub length-with_text : (names : Texts) (t : List ℕ) → length (with_text names t) ≤ length names + 1
-length-with_text names t =
-    elim (list_any (bytes_eq t) names) as (λ b. length (if b then names else names ++ t ∷ []) ≤ length names + 1) [ true ↦ omega arith | false ↦ omega (arith, length-append names (t ∷ [])) ]
 
 pub length-with_texts : (names ts : Texts) → length (fold with_text names ts) ≤ length names + length ts
 length-with_texts names [] = omega arith

@@ -1,5 +1,6 @@
 -- Brackets of a text, and the fault that is told of one too many.
-use Rattle.std.specs.Prelude.{◌+◌, ◌-◌, ◌==◌, Bool, false, ◌&&◌, ◌||◌, nat_le, if◌then◌else◌, List, [], ◌∷◌, length, take, drop, codes, bytes_eq}
+use Rattle.std.specs.Prelude.{◌+◌, ◌-◌, ◌==◌, Bool, false, ◌&&◌, ◌||◌, nat_le, if◌then◌else◌, List, [], ◌∷◌, length}
+use Rattle.std.specs.Prelude.{take, drop, codes, bytes_eq}
 use Rattle.std.specs.List.{count_by}
 use Rattle.mr_ast.specs.Forms.{Word}
 use Rattle.mr_words.specs.declared.fault.Stop.{Stop}

@@ -11,7 +11,8 @@ use Rattle.mr_ast.specs.Words.{Texts}
 use Rattle.mr_ast.specs.Scope.{each_once, number_in, with_text}
 use Rattle.mr_ast.specs.CanonValues.{text_at}
 use Rattle.mr_grammar.proofs.Canon.CanonNames.{IsDistinct}
-use Rattle.mr_words.proofs.NamingLaws.{any_first, any_none, place_first}
+use Rattle.mr_ast.proofs.TextsLaws.{any_first, any_none}
+use Rattle.mr_words.proofs.NamingLaws.{place_first}
 
 -- ---- distinct texts
 

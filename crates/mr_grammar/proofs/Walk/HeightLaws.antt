@@ -47,13 +47,6 @@ pub higher_part : (low high room : ℕ) → low ≤ high → (scope : Scope) (ki
 higher_part low high room le scope kind x marks h =
     also_by (room == 0) (SpelledInside low (room - 1)) (SpelledInside high (room - 1)) NoPart NoPart (higher_inside low high (room - 1) le) (λ i k y ms no. no) scope (form_of kind) x marks h
 
--- a thing in a form
-pub higher : (low high room : ℕ) → low ≤ high → (scope : Scope) {A : Type 0} (form : Writing A) (x : A) (marks : List Mark)
-    → Spelled low room scope form x marks → Spelled high room scope form x marks
-higher low high room le scope form x marks h =
-    also_by (room == 0) (SpelledInside low (room - 1)) (SpelledInside high (room - 1)) (SpelledPart low room) (SpelledPart high room)
-    (higher_inside low high (room - 1) le) (higher_part low high room le) scope form x marks h
-
 -- where brackets nest less deep than some height
 abbrev pub SomeInside : ℕ → Scope → (A : Type 0) → Writing A → A → List Mark → Type 0
 SomeInside room scope A form x marks = (height : ℕ) × SpelledInside height room scope A form x marks

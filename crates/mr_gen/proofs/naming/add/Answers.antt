@@ -1,4 +1,4 @@
-use Rattle.mr_gen.proofs.NameLaws.{with_text-Adds}
+use Rattle.mr_ast.proofs.TextsLaws.{with_text-Adds}
 use Rattle.mr_gen.proofs.naming.add.Goals as goal
 
 pub returns : goal.returns

@@ -1,6 +1,6 @@
 use Rattle.std.proofs.Common.{subst}
 use Rattle.mr_ast.specs.Names.{Adds}
-use Rattle.mr_words.proofs.NamingLaws.{with_text-Adds}
+use Rattle.mr_ast.proofs.TextsLaws.{with_text-Adds}
 use Rattle.mr_words.proofs.naming.add.Goals as goal
 
 pub returns : goal.returns

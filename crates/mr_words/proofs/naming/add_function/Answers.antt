@@ -1,6 +1,7 @@
 use Rattle.std.proofs.Common.{List, ℕ, Bor, length, map, ap, arith}
 use Rattle.std.proofs.lemmas.List.{length-map}
-use Rattle.mr_words.proofs.NamingLaws.{length-with_text, length-with_texts}
+use Rattle.mr_ast.proofs.TextsLaws.{length-with_text}
+use Rattle.mr_words.proofs.NamingLaws.{length-with_texts}
 use Rattle.mr_words.proofs.naming.add_function.Goals as goal
 
 pub add_all-requires-2-clause-room : goal.add_all-requires-2-clause-room
