@@ -1,12 +1,12 @@
 -- What a run of a script over memory leaves of the allocations that it doesn't free: they are there and live still.
-use Rattle.std.proofs.Common.{◌≡◌, ◌≢◌, ℕ, ◌<◌, refl, sym, ap, ◌∙◌, subst, subst₂, List, [], ◌∷◌, ◌++◌, length, arith, ◌⊎◌, inl, inr, Option, Some, None, Ok, Bool, true, false, Contains}
-use Rattle.std.proofs.lemmas.List.Elements.{Contains-append_left, Contains-append_right, Contains-push}
+use Rattle.std.proofs.Common.{◌≡◌, ℕ, ◌<◌, refl, sym, ap, ◌∙◌, subst, List, [], ◌∷◌, ◌++◌, length, arith, inl, inr, Option, Some, true, Contains}
+use Rattle.std.proofs.lemmas.List.Elements.{Contains-push}
 use Rattle.std.proofs.lemmas.Option.{same_Some}
 use Rattle.std.specs.FinMap as fin
 use Rattle.mr_base.specs.declared.byte.AbstractByte.{AbstractByte}
 use Rattle.mr_base.specs.declared.byte.AllocId.{AllocId}
 use Rattle.mr_base.specs.declared.byte.Pointer.{Pointer}
-use Rattle.mr_script.specs.Script.{Done, Undefined, IllFormed, Ask, Outcome, Went, run}
+use Rattle.mr_script.specs.Script.{Done, Undefined, IllFormed, Ask, Went, run}
 use Rattle.mr_script.proofs.SwapRuns.{goes_on, same_state}
 use Rattle.mr_base.specs.declared.byte.Kind.{Kind}
 use Rattle.mr_mem.specs.Memory.{Allocation, Memory, allocated, fresh}
@@ -15,9 +15,9 @@ use Rattle.mr_eval.specs.MemoryQueries.{Allocate, Free, MemoryQuery, MemoryReply
 use Rattle.mr_eval.specs.Reads.{Check, Read, Refer}
 use Rattle.mr_eval.specs.Tally.{Tally}
 use Rattle.mr_plan.proofs.FreeLaws.{Frees, dead, frees}
-use Rattle.mr_plan.proofs.Headers.{Lasting, lasting_same, lasting_then}
+use Rattle.mr_plan.proofs.Headers.{Lasting, lasting_then}
 use Rattle.mr_plan.proofs.IdentityCases.{id_cases}
-use Rattle.mr_plan.proofs.MemoryAnswers.{Modifies, Replaces, changes, check_went, free_went, load_went, modify_went, refer_went, stays, store_went, with_change, with_freed, with_load, with_made}
+use Rattle.mr_plan.proofs.MemoryAnswers.{Replaces, changes, check_went, free_went, load_went, modify_went, refer_went, stays, store_went}
 use Rattle.mr_plan.proofs.MemoryFacts.{MemoryFacts, memory_facts}
 use Rattle.mr_plan.proofs.RangeChecks.{Gave, aligned_ok, empty, filled, gave, ranged}
 use Rattle.mr_plan.proofs.StoreLaws.{put_one, rewritten, rewritten_size, stored_in, written_is}

@@ -1,5 +1,5 @@
 -- What holds of where a run went on, which has a rule.
-use Rattle.std.proofs.Common.{◌≡◌, refl, subst, sym}
+use Rattle.std.proofs.Common.{subst, sym}
 use Rattle.mr_script.specs.Script.{Script, ◌>>=◌, Outcome, Went, Refused, Broken, on, run}
 use Rattle.mr_script.proofs.Runs.{run_bind}
 

@@ -1,5 +1,5 @@
 -- Lists with one element replaced.
-use Rattle.std.proofs.Common.{◌≡◌, ◌≢◌, ℕ, zero, suc, ◌<◌, refl, ap, arith, List, [], ◌∷◌, length, Option, Some}
+use Rattle.std.proofs.Common.{◌≡◌, ◌≢◌, ℕ, zero, suc, ◌<◌, refl, ap, arith, List, [], ◌∷◌, length, Some}
 use Rattle.std.specs.Prelude.{slice_get, slice_set}
 
 -- what stands at a position of a list with one element replaced

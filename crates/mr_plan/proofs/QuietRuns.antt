@@ -1,13 +1,12 @@
 -- Scripts over memory that neither make nor free an allocation, and what their runs leave.
-use Rattle.std.proofs.Common.{◌≡◌, ℕ, refl, sym, ap, ◌∙◌, subst, List, Bool, true, false, cond, Option, Some, None}
-use Rattle.mr_base.specs.declared.byte.AllocId.{AllocId}
+use Rattle.std.proofs.Common.{◌≡◌, ℕ, refl, ◌∙◌, subst, Option}
 use Rattle.mr_mem.specs.Memory.{Memory}
 use Rattle.mr_script.specs.Script.{Done, Undefined, IllFormed, Ask, ◌>>=◌, Went, run}
 use Rattle.mr_script.proofs.SwapRuns.{goes_on, same_state}
 use Rattle.mr_eval.specs.MemoryQueries.{Allocate, Free, MemoryQuery, MemoryReply, MemoryScript, Modify, Reading, Write, memory_answer, reading_part}
 use Rattle.mr_eval.specs.Reads.{Check, Read, ReadScript, Refer}
 use Rattle.mr_eval.specs.Tally.{Tally}
-use Rattle.mr_plan.proofs.MemoryAnswers.{Modifies, Replaces, changes, check_went, load_went, modify_went, refer_went, stays, store_went}
+use Rattle.mr_plan.proofs.MemoryAnswers.{Replaces, changes, check_went, load_went, modify_went, refer_went, stays, store_went}
 use Rattle.mr_plan.proofs.WentLaws.{at_outcome}
 
 -- a query that neither makes nor frees an allocation

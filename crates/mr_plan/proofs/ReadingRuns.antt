@@ -4,9 +4,9 @@ use Rattle.std.proofs.Common.{◌≡◌, refl, ap, ◌∙◌}
 use Rattle.mr_mem.specs.Memory.{Memory}
 use Rattle.mr_script.specs.Script.{Done, Undefined, IllFormed, Ask, ◌>>=◌, Outcome, Went, Refused, Broken, on, run}
 use Rattle.mr_script.proofs.Runs.{run_bind}
-use Rattle.mr_eval.specs.Reads.{ReadReply, ReadScript, Seen, reading}
+use Rattle.mr_eval.specs.Reads.{ReadScript, Seen, reading}
 use Rattle.mr_eval.specs.Tally.{Tally, seen_of, with_seen}
-use Rattle.mr_eval.specs.MemoryQueries.{MemoryReply, MemoryScript, memory_answer, reading_part}
+use Rattle.mr_eval.specs.MemoryQueries.{MemoryScript, memory_answer, reading_part}
 use Rattle.mr_plan.specs.Notes.{Notes}
 use Rattle.mr_plan.specs.Queries.{Shared, StepScript, answer, in_shared, memory_part}
 

@@ -1,7 +1,5 @@
 -- Scripts over memory that are never ill-formed, by their parts, and their runs.
-use Rattle.std.proofs.Common.{◌≡◌, ℕ, ◌<◌, ◌*◌, ◌^◌, refl, subst, sym, List, [], Result, Ok, Err, Option, None, Some, true}
-use Rattle.mr_base.specs.declared.byte.AbstractByte.{AbstractByte}
-use Rattle.mr_base.specs.declared.byte.AllocId.{AllocId}
+use Rattle.std.proofs.Common.{◌≡◌, ℕ, ◌<◌, ◌*◌, ◌^◌, refl, subst, Result, Ok, Err, Option, None, Some, true}
 use Rattle.mr_base.specs.declared.byte.Pointer.{Pointer}
 use Rattle.mr_base.specs.declared.reason.Reason.{Reason}
 use Rattle.mr_mem.specs.Memory.{Memory, freed, written}
@@ -9,8 +7,8 @@ use Rattle.mr_script.specs.Script.{Done, Undefined, IllFormed, Ask, ◌>>=◌, O
 use Rattle.mr_script.proofs.Runs.{safe_bind}
 use Rattle.mr_value.specs.Numbers.{number_of}
 use Rattle.mr_value.proofs.DecodeShape.{number_fits}
-use Rattle.mr_eval.specs.Reads.{Read, ReadQuery, ReadReply, ReadScript, Seen, answered, reading}
-use Rattle.mr_eval.specs.MemoryQueries.{Allocate, Free, MemoryQuery, MemoryReply, MemoryScript, Modify, Reading, Write, changing, memory_answer, modifying, number_bytes, reading_part, replacing}
+use Rattle.mr_eval.specs.Reads.{Read, ReadQuery, ReadScript, Seen, answered, reading}
+use Rattle.mr_eval.specs.MemoryQueries.{Allocate, Free, MemoryQuery, MemoryScript, Modify, Reading, Write, changing, memory_answer, modifying, number_bytes, reading_part, replacing}
 use Rattle.mr_eval.specs.Sound.{Comes, Good, IsSafe, any_result}
 use Rattle.mr_eval.specs.Stores.{storing}
 use Rattle.mr_eval.specs.Tally.{Tally, seen_of, with_seen}

@@ -1,10 +1,9 @@
 -- What runs of scripts over memory do to storage on the stack.
-use Rattle.std.proofs.Common.{◌≡◌, ◌≢◌, ℕ, zero, suc, ◌<◌, refl, sym, ap, ◌∙◌, subst, List, [], ◌∷◌, ◌++◌, length, arith, ◌⊎◌, inl, inr, Option, Some, None, Bool, true, false, ◌==◌, Contains}
-use Rattle.std.proofs.lemmas.Bool.{cases_eq, both_ways}
-use Rattle.std.proofs.lemmas.Bool.Decides.{nat_tests}
+use Rattle.std.proofs.Common.{◌≡◌, ◌≢◌, ℕ, zero, suc, ◌<◌, refl, sym, ap, ◌∙◌, subst, List, [], ◌∷◌, ◌++◌, arith, ◌⊎◌, inl, inr, Some, None, Contains}
+use Rattle.std.proofs.lemmas.Bool.{both_ways}
 use Rattle.std.proofs.lemmas.List.{length-replicate}
 use Rattle.std.proofs.lemmas.List.Elements.{Contains-push_cases}
-use Rattle.std.proofs.lemmas.Option.{same_Some, slice_get_cases}
+use Rattle.std.proofs.lemmas.Option.{same_Some}
 use Rattle.std.specs.Prelude.{slice_get, slice_set}
 use Rattle.std.specs.FinMap as fin
 use Rattle.mr_base.specs.declared.byte.AbstractByte.TheVariants.{Uninit}
@@ -15,12 +14,12 @@ use Rattle.mr_base.specs.declared.byte.Pointer.{Pointer}
 use Rattle.mr_mem.specs.Memory.{Allocation, Memory, allocated, fresh, kind_number}
 use Rattle.mr_mem.proofs.Identities.{get_here, get_there}
 use Rattle.mr_script.specs.Script.{Done, Undefined, IllFormed, Ask, ◌>>=◌, Went, run}
-use Rattle.mr_script.proofs.SwapRuns.{goes_on, same_state, same_value}
+use Rattle.mr_script.proofs.SwapRuns.{goes_on, same_state}
 use Rattle.mr_eval.specs.MemoryQueries.{Allocate, Free, MemoryQuery, MemoryReply, MemoryScript, Modify, Reading, Write, memory_answer, next_id, pointer_to}
 use Rattle.mr_eval.specs.Tally.{Tally}
 use Rattle.mr_plan.specs.Storage.{AreHeld, IsStorage, Slot}
 use Rattle.mr_plan.proofs.FreeLaws.{Frees, free_kind, frees}
-use Rattle.mr_plan.proofs.Headers.{Lasting, lasting_same}
+use Rattle.mr_plan.proofs.Headers.{lasting_same}
 use Rattle.mr_plan.proofs.LiveFacts.{Lives, query_live}
 use Rattle.mr_plan.proofs.MemoryAnswers.{free_went}
 use Rattle.mr_plan.proofs.MemoryFacts.{MemoryFacts, memory_facts}
