@@ -6,7 +6,7 @@ use Rattle.mr_start.specs.Judging.{picked}
 use Rattle.mr_start.proofs.Overlaps.{id_of}
 use Rattle.mr_start.proofs.PickLaws.{no_overlap_at, overlap_at}
 use Rattle.mr_start.proofs.judging.first_shared.Goals as goal
-use Rattle.mr_start.proofs.judging.first_shared.Goals.{in-Address+else-meet, in_default}
+use Rattle.mr_start.proofs.judging.first_shared.Goals.{in-Address+else-ranges_meet, in_default}
 
 pub loop-i-preserved : goal.loop-i-preserved
 loop-i-preserved c =
@@ -20,11 +20,11 @@ loop-i-preserved c =
     let turned : (n : ℕ) → c.match-ask.next ≡ n → first_overlapped a.addr a.size (picked a.thread n (drop (l.i + 1) asks) (drop (l.i + 1) picks)) ≡ first_overlapped a.addr a.size (picked a.thread c.match-ask.next (drop (l.i + 1) asks) (drop (l.i + 1) picks)) =
     λ n e. ap (λ k. first_overlapped a.addr a.size (picked a.thread k (drop (l.i + 1) asks) (drop (l.i + 1) picks))) (sym e) in
     elim c.match-ask.branch [
-      | in-Address+else-meet w ↦ record {
+      | in-Address+else-ranges_meet w ↦ record {
         few = (let e = w.next-is in let f = l.invariant.few in omega (arith, e, f));
         left = l.invariant.left
             ∙ overlap_at a.addr a.size a.thread asks picks l.i l.next (Address 0 0) inside there w.in-Address.taken w.in-Address.align w.in-Address.is
-            ∙ ap (λ b. cond b (Some (id_of a.thread l.next)) rest) (sym w.meet.ensures ∙ w.if-meet.false)
+            ∙ ap (λ b. cond b (Some (id_of a.thread l.next)) rest) (sym w.ranges_meet.ensures ∙ w.if-ranges_meet.false)
             ∙ turned (l.next + 1) w.next-is;
       }
       | in_default w ↦ record {
