@@ -1,5 +1,5 @@
 -- Picks, races and short runs, and what the definitions say of them, computed.
-use Rattle.std.proofs.Common.{◌≡◌, ℕ, suc, Bool, true, false, List, [], ◌∷◌, length, replicate, Option, Some, None, codes, refl}
+use Rattle.std.proofs.Common.{◌≡◌, ℕ, suc, true, false, List, [], ◌∷◌, length, replicate, Option, Some, None, codes, refl}
 use Rattle.std.specs.Fmt.{digits}
 use Rattle.mr_base.specs.Accesses.{some_race}
 use Rattle.mr_base.specs.declared.access.Access.{Access}
@@ -10,16 +10,12 @@ use Rattle.mr_base.specs.declared.byte.Pointer.{Pointer}
 use Rattle.mr_base.specs.declared.reason.Reason.TheVariants as reason
 use Rattle.mr_base.specs.declared.reason.Verdict.TheVariants as verdict
 use Rattle.mr_base.specs.declared.thread.Event.TheVariants.{Quiet}
-use Rattle.mr_base.specs.declared.thread.Status.{Status}
 use Rattle.mr_base.specs.declared.thread.Status.TheVariants.{OnLock, Enabled}
 use Rattle.mr_ast.specs.declared.types.Ty.{Ty}
 use Rattle.mr_ast.specs.declared.types.Ty.TheVariants as ty
-use Rattle.mr_ast.specs.declared.expr.Place.TheVariants as place
-use Rattle.mr_ast.specs.declared.expr.Value.TheVariants as value
 use Rattle.mr_ast.specs.declared.program.Block.{Block}
 use Rattle.mr_ast.specs.declared.program.BlockKind.{BlockKind}
 use Rattle.mr_ast.specs.declared.program.BlockKind.TheVariants.{Regular}
-use Rattle.mr_ast.specs.declared.program.BlockName.{BlockName}
 use Rattle.mr_ast.specs.declared.program.Function.{Function}
 use Rattle.mr_ast.specs.declared.program.Item_.TheVariants as item
 use Rattle.mr_ast.specs.declared.program.LocalName.{LocalName}
@@ -38,7 +34,7 @@ use Rattle.mr_frame.specs.Operations as operations
 use Rattle.mr_frame.specs.Sites as sites
 use Rattle.mr_frame.specs.Steps as steps
 use Rattle.mr_plan.specs.Legal.{Fault, fault, picks_fault}
-use Rattle.mr_plan.specs.Runs.{Config, has_rule, machine_step, races_with}
+use Rattle.mr_plan.specs.Runs.{Config, machine_step, races_with}
 use Rattle.mr_intr.specs.Texts.{number_text, spaced}
 use Rattle.mr_thread.specs.Steps.{Own, thread_step}
 use Rattle.mr_start.specs.Start.{item_bytes, look_of, run_of, start_config}
@@ -167,11 +163,12 @@ atomic_behind_plain = refl
 
 -- ---- runs
 
-unit : Ty
+-- the type of the value without bytes
+abbrev pub unit : Ty
 unit = ty.Tuple 0 1 []
 
 -- a program of these functions, of which the first is the main function
-abbrev program : List Function → Program
+abbrev pub program : List Function → Program
 program functions = record {
   edition = 1;
   globals = [];
@@ -181,11 +178,11 @@ program functions = record {
 }
 
 -- the first local, which holds what a function returns
-abbrev result : LocalName
+abbrev pub result : LocalName
 result = record { 0 = 0 }
 
 -- a function with these arguments behind its first local; all its locals are units
-abbrev function : List LocalName → List Block → Function
+abbrev pub function : List LocalName → List Block → Function
 function args blocks = record {
   name = 0;
   args = args;
@@ -194,11 +191,11 @@ function args blocks = record {
   blocks = blocks;
 }
 
-abbrev block : BlockKind → List Stmt → Term → Block
+abbrev pub block : BlockKind → List Stmt → Term → Block
 block kind stmts end = record { name = 2; kind = kind; stmts = stmts; term = end }
 
 -- a main function of one block, which ends so
-abbrev small : BlockKind → Term → Program
+abbrev pub small : BlockKind → Term → Program
 small kind end = program (function [] (block kind [] end ∷ []) ∷ [])
 
 -- a step of thread 0 with these picks
@@ -215,41 +212,6 @@ returning = small Regular term.Return
 main_returned : (run returning (own [] ∷ [])).verdict ≡ verdict.Undefined reason.MainReturned
 unfolding run_of machine_step thread_step look_of start_config returning operations.next_do sites.site_of sites.due_of steps.frame_plan
 main_returned = refl
-
--- ---- steps without a rule: each program breaks one rule of well-formed programs, and no other
-
--- whether the first step of a run has a rule, with these picks at the start and these in the step
-abbrev begins_by_rule : Program → List ℕ → List ℕ → Bool
-begins_by_rule p start picks = has_rule (thread_step (look_of p start)) 0 picks (start_config p start).state
-
--- the main function calls another, and unwinds to this block or to none
-abbrev calling : Option BlockName → Term
-calling unwind = term.Call (value.Fn (record { 0 = 1 })) [] (place.Local result) None unwind
-
--- the rule of block kinds: `stop` in a regular block has no payload to take
-stopping : Program
-stopping = small Regular (term.Stop (record { 0 = 0 }))
-
-ill_formed_kind : begins_by_rule stopping (16 ∷ 32 ∷ []) [] ≡ false
-unfolding thread_step look_of start_config stopping operations.next_do sites.site_of sites.due_of steps.frame_plan
-ill_formed_kind = refl
-
--- the same rule: a call that unwinds to a regular block
-unwinding : Program
-unwinding =
-    program (function [] (block Regular [] (calling (Some (record { 0 = 0 }))) ∷ []) ∷ function [] (block Regular [] term.Return ∷ []) ∷ [])
-
-ill_formed_unwind_target : begins_by_rule unwinding (16 ∷ 32 ∷ 48 ∷ []) (64 ∷ []) ≡ false
-unfolding thread_step look_of start_config unwinding operations.next_do sites.site_of sites.due_of steps.frame_plan
-ill_formed_unwind_target = refl
-
--- the rule of main functions: one with an argument, which has no storage at the start
-main_with_argument : Program
-main_with_argument = program (function (record { 0 = 1 } ∷ []) (block Regular [] term.Exit ∷ []) ∷ [])
-
-ill_formed_main : begins_by_rule main_with_argument (16 ∷ 32 ∷ []) [] ≡ false
-unfolding thread_step look_of start_config main_with_argument operations.next_do sites.site_of sites.due_of steps.frame_plan
-ill_formed_main = refl
 
 -- ---- the bytes of globals
 

@@ -1,6 +1,7 @@
 //! The tests of runs, by texts: what the machine makes of a program under a schedule, step by step; what the tables of threads and
 //! locks answer; and which steps of a run depend, are ordered and race. It has no code of its own. `proofs/Examples.antt` has picks,
-//! races and short runs that the definitions alone compute.
+//! races and short runs that the definitions alone compute; `proofs/IllFormed.antt` has, for seven rules of well-formed programs, one that
+//! breaks it and comes to a step without a rule.
 #![tactic(auto)]
 
 #[cfg(test)]
