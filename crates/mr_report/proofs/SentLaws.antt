@@ -1,12 +1,11 @@
 -- What is sent of a report, and the text that it has.
-use Rattle.std.proofs.Common.{◌≡◌, ℕ, suc, ◌+◌, ◌==◌, List, [], ◌∷◌, ◌++◌, length, map, Bool, true, false, Option, None, Some, option_map, codes, decimal, refl, sym, ap, ap₂, ◌∙◌, subst, append_assoc, arith}
-use Rattle.std.specs.Prelude.{flat_map}
-use Rattle.std.specs.List.{All, AllByRecursion, join_with_byte, list_all}
+use Rattle.std.proofs.Common.{◌≡◌, ℕ, suc, ◌+◌, List, [], ◌∷◌, ◌++◌, length, map, true, false, Option, None, Some, option_map, codes, refl, sym, ap, ap₂, ◌∙◌, subst, append_assoc}
+use Rattle.std.specs.List.{AllByRecursion, join_with_byte, list_all}
 use Rattle.std.proofs.lemmas.List.Elements.{recursion_from_All}
 use Rattle.json.specs.Print as json
 use Rattle.json.specs.Print.{escape, escape_byte}
 use Rattle.serde.specs.Event.{Log, Logs, InSeq, Then, WritesEach, WritesSeq, seq_begins, seq_ends, unsigned as unsigned_event}
-use Rattle.serde_json.specs.Data.{Data, null, string, number, unsigned, array as array_data, item, no_items}
+use Rattle.serde_json.specs.Data.{Data, string, number, unsigned, array as array_data}
 use Rattle.serde_json.specs.Events.{SendsItems, SendsValue, items_len}
 use Rattle.serde_json.specs.View.{items_of}
 use Rattle.serde_json.specs.Written.{compact_text, items_text, has_float, items_have_float}
@@ -15,7 +14,7 @@ use Rattle.mr_event.specs.declared.footprint.Pair.{Pair}
 use Rattle.mr_sched.specs.declared.schedule.Schedule.{Schedule}
 use Rattle.mr_sched.specs.Spelling.{text_of}
 use Rattle.mr_report.specs.declared.report.Line.{Line}
-use Rattle.mr_report.specs.Json.{ArePrinted, array, escaped, is_printed, json_text, quoted, race_array, witness_value}
+use Rattle.mr_report.specs.Json.{ArePrinted, array, is_printed, json_text, quoted, race_array, witness_value}
 use Rattle.mr_report.specs.Report.{line, verdict_text}
 use Rattle.mr_report.specs.Sent.{members_data, places_data, races_data, report_data, texts_data, witness_data}
 use Rattle.mr_report.proofs.PlainLaws.{ArePlain, escape_is, printed_are_plain, schedule_plain, verdict_plain}

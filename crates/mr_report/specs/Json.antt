@@ -42,8 +42,8 @@ witness_value (Some w) = quoted (text_of w)
 abbrev pub json_text : List Line → Verdict → List Pair → Option Schedule → List ℕ
 json_text output v races witness =
     line (
-      codes "{\"output\":" ++ array (map (λ l. quoted l.text) output)
-      ++ codes ",\"races\":" ++ array (map race_array races)
-      ++ codes ",\"verdict\":" ++ quoted (verdict_text v)
-      ++ codes ",\"witness\":" ++ witness_value witness ++ codes "}"
+    codes "{\"output\":" ++ array (map (λ l. quoted l.text) output)
+    ++ codes ",\"races\":" ++ array (map race_array races)
+    ++ codes ",\"verdict\":" ++ quoted (verdict_text v)
+    ++ codes ",\"witness\":" ++ witness_value witness ++ codes "}"
     )

@@ -25,9 +25,9 @@ witness_data (Some text) = string text
 abbrev pub members_data : Data → Data → Data → Data → Data
 members_data output races verdict witness =
     object (
-      member (codes "output") output
-      (member (codes "races") races
-      (member (codes "verdict") verdict (member (codes "witness") witness no_members)))
+    member (codes "output") output
+    (member (codes "races") races
+    (member (codes "verdict") verdict (member (codes "witness") witness no_members)))
     )
 
 -- what they are

@@ -21,7 +21,7 @@ use std::str;
 #[derive(Drop)]
 struct Told<'a> {
     output: Vec<&'a str>,
-    // The places of the two steps, counted from 1.
+    // For each race the places of its two steps, counted from 1. They are wide, since a place may be the largest `usize`.
     races: Vec<(u128, u128)>,
     verdict: String,
     witness: Option<String>,
@@ -35,9 +35,9 @@ impl Serialize for Told<'_> {
     fn serialize<S: Serializer>(&self, out: &mut S) -> Result<(), S::Error> {
         out.begin_map(Some(4))?;
         out.key("output")?;
-        send_texts(&self.output, out)?;
+        send_texts(self.output.as_slice(), out)?;
         out.key("races")?;
-        send_races(&self.races, out)?;
+        send_races(self.races.as_slice(), out)?;
         out.key("verdict")?;
         self.verdict.serialize(out)?;
         out.key("witness")?;
@@ -46,24 +46,28 @@ impl Serialize for Told<'_> {
     }
 }
 
-fn send_texts<S: Serializer>(texts: &Vec<&str>, out: &mut S) -> Result<(), S::Error>
-    ensures { OnOk result (SendsValue (texts_data (map (λ s. s.now) texts.now.items)) (S.written out.old) (S.written out.new)) }
+// An array of strings.
+fn send_texts<S: Serializer>(texts: &[&str], out: &mut S) -> Result<(), S::Error>
+    ensures { OnOk result (SendsValue (texts_data (map (λ s. s.now) texts.now)) (S.written out.old) (S.written out.new)) }
 {
     texts.serialize(out)
 }
 
-fn send_races<S: Serializer>(races: &Vec<(u128, u128)>, out: &mut S) -> Result<(), S::Error>
-    ensures { OnOk result (SendsValue (races_data races.now.items) (S.written out.old) (S.written out.new)) }
+// An array of arrays of two numbers.
+fn send_races<S: Serializer>(races: &[(u128, u128)], out: &mut S) -> Result<(), S::Error>
+    ensures { OnOk result (SendsValue (races_data races.now) (S.written out.old) (S.written out.new)) }
 {
     races.serialize(out)
 }
 
+// A string, or null.
 fn send_witness<S: Serializer>(witness: &Option<String>, out: &mut S) -> Result<(), S::Error>
     ensures { OnOk result (SendsValue (witness_data (option_map string_bytes witness.now)) (S.written out.old) (S.written out.new)) }
 {
     witness.serialize(out)
 }
 
+// The texts of the prints.
 fn told_texts<'a>(alloc: Global, lines: &'a [Line]) -> Result<Vec<&'a str>, OutOfMemory>
     requires { ArePrinted lines.now }
     ensures { IfOk result (λ texts. map (λ s. s.now) texts.items ≡ map (λ l. l.text) lines.now) }
@@ -75,7 +79,7 @@ fn told_texts<'a>(alloc: Global, lines: &'a [Line]) -> Result<Vec<&'a str>, OutO
     Ok(texts)
 }
 
-// A text of ASCII.
+// Bytes that are known to be UTF-8, as a text.
 fn told_text(bytes: &[u8]) -> &str
     requires { IsUtf8 bytes.now }
     ensures { result.now ≡ bytes.now }
@@ -86,7 +90,7 @@ fn told_text(bytes: &[u8]) -> &str
     }
 }
 
-// The races, whose steps are counted from 1. No list is so long that this passes its numbers.
+// The races, whose steps are counted from 1.
 fn told_races(alloc: Global, races: &[Pair]) -> Result<Vec<(u128, u128)>, OutOfMemory>
     ensures { IfOk result (λ told. told.items ≡ map (λ p. (p.first + 1, p.second + 1)) races.now) }
 {
@@ -97,6 +101,7 @@ fn told_races(alloc: Global, races: &[Pair]) -> Result<Vec<(u128, u128)>, OutOfM
     Ok(told)
 }
 
+// The same of bytes that are given away.
 fn told_string(bytes: Vec<u8>) -> String
     requires { IsUtf8 bytes.items }
     ensures { string_bytes result ≡ bytes.items }
@@ -107,6 +112,7 @@ fn told_string(bytes: Vec<u8>) -> String
     }
 }
 
+// What the verdict is called.
 fn told_verdict(alloc: Global, verdict: Verdict) -> Result<String, OutOfMemory>
     ensures { IfOk result (λ text. string_bytes text ≡ verdict_text verdict) }
 {
@@ -115,6 +121,7 @@ fn told_verdict(alloc: Global, verdict: Verdict) -> Result<String, OutOfMemory>
     Ok(told_string(text))
 }
 
+// The text of the witness, where there is one.
 fn told_witness(alloc: Global, witness: Option<&Schedule>) -> Result<Option<String>, OutOfMemory>
     ensures { IfOk result (λ text. option_map string_bytes text ≡ option_map text_of (option_copied witness.entry)) }
 {
@@ -126,7 +133,7 @@ fn told_witness(alloc: Global, witness: Option<&Schedule>) -> Result<Option<Stri
     Ok(Some(told_string(text)))
 }
 
-// The object, with no line feed.
+// The object with no line feed behind it. The writer fails only for want of memory.
 fn object(alloc: Global, r: &Report<'_>) -> Result<Vec<u8>, OutOfMemory>
     requires texts { ArePrinted r.now.output.now }
     ensures { IfOk result (λ bytes. line bytes.items ≡ json_text r.now.output.now r.now.verdict r.now.races.now (option_copied r.now.witness)) }
