@@ -14,8 +14,8 @@ use Rattle.mr_event.specs.declared.footprint.Pair.{Pair}
 use Rattle.mr_sched.specs.declared.schedule.Schedule.{Schedule}
 use Rattle.mr_sched.specs.Spelling.{text_of}
 use Rattle.mr_report.specs.declared.report.Line.{Line}
-use Rattle.mr_report.specs.Json.{ArePrinted, array, is_printed, json_text, quoted, race_array, witness_value}
-use Rattle.mr_report.specs.Report.{line, verdict_text}
+use Rattle.mr_report.specs.Json.{ArePrinted, array, is_printed, object_text, quoted, race_array, witness_value}
+use Rattle.mr_report.specs.Report.{verdict_text}
 use Rattle.mr_report.specs.Sent.{members_data, places_data, races_data, report_data, texts_data, witness_data}
 use Rattle.mr_report.proofs.PlainLaws.{ArePlain, escape_is, printed_are_plain, schedule_plain, verdict_plain}
 
@@ -77,24 +77,25 @@ members_text output races verdict witness a b c d e f g h = rw (e, f, g, h) refl
 regroup : (p a q b r c s d t : List ℕ) → p ++ (a ++ (q ++ (b ++ (r ++ (c ++ (s ++ (d ++ t))))))) ≡ p ++ a ++ q ++ b ++ r ++ c ++ s ++ d ++ t
 regroup p a q b r c s d t = simp append_assoc
 
-pub report_text_is : (output : List Line) (v : Verdict) (races : List Pair) (w : Option Schedule) → ArePrinted output
-    → line (compact_text (report_data (map (λ l. l.text) output) (map (λ p. (p.first + 1, p.second + 1)) races) (verdict_text v) (option_map text_of w))) ≡ json_text output v races w
+report_text_is : (output : List Line) (v : Verdict) (races : List Pair) (w : Option Schedule) → ArePrinted output
+    → compact_text (report_data (map (λ l. l.text) output) (map (λ p. (p.first + 1, p.second + 1)) races) (verdict_text v) (option_map text_of w)) ≡ object_text output v races w
 report_text_is output v races w printed =
     let texts = map (λ l. l.text) output in
     let places = map (λ p. (p.first + 1, p.second + 1)) races in
-    let text =
-    members_text (texts_data texts) (races_data places) (string (verdict_text v)) (witness_data (option_map text_of w))
-    (array (map (λ l. quoted l.text) output)) (array (map race_array races)) (quoted (verdict_text v)) (witness_value w)
-    (array_text (map string texts) ∙ ap array (lines_texts output (recursion_from_All _ output printed)))
-    (array_text (map places_data places) ∙ ap array (races_texts races))
-    (quoted_is (verdict_text v) (verdict_plain v))
-    (witness_is w) in
-    ap line (text ∙ regroup (codes "{\"output\":") (array (map (λ l. quoted l.text) output)) (codes ",\"races\":") (array (map race_array races)) (codes ",\"verdict\":") (quoted (verdict_text v)) (codes ",\"witness\":") (witness_value w) (codes "}"))
+    let a = array (map (λ l. quoted l.text) output) in
+    let b = array (map race_array races) in
+    let c = quoted (verdict_text v) in
+    let d = witness_value w in
+    let output_is = array_text (map string texts) ∙ ap array (lines_texts output (recursion_from_All _ output printed)) in
+    let races_is = array_text (map places_data places) ∙ ap array (races_texts races) in
+    members_text (texts_data texts) (races_data places) (string (verdict_text v)) (witness_data (option_map text_of w)) a b c d
+    output_is races_is (quoted_is (verdict_text v) (verdict_plain v)) (witness_is w)
+    ∙ regroup (codes "{\"output\":") a (codes ",\"races\":") b (codes ",\"verdict\":") c (codes ",\"witness\":") d (codes "}")
 
 -- the same of what was told
 pub told_text_is : (output : List Line) (v : Verdict) (races : List Pair) (w : Option Schedule) (texts : List (List ℕ)) (places : List (ℕ × ℕ)) (verdict : List ℕ) (witness : Option (List ℕ)) (bytes : List ℕ)
     → ArePrinted output → texts ≡ map (λ l. l.text) output → places ≡ map (λ p. (p.first + 1, p.second + 1)) races → verdict ≡ verdict_text v → witness ≡ option_map text_of w
-    → bytes ≡ compact_text (report_data texts places verdict witness) → line bytes ≡ json_text output v races w
+    → bytes ≡ compact_text (report_data texts places verdict witness) → bytes ≡ object_text output v races w
 told_text_is output v races w texts places verdict witness bytes printed e f g h k = rw (k, e, f, g, h) (report_text_is output v races w printed)
 
 -- ---- no member is a float

@@ -38,12 +38,15 @@ abbrev pub witness_value : Option Schedule → List ℕ
 witness_value None = codes "null"
 witness_value (Some w) = quoted (text_of w)
 
--- THE JSON OF A REPORT: one object, with the printed texts, the races, the verdict and the witness, and LF
-abbrev pub json_text : List Line → Verdict → List Pair → Option Schedule → List ℕ
-json_text output v races witness =
-    line (
+-- the object with its four members in order: the printed texts, the races, the verdict and the witness
+abbrev pub object_text : List Line → Verdict → List Pair → Option Schedule → List ℕ
+object_text output v races witness =
     codes "{\"output\":" ++ array (map (λ l. quoted l.text) output)
     ++ codes ",\"races\":" ++ array (map race_array races)
     ++ codes ",\"verdict\":" ++ quoted (verdict_text v)
-    ++ codes ",\"witness\":" ++ witness_value witness ++ codes "}"
-    )
+    ++ codes ",\"witness\":" ++ witness_value witness
+    ++ codes "}"
+
+-- THE JSON OF A REPORT: the object, and LF
+abbrev pub json_text : List Line → Verdict → List Pair → Option Schedule → List ℕ
+json_text output v races witness = line (object_text output v races witness)

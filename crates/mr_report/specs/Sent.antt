@@ -1,6 +1,7 @@
 -- What `serde_json` is given of a report.
 use Rattle.std.specs.Prelude.{ℕ, List, map, codes, Option, None, Some, option_map, string_bytes}
-use Rattle.serde_json.specs.Data.{Data, null, string, number, unsigned, array, object, item, no_items, member, no_members}
+use Rattle.serde_json.specs.Data.{Data, null, string, number, unsigned, array, item, no_items}
+use Rattle.serde_json.specs.Data.{object, member, no_members}
 use Rattle.serde_json.specs.View.{items_of}
 use Rattle.mr_report.specs.declared.encoding.Told.{Told}
 
@@ -24,11 +25,8 @@ witness_data (Some text) = string text
 -- the object with its four members in order
 abbrev pub members_data : Data → Data → Data → Data → Data
 members_data output races verdict witness =
-    object (
-    member (codes "output") output
-    (member (codes "races") races
-    (member (codes "verdict") verdict (member (codes "witness") witness no_members)))
-    )
+    let last = member (codes "verdict") verdict (member (codes "witness") witness no_members) in
+    object (member (codes "output") output (member (codes "races") races last))
 
 -- what they are
 abbrev pub report_data : List (List ℕ) → List (ℕ × ℕ) → List ℕ → Option (List ℕ) → Data
@@ -38,4 +36,5 @@ report_data output races verdict witness =
 -- the object of what is told
 abbrev pub told_data : Told → Data
 told_data t =
-    report_data (map (λ s. s.now) t.output.items) t.races.items (string_bytes t.verdict) (option_map string_bytes t.witness)
+    let texts = map (λ s. s.now) t.output.items in
+    report_data texts t.races.items (string_bytes t.verdict) (option_map string_bytes t.witness)

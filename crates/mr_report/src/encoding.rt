@@ -2,8 +2,8 @@
 ghost use Rattle.std.specs.Prelude.{◌≡◌, ◌+◌, ◌++◌, IfOk, OnErr, OnOk, map, option_copied, option_map, string_bytes};
 ghost use Rattle.std.specs.Str.{IsUtf8};
 ghost use Rattle.mr_sched.specs.Spelling.{text_of};
-ghost use Rattle.mr_report.specs.Json.{ArePrinted, json_text};
-ghost use Rattle.mr_report.specs.Report.{line, verdict_text};
+ghost use Rattle.mr_report.specs.Json.{ArePrinted, json_text, object_text};
+ghost use Rattle.mr_report.specs.Report.{verdict_text};
 ghost use Rattle.mr_report.specs.Sent.{races_data, texts_data, told_data, witness_data};
 ghost use Rattle.serde_json.specs.Events.{SendsValue};
 
@@ -90,17 +90,6 @@ fn told_text(bytes: &[u8]) -> &str
     }
 }
 
-// The races, whose steps are counted from 1.
-fn told_races(alloc: Global, races: &[Pair]) -> Result<Vec<(u128, u128)>, OutOfMemory>
-    ensures { IfOk result (λ told. told.items ≡ map (λ p. (p.first + 1, p.second + 1)) races.now) }
-{
-    let mut told = Vec::new(alloc);
-    for pair in races {
-        told.push((pair.first as u128 + 1, pair.second as u128 + 1))?;
-    }
-    Ok(told)
-}
-
 // The same of bytes that are given away.
 fn told_string(bytes: Vec<u8>) -> String
     requires { IsUtf8 bytes.items }
@@ -110,6 +99,17 @@ fn told_string(bytes: Vec<u8>) -> String
         Ok(text) => text,
         Err(_) => unreachable!(),
     }
+}
+
+// The races, whose steps are counted from 1.
+fn told_races(alloc: Global, races: &[Pair]) -> Result<Vec<(u128, u128)>, OutOfMemory>
+    ensures { IfOk result (λ told. told.items ≡ map (λ p. (p.first + 1, p.second + 1)) races.now) }
+{
+    let mut told = Vec::new(alloc);
+    for pair in races {
+        told.push((pair.first as u128 + 1, pair.second as u128 + 1))?;
+    }
+    Ok(told)
 }
 
 // What the verdict is called.
@@ -136,7 +136,7 @@ fn told_witness(alloc: Global, witness: Option<&Schedule>) -> Result<Option<Stri
 // The object with no line feed behind it. The writer fails only for want of memory.
 fn object(alloc: Global, r: &Report<'_>) -> Result<Vec<u8>, OutOfMemory>
     requires texts { ArePrinted r.now.output.now }
-    ensures { IfOk result (λ bytes. line bytes.items ≡ json_text r.now.output.now r.now.verdict r.now.races.now (option_copied r.now.witness)) }
+    ensures { IfOk result (λ bytes. bytes.items ≡ object_text r.now.output.now r.now.verdict r.now.races.now (option_copied r.now.witness)) }
 {
     let told = Told {
         output: told_texts(alloc, r.output)?,
@@ -150,8 +150,9 @@ fn object(alloc: Global, r: &Report<'_>) -> Result<Vec<u8>, OutOfMemory>
     }
 }
 
-/// Appends a report as one JSON object and a line feed: `output`, the printed texts; `races`, for each the places of its two steps, counted
-/// from 1; `verdict`; and `witness`, the text of the schedule or null. An `Err` is for want of memory, and leaves `out` as it was.
+/// Appends a report as one JSON object and a line feed: `output`, the printed texts, which have no bytes but digits, small letters, `-` and
+/// space; `races`, for each the places of its two steps, counted from 1; `verdict`; and `witness`, the text of the schedule, or null. An
+/// `Err` is for want of memory, and leaves `out` as it was.
 pub fn json(alloc: Global, r: &Report<'_>, out: &mut Vec<u8>) -> Result<(), OutOfMemory>
     requires texts { ArePrinted r.now.output.now }
     ensures ok { OnOk result (out.new.items ≡ out.old.items ++ json_text r.now.output.now r.now.verdict r.now.races.now (option_copied r.now.witness)) }
