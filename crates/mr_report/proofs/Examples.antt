@@ -5,6 +5,7 @@ use Rattle.mr_base.specs.declared.reason.Reason.TheVariants.{DataRace}
 use Rattle.mr_base.specs.declared.reason.Verdict.TheVariants as verdict
 use Rattle.std.specs.Fmt.{digits}
 use Rattle.mr_sched.specs.Spelling.{text_of}
+use Rattle.mr_report.specs.Json.{json_text}
 use Rattle.mr_report.specs.Report.{report_text}
 
 -- a run that printed and exited
@@ -22,3 +23,20 @@ witnessed : report_text [] (verdict.Undefined DataRace) (record { first = 0; sec
     ≡ codes "verdict undefined 100 DataRace\nraces 1\nrace 1 2\nwitness 2\nschedule 1\nstart 16 32\n0\n1\n"
 unfolding digits text_of
 witnessed = refl
+
+-- a run with nothing to tell but its verdict, as JSON
+quiet_json : json_text [] verdict.Exit [] None ≡ codes "{\"output\":[],\"races\":[],\"verdict\":\"exit\",\"witness\":null}\n"
+quiet_json = refl
+
+-- a data race, as JSON: in the string each LF of the schedule is written as two characters
+witnessed_json : json_text (record { thread = 0; text = codes "2" } ∷ []) (verdict.Undefined DataRace) (record { first = 1; second = 2 } ∷ [])
+    (Some (record { start = 16 ∷ 17 ∷ 4096 ∷ 32 ∷ []; entries = record { thread = 0; picks = 33 ∷ 8208 ∷ [] } ∷ record { thread = 0; picks = 34 ∷ 8216 ∷ [] } ∷ record { thread = 1; picks = [] } ∷ [] }))
+    ≡ codes "{\"output\":[\"2\"],\"races\":[[2,3]],\"verdict\":\"undefined 100 DataRace\",\"witness\":\"schedule 1\\nstart 16 17 4096 32\\n0 33 8208\\n0 34 8216\\n1\\n\"}\n"
+unfolding digits text_of
+witnessed_json = refl
+
+-- two prints and two races, with a comma between them
+two_json : json_text (record { thread = 0; text = codes "-1" } ∷ record { thread = 1; text = codes "true" } ∷ []) verdict.Deadlock (record { first = 3; second = 5 } ∷ record { first = 5; second = 9 } ∷ []) None
+    ≡ codes "{\"output\":[\"-1\",\"true\"],\"races\":[[4,6],[6,10]],\"verdict\":\"deadlock\",\"witness\":null}\n"
+unfolding digits
+two_json = refl

@@ -1,2 +1,4 @@
 pub mod Examples
 pub mod ExtendsLaws
+pub mod PlainLaws
+pub mod SentLaws

@@ -1,1 +1,3 @@
+pub mod Json
 pub mod Report
+pub mod Sent

@@ -45,6 +45,16 @@ fn push_verdict(out: &mut Vec<u8>, verdict: Verdict) -> Result<(), OutOfMemory>
     ensures err { OnErr result (Extends out.old.items out.new.items) }
 {
     out.extend_from_slice(b"verdict ")?;
+    push_verdict_text(out, verdict)?;
+    out.push(b'\n')?;
+    Ok(())
+}
+
+// What a verdict is called.
+pub(crate) fn push_verdict_text(out: &mut Vec<u8>, verdict: Verdict) -> Result<(), OutOfMemory>
+    ensures ok { OnOk result (out.new.items ≡ out.old.items ++ verdict_text verdict) }
+    ensures err { OnErr result (Extends out.old.items out.new.items) }
+{
     match verdict {
         Verdict::Running => out.extend_from_slice(b"running")?,
         Verdict::Exit => out.extend_from_slice(b"exit")?,
@@ -58,7 +68,6 @@ fn push_verdict(out: &mut Vec<u8>, verdict: Verdict) -> Result<(), OutOfMemory>
             out.extend_from_slice(reason.name().as_bytes())?;
         }
     }
-    out.push(b'\n')?;
     Ok(())
 }
 
