@@ -59,7 +59,6 @@ use Rattle.mr_thread.specs.Steps.{Own, TurnPlan, in_step, reads, thread_step}
 use Rattle.mr_base.specs.declared.thread.Status.TheVariants.{Enabled}
 use Rattle.mr_base.specs.declared.byte.Kind.TheVariants.{Function as OfFunction, Stack as OnStack}
 use Rattle.mr_start.specs.Start.{look_of, run_of, start_config, start_memory}
-
 use Rattle.mr_run_tests.proofs.Examples.{block, function, program, result, small, unit}
 
 -- the picks of the start: the main function at 16, its return local at 32
