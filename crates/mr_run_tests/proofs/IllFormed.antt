@@ -1,4 +1,4 @@
--- Steps without a rule: each program here breaks one rule of well-formed programs, and no other, and comes to a step for which the machine has no rule.
+-- Steps without a rule: each program here breaks a rule of well-formed programs, and comes to a step for which the machine has no rule.
 use Rattle.std.proofs.Common.{◌≡◌, ℕ, Bool, true, false, not, ◌&&◌, List, [], ◌∷◌, Option, None, Some, Result, Ok, refl, ap, ◌∙◌}
 use Rattle.std.specs.Prelude.{is_some, if◌then◌else◌}
 use Rattle.std.specs.FinMap as fin

@@ -1,15 +1,19 @@
-//! The tests of the text layer: names, tokens, the parser, the canonical printer, the text of schedules, and what reasons and rules
-//! are called. It has no code of its own.
+//! The tests of the text layer: names, tokens, the parser, the canonical printer, the text of schedules, the JSON of
+//! reports, what is made from a number, and what reasons and rules are called. It has no code of its own.
 #![tactic(auto)]
 
 #[cfg(test)]
 mod names;
+#[cfg(test)]
+mod numbers;
 #[cfg(test)]
 mod parsing;
 #[cfg(test)]
 mod printing;
 #[cfg(test)]
 mod reasons;
+#[cfg(test)]
+mod reports;
 #[cfg(test)]
 mod schedules;
 #[cfg(test)]
