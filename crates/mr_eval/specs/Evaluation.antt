@@ -23,7 +23,7 @@ use Rattle.mr_value.specs.Encode.{blank, encoding_of}
 use Rattle.mr_value.specs.Numbers.{Bytes}
 use Rattle.mr_value.specs.Shape.{has_shape}
 use Rattle.mr_script.specs.Script.{Done, Undefined, IllFormed, ◌>>=◌}
-use Rattle.mr_wf.specs.Types.{chained, type_of_place, type_of_value, variant_type}
+use Rattle.mr_wf.specs.Types.{chained, field_offset, type_of_place, type_of_value, variant_type}
 use Rattle.mr_eval.specs.Reads.{ReadScript}
 use Rattle.mr_eval.specs.Moves.{behind, moved}
 use Rattle.mr_eval.specs.Typed.{loading, meant, searched}
@@ -46,11 +46,6 @@ stored (Some None) = Undefined DeadLocal
 stored (Some (Some p)) = Done p
 
 -- where the field of this number begins
-abbrev pub field_offset : Ty-F Ty Variant → ℕ → Option ℕ
-field_offset (Ty-F.Tuple size align fields) n = option_map (λ f. f.0) (slice_get fields n)
-field_offset (Ty-F.Union size align fields chunks) n = option_map (λ f. f.0) (slice_get fields n)
-field_offset _ n = None
-
 abbrev pub offset_in : Option Ty → ℕ → Option ℕ
 offset_in None n = None
 offset_in (Some t) n = field_offset (out-Ty t) n

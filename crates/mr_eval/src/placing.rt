@@ -6,7 +6,7 @@ ghost use Rattle.mr_script.specs.Script.{run};
 ghost use Rattle.mr_eval.specs.Reads.{reading};
 ghost use Rattle.mr_eval.specs.Answers.{Extends, Gives, Says, at_pointer, same, seen};
 ghost use Rattle.mr_eval.specs.Evaluated.{in_array, in_field};
-ghost use Rattle.mr_eval.specs.Evaluation.{element_at, elements_in, offset_in, stored};
+ghost use Rattle.mr_eval.specs.Evaluation.{element_at, elements_in, stored};
 ghost use Rattle.mr_eval.specs.Operators.{bits_in, pointer_of_value};
 ghost use Rattle.mr_wf.specs.Types.{element_type, field_type, variant_type};
 
@@ -74,28 +74,6 @@ fn bits_of(v: &Val) -> Option<u128>
     }
 }
 
-// Where a field begins.
-fn field_offset(t: &Ty, number: u64) -> Option<u64>
-    ensures { result ≡ offset_in (Some t.now) number }
-{
-    match t {
-        Ty::Tuple { fields, .. } | Ty::Union { fields, .. } => offset_among(
-            fields.as_slice(),
-            number,
-        ),
-        _ => None,
-    }
-}
-
-fn offset_among(fields: &[(u64, Ty)], number: u64) -> Option<u64>
-    ensures { result ≡ option_map (λ f. f.0) (slice_get fields.now number) }
-{
-    match fields.get(number as usize) {
-        Some((offset, _)) => Some(*offset),
-        None => None,
-    }
-}
-
 /// A field of a whole.
 #[tactic(auto, unfolding(crate::specs::Evaluated::in_field), using(crate::proofs::ExtendsLaws::extends_laws))]
 pub fn field<'p>(
@@ -109,7 +87,7 @@ pub fn field<'p>(
     ensures kept { Extends (seen notes.old) (seen notes.new) }
 {
     match (
-        field_offset(whole.ty, number),
+        mr_wf::offset(whole.ty, number),
         mr_wf::field(whole.ty, number),
     ) {
         (Some(offset), Some(ty)) => {

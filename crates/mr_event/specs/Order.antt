@@ -99,10 +99,6 @@ HasNoRivalBelow run i j = (k : ℕ) → k < i → ¬ AreRivals run k j
 abbrev pub HasLink : List Footprint → List Bool → ℕ → Type 0
 HasLink run marked k = (m : ℕ) × (m < k) × IsTrue (slice_index_or marked m false) × Edge run m k
 
--- an edge leads from i to a step before j that is marked
-abbrev pub HasWay : List Footprint → List Bool → ℕ → ℕ → Type 0
-HasWay run marked i j = (m : ℕ) × (i < m) × (m < j) × IsTrue (slice_index_or marked m false) × Edge run i m
-
 -- the places of a run of n steps, in order
 abbrev pub places : ℕ → List ℕ
 places n = range_with_len 0 n

@@ -7,13 +7,14 @@
 //! - [`Pair`]: a race, by the places of its two steps in the run.
 //!
 //! Definitions: `specs/Footprints.antt` says when a step wakes a thread and depends on another step, `specs/Order.antt` what
-//! happens before what and which pairs are races, `specs/Predicted.antt` computes both, `specs/FootOk.antt` has the
-//! machine's limits, and `specs/Kept.antt` the steps of a witness. Proved of the public calls:
+//! happens before what and which pairs are races, `specs/Predicted.antt` computes both, `specs/Clocks.antt` what the clock
+//! of a step is, `specs/FootOk.antt` has the machine's limits, and `specs/Kept.antt` the steps of a witness. Proved of the
+//! public calls:
 //!
 //! - [`depends`]: whether a later step of another thread depends on a step, exactly.
 //! - [`predicted_plain`]: each step that races with an earlier one unordered by happens-before, with the greatest such
-//!   one, by rising second step; want of memory is its only error. It compares each two steps, and looks at their order
-//!   only where some step of another thread has an access that races.
+//!   one, by rising second step; want of memory is its only error. It compares each two steps. Clocks order them, which
+//!   are made only up to the last step that has a rival, an earlier step of another thread with an access that races.
 //! - [`follows_plain`]: for each step of a run whether a given step happens before it, likewise.
 //! - [`foot_ok`]: whether a footprint keeps the machine's limits, exactly.
 //!
@@ -21,6 +22,7 @@
 //! definition, and no other list is), [`racing_steps_depend`].
 #![tactic(auto)]
 
+mod clocks;
 mod dependence;
 mod footprint;
 mod laws;

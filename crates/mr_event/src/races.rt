@@ -1,39 +1,15 @@
-//! The races that a run shows, by comparing all steps.
+//! The races that a run shows: each two steps are compared, and ordered by clocks.
 
-ghost use Rattle.std.specs.Prelude.{◌≡◌, ℕ, ◌<◌, ◌↔◌, IsTrue, IfOk, MatchOption, length, slice_index_or, false};
-ghost use Rattle.mr_event.specs.Order.{AreRivals, HappensBefore, HasNoPartner, HasNoRivalBelow, HasWay, IsGreatestPartner};
+ghost use Rattle.std.specs.Prelude.{◌≡◌, ◌<◌, ◌↔◌, IsFalse, IsTrue, IfOk, MatchOption, length};
+ghost use Rattle.mr_event.specs.Clocks.{AreClocks, AreSlots, IsClock};
+ghost use Rattle.mr_event.specs.Order.{AreRivals, HasNoPartner, HasNoRivalBelow, IsGreatestPartner};
 ghost use Rattle.mr_event.specs.Predicted.{predicted};
 
 use crate::OutOfMemory;
+use crate::clocks::{Clock, Slots, extend, is_below, slots_of};
 use crate::footprint::{Footprint, Pair};
-use crate::order::{edge, step_races, thread_at};
+use crate::order::{step_races, thread_at};
 use std::alloc::Global;
-
-// Whether an edge leads from step `i` to a step before `j` that is marked.
-fn leads(run: &[Footprint], marked: &[bool], i: usize, j: usize) -> bool
-    requires marks { length marked.now ≡ j }
-    requires order { i < j }
-    requires within { j < length run.now }
-    ensures { IsTrue result ↔ HasWay run.now marked.now i j }
-{
-    for m in i + 1..j {
-        if marked[m] && edge(run, i, m) {
-            return true;
-        }
-    }
-    false
-}
-
-// Whether step `i` happens before step `j`, where those between them that do are marked.
-fn comes_before(run: &[Footprint], marked: &[bool], i: usize, j: usize) -> bool
-    requires marks { length marked.now ≡ j }
-    requires between { (m : ℕ) → i < m → m < j → IsTrue (slice_index_or marked.now m false) ↔ HappensBefore run.now m j }
-    requires order { i < j }
-    requires within { j < length run.now }
-    ensures { IsTrue result ↔ HappensBefore run.now i j }
-{
-    edge(run, i, j) || leads(run, marked, i, j)
-}
 
 // Whether the steps are of two threads and some of their accesses race.
 fn are_rivals(run: &[Footprint], i: usize, j: usize) -> bool
@@ -44,41 +20,54 @@ fn are_rivals(run: &[Footprint], i: usize, j: usize) -> bool
     thread_at(run, i) != thread_at(run, j) && step_races(run, i, j)
 }
 
-// The first step before `j` that could be its partner.
-fn first_rival(run: &[Footprint], j: usize) -> Option<usize>
+// Whether some step before `j` could be its partner.
+fn has_rival(run: &[Footprint], j: usize) -> bool
     requires { j < length run.now }
-    ensures { MatchOption result (HasNoRivalBelow run.now j j) (λ i. (i < j) × HasNoRivalBelow run.now i j) }
+    ensures { IsFalse result → HasNoRivalBelow run.now j j }
 {
     for i in 0..j {
         if are_rivals(run, i, j) {
+            return true;
+        }
+    }
+    false
+}
+
+// The greatest partner of step `j`, whose clock is known.
+fn partner_by(run: &[Footprint], slots: &Slots, clock: &Clock, j: usize) -> Option<usize>
+    requires slots { AreSlots run.now slots.now.of.items slots.now.count }
+    requires width { length clock.now ≡ slots.now.count }
+    requires clock { IsClock run.now slots.now.of.items clock.now j }
+    requires within { j < length run.now }
+    ensures { MatchOption result (HasNoPartner run.now j) (λ i. IsGreatestPartner run.now i j) }
+{
+    for i in (0..j).rev() {
+        if !is_below(slots, clock, i) && are_rivals(run, i, j) {
             return Some(i);
         }
     }
     None
 }
 
-// The greatest partner of step `j`: which earlier steps happen before `j` is looked at only down to the first that could
-// be one, and not where there is none.
+// The greatest partner of step `j`. Clocks are made only where some earlier step could be one.
 fn greatest_partner(
     alloc: Global,
     run: &[Footprint],
+    slots: &Slots,
+    clocks: &mut Vec<Clock>,
     j: usize,
 ) -> Result<Option<usize>, OutOfMemory>
-    requires { j < length run.now }
-    ensures { IfOk result (λ o. MatchOption o (HasNoPartner run.now j) (λ i. IsGreatestPartner run.now i j)) }
+    requires slots { AreSlots run.now slots.now.of.items slots.now.count }
+    requires clocks { AreClocks run.now slots.now.of.items slots.now.count clocks.now.items }
+    requires within { j < length run.now }
+    ensures clocks { IfOk result (λ o. AreClocks run.now slots.now.of.items slots.now.count clocks.new.items) }
+    ensures partner { IfOk result (λ o. MatchOption o (HasNoPartner run.now j) (λ i. IsGreatestPartner run.now i j)) }
 {
-    let Some(first) = first_rival(run, j) else {
+    if !has_rival(run, j) {
         return Ok(None);
-    };
-    let mut marked = vec![in alloc; false; j]?;
-    for i in (first..j).rev() {
-        let before = comes_before(run, &marked, i, j);
-        if !before && are_rivals(run, i, j) {
-            return Ok(Some(i));
-        }
-        marked[i] = before;
     }
-    Ok(None)
+    extend(alloc, run, slots, clocks, j)?;
+    Ok(partner_by(run, slots, &clocks[j], j))
 }
 
 /// The races that a run shows: each step that has a partner, with its greatest one, by rising second step. A partner of a
@@ -87,9 +76,11 @@ fn greatest_partner(
 pub fn predicted_plain(alloc: Global, run: &[Footprint]) -> Result<Vec<Pair>, OutOfMemory>
     ensures { IfOk result (λ v. v.items ≡ predicted run.now) }
 {
+    let slots = slots_of(alloc, run)?;
+    let mut clocks = Vec::new(alloc);
     let mut pairs = Vec::new(alloc);
     for j in 0..run.len() {
-        if let Some(first) = greatest_partner(alloc, run, j)? {
+        if let Some(first) = greatest_partner(alloc, run, &slots, &mut clocks, j)? {
             pairs.push(Pair { first, second: j })?;
         }
     }

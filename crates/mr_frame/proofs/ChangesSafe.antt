@@ -25,7 +25,7 @@ use Rattle.mr_value.specs.Encode.{blank, encoding_of, tag_bytes}
 use Rattle.mr_value.specs.Shape.{has_shape}
 use Rattle.mr_wf.specs.Blocks.{broken_in_stmt}
 use Rattle.mr_wf.specs.Broken.{broken_in_place, broken_in_value}
-use Rattle.mr_wf.specs.Types.{type_of_place, type_of_value, variant_among, variant_in, variant_type}
+use Rattle.mr_wf.specs.Types.{tags_among, tags_layer, type_of_place, type_of_value, variant_among, variant_in, variant_type}
 use Rattle.mr_wf.proofs.TypedStmts.{typed_assign, typed_disc_stmt}
 use Rattle.mr_script.specs.Script.{IllFormed, ◌>>=◌}
 use Rattle.mr_eval.specs.MemoryQueries.{reading_part}
@@ -38,7 +38,7 @@ use Rattle.mr_eval.proofs.OperatorsSafe.{Shaped}
 use Rattle.mr_eval.proofs.SafeLaws.{loading_safe}
 use Rattle.mr_plan.specs.Safety.{IsSafeChange}
 use Rattle.mr_plan.proofs.SafetyLaws.{change_then, read_then}
-use Rattle.mr_frame.specs.Changes.{IsChange, Change, assign, change, deinit, free_storage, mention, set_discriminant, store, tags_among, tags_in, tags_layer, validate, with_type, write, write_found, write_tags}
+use Rattle.mr_frame.specs.Changes.{IsChange, Change, assign, change, deinit, free_storage, mention, set_discriminant, store, tags_in, validate, with_type, write, write_found, write_tags}
 
 -- ---- parts
 

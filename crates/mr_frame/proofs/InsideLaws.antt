@@ -22,7 +22,7 @@ use Rattle.mr_layout.proofs.WellFormed.{enum_ok}
 use Rattle.mr_value.specs.declared.val.Val.{Val}
 use Rattle.mr_value.specs.Shape.{has_shape}
 use Rattle.mr_wf.specs.Broken.{broken_in_place, sizes_of, surroundings}
-use Rattle.mr_wf.specs.Types.{type_of_place, type_of_value, variant_type}
+use Rattle.mr_wf.specs.Types.{tags_among, tags_layer, type_of_place, type_of_value, variant_type}
 use Rattle.mr_wf.specs.Unbroken.{UnbrokenFunction}
 use Rattle.mr_wf.proofs.SameTypeLaws.{type_made}
 use Rattle.mr_wf.proofs.TypedStmts.{TypedAssign, typed_assign, typed_disc_stmt}
@@ -32,7 +32,7 @@ use Rattle.mr_eval.specs.Evaluation.{Surround}
 use Rattle.mr_eval.specs.Sound.{Stands}
 use Rattle.mr_eval.specs.declared.env.Env.{Env}
 use Rattle.mr_eval.proofs.ExprSafe.{place_safe}
-use Rattle.mr_frame.specs.Changes.{tags_among, tags_in, tags_layer}
+use Rattle.mr_frame.specs.Changes.{tags_in}
 use Rattle.mr_frame.specs.Inside.{InProgram, StmtIn, TypeAt}
 use Rattle.mr_frame.proofs.ChangesSafe.{tags_there}
 use Rattle.mr_frame.proofs.Places.{all_at}

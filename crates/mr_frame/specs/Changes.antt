@@ -17,7 +17,7 @@ use Rattle.mr_value.specs.declared.val.Val.{Val}
 use Rattle.mr_value.specs.Encode.{blank, encoding_of, tag_bytes}
 use Rattle.mr_value.specs.Numbers.{Bytes}
 use Rattle.mr_value.specs.Shape.{has_shape}
-use Rattle.mr_wf.specs.Types.{type_of_place}
+use Rattle.mr_wf.specs.Types.{tags_layer, type_of_place}
 use Rattle.mr_script.specs.Script.{Done, IllFormed, Ask, ◌>>=◌}
 use Rattle.mr_eval.specs.Evaluation.{Surround, place_script, value_script}
 use Rattle.mr_eval.specs.MemoryQueries.{Free, MemoryScript, Write, reading_part}
@@ -81,14 +81,6 @@ deinit s place = do
   with_type (type_of_place s.locals place) (λ t. write p (blank (size_of t)) (align_of t))
 
 -- the tags of the variant with a number
-abbrev pub tags_among : List Variant → Num → Option (List Tag)
-tags_among [] n = None
-tags_among (v ∷ variants) n = if same_num v.number n then Some v.tags else tags_among variants n
-
-abbrev pub tags_layer : Ty-F Ty Variant → Num → Option (List Tag)
-tags_layer (Ty-F.Enum size align disc variants tree) n = tags_among variants n
-tags_layer _ n = None
-
 abbrev pub tags_in : Option Ty → Num → Option (List Tag)
 tags_in None n = None
 tags_in (Some t) n = tags_layer (out-Ty t) n

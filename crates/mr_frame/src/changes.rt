@@ -1,6 +1,6 @@
 //! What statements change in memory.
-ghost use Rattle.std.specs.Prelude.{◌≡◌, ℕ, ◌++◌, OnOk, false, option_copied, true};
-ghost use Rattle.mr_ast.specs.declared.types.Ty.{Ty, out-Ty};
+ghost use Rattle.std.specs.Prelude.{◌≡◌, ℕ, ◌++◌, OnOk, false, true};
+ghost use Rattle.mr_ast.specs.declared.types.Ty.{Ty};
 ghost use Rattle.mr_ast.specs.declared.program.Stmt.TheVariants as stmt;
 ghost use Rattle.mr_layout.specs.EnumRules.{are_tags};
 ghost use Rattle.mr_ast.specs.Integers.{is_fitting};
@@ -9,18 +9,19 @@ ghost use Rattle.mr_eval.specs.Environment.{Leaves, env_surround};
 ghost use Rattle.mr_eval.specs.Moves.{behind};
 ghost use Rattle.mr_eval.specs.Stores.{storing};
 ghost use Rattle.mr_value.specs.Encode.{tag_bytes};
-ghost use Rattle.mr_frame.specs.Changes.{IsChange, tags_among, tags_layer};
+ghost use Rattle.mr_frame.specs.Changes.{IsChange};
 ghost use Rattle.mr_frame.specs.Effects.{assigned, changed, deinited, discriminated, mentioned, tagged, validated};
 ghost use Rattle.mr_frame.specs.Inside.{StmtIn};
 
 use crate::types::{byte_align, byte_size, type_at};
-use mr_ast::{Num, Place, Stmt, Tag, Ty, Value, Variant};
+use mr_ast::{Num, Place, Stmt, Tag, Ty, Value};
 use mr_base::{AbstractByte, Pointer};
 use mr_eval::{
     Env, Fault, Notes, behind, load_typed, place, store_bytes, store_typed, store_uninit, value,
 };
 use mr_mem::Memory;
 use mr_value::{OutOfMemory, Val, bits_of_number, encode};
+use mr_wf::tags;
 use std::alloc::Global;
 
 /// The change that a statement makes to memory.
@@ -114,27 +115,6 @@ fn deinit<'a>(
     store_uninit(m, n, p, byte_size(t), byte_align(t))
 }
 
-// The tags of the variant with a number.
-fn tags_of(t: &Ty, number: Num) -> Option<&[Tag]>
-    ensures { option_copied result ≡ tags_layer (out-Ty t.now) number }
-{
-    match t {
-        Ty::Enum { variants, .. } => tags_among(variants.as_slice(), number),
-        _ => None,
-    }
-}
-
-fn tags_among(variants: &[Variant], number: Num) -> Option<&[Tag]>
-    ensures { option_copied result ≡ tags_among variants.now number }
-{
-    for variant in variants {
-        if variant.number == number {
-            return Some(variant.tags.as_slice());
-        }
-    }
-    None
-}
-
 // The place, and the tags of the variant with the number.
 #[tactic(auto, using(crate::proofs::EffectLaws::effect_laws, crate::proofs::InsideLaws::stmt_laws))]
 fn set_discriminant<'a>(
@@ -149,7 +129,7 @@ fn set_discriminant<'a>(
     ensures { Leaves result (discriminated m.old (env_surround e.now) at.now number (seen n.old)) m.new (seen n.new) }
 {
     let p = place(alloc, e, m, n, at)?;
-    match tags_of(type_at(e, at), number) {
+    match tags(type_at(e, at), number) {
         Some(tags) => write_tags(alloc, m, n, p, tags),
         None => unreachable!(),
     }

@@ -7,6 +7,7 @@ pub mod KindLaws
 pub mod KnownLaws
 pub mod KnownSizes
 pub mod NothingLaws
+pub mod PartLaws
 pub mod ProgramWalk
 pub mod SameTypeLaws
 pub mod ShortPrograms

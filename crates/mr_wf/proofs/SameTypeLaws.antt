@@ -11,7 +11,6 @@ use Rattle.mr_ast.specs.declared.types.Tree.{Tree, roll-Tree, out-Tree, out-roll
 use Rattle.mr_ast.specs.declared.types.Tree.TheOpen.{Tree-F}
 use Rattle.mr_ast.specs.declared.types.Tree.TheFolds.{map-Tree, ind-Tree, fold-roll-Tree}
 use Rattle.mr_ast.specs.declared.types.Ty.{Ty, roll-Ty, out-Ty, out-roll-Ty}
-use Rattle.mr_ast.specs.declared.types.Ty.TheVariants as ty
 use Rattle.mr_ast.specs.declared.types.Ty.TheOpen.{Ty-F, Variant-F}
 use Rattle.mr_ast.specs.declared.types.Ty.TheFolds.{map-Ty, map-Variant, fold-Variant, fold-roll-Ty, fold-roll-Variant, ind-Ty}
 use Rattle.mr_ast.specs.declared.types.Variant.{Variant, roll-Variant, out-Variant}

@@ -3,6 +3,7 @@ use Rattle.std.specs.Prelude.{ℕ, ◌*◌, Bool, true, false, if◌then◌else�
 use Rattle.std.specs.Option.{option_map}
 use Rattle.mr_ast.specs.declared.types.IntType.{IntType}
 use Rattle.mr_ast.specs.declared.types.Num.{Num}
+use Rattle.mr_ast.specs.declared.types.Tag.{Tag}
 use Rattle.mr_ast.specs.declared.types.Ty.{Ty, out-Ty}
 use Rattle.mr_ast.specs.declared.types.Ty.TheVariants as ty
 use Rattle.mr_ast.specs.declared.types.Ty.TheOpen.{Ty-F}
@@ -19,11 +20,19 @@ use Rattle.mr_layout.specs.EnumRules.{same_num}
 
 -- ---- the parts of a type
 
--- the type of the field of this number, from 0, of a tuple or a union
+-- the field of this number, from 0, of a tuple or a union: where it begins, and its type
+abbrev pub field_part : Ty-F Ty Variant → ℕ → Option (ℕ × Ty)
+field_part (Ty-F.Tuple size align fields) n = slice_get fields n
+field_part (Ty-F.Union size align fields chunks) n = slice_get fields n
+field_part _ n = None
+
+-- where it begins
+abbrev pub field_offset : Ty-F Ty Variant → ℕ → Option ℕ
+field_offset layer n = option_map (λ f. f.0) (field_part layer n)
+
+-- its type
 abbrev pub field_in : Ty-F Ty Variant → ℕ → Option Ty
-field_in (Ty-F.Tuple size align fields) n = option_map (λ f. f.1) (slice_get fields n)
-field_in (Ty-F.Union size align fields chunks) n = option_map (λ f. f.1) (slice_get fields n)
-field_in _ n = None
+field_in layer n = option_map (λ f. f.1) (field_part layer n)
 
 abbrev pub field_type : Ty → ℕ → Option Ty
 field_type t n = field_in (out-Ty t) n
@@ -36,17 +45,31 @@ element_in _ = None
 abbrev pub element_type : Ty → Option Ty
 element_type t = element_in (out-Ty t)
 
--- the type of the variant with this number
+-- a part of the first variant with this number, of an enum
+abbrev pub among : {A : Type 0} → (Variant → A) → List Variant → Num → Option A
+among part [] n = None
+among part (v ∷ variants) n = if same_num v.number n then Some (part v) else among part variants n
+
+abbrev pub variant_part : {A : Type 0} → (Variant → A) → Ty-F Ty Variant → Num → Option A
+variant_part part (Ty-F.Enum size align disc variants tree) n = among part variants n
+variant_part part _ n = None
+
+-- its type
 abbrev pub variant_among : List Variant → Num → Option Ty
-variant_among [] n = None
-variant_among (v ∷ variants) n = if same_num v.number n then Some v.ty else variant_among variants n
+variant_among = among (λ v. v.ty)
 
 abbrev pub variant_in : Ty-F Ty Variant → Num → Option Ty
-variant_in (Ty-F.Enum size align disc variants tree) n = variant_among variants n
-variant_in _ n = None
+variant_in = variant_part (λ v. v.ty)
 
 abbrev pub variant_type : Ty → Num → Option Ty
 variant_type t n = variant_in (out-Ty t) n
+
+-- its tags
+abbrev pub tags_among : List Variant → Num → Option (List Tag)
+tags_among = among (λ v. v.tags)
+
+abbrev pub tags_layer : Ty-F Ty Variant → Num → Option (List Tag)
+tags_layer = variant_part (λ v. v.tags)
 
 -- the type of an enum's discriminants
 abbrev pub discriminant_in : Ty-F Ty Variant → Option Ty

@@ -31,4 +31,4 @@ pub use globals::items_size;
 pub use judging::local_type;
 pub use known::Known;
 pub use laws::{equal_types, has_type, keeps_rules, place_has_type, writes_sound_types};
-pub use parts::{discriminant, element, field, variant};
+pub use parts::{discriminant, element, field, offset, tags, variant};

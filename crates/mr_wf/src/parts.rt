@@ -3,13 +3,32 @@ ghost use Rattle.std.specs.Prelude.{◌≡◌, option_copied, option_map, slice_
 ghost use Rattle.mr_ast.specs.declared.types.Ty.{out-Ty};
 ghost use Rattle.mr_ast.specs.declared.types.Ty.TheVariants as ty;
 ghost use Rattle.mr_wf.specs.Operands.{is_union_layer};
-ghost use Rattle.mr_wf.specs.Types.{discriminant_type, element_type, field_type, variant_among, variant_type};
+ghost use Rattle.mr_wf.specs.Types.{among, discriminant_type, element_type, field_offset, field_part, field_type, tags_layer, variant_part, variant_type};
 
-use mr_ast::{IntType, Num, Ty, Variant};
+use mr_ast::{IntType, Num, Tag, Ty, Variant};
+
+/// Where the field of this number, from 0, of a tuple or a union begins.
+pub fn offset(t: &Ty, number: u64) -> Option<u64>
+    ensures { result ≡ field_offset (out-Ty t.now) number }
+{
+    match field_part(t, number) {
+        Some((offset, _)) => Some(*offset),
+        None => None,
+    }
+}
 
 /// The type of the field of this number, from 0, of a tuple or a union.
 pub fn field(t: &Ty, number: u64) -> Option<&Ty>
     ensures { option_copied result ≡ field_type t.now number }
+{
+    match field_part(t, number) {
+        Some((_, ty)) => Some(ty),
+        None => None,
+    }
+}
+
+fn field_part(t: &Ty, number: u64) -> Option<&(u64, Ty)>
+    ensures { option_copied result ≡ field_part (out-Ty t.now) number }
 {
     match t {
         Ty::Tuple { fields, .. } | Ty::Union { fields, .. } => {
@@ -19,13 +38,10 @@ pub fn field(t: &Ty, number: u64) -> Option<&Ty>
     }
 }
 
-fn field_among(fields: &[(u64, Ty)], number: u64) -> Option<&Ty>
-    ensures { option_copied result ≡ option_map (λ f. f.1) (slice_get fields.now number) }
+fn field_among(fields: &[(u64, Ty)], number: u64) -> Option<&(u64, Ty)>
+    ensures { option_copied result ≡ slice_get fields.now number }
 {
-    match fields.get(number as usize) {
-        Some((_, t)) => Some(t),
-        None => None,
-    }
+    fields.get(number as usize)
 }
 
 /// The type of an array's elements.
@@ -39,21 +55,42 @@ pub fn element(t: &Ty) -> Option<&Ty>
 }
 
 /// The type of the variant with this number.
+#[tactic(auto, using(crate::proofs::PartLaws::part_laws))]
 pub fn variant(t: &Ty, number: Num) -> Option<&Ty>
     ensures { option_copied result ≡ variant_type t.now number }
 {
+    match variant_numbered(t, number) {
+        Some(variant) => Some(&variant.ty),
+        None => None,
+    }
+}
+
+/// The tags of the variant with this number.
+#[tactic(auto, using(crate::proofs::PartLaws::part_laws))]
+pub fn tags(t: &Ty, number: Num) -> Option<&[Tag]>
+    ensures { option_copied result ≡ tags_layer (out-Ty t.now) number }
+{
+    match variant_numbered(t, number) {
+        Some(variant) => Some(variant.tags.as_slice()),
+        None => None,
+    }
+}
+
+fn variant_numbered(t: &Ty, number: Num) -> Option<&Variant>
+    ensures { option_copied result ≡ variant_part (λ v. v) (out-Ty t.now) number }
+{
     match t {
-        Ty::Enum { variants, .. } => variant_among(variants.as_slice(), number),
+        Ty::Enum { variants, .. } => numbered_among(variants.as_slice(), number),
         _ => None,
     }
 }
 
-fn variant_among(variants: &[Variant], number: Num) -> Option<&Ty>
-    ensures { option_copied result ≡ variant_among variants.now number }
+fn numbered_among(variants: &[Variant], number: Num) -> Option<&Variant>
+    ensures { option_copied result ≡ among (λ v. v) variants.now number }
 {
     for variant in variants {
         if variant.number == number {
-            return Some(&variant.ty);
+            return Some(variant);
         }
     }
     None

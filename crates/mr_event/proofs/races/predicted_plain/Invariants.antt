@@ -1,6 +1,11 @@
 use Rattle.std.proofs.Common.{◌≡◌}
+use Rattle.mr_event.specs.Clocks.{AreClocks}
 use Rattle.mr_event.specs.Predicted.{predicted_below}
 use Rattle.mr_event.proofs.races.predicted_plain.Given as goal
 
 abbrev pub invariant-loop-j : goal.invariant-loop-j
-invariant-loop-j l = l.pairs.items ≡ predicted_below l.run l.j
+invariant-loop-j l =
+    record {
+      clocks : AreClocks l.run l.slots.of.items l.slots.count l.clocks.items;
+      pairs : l.pairs.items ≡ predicted_below l.run l.j;
+    }

@@ -1,5 +1,5 @@
 use Rattle.mr_event.specs.Order.{HasNoRivalBelow}
-use Rattle.mr_event.proofs.races.first_rival.Given as goal
+use Rattle.mr_event.proofs.races.has_rival.Given as goal
 
 abbrev pub invariant-loop-i : goal.invariant-loop-i
 invariant-loop-i l = HasNoRivalBelow l.run l.i l.j
