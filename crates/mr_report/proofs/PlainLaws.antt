@@ -65,20 +65,25 @@ both_plain a b h k = list_all-append is_plain a b ∙ and_from (list_all is_plai
 glyph_plain : (n : ℕ) → is_plain (digit_glyph false (n % 10)) ≡ true
 glyph_plain n = grind (arith, nat_tests)
 
-either_plain : (c : Bool) (a b : List ℕ) → ArePlain a → ArePlain b → ArePlain (cond c a b)
-either_plain true a b h k = h
-either_plain false a b h k = k
+-- a test that the ten digits pass is passed by each byte of a decimal number
+module _ (test : ℕ → Bool) (digit : (n : ℕ) → test (digit_glyph false (n % 10)) ≡ true) where
+  either_passes : (c : Bool) (a b : List ℕ) → list_all test a ≡ true → list_all test b ≡ true → list_all test (cond c a b) ≡ true
+  either_passes true a b h k = h
+  either_passes false a b h k = k
 
-onto_plain : (k n : ℕ) (acc : List ℕ) → ArePlain acc → ArePlain (digits_onto k 10 false n acc)
-onto_plain zero n acc h = h
-onto_plain (suc k) n acc h =
-    let d = digit_glyph false (n % 10) in
-    let more = and_from (is_plain d) (list_all is_plain acc) (glyph_plain n) h in
-    either_plain (n / 10 == 0) (d ∷ acc) (digits_onto k 10 false (n / 10) (d ∷ acc)) more (onto_plain k (n / 10) (d ∷ acc) more)
+  onto_passes : (k n : ℕ) (acc : List ℕ) → list_all test acc ≡ true → list_all test (digits_onto k 10 false n acc) ≡ true
+  onto_passes zero n acc h = h
+  onto_passes (suc k) n acc h =
+      let d = digit_glyph false (n % 10) in
+      let more = and_from (test d) (list_all test acc) (digit n) h in
+      either_passes (n / 10 == 0) (d ∷ acc) (digits_onto k 10 false (n / 10) (d ∷ acc)) more (onto_passes k (n / 10) (d ∷ acc) more)
+
+  pub decimal_passes : (n : ℕ) → list_all test (decimal n) ≡ true
+  unfolding digits
+  decimal_passes n = onto_passes 64 n [] refl
 
 decimal_plain : (n : ℕ) → ArePlain (decimal n)
-unfolding digits
-decimal_plain n = onto_plain 64 n [] refl
+decimal_plain n = decimal_passes is_plain glyph_plain n
 
 name_plain : (r : Reason) → ArePlain (name_of r)
 name_plain r = search rules

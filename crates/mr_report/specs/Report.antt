@@ -29,14 +29,23 @@ verdict_text (verdict.Undefined r) = codes "undefined " ++ decimal (code_of r) +
 abbrev pub race_line : Pair → List ℕ
 race_line p = line (codes "race " ++ decimal (p.first + 1) ++ codes " " ++ decimal (p.second + 1))
 
--- `races K`, and a line for each of them
+-- `races K`
+abbrev pub count_line : List Pair → List ℕ
+count_line races = line (codes "races " ++ decimal (length races))
+
+-- the same, and a line for each of them
 abbrev pub races_text : List Pair → List ℕ
-races_text races = line (codes "races " ++ decimal (length races)) ++ flat_map race_line races
+races_text races = count_line races ++ flat_map race_line races
 
 -- `witness N`, and the text of the schedule, which has N entries
 abbrev pub witness_text : Option Schedule → List ℕ
 witness_text None = []
 witness_text (Some w) = line (codes "witness " ++ decimal (length w.entries)) ++ text_of w
+
+-- a report in brief: the prints in order, the verdict, and how many races there are
+abbrev pub brief_text : List Line → Verdict → List Pair → List ℕ
+brief_text output v races =
+    flat_map print_line output ++ line (codes "verdict " ++ verdict_text v) ++ count_line races
 
 -- THE TEXT OF A REPORT: the prints in order, the verdict, the races, and the witness where there is one
 abbrev pub report_text : List Line → Verdict → List Pair → Option Schedule → List ℕ

@@ -1,7 +1,7 @@
 //! The text of a report.
 ghost use Rattle.std.specs.Prelude.{◌≡◌, ◌+◌, ◌++◌, OnErr, OnOk, codes, decimal, flat_map, option_copied};
 ghost use Rattle.mr_sched.specs.Spelling.{Extends};
-ghost use Rattle.mr_report.specs.Report.{line, print_line, race_line, races_text, report_text, verdict_text, witness_text};
+ghost use Rattle.mr_report.specs.Report.{brief_text, count_line, line, print_line, race_line, races_text, report_text, verdict_text, witness_text};
 
 use crate::OutOfMemory;
 use crate::report::{Line, Report};
@@ -93,13 +93,22 @@ fn push_place(out: &mut Vec<u8>, at: usize) -> Result<(), OutOfMemory>
     out.extend_from_slice(buffer.format(at as u128 + 1).as_bytes())
 }
 
-fn push_races(out: &mut Vec<u8>, races: &[Pair]) -> Result<(), OutOfMemory>
-    ensures ok { OnOk result (out.new.items ≡ out.old.items ++ races_text races.now) }
+// How many races there are.
+fn push_count(out: &mut Vec<u8>, races: &[Pair]) -> Result<(), OutOfMemory>
+    ensures ok { OnOk result (out.new.items ≡ out.old.items ++ count_line races.now) }
     ensures err { OnErr result (Extends out.old.items out.new.items) }
 {
     out.extend_from_slice(b"races ")?;
     push_number(out, races.len() as u64)?;
     out.push(b'\n')?;
+    Ok(())
+}
+
+fn push_races(out: &mut Vec<u8>, races: &[Pair]) -> Result<(), OutOfMemory>
+    ensures ok { OnOk result (out.new.items ≡ out.old.items ++ races_text races.now) }
+    ensures err { OnErr result (Extends out.old.items out.new.items) }
+{
+    push_count(out, races)?;
     push_pairs(out, races)
 }
 
@@ -153,6 +162,42 @@ pub fn text(alloc: Global, r: &Report<'_>, out: &mut Vec<u8>) -> Result<(), OutO
         Ok(()) => Ok(()),
         Err(error) => {
             out.truncate(len);
+            Err(error)
+        }
+    }
+}
+
+// A report in brief, where a part of the text may stand behind what was there after want of memory.
+fn push_brief(
+    lines: &[Line],
+    verdict: Verdict,
+    races: &[Pair],
+    out: &mut Vec<u8>,
+) -> Result<(), OutOfMemory>
+    ensures ok { OnOk result (out.new.items ≡ out.old.items ++ brief_text lines.now verdict races.now) }
+    ensures err { OnErr result (Extends out.old.items out.new.items) }
+{
+    push_output(out, lines)?;
+    push_verdict(out, verdict)?;
+    push_count(out, races)
+}
+
+/// Appends a report in brief: a line for each print, the verdict, and how many races there are. An `Err` is for want of memory, and leaves
+/// `out` as it was.
+pub fn brief(
+    lines: &[Line],
+    verdict: Verdict,
+    races: &[Pair],
+    out: &mut Vec<u8>,
+) -> Result<(), OutOfMemory>
+    ensures ok { OnOk result (out.new.items ≡ out.old.items ++ brief_text lines.now verdict races.now) }
+    ensures err { OnErr result (out.new.items ≡ out.old.items) }
+{
+    let begin = out.len();
+    match push_brief(lines, verdict, races, out) {
+        Ok(()) => Ok(()),
+        Err(error) => {
+            out.truncate(begin);
             Err(error)
         }
     }

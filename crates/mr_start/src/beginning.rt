@@ -2,7 +2,7 @@
 ghost use Rattle.std.specs.Prelude.{◌≡◌, IfOk, None, map};
 ghost use Rattle.mr_frame.specs.Kept.{IsReady};
 ghost use Rattle.mr_start.specs.Begin.{BeginAnswer, IsBegun, IsEntered, IsStart, JudgeAnswer, first_placed, piece_of, pieces_fault};
-ghost use Rattle.mr_start.specs.Start.{ask_of, start_fault};
+ghost use Rattle.mr_start.specs.Start.{ask_of, pieces as all_pieces, start_fault};
 
 use crate::failure::PickFailure;
 use crate::globals::fill;
@@ -74,6 +74,14 @@ fn asks_of(alloc: Global, pieces: &[Piece]) -> Result<Vec<Ask>, AllocError>
         })?;
     }
     Ok(asks)
+}
+
+/// What the start line is asked for: an address for each function, each global and the return local of the main function.
+pub fn start_asks(alloc: Global, p: &Checked) -> Result<Vec<Ask>, AllocError>
+    ensures { IfOk result (λ asks. asks.items ≡ map ask_of (all_pieces p.now)) }
+{
+    let made = pieces(alloc, p.program())?;
+    asks_of(alloc, made.as_slice())
 }
 
 // The picks of a start line against the pieces that it allocates.

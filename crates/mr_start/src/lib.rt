@@ -4,10 +4,10 @@
 //! their footprints, and which schedules are legal. `specs/Judging.antt` has how one entry's picks are judged, and `specs/Begin.antt` how a
 //! start is answered.
 //!
-//! Public calls: [`judge`] and [`begin`].
+//! Public calls: [`judge`], [`begin`] and [`start_asks`].
 //!
 //! Proved: `judge` passes exactly the picks that break no rule, and tells the first rule that others break, with the least identity that an
-//! overlapping range has. `begin` stands exactly where the definitions say, or tells the rule that the start line breaks; memory apart there
+//! overlapping range has. `start_asks` tells exactly what the start line needs picks for. `begin` stands exactly where the definitions say, or tells the rule that the start line breaks; memory apart there
 //! is no other answer. The laws [`never_ill_formed`], [`legal_schedules`], [`whole_start`], [`one_at_most`] and [`feet_counted`] are of the
 //! definitions alone: a legal run of a well-formed program has a rule for each step, a schedule is legal exactly where no rule is the first
 //! that it breaks, behind a legal start line each global has its bytes, and a run has one footprint for each step that it completes.
@@ -22,7 +22,7 @@ mod pieces;
 mod placing;
 mod types;
 
-pub use beginning::{Start, StartFault, begin};
+pub use beginning::{Start, StartFault, begin, start_asks};
 pub use failure::PickFailure;
 pub use judging::judge;
 pub use laws::{feet_counted, legal_schedules, never_ill_formed, one_at_most, whole_start};

@@ -1,3 +1,4 @@
+pub mod AskLaws
 pub mod CompletedLaws
 pub mod EntryLaws
 pub mod FirstLaws

@@ -101,6 +101,13 @@ pub record IsDue (look : KeptLook) (t : ℕ) (p : Progress) : Type 0 where
   pub running : p.verdict ≡ Running
   pub enabled : IsEnabled t p.sync
 
+-- the same of a thread whose next step is looked at and not taken
+pub record CanAsk (look : KeptLook) (t : ℕ) (p : Progress) : Type 0 where
+  pub ready : IsReady look
+  pub sound : IsSound look.program.now (config_of p)
+  pub there : p.gone ≡ false
+  pub enabled : IsEnabled t p.sync
+
 -- a legal entry leads on, and its footprint is handed out
 pub record Advances (look : Look) (e : Entry) (old new : Config Own) (f f' : Footprint) : Type 0 where
   pub legal : entry_fault (thread_step look) old e ≡ None

@@ -1,12 +1,13 @@
 //! The machine and its public calls.
 use crate::advance::advance;
+use crate::asking::asked;
 use crate::fault::{StepFault, Turn, unmade};
 use crate::first::first;
 use crate::progress::{Progress, line_at};
 use crate::setting::Setting;
 use mr_base::{Status, Verdict};
 use mr_event::Footprint;
-use mr_sched::Entry;
+use mr_sched::{Ask, Entry};
 use mr_start::{Start, begin};
 use mr_wf::Checked;
 use std::alloc::{AllocError, Global};
@@ -43,12 +44,13 @@ impl<'p> Model for Machine<'p> {
 }
 
 impl<'p> Machine<'p> {
-    ghost use Rattle.std.specs.Prelude.{◌≡◌, ℕ, ◌<◌, ◌^◌, IfOk, List, None, Some, length, slice_get};
+    ghost use Rattle.std.specs.Prelude.{◌≡◌, ℕ, ◌<◌, ◌^◌, IfOk, List, None, Some, false, length, slice_get};
     ghost use Rattle.std.specs.Option.{option_map};
-    ghost use Rattle.mr_sync.specs.Tables.{is_enabled, waits};
-    ghost use Rattle.mr_plan.specs.Machine.{State};
+    ghost use Rattle.mr_sync.specs.Tables.{IsEnabled, is_enabled, waits};
+    ghost use Rattle.mr_plan.specs.Machine.{State, needs};
     ghost use Rattle.mr_plan.specs.Queries.{tables_of};
-    ghost use Rattle.mr_thread.specs.Steps.{Own};
+    ghost use Rattle.mr_thread.specs.Steps.{Own, thread_step};
+    ghost use Rattle.mr_turn.specs.Asking.{AsksAnswer};
     ghost use Rattle.mr_start.specs.Begin.{IsStart};
     ghost use Rattle.mr_start.specs.Start.{start_fault};
     ghost use Rattle.mr_step.specs.Answers.{StartAnswer, StepAnswer, standing};
@@ -166,5 +168,16 @@ impl<'p> Machine<'p> {
         ensures { (s : State Own) → self.now.config.state ≡ Some s → result ≡ waits lock t (tables_of s.shared) }
     {
         self.progress.sync.waiting(lock, t)
+    }
+
+    /// Appends to `out` what picks the next step of an enabled thread of a running machine asks for. The answer is 67 or 68 where the step
+    /// would create a thread or a lock, and there are as many as may be.
+    pub fn asks(&self, t: u32, out: &mut Vec<Ask>) -> Result<Option<u8>, AllocError>
+        requires working { self.now.failed ≡ false }
+        requires enabled { (s : State Own) × (self.now.config.state ≡ Some s) × IsEnabled t (tables_of s.shared) }
+        ensures { (s : State Own) → self.now.config.state ≡ Some s → AsksAnswer s.shared (needs (thread_step self.now.look) s t) out.old.items out.new.items result }
+    {
+        let look = self.setting.look();
+        asked(self.alloc, &look, &self.progress, t, out)
     }
 }

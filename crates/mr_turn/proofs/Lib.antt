@@ -1,3 +1,4 @@
+pub mod AskAnswers
 pub mod CarryAnswers
 pub mod DoAnswers
 pub mod DoTurns

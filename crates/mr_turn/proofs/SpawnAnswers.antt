@@ -45,7 +45,7 @@ use Rattle.mr_frame.specs.Beginning.{CanBegin, IsBottom}
 use Rattle.mr_frame.specs.Calls.{behind_first, callee_of, kept_types, same_types, storage_asks}
 use Rattle.mr_frame.specs.Doing.{operands_of}
 use Rattle.mr_frame.specs.Effects.{entered, finished as ended}
-use Rattle.mr_frame.specs.Kept.{look_of, stack_of}
+use Rattle.mr_frame.specs.Kept.{IsReady, look_of, stack_of}
 use Rattle.mr_frame.specs.Operations.{DueDo, Operands, next_do}
 use Rattle.mr_frame.specs.declared.dos.DoCall.{DoCall}
 use Rattle.mr_frame.specs.declared.look.Look.{Look as KeptLook}
@@ -56,7 +56,7 @@ use Rattle.std.proofs.lemmas.Option.{same_Some}
 use Rattle.mr_turn.proofs.PlanAsks.{same_statuses}
 use Rattle.mr_thread.specs.Steps.{Own, finishing, new_thread, thread_types, with_stack}
 use Rattle.mr_turn.specs.declared.deed.Deed.{Deed}
-use Rattle.mr_turn.specs.Doing.{CanEnd, EndAnswer, IsGiven, IsNewThread, IsStart, SpawnGiven, SpawnsFunction, StartsThread, do_breaks, do_comes_to}
+use Rattle.mr_turn.specs.Doing.{CanEnd, EndAnswer, IsGiven, IsNewThread, IsStart, SpawnGiven, SpawnsFunction, StandsFor, StartsThread, do_breaks, do_comes_to}
 use Rattle.mr_turn.specs.declared.deed.TurnFault.{TurnFault}
 use Rattle.mr_turn.proofs.DoAnswers.{end_is_deed}
 use Rattle.mr_frame.proofs.ResultFits.{result_fits}
@@ -208,29 +208,37 @@ callee_below : (functions : List Pointer) (q : Pointer) (n : ℕ) → callee_of 
 unfolding callee_of
 callee_below functions q n e = let k = position_below 0 functions q n e in omega arith
 
--- the function that it stands for, with the types of what that keeps
+-- the function that a pointer stands for, with the types of what that keeps
+pub stands_for : (look : KeptLook) → IsReady look → (o : Operands) (to : SpawnGiven o) (xs : List Val) → xs ≡ o.args → (q : Pointer) → slice_get xs 0 ≡ Some (val.Ptr q) → (number : ℕ) → Some number ≡ callee_of look.functions.now q → StandsFor look to.callee number
+stands_for look ready o to xs are q at number found =
+    let called : callee_of look.functions.now to.callee ≡ Some number = ap (callee_of look.functions.now) (sym (callee_found o to xs are q at)) ∙ sym found in
+    let below : number < length look.program.now.functions = (let k = callee_below look.functions.now to.callee number called in let many = ready.functions in omega arith) in
+    let fn = within look.program.now.functions number below in
+    let kept = kept_there look.program.now fn.0 (function_keeps look.program.now ready.well number fn.0 fn.1) in
+    record { called = called; function = fn.0; there = fn.1; types = kept.ret ∷ kept.args; typed = kept.is }
+
 pub spawns : (look : KeptLook) (stack : KeptStack) (s : Scene) (x : Tables) (call : DoCall) (d : DueDo) → IsGiven look stack s x call d → d.op ≡ intrinsic.Spawn → (to : SpawnGiven (operands_of call))
     → (xs : List Val) → xs ≡ call.args.items → (q : Pointer) → slice_get xs 0 ≡ Some (val.Ptr q) → (number : ℕ) → Some number ≡ callee_of look.functions.now q → SpawnsFunction look stack s x call d number
 spawns look stack s x call d g is to xs are q at number found =
-    let called : callee_of look.functions.now to.callee ≡ Some number = ap (callee_of look.functions.now) (sym (callee_found (operands_of call) to xs are q at)) ∙ sym found in
-    let below : number < length look.program.now.functions = (let k = callee_below look.functions.now to.callee number called in let many = g.ready.functions in omega arith) in
-    let fn = within look.program.now.functions number below in
-    let kept = kept_there look.program.now fn.0 (function_keeps look.program.now g.ready.well number fn.0 fn.1) in
+    let f = stands_for look g.ready (operands_of call) to xs are q at number found in
     record {
       given = g;
       is = is;
       given_to = to;
-      called = called;
-      function = fn.0;
-      there = fn.1;
-      types = kept.ret ∷ kept.args;
-      typed = kept.is;
+      called = f.called;
+      function = f.function;
+      there = f.there;
+      types = f.types;
+      typed = f.typed;
     }
 
--- what is found of its types
+-- what is found of the types of a function
+pub found_types : (f function : Function) (types : List Ty) → f ≡ function → kept_types function ≡ Some types → (b : Bool) → ((ts : List Ty) → kept_types f ≡ Some ts → b ≡ same_types thread_types ts) → b ≡ same_types thread_types types
+found_types f function types same typed b told = told types (ap kept_types same ∙ typed)
+
 pub found_start : (look : KeptLook) (stack : KeptStack) (s : Scene) (x : Tables) (call : DoCall) (d : DueDo) (number : ℕ) (h : SpawnsFunction look stack s x call d number) (f : Function)
     → slice_get look.program.now.functions number ≡ Some f → (b : Bool) → ((types : List Ty) → kept_types f ≡ Some types → b ≡ same_types thread_types types) → b ≡ same_types thread_types h.types
-found_start look stack s x call d number h f at b told = told h.types (ap kept_types (same_Some f h.function (sym at ∙ h.there)) ∙ h.typed)
+found_start look stack s x call d number h f at b told = found_types f h.function h.types (same_Some f h.function (sym at ∙ h.there)) h.typed b told
 
 -- its picks break no rule
 pub start_fits : (look : KeptLook) (stack : KeptStack) (s : Scene) (x : Tables) (call : DoCall) (d : DueDo) (number : ℕ) (picks : List ℕ) (h : SpawnsFunction look stack s x call d number) → same_types thread_types h.types ≡ true

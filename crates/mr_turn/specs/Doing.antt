@@ -137,6 +137,14 @@ pub record SpawnGiven (o : Operands) : Type 0 where
   pub raw : has_shape ty.Raw argument ≡ true
   pub result : o.result_type ≡ Some (ty.Int U32)
 
+-- a pointer that stands for the function of this number, and the types of what this keeps
+pub record StandsFor (look : KeptLook) (callee : Pointer) (number : ℕ) : Type 0 where
+  pub called : callee_of look.functions.now callee ≡ Some number
+  pub function : Function
+  pub there : slice_get look.program.now.functions number ≡ Some function
+  pub types : List Ty
+  pub typed : kept_types function ≡ Some types
+
 -- the function of this number, which is that of a thread
 pub record IsStart (look : KeptLook) {o : Operands} (g : SpawnGiven o) (number : ℕ) : Type 0 where
   pub called : callee_of look.functions.now g.callee ≡ Some number

@@ -5,6 +5,7 @@ ghost use Rattle.mr_plan.specs.Legal.{Fault as FaultOf, creation_fault, else_fau
 ghost use Rattle.mr_intr.specs.Effects.{shared_of};
 ghost use Rattle.mr_intr.specs.Needs.{creation_of};
 ghost use Rattle.mr_frame.specs.Standing.{IsUncounted};
+ghost use Rattle.mr_turn.specs.Asking.{bare_fault};
 ghost use Rattle.mr_turn.specs.Turning.{JudgeAnswer, StopAnswer, asks_break, shared_in};
 
 use crate::deed::TurnFault;
@@ -52,25 +53,31 @@ fn broken(code: u8) -> TurnFault
     })
 }
 
-// There may be so many of something.
-fn below(count: u32, limit: u32, code: u8) -> Result<(), TurnFault>
-    ensures { JudgeAnswer result (if nat_lt count limit then None else fault code) }
+// The code of the limit that so many of something have reached, if they have.
+fn over(count: u32, limit: u32, code: u8) -> Option<u8>
+    ensures { bare_fault result ≡ (if nat_lt count limit then None else fault code) }
 {
-    if count < limit {
-        Ok(())
-    } else {
-        Err(broken(code))
+    if count < limit { None } else { Some(code) }
+}
+
+/// 67 or 68, where there are as many threads or locks as may be, and one more is to be created.
+pub fn over_limit(creates: Creation, sync: &SyncTable) -> Option<u8>
+    ensures { (m : Memory) → bare_fault result ≡ creation_fault (shared_of m sync.now) (creation_of creates) }
+{
+    match creates {
+        Creation::Nothing => None,
+        Creation::Thread => over(sync.threads(), THREADS, TOO_MANY_THREADS),
+        Creation::Lock => over(sync.locks(), LOCKS, TOO_MANY_LOCKS),
     }
 }
 
-// 67 and 68: there are as many threads or locks as may be, and one more is to be created.
+// The same as a fault of the step.
 fn limited(creates: Creation, sync: &SyncTable) -> Result<(), TurnFault>
     ensures { (m : Memory) → JudgeAnswer result (creation_fault (shared_of m sync.now) (creation_of creates)) }
 {
-    match creates {
-        Creation::Nothing => Ok(()),
-        Creation::Thread => below(sync.threads(), THREADS, TOO_MANY_THREADS),
-        Creation::Lock => below(sync.locks(), LOCKS, TOO_MANY_LOCKS),
+    match over_limit(creates, sync) {
+        None => Ok(()),
+        Some(code) => Err(broken(code)),
     }
 }
 

@@ -4,8 +4,11 @@
 //! call [`turn`] finds out what the next step of a thread needs, judges the picks of an entry for that, and takes the step: a statement or a
 //! terminator of its frames, an intrinsic, the start of a thread or the look at a payload. Proved: it tells exactly the rule that the picks
 //! break, and then nothing changed; or what the step comes to, with what it leaves and notes. Want of memory apart there is no other answer.
+//! [`asks`] tells what picks the next step asks for, and which limit it would pass, without taking it (`specs/Asking.antt`): exactly what the
+//! step needs by its plan.
 #![tactic(auto)]
 
+mod asking;
 mod deed;
 mod doing;
 mod framed;
@@ -13,5 +16,6 @@ mod judging;
 mod spawning;
 mod turning;
 
+pub use asking::asks;
 pub use deed::{Deed, TurnFault};
 pub use turning::turn;

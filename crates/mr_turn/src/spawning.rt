@@ -38,7 +38,7 @@ fn type_of(f: &Function, x: LocalName) -> &Ty
 }
 
 // Whether a thread may begin with a function: it gives the empty tuple, and takes a raw pointer.
-fn begins_thread(alloc: Global, f: &Function) -> bool
+pub fn begins_thread(alloc: Global, f: &Function) -> bool
     requires { HasLocals f.now }
     ensures { (types : List TypeOf) → kept_types f.now ≡ Some types → result ≡ same_types thread_types types }
 {
@@ -56,7 +56,7 @@ fn begins_thread(alloc: Global, f: &Function) -> bool
 }
 
 // The pointer that the first argument is.
-fn callee_in(args: &[Val]) -> Pointer
+pub fn callee_in(args: &[Val]) -> Pointer
     requires { (p : PointerOf) × (slice_get args.now 0 ≡ Some (val.Ptr p)) }
     ensures { slice_get args.now 0 ≡ Some (val.Ptr result) }
 {
@@ -67,7 +67,7 @@ fn callee_in(args: &[Val]) -> Pointer
 }
 
 // The function of this name.
-fn function_of<'a>(look: &Look<'a>, f: FnName) -> &'a Function
+pub fn function_of<'a>(look: &Look<'a>, f: FnName) -> &'a Function
     requires { f.0 < length look.now.program.now.functions }
     ensures { slice_get look.now.program.now.functions f.0 ≡ Some result.now }
 {

@@ -1,0 +1,32 @@
+use Rattle.std.proofs.Common.{◌≡◌, Some, subst, sym, ap, ◌∙◌}
+use Rattle.mr_ast.specs.declared.program.Program.{Program}
+use Rattle.mr_plan.specs.Machine.{State, needs}
+use Rattle.mr_sync.specs.Tables.{IsEnabled}
+use Rattle.mr_frame.specs.Frames.{Look}
+use Rattle.mr_plan.specs.Queries.{tables_of}
+use Rattle.mr_thread.specs.Steps.{Own, thread_step}
+use Rattle.mr_turn.specs.Asking.{AsksAnswer}
+use Rattle.mr_step.specs.Kept.{IsSound, config_of, setting_look, standing_of, state_of}
+use Rattle.mr_step.specs.Standing.{Standing}
+use Rattle.mr_step.proofs.AskLaws.{state_there}
+use Rattle.mr_step.proofs.machine.Machine.asks.Goals as goal
+
+pub asked-requires : goal.asked-requires
+asked-requires c =
+    let m = c.self.inside in
+    let (s, state, enabled) = c.requires.enabled in
+    let (there, is) = state_there m.progress.gone (state_of m.progress) s (subst (λ (x : Standing). x.config.state ≡ Some s) (sym c.self.view_is) state) in
+    record {
+      ready = c.look-look.ensures.ready;
+      sound = subst (λ (p : Program). IsSound p (config_of m.progress)) (sym c.look-look.ensures.program) (c.self.invariant.sound (subst (λ (x : Standing). x.failed ≡ _) (sym c.self.view_is) c.requires.working));
+      there = there;
+      enabled = subst (λ (x : State Own). IsEnabled c.args.t (tables_of x.shared)) (sym is) enabled;
+    }
+
+pub returns : goal.returns
+returns c = λ s state.
+    let m = c.self.inside in
+    let (there, is) = state_there m.progress.gone (state_of m.progress) s (subst (λ (x : Standing). x.config.state ≡ Some s) (sym c.self.view_is) state) in
+    subst (λ (x : Standing). AsksAnswer s.shared (needs (thread_step x.look) s c.args.t) c.args.out.now.items c.asked.new.out.items c.asked.result) c.self.view_is
+    (subst (λ (x : State Own). AsksAnswer x.shared (needs (thread_step (setting_look m.setting)) x c.args.t) c.args.out.now.items c.asked.new.out.items c.asked.result) is
+    (subst (λ (l : Look). AsksAnswer (state_of m.progress).shared (needs (thread_step l) (state_of m.progress) c.args.t) c.args.out.now.items c.asked.new.out.items c.asked.result) c.look-look.ensures.look c.asked.ensures))

@@ -1,0 +1,54 @@
+-- What the next step of a thread asks for, and how the code tells it.
+use Rattle.std.specs.Prelude.{◌≡◌, ℕ, List, ◌++◌, Option, None, Some, Result, Ok, Err}
+use Rattle.std.specs.Option.{option_map}
+use Rattle.mr_ast.specs.declared.program.Intrinsic.TheVariants as intrinsic
+use Rattle.mr_mem.specs.Memory.{Memory}
+use Rattle.mr_sched.specs.declared.schedule.Ask.{Ask}
+use Rattle.mr_sync.specs.Tables.{Tables}
+use Rattle.mr_plan.specs.Legal.{Fault, creation_fault, fault}
+use Rattle.mr_plan.specs.Machine.{Needs, needs_of}
+use Rattle.mr_plan.specs.Notes.{Notes, start_notes}
+use Rattle.mr_plan.specs.Queries.{Shared}
+use Rattle.mr_frame.proofs.DoSafe.{OperandsFit}
+use Rattle.mr_frame.specs.declared.dos.DoCall.{DoCall}
+use Rattle.mr_frame.specs.declared.look.Look.{Look as KeptLook}
+use Rattle.mr_frame.specs.declared.stack.Stack.{Stack as KeptStack}
+use Rattle.mr_frame.specs.Doing.{operands_of}
+use Rattle.mr_frame.specs.Kept.{IsReady, look_of, stack_of}
+use Rattle.mr_frame.specs.Operations.{DueDo, next_do}
+use Rattle.mr_intr.specs.Effects.{shared_of}
+use Rattle.mr_turn.specs.Doing.{SpawnGiven, StandsFor, do_planned}
+use Rattle.mr_turn.specs.Turning.{own_of, planned}
+
+-- The intrinsic is due and was given this, which fits it.
+pub record IsAsked (look : KeptLook) (stack : KeptStack) (call : DoCall) (d : DueDo) : Type 0 where
+  pub ready : IsReady look
+  pub due : next_do (look_of look) (stack_of stack) ≡ Some d
+  pub operands : OperandsFit d.op (operands_of call)
+
+-- It is the start of a thread, and its callee is the function of this number.
+pub record AsksFunction (look : KeptLook) (stack : KeptStack) (call : DoCall) (d : DueDo) (number : ℕ) : Type 0 where
+  pub asked : IsAsked look stack call d
+  pub is : d.op ≡ intrinsic.Spawn
+  pub given_to : SpawnGiven (operands_of call)
+  pub at : StandsFor look given_to.callee number
+
+-- what the next step of a thread needs
+abbrev pub step_needs : KeptLook → KeptStack → Memory → Tables → ℕ → ℕ → Needs
+step_needs look stack m x thread count =
+    needs_of (planned (look_of look) (own_of thread stack) (shared_of m x, start_notes thread count))
+
+-- what an intrinsic needs that is due and was given this
+abbrev pub do_needs : KeptLook → KeptStack → DoCall → DueDo → ℕ → Shared × Notes → Needs
+do_needs look stack call d thread w =
+    needs_of (do_planned (look_of look) (own_of thread stack) d (operands_of call) w)
+
+-- the fault of this code without an identity, if there is one
+abbrev pub bare_fault : Option ℕ → Option Fault
+bare_fault None = None
+bare_fault (Some code) = fault code
+
+-- The asks were appended; the code is that of the limit that is reached.
+abbrev pub AsksAnswer : {E : Type 0} → Shared → Needs → List Ask → List Ask → Result (Option ℕ) E → Type 0
+AsksAnswer w n old new (Ok code) = (new ≡ old ++ n.asks) × (code ≡ option_map (λ f. f.code) (creation_fault w n.creates))
+AsksAnswer w n old new (Err e) = Unit {0}
