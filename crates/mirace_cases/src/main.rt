@@ -1,7 +1,10 @@
 //! Runs the cases of standard input, each a line with the words of a command over the files of `data/`, and writes what each comes
-//! to: `$` and the words, what the command writes, and `=` and the status.
+//! to: `$` and the words, what the command writes, and `=` and the status. JSON is read back, and told in lines behind it.
 #![tactic(auto)]
 
+mod read_back;
+
+use crate::read_back::read_back;
 use mr_command::mirace;
 use mr_io::{HostFiles, HostOut};
 use std::io;
@@ -11,12 +14,20 @@ fn main(rt: HostRuntime) -> io::Result<()> {
         let line = line?;
         println!(rt; "$ {line}")?;
         let words = words_of(&rt, line.as_str())?;
-        let mut out = HostOut::new(rt.stdout());
-        let mut files = HostFiles::new(&rt);
-        let status = mirace(rt.alloc(), words.as_slice(), &mut files, &mut out);
+        let status = match words.first() {
+            Some(word) if word.as_str() == "json" => read_back(&rt, words.as_slice())?,
+            _ => written(&rt, words.as_slice()),
+        };
         println!(rt; "= {status}")?;
     }
     Ok(())
+}
+
+// Writes what a command comes to, and answers the status.
+fn written(rt: &HostRuntime, words: &[String]) -> u8 {
+    let mut out = HostOut::new(rt.stdout());
+    let mut files = HostFiles::new(rt);
+    mirace(rt.alloc(), words, &mut files, &mut out)
 }
 
 // The words of a line.

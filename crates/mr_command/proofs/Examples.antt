@@ -9,12 +9,13 @@ use Rattle.mr_ast.specs.declared.program.Program.{Program}
 use Rattle.mr_ast.specs.declared.program.Term.TheVariants.{Exit}
 use Rattle.mr_wf.specs.declared.fault.Item.TheVariants.{Function as InFunction}
 use Rattle.mr_command.specs.declared.refusal.Refusal.TheVariants.{Schedule, Text}
+use Rattle.mr_command.specs.declared.command.Format.TheVariants as Format
 use Rattle.mr_command.specs.Command.{Check, Run, command_of}
 use Rattle.mr_command.specs.Form.{form_line}
 use Rattle.mr_report.specs.Report.{line}
 use Rattle.mr_command.specs.Report.{report_of, refusal_text}
 
-the_form : command_of (codes "run" ∷ codes "P" ∷ codes "S" ∷ []) ≡ Some (Run (codes "P") (codes "S"))
+the_form : command_of (codes "run" ∷ codes "P" ∷ codes "S" ∷ []) ≡ Some (Run Format.Text (codes "P") (codes "S"))
 the_form = refl
 
 the_other_form : command_of (codes "check" ∷ codes "P" ∷ []) ≡ Some (Check (codes "P"))
@@ -29,11 +30,11 @@ a_word_short = refl
 another_word : command_of (codes "walk" ∷ codes "P" ∷ codes "S" ∷ []) ≡ None
 another_word = refl
 
-one_print : report_of (record { thread = 0; text = codes "42" } ∷ []) verdict.Exit [] None ≡ line (codes "> 42") ++ line (codes "verdict exit") ++ line (codes "races 0")
+one_print : report_of Format.Text (record { thread = 0; text = codes "42" } ∷ []) verdict.Exit [] None ≡ line (codes "> 42") ++ line (codes "verdict exit") ++ line (codes "races 0")
 unfolding digits
 one_print = refl
 
-with_reason : report_of [] (verdict.Undefined DataRace) [] None ≡ line (codes "verdict undefined 100 DataRace") ++ line (codes "races 0")
+with_reason : report_of Format.Text [] (verdict.Undefined DataRace) [] None ≡ line (codes "verdict undefined 100 DataRace") ++ line (codes "races 0")
 unfolding digits
 with_reason = refl
 

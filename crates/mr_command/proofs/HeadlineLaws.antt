@@ -1,5 +1,5 @@
 -- The headline, and what is said of a text, follow from how a call ends.
-use Rattle.std.proofs.Common.{◌≡◌, ℕ, ◌≤◌, ap, ◌∙◌, subst, arith, List, [], ◌∷◌, ◌⊎◌, inl, inr}
+use Rattle.std.proofs.Common.{◌≡◌, ℕ, ◌≤◌, ap, ◌∙◌, refl, subst, arith, List, [], ◌∷◌, ◌⊎◌, inl, inr}
 use Rattle.std.specs.Prelude.{Some, None, Option, Ok, Err}
 use Rattle.mr_ast.specs.declared.program.Program.{Program}
 use Rattle.mr_base.specs.declared.reason.Verdict.{Verdict}
@@ -17,14 +17,19 @@ use Rattle.mr_start.specs.Start.{PlacedFault, run_of, steps_of}
 use Rattle.mr_start.proofs.RunLaws.{no_schedule_fault}
 use Rattle.mr_start.proofs.StartSound.{sound_run}
 use Rattle.mr_wf.specs.declared.fault.FormFault.{FormFault}
-use Rattle.mr_wf.specs.Walk.{faults_of}
+use Rattle.mr_wf.specs.Walk.{WellFormed, faults_of}
+use Rattle.mr_gen.specs.Generated.{generated}
+use Rattle.mr_gen.proofs.GeneratedLaws.{well_formed}
+use Rattle.mr_auto.specs.Drawing.{drawn_schedule}
+use Rattle.mr_auto.proofs.LegalRuns.{schedule_legal}
 use Rattle.mr_command.specs.declared.refusal.Refusal.TheVariants as refusal
-use Rattle.mr_command.specs.Command.{Command, Run, Check}
-use Rattle.mr_command.specs.Answer.{Answer, program_in, ran, schedule_in, denoted, spelled, text_refusal, legal_run, unless_broken, canonical, check_answer, form_answer, form_or, refused, report_under, reported, run_answer, run_report, told, answer_of}
+use Rattle.mr_command.specs.declared.command.Format.{Format}
+use Rattle.mr_command.specs.Command.{Auto, Big, Check, Command, NamesProgram, Run}
+use Rattle.mr_command.specs.Answer.{Answer, auto_answer, big_answer, big_schedule, drawn_answer, program_in, ran, schedule_in, denoted, spelled, text_refusal, legal_run, unless_broken, canonical, check_answer, form_answer, form_or, refused, report_under, reported, run_answer, run_report, told, answer_of}
 use Rattle.mr_witness.proofs.Kept.{first_witness}
 use Rattle.mr_command.specs.Report.{report_status, verdict_status}
-use Rattle.mr_command.specs.Outcome.{Ends, RanOut, IsLeft, IsPossible, IsUnread, IsWritten}
-use Rattle.mr_command.specs.Headline.{ChecksProgram, Names, NamesBroken, NamesBrokenSchedule, NamesFault, NamesScheduleFault, RunsProgram, IsOfMachine, IsTold}
+use Rattle.mr_command.specs.Outcome.{Ends, EndsOverTexts, RanOut, holding, IsLeft, IsPossible, IsUnread, IsWritten}
+use Rattle.mr_command.specs.Headline.{ChecksProgram, DrawsFor, IsSoundUnder, Names, NamesBroken, NamesBrokenSchedule, NamesFault, NamesScheduleFault, RunsProgram, IsOfMachine, IsTold}
 use Rattle.mr_command.proofs.AnswerLaws.{first_told}
 
 -- ---- what a file holds
@@ -38,16 +43,16 @@ fault_in file text fault there f = ap program_in there ∙ ap denoted (fault_par
 -- ---- the answers by definition
 
 -- a well-formed program and a legal schedule are answered by the report of their run
-pub named_answer : (files : Contents) (command : Option Command) (p : Program) (w : Schedule) → Names files command p w → answer_of files command ≡ reported w (ran p w)
-named_answer files command p w h =
+pub named_answer : (files : Contents) (command : Option Command) (format : Format) (p : Program) (w : Schedule) → Names files command format p w → answer_of files command ≡ reported format w (ran p w)
+named_answer files command format p w h =
     let program = denoted_in (files h.program_name) h.program_text p h.program_there h.denotes in
     let schedule : schedule_in (files h.schedule_name) ≡ Ok w = ap schedule_in h.schedule_there ∙ ap spelled (schedule_again h.schedule_text w h.schedules) in
     let legal : legal_run p w ≡ Ok (ran p w) = ap (λ f. unless_broken f (ran p w)) (no_schedule_fault p w h.legal) in
     ap (answer_of files) h.is_run
-    ∙ ap (told (run_answer (files h.schedule_name))) program
-    ∙ ap (λ faults. form_or p faults (report_under (files h.schedule_name) p)) h.well_formed.unbroken
-    ∙ ap (told (run_report p)) schedule
-    ∙ ap (told (reported w)) legal
+    ∙ ap (told (run_answer format (files h.schedule_name))) program
+    ∙ ap (λ faults. form_or p faults (report_under format (files h.schedule_name) p)) h.well_formed.unbroken
+    ∙ ap (told (run_report format p)) schedule
+    ∙ ap (told (reported format w)) legal
 
 -- a well-formed program that is checked is answered by its canonical text
 pub checked_answer : (files : Contents) (command : Option Command) (p : Program) → ChecksProgram files command p → answer_of files command ≡ canonical p
@@ -56,6 +61,23 @@ checked_answer files command p h =
     ∙ ap (told check_answer) (denoted_in (files h.name) h.text p h.there h.denotes)
     ∙ ap (λ faults. form_or p faults (canonical p)) h.well_formed.unbroken
 
+-- a well-formed program for which a schedule is drawn is answered by the schedule and its report
+pub auto_answered : (files : Contents) (command : Option Command) (number most : ℕ) (p : Program) → DrawsFor files command number most p → answer_of files command ≡ drawn_answer p (drawn_schedule p number most)
+auto_answered files command number most p h =
+    ap (answer_of files) h.is_auto
+    ∙ ap (told (auto_answer number most)) (denoted_in (files h.name) h.text p h.there h.denotes)
+    ∙ ap (λ faults. form_or p faults (drawn_answer p (drawn_schedule p number most))) h.well_formed.unbroken
+
+-- a well-formed program is run soundly under what is drawn for it
+pub drawn_soundly : (p : Program) (number most : ℕ) → WellFormed p → IsSoundUnder p (drawn_schedule p number most)
+drawn_soundly p number most well =
+    let legal = schedule_legal p number most well in
+    record {
+      legal = legal;
+      sound = sound_run p (drawn_schedule p number most) well legal;
+      witness = first_witness p (drawn_schedule p number most) well legal;
+    }
+
 -- the first fault of a program's text is told by each command
 fault_answer : (files : Contents) (command : Option Command) (fault : TextFault) → NamesFault files command fault → answer_of files command ≡ refused (text_refusal fault)
 fault_answer files command fault h = go h.names_program
@@ -63,9 +85,10 @@ fault_answer files command fault h = go h.names_program
     at : program_in (files h.name) ≡ Err (text_refusal fault)
     at = fault_in (files h.name) h.text fault h.there h.first
 
-    go : (command ≡ Some (Check h.name)) ⊎ ((schedule : List ℕ) × (command ≡ Some (Run h.name schedule))) → answer_of files command ≡ refused (text_refusal fault)
+    go : NamesProgram command h.name → answer_of files command ≡ refused (text_refusal fault)
     go (inl is) = ap (answer_of files) is ∙ ap (told check_answer) at
-    go (inr run) = ap (answer_of files) run.1 ∙ ap (told (run_answer (files run.0))) at
+    go (inr (inl (number, most, is))) = ap (answer_of files) is ∙ ap (told (auto_answer number most)) at
+    go (inr (inr (format, schedule, is))) = ap (answer_of files) is ∙ ap (told (run_answer format (files schedule))) at
 
 -- the first rule that a program breaks is told by each command
 broken_answer : (files : Contents) (command : Option Command) (p : Program) (fault : FormFault) → NamesBroken files command p fault → answer_of files command ≡ form_answer p fault
@@ -74,38 +97,40 @@ broken_answer files command p fault h = go h.judges
     at : program_in (files h.name) ≡ Ok p
     at = denoted_in (files h.name) h.text p h.there h.denotes
 
-    go : (command ≡ Some (Check h.name)) ⊎ ((schedule : List ℕ) × (command ≡ Some (Run h.name schedule))) → answer_of files command ≡ form_answer p fault
+    go : NamesProgram command h.name → answer_of files command ≡ form_answer p fault
     go (inl is) = ap (answer_of files) is ∙ ap (told check_answer) at ∙ first_told p (faults_of p) fault (canonical p) h.first
-    go (inr (schedule, is)) =
+    go (inr (inl (number, most, is))) =
+        ap (answer_of files) is ∙ ap (told (auto_answer number most)) at ∙ first_told p (faults_of p) fault (drawn_answer p (drawn_schedule p number most)) h.first
+    go (inr (inr (format, schedule, is))) =
         ap (answer_of files) is
-        ∙ ap (told (run_answer (files schedule))) at
-        ∙ first_told p (faults_of p) fault (report_under (files schedule) p) h.first
+        ∙ ap (told (run_answer format (files schedule))) at
+        ∙ first_told p (faults_of p) fault (report_under format (files schedule) p) h.first
 
 -- a well-formed program that is run is answered by what its schedule's file gives
-run_answer_of : (files : Contents) (command : Option Command) (p : Program) (schedule : List ℕ) → RunsProgram files command p schedule
-    → answer_of files command ≡ report_under (files schedule) p
+run_answer_of : (files : Contents) (command : Option Command) (p : Program) (schedule : List ℕ) (h : RunsProgram files command p schedule)
+    → answer_of files command ≡ report_under h.format (files schedule) p
 run_answer_of files command p schedule h =
     let program = denoted_in (files h.name) h.text p h.there h.denotes in
     ap (answer_of files) h.is_run
-    ∙ ap (told (run_answer (files schedule))) program
-    ∙ ap (λ faults. form_or p faults (report_under (files schedule) p)) h.well_formed.unbroken
+    ∙ ap (told (run_answer h.format (files schedule))) program
+    ∙ ap (λ faults. form_or p faults (report_under h.format (files schedule) p)) h.well_formed.unbroken
 
 -- the first fault of a schedule's text is told
 schedule_fault_answer : (files : Contents) (command : Option Command) (line code : ℕ) → NamesScheduleFault files command line code
     → answer_of files command ≡ refused (refusal.Schedule line code None)
 schedule_fault_answer files command line code h =
     run_answer_of files command h.program h.schedule_name h.runs
-    ∙ ap (λ file. report_under file h.program) h.there
-    ∙ ap (λ r. told (run_report h.program) (spelled r)) (schedule_fails_at h.text line code h.first)
+    ∙ ap (λ file. report_under h.runs.format file h.program) h.there
+    ∙ ap (λ r. told (run_report h.runs.format h.program) (spelled r)) (schedule_fails_at h.text line code h.first)
 
 -- the first rule that a schedule breaks is told
 broken_schedule_answer : (files : Contents) (command : Option Command) (fault : PlacedFault) → NamesBrokenSchedule files command fault
     → answer_of files command ≡ refused (refusal.Schedule fault.line fault.fault.code fault.fault.earlier)
 broken_schedule_answer files command fault h =
     run_answer_of files command h.program h.schedule_name h.runs
-    ∙ ap (λ file. report_under file h.program) h.there
-    ∙ ap (λ r. told (run_report h.program) (spelled r)) (schedule_again h.text h.schedule h.schedules)
-    ∙ ap (λ f. told (reported h.schedule) (unless_broken f (ran h.program h.schedule))) h.first
+    ∙ ap (λ file. report_under h.runs.format file h.program) h.there
+    ∙ ap (λ r. told (run_report h.runs.format h.program) (spelled r)) (schedule_again h.text h.schedule h.schedules)
+    ∙ ap (λ f. told (reported h.runs.format h.schedule) (unless_broken f (ran h.program h.schedule))) h.first
 
 -- ---- how a call ends
 
@@ -116,9 +141,11 @@ ran_out (Some c) old new status h = h
 -- the status of the line of a read that failed
 pub unread_status : (files : Contents) (command : Option Command) (a : Answer) → IsUnread files command a → a.status ≡ 6
 unread_status files None a h = absurd h
-unread_status files (Some (Run program schedule)) a (inl h) = ap (λ (b : Answer). b.status) h
-unread_status files (Some (Run program schedule)) a (inr h) = ap (λ (b : Answer). b.status) h.3
+unread_status files (Some (Run format program schedule)) a (inl h) = ap (λ (b : Answer). b.status) h
+unread_status files (Some (Run format program schedule)) a (inr h) = ap (λ (b : Answer). b.status) h.3
 unread_status files (Some (Check program)) a h = ap (λ (b : Answer). b.status) h
+unread_status files (Some (Auto program number most)) a h = ap (λ (b : Answer). b.status) h
+unread_status files (Some (Big number)) a h = absurd h
 
 pub written_status : (a : Answer) (rose : Type 0) (old new : Option (List ℕ)) (status : ℕ) → IsWritten a rose old new status → (status ≡ a.status) ⊎ (rose × (status ≡ 7))
 written_status a rose old new status (inl h) = inl h.0
@@ -142,9 +169,13 @@ module _ (files : Contents) (command : Option Command) (files_rose out_rose : Ty
   ends_told b e (inl out) = inr (inl (ran_out command old new status out))
   ends_told b e (inr ends) = possible_told ends.0 b e ends.1 ends.2
 
-  pub of_machine : (p : Program) (w : Schedule) → Names files command p w → Ends files command files_rose out_rose old new status
-      → IsOfMachine p w files_rose out_rose old new status
-  of_machine p w h e = record { sound = sound_run p w h.well_formed h.legal; witness = first_witness p w h.well_formed h.legal; report = ends_told (reported w (ran p w)) (named_answer files command p w h) e }
+  pub of_machine : (format : Format) (p : Program) (w : Schedule) → Names files command format p w → Ends files command files_rose out_rose old new status
+      → IsOfMachine format p w files_rose out_rose old new status
+  of_machine format p w h e = record { sound = sound_run p w h.well_formed h.legal; witness = first_witness p w h.well_formed h.legal; report = ends_told (reported format w (ran p w)) (named_answer files command format p w h) e }
+
+  pub drawn_told : (number most : ℕ) (p : Program) → DrawsFor files command number most p → Ends files command files_rose out_rose old new status
+      → IsSoundUnder p (drawn_schedule p number most) × IsTold (drawn_answer p (drawn_schedule p number most)) files_rose out_rose old new status
+  drawn_told number most p h e = (drawn_soundly p number most h.well_formed, ends_told (drawn_answer p (drawn_schedule p number most)) (auto_answered files command number most p h) e)
 
   pub canonical_told : (p : Program) → ChecksProgram files command p → Ends files command files_rose out_rose old new status
       → IsTold (canonical p) files_rose out_rose old new status
@@ -180,11 +211,11 @@ at_most_one v [] = verdict_at_most_one v
 at_most_one v (p ∷ races) = omega arith
 
 -- without faults the status is that of the report, unless memory ran out
-pub unless_faults : (p : Program) (w : Schedule) (files_rose out_rose : Type 0) (old new : Option (List ℕ)) (status : ℕ) → IsOfMachine p w files_rose out_rose old new status
+pub unless_faults : (format : Format) (p : Program) (w : Schedule) (files_rose out_rose : Type 0) (old new : Option (List ℕ)) (status : ℕ) → IsOfMachine format p w files_rose out_rose old new status
     → ¬ files_rose → ¬ out_rose → (status ≤ 1) ⊎ (status ≡ 8)
-unless_faults p w files_rose out_rose old new status m no_read no_write =
+unless_faults format p w files_rose out_rose old new status m no_read no_write =
     elim m.report [
-      | inl written ↦ elim (written_status (reported w (ran p w)) out_rose old new status written) [
+      | inl written ↦ elim (written_status (reported format w (ran p w)) out_rose old new status written) [
         | inl s ↦ inl (let least = at_most_one (run_of p w).verdict (predicted (steps_of p w)) in omega arith)
         | inr f ↦ absurd (no_write f.0)
       ]
@@ -193,3 +224,50 @@ unless_faults p w files_rose out_rose old new status m no_read no_write =
         | inr f ↦ absurd (no_read f.0)
       ]
     ]
+
+-- the same of what is drawn
+pub drawn_unless_faults : (p : Program) (w : Schedule) (files_rose out_rose : Type 0) (old new : Option (List ℕ)) (status : ℕ) → IsTold (drawn_answer p w) files_rose out_rose old new status
+    → ¬ files_rose → ¬ out_rose → (status ≤ 1) ⊎ (status ≡ 8)
+drawn_unless_faults p w files_rose out_rose old new status (inl written) no_read no_write =
+    elim (written_status (drawn_answer p w) out_rose old new status written) [
+      | inl s ↦ inl (let least = at_most_one (run_of p w).verdict (predicted (steps_of p w)) in omega arith)
+      | inr f ↦ absurd (no_write f.0)
+    ]
+drawn_unless_faults p w files_rose out_rose old new status (inr (inl left)) no_read no_write = inr left.0
+drawn_unless_faults p w files_rose out_rose old new status (inr (inr f)) no_read no_write = absurd (no_read f.0)
+
+-- ---- the program of a number
+
+-- it is run soundly
+pub big_soundly : (number : ℕ) → IsSoundUnder (generated number) (big_schedule number)
+big_soundly number = drawn_soundly (generated number) number 65536 (well_formed number)
+
+module _ (number : ℕ) (files_rose out_rose : Type 0) (old new : Option (List ℕ)) (status : ℕ) where
+  -- its summary is written, unless memory ran out
+  big_told : (files : Contents) (command : Option Command) → command ≡ Some (Big number) → Ends files command files_rose out_rose old new status
+      → IsLeft old new status ⊎ IsWritten (big_answer number) out_rose old new status
+  big_told files command e ends = go (subst (λ c. Ends files c files_rose out_rose old new status) e ends)
+    where
+      go : Ends files (Some (Big number)) files_rose out_rose old new status → IsLeft old new status ⊎ IsWritten (big_answer number) out_rose old new status
+      go (inl out) = inl out
+      go (inr (a, inl is, written)) = inr (subst (λ (b : Answer). IsWritten b out_rose old new status) is written)
+      go (inr (a, inr (rose, unread), written)) = absurd unread
+
+  -- whatever the files tell
+  pub big_written : (tale : Option Contents) (command : Option Command) → command ≡ Some (Big number)
+      → ((files : Contents) → tale ≡ Some files → Ends files command files_rose out_rose old new status)
+      → (tale ≡ None → EndsOverTexts command files_rose out_rose old new status)
+      → IsLeft old new status ⊎ IsWritten (big_answer number) out_rose old new status
+  big_written (Some files) command e ends texts = big_told files command e (ends files refl)
+  big_written None command e ends texts = over (subst (λ c. EndsOverTexts c files_rose out_rose old new status) e (texts refl))
+    where
+      over : EndsOverTexts (Some (Big number)) files_rose out_rose old new status → IsLeft old new status ⊎ IsWritten (big_answer number) out_rose old new status
+      over (program, schedule, ends) = big_told (holding program schedule) (Some (Big number)) refl ends
+
+  pub big_unless_faults : IsLeft old new status ⊎ IsWritten (big_answer number) out_rose old new status → ¬ out_rose → (status ≤ 1) ⊎ (status ≡ 8)
+  big_unless_faults (inl left) no_write = inr left.0
+  big_unless_faults (inr written) no_write =
+      elim (written_status (big_answer number) out_rose old new status written) [
+        | inl s ↦ inl (let least = at_most_one (run_of (generated number) (big_schedule number)).verdict (predicted (steps_of (generated number) (big_schedule number))) in omega arith)
+        | inr f ↦ absurd (no_write f.0)
+      ]

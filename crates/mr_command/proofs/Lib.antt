@@ -1,10 +1,12 @@
-pub mod AloneLaws
+pub mod ApartLaws
 pub mod AnswerLaws
+pub mod BoundLaws
 pub mod EndLaws
 pub mod Examples
 pub mod HeadlineLaws
 pub mod InputLaws
 pub mod OnlyLaws
+pub mod PrintedLaws
 pub mod RunLaws
 pub mod StepCount
 pub mod TextLaws

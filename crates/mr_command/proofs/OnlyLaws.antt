@@ -15,11 +15,13 @@ use Rattle.mr_start.specs.Start.{PlacedFault, schedule_fault}
 use Rattle.mr_start.proofs.RunLaws.{legal_schedule}
 use Rattle.mr_wf.specs.declared.fault.FormFault.{FormFault}
 use Rattle.mr_wf.specs.Walk.{WellFormed, faults_of}
-use Rattle.mr_command.specs.Command.{Command, Run, Check}
-use Rattle.mr_command.specs.Answer.{Answer, Ran, answer_of, canonical, check_answer, denoted, form_or, program_in, ran, report_under, reported, run_answer, run_report, spelled, told, unless_broken}
+use Rattle.mr_auto.specs.Drawing.{drawn_schedule}
+use Rattle.mr_command.specs.declared.command.Format.{Format}
+use Rattle.mr_command.specs.Command.{Auto, Check, Command, Run}
+use Rattle.mr_command.specs.Answer.{Answer, Ran, answer_of, auto_answer, canonical, check_answer, denoted, drawn_answer, form_or, program_in, ran, report_under, reported, run_answer, run_report, spelled, told, unless_broken}
 use Rattle.mr_command.specs.Outcome.{Ends, IsWhole}
-use Rattle.mr_command.specs.Headline.{ChecksProgram, Names, ReportsLegalRun, WritesCanonical}
-use Rattle.mr_command.proofs.HeadlineLaws.{checked_answer, named_answer, ran_out, unread_status}
+use Rattle.mr_command.specs.Headline.{ChecksProgram, DrawsFor, Names, ReportsLegalRun, WritesCanonical, WritesDrawn}
+use Rattle.mr_command.proofs.HeadlineLaws.{auto_answered, checked_answer, named_answer, ran_out, unread_status}
 
 -- a program that a text denotes and that breaks no rule is well-formed
 unbroken_well_formed : (text : List ℕ) (p : Program) → parsed text ≡ Ok p → faults_of p ≡ [] → WellFormed p
@@ -27,49 +29,53 @@ unbroken_well_formed text p parses none = record { shaped = denoted_is_shaped te
 
 -- ---- where a status is at most 1
 
-no_fault : (w : Schedule) (f : Option PlacedFault) (c : Ran) → (told (reported w) (unless_broken f c)).status ≤ 1 → f ≡ None
-no_fault w None c s = refl
-no_fault w (Some f) c s = let five : 5 ≤ 1 = s in absurd (omega arith)
+no_fault : (format : Format) (w : Schedule) (f : Option PlacedFault) (c : Ran) → (told (reported format w) (unless_broken f c)).status ≤ 1 → f ≡ None
+no_fault format w None c s = refl
+no_fault format w (Some f) c s = let five : 5 ≤ 1 = s in absurd (omega arith)
 
-legal_schedule_of : (p : Program) (r : Result Schedule Fault) → (told (run_report p) (spelled r)).status ≤ 1
+legal_schedule_of : (format : Format) (p : Program) (r : Result Schedule Fault) → (told (run_report format p) (spelled r)).status ≤ 1
     → (w : Schedule) × (r ≡ Ok w) × (schedule_fault p w ≡ None)
-legal_schedule_of p (Ok w) s = (w, refl, no_fault w (schedule_fault p w) (ran p w) s)
-legal_schedule_of p (Err f) s = let five : 5 ≤ 1 = s in absurd (omega arith)
+legal_schedule_of format p (Ok w) s = (w, refl, no_fault format w (schedule_fault p w) (ran p w) s)
+legal_schedule_of format p (Err f) s = let five : 5 ≤ 1 = s in absurd (omega arith)
 
-legal_schedule_in : (p : Program) (file : Option (List ℕ)) → (report_under file p).status ≤ 1
+legal_schedule_in : (format : Format) (p : Program) (file : Option (List ℕ)) → (report_under format file p).status ≤ 1
     → (text : List ℕ) × (file ≡ Some text) × (w : Schedule) × (schedule_of text ≡ Ok w) × (schedule_fault p w ≡ None)
-legal_schedule_in p None s = let six : 6 ≤ 1 = s in absurd (omega arith)
-legal_schedule_in p (Some text) s = let (w, spells, lawful) = legal_schedule_of p (schedule_of text) s in (text, refl, w, spells, lawful)
+legal_schedule_in format p None s = let six : 6 ≤ 1 = s in absurd (omega arith)
+legal_schedule_in format p (Some text) s = let (w, spells, lawful) = legal_schedule_of format p (schedule_of text) s in (text, refl, w, spells, lawful)
 
 no_broken_rule : (p : Program) (faults : List FormFault) (a : Answer) → (form_or p faults a).status ≤ 1 → (faults ≡ []) × (a.status ≤ 1)
 no_broken_rule p [] a s = (refl, s)
 no_broken_rule p (f ∷ faults) a s = let four : 4 ≤ 1 = s in absurd (omega arith)
 
 -- a program that is run to a report breaks no rule, and its schedule is reported
-pub record IsRunSoundly (p : Program) (schedule : Option (List ℕ)) : Type 0 where
+pub record IsRunSoundly (format : Format) (p : Program) (schedule : Option (List ℕ)) : Type 0 where
   pub unbroken : faults_of p ≡ []
-  pub small : (report_under schedule p).status ≤ 1
+  pub small : (report_under format schedule p).status ≤ 1
 
-run_soundly : (p : Program) (schedule : Option (List ℕ)) → (run_answer schedule p).status ≤ 1 → IsRunSoundly p schedule
-run_soundly p schedule s =
-    let unbroken = no_broken_rule p (faults_of p) (report_under schedule p) s in record { unbroken = unbroken.0; small = unbroken.1 }
+run_soundly : (format : Format) (p : Program) (schedule : Option (List ℕ)) → (run_answer format schedule p).status ≤ 1 → IsRunSoundly format p schedule
+run_soundly format p schedule s =
+    let unbroken = no_broken_rule p (faults_of p) (report_under format schedule p) s in record { unbroken = unbroken.0; small = unbroken.1 }
 
-sound_program_of : (r : Result Program TextFault) (schedule : Option (List ℕ)) → (told (run_answer schedule) (denoted r)).status ≤ 1
-    → (p : Program) × (r ≡ Ok p) × IsRunSoundly p schedule
-sound_program_of (Ok p) schedule s = (p, refl, run_soundly p schedule s)
-sound_program_of (Err f) schedule s = let three : 3 ≤ 1 = s in absurd (omega arith)
+sound_program_of : (format : Format) (r : Result Program TextFault) (schedule : Option (List ℕ)) → (told (run_answer format schedule) (denoted r)).status ≤ 1
+    → (p : Program) × (r ≡ Ok p) × IsRunSoundly format p schedule
+sound_program_of format (Ok p) schedule s = (p, refl, run_soundly format p schedule s)
+sound_program_of format (Err f) schedule s = let three : 3 ≤ 1 = s in absurd (omega arith)
 
-unbroken_program_of : (r : Result Program TextFault) → (told check_answer (denoted r)).status ≤ 1 → (p : Program) × (r ≡ Ok p) × (faults_of p ≡ [])
-unbroken_program_of (Ok p) s = (p, refl, (no_broken_rule p (faults_of p) (canonical p) s).0)
-unbroken_program_of (Err f) s = let three : 3 ≤ 1 = s in absurd (omega arith)
+-- what is said of a program that breaks no rule
+abbrev unless_form : (Program → Answer) → Program → Answer
+unless_form say p = form_or p (faults_of p) (say p)
+
+unbroken_program_of : (say : Program → Answer) (r : Result Program TextFault) → (told (unless_form say) (denoted r)).status ≤ 1 → (p : Program) × (r ≡ Ok p) × (faults_of p ≡ [])
+unbroken_program_of say (Ok p) s = (p, refl, (no_broken_rule p (faults_of p) (say p) s).0)
+unbroken_program_of say (Err f) s = let three : 3 ≤ 1 = s in absurd (omega arith)
 
 module _ (files : Contents) where
-  named_of : (program schedule : List ℕ) (file : Option (List ℕ)) → files program ≡ file → (told (run_answer (files schedule)) (program_in file)).status ≤ 1
-      → (p : Program) × (w : Schedule) × Names files (Some (Run program schedule)) p w
-  named_of program schedule None e s = let six : 6 ≤ 1 = s in absurd (omega arith)
-  named_of program schedule (Some text) e s =
-      let (p, parses, sound) = sound_program_of (parsed text) (files schedule) s in
-      let (schedule_text, there, w, spells, lawful) = legal_schedule_in p (files schedule) sound.small in (
+  named_of : (format : Format) (program schedule : List ℕ) (file : Option (List ℕ)) → files program ≡ file → (told (run_answer format (files schedule)) (program_in file)).status ≤ 1
+      → (p : Program) × (w : Schedule) × Names files (Some (Run format program schedule)) format p w
+  named_of format program schedule None e s = let six : 6 ≤ 1 = s in absurd (omega arith)
+  named_of format program schedule (Some text) e s =
+      let (p, parses, sound) = sound_program_of format (parsed text) (files schedule) s in
+      let (schedule_text, there, w, spells, lawful) = legal_schedule_in format p (files schedule) sound.small in (
         p,
         w,
         record {
@@ -91,11 +97,27 @@ module _ (files : Contents) where
       → (p : Program) × ChecksProgram files (Some (Check program)) p
   checked_of program None e s = let six : 6 ≤ 1 = s in absurd (omega arith)
   checked_of program (Some text) e s =
-      let (p, parses, unbroken) = unbroken_program_of (parsed text) s in (
+      let (p, parses, unbroken) = unbroken_program_of canonical (parsed text) s in (
         p,
         record {
           name = program;
           is_check = refl;
+          text = text;
+          there = e;
+          denotes = parsed_denotes text p parses;
+          well_formed = unbroken_well_formed text p parses unbroken;
+        },
+      )
+
+  drawn_of : (program : List ℕ) (number most : ℕ) (file : Option (List ℕ)) → files program ≡ file → (told (auto_answer number most) (program_in file)).status ≤ 1
+      → (p : Program) × DrawsFor files (Some (Auto program number most)) number most p
+  drawn_of program number most None e s = let six : 6 ≤ 1 = s in absurd (omega arith)
+  drawn_of program number most (Some text) e s =
+      let (p, parses, unbroken) = unbroken_program_of (λ p. drawn_answer p (drawn_schedule p number most)) (parsed text) s in (
+        p,
+        record {
+          name = program;
+          is_auto = refl;
           text = text;
           there = e;
           denotes = parsed_denotes text p parses;
@@ -120,13 +142,13 @@ module _ (files : Contents) (files_rose out_rose : Type 0) (old new : Option (Li
   same_whole : (a b : Answer) → a ≡ b → IsWhole a old new status → IsWhole b old new status
   same_whole a b e whole = subst (λ c. IsWhole c old new status) e whole
 
-  run_only : (program schedule : List ℕ) → Ends files (Some (Run program schedule)) files_rose out_rose old new status → status ≤ 1
-      → ReportsLegalRun files (Some (Run program schedule)) old new status
-  run_only program schedule ends s =
-      let command = Some (Run program schedule) in
+  run_only : (format : Format) (program schedule : List ℕ) → Ends files (Some (Run format program schedule)) files_rose out_rose old new status → status ≤ 1
+      → ReportsLegalRun files (Some (Run format program schedule)) format old new status
+  run_only format program schedule ends s =
+      let command = Some (Run format program schedule) in
       let whole = whole_answer command ends s in
-      let (p, w, names) = named_of files program schedule (files program) refl (small_answer (answer_of files command) whole s) in
-      (p, w, names, same_whole (answer_of files command) (reported w (ran p w)) (named_answer files command p w names) whole)
+      let (p, w, names) = named_of files format program schedule (files program) refl (small_answer (answer_of files command) whole s) in
+      (p, w, names, same_whole (answer_of files command) (reported format w (ran p w)) (named_answer files command format p w names) whole)
 
   check_only : (program : List ℕ) → Ends files (Some (Check program)) files_rose out_rose old new status → status ≤ 1
       → WritesCanonical files (Some (Check program)) old new status
@@ -136,14 +158,28 @@ module _ (files : Contents) (files_rose out_rose : Type 0) (old new : Option (Li
       let (p, checks) = checked_of files program (files program) refl (small_answer (answer_of files command) whole s) in
       (p, checks, same_whole (answer_of files command) (canonical p) (checked_answer files command p checks) whole)
 
-  pub only_legal : (command : Option Command) (program schedule : List ℕ) → command ≡ Some (Run program schedule)
-      → Ends files command files_rose out_rose old new status → status ≤ 1 → ReportsLegalRun files command old new status
-  only_legal command program schedule e =
-      let P : Option Command → Type 0 = λ c. Ends files c files_rose out_rose old new status → status ≤ 1 → ReportsLegalRun files c old new status in
-      subst P (sym e) (run_only program schedule)
+  auto_only : (program : List ℕ) (number most : ℕ) → Ends files (Some (Auto program number most)) files_rose out_rose old new status → status ≤ 1
+      → WritesDrawn files (Some (Auto program number most)) number most old new status
+  auto_only program number most ends s =
+      let command = Some (Auto program number most) in
+      let whole = whole_answer command ends s in
+      let (p, draws) = drawn_of files program number most (files program) refl (small_answer (answer_of files command) whole s) in
+      (p, draws, same_whole (answer_of files command) (drawn_answer p (drawn_schedule p number most)) (auto_answered files command number most p draws) whole)
+
+  pub only_legal : (command : Option Command) (format : Format) (program schedule : List ℕ) → command ≡ Some (Run format program schedule)
+      → Ends files command files_rose out_rose old new status → status ≤ 1 → ReportsLegalRun files command format old new status
+  only_legal command format program schedule e =
+      let P : Option Command → Type 0 = λ c. Ends files c files_rose out_rose old new status → status ≤ 1 → ReportsLegalRun files c format old new status in
+      subst P (sym e) (run_only format program schedule)
 
   pub only_sound : (command : Option Command) (program : List ℕ) → command ≡ Some (Check program)
       → Ends files command files_rose out_rose old new status → status ≤ 1 → WritesCanonical files command old new status
   only_sound command program e =
       let P : Option Command → Type 0 = λ c. Ends files c files_rose out_rose old new status → status ≤ 1 → WritesCanonical files c old new status in
       subst P (sym e) (check_only program)
+
+  pub only_drawn : (command : Option Command) (program : List ℕ) (number most : ℕ) → command ≡ Some (Auto program number most)
+      → Ends files command files_rose out_rose old new status → status ≤ 1 → WritesDrawn files command number most old new status
+  only_drawn command program number most e =
+      let P : Option Command → Type 0 = λ c. Ends files c files_rose out_rose old new status → status ≤ 1 → WritesDrawn files c number most old new status in
+      subst P (sym e) (auto_only program number most)

@@ -1,21 +1,20 @@
 -- Where entries lead from where a machine stands.
-use Rattle.std.proofs.Common.{◌≡◌, ℕ, ◌+◌, refl, sym, ap, ap₂, ◌∙◌, subst, Bool, List, [], ◌∷◌, ◌++◌, true, false, not, suc, ◌<◌, ◌≤◌, arith, drop, length, append-nil, append_assoc}
-use Rattle.std.proofs.lemmas.Bool.Decides.{nat_tests}
+use Rattle.std.proofs.Common.{◌≡◌, ℕ, ◌+◌, refl, sym, ap, ◌∙◌, subst, List, [], ◌∷◌, ◌++◌, false, suc, ◌<◌, ◌≤◌, arith, drop, length, append-nil, append_assoc}
 use Rattle.std.proofs.Math.Seq.{drop-cons}
-use Rattle.std.specs.Prelude.{get_or, Some, None, Option, Result, Ok, Err, if◌then◌else◌, ◌==◌}
+use Rattle.std.specs.Prelude.{get_or, Some, None, Option, Result, Ok, Err}
 use Rattle.mr_ast.specs.declared.program.Program.{Program}
 use Rattle.mr_sched.specs.declared.schedule.Entry.{Entry}
 use Rattle.mr_sched.specs.declared.schedule.Schedule.{Schedule}
 use Rattle.mr_step.specs.declared.fault.StepFault.{StepFault}
 use Rattle.mr_step.specs.declared.fault.StepFault.TheVariants as answer
-use Rattle.mr_step.specs.declared.fault.Turn.{Turn}
 use Rattle.mr_plan.specs.Legal.{Fault}
 use Rattle.mr_event.specs.declared.footprint.Footprint.{Footprint}
 use Rattle.mr_plan.specs.Runs.{Config, after, feet, foot_from}
 use Rattle.mr_frame.specs.Frames.{Look}
 use Rattle.mr_thread.specs.Steps.{Own, thread_step}
 use Rattle.mr_step.specs.Standing.{Standing}
-use Rattle.mr_step.specs.Answers.{Hands, StartAnswer, StepAnswer, Steps, completed, stopped}
+use Rattle.mr_step.specs.Answers.{StartAnswer}
+use Rattle.mr_auto.specs.Answers.{AdvanceAnswer}
 use Rattle.mr_start.specs.Start.{PlacedFault, at_line, entries_fault, program_fault, program_step, start_fault, schedule_fault, look_of, start_config, run_of, steps_of}
 use Rattle.mr_plan.proofs.RunLaws.{completed_by_step}
 use Rattle.mr_command.specs.declared.refusal.Refusal.{Refusal}
@@ -23,48 +22,27 @@ use Rattle.mr_command.specs.declared.run.Finished.{Finished}
 use Rattle.mr_command.specs.Answer.{Ran, legal_run, ran, unless_broken}
 use Rattle.mr_command.specs.Running.{placed, legal_after, Refuses, RunAnswer, EntriesAnswer, EntryAnswer, legal_step}
 
--- numbers that differ, and that don't
-other_number : (a b : ℕ) → a ≡ b + 1 → (a == b) ≡ false
-other_number a b h = grind (arith, nat_tests)
-
-same_number : (a b : ℕ) → a ≡ b → (a == b) ≡ true
-same_number a b h = grind (arith, nat_tests)
-
 -- the answer to an entry, from that of the machine
-module _ (e : Entry) (line : ℕ) (old new : Standing) (f f' : Footprint) (was : List Footprint) where
+module _ (e : Entry) (line : ℕ) (old new : Standing) (was is : List Footprint) where
   -- what the step of the entry comes to, where it breaks no rule
   abbrev one : Ran
   one = record { config = program_step old.look old.config e; steps = foot_from (thread_step old.look) e.thread e.picks old.config.state }
 
-  led_to : (t : Turn) → Steps e old new f f' t → (fs : List Footprint) → one.steps ≡ fs → legal_step old.look old.config line e ≡ Ok (record { config = new.config; steps = fs })
-  led_to t h fs k =
-      ap (λ o. unless_broken (at_line line o None) one) h.legal
-      ∙ ap₂ (λ (c : Config Own) xs. Ok (record { config = c; steps = xs })) (ap (λ (m : Standing). m.config) (sym h.after)) k
+  pub entry_taken : AdvanceAnswer e old new was is (Ok tt) → EntryAnswer e line old new was is (Ok tt)
+  entry_taken (legal, made) = record {
+    working = ap (λ (m : Standing). m.failed) made.after;
+    look = ap (λ (m : Standing). m.look) made.after;
+    steps = one.steps;
+    joined = made.joined;
+    is =
+        ap (λ o. unless_broken (at_line line o None) one) legal
+        ∙ ap (λ (c : Config Own). Ok (record { config = c; steps = one.steps })) (ap (λ (m : Standing). m.config) (sym made.after));
+  }
 
-  -- the footprint of the step joins those before, where the count of completed steps rose
-  pub entry_taken : (t : Turn) (rose : Bool) (is : List Footprint) → StepAnswer e old new f f' (Ok t) → rose ≡ not (new.config.completed == old.config.completed)
-      → is ≡ (if rose then was ++ f' ∷ [] else was) → EntryAnswer e line old new was is (Ok tt)
-  entry_taken t rose is h counted joins = by_hands h.foot
-    where
-      stands : (fs : List Footprint) → one.steps ≡ fs → is ≡ was ++ fs → EntryAnswer e line old new was is (Ok tt)
-      stands fs k joined = record {
-        working = ap (λ (m : Standing). m.failed) h.after;
-        look = ap (λ (m : Standing). m.look) h.after;
-        steps = fs;
-        joined = joined;
-        is = led_to t h fs k;
-      }
-
-      by_hands : Hands one.steps old.config.completed new.config.completed f f' → EntryAnswer e line old new was is (Ok tt)
-      by_hands (completed feet more) =
-          stands (f' ∷ []) feet (joins ∙ ap (λ (b : Bool). if b then was ++ f' ∷ [] else was) (counted ∙ ap not (other_number new.config.completed old.config.completed more)))
-      by_hands (stopped feet same foot) =
-          stands [] feet (joins ∙ ap (λ (b : Bool). if b then was ++ f' ∷ [] else was) (counted ∙ ap not (same_number new.config.completed old.config.completed same)) ∙ sym (append-nil was))
-
-  pub entry_refused : (fault : StepFault) (is : List Footprint) → StepAnswer e old new f f' (Err fault) → EntryAnswer e line old new was is (Err (placed line fault))
-  entry_refused (answer.BadEntry code earlier) is h = ap (λ o. unless_broken (at_line line o None) one) h.broken
-  entry_refused answer.Memory is h = tt
-  entry_refused answer.Failed is h = tt
+  pub entry_refused : (fault : StepFault) → AdvanceAnswer e old new was is (Err fault) → EntryAnswer e line old new was is (Err (placed line fault))
+  entry_refused (answer.BadEntry code earlier) h = ap (λ o. unless_broken (at_line line o None) one) h
+  entry_refused answer.Memory h = tt
+  entry_refused answer.Failed h = tt
 
 -- an entry that breaks no rule leads on
 unbroken : (line : ℕ) (f : Option Fault) (x r : Ran) (later : Option PlacedFault) (z : Ran) → unless_broken (at_line line f None) x ≡ Ok r

@@ -5,10 +5,11 @@ use Rattle.mr_ast.specs.declared.program.Program.{Program}
 use Rattle.mr_io.specs.Counts.{Rose}
 use Rattle.mr_wf.specs.Walk.{WellFormed}
 use Rattle.mr_command.specs.declared.answer.Written.{Written}
+use Rattle.mr_command.specs.declared.command.Format.{Format}
 use Rattle.mr_command.specs.declared.refusal.Refusal.{Refusal}
 use Rattle.mr_command.specs.declared.refusal.Refusal.TheVariants as refusal
-use Rattle.mr_command.specs.Answer.{form_or, program_in, report_under, run_answer, told}
-use Rattle.mr_command.specs.Answering.{IsFormOrReport, IsReported, Tells, TellsOrUnread}
+use Rattle.mr_command.specs.Answer.{Answer, form_or, program_in, report_under, run_answer, told}
+use Rattle.mr_command.specs.Answering.{IsFormOrReport, IsReported, IsSaid, Tells, TellsOrUnread}
 use Rattle.mr_command.specs.Outcome.{Gives, IsRead, holding}
 
 -- a count that rose later rose in all
@@ -21,31 +22,36 @@ was_read x rose unread defined (inl h) = h
 was_read x rose unread defined (inr h) = let e = h.1 in absurd (cc)
 
 -- a checked program is answered by the report
-pub checked_reported : (p q : Program) (file : Option (List ℕ)) (rose : Type 0) (result : Result Written Refusal) → (q ≡ p) × WellFormed p
-    → TellsOrUnread rose (report_under file q) result → IsFormOrReport rose file p result
-checked_reported p q file rose result (same, well) (inl tells) =
-    inl (subst (λ a. Tells a result) (ap (report_under file) same ∙ sym (ap (λ faults. form_or p faults (report_under file p)) well.unbroken)) tells)
-checked_reported p q file rose result (same, well) (inr (rises, is)) = inr (rises, well.unbroken, is)
+pub checked_reported : (format : Format) (p q : Program) (file : Option (List ℕ)) (rose : Type 0) (result : Result Written Refusal) → (q ≡ p) × WellFormed p
+    → TellsOrUnread rose (report_under format file q) result → IsFormOrReport rose format file p result
+checked_reported format p q file rose result (same, well) (inl tells) =
+    inl (subst (λ a. Tells a result) (ap (report_under format file) same ∙ sym (ap (λ faults. form_or p faults (report_under format file p)) well.unbroken)) tells)
+checked_reported format p q file rose result (same, well) (inr (rises, is)) = inr (rises, well.unbroken, is)
 
 -- a program that was read is answered by its run
-pub run_over : (program schedule : List ℕ) (p : Program) (later rose : Type 0) (result : Result Written Refusal) → (later → rose) → program_in (Some program) ≡ Ok p
-    → IsFormOrReport later (Some schedule) p result → IsReported (holding program schedule) (codes "program") (codes "schedule") rose result
-run_over program schedule p later rose result up e (inl tells) =
-    inl (subst (λ r. Tells (told (run_answer (Some schedule)) r) result) (sym e) tells)
-run_over program schedule p later rose result up e (inr (rises, unbroken, is)) = inr (up rises, inr (p, e, unbroken, is))
+pub run_over : (format : Format) (program schedule : List ℕ) (p : Program) (later rose : Type 0) (result : Result Written Refusal) → (later → rose) → program_in (Some program) ≡ Ok p
+    → IsFormOrReport later format (Some schedule) p result → IsReported (holding program schedule) format (codes "program") (codes "schedule") rose result
+run_over format program schedule p later rose result up e (inl tells) =
+    inl (subst (λ r. Tells (told (run_answer format (Some schedule)) r) result) (sym e) tells)
+run_over format program schedule p later rose result up e (inr (rises, unbroken, is)) = inr (up rises, inr (p, e, unbroken, is))
 
 -- what refuses a program's text is told
-refused_over : (program : List ℕ) (r : Refusal) → Gives {A = Program} (Err r) (program_in (Some program)) → Tells (told (run_answer (Some [])) (program_in (Some program))) (Err r)
-refused_over program refusal.Memory h = tt
-refused_over program refusal.ReadProgram h = ap (told (run_answer (Some []))) h
-refused_over program (refusal.Text at col code) h = ap (told (run_answer (Some []))) h
-refused_over program refusal.ReadSchedule h = ap (told (run_answer (Some []))) h
-refused_over program (refusal.Schedule at code earlier) h = ap (told (run_answer (Some []))) h
+refused_over : (say : Program → Answer) (program : List ℕ) (r : Refusal) → Gives {A = Program} (Err r) (program_in (Some program)) → Tells (told say (program_in (Some program))) (Err r)
+refused_over say program refusal.Memory h = tt
+refused_over say program refusal.ReadProgram h = ap (told say) h
+refused_over say program (refusal.Text at col code) h = ap (told say) h
+refused_over say program refusal.ReadSchedule h = ap (told say) h
+refused_over say program (refusal.Schedule at code earlier) h = ap (told say) h
 
 same_refusal : {r s : Refusal} → ◌≡◌ {A = Result Program Refusal} (Err r) (Err s) → r ≡ s
 same_refusal e = cc
 
-pub unread_over : (program : List ℕ) (r : Refusal) (rose : Type 0) → IsRead {A = Program} rose refusal.ReadProgram (Err r) (program_in (Some program))
-    → IsReported (holding program []) (codes "program") (codes "schedule") rose (Err r)
-unread_over program r rose (inl h) = inl (refused_over program r h)
-unread_over program r rose (inr (rises, e)) = inr (rises, inl (ap Err (same_refusal e)))
+pub unread_over : (format : Format) (program : List ℕ) (r : Refusal) (rose : Type 0) → IsRead {A = Program} rose refusal.ReadProgram (Err r) (program_in (Some program))
+    → IsReported (holding program []) format (codes "program") (codes "schedule") rose (Err r)
+unread_over format program r rose (inl h) = inl (refused_over (run_answer format (Some [])) program r h)
+unread_over format program r rose (inr (rises, e)) = inr (rises, inl (ap Err (same_refusal e)))
+
+pub unsaid_over : (say : Program → Answer) (program : List ℕ) (r : Refusal) (rose : Type 0) → IsRead {A = Program} rose refusal.ReadProgram (Err r) (program_in (Some program))
+    → IsSaid say (holding program []) (codes "program") rose (Err r)
+unsaid_over say program r rose (inl h) = inl (refused_over say program r h)
+unsaid_over say program r rose (inr (rises, e)) = inr (rises, ap Err (same_refusal e))

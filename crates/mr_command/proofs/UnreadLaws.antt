@@ -11,34 +11,37 @@ use Rattle.mr_event.specs.Predicted.{predicted}
 use Rattle.mr_start.specs.Start.{PlacedFault, schedule_fault}
 use Rattle.mr_wf.specs.declared.fault.FormFault.{FormFault}
 use Rattle.mr_wf.specs.Walk.{faults_of}
-use Rattle.mr_command.specs.Command.{Command, Run, Check}
-use Rattle.mr_command.specs.Answer.{Answer, Ran, answer_of, canonical, check_answer, denoted, form_or, program_in, ran, report_under, reported, run_answer, run_report, spelled, told, unless_broken}
+use Rattle.mr_auto.specs.Drawing.{drawn_schedule}
+use Rattle.mr_gen.specs.Generated.{generated}
+use Rattle.mr_command.specs.declared.command.Format.{Format}
+use Rattle.mr_command.specs.Command.{Auto, Big, Check, Command, Run}
+use Rattle.mr_command.specs.Answer.{Answer, Ran, answer_of, auto_answer, big_answer, big_schedule, drawn_answer, canonical, check_answer, denoted, form_or, program_in, ran, report_under, reported, run_answer, run_report, spelled, told, unless_broken}
 use Rattle.mr_command.specs.Outcome.{Ends, IsPossible}
 use Rattle.mr_command.specs.Headline.{IsUnreadBecause, LacksFile}
 use Rattle.mr_command.proofs.HeadlineLaws.{at_most_one, ran_out, written_status}
 
 -- ---- the status 6 is that of a file that isn't there
 
-of_legal : (w : Schedule) (f : Option PlacedFault) (r : Ran) → (told (reported w) (unless_broken f r)).status ≡ 6 → ⊥
-of_legal w None r s = let least = at_most_one r.config.verdict (predicted r.steps) in absurd (omega arith)
-of_legal w (Some f) r s = let five : 5 ≡ 6 = s in absurd (omega arith)
+of_legal : (format : Format) (w : Schedule) (f : Option PlacedFault) (r : Ran) → (told (reported format w) (unless_broken f r)).status ≡ 6 → ⊥
+of_legal format w None r s = let least = at_most_one r.config.verdict (predicted r.steps) in absurd (omega arith)
+of_legal format w (Some f) r s = let five : 5 ≡ 6 = s in absurd (omega arith)
 
-of_schedule : (p : Program) (r : Result Schedule Fault) → (told (run_report p) (spelled r)).status ≡ 6 → ⊥
-of_schedule p (Ok w) s = of_legal w (schedule_fault p w) (ran p w) s
-of_schedule p (Err f) s = let five : 5 ≡ 6 = s in absurd (omega arith)
+of_schedule : (format : Format) (p : Program) (r : Result Schedule Fault) → (told (run_report format p) (spelled r)).status ≡ 6 → ⊥
+of_schedule format p (Ok w) s = of_legal format w (schedule_fault p w) (ran p w) s
+of_schedule format p (Err f) s = let five : 5 ≡ 6 = s in absurd (omega arith)
 
-of_report : (p : Program) (file : Option (List ℕ)) → (report_under file p).status ≡ 6 → file ≡ None
-of_report p None s = refl
-of_report p (Some bytes) s = absurd (of_schedule p (schedule_of bytes) s)
+of_report : (format : Format) (p : Program) (file : Option (List ℕ)) → (report_under format file p).status ≡ 6 → file ≡ None
+of_report format p None s = refl
+of_report format p (Some bytes) s = absurd (of_schedule format p (schedule_of bytes) s)
 
 -- the line of a broken rule has another status
 of_form : (p : Program) (faults : List FormFault) (a : Answer) → (form_or p faults a).status ≡ 6 → a.status ≡ 6
 of_form p [] a s = s
 of_form p (f ∷ faults) a s = let four : 4 ≡ 6 = s in absurd (omega arith)
 
-of_run : (r : Result Program TextFault) (file : Option (List ℕ)) → (told (run_answer file) (denoted r)).status ≡ 6 → file ≡ None
-of_run (Ok p) file s = of_report p file (of_form p (faults_of p) (report_under file p) s)
-of_run (Err f) file s = let three : 3 ≡ 6 = s in absurd (omega arith)
+of_run : (format : Format) (r : Result Program TextFault) (file : Option (List ℕ)) → (told (run_answer format file) (denoted r)).status ≡ 6 → file ≡ None
+of_run format (Ok p) file s = of_report format p file (of_form p (faults_of p) (report_under format file p) s)
+of_run format (Err f) file s = let three : 3 ≡ 6 = s in absurd (omega arith)
 
 of_canonical : (p : Program) → (canonical p).status ≡ 6 → ⊥
 of_canonical p s = let zero : 0 ≡ 6 = s in absurd (omega arith)
@@ -47,20 +50,39 @@ of_check : (r : Result Program TextFault) → (told check_answer (denoted r)).st
 of_check (Ok p) s = of_canonical p (of_form p (faults_of p) (canonical p) s)
 of_check (Err f) s = let three : 3 ≡ 6 = s in absurd (omega arith)
 
-run_lacks : (files : Contents) (program schedule : List ℕ) (file : Option (List ℕ)) → files program ≡ file
-    → (told (run_answer (files schedule)) (program_in file)).status ≡ 6 → LacksFile files (Some (Run program schedule))
-run_lacks files program schedule None e s = inl (program, inr (schedule, refl), e)
-run_lacks files program schedule (Some bytes) e s = inr (program, schedule, refl, of_run (parsed bytes) (files schedule) s)
+run_lacks : (files : Contents) (format : Format) (program schedule : List ℕ) (file : Option (List ℕ)) → files program ≡ file
+    → (told (run_answer format (files schedule)) (program_in file)).status ≡ 6 → LacksFile files (Some (Run format program schedule))
+run_lacks files format program schedule None e s = inl (program, inr (inr (format, schedule, refl)), e)
+run_lacks files format program schedule (Some bytes) e s = inr (format, program, schedule, refl, of_run format (parsed bytes) (files schedule) s)
 
 check_lacks : (files : Contents) (program : List ℕ) (file : Option (List ℕ)) → files program ≡ file
     → (told check_answer (program_in file)).status ≡ 6 → LacksFile files (Some (Check program))
 check_lacks files program None e s = inl (program, inl refl, e)
 check_lacks files program (Some bytes) e s = absurd (of_check (parsed bytes) s)
 
+of_drawn : (p : Program) (w : Schedule) → (drawn_answer p w).status ≡ 6 → ⊥
+of_drawn p w s = let least = at_most_one (ran p w).config.verdict (predicted (ran p w).steps) in absurd (omega arith)
+
+of_auto : (number most : ℕ) (r : Result Program TextFault) → (told (auto_answer number most) (denoted r)).status ≡ 6 → ⊥
+of_auto number most (Ok p) s = of_drawn p (drawn_schedule p number most) (of_form p (faults_of p) (drawn_answer p (drawn_schedule p number most)) s)
+of_auto number most (Err f) s = let three : 3 ≡ 6 = s in absurd (omega arith)
+
+auto_lacks : (files : Contents) (program : List ℕ) (number most : ℕ) (file : Option (List ℕ)) → files program ≡ file
+    → (told (auto_answer number most) (program_in file)).status ≡ 6 → LacksFile files (Some (Auto program number most))
+auto_lacks files program number most None e s = inl (program, inr (inl (number, most, refl)), e)
+auto_lacks files program number most (Some bytes) e s = absurd (of_auto number most (parsed bytes) s)
+
+of_big : (number : ℕ) → (big_answer number).status ≡ 6 → ⊥
+of_big number s =
+    let r = ran (generated number) (big_schedule number) in
+    let least = at_most_one r.config.verdict (predicted r.steps) in absurd (omega arith)
+
 lacks : (files : Contents) (command : Option Command) → (answer_of files command).status ≡ 6 → LacksFile files command
 lacks files None s = let two : 2 ≡ 6 = s in absurd (omega arith)
-lacks files (Some (Run program schedule)) s = run_lacks files program schedule (files program) refl s
+lacks files (Some (Run format program schedule)) s = run_lacks files format program schedule (files program) refl s
 lacks files (Some (Check program)) s = check_lacks files program (files program) refl s
+lacks files (Some (Auto program number most)) s = auto_lacks files program number most (files program) refl s
+lacks files (Some (Big number)) s = absurd (of_big number s)
 
 -- ---- how a call ends with it
 

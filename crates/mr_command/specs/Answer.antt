@@ -1,5 +1,5 @@
 -- What a call answers by definition: a text and a status, from the words and what the files hold.
-use Rattle.std.specs.Prelude.{ℕ, List, [], ◌∷◌, Option, None, Some, Result, Ok, Err}
+use Rattle.std.specs.Prelude.{ℕ, List, [], ◌∷◌, ◌++◌, codes, decimal, length, map, Option, None, Some, Result, Ok, Err}
 use Rattle.mr_ast.specs.declared.program.Program.{Program}
 use Rattle.mr_ast.specs.Canon.{canonical_text}
 use Rattle.mr_io.specs.Files.{Contents}
@@ -16,11 +16,17 @@ use Rattle.mr_start.specs.Start.{run_of, schedule_fault, steps_of, PlacedFault}
 use Rattle.mr_exchange.specs.Witness.{kept_schedule}
 use Rattle.mr_wf.specs.declared.fault.FormFault.{FormFault}
 use Rattle.mr_wf.specs.Walk.{faults_of}
+use Rattle.mr_command.specs.declared.command.Format.{Format}
 use Rattle.mr_command.specs.declared.refusal.Refusal.{Refusal}
 use Rattle.mr_command.specs.declared.refusal.Refusal.TheVariants as refusal
-use Rattle.mr_command.specs.Command.{Command, Run, Check}
+use Rattle.mr_command.specs.declared.command.Format.TheVariants.{Text}
+use Rattle.mr_command.specs.Command.{Auto, Big, Check, Command, Run}
 use Rattle.mr_command.specs.Form.{form_line}
-use Rattle.mr_command.specs.Report.{report_of, report_status, refusal_text, refusal_status, usage_text}
+use Rattle.mr_auto.specs.Drawing.{drawn_schedule}
+use Rattle.mr_gen.specs.Generated.{generated, rounds_of, workers_of}
+use Rattle.mr_report.specs.Report.{brief_text, line}
+use Rattle.mr_sched.specs.Spelling.{text_of}
+use Rattle.mr_command.specs.Report.{line_of, report_of, report_status, refusal_text, refusal_status, usage_text}
 
 -- the first fault of a text, as a refusal
 abbrev pub text_refusal : TextFault → Refusal
@@ -78,12 +84,43 @@ abbrev pub witness_for : List Footprint → Schedule → List Pair → Option Sc
 witness_for steps w [] = None
 witness_for steps w (pair ∷ races) = Some (kept_schedule steps w pair.first pair.second)
 
--- the report of a run under a schedule, and its status
-abbrev pub reported : Schedule → Ran → Answer
-reported w r = record {
-  text = report_of r.config.output r.config.verdict (predicted r.steps) (witness_for r.steps w (predicted r.steps));
+-- the report of a run under a schedule, in a format, and its status
+abbrev pub reported : Format → Schedule → Ran → Answer
+reported format w r = record {
+  text = report_of format r.config.output r.config.verdict (predicted r.steps) (witness_for r.steps w (predicted r.steps));
   status = report_status r.config.verdict (predicted r.steps);
 }
+
+-- the text of a schedule, and behind it the report of the run under it
+abbrev pub drawn_answer : Program → Schedule → Answer
+drawn_answer p w =
+    let report = reported Text w (ran p w) in
+    record { text = text_of w ++ report.text; status = report.status }
+
+-- what a run printed, its verdict and how many races it shows
+abbrev pub briefly : Ran → Answer
+briefly r = record {
+  text = brief_text (map line_of r.config.output) r.config.verdict (predicted r.steps);
+  status = report_status r.config.verdict (predicted r.steps);
+}
+
+-- what is said of a run of the program of a number, under a schedule with so many entries
+abbrev pub summary : ℕ → ℕ → Ran → Answer
+summary number entries r = record {
+  text =
+      line (codes "big " ++ decimal number) ++ line (codes "workers " ++ decimal (workers_of number))
+      ++ line (codes "rounds " ++ decimal (rounds_of number)) ++ line (codes "entries " ++ decimal entries)
+      ++ (briefly r).text;
+  status = (briefly r).status;
+}
+
+-- the same of the schedule that is drawn from that number, with at most 65,536 entries
+abbrev pub big_schedule : ℕ → Schedule
+big_schedule number = drawn_schedule (generated number) number 65536
+
+abbrev pub big_answer : ℕ → Answer
+big_answer number =
+    summary number (length (big_schedule number).entries) (ran (generated number) (big_schedule number))
 
 -- the canonical text of a program
 abbrev pub canonical : Program → Answer
@@ -107,18 +144,22 @@ form_or p (fault ∷ faults) a = form_answer p fault
 abbrev pub check_answer : Program → Answer
 check_answer p = form_or p (faults_of p) (canonical p)
 
+-- what is said of a program for which a schedule is drawn: the schedule and the report, where it breaks no rule
+abbrev pub auto_answer : ℕ → ℕ → Program → Answer
+auto_answer number most p = form_or p (faults_of p) (drawn_answer p (drawn_schedule p number most))
+
 -- the report of the run of a program under a schedule, or the first rule that the schedule breaks
-abbrev pub run_report : Program → Schedule → Answer
-run_report p w = told (reported w) (legal_run p w)
+abbrev pub run_report : Format → Program → Schedule → Answer
+run_report format p w = told (reported format w) (legal_run p w)
 
 -- the report of the run of a program under the schedule in a file, or what refuses it: first of the schedule's file,
 -- then of the run
-abbrev pub report_under : Option (List ℕ) → Program → Answer
-report_under file p = told (run_report p) (schedule_in file)
+abbrev pub report_under : Format → Option (List ℕ) → Program → Answer
+report_under format file p = told (run_report format p) (schedule_in file)
 
 -- what is said of a program that is run under the schedule in a file: the report, where the program breaks no rule
-abbrev pub run_answer : Option (List ℕ) → Program → Answer
-run_answer file p = form_or p (faults_of p) (report_under file p)
+abbrev pub run_answer : Format → Option (List ℕ) → Program → Answer
+run_answer format file p = form_or p (faults_of p) (report_under format file p)
 
 -- what words of no form are told
 abbrev pub usage : Answer
@@ -127,5 +168,8 @@ usage = record { text = usage_text; status = 2 }
 -- THE ANSWER to a command over these files; words of no form are told the usage
 abbrev pub answer_of : Contents → Option Command → Answer
 answer_of files None = usage
-answer_of files (Some (Run program schedule)) = told (run_answer (files schedule)) (program_in (files program))
+answer_of files (Some (Run format program schedule)) =
+    told (run_answer format (files schedule)) (program_in (files program))
 answer_of files (Some (Check program)) = told check_answer (program_in (files program))
+answer_of files (Some (Auto program number most)) = told (auto_answer number most) (program_in (files program))
+answer_of files (Some (Big number)) = big_answer number

@@ -4,10 +4,11 @@ use Rattle.mr_ast.specs.declared.program.Program.{Program}
 use Rattle.mr_io.specs.Files.{Contents}
 use Rattle.mr_wf.specs.Walk.{faults_of}
 use Rattle.mr_command.specs.declared.answer.Written.{Written}
+use Rattle.mr_command.specs.declared.command.Format.{Format}
 use Rattle.mr_command.specs.declared.refusal.Refusal.{Refusal}
 use Rattle.mr_command.specs.declared.refusal.Refusal.TheVariants as refusal
-use Rattle.mr_command.specs.Answer.{Answer, check_answer, program_in, refused, run_answer, told}
-use Rattle.mr_command.specs.Command.{Command, Run, Check}
+use Rattle.mr_command.specs.Answer.{Answer, auto_answer, big_answer, check_answer, program_in, refused, run_answer, told}
+use Rattle.mr_command.specs.Command.{Auto, Big, Check, Command, Run}
 use Rattle.mr_command.specs.Outcome.{holding, over_holding}
 
 -- what is written, seen as an answer
@@ -33,9 +34,9 @@ TellsOrUnread rose answer result = Tells answer result ⊎ (rose × (result ≡ 
 
 -- what is said of a program that is run under the schedule in a file; or, where it breaks no rule, the read of that
 -- failed
-abbrev pub IsFormOrReport : Type 0 → Option (List ℕ) → Program → Result Written Refusal → Type 0
-IsFormOrReport rose file p result =
-    Tells (run_answer file p) result
+abbrev pub IsFormOrReport : Type 0 → Format → Option (List ℕ) → Program → Result Written Refusal → Type 0
+IsFormOrReport rose format file p result =
+    Tells (run_answer format file p) result
     ⊎ (rose × (faults_of p ≡ []) × (result ≡ Err refusal.ReadSchedule))
 
 -- a read failed: that of the program, or that of the schedule behind a program that breaks no rule
@@ -46,25 +47,27 @@ IsUnreadHere files program result =
 
 -- what is said of the program in one file that is run under the schedule in another, or what refuses it; or a read
 -- failed
-abbrev pub IsReported : Contents → List ℕ → List ℕ → Type 0 → Result Written Refusal → Type 0
-IsReported files program schedule rose result =
-    Tells (told (run_answer (files schedule)) (program_in (files program))) result
+abbrev pub IsReported : Contents → Format → List ℕ → List ℕ → Type 0 → Result Written Refusal → Type 0
+IsReported files format program schedule rose result =
+    Tells (told (run_answer format (files schedule)) (program_in (files program))) result
     ⊎ (rose × IsUnreadHere files program result)
 
--- what is said of the program in a file that is checked, or what refuses it; or the read failed
-abbrev pub IsChecked : Contents → List ℕ → Type 0 → Result Written Refusal → Type 0
-IsChecked files program rose result =
-    Tells (told check_answer (program_in (files program))) result
+-- what is said of the program in a file, or what refuses it; or the read failed
+abbrev pub IsSaid : (Program → Answer) → Contents → List ℕ → Type 0 → Result Written Refusal → Type 0
+IsSaid say files program rose result =
+    Tells (told say (program_in (files program))) result
     ⊎ (rose × (result ≡ Err refusal.ReadProgram))
 
 -- a schedule's file has some text, of which a program that is read is answered
-abbrev pub IsRunOverText : Type 0 → Program → Result Written Refusal → Type 0
-IsRunOverText rose p result = (text : List ℕ) × IsFormOrReport rose (Some text) p result
+abbrev pub IsRunOverText : Type 0 → Format → Program → Result Written Refusal → Type 0
+IsRunOverText rose format p result = (text : List ℕ) × IsFormOrReport rose format (Some text) p result
 
 -- how a command is answered
 abbrev pub IsAnswered : Contents → Command → Type 0 → Result Written Refusal → Type 0
-IsAnswered files (Run program schedule) rose result = IsReported files program schedule rose result
-IsAnswered files (Check program) rose result = IsChecked files program rose result
+IsAnswered files (Run format program schedule) rose result = IsReported files format program schedule rose result
+IsAnswered files (Check program) rose result = IsSaid check_answer files program rose result
+IsAnswered files (Auto program number most) rose result = IsSaid (auto_answer number most) files program rose result
+IsAnswered files (Big number) rose result = Tells (big_answer number) result
 
 -- there are texts of the named files of which a command is answered so
 abbrev pub IsAnsweredOverTexts : Command → Type 0 → Result Written Refusal → Type 0

@@ -11,13 +11,15 @@ use Rattle.mr_sched.specs.declared.schedule.Schedule.{Schedule}
 use Rattle.mr_sched.specs.Faults.{FirstFault as FirstScheduleFault}
 use Rattle.mr_sched.specs.Spelling.{Schedules}
 use Rattle.mr_start.specs.Start.{Legal, IsSoundRun, PlacedFault, schedule_fault, steps_of}
+use Rattle.mr_auto.specs.Drawing.{drawn_schedule}
 use Rattle.mr_wf.specs.declared.fault.FormFault.{FormFault}
 use Rattle.mr_wf.specs.Walk.{FirstBroken, WellFormed, faults_of}
-use Rattle.mr_command.specs.Command.{Command, Run, Check, NamesProgram}
+use Rattle.mr_command.specs.declared.command.Format.{Format}
+use Rattle.mr_command.specs.Command.{Auto, Check, Command, NamesProgram, Run}
 use Rattle.mr_event.specs.declared.footprint.Pair.{Pair}
 use Rattle.mr_event.specs.Predicted.{predicted}
 use Rattle.mr_exchange.specs.Witness.{IsWitness, kept_schedule}
-use Rattle.mr_command.specs.Answer.{Answer, canonical, program_in, ran, reported}
+use Rattle.mr_command.specs.Answer.{Answer, canonical, drawn_answer, program_in, ran, reported}
 use Rattle.mr_command.specs.Outcome.{IsLeft, IsWhole, IsWritten}
 
 -- a read failed and was told, or the write of that failed
@@ -34,10 +36,11 @@ IsTold a files_rose out_rose old new status =
 
 -- The command names a file whose text denotes the program, which is well-formed, and a file whose text is that of the
 -- schedule, which is legal.
-pub record Names (files : Contents) (command : Option Command) (p : Program) (w : Schedule) : Type 0 where
+pub record Names (files : Contents) (command : Option Command) (format : Format) (p : Program) (w : Schedule)
+    : Type 0 where
   pub program_name : List ℕ
   pub schedule_name : List ℕ
-  pub is_run : command ≡ Some (Run program_name schedule_name)
+  pub is_run : command ≡ Some (Run format program_name schedule_name)
   pub program_text : List ℕ
   pub program_there : files program_name ≡ Some program_text
   pub denotes : Denotes program_text p
@@ -54,22 +57,24 @@ ShowsFirstRace p w =
     → IsWitness p w pair.first pair.second (kept_schedule (steps_of p w) w pair.first pair.second)
 
 -- No step is ill-formed; the witness brings the machine to the first race; and the report of the run is written.
-pub record IsOfMachine (p : Program) (w : Schedule) (files_rose out_rose : Type 0) (old new : Option (List ℕ))
-    (status : ℕ) : Type 0 where
+pub record IsOfMachine (format : Format) (p : Program) (w : Schedule) (files_rose out_rose : Type 0)
+    (old new : Option (List ℕ)) (status : ℕ) : Type 0 where
   pub sound : IsSoundRun p w
   pub witness : ShowsFirstRace p w
-  pub report : IsTold (reported w (ran p w)) files_rose out_rose old new status
+  pub report : IsTold (reported format w (ran p w)) files_rose out_rose old new status
 
 -- The files denote a well-formed program, and a legal schedule of it; and the whole report of that run was written.
-abbrev pub ReportsLegalRun : Contents → Option Command → Option (List ℕ) → Option (List ℕ) → ℕ → Type 0
-ReportsLegalRun files command old new status =
-    (p : Program) × (w : Schedule) × Names files command p w × IsWhole (reported w (ran p w)) old new status
+abbrev pub ReportsLegalRun : Contents → Option Command → Format → Option (List ℕ) → Option (List ℕ) → ℕ → Type 0
+ReportsLegalRun files command format old new status =
+    (p : Program) × (w : Schedule) × Names files command format p w
+    × IsWhole (reported format w (ran p w)) old new status
 
 -- The command is to run a file whose text denotes the program, which is well-formed, under a file of this name.
 pub record RunsProgram (files : Contents) (command : Option Command) (p : Program) (schedule_name : List ℕ)
     : Type 0 where
+  pub format : Format
   pub name : List ℕ
-  pub is_run : command ≡ Some (Run name schedule_name)
+  pub is_run : command ≡ Some (Run format name schedule_name)
   pub text : List ℕ
   pub there : files name ≡ Some text
   pub denotes : Denotes text p
@@ -124,11 +129,34 @@ pub record NamesFault (files : Contents) (command : Option Command) (fault : Tex
 -- breaks
 pub record NamesBroken (files : Contents) (command : Option Command) (p : Program) (fault : FormFault) : Type 0 where
   pub name : List ℕ
-  pub judges : (command ≡ Some (Check name)) ⊎ ((schedule : List ℕ) × (command ≡ Some (Run name schedule)))
+  pub judges : NamesProgram command name
   pub text : List ℕ
   pub there : files name ≡ Some text
   pub denotes : Denotes text p
   pub first : FirstBroken p fault
+
+-- ---- drawn schedules
+
+-- the command is to draw a schedule for a file whose text denotes the program, which is well-formed
+pub record DrawsFor (files : Contents) (command : Option Command) (number most : ℕ) (p : Program) : Type 0 where
+  pub name : List ℕ
+  pub is_auto : command ≡ Some (Auto name number most)
+  pub text : List ℕ
+  pub there : files name ≡ Some text
+  pub denotes : Denotes text p
+  pub well_formed : WellFormed p
+
+-- A file denotes a well-formed program; and the schedule that is drawn for it was written whole, with its report.
+abbrev pub WritesDrawn : Contents → Option Command → ℕ → ℕ → Option (List ℕ) → Option (List ℕ) → ℕ → Type 0
+WritesDrawn files command number most old new status =
+    (p : Program) × DrawsFor files command number most p
+    × IsWhole (drawn_answer p (drawn_schedule p number most)) old new status
+
+-- The schedule is legal, no step under it is ill-formed, and the witness brings the machine to the first race.
+pub record IsSoundUnder (p : Program) (w : Schedule) : Type 0 where
+  pub legal : Legal p w
+  pub sound : IsSoundRun p w
+  pub witness : ShowsFirstRace p w
 
 -- ---- files that were not read
 
@@ -140,7 +168,8 @@ AsksForSchedule file = (p : Program) × (program_in file ≡ Ok p) × (faults_of
 abbrev pub LacksFile : Contents → Option Command → Type 0
 LacksFile files command =
     ((program : List ℕ) × NamesProgram command program × (files program ≡ None))
-    ⊎ ((program : List ℕ) × (schedule : List ℕ) × (command ≡ Some (Run program schedule)) × (files schedule ≡ None))
+    ⊎ ((format : Format) × (program : List ℕ) × (schedule : List ℕ)
+    × (command ≡ Some (Run format program schedule)) × (files schedule ≡ None))
 
 -- Why a file was not read: a failure, which is counted, or where the files tell what they hold, that it isn't there.
 abbrev pub IsUnreadBecause : Type 0 → Option Contents → Option Command → Type 0

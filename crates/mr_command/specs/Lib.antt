@@ -1,5 +1,6 @@
 pub mod Answer
 pub mod Answering
+pub mod Apart
 pub mod Command
 pub mod Form
 pub mod Headline

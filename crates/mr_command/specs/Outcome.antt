@@ -7,7 +7,7 @@ use Rattle.mr_io.specs.Files.{Contents}
 use Rattle.mr_wf.specs.Walk.{faults_of}
 use Rattle.mr_command.specs.declared.refusal.Refusal.{Refusal}
 use Rattle.mr_command.specs.declared.refusal.Refusal.TheVariants as refusal
-use Rattle.mr_command.specs.Command.{Command, Run, Check}
+use Rattle.mr_command.specs.Command.{Auto, Big, Check, Command, Run}
 use Rattle.mr_command.specs.Answer.{Answer, program_in, refused, answer_of, usage}
 
 -- What a function returned is what is defined, unless memory ran out.
@@ -23,10 +23,12 @@ Gives (Err (refusal.Schedule at code earlier)) defined = defined ≡ Err (refusa
 -- rule.
 abbrev pub IsUnread : Contents → Option Command → Answer → Type 0
 IsUnread files None a = ⊥
-IsUnread files (Some (Run program schedule)) a =
+IsUnread files (Some (Run format program schedule)) a =
     (a ≡ refused refusal.ReadProgram)
     ⊎ ((p : Program) × (program_in (files program) ≡ Ok p) × (faults_of p ≡ []) × (a ≡ refused refusal.ReadSchedule))
 IsUnread files (Some (Check program)) a = a ≡ refused refusal.ReadProgram
+IsUnread files (Some (Auto program number most)) a = a ≡ refused refusal.ReadProgram
+IsUnread files (Some (Big number)) a = ⊥
 
 -- the answer by definition, or that of a read that failed where the count of faults of the files rose
 abbrev pub IsPossible : Contents → Option Command → Type 0 → Answer → Type 0
@@ -62,8 +64,10 @@ holding program schedule name =
 
 -- the same command over these files
 abbrev pub over_holding : Command → Command
-over_holding (Run program schedule) = Run (codes "program") (codes "schedule")
+over_holding (Run format program schedule) = Run format (codes "program") (codes "schedule")
 over_holding (Check program) = Check (codes "program")
+over_holding (Auto program number most) = Auto (codes "program") number most
+over_holding (Big number) = Big number
 
 -- How a call ends over files that don't tell what they hold: there are texts of the named files of which it ends as
 -- defined.

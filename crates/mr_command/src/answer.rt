@@ -4,19 +4,21 @@ ghost use Rattle.mr_io.specs.Counts.{Rose};
 ghost use Rattle.mr_io.specs.Files.{Contents};
 ghost use Rattle.mr_ast.specs.Shaped.{Shaped};
 ghost use Rattle.mr_wf.specs.Walk.{faults_of};
-ghost use Rattle.mr_command.specs.Answer.{canonical, check_answer, form_answer, report_under, run_report};
-ghost use Rattle.mr_command.specs.Answering.{IsAnswered, IsAnsweredOverTexts, IsChecked, IsFormOrReport, IsReported, IsRunOverText, IsStatus, Tells, TellsOrUnread};
-ghost use Rattle.mr_command.specs.Command.{asked, named_files, Check, NamesProgram, Run};
+ghost use Rattle.mr_command.specs.Answer.{auto_answer, big_answer, canonical, check_answer, form_answer, report_under, run_report};
+ghost use Rattle.mr_command.specs.Answering.{IsAnswered, IsAnsweredOverTexts, IsFormOrReport, IsReported, IsRunOverText, IsSaid, IsStatus, Tells, TellsOrUnread};
+ghost use Rattle.mr_command.specs.Command.{asked, named_files, Auto, Check, IsBounded, NamesProgram, Run};
 ghost use Rattle.mr_command.specs.Headline.{AsksForSchedule};
 ghost use Rattle.mr_command.specs.Outcome.{IsUnreadFault};
 
-use crate::command::Command;
+use crate::command::{Command, Format};
+use crate::drawn::{drawn, summary};
 use crate::form::form_line;
 use crate::input::{read_program, read_schedule};
 use crate::refusal::Refusal;
 use crate::report::report;
 use crate::run::run;
 use mr_ast::Program;
+use mr_gen::program;
 use mr_io::Files;
 use mr_sched::Schedule;
 use mr_wf::{Checked, FormFault, WfFault, well_formed};
@@ -35,6 +37,7 @@ pub fn answer<F: Files>(
     files: &mut F,
     command: Command<'_>,
 ) -> Result<Written, Refusal>
+    requires { IsBounded (asked command) }
     ensures same { F.told files.new ≡ F.told files.old }
     ensures reads { F.reads files.new ≤ F.reads files.old + named_files (Some (asked command.entry)) }
     ensures once { (contents : Contents) (program : List ℕ) → F.told files.old ≡ Some contents
@@ -51,8 +54,18 @@ pub fn answer<F: Files>(
         → Rose (F.faults files.old) (F.faults files.new) }
 {
     match command {
-        Command::Run { program, schedule } => report_files(alloc, files, program, schedule),
+        Command::Run {
+            format,
+            program,
+            schedule,
+        } => report_files(alloc, files, format, program, schedule),
         Command::Check { program } => canonical_file(alloc, files, program),
+        Command::Auto {
+            program,
+            number,
+            most,
+        } => drawn_file(alloc, files, program, number, most),
+        Command::Big { number } => big(alloc, number),
     }
 }
 
@@ -60,6 +73,7 @@ pub fn answer<F: Files>(
 fn report_files<F: Files>(
     alloc: Global,
     files: &mut F,
+    format: Format,
     program: &str,
     schedule: &str,
 ) -> Result<Written, Refusal>
@@ -70,23 +84,25 @@ fn report_files<F: Files>(
     ensures first { result ≡ Err Refusal.ReadProgram → F.reads files.new ≤ F.reads files.old + 1 }
     ensures faults { F.faults files.old ≤ F.faults files.new }
     ensures answer { (contents : Contents) → F.told files.old ≡ Some contents
-        → IsReported contents program.now schedule.now (Rose (F.faults files.old) (F.faults files.new)) result }
+        → IsReported contents format program.now schedule.now (Rose (F.faults files.old) (F.faults files.new)) result }
     ensures status { IfOk result (λ a. IsStatus a.status) }
     ensures texts { F.told files.old ≡ None
-        → IsAnsweredOverTexts (Run program.now schedule.now) (Rose (F.faults files.old) (F.faults files.new)) result }
+        → IsAnsweredOverTexts (Run format program.now schedule.now) (Rose (F.faults files.old) (F.faults files.new)) result }
     ensures untold { F.told files.old ≡ None → IsUnreadFault result
         → Rose (F.faults files.old) (F.faults files.new) }
 {
     match read_program(alloc, files, program) {
-        Ok(p) => report_program(alloc, files, p, schedule),
+        Ok(p) => report_program(alloc, files, format, p, schedule),
         Err(refusal) => Err(refusal),
     }
 }
 
 // The report of the run of a program that breaks no rule under the schedule in a file, and else the line of the first rule that it breaks.
+#[tactic(auto, using(crate::proofs::AnswerLaws::broken_told))]
 fn report_program<F: Files>(
     alloc: Global,
     files: &mut F,
+    format: Format,
     p: Program,
     schedule: &str,
 ) -> Result<Written, Refusal>
@@ -97,15 +113,15 @@ fn report_program<F: Files>(
     ensures second { ¬ result ≡ Err Refusal.ReadProgram }
     ensures faults { F.faults files.old ≤ F.faults files.new }
     ensures answer { (contents : Contents) → F.told files.old ≡ Some contents
-        → IsFormOrReport (Rose (F.faults files.old) (F.faults files.new))
+        → IsFormOrReport (Rose (F.faults files.old) (F.faults files.new)) format
         (contents schedule.now) p result }
     ensures status { IfOk result (λ a. IsStatus a.status) }
-    ensures texts { F.told files.old ≡ None → IsRunOverText (Rose (F.faults files.old) (F.faults files.new)) p result }
+    ensures texts { F.told files.old ≡ None → IsRunOverText (Rose (F.faults files.old) (F.faults files.new)) format p result }
     ensures untold { F.told files.old ≡ None → IsUnreadFault result
         → Rose (F.faults files.old) (F.faults files.new) }
 {
     match well_formed(alloc, p) {
-        Ok(checked) => report_schedule(alloc, files, &checked, schedule),
+        Ok(checked) => report_schedule(alloc, files, format, &checked, schedule),
         Err(WfFault::Form { fault, program }) => broken_rule(alloc, &program, fault),
         Err(WfFault::Memory) => Err(Refusal::Memory),
     }
@@ -115,6 +131,7 @@ fn report_program<F: Files>(
 fn report_schedule<F: Files>(
     alloc: Global,
     files: &mut F,
+    format: Format,
     p: &Checked,
     schedule: &str,
 ) -> Result<Written, Refusal>
@@ -124,28 +141,28 @@ fn report_schedule<F: Files>(
     ensures faults { F.faults files.old ≤ F.faults files.new }
     ensures answer { (contents : Contents) → F.told files.old ≡ Some contents
         → TellsOrUnread (Rose (F.faults files.old) (F.faults files.new))
-        (report_under (contents schedule.now) p.now) result }
+        (report_under format (contents schedule.now) p.now) result }
     ensures status { IfOk result (λ a. IsStatus a.status) }
     ensures texts { F.told files.old ≡ None → (text : List ℕ)
-        × TellsOrUnread (Rose (F.faults files.old) (F.faults files.new)) (report_under (Some text) p.now) result }
+        × TellsOrUnread (Rose (F.faults files.old) (F.faults files.new)) (report_under format (Some text) p.now) result }
     ensures untold { F.told files.old ≡ None → IsUnreadFault result
         → Rose (F.faults files.old) (F.faults files.new) }
 {
     match read_schedule(alloc, files, schedule) {
-        Ok(w) => report_run(alloc, p, &w),
+        Ok(w) => report_run(alloc, format, p, &w),
         Err(refusal) => Err(refusal),
     }
 }
 
 // The report of the run of a program under a schedule.
-fn report_run(alloc: Global, p: &Checked, w: &Schedule) -> Result<Written, Refusal>
+fn report_run(alloc: Global, format: Format, p: &Checked, w: &Schedule) -> Result<Written, Refusal>
     requires { length w.now.entries ≤ 2 ^ 20 }
-    ensures answer { Tells (run_report p.now w.now) result }
+    ensures answer { Tells (run_report format p.now w.now) result }
     ensures status { IfOk result (λ a. IsStatus a.status) }
     ensures read { ¬ IsUnreadFault result }
 {
     match run(alloc, p, w) {
-        Ok(finished) => Ok(report(alloc, &finished, w)?),
+        Ok(finished) => Ok(report(alloc, format, &finished, w)?),
         Err(refusal) => Err(refusal),
     }
 }
@@ -156,7 +173,7 @@ fn canonical_file<F: Files>(alloc: Global, files: &mut F, program: &str) -> Resu
     ensures reads { F.reads files.new ≤ F.reads files.old + 1 }
     ensures faults { F.faults files.old ≤ F.faults files.new }
     ensures answer { (contents : Contents) → F.told files.old ≡ Some contents
-        → IsChecked contents program.now (Rose (F.faults files.old) (F.faults files.new)) result }
+        → IsSaid check_answer contents program.now (Rose (F.faults files.old) (F.faults files.new)) result }
     ensures status { IfOk result (λ a. IsStatus a.status) }
     ensures texts { F.told files.old ≡ None
         → IsAnsweredOverTexts (Check program.now) (Rose (F.faults files.old) (F.faults files.new)) result }
@@ -166,6 +183,61 @@ fn canonical_file<F: Files>(alloc: Global, files: &mut F, program: &str) -> Resu
     match read_program(alloc, files, program) {
         Ok(p) => check(alloc, p),
         Err(refusal) => Err(refusal),
+    }
+}
+
+// The schedule that is drawn for the program in a file, and the report of the run under it.
+fn drawn_file<F: Files>(
+    alloc: Global,
+    files: &mut F,
+    program: &str,
+    number: u64,
+    most: u32,
+) -> Result<Written, Refusal>
+    requires { most ≤ 2 ^ 20 }
+    ensures same { F.told files.new ≡ F.told files.old }
+    ensures reads { F.reads files.new ≤ F.reads files.old + 1 }
+    ensures faults { F.faults files.old ≤ F.faults files.new }
+    ensures answer { (contents : Contents) → F.told files.old ≡ Some contents
+        → IsSaid (auto_answer number most) contents program.now (Rose (F.faults files.old) (F.faults files.new)) result }
+    ensures status { IfOk result (λ a. IsStatus a.status) }
+    ensures texts { F.told files.old ≡ None
+        → IsAnsweredOverTexts (Auto program.now number most) (Rose (F.faults files.old) (F.faults files.new)) result }
+    ensures untold { F.told files.old ≡ None → IsUnreadFault result
+        → Rose (F.faults files.old) (F.faults files.new) }
+{
+    match read_program(alloc, files, program) {
+        Ok(p) => draw_for(alloc, p, number, most),
+        Err(refusal) => Err(refusal),
+    }
+}
+
+// The schedule that is drawn for a program that breaks no rule, and else the line of the first rule that it breaks.
+fn draw_for(alloc: Global, p: Program, number: u64, most: u32) -> Result<Written, Refusal>
+    requires shaped { Shaped p }
+    requires few { most ≤ 2 ^ 20 }
+    ensures answer { Tells (auto_answer number most p) result }
+    ensures status { IfOk result (λ a. IsStatus a.status) }
+    ensures read { ¬ IsUnreadFault result }
+{
+    match well_formed(alloc, p) {
+        Ok(checked) => Ok(drawn(alloc, &checked, number, most)?),
+        Err(WfFault::Form { fault, program }) => broken_rule(alloc, &program, fault),
+        Err(WfFault::Memory) => Err(Refusal::Memory),
+    }
+}
+
+// The summary of a run of the program of a number.
+fn big(alloc: Global, number: u64) -> Result<Written, Refusal>
+    ensures answer { Tells (big_answer number) result }
+    ensures status { IfOk result (λ a. IsStatus a.status) }
+    ensures read { ¬ IsUnreadFault result }
+{
+    let p = program(alloc, number)?;
+    match well_formed(alloc, p) {
+        Ok(checked) => Ok(summary(alloc, &checked, number)?),
+        Err(WfFault::Form { .. }) => unreachable!(),
+        Err(WfFault::Memory) => Err(Refusal::Memory),
     }
 }
 

@@ -1,31 +1,116 @@
 //! The commands, and the words that ask for them.
-ghost use Rattle.std.specs.Prelude.{◌≡◌, map, string_bytes};
+ghost use Rattle.std.specs.Prelude.{◌≡◌, ◌+◌, ◌^◌, [], ◌∷◌, map, string_bytes};
 ghost use Rattle.std.specs.Option.{option_map};
-ghost use Rattle.mr_command.specs.Command.{asked, command_of};
+ghost use Rattle.mr_command.specs.Command.{asked, auto_of, command_of, format_of, number_below, run_of};
+
+use mr_words::number_of;
+
+/// How a report is written.
+#[derive(Clone, Copy, Debug, PartialEq, Eq)]
+pub enum Format {
+    /// Line by line.
+    Text,
+    /// As one JSON object.
+    Json,
+}
 
 /// What is asked for, with the names of files.
 #[derive(Clone, Copy, Debug)]
 pub enum Command<'a> {
-    /// A run of a program under a schedule.
-    Run { program: &'a str, schedule: &'a str },
+    /// A run of a program under a schedule, and how its report is written.
+    Run {
+        format: Format,
+        program: &'a str,
+        schedule: &'a str,
+    },
     /// The canonical text of a program.
-    Check { program: &'a str },
+    Check {
+        program: &'a str,
+    },
+    /// A schedule that is drawn from a number for a program, with at most so many entries, and its report.
+    Auto {
+        program: &'a str,
+        number: u64,
+        most: u32,
+    },
+    /// The summary of a run of the program of a number.
+    Big {
+        number: u64,
+    },
 }
 
-/// The command of these words. There are two forms, `run P S` and `check P`.
+// The format of the report that a word asks for.
+fn format_of(word: &str) -> Option<Format>
+    ensures { result ≡ format_of word.now }
+{
+    match word {
+        "run" => Some(Format::Text),
+        "json" => Some(Format::Json),
+        _ => None,
+    }
+}
+
+// A number in decimal, which is below a limit.
+fn number_below(word: &str, limit: u128) -> Option<u128>
+    ensures { result ≡ number_below limit word.now }
+{
+    let number = number_of(word.as_bytes())?;
+    if number < limit { Some(number) } else { None }
+}
+
+// `run P S` and `json P S`.
+fn run_of<'a>(word: &str, program: &'a str, schedule: &'a str) -> Option<Command<'a>>
+    ensures { option_map asked result ≡ run_of (format_of word.now) program.now schedule.now }
+{
+    let format = format_of(word)?;
+    Some(Command::Run {
+        format,
+        program,
+        schedule,
+    })
+}
+
+// `auto P N M`.
+fn auto_of<'a>(program: &'a str, number: &str, most: &str) -> Option<Command<'a>>
+    ensures { option_map asked result ≡ auto_of program.now (number_below (2 ^ 64) number.now) (number_below (2 ^ 20 + 1) most.now) }
+{
+    let number = number_below(number, 1 << 64)?;
+    let most = number_below(most, (1 << 20) + 1)?;
+    Some(Command::Auto {
+        program,
+        number: number as u64,
+        most: most as u32,
+    })
+}
+
+// `check P` and `big N`.
+fn short_of<'a>(word: &str, name: &'a str) -> Option<Command<'a>>
+    ensures { option_map asked result ≡ command_of (word.now ∷ name.now ∷ []) }
+{
+    match word {
+        "check" => Some(Command::Check { program: name }),
+        "big" => {
+            let number = number_below(name, 1 << 64)?;
+            Some(Command::Big {
+                number: number as u64,
+            })
+        }
+        _ => None,
+    }
+}
+
+/// The command of these words. There are five forms: `run P S`, `json P S`, `check P`, `auto P N M` and `big N`.
 pub fn command_of(words: &[String]) -> Option<Command<'_>>
     ensures { option_map asked result ≡ command_of (map string_bytes words.now) }
 {
-    if words.len() == 3 && words[0].as_str() == "run" {
-        Some(Command::Run {
-            program: words[1].as_str(),
-            schedule: words[2].as_str(),
-        })
-    } else if words.len() == 2 && words[0].as_str() == "check" {
-        Some(Command::Check {
-            program: words[1].as_str(),
-        })
-    } else {
-        None
+    match words.len() {
+        2 => short_of(words[0].as_str(), words[1].as_str()),
+        3 => run_of(words[0].as_str(), words[1].as_str(), words[2].as_str()),
+        4 if words[0].as_str() == "auto" => auto_of(
+            words[1].as_str(),
+            words[2].as_str(),
+            words[3].as_str(),
+        ),
+        _ => None,
     }
 }

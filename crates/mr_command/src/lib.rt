@@ -1,4 +1,7 @@
 //! `mirace run P S`: what the machine comes to that runs the program in file P under the recorded schedule in file S.
+//! `mirace json P S`: the same report as JSON.
+//! `mirace auto P N M`: a schedule that is drawn from number N with at most M entries, and the report of that run.
+//! `mirace big N`: a summary of such a run of the program of number N.
 //! `mirace check P`: the canonical text of the program in file P, where it is well-formed.
 //!
 //! Where the text denotes no program, both write the first fault of it: its line, its column, a code and a name. Of a program
@@ -19,17 +22,22 @@ ghost use Rattle.mr_lex.specs.declared.token.TextFault.{TextFault};
 ghost use Rattle.mr_sched.specs.declared.schedule.Schedule.{Schedule as Recorded};
 ghost use Rattle.mr_start.specs.Start.{PlacedFault};
 ghost use Rattle.mr_wf.specs.declared.fault.FormFault.{FormFault};
-ghost use Rattle.mr_command.specs.Answer.{canonical, form_answer, refused, text_refusal, usage};
-ghost use Rattle.mr_command.specs.Command.{asked, command_of, named_files, Check, NamesProgram, Run};
-ghost use Rattle.mr_command.specs.Headline.{AsksForSchedule, ChecksProgram, IsOfMachine, IsTold, IsUnreadBecause, Names, NamesBroken, NamesBrokenSchedule, NamesFault, NamesScheduleFault, ReportsLegalRun, WritesCanonical};
-ghost use Rattle.mr_command.specs.Outcome.{Ends, EndsOverTexts, IsWritten};
+ghost use Rattle.mr_auto.specs.Drawing.{drawn_schedule};
+ghost use Rattle.mr_gen.specs.Generated.{generated};
+ghost use Rattle.mr_command.specs.Answer.{big_answer, big_schedule, canonical, drawn_answer, form_answer, refused, text_refusal, usage};
+ghost use Rattle.mr_command.specs.declared.command.Format.{Format};
+ghost use Rattle.mr_command.specs.Command.{asked, command_of, named_files, Auto, Big, Check, IsBounded, NamesProgram, Run};
+ghost use Rattle.mr_command.specs.Headline.{AsksForSchedule, ChecksProgram, DrawsFor, IsOfMachine, IsSoundUnder, IsTold, IsUnreadBecause, Names, NamesBroken, NamesBrokenSchedule, NamesFault, NamesScheduleFault, ReportsLegalRun, WritesCanonical, WritesDrawn};
+ghost use Rattle.mr_command.specs.Outcome.{Ends, EndsOverTexts, IsLeft, IsWritten};
 ghost use Rattle.mr_command.specs.Report.{refusal_text};
 ghost use Rattle.mr_command.specs.declared.refusal.Refusal.TheVariants.{ReadProgram, Schedule};
 
 mod answer;
 mod command;
+mod drawn;
 mod form;
 mod input;
+mod races;
 mod refusal;
 mod report;
 mod run;
@@ -58,22 +66,44 @@ pub fn mirace<F: Files, O: Sink>(alloc: Global, words: &[String], files: &mut F,
         (Rose (O.faults out.old) (O.faults out.new)) (O.taken out.old) (O.taken out.new) result }
 
     // The headline.
-    ensures headline { (contents : Contents) (p : Program) (w : Recorded) → F.told files.old ≡ Some contents
-        → Names contents (command_of (map string_bytes words.now)) p w
-        → IsOfMachine p w (Rose (F.faults files.old) (F.faults files.new))
+    ensures headline { (contents : Contents) (format : Format) (p : Program) (w : Recorded) → F.told files.old ≡ Some contents
+        → Names contents (command_of (map string_bytes words.now)) format p w
+        → IsOfMachine format p w (Rose (F.faults files.old) (F.faults files.new))
         (Rose (O.faults out.old) (O.faults out.new)) (O.taken out.old) (O.taken out.new) result }
-    ensures complete { (contents : Contents) (p : Program) (w : Recorded) → F.told files.old ≡ Some contents
-        → Names contents (command_of (map string_bytes words.now)) p w
+    ensures complete { (contents : Contents) (format : Format) (p : Program) (w : Recorded) → F.told files.old ≡ Some contents
+        → Names contents (command_of (map string_bytes words.now)) format p w
         → ¬ Rose (F.faults files.old) (F.faults files.new) → ¬ Rose (O.faults out.old) (O.faults out.new)
         → (result ≤ 1) ⊎ (result ≡ 8) }
 
     // 0 and 1 are answered to nothing else: where a run is reported, the files denote a well-formed program and a legal schedule.
-    ensures only_legal { (contents : Contents) (program schedule : List ℕ) → F.told files.old ≡ Some contents
-        → command_of (map string_bytes words.now) ≡ Some (Run program schedule) → result ≤ 1
-        → ReportsLegalRun contents (command_of (map string_bytes words.now)) (O.taken out.old) (O.taken out.new) result }
+    ensures only_legal { (contents : Contents) (format : Format) (program schedule : List ℕ) → F.told files.old ≡ Some contents
+        → command_of (map string_bytes words.now) ≡ Some (Run format program schedule) → result ≤ 1
+        → ReportsLegalRun contents (command_of (map string_bytes words.now)) format (O.taken out.old) (O.taken out.new) result }
     ensures only_sound { (contents : Contents) (program : List ℕ) → F.told files.old ≡ Some contents
         → command_of (map string_bytes words.now) ≡ Some (Check program) → result ≤ 1
         → WritesCanonical contents (command_of (map string_bytes words.now)) (O.taken out.old) (O.taken out.new) result }
+    ensures only_drawn { (contents : Contents) (program : List ℕ) (number most : ℕ) → F.told files.old ≡ Some contents
+        → command_of (map string_bytes words.now) ≡ Some (Auto program number most) → result ≤ 1
+        → WritesDrawn contents (command_of (map string_bytes words.now)) number most (O.taken out.old) (O.taken out.new) result }
+
+    // A schedule is drawn for a well-formed program: it is legal, and its text and its report are written.
+    ensures drawn { (contents : Contents) (number most : ℕ) (p : Program) → F.told files.old ≡ Some contents
+        → DrawsFor contents (command_of (map string_bytes words.now)) number most p
+        → IsSoundUnder p (drawn_schedule p number most)
+        × IsTold (drawn_answer p (drawn_schedule p number most)) (Rose (F.faults files.old) (F.faults files.new))
+        (Rose (O.faults out.old) (O.faults out.new)) (O.taken out.old) (O.taken out.new) result }
+    ensures draws { (contents : Contents) (number most : ℕ) (p : Program) → F.told files.old ≡ Some contents
+        → DrawsFor contents (command_of (map string_bytes words.now)) number most p
+        → ¬ Rose (F.faults files.old) (F.faults files.new) → ¬ Rose (O.faults out.old) (O.faults out.new)
+        → (result ≤ 1) ⊎ (result ≡ 8) }
+
+    // So is one for the program of a number, whatever the files are; its summary is written.
+    ensures big { (number : ℕ) → command_of (map string_bytes words.now) ≡ Some (Big number)
+        → IsSoundUnder (generated number) (big_schedule number)
+        × (IsLeft (O.taken out.old) (O.taken out.new) result
+        ⊎ IsWritten (big_answer number) (Rose (O.faults out.old) (O.faults out.new)) (O.taken out.old) (O.taken out.new) result) }
+    ensures grows { (number : ℕ) → command_of (map string_bytes words.now) ≡ Some (Big number)
+        → ¬ Rose (O.faults out.old) (O.faults out.new) → (result ≤ 1) ⊎ (result ≡ 8) }
 
     // A program's text is answered by what it denotes or breaks, and a program by the first rule that it breaks.
     ensures canonical { (contents : Contents) (p : Program) → F.told files.old ≡ Some contents
@@ -125,6 +155,7 @@ pub fn mirace<F: Files, O: Sink>(alloc: Global, words: &[String], files: &mut F,
 
 // Does what a command asks for.
 fn obey<F: Files, O: Sink>(alloc: Global, files: &mut F, out: &mut O, command: Command<'_>) -> u8
+    requires { IsBounded (asked command) }
     ensures ends { (contents : Contents) → F.told files.old ≡ Some contents
         → Ends contents (Some (asked command.entry)) (Rose (F.faults files.old) (F.faults files.new))
         (Rose (O.faults out.old) (O.faults out.new)) (O.taken out.old) (O.taken out.new) result }

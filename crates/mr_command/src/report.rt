@@ -1,18 +1,20 @@
 //! The report of a run: its text, and the exit status.
-ghost use Rattle.std.specs.Prelude.{◌≡◌, ◌≤◌, ◌<◌, ◌==◌, IfOk, Some, length, map, slice_get};
-ghost use Rattle.std.specs.List.{list_all};
+ghost use Rattle.std.specs.Prelude.{◌≡◌, ◌≤◌, ◌<◌, IfOk, Some, length, map, option_copied, slice_get};
 ghost use Rattle.mr_event.specs.Predicted.{predicted};
 ghost use Rattle.mr_plan.specs.Runs.{Printed};
-ghost use Rattle.mr_command.specs.Answer.{reported, witness_for};
+ghost use Rattle.mr_command.specs.Answer.{briefly, reported, witness_for};
 ghost use Rattle.mr_command.specs.Answering.{IsStatus, seen};
-ghost use Rattle.mr_command.specs.Report.{line_of, report_of, report_status, verdict_status};
+ghost use Rattle.mr_command.specs.Report.{line_of, report_of, report_status, verdict_status, written_as};
+ghost use Rattle.mr_report.specs.Json.{ArePrinted};
 ghost use Rattle.mr_command.specs.Running.{ran_by};
 
 use crate::answer::Written;
+use crate::command::Format;
+use crate::races::races_of;
 use crate::run::Finished;
 use mr_base::Verdict;
-use mr_event::{Footprint, Pair, predicted_plain};
-use mr_report::{Line, Report, text};
+use mr_event::{Footprint, Pair};
+use mr_report::{Line, Report, brief, json, text};
 use mr_sched::{Items, Schedule};
 use mr_step::Machine;
 use mr_witness::witness;
@@ -47,9 +49,15 @@ impl Told {
 }
 
 /// The report of a run under a schedule that was taken to its end.
-pub fn report(alloc: Global, finished: &Finished<'_>, w: &Schedule) -> Result<Written, AllocError>
-    requires { length finished.now.steps.items ≤ length w.now.entries }
-    ensures answer { IfOk result (λ a. seen a ≡ reported w.now (ran_by finished.now)) }
+pub fn report(
+    alloc: Global,
+    format: Format,
+    finished: &Finished<'_>,
+    w: &Schedule,
+) -> Result<Written, AllocError>
+    requires steps { length finished.now.steps.items ≤ length w.now.entries }
+    requires texts { ArePrinted (map line_of finished.now.machine.config.output) }
+    ensures answer { IfOk result (λ a. seen a ≡ reported format w.now (ran_by finished.now)) }
     ensures status { IfOk result (λ a. IsStatus a.status) }
 {
     let steps = finished.steps.as_slice();
@@ -61,12 +69,39 @@ pub fn report(alloc: Global, finished: &Finished<'_>, w: &Schedule) -> Result<Wr
         races,
         witness,
     };
-    let mut out = Vec::new(alloc);
-    text(alloc, &told.report(), &mut out)?;
     Ok(Written {
-        text: out,
+        text: text_of(alloc, format, &told.report())?,
         status: status_of(told.verdict, told.races.as_slice()),
     })
+}
+
+/// What a run printed, its verdict and how many races it shows.
+pub fn brief_report(alloc: Global, finished: &Finished<'_>) -> Result<Written, AllocError>
+    ensures answer { IfOk result (λ a. seen a ≡ briefly (ran_by finished.now)) }
+    ensures status { IfOk result (λ a. IsStatus a.status) }
+{
+    let races = races_of(alloc, finished.steps.as_slice())?;
+    let lines = lines_of(alloc, &finished.machine)?;
+    let verdict = finished.machine.verdict();
+    let mut out = Vec::new(alloc);
+    brief(lines.as_slice(), verdict, races.as_slice(), &mut out)?;
+    Ok(Written {
+        text: out,
+        status: status_of(verdict, races.as_slice()),
+    })
+}
+
+// The text of a report.
+fn text_of(alloc: Global, format: Format, report: &Report<'_>) -> Result<Vec<u8>, AllocError>
+    requires { ArePrinted report.now.output.now }
+    ensures { IfOk result (λ out. out.items ≡ written_as format report.now.output.now report.now.verdict report.now.races.now (option_copied report.now.witness)) }
+{
+    let mut out = Vec::new(alloc);
+    match format {
+        Format::Text => text(alloc, report, &mut out)?,
+        Format::Json => json(alloc, report, &mut out)?,
+    }
+    Ok(out)
 }
 
 // The exit status of a run that came to this.
@@ -131,21 +166,4 @@ fn line_at(alloc: Global, machine: &Machine<'_>, i: usize) -> Result<Line, Alloc
         }),
         None => unreachable!(),
     }
-}
-
-// Whether all steps are of thread 0.
-fn are_alone(steps: &[Footprint]) -> bool
-    ensures { result ≡ list_all (λ f. f.thread == 0) steps.now }
-{
-    steps.iter().all(|step| step.thread == 0)
-}
-
-// The races of a run. Where one thread took all steps there is none, so that they aren't compared.
-fn races_of(alloc: Global, steps: &[Footprint]) -> Result<Vec<Pair>, AllocError>
-    ensures { IfOk result (λ races. races.items ≡ predicted steps.now) }
-{
-    if are_alone(steps) {
-        return Ok(Vec::new(alloc));
-    }
-    predicted_plain(alloc, steps)
 }

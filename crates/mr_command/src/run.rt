@@ -1,14 +1,14 @@
 //! The run of a program under a schedule.
-ghost use Rattle.std.specs.Prelude.{◌≡◌, ℕ, ◌+◌, ◌++◌, ◌∷◌, [], ◌^◌, ◌<◌, ◌≤◌, false, if◌then◌else◌, length, IfOk, OnOk};
+ghost use Rattle.std.specs.Prelude.{◌≡◌, ◌+◌, ◌^◌, ◌<◌, ◌≤◌, false, length};
 ghost use Rattle.mr_command.specs.Running.{RunAnswer, EntriesAnswer, EntryAnswer, placed};
 
 use crate::refusal::Refusal;
-use mr_event::{AllocIds, Event, Footprint, ThreadIds};
+use mr_auto::advance;
+use mr_event::Footprint;
 use mr_sched::{Entry, Schedule};
 use mr_step::{Machine, StepFault};
-use mr_track::Accesses;
 use mr_wf::Checked;
-use std::alloc::{AllocError, Global};
+use std::alloc::Global;
 
 /// A run behind its last entry: the machine, and the footprints of the steps that completed.
 #[derive(Drop)]
@@ -53,20 +53,6 @@ fn run_entries(
     Ok(())
 }
 
-// Nothing done yet.
-fn no_footprint(alloc: Global) -> Footprint {
-    Footprint {
-        thread: 0,
-        accesses: Accesses::new(alloc),
-        allocated: AllocIds::new(alloc),
-        freed: AllocIds::new(alloc),
-        touched: AllocIds::new(alloc),
-        event: Event::Quiet,
-        ended: false,
-        woken: ThreadIds::new(alloc),
-    }
-}
-
 // The step of an entry on a line, whose footprint joins the others where it completed.
 fn step(
     alloc: Global,
@@ -79,25 +65,10 @@ fn step(
     requires completed { machine.old.config.completed < 2 ^ 32 }
     ensures { EntryAnswer entry.now line machine.old machine.new steps.old.items steps.new.items result }
 {
-    let mut foot = no_footprint(alloc);
-    let before = machine.completed();
-    match machine.step(entry, &mut foot) {
+    match advance(alloc, machine, entry, steps) {
+        Ok(()) => Ok(()),
         Err(fault) => Err(at_line(line, fault)),
-        Ok(_) => {
-            keep(steps, foot, machine.completed() != before)?;
-            Ok(())
-        }
     }
-}
-
-// A footprint joins the others, where its step completed.
-fn keep(steps: &mut Vec<Footprint>, foot: Footprint, completed: bool) -> Result<(), AllocError>
-    ensures { OnOk result (steps.new.items ≡ (if completed then steps.old.items ++ foot ∷ [] else steps.old.items)) }
-{
-    if completed {
-        steps.push(foot)?;
-    }
-    Ok(())
 }
 
 // The refusal of a schedule that breaks a rule at a line.

@@ -8,7 +8,7 @@ returns-in-Ok-clause-texts g c = λ untold.
     let schedule = c.report_program.ensures.texts (c.in-Ok.ensures.same ∙ untold) in (
       program.0,
       schedule.0,
-      run_over program.0 schedule.0 c.in-Ok.p _ _ c.report_program.result
+      run_over c.args.format program.0 schedule.0 c.in-Ok.p _ _ c.report_program.result
           (rose_in_all (g.F.Files.faults c.args.files.now) (g.F.Files.faults c.read_program.new.files) (g.F.Files.faults c.report_program.new.files)
           c.in-Ok.ensures.faults)
           (was_read c.in-Ok.p _ _ _ program.1) schedule.1,
@@ -16,4 +16,4 @@ returns-in-Ok-clause-texts g c = λ untold.
 
 pub returns-in-Err-clause-texts : goal.returns-in-Err-clause-texts
 returns-in-Err-clause-texts g c = λ untold.
-    let program = c.in-Err.ensures.texts untold in (program.0, [], unread_over program.0 c.in-Err.refusal _ program.1)
+    let program = c.in-Err.ensures.texts untold in (program.0, [], unread_over c.args.format program.0 c.in-Err.refusal _ program.1)

@@ -1,0 +1,80 @@
+-- The whole draw: its start line, and the run that the entries behind it are drawn in.
+use Rattle.std.proofs.Common.{◌≡◌, ℕ, ◌+◌, ◌<◌, ◌≤◌, ◌^◌, refl, sym, ap, ap₂, ◌∙◌, arith, List, [], ◌∷◌, map, Some, None}
+use Rattle.mr_ast.specs.declared.program.Program.{Program}
+use Rattle.mr_base.specs.declared.thread.Status.TheVariants.{Enabled}
+use Rattle.mr_event.specs.declared.footprint.Footprint.{Footprint}
+use Rattle.mr_plan.specs.Legal.{Fault}
+use Rattle.mr_plan.specs.Runs.{after, feet}
+use Rattle.mr_sched.specs.Chooser.{first_chooser}
+use Rattle.mr_sched.specs.declared.chooser.Chooser.{Chooser}
+use Rattle.mr_sched.specs.declared.schedule.Ask.{Ask}
+use Rattle.mr_sched.specs.declared.schedule.Entry.{Entry}
+use Rattle.mr_sched.specs.declared.schedule.Schedule.{Schedule}
+use Rattle.mr_thread.specs.Steps.{thread_step}
+use Rattle.mr_wf.specs.Walk.{WellFormed}
+use Rattle.mr_start.specs.Start.{Piece, ask_of, look_of, pieces, run_of, start_config, start_fault, steps_of}
+use Rattle.mr_start.proofs.StartSound.{start_look, start_sound}
+use Rattle.mr_step.specs.Answers.{standing}
+use Rattle.mr_step.specs.Standing.{Standing}
+use Rattle.mr_auto.specs.Answers.{AreAddresses, IsRunOf}
+use Rattle.mr_auto.specs.Drawing.{Picked, drawn_schedule, picked, schedule_from, start_picked}
+use Rattle.mr_auto.specs.Drawn.{BeginsDrawing, DrawnAfter}
+use Rattle.mr_auto.proofs.StartFound.{start_found}
+use Rattle.mr_auto.proofs.Starts.{start_legal, start_lies}
+
+abbrev pub with_entries : List ℕ → List Entry → Schedule
+with_entries start entries = record { start = start; entries = entries }
+
+abbrev pub picks_of : List ℕ → Chooser → Picked
+picks_of picks chooser = record { picks = picks; chooser = chooser }
+
+-- each piece of the start asks for an address
+pub are_addresses : (ps : List Piece) → AreAddresses (map ask_of ps)
+are_addresses [] = tt
+are_addresses (p ∷ ps) = are_addresses ps
+
+module _ (p : Program) (number : ℕ) where
+  -- what is picked for them is what the definition picks
+  pub start_is : (asks : List Ask) (c : Chooser) → asks ≡ map ask_of (pieces p) → c ≡ first_chooser number → picked (Enabled ∷ []) c asks ≡ start_picked p number
+  start_is asks c are first = ap₂ (picked (Enabled ∷ [])) first are
+
+  -- there are picks for a well-formed program
+  pub start_there : WellFormed p → start_picked p number ≡ None → ⊥
+  start_there well none = let (r, e) = start_found p well number in absurd (cc)
+
+  module _ (r : Picked) (e : start_picked p number ≡ Some r) where
+    -- they break no rule
+    pub never_refused : (f : Fault) → start_fault p r.picks ≡ Some f → ⊥
+    never_refused f bad = let legal = start_legal p number r e in absurd (cc)
+
+    pub begins_drawing : WellFormed p → BeginsDrawing (standing p r.picks) r.chooser
+    unfolding look_of start_config
+    begins_drawing well =
+        let legal = start_legal p number r e in
+        record {
+          working = refl;
+          state = λ running. (_, refl);
+          look = start_look p well r.picks legal;
+          well = well;
+          sound = start_sound p well r.picks legal;
+          lies = start_lies p number r e;
+        }
+
+    pub completed_none : (most : ℕ) → most ≤ 2 ^ 20 → (standing p r.picks).config.completed + most < 2 ^ 32
+    unfolding start_config
+    completed_none most few = omega arith
+
+    module _ (most : ℕ) (new : Standing) (es : List Entry) (steps : List Footprint) (h : DrawnAfter most (standing p r.picks) r.chooser new [] es [] steps) where
+      -- the entries behind the start line are those of the definition
+      pub drawn_is : with_entries r.picks es ≡ drawn_schedule p number most
+      unfolding drawn_schedule
+      drawn_is = ap (with_entries r.picks) h.entries ∙ sym (ap (schedule_from p most) e)
+
+      -- and the machine is where the run under them ends
+      pub drawn_run : IsRunOf p (with_entries r.picks es) new steps
+      unfolding run_of steps_of
+      drawn_run = record {
+        working = h.working;
+        config = h.config ∙ ap (after (thread_step (look_of p r.picks)) (start_config p r.picks)) (sym h.entries);
+        are = h.joined ∙ ap (feet (thread_step (look_of p r.picks)) (start_config p r.picks)) (sym h.entries);
+      }

@@ -1,0 +1,11 @@
+pub mod Addresses
+pub mod Among
+pub mod Drawings
+pub mod DrawnSoFar
+pub mod LegalRuns
+pub mod Nexts
+pub mod Picks
+pub mod PicksLeft
+pub mod StartFound
+pub mod Starts
+pub mod Steps

@@ -1,0 +1,11 @@
+use Rattle.std.proofs.Common.{◌≡◌}
+use Rattle.std.specs.List.{filter, range_with_len}
+use Rattle.std.specs.Prelude.{Some, slice_get}
+use Rattle.mr_sync.specs.Tables.{on_lock}
+use Rattle.mr_plan.specs.Machine.{State}
+use Rattle.mr_thread.specs.Steps.{Own}
+use Rattle.mr_auto.proofs.candidates.waiting_threads.Given as goal
+
+abbrev pub invariant-loop-t : goal.invariant-loop-t
+invariant-loop-t l =
+    (s : State Own) → l.machine.config.state ≡ Some s → l.threads.items ≡ filter (λ t. on_lock l.lock (slice_get s.shared.statuses t)) (range_with_len 0 l.t)

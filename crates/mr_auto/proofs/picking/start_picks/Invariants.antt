@@ -1,0 +1,12 @@
+use Rattle.std.proofs.Common.{[], ◌∷◌, drop}
+use Rattle.mr_base.specs.declared.thread.Status.TheVariants.{Enabled}
+use Rattle.mr_auto.specs.Answers.{AreAddresses}
+use Rattle.mr_auto.proofs.PicksLeft.{PickedSo}
+use Rattle.mr_auto.proofs.picking.start_picks.Given as goal
+
+abbrev pub invariant-loop-ask : goal.invariant-loop-ask
+invariant-loop-ask l =
+    record {
+      so : PickedSo (Enabled ∷ []) l.initial.chooser l.asks l.picks l.chooser (drop l.ask-index l.asks);
+      left : AreAddresses (drop l.ask-index l.asks);
+    }

@@ -1,0 +1,137 @@
+//! The run that a schedule is drawn in.
+ghost use Rattle.std.specs.Prelude.{◌≡◌, ℕ, ◌+◌, ◌^◌, ◌<◌, ◌≤◌, false, IfOk, OnOk, Some, List};
+ghost use Rattle.mr_plan.specs.Machine.{State};
+ghost use Rattle.mr_plan.specs.Queries.{tables_of};
+ghost use Rattle.mr_sync.specs.Tables.{IsEnabled};
+ghost use Rattle.mr_thread.specs.Steps.{Own};
+ghost use Rattle.mr_wf.specs.Walk.{WellFormed};
+ghost use Rattle.mr_auto.specs.Answers.{HasState, IsRunOf, NextAnswer};
+ghost use Rattle.mr_auto.specs.Drawing.{drawn_schedule, entry_from, next_at};
+ghost use Rattle.mr_auto.specs.Drawn.{BeginsDrawing, DrawnAfter};
+
+use crate::candidates::enabled_threads;
+use crate::picking::{picks_for, start_picks};
+use crate::running::make_step;
+use mr_base::Verdict;
+use mr_event::Footprint;
+use mr_sched::{Chooser, Entry, Items, Schedule};
+use mr_start::start_asks;
+use mr_step::{Machine, StepFault};
+use mr_wf::Checked;
+use std::alloc::{AllocError, Global};
+
+/// A schedule that was drawn, the machine behind its last entry, and the footprints of the steps that completed.
+#[derive(Drop)]
+pub struct Drawn<'p> {
+    pub schedule: Schedule,
+    pub machine: Machine<'p>,
+    pub steps: Vec<Footprint>,
+}
+
+// The entry of a thread, where one is found: none where the step would create a thread or a lock too many, or where no address is left.
+fn entry_of(
+    alloc: Global,
+    machine: &Machine<'_>,
+    chooser: &mut Chooser,
+    thread: u32,
+) -> Result<Option<Entry>, AllocError>
+    requires working { machine.now.failed ≡ false }
+    requires enabled { (s : State Own) × (machine.now.config.state ≡ Some s) × IsEnabled thread (tables_of s.shared) }
+    ensures { IfOk result (λ entry. (s : State Own) → machine.now.config.state ≡ Some s → NextAnswer (entry_from machine.now.look s chooser.old thread) entry chooser.new) }
+{
+    let mut asks = Vec::new(alloc);
+    if machine.asks(thread, &mut asks)?.is_some() {
+        return Ok(None);
+    }
+    match picks_for(alloc, machine, chooser, asks.as_slice())? {
+        Some(picks) => Ok(Some(Entry { thread, picks })),
+        None => Ok(None),
+    }
+}
+
+// The next entry of a machine, where there is one.
+fn next_entry(
+    alloc: Global,
+    machine: &Machine<'_>,
+    chooser: &mut Chooser,
+) -> Result<Option<Entry>, AllocError>
+    requires working { machine.now.failed ≡ false }
+    requires state { HasState machine.now.config }
+    ensures { IfOk result (λ entry. NextAnswer (next_at machine.now.look machine.now.config chooser.old) entry chooser.new) }
+{
+    if !matches!(machine.verdict(), Verdict::Running) {
+        return Ok(None);
+    }
+    let threads = enabled_threads(alloc, machine)?;
+    if threads.is_empty() {
+        return Ok(None);
+    }
+    let thread = chooser.thread(threads.as_slice());
+    entry_of(alloc, machine, chooser, thread)
+}
+
+// Draws entries until there is none or there are so many, and makes their steps.
+fn draw_entries(
+    alloc: Global,
+    machine: &mut Machine<'_>,
+    chooser: &mut Chooser,
+    most: u32,
+    entries: &mut Items<Entry>,
+    steps: &mut Vec<Footprint>,
+) -> Result<(), AllocError>
+    requires begins { BeginsDrawing machine.old chooser.old }
+    requires completed { machine.old.config.completed + most < 2 ^ 32 }
+    ensures { OnOk result (DrawnAfter most machine.old chooser.old machine.new entries.old entries.new steps.old.items steps.new.items) }
+{
+    for i in 0..most {
+        match next_entry(alloc, machine, chooser)? {
+            Some(entry) => {
+                make_step(alloc, machine, &entry, steps)?;
+                entries.push(entry)?;
+            }
+            None => return Ok(()),
+        }
+    }
+    Ok(())
+}
+
+/// The schedule that is drawn from a number for a program, with at most so many entries, and the run under it. Want of memory is its only
+/// error.
+pub fn draw<'p>(
+    alloc: Global,
+    p: &'p Checked,
+    number: u64,
+    most: u32,
+) -> Result<Drawn<'p>, AllocError>
+    requires { most ≤ 2 ^ 20 }
+    ensures schedule { IfOk result (λ drawn. drawn.schedule ≡ drawn_schedule p.now number most) }
+    ensures run { IfOk result (λ drawn. IsRunOf p.now drawn.schedule drawn.machine drawn.steps.items) }
+{
+    // A checked program is well-formed, so that there is an address for all that its start asks for.
+    p.program();
+    let asks = start_asks(alloc, p)?;
+    let mut chooser = Chooser::new(number);
+    let Some(start) = start_picks(alloc, &mut chooser, asks.as_slice())? else {
+        unreachable!()
+    };
+    let mut machine = match Machine::start(alloc, p, start.as_slice()) {
+        Ok(machine) => machine,
+        Err(StepFault::BadEntry { .. }) => unreachable!(),
+        Err(StepFault::Memory | StepFault::Failed) => return Err(AllocError),
+    };
+    let mut entries = Items::new(alloc);
+    let mut steps = Vec::new(alloc);
+    draw_entries(
+        alloc,
+        &mut machine,
+        &mut chooser,
+        most,
+        &mut entries,
+        &mut steps,
+    )?;
+    Ok(Drawn {
+        schedule: Schedule { start, entries },
+        machine,
+        steps,
+    })
+}

@@ -1,0 +1,22 @@
+//! A schedule that is drawn from a number, and the run that it is drawn in.
+//!
+//! The number decides at each step which enabled thread goes on and which waiting thread gets a lock; the addresses rise from 65,536 on.
+//! `specs/Drawing.antt` defines the schedule over the machine of MiniRust: its start line, and entry by entry what the machine asks for.
+//!
+//! - [`draw`]: steps the machine of a program once, drawing each entry from a number, and hands out the schedule, the machine behind its
+//!   last entry, and the footprints of the steps that completed. Proved: the schedule is exactly the defined one, and machine and
+//!   footprints are those of the program's run under it; want of memory is its only error.
+//! - [`advance`]: one step of a machine, whose footprint joins those before it where it completed. Proved: exactly so, or the rule that the
+//!   entry breaks.
+//! - [`drawn_schedules_are_legal`], a law: of a well-formed program the drawn schedule is legal, so that it is read back as any other.
+#![tactic(auto)]
+
+mod candidates;
+mod drawing;
+mod laws;
+mod picking;
+mod running;
+
+pub use drawing::{Drawn, draw};
+pub use laws::drawn_schedules_are_legal;
+pub use running::advance;

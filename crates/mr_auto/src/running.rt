@@ -1,0 +1,75 @@
+//! One step of a machine, whose footprint is kept.
+ghost use Rattle.std.specs.Prelude.{◌≡◌, ◌++◌, ◌∷◌, ◌^◌, ◌<◌, false, if◌then◌else◌, OnOk, None, []};
+ghost use Rattle.mr_start.specs.Start.{program_fault};
+ghost use Rattle.mr_auto.specs.Answers.{AdvanceAnswer, Made};
+
+use mr_event::{AllocIds, Event, Footprint, ThreadIds};
+use mr_sched::Entry;
+use mr_step::{Machine, StepFault};
+use mr_track::Accesses;
+use std::alloc::{AllocError, Global};
+
+// Nothing done yet.
+fn no_footprint(alloc: Global) -> Footprint {
+    Footprint {
+        thread: 0,
+        accesses: Accesses::new(alloc),
+        allocated: AllocIds::new(alloc),
+        freed: AllocIds::new(alloc),
+        touched: AllocIds::new(alloc),
+        event: Event::Quiet,
+        ended: false,
+        woken: ThreadIds::new(alloc),
+    }
+}
+
+// A footprint joins the others, where its step completed.
+fn keep(steps: &mut Vec<Footprint>, foot: Footprint, completed: bool) -> Result<(), AllocError>
+    ensures { OnOk result (steps.new.items ≡ (if completed then steps.old.items ++ foot ∷ [] else steps.old.items)) }
+{
+    if completed {
+        steps.push(foot)?;
+    }
+    Ok(())
+}
+
+/// The step of an entry, whose footprint joins the others where it completed; or the rule that the entry breaks.
+pub fn advance(
+    alloc: Global,
+    machine: &mut Machine<'_>,
+    entry: &Entry,
+    steps: &mut Vec<Footprint>,
+) -> Result<(), StepFault>
+    requires working { machine.old.failed ≡ false }
+    requires completed { machine.old.config.completed < 2 ^ 32 }
+    ensures { AdvanceAnswer entry.now machine.old machine.new steps.old.items steps.new.items result }
+{
+    let mut foot = no_footprint(alloc);
+    let before = machine.completed();
+    match machine.step(entry, &mut foot) {
+        Err(fault) => Err(fault),
+        Ok(_) => {
+            keep(steps, foot, machine.completed() != before)?;
+            Ok(())
+        }
+    }
+}
+
+/// The step of an entry that breaks no rule.
+pub fn make_step(
+    alloc: Global,
+    machine: &mut Machine<'_>,
+    entry: &Entry,
+    steps: &mut Vec<Footprint>,
+) -> Result<(), AllocError>
+    requires working { machine.old.failed ≡ false }
+    requires completed { machine.old.config.completed < 2 ^ 32 }
+    requires legal { program_fault machine.old.look machine.old.config entry.now ≡ None }
+    ensures { OnOk result (Made entry.now machine.old machine.new steps.old.items steps.new.items) }
+{
+    match advance(alloc, machine, entry, steps) {
+        Ok(()) => Ok(()),
+        Err(StepFault::BadEntry { .. }) => unreachable!(),
+        Err(StepFault::Memory | StepFault::Failed) => Err(AllocError),
+    }
+}
