@@ -44,7 +44,7 @@ impl<'p> Model for Machine<'p> {
 }
 
 impl<'p> Machine<'p> {
-    ghost use Rattle.std.specs.Prelude.{◌≡◌, ℕ, ◌<◌, ◌^◌, IfOk, List, None, Some, false, length, slice_get};
+    ghost use Rattle.std.specs.Prelude.{◌≡◌, ℕ, ◌<◌, ◌^◌, IfOk, List, None, OnErr, Some, false, length, slice_get};
     ghost use Rattle.std.specs.Option.{option_map};
     ghost use Rattle.mr_sync.specs.Tables.{IsEnabled, is_enabled, waits};
     ghost use Rattle.mr_plan.specs.Machine.{State, needs};
@@ -171,13 +171,17 @@ impl<'p> Machine<'p> {
     }
 
     /// Appends to `out` what picks the next step of an enabled thread of a running machine asks for. The answer is 67 or 68 where the step
-    /// would create a thread or a lock, and there are as many as may be.
+    /// would create a thread or a lock, and there are as many as may be. An `Err` is for want of memory, and leaves `out` as it was.
     pub fn asks(&self, t: u32, out: &mut Vec<Ask>) -> Result<Option<u8>, AllocError>
         requires working { self.now.failed ≡ false }
         requires enabled { (s : State Own) × (self.now.config.state ≡ Some s) × IsEnabled t (tables_of s.shared) }
-        ensures { (s : State Own) → self.now.config.state ≡ Some s → AsksAnswer s.shared (needs (thread_step self.now.look) s t) out.old.items out.new.items result }
+        ensures asks { (s : State Own) → self.now.config.state ≡ Some s → AsksAnswer s.shared (needs (thread_step self.now.look) s t) out.old.items out.new.items result }
+        ensures err { OnErr result (out.new.items ≡ out.old.items) }
     {
         let look = self.setting.look();
-        asked(self.alloc, &look, &self.progress, t, out)
+        let mut found = Vec::new(self.alloc);
+        let code = asked(self.alloc, &look, &self.progress, t, &mut found)?;
+        out.extend_from_slice(found.as_slice())?;
+        Ok(code)
     }
 }

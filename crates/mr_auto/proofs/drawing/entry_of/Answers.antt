@@ -6,7 +6,7 @@ use Rattle.mr_auto.proofs.drawing.entry_of.Goals as goal
 
 pub returns-in-Some : goal.returns-in-Some
 returns-in-Some c = λ s here.
-    let told = c.in_ok-asks.ensures s here in
+    let told = c.in_ok-asks.ensures.asks s here in
     let asked = (needs (thread_step c.args.machine.now.look) s c.args.thread).asks in
     let free = no_limit _ c.in_ok-asks.field-0 told.1 (sym c.is_some.ensures ∙ c.if-is_some.false) in
     entry_found c.args.machine.now.look s c.args.chooser.now c.args.thread c.as_slice.result.now free
@@ -15,7 +15,7 @@ returns-in-Some c = λ s here.
 
 pub returns : goal.returns
 returns c = λ s here.
-    let told = c.in_ok-asks.ensures s here in
+    let told = c.in_ok-asks.ensures.asks s here in
     let asked = (needs (thread_step c.args.machine.now.look) s c.args.thread).asks in
     let free = no_limit _ c.in_ok-asks.field-0 told.1 (sym c.is_some.ensures ∙ c.if-is_some.false) in
     entry_missing c.args.machine.now.look s c.args.chooser.now c.args.thread c.as_slice.result.now free
