@@ -1,5 +1,5 @@
 //! Runs of bytes and views of them.
-ghost use Rattle.std.specs.Prelude.{◌≡◌, length};
+ghost use Rattle.std.specs.Prelude.{◌≡◌, length, OnOk};
 
 use crate::spelled::{SECOND, show};
 use mr_base::AbstractByte;
@@ -61,7 +61,7 @@ fn tell_four(alloc: Global, told: &mut String) -> Result<(), OutOfMemory> {
 
 const WANTED: &str = " 06@1.7 -- 05@1.7 06@1.7 -- 05@1.7
  05@1.7 06@1.7
-2 Some(Bytes([5], Some(AllocId { thread: 1, count: 7 }))) Some(Bytes([6], Some(AllocId { thread: 1, count: 7 }))) None
+2 Some(Bytes([5, 6], Some(AllocId { thread: 1, count: 7 }))) None None
 1 Some(Uninit(1)) None None
 0 None None None
  06@1.7 -- -- 06@1.7 -- --
@@ -72,5 +72,99 @@ fn bytes_are_written_and_viewed(rt: HostRuntime) -> Result<(), Fail> {
     let mut told = String::new(rt.alloc());
     tell_four(rt.alloc(), &mut told)?;
     assert_eq!(rt; told.as_str(), WANTED);
+    Ok(())
+}
+
+/// A change of eight bytes.
+#[derive(Clone, Copy)]
+enum Change {
+    One(u64, AbstractByte),
+    Two(u64, [AbstractByte; 2]),
+    Fill(u64),
+}
+
+// Changes, each after the one before, and the pieces of all bytes behind it.
+const CHANGES: [(Change, &str); 5] = [
+    (
+        Change::Two(
+            2,
+            [
+                AbstractByte::Init(1, Some(SECOND)),
+                AbstractByte::Init(2, Some(SECOND)),
+            ],
+        ),
+        " Uninit(2) Bytes([1, 2], Some(AllocId { thread: 1, count: 7 })) Uninit(4)",
+    ),
+    (
+        Change::One(4, AbstractByte::Init(3, Some(SECOND))),
+        " Uninit(2) Bytes([1, 2, 3], Some(AllocId { thread: 1, count: 7 })) Uninit(3)",
+    ),
+    (
+        Change::One(3, AbstractByte::Init(9, None)),
+        " Uninit(2) Bytes([1], Some(AllocId { thread: 1, count: 7 })) Bytes([9], None) Bytes([3], Some(AllocId { thread: 1, count: 7 })) Uninit(3)",
+    ),
+    (
+        Change::Fill(3),
+        " Uninit(2) Bytes([1], Some(AllocId { thread: 1, count: 7 })) Uninit(1) Bytes([3], Some(AllocId { thread: 1, count: 7 })) Uninit(3)",
+    ),
+    (
+        Change::One(3, AbstractByte::Init(2, Some(SECOND))),
+        " Uninit(2) Bytes([1, 2, 3], Some(AllocId { thread: 1, count: 7 })) Uninit(3)",
+    ),
+];
+
+fn make(runs: &mut Runs, change: Change) -> Result<(), OutOfMemory>
+    requires { length runs.old ≡ 8 }
+    ensures { OnOk result (length runs.new ≡ 8) }
+{
+    match change {
+        Change::One(from, byte) => runs.write(from % 8, &[byte]),
+        Change::Two(from, two) => runs.write(from % 7, two.as_slice()),
+        Change::Fill(from) => runs.fill_uninit(from % 8, 1),
+    }
+}
+
+fn tell_pieces(told: &mut String, view: &View<'_>) -> Result<(), OutOfMemory> {
+    for n in 0..view.len() as usize {
+        let Some(piece) = view.piece(n) else {
+            return Ok(());
+        };
+        write!(told, " {piece:?}")?;
+    }
+    Ok(())
+}
+
+#[test]
+fn runs_are_joined_and_split(rt: HostRuntime) -> Result<(), Fail> {
+    let mut runs = Runs::uninit(rt.alloc(), 8)?;
+    for (change, wanted) in CHANGES {
+        make(&mut runs, change)?;
+        let mut told = String::new(rt.alloc());
+        tell_pieces(&mut told, &runs.view(0, 8))?;
+        assert_eq!(rt; told.as_str(), wanted);
+    }
+    Ok(())
+}
+
+// Tells the pieces of so many bytes, of which the two behind the middle are written.
+fn told_of(alloc: Global, len: u64) -> Result<String, OutOfMemory> {
+    let mut told = String::new(alloc);
+    let mut runs = Runs::uninit(alloc, len)?;
+    let all = runs.len();
+    if all >= 4 {
+        runs.write(all / 2, &[FIVE, SIX])?;
+    }
+    tell_pieces(&mut told, &runs.view(0, all))?;
+    Ok(told)
+}
+
+// 2^40 bytes, which take no more memory than three runs.
+#[test]
+fn many_bytes_are_few_runs(rt: HostRuntime) -> Result<(), Fail> {
+    let told = told_of(rt.alloc(), 0x100_0000_0000)?;
+    assert_eq!(rt;
+        told.as_str(),
+        " Uninit(549755813888) Bytes([5, 6], Some(AllocId { thread: 1, count: 7 })) Uninit(549755813886)"
+    );
     Ok(())
 }

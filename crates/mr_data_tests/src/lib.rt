@@ -8,9 +8,15 @@ mod caches;
 #[cfg(test)]
 mod layouts;
 #[cfg(test)]
+mod loads;
+#[cfg(test)]
 mod memory;
 #[cfg(test)]
 mod operators;
+#[cfg(test)]
+mod picks;
+#[cfg(test)]
+mod plain;
 #[cfg(test)]
 mod spelled;
 #[cfg(test)]

@@ -292,3 +292,69 @@ fn calls_are_answered(rt: HostRuntime) -> Result<(), Fail> {
     }
     Ok(())
 }
+
+// 2^40, the address of a range and how many bytes it has.
+const MANY: u64 = 0x100_0000_0000;
+
+const APART: u64 = 0x4000_0000;
+
+// A memory with 2^40 bytes at 2^40.
+fn with_many(alloc: Global) -> Result<Option<Memory>, OutOfMemory> {
+    let mut memory = Memory::new(alloc);
+    if memory.lawful(MANY, MANY, 1).is_err() {
+        return Ok(None);
+    }
+    memory.allocate(FIRST, Kind::Heap, MANY, 1, MANY)?;
+    Ok(Some(memory))
+}
+
+// The byte that is written at the place with this number.
+fn byte_of(place: u64) -> AbstractByte {
+    AbstractByte::Init((place % 251) as u8, Some(SECOND))
+}
+
+// Writes a byte at each of 1,000 places that are 2^30 bytes apart, and answers whether each store was made.
+fn write_places(memory: &mut Memory) -> bool {
+    for place in 0..1000 {
+        let answer = memory.store(at(MANY + place * APART), &[byte_of(place)], 1);
+        if answer.is_err() {
+            return false;
+        }
+    }
+    true
+}
+
+fn is_byte(memory: &Memory, addr: u64, wanted: AbstractByte) -> bool {
+    match memory.load(at(addr), 1, 1) {
+        Ok(view) => view.len() == 1 && view.byte(0) == wanted,
+        Err(_) => false,
+    }
+}
+
+// Whether each of the places has its byte, or none has one.
+fn are_places(memory: &Memory, are_written: bool) -> bool {
+    for place in 0..1000 {
+        let wanted = if are_written {
+            byte_of(place)
+        } else {
+            AbstractByte::Uninit
+        };
+        if !is_byte(memory, MANY + place * APART, wanted) {
+            return false;
+        }
+    }
+    true
+}
+
+#[test]
+fn single_bytes_of_a_large_range(rt: HostRuntime) -> Result<(), Fail> {
+    let Some(mut memory) = with_many(rt.alloc())? else {
+        assert!(rt; false, "the range is free");
+        return Ok(());
+    };
+    assert!(rt; write_places(&mut memory));
+    assert!(rt; are_places(&memory, true));
+    assert!(rt; memory.deinit(at(MANY), MANY, 1).is_ok());
+    assert!(rt; are_places(&memory, false));
+    Ok(())
+}

@@ -1,4 +1,4 @@
-//! Types are compared and copied.
+//! Types are compared, put in order and copied.
 use crate::texts::{program_of, type_of};
 use mr_ast::{OutOfMemory, Program, Tree, Ty, Variant};
 use mr_parse::parse;
@@ -81,7 +81,8 @@ fn parts(ty: &Ty) -> Option<(&Variant, &Tree)> {
 
 fn tell(alloc: Global, told: &mut String, first: &Ty, second: &Ty) -> Result<(), OutOfMemory> {
     let types = compared(alloc, first, second)?;
-    write!(told, "{types:?}")?;
+    let order = first.order(second);
+    write!(told, "{types:?} {order:?}")?;
     tell_parts(alloc, told, first, second)
 }
 
@@ -125,20 +126,31 @@ const LEAF: &str = "enum size 16 align 8 disc i8 { 1: bool tag { 8: u8 = 2 } } k
 
 const OTHER_LEAF: &str = "enum size 16 align 8 disc i8 { 1: bool tag { 8: u8 = 2 } } known 4";
 
-// Two types, and whether they are equal, themselves and by a copy; of enums, the same of their trees and of their first variants.
-static TYPES: [(&str, &str, &str); 9] = [
-    (DEEP, DEEP, "[true, true]"),
-    (DEEP, OTHER_TAG, "[false, false]"),
-    (DEEP, OTHER_CHUNK, "[false, false]"),
-    (DEEP, OTHER_REF, "[false, false]"),
-    (OTHER_REF, OTHER_REF, "[true, true]"),
-    (OTHER_REF, DEEP, "[false, false]"),
-    (SCALARS, SCALARS, "[true, true]"),
-    (LEAF, LEAF, "[true, true] [true, true] [true, true]"),
+// Two types, whether they are equal, themselves and by a copy, and how the first stands to the second in the order of types; of
+// enums, whether their trees are equal, and their first variants.
+static TYPES: [(&str, &str, &str); 15] = [
+    (DEEP, DEEP, "[true, true] Equal"),
+    (DEEP, OTHER_TAG, "[false, false] Less"),
+    (DEEP, OTHER_CHUNK, "[false, false] Less"),
+    (DEEP, OTHER_REF, "[false, false] Less"),
+    (OTHER_REF, OTHER_REF, "[true, true] Equal"),
+    (OTHER_REF, DEEP, "[false, false] Greater"),
+    (SCALARS, SCALARS, "[true, true] Equal"),
+    ("bool", "raw", "[false, false] Less"),
+    ("fnptr", "i128", "[false, false] Greater"),
+    ("u16", "u8", "[false, false] Greater"),
+    ("ref 8 1", "ref 4 8", "[false, false] Greater"),
+    ("array(2, i128)", "array(3, u8)", "[false, false] Less"),
+    (
+        "tuple size 2 align 1 { 1: u8 }",
+        "tuple size 2 align 1 { 0: u8, 1: u8 }",
+        "[false, false] Less",
+    ),
+    (LEAF, LEAF, "[true, true] Equal [true, true] [true, true]"),
     (
         LEAF,
         OTHER_LEAF,
-        "[false, false] [false, false] [true, true]",
+        "[false, false] Less [false, false] [true, true]",
     ),
 ];
 

@@ -43,8 +43,8 @@ fn tell_union(told: &mut String, bytes: &[AbstractByte]) -> Result<(), OutOfMemo
     show(told, bytes)
 }
 
-// Tells a value, without its parts.
-fn tell(told: &mut String, value: &Val) -> Result<(), OutOfMemory> {
+/// Tells a value, without its parts.
+pub fn tell(told: &mut String, value: &Val) -> Result<(), OutOfMemory> {
     match value {
         Val::Int(bits) => write!(told, "{bits}"),
         Val::Bool(truth) => write!(told, "{truth}"),
@@ -164,7 +164,7 @@ const MAYBE: &str =
 const BYTE_OR_TWO: &str = "union size 4 align 2 { 0: u8, 2: u16 } chunks { 0 1, 2 2 }";
 
 // A type and bytes; the value that they mean, if it is a scalar's, and behind it any value and the bytes that it is written as.
-static VALUES: [(&str, &str, &str); 21] = [
+static VALUES: [(&str, &str, &str); 22] = [
     (
         PAIR,
         "01 07 -- 07 02 00 00 00",
@@ -188,6 +188,12 @@ static VALUES: [(&str, &str, &str); 21] = [
     // The lowest byte comes first.
     ("u8", "fe", "254|254: fe"),
     ("i8", "fe", "254|254: fe"),
+    // Bytes of several provenances.
+    (
+        "u32",
+        "01@1.7 02@1.7 03 04@1.7",
+        "67305985|67305985: 01 02 03 04",
+    ),
     (
         "u64",
         "01 02 03 04 05 06 07 88",

@@ -20,6 +20,7 @@ pub mod RowRuns
 pub mod SafeLaws
 pub mod SafeRuns
 pub mod ScalarLaws
+pub mod ScalarRuns
 pub mod SearchRuns
 pub mod ShapeOf
 pub mod SoundParts

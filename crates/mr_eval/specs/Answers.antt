@@ -4,6 +4,7 @@ use Rattle.mr_ast.specs.declared.types.Ty.{Ty}
 use Rattle.mr_base.specs.declared.access.Access.{Access}
 use Rattle.mr_base.specs.declared.byte.AllocId.{AllocId}
 use Rattle.mr_base.specs.declared.byte.Pointer.{Pointer}
+use Rattle.mr_base.specs.declared.reason.Reason.{Reason}
 use Rattle.mr_script.specs.Script.{Broken, Done, IllFormed, Outcome, Refused, Undefined, Went}
 use Rattle.mr_eval.specs.declared.halt.Halt.{Halt}
 use Rattle.mr_eval.specs.declared.halt.Halt.TheVariants as halt
@@ -48,6 +49,11 @@ at_pointer p = p.at
 -- a value without its type
 abbrev pub value_in : Valued → Val
 value_in v = v.value
+
+-- what a call returned that notes nothing, as what a run comes to that notes as much as this
+abbrev pub outcome_of : {X S : Type 0} → Result X Reason → (X → S) → Outcome X S
+outcome_of (Ok x) note = Went x (note x)
+outcome_of (Err r) note = Refused r
 
 -- the surround of an evaluation
 abbrev pub surround_of : Here → Surround

@@ -4,6 +4,7 @@ pub mod Evaluated
 pub mod Evaluation
 pub mod MemoryQueries
 pub mod Moves
+pub mod Noted
 pub mod Operators
 pub mod Reads
 pub mod Scalars

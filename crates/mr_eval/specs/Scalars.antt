@@ -1,5 +1,5 @@
 -- Integers and bools, as numbers or truths.
-use Rattle.std.specs.Prelude.{ℕ, false, if◌then◌else◌, Option, None, Some}
+use Rattle.std.specs.Prelude.{false, if◌then◌else◌, Option, None, Some}
 use Rattle.mr_ast.specs.declared.types.Num.{Num}
 use Rattle.mr_ast.specs.declared.types.Ty.{Ty, out-Ty}
 use Rattle.mr_ast.specs.declared.types.Ty.TheOpen.{Ty-F}

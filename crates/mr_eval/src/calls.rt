@@ -17,7 +17,6 @@ use crate::stores::store_bytes;
 use crate::valuing;
 use mr_ast::{Place, Ty, Value};
 use mr_base::Pointer;
-use mr_layout::align;
 use mr_mem::{Fault, Memory};
 use mr_value::{Val, encode};
 use std::alloc::Global;
@@ -51,6 +50,7 @@ pub fn place(
     let here = Here {
         alloc,
         memory: m,
+        cache: e.cache,
         locals: e.function_locals(),
         storage: e.locals,
         functions: e.functions,
@@ -74,6 +74,7 @@ pub fn value(alloc: Global, e: &Env<'_>, m: &Memory, n: &mut Notes, v: &Value) -
     let here = Here {
         alloc,
         memory: m,
+        cache: e.cache,
         locals: e.function_locals(),
         storage: e.locals,
         functions: e.functions,
@@ -91,7 +92,7 @@ pub fn value(alloc: Global, e: &Env<'_>, m: &Memory, n: &mut Notes, v: &Value) -
 /// After `Err` the notes begin with what they held.
 pub fn load_typed(
     alloc: Global,
-    _e: &Env<'_>,
+    e: &Env<'_>,
     m: &Memory,
     n: &mut Notes,
     p: Pointer,
@@ -102,7 +103,7 @@ pub fn load_typed(
     ensures kept { Extends (seen n.old) (seen n.new) }
     ensures shape { IfOk result (λ v. has_shape t.now v ≡ true) }
 {
-    match valuing::load(alloc, m, n, Placed { at: p, ty: t }) {
+    match valuing::load(alloc, e.cache, m, n, Placed { at: p, ty: t }) {
         Ok(v) => Ok(v),
         Err(h) => Err(fault_of(h)),
     }
@@ -114,7 +115,7 @@ pub fn load_typed(
 #[tactic(auto, using(crate::proofs::ExtendsLaws::extends_laws))]
 pub fn store_typed(
     alloc: Global,
-    _e: &Env<'_>,
+    e: &Env<'_>,
     m: &mut Memory,
     n: &mut Notes,
     p: Pointer,
@@ -129,5 +130,6 @@ pub fn store_typed(
 {
     let mut bytes = Vec::new(alloc);
     encode(alloc, v, t, &mut bytes)?;
-    store_bytes(m, n, false, p, bytes.as_slice(), align(t))
+    let layout = e.cache.layout(t);
+    store_bytes(m, n, false, p, bytes.as_slice(), layout.align)
 }

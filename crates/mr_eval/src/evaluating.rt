@@ -68,7 +68,7 @@ fn indexed_place<'p>(
 {
     let p = placed(here, notes, array)?;
     let i = valued(here, notes, index)?;
-    element_by(here.memory, notes, p, i.value)
+    element_by(here.cache, here.memory, notes, p, i.value)
 }
 
 // The pointer with this number.

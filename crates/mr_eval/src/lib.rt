@@ -9,6 +9,8 @@
 //! - [`place`]: the pointer to a place that stands in the function of its [`Env`].
 //! - [`value`]: the value of an expression that stands in the function, which has the shape of the expression's type.
 //! - [`load_typed`]: the load of a value of a well-formed type, with the range checks of the references in it.
+//! - [`load_scalar`]: the same of an integer, a bool or a pointer, which takes no memory and notes nothing; `load_typed` is it and the
+//!   notes for these types (`specs/Noted.antt`).
 //! - [`store_typed`]: the store of a value of a type's shape. A refused one changes no memory. [`store_bytes`] and [`store_uninit`] do
 //!   the same with bytes and with uninitialised ones.
 //! - [`behind`]: a pointer so many bytes behind another, around the end of the address space.
@@ -40,6 +42,7 @@ mod valuing;
 
 pub use calls::{load_typed, place, store_typed, value};
 pub use env::Env;
+pub use loading::load_scalar;
 pub use moving::behind;
 pub use mr_mem::Fault;
 pub use notes::Notes;

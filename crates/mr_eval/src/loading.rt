@@ -1,12 +1,18 @@
 //! Typed loads.
-ghost use Rattle.std.specs.Prelude.{◌≡◌, IfOk, true};
+ghost use Rattle.std.specs.Prelude.{◌≡◌, IfOk, IsTrue, OnOk, false, length, true};
 ghost use Rattle.mr_layout.specs.Sizes.{align_of, size_of};
 ghost use Rattle.mr_layout.specs.TypeOk.{TypeOk};
 ghost use Rattle.mr_script.specs.Script.{Went, on};
+ghost use Rattle.mr_value.specs.Decode.{is_scalar};
 ghost use Rattle.mr_value.specs.Shape.{has_shape};
-ghost use Rattle.mr_eval.specs.Answers.{Extends, Gives, same, seen};
-ghost use Rattle.mr_eval.specs.Evaluated.{read_typed, referred_to};
-ghost use Rattle.mr_eval.specs.Typed.{targets_of};
+ghost use Rattle.mr_value.specs.declared.val.Val.{out-Val};
+ghost use Rattle.mr_eval.specs.Answers.{Extends, Gives, outcome_of, same, seen};
+ghost use Rattle.mr_base.specs.declared.reason.Reason.TheVariants.{InvalidValue};
+ghost use Rattle.mr_runs.specs.Pieces.{bytes_of_pieces};
+ghost use Rattle.mr_eval.specs.Evaluated.{meant_by, read_typed, referred_to};
+ghost use Rattle.mr_eval.specs.Noted.{listed, noted_load, noted_targets};
+ghost use Rattle.mr_eval.specs.Reads.{Seen, accessing, seeing, touching};
+ghost use Rattle.mr_eval.specs.Typed.{pointed, targets_of};
 
 use crate::halt::Halt;
 use crate::notes::Notes;
@@ -14,9 +20,11 @@ use crate::reads::lend;
 use crate::targets::{add_targets, refer_all};
 use mr_ast::Ty;
 use mr_base::{Pointer, Reason};
+use mr_layout::Cache;
 use mr_mem::Memory;
-use mr_value::{Val, decode};
-use std::alloc::Global;
+use mr_runs::View;
+use mr_value::{Val, decode, decode_scalar};
+use std::alloc::{AllocError, Global};
 
 /// The reference check of a value, which is given back.
 #[tactic(auto, using(crate::proofs::ExtendsLaws::extends_laws))]
@@ -53,5 +61,134 @@ pub fn read_typed(
     match decode(alloc, &view, t)? {
         Some(v) => referred(alloc, m, notes, t, v),
         None => Err(Halt::Undefined(Reason::InvalidValue)),
+    }
+}
+
+// ---- a value of one number or pointer, which needs no memory
+
+/// Whether a type is an integer, a bool or a pointer.
+pub fn is_scalar(t: &Ty) -> bool
+    ensures { result ≡ is_scalar t.now }
+{
+    matches!(
+        t,
+        Ty::Int(_) | Ty::Bool | Ty::Raw | Ty::FnPtr | Ty::Ref { .. }
+    )
+}
+
+// What a pointer of this many bytes points to.
+fn pointed(size: u64, v: &Val) -> Option<(Pointer, u64)>
+    ensures { listed result ≡ pointed size (out-Val v.now) }
+{
+    match v {
+        Val::Ptr(p) => Some((*p, size)),
+        _ => None,
+    }
+}
+
+// What a value points to, where it is a reference.
+#[tactic(auto, using(crate::proofs::TargetLaws::target_laws))]
+fn target_of(t: &Ty, v: &Val) -> Option<(Pointer, u64)>
+    requires { IsTrue (is_scalar t.now) }
+    ensures { listed result ≡ targets_of t.now v.now }
+{
+    match t {
+        Ty::Int(_) => None,
+        Ty::Bool => None,
+        Ty::Raw => None,
+        Ty::FnPtr => None,
+        Ty::Ref { size, .. } => pointed(*size, v),
+        _ => unreachable!(),
+    }
+}
+
+// The reference check of what a value points to, if it points to anything.
+#[tactic(auto, unfolding(crate::specs::Evaluated::referred_to))]
+fn check_target(m: &Memory, target: Option<(Pointer, u64)>) -> Result<(), Reason>
+    ensures { (s : Seen) → referred_to m.now (listed target) s ≡ outcome_of result (λ _. noted_targets (listed target) s) }
+{
+    match target {
+        None => Ok(()),
+        Some((p, len)) => match m.check(p, len) {
+            Ok(_) => Ok(()),
+            Err(_) => Err(Reason::DanglingReference),
+        },
+    }
+}
+
+// The value that is lent, whose reference, where it is one, points to a live range.
+#[tactic(auto, using(crate::proofs::LoadRuns::meant_none))]
+fn scalar_in(m: &Memory, view: &View<'_>, t: &Ty) -> Result<Val, Reason>
+    requires scalar { IsTrue (is_scalar t.now) }
+    requires ok { TypeOk t.now }
+    requires sized { length (bytes_of_pieces view.now) ≡ size_of t.now }
+    ensures given { (s : Seen) → meant_by m.now InvalidValue t.now (bytes_of_pieces view.now) s ≡ outcome_of result (λ v. noted_targets (targets_of t.now v) s) }
+    ensures shape { IfOk result (λ v. has_shape t.now v ≡ true) }
+{
+    let Some(v) = decode_scalar(view, t) else {
+        return Err(Reason::InvalidValue);
+    };
+    match check_target(m, target_of(t, &v)) {
+        Ok(()) => Ok(v),
+        Err(reason) => Err(reason),
+    }
+}
+
+/// The load of an integer, a bool or a pointer: the value or the reason of [`load_typed`](crate::load_typed). It notes nothing, and
+/// takes no memory.
+#[tactic(auto, using(crate::proofs::ScalarRuns::scalar_laws, crate::proofs::ReadLength::read_sized))]
+pub fn load_scalar(m: &Memory, c: &Cache, p: Pointer, t: &Ty) -> Result<Val, Reason>
+    requires scalar { IsTrue (is_scalar t.now) }
+    requires ok { TypeOk t.now }
+    ensures given { (s : Seen) → read_typed m.now t.now p s ≡ outcome_of result (λ v. noted_load t.now p v s) }
+    ensures shape { IfOk result (λ v. has_shape t.now v ≡ true) }
+{
+    let layout = c.layout(t);
+    match m.load(p, layout.size, layout.align) {
+        Ok(view) => scalar_in(m, &view, t),
+        Err(reason) => Err(reason),
+    }
+}
+
+// Notes a load, and the range check of what its value points to.
+#[tactic(auto, using(crate::proofs::ExtendsLaws::extends_laws))]
+fn note_load(
+    notes: &mut Notes,
+    p: Pointer,
+    size: u64,
+    target: Option<(Pointer, u64)>,
+) -> Result<(), AllocError>
+    ensures noted { OnOk result (seen notes.new ≡ noted_targets (listed target) (seeing (accessing false false p size) (touching p size) (seen notes.old))) }
+    ensures kept { Extends (seen notes.old) (seen notes.new) }
+{
+    notes.touch(p, size)?;
+    notes.access(false, false, p, size)?;
+    if let Some((p, len)) = target {
+        notes.touch(p, len)?;
+    }
+    Ok(())
+}
+
+/// The load of an integer, a bool or a pointer, noted.
+#[tactic(auto, using(crate::proofs::ExtendsLaws::extends_laws))]
+pub fn noted_scalar(
+    m: &Memory,
+    c: &Cache,
+    notes: &mut Notes,
+    p: Pointer,
+    t: &Ty,
+) -> Result<Val, Halt>
+    requires scalar { IsTrue (is_scalar t.now) }
+    requires ok { TypeOk t.now }
+    ensures given { Gives same result (read_typed m.now t.now p (seen notes.old)) (seen notes.new) }
+    ensures kept { Extends (seen notes.old) (seen notes.new) }
+    ensures shape { IfOk result (λ v. has_shape t.now v ≡ true) }
+{
+    match load_scalar(m, c, p, t) {
+        Ok(v) => {
+            note_load(notes, p, c.layout(t).size, target_of(t, &v))?;
+            Ok(v)
+        }
+        Err(reason) => Err(Halt::Undefined(reason)),
     }
 }

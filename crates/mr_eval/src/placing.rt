@@ -16,7 +16,7 @@ use crate::notes::Notes;
 use crate::operands::pointer_in;
 use mr_ast::{Local, LocalName, Num, Ty};
 use mr_base::{Pointer, Reason};
-use mr_layout::size;
+use mr_layout::Cache;
 use mr_mem::Memory;
 use mr_value::Val;
 
@@ -111,16 +111,13 @@ pub fn variant<'p>(whole: Placed<'p>, number: Num) -> Placed<'p>
 }
 
 // How many elements an array has, and how many bytes each.
-#[tactic(auto, using(mr_layout::proofs::PartsOk::array_part, mr_layout::proofs::Bounds::type_ok_size))]
-fn elements(t: &Ty) -> Option<(u64, u64)>
+#[tactic(auto, using(mr_layout::proofs::PartsOk::array_part))]
+fn elements(c: &Cache, t: &Ty) -> Option<(u64, u64)>
     requires { TypeOk t.now }
     ensures { result ≡ elements_in (Some t.now) }
 {
     match t {
-        Ty::Array { count, elem } => match size(elem.get()) {
-            Some(bytes) => Some((*count, bytes)),
-            None => unreachable!(),
-        },
+        Ty::Array { count, elem } => Some((*count, c.layout(elem.get()).size)),
         _ => None,
     }
 }
@@ -148,6 +145,7 @@ fn element_of(
 /// An element of an array.
 #[tactic(auto, unfolding(crate::specs::Evaluated::in_array), using(crate::proofs::ExtendsLaws::extends_laws, crate::proofs::PartTypes::elements_small))]
 pub fn element<'p>(
+    c: &Cache,
     m: &Memory,
     notes: &mut Notes,
     array: Placed<'p>,
@@ -158,7 +156,11 @@ pub fn element<'p>(
     ensures ty { IfOk result (λ p. element_type array.entry.ty.now ≡ Some p.ty.now) }
     ensures kept { Extends (seen notes.old) (seen notes.new) }
 {
-    match (bits_of(index), elements(array.ty), mr_wf::element(array.ty)) {
+    match (
+        bits_of(index),
+        elements(c, array.ty),
+        mr_wf::element(array.ty),
+    ) {
         (Some(i), Some(all), Some(ty)) => {
             let at = element_of(m, notes, array.at, i, all)?;
             Ok(Placed { at, ty })
@@ -169,6 +171,7 @@ pub fn element<'p>(
 
 /// An element of an array, at the position that a value tells.
 pub fn element_by<'p>(
+    c: &Cache,
     m: &Memory,
     notes: &mut Notes,
     array: Placed<'p>,
@@ -179,5 +182,5 @@ pub fn element_by<'p>(
     ensures ty { IfOk result (λ p. element_type array.entry.ty.now ≡ Some p.ty.now) }
     ensures kept { Extends (seen notes.old) (seen notes.new) }
 {
-    element(m, notes, array, &index)
+    element(c, m, notes, array, &index)
 }

@@ -19,7 +19,7 @@ ghost use Rattle.mr_wf.specs.Types.{discriminant_type, integer_of, result_type};
 use crate::halt::Halt;
 use crate::here::Here;
 use crate::kinds::{Operator, kind_of};
-use crate::loading::read_typed;
+use crate::loading::{is_scalar, noted_scalar, read_typed};
 use crate::moving::moved;
 use crate::notes::Notes;
 use crate::operands::{pointer_in, right_in};
@@ -29,7 +29,7 @@ use crate::recasting;
 use crate::search::found_number;
 use mr_ast::{BinaryOp, Boxed, IntType, Num, Ty, UnaryOp};
 use mr_base::Pointer;
-use mr_layout::{align, size};
+use mr_layout::Cache;
 use mr_mem::Memory;
 use mr_value::{Val, bits_of_number};
 use mr_wf::Known;
@@ -51,17 +51,23 @@ pub fn typed(value: Val, ty: Known<'_>) -> Valued<'_>
 }
 
 /// The load of a place.
-#[tactic(auto, using(mr_layout::proofs::Bounds::type_ok_size))]
-pub fn load(alloc: Global, m: &Memory, notes: &mut Notes, p: Placed<'_>) -> Result<Val, Halt>
+pub fn load(
+    alloc: Global,
+    c: &Cache,
+    m: &Memory,
+    notes: &mut Notes,
+    p: Placed<'_>,
+) -> Result<Val, Halt>
     requires { TypeOk p.ty.now }
     ensures given { Gives same result (read_typed m.now p.entry.ty.now p.entry.at (seen notes.old)) (seen notes.new) }
     ensures kept { Extends (seen notes.old) (seen notes.new) }
     ensures shape { IfOk result (λ v. has_shape p.entry.ty.now v ≡ true) }
 {
-    match size(p.ty) {
-        Some(bytes) => read_typed(alloc, m, notes, p.at, p.ty, bytes, align(p.ty)),
-        None => unreachable!(),
+    if is_scalar(p.ty) {
+        return noted_scalar(m, c, notes, p.at, p.ty);
     }
+    let layout = c.layout(p.ty);
+    read_typed(alloc, m, notes, p.at, p.ty, layout.size, layout.align)
 }
 
 /// The load of a place, as a value of its type.
@@ -75,7 +81,7 @@ pub fn loaded_value<'p>(
     ensures ty { IfOk result (λ v. ty_of v.ty ≡ p.entry.ty.now) }
     ensures kept { Extends (seen notes.old) (seen notes.new) }
 {
-    match load(here.alloc, here.memory, notes, p) {
+    match load(here.alloc, here.cache, here.memory, notes, p) {
         Ok(value) => Ok(typed(value, Known::Written(p.ty))),
         Err(halt) => Err(halt),
     }

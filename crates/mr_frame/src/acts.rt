@@ -19,31 +19,32 @@ use crate::types::{byte_align, byte_size};
 use mr_ast::{BlockName, Function, LocalName, Num, Place, Stmt, Term, Ty, Value};
 use mr_base::Reason;
 use mr_eval::{Fault, Notes, Scene};
+use mr_layout::Cache;
 use mr_mem::Memory;
 use mr_sched::Ask;
 use std::alloc::{AllocError, Global};
 
 // An address for storage of a type.
-fn push_ask(t: &Ty, out: &mut Vec<Ask>) -> Result<(), AllocError>
+fn push_ask(c: &Cache, t: &Ty, out: &mut Vec<Ask>) -> Result<(), AllocError>
     requires { TypeOk t.now }
     ensures { OnOk result (out.new.items ≡ out.old.items ++ storage_asks (t.now ∷ [])) }
 {
     out.push(Ask::Address {
-        size: byte_size(t),
-        align: byte_align(t),
+        size: byte_size(c, t),
+        align: byte_align(c, t),
     })?;
     Ok(())
 }
 
 // An address for the return local, and for each argument.
-fn push_asks(function: &Function, out: &mut Vec<Ask>) -> Result<(), AllocError>
+fn push_asks(c: &Cache, function: &Function, out: &mut Vec<Ask>) -> Result<(), AllocError>
     requires { HasTypes function.now }
     ensures { (types : List TypeOf) → kept_types function.now ≡ Some types → OnOk result (out.new.items ≡ out.old.items ++ storage_asks types) }
 {
     let names = function.args.as_slice();
-    push_ask(&local_at(function, function.ret).ty, out)?;
+    push_ask(c, &local_at(function, function.ret).ty, out)?;
     for x in names {
-        push_ask(&local_at(function, *x).ty, out)?;
+        push_ask(c, &local_at(function, *x).ty, out)?;
     }
     Ok(())
 }
@@ -76,8 +77,8 @@ impl Stack {
     {
         let t = &local_at(look.function(self.top.function), x).ty;
         Slot {
-            size: byte_size(t),
-            align: byte_align(t),
+            size: byte_size(look.cache, t),
+            align: byte_align(look.cache, t),
             storage: self.top.storage_of(x.0),
         }
     }
@@ -293,7 +294,7 @@ impl Stack {
         }
     }
 
-    /// Appends what the next step asks for, which is no intrinsic.
+    /// Appends what the next step asks for, which is no intrinsic. An `Err` is for want of memory, and a part may have been appended.
     pub fn asks(
         &self,
         alloc: Global,
@@ -325,7 +326,7 @@ impl Stack {
         match stmt {
             Stmt::Live(x) => {
                 let function = look.function(self.top.function);
-                push_ask(&local_at(function, *x).ty, out)
+                push_ask(look.cache, &local_at(function, *x).ty, out)
             }
             _ => Ok(()),
         }
@@ -369,7 +370,7 @@ impl Stack {
     {
         let mut notes = Notes::new(alloc);
         match self.prepared(alloc, look, m, &mut notes, callee, args, place) {
-            Ok(prepared) => push_asks(look.function(prepared.function.0), out),
+            Ok(prepared) => push_asks(look.cache, look.function(prepared.function.0), out),
             Err(Fault::Undefined(_)) => Ok(()),
             Err(Fault::Memory) => Err(AllocError),
         }

@@ -20,6 +20,7 @@ use crate::types::{byte_align, byte_size};
 use mr_ast::{FnName, Function, LocalName, Ty};
 use mr_base::{Kind, Pointer};
 use mr_eval::{Env, Fault, Scene, store_typed};
+use mr_layout::Cache;
 use mr_value::Val;
 use std::alloc::{AllocError, Global};
 
@@ -41,6 +42,7 @@ pub fn store(
 
 // Storage for a local of a type, at a picked address.
 fn allocate_local(
+    c: &Cache,
     s: &mut Scene,
     t: &Ty,
     addr: u64,
@@ -50,13 +52,14 @@ fn allocate_local(
     requires allocates { CanAllocate (t.now ∷ []) (addr ∷ []) (world_of s.old) }
     ensures { OnOk result (IsAllocated t.now addr (world_of s.old) (world_of s.new) out.old.items out.new.items) }
 {
-    let p = s.allocate(Kind::Stack, byte_size(t), byte_align(t), addr)?;
+    let p = s.allocate(Kind::Stack, byte_size(c, t), byte_align(c, t), addr)?;
     out.push(p)?;
     Ok(())
 }
 
 // Storage for the return local and for each argument, at the picked addresses, in this order.
 fn allocate_each(
+    c: &Cache,
     s: &mut Scene,
     function: &Function,
     picks: &[u64],
@@ -68,9 +71,9 @@ fn allocate_each(
     ensures { (types : List TypeOf) → kept_types function.now ≡ Some types → OnOk result (allocated_each types picks.now (world_of s.old) ≡ Went out.new.items (world_of s.new)) }
 {
     let names = function.args.as_slice();
-    allocate_local(s, &local_at(function, function.ret).ty, picks[0], out)?;
+    allocate_local(c, s, &local_at(function, function.ret).ty, picks[0], out)?;
     for (k, x) in names.iter().enumerate() {
-        allocate_local(s, &local_at(function, *x).ty, picks[k + 1], out)?;
+        allocate_local(c, s, &local_at(function, *x).ty, picks[k + 1], out)?;
     }
     Ok(())
 }
@@ -133,7 +136,7 @@ pub fn begin(
 {
     let function = look.function(f.0);
     let mut pointers = Vec::new(alloc);
-    allocate_each(s, function, picks, &mut pointers)?;
+    allocate_each(look.cache, s, function, picks, &mut pointers)?;
     match store_each(alloc, &look.bare(f), s, function, pointers.as_slice(), args) {
         Err(fault) => Err(fault),
         Ok(()) => {

@@ -112,7 +112,7 @@ fn deinit<'a>(
 {
     let p = place(alloc, e, m, n, at)?;
     let t = type_at(e, at);
-    store_uninit(m, n, p, byte_size(t), byte_align(t))
+    store_uninit(m, n, p, byte_size(e.cache, t), byte_align(e.cache, t))
 }
 
 // The place, and the tags of the variant with the number.

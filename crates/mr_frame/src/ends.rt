@@ -18,18 +18,24 @@ use crate::values::pointer;
 use mr_ast::{BlockName, Function, Local, Term, Ty, Value};
 use mr_base::{Pointer, Reason};
 use mr_eval::{Fault, Scene, load_typed};
+use mr_layout::Cache;
 use mr_value::Val;
 use std::alloc::Global;
 
 // The storage of each local goes, by rising number.
-fn free_each(s: &mut Scene, locals: &[Local], storage: &[Option<Pointer>]) -> Result<(), Fault>
+fn free_each(
+    c: &Cache,
+    s: &mut Scene,
+    locals: &[Local],
+    storage: &[Option<Pointer>],
+) -> Result<(), Fault>
     requires types { All (λ l. TypeOk l.ty) locals.now }
     requires len { length locals.now ≡ length storage.now }
     ensures { Tells result (freed_each locals.now storage.now (world_of s.old)) (world_of s.new) }
 {
     for (k, local) in locals.iter().enumerate() {
         let t = &local.ty;
-        match release(s, storage[k], byte_size(t), byte_align(t)) {
+        match release(s, storage[k], byte_size(c, t), byte_align(c, t)) {
             Err(fault) => return Err(fault),
             Ok(()) => {}
         }
@@ -181,7 +187,12 @@ impl Stack {
         requires shape { (t : TypeOf) → local_type f.now f.now.ret ≡ Some t → has_shape t v.now ≡ true }
         ensures { TellsBy (λ flow. onward_of flow (stack_of self.new)) result (on (freed_each f.now.locals self.old.top.locals.items (world_of s.old)) (λ u w. left_by (look_of look.now) (stack_of self.old) (local_type f.now f.now.ret) v.now (below_of self.old) w)) (world_of s.new) }
     {
-        match free_each(s, f.locals.as_slice(), self.top.locals.as_slice()) {
+        match free_each(
+            look.cache,
+            s,
+            f.locals.as_slice(),
+            self.top.locals.as_slice(),
+        ) {
             Err(fault) => Err(fault),
             Ok(()) => self.give(alloc, look, s, &local_at(f, f.ret).ty, v),
         }
@@ -199,7 +210,12 @@ impl Stack {
             return Err(Fault::Undefined(Reason::NoUnwindBlock));
         };
         let f = look.function(self.top.function);
-        match free_each(s, f.locals.as_slice(), self.top.locals.as_slice()) {
+        match free_each(
+            look.cache,
+            s,
+            f.locals.as_slice(),
+            self.top.locals.as_slice(),
+        ) {
             Err(fault) => Err(fault),
             Ok(()) => {
                 self.pop();

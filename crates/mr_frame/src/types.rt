@@ -11,7 +11,7 @@ ghost use Rattle.mr_frame.specs.Inside.{TypeAt};
 
 use mr_ast::{Local, Place, Ty, Value};
 use mr_eval::Env;
-use mr_layout::{align, size};
+use mr_layout::Cache;
 use mr_wf::{Known, discriminant, element, field, local_type, variant};
 
 /// The type of a place in a function with these locals.
@@ -82,23 +82,19 @@ pub fn type_with<'a>(e: &Env<'a>, v: &'a Value) -> Known<'a>
 }
 
 /// How many bytes a value of the type takes.
-#[tactic(auto, using(mr_layout::proofs::Bounds::type_ok_size))]
-pub fn byte_size(t: &Ty) -> u64
+pub fn byte_size(c: &Cache, t: &Ty) -> u64
     requires { TypeOk t.now }
     ensures { result ≡ size_of t.now }
 {
-    match size(t) {
-        Some(size) => size,
-        None => unreachable!(),
-    }
+    c.layout(t).size
 }
 
 /// The alignment of the type in bytes.
 #[tactic(auto, using(crate::proofs::AlignPowers::type_ok_power))]
-pub fn byte_align(t: &Ty) -> u64
+pub fn byte_align(c: &Cache, t: &Ty) -> u64
     requires { TypeOk t.now }
     ensures is { result ≡ align_of t.now }
     ensures power { IsPowerOfTwo result }
 {
-    align(t)
+    c.layout(t).align
 }

@@ -1,6 +1,8 @@
 -- The layout of a type, and when the layouts that are kept are those of their types.
-use Rattle.std.specs.Prelude.{◌≡◌, List, map, All}
+use Rattle.std.specs.Prelude.{◌≡◌, List, map, All, AllPairs}
+use Rattle.std.specs.declared.cmp.Ordering.TheVariants.{Less}
 use Rattle.mr_ast.specs.declared.types.Ty.{Ty}
+use Rattle.mr_ast.specs.Order.{ty_cmp}
 use Rattle.mr_layout.specs.declared.cache.Layout.{Layout}
 use Rattle.mr_layout.specs.declared.cache.Entry.{Entry}
 use Rattle.mr_layout.specs.Sizes.{size_of, align_of, is_inhabited}
@@ -16,3 +18,7 @@ held_types entries = map (λ (e : Entry). e.ty) entries
 -- each entry has the layout of its type
 abbrev pub AreDefined : List Entry → Type 0
 AreDefined entries = All (λ (e : Entry). e.layout ≡ layout_of e.ty) entries
+
+-- each entry's type stands below the types of those behind it, in the order of types
+abbrev pub AreRising : List Entry → Type 0
+AreRising entries = AllPairs (λ (a b : Entry). ty_cmp a.ty b.ty ≡ Less) entries

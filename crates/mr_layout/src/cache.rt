@@ -1,10 +1,12 @@
 //! The layouts of the types of a program.
-ghost use Rattle.std.specs.Prelude.{◌≡◌, ◌<◌, ◌^◌, [], ◌∷◌, ◌++◌, All, Contains, Some, slice_get, OnOk, IfOk, IfSome, IfNone};
+ghost use Rattle.std.specs.Prelude.{◌≡◌, ◌<◌, ◌^◌, ◌↔◌, [], ◌∷◌, ◌++◌, All, Contains, Some, false, slice_get, IsTrue, OnOk, IfOk, IfSome, IfNone};
+ghost use Rattle.std.specs.Ordering.{is_lt};
+ghost use Rattle.mr_ast.specs.Order.{ty_cmp};
 ghost use Rattle.mr_layout.specs.Sizes.{size_of};
 ghost use Rattle.mr_layout.specs.TypeOk.{TypeOk};
 ghost use Rattle.mr_layout.specs.Written.{written_types};
 ghost use Rattle.mr_layout.specs.Cached.{IsCacheOf, Adds};
-ghost use Rattle.mr_layout.specs.Layouts.{layout_of, held_types};
+ghost use Rattle.mr_layout.specs.Layouts.{layout_of, held_types, AreRising};
 
 use crate::sizes::{align, inhabited, size};
 use crate::written::find_types;
@@ -32,7 +34,8 @@ struct Entry {
 
 /// The layouts of some types, each worked out once.
 ///
-/// A contract sees the list of the types. The layout that is kept for each is the one that is defined for it.
+/// A contract sees the list of the types, which stand in the order of types. The layout that is kept for each is the one
+/// that is defined for it.
 #[derive(Drop)]
 pub struct Cache {
     entries: Vec<Entry>,
@@ -49,11 +52,11 @@ impl Model for Cache {
 
     ghost coded = { Prim.hlevel (codes, ty.the_row.coded) };
 
-    ghost use Rattle.mr_layout.specs.Layouts.{held_types, AreDefined};
+    ghost use Rattle.mr_layout.specs.Layouts.{held_types, AreDefined, AreRising};
 
     ghost view = { λ c. held_types c.entries.items };
 
-    ghost invariant = { λ c. AreDefined c.entries.items };
+    ghost invariant = { λ c. AreDefined c.entries.items × AreRising c.entries.items };
 }
 
 impl Cache {
@@ -62,7 +65,8 @@ impl Cache {
         requires { All TypeOk (written_types p.now) }
         ensures { IfOk result (λ cache. IsCacheOf cache p.now) }
     {
-        let found = find_types(alloc, p)?;
+        let mut found = find_types(alloc, p)?;
+        found.sort();
         let mut cache = Cache {
             entries: Vec::new(alloc),
         };
@@ -81,12 +85,24 @@ impl Cache {
         Some(&self.entries[at].layout)
     }
 
-    // Puts a type last that isn't held.
-    fn add(&mut self, alloc: Global, t: &Ty) -> Result<(), OutOfMemory>
+    /// The layout of a well-formed type: the one that is held, or one that is worked out where the type isn't held. It takes no memory.
+    pub fn layout(&self, t: &Ty) -> Layout
         requires { TypeOk t.now }
+        ensures { result ≡ layout_of t.now }
+    {
+        match self.get(t) {
+            Some(layout) => *layout,
+            None => defined_layout(t),
+        }
+    }
+
+    // Puts a type last that isn't held, and that none of those that are held stands above.
+    fn add(&mut self, alloc: Global, t: &Ty) -> Result<(), OutOfMemory>
+        requires ok { TypeOk t.now }
+        requires last { All (λ held. is_lt (ty_cmp t.now held) ≡ false) self.old }
         ensures { OnOk result (Adds self.old t.now self.new) }
     {
-        if position(self.entries.as_slice(), t).is_some() {
+        if is_last(self.entries.as_slice(), t) {
             return Ok(());
         }
         let entry = Entry {
@@ -115,15 +131,23 @@ fn defined_layout(t: &Ty) -> Layout
     }
 }
 
+// Whether a type is held, where none of those that are held stands above it: it can only be the last.
+fn is_last(entries: &[Entry], t: &Ty) -> bool
+    requires rising { AreRising entries.now }
+    requires last { All (λ held. is_lt (ty_cmp t.now held) ≡ false) (held_types entries.now) }
+    ensures { IsTrue result ↔ Contains (held_types entries.now) t.now }
+{
+    match entries.last() {
+        Some(entry) => entry.ty.same(t),
+        None => false,
+    }
+}
+
 // Where the entry of a type stands.
 fn position(entries: &[Entry], t: &Ty) -> Option<usize>
+    requires { AreRising entries.now }
     ensures found { IfSome result (λ at. slice_get (held_types entries.now) at ≡ Some t.now) }
     ensures missing { IfNone result (¬ Contains (held_types entries.now) t.now) }
 {
-    for (at, entry) in entries.iter().enumerate() {
-        if entry.ty.same(t) {
-            return Some(at);
-        }
-    }
-    None
+    entries.binary_search_by(|entry| entry.ty.order(t)).ok()
 }

@@ -8,6 +8,7 @@ use Rattle.mr_base.specs.declared.byte.Kind.TheVariants.{Heap, Stack, Function}
 use Rattle.mr_base.specs.declared.reason.Reason.TheVariants.{NoProvenance, DeadAllocation, FreeAddress, FreeKind, FreeSize, FreeAlign}
 use Rattle.mr_mem.specs.declared.fault.PickFault.TheVariants.{BadAddress, Reused}
 use Rattle.mr_mem.specs.Memory.{Memory, Allocation, Ranges, allocated, fresh, range_fault, ranges_of, with_range, pick_fault, freed, free_fault, refusal, unless, without_life, is_leak}
+use Rattle.mr_mem.specs.Spans.{IsOverlapped, Taken, lesser_of, span_at}
 use Rattle.mr_mem.proofs.Identities.{get_here}
 use Rattle.mr_mem.proofs.RangeLaws.{ranges-empty, ranges-allocated, ranges-freed}
 
@@ -150,3 +151,23 @@ dead_heap = refl
 
 live_stack : is_leak (first, fresh Stack 4 4 16) ≡ false
 live_stack = refl
+
+-- ---- the same ranges in the order of their addresses
+
+abbrev taken_spans : Taken
+taken_spans = (16, record { size = 8; id = first }) ∷ (32, record { size = 8; id = second }) ∷ []
+
+begins_there : span_at taken_spans 32 ≡ Some (record { size = 8; id = second })
+begins_there = refl
+
+none_begins : span_at taken_spans 36 ≡ None
+none_begins = refl
+
+is_overlapped : IsOverlapped taken_spans 36 2 second
+is_overlapped = (32, record { size = 8; id = second }, refl, refl, refl)
+
+lesser_first : lesser_of (Some second) first ≡ first
+lesser_first = refl
+
+lesser_alone : lesser_of None second ≡ second
+lesser_alone = refl

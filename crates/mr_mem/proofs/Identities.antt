@@ -1,11 +1,13 @@
 -- Identities are in a total order, and those that compare alike are one.
-use Rattle.std.proofs.Common.{◌≡◌, ◌≢◌, refl, ap, ◌∙◌, cond}
+use Rattle.std.proofs.Common.{◌≡◌, ◌≢◌, refl, sym, ap, ◌∙◌, cond, true, false}
+use Rattle.std.proofs.lemmas.Bool.{true≢false}
+use Rattle.std.proofs.lemmas.List.MinMax.{ranks_by}
 use Rattle.std.specs.Prelude.{Some}
 use Rattle.std.specs.FinMap as map
-use Rattle.std.specs.Ordering.{nat_cmp, ordering_then, is_eq}
+use Rattle.std.specs.Ordering.{nat_cmp, ordering_then, ordering_reverse, is_eq, is_lt}
 use Rattle.std.specs.declared.cmp.Ordering.{Ordering}
 use Rattle.std.specs.declared.cmp.Ordering.TheVariants.{Less, Equal, Greater}
-use Rattle.std.specs.Cmp.{IsTotalOrder, on_total, then_total, nat_cmp_total, tied_itself}
+use Rattle.std.specs.Cmp.{IsStrictWeakOrder, IsTotalOrder, on_total, then_total, nat_cmp_total, tied_itself}
 use Rattle.mr_base.specs.declared.byte.AllocId.{AllocId}
 use Rattle.mr_mem.specs.Memory.{id_cmp, Memory, Allocation}
 
@@ -23,6 +25,31 @@ id_exact x y e =
     let a : x.thread ≡ y.thread = map.nat_cmp-IsAntisymmetric x.thread y.thread t.0 in
     let b : x.count ≡ y.count = map.nat_cmp-IsAntisymmetric x.count y.count t.1 in
     λ i. record { thread = a i; count = b i }
+
+-- ---- which identity is less
+
+pub id_rank : IsStrictWeakOrder (λ (x y : AllocId). is_lt (id_cmp x y))
+id_rank = ranks_by id_total (λ (i : AllocId). i)
+
+pub not_less : (x : AllocId) → is_lt (id_cmp x x) ≡ false
+not_less x = ap is_lt (tied_itself id_total x)
+
+pub is_less : (r : Ordering) → is_lt r ≡ true → r ≡ Less
+is_less Less p = refl
+is_less Equal p = cc
+is_less Greater p = cc
+
+pub turned_round : (x y : AllocId) → id_cmp x y ≡ Less → id_cmp y x ≡ Greater
+turned_round x y e = id_total.antisymm y x ∙ ap ordering_reverse e
+
+-- two of which neither is less are one
+pub none_less : (x y : AllocId) → is_lt (id_cmp x y) ≡ false → is_lt (id_cmp y x) ≡ false → x ≡ y
+none_less x y h k = by_order (id_cmp x y) refl h
+  where
+    by_order : (r : Ordering) → id_cmp x y ≡ r → is_lt r ≡ false → x ≡ y
+    by_order Less is n = absurd (true≢false n)
+    by_order Equal is n = id_exact x y is
+    by_order Greater is n = absurd (true≢false (sym (ap is_lt (id_total.antisymm y x ∙ ap ordering_reverse is)) ∙ k))
 
 module _ (m : Memory) (k : AllocId) (v : Allocation) where
   pub get_here : map.get (map.insert m k v) k ≡ Some v

@@ -1,17 +1,21 @@
--- An allocation adds its range, and freeing keeps all ranges.
-use Rattle.std.proofs.Common.{◌≡◌, ℕ, refl, sym, ap, ◌∙◌, List, [], ◌∷◌, Bool, true, false, cond, map}
-use Rattle.std.specs.Prelude.{Some, None, Option, ◌&&◌, Result, Ok, Err, T}
+-- An allocation adds its range; freeing and storing keep all ranges.
+use Rattle.std.proofs.Common.{◌≡◌, ℕ, ◌-◌, refl, sym, ap, ◌∙◌, List, [], ◌∷◌, Bool, true, false, cond, length, map}
+use Rattle.std.specs.Prelude.{Some, None, Option, ◌&&◌, OnErr, Result, Ok, Err, T}
 use Rattle.std.specs.FinMap as fin
 use Rattle.std.specs.FinMap.Entries.{put, by_order, below_all, is_sorted, find}
 use Rattle.std.specs.Ordering.{is_eq, is_lt}
 use Rattle.std.specs.declared.cmp.Ordering.{Ordering}
 use Rattle.std.specs.declared.cmp.Ordering.TheVariants.{Less, Equal, Greater}
+use Rattle.mr_base.specs.declared.byte.AbstractByte.{AbstractByte}
 use Rattle.mr_base.specs.declared.byte.AllocId.{AllocId}
 use Rattle.mr_base.specs.declared.byte.Kind.{Kind}
 use Rattle.mr_base.specs.declared.byte.Pointer.{Pointer}
 use Rattle.mr_base.specs.declared.reason.Reason.{Reason}
-use Rattle.mr_mem.specs.Memory.{Memory, Allocation, range_of, ranges_of, with_range, allocated, fresh, id_cmp, freed, freed_of, refusal, without_life, unless}
-use Rattle.mr_mem.proofs.Identities.{id_total}
+use Rattle.mr_runs.specs.Ranges.{with_range_replaced}
+use Rattle.mr_mem.specs.declared.fault.Fault.{Fault}
+use Rattle.mr_mem.specs.Memory.{Memory, Allocation, inside, put_at, range_of, ranges_of, then_give, with_range, allocated, fresh, id_cmp, freed, freed_of, refusal, without_life, unless}
+use Rattle.mr_mem.specs.Stored.{IsStored}
+use Rattle.mr_mem.proofs.Identities.{id_total, is_less}
 use Rattle.mr_mem.proofs.Views.{no_entries}
 
 map_by_order : {A B : Type 0} (f : A → B) (r : Ordering) (a b c : List A) → map f (by_order r a b c) ≡ by_order r (map f a) (map f b) (map f c)
@@ -44,11 +48,6 @@ first false b p = p
 second : (a b : Bool) → (a && b) ≡ true → b ≡ true
 second true b p = p
 second false b p = cc
-
-is_less : (r : Ordering) → is_lt r ≡ true → r ≡ Less
-is_less Less p = refl
-is_less Equal p = cc
-is_less Greater p = cc
 
 -- a key below all others is none of them
 find_below : (id : AllocId) (es : List (AllocId × Allocation)) → below_all id_cmp id es ≡ true → find id_cmp id es ≡ None
@@ -91,7 +90,9 @@ same_ranges m id a b g e d =
     ap (map range_of) (fin.entries-insert id_total m id b)
     ∙ same_put id a b (fin.entries m) (truth _ (fin.entries_sorted m)) (sym (fin.get-entries m id) ∙ g) e d
 
-ranges-without_life : (m : Memory) (id : AllocId) (o : Option Allocation) → fin.get m id ≡ o → ranges_of (without_life m id o) ≡ ranges_of m
+-- ---- freeing
+
+pub ranges-without_life : (m : Memory) (id : AllocId) (o : Option Allocation) → fin.get m id ≡ o → ranges_of (without_life m id o) ≡ ranges_of m
 ranges-without_life m id None g = refl
 ranges-without_life m id (Some a) g = same_ranges m id a (record a { live = false }) g refl refl
 
@@ -113,3 +114,50 @@ freed_by m m' (Some id) addr kind size align id' h = freed_unless m m' id id' (r
 pub ranges-freed : (m m' : Memory) (p : Pointer) (kind : Kind) (size align : ℕ) (id : AllocId) → freed m p kind size align ≡ Ok (id, m') → ranges_of m' ≡ ranges_of m
 unfolding freed
 ranges-freed m m' p kind size align id h = freed_by m m' p.prov p.addr kind size align id h
+
+-- ---- storing
+
+put_inside : (m m' : Memory) (id : AllocId) (a b : Allocation) (r : Result Allocation Reason) → fin.get m id ≡ Some a → a.addr ≡ b.addr → a.span ≡ b.span
+    → then_give (then_give r (λ _. b)) (fin.insert m id) ≡ Ok m' → ranges_of m' ≡ ranges_of m
+put_inside m m' id a b (Ok x) g e d h =
+    let stored : fin.insert m id b ≡ m' = cc in
+    ap ranges_of (sym stored) ∙ same_ranges m id a b g e d
+put_inside m m' id a b (Err r) g e d h = cc
+
+put_into : (m m' : Memory) (id : AllocId) (o : Option Allocation) (addr : ℕ) (bytes : List AbstractByte) → fin.get m id ≡ o → put_at m id o addr bytes ≡ Ok m' → ranges_of m' ≡ ranges_of m
+put_into m m' id None addr bytes g h = cc
+put_into m m' id (Some a) addr bytes g h =
+    put_inside m m' id a (record a { bytes = with_range_replaced a.bytes (addr - a.addr) bytes }) (inside (Some a) addr (length bytes)) g refl refl h
+
+-- storing keeps all ranges, whatever it comes to
+pub ranges-stored : (m m' : Memory) (id : AllocId) (addr : ℕ) (bytes : List AbstractByte) (result : Result (Unit {0}) Fault)
+    → IsStored (put_at m id (fin.get m id) addr bytes) m' result → OnErr result (m' ≡ m) → ranges_of m' ≡ ranges_of m
+ranges-stored m m' id addr bytes (Ok u) h same = put_into m m' id (fin.get m id) addr bytes refl h
+ranges-stored m m' id addr bytes (Err e) h same = ap ranges_of same
+
+-- ---- the ranges of a memory, by identity
+
+below_ranges : (id : AllocId) (es : List (AllocId × Allocation)) → below_all id_cmp id (map range_of es) ≡ below_all id_cmp id es
+below_ranges id [] = refl
+below_ranges id (e ∷ es) = ap (λ b. is_lt (id_cmp id e.0) && b) (below_ranges id es)
+
+sorted_ranges : (es : List (AllocId × Allocation)) → is_sorted id_cmp (map range_of es) ≡ is_sorted id_cmp es
+sorted_ranges [] = refl
+sorted_ranges (e ∷ es) = λ i. below_ranges e.0 es i && sorted_ranges es i
+
+absent_ranges : (id : AllocId) (es : List (AllocId × Allocation)) → find id_cmp id es ≡ None → find id_cmp id (map range_of es) ≡ None
+absent_ranges id [] h = refl
+absent_ranges id (e ∷ es) h = by_test (is_eq (id_cmp id e.0)) (absent_ranges id es) h
+  where
+    by_test : (b : Bool) → (find id_cmp id es ≡ None → find id_cmp id (map range_of es) ≡ None) → cond b (Some e.1) (find id_cmp id es) ≡ None → cond b (Some (range_of e).1) (find id_cmp id (map range_of es)) ≡ None
+    by_test true later k = absurd (cc)
+    by_test false later k = later k
+
+pub ranges_sorted : (m : Memory) → is_sorted id_cmp (ranges_of m) ≡ true
+unfolding ranges_of
+ranges_sorted m = sorted_ranges (fin.entries m) ∙ truth _ (fin.entries_sorted m)
+
+-- what has no allocation has no range
+pub ranges_absent : (m : Memory) (id : AllocId) → fin.get m id ≡ None → find id_cmp id (ranges_of m) ≡ None
+unfolding ranges_of
+ranges_absent m id none = absent_ranges id (fin.entries m) (sym (fin.get-entries m id) ∙ none)

@@ -14,11 +14,15 @@
 //! - [`Memory::leaks`]: whether a heap allocation is live.
 //!
 //! A refused call leaves the memory as it was. [`Fault`] is for what stands above: undefined behaviour, or want of memory.
+//!
+//! Beside the allocations by identity stand the addresses that they take, in the order of the addresses
+//! (`specs/Spans.antt`). No contract sees them.
 #![tactic(auto)]
 
 mod fault;
 mod memory;
 mod ranges;
+mod spans;
 
 pub use fault::{Fault, PickFault};
 pub use memory::Memory;

@@ -1,15 +1,16 @@
 //! The allocations of a run, and what is asked of them.
-ghost use Rattle.std.specs.Prelude.{◌≡◌, map};
+ghost use Rattle.std.specs.Prelude.{◌≡◌, None, OnErr, OnOk};
 ghost use Rattle.std.specs.List.{list_any};
 ghost use Rattle.std.specs.BTreeMap.{IsOrdered};
-ghost use Rattle.mr_base.specs.Pairs.{is_meeting};
-ghost use Rattle.mr_mem.specs.Memory.{first_overlapped, free_fault, held, id_cmp, is_bad_address, is_leak, is_multiple, kind_number, range_of, refusal, without_life};
+ghost use Rattle.mr_mem.specs.Memory.{free_fault, held, id_cmp, is_bad_address, is_leak, is_multiple, kind_number, ranges_of, refusal, without_life};
+ghost use Rattle.mr_mem.specs.Spans.{AreSpansOf, IsFree};
 ghost use Rattle.mr_mem.specs.Stored.{allocation_of, entries_of, memory_of};
 ghost use Rattle.std.specs.FinMap as fin;
 
 use crate::fault::{Fault, PickFault};
 use crate::ranges::{lent, missed, put, put_uninit, stored_at};
-use mr_base::{AbstractByte, AllocId, Kind, Pointer, Reason, ranges_meet};
+use crate::spans::{Span, Spans};
+use mr_base::{AbstractByte, AllocId, Kind, Pointer, Reason};
 use mr_runs::{Runs, View};
 use std::alloc::{AllocError, Global};
 use std::collections::BTreeMap;
@@ -27,14 +28,17 @@ pub struct Stored {
 }
 
 /// The allocations of a run, dead and live. (MiniRust, mem: the basic memory.)
+///
+/// They are kept by their identities, and the addresses that they take in the order of the addresses.
 #[derive(Drop)]
 pub struct Memory {
     allocations: BTreeMap<AllocId, Stored>,
+    spans: Spans,
     alloc: Global,
 }
 
 impl Model for Memory {
-    ghost use Rattle.mr_mem.specs.Memory.{Memory as Allocations};
+    ghost use Rattle.mr_mem.specs.Memory.{Memory as Allocations, ranges_of};
 
     ghost Value = { Allocations };
 
@@ -43,9 +47,12 @@ impl Model for Memory {
 
     ghost coded = { fin.code (Prim.hlevel codes) (Prim.hlevel codes) };
 
+    ghost use Rattle.mr_mem.specs.Spans.{AreSpansOf};
     ghost use Rattle.mr_mem.specs.Stored.{memory_of};
 
     ghost view = { λ m. memory_of m.allocations.entries };
+
+    ghost invariant = { λ m. AreSpansOf m.spans (ranges_of (memory_of m.allocations.entries)) };
 }
 
 // How many bytes an allocation of this size holds.
@@ -61,9 +68,10 @@ fn held_by(kind: Kind, size: u64) -> u64
 impl Memory {
     ghost use Rattle.std.specs.Prelude.{◌≡◌, ◌+◌, ◌-◌, ◌<◌, ◌≤◌, ◌^◌, MatchResult, OnOk, OnErr, IfOk, [], Some, None, Ok, Err, replicate};
     ghost use Rattle.mr_base.specs.declared.byte.AbstractByte.TheVariants.{Uninit};
+    ghost use Rattle.mr_runs.specs.Pieces.{AreMaximal};
     ghost use Rattle.mr_mem.specs.Stored.{IsStored, seen_view};
     ghost use Rattle.std.specs.FinMap as fin;
-    ghost use Rattle.mr_mem.specs.Memory.{pick_fault, allocated, checked, freed, leaks as is_leaking, read, written, IsPowerOfTwo, IsAsked};
+    ghost use Rattle.mr_mem.specs.Memory.{pick_fault, allocated, checked, first_overlapped, freed, leaks as is_leaking, ranges_of, read, written, IsPowerOfTwo, IsAsked};
 
     /// No allocation.
     pub fn new(alloc: Global) -> Memory
@@ -71,6 +79,7 @@ impl Memory {
     {
         Memory {
             allocations: BTreeMap::new(alloc),
+            spans: Spans::new(alloc),
             alloc,
         }
     }
@@ -93,7 +102,7 @@ impl Memory {
         ensures err { OnErr result (self.new ≡ self.old) }
     {
         let bytes = Runs::uninit(self.alloc, held_by(kind, size))?;
-        let new = Stored {
+        let stored = Stored {
             addr,
             span: size,
             align,
@@ -101,22 +110,31 @@ impl Memory {
             live: true,
             bytes,
         };
-        self.allocations.insert(id, new)?;
+        enter(&mut self.allocations, &mut self.spans, id, stored)?;
         Ok(())
     }
 
-    /// Whether an address may be picked for a new allocation of this size and alignment.
-    #[tactic(auto, using(crate::proofs::Views::entries), unfolding(crate::specs::Memory::range_fault, crate::specs::Memory::ranges_of))]
+    /// Whether an address may be picked for a new allocation of this size and alignment. Where no allocation is overlapped,
+    /// the time for it grows as the logarithm of their number.
+    #[tactic(auto, unfolding(crate::specs::Memory::range_fault))]
     pub fn lawful(&self, addr: u64, size: u64, align: u64) -> Result<(), PickFault>
         ensures { MatchResult result (λ _. pick_fault self.now addr size align ≡ None) (λ f. pick_fault self.now addr size align ≡ Some f) }
     {
         if is_bad(addr, size, align) {
             return Err(PickFault::BadAddress);
         }
-        match first_shared(&self.allocations, addr, size) {
+        match self.first_shared(addr, size) {
             Some(id) => Err(PickFault::Reused(id)),
             None => Ok(()),
         }
+    }
+
+    // The first allocation, in the order of identities, whose range the new one shares.
+    fn first_shared(&self, addr: u64, size: u64) -> Option<AllocId>
+        requires { addr + size ≤ 2 ^ 64 }
+        ensures { result ≡ first_overlapped addr size (ranges_of self.now) }
+    {
+        self.spans.least_overlapped(addr, size)
     }
 
     /// Frees the allocation that the pointer begins, and names it. Of several reasons against it the first is given: no
@@ -154,10 +172,12 @@ impl Memory {
         Ok(p.prov)
     }
 
-    /// Lends the `len` bytes from the pointer on, and no piece where they are none. Misalignment is told before the range check.
+    /// Lends the `len` bytes from the pointer on in as few pieces as can be, and no piece where they are none. Misalignment is told
+    /// before the range check.
     pub fn load(&self, p: Pointer, len: u64, align: u64) -> Result<View<'_>, Reason>
         ensures lent { seen_view result ≡ read self.now p len align }
         ensures empty { len ≡ 0 → IfOk result (λ view. view ≡ []) }
+        ensures maximal { IfOk result AreMaximal }
     {
         if !is_multiple(p.addr, align) {
             return Err(Reason::Misaligned);
@@ -225,24 +245,46 @@ fn is_multiple(addr: u64, align: u64) -> bool
     align != 0 && addr % align == 0
 }
 
-// Whether a range shares an address with that of the allocation.
-fn shares(addr: u64, size: u64, a: &Stored) -> bool
-    ensures { result ≡ is_meeting addr size a.now.addr a.now.span }
+// Enters an allocation under its identity.
+fn enter_by_identity(
+    allocations: &mut BTreeMap<AllocId, Stored>,
+    id: AllocId,
+    stored: Stored,
+) -> Result<(), AllocError>
+    ensures ok { OnOk result (memory_of allocations.new.entries ≡ fin.insert (memory_of allocations.old.entries) id (allocation_of stored)) }
+    ensures err { OnErr result (memory_of allocations.new.entries ≡ memory_of allocations.old.entries) }
 {
-    ranges_meet(addr, size, a.addr, a.span)
+    allocations.insert(id, stored)?;
+    Ok(())
 }
 
-// The first allocation, in the order of identities, whose range the new one shares.
-fn first_shared(allocations: &BTreeMap<AllocId, Stored>, addr: u64, size: u64) -> Option<AllocId>
-    ensures first { result ≡ first_overlapped addr size (map range_of (entries_of allocations.now.entries)) }
-    ensures ordered { IsOrdered id_cmp allocations.now }
+// Enters an allocation under its identity and, where it has an address, its span; or neither.
+fn enter(
+    allocations: &mut BTreeMap<AllocId, Stored>,
+    spans: &mut Spans,
+    id: AllocId,
+    stored: Stored,
+) -> Result<(), AllocError>
+    requires absent { fin.get (memory_of allocations.old.entries) id ≡ None }
+    requires spans { AreSpansOf spans.old (ranges_of (memory_of allocations.old.entries)) }
+    requires free { IsFree spans.old stored.addr stored.span }
+    ensures ok { OnOk result (memory_of allocations.new.entries ≡ fin.insert (memory_of allocations.old.entries) id (allocation_of stored)) }
+    ensures err { OnErr result (memory_of allocations.new.entries ≡ memory_of allocations.old.entries) }
+    ensures spans { AreSpansOf spans.new (ranges_of (memory_of allocations.new.entries)) }
 {
-    for (id, a) in allocations.iter() {
-        if shares(addr, size, a) {
-            return Some(*id);
+    let start = stored.addr;
+    let size = stored.span;
+    if size == 0 {
+        return enter_by_identity(allocations, id, stored);
+    }
+    spans.add(start, Span { size, id })?;
+    match enter_by_identity(allocations, id, stored) {
+        Ok(()) => Ok(()),
+        Err(full) => {
+            spans.remove(start);
+            Err(full)
         }
     }
-    None
 }
 
 // The first reason against freeing what has the identity.

@@ -1,7 +1,8 @@
 //! Ranges of the bytes of an allocation.
-ghost use Rattle.std.specs.Prelude.{◌≡◌, OnErr, Some, option_copied, option_map, replicate};
+ghost use Rattle.std.specs.Prelude.{◌≡◌, IfOk, OnErr, Some, option_copied, option_map, replicate};
 ghost use Rattle.std.specs.FinMap as fin;
 ghost use Rattle.mr_base.specs.declared.byte.AbstractByte.TheVariants.{Uninit};
+ghost use Rattle.mr_runs.specs.Pieces.{AreMaximal};
 ghost use Rattle.mr_mem.specs.Memory.{bytes_at, found, inside, put_at, then_give};
 ghost use Rattle.mr_mem.specs.Stored.{IsStored, IsStoredIn, allocation_of, memory_of, seen_view};
 
@@ -46,7 +47,8 @@ pub fn missed(a: Option<&Stored>, addr: u64, len: u64) -> Result<(), Reason>
 
 /// The bytes of a range.
 pub fn lent(a: Option<&Stored>, addr: u64, len: u64) -> Result<View<'_>, Reason>
-    ensures { seen_view result ≡ then_give (inside (option_map allocation_of (option_copied a.entry)) addr len) (λ b. bytes_at b addr len) }
+    ensures lent { seen_view result ≡ then_give (inside (option_map allocation_of (option_copied a.entry)) addr len) (λ b. bytes_at b addr len) }
+    ensures maximal { IfOk result AreMaximal }
 {
     match a {
         Some(a) => lent_by(a, addr, len),
@@ -56,7 +58,8 @@ pub fn lent(a: Option<&Stored>, addr: u64, len: u64) -> Result<View<'_>, Reason>
 
 // The bytes of a range of an allocation.
 fn lent_by(a: &Stored, addr: u64, len: u64) -> Result<View<'_>, Reason>
-    ensures { seen_view result ≡ then_give (inside (Some (allocation_of a.now)) addr len) (λ b. bytes_at b addr len) }
+    ensures lent { seen_view result ≡ then_give (inside (Some (allocation_of a.now)) addr len) (λ b. bytes_at b addr len) }
+    ensures maximal { IfOk result AreMaximal }
 {
     range_fault(a, addr, len)?;
     Ok(a.bytes.view(addr - a.addr, len))

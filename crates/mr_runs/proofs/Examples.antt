@@ -1,12 +1,11 @@
--- Small lists: bytes in pieces, and a range replaced.
-use Rattle.std.proofs.Common.{◌≡◌, ℕ, List, [], ◌∷◌, Some, None, refl}
+-- Small lists: bytes in pieces, a range replaced, and windows of pieces.
+use Rattle.std.proofs.Common.{◌≡◌, ℕ, List, [], ◌∷◌, replicate, Some, None, refl, lit<}
 use Rattle.mr_base.specs.declared.byte.AllocId.{AllocId}
 use Rattle.mr_base.specs.declared.byte.AbstractByte.{AbstractByte}
 use Rattle.mr_base.specs.declared.byte.AbstractByte.TheVariants.{Uninit, Init}
-use Rattle.mr_runs.specs.declared.mark.Mark.TheVariants as mark
-use Rattle.mr_runs.specs.Lists.{bytes_of_lists, pieces_of_lists}
-use Rattle.mr_runs.specs.Pieces.{UninitPiece, InitPiece, bytes_of_pieces}
+use Rattle.mr_runs.specs.Pieces.{SeenPiece, UninitPiece, InitPiece, bytes_of_pieces, AreMaximal}
 use Rattle.mr_runs.specs.Ranges.{with_range_replaced}
+use Rattle.mr_runs.specs.Windows.{first_pieces, pieces_past}
 
 abbrev owner : AllocId
 owner = record { thread = 1; count = 7 }
@@ -19,16 +18,12 @@ four = Uninit ∷ Init 5 (Some owner) ∷ Init 6 (Some owner) ∷ Init 0 None �
 few_pieces : bytes_of_pieces (UninitPiece 1 ∷ InitPiece (5 ∷ 6 ∷ []) (Some owner) ∷ InitPiece (0 ∷ []) None ∷ []) ≡ four
 few_pieces = refl
 
--- or each in a piece of its own
+-- or each in a piece of its own, which are then not as few as can be
 four_pieces : bytes_of_pieces (UninitPiece 1 ∷ InitPiece (5 ∷ []) (Some owner) ∷ InitPiece (6 ∷ []) (Some owner) ∷ InitPiece (0 ∷ []) None ∷ []) ≡ four
 four_pieces = refl
 
--- the number of an uninitialised byte does not show
-four_in_lists : bytes_of_lists (9 ∷ 5 ∷ 6 ∷ 0 ∷ []) (mark.Uninit ∷ mark.Init (Some owner) ∷ mark.Init (Some owner) ∷ mark.Init None ∷ []) ≡ four
-four_in_lists = refl
-
-pieces_in_lists : pieces_of_lists (9 ∷ 5 ∷ []) (mark.Uninit ∷ mark.Init (Some owner) ∷ []) ≡ UninitPiece 1 ∷ InitPiece (5 ∷ []) (Some owner) ∷ []
-pieces_in_lists = refl
+not_four_pieces : AreMaximal (UninitPiece 1 ∷ InitPiece (5 ∷ []) (Some owner) ∷ InitPiece (6 ∷ []) (Some owner) ∷ InitPiece (0 ∷ []) None ∷ []) → ⊥
+not_four_pieces h = h.2.1 refl
 
 replaced_in_the_middle : with_range_replaced {X = ℕ} (1 ∷ 2 ∷ 3 ∷ 4 ∷ []) 1 (8 ∷ 9 ∷ []) ≡ 1 ∷ 8 ∷ 9 ∷ 4 ∷ []
 replaced_in_the_middle = refl
@@ -41,3 +36,61 @@ all_replaced = refl
 
 nothing_replaced : with_range_replaced {X = ℕ} (1 ∷ 2 ∷ []) 1 [] ≡ 1 ∷ 2 ∷ []
 nothing_replaced = refl
+
+-- a window that cuts pieces at both ends
+cut : first_pieces (pieces_past (UninitPiece 3 ∷ InitPiece (5 ∷ 6 ∷ []) None ∷ []) 2) 2 ≡ UninitPiece 1 ∷ InitPiece (5 ∷ []) None ∷ []
+cut = refl
+
+-- ---- eight uninitialised bytes, and what is written to them one after the other, in pieces
+
+abbrev fresh : List SeenPiece
+fresh = UninitPiece 8 ∷ []
+
+fresh_bytes : bytes_of_pieces fresh ≡ replicate 8 Uninit
+fresh_bytes = refl
+
+fresh_few : AreMaximal fresh
+fresh_few = (lit< tt, tt, tt)
+
+abbrev two_written : List SeenPiece
+two_written = UninitPiece 2 ∷ InitPiece (1 ∷ 2 ∷ []) (Some owner) ∷ UninitPiece 4 ∷ []
+
+two_written_bytes : bytes_of_pieces two_written ≡ with_range_replaced (bytes_of_pieces fresh) 2 (Init 1 (Some owner) ∷ Init 2 (Some owner) ∷ [])
+two_written_bytes = refl
+
+two_written_few : AreMaximal two_written
+two_written_few = (lit< tt, (λ e. cc), (lit< tt, (λ e. cc), (lit< tt, tt, tt)))
+
+-- what is written right behind bytes of its provenance joins them
+abbrev three_written : List SeenPiece
+three_written = UninitPiece 2 ∷ InitPiece (1 ∷ 2 ∷ 3 ∷ []) (Some owner) ∷ UninitPiece 3 ∷ []
+
+three_written_bytes : bytes_of_pieces three_written ≡ with_range_replaced (bytes_of_pieces two_written) 4 (Init 3 (Some owner) ∷ [])
+three_written_bytes = refl
+
+three_written_few : AreMaximal three_written
+three_written_few = (lit< tt, (λ e. cc), (lit< tt, (λ e. cc), (lit< tt, tt, tt)))
+
+-- another provenance splits them
+abbrev other_written : List SeenPiece
+other_written = UninitPiece 2 ∷ InitPiece (1 ∷ []) (Some owner) ∷ InitPiece (9 ∷ []) None ∷ InitPiece (3 ∷ []) (Some owner) ∷ UninitPiece 3 ∷ []
+
+other_written_bytes : bytes_of_pieces other_written ≡ with_range_replaced (bytes_of_pieces three_written) 3 (Init 9 None ∷ [])
+other_written_bytes = refl
+
+other_written_few : AreMaximal other_written
+other_written_few = (lit< tt, (λ e. cc), (lit< tt, (λ e. cc), (lit< tt, (λ e. cc), (lit< tt, (λ e. cc), (lit< tt, tt, tt)))))
+
+-- and so does an uninitialised byte
+abbrev one_filled : List SeenPiece
+one_filled = UninitPiece 2 ∷ InitPiece (1 ∷ []) (Some owner) ∷ UninitPiece 1 ∷ InitPiece (3 ∷ []) (Some owner) ∷ UninitPiece 3 ∷ []
+
+one_filled_bytes : bytes_of_pieces one_filled ≡ with_range_replaced (bytes_of_pieces other_written) 3 (replicate 1 Uninit)
+one_filled_bytes = refl
+
+one_filled_few : AreMaximal one_filled
+one_filled_few = (lit< tt, (λ e. cc), (lit< tt, (λ e. cc), (lit< tt, (λ e. cc), (lit< tt, (λ e. cc), (lit< tt, tt, tt)))))
+
+-- a byte of the provenance of both its neighbours makes them one
+rejoined_bytes : bytes_of_pieces three_written ≡ with_range_replaced (bytes_of_pieces one_filled) 3 (Init 2 (Some owner) ∷ [])
+rejoined_bytes = refl

@@ -1,8 +1,10 @@
 -- A range replaced: its length, and one item more.
-use Rattle.std.proofs.Common.{◌≡◌, ℕ, suc, ◌+◌, ◌<◌, ◌≤◌, List, [], ◌∷◌, ◌++◌, length, take, drop, get_or, set, sym, ap, ◌∙◌, arith, append_assoc, length-take, length-append}
+use Rattle.std.proofs.Common.{◌≡◌, ℕ, suc, ◌+◌, ◌-◌, ◌<◌, ◌≤◌, List, [], ◌∷◌, ◌++◌, length, map, take, drop, get_or, set, sym, ap, ◌∙◌, arith, append_assoc, length-take, length-append, take_all, take-append-drop, append-nil}
+use Rattle.std.proofs.lemmas.List.{drop-append-le, drop-map, length-map, map-append, take-append-le, take-map}
 use Rattle.std.proofs.Math.Seq.{drop-cons, set-append_seam}
 use Rattle.std.proofs.lemmas.Grind.{common_steps}
 use Rattle.mr_runs.specs.Ranges.{with_range_replaced}
+use Rattle.mr_runs.proofs.ListLaws.{drop_in_append, take_in_append}
 
 -- the list stays as long as it was
 pub length-with_range_replaced : {X : Type 0} (old : List X) (from : ℕ) (new : List X) → from + length new ≤ length old → length (with_range_replaced old from new) ≡ length old
@@ -31,3 +33,44 @@ range_grows {X} old now after from done i x now_is after_is done_len inside =
     ∙ ap (λ (l : List X). set l (from + i) x) now_is
     ∙ ap (λ k. set (with_range_replaced old from done) (from + k) x) (sym done_len)
     ∙ set-with_range_replaced old from done x (omega arith)
+
+-- a range within the middle of three lists
+pub replaced_inside : {X : Type 0} (front middle behind : List X) (from : ℕ) (new : List X) → length front ≤ from → from + length new ≤ length front + length middle
+    → with_range_replaced (front ++ (middle ++ behind)) from new ≡ front ++ (with_range_replaced middle (from - length front) new ++ behind)
+replaced_inside {X} front middle behind from new low high =
+    let k = from - length front in
+    let first : take from (front ++ (middle ++ behind)) ≡ front ++ take k middle =
+    take_in_append from front (middle ++ behind)
+    ∙ ap (λ (xs : List X). xs ++ take k (middle ++ behind)) (take_all from front low)
+    ∙ ap (λ (xs : List X). front ++ xs) (take-append-le k middle behind (omega arith)) in
+    let split : from + length new - length front ≡ k + length new = omega arith in
+    let last : drop (from + length new) (front ++ (middle ++ behind)) ≡ drop (k + length new) middle ++ behind =
+    drop_in_append (from + length new) front (middle ++ behind) (omega arith)
+    ∙ ap (λ n. drop n (middle ++ behind)) split
+    ∙ drop-append-le (k + length new) middle behind (omega arith) in
+    ap (λ (xs : List X). xs ++ new ++ drop (from + length new) (front ++ (middle ++ behind))) first
+    ∙ ap (λ (xs : List X). front ++ take k middle ++ new ++ xs) last
+    ∙ regroup front (take k middle) new (drop (k + length new) middle) behind
+  where
+    regroup : (a b c d e : List X) → a ++ b ++ c ++ (d ++ e) ≡ a ++ (b ++ c ++ d ++ e)
+    regroup a b c d e = simp append_assoc
+
+-- a range replaced, where each item is read by f
+pub map_replaced : {X Y : Type 0} (f : X → Y) (old : List X) (from : ℕ) (new : List X) → map f (with_range_replaced old from new) ≡ with_range_replaced (map f old) from (map f new)
+map_replaced {X} {Y} f old from new =
+    map-append f (take from old ++ new) (drop (from + length new) old)
+    ∙ ap (λ (xs : List Y). xs ++ map f (drop (from + length new) old)) (map-append f (take from old) new)
+    ∙ ap (λ (xs : List Y). xs ++ map f new ++ map f (drop (from + length new) old)) (sym (take-map f from old))
+    ∙ ap (λ (xs : List Y). take from (map f old) ++ map f new ++ xs) (sym (drop-map f (from + length new) old))
+    ∙ ap (λ n. take from (map f old) ++ map f new ++ drop (from + n) (map f old)) (sym (length-map new f))
+
+-- nothing replaced
+pub nothing_replaced : {X : Type 0} (old : List X) (from : ℕ) (new : List X) → length new ≡ 0 → old ≡ with_range_replaced old from new
+nothing_replaced {X} old from [] none =
+    sym (take-append-drop from old)
+    ∙ ap (λ n. take from old ++ drop n old) (no_more from)
+    ∙ ap (λ (xs : List X). xs ++ drop (from + 0) old) (sym (append-nil (take from old)))
+  where
+    no_more : (n : ℕ) → n ≡ n + 0
+    no_more n = omega arith
+nothing_replaced {X} old from (x ∷ new) none = absurd (omega arith)

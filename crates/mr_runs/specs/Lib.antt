@@ -1,4 +1,9 @@
-pub mod Lists
+pub mod Contents
+pub mod Exchanged
+pub mod Growing
+pub mod Numbers
 pub mod Pieces
+pub mod Placed
 pub mod Ranges
 pub mod Seen
+pub mod Windows

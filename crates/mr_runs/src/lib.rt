@@ -3,14 +3,26 @@
 //! - [`Runs`] is the list. `Runs::uninit` makes one of uninitialised bytes, `len` counts them, `view` lends a part, `write` and
 //!   `fill_uninit` replace a part, and `copy_out` copies one.
 //! - [`View`] is what is lent: its pieces, each uninitialised or initialised with one provenance, in order. `View::len`,
-//!   `byte` and `piece` read it.
+//!   `byte` and `piece` read it, and `part` lends a part of it.
+//!
+//! The bytes are kept as runs in the order of their positions: so many uninitialised bytes, or the numbers of bytes with one
+//! provenance. No run is empty, and no two neighbours could be one run. A run is found by its position in an ordered map. A
+//! write or a fill makes anew the runs of its range and what stays of the two at its ends. A write into a run of bytes with its
+//! provenance puts the numbers in place, and one right behind such a run, over uninitialised bytes, makes it longer.
 //!
 //! Proved: contracts see a `Runs` as the list of its bytes and a `View` as the list of its pieces. The pieces of a view
-//! join to exactly the part that was asked for. A write or a fill replaces just its range and leaves every other byte as
-//! it was. A copy appends the part. Where memory ran out, nothing has changed. No view takes memory.
+//! join to exactly the part that was asked for, and there are no fewer pieces of it. A write or a fill replaces just its range
+//! and leaves every other byte as it was. A copy appends the part. Where memory ran out, nothing has changed. No view takes
+//! memory.
 #![tactic(auto)]
 
+mod exchange;
+mod finding;
+mod grow;
 mod mark;
+mod replace;
+mod row;
+mod run;
 mod runs;
 mod views;
 

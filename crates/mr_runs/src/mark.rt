@@ -1,22 +1,18 @@
 //! How a byte is marked: uninitialised, or initialised with a provenance.
-ghost use Rattle.std.specs.Prelude.{◌≡◌};
-ghost use Rattle.mr_runs.specs.Lists.{byte_of};
+ghost use Rattle.std.specs.Prelude.{◌≡◌, ◌↔◌, IsTrue};
 
-use mr_base::{AbstractByte, AllocId};
+use mr_base::AllocId;
 
-/// What is known of a byte beside its number.
+/// What the bytes of a run have in common.
 #[derive(Clone, Copy, Debug, PartialEq, Eq)]
 pub(crate) enum Mark {
     Uninit,
     Init(Option<AllocId>),
 }
 
-/// The number and the mark of a byte. The number of an uninitialised byte is 0.
-pub(crate) fn number_and_mark(byte: AbstractByte) -> (u8, Mark)
-    ensures { byte_of result.0 result.1 ≡ byte }
+/// Whether two marks are the same.
+pub(crate) fn is_same(a: Mark, b: Mark) -> bool
+    ensures { IsTrue result ↔ (a ≡ b) }
 {
-    match byte {
-        AbstractByte::Uninit => (0, Mark::Uninit),
-        AbstractByte::Init(number, provenance) => (number, Mark::Init(provenance)),
-    }
+    a == b
 }

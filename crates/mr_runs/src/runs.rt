@@ -1,37 +1,42 @@
 //! The list of the bytes of an allocation.
-ghost use Rattle.std.specs.Prelude.{◌≡◌, ◌≤◌, ◌+◌, ◌<◌, ◌++◌, length, take, drop, replicate, slice_set, IfOk, OnOk, OnErr};
+ghost use Rattle.std.specs.Prelude.{◌≡◌, ◌≤◌, ◌+◌, ◌<◌, ◌++◌, length, take, drop, replicate, IfOk, OnOk, OnErr};
 ghost use Rattle.mr_base.specs.declared.byte.AbstractByte.TheVariants.{Uninit};
-ghost use Rattle.mr_runs.specs.Lists.{bytes_of_lists};
-ghost use Rattle.mr_runs.specs.Pieces.{bytes_of_pieces};
+ghost use Rattle.mr_runs.specs.Pieces.{bytes_of_pieces, AreMaximal};
+ghost use Rattle.mr_runs.specs.Placed.{bytes_in, total_len, IsTiled};
 ghost use Rattle.mr_runs.specs.Ranges.{with_range_replaced};
 
 use crate::OutOfMemory;
-use crate::mark::{Mark, number_and_mark};
-use crate::views::View;
+use crate::grow::write_behind;
+use crate::replace::{fill, write_anew, write_in_place};
+use crate::run::Run;
+use crate::views::{View, lend};
 use mr_base::AbstractByte;
 use std::alloc::Global;
+use std::collections::BTreeMap;
 use std::marker::Model;
 
 /// A list of abstract bytes, as an allocation holds them. (MiniRust, memory: abstract bytes.)
 ///
-/// Positions and lengths are in bytes. The only error of its calls is want of memory, and then nothing has changed.
+/// Positions and lengths are in bytes. The only error of its calls is want of memory, and then nothing has changed. The bytes
+/// are kept in runs, each under the position where it begins.
 #[derive(Drop)]
 pub struct Runs {
-    numbers: Vec<u8>,
-    marks: Vec<Mark>,
+    runs: BTreeMap<u64, Run>,
+    len: u64,
+    alloc: Global,
 }
 
 impl Model for Runs {
-    ghost use Rattle.std.specs.Prelude.{List, ◌≡◌, length};
+    ghost use Rattle.std.specs.Prelude.{List, ◌≡◌};
     ghost use Rattle.mr_base.specs.declared.byte.AbstractByte.{AbstractByte};
 
     ghost Value = { List AbstractByte };
 
-    ghost use Rattle.mr_runs.specs.Lists.{bytes_of_lists};
+    ghost use Rattle.mr_runs.specs.Placed.{bytes_in, total_len, IsTiled};
 
-    ghost view = { λ r. bytes_of_lists r.numbers.items r.marks.items };
+    ghost view = { λ r. bytes_in r.runs.entries };
 
-    ghost invariant = { λ r. length r.numbers.items ≡ length r.marks.items };
+    ghost invariant = { λ r. IsTiled r.runs.entries × (total_len r.runs.entries ≡ r.len) };
 }
 
 impl Runs {
@@ -39,26 +44,18 @@ impl Runs {
     pub fn uninit(alloc: Global, len: u64) -> Result<Runs, OutOfMemory>
         ensures { IfOk result (λ runs. runs ≡ replicate len Uninit) }
     {
-        let mut numbers = Vec::new(alloc);
-        let mut marks = Vec::new(alloc);
-        for _i in 0..len {
-            numbers.push(0)?;
-            marks.push(Mark::Uninit)?;
-        }
-        Ok(Runs { numbers, marks })
+        let runs = uninit_runs(alloc, len)?;
+        Ok(Runs { runs, len, alloc })
     }
 
-    /// The `len` bytes from the position `from` on, lent. This takes no memory.
+    /// The `len` bytes from the position `from` on, lent in as few pieces as can be. This takes no memory.
     pub fn view(&self, from: u64, len: u64) -> View<'_>
         requires { from + len ≤ length self.now }
-        ensures { bytes_of_pieces result ≡ take len (drop from self.now) }
+        ensures same { bytes_of_pieces result ≡ take len (drop from self.now) }
+        ensures maximal { AreMaximal result }
     {
-        part_of(
-            self.numbers.as_slice(),
-            self.marks.as_slice(),
-            from as usize,
-            len as usize,
-        )
+        let _all = self.len();
+        lend(&self.runs, from, len)
     }
 
     /// Puts `bytes` in place of just as many bytes from the position `from` on.
@@ -67,11 +64,17 @@ impl Runs {
         ensures ok { OnOk result (self.new ≡ with_range_replaced self.old from bytes.now) }
         ensures err { OnErr result (self.new ≡ self.old) }
     {
-        prove!(from <= self.len());
-        for (i, byte) in bytes.iter().enumerate() {
-            self.set(from + i as u64, *byte);
+        let _all = self.len();
+        if bytes.is_empty() {
+            return Ok(());
         }
-        Ok(())
+        if write_in_place(&mut self.runs, from, bytes) {
+            return Ok(());
+        }
+        if write_behind(self.alloc, &mut self.runs, from, bytes)? {
+            return Ok(());
+        }
+        write_anew(self.alloc, &mut self.runs, self.len, from, bytes)
     }
 
     /// Makes the `len` bytes from the position `from` on uninitialised.
@@ -80,11 +83,10 @@ impl Runs {
         ensures ok { OnOk result (self.new ≡ with_range_replaced self.old from (replicate len Uninit)) }
         ensures err { OnErr result (self.new ≡ self.old) }
     {
-        prove!(from <= self.len());
-        for i in 0..len {
-            self.set(from + i, AbstractByte::Uninit);
+        if len == 0 {
+            return Ok(());
         }
-        Ok(())
+        fill(self.alloc, &mut self.runs, self.len, from, len)
     }
 
     /// Appends the `len` bytes from the position `from` on to `out`.
@@ -111,26 +113,20 @@ impl Runs {
     pub fn len(&self) -> u64
         ensures { result ≡ length self.now }
     {
-        self.numbers.len() as u64
-    }
-
-    fn set(&mut self, at: u64, byte: AbstractByte)
-        requires { at < length self.old }
-        ensures { self.new ≡ slice_set self.old at byte }
-    {
-        let (number, mark) = number_and_mark(byte);
-        self.numbers[at as usize] = number;
-        self.marks[at as usize] = mark;
+        self.len
     }
 }
 
-fn part_of<'a>(numbers: &'a [u8], marks: &'a [Mark], from: usize, len: usize) -> View<'a>
-    requires inside { from + len ≤ length numbers.now }
-    requires same { length numbers.now ≡ length marks.now }
-    ensures { bytes_of_pieces result ≡ take len (drop from (bytes_of_lists numbers.now marks.now)) }
+// The runs of so many uninitialised bytes: one, or none.
+fn uninit_runs(alloc: Global, len: u64) -> Result<BTreeMap<u64, Run>, OutOfMemory>
+    ensures tiled { IfOk result (λ runs. IsTiled runs.entries) }
+    ensures whole { IfOk result (λ runs. total_len runs.entries ≡ len) }
+    ensures bytes { IfOk result (λ runs. bytes_in runs.entries ≡ replicate len Uninit) }
 {
-    View {
-        numbers: &numbers[from..from + len],
-        marks: &marks[from..from + len],
+    let mut runs = BTreeMap::new(alloc);
+    if len == 0 {
+        return Ok(runs);
     }
+    runs.insert(0, Run::uninit(len))?;
+    Ok(runs)
 }

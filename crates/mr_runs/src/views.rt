@@ -1,40 +1,79 @@
 //! Views of a part of the bytes.
-ghost use Rattle.std.specs.Prelude.{◌≡◌, ◌<◌, [], length, slice_get};
-ghost use Rattle.std.specs.Option.{option_map};
-ghost use Rattle.mr_runs.specs.Lists.{bytes_of_lists, pieces_of_lists};
-ghost use Rattle.mr_runs.specs.Pieces.{bytes_of_pieces};
+ghost use Rattle.std.specs.Prelude.{◌≡◌, ◌+◌, ◌<◌, ◌≤◌, ◌^◌, [], length, take, drop, slice_get, option_map, option_copied};
+ghost use Rattle.std.specs.Map.{values_of};
+ghost use Rattle.mr_runs.specs.Exchanged.{numbers_of};
+ghost use Rattle.mr_runs.specs.Pieces.{bytes_of_pieces, mark_of, piece_len, AreMaximal};
+ghost use Rattle.mr_runs.specs.Placed.{bytes_in, total_len, IsTiled};
 ghost use Rattle.mr_runs.specs.Seen.{seen_piece};
+ghost use Rattle.mr_runs.specs.Windows.{clipped_piece, first_pieces, lent_pieces, pieces_past, IsLent};
 
+use crate::finding::{nth_from, run_at};
 use crate::mark::Mark;
+use crate::run::Run;
 use mr_base::{AbstractByte, AllocId};
+use std::collections::BTreeMap;
 use std::marker::Model;
 
 /// Abstract bytes that are lent, in pieces. No call of a view takes memory.
 #[derive(Drop)]
 pub struct View<'a> {
-    pub(crate) numbers: &'a [u8],
-    pub(crate) marks: &'a [Mark],
+    /// The runs that the window is on; none where it is empty.
+    runs: Option<&'a BTreeMap<u64, Run>>,
+    from: u64,
+    len: u64,
 }
 
 impl<'a> Model for View<'a> {
-    ghost use Rattle.std.specs.Prelude.{List, ◌≡◌, length};
+    ghost use Rattle.std.specs.Prelude.{List, option_copied};
     ghost use Rattle.mr_runs.specs.Pieces.{SeenPiece};
 
     ghost Value = { List SeenPiece };
 
-    ghost use Rattle.mr_runs.specs.Lists.{pieces_of_lists};
+    ghost use Rattle.mr_runs.specs.Windows.{lent_pieces, IsLent};
 
-    ghost view = { λ v. pieces_of_lists v.numbers.now v.marks.now };
+    ghost view = { λ v. lent_pieces (option_copied v.runs) v.from v.len };
 
-    ghost invariant = { λ v. length v.numbers.now ≡ length v.marks.now };
+    ghost invariant = { λ v. IsLent (option_copied v.runs) v.from v.len };
 }
 
 /// Neighbouring bytes of one kind: so many uninitialised ones, or the numbers of initialised ones with their common
-/// provenance. A piece may be one byte long.
+/// provenance.
 #[derive(Clone, Copy, Debug, PartialEq, Eq)]
 pub enum Piece<'a> {
     Uninit(u64),
     Bytes(&'a [u8], Option<AllocId>),
+}
+
+impl<'a> Piece<'a> {
+    /// How many bytes there are.
+    pub(crate) fn len(self) -> u64
+        ensures { result ≡ piece_len (seen_piece self.entry) }
+    {
+        match self {
+            Piece::Uninit(len) => len,
+            Piece::Bytes(numbers, _) => numbers.len() as u64,
+        }
+    }
+
+    /// What the bytes have in common.
+    pub(crate) fn mark(self) -> Mark
+        ensures { result ≡ mark_of (seen_piece self.entry) }
+    {
+        match self {
+            Piece::Uninit(_) => Mark::Uninit,
+            Piece::Bytes(_, provenance) => Mark::Init(provenance),
+        }
+    }
+
+    /// The numbers of the bytes; uninitialised ones have none.
+    pub(crate) fn numbers(self) -> &'a [u8]
+        ensures { result.now ≡ numbers_of (seen_piece self.entry) }
+    {
+        match self {
+            Piece::Uninit(_) => &[],
+            Piece::Bytes(numbers, _) => numbers,
+        }
+    }
 }
 
 impl<'a> View<'a> {
@@ -43,8 +82,9 @@ impl<'a> View<'a> {
         ensures { result ≡ [] }
     {
         View {
-            numbers: &[],
-            marks: &[],
+            runs: None,
+            from: 0,
+            len: 0,
         }
     }
 
@@ -52,7 +92,7 @@ impl<'a> View<'a> {
     pub fn len(&self) -> u64
         ensures { result ≡ length (bytes_of_pieces self.now) }
     {
-        self.numbers.len() as u64
+        self.len
     }
 
     /// The byte at the position `at`, counted from the view's first byte.
@@ -60,37 +100,124 @@ impl<'a> View<'a> {
         requires { at < length (bytes_of_pieces self.now) }
         ensures { slice_get (bytes_of_pieces self.now) at ≡ Some result }
     {
-        byte_at(self.numbers, self.marks, at as usize)
+        byte_at(self.runs, self.from, self.len, at)
     }
 
     /// The piece with the number `n`, counted from 0; `None` past the last.
     pub fn piece(&self, n: usize) -> Option<Piece<'_>>
         ensures { option_map seen_piece result ≡ slice_get self.now n }
     {
-        piece_at(self.numbers, self.marks, n)
+        piece_at(self.runs, self.from, self.len, n)
+    }
+
+    /// The `len` bytes from the position `from` on, lent as long as the runs are, in as few pieces as can be.
+    pub fn part(&self, from: u64, len: u64) -> View<'a>
+        requires { from + len ≤ length (bytes_of_pieces self.now) }
+        ensures same { bytes_of_pieces result ≡ take len (drop from (bytes_of_pieces self.now)) }
+        ensures maximal { AreMaximal result }
+    {
+        window(self.runs, self.from, self.len, from, len)
     }
 }
 
-fn byte_at(numbers: &[u8], marks: &[Mark], at: usize) -> AbstractByte
-    requires inside { at < length numbers.now }
-    requires same { length numbers.now ≡ length marks.now }
-    ensures { slice_get (bytes_of_lists numbers.now marks.now) at ≡ Some result }
+/// A window on runs.
+pub(crate) fn lend(runs: &BTreeMap<u64, Run>, from: u64, len: u64) -> View<'_>
+    requires tiled { IsTiled runs.now.entries }
+    requires inside { from + len ≤ total_len runs.now.entries }
+    requires fits { from + len < 2 ^ 64 }
+    ensures same { bytes_of_pieces result ≡ take len (drop from (bytes_in runs.now.entries)) }
+    ensures maximal { AreMaximal result }
 {
-    match marks[at] {
-        Mark::Uninit => AbstractByte::Uninit,
-        Mark::Init(provenance) => AbstractByte::Init(numbers[at], provenance),
+    View {
+        runs: Some(runs),
+        from,
+        len,
     }
 }
 
-fn piece_at<'a>(numbers: &'a [u8], marks: &[Mark], n: usize) -> Option<Piece<'a>>
-    requires { length numbers.now ≡ length marks.now }
-    ensures { option_map seen_piece result ≡ slice_get (pieces_of_lists numbers.now marks.now) n }
+// A window on the window of `whole` bytes from `begin` on.
+fn window<'a>(
+    runs: Option<&'a BTreeMap<u64, Run>>,
+    begin: u64,
+    whole: u64,
+    from: u64,
+    len: u64,
+) -> View<'a>
+    requires lent { IsLent (option_copied runs) begin whole }
+    requires inside { from + len ≤ whole }
+    ensures same { bytes_of_pieces result ≡ take len (drop from (bytes_of_pieces (lent_pieces (option_copied runs.entry) begin whole))) }
+    ensures maximal { AreMaximal result }
 {
-    if n >= marks.len() {
+    View {
+        runs,
+        from: begin + from,
+        len,
+    }
+}
+
+fn byte_at(runs: Option<&BTreeMap<u64, Run>>, from: u64, len: u64, at: u64) -> AbstractByte
+    requires lent { IsLent (option_copied runs) from len }
+    requires inside { at < len }
+    ensures { slice_get (bytes_of_pieces (lent_pieces (option_copied runs.entry) from len)) at ≡ Some result }
+{
+    match runs {
+        Some(runs) => byte_of(runs, from + at),
+        None => unreachable!(),
+    }
+}
+
+// The byte of some runs at a position.
+fn byte_of(runs: &BTreeMap<u64, Run>, at: u64) -> AbstractByte
+    requires tiled { IsTiled runs.now.entries }
+    requires inside { at < total_len runs.now.entries }
+    ensures { slice_get (bytes_in runs.now.entries) at ≡ Some result }
+{
+    let (begin, run) = run_at(runs, at);
+    run.byte(at - begin)
+}
+
+fn piece_at<'a>(
+    runs: Option<&'a BTreeMap<u64, Run>>,
+    from: u64,
+    len: u64,
+    n: usize,
+) -> Option<Piece<'a>>
+    requires { IsLent (option_copied runs) from len }
+    ensures { option_map seen_piece result ≡ slice_get (lent_pieces (option_copied runs.entry) from len) n }
+{
+    match runs {
+        Some(runs) => piece_of(runs, from, len, n),
+        None => None,
+    }
+}
+
+// The piece with the number `n` of a window on some runs.
+fn piece_of<'a>(runs: &'a BTreeMap<u64, Run>, from: u64, len: u64, n: usize) -> Option<Piece<'a>>
+    requires tiled { IsTiled runs.now.entries }
+    requires inside { from + len ≤ total_len runs.now.entries }
+    requires fits { from + len < 2 ^ 64 }
+    ensures { option_map seen_piece result ≡ slice_get (first_pieces (pieces_past (values_of runs.now.entries) from) len) n }
+{
+    if len == 0 {
         return None;
     }
-    match marks[n] {
-        Mark::Uninit => Some(Piece::Uninit(1)),
-        Mark::Init(provenance) => Some(Piece::Bytes(&numbers[n..n + 1], provenance)),
+    let (first, _) = run_at(runs, from);
+    match nth_from(runs, first, n) {
+        Some((begin, run)) => clipped(run, begin, from, from + len),
+        None => None,
     }
+}
+
+// What a window from `from` up to `to` has of the run that begins at `begin`, which ends behind `from`.
+fn clipped(run: &Run, begin: u64, from: u64, to: u64) -> Option<Piece<'_>>
+    requires inside { from < begin + piece_len run.now }
+    requires forward { from ≤ to }
+    ensures { option_map seen_piece result ≡ clipped_piece run.now begin from to }
+{
+    if begin >= to {
+        return None;
+    }
+    let skipped = from.saturating_sub(begin);
+    let count = (to - begin - skipped).min(run.len() - skipped);
+    Some(run.part(skipped, count))
 }

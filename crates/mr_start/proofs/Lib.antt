@@ -7,3 +7,4 @@ pub mod RunLaws
 pub mod StartFacts
 pub mod StartSound
 pub mod StartStores
+pub mod UninitItems

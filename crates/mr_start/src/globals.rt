@@ -1,8 +1,12 @@
 //! The bytes of globals, stored at the start.
-ghost use Rattle.std.specs.Prelude.{◌≡◌, ◌++◌, IfOk, OnOk, length, replicate};
+ghost use Rattle.std.specs.Prelude.{◌≡◌, ◌++◌, IfOk, IfSome, List, OnErr, OnOk, Result, length, replicate};
+ghost use Rattle.mr_base.specs.declared.byte.AbstractByte.TheVariants.{Uninit};
+ghost use Rattle.mr_base.specs.declared.byte.Pointer.{Pointer as PointerOf};
+ghost use Rattle.mr_base.specs.declared.reason.Reason.{Reason};
 ghost use Rattle.mr_eval.specs.Moves.{behind};
 ghost use Rattle.mr_value.specs.Numbers.{pointer_bytes};
-ghost use Rattle.mr_mem.specs.Memory.{written};
+ghost use Rattle.mr_mem.specs.Memory.{written, Memory as MemoryOf};
+ghost use Rattle.mr_mem.specs.Stored.{IsStored};
 ghost use Rattle.mr_start.specs.Start.{behind_store, filled, global_bytes, item_bytes, target_of};
 
 use mr_ast::{Global_, Item_, Target, Ty};
@@ -81,19 +85,47 @@ fn global_bytes(
     Ok(bytes)
 }
 
-// The store of a global's bytes. Its address was picked for its alignment, and its allocation has room for all of them.
-fn store_global(
-    memory: &mut Memory,
-    p: Pointer,
-    bytes: &[AbstractByte],
-    align: u64,
-) -> Result<(), AllocError>
-    ensures { OnOk result (memory.new ≡ behind_store memory.old (written memory.old p bytes.now align)) }
+// How many bytes some items have, if all are uninitialised.
+fn uninit_len(items: &[Item_]) -> Option<u64>
+    ensures { (functions : List PointerOf) → (globals : List PointerOf) → IfSome result (λ n. global_bytes functions globals items.now ≡ replicate n Uninit) }
 {
-    match memory.store(p, bytes, align) {
+    let mut len: u64 = 0;
+    for item in items {
+        match item {
+            Item_::Uninit(repeat) => len = len.checked_add(u64::from(*repeat))?,
+            Item_::Byte(_, _) | Item_::Reloc(_, _) => return None,
+        }
+    }
+    Some(len)
+}
+
+// A store at the start. Its address was picked for its alignment, and its allocation has room for it.
+fn stored(answer: Result<(), Fault>) -> Result<(), AllocError>
+    ensures { (old : MemoryOf) (new : MemoryOf) (wanted : Result MemoryOf Reason) → IsStored wanted new answer → OnErr answer (new ≡ old) → OnOk result (new ≡ behind_store old wanted) }
+{
+    match answer {
         Err(Fault::Memory) => Err(AllocError),
         Ok(()) | Err(Fault::Undefined(_)) => Ok(()),
     }
+}
+
+// Stores the bytes of a global. Uninitialised ones are not listed.
+fn fill_one(
+    alloc: Global,
+    memory: &mut Memory,
+    global: &Global_,
+    functions: &[Pointer],
+    places: &[Pointer],
+    p: Pointer,
+) -> Result<(), AllocError>
+    ensures { OnOk result (memory.new ≡ behind_store memory.old (written memory.old p (global_bytes functions.now places.now global.now.items) global.now.align)) }
+{
+    let items = global.items.as_slice();
+    if let Some(len) = uninit_len(items) {
+        return stored(memory.deinit(p, len, global.align));
+    }
+    let bytes = global_bytes(alloc, functions, places, items)?;
+    stored(memory.store(p, bytes.as_slice(), global.align))
 }
 
 /// Stores the bytes of each global, from the pointers to functions and globals.
@@ -108,8 +140,7 @@ pub fn fill(
     ensures { OnOk result (memory.new ≡ filled functions.now places.now memory.old globals.now places.now) }
 {
     for (i, global) in globals.iter().enumerate() {
-        let bytes = global_bytes(alloc, functions, places, global.items.as_slice())?;
-        store_global(memory, places[i], bytes.as_slice(), global.align)?;
+        fill_one(alloc, memory, global, functions, places, places[i])?;
     }
     Ok(())
 }

@@ -7,8 +7,8 @@
 //! Public calls: [`judge`], [`begin`] and [`start_asks`].
 //!
 //! Proved: `judge` passes exactly the picks that break no rule, and tells the first rule that others break, with the least identity that an
-//! overlapping range has. `start_asks` tells exactly what the start line needs picks for. `begin` stands exactly where the definitions say, or tells the rule that the start line breaks; memory apart there
-//! is no other answer. The laws [`never_ill_formed`], [`legal_schedules`], [`whole_start`], [`one_at_most`] and [`feet_counted`] are of the
+//! overlapping range has. `start_asks` tells exactly what the start line needs picks for. `begin` stands exactly where the definitions
+//! say, or tells the rule that the start line breaks; memory apart there is no other answer. The laws [`never_ill_formed`], [`legal_schedules`], [`whole_start`], [`one_at_most`] and [`feet_counted`] are of the
 //! definitions alone: a legal run of a well-formed program has a rule for each step, a schedule is legal exactly where no rule is the first
 //! that it breaks, behind a legal start line each global has its bytes, and a run has one footprint for each step that it completes.
 #![tactic(auto)]

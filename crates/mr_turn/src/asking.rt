@@ -141,7 +141,7 @@ fn do_asks(
 }
 
 /// Appends what the next step of an enabled thread asks for. The answer is 67 or 68 where the step would create a thread or
-/// a lock, and there are as many as may be.
+/// a lock, and there are as many as may be. An `Err` is for want of memory, and a part may have been appended.
 pub fn asks(
     alloc: Global,
     look: &Look<'_>,

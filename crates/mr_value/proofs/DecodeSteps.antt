@@ -1,20 +1,16 @@
 -- One turn of each loop of decoding.
-use Rattle.std.proofs.Common.{◌≡◌, ℕ, suc, ◌+◌, ◌-◌, ◌*◌, ◌<◌, ◌≤◌, true, false, List, [], ◌∷◌, ◌++◌, length, get_or, take, drop, Option, Some, None, refl, sym, ap, ◌∙◌, arith, drop-cons, append_assoc, append-nil}
-use Rattle.std.specs.Prelude.{option_map, option_and_then, nat_le, ◌==◌, if◌then◌else◌}
-use Rattle.std.proofs.lemmas.Bool.Decides.{nat_tests}
+use Rattle.std.proofs.Common.{◌≡◌, ℕ, suc, ◌+◌, ◌-◌, ◌*◌, ◌<◌, ◌≤◌, true, List, [], ◌∷◌, ◌++◌, length, get_or, take, drop, Option, Some, None, refl, sym, ap, ◌∙◌, arith, drop-cons, append_assoc, append-nil}
+use Rattle.std.specs.Prelude.{option_map, option_and_then, nat_le, ◌==◌}
 use Rattle.std.proofs.lemmas.List.{drop-drop}
 use Rattle.std.proofs.Math.Nat.{mul-le-mul_right}
-use Rattle.mr_ast.specs.declared.types.Num.{Num}
 use Rattle.mr_ast.specs.declared.types.Ty.{Ty}
 use Rattle.mr_ast.specs.declared.types.Variant.{Variant}
 use Rattle.mr_layout.specs.Sizes.{size_of}
-use Rattle.mr_layout.specs.EnumRules.{same_num}
 use Rattle.mr_layout.specs.Parts.{is_ok, are_ok, are_variants_ok, are_chunks_ok}
 use Rattle.mr_layout.proofs.PartsOk.{and_true}
 use Rattle.mr_value.specs.declared.val.Val.{Val}
-use Rattle.mr_value.specs.declared.val.Val.TheVariants as val
 use Rattle.mr_value.specs.Numbers.{Bytes, part}
-use Rattle.mr_value.specs.Decode.{Reader, decoded, read_fields, read_variant, elements_in, chunks_in}
+use Rattle.mr_value.specs.Decode.{Reader, decoded, read_fields, elements_in, chunks_in}
 use Rattle.mr_base.proofs.Comparisons.{eq_from, le_from}
 use Rattle.mr_value.proofs.PartLaws.{part_part}
 

@@ -1,5 +1,5 @@
 -- One turn of each loop of encoding.
-use Rattle.std.proofs.Common.{◌≡◌, ℕ, suc, ◌+◌, ◌-◌, ◌/◌, ◌%◌, ◌<◌, ◌≤◌, Bool, true, false, List, [], ◌∷◌, ◌++◌, length, get_or, take, drop, Option, refl, sym, ap, ◌∙◌, arith, append_assoc, append-nil, length-take, length-drop}
+use Rattle.std.proofs.Common.{◌≡◌, ℕ, suc, ◌+◌, ◌-◌, ◌/◌, ◌%◌, ◌<◌, ◌≤◌, Bool, true, false, List, [], ◌∷◌, ◌++◌, length, get_or, take, drop, Option, refl, sym, ap, ◌∙◌, arith, append_assoc, append-nil}
 use mathlib.Core.Bool.{beq}
 use Rattle.std.specs.Prelude.{Result, IsErr, OnErr, ⊤, not, ◌&&◌, ◌==◌, if◌then◌else◌}
 use Rattle.std.proofs.lemmas.Result.{MatchResult-from_err}
@@ -9,12 +9,12 @@ use Rattle.mr_ast.specs.declared.types.Ty.{Ty}
 use Rattle.mr_ast.specs.declared.types.Variant.{Variant}
 use Rattle.mr_base.specs.declared.byte.AllocId.{AllocId}
 use Rattle.mr_base.specs.declared.byte.AbstractByte.TheVariants.{Init}
-use Rattle.mr_layout.specs.EnumRules.{same_num, are_tags, are_all_tags}
+use Rattle.mr_layout.specs.EnumRules.{same_num, are_tags}
 use Rattle.mr_layout.proofs.PartsOk.{and_true}
 use Rattle.mr_runs.specs.Ranges.{with_range_replaced}
 use Rattle.mr_value.specs.declared.val.Val.{Val}
 use Rattle.mr_value.specs.Numbers.{Bytes, little_endian, initialised}
-use Rattle.mr_value.specs.Encode.{BeginsWith, element_bytes, with_chunks, tag_bytes, with_tags, encoding_of, write_fields, write_variant}
+use Rattle.mr_value.specs.Encode.{BeginsWith, tag_bytes, with_tags, encoding_of, write_fields}
 use Rattle.mr_value.specs.Shape.{chunks_size, elements_pass, has_shape, fields_have_shape, variant_has_shape}
 use Rattle.mr_value.proofs.DecodeSteps.{at_drop}
 use Rattle.mr_value.proofs.TagParts.{TagOk, first_tag}

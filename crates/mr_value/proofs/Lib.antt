@@ -17,6 +17,7 @@ pub mod Pieces
 pub mod ReadsBack
 pub mod RefParts
 pub mod ShapeLaws
+pub mod SpelledLaws
 pub mod TagParts
 pub mod TreeInduction
 pub mod ValCases

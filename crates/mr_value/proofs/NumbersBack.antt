@@ -15,7 +15,7 @@ number_back provenance (suc count) n p =
     let digits : n % 256 % 256 + 256 * (n / 256) ≡ n = omega arith in
     ap (option_map (λ m. n % 256 % 256 + 256 * m)) (number_back provenance count (n / 256) rest) ∙ ap Some digits
 
-same_id : (p : AllocId) → is_same_id p p ≡ true
+pub same_id : (p : AllocId) → is_same_id p p ≡ true
 same_id p = grind (arith, nat_tests)
 
 all_have_it : (p : AllocId) (ns : List ℕ) → all_have p (initialised (Some p) ns) ≡ true

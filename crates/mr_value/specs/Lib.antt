@@ -4,3 +4,4 @@ pub mod Encode
 pub mod Faithful
 pub mod Numbers
 pub mod Shape
+pub mod Spelled

@@ -1,70 +1,99 @@
 //! Numbers of several bytes.
-ghost use Rattle.std.specs.Prelude.{◌≡◌, ◌<◌, ◌≤◌, ◌+◌, ◌*◌, ◌^◌, length, IfSome};
-ghost use Rattle.mr_runs.specs.Pieces.{bytes_of_pieces};
-ghost use Rattle.mr_value.specs.Numbers.{part, number_of, all_have, shared_provenance, pointer_of};
+ghost use Rattle.std.specs.Prelude.{◌≡◌, ◌<◌, ◌≤◌, ◌+◌, ◌-◌, ◌*◌, ◌^◌, drop, length, IfSome};
+ghost use Rattle.mr_runs.specs.Pieces.{bytes_of_pieces, AreMaximal};
+ghost use Rattle.mr_value.specs.Numbers.{part, number_of, pointer_of, is_same_id};
+ghost use Rattle.mr_value.specs.Spelled.{initial_number, sharing_behind, shared_in, Spells};
 
-use mr_base::{AbstractByte, AllocId, Pointer};
-use mr_runs::View;
+use mr_base::{AllocId, Pointer};
+use mr_runs::{Piece, View};
+
+/// What initialised bytes spell.
+#[derive(Clone, Copy)]
+pub(crate) struct Spelled {
+    pub number: u128,
+    pub sharing: Sharing,
+}
+
+/// Which provenance some bytes share: any where there are none, one, or none as they differ.
+#[derive(Clone, Copy)]
+pub(crate) enum Sharing {
+    Any,
+    One(AllocId),
+    Differ,
+}
+
+// What the pieces of a view spell from the one with the number `n` on, where all bytes are initialised.
+fn spelled_from(v: &View<'_>, n: usize) -> Option<Spelled>
+    requires maximal { AreMaximal v.now }
+    requires few { length (bytes_of_pieces (drop n v.now)) ≤ 16 }
+    ensures { Spells (bytes_of_pieces (drop n v.now)) result }
+{
+    let _bytes = v.len();
+    match v.piece(n) {
+        None => Some(Spelled {
+            number: 0,
+            sharing: Sharing::Any,
+        }),
+        Some(Piece::Uninit(_)) => None,
+        Some(Piece::Bytes(numbers, provenance)) => match spelled_from(v, n + 1) {
+            None => None,
+            Some(rest) => Some(Spelled {
+                number: number_with(numbers, rest.number),
+                sharing: sharing_with(provenance, rest.sharing),
+            }),
+        },
+    }
+}
+
+// The number whose lowest bytes are the first, and whose others are the rest.
+fn number_with(numbers: &[u8], rest: u128) -> u128
+    requires few { length numbers.now ≤ 16 }
+    requires fits { rest < 2 ^ (8 * (16 - length numbers.now)) }
+    ensures { result ≡ initial_number numbers.now rest }
+{
+    match numbers {
+        [] => rest,
+        [first, others @ ..] => *first as u128 + 256 * number_with(others, rest),
+    }
+}
+
+// Which provenance bytes share that stand behind some with this one.
+fn sharing_with(provenance: Option<AllocId>, rest: Sharing) -> Sharing
+    ensures { result ≡ sharing_behind provenance rest }
+{
+    match (provenance, rest) {
+        (None, _) => Sharing::Differ,
+        (Some(p), Sharing::Any) => Sharing::One(p),
+        (Some(p), Sharing::One(q)) => if is_same(p, q) { rest } else { Sharing::Differ },
+        (Some(_), Sharing::Differ) => Sharing::Differ,
+    }
+}
+
+fn is_same(p: AllocId, q: AllocId) -> bool
+    ensures { result ≡ is_same_id p q }
+{
+    p.thread == q.thread && p.count == q.count
+}
+
+fn shared(sharing: Sharing) -> Option<AllocId>
+    ensures { result ≡ shared_in sharing }
+{
+    match sharing {
+        Sharing::One(p) => Some(p),
+        Sharing::Any | Sharing::Differ => None,
+    }
+}
 
 /// The number of `len` bytes from an offset on, where all are initialised.
-#[tactic(auto, using(crate::proofs::PartLaws::part_laws))]
 pub(crate) fn number_at(v: &View<'_>, at: u64, len: u64) -> Option<u128>
     requires few { len ≤ 16 }
     requires inside { at + len ≤ length (bytes_of_pieces v.now) }
     ensures value { result ≡ number_of (part at len (bytes_of_pieces v.now)) }
     ensures fits { IfSome result (λ n. n < 2 ^ (8 * len)) }
 {
-    let _bytes = v.len();
-    if len == 0 {
-        return Some(0);
-    }
-    match v.byte(at) {
-        AbstractByte::Uninit => None,
-        AbstractByte::Init(n, _) => match number_at(v, at + 1, len - 1) {
-            None => None,
-            Some(rest) => Some(n as u128 + 256 * rest),
-        },
-    }
-}
-
-// Whether each of `len` bytes from an offset on has the provenance.
-#[tactic(auto, using(crate::proofs::PartLaws::part_laws))]
-fn all_have(p: AllocId, v: &View<'_>, at: u64, len: u64) -> bool
-    requires { at + len ≤ length (bytes_of_pieces v.now) }
-    ensures { result ≡ all_have p (part at len (bytes_of_pieces v.now)) }
-{
-    let _bytes = v.len();
-    if len == 0 {
-        return true;
-    }
-    match v.byte(at) {
-        AbstractByte::Uninit => false,
-        AbstractByte::Init(_, None) => false,
-        AbstractByte::Init(_, Some(q)) => {
-            p.thread == q.thread && p.count == q.count && all_have(p, v, at + 1, len - 1)
-        }
-    }
-}
-
-#[tactic(auto, using(crate::proofs::PartLaws::part_laws))]
-fn shared_provenance(v: &View<'_>, at: u64, len: u64) -> Option<AllocId>
-    requires { at + len ≤ length (bytes_of_pieces v.now) }
-    ensures { result ≡ shared_provenance (part at len (bytes_of_pieces v.now)) }
-{
-    let _bytes = v.len();
-    if len == 0 {
-        return None;
-    }
-    match v.byte(at) {
-        AbstractByte::Uninit => None,
-        AbstractByte::Init(_, None) => None,
-        AbstractByte::Init(_, Some(p)) => {
-            if all_have(p, v, at + 1, len - 1) {
-                Some(p)
-            } else {
-                None
-            }
-        }
+    match spelled_from(&v.part(at, len), 0) {
+        None => None,
+        Some(spelled) => Some(spelled.number),
     }
 }
 
@@ -73,11 +102,11 @@ pub(crate) fn pointer_at(v: &View<'_>, at: u64) -> Option<Pointer>
     requires { at + 8 ≤ length (bytes_of_pieces v.now) }
     ensures { result ≡ pointer_of (part at 8 (bytes_of_pieces v.now)) }
 {
-    match number_at(v, at, 8) {
+    match spelled_from(&v.part(at, 8), 0) {
         None => None,
-        Some(addr) => Some(Pointer {
-            addr: addr as u64,
-            prov: shared_provenance(v, at, 8),
+        Some(spelled) => Some(Pointer {
+            addr: spelled.number as u64,
+            prov: shared(spelled.sharing),
         }),
     }
 }

@@ -10,7 +10,8 @@ use Rattle.mr_ast.specs.Integers.{int_size}
 use Rattle.mr_wf.specs.SameTypes.{same_type}
 use Rattle.mr_wf.specs.Types.{integer_in, integer_of}
 use Rattle.mr_wf.specs.Operands.{is_bool, is_bool_layer, is_fn_ptr, is_fn_ptr_layer, is_raw, is_raw_layer}
-use Rattle.mr_wf.proofs.SameTypeLaws.{same_type_equal, same_type_itself, type_made}
+use Rattle.mr_ast.proofs.OrderHeads.{type_made}
+use Rattle.mr_wf.proofs.SameTypeLaws.{same_type_equal, same_type_itself}
 
 -- ---- a type of a kind
 

@@ -20,7 +20,8 @@ use Rattle.mr_wf.specs.Operands.{is_bool, is_bool_layer, is_fn_ptr, is_raw}
 use Rattle.mr_wf.specs.Intrinsics.{is_atomic}
 use Rattle.mr_wf.specs.Known.{are_overflow_fields, is_overflow_layer}
 use Rattle.mr_wf.proofs.KindLaws.{integer_is, same_type_sym, same_with_bool, same_with_fn_ptr, same_with_int, same_with_raw}
-use Rattle.mr_wf.proofs.SameTypeLaws.{same_type_answer, same_type_equal, same_type_itself, type_made}
+use Rattle.mr_ast.proofs.OrderHeads.{type_made}
+use Rattle.mr_wf.proofs.SameTypeLaws.{same_type_answer, same_type_equal, same_type_itself}
 
 itself : (n : ℕ) → (n == n) ≡ true
 itself n = grind (arith, nat_tests)

@@ -15,6 +15,7 @@ use Rattle.mr_ast.specs.declared.types.Ty.TheOpen.{Ty-F, Variant-F}
 use Rattle.mr_ast.specs.declared.types.Ty.TheFolds.{map-Ty, map-Variant, fold-Variant, fold-roll-Ty, fold-roll-Variant, ind-Ty}
 use Rattle.mr_ast.specs.declared.types.Variant.{Variant, roll-Variant, out-Variant}
 use Rattle.mr_ast.specs.Integers.{is_signed, int_size}
+use Rattle.mr_ast.proofs.OrderHeads.{tree_made, type_made}
 use Rattle.mr_layout.specs.EnumRules.{same_num}
 use Rattle.mr_layout.proofs.PartsOk.{and_true, same_of}
 use Rattle.mr_layout.proofs.TreeOk.{same_num_equal}
@@ -97,13 +98,6 @@ same_tags_itself [] = refl
 same_tags_itself (t ∷ ts) = both_true (number_itself t.at) (both_true (same_int_itself t.int) (both_true (same_num_itself t.number) (same_tags_itself ts)))
 
 -- ---- trees
-
-abbrev IsMadeTree : Tree → Type 0
-IsMadeTree t = roll-Tree (out-Tree t) ≡ t
-
--- a tree is made of its layer
-tree_made : (t : Tree) → roll-Tree (out-Tree t) ≡ t
-tree_made = ind-Tree IsMadeTree (λ x y is. ap roll-Tree (out-roll-Tree x))
 
 tree_roll : (d : Tree-F Tree) (u : Tree) → same_tree (roll-Tree d) u ≡ same_tree_layer (map-Tree Tree (Tree → Bool) same_tree d) (out-Tree u)
 unfolding same_tree
@@ -200,13 +194,6 @@ variant_is v w = ap (λ (test : VariantTest). test w) (fold-roll-Variant Test Va
 type_roll : (d : Ty-F Ty Variant) (u : Ty) → same_type (roll-Ty d) u ≡ same_layer (map-Ty Ty Variant Test VariantTest same_type same_variant d) (out-Ty u)
 unfolding same_type same_variant
 type_roll d u = ap (λ (test : Test). test u) (fold-roll-Ty Test VariantTest type_step variant_step d)
-
-abbrev IsMade : Ty → Type 0
-IsMade t = roll-Ty (out-Ty t) ≡ t
-
--- a type is made of its layer
-pub type_made : (t : Ty) → roll-Ty (out-Ty t) ≡ t
-type_made = ind-Ty IsMade (λ v. Unit {0}) (λ x y is. ap roll-Ty (out-roll-Ty x)) (λ x y is. tt)
 
 record TypeSame (t : Ty) : Type 0 where
   equal : (u : Ty) → same_type t u ≡ true → t ≡ u

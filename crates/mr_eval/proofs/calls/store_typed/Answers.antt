@@ -1,4 +1,5 @@
 use Rattle.std.proofs.Common.{◌++◌, ◌≡◌, ap, subst, sym, ◌∙◌}
+use Rattle.mr_layout.specs.declared.cache.Layout.{Layout}
 use Rattle.mr_mem.specs.Memory.{Memory}
 use Rattle.mr_script.specs.Script.{Outcome}
 use Rattle.mr_value.specs.Encode.{encoding_of}
@@ -14,4 +15,5 @@ returns-clause-given c =
     let new = encoding_of c.args.t.now c.args.v.now in
     let bytes : c.as_slice.result.now ≡ new = c.as_slice.ensures.value ∙ c.in_ok-encode.ensures.ok ∙ ap (λ (xs : Bytes). xs ++ new) c.new-bytes.ensures.items in
     subst (λ (o : Outcome Memory Seen). Leaves c.store_bytes.result o c.store_bytes.new.m (seen c.store_bytes.new.notes))
-    (sym (store_run c.args.m.now c.args.t.now c.args.p c.args.v.now (seen c.args.n.now) c.as_slice.result.now c.align.result bytes c.align.ensures)) c.store_bytes.ensures.given
+    (sym (store_run c.args.m.now c.args.t.now c.args.p c.args.v.now (seen c.args.n.now) c.as_slice.result.now c.layout-layout.result.align bytes
+    (ap (λ (l : Layout). l.align) c.layout-layout.ensures))) c.store_bytes.ensures.given

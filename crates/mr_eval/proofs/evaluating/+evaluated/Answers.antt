@@ -2,7 +2,7 @@ use Rattle.std.proofs.Common.{drop, get_or, refl, sym, ap, ap₂, subst, ◌∙�
 use Rattle.mr_script.specs.Script.{Went}
 use Rattle.mr_eval.specs.Answers.{surround_of, seen}
 use Rattle.mr_eval.specs.Evaluated.{each_valued, valued}
-use Rattle.mr_eval.specs.Sound.{SoundPlace, SoundValue, SoundValues}
+use Rattle.mr_eval.specs.Sound.{SoundPlace, SoundValue}
 use Rattle.mr_wf.specs.Known.{ty_of}
 use Rattle.std.specs.Option.{is_some}
 use Rattle.mr_wf.specs.Types.{result_type, type_of_place}

@@ -1,15 +1,11 @@
-use Rattle.std.proofs.Common.{◌∙◌, ap, arith, get_or, Some}
-use Rattle.mr_runs.specs.declared.mark.Mark.TheVariants as mark
-use Rattle.mr_runs.specs.Lists.{byte_of}
-use Rattle.mr_runs.proofs.ListLaws.{slice_get-bytes_of_lists}
+use Rattle.std.proofs.Common.{◌∙◌, ap}
+use Rattle.std.specs.Prelude.{option_copied, slice_get}
+use Rattle.mr_runs.specs.Pieces.{bytes_of_pieces}
+use Rattle.mr_runs.specs.Windows.{lent_pieces}
+use Rattle.mr_runs.proofs.ViewLaws.{window_byte}
 use Rattle.mr_runs.proofs.views.byte_at.Goals as goal
 
-pub returns-in-Uninit : goal.returns-in-Uninit
-returns-in-Uninit c =
-    slice_get-bytes_of_lists c.args.numbers.now c.args.marks.now c.args.at 0 mark.Uninit c.requires.inside (omega arith)
-    ∙ ap (λ m. Some (byte_of (get_or c.args.numbers.now c.args.at 0) m)) c.in-Uninit.is
-
-pub returns-in-Init : goal.returns-in-Init
-returns-in-Init c =
-    slice_get-bytes_of_lists c.args.numbers.now c.args.marks.now c.args.at 0 mark.Uninit c.requires.inside (omega arith)
-    ∙ ap (λ m. Some (byte_of (get_or c.args.numbers.now c.args.at 0) m)) c.in-Init.is
+pub returns : goal.returns
+returns c =
+    ap (λ o. slice_get (bytes_of_pieces (lent_pieces (option_copied o) c.args.from c.args.len)) c.args.at) c.in-Some.is
+    ∙ window_byte c.in-Some.runs.now.entries c.args.from c.args.len c.args.at c.byte_of.result c.requires.inside c.byte_of.ensures

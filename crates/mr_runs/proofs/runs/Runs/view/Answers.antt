@@ -1,8 +1,9 @@
-use Rattle.std.proofs.Common.{arith, ap, length}
-use Rattle.mr_runs.proofs.ListLaws.{length-bytes_of_lists}
+use Rattle.std.proofs.Common.{length, ap, arith}
+use Rattle.mr_runs.proofs.PlacedLaws.{length-bytes_in}
 use Rattle.mr_runs.proofs.runs.Runs.view.Goals as goal
 
-pub part_of-requires-clause-inside : goal.part_of-requires-clause-inside
-part_of-requires-clause-inside c =
-    let i = c.self.inside in
-    omega (arith, c.requires, ap length c.self.view_is, length-bytes_of_lists i.numbers.items i.marks.items c.self.invariant, ap length c.as_slice.ensures.value)
+pub lend-requires-clause-inside : goal.lend-requires-clause-inside
+lend-requires-clause-inside c = omega (arith, c.requires, ap length c.self.view_is, length-bytes_in c.self.inside.runs.entries)
+
+pub lend-requires-clause-fits : goal.lend-requires-clause-fits
+lend-requires-clause-fits c = omega (arith, c.requires)

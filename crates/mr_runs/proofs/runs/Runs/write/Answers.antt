@@ -1,14 +1,17 @@
-use Rattle.std.proofs.Common.{◌≡◌, ◌∙◌, sym, ap, arith, get_or, take, length, length-take}
-use Rattle.std.proofs.lemmas.List.{take_more}
-use Rattle.mr_base.specs.declared.byte.AbstractByte.TheVariants.{Uninit}
-use Rattle.mr_runs.specs.Ranges.{with_range_replaced}
-use Rattle.mr_runs.proofs.RangeLaws.{range_grows}
+use Rattle.std.proofs.Common.{length, refl, ap, arith}
+use Rattle.mr_runs.specs.Placed.{total_len}
+use Rattle.mr_runs.proofs.PlacedLaws.{length-bytes_in}
 use Rattle.mr_runs.proofs.runs.Runs.write.Goals as goal
 
-pub loop-i-preserved : goal.loop-i-preserved
-loop-i-preserved c =
-    let i = c.loop-i.i in
-    let bytes = c.args.bytes.now in
-    let i_done : length (take i bytes) ≡ i = omega (arith, length-take i bytes) in
-    range_grows c.args.self.now c.loop-i.self c.set.new.self c.args.from (take i bytes) i (get_or bytes i Uninit) c.loop-i.invariant c.set.ensures i_done (omega arith)
-    ∙ ap (with_range_replaced c.args.self.now c.args.from) (sym (take_more bytes i Uninit c.loop-i-test.true))
+pub write_in_place-requires-clause-inside : goal.write_in_place-requires-clause-inside
+write_in_place-requires-clause-inside c = omega (arith, c.requires, c.self.invariant.1, ap length c.self.view_is, length-bytes_in c.self.inside.runs.entries)
+
+pub write_behind-requires-clause-inside : goal.write_behind-requires-clause-inside
+write_behind-requires-clause-inside c =
+    omega (arith, c.requires, c.self.invariant.1, ap length c.self.view_is, length-bytes_in c.self.inside.runs.entries, ap total_len (c.if-write_in_place.ensures.not_done refl))
+
+pub write_behind-requires-clause-fits : goal.write_behind-requires-clause-fits
+write_behind-requires-clause-fits c = omega (arith, c.requires, c.len-all.ensures)
+
+pub write_anew-requires-clause-inside : goal.write_anew-requires-clause-inside
+write_anew-requires-clause-inside c = omega (arith, c.requires, c.self.invariant.1, ap length c.self.view_is, length-bytes_in c.self.inside.runs.entries)

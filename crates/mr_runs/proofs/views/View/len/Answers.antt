@@ -1,5 +1,10 @@
-use Rattle.mr_runs.proofs.ListLaws.{length-bytes_of_view}
+use Rattle.std.proofs.Common.{◌∙◌, List, length, ap}
+use Rattle.std.specs.Prelude.{option_copied}
+use Rattle.mr_runs.specs.Pieces.{SeenPiece, bytes_of_pieces}
+use Rattle.mr_runs.proofs.ViewLaws.{lent_len}
 use Rattle.mr_runs.proofs.views.View.len.Goals as goal
 
 pub returns : goal.returns
-returns c = length-bytes_of_view _ _ _ c.self.view_is c.self.invariant
+returns c =
+    lent_len (option_copied c.self.inside.runs) c.self.inside.from c.self.inside.len c.self.invariant
+    ∙ ap (λ (ps : List SeenPiece). length (bytes_of_pieces ps)) c.self.view_is

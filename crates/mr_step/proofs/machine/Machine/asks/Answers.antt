@@ -6,7 +6,7 @@ use Rattle.mr_frame.specs.Frames.{Look}
 use Rattle.mr_plan.specs.Queries.{tables_of}
 use Rattle.mr_thread.specs.Steps.{Own, thread_step}
 use Rattle.mr_turn.specs.Asking.{AsksAnswer}
-use Rattle.mr_step.specs.Kept.{IsSound, config_of, setting_look, standing_of, state_of}
+use Rattle.mr_step.specs.Kept.{IsSound, config_of, setting_look, state_of}
 use Rattle.mr_step.specs.Standing.{Standing}
 use Rattle.mr_step.proofs.AskLaws.{state_there}
 use Rattle.mr_step.proofs.machine.Machine.asks.Goals as goal

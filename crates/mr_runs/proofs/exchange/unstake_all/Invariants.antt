@@ -1,0 +1,7 @@
+use Rattle.std.proofs.Common.{◌≡◌, ℕ, cond, take}
+use Rattle.mr_runs.specs.Exchanged.{begins, unstaked}
+use Rattle.mr_runs.specs.Placed.{found}
+use Rattle.mr_runs.proofs.exchange.unstake_all.Given as goal
+
+abbrev pub invariant-loop-at : goal.invariant-loop-at
+invariant-loop-at l = (q : ℕ) → found q l.runs.entries ≡ cond (begins q (take l.at-index l.row)) (unstaked (found q l.initial.runs.entries)) (found q l.initial.runs.entries)

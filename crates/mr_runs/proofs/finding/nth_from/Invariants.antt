@@ -1,0 +1,7 @@
+use Rattle.std.proofs.Common.{◌≡◌}
+use Rattle.std.specs.Prelude.{slice_get}
+use Rattle.mr_runs.specs.Placed.{begun_from}
+use Rattle.mr_runs.proofs.finding.nth_from.Given as goal
+
+abbrev pub invariant-loop-begin : goal.invariant-loop-begin
+invariant-loop-begin l = slice_get l.begin-iterator l.left ≡ slice_get (begun_from l.first l.runs.entries) l.n

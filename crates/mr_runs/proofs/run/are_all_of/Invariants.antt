@@ -1,0 +1,6 @@
+use Rattle.std.proofs.Common.{take}
+use Rattle.mr_runs.specs.Numbers.{AreOf}
+use Rattle.mr_runs.proofs.run.are_all_of.Given as goal
+
+abbrev pub invariant-loop-byte : goal.invariant-loop-byte
+invariant-loop-byte l = AreOf l.provenance (take l.byte-index l.bytes)

@@ -1,0 +1,41 @@
+-- A window of pieces: some bytes from a position on, in pieces.
+use Rattle.std.specs.Prelude.{◌≡◌, ℕ, zero, suc, ◌+◌, ◌-◌, ◌<◌, ◌≤◌, ◌^◌, min, nat_lt, if◌then◌else◌, List, [], ◌∷◌, take, drop, Option, Some, None}
+use Rattle.std.specs.Map.{values_of}
+use Rattle.std.specs.BTreeMap.{BTreeMap}
+use Rattle.mr_runs.specs.Pieces.{SeenPiece, UninitPiece, InitPiece, piece_len}
+use Rattle.mr_runs.specs.Placed.{IsTiled, total_len}
+
+-- a piece without its first n bytes
+abbrev pub piece_past : SeenPiece → ℕ → SeenPiece
+piece_past (UninitPiece len) n = UninitPiece (len - n)
+piece_past (InitPiece numbers provenance) n = InitPiece (drop n numbers) provenance
+
+-- the first n bytes of a piece, or all
+abbrev pub first_piece : SeenPiece → ℕ → SeenPiece
+first_piece (UninitPiece len) n = UninitPiece (min n len)
+first_piece (InitPiece numbers provenance) n = InitPiece (take n numbers) provenance
+
+-- pieces without their first n bytes
+abbrev pub pieces_past : List SeenPiece → ℕ → List SeenPiece
+pieces_past [] n = []
+pieces_past (p ∷ pieces) n = (if nat_lt n (piece_len p) then piece_past p n ∷ pieces else pieces_past pieces (n - piece_len p))
+
+-- the first n bytes of some pieces, or all
+abbrev pub first_pieces : List SeenPiece → ℕ → List SeenPiece
+first_pieces [] n = []
+first_pieces (p ∷ pieces) zero = []
+first_pieces (p ∷ pieces) (suc n) = first_piece p (suc n) ∷ first_pieces pieces (suc n - piece_len p)
+
+-- the pieces of a window on runs; without runs there is none
+abbrev pub lent_pieces : Option (BTreeMap ℕ SeenPiece) → ℕ → ℕ → List SeenPiece
+lent_pieces None from len = []
+lent_pieces (Some runs) from len = first_pieces (pieces_past (values_of runs.entries) from) len
+
+-- the window lies within the runs; without runs it is empty
+abbrev pub IsLent : Option (BTreeMap ℕ SeenPiece) → ℕ → ℕ → Type 0
+IsLent None from len = (len ≡ 0) × (from + len < 2 ^ 64)
+IsLent (Some runs) from len = IsTiled runs.entries × (from + len ≤ total_len runs.entries) × (from + len < 2 ^ 64)
+
+-- what a window from `from` up to `to` has of a piece that begins at `begin` and ends behind `from`
+abbrev pub clipped_piece : SeenPiece → ℕ → ℕ → ℕ → Option SeenPiece
+clipped_piece p begin from to = (if nat_lt begin to then Some (first_piece (piece_past p (from - begin)) (to - begin - (from - begin))) else None)
