@@ -206,12 +206,45 @@ impl Ty {
         }
     }
 
+    // The number of the kind.
+    #[tactic(auto, using(crate::proofs::OrderHeads::head_laws))]
+    fn kind(&self) -> u8
+        ensures { result ≡ (head_of self.now).kind }
+    {
+        match self {
+            Ty::Int(_) => 0,
+            Ty::Bool => 1,
+            Ty::Raw => 2,
+            Ty::FnPtr => 3,
+            Ty::Ref { .. } => 4,
+            Ty::Tuple { .. } => 5,
+            Ty::Array { .. } => 6,
+            Ty::Union { .. } => 7,
+            Ty::Enum { .. } => 8,
+        }
+    }
+
+    // How the heads of two types stand to each other. Most types are told by their kinds, or are integers.
+    #[tactic(auto, using(crate::proofs::OrderHeads::head_laws))]
+    fn order_head(&self, other: &Ty) -> Ordering
+        ensures { result ≡ head_cmp (head_of self.now) (head_of other.now) }
+    {
+        let kinds = self.kind().cmp(&other.kind());
+        if kinds.is_ne() {
+            return kinds;
+        }
+        match (self, other) {
+            (Ty::Int(int), Ty::Int(int2)) => order_ints(*int, *int2),
+            _ => order_heads(self.head(), other.head()),
+        }
+    }
+
     /// How the type stands to another in the order of types: `Equal` exactly where the two are equal. It takes no memory.
     #[cycle(order_ty)]
     pub fn order(&self, other: &Ty) -> Ordering
         ensures { result ≡ ty_cmp self.now other.now }
     {
-        let heads = order_heads(self.head(), other.head());
+        let heads = self.order_head(other);
         if heads.is_ne() {
             return heads;
         }

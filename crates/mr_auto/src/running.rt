@@ -3,25 +3,10 @@ ghost use Rattle.std.specs.Prelude.{◌≡◌, ◌++◌, ◌∷◌, ◌^◌, ◌
 ghost use Rattle.mr_start.specs.Start.{program_fault};
 ghost use Rattle.mr_auto.specs.Answers.{AdvanceAnswer, Made};
 
-use mr_event::{AllocIds, Event, Footprint, ThreadIds};
+use mr_event::Footprint;
 use mr_sched::Entry;
 use mr_step::{Machine, StepFault};
-use mr_track::Accesses;
 use std::alloc::{AllocError, Global};
-
-// Nothing done yet.
-fn no_footprint(alloc: Global) -> Footprint {
-    Footprint {
-        thread: 0,
-        accesses: Accesses::new(alloc),
-        allocated: AllocIds::new(alloc),
-        freed: AllocIds::new(alloc),
-        touched: AllocIds::new(alloc),
-        event: Event::Quiet,
-        ended: false,
-        woken: ThreadIds::new(alloc),
-    }
-}
 
 // A footprint joins the others, where its step completed.
 fn keep(steps: &mut Vec<Footprint>, foot: Footprint, completed: bool) -> Result<(), AllocError>
@@ -44,7 +29,7 @@ pub fn advance(
     requires completed { machine.old.config.completed < 2 ^ 32 }
     ensures { AdvanceAnswer entry.now machine.old machine.new steps.old.items steps.new.items result }
 {
-    let mut foot = no_footprint(alloc);
+    let mut foot = Footprint::nothing(alloc);
     let before = machine.completed();
     match machine.step(entry, &mut foot) {
         Err(fault) => Err(fault),

@@ -31,6 +31,7 @@ enum Call {
     Check(u64, Option<AllocId>, u64),
     Load(u64, u64, u64),
     Store(u64, [u8; 2], u64),
+    Fill(u64, u64, u8, u64),
     Deinit(u64, u64, u64),
     Free(u64, Option<AllocId>, Kind, u64, u64),
 }
@@ -91,6 +92,11 @@ fn tell(told: &mut String, memory: &mut Memory, call: Call) -> Result<(), OutOfM
             ];
             write!(told, "{:?}", memory.store(at(addr), &bytes, align))
         }
+        Call::Fill(addr, len, number, align) => write!(
+            told,
+            "{:?}",
+            memory.fill(at(addr), len, AbstractByte::Init(number, None), align)
+        ),
         Call::Deinit(addr, len, align) => write!(told, "{:?}", memory.deinit(at(addr), len, align)),
         Call::Free(addr, prov, kind, size, align) => write!(
             told,
@@ -217,6 +223,8 @@ false
             Call::Load(16, 4, 4),
             Call::Deinit(18, 2, 2),
             Call::Load(16, 4, 4),
+            Call::Fill(16, 3, 9, 8),
+            Call::Load(16, 4, 4),
             Call::Free(16, Some(FIRST), Kind::Heap, 4, 4),
             Call::Load(16, 4, 4),
         ],
@@ -225,6 +233,8 @@ Ok(())
  -- 07 08 --
 Ok(())
  -- 07 -- --
+Ok(())
+ 09 09 09 --
 Ok(AllocId { thread: 0, count: 0 })
 DeadAllocation
 ",
@@ -254,12 +264,14 @@ Err(OutOfBounds)
         &[
             Call::Store(17, [7, 7], 2),
             Call::Deinit(16, 4, 0),
+            Call::Fill(18, 3, 7, 1),
             Call::Store(19, [7, 7], 1),
             Call::Load(16, 4, 4),
             Call::Load(18, 2, 4),
         ],
         "Err(Undefined(Misaligned))
 Err(Undefined(Misaligned))
+Err(Undefined(OutOfBounds))
 Err(Undefined(OutOfBounds))
  -- -- -- --
 Misaligned

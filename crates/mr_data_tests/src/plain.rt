@@ -65,11 +65,11 @@ impl Plain {
         }
     }
 
-    fn fill_uninit(&mut self, from: u64, len: u64)
+    fn fill(&mut self, from: u64, len: u64, byte: AbstractByte)
         requires { from + len ≤ 64 }
     {
         for index in 0..len {
-            self.set((from + index) as usize, AbstractByte::Uninit);
+            self.set((from + index) as usize, byte);
         }
     }
 }
@@ -120,8 +120,10 @@ fn change(
     let from = next(state) % LEN;
     let len = next(state) % (LEN + 1 - from);
     if next(state) % 3 == 0 {
-        runs.fill_uninit(from, len)?;
-        plain.fill_uninit(from, len);
+        let kind = next(state);
+        let filled = byte(kind, (next(state) % 256) as u8);
+        runs.fill(from, len, filled)?;
+        plain.fill(from, len, filled);
         return Ok(());
     }
     let bytes = bytes(alloc, state, len)?;

@@ -1,6 +1,7 @@
 //! Typed loads.
 ghost use Rattle.std.specs.Prelude.{◌≡◌, IfOk, IsTrue, OnOk, false, length, true};
 ghost use Rattle.mr_layout.specs.Sizes.{align_of, size_of};
+ghost use Rattle.mr_layout.specs.Layouts.{layout_of};
 ghost use Rattle.mr_layout.specs.TypeOk.{TypeOk};
 ghost use Rattle.mr_script.specs.Script.{Went, on};
 ghost use Rattle.mr_value.specs.Decode.{is_scalar};
@@ -20,7 +21,7 @@ use crate::reads::lend;
 use crate::targets::{add_targets, refer_all};
 use mr_ast::Ty;
 use mr_base::{Pointer, Reason};
-use mr_layout::Cache;
+use mr_layout::{Cache, Layout};
 use mr_mem::Memory;
 use mr_runs::View;
 use mr_value::{Val, decode, decode_scalar};
@@ -143,7 +144,18 @@ pub fn load_scalar(m: &Memory, c: &Cache, p: Pointer, t: &Ty) -> Result<Val, Rea
     ensures given { (s : Seen) → read_typed m.now t.now p s ≡ outcome_of result (λ v. noted_load t.now p v s) }
     ensures shape { IfOk result (λ v. has_shape t.now v ≡ true) }
 {
-    let layout = c.layout(t);
+    load_sized(m, p, t, c.layout(t))
+}
+
+// The load of an integer, a bool or a pointer, whose type has this layout.
+#[tactic(auto, using(crate::proofs::ScalarRuns::scalar_laws, crate::proofs::ReadLength::read_sized))]
+fn load_sized(m: &Memory, p: Pointer, t: &Ty, layout: Layout) -> Result<Val, Reason>
+    requires scalar { IsTrue (is_scalar t.now) }
+    requires ok { TypeOk t.now }
+    requires layout { layout ≡ layout_of t.now }
+    ensures given { (s : Seen) → read_typed m.now t.now p s ≡ outcome_of result (λ v. noted_load t.now p v s) }
+    ensures shape { IfOk result (λ v. has_shape t.now v ≡ true) }
+{
     match m.load(p, layout.size, layout.align) {
         Ok(view) => scalar_in(m, &view, t),
         Err(reason) => Err(reason),
@@ -184,9 +196,10 @@ pub fn noted_scalar(
     ensures kept { Extends (seen notes.old) (seen notes.new) }
     ensures shape { IfOk result (λ v. has_shape t.now v ≡ true) }
 {
-    match load_scalar(m, c, p, t) {
+    let layout = c.layout(t);
+    match load_sized(m, p, t, layout) {
         Ok(v) => {
-            note_load(notes, p, c.layout(t).size, target_of(t, &v))?;
+            note_load(notes, p, layout.size, target_of(t, &v))?;
             Ok(v)
         }
         Err(reason) => Err(Halt::Undefined(reason)),

@@ -2,7 +2,8 @@
 //! (Lamport: happens-before; FastTrack: races; which steps wake, depend and have an edge is this project's.)
 //!
 //! - [`Footprint`]: what a completed step read, changed and woke. A run is the list of its steps' footprints.
-//!   [`AllocIds`] and [`ThreadIds`] are its lists; contracts see them as lists.
+//!   [`AllocIds`] and [`ThreadIds`] are its lists; contracts see them as lists. [`Footprint::nothing`] is one of a step that did
+//!   nothing, and [`Footprint::copy_from`] puts a copy of another in its place.
 //! - [`Event`]: what a step did to a lock or to another thread.
 //! - [`Pair`]: a race, by the places of its two steps in the run.
 //!

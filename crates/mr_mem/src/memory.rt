@@ -8,7 +8,7 @@ ghost use Rattle.mr_mem.specs.Stored.{allocation_of, entries_of, memory_of};
 ghost use Rattle.std.specs.FinMap as fin;
 
 use crate::fault::{Fault, PickFault};
-use crate::ranges::{lent, missed, put, put_uninit, stored_at};
+use crate::ranges::{lent, missed, put, put_repeated, stored_at};
 use crate::spans::{Span, Spans};
 use mr_base::{AbstractByte, AllocId, Kind, Pointer, Reason};
 use mr_runs::{Runs, View};
@@ -210,6 +210,20 @@ impl Memory {
         ensures stored { IsStored (written self.old p (replicate len Uninit) align) self.new result }
         ensures err { OnErr result (self.new ≡ self.old) }
     {
+        self.fill(p, len, AbstractByte::Uninit, align)
+    }
+
+    /// Puts `byte` in place of each of the `len` bytes from the pointer on, as a store of such bytes does.
+    pub fn fill(
+        &mut self,
+        p: Pointer,
+        len: u64,
+        byte: AbstractByte,
+        align: u64,
+    ) -> Result<(), Fault>
+        ensures stored { IsStored (written self.old p (replicate len byte) align) self.new result }
+        ensures err { OnErr result (self.new ≡ self.old) }
+    {
         if !is_multiple(p.addr, align) {
             return Err(Fault::Undefined(Reason::Misaligned));
         }
@@ -217,7 +231,7 @@ impl Memory {
             return Ok(());
         }
         match p.prov {
-            Some(id) => put_uninit(&mut self.allocations, id, p.addr, len),
+            Some(id) => put_repeated(&mut self.allocations, id, p.addr, len, byte),
             None => Err(Fault::Undefined(Reason::NoProvenance)),
         }
     }

@@ -1,7 +1,6 @@
 //! Ranges of the bytes of an allocation.
 ghost use Rattle.std.specs.Prelude.{◌≡◌, IfOk, OnErr, Some, option_copied, option_map, replicate};
 ghost use Rattle.std.specs.FinMap as fin;
-ghost use Rattle.mr_base.specs.declared.byte.AbstractByte.TheVariants.{Uninit};
 ghost use Rattle.mr_runs.specs.Pieces.{AreMaximal};
 ghost use Rattle.mr_mem.specs.Memory.{bytes_at, found, inside, put_at, then_give};
 ghost use Rattle.mr_mem.specs.Stored.{IsStored, IsStoredIn, allocation_of, memory_of, seen_view};
@@ -93,30 +92,31 @@ fn put_into(a: &mut Stored, addr: u64, bytes: &[AbstractByte]) -> Result<(), Fau
     Ok(())
 }
 
-/// Makes a range uninitialised in the allocation of an identity.
-pub fn put_uninit(
+/// Puts the same byte in place of each of a range in the allocation of an identity.
+pub fn put_repeated(
     allocations: &mut BTreeMap<AllocId, Stored>,
     id: AllocId,
     addr: u64,
     len: u64,
+    byte: AbstractByte,
 ) -> Result<(), Fault>
-    ensures stored { IsStored (put_at (memory_of allocations.old.entries) id (fin.get (memory_of allocations.old.entries) id) addr (replicate len Uninit)) (memory_of allocations.new.entries) result }
+    ensures stored { IsStored (put_at (memory_of allocations.old.entries) id (fin.get (memory_of allocations.old.entries) id) addr (replicate len byte)) (memory_of allocations.new.entries) result }
     ensures err { OnErr result (memory_of allocations.new.entries ≡ memory_of allocations.old.entries) }
 {
     match allocations.get_mut(&id) {
-        Some(a) => put_uninit_into(a, addr, len),
+        Some(a) => put_repeated_into(a, addr, len, byte),
         None => Err(Fault::Undefined(Reason::NoProvenance)),
     }
 }
 
-// Makes a range of an allocation uninitialised.
-fn put_uninit_into(a: &mut Stored, addr: u64, len: u64) -> Result<(), Fault>
-    ensures stored { IsStoredIn (allocation_of a.old) addr (replicate len Uninit) (allocation_of a.new) result }
+// Puts the same byte in place of each of a range of an allocation.
+fn put_repeated_into(a: &mut Stored, addr: u64, len: u64, byte: AbstractByte) -> Result<(), Fault>
+    ensures stored { IsStoredIn (allocation_of a.old) addr (replicate len byte) (allocation_of a.new) result }
     ensures err { OnErr result (allocation_of a.new ≡ allocation_of a.old) }
 {
     if let Err(reason) = range_fault(a, addr, len) {
         return Err(Fault::Undefined(reason));
     }
-    a.bytes.fill_uninit(addr - a.addr, len)?;
+    a.bytes.fill(addr - a.addr, len, byte)?;
     Ok(())
 }

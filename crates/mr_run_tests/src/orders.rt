@@ -5,11 +5,7 @@
 ghost use Rattle.std.specs.Prelude.{◌<◌, length};
 
 use mr_base::{Access, AllocId};
-use mr_event::{
-    AllocIds, Event, Footprint, OutOfMemory, ThreadIds, depends, follows_plain, foot_ok,
-    predicted_plain,
-};
-use mr_track::Accesses;
+use mr_event::{Event, Footprint, OutOfMemory, depends, follows_plain, foot_ok, predicted_plain};
 use std::alloc::Global;
 use std::test::Fail;
 
@@ -67,16 +63,9 @@ fn note(foot: &mut Footprint, verb: &str, number: u32) -> Result<(), OutOfMemory
 
 /// A footprint that says nothing but the thread.
 pub fn quiet(alloc: Global, thread: u32) -> Footprint {
-    Footprint {
-        thread,
-        accesses: Accesses::new(alloc),
-        allocated: AllocIds::new(alloc),
-        freed: AllocIds::new(alloc),
-        touched: AllocIds::new(alloc),
-        event: Event::Quiet,
-        ended: false,
-        woken: ThreadIds::new(alloc),
-    }
+    let mut foot = Footprint::nothing(alloc);
+    foot.thread = thread;
+    foot
 }
 
 fn note_all(foot: &mut Footprint, acts: &str) -> Result<(), OutOfMemory> {

@@ -5,12 +5,17 @@ ghost use Rattle.mr_runs.specs.Placed.{begun_from, found, total_len, Holds, IsTi
 use crate::run::Run;
 use std::collections::BTreeMap;
 
-/// The run that holds a position, and where it begins.
+/// The run that holds a position, and where it begins. Most positions are in the last run.
 pub(crate) fn run_at(runs: &BTreeMap<u64, Run>, at: u64) -> (u64, &Run)
     requires tiled { IsTiled runs.now.entries }
     requires inside { at < total_len runs.now.entries }
     ensures { Holds runs.now.entries at result.0 result.1.now }
 {
+    if let Some((begin, run)) = runs.last_key_value() {
+        if *begin <= at {
+            return (*begin, run);
+        }
+    }
     match runs.range(..=at).next_back() {
         Some((begin, run)) => (*begin, run),
         None => unreachable!(),

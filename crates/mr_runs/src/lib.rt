@@ -1,7 +1,7 @@
 //! The bytes of an allocation: a list of abstract bytes, of which parts are lent as views.
 //!
-//! - [`Runs`] is the list. `Runs::uninit` makes one of uninitialised bytes, `len` counts them, `view` lends a part, `write` and
-//!   `fill_uninit` replace a part, and `copy_out` copies one.
+//! - [`Runs`] is the list. `Runs::uninit` makes one of uninitialised bytes, `len` counts them, `view` lends a part, `write`
+//!   replaces a part by other bytes, `fill` by one byte repeated, `fill_uninit` by uninitialised ones, and `copy_out` copies one.
 //! - [`View`] is what is lent: its pieces, each uninitialised or initialised with one provenance, in order. `View::len`,
 //!   `byte` and `piece` read it, and `part` lends a part of it.
 //!

@@ -1,6 +1,5 @@
 //! A range of the bytes replaced: the runs that it meets are put together anew, and then exchanged.
 ghost use Rattle.std.specs.Prelude.{◌≡◌, ℕ, ◌+◌, ◌-◌, ◌<◌, ◌≤◌, ◌^◌, false, length, take, replicate, IfOk, OnErr, OnOk, IsTrue};
-ghost use Rattle.mr_base.specs.declared.byte.AbstractByte.TheVariants.{Uninit};
 ghost use Rattle.mr_runs.specs.Exchanged.{IsBegun, IsEnded};
 ghost use Rattle.mr_runs.specs.Numbers.{IsInPlace};
 ghost use Rattle.mr_runs.specs.Pieces.{SeenPiece};
@@ -9,9 +8,8 @@ ghost use Rattle.mr_runs.specs.Placed.{bytes_in, total_len, Holds, IsReplaced, I
 use crate::OutOfMemory;
 use crate::exchange::exchange;
 use crate::finding::run_at;
-use crate::row::{push, push_bytes};
+use crate::row::{push, push_bytes, push_repeated};
 use crate::run::Run;
-use crate::views::Piece;
 use mr_base::AbstractByte;
 use std::alloc::Global;
 use std::collections::BTreeMap;
@@ -62,23 +60,24 @@ pub(crate) fn write_anew(
     exchange(runs, row, end)
 }
 
-/// Makes a range uninitialised.
+/// Puts the same byte in place of each of a range.
 pub(crate) fn fill(
     alloc: Global,
     runs: &mut BTreeMap<u64, Run>,
     len: u64,
     from: u64,
     count: u64,
+    byte: AbstractByte,
 ) -> Result<(), OutOfMemory>
     requires tiled { IsTiled runs.old.entries }
     requires whole { total_len runs.old.entries ≡ len }
     requires inside { from + count ≤ len }
     requires some { 0 < count }
-    ensures ok { OnOk result (IsReplaced runs.old.entries runs.new.entries from (replicate count Uninit)) }
+    ensures ok { OnOk result (IsReplaced runs.old.entries runs.new.entries from (replicate count byte)) }
     ensures err { OnErr result (runs.new.entries ≡ runs.old.entries) }
 {
     let mut row = front(alloc, runs, from)?;
-    push(alloc, &mut row, from, Piece::Uninit(count))?;
+    push_repeated(alloc, &mut row, from, byte, count)?;
     let end = close(alloc, &mut row, runs, len, from + count)?;
     exchange(runs, row, end)
 }

@@ -1,7 +1,7 @@
 //! Runs that are put together in a row, from left to right: neighbours with one mark become one.
 ghost use Rattle.std.specs.Prelude.{◌≡◌, ℕ, ◌+◌, ◌<◌, ◌≤◌, ◌^◌, List, [], ◌∷◌, ◌++◌, length, OnOk};
 ghost use Rattle.mr_base.specs.declared.byte.AbstractByte.{AbstractByte};
-ghost use Rattle.mr_runs.specs.Exchanged.{one_piece, IsBegun, IsPushed};
+ghost use Rattle.mr_runs.specs.Exchanged.{one_piece, repeated_piece, IsBegun, IsPushed};
 ghost use Rattle.mr_runs.specs.Pieces.{SeenPiece, piece_len};
 ghost use Rattle.mr_runs.specs.Placed.{total_len};
 ghost use Rattle.mr_runs.specs.Seen.{seen_piece};
@@ -48,6 +48,27 @@ fn add(
     let run = Run::of(alloc, piece)?;
     row.push((at, run))?;
     Ok(())
+}
+
+/// Puts so many times the same byte behind a row, which ends at `at`.
+pub(crate) fn push_repeated(
+    alloc: Global,
+    row: &mut Vec<(u64, Run)>,
+    at: u64,
+    byte: AbstractByte,
+    count: u64,
+) -> Result<(), OutOfMemory>
+    requires room { total_len row.old.items ≤ at }
+    requires fits { at + count < 2 ^ 64 }
+    ensures { OnOk result (IsPushed row.old.items at (repeated_piece count byte) row.new.items) }
+{
+    match byte {
+        AbstractByte::Uninit => push(alloc, row, at, Piece::Uninit(count)),
+        AbstractByte::Init(number, provenance) => {
+            let numbers = vec![in alloc; number; count as usize]?;
+            push(alloc, row, at, Piece::Bytes(numbers.as_slice(), provenance))
+        }
+    }
 }
 
 /// Puts bytes behind a row, which ends at `at`: all at once where they have one provenance.

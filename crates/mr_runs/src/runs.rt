@@ -77,16 +77,25 @@ impl Runs {
         write_anew(self.alloc, &mut self.runs, self.len, from, bytes)
     }
 
+    /// Puts `byte` in place of each of the `len` bytes from the position `from` on.
+    pub fn fill(&mut self, from: u64, len: u64, byte: AbstractByte) -> Result<(), OutOfMemory>
+        requires { from + len ≤ length self.old }
+        ensures ok { OnOk result (self.new ≡ with_range_replaced self.old from (replicate len byte)) }
+        ensures err { OnErr result (self.new ≡ self.old) }
+    {
+        if len == 0 {
+            return Ok(());
+        }
+        fill(self.alloc, &mut self.runs, self.len, from, len, byte)
+    }
+
     /// Makes the `len` bytes from the position `from` on uninitialised.
     pub fn fill_uninit(&mut self, from: u64, len: u64) -> Result<(), OutOfMemory>
         requires { from + len ≤ length self.old }
         ensures ok { OnOk result (self.new ≡ with_range_replaced self.old from (replicate len Uninit)) }
         ensures err { OnErr result (self.new ≡ self.old) }
     {
-        if len == 0 {
-            return Ok(());
-        }
-        fill(self.alloc, &mut self.runs, self.len, from, len)
+        self.fill(from, len, AbstractByte::Uninit)
     }
 
     /// Appends the `len` bytes from the position `from` on to `out`.

@@ -201,7 +201,10 @@ fn piece_of<'a>(runs: &'a BTreeMap<u64, Run>, from: u64, len: u64, n: usize) -> 
     if len == 0 {
         return None;
     }
-    let (first, _) = run_at(runs, from);
+    let (first, run) = run_at(runs, from);
+    if n == 0 {
+        return clipped(run, first, from, from + len);
+    }
     match nth_from(runs, first, n) {
         Some((begin, run)) => clipped(run, begin, from, from + len),
         None => None,

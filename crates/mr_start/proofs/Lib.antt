@@ -3,8 +3,8 @@ pub mod Entering
 pub mod Overlaps
 pub mod PickLaws
 pub mod PlacedLaws
+pub mod RepeatedItems
 pub mod RunLaws
 pub mod StartFacts
 pub mod StartSound
 pub mod StartStores
-pub mod UninitItems

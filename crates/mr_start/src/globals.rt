@@ -1,6 +1,5 @@
 //! The bytes of globals, stored at the start.
 ghost use Rattle.std.specs.Prelude.{◌≡◌, ◌++◌, IfOk, IfSome, List, OnErr, OnOk, Result, length, replicate};
-ghost use Rattle.mr_base.specs.declared.byte.AbstractByte.TheVariants.{Uninit};
 ghost use Rattle.mr_base.specs.declared.byte.Pointer.{Pointer as PointerOf};
 ghost use Rattle.mr_base.specs.declared.reason.Reason.{Reason};
 ghost use Rattle.mr_eval.specs.Moves.{behind};
@@ -85,18 +84,50 @@ fn global_bytes(
     Ok(bytes)
 }
 
-// How many bytes some items have, if all are uninitialised.
-fn uninit_len(items: &[Item_]) -> Option<u64>
-    ensures { (functions : List PointerOf) → (globals : List PointerOf) → IfSome result (λ n. global_bytes functions globals items.now ≡ replicate n Uninit) }
+// How many bytes an item has, if all are this one.
+fn count_of(item: &Item_, byte: AbstractByte) -> Option<u64>
+    ensures { (functions : List PointerOf) → (globals : List PointerOf) → IfSome result (λ n. item_bytes functions globals item.now ≡ replicate n byte) }
+{
+    match (item, byte) {
+        (Item_::Uninit(repeat), AbstractByte::Uninit) => Some(u64::from(*repeat)),
+        (Item_::Byte(number, repeat), AbstractByte::Init(wanted, None)) => {
+            if *number == wanted {
+                Some(u64::from(*repeat))
+            } else {
+                None
+            }
+        }
+        _ => None,
+    }
+}
+
+// How many bytes some items have, if all are this one.
+fn len_of(items: &[Item_], byte: AbstractByte) -> Option<u64>
+    ensures { (functions : List PointerOf) → (globals : List PointerOf) → IfSome result (λ n. global_bytes functions globals items.now ≡ replicate n byte) }
 {
     let mut len: u64 = 0;
     for item in items {
-        match item {
-            Item_::Uninit(repeat) => len = len.checked_add(u64::from(*repeat))?,
-            Item_::Byte(_, _) | Item_::Reloc(_, _) => return None,
-        }
+        len = len.checked_add(count_of(item, byte)?)?;
     }
     Some(len)
+}
+
+// The first byte of some items, if it is written as a byte or as uninitialised.
+fn first_byte(items: &[Item_]) -> Option<AbstractByte> {
+    match items.first()? {
+        Item_::Uninit(_) => Some(AbstractByte::Uninit),
+        Item_::Byte(number, _) => Some(AbstractByte::Init(*number, None)),
+        Item_::Reloc(_, _) => None,
+    }
+}
+
+// The byte that all bytes of some items are, and how many there are.
+fn repeated(items: &[Item_]) -> Option<(AbstractByte, u64)>
+    ensures { (functions : List PointerOf) → (globals : List PointerOf) → IfSome result (λ r. global_bytes functions globals items.now ≡ replicate r.1 r.0) }
+{
+    let byte = first_byte(items)?;
+    let len = len_of(items, byte)?;
+    Some((byte, len))
 }
 
 // A store at the start. Its address was picked for its alignment, and its allocation has room for it.
@@ -109,7 +140,7 @@ fn stored(answer: Result<(), Fault>) -> Result<(), AllocError>
     }
 }
 
-// Stores the bytes of a global. Uninitialised ones are not listed.
+// Stores the bytes of a global. They are listed only where they differ.
 fn fill_one(
     alloc: Global,
     memory: &mut Memory,
@@ -121,8 +152,8 @@ fn fill_one(
     ensures { OnOk result (memory.new ≡ behind_store memory.old (written memory.old p (global_bytes functions.now places.now global.now.items) global.now.align)) }
 {
     let items = global.items.as_slice();
-    if let Some(len) = uninit_len(items) {
-        return stored(memory.deinit(p, len, global.align));
+    if let Some((byte, len)) = repeated(items) {
+        return stored(memory.fill(p, len, byte, global.align));
     }
     let bytes = global_bytes(alloc, functions, places, items)?;
     stored(memory.store(p, bytes.as_slice(), global.align))

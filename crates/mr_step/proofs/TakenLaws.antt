@@ -1,5 +1,5 @@
 -- Where the turn of an enabled thread leads.
-use Rattle.std.proofs.Common.{◌≡◌, ℕ, zero, suc, ◌++◌, arith, refl, sym, ap, ◌∙◌, subst, List, [], ◌∷◌, length, true, Option, Some, None, Result, Err}
+use Rattle.std.proofs.Common.{◌≡◌, ℕ, zero, suc, ◌++◌, arith, refl, sym, ap, ap₂, ◌∙◌, subst, List, [], ◌∷◌, length, true, Option, Some, None, Result, Err}
 use Rattle.std.proofs.lemmas.Option.{same_Some, slice_get_within}
 use Rattle.std.proofs.Math.ListN.{length-set}
 use Rattle.std.specs.Prelude.{slice_get, slice_set}
@@ -8,6 +8,9 @@ use Rattle.mr_base.specs.declared.reason.Reason.{Reason}
 use Rattle.mr_base.specs.declared.reason.Verdict.{Verdict}
 use Rattle.mr_base.specs.declared.reason.Verdict.TheVariants as verdict
 use Rattle.mr_event.specs.declared.footprint.Footprint.{Footprint}
+use Rattle.mr_eval.specs.Tally.{start_tally}
+use Rattle.mr_eval.specs.World.{tally_of, world_of}
+use Rattle.mr_eval.specs.declared.scene.Scene.{Scene}
 use Rattle.mr_mem.specs.Memory.{Memory}
 use Rattle.mr_sched.specs.declared.schedule.Entry.{Entry}
 use Rattle.mr_script.specs.Script.{Outcome, Refused}
@@ -24,12 +27,12 @@ use Rattle.mr_frame.specs.declared.stack.Stack.{Stack as KeptStack}
 use Rattle.mr_frame.specs.Frames.{Look}
 use Rattle.mr_frame.specs.Kept.{look_of}
 use Rattle.mr_thread.specs.Steps.{Own, Turn, thread_step}
+use Rattle.mr_turn.specs.declared.deed.Deed.{Deed}
 use Rattle.mr_turn.specs.declared.deed.TurnFault.{TurnFault}
 use Rattle.mr_turn.specs.declared.deed.TurnFault.TheVariants as turn
 use Rattle.mr_turn.specs.Turning.{own_of, picks_break, planned, shared_in, turn_by, turned}
 use Rattle.mr_step.specs.declared.progress.Progress.{Progress}
 use Rattle.mr_step.specs.declared.progress.Thread.{Thread as KeptThread}
-use Rattle.mr_step.specs.declared.settle.Act.{Act}
 use Rattle.mr_step.specs.Advance.{ActAnswer, Acts, AdvanceAnswer, Advances, IsDue, Keeps, Stays, WithoutAnswer, act_fault, act_outcome, world_at}
 use Rattle.mr_step.specs.Answers.{Hands, fault_of, stopped}
 use Rattle.mr_step.specs.declared.fault.StepFault.{StepFault}
@@ -71,6 +74,27 @@ set_same (y ∷ xs) (suc i) x h = ap (λ zs. y ∷ zs) (set_same xs i x h)
 -- where a step leads that itself stops
 pub stops_leads : (p : Progress) (v : Verdict) (foot : Footprint) → LeadsTo (Stops v) (config_of p) (config_of (record p { gone = true; verdict = v })) foot foot
 stops_leads p v foot = record { config = refl; foot = stopped refl refl refl }
+
+-- the scene of a step that begins
+module _ (m : Memory) (t n : ℕ) (s : Scene) (world : world_of s ≡ (m, start_tally t n)) where
+  pub scene_thread : s.thread ≡ t
+  scene_thread = ap (λ w. w.1.thread) world
+
+  pub scene_memory : s.memory ≡ m
+  scene_memory = ap (λ w. w.0) world
+
+  pub scene_count : s.count ≡ n
+  scene_count = ap (λ w. w.1.count) world
+
+  pub scene_begins : tally_of s ≡ start_tally s.thread s.count
+  scene_begins = ap (λ w. w.1) world ∙ sym (ap₂ start_tally scene_thread scene_count)
+
+  -- what was answered of the scene is so of its thread and its memory
+  pub acted : (l : Look) (ks : List ℕ) (th new : KeptThread) (s' : Scene) (x y : Tables) (r : Result Deed TurnFault)
+      → ActAnswer l s.thread ks th new s.memory s' x y r → ActAnswer l t ks th new m s' x y r
+  acted l ks th new s' x y r h =
+      subst (λ (k : ℕ). ActAnswer l k ks th new m s' x y r) scene_thread
+      (subst (λ (o : Memory). ActAnswer l s.thread ks th new o s' x y r) scene_memory h)
 
 module _ (look : KeptLook) (e : Entry) (p : Progress) (due : IsDue look e.thread p) (th : KeptThread) (here : slice_get p.threads.items e.thread ≡ Some th) where
   abbrev t : ℕ
@@ -137,25 +161,25 @@ module _ (look : KeptLook) (e : Entry) (p : Progress) (due : IsDue look e.thread
           }
 
   -- there is no turn
-  pub untaken : (fault : TurnFault) (new : KeptThread) (m : Memory) (x : Tables) → ActAnswer l t e.picks th new p.memory m p.sync x (Err fault)
-      → (mid q : Progress) → mid.threads.items ≡ slice_set p.threads.items t new → mid ≡ record p { memory = m; threads = mid.threads; sync = x }
+  pub untaken : (fault : TurnFault) (new : KeptThread) (left : Scene) (x : Tables) → ActAnswer l t e.picks th new p.memory left p.sync x (Err fault)
+      → (mid q : Progress) → mid.threads.items ≡ slice_set p.threads.items t new → mid ≡ record p { memory = left.memory; threads = mid.threads; sync = x }
       → (result : Result (Unit {0}) StepFault) → WithoutAnswer fault mid q result
       → (foot : Footprint) → AdvanceAnswer l e (config_of p) (config_of q) foot foot result
-  untaken (turn.Undefined r) new m x h mid q threads same result w foot =
+  untaken (turn.Undefined r) new left x h mid q threads same result w foot =
       subst (AdvanceAnswer l e (config_of p) (config_of q) foot foot) (sym w.0)
       (subst (λ (y : Config Own). Advances l e (config_of p) y foot foot)
       (sym (ap config_of (w.1 ∙ ap (λ (y : Progress). record y { gone = true; verdict = verdict.Undefined r }) same)))
       (halts r foot h.legal h.refused))
-  untaken (turn.Broken failure) new m x h mid q threads same result w foot =
+  untaken (turn.Broken failure) new left x h mid q threads same result w foot =
       subst (AdvanceAnswer l e (config_of p) (config_of q) foot foot) (sym w.0)
       (subst (λ (y : Progress). Stays l e (config_of p) (config_of y) foot foot (fault_of failure.code failure.earlier)) (sym w.1)
-      (stays (fault_of failure.code failure.earlier) new m x h mid threads same foot))
-  untaken turn.Memory new m x h mid q threads same result w foot = subst (AdvanceAnswer l e (config_of p) (config_of q) foot foot) (sym w) tt
+      (stays (fault_of failure.code failure.earlier) new left.memory x h mid threads same foot))
+  untaken turn.Memory new left x h mid q threads same result w foot = subst (AdvanceAnswer l e (config_of p) (config_of q) foot foot) (sym w) tt
 
   -- the turn is taken, and settled
-  module _ (mid q : Progress) (new : KeptThread) (a : Act) (foot foot' : Footprint) (acts : Acts l t e.picks th new p.memory p.sync mid.sync a) (threads : mid.threads.items ≡ slice_set p.threads.items t new)
-      (same : mid ≡ record p { memory = mid.memory; threads = mid.threads; sync = mid.sync }) (settles : Settles mid q t a foot foot') where
-    tells : Tells a.scene a.deed acts.turned.notes
+  module _ (mid q : Progress) (new : KeptThread) (sc : Scene) (d : Deed) (foot foot' : Footprint) (acts : Acts l t e.picks th new p.memory p.sync mid.sync sc d) (threads : mid.threads.items ≡ slice_set p.threads.items t new)
+      (same : mid ≡ record p { memory = mid.memory; threads = mid.threads; sync = mid.sync }) (settles : Settles mid q t sc d foot foot') where
+    tells : Tells sc d acts.turned.notes
     tells = record {
       tally = acts.turned.tally;
       event = acts.turned.event;
@@ -168,7 +192,7 @@ module _ (look : KeptLook) (e : Entry) (p : Progress) (due : IsDue look e.thread
     at_mid = ap (λ ts. slice_get ts t) threads ∙ set_here p.threads.items t new (slice_get_within p.threads.items t th here)
 
     abbrev bare_mid : Bare Own
-    bare_mid = bare_by (state_of mid) t new.stack mid.sync a.scene a.deed acts.turned.notes
+    bare_mid = bare_by (state_of mid) t new.stack mid.sync sc d acts.turned.notes
 
     numbers : (state_of mid).threads ≡ slice_set s.threads t (thread_as t new)
     numbers = ap (numbered 0) threads ∙ numbered_set 0 t t p.threads.items new (omega arith)
@@ -177,14 +201,14 @@ module _ (look : KeptLook) (e : Entry) (p : Progress) (due : IsDue look e.thread
     many = ap length numbers ∙ length-set s.threads t (thread_as t new) ∙ sym (sound look t p due).many
 
     abbrev ways : Option Own → Ways Own
-    ways started = turn_by a.deed.flow (own_of t new.stack) new.stack started
+    ways started = turn_by d.flow (own_of t new.stack) new.stack started
 
     bare_is : settled s t outcome ≡ bare_mid
     bare_is =
         ap (settled s t) acts.turned.goes
-        ∙ ap (λ f. settle s t f (shared_in a.scene mid.sync, acts.turned.notes)) (turn_over a.deed.flow t th.stack new.stack new.stack (option_map (own_of (length p.sync.statuses)) a.deed.started))
-        ∙ ap (λ k. settle s t (ways (option_map (own_of k) a.deed.started)) (shared_in a.scene mid.sync, acts.turned.notes)) (sym many)
-        ∙ sym (settle_over s (state_of mid) t (thread_as t new) numbers (ways (option_map (own_of (length (state_of mid).threads)) a.deed.started)) (shared_in a.scene mid.sync, acts.turned.notes))
+        ∙ ap (λ f. settle s t f (shared_in sc mid.sync, acts.turned.notes)) (turn_over d.flow t th.stack new.stack new.stack (option_map (own_of (length p.sync.statuses)) d.started))
+        ∙ ap (λ k. settle s t (ways (option_map (own_of k) d.started)) (shared_in sc mid.sync, acts.turned.notes)) (sym many)
+        ∙ sym (settle_over s (state_of mid) t (thread_as t new) numbers (ways (option_map (own_of (length (state_of mid).threads)) d.started)) (shared_in sc mid.sync, acts.turned.notes))
 
     abbrev base : Progress → Config Own
     base x = record (config_of p) { state = (config_of x).state }

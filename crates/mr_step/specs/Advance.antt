@@ -3,6 +3,7 @@ use Rattle.std.specs.Prelude.{◌≡◌, ℕ, ◌<◌, ◌^◌, true, false, Lis
 use Rattle.mr_base.specs.declared.reason.Reason.{Reason}
 use Rattle.mr_base.specs.declared.reason.Verdict.TheVariants.{Running, Undefined}
 use Rattle.mr_event.specs.declared.footprint.Footprint.{Footprint}
+use Rattle.mr_eval.specs.declared.scene.Scene.{Scene}
 use Rattle.mr_mem.specs.Memory.{Memory}
 use Rattle.mr_sched.specs.declared.schedule.Entry.{Entry}
 use Rattle.mr_script.specs.Script.{Outcome, Refused}
@@ -17,6 +18,7 @@ use Rattle.mr_frame.specs.Frames.{Look}
 use Rattle.mr_frame.specs.Kept.{IsReady, stack_of}
 use Rattle.mr_frame.specs.Standing.{IsUncounted}
 use Rattle.mr_thread.specs.Steps.{Own, Turn, thread_step}
+use Rattle.mr_turn.specs.declared.deed.Deed.{Deed}
 use Rattle.mr_turn.specs.declared.deed.TurnFault.{TurnFault}
 use Rattle.mr_turn.specs.declared.deed.TurnFault.TheVariants as turn
 use Rattle.mr_turn.specs.Turning.{Turned, own_of, picks_break, planned, turned}
@@ -24,7 +26,6 @@ use Rattle.mr_step.specs.declared.fault.StepFault.{StepFault}
 use Rattle.mr_step.specs.declared.fault.StepFault.TheVariants as answer
 use Rattle.mr_step.specs.declared.progress.Progress.{Progress}
 use Rattle.mr_step.specs.declared.progress.Thread.{Thread as KeptThread}
-use Rattle.mr_step.specs.declared.settle.Act.{Act}
 use Rattle.mr_step.specs.Answers.{Hands, fault_of}
 use Rattle.mr_step.specs.Kept.{IsSound, config_of}
 
@@ -49,12 +50,12 @@ pub record BeginsAct (look : KeptLook) (t : ℕ) (th : KeptThread) (m : Memory) 
   pub enabled : IsEnabled t x
   pub uncounted : IsUncounted m t th.count
 
--- the turn is taken: only the stack of the thread and the tables have changed, and memory is with the act
+-- the turn is taken: only the stack of the thread and the tables have changed, and memory is with the scene
 pub record Acts (look : Look) (t : ℕ) (picks : List ℕ) (old new : KeptThread) (m : Memory) (x y : Tables)
-    (a : Act) : Type 0 where
+    (s : Scene) (d : Deed) : Type 0 where
   pub legal : act_fault look t picks old m x ≡ None
   pub turned : Turned
-      (own_of t old.stack) (length x.statuses) (act_outcome look t picks old m x) a.deed new.stack a.scene y
+      (own_of t old.stack) (length x.statuses) (act_outcome look t picks old m x) d new.stack s y
   pub thread : new ≡ record old { stack = new.stack }
 
 -- the picks break this rule, and nothing changed
@@ -71,13 +72,14 @@ pub record Halts (look : Look) (t : ℕ) (picks : List ℕ) (old : KeptThread) (
   pub legal : act_fault look t picks old m x ≡ None
   pub refused : act_outcome look t picks old m x ≡ Refused r
 
-abbrev pub ActAnswer : Look → ℕ → List ℕ → KeptThread → KeptThread → Memory → Memory → Tables → Tables
-    → Result Act TurnFault → Type 0
-ActAnswer look t picks old new m n x y (Ok a) = Acts look t picks old new m x y a
-ActAnswer look t picks old new m n x y (Err (turn.Broken e)) =
-    Keeps look t picks old new m n x y (fault_of e.code e.earlier)
-ActAnswer look t picks old new m n x y (Err (turn.Undefined r)) = Halts look t picks old m x r
-ActAnswer look t picks old new m n x y (Err turn.Memory) = Unit {0}
+-- how the turn is answered, with this scene behind it
+abbrev pub ActAnswer : Look → ℕ → List ℕ → KeptThread → KeptThread → Memory → Scene → Tables → Tables
+    → Result Deed TurnFault → Type 0
+ActAnswer look t picks old new m s x y (Ok d) = Acts look t picks old new m x y s d
+ActAnswer look t picks old new m s x y (Err (turn.Broken e)) =
+    Keeps look t picks old new m s.memory x y (fault_of e.code e.earlier)
+ActAnswer look t picks old new m s x y (Err (turn.Undefined r)) = Halts look t picks old m x r
+ActAnswer look t picks old new m s x y (Err turn.Memory) = Unit {0}
 
 -- a step without a turn stops, or its picks break a rule, or memory ran out
 abbrev pub WithoutAnswer : TurnFault → Progress → Progress → Result (Unit {0}) StepFault → Type 0

@@ -17,10 +17,8 @@ use Rattle.mr_frame.specs.declared.stack.Stack.{Stack as KeptStack}
 use Rattle.mr_thread.specs.Steps.{Own}
 use Rattle.mr_turn.specs.declared.deed.Deed.{Deed}
 use Rattle.mr_turn.specs.Turning.{is_end, own_of, printed_lines, shared_in, turn_by}
-use Rattle.mr_step.specs.declared.footprint.Left.{Left}
 use Rattle.mr_step.specs.declared.progress.Progress.{Progress}
 use Rattle.mr_step.specs.declared.progress.Thread.{Thread as KeptThread}
-use Rattle.mr_step.specs.declared.settle.Act.{Act}
 use Rattle.mr_step.specs.Answers.{Hands}
 use Rattle.mr_step.specs.Kept.{config_of, state_of}
 
@@ -36,12 +34,6 @@ foot_by s d = record {
   ended = is_end d.flow;
   woken = d.woken.items;
 }
-
--- what a completed step leaves
-pub record IsLeft (s : Scene) (d : Deed) (left : Left) : Type 0 where
-  pub foot : left.foot ≡ foot_by s d
-  pub memory : left.memory ≡ s.memory
-  pub count : left.count ≡ s.count
 
 -- the verdict behind a completed step with this footprint, by the footprint of the step before and the tables
 abbrev pub verdict_in : Option Footprint → Footprint → Tables → Verdict
@@ -82,8 +74,8 @@ pub record CanSettle (p : Progress) (t : ℕ) : Type 0 where
   pub there : p.gone ≡ false
   pub steps : p.completed < 2 ^ 32
 
--- the act of thread t, whose new stack already stands in its place, leads from old to new
-abbrev pub Settles : Progress → Progress → ℕ → Act → Footprint → Footprint → Type 0
-Settles old new t a f f' =
-    (th : KeptThread) (n : Notes) → slice_get old.threads.items t ≡ Some th → Tells a.scene a.deed n
-    → LeadsTo (bare_by (state_of old) t th.stack old.sync a.scene a.deed n) (config_of old) (config_of new) f f'
+-- the turn of thread t, whose new stack already stands in its place, leads from old to new
+abbrev pub Settles : Progress → Progress → ℕ → Scene → Deed → Footprint → Footprint → Type 0
+Settles old new t s d f f' =
+    (th : KeptThread) (n : Notes) → slice_get old.threads.items t ≡ Some th → Tells s d n
+    → LeadsTo (bare_by (state_of old) t th.stack old.sync s d n) (config_of old) (config_of new) f f'

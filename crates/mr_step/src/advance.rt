@@ -1,6 +1,8 @@
 //! One entry of a schedule: its rules, and then its step.
 ghost use Rattle.std.specs.Prelude.{◌≡◌, ◌<◌, ◌^◌, None, Some};
 ghost use Rattle.mr_frame.specs.Kept.{IsReady, look_of};
+ghost use Rattle.mr_eval.specs.Tally.{start_tally};
+ghost use Rattle.mr_eval.specs.World.{tally_of};
 ghost use Rattle.mr_plan.specs.Runs.{is_running as running_in};
 ghost use Rattle.mr_sync.specs.Tables.{is_enabled as enabled_in};
 ghost use Rattle.mr_step.specs.Advance.{ActAnswer, AdvanceAnswer, BeginsAct, IsDue, IsSoundBefore, WithoutAnswer};
@@ -8,7 +10,7 @@ ghost use Rattle.mr_step.specs.Kept.{config_of};
 
 use crate::fault::{AFTER_STOP, NOT_ENABLED, StepFault, broken, refused};
 use crate::progress::{Progress, Thread};
-use crate::settle::{Act, settle};
+use crate::settle::settle;
 use mr_base::Verdict;
 use mr_eval::Scene;
 use mr_event::Footprint;
@@ -16,7 +18,7 @@ use mr_frame::Look;
 use mr_mem::Memory;
 use mr_sched::Entry;
 use mr_sync::{Status, SyncTable};
-use mr_turn::{TurnFault, turn};
+use mr_turn::{Deed, TurnFault, turn};
 use std::alloc::Global;
 use std::mem::replace;
 
@@ -35,31 +37,24 @@ fn is_enabled(status: Option<Status>) -> bool
     matches!(status, Some(Status::Enabled))
 }
 
-// The turn of an enabled thread. Where there is none, memory stays.
+// The turn of an enabled thread, in the scene of its step.
 fn act(
     alloc: Global,
     look: &Look<'_>,
-    number: u32,
     thread: &mut Thread,
-    memory: &mut Memory,
+    scene: &mut Scene,
     sync: &mut SyncTable,
     picks: &[u64],
-) -> Result<Act, TurnFault>
-    requires { BeginsAct look.now number thread.old memory.old sync.old }
-    ensures { ActAnswer (look_of look.now) number picks.now thread.old thread.new memory.old memory.new sync.old sync.new result }
+) -> Result<Deed, TurnFault>
+    requires begins { BeginsAct look.now scene.old.thread thread.old scene.old.memory sync.old }
+    requires scene { tally_of scene.old ≡ start_tally scene.old.thread scene.old.count }
+    requires count { scene.old.count ≡ thread.old.count }
+    ensures { ActAnswer (look_of look.now) scene.old.thread picks.now thread.old thread.new scene.old.memory scene.new sync.old sync.new result }
 {
     if thread.count >= MOST_ALLOCATIONS {
         return Err(TurnFault::Memory);
     }
-    let held = replace(memory, Memory::new(alloc));
-    let mut scene = Scene::new(alloc, held, number, thread.count);
-    match turn(alloc, look, &mut thread.stack, &mut scene, sync, picks) {
-        Ok(deed) => Ok(Act { scene, deed }),
-        Err(fault) => {
-            *memory = scene.memory;
-            Err(fault)
-        }
-    }
+    turn(alloc, look, &mut thread.stack, scene, sync, picks)
 }
 
 // The step of a thread that has no turn.
@@ -88,22 +83,25 @@ fn take(
     ensures { AdvanceAnswer (look_of look.now) entry.now (config_of p.old) (config_of p.new) foot.old foot.new result }
 {
     let number = entry.thread;
-    let picks = entry.picks.as_slice();
     let thread = &mut p.threads[number as usize];
+    let memory = replace(&mut p.memory, Memory::new(alloc));
+    let mut scene = Scene::new(alloc, memory, number, thread.count);
     match act(
         alloc,
         look,
-        number,
         thread,
-        &mut p.memory,
+        &mut scene,
         &mut p.sync,
-        picks,
+        entry.picks.as_slice(),
     ) {
-        Ok(act) => {
-            settle(alloc, p, number, act, foot)?;
+        Ok(deed) => {
+            settle(alloc, p, number, scene, deed, foot)?;
             Ok(())
         }
-        Err(fault) => without(p, fault),
+        Err(fault) => {
+            p.memory = scene.memory;
+            without(p, fault)
+        }
     }
 }
 

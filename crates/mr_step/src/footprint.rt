@@ -1,10 +1,10 @@
 //! The footprint of a completed step, and the verdict behind it.
-ghost use Rattle.std.specs.Prelude.{◌≡◌, ◌==◌, IfOk, option_copied};
+ghost use Rattle.std.specs.Prelude.{◌≡◌, ◌==◌, OnOk, option_copied};
 ghost use Rattle.std.specs.List.{list_any};
 ghost use Rattle.mr_event.specs.Footprints.{spawns as is_spawning, wakes as is_waking};
 ghost use Rattle.mr_plan.specs.Runs.{races_with as is_racing};
 ghost use Rattle.mr_turn.specs.Turning.{is_end as is_ending};
-ghost use Rattle.mr_step.specs.Settling.{IsLeft, verdict_in};
+ghost use Rattle.mr_step.specs.Settling.{foot_by, verdict_in};
 
 use crate::copies::thread_ids;
 use mr_base::{Event, Reason, Verdict};
@@ -16,14 +16,6 @@ use mr_sync::SyncTable;
 use mr_turn::Deed;
 use std::alloc::{AllocError, Global};
 
-/// What a completed step leaves: its footprint, the memory, and how many allocations its thread has made.
-#[derive(Drop)]
-pub struct Left {
-    pub foot: Footprint,
-    pub memory: Memory,
-    pub count: u64,
-}
-
 /// Whether a thread has ended.
 pub fn is_end(flow: Flow) -> bool
     ensures { result ≡ is_ending flow }
@@ -31,21 +23,28 @@ pub fn is_end(flow: Flow) -> bool
     matches!(flow, Flow::Ended)
 }
 
-/// What a turn leaves, from its scene and its deed.
-pub fn done(alloc: Global, scene: Scene, deed: &Deed) -> Result<Left, AllocError>
-    ensures { IfOk result (IsLeft scene deed.now) }
+/// What a turn leaves, from its scene and its deed: memory, and its footprint in place of another.
+pub fn leave(
+    alloc: Global,
+    scene: Scene,
+    deed: &Deed,
+    memory: &mut Memory,
+    foot: &mut Footprint,
+) -> Result<(), AllocError>
+    ensures memory { OnOk result (memory.new ≡ scene.memory) }
+    ensures foot { OnOk result (foot.new ≡ foot_by scene deed.now) }
 {
     let woken = thread_ids(alloc, deed.woken.as_slice())?;
     let Scene {
-        memory,
+        memory: left,
         notes,
         made,
         freed,
         thread,
-        count,
         ..
     } = scene;
-    let foot = Footprint {
+    *memory = left;
+    *foot = Footprint {
         thread,
         accesses: notes.accesses,
         allocated: made,
@@ -55,11 +54,7 @@ pub fn done(alloc: Global, scene: Scene, deed: &Deed) -> Result<Left, AllocError
         ended: is_end(deed.flow),
         woken,
     };
-    Ok(Left {
-        foot,
-        memory,
-        count,
-    })
+    Ok(())
 }
 
 fn contains_thread(list: &[u32], thread: u32) -> bool

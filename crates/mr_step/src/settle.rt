@@ -10,8 +10,8 @@ ghost use Rattle.mr_step.specs.Kept.{numbered, printed_of, standing_thread};
 ghost use Rattle.mr_step.specs.declared.progress.Thread.{Thread as KeptThread};
 ghost use Rattle.mr_step.specs.Settling.{CanSettle, IsOn, Settles};
 
-use crate::copies::copied;
-use crate::footprint::{done, is_end, verdict_behind};
+use crate::copies::keep_last;
+use crate::footprint::{is_end, leave, verdict_behind};
 use crate::progress::{Line, Progress, Thread};
 use mr_base::Verdict;
 use mr_eval::Scene;
@@ -20,13 +20,6 @@ use mr_frame::{Flow, Stack};
 use mr_mem::Memory;
 use mr_turn::Deed;
 use std::alloc::{AllocError, Global};
-
-/// What the turn of a thread did: what it left of memory and noted of it, and its deed.
-#[derive(Drop)]
-pub struct Act {
-    pub scene: Scene,
-    pub deed: Deed,
-}
 
 // The print of a step, where it made one.
 fn print(output: &mut Vec<Line>, thread: u32, text: Option<Vec<u8>>) -> Result<(), AllocError>
@@ -67,24 +60,22 @@ fn complete(
     alloc: Global,
     p: &mut Progress,
     thread: u32,
-    act: Act,
+    scene: Scene,
+    deed: Deed,
     foot: &mut Footprint,
 ) -> Result<(), AllocError>
-    requires flow { IsOn act.deed.flow }
+    requires flow { IsOn deed.flow }
     requires at { CanSettle p.old thread }
-    ensures { OnOk result (Settles p.old p.new thread act foot.old foot.new) }
+    ensures { OnOk result (Settles p.old p.new thread scene deed foot.old foot.new) }
 {
-    let Act { scene, deed } = act;
-    let left = done(alloc, scene, &deed)?;
-    let handed = copied(alloc, &left.foot)?;
-    print(&mut p.output, left.foot.thread, deed.text)?;
-    mark(&mut p.threads, thread, is_end(deed.flow), left.count);
+    let count = scene.count;
+    leave(alloc, scene, &deed, &mut p.memory, foot)?;
+    print(&mut p.output, foot.thread, deed.text)?;
+    mark(&mut p.threads, thread, is_end(deed.flow), count);
     join(&mut p.threads, deed.started)?;
-    p.verdict = verdict_behind(p.last.as_ref(), &left.foot, &p.sync);
-    p.memory = left.memory;
-    p.last = Some(left.foot);
+    p.verdict = verdict_behind(p.last.as_ref(), foot, &p.sync);
+    keep_last(alloc, &mut p.last, foot)?;
     p.completed += 1;
-    *foot = handed;
     Ok(())
 }
 
@@ -99,20 +90,21 @@ fn end_of(memory: &Memory) -> Verdict
     }
 }
 
-/// Where the turn of a thread leads.
+/// Where the turn of a thread leads, which left this scene and this deed.
 pub fn settle(
     alloc: Global,
     p: &mut Progress,
     thread: u32,
-    act: Act,
+    scene: Scene,
+    deed: Deed,
     foot: &mut Footprint,
 ) -> Result<(), AllocError>
     requires { CanSettle p.old thread }
-    ensures { OnOk result (Settles p.old p.new thread act foot.old foot.new) }
+    ensures { OnOk result (Settles p.old p.new thread scene deed foot.old foot.new) }
 {
-    match act.deed.flow {
-        Flow::Went | Flow::Ended => complete(alloc, p, thread, act, foot)?,
-        Flow::Exit => p.stop(end_of(&act.scene.memory)),
+    match deed.flow {
+        Flow::Went | Flow::Ended => complete(alloc, p, thread, scene, deed, foot)?,
+        Flow::Exit => p.stop(end_of(&scene.memory)),
         Flow::Abort => p.stop(Verdict::Abort),
     }
     Ok(())

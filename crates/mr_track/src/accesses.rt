@@ -6,10 +6,10 @@ use smallvec::SmallVec;
 use std::alloc::Global;
 use std::marker::Model;
 
-/// The accesses of a step, in the order in which it makes them. Most steps make four at most.
+/// The accesses of a step, in the order in which it makes them. Most steps make two at most.
 #[derive(Drop)]
 pub struct Accesses {
-    items: SmallVec<Access, 4>,
+    items: SmallVec<Access, 2>,
 }
 
 impl Model for Accesses {
@@ -39,6 +39,15 @@ impl Accesses {
         ensures err { OnErr result (self.new ≡ self.old) }
     {
         self.items.push(access)?;
+        Ok(())
+    }
+
+    /// These accesses in place of those that were there. After an `Err` nothing is promised of them.
+    pub fn copy_from(&mut self, other: &Accesses) -> Result<(), OutOfMemory>
+        ensures { OnOk result (self.new ≡ other.now) }
+    {
+        self.items.clear();
+        self.items.extend_from_slice(other.items.as_slice())?;
         Ok(())
     }
 

@@ -8,6 +8,7 @@
 //! - [`conflicts`]: whether some access of the one list overlaps some access of the other, one of the two being a store.
 //! - [`races`]: the same, where one of the two isn't atomic as well.
 //! - [`AllocIds`], [`ThreadIds`]: lists of allocations and of threads, which contracts see as lists; `push` changes nothing where memory runs out.
+//! - `copy_from` of each of the three: a copy of another list takes the place of what was there.
 #![tactic(auto)]
 
 mod accesses;

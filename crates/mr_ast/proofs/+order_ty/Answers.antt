@@ -1,4 +1,4 @@
-use Rattle.std.proofs.Common.{sym, ap, ap₂, ◌∙◌}
+use Rattle.std.proofs.Common.{sym, ap, ap₂, ◌∙◌, refl}
 use Rattle.mr_ast.specs.declared.order.Head.{Head}
 use Rattle.mr_ast.specs.Order.{head_of, tree_cmp, ty_cmp, parts_cmp, list_cmp, chunk_cmp, field_cmp, variant_cmp}
 use Rattle.mr_ast.proofs.OrderHeads.{head_tuple, head_array, head_union, head_enum, as_tuple, as_array, as_union, as_enum, as_flat}
@@ -7,12 +7,12 @@ use Rattle.mr_ast.proofs.+order_ty.Goals as goal
 
 pub types::Ty::order-returns-then-is_ne : goal.types::Ty::order-returns-then-is_ne
 types::Ty::order-returns-then-is_ne t c =
-    type_by_head c.args.self.now c.args.other.now c.head.result c.head-2.result c.order_heads-heads.result c.head.ensures c.head-2.ensures c.order_heads-heads.ensures (sym c.is_ne.ensures ∙ c.if-is_ne.true)
+    type_by_head c.args.self.now c.args.other.now (head_of c.args.self.now) (head_of c.args.other.now) c.order_head-heads.result refl refl c.order_head-heads.ensures (sym c.is_ne.ensures ∙ c.if-is_ne.true)
 
 pub types::Ty::order-returns : goal.types::Ty::order-returns
 types::Ty::order-returns t c =
     let parts =
-    type_by_parts c.args.self.now c.args.other.now c.head.result c.head-2.result c.order_heads-heads.result c.head.ensures c.head-2.ensures c.order_heads-heads.ensures (sym c.is_ne.ensures ∙ c.if-is_ne.false) in
+    type_by_parts c.args.self.now c.args.other.now (head_of c.args.self.now) (head_of c.args.other.now) c.order_head-heads.result refl refl c.order_head-heads.ensures (sym c.is_ne.ensures ∙ c.if-is_ne.false) in
     c.order_parts.ensures parts.0 ∙ sym parts.1
 
 pub types::Ty::order_parts-returns-then-is_ne : goal.types::Ty::order_parts-returns-then-is_ne

@@ -1,13 +1,14 @@
-use Rattle.std.proofs.Common.{◌≡◌, refl, subst, arith, ℕ, List, Some, Err}
+use Rattle.std.proofs.Common.{◌≡◌, refl, sym, subst, ◌∙◌, arith, ℕ, List, Some, Ok, Err}
 use Rattle.std.proofs.lemmas.List.{length-set}
 use Rattle.std.proofs.lemmas.Option.{slice_get_read}
 use Rattle.std.specs.Prelude.{slice_get}
 use Rattle.std.specs.Vec.{with_item}
 use Rattle.mr_frame.specs.Kept.{look_of}
+use Rattle.mr_mem.specs.Memory.{Memory}
 use Rattle.mr_step.specs.declared.progress.Progress.{Progress}
-use Rattle.mr_step.specs.Advance.{ActAnswer}
+use Rattle.mr_step.specs.Advance.{ActAnswer, BeginsAct}
 use Rattle.mr_step.proofs.SoundLaws.{begins_act, thread_there}
-use Rattle.mr_step.proofs.TakenLaws.{takes, untaken}
+use Rattle.mr_step.proofs.TakenLaws.{acted, scene_begins, scene_count, scene_memory, scene_thread, takes, untaken}
 use Rattle.mr_step.proofs.advance.take.Goals as goal
 
 pub index_mut-thread-requires : goal.index_mut-thread-requires
@@ -15,12 +16,25 @@ index_mut-thread-requires c =
     let there = thread_there c.args.look.now c.args.entry.now.thread c.args.p.now c.requires in
     omega (arith, c.args.p.now.threads.ok.0)
 
-pub act-requires : goal.act-requires
-act-requires c =
+pub act-requires-clause-begins : goal.act-requires-clause-begins
+act-requires-clause-begins c =
     let p = c.args.p.now in
     let t = c.args.entry.now.thread in
     let th = c.index_mut-thread.result.now in
-    begins_act c.args.look.now t p c.requires th (slice_get_read p.threads.items _ t th refl (thread_there c.args.look.now t p c.requires) c.index_mut-thread.ensures.value)
+    let s = c.new-scene.result in
+    let world = c.new-scene.ensures in
+    let m = c.replace-memory.result in
+    let begins = begins_act c.args.look.now t p c.requires th (slice_get_read p.threads.items _ t th refl (thread_there c.args.look.now t p c.requires) c.index_mut-thread.ensures.value) in
+    subst (λ (k : ℕ). BeginsAct c.args.look.now k th s.memory p.sync) (sym (scene_thread m t th.count s world))
+    (subst (λ (o : Memory). BeginsAct c.args.look.now t th o p.sync) (sym (scene_memory m t th.count s world ∙ c.replace-memory.ensures.value)) begins)
+
+pub act-requires-clause-scene : goal.act-requires-clause-scene
+act-requires-clause-scene c =
+    scene_begins c.replace-memory.result c.args.entry.now.thread c.index_mut-thread.result.now.count c.new-scene.result c.new-scene.ensures
+
+pub act-requires-clause-count : goal.act-requires-clause-count
+act-requires-clause-count c =
+    scene_count c.replace-memory.result c.args.entry.now.thread c.index_mut-thread.result.now.count c.new-scene.result c.new-scene.ensures
 
 pub settle-requires : goal.settle-requires
 settle-requires c =
@@ -36,9 +50,12 @@ returns-in-Err c =
     let t = c.args.entry.now.thread in
     let th = c.index_mut-thread.result.now in
     let here : slice_get p.threads.items t ≡ Some th = slice_get_read p.threads.items _ t th refl (thread_there c.args.look.now t p c.requires) c.index_mut-thread.ensures.value in
-    let mid : Progress = record p { memory = c.act.new.memory; threads = with_item p.threads t c.act.new.thread; sync = c.act.new.sync } in
-    let told = subst (λ (ks : List ℕ). ActAnswer (look_of c.args.look.now) t ks th c.act.new.thread p.memory c.act.new.memory p.sync c.act.new.sync (Err c.in-Err.fault)) c.as_slice-picks.ensures c.in-Err.ensures in
-    untaken c.args.look.now c.args.entry.now p c.requires th here c.in-Err.fault c.act.new.thread c.act.new.memory c.act.new.sync told mid c.without.new.p refl refl c.without.result c.without.ensures c.args.foot.now
+    let left = c.act.new.scene in
+    let mid : Progress = record p { memory = left.memory; threads = with_item p.threads t c.act.new.thread; sync = c.act.new.sync } in
+    let picked = subst (λ (ks : List ℕ). ActAnswer (look_of c.args.look.now) c.new-scene.result.thread ks th c.act.new.thread c.new-scene.result.memory left p.sync c.act.new.sync (Err c.in-Err.fault)) c.as_slice.ensures c.in-Err.ensures in
+    let told = subst (λ (o : Memory). ActAnswer (look_of c.args.look.now) t c.args.entry.now.picks th c.act.new.thread o left p.sync c.act.new.sync (Err c.in-Err.fault)) c.replace-memory.ensures.value
+    (acted c.replace-memory.result t th.count c.new-scene.result c.new-scene.ensures (look_of c.args.look.now) c.args.entry.now.picks th c.act.new.thread left p.sync c.act.new.sync (Err c.in-Err.fault) picked) in
+    untaken c.args.look.now c.args.entry.now p c.requires th here c.in-Err.fault c.act.new.thread left c.act.new.sync told mid c.without.new.p refl refl c.without.result c.without.ensures c.args.foot.now
 
 pub returns-in_ok-settle-in-Ok : goal.returns-in_ok-settle-in-Ok
 returns-in_ok-settle-in-Ok c =
@@ -46,6 +63,9 @@ returns-in_ok-settle-in-Ok c =
     let t = c.args.entry.now.thread in
     let th = c.index_mut-thread.result.now in
     let here : slice_get p.threads.items t ≡ Some th = slice_get_read p.threads.items _ t th refl (thread_there c.args.look.now t p c.requires) c.index_mut-thread.ensures.value in
-    let mid : Progress = record p { memory = c.act.new.memory; threads = with_item p.threads t c.act.new.thread; sync = c.act.new.sync } in
-    let acts = rw c.as_slice-picks.ensures at c.in-Ok.ensures in
-    takes c.args.look.now c.args.entry.now p c.requires th here mid c.settle.new.p c.act.new.thread c.in-Ok.act c.args.foot.now c.settle.new.foot acts refl refl c.in_ok-settle-in-Ok.ensures
+    let left = c.act.new.scene in
+    let mid : Progress = record p { memory = c.replace-memory.new.dest; threads = with_item p.threads t c.act.new.thread; sync = c.act.new.sync } in
+    let picked = subst (λ (ks : List ℕ). ActAnswer (look_of c.args.look.now) c.new-scene.result.thread ks th c.act.new.thread c.new-scene.result.memory left p.sync c.act.new.sync (Ok c.in-Ok.deed)) c.as_slice.ensures c.in-Ok.ensures in
+    let acts = subst (λ (o : Memory). ActAnswer (look_of c.args.look.now) t c.args.entry.now.picks th c.act.new.thread o left p.sync c.act.new.sync (Ok c.in-Ok.deed)) c.replace-memory.ensures.value
+    (acted c.replace-memory.result t th.count c.new-scene.result c.new-scene.ensures (look_of c.args.look.now) c.args.entry.now.picks th c.act.new.thread left p.sync c.act.new.sync (Ok c.in-Ok.deed) picked) in
+    takes c.args.look.now c.args.entry.now p c.requires th here mid c.settle.new.p c.act.new.thread left c.in-Ok.deed c.args.foot.now c.settle.new.foot acts refl refl c.in_ok-settle-in-Ok.ensures

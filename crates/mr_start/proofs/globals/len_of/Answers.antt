@@ -1,14 +1,14 @@
-use Rattle.std.proofs.Common.{◌∙◌, ◌+◌, ℕ, List, sym, ap}
+use Rattle.std.proofs.Common.{◌∙◌, List, sym, ap}
 use Rattle.std.proofs.lemmas.List.{take_all}
 use Rattle.mr_ast.specs.declared.program.Item_.{Item_}
 use Rattle.mr_start.specs.Start.{global_bytes}
-use Rattle.mr_start.proofs.UninitItems.{uninit_more}
-use Rattle.mr_start.proofs.globals.uninit_len.Goals as goal
+use Rattle.mr_start.proofs.RepeatedItems.{same_more}
+use Rattle.mr_start.proofs.globals.len_of.Goals as goal
 
 pub loop-item-preserved : goal.loop-item-preserved
 loop-item-preserved c = λ functions globals.
-    uninit_more functions globals c.args.items.now c.loop-item.item-index c.loop-item.len c.in-Uninit.repeat c.in_ok-len-in-Uninit.len _ c.loop-item-test.true c.in-Uninit.is
-    (c.in_ok-len-in-Uninit.ensures.1 ∙ ap (λ (n : ℕ). c.loop-item.len + n) c.from.ensures) (c.loop-item.invariant functions globals)
+    same_more functions globals c.args.items.now c.loop-item.item-index c.loop-item.len c.in_ok-count_of.field-0 c.in_ok-len.len _ c.args.byte c.loop-item-test.true
+    (c.in_ok-count_of.ensures functions globals) c.in_ok-len.ensures.1 (c.loop-item.invariant functions globals)
 
 pub returns : goal.returns
 returns c = λ functions globals.
