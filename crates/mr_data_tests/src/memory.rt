@@ -31,6 +31,7 @@ enum Call {
     Check(u64, Option<AllocId>, u64),
     Load(u64, u64, u64),
     Store(u64, [u8; 2], u64),
+    Numbers(u64, [u8; 2], u64),
     Fill(u64, u64, u8, u64),
     Deinit(u64, u64, u64),
     Free(u64, Option<AllocId>, Kind, u64, u64),
@@ -92,6 +93,11 @@ fn tell(told: &mut String, memory: &mut Memory, call: Call) -> Result<(), OutOfM
             ];
             write!(told, "{:?}", memory.store(at(addr), &bytes, align))
         }
+        Call::Numbers(addr, numbers, align) => write!(
+            told,
+            "{:?}",
+            memory.store_numbers(at(addr), &numbers, None, align)
+        ),
         Call::Fill(addr, len, number, align) => write!(
             told,
             "{:?}",
@@ -225,6 +231,10 @@ false
             Call::Load(16, 4, 4),
             Call::Fill(16, 3, 9, 8),
             Call::Load(16, 4, 4),
+            Call::Numbers(17, [5, 6], 1),
+            Call::Load(16, 4, 4),
+            Call::Numbers(18, [3, 4], 2),
+            Call::Load(16, 4, 4),
             Call::Free(16, Some(FIRST), Kind::Heap, 4, 4),
             Call::Load(16, 4, 4),
         ],
@@ -235,6 +245,10 @@ Ok(())
  -- 07 -- --
 Ok(())
  09 09 09 --
+Ok(())
+ 09 05 06 --
+Ok(())
+ 09 05 03 04
 Ok(AllocId { thread: 0, count: 0 })
 DeadAllocation
 ",
@@ -265,11 +279,15 @@ Err(OutOfBounds)
             Call::Store(17, [7, 7], 2),
             Call::Deinit(16, 4, 0),
             Call::Fill(18, 3, 7, 1),
+            Call::Numbers(17, [7, 7], 2),
+            Call::Numbers(19, [7, 7], 1),
             Call::Store(19, [7, 7], 1),
             Call::Load(16, 4, 4),
             Call::Load(18, 2, 4),
         ],
         "Err(Undefined(Misaligned))
+Err(Undefined(Misaligned))
+Err(Undefined(OutOfBounds))
 Err(Undefined(Misaligned))
 Err(Undefined(OutOfBounds))
 Err(Undefined(OutOfBounds))

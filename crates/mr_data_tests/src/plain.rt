@@ -65,6 +65,17 @@ impl Plain {
         }
     }
 
+    fn put(&mut self, from: u64, numbers: &[u8], provenance: Option<AllocId>)
+        requires { from + length numbers.now ≤ 64 }
+    {
+        for (index, number) in numbers.iter().enumerate() {
+            self.set(
+                from as usize + index,
+                AbstractByte::Init(*number, provenance),
+            );
+        }
+    }
+
     fn fill(&mut self, from: u64, len: u64, byte: AbstractByte)
         requires { from + len ≤ 64 }
     {
@@ -107,6 +118,54 @@ fn bytes(alloc: Global, state: &mut u64, len: u64) -> Result<Vec<AbstractByte>, 
     Ok(bytes)
 }
 
+// One of three provenances.
+fn provenance(kind: u64) -> Option<AllocId> {
+    match kind % 3 {
+        0 => None,
+        1 => Some(FIRST),
+        _ => Some(SECOND),
+    }
+}
+
+// So many numbers.
+fn numbers(alloc: Global, state: &mut u64, len: u64) -> Result<Vec<u8>, OutOfMemory>
+    ensures { IfOk result (λ numbers. length numbers.items ≡ len) }
+{
+    let mut numbers = Vec::new(alloc);
+    for _i in 0..len {
+        numbers.push((next(state) % 256) as u8)?;
+    }
+    Ok(numbers)
+}
+
+// Numbers with one provenance put in both, and then fewer in the midst of them, every second time with another provenance.
+fn put(
+    alloc: Global,
+    state: &mut u64,
+    runs: &mut Runs,
+    plain: &mut Plain,
+    from: u64,
+    len: u64,
+) -> Result<(), OutOfMemory>
+    requires long { length runs.old ≡ 64 }
+    requires inside { from + len ≤ 64 }
+    ensures { OnOk result (length runs.new ≡ 64) }
+{
+    let kept = provenance(next(state));
+    let all = numbers(alloc, state, len)?;
+    runs.write_numbers(from, all.as_slice(), kept)?;
+    plain.put(from, all.as_slice(), kept);
+    let few = numbers(alloc, state, len / 2)?;
+    let again = if next(state) % 2 == 0 {
+        kept
+    } else {
+        provenance(next(state))
+    };
+    runs.write_numbers(from + len / 4, few.as_slice(), again)?;
+    plain.put(from + len / 4, few.as_slice(), again);
+    Ok(())
+}
+
 // One change of both.
 fn change(
     alloc: Global,
@@ -125,6 +184,9 @@ fn change(
         runs.fill(from, len, filled)?;
         plain.fill(from, len, filled);
         return Ok(());
+    }
+    if next(state) % 3 == 0 {
+        return put(alloc, state, runs, plain, from, len);
     }
     let bytes = bytes(alloc, state, len)?;
     runs.write(from, bytes.as_slice())?;

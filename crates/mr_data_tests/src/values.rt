@@ -12,7 +12,7 @@ use mr_base::{AbstractByte, AllocId, Pointer};
 use mr_layout::{broken_rule, size};
 use mr_parse::parse;
 use mr_runs::{Runs, View};
-use mr_value::{Val, decode, decode_scalar, encode};
+use mr_value::{Val, decode, decode_scalar, encode, encode_scalar};
 use std::alloc::Global;
 use std::string::String;
 use std::test::Fail;
@@ -64,7 +64,41 @@ fn tell_written(alloc: Global, told: &mut String, value: &Val, t: &Ty) -> Result
     write!(told, ":")?;
     let mut out = Vec::new(alloc);
     encode(alloc, value, t, &mut out)?;
-    show(told, out.as_slice())
+    show(told, out.as_slice())?;
+    tell_scalar_bytes(told, value, t, out.as_slice())
+}
+
+// Whether the bytes are these numbers with this provenance.
+fn are_numbers(bytes: &[AbstractByte], numbers: &[u8], provenance: Option<AllocId>) -> bool {
+    if bytes.len() != numbers.len() {
+        return false;
+    }
+    for (index, number) in numbers.iter().enumerate() {
+        if bytes.get(index) != Some(&AbstractByte::Init(*number, provenance)) {
+            return false;
+        }
+    }
+    true
+}
+
+// Tells where an integer, a bool or a pointer is written otherwise without memory.
+fn tell_scalar_bytes(
+    told: &mut String,
+    value: &Val,
+    t: &Ty,
+    written: &[AbstractByte],
+) -> Result<(), OutOfMemory>
+    requires ok { TypeOk t.now }
+    requires shape { has_shape t.now value.now ≡ true }
+{
+    let bytes = match t {
+        Ty::Int(_) | Ty::Bool | Ty::Raw | Ty::FnPtr | Ty::Ref { .. } => encode_scalar(value, t),
+        _ => return Ok(()),
+    };
+    if are_numbers(written, bytes.numbers(), bytes.provenance) {
+        return Ok(());
+    }
+    write!(told, " otherwise")
 }
 
 // Tells the value of an integer, a bool or a pointer, and nothing of other types.

@@ -11,14 +11,15 @@ use crate::env::Env;
 use crate::evaluating::{placed, valued};
 use crate::halt::Halt;
 use crate::here::Here;
+use crate::loading::is_scalar;
 use crate::notes::Notes;
 use crate::placing::Placed;
-use crate::stores::store_bytes;
+use crate::stores::{store_bytes, store_scalar};
 use crate::valuing;
 use mr_ast::{Place, Ty, Value};
 use mr_base::Pointer;
 use mr_mem::{Fault, Memory};
-use mr_value::{Val, encode};
+use mr_value::{Val, encode, encode_scalar};
 use std::alloc::Global;
 
 // Why a call stops.
@@ -128,8 +129,11 @@ pub fn store_typed(
     ensures kept { Extends (seen n.old) (seen n.new) }
     ensures err { OnErr result (m.new ≡ m.old) }
 {
+    let layout = e.cache.layout(t);
+    if is_scalar(t) {
+        return store_scalar(m, n, p, &encode_scalar(v, t), layout.align);
+    }
     let mut bytes = Vec::new(alloc);
     encode(alloc, v, t, &mut bytes)?;
-    let layout = e.cache.layout(t);
     store_bytes(m, n, false, p, bytes.as_slice(), layout.align)
 }

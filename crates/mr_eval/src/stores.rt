@@ -1,6 +1,7 @@
 //! Stores, each noted.
-ghost use Rattle.std.specs.Prelude.{◌≡◌, false, true, OnErr, OnOk};
+ghost use Rattle.std.specs.Prelude.{◌≡◌, ◌≤◌, false, true, take, OnErr, OnOk};
 ghost use Rattle.mr_value.specs.Encode.{blank};
+ghost use Rattle.mr_value.specs.Numbers.{initialised};
 ghost use Rattle.mr_eval.specs.Answers.{Extends, seen};
 ghost use Rattle.mr_eval.specs.Environment.{Leaves};
 ghost use Rattle.mr_eval.specs.Reads.{accessing, seeing, touching};
@@ -9,6 +10,7 @@ ghost use Rattle.mr_eval.specs.Stores.{storing};
 use crate::notes::Notes;
 use mr_base::{AbstractByte, Pointer};
 use mr_mem::{Fault, Memory};
+use mr_value::ScalarBytes;
 use std::alloc::AllocError;
 
 // Notes a store of this length and the range check before it.
@@ -39,6 +41,27 @@ pub fn store_bytes(
 {
     note_store(notes, atomic, p, bytes.len() as u64)?;
     m.store(p, bytes, align)
+}
+
+/// The store of the bytes of an integer, a bool or a pointer, not atomic: 103 before the range check.
+///
+/// After `Err` memory is as before, and the notes begin with what they held.
+#[tactic(auto, using(crate::proofs::ExtendsLaws::extends_laws))]
+pub fn store_scalar(
+    m: &mut Memory,
+    notes: &mut Notes,
+    p: Pointer,
+    bytes: &ScalarBytes,
+    align: u64,
+) -> Result<(), Fault>
+    requires { bytes.now.count ≤ 16 }
+    ensures given { Leaves result (storing m.old false p (initialised bytes.now.provenance (take bytes.now.count bytes.now.all)) align (seen notes.old)) m.new (seen notes.new) }
+    ensures kept { Extends (seen notes.old) (seen notes.new) }
+    ensures err { OnErr result (m.new ≡ m.old) }
+{
+    let numbers = bytes.numbers();
+    note_store(notes, false, p, numbers.len() as u64)?;
+    m.store_numbers(p, numbers, bytes.provenance, align)
 }
 
 /// Makes bytes uninitialised, which is noted as a store of so many bytes.

@@ -6,11 +6,11 @@ ghost use Rattle.mr_layout.specs.Sizes.{size_of};
 ghost use Rattle.mr_layout.specs.TypeOk.{TypeOk};
 ghost use Rattle.mr_layout.specs.Written.{written_types};
 ghost use Rattle.mr_layout.specs.Cached.{IsCacheOf, Adds};
-ghost use Rattle.mr_layout.specs.Layouts.{layout_of, held_types, AreRising};
+ghost use Rattle.mr_layout.specs.Layouts.{layout_of, held_types, integer_row, AreIntegers, AreRising};
 
-use crate::sizes::{align, inhabited, size};
+use crate::sizes::{align, inhabited, int_bytes, size};
 use crate::written::find_types;
-use mr_ast::{OutOfMemory, Program, Ty};
+use mr_ast::{IntType, OutOfMemory, Program, Ty};
 use std::alloc::Global;
 use std::marker::Model;
 
@@ -39,6 +39,8 @@ struct Entry {
 #[derive(Drop)]
 pub struct Cache {
     entries: Vec<Entry>,
+    /// The layouts of the integer types, whether or not they are held.
+    integers: [Layout; 10],
 }
 
 impl Model for Cache {
@@ -52,11 +54,11 @@ impl Model for Cache {
 
     ghost coded = { Prim.hlevel (codes, ty.the_row.coded) };
 
-    ghost use Rattle.mr_layout.specs.Layouts.{held_types, AreDefined, AreRising};
+    ghost use Rattle.mr_layout.specs.Layouts.{held_types, AreDefined, AreIntegers, AreRising};
 
     ghost view = { λ c. held_types c.entries.items };
 
-    ghost invariant = { λ c. AreDefined c.entries.items × AreRising c.entries.items };
+    ghost invariant = { λ c. AreDefined c.entries.items × AreRising c.entries.items × AreIntegers c.integers };
 }
 
 impl Cache {
@@ -69,6 +71,7 @@ impl Cache {
         found.sort();
         let mut cache = Cache {
             entries: Vec::new(alloc),
+            integers: integer_layouts(),
         };
         for t in found.as_slice() {
             cache.add(alloc, t)?;
@@ -90,6 +93,9 @@ impl Cache {
         requires { TypeOk t.now }
         ensures { result ≡ layout_of t.now }
     {
+        if let Ty::Int(int) = t {
+            return self.integers[row_of(*int)];
+        }
         match self.get(t) {
             Some(layout) => *layout,
             None => defined_layout(t),
@@ -150,4 +156,53 @@ fn position(entries: &[Entry], t: &Ty) -> Option<usize>
     ensures missing { IfNone result (¬ Contains (held_types entries.now) t.now) }
 {
     entries.binary_search_by(|entry| entry.ty.order(t)).ok()
+}
+
+// The place of an integer type among all.
+fn row_of(int: IntType) -> usize
+    ensures { result ≡ integer_row int }
+{
+    match int {
+        IntType::U8 => 0,
+        IntType::U16 => 1,
+        IntType::U32 => 2,
+        IntType::U64 => 3,
+        IntType::U128 => 4,
+        IntType::I8 => 5,
+        IntType::I16 => 6,
+        IntType::I32 => 7,
+        IntType::I64 => 8,
+        IntType::I128 => 9,
+    }
+}
+
+// The layout of an integer type.
+#[tactic(auto, using(crate::proofs::SizeLaws::size_laws))]
+fn integer_layout(int: IntType) -> Layout
+    ensures { result ≡ layout_of (Ty.Int int) }
+{
+    let t = Ty::Int(int);
+    Layout {
+        size: int_bytes(int),
+        align: align(&t),
+        inhabited: inhabited(&t),
+    }
+}
+
+// The layouts of all integer types, each in its place.
+fn integer_layouts() -> [Layout; 10]
+    ensures { AreIntegers result }
+{
+    [
+        integer_layout(IntType::U8),
+        integer_layout(IntType::U16),
+        integer_layout(IntType::U32),
+        integer_layout(IntType::U64),
+        integer_layout(IntType::U128),
+        integer_layout(IntType::I8),
+        integer_layout(IntType::I16),
+        integer_layout(IntType::I32),
+        integer_layout(IntType::I64),
+        integer_layout(IntType::I128),
+    ]
 }

@@ -10,7 +10,8 @@
 //! - [`Memory::deallocate`]: ends the life of an allocation, or gives the first reason against that.
 //! - [`Memory::check`]: the range check, with the first reason against it: no provenance, a dead allocation, out of bounds.
 //! - [`Memory::load`]: lends the bytes of a range, where the address is aligned and the range check passes. It takes no memory.
-//! - [`Memory::store`], [`Memory::fill`], [`Memory::deinit`]: replace the bytes of a range so, by bytes, by one byte, and by uninitialised ones.
+//! - [`Memory::store`], [`Memory::store_numbers`], [`Memory::fill`], [`Memory::deinit`]: replace the bytes of a range so, by bytes, by
+//!   numbers with one provenance, by one byte, and by uninitialised ones.
 //! - [`Memory::leaks`]: whether a heap allocation is live.
 //!
 //! A refused call leaves the memory as it was. [`Fault`] is for what stands above: undefined behaviour, or want of memory.

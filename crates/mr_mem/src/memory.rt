@@ -8,7 +8,7 @@ ghost use Rattle.mr_mem.specs.Stored.{allocation_of, entries_of, memory_of};
 ghost use Rattle.std.specs.FinMap as fin;
 
 use crate::fault::{Fault, PickFault};
-use crate::ranges::{lent, missed, put, put_repeated, stored_at};
+use crate::ranges::{lent, missed, put, put_numbers, put_repeated, stored_at};
 use crate::spans::{Span, Spans};
 use mr_base::{AbstractByte, AllocId, Kind, Pointer, Reason};
 use mr_runs::{Runs, View};
@@ -68,6 +68,7 @@ fn held_by(kind: Kind, size: u64) -> u64
 impl Memory {
     ghost use Rattle.std.specs.Prelude.{◌≡◌, ◌+◌, ◌-◌, ◌<◌, ◌≤◌, ◌^◌, MatchResult, OnOk, OnErr, IfOk, [], Some, None, Ok, Err, replicate};
     ghost use Rattle.mr_base.specs.declared.byte.AbstractByte.TheVariants.{Uninit};
+    ghost use Rattle.mr_runs.specs.Numbers.{with_provenance};
     ghost use Rattle.mr_runs.specs.Pieces.{AreMaximal};
     ghost use Rattle.mr_mem.specs.Stored.{IsStored, seen_view};
     ghost use Rattle.std.specs.FinMap as fin;
@@ -201,6 +202,29 @@ impl Memory {
         }
         match p.prov {
             Some(id) => put(&mut self.allocations, id, p.addr, bytes),
+            None => Err(Fault::Undefined(Reason::NoProvenance)),
+        }
+    }
+
+    /// Stores initialised bytes with these numbers and one provenance, as [`Memory::store`] stores them.
+    pub fn store_numbers(
+        &mut self,
+        p: Pointer,
+        numbers: &[u8],
+        provenance: Option<AllocId>,
+        align: u64,
+    ) -> Result<(), Fault>
+        ensures stored { IsStored (written self.old p (with_provenance provenance numbers.now) align) self.new result }
+        ensures err { OnErr result (self.new ≡ self.old) }
+    {
+        if !is_multiple(p.addr, align) {
+            return Err(Fault::Undefined(Reason::Misaligned));
+        }
+        if numbers.is_empty() {
+            return Ok(());
+        }
+        match p.prov {
+            Some(id) => put_numbers(&mut self.allocations, id, p.addr, numbers, provenance),
             None => Err(Fault::Undefined(Reason::NoProvenance)),
         }
     }

@@ -1,6 +1,7 @@
 //! Ranges of the bytes of an allocation.
 ghost use Rattle.std.specs.Prelude.{◌≡◌, IfOk, OnErr, Some, option_copied, option_map, replicate};
 ghost use Rattle.std.specs.FinMap as fin;
+ghost use Rattle.mr_runs.specs.Numbers.{with_provenance};
 ghost use Rattle.mr_runs.specs.Pieces.{AreMaximal};
 ghost use Rattle.mr_mem.specs.Memory.{bytes_at, found, inside, put_at, then_give};
 ghost use Rattle.mr_mem.specs.Stored.{IsStored, IsStoredIn, allocation_of, memory_of, seen_view};
@@ -89,6 +90,40 @@ fn put_into(a: &mut Stored, addr: u64, bytes: &[AbstractByte]) -> Result<(), Fau
         return Err(Fault::Undefined(reason));
     }
     a.bytes.write(addr - a.addr, bytes)?;
+    Ok(())
+}
+
+/// Writes initialised bytes with these numbers and one provenance into the allocation of an identity.
+pub fn put_numbers(
+    allocations: &mut BTreeMap<AllocId, Stored>,
+    id: AllocId,
+    addr: u64,
+    numbers: &[u8],
+    provenance: Option<AllocId>,
+) -> Result<(), Fault>
+    ensures stored { IsStored (put_at (memory_of allocations.old.entries) id (fin.get (memory_of allocations.old.entries) id) addr (with_provenance provenance numbers.now)) (memory_of allocations.new.entries) result }
+    ensures err { OnErr result (memory_of allocations.new.entries ≡ memory_of allocations.old.entries) }
+{
+    match allocations.get_mut(&id) {
+        Some(a) => put_numbers_into(a, addr, numbers, provenance),
+        None => Err(Fault::Undefined(Reason::NoProvenance)),
+    }
+}
+
+// Writes initialised bytes with these numbers and one provenance into an allocation.
+fn put_numbers_into(
+    a: &mut Stored,
+    addr: u64,
+    numbers: &[u8],
+    provenance: Option<AllocId>,
+) -> Result<(), Fault>
+    ensures stored { IsStoredIn (allocation_of a.old) addr (with_provenance provenance numbers.now) (allocation_of a.new) result }
+    ensures err { OnErr result (allocation_of a.new ≡ allocation_of a.old) }
+{
+    if let Err(reason) = range_fault(a, addr, numbers.len() as u64) {
+        return Err(Fault::Undefined(reason));
+    }
+    a.bytes.write_numbers(addr - a.addr, numbers, provenance)?;
     Ok(())
 }
 

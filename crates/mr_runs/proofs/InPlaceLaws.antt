@@ -8,7 +8,7 @@ use Rattle.mr_base.specs.declared.byte.AbstractByte.{AbstractByte}
 use Rattle.mr_base.specs.declared.byte.AbstractByte.TheVariants.{Init}
 use Rattle.mr_runs.specs.declared.mark.Mark.{Mark}
 use Rattle.mr_runs.specs.Exchanged.{last_mark}
-use Rattle.mr_runs.specs.Numbers.{number_of, AreOf, IsInPlace}
+use Rattle.mr_runs.specs.Numbers.{number_of, with_numbers_at, with_provenance, AreOf, IsInPlace, TakesNumbers}
 use Rattle.mr_runs.specs.Pieces.{SeenPiece, UninitPiece, InitPiece, bytes_of_piece, mark_of, piece_len, AreMaximal}
 use Rattle.mr_runs.specs.Placed.{bytes_in, total_len, Holds, IsPlaced, IsReplaced, IsTiled}
 use Rattle.mr_runs.specs.Ranges.{with_range_replaced}
@@ -96,3 +96,27 @@ module _ (es : List (ℕ × SeenPiece)) (from begin : ℕ) (p w : SeenPiece) (by
     whole = omega (arith, ap total_len (is ∙ new_entries), ap total_len h.is, total_len-append h.before ((begin, w) ∷ h.behind), total_len-append h.before ((begin, p) ∷ h.behind), lens);
     bytes_are = ap bytes_in (is ∙ new_entries) ∙ new_bytes;
   }
+
+-- ---- numbers with a provenance put in place
+
+pub numbers_fit : (p : SeenPiece) (at count : ℕ) (provenance : Option AllocId) → TakesNumbers p at count provenance → at + count ≤ piece_len p
+numbers_fit (UninitPiece len) at count provenance h = absurd h
+numbers_fit (InitPiece numbers own) at count provenance h = h.0
+
+-- the bytes of the piece with other numbers, what it has in common, how many it has, and how many were put
+pub record NumbersPut (p : SeenPiece) (at : ℕ) (numbers : List ℕ) (provenance : Option AllocId) : Type 0 where
+  pub bytes_are : bytes_of_piece (with_numbers_at p at numbers) ≡ with_range_replaced (bytes_of_piece p) at (with_provenance provenance numbers)
+  pub marks : mark_of (with_numbers_at p at numbers) ≡ mark_of p
+  pub lens : piece_len (with_numbers_at p at numbers) ≡ piece_len p
+  pub count : length (with_provenance provenance numbers) ≡ length numbers
+
+pub numbers_put : (p : SeenPiece) (at : ℕ) (numbers : List ℕ) (provenance : Option AllocId) → TakesNumbers p at (length numbers) provenance → NumbersPut p at numbers provenance
+numbers_put (UninitPiece len) at numbers provenance h = absurd h
+numbers_put (InitPiece own its) at numbers provenance h =
+    let fits : at + length numbers ≤ length own = h.0 in
+    record {
+      bytes_are = map_replaced (λ n. Init n its) own at numbers ∙ ap (λ (q : Option AllocId). with_range_replaced (map (λ n. Init n its) own) at (with_provenance q numbers)) h.1;
+      marks = refl;
+      lens = length-with_range_replaced own at numbers fits;
+      count = length-map numbers (λ n. Init n provenance);
+    }

@@ -1,7 +1,8 @@
 //! The bytes of an allocation: a list of abstract bytes, of which parts are lent as views.
 //!
 //! - [`Runs`] is the list. `Runs::uninit` makes one of uninitialised bytes, `len` counts them, `view` lends a part, `write`
-//!   replaces a part by other bytes, `fill` by one byte repeated, `fill_uninit` by uninitialised ones, and `copy_out` copies one.
+//!   replaces a part by other bytes, `write_numbers` by numbers with one provenance, `fill` by one byte repeated, `fill_uninit`
+//!   by uninitialised ones, and `copy_out` copies one.
 //! - [`View`] is what is lent: its pieces, each uninitialised or initialised with one provenance, in order. `View::len`,
 //!   `byte` and `piece` read it, and `part` lends a part of it.
 //!

@@ -1,7 +1,7 @@
 //! A range of the bytes replaced: the runs that it meets are put together anew, and then exchanged.
 ghost use Rattle.std.specs.Prelude.{◌≡◌, ℕ, ◌+◌, ◌-◌, ◌<◌, ◌≤◌, ◌^◌, false, length, take, replicate, IfOk, OnErr, OnOk, IsTrue};
 ghost use Rattle.mr_runs.specs.Exchanged.{IsBegun, IsEnded};
-ghost use Rattle.mr_runs.specs.Numbers.{IsInPlace};
+ghost use Rattle.mr_runs.specs.Numbers.{with_provenance, IsInPlace};
 ghost use Rattle.mr_runs.specs.Pieces.{SeenPiece};
 ghost use Rattle.mr_runs.specs.Placed.{bytes_in, total_len, Holds, IsReplaced, IsTiled};
 
@@ -10,7 +10,7 @@ use crate::exchange::exchange;
 use crate::finding::run_at;
 use crate::row::{push, push_bytes, push_repeated};
 use crate::run::Run;
-use mr_base::AbstractByte;
+use mr_base::{AbstractByte, AllocId};
 use std::alloc::Global;
 use std::collections::BTreeMap;
 
@@ -34,6 +34,31 @@ pub(crate) fn write_in_place(
     }
     match runs.get_mut(&begin) {
         Some(run) => run.put(from - begin, bytes),
+        None => unreachable!(),
+    }
+    true
+}
+
+/// Writes numbers into a run of bytes with their provenance, where the range lies in one: they are put in place. Answers whether it
+/// did.
+pub(crate) fn put_in_place(
+    runs: &mut BTreeMap<u64, Run>,
+    from: u64,
+    numbers: &[u8],
+    provenance: Option<AllocId>,
+) -> bool
+    requires tiled { IsTiled runs.old.entries }
+    requires inside { from + length numbers.now ≤ total_len runs.old.entries }
+    requires some { 0 < length numbers.now }
+    ensures done { IsTrue result → IsReplaced runs.old.entries runs.new.entries from (with_provenance provenance numbers.now) }
+    ensures not_done { result ≡ false → runs.new.entries ≡ runs.old.entries }
+{
+    let (begin, run) = run_at(runs, from);
+    if !run.takes_numbers(from - begin, numbers.len() as u64, provenance) {
+        return false;
+    }
+    match runs.get_mut(&begin) {
+        Some(run) => run.put_numbers(from - begin, numbers),
         None => unreachable!(),
     }
     true

@@ -4,7 +4,7 @@ ghost use Rattle.mr_base.specs.declared.byte.AbstractByte.TheVariants.{Init};
 ghost use Rattle.mr_base.specs.declared.byte.AllocId.{AllocId};
 ghost use Rattle.mr_runs.specs.Exchanged.{together};
 ghost use Rattle.mr_runs.specs.Growing.{with_numbers, IsLike};
-ghost use Rattle.mr_runs.specs.Numbers.{number_of, AreOf, IsInPlace};
+ghost use Rattle.mr_runs.specs.Numbers.{number_of, with_numbers_at, AreOf, IsInPlace, TakesNumbers};
 ghost use Rattle.mr_runs.specs.Pieces.{UninitPiece, bytes_of_piece, mark_of, piece_len};
 ghost use Rattle.mr_runs.specs.Ranges.{with_range_replaced};
 ghost use Rattle.mr_runs.specs.Seen.{seen_piece};
@@ -162,6 +162,32 @@ impl Run {
         }
     }
 
+    /// Whether so many numbers with a provenance may be put in place from a position on: the run's bytes are initialised, there are
+    /// enough, and they have the provenance.
+    pub(crate) fn takes_numbers(&self, at: u64, count: u64, provenance: Option<AllocId>) -> bool
+        requires { at ≤ piece_len self.now }
+        ensures { IsTrue result ↔ TakesNumbers self.now at count provenance }
+    {
+        match &self.content {
+            Content::Uninit(_) => false,
+            Content::Bytes(numbers, own) => {
+                count <= numbers.len() as u64 - at
+                    && is_same(Mark::Init(*own), Mark::Init(provenance))
+            }
+        }
+    }
+
+    /// Puts numbers in place from a position on.
+    pub(crate) fn put_numbers(&mut self, at: u64, numbers: &[u8])
+        requires { (p : Option AllocId) × TakesNumbers self.old at (length numbers.now) p }
+        ensures { self.new ≡ with_numbers_at self.old at numbers.now }
+    {
+        match &mut self.content {
+            Content::Uninit(_) => unreachable!(),
+            Content::Bytes(own, _) => replace_numbers(own.as_mut_slice(), at as usize, numbers),
+        }
+    }
+
     /// Whether the run is of initialised bytes, and all the bytes have their provenance.
     pub(crate) fn is_like(&self, bytes: &[AbstractByte]) -> bool
         ensures { IsTrue result ↔ IsLike self.now bytes.now }
@@ -259,5 +285,15 @@ fn put_numbers(numbers: &mut [u8], at: usize, bytes: &[AbstractByte])
 {
     for (index, byte) in bytes.iter().enumerate() {
         numbers[at + index] = number(*byte);
+    }
+}
+
+// Puts numbers in place of as many others.
+fn replace_numbers(numbers: &mut [u8], at: usize, others: &[u8])
+    requires { at + length others.now ≤ length numbers.old }
+    ensures { numbers.new ≡ with_range_replaced numbers.old at others.now }
+{
+    for (index, number) in others.iter().enumerate() {
+        numbers[at + index] = *number;
     }
 }

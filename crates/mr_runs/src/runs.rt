@@ -1,16 +1,17 @@
 //! The list of the bytes of an allocation.
 ghost use Rattle.std.specs.Prelude.{◌≡◌, ◌≤◌, ◌+◌, ◌<◌, ◌++◌, length, take, drop, replicate, IfOk, OnOk, OnErr};
 ghost use Rattle.mr_base.specs.declared.byte.AbstractByte.TheVariants.{Uninit};
+ghost use Rattle.mr_runs.specs.Numbers.{with_provenance};
 ghost use Rattle.mr_runs.specs.Pieces.{bytes_of_pieces, AreMaximal};
 ghost use Rattle.mr_runs.specs.Placed.{bytes_in, total_len, IsTiled};
 ghost use Rattle.mr_runs.specs.Ranges.{with_range_replaced};
 
 use crate::OutOfMemory;
 use crate::grow::write_behind;
-use crate::replace::{fill, write_anew, write_in_place};
+use crate::replace::{fill, put_in_place, write_anew, write_in_place};
 use crate::run::Run;
 use crate::views::{View, lend};
-use mr_base::AbstractByte;
+use mr_base::{AbstractByte, AllocId};
 use std::alloc::Global;
 use std::collections::BTreeMap;
 use std::marker::Model;
@@ -77,6 +78,29 @@ impl Runs {
         write_anew(self.alloc, &mut self.runs, self.len, from, bytes)
     }
 
+    /// Puts initialised bytes with these numbers and one provenance in place of just as many bytes from the position `from` on. Where the
+    /// bytes there have that provenance too, it takes no memory.
+    pub fn write_numbers(
+        &mut self,
+        from: u64,
+        numbers: &[u8],
+        provenance: Option<AllocId>,
+    ) -> Result<(), OutOfMemory>
+        requires { from + length numbers.now ≤ length self.old }
+        ensures ok { OnOk result (self.new ≡ with_range_replaced self.old from (with_provenance provenance numbers.now)) }
+        ensures err { OnErr result (self.new ≡ self.old) }
+    {
+        let _all = self.len();
+        if numbers.is_empty() {
+            return Ok(());
+        }
+        if put_in_place(&mut self.runs, from, numbers, provenance) {
+            return Ok(());
+        }
+        let bytes = bytes_with(self.alloc, numbers, provenance)?;
+        self.write(from, bytes.as_slice())
+    }
+
     /// Puts `byte` in place of each of the `len` bytes from the position `from` on.
     pub fn fill(&mut self, from: u64, len: u64, byte: AbstractByte) -> Result<(), OutOfMemory>
         requires { from + len ≤ length self.old }
@@ -138,4 +162,19 @@ fn uninit_runs(alloc: Global, len: u64) -> Result<BTreeMap<u64, Run>, OutOfMemor
     }
     runs.insert(0, Run::uninit(len))?;
     Ok(runs)
+}
+
+// Initialised bytes with these numbers and one provenance.
+fn bytes_with(
+    alloc: Global,
+    numbers: &[u8],
+    provenance: Option<AllocId>,
+) -> Result<Vec<AbstractByte>, OutOfMemory>
+    ensures { IfOk result (λ bytes. bytes.items ≡ with_provenance provenance numbers.now) }
+{
+    let mut bytes = Vec::new(alloc);
+    for number in numbers {
+        bytes.push(AbstractByte::Init(*number, provenance))?;
+    }
+    Ok(bytes)
 }

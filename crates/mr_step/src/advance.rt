@@ -95,7 +95,7 @@ fn take(
         entry.picks.as_slice(),
     ) {
         Ok(deed) => {
-            settle(alloc, p, number, scene, deed, foot)?;
+            settle(alloc, p, number, &mut scene, deed, foot)?;
             Ok(())
         }
         Err(fault) => {

@@ -15,6 +15,7 @@ use mr_mem::Memory;
 use mr_sync::SyncTable;
 use mr_turn::Deed;
 use std::alloc::{AllocError, Global};
+use std::mem::swap;
 
 /// Whether a thread has ended.
 pub fn is_end(flow: Flow) -> bool
@@ -23,37 +24,27 @@ pub fn is_end(flow: Flow) -> bool
     matches!(flow, Flow::Ended)
 }
 
-/// What a turn leaves, from its scene and its deed: memory, and its footprint in place of another.
+/// What a turn leaves is taken out of its scene: memory, and with its deed the footprint, in place of another.
 pub fn leave(
     alloc: Global,
-    scene: Scene,
+    scene: &mut Scene,
     deed: &Deed,
     memory: &mut Memory,
     foot: &mut Footprint,
 ) -> Result<(), AllocError>
-    ensures memory { OnOk result (memory.new ≡ scene.memory) }
-    ensures foot { OnOk result (foot.new ≡ foot_by scene deed.now) }
+    ensures memory { OnOk result (memory.new ≡ scene.old.memory) }
+    ensures foot { OnOk result (foot.new ≡ foot_by scene.old deed.now) }
 {
     let woken = thread_ids(alloc, deed.woken.as_slice())?;
-    let Scene {
-        memory: left,
-        notes,
-        made,
-        freed,
-        thread,
-        ..
-    } = scene;
-    *memory = left;
-    *foot = Footprint {
-        thread,
-        accesses: notes.accesses,
-        allocated: made,
-        freed,
-        touched: notes.touched,
-        event: deed.event,
-        ended: is_end(deed.flow),
-        woken,
-    };
+    swap(memory, &mut scene.memory);
+    swap(&mut foot.accesses, &mut scene.notes.accesses);
+    swap(&mut foot.allocated, &mut scene.made);
+    swap(&mut foot.freed, &mut scene.freed);
+    swap(&mut foot.touched, &mut scene.notes.touched);
+    foot.thread = scene.thread;
+    foot.event = deed.event;
+    foot.ended = is_end(deed.flow);
+    foot.woken = woken;
     Ok(())
 }
 

@@ -60,13 +60,13 @@ fn complete(
     alloc: Global,
     p: &mut Progress,
     thread: u32,
-    scene: Scene,
+    scene: &mut Scene,
     deed: Deed,
     foot: &mut Footprint,
 ) -> Result<(), AllocError>
     requires flow { IsOn deed.flow }
     requires at { CanSettle p.old thread }
-    ensures { OnOk result (Settles p.old p.new thread scene deed foot.old foot.new) }
+    ensures { OnOk result (Settles p.old p.new thread scene.old deed foot.old foot.new) }
 {
     let count = scene.count;
     leave(alloc, scene, &deed, &mut p.memory, foot)?;
@@ -90,17 +90,17 @@ fn end_of(memory: &Memory) -> Verdict
     }
 }
 
-/// Where the turn of a thread leads, which left this scene and this deed.
+/// Where the turn of a thread leads, which left this scene and this deed. What the scene holds is taken out of it.
 pub fn settle(
     alloc: Global,
     p: &mut Progress,
     thread: u32,
-    scene: Scene,
+    scene: &mut Scene,
     deed: Deed,
     foot: &mut Footprint,
 ) -> Result<(), AllocError>
     requires { CanSettle p.old thread }
-    ensures { OnOk result (Settles p.old p.new thread scene deed foot.old foot.new) }
+    ensures { OnOk result (Settles p.old p.new thread scene.old deed foot.old foot.new) }
 {
     match deed.flow {
         Flow::Went | Flow::Ended => complete(alloc, p, thread, scene, deed, foot)?,

@@ -1,7 +1,8 @@
 -- What bytes spell, piece by piece.
-use Rattle.std.proofs.Common.{◌≡◌, ℕ, zero, suc, ◌+◌, ◌-◌, ◌*◌, ◌%◌, ◌^◌, ◌<◌, ◌≤◌, Bool, true, false, ◌&&◌, List, [], ◌∷◌, ◌++◌, length, replicate, drop, Option, Some, None, refl, sym, ap, ◌∙◌, subst, arith, length-append}
+use Rattle.std.proofs.Common.{◌≡◌, ℕ, zero, suc, ◌+◌, ◌-◌, ◌*◌, ◌%◌, ◌^◌, ◌<◌, ◌≤◌, Bool, true, false, ◌&&◌, List, [], ◌∷◌, ◌++◌, length, get_or, replicate, take, drop, Option, Some, None, refl, sym, ap, ◌∙◌, subst, arith, length-append}
 use Rattle.std.specs.Prelude.{if◌then◌else◌, option_map, slice_get}
 use Rattle.std.proofs.lemmas.Bool.Decides.{nat_tests}
+use Rattle.std.proofs.lemmas.List.{take_all, take_more}
 use Rattle.std.proofs.Math.Pow.{pow_mono}
 use Rattle.mr_base.specs.declared.byte.AllocId.{AllocId}
 use Rattle.mr_base.specs.declared.byte.AbstractByte.TheVariants.{Uninit, Init}
@@ -35,6 +36,17 @@ fewer l m lt =
     let same : l ≡ suc l - 1 = omega arith in
     let e : 2 ^ (8 * l) ≡ 2 ^ (8 * (suc l - 1)) = ap (λ k. 2 ^ (8 * k)) same in
     omega arith
+
+-- a list that isn't empty, and its last item
+pub ends_with : (numbers : List ℕ) → 1 ≤ length numbers → numbers ≡ take (length numbers - 1) numbers ++ get_or numbers (length numbers - 1) 0 ∷ []
+ends_with numbers some =
+    let all : length numbers ≡ length numbers - 1 + 1 = omega arith in
+    sym (take_all (length numbers) numbers (omega arith)) ∙ ap (λ k. take k numbers) all ∙ take_more numbers (length numbers - 1) 0 (omega arith)
+
+-- the last of the lowest bytes
+pub initial_last : (numbers : List ℕ) (n rest : ℕ) → n < 256 → initial_number (numbers ++ n ∷ []) rest ≡ initial_number numbers (n + 256 * rest)
+initial_last [] n rest small = let same : n % 256 ≡ n = omega arith in ap (λ k. k + 256 * rest) same
+initial_last (k ∷ numbers) n rest small = ap (λ m. k % 256 + 256 * m) (initial_last numbers n rest small)
 
 -- a number of so many bytes fits so many
 pub number_fits : (bytes : Bytes) (n : ℕ) → number_of bytes ≡ Some n → n < 2 ^ (8 * length bytes)
@@ -132,6 +144,11 @@ spelled_uninit (suc len) bytes some = refl
 pub spelled_nothing : Spells [] (Some (record { number = 0; sharing = Any }))
 spelled_nothing = (refl, refl, λ p. refl)
 
+-- there are no bytes
+pub spelled_empty : (bytes : Bytes) → length bytes ≡ 0 → Spells bytes (Some (record { number = 0; sharing = Any }))
+spelled_empty [] none = spelled_nothing
+spelled_empty (b ∷ bytes) none = absurd (omega arith)
+
 pub spelled_more : (provenance : Option AllocId) (numbers : List ℕ) (bytes : Bytes) (s : Spelled) → 0 < length numbers → Spells bytes (Some s)
     → Spells (initialised provenance numbers ++ bytes) (Some (record { number = initial_number numbers s.number; sharing = sharing_behind provenance s.sharing }))
 spelled_more provenance [] bytes s some h = absurd (omega arith)
@@ -182,9 +199,6 @@ len_from ps n p is =
     omega (arith, ap length (bytes_from ps n p is), length-append (bytes_of_piece p) (bytes_of_pieces (drop (n + 1) ps)), length-bytes_of_piece p)
 
 module _ (ps : List SeenPiece) (n : ℕ) (maximal : AreMaximal ps) where
-  pub spells_at_end : slice_get ps n ≡ None → Spells (bytes_of_pieces (drop n ps)) (Some (record { number = 0; sharing = Any }))
-  spells_at_end is = let P : List SeenPiece → Type 0 = λ qs. Spells (bytes_of_pieces qs) (Some (record { number = 0; sharing = Any })) in subst P (sym (pieces_past_last ps n is)) spelled_nothing
-
   pub spells_uninit : (len : ℕ) → slice_get ps n ≡ Some (UninitPiece len) → Spells (bytes_of_pieces (drop n ps)) None
   spells_uninit len is =
       let P : Bytes → Type 0 = λ bs. Spells bs None in

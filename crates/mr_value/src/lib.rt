@@ -12,6 +12,7 @@
 //! - [`encode`]: appends the bytes of a value that has the shape of a type (`specs/Shape.antt`). They are proved to be exactly
 //!   `encoding_of` of `specs/Encode.antt`, where what no part writes is uninitialised. After want of memory the list is as it
 //!   was.
+//! - [`encode_scalar`]: the same bytes of an integer, a bool or a pointer, without memory, as [`ScalarBytes`].
 //!
 //! Laws, proved of the definitions: [`one_value`], bytes mean at most one value of a type; [`has_shape`], what bytes mean has the
 //! type's shape; [`reads_back`], the bytes that a value is written as mean that value, unless a part of it is a variant that the
@@ -27,6 +28,7 @@ mod encoding;
 mod laws;
 mod numbers;
 mod parts;
+mod scalar_bytes;
 mod scalars;
 mod val;
 mod walking;
@@ -35,6 +37,7 @@ pub use decoding::decode;
 pub use encoding::{bits_of_number, encode};
 pub use laws::{has_shape, one_value, reads_back};
 pub use mr_ast::{Boxed, Items};
+pub use scalar_bytes::{ScalarBytes, encode_scalar};
 pub use scalars::decode_scalar;
 pub use std::alloc::AllocError as OutOfMemory;
 pub use val::Val;

@@ -22,20 +22,28 @@ pub(crate) enum Sharing {
     Differ,
 }
 
-// What the pieces of a view spell from the one with the number `n` on, where all bytes are initialised.
-fn spelled_from(v: &View<'_>, n: usize) -> Option<Spelled>
+// What the pieces of a view spell from the one with the number `n` on, which have `left` bytes, where all are initialised.
+fn spelled_from(v: &View<'_>, n: usize, left: u64) -> Option<Spelled>
     requires maximal { AreMaximal v.now }
-    requires few { length (bytes_of_pieces (drop n v.now)) ≤ 16 }
+    requires left { length (bytes_of_pieces (drop n v.now)) ≡ left }
+    requires few { left ≤ 16 }
     ensures { Spells (bytes_of_pieces (drop n v.now)) result }
 {
-    let _bytes = v.len();
-    match v.piece(n) {
-        None => Some(Spelled {
+    if left == 0 {
+        return Some(Spelled {
             number: 0,
             sharing: Sharing::Any,
-        }),
+        });
+    }
+    let _bytes = v.len();
+    match v.piece(n) {
+        None => unreachable!(),
         Some(Piece::Uninit(_)) => None,
-        Some(Piece::Bytes(numbers, provenance)) => match spelled_from(v, n + 1) {
+        Some(Piece::Bytes(numbers, provenance)) => match spelled_from(
+            v,
+            n + 1,
+            left - numbers.len() as u64,
+        ) {
             None => None,
             Some(rest) => Some(Spelled {
                 number: number_with(numbers, rest.number),
@@ -53,7 +61,7 @@ fn number_with(numbers: &[u8], rest: u128) -> u128
 {
     match numbers {
         [] => rest,
-        [first, others @ ..] => *first as u128 + 256 * number_with(others, rest),
+        [others @ .., last] => number_with(others, *last as u128 + 256 * rest),
     }
 }
 
@@ -91,7 +99,7 @@ pub(crate) fn number_at(v: &View<'_>, at: u64, len: u64) -> Option<u128>
     ensures value { result ≡ number_of (part at len (bytes_of_pieces v.now)) }
     ensures fits { IfSome result (λ n. n < 2 ^ (8 * len)) }
 {
-    match spelled_from(&v.part(at, len), 0) {
+    match spelled_from(&v.part(at, len), 0, len) {
         None => None,
         Some(spelled) => Some(spelled.number),
     }
@@ -102,7 +110,7 @@ pub(crate) fn pointer_at(v: &View<'_>, at: u64) -> Option<Pointer>
     requires { at + 8 ≤ length (bytes_of_pieces v.now) }
     ensures { result ≡ pointer_of (part at 8 (bytes_of_pieces v.now)) }
 {
-    match spelled_from(&v.part(at, 8), 0) {
+    match spelled_from(&v.part(at, 8), 0, 8) {
         None => None,
         Some(spelled) => Some(Pointer {
             addr: spelled.number as u64,

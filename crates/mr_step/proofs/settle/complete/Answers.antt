@@ -15,7 +15,7 @@ pub returns : goal.returns
 returns c = λ th n here tells.
     let p = c.args.p.now in
     let t = c.args.thread in
-    let s = c.args.scene in
+    let s = c.args.scene.now in
     let d = c.args.deed in
     let foot = c.leave.new.foot in
     let marked = c.mark.new.threads.items in

@@ -1,39 +1,43 @@
-use Rattle.std.proofs.Common.{◌≡◌, ℕ, ◌+◌, ◌-◌, ◌*◌, ◌^◌, ◌<◌, length, take, drop, sym, subst, arith, length-take, length-drop}
+use Rattle.std.proofs.Common.{◌≡◌, ℕ, ◌∙◌, ◌+◌, ◌-◌, ◌*◌, ◌^◌, ◌<◌, List, length, get_or, take, sym, ap, arith, length-take}
 use Rattle.mr_value.specs.Spelled.{initial_number}
-use Rattle.mr_value.proofs.SpelledLaws.{initial_fits, wider}
+use Rattle.mr_value.proofs.Digits.{byte_fits}
+use Rattle.mr_value.proofs.SpelledLaws.{ends_with, initial_last, wider}
 use Rattle.mr_value.proofs.numbers.+number_with.Goals as goal
+
+-- the rest of the number has 15 bytes at most
+pub overflow_mul-rest : goal.overflow_mul-rest
+overflow_mul-rest t c =
+    let numbers = c.args.numbers.now in
+    let small : c.args.rest < 2 ^ (8 * 15) = wider (16 - length numbers) 15 c.args.rest (omega (arith, c.in-len1-up.len_at_least)) c.requires.fits in
+    omega (arith, small)
+
+pub overflow_add-last : goal.overflow_add-last
+overflow_add-last t c =
+    let numbers = c.args.numbers.now in
+    let small : c.args.rest < 2 ^ (8 * 15) = wider (16 - length numbers) 15 c.args.rest (omega (arith, c.in-len1-up.len_at_least)) c.requires.fits in
+    omega (arith, small, c.type_inv.numbers (length numbers - 1))
 
 pub number_with-requires : goal.number_with-requires
 number_with-requires t c =
     let numbers = c.args.numbers.now in
-    let others = take (length numbers - 1) (drop 1 numbers) in
-    let fewer : length (take (length c.args.numbers.now - 1) (drop 1 c.args.numbers.now)) ≡ length c.args.numbers.now - 1 =
-    omega (arith, length-take (length numbers - 1) (drop 1 numbers), length-drop 1 numbers) in
-    (omega (arith, c.decreases, fewer), (omega (arith, fewer, c.requires.few), wider (16 - length numbers) (16 - length others) c.args.rest (omega (arith, fewer)) c.requires.fits))
-
--- the rest of the number has 15 bytes at most
-pub overflow_mul-result : goal.overflow_mul-result
-overflow_mul-result t c =
     let few = c.requires.few in
-    let numbers = c.args.numbers.now in
-    let others = take (length numbers - 1) (drop 1 numbers) in
-    let fewer : length (take (length c.args.numbers.now - 1) (drop 1 c.args.numbers.now)) ≡ length c.args.numbers.now - 1 =
-    omega (arith, length-take (length numbers - 1) (drop 1 numbers), length-drop 1 numbers) in
-    let P : ℕ → Type 0 = λ n. n < 2 ^ (8 * (16 - 1)) in
-    let small : c.number_with.result < 2 ^ (8 * (16 - 1)) =
-    subst P (sym c.number_with.ensures)
-    (wider (16 - length numbers + length others) (16 - 1) (initial_number others c.args.rest) (omega (arith, fewer)) (initial_fits others (16 - length numbers) c.args.rest c.requires.fits)) in
-    omega (arith, small)
+    let some = c.in-len1-up.len_at_least in
+    let last = get_or numbers (length numbers - 1) 0 in
+    let fewer : length (take (length numbers - 1) numbers) ≡ length numbers - 1 = omega (arith, length-take (length numbers - 1) numbers) in
+    let room : 16 - length (take (length numbers - 1) numbers) ≡ 16 - length numbers + 1 = omega (arith, fewer, few, some) in
+    let less : c.args.rest < 2 ^ (8 * (16 - length (take (length numbers - 1) numbers) - 1)) =
+    wider (16 - length numbers) (16 - length (take (length numbers - 1) numbers) - 1) c.args.rest (omega (arith, room)) c.requires.fits in (
+      omega (arith, c.decreases, fewer, some),
+      (
+        omega (arith, fewer, few),
+        byte_fits (16 - length (take (length numbers - 1) numbers)) last c.args.rest (omega (arith, room)) (omega (arith, c.type_inv.numbers (length numbers - 1))) less,
+      ),
+    )
 
-pub overflow_add-result : goal.overflow_add-result
-overflow_add-result t c =
-    let few = c.requires.few in
+pub returns-in-len1-up : goal.returns-in-len1-up
+returns-in-len1-up t c =
     let numbers = c.args.numbers.now in
-    let others = take (length numbers - 1) (drop 1 numbers) in
-    let fewer : length (take (length c.args.numbers.now - 1) (drop 1 c.args.numbers.now)) ≡ length c.args.numbers.now - 1 =
-    omega (arith, length-take (length numbers - 1) (drop 1 numbers), length-drop 1 numbers) in
-    let P : ℕ → Type 0 = λ n. n < 2 ^ (8 * (16 - 1)) in
-    let small : c.number_with.result < 2 ^ (8 * (16 - 1)) =
-    subst P (sym c.number_with.ensures)
-    (wider (16 - length numbers + length others) (16 - 1) (initial_number others c.args.rest) (omega (arith, fewer)) (initial_fits others (16 - length numbers) c.args.rest c.requires.fits)) in
-    omega (arith, small, c.type_inv.numbers 0)
+    let last = get_or numbers (length numbers - 1) 0 in
+    c.number_with.ensures
+    ∙ sym (initial_last (take (length numbers - 1) numbers) last c.args.rest (omega (arith, c.type_inv.numbers (length numbers - 1))))
+    ∙ ap (λ (ns : List ℕ). initial_number ns c.args.rest) (sym (ends_with numbers c.in-len1-up.len_at_least))

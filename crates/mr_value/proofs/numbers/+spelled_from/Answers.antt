@@ -1,9 +1,9 @@
-use Rattle.std.proofs.Common.{◌≡◌, ◌∙◌, ◌+◌, ◌-◌, Some, length, drop, sym, ap, arith}
+use Rattle.std.proofs.Common.{◌≡◌, ◌∙◌, ◌+◌, ◌-◌, List, Some, length, drop, sym, ap, arith}
 use Rattle.std.specs.Prelude.{slice_get}
 use Rattle.std.proofs.lemmas.Option.{slice_get_within}
-use Rattle.mr_runs.specs.Pieces.{InitPiece, bytes_of_pieces}
+use Rattle.mr_runs.specs.Pieces.{SeenPiece, InitPiece, bytes_of_pieces}
 use Rattle.mr_runs.specs.Seen.{seen_piece}
-use Rattle.mr_value.proofs.SpelledLaws.{fewer_pieces, len_from, number_fits, spells_at_end, spells_more, spells_none, spells_uninit, wider}
+use Rattle.mr_value.proofs.SpelledLaws.{fewer_pieces, len_from, number_fits, pieces_past_last, spelled_empty, spells_more, spells_none, spells_uninit, wider}
 use Rattle.mr_value.proofs.numbers.+spelled_from.Goals as goal
 
 pub overflow_add-n : goal.overflow_add-n
@@ -35,8 +35,22 @@ number_with-requires-clause-fits t c =
     (omega (arith, c.requires.few, len_from ps c.args.n (InitPiece numbers c.in-Some-Bytes.provenance) is))
     (number_fits (bytes_of_pieces (drop (c.args.n + 1) ps)) c.in-Some.rest.number c.in-Some.ensures.0)
 
-pub returns-in-None : goal.returns-in-None
-returns-in-None t c = spells_at_end c.args.v.now c.args.n c.requires.maximal (sym c.in-None.ensures)
+pub returns-then-left-eq0 : goal.returns-then-left-eq0
+returns-then-left-eq0 t c =
+    let none : length (bytes_of_pieces (drop c.args.n c.args.v.now)) ≡ 0 = omega (arith, c.requires.left, c.if-left-eq0.true) in
+    spelled_empty (bytes_of_pieces (drop c.args.n c.args.v.now)) none
+
+pub unreachable-requires : goal.unreachable-requires
+unreachable-requires t c =
+    let none : length (bytes_of_pieces (drop c.args.n c.args.v.now)) ≡ 0 =
+    ap (λ (ps : List SeenPiece). length (bytes_of_pieces ps)) (pieces_past_last c.args.v.now c.args.n (sym c.in-None.ensures)) in
+    c.if-left-eq0.false (omega (arith, c.requires.left, none))
+
+pub overflow_sub-left : goal.overflow_sub-left
+overflow_sub-left t c =
+    let ps = c.args.v.now in
+    let is : slice_get ps c.args.n ≡ Some (InitPiece c.in-Some-Bytes.numbers.now c.in-Some-Bytes.provenance) = sym c.in-Some-Bytes.ensures ∙ ap (λ q. Some (seen_piece q)) c.in-Some-Bytes.field-0-is in
+    omega (arith, c.requires.left, len_from ps c.args.n (InitPiece c.in-Some-Bytes.numbers.now c.in-Some-Bytes.provenance) is)
 
 pub returns-in-Some-Uninit : goal.returns-in-Some-Uninit
 returns-in-Some-Uninit t c =

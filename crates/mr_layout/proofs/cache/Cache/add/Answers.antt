@@ -4,7 +4,7 @@ use Rattle.mr_ast.specs.declared.types.Ty.{Ty}
 use Rattle.mr_layout.specs.declared.cache.Entry.{Entry}
 use Rattle.std.proofs.lemmas.List.Elements.{All-push}
 use Rattle.mr_ast.specs.Order.{ty_cmp}
-use Rattle.mr_layout.specs.Layouts.{layout_of, held_types, AreDefined, AreRising}
+use Rattle.mr_layout.specs.Layouts.{layout_of, held_types, AreDefined, AreIntegers, AreRising}
 use Rattle.mr_layout.specs.Cached.{Adds}
 use Rattle.mr_layout.proofs.CacheLaws.{added, rising_push}
 use Rattle.mr_layout.proofs.cache.Cache.add.Goals as goal
@@ -32,4 +32,4 @@ invariant_of-self-2 c =
     let defined : AreDefined (entries ++ e ∷ []) =
     All-push (λ (x : Entry). x.layout ≡ layout_of x.ty) entries e c.self.invariant.0 (c.defined_layout.ensures ∙ ap layout_of (sym c.in_ok-copy.ensures)) in
     let rising : AreRising (entries ++ e ∷ []) = rising_push entries e t c.self.invariant.1 above missing c.in_ok-copy.ensures in
-    subst (λ (es : List Entry). AreDefined es × AreRising es) (sym c.in_ok-push.ensures.items) (defined, rising)
+    subst (λ (es : List Entry). AreDefined es × AreRising es × AreIntegers c.self.inside.integers) (sym c.in_ok-push.ensures.items) (defined, rising, c.self.invariant.2)
