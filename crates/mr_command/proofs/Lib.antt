@@ -1,4 +1,5 @@
 pub mod ApartLaws
+pub mod AloneLaws
 pub mod AnswerLaws
 pub mod BoundLaws
 pub mod EndLaws

@@ -100,15 +100,20 @@ pub none_completed : (p : Program) (picks : List ℕ) (m : Standing) → StartAn
 unfolding start_config
 none_completed p picks m h = ap (λ (s : Standing). s.config.completed) h.1
 
+-- the same of entries that a started machine took, by what is told of them
+pub run_led : (p : Program) (w : Schedule) (picks : List ℕ) (es : List Entry) (m new : Standing) (was steps : List Footprint) → picks ≡ w.start → es ≡ w.entries → was ≡ []
+    → StartAnswer p picks (Ok m) → EntriesAnswer es m new was steps (Ok tt) → (new.failed ≡ false) × (legal_run p w ≡ Ok (record { config = new.config; steps = steps }))
+run_led p w picks es m new was steps e k none h a =
+    let begun : StartAnswer p w.start (Ok m) = subst (λ ps. StartAnswer p ps (Ok m)) e h in
+    let P : Standing → Type 0 = λ s. EntriesAnswer w.entries s new was steps (Ok tt) in
+    let at = subst P begun.1 (subst (λ xs. EntriesAnswer xs m new was steps (Ok tt)) k a) in
+    let all : at.steps ≡ steps = sym (at.joined ∙ ap (λ xs. xs ++ at.steps) none) in
+    (at.working, from_start p w begun.0 ∙ at.is ∙ ap (λ xs. Ok (record { config = new.config; steps = xs })) all)
+
 -- entries that a started machine took
 pub run_taken : (p : Program) (w : Schedule) (picks : List ℕ) (es : List Entry) (m : Standing) (was : List Footprint) (done : Finished) → picks ≡ w.start → es ≡ w.entries → was ≡ []
     → StartAnswer p picks (Ok m) → EntriesAnswer es m done.machine was done.steps.items (Ok tt) → RunAnswer p w (Ok done)
-run_taken p w picks es m was done e k none h a =
-    let begun : StartAnswer p w.start (Ok m) = subst (λ ps. StartAnswer p ps (Ok m)) e h in
-    let P : Standing → Type 0 = λ s. EntriesAnswer w.entries s done.machine was done.steps.items (Ok tt) in
-    let at = subst P begun.1 (subst (λ xs. EntriesAnswer xs m done.machine was done.steps.items (Ok tt)) k a) in
-    let all : at.steps ≡ done.steps.items = sym (at.joined ∙ ap (λ xs. xs ++ at.steps) none) in
-    (at.working, from_start p w begun.0 ∙ at.is ∙ ap (λ xs. Ok (record { config = done.machine.config; steps = xs })) all)
+run_taken p w picks es m was done e k none h a = run_led p w picks es m done.machine was done.steps.items e k none h a
 
 pub run_refused : (p : Program) (w : Schedule) (picks : List ℕ) (es : List Entry) (m new : Standing) (was is : List Footprint) (r : Refusal) → picks ≡ w.start → es ≡ w.entries
     → StartAnswer p picks (Ok m) → EntriesAnswer es m new was is (Err r) → RunAnswer p w (Err r)
@@ -156,6 +161,12 @@ goes_on first m new was now next line index e es d h k =
           ∙ ap (λ xs. behind_all h.steps (legal_after m.look m.config line xs)) (sym d)
           ∙ h.leads;
     }
+
+-- the same of an entry whose footprint is told alone
+pub goes_behind : (first m new : Standing) (was now more : List Footprint) (line index : ℕ) (e : Entry) (es : List Entry) → drop index es ≡ e ∷ drop (index + 1) es
+    → IsUnderWay first m was now line index es → EntryAnswer e line m new [] more (Ok tt) → IsUnderWay first new was (now ++ more) (line + 1) (index + 1) es
+goes_behind first m new was now more line index e es d h k =
+    goes_on first m new was now (now ++ more) line index e es d h (record { working = k.working; look = k.look; steps = k.steps; joined = ap (λ xs. now ++ xs) k.joined; is = k.is })
 
 pub ends_at : (first m : Standing) (was now : List Footprint) (line index : ℕ) (es : List Entry) → drop index es ≡ [] → IsUnderWay first m was now line index es → EntriesAnswer es first m was now (Ok tt)
 ends_at first m was now line index es d h = record {

@@ -1,5 +1,6 @@
 -- How the run of a program is answered, and the steps of it.
-use Rattle.std.specs.Prelude.{◌≡◌, ◌++◌, ℕ, false, List, None, Result, Ok, Err}
+use Rattle.std.specs.Prelude.{◌≡◌, ◌==◌, ◌++◌, ℕ, Bool, true, false, List, [], None, Result, Ok, Err}
+use Rattle.std.specs.List.{list_all}
 use Rattle.mr_ast.specs.declared.program.Program.{Program}
 use Rattle.mr_sched.specs.declared.schedule.Entry.{Entry}
 use Rattle.mr_sched.specs.declared.schedule.Schedule.{Schedule}
@@ -15,6 +16,7 @@ use Rattle.mr_command.specs.declared.refusal.Refusal.{Refusal}
 use Rattle.mr_command.specs.declared.refusal.Refusal.TheVariants as refusal
 use Rattle.mr_command.specs.declared.run.Finished.{Finished}
 use Rattle.mr_command.specs.Answer.{Ran, legal_run, unless_broken}
+use Rattle.mr_command.specs.Apart.{are_alone}
 use Rattle.mr_command.specs.Outcome.{Gives}
 
 -- a fault of a start or a step, which stands on this line
@@ -67,3 +69,25 @@ abbrev pub EntryAnswer : Entry → ℕ → Standing → Standing → List Footpr
     → Type 0
 EntryAnswer e line old new was is (Ok u) = Stands old.look new was is (legal_step old.look old.config line e)
 EntryAnswer e line old new was is (Err r) = Refuses r (legal_step old.look old.config line e)
+
+-- ---- runs of thread 0 alone
+
+-- all entries are of thread 0
+abbrev pub are_of_first : List Entry → Bool
+are_of_first es = list_all (λ e. e.thread == 0) es
+
+-- how entries of which no footprint is kept are answered, from line 3 on
+abbrev pub TakenAnswer : List Entry → Standing → Standing → Result (Unit {0}) Refusal → Type 0
+TakenAnswer es old new r = (steps : List Footprint) × EntriesAnswer es old new [] steps r
+
+-- the same of one entry
+abbrev pub TakeAnswer : Entry → ℕ → Standing → Standing → Result (Unit {0}) Refusal → Type 0
+TakeAnswer e line old new r = (steps : List Footprint) × EntryAnswer e line old new [] steps r
+
+-- how a run of thread 0 alone is answered: by the machine where it ends, and no footprint; or by what refuses it
+abbrev pub AloneAnswer : Program → Schedule → Result Finished Refusal → Type 0
+AloneAnswer p w (Ok f) =
+    (f.machine.failed ≡ false) × (f.steps.items ≡ [])
+    × (steps : List Footprint) × (are_alone steps ≡ true)
+    × (legal_run p w ≡ Ok (record { config = f.machine.config; steps = steps }))
+AloneAnswer p w (Err r) = Refuses r (legal_run p w)

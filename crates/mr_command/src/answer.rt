@@ -1,5 +1,5 @@
 //! The answer to a command: what is written, and the exit status, or why there is none.
-ghost use Rattle.std.specs.Prelude.{◌≡◌, ◌+◌, ◌^◌, ◌≤◌, ℕ, List, [], None, Some, Ok, Err, length, IfOk};
+ghost use Rattle.std.specs.Prelude.{◌≡◌, ◌+◌, ◌^◌, ◌≤◌, ℕ, List, [], None, Some, Ok, Err, length, true, IfOk};
 ghost use Rattle.mr_io.specs.Counts.{Rose};
 ghost use Rattle.mr_io.specs.Files.{Contents};
 ghost use Rattle.mr_ast.specs.Shaped.{Shaped};
@@ -9,6 +9,7 @@ ghost use Rattle.mr_command.specs.Answering.{IsAnswered, IsAnsweredOverTexts, Is
 ghost use Rattle.mr_command.specs.Command.{asked, named_files, Auto, Check, IsBounded, NamesProgram, Run};
 ghost use Rattle.mr_command.specs.Headline.{AsksForSchedule};
 ghost use Rattle.mr_command.specs.Outcome.{IsUnreadFault};
+ghost use Rattle.mr_command.specs.Running.{are_of_first};
 
 use crate::command::{Command, Format};
 use crate::drawn::{drawn, summary};
@@ -16,7 +17,7 @@ use crate::form::form_line;
 use crate::input::{read_program, read_schedule};
 use crate::refusal::Refusal;
 use crate::report::report;
-use crate::run::run;
+use crate::run::{is_alone, run, run_alone};
 use mr_ast::Program;
 use mr_gen::program;
 use mr_io::Files;
@@ -161,7 +162,29 @@ fn report_run(alloc: Global, format: Format, p: &Checked, w: &Schedule) -> Resul
     ensures status { IfOk result (λ a. IsStatus a.status) }
     ensures read { ¬ IsUnreadFault result }
 {
+    if is_alone(w.entries.as_slice()) {
+        return report_alone(alloc, format, p, w);
+    }
     match run(alloc, p, w) {
+        Ok(finished) => Ok(report(alloc, format, &finished, w)?),
+        Err(refusal) => Err(refusal),
+    }
+}
+
+// The same of a schedule of thread 0 alone.
+fn report_alone(
+    alloc: Global,
+    format: Format,
+    p: &Checked,
+    w: &Schedule,
+) -> Result<Written, Refusal>
+    requires few { length w.now.entries ≤ 2 ^ 20 }
+    requires alone { are_of_first w.now.entries ≡ true }
+    ensures answer { Tells (run_report format p.now w.now) result }
+    ensures status { IfOk result (λ a. IsStatus a.status) }
+    ensures read { ¬ IsUnreadFault result }
+{
+    match run_alone(alloc, p, w) {
         Ok(finished) => Ok(report(alloc, format, &finished, w)?),
         Err(refusal) => Err(refusal),
     }

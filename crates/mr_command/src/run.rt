@@ -1,6 +1,7 @@
 //! The run of a program under a schedule.
-ghost use Rattle.std.specs.Prelude.{◌≡◌, ◌+◌, ◌^◌, ◌<◌, ◌≤◌, false, length};
-ghost use Rattle.mr_command.specs.Running.{RunAnswer, EntriesAnswer, EntryAnswer, placed};
+ghost use Rattle.std.specs.Prelude.{◌≡◌, ◌==◌, ◌+◌, ◌^◌, ◌<◌, ◌≤◌, false, true, length};
+ghost use Rattle.std.specs.List.{list_all};
+ghost use Rattle.mr_command.specs.Running.{AloneAnswer, EntriesAnswer, EntryAnswer, RunAnswer, TakeAnswer, TakenAnswer, are_of_first, placed};
 
 use crate::refusal::Refusal;
 use mr_auto::advance;
@@ -10,7 +11,7 @@ use mr_step::{Machine, StepFault};
 use mr_wf::Checked;
 use std::alloc::Global;
 
-/// A run behind its last entry: the machine, and the footprints of the steps that completed.
+/// A run behind its last entry: the machine, and the footprints of the steps that completed, where they are kept.
 #[derive(Drop)]
 pub struct Finished<'p> {
     pub machine: Machine<'p>,
@@ -30,6 +31,60 @@ pub fn run<'p>(alloc: Global, p: &'p Checked, w: &Schedule) -> Result<Finished<'
     match run_entries(alloc, &mut machine, w.entries.as_slice(), &mut steps) {
         Ok(()) => Ok(Finished { machine, steps }),
         Err(refusal) => Err(refusal),
+    }
+}
+
+/// Whether all entries of a schedule are of thread 0.
+pub fn is_alone(entries: &[Entry]) -> bool
+    ensures { result ≡ are_of_first entries.now }
+{
+    entries.iter().all(|entry| entry.thread == 0)
+}
+
+/// The run of a program under a schedule of thread 0 alone, or the first rule that the schedule breaks. One thread has no race, so that
+/// no footprint is kept.
+pub fn run_alone<'p>(alloc: Global, p: &'p Checked, w: &Schedule) -> Result<Finished<'p>, Refusal>
+    requires few { length w.now.entries ≤ 2 ^ 20 }
+    requires alone { are_of_first w.now.entries ≡ true }
+    ensures { AloneAnswer p.now w.now result }
+{
+    let mut machine = match Machine::start(alloc, p, w.start.as_slice()) {
+        Ok(machine) => machine,
+        Err(fault) => return Err(at_line(2, fault)),
+    };
+    match take_entries(&mut machine, w.entries.as_slice()) {
+        Ok(()) => Ok(Finished {
+            machine,
+            steps: Vec::new(alloc),
+        }),
+        Err(refusal) => Err(refusal),
+    }
+}
+
+// Steps by each entry, and keeps no footprint. The first stands on line 3.
+fn take_entries(machine: &mut Machine<'_>, entries: &[Entry]) -> Result<(), Refusal>
+    requires working { machine.old.failed ≡ false }
+    requires completed { machine.old.config.completed + length entries.now < 2 ^ 32 }
+    requires entries { length entries.now ≤ 2 ^ 20 }
+    ensures { TakenAnswer entries.now machine.old machine.new result }
+{
+    let mut line = 3;
+    for entry in entries {
+        take(machine, entry, line)?;
+        line += 1;
+    }
+    Ok(())
+}
+
+// The step of an entry on a line.
+fn take(machine: &mut Machine<'_>, entry: &Entry, line: u32) -> Result<(), Refusal>
+    requires working { machine.old.failed ≡ false }
+    requires completed { machine.old.config.completed < 2 ^ 32 }
+    ensures { TakeAnswer entry.now line machine.old machine.new result }
+{
+    match machine.go(entry) {
+        Ok(_) => Ok(()),
+        Err(fault) => Err(at_line(line, fault)),
     }
 }
 

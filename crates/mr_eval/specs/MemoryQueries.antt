@@ -6,8 +6,9 @@ use Rattle.mr_base.specs.declared.byte.AbstractByte.{AbstractByte}
 use Rattle.mr_base.specs.declared.byte.Kind.{Kind}
 use Rattle.mr_base.specs.declared.reason.Reason.TheVariants.{InvalidValue}
 use Rattle.mr_mem.specs.Memory.{Memory, allocated, freed, written}
+use Rattle.mr_runs.specs.Numbers.{with_provenance}
 use Rattle.mr_script.specs.Script.{Script, Done, Undefined, IllFormed, Ask, Outcome, Refused, Went, on}
-use Rattle.mr_value.specs.Numbers.{Bytes, initialised, little_endian, number_of}
+use Rattle.mr_value.specs.Numbers.{Bytes, little_endian, number_of}
 use Rattle.mr_eval.specs.Reads.{Read, ReadQuery, ReadReply, ReadScript, Seen, accessing, answered, reading, seeing}
 use Rattle.mr_eval.specs.Stores.{storing}
 use Rattle.mr_eval.specs.Tally.{Tally, seen_of, with_seen}
@@ -51,7 +52,7 @@ pointer_to id addr = record { addr = addr; prov = Some id }
 
 -- a number in so many bytes, least byte first, without provenance
 abbrev pub number_bytes : ℕ → ℕ → Bytes
-number_bytes size n = initialised None (little_endian size n)
+number_bytes size n = with_provenance None (little_endian size n)
 
 -- the number before, where another one is put in its place or none; the range was checked by then
 abbrev pub replacing : Memory → Pointer → ℕ → ℕ → Option ℕ → Seen → Outcome ℕ (Memory × Seen)

@@ -57,7 +57,7 @@ pub fn place(
         functions: e.functions,
         globals: e.globals,
     };
-    match placed(here, n, p) {
+    match placed(&here, n, p) {
         Ok(p) => Ok(p.at),
         Err(h) => Err(fault_of(h)),
     }
@@ -81,7 +81,7 @@ pub fn value(alloc: Global, e: &Env<'_>, m: &Memory, n: &mut Notes, v: &Value) -
         functions: e.functions,
         globals: e.globals,
     };
-    match valued(here, n, v) {
+    match valued(&here, n, v) {
         Ok(v) => Ok(v.value),
         Err(h) => Err(fault_of(h)),
     }

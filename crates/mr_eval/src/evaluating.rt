@@ -28,10 +28,10 @@ use mr_wf::Known;
 /// Where a place is, and its type.
 #[cycle(evaluated)]
 #[tactic(auto, using(crate::proofs::EvalRuns::eval_laws, crate::proofs::SoundParts::sound_laws, crate::proofs::SoundParts::type_facts, crate::proofs::SoundParts::int_fits, mr_wf::proofs::TypeLaws::type_laws, crate::proofs::ExtendsLaws::extends_laws))]
-pub fn placed<'p>(here: Here<'p>, notes: &mut Notes, place: &'p Place) -> Result<Placed<'p>, Halt>
-    requires { SoundPlace (surround_of here) place.now }
-    ensures given { Gives at_pointer result (placed here.entry.memory.now (surround_of here.entry) place.now (seen notes.old)) (seen notes.new) }
-    ensures ty { IfOk result (λ p. type_of_place here.entry.locals.now place.now ≡ Some p.ty.now) }
+pub fn placed<'p>(here: &Here<'p>, notes: &mut Notes, place: &'p Place) -> Result<Placed<'p>, Halt>
+    requires { SoundPlace (surround_of here.now) place.now }
+    ensures given { Gives at_pointer result (placed here.now.memory.now (surround_of here.now) place.now (seen notes.old)) (seen notes.new) }
+    ensures ty { IfOk result (λ p. type_of_place here.now.locals.now place.now ≡ Some p.ty.now) }
     ensures kept { Extends (seen notes.old) (seen notes.new) }
 {
     match place {
@@ -56,14 +56,14 @@ pub fn placed<'p>(here: Here<'p>, notes: &mut Notes, place: &'p Place) -> Result
 #[cycle(evaluated)]
 #[tactic(auto, using(crate::proofs::EvalRuns::eval_laws, crate::proofs::SoundParts::sound_laws, crate::proofs::SoundParts::type_facts, crate::proofs::SoundParts::int_fits, mr_wf::proofs::TypeLaws::type_laws, crate::proofs::ExtendsLaws::extends_laws))]
 fn indexed_place<'p>(
-    here: Here<'p>,
+    here: &Here<'p>,
     notes: &mut Notes,
     array: &'p Place,
     index: &'p Value,
 ) -> Result<Placed<'p>, Halt>
-    requires { SoundPlace (surround_of here) (Place.Index array.now index.now) }
-    ensures given { Gives at_pointer result (placed here.entry.memory.now (surround_of here.entry) (Place.Index array.now index.now) (seen notes.old)) (seen notes.new) }
-    ensures ty { IfOk result (λ p. type_of_place here.entry.locals.now (Place.Index array.now index.now) ≡ Some p.ty.now) }
+    requires { SoundPlace (surround_of here.now) (Place.Index array.now index.now) }
+    ensures given { Gives at_pointer result (placed here.now.memory.now (surround_of here.now) (Place.Index array.now index.now) (seen notes.old)) (seen notes.new) }
+    ensures ty { IfOk result (λ p. type_of_place here.now.locals.now (Place.Index array.now index.now) ≡ Some p.ty.now) }
     ensures kept { Extends (seen notes.old) (seen notes.new) }
 {
     let p = placed(here, notes, array)?;
@@ -88,10 +88,10 @@ fn bare(addr: u64) -> Pointer
 /// What a value is, and its type.
 #[cycle(evaluated)]
 #[tactic(auto, using(crate::proofs::EvalRuns::eval_laws, crate::proofs::SoundParts::sound_laws, crate::proofs::SoundParts::type_facts, crate::proofs::SoundParts::int_fits, mr_wf::proofs::TypeLaws::type_laws, crate::proofs::ExtendsLaws::extends_laws))]
-pub fn valued<'p>(here: Here<'p>, notes: &mut Notes, value: &'p Value) -> Result<Valued<'p>, Halt>
-    requires { SoundValue (surround_of here) value.now }
-    ensures given { Gives value_in result (valued here.entry.memory.now (surround_of here.entry) value.now (seen notes.old)) (seen notes.new) }
-    ensures ty { IfOk result (λ v. type_of_value here.entry.locals.now value.now ≡ Some (ty_of v.ty)) }
+pub fn valued<'p>(here: &Here<'p>, notes: &mut Notes, value: &'p Value) -> Result<Valued<'p>, Halt>
+    requires { SoundValue (surround_of here.now) value.now }
+    ensures given { Gives value_in result (valued here.now.memory.now (surround_of here.now) value.now (seen notes.old)) (seen notes.new) }
+    ensures ty { IfOk result (λ v. type_of_value here.now.locals.now value.now ≡ Some (ty_of v.ty)) }
     ensures kept { Extends (seen notes.old) (seen notes.new) }
 {
     match value {
@@ -141,14 +141,14 @@ pub fn valued<'p>(here: Here<'p>, notes: &mut Notes, value: &'p Value) -> Result
 #[cycle(evaluated)]
 #[tactic(auto, using(crate::proofs::EvalRuns::eval_laws, crate::proofs::SoundParts::sound_laws, crate::proofs::SoundParts::type_facts, crate::proofs::SoundParts::int_fits, mr_wf::proofs::TypeLaws::type_laws, crate::proofs::ExtendsLaws::extends_laws))]
 fn cast_expression<'p>(
-    here: Here<'p>,
+    here: &Here<'p>,
     notes: &mut Notes,
     int: IntType,
     operand: &'p Value,
 ) -> Result<Valued<'p>, Halt>
-    requires { SoundValue (surround_of here) (Value.Cast int operand.now) }
-    ensures given { Gives value_in result (valued here.entry.memory.now (surround_of here.entry) (Value.Cast int operand.now) (seen notes.old)) (seen notes.new) }
-    ensures ty { IfOk result (λ v. type_of_value here.entry.locals.now (Value.Cast int operand.now) ≡ Some (ty_of v.ty)) }
+    requires { SoundValue (surround_of here.now) (Value.Cast int operand.now) }
+    ensures given { Gives value_in result (valued here.now.memory.now (surround_of here.now) (Value.Cast int operand.now) (seen notes.old)) (seen notes.new) }
+    ensures ty { IfOk result (λ v. type_of_value here.now.locals.now (Value.Cast int operand.now) ≡ Some (ty_of v.ty)) }
     ensures kept { Extends (seen notes.old) (seen notes.new) }
 {
     let v = valued(here, notes, operand)?;
@@ -159,14 +159,14 @@ fn cast_expression<'p>(
 #[cycle(evaluated)]
 #[tactic(auto, using(crate::proofs::EvalRuns::eval_laws, crate::proofs::SoundParts::sound_laws, crate::proofs::SoundParts::type_facts, crate::proofs::SoundParts::int_fits, mr_wf::proofs::TypeLaws::type_laws, crate::proofs::ExtendsLaws::extends_laws))]
 fn unary_expression<'p>(
-    here: Here<'p>,
+    here: &Here<'p>,
     notes: &mut Notes,
     op: UnaryOp,
     operand: &'p Value,
 ) -> Result<Valued<'p>, Halt>
-    requires { SoundValue (surround_of here) (Value.Unary op operand.now) }
-    ensures given { Gives value_in result (valued here.entry.memory.now (surround_of here.entry) (Value.Unary op operand.now) (seen notes.old)) (seen notes.new) }
-    ensures ty { IfOk result (λ v. type_of_value here.entry.locals.now (Value.Unary op operand.now) ≡ Some (ty_of v.ty)) }
+    requires { SoundValue (surround_of here.now) (Value.Unary op operand.now) }
+    ensures given { Gives value_in result (valued here.now.memory.now (surround_of here.now) (Value.Unary op operand.now) (seen notes.old)) (seen notes.new) }
+    ensures ty { IfOk result (λ v. type_of_value here.now.locals.now (Value.Unary op operand.now) ≡ Some (ty_of v.ty)) }
     ensures kept { Extends (seen notes.old) (seen notes.new) }
 {
     let v = valued(here, notes, operand)?;
@@ -177,14 +177,14 @@ fn unary_expression<'p>(
 #[cycle(evaluated)]
 #[tactic(auto, using(crate::proofs::EvalRuns::eval_laws, crate::proofs::SoundParts::sound_laws, crate::proofs::SoundParts::type_facts, crate::proofs::SoundParts::int_fits, mr_wf::proofs::TypeLaws::type_laws, crate::proofs::ExtendsLaws::extends_laws))]
 fn tuple_expression<'p>(
-    here: Here<'p>,
+    here: &Here<'p>,
     notes: &mut Notes,
     ty: &'p Ty,
     values: &'p [Value],
 ) -> Result<Valued<'p>, Halt>
-    requires { SoundValue (surround_of here) (Value.Tuple ty.now values.now) }
-    ensures given { Gives value_in result (valued here.entry.memory.now (surround_of here.entry) (Value.Tuple ty.now values.now) (seen notes.old)) (seen notes.new) }
-    ensures ty { IfOk result (λ v. type_of_value here.entry.locals.now (Value.Tuple ty.now values.now) ≡ Some (ty_of v.ty)) }
+    requires { SoundValue (surround_of here.now) (Value.Tuple ty.now values.now) }
+    ensures given { Gives value_in result (valued here.now.memory.now (surround_of here.now) (Value.Tuple ty.now values.now) (seen notes.old)) (seen notes.new) }
+    ensures ty { IfOk result (λ v. type_of_value here.now.locals.now (Value.Tuple ty.now values.now) ≡ Some (ty_of v.ty)) }
     ensures kept { Extends (seen notes.old) (seen notes.new) }
 {
     let row = each_valued(here, notes, values)?;
@@ -195,15 +195,15 @@ fn tuple_expression<'p>(
 #[cycle(evaluated)]
 #[tactic(auto, using(crate::proofs::EvalRuns::eval_laws, crate::proofs::SoundParts::sound_laws, crate::proofs::SoundParts::type_facts, crate::proofs::SoundParts::int_fits, mr_wf::proofs::TypeLaws::type_laws, crate::proofs::ExtendsLaws::extends_laws))]
 fn variant_expression<'p>(
-    here: Here<'p>,
+    here: &Here<'p>,
     notes: &mut Notes,
     ty: &'p Ty,
     number: Num,
     content: &'p Value,
 ) -> Result<Valued<'p>, Halt>
-    requires { SoundValue (surround_of here) (Value.Variant ty.now number content.now) }
-    ensures given { Gives value_in result (valued here.entry.memory.now (surround_of here.entry) (Value.Variant ty.now number content.now) (seen notes.old)) (seen notes.new) }
-    ensures ty { IfOk result (λ v. type_of_value here.entry.locals.now (Value.Variant ty.now number content.now) ≡ Some (ty_of v.ty)) }
+    requires { SoundValue (surround_of here.now) (Value.Variant ty.now number content.now) }
+    ensures given { Gives value_in result (valued here.now.memory.now (surround_of here.now) (Value.Variant ty.now number content.now) (seen notes.old)) (seen notes.new) }
+    ensures ty { IfOk result (λ v. type_of_value here.now.locals.now (Value.Variant ty.now number content.now) ≡ Some (ty_of v.ty)) }
     ensures kept { Extends (seen notes.old) (seen notes.new) }
 {
     let v = valued(here, notes, content)?;
@@ -214,15 +214,15 @@ fn variant_expression<'p>(
 #[cycle(evaluated)]
 #[tactic(auto, using(crate::proofs::EvalRuns::eval_laws, crate::proofs::SoundParts::sound_laws, crate::proofs::SoundParts::type_facts, crate::proofs::SoundParts::int_fits, mr_wf::proofs::TypeLaws::type_laws, crate::proofs::ExtendsLaws::extends_laws))]
 fn union_expression<'p>(
-    here: Here<'p>,
+    here: &Here<'p>,
     notes: &mut Notes,
     ty: &'p Ty,
     number: u64,
     content: &'p Value,
 ) -> Result<Valued<'p>, Halt>
-    requires { SoundValue (surround_of here) (Value.Union ty.now number content.now) }
-    ensures given { Gives value_in result (valued here.entry.memory.now (surround_of here.entry) (Value.Union ty.now number content.now) (seen notes.old)) (seen notes.new) }
-    ensures ty { IfOk result (λ v. type_of_value here.entry.locals.now (Value.Union ty.now number content.now) ≡ Some (ty_of v.ty)) }
+    requires { SoundValue (surround_of here.now) (Value.Union ty.now number content.now) }
+    ensures given { Gives value_in result (valued here.now.memory.now (surround_of here.now) (Value.Union ty.now number content.now) (seen notes.old)) (seen notes.new) }
+    ensures ty { IfOk result (λ v. type_of_value here.now.locals.now (Value.Union ty.now number content.now) ≡ Some (ty_of v.ty)) }
     ensures kept { Extends (seen notes.old) (seen notes.new) }
 {
     let v = valued(here, notes, content)?;
@@ -233,14 +233,14 @@ fn union_expression<'p>(
 #[cycle(evaluated)]
 #[tactic(auto, using(crate::proofs::EvalRuns::eval_laws, crate::proofs::SoundParts::sound_laws, crate::proofs::SoundParts::type_facts, crate::proofs::SoundParts::int_fits, mr_wf::proofs::TypeLaws::type_laws, crate::proofs::ExtendsLaws::extends_laws))]
 fn transmute_expression<'p>(
-    here: Here<'p>,
+    here: &Here<'p>,
     notes: &mut Notes,
     ty: &'p Ty,
     operand: &'p Value,
 ) -> Result<Valued<'p>, Halt>
-    requires { SoundValue (surround_of here) (Value.Transmute ty.now operand.now) }
-    ensures given { Gives value_in result (valued here.entry.memory.now (surround_of here.entry) (Value.Transmute ty.now operand.now) (seen notes.old)) (seen notes.new) }
-    ensures ty { IfOk result (λ v. type_of_value here.entry.locals.now (Value.Transmute ty.now operand.now) ≡ Some (ty_of v.ty)) }
+    requires { SoundValue (surround_of here.now) (Value.Transmute ty.now operand.now) }
+    ensures given { Gives value_in result (valued here.now.memory.now (surround_of here.now) (Value.Transmute ty.now operand.now) (seen notes.old)) (seen notes.new) }
+    ensures ty { IfOk result (λ v. type_of_value here.now.locals.now (Value.Transmute ty.now operand.now) ≡ Some (ty_of v.ty)) }
     ensures kept { Extends (seen notes.old) (seen notes.new) }
 {
     let v = valued(here, notes, operand)?;
@@ -251,15 +251,15 @@ fn transmute_expression<'p>(
 #[cycle(evaluated)]
 #[tactic(auto, using(crate::proofs::EvalRuns::eval_laws, crate::proofs::SoundParts::sound_laws, crate::proofs::SoundParts::type_facts, crate::proofs::SoundParts::int_fits, mr_wf::proofs::TypeLaws::type_laws, crate::proofs::ExtendsLaws::extends_laws))]
 fn binary_expression<'p>(
-    here: Here<'p>,
+    here: &Here<'p>,
     notes: &mut Notes,
     op: BinaryOp,
     left: &'p Value,
     right: &'p Value,
 ) -> Result<Valued<'p>, Halt>
-    requires { SoundValue (surround_of here) (Value.Binary op left.now right.now) }
-    ensures given { Gives value_in result (valued here.entry.memory.now (surround_of here.entry) (Value.Binary op left.now right.now) (seen notes.old)) (seen notes.new) }
-    ensures ty { IfOk result (λ v. type_of_value here.entry.locals.now (Value.Binary op left.now right.now) ≡ Some (ty_of v.ty)) }
+    requires { SoundValue (surround_of here.now) (Value.Binary op left.now right.now) }
+    ensures given { Gives value_in result (valued here.now.memory.now (surround_of here.now) (Value.Binary op left.now right.now) (seen notes.old)) (seen notes.new) }
+    ensures ty { IfOk result (λ v. type_of_value here.now.locals.now (Value.Binary op left.now right.now) ≡ Some (ty_of v.ty)) }
     ensures kept { Extends (seen notes.old) (seen notes.new) }
 {
     let a = valued(here, notes, left)?;
@@ -282,12 +282,12 @@ fn beside<T: Drop, U: Drop>(thing: T, answer: Result<U, Halt>) -> Result<(T, U),
 #[cycle(evaluated)]
 #[tactic(auto, using(crate::proofs::SoundParts::row_laws, crate::proofs::ExtendsLaws::extends_laws))]
 fn each_valued<'p>(
-    here: Here<'p>,
+    here: &Here<'p>,
     notes: &mut Notes,
     values: &'p [Value],
 ) -> Result<Items<Val>, Halt>
-    requires { SoundValues (surround_of here) values.now }
-    ensures given { Gives same result (each_valued here.entry.memory.now (surround_of here.entry) values.now (seen notes.old)) (seen notes.new) }
+    requires { SoundValues (surround_of here.now) values.now }
+    ensures given { Gives same result (each_valued here.now.memory.now (surround_of here.now) values.now (seen notes.old)) (seen notes.new) }
     ensures kept { Extends (seen notes.old) (seen notes.new) }
 {
     let mut row = Items::new(here.alloc);

@@ -7,7 +7,8 @@ ghost use Rattle.mr_script.specs.Script.{Went, on};
 ghost use Rattle.mr_value.specs.Decode.{is_scalar};
 ghost use Rattle.mr_value.specs.Shape.{has_shape};
 ghost use Rattle.mr_value.specs.declared.val.Val.{out-Val};
-ghost use Rattle.mr_eval.specs.Answers.{Extends, Gives, outcome_of, same, seen};
+ghost use Rattle.mr_eval.specs.Answers.{Extends, Gives, outcome_of, same, seen, value_in};
+ghost use Rattle.mr_wf.specs.Known.{ty_of};
 ghost use Rattle.mr_base.specs.declared.reason.Reason.TheVariants.{InvalidValue};
 ghost use Rattle.mr_runs.specs.Pieces.{bytes_of_pieces};
 ghost use Rattle.mr_eval.specs.Evaluated.{meant_by, read_typed, referred_to};
@@ -17,14 +18,17 @@ ghost use Rattle.mr_eval.specs.Typed.{pointed, targets_of};
 
 use crate::halt::Halt;
 use crate::notes::Notes;
+use crate::placing::Placed;
 use crate::reads::lend;
 use crate::targets::{add_targets, refer_all};
+use crate::valuing::{Valued, typed};
 use mr_ast::Ty;
 use mr_base::{Pointer, Reason};
 use mr_layout::{Cache, Layout};
 use mr_mem::Memory;
 use mr_runs::View;
 use mr_value::{Val, decode, decode_scalar};
+use mr_wf::Known;
 use std::alloc::{AllocError, Global};
 
 /// The reference check of a value, which is given back.
@@ -181,26 +185,26 @@ fn note_load(
     Ok(())
 }
 
-/// The load of an integer, a bool or a pointer, noted.
+/// The load of an integer, a bool or a pointer, noted, as a value of its type.
 #[tactic(auto, using(crate::proofs::ExtendsLaws::extends_laws))]
-pub fn noted_scalar(
+pub fn noted_scalar<'p>(
     m: &Memory,
     c: &Cache,
     notes: &mut Notes,
-    p: Pointer,
-    t: &Ty,
-) -> Result<Val, Halt>
-    requires scalar { IsTrue (is_scalar t.now) }
-    requires ok { TypeOk t.now }
-    ensures given { Gives same result (read_typed m.now t.now p (seen notes.old)) (seen notes.new) }
+    p: Placed<'p>,
+) -> Result<Valued<'p>, Halt>
+    requires scalar { IsTrue (is_scalar p.ty.now) }
+    requires ok { TypeOk p.ty.now }
+    ensures given { Gives value_in result (read_typed m.now p.entry.ty.now p.entry.at (seen notes.old)) (seen notes.new) }
+    ensures ty { IfOk result (λ v. ty_of v.ty ≡ p.entry.ty.now) }
     ensures kept { Extends (seen notes.old) (seen notes.new) }
-    ensures shape { IfOk result (λ v. has_shape t.now v ≡ true) }
+    ensures shape { IfOk result (λ v. has_shape p.entry.ty.now v.value ≡ true) }
 {
-    let layout = c.layout(t);
-    match load_sized(m, p, t, layout) {
+    let layout = c.layout(p.ty);
+    match load_sized(m, p.at, p.ty, layout) {
         Ok(v) => {
-            note_load(notes, p, layout.size, target_of(t, &v))?;
-            Ok(v)
+            note_load(notes, p.at, layout.size, target_of(p.ty, &v))?;
+            Ok(typed(v, Known::Written(p.ty)))
         }
         Err(reason) => Err(Halt::Undefined(reason)),
     }

@@ -25,6 +25,14 @@ impl Notes {
         }
     }
 
+    /// Forgets all that was noted.
+    pub fn clear(&mut self)
+        ensures { seen self.new ≡ record { accesses = []; touched = [] } }
+    {
+        self.accesses.clear();
+        self.touched.clear();
+    }
+
     /// Notes what a range check of this pointer and length touches.
     #[tactic(auto, using(crate::proofs::ExtendsLaws::extends_laws))]
     pub fn touch(&mut self, p: Pointer, len: u64) -> Result<(), AllocError>

@@ -46,6 +46,18 @@ impl Scene {
         }
     }
 
+    /// The same memory in the next step, that of a thread which has made so many allocations: nothing is noted yet.
+    pub fn begin(&mut self, thread: u32, count: u64)
+        ensures { world_of self.new ≡ (self.old.memory, start_tally thread count) }
+    {
+        self.notes.clear();
+        self.made.clear();
+        self.ranges.clear();
+        self.freed.clear();
+        self.thread = thread;
+        self.count = count;
+    }
+
     /// A new allocation of the thread at a picked address. Size and alignment are in bytes.
     pub fn allocate(
         &mut self,

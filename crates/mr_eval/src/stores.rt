@@ -1,7 +1,7 @@
 //! Stores, each noted.
 ghost use Rattle.std.specs.Prelude.{◌≡◌, ◌≤◌, false, true, take, OnErr, OnOk};
+ghost use Rattle.mr_runs.specs.Numbers.{with_provenance};
 ghost use Rattle.mr_value.specs.Encode.{blank};
-ghost use Rattle.mr_value.specs.Numbers.{initialised};
 ghost use Rattle.mr_eval.specs.Answers.{Extends, seen};
 ghost use Rattle.mr_eval.specs.Environment.{Leaves};
 ghost use Rattle.mr_eval.specs.Reads.{accessing, seeing, touching};
@@ -55,7 +55,7 @@ pub fn store_scalar(
     align: u64,
 ) -> Result<(), Fault>
     requires { bytes.now.count ≤ 16 }
-    ensures given { Leaves result (storing m.old false p (initialised bytes.now.provenance (take bytes.now.count bytes.now.all)) align (seen notes.old)) m.new (seen notes.new) }
+    ensures given { Leaves result (storing m.old false p (with_provenance bytes.now.provenance (take bytes.now.count bytes.now.all)) align (seen notes.old)) m.new (seen notes.new) }
     ensures kept { Extends (seen notes.old) (seen notes.new) }
     ensures err { OnErr result (m.new ≡ m.old) }
 {

@@ -63,25 +63,47 @@ pub fn load(
     ensures kept { Extends (seen notes.old) (seen notes.new) }
     ensures shape { IfOk result (λ v. has_shape p.entry.ty.now v ≡ true) }
 {
-    if is_scalar(p.ty) {
-        return noted_scalar(m, c, notes, p.at, p.ty);
+    if !is_scalar(p.ty) {
+        return load_parts(alloc, c, m, notes, p);
     }
+    match noted_scalar(m, c, notes, p) {
+        Ok(v) => Ok(v.value),
+        Err(halt) => Err(halt),
+    }
+}
+
+// The load of a place of a type with parts.
+fn load_parts(
+    alloc: Global,
+    c: &Cache,
+    m: &Memory,
+    notes: &mut Notes,
+    p: Placed<'_>,
+) -> Result<Val, Halt>
+    requires { TypeOk p.ty.now }
+    ensures given { Gives same result (read_typed m.now p.entry.ty.now p.entry.at (seen notes.old)) (seen notes.new) }
+    ensures kept { Extends (seen notes.old) (seen notes.new) }
+    ensures shape { IfOk result (λ v. has_shape p.entry.ty.now v ≡ true) }
+{
     let layout = c.layout(p.ty);
     read_typed(alloc, m, notes, p.at, p.ty, layout.size, layout.align)
 }
 
 /// The load of a place, as a value of its type.
 pub fn loaded_value<'p>(
-    here: Here<'p>,
+    here: &Here<'p>,
     notes: &mut Notes,
     p: Placed<'p>,
 ) -> Result<Valued<'p>, Halt>
     requires { TypeOk p.ty.now }
-    ensures given { Gives value_in result (read_typed here.entry.memory.now p.entry.ty.now p.entry.at (seen notes.old)) (seen notes.new) }
+    ensures given { Gives value_in result (read_typed here.now.memory.now p.entry.ty.now p.entry.at (seen notes.old)) (seen notes.new) }
     ensures ty { IfOk result (λ v. ty_of v.ty ≡ p.entry.ty.now) }
     ensures kept { Extends (seen notes.old) (seen notes.new) }
 {
-    match load(here.alloc, here.cache, here.memory, notes, p) {
+    if is_scalar(p.ty) {
+        return noted_scalar(here.memory, here.cache, notes, p);
+    }
+    match load_parts(here.alloc, here.cache, here.memory, notes, p) {
         Ok(value) => Ok(typed(value, Known::Written(p.ty))),
         Err(halt) => Err(halt),
     }
@@ -223,7 +245,7 @@ pub fn union_value<'p>(
 
 /// The bytes of a value, taken for another type of the same size.
 pub fn transmuted_value<'p>(
-    here: Here<'p>,
+    here: &Here<'p>,
     notes: &mut Notes,
     to: &'p Ty,
     v: Valued<'p>,
@@ -232,7 +254,7 @@ pub fn transmuted_value<'p>(
     requires from_ok { TypeOk (ty_of v.ty) }
     requires shape { has_shape (ty_of v.ty) v.value ≡ true }
     requires same { size_of (ty_of v.ty) ≡ size_of to.now }
-    ensures given { Gives value_in result (transmuted_to here.entry.memory.now to.entry.now (Some (ty_of v.entry.ty)) v.entry.value (seen notes.old)) (seen notes.new) }
+    ensures given { Gives value_in result (transmuted_to here.now.memory.now to.entry.now (Some (ty_of v.entry.ty)) v.entry.value (seen notes.old)) (seen notes.new) }
     ensures ty { IfOk result (λ w. ty_of w.ty ≡ to.entry.now) }
     ensures kept { Extends (seen notes.old) (seen notes.new) }
 {
@@ -255,14 +277,14 @@ fn given(op: BinaryOp, left: Known<'_>) -> Known<'_>
 
 /// An operator with two operands.
 pub fn binary_value<'p>(
-    here: Here<'p>,
+    here: &Here<'p>,
     notes: &mut Notes,
     op: BinaryOp,
     a: Valued<'p>,
     b: Valued<'p>,
 ) -> Result<Valued<'p>, Halt>
     requires { is_some (result_type op (ty_of a.ty)) ≡ true }
-    ensures given { Gives value_in result (run (reading here.entry.memory.now) (operated (kind_of op) (integer_of (ty_of a.entry.ty)) (integer_of (ty_of b.entry.ty)) (out-Val a.entry.value) (out-Val b.entry.value)) (seen notes.old)) (seen notes.new) }
+    ensures given { Gives value_in result (run (reading here.now.memory.now) (operated (kind_of op) (integer_of (ty_of a.entry.ty)) (integer_of (ty_of b.entry.ty)) (out-Val a.entry.value) (out-Val b.entry.value)) (seen notes.old)) (seen notes.new) }
     ensures ty { IfOk result (λ w. result_type op (ty_of a.entry.ty) ≡ Some (ty_of w.ty)) }
     ensures kept { Extends (seen notes.old) (seen notes.new) }
 {

@@ -18,23 +18,36 @@ fn checked(alloc: Global, text: &str) -> Result<Checked, Fail> {
     }
 }
 
-// The step of an entry, within the number of steps that is allowed for.
-fn step(machine: &mut Machine, entry: &Entry, foot: &mut Footprint) -> Result<Turn, StepFault> {
-    if machine.completed() < 1_000_000 {
+// The step of an entry, within the number of steps that is allowed for. The footprint is handed out or not.
+fn step(
+    machine: &mut Machine,
+    entry: &Entry,
+    foot: &mut Footprint,
+    handed: bool,
+) -> Result<Turn, StepFault> {
+    if machine.completed() >= 1_000_000 {
+        return Err(StepFault::Failed);
+    }
+    if handed {
         machine.step(entry, foot)
     } else {
-        Err(StepFault::Failed)
+        machine.go(entry)
     }
 }
 
 // The verdict before the first entry; a line for each entry, with its answer, the verdict behind it and the number of prints; and a
 // line for each print.
-fn told(alloc: Global, machine: &mut Machine, entries: &[Entry]) -> Result<String, Fail> {
+fn told(
+    alloc: Global,
+    machine: &mut Machine,
+    entries: &[Entry],
+    handed: bool,
+) -> Result<String, Fail> {
     let mut told = String::new(alloc);
     told.push_str(format!(in alloc; "{:?} {}\n", machine.verdict(), machine.lines())?.as_str())?;
     let mut foot = quiet(alloc, 0);
     for entry in entries {
-        let turn = step(machine, entry, &mut foot);
+        let turn = step(machine, entry, &mut foot, handed);
         let verdict = machine.verdict();
         let prints = machine.lines();
         told.push_str(format!(in alloc; "{turn:?} {verdict:?} {prints}\n")?.as_str())?;
@@ -47,15 +60,15 @@ fn told(alloc: Global, machine: &mut Machine, entries: &[Entry]) -> Result<Strin
     Ok(told)
 }
 
-// What the run of a program under a schedule comes to.
-fn run(alloc: Global, program: &str, schedule: &str) -> Result<String, Fail> {
+// What the run of a program under a schedule comes to, where footprints are handed out or not.
+fn run(alloc: Global, program: &str, schedule: &str, handed: bool) -> Result<String, Fail> {
     let program = checked(alloc, program)?;
     let schedule = match mr_sched::read(alloc, schedule.as_bytes()) {
         Ok(schedule) => schedule,
         Err(_) => return Err("no schedule".into()),
     };
     match Machine::start(alloc, &program, schedule.start.as_slice()) {
-        Ok(mut machine) => told(alloc, &mut machine, schedule.entries.as_slice()),
+        Ok(mut machine) => told(alloc, &mut machine, schedule.entries.as_slice(), handed),
         Err(fault) => Ok(format!(in alloc; "{fault:?}\n")?),
     }
 }
@@ -225,8 +238,10 @@ Ok(Went) Running 0
 fn runs_are_told(rt: HostRuntime) -> Result<(), Fail> {
     for (piece, schedule, wanted) in CASES {
         let program = format!(in rt.alloc(); "{HEAD}{piece}{TAIL}")?;
-        let said = run(rt.alloc(), program.as_str(), schedule)?;
-        assert_eq!(rt; said.as_str(), wanted, "{piece}");
+        for handed in [true, false] {
+            let said = run(rt.alloc(), program.as_str(), schedule, handed)?;
+            assert_eq!(rt; said.as_str(), wanted, "{piece}");
+        }
     }
     Ok(())
 }

@@ -1,9 +1,9 @@
 -- What the next step of a thread asks for, in a machine that stands.
-use Rattle.std.proofs.Common.{◌≡◌, ℕ, ◌<◌, refl, sym, ap, ◌∙◌, subst, arith, List, length, Bool, true, false, Option, Some, None}
+use Rattle.std.proofs.Common.{◌≡◌, ℕ, ◌<◌, refl, ap, ◌∙◌, arith, length, Bool, true, false, Some}
 use Rattle.std.specs.Prelude.{slice_get}
 use Rattle.std.proofs.lemmas.Option.{same_Some}
 use Rattle.mr_base.specs.declared.reason.Verdict.TheVariants.{Running}
-use Rattle.mr_plan.specs.Machine.{State, Thread, needed, needs, needs_of}
+use Rattle.mr_plan.specs.Machine.{State, needed, needs, needs_of}
 use Rattle.mr_plan.specs.Notes.{start_notes}
 use Rattle.mr_plan.specs.Queries.{answer}
 use Rattle.mr_script.specs.Script.{run}
@@ -15,7 +15,7 @@ use Rattle.mr_turn.specs.Turning.{planned}
 use Rattle.mr_step.specs.declared.progress.Progress.{Progress}
 use Rattle.mr_step.specs.declared.progress.Thread.{Thread as KeptThread}
 use Rattle.mr_step.specs.Advance.{BeginsAct, CanAsk, IsDue}
-use Rattle.mr_step.specs.Kept.{config_of, state_of, state_unless}
+use Rattle.mr_step.specs.Kept.{state_of, state_unless}
 use Rattle.mr_step.proofs.SoundLaws.{begins_act, own_is, thread_here, thread_there}
 
 -- neither the verdict nor how many steps were completed counts here
@@ -35,10 +35,10 @@ module _ (look : KeptLook) (t : ℕ) (p : Progress) (c : CanAsk look t p) where
   asked_there = thread_there look t (counted p) (due look t p c)
 
   module _ (th : KeptThread) (here : slice_get p.threads.items t ≡ Some th) where
-    pub asked_begins : BeginsAct look t th p.memory p.sync
+    pub asked_begins : BeginsAct look t th p.scene.memory p.sync
     asked_begins = begins_act look t (counted p) (due look t p c) th here
 
-    pub needs_here : needs (thread_step (look_of look)) (state_of p) t ≡ step_needs look th.stack p.memory p.sync t th.count
+    pub needs_here : needs (thread_step (look_of look)) (state_of p) t ≡ step_needs look th.stack p.scene.memory p.sync t th.count
     unfolding planned
     needs_here =
         ap (needed (thread_step (look_of look)) (state_of p) t) (thread_here look t (counted p) (due look t p c) th here)

@@ -1,5 +1,5 @@
 -- What a completed step leaves.
-use Rattle.std.proofs.Common.{◌≡◌, ℕ, ◌+◌, ◌++◌, sym, ap, ◌∙◌, List, [], ◌∷◌, map, length, true, false, Some}
+use Rattle.std.proofs.Common.{◌≡◌, ℕ, ◌+◌, ◌++◌, sym, ap, ◌∙◌, List, map, length, true, false, Some}
 use Rattle.std.specs.Prelude.{slice_set}
 use Rattle.std.specs.Option.{option_map}
 use Rattle.mr_event.specs.declared.footprint.Footprint.{Footprint}
@@ -8,7 +8,7 @@ use Rattle.mr_eval.specs.Tally.{Tally}
 use Rattle.mr_eval.specs.declared.scene.Scene.{Scene}
 use Rattle.mr_plan.specs.Machine.{Completed, State, Thread, settle, started_threads}
 use Rattle.mr_plan.specs.Notes.{Notes, foot_of}
-use Rattle.mr_plan.specs.Runs.{after_bare, foot_in, foot_of_bare, printed_by}
+use Rattle.mr_plan.specs.Runs.{after_bare, foot_in, printed_by}
 use Rattle.mr_frame.specs.declared.flow.Flow.{Flow}
 use Rattle.mr_frame.specs.declared.flow.Flow.TheVariants as flow
 use Rattle.mr_frame.specs.declared.stack.Stack.{Stack as KeptStack}
@@ -16,7 +16,6 @@ use Rattle.mr_thread.specs.Steps.{Own}
 use Rattle.mr_turn.specs.declared.deed.Deed.{Deed}
 use Rattle.mr_turn.specs.Turning.{is_end, own_of, printed_lines, shared_in, turn_by}
 use Rattle.mr_step.specs.declared.progress.Progress.{Progress}
-use Rattle.mr_step.specs.Answers.{completed}
 use Rattle.mr_step.specs.Kept.{config_of, numbered, printed_of, standing_thread, state_of, state_unless}
 use Rattle.mr_step.specs.Settling.{IsOn, LeadsTo, Tells, bare_by, foot_by, verdict_in}
 use Rattle.mr_step.proofs.Numbered.{numbered_length}
@@ -37,7 +36,7 @@ foot_is m s d n h = λ i. record {
 -- what is kept behind a completed step of thread t with this footprint, by what was kept before and this new stack
 pub record IsBehind (p : Progress) (t : ℕ) (s : Scene) (d : Deed) (stack : KeptStack) (f : Footprint) (q : Progress) : Type 0 where
   pub foot : f ≡ foot_by s d
-  pub memory : q.memory ≡ s.memory
+  pub memory : q.scene.memory ≡ s.memory
   pub sync : q.sync ≡ p.sync
   pub gone : q.gone ≡ p.gone
   pub threads : numbered 0 q.threads.items
@@ -87,11 +86,8 @@ module _ (p : Progress) (t : ℕ) (s : Scene) (d : Deed) (stack : KeptStack) (n 
 
   -- where it leads, by what is kept behind it
   pub leads : IsOn d.flow → (there : p.gone ≡ false) (q : Progress) (f : Footprint) → IsBehind p t s d stack f q
-      → (foot : Footprint) → LeadsTo (bare_by (state_of p) t stack p.sync s d n) (config_of p) (config_of q) foot f
-  leads on there q f b foot = record {
-    config = config_is ∙ sym (ap (after_bare (config_of p)) (completes on));
-    foot = completed (ap foot_of_bare (completes on) ∙ ap (λ x. x ∷ []) (sym told)) b.completed;
-  }
+      → LeadsTo (bare_by (state_of p) t stack p.sync s d n) (config_of p) (config_of q)
+  leads on there q f b = config_is ∙ sym (ap (after_bare (config_of p)) (completes on))
     where
       told : f ≡ foot_in n state_behind
       told = b.foot ∙ sym (foot_is s.memory s d n tells)

@@ -1,17 +1,18 @@
 -- What an entry comes to, by the state in which it finds the machine.
-use Rattle.std.proofs.Common.{◌≡◌, ap, ◌∙◌, refl, Bool, true, false, Option, Some, None}
+use Rattle.std.proofs.Common.{◌≡◌, ◌+◌, ap, ◌∙◌, refl, List, [], ◌∷◌, Bool, true, false, Option, Some, None}
 use Rattle.std.specs.Prelude.{slice_get, if◌then◌else◌}
 use Rattle.mr_base.specs.declared.reason.Verdict.{Verdict}
 use Rattle.mr_base.specs.declared.reason.Verdict.TheVariants as verdict
 use Rattle.mr_base.specs.declared.thread.Status.{Status}
 use Rattle.mr_base.specs.declared.thread.Status.TheVariants.{Enabled, Ended, OnJoin, OnLock}
+use Rattle.mr_event.specs.declared.footprint.Footprint.{Footprint}
 use Rattle.mr_sched.specs.declared.schedule.Entry.{Entry}
 use Rattle.mr_sync.specs.Tables.{is_enabled}
 use Rattle.mr_plan.specs.Legal.{Fault, count_of, else_fault, fault, needs_fault, status_fault}
-use Rattle.mr_plan.specs.Machine.{State, Thread, acted, bare, needed, needs, settled}
+use Rattle.mr_plan.specs.Machine.{Bare, Completed, IllFormedStep, State, Stops, Thread, acted, bare, needed, needs, settled}
 use Rattle.mr_plan.specs.Notes.{Notes, start_notes}
 use Rattle.mr_plan.specs.Queries.{Shared}
-use Rattle.mr_plan.specs.Runs.{Config, after_bare, entry_fault, fault_in, foot_from, foot_of_bare, is_running, machine_step, stepped_from}
+use Rattle.mr_plan.specs.Runs.{Config, after_bare, entry_fault, fault_in, foot_from, foot_in, foot_of_bare, is_running, machine_step, stepped_from}
 use Rattle.mr_frame.specs.Frames.{Look}
 use Rattle.mr_thread.specs.Steps.{Own, thread_step}
 use Rattle.mr_turn.specs.Turning.{picks_break, planned, turned}
@@ -87,10 +88,25 @@ module _ (look : Look) (c : Config Own) (e : Entry) where
       unfolding turned
       bare_is = ap (acted (thread_step look) s e.thread e.picks) here
 
-      -- where the entry leads, and the footprint of its step
+      -- where the entry leads
       pub step_is : machine_step (thread_step look) c e ≡ after_bare c (settled s e.thread (turned look th.own e.picks w))
       unfolding machine_step
       step_is = ap (stepped_from (thread_step look) c e.thread e.picks) state ∙ ap (after_bare c) bare_is
 
-      pub feet_are : foot_from (thread_step look) e.thread e.picks c.state ≡ foot_of_bare (settled s e.thread (turned look th.own e.picks w))
-      feet_are = ap (foot_from (thread_step look) e.thread e.picks) state ∙ ap foot_of_bare bare_is
+-- What the step of an entry leaves of footprints: that of a step that completed is the last one behind it.
+pub data Left (c : Config Own) (feet : List Footprint) (c' : Config Own) : Type 0 where
+  made : (f : Footprint) → feet ≡ f ∷ [] → c'.completed ≡ c.completed + 1 → c'.last ≡ Some f → Left c feet c'
+  none : feet ≡ [] → c'.completed ≡ c.completed → Left c feet c'
+
+left_bare : (c : Config Own) (b : Bare Own) → Left c (foot_of_bare b) (after_bare c b)
+left_bare c (Completed n s) = made (foot_in n s) refl refl refl
+left_bare c (Stops v) = none refl refl
+left_bare c IllFormedStep = none refl refl
+
+pub left_by : (look : Look) (c : Config Own) (e : Entry) → Left c (foot_from (thread_step look) e.thread e.picks c.state) (machine_step (thread_step look) c e)
+unfolding machine_step
+left_by look c e = in_state c.state
+  where
+    in_state : (o : Option (State Own)) → Left c (foot_from (thread_step look) e.thread e.picks o) (stepped_from (thread_step look) c e.thread e.picks o)
+    in_state None = none refl refl
+    in_state (Some s) = left_bare c (bare (thread_step look) s e.thread e.picks)

@@ -65,12 +65,12 @@ module _ (look : KeptLook) (t : ℕ) (p : Progress) (due : IsDue look t p) where
     fits : (th.ended ≡ false) × FitsStack look.program.now (stack_of th.stack)
     fits = not_ended look.program.now th.ended th.stack (sound.fits t Enabled (thread_as t th) due.enabled thread_here)
 
-    pub begins_act : BeginsAct look t th p.memory p.sync
+    pub begins_act : BeginsAct look t th p.scene.memory p.sync
     begins_act = record {
       ready = due.before.ready;
       fits = fits.1;
       enabled = due.enabled;
-      uncounted = uncounted p.memory (state_of p).threads sound.counted t (thread_as t th) thread_here;
+      uncounted = uncounted p.scene.memory (state_of p).threads sound.counted t (thread_as t th) thread_here;
     }
 
     pub own_is : (thread_as t th).own ≡ record { thread = t; stack = stack_of th.stack }

@@ -7,7 +7,6 @@ use Rattle.std.specs.Option.{option_map}
 use Rattle.mr_base.specs.declared.reason.Reason.{Reason}
 use Rattle.mr_base.specs.declared.reason.Verdict.{Verdict}
 use Rattle.mr_base.specs.declared.reason.Verdict.TheVariants as verdict
-use Rattle.mr_event.specs.declared.footprint.Footprint.{Footprint}
 use Rattle.mr_eval.specs.Tally.{start_tally}
 use Rattle.mr_eval.specs.World.{tally_of, world_of}
 use Rattle.mr_eval.specs.declared.scene.Scene.{Scene}
@@ -19,7 +18,7 @@ use Rattle.mr_plan.specs.Legal.{Fault}
 use Rattle.mr_plan.specs.Machine.{Aborts, Bare, Completed, Exits, Flow as Ways, Goes, IllFormedStep, State, Stops, Thread, settle, settled, started_threads, thread_of}
 use Rattle.mr_plan.specs.Notes.{Notes}
 use Rattle.mr_plan.specs.Queries.{Shared}
-use Rattle.mr_plan.specs.Runs.{Config, after_bare, entry_fault, foot_of_bare}
+use Rattle.mr_plan.specs.Runs.{Config, after_bare, entry_fault}
 use Rattle.mr_frame.specs.declared.flow.Flow.{Flow}
 use Rattle.mr_frame.specs.declared.flow.Flow.TheVariants as flow
 use Rattle.mr_frame.specs.declared.look.Look.{Look as KeptLook}
@@ -34,11 +33,11 @@ use Rattle.mr_turn.specs.Turning.{own_of, picks_break, planned, shared_in, turn_
 use Rattle.mr_step.specs.declared.progress.Progress.{Progress}
 use Rattle.mr_step.specs.declared.progress.Thread.{Thread as KeptThread}
 use Rattle.mr_step.specs.Advance.{ActAnswer, Acts, AdvanceAnswer, Advances, IsDue, Keeps, Stays, WithoutAnswer, act_fault, act_outcome, world_at}
-use Rattle.mr_step.specs.Answers.{Hands, fault_of, stopped}
+use Rattle.mr_step.specs.Answers.{fault_of}
 use Rattle.mr_step.specs.declared.fault.StepFault.{StepFault}
 use Rattle.mr_step.specs.Kept.{config_of, numbered, state_of, state_unless}
 use Rattle.mr_step.specs.Settling.{LeadsTo, Settles, Tells, bare_by}
-use Rattle.mr_step.proofs.EntryLaws.{fault_is, feet_are, step_is}
+use Rattle.mr_step.proofs.EntryLaws.{fault_is, step_is}
 use Rattle.mr_step.proofs.Numbered.{numbered_set, set_twice, thread_as}
 use Rattle.mr_step.proofs.SoundLaws.{own_is, sound, state_is, thread_here}
 use Rattle.mr_plan.proofs.Positions.{set_here}
@@ -72,8 +71,8 @@ set_same (y ∷ xs) zero x h = ap (λ z. z ∷ xs) (sym (same_Some y x h))
 set_same (y ∷ xs) (suc i) x h = ap (λ zs. y ∷ zs) (set_same xs i x h)
 
 -- where a step leads that itself stops
-pub stops_leads : (p : Progress) (v : Verdict) (foot : Footprint) → LeadsTo (Stops v) (config_of p) (config_of (record p { gone = true; verdict = v })) foot foot
-stops_leads p v foot = record { config = refl; foot = stopped refl refl refl }
+pub stops_leads : (p : Progress) (v : Verdict) → LeadsTo (Stops v) (config_of p) (config_of (record p { gone = true; verdict = v }))
+stops_leads p v = refl
 
 -- the scene of a step that begins
 module _ (m : Memory) (t n : ℕ) (s : Scene) (world : world_of s ≡ (m, start_tally t n)) where
@@ -107,7 +106,7 @@ module _ (look : KeptLook) (e : Entry) (p : Progress) (due : IsDue look e.thread
   s = state_of p
 
   abbrev outcome : Outcome Turn (Shared × Notes)
-  outcome = act_outcome l t e.picks th p.memory p.sync
+  outcome = act_outcome l t e.picks th p.scene.memory p.sync
 
   there : (config_of p).state ≡ Some s
   there = state_is p due.there
@@ -119,33 +118,32 @@ module _ (look : KeptLook) (e : Entry) (p : Progress) (due : IsDue look e.thread
   own = own_is look t p due th here
 
   -- the rule that the entry breaks is the one that its picks break
-  pub legal_is : entry_fault (thread_step l) (config_of p) e ≡ act_fault l t e.picks th p.memory p.sync
+  pub legal_is : entry_fault (thread_step l) (config_of p) e ≡ act_fault l t e.picks th p.scene.memory p.sync
   legal_is =
       fault_is l (config_of p) e s there (thread_as t th) at due.running due.enabled
-      ∙ ap (λ (o : Own). picks_break (world_at t th p.memory p.sync) (planned l o (world_at t th p.memory p.sync)) e.picks) own
+      ∙ ap (λ (o : Own). picks_break (world_at t th p.scene.memory p.sync) (planned l o (world_at t th p.scene.memory p.sync)) e.picks) own
 
-  settled_is : settled s t (turned l (thread_as t th).own e.picks (world_at t th p.memory p.sync)) ≡ settled s t outcome
-  settled_is = ap (λ (o : Own). settled s t (turned l o e.picks (world_at t th p.memory p.sync))) own
+  settled_is : settled s t (turned l (thread_as t th).own e.picks (world_at t th p.scene.memory p.sync)) ≡ settled s t outcome
+  settled_is = ap (λ (o : Own). settled s t (turned l o e.picks (world_at t th p.scene.memory p.sync))) own
 
   -- a legal entry leads where the bare step of its turn does
-  pub leads_on : (b : Bare Own) (q : Progress) (foot foot' : Footprint) → act_fault l t e.picks th p.memory p.sync ≡ None → settled s t outcome ≡ b
-      → LeadsTo b (config_of p) (config_of q) foot foot' → Advances l e (config_of p) (config_of q) foot foot'
-  leads_on b q foot foot' legal is h = record {
+  pub leads_on : (b : Bare Own) (q : Progress) → act_fault l t e.picks th p.scene.memory p.sync ≡ None → settled s t outcome ≡ b
+      → LeadsTo b (config_of p) (config_of q) → Advances l e (config_of p) (config_of q)
+  leads_on b q legal is h = record {
     legal = legal_is ∙ legal;
-    after = h.config ∙ sym (step_is l (config_of p) e s there (thread_as t th) at ∙ ap (after_bare (config_of p)) (settled_is ∙ is));
-    foot = subst (λ (fs : List Footprint). Hands fs p.completed q.completed foot foot') (sym (feet_are l (config_of p) e s there (thread_as t th) at ∙ ap foot_of_bare (settled_is ∙ is))) h.foot;
+    after = h ∙ sym (step_is l (config_of p) e s there (thread_as t th) at ∙ ap (after_bare (config_of p)) (settled_is ∙ is));
   }
 
   -- the turn stops for a reason
-  pub halts : (r : Reason) (foot : Footprint) → act_fault l t e.picks th p.memory p.sync ≡ None → outcome ≡ Refused r
-      → Advances l e (config_of p) (config_of (record p { gone = true; verdict = verdict.Undefined r })) foot foot
-  halts r foot legal is = leads_on (Stops (verdict.Undefined r)) (record p { gone = true; verdict = verdict.Undefined r }) foot foot legal (ap (settled s t) is) (stops_leads p (verdict.Undefined r) foot)
+  pub halts : (r : Reason) → act_fault l t e.picks th p.scene.memory p.sync ≡ None → outcome ≡ Refused r
+      → Advances l e (config_of p) (config_of (record p { gone = true; verdict = verdict.Undefined r }))
+  halts r legal is = leads_on (Stops (verdict.Undefined r)) (record p { gone = true; verdict = verdict.Undefined r }) legal (ap (settled s t) is) (stops_leads p (verdict.Undefined r))
 
   -- the picks break a rule, and nothing changed
-  pub stays : (fault : Fault) (new : KeptThread) (m : Memory) (x : Tables) → Keeps l t e.picks th new p.memory m p.sync x fault
-      → (q : Progress) → q.threads.items ≡ slice_set p.threads.items t new → q ≡ record p { memory = m; threads = q.threads; sync = x }
-      → (foot : Footprint) → Stays l e (config_of p) (config_of q) foot foot fault
-  stays fault new m x h q threads same foot = record { broken = legal_is ∙ h.broken; same = config_is; foot = refl }
+  pub stays : (fault : Fault) (new : KeptThread) (left : Scene) (x : Tables) → Keeps l t e.picks th new p.scene.memory left.memory p.sync x fault
+      → (q : Progress) → q.threads.items ≡ slice_set p.threads.items t new → q ≡ record p { scene = left; threads = q.threads; sync = x }
+      → Stays l e (config_of p) (config_of q) fault
+  stays fault new left x h q threads same = record { broken = legal_is ∙ h.broken; same = config_is }
     where
       threads_are : numbered 0 q.threads.items ≡ numbered 0 p.threads.items
       threads_are = ap (numbered 0) (threads ∙ ap (slice_set p.threads.items t) h.thread ∙ set_same p.threads.items t th here)
@@ -161,24 +159,27 @@ module _ (look : KeptLook) (e : Entry) (p : Progress) (due : IsDue look e.thread
           }
 
   -- there is no turn
-  pub untaken : (fault : TurnFault) (new : KeptThread) (left : Scene) (x : Tables) → ActAnswer l t e.picks th new p.memory left p.sync x (Err fault)
-      → (mid q : Progress) → mid.threads.items ≡ slice_set p.threads.items t new → mid ≡ record p { memory = left.memory; threads = mid.threads; sync = x }
+  pub untaken : (fault : TurnFault) (new : KeptThread) (left : Scene) (x : Tables) → ActAnswer l t e.picks th new p.scene.memory left p.sync x (Err fault)
+      → (mid q : Progress) → mid.threads.items ≡ slice_set p.threads.items t new → mid ≡ record p { scene = left; threads = mid.threads; sync = x }
       → (result : Result (Unit {0}) StepFault) → WithoutAnswer fault mid q result
-      → (foot : Footprint) → AdvanceAnswer l e (config_of p) (config_of q) foot foot result
-  untaken (turn.Undefined r) new left x h mid q threads same result w foot =
-      subst (AdvanceAnswer l e (config_of p) (config_of q) foot foot) (sym w.0)
-      (subst (λ (y : Config Own). Advances l e (config_of p) y foot foot)
+      → AdvanceAnswer l e (config_of p) (config_of q) result
+  untaken (turn.Undefined r) new left x h mid q threads same result w =
+      subst (AdvanceAnswer l e (config_of p) (config_of q)) (sym w.0)
+      (subst (λ (y : Config Own). Advances l e (config_of p) y)
       (sym (ap config_of (w.1 ∙ ap (λ (y : Progress). record y { gone = true; verdict = verdict.Undefined r }) same)))
-      (halts r foot h.legal h.refused))
-  untaken (turn.Broken failure) new left x h mid q threads same result w foot =
-      subst (AdvanceAnswer l e (config_of p) (config_of q) foot foot) (sym w.0)
-      (subst (λ (y : Progress). Stays l e (config_of p) (config_of y) foot foot (fault_of failure.code failure.earlier)) (sym w.1)
-      (stays (fault_of failure.code failure.earlier) new left.memory x h mid threads same foot))
-  untaken turn.Memory new left x h mid q threads same result w foot = subst (AdvanceAnswer l e (config_of p) (config_of q) foot foot) (sym w) tt
+      (halts r h.legal h.refused))
+  untaken (turn.Broken failure) new left x h mid q threads same result w =
+      subst (AdvanceAnswer l e (config_of p) (config_of q)) (sym w.0)
+      (subst (λ (y : Progress). Stays l e (config_of p) (config_of y) (fault_of failure.code failure.earlier)) (sym w.1)
+      (stays (fault_of failure.code failure.earlier) new left x h mid threads same))
+  untaken turn.Memory new left x h mid q threads same result w = subst (AdvanceAnswer l e (config_of p) (config_of q)) (sym w) tt
 
   -- the turn is taken, and settled
-  module _ (mid q : Progress) (new : KeptThread) (sc : Scene) (d : Deed) (foot foot' : Footprint) (acts : Acts l t e.picks th new p.memory p.sync mid.sync sc d) (threads : mid.threads.items ≡ slice_set p.threads.items t new)
-      (same : mid ≡ record p { memory = mid.memory; threads = mid.threads; sync = mid.sync }) (settles : Settles mid q t sc d foot foot') where
+  module _ (mid q : Progress) (new : KeptThread) (d : Deed) (acts : Acts l t e.picks th new p.scene.memory p.sync mid.sync mid.scene d) (threads : mid.threads.items ≡ slice_set p.threads.items t new)
+      (same : mid ≡ record p { scene = mid.scene; threads = mid.threads; sync = mid.sync }) (settles : Settles mid q t d) where
+    abbrev sc : Scene
+    sc = mid.scene
+
     tells : Tells sc d acts.turned.notes
     tells = record {
       tally = acts.turned.tally;
@@ -216,10 +217,5 @@ module _ (look : KeptLook) (e : Entry) (p : Progress) (due : IsDue look e.thread
     base_is : config_of mid ≡ base mid
     base_is = ap (λ (x : Progress). record (config_of x) { state = (config_of mid).state }) same
 
-    pub takes : Advances l e (config_of p) (config_of q) foot foot'
-    takes =
-        let h = settles new acts.turned.notes at_mid tells in
-        leads_on bare_mid q foot foot' acts.legal bare_is (record {
-          config = h.config ∙ ap (λ (x : Config Own). after_bare x bare_mid) base_is ∙ bare_leads (config_of p) (config_of mid).state bare_mid;
-          foot = subst (λ k. Hands (foot_of_bare bare_mid) k q.completed foot foot') (ap (λ (x : Progress). x.completed) same) h.foot;
-        })
+    pub takes : Advances l e (config_of p) (config_of q)
+    takes = leads_on bare_mid q acts.legal bare_is (settles new acts.turned.notes at_mid tells ∙ ap (λ (x : Config Own). after_bare x bare_mid) base_is ∙ bare_leads (config_of p) (config_of mid).state bare_mid)

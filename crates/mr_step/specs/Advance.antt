@@ -2,7 +2,6 @@
 use Rattle.std.specs.Prelude.{◌≡◌, ℕ, ◌<◌, ◌^◌, true, false, List, length, Option, None, Some, Result, Ok, Err}
 use Rattle.mr_base.specs.declared.reason.Reason.{Reason}
 use Rattle.mr_base.specs.declared.reason.Verdict.TheVariants.{Running, Undefined}
-use Rattle.mr_event.specs.declared.footprint.Footprint.{Footprint}
 use Rattle.mr_eval.specs.declared.scene.Scene.{Scene}
 use Rattle.mr_mem.specs.Memory.{Memory}
 use Rattle.mr_sched.specs.declared.schedule.Entry.{Entry}
@@ -11,7 +10,7 @@ use Rattle.mr_sync.specs.Tables.{IsEnabled, Tables}
 use Rattle.mr_plan.specs.Legal.{Fault}
 use Rattle.mr_plan.specs.Notes.{Notes, start_notes}
 use Rattle.mr_plan.specs.Queries.{Shared}
-use Rattle.mr_plan.specs.Runs.{Config, entry_fault, foot_from, machine_step}
+use Rattle.mr_plan.specs.Runs.{Config, entry_fault, machine_step}
 use Rattle.mr_frame.specs.declared.look.Look.{Look as KeptLook}
 use Rattle.mr_frame.specs.Fits.{FitsStack}
 use Rattle.mr_frame.specs.Frames.{Look}
@@ -26,7 +25,7 @@ use Rattle.mr_step.specs.declared.fault.StepFault.{StepFault}
 use Rattle.mr_step.specs.declared.fault.StepFault.TheVariants as answer
 use Rattle.mr_step.specs.declared.progress.Progress.{Progress}
 use Rattle.mr_step.specs.declared.progress.Thread.{Thread as KeptThread}
-use Rattle.mr_step.specs.Answers.{Hands, fault_of}
+use Rattle.mr_step.specs.Answers.{fault_of}
 use Rattle.mr_step.specs.Kept.{IsSound, config_of}
 
 -- ---- the turn of a thread
@@ -110,22 +109,18 @@ pub record CanAsk (look : KeptLook) (t : ℕ) (p : Progress) : Type 0 where
   pub there : p.gone ≡ false
   pub enabled : IsEnabled t p.sync
 
--- a legal entry leads on, and its footprint is handed out
-pub record Advances (look : Look) (e : Entry) (old new : Config Own) (f f' : Footprint) : Type 0 where
+-- a legal entry leads on
+pub record Advances (look : Look) (e : Entry) (old new : Config Own) : Type 0 where
   pub legal : entry_fault (thread_step look) old e ≡ None
   pub after : new ≡ machine_step (thread_step look) old e
-  pub foot : Hands (foot_from (thread_step look) e.thread e.picks old.state) old.completed new.completed f f'
 
 -- the entry breaks this rule, and nothing changed
-pub record Stays (look : Look) (e : Entry) (old new : Config Own) (f f' : Footprint) (fault : Fault) : Type 0 where
+pub record Stays (look : Look) (e : Entry) (old new : Config Own) (fault : Fault) : Type 0 where
   pub broken : entry_fault (thread_step look) old e ≡ Some fault
   pub same : new ≡ old
-  pub foot : f' ≡ f
 
-abbrev pub AdvanceAnswer : Look → Entry → Config Own → Config Own → Footprint → Footprint → Result (Unit {0}) StepFault
-    → Type 0
-AdvanceAnswer look e old new f f' (Ok x) = Advances look e old new f f'
-AdvanceAnswer look e old new f f' (Err (answer.BadEntry code earlier)) =
-    Stays look e old new f f' (fault_of code earlier)
-AdvanceAnswer look e old new f f' (Err answer.Memory) = Unit {0}
-AdvanceAnswer look e old new f f' (Err answer.Failed) = ⊥
+abbrev pub AdvanceAnswer : Look → Entry → Config Own → Config Own → Result (Unit {0}) StepFault → Type 0
+AdvanceAnswer look e old new (Ok x) = Advances look e old new
+AdvanceAnswer look e old new (Err (answer.BadEntry code earlier)) = Stays look e old new (fault_of code earlier)
+AdvanceAnswer look e old new (Err answer.Memory) = Unit {0}
+AdvanceAnswer look e old new (Err answer.Failed) = ⊥

@@ -78,3 +78,12 @@ StepAnswer e old new f f' (Ok t) = Steps e old new f f' t
 StepAnswer e old new f f' (Err (answer.BadEntry code earlier)) = Refuses e old new f f' (fault_of code earlier)
 StepAnswer e old new f f' (Err answer.Memory) = RunsOut old new
 StepAnswer e old new f f' (Err answer.Failed) = IsFailed old new f f'
+
+-- a step of which no footprint is handed out is answered as one of which one is
+abbrev pub GoAnswer : Entry → Standing → Standing → Result Turn StepFault → Type 0
+GoAnswer e old new went = (f : Footprint) × (f' : Footprint) × StepAnswer e old new f f' went
+
+-- The footprint of the last completed step is handed out; or memory ran out, and the machine has failed.
+abbrev pub HandAnswer : Standing → Standing → Footprint → Result (Unit {0}) StepFault → Type 0
+HandAnswer old new f (Ok u) = (new ≡ old) × ((last : Footprint) → old.config.last ≡ Some last → f ≡ last)
+HandAnswer old new f (Err e) = (e ≡ answer.Memory) × (new.failed ≡ true) × (new.look ≡ old.look)

@@ -35,7 +35,7 @@ numbered n (th ∷ threads) = standing_thread n th.ended th.count th.stack ∷ n
 
 abbrev pub state_of : Progress → State Own
 state_of p = record {
-  shared = record { memory = p.memory; statuses = p.sync.statuses; holders = p.sync.holders };
+  shared = record { memory = p.scene.memory; statuses = p.sync.statuses; holders = p.sync.holders };
   threads = numbered 0 p.threads.items;
 }
 

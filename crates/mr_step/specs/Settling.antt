@@ -10,7 +10,7 @@ use Rattle.mr_eval.specs.World.{tally_of}
 use Rattle.mr_eval.specs.declared.scene.Scene.{Scene}
 use Rattle.mr_plan.specs.Machine.{Bare, State, settle}
 use Rattle.mr_plan.specs.Notes.{Notes, event_of}
-use Rattle.mr_plan.specs.Runs.{Config, after_bare, foot_of_bare, races_with}
+use Rattle.mr_plan.specs.Runs.{Config, after_bare, races_with}
 use Rattle.mr_frame.specs.declared.flow.Flow.{Flow}
 use Rattle.mr_frame.specs.declared.flow.Flow.TheVariants as flow
 use Rattle.mr_frame.specs.declared.stack.Stack.{Stack as KeptStack}
@@ -19,7 +19,6 @@ use Rattle.mr_turn.specs.declared.deed.Deed.{Deed}
 use Rattle.mr_turn.specs.Turning.{is_end, own_of, printed_lines, shared_in, turn_by}
 use Rattle.mr_step.specs.declared.progress.Progress.{Progress}
 use Rattle.mr_step.specs.declared.progress.Thread.{Thread as KeptThread}
-use Rattle.mr_step.specs.Answers.{Hands}
 use Rattle.mr_step.specs.Kept.{config_of, state_of}
 
 -- the footprint of a turn
@@ -56,10 +55,9 @@ bare_by s t stack x scene d n =
     (turn_by d.flow (own_of t stack) stack (option_map (own_of (length s.threads)) d.started))
     (shared_in scene x, n)
 
--- where a bare step leads, and what footprint is handed out
-pub record LeadsTo (b : Bare Own) (old new : Config Own) (f f' : Footprint) : Type 0 where
-  pub config : new ≡ after_bare old b
-  pub foot : Hands (foot_of_bare b) old.completed new.completed f f'
+-- where a bare step leads
+abbrev pub LeadsTo : Bare Own → Config Own → Config Own → Type 0
+LeadsTo b old new = new ≡ after_bare old b
 
 -- the thread goes on, or has ended
 abbrev pub IsOn : Flow → Type 0
@@ -74,8 +72,9 @@ pub record CanSettle (p : Progress) (t : ℕ) : Type 0 where
   pub there : p.gone ≡ false
   pub steps : p.completed < 2 ^ 32
 
--- the turn of thread t, whose new stack already stands in its place, leads from old to new
-abbrev pub Settles : Progress → Progress → ℕ → Scene → Deed → Footprint → Footprint → Type 0
-Settles old new t s d f f' =
-    (th : KeptThread) (n : Notes) → slice_get old.threads.items t ≡ Some th → Tells s d n
-    → LeadsTo (bare_by (state_of old) t th.stack old.sync s d n) (config_of old) (config_of new) f f'
+-- the turn of thread t, which left its scene and this deed, and whose new stack already stands in its place, leads from
+-- old to new
+abbrev pub Settles : Progress → Progress → ℕ → Deed → Type 0
+Settles old new t d =
+    (th : KeptThread) (n : Notes) → slice_get old.threads.items t ≡ Some th → Tells old.scene d n
+    → LeadsTo (bare_by (state_of old) t th.stack old.sync old.scene d n) (config_of old) (config_of new)

@@ -13,14 +13,11 @@ use crate::progress::{Progress, Thread};
 use crate::settle::settle;
 use mr_base::Verdict;
 use mr_eval::Scene;
-use mr_event::Footprint;
 use mr_frame::Look;
-use mr_mem::Memory;
 use mr_sched::Entry;
 use mr_sync::{Status, SyncTable};
 use mr_turn::{Deed, TurnFault, turn};
 use std::alloc::Global;
-use std::mem::replace;
 
 /// No memory holds so many allocations of one thread.
 const MOST_ALLOCATIONS: u64 = 0x4000_0000_0000_0000;
@@ -72,36 +69,23 @@ fn without(p: &mut Progress, fault: TurnFault) -> Result<(), StepFault>
 }
 
 // The step of an enabled thread, in a state in which the machine runs.
-fn take(
-    alloc: Global,
-    look: &Look<'_>,
-    p: &mut Progress,
-    entry: &Entry,
-    foot: &mut Footprint,
-) -> Result<(), StepFault>
+fn take(alloc: Global, look: &Look<'_>, p: &mut Progress, entry: &Entry) -> Result<(), StepFault>
     requires { IsDue look.now entry.now.thread p.old }
-    ensures { AdvanceAnswer (look_of look.now) entry.now (config_of p.old) (config_of p.new) foot.old foot.new result }
+    ensures { AdvanceAnswer (look_of look.now) entry.now (config_of p.old) (config_of p.new) result }
 {
     let number = entry.thread;
     let thread = &mut p.threads[number as usize];
-    let memory = replace(&mut p.memory, Memory::new(alloc));
-    let mut scene = Scene::new(alloc, memory, number, thread.count);
+    p.scene.begin(number, thread.count);
     match act(
         alloc,
         look,
         thread,
-        &mut scene,
+        &mut p.scene,
         &mut p.sync,
         entry.picks.as_slice(),
     ) {
-        Ok(deed) => {
-            settle(alloc, p, number, &mut scene, deed, foot)?;
-            Ok(())
-        }
-        Err(fault) => {
-            p.memory = scene.memory;
-            without(p, fault)
-        }
+        Ok(deed) => Ok(settle(alloc, p, number, deed)?),
+        Err(fault) => without(p, fault),
     }
 }
 
@@ -111,10 +95,9 @@ pub fn advance(
     look: &Look<'_>,
     p: &mut Progress,
     entry: &Entry,
-    foot: &mut Footprint,
 ) -> Result<(), StepFault>
     requires { IsSoundBefore look.now p.old }
-    ensures { AdvanceAnswer (look_of look.now) entry.now (config_of p.old) (config_of p.new) foot.old foot.new result }
+    ensures { AdvanceAnswer (look_of look.now) entry.now (config_of p.old) (config_of p.new) result }
 {
     if p.gone || !is_running(p.verdict) {
         return Err(broken(AFTER_STOP));
@@ -122,5 +105,5 @@ pub fn advance(
     if !is_enabled(p.sync.status(entry.thread)) {
         return Err(broken(NOT_ENABLED));
     }
-    take(alloc, look, p, entry, foot)
+    take(alloc, look, p, entry)
 }

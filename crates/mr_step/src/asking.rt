@@ -24,5 +24,5 @@ pub fn asked(
     ensures { AsksAnswer (state_of p.now).shared (needs (thread_step (look_of look.now)) (state_of p.now) t) out.old.items out.new.items result }
 {
     let thread = &p.threads[t as usize];
-    asks(alloc, look, &thread.stack, &p.memory, &p.sync, t, out)
+    asks(alloc, look, &thread.stack, &p.scene.memory, &p.sync, t, out)
 }

@@ -1,5 +1,6 @@
 //! Copies of footprints and of lists.
 ghost use Rattle.std.specs.Prelude.{◌≡◌, IfOk, OnOk, Some};
+ghost use Rattle.mr_event.specs.declared.footprint.Footprint.{Footprint as FootprintOf};
 
 use mr_event::Footprint;
 use mr_track::ThreadIds;
@@ -16,21 +17,12 @@ pub fn thread_ids(alloc: Global, threads: &[u32]) -> Result<ThreadIds, AllocErro
     Ok(copy)
 }
 
-/// A copy of a footprint takes the place of the last one, and the memory that it has.
-pub fn keep_last(
-    alloc: Global,
-    last: &mut Option<Footprint>,
-    foot: &Footprint,
-) -> Result<(), AllocError>
-    ensures { OnOk result (last.new ≡ Some foot.now) }
+/// A copy of the last footprint takes the place of another, where there is a last one.
+pub fn copy_last(last: &Option<Footprint>, foot: &mut Footprint) -> Result<(), AllocError>
+    ensures { (f : FootprintOf) → last.now ≡ Some f → OnOk result (foot.new ≡ f) }
 {
     match last {
-        Some(held) => held.copy_from(foot),
-        None => {
-            let mut held = Footprint::nothing(alloc);
-            held.copy_from(foot)?;
-            *last = Some(held);
-            Ok(())
-        }
+        Some(last) => foot.copy_from(last),
+        None => Ok(()),
     }
 }

@@ -5,6 +5,7 @@ ghost use Rattle.mr_step.specs.Kept.{config_of};
 
 use crate::progress::{Progress, Thread};
 use mr_base::Verdict;
+use mr_eval::Scene;
 use mr_frame::Stack;
 use mr_mem::Memory;
 use mr_sync::SyncTable;
@@ -26,7 +27,7 @@ pub fn first(
         count,
     })?;
     Ok(Progress {
-        memory,
+        scene: Scene::new(alloc, memory, 0, count),
         threads,
         sync: SyncTable::new(alloc)?,
         gone: false,

@@ -1,8 +1,10 @@
 //! The footprint of a completed step, and the verdict behind it.
-ghost use Rattle.std.specs.Prelude.{◌≡◌, ◌==◌, OnOk, option_copied};
+ghost use Rattle.std.specs.Prelude.{◌≡◌, ◌==◌, OnOk, Some, option_copied};
 ghost use Rattle.std.specs.List.{list_any};
 ghost use Rattle.mr_event.specs.Footprints.{spawns as is_spawning, wakes as is_waking};
 ghost use Rattle.mr_plan.specs.Runs.{races_with as is_racing};
+ghost use Rattle.mr_event.specs.declared.footprint.Footprint.{Footprint as FootprintOf};
+ghost use Rattle.mr_turn.specs.declared.deed.Deed.{Deed as DeedOf};
 ghost use Rattle.mr_turn.specs.Turning.{is_end as is_ending};
 ghost use Rattle.mr_step.specs.Settling.{foot_by, verdict_in};
 
@@ -11,8 +13,8 @@ use mr_base::{Event, Reason, Verdict};
 use mr_eval::Scene;
 use mr_event::Footprint;
 use mr_frame::Flow;
-use mr_mem::Memory;
 use mr_sync::SyncTable;
+use mr_track::{Accesses, AllocIds};
 use mr_turn::Deed;
 use std::alloc::{AllocError, Global};
 use std::mem::swap;
@@ -24,28 +26,58 @@ pub fn is_end(flow: Flow) -> bool
     matches!(flow, Flow::Ended)
 }
 
-/// What a turn leaves is taken out of its scene: memory, and with its deed the footprint, in place of another.
-pub fn leave(
+// Exchanges two lists, of which most often both are empty.
+fn exchange(a: &mut AllocIds, b: &mut AllocIds)
+    ensures first { a.new ≡ b.old }
+    ensures second { b.new ≡ a.old }
+{
+    if a.as_slice().is_empty() && b.as_slice().is_empty() {
+        return;
+    }
+    swap(a, b);
+}
+
+// The footprint that a turn leaves is taken out of its scene, in place of another: the lists of the other are left there.
+fn leave(
     alloc: Global,
     scene: &mut Scene,
     deed: &Deed,
-    memory: &mut Memory,
     foot: &mut Footprint,
 ) -> Result<(), AllocError>
-    ensures memory { OnOk result (memory.new ≡ scene.old.memory) }
+    ensures memory { OnOk result (scene.new.memory ≡ scene.old.memory) }
     ensures foot { OnOk result (foot.new ≡ foot_by scene.old deed.now) }
 {
     let woken = thread_ids(alloc, deed.woken.as_slice())?;
-    swap(memory, &mut scene.memory);
     swap(&mut foot.accesses, &mut scene.notes.accesses);
-    swap(&mut foot.allocated, &mut scene.made);
-    swap(&mut foot.freed, &mut scene.freed);
+    exchange(&mut foot.allocated, &mut scene.made);
+    exchange(&mut foot.freed, &mut scene.freed);
     swap(&mut foot.touched, &mut scene.notes.touched);
     foot.thread = scene.thread;
     foot.event = deed.event;
     foot.ended = is_end(deed.flow);
     foot.woken = woken;
     Ok(())
+}
+
+/// The footprint that a turn leaves is taken out of its scene, and takes the place of the last one.
+pub fn keep_last(
+    alloc: Global,
+    last: &mut Option<Footprint>,
+    scene: &mut Scene,
+    deed: &Deed,
+) -> Result<(), AllocError>
+    ensures memory { OnOk result (scene.new.memory ≡ scene.old.memory) }
+    ensures last { OnOk result (last.new ≡ Some (foot_by scene.old deed.now)) }
+{
+    match last {
+        Some(foot) => leave(alloc, scene, deed, foot),
+        None => {
+            let mut foot = Footprint::nothing(alloc);
+            leave(alloc, scene, deed, &mut foot)?;
+            *last = Some(foot);
+            Ok(())
+        }
+    }
 }
 
 fn contains_thread(list: &[u32], thread: u32) -> bool
@@ -71,25 +103,25 @@ fn wakes(f: &Footprint, thread: u32) -> bool
     contains_thread(f.woken.as_slice(), thread) || spawns(f.event, thread)
 }
 
-// Whether a step races with the one immediately before it.
-fn races(foot: &Footprint, last: Option<&Footprint>) -> bool
-    ensures { result ≡ is_racing foot.now (option_copied last.entry) }
+// Whether a step of a thread with these accesses races with the one immediately before it.
+fn races(thread: u32, accesses: &Accesses, last: Option<&Footprint>) -> bool
+    ensures { (f : FootprintOf) → f.thread ≡ thread → f.accesses ≡ accesses.now → result ≡ is_racing f (option_copied last.entry) }
 {
     match last {
         None => false,
         Some(last) => {
-            last.thread != foot.thread
-                && !wakes(last, foot.thread)
-                && mr_track::races(&last.accesses, &foot.accesses)
+            last.thread != thread
+                && !wakes(last, thread)
+                && mr_track::races(&last.accesses, accesses)
         }
     }
 }
 
-/// The verdict behind a completed step: the race check comes first, and then whether a thread is enabled.
-pub fn verdict_behind(last: Option<&Footprint>, foot: &Footprint, sync: &SyncTable) -> Verdict
-    ensures { result ≡ verdict_in (option_copied last.entry) foot.now sync.now }
+/// The verdict behind a completed step that left this scene: the race check comes first, and then whether a thread is enabled.
+pub fn verdict_behind(last: Option<&Footprint>, scene: &Scene, sync: &SyncTable) -> Verdict
+    ensures { (d : DeedOf) → result ≡ verdict_in (option_copied last.entry) (foot_by scene.now d) sync.now }
 {
-    if races(foot, last) {
+    if races(scene.thread, &scene.notes.accesses, last) {
         Verdict::Undefined(Reason::DataRace)
     } else if sync.any_enabled() {
         Verdict::Running

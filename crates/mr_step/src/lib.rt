@@ -4,12 +4,12 @@
 //! such steps the machine step with its race check and the rules that an entry of a schedule may break (`mr_plan`). `specs/Standing.antt` has
 //! what contracts see of a machine, `specs/Answers.antt` how its calls answer, and `specs/Kept.antt` how it keeps what it stands for.
 //!
-//! Public calls: [`Machine::start`], [`Machine::step`], and what a machine tells of where it stands: [`Machine::verdict`],
+//! Public calls: [`Machine::start`], [`Machine::step`], [`Machine::go`], and what a machine tells of where it stands: [`Machine::verdict`],
 //! [`Machine::completed`], [`Machine::lines`] and [`Machine::line`], [`Machine::threads`], [`Machine::enabled`], [`Machine::waiting`] and
 //! [`Machine::asks`].
 //!
 //! Proved: a start and a step lead exactly where the definitions say, or tell the first rule that is broken; a refused entry changes nothing;
-//! a completed step hands out its footprint; what a step asks for is exactly what it needs; memory apart there is no other answer. The laws [`never_ill_formed`], [`legal_schedules`],
+//! a completed step hands out its footprint, by [`Machine::go`] none; what a step asks for is exactly what it needs; memory apart there is no other answer. The laws [`never_ill_formed`], [`legal_schedules`],
 //! [`whole_start`], [`one_at_most`], [`feet_counted`] and [`swap`] are of the definitions alone.
 #![tactic(auto)]
 

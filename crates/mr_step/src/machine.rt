@@ -1,6 +1,7 @@
 //! The machine and its public calls.
 use crate::advance::advance;
 use crate::asking::asked;
+use crate::copies::copy_last;
 use crate::fault::{StepFault, Turn, unmade};
 use crate::first::first;
 use crate::progress::{Progress, line_at};
@@ -53,7 +54,7 @@ impl<'p> Machine<'p> {
     ghost use Rattle.mr_turn.specs.Asking.{AsksAnswer};
     ghost use Rattle.mr_start.specs.Begin.{IsStart};
     ghost use Rattle.mr_start.specs.Start.{start_fault};
-    ghost use Rattle.mr_step.specs.Answers.{StartAnswer, StepAnswer, standing};
+    ghost use Rattle.mr_step.specs.Answers.{GoAnswer, HandAnswer, StartAnswer, StepAnswer, standing};
     ghost use Rattle.mr_step.specs.Standing.{seen_line};
 
     /// The machine before the first entry, with these start picks.
@@ -103,11 +104,24 @@ impl<'p> Machine<'p> {
         requires { self.old.config.completed < 2 ^ 32 }
         ensures { StepAnswer entry.now self.old self.new foot.old foot.new result }
     {
+        let before = self.completed();
+        let turn = self.go(entry)?;
+        if self.completed() != before {
+            self.hand_out(foot)?;
+        }
+        Ok(turn)
+    }
+
+    /// The same, except that no footprint is handed out.
+    pub fn go(&mut self, entry: &Entry) -> Result<Turn, StepFault>
+        requires { self.old.config.completed < 2 ^ 32 }
+        ensures { GoAnswer entry.now self.old self.new result }
+    {
         if self.failed {
             return Err(StepFault::Failed);
         }
         let look = self.setting.look();
-        match advance(self.alloc, &look, &mut self.progress, entry, foot) {
+        match advance(self.alloc, &look, &mut self.progress, entry) {
             Ok(()) => Ok(Turn::behind(self.progress.verdict)),
             Err(StepFault::Memory) => {
                 self.failed = true;
@@ -118,6 +132,19 @@ impl<'p> Machine<'p> {
                 earlier,
             }),
             Err(StepFault::Failed) => unreachable!(),
+        }
+    }
+
+    // A copy of the footprint of the last completed step takes the place of what stood in `foot`.
+    fn hand_out(&mut self, foot: &mut Footprint) -> Result<(), StepFault>
+        ensures { HandAnswer self.old self.new foot.new result }
+    {
+        match copy_last(&self.progress.last, foot) {
+            Ok(()) => Ok(()),
+            Err(AllocError) => {
+                self.failed = true;
+                Err(StepFault::Memory)
+            }
         }
     }
 

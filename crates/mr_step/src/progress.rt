@@ -6,9 +6,9 @@ ghost use Rattle.mr_step.specs.Kept.{printed_of};
 ghost use Rattle.mr_step.specs.Standing.{seen_line};
 
 use mr_base::Verdict;
+use mr_eval::Scene;
 use mr_event::Footprint;
 use mr_frame::Stack;
-use mr_mem::Memory;
 use mr_sync::SyncTable;
 
 /// A print, with the thread that made it.
@@ -30,7 +30,8 @@ pub struct Thread {
 /// Where the machine stands.
 #[derive(Drop)]
 pub struct Progress {
-    pub memory: Memory,
+    /// The memory, with what the last step noted of it.
+    pub scene: Scene,
     pub threads: Vec<Thread>,
     pub sync: SyncTable,
     /// Whether a step itself stopped, so that there is no state.

@@ -10,15 +10,13 @@ ghost use Rattle.mr_step.specs.Kept.{numbered, printed_of, standing_thread};
 ghost use Rattle.mr_step.specs.declared.progress.Thread.{Thread as KeptThread};
 ghost use Rattle.mr_step.specs.Settling.{CanSettle, IsOn, Settles};
 
-use crate::copies::keep_last;
-use crate::footprint::{is_end, leave, verdict_behind};
+use crate::footprint::{is_end, keep_last, verdict_behind};
 use crate::progress::{Line, Progress, Thread};
 use mr_base::Verdict;
 use mr_eval::Scene;
-use mr_event::Footprint;
 use mr_frame::{Flow, Stack};
-use mr_mem::Memory;
 use mr_turn::Deed;
+use sqlite_items::Boxed;
 use std::alloc::{AllocError, Global};
 
 // The print of a step, where it made one.
@@ -32,12 +30,12 @@ fn print(output: &mut Vec<Line>, thread: u32, text: Option<Vec<u8>>) -> Result<(
 }
 
 // A thread that was started joins the others.
-fn join(threads: &mut Vec<Thread>, started: Option<Stack>) -> Result<(), AllocError>
+fn join(threads: &mut Vec<Thread>, started: Option<Boxed<Stack>>) -> Result<(), AllocError>
     ensures { OnOk result (numbered 0 threads.new.items ≡ numbered 0 threads.old.items ++ started_threads (option_map (own_of (length threads.old.items)) started)) }
 {
     if let Some(stack) = started {
         threads.push(Thread {
-            stack,
+            stack: stack.into_inner(),
             ended: false,
             count: 0,
         })?;
@@ -56,55 +54,43 @@ fn mark(threads: &mut Vec<Thread>, thread: u32, ended: bool, count: u64)
 }
 
 // A completed step.
-fn complete(
-    alloc: Global,
-    p: &mut Progress,
-    thread: u32,
-    scene: &mut Scene,
-    deed: Deed,
-    foot: &mut Footprint,
-) -> Result<(), AllocError>
+fn complete(alloc: Global, p: &mut Progress, thread: u32, deed: Deed) -> Result<(), AllocError>
     requires flow { IsOn deed.flow }
     requires at { CanSettle p.old thread }
-    ensures { OnOk result (Settles p.old p.new thread scene.old deed foot.old foot.new) }
+    ensures { OnOk result (Settles p.old p.new thread deed) }
 {
-    let count = scene.count;
-    leave(alloc, scene, &deed, &mut p.memory, foot)?;
-    print(&mut p.output, foot.thread, deed.text)?;
+    let (number, count) = (p.scene.thread, p.scene.count);
+    p.verdict = verdict_behind(p.last.as_ref(), &p.scene, &p.sync);
+    keep_last(alloc, &mut p.last, &mut p.scene, &deed)?;
     mark(&mut p.threads, thread, is_end(deed.flow), count);
+    print(&mut p.output, number, deed.text)?;
     join(&mut p.threads, deed.started)?;
-    p.verdict = verdict_behind(p.last.as_ref(), foot, &p.sync);
-    keep_last(alloc, &mut p.last, foot)?;
     p.completed += 1;
     Ok(())
 }
 
 // An exit while a heap allocation is live is a leak.
-fn end_of(memory: &Memory) -> Verdict
-    ensures { result ≡ (if leaks memory.now then verdict.Leak else verdict.Exit) }
+fn end_of(scene: &Scene) -> Verdict
+    ensures { result ≡ (if leaks scene.now.memory then verdict.Leak else verdict.Exit) }
 {
-    if memory.leaks() {
+    if scene.memory.leaks() {
         Verdict::Leak
     } else {
         Verdict::Exit
     }
 }
 
-/// Where the turn of a thread leads, which left this scene and this deed. What the scene holds is taken out of it.
-pub fn settle(
-    alloc: Global,
-    p: &mut Progress,
-    thread: u32,
-    scene: &mut Scene,
-    deed: Deed,
-    foot: &mut Footprint,
-) -> Result<(), AllocError>
+/// Where the turn of a thread leads, which left this deed beside the scene.
+pub fn settle(alloc: Global, p: &mut Progress, thread: u32, deed: Deed) -> Result<(), AllocError>
     requires { CanSettle p.old thread }
-    ensures { OnOk result (Settles p.old p.new thread scene.old deed foot.old foot.new) }
+    ensures { OnOk result (Settles p.old p.new thread deed) }
 {
     match deed.flow {
-        Flow::Went | Flow::Ended => complete(alloc, p, thread, scene, deed, foot)?,
-        Flow::Exit => p.stop(end_of(&scene.memory)),
+        Flow::Went | Flow::Ended => complete(alloc, p, thread, deed)?,
+        Flow::Exit => {
+            let verdict = end_of(&p.scene);
+            p.stop(verdict);
+        }
         Flow::Abort => p.stop(Verdict::Abort),
     }
     Ok(())

@@ -42,11 +42,18 @@ impl Accesses {
         Ok(())
     }
 
+    /// Takes every access out. The memory that they had stays for others.
+    pub fn clear(&mut self)
+        ensures { self.new ≡ [] }
+    {
+        self.items.clear();
+    }
+
     /// These accesses in place of those that were there. After an `Err` nothing is promised of them.
     pub fn copy_from(&mut self, other: &Accesses) -> Result<(), OutOfMemory>
         ensures { OnOk result (self.new ≡ other.now) }
     {
-        self.items.clear();
+        self.clear();
         self.items.extend_from_slice(other.items.as_slice())?;
         Ok(())
     }

@@ -9,6 +9,7 @@
 //! - [`races`]: the same, where one of the two isn't atomic as well.
 //! - [`AllocIds`], [`ThreadIds`]: lists of allocations and of threads, which contracts see as lists; `push` changes nothing where memory runs out.
 //! - `copy_from` of each of the three: a copy of another list takes the place of what was there.
+//! - [`Accesses::clear`], [`AllocIds::clear`]: nothing is left in the list.
 #![tactic(auto)]
 
 mod accesses;

@@ -42,6 +42,13 @@ impl AllocIds {
         Ok(())
     }
 
+    /// Takes every allocation out. The memory that they had stays for others.
+    pub fn clear(&mut self)
+        ensures { self.new ≡ [] }
+    {
+        self.items.clear();
+    }
+
     /// These allocations in place of those that were there. After an `Err` nothing is promised of them.
     pub fn copy_from(&mut self, other: &AllocIds) -> Result<(), OutOfMemory>
         ensures { OnOk result (self.new ≡ other.now) }
@@ -49,7 +56,7 @@ impl AllocIds {
         if self.items.is_empty() && other.items.is_empty() {
             return Ok(());
         }
-        self.items.clear();
+        self.clear();
         self.items.extend_from_slice(other.items.as_slice())?;
         Ok(())
     }

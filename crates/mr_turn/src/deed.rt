@@ -3,6 +3,7 @@ use mr_base::{Event, Reason};
 use mr_eval::Fault;
 use mr_frame::{Flow, Stack};
 use mr_start::PickFailure;
+use sqlite_items::Boxed;
 use std::alloc::{AllocError, AllocFailed};
 
 /// What the turn of a thread did beside what it changed of memory.
@@ -15,7 +16,7 @@ pub struct Deed {
     /// The threads that it woke, by rising number.
     pub woken: Vec<u32>,
     /// The stack of the thread that it started.
-    pub started: Option<Stack>,
+    pub started: Option<Boxed<Stack>>,
     /// What it printed.
     pub text: Option<Vec<u8>>,
 }

@@ -26,7 +26,7 @@ use mr_sched::Ask;
 use mr_sync::SyncTable;
 use mr_value::Val;
 use mr_wf::Known;
-use sqlite_items::Items;
+use sqlite_items::{Boxed, Items};
 use std::alloc::Global;
 
 // The type of a local.
@@ -161,7 +161,7 @@ fn end_start(
                 flow: Flow::Went,
                 event: Event::Spawn(number),
                 woken,
-                started: Some(new),
+                started: Some(Boxed::new(alloc, new)?),
                 text: None,
             })
         }

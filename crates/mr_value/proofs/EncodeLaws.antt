@@ -11,9 +11,10 @@ use Rattle.mr_ast.specs.declared.types.Ty.TheFolds.{map-Ty, para-Variant, para-r
 use Rattle.mr_ast.specs.declared.types.Variant.{Variant, out-Variant}
 use Rattle.mr_base.specs.declared.byte.Pointer.{Pointer}
 use Rattle.mr_ast.specs.Integers.{int_size}
+use Rattle.mr_runs.specs.Numbers.{with_provenance}
 use Rattle.mr_value.specs.declared.val.Val.{Val, out-Val}
 use Rattle.mr_value.specs.declared.val.Val.TheVariants as val
-use Rattle.mr_value.specs.Numbers.{Bytes, little_endian, initialised, pointer_bytes}
+use Rattle.mr_value.specs.Numbers.{Bytes, little_endian, pointer_bytes}
 use Rattle.mr_value.specs.Encode.{Writer, blank, element_bytes, with_chunks, variant_bytes, encode_step, variant_encode_step, encoding_of, write_fields, write_variant}
 
 unfoldable variant_writer : Variant → Writer
@@ -24,12 +25,12 @@ encode_roll : (d : Ty-F Ty Variant) (v : Val) → encoding_of (roll-Ty d) v ≡ 
 unfolding encoding_of variant_writer
 encode_roll d v = ap (λ (w : Writer). w v) (para-roll-Ty Writer Writer (λ layer v. encode_step layer (out-Val v)) variant_encode_step d)
 
-pub encode_int : (int : IntType) (n : ℕ) → encoding_of (ty.Int int) (val.Int n) ≡ initialised None (little_endian (int_size int) n)
+pub encode_int : (int : IntType) (n : ℕ) → encoding_of (ty.Int int) (val.Int n) ≡ with_provenance None (little_endian (int_size int) n)
 encode_int int n =
     ap (λ t. encoding_of t (val.Int n)) (sym (ty.rolls-Int int)) ∙ encode_roll (Ty-F.Int int) (val.Int n)
     ∙ ap (encode_step (Ty-F.Int int)) (val.outs-Int n)
 
-pub encode_bool : (b : Bool) → encoding_of ty.Bool (val.Bool b) ≡ initialised None ((if b then 1 else 0) ∷ [])
+pub encode_bool : (b : Bool) → encoding_of ty.Bool (val.Bool b) ≡ with_provenance None ((if b then 1 else 0) ∷ [])
 encode_bool b = ap (λ t. encoding_of t (val.Bool b)) (sym ty.rolls-Bool) ∙ encode_roll Ty-F.Bool (val.Bool b) ∙ ap (encode_step Ty-F.Bool) (val.outs-Bool b)
 
 pub encode_raw : (p : Pointer) → encoding_of ty.Raw (val.Ptr p) ≡ pointer_bytes p

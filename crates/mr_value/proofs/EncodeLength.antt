@@ -19,8 +19,9 @@ use Rattle.mr_layout.proofs.PartsOk.{and_true, tuple_parts, array_part, union_pa
 use Rattle.mr_layout.proofs.SizeLaws.{size_int, size_bool, size_raw, size_fn_ptr, size_ref, size_tuple, size_array, size_union, size_enum}
 use Rattle.mr_runs.specs.Ranges.{with_range_replaced}
 use Rattle.mr_runs.proofs.RangeLaws.{length-with_range_replaced}
+use Rattle.mr_runs.specs.Numbers.{with_provenance}
 use Rattle.mr_value.specs.declared.val.Val.{Val}
-use Rattle.mr_value.specs.Numbers.{Bytes, little_endian, initialised}
+use Rattle.mr_value.specs.Numbers.{Bytes, little_endian}
 use Rattle.mr_value.specs.Discriminants.{bits_of_number}
 use Rattle.mr_value.specs.Encode.{blank, element_bytes, with_chunks, tag_bytes, with_tags, encoding_of, write_fields, write_variant}
 use Rattle.mr_value.specs.Shape.{chunks_size, elements_pass, has_shape, fields_have_shape, variant_has_shape}
@@ -40,7 +41,7 @@ HasLength t = TypeOk t → (v : Val) → has_shape t v ≡ true → length (enco
 known : (t : Ty) (v w : Val) (bytes : Bytes) (size : ℕ) → v ≡ w → encoding_of t w ≡ bytes → length bytes ≡ size → size_of t ≡ size → length (encoding_of t v) ≡ size_of t
 known t v w bytes size is written long sized = ap (λ x. length (encoding_of t x)) is ∙ ap length written ∙ long ∙ sym sized
 
-pub length-initialised : (provenance : Option AllocId) (count n : ℕ) → length (initialised provenance (little_endian count n)) ≡ count
+pub length-initialised : (provenance : Option AllocId) (count n : ℕ) → length (with_provenance provenance (little_endian count n)) ≡ count
 length-initialised provenance count n = length-map (little_endian count n) (λ m. Init m provenance) ∙ length-little_endian count n
 
 pub fields_keep_length : (size : ℕ) (fields : List (ℕ × Ty)) (vs : List Val) (bytes : Bytes) → AllFields HasLength fields → FieldsOk size fields → fields_have_shape fields vs ≡ true → length bytes ≡ size → length (write_fields fields vs bytes) ≡ size

@@ -12,8 +12,9 @@ use Rattle.mr_base.specs.declared.byte.AbstractByte.TheVariants.{Init}
 use Rattle.mr_layout.specs.EnumRules.{same_num, are_tags}
 use Rattle.mr_layout.proofs.PartsOk.{and_true}
 use Rattle.mr_runs.specs.Ranges.{with_range_replaced}
+use Rattle.mr_runs.specs.Numbers.{with_provenance}
 use Rattle.mr_value.specs.declared.val.Val.{Val}
-use Rattle.mr_value.specs.Numbers.{Bytes, little_endian, initialised}
+use Rattle.mr_value.specs.Numbers.{Bytes, little_endian}
 use Rattle.mr_value.specs.Encode.{BeginsWith, tag_bytes, with_tags, encoding_of, write_fields}
 use Rattle.mr_value.specs.Shape.{chunks_size, elements_pass, has_shape, fields_have_shape, variant_has_shape}
 use Rattle.mr_value.proofs.DecodeSteps.{at_drop}
@@ -28,18 +29,18 @@ begins_with_more bytes front more longer e h = (h.0 ++ more, e ∙ ap (λ (x : B
 
 -- one byte more of a number
 pub number_next : (provenance : Option AllocId) (count i rest : ℕ) (out more : Bytes) → i < count → more ≡ out ++ Init (rest % 256) provenance ∷ []
-    → out ++ initialised provenance (little_endian (count - i) rest) ≡ more ++ initialised provenance (little_endian (count - (i + 1)) (rest / 256))
+    → out ++ with_provenance provenance (little_endian (count - i) rest) ≡ more ++ with_provenance provenance (little_endian (count - (i + 1)) (rest / 256))
 number_next provenance count i rest out more p e =
     let left : count - i ≡ suc (count - (i + 1)) = omega arith in
-    let tail = initialised provenance (little_endian (count - (i + 1)) (rest / 256)) in
-    ap (λ n. out ++ initialised provenance (little_endian n rest)) left
+    let tail = with_provenance provenance (little_endian (count - (i + 1)) (rest / 256)) in
+    ap (λ n. out ++ with_provenance provenance (little_endian n rest)) left
     ∙ sym (append_assoc out (Init (rest % 256) provenance ∷ []) tail)
     ∙ ap (λ (x : Bytes). x ++ tail) (sym e)
 
-pub number_end : (provenance : Option AllocId) (count i rest : ℕ) (out : Bytes) → count ≤ i → out ++ initialised provenance (little_endian (count - i) rest) ≡ out
+pub number_end : (provenance : Option AllocId) (count i rest : ℕ) (out : Bytes) → count ≤ i → out ++ with_provenance provenance (little_endian (count - i) rest) ≡ out
 number_end provenance count i rest out p =
     let none : count - i ≡ 0 = omega arith in
-    ap (λ n. out ++ initialised provenance (little_endian n rest)) none ∙ append-nil out
+    ap (λ n. out ++ with_provenance provenance (little_endian n rest)) none ∙ append-nil out
 
 -- what holds after a failed call
 pub on_err : {T E P : Type 0} (r : Result T E) → IsErr r → P → OnErr r P

@@ -25,9 +25,10 @@ use Rattle.mr_layout.proofs.SizeLaws.{size_int, size_bool, size_raw, size_fn_ptr
 use Rattle.mr_layout.proofs.UsedLaws.{used_int, used_bool, used_raw, used_fn_ptr, used_ref, used_tuple, used_array, used_union, used_enum, used_variant_is}
 use Rattle.mr_runs.specs.Ranges.{with_range_replaced}
 use Rattle.mr_runs.proofs.RangeLaws.{length-with_range_replaced}
+use Rattle.mr_runs.specs.Numbers.{with_provenance}
 use Rattle.mr_value.specs.declared.val.Val.{Val}
 use Rattle.mr_value.specs.declared.val.Val.TheVariants as val
-use Rattle.mr_value.specs.Numbers.{Bytes, part, number_of, little_endian, initialised, pointer_bytes}
+use Rattle.mr_value.specs.Numbers.{Bytes, part, number_of, little_endian, pointer_bytes}
 use Rattle.mr_value.specs.Discriminants.{walk}
 use Rattle.mr_value.specs.Decode.{bool_of, pointer_where, is_not_null, is_aligned, elements_in, chunks_in, decoded, read_fields, read_variant}
 use Rattle.mr_value.specs.Encode.{blank, element_bytes, with_chunks, with_tags, encoding_of, write_fields, write_variant}
@@ -67,7 +68,7 @@ pointer_where_back test p small passes =
     ap (option_and_then (λ (q : Pointer). if test q.addr then Some (val.Ptr q) else None)) (pointer_back p (lt_from p.addr (2 ^ 64) small))
     ∙ ap (λ t. if t then Some (val.Ptr p) else None) passes
 
-bool_back : (truth : Bool) → option_and_then bool_of (number_of (initialised None ((if truth then 1 else 0) ∷ []))) ≡ Some (val.Bool truth)
+bool_back : (truth : Bool) → option_and_then bool_of (number_of (with_provenance None ((if truth then 1 else 0) ∷ []))) ≡ Some (val.Bool truth)
 bool_back true = refl
 bool_back false = refl
 
@@ -304,13 +305,13 @@ reads_cases : TypeCases Reads
 reads_cases = record {
   at_int = λ int ok v e g b h agrees.
       let s = shape_int int v e in
-      let bytes = initialised None (little_endian (int_size int) s.bits) in
+      let bytes = with_provenance None (little_endian (int_size int) s.bits) in
       let same = all_same (ty.Int int) (int_size int) v (val.Int s.bits) b bytes s.is (encode_int int s.bits) (used_int int) (size_int int) (length-initialised None (int_size int) s.bits) h agrees in
       ap (decoded (ty.Int int)) same ∙ decode_int int bytes
       ∙ ap (option_map val.Int) (number_back None (int_size int) s.bits (lt_from s.bits (2 ^ (8 * int_size int)) s.fits)) ∙ ap Some (sym s.is);
   at_bool = λ ok v e g b h agrees.
       let s = shape_bool v e in
-      let bytes = initialised None ((if s.truth then 1 else 0) ∷ []) in
+      let bytes = with_provenance None ((if s.truth then 1 else 0) ∷ []) in
       let same = all_same ty.Bool 1 v (val.Bool s.truth) b bytes s.is (encode_bool s.truth) used_bool size_bool refl h agrees in
       ap (decoded ty.Bool) same ∙ decode_bool bytes ∙ bool_back s.truth ∙ ap Some (sym s.is);
   at_raw = λ ok v e g b h agrees.

@@ -8,10 +8,11 @@ use Rattle.mr_base.specs.declared.byte.AllocId.{AllocId}
 use Rattle.mr_base.specs.declared.byte.AbstractByte.TheVariants.{Uninit, Init}
 use Rattle.mr_runs.specs.Pieces.{SeenPiece, UninitPiece, InitPiece, bytes_of_piece, bytes_of_pieces, piece_len, AreMaximal}
 use Rattle.mr_runs.proofs.PlacedLaws.{length-bytes_of_piece}
+use Rattle.mr_runs.specs.Numbers.{with_provenance}
 use Rattle.mr_value.specs.declared.numbers.Sharing.{Sharing}
 use Rattle.mr_value.specs.declared.numbers.Sharing.TheVariants.{Any, One, Differ}
 use Rattle.mr_value.specs.declared.numbers.Spelled.{Spelled}
-use Rattle.mr_value.specs.Numbers.{Bytes, number_of, initialised, is_same_id, all_have}
+use Rattle.mr_value.specs.Numbers.{Bytes, number_of, is_same_id, all_have}
 use Rattle.mr_value.specs.Spelled.{initial_number, shared_in, shares, sharing_behind, Spells}
 use Rattle.mr_value.proofs.Digits.{byte_fits}
 use Rattle.mr_value.proofs.NumbersBack.{same_id}
@@ -26,7 +27,7 @@ number_same : (o : Option ℕ) → o ≡ option_map (initial_number []) o
 number_same None = refl
 number_same (Some m) = refl
 
-pub number_of-append : (provenance : Option AllocId) (numbers : List ℕ) (bytes : Bytes) → number_of (initialised provenance numbers ++ bytes) ≡ option_map (initial_number numbers) (number_of bytes)
+pub number_of-append : (provenance : Option AllocId) (numbers : List ℕ) (bytes : Bytes) → number_of (with_provenance provenance numbers ++ bytes) ≡ option_map (initial_number numbers) (number_of bytes)
 number_of-append provenance [] bytes = number_same (number_of bytes)
 number_of-append provenance (n ∷ numbers) bytes =
     ap (option_map (λ m. n % 256 + 256 * m)) (number_of-append provenance numbers bytes) ∙ number_digit n numbers (number_of bytes)
@@ -88,15 +89,15 @@ twice : (a b : Bool) → (a && (a && b)) ≡ (a && b)
 twice true b = refl
 twice false b = refl
 
-none_have : (r : AllocId) (n : ℕ) (numbers : List ℕ) (bytes : Bytes) → all_have r (initialised None (n ∷ numbers) ++ bytes) ≡ false
+none_have : (r : AllocId) (n : ℕ) (numbers : List ℕ) (bytes : Bytes) → all_have r (with_provenance None (n ∷ numbers) ++ bytes) ≡ false
 none_have r n numbers bytes = refl
 
-all_have-append : (r p : AllocId) (n : ℕ) (numbers : List ℕ) (bytes : Bytes) → all_have r (initialised (Some p) (n ∷ numbers) ++ bytes) ≡ (is_same_id r p && all_have r bytes)
+all_have-append : (r p : AllocId) (n : ℕ) (numbers : List ℕ) (bytes : Bytes) → all_have r (with_provenance (Some p) (n ∷ numbers) ++ bytes) ≡ (is_same_id r p && all_have r bytes)
 all_have-append r p n [] bytes = refl
 all_have-append r p n (k ∷ numbers) bytes =
     ap (λ b. is_same_id r p && b) (all_have-append r p k numbers bytes) ∙ twice (is_same_id r p) (all_have r bytes)
 
-same_have : (p : AllocId) (numbers : List ℕ) (bytes : Bytes) → all_have p (initialised (Some p) numbers ++ bytes) ≡ all_have p bytes
+same_have : (p : AllocId) (numbers : List ℕ) (bytes : Bytes) → all_have p (with_provenance (Some p) numbers ++ bytes) ≡ all_have p bytes
 same_have p [] bytes = refl
 same_have p (n ∷ numbers) bytes = all_have-append p p n numbers bytes ∙ ap (λ b. b && all_have p bytes) (same_id p)
 
@@ -134,7 +135,7 @@ shared_behind p Differ = refl
 
 -- ---- one piece more
 
-pub spelled_none : (bytes : Bytes) (provenance : Option AllocId) (numbers : List ℕ) → Spells bytes None → Spells (initialised provenance numbers ++ bytes) None
+pub spelled_none : (bytes : Bytes) (provenance : Option AllocId) (numbers : List ℕ) → Spells bytes None → Spells (with_provenance provenance numbers ++ bytes) None
 spelled_none bytes provenance numbers none = number_of-append provenance numbers bytes ∙ ap (option_map (initial_number numbers)) none
 
 pub spelled_uninit : (len : ℕ) (bytes : Bytes) → 0 < len → Spells (replicate len Uninit ++ bytes) None
@@ -150,7 +151,7 @@ spelled_empty [] none = spelled_nothing
 spelled_empty (b ∷ bytes) none = absurd (omega arith)
 
 pub spelled_more : (provenance : Option AllocId) (numbers : List ℕ) (bytes : Bytes) (s : Spelled) → 0 < length numbers → Spells bytes (Some s)
-    → Spells (initialised provenance numbers ++ bytes) (Some (record { number = initial_number numbers s.number; sharing = sharing_behind provenance s.sharing }))
+    → Spells (with_provenance provenance numbers ++ bytes) (Some (record { number = initial_number numbers s.number; sharing = sharing_behind provenance s.sharing }))
 spelled_more provenance [] bytes s some h = absurd (omega arith)
 spelled_more None (n ∷ numbers) bytes s some h =
     (number_of-append None (n ∷ numbers) bytes ∙ ap (option_map (initial_number (n ∷ numbers))) h.0, refl, λ r. none_have r n numbers bytes)

@@ -10,9 +10,10 @@ use Rattle.mr_base.specs.declared.byte.AbstractByte.TheVariants.{Uninit}
 use Rattle.mr_ast.specs.Integers.{int_size}
 use Rattle.mr_layout.specs.EnumRules.{same_num}
 use Rattle.mr_runs.specs.Ranges.{with_range_replaced}
+use Rattle.mr_runs.specs.Numbers.{with_provenance}
 use Rattle.mr_value.specs.declared.val.Val.{Val, out-Val}
 use Rattle.mr_value.specs.declared.val.Val.TheOpen.{Val-F}
-use Rattle.mr_value.specs.Numbers.{Bytes, little_endian, initialised, pointer_bytes}
+use Rattle.mr_value.specs.Numbers.{Bytes, little_endian, pointer_bytes}
 use Rattle.mr_value.specs.Discriminants.{bits_of_number}
 
 -- how a value is written
@@ -42,7 +43,7 @@ with_chunks (c ∷ chunks) content bytes =
 
 -- the bytes of a tag's number
 abbrev pub tag_bytes : Tag → Bytes
-tag_bytes g = initialised None (little_endian (int_size g.int) (bits_of_number g.int g.number))
+tag_bytes g = with_provenance None (little_endian (int_size g.int) (bits_of_number g.int g.number))
 
 -- bytes into which tags are written, each at its offset
 abbrev pub with_tags : List Tag → Bytes → Bytes
@@ -57,8 +58,8 @@ variant_bytes (w ∷ variants) n v =
 
 -- one level of a type and one of a value, with each part of the type beside how it is written
 abbrev pub encode_step : Ty-F (Ty × Writer) (Variant × Writer) → Val-F Val → Bytes
-encode_step (Ty-F.Int int) (Val-F.Int n) = initialised None (little_endian (int_size int) n)
-encode_step Ty-F.Bool (Val-F.Bool b) = initialised None ((if b then 1 else 0) ∷ [])
+encode_step (Ty-F.Int int) (Val-F.Int n) = with_provenance None (little_endian (int_size int) n)
+encode_step Ty-F.Bool (Val-F.Bool b) = with_provenance None ((if b then 1 else 0) ∷ [])
 encode_step Ty-F.Raw (Val-F.Ptr p) = pointer_bytes p
 encode_step Ty-F.FnPtr (Val-F.Ptr p) = pointer_bytes p
 encode_step (Ty-F.Ref size align never) (Val-F.Ptr p) = pointer_bytes p

@@ -1,10 +1,11 @@
 -- Numbers and pointers as abstract bytes.
 use Rattle.std.specs.Prelude.{ℕ, zero, suc, ◌+◌, ◌*◌, ◌/◌, ◌%◌, Bool, true, false, ◌&&◌, ◌==◌, if◌then◌else◌, List, []}
-use Rattle.std.specs.Prelude.{◌∷◌, map, take, drop, Option, Some, None, option_map}
+use Rattle.std.specs.Prelude.{◌∷◌, take, drop, Option, Some, None, option_map}
 use Rattle.mr_base.specs.declared.byte.AllocId.{AllocId}
 use Rattle.mr_base.specs.declared.byte.Pointer.{Pointer}
 use Rattle.mr_base.specs.declared.byte.AbstractByte.{AbstractByte}
 use Rattle.mr_base.specs.declared.byte.AbstractByte.TheVariants.{Uninit, Init}
+use Rattle.mr_runs.specs.Numbers.{with_provenance}
 
 -- abstract bytes in a row
 abbrev pub Bytes : Type 0
@@ -24,10 +25,6 @@ number_of (Init n p ∷ bytes) = option_map (λ m. n % 256 + 256 * m) (number_of
 abbrev pub little_endian : ℕ → ℕ → List ℕ
 little_endian zero n = []
 little_endian (suc count) n = (n % 256) ∷ little_endian count (n / 256)
-
--- initialised bytes with one provenance
-abbrev pub initialised : Option AllocId → List ℕ → Bytes
-initialised provenance numbers = map (λ n. Init n provenance) numbers
 
 -- two identities are equal
 abbrev pub is_same_id : AllocId → AllocId → Bool
@@ -57,4 +54,4 @@ pointer_of bytes = option_map (λ addr. pointer addr (shared_provenance bytes)) 
 
 -- the bytes of a pointer: its address, where each byte has its provenance
 abbrev pub pointer_bytes : Pointer → Bytes
-pointer_bytes p = initialised p.prov (little_endian 8 p.addr)
+pointer_bytes p = with_provenance p.prov (little_endian 8 p.addr)

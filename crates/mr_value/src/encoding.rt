@@ -7,9 +7,10 @@ ghost use Rattle.mr_layout.specs.Parts.{is_ok, are_ok, are_chunks_ok, are_varian
 ghost use Rattle.mr_layout.specs.Sizes.{size_of};
 ghost use Rattle.mr_layout.specs.TypeOk.{TypeOk};
 ghost use Rattle.mr_runs.specs.Ranges.{with_range_replaced};
+ghost use Rattle.mr_runs.specs.Numbers.{with_provenance};
 ghost use Rattle.mr_value.specs.Discriminants.{bits_of_number};
 ghost use Rattle.mr_value.specs.Encode.{blank, element_bytes, with_chunks, with_tags, encoding_of, write_fields, write_variant, BeginsWith};
-ghost use Rattle.mr_value.specs.Numbers.{little_endian, initialised, pointer_bytes};
+ghost use Rattle.mr_value.specs.Numbers.{little_endian, pointer_bytes};
 ghost use Rattle.mr_value.specs.Shape.{chunks_size, elements_pass, has_shape, fields_have_shape, variant_has_shape};
 
 use crate::OutOfMemory;
@@ -28,7 +29,7 @@ fn append_number(
     provenance: Option<AllocId>,
     out: &mut Vec<AbstractByte>,
 ) -> Result<(), OutOfMemory>
-    ensures ok { OnOk result (out.new.items ≡ out.old.items ++ initialised provenance (little_endian count number)) }
+    ensures ok { OnOk result (out.new.items ≡ out.old.items ++ with_provenance provenance (little_endian count number)) }
     ensures err { OnErr result (BeginsWith out.new.items out.old.items) }
 {
     let mut rest = number;

@@ -1,9 +1,10 @@
 //! The bytes of an integer, a bool or a pointer, which need no memory.
 ghost use Rattle.std.specs.Prelude.{◌≡◌, ◌≤◌, true, length, take, IsTrue};
 ghost use Rattle.mr_layout.specs.TypeOk.{TypeOk};
+ghost use Rattle.mr_runs.specs.Numbers.{with_provenance};
 ghost use Rattle.mr_value.specs.Decode.{is_scalar};
 ghost use Rattle.mr_value.specs.Encode.{encoding_of};
-ghost use Rattle.mr_value.specs.Numbers.{little_endian, initialised, pointer_bytes};
+ghost use Rattle.mr_value.specs.Numbers.{little_endian, pointer_bytes};
 ghost use Rattle.mr_value.specs.Shape.{has_shape};
 
 use crate::parts::{bits_in, pointer_in, truth_in};
@@ -54,7 +55,7 @@ fn lowest_bytes(number: u128, count: u64, provenance: Option<AllocId>) -> Scalar
 // The bytes of a pointer.
 fn pointer_numbers(pointer: Pointer) -> ScalarBytes
     ensures few { result.count ≤ 16 }
-    ensures bytes { initialised result.provenance (take result.count result.all) ≡ pointer_bytes pointer }
+    ensures bytes { with_provenance result.provenance (take result.count result.all) ≡ pointer_bytes pointer }
 {
     lowest_bytes(pointer.addr as u128, 8, pointer.prov)
 }
@@ -66,7 +67,7 @@ pub fn encode_scalar(v: &Val, t: &Ty) -> ScalarBytes
     requires scalar { IsTrue (is_scalar t.now) }
     requires shape { has_shape t.now v.now ≡ true }
     ensures few { result.count ≤ 16 }
-    ensures bytes { initialised result.provenance (take result.count result.all) ≡ encoding_of t.now v.now }
+    ensures bytes { with_provenance result.provenance (take result.count result.all) ≡ encoding_of t.now v.now }
 {
     match t {
         Ty::Int(int) => lowest_bytes(bits_in(v), int_bytes(*int), None),

@@ -1,9 +1,10 @@
 use Rattle.std.proofs.Common.{◌++◌, ◌≡◌, ap, subst, sym, take, ◌∙◌}
 use Rattle.mr_layout.specs.declared.cache.Layout.{Layout}
 use Rattle.mr_mem.specs.Memory.{Memory}
+use Rattle.mr_runs.specs.Numbers.{with_provenance}
 use Rattle.mr_script.specs.Script.{Outcome}
 use Rattle.mr_value.specs.Encode.{encoding_of}
-use Rattle.mr_value.specs.Numbers.{Bytes, initialised}
+use Rattle.mr_value.specs.Numbers.{Bytes}
 use Rattle.mr_eval.specs.Answers.{seen}
 use Rattle.mr_eval.specs.Environment.{Leaves}
 use Rattle.mr_eval.specs.Reads.{Seen}
@@ -14,7 +15,7 @@ pub returns-then-is_scalar-clause-given : goal.returns-then-is_scalar-clause-giv
 returns-then-is_scalar-clause-given c =
     let s = c.encode_scalar.result in
     subst (λ (o : Outcome Memory Seen). Leaves c.store_scalar.result o c.store_scalar.new.m (seen c.store_scalar.new.notes))
-    (sym (store_run c.args.m.now c.args.t.now c.args.p c.args.v.now (seen c.args.n.now) (initialised s.provenance (take s.count s.all)) c.layout-layout.result.align
+    (sym (store_run c.args.m.now c.args.t.now c.args.p c.args.v.now (seen c.args.n.now) (with_provenance s.provenance (take s.count s.all)) c.layout-layout.result.align
     c.encode_scalar.ensures.bytes (ap (λ (l : Layout). l.align) c.layout-layout.ensures))) c.store_scalar.ensures.given
 
 pub returns-clause-given : goal.returns-clause-given

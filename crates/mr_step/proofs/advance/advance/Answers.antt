@@ -20,7 +20,7 @@ returns-then-p c =
       | then-p-via-then-p w ↦ gone_breaks l (config_of p) e (ap (λ g. state_unless g (state_of p)) w.if-p.true)
       | then-p-via-else-p+then-not-is_running w ↦ stopped_breaks l (config_of p) e (sym w.is_running.ensures ∙ w.if-not-is_running.true)
     ] in
-    rw c.broken.ensures (record { broken = broken; same = refl; foot = refl })
+    rw c.broken.ensures (record { broken = broken; same = refl })
 
 pub returns-then-not-is_enabled : goal.returns-then-not-is_enabled
 returns-then-not-is_enabled c =
@@ -30,7 +30,7 @@ returns-then-not-is_enabled c =
     let running = running_is p.verdict (sym c.is_running.ensures ∙ c.if-not-is_running.false) in
     let disabled = ap is_enabled (sym c.status.ensures) ∙ sym c.is_enabled.ensures ∙ c.if-not-is_enabled.true in
     let broken : entry_fault (thread_step l) (config_of p) e ≡ fault 60 = disabled_breaks l (config_of p) e (state_of p) (state_is p c.if-p.false) running disabled in
-    rw c.broken-then-not-is_enabled.ensures (record { broken = broken; same = refl; foot = refl })
+    rw c.broken-then-not-is_enabled.ensures (record { broken = broken; same = refl })
 
 pub take-requires : goal.take-requires
 take-requires c =

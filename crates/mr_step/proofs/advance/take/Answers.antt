@@ -1,4 +1,4 @@
-use Rattle.std.proofs.Common.{◌≡◌, refl, sym, subst, ◌∙◌, arith, ℕ, List, Some, Ok, Err}
+use Rattle.std.proofs.Common.{◌≡◌, refl, sym, subst, arith, ℕ, List, Some, Ok, Err}
 use Rattle.std.proofs.lemmas.List.{length-set}
 use Rattle.std.proofs.lemmas.Option.{slice_get_read}
 use Rattle.std.specs.Prelude.{slice_get}
@@ -21,20 +21,19 @@ act-requires-clause-begins c =
     let p = c.args.p.now in
     let t = c.args.entry.now.thread in
     let th = c.index_mut-thread.result.now in
-    let s = c.new-scene.result in
-    let world = c.new-scene.ensures in
-    let m = c.replace-memory.result in
+    let s = c.begin.new.self in
+    let world = c.begin.ensures in
     let begins = begins_act c.args.look.now t p c.requires th (slice_get_read p.threads.items _ t th refl (thread_there c.args.look.now t p c.requires) c.index_mut-thread.ensures.value) in
-    subst (λ (k : ℕ). BeginsAct c.args.look.now k th s.memory p.sync) (sym (scene_thread m t th.count s world))
-    (subst (λ (o : Memory). BeginsAct c.args.look.now t th o p.sync) (sym (scene_memory m t th.count s world ∙ c.replace-memory.ensures.value)) begins)
+    subst (λ (k : ℕ). BeginsAct c.args.look.now k th s.memory p.sync) (sym (scene_thread p.scene.memory t th.count s world))
+    (subst (λ (o : Memory). BeginsAct c.args.look.now t th o p.sync) (sym (scene_memory p.scene.memory t th.count s world)) begins)
 
 pub act-requires-clause-scene : goal.act-requires-clause-scene
 act-requires-clause-scene c =
-    scene_begins c.replace-memory.result c.args.entry.now.thread c.index_mut-thread.result.now.count c.new-scene.result c.new-scene.ensures
+    scene_begins c.args.p.now.scene.memory c.args.entry.now.thread c.index_mut-thread.result.now.count c.begin.new.self c.begin.ensures
 
 pub act-requires-clause-count : goal.act-requires-clause-count
 act-requires-clause-count c =
-    scene_count c.replace-memory.result c.args.entry.now.thread c.index_mut-thread.result.now.count c.new-scene.result c.new-scene.ensures
+    scene_count c.args.p.now.scene.memory c.args.entry.now.thread c.index_mut-thread.result.now.count c.begin.new.self c.begin.ensures
 
 pub settle-requires : goal.settle-requires
 settle-requires c =
@@ -51,11 +50,10 @@ returns-in-Err c =
     let th = c.index_mut-thread.result.now in
     let here : slice_get p.threads.items t ≡ Some th = slice_get_read p.threads.items _ t th refl (thread_there c.args.look.now t p c.requires) c.index_mut-thread.ensures.value in
     let left = c.act.new.scene in
-    let mid : Progress = record p { memory = left.memory; threads = with_item p.threads t c.act.new.thread; sync = c.act.new.sync } in
-    let picked = subst (λ (ks : List ℕ). ActAnswer (look_of c.args.look.now) c.new-scene.result.thread ks th c.act.new.thread c.new-scene.result.memory left p.sync c.act.new.sync (Err c.in-Err.fault)) c.as_slice.ensures c.in-Err.ensures in
-    let told = subst (λ (o : Memory). ActAnswer (look_of c.args.look.now) t c.args.entry.now.picks th c.act.new.thread o left p.sync c.act.new.sync (Err c.in-Err.fault)) c.replace-memory.ensures.value
-    (acted c.replace-memory.result t th.count c.new-scene.result c.new-scene.ensures (look_of c.args.look.now) c.args.entry.now.picks th c.act.new.thread left p.sync c.act.new.sync (Err c.in-Err.fault) picked) in
-    untaken c.args.look.now c.args.entry.now p c.requires th here c.in-Err.fault c.act.new.thread left c.act.new.sync told mid c.without.new.p refl refl c.without.result c.without.ensures c.args.foot.now
+    let mid : Progress = record p { scene = left; threads = with_item p.threads t c.act.new.thread; sync = c.act.new.sync } in
+    let picked = subst (λ (ks : List ℕ). ActAnswer (look_of c.args.look.now) c.begin.new.self.thread ks th c.act.new.thread c.begin.new.self.memory left p.sync c.act.new.sync (Err c.in-Err.fault)) c.as_slice.ensures c.in-Err.ensures in
+    let told = acted p.scene.memory t th.count c.begin.new.self c.begin.ensures (look_of c.args.look.now) c.args.entry.now.picks th c.act.new.thread left p.sync c.act.new.sync (Err c.in-Err.fault) picked in
+    untaken c.args.look.now c.args.entry.now p c.requires th here c.in-Err.fault c.act.new.thread left c.act.new.sync told mid c.without.new.p refl refl c.without.result c.without.ensures
 
 pub returns-in_ok-settle-in-Ok : goal.returns-in_ok-settle-in-Ok
 returns-in_ok-settle-in-Ok c =
@@ -64,8 +62,7 @@ returns-in_ok-settle-in-Ok c =
     let th = c.index_mut-thread.result.now in
     let here : slice_get p.threads.items t ≡ Some th = slice_get_read p.threads.items _ t th refl (thread_there c.args.look.now t p c.requires) c.index_mut-thread.ensures.value in
     let left = c.act.new.scene in
-    let mid : Progress = record p { memory = c.replace-memory.new.dest; threads = with_item p.threads t c.act.new.thread; sync = c.act.new.sync } in
-    let picked = subst (λ (ks : List ℕ). ActAnswer (look_of c.args.look.now) c.new-scene.result.thread ks th c.act.new.thread c.new-scene.result.memory left p.sync c.act.new.sync (Ok c.in-Ok.deed)) c.as_slice.ensures c.in-Ok.ensures in
-    let acts = subst (λ (o : Memory). ActAnswer (look_of c.args.look.now) t c.args.entry.now.picks th c.act.new.thread o left p.sync c.act.new.sync (Ok c.in-Ok.deed)) c.replace-memory.ensures.value
-    (acted c.replace-memory.result t th.count c.new-scene.result c.new-scene.ensures (look_of c.args.look.now) c.args.entry.now.picks th c.act.new.thread left p.sync c.act.new.sync (Ok c.in-Ok.deed) picked) in
-    takes c.args.look.now c.args.entry.now p c.requires th here mid c.settle.new.p c.act.new.thread left c.in-Ok.deed c.args.foot.now c.settle.new.foot acts refl refl c.in_ok-settle-in-Ok.ensures
+    let mid : Progress = record p { scene = left; threads = with_item p.threads t c.act.new.thread; sync = c.act.new.sync } in
+    let picked = subst (λ (ks : List ℕ). ActAnswer (look_of c.args.look.now) c.begin.new.self.thread ks th c.act.new.thread c.begin.new.self.memory left p.sync c.act.new.sync (Ok c.in-Ok.deed)) c.as_slice.ensures c.in-Ok.ensures in
+    let acts = acted p.scene.memory t th.count c.begin.new.self c.begin.ensures (look_of c.args.look.now) c.args.entry.now.picks th c.act.new.thread left p.sync c.act.new.sync (Ok c.in-Ok.deed) picked in
+    takes c.args.look.now c.args.entry.now p c.requires th here mid c.settle.new.p c.act.new.thread c.in-Ok.deed acts refl refl c.in_ok-settle-in-Ok.ensures

@@ -6,7 +6,7 @@ use Rattle.mr_plan.specs.Machine.{started_threads}
 use Rattle.mr_turn.specs.Turning.{own_of}
 use Rattle.mr_step.specs.declared.progress.Progress.{Progress}
 use Rattle.mr_step.specs.Kept.{numbered, standing_thread}
-use Rattle.mr_step.specs.Settling.{verdict_in}
+use Rattle.mr_step.specs.Settling.{foot_by, verdict_in}
 use Rattle.mr_step.proofs.CompletedLaws.{IsBehind, leads}
 use Rattle.mr_step.proofs.Numbered.{numbered_length}
 use Rattle.mr_step.proofs.settle.complete.Goals as goal
@@ -15,15 +15,15 @@ pub returns : goal.returns
 returns c = λ th n here tells.
     let p = c.args.p.now in
     let t = c.args.thread in
-    let s = c.args.scene.now in
+    let s = p.scene in
     let d = c.args.deed in
-    let foot = c.leave.new.foot in
+    let foot = foot_by s d in
     let marked = c.mark.new.threads.items in
     let marks = c.mark.ensures th here in
     let many : length marked ≡ length p.threads.items =
     sym (numbered_length 0 marked) ∙ ap length marks ∙ length-set (numbered 0 p.threads.items) t (standing_thread t c.is_end.result s.count th.stack) ∙ numbered_length 0 p.threads.items in
     let q : Progress = record {
-      memory = c.leave.new.memory;
+      scene = c.keep_last.new.scene;
       threads = c.join.new.threads;
       sync = p.sync;
       gone = p.gone;
@@ -33,16 +33,16 @@ returns c = λ th n here tells.
       verdict = c.verdict_behind-p.result;
     } in
     let behind : IsBehind p t s d th.stack foot q = record {
-      foot = c.in_ok-leave.ensures.foot;
-      memory = c.in_ok-leave.ensures.memory;
+      foot = refl;
+      memory = c.in_ok-keep_last.ensures.memory;
       sync = refl;
       gone = refl;
       threads = c.in_ok-join.ensures
           ∙ (λ i. marks i ++ started_threads (option_map (own_of (many i)) d.started))
           ∙ (λ i. slice_set (numbered 0 p.threads.items) t (standing_thread t (c.is_end.ensures i) s.count th.stack) ++ started_threads (option_map (own_of (length p.threads.items)) d.started));
       output = c.in_ok-print.ensures;
-      last = c.in_ok-keep_last.ensures;
+      last = c.in_ok-keep_last.ensures.last;
       completed = refl;
-      verdict = c.verdict_behind-p.ensures ∙ ap (λ o. verdict_in o foot p.sync) c.as_ref.ensures.value;
+      verdict = c.verdict_behind-p.ensures d ∙ ap (λ o. verdict_in o foot p.sync) c.as_ref.ensures.value;
     } in
-    leads p t s d th.stack n tells c.requires.flow c.requires.at.there q foot behind c.args.foot.now
+    leads p t s d th.stack n tells c.requires.flow c.requires.at.there q foot behind

@@ -1,6 +1,7 @@
 use Rattle.std.proofs.Common.{◌≡◌, ◌-◌, ◌%◌, ◌++◌, ◌∷◌, [], sym, ap, ◌∙◌, arith}
 use Rattle.mr_base.specs.declared.byte.AbstractByte.TheVariants.{Init}
-use Rattle.mr_value.specs.Numbers.{little_endian, initialised}
+use Rattle.mr_runs.specs.Numbers.{with_provenance}
+use Rattle.mr_value.specs.Numbers.{little_endian}
 use Rattle.mr_value.proofs.EncodeSteps.{begins_with_itself, begins_with_more, number_next, number_end, on_err}
 use Rattle.mr_value.proofs.encoding.append_number.Goals as goal
 
@@ -8,7 +9,7 @@ pub loop-i-init : goal.loop-i-init
 loop-i-init c =
     let same : c.args.count ≡ c.args.count - 0 = omega arith in
     record {
-      all = ap (λ n. c.args.out.now.items ++ initialised c.args.provenance (little_endian n c.args.number)) same;
+      all = ap (λ n. c.args.out.now.items ++ with_provenance c.args.provenance (little_endian n c.args.number)) same;
       front = begins_with_itself c.args.out.now.items;
     }
 

@@ -1,10 +1,11 @@
 use Rattle.std.proofs.Common.{◌≡◌, ◌-◌, ◌++◌}
-use Rattle.mr_value.specs.Numbers.{little_endian, initialised}
+use Rattle.mr_runs.specs.Numbers.{with_provenance}
+use Rattle.mr_value.specs.Numbers.{little_endian}
 use Rattle.mr_value.specs.Encode.{BeginsWith}
 use Rattle.mr_value.proofs.encoding.append_number.Given as goal
 
 abbrev pub invariant-loop-i : goal.invariant-loop-i
 invariant-loop-i l = record {
-  all : l.initial.out.items ++ initialised l.provenance (little_endian l.count l.number) ≡ l.out.items ++ initialised l.provenance (little_endian (l.count - l._i) l.rest);
+  all : l.initial.out.items ++ with_provenance l.provenance (little_endian l.count l.number) ≡ l.out.items ++ with_provenance l.provenance (little_endian (l.count - l._i) l.rest);
   front : BeginsWith l.out.items l.initial.out.items;
 }

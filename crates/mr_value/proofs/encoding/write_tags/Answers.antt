@@ -5,8 +5,9 @@ use Rattle.mr_layout.specs.EnumRules.{are_tags}
 use Rattle.mr_ast.specs.Integers.{int_size}
 use Rattle.mr_runs.specs.Ranges.{with_range_replaced}
 use Rattle.mr_runs.proofs.RangeLaws.{length-with_range_replaced}
+use Rattle.mr_runs.specs.Numbers.{with_provenance}
 use Rattle.mr_value.specs.Encode.{tag_bytes, with_tags}
-use Rattle.mr_value.specs.Numbers.{Bytes, little_endian, initialised}
+use Rattle.mr_value.specs.Numbers.{Bytes, little_endian}
 use Rattle.mr_value.proofs.EncodeLength.{length-tag_bytes}
 use Rattle.mr_value.proofs.EncodeSteps.{next_tag, tags_written}
 use Rattle.mr_value.proofs.encoding.write_tags.Goals as goal
@@ -25,9 +26,9 @@ loop-tag-preserved c =
     let n = next_tag (length old) t tags l.tag-index no_tag (omega arith) l.invariant.ok.1 in
     let piece : c.as_slice.result.now ≡ tag_bytes g =
     c.as_slice.ensures.value ∙ c.in_ok-append_number.ensures.ok
-    ∙ ap (λ (b : Bytes). b ++ initialised None (little_endian c.int_bytes.result c.bits_of_number.result)) c.new-piece.ensures.items
-    ∙ ap (λ k. initialised None (little_endian k c.bits_of_number.result)) c.int_bytes.ensures
-    ∙ ap (λ k. initialised None (little_endian (int_size g.int) k)) c.bits_of_number.ensures in
+    ∙ ap (λ (b : Bytes). b ++ with_provenance None (little_endian c.int_bytes.result c.bits_of_number.result)) c.new-piece.ensures.items
+    ∙ ap (λ k. with_provenance None (little_endian k c.bits_of_number.result)) c.int_bytes.ensures
+    ∙ ap (λ k. with_provenance None (little_endian (int_size g.int) k)) c.bits_of_number.ensures in
     let now : c.replace.new.bytes.items ≡ with_range_replaced old g.at (tag_bytes g) = c.replace.ensures ∙ ap (with_range_replaced old g.at) piece in
     let inside : g.at + length (tag_bytes g) ≤ length old = omega (arith, n.inside, length-tag_bytes g) in
     let long : length c.replace.new.bytes.items ≡ length old = ap length now ∙ length-with_range_replaced old g.at (tag_bytes g) inside in
