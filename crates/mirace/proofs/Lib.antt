@@ -1,1 +1,1 @@
-pub mod FirstLaws
+pub mod EndingLaws

@@ -2,36 +2,36 @@
 //! `mirace check P` the canonical text of a program.
 //!
 //! The public call is [`mirace`], over files and a sink, whose promises are its clauses; the library `mr_command` does what it asks
-//! for. `ended` gives the exit status of the process, and `words` the words behind the program's name, none of which is lost.
+//! for. `run` asks for the words and makes the end of the process (`src/ending.rt`), which `main` returns.
 #![tactic(auto)]
 
-ghost use Rattle.std.specs.Prelude.{◌≡◌, ℕ, drop, IfOk, IfErr, ◌+◌, ◌≤◌, ◌⊎◌, List, ◌++◌, None, Some, map, string_bytes};
+ghost use Rattle.std.specs.Prelude.{◌≡◌, ℕ, ◌+◌, ◌≤◌, ◌⊎◌, List, ◌++◌, None, Some, map, string_bytes};
 ghost use Rattle.mr_ast.specs.declared.program.Program.{Program};
 ghost use Rattle.mr_io.specs.Counts.{Rose};
 ghost use Rattle.mr_io.specs.Files.{Contents};
 ghost use Rattle.mr_lex.specs.declared.token.TextFault.{TextFault};
 ghost use Rattle.mr_sched.specs.declared.schedule.Schedule.{Schedule as Recorded};
+ghost use Rattle.mr_sched.specs.declared.version.Version.{Version};
 ghost use Rattle.mr_start.specs.Start.{PlacedFault};
 ghost use Rattle.mr_wf.specs.declared.fault.FormFault.{FormFault};
 ghost use Rattle.mr_auto.specs.Drawing.{drawn_schedule};
 ghost use Rattle.mr_gen.specs.Generated.{generated};
-ghost use Rattle.mr_command.specs.Answer.{big_answer, big_schedule, canonical, drawn_answer, form_answer, refused, text_refusal, usage};
+ghost use Rattle.mr_command.specs.Answer.{big_answer, big_schedule, canonical, drawn_answer, form_answer, line_at, refused, text_refusal, upgraded, usage};
 ghost use Rattle.mr_command.specs.declared.command.Format.{Format};
-ghost use Rattle.mr_command.specs.Command.{command_of, named_files, Auto, Big, Check, NamesProgram, Run};
-ghost use Rattle.mr_command.specs.Headline.{AsksForSchedule, ChecksProgram, DrawsFor, IsOfMachine, IsSoundUnder, IsTold, IsUnreadBecause, Names, NamesBroken, NamesBrokenSchedule, NamesFault, NamesScheduleFault, ReportsLegalRun, WritesCanonical, WritesDrawn};
+ghost use Rattle.mr_command.specs.Command.{command_of, named_files, Auto, Big, Check, NamesProgram, Run, Upgrade};
+ghost use Rattle.mr_command.specs.Headline.{AsksForSchedule, ChecksProgram, DrawsFor, HasScheduleFault, IsOfMachine, IsSoundUnder, IsTold, IsUnreadBecause, Names, NamesBroken, NamesBrokenSchedule, NamesFault, NamesScheduleFault, ReportsLegalRun, Upgrades, WritesCanonical, WritesDrawn, WritesUpgraded};
 ghost use Rattle.mr_command.specs.Outcome.{Ends, EndsOverTexts, IsLeft, IsWritten};
 ghost use Rattle.mr_command.specs.Report.{refusal_text};
 ghost use Rattle.mr_command.specs.declared.refusal.Refusal.TheVariants.{ReadProgram, Schedule};
-ghost use Rattle.std.specs.Process.{exit_status};
-ghost use Rattle.std.specs.Vec.Iter.{into_iter_items};
 
+mod ending;
+
+use crate::ending::{Ending, run};
 use mr_io::{Files, HostFiles, HostOut, Sink};
-use std::alloc::{AllocError, Global};
-use std::env::{self, Args};
-use std::io::{self, ErrorKind};
-use std::process::ExitCode;
+use std::alloc::Global;
 
-/// Does what the words behind the program's name ask for, and answers the exit status: 0 or 1 of a report, 0 of a canonical text,
+/// Does what the words behind the program's name ask for, and answers the exit status: 0 or 1 of a report, 0 of a canonical text or of a
+/// schedule in version 2,
 /// 2 of words without a form, 3 of a text that denotes no program, 4 of a program that breaks a rule
 /// of well-formedness, 5 of a schedule, 6 of a file that was not read, 7 of a failed write and 8 where memory ran out.
 pub fn mirace<F: Files, O: Sink>(alloc: Global, words: &[String], files: &mut F, out: &mut O) -> u8
@@ -46,12 +46,12 @@ pub fn mirace<F: Files, O: Sink>(alloc: Global, words: &[String], files: &mut F,
         (Rose (O.faults out.old) (O.faults out.new)) (O.taken out.old) (O.taken out.new) result }
 
     // The headline.
-    ensures headline { (contents : Contents) (format : Format) (p : Program) (w : Recorded) → F.told files.old ≡ Some contents
-        → Names contents (command_of (map string_bytes words.now)) format p w
-        → IsOfMachine format p w (Rose (F.faults files.old) (F.faults files.new))
+    ensures headline { (contents : Contents) (format : Format) (p : Program) (v : Version) (w : Recorded) → F.told files.old ≡ Some contents
+        → Names contents (command_of (map string_bytes words.now)) format p v w
+        → IsOfMachine format p v w (Rose (F.faults files.old) (F.faults files.new))
         (Rose (O.faults out.old) (O.faults out.new)) (O.taken out.old) (O.taken out.new) result }
-    ensures complete { (contents : Contents) (format : Format) (p : Program) (w : Recorded) → F.told files.old ≡ Some contents
-        → Names contents (command_of (map string_bytes words.now)) format p w
+    ensures complete { (contents : Contents) (format : Format) (p : Program) (v : Version) (w : Recorded) → F.told files.old ≡ Some contents
+        → Names contents (command_of (map string_bytes words.now)) format p v w
         → ¬ Rose (F.faults files.old) (F.faults files.new) → ¬ Rose (O.faults out.old) (O.faults out.new)
         → (result ≤ 1) ⊎ (result ≡ 8) }
 
@@ -85,6 +85,22 @@ pub fn mirace<F: Files, O: Sink>(alloc: Global, words: &[String], files: &mut F,
     ensures grows { (number : ℕ) → command_of (map string_bytes words.now) ≡ Some (Big number)
         → ¬ Rose (O.faults out.old) (O.faults out.new) → (result ≤ 1) ⊎ (result ≡ 8) }
 
+    // A schedule in either version is written in version 2; nothing else is upgraded, and what refuses a schedule is a fault of its text.
+    ensures upgraded { (contents : Contents) (v : Version) (w : Recorded) → F.told files.old ≡ Some contents
+        → Upgrades contents (command_of (map string_bytes words.now)) v w
+        → IsTold (upgraded w) (Rose (F.faults files.old) (F.faults files.new))
+        (Rose (O.faults out.old) (O.faults out.new)) (O.taken out.old) (O.taken out.new) result }
+    ensures upgrades { (contents : Contents) (v : Version) (w : Recorded) → F.told files.old ≡ Some contents
+        → Upgrades contents (command_of (map string_bytes words.now)) v w
+        → ¬ Rose (F.faults files.old) (F.faults files.new) → ¬ Rose (O.faults out.old) (O.faults out.new)
+        → (result ≡ 0) ⊎ (result ≡ 8) }
+    ensures only_upgraded { (contents : Contents) (schedule : List ℕ) → F.told files.old ≡ Some contents
+        → command_of (map string_bytes words.now) ≡ Some (Upgrade schedule) → result ≤ 1
+        → WritesUpgraded contents (command_of (map string_bytes words.now)) (O.taken out.old) (O.taken out.new) result }
+    ensures only_text { (contents : Contents) (schedule : List ℕ) → F.told files.old ≡ Some contents
+        → command_of (map string_bytes words.now) ≡ Some (Upgrade schedule) → result ≡ 5
+        → HasScheduleFault contents (command_of (map string_bytes words.now)) }
+
     // A program's text is answered by what it denotes or breaks, and a program by the first rule that it breaks.
     ensures canonical { (contents : Contents) (p : Program) → F.told files.old ≡ Some contents
         → ChecksProgram contents (command_of (map string_bytes words.now)) p
@@ -99,14 +115,14 @@ pub fn mirace<F: Files, O: Sink>(alloc: Global, words: &[String], files: &mut F,
         → IsTold (form_answer p fault) (Rose (F.faults files.old) (F.faults files.new))
         (Rose (O.faults out.old) (O.faults out.new)) (O.taken out.old) (O.taken out.new) result }
 
-    // So is a schedule: by its text's first fault, and by the first rule that it breaks.
+    // So is a schedule: by its text's first fault, and by the first rule that it breaks, on the line that holds the entry.
     ensures schedule_fault { (contents : Contents) (line code : ℕ) → F.told files.old ≡ Some contents
         → NamesScheduleFault contents (command_of (map string_bytes words.now)) line code
         → IsTold (refused (Schedule line code None)) (Rose (F.faults files.old) (F.faults files.new))
         (Rose (O.faults out.old) (O.faults out.new)) (O.taken out.old) (O.taken out.new) result }
-    ensures broken_schedule { (contents : Contents) (fault : PlacedFault) → F.told files.old ≡ Some contents
-        → NamesBrokenSchedule contents (command_of (map string_bytes words.now)) fault
-        → IsTold (refused (Schedule fault.line fault.fault.code fault.fault.earlier)) (Rose (F.faults files.old) (F.faults files.new))
+    ensures broken_schedule { (contents : Contents) (v : Version) (w : Recorded) (fault : PlacedFault) → F.told files.old ≡ Some contents
+        → NamesBrokenSchedule contents (command_of (map string_bytes words.now)) v w fault
+        → IsTold (refused (Schedule (line_at v w fault.line) fault.fault.code fault.fault.earlier)) (Rose (F.faults files.old) (F.faults files.new))
         (Rose (O.faults out.old) (O.faults out.new)) (O.taken out.old) (O.taken out.new) result }
 
     // Whatever the files tell.
@@ -120,7 +136,7 @@ pub fn mirace<F: Files, O: Sink>(alloc: Global, words: &[String], files: &mut F,
     ensures same { F.told files.new ≡ F.told files.old }
     ensures reads { F.reads files.new ≤ F.reads files.old + named_files (command_of (map string_bytes words.now)) }
 
-    // The schedule is read behind the program alone, and where that breaks no rule.
+    // Where the words name a program, the schedule is read behind that alone, and where it breaks no rule.
     ensures once { (contents : Contents) (program : List ℕ) → F.told files.old ≡ Some contents
         → NamesProgram (command_of (map string_bytes words.now)) program → ¬ AsksForSchedule (contents program)
         → F.reads files.new ≤ F.reads files.old + 1 }
@@ -130,46 +146,8 @@ pub fn mirace<F: Files, O: Sink>(alloc: Global, words: &[String], files: &mut F,
     mr_command::mirace(alloc, words, files, out)
 }
 
-// What the process ends with: the status of the call, and 8 or 10 where the host doesn't give the words.
-fn ended<F: Files, O: Sink>(
-    alloc: Global,
-    words: io::Result<Vec<String>>,
-    files: &mut F,
-    out: &mut O,
-) -> ExitCode
-    ensures ends { IfOk words (λ given. (contents : Contents) → F.told files.old ≡ Some contents
-        → Ends contents (command_of (map string_bytes given.items)) (Rose (F.faults files.old) (F.faults files.new))
-        (Rose (O.faults out.old) (O.faults out.new)) (O.taken out.old) (O.taken out.new) (exit_status result)) }
-    ensures untold { IfOk words (λ given. F.told files.old ≡ None
-        → EndsOverTexts (command_of (map string_bytes given.items)) (Rose (F.faults files.old) (F.faults files.new))
-        (Rose (O.faults out.old) (O.faults out.new)) (O.taken out.old) (O.taken out.new) (exit_status result)) }
-    ensures usage { IfOk words (λ given. command_of (map string_bytes given.items) ≡ None
-        → IsWritten usage (Rose (O.faults out.old) (O.faults out.new)) (O.taken out.old) (O.taken out.new) (exit_status result)) }
-    ensures no_usage { IfOk words (λ given. exit_status result ≡ 2 → command_of (map string_bytes given.items) ≡ None) }
-    ensures no_words { IfErr words (λ _. (exit_status result ≡ 8) ⊎ (exit_status result ≡ 10)) }
-{
-    match words {
-        Ok(words) => ExitCode::from(mirace(alloc, words.as_slice(), files, out)),
-        Err(error) if error.kind() == ErrorKind::OutOfMemory => ExitCode::from(8),
-        Err(_) => ExitCode::from(10),
-    }
-}
-
-// The words behind the program's name.
-fn words(alloc: Global, all: Args) -> Result<Vec<String>, AllocError>
-    ensures { IfOk result (λ words. words.items ≡ drop 1 (into_iter_items all)) }
-{
-    let mut all = all;
-    all.next();
-    all.collect(alloc)
-}
-
-fn given(rt: &HostRuntime) -> io::Result<Vec<String>> {
-    Ok(words(rt.alloc(), env::args(rt)?)?)
-}
-
-fn main(rt: HostRuntime) -> ExitCode {
+fn main(rt: HostRuntime) -> Ending {
     let mut out = HostOut::new(rt.stdout());
     let mut files = HostFiles::new(&rt);
-    ended(rt.alloc(), given(&rt), &mut files, &mut out)
+    run(rt.alloc(), &rt, &mut files, &mut out)
 }

@@ -17,7 +17,7 @@ const UNDEFINED: &[u8] =
     b"minirust 1\nfn main() -> r {\nlet r: unit;\nb0 regular: return;\n}\nmain main\n";
 
 // The words, the number of the read that fails, the room of the sink, and what the command comes to.
-const CASES: [(&str, u64, usize, &str); 21] = [
+const CASES: [(&str, u64, usize, &str); 34] = [
     (
         "run exit S",
         1,
@@ -114,6 +114,74 @@ const CASES: [(&str, u64, usize, &str); 21] = [
         99,
         "schedule 1 50 BadHeader\n= 5: reads 2 0, writes 0",
     ),
+    ("run exit exit", 0, 5, "sched= 7: reads 2 0, writes 1"),
+    (
+        "json exit S",
+        1,
+        99,
+        "read program\n= 6: reads 1 1, writes 0",
+    ),
+    (
+        "json exit S",
+        2,
+        99,
+        "read schedule\n= 6: reads 2 1, writes 0",
+    ),
+    (
+        "auto exit 7 1",
+        1,
+        99,
+        "read program\n= 6: reads 1 1, writes 0",
+    ),
+    (
+        "short exit S",
+        1,
+        99,
+        "read program\n= 6: reads 1 1, writes 0",
+    ),
+    (
+        "short exit S",
+        2,
+        99,
+        "read schedule\n= 6: reads 2 1, writes 0",
+    ),
+    (
+        "shuffle exit S 7",
+        1,
+        99,
+        "read program\n= 6: reads 1 1, writes 0",
+    ),
+    (
+        "shuffle exit S 7",
+        2,
+        99,
+        "read schedule\n= 6: reads 2 1, writes 0",
+    ),
+    (
+        "shuffle exit S 7",
+        0,
+        99,
+        "schedule 1\nstart 16 4096\n0\nverdict exit\nraces 0\n= 0: reads 2 0, writes 0",
+    ),
+    (
+        "shuffle exit S 7",
+        0,
+        12,
+        "schedule 1\ns= 7: reads 2 0, writes 1",
+    ),
+    (
+        "upgrade S",
+        1,
+        99,
+        "read schedule\n= 6: reads 1 1, writes 0",
+    ),
+    (
+        "upgrade S",
+        0,
+        99,
+        "schedule 2\nstart 16 4096\n0\n= 0: reads 1 0, writes 0",
+    ),
+    ("upgrade S", 0, 11, "schedule 2\n= 7: reads 1 0, writes 1"),
 ];
 
 // Programs and a schedule, of which one read fails.
@@ -136,10 +204,10 @@ fn words_of(alloc: Global, line: &str) -> Result<Vec<String>, OutOfMemory> {
 }
 
 // What is written of a command, the status, how many reads there were and failed, and how many writes failed.
-fn told(alloc: Global, line: &str, fails: u64, room: usize) -> Result<String, Fail> {
+fn told(alloc: Global, line: &str, fails: u64, room: usize, step: usize) -> Result<String, Fail> {
     let words = words_of(alloc, line)?;
     let mut files = drawer(alloc, fails)?;
-    let mut out = Tray::new(alloc, room, 7)?;
+    let mut out = Tray::new(alloc, room, step.max(1))?;
     let status = mirace(alloc, words.as_slice(), &mut files, &mut out);
     let text = std::str::from_utf8(out.taken())?;
     let counts = (files.calls, files.faults, out.faults());
@@ -152,8 +220,43 @@ fn told(alloc: Global, line: &str, fails: u64, room: usize) -> Result<String, Fa
 #[test]
 fn commands_are_answered(rt: HostRuntime) -> Result<(), Fail> {
     for (line, fails, room, wanted) in CASES {
-        let said = told(rt.alloc(), line, fails, room)?;
+        let said = told(rt.alloc(), line, fails, room, 7)?;
         assert_eq!(rt; said.as_str(), wanted, "{line}");
+    }
+    Ok(())
+}
+
+// The report of the program that exits, of 21 bytes.
+const REPORT: &[u8] = b"verdict exit\nraces 0\n";
+
+// What is written of it into a sink of so much room: what fits, and the status.
+fn fitting(alloc: Global, room: usize) -> Result<String, Fail> {
+    let fits = if room < REPORT.len() {
+        room
+    } else {
+        REPORT.len()
+    };
+    let text = std::str::from_utf8(&REPORT[..fits])?;
+    let end = if room < REPORT.len() {
+        "7: reads 2 0, writes 1"
+    } else {
+        "0: reads 2 0, writes 0"
+    };
+    Ok(format!(in alloc; "{text}= {end}")?)
+}
+
+#[test]
+fn what_fits_is_written(rt: HostRuntime) -> Result<(), Fail> {
+    for step in [1, 7, 64] {
+        for room in 0..23 {
+            let said = told(rt.alloc(), "run exit S", 0, room, step)?;
+            let wanted = fitting(rt.alloc(), room)?;
+            assert_eq!(rt;
+                said.as_str(),
+                wanted.as_str(),
+                "room for {room}, {step} at a time"
+            );
+        }
     }
     Ok(())
 }

@@ -62,3 +62,22 @@ fn a_file_of_the_host_is_read(rt: HostRuntime) -> Result<(), Fail> {
     std::fs::remove_file(&rt, "mr_io_tested.txt")?;
     Ok(())
 }
+
+#[test]
+fn a_file_of_a_long_name_is_read(rt: HostRuntime) -> Result<(), Fail> {
+    let alloc = rt.alloc();
+    let mut name = String::new(alloc);
+    for _ in 0..250 {
+        name.push('x')?;
+    }
+    std::fs::write(&rt, "x", "races")?;
+    std::fs::write(&rt, name.as_str(), "verdict")?;
+    let mut files = HostFiles::new(rt.clone()?);
+    let mut into = vec![in alloc; b'k']?;
+    files.read(alloc, name.as_str(), 7, &mut into)?;
+    assert_eq!(rt; into.as_slice(), b"kverdict".as_slice());
+    assert_eq!(rt; (files.faults, files.reads, files.taken), (0, 1, 7));
+    std::fs::remove_file(&rt, name.as_str())?;
+    std::fs::remove_file(&rt, "x")?;
+    Ok(())
+}

@@ -8,3 +8,5 @@ mod commands;
 mod files;
 #[cfg(test)]
 mod sinks;
+#[cfg(test)]
+mod words;

@@ -1,5 +1,5 @@
 -- Small programs, and whether they are shaped.
-use Rattle.std.proofs.Common.{◌≡◌, ℕ, ◌<◌, true, false, [], ◌∷◌, All, refl, sym, ◌∙◌, true≢false, arith, codes, lit<, lit≤}
+use Rattle.std.proofs.Common.{◌≡◌, ℕ, ◌<◌, true, false, [], ◌∷◌, All, inl, refl, sym, ◌∙◌, true≢false, arith, codes, lit<, lit≤}
 use Rattle.std.proofs.lemmas.List.Elements.{All-cons, All-head}
 use Rattle.mr_ast.specs.declared.types.IntType.TheVariants.{U8, U64}
 use Rattle.mr_ast.specs.declared.types.Num.{Num}
@@ -89,7 +89,7 @@ shaped_program =
       items = All-one (ShapedItem p) (item.Byte 9 3) (lit≤ tt, record { some = lit≤ tt; bounded = lit≤ tt });
     } in
     record {
-      edition = refl;
+      edition = inl refl;
       globals = All-one (ShapedGlobal p) (global 3) shaped_global;
       functions = All-one (ShapedFunction p) f shaped_function;
       start = lit< tt;

@@ -1,5 +1,8 @@
 -- The word of a thing, looked up in its table, gives the thing back.
-use Rattle.std.proofs.Common.{◌≡◌, Some, refl}
+use Rattle.std.proofs.Common.{◌≡◌, ℕ, List, Bool, true, false, None, Some, refl, ap, sym, arith, inl, inr, codes}
+use Rattle.std.specs.Prelude.{bytes_eq, decimal, if◌then◌else◌}
+use Rattle.std.proofs.lemmas.Fmt.{decimal_digit}
+use Rattle.std.proofs.lemmas.Option.{same_Some}
 use Rattle.mr_ast.specs.declared.types.IntType.{IntType}
 use Rattle.mr_ast.specs.declared.types.IntType.TheVariants as int
 use Rattle.mr_ast.specs.declared.expr.UnaryOp.{UnaryOp}
@@ -10,10 +13,24 @@ use Rattle.mr_ast.specs.declared.program.BlockKind.{BlockKind}
 use Rattle.mr_ast.specs.declared.program.BlockKind.TheVariants as kind
 use Rattle.mr_ast.specs.declared.program.Intrinsic.{Intrinsic}
 use Rattle.mr_ast.specs.declared.program.Intrinsic.TheVariants as intrinsic
-use Rattle.mr_ast.specs.Words.{looked_up, int_words, unary_words, binary_words, kind_words, intrinsic_words}
+use Rattle.mr_ast.specs.Words.{IsEdition, edition_words, looked_up, int_words, unary_words, binary_words, kind_words, intrinsic_words}
 use Rattle.mr_ast.specs.CanonTypes.{int_word}
 use Rattle.mr_ast.specs.CanonValues.{unary_word, binary_word}
 use Rattle.mr_ast.specs.Canon.{kind_word, intrinsic_word}
+
+-- the word of an edition names it
+pub edition_word_found : (n : ℕ) → IsEdition n → looked_up edition_words (decimal n) ≡ Some n
+edition_word_found n (inl e) = rw e (ap (looked_up edition_words) (decimal_digit 1 (omega arith)))
+edition_word_found n (inr e) = rw e (ap (looked_up edition_words) (decimal_digit 2 (omega arith)))
+
+-- what a word names is an edition
+pub edition_found : (text : List ℕ) (n : ℕ) → looked_up edition_words text ≡ Some n → IsEdition n
+edition_found text n h = by (bytes_eq text (codes "1")) (bytes_eq text (codes "2")) h
+  where
+    by : (one two : Bool) → (if one then Some 1 else (if two then Some 2 else None)) ≡ Some n → IsEdition n
+    by true two e = inl (sym (same_Some _ _ e))
+    by false true e = inr (sym (same_Some _ _ e))
+    by false false e = absurd (cc)
 
 pub int_word_found : (i : IntType) → looked_up int_words (int_word i) ≡ Some i
 int_word_found int.U8 = refl

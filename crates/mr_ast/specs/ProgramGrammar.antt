@@ -30,7 +30,7 @@ use Rattle.mr_ast.specs.declared.words.Bracket.TheVariants.{Round, Curly}
 use Rattle.mr_ast.specs.declared.words.Role.TheVariants.{DefinesGlobal, DefinesFunction, DefinesLocal, DefinesBlock}
 use Rattle.mr_ast.specs.Scope.{Scope}
 use Rattle.mr_ast.specs.Words.{is_name, is_number, value_of, looked_up, stmt_words, term_words, kind_words}
-use Rattle.mr_ast.specs.Words.{intrinsic_words, is_exposed}
+use Rattle.mr_ast.specs.Words.{edition_words, intrinsic_words, is_exposed}
 use Rattle.mr_ast.specs.Writing.{Judged, ThePlace, TheType, TheValue, Writing, block_use, fine, function_use, giving}
 use Rattle.mr_ast.specs.Writing.{is_word, judged_repeat, limit, listed, local_use, name_form, num_form, optional}
 use Rattle.mr_ast.specs.Writing.{other_than, separated, target_use, token, u64_form, within, ◌▪◌, ◌▸◌, ◌◂◌}
@@ -236,6 +236,7 @@ global_form k =
 
 -- a program without its names
 pub record ProgramBody : Type 0 where
+  pub edition : ℕ
   pub globals : List Global_
   pub functions : List Function
   pub start : FnName
@@ -248,9 +249,15 @@ globals_form = Many (is_word (codes "global")) global_form
 unfoldable pub functions_form : Writing (List Function)
 functions_form = Many (is_word (codes "fn")) function_form
 
+-- the edition that a word names
+unfoldable pub judged_edition : Word → Judged ℕ
+judged_edition w = fine (looked_up edition_words w.text)
+
 -- a program
 unfoldable pub program_form : Writing ProgramBody
 program_form =
-    codes "minirust" ▸ codes "1"
-    ▸ Then (λ items start. record { globals = items.0; functions = items.1; start = start })
-    (globals_form ▪ functions_form) (codes "main" ▸ function_use)
+    codes "minirust"
+    ▸ Then
+    (λ edition parts.
+    record { edition = edition; globals = parts.0.0; functions = parts.0.1; start = parts.1 })
+    (token judged_edition) ((globals_form ▪ functions_form) ▪ codes "main" ▸ function_use)

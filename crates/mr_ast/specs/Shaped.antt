@@ -19,6 +19,7 @@ use Rattle.mr_ast.specs.declared.program.Term.TheVariants as term
 use Rattle.mr_ast.specs.declared.program.Block.{Block}
 use Rattle.mr_ast.specs.declared.program.Function.{Function}
 use Rattle.mr_ast.specs.declared.program.Program.{Program}
+use Rattle.mr_ast.specs.Words.{IsEdition}
 use Rattle.mr_ast.specs.ShapedTypes.{is_shaped_num, is_shaped_type}
 use Rattle.mr_ast.specs.ShapedValues.{Named, is_shaped_place, is_shaped_value}
 
@@ -132,10 +133,10 @@ pub record ShapedFunction (p : Program) (f : Function) : Type 0 where
   pub few_locals : length f.locals ≤ 256
   pub few_blocks : length f.blocks ≤ 1024
 
--- a program of the one edition that there is, whose globals and functions are shaped, whose start is one of its
+-- a program of an edition that there is, whose globals and functions are shaped, whose start is one of its
 -- functions, and which keeps the limits
 pub record Shaped (p : Program) : Type 0 where
-  pub edition : p.edition ≡ 1
+  pub edition : IsEdition p.edition
   pub globals : All (ShapedGlobal p) p.globals
   pub functions : All (ShapedFunction p) p.functions
   pub start : p.start.0 < length p.functions

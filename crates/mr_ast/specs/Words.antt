@@ -1,5 +1,5 @@
 -- The words of the text form: names, numbers, and the words that stand for themselves.
-use Rattle.std.specs.Prelude.{ℕ, ◌+◌, ◌-◌, ◌*◌, ◌^◌, Bool, false, not, ◌||◌, ◌&&◌, ◌==◌, nat_lt, if◌then◌else◌, List}
+use Rattle.std.specs.Prelude.{◌≡◌, ◌⊎◌, ℕ, ◌+◌, ◌-◌, ◌*◌, ◌^◌, Bool, false, not, ◌||◌, ◌&&◌, ◌==◌, nat_lt, if◌then◌else◌, List}
 use Rattle.std.specs.Prelude.{[], ◌∷◌, ◌++◌, length, map, slice_index, codes, bytes_eq, Option, None, Some}
 use Rattle.std.specs.List.{fold, list_all, list_any}
 use Rattle.std.specs.Char.{is_ascii_alphabetic, is_ascii_digit}
@@ -63,6 +63,13 @@ texts_of table = map (λ entry. entry.0) table
 abbrev pub looked_up : {X : Type 0} → Table X → List ℕ → Option X
 looked_up [] text = None
 looked_up (entry ∷ entries) text = if bytes_eq text entry.0 then Some entry.1 else looked_up entries text
+
+-- the editions of the language
+abbrev pub edition_words : Table ℕ
+edition_words = (codes "1", 1) ∷ (codes "2", 2) ∷ []
+
+abbrev pub IsEdition : ℕ → Type 0
+IsEdition n = (n ≡ 1) ⊎ (n ≡ 2)
 
 -- the integer types
 abbrev pub int_words : Table IntType

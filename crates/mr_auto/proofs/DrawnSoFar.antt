@@ -49,7 +49,7 @@ acted_stops step s t picks None v h = absurd (cc)
 acted_stops step s t picks (Some th) v h = settled_stops s t _ v h
 
 module _ (look : Look) (c : Config Own) (e : Entry) (s : State Own) (there : c.state ≡ Some s) (rule : has_rule (thread_step look) e.thread e.picks c.state ≡ true) where
-  by_bare : (b : Bare Own) → bare (thread_step look) s e.thread e.picks ≡ b → not (is_ill_formed b) ≡ true → HasState (after_bare c b)
+  by_bare : (b : Bare Own) → bare (thread_step look) s e.thread e.picks ≡ b → not (is_ill_formed b) ≡ true → HasState (after_bare (thread_step look) c b)
   by_bare (Completed n s') is k running = (s', refl)
   by_bare (Stops v) is k running =
       let stops = acted_stops (thread_step look) s e.thread e.picks (slice_get s.threads e.thread) v is in

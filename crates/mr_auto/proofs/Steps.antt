@@ -18,7 +18,8 @@ use Rattle.mr_plan.proofs.ElementLaws.{Contains-nil}
 use Rattle.mr_frame.specs.Fits.{IsLook}
 use Rattle.mr_frame.specs.Frames.{Look}
 use Rattle.mr_thread.specs.Steps.{Own, thread_step}
-use Rattle.mr_thread.proofs.RunSound.{IsSoundConfig, entry_sound}
+use Rattle.mr_thread.proofs.RunSound.{entry_sound}
+use Rattle.mr_thread.specs.SoundState.{IsSoundConfig}
 use Rattle.mr_tracks.proofs.Sane.{sound_is_sane}
 use Rattle.mr_tracks.proofs.Telling.{thread_step_tells}
 use Rattle.mr_swap.specs.Meets.{AreNewIn, IsTaken, addresses}
@@ -137,7 +138,7 @@ module _ (look : Look) (is : IsLook look) (well : WellFormed look.program) (c : 
   pub next_legal : entry_fault (thread_step look) c next.entry ≡ None
   next_legal = ap (λ (x : Next). entry_fault (thread_step look) c x.entry) d.drawn.is ∙ legal_here
 
-  by_bare : (b : Bare Own) → bare (thread_step look) s entry.thread entry.picks ≡ b → (x : State Own) → (after_bare c b).state ≡ Some x
+  by_bare : (b : Bare Own) → bare (thread_step look) s entry.thread entry.picks ≡ b → (x : State Own) → (after_bare (thread_step look) c b).state ≡ Some x
       → (q : ℕ × ℕ) → IsTaken (ranges_of x.shared.memory) q → EndsBy d.drawn.picks.chooser.next q
   by_bare (Completed n s') e x h q k =
       taken_behind look s chooser next d.drawn lies.positive (lies.behind s d.there) look.program (sound s d.there) n s' e q

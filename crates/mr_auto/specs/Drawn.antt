@@ -11,7 +11,7 @@ use Rattle.mr_plan.specs.Runs.{Config, after, feet}
 use Rattle.mr_frame.specs.Fits.{IsLook}
 use Rattle.mr_swap.specs.Meets.{IsTaken}
 use Rattle.mr_thread.specs.Steps.{Own, thread_step}
-use Rattle.mr_thread.proofs.RunSound.{IsSoundConfig}
+use Rattle.mr_thread.specs.SoundState.{IsSoundConfig}
 use Rattle.mr_step.specs.Standing.{Standing}
 use Rattle.mr_auto.specs.Answers.{HasState}
 use Rattle.mr_auto.specs.Drawing.{drawn_entries}

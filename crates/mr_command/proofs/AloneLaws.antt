@@ -11,6 +11,7 @@ use Rattle.mr_plan.specs.Machine.{Bare, Completed, IllFormedStep, State, Stops, 
 use Rattle.mr_plan.specs.Runs.{Config, feet, foot_from, foot_of_bare, machine_step}
 use Rattle.mr_sched.specs.declared.schedule.Entry.{Entry}
 use Rattle.mr_sched.specs.declared.schedule.Schedule.{Schedule}
+use Rattle.mr_sched.specs.declared.version.Version.{Version}
 use Rattle.mr_start.specs.Start.{PlacedFault, look_of, schedule_fault, start_config, steps_of}
 use Rattle.mr_step.specs.declared.fault.StepFault.{StepFault}
 use Rattle.mr_step.specs.declared.fault.StepFault.TheVariants as answer
@@ -21,11 +22,11 @@ use Rattle.mr_thread.specs.Steps.{Own, thread_step}
 use Rattle.mr_command.specs.declared.command.Format.{Format}
 use Rattle.mr_command.specs.declared.refusal.Refusal.{Refusal}
 use Rattle.mr_command.specs.declared.run.Finished.{Finished}
-use Rattle.mr_command.specs.Answer.{Answer, Ran, ran, reported, unless_broken, witness_for}
-use Rattle.mr_command.specs.Apart.{are_alone}
+use Rattle.mr_command.specs.Answer.{Answer, Ran, ran, told_in, unless_broken, witness_for}
+use Rattle.mr_command.specs.Alone.{are_alone}
 use Rattle.mr_command.specs.Report.{report_of, report_status}
 use Rattle.mr_command.specs.Running.{AloneAnswer, TakeAnswer, TakenAnswer, are_of_first, placed}
-use Rattle.mr_command.proofs.ApartLaws.{none_alone}
+use Rattle.mr_command.proofs.OneThread.{none_alone}
 use Rattle.mr_command.proofs.RunLaws.{entry_refused, entry_taken, run_led, run_refused}
 
 -- ---- the entries
@@ -62,7 +63,7 @@ alone_append (f ∷ fs) gs h k =
     ap (λ (b : Bool). b && are_alone (fs ++ gs)) one ∙ alone_append fs gs more k
 
 -- the step of an entry of thread 0 is of thread 0
-alone_bare : (look : Look) (s : State Own) (t : ℕ) (picks : List ℕ) → t ≡ 0 → (b : Bare Own) → bare (thread_step look) s t picks ≡ b → are_alone (foot_of_bare b) ≡ true
+alone_bare : (look : Look) (s : State Own) (t : ℕ) (picks : List ℕ) → t ≡ 0 → (b : Bare Own) → bare (thread_step look) s t picks ≡ b → are_alone (foot_of_bare (thread_step look) b) ≡ true
 alone_bare look s t picks first (Completed n u) is =
     ap (λ (b : Bool). b && true) (zero_is n.tally.thread (thread_noted look s u t picks n is ∙ first))
 alone_bare look s t picks first (Stops v) is = refl
@@ -106,12 +107,12 @@ run_alone_refused p w picks es m new r e k h (steps, a) = run_refused p w picks 
 -- ---- its report
 
 -- A RUN OF THREAD 0 ALONE is reported without its footprints
-pub reported_alone : (format : Format) (w : Schedule) (c : Config Own) (steps : List Footprint) → are_alone steps ≡ true
-    → reported format w (record { config = c; steps = steps }) ≡ reported format w (record { config = c; steps = [] })
-reported_alone format w c steps alone = ap (by steps) (none_alone steps alone) ∙ sym (ap (by []) (none_alone [] refl))
+pub reported_alone : (format : Format) (v : Version) (w : Schedule) (c : Config Own) (steps : List Footprint) → are_alone steps ≡ true
+    → told_in format v w (record { config = c; steps = steps }) ≡ told_in format v w (record { config = c; steps = [] })
+reported_alone format v w c steps alone = ap (by steps) (none_alone steps alone) ∙ sym (ap (by []) (none_alone [] refl))
   where
     by : List Footprint → List Pair → Answer
     by fs races = record {
-      text = report_of format c.output c.verdict races (witness_for fs w races);
+      text = report_of format c.output c.verdict races (witness_for format fs w races) v;
       status = report_status c.verdict races;
     }

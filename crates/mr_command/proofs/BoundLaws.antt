@@ -4,7 +4,7 @@ use Rattle.std.specs.Prelude.{bytes_eq, codes, if◌then◌else◌, nat_lt}
 use Rattle.mr_ast.specs.Words.{is_number, value_of}
 use Rattle.mr_base.proofs.Comparisons.{lt_from}
 use Rattle.mr_command.specs.declared.command.Format.{Format}
-use Rattle.mr_command.specs.Command.{Check, Command, IsBounded, auto_of, big_of, command_of, format_of, number_below, run_of}
+use Rattle.mr_command.specs.Command.{Check, Command, IsBounded, Upgrade, auto_of, big_of, command_of, format_of, number_below, run_of, shuffle_of}
 
 abbrev AllBounded : Option Command → Type 0
 AllBounded None = Unit {0}
@@ -34,6 +34,10 @@ run_bounded : (format : Option Format) (program schedule : List ℕ) → AllBoun
 run_bounded None program schedule = tt
 run_bounded (Some format) program schedule = tt
 
+shuffle_bounded : (program schedule : List ℕ) (number : Option ℕ) → AllBounded (shuffle_of program schedule number)
+shuffle_bounded program schedule None = tt
+shuffle_bounded program schedule (Some number) = tt
+
 big_bounded : (number : Option ℕ) → AllBounded (big_of number)
 big_bounded None = tt
 big_bounded (Some number) = tt
@@ -46,12 +50,16 @@ words_bounded : (words : List (List ℕ)) → AllBounded (command_of words)
 words_bounded [] = tt
 words_bounded (word ∷ []) = tt
 words_bounded (word ∷ name ∷ []) =
-    either_bounded (bytes_eq word (codes "check")) (Some (Check name)) (if bytes_eq word (codes "big") then big_of (number_below (2 ^ 64) name) else None) tt
-    (either_bounded (bytes_eq word (codes "big")) (big_of (number_below (2 ^ 64) name)) None (big_bounded (number_below (2 ^ 64) name)) tt)
+    let upgrade = if bytes_eq word (codes "upgrade") then Some (Upgrade name) else None in
+    either_bounded (bytes_eq word (codes "check")) (Some (Check name)) (if bytes_eq word (codes "big") then big_of (number_below (2 ^ 64) name) else upgrade) tt
+    (either_bounded (bytes_eq word (codes "big")) (big_of (number_below (2 ^ 64) name)) upgrade (big_bounded (number_below (2 ^ 64) name))
+    (either_bounded (bytes_eq word (codes "upgrade")) (Some (Upgrade name)) None tt tt))
 words_bounded (word ∷ program ∷ schedule ∷ []) = run_bounded (format_of word) program schedule
 words_bounded (word ∷ program ∷ number ∷ most ∷ []) =
-    either_bounded (bytes_eq word (codes "auto")) (auto_of program (number_below (2 ^ 64) number) (number_below (2 ^ 20 + 1) most)) None
-    (auto_bounded program (number_below (2 ^ 64) number) (number_below (2 ^ 20 + 1) most) (below (2 ^ 20 + 1) most)) tt
+    either_bounded (bytes_eq word (codes "auto")) (auto_of program (number_below (2 ^ 64) number) (number_below (2 ^ 20 + 1) most))
+    (if bytes_eq word (codes "shuffle") then shuffle_of program number (number_below (2 ^ 64) most) else None)
+    (auto_bounded program (number_below (2 ^ 64) number) (number_below (2 ^ 20 + 1) most) (below (2 ^ 20 + 1) most))
+    (either_bounded (bytes_eq word (codes "shuffle")) (shuffle_of program number (number_below (2 ^ 64) most)) None (shuffle_bounded program number (number_below (2 ^ 64) most)) tt)
 words_bounded (word ∷ program ∷ number ∷ most ∷ more ∷ words) = tt
 
 pub command_bounded : (words : List (List ℕ)) (c : Command) → Some c ≡ command_of words → IsBounded c

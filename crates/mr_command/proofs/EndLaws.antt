@@ -6,7 +6,7 @@ use Rattle.mr_io.specs.Files.{Contents}
 use Rattle.mr_command.specs.declared.answer.Written.{Written}
 use Rattle.mr_command.specs.declared.refusal.Refusal.{Refusal}
 use Rattle.mr_command.specs.declared.refusal.Refusal.TheVariants as refusal
-use Rattle.mr_command.specs.Command.{Auto, Big, Check, Command, Run}
+use Rattle.mr_command.specs.Command.{Auto, Big, Check, Command, Run, Upgrade}
 use Rattle.mr_command.specs.Answer.{Answer, answer_of, refused}
 use Rattle.mr_command.specs.Answering.{IsAnswered, Tells, seen}
 use Rattle.mr_command.specs.Outcome.{Ends, IsLeft, IsPossible, IsRefusedOrLeft, IsWritten}
@@ -34,6 +34,8 @@ module _ (files : Contents) (files_rose out_rose : Type 0) (old new : Option (Li
   written_ends (Auto program number most) a (inl tells) written = inr (seen a, inl tells, written)
   written_ends (Auto program number most) a (inr (rose, e)) written = absurd (cc)
   written_ends (Big number) a tells written = inr (seen a, inl tells, written)
+  written_ends (Upgrade schedule) a (inl tells) written = inr (seen a, inl tells, written)
+  written_ends (Upgrade schedule) a (inr (rose, e)) written = absurd (cc)
 
   -- a refusal that is defined
   is_defined : (command : Command) (r : Refusal) → IsAnswered files command files_rose (Err r) → (r ≡ refusal.Memory) ⊎ IsPossible files (Some command) files_rose (refused r)
@@ -48,6 +50,9 @@ module _ (files : Contents) (files_rose out_rose : Type 0) (old new : Option (Li
       elim (refusal_told (answer_of files (Some (Auto program number most))) r tells) [ inl e ↦ inl e | inr e ↦ inr (inl (sym e)) ]
   is_defined (Auto program number most) r (inr (rose, e)) = inr (inr (rose, ap refused (same_refusal e)))
   is_defined (Big number) r tells = elim (refusal_told (answer_of files (Some (Big number))) r tells) [ inl e ↦ inl e | inr e ↦ inr (inl (sym e)) ]
+  is_defined (Upgrade schedule) r (inl tells) =
+      elim (refusal_told (answer_of files (Some (Upgrade schedule))) r tells) [ inl e ↦ inl e | inr e ↦ inr (inl (sym e)) ]
+  is_defined (Upgrade schedule) r (inr (rose, e)) = inr (inr (rose, ap refused (same_refusal e)))
 
   -- nothing was written, or the line of a refusal that isn't for want of memory
   left_or_written : (r : Refusal) → IsRefusedOrLeft r out_rose old new status → IsLeft old new status ⊎ ((r ≡ refusal.Memory → ⊥) × IsWritten (refused r) out_rose old new status)

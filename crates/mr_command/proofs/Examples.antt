@@ -10,7 +10,9 @@ use Rattle.mr_ast.specs.declared.program.Term.TheVariants.{Exit}
 use Rattle.mr_wf.specs.declared.fault.Item.TheVariants.{Function as InFunction}
 use Rattle.mr_command.specs.declared.refusal.Refusal.TheVariants.{Schedule, Text}
 use Rattle.mr_command.specs.declared.command.Format.TheVariants as Format
-use Rattle.mr_command.specs.Command.{Check, Run, command_of}
+use Rattle.mr_sched.specs.declared.version.Version.TheVariants.{One, Two}
+use Rattle.mr_command.specs.Command.{Check, Run, Upgrade, command_of}
+use Rattle.mr_command.specs.Answer.{line_at}
 use Rattle.mr_command.specs.Form.{form_line}
 use Rattle.mr_report.specs.Report.{line}
 use Rattle.mr_command.specs.Report.{report_of, refusal_text}
@@ -21,6 +23,9 @@ the_form = refl
 the_other_form : command_of (codes "check" ∷ codes "P" ∷ []) ≡ Some (Check (codes "P"))
 the_other_form = refl
 
+the_upgrade : command_of (codes "upgrade" ∷ codes "S" ∷ []) ≡ Some (Upgrade (codes "S"))
+the_upgrade = refl
+
 a_word_more : command_of (codes "check" ∷ codes "P" ∷ codes "S" ∷ []) ≡ None
 a_word_more = refl
 
@@ -30,11 +35,11 @@ a_word_short = refl
 another_word : command_of (codes "walk" ∷ codes "P" ∷ codes "S" ∷ []) ≡ None
 another_word = refl
 
-one_print : report_of Format.Text (record { thread = 0; text = codes "42" } ∷ []) verdict.Exit [] None ≡ line (codes "> 42") ++ line (codes "verdict exit") ++ line (codes "races 0")
+one_print : report_of Format.Text (record { thread = 0; text = codes "42" } ∷ []) verdict.Exit [] None One ≡ line (codes "> 42") ++ line (codes "verdict exit") ++ line (codes "races 0")
 unfolding digits
 one_print = refl
 
-with_reason : report_of Format.Text [] (verdict.Undefined DataRace) [] None ≡ line (codes "verdict undefined 100 DataRace") ++ line (codes "races 0")
+with_reason : report_of Format.Text [] (verdict.Undefined DataRace) [] None One ≡ line (codes "verdict undefined 100 DataRace") ++ line (codes "races 0")
 unfolding digits
 with_reason = refl
 
@@ -49,6 +54,18 @@ at_a_line = refl
 of_a_text : refusal_text (Text 1 16 4) ≡ line (codes "text 1 16 4 Unexpected")
 unfolding digits
 of_a_text = refl
+
+-- ---- lines of places
+
+-- the third entry stands on line 5 in version 1, and in version 2 on line 4, since the first two have one line
+third_in_one : line_at One (record { start = []; entries = record { thread = 0; picks = [] } ∷ record { thread = 0; picks = [] } ∷ record { thread = 1; picks = [] } ∷ [] }) 5 ≡ 5
+third_in_one = refl
+
+third_in_two : line_at Two (record { start = []; entries = record { thread = 0; picks = [] } ∷ record { thread = 0; picks = [] } ∷ record { thread = 1; picks = [] } ∷ [] }) 5 ≡ 4
+third_in_two = refl
+
+the_start : line_at Two (record { start = []; entries = [] }) 2 ≡ 2
+the_start = refl
 
 -- ---- broken rules
 

@@ -10,10 +10,11 @@ use Rattle.mr_grammar.specs.Denotes.{Denotes}
 use Rattle.mr_grammar.specs.Faults.{FirstFault}
 use Rattle.mr_grammar.proofs.ParsingLaws.{denotes_parsed, fault_parsed}
 use Rattle.mr_sched.specs.declared.schedule.Schedule.{Schedule}
-use Rattle.mr_sched.proofs.TextLaws.{schedule_again, schedule_fails_at}
+use Rattle.mr_sched.specs.declared.version.Version.{Version}
+use Rattle.mr_sched.proofs.TextLaws.{as_read, schedule_again, schedule_fails_at}
 use Rattle.mr_event.specs.declared.footprint.Pair.{Pair}
 use Rattle.mr_event.specs.Predicted.{predicted}
-use Rattle.mr_start.specs.Start.{PlacedFault, run_of, steps_of}
+use Rattle.mr_start.specs.Start.{Legal, PlacedFault, run_of, steps_of}
 use Rattle.mr_start.proofs.RunLaws.{no_schedule_fault}
 use Rattle.mr_start.proofs.StartSound.{sound_run}
 use Rattle.mr_wf.specs.declared.fault.FormFault.{FormFault}
@@ -24,12 +25,18 @@ use Rattle.mr_auto.specs.Drawing.{drawn_schedule}
 use Rattle.mr_auto.proofs.LegalRuns.{schedule_legal}
 use Rattle.mr_command.specs.declared.refusal.Refusal.TheVariants as refusal
 use Rattle.mr_command.specs.declared.command.Format.{Format}
-use Rattle.mr_command.specs.Command.{Auto, Big, Check, Command, NamesProgram, Run}
-use Rattle.mr_command.specs.Answer.{Answer, auto_answer, big_answer, big_schedule, drawn_answer, program_in, ran, schedule_in, denoted, spelled, text_refusal, legal_run, unless_broken, canonical, check_answer, form_answer, form_or, refused, report_under, reported, run_answer, run_report, told, answer_of}
+use Rattle.mr_command.specs.declared.command.Format.TheVariants as format
+use Rattle.mr_command.specs.Command.{Auto, Big, Check, Command, NamesProgram, Run, Upgrade}
+use Rattle.mr_command.specs.Answer.{Answer, Ran, auto_answer, big_answer, big_schedule, drawn_answer, program_in, ran, schedule_in, denoted, spelled, text_refusal, legal_run, unless_broken, canonical, check_answer, form_answer, form_or, in_text, line_at, read_report, refused, report_under, reported, run_answer, shuffled_answer, told, upgrade_answer, upgraded, answer_of}
 use Rattle.mr_witness.proofs.Kept.{first_witness}
+use Rattle.mr_order.proofs.First.{first_of_predicted}
+use Rattle.mr_short.proofs.Witness.{witness_of_run}
+use Rattle.mr_shuffle.specs.Shuffled.{shuffled}
+use Rattle.mr_shuffle.proofs.Copied.{shuffled_same}
+use Rattle.mr_shuffle.proofs.Drawn.{shuffled_rearranged}
 use Rattle.mr_command.specs.Report.{report_status, verdict_status}
 use Rattle.mr_command.specs.Outcome.{Ends, EndsOverTexts, RanOut, holding, IsLeft, IsPossible, IsUnread, IsWritten}
-use Rattle.mr_command.specs.Headline.{ChecksProgram, DrawsFor, IsSoundUnder, Names, NamesBroken, NamesBrokenSchedule, NamesFault, NamesScheduleFault, RunsProgram, IsOfMachine, IsTold}
+use Rattle.mr_command.specs.Headline.{ChecksProgram, DrawsFor, IsSoundUnder, Names, NamesBroken, NamesBrokenSchedule, NamesFault, NamesScheduleFault, KeepsResult, ReadsSchedule, RunsProgram, IsOfMachine, IsTold, ShowsFirstRace, Upgrades}
 use Rattle.mr_command.proofs.AnswerLaws.{first_told}
 
 -- ---- what a file holds
@@ -43,16 +50,17 @@ fault_in file text fault there f = ap program_in there ∙ ap denoted (fault_par
 -- ---- the answers by definition
 
 -- a well-formed program and a legal schedule are answered by the report of their run
-pub named_answer : (files : Contents) (command : Option Command) (format : Format) (p : Program) (w : Schedule) → Names files command format p w → answer_of files command ≡ reported format w (ran p w)
-named_answer files command format p w h =
+pub named_answer : (files : Contents) (command : Option Command) (format : Format) (p : Program) (v : Version) (w : Schedule) → Names files command format p v w
+    → answer_of files command ≡ reported format p v w (ran p w)
+named_answer files command format p v w h =
     let program = denoted_in (files h.program_name) h.program_text p h.program_there h.denotes in
-    let schedule : schedule_in (files h.schedule_name) ≡ Ok w = ap schedule_in h.schedule_there ∙ ap spelled (schedule_again h.schedule_text w h.schedules) in
+    let schedule : schedule_in (files h.schedule_name) ≡ Ok (as_read v w) = ap schedule_in h.schedule_there ∙ ap spelled (schedule_again h.schedule_text v w h.schedules) in
     let legal : legal_run p w ≡ Ok (ran p w) = ap (λ f. unless_broken f (ran p w)) (no_schedule_fault p w h.legal) in
     ap (answer_of files) h.is_run
     ∙ ap (told (run_answer format (files h.schedule_name))) program
     ∙ ap (λ faults. form_or p faults (report_under format (files h.schedule_name) p)) h.well_formed.unbroken
-    ∙ ap (told (run_report format p)) schedule
-    ∙ ap (told (reported format w)) legal
+    ∙ ap (told (read_report format p)) schedule
+    ∙ ap (λ r. told (reported format p v w) (in_text v w r)) legal
 
 -- a well-formed program that is checked is answered by its canonical text
 pub checked_answer : (files : Contents) (command : Option Command) (p : Program) → ChecksProgram files command p → answer_of files command ≡ canonical p
@@ -118,19 +126,52 @@ run_answer_of files command p schedule h =
 -- the first fault of a schedule's text is told
 schedule_fault_answer : (files : Contents) (command : Option Command) (line code : ℕ) → NamesScheduleFault files command line code
     → answer_of files command ≡ refused (refusal.Schedule line code None)
-schedule_fault_answer files command line code h =
-    run_answer_of files command h.program h.schedule_name h.runs
-    ∙ ap (λ file. report_under h.runs.format file h.program) h.there
-    ∙ ap (λ r. told (run_report h.runs.format h.program) (spelled r)) (schedule_fails_at h.text line code h.first)
+schedule_fault_answer files command line code h = go h.reads
+  where
+    go : ReadsSchedule files command h.schedule_name → answer_of files command ≡ refused (refusal.Schedule line code None)
+    go (inl (p, runs)) =
+        run_answer_of files command p h.schedule_name runs
+        ∙ ap (λ file. report_under runs.format file p) h.there
+        ∙ ap (λ r. told (read_report runs.format p) (spelled r)) (schedule_fails_at h.text line code h.first)
+    go (inr is) =
+        ap (answer_of files) is
+        ∙ ap (λ file. told upgrade_answer (schedule_in file)) h.there
+        ∙ ap (λ r. told upgrade_answer (spelled r)) (schedule_fails_at h.text line code h.first)
 
 -- the first rule that a schedule breaks is told
-broken_schedule_answer : (files : Contents) (command : Option Command) (fault : PlacedFault) → NamesBrokenSchedule files command fault
-    → answer_of files command ≡ refused (refusal.Schedule fault.line fault.fault.code fault.fault.earlier)
-broken_schedule_answer files command fault h =
+broken_schedule_answer : (files : Contents) (command : Option Command) (v : Version) (w : Schedule) (fault : PlacedFault) → NamesBrokenSchedule files command v w fault
+    → answer_of files command ≡ refused (refusal.Schedule (line_at v w fault.line) fault.fault.code fault.fault.earlier)
+broken_schedule_answer files command v w fault h =
     run_answer_of files command h.program h.schedule_name h.runs
     ∙ ap (λ file. report_under h.runs.format file h.program) h.there
-    ∙ ap (λ r. told (run_report h.runs.format h.program) (spelled r)) (schedule_again h.text h.schedule h.schedules)
-    ∙ ap (λ f. told (reported h.runs.format h.schedule) (unless_broken f (ran h.program h.schedule))) h.first
+    ∙ ap (λ r. told (read_report h.runs.format h.program) (spelled r)) (schedule_again h.text v w h.schedules)
+    ∙ ap (λ f. told (reported h.runs.format h.program v w) (in_text v w (unless_broken f (ran h.program w)))) h.first
+
+-- a schedule that is upgraded is answered by its text in version 2
+pub upgraded_answer : (files : Contents) (command : Option Command) (v : Version) (w : Schedule) → Upgrades files command v w → answer_of files command ≡ upgraded w
+upgraded_answer files command v w h =
+    ap (answer_of files) h.is_upgrade
+    ∙ ap (λ file. told upgrade_answer (schedule_in file)) h.there
+    ∙ ap (λ r. told upgrade_answer (spelled r)) (schedule_again h.text v w h.schedules)
+
+-- ---- witnesses and other orders
+
+-- what is shown for the first race is a witness
+pub witnessed : (format : Format) (p : Program) (w : Schedule) → WellFormed p → Legal p w → ShowsFirstRace format p w
+witnessed format.Text p w well legal = first_witness p w well legal
+witnessed format.Json p w well legal = first_witness p w well legal
+witnessed format.Short p w well legal = λ pair races e. witness_of_run p w _ (steps_of p w) pair.first pair.second well legal refl (first_of_predicted (steps_of p w) pair races e) refl
+witnessed (format.Shuffled number) p w well legal = first_witness p w well legal
+
+-- another order comes to the same
+keeps_result : (format : Format) (p : Program) (w : Schedule) → WellFormed p → Legal p w → KeepsResult format p w
+keeps_result format.Text p w well legal = tt
+keeps_result format.Json p w well legal = tt
+keeps_result format.Short p w well legal = tt
+keeps_result (format.Shuffled number) p w well legal = λ none. (
+  shuffled_rearranged (steps_of p w) number,
+  shuffled_same (steps_of p w) w (shuffled (steps_of p w) w number) number refl p well legal refl none,
+)
 
 -- ---- how a call ends
 
@@ -146,6 +187,7 @@ unread_status files (Some (Run format program schedule)) a (inr h) = ap (λ (b :
 unread_status files (Some (Check program)) a h = ap (λ (b : Answer). b.status) h
 unread_status files (Some (Auto program number most)) a h = ap (λ (b : Answer). b.status) h
 unread_status files (Some (Big number)) a h = absurd h
+unread_status files (Some (Upgrade schedule)) a h = ap (λ (b : Answer). b.status) h
 
 pub written_status : (a : Answer) (rose : Type 0) (old new : Option (List ℕ)) (status : ℕ) → IsWritten a rose old new status → (status ≡ a.status) ⊎ (rose × (status ≡ 7))
 written_status a rose old new status (inl h) = inl h.0
@@ -169,9 +211,14 @@ module _ (files : Contents) (command : Option Command) (files_rose out_rose : Ty
   ends_told b e (inl out) = inr (inl (ran_out command old new status out))
   ends_told b e (inr ends) = possible_told ends.0 b e ends.1 ends.2
 
-  pub of_machine : (format : Format) (p : Program) (w : Schedule) → Names files command format p w → Ends files command files_rose out_rose old new status
-      → IsOfMachine format p w files_rose out_rose old new status
-  of_machine format p w h e = record { sound = sound_run p w h.well_formed h.legal; witness = first_witness p w h.well_formed h.legal; report = ends_told (reported format w (ran p w)) (named_answer files command format p w h) e }
+  pub of_machine : (format : Format) (p : Program) (v : Version) (w : Schedule) → Names files command format p v w → Ends files command files_rose out_rose old new status
+      → IsOfMachine format p v w files_rose out_rose old new status
+  of_machine format p v w h e = record {
+    sound = sound_run p w h.well_formed h.legal;
+    witness = witnessed format p w h.well_formed h.legal;
+    order = keeps_result format p w h.well_formed h.legal;
+    report = ends_told (reported format p v w (ran p w)) (named_answer files command format p v w h) e;
+  }
 
   pub drawn_told : (number most : ℕ) (p : Program) → DrawsFor files command number most p → Ends files command files_rose out_rose old new status
       → IsSoundUnder p (drawn_schedule p number most) × IsTold (drawn_answer p (drawn_schedule p number most)) files_rose out_rose old new status
@@ -193,10 +240,14 @@ module _ (files : Contents) (command : Option Command) (files_rose out_rose : Ty
       → IsTold (refused (refusal.Schedule line code None)) files_rose out_rose old new status
   schedule_fault_told line code h e = ends_told (refused (refusal.Schedule line code None)) (schedule_fault_answer files command line code h) e
 
-  pub broken_schedule_told : (fault : PlacedFault) → NamesBrokenSchedule files command fault → Ends files command files_rose out_rose old new status
-      → IsTold (refused (refusal.Schedule fault.line fault.fault.code fault.fault.earlier)) files_rose out_rose old new status
-  broken_schedule_told fault h e =
-      ends_told (refused (refusal.Schedule fault.line fault.fault.code fault.fault.earlier)) (broken_schedule_answer files command fault h) e
+  pub broken_schedule_told : (v : Version) (w : Schedule) (fault : PlacedFault) → NamesBrokenSchedule files command v w fault → Ends files command files_rose out_rose old new status
+      → IsTold (refused (refusal.Schedule (line_at v w fault.line) fault.fault.code fault.fault.earlier)) files_rose out_rose old new status
+  broken_schedule_told v w fault h e =
+      ends_told (refused (refusal.Schedule (line_at v w fault.line) fault.fault.code fault.fault.earlier)) (broken_schedule_answer files command v w fault h) e
+
+  pub upgraded_told : (v : Version) (w : Schedule) → Upgrades files command v w → Ends files command files_rose out_rose old new status
+      → IsTold (upgraded w) files_rose out_rose old new status
+  upgraded_told v w h e = ends_told (upgraded w) (upgraded_answer files command v w h) e
 
 verdict_at_most_one : (v : Verdict) → verdict_status v ≤ 1
 verdict_at_most_one verdict.Running = omega arith
@@ -210,13 +261,24 @@ pub at_most_one : (v : Verdict) (races : List Pair) → report_status v races �
 at_most_one v [] = verdict_at_most_one v
 at_most_one v (p ∷ races) = omega arith
 
+shuffled_least : (number : ℕ) (p : Program) (v : Version) (w : Schedule) (r : Ran) (races : List Pair) → (shuffled_answer number p v w r races).status ≤ 1
+shuffled_least number p v w r [] = at_most_one (run_of p (shuffled r.steps w number)).verdict (predicted (steps_of p (shuffled r.steps w number)))
+shuffled_least number p v w r (pair ∷ races) = at_most_one r.config.verdict (predicted r.steps)
+
+-- the status of a report
+pub reported_least : (format : Format) (p : Program) (v : Version) (w : Schedule) (r : Ran) → (reported format p v w r).status ≤ 1
+reported_least format.Text p v w r = at_most_one r.config.verdict (predicted r.steps)
+reported_least format.Json p v w r = at_most_one r.config.verdict (predicted r.steps)
+reported_least format.Short p v w r = at_most_one r.config.verdict (predicted r.steps)
+reported_least (format.Shuffled number) p v w r = shuffled_least number p v w r (predicted r.steps)
+
 -- without faults the status is that of the report, unless memory ran out
-pub unless_faults : (format : Format) (p : Program) (w : Schedule) (files_rose out_rose : Type 0) (old new : Option (List ℕ)) (status : ℕ) → IsOfMachine format p w files_rose out_rose old new status
+pub unless_faults : (format : Format) (p : Program) (v : Version) (w : Schedule) (files_rose out_rose : Type 0) (old new : Option (List ℕ)) (status : ℕ) → IsOfMachine format p v w files_rose out_rose old new status
     → ¬ files_rose → ¬ out_rose → (status ≤ 1) ⊎ (status ≡ 8)
-unless_faults format p w files_rose out_rose old new status m no_read no_write =
+unless_faults format p v w files_rose out_rose old new status m no_read no_write =
     elim m.report [
-      | inl written ↦ elim (written_status (reported format w (ran p w)) out_rose old new status written) [
-        | inl s ↦ inl (let least = at_most_one (run_of p w).verdict (predicted (steps_of p w)) in omega arith)
+      | inl written ↦ elim (written_status (reported format p v w (ran p w)) out_rose old new status written) [
+        | inl s ↦ inl (let least = reported_least format p v w (ran p w) in omega arith)
         | inr f ↦ absurd (no_write f.0)
       ]
       | inr left ↦ elim left [
@@ -235,6 +297,14 @@ drawn_unless_faults p w files_rose out_rose old new status (inl written) no_read
     ]
 drawn_unless_faults p w files_rose out_rose old new status (inr (inl left)) no_read no_write = inr left.0
 drawn_unless_faults p w files_rose out_rose old new status (inr (inr f)) no_read no_write = absurd (no_read f.0)
+
+-- the same of a schedule that is upgraded
+pub upgraded_unless_faults : (w : Schedule) (files_rose out_rose : Type 0) (old new : Option (List ℕ)) (status : ℕ) → IsTold (upgraded w) files_rose out_rose old new status
+    → ¬ files_rose → ¬ out_rose → (status ≡ 0) ⊎ (status ≡ 8)
+upgraded_unless_faults w files_rose out_rose old new status (inl written) no_read no_write =
+    elim (written_status (upgraded w) out_rose old new status written) [ inl s ↦ inl s | inr f ↦ absurd (no_write f.0) ]
+upgraded_unless_faults w files_rose out_rose old new status (inr (inl left)) no_read no_write = inr left.0
+upgraded_unless_faults w files_rose out_rose old new status (inr (inr f)) no_read no_write = absurd (no_read f.0)
 
 -- ---- the program of a number
 

@@ -1,4 +1,3 @@
-pub mod ApartLaws
 pub mod AloneLaws
 pub mod AnswerLaws
 pub mod BoundLaws
@@ -6,8 +5,11 @@ pub mod EndLaws
 pub mod Examples
 pub mod HeadlineLaws
 pub mod InputLaws
+pub mod OneThread
 pub mod OnlyLaws
+pub mod PlaceLaws
 pub mod PrintedLaws
+pub mod ReorderedLaws
 pub mod RunLaws
 pub mod StepCount
 pub mod TextLaws

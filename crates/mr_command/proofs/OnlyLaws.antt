@@ -9,19 +9,21 @@ use Rattle.mr_grammar.specs.Parsing.{parsed}
 use Rattle.mr_grammar.proofs.ParsingLaws.{parsed_denotes}
 use Rattle.mr_grammar.proofs.Shape.ShapedLaws.{denoted_is_shaped}
 use Rattle.mr_sched.specs.declared.schedule.Schedule.{Schedule}
+use Rattle.mr_sched.specs.declared.version.Read.{Read}
+use Rattle.mr_sched.specs.declared.version.Version.{Version}
 use Rattle.mr_sched.specs.Reading.{Fault, schedule_of}
-use Rattle.mr_sched.proofs.TextLaws.{schedule_read}
+use Rattle.mr_sched.proofs.TextLaws.{schedule_failed, schedule_read}
 use Rattle.mr_start.specs.Start.{PlacedFault, schedule_fault}
 use Rattle.mr_start.proofs.RunLaws.{legal_schedule}
 use Rattle.mr_wf.specs.declared.fault.FormFault.{FormFault}
 use Rattle.mr_wf.specs.Walk.{WellFormed, faults_of}
 use Rattle.mr_auto.specs.Drawing.{drawn_schedule}
 use Rattle.mr_command.specs.declared.command.Format.{Format}
-use Rattle.mr_command.specs.Command.{Auto, Check, Command, Run}
-use Rattle.mr_command.specs.Answer.{Answer, Ran, answer_of, auto_answer, canonical, check_answer, denoted, drawn_answer, form_or, program_in, ran, report_under, reported, run_answer, run_report, spelled, told, unless_broken}
+use Rattle.mr_command.specs.Command.{Auto, Check, Command, Run, Upgrade}
+use Rattle.mr_command.specs.Answer.{Answer, Ran, answer_of, auto_answer, canonical, check_answer, denoted, drawn_answer, form_or, in_text, program_in, ran, read_report, report_under, reported, run_answer, schedule_in, spelled, told, unless_broken, upgrade_answer, upgraded}
 use Rattle.mr_command.specs.Outcome.{Ends, IsWhole}
-use Rattle.mr_command.specs.Headline.{ChecksProgram, DrawsFor, Names, ReportsLegalRun, WritesCanonical, WritesDrawn}
-use Rattle.mr_command.proofs.HeadlineLaws.{auto_answered, checked_answer, named_answer, ran_out, unread_status}
+use Rattle.mr_command.specs.Headline.{ChecksProgram, DrawsFor, HasScheduleFault, Names, ReportsLegalRun, Upgrades, WritesCanonical, WritesDrawn, WritesUpgraded}
+use Rattle.mr_command.proofs.HeadlineLaws.{auto_answered, checked_answer, named_answer, ran_out, unread_status, upgraded_answer}
 
 -- a program that a text denotes and that breaks no rule is well-formed
 unbroken_well_formed : (text : List ℕ) (p : Program) → parsed text ≡ Ok p → faults_of p ≡ [] → WellFormed p
@@ -29,19 +31,20 @@ unbroken_well_formed text p parses none = record { shaped = denoted_is_shaped te
 
 -- ---- where a status is at most 1
 
-no_fault : (format : Format) (w : Schedule) (f : Option PlacedFault) (c : Ran) → (told (reported format w) (unless_broken f c)).status ≤ 1 → f ≡ None
-no_fault format w None c s = refl
-no_fault format w (Some f) c s = let five : 5 ≤ 1 = s in absurd (omega arith)
+no_fault : (format : Format) (p : Program) (v : Version) (w : Schedule) (f : Option PlacedFault) (c : Ran) → (told (reported format p v w) (in_text v w (unless_broken f c))).status ≤ 1
+    → f ≡ None
+no_fault format p v w None c s = refl
+no_fault format p v w (Some f) c s = let five : 5 ≤ 1 = s in absurd (omega arith)
 
-legal_schedule_of : (format : Format) (p : Program) (r : Result Schedule Fault) → (told (run_report format p) (spelled r)).status ≤ 1
-    → (w : Schedule) × (r ≡ Ok w) × (schedule_fault p w ≡ None)
-legal_schedule_of format p (Ok w) s = (w, refl, no_fault format w (schedule_fault p w) (ran p w) s)
+legal_schedule_of : (format : Format) (p : Program) (r : Result Read Fault) → (told (read_report format p) (spelled r)).status ≤ 1
+    → (x : Read) × (r ≡ Ok x) × (schedule_fault p x.schedule ≡ None)
+legal_schedule_of format p (Ok x) s = (x, refl, no_fault format p x.version x.schedule (schedule_fault p x.schedule) (ran p x.schedule) s)
 legal_schedule_of format p (Err f) s = let five : 5 ≤ 1 = s in absurd (omega arith)
 
 legal_schedule_in : (format : Format) (p : Program) (file : Option (List ℕ)) → (report_under format file p).status ≤ 1
-    → (text : List ℕ) × (file ≡ Some text) × (w : Schedule) × (schedule_of text ≡ Ok w) × (schedule_fault p w ≡ None)
+    → (text : List ℕ) × (file ≡ Some text) × (x : Read) × (schedule_of text ≡ Ok x) × (schedule_fault p x.schedule ≡ None)
 legal_schedule_in format p None s = let six : 6 ≤ 1 = s in absurd (omega arith)
-legal_schedule_in format p (Some text) s = let (w, spells, lawful) = legal_schedule_of format p (schedule_of text) s in (text, refl, w, spells, lawful)
+legal_schedule_in format p (Some text) s = let (x, spells, lawful) = legal_schedule_of format p (schedule_of text) s in (text, refl, x, spells, lawful)
 
 no_broken_rule : (p : Program) (faults : List FormFault) (a : Answer) → (form_or p faults a).status ≤ 1 → (faults ≡ []) × (a.status ≤ 1)
 no_broken_rule p [] a s = (refl, s)
@@ -71,13 +74,14 @@ unbroken_program_of say (Err f) s = let three : 3 ≤ 1 = s in absurd (omega ari
 
 module _ (files : Contents) where
   named_of : (format : Format) (program schedule : List ℕ) (file : Option (List ℕ)) → files program ≡ file → (told (run_answer format (files schedule)) (program_in file)).status ≤ 1
-      → (p : Program) × (w : Schedule) × Names files (Some (Run format program schedule)) format p w
+      → (p : Program) × (v : Version) × (w : Schedule) × Names files (Some (Run format program schedule)) format p v w
   named_of format program schedule None e s = let six : 6 ≤ 1 = s in absurd (omega arith)
   named_of format program schedule (Some text) e s =
       let (p, parses, sound) = sound_program_of format (parsed text) (files schedule) s in
-      let (schedule_text, there, w, spells, lawful) = legal_schedule_in format p (files schedule) sound.small in (
+      let (schedule_text, there, x, spells, lawful) = legal_schedule_in format p (files schedule) sound.small in (
         p,
-        w,
+        x.version,
+        x.schedule,
         record {
           program_name = program;
           schedule_name = schedule;
@@ -88,8 +92,8 @@ module _ (files : Contents) where
           well_formed = unbroken_well_formed text p parses sound.unbroken;
           schedule_text = schedule_text;
           schedule_there = there;
-          schedules = schedule_read schedule_text w spells;
-          legal = legal_schedule p w lawful;
+          schedules = schedule_read schedule_text x spells;
+          legal = legal_schedule p x.schedule lawful;
         },
       )
 
@@ -125,6 +129,30 @@ module _ (files : Contents) where
         },
       )
 
+-- ---- schedules that are upgraded
+
+read_of : (r : Result Read Fault) → (told upgrade_answer (spelled r)).status ≤ 1 → (x : Read) × (r ≡ Ok x)
+read_of (Ok x) s = (x, refl)
+read_of (Err f) s = let five : 5 ≤ 1 = s in absurd (omega arith)
+
+fault_of : (r : Result Read Fault) → (told upgrade_answer (spelled r)).status ≡ 5 → (f : Fault) × (r ≡ Err f)
+fault_of (Ok x) s = let zero : 0 ≡ 5 = s in absurd (omega arith)
+fault_of (Err f) s = (f, refl)
+
+module _ (files : Contents) (schedule : List ℕ) where
+  upgraded_of : (file : Option (List ℕ)) → files schedule ≡ file → (told upgrade_answer (schedule_in file)).status ≤ 1
+      → (v : Version) × (w : Schedule) × Upgrades files (Some (Upgrade schedule)) v w
+  upgraded_of None e s = let six : 6 ≤ 1 = s in absurd (omega arith)
+  upgraded_of (Some text) e s =
+      let (x, spells) = read_of (schedule_of text) s in
+      (x.version, x.schedule, record { name = schedule; is_upgrade = refl; text = text; there = e; schedules = schedule_read text x spells })
+
+  faulty_of : (file : Option (List ℕ)) → files schedule ≡ file → (told upgrade_answer (schedule_in file)).status ≡ 5 → HasScheduleFault files (Some (Upgrade schedule))
+  faulty_of None e s = let six : 6 ≡ 5 = s in absurd (omega arith)
+  faulty_of (Some text) e s =
+      let (f, fails) = fault_of (schedule_of text) s in
+      (f.line, f.code, record { schedule_name = schedule; reads = inr refl; text = text; there = e; first = schedule_failed text f fails })
+
 -- ---- how a call ends with 0 or 1
 
 module _ (files : Contents) (files_rose out_rose : Type 0) (old new : Option (List ℕ)) (status : ℕ) where
@@ -147,8 +175,8 @@ module _ (files : Contents) (files_rose out_rose : Type 0) (old new : Option (Li
   run_only format program schedule ends s =
       let command = Some (Run format program schedule) in
       let whole = whole_answer command ends s in
-      let (p, w, names) = named_of files format program schedule (files program) refl (small_answer (answer_of files command) whole s) in
-      (p, w, names, same_whole (answer_of files command) (reported format w (ran p w)) (named_answer files command format p w names) whole)
+      let (p, v, w, names) = named_of files format program schedule (files program) refl (small_answer (answer_of files command) whole s) in
+      (p, v, w, names, same_whole (answer_of files command) (reported format p v w (ran p w)) (named_answer files command format p v w names) whole)
 
   check_only : (program : List ℕ) → Ends files (Some (Check program)) files_rose out_rose old new status → status ≤ 1
       → WritesCanonical files (Some (Check program)) old new status
@@ -165,6 +193,25 @@ module _ (files : Contents) (files_rose out_rose : Type 0) (old new : Option (Li
       let whole = whole_answer command ends s in
       let (p, draws) = drawn_of files program number most (files program) refl (small_answer (answer_of files command) whole s) in
       (p, draws, same_whole (answer_of files command) (drawn_answer p (drawn_schedule p number most)) (auto_answered files command number most p draws) whole)
+
+  upgrade_only : (schedule : List ℕ) → Ends files (Some (Upgrade schedule)) files_rose out_rose old new status → status ≤ 1
+      → WritesUpgraded files (Some (Upgrade schedule)) old new status
+  upgrade_only schedule ends s =
+      let command = Some (Upgrade schedule) in
+      let whole = whole_answer command ends s in
+      let (v, w, upgrades) = upgraded_of files schedule (files schedule) refl (small_answer (answer_of files command) whole s) in
+      (v, w, upgrades, same_whole (answer_of files command) (upgraded w) (upgraded_answer files command v w upgrades) whole)
+
+  -- 5 is that of the answer by definition
+  five_answer : (command : Option Command) → Ends files command files_rose out_rose old new status → status ≡ 5 → (answer_of files command).status ≡ 5
+  five_answer command (inl out) s = let eight = (ran_out command old new status out).0 in absurd (omega arith)
+  five_answer command (inr (a, inl is, inl (same, text))) s = sym (ap (λ (b : Answer). b.status) is) ∙ sym same ∙ s
+  five_answer command (inr (a, inl is, inr (seven, rises, part))) s = absurd (omega arith)
+  five_answer command (inr (a, inr (rose, unread), inl (same, text))) s = let six = unread_status files command a unread in absurd (omega arith)
+  five_answer command (inr (a, inr (rose, unread), inr (seven, rises, part))) s = absurd (omega arith)
+
+  upgrade_faulty : (schedule : List ℕ) → Ends files (Some (Upgrade schedule)) files_rose out_rose old new status → status ≡ 5 → HasScheduleFault files (Some (Upgrade schedule))
+  upgrade_faulty schedule ends s = faulty_of files schedule (files schedule) refl (five_answer (Some (Upgrade schedule)) ends s)
 
   pub only_legal : (command : Option Command) (format : Format) (program schedule : List ℕ) → command ≡ Some (Run format program schedule)
       → Ends files command files_rose out_rose old new status → status ≤ 1 → ReportsLegalRun files command format old new status
@@ -183,3 +230,15 @@ module _ (files : Contents) (files_rose out_rose : Type 0) (old new : Option (Li
   only_drawn command program number most e =
       let P : Option Command → Type 0 = λ c. Ends files c files_rose out_rose old new status → status ≤ 1 → WritesDrawn files c number most old new status in
       subst P (sym e) (auto_only program number most)
+
+  pub only_upgraded : (command : Option Command) (schedule : List ℕ) → command ≡ Some (Upgrade schedule)
+      → Ends files command files_rose out_rose old new status → status ≤ 1 → WritesUpgraded files command old new status
+  only_upgraded command schedule e =
+      let P : Option Command → Type 0 = λ c. Ends files c files_rose out_rose old new status → status ≤ 1 → WritesUpgraded files c old new status in
+      subst P (sym e) (upgrade_only schedule)
+
+  pub only_text : (command : Option Command) (schedule : List ℕ) → command ≡ Some (Upgrade schedule)
+      → Ends files command files_rose out_rose old new status → status ≡ 5 → HasScheduleFault files command
+  only_text command schedule e =
+      let P : Option Command → Type 0 = λ c. Ends files c files_rose out_rose old new status → status ≡ 5 → HasScheduleFault files c in
+      subst P (sym e) (upgrade_faulty schedule)

@@ -3,13 +3,14 @@ use Rattle.std.proofs.Common.{◌≡◌, ℕ, ◌≤◌, ap, ◌∙◌, sym, sub
 use Rattle.std.specs.Prelude.{Some, Option, Result, Ok, Err}
 use Rattle.mr_ast.specs.declared.program.Program.{Program}
 use Rattle.mr_io.specs.Counts.{Rose}
+use Rattle.mr_sched.specs.declared.version.Read.{Read}
 use Rattle.mr_wf.specs.Walk.{WellFormed}
 use Rattle.mr_command.specs.declared.answer.Written.{Written}
 use Rattle.mr_command.specs.declared.command.Format.{Format}
 use Rattle.mr_command.specs.declared.refusal.Refusal.{Refusal}
 use Rattle.mr_command.specs.declared.refusal.Refusal.TheVariants as refusal
-use Rattle.mr_command.specs.Answer.{Answer, form_or, program_in, report_under, run_answer, told}
-use Rattle.mr_command.specs.Answering.{IsFormOrReport, IsReported, IsSaid, Tells, TellsOrUnread}
+use Rattle.mr_command.specs.Answer.{Answer, form_or, program_in, report_under, run_answer, schedule_in, told, upgrade_answer}
+use Rattle.mr_command.specs.Answering.{IsFormOrReport, IsReported, IsSaid, IsUpgraded, Tells, TellsOrUnread}
 use Rattle.mr_command.specs.Outcome.{Gives, IsRead, holding}
 
 -- a count that rose later rose in all
@@ -35,23 +36,33 @@ run_over format program schedule p later rose result up e (inl tells) =
     inl (subst (λ r. Tells (told (run_answer format (Some schedule)) r) result) (sym e) tells)
 run_over format program schedule p later rose result up e (inr (rises, unbroken, is)) = inr (up rises, inr (p, e, unbroken, is))
 
--- what refuses a program's text is told
-refused_over : (say : Program → Answer) (program : List ℕ) (r : Refusal) → Gives {A = Program} (Err r) (program_in (Some program)) → Tells (told say (program_in (Some program))) (Err r)
-refused_over say program refusal.Memory h = tt
-refused_over say program refusal.ReadProgram h = ap (told say) h
-refused_over say program (refusal.Text at col code) h = ap (told say) h
-refused_over say program refusal.ReadSchedule h = ap (told say) h
-refused_over say program (refusal.Schedule at code earlier) h = ap (told say) h
+-- what refuses a text is told
+refused_over : {A : Type 0} (say : A → Answer) (defined : Result A Refusal) (r : Refusal) → Gives {A = A} (Err r) defined → Tells (told say defined) (Err r)
+refused_over say defined refusal.Memory h = tt
+refused_over say defined refusal.ReadProgram h = ap (told say) h
+refused_over say defined (refusal.Text at col code) h = ap (told say) h
+refused_over say defined refusal.ReadSchedule h = ap (told say) h
+refused_over say defined (refusal.Schedule at code earlier) h = ap (told say) h
 
-same_refusal : {r s : Refusal} → ◌≡◌ {A = Result Program Refusal} (Err r) (Err s) → r ≡ s
+same_refusal : {A : Type 0} {r s : Refusal} → ◌≡◌ {A = Result A Refusal} (Err r) (Err s) → r ≡ s
 same_refusal e = cc
 
 pub unread_over : (format : Format) (program : List ℕ) (r : Refusal) (rose : Type 0) → IsRead {A = Program} rose refusal.ReadProgram (Err r) (program_in (Some program))
     → IsReported (holding program []) format (codes "program") (codes "schedule") rose (Err r)
-unread_over format program r rose (inl h) = inl (refused_over (run_answer format (Some [])) program r h)
+unread_over format program r rose (inl h) = inl (refused_over (run_answer format (Some [])) (program_in (Some program)) r h)
 unread_over format program r rose (inr (rises, e)) = inr (rises, inl (ap Err (same_refusal e)))
 
 pub unsaid_over : (say : Program → Answer) (program : List ℕ) (r : Refusal) (rose : Type 0) → IsRead {A = Program} rose refusal.ReadProgram (Err r) (program_in (Some program))
     → IsSaid say (holding program []) (codes "program") rose (Err r)
-unsaid_over say program r rose (inl h) = inl (refused_over say program r h)
+unsaid_over say program r rose (inl h) = inl (refused_over say (program_in (Some program)) r h)
 unsaid_over say program r rose (inr (rises, e)) = inr (rises, ap Err (same_refusal e))
+
+-- a schedule that was read is upgraded, and what refuses its text is told
+pub upgraded_over : (schedule : List ℕ) (r : Read) (rose : Type 0) (result : Result Written Refusal) → schedule_in (Some schedule) ≡ Ok r → Tells (upgrade_answer r) result
+    → IsUpgraded (holding [] schedule) (codes "schedule") rose result
+upgraded_over schedule r rose result e tells = inl (subst (λ x. Tells (told upgrade_answer x) result) (sym e) tells)
+
+pub not_upgraded_over : (schedule : List ℕ) (r : Refusal) (rose : Type 0) → IsRead {A = Read} rose refusal.ReadSchedule (Err r) (schedule_in (Some schedule))
+    → IsUpgraded (holding [] schedule) (codes "schedule") rose (Err r)
+not_upgraded_over schedule r rose (inl h) = inl (refused_over upgrade_answer (schedule_in (Some schedule)) r h)
+not_upgraded_over schedule r rose (inr (rises, e)) = inr (rises, ap Err (same_refusal e))

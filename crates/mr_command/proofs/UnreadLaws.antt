@@ -6,6 +6,8 @@ use Rattle.mr_io.specs.Files.{Contents}
 use Rattle.mr_lex.specs.declared.token.TextFault.{TextFault}
 use Rattle.mr_grammar.specs.Parsing.{parsed}
 use Rattle.mr_sched.specs.declared.schedule.Schedule.{Schedule}
+use Rattle.mr_sched.specs.declared.version.Read.{Read}
+use Rattle.mr_sched.specs.declared.version.Version.{Version}
 use Rattle.mr_sched.specs.Reading.{Fault, schedule_of}
 use Rattle.mr_event.specs.Predicted.{predicted}
 use Rattle.mr_start.specs.Start.{PlacedFault, schedule_fault}
@@ -14,20 +16,20 @@ use Rattle.mr_wf.specs.Walk.{faults_of}
 use Rattle.mr_auto.specs.Drawing.{drawn_schedule}
 use Rattle.mr_gen.specs.Generated.{generated}
 use Rattle.mr_command.specs.declared.command.Format.{Format}
-use Rattle.mr_command.specs.Command.{Auto, Big, Check, Command, Run}
-use Rattle.mr_command.specs.Answer.{Answer, Ran, answer_of, auto_answer, big_answer, big_schedule, drawn_answer, canonical, check_answer, denoted, form_or, program_in, ran, report_under, reported, run_answer, run_report, spelled, told, unless_broken}
+use Rattle.mr_command.specs.Command.{Auto, Big, Check, Command, Run, Upgrade}
+use Rattle.mr_command.specs.Answer.{Answer, Ran, answer_of, auto_answer, big_answer, big_schedule, drawn_answer, canonical, check_answer, denoted, form_or, in_text, program_in, ran, read_report, report_under, reported, run_answer, schedule_in, spelled, told, unless_broken, upgrade_answer}
 use Rattle.mr_command.specs.Outcome.{Ends, IsPossible}
 use Rattle.mr_command.specs.Headline.{IsUnreadBecause, LacksFile}
-use Rattle.mr_command.proofs.HeadlineLaws.{at_most_one, ran_out, written_status}
+use Rattle.mr_command.proofs.HeadlineLaws.{at_most_one, ran_out, reported_least, written_status}
 
 -- ---- the status 6 is that of a file that isn't there
 
-of_legal : (format : Format) (w : Schedule) (f : Option PlacedFault) (r : Ran) → (told (reported format w) (unless_broken f r)).status ≡ 6 → ⊥
-of_legal format w None r s = let least = at_most_one r.config.verdict (predicted r.steps) in absurd (omega arith)
-of_legal format w (Some f) r s = let five : 5 ≡ 6 = s in absurd (omega arith)
+of_legal : (format : Format) (p : Program) (v : Version) (w : Schedule) (f : Option PlacedFault) (r : Ran) → (told (reported format p v w) (in_text v w (unless_broken f r))).status ≡ 6 → ⊥
+of_legal format p v w None r s = let least = reported_least format p v w r in absurd (omega arith)
+of_legal format p v w (Some f) r s = let five : 5 ≡ 6 = s in absurd (omega arith)
 
-of_schedule : (format : Format) (p : Program) (r : Result Schedule Fault) → (told (run_report format p) (spelled r)).status ≡ 6 → ⊥
-of_schedule format p (Ok w) s = of_legal format w (schedule_fault p w) (ran p w) s
+of_schedule : (format : Format) (p : Program) (r : Result Read Fault) → (told (read_report format p) (spelled r)).status ≡ 6 → ⊥
+of_schedule format p (Ok x) s = of_legal format p x.version x.schedule (schedule_fault p x.schedule) (ran p x.schedule) s
 of_schedule format p (Err f) s = let five : 5 ≡ 6 = s in absurd (omega arith)
 
 of_report : (format : Format) (p : Program) (file : Option (List ℕ)) → (report_under format file p).status ≡ 6 → file ≡ None
@@ -53,7 +55,7 @@ of_check (Err f) s = let three : 3 ≡ 6 = s in absurd (omega arith)
 run_lacks : (files : Contents) (format : Format) (program schedule : List ℕ) (file : Option (List ℕ)) → files program ≡ file
     → (told (run_answer format (files schedule)) (program_in file)).status ≡ 6 → LacksFile files (Some (Run format program schedule))
 run_lacks files format program schedule None e s = inl (program, inr (inr (format, schedule, refl)), e)
-run_lacks files format program schedule (Some bytes) e s = inr (format, program, schedule, refl, of_run format (parsed bytes) (files schedule) s)
+run_lacks files format program schedule (Some bytes) e s = inr (schedule, inr (format, program, refl), of_run format (parsed bytes) (files schedule) s)
 
 check_lacks : (files : Contents) (program : List ℕ) (file : Option (List ℕ)) → files program ≡ file
     → (told check_answer (program_in file)).status ≡ 6 → LacksFile files (Some (Check program))
@@ -77,12 +79,22 @@ of_big number s =
     let r = ran (generated number) (big_schedule number) in
     let least = at_most_one r.config.verdict (predicted r.steps) in absurd (omega arith)
 
+of_upgrade : (r : Result Read Fault) → (told upgrade_answer (spelled r)).status ≡ 6 → ⊥
+of_upgrade (Ok x) s = let zero : 0 ≡ 6 = s in absurd (omega arith)
+of_upgrade (Err f) s = let five : 5 ≡ 6 = s in absurd (omega arith)
+
+upgrade_lacks : (files : Contents) (schedule : List ℕ) (file : Option (List ℕ)) → files schedule ≡ file
+    → (told upgrade_answer (schedule_in file)).status ≡ 6 → LacksFile files (Some (Upgrade schedule))
+upgrade_lacks files schedule None e s = inr (schedule, inl refl, e)
+upgrade_lacks files schedule (Some bytes) e s = absurd (of_upgrade (schedule_of bytes) s)
+
 lacks : (files : Contents) (command : Option Command) → (answer_of files command).status ≡ 6 → LacksFile files command
 lacks files None s = let two : 2 ≡ 6 = s in absurd (omega arith)
 lacks files (Some (Run format program schedule)) s = run_lacks files format program schedule (files program) refl s
 lacks files (Some (Check program)) s = check_lacks files program (files program) refl s
 lacks files (Some (Auto program number most)) s = auto_lacks files program number most (files program) refl s
 lacks files (Some (Big number)) s = absurd (of_big number s)
+lacks files (Some (Upgrade schedule)) s = upgrade_lacks files schedule (files schedule) refl s
 
 -- ---- how a call ends with it
 

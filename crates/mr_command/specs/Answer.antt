@@ -1,11 +1,14 @@
 -- What a call answers by definition: a text and a status, from the words and what the files hold.
-use Rattle.std.specs.Prelude.{ℕ, List, [], ◌∷◌, ◌++◌, codes, decimal, length, map, Option, None, Some, Result, Ok, Err}
+use Rattle.std.specs.Prelude.{ℕ, ◌-◌, ◌==◌, if◌then◌else◌, List, [], ◌∷◌, ◌++◌, codes, decimal, length, map, Option, None, Some, Result, Ok, Err}
 use Rattle.mr_ast.specs.declared.program.Program.{Program}
 use Rattle.mr_ast.specs.Canon.{canonical_text}
 use Rattle.mr_io.specs.Files.{Contents}
 use Rattle.mr_lex.specs.declared.token.TextFault.{TextFault}
 use Rattle.mr_grammar.specs.Parsing.{parsed}
 use Rattle.mr_sched.specs.declared.schedule.Schedule.{Schedule}
+use Rattle.mr_sched.specs.declared.version.Read.{Read}
+use Rattle.mr_sched.specs.declared.version.Version.{Version}
+use Rattle.mr_sched.specs.declared.version.Version.TheVariants.{One, Two}
 use Rattle.mr_sched.specs.Reading.{Fault, schedule_of}
 use Rattle.mr_plan.specs.Runs.{Config}
 use Rattle.mr_thread.specs.Steps.{Own}
@@ -14,18 +17,20 @@ use Rattle.mr_event.specs.declared.footprint.Pair.{Pair}
 use Rattle.mr_event.specs.Predicted.{predicted}
 use Rattle.mr_start.specs.Start.{run_of, schedule_fault, steps_of, PlacedFault}
 use Rattle.mr_exchange.specs.Witness.{kept_schedule}
+use Rattle.mr_short.specs.Short.{short_schedule}
+use Rattle.mr_shuffle.specs.Shuffled.{shuffled}
 use Rattle.mr_wf.specs.declared.fault.FormFault.{FormFault}
 use Rattle.mr_wf.specs.Walk.{faults_of}
 use Rattle.mr_command.specs.declared.command.Format.{Format}
 use Rattle.mr_command.specs.declared.refusal.Refusal.{Refusal}
 use Rattle.mr_command.specs.declared.refusal.Refusal.TheVariants as refusal
-use Rattle.mr_command.specs.declared.command.Format.TheVariants.{Text}
-use Rattle.mr_command.specs.Command.{Auto, Big, Check, Command, Run}
+use Rattle.mr_command.specs.declared.command.Format.TheVariants.{Json, Short, Shuffled, Text}
+use Rattle.mr_command.specs.Command.{Auto, Big, Check, Command, Run, Upgrade}
 use Rattle.mr_command.specs.Form.{form_line}
 use Rattle.mr_auto.specs.Drawing.{drawn_schedule}
 use Rattle.mr_gen.specs.Generated.{generated, rounds_of, workers_of}
 use Rattle.mr_report.specs.Report.{brief_text, line}
-use Rattle.mr_sched.specs.Spelling.{text_of}
+use Rattle.mr_sched.specs.Versions.{line_in, text_in}
 use Rattle.mr_command.specs.Report.{line_of, report_of, report_status, refusal_text, refusal_status, usage_text}
 
 -- the first fault of a text, as a refusal
@@ -42,17 +47,17 @@ abbrev pub program_in : Option (List ℕ) → Result Program Refusal
 program_in None = Err refusal.ReadProgram
 program_in (Some bytes) = denoted (parsed bytes)
 
--- the schedule that a text spells, or the text's first fault, as a refusal
-abbrev pub spelled : Result Schedule Fault → Result Schedule Refusal
-spelled (Ok w) = Ok w
+-- the schedule that a text spells and its version, or the text's first fault, as a refusal
+abbrev pub spelled : Result Read Fault → Result Read Refusal
+spelled (Ok r) = Ok r
 spelled (Err f) = Err (refusal.Schedule f.line f.code None)
 
--- the schedule in a file
-abbrev pub schedule_in : Option (List ℕ) → Result Schedule Refusal
+-- the schedule in a file, and the version of its text
+abbrev pub schedule_in : Option (List ℕ) → Result Read Refusal
 schedule_in None = Err refusal.ReadSchedule
 schedule_in (Some bytes) = spelled (schedule_of bytes)
 
--- a thing, or the rule that is broken, as a refusal
+-- a thing, or the rule that is broken, as a refusal at the place of the fault
 abbrev pub unless_broken : {A : Type 0} → Option PlacedFault → A → Result A Refusal
 unless_broken None x = Ok x
 unless_broken (Some f) x = Err (refusal.Schedule f.line f.fault.code f.fault.earlier)
@@ -66,9 +71,26 @@ pub record Ran : Type 0 where
 abbrev pub ran : Program → Schedule → Ran
 ran p w = record { config = run_of p w; steps = steps_of p w }
 
--- the same, or the first rule that the schedule breaks
+-- The same, or the first rule that the schedule breaks, at its place: that of the start line is 2, and that of the first entry 3.
 abbrev pub legal_run : Program → Schedule → Result Ran Refusal
 legal_run p w = unless_broken (schedule_fault p w) (ran p w)
+
+-- THE LINE OF A PLACE in the text of a schedule: that of the start, or that which holds the entry
+abbrev pub line_at : Version → Schedule → ℕ → ℕ
+line_at v w place = if place == 2 then 2 else line_in v w.entries (place - 3)
+
+-- a refusal at a place, on the line of that
+abbrev pub on_line : Version → Schedule → Refusal → Refusal
+on_line v w refusal.ReadProgram = refusal.ReadProgram
+on_line v w (refusal.Text at col code) = refusal.Text at col code
+on_line v w refusal.ReadSchedule = refusal.ReadSchedule
+on_line v w (refusal.Schedule place code earlier) = refusal.Schedule (line_at v w place) code earlier
+on_line v w refusal.Memory = refusal.Memory
+
+-- a thing, or what refuses it, on its line of the text
+abbrev pub in_text : {A : Type 0} → Version → Schedule → Result A Refusal → Result A Refusal
+in_text v w (Ok x) = Ok x
+in_text v w (Err r) = Err (on_line v w r)
 
 -- What is written, and the exit status.
 pub record Answer : Type 0 where
@@ -79,23 +101,48 @@ pub record Answer : Type 0 where
 abbrev pub refused : Refusal → Answer
 refused r = record { text = refusal_text r; status = refusal_status r }
 
--- the witness for the first of some races, where there is one
-abbrev pub witness_for : List Footprint → Schedule → List Pair → Option Schedule
-witness_for steps w [] = None
-witness_for steps w (pair ∷ races) = Some (kept_schedule steps w pair.first pair.second)
+-- the witness that a format has for a race: the kept schedule, or the short one
+abbrev pub witness_in : Format → List Footprint → Schedule → ℕ → ℕ → Schedule
+witness_in Text steps w i j = kept_schedule steps w i j
+witness_in Json steps w i j = kept_schedule steps w i j
+witness_in Short steps w i j = short_schedule steps w i j
+witness_in (Shuffled number) steps w i j = kept_schedule steps w i j
 
--- the report of a run under a schedule, in a format, and its status
-abbrev pub reported : Format → Schedule → Ran → Answer
-reported format w r = record {
-  text = report_of format r.config.output r.config.verdict (predicted r.steps) (witness_for r.steps w (predicted r.steps));
+-- the witness for the first of some races, where there is one
+abbrev pub witness_for : Format → List Footprint → Schedule → List Pair → Option Schedule
+witness_for format steps w [] = None
+witness_for format steps w (pair ∷ races) = Some (witness_in format steps w pair.first pair.second)
+
+-- what a run under a schedule came to, in a format, with the witness in a version; and its status
+abbrev pub told_in : Format → Version → Schedule → Ran → Answer
+told_in format v w r = record {
+  text = report_of format r.config.output r.config.verdict (predicted r.steps) (witness_for format r.steps w (predicted r.steps)) v;
   status = report_status r.config.verdict (predicted r.steps);
 }
 
--- the text of a schedule, and behind it the report of the run under it
+-- the text of a schedule in a version, and behind it what the run under it came to
+abbrev pub behind_schedule : Version → Schedule → Ran → Answer
+behind_schedule v w r = record { text = text_in v w ++ (told_in Text v w r).text; status = (told_in Text v w r).status }
+
+-- the same of a run of a program
+abbrev pub ordered_answer : Program → Version → Schedule → Answer
+ordered_answer p v w = behind_schedule v w (ran p w)
+
+-- a schedule that is drawn is written in version 1
 abbrev pub drawn_answer : Program → Schedule → Answer
-drawn_answer p w =
-    let report = reported Text w (ran p w) in
-    record { text = text_of w ++ report.text; status = report.status }
+drawn_answer p w = ordered_answer p One w
+
+-- the run in an order that is drawn from a number, where no race is listed; and else what the run came to
+abbrev pub shuffled_answer : ℕ → Program → Version → Schedule → Ran → List Pair → Answer
+shuffled_answer number p v w r [] = ordered_answer p v (shuffled r.steps w number)
+shuffled_answer number p v w r (pair ∷ races) = told_in Text v w r
+
+-- THE REPORT of a run of a program under a schedule, in a format, with schedules in a version; and its status
+abbrev pub reported : Format → Program → Version → Schedule → Ran → Answer
+reported Text p v w r = told_in Text v w r
+reported Json p v w r = told_in Json v w r
+reported Short p v w r = told_in Short v w r
+reported (Shuffled number) p v w r = shuffled_answer number p v w r (predicted r.steps)
 
 -- what a run printed, its verdict and how many races it shows
 abbrev pub briefly : Ran → Answer
@@ -148,18 +195,31 @@ check_answer p = form_or p (faults_of p) (canonical p)
 abbrev pub auto_answer : ℕ → ℕ → Program → Answer
 auto_answer number most p = form_or p (faults_of p) (drawn_answer p (drawn_schedule p number most))
 
--- the report of the run of a program under a schedule, or the first rule that the schedule breaks
-abbrev pub run_report : Format → Program → Schedule → Answer
-run_report format p w = told (reported format w) (legal_run p w)
+-- the report of the run of a program under a schedule whose text is in a version, or the first rule that the schedule
+-- breaks, with the line of the text
+abbrev pub run_report : Format → Program → Version → Schedule → Answer
+run_report format p v w = told (reported format p v w) (in_text v w (legal_run p w))
+
+-- the same of what was read
+abbrev pub read_report : Format → Program → Read → Answer
+read_report format p r = run_report format p r.version r.schedule
 
 -- the report of the run of a program under the schedule in a file, or what refuses it: first of the schedule's file,
 -- then of the run
 abbrev pub report_under : Format → Option (List ℕ) → Program → Answer
-report_under format file p = told (run_report format p) (schedule_in file)
+report_under format file p = told (read_report format p) (schedule_in file)
 
 -- what is said of a program that is run under the schedule in a file: the report, where the program breaks no rule
 abbrev pub run_answer : Format → Option (List ℕ) → Program → Answer
 run_answer format file p = form_or p (faults_of p) (report_under format file p)
+
+-- what is said of a schedule that is read: its text in version 2
+abbrev pub upgraded : Schedule → Answer
+upgraded w = record { text = text_in Two w; status = 0 }
+
+-- the same of what was read, whatever its version
+abbrev pub upgrade_answer : Read → Answer
+upgrade_answer r = upgraded r.schedule
 
 -- what words of no form are told
 abbrev pub usage : Answer
@@ -173,3 +233,4 @@ answer_of files (Some (Run format program schedule)) =
 answer_of files (Some (Check program)) = told check_answer (program_in (files program))
 answer_of files (Some (Auto program number most)) = told (auto_answer number most) (program_in (files program))
 answer_of files (Some (Big number)) = big_answer number
+answer_of files (Some (Upgrade schedule)) = told upgrade_answer (schedule_in (files schedule))

@@ -7,8 +7,8 @@ use Rattle.mr_command.specs.declared.answer.Written.{Written}
 use Rattle.mr_command.specs.declared.command.Format.{Format}
 use Rattle.mr_command.specs.declared.refusal.Refusal.{Refusal}
 use Rattle.mr_command.specs.declared.refusal.Refusal.TheVariants as refusal
-use Rattle.mr_command.specs.Answer.{Answer, auto_answer, big_answer, check_answer, program_in, refused, run_answer, told}
-use Rattle.mr_command.specs.Command.{Auto, Big, Check, Command, Run}
+use Rattle.mr_command.specs.Answer.{Answer, auto_answer, big_answer, check_answer, program_in, refused, run_answer, schedule_in, told, upgrade_answer}
+use Rattle.mr_command.specs.Command.{Auto, Big, Check, Command, Run, Upgrade}
 use Rattle.mr_command.specs.Outcome.{holding, over_holding}
 
 -- what is written, seen as an answer
@@ -62,12 +62,17 @@ IsSaid say files program rose result =
 abbrev pub IsRunOverText : Type 0 → Format → Program → Result Written Refusal → Type 0
 IsRunOverText rose format p result = (text : List ℕ) × IsFormOrReport rose format (Some text) p result
 
+-- what is said of the schedule in a file, or what refuses it; or the read failed
+abbrev pub IsUpgraded : Contents → List ℕ → Type 0 → Result Written Refusal → Type 0
+IsUpgraded files schedule rose result = TellsOrUnread rose (told upgrade_answer (schedule_in (files schedule))) result
+
 -- how a command is answered
 abbrev pub IsAnswered : Contents → Command → Type 0 → Result Written Refusal → Type 0
 IsAnswered files (Run format program schedule) rose result = IsReported files format program schedule rose result
 IsAnswered files (Check program) rose result = IsSaid check_answer files program rose result
 IsAnswered files (Auto program number most) rose result = IsSaid (auto_answer number most) files program rose result
 IsAnswered files (Big number) rose result = Tells (big_answer number) result
+IsAnswered files (Upgrade schedule) rose result = IsUpgraded files schedule rose result
 
 -- there are texts of the named files of which a command is answered so
 abbrev pub IsAnsweredOverTexts : Command → Type 0 → Result Written Refusal → Type 0

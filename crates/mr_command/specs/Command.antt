@@ -3,24 +3,26 @@ use Rattle.std.specs.Prelude.{◌≡◌, ℕ, ◌+◌, ◌≤◌, ◌^◌, ◌�
 use Rattle.std.specs.Prelude.{if◌then◌else◌}
 use Rattle.mr_ast.specs.Words.{is_number, value_of}
 use Rattle.mr_command.specs.declared.command.Format.{Format}
-use Rattle.mr_command.specs.declared.command.Format.TheVariants.{Json, Text}
+use Rattle.mr_command.specs.declared.command.Format.TheVariants.{Json, Short, Shuffled, Text}
 use Rattle.mr_command.specs.declared.command.Command.{Command as Words}
 use Rattle.mr_command.specs.declared.command.Command.TheVariants as words
 
 -- What is asked for: a run of the program in one file under the schedule in another, with its report in a format; the
 -- canonical text of the program in a file; a schedule of it that is drawn from a number, with at most so many entries;
--- or a run of the program of a number.
+-- a run of the program of a number; or the schedule in a file, written in version 2.
 pub data Command : Type 0 where
   Run : (format : Format) (program schedule : List ℕ) → Command
   Check : (program : List ℕ) → Command
   Auto : (program : List ℕ) (number most : ℕ) → Command
   Big : (number : ℕ) → Command
+  Upgrade : (schedule : List ℕ) → Command
 
 -- the format of the report that this word asks for
 abbrev pub format_of : List ℕ → Option Format
 format_of word =
     if bytes_eq word (codes "run") then Some Text
-    else (if bytes_eq word (codes "json") then Some Json else None)
+    else (if bytes_eq word (codes "json") then Some Json
+    else (if bytes_eq word (codes "short") then Some Short else None))
 
 abbrev pub run_of : Option Format → List ℕ → List ℕ → Option Command
 run_of None program schedule = None
@@ -36,21 +38,26 @@ auto_of program None most = None
 auto_of program (Some number) None = None
 auto_of program (Some number) (Some most) = Some (Auto program number most)
 
+abbrev pub shuffle_of : List ℕ → List ℕ → Option ℕ → Option Command
+shuffle_of program schedule None = None
+shuffle_of program schedule (Some number) = Some (Run (Shuffled number) program schedule)
+
 abbrev pub big_of : Option ℕ → Option Command
 big_of None = None
 big_of (Some number) = Some (Big number)
 
--- `run P S`, `json P S`, `check P`, `auto P N M` and `big N`, where N is below 2^64 and M at most 2^20, and no other
--- form
+-- `run P S`, `json P S`, `short P S`, `shuffle P S N`, `check P`, `auto P N M`, `big N` and `upgrade S`, where N is below
+-- 2^64 and M at most 2^20, and no other form
 abbrev pub command_of : List (List ℕ) → Option Command
 command_of (word ∷ program ∷ schedule ∷ []) = run_of (format_of word) program schedule
 command_of (word ∷ program ∷ number ∷ most ∷ []) =
     if bytes_eq word (codes "auto")
     then auto_of program (number_below (2 ^ 64) number) (number_below (2 ^ 20 + 1) most)
-    else None
+    else (if bytes_eq word (codes "shuffle") then shuffle_of program number (number_below (2 ^ 64) most) else None)
 command_of (word ∷ name ∷ []) =
     if bytes_eq word (codes "check") then Some (Check name)
-    else (if bytes_eq word (codes "big") then big_of (number_below (2 ^ 64) name) else None)
+    else (if bytes_eq word (codes "big") then big_of (number_below (2 ^ 64) name)
+    else (if bytes_eq word (codes "upgrade") then Some (Upgrade name) else None))
 command_of _ = None
 
 -- a schedule is drawn of at most 2^20 entries
@@ -59,6 +66,7 @@ IsBounded (Run format program schedule) = Unit {0}
 IsBounded (Check program) = Unit {0}
 IsBounded (Auto program number most) = most ≤ 2 ^ 20
 IsBounded (Big number) = Unit {0}
+IsBounded (Upgrade schedule) = Unit {0}
 
 -- how many files the words name
 abbrev pub named_files : Option Command → ℕ
@@ -67,6 +75,7 @@ named_files (Some (Run format program schedule)) = 2
 named_files (Some (Check program)) = 1
 named_files (Some (Auto program number most)) = 1
 named_files (Some (Big number)) = 0
+named_files (Some (Upgrade schedule)) = 1
 
 -- the command names this file for the program
 abbrev pub NamesProgram : Option Command → List ℕ → Type 0
@@ -75,9 +84,16 @@ NamesProgram command program =
     ⊎ ((number : ℕ) × (most : ℕ) × (command ≡ Some (Auto program number most)))
     ⊎ ((format : Format) × (schedule : List ℕ) × (command ≡ Some (Run format program schedule)))
 
+-- the command names this file for the schedule
+abbrev pub NamesSchedule : Option Command → List ℕ → Type 0
+NamesSchedule command schedule =
+    (command ≡ Some (Upgrade schedule))
+    ⊎ ((format : Format) × (program : List ℕ) × (command ≡ Some (Run format program schedule)))
+
 -- the command that the words ask for
 abbrev pub asked : Words → Command
 asked (words.Run format program schedule) = Run format program.now schedule.now
 asked (words.Check program) = Check program.now
 asked (words.Auto program number most) = Auto program.now number most
 asked (words.Big number) = Big number
+asked (words.Upgrade schedule) = Upgrade schedule.now

@@ -9,17 +9,22 @@ use Rattle.mr_grammar.specs.Denotes.{Denotes}
 use Rattle.mr_grammar.specs.Faults.{FirstFault}
 use Rattle.mr_sched.specs.declared.schedule.Schedule.{Schedule}
 use Rattle.mr_sched.specs.Faults.{FirstFault as FirstScheduleFault}
-use Rattle.mr_sched.specs.Spelling.{Schedules}
+use Rattle.mr_sched.specs.declared.version.Version.{Version}
+use Rattle.mr_sched.specs.Versions.{Schedules}
 use Rattle.mr_start.specs.Start.{Legal, IsSoundRun, PlacedFault, schedule_fault, steps_of}
 use Rattle.mr_auto.specs.Drawing.{drawn_schedule}
 use Rattle.mr_wf.specs.declared.fault.FormFault.{FormFault}
 use Rattle.mr_wf.specs.Walk.{FirstBroken, WellFormed, faults_of}
 use Rattle.mr_command.specs.declared.command.Format.{Format}
-use Rattle.mr_command.specs.Command.{Auto, Check, Command, NamesProgram, Run}
+use Rattle.mr_command.specs.declared.command.Format.TheVariants.{Json, Short, Shuffled, Text}
+use Rattle.mr_command.specs.Command.{Auto, Check, Command, NamesProgram, NamesSchedule, Run, Upgrade}
 use Rattle.mr_event.specs.declared.footprint.Pair.{Pair}
 use Rattle.mr_event.specs.Predicted.{predicted}
-use Rattle.mr_exchange.specs.Witness.{IsWitness, kept_schedule}
-use Rattle.mr_command.specs.Answer.{Answer, canonical, drawn_answer, program_in, ran, reported}
+use Rattle.mr_exchange.specs.Witness.{IsWitness}
+use Rattle.mr_shuffle.specs.EveryOrder.{ComesToTheSame}
+use Rattle.mr_shuffle.specs.Shuffled.{shuffled, shuffled_order}
+use Rattle.mr_event.specs.Order.{IsRearrangement}
+use Rattle.mr_command.specs.Answer.{Answer, canonical, drawn_answer, program_in, ran, reported, upgraded, witness_in}
 use Rattle.mr_command.specs.Outcome.{IsLeft, IsWhole, IsWritten}
 
 -- a read failed and was told, or the write of that failed
@@ -35,8 +40,8 @@ IsTold a files_rose out_rose old new status =
 -- ---- runs
 
 -- The command names a file whose text denotes the program, which is well-formed, and a file whose text is that of the
--- schedule, which is legal.
-pub record Names (files : Contents) (command : Option Command) (format : Format) (p : Program) (w : Schedule)
+-- schedule in the version; and the schedule is legal.
+pub record Names (files : Contents) (command : Option Command) (format : Format) (p : Program) (v : Version) (w : Schedule)
     : Type 0 where
   pub program_name : List ℕ
   pub schedule_name : List ℕ
@@ -47,27 +52,41 @@ pub record Names (files : Contents) (command : Option Command) (format : Format)
   pub well_formed : WellFormed p
   pub schedule_text : List ℕ
   pub schedule_there : files schedule_name ≡ Some schedule_text
-  pub schedules : Schedules schedule_text w
+  pub schedules : Schedules schedule_text v w
   pub legal : Legal p w
 
 -- what is written as the witness for the first race that the run shows is one
-abbrev pub ShowsFirstRace : Program → Schedule → Type 0
-ShowsFirstRace p w =
+abbrev pub ShowsFirstRace : Format → Program → Schedule → Type 0
+ShowsFirstRace format p w =
     (pair : Pair) (races : List Pair) → predicted (steps_of p w) ≡ pair ∷ races
-    → IsWitness p w pair.first pair.second (kept_schedule (steps_of p w) w pair.first pair.second)
+    → IsWitness p w pair.first pair.second (witness_in format (steps_of p w) w pair.first pair.second)
 
--- No step is ill-formed; the witness brings the machine to the first race; and the report of the run is written.
-pub record IsOfMachine (format : Format) (p : Program) (w : Schedule) (files_rose out_rose : Type 0)
+-- Where no race is listed, what is written of another order is: the order is a rearrangement of the run, and the schedule in it
+-- comes to the same.
+abbrev pub KeepsResult : Format → Program → Schedule → Type 0
+KeepsResult Text p w = Unit {0}
+KeepsResult Json p w = Unit {0}
+KeepsResult Short p w = Unit {0}
+KeepsResult (Shuffled number) p w =
+    predicted (steps_of p w) ≡ []
+    → IsRearrangement (steps_of p w) (shuffled_order (steps_of p w) number)
+    × ComesToTheSame p w (shuffled_order (steps_of p w) number) (shuffled (steps_of p w) w number)
+
+-- No step is ill-formed; the witness brings the machine to the first race; another order that is written comes to the same;
+-- and the report of the run is written, with schedules in the version.
+pub record IsOfMachine (format : Format) (p : Program) (v : Version) (w : Schedule) (files_rose out_rose : Type 0)
     (old new : Option (List ℕ)) (status : ℕ) : Type 0 where
   pub sound : IsSoundRun p w
-  pub witness : ShowsFirstRace p w
-  pub report : IsTold (reported format w (ran p w)) files_rose out_rose old new status
+  pub witness : ShowsFirstRace format p w
+  pub order : KeepsResult format p w
+  pub report : IsTold (reported format p v w (ran p w)) files_rose out_rose old new status
 
--- The files denote a well-formed program, and a legal schedule of it; and the whole report of that run was written.
+-- The files denote a well-formed program, and a legal schedule of it; and the whole report of that run was written, with
+-- schedules in the version of the file.
 abbrev pub ReportsLegalRun : Contents → Option Command → Format → Option (List ℕ) → Option (List ℕ) → ℕ → Type 0
 ReportsLegalRun files command format old new status =
-    (p : Program) × (w : Schedule) × Names files command format p w
-    × IsWhole (reported format w (ran p w)) old new status
+    (p : Program) × (v : Version) × (w : Schedule) × Names files command format p v w
+    × IsWhole (reported format p v w (ran p w)) old new status
 
 -- The command is to run a file whose text denotes the program, which is well-formed, under a file of this name.
 pub record RunsProgram (files : Contents) (command : Option Command) (p : Program) (schedule_name : List ℕ)
@@ -80,26 +99,30 @@ pub record RunsProgram (files : Contents) (command : Option Command) (p : Progra
   pub denotes : Denotes text p
   pub well_formed : WellFormed p
 
--- Such a program is run under a file whose text has its first fault as a schedule on this line, with this code.
+-- A file of this name is read for a schedule: such a program is run under it, or it is upgraded.
+abbrev pub ReadsSchedule : Contents → Option Command → List ℕ → Type 0
+ReadsSchedule files command schedule_name =
+    ((p : Program) × RunsProgram files command p schedule_name) ⊎ (command ≡ Some (Upgrade schedule_name))
+
+-- The text of that file has its first fault as a schedule on this line, with this code.
 pub record NamesScheduleFault (files : Contents) (command : Option Command) (line code : ℕ) : Type 0 where
-  pub program : Program
   pub schedule_name : List ℕ
-  pub runs : RunsProgram files command program schedule_name
+  pub reads : ReadsSchedule files command schedule_name
   pub text : List ℕ
   pub there : files schedule_name ≡ Some text
   pub first : FirstScheduleFault text line code
 
--- Such a program is run under a file whose text is that of a schedule, and this is the first rule that the schedule
--- breaks.
-pub record NamesBrokenSchedule (files : Contents) (command : Option Command) (fault : PlacedFault) : Type 0 where
+-- Such a program is run under a file whose text is that of the schedule in the version, and this is the first rule that
+-- the schedule breaks.
+pub record NamesBrokenSchedule (files : Contents) (command : Option Command) (v : Version) (w : Schedule)
+    (fault : PlacedFault) : Type 0 where
   pub program : Program
   pub schedule_name : List ℕ
   pub runs : RunsProgram files command program schedule_name
   pub text : List ℕ
   pub there : files schedule_name ≡ Some text
-  pub schedule : Schedule
-  pub schedules : Schedules text schedule
-  pub first : schedule_fault program schedule ≡ Some fault
+  pub schedules : Schedules text v w
+  pub first : schedule_fault program w ≡ Some fault
 
 -- ---- texts
 
@@ -156,7 +179,26 @@ WritesDrawn files command number most old new status =
 pub record IsSoundUnder (p : Program) (w : Schedule) : Type 0 where
   pub legal : Legal p w
   pub sound : IsSoundRun p w
-  pub witness : ShowsFirstRace p w
+  pub witness : ShowsFirstRace Text p w
+
+-- ---- schedules in version 2
+
+-- the command is to upgrade a file whose text is that of the schedule in the version
+pub record Upgrades (files : Contents) (command : Option Command) (v : Version) (w : Schedule) : Type 0 where
+  pub name : List ℕ
+  pub is_upgrade : command ≡ Some (Upgrade name)
+  pub text : List ℕ
+  pub there : files name ≡ Some text
+  pub schedules : Schedules text v w
+
+-- A file's text is that of a schedule; and the whole text of that in version 2 was written.
+abbrev pub WritesUpgraded : Contents → Option Command → Option (List ℕ) → Option (List ℕ) → ℕ → Type 0
+WritesUpgraded files command old new status =
+    (v : Version) × (w : Schedule) × Upgrades files command v w × IsWhole (upgraded w) old new status
+
+-- a file's text has a fault as a schedule
+abbrev pub HasScheduleFault : Contents → Option Command → Type 0
+HasScheduleFault files command = (line : ℕ) × (code : ℕ) × NamesScheduleFault files command line code
 
 -- ---- files that were not read
 
@@ -168,8 +210,7 @@ AsksForSchedule file = (p : Program) × (program_in file ≡ Ok p) × (faults_of
 abbrev pub LacksFile : Contents → Option Command → Type 0
 LacksFile files command =
     ((program : List ℕ) × NamesProgram command program × (files program ≡ None))
-    ⊎ ((format : Format) × (program : List ℕ) × (schedule : List ℕ)
-    × (command ≡ Some (Run format program schedule)) × (files schedule ≡ None))
+    ⊎ ((schedule : List ℕ) × NamesSchedule command schedule × (files schedule ≡ None))
 
 -- Why a file was not read: a failure, which is counted, or where the files tell what they hold, that it isn't there.
 abbrev pub IsUnreadBecause : Type 0 → Option Contents → Option Command → Type 0

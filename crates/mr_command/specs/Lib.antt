@@ -1,6 +1,6 @@
+pub mod Alone
 pub mod Answer
 pub mod Answering
-pub mod Apart
 pub mod Command
 pub mod Form
 pub mod Headline

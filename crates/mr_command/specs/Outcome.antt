@@ -7,7 +7,7 @@ use Rattle.mr_io.specs.Files.{Contents}
 use Rattle.mr_wf.specs.Walk.{faults_of}
 use Rattle.mr_command.specs.declared.refusal.Refusal.{Refusal}
 use Rattle.mr_command.specs.declared.refusal.Refusal.TheVariants as refusal
-use Rattle.mr_command.specs.Command.{Auto, Big, Check, Command, Run}
+use Rattle.mr_command.specs.Command.{Auto, Big, Check, Command, Run, Upgrade}
 use Rattle.mr_command.specs.Answer.{Answer, program_in, refused, answer_of, usage}
 
 -- What a function returned is what is defined, unless memory ran out.
@@ -19,8 +19,8 @@ Gives (Err (refusal.Text at col code)) defined = defined ≡ Err (refusal.Text a
 Gives (Err refusal.ReadSchedule) defined = defined ≡ Err refusal.ReadSchedule
 Gives (Err (refusal.Schedule at code earlier)) defined = defined ≡ Err (refusal.Schedule at code earlier)
 
--- A read failed, which is counted: that of the program, or that of the schedule, behind a program that breaks no
--- rule.
+-- A read failed, which is counted: that of the program, or that of the schedule; where the command names a program, only
+-- behind one that breaks no rule.
 abbrev pub IsUnread : Contents → Option Command → Answer → Type 0
 IsUnread files None a = ⊥
 IsUnread files (Some (Run format program schedule)) a =
@@ -29,6 +29,7 @@ IsUnread files (Some (Run format program schedule)) a =
 IsUnread files (Some (Check program)) a = a ≡ refused refusal.ReadProgram
 IsUnread files (Some (Auto program number most)) a = a ≡ refused refusal.ReadProgram
 IsUnread files (Some (Big number)) a = ⊥
+IsUnread files (Some (Upgrade schedule)) a = a ≡ refused refusal.ReadSchedule
 
 -- the answer by definition, or that of a read that failed where the count of faults of the files rose
 abbrev pub IsPossible : Contents → Option Command → Type 0 → Answer → Type 0
@@ -68,6 +69,7 @@ over_holding (Run format program schedule) = Run format (codes "program") (codes
 over_holding (Check program) = Check (codes "program")
 over_holding (Auto program number most) = Auto (codes "program") number most
 over_holding (Big number) = Big number
+over_holding (Upgrade schedule) = Upgrade (codes "schedule")
 
 -- How a call ends over files that don't tell what they hold: there are texts of the named files of which it ends as
 -- defined.

@@ -8,11 +8,12 @@ use Rattle.mr_report.specs.declared.report.Line.{Line}
 use Rattle.mr_report.specs.Json.{json_text}
 use Rattle.mr_report.specs.Report.{line, report_text}
 use Rattle.mr_sched.specs.declared.schedule.Schedule.{Schedule}
+use Rattle.mr_sched.specs.declared.version.Version.{Version}
 use Rattle.mr_lex.specs.Rules as text
 use Rattle.mr_sched.specs.Rules as schedule
 use Rattle.mr_plan.specs.Runs.{Printed}
 use Rattle.mr_command.specs.declared.command.Format.{Format}
-use Rattle.mr_command.specs.declared.command.Format.TheVariants.{Json, Text}
+use Rattle.mr_command.specs.declared.command.Format.TheVariants.{Json, Short, Shuffled, Text}
 use Rattle.mr_command.specs.declared.refusal.Refusal.{Refusal}
 use Rattle.mr_command.specs.declared.refusal.Refusal.TheVariants as refusal
 
@@ -22,14 +23,16 @@ use Rattle.mr_command.specs.declared.refusal.Refusal.TheVariants as refusal
 abbrev pub line_of : Printed → Line
 line_of p = record { thread = p.thread; text = p.text }
 
--- a report in a format
-abbrev pub written_as : Format → List Line → Verdict → List Pair → Option Schedule → List ℕ
-written_as Text output v races witness = report_text output v races witness
-written_as Json output v races witness = json_text output v races witness
+-- a report in a format, with the witness in a version
+abbrev pub written_as : Format → List Line → Verdict → List Pair → Option Schedule → Version → List ℕ
+written_as Text output v races witness version = report_text output v races witness version
+written_as Json output v races witness version = json_text output v races witness version
+written_as Short output v races witness version = report_text output v races witness version
+written_as (Shuffled number) output v races witness version = report_text output v races witness version
 
 -- The prints in order, the verdict, the races, and the witness where there is one.
-abbrev pub report_of : Format → List Printed → Verdict → List Pair → Option Schedule → List ℕ
-report_of format output v races witness = written_as format (map line_of output) v races witness
+abbrev pub report_of : Format → List Printed → Verdict → List Pair → Option Schedule → Version → List ℕ
+report_of format output v races witness version = written_as format (map line_of output) v races witness version
 
 -- 0 where the run ended by exit or is running still
 abbrev pub verdict_status : Verdict → ℕ

@@ -1,5 +1,5 @@
 -- How the run of a program is answered, and the steps of it.
-use Rattle.std.specs.Prelude.{◌≡◌, ◌==◌, ◌++◌, ℕ, Bool, true, false, List, [], None, Result, Ok, Err}
+use Rattle.std.specs.Prelude.{◌≡◌, ◌<◌, ◌≤◌, ◌+◌, ◌⊎◌, ◌==◌, ◌++◌, ℕ, Bool, true, false, List, [], length, None, Result, Ok, Err}
 use Rattle.std.specs.List.{list_all}
 use Rattle.mr_ast.specs.declared.program.Program.{Program}
 use Rattle.mr_sched.specs.declared.schedule.Entry.{Entry}
@@ -16,16 +16,16 @@ use Rattle.mr_command.specs.declared.refusal.Refusal.{Refusal}
 use Rattle.mr_command.specs.declared.refusal.Refusal.TheVariants as refusal
 use Rattle.mr_command.specs.declared.run.Finished.{Finished}
 use Rattle.mr_command.specs.Answer.{Ran, legal_run, unless_broken}
-use Rattle.mr_command.specs.Apart.{are_alone}
+use Rattle.mr_command.specs.Alone.{are_alone}
 use Rattle.mr_command.specs.Outcome.{Gives}
 
--- a fault of a start or a step, which stands on this line
+-- a fault of a start or a step, at this place
 abbrev pub placed : ℕ → StepFault → Refusal
 placed line (answer.BadEntry code earlier) = refusal.Schedule line code earlier
 placed line answer.Memory = refusal.Memory
 placed line answer.Failed = refusal.Memory
 
--- what entries come to from a configuration, the first of which stands on this line, or the first rule that they break
+-- what entries come to from a configuration, the first of which stands at this place, or the first rule that they break
 abbrev pub legal_after : Look → Config Own → ℕ → List Entry → Result Ran Refusal
 legal_after look c line es =
     unless_broken (entries_fault look c line es)
@@ -52,7 +52,7 @@ abbrev pub RunAnswer : Program → Schedule → Result Finished Refusal → Type
 RunAnswer p w (Ok f) = (f.machine.failed ≡ false) × (legal_run p w ≡ Ok (ran_by f))
 RunAnswer p w (Err r) = Refuses r (legal_run p w)
 
--- how entries from line 3 on are answered
+-- how entries from place 3 on are answered
 abbrev pub EntriesAnswer : List Entry → Standing → Standing → List Footprint → List Footprint
     → Result (Unit {0}) Refusal → Type 0
 EntriesAnswer es old new was is (Ok u) = Stands old.look new was is (legal_after old.look old.config 3 es)
@@ -70,13 +70,27 @@ abbrev pub EntryAnswer : Entry → ℕ → Standing → Standing → List Footpr
 EntryAnswer e line old new was is (Ok u) = Stands old.look new was is (legal_step old.look old.config line e)
 EntryAnswer e line old new was is (Err r) = Refuses r (legal_step old.look old.config line e)
 
+-- ---- places
+
+-- the start line of a schedule has place 2, and its first entry place 3
+abbrev pub IsPlace : Schedule → ℕ → Type 0
+IsPlace w place = (place ≡ 2) ⊎ ((3 ≤ place) × (place < 3 + length w.entries))
+
+-- where what refuses is a rule that is broken, the place is one of the schedule
+abbrev pub IsPlaced : Schedule → Refusal → Type 0
+IsPlaced w refusal.ReadProgram = Unit {0}
+IsPlaced w (refusal.Text at col code) = Unit {0}
+IsPlaced w refusal.ReadSchedule = Unit {0}
+IsPlaced w (refusal.Schedule place code earlier) = IsPlace w place
+IsPlaced w refusal.Memory = Unit {0}
+
 -- ---- runs of thread 0 alone
 
 -- all entries are of thread 0
 abbrev pub are_of_first : List Entry → Bool
 are_of_first es = list_all (λ e. e.thread == 0) es
 
--- how entries of which no footprint is kept are answered, from line 3 on
+-- how entries of which no footprint is kept are answered, from place 3 on
 abbrev pub TakenAnswer : List Entry → Standing → Standing → Result (Unit {0}) Refusal → Type 0
 TakenAnswer es old new r = (steps : List Footprint) × EntriesAnswer es old new [] steps r
 

@@ -4,9 +4,9 @@ ghost use Rattle.mr_io.specs.Counts.{Rose};
 ghost use Rattle.mr_io.specs.Files.{Contents};
 ghost use Rattle.mr_ast.specs.Shaped.{Shaped};
 ghost use Rattle.mr_wf.specs.Walk.{faults_of};
-ghost use Rattle.mr_command.specs.Answer.{auto_answer, big_answer, canonical, check_answer, form_answer, report_under, run_report};
-ghost use Rattle.mr_command.specs.Answering.{IsAnswered, IsAnsweredOverTexts, IsFormOrReport, IsReported, IsRunOverText, IsSaid, IsStatus, Tells, TellsOrUnread};
-ghost use Rattle.mr_command.specs.Command.{asked, named_files, Auto, Check, IsBounded, NamesProgram, Run};
+ghost use Rattle.mr_command.specs.Answer.{auto_answer, big_answer, canonical, check_answer, form_answer, in_text, legal_run, report_under, run_report, told, told_in, upgrade_answer};
+ghost use Rattle.mr_command.specs.Answering.{IsAnswered, IsAnsweredOverTexts, IsFormOrReport, IsReported, IsRunOverText, IsSaid, IsStatus, IsUpgraded, Tells, TellsOrUnread};
+ghost use Rattle.mr_command.specs.Command.{asked, named_files, Auto, Check, IsBounded, NamesProgram, Run, Upgrade};
 ghost use Rattle.mr_command.specs.Headline.{AsksForSchedule};
 ghost use Rattle.mr_command.specs.Outcome.{IsUnreadFault};
 ghost use Rattle.mr_command.specs.Running.{are_of_first};
@@ -16,12 +16,13 @@ use crate::drawn::{drawn, summary};
 use crate::form::form_line;
 use crate::input::{read_program, read_schedule};
 use crate::refusal::Refusal;
+use crate::reordered::report_shuffled;
 use crate::report::report;
-use crate::run::{is_alone, run, run_alone};
+use crate::run::{is_alone, on_line, run, run_alone};
 use mr_ast::Program;
 use mr_gen::program;
 use mr_io::Files;
-use mr_sched::Schedule;
+use mr_sched::{Read, Schedule, Version, print_version};
 use mr_wf::{Checked, FormFault, WfFault, well_formed};
 use std::alloc::Global;
 
@@ -67,6 +68,7 @@ pub fn answer<F: Files>(
             most,
         } => drawn_file(alloc, files, program, number, most),
         Command::Big { number } => big(alloc, number),
+        Command::Upgrade { schedule } => upgraded_file(alloc, files, schedule),
     }
 }
 
@@ -150,24 +152,51 @@ fn report_schedule<F: Files>(
         → Rose (F.faults files.old) (F.faults files.new) }
 {
     match read_schedule(alloc, files, schedule) {
-        Ok(w) => report_run(alloc, format, p, &w),
+        Ok(read) => report_run(alloc, format, p, read.version, &read.schedule),
         Err(refusal) => Err(refusal),
     }
 }
 
-// The report of the run of a program under a schedule.
-fn report_run(alloc: Global, format: Format, p: &Checked, w: &Schedule) -> Result<Written, Refusal>
-    requires { length w.now.entries ≤ 2 ^ 20 }
-    ensures answer { Tells (run_report format p.now w.now) result }
+// The report of the run of a program under a schedule whose text is in a version.
+fn report_run(
+    alloc: Global,
+    format: Format,
+    p: &Checked,
+    v: Version,
+    w: &Schedule,
+) -> Result<Written, Refusal>
+    requires { length w.now.entries ≤ 2 ^ 22 }
+    ensures answer { Tells (run_report format p.now v w.now) result }
+    ensures status { IfOk result (λ a. IsStatus a.status) }
+    ensures read { ¬ IsUnreadFault result }
+{
+    match format {
+        Format::Text => report_plainly(alloc, Format::Text, p, v, w),
+        Format::Json => report_plainly(alloc, Format::Json, p, v, w),
+        Format::Short => report_plainly(alloc, Format::Short, p, v, w),
+        Format::Shuffled { number } => report_shuffled(alloc, p, v, w, number),
+    }
+}
+
+// What the run of a program under a schedule came to.
+fn report_plainly(
+    alloc: Global,
+    format: Format,
+    p: &Checked,
+    v: Version,
+    w: &Schedule,
+) -> Result<Written, Refusal>
+    requires { length w.now.entries ≤ 2 ^ 22 }
+    ensures answer { Tells (told (told_in format v w.now) (in_text v w.now (legal_run p.now w.now))) result }
     ensures status { IfOk result (λ a. IsStatus a.status) }
     ensures read { ¬ IsUnreadFault result }
 {
     if is_alone(w.entries.as_slice()) {
-        return report_alone(alloc, format, p, w);
+        return report_alone(alloc, format, p, v, w);
     }
     match run(alloc, p, w) {
-        Ok(finished) => Ok(report(alloc, format, &finished, w)?),
-        Err(refusal) => Err(refusal),
+        Ok(finished) => Ok(report(alloc, format, &finished, v, w)?),
+        Err(refusal) => Err(on_line(v, w, refusal)),
     }
 }
 
@@ -176,17 +205,18 @@ fn report_alone(
     alloc: Global,
     format: Format,
     p: &Checked,
+    v: Version,
     w: &Schedule,
 ) -> Result<Written, Refusal>
-    requires few { length w.now.entries ≤ 2 ^ 20 }
+    requires few { length w.now.entries ≤ 2 ^ 22 }
     requires alone { are_of_first w.now.entries ≡ true }
-    ensures answer { Tells (run_report format p.now w.now) result }
+    ensures answer { Tells (told (told_in format v w.now) (in_text v w.now (legal_run p.now w.now))) result }
     ensures status { IfOk result (λ a. IsStatus a.status) }
     ensures read { ¬ IsUnreadFault result }
 {
     match run_alone(alloc, p, w) {
-        Ok(finished) => Ok(report(alloc, format, &finished, w)?),
-        Err(refusal) => Err(refusal),
+        Ok(finished) => Ok(report(alloc, format, &finished, v, w)?),
+        Err(refusal) => Err(on_line(v, w, refusal)),
     }
 }
 
@@ -248,6 +278,36 @@ fn draw_for(alloc: Global, p: Program, number: u64, most: u32) -> Result<Written
         Err(WfFault::Form { fault, program }) => broken_rule(alloc, &program, fault),
         Err(WfFault::Memory) => Err(Refusal::Memory),
     }
+}
+
+// The schedule in a file, written in version 2.
+fn upgraded_file<F: Files>(alloc: Global, files: &mut F, schedule: &str) -> Result<Written, Refusal>
+    ensures same { F.told files.new ≡ F.told files.old }
+    ensures reads { F.reads files.new ≤ F.reads files.old + 1 }
+    ensures faults { F.faults files.old ≤ F.faults files.new }
+    ensures answer { (contents : Contents) → F.told files.old ≡ Some contents
+        → IsUpgraded contents schedule.now (Rose (F.faults files.old) (F.faults files.new)) result }
+    ensures status { IfOk result (λ a. IsStatus a.status) }
+    ensures texts { F.told files.old ≡ None
+        → IsAnsweredOverTexts (Upgrade schedule.now) (Rose (F.faults files.old) (F.faults files.new)) result }
+    ensures untold { F.told files.old ≡ None → IsUnreadFault result
+        → Rose (F.faults files.old) (F.faults files.new) }
+{
+    match read_schedule(alloc, files, schedule) {
+        Ok(read) => upgraded(alloc, &read),
+        Err(refusal) => Err(refusal),
+    }
+}
+
+// The text in version 2 of a schedule that was read.
+fn upgraded(alloc: Global, read: &Read) -> Result<Written, Refusal>
+    ensures answer { Tells (upgrade_answer read.now) result }
+    ensures status { IfOk result (λ a. IsStatus a.status) }
+    ensures read { ¬ IsUnreadFault result }
+{
+    let mut text = Vec::new(alloc);
+    print_version(alloc, Version::Two, &read.schedule, &mut text)?;
+    Ok(Written { text, status: 0 })
 }
 
 // The summary of a run of the program of a number.

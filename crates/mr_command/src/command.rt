@@ -1,7 +1,7 @@
 //! The commands, and the words that ask for them.
 ghost use Rattle.std.specs.Prelude.{◌≡◌, ◌+◌, ◌^◌, [], ◌∷◌, map, string_bytes};
 ghost use Rattle.std.specs.Option.{option_map};
-ghost use Rattle.mr_command.specs.Command.{asked, auto_of, command_of, format_of, number_below, run_of};
+ghost use Rattle.mr_command.specs.Command.{asked, auto_of, command_of, format_of, number_below, run_of, shuffle_of};
 
 use mr_words::number_of;
 
@@ -12,6 +12,11 @@ pub enum Format {
     Text,
     /// As one JSON object.
     Json,
+    /// Line by line, with a shorter witness.
+    Short,
+    /// Line by line; and where no race is listed, behind the schedule in an order that is drawn from a number, of the run
+    /// in that order.
+    Shuffled { number: u64 },
 }
 
 /// What is asked for, with the names of files.
@@ -37,6 +42,10 @@ pub enum Command<'a> {
     Big {
         number: u64,
     },
+    /// A schedule in version 2.
+    Upgrade {
+        schedule: &'a str,
+    },
 }
 
 // The format of the report that a word asks for.
@@ -46,6 +55,7 @@ fn format_of(word: &str) -> Option<Format>
     match word {
         "run" => Some(Format::Text),
         "json" => Some(Format::Json),
+        "short" => Some(Format::Short),
         _ => None,
     }
 }
@@ -58,7 +68,7 @@ fn number_below(word: &str, limit: u128) -> Option<u128>
     if number < limit { Some(number) } else { None }
 }
 
-// `run P S` and `json P S`.
+// `run P S`, `json P S` and `short P S`.
 fn run_of<'a>(word: &str, program: &'a str, schedule: &'a str) -> Option<Command<'a>>
     ensures { option_map asked result ≡ run_of (format_of word.now) program.now schedule.now }
 {
@@ -83,7 +93,21 @@ fn auto_of<'a>(program: &'a str, number: &str, most: &str) -> Option<Command<'a>
     })
 }
 
-// `check P` and `big N`.
+// `shuffle P S N`.
+fn shuffle_of<'a>(program: &'a str, schedule: &'a str, number: &str) -> Option<Command<'a>>
+    ensures { option_map asked result ≡ shuffle_of program.now schedule.now (number_below (2 ^ 64) number.now) }
+{
+    let number = number_below(number, 1 << 64)?;
+    Some(Command::Run {
+        format: Format::Shuffled {
+            number: number as u64,
+        },
+        program,
+        schedule,
+    })
+}
+
+// `check P`, `big N` and `upgrade S`.
 fn short_of<'a>(word: &str, name: &'a str) -> Option<Command<'a>>
     ensures { option_map asked result ≡ command_of (word.now ∷ name.now ∷ []) }
 {
@@ -95,11 +119,13 @@ fn short_of<'a>(word: &str, name: &'a str) -> Option<Command<'a>>
                 number: number as u64,
             })
         }
+        "upgrade" => Some(Command::Upgrade { schedule: name }),
         _ => None,
     }
 }
 
-/// The command of these words. There are five forms: `run P S`, `json P S`, `check P`, `auto P N M` and `big N`.
+/// The command of these words. There are eight forms: `run P S`, `json P S`, `short P S`, `shuffle P S N`, `check P`,
+/// `auto P N M`, `big N` and `upgrade S`.
 pub fn command_of(words: &[String]) -> Option<Command<'_>>
     ensures { option_map asked result ≡ command_of (map string_bytes words.now) }
 {
@@ -107,6 +133,11 @@ pub fn command_of(words: &[String]) -> Option<Command<'_>>
         2 => short_of(words[0].as_str(), words[1].as_str()),
         3 => run_of(words[0].as_str(), words[1].as_str(), words[2].as_str()),
         4 if words[0].as_str() == "auto" => auto_of(
+            words[1].as_str(),
+            words[2].as_str(),
+            words[3].as_str(),
+        ),
+        4 if words[0].as_str() == "shuffle" => shuffle_of(
             words[1].as_str(),
             words[2].as_str(),
             words[3].as_str(),

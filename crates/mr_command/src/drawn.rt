@@ -14,14 +14,14 @@ use crate::report::{brief_report, report};
 use crate::run::Finished;
 use mr_auto::{Drawn, draw};
 use mr_gen::{rounds, workers};
-use mr_sched::print;
+use mr_sched::{Version, print_version};
 use mr_wf::Checked;
 use std::alloc::{AllocError, Global};
 
 // As many entries as the schedule of a generated program may have.
 const MOST_ENTRIES: u32 = 65_536;
 
-/// The schedule that is drawn for a program, and the report of the run under it.
+/// The schedule that is drawn for a program, in version 1, and the report of the run under it.
 pub fn drawn(alloc: Global, p: &Checked, number: u64, most: u32) -> Result<Written, AllocError>
     requires { most ≤ 2 ^ 20 }
     ensures answer { IfOk result (λ a. seen a ≡ drawn_answer p.now (drawn_schedule p.now number most)) }
@@ -32,9 +32,15 @@ pub fn drawn(alloc: Global, p: &Checked, number: u64, most: u32) -> Result<Writt
         machine,
         steps,
     } = draw(alloc, p, number, most)?;
-    let written = report(alloc, Format::Text, &Finished { machine, steps }, &schedule)?;
+    let written = report(
+        alloc,
+        Format::Text,
+        &Finished { machine, steps },
+        Version::One,
+        &schedule,
+    )?;
     let mut text = Vec::new(alloc);
-    print(alloc, &schedule, &mut text)?;
+    print_version(alloc, Version::One, &schedule, &mut text)?;
     text.extend_from_slice(written.text.as_slice())?;
     Ok(Written {
         text,

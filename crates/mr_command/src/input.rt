@@ -14,7 +14,7 @@ use mr_ast::Program;
 use mr_io::{FileFault, Files};
 use mr_lex::{LONG_TEXT, TextFault};
 use mr_parse::ParseFault;
-use mr_sched::{SchedFault, Schedule, TOO_LONG};
+use mr_sched::{Read, SchedFault, TOO_LONG};
 use std::alloc::Global;
 
 // The bytes that a program's text and a schedule's may have at most.
@@ -27,6 +27,7 @@ pub fn read_program<F: Files>(alloc: Global, files: &mut F, name: &str) -> Resul
     ensures same { F.told files.new ≡ F.told files.old }
     ensures reads { F.reads files.new ≤ F.reads files.old + 1 }
     ensures faults { F.faults files.old ≤ F.faults files.new }
+    ensures memory { result ≡ Err Refusal.Memory → F.faults files.new ≡ F.faults files.old }
     ensures shaped { IfOk result Shaped }
     ensures read { (contents : Contents) → F.told files.old ≡ Some contents
         → IsRead (Rose (F.faults files.old) (F.faults files.new)) ReadProgram result (program_in (contents name.now)) }
@@ -72,17 +73,14 @@ fn wrong(fault: TextFault) -> Refusal
     }
 }
 
-/// The schedule in a file.
-pub fn read_schedule<F: Files>(
-    alloc: Global,
-    files: &mut F,
-    name: &str,
-) -> Result<Schedule, Refusal>
+/// The schedule in a file, and the version of its text.
+pub fn read_schedule<F: Files>(alloc: Global, files: &mut F, name: &str) -> Result<Read, Refusal>
     ensures same { F.told files.new ≡ F.told files.old }
     ensures reads { F.reads files.new ≤ F.reads files.old + 1 }
     ensures faults { F.faults files.old ≤ F.faults files.new }
+    ensures memory { result ≡ Err Refusal.Memory → F.faults files.new ≡ F.faults files.old }
     ensures second { ¬ result ≡ Err Refusal.ReadProgram }
-    ensures few { IfOk result (λ w. length w.entries ≤ 2 ^ 20) }
+    ensures few { IfOk result (λ r. length r.schedule.entries ≤ 2 ^ 22) }
     ensures read { (contents : Contents) → F.told files.old ≡ Some contents
         → IsRead (Rose (F.faults files.old) (F.faults files.new)) ReadSchedule result (schedule_in (contents name.now)) }
     ensures texts { F.told files.old ≡ None → (bytes : List ℕ)
@@ -99,14 +97,14 @@ pub fn read_schedule<F: Files>(
     }
 }
 
-// The schedule that a text spells.
-fn schedule(alloc: Global, text: &[u8]) -> Result<Schedule, Refusal>
+// The schedule that a text spells, and the version of the text.
+fn schedule(alloc: Global, text: &[u8]) -> Result<Read, Refusal>
     ensures given { Gives result (spelled (schedule_of text.now)) }
     ensures read { ¬ IsUnreadFault result }
-    ensures few { IfOk result (λ w. length w.entries ≤ 2 ^ 20) }
+    ensures few { IfOk result (λ r. length r.schedule.entries ≤ 2 ^ 22) }
 {
-    match mr_sched::read(alloc, text) {
-        Ok(schedule) => Ok(schedule),
+    match mr_sched::read_version(alloc, text) {
+        Ok(read) => Ok(read),
         Err(SchedFault::Bad { line, code }) => Err(broken(line, code)),
         Err(SchedFault::Memory) => Err(Refusal::Memory),
     }

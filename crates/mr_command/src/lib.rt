@@ -1,11 +1,17 @@
 //! `mirace run P S`: what the machine comes to that runs the program in file P under the recorded schedule in file S.
 //! `mirace json P S`: the same report as JSON.
+//! `mirace short P S`: the same report with a shorter witness.
+//! `mirace shuffle P S N`: the schedule in another order, which is drawn from number N, and the report of that run, where no race
+//! is listed.
 //! `mirace auto P N M`: a schedule that is drawn from number N with at most M entries, and the report of that run.
 //! `mirace big N`: a summary of such a run of the program of number N.
 //! `mirace check P`: the canonical text of the program in file P, where it is well-formed.
+//! `mirace upgrade S`: the schedule in file S, written in version 2.
 //!
-//! Where the text denotes no program, both write the first fault of it: its line, its column, a code and a name. Of a program
-//! that breaks a rule of well-formedness both write where the first one is broken: the global or function, the block, a place, a code and
+//! A schedule's file may be of either version, and a report has schedules in that of the file. `auto` writes version 1.
+//!
+//! Where the text denotes no program, all that read one write the first fault of it: its line, its column, a code and a name. Of a program
+//! that breaks a rule of well-formedness they write where the first one is broken: the global or function, the block, a place, a code and
 //! a name.
 //!
 //! The public call is [`mirace`], over files and a sink. Its promises are clauses of it: what is written and the status are those
@@ -20,14 +26,15 @@ ghost use Rattle.mr_io.specs.Counts.{Rose};
 ghost use Rattle.mr_io.specs.Files.{Contents};
 ghost use Rattle.mr_lex.specs.declared.token.TextFault.{TextFault};
 ghost use Rattle.mr_sched.specs.declared.schedule.Schedule.{Schedule as Recorded};
+ghost use Rattle.mr_sched.specs.declared.version.Version.{Version};
 ghost use Rattle.mr_start.specs.Start.{PlacedFault};
 ghost use Rattle.mr_wf.specs.declared.fault.FormFault.{FormFault};
 ghost use Rattle.mr_auto.specs.Drawing.{drawn_schedule};
 ghost use Rattle.mr_gen.specs.Generated.{generated};
-ghost use Rattle.mr_command.specs.Answer.{big_answer, big_schedule, canonical, drawn_answer, form_answer, refused, text_refusal, usage};
+ghost use Rattle.mr_command.specs.Answer.{big_answer, big_schedule, canonical, drawn_answer, form_answer, line_at, refused, text_refusal, upgraded, usage};
 ghost use Rattle.mr_command.specs.declared.command.Format.{Format};
-ghost use Rattle.mr_command.specs.Command.{asked, command_of, named_files, Auto, Big, Check, IsBounded, NamesProgram, Run};
-ghost use Rattle.mr_command.specs.Headline.{AsksForSchedule, ChecksProgram, DrawsFor, IsOfMachine, IsSoundUnder, IsTold, IsUnreadBecause, Names, NamesBroken, NamesBrokenSchedule, NamesFault, NamesScheduleFault, ReportsLegalRun, WritesCanonical, WritesDrawn};
+ghost use Rattle.mr_command.specs.Command.{asked, command_of, named_files, Auto, Big, Check, IsBounded, NamesProgram, Run, Upgrade};
+ghost use Rattle.mr_command.specs.Headline.{AsksForSchedule, ChecksProgram, DrawsFor, HasScheduleFault, IsOfMachine, IsSoundUnder, IsTold, IsUnreadBecause, Names, NamesBroken, NamesBrokenSchedule, NamesFault, NamesScheduleFault, ReportsLegalRun, Upgrades, WritesCanonical, WritesDrawn, WritesUpgraded};
 ghost use Rattle.mr_command.specs.Outcome.{Ends, EndsOverTexts, IsLeft, IsWritten};
 ghost use Rattle.mr_command.specs.Report.{refusal_text};
 ghost use Rattle.mr_command.specs.declared.refusal.Refusal.TheVariants.{ReadProgram, Schedule};
@@ -37,8 +44,8 @@ mod command;
 mod drawn;
 mod form;
 mod input;
-mod races;
 mod refusal;
+mod reordered;
 mod report;
 mod run;
 mod writing;
@@ -51,7 +58,8 @@ use std::alloc::Global;
 
 const USAGE: &[u8] = b"usage: see the table of commands\n";
 
-/// Does what the words behind the program's name ask for, and answers the exit status: 0 or 1 of a report, 0 of a canonical text,
+/// Does what the words behind the program's name ask for, and answers the exit status: 0 or 1 of a report, 0 of a canonical text or of a
+/// schedule in version 2,
 /// 2 of words without a form, 3 of a text that denotes no program, 4 of a program that breaks a rule
 /// of well-formedness, 5 of a schedule, 6 of a file that was not read, 7 of a failed write and 8 where memory ran out.
 pub fn mirace<F: Files, O: Sink>(alloc: Global, words: &[String], files: &mut F, out: &mut O) -> u8
@@ -66,12 +74,12 @@ pub fn mirace<F: Files, O: Sink>(alloc: Global, words: &[String], files: &mut F,
         (Rose (O.faults out.old) (O.faults out.new)) (O.taken out.old) (O.taken out.new) result }
 
     // The headline.
-    ensures headline { (contents : Contents) (format : Format) (p : Program) (w : Recorded) → F.told files.old ≡ Some contents
-        → Names contents (command_of (map string_bytes words.now)) format p w
-        → IsOfMachine format p w (Rose (F.faults files.old) (F.faults files.new))
+    ensures headline { (contents : Contents) (format : Format) (p : Program) (v : Version) (w : Recorded) → F.told files.old ≡ Some contents
+        → Names contents (command_of (map string_bytes words.now)) format p v w
+        → IsOfMachine format p v w (Rose (F.faults files.old) (F.faults files.new))
         (Rose (O.faults out.old) (O.faults out.new)) (O.taken out.old) (O.taken out.new) result }
-    ensures complete { (contents : Contents) (format : Format) (p : Program) (w : Recorded) → F.told files.old ≡ Some contents
-        → Names contents (command_of (map string_bytes words.now)) format p w
+    ensures complete { (contents : Contents) (format : Format) (p : Program) (v : Version) (w : Recorded) → F.told files.old ≡ Some contents
+        → Names contents (command_of (map string_bytes words.now)) format p v w
         → ¬ Rose (F.faults files.old) (F.faults files.new) → ¬ Rose (O.faults out.old) (O.faults out.new)
         → (result ≤ 1) ⊎ (result ≡ 8) }
 
@@ -105,6 +113,22 @@ pub fn mirace<F: Files, O: Sink>(alloc: Global, words: &[String], files: &mut F,
     ensures grows { (number : ℕ) → command_of (map string_bytes words.now) ≡ Some (Big number)
         → ¬ Rose (O.faults out.old) (O.faults out.new) → (result ≤ 1) ⊎ (result ≡ 8) }
 
+    // A schedule in either version is written in version 2; nothing else is upgraded, and what refuses a schedule is a fault of its text.
+    ensures upgraded { (contents : Contents) (v : Version) (w : Recorded) → F.told files.old ≡ Some contents
+        → Upgrades contents (command_of (map string_bytes words.now)) v w
+        → IsTold (upgraded w) (Rose (F.faults files.old) (F.faults files.new))
+        (Rose (O.faults out.old) (O.faults out.new)) (O.taken out.old) (O.taken out.new) result }
+    ensures upgrades { (contents : Contents) (v : Version) (w : Recorded) → F.told files.old ≡ Some contents
+        → Upgrades contents (command_of (map string_bytes words.now)) v w
+        → ¬ Rose (F.faults files.old) (F.faults files.new) → ¬ Rose (O.faults out.old) (O.faults out.new)
+        → (result ≡ 0) ⊎ (result ≡ 8) }
+    ensures only_upgraded { (contents : Contents) (schedule : List ℕ) → F.told files.old ≡ Some contents
+        → command_of (map string_bytes words.now) ≡ Some (Upgrade schedule) → result ≤ 1
+        → WritesUpgraded contents (command_of (map string_bytes words.now)) (O.taken out.old) (O.taken out.new) result }
+    ensures only_text { (contents : Contents) (schedule : List ℕ) → F.told files.old ≡ Some contents
+        → command_of (map string_bytes words.now) ≡ Some (Upgrade schedule) → result ≡ 5
+        → HasScheduleFault contents (command_of (map string_bytes words.now)) }
+
     // A program's text is answered by what it denotes or breaks, and a program by the first rule that it breaks.
     ensures canonical { (contents : Contents) (p : Program) → F.told files.old ≡ Some contents
         → ChecksProgram contents (command_of (map string_bytes words.now)) p
@@ -119,14 +143,14 @@ pub fn mirace<F: Files, O: Sink>(alloc: Global, words: &[String], files: &mut F,
         → IsTold (form_answer p fault) (Rose (F.faults files.old) (F.faults files.new))
         (Rose (O.faults out.old) (O.faults out.new)) (O.taken out.old) (O.taken out.new) result }
 
-    // So is a schedule: by its text's first fault, and by the first rule that it breaks.
+    // So is a schedule: by its text's first fault, and by the first rule that it breaks, on the line that holds the entry.
     ensures schedule_fault { (contents : Contents) (line code : ℕ) → F.told files.old ≡ Some contents
         → NamesScheduleFault contents (command_of (map string_bytes words.now)) line code
         → IsTold (refused (Schedule line code None)) (Rose (F.faults files.old) (F.faults files.new))
         (Rose (O.faults out.old) (O.faults out.new)) (O.taken out.old) (O.taken out.new) result }
-    ensures broken_schedule { (contents : Contents) (fault : PlacedFault) → F.told files.old ≡ Some contents
-        → NamesBrokenSchedule contents (command_of (map string_bytes words.now)) fault
-        → IsTold (refused (Schedule fault.line fault.fault.code fault.fault.earlier)) (Rose (F.faults files.old) (F.faults files.new))
+    ensures broken_schedule { (contents : Contents) (v : Version) (w : Recorded) (fault : PlacedFault) → F.told files.old ≡ Some contents
+        → NamesBrokenSchedule contents (command_of (map string_bytes words.now)) v w fault
+        → IsTold (refused (Schedule (line_at v w fault.line) fault.fault.code fault.fault.earlier)) (Rose (F.faults files.old) (F.faults files.new))
         (Rose (O.faults out.old) (O.faults out.new)) (O.taken out.old) (O.taken out.new) result }
 
     // Whatever the files tell.
@@ -140,7 +164,39 @@ pub fn mirace<F: Files, O: Sink>(alloc: Global, words: &[String], files: &mut F,
     ensures same { F.told files.new ≡ F.told files.old }
     ensures reads { F.reads files.new ≤ F.reads files.old + named_files (command_of (map string_bytes words.now)) }
 
-    // The schedule is read behind the program alone, and where that breaks no rule.
+    // Where the words name a program, the schedule is read behind that alone, and where it breaks no rule.
+    ensures once { (contents : Contents) (program : List ℕ) → F.told files.old ≡ Some contents
+        → NamesProgram (command_of (map string_bytes words.now)) program → ¬ AsksForSchedule (contents program)
+        → F.reads files.new ≤ F.reads files.old + 1 }
+    ensures first { (taken : List ℕ) → result ≡ 6 → O.taken out.old ≡ Some taken
+        → O.taken out.new ≡ Some (taken ++ refusal_text ReadProgram) → F.reads files.new ≤ F.reads files.old + 1 }
+{
+    served(alloc, words, files, out)
+}
+
+// Does what the words ask for. Of the memory nothing is known but that a command can be obeyed with it, so none is taken for words of
+// no form.
+fn served<M: Obeys, F: Files, O: Sink>(
+    memory: M,
+    words: &[String],
+    files: &mut F,
+    out: &mut O,
+) -> u8
+    ensures ends { (contents : Contents) → F.told files.old ≡ Some contents
+        → Ends contents (command_of (map string_bytes words.now)) (Rose (F.faults files.old) (F.faults files.new))
+        (Rose (O.faults out.old) (O.faults out.new)) (O.taken out.old) (O.taken out.new) result }
+    ensures usage { command_of (map string_bytes words.now) ≡ None
+        → IsWritten usage (Rose (O.faults out.old) (O.faults out.new)) (O.taken out.old) (O.taken out.new) result }
+    ensures no_usage { result ≡ 2 → command_of (map string_bytes words.now) ≡ None }
+    ensures bounded { result ≤ 8 }
+    ensures texts { F.told files.old ≡ None
+        → EndsOverTexts (command_of (map string_bytes words.now)) (Rose (F.faults files.old) (F.faults files.new))
+        (Rose (O.faults out.old) (O.faults out.new)) (O.taken out.old) (O.taken out.new) result }
+    ensures untold { F.told files.old ≡ None → result ≡ 6 → Rose (F.faults files.old) (F.faults files.new) }
+    ensures write_fault { result ≡ 7 → Rose (O.faults out.old) (O.faults out.new) }
+    ensures memory { result ≡ 8 → O.taken out.new ≡ O.taken out.old }
+    ensures same { F.told files.new ≡ F.told files.old }
+    ensures reads { F.reads files.new ≤ F.reads files.old + named_files (command_of (map string_bytes words.now)) }
     ensures once { (contents : Contents) (program : List ℕ) → F.told files.old ≡ Some contents
         → NamesProgram (command_of (map string_bytes words.now)) program → ¬ AsksForSchedule (contents program)
         → F.reads files.new ≤ F.reads files.old + 1 }
@@ -149,34 +205,40 @@ pub fn mirace<F: Files, O: Sink>(alloc: Global, words: &[String], files: &mut F,
 {
     match command_of(words) {
         None => finish(out, USAGE, 2),
-        Some(command) => obey(alloc, files, out, command),
+        Some(command) => memory.obey(files, out, command),
     }
 }
 
-// Does what a command asks for.
-fn obey<F: Files, O: Sink>(alloc: Global, files: &mut F, out: &mut O, command: Command<'_>) -> u8
-    requires { IsBounded (asked command) }
-    ensures ends { (contents : Contents) → F.told files.old ≡ Some contents
-        → Ends contents (Some (asked command.entry)) (Rose (F.faults files.old) (F.faults files.new))
-        (Rose (O.faults out.old) (O.faults out.new)) (O.taken out.old) (O.taken out.new) result }
-    ensures no_usage { ¬ result ≡ 2 }
-    ensures bounded { result ≤ 8 }
-    ensures texts { F.told files.old ≡ None
-        → EndsOverTexts (Some (asked command.entry)) (Rose (F.faults files.old) (F.faults files.new))
-        (Rose (O.faults out.old) (O.faults out.new)) (O.taken out.old) (O.taken out.new) result }
-    ensures untold { F.told files.old ≡ None → result ≡ 6 → Rose (F.faults files.old) (F.faults files.new) }
-    ensures write_fault { result ≡ 7 → Rose (O.faults out.old) (O.faults out.new) }
-    ensures memory { result ≡ 8 → O.taken out.new ≡ O.taken out.old }
-    ensures same { F.told files.new ≡ F.told files.old }
-    ensures reads { F.reads files.new ≤ F.reads files.old + named_files (Some (asked command.entry)) }
-    ensures once { (contents : Contents) (program : List ℕ) → F.told files.old ≡ Some contents
-        → NamesProgram (Some (asked command.entry)) program → ¬ AsksForSchedule (contents program)
-        → F.reads files.new ≤ F.reads files.old + 1 }
-    ensures first { (taken : List ℕ) → result ≡ 6 → O.taken out.old ≡ Some taken
-        → O.taken out.new ≡ Some (taken ++ refusal_text ReadProgram) → F.reads files.new ≤ F.reads files.old + 1 }
-{
-    match answer(alloc, files, command) {
-        Ok(written) => finish(out, written.text.as_slice(), written.status),
-        Err(refusal) => refuse(alloc, out, refusal),
+// What a command can be obeyed with.
+trait Obeys: Drop {
+    /// Does what a command asks for.
+    fn obey<F: Files, O: Sink>(self, files: &mut F, out: &mut O, command: Command<'_>) -> u8
+        requires { IsBounded (asked command) }
+        ensures ends { (contents : Contents) → F.told files.old ≡ Some contents
+            → Ends contents (Some (asked command.entry)) (Rose (F.faults files.old) (F.faults files.new))
+            (Rose (O.faults out.old) (O.faults out.new)) (O.taken out.old) (O.taken out.new) result }
+        ensures no_usage { ¬ result ≡ 2 }
+        ensures bounded { result ≤ 8 }
+        ensures texts { F.told files.old ≡ None
+            → EndsOverTexts (Some (asked command.entry)) (Rose (F.faults files.old) (F.faults files.new))
+            (Rose (O.faults out.old) (O.faults out.new)) (O.taken out.old) (O.taken out.new) result }
+        ensures untold { F.told files.old ≡ None → result ≡ 6 → Rose (F.faults files.old) (F.faults files.new) }
+        ensures write_fault { result ≡ 7 → Rose (O.faults out.old) (O.faults out.new) }
+        ensures memory { result ≡ 8 → O.taken out.new ≡ O.taken out.old }
+        ensures same { F.told files.new ≡ F.told files.old }
+        ensures reads { F.reads files.new ≤ F.reads files.old + named_files (Some (asked command.entry)) }
+        ensures once { (contents : Contents) (program : List ℕ) → F.told files.old ≡ Some contents
+            → NamesProgram (Some (asked command.entry)) program → ¬ AsksForSchedule (contents program)
+            → F.reads files.new ≤ F.reads files.old + 1 }
+        ensures first { (taken : List ℕ) → result ≡ 6 → O.taken out.old ≡ Some taken
+            → O.taken out.new ≡ Some (taken ++ refusal_text ReadProgram) → F.reads files.new ≤ F.reads files.old + 1 };
+}
+
+impl Obeys for Global {
+    fn obey<F: Files, O: Sink>(self, files: &mut F, out: &mut O, command: Command<'_>) -> u8 {
+        match answer(self, files, command) {
+            Ok(written) => finish(out, written.text.as_slice(), written.status),
+            Err(refusal) => refuse(self, out, refusal),
+        }
     }
 }

@@ -1,8 +1,9 @@
 //! The report of a run: its text, and the exit status.
-ghost use Rattle.std.specs.Prelude.{◌≡◌, ◌≤◌, ◌<◌, IfOk, Some, length, map, option_copied, slice_get};
+ghost use Rattle.std.specs.Prelude.{◌≡◌, ◌≤◌, ◌<◌, ◌∷◌, IfOk, List, Some, length, map, option_copied, slice_get};
+ghost use Rattle.mr_event.specs.declared.footprint.Pair.{Pair as PairOf};
 ghost use Rattle.mr_event.specs.Predicted.{predicted};
 ghost use Rattle.mr_plan.specs.Runs.{Printed};
-ghost use Rattle.mr_command.specs.Answer.{briefly, reported, witness_for};
+ghost use Rattle.mr_command.specs.Answer.{briefly, told_in, witness_for, witness_in};
 ghost use Rattle.mr_command.specs.Answering.{IsStatus, seen};
 ghost use Rattle.mr_command.specs.Report.{line_of, report_of, report_status, verdict_status, written_as};
 ghost use Rattle.mr_report.specs.Json.{ArePrinted};
@@ -10,12 +11,13 @@ ghost use Rattle.mr_command.specs.Running.{ran_by};
 
 use crate::answer::Written;
 use crate::command::Format;
-use crate::races::races_of;
 use crate::run::Finished;
 use mr_base::Verdict;
+use mr_clocks::predicted_by_clocks;
 use mr_event::{Footprint, Pair};
 use mr_report::{Line, Report, brief, json, text};
-use mr_sched::{Items, Schedule};
+use mr_sched::{Items, Schedule, Version};
+use mr_short::short;
 use mr_step::Machine;
 use mr_witness::witness;
 use std::alloc::{AllocError, Global};
@@ -27,6 +29,7 @@ struct Told {
     verdict: Verdict,
     races: Vec<Pair>,
     witness: Option<Schedule>,
+    version: Version,
 }
 
 impl Told {
@@ -38,36 +41,40 @@ impl Told {
         ensures verdict { result.verdict ≡ self.now.verdict }
         ensures races { result.races.now ≡ self.now.races.items }
         ensures witness { option_copied result.witness ≡ self.now.witness }
+        ensures version { result.version ≡ self.now.version }
     {
         Report {
             output: self.lines.as_slice(),
             verdict: self.verdict,
             races: self.races.as_slice(),
             witness: self.witness.as_ref(),
+            version: self.version,
         }
     }
 }
 
-/// The report of a run under a schedule that was taken to its end.
+/// The report of a run under a schedule that was taken to its end, with the witness in a version.
 pub fn report(
     alloc: Global,
     format: Format,
     finished: &Finished<'_>,
+    v: Version,
     w: &Schedule,
 ) -> Result<Written, AllocError>
     requires steps { length finished.now.steps.items ≤ length w.now.entries }
     requires texts { ArePrinted (map line_of finished.now.machine.config.output) }
-    ensures answer { IfOk result (λ a. seen a ≡ reported format w.now (ran_by finished.now)) }
+    ensures answer { IfOk result (λ a. seen a ≡ told_in format v w.now (ran_by finished.now)) }
     ensures status { IfOk result (λ a. IsStatus a.status) }
 {
     let steps = finished.steps.as_slice();
-    let races = races_of(alloc, steps)?;
-    let witness = witness_of(alloc, steps, w, races.as_slice())?;
+    let races = predicted_by_clocks(alloc, steps)?;
+    let witness = witness_of(alloc, format, steps, w, races.as_slice())?;
     let told = Told {
         lines: lines_of(alloc, &finished.machine)?,
         verdict: finished.machine.verdict(),
         races,
         witness,
+        version: v,
     };
     Ok(Written {
         text: text_of(alloc, format, &told.report())?,
@@ -80,7 +87,7 @@ pub fn brief_report(alloc: Global, finished: &Finished<'_>) -> Result<Written, A
     ensures answer { IfOk result (λ a. seen a ≡ briefly (ran_by finished.now)) }
     ensures status { IfOk result (λ a. IsStatus a.status) }
 {
-    let races = races_of(alloc, finished.steps.as_slice())?;
+    let races = predicted_by_clocks(alloc, finished.steps.as_slice())?;
     let lines = lines_of(alloc, &finished.machine)?;
     let verdict = finished.machine.verdict();
     let mut out = Vec::new(alloc);
@@ -94,12 +101,14 @@ pub fn brief_report(alloc: Global, finished: &Finished<'_>) -> Result<Written, A
 // The text of a report.
 fn text_of(alloc: Global, format: Format, report: &Report<'_>) -> Result<Vec<u8>, AllocError>
     requires { ArePrinted report.now.output.now }
-    ensures { IfOk result (λ out. out.items ≡ written_as format report.now.output.now report.now.verdict report.now.races.now (option_copied report.now.witness)) }
+    ensures { IfOk result (λ out. out.items ≡ written_as format report.now.output.now report.now.verdict report.now.races.now (option_copied report.now.witness) report.now.version) }
 {
     let mut out = Vec::new(alloc);
     match format {
         Format::Text => text(alloc, report, &mut out)?,
         Format::Json => json(alloc, report, &mut out)?,
+        Format::Short => text(alloc, report, &mut out)?,
+        Format::Shuffled { .. } => text(alloc, report, &mut out)?,
     }
     Ok(out)
 }
@@ -126,19 +135,40 @@ fn verdict_status(verdict: Verdict) -> u8
     }
 }
 
+// The witness for a race in a format.
+fn witness_in(
+    alloc: Global,
+    format: Format,
+    steps: &[Footprint],
+    w: &Schedule,
+    pair: Pair,
+) -> Result<Schedule, AllocError>
+    requires many { length steps.now ≤ length w.now.entries }
+    requires first { (rest : List PairOf) × (predicted steps.now ≡ pair ∷ rest) }
+    ensures { IfOk result (λ v. v ≡ witness_in format steps.now w.now pair.first pair.second) }
+{
+    match format {
+        Format::Text => witness(alloc, steps, w, pair),
+        Format::Json => witness(alloc, steps, w, pair),
+        Format::Short => short(alloc, steps, w, pair),
+        Format::Shuffled { .. } => witness(alloc, steps, w, pair),
+    }
+}
+
 // The witness for the first of the races, where there is one.
 fn witness_of(
     alloc: Global,
+    format: Format,
     steps: &[Footprint],
     w: &Schedule,
     races: &[Pair],
 ) -> Result<Option<Schedule>, AllocError>
     requires many { length steps.now ≤ length w.now.entries }
     requires races { races.now ≡ predicted steps.now }
-    ensures { IfOk result (λ v. v ≡ witness_for steps.now w.now races.now) }
+    ensures { IfOk result (λ v. v ≡ witness_for format steps.now w.now races.now) }
 {
     match races.first() {
-        Some(pair) => Ok(Some(witness(alloc, steps, w, *pair)?)),
+        Some(pair) => Ok(Some(witness_in(alloc, format, steps, w, *pair)?)),
         None => Ok(None),
     }
 }

@@ -1,12 +1,13 @@
 //! The run of a program under a schedule.
-ghost use Rattle.std.specs.Prelude.{◌≡◌, ◌==◌, ◌+◌, ◌^◌, ◌<◌, ◌≤◌, false, true, length};
+ghost use Rattle.std.specs.Prelude.{◌≡◌, ◌==◌, ◌+◌, ◌-◌, ◌^◌, ◌<◌, ◌≤◌, ◌⊎◌, false, true, length};
 ghost use Rattle.std.specs.List.{list_all};
-ghost use Rattle.mr_command.specs.Running.{AloneAnswer, EntriesAnswer, EntryAnswer, RunAnswer, TakeAnswer, TakenAnswer, are_of_first, placed};
+ghost use Rattle.mr_command.specs.Answer.{line_at, on_line};
+ghost use Rattle.mr_command.specs.Running.{AloneAnswer, EntriesAnswer, EntryAnswer, IsPlace, IsPlaced, RunAnswer, TakeAnswer, TakenAnswer, are_of_first, placed};
 
 use crate::refusal::Refusal;
 use mr_auto::advance;
 use mr_event::Footprint;
-use mr_sched::{Entry, Schedule};
+use mr_sched::{Entry, Schedule, Version, line_of};
 use mr_step::{Machine, StepFault};
 use mr_wf::Checked;
 use std::alloc::Global;
@@ -18,14 +19,15 @@ pub struct Finished<'p> {
     pub steps: Vec<Footprint>,
 }
 
-/// The run of a program under a schedule, or the first rule that the schedule breaks.
+/// The run of a program under a schedule, or the first rule that the schedule breaks, at its place: the start has place 2, and the first
+/// entry place 3.
 pub fn run<'p>(alloc: Global, p: &'p Checked, w: &Schedule) -> Result<Finished<'p>, Refusal>
-    requires { length w.now.entries ≤ 2 ^ 20 }
+    requires { length w.now.entries ≤ 2 ^ 22 }
     ensures { RunAnswer p.now w.now result }
 {
     let mut machine = match Machine::start(alloc, p, w.start.as_slice()) {
         Ok(machine) => machine,
-        Err(fault) => return Err(at_line(2, fault)),
+        Err(fault) => return Err(at_place(2, fault)),
     };
     let mut steps = Vec::new(alloc);
     match run_entries(alloc, &mut machine, w.entries.as_slice(), &mut steps) {
@@ -44,13 +46,13 @@ pub fn is_alone(entries: &[Entry]) -> bool
 /// The run of a program under a schedule of thread 0 alone, or the first rule that the schedule breaks. One thread has no race, so that
 /// no footprint is kept.
 pub fn run_alone<'p>(alloc: Global, p: &'p Checked, w: &Schedule) -> Result<Finished<'p>, Refusal>
-    requires few { length w.now.entries ≤ 2 ^ 20 }
+    requires few { length w.now.entries ≤ 2 ^ 22 }
     requires alone { are_of_first w.now.entries ≡ true }
     ensures { AloneAnswer p.now w.now result }
 {
     let mut machine = match Machine::start(alloc, p, w.start.as_slice()) {
         Ok(machine) => machine,
-        Err(fault) => return Err(at_line(2, fault)),
+        Err(fault) => return Err(at_place(2, fault)),
     };
     match take_entries(&mut machine, w.entries.as_slice()) {
         Ok(()) => Ok(Finished {
@@ -61,34 +63,34 @@ pub fn run_alone<'p>(alloc: Global, p: &'p Checked, w: &Schedule) -> Result<Fini
     }
 }
 
-// Steps by each entry, and keeps no footprint. The first stands on line 3.
+// Steps by each entry, and keeps no footprint. The first has place 3.
 fn take_entries(machine: &mut Machine<'_>, entries: &[Entry]) -> Result<(), Refusal>
     requires working { machine.old.failed ≡ false }
     requires completed { machine.old.config.completed + length entries.now < 2 ^ 32 }
-    requires entries { length entries.now ≤ 2 ^ 20 }
+    requires entries { length entries.now ≤ 2 ^ 22 }
     ensures { TakenAnswer entries.now machine.old machine.new result }
 {
-    let mut line = 3;
+    let mut place = 3;
     for entry in entries {
-        take(machine, entry, line)?;
-        line += 1;
+        take(machine, entry, place)?;
+        place += 1;
     }
     Ok(())
 }
 
-// The step of an entry on a line.
-fn take(machine: &mut Machine<'_>, entry: &Entry, line: u32) -> Result<(), Refusal>
+// The step of an entry at a place.
+fn take(machine: &mut Machine<'_>, entry: &Entry, place: u32) -> Result<(), Refusal>
     requires working { machine.old.failed ≡ false }
     requires completed { machine.old.config.completed < 2 ^ 32 }
-    ensures { TakeAnswer entry.now line machine.old machine.new result }
+    ensures { TakeAnswer entry.now place machine.old machine.new result }
 {
     match machine.go(entry) {
         Ok(_) => Ok(()),
-        Err(fault) => Err(at_line(line, fault)),
+        Err(fault) => Err(at_place(place, fault)),
     }
 }
 
-// Steps by each entry. The first stands on line 3.
+// Steps by each entry. The first has place 3.
 fn run_entries(
     alloc: Global,
     machine: &mut Machine<'_>,
@@ -97,45 +99,81 @@ fn run_entries(
 ) -> Result<(), Refusal>
     requires working { machine.old.failed ≡ false }
     requires completed { machine.old.config.completed + length entries.now < 2 ^ 32 }
-    requires entries { length entries.now ≤ 2 ^ 20 }
+    requires entries { length entries.now ≤ 2 ^ 22 }
     ensures { EntriesAnswer entries.now machine.old machine.new steps.old.items steps.new.items result }
 {
-    let mut line = 3;
+    let mut place = 3;
     for entry in entries {
-        step(alloc, machine, entry, line, steps)?;
-        line += 1;
+        step(alloc, machine, entry, place, steps)?;
+        place += 1;
     }
     Ok(())
 }
 
-// The step of an entry on a line, whose footprint joins the others where it completed.
+// The step of an entry at a place, whose footprint joins the others where it completed.
 fn step(
     alloc: Global,
     machine: &mut Machine<'_>,
     entry: &Entry,
-    line: u32,
+    place: u32,
     steps: &mut Vec<Footprint>,
 ) -> Result<(), Refusal>
     requires working { machine.old.failed ≡ false }
     requires completed { machine.old.config.completed < 2 ^ 32 }
-    ensures { EntryAnswer entry.now line machine.old machine.new steps.old.items steps.new.items result }
+    ensures { EntryAnswer entry.now place machine.old machine.new steps.old.items steps.new.items result }
 {
     match advance(alloc, machine, entry, steps) {
         Ok(()) => Ok(()),
-        Err(fault) => Err(at_line(line, fault)),
+        Err(fault) => Err(at_place(place, fault)),
     }
 }
 
-// The refusal of a schedule that breaks a rule at a line.
-fn at_line(line: u32, fault: StepFault) -> Refusal
-    ensures { result ≡ placed line fault }
+// The refusal of a schedule that breaks a rule at a place.
+fn at_place(place: u32, fault: StepFault) -> Refusal
+    ensures { result ≡ placed place fault }
 {
     match fault {
         StepFault::BadEntry { code, earlier } => Refusal::Schedule {
-            line,
+            line: place,
             code,
             earlier,
         },
         StepFault::Memory | StepFault::Failed => Refusal::Memory,
+    }
+}
+
+/// What refuses a run, with the line of the schedule's text in a version for the place.
+pub fn on_line(v: Version, w: &Schedule, refusal: Refusal) -> Refusal
+    requires few { length w.now.entries ≤ 2 ^ 22 }
+    requires there { IsPlaced w.now refusal }
+    ensures { result ≡ on_line v w.now refusal }
+{
+    match refusal {
+        Refusal::ReadProgram => Refusal::ReadProgram,
+        Refusal::Text { line, col, code } => Refusal::Text { line, col, code },
+        Refusal::ReadSchedule => Refusal::ReadSchedule,
+        Refusal::Schedule {
+            line: place,
+            code,
+            earlier,
+        } => Refusal::Schedule {
+            line: line_at(v, w, place),
+            code,
+            earlier,
+        },
+        Refusal::Memory => Refusal::Memory,
+    }
+}
+
+// The line of a place.
+fn line_at(v: Version, w: &Schedule, place: u32) -> u32
+    requires few { length w.now.entries ≤ 2 ^ 22 }
+    requires there { IsPlace w.now place }
+    ensures { result ≡ line_at v w.now place }
+{
+    if place == 2 {
+        2
+    } else {
+        line_of(v, w, (place - 3) as usize)
     }
 }

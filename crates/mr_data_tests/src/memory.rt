@@ -23,11 +23,24 @@ fn with_four(alloc: Global, kind: Kind) -> Result<Option<Memory>, OutOfMemory>
     }
 }
 
+// A memory with a function at 16.
+fn with_function(alloc: Global) -> Result<Option<Memory>, OutOfMemory> {
+    let mut memory = Memory::new(alloc);
+    match memory.lawful(16, 1, 1) {
+        Ok(()) => {
+            memory.allocate(FIRST, Kind::Function, 1, 1, 16)?;
+            Ok(Some(memory))
+        }
+        Err(_) => Ok(None),
+    }
+}
+
 /// A call, with its numbers in their order. A pointer is its address and its provenance.
 #[derive(Clone, Copy)]
 enum Call {
     Lawful(u64, u64, u64),
     Leaks,
+    Range(AllocId),
     Check(u64, Option<AllocId>, u64),
     Load(u64, u64, u64),
     Store(u64, [u8; 2], u64),
@@ -73,6 +86,7 @@ fn tell_seen(told: &mut String, memory: &Memory, call: Call) -> Result<(), OutOf
     match call {
         Call::Lawful(addr, size, align) => write!(told, "{:?}", memory.lawful(addr, size, align)),
         Call::Leaks => write!(told, "{}", memory.leaks()),
+        Call::Range(id) => write!(told, "{:?}", memory.range(id)),
         Call::Check(addr, prov, len) => write!(
             told,
             "{:?}",
@@ -144,15 +158,15 @@ fn tell_case(
         Kind::Heap => tell_of(told, with_four(alloc, Kind::Heap), calls),
         Kind::Stack => tell_of(told, with_four(alloc, Kind::Stack), calls),
         Kind::Static => tell_of(told, with_four(alloc, Kind::Static), calls),
-        Kind::Function => write!(told, "no four bytes"),
+        Kind::Function => tell_of(told, with_function(alloc), calls),
     }
 }
 
 // The last address from which four bytes may be taken.
 const LAST: u64 = 18446744073709551612;
 
-// The kind of the four bytes, the calls, and their answers.
-static CASES: [(Kind, &[Call], &str); 9] = [
+// The kind of the four bytes, or that of a function, the calls, and their answers.
+static CASES: [(Kind, &[Call], &str); 11] = [
     // Addresses that may be picked.
     (
         Kind::Heap,
@@ -203,6 +217,29 @@ Err(FreeAlign)
 Ok(AllocId { thread: 0, count: 0 })
 Err(DeadAllocation)
 Err(Reused(AllocId { thread: 0, count: 0 }))
+",
+    ),
+    // A range is told of what lives and of what is dead, and none of what isn't there. A function takes an address, and has no bytes.
+    (
+        Kind::Heap,
+        &[
+            Call::Range(FIRST),
+            Call::Range(SECOND),
+            Call::Free(16, Some(FIRST), Kind::Heap, 4, 4),
+            Call::Range(FIRST),
+        ],
+        "Some((16, 4))
+None
+Ok(AllocId { thread: 0, count: 0 })
+Some((16, 4))
+",
+    ),
+    (
+        Kind::Function,
+        &[Call::Range(FIRST), Call::Lawful(16, 1, 1), Call::Leaks],
+        "Some((16, 0))
+Err(Reused(AllocId { thread: 0, count: 0 }))
+false
 ",
     ),
     // Only what is live in the heap leaks.

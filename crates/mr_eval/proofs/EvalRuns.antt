@@ -30,7 +30,7 @@ use Rattle.mr_wf.specs.Types.{chained, type_of_place, type_of_value, variant_typ
 use Rattle.mr_eval.specs.Reads.{ReadScript, Seen, reading}
 use Rattle.mr_eval.specs.Moves.{behind, moved}
 use Rattle.mr_eval.specs.Typed.{meant, searched}
-use Rattle.mr_eval.specs.Operators.{binary_of, bits_of_value, cast_value, or_ill_formed, pointer_of_value, unary_of}
+use Rattle.mr_eval.specs.Operators.{binary_of, cast_value, index_of_value, or_ill_formed, pointer_of_value, unary_of}
 use Rattle.mr_eval.specs.Evaluation.{Surround, as_variant, bare, discriminant_at, discriminant_layer, element_at, elements_in, loaded, offset_in, place_script, stored, transmuted, union_of, value_script, values_script}
 use Rattle.mr_eval.specs.Evaluated.{at_variant, disc_at, disc_layer, each_valued, found_number, in_array, in_field, load_at, meant_by, placed, read_typed, transmuted_to, valued}
 use Rattle.mr_eval.proofs.EvaluationLaws.{script_addr_of, script_binary, script_cast, script_deref, script_disc, script_false, script_field, script_fn, script_global, script_index, script_int, script_load, script_local, script_raw, script_transmute, script_true, script_tuple, script_unary, script_union, script_variant, script_variant_place}
@@ -61,7 +61,7 @@ module _ (m : Memory) (s : Surround) (old : Seen) where
   pub eval_index : (p : Place) (i : Value) → placed m s (place.Index p i) old ≡ on (placed m s p old) (λ a seen. on (valued m s i seen) (λ v last. in_array m (type_of_place s.locals p) v a last))
   unfolding placed valued in_array
   eval_index p i =
-      let last : Pointer → Val → ReadScript Pointer = λ a v. bits_of_value v >>= (λ n. or_ill_formed (elements_in (type_of_place s.locals p)) >>= element_at a n) in
+      let last : Pointer → Val → ReadScript Pointer = λ a v. index_of_value v >>= (λ n. or_ill_formed (elements_in (type_of_place s.locals p)) >>= element_at a n) in
       runs_on _ (place_script s p) (λ a. value_script s i >>= last a) (script_index s p i)
       ∙ on_same (placed m s p old) _ _ (λ a seen. run_bind (reading m) (value_script s i) (last a) seen)
 

@@ -23,7 +23,7 @@ use Rattle.mr_script.specs.Script.{Done, ◌>>=◌}
 use Rattle.mr_wf.specs.Types.{type_of_place, type_of_value}
 use Rattle.mr_eval.specs.Reads.{ReadScript}
 use Rattle.mr_eval.specs.Moves.{behind, moved}
-use Rattle.mr_eval.specs.Operators.{binary_of, bits_of_value, cast_value, or_ill_formed, pointer_of_value, unary_of}
+use Rattle.mr_eval.specs.Operators.{binary_of, cast_value, index_of_value, or_ill_formed, pointer_of_value, unary_of}
 use Rattle.mr_eval.specs.Evaluation.{Surround, as_variant, bare, discriminant_at, element_at, elements_in, in_order, loaded, offset_in, place_script, place_step, stored, transmuted, union_of, value_script, value_step, values_script}
 
 abbrev Located : Type 0
@@ -61,7 +61,7 @@ module _ (s : Surround) where
   pub script_field : (p : Place) (k : ℕ) → place_script s (place.Field p k) ≡ (place_script s p >>= (λ a. or_ill_formed (offset_in (type_of_place s.locals p) k) >>= (λ o. moved a (pos o))))
   script_field p k = ap (place_script s) (sym (place.rolls-Field p k)) ∙ place_roll (Place-F.Field p k)
 
-  pub script_index : (p : Place) (i : Value) → place_script s (place.Index p i) ≡ (place_script s p >>= (λ a. value_script s i >>= (λ v. bits_of_value v >>= (λ n. or_ill_formed (elements_in (type_of_place s.locals p)) >>= element_at a n))))
+  pub script_index : (p : Place) (i : Value) → place_script s (place.Index p i) ≡ (place_script s p >>= (λ a. value_script s i >>= (λ v. index_of_value v >>= (λ n. or_ill_formed (elements_in (type_of_place s.locals p)) >>= element_at a n))))
   script_index p i = ap (place_script s) (sym (place.rolls-Index p i)) ∙ place_roll (Place-F.Index p i)
 
   pub script_variant_place : (p : Place) (n : Num) → place_script s (place.Variant p n) ≡ (place_script s p >>= as_variant (type_of_place s.locals p) n)

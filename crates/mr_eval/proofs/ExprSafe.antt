@@ -1,9 +1,10 @@
 -- The evaluation of an expression that breaks no rule is never ill-formed, and the value has the shape of the expression's type.
-use Rattle.std.proofs.Common.{◌≡◌, ℕ, ◌*◌, ◌<◌, List, [], ◌∷◌, Option, None, Some, Bool, true, false, length, refl, sym, ap, subst, ◌∙◌, arith}
+use Rattle.std.proofs.Common.{◌≡◌, ℕ, ◌*◌, ◌^◌, ◌<◌, List, [], ◌∷◌, Option, None, Some, Bool, true, false, length, refl, sym, ap, subst, ◌∙◌, arith}
 use Rattle.std.specs.Prelude.{◌||◌, is_some, nat_lt, pos, if◌then◌else◌}
 use Rattle.std.specs.Option.{option_map}
 use Rattle.std.specs.List.{list_all, flat_map}
 use Rattle.std.proofs.lemmas.Option.{same_Some}
+use Rattle.mr_ast.specs.Integers.{bits_of}
 use Rattle.mr_ast.specs.declared.types.IntType.{IntType}
 use Rattle.mr_ast.specs.declared.types.IntType.TheVariants.{U64}
 use Rattle.mr_ast.specs.declared.types.Num.{Num}
@@ -38,7 +39,7 @@ use Rattle.mr_value.specs.Discriminants.{bits_of_number}
 use Rattle.mr_value.specs.Encode.{encoding_of}
 use Rattle.mr_value.specs.Numbers.{Bytes}
 use Rattle.mr_value.specs.Shape.{has_shape}
-use Rattle.mr_base.proofs.Comparisons.{lt_from}
+use Rattle.mr_base.proofs.Comparisons.{lt_from, lt_test}
 use Rattle.mr_value.proofs.EncodeLength.{length-encoding_of}
 use Rattle.mr_value.proofs.ShapeLaws.{has_bool, has_fn_ptr, has_raw, has_ref, shape_fn_ptr, shape_raw, shape_ref}
 use Rattle.mr_script.specs.Script.{Done, IllFormed, Undefined, ◌>>=◌}
@@ -54,7 +55,7 @@ use Rattle.mr_wf.proofs.TypeLaws.{type_of_addr_of, type_of_binary, type_of_cast,
 use Rattle.mr_wf.proofs.TypedLaws.{TypedPlace, typed_addr_of, typed_binary, typed_cast, typed_deref, typed_disc, typed_field, typed_index, typed_int, typed_load, typed_transmute, typed_tuple, typed_unary, typed_union, typed_variant, typed_variant_place}
 use Rattle.mr_eval.specs.Moves.{behind, moved}
 use Rattle.mr_eval.specs.Typed.{meant}
-use Rattle.mr_eval.specs.Operators.{binary_of, bits_in, bits_of_value, cast_value, or_ill_formed, pointer_in, pointer_of_value, unary_of}
+use Rattle.mr_eval.specs.Operators.{binary_of, cast_value, index_in, index_of_value, or_ill_formed, pointer_in, pointer_of_value, unary_of}
 use Rattle.mr_eval.specs.Evaluation.{Surround, as_variant, bare, discriminant_at, element_at, elements_in, loaded, offset_in, place_script, stored, transmuted, union_of, value_script, values_script}
 use Rattle.mr_eval.specs.Sound.{IsSafe, Stands, any_result}
 use Rattle.mr_eval.proofs.DiscSafe.{discriminant_safe}
@@ -63,7 +64,8 @@ use Rattle.mr_eval.proofs.OperatorsSafe.{Shaped, binary_safe, cast_safe, int_lay
 use Rattle.mr_eval.proofs.OverflowTypes.{overflow_ok}
 use Rattle.mr_eval.proofs.PartTypes.{element_ok, field_ok, variant_ok}
 use Rattle.mr_eval.proofs.SafeLaws.{item_ok, item_there, loading_safe, meant_safe, moved_safe, safe_found, safe_if, safe_then}
-use Rattle.mr_eval.proofs.ShapeOf.{HaveShapes, int_shape, parts_shape, union_shape, variant_shape}
+use Rattle.mr_eval.proofs.ShapeOf.{int_shape, parts_shape, union_shape, variant_shape}
+use Rattle.mr_eval.specs.Shapes.{HaveShapes}
 
 -- ---- pointers in values
 
@@ -246,13 +248,15 @@ module _ (named : Named) (sizes : List ℕ) (s : Surround) (stands : Stands name
       }
     where
       position_safe : (a : Pointer) (array : Ty) → type_of_place s.locals p ≡ Some array → (e : ℕ × ℕ) → elements_in (Some array) ≡ Some e → (t : Ty) → is_int U64 t ≡ true → (v : Val) → Shaped t v
-          → IsSafe any_result (bits_of_value v >>= (λ n. or_ill_formed (elements_in (type_of_place s.locals p)) >>= element_at a n))
+          → IsSafe any_result (index_of_value v >>= (λ n. or_ill_formed (elements_in (type_of_place s.locals p)) >>= element_at a n))
       position_safe a array is e found t fits v shape =
           let told : integer_of t ≡ Some U64 = subst (λ (u : Ty). integer_of u ≡ Some U64) (sym (same_type_equal t (ty.Int U64) fits)) (ap integer_in (ty.outs-Int U64)) in
           let x = int_layer t v U64 told shape in
-          subst (λ (w : Val-F Val). IsSafe any_result (or_ill_formed (bits_in w) >>= (λ n. or_ill_formed (elements_in (type_of_place s.locals p)) >>= element_at a n))) (sym x.layer)
+          let small : x.bits < 2 ^ 64 = subst (λ (i : IntType). x.bits < 2 ^ bits_of i) (same_Some x.int U64 (sym x.told ∙ told)) x.within in
+          subst (λ (w : Val-F Val). IsSafe any_result (or_ill_formed (index_in w) >>= (λ n. or_ill_formed (elements_in (type_of_place s.locals p)) >>= element_at a n))) (sym x.layer)
+          (subst (λ (b : Bool). IsSafe any_result (or_ill_formed (if b then Some x.bits else None) >>= (λ n. or_ill_formed (elements_in (type_of_place s.locals p)) >>= element_at a n))) (sym (lt_test x.bits (2 ^ 64) small))
           (subst (λ (o : Option (ℕ × ℕ)). IsSafe any_result (or_ill_formed o >>= element_at a x.bits)) (sym (ap elements_in is ∙ found))
-          (safe_if any_result (nat_lt x.bits e.0) (moved a (pos (x.bits * e.1))) (Undefined IndexOutOfRange) (moved_safe a (pos (x.bits * e.1))) tt))
+          (safe_if any_result (nat_lt x.bits e.0) (moved a (pos (x.bits * e.1))) (Undefined IndexOutOfRange) (moved_safe a (pos (x.bits * e.1))) tt)))
 
   -- ---- values
 

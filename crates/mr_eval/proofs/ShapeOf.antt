@@ -39,6 +39,7 @@ use Rattle.mr_wf.specs.Operands.{fits_parts, fits_parts_layer, fits_union, fits_
 use Rattle.mr_wf.specs.Types.{field_in, variant_among, variant_in}
 use Rattle.mr_ast.proofs.OrderHeads.{type_made}
 use Rattle.mr_wf.proofs.SameTypeLaws.{same_type_equal}
+use Rattle.mr_eval.specs.Shapes.{HaveShapes}
 use Rattle.mr_eval.specs.Evaluation.{union_layer}
 
 abbrev Layer : Type 0
@@ -76,13 +77,6 @@ int_shape i n e = has_int i (bits_of_number i n) ∙ fits_width (is_signed i) n.
     half_of I128 = omega arith
 
 -- ---- values in a row
-
--- each value has the shape of its type
-abbrev pub HaveShapes : List Ty → List Val → Type 0
-HaveShapes [] [] = Unit {0}
-HaveShapes [] (x ∷ xs) = ⊥
-HaveShapes (t ∷ ts) [] = ⊥
-HaveShapes (t ∷ ts) (x ∷ xs) = (has_shape t x ≡ true) × HaveShapes ts xs
 
 pub shapes_length : (ts : List Ty) (xs : List Val) → HaveShapes ts xs → length xs ≡ length ts
 shapes_length [] [] h = refl

@@ -28,7 +28,7 @@ use Rattle.mr_eval.specs.Typed.{Targets, loading, meant, numbered, referring, se
 use Rattle.mr_eval.specs.Evaluation.{Surround, element_at, elements_in, offset_in, place_script, value_script}
 use Rattle.mr_eval.specs.Evaluation.{values_script}
 use Rattle.mr_eval.specs.Moves.{moved}
-use Rattle.mr_eval.specs.Operators.{bits_of_value, or_ill_formed}
+use Rattle.mr_eval.specs.Operators.{index_of_value, or_ill_formed}
 
 unfoldable pub placed : Memory → Surround → Place → Seen → Outcome Pointer Seen
 placed m s p seen = run (reading m) (place_script s p) seen
@@ -75,7 +75,7 @@ in_field m t k p seen = run (reading m) (or_ill_formed (offset_in t k) >>= (λ n
 -- the element at a position, of an array of a type at a pointer
 unfoldable pub in_array : Memory → Option Ty → Val → Pointer → Seen → Outcome Pointer Seen
 in_array m t i p seen =
-    run (reading m) (bits_of_value i >>= (λ n. or_ill_formed (elements_in t) >>= element_at p n)) seen
+    run (reading m) (index_of_value i >>= (λ n. or_ill_formed (elements_in t) >>= element_at p n)) seen
 
 -- a place of a type, as a variant of it
 abbrev pub at_variant : Option Ty → Num → Pointer → Seen → Outcome Pointer Seen

@@ -27,7 +27,7 @@ use Rattle.mr_wf.specs.Types.{chained, field_offset, type_of_place, type_of_valu
 use Rattle.mr_eval.specs.Reads.{ReadScript}
 use Rattle.mr_eval.specs.Moves.{behind, moved}
 use Rattle.mr_eval.specs.Typed.{loading, meant, searched}
-use Rattle.mr_eval.specs.Operators.{binary_of, bits_of_value, cast_value, or_ill_formed, pointer_of_value, unary_of}
+use Rattle.mr_eval.specs.Operators.{binary_of, cast_value, index_of_value, or_ill_formed, pointer_of_value, unary_of}
 
 -- Where an expression is evaluated: the locals of its function and the storage that each has, and the pointers to the
 -- functions and the globals of the program.
@@ -80,7 +80,7 @@ place_step s (Place-F.Field whole number) = do
 place_step s (Place-F.Index array index) = do
   p ← array.1
   v ← index.1
-  i ← bits_of_value v
+  i ← index_of_value v
   e ← or_ill_formed (elements_in (type_of_place s.locals array.0))
   element_at p i e
 place_step s (Place-F.Place::Variant whole number) = do

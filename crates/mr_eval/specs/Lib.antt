@@ -8,6 +8,7 @@ pub mod Noted
 pub mod Operators
 pub mod Reads
 pub mod Scalars
+pub mod Shapes
 pub mod Sound
 pub mod Stores
 pub mod Tally

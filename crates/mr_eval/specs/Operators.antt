@@ -48,8 +48,13 @@ bits_in (Val-F.Bool b) = Some (if b then 1 else 0)
 bits_in (Val-F.Ptr p) = Some p.addr
 bits_in _ = None
 
-abbrev pub bits_of_value : Val → ReadScript ℕ
-bits_of_value v = or_ill_formed (bits_in (out-Val v))
+-- the position that an index tells: an integer of 64 bits
+abbrev pub index_in : Val-F Val → Option ℕ
+index_in (Val-F.Int n) = if nat_lt n (2 ^ 64) then Some n else None
+index_in _ = None
+
+abbrev pub index_of_value : Val → ReadScript ℕ
+index_of_value v = or_ill_formed (index_in (out-Val v))
 
 abbrev pub pointer_in : Val-F Val → Option Pointer
 pointer_in (Val-F.Ptr p) = Some p

@@ -7,7 +7,7 @@ ghost use Rattle.mr_eval.specs.Reads.{reading};
 ghost use Rattle.mr_eval.specs.Answers.{Extends, Gives, Says, at_pointer, same, seen};
 ghost use Rattle.mr_eval.specs.Evaluated.{in_array, in_field};
 ghost use Rattle.mr_eval.specs.Evaluation.{element_at, elements_in, stored};
-ghost use Rattle.mr_eval.specs.Operators.{bits_in, pointer_of_value};
+ghost use Rattle.mr_eval.specs.Operators.{index_in, pointer_of_value};
 ghost use Rattle.mr_wf.specs.Types.{element_type, field_type, variant_type};
 
 use crate::halt::Halt;
@@ -62,15 +62,13 @@ pub fn target<'p>(pointer: Val, ty: &'p Ty) -> Result<Placed<'p>, Halt>
     }
 }
 
-// The bits that a value is.
-fn bits_of(v: &Val) -> Option<u128>
-    ensures { result ≡ bits_in (out-Val v.now) }
+// The position that an index tells.
+fn index_of(v: &Val) -> Option<u64>
+    ensures { result ≡ index_in (out-Val v.now) }
 {
     match v {
-        Val::Int(bits) => Some(*bits),
-        Val::Bool(b) => Some(u128::from(*b)),
-        Val::Ptr(p) => Some(u128::from(p.addr)),
-        Val::Tuple(_) | Val::Union(_) | Val::Variant(_, _) => None,
+        Val::Int(bits) if *bits < 1 << 64 => Some(*bits as u64),
+        _ => None,
     }
 }
 
@@ -128,15 +126,15 @@ fn element_of(
     m: &Memory,
     notes: &mut Notes,
     at: Pointer,
-    index: u128,
+    index: u64,
     elements: (u64, u64),
 ) -> Result<Pointer, Halt>
     requires { elements.0 * elements.1 < 2 ^ 63 }
     ensures given { Gives same result (run (reading m.now) (element_at at index elements) (seen notes.old)) (seen notes.new) }
     ensures kept { Extends (seen notes.old) (seen notes.new) }
 {
-    if index < u128::from(elements.0) {
-        moved(m, notes, at, i128::from(index as u64 * elements.1))
+    if index < elements.0 {
+        moved(m, notes, at, i128::from(index * elements.1))
     } else {
         Err(Halt::Undefined(Reason::IndexOutOfRange))
     }
@@ -157,7 +155,7 @@ pub fn element<'p>(
     ensures kept { Extends (seen notes.old) (seen notes.new) }
 {
     match (
-        bits_of(index),
+        index_of(index),
         elements(c, array.ty),
         mr_wf::element(array.ty),
     ) {

@@ -8,7 +8,8 @@ use Rattle.mr_sched.specs.declared.schedule.Entry.{Entry}
 use Rattle.mr_wf.specs.Walk.{WellFormed}
 use Rattle.mr_plan.specs.Legal.{state_fault}
 use Rattle.mr_plan.specs.Machine.{Completed, State, bare}
-use Rattle.mr_plan.specs.Notes.{Notes, foot_of}
+use Rattle.mr_plan.specs.Notes.{Notes}
+use Rattle.mr_plan.specs.Runs.{foot_in}
 use Rattle.mr_frame.specs.Fits.{IsLook}
 use Rattle.mr_frame.specs.Frames.{Look}
 use Rattle.mr_thread.specs.SoundState.{SoundState}
@@ -16,6 +17,10 @@ use Rattle.mr_thread.specs.Steps.{Own, thread_step}
 use Rattle.mr_thread.proofs.BareKept.{SoundBare, bare_sound}
 use Rattle.mr_swap.specs.Swap.{IsSane, SwapLaw}
 use Rattle.mr_exchange.specs.Exchange.{Done, Leads, done}
+
+-- what a step shows that noted this, and has this footprint
+abbrev shown : Notes → Footprint → Done
+shown n f = record { foot = f; printed = n.printed }
 
 -- a completed step notes the thread that took it
 abbrev pub NotesThread : Look → Type 0
@@ -32,10 +37,10 @@ module _ (look : Look) (is : IsLook look) (well : WellFormed look.program) (law 
       let own : a.foot.thread ≡ e.thread = ap (λ (d : Done). d.foot.thread) first_done ∙ noted s u e.thread e.picks n first in
       let other : b.foot.thread ≡ f.thread = ap (λ (d : Done). d.foot.thread) second_done ∙ noted u v f.thread f.picks m second in
       let apart : e.thread ≢ f.thread = λ k. free.apart (own ∙ k ∙ sym other) in
-      let asleep : wakes (foot_of u.shared.memory n) f.thread ≡ false = (λ i. wakes (sym first_done i).foot (sym other i)) ∙ free.asleep in
-      let unmet : depends (foot_of u.shared.memory n) (foot_of v.shared.memory m) ≡ false = (λ i. depends (sym first_done i).foot (sym second_done i).foot) ∙ free.free in
+      let asleep : wakes (foot_in (thread_step look) n u) f.thread ≡ false = (λ i. wakes (sym first_done i).foot (sym other i)) ∙ free.asleep in
+      let unmet : depends (foot_in (thread_step look) n u) (foot_in (thread_step look) m v) ≡ false = (λ i. depends (sym first_done i).foot (sym second_done i).foot) ∙ free.free in
       let x = law s u v e.thread f.thread e.picks f.picks n m (sane s sound) apart first_legal first second_legal second asleep unmet in
-      (m, x.between, x.second_legal, x.second_first, second_done, (n, v, x.first_legal, x.first_second, first_done, same))
+      (m, x.between, x.second_legal, x.second_first, second_done ∙ ap (shown m) (sym x.second_foot), (n, v, x.first_legal, x.first_second, first_done ∙ ap (shown n) (sym x.first_foot), same))
 
   -- IN A RUN, behind any entries
   pub neighbours_in_run : (s t : State Own) (front : List Entry) (e f : Entry) (before : List Done) (a b : Done) → SoundState look.program s

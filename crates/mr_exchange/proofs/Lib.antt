@@ -1,2 +1,4 @@
+pub mod Counted
 pub mod Exchanged
+pub mod FootLimits
 pub mod Law

@@ -4,7 +4,8 @@ use Rattle.mr_event.specs.declared.footprint.Footprint.{Footprint}
 use Rattle.mr_sched.specs.declared.schedule.Entry.{Entry}
 use Rattle.mr_plan.specs.Legal.{state_fault}
 use Rattle.mr_plan.specs.Machine.{Completed, State, bare}
-use Rattle.mr_plan.specs.Notes.{Notes, foot_of}
+use Rattle.mr_plan.specs.Notes.{Notes}
+use Rattle.mr_plan.specs.Runs.{foot_in}
 use Rattle.mr_frame.specs.Frames.{Look}
 use Rattle.mr_thread.specs.Steps.{Own, thread_step}
 
@@ -14,8 +15,8 @@ pub record Done : Type 0 where
   pub printed : List (List ℕ)
 
 -- what a step that noted this shows, with the state that it left
-abbrev pub done : Notes → State Own → Done
-done n s = record { foot = foot_of s.shared.memory n; printed = n.printed }
+abbrev pub done : Look → Notes → State Own → Done
+done look n s = record { foot = foot_in (thread_step look) n s; printed = n.printed }
 
 -- The entries, one behind the other, break no rule of the states that they find, and each completes as this; they lead
 -- from the one state to the other.
@@ -27,5 +28,5 @@ Leads look s (e ∷ es) (d ∷ ds) t =
     (n : Notes) × (u : State Own)
     × (state_fault (thread_step look) s e.thread e.picks ≡ None)
     × (bare (thread_step look) s e.thread e.picks ≡ Completed n u)
-    × (d ≡ done n u)
+    × (d ≡ done look n u)
     × Leads look u es ds t

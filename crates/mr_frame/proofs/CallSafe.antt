@@ -41,7 +41,7 @@ use Rattle.mr_eval.specs.Sound.{IsSafe, Stands, any_result, around}
 use Rattle.mr_eval.proofs.ExprSafe.{place_safe, value_safe}
 use Rattle.mr_eval.proofs.OperatorsSafe.{Shaped}
 use Rattle.mr_eval.proofs.SafeLaws.{safe_found, safe_then}
-use Rattle.mr_eval.proofs.ShapeOf.{HaveShapes}
+use Rattle.mr_eval.specs.Shapes.{HaveShapes}
 use Rattle.mr_plan.specs.Machine.{CreatesNothing}
 use Rattle.mr_plan.specs.Safety.{IsSafeChange}
 use Rattle.mr_plan.proofs.SafetyLaws.{change_then}

@@ -35,7 +35,8 @@ use Rattle.mr_eval.specs.World.{World, tally_of}
 use Rattle.mr_eval.specs.declared.env.Env.{Env}
 use Rattle.mr_eval.specs.declared.scene.Scene.{Scene}
 use Rattle.mr_eval.proofs.SafeRuns.{safe_comes}
-use Rattle.mr_eval.proofs.ShapeOf.{HaveShapes, shapes_length}
+use Rattle.mr_eval.proofs.ShapeOf.{shapes_length}
+use Rattle.mr_eval.specs.Shapes.{HaveShapes}
 use Rattle.mr_plan.specs.Legal.{picks_fault}
 use Rattle.mr_frame.specs.declared.look.Look.{Look as KeptLook}
 use Rattle.mr_frame.specs.declared.stack.Stack.{Stack as KeptStack}

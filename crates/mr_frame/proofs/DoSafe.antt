@@ -29,13 +29,13 @@ use Rattle.mr_eval.specs.Operators.{or_ill_formed}
 use Rattle.mr_eval.specs.Sound.{IsSafe, any_result}
 use Rattle.mr_eval.proofs.ExprSafe.{place_safe}
 use Rattle.mr_eval.proofs.SafeLaws.{safe_found, safe_then}
-use Rattle.mr_eval.proofs.ShapeOf.{HaveShapes}
+use Rattle.mr_eval.specs.Shapes.{HaveShapes}
 use Rattle.mr_plan.specs.Safety.{IsSafeChange}
 use Rattle.mr_plan.proofs.SafetyLaws.{change_then}
 use Rattle.mr_frame.specs.Calls.{all_there, local_type}
 use Rattle.mr_frame.specs.Fits.{AreCalling, FitFrames, FitsFrame, FitsStack, IsLook}
 use Rattle.mr_frame.specs.Frames.{Frame, Look, Stack, at_block, scene_in}
-use Rattle.mr_frame.specs.Operations.{DueDo, Operands, do_at, do_due, done_stack, finish, next_do, operands, operands_in, result_place, result_type, store_result}
+use Rattle.mr_frame.specs.Operations.{DueDo, Operands, OperandsFit, PlaceFits, do_at, do_due, done_stack, finish, next_do, operands, operands_in, result_place, result_type, store_result}
 use Rattle.mr_frame.specs.Sites.{AtStatement, Site, due_of, due_term, site_of, site_of_frames}
 use Rattle.mr_frame.proofs.CallSafe.{judged_there, row_safe}
 use Rattle.mr_frame.proofs.ChangesSafe.{store_safe}
@@ -102,17 +102,6 @@ module _ (look : Look) (is : IsLook look) (well : WellFormed look.program) (s : 
   do_stands fits h = by_frames s.frames refl fits h
 
 -- ---- what it is given
-
--- a place for a result is there exactly where its type is
-abbrev pub PlaceFits : Option Pointer → Option Ty → Type 0
-PlaceFits None result = result ≡ None
-PlaceFits (Some p) result = (t : Ty) × (result ≡ Some t)
-
--- What an intrinsic is given fits it: values of the shapes of their types, a place where there is a result, and types that the intrinsic takes.
-pub record OperandsFit (op : Intrinsic) (o : Operands) : Type 0 where
-  pub shapes : HaveShapes o.arg_types o.args
-  pub place : PlaceFits o.result o.result_type
-  pub fits : fits_intrinsic op o.arg_types o.result_type ≡ true
 
 -- a value of the result's type exactly where there is one
 abbrev pub ValueFits : Option Ty → Option Val → Type 0

@@ -1,24 +1,30 @@
 -- Frames that fit: where they stand, and how they go on.
-use Rattle.std.proofs.Common.{◌≡◌, ℕ, ◌<◌, refl, ap, ◌∙◌, arith, List, ◌∷◌, length, Bool, true, false, cond, Some, None}
+use Rattle.std.proofs.Common.{◌≡◌, ℕ, ◌<◌, refl, ap, ap₂, ◌∙◌, arith, All, List, [], ◌∷◌, ◌++◌, length, Bool, true, false, cond, Option, Some, None}
+use Rattle.std.proofs.lemmas.List.Elements.{All-head, All-tail}
 use Rattle.std.proofs.Math.ListN.{length-set}
-use Rattle.std.specs.Prelude.{slice_get, ◌==◌, ◌||◌}
+use Rattle.std.specs.Prelude.{flat_map, slice_get, ◌==◌, ◌||◌}
 use Rattle.std.specs.List.{list_any}
 use Rattle.std.proofs.lemmas.Bool.Decides.{nat_tests}
 use Rattle.mr_ast.specs.Shaped.{ShapedBlock, ShapedFunction, named_in}
+use Rattle.mr_ast.specs.declared.program.Block.{Block}
 use Rattle.mr_ast.specs.declared.program.Function.{Function}
+use Rattle.mr_ast.specs.declared.program.Local.{Local}
+use Rattle.mr_ast.specs.declared.types.Ty.{Ty}
 use Rattle.mr_ast.specs.declared.program.LocalName.{LocalName}
 use Rattle.mr_ast.specs.declared.program.Program.{Program}
 use Rattle.mr_ast.specs.declared.program.Stmt.{Stmt}
 use Rattle.mr_base.specs.declared.byte.Pointer.{Pointer}
-use Rattle.mr_wf.specs.Blocks.{is_allowed, is_kept}
+use Rattle.mr_wf.specs.Blocks.{broken_in_stmt, is_allowed, is_kept}
+use Rattle.mr_wf.specs.Broken.{Codes, of_type, rule, surroundings}
+use Rattle.mr_layout.specs.TypeOk.{TypeOk}
 use Rattle.mr_wf.specs.Unbroken.{UnbrokenBlock, UnbrokenFunction}
-use Rattle.mr_wf.specs.Walk.{WellFormed}
+use Rattle.mr_wf.specs.Walk.{WellFormed, are_arguments, begins_regular}
 use Rattle.mr_wf.proofs.UnbrokenLaws.{well_formed_keeps}
 use Rattle.mr_eval.specs.Sound.{Stands}
 use Rattle.mr_frame.specs.Calls.{goes_to, local_type}
 use Rattle.mr_frame.specs.Fits.{AreCalling, FitsFrame, FitsOnward, IsLook}
 use Rattle.mr_frame.specs.Frames.{Frame, Look, Stack, at_block, behind_stmt, scene_in, with_storage}
-use Rattle.mr_frame.specs.Sites.{AtStatement, Site, due_at, due_of, due_term, kept_locals, site_in, site_of_frame, site_of_frames}
+use Rattle.mr_frame.specs.Sites.{AtStatement, Site, broken_at, broken_in_head, due_at, due_of, due_term, kept_locals, none_broken, site_in, site_of_frame, site_of_frames}
 use Rattle.mr_frame.proofs.Places.{all_apart, all_at, all_stay, both_true, equal_test, none_behind, or_false, within}
 
 -- ---- what a function of a well-formed program keeps
@@ -42,6 +48,33 @@ module _ (p : Program) (well : WellFormed p) (f : Frame) (fits : FitsFrame p f) 
 
   pub block_unbroken : UnbrokenBlock p fits.function fits.block
   block_unbroken = all_at (UnbrokenBlock p fits.function) fits.function.blocks f.block fits.block keeps.unbroken.blocks fits.here
+
+-- ---- no rule is broken
+
+kept_rule : (code : ℕ) (test : Bool) → test ≡ true → rule code test ≡ []
+kept_rule code test e = ap (rule code) e
+
+-- a type that breaks none
+type_unbroken : (t : Ty) → TypeOk t → of_type t ≡ []
+type_unbroken t ok = ap (λ (o : Option ℕ). elim o as (λ _. Codes) [ Some code ↦ code ∷ [] | None ↦ [] ]) ok
+
+locals_unbroken : (ls : List Local) → All (λ (l : Local). TypeOk l.ty) ls → flat_map (λ (l : Local). of_type l.ty) ls ≡ []
+locals_unbroken [] h = refl
+locals_unbroken (l ∷ ls) h =
+    ap₂ (λ a b. a ++ b) (type_unbroken l.ty (All-head (λ (x : Local). TypeOk x.ty) l ls h)) (locals_unbroken ls (All-tail (λ (x : Local). TypeOk x.ty) l ls h))
+
+head_unbroken : (p : Program) (fn : Function) → Keeps p fn → broken_in_head fn ≡ []
+head_unbroken p fn k =
+    ap₂ (λ a b. a ++ b)
+    (ap₂ (λ a b. a ++ b) (locals_unbroken fn.locals k.unbroken.locals) (kept_rule 30 (are_arguments fn.ret fn.args) k.unbroken.args))
+    (kept_rule 31 (begins_regular fn.blocks) k.unbroken.first)
+
+unbroken_at : (p : Program) (fn : Function) (b : Block) → UnbrokenBlock p fn b → (at : ℕ) → broken_at p fn b (slice_get b.stmts at) ≡ []
+unbroken_at p fn b u at = by_stmt (slice_get b.stmts at) refl
+  where
+    by_stmt : (o : Option Stmt) → slice_get b.stmts at ≡ o → broken_at p fn b o ≡ []
+    by_stmt (Some x) e = all_at (λ (s : Stmt). broken_in_stmt fn (surroundings p fn) s ≡ []) b.stmts at x u.stmts e
+    by_stmt None e = ap₂ (λ a c. a ++ c) u.parts (kept_rule 32 (is_allowed fn b.kind b.term) u.allowed)
 
 -- ---- how a frame goes on
 
@@ -100,9 +133,10 @@ module _ (look : Look) (is : IsLook look) (well : WellFormed look.program) (f : 
 
   pub site_is : site_of_frames look (f ∷ below) ≡ Some here
   site_is =
-      ap (site_of_frame f below) fits.is
-      ∙ ap (λ b. cond b (site_in f below fits.function (slice_get fits.function.blocks f.block)) None) fits.kept
-      ∙ ap (site_in f below fits.function) fits.here
+      ap (site_of_frame look.program f below) fits.is
+      ∙ ap (λ b. cond b (site_in look.program f below fits.function (slice_get fits.function.blocks f.block)) None) fits.kept
+      ∙ ap (site_in look.program f below fits.function) fits.here
+      ∙ ap (λ codes. cond (none_broken codes) (Some here) None) (ap₂ (λ a b. a ++ b) (head_unbroken look.program fits.function (keeps look.program well f fits)) (unbroken_at look.program fits.function fits.block (block_unbroken look.program well f fits) f.at))
 
   -- its expressions can be evaluated
   pub stands : Stands (named_in look.program fits.function) (scene_in look fits.function f)

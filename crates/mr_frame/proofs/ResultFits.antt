@@ -5,8 +5,8 @@ use Rattle.mr_ast.specs.declared.types.Ty.{Ty}
 use Rattle.mr_base.specs.declared.byte.Pointer.{Pointer}
 use Rattle.mr_value.specs.declared.val.Val.{Val}
 use Rattle.mr_frame.specs.Doing.{FitsResult}
-use Rattle.mr_frame.specs.Operations.{Operands}
-use Rattle.mr_frame.proofs.DoSafe.{OperandsFit, PlaceFits, ValueFits}
+use Rattle.mr_frame.specs.Operations.{Operands, OperandsFit, PlaceFits}
+use Rattle.mr_frame.proofs.DoSafe.{ValueFits}
 use Rattle.mr_frame.proofs.PlainLaws.{PlainResult, plain_intrinsic, plain_ok}
 
 by_parts : (p : Option Pointer) (t : Option Ty) (v : Option Val) → PlaceFits p t → PlainResult t → ValueFits t v → FitsResult p t v

@@ -36,7 +36,7 @@ use Rattle.mr_frame.specs.Changes.{change, free_storage, store}
 use Rattle.mr_frame.specs.Frames.{Frame, GoesOn, Look, Onward, Stack, at_block, scene_in}
 use Rattle.mr_frame.specs.Fits.{IsLook}
 use Rattle.mr_frame.specs.Operations.{DueDo, Operands, done_stack, finish, store_result}
-use Rattle.mr_frame.specs.Sites.{AtDo, AtStatement, AtTerminator, Due, Site, due_of, kept_locals, keeps_storage, site_in, site_of, site_of_frame, site_of_frames}
+use Rattle.mr_frame.specs.Sites.{AtDo, AtStatement, AtTerminator, Due, Site, broken_at, broken_in_head, due_of, kept_locals, keeps_storage, none_broken, site_in, site_of, site_of_frame, site_of_frames}
 use Rattle.mr_frame.specs.Steps.{dead, frame_plan, live, live_at, next, plan_at, plan_due, statement, terminator}
 use Rattle.mr_frame.specs.Storage.{frame_slots, onward_slots, slot_of, slots_in, slots_with}
 use Rattle.mr_frame.specs.Switches.{switched}
@@ -389,17 +389,22 @@ unfolding frame_plan site_of
 frame_keeps look thread s others = by_frames s.frames
   where
     by_block : (f : Frame) (below : List Frame) (fn : Function) → slice_get look.program.functions f.function ≡ Some fn → (b : Option Block)
-        → Leads (KeepsSlots look.program others (frame_slots look.program (f ∷ below) others)) (plan_at look thread s (site_in f below fn b))
+        → Leads (KeepsSlots look.program others (frame_slots look.program (f ∷ below) others)) (plan_at look thread s (site_in look.program f below fn b))
     by_block f below fn is None = tt
-    by_block f below fn is (Some block) = due_keeps look s others f below fn is block thread (due_of (record { function = fn; block = block; frame = f; below = below }))
+    by_block f below fn is (Some block) = by_rules (none_broken (broken_in_head fn ++ broken_at look.program fn block (slice_get block.stmts f.at)))
+      where
+        by_rules : (b : Bool) → Leads (KeepsSlots look.program others (frame_slots look.program (f ∷ below) others))
+            (plan_at look thread s (if b then Some (record { function = fn; block = block; frame = f; below = below }) else None))
+        by_rules false = tt
+        by_rules true = due_keeps look s others f below fn is block thread (due_of (record { function = fn; block = block; frame = f; below = below }))
 
     by_storage : (f : Frame) (below : List Frame) (fn : Function) → slice_get look.program.functions f.function ≡ Some fn → (b : Bool)
-        → Leads (KeepsSlots look.program others (frame_slots look.program (f ∷ below) others)) (plan_at look thread s (if b then site_in f below fn (slice_get fn.blocks f.block) else None))
+        → Leads (KeepsSlots look.program others (frame_slots look.program (f ∷ below) others)) (plan_at look thread s (if b then site_in look.program f below fn (slice_get fn.blocks f.block) else None))
     by_storage f below fn is true = by_block f below fn is (slice_get fn.blocks f.block)
     by_storage f below fn is false = tt
 
     by_function : (f : Frame) (below : List Frame) (o : Option Function) → slice_get look.program.functions f.function ≡ o
-        → Leads (KeepsSlots look.program others (frame_slots look.program (f ∷ below) others)) (plan_at look thread s (site_of_frame f below o))
+        → Leads (KeepsSlots look.program others (frame_slots look.program (f ∷ below) others)) (plan_at look thread s (site_of_frame look.program f below o))
     by_function f below None is = tt
     by_function f below (Some fn) is = by_storage f below fn is (keeps_storage fn f)
 

@@ -11,7 +11,7 @@ use Rattle.mr_mem.specs.Memory.{ranges_of}
 use Rattle.mr_value.specs.declared.val.Val.{Val}
 use Rattle.mr_script.specs.Script.{Outcome, Went, run}
 use Rattle.mr_eval.specs.MemoryQueries.{Allocate, memory_answer}
-use Rattle.mr_eval.proofs.ShapeOf.{HaveShapes}
+use Rattle.mr_eval.specs.Shapes.{HaveShapes}
 use Rattle.mr_eval.specs.World.{World}
 use Rattle.mr_plan.specs.Legal.{picks_fault}
 use Rattle.mr_frame.specs.declared.look.Look.{Look as KeptLook}

@@ -16,3 +16,4 @@ pub mod Standing
 pub mod Steps
 pub mod Storage
 pub mod Switches
+pub mod Tops

@@ -1,6 +1,6 @@
 -- The steps that are intrinsics: what they are given, and how they end. The operation between is no frame's. (MiniRust,
 -- lang: intrinsics.)
-use Rattle.std.specs.Prelude.{List, map, Option, None, Some}
+use Rattle.std.specs.Prelude.{◌≡◌, true, List, map, Option, None, Some}
 use Rattle.mr_ast.specs.declared.expr.Place.{Place}
 use Rattle.mr_ast.specs.declared.expr.Value.{Value}
 use Rattle.mr_ast.specs.declared.program.BlockName.{BlockName}
@@ -8,12 +8,14 @@ use Rattle.mr_ast.specs.declared.program.Intrinsic.{Intrinsic}
 use Rattle.mr_ast.specs.declared.types.Ty.{Ty}
 use Rattle.mr_base.specs.declared.byte.Pointer.{Pointer}
 use Rattle.mr_value.specs.declared.val.Val.{Val}
+use Rattle.mr_wf.specs.Intrinsics.{fits_intrinsic}
 use Rattle.mr_wf.specs.Types.{type_of_place, type_of_value}
 use Rattle.mr_script.specs.Script.{Done, IllFormed, ◌>>=◌}
 use Rattle.mr_eval.specs.Evaluation.{Surround, place_script, values_script}
 use Rattle.mr_eval.specs.MemoryQueries.{MemoryScript}
 use Rattle.mr_eval.specs.Operators.{or_ill_formed}
 use Rattle.mr_eval.specs.Reads.{ReadScript}
+use Rattle.mr_eval.specs.Shapes.{HaveShapes}
 use Rattle.mr_frame.specs.Calls.{all_there}
 use Rattle.mr_frame.specs.Changes.{Change, store}
 use Rattle.mr_frame.specs.Frames.{Look, Stack, at_block, scene_in, with_top}
@@ -25,6 +27,18 @@ pub record Operands : Type 0 where
   pub result_type : Option Ty
   pub args : List Val
   pub arg_types : List Ty
+
+-- a place for a result is there exactly where its type is
+abbrev pub PlaceFits : Option Pointer → Option Ty → Type 0
+PlaceFits None result = result ≡ None
+PlaceFits (Some p) result = (t : Ty) × (result ≡ Some t)
+
+-- What an intrinsic is given fits it: values of the shapes of their types, a place where there is a result, and types that the
+-- intrinsic takes.
+pub record OperandsFit (op : Intrinsic) (o : Operands) : Type 0 where
+  pub shapes : HaveShapes o.arg_types o.args
+  pub place : PlaceFits o.result o.result_type
+  pub fits : fits_intrinsic op o.arg_types o.result_type ≡ true
 
 -- an intrinsic that is due
 pub record DueDo : Type 0 where

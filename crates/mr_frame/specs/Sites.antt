@@ -1,5 +1,5 @@
 -- Where a thread stands, and what it does next.
-use Rattle.std.specs.Prelude.{Bool, ◌==◌, ◌&&◌, List, [], ◌∷◌, length, Option, None, Some, slice_get, is_some}
+use Rattle.std.specs.Prelude.{Bool, true, false, ◌==◌, ◌&&◌, List, [], ◌∷◌, ◌++◌, flat_map, length, Option, None, Some, slice_get, is_some}
 use Rattle.std.specs.Prelude.{if◌then◌else◌}
 use Rattle.std.specs.Option.{option_and_then}
 use Rattle.std.specs.List.{list_all}
@@ -9,12 +9,16 @@ use Rattle.mr_ast.specs.declared.program.Block.{Block}
 use Rattle.mr_ast.specs.declared.program.BlockName.{BlockName}
 use Rattle.mr_ast.specs.declared.program.Function.{Function}
 use Rattle.mr_ast.specs.declared.program.Intrinsic.{Intrinsic}
+use Rattle.mr_ast.specs.declared.program.Local.{Local}
 use Rattle.mr_ast.specs.declared.program.LocalName.{LocalName}
+use Rattle.mr_ast.specs.declared.program.Program.{Program}
 use Rattle.mr_ast.specs.declared.program.Stmt.{Stmt}
 use Rattle.mr_ast.specs.declared.program.Term.{Term}
 use Rattle.mr_ast.specs.declared.program.Term.TheVariants as term
 use Rattle.mr_base.specs.declared.byte.Pointer.{Pointer}
-use Rattle.mr_wf.specs.Blocks.{is_allowed}
+use Rattle.mr_wf.specs.Blocks.{broken_in_stmt, broken_in_term, is_allowed}
+use Rattle.mr_wf.specs.Broken.{Codes, of_type, rule, surroundings}
+use Rattle.mr_wf.specs.Walk.{are_arguments, begins_regular}
 use Rattle.mr_frame.specs.Frames.{Frame, Look, Stack}
 
 -- a thread's top frame, with its function and its block, and the frames below
@@ -43,21 +47,42 @@ kept_locals fn = fn.ret ∷ fn.args
 abbrev pub keeps_storage : Function → Frame → Bool
 keeps_storage fn f = list_all (has_storage f.locals) (kept_locals fn)
 
--- a frame of a function, in a block of it
-abbrev pub site_in : Frame → List Frame → Function → Option Block → Option Site
-site_in f below fn None = None
-site_in f below fn (Some b) = Some (record { function = fn; block = b; frame = f; below = below })
+-- no rule is broken
+abbrev pub none_broken : Codes → Bool
+none_broken [] = true
+none_broken (code ∷ codes) = false
 
-abbrev pub site_of_frame : Frame → List Frame → Option Function → Option Site
-site_of_frame f below None = None
-site_of_frame f below (Some fn) =
-    if keeps_storage fn f then site_in f below fn (slice_get fn.blocks f.block) else None
+-- the rules that a function breaks beside those of its blocks: of its locals' types, its arguments and its first block
+abbrev pub broken_in_head : Function → Codes
+broken_in_head fn =
+    flat_map (λ (l : Local). of_type l.ty) fn.locals
+    ++ rule 30 (are_arguments fn.ret fn.args)
+    ++ rule 31 (begins_regular fn.blocks)
+
+-- those of what stands at a position of a block: a statement, or behind the last one the terminator
+abbrev pub broken_at : Program → Function → Block → Option Stmt → Codes
+broken_at p fn b (Some x) = broken_in_stmt fn (surroundings p fn) x
+broken_at p fn b None = broken_in_term fn (surroundings p fn) b.kind b.term
+
+-- a frame of a function, in a block of it, where neither the function nor what stands at the position breaks a rule
+abbrev pub site_in : Program → Frame → List Frame → Function → Option Block → Option Site
+site_in p f below fn None = None
+site_in p f below fn (Some b) =
+    if none_broken (broken_in_head fn ++ broken_at p fn b (slice_get b.stmts f.at))
+    then Some (record { function = fn; block = b; frame = f; below = below })
+    else None
+
+abbrev pub site_of_frame : Program → Frame → List Frame → Option Function → Option Site
+site_of_frame p f below None = None
+site_of_frame p f below (Some fn) =
+    if keeps_storage fn f then site_in p f below fn (slice_get fn.blocks f.block) else None
 
 abbrev pub site_of_frames : Look → List Frame → Option Site
 site_of_frames look [] = None
-site_of_frames look (f ∷ below) = site_of_frame f below (slice_get look.program.functions f.function)
+site_of_frames look (f ∷ below) =
+    site_of_frame look.program f below (slice_get look.program.functions f.function)
 
--- WHERE A THREAD STANDS, if there is such a function, block and storage
+-- WHERE A THREAD STANDS, if there is such a function, block and storage, and no rule is broken there
 unfoldable pub site_of : Look → Stack → Option Site
 site_of look s = site_of_frames look s.frames
 

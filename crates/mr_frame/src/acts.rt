@@ -1,5 +1,5 @@
 //! The next step of a thread: what it asks for, and what it does.
-ghost use Rattle.std.specs.Prelude.{◌≡◌, ◌++◌, ◌∷◌, [], List, OnOk, Some};
+ghost use Rattle.std.specs.Prelude.{◌≡◌, ◌++◌, ◌∷◌, [], List, OnErr, OnOk, Some};
 ghost use Rattle.mr_ast.specs.declared.types.Ty.{Ty as TypeOf};
 ghost use Rattle.mr_layout.specs.TypeOk.{TypeOk};
 ghost use Rattle.mr_frame.specs.Beginning.{HasTypes};
@@ -27,7 +27,8 @@ use std::alloc::{AllocError, Global};
 // An address for storage of a type.
 fn push_ask(c: &Cache, t: &Ty, out: &mut Vec<Ask>) -> Result<(), AllocError>
     requires { TypeOk t.now }
-    ensures { OnOk result (out.new.items ≡ out.old.items ++ storage_asks (t.now ∷ [])) }
+    ensures ok { OnOk result (out.new.items ≡ out.old.items ++ storage_asks (t.now ∷ [])) }
+    ensures err { OnErr result (out.new.items ≡ out.old.items) }
 {
     out.push(Ask::Address {
         size: byte_size(c, t),
@@ -50,7 +51,7 @@ fn push_asks(c: &Cache, function: &Function, out: &mut Vec<Ask>) -> Result<(), A
 }
 
 impl Stack {
-    ghost use Rattle.std.specs.Prelude.{◌≡◌, ◌++◌, ◌∷◌, ℕ, List, None, OnOk, Some, slice_get};
+    ghost use Rattle.std.specs.Prelude.{◌≡◌, ◌++◌, ◌∷◌, ℕ, List, None, OnErr, OnOk, Some, slice_get};
     ghost use Rattle.mr_ast.specs.declared.program.Stmt.TheVariants as stmt;
     ghost use Rattle.mr_ast.specs.declared.program.Term.TheVariants as term;
     ghost use Rattle.mr_eval.specs.Answers.{seen};
@@ -294,7 +295,7 @@ impl Stack {
         }
     }
 
-    /// Appends what the next step asks for, which is no intrinsic. An `Err` is for want of memory, and a part may have been appended.
+    /// Appends what the next step asks for, which is no intrinsic. An `Err` is for want of memory, and leaves `out` as it was.
     pub fn asks(
         &self,
         alloc: Global,
@@ -305,7 +306,8 @@ impl Stack {
         requires ready { IsReady look.now }
         requires fits { FitsStack look.now.program.now (stack_of self.now) }
         requires other { next_do (look_of look.now) (stack_of self.now) ≡ None }
-        ensures { (thread : ℕ) → OnOk result (out.new.items ≡ out.old.items ++ asked m.now (look_of look.now) thread (stack_of self.now) nothing_seen) }
+        ensures ok { (thread : ℕ) → OnOk result (out.new.items ≡ out.old.items ++ asked m.now (look_of look.now) thread (stack_of self.now) nothing_seen) }
+        ensures err { OnErr result (out.new.items ≡ out.old.items) }
     {
         match self.due(look) {
             Next::Statement(stmt) => self.statement_asks(look, stmt, out),
@@ -321,7 +323,8 @@ impl Stack {
         out: &mut Vec<Ask>,
     ) -> Result<(), AllocError>
         requires { IsDue look.now self.now (AtStatement stmt.now) }
-        ensures { (m : MemoryOf) → (thread : ℕ) → OnOk result (out.new.items ≡ out.old.items ++ asked m (look_of look.now) thread (stack_of self.now) nothing_seen) }
+        ensures ok { (m : MemoryOf) → (thread : ℕ) → OnOk result (out.new.items ≡ out.old.items ++ asked m (look_of look.now) thread (stack_of self.now) nothing_seen) }
+        ensures err { OnErr result (out.new.items ≡ out.old.items) }
     {
         match stmt {
             Stmt::Live(x) => {
@@ -343,7 +346,8 @@ impl Stack {
     ) -> Result<(), AllocError>
         requires due { IsDue look.now self.now (due_term t.now) }
         requires other { NoDo t.now }
-        ensures { (thread : ℕ) → OnOk result (out.new.items ≡ out.old.items ++ asked m.now (look_of look.now) thread (stack_of self.now) nothing_seen) }
+        ensures ok { (thread : ℕ) → OnOk result (out.new.items ≡ out.old.items ++ asked m.now (look_of look.now) thread (stack_of self.now) nothing_seen) }
+        ensures err { OnErr result (out.new.items ≡ out.old.items) }
     {
         match t {
             Term::Call(callee, args, place, _, _) => {
@@ -366,11 +370,16 @@ impl Stack {
         out: &mut Vec<Ask>,
     ) -> Result<(), AllocError>
         requires { IsDueCall look.now self.now callee.now args.now place.now }
-        ensures { (thread : ℕ) → OnOk result (out.new.items ≡ out.old.items ++ asked m.now (look_of look.now) thread (stack_of self.now) nothing_seen) }
+        ensures ok { (thread : ℕ) → OnOk result (out.new.items ≡ out.old.items ++ asked m.now (look_of look.now) thread (stack_of self.now) nothing_seen) }
+        ensures err { OnErr result (out.new.items ≡ out.old.items) }
     {
         let mut notes = Notes::new(alloc);
         match self.prepared(alloc, look, m, &mut notes, callee, args, place) {
-            Ok(prepared) => push_asks(look.cache, look.function(prepared.function.0), out),
+            Ok(prepared) => {
+                let mut found = Vec::new(alloc);
+                push_asks(look.cache, look.function(prepared.function.0), &mut found)?;
+                out.extend_from_slice(found.as_slice())
+            }
             Err(Fault::Undefined(_)) => Ok(()),
             Err(Fault::Memory) => Err(AllocError),
         }

@@ -4,7 +4,7 @@ ghost use Rattle.mr_ast.specs.declared.types.Ty.{Ty as TypeOf};
 ghost use Rattle.mr_layout.specs.TypeOk.{TypeOk};
 ghost use Rattle.mr_script.specs.Script.{Went};
 ghost use Rattle.mr_value.specs.Shape.{has_shape};
-ghost use Rattle.mr_eval.proofs.ShapeOf.{HaveShapes};
+ghost use Rattle.mr_eval.specs.Shapes.{HaveShapes};
 ghost use Rattle.mr_eval.specs.Environment.{Tells};
 ghost use Rattle.mr_eval.specs.World.{TellsBy, world_of};
 ghost use Rattle.mr_frame.specs.Beginning.{CanAllocate, CanBegin, HasTypes, IsAllocated, allocated_each, stored_each};

@@ -47,4 +47,4 @@ pub use calls::callee;
 pub use dos::DoCall;
 pub use flow::Flow;
 pub use look::Look;
-pub use stack::Stack;
+pub use stack::{At, Stack};

@@ -16,7 +16,7 @@ pub struct Look<'a> {
 }
 
 impl<'a> Look<'a> {
-    ghost use Rattle.std.specs.Prelude.{◌≡◌, ◌<◌, Some, length, slice_get};
+    ghost use Rattle.std.specs.Prelude.{◌≡◌, ◌<◌, [], Some, length, slice_get};
     ghost use Rattle.mr_ast.specs.declared.program.Function.{Function};
     ghost use Rattle.mr_eval.specs.Environment.{env_surround};
     ghost use Rattle.mr_frame.specs.Calling.{look_in};
@@ -51,8 +51,13 @@ impl<'a> Look<'a> {
         }
     }
 
-    // Where nothing of a frame is read.
-    pub(crate) fn bare<'e>(&'e self, f: FnName) -> Env<'e> {
+    // Where nothing of a frame is read: no local has storage.
+    pub(crate) fn bare<'e>(&'e self, f: FnName) -> Env<'e>
+        ensures program { result.program.now ≡ self.now.program.now }
+        ensures function { result.function ≡ f }
+        ensures locals { result.locals.now ≡ [] }
+        ensures look { look_in result ≡ look_of self.now }
+    {
         Env {
             program: self.program,
             function: f,

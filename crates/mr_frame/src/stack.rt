@@ -13,8 +13,28 @@ pub struct Stack {
     pub(crate) payloads: Vec<Pointer>,
 }
 
+/// Where a frame stands: its function, its block, and which statement of it comes next; behind the last one it is the terminator.
+#[derive(Clone, Copy, Debug, PartialEq, Eq)]
+pub struct At {
+    pub function: u32,
+    pub block: u32,
+    pub at: usize,
+}
+
 impl Stack {
-    ghost use Rattle.std.specs.Prelude.{◌≡◌, ◌∷◌, [], IsFalse, IsTrue, OnOk};
+    /// Where the top frame stands.
+    pub fn at(&self) -> At
+        ensures { top_at (stack_of self.now).frames ≡ Some result }
+    {
+        At {
+            function: self.top.function,
+            block: self.top.block,
+            at: self.top.at,
+        }
+    }
+
+    ghost use Rattle.std.specs.Prelude.{◌≡◌, ◌∷◌, [], IsFalse, IsTrue, OnOk, Some};
+    ghost use Rattle.mr_frame.specs.Tops.{top_at};
     ghost use Rattle.mr_frame.specs.Calls.{behind_first};
     ghost use Rattle.mr_frame.specs.Fits.{FitsStack};
     ghost use Rattle.mr_frame.specs.Kept.{IsReady, below_of, frame_of, stack_of};

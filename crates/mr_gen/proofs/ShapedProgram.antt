@@ -1,5 +1,5 @@
 -- The program is shaped, whatever the numbers of workers and rounds.
-use Rattle.std.proofs.Common.{◌≡◌, ℕ, ◌+◌, ◌*◌, ◌<◌, ◌≤◌, ◌^◌, Bool, true, false, [], ◌∷◌, length, All, refl, arith, lit<, lit≤, lt-ltb}
+use Rattle.std.proofs.Common.{inl, ◌≡◌, ℕ, ◌+◌, ◌*◌, ◌<◌, ◌≤◌, ◌^◌, Bool, true, false, [], ◌∷◌, length, All, refl, arith, lit<, lit≤, lt-ltb}
 use Rattle.std.specs.Prelude.{nat_lt}
 use Rattle.std.proofs.lemmas.List.Elements.{All-cons, All-nil}
 use Rattle.mr_ast.specs.declared.types.IntType.TheVariants.{U32, U64}
@@ -226,7 +226,7 @@ module _ (workers rounds : ℕ) (resets : Bool) where
 
   pub program_shaped : workers ≤ 8 → rounds < 2 ^ 64 → Shaped whole
   program_shaped few short = record {
-    edition = refl;
+    edition = inl refl;
     globals = All-cons (ShapedGlobal whole) counter_global [] global_shaped (All-nil (ShapedGlobal whole));
     functions = All-cons (ShapedFunction whole) worker (main ∷ []) (worker_shaped short) (All-cons (ShapedFunction whole) main [] (main_shaped few) (All-nil (ShapedFunction whole)));
     start = lit< tt;

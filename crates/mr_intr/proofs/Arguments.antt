@@ -23,7 +23,7 @@ use Rattle.mr_wf.specs.SameTypes.{same_type}
 use Rattle.mr_wf.specs.Types.{integer_of}
 use Rattle.mr_wf.proofs.KindLaws.{bool_is, integer_is, raw_is}
 use Rattle.mr_wf.proofs.SameTypeLaws.{same_type_equal}
-use Rattle.mr_eval.proofs.ShapeOf.{HaveShapes}
+use Rattle.mr_eval.specs.Shapes.{HaveShapes}
 use Rattle.mr_intr.specs.Atomics.{IsFetch}
 use Rattle.mr_intr.specs.Atomics.{IsFetch}
 use Rattle.mr_intr.specs.Effects.{Fits}

@@ -16,7 +16,7 @@ use Rattle.mr_wf.specs.Operands.{is_bool, is_int, is_integer, is_raw, is_scalar_
 use Rattle.mr_wf.specs.SameTypes.{same_type}
 use Rattle.mr_wf.proofs.SameTypeLaws.{same_type_equal}
 use Rattle.mr_script.specs.Script.{run}
-use Rattle.mr_eval.proofs.ShapeOf.{HaveShapes}
+use Rattle.mr_eval.specs.Shapes.{HaveShapes}
 use Rattle.mr_sync.specs.Sound.{IsSoundTables}
 use Rattle.mr_plan.specs.Notes.{Notes, start_notes}
 use Rattle.mr_plan.specs.Queries.{Shared, answer, tables_of}

@@ -37,7 +37,7 @@ use Rattle.mr_eval.specs.Reads.{Read}
 use Rattle.mr_eval.specs.Sound.{IsSafe, any_result}
 use Rattle.mr_eval.proofs.OperatorsSafe.{bool_layer, integer_layer, raw_layer}
 use Rattle.mr_eval.proofs.SafeLaws.{safe_found, safe_then}
-use Rattle.mr_eval.proofs.ShapeOf.{HaveShapes}
+use Rattle.mr_eval.specs.Shapes.{HaveShapes}
 use Rattle.mr_sched.specs.declared.schedule.Ask.TheVariants.{Address}
 use Rattle.mr_sync.specs.Sound.{IsSoundTables}
 use Rattle.mr_plan.specs.Legal.{creation_fault, picks_fault}

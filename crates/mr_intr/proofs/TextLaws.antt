@@ -19,7 +19,8 @@ use Rattle.mr_wf.specs.Operands.{is_scalar_number}
 use Rattle.mr_wf.specs.Types.{integer_of}
 use Rattle.mr_script.specs.Script.{Ask, Done, ◌>>=◌, run}
 use Rattle.mr_eval.proofs.ScalarLaws.{bool_value, int_value, scalar_bool, scalar_int}
-use Rattle.mr_eval.proofs.ShapeOf.{HaveShapes, shapes_length}
+use Rattle.mr_eval.proofs.ShapeOf.{shapes_length}
+use Rattle.mr_eval.specs.Shapes.{HaveShapes}
 use Rattle.mr_eval.specs.Operators.{or_ill_formed}
 use Rattle.mr_eval.specs.Scalars.{scalar_as, scalar_layer}
 use Rattle.mr_eval.specs.declared.scalars.Scalar.{Scalar}

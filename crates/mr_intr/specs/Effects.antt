@@ -15,7 +15,7 @@ use Rattle.mr_wf.specs.Intrinsics.{fits_intrinsic}
 use Rattle.mr_script.specs.Script.{Outcome, Refused, Went, run, ◌>>=◌}
 use Rattle.mr_eval.specs.World.{tally_of}
 use Rattle.mr_eval.specs.declared.scene.Scene.{Scene}
-use Rattle.mr_eval.proofs.ShapeOf.{HaveShapes}
+use Rattle.mr_eval.specs.Shapes.{HaveShapes}
 use Rattle.mr_sync.specs.Tables.{Tables}
 use Rattle.mr_plan.specs.Legal.{needs_fault}
 use Rattle.mr_plan.specs.Machine.{needs_of}

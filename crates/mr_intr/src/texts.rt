@@ -3,7 +3,7 @@ ghost use Rattle.std.specs.Prelude.{◌≡◌, ℕ, ◌++◌, List, Option, None
 ghost use Rattle.mr_ast.specs.declared.program.Intrinsic.TheVariants as intrinsic;
 ghost use Rattle.mr_ast.specs.declared.types.Ty.{Ty};
 ghost use Rattle.mr_eval.specs.declared.scene.Scene.{Scene};
-ghost use Rattle.mr_eval.proofs.ShapeOf.{HaveShapes};
+ghost use Rattle.mr_eval.specs.Shapes.{HaveShapes};
 ghost use Rattle.mr_sync.specs.Tables.{Tables};
 ghost use Rattle.mr_value.specs.Shape.{has_shape};
 ghost use Rattle.mr_wf.specs.Operands.{is_scalar_number};

@@ -56,5 +56,6 @@ pub trait Files {
         ensures long { (files : Contents) → told self.old ≡ Some files
             → IsErrOf result FileFault.Long → IsLonger files name.now max }
         ensures telling { IsErrOf result FileFault.Missing → IsSome (told self.old) }
-        ensures failed { IsErrOf result FileFault.Failed → Rose (faults self.old) (faults self.new) };
+        ensures failed { IsErrOf result FileFault.Failed → Rose (faults self.old) (faults self.new) }
+        ensures quiet { ¬ IsErrOf result FileFault.Failed → faults self.new ≡ faults self.old };
 }

@@ -1,14 +1,12 @@
 //! Files of the host, read in pieces.
 ghost use Rattle.std.specs.Prelude.{◌≡◌, ◌+◌, ◌<◌, ◌≤◌, ◌^◌, ◌↔◌, ◌++◌, length, take, None, Ok, IsErr, IsErrOf, IfOk, OnOk, OnErr};
-ghost use Rattle.std.specs.Io.KnownBytes.{IsAtEnd};
 ghost use Rattle.mr_io.specs.Counts.{raised};
 ghost use Rattle.mr_io.specs.Files.{Grows, GrowsBy};
-ghost use Rattle.mr_io.specs.Host.{IsTaken, Moves};
+ghost use Rattle.mr_io.specs.Host.{HasFailed, HasMore, HostFailed, IsGained, IsPiece, Opened, PieceFailed};
 
 use crate::files::{FileFault, Files};
+use crate::host::{Opener, Source};
 use std::alloc::Global;
-use std::io::Read;
-use std::{fs, rt};
 
 // The most bytes that are asked for at a time.
 const PIECE: usize = 4096;
@@ -16,7 +14,7 @@ const PIECE: usize = 4096;
 /// The host's files. What they hold isn't told.
 #[derive(Drop)]
 pub struct HostFiles<R> {
-    rt: R,
+    pub host: R,
     /// How often the host has failed. The counts stand still at their last value.
     pub faults: u64,
     /// How many reads there were.
@@ -25,15 +23,15 @@ pub struct HostFiles<R> {
     pub taken: u64,
 }
 
-impl<R: rt::Files + Drop> HostFiles<R> {
+impl<R: Opener + Drop> HostFiles<R> {
     /// The files that a runtime reaches, as the one that `main` is given.
-    pub fn new(rt: R) -> HostFiles<R>
+    pub fn new(host: R) -> HostFiles<R>
         ensures faults { result.faults ≡ 0 }
         ensures reads { result.reads ≡ 0 }
         ensures taken { result.taken ≡ 0 }
     {
         HostFiles {
-            rt,
+            host,
             faults: 0,
             reads: 0,
             taken: 0,
@@ -41,7 +39,7 @@ impl<R: rt::Files + Drop> HostFiles<R> {
     }
 }
 
-impl<R: rt::Files + Drop> Files for HostFiles<R> {
+impl<R: Opener + Drop> Files for HostFiles<R> {
     ghost told = { λ _. None };
 
     ghost faults = { λ h. h.faults };
@@ -60,6 +58,14 @@ impl<R: rt::Files + Drop> Files for HostFiles<R> {
         ensures faults { self.old.faults ≤ self.new.faults }
         ensures no_fault { ¬ IsErrOf result FileFault.Failed → self.new.faults ≡ self.old.faults }
 
+        // The file of this name was opened once and read up to its end, or the host failed, or more than `max` bytes were read.
+        ensures whole { OnOk result (Opened R.opens self.old.host name.now self.new.host
+            (IsGained R.File.gives max into.old.items into.new.items)) }
+        ensures cause { IsErrOf result FileFault.Failed
+            → HostFailed R.opens R.File.gives self.old.host name.now self.new.host }
+        ensures more { IsErrOf result FileFault.Long
+            → Opened R.opens self.old.host name.now self.new.host (HasMore R.File.gives max) }
+
         // What was taken from the host.
         ensures taken { self.new.taken ≤ max + 1 }
         ensures ok { OnOk result ((self.new.taken ≤ max)
@@ -71,7 +77,7 @@ impl<R: rt::Files + Drop> Files for HostFiles<R> {
         let len = into.len();
         self.reads = self.reads.saturating_add(1);
         self.taken = 0;
-        match take_file(&self.rt, name, max, &mut self.taken, into) {
+        match take_file(&mut self.host, name, max, &mut self.taken, into) {
             Ok(()) => Ok(()),
             Err(fault) => {
                 into.truncate(len);
@@ -85,58 +91,43 @@ impl<R: rt::Files + Drop> Files for HostFiles<R> {
 }
 
 // Opens a file and takes its bytes.
-fn take_file<R: rt::Files>(
-    rt: &R,
+fn take_file<H: Opener>(
+    host: &mut H,
     name: &str,
     max: u64,
     taken: &mut u64,
     into: &mut Vec<u8>,
 ) -> Result<(), FileFault>
     requires { taken.old ≡ 0 }
+    ensures whole { OnOk result (Opened H.opens host.old name.now host.new
+        (IsGained H.File.gives max into.old.items into.new.items)) }
+    ensures failed { IsErrOf result FileFault.Failed → HostFailed H.opens H.File.gives host.old name.now host.new }
+    ensures more { IsErrOf result FileFault.Long → Opened H.opens host.old name.now host.new (HasMore H.File.gives max) }
     ensures taken { taken.new ≤ max + 1 }
     ensures ok { OnOk result ((taken.new ≤ max) × GrowsBy taken.new into.old.items into.new.items) }
     ensures err { OnErr result (Grows into.old.items into.new.items) }
     ensures long { IsErrOf result FileFault.Long → max < taken.new }
     ensures told { ¬ IsErrOf result FileFault.Missing }
 {
-    take_opened(fs::open(rt, name), max, taken, into)
-}
-
-// Takes the bytes of a file, where the host opened it.
-fn take_opened<F: Read + Drop, E: Drop>(
-    opened: Result<F, E>,
-    max: u64,
-    taken: &mut u64,
-    into: &mut Vec<u8>,
-) -> Result<(), FileFault>
-    requires { taken.old ≡ 0 }
-    ensures taken { taken.new ≤ max + 1 }
-    ensures unopened { OnErr opened (IsErrOf result FileFault.Failed) }
-    ensures whole { IfOk opened (λ file.
-        OnOk result ((taken.new ≤ max) × IsTaken (F.remaining file) taken.new into.old.items into.new.items)) }
-    ensures ok { OnOk result ((taken.new ≤ max) × GrowsBy taken.new into.old.items into.new.items) }
-    ensures err { OnErr result (Grows into.old.items into.new.items) }
-    ensures long { IsErrOf result FileFault.Long → max < taken.new }
-    ensures told { ¬ IsErrOf result FileFault.Missing }
-{
-    match opened {
+    match host.open(name) {
         Ok(mut file) => take_bytes(&mut file, max, taken, into),
         Err(_) => Err(FileFault::Failed),
     }
 }
 
 // Takes the bytes of a file up to its end, and one more than `max` at most.
-fn take_bytes<F: Read>(
+fn take_bytes<F: Source>(
     file: &mut F,
     max: u64,
     taken: &mut u64,
     into: &mut Vec<u8>,
 ) -> Result<(), FileFault>
     requires { taken.old ≡ 0 }
+    ensures whole { OnOk result (IsGained F.gives max into.old.items into.new.items file.old) }
+    ensures failed { IsErrOf result FileFault.Failed → HasFailed F.gives file.old }
+    ensures more { IsErrOf result FileFault.Long → HasMore F.gives max file.old }
     ensures taken { taken.new ≤ max + 1 }
-    ensures ok { OnOk result ((taken.new ≤ max)
-        × Moves taken.new (F.remaining file.old) (F.remaining file.new) into.old.items into.new.items) }
-    ensures end { OnOk result (IsAtEnd (F.remaining file.new)) }
+    ensures ok { OnOk result ((taken.new ≤ max) × GrowsBy taken.new into.old.items into.new.items) }
     ensures err { OnErr result (Grows into.old.items into.new.items) }
     ensures long { IsErrOf result FileFault.Long → max < taken.new }
     ensures told { ¬ IsErrOf result FileFault.Missing }
@@ -151,7 +142,7 @@ fn take_bytes<F: Read>(
 }
 
 // Takes a piece of a file, one byte more than `left` at most.
-fn take_piece<F: Read>(
+fn take_piece<F: Source>(
     file: &mut F,
     left: u64,
     taken: &mut u64,
@@ -160,14 +151,14 @@ fn take_piece<F: Read>(
     requires { taken.old < 2 ^ 63 }
     ensures taken { (taken.old ≤ taken.new) × (taken.new ≤ taken.old + left + 1) }
     ensures ok { IfOk result (λ n. (taken.new ≡ taken.old + n)
-        × Moves n (F.remaining file.old) (F.remaining file.new) into.old.items into.new.items) }
-    ensures end { IfOk result (λ n. n ≡ 0 → IsAtEnd (F.remaining file.new)) }
+        × IsPiece F.gives n file.old file.new into.old.items into.new.items) }
+    ensures failed { IsErrOf result FileFault.Failed → PieceFailed F.gives file.old }
     ensures err { OnErr result (into.new.items ≡ into.old.items) }
     ensures fault { (¬ IsErrOf result FileFault.Missing) × (¬ IsErrOf result FileFault.Long) }
 {
     let mut piece = [0u8; PIECE];
     let most = left.min(PIECE as u64 - 1) as usize + 1;
-    let read = file.read(&mut piece[..most]);
+    let read = file.give(&mut piece[..most]);
     keep_piece(read, &piece, taken, into)
 }
 

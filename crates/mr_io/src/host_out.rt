@@ -1,10 +1,11 @@
 //! A writer of the host, as standard output.
-ghost use Rattle.std.specs.Prelude.{◌≡◌, ℕ, ◌<◌, ◌≤◌, length, take, None, Some, IsOk, IfOk, IfSome, OnOk, OnErr};
+ghost use Rattle.std.specs.Prelude.{◌≡◌, ℕ, ◌<◌, ◌≤◌, ◌⊎◌, length, take, None, Some, IsErr, IsOk, IfOk, IfSome, OnOk, OnErr};
 ghost use Rattle.std.specs.Io.KnownBytes.{Appends};
 ghost use Rattle.mr_io.specs.Counts.{raised};
+ghost use Rattle.mr_io.specs.Host.{IsLost, IsSent};
 
+use crate::host::Stream;
 use crate::sink::{Failed, Sink};
-use std::io::Write;
 
 /// A writer of the host, as standard output. What it has taken isn't told.
 #[derive(Drop)]
@@ -14,7 +15,7 @@ pub struct HostOut<W> {
     pub faults: u64,
 }
 
-impl<W: Write + Drop> HostOut<W> {
+impl<W: Stream + Drop> HostOut<W> {
     /// Writes to `out`, as `rt.stdout()` of the runtime that `main` is given.
     pub fn new(out: W) -> HostOut<W>
         ensures out { result.out ≡ out }
@@ -24,7 +25,7 @@ impl<W: Write + Drop> HostOut<W> {
     }
 }
 
-impl<W: Write + Drop> Sink for HostOut<W> {
+impl<W: Stream + Drop> Sink for HostOut<W> {
     ghost taken = { λ _. None };
 
     ghost faults = { λ h. h.faults };
@@ -32,6 +33,11 @@ impl<W: Write + Drop> Sink for HostOut<W> {
     fn write(&mut self, piece: &[u8]) -> Result<usize, Failed>
         requires { 0 < length piece.now }
         ensures some { IfOk result (λ n. (1 ≤ n) × (n ≤ length piece.now)) }
+
+        // The piece was handed over once and flushed once, be they fewer bytes than it has; or nothing was taken, or one of the
+        // two calls failed.
+        ensures sent { IfOk result (IsSent W.takes W.flushes self.old.out piece.now self.new.out) }
+        ensures cause { OnErr result (IsLost W.takes W.flushes self.old.out piece.now self.new.out) }
 
         // Where the writer tells what it holds, these are the bytes that it took.
         ensures taken { IfOk result (λ n.
@@ -56,15 +62,17 @@ impl<W: Write + Drop> Sink for HostOut<W> {
     }
 }
 
-// Writes the first bytes of a piece, and flushes them.
-fn put<W: Write>(out: &mut W, piece: &[u8]) -> Option<usize>
+// Hands a piece over, and has it flushed.
+fn put<W: Stream>(out: &mut W, piece: &[u8]) -> Option<usize>
+    ensures sent { IfSome result (IsSent W.takes W.flushes out.old piece.now out.new) }
+    ensures lost { result ≡ None → IsLost W.takes W.flushes out.old piece.now out.new }
     ensures some { IfSome result (λ n. (1 ≤ n) × (n ≤ length piece.now)) }
     ensures taken { IfSome result (λ n. Appends (W.contents out.old) (W.contents out.new) (take n piece.now)) }
     ensures part { (n : ℕ) × (n ≤ length piece.now)
         × Appends (W.contents out.old) (W.contents out.new) (take n piece.now) }
 {
-    match out.write(piece) {
-        Ok(n) => flushed(n, out.flush()),
+    match out.put(piece) {
+        Ok(n) => flushed(n, out.settle()),
         Err(_) => None,
     }
 }
@@ -73,6 +81,7 @@ fn put<W: Write>(out: &mut W, piece: &[u8]) -> Option<usize>
 fn flushed<E: Drop>(n: usize, flush: Result<(), E>) -> Option<usize>
     ensures ok { 1 ≤ n → IsOk flush → result ≡ Some n }
     ensures some { IfSome result (λ taken. (taken ≡ n) × (1 ≤ taken) × IsOk flush) }
+    ensures none { result ≡ None → (n ≡ 0) ⊎ IsErr flush }
 {
     match flush {
         Ok(()) if n > 0 => Some(n),

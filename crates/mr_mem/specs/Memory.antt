@@ -234,6 +234,13 @@ put_in m p bytes =
 abbrev pub written : Memory → Pointer → List AbstractByte → ℕ → Result Memory Reason
 written m p bytes align = aligned p align (if length bytes == 0 then Ok m else put_in m p bytes)
 
+-- ---- extents
+
+-- the address and the size of an allocation, dead or live, where there is one
+abbrev pub extent_of : Option Allocation → Option (ℕ × ℕ)
+extent_of None = None
+extent_of (Some a) = Some (a.addr, length a.bytes)
+
 -- ---- leaks
 
 -- whether an allocation is of the heap

@@ -8,7 +8,7 @@ ghost use Rattle.mr_mem.specs.Stored.{allocation_of, entries_of, memory_of};
 ghost use Rattle.std.specs.FinMap as fin;
 
 use crate::fault::{Fault, PickFault};
-use crate::ranges::{lent, missed, put, put_numbers, put_repeated, stored_at};
+use crate::ranges::{extent, lent, missed, put, put_numbers, put_repeated, stored_at};
 use crate::spans::{Span, Spans};
 use mr_base::{AbstractByte, AllocId, Kind, Pointer, Reason};
 use mr_runs::{Runs, View};
@@ -72,7 +72,7 @@ impl Memory {
     ghost use Rattle.mr_runs.specs.Pieces.{AreMaximal};
     ghost use Rattle.mr_mem.specs.Stored.{IsStored, seen_view};
     ghost use Rattle.std.specs.FinMap as fin;
-    ghost use Rattle.mr_mem.specs.Memory.{pick_fault, allocated, checked, first_overlapped, freed, leaks as is_leaking, ranges_of, read, written, IsPowerOfTwo, IsAsked};
+    ghost use Rattle.mr_mem.specs.Memory.{pick_fault, allocated, checked, extent_of, first_overlapped, freed, leaks as is_leaking, ranges_of, read, written, IsPowerOfTwo, IsAsked};
 
     /// No allocation.
     pub fn new(alloc: Global) -> Memory
@@ -171,6 +171,13 @@ impl Memory {
         }
         missed(stored_at(&self.allocations, p.prov), p.addr, len)?;
         Ok(p.prov)
+    }
+
+    /// The address and the size of an allocation, dead or live; None exactly where none has the identity.
+    pub fn range(&self, id: AllocId) -> Option<(u64, u64)>
+        ensures { result ≡ extent_of (fin.get self.now id) }
+    {
+        extent(stored_at(&self.allocations, Some(id)))
     }
 
     /// Lends the `len` bytes from the pointer on in as few pieces as can be, and no piece where they are none. Misalignment is told

@@ -3,7 +3,7 @@ ghost use Rattle.std.specs.Prelude.{◌≡◌, IfOk, OnErr, Some, option_copied,
 ghost use Rattle.std.specs.FinMap as fin;
 ghost use Rattle.mr_runs.specs.Numbers.{with_provenance};
 ghost use Rattle.mr_runs.specs.Pieces.{AreMaximal};
-ghost use Rattle.mr_mem.specs.Memory.{bytes_at, found, inside, put_at, then_give};
+ghost use Rattle.mr_mem.specs.Memory.{bytes_at, extent_of, found, inside, put_at, then_give};
 ghost use Rattle.mr_mem.specs.Stored.{IsStored, IsStoredIn, allocation_of, memory_of, seen_view};
 
 use crate::fault::Fault;
@@ -31,6 +31,16 @@ pub fn stored_at(allocations: &BTreeMap<AllocId, Stored>, prov: Option<AllocId>)
 {
     match prov {
         Some(id) => allocations.get(&id),
+        None => None,
+    }
+}
+
+/// The address and the size of an allocation, where there is one.
+pub fn extent(a: Option<&Stored>) -> Option<(u64, u64)>
+    ensures { result ≡ extent_of (option_map allocation_of (option_copied a.entry)) }
+{
+    match a {
+        Some(a) => Some((a.addr, a.bytes.len())),
         None => None,
     }
 }

@@ -25,7 +25,7 @@ use Rattle.mr_grammar.specs.Parsing.{body_of}
 use Rattle.mr_grammar.specs.Reading.{◌>>=◌, read}
 
 abbrev pub body_of_parts : Parts → ProgramBody
-body_of_parts p = record { globals = p.globals; functions = p.functions; start = p.start }
+body_of_parts p = record { edition = p.edition; globals = p.globals; functions = p.functions; start = p.start }
 
 abbrev pub head_of : Head → List LocalName × LocalName
 head_of h = (h.args, h.ret)

@@ -90,7 +90,7 @@ fn program_of(parts: Parts, tables: Tables<'_>) -> Program
     ensures { result ≡ program_of tables.entry (body_of_parts parts) }
 {
     Program {
-        edition: 1,
+        edition: parts.edition,
         globals: parts.globals,
         functions: parts.functions,
         names: tables.into_names(),

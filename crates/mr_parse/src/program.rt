@@ -2,7 +2,7 @@
 ghost use Rattle.std.specs.Prelude.{codes};
 ghost use Rattle.mr_ast.specs.declared.words.Bracket.TheVariants.{Curly, Round};
 ghost use Rattle.mr_ast.specs.Writing.{function_use, listed, within, ◌▪◌, ◌◂◌, ◌▸◌, local_use};
-ghost use Rattle.mr_ast.specs.ProgramGrammar.{args_form, block_form, blocks_form, body_form, function_form, functions_form, global_form, globals_form, item_behind, item_form, items_form, judged_item, judged_kind, local_form, locals_form, program_form, reloc_form, repeat_form};
+ghost use Rattle.mr_ast.specs.ProgramGrammar.{args_form, block_form, blocks_form, body_form, function_form, functions_form, global_form, globals_form, item_behind, item_form, items_form, judged_edition, judged_item, judged_kind, local_form, locals_form, program_form, reloc_form, repeat_form};
 ghost use Rattle.mr_reader.specs.Gives.{Gives};
 ghost use Rattle.mr_grammar.specs.Reading.{first_at, read};
 ghost use Rattle.mr_parse.specs.Views.{body_of_parts, head_of, named, parts_of};
@@ -13,12 +13,13 @@ use mr_ast::{
     MAX_BLOCKS, MAX_ITEMS, Role,
 };
 use mr_reader::{Reader, beside, pushed};
-use mr_words::{ReadFault, Scope, UNEXPECTED, item_word_of, kind_of};
+use mr_words::{ReadFault, Scope, UNEXPECTED, edition_of, item_word_of, kind_of};
 use std::alloc::Global;
 
 /// A program without its names.
 #[derive(Drop)]
 pub struct Parts {
+    pub edition: u8,
     pub globals: Items<Global_>,
     pub functions: Items<Function>,
     pub start: FnName,
@@ -473,10 +474,11 @@ pub fn program(
     ensures { Gives (λ p. (body_of_parts p, reader.new)) result (read room scope.now program_form reader.old) }
 {
     reader.expect(b"minirust")?;
-    reader.expect(b"1")?;
+    let edition = edition(reader)?;
     match definitions(reader, alloc, scope, room) {
         Ok(definitions) => match beside(definitions, start(reader, scope)) {
             Ok(((globals, functions), start)) => Ok(Parts {
+                edition,
                 globals,
                 functions,
                 start,
@@ -484,6 +486,24 @@ pub fn program(
             Err(fault) => Err(fault),
         },
         Err(fault) => Err(fault),
+    }
+}
+
+// The edition that the header names.
+#[tactic(auto, unfolding(mr_ast::specs::ProgramGrammar::judged_edition))]
+fn edition(reader: &mut Reader<'_>) -> Result<u8, ReadFault>
+    ensures { Gives (λ e. (e, reader.new)) result (first_at judged_edition reader.old) }
+{
+    let found = match reader.peek() {
+        Some(next) => edition_of(next.text),
+        None => None,
+    };
+    match found {
+        Some(edition) => {
+            reader.advance();
+            Ok(edition)
+        }
+        None => Err(reader.stop(UNEXPECTED)),
     }
 }
 

@@ -1,3 +1,4 @@
+pub mod AccessBounds
 pub mod ElementLaws
 pub mod FreeLaws
 pub mod Headers

@@ -8,9 +8,13 @@ use Rattle.mr_base.specs.declared.access.Access.{Access}
 use Rattle.mr_base.specs.declared.byte.AbstractByte.{AbstractByte}
 use Rattle.mr_base.specs.declared.byte.AllocId.{AllocId}
 use Rattle.mr_base.specs.declared.byte.Kind.{Kind}
+use Rattle.mr_base.specs.declared.byte.Kind.TheVariants.{Function, Heap, Stack, Static}
+use Rattle.mr_base.specs.declared.byte.AbstractByte.TheVariants.{Uninit}
 use Rattle.mr_base.specs.declared.byte.Pointer.{Pointer}
 use Rattle.mr_script.proofs.SwapRuns.{IsKept}
-use Rattle.mr_mem.specs.Memory.{Allocation, Memory, allocated, bytes_at, fresh}
+use Rattle.std.specs.Prelude.{replicate}
+use Rattle.std.proofs.Math.ListN.{length-replicate}
+use Rattle.mr_mem.specs.Memory.{Allocation, Memory, allocated, bytes_at, fresh, held}
 use Rattle.mr_mem.proofs.Identities.{get_here, get_there}
 use Rattle.mr_eval.specs.Reads.{Check, Read, Refer, accessing, seeing, touching}
 use Rattle.mr_eval.specs.MemoryQueries.{Allocate, Free, MemoryQuery, MemoryReply, Modify, Reading, Write, memory_answer, next_id, number_bytes}
@@ -64,9 +68,9 @@ pub record Ranged (m : Memory) (r : ℕ × ℕ) : Type 0 where
 abbrev pub IsThere : Memory → AllocId → Type 0
 IsThere m id = (a : Allocation) × (fin.get m id ≡ Some a)
 
--- it is noted as made, and so is its range
+-- it is noted as made, and so is its range, in which it has its bytes
 abbrev pub IsMade : Tally → AllocId → Allocation → Type 0
-IsMade n id b = Contains n.made id × Contains n.ranges (b.addr, b.span)
+IsMade n id b = Contains n.made id × Contains n.ranges (b.addr, b.span) × (length b.bytes ≤ b.span)
 
 -- A step of thread t, which had made c allocations, began in the memory m0 and is in m with the notes n. Its identities are counted; allocations stay, with
 -- what they keep for good, and each was made by it, with its range, or was there before; what is noted as made or as a range is there, and
@@ -83,6 +87,13 @@ pub record MemoryFacts (m0 : Memory) (t c : ℕ) (m : Memory) (n : Tally) : Type
   pub used : (id : AllocId) → Contains n.touched id ⊎ Contains n.freed id → IsThere m id × (Contains n.made id ⊎ IsLive m0 id)
 
 -- ---- where they hold
+
+-- a new allocation has its bytes in its range
+pub fresh_fits : (kind : Kind) (size : ℕ) → length (replicate (held kind size) Uninit) ≤ size
+fresh_fits Function size = omega arith
+fresh_fits Heap size = let e = length-replicate size Uninit in omega arith
+fresh_fits Stack size = let e = length-replicate size Uninit in omega arith
+fresh_fits Static size = let e = length-replicate size Uninit in omega arith
 
 -- what holds before the first query
 pub start_facts : (m : Memory) (t c : ℕ) → ((id : AllocId) (a : Allocation) → fin.get m id ≡ Some a → id.thread ≡ t → id.count < c) → MemoryFacts m t c m (start_tally t c)
@@ -131,7 +142,11 @@ module _ (m0 : Memory) (t c : ℕ) (m : Memory) (n : Tally) (f : MemoryFacts m0 
     ]
 
     came_here : IsMade n id a ⊎ Before m0 id a → IsMade n id b ⊎ Before m0 id b
-    came_here (inl k) = inl (k.0, subst (Contains n.ranges) (λ i. (lasting.addr i, lasting.span i)) k.1)
+    came_here (inl k) = inl (
+      k.0,
+      subst (Contains n.ranges) (λ i. (lasting.addr i, lasting.span i)) k.1,
+      let in_it = k.2 in let long = lasting.size in let takes = lasting.span in omega arith,
+    )
     came_here (inr k) = inr (record { alloc = k.alloc; there = k.there; lasting = lasting_then k.alloc a b k.lasting lasting; lived = λ l. k.lived (lived l) })
 
     came : (q : AllocId) (x : Allocation) → fin.get (fin.insert m id b) q ≡ Some x → IsMade n q x ⊎ Before m0 q x
@@ -258,9 +273,10 @@ module _ (m0 : Memory) (t c : ℕ) (m : Memory) (n : Tally) (f : MemoryFacts m0 
           inl (
             subst (Contains (n.made ++ next_id n ∷ [])) (sym e) (Contains-push n.made (next_id n)),
             subst (λ (w : Allocation). Contains (n.ranges ++ (addr, size) ∷ []) (w.addr, w.span)) is (Contains-push n.ranges (addr, size)),
+            subst (λ (w : Allocation). length w.bytes ≤ w.span) is (fresh_fits kind size),
           )
       | inr d ↦ elim (f.from q x (sym (get_there m (next_id n) new q d) ∙ h)) [
-        | inl k ↦ inl (Contains-append_left n.made (next_id n ∷ []) q k.0, Contains-append_left n.ranges ((addr, size) ∷ []) (x.addr, x.span) k.1)
+        | inl k ↦ inl (Contains-append_left n.made (next_id n ∷ []) q k.0, Contains-append_left n.ranges ((addr, size) ∷ []) (x.addr, x.span) k.1, k.2)
         | inr k ↦ inr k
       ]
     ]

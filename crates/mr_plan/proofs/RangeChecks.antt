@@ -126,8 +126,11 @@ touching_none p len z = ap (λ b. cond b [] (ids p.prov)) (eq-eqb len 0 z)
 pub touches : (p : Pointer) (len : ℕ) (id : AllocId) → len ≢ 0 → p.prov ≡ Some id → Contains (touching p len) id
 touches p len id n e = subst (λ l. Contains l id) (sym (touching_one p len id n e)) (Contains-push [] id)
 
-accessing_one : (store atomic : Bool) (p : Pointer) (len : ℕ) → len ≢ 0 → accessing store atomic p len ≡ record { store = store; atomic = atomic; addr = p.addr; len = len } ∷ []
+pub accessing_one : (store atomic : Bool) (p : Pointer) (len : ℕ) → len ≢ 0 → accessing store atomic p len ≡ record { store = store; atomic = atomic; addr = p.addr; len = len } ∷ []
 accessing_one store atomic p len n = ap (λ b. cond b [] (record { store = store; atomic = atomic; addr = p.addr; len = len } ∷ [])) (ne_eqb len 0 n)
+
+pub accessing_none : (store atomic : Bool) (p : Pointer) (len : ℕ) → len ≡ 0 → accessing store atomic p len ≡ []
+accessing_none store atomic p len z = ap (λ b. cond b [] (record { store = store; atomic = atomic; addr = p.addr; len = len } ∷ [])) (eq-eqb len 0 z)
 
 pub accesses_range : (store atomic : Bool) (p : Pointer) (len x : ℕ) → p.addr ≤ x → x < p.addr + len → Any (Covers x) (accessing store atomic p len)
 accesses_range store atomic p len x low high =

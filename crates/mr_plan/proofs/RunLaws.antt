@@ -7,15 +7,15 @@ use Rattle.mr_plan.specs.Runs.{Config, after_bare, stepped_from, machine_step}
 
 -- ---- how many steps completed
 
-completed_bare : {L : Type 0} (c : Config L) (b : Bare L) → (after_bare c b).completed ≤ c.completed + 1
-completed_bare c (Completed n s) = omega arith
-completed_bare c (Stops v) = omega arith
-completed_bare c IllFormedStep = omega arith
+completed_bare : {L : Type 0} (step : Language L) (c : Config L) (b : Bare L) → (after_bare step c b).completed ≤ c.completed + 1
+completed_bare step c (Completed n s) = omega arith
+completed_bare step c (Stops v) = omega arith
+completed_bare step c IllFormedStep = omega arith
 
 completed_from : {L : Type 0} (step : Language L) (c : Config L) (t : ℕ) (picks : List ℕ) (s : Option (State L))
     → (stepped_from step c t picks s).completed ≤ c.completed + 1
 completed_from step c t picks None = omega arith
-completed_from step c t picks (Some s) = completed_bare c (bare step s t picks)
+completed_from step c t picks (Some s) = completed_bare step c (bare step s t picks)
 
 -- a step completes one step at most
 pub completed_by_step : {L : Type 0} (step : Language L) (c : Config L) (e : Entry) → (machine_step step c e).completed ≤ c.completed + 1

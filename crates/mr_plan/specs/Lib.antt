@@ -1,4 +1,5 @@
 pub mod Legal
+pub mod Limits
 pub mod Machine
 pub mod Notes
 pub mod Places

@@ -29,9 +29,10 @@ pub record Plan (A : Type 0) : Type 0 where
   pub go : List ℕ → A
 
 -- A LANGUAGE OF STEPS: the next step of a thread with a state of its own, as a script that makes a plan, and behind it
--- one that carries it out
-abbrev pub Language : Type 0 → Type 0
-Language L = L → StepScript (Plan (StepScript (Flow L)))
+-- one that carries it out; and its edition
+pub record Language (L : Type 0) : Type 0 where
+  pub next : L → StepScript (Plan (StepScript (Flow L)))
+  pub edition : ℕ
 
 -- a thread: its own state, and how many allocations it has made
 pub record Thread (L : Type 0) : Type 0 where
@@ -78,7 +79,7 @@ settled s t Broken = IllFormedStep
 abbrev pub acted : {L : Type 0} → Language L → State L → ℕ → List ℕ → Option (Thread L) → Bare L
 acted step s t picks None = IllFormedStep
 acted step s t picks (Some th) =
-    settled s t (run answer (step th.own >>= λ plan. plan.go picks) (s.shared, start_notes t th.count))
+    settled s t (run answer (step.next th.own >>= λ plan. plan.go picks) (s.shared, start_notes t th.count))
 
 -- ONE BARE STEP of thread t with these picks, in a language whose steps are these scripts
 abbrev pub bare : {L : Type 0} → Language L → State L → ℕ → List ℕ → Bare L
@@ -101,7 +102,7 @@ needs_of Broken = no_needs
 
 abbrev pub needed : {L : Type 0} → Language L → State L → ℕ → Option (Thread L) → Needs
 needed step s t None = no_needs
-needed step s t (Some th) = needs_of (run answer (step th.own) (s.shared, start_notes t th.count))
+needed step s t (Some th) = needs_of (run answer (step.next th.own) (s.shared, start_notes t th.count))
 
 -- what the next step of thread t needs, which no pick can change
 abbrev pub needs : {L : Type 0} → Language L → State L → ℕ → Needs

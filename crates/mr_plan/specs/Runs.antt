@@ -45,23 +45,23 @@ verdict_after last f s =
     else (if is_any_enabled (tables_of s.shared) then verdict.Running else verdict.Deadlock)
 
 -- the footprint of a completed step that led to a state
-abbrev pub foot_in : {L : Type 0} → Notes → State L → Footprint
-foot_in n s = foot_of s.shared.memory n
+abbrev pub foot_in : {L : Type 0} → Language L → Notes → State L → Footprint
+foot_in step n s = foot_of step.edition s.shared.memory n
 
-abbrev pub after_bare : {L : Type 0} → Config L → Bare L → Config L
-after_bare c (Completed n s) = record {
+abbrev pub after_bare : {L : Type 0} → Language L → Config L → Bare L → Config L
+after_bare step c (Completed n s) = record {
   state = Some s;
   output = c.output ++ map (printed_by n.tally.thread) n.printed;
-  last = Some (foot_in n s);
+  last = Some (foot_in step n s);
   completed = c.completed + 1;
-  verdict = verdict_after c.last (foot_in n s) s;
+  verdict = verdict_after c.last (foot_in step n s) s;
 }
-after_bare c (Stops v) = record c { state = None; verdict = v }
-after_bare c IllFormedStep = record c { state = None }
+after_bare step c (Stops v) = record c { state = None; verdict = v }
+after_bare step c IllFormedStep = record c { state = None }
 
 abbrev pub stepped_from : {L : Type 0} → Language L → Config L → ℕ → List ℕ → Option (State L) → Config L
 stepped_from step c t picks None = c
-stepped_from step c t picks (Some s) = after_bare c (bare step s t picks)
+stepped_from step c t picks (Some s) = after_bare step c (bare step s t picks)
 
 -- ONE MACHINE STEP: the bare step, then the race check, then whether a thread is enabled
 unfoldable pub machine_step : {L : Type 0} → Language L → Config L → Entry → Config L
@@ -111,14 +111,14 @@ NeverIllFormed step c (e ∷ es) =
 -- ---- the steps of a run
 
 -- the footprint of the step of an entry, where it completes
-abbrev pub foot_of_bare : {L : Type 0} → Bare L → List Footprint
-foot_of_bare (Completed n s) = foot_in n s ∷ []
-foot_of_bare (Stops v) = []
-foot_of_bare IllFormedStep = []
+abbrev pub foot_of_bare : {L : Type 0} → Language L → Bare L → List Footprint
+foot_of_bare step (Completed n s) = foot_in step n s ∷ []
+foot_of_bare step (Stops v) = []
+foot_of_bare step IllFormedStep = []
 
 abbrev pub foot_from : {L : Type 0} → Language L → ℕ → List ℕ → Option (State L) → List Footprint
 foot_from step t picks None = []
-foot_from step t picks (Some s) = foot_of_bare (bare step s t picks)
+foot_from step t picks (Some s) = foot_of_bare step (bare step s t picks)
 
 -- THE FOOTPRINTS of the completed steps of some entries, in order
 abbrev pub feet : {L : Type 0} → Language L → Config L → List Entry → List Footprint

@@ -36,7 +36,7 @@ use Rattle.mr_frame.specs.Operations.{DueDo, Operands, finish, next_do, operands
 use Rattle.mr_frame.specs.Steps.{frame_plan}
 use Rattle.mr_intr.specs.Operations.{Operation, acquire, allocate, allocating, assume, assuming, atomic_load, atomic_store, compare_exchange, create_lock, deallocate, exchanged, fetch, fetched, found, instant, int_in, is_power_of_two, join, loaded, modify, number_in, operation, pointer_in, print, release, releasing, truth_in, with_pick}
 use Rattle.mr_intr.specs.Texts.{bool_text, number_text, spaced, spaced_behind, text_layer, text_of, texts_of}
-use Rattle.mr_thread.specs.Steps.{Own, Turn, TurnPlan, do_step, finished, finishing, frame_step, in_step, last_payload, new_thread, onward, operated, spawn, spawn_function, spawn_number, spawn_types, start, step_due, thread_step, thread_types}
+use Rattle.mr_thread.specs.Steps.{Own, Turn, TurnPlan, do_step, finished, finishing, frame_step, in_step, last_payload, new_thread, onward, operated, own_step, spawn, spawn_function, spawn_number, spawn_types, start, step_due, thread_types}
 use Rattle.mr_report.specs.Json.{is_printed}
 use Rattle.mr_report.proofs.PlainLaws.{decimal_passes}
 use Rattle.mr_prints.proofs.Prints.{Anything, IsPlain, Prints, memory_prints, prints_then, reads_print}
@@ -278,8 +278,8 @@ do_step_prints : (look : Look) (own : Own) (d : DueDo) → StepPrints (do_step l
 do_step_prints look own d = memory_prints PlanPrints (reading_part (operands look d)) _ (λ o. operated_prints own d o look d.op)
 
 -- THE STEP OF A THREAD
-pub step_prints : (look : Look) (own : Own) → StepPrints (thread_step look own)
-unfolding thread_step
+pub step_prints : (look : Look) (own : Own) → StepPrints (own_step look own)
+unfolding own_step
 step_prints look own = by_due (next_do look own.stack)
   where
     by_due : (o : Option DueDo) → StepPrints (step_due look own o)
@@ -287,5 +287,5 @@ step_prints look own = by_due (next_do look own.stack)
     by_due (Some d) = do_step_prints look own d
 
 -- the step and what its plan does, as one
-pub whole_prints : (look : Look) (own : Own) (picks : List ℕ) → Prints {A = Turn} Anything (thread_step look own >>= λ plan. plan.go picks)
-whole_prints look own picks = prints_then PlanPrints Anything (thread_step look own) _ (step_prints look own) (λ plan prints. prints picks)
+pub whole_prints : (look : Look) (own : Own) (picks : List ℕ) → Prints {A = Turn} Anything (own_step look own >>= λ plan. plan.go picks)
+whole_prints look own picks = prints_then PlanPrints Anything (own_step look own) _ (step_prints look own) (λ plan prints. prints picks)

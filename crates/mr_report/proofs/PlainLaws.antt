@@ -1,6 +1,6 @@
 -- The bytes of a report's texts: all are of ASCII, and of them JSON escapes LF alone.
-use Rattle.std.proofs.Common.{◌≡◌, ℕ, zero, suc, ◌<◌, ◌/◌, ◌%◌, ◌==◌, List, [], ◌∷◌, ◌++◌, map, Bool, true, false, not, ◌&&◌, ◌||◌, cond, nat_lt, codes, decimal, refl, ap₂, ◌∙◌, arith, rules}
-use Rattle.std.specs.Prelude.{flat_map}
+use Rattle.std.proofs.Common.{◌≡◌, ℕ, zero, suc, ◌+◌, ◌<◌, ◌/◌, ◌%◌, ◌==◌, List, [], ◌∷◌, ◌++◌, map, Bool, true, false, not, ◌&&◌, ◌||◌, cond, nat_lt, codes, decimal, refl, ap₂, ◌∙◌, arith, rules}
+use Rattle.std.specs.Prelude.{flat_map, if◌then◌else◌}
 use Rattle.std.specs.Fmt.{digits, digits_onto, digit_glyph}
 use Rattle.std.specs.List.{list_all}
 use Rattle.std.specs.Str.{IsAscii, IsUtf8}
@@ -15,7 +15,10 @@ use Rattle.mr_base.specs.declared.reason.Verdict.{Verdict}
 use Rattle.mr_base.specs.declared.reason.Verdict.TheVariants as verdict
 use Rattle.mr_sched.specs.declared.schedule.Entry.{Entry}
 use Rattle.mr_sched.specs.declared.schedule.Schedule.{Schedule}
-use Rattle.mr_sched.specs.Spelling.{ended, entry_line, spaced, start_line, text_of}
+use Rattle.mr_sched.specs.declared.version.Version.{Version}
+use Rattle.mr_sched.specs.declared.version.Version.TheVariants.{One, Two}
+use Rattle.mr_sched.specs.Spelling.{ended, entry_line, spaced, start_line}
+use Rattle.mr_sched.specs.Versions.{are_together, group_line, groups_behind, groups_of, header_in, text_in}
 use Rattle.mr_report.specs.Json.{escaped, is_printed}
 use Rattle.mr_report.specs.Report.{verdict_text}
 
@@ -109,19 +112,44 @@ spaced_plain (n ∷ ns) = both_plain (32 ∷ decimal n) (spaced ns) (decimal_pla
 ended_plain : (line : List ℕ) → ArePlain line → ArePlain (ended line)
 ended_plain line h = both_plain line (10 ∷ []) h refl
 
-entry_plain : (e : Entry) → ArePlain (ended (entry_line e))
-entry_plain e = ended_plain (entry_line e) (both_plain (decimal e.thread) (spaced e.picks) (decimal_plain e.thread) (spaced_plain e.picks))
+entry_plain : (e : Entry) → ArePlain (entry_line e)
+entry_plain e = both_plain (decimal e.thread) (spaced e.picks) (decimal_plain e.thread) (spaced_plain e.picks)
 
-entries_plain : (es : List Entry) → ArePlain (flat_map ended (map entry_line es))
-entries_plain [] = refl
-entries_plain (e ∷ es) = both_plain (ended (entry_line e)) (flat_map ended (map entry_line es)) (entry_plain e) (entries_plain es)
+-- so many entries, with `*` between thread and count
+repeated_plain : (thread count : ℕ) → ArePlain (decimal thread ++ 42 ∷ decimal count)
+repeated_plain thread count = both_plain (decimal thread) (42 ∷ decimal count) (decimal_plain thread) (decimal_plain count)
+
+either_plain : (one : Bool) (a b : List ℕ) → ArePlain a → ArePlain b → ArePlain (if one then a else b)
+either_plain true a b h k = h
+either_plain false a b h k = k
+
+group_plain : (e : Entry) (count : ℕ) → ArePlain (group_line (record { entry = e; count = count }))
+group_plain e count = either_plain (count == 1) (entry_line e) (decimal e.thread ++ 42 ∷ decimal count) (entry_plain e) (repeated_plain e.thread count)
+
+line_plain : (e : Entry) (count : ℕ) → ArePlain (ended (group_line (record { entry = e; count = count })))
+line_plain e count = ended_plain (group_line (record { entry = e; count = count })) (group_plain e count)
+
+-- the lines of entries, where so many stand on the first line before them
+lines_plain : (v : Version) (n : ℕ) (es : List Entry) → ArePlain (flat_map ended (map group_line (groups_behind v n es)))
+lines_plain v n [] = refl
+lines_plain v n (e ∷ []) = both_plain (ended (group_line (record { entry = e; count = n + 1 }))) [] (line_plain e (n + 1)) refl
+lines_plain v n (e ∷ f ∷ es) = by (are_together v e f) (lines_plain v (n + 1) (f ∷ es)) (lines_plain v 0 (f ∷ es))
+  where
+    by : (joined : Bool) → ArePlain (flat_map ended (map group_line (groups_behind v (n + 1) (f ∷ es)))) → ArePlain (flat_map ended (map group_line (groups_behind v 0 (f ∷ es))))
+        → ArePlain (flat_map ended (map group_line (if joined then groups_behind v (n + 1) (f ∷ es) else record { entry = e; count = n + 1 } ∷ groups_behind v 0 (f ∷ es))))
+    by true h k = h
+    by false h k = both_plain (ended (group_line (record { entry = e; count = n + 1 }))) (flat_map ended (map group_line (groups_behind v 0 (f ∷ es)))) (line_plain e (n + 1)) k
 
 start_plain : (picks : List ℕ) → ArePlain (ended (start_line picks))
 start_plain picks = ended_plain (start_line picks) (both_plain (codes "start") (spaced picks) refl (spaced_plain picks))
 
-pub schedule_plain : (w : Schedule) → ArePlain (text_of w)
-unfolding text_of
-schedule_plain w =
-    let entries = flat_map ended (map entry_line w.entries) in
+header_plain : (v : Version) → ArePlain (ended (header_in v))
+header_plain One = refl
+header_plain Two = refl
+
+pub schedule_plain : (v : Version) (w : Schedule) → ArePlain (text_in v w)
+unfolding text_in
+schedule_plain v w =
+    let entries = flat_map ended (map group_line (groups_of v w.entries)) in
     let first = ended (start_line w.start) in
-    both_plain (codes "schedule 1\n") (first ++ entries) refl (both_plain first entries (start_plain w.start) (entries_plain w.entries))
+    both_plain (ended (header_in v)) (first ++ entries) (header_plain v) (both_plain first entries (start_plain w.start) (lines_plain v 0 w.entries))

@@ -12,7 +12,8 @@ use Rattle.serde_json.specs.Written.{compact_text, items_text, has_float, items_
 use Rattle.mr_base.specs.declared.reason.Verdict.{Verdict}
 use Rattle.mr_event.specs.declared.footprint.Pair.{Pair}
 use Rattle.mr_sched.specs.declared.schedule.Schedule.{Schedule}
-use Rattle.mr_sched.specs.Spelling.{text_of}
+use Rattle.mr_sched.specs.declared.version.Version.{Version}
+use Rattle.mr_sched.specs.Versions.{text_in}
 use Rattle.mr_report.specs.declared.report.Line.{Line}
 use Rattle.mr_report.specs.Json.{ArePrinted, array, is_printed, object_text, quoted, race_array, witness_value}
 use Rattle.mr_report.specs.Report.{verdict_text}
@@ -64,9 +65,9 @@ races_texts : (races : List Pair) → map compact_text (map places_data (map (λ
 races_texts [] = refl
 races_texts (p ∷ ps) = ap₂ (λ x y. x ∷ y) (array_text (number (unsigned (p.first + 1)) ∷ number (unsigned (p.second + 1)) ∷ [])) (races_texts ps)
 
-witness_is : (w : Option Schedule) → compact_text (witness_data (option_map text_of w)) ≡ witness_value w
-witness_is None = refl
-witness_is (Some w) = quoted_is (text_of w) (schedule_plain w)
+witness_is : (version : Version) (w : Option Schedule) → compact_text (witness_data (option_map (text_in version) w)) ≡ witness_value version w
+witness_is version None = refl
+witness_is version (Some w) = quoted_is (text_in version w) (schedule_plain version w)
 
 -- the members, with what stands around them
 members_text : (output races verdict witness : Data) (a b c d : List ℕ) → compact_text output ≡ a → compact_text races ≡ b → compact_text verdict ≡ c → compact_text witness ≡ d
@@ -77,26 +78,26 @@ members_text output races verdict witness a b c d e f g h = rw (e, f, g, h) refl
 regroup : (p a q b r c s d t : List ℕ) → p ++ (a ++ (q ++ (b ++ (r ++ (c ++ (s ++ (d ++ t))))))) ≡ p ++ a ++ q ++ b ++ r ++ c ++ s ++ d ++ t
 regroup p a q b r c s d t = simp append_assoc
 
-report_text_is : (output : List Line) (v : Verdict) (races : List Pair) (w : Option Schedule) → ArePrinted output
-    → compact_text (report_data (map (λ l. l.text) output) (map (λ p. (p.first + 1, p.second + 1)) races) (verdict_text v) (option_map text_of w)) ≡ object_text output v races w
-report_text_is output v races w printed =
+report_text_is : (output : List Line) (v : Verdict) (races : List Pair) (w : Option Schedule) (version : Version) → ArePrinted output
+    → compact_text (report_data (map (λ l. l.text) output) (map (λ p. (p.first + 1, p.second + 1)) races) (verdict_text v) (option_map (text_in version) w)) ≡ object_text output v races w version
+report_text_is output v races w version printed =
     let texts = map (λ l. l.text) output in
     let places = map (λ p. (p.first + 1, p.second + 1)) races in
     let a = array (map (λ l. quoted l.text) output) in
     let b = array (map race_array races) in
     let c = quoted (verdict_text v) in
-    let d = witness_value w in
+    let d = witness_value version w in
     let output_is = array_text (map string texts) ∙ ap array (lines_texts output (recursion_from_All _ output printed)) in
     let races_is = array_text (map places_data places) ∙ ap array (races_texts races) in
-    members_text (texts_data texts) (races_data places) (string (verdict_text v)) (witness_data (option_map text_of w)) a b c d
-    output_is races_is (quoted_is (verdict_text v) (verdict_plain v)) (witness_is w)
+    members_text (texts_data texts) (races_data places) (string (verdict_text v)) (witness_data (option_map (text_in version) w)) a b c d
+    output_is races_is (quoted_is (verdict_text v) (verdict_plain v)) (witness_is version w)
     ∙ regroup (codes "{\"output\":") a (codes ",\"races\":") b (codes ",\"verdict\":") c (codes ",\"witness\":") d (codes "}")
 
 -- the same of what was told
-pub told_text_is : (output : List Line) (v : Verdict) (races : List Pair) (w : Option Schedule) (texts : List (List ℕ)) (places : List (ℕ × ℕ)) (verdict : List ℕ) (witness : Option (List ℕ)) (bytes : List ℕ)
-    → ArePrinted output → texts ≡ map (λ l. l.text) output → places ≡ map (λ p. (p.first + 1, p.second + 1)) races → verdict ≡ verdict_text v → witness ≡ option_map text_of w
-    → bytes ≡ compact_text (report_data texts places verdict witness) → bytes ≡ object_text output v races w
-told_text_is output v races w texts places verdict witness bytes printed e f g h k = rw (k, e, f, g, h) (report_text_is output v races w printed)
+pub told_text_is : (output : List Line) (v : Verdict) (races : List Pair) (w : Option Schedule) (version : Version) (texts : List (List ℕ)) (places : List (ℕ × ℕ)) (verdict : List ℕ) (witness : Option (List ℕ)) (bytes : List ℕ)
+    → ArePrinted output → texts ≡ map (λ l. l.text) output → places ≡ map (λ p. (p.first + 1, p.second + 1)) races → verdict ≡ verdict_text v → witness ≡ option_map (text_in version) w
+    → bytes ≡ compact_text (report_data texts places verdict witness) → bytes ≡ object_text output v races w version
+told_text_is output v races w version texts places verdict witness bytes printed e f g h k = rw (k, e, f, g, h) (report_text_is output v races w version printed)
 
 -- ---- no member is a float
 

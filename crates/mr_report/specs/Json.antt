@@ -5,7 +5,8 @@ use Rattle.std.specs.List.{join_with_byte, list_all}
 use Rattle.mr_base.specs.declared.reason.Verdict.{Verdict}
 use Rattle.mr_event.specs.declared.footprint.Pair.{Pair}
 use Rattle.mr_sched.specs.declared.schedule.Schedule.{Schedule}
-use Rattle.mr_sched.specs.Spelling.{text_of}
+use Rattle.mr_sched.specs.declared.version.Version.{Version}
+use Rattle.mr_sched.specs.Versions.{text_in}
 use Rattle.mr_report.specs.declared.report.Line.{Line}
 use Rattle.mr_report.specs.Report.{line, verdict_text}
 
@@ -33,20 +34,20 @@ array items = codes "[" ++ join_with_byte 44 items ++ codes "]"
 abbrev pub race_array : Pair → List ℕ
 race_array p = array (decimal (p.first + 1) ∷ decimal (p.second + 1) ∷ [])
 
--- the text of the schedule as a string, or `null`
-abbrev pub witness_value : Option Schedule → List ℕ
-witness_value None = codes "null"
-witness_value (Some w) = quoted (text_of w)
+-- the text of the schedule in a version as a string, or `null`
+abbrev pub witness_value : Version → Option Schedule → List ℕ
+witness_value version None = codes "null"
+witness_value version (Some w) = quoted (text_in version w)
 
 -- the object with its four members in order: the printed texts, the races, the verdict and the witness
-abbrev pub object_text : List Line → Verdict → List Pair → Option Schedule → List ℕ
-object_text output v races witness =
+abbrev pub object_text : List Line → Verdict → List Pair → Option Schedule → Version → List ℕ
+object_text output v races witness version =
     codes "{\"output\":" ++ array (map (λ l. quoted l.text) output)
     ++ codes ",\"races\":" ++ array (map race_array races)
     ++ codes ",\"verdict\":" ++ quoted (verdict_text v)
-    ++ codes ",\"witness\":" ++ witness_value witness
+    ++ codes ",\"witness\":" ++ witness_value version witness
     ++ codes "}"
 
 -- THE JSON OF A REPORT: the object, and LF
-abbrev pub json_text : List Line → Verdict → List Pair → Option Schedule → List ℕ
-json_text output v races witness = line (object_text output v races witness)
+abbrev pub json_text : List Line → Verdict → List Pair → Option Schedule → Version → List ℕ
+json_text output v races witness version = line (object_text output v races witness version)

@@ -5,7 +5,8 @@ use Rattle.mr_base.specs.declared.reason.Verdict.TheVariants as verdict
 use Rattle.mr_base.specs.Reasons.{code_of, name_of}
 use Rattle.mr_event.specs.declared.footprint.Pair.{Pair}
 use Rattle.mr_sched.specs.declared.schedule.Schedule.{Schedule}
-use Rattle.mr_sched.specs.Spelling.{text_of}
+use Rattle.mr_sched.specs.declared.version.Version.{Version}
+use Rattle.mr_sched.specs.Versions.{text_in}
 use Rattle.mr_report.specs.declared.report.Line.{Line}
 
 -- a line, ended by LF
@@ -37,17 +38,18 @@ count_line races = line (codes "races " ++ decimal (length races))
 abbrev pub races_text : List Pair → List ℕ
 races_text races = count_line races ++ flat_map race_line races
 
--- `witness N`, and the text of the schedule, which has N entries
-abbrev pub witness_text : Option Schedule → List ℕ
-witness_text None = []
-witness_text (Some w) = line (codes "witness " ++ decimal (length w.entries)) ++ text_of w
+-- `witness N`, and the text of the schedule in a version; it has N entries
+abbrev pub witness_text : Version → Option Schedule → List ℕ
+witness_text version None = []
+witness_text version (Some w) = line (codes "witness " ++ decimal (length w.entries)) ++ text_in version w
 
 -- a report in brief: the prints in order, the verdict, and how many races there are
 abbrev pub brief_text : List Line → Verdict → List Pair → List ℕ
 brief_text output v races =
     flat_map print_line output ++ line (codes "verdict " ++ verdict_text v) ++ count_line races
 
--- THE TEXT OF A REPORT: the prints in order, the verdict, the races, and the witness where there is one
-abbrev pub report_text : List Line → Verdict → List Pair → Option Schedule → List ℕ
-report_text output v races witness =
-    flat_map print_line output ++ line (codes "verdict " ++ verdict_text v) ++ races_text races ++ witness_text witness
+-- THE TEXT OF A REPORT: the prints in order, the verdict, the races, and the witness where there is one, in a version
+abbrev pub report_text : List Line → Verdict → List Pair → Option Schedule → Version → List ℕ
+report_text output v races witness version =
+    flat_map print_line output ++ line (codes "verdict " ++ verdict_text v) ++ races_text races
+    ++ witness_text version witness

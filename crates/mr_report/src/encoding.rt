@@ -1,7 +1,7 @@
 //! The JSON of a report.
 ghost use Rattle.std.specs.Prelude.{◌≡◌, ◌+◌, ◌++◌, IfOk, OnErr, OnOk, map, option_copied, option_map, string_bytes};
 ghost use Rattle.std.specs.Str.{IsUtf8};
-ghost use Rattle.mr_sched.specs.Spelling.{text_of};
+ghost use Rattle.mr_sched.specs.Versions.{text_in};
 ghost use Rattle.mr_report.specs.Json.{ArePrinted, json_text, object_text};
 ghost use Rattle.mr_report.specs.Report.{verdict_text};
 ghost use Rattle.mr_report.specs.Sent.{races_data, texts_data, told_data, witness_data};
@@ -12,7 +12,7 @@ use crate::report::{Line, Report};
 use crate::writing::push_verdict_text;
 use mr_base::Verdict;
 use mr_event::Pair;
-use mr_sched::{Schedule, print};
+use mr_sched::{Schedule, Version, print_version};
 use serde::{Described, Serialize, Serializer};
 use std::alloc::Global;
 use std::str;
@@ -121,28 +121,32 @@ fn told_verdict(alloc: Global, verdict: Verdict) -> Result<String, OutOfMemory>
     Ok(told_string(text))
 }
 
-// The text of the witness, where there is one.
-fn told_witness(alloc: Global, witness: Option<&Schedule>) -> Result<Option<String>, OutOfMemory>
-    ensures { IfOk result (λ text. option_map string_bytes text ≡ option_map text_of (option_copied witness.entry)) }
+// The text of the witness in a version, where there is one.
+fn told_witness(
+    alloc: Global,
+    witness: Option<&Schedule>,
+    version: Version,
+) -> Result<Option<String>, OutOfMemory>
+    ensures { IfOk result (λ text. option_map string_bytes text ≡ option_map (text_in version) (option_copied witness.entry)) }
 {
     let Some(schedule) = witness else {
         return Ok(None);
     };
     let mut text = Vec::new(alloc);
-    print(alloc, schedule, &mut text)?;
+    print_version(alloc, version, schedule, &mut text)?;
     Ok(Some(told_string(text)))
 }
 
 // The object with no line feed behind it. The writer fails only for want of memory.
 fn object(alloc: Global, r: &Report<'_>) -> Result<Vec<u8>, OutOfMemory>
     requires texts { ArePrinted r.now.output.now }
-    ensures { IfOk result (λ bytes. bytes.items ≡ object_text r.now.output.now r.now.verdict r.now.races.now (option_copied r.now.witness)) }
+    ensures { IfOk result (λ bytes. bytes.items ≡ object_text r.now.output.now r.now.verdict r.now.races.now (option_copied r.now.witness) r.now.version) }
 {
     let told = Told {
         output: told_texts(alloc, r.output)?,
         races: told_races(alloc, r.races)?,
         verdict: told_verdict(alloc, r.verdict)?,
-        witness: told_witness(alloc, r.witness)?,
+        witness: told_witness(alloc, r.witness, r.version)?,
     };
     match serde_json::to_vec(alloc, &told) {
         Ok(bytes) => Ok(bytes),
@@ -151,11 +155,11 @@ fn object(alloc: Global, r: &Report<'_>) -> Result<Vec<u8>, OutOfMemory>
 }
 
 /// Appends a report as one JSON object and a line feed: `output`, the printed texts, which have no bytes but digits, small letters, `-` and
-/// space; `races`, for each the places of its two steps, counted from 1; `verdict`; and `witness`, the text of the schedule, or null. An
+/// space; `races`, for each the places of its two steps, counted from 1; `verdict`; and `witness`, the text of the schedule in its version, or null. An
 /// `Err` is for want of memory, and leaves `out` as it was.
 pub fn json(alloc: Global, r: &Report<'_>, out: &mut Vec<u8>) -> Result<(), OutOfMemory>
     requires texts { ArePrinted r.now.output.now }
-    ensures ok { OnOk result (out.new.items ≡ out.old.items ++ json_text r.now.output.now r.now.verdict r.now.races.now (option_copied r.now.witness)) }
+    ensures ok { OnOk result (out.new.items ≡ out.old.items ++ json_text r.now.output.now r.now.verdict r.now.races.now (option_copied r.now.witness) r.now.version) }
     ensures err { OnErr result (out.new.items ≡ out.old.items) }
 {
     let mut bytes = object(alloc, r)?;

@@ -1,7 +1,7 @@
 //! What a run comes to.
 use mr_base::Verdict;
 use mr_event::Pair;
-use mr_sched::{Items, Schedule};
+use mr_sched::{Items, Schedule, Version};
 
 /// A print: the thread that made it, and its bytes.
 #[derive(Drop)]
@@ -20,4 +20,6 @@ pub struct Report<'a> {
     pub races: &'a [Pair],
     /// A schedule that brings the machine to the first race, where it is known.
     pub witness: Option<&'a Schedule>,
+    /// The version in which the witness is written.
+    pub version: Version,
 }

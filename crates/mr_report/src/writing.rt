@@ -8,7 +8,7 @@ use crate::report::{Line, Report};
 use itoa::Buffer;
 use mr_base::Verdict;
 use mr_event::Pair;
-use mr_sched::{Schedule, print};
+use mr_sched::{Schedule, Version, print_version};
 use std::alloc::Global;
 
 // Appends a number in decimal.
@@ -122,13 +122,14 @@ fn push_pairs(out: &mut Vec<u8>, races: &[Pair]) -> Result<(), OutOfMemory>
     Ok(())
 }
 
-// How many entries a witness has, and its text, where there is one.
+// How many entries a witness has, and its text in a version, where there is one.
 fn push_witness(
     alloc: Global,
     out: &mut Vec<u8>,
     witness: Option<&Schedule>,
+    version: Version,
 ) -> Result<(), OutOfMemory>
-    ensures ok { OnOk result (out.new.items ≡ out.old.items ++ witness_text (option_copied witness.entry)) }
+    ensures ok { OnOk result (out.new.items ≡ out.old.items ++ witness_text version (option_copied witness.entry)) }
     ensures err { OnErr result (Extends out.old.items out.new.items) }
 {
     let Some(schedule) = witness else {
@@ -137,24 +138,24 @@ fn push_witness(
     out.extend_from_slice(b"witness ")?;
     push_number(out, schedule.entries.len() as u64)?;
     out.push(b'\n')?;
-    print(alloc, schedule, out)
+    print_version(alloc, version, schedule, out)
 }
 
 // The same, where a part of the text may stand behind what was there after want of memory.
 fn push_report(alloc: Global, r: &Report<'_>, out: &mut Vec<u8>) -> Result<(), OutOfMemory>
-    ensures ok { OnOk result (out.new.items ≡ out.old.items ++ report_text r.now.output.now r.now.verdict r.now.races.now (option_copied r.now.witness)) }
+    ensures ok { OnOk result (out.new.items ≡ out.old.items ++ report_text r.now.output.now r.now.verdict r.now.races.now (option_copied r.now.witness) r.now.version) }
     ensures err { OnErr result (Extends out.old.items out.new.items) }
 {
     push_output(out, r.output)?;
     push_verdict(out, r.verdict)?;
     push_races(out, r.races)?;
-    push_witness(alloc, out, r.witness)
+    push_witness(alloc, out, r.witness, r.version)
 }
 
-/// Appends the text of a report: a line for each print, the verdict, the races, and the witness where there is one. An `Err` is for want of
+/// Appends the text of a report: a line for each print, the verdict, the races, and the witness in its version where there is one. An `Err` is for want of
 /// memory, and leaves `out` as it was.
 pub fn text(alloc: Global, r: &Report<'_>, out: &mut Vec<u8>) -> Result<(), OutOfMemory>
-    ensures ok { OnOk result (out.new.items ≡ out.old.items ++ report_text r.now.output.now r.now.verdict r.now.races.now (option_copied r.now.witness)) }
+    ensures ok { OnOk result (out.new.items ≡ out.old.items ++ report_text r.now.output.now r.now.verdict r.now.races.now (option_copied r.now.witness) r.now.version) }
     ensures err { OnErr result (out.new.items ≡ out.old.items) }
 {
     let len = out.len();

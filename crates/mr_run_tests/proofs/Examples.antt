@@ -1,5 +1,5 @@
 -- Picks, races and short runs, and what the definitions say of them, computed.
-use Rattle.std.proofs.Common.{◌≡◌, ℕ, suc, true, false, List, [], ◌∷◌, length, replicate, Option, Some, None, codes, refl}
+use Rattle.std.proofs.Common.{◌≡◌, ℕ, suc, true, false, List, [], ◌∷◌, length, replicate, Option, Some, None, codes, refl, ap, ◌∙◌}
 use Rattle.std.specs.Fmt.{digits}
 use Rattle.mr_base.specs.Accesses.{some_race}
 use Rattle.mr_base.specs.declared.access.Access.{Access}
@@ -24,20 +24,34 @@ use Rattle.mr_ast.specs.declared.program.Stmt.{Stmt}
 use Rattle.mr_ast.specs.declared.program.Target.TheVariants as target
 use Rattle.mr_ast.specs.declared.program.Term.{Term}
 use Rattle.mr_ast.specs.declared.program.Term.TheVariants as term
+use Rattle.mr_layout.specs.Rules as layout_rules
+use Rattle.mr_layout.specs.TypeOk.{broken_rule}
+use Rattle.mr_layout.proofs.BrokenLaws.{broken_tuple}
 use Rattle.mr_mem.specs.Memory.{Ranges, range_fault}
 use Rattle.mr_sched.specs.declared.schedule.Ask.{Ask}
 use Rattle.mr_sched.specs.declared.schedule.Ask.TheVariants.{Address, Waiter}
 use Rattle.mr_sched.specs.declared.schedule.Entry.{Entry}
 use Rattle.mr_event.specs.declared.footprint.Footprint.{Footprint}
 use Rattle.mr_event.specs.Footprints as footprints
+use Rattle.mr_script.specs.Script.{Done, Undefined, ◌>>=◌, run as run_script}
+use Rattle.mr_base.specs.declared.reason.Verdict.{Verdict}
+use Rattle.mr_plan.specs.Machine.{CreatesNothing, settled, thread_of}
+use Rattle.mr_plan.specs.Notes.{start_notes}
+use Rattle.mr_plan.specs.Queries.{answer}
+use Rattle.mr_frame.specs.Frames.{Frame, Look}
 use Rattle.mr_frame.specs.Operations as operations
+use Rattle.mr_frame.specs.Operations.{do_at}
+use Rattle.std.specs.Prelude.{◌++◌, if◌then◌else◌}
+use Rattle.mr_wf.specs.Broken.{Codes}
+use Rattle.mr_frame.specs.Sites.{Site, none_broken, site_of}
+use Rattle.mr_frame.specs.Steps.{FramePlan, plan_at}
 use Rattle.mr_frame.specs.Sites as sites
 use Rattle.mr_frame.specs.Steps as steps
 use Rattle.mr_plan.specs.Legal.{Fault, fault, picks_fault}
-use Rattle.mr_plan.specs.Runs.{Config, machine_step, races_with}
+use Rattle.mr_plan.specs.Runs.{Config, after_bare, machine_step, races_with}
 use Rattle.mr_intr.specs.Texts.{number_text, spaced}
-use Rattle.mr_thread.specs.Steps.{Own, thread_step}
-use Rattle.mr_start.specs.Start.{item_bytes, look_of, run_of, start_config}
+use Rattle.mr_thread.specs.Steps.{Own, TurnPlan, in_step, own_step, reads, step_due, thread_step}
+use Rattle.mr_start.specs.Start.{item_bytes, look_of, run_of, start_config, start_memory}
 
 -- ---- numbers as they are printed
 
@@ -205,13 +219,53 @@ own picks = record { thread = 0; picks = picks }
 abbrev run : Program → List Entry → Config Own
 run p entries = run_of p (record { start = 16 ∷ 32 ∷ []; entries = entries })
 
+-- a unit breaks no rule
+pub unit_ok : broken_rule unit ≡ None
+unfolding layout_rules.tuple_rules lib.Count.ones
+unit_ok = broken_tuple 0 1 []
+
 -- `return;`
 returning : Program
 returning = small Regular term.Return
 
+-- its frame, which stands at the end
+abbrev returning_look : Look
+returning_look = look_of returning (16 ∷ 32 ∷ [])
+
+abbrev returning_frame : Frame
+returning_frame = record { function = 0; locals = Some (record { addr = 32; prov = Some (main_id 1) }) ∷ []; block = 0; at = 0; call = None }
+
+abbrev returning_main : Own
+returning_main = record { thread = 0; stack = record { frames = returning_frame ∷ []; payloads = [] } }
+
+abbrev returning_here : Site
+returning_here = record { function = function [] (block Regular [] term.Return ∷ []); block = block Regular [] term.Return; frame = returning_frame; below = [] }
+
+-- no rule is broken there
+returning_site : site_of returning_look returning_main.stack ≡ Some returning_here
+unfolding look_of returning sites.site_of
+returning_site =
+    ap (λ (o : Option ℕ). if none_broken ((((elim o as (λ _. Codes) [ Some code ↦ code ∷ [] | None ↦ [] ] ++ []) ++ []) ++ []) ++ []) then Some returning_here else None) unit_ok
+
+returning_step : own_step returning_look returning_main ≡ Done (record { creates = CreatesNothing; asks = []; go = λ picks. Undefined reason.MainReturned })
+unfolding own_step operations.next_do steps.frame_plan sites.due_of
+returning_step =
+    ap (λ o. step_due returning_look returning_main (do_at o)) returning_site
+    ∙ ap (λ (f : FramePlan). reads f >>= λ plan. Done (in_step returning_main plan)) (ap (plan_at returning_look 0 returning_main.stack) returning_site)
+
+-- the verdict behind a step
+abbrev verdict_of : TurnPlan → Verdict
+verdict_of step = (after_bare (thread_step returning_look) (start_config returning (16 ∷ 32 ∷ []))
+    (settled
+    (record {
+      shared = record { memory = start_memory returning (16 ∷ 32 ∷ []); statuses = Enabled ∷ []; holders = [] };
+      threads = thread_of returning_main 2 ∷ [];
+    }) 0
+    (run_script answer (step >>= λ plan. plan.go []) (record { memory = start_memory returning (16 ∷ 32 ∷ []); statuses = Enabled ∷ []; holders = [] }, start_notes 0 2)))).verdict
+
 main_returned : (run returning (own [] ∷ [])).verdict ≡ verdict.Undefined reason.MainReturned
-unfolding run_of machine_step thread_step look_of start_config returning operations.next_do sites.site_of sites.due_of steps.frame_plan
-main_returned = refl
+unfolding run_of machine_step start_config returning
+main_returned = ap verdict_of returning_step
 
 -- ---- the bytes of globals
 

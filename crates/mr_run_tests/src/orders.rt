@@ -1,11 +1,16 @@
-//! Footprints as texts: which depend on one another, which keep the machine's limits, and the order and the races of their runs.
+//! Footprints as texts: which depend on one another or link, which keep the machine's limits, and the order and the races of their
+//! runs, by comparing all steps and by clocks.
 //!
 //! A step is a thread and what it does, as `1 store 4096,wake 2`. Each access has four bytes; an allocation is named by the
 //! thread that made it; a number that says nothing is 0. A run is its steps, with `; ` between them.
 ghost use Rattle.std.specs.Prelude.{◌<◌, length};
 
 use mr_base::{Access, AllocId};
-use mr_event::{Event, Footprint, OutOfMemory, depends, follows_plain, foot_ok, predicted_plain};
+use mr_clocks::{follows, predicted_by_clocks};
+use mr_event::{
+    Event, Footprint, OutOfMemory, Pair, depends, follows_plain, foot_ok, predicted_plain,
+};
+use mr_links::{links, rivals, thread_at};
 use std::alloc::Global;
 use std::test::Fail;
 
@@ -88,7 +93,8 @@ fn step(alloc: Global, text: &str) -> Result<Footprint, OutOfMemory> {
     Ok(foot)
 }
 
-fn run_of(alloc: Global, text: &str) -> Result<Vec<Footprint>, OutOfMemory> {
+/// The run of a text.
+pub fn run_of(alloc: Global, text: &str) -> Result<Vec<Footprint>, OutOfMemory> {
     let mut run = Vec::new(alloc);
     for line in text.split(';') {
         let foot = step(alloc, line.trim())?;
@@ -97,9 +103,43 @@ fn run_of(alloc: Global, text: &str) -> Result<Vec<Footprint>, OutOfMemory> {
     Ok(run)
 }
 
+/// How what a run shows is found.
+#[derive(Clone, Copy)]
+enum Way {
+    Plain,
+    Clocks,
+}
+
+fn predicted(way: Way, alloc: Global, run: &[Footprint]) -> Result<Vec<Pair>, OutOfMemory> {
+    match way {
+        Way::Plain => predicted_plain(alloc, run),
+        Way::Clocks => predicted_by_clocks(alloc, run),
+    }
+}
+
+// For each step whether the step `first` happens before it.
+fn marked(
+    way: Way,
+    alloc: Global,
+    run: &[Footprint],
+    first: usize,
+) -> Result<Vec<bool>, OutOfMemory>
+    requires { first < length run.now }
+{
+    match way {
+        Way::Plain => follows_plain(alloc, run, first),
+        Way::Clocks => follows(alloc, run, first),
+    }
+}
+
 // The pairs of the predicted races.
-fn show_races(told: &mut String, alloc: Global, run: &[Footprint]) -> Result<(), OutOfMemory> {
-    let pairs = predicted_plain(alloc, run)?;
+fn show_races(
+    told: &mut String,
+    way: Way,
+    alloc: Global,
+    run: &[Footprint],
+) -> Result<(), OutOfMemory> {
+    let pairs = predicted(way, alloc, run)?;
     for pair in pairs.iter() {
         write!(told, "{} {}, ", pair.first, pair.second)?;
     }
@@ -109,30 +149,45 @@ fn show_races(told: &mut String, alloc: Global, run: &[Footprint]) -> Result<(),
 // The steps that the step `first` happens before.
 fn show_followers(
     told: &mut String,
+    way: Way,
     alloc: Global,
     run: &[Footprint],
     first: usize,
 ) -> Result<(), OutOfMemory>
     requires { first < length run.now }
 {
-    let follows = follows_plain(alloc, run, first)?;
-    for (k, follows) in follows.iter().enumerate() {
-        if *follows {
+    let marked = marked(way, alloc, run, first)?;
+    for (k, is_behind) in marked.iter().enumerate() {
+        if *is_behind {
             write!(told, " {k}")?;
         }
     }
     Ok(())
 }
 
-fn told(alloc: Global, text: &str, first: usize) -> Result<String, OutOfMemory> {
+fn told(way: Way, alloc: Global, text: &str, first: usize) -> Result<String, OutOfMemory> {
     let mut told = String::new(alloc);
     let run = run_of(alloc, text)?;
-    show_races(&mut told, alloc, run.as_slice())?;
+    show_races(&mut told, way, alloc, run.as_slice())?;
     write!(told, "behind {first}:")?;
     if first < run.len() {
-        show_followers(&mut told, alloc, run.as_slice(), first)?;
+        show_followers(&mut told, way, alloc, run.as_slice(), first)?;
     }
     Ok(told)
+}
+
+// Whether both ways find the same steps behind each step of a run.
+fn are_ways_alike(alloc: Global, text: &str) -> Result<bool, OutOfMemory> {
+    let run = run_of(alloc, text)?;
+    let run = run.as_slice();
+    for first in 0..run.len() {
+        let plain = marked(Way::Plain, alloc, run, first)?;
+        let by_clocks = marked(Way::Clocks, alloc, run, first)?;
+        if plain.as_slice() != by_clocks.as_slice() {
+            return Ok(false);
+        }
+    }
+    Ok(true)
 }
 
 /// A run, a place in it, and the races of the run with the steps behind that place.
@@ -245,6 +300,54 @@ fn is_dependent(alloc: Global, text: &str) -> Result<bool, OutOfMemory> {
     })
 }
 
+/// A run, its threads, and for each pair of steps whether the earlier one links to the later one (`-`) or is its rival (`x`).
+static LINKS: [(&str, &str); 4] = [
+    (
+        "0 spawn 1,wake 1; 1 store 64; 0 store 64; 1 end 0",
+        "0 1 0 1: 0-1 0-2 1x2 0-3 1-3 ",
+    ),
+    (
+        "0 create 0; 1 acquire 0; 2 atomic-store 64; 1 atomic-store 64; 2 load 64",
+        "0 1 2 1 2: 0-1 1-3 2-3 2-4 3x4 ",
+    ),
+    // Atomic at one place, and a race at another.
+    (
+        "1 store 68,atomic-store 64; 2 atomic-load 64,store 68; 2",
+        "1 2 2: 0x1 1-2 ",
+    ),
+    // A thread that was woken, and one that wasn't.
+    ("0 release 0,wake 2; 1 acquire 1; 2 store 64", "0 1 2: 0-2 "),
+];
+
+fn show_pairs(told: &mut String, run: &[Footprint], j: usize) -> Result<(), OutOfMemory>
+    requires { j < length run.now }
+{
+    for i in 0..j {
+        if links(run, i, j) {
+            write!(told, "{i}-{j} ")?;
+        }
+        if rivals(run, i, j) {
+            write!(told, "{i}x{j} ")?;
+        }
+    }
+    Ok(())
+}
+
+fn links_told(alloc: Global, text: &str) -> Result<String, OutOfMemory> {
+    let run = run_of(alloc, text)?;
+    let run = run.as_slice();
+    let mut told = String::new(alloc);
+    for k in 0..run.len() {
+        let thread = thread_at(run, k);
+        let end = if k + 1 < run.len() { " " } else { ": " };
+        write!(told, "{thread}{end}")?;
+    }
+    for j in 0..run.len() {
+        show_pairs(&mut told, run, j)?;
+    }
+    Ok(told)
+}
+
 /// A step, and whether it keeps the limits.
 static LIMITS: [(&str, bool); 18] = [
     ("1023", true),
@@ -314,15 +417,40 @@ fn are_lists_kept(alloc: Global) -> Result<bool, OutOfMemory> {
 }
 
 // Whether what is told of a run is what is wanted.
-fn is_told(alloc: Global, text: &str, first: usize, wanted: &str) -> Result<bool, OutOfMemory> {
-    let said = told(alloc, text, first)?;
+fn is_told(
+    way: Way,
+    alloc: Global,
+    text: &str,
+    first: usize,
+    wanted: &str,
+) -> Result<bool, OutOfMemory> {
+    let said = told(way, alloc, text, first)?;
     Ok(said.as_str() == wanted)
 }
 
 // The first row that is told otherwise, in each table.
-fn first_wrong_run(alloc: Global) -> Result<Option<usize>, OutOfMemory> {
+fn first_wrong_run(way: Way, alloc: Global) -> Result<Option<usize>, OutOfMemory> {
     for (n, (text, first, wanted)) in RUNS.iter().enumerate() {
-        if !is_told(alloc, text, *first, wanted)? {
+        if !is_told(way, alloc, text, *first, wanted)? {
+            return Ok(Some(n));
+        }
+    }
+    Ok(None)
+}
+
+fn first_other_way(alloc: Global) -> Result<Option<usize>, OutOfMemory> {
+    for (n, (text, _, _)) in RUNS.iter().enumerate() {
+        if !are_ways_alike(alloc, text)? {
+            return Ok(Some(n));
+        }
+    }
+    Ok(None)
+}
+
+fn first_wrong_links(alloc: Global) -> Result<Option<usize>, OutOfMemory> {
+    for (n, (text, wanted)) in LINKS.iter().enumerate() {
+        let said = links_told(alloc, text)?;
+        if said.as_str() != *wanted {
             return Ok(Some(n));
         }
     }
@@ -359,8 +487,14 @@ fn first_wrong_access(alloc: Global) -> Result<Option<usize>, OutOfMemory> {
 #[test]
 fn footprints_are_ordered(rt: HostRuntime) -> Result<(), Fail> {
     let alloc = rt.alloc();
-    let (run, dependence) = (first_wrong_run(alloc)?, first_wrong_dependence(alloc)?);
-    assert_eq!(rt; (run, dependence), (None, None));
+    for way in [Way::Plain, Way::Clocks] {
+        assert_eq!(rt; first_wrong_run(way, alloc)?, None);
+    }
+    assert_eq!(rt; first_other_way(alloc)?, None);
+    assert_eq!(rt;
+        (first_wrong_links(alloc)?, first_wrong_dependence(alloc)?),
+        (None, None)
+    );
     let (limit, access) = (first_wrong_limit(alloc)?, first_wrong_access(alloc)?);
     assert_eq!(rt; (limit, access, are_lists_kept(alloc)?), (None, None, true));
     Ok(())

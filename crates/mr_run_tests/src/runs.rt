@@ -63,8 +63,8 @@ fn told(
 // What the run of a program under a schedule comes to, where footprints are handed out or not.
 fn run(alloc: Global, program: &str, schedule: &str, handed: bool) -> Result<String, Fail> {
     let program = checked(alloc, program)?;
-    let schedule = match mr_sched::read(alloc, schedule.as_bytes()) {
-        Ok(schedule) => schedule,
+    let schedule = match mr_sched::read_version(alloc, schedule.as_bytes()) {
+        Ok(read) => read.schedule,
         Err(_) => return Err("no schedule".into()),
     };
     match Machine::start(alloc, &program, schedule.start.as_slice()) {

@@ -1,9 +1,8 @@
 -- A line is read before those behind it.
-use Rattle.std.proofs.Common.{◌≡◌, ℕ, ◌+◌, cond, List, [], ◌∷◌, ◌++◌, Err, refl}
-use Rattle.std.specs.Prelude.{bytes_eq}
-use Rattle.mr_sched.specs.declared.fault.TheConstants.{BAD_HEADER}
-use Rattle.mr_sched.specs.Spelling.{header_line}
-use Rattle.mr_sched.specs.Reading.{body_of, entries_of, entry_of, entry_then, lines_schedule, parts_at, start_of, start_then}
+use Rattle.std.proofs.Common.{◌≡◌, ℕ, ◌+◌, List, [], ◌∷◌, ◌++◌, refl}
+use Rattle.mr_sched.specs.declared.schedule.Entry.{Entry}
+use Rattle.mr_sched.specs.declared.version.Version.{Version}
+use Rattle.mr_sched.specs.Reading.{body_of, entries_from, group_of, header_then, line_then, lines_schedule, on_entries, parts_at, start_of, start_then, version_of}
 
 -- there is a line
 abbrev pub HasFirst : List (List ℕ) → Type 0
@@ -14,15 +13,15 @@ pub rest_or_line : (lines : List (List ℕ)) (rest : List ℕ) → HasFirst (lin
 rest_or_line [] rest = (rest, [], refl)
 rest_or_line (line ∷ lines) rest = (line, lines ++ rest ∷ [], refl)
 
-pub entries_of-line : (n : ℕ) (line : List ℕ) (lines : List (List ℕ)) → HasFirst lines → entries_of n (line ∷ lines) ≡ entry_then n (entry_of (parts_at 32 line)) (entries_of (n + 1) lines)
-unfolding entries_of
-entries_of-line n line lines h = rw h.2 refl
+pub entries_from-line : (v : Version) (front : List Entry) (line : ℕ) (first : List ℕ) (lines : List (List ℕ)) → HasFirst lines
+    → entries_from v front line (first ∷ lines) ≡ on_entries (λ es. entries_from v es (line + 1) lines) (line_then v front line (group_of v first))
+unfolding entries_from
+entries_from-line v front line first lines h = rw h.2 refl
 
-pub body_of-line : (line : List ℕ) (lines : List (List ℕ)) → HasFirst lines → body_of (line ∷ lines) ≡ start_then (start_of (parts_at 32 line)) (entries_of 0 lines)
+pub body_of-line : (v : Version) (line : List ℕ) (lines : List (List ℕ)) → HasFirst lines → body_of v (line ∷ lines) ≡ start_then v (start_of (parts_at 32 line)) (entries_from v [] 3 lines)
 unfolding body_of
-body_of-line line lines h = rw h.2 refl
+body_of-line v line lines h = rw h.2 refl
 
-pub lines_schedule-line : (line : List ℕ) (lines : List (List ℕ)) → HasFirst lines
-    → lines_schedule (line ∷ lines) ≡ cond (bytes_eq line header_line) (body_of lines) (Err (record { line = 1; code = BAD_HEADER }))
+pub lines_schedule-line : (line : List ℕ) (lines : List (List ℕ)) → HasFirst lines → lines_schedule (line ∷ lines) ≡ header_then (version_of line) lines
 unfolding lines_schedule
 lines_schedule-line line lines h = rw h.2 refl

@@ -1,6 +1,9 @@
+pub mod VersionLaws
 pub mod EntryLaws
 pub mod FirstLines
+pub mod GroupLaws
 pub mod LineLaws
+pub mod LineOfLaws
 pub mod Loops
 pub mod Numerals
 pub mod Parts

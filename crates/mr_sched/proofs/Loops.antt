@@ -1,18 +1,26 @@
 -- Reading one item after the other, as the code does.
-use Rattle.std.proofs.Common.{◌≡◌, ℕ, ◌+◌, ◌^◌, ◌<◌, ◌≤◌, false, eqb, List, [], ◌∷◌, ◌++◌, length, Option, Some, None, Result, Ok, Err, refl, sym, ap, ◌∙◌, append_assoc, arith}
-use Rattle.std.specs.Prelude.{option_map}
+use Rattle.std.proofs.Common.{◌≡◌, ℕ, zero, suc, ◌+◌, ◌-◌, ◌^◌, ◌<◌, ◌≤◌, true, false, eqb, List, [], ◌∷◌, ◌++◌, length, Option, Some, None, Result, Ok, Err, refl, sym, ap, subst, ◌∙◌, append_assoc, arith}
+use Rattle.std.specs.Prelude.{option_map, replicate, IfOk}
 use Rattle.std.specs.List.{join_with_byte}
 use Rattle.std.proofs.lemmas.Bool.{lt-ltb, le-ltb, ne_eqb}
-use Rattle.std.proofs.lemmas.List.{append-nil, length_push, nil_from_length}
+use Rattle.std.proofs.lemmas.List.{append-nil, nil_from_length}
 use Rattle.std.proofs.lemmas.List.Splits.{join_with_byte-slice_split}
 use Rattle.mr_sched.specs.declared.fault.SchedFault.{SchedFault}
 use Rattle.mr_sched.specs.declared.fault.SchedFault.TheVariants.{Bad, Memory}
 use Rattle.mr_sched.specs.declared.fault.TheConstants.{BAD_LINE, TOO_LONG}
 use Rattle.mr_sched.specs.declared.schedule.Entry.{Entry}
-use Rattle.mr_sched.specs.declared.schedule.Schedule.{Schedule}
-use Rattle.mr_sched.specs.Reading.{Fault, Gives, at_line, body_of, entries_of, entry_of, number_of, parts_at, parts_after, picks_of, start_of, with_entry}
-use Rattle.mr_sched.proofs.FirstLines.{body_of-line, entries_of-line}
+use Rattle.mr_sched.specs.declared.version.Group.{Group}
+use Rattle.mr_sched.specs.declared.version.Read.{Read}
+use Rattle.mr_sched.specs.declared.version.Version.{Version}
+use Rattle.mr_sched.specs.Versions.{GroupFits, joins, last_entry}
+use Rattle.mr_sched.specs.Reading.{Fault, Gives, at_line, body_of, entries_from, group_of, line_then, number_of, on_entries, parts_at, parts_after, picks_of, starred_of, start_of}
+use Rattle.mr_sched.proofs.FirstLines.{body_of-line, entries_from-line}
+use Rattle.mr_sched.proofs.GroupLaws.{group_spelled, length_with}
 use Rattle.mr_sched.proofs.Parts.{parts_at-first}
+
+-- these entries
+abbrev pub all_read : List Entry → Result (List Entry) Fault
+all_read es = Ok es
 
 -- what a line gave that did not fail, or failed
 pub some_at_line : {A : Type 0} (line : ℕ) (o : Option A) (x : A) → at_line line o ≡ Ok x → o ≡ Some x
@@ -69,68 +77,97 @@ picks_end front rest whole e so_far = sym so_far ∙ rw e (picks_with-nil front)
 
 -- ---- the entries
 
--- entries, and those that were read behind them
-abbrev pub with_front : List Entry → Result (List Entry) Fault → Result (List Entry) Fault
-with_front front (Ok es) = Ok (front ++ es)
-with_front front (Err f) = Err f
+pub line_goes_on : (v : Version) (front es : List Entry) (line : ℕ) (rest first after : List ℕ) (whole : Result (List Entry) Fault) → parts_at 10 rest ≡ first ∷ parts_at 10 after
+    → line_then v front line (group_of v first) ≡ Ok es → entries_from v front line (parts_at 10 rest) ≡ whole → entries_from v es (line + 1) (parts_at 10 after) ≡ whole
+line_goes_on v front es line rest first after whole parts found so_far =
+    sym
+    (ap (entries_from v front line) parts ∙ entries_from-line v front line first (parts_at 10 after) (parts_at-first 10 after)
+    ∙ ap (on_entries (λ es. entries_from v es (line + 1) (parts_at 10 after))) found)
+    ∙ so_far
 
--- the entries that were read, and those of the lines that are left
-abbrev pub entries_with : List Entry → List (List ℕ) → Result (List Entry) Fault
-entries_with front lines = with_front front (entries_of (length front) lines)
+pub line_stops : (v : Version) (front : List Entry) (line : ℕ) (rest first after : List ℕ) (f : SchedFault) (whole : Result (List Entry) Fault) → parts_at 10 rest ≡ first ∷ parts_at 10 after
+    → Gives {A = List Entry} (Err f) (line_then v front line (group_of v first)) → entries_from v front line (parts_at 10 rest) ≡ whole → Gives (Err f) whole
+line_stops v front line rest first after Memory whole parts failed so_far = tt
+line_stops v front line rest first after (Bad k code) whole parts failed so_far =
+    sym so_far ∙ ap (entries_from v front line) parts ∙ entries_from-line v front line first (parts_at 10 after) (parts_at-first 10 after)
+    ∙ ap (on_entries (λ es. entries_from v es (line + 1) (parts_at 10 after))) failed
 
-regroup_entries : (front : List Entry) (e : Entry) (rest : Result (List Entry) Fault) → with_front front (with_entry e rest) ≡ with_front (front ++ e ∷ []) rest
-regroup_entries front e (Ok es) = ap (λ (w : List Entry). Ok w) (simp append_assoc)
-regroup_entries front e (Err f) = refl
-
-pub entries_go_on : (front : List Entry) (rest line after : List ℕ) (e : Entry) (whole : Result (List Entry) Fault) → parts_at 10 rest ≡ line ∷ parts_at 10 after
-    → at_line (length front + 3) (entry_of (parts_at 32 line)) ≡ Ok e → length front < 2 ^ 20 → entries_with front (parts_at 10 rest) ≡ whole → entries_with (front ++ e ∷ []) (parts_at 10 after) ≡ whole
-entries_go_on front rest line after e whole parts found lt so_far =
-    let some = some_at_line (length front + 3) (entry_of (parts_at 32 line)) e found in
-    let one : entries_with front (line ∷ parts_at 10 after) ≡ with_front (front ++ e ∷ []) (entries_of (length front + 1) (parts_at 10 after)) =
-    rw (entries_of-line (length front) line (parts_at 10 after) (parts_at-first 10 after), some, lt-ltb (length front) (2 ^ 20) lt) (regroup_entries front e (entries_of (length front + 1) (parts_at 10 after))) in
-    rw length_push (sym one ∙ ap (entries_with front) (sym parts) ∙ so_far)
-
-pub entries_stop : (front : List Entry) (rest line after : List ℕ) (f : SchedFault) (whole : Result (List Entry) Fault) → parts_at 10 rest ≡ line ∷ parts_at 10 after
-    → Gives (Err f) (at_line (length front + 3) (entry_of (parts_at 32 line))) → entries_with front (parts_at 10 rest) ≡ whole → Gives (Err f) whole
-entries_stop front rest line after Memory whole parts failed so_far = tt
-entries_stop front rest line after (Bad k code) whole parts failed so_far =
-    let none = none_at_line (length front + 3) (entry_of (parts_at 32 line)) (record { line = k; code = code }) failed in
-    sym so_far ∙ ap (entries_with front) parts ∙ rw (entries_of-line (length front) line (parts_at 10 after) (parts_at-first 10 after), none.0) (ap (λ (f : Fault). Err f) none.1)
-
-pub entries_too_long : (front : List Entry) (rest line after : List ℕ) (e : Entry) (whole : Result (List Entry) Fault) → parts_at 10 rest ≡ line ∷ parts_at 10 after
-    → at_line (length front + 3) (entry_of (parts_at 32 line)) ≡ Ok e → 2 ^ 20 ≤ length front → entries_with front (parts_at 10 rest) ≡ whole → whole ≡ Err (record { line = length front + 3; code = TOO_LONG })
-entries_too_long front rest line after e whole parts found le so_far =
-    let some = some_at_line (length front + 3) (entry_of (parts_at 32 line)) e found in
-    sym so_far ∙ ap (entries_with front) parts ∙ rw (entries_of-line (length front) line (parts_at 10 after) (parts_at-first 10 after), some, le-ltb (length front) (2 ^ 20) le) refl
-
-pub entries_unended : (front : List Entry) (rest line : List ℕ) (whole : Result (List Entry) Fault) → parts_at 10 rest ≡ line ∷ [] → 0 < length rest
-    → entries_with front (parts_at 10 rest) ≡ whole → whole ≡ Err (record { line = length front + 3; code = BAD_LINE })
-unfolding entries_of
-entries_unended front rest line whole parts some so_far =
+pub entries_unended : (v : Version) (front : List Entry) (n : ℕ) (rest line : List ℕ) (whole : Result (List Entry) Fault) → parts_at 10 rest ≡ line ∷ [] → 0 < length rest
+    → entries_from v front n (parts_at 10 rest) ≡ whole → whole ≡ Err (record { line = n; code = BAD_LINE })
+unfolding entries_from
+entries_unended v front n rest line whole parts some so_far =
     let same : line ≡ rest = sym (ap (join_with_byte 10) parts) ∙ join_with_byte-slice_split 10 rest in
     let test : eqb (length line) 0 ≡ false = ne_eqb (length line) 0 (λ e. omega (arith, ap length same)) in
-    sym so_far ∙ ap (entries_with front) parts ∙ rw test refl
+    sym so_far ∙ ap (entries_from v front n) parts ∙ rw test refl
 
-pub entries_end : (front : List Entry) (rest : List ℕ) (whole : Result (List Entry) Fault) → length rest ≡ 0 → entries_with front (parts_at 10 rest) ≡ whole → whole ≡ Ok front
-unfolding entries_of
-entries_end front rest whole none so_far =
-    sym so_far ∙ ap (λ (t : List ℕ). entries_with front (parts_at 10 t)) (nil_from_length rest none) ∙ ap (λ (w : List Entry). Ok w) (append-nil front)
+pub entries_end : (v : Version) (front : List Entry) (n : ℕ) (rest : List ℕ) (whole : Result (List Entry) Fault) → length rest ≡ 0 → entries_from v front n (parts_at 10 rest) ≡ whole → whole ≡ Ok front
+unfolding entries_from
+entries_end v front n rest whole none so_far = sym so_far ∙ ap (λ (t : List ℕ). entries_from v front n (parts_at 10 t)) (nil_from_length rest none)
 
-pub entries_with-nil : (lines : List (List ℕ)) → entries_with [] lines ≡ entries_of 0 lines
-entries_with-nil lines = same (entries_of 0 lines) where
-  same : (read : Result (List Entry) Fault) → with_front [] read ≡ read
-  same (Ok es) = refl
-  same (Err f) = refl
+-- ---- a line
+
+pub line_joined : (v : Version) (front : List Entry) (line : ℕ) (g : Group) (o : Option Group) → at_line line o ≡ Ok g → joins v (last_entry None front) g.entry ≡ true
+    → line_then v front line o ≡ Err (record { line = line; code = BAD_LINE })
+line_joined v front line g o found joined = rw (some_at_line line o g found, joined) refl
+
+pub line_full : (v : Version) (front : List Entry) (line : ℕ) (g : Group) (o : Option Group) → at_line line o ≡ Ok g → joins v (last_entry None front) g.entry ≡ false → 2 ^ 22 < length front + g.count
+    → line_then v front line o ≡ Err (record { line = line; code = TOO_LONG })
+line_full v front line g o found apart full = rw (some_at_line line o g found, apart, lt-ltb (2 ^ 22) (length front + g.count) full) refl
+
+pub line_taken : (v : Version) (front : List Entry) (line : ℕ) (g : Group) (o : Option Group) → at_line line o ≡ Ok g → joins v (last_entry None front) g.entry ≡ false → length front + g.count ≤ 2 ^ 22
+    → line_then v front line o ≡ Ok (front ++ replicate g.count g.entry)
+line_taken v front line g o found apart few = rw (some_at_line line o g found, apart, le-ltb (2 ^ 22) (length front + g.count) few) refl
+
+pub line_fails : (v : Version) (front : List Entry) (line : ℕ) (o : Option Group) (f : SchedFault) → Gives {A = Group} (Err f) (at_line line o) → Gives {A = List Entry} (Err f) (line_then v front line o)
+line_fails v front line o Memory failed = tt
+line_fails v front line o (Bad k code) failed =
+    let none = none_at_line line o (record { line = k; code = code }) failed in
+    rw none.0 (ap (λ (f : Fault). Err f) none.1)
+
+pub line_fits : (v : Version) (text : List ℕ) (line : ℕ) (g : Group) → at_line line (group_of v text) ≡ Ok g → GroupFits v g
+line_fits v text line g found = (group_spelled v text g (some_at_line line (group_of v text) g found)).0
+
+-- what was pushed is what the line gives
+pub pushed_line : (v : Version) (front : List Entry) (line : ℕ) (g : Group) (o : Option Group) (r : Result (List Entry) SchedFault) → at_line line o ≡ Ok g → joins v (last_entry None front) g.entry ≡ false
+    → length front + g.count ≤ 2 ^ 22 → Gives r (all_read (front ++ replicate g.count g.entry)) → Gives r (line_then v front line o)
+pushed_line v front line g o r found apart few given = subst (Gives r) (sym (line_taken v front line g o found apart few)) given
+
+pub pushed_more : (front : List Entry) (g : Group) (r : Result (List Entry) SchedFault) → 1 ≤ g.count → length front + g.count ≤ 2 ^ 22 → Gives r (all_read (front ++ replicate g.count g.entry))
+    → IfOk r (λ es. (length front + 1 ≤ length es) × (length es ≤ 2 ^ 22))
+pushed_more front g (Err f) some few given = tt
+pushed_more front g (Ok es) some few given =
+    let same : front ++ replicate g.count g.entry ≡ es = cc in
+    let len : length es ≡ length front + g.count = ap length (sym same) ∙ length_with front g in
+    (omega (arith, len), omega (arith, len))
+
+-- a line with two stars spells nothing
+pub starred_twice : (text thread after count more : List ℕ) → parts_at 42 text ≡ thread ∷ parts_at 42 after → parts_at 42 after ≡ count ∷ parts_at 42 more → starred_of text (parts_at 42 text) ≡ None
+starred_twice text thread after count more one two =
+    let p = parts_at-first 42 more in
+    ap (starred_of text) (one ∙ ap (λ (ws : List (List ℕ)). thread ∷ ws) (two ∙ ap (λ (ws : List (List ℕ)). count ∷ ws) p.2))
+
+-- one more of the entries of a line
+pub one_pushed : (es whole : List Entry) (left : ℕ) (e : Entry) → 1 < left → e.picks ≡ [] → es ++ replicate left e ≡ whole → (es ++ record { thread = e.thread; picks = [] } ∷ []) ++ replicate (left - 1) e ≡ whole
+one_pushed es whole zero e more bare so_far = absurd (omega arith)
+one_pushed es whole (suc left) e more bare so_far =
+    let made : Entry = record { thread = e.thread; picks = [] } in
+    let same : made ≡ e = ap (λ (ns : List ℕ). let x : Entry = record { thread = e.thread; picks = ns } in x) (sym bare) in
+    let less : suc left - 1 ≡ left = omega arith in
+    ap (λ (n : ℕ). (es ++ made ∷ []) ++ replicate n e) less
+    ∙ ap (λ (x : Entry). (es ++ x ∷ []) ++ replicate left e) same ∙ append_assoc es (e ∷ []) (replicate left e) ∙ so_far
+
+pub last_pushed : (es whole : List Entry) (left : ℕ) (e : Entry) → left ≡ 1 → es ++ replicate left e ≡ whole → es ++ e ∷ [] ≡ whole
+last_pushed es whole left e one so_far = sym (ap (λ (n : ℕ). es ++ replicate n e) one) ∙ so_far
 
 -- ---- line 2, and then the entries
 
-pub body_read : (text line rest picks : List ℕ) (es : List Entry) → parts_at 10 text ≡ line ∷ parts_at 10 rest → at_line 2 (start_of (parts_at 32 line)) ≡ Ok picks
-    → entries_of 0 (parts_at 10 rest) ≡ Ok es → body_of (parts_at 10 text) ≡ Ok (record { start = picks; entries = es })
-body_read text line rest picks es parts start entries =
-    rw (parts, body_of-line line (parts_at 10 rest) (parts_at-first 10 rest), some_at_line 2 (start_of (parts_at 32 line)) picks start, entries) refl
+pub body_read : (v : Version) (text line rest picks : List ℕ) (es : List Entry) → parts_at 10 text ≡ line ∷ parts_at 10 rest → at_line 2 (start_of (parts_at 32 line)) ≡ Ok picks
+    → entries_from v [] 3 (parts_at 10 rest) ≡ Ok es → body_of v (parts_at 10 text) ≡ Ok (record { schedule = record { start = picks; entries = es }; version = v })
+body_read v text line rest picks es parts start entries =
+    rw (parts, body_of-line v line (parts_at 10 rest) (parts_at-first 10 rest), some_at_line 2 (start_of (parts_at 32 line)) picks start, entries) refl
 
-pub body_stops : (text line rest picks : List ℕ) (f : SchedFault) → parts_at 10 text ≡ line ∷ parts_at 10 rest → at_line 2 (start_of (parts_at 32 line)) ≡ Ok picks
-    → Gives {A = List Entry} (Err f) (entries_of 0 (parts_at 10 rest)) → Gives {A = Schedule} (Err f) (body_of (parts_at 10 text))
-body_stops text line rest picks Memory parts start failed = tt
-body_stops text line rest picks (Bad k code) parts start failed =
-    rw (parts, body_of-line line (parts_at 10 rest) (parts_at-first 10 rest), some_at_line 2 (start_of (parts_at 32 line)) picks start, failed) refl
+pub body_stops : (v : Version) (text line rest picks : List ℕ) (f : SchedFault) → parts_at 10 text ≡ line ∷ parts_at 10 rest → at_line 2 (start_of (parts_at 32 line)) ≡ Ok picks
+    → Gives {A = List Entry} (Err f) (entries_from v [] 3 (parts_at 10 rest)) → Gives {A = Read} (Err f) (body_of v (parts_at 10 text))
+body_stops v text line rest picks Memory parts start failed = tt
+body_stops v text line rest picks (Bad k code) parts start failed =
+    rw (parts, body_of-line v line (parts_at 10 rest) (parts_at-first 10 rest), some_at_line 2 (start_of (parts_at 32 line)) picks start, failed) refl

@@ -1,5 +1,5 @@
 -- What the words of a line spell is spelled by that line, and no other.
-use Rattle.std.proofs.Common.{◌≡◌, ℕ, ◌^◌, ◌<◌, true, not, eqb, List, [], ◌∷◌, ◌++◌, map, Option, Some, None, refl, sym, ap, subst, ◌∙◌, arith, inl, inr}
+use Rattle.std.proofs.Common.{◌≡◌, ◌≢◌, ℕ, ◌^◌, ◌<◌, true, not, eqb, List, [], ◌∷◌, ◌++◌, map, Option, Some, None, refl, sym, ap, subst, ◌∙◌, arith, inl, inr}
 use Rattle.std.specs.Prelude.{option_map, option_and_then, decimal, codes, bytes_eq}
 use Rattle.std.specs.List.{join_with_byte, list_all}
 use Rattle.std.specs.Str.Parse.{AllDigits}
@@ -11,7 +11,10 @@ use Rattle.std.proofs.lemmas.Fmt.{decimal_is_IsNumeral}
 use Rattle.std.proofs.lemmas.Slice.Eq.{bytes_eq-Decides}
 use Rattle.std.proofs.lemmas.Str.Parse.{digit_from_value}
 use Rattle.mr_sched.specs.declared.schedule.Entry.{Entry}
-use Rattle.mr_sched.specs.Spelling.{spaced, header_line, start_line, entry_line, PicksFit, EntryFits}
+use Rattle.mr_sched.specs.Spelling.{spaced, start_line, entry_line, PicksFit, EntryFits}
+use Rattle.mr_sched.specs.declared.version.Version.{Version}
+use Rattle.mr_sched.specs.declared.version.Version.TheVariants.{One, Two}
+use Rattle.mr_sched.specs.Versions.{header_in}
 use Rattle.mr_sched.specs.Faults.{IsUnbroken}
 use Rattle.mr_sched.specs.Reading.{number_of, parts_at, picks_of, start_of, entry_of}
 use Rattle.mr_sched.proofs.Numerals.{spelled_from_number, number_of-decimal}
@@ -19,7 +22,7 @@ use Rattle.mr_sched.proofs.Parts.{IsFreeOf, parts_at-free, parts_at-append}
 
 -- ---- bytes that aren't in a line
 
-free-append : (c : ℕ) (a b : List ℕ) → IsFreeOf c a → IsFreeOf c b → IsFreeOf c (a ++ b)
+pub free-append : (c : ℕ) (a b : List ℕ) → IsFreeOf c a → IsFreeOf c b → IsFreeOf c (a ++ b)
 free-append c [] b free more = more
 free-append c (x ∷ a) b free more = (free.0, free-append c a b free.1 more)
 
@@ -27,33 +30,34 @@ digits_free : (c : ℕ) (ds : List ℕ) → c < 48 → AllDigits 10 ds → IsFre
 digits_free c [] lt all = tt
 digits_free c (d ∷ ds) lt all = (λ e. omega (arith, digit_from_value d all.0), digits_free c ds lt all.1)
 
-decimal_free : (c n : ℕ) → c < 48 → n < 2 ^ 64 → IsFreeOf c (decimal n)
+pub decimal_free : (c n : ℕ) → c < 48 → n < 2 ^ 64 → IsFreeOf c (decimal n)
 decimal_free c n lt small = digits_free c (decimal n) lt (decimal_is_IsNumeral n small).0.1
 
-spaced_free : (ns : List ℕ) → PicksFit ns → IsUnbroken (spaced ns)
-spaced_free [] fit = tt
-spaced_free (n ∷ ns) fit = (λ e. omega arith, free-append 10 (decimal n) (spaced ns) (decimal_free 10 n (omega arith) fit.0) (spaced_free ns fit.1))
+spaced_free : (c : ℕ) (ns : List ℕ) → c < 48 → 32 ≢ c → PicksFit ns → IsFreeOf c (spaced ns)
+spaced_free c [] lt other fit = tt
+spaced_free c (n ∷ ns) lt other fit = (other, free-append c (decimal n) (spaced ns) (decimal_free c n lt fit.0) (spaced_free c ns lt other fit.1))
 
 free_by_test : (c : ℕ) (text : List ℕ) → list_all (λ b. not (eqb b c)) text ≡ true → IsFreeOf c text
 free_by_test c [] e = tt
 free_by_test c (b ∷ text) e = let p = and_parts (not (eqb b c)) _ e in (eqb-false b c (not-true _ p.0), free_by_test c text p.1)
 
-pub header_unbroken : IsUnbroken header_line
-header_unbroken = free_by_test 10 header_line refl
+pub header_unbroken : (v : Version) → IsUnbroken (header_in v)
+header_unbroken One = free_by_test 10 (header_in One) refl
+header_unbroken Two = free_by_test 10 (header_in Two) refl
 
 pub start_unbroken : (picks : List ℕ) → PicksFit picks → IsUnbroken (start_line picks)
-start_unbroken picks fit = free-append 10 (codes "start") (spaced picks) (free_by_test 10 (codes "start") refl) (spaced_free picks fit)
+start_unbroken picks fit = free-append 10 (codes "start") (spaced picks) (free_by_test 10 (codes "start") refl) (spaced_free 10 picks (omega arith) (λ e. omega arith) fit)
 
-pub entry_unbroken : (e : Entry) → EntryFits e → IsUnbroken (entry_line e)
-entry_unbroken e fit = free-append 10 (decimal e.thread) (spaced e.picks) (decimal_free 10 e.thread (omega arith) (let t = fit.thread in omega arith)) (spaced_free e.picks fit.picks)
+pub entry_free : (c : ℕ) (e : Entry) → c < 48 → 32 ≢ c → EntryFits e → IsFreeOf c (entry_line e)
+entry_free c e lt other fit = free-append c (decimal e.thread) (spaced e.picks) (decimal_free c e.thread lt (let t = fit.thread in omega arith)) (spaced_free c e.picks lt other fit.picks)
 
 -- ---- picks
 
-and_then_some : {A B : Type 0} (f : A → Option B) (o : Option A) (y : B) → option_and_then f o ≡ Some y → (x : A) × (o ≡ Some x) × (f x ≡ Some y)
+pub and_then_some : {A B : Type 0} (f : A → Option B) (o : Option A) (y : B) → option_and_then f o ≡ Some y → (x : A) × (o ≡ Some x) × (f x ≡ Some y)
 and_then_some f None y e = absurd cc
 and_then_some f (Some x) y e = (x, refl, e)
 
-map_some : {A B : Type 0} (f : A → B) (o : Option A) (y : B) → option_map f o ≡ Some y → (x : A) × (o ≡ Some x) × (f x ≡ y)
+pub map_some : {A B : Type 0} (f : A → B) (o : Option A) (y : B) → option_map f o ≡ Some y → (x : A) × (o ≡ Some x) × (f x ≡ y)
 map_some f None y e = absurd cc
 map_some f (Some x) y e = (x, refl, same_Some (f x) y e)
 
@@ -80,8 +84,8 @@ words_again first (n ∷ ns) free fit =
     parts_at-append 32 first (decimal n ++ spaced ns) free
     ∙ ap (λ (w : List (List ℕ)). first ∷ w) (words_again (decimal n) ns (decimal_free 32 n (omega arith) fit.0) fit.1)
 
-joined : (line : List ℕ) (words : List (List ℕ)) → parts_at 32 line ≡ words → line ≡ join_with_byte 32 words
-joined line words e = sym (join_with_byte-slice_split 32 line) ∙ ap (join_with_byte 32) e
+pub joined : (c : ℕ) (line : List ℕ) (words : List (List ℕ)) → parts_at c line ≡ words → line ≡ join_with_byte c words
+joined c line words e = sym (join_with_byte-slice_split c line) ∙ ap (join_with_byte c) e
 
 -- ---- the start picks
 
@@ -94,7 +98,7 @@ start_from_words line (word ∷ words) picks parts e =
       | inl t ↦
           let h = picks_spelled word words picks (rw t at e) in
           let is_start : word ≡ codes "start" = (bytes_eq-Decides word (codes "start")).0 t in
-          (h.1, joined line (word ∷ words) parts ∙ h.0 ∙ ap (λ (w : List ℕ). w ++ spaced picks) is_start)
+          (h.1, joined 32 line (word ∷ words) parts ∙ h.0 ∙ ap (λ (w : List ℕ). w ++ spaced picks) is_start)
     ]
 
 pub start_spelled : (line picks : List ℕ) → start_of (parts_at 32 line) ≡ Some picks → PicksFit picks × (line ≡ start_line picks)
@@ -115,7 +119,7 @@ entry_from_words line (word ∷ words) e parts found =
     let n = spelled_from_number (2 ^ 32) word a.0 (omega arith) a.1 in
     let h = picks_spelled word words b.0 b.1 in
     subst (λ (w : Entry). EntryFits w × (line ≡ entry_line w)) b.2
-    (record { thread = n.1; picks = h.1 }, joined line (word ∷ words) parts ∙ h.0 ∙ ap (λ (w : List ℕ). w ++ spaced b.0) n.0)
+    (record { thread = n.1; picks = h.1 }, joined 32 line (word ∷ words) parts ∙ h.0 ∙ ap (λ (w : List ℕ). w ++ spaced b.0) n.0)
 
 pub entry_spelled : (line : List ℕ) (e : Entry) → entry_of (parts_at 32 line) ≡ Some e → EntryFits e × (line ≡ entry_line e)
 entry_spelled line e found = entry_from_words line (parts_at 32 line) e refl found

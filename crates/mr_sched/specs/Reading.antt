@@ -1,6 +1,6 @@
 -- Reading a schedule from its text, as functions on lists that compute.
 use Rattle.std.specs.Prelude.{◌≡◌, ℕ, ◌+◌, ◌^◌, Bool, false, ◌&&◌, not, if◌then◌else◌, ◌==◌, nat_lt, List, [], ◌∷◌}
-use Rattle.std.specs.Prelude.{length, Option, Some, None, Result, Ok, Err, option_and_then, option_map, bytes_eq, codes}
+use Rattle.std.specs.Prelude.{◌++◌, replicate, length, Option, Some, None, Result, Ok, Err, option_and_then, option_map, bytes_eq, codes}
 use Rattle.std.specs.List.{slice_split}
 use Rattle.std.specs.Char.{is_ascii_digit}
 use Rattle.std.specs.Str.{all_ascii_digits}
@@ -9,8 +9,11 @@ use Rattle.mr_sched.specs.declared.fault.SchedFault.{SchedFault}
 use Rattle.mr_sched.specs.declared.fault.SchedFault.TheVariants.{Bad, Memory}
 use Rattle.mr_sched.specs.declared.fault.TheConstants.{BAD_HEADER, BAD_LINE, TOO_LONG}
 use Rattle.mr_sched.specs.declared.schedule.Entry.{Entry}
-use Rattle.mr_sched.specs.declared.schedule.Schedule.{Schedule}
-use Rattle.mr_sched.specs.Spelling.{header_line}
+use Rattle.mr_sched.specs.declared.version.Read.{Read}
+use Rattle.mr_sched.specs.declared.version.Group.{Group}
+use Rattle.mr_sched.specs.declared.version.Version.{Version}
+use Rattle.mr_sched.specs.declared.version.Version.TheVariants.{One, Two}
+use Rattle.mr_sched.specs.Versions.{joins, last_entry}
 
 -- where a text stops being a schedule, lines being counted from 1, and why
 pub record Fault : Type 0 where
@@ -65,44 +68,84 @@ abbrev pub at_line : {A : Type 0} → ℕ → Option A → Result A Fault
 at_line line None = Err (record { line = line; code = BAD_LINE })
 at_line line (Some x) = Ok x
 
--- an entry, and those behind it
-abbrev pub with_entry : Entry → Result (List Entry) Fault → Result (List Entry) Fault
-with_entry e (Ok es) = Ok (e ∷ es)
-with_entry e (Err f) = Err f
+-- a number of entries that one line may hold beside its thread: two or more
+unfoldable pub count_of : List ℕ → Option ℕ
+count_of word = option_and_then (λ n. if nat_lt 1 n then Some n else None) (number_of (2 ^ 64) word)
 
--- what the entry of line n + 3 makes of the entries behind it, n being how many stand before it
-abbrev pub entry_then : ℕ → Option Entry → Result (List Entry) Fault → Result (List Entry) Fault
-entry_then n None others = Err (record { line = n + 3; code = BAD_LINE })
-entry_then n (Some e) others =
-    if nat_lt n (2 ^ 20) then with_entry e others else Err (record { line = n + 3; code = TOO_LONG })
+-- the entries that a thread and a count spell
+unfoldable pub repeated_of : List ℕ → List ℕ → Option Group
+repeated_of thread count =
+    option_and_then (λ t. option_map (λ n. record { entry = record { thread = t; picks = [] }; count = n }) (count_of count))
+    (number_of (2 ^ 32) thread)
 
--- the entries of the lines from line n + 3 on
-unfoldable pub entries_of : ℕ → List (List ℕ) → Result (List Entry) Fault
-entries_of n [] = Ok []
-entries_of n (rest ∷ []) = if length rest == 0 then Ok [] else Err (record { line = n + 3; code = BAD_LINE })
-entries_of n (line ∷ next ∷ lines) = entry_then n (entry_of (parts_at 32 line)) (entries_of (n + 1) (next ∷ lines))
+-- an entry that stands alone on its line
+abbrev pub single : Option Entry → Option Group
+single o = option_map (λ e. record { entry = e; count = 1 }) o
+
+-- the entries that a line spells, the words between its stars being these
+abbrev pub starred_of : List ℕ → List (List ℕ) → Option Group
+starred_of line [] = None
+starred_of line (word ∷ []) = single (entry_of (parts_at 32 line))
+starred_of line (thread ∷ count ∷ []) = repeated_of thread count
+starred_of line (thread ∷ count ∷ other ∷ more) = None
+
+-- the entries that a line spells
+unfoldable pub group_of : Version → List ℕ → Option Group
+group_of One line = single (entry_of (parts_at 32 line))
+group_of Two line = starred_of line (parts_at 42 line)
+
+-- the entries so far and those of a line behind them
+abbrev pub line_then : Version → List Entry → ℕ → Option Group → Result (List Entry) Fault
+line_then v front line None = Err (record { line = line; code = BAD_LINE })
+line_then v front line (Some g) =
+    if joins v (last_entry None front) g.entry then Err (record { line = line; code = BAD_LINE })
+    else if nat_lt (2 ^ 22) (length front + g.count) then Err (record { line = line; code = TOO_LONG })
+    else Ok (front ++ replicate g.count g.entry)
+
+-- what comes of entries, where there is no fault
+abbrev pub on_entries : {A : Type 0} → (List Entry → Result A Fault) → Result (List Entry) Fault → Result A Fault
+on_entries f (Ok es) = f es
+on_entries f (Err fault) = Err fault
+
+-- the entries so far and those of the lines from this one on
+unfoldable pub entries_from : Version → List Entry → ℕ → List (List ℕ) → Result (List Entry) Fault
+entries_from v front line [] = Ok front
+entries_from v front line (rest ∷ []) =
+    if length rest == 0 then Ok front else Err (record { line = line; code = BAD_LINE })
+entries_from v front line (first ∷ next ∷ lines) =
+    on_entries (λ es. entries_from v es (line + 1) (next ∷ lines)) (line_then v front line (group_of v first))
 
 -- a schedule of these start picks, if the line spells any, and these entries
-abbrev pub start_then : Option (List ℕ) → Result (List Entry) Fault → Result Schedule Fault
-start_then None others = Err (record { line = 2; code = BAD_LINE })
-start_then (Some picks) (Ok es) = Ok (record { start = picks; entries = es })
-start_then (Some picks) (Err f) = Err f
+abbrev pub start_then : Version → Option (List ℕ) → Result (List Entry) Fault → Result Read Fault
+start_then v None others = Err (record { line = 2; code = BAD_LINE })
+start_then v (Some picks) (Ok es) = Ok (record { schedule = record { start = picks; entries = es }; version = v })
+start_then v (Some picks) (Err f) = Err f
 
 -- the schedule of the lines from line 2 on
-unfoldable pub body_of : List (List ℕ) → Result Schedule Fault
-body_of [] = Err (record { line = 2; code = BAD_LINE })
-body_of (rest ∷ []) = Err (record { line = 2; code = BAD_LINE })
-body_of (line ∷ next ∷ lines) = start_then (start_of (parts_at 32 line)) (entries_of 0 (next ∷ lines))
+unfoldable pub body_of : Version → List (List ℕ) → Result Read Fault
+body_of v [] = Err (record { line = 2; code = BAD_LINE })
+body_of v (rest ∷ []) = Err (record { line = 2; code = BAD_LINE })
+body_of v (line ∷ next ∷ lines) = start_then v (start_of (parts_at 32 line)) (entries_from v [] 3 (next ∷ lines))
+
+-- the version that the first line names
+abbrev pub version_of : List ℕ → Option Version
+version_of line =
+    if bytes_eq line (codes "schedule 1") then Some One
+    else if bytes_eq line (codes "schedule 2") then Some Two else None
+
+-- the schedule of the lines behind the first, if that names a version
+abbrev pub header_then : Option Version → List (List ℕ) → Result Read Fault
+header_then None lines = Err (record { line = 1; code = BAD_HEADER })
+header_then (Some v) lines = body_of v lines
 
 -- the schedule of the lines of a text
-unfoldable pub lines_schedule : List (List ℕ) → Result Schedule Fault
+unfoldable pub lines_schedule : List (List ℕ) → Result Read Fault
 lines_schedule [] = Err (record { line = 1; code = BAD_HEADER })
 lines_schedule (rest ∷ []) = Err (record { line = 1; code = BAD_HEADER })
-lines_schedule (line ∷ next ∷ lines) =
-    if bytes_eq line header_line then body_of (next ∷ lines) else Err (record { line = 1; code = BAD_HEADER })
+lines_schedule (line ∷ next ∷ lines) = header_then (version_of line) (next ∷ lines)
 
--- the schedule that the text spells, or its first fault
-unfoldable pub schedule_of : List ℕ → Result Schedule Fault
+-- the schedule and the version that the text spells, or its first fault
+unfoldable pub schedule_of : List ℕ → Result Read Fault
 schedule_of text =
     if nat_lt (2 ^ 26) (length text) then Err (record { line = 1; code = TOO_LONG })
     else lines_schedule (parts_at 10 text)

@@ -1,5 +1,5 @@
--- The text of a schedule. Each schedule has one.
-use Rattle.std.specs.Prelude.{◌≡◌, ℕ, ◌^◌, ◌<◌, ◌≤◌, List, [], ◌∷◌, ◌++◌, length, map, flat_map, codes, decimal}
+-- The text of a schedule in version 1, and which numbers fit. Each schedule has one.
+use Rattle.std.specs.Prelude.{◌≡◌, ℕ, ◌^◌, ◌<◌, List, [], ◌∷◌, ◌++◌, map, flat_map, codes, decimal}
 use Rattle.std.specs.List.{AllByRecursion}
 use Rattle.mr_sched.specs.declared.schedule.Entry.{Entry}
 use Rattle.mr_sched.specs.declared.schedule.Schedule.{Schedule}
@@ -45,17 +45,6 @@ pub record EntryFits (e : Entry) : Type 0 where
 pub record Fits (s : Schedule) : Type 0 where
   pub start : PicksFit s.start
   pub entries : AllByRecursion EntryFits s.entries
-
--- at most 2 ^ 20 entries, in at most 2 ^ 26 bytes
-pub record IsWithinLimits (s : Schedule) : Type 0 where
-  pub entries : length s.entries ≤ 2 ^ 20
-  pub bytes : length (text_of s) ≤ 2 ^ 26
-
--- the text is that of the schedule, which fits and is within the limits
-pub record Schedules (text : List ℕ) (s : Schedule) : Type 0 where
-  pub spelled : text ≡ text_of s
-  pub fits : Fits s
-  pub limits : IsWithinLimits s
 
 -- the new text is the old one, and maybe more behind it
 abbrev pub Extends : List ℕ → List ℕ → Type 0

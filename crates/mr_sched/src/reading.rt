@@ -1,74 +1,92 @@
 //! Reading the text of a schedule.
-ghost use Rattle.std.specs.Prelude.{◌≡◌, ℕ, ◌^◌, ◌<◌, ◌∷◌, length, IfSome, IfOk, option_copied, SomeIff, position, ◌==◌, ◌+◌, ◌*◌, ◌↔◌, IsTrue, slice_index};
+ghost use Rattle.std.specs.Prelude.{◌≡◌, ℕ, ◌^◌, ◌<◌, ◌≤◌, List, [], ◌∷◌, ◌++◌, length, replicate, IfSome, IfOk, option_copied, SomeIff, position, ◌==◌, ◌+◌, ◌*◌, ◌↔◌, IsTrue, slice_index};
 ghost use Rattle.std.specs.Char.{digit_value};
 ghost use Rattle.std.specs.Str.Parse.{AllDigits, digits_value};
+ghost use Rattle.mr_sched.specs.declared.schedule.Entry.{Entry};
 ghost use Rattle.mr_sched.specs.declared.schedule.Schedule.{Schedule};
+ghost use Rattle.mr_sched.specs.declared.version.Read.{Read};
+ghost use Rattle.mr_sched.specs.declared.version.Version.{Version};
 ghost use Rattle.mr_sched.specs.Faults.{FirstFault};
-ghost use Rattle.mr_sched.specs.Reading.{Gives, at_line, body_of, entries_of, entry_of, lines_schedule, number_of, parts_at, picks_of, schedule_of, start_of, parts_after};
-ghost use Rattle.mr_sched.specs.Spelling.{Schedules};
+ghost use Rattle.mr_sched.specs.Reading.{Gives, at_line, body_of, count_of, entries_from, entry_of, group_of, line_then, lines_schedule, number_of, parts_at, picks_of, repeated_of, schedule_of, single, starred_of, start_of, parts_after, version_of};
+ghost use Rattle.mr_sched.specs.Versions.{Schedules};
 
 use crate::fault::{BAD_HEADER, BAD_LINE, SchedFault, TOO_LONG};
 use crate::schedule::{Entry, Items, MAX_BYTES, MAX_ENTRIES, Schedule};
+use crate::version::{Group, Read, Version, joins};
 use std::alloc::Global;
 
-/// The schedule that a text spells, or the first fault of the text.
-pub fn read(alloc: Global, text: &[u8]) -> Result<Schedule, SchedFault>
+/// The schedule that a text spells and the version it is written in, or the first fault of the text.
+pub fn read_version(alloc: Global, text: &[u8]) -> Result<Read, SchedFault>
     // What the text gives, computed.
     ensures exact { Gives result (schedule_of text.now) }
 
     // What is read is spelled so, and what is spelled so is read.
-    ensures spelled { IfOk result (λ w. Schedules text.now w) }
-    ensures only { (w : Schedule) → Schedules text.now w → Gives result (Ok w) }
+    ensures spelled { IfOk result (λ r. Schedules text.now r.version r.schedule) }
+    ensures only { (v : Version) (w : Schedule) → Schedules text.now v w →
+        Gives {A = Read} result (Ok (record { schedule = w; version = v })) }
 
     // The fault is the first, and a text with a fault has that answer.
     ensures first { (line code : ℕ) →
         (result ≡ Err (SchedFault.Bad line code) → FirstFault text.now line code)
         × (FirstFault text.now line code
-        → Gives {A = Schedule} result (Err (record { line = line; code = code }))) }
+        → Gives {A = Read} result (Err (record { line = line; code = code }))) }
 {
     read_text(alloc, text)
 }
 
 #[tactic(auto, unfolding(crate::specs::Reading::schedule_of))]
-fn read_text(alloc: Global, text: &[u8]) -> Result<Schedule, SchedFault>
+fn read_text(alloc: Global, text: &[u8]) -> Result<Read, SchedFault>
     ensures { Gives result (schedule_of text.now) }
 {
     if text.len() > MAX_BYTES {
-        return Err(SchedFault::Bad {
-            line: 1,
-            code: TOO_LONG,
-        });
+        return Err(too_long(1));
     }
     read_lines(alloc, text)
 }
 
 // The schedule of the lines of a text.
 #[tactic(auto, unfolding(crate::specs::Reading::lines_schedule))]
-fn read_lines(alloc: Global, text: &[u8]) -> Result<Schedule, SchedFault>
+fn read_lines(alloc: Global, text: &[u8]) -> Result<Read, SchedFault>
     ensures { Gives result (lines_schedule (parts_at 10 text.now)) }
 {
     let (line, rest) = cut(text, b'\n');
-    match rest {
-        Some(rest) if line == b"schedule 1".as_slice() => read_body(alloc, rest),
-        _ => Err(SchedFault::Bad {
-            line: 1,
-            code: BAD_HEADER,
-        }),
+    let Some(rest) = rest else {
+        return Err(bad_header());
+    };
+    let Some(v) = version_of(line) else {
+        return Err(bad_header());
+    };
+    read_body(alloc, v, rest)
+}
+
+// The version that the first line names.
+fn version_of(line: &[u8]) -> Option<Version>
+    ensures { result ≡ version_of line.now }
+{
+    if line == b"schedule 1".as_slice() {
+        return Some(Version::One);
     }
+    if line == b"schedule 2".as_slice() {
+        return Some(Version::Two);
+    }
+    None
 }
 
 // The schedule of the lines from line 2 on.
 #[tactic(auto, unfolding(crate::specs::Reading::body_of))]
-fn read_body(alloc: Global, text: &[u8]) -> Result<Schedule, SchedFault>
-    ensures { Gives result (body_of (parts_at 10 text.now)) }
+fn read_body(alloc: Global, v: Version, text: &[u8]) -> Result<Read, SchedFault>
+    ensures { Gives result (body_of v (parts_at 10 text.now)) }
 {
     let (line, rest) = cut(text, b'\n');
     let Some(rest) = rest else {
         return Err(bad_line(2));
     };
     let start = read_start(alloc, line)?;
-    let entries = read_entries(alloc, rest)?;
-    Ok(Schedule { start, entries })
+    let entries = read_entries(alloc, v, rest)?;
+    Ok(Read {
+        schedule: Schedule { start, entries },
+        version: v,
+    })
 }
 
 // The start picks of line 2.
@@ -84,29 +102,126 @@ fn read_start(alloc: Global, text: &[u8]) -> Result<Items<u64>, SchedFault>
 }
 
 // The entries of the lines from line 3 on.
-fn read_entries(alloc: Global, text: &[u8]) -> Result<Items<Entry>, SchedFault>
-    ensures { Gives result (entries_of 0 (parts_at 10 text.now)) }
+fn read_entries(alloc: Global, v: Version, text: &[u8]) -> Result<Items<Entry>, SchedFault>
+    ensures { Gives result (entries_from v [] 3 (parts_at 10 text.now)) }
 {
     let mut entries = Items::new(alloc);
+    let mut line: u32 = 3;
     let mut rest = text;
     while !rest.is_empty() {
-        let count = entries.len();
-        let line = count as u32 + 3;
         let (first, after) = cut(rest, b'\n');
         let Some(after) = after else {
             return Err(bad_line(line));
         };
-        let entry = read_entry(alloc, first, line)?;
-        if count == MAX_ENTRIES {
-            return Err(SchedFault::Bad {
-                line,
-                code: TOO_LONG,
-            });
-        }
-        entries.push(entry)?;
+        entries = read_line(alloc, v, first, line, entries)?;
+        line += 1;
         rest = after;
     }
     Ok(entries)
+}
+
+// The entries so far, and those of a line behind them.
+fn read_line(
+    alloc: Global,
+    v: Version,
+    text: &[u8],
+    line: u32,
+    entries: Items<Entry>,
+) -> Result<Items<Entry>, SchedFault>
+    requires { length entries ≤ 2 ^ 22 }
+    ensures given { Gives result (line_then v entries line (group_of v text.now)) }
+    ensures more { IfOk result (λ es. (length entries + 1 ≤ length es) × (length es ≤ 2 ^ 22)) }
+{
+    let group = read_group(alloc, v, text, line)?;
+    if joins(v, entries.as_slice(), &group.entry) {
+        return Err(bad_line(line));
+    }
+    let room = MAX_ENTRIES - entries.len();
+    if group.count > room as u64 {
+        return Err(too_long(line));
+    }
+    push_group(alloc, group, entries)
+}
+
+// The entries, and those of a line behind them.
+fn push_group(
+    alloc: Global,
+    group: Group,
+    entries: Items<Entry>,
+) -> Result<Items<Entry>, SchedFault>
+    requires some { 1 ≤ group.count }
+    requires bare { 1 < group.count → group.entry.picks ≡ [] }
+    ensures { Gives {A = List Entry} result (Ok (entries ++ replicate group.count group.entry)) }
+{
+    let mut entries = entries;
+    let thread = group.entry.thread;
+    let mut left = group.count;
+    while left > 1 {
+        entries.push(Entry {
+            thread,
+            picks: Items::new(alloc),
+        })?;
+        left -= 1;
+    }
+    entries.push(group.entry)?;
+    Ok(entries)
+}
+
+// The entries that a line spells.
+#[tactic(auto, unfolding(crate::specs::Reading::group_of))]
+fn read_group(alloc: Global, v: Version, text: &[u8], line: u32) -> Result<Group, SchedFault>
+    ensures { Gives result (at_line line (group_of v text.now)) }
+{
+    match v {
+        Version::One => read_single(alloc, text, line),
+        Version::Two => read_starred(alloc, text, line),
+    }
+}
+
+fn read_single(alloc: Global, text: &[u8], line: u32) -> Result<Group, SchedFault>
+    ensures { Gives result (at_line line (single (entry_of (parts_at 32 text.now)))) }
+{
+    let entry = read_entry(alloc, text, line)?;
+    Ok(Group { entry, count: 1 })
+}
+
+fn read_starred(alloc: Global, text: &[u8], line: u32) -> Result<Group, SchedFault>
+    ensures { Gives result (at_line line (starred_of text.now (parts_at 42 text.now))) }
+{
+    let (thread, after) = cut(text, b'*');
+    let Some(after) = after else {
+        return read_single(alloc, text, line);
+    };
+    let (count, other) = cut(after, b'*');
+    match other {
+        None => read_repeated(alloc, thread, count, line),
+        Some(_) => Err(bad_line(line)),
+    }
+}
+
+#[tactic(auto, unfolding(crate::specs::Reading::repeated_of))]
+fn read_repeated(alloc: Global, thread: &[u8], count: &[u8], line: u32) -> Result<Group, SchedFault>
+    ensures { Gives result (at_line line (repeated_of thread.now count.now)) }
+{
+    let Some(thread) = read_thread(thread) else {
+        return Err(bad_line(line));
+    };
+    let Some(count) = read_count(count) else {
+        return Err(bad_line(line));
+    };
+    let picks = Items::new(alloc);
+    Ok(Group {
+        entry: Entry { thread, picks },
+        count,
+    })
+}
+
+#[tactic(auto, unfolding(crate::specs::Reading::count_of))]
+fn read_count(word: &[u8]) -> Option<u64>
+    ensures { result ≡ count_of word.now }
+{
+    let count = read_number(word)?;
+    if count > 1 { Some(count) } else { None }
 }
 
 // The entry that a line spells.
@@ -137,6 +252,24 @@ fn read_picks(alloc: Global, words: Option<&[u8]>, line: u32) -> Result<Items<u6
         rest = after;
     }
     Ok(picks)
+}
+
+fn bad_header() -> SchedFault
+    ensures { result ≡ SchedFault.Bad 1 BAD_HEADER }
+{
+    SchedFault::Bad {
+        line: 1,
+        code: BAD_HEADER,
+    }
+}
+
+fn too_long(line: u32) -> SchedFault
+    ensures { result ≡ SchedFault.Bad line TOO_LONG }
+{
+    SchedFault::Bad {
+        line,
+        code: TOO_LONG,
+    }
 }
 
 fn bad_line(line: u32) -> SchedFault

@@ -5,7 +5,7 @@ pub use sqlite_items::Items;
 pub const MAX_BYTES: usize = 1 << 26;
 
 /// The entries that a schedule may have at most.
-pub const MAX_ENTRIES: usize = 1 << 20;
+pub const MAX_ENTRIES: usize = 1 << 22;
 
 /// A step: the thread that takes it, and what it picked where the machine leaves a choice.
 #[derive(Debug, Drop)]

@@ -6,5 +6,6 @@ pub mod PlacedLaws
 pub mod RepeatedItems
 pub mod RunLaws
 pub mod StartFacts
+pub mod StartLimits
 pub mod StartSound
 pub mod StartStores

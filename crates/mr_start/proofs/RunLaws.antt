@@ -13,15 +13,15 @@ use Rattle.mr_start.specs.Start.{Legal, PlacedFault, at_line, entries_fault, loo
 
 -- ---- footprints
 
-foot_bare : {L : Type 0} (c : Config L) (b : Bare L) → (after_bare c b).completed ≡ c.completed + length (foot_of_bare b)
-foot_bare c (Completed n s) = refl
-foot_bare c (Stops v) = omega arith
-foot_bare c IllFormedStep = omega arith
+foot_bare : {L : Type 0} (step : Language L) (c : Config L) (b : Bare L) → (after_bare step c b).completed ≡ c.completed + length (foot_of_bare step b)
+foot_bare step c (Completed n s) = refl
+foot_bare step c (Stops v) = omega arith
+foot_bare step c IllFormedStep = omega arith
 
 foot_step : {L : Type 0} (step : Language L) (c : Config L) (t : ℕ) (picks : List ℕ) (s : Option (State L))
     → (stepped_from step c t picks s).completed ≡ c.completed + length (foot_from step t picks s)
 foot_step step c t picks None = omega arith
-foot_step step c t picks (Some s) = foot_bare c (bare step s t picks)
+foot_step step c t picks (Some s) = foot_bare step c (bare step s t picks)
 
 -- a run completes as many steps as it has footprints
 feet_after : {L : Type 0} (step : Language L) (c : Config L) (es : List Entry) → (after step c es).completed ≡ c.completed + length (feet step c es)

@@ -1,6 +1,6 @@
 -- Behind a legal start line the bytes of each global can be stored.
 use Rattle.std.proofs.Common.{◌≡◌, ℕ, ◌+◌, ◌<◌, ◌≤◌, refl, sym, ap, ◌∙◌, subst, inl, inr, List, [], ◌∷◌, ◌++◌, length, map, take, drop, cond, arith, length-append}
-use Rattle.std.proofs.lemmas.Bool.{cases_eq}
+use Rattle.std.proofs.lemmas.Bool.{cases_eq, ltb-false, or_parts}
 use Rattle.std.proofs.lemmas.List.{length-map}
 use Rattle.std.proofs.lemmas.Option.{same_Some}
 use Rattle.std.proofs.Math.ListN.{length-replicate}
@@ -118,6 +118,17 @@ unfolding range_fault
 multiple_from rs addr size align h =
     second_holds (addr == 0) (is_multiple addr align) (nat_lt (2 ^ 64) (addr + size))
     (no_bad (is_bad_address addr size align) (reused (first_overlapped addr size rs)) h)
+
+third_fails : (a b c : Bool) → (a || (not b || c)) ≡ false → c ≡ false
+third_fails a b c h = (or_parts (not b) c (or_parts a (not b || c) h).1).1
+
+-- and its range ends where the addresses do or before
+pub low_range : (rs : Ranges) (addr size align : ℕ) → range_fault rs addr size align ≡ None → addr + size ≤ 2 ^ 64
+unfolding range_fault
+low_range rs addr size align h =
+    ltb-false (2 ^ 64) (addr + size)
+    (third_fails (addr == 0) (is_multiple addr align) (nat_lt (2 ^ 64) (addr + size))
+    (no_bad (is_bad_address addr size align) (reused (first_overlapped addr size rs)) h))
 
 -- picks that break no rule place each piece
 placed_lie : (m : Memory) (rs : Ranges) (count : ℕ) (xs : List Piece) (picks : List ℕ) → picks_fault (Enabled ∷ []) rs 0 count (map ask_of xs) picks ≡ None

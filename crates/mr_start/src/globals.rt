@@ -112,20 +112,15 @@ fn len_of(items: &[Item_], byte: AbstractByte) -> Option<u64>
     Some(len)
 }
 
-// The first byte of some items, if it is written as a byte or as uninitialised.
-fn first_byte(items: &[Item_]) -> Option<AbstractByte> {
-    match items.first()? {
-        Item_::Uninit(_) => Some(AbstractByte::Uninit),
-        Item_::Byte(number, _) => Some(AbstractByte::Init(*number, None)),
-        Item_::Reloc(_, _) => None,
-    }
-}
-
 // The byte that all bytes of some items are, and how many there are.
 fn repeated(items: &[Item_]) -> Option<(AbstractByte, u64)>
     ensures { (functions : List PointerOf) → (globals : List PointerOf) → IfSome result (λ r. global_bytes functions globals items.now ≡ replicate r.1 r.0) }
 {
-    let byte = first_byte(items)?;
+    let byte = match items.first()? {
+        Item_::Uninit(_) => AbstractByte::Uninit,
+        Item_::Byte(number, _) => AbstractByte::Init(*number, None),
+        Item_::Reloc(_, _) => return None,
+    };
     let len = len_of(items, byte)?;
     Some((byte, len))
 }

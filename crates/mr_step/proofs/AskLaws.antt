@@ -9,7 +9,7 @@ use Rattle.mr_plan.specs.Queries.{answer}
 use Rattle.mr_script.specs.Script.{run}
 use Rattle.mr_frame.specs.declared.look.Look.{Look as KeptLook}
 use Rattle.mr_frame.specs.Kept.{look_of}
-use Rattle.mr_thread.specs.Steps.{Own, thread_step}
+use Rattle.mr_thread.specs.Steps.{Own, own_step, thread_step}
 use Rattle.mr_turn.specs.Asking.{step_needs}
 use Rattle.mr_turn.specs.Turning.{planned}
 use Rattle.mr_step.specs.declared.progress.Progress.{Progress}
@@ -42,7 +42,7 @@ module _ (look : KeptLook) (t : ℕ) (p : Progress) (c : CanAsk look t p) where
     unfolding planned
     needs_here =
         ap (needed (thread_step (look_of look)) (state_of p) t) (thread_here look t (counted p) (due look t p c) th here)
-        ∙ ap (λ (own : Own). needs_of (run answer (thread_step (look_of look) own) ((state_of p).shared, start_notes t th.count))) (own_is look t (counted p) (due look t p c) th here)
+        ∙ ap (λ (own : Own). needs_of (run answer (own_step (look_of look) own) ((state_of p).shared, start_notes t th.count))) (own_is look t (counted p) (due look t p c) th here)
 
 -- a machine that has a state isn't gone, and has that one
 pub state_there : (gone : Bool) (s t : State Own) → state_unless gone s ≡ Some t → (gone ≡ false) × (s ≡ t)

@@ -3,28 +3,28 @@ use Rattle.std.proofs.Common.{◌≡◌, ℕ, ◌+◌, ◌++◌, sym, ap, ◌∙
 use Rattle.std.specs.Prelude.{slice_set}
 use Rattle.std.specs.Option.{option_map}
 use Rattle.mr_event.specs.declared.footprint.Footprint.{Footprint}
-use Rattle.mr_mem.specs.Memory.{Memory}
 use Rattle.mr_eval.specs.Tally.{Tally}
 use Rattle.mr_eval.specs.declared.scene.Scene.{Scene}
 use Rattle.mr_plan.specs.Machine.{Completed, State, Thread, settle, started_threads}
-use Rattle.mr_plan.specs.Notes.{Notes, foot_of}
+use Rattle.mr_plan.specs.Notes.{Notes, accesses_in, foot_of}
 use Rattle.mr_plan.specs.Runs.{after_bare, foot_in, printed_by}
 use Rattle.mr_frame.specs.declared.flow.Flow.{Flow}
 use Rattle.mr_frame.specs.declared.flow.Flow.TheVariants as flow
 use Rattle.mr_frame.specs.declared.stack.Stack.{Stack as KeptStack}
-use Rattle.mr_thread.specs.Steps.{Own}
+use Rattle.mr_frame.specs.Frames.{Look}
+use Rattle.mr_thread.specs.Steps.{Own, thread_step}
 use Rattle.mr_turn.specs.declared.deed.Deed.{Deed}
 use Rattle.mr_turn.specs.Turning.{is_end, own_of, printed_lines, shared_in, turn_by}
 use Rattle.mr_step.specs.declared.progress.Progress.{Progress}
 use Rattle.mr_step.specs.Kept.{config_of, numbered, printed_of, standing_thread, state_of, state_unless}
-use Rattle.mr_step.specs.Settling.{IsOn, LeadsTo, Tells, bare_by, foot_by, verdict_in}
+use Rattle.mr_step.specs.Settling.{IsOn, LeadsTo, Tells, bare_by, completed, foot_by, verdict_in}
 use Rattle.mr_step.proofs.Numbered.{numbered_length}
 
 -- the footprint that the notes tell
-pub foot_is : (m : Memory) (s : Scene) (d : Deed) (n : Notes) → Tells s d n → foot_of m n ≡ foot_by s d
-foot_is m s d n h = λ i. record {
+pub foot_is : (edition : ℕ) (s : Scene) (d : Deed) (n : Notes) → Tells s d n → foot_of edition s.memory n ≡ foot_by (completed edition s) d
+foot_is edition s d n h = λ i. record {
   thread = (h.tally i).thread;
-  accesses = (h.tally i).accesses;
+  accesses = accesses_in edition s.memory (h.tally i);
   allocated = (h.tally i).made;
   freed = (h.tally i).freed;
   touched = (h.tally i).touched;
@@ -34,8 +34,8 @@ foot_is m s d n h = λ i. record {
 }
 
 -- what is kept behind a completed step of thread t with this footprint, by what was kept before and this new stack
-pub record IsBehind (p : Progress) (t : ℕ) (s : Scene) (d : Deed) (stack : KeptStack) (f : Footprint) (q : Progress) : Type 0 where
-  pub foot : f ≡ foot_by s d
+pub record IsBehind (edition : ℕ) (p : Progress) (t : ℕ) (s : Scene) (d : Deed) (stack : KeptStack) (f : Footprint) (q : Progress) : Type 0 where
+  pub foot : f ≡ foot_by (completed edition s) d
   pub memory : q.scene.memory ≡ s.memory
   pub sync : q.sync ≡ p.sync
   pub gone : q.gone ≡ p.gone
@@ -85,12 +85,12 @@ module _ (p : Progress) (t : ℕ) (s : Scene) (d : Deed) (stack : KeptStack) (n 
       by_flow flow.Abort on = absurd on
 
   -- where it leads, by what is kept behind it
-  pub leads : IsOn d.flow → (there : p.gone ≡ false) (q : Progress) (f : Footprint) → IsBehind p t s d stack f q
-      → LeadsTo (bare_by (state_of p) t stack p.sync s d n) (config_of p) (config_of q)
-  leads on there q f b = config_is ∙ sym (ap (after_bare (config_of p)) (completes on))
+  pub leads : (look : Look) → IsOn d.flow → (there : p.gone ≡ false) (q : Progress) (f : Footprint) → IsBehind look.program.edition p t s d stack f q
+      → LeadsTo look (bare_by (state_of p) t stack p.sync s d n) (config_of p) (config_of q)
+  leads look on there q f b = config_is ∙ sym (ap (after_bare (thread_step look) (config_of p)) (completes on))
     where
-      told : f ≡ foot_in n state_behind
-      told = b.foot ∙ sym (foot_is s.memory s d n tells)
+      told : f ≡ foot_in (thread_step look) n state_behind
+      told = b.foot ∙ sym (foot_is look.program.edition s d n tells)
 
       printed_is : map (printed_by f.thread) (printed_lines (option_map (λ text. text.items) d.text)) ≡ map (printed_by n.tally.thread) n.printed
       printed_is = λ i. map (printed_by (told i).thread) (sym tells.printed i)
@@ -103,7 +103,7 @@ module _ (p : Progress) (t : ℕ) (s : Scene) (d : Deed) (stack : KeptStack) (n 
             threads = b.threads i;
           })
 
-      config_is : config_of q ≡ after_bare (config_of p) (Completed n state_behind)
+      config_is : config_of q ≡ after_bare (thread_step look) (config_of p) (Completed n state_behind)
       config_is = λ i. record {
         state = state_is i;
         output = (b.output ∙ ap (λ lines. map printed_of p.output.items ++ lines) printed_is) i;

@@ -1,6 +1,7 @@
 -- What an entry comes to, by the state in which it finds the machine.
-use Rattle.std.proofs.Common.{◌≡◌, ◌+◌, ap, ◌∙◌, refl, List, [], ◌∷◌, Bool, true, false, Option, Some, None}
-use Rattle.std.specs.Prelude.{slice_get, if◌then◌else◌}
+use Rattle.std.proofs.Common.{◌≡◌, ◌+◌, ap, ◌∙◌, sym, refl, List, [], ◌∷◌, length, Bool, true, false, Option, Some, None}
+use Rattle.std.proofs.Math.Seq.{take-append_seam}
+use Rattle.std.specs.Prelude.{map, slice_get, take, if◌then◌else◌}
 use Rattle.mr_base.specs.declared.reason.Verdict.{Verdict}
 use Rattle.mr_base.specs.declared.reason.Verdict.TheVariants as verdict
 use Rattle.mr_base.specs.declared.thread.Status.{Status}
@@ -12,7 +13,7 @@ use Rattle.mr_plan.specs.Legal.{Fault, count_of, else_fault, fault, needs_fault,
 use Rattle.mr_plan.specs.Machine.{Bare, Completed, IllFormedStep, State, Stops, Thread, acted, bare, needed, needs, settled}
 use Rattle.mr_plan.specs.Notes.{Notes, start_notes}
 use Rattle.mr_plan.specs.Queries.{Shared}
-use Rattle.mr_plan.specs.Runs.{Config, after_bare, entry_fault, fault_in, foot_from, foot_in, foot_of_bare, is_running, machine_step, stepped_from}
+use Rattle.mr_plan.specs.Runs.{Config, after_bare, entry_fault, fault_in, foot_from, foot_in, foot_of_bare, is_running, machine_step, printed_by, stepped_from}
 use Rattle.mr_frame.specs.Frames.{Look}
 use Rattle.mr_thread.specs.Steps.{Own, thread_step}
 use Rattle.mr_turn.specs.Turning.{picks_break, planned, turned}
@@ -89,19 +90,44 @@ module _ (look : Look) (c : Config Own) (e : Entry) where
       bare_is = ap (acted (thread_step look) s e.thread e.picks) here
 
       -- where the entry leads
-      pub step_is : machine_step (thread_step look) c e ≡ after_bare c (settled s e.thread (turned look th.own e.picks w))
+      pub step_is : machine_step (thread_step look) c e ≡ after_bare (thread_step look) c (settled s e.thread (turned look th.own e.picks w))
       unfolding machine_step
-      step_is = ap (stepped_from (thread_step look) c e.thread e.picks) state ∙ ap (after_bare c) bare_is
+      step_is = ap (stepped_from (thread_step look) c e.thread e.picks) state ∙ ap (after_bare (thread_step look) c) bare_is
+
+-- a legal entry finds the machine running
+pub legal_runs : (look : Look) (c : Config Own) (e : Entry) → entry_fault (thread_step look) c e ≡ None → c.verdict ≡ verdict.Running
+legal_runs look c e legal = by (is_running c.verdict) refl
+  where
+    by : (b : Bool) → is_running c.verdict ≡ b → c.verdict ≡ verdict.Running
+    by true is = running_is c.verdict is
+    by false is = absurd (none_some (sym legal ∙ stopped_breaks look c e is))
+      where
+        none_some : None ≡ fault 66 → ⊥
+        none_some h = cc
+
+-- what a step that completed printed stands behind what was printed before
+pub printed_behind : (look : Look) (c : Config Own) (e : Entry) → ((machine_step (thread_step look) c e).completed ≡ c.completed → ⊥) → take (length c.output) (machine_step (thread_step look) c e).output ≡ c.output
+unfolding machine_step
+printed_behind look c e = in_state c.state
+  where
+    behind_bare : (b : Bare Own) → ((after_bare (thread_step look) c b).completed ≡ c.completed → ⊥) → take (length c.output) (after_bare (thread_step look) c b).output ≡ c.output
+    behind_bare (Completed n s) more = take-append_seam c.output (map (printed_by n.tally.thread) n.printed)
+    behind_bare (Stops v) more = absurd (more refl)
+    behind_bare IllFormedStep more = absurd (more refl)
+
+    in_state : (o : Option (State Own)) → ((stepped_from (thread_step look) c e.thread e.picks o).completed ≡ c.completed → ⊥) → take (length c.output) (stepped_from (thread_step look) c e.thread e.picks o).output ≡ c.output
+    in_state None more = absurd (more refl)
+    in_state (Some s) more = behind_bare (bare (thread_step look) s e.thread e.picks) more
 
 -- What the step of an entry leaves of footprints: that of a step that completed is the last one behind it.
 pub data Left (c : Config Own) (feet : List Footprint) (c' : Config Own) : Type 0 where
   made : (f : Footprint) → feet ≡ f ∷ [] → c'.completed ≡ c.completed + 1 → c'.last ≡ Some f → Left c feet c'
   none : feet ≡ [] → c'.completed ≡ c.completed → Left c feet c'
 
-left_bare : (c : Config Own) (b : Bare Own) → Left c (foot_of_bare b) (after_bare c b)
-left_bare c (Completed n s) = made (foot_in n s) refl refl refl
-left_bare c (Stops v) = none refl refl
-left_bare c IllFormedStep = none refl refl
+left_bare : (look : Look) (c : Config Own) (b : Bare Own) → Left c (foot_of_bare (thread_step look) b) (after_bare (thread_step look) c b)
+left_bare look c (Completed n s) = made (foot_in (thread_step look) n s) refl refl refl
+left_bare look c (Stops v) = none refl refl
+left_bare look c IllFormedStep = none refl refl
 
 pub left_by : (look : Look) (c : Config Own) (e : Entry) → Left c (foot_from (thread_step look) e.thread e.picks c.state) (machine_step (thread_step look) c e)
 unfolding machine_step
@@ -109,4 +135,4 @@ left_by look c e = in_state c.state
   where
     in_state : (o : Option (State Own)) → Left c (foot_from (thread_step look) e.thread e.picks o) (stepped_from (thread_step look) c e.thread e.picks o)
     in_state None = none refl refl
-    in_state (Some s) = left_bare c (bare (thread_step look) s e.thread e.picks)
+    in_state (Some s) = left_bare look c (bare (thread_step look) s e.thread e.picks)

@@ -2,12 +2,14 @@
 use Rattle.std.proofs.Common.{◌≡◌, ℕ, sym, ap, ◌∙◌, subst, List, length, None}
 use Rattle.mr_ast.specs.declared.program.Program.{Program}
 use Rattle.mr_wf.specs.Walk.{WellFormed}
+use Rattle.mr_plan.specs.Limits.{AreWithin}
 use Rattle.mr_plan.specs.Runs.{Config}
 use Rattle.mr_frame.specs.Frames.{Look}
 use Rattle.mr_thread.specs.Steps.{Own}
 use Rattle.mr_start.specs.declared.beginning.Start.{Start}
 use Rattle.mr_start.specs.Begin.{IsStart}
 use Rattle.mr_start.specs.Start.{start_fault}
+use Rattle.mr_start.proofs.StartLimits.{start_within}
 use Rattle.mr_start.proofs.StartSound.{start_look, start_sound}
 use Rattle.mr_step.specs.First.{first_config}
 use Rattle.mr_step.specs.Kept.{IsSound}
@@ -23,3 +25,7 @@ module _ (p : Program) (well : WellFormed p) (picks : List ℕ) (legal : start_f
   -- and the state keeps what states keep
   pub first_sound : (c : Config Own) → c ≡ first_config s.memory s.stack s.count → IsSound p c
   first_sound c e = subst (IsSound p) (sym (e ∙ h.config)) (start_sound p well picks legal)
+
+  -- within the limits
+  pub first_within : (c : Config Own) → c ≡ first_config s.memory s.stack s.count → AreWithin c
+  first_within c e = subst (λ (x : Config Own). AreWithin x) (sym (e ∙ h.config)) (start_within p picks legal)

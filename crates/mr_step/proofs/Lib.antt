@@ -6,3 +6,4 @@ pub mod HandLaws
 pub mod Numbered
 pub mod SoundLaws
 pub mod TakenLaws
+pub mod PlaceLaws

@@ -1,5 +1,5 @@
 -- What a machine that keeps what states keep says of an enabled thread.
-use Rattle.std.proofs.Common.{◌≡◌, ℕ, ◌<◌, refl, sym, ap, ◌∙◌, subst, arith, List, length, Bool, true, false, Option, Some, None}
+use Rattle.std.proofs.Common.{◌≡◌, ℕ, ◌<◌, refl, sym, ap, ◌∙◌, subst, arith, All, List, length, Bool, true, false, Option, Some, None}
 use Rattle.std.proofs.lemmas.Option.{same_Some, slice_get_within}
 use Rattle.std.specs.Prelude.{slice_get}
 use Rattle.std.specs.FinMap as fin
@@ -9,7 +9,8 @@ use Rattle.mr_base.specs.declared.thread.Status.TheVariants.{Enabled}
 use Rattle.mr_mem.specs.Memory.{Allocation, Memory}
 use Rattle.mr_sched.specs.declared.schedule.Entry.{Entry}
 use Rattle.mr_plan.specs.Machine.{Thread}
-use Rattle.mr_plan.specs.Runs.{Config, entry_fault, has_rule, machine_step}
+use Rattle.mr_plan.specs.Limits.{AreWithin}
+use Rattle.mr_plan.specs.Runs.{Config, entry_fault, foot_from, has_rule, machine_step}
 use Rattle.mr_frame.specs.declared.stack.Stack.{Stack as KeptStack}
 use Rattle.mr_frame.specs.declared.look.Look.{Look as KeptLook}
 use Rattle.mr_frame.specs.Fits.{FitsStack, IsLook}
@@ -18,6 +19,8 @@ use Rattle.mr_frame.specs.Standing.{IsUncounted}
 use Rattle.mr_thread.specs.SoundState.{IsCounted, SoundState}
 use Rattle.mr_thread.specs.Steps.{Own, thread_step}
 use Rattle.mr_thread.proofs.RunSound.{entry_sound}
+use Rattle.mr_event.specs.FootOk.{IsFootOk}
+use Rattle.mr_exchange.proofs.FootLimits.{entry_ok}
 use Rattle.mr_step.specs.declared.progress.Progress.{Progress}
 use Rattle.mr_step.specs.declared.progress.Thread.{Thread as KeptThread}
 use Rattle.mr_step.specs.Advance.{BeginsAct, IsDue}
@@ -84,3 +87,8 @@ is_look s set = record { functions = set.functions; globals = set.globals }
 pub advanced_sound : (s : Setting) → IsSet s → (c : Config Own) (e : Entry) → IsSound s.program.now c → entry_fault (thread_step (setting_look s)) c e ≡ None
     → (has_rule (thread_step (setting_look s)) e.thread e.picks c.state ≡ true) × IsSound s.program.now (machine_step (thread_step (setting_look s)) c e)
 advanced_sound s set c e sound legal = entry_sound (setting_look s) (is_look s set) set.well c e sound legal
+
+-- its footprint keeps the machine's limits, and so does where it leads
+pub advanced_ok : (s : Setting) → IsSet s → (c : Config Own) (e : Entry) → IsSound s.program.now c → AreWithin c → entry_fault (thread_step (setting_look s)) c e ≡ None
+    → All IsFootOk (foot_from (thread_step (setting_look s)) e.thread e.picks c.state) × AreWithin (machine_step (thread_step (setting_look s)) c e)
+advanced_ok s set c e sound within legal = entry_ok (setting_look s) (is_look s set) set.well c e sound within legal

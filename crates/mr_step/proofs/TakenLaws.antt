@@ -15,7 +15,7 @@ use Rattle.mr_sched.specs.declared.schedule.Entry.{Entry}
 use Rattle.mr_script.specs.Script.{Outcome, Refused}
 use Rattle.mr_sync.specs.Tables.{Tables}
 use Rattle.mr_plan.specs.Legal.{Fault}
-use Rattle.mr_plan.specs.Machine.{Aborts, Bare, Completed, Exits, Flow as Ways, Goes, IllFormedStep, State, Stops, Thread, settle, settled, started_threads, thread_of}
+use Rattle.mr_plan.specs.Machine.{Aborts, Bare, Completed, Exits, Flow as Ways, Goes, IllFormedStep, Language, State, Stops, Thread, settle, settled, started_threads, thread_of}
 use Rattle.mr_plan.specs.Notes.{Notes}
 use Rattle.mr_plan.specs.Queries.{Shared}
 use Rattle.mr_plan.specs.Runs.{Config, after_bare, entry_fault}
@@ -43,10 +43,10 @@ use Rattle.mr_step.proofs.SoundLaws.{own_is, sound, state_is, thread_here}
 use Rattle.mr_plan.proofs.Positions.{set_here}
 
 -- a bare step leads on from no state
-bare_leads : {L : Type 0} (c : Config L) (o : Option (State L)) (b : Bare L) → after_bare (record c { state = o }) b ≡ after_bare c b
-bare_leads c o (Completed n s) = refl
-bare_leads c o (Stops v) = refl
-bare_leads c o IllFormedStep = refl
+bare_leads : {L : Type 0} (step : Language L) (c : Config L) (o : Option (State L)) (b : Bare L) → after_bare step (record c { state = o }) b ≡ after_bare step c b
+bare_leads step c o (Completed n s) = refl
+bare_leads step c o (Stops v) = refl
+bare_leads step c o IllFormedStep = refl
 
 -- what stood in the place of the thread before doesn't matter
 settle_over : (s s' : State Own) (t : ℕ) (x : Thread Own) → s'.threads ≡ slice_set s.threads t x → (f : Ways Own) (w : Shared × Notes) → settle s' t f w ≡ settle s t f w
@@ -71,8 +71,8 @@ set_same (y ∷ xs) zero x h = ap (λ z. z ∷ xs) (sym (same_Some y x h))
 set_same (y ∷ xs) (suc i) x h = ap (λ zs. y ∷ zs) (set_same xs i x h)
 
 -- where a step leads that itself stops
-pub stops_leads : (p : Progress) (v : Verdict) → LeadsTo (Stops v) (config_of p) (config_of (record p { gone = true; verdict = v }))
-stops_leads p v = refl
+pub stops_leads : (look : Look) (p : Progress) (v : Verdict) → LeadsTo look (Stops v) (config_of p) (config_of (record p { gone = true; verdict = v }))
+stops_leads look p v = refl
 
 -- the scene of a step that begins
 module _ (m : Memory) (t n : ℕ) (s : Scene) (world : world_of s ≡ (m, start_tally t n)) where
@@ -128,16 +128,16 @@ module _ (look : KeptLook) (e : Entry) (p : Progress) (due : IsDue look e.thread
 
   -- a legal entry leads where the bare step of its turn does
   pub leads_on : (b : Bare Own) (q : Progress) → act_fault l t e.picks th p.scene.memory p.sync ≡ None → settled s t outcome ≡ b
-      → LeadsTo b (config_of p) (config_of q) → Advances l e (config_of p) (config_of q)
+      → LeadsTo l b (config_of p) (config_of q) → Advances l e (config_of p) (config_of q)
   leads_on b q legal is h = record {
     legal = legal_is ∙ legal;
-    after = h ∙ sym (step_is l (config_of p) e s there (thread_as t th) at ∙ ap (after_bare (config_of p)) (settled_is ∙ is));
+    after = h ∙ sym (step_is l (config_of p) e s there (thread_as t th) at ∙ ap (after_bare (thread_step l) (config_of p)) (settled_is ∙ is));
   }
 
   -- the turn stops for a reason
   pub halts : (r : Reason) → act_fault l t e.picks th p.scene.memory p.sync ≡ None → outcome ≡ Refused r
       → Advances l e (config_of p) (config_of (record p { gone = true; verdict = verdict.Undefined r }))
-  halts r legal is = leads_on (Stops (verdict.Undefined r)) (record p { gone = true; verdict = verdict.Undefined r }) legal (ap (settled s t) is) (stops_leads p (verdict.Undefined r))
+  halts r legal is = leads_on (Stops (verdict.Undefined r)) (record p { gone = true; verdict = verdict.Undefined r }) legal (ap (settled s t) is) (stops_leads l p (verdict.Undefined r))
 
   -- the picks break a rule, and nothing changed
   pub stays : (fault : Fault) (new : KeptThread) (left : Scene) (x : Tables) → Keeps l t e.picks th new p.scene.memory left.memory p.sync x fault
@@ -172,11 +172,14 @@ module _ (look : KeptLook) (e : Entry) (p : Progress) (due : IsDue look e.thread
       subst (AdvanceAnswer l e (config_of p) (config_of q)) (sym w.0)
       (subst (λ (y : Progress). Stays l e (config_of p) (config_of y) (fault_of failure.code failure.earlier)) (sym w.1)
       (stays (fault_of failure.code failure.earlier) new left x h mid threads same))
-  untaken turn.Memory new left x h mid q threads same result w = subst (AdvanceAnswer l e (config_of p) (config_of q)) (sym w) tt
+  untaken turn.Memory new left x h mid q threads same result w = subst (AdvanceAnswer l e (config_of p) (config_of q)) (sym w.0) (record { output = ap (λ (y : Progress). (config_of y).output) is; completed = ap (λ (y : Progress). (config_of y).completed) is; verdict = ap (λ (y : Progress). (config_of y).verdict) is })
+    where
+      is : q ≡ record p { scene = left; threads = mid.threads; sync = x }
+      is = w.1 ∙ same
 
   -- the turn is taken, and settled
   module _ (mid q : Progress) (new : KeptThread) (d : Deed) (acts : Acts l t e.picks th new p.scene.memory p.sync mid.sync mid.scene d) (threads : mid.threads.items ≡ slice_set p.threads.items t new)
-      (same : mid ≡ record p { scene = mid.scene; threads = mid.threads; sync = mid.sync }) (settles : Settles mid q t d) where
+      (same : mid ≡ record p { scene = mid.scene; threads = mid.threads; sync = mid.sync }) (settles : Settles l mid q t d) where
     abbrev sc : Scene
     sc = mid.scene
 
@@ -218,4 +221,4 @@ module _ (look : KeptLook) (e : Entry) (p : Progress) (due : IsDue look e.thread
     base_is = ap (λ (x : Progress). record (config_of x) { state = (config_of mid).state }) same
 
     pub takes : Advances l e (config_of p) (config_of q)
-    takes = leads_on bare_mid q acts.legal bare_is (settles new acts.turned.notes at_mid tells ∙ ap (λ (x : Config Own). after_bare x bare_mid) base_is ∙ bare_leads (config_of p) (config_of mid).state bare_mid)
+    takes = leads_on bare_mid q acts.legal bare_is (settles new acts.turned.notes at_mid tells ∙ ap (λ (x : Config Own). after_bare (thread_step l) x bare_mid) base_is ∙ bare_leads (thread_step l) (config_of p) (config_of mid).state bare_mid)

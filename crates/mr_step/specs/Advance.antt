@@ -25,7 +25,7 @@ use Rattle.mr_step.specs.declared.fault.StepFault.{StepFault}
 use Rattle.mr_step.specs.declared.fault.StepFault.TheVariants as answer
 use Rattle.mr_step.specs.declared.progress.Progress.{Progress}
 use Rattle.mr_step.specs.declared.progress.Thread.{Thread as KeptThread}
-use Rattle.mr_step.specs.Answers.{fault_of}
+use Rattle.mr_step.specs.Answers.{KeepsTold, fault_of}
 use Rattle.mr_step.specs.Kept.{IsSound, config_of}
 
 -- ---- the turn of a thread
@@ -85,7 +85,7 @@ abbrev pub WithoutAnswer : TurnFault → Progress → Progress → Result (Unit 
 WithoutAnswer (turn.Undefined r) old new result =
     (result ≡ Ok tt) × (new ≡ record old { gone = true; verdict = Undefined r })
 WithoutAnswer (turn.Broken e) old new result = (result ≡ Err (answer.BadEntry e.code e.earlier)) × (new ≡ old)
-WithoutAnswer turn.Memory old new result = result ≡ Err answer.Memory
+WithoutAnswer turn.Memory old new result = (result ≡ Err answer.Memory) × (new ≡ old)
 
 -- ---- an entry
 
@@ -122,5 +122,5 @@ pub record Stays (look : Look) (e : Entry) (old new : Config Own) (fault : Fault
 abbrev pub AdvanceAnswer : Look → Entry → Config Own → Config Own → Result (Unit {0}) StepFault → Type 0
 AdvanceAnswer look e old new (Ok x) = Advances look e old new
 AdvanceAnswer look e old new (Err (answer.BadEntry code earlier)) = Stays look e old new (fault_of code earlier)
-AdvanceAnswer look e old new (Err answer.Memory) = Unit {0}
+AdvanceAnswer look e old new (Err answer.Memory) = KeepsTold old new
 AdvanceAnswer look e old new (Err answer.Failed) = ⊥

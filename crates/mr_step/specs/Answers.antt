@@ -1,14 +1,15 @@
 -- How starts and steps are answered, each answer with its cause.
-use Rattle.std.specs.Prelude.{◌≡◌, ℕ, ◌+◌, true, false, List, [], ◌∷◌, Option, None, Some, Result, Ok, Err}
+use Rattle.std.specs.Prelude.{◌≡◌, ℕ, ◌+◌, true, false, All, List, [], ◌∷◌, take, Option, None, Some, Result, Ok, Err}
 use Rattle.mr_base.specs.declared.byte.AllocId.{AllocId}
 use Rattle.mr_base.specs.declared.reason.Verdict.{Verdict}
 use Rattle.mr_base.specs.declared.reason.Verdict.TheVariants as verdict
 use Rattle.mr_ast.specs.declared.program.Program.{Program}
+use Rattle.mr_event.specs.FootOk.{IsFootOk}
 use Rattle.mr_event.specs.declared.footprint.Footprint.{Footprint}
 use Rattle.mr_sched.specs.declared.schedule.Entry.{Entry}
 use Rattle.mr_plan.specs.Legal.{Fault}
-use Rattle.mr_plan.specs.Runs.{foot_from, has_rule}
-use Rattle.mr_thread.specs.Steps.{thread_step}
+use Rattle.mr_plan.specs.Runs.{Config, foot_from, has_rule}
+use Rattle.mr_thread.specs.Steps.{Own, thread_step}
 use Rattle.mr_start.specs.Start.{start_fault, start_config, look_of, program_fault, program_step}
 use Rattle.mr_step.specs.declared.fault.StepFault.{StepFault}
 use Rattle.mr_step.specs.declared.fault.StepFault.TheVariants as answer
@@ -43,7 +44,7 @@ pub data Hands (feet : List Footprint) (before after : ℕ) (old new : Footprint
   completed : feet ≡ new ∷ [] → after ≡ before + 1 → Hands feet before after old new
   stopped : feet ≡ [] → after ≡ before → new ≡ old → Hands feet before after old new
 
--- the machine made the step of a legal entry, which has a rule, and handed out its footprint
+-- the machine made the step of a legal entry, which has a rule, and handed out its footprint, which keeps the limits
 pub record Steps (e : Entry) (old new : Standing) (f f' : Footprint) (went : Turn) : Type 0 where
   pub working : old.failed ≡ false
   pub legal : program_fault old.look old.config e ≡ None
@@ -52,6 +53,7 @@ pub record Steps (e : Entry) (old new : Standing) (f f' : Footprint) (went : Tur
   pub foot : Hands
       (foot_from (thread_step old.look) e.thread e.picks old.config.state)
       old.config.completed new.config.completed f f'
+  pub ok : All IsFootOk (foot_from (thread_step old.look) e.thread e.picks old.config.state)
   pub turn : went ≡ turn_of new.config.verdict
 
 -- the entry breaks this rule, and nothing changed
@@ -61,11 +63,19 @@ pub record Refuses (e : Entry) (old new : Standing) (f f' : Footprint) (fault : 
   pub same : new ≡ old
   pub foot : f' ≡ f
 
--- Memory ran out, and the machine has failed. The entry may break a rule, for a step can ask behind what ran out.
+-- what was told of a run is told still: its prints, how many steps completed, and its verdict
+pub record KeepsTold (old new : Config Own) : Type 0 where
+  pub output : new.output ≡ old.output
+  pub completed : new.completed ≡ old.completed
+  pub verdict : new.verdict ≡ old.verdict
+
+-- Memory ran out, and the machine has failed, which tells what it told before. The entry may break a rule, for a step can
+-- ask behind what ran out.
 pub record RunsOut (old new : Standing) : Type 0 where
   pub working : old.failed ≡ false
   pub failed : new.failed ≡ true
   pub look : new.look ≡ old.look
+  pub told : KeepsTold old.config new.config
 
 -- an earlier step had failed
 pub record IsFailed (old new : Standing) (f f' : Footprint) : Type 0 where
@@ -83,7 +93,19 @@ StepAnswer e old new f f' (Err answer.Failed) = IsFailed old new f f'
 abbrev pub GoAnswer : Entry → Standing → Standing → Result Turn StepFault → Type 0
 GoAnswer e old new went = (f : Footprint) × (f' : Footprint) × StepAnswer e old new f f' went
 
--- The footprint of the last completed step is handed out; or memory ran out, and the machine has failed.
-abbrev pub HandAnswer : Standing → Standing → Footprint → Result (Unit {0}) StepFault → Type 0
-HandAnswer old new f (Ok u) = (new ≡ old) × ((last : Footprint) → old.config.last ≡ Some last → f ≡ last)
-HandAnswer old new f (Err e) = (e ≡ answer.Memory) × (new.failed ≡ true) × (new.look ≡ old.look)
+-- the last step, which completed and printed what stands behind so many prints, is told no more
+pub record IsTakenBack (prints : ℕ) (old new : Config Own) : Type 0 where
+  pub output : new.output ≡ take prints old.output
+  pub completed : new.completed + 1 ≡ old.completed
+  pub verdict : new.verdict ≡ verdict.Running
+
+-- memory ran out where the footprint of the last step was to be handed out: the machine has failed, and tells it no more
+pub record FailsToHand (prints : ℕ) (old new : Standing) : Type 0 where
+  pub failed : new.failed ≡ true
+  pub look : new.look ≡ old.look
+  pub back : IsTakenBack prints old.config new.config
+
+-- The footprint of the last completed step is handed out; or memory ran out.
+abbrev pub HandAnswer : ℕ → Standing → Standing → Footprint → Result (Unit {0}) StepFault → Type 0
+HandAnswer prints old new f (Ok u) = (new ≡ old) × ((last : Footprint) → old.config.last ≡ Some last → f ≡ last)
+HandAnswer prints old new f (Err e) = (e ≡ answer.Memory) × FailsToHand prints old new

@@ -3,11 +3,14 @@ use Rattle.std.specs.Prelude.{◌≡◌, ℕ, suc, Bool, false, List, [], ◌∷
 use Rattle.mr_ast.specs.declared.program.Program.{Program}
 use Rattle.mr_layout.specs.Cached.{IsCacheOf}
 use Rattle.mr_wf.specs.Walk.{WellFormed}
+use Rattle.mr_plan.specs.Limits.{AreWithin}
 use Rattle.mr_plan.specs.Machine.{State, Thread, thread_of}
 use Rattle.mr_plan.specs.Runs.{Config, Printed, printed_by}
 use Rattle.mr_frame.specs.declared.stack.Stack.{Stack as KeptStack}
 use Rattle.mr_frame.specs.Frames.{Look, Stack}
-use Rattle.mr_frame.specs.Kept.{stack_of}
+use Rattle.mr_frame.specs.declared.stack.At.{At}
+use Rattle.mr_frame.specs.Kept.{frame_of, stack_of}
+use Rattle.mr_frame.specs.Tops.{at_of}
 use Rattle.mr_thread.specs.SoundState.{SoundState}
 use Rattle.mr_thread.specs.Steps.{Own}
 use Rattle.mr_step.specs.declared.machine.Machine.TheInside.{Inside}
@@ -73,7 +76,13 @@ pub record IsSet (s : Setting) : Type 0 where
 abbrev pub IsSound : Program → Config Own → Type 0
 IsSound p c = (s : State Own) → c.state ≡ Some s → SoundState p s
 
--- Of a machine that has failed only what its steps look up is kept.
+-- Of a machine that has failed only what its steps look up is kept; of another its state, and the limits of that.
 pub record IsKept (m : Inside) : Type 0 where
   pub set : IsSet m.setting
   pub sound : m.failed ≡ false → IsSound m.setting.program.now (config_of m.progress)
+  pub within : m.failed ≡ false → AreWithin (config_of m.progress)
+
+-- where a thread stands, as it is kept; one that ended stands nowhere
+abbrev pub kept_place : Option KeptThread → Option At
+kept_place None = None
+kept_place (Some th) = if th.ended then None else Some (at_of (frame_of th.stack.top))

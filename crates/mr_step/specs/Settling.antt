@@ -9,19 +9,24 @@ use Rattle.mr_sync.specs.Tables.{Tables, is_any_enabled}
 use Rattle.mr_eval.specs.World.{tally_of}
 use Rattle.mr_eval.specs.declared.scene.Scene.{Scene}
 use Rattle.mr_plan.specs.Machine.{Bare, State, settle}
-use Rattle.mr_plan.specs.Notes.{Notes, event_of}
+use Rattle.mr_plan.specs.Notes.{Notes, accesses_in, event_of}
 use Rattle.mr_plan.specs.Runs.{Config, after_bare, races_with}
 use Rattle.mr_frame.specs.declared.flow.Flow.{Flow}
 use Rattle.mr_frame.specs.declared.flow.Flow.TheVariants as flow
 use Rattle.mr_frame.specs.declared.stack.Stack.{Stack as KeptStack}
-use Rattle.mr_thread.specs.Steps.{Own}
+use Rattle.mr_frame.specs.Frames.{Look}
+use Rattle.mr_thread.specs.Steps.{Own, thread_step}
 use Rattle.mr_turn.specs.declared.deed.Deed.{Deed}
 use Rattle.mr_turn.specs.Turning.{is_end, own_of, printed_lines, shared_in, turn_by}
 use Rattle.mr_step.specs.declared.progress.Progress.{Progress}
 use Rattle.mr_step.specs.declared.progress.Thread.{Thread as KeptThread}
 use Rattle.mr_step.specs.Kept.{config_of, state_of}
 
--- the footprint of a turn
+-- the scene of a turn, once its accesses are all that the step has in the edition
+abbrev pub completed : ℕ → Scene → Scene
+completed edition s = record s { notes = record s.notes { accesses = accesses_in edition s.memory (tally_of s) } }
+
+-- the footprint of a turn, whose scene has all accesses of the step
 abbrev pub foot_by : Scene → Deed → Footprint
 foot_by s d = record {
   thread = s.thread;
@@ -56,8 +61,8 @@ bare_by s t stack x scene d n =
     (shared_in scene x, n)
 
 -- where a bare step leads
-abbrev pub LeadsTo : Bare Own → Config Own → Config Own → Type 0
-LeadsTo b old new = new ≡ after_bare old b
+abbrev pub LeadsTo : Look → Bare Own → Config Own → Config Own → Type 0
+LeadsTo look b old new = new ≡ after_bare (thread_step look) old b
 
 -- the thread goes on, or has ended
 abbrev pub IsOn : Flow → Type 0
@@ -74,7 +79,7 @@ pub record CanSettle (p : Progress) (t : ℕ) : Type 0 where
 
 -- the turn of thread t, which left its scene and this deed, and whose new stack already stands in its place, leads from
 -- old to new
-abbrev pub Settles : Progress → Progress → ℕ → Deed → Type 0
-Settles old new t d =
+abbrev pub Settles : Look → Progress → Progress → ℕ → Deed → Type 0
+Settles look old new t d =
     (th : KeptThread) (n : Notes) → slice_get old.threads.items t ≡ Some th → Tells old.scene d n
-    → LeadsTo (bare_by (state_of old) t th.stack old.sync old.scene d n) (config_of old) (config_of new)
+    → LeadsTo look (bare_by (state_of old) t th.stack old.sync old.scene d n) (config_of old) (config_of new)

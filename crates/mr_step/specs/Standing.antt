@@ -1,7 +1,10 @@
 -- What contracts see of a machine.
-use Rattle.std.specs.Prelude.{ℕ, Bool, List}
+use Rattle.std.specs.Prelude.{ℕ, Bool, List, Option, None, Some}
 use Rattle.std.specs.Borrow.{Bor}
 use Rattle.mr_frame.specs.Frames.{Look}
+use Rattle.mr_frame.specs.declared.stack.At.{At}
+use Rattle.mr_frame.specs.Tops.{top_at}
+use Rattle.mr_plan.specs.Machine.{Thread}
 use Rattle.mr_plan.specs.Runs.{Config, Printed, printed_by}
 use Rattle.mr_thread.specs.Steps.{Own}
 
@@ -14,3 +17,8 @@ pub record Standing : Type 0 where
 -- a print as it is lent
 abbrev pub seen_line : ℕ × Bor (List ℕ) → Printed
 seen_line l = printed_by l.0 l.1.now
+
+-- where a thread stands; one that ended stands nowhere
+abbrev pub place_in : Option (Thread Own) → Option At
+place_in None = None
+place_in (Some th) = top_at th.own.stack.frames

@@ -84,7 +84,7 @@ fn take(alloc: Global, look: &Look<'_>, p: &mut Progress, entry: &Entry) -> Resu
         &mut p.sync,
         entry.picks.as_slice(),
     ) {
-        Ok(deed) => Ok(settle(alloc, p, number, deed)?),
+        Ok(deed) => Ok(settle(alloc, look, p, number, deed)?),
         Err(fault) => without(p, fault),
     }
 }

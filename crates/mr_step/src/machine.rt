@@ -4,10 +4,11 @@ use crate::asking::asked;
 use crate::copies::copy_last;
 use crate::fault::{StepFault, Turn, unmade};
 use crate::first::first;
-use crate::progress::{Progress, line_at};
+use crate::progress::{Progress, line_at, place_at};
 use crate::setting::Setting;
 use mr_base::{Status, Verdict};
 use mr_event::Footprint;
+use mr_frame::At;
 use mr_sched::{Ask, Entry};
 use mr_start::{Start, begin};
 use mr_wf::Checked;
@@ -47,7 +48,7 @@ impl<'p> Model for Machine<'p> {
 impl<'p> Machine<'p> {
     ghost use Rattle.std.specs.Prelude.{◌≡◌, ℕ, ◌<◌, ◌^◌, IfOk, List, None, OnErr, Some, false, length, slice_get};
     ghost use Rattle.std.specs.Option.{option_map};
-    ghost use Rattle.mr_sync.specs.Tables.{IsEnabled, is_enabled, waits};
+    ghost use Rattle.mr_sync.specs.Tables.{IsEnabled, holder_of, is_enabled, waits};
     ghost use Rattle.mr_plan.specs.Machine.{State, needs};
     ghost use Rattle.mr_plan.specs.Queries.{tables_of};
     ghost use Rattle.mr_thread.specs.Steps.{Own, thread_step};
@@ -55,7 +56,7 @@ impl<'p> Machine<'p> {
     ghost use Rattle.mr_start.specs.Begin.{IsStart};
     ghost use Rattle.mr_start.specs.Start.{start_fault};
     ghost use Rattle.mr_step.specs.Answers.{GoAnswer, HandAnswer, StartAnswer, StepAnswer, standing};
-    ghost use Rattle.mr_step.specs.Standing.{seen_line};
+    ghost use Rattle.mr_step.specs.Standing.{place_in, seen_line};
 
     /// The machine before the first entry, with these start picks.
     pub fn start(alloc: Global, p: &'p Checked, picks: &[u64]) -> Result<Machine<'p>, StepFault>
@@ -99,17 +100,21 @@ impl<'p> Machine<'p> {
     }
 
     /// One step of the machine. The footprint of a step that completes takes the place of what stood in `foot`. A refused entry changes
-    /// nothing. Once a step ran out of memory the machine has failed.
+    /// nothing. Once a step ran out of memory the machine has failed: it makes no step any more, and tells what it told before that step.
     pub fn step(&mut self, entry: &Entry, foot: &mut Footprint) -> Result<Turn, StepFault>
         requires { self.old.config.completed < 2 ^ 32 }
         ensures { StepAnswer entry.now self.old self.new foot.old foot.new result }
     {
         let before = self.completed();
+        let prints = self.lines();
         let turn = self.go(entry)?;
-        if self.completed() != before {
-            self.hand_out(foot)?;
+        if self.completed() == before {
+            return Ok(turn);
         }
-        Ok(turn)
+        match self.hand_out(foot, prints) {
+            Ok(()) => Ok(turn),
+            Err(fault) => Err(fault),
+        }
     }
 
     /// The same, except that no footprint is handed out.
@@ -135,13 +140,16 @@ impl<'p> Machine<'p> {
         }
     }
 
-    // A copy of the footprint of the last completed step takes the place of what stood in `foot`.
-    fn hand_out(&mut self, foot: &mut Footprint) -> Result<(), StepFault>
-        ensures { HandAnswer self.old self.new foot.new result }
+    // A copy of the footprint of the last step, which completed, takes the place of what stood in `foot`. For want of memory the machine
+    // fails, and tells what it told before that step, which printed what stands behind so many prints.
+    fn hand_out(&mut self, foot: &mut Footprint, prints: usize) -> Result<(), StepFault>
+        requires { 0 < self.old.config.completed }
+        ensures { HandAnswer prints self.old self.new foot.new result }
     {
         match copy_last(&self.progress.last, foot) {
             Ok(()) => Ok(()),
             Err(AllocError) => {
+                self.progress.take_back(prints);
                 self.failed = true;
                 Err(StepFault::Memory)
             }
@@ -176,25 +184,70 @@ impl<'p> Machine<'p> {
         line_at(self.progress.output.as_slice(), i)
     }
 
-    /// How many threads there are, ended ones included.
+    /// How many threads there are, ended ones included; none behind a step that itself stopped.
     pub fn threads(&self) -> u32
-        ensures { (s : State Own) → self.now.config.state ≡ Some s → result ≡ length s.shared.statuses }
+        ensures there { (s : State Own) → self.now.config.state ≡ Some s → result ≡ length s.shared.statuses }
+        ensures gone { self.now.config.state ≡ None → result ≡ 0 }
     {
-        self.progress.sync.threads()
+        if self.progress.gone {
+            0
+        } else {
+            self.progress.sync.threads()
+        }
     }
 
-    /// Whether a thread exists and can go on.
+    /// Whether a thread exists and can go on; none can behind a step that itself stopped.
     pub fn enabled(&self, t: u32) -> bool
-        ensures { (s : State Own) → self.now.config.state ≡ Some s → result ≡ is_enabled (slice_get s.shared.statuses t) }
+        ensures there { (s : State Own) → self.now.config.state ≡ Some s → result ≡ is_enabled (slice_get s.shared.statuses t) }
+        ensures gone { self.now.config.state ≡ None → result ≡ false }
     {
-        matches!(self.progress.sync.status(t), Some(Status::Enabled))
+        !self.progress.gone && matches!(self.progress.sync.status(t), Some(Status::Enabled))
     }
 
-    /// Whether a thread waits for this lock.
+    /// Whether a thread waits for this lock; none does behind a step that itself stopped.
     pub fn waiting(&self, lock: u32, t: u32) -> bool
-        ensures { (s : State Own) → self.now.config.state ≡ Some s → result ≡ waits lock t (tables_of s.shared) }
+        ensures there { (s : State Own) → self.now.config.state ≡ Some s → result ≡ waits lock t (tables_of s.shared) }
+        ensures gone { self.now.config.state ≡ None → result ≡ false }
     {
-        self.progress.sync.waiting(lock, t)
+        !self.progress.gone && self.progress.sync.waiting(lock, t)
+    }
+
+    /// Where a thread stands: the function, the block and the statement, or the terminator, that its next step takes. A thread that ended, or
+    /// that there is not, stands nowhere; so does each behind a step that itself stopped.
+    #[tactic(auto, using(crate::proofs::PlaceLaws::places_kept))]
+    pub fn place(&self, t: u32) -> Option<At>
+        ensures there { (s : State Own) → self.now.config.state ≡ Some s → result ≡ place_in (slice_get s.threads t) }
+        ensures gone { self.now.config.state ≡ None → result ≡ None }
+    {
+        if self.progress.gone {
+            None
+        } else {
+            place_at(self.progress.threads.as_slice(), t as usize)
+        }
+    }
+
+    /// Whether a thread can go on, and what it waits for otherwise; None where there is no such thread, or a step itself stopped.
+    pub fn status(&self, t: u32) -> Option<Status>
+        ensures there { (s : State Own) → self.now.config.state ≡ Some s → result ≡ slice_get s.shared.statuses t }
+        ensures gone { self.now.config.state ≡ None → result ≡ None }
+    {
+        if self.progress.gone {
+            None
+        } else {
+            self.progress.sync.status(t)
+        }
+    }
+
+    /// The thread that holds a lock: None exactly where there is no such lock, or it is free, or a step itself stopped.
+    pub fn holder(&self, lock: u32) -> Option<u32>
+        ensures there { (s : State Own) → self.now.config.state ≡ Some s → result ≡ holder_of lock (tables_of s.shared) }
+        ensures gone { self.now.config.state ≡ None → result ≡ None }
+    {
+        if self.progress.gone {
+            None
+        } else {
+            self.progress.sync.holder(lock)
+        }
     }
 
     /// Appends to `out` what picks the next step of an enabled thread of a running machine asks for. The answer is 67 or 68 where the step
@@ -206,9 +259,6 @@ impl<'p> Machine<'p> {
         ensures err { OnErr result (out.new.items ≡ out.old.items) }
     {
         let look = self.setting.look();
-        let mut found = Vec::new(self.alloc);
-        let code = asked(self.alloc, &look, &self.progress, t, &mut found)?;
-        out.extend_from_slice(found.as_slice())?;
-        Ok(code)
+        asked(self.alloc, &look, &self.progress, t, out)
     }
 }

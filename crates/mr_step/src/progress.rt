@@ -2,13 +2,13 @@
 ghost use Rattle.std.specs.Prelude.{◌≡◌, slice_get};
 ghost use Rattle.std.specs.Option.{option_map};
 ghost use Rattle.std.specs.Prelude.{map};
-ghost use Rattle.mr_step.specs.Kept.{printed_of};
+ghost use Rattle.mr_step.specs.Kept.{kept_place, printed_of};
 ghost use Rattle.mr_step.specs.Standing.{seen_line};
 
 use mr_base::Verdict;
 use mr_eval::Scene;
 use mr_event::Footprint;
-use mr_frame::Stack;
+use mr_frame::{At, Stack};
 use mr_sync::SyncTable;
 
 /// A print, with the thread that made it.
@@ -44,7 +44,10 @@ pub struct Progress {
 }
 
 impl Progress {
-    ghost use Rattle.std.specs.Prelude.{◌≡◌, true};
+    ghost use Rattle.std.specs.Prelude.{◌≡◌, ◌+◌, ◌<◌, take, true};
+    ghost use Rattle.mr_base.specs.declared.reason.Verdict.TheVariants.{Running};
+    ghost use Rattle.mr_step.specs.Answers.{IsTakenBack};
+    ghost use Rattle.mr_step.specs.Kept.{config_of};
 
     /// A step itself stops.
     pub fn stop(&mut self, verdict: Verdict)
@@ -52,6 +55,16 @@ impl Progress {
     {
         self.gone = true;
         self.verdict = verdict;
+    }
+
+    /// The last step, which completed, is told no more, nor what it printed behind so many prints.
+    pub fn take_back(&mut self, prints: usize)
+        requires { 0 < self.old.completed }
+        ensures { IsTakenBack prints (config_of self.old) (config_of self.new) }
+    {
+        self.output.truncate(prints);
+        self.completed -= 1;
+        self.verdict = Verdict::Running;
     }
 }
 
@@ -62,5 +75,21 @@ pub fn line_at(lines: &[Line], i: usize) -> Option<(u32, &[u8])>
     match lines.get(i) {
         None => None,
         Some(line) => Some((line.thread, line.text.as_slice())),
+    }
+}
+
+/// Where a thread stands, unless it ended.
+pub fn place_at(threads: &[Thread], t: usize) -> Option<At>
+    ensures { result ≡ kept_place (slice_get threads.now t) }
+{
+    match threads.get(t) {
+        None => None,
+        Some(thread) => {
+            if thread.ended {
+                None
+            } else {
+                Some(thread.stack.at())
+            }
+        }
     }
 }

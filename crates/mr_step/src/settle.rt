@@ -1,27 +1,31 @@
 //! What the turn of a thread leads to.
-ghost use Rattle.std.specs.Prelude.{◌≡◌, ◌+◌, ◌++◌, ◌<◌, ◌^◌, OnOk, length, map, slice_get, slice_set, if◌then◌else◌};
+ghost use Rattle.std.specs.Prelude.{◌≡◌, ◌+◌, ◌++◌, ◌<◌, ◌^◌, OnErr, OnOk, length, map, slice_get, slice_set, if◌then◌else◌};
 ghost use Rattle.std.specs.Option.{option_map};
 ghost use Rattle.mr_mem.specs.Memory.{leaks};
+ghost use Rattle.mr_frame.specs.Kept.{look_of};
 ghost use Rattle.mr_base.specs.declared.reason.Verdict.TheVariants as verdict;
 ghost use Rattle.mr_plan.specs.Machine.{started_threads};
 ghost use Rattle.mr_plan.specs.Runs.{printed_by};
 ghost use Rattle.mr_turn.specs.Turning.{own_of, printed_lines};
-ghost use Rattle.mr_step.specs.Kept.{numbered, printed_of, standing_thread};
+ghost use Rattle.mr_step.specs.Answers.{KeepsTold};
+ghost use Rattle.mr_step.specs.Kept.{config_of, numbered, printed_of, standing_thread};
 ghost use Rattle.mr_step.specs.declared.progress.Thread.{Thread as KeptThread};
 ghost use Rattle.mr_step.specs.Settling.{CanSettle, IsOn, Settles};
 
+use crate::edition::complete_accesses;
 use crate::footprint::{is_end, keep_last, verdict_behind};
 use crate::progress::{Line, Progress, Thread};
 use mr_base::Verdict;
 use mr_eval::Scene;
-use mr_frame::{Flow, Stack};
+use mr_frame::{Flow, Look, Stack};
 use mr_turn::Deed;
 use sqlite_items::Boxed;
 use std::alloc::{AllocError, Global};
 
 // The print of a step, where it made one.
 fn print(output: &mut Vec<Line>, thread: u32, text: Option<Vec<u8>>) -> Result<(), AllocError>
-    ensures { OnOk result (map printed_of output.new.items ≡ map printed_of output.old.items ++ map (printed_by thread) (printed_lines (option_map (λ t. t.items) text))) }
+    ensures ok { OnOk result (map printed_of output.new.items ≡ map printed_of output.old.items ++ map (printed_by thread) (printed_lines (option_map (λ t. t.items) text))) }
+    ensures err { OnErr result (output.new.items ≡ output.old.items) }
 {
     if let Some(text) = text {
         output.push(Line { thread, text })?;
@@ -53,18 +57,27 @@ fn mark(threads: &mut Vec<Thread>, thread: u32, ended: bool, count: u64)
     one.count = count;
 }
 
-// A completed step.
-fn complete(alloc: Global, p: &mut Progress, thread: u32, deed: Deed) -> Result<(), AllocError>
+// A completed step. What the machine tells is changed last, where no memory is asked for any more.
+fn complete(
+    alloc: Global,
+    look: &Look<'_>,
+    p: &mut Progress,
+    thread: u32,
+    deed: Deed,
+) -> Result<(), AllocError>
     requires flow { IsOn deed.flow }
     requires at { CanSettle p.old thread }
-    ensures { OnOk result (Settles p.old p.new thread deed) }
+    ensures ok { OnOk result (Settles (look_of look.now) p.old p.new thread deed) }
+    ensures err { OnErr result (KeepsTold (config_of p.old) (config_of p.new)) }
 {
     let (number, count) = (p.scene.thread, p.scene.count);
-    p.verdict = verdict_behind(p.last.as_ref(), &p.scene, &p.sync);
+    complete_accesses(look.program.program().edition, &mut p.scene)?;
+    let verdict = verdict_behind(p.last.as_ref(), &p.scene, &p.sync);
     keep_last(alloc, &mut p.last, &mut p.scene, &deed)?;
     mark(&mut p.threads, thread, is_end(deed.flow), count);
-    print(&mut p.output, number, deed.text)?;
     join(&mut p.threads, deed.started)?;
+    print(&mut p.output, number, deed.text)?;
+    p.verdict = verdict;
     p.completed += 1;
     Ok(())
 }
@@ -81,12 +94,19 @@ fn end_of(scene: &Scene) -> Verdict
 }
 
 /// Where the turn of a thread leads, which left this deed beside the scene.
-pub fn settle(alloc: Global, p: &mut Progress, thread: u32, deed: Deed) -> Result<(), AllocError>
+pub fn settle(
+    alloc: Global,
+    look: &Look<'_>,
+    p: &mut Progress,
+    thread: u32,
+    deed: Deed,
+) -> Result<(), AllocError>
     requires { CanSettle p.old thread }
-    ensures { OnOk result (Settles p.old p.new thread deed) }
+    ensures ok { OnOk result (Settles (look_of look.now) p.old p.new thread deed) }
+    ensures err { OnErr result (KeepsTold (config_of p.old) (config_of p.new)) }
 {
     match deed.flow {
-        Flow::Went | Flow::Ended => complete(alloc, p, thread, deed)?,
+        Flow::Went | Flow::Ended => complete(alloc, look, p, thread, deed)?,
         Flow::Exit => {
             let verdict = end_of(&p.scene);
             p.stop(verdict);

@@ -71,7 +71,7 @@ completed h = (cc, cc)
 module _ {L : Type 0} (step : Language L) where
   -- a step as one script
   abbrev pub whole : L → List ℕ → StepScript (Flow L)
-  whole own picks = step own >>= λ plan. plan.go picks
+  whole own picks = step.next own >>= λ plan. plan.go picks
 
   -- A step that completed: its thread, the plan that it made, and how the plan was carried out.
   pub record Taken (s : State L) (t : ℕ) (picks : List ℕ) (n : Notes) (s' : State L) : Type 0 where
@@ -82,7 +82,7 @@ module _ {L : Type 0} (step : Language L) where
     pub noted : Notes
     pub own : L
     pub started : Option L
-    pub first : run answer (step th.own) (s.shared, start_notes t th.count) ≡ Went plan (mid, noted)
+    pub first : run answer (step.next th.own) (s.shared, start_notes t th.count) ≡ Went plan (mid, noted)
     pub second : run answer (plan.go picks) (mid, noted) ≡ Went (Goes own started) (s'.shared, n)
     pub threads : s'.threads ≡ threads_after s.threads t own n.tally.count started
 
@@ -94,8 +94,8 @@ module _ {L : Type 0} (step : Language L) where
           → run answer (whole th.own picks) (s.shared, start_notes t th.count) ≡ Went flow w → settle s t flow w ≡ Completed n s' → Taken s t picks n s'
       by_flow th (Goes own started) w e r k =
           let c = completed k in
-          let p = goes_on (run answer (step th.own) (s.shared, start_notes t th.count)) (λ plan v. run answer (plan.go picks) v) (Goes own started) w
-          (sym (run_bind answer (step th.own) (λ plan. plan.go picks) (s.shared, start_notes t th.count)) ∙ r) in
+          let p = goes_on (run answer (step.next th.own) (s.shared, start_notes t th.count)) (λ plan v. run answer (plan.go picks) v) (Goes own started) w
+          (sym (run_bind answer (step.next th.own) (λ plan. plan.go picks) (s.shared, start_notes t th.count)) ∙ r) in
           record {
             th = th;
             here = e;
@@ -125,7 +125,7 @@ module _ {L : Type 0} (step : Language L) where
   pub whole_run : (s : State L) (t : ℕ) (picks : List ℕ) (n : Notes) (s' : State L) (k : Taken s t picks n s')
       → run answer (whole k.th.own picks) (s.shared, start_notes t k.th.count) ≡ Went (Goes k.own k.started) (s'.shared, n)
   whole_run s t picks n s' k =
-      run_bind answer (step k.th.own) (λ plan. plan.go picks) (s.shared, start_notes t k.th.count)
+      run_bind answer (step.next k.th.own) (λ plan. plan.go picks) (s.shared, start_notes t k.th.count)
       ∙ ap (λ o. on o (λ plan v. run answer (plan.go picks) v)) k.first
       ∙ k.second
 
@@ -137,5 +137,5 @@ module _ {L : Type 0} (step : Language L) where
 
   -- what it needs is what its plan needs
   pub needs_are : (s : State L) (t : ℕ) (th : Thread L) (plan : Plan (StepScript (Flow L))) (w : Shared × Notes) → slice_get s.threads t ≡ Some th
-      → run answer (step th.own) (s.shared, start_notes t th.count) ≡ Went plan w → needs step s t ≡ needs_in plan
+      → run answer (step.next th.own) (s.shared, start_notes t th.count) ≡ Went plan w → needs step s t ≡ needs_in plan
   needs_are s t th plan w e r = ap (needed step s t) e ∙ ap needs_of r

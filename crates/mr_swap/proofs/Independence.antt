@@ -3,6 +3,7 @@
 use Rattle.std.proofs.Common.{◌≡◌, ◌≢◌, ℕ, ◌<◌, refl, sym, ap, ◌∙◌, length, arith, ◌⊎◌, inl, inr, false, Any, Contains}
 use Rattle.std.proofs.lemmas.Bool.{both_ways, eq-eqb, or_left, or_right}
 use Rattle.std.proofs.lemmas.Option.{same_Some}
+use Rattle.mr_base.specs.declared.access.Access.{Access}
 use Rattle.mr_base.specs.declared.byte.AllocId.{AllocId}
 use Rattle.mr_base.specs.declared.thread.Event.TheVariants.{Join, Spawn}
 use Rattle.mr_mem.specs.Memory.{Allocation}
@@ -16,6 +17,7 @@ use Rattle.mr_plan.proofs.MemoryFacts.{IsDead, IsLive, IsThere, MemoryFacts}
 use Rattle.mr_swap.specs.Meets.{AreNewIn}
 use Rattle.mr_swap.specs.Spots.{ActsOn, At, EndsThread, Holder, InMemory, IsCreation, IsGoing, IsSpawn, LockCount, Over, Reads, Spot, ThreadCount, WaitsJoin, WaitsLock, Writes, at_spot}
 use Rattle.mr_swap.specs.Swap.{HasOneEvent}
+use Rattle.mr_swap.proofs.Editions.{evaluated}
 use Rattle.mr_swap.proofs.ElementTests.{any_element, any_from}
 use Rattle.mr_swap.proofs.FreeSteps.{IsFree, event_is, free_from, not_both_create, not_both_locks, not_both_spawn, not_conflicting, not_ended, not_shared, not_started, not_woken}
 use Rattle.mr_swap.proofs.LocalCalls.{local}
@@ -23,22 +25,29 @@ use Rattle.mr_swap.proofs.StatusFacts.{StatusFacts}
 use Rattle.mr_swap.proofs.StepGrows.{growing, kept}
 
 -- f is a step of thread t from s to s1, and g one of thread u from s1 to s2
-module _ (s s1 s2 : Shared) (t u ct cu : ℕ) (nf ng : Notes)
+module _ (edition : ℕ) (s s1 s2 : Shared) (t u ct cu : ℕ) (nf ng : Notes)
     (mf : MemoryFacts s.memory t ct s1.memory nf.tally) (mg : MemoryFacts s1.memory u cu s2.memory ng.tally)
     (sf : StatusFacts s.statuses t s1.statuses nf) (sg : StatusFacts s1.statuses u s2.statuses ng)
     (new : AreNewIn s1.memory u cu) (threads : t ≢ u) (is_thread : t < length s.statuses)
     (onef : HasOneEvent nf.events) (oneg : HasOneEvent ng.events)
-    (asleep : wakes (foot_of s1.memory nf) u ≡ false) (independent : depends (foot_of s1.memory nf) (foot_of s2.memory ng) ≡ false) where
+    (asleep : wakes (foot_of edition s1.memory nf) u ≡ false) (independent : depends (foot_of edition s1.memory nf) (foot_of edition s2.memory ng) ≡ false) where
   abbrev f : Footprint
-  f = foot_of s1.memory nf
+  f = foot_of edition s1.memory nf
 
   abbrev g : Footprint
-  g = foot_of s2.memory ng
+  g = foot_of edition s2.memory ng
 
   free : IsFree f g
   free = free_from f g independent
 
   -- ---- memory
+
+  -- the accesses of their evaluation are among those of their footprints
+  of_f : (a : Access) → Contains nf.tally.accesses a → Contains f.accesses a
+  of_f a h = evaluated edition s1.memory nf.tally a h
+
+  of_g : (a : Access) → Contains ng.tally.accesses a → Contains g.accesses a
+  of_g a h = evaluated edition s2.memory ng.tally a h
 
   -- what g makes wasn't there
   not_made : (id : AllocId) → Contains ng.tally.made id → IsThere s1.memory id → ⊥
@@ -67,13 +76,13 @@ module _ (s s1 s2 : Shared) (t u ct cu : ℕ) (nf ng : Notes)
   stored_covered x h k =
       let a = any_element (StoresAt x) nf.tally.accesses h in
       let b = any_element (Covers x) ng.tally.accesses k in
-      not_conflicting nf.tally.accesses ng.tally.accesses free.apart x a.0 b.0 a.1 b.1 a.2.covers b.2 (or_left a.0.store b.0.store a.2.store)
+      not_conflicting f.accesses g.accesses free.apart x a.0 b.0 (of_f a.0 a.1) (of_g b.0 b.1) a.2.covers b.2 (or_left a.0.store b.0.store a.2.store)
 
   covered_stored : (x : ℕ) → Any (Covers x) nf.tally.accesses → Any (StoresAt x) ng.tally.accesses → ⊥
   covered_stored x h k =
       let a = any_element (Covers x) nf.tally.accesses h in
       let b = any_element (StoresAt x) ng.tally.accesses k in
-      not_conflicting nf.tally.accesses ng.tally.accesses free.apart x a.0 b.0 a.1 b.1 a.2 b.2.covers (or_right a.0.store b.0.store b.2.store)
+      not_conflicting f.accesses g.accesses free.apart x a.0 b.0 (of_f a.0 a.1) (of_g b.0 b.1) a.2 b.2.covers (or_right a.0.store b.0.store b.2.store)
 
   both_stored : (x : ℕ) → Any (StoresAt x) nf.tally.accesses → Any (StoresAt x) ng.tally.accesses → ⊥
   both_stored x h k = stored_covered x h (k.0, k.1, k.2, k.3, k.4.covers)

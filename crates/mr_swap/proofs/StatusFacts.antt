@@ -134,15 +134,15 @@ module _ (ss : List Status) (t : ℕ) (xs : List Status) (n : Notes) (f : Status
 pub status_facts : (ss : List Status) (t : ℕ) (s s' : Shared) (n n' : Notes) → Change s n s' n' → StatusFacts ss t s.statuses n → StatusFacts ss t s'.statuses n'
 status_facts ss t s s' n n' (at_memory q x m k e) f = facts_same ss t s.statuses n f _ (tally_grows q s.memory m n.tally k x e).thread refl (λ u h. h)
 status_facts ss t s s' n n' new_lock f = facts_same ss t s.statuses n f _ refl refl (earlier_spawn n.events (CreateLock (length s.holders)) (λ u e. cc))
-status_facts ss t s s' n n' (takes_lock l) f = facts_same ss t s.statuses n f _ refl refl (earlier_spawn n.events (Acquire l) (λ u e. cc))
-status_facts ss t s s' n n' (awaits_lock l) f =
+status_facts ss t s s' n n' (takes_lock l there) f = facts_same ss t s.statuses n f _ refl refl (earlier_spawn n.events (Acquire l) (λ u e. cc))
+status_facts ss t s s' n n' (awaits_lock l there) f =
     facts_same ss t (slice_set s.statuses n.tally.thread (OnLock l)) n (facts_own ss t s.statuses n f (OnLock l)) _ refl refl (earlier_spawn n.events (Acquire l) (λ u e. cc))
-status_facts ss t s s' n n' (sees_lock l) f = facts_same ss t s.statuses n f _ refl refl (earlier_spawn n.events (Release l) (λ u e. cc))
-status_facts ss t s s' n n' (frees_lock l) f = facts_same ss t s.statuses n f _ refl refl (earlier_spawn n.events (Release l) (λ u e. cc))
-status_facts ss t s s' n n' (gives_lock l u w) f = facts_woken ss t s.statuses n f u (OnLock l) _ w refl refl (earlier_spawn n.events (Release l) (λ k e. cc))
+status_facts ss t s s' n n' (sees_lock l there) f = facts_same ss t s.statuses n f _ refl refl (earlier_spawn n.events (Release l) (λ u e. cc))
+status_facts ss t s s' n n' (frees_lock l there) f = facts_same ss t s.statuses n f _ refl refl (earlier_spawn n.events (Release l) (λ u e. cc))
+status_facts ss t s s' n n' (gives_lock l u there w) f = facts_woken ss t s.statuses n f u (OnLock l) _ w refl refl (earlier_spawn n.events (Release l) (λ k e. cc))
 status_facts ss t s s' n n' new_thread f = facts_started ss t s.statuses n f _ refl refl refl
-status_facts ss t s s' n n' (sees_end u) f = facts_same ss t s.statuses n f _ refl refl (earlier_spawn n.events (Join u) (λ k e. cc))
-status_facts ss t s s' n n' (awaits_end u) f =
+status_facts ss t s s' n n' (sees_end u there) f = facts_same ss t s.statuses n f _ refl refl (earlier_spawn n.events (Join u) (λ k e. cc))
+status_facts ss t s s' n n' (awaits_end u there) f =
     facts_same ss t (slice_set s.statuses n.tally.thread (OnJoin u)) n (facts_own ss t s.statuses n f (OnJoin u)) _ refl refl (earlier_spawn n.events (Join u) (λ k e. cc))
 status_facts ss t s s' n n' own_end f = facts_ended ss t s.statuses n f _ refl refl refl
 status_facts ss t s s' n n' (prints text) f = facts_same ss t s.statuses n f _ refl refl (λ u h. h)

@@ -46,14 +46,14 @@ notes_grow s t n n' (at_memory q x m k e) = record {
   ended = λ h. h;
 }
 notes_grow s t n n' new_lock = grow_event n _ (CreateLock (length s.holders)) refl refl refl
-notes_grow s t n n' (takes_lock l) = grow_event n _ (Acquire l) refl refl refl
-notes_grow s t n n' (awaits_lock l) = grow_event n _ (Acquire l) refl refl refl
-notes_grow s t n n' (sees_lock l) = grow_event n _ (Release l) refl refl refl
-notes_grow s t n n' (frees_lock l) = grow_event n _ (Release l) refl refl refl
-notes_grow s t n n' (gives_lock l u w) = grow_event n _ (Release l) refl refl refl
+notes_grow s t n n' (takes_lock l there) = grow_event n _ (Acquire l) refl refl refl
+notes_grow s t n n' (awaits_lock l there) = grow_event n _ (Acquire l) refl refl refl
+notes_grow s t n n' (sees_lock l there) = grow_event n _ (Release l) refl refl refl
+notes_grow s t n n' (frees_lock l there) = grow_event n _ (Release l) refl refl refl
+notes_grow s t n n' (gives_lock l u there w) = grow_event n _ (Release l) refl refl refl
 notes_grow s t n n' new_thread = grow_event n _ (Spawn (length s.statuses)) refl refl refl
-notes_grow s t n n' (sees_end u) = grow_event n _ (Join u) refl refl refl
-notes_grow s t n n' (awaits_end u) = grow_event n _ (Join u) refl refl refl
+notes_grow s t n n' (sees_end u there) = grow_event n _ (Join u) refl refl refl
+notes_grow s t n n' (awaits_end u there) = grow_event n _ (Join u) refl refl refl
 notes_grow s t n n' own_end = record { tally = grows_same n.tally; events = longer_same n.events; ended = λ h. refl }
 notes_grow s t n n' (prints text) = record { tally = grows_same n.tally; events = longer_same n.events; ended = λ h. h }
 
@@ -109,14 +109,14 @@ pushed_enabled xs k h =
 still_going : (s t : Shared) (n n' : Notes) → Change s n t n' → IsGoing s n → IsGoing t n'
 still_going s t n n' (at_memory q x m k e) i = λ h. ap (slice_get s.statuses) (tally_grows q s.memory m n.tally k x e).thread ∙ i h
 still_going s t n n' new_lock i = i
-still_going s t n n' (takes_lock l) i = i
-still_going s t n n' (awaits_lock l) i = λ h. absurd (cc)
-still_going s t n n' (sees_lock l) i = i
-still_going s t n n' (frees_lock l) i = i
-still_going s t n n' (gives_lock l u w) i = λ h. still_enabled s.statuses u n.tally.thread (i h)
+still_going s t n n' (takes_lock l there) i = i
+still_going s t n n' (awaits_lock l there) i = λ h. absurd (cc)
+still_going s t n n' (sees_lock l there) i = i
+still_going s t n n' (frees_lock l there) i = i
+still_going s t n n' (gives_lock l u there w) i = λ h. still_enabled s.statuses u n.tally.thread (i h)
 still_going s t n n' new_thread i = λ h. pushed_enabled s.statuses n.tally.thread (i h)
-still_going s t n n' (sees_end u) i = i
-still_going s t n n' (awaits_end u) i = λ h. absurd (cc)
+still_going s t n n' (sees_end u there) i = i
+still_going s t n n' (awaits_end u there) i = λ h. absurd (cc)
 still_going s t n n' own_end i = λ h. absurd (cc)
 still_going s t n n' (prints text) i = i
 

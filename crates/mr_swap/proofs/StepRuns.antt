@@ -13,14 +13,14 @@ use Rattle.mr_swap.proofs.StatusFacts.{StatusFacts, start_statuses, status_facts
 pub memory_kept : (m0 : Memory) (t c : ℕ) (s s' : Shared) (n n' : Notes) → Change s n s' n' → MemoryFacts m0 t c s.memory n.tally → MemoryFacts m0 t c s'.memory n'.tally
 memory_kept m0 t c s s' n n' (at_memory q x m k e) f = memory_facts m0 t c q s.memory m n.tally k x f e
 memory_kept m0 t c s s' n n' new_lock f = f
-memory_kept m0 t c s s' n n' (takes_lock l) f = f
-memory_kept m0 t c s s' n n' (awaits_lock l) f = f
-memory_kept m0 t c s s' n n' (sees_lock l) f = f
-memory_kept m0 t c s s' n n' (frees_lock l) f = f
-memory_kept m0 t c s s' n n' (gives_lock l u w) f = f
+memory_kept m0 t c s s' n n' (takes_lock l there) f = f
+memory_kept m0 t c s s' n n' (awaits_lock l there) f = f
+memory_kept m0 t c s s' n n' (sees_lock l there) f = f
+memory_kept m0 t c s s' n n' (frees_lock l there) f = f
+memory_kept m0 t c s s' n n' (gives_lock l u there w) f = f
 memory_kept m0 t c s s' n n' new_thread f = f
-memory_kept m0 t c s s' n n' (sees_end u) f = f
-memory_kept m0 t c s s' n n' (awaits_end u) f = f
+memory_kept m0 t c s s' n n' (sees_end u there) f = f
+memory_kept m0 t c s s' n n' (awaits_end u there) f = f
 memory_kept m0 t c s s' n n' own_end f = f
 memory_kept m0 t c s s' n n' (prints text) f = f
 

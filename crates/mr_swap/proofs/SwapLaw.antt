@@ -11,7 +11,8 @@ use Rattle.mr_script.proofs.SwapRuns.{Apart, Follows, Grows, Swapped, follows, f
 use Rattle.mr_sync.specs.Tables.{on_lock}
 use Rattle.mr_plan.specs.Legal.{count_of, state_fault}
 use Rattle.mr_plan.specs.Machine.{Completed, Creation, CreatesLock, CreatesNothing, CreatesThread, Goes, Language, Needs, State, Thread, bare, needs}
-use Rattle.mr_plan.specs.Notes.{Notes, foot_of, start_notes}
+use Rattle.mr_plan.specs.Notes.{Notes, start_notes}
+use Rattle.mr_plan.specs.Runs.{foot_in}
 use Rattle.mr_plan.specs.Queries.{Query, Reply, Shared, StepScript, answer}
 use Rattle.mr_plan.proofs.MemoryFacts.{MemoryFacts}
 use Rattle.mr_swap.specs.Meets.{AreNewIn, Exchanged, HasRoom, IsLegalEntry, Meets}
@@ -19,6 +20,7 @@ use Rattle.mr_swap.specs.Spots.{At, IsGoing, LockCount, Reads, Spot, ThreadCount
 use Rattle.mr_swap.specs.Swap.{AreExchanged, IsCreated, IsSane, IsStarted, IsTelling, IsWaiter, StepTold, SwapLaw}
 use Rattle.mr_swap.proofs.BareSteps.{Taken, bare_goes, element_at, needs_are, needs_in, other_thread, taken, threads_after, threads_in_order, whole, whole_run}
 use Rattle.mr_swap.proofs.ElementTests.{any_from}
+use Rattle.mr_swap.proofs.Editions.{foot_same, freed_there}
 use Rattle.mr_swap.proofs.FreeSteps.{not_woken}
 use Rattle.mr_swap.proofs.Independence.{apart_steps}
 use Rattle.mr_swap.proofs.LegalEntries.{enabled_of_legal, entry_of_legal, legal_of_entry}
@@ -57,7 +59,7 @@ room_there s s' CreatesLock n told same h = subst (λ k. k < 4096) (same LockCou
 module _ {L : Type 0} (step : Language L) (tells : IsTelling step) (s s1 s2 : State L) (t u : ℕ) (ps qs : List ℕ) (nf ng : Notes) (sane : IsSane s) (threads : t ≢ u)
     (legal_f : state_fault step s t ps ≡ None) (bare_f : bare step s t ps ≡ Completed nf s1)
     (legal_g : state_fault step s1 u qs ≡ None) (bare_g : bare step s1 u qs ≡ Completed ng s2)
-    (asleep : wakes (foot_of s1.shared.memory nf) u ≡ false) (free : depends (foot_of s1.shared.memory nf) (foot_of s2.shared.memory ng) ≡ false) where
+    (asleep : wakes (foot_in step nf s1) u ≡ false) (free : depends (foot_in step nf s1) (foot_in step ng s2) ≡ false) where
   f : Taken step s t ps nf s1
   f = taken step s t ps nf s1 bare_f
 
@@ -101,7 +103,7 @@ module _ {L : Type 0} (step : Language L) (tells : IsTelling step) (s s1 s2 : St
 
   -- the second thread is enabled before the first step, which didn't wake it
   u_on : slice_get s.shared.statuses u ≡ Some Enabled
-  u_on = elim (facts_f.before u turned u_on_later) [ inl h ↦ h | inr h ↦ absurd ((not_woken (foot_of s1.shared.memory nf) u asleep).0 h) ]
+  u_on = elim (facts_f.before u turned u_on_later) [ inl h ↦ h | inr h ↦ absurd ((not_woken (foot_in step nf s1) u asleep).0 h) ]
 
   t_in : t < length s.shared.statuses
   t_in = slice_get_within s.shared.statuses t Enabled t_on
@@ -139,7 +141,7 @@ module _ {L : Type 0} (step : Language L) (tells : IsTelling step) (s s1 s2 : St
   -- ---- the exchange
 
   apart : Apart Query Reply Shared Notes answer Spot At at_spot Reads Writes IsGoing local growing kept nf ng
-  apart = apart_steps s.shared s1.shared s2.shared t u f.th.count g.th.count nf ng memory_f memory_g facts_f facts_g new_u_later threads t_in told_f.one_event told_g.one_event asleep free
+  apart = apart_steps step.edition s.shared s1.shared s2.shared t u f.th.count g.th.count nf ng memory_f memory_g facts_f facts_g new_u_later threads t_in told_f.one_event told_g.one_event asleep free
 
   -- the first thread is enabled still behind the second step
   still_on : (v : Shared) → run answer (whole step g.th.own qs) (s.shared, notes_g) ≡ Went (Goes g.own g.started) (v, ng) → slice_get v.statuses t ≡ Some Enabled
@@ -191,12 +193,12 @@ module _ {L : Type 0} (step : Language L) (tells : IsTelling step) (s s1 s2 : St
   grows_g = step_grows (g.plan.go qs) g.mid s2.shared g.noted ng (Goes g.own g.started) g.second
 
   -- the second step makes the same plan before the first one
-  same_g : Follows Query Reply Shared Notes answer Spot At at_spot Reads Writes IsGoing (run answer (step g.th.own)) s1.shared s.shared g.mid notes_g g.noted g.plan
-  same_g = step_follows (step g.th.own) s1.shared s.shared g.mid notes_g g.noted g.plan (λ e. u_on_later) (λ e. u_on) g.first (λ o r. kept_g o (grows_g.reads_grow o r))
+  same_g : Follows Query Reply Shared Notes answer Spot At at_spot Reads Writes IsGoing (run answer (step.next g.th.own)) s1.shared s.shared g.mid notes_g g.noted g.plan
+  same_g = step_follows (step.next g.th.own) s1.shared s.shared g.mid notes_g g.noted g.plan (λ e. u_on_later) (λ e. u_on) g.first (λ o r. kept_g o (grows_g.reads_grow o r))
 
   -- and the first one behind the second one
-  same_f : Follows Query Reply Shared Notes answer Spot At at_spot Reads Writes IsGoing (run answer (step f.th.own)) s.shared x.between f.mid notes_f f.noted f.plan
-  same_f = step_follows (step f.th.own) s.shared x.between f.mid notes_f f.noted f.plan (λ e. t_on) (λ e. still_on x.between x.second_first) f.first (λ o r. kept_f o (grows_f.reads_grow o r))
+  same_f : Follows Query Reply Shared Notes answer Spot At at_spot Reads Writes IsGoing (run answer (step.next f.th.own)) s.shared x.between f.mid notes_f f.noted f.plan
+  same_f = step_follows (step.next f.th.own) s.shared x.between f.mid notes_f f.noted f.plan (λ e. t_on) (λ e. still_on x.between x.second_first) f.first (λ o r. kept_f o (grows_f.reads_grow o r))
 
   needs_f : needs step s t ≡ needs_in f.plan
   needs_f = needs_are step s t f.th f.plan (f.mid, f.noted) f.here f.first
@@ -218,6 +220,15 @@ module _ {L : Type 0} (step : Language L) (tells : IsTelling step) (s s1 s2 : St
 
   memory_g_first : MemoryFacts s.shared.memory u g.th.count x.between.memory ng.tally
   memory_g_first = memory_of (whole step g.th.own qs) s.shared x.between u g.th.count ng (Goes g.own g.started) x.second_first new_u
+
+  new_t_later : AreNewIn x.between.memory t f.th.count
+  new_t_later = λ id a e is. elim (memory_g_first.from id a e) [
+    | inl k ↦ let made = memory_g_first.made id k.0 in absurd (threads (sym is ∙ made.0))
+    | inr k ↦ new_t id k.alloc k.there is
+  ]
+
+  memory_f_second : MemoryFacts x.between.memory t f.th.count s2.shared.memory nf.tally
+  memory_f_second = memory_of (whole step f.th.own ps) x.between s2.shared t f.th.count nf (Goes f.own f.started) x.first_second new_t_later
 
   -- who waits for a lock that is asked for is the same
   waits_g : (l w : ℕ) → Contains g.plan.asks (Waiter l) → on_lock l (slice_get s1.shared.statuses w) ≡ on_lock l (slice_get s.shared.statuses w)
@@ -264,7 +275,7 @@ module _ {L : Type 0} (step : Language L) (tells : IsTelling step) (s s1 s2 : St
   }
 
   -- THE TWO STEPS, EXCHANGED
-  pub steps_swapped : AreExchanged step s s2 t u ps qs nf ng
+  pub steps_swapped : AreExchanged step s s1 s2 t u ps qs nf ng
   steps_swapped = record {
     between = between;
     second_legal = legal_of_entry step s u qs entry_g_first;
@@ -273,6 +284,8 @@ module _ {L : Type 0} (step : Language L) (tells : IsTelling step) (s s1 s2 : St
     first_second =
         bare_goes step between t ps f.th f.own f.started s2.shared nf t_here x.first_second
         ∙ ap (λ ths. Completed nf (end_with ths)) threads_end;
+    second_foot = foot_same step.edition x.between.memory s2.shared.memory ng (freed_there memory_g_first memory_f_second);
+    first_foot = sym (foot_same step.edition s1.shared.memory s2.shared.memory nf (freed_there memory_f memory_g));
   }
 
 -- THE SWAP LAW

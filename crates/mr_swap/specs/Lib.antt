@@ -1,3 +1,4 @@
+pub mod Limits
 pub mod Meets
 pub mod Spots
 pub mod Swap

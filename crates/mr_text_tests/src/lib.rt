@@ -1,5 +1,5 @@
 //! The tests of the text layer: names, tokens, the parser, the canonical printer, the text of schedules, the JSON of
-//! reports, what is made from a number, and what reasons and rules are called. It has no code of its own.
+//! reports, the bytes of traces, what is made from a number, and what reasons and rules are called. It has no code of its own.
 #![tactic(auto)]
 
 #[cfg(test)]
@@ -18,6 +18,8 @@ mod reports;
 mod schedules;
 #[cfg(test)]
 mod tokens;
+#[cfg(test)]
+mod traces;
 
 // What is told is what is wanted. A failure tells the name of the case.
 #[cfg(test)]

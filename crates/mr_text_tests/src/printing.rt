@@ -64,6 +64,19 @@ static SMALLEST_LINES: [&str; 7] = [
     "main main",
 ];
 
+// The same of edition 2.
+const SMALLEST_OF_TWO: &str = "minirust 2\nfn main()->r{let r:unit;b0 regular:exit;}main main";
+
+static SMALLEST_OF_TWO_LINES: [&str; 7] = [
+    "minirust 2",
+    "fn main ( ) -> r {",
+    "let r : unit ;",
+    "b0 regular :",
+    "exit ;",
+    "}",
+    "main main",
+];
+
 // A program with every construct, with blanks only where they are needed, and repeats of 1.
 static EVERY_CONSTRUCT: [&str; 54] = [
     "minirust 1#the first edition\r",
@@ -183,6 +196,7 @@ static EVERY_CONSTRUCT_LINES: [&str; 54] = [
 #[test]
 fn the_smallest_program(rt: HostRuntime) -> Result<(), Fail> {
     expect_lines(&rt, SMALLEST, SMALLEST_LINES.as_slice())?;
+    expect_lines(&rt, SMALLEST_OF_TWO, SMALLEST_OF_TWO_LINES.as_slice())?;
     Ok(())
 }
 

@@ -2,7 +2,7 @@
 use crate::expect_same;
 use mr_base::{Reason, Verdict};
 use mr_report::{Line, Pair, Report, json};
-use mr_sched::{Items, Schedule, read};
+use mr_sched::{Items, Schedule, Version, read_version};
 use std::alloc::{AllocError, Global};
 use std::process::Abort;
 use std::string::String;
@@ -14,12 +14,14 @@ fn object(
     verdict: Verdict,
     races: &[Pair],
     witness: Option<&Schedule>,
+    version: Version,
 ) -> Result<String, AllocError> {
     let report = Report {
         output: &[],
         verdict,
         races,
         witness,
+        version,
     };
     let mut out = Vec::from_slice(alloc, b"# ")?;
     json(alloc, &report, &mut out)?;
@@ -35,6 +37,7 @@ fn printed(alloc: Global) -> Result<String, AllocError> {
         verdict: Verdict::Exit,
         races: &[],
         witness: None,
+        version: Version::One,
     };
     let mut out = Vec::new(alloc);
     json(alloc, &report, &mut out)?;
@@ -47,12 +50,13 @@ fn raced(alloc: Global, witness: &str) -> Result<String, AllocError> {
         first: 1,
         second: 2,
     }];
-    match read(alloc, witness.as_bytes()) {
-        Ok(schedule) => object(
+    match read_version(alloc, witness.as_bytes()) {
+        Ok(read) => object(
             alloc,
             Verdict::Undefined(Reason::DataRace),
             &races,
-            Some(&schedule),
+            Some(&read.schedule),
+            read.version,
         ),
         Err(fault) => format!(in alloc; "{fault:?}"),
     }
@@ -60,7 +64,7 @@ fn raced(alloc: Global, witness: &str) -> Result<String, AllocError> {
 
 #[test]
 fn objects(rt: HostRuntime) -> Result<(), Fail> {
-    let exit = object(rt.alloc(), Verdict::Exit, &[], None)?;
+    let exit = object(rt.alloc(), Verdict::Exit, &[], None, Version::One)?;
     let plain = "# {\"output\":[],\"races\":[],\"verdict\":\"exit\",\"witness\":null}\n";
     expect_same(&rt, exit.as_str(), plain, "exit");
     let line = printed(rt.alloc())?;
@@ -69,14 +73,23 @@ fn objects(rt: HostRuntime) -> Result<(), Fail> {
     Ok(())
 }
 
+// Witnesses in both versions, and the objects with them.
+const RACED: [(&str, &str); 2] = [
+    (
+        "schedule 1\nstart 16 17 4096 32\n0 33 8208\n0 34 8216\n1\n",
+        "# {\"output\":[],\"races\":[[2,3]],\"verdict\":\"undefined 100 DataRace\",\"witness\":\"schedule 1\\nstart 16 17 4096 32\\n0 33 8208\\n0 34 8216\\n1\\n\"}\n",
+    ),
+    (
+        "schedule 2\nstart 16 17 4096 32\n0 33 8208\n0 34 8216\n1*3\n",
+        "# {\"output\":[],\"races\":[[2,3]],\"verdict\":\"undefined 100 DataRace\",\"witness\":\"schedule 2\\nstart 16 17 4096 32\\n0 33 8208\\n0 34 8216\\n1*3\\n\"}\n",
+    ),
+];
+
 #[test]
 fn an_object_with_a_race(rt: HostRuntime) -> Result<(), Fail> {
-    let told = raced(
-        rt.alloc(),
-        "schedule 1\nstart 16 17 4096 32\n0 33 8208\n0 34 8216\n1\n",
-    )?;
-    let wanted =
-        "# {\"output\":[],\"races\":[[2,3]],\"verdict\":\"undefined 100 DataRace\",\"witness\":\"schedule 1\\nstart 16 17 4096 32\\n0 33 8208\\n0 34 8216\\n1\\n\"}\n";
-    expect_same(&rt, told.as_str(), wanted, "a race");
+    for (witness, wanted) in RACED {
+        let told = raced(rt.alloc(), witness)?;
+        expect_same(&rt, told.as_str(), wanted, "a race");
+    }
     Ok(())
 }

@@ -24,7 +24,7 @@ use Rattle.mr_frame.specs.Operations.{DueDo, next_do}
 use Rattle.mr_frame.proofs.DoSafe.{do_stands}
 use Rattle.mr_frame.proofs.Places.{within}
 use Rattle.mr_thread.specs.SoundState.{FitsStatus, SoundState}
-use Rattle.mr_thread.specs.Steps.{Own, Turn, step_due, thread_step}
+use Rattle.mr_thread.specs.Steps.{Own, Turn, own_step, step_due, thread_step}
 use Rattle.mr_thread.proofs.DoTurn.{do_turn}
 use Rattle.mr_thread.proofs.FrameTurn.{PlanTurns, frame_turn}
 use Rattle.mr_thread.proofs.Settled.{settled_sound}
@@ -66,8 +66,8 @@ module _ (look : Look) (is : IsLook look) (well : WellFormed look.program) (s : 
     front = in_front_of_others p s.threads t th here s.shared.memory sound.held
 
     -- the step of the thread plans its turn
-    planned_turn : After (PlanTurns p s.shared t th.count others) (run answer (thread_step look th.own) (s.shared, start_notes t th.count))
-    unfolding thread_step
+    planned_turn : After (PlanTurns p s.shared t th.count others) (run answer (own_step look th.own) (s.shared, start_notes t th.count))
+    unfolding own_step
     planned_turn = by_due (next_do look th.own.stack) refl
       where
         by_due : (o : Option DueDo) → next_do look th.own.stack ≡ o → After (PlanTurns p s.shared t th.count others) (run answer (step_due look th.own o) (s.shared, start_notes t th.count))
@@ -90,8 +90,8 @@ module _ (look : Look) (is : IsLook look) (well : WellFormed look.program) (s : 
 
     acted_sound : needs_fault s.shared t th.count (needed (thread_step look) s t (Some th)) picks ≡ None → SoundBare p (acted (thread_step look) s t picks (Some th))
     acted_sound legal =
-        subst (λ o. SoundBare p (settled s t o)) (sym (run_bind answer (thread_step look th.own) (λ plan. plan.go picks) (s.shared, start_notes t th.count)))
-        (carried (run answer (thread_step look th.own) (s.shared, start_notes t th.count)) planned_turn legal)
+        subst (λ o. SoundBare p (settled s t o)) (sym (run_bind answer (own_step look th.own) (λ plan. plan.go picks) (s.shared, start_notes t th.count)))
+        (carried (run answer (own_step look th.own) (s.shared, start_notes t th.count)) planned_turn legal)
 
   -- A BARE STEP of a legal entry
   pub bare_sound : state_fault (thread_step look) s t picks ≡ None → SoundBare p (bare (thread_step look) s t picks)

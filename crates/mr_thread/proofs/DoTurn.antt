@@ -29,7 +29,7 @@ use Rattle.mr_wf.specs.Walk.{WellFormed}
 use Rattle.mr_wf.proofs.KindLaws.{fn_ptr_is, raw_is}
 use Rattle.mr_script.specs.Script.{Done, Undefined, IllFormed, Ask, ◌>>=◌, Outcome, Went, on, run}
 use Rattle.mr_eval.specs.Tally.{start_tally}
-use Rattle.mr_eval.proofs.ShapeOf.{HaveShapes}
+use Rattle.mr_eval.specs.Shapes.{HaveShapes}
 use Rattle.mr_sync.specs.Sound.{IsSoundTables}
 use Rattle.mr_sync.specs.Tables.{over, spawned}
 use Rattle.mr_sync.proofs.SoundTables.{stay_sound}
@@ -46,10 +46,10 @@ use Rattle.mr_plan.proofs.Rooms.{behind, in_front}
 use Rattle.mr_frame.specs.Calls.{behind_first, callee_of, enter, kept_types, local_type, same_types, storage_asks}
 use Rattle.mr_frame.specs.Fits.{FitsStack, IsLook}
 use Rattle.mr_frame.specs.Frames.{Frame, Look, Stack}
-use Rattle.mr_frame.specs.Operations.{DueDo, Operands, finish, next_do, operands}
+use Rattle.mr_frame.specs.Operations.{DueDo, Operands, OperandsFit, finish, next_do, operands}
 use Rattle.mr_frame.specs.Storage.{frame_slots, slots_with}
 use Rattle.mr_frame.proofs.CallSafe.{IsFirst, enter_safe, equal_types, kept_there, position_below}
-use Rattle.mr_frame.proofs.DoSafe.{DoStands, OperandsFit, ValueFits, do_stands, finish_safe, operands_safe}
+use Rattle.mr_frame.proofs.DoSafe.{DoStands, ValueFits, do_stands, finish_safe, operands_safe}
 use Rattle.mr_frame.proofs.Frames.{function_keeps}
 use Rattle.mr_frame.proofs.Places.{within}
 use Rattle.mr_frame.proofs.StorageSteps.{enter_keeps, finish_keeps}

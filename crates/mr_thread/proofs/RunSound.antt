@@ -6,17 +6,13 @@ use Rattle.mr_ast.specs.declared.program.Program.{Program}
 use Rattle.mr_sched.specs.declared.schedule.Entry.{Entry}
 use Rattle.mr_wf.specs.Walk.{WellFormed}
 use Rattle.mr_plan.specs.Legal.{Fault, fault, state_fault}
-use Rattle.mr_plan.specs.Machine.{Bare, Completed, IllFormedStep, State, Stops, bare}
+use Rattle.mr_plan.specs.Machine.{Bare, Completed, IllFormedStep, Language, State, Stops, bare}
 use Rattle.mr_plan.specs.Runs.{AreLegal, Config, NeverIllFormed, after_bare, entry_fault, fault_in, has_rule, is_ill_formed, is_running, machine_step, stepped_from}
 use Rattle.mr_frame.specs.Fits.{IsLook}
 use Rattle.mr_frame.specs.Frames.{Look}
-use Rattle.mr_thread.specs.SoundState.{SoundState}
+use Rattle.mr_thread.specs.SoundState.{IsSoundConfig, SoundState}
 use Rattle.mr_thread.specs.Steps.{Own, thread_step}
 use Rattle.mr_thread.proofs.BareKept.{SoundBare, bare_sound}
-
--- the state of a machine, as long as there is one, keeps what states keep
-abbrev pub IsSoundConfig : Program → Config Own → Type 0
-IsSoundConfig p c = (s : State Own) → c.state ≡ Some s → SoundState p s
 
 -- a legal entry finds a state, of which it breaks no rule
 pub record LegalAt (look : Look) (c : Config Own) (e : Entry) : Type 0 where
@@ -24,7 +20,7 @@ pub record LegalAt (look : Look) (c : Config Own) (e : Entry) : Type 0 where
   pub is : c.state ≡ Some state
   pub legal : state_fault (thread_step look) state e.thread e.picks ≡ None
 
-legal_at : (look : Look) (c : Config Own) (e : Entry) → entry_fault (thread_step look) c e ≡ None → LegalAt look c e
+pub legal_at : (look : Look) (c : Config Own) (e : Entry) → entry_fault (thread_step look) c e ≡ None → LegalAt look c e
 unfolding entry_fault
 legal_at look c e h = by_verdict (is_running c.verdict) h
   where
@@ -41,13 +37,13 @@ rule_there p (Completed n s) h = refl
 rule_there p (Stops v) h = refl
 rule_there p IllFormedStep h = absurd h
 
-sound_behind : (p : Program) (c : Config Own) (b : Bare Own) → SoundBare p b → IsSoundConfig p (after_bare c b)
-sound_behind p c (Completed n s) h = λ x e. subst (SoundState p) (same_Some s x e) h
-sound_behind p c (Stops v) h = λ x e. absurd (by_none e)
+sound_behind : (p : Program) (step : Language Own) (c : Config Own) (b : Bare Own) → SoundBare p b → IsSoundConfig p (after_bare step c b)
+sound_behind p step c (Completed n s) h = λ x e. subst (SoundState p) (same_Some s x e) h
+sound_behind p step c (Stops v) h = λ x e. absurd (by_none e)
   where
     by_none : {x : State Own} → None ≡ Some x → ⊥
     by_none e = cc
-sound_behind p c IllFormedStep h = absurd h
+sound_behind p step c IllFormedStep h = absurd h
 
 module _ (look : Look) (is : IsLook look) (well : WellFormed look.program) where
   -- a legal entry, at a machine whose state keeps it all
@@ -59,7 +55,7 @@ module _ (look : Look) (is : IsLook look) (well : WellFormed look.program) where
       let step = bare_sound look is well at.state (sound at.state at.is) e.thread e.picks at.legal in (
         ap (has_rule (thread_step look) e.thread e.picks) at.is ∙ rule_there look.program (bare (thread_step look) at.state e.thread e.picks) step,
         subst (λ (o : Option (State Own)). IsSoundConfig look.program (stepped_from (thread_step look) c e.thread e.picks o)) (sym at.is)
-            (sound_behind look.program c (bare (thread_step look) at.state e.thread e.picks) step),
+            (sound_behind look.program (thread_step look) c (bare (thread_step look) at.state e.thread e.picks) step),
       )
 
   -- NO BARE STEP OF A LEGAL RUN IS ILL-FORMED, in a well-formed program

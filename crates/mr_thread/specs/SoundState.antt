@@ -9,6 +9,7 @@ use Rattle.mr_mem.specs.Memory.{Allocation, Memory}
 use Rattle.mr_sync.specs.Sound.{IsSoundTables}
 use Rattle.mr_plan.specs.Machine.{State, Thread}
 use Rattle.mr_plan.specs.Queries.{tables_of}
+use Rattle.mr_plan.specs.Runs.{Config}
 use Rattle.mr_plan.specs.Storage.{AreHeld, Slot}
 use Rattle.mr_frame.specs.Fits.{FitsStack}
 use Rattle.mr_frame.specs.Frames.{Stack}
@@ -48,3 +49,7 @@ pub record SoundState (p : Program) (s : State Own) : Type 0 where
       → slice_get s.threads t ≡ Some th → FitsStatus p status th.own.stack
   pub counted : (id : AllocId) (a : Allocation) → fin.get s.shared.memory id ≡ Some a → IsCounted s.threads id
   pub held : AreHeld s.shared.memory (thread_slots p s.threads)
+
+-- the state of a machine, as long as there is one, keeps what states keep
+abbrev pub IsSoundConfig : Program → Config Own → Type 0
+IsSoundConfig p c = (s : State Own) → c.state ≡ Some s → SoundState p s

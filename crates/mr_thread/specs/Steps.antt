@@ -130,6 +130,10 @@ abbrev pub step_due : Look → Own → Option DueDo → TurnPlan
 step_due look own None = frame_step look own
 step_due look own (Some d) = do_step look own d
 
--- THE STEP OF A THREAD: the language of the machine
-unfoldable pub thread_step : Look → Language Own
-thread_step look own = step_due look own (next_do look own.stack)
+-- THE STEP OF A THREAD
+unfoldable pub own_step : Look → Own → TurnPlan
+own_step look own = step_due look own (next_do look own.stack)
+
+-- the language of the machine
+abbrev pub thread_step : Look → Language Own
+thread_step look = record { next = own_step look; edition = look.program.edition }

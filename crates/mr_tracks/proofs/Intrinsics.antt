@@ -1,5 +1,5 @@
 -- Each intrinsic makes the allocation that it asked for, notes one event at most, and asks for a waiter only of a lock that it looked at.
-use Rattle.std.proofs.Common.{ℕ, refl, List, [], ◌∷◌, Bool, true, false, Option, Some, None, ◌-◌, ◌^◌}
+use Rattle.std.proofs.Common.{ℕ, refl, arith, List, [], ◌∷◌, Bool, true, false, Option, Some, None, ◌-◌, ◌^◌}
 use Rattle.std.specs.Prelude.{if◌then◌else◌, nat_lt}
 use Rattle.mr_ast.specs.declared.program.Intrinsic.{Intrinsic}
 use Rattle.mr_ast.specs.declared.program.Intrinsic.TheVariants as intrinsic
@@ -84,26 +84,26 @@ deallocate_tells what size align =
 -- ---- threads and locks
 
 join_tells : (thread : Val) → OperationTells (join thread)
-join_tells thread = instant_tells _ (found_then (OpTells CreatesNothing []) unmarked (number_in (out-Val thread)) _ (λ u x. tells_one (Join u)))
+join_tells thread = instant_tells _ (found_then (OpTells CreatesNothing []) unmarked (number_in (out-Val thread)) _ (λ u x. tells_one (Join u) (λ h. h) (λ h. h)))
 
 create_lock_tells : OperationTells create_lock
 create_lock_tells = record {
   looks = λ l w. absurd (Any-nil (IsWaiter l) w);
-  acts = λ picks l. record { allocates = refl; one_event = one_event (CreateLock l); creates = Any-single IsCreation (CreateLock l) tt };
+  acts = λ picks l. record { allocates = refl; one_event = one_event (CreateLock l); creates = Any-single IsCreation (CreateLock l) tt; once = omega arith };
 }
 
 acquire_tells : (lock : Val) → OperationTells (acquire lock)
-acquire_tells lock = instant_tells _ (found_then (OpTells CreatesNothing []) unmarked (number_in (out-Val lock)) _ (λ l x. tells_one (Acquire l)))
+acquire_tells lock = instant_tells _ (found_then (OpTells CreatesNothing []) unmarked (number_in (out-Val lock)) _ (λ l x. tells_one (Acquire l) (λ h. h) (λ h. h)))
 
 -- a lock that was looked at is given back
-releasing_tells : (l : ℕ) (waits : Bool) → PlanTells OpTells (releasing l waits) (Release l ∷ [], [])
+releasing_tells : (l : ℕ) (waits : Bool) → PlanTells OpTells (releasing l waits) ((Release l ∷ [], 0), [])
 releasing_tells l true = record { looks = λ k w. Any-single (ActsOn k) (Release l) (Any-one (IsWaiter k) (Waiter l) w); acts = to_waiter }
   where
-    to_waiter : (picks : List ℕ) → Tracks marked (OpTells CreatesNothing (addresses (Waiter l ∷ []) picks)) (Release l ∷ [], []) ((releasing l true).go picks)
+    to_waiter : (picks : List ℕ) → Tracks marked (OpTells CreatesNothing (addresses (Waiter l ∷ []) picks)) ((Release l ∷ [], 0), []) ((releasing l true).go picks)
     to_waiter [] = tt
-    to_waiter (u ∷ []) = λ x. tells_same (Release l)
+    to_waiter (u ∷ []) = λ x. tells_same (Release l) 1 (omega arith) (λ h. h) (λ h. h)
     to_waiter (u ∷ v ∷ picks) = tt
-releasing_tells l false = record { looks = λ k w. absurd (Any-nil (IsWaiter k) w); acts = λ picks x. tells_same (Release l) }
+releasing_tells l false = record { looks = λ k w. absurd (Any-nil (IsWaiter k) w); acts = λ picks x. tells_same (Release l) 0 (omega arith) (λ h. h) (λ h. h) }
 
 release_tells : (lock : Val) → OperationTells (release lock)
 release_tells lock = found_then (PlanTells OpTells) unmarked (number_in (out-Val lock)) _ (λ l waits. releasing_tells l waits)

@@ -1,5 +1,5 @@
 -- The step of a thread tells what it does.
-use Rattle.std.proofs.Common.{◌≡◌, ℕ, refl, sym, subst, List, [], ◌∷◌, Bool, true, false, Option, Some, None}
+use Rattle.std.proofs.Common.{◌≡◌, ℕ, refl, sym, subst, arith, List, [], ◌∷◌, Bool, true, false, Option, Some, None}
 use Rattle.std.specs.Prelude.{if◌then◌else◌, slice_get}
 use Rattle.mr_ast.specs.declared.program.Function.{Function}
 use Rattle.mr_ast.specs.declared.program.Intrinsic.{Intrinsic}
@@ -23,13 +23,13 @@ use Rattle.mr_intr.specs.Operations.{Operation, operation, pointer_in}
 use Rattle.mr_swap.specs.Meets.{addresses}
 use Rattle.mr_swap.specs.Spots.{IsSpawn}
 use Rattle.mr_swap.specs.Swap.{IsStarted}
-use Rattle.mr_thread.specs.Steps.{Own, TurnPlan, do_step, finished, finishing, frame_step, in_step, last_payload, new_thread, onward, operated, spawn, spawn_function, spawn_number, spawn_types, start, step_due, thread_step, thread_types}
+use Rattle.mr_thread.specs.Steps.{Own, TurnPlan, do_step, finished, finishing, frame_step, in_step, last_payload, new_thread, onward, operated, own_step, spawn, spawn_function, spawn_number, spawn_types, start, step_due, thread_types}
 use Rattle.mr_tracks.proofs.Calls.{enters}
 use Rattle.mr_tracks.proofs.FrameSteps.{FrameTells, frame_tells}
 use Rattle.mr_tracks.proofs.Intrinsics.{OperationTells, found_then, instant_tells, operation_tells}
 use Rattle.mr_tracks.proofs.Marks.{Marks, NewRanges, marked, unmarked}
 use Rattle.mr_tracks.proofs.Parts.{makes_behind, makes_first, reads_any, reads_then}
-use Rattle.mr_tracks.proofs.Tells.{Any-single, OpTells, PlanTells, Tells, TurnTells, no_waiter, one_event, tells_quiet}
+use Rattle.mr_tracks.proofs.Tells.{Any-single, OpTells, PlanTells, Tells, TurnTells, no_waiter, one_event, tells_end, tells_quiet}
 use Rattle.mr_tracks.proofs.Tracked.{Tracks, tracks_then}
 
 -- the plan of a turn tells what it does
@@ -40,9 +40,9 @@ StepTells script = Tracks marked (PlanTells TurnTells) unmarked script
 
 module _ (own : Own) where
   -- how the thread goes on notes nothing more of both; the end of a thread is no event
-  onward_tells : (ranges : NewRanges) (o : Onward) → Tracks marked (TurnTells CreatesNothing ranges) ([], ranges) (onward own o)
+  onward_tells : (ranges : NewRanges) (o : Onward) → Tracks marked (TurnTells CreatesNothing ranges) (([], 0), ranges) (onward own o)
   onward_tells ranges (GoesOn s) = (tells_quiet ranges, tt)
-  onward_tells ranges (EndsThread s) = λ x. (tells_quiet ranges, tt)
+  onward_tells ranges (EndsThread s) = λ x. (tells_end ranges, tt)
   onward_tells ranges Exits = tt
   onward_tells ranges Aborts = tt
 
@@ -72,7 +72,7 @@ result_quiet (Some p) (Some t) (Some v) = store_quiet t p v
 
 module _ (own : Own) (d : DueDo) (o : Operands) where
   -- what was told is told behind the store of the value
-  finishing_tells : (v : Option Val) (started : Option Own) (creation : Creation) (ranges : NewRanges) (e : Marks) → Tells creation ranges e → IsStarted started e.0 → Tracks marked (TurnTells creation ranges) e (finishing own d o v started)
+  finishing_tells : (v : Option Val) (started : Option Own) (creation : Creation) (ranges : NewRanges) (e : Marks) → Tells creation ranges e → IsStarted started e.0.0 → Tracks marked (TurnTells creation ranges) e (finishing own d o v started)
   finishing_tells v started creation ranges e told is_started =
       makes_first (TurnTells creation ranges) e e.1 (finish own.stack d o v) _
       (makes_behind e.1 e.1 (store_result o.result o.result_type v) _ (result_quiet o.result o.result_type v) (λ u. refl))
@@ -103,8 +103,8 @@ module _ (own : Own) (d : DueDo) (o : Operands) where
   start_tells number fn argument types typed picks =
       let ranges : NewRanges = addresses (storage_asks types) picks in
       makes_first (TurnTells CreatesThread ranges) unmarked ranges (enter number (Some fn) (argument ∷ []) picks) _ (enters [] number fn types typed (argument ∷ []) picks)
-      (λ frame thread. finishing_tells (Some (val.Int thread)) (Some (new_thread thread frame)) CreatesThread ranges (Spawn thread ∷ [], ranges)
-      (record { allocates = refl; one_event = one_event (Spawn thread); creates = Any-single IsSpawn (Spawn thread) tt })
+      (λ frame thread. finishing_tells (Some (val.Int thread)) (Some (new_thread thread frame)) CreatesThread ranges ((Spawn thread ∷ [], 1), ranges)
+      (record { allocates = refl; one_event = one_event (Spawn thread); creates = Any-single IsSpawn (Spawn thread) tt; once = omega arith })
       (Any-single IsSpawn (Spawn thread) tt))
 
   typed_tells : (number : ℕ) (fn : Function) (argument : Val) (types : Option (List Ty)) → kept_types fn ≡ types → StepTells (spawn_types own d o number fn argument types)
@@ -138,8 +138,8 @@ do_step_tells : (look : Look) (own : Own) (d : DueDo) → StepTells (do_step loo
 do_step_tells look own d = reads_any (PlanTells TurnTells) unmarked (operands look d) _ (λ o. operated_tells own d o look d.op)
 
 -- THE STEP OF A THREAD
-pub step_tells : (look : Look) (own : Own) → StepTells (thread_step look own)
-unfolding thread_step
+pub step_tells : (look : Look) (own : Own) → StepTells (own_step look own)
+unfolding own_step
 step_tells look own = by_due (next_do look own.stack)
   where
     by_due : (o : Option DueDo) → StepTells (step_due look own o)

@@ -1,5 +1,5 @@
 -- What a script notes, whatever it is answered, from its form alone.
-use Rattle.std.proofs.Common.{◌≡◌, sym, subst}
+use Rattle.std.proofs.Common.{◌≡◌}
 use Rattle.mr_script.specs.Script.{Script, Done, Undefined, IllFormed, Ask, ◌>>=◌, Outcome, Went, run}
 use Rattle.mr_script.proofs.SwapRuns.{goes_on}
 use Rattle.mr_plan.proofs.WentLaws.{at_outcome}
@@ -28,13 +28,13 @@ module _ {Q : Type 0} {R : Q → Type 0} {E : Type 0} (mark : (q : Q) → R q �
   tracks_then P P' e IllFormed f h k = tt
   tracks_then P P' e (Ask q c) f h k = λ x. tracks_then P P' (mark q x e) (c x) f (h x) k
 
-  -- the marks of a state, to which each answer adds what mark tells
-  module _ {S : Type 0} (answer : (q : Q) → S → Outcome (R q) S) (marks : S → E) (marking : (q : Q) (s s' : S) (x : R q) → answer q s ≡ Went x s' → marks s' ≡ mark q x (marks s)) where
+  -- states that have marks, to which each answer adds what mark tells
+  module _ {S : Type 0} (answer : (q : Q) → S → Outcome (R q) S) (Marked : S → E → Type 0) (marking : (q : Q) (s s' : S) (x : R q) (e : E) → answer q s ≡ Went x s' → Marked s e → Marked s' (mark q x e)) where
     -- WHAT IS TRACKED HOLDS OF EACH RUN
-    pub tracked : {A : Type 0} (P : A → E → Type 0) (m : Script Q R A) (s s' : S) (x : A) → Tracks mark P (marks s) m → run answer m s ≡ Went x s' → P x (marks s')
-    tracked P (Done a) s s' x h e = at_outcome e (λ y w. P y (marks w)) h
-    tracked P (Undefined r) s s' x h e = absurd (cc)
-    tracked P IllFormed s s' x h e = absurd (cc)
-    tracked P (Ask q k) s s' x h e =
-        let g = goes_on _ _ _ _ e in
-        tracked P (k g.value) g.mid s' x (subst (λ v. Tracks mark P v (k g.value)) (sym (marking q s g.mid g.value g.first)) (h g.value)) g.rest
+    pub tracked : {A : Type 0} (P : A → E → Type 0) (m : Script Q R A) (s s' : S) (x : A) (e : E) → Marked s e → Tracks mark P e m → run answer m s ≡ Went x s' → (v : E) × Marked s' v × P x v
+    tracked P (Done a) s s' x e is h k = at_outcome k (λ y w. (v : E) × Marked w v × P y v) (e, is, h)
+    tracked P (Undefined r) s s' x e is h k = absurd (cc)
+    tracked P IllFormed s s' x e is h k = absurd (cc)
+    tracked P (Ask q c) s s' x e is h k =
+        let g = goes_on _ _ _ _ k in
+        tracked P (c g.value) g.mid s' x (mark q g.value e) (marking q s g.mid g.value e g.first is) (h g.value) g.rest

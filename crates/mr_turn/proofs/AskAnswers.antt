@@ -1,5 +1,5 @@
 -- What the code tells of what a step asks for, by its parts.
-use Rattle.std.proofs.Common.{◌≡◌, ℕ, refl, sym, ap, ap₂, ◌∙◌, subst, List, [], ◌∷◌, ◌++◌, append_assoc, true, false, Option, Some, None, Result, Ok, Err}
+use Rattle.std.proofs.Common.{◌≡◌, ℕ, refl, sym, ap, ap₂, ◌∙◌, subst, List, [], ◌∷◌, true, false, Option, Some, None, Result, Ok, Err}
 use Rattle.std.specs.Option.{option_map}
 use Rattle.std.proofs.lemmas.List.{append-nil}
 use Rattle.std.proofs.lemmas.Option.{same_Some}
@@ -12,21 +12,20 @@ use Rattle.mr_mem.specs.Memory.{Memory}
 use Rattle.mr_sched.specs.declared.schedule.Ask.{Ask}
 use Rattle.mr_sched.specs.declared.schedule.Ask.TheVariants.{Address}
 use Rattle.mr_value.specs.declared.val.Val.{Val}
-use Rattle.mr_script.specs.Script.{Outcome, Went, Refused, on, run}
+use Rattle.mr_script.specs.Script.{Went, Refused, on, run}
 use Rattle.mr_sync.specs.Tables.{Tables}
 use Rattle.mr_eval.specs.Reads.{Seen}
-use Rattle.mr_plan.specs.Machine.{CreatesThread, Needs as Needed, Plan, needs_of, no_needs}
+use Rattle.mr_plan.specs.Machine.{CreatesThread, needs_of, no_needs}
 use Rattle.mr_plan.specs.Notes.{Notes, start_notes}
 use Rattle.mr_plan.specs.Queries.{Shared, answer}
 use Rattle.mr_plan.proofs.ReadingRuns.{moved_to}
-use Rattle.mr_frame.proofs.DoSafe.{OperandsFit}
+use Rattle.mr_frame.specs.Operations.{DueDo, Operands, OperandsFit, next_do}
 use Rattle.mr_frame.specs.Acting.{nothing_seen}
-use Rattle.mr_frame.specs.Calls.{callee_of, kept_types, same_types, storage_asks}
+use Rattle.mr_frame.specs.Calls.{same_types, storage_asks}
 use Rattle.mr_frame.specs.Doing.{operands_of}
 use Rattle.mr_frame.specs.Effects.{argued}
 use Rattle.mr_frame.specs.Frames.{Look}
 use Rattle.mr_frame.specs.Kept.{look_of, stack_of}
-use Rattle.mr_frame.specs.Operations.{DueDo, Operands, next_do}
 use Rattle.mr_frame.specs.declared.dos.DoCall.{DoCall}
 use Rattle.mr_frame.specs.declared.look.Look.{Look as KeptLook}
 use Rattle.mr_frame.specs.declared.stack.Stack.{Stack as KeptStack}
@@ -34,19 +33,15 @@ use Rattle.mr_intr.specs.Effects.{Fits, IsOperation, shared_of}
 use Rattle.mr_intr.specs.Needs.{TellsNeeds, asks_of, creation_of}
 use Rattle.mr_intr.specs.Operations.{Operation, operation}
 use Rattle.mr_intr.specs.declared.need.Needs.{Needs}
-use Rattle.mr_thread.specs.Steps.{Own, finished, last_payload, operated, thread_types}
+use Rattle.mr_thread.specs.Steps.{Own, last_payload, operated, thread_types}
 use Rattle.mr_plan.specs.Legal.{Fault}
 use Rattle.mr_turn.specs.Asking.{AsksAnswer, AsksFunction, IsAsked, bare_fault, do_needs, step_needs}
 use Rattle.mr_turn.specs.Doing.{do_planned}
-use Rattle.mr_turn.specs.Turning.{own_of, planned}
+use Rattle.mr_turn.specs.Turning.{own_of}
 use Rattle.mr_turn.proofs.DoTurns.{argued_planned, by_operation, operation_needs}
 use Rattle.mr_turn.proofs.SpawnAnswers.{thread_asks}
-use Rattle.mr_turn.proofs.SpawnTurns.{none_planned, other_planned, start_planned}
+use Rattle.mr_turn.proofs.SpawnTurns.{other_planned, start_planned}
 use Rattle.mr_frame.proofs.CallSafe.{equal_types}
-
--- what is appended one by one
-pub two_pushed : {A : Type 0} (old one two : List A) (a b : A) → one ≡ old ++ a ∷ [] → two ≡ one ++ b ∷ [] → two ≡ old ++ a ∷ b ∷ []
-two_pushed old one two a b e f = f ∙ ap (λ l. l ++ b ∷ []) e ∙ append_assoc old (a ∷ []) (b ∷ [])
 
 -- the code that is told
 pub told_code : (o : Option ℕ) (f : Option Fault) → bare_fault o ≡ f → o ≡ option_map (λ (x : Fault). x.code) f

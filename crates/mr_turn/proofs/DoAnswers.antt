@@ -16,7 +16,8 @@ use Rattle.mr_value.specs.declared.val.Val.{Val}
 use Rattle.mr_value.specs.declared.val.Val.TheVariants as val
 use Rattle.mr_ast.specs.declared.types.Ty.TheVariants as ty
 use Rattle.mr_value.proofs.ShapeLaws.{has_raw}
-use Rattle.mr_frame.proofs.DoSafe.{OperandsFit, ValueFits, do_stands, operands_safe}
+use Rattle.mr_frame.proofs.DoSafe.{ValueFits, do_stands, operands_safe}
+use Rattle.mr_frame.specs.Operations.{DueDo, Operands, OperandsFit, next_do, operands}
 use Rattle.mr_intr.proofs.OperationSafe.{result_is}
 use Rattle.mr_wf.specs.Intrinsics.{fits_intrinsic, is_print}
 use Rattle.mr_script.specs.Script.{Done, Undefined, ◌>>=◌, Outcome, Went, Refused, on, run}
@@ -43,7 +44,6 @@ use Rattle.mr_eval.specs.Sound.{Comes}
 use Rattle.mr_frame.specs.Fits.{FitsStack, IsLook}
 use Rattle.mr_frame.specs.Frames.{Stack}
 use Rattle.mr_frame.specs.Kept.{IsReady, look_of, stack_of}
-use Rattle.mr_frame.specs.Operations.{DueDo, Operands, next_do, operands}
 use Rattle.mr_intr.specs.Operations.{Operation, instant, operation}
 use Rattle.mr_intr.specs.Effects as Effects
 use Rattle.mr_intr.specs.Effects.{IsDone, IsOperation, Prints, operated}

@@ -17,7 +17,7 @@ use Rattle.mr_frame.specs.Frames.{Look}
 use Rattle.mr_frame.specs.Operations.{DueDo, Operands, finish, next_do, operands}
 use Rattle.mr_intr.specs.Effects.{IsOperation}
 use Rattle.mr_intr.specs.Operations.{Operation, operation}
-use Rattle.mr_thread.specs.Steps.{Own, finished, finishing, operated, planned as plan_behind, step_due, thread_step, with_stack}
+use Rattle.mr_thread.specs.Steps.{Own, finished, finishing, operated, own_step, planned as plan_behind, step_due, with_stack}
 use Rattle.mr_turn.specs.Doing.{do_planned, do_turned}
 use Rattle.mr_turn.specs.Turning.{planned, turned}
 
@@ -30,8 +30,8 @@ module _ (look : Look) (own : Own) (d : DueDo) (due : next_do look own.stack ≡
   abbrev behind_seen : Seen → Shared × Notes
   behind_seen s = moved_to w (w.0.memory, with_seen w.1.tally s)
 
-  step_is : run answer (thread_step look own) w ≡ on found (λ o s. run answer (operated look own d o d.op) (behind_seen s))
-  unfolding thread_step argued
+  step_is : run answer (own_step look own) w ≡ on found (λ o s. run answer (operated look own d o d.op) (behind_seen s))
+  unfolding own_step argued
   step_is =
       ap (λ (o : Option DueDo). run answer (step_due look own o) w) due
       ∙ memory_then (reading_part (operands look d)) (λ o. operated look own d o d.op) w
@@ -45,7 +45,7 @@ module _ (look : Look) (own : Own) (d : DueDo) (due : next_do look own.stack ≡
   pub argued_turned : (picks : List ℕ) → turned look own picks w ≡ on found (λ o s. do_turned look own d o picks (behind_seen s))
   unfolding turned do_turned
   argued_turned picks =
-      run_bind answer (thread_step look own) (λ plan. plan.go picks) w
+      run_bind answer (own_step look own) (λ plan. plan.go picks) w
       ∙ ap (λ o. on o (λ plan v. run answer (plan.go picks) v)) step_is
       ∙ on_then found (λ o s. run answer (operated look own d o d.op) (behind_seen s)) (λ plan v. run answer (plan.go picks) v)
       ∙ alike found

@@ -23,7 +23,7 @@ use Rattle.mr_frame.specs.Frames.{Look, Onward}
 use Rattle.mr_frame.specs.Kept.{onward_of, stack_of}
 use Rattle.mr_frame.specs.Operations.{DueDo, next_do}
 use Rattle.mr_frame.specs.Steps.{frame_plan}
-use Rattle.mr_thread.specs.Steps.{Own, Turn, in_step, onward, step_due, thread_step}
+use Rattle.mr_thread.specs.Steps.{Own, Turn, in_step, onward, own_step, step_due}
 use Rattle.mr_turn.specs.declared.deed.Deed.{Deed}
 use Rattle.mr_turn.specs.Turning.{IsFlow, Turned, begun, is_end, own_of, planned, printed_lines, shared_in, turn_by, turned}
 use Rattle.mr_turn.proofs.PlanAsks.{IsPlain, WentSo, frame_plain, led}
@@ -36,8 +36,8 @@ module _ (look : Look) (own : Own) (none : next_do look own.stack ≡ None) (w :
   seeing s = (w.0.memory, with_seen w.1.tally s)
 
   -- its plan, in the step
-  step_is : run answer (thread_step look own) w ≡ on found (λ plan s. Went (in_step own plan) (moved_to w (seeing s)))
-  unfolding thread_step
+  step_is : run answer (own_step look own) w ≡ on found (λ plan s. Went (in_step own plan) (moved_to w (seeing s)))
+  unfolding own_step
   step_is =
       ap (λ (o : Option DueDo). run answer (step_due look own o) w) none
       ∙ memory_then (reading_part (frame_plan look own.thread own.stack)) (λ plan. Done (in_step own plan)) w
@@ -59,7 +59,7 @@ module _ (look : Look) (own : Own) (none : next_do look own.stack ≡ None) (w :
   pub frame_turned : (picks : List ℕ) → turned look own picks w ≡ on (acted look own.thread own.stack picks (w.0.memory, w.1.tally)) (λ x v. run answer (onward own x) (moved_to w v))
   unfolding turned acted
   frame_turned picks =
-      run_bind answer (thread_step look own) (λ plan. plan.go picks) w
+      run_bind answer (own_step look own) (λ plan. plan.go picks) w
       ∙ ap (λ o. on o (λ plan v. run answer (plan.go picks) v)) step_is
       ∙ on_then found (λ plan s. Went (in_step own plan) (moved_to w (seeing s))) (λ plan v. run answer (plan.go picks) v)
       ∙ behind found

@@ -28,7 +28,7 @@ use Rattle.mr_wf.specs.Operands.{is_fn_ptr, is_raw}
 use Rattle.mr_wf.proofs.KindLaws.{fn_ptr_is, raw_is}
 use Rattle.mr_script.specs.Script.{Went, Refused, on, run}
 use Rattle.mr_sync.specs.Tables.{Tables, spawned}
-use Rattle.mr_eval.proofs.ShapeOf.{HaveShapes}
+use Rattle.mr_eval.specs.Shapes.{HaveShapes}
 use Rattle.mr_eval.specs.World.{tally_of, world_of}
 use Rattle.mr_eval.specs.declared.scene.Scene.{Scene}
 use Rattle.mr_plan.specs.Legal.{creation_fault, else_fault, fault, picks_fault}
@@ -40,13 +40,13 @@ use Rattle.mr_plan.proofs.LegalLaws.{no_faults}
 use Rattle.mr_frame.proofs.CallSafe.{equal_types, kept_there, position_below}
 use Rattle.mr_frame.proofs.Frames.{function_keeps}
 use Rattle.mr_frame.proofs.Places.{within}
-use Rattle.mr_frame.proofs.DoSafe.{OperandsFit, ValueFits}
+use Rattle.mr_frame.proofs.DoSafe.{ValueFits}
+use Rattle.mr_frame.specs.Operations.{DueDo, Operands, OperandsFit, next_do}
 use Rattle.mr_frame.specs.Beginning.{CanBegin, IsBottom}
 use Rattle.mr_frame.specs.Calls.{behind_first, callee_of, kept_types, same_types, storage_asks}
 use Rattle.mr_frame.specs.Doing.{operands_of}
 use Rattle.mr_frame.specs.Effects.{entered, finished as ended}
 use Rattle.mr_frame.specs.Kept.{IsReady, look_of, stack_of}
-use Rattle.mr_frame.specs.Operations.{DueDo, Operands, next_do}
 use Rattle.mr_frame.specs.declared.dos.DoCall.{DoCall}
 use Rattle.mr_frame.specs.declared.look.Look.{Look as KeptLook}
 use Rattle.mr_frame.specs.declared.stack.Stack.{Stack as KeptStack}

@@ -9,13 +9,12 @@ use Rattle.mr_plan.specs.Legal.{Fault, creation_fault, fault}
 use Rattle.mr_plan.specs.Machine.{Needs, needs_of}
 use Rattle.mr_plan.specs.Notes.{Notes, start_notes}
 use Rattle.mr_plan.specs.Queries.{Shared}
-use Rattle.mr_frame.proofs.DoSafe.{OperandsFit}
+use Rattle.mr_frame.specs.Operations.{DueDo, OperandsFit, next_do}
 use Rattle.mr_frame.specs.declared.dos.DoCall.{DoCall}
 use Rattle.mr_frame.specs.declared.look.Look.{Look as KeptLook}
 use Rattle.mr_frame.specs.declared.stack.Stack.{Stack as KeptStack}
 use Rattle.mr_frame.specs.Doing.{operands_of}
 use Rattle.mr_frame.specs.Kept.{IsReady, look_of, stack_of}
-use Rattle.mr_frame.specs.Operations.{DueDo, next_do}
 use Rattle.mr_intr.specs.Effects.{shared_of}
 use Rattle.mr_turn.specs.Doing.{SpawnGiven, StandsFor, do_planned}
 use Rattle.mr_turn.specs.Turning.{own_of, planned}
@@ -48,7 +47,7 @@ abbrev pub bare_fault : Option ℕ → Option Fault
 bare_fault None = None
 bare_fault (Some code) = fault code
 
--- The asks were appended; the code is that of the limit that is reached.
+-- The asks were appended, and the code is that of the limit that is reached; or nothing changed.
 abbrev pub AsksAnswer : {E : Type 0} → Shared → Needs → List Ask → List Ask → Result (Option ℕ) E → Type 0
 AsksAnswer w n old new (Ok code) = (new ≡ old ++ n.asks) × (code ≡ option_map (λ f. f.code) (creation_fault w n.creates))
-AsksAnswer w n old new (Err e) = Unit {0}
+AsksAnswer w n old new (Err e) = new ≡ old

@@ -25,7 +25,7 @@ use Rattle.mr_frame.specs.Fits.{FitsStack}
 use Rattle.mr_frame.specs.Frames.{Look}
 use Rattle.mr_frame.specs.Kept.{IsReady, look_of, stack_of}
 use Rattle.mr_frame.specs.Standing.{IsUncounted}
-use Rattle.mr_thread.specs.Steps.{Own, Turn, thread_step, with_stack}
+use Rattle.mr_thread.specs.Steps.{Own, Turn, own_step, with_stack}
 use Rattle.mr_start.specs.Judging.{fault_of}
 use Rattle.mr_turn.specs.declared.deed.Deed.{Deed}
 use Rattle.mr_turn.specs.declared.deed.TurnFault.{TurnFault}
@@ -52,11 +52,11 @@ own_of thread s = record { thread = thread; stack = stack_of s }
 
 -- the plan of the step, or why it stops before it has one
 unfoldable pub planned : Look → Own → Shared × Notes → Outcome (Plan (StepScript Turn)) (Shared × Notes)
-planned look own w = run answer (thread_step look own) w
+planned look own w = run answer (own_step look own) w
 
 -- what the step comes to with these picks
 unfoldable pub turned : Look → Own → List ℕ → Shared × Notes → Outcome Turn (Shared × Notes)
-turned look own picks w = run answer (thread_step look own >>= λ plan. plan.go picks) w
+turned look own picks w = run answer (own_step look own >>= λ plan. plan.go picks) w
 
 -- the rule that the picks of an enabled thread break for a plan
 abbrev pub picks_break : {A : Type 0} → Shared × Notes → Outcome (Plan A) (Shared × Notes) → List ℕ → Option Fault

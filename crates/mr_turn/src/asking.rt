@@ -1,5 +1,5 @@
 //! What the next step of a thread asks for.
-ghost use Rattle.std.specs.Prelude.{◌≡◌, ℕ, ◌++◌, OnOk, Option, Some};
+ghost use Rattle.std.specs.Prelude.{◌≡◌, ℕ, ◌++◌, OnErr, OnOk, Option, Some};
 ghost use Rattle.mr_ast.specs.declared.program.Intrinsic.TheVariants as intrinsic;
 ghost use Rattle.mr_mem.specs.Memory.{Memory as MemoryOf};
 ghost use Rattle.mr_plan.specs.Notes.{Notes as NotesOf};
@@ -23,7 +23,8 @@ use std::alloc::{AllocError, Global};
 
 // Appends the one, where there is one.
 fn push_ask(ask: Option<Ask>, out: &mut Vec<Ask>) -> Result<(), AllocError>
-    ensures { OnOk result (out.new.items ≡ out.old.items ++ asks_of ask) }
+    ensures ok { OnOk result (out.new.items ≡ out.old.items ++ asks_of ask) }
+    ensures err { OnErr result (out.new.items ≡ out.old.items) }
 {
     if let Some(ask) = ask {
         out.push(ask)?;
@@ -71,8 +72,11 @@ fn start_asks(
     if !begins_thread(alloc, function_of(look, f)) {
         return Ok(None);
     }
-    out.push(Ask::Address { size: 0, align: 1 })?;
-    out.push(Ask::Address { size: 8, align: 8 })?;
+    let addresses = [
+        Ask::Address { size: 0, align: 1 },
+        Ask::Address { size: 8, align: 8 },
+    ];
+    out.extend_from_slice(&addresses)?;
     Ok(over_limit(Creation::Thread, sync))
 }
 
@@ -141,7 +145,7 @@ fn do_asks(
 }
 
 /// Appends what the next step of an enabled thread asks for. The answer is 67 or 68 where the step would create a thread or
-/// a lock, and there are as many as may be. An `Err` is for want of memory, and a part may have been appended.
+/// a lock, and there are as many as may be. An `Err` is for want of memory, and leaves `out` as it was.
 pub fn asks(
     alloc: Global,
     look: &Look<'_>,

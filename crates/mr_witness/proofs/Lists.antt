@@ -49,14 +49,14 @@ feet_append step c (x ∷ xs) ys =
     ap (λ l. foot_from step x.thread x.picks c.state ++ l) (feet_append step (machine_step step c x) xs ys)
     ∙ sym (append_assoc (foot_from step x.thread x.picks c.state) (feet step (machine_step step c x) xs) (feet step (after step (machine_step step c x) xs) ys))
 
-one_foot : {L : Type 0} (b : Bare L) → length (foot_of_bare b) ≤ 1
-one_foot (Completed n s) = omega arith
-one_foot (Stops v) = omega arith
-one_foot IllFormedStep = omega arith
+one_foot : {L : Type 0} (step : Language L) (b : Bare L) → length (foot_of_bare step b) ≤ 1
+one_foot step (Completed n s) = omega arith
+one_foot step (Stops v) = omega arith
+one_foot step IllFormedStep = omega arith
 
 one_foot_from : {L : Type 0} (step : Language L) (t : ℕ) (picks : List ℕ) (s : Option (State L)) → length (foot_from step t picks s) ≤ 1
 one_foot_from step t picks None = omega arith
-one_foot_from step t picks (Some s) = one_foot (bare step s t picks)
+one_foot_from step t picks (Some s) = one_foot step (bare step s t picks)
 
 -- a run has a footprint for each entry at most
 pub feet_length : {L : Type 0} (step : Language L) (c : Config L) (es : List Entry) → length (feet step c es) ≤ length es

@@ -11,7 +11,8 @@ use Rattle.mr_sched.specs.declared.schedule.Entry.{Entry}
 use Rattle.mr_wf.specs.Walk.{WellFormed}
 use Rattle.mr_plan.specs.Legal.{state_fault}
 use Rattle.mr_plan.specs.Machine.{Completed, Language, State, bare}
-use Rattle.mr_plan.specs.Notes.{Notes, foot_of}
+use Rattle.mr_plan.specs.Notes.{Notes}
+use Rattle.mr_plan.specs.Runs.{foot_in}
 use Rattle.mr_frame.specs.Fits.{IsLook}
 use Rattle.mr_frame.specs.Frames.{Look}
 use Rattle.mr_thread.specs.SoundState.{SoundState}
@@ -26,7 +27,7 @@ pub record Takes (look : Look) (es : List Entry) (run : List Footprint) (s : Sta
   pub notes : Notes
   pub legal : state_fault (thread_step look) s (entry_at es k).thread (entry_at es k).picks ≡ None
   pub completes : bare (thread_step look) s (entry_at es k).thread (entry_at es k).picks ≡ Completed notes t
-  pub foot : foot_of t.shared.memory notes ≡ step_at run k
+  pub foot : foot_in (thread_step look) notes t ≡ step_at run k
 
 module _ (look : Look) (is : IsLook look) (well : WellFormed look.program) (es : List Entry) (run : List Footprint) (law : SwapLaw (thread_step look)) (noted : NotesThread look) (sane : (s : State Own) → SoundState look.program s → IsSane s) where
   -- a state that keeps what states keep
@@ -44,14 +45,14 @@ module _ (look : Look) (is : IsLook look) (well : WellFormed look.program) (es :
       let first = entry_thread a.0 b.0 i f in
       let second = entry_thread b.0 c.0 j g in
       let apart : (entry_at es i).thread ≢ (entry_at es j).thread = λ e. free.apart (sym first ∙ e ∙ second) in
-      let asleep : wakes (foot_of b.0.shared.memory f.notes) (entry_at es j).thread ≡ false = (λ k. wakes (f.foot k) (second k)) ∙ free.asleep in
-      let unmet : depends (foot_of b.0.shared.memory f.notes) (foot_of c.0.shared.memory g.notes) ≡ false = (λ k. depends (f.foot k) (g.foot k)) ∙ free.free in
+      let asleep : wakes (foot_in (thread_step look) f.notes b.0) (entry_at es j).thread ≡ false = (λ k. wakes (f.foot k) (second k)) ∙ free.asleep in
+      let unmet : depends (foot_in (thread_step look) f.notes b.0) (foot_in (thread_step look) g.notes c.0) ≡ false = (λ k. depends (f.foot k) (g.foot k)) ∙ free.free in
       let x = law a.0 b.0 c.0 (entry_at es i).thread (entry_at es j).thread (entry_at es i).picks (entry_at es j).picks f.notes g.notes (sane a.0 a.1) apart f.legal f.completes g.legal g.completes asleep unmet in
       let sound = sound_then look is well law noted sane a.0 x.between (entry_at es j).thread (entry_at es j).picks g.notes a.1 x.second_legal x.second_first in (
         (x.between, sound),
         c,
-        record { notes = g.notes; legal = x.second_legal; completes = x.second_first; foot = g.foot },
-        record { notes = f.notes; legal = x.first_legal; completes = x.first_second; foot = f.foot },
+        record { notes = g.notes; legal = x.second_legal; completes = x.second_first; foot = x.second_foot ∙ g.foot },
+        record { notes = f.notes; legal = x.first_legal; completes = x.first_second; foot = x.first_foot ∙ f.foot },
         refl,
       )
 

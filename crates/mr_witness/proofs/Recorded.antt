@@ -63,9 +63,9 @@ module _ (look : Look) (is : IsLook look) (well : WellFormed look.program) (es :
   recorded_step : (s : State Own) (sound : SoundState look.program s) (output : List Printed) (last : Option Footprint) (completed : ℕ) (v : Verdict) (k : ℕ) (e : Entry) (rest : List Entry) (n : ℕ)
       → e ≡ entry_at es k → state_fault (thread_step look) s e.thread e.picks ≡ None → Later (k + 1) rest n
       → (b : Bare Own) → bare (thread_step look) s e.thread e.picks ≡ b
-      → AreLegal (thread_step look) (after_bare (config s output last completed v) b) rest
-      → ((m : ℕ) → m < length (foot_of_bare b ++ feet (thread_step look) (after_bare (config s output last completed v) b) rest) → slice_index_or (foot_of_bare b ++ feet (thread_step look) (after_bare (config s output last completed v) b) rest) m no_step ≡ step_at run (k + m))
-      → suc n ≤ length (foot_of_bare b ++ feet (thread_step look) (after_bare (config s output last completed v) b) rest)
+      → AreLegal (thread_step look) (after_bare (thread_step look) (config s output last completed v) b) rest
+      → ((m : ℕ) → m < length (foot_of_bare (thread_step look) b ++ feet (thread_step look) (after_bare (thread_step look) (config s output last completed v) b) rest) → slice_index_or (foot_of_bare (thread_step look) b ++ feet (thread_step look) (after_bare (thread_step look) (config s output last completed v) b) rest) m no_step ≡ step_at run (k + m))
+      → suc n ≤ length (foot_of_bare (thread_step look) b ++ feet (thread_step look) (after_bare (thread_step look) (config s output last completed v) b) rest)
       → (t : Kept look is well es run law noted sane) × Moves (s, sound) (range_with_len k (suc n)) t
   recorded_step s sound output last completed v k e rest n here lawful later (Completed nt s') is_bare legal steps le =
       let sound' = sound_then look is well law noted sane s s' e.thread e.picks nt sound lawful is_bare in
@@ -78,9 +78,9 @@ module _ (look : Look) (is : IsLook look) (well : WellFormed look.program) (es :
       } in
       (behind.0, ((s', sound'), taken, behind.1))
   recorded_step s sound output last completed v k e rest n here lawful later (Stops w) is_bare legal steps le =
-      absurd (let none = none_feet (thread_step look) (after_bare (config s output last completed v) (Stops w)) rest refl legal in let l = ap length none in omega (arith, l))
+      absurd (let none = none_feet (thread_step look) (after_bare (thread_step look) (config s output last completed v) (Stops w)) rest refl legal in let l = ap length none in omega (arith, l))
   recorded_step s sound output last completed v k e rest n here lawful later IllFormedStep is_bare legal steps le =
-      absurd (let none = none_feet (thread_step look) (after_bare (config s output last completed v) IllFormedStep) rest refl legal in let l = ap length none in omega (arith, l))
+      absurd (let none = none_feet (thread_step look) (after_bare (thread_step look) (config s output last completed v) IllFormedStep) rest refl legal in let l = ap length none in omega (arith, l))
 
   -- THE FIRST STEPS FROM PLACE k ON are taken, where the rest of the entries is legal, and where its footprints are the run's
   pub recorded : (k : ℕ) (rest : List Entry) → ((m : ℕ) → m < length rest → entry_at rest m ≡ entry_at es (k + m)) → (n : ℕ) → Later k rest n

@@ -155,16 +155,16 @@ module _ (look : Look) (is : IsLook look) (well : WellFormed look.program) (es :
       let e = entry_at es x in
       let f = h.1 in
       let u = h.0 in
-      let foot : foot_in f.notes u.0 ≡ step_at run x = f.foot in
+      let foot : foot_in (thread_step look) f.notes u.0 ≡ step_at run x = f.foot in
       let printed = output ++ map (printed_by f.notes.tally.thread) f.notes.printed in
-      let quiet : races_with (foot_in f.notes u.0) last ≡ false = (λ k. races_with (foot k) last) ∙ calm.0 in
-      let verdict_is : verdict_after last (foot_in f.notes u.0) u.0 ≡ verdict.Running = running_still last (foot_in f.notes u.0) u.0 quiet (next_enabled u b xs j h.2) in
+      let quiet : races_with (foot_in (thread_step look) f.notes u.0) last ≡ false = (λ k. races_with (foot k) last) ∙ calm.0 in
+      let verdict_is : verdict_after last (foot_in (thread_step look) f.notes u.0) u.0 ≡ verdict.Running = running_still last (foot_in (thread_step look) f.notes u.0) u.0 quiet (next_enabled u b xs j h.2) in
       let here : Config Own = config a.0 output last completed verdict.Running in
       let there : Config Own = config u.0 printed (Some (step_at run x)) (completed + 1) verdict.Running in
-      let gone : after_bare here (bare step a.0 e.thread e.picks) ≡ there =
-      ap (after_bare here) f.completes ∙ (λ k. config u.0 printed (Some (foot k)) (completed + 1) (verdict_is k)) in
+      let gone : after_bare (thread_step look) here (bare step a.0 e.thread e.picks) ≡ there =
+      ap (after_bare (thread_step look) here) f.completes ∙ (λ k. config u.0 printed (Some (foot k)) (completed + 1) (verdict_is k)) in
       let later = replayed xs j u b printed (Some (step_at run x)) (completed + 1) calm.1 h.2 in
-      let told : foot_of_bare (bare step a.0 e.thread e.picks) ≡ step_at run x ∷ [] = ap foot_of_bare f.completes ∙ ap (λ (g : Footprint). g ∷ []) foot in
+      let told : foot_of_bare step (bare step a.0 e.thread e.picks) ≡ step_at run x ∷ [] = ap (foot_of_bare step) f.completes ∙ ap (λ (g : Footprint). g ∷ []) foot in
       record {
         state = later.state;
         output = later.output;
@@ -182,5 +182,5 @@ module _ (look : Look) (is : IsLook look) (well : WellFormed look.program) (es :
   unfolding machine_step
   last_reported s t output i j completed h f =
       let here : Config Own = config s output (Some (step_at run i)) completed verdict.Running in
-      let race : races_with (foot_in f.notes t) (Some (step_at run i)) ≡ true = (λ k. races_with (f.foot k) (Some (step_at run i))) ∙ reported run i j h in
-      ap (λ (b : Bare Own). (after_bare here b).verdict) f.completes ∙ rw race refl
+      let race : races_with (foot_in (thread_step look) f.notes t) (Some (step_at run i)) ≡ true = (λ k. races_with (f.foot k) (Some (step_at run i))) ∙ reported run i j h in
+      ap (λ (b : Bare Own). (after_bare (thread_step look) here b).verdict) f.completes ∙ rw race refl

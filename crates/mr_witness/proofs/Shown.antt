@@ -99,7 +99,7 @@ module _ (look : Look) (is : IsLook look) (well : WellFormed look.program) (es :
       let at : after step start (map entry xs) ≡ there = rp.is ∙ (λ k. config rp.state rp.output (last_push run None shown.front i k) rp.completed verdict.Running) in
       let all : map entry ks ≡ map entry xs ++ entry j ∷ [] = ap (map entry) split ∙ map_append entry xs (j ∷ []) in
       let told : feet step there (entry j ∷ []) ≡ step_at run j ∷ [] =
-      ap (λ b. foot_of_bare b ++ []) rp.takes.completes ∙ ap (λ (f : Footprint). f ∷ []) rp.takes.foot in
+      ap (λ b. foot_of_bare step b ++ []) rp.takes.completes ∙ ap (λ (f : Footprint). f ∷ []) rp.takes.foot in
       record {
         front = shown.front;
         ends = shown.ends;

@@ -10,7 +10,8 @@ ghost use Rattle.mr_start.specs.Start.{Legal, steps_of};
 ghost use Rattle.mr_wf.specs.Walk.{WellFormed};
 ghost use Rattle.mr_exchange.specs.Witness.{IsWitness, entry_at, kept_schedule};
 
-use mr_event::{Footprint, OutOfMemory, Pair, follows_plain};
+use mr_clocks::follows;
+use mr_event::{Footprint, OutOfMemory, Pair};
 use mr_sched::{Entry, Items, Schedule};
 use std::alloc::Global;
 
@@ -69,7 +70,7 @@ pub fn witness(
     ensures kept { IfOk result (λ v. v ≡ kept_schedule run.now s.now pair.first pair.second) }
     ensures witness { IfOk result (λ v. (p : Program) → WellFormed p → Legal p s.now → steps_of p s.now ≡ run.now → IsWitness p s.now pair.first pair.second v) }
 {
-    let marked = follows_plain(alloc, run, pair.first)?;
+    let marked = follows(alloc, run, pair.first)?;
     let recorded = s.entries.as_slice();
     let mut entries = unmarked(alloc, &marked, recorded, pair)?;
     let first = entry_copied(alloc, recorded, pair.first)?;

@@ -30,6 +30,6 @@ pub use number::number_of;
 pub use place::fault_at;
 pub use scope::{Scope, Tables};
 pub use table::{
-    int_of, intrinsic_of, is_exposed, is_name, item_word_of, kind_of, stmt_word_of, term_word_of,
-    tree_word_of, type_word_of, value_word_of,
+    edition_of, int_of, intrinsic_of, is_exposed, is_name, item_word_of, kind_of, stmt_word_of,
+    term_word_of, tree_word_of, type_word_of, value_word_of,
 };

@@ -1,7 +1,7 @@
 //! Words of the language, and what they stand for.
 ghost use Rattle.std.specs.Prelude.{◌≡◌, bytes_eq, map, is_some};
 ghost use Rattle.std.specs.List.{list_all, list_any};
-ghost use Rattle.mr_ast.specs.Words.{begins_name, binary_words, first_passes, int_words, intrinsic_words, is_exposed, is_in_name, is_name, kind_words, looked_up, reserved, stmt_words, term_words, tree_words, type_words, unary_words, value_words};
+ghost use Rattle.mr_ast.specs.Words.{begins_name, binary_words, edition_words, first_passes, int_words, intrinsic_words, is_exposed, is_in_name, is_name, kind_words, looked_up, reserved, stmt_words, term_words, tree_words, type_words, unary_words, value_words};
 ghost use Rattle.mr_ast.specs.TypeGrammar.{type_word_of};
 ghost use Rattle.mr_ast.specs.ValueGrammar.{value_word_of};
 ghost use Rattle.mr_ast.specs.ProgramGrammar.{item_word_of};
@@ -11,6 +11,8 @@ use mr_ast::{
     BinaryOp, BlockKind, IntType, Intrinsic, ItemWord, StmtWord, TermWord, TreeWord, TypeWord,
     UnaryOp, ValueWord,
 };
+
+const EDITIONS: [(&[u8], u8); 2] = [(b"1", 1), (b"2", 2)];
 
 const INTS: [(&[u8], IntType); 10] = [
     (b"u8", IntType::U8),
@@ -157,6 +159,13 @@ fn looked_up<T: Copy>(table: &[(&[u8], T)], text: &[u8]) -> Option<T>
         }
     }
     None
+}
+
+/// The edition of the language that the word names.
+pub fn edition_of(text: &[u8]) -> Option<u8>
+    ensures { result ≡ looked_up edition_words text.now }
+{
+    looked_up(&EDITIONS, text)
 }
 
 pub fn int_of(text: &[u8]) -> Option<IntType>

@@ -30,4 +30,4 @@ pub record IsNamed (p : Program) : Type 0 where
 
 -- a program without its names
 abbrev pub body_of : Program → ProgramBody
-body_of p = record { globals = p.globals; functions = p.functions; start = p.start }
+body_of p = record { edition = p.edition; globals = p.globals; functions = p.functions; start = p.start }

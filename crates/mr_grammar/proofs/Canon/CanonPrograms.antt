@@ -1,35 +1,32 @@
 -- The canonical words of a program write it, in the scope that knows its names.
-use Rattle.std.proofs.Common.{◌≡◌, ℕ, suc, [], ◌∷◌, ◌++◌, map, codes, refl, ap, sym, ◌∙◌, arith}
-use Rattle.std.specs.Prelude.{flat_map}
-use Rattle.std.proofs.lemmas.Fmt.{decimal_digit}
+use Rattle.std.proofs.Common.{◌≡◌, ℕ, suc, [], ◌∷◌, ◌++◌, map, codes, refl, ap, sym, ◌∙◌, Some, None}
+use Rattle.std.specs.Prelude.{decimal, flat_map}
 use Rattle.std.proofs.lemmas.Grind.{flat_map-append}
 use Rattle.std.proofs.lemmas.List.Folds.{flat_map-map}
 use Rattle.mr_ast.specs.declared.program.Program.{Program}
-use Rattle.mr_ast.specs.Words.{Texts}
+use Rattle.mr_ast.specs.Words.{IsEdition, Texts}
 use Rattle.mr_ast.specs.Shaped.{Shaped}
-use Rattle.mr_ast.specs.Writing.{is_word}
-use Rattle.mr_ast.specs.ProgramGrammar.{function_form, functions_form, global_form, globals_form, program_form}
+use Rattle.mr_ast.specs.Writing.{fine, is_word}
+use Rattle.mr_ast.specs.ProgramGrammar.{function_form, functions_form, global_form, globals_form, judged_edition, program_form}
 use Rattle.mr_ast.specs.Canon.{canonical_words, function_lines, global_line, header_line, lines_of, main_line}
+use Rattle.mr_ast.proofs.WordLaws.{edition_word_found}
 use Rattle.mr_grammar.proofs.Canon.CanonNames.{IsNamed, body_of, definitions_of}
 use Rattle.mr_grammar.specs.Denotes.{IsFine, Writes, words_in}
 use Rattle.mr_words.specs.Defined.{knowing}
 use Rattle.mr_grammar.proofs.Nesting.NestingPrograms.{ProgramFits}
 use Rattle.mr_words.specs.Places.{numbered}
 use Rattle.mr_grammar.proofs.Walk.HeightLaws.{SomePart, settled}
-use Rattle.mr_grammar.proofs.Canon.CanonForms.{Stands, each_stand, marked, stands_before, stands_many, stands_pair, stands_same, stands_then}
+use Rattle.mr_grammar.proofs.Canon.CanonForms.{Stands, each_stand, marked, stands_before, stands_many, stands_pair, stands_same, stands_then, stands_token}
 use Rattle.mr_grammar.proofs.Canon.CanonFunctions.{function_stands, function_words, lines_of_each, words_of_lines}
 use Rattle.mr_grammar.proofs.Canon.CanonItems.{global_stands}
 use Rattle.mr_grammar.proofs.Canon.KnownNames.{function_use_stands}
 
 -- ---- the words of the whole program
 
-canonical_words_are : (p : Program) → p.edition ≡ 1
-    → canonical_words p ≡ codes "minirust" ∷ codes "1" ∷ ((flat_map (global_line p) p.globals ++ flat_map (function_words p) p.functions) ++ main_line p)
+canonical_words_are : (p : Program)
+    → canonical_words p ≡ codes "minirust" ∷ decimal p.edition ∷ ((flat_map (global_line p) p.globals ++ flat_map (function_words p) p.functions) ++ main_line p)
 unfolding lines_of
-canonical_words_are p edition =
-    let first : header_line p.edition ≡ codes "minirust" ∷ codes "1" ∷ [] = ap header_line edition ∙ ap (λ one. codes "minirust" ∷ one ∷ []) (decimal_digit 1 (omega arith)) in
-    ap (λ front. front ++ words_of_lines (map (global_line p) p.globals ++ flat_map (function_lines p) p.functions ++ main_line p ∷ [])) first
-    ∙ ap (λ rest. codes "minirust" ∷ codes "1" ∷ rest) items
+canonical_words_are p = ap (λ rest. codes "minirust" ∷ decimal p.edition ∷ rest) items
   where
     items : words_of_lines (map (global_line p) p.globals ++ flat_map (function_lines p) p.functions ++ main_line p ∷ [])
         ≡ (flat_map (global_line p) p.globals ++ flat_map (function_words p) p.functions) ++ main_line p
@@ -42,6 +39,10 @@ canonical_words_are p edition =
 
 -- ---- programs
 
+edition_begins : (n : ℕ) → IsEdition n → (k : ℕ) → judged_edition (record { text = decimal n; place = k }) ≡ Some (n, None)
+unfolding judged_edition
+edition_begins n is k = ap fine (edition_word_found n is)
+
 module _ (p : Program) (shaped : Shaped p) (named : IsNamed p) (fits : ProgramFits p) where
   pub program_stands : Stands 32 (SomePart 32) (knowing (definitions_of p)) program_form (body_of p) (canonical_words p)
   unfolding program_form globals_form functions_form
@@ -51,7 +52,8 @@ module _ (p : Program) (shaped : Shaped p) (named : IsNamed p) (fits : ProgramFi
       (λ k f at. function_stands p shaped named fits k f at) in
       let items = stands_pair (stands_many {test = is_word (codes "global")} (global_line p) globals) (stands_many {test = is_word (codes "fn")} (function_words p) functions) in
       let start = stands_before (codes "main") (function_use_stands p shaped named 0 p.start shaped.start) in
-      stands_same (stands_before (codes "minirust") (stands_before (codes "1") (stands_then items start refl refl))) (canonical_words_are p shaped.edition)
+      let edition = stands_token {judge = judged_edition} (edition_begins p.edition shaped.edition) in
+      stands_same (stands_before (codes "minirust") (stands_then edition (stands_pair items start) refl refl)) (canonical_words_are p)
 
 -- ---- the canonical words, numbered
 

@@ -44,7 +44,7 @@ canonical_words_denote p shaped named fits text lexemes lexes same =
       grammatical = grammatical;
       body = body_of p;
       named = subst (λ e. Writes (knowing e) words (body_of p)) (sym defined) known;
-      program = λ i. record { edition = shaped.edition i; globals = p.globals; functions = p.functions; names = names i; start = p.start };
+      program = λ i. record { edition = p.edition; globals = p.globals; functions = p.functions; names = names i; start = p.start };
     }
 
 -- The canonical text of a program that some text denotes denotes the same program.

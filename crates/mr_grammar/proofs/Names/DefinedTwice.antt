@@ -112,11 +112,12 @@ renames_function {IsGood} {s} k unknown =
 renames_program : {IsGood : Word → Type 0} {s t : Scope} → IsUnknown t → Renames IsGood s t program_form (ProgramTwice IsGood s)
 unfolding program_form globals_form functions_form
 renames_program {IsGood} {s} unknown =
-    renames_behind unknown (renames_behind unknown (renames_then {T = ProgramTwice IsGood s}
+    renames_behind unknown (renames_then {T = ProgramTwice IsGood s} (renames_any unknown (program_neutral to_unknown).1.0)
+    (renames_then {T = λ x y. EachTwo (λ k g h. NamedTwice IsGood s (DefinesGlobal k) g.name h.name) 0 x.0.0 y.0.0 × EachTwo (FunctionTwice IsGood s) 0 x.0.1 y.0.1}
     (renames_then {T = λ x y. EachTwo (λ k g h. NamedTwice IsGood s (DefinesGlobal k) g.name h.name) 0 x.0 y.0 × EachTwo (FunctionTwice IsGood s) 0 x.1 y.1}
     (renames_many (renames_global unknown)) (renames_many (λ k. renames_function k unknown)) (λ x x' y y' p q. (p, q)))
-    (renames_any unknown (program_neutral to_unknown).1.1.1)
-    (λ items items' start start' p q. record { globals = p.0; functions = p.1 })))
+    (renames_any unknown (program_neutral to_unknown).1.1.1) (λ items items' start start' p q. p))
+    (λ edition edition' parts parts' p q. record { globals = q.0; functions = q.1 }))
 
 -- a row that breaks no limit keeps to it where names are forgotten
 forgotten_fine : (marks others : List Mark) → Renamed KeptOrForgotten marks others → IsFine marks → IsFine others

@@ -20,11 +20,11 @@ use Rattle.mr_ast.specs.declared.words.ItemWord.TheVariants as item_word
 use Rattle.mr_ast.specs.declared.expr.BinaryOp.{BinaryOp}
 use Rattle.mr_ast.specs.Forms.{Word, Empty, Cases}
 use Rattle.mr_ast.specs.Scope.{Scope, name_number, name_target}
-use Rattle.mr_ast.specs.Words.{is_name, is_number, looked_up, int_words, tree_words, stmt_words, term_words, kind_words, intrinsic_words, is_exposed}
+use Rattle.mr_ast.specs.Words.{edition_words, is_name, is_number, looked_up, int_words, tree_words, stmt_words, term_words, kind_words, intrinsic_words, is_exposed}
 use Rattle.mr_ast.specs.Writing.{Kind, TheType, TheTree, ThePlace, TheValue, Writing, Judged, fine, limit, word, limited_word, token, judged_u64, judged_repeat, judged_any, judged_positive, judged_name, judged_target, judged_int, u64_form, num_form, name_form, target_use, int_form}
 use Rattle.mr_ast.specs.TypeGrammar.{shape_form, field_form, chunk_form, tag_form, variant_form, case_form, branch_form, tree_behind, judged_tree, tree_form, ref_form, tuple_type_form, array_form, union_type_form, enum_form, type_behind, type_word_of, judged_type, type_form, tags_form, cases_form, fields_form, chunks_form, variants_form}
 use Rattle.mr_ast.specs.ValueGrammar.{postfix_form, deref_form, base_form, place_from, global_value_form, tuple_value_form, union_value_form, variant_value_form, addr_of_form, cast_form, transmute_form, binary_form, value_behind, value_word_of, judged_value, value_form, postfixes_form, more_values_form}
-use Rattle.mr_ast.specs.ProgramGrammar.{judged_stmt, disc_form, stmt_behind, assign_form, stmt_form, switch_case_form, switch_form, unwind_form, call_form, judged_intrinsic, intrinsic_form, do_form, term_behind, judged_term, term_form, judged_kind, block_form, local_form, locals_form, blocks_form, body_form, inside_function, function_form, repeat_form, reloc_form, item_behind, item_word_of, judged_item, item_form, global_form, program_form, switch_cases_form, values_form, stmts_form, args_form, items_form, globals_form, functions_form}
+use Rattle.mr_ast.specs.ProgramGrammar.{judged_edition, judged_stmt, disc_form, stmt_behind, assign_form, stmt_form, switch_case_form, switch_form, unwind_form, call_form, judged_intrinsic, intrinsic_form, do_form, term_behind, judged_term, term_form, judged_kind, block_form, local_form, locals_form, blocks_form, body_form, inside_function, function_form, repeat_form, reloc_form, item_behind, item_word_of, judged_item, item_form, global_form, program_form, switch_cases_form, values_form, stmts_form, args_form, items_form, globals_form, functions_form}
 use Rattle.mr_ast.specs.Spelled.{form_of}
 use Rattle.mr_grammar.proofs.Names.RenamingLaws.{IsNeutral}
 
@@ -443,6 +443,10 @@ module _ {Alike : Scope → Scope → Type 0} {Kept : Option ℕ → Option ℕ 
   global_neutral k = search (pieces, item_neutral) parts 10
 
   -- a program
+  pub edition_neutral : IsNeutral Alike Kept (token judged_edition)
+  unfolding judged_edition
+  edition_neutral = plain_cases (λ w. fine (looked_up edition_words w.text)) Empty (λ w. fine_all _) (λ i. tt)
+
   pub program_neutral : IsNeutral Alike Kept program_form
   unfolding program_form globals_form functions_form
-  program_neutral = search (pieces, global_neutral, function_neutral) parts 10
+  program_neutral = search (pieces, edition_neutral, global_neutral, function_neutral) parts 10

@@ -117,5 +117,5 @@ fits_function k = ensures_behind (ensures_then ensures_any (ensures_in fits_body
 pub fits_program : {height room : ℕ} {scope : Scope} → Ensures height room (SpelledPart height) scope program_form (λ body. All (FunctionFits (room - 1)) body.functions)
 unfolding program_form functions_form
 fits_program {room = room} =
-    ensures_behind (ensures_behind (ensures_then (ensures_pair ensures_any (ensures_all fits_function)) ensures_any
-    (λ items start p q. All-from_recursion (FunctionFits (room - 1)) items.1 p.1)))
+    ensures_behind (ensures_then ensures_any (ensures_pair (ensures_pair ensures_any (ensures_all fits_function)) ensures_any)
+    (λ edition parts p q. All-from_recursion (FunctionFits (room - 1)) parts.0.1 q.0.1))

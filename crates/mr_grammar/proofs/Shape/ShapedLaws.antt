@@ -38,7 +38,7 @@ functions_shaped IsGood p d words k (f ∷ fs) (g ∷ gs) twice each =
 named_is_shaped : (words : List Word) (shape body : ProgramBody) → AllByRecursion (StandsIn words) words → Writes unknown words shape → Writes (knowing (definitions_in words shape)) words body
     → Shaped (program_of (definitions_in words shape) body)
 named_is_shaped words shape body stand grammatical named = record {
-  edition = refl;
+  edition = shaped.edition_known;
   globals = shaped.globals_shaped;
   functions = All-from_recursion (ShapedFunction p) body.functions
       (functions_shaped (StandsIn words) p d words 0 body.functions shape.functions (functions_twice (StandsIn words) words shape body twice) shaped.functions_shaped);

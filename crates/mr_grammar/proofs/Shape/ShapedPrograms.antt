@@ -1,5 +1,5 @@
 -- The globals and functions that a row without a broken limit writes are shaped, where the program has as many of each as are defined.
-use Rattle.std.proofs.Common.{◌≡◌, ℕ, suc, ◌≤◌, ◌<◌, ◌^◌, Bool, true, false, if◌then◌else◌, nat_le, List, [], ◌∷◌, length, codes, None, Some, refl, ap, sym, arith, All}
+use Rattle.std.proofs.Common.{◌≡◌, ℕ, suc, ◌≤◌, ◌<◌, ◌^◌, Bool, true, false, if◌then◌else◌, nat_le, List, [], ◌∷◌, length, codes, Option, None, Some, option_map, refl, ap, sym, arith, All}
 use Rattle.std.proofs.lemmas.List.Elements.{All-cons, All-from_recursion, All-weaker}
 use Rattle.mr_base.proofs.Comparisons.{le_from, lt_from}
 use Rattle.mr_base.proofs.Options.{some_is}
@@ -13,11 +13,12 @@ use Rattle.mr_ast.specs.declared.program.Target.TheVariants as target
 use Rattle.mr_ast.specs.Forms.{Word}
 use Rattle.mr_ast.specs.Scope.{Definitions, names_of}
 use Rattle.mr_ast.specs.Shaped.{IsRepeat, IsTarget, ShapedBlock, ShapedFunction, ShapedGlobal, ShapedItem, ShapedLocal, is_local, named_in}
-use Rattle.mr_ast.specs.Words.{is_number, value_of}
-use Rattle.mr_ast.specs.Writing.{fine, is_word}
-use Rattle.mr_ast.specs.ProgramGrammar.{ProgramBody, args_form, blocks_form, body_form, function_form, functions_form, global_form, globals_form, item_behind, item_form, items_form, judged_item, local_form, locals_form, program_form, reloc_form, repeat_form, with_name}
+use Rattle.mr_ast.specs.Words.{IsEdition, is_number, value_of}
+use Rattle.mr_ast.proofs.WordLaws.{edition_found}
+use Rattle.mr_ast.specs.Writing.{fine, is_word, token}
+use Rattle.mr_ast.specs.ProgramGrammar.{ProgramBody, args_form, blocks_form, body_form, function_form, functions_form, global_form, globals_form, item_behind, item_form, items_form, judged_edition, judged_item, local_form, locals_form, program_form, reloc_form, repeat_form, with_name}
 use Rattle.mr_ast.specs.Spelled.{SpelledPart}
-use Rattle.mr_grammar.proofs.Walk.EnsureLaws.{EachFrom, Ensures, Parts, ensures_all, ensures_before, ensures_behind, ensures_cases, ensures_either, ensures_empty, ensures_giving, ensures_in, ensures_listed, ensures_many, ensures_pair, ensures_separated, ensures_then, ensures_within}
+use Rattle.mr_grammar.proofs.Walk.EnsureLaws.{EachFrom, Ensures, Parts, ensures_all, ensures_before, ensures_behind, ensures_cases, ensures_either, ensures_empty, ensures_giving, ensures_in, ensures_listed, ensures_many, ensures_pair, ensures_separated, ensures_then, ensures_token, ensures_within}
 use Rattle.mr_grammar.proofs.Shape.ShapedBlocks.{each_also, each_few, ensures_block}
 use Rattle.mr_grammar.proofs.Shape.ShapedNames.{IsWithin, below, ensures_function_name, ensures_function_use, ensures_global_name, ensures_local_name, ensures_local_use, ensures_target_use}
 use Rattle.mr_grammar.proofs.Shape.ShapedNumbers.{ensures_repeat, ensures_u64}
@@ -46,6 +47,7 @@ Counted d k f = (length f.locals ≡ (named_at d k).locals) × (length f.blocks 
 
 -- the body of a program: its globals and functions are shaped, where each function has as many names as are defined in it, and keep the limits
 pub record BodyShaped (p : Program) (d : Definitions) (body : ProgramBody) : Type 0 where
+  pub edition_known : IsEdition body.edition
   pub globals_shaped : All (ShapedGlobal p) body.globals
   pub few_globals : length body.globals ≤ 256
   pub functions_shaped : EachFrom (λ k f. Counted d k f → ShapedFunction p f) 0 body.functions
@@ -144,14 +146,23 @@ module _ (p : Program) (d : Definitions) (names : length p.names ≡ length (nam
       ensures_behind (ensures_then (ensures_function_name d 0 k) (ensures_in (ensures_body k))
       (λ n body q shaped. (below k 256 q.0, λ counted. shaped n (omega (arith, q.1, names)) counted)))
 
+  ensures_edition : {height room : ℕ} → Ensures height room (SpelledPart height) (scope_at d 0) (token judged_edition) IsEdition
+  unfolding judged_edition
+  ensures_edition = ensures_token (λ w n e. edition_found w.text n (named _ n e))
+    where
+      named : (o : Option ℕ) (n : ℕ) → fine o ≡ Some (n, None) → o ≡ Some n
+      named None n e = absurd (cc)
+      named (Some k) n e = ap (λ (j : Option (ℕ × Option ℕ)). option_map (λ p. p.0) j) e
+
   pub ensures_program : {height room : ℕ} → Ensures height room (SpelledPart height) (scope_at d 0) program_form (BodyShaped p d)
   unfolding program_form globals_form functions_form
   ensures_program =
-      ensures_behind (ensures_behind (ensures_then (ensures_pair (ensures_many ensures_global) (ensures_many ensures_function)) (ensures_behind (ensures_function_use d 0))
-      (λ items start q within. record {
-        globals_shaped = All-from_recursion (ShapedGlobal p) items.0 (each_also _ (ShapedGlobal p) (λ k g one. one.1) 0 items.0 q.0);
-        few_globals = omega (arith, each_few _ 256 (λ k g one. one.0) 0 items.0 (omega arith) q.0);
-        functions_shaped = each_kept _ (λ k f. Counted d k f → ShapedFunction p f) (λ k f one. one.1) 0 items.1 q.1;
-        few_functions = omega (arith, each_few _ 256 (λ k f one. one.0) 0 items.1 (omega arith) q.1);
-        start_within = rw functions (lt_from start.0 (named_at d 0).functions within);
-      })))
+      ensures_behind (ensures_then ensures_edition (ensures_pair (ensures_pair (ensures_many ensures_global) (ensures_many ensures_function)) (ensures_behind (ensures_function_use d 0)))
+      (λ edition parts known q. record {
+        edition_known = known;
+        globals_shaped = All-from_recursion (ShapedGlobal p) parts.0.0 (each_also _ (ShapedGlobal p) (λ k g one. one.1) 0 parts.0.0 q.0.0);
+        few_globals = omega (arith, each_few _ 256 (λ k g one. one.0) 0 parts.0.0 (omega arith) q.0.0);
+        functions_shaped = each_kept _ (λ k f. Counted d k f → ShapedFunction p f) (λ k f one. one.1) 0 parts.0.1 q.0.1;
+        few_functions = omega (arith, each_few _ 256 (λ k f one. one.0) 0 parts.0.1 (omega arith) q.0.1);
+        start_within = rw functions (lt_from parts.1.0 (named_at d 0).functions q.1);
+      }))

@@ -68,12 +68,12 @@ few_function k = ensures_behind (ensures_then (few_name _ _) (ensures_in few_bod
 few_program : {height room : ℕ} {part : Parts} {scope : Scope} → Ensures height room part scope program_form FewParts
 unfolding program_form globals_form functions_form
 few_program =
-    ensures_behind (ensures_behind (ensures_then (ensures_pair (ensures_many few_global) (ensures_many few_function)) ensures_any
-    (λ items start q u. record {
-      few_globals = omega (arith, each_few _ 256 (λ k g less. less) 0 items.0 (omega arith) q.0);
-      few_functions = omega (arith, each_few _ 256 (λ k f one. one.0) 0 items.1 (omega arith) q.1);
-      few_inside = each_also _ (λ f. (length f.locals ≤ 256) × (length f.blocks ≤ 1024)) (λ k f one. one.1) 0 items.1 q.1;
-    })))
+    ensures_behind (ensures_then ensures_any (ensures_pair (ensures_pair (ensures_many few_global) (ensures_many few_function)) ensures_any)
+    (λ edition parts u q. record {
+      few_globals = omega (arith, each_few _ 256 (λ k g less. less) 0 parts.0.0 (omega arith) q.0.0);
+      few_functions = omega (arith, each_few _ 256 (λ k f one. one.0) 0 parts.0.1 (omega arith) q.0.1);
+      few_inside = each_also _ (λ f. (length f.locals ≤ 256) × (length f.blocks ≤ 1024)) (λ k f one. one.1) 0 parts.0.1 q.0.1;
+    }))
 
 -- what the words write has no more of anything than a text may have
 pub few_written : (scope : Scope) (words : List Word) (body : ProgramBody) → Writes scope words body → FewParts body

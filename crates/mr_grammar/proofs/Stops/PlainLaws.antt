@@ -24,7 +24,7 @@ use Rattle.mr_ast.specs.Words.{is_name, is_number, value_of, is_exposed, looked_
 use Rattle.mr_ast.specs.Writing.{Kind, TheType, TheTree, ThePlace, TheValue, Writing, Judged, fine, limit, word, limited_word, token, judged_number, judged_u64, judged_repeat, judged_any, judged_positive, u64_form, num_form, judged_name, name_form, judged_target, target_use, local_use, block_use, function_use, judged_int, int_form, ◌▸◌, ◌◂◌, separated, listed, optional}
 use Rattle.mr_ast.specs.TypeGrammar.{shape_form, field_form, fields_form, chunk_form, chunks_form, tag_form, tags_form, variant_form, variants_form, case_form, cases_form, branch_form, tree_behind, judged_tree, tree_form, ref_form, tuple_type_form, array_form, union_type_form, enum_form, type_behind, judged_type, type_form}
 use Rattle.mr_ast.specs.ValueGrammar.{postfix_form, postfixes_form, deref_form, base_form, place_from, value_word_of, judged_value, global_value_form, more_values_form, tuple_value_form, union_value_form, variant_value_form, addr_of_form, cast_form, transmute_form, binary_form, value_behind, value_form}
-use Rattle.mr_ast.specs.ProgramGrammar.{judged_stmt, disc_form, stmt_behind, assign_form, stmt_form, switch_case_form, switch_cases_form, switch_form, unwind_form, values_form, call_form, judged_intrinsic, intrinsic_form, do_form, term_behind, judged_term, term_form, judged_kind, stmts_form, block_form, local_form, locals_form, blocks_form, args_form, body_form, function_form, repeat_form, reloc_form, item_behind, judged_item, item_form, items_form, global_form, globals_form, functions_form, program_form}
+use Rattle.mr_ast.specs.ProgramGrammar.{judged_edition, judged_stmt, disc_form, stmt_behind, assign_form, stmt_form, switch_case_form, switch_cases_form, switch_form, unwind_form, values_form, call_form, judged_intrinsic, intrinsic_form, do_form, term_behind, judged_term, term_form, judged_kind, stmts_form, block_form, local_form, locals_form, blocks_form, args_form, body_form, function_form, repeat_form, reloc_form, item_behind, judged_item, item_form, items_form, global_form, globals_form, functions_form, program_form}
 use Rattle.mr_ast.specs.Spelled.{form_of}
 use Rattle.mr_grammar.proofs.Stops.LimitLaws.{NeverBreaks}
 
@@ -401,10 +401,14 @@ plain_global k = (
   ((plain_name (nat_le 256 k) (DefinesGlobal k), plain_behind (codes "align") u64_form plain_u64), λ i. plain_item),
 )
 
+plain_edition : IsPlain (token judged_edition)
+unfolding judged_edition
+plain_edition = ((λ scope w i e. plain_fine _ (finds _ i e)), λ i. tt)
+
 -- No limit of a program has the code 4.
 pub plain_program : IsPlain program_form
 unfolding program_form globals_form functions_form
 plain_program = (
   plain_word (codes "minirust"),
-  (plain_word (codes "1"), ((plain_global, plain_function), plain_behind (codes "main") function_use (tt, plain_name false UsesFunction))),
+  (plain_edition, ((plain_global, plain_function), plain_behind (codes "main") function_use (tt, plain_name false UsesFunction))),
 )

@@ -29,7 +29,7 @@ use Rattle.mr_ast.specs.Words.{is_name, is_number}
 use Rattle.mr_ast.specs.Writing.{Kind, TheType, TheTree, ThePlace, TheValue, Writing, fine, limit, word, limited_word, token, judged_u64, judged_repeat, judged_any, judged_positive, judged_name, judged_target, judged_int, u64_form, num_form, name_form, int_form}
 use Rattle.mr_ast.specs.TypeGrammar.{shape_form, field_form, chunk_form, tag_form, variant_form, case_form, branch_form, tree_behind, judged_tree, tree_form, ref_form, tuple_type_form, array_form, union_type_form, enum_form, type_behind, judged_type, type_form, tags_form, cases_form, fields_form, chunks_form, variants_form}
 use Rattle.mr_ast.specs.ValueGrammar.{postfix_form, deref_form, base_form, place_from, global_value_form, tuple_value_form, union_value_form, variant_value_form, addr_of_form, cast_form, transmute_form, binary_form, value_behind, judged_value, value_form, postfixes_form, more_values_form}
-use Rattle.mr_ast.specs.ProgramGrammar.{judged_stmt, disc_form, stmt_behind, assign_form, stmt_form, switch_case_form, switch_form, unwind_form, call_form, judged_intrinsic, intrinsic_form, do_form, term_behind, judged_term, term_form, judged_kind, block_form, local_form, locals_form, blocks_form, body_form, function_form, repeat_form, reloc_form, item_behind, judged_item, item_form, global_form, program_form, switch_cases_form, values_form, stmts_form, args_form, items_form, globals_form, functions_form}
+use Rattle.mr_ast.specs.ProgramGrammar.{judged_edition, judged_stmt, disc_form, stmt_behind, assign_form, stmt_form, switch_case_form, switch_form, unwind_form, call_form, judged_intrinsic, intrinsic_form, do_form, term_behind, judged_term, term_form, judged_kind, block_form, local_form, locals_form, blocks_form, body_form, function_form, repeat_form, reloc_form, item_behind, judged_item, item_form, global_form, program_form, switch_cases_form, values_form, stmts_form, args_form, items_form, globals_form, functions_form}
 use Rattle.mr_ast.specs.Spelled.{form_of}
 use Rattle.mr_grammar.proofs.Walk.Conditions.{IsSampled}
 use Rattle.mr_grammar.proofs.Walk.HeightLaws.{SomePart, SomeSpelled, settled}
@@ -371,6 +371,10 @@ unfolding global_form items_form
 global_sampled k = search (pieces, item_sampled) parts 10
 
 -- a program
+edition_sampled : IsSampled true (token judged_edition)
+unfolding judged_edition
+edition_sampled = ((λ scope. (spelt (codes "1"), 1, None, refl)), λ i. tt)
+
 pub program_sampled : IsSampled true program_form
 unfolding program_form globals_form functions_form
-program_sampled = search (pieces, global_sampled, function_sampled) parts 10
+program_sampled = search (pieces, edition_sampled, global_sampled, function_sampled) parts 10

@@ -1,5 +1,5 @@
 -- The canonical text of a program is read as its canonical words.
-use Rattle.std.proofs.Common.{◌≡◌, ℕ, ◌<◌, ◌≤◌, ◌^◌, ◌==◌, true, List, [], ◌∷◌, ◌++◌, length, map, codes, refl, arith, All}
+use Rattle.std.proofs.Common.{◌≡◌, ℕ, ◌<◌, ◌≤◌, ◌^◌, ◌==◌, true, List, [], ◌∷◌, ◌++◌, length, map, codes, inl, inr, refl, arith, All}
 use Rattle.std.specs.Prelude.{Ok, decimal, flat_map}
 use Rattle.std.proofs.lemmas.List.{length-map}
 use Rattle.std.proofs.lemmas.List.Elements.{All-from_recursion, All-get_or, All-map, All-weaker}
@@ -15,7 +15,7 @@ use Rattle.mr_ast.specs.declared.program.Program.{Program}
 use Rattle.mr_ast.specs.declared.program.Stmt.{Stmt}
 use Rattle.mr_ast.specs.declared.program.Target.{Target}
 use Rattle.mr_ast.specs.declared.program.Target.TheVariants as target
-use Rattle.mr_ast.specs.Words.{Texts, is_name, kind_words}
+use Rattle.mr_ast.specs.Words.{IsEdition, Texts, is_name, kind_words}
 use Rattle.mr_ast.specs.CanonValues.{text_at}
 use Rattle.mr_ast.specs.Canon.{argument_words, block_head, block_lines, canonical_text, canonical_words, function_lines, function_texts, global_line, global_texts, head_line, header_line, kind_word, lines_of, local_texts, local_words, locals_line, main_line, repeat_words, stmt_line, target_text, term_line, texts_in, words_of_item}
 use Rattle.mr_ast.specs.Shaped.{IsRepeat, IsTarget, IsText, Shaped, ShapedBlock, ShapedFunction, ShapedGlobal, ShapedItem, ShapedLocal, is_shaped_stmt, named_in}
@@ -127,10 +127,14 @@ module _ (p : Program) (shaped : Shaped p) (words : All (λ text. is_name text �
 
   -- ---- programs
 
+  edition_small : (n : ℕ) → IsEdition n → n < 2 ^ 64
+  edition_small n (inl e) = omega (arith, e)
+  edition_small n (inr e) = omega (arith, e)
+
   program_tokens : AllTokens (lines_of p)
   unfolding lines_of
   program_tokens =
-      let edition : p.edition < 2 ^ 64 = omega (arith, shaped.edition) in
+      let edition : p.edition < 2 ^ 64 = edition_small p.edition shaped.edition in
       let header : Tokens (header_line p.edition) = fixed (codes "minirust") refl (small_token p.edition edition no_tokens) in
       let globals = rows_for (ShapedGlobal p) (global_line p) global_tokens p.globals shaped.globals in
       let functions = all_rows_for (ShapedFunction p) (function_lines p) function_tokens p.functions shaped.functions in

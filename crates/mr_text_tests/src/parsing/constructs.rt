@@ -170,6 +170,7 @@ main main
 ",
     "minirust 1#one\r\nfn\tfn(u8,let)->let{let let:unit,u8:u8;regular regular:exit;}main fn",
     "minirust 1 fn __() -> _0 { let _0: unit; a regular: exit; } main __",
+    "minirust 2 fn main() -> r { let r: unit; b0 regular: exit; } main main",
 ];
 
 // What stands before and behind a piece in a program.

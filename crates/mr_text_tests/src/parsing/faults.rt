@@ -43,7 +43,7 @@ static FAULTS: [(&str, u32, u32, u8); 48] = [
     // A token with which nothing goes on.
     ("", 1, 1, 4),
     ("main", 1, 1, 4),
-    ("minirust 2", 1, 10, 4),
+    ("minirust 3", 1, 10, 4),
     ("minirust 18446744073709551616", 1, 10, 4),
     ("minirust 1 main", 1, 16, 4),
     ("minirust 1 main\n\t", 2, 2, 4),

@@ -3,7 +3,7 @@ use Rattle.mr_command.proofs.RunLaws.{none_completed, start_stops, run_taken, ru
 use Rattle.mr_command.proofs.run.run.Goals as goal
 
 pub returns-in-Err : goal.returns-in-Err
-returns-in-Err c = rw c.at_line.ensures (start_stops c.args.p.now c.args.w.now c.as_slice.result.now c.in-Err.fault c.as_slice.ensures c.in-Err.ensures)
+returns-in-Err c = rw c.at_place.ensures (start_stops c.args.p.now c.args.w.now c.as_slice.result.now c.in-Err.fault c.as_slice.ensures c.in-Err.ensures)
 
 pub run_entries-requires-clause-completed : goal.run_entries-requires-clause-completed
 run_entries-requires-clause-completed c =

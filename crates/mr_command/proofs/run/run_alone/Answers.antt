@@ -4,7 +4,7 @@ use Rattle.mr_command.proofs.RunLaws.{none_completed, start_stops}
 use Rattle.mr_command.proofs.run.run_alone.Goals as goal
 
 pub returns-in-Err : goal.returns-in-Err
-returns-in-Err c = rw c.at_line.ensures (start_stops c.args.p.now c.args.w.now c.as_slice.result.now c.in-Err.fault c.as_slice.ensures c.in-Err.ensures)
+returns-in-Err c = rw c.at_place.ensures (start_stops c.args.p.now c.args.w.now c.as_slice.result.now c.in-Err.fault c.as_slice.ensures c.in-Err.ensures)
 
 pub take_entries-requires-clause-completed : goal.take_entries-requires-clause-completed
 take_entries-requires-clause-completed c =

@@ -8,11 +8,11 @@ loop-entry-preserved c =
     let (steps, h) = c.loop-entry.invariant in
     let (more, k) = c.in_ok-take.ensures in (
       steps ++ more,
-      goes_behind c.args.machine.now c.loop-entry.machine c.take.new.machine [] steps more c.loop-entry.line c.loop-entry.entry-index c.entry-item.result c.args.entries.now
+      goes_behind c.args.machine.now c.loop-entry.machine c.take.new.machine [] steps more c.loop-entry.place c.loop-entry.entry-index c.entry-item.result c.args.entries.now
           (left_at c.args.entries.now c.loop-entry.entry-index c.entry-item.result c.loop-entry-test.true c.entry-item.is) h k,
     )
 
 pub returns : goal.returns
 returns c =
     let (steps, h) = c.loop-entry.invariant in
-    (steps, ends_at c.args.machine.now c.loop-entry.machine [] steps c.loop-entry.line c.loop-entry.entry-index c.args.entries.now (drop_all c.loop-entry.entry-index c.args.entries.now c.loop-entry-test.false) h)
+    (steps, ends_at c.args.machine.now c.loop-entry.machine [] steps c.loop-entry.place c.loop-entry.entry-index c.args.entries.now (drop_all c.loop-entry.entry-index c.args.entries.now c.loop-entry-test.false) h)

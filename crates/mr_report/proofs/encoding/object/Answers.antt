@@ -13,5 +13,5 @@ returns-in-Ok c =
     let witness = option_map string_bytes c.in_ok-told_witness.field-0 in
     let sent = c.in-Ok.ensures.events in
     let text = text_of_value (report_data texts places verdict witness) sent.0 c.in-Ok.bytes.items sent.1 sent.2 (report_whole texts places verdict witness) in
-    told_text_is r.output.now r.verdict r.races.now (option_copied r.witness) texts places verdict witness c.in-Ok.bytes.items
+    told_text_is r.output.now r.verdict r.races.now (option_copied r.witness) r.version texts places verdict witness c.in-Ok.bytes.items
     c.requires.texts c.in_ok-told_texts.ensures c.in_ok-told_races.ensures c.in_ok-told_verdict.ensures c.in_ok-told_witness.ensures text

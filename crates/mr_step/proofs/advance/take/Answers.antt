@@ -65,4 +65,4 @@ returns-in_ok-settle-in-Ok c =
     let mid : Progress = record p { scene = left; threads = with_item p.threads t c.act.new.thread; sync = c.act.new.sync } in
     let picked = subst (λ (ks : List ℕ). ActAnswer (look_of c.args.look.now) c.begin.new.self.thread ks th c.act.new.thread c.begin.new.self.memory left p.sync c.act.new.sync (Ok c.in-Ok.deed)) c.as_slice.ensures c.in-Ok.ensures in
     let acts = acted p.scene.memory t th.count c.begin.new.self c.begin.ensures (look_of c.args.look.now) c.args.entry.now.picks th c.act.new.thread left p.sync c.act.new.sync (Ok c.in-Ok.deed) picked in
-    takes c.args.look.now c.args.entry.now p c.requires th here mid c.settle.new.p c.act.new.thread c.in-Ok.deed acts refl refl c.in_ok-settle-in-Ok.ensures
+    takes c.args.look.now c.args.entry.now p c.requires th here mid c.settle.new.p c.act.new.thread c.in-Ok.deed acts refl refl c.in_ok-settle-in-Ok.ensures.ok

@@ -1,4 +1,4 @@
-use Rattle.std.proofs.Common.{◌≡◌, ◌+◌, ◌++◌, refl, sym, ap, ◌∙◌, length}
+use Rattle.std.proofs.Common.{◌≡◌, ◌+◌, ◌++◌, refl, sym, ap, ◌∙◌, length, Some}
 use Rattle.std.proofs.lemmas.List.{length-set}
 use Rattle.std.specs.Prelude.{slice_set}
 use Rattle.std.specs.Option.{option_map}
@@ -6,18 +6,23 @@ use Rattle.mr_plan.specs.Machine.{started_threads}
 use Rattle.mr_turn.specs.Turning.{own_of}
 use Rattle.mr_step.specs.declared.progress.Progress.{Progress}
 use Rattle.mr_step.specs.Kept.{numbered, standing_thread}
-use Rattle.mr_step.specs.Settling.{foot_by, verdict_in}
+use Rattle.mr_ast.specs.declared.program.Program.{Program}
+use Rattle.mr_eval.specs.declared.scene.Scene.{Scene}
+use Rattle.mr_frame.specs.Kept.{look_of}
+use Rattle.mr_step.specs.Settling.{completed, foot_by, verdict_in}
 use Rattle.mr_step.proofs.CompletedLaws.{IsBehind, leads}
 use Rattle.mr_step.proofs.Numbered.{numbered_length}
 use Rattle.mr_step.proofs.settle.complete.Goals as goal
 
-pub returns : goal.returns
-returns c = λ th n here tells.
+pub returns-clause-ok : goal.returns-clause-ok
+returns-clause-ok c = λ th n here tells.
     let p = c.args.p.now in
     let t = c.args.thread in
     let s = p.scene in
     let d = c.args.deed in
-    let foot = foot_by s d in
+    let edition = c.args.look.now.program.now.edition in
+    let whole = c.in_ok-complete_accesses.ensures ∙ ap (λ (q : Program). completed q.edition s) c.program.ensures.same in
+    let foot = foot_by (completed edition s) d in
     let marked = c.mark.new.threads.items in
     let marks = c.mark.ensures th here in
     let many : length marked ≡ length p.threads.items =
@@ -30,19 +35,19 @@ returns c = λ th n here tells.
       output = c.print.new.output;
       last = c.keep_last.new.last;
       completed = p.completed + 1;
-      verdict = c.verdict_behind-p.result;
+      verdict = c.verdict_behind-verdict.result;
     } in
-    let behind : IsBehind p t s d th.stack foot q = record {
+    let behind : IsBehind edition p t s d th.stack foot q = record {
       foot = refl;
-      memory = c.in_ok-keep_last.ensures.memory;
+      memory = c.in_ok-keep_last.ensures.memory ∙ ap (λ (x : Scene). x.memory) whole;
       sync = refl;
       gone = refl;
       threads = c.in_ok-join.ensures
           ∙ (λ i. marks i ++ started_threads (option_map (own_of (many i)) d.started))
           ∙ (λ i. slice_set (numbered 0 p.threads.items) t (standing_thread t (c.is_end.ensures i) s.count th.stack) ++ started_threads (option_map (own_of (length p.threads.items)) d.started));
-      output = c.in_ok-print.ensures;
-      last = c.in_ok-keep_last.ensures.last;
+      output = c.in_ok-print.ensures.ok;
+      last = c.in_ok-keep_last.ensures.last ∙ ap (λ (x : Scene). Some (foot_by x d)) whole;
       completed = refl;
-      verdict = c.verdict_behind-p.ensures d ∙ ap (λ o. verdict_in o foot p.sync) c.as_ref.ensures.value;
+      verdict = c.verdict_behind-verdict.ensures d ∙ ap (λ o. verdict_in o (foot_by c.complete_accesses.new.scene d) p.sync) c.as_ref.ensures.value ∙ ap (λ (x : Scene). verdict_in p.last (foot_by x d) p.sync) whole;
     } in
-    leads p t s d th.stack n tells c.requires.flow c.requires.at.there q foot behind
+    leads p t s d th.stack n tells (look_of c.args.look.now) c.requires.flow c.requires.at.there q foot behind

@@ -25,4 +25,4 @@ returns-in_ok-asks-in-None c = λ count.
     let none = none_due (next_do (look_of look) (stack_of stack)) (c.in-None.ensures look.functions.now look.globals.now) in
     subst (λ n. AsksAnswer {E = Unit {0}} (shared_of m x) n c.args.out.now.items c.asks.new.out.items (Ok None))
     (sym (frame_needs (look_of look) (own_of thread stack) none (shared_of m x, start_notes thread count)))
-    (c.in_ok-asks-in-None.ensures thread, refl)
+    (c.in_ok-asks-in-None.ensures.ok thread, refl)

@@ -2,7 +2,7 @@ use Rattle.std.proofs.Common.{subst, sym}
 use Rattle.std.specs.Prelude.{Err, None, Ok}
 use Rattle.mr_frame.specs.Doing.{operands_of}
 use Rattle.mr_frame.specs.Kept.{look_of}
-use Rattle.mr_intr.specs.Effects.{Fits, shared_of}
+use Rattle.mr_intr.specs.Effects.{shared_of}
 use Rattle.mr_turn.specs.Asking.{AsksAnswer}
 use Rattle.mr_turn.specs.Turning.{own_of}
 use Rattle.mr_turn.proofs.AskAnswers.{asked_given, none_asked, operands_told, told_code, told_needs, told_none}
@@ -30,4 +30,4 @@ returns-in_ok-push_ask-in-Ok c = λ d due m n here.
     let told = operands_told d.op c.args.op is (operands_of call) g.operands c.as_slice.result.now c.as_slice.ensures.value (Ok c.in-Ok.needs) c.args.thread x c.in-Ok.ensures m n here in
     subst (λ k. AsksAnswer {E = Unit {0}} (shared_of m x) k c.args.out.now.items c.push_ask.new.out.items (Ok c.over_limit.result))
     (sym (told_needs (look_of look) (own_of c.args.thread stack) d (operands_of call) (shared_of m x, n) c.args.op is c.requires.kind c.in-Ok.needs told))
-    (c.in_ok-push_ask-in-Ok.ensures, told_code c.over_limit.result _ (c.over_limit.ensures m))
+    (c.in_ok-push_ask-in-Ok.ensures.ok, told_code c.over_limit.result _ (c.over_limit.ensures m))

@@ -3,7 +3,7 @@ use Rattle.std.specs.Prelude.{None, Ok}
 use Rattle.std.proofs.lemmas.Option.{same_Some}
 use Rattle.mr_intr.specs.Effects.{shared_of}
 use Rattle.mr_turn.specs.Asking.{AsksAnswer}
-use Rattle.mr_turn.proofs.AskAnswers.{asked_start, none_asked, other_needs, thread_needs, told_code, two_pushed}
+use Rattle.mr_turn.proofs.AskAnswers.{asked_start, none_asked, other_needs, thread_needs, told_code}
 use Rattle.mr_turn.proofs.SpawnAnswers.{found_types}
 use Rattle.mr_turn.proofs.asking.start_asks.Goals as goal
 
@@ -27,6 +27,6 @@ returns c = λ d due m n here.
     let call = c.args.call.now in
     let h = asked_start look stack call c.args.f.0 c.requires d due in
     let same = sym (found_types c.function_of.result.now h.at.function h.at.types (same_Some c.function_of.result.now h.at.function (sym c.function_of.ensures ∙ h.at.there)) h.at.typed _ c.if-not-begins_thread.ensures) in
-    subst (λ k. AsksAnswer {E = Unit {0}} (shared_of m x) k c.args.out.now.items c.push-2.new.self.items (Ok c.over_limit.result))
+    subst (λ k. AsksAnswer {E = Unit {0}} (shared_of m x) k c.args.out.now.items c.extend_from_slice.new.self.items (Ok c.over_limit.result))
     (sym (thread_needs look stack call d c.args.f.0 c.args.thread h (shared_of m x, n) same))
-    (two_pushed c.args.out.now.items c.push.new.self.items c.push-2.new.self.items _ _ c.in_ok-push.ensures.items c.in_ok-push-2.ensures.items, told_code c.over_limit.result _ (c.over_limit.ensures m))
+    (c.in_ok-extend_from_slice.ensures.items, told_code c.over_limit.result _ (c.over_limit.ensures m))

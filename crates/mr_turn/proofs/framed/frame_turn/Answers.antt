@@ -15,7 +15,7 @@ returns-in-Err c =
     let x = c.args.sync.now in
     let picks = c.args.picks.now in
     let o = comes_to look stack s x picks in
-    let asked_is = c.as_slice.ensures.value ∙ c.in_ok-asks.ensures s.thread ∙ ap (λ l. l ++ asked s.memory (look_of look) s.thread (stack_of stack) nothing_seen) c.new-asks.ensures.items in
+    let asked_is = c.as_slice.ensures.value ∙ c.in_ok-asks.ensures.ok s.thread ∙ ap (λ l. l ++ asked s.memory (look_of look) s.thread (stack_of stack) nothing_seen) c.new-asks.ensures.items in
     let fault_is : asks_break s x c.as_slice.result.now picks ≡ breaks look stack s x picks =
     ap (λ a. asks_break s x a picks) asked_is ∙ sym (frame_breaks look stack s x picks c.requires.other c.requires.begins.begins) in
     judged_broken c.in-Err.fault (breaks look stack s x picks) o (Does stack s x o stack s x) (IsSame stack s x stack s x)
@@ -29,7 +29,7 @@ take-requires-clause-lawful c =
     let s = c.args.s.now in
     let x = c.args.sync.now in
     let picks = c.args.picks.now in
-    let asked_is = c.as_slice.ensures.value ∙ c.in_ok-asks.ensures s.thread ∙ ap (λ l. l ++ asked s.memory (look_of look) s.thread (stack_of stack) nothing_seen) c.new-asks.ensures.items in
+    let asked_is = c.as_slice.ensures.value ∙ c.in_ok-asks.ensures.ok s.thread ∙ ap (λ l. l ++ asked s.memory (look_of look) s.thread (stack_of stack) nothing_seen) c.new-asks.ensures.items in
     record {
       lawful = lawful_fresh look stack s x picks c.requires.other c.requires.begins.begins (sym (ap (λ a. asks_break s x a picks) asked_is) ∙ c.in-Ok.ensures);
       uncounted = c.requires.begins.uncounted;
@@ -44,7 +44,7 @@ returns c =
     let x = c.args.sync.now in
     let picks = c.args.picks.now in
     let o = comes_to look stack s x picks in
-    let asked_is = c.as_slice.ensures.value ∙ c.in_ok-asks.ensures s.thread ∙ ap (λ l. l ++ asked s.memory (look_of look) s.thread (stack_of stack) nothing_seen) c.new-asks.ensures.items in
+    let asked_is = c.as_slice.ensures.value ∙ c.in_ok-asks.ensures.ok s.thread ∙ ap (λ l. l ++ asked s.memory (look_of look) s.thread (stack_of stack) nothing_seen) c.new-asks.ensures.items in
     deed_is_turn c.take.result (breaks look stack s x picks) o (Does stack s x o c.take.new.stack c.take.new.s c.take.new.sync) (IsSame stack s x c.take.new.stack c.take.new.s c.take.new.sync)
     (frame_breaks look stack s x picks c.requires.other c.requires.begins.begins ∙ sym (ap (λ a. asks_break s x a picks) asked_is) ∙ c.in-Ok.ensures)
     c.take.ensures

@@ -8,8 +8,8 @@ use Rattle.mr_witness.proofs.Chosen.{both_copied, pushed_twice}
 use Rattle.mr_witness.proofs.Kept.{witness_of_run}
 use Rattle.mr_witness.proofs.choosing.witness.Goals as goal
 
-pub follows_plain-requires : goal.follows_plain-requires
-follows_plain-requires c =
+pub follows-requires : goal.follows-requires
+follows-requires c =
     let first = first_of_predicted c.args.run.now c.args.pair c.requires.first.0 c.requires.first.1 in
     let before = first.pair.before in
     let within = first.within in

@@ -19,13 +19,13 @@ push_ask-requires c =
     let due = subst (λ (x : Stmt). IsDue c.args.look.now c.args.self.now (AtStatement x)) c.in-Live.is c.requires in
     live_ok c.args.look.now c.args.self.now c.in-Live.x due c.function-function.result.now c.function-function.ensures c.local_at.result.now c.local_at.ensures
 
-pub returns-in-Live : goal.returns-in-Live
-returns-in-Live c =
+pub returns-in-Live-clause-ok : goal.returns-in-Live-clause-ok
+returns-in-Live-clause-ok c =
     let due = subst (λ (x : Stmt). IsDue c.args.look.now c.args.self.now (AtStatement x)) c.in-Live.is c.requires in
     let P : List Ask → Type 0 = λ asks. OnOk c.push_ask.result (c.push_ask.new.out.items ≡ c.args.out.now.items ++ asks) in
-    λ m thread. subst P (sym (live_asks c.args.look.now c.args.self.now c.in-Live.x due c.function-function.result.now c.function-function.ensures c.local_at.result.now c.local_at.ensures m thread nothing_seen)) c.push_ask.ensures
+    λ m thread. subst P (sym (live_asks c.args.look.now c.args.self.now c.in-Live.x due c.function-function.result.now c.function-function.ensures c.local_at.result.now c.local_at.ensures m thread nothing_seen)) c.push_ask.ensures.ok
 
-pub returns-in_default : goal.returns-in_default
-returns-in_default c =
+pub returns-in_default-clause-ok : goal.returns-in_default-clause-ok
+returns-in_default-clause-ok c =
     let s = c.args.self.now in
     λ m thread. sym (ap (λ (asks : List Ask). c.args.out.now.items ++ asks) (asked_stmt c.args.look.now c.requires.ready (frame_of s.top) (below_of s) (stack_of s).payloads c.args.stmt.now (no_live c.args.stmt.now c.in_default.not-Live) c.requires.stands m thread nothing_seen) ∙ append-nil c.args.out.now.items)

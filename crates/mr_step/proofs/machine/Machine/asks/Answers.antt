@@ -1,4 +1,4 @@
-use Rattle.std.proofs.Common.{◌≡◌, ◌++◌, Ok, Some, subst, sym, ap, ◌∙◌}
+use Rattle.std.proofs.Common.{◌≡◌, Some, subst, sym}
 use Rattle.mr_ast.specs.declared.program.Program.{Program}
 use Rattle.mr_plan.specs.Machine.{State, needs}
 use Rattle.mr_sync.specs.Tables.{IsEnabled}
@@ -23,19 +23,12 @@ asked-requires c =
       enabled = subst (λ (x : State Own). IsEnabled c.args.t (tables_of x.shared)) (sym is) enabled;
     }
 
--- what was found in an empty list stands behind what the caller gave
 pub returns-clause-asks : goal.returns-clause-asks
 returns-clause-asks c = λ s state.
     let m = c.self.inside in
-    let found = c.new-found.result.items in
+    let old = c.args.out.now.items in
     let is = c.asked.new.out.items in
-    let answer = c.in_ok-code.ensures in
     let (there, same) = state_there m.progress.gone (state_of m.progress) s (subst (λ (x : Standing). x.config.state ≡ Some s) (sym c.self.view_is) state) in
-    let told = subst (λ (x : Standing). AsksAnswer {E = Unit {0}} s.shared (needs (thread_step x.look) s c.args.t) found is (Ok c.in_ok-code.code)) c.self.view_is
-    (subst (λ (x : State Own). AsksAnswer {E = Unit {0}} x.shared (needs (thread_step (setting_look m.setting)) x c.args.t) found is (Ok c.in_ok-code.code)) same
-    (subst (λ (l : Look). AsksAnswer {E = Unit {0}} (state_of m.progress).shared (needs (thread_step l) (state_of m.progress) c.args.t) found is (Ok c.in_ok-code.code)) c.look-look.ensures.look answer)) in
-    let asked = (needs (thread_step c.args.self.now.look) s c.args.t).asks in (
-      c.in_ok-extend_from_slice.ensures.items
-          ∙ ap (λ l. c.args.out.now.items ++ l) (c.as_slice.ensures.value ∙ told.0 ∙ ap (λ l. l ++ asked) c.new-found.ensures.items),
-      told.1,
-    )
+    subst (λ (x : Standing). AsksAnswer s.shared (needs (thread_step x.look) s c.args.t) old is c.asked.result) c.self.view_is
+    (subst (λ (x : State Own). AsksAnswer x.shared (needs (thread_step (setting_look m.setting)) x c.args.t) old is c.asked.result) same
+    (subst (λ (l : Look). AsksAnswer (state_of m.progress).shared (needs (thread_step l) (state_of m.progress) c.args.t) old is c.asked.result) c.look-look.ensures.look c.asked.ensures))

@@ -2,7 +2,7 @@ use Rattle.std.proofs.Common.{false, ap, ◌∙◌, subst, arith, length}
 use Rattle.mr_ast.specs.declared.program.Program.{Program}
 use Rattle.mr_wf.specs.Walk.{WellFormed}
 use Rattle.mr_step.specs.Kept.{config_of}
-use Rattle.mr_step.proofs.FirstLaws.{first_sound, functions_are, globals_are}
+use Rattle.mr_step.proofs.FirstLaws.{first_sound, first_within, functions_are, globals_are}
 use Rattle.mr_step.proofs.machine.Machine.begun.Goals as goal
 
 pub prove-unreachable-requires : goal.prove-unreachable-requires
@@ -34,6 +34,7 @@ invariant_of-result c =
         cache = r.2.cache;
       };
       sound = λ e. first_sound p well r.0 r.1 c.args.start r.2 (config_of c.in_ok-progress.progress) c.in_ok-progress.ensures;
+      within = λ e. first_within p well r.0 r.1 c.args.start r.2 (config_of c.in_ok-progress.progress) c.in_ok-progress.ensures;
     }
 
 pub returns : goal.returns

@@ -1,0 +1,7 @@
+use Rattle.std.proofs.Common.{ℕ, ◌↔◌}
+use Rattle.mr_clocks.specs.Clocks.{IsUnder}
+use Rattle.mr_clocks.specs.Whole.{IsNeededBy}
+use Rattle.mr_clocks.proofs.analysis.joined.Given as goal
+
+abbrev pub invariant-loop-x : goal.invariant-loop-x
+invariant-loop-x l = (k : ℕ) → IsUnder l.run l.clock k ↔ IsNeededBy l.run l.steps l.x k

@@ -1,0 +1,4 @@
+pub mod Clocks
+pub mod Keys
+pub mod Kinds
+pub mod Whole

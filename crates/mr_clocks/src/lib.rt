@@ -1,0 +1,35 @@
+//! Vector clocks of the steps of a run, a step at a time, and the races that the run shows. (Lamport: happens-before; FastTrack: races.)
+//!
+//! - [`Analysis`]: what is known of a run. Contracts see it as its clocks, for each step the number of its clock, and for each thread its
+//!   latest step.
+//!
+//! Definitions: `specs/Clocks.antt` says what the clock of a step is and what an analysis tracks; happens-before and the races are those of
+//! `mr_event`. Proved of the public calls:
+//!
+//! - [`Analysis::new`] tracks the empty list.
+//! - [`Analysis::add`], on an analysis that tracks a run without its last step, gives the greatest partner of that step, and then tracks the
+//!   run. Where memory runs out, the analysis is unchanged.
+//! - [`Analysis::orders`]: whether a step of the run happens before another.
+//! - [`Analysis::of_run`] tracks the run that it is given.
+//! - [`Analysis::is_ready`]: whether all that happens before a step lies before its thread's front, where the fronts are a place in
+//!   the run for each thread. It takes no memory, and looks at each number of the step's clock once.
+//! - [`Analysis::needed`]: for each step of the run whether it is one of some steps or happens before one of them, in one pass over
+//!   these steps and one over the run. `specs/Whole.antt` says both.
+//! - [`RunOrder`]: the same two answers for a run of any length; an analysis has fewer than 2^32 steps.
+//! - [`predicted_by_clocks`]: the predicted races of a run; want of memory is its only error.
+//! - [`follows`]: for each step of a run whether a given step happens before it, likewise.
+#![tactic(auto)]
+
+mod analysis;
+mod clock;
+mod laws;
+mod order;
+mod runs;
+mod same;
+mod whole;
+
+pub use analysis::Analysis;
+pub use laws::related_steps_share;
+pub use order::{are_rivals, thread_at};
+pub use runs::{follows, predicted_by_clocks};
+pub use whole::RunOrder;

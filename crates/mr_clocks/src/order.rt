@@ -1,0 +1,113 @@
+//! Edges and races of two steps of a run, by their footprints.
+
+ghost use Rattle.std.specs.Prelude.{◌≡◌, ◌≢◌, ◌==◌, ◌<◌, ◌≤◌, ◌↔◌, IsTrue, true, false, length};
+ghost use Rattle.std.specs.List.{list_any};
+ghost use Rattle.mr_base.specs.Accesses.{some_race};
+ghost use Rattle.mr_event.specs.Footprints.{depends as is_dependent, spawns as is_spawning, wakes as is_waking};
+ghost use Rattle.mr_event.specs.Order.{step_at, thread_at, AreRivals, Edge};
+ghost use Rattle.mr_clocks.specs.Kinds.{IsNext};
+
+use mr_event::{Event, Footprint, depends};
+
+/// The thread of a step.
+#[tactic(auto, using(mr_event::proofs::Read::step_read))]
+pub fn thread_at(run: &[Footprint], i: usize) -> u32
+    requires { i < length run.now }
+    ensures { result ≡ thread_at run.now i }
+{
+    let step = &run[i];
+    step.thread
+}
+
+fn contains_thread(list: &[u32], thread: u32) -> bool
+    ensures { result ≡ list_any (λ t. t == thread) list.now }
+{
+    list.iter().any(|t| *t == thread)
+}
+
+fn spawns(event: Event, thread: u32) -> bool
+    ensures { result ≡ is_spawning event thread }
+{
+    match event {
+        Event::Spawn(spawned) => spawned == thread,
+        _ => false,
+    }
+}
+
+// Whether a step woke or created the thread.
+#[tactic(auto, unfolding(mr_event::specs::Footprints::wakes))]
+fn wakes(f: &Footprint, thread: u32) -> bool
+    ensures { result ≡ is_waking f.now thread }
+{
+    contains_thread(f.woken.as_slice(), thread) || spawns(f.event, thread)
+}
+
+#[tactic(auto, using(mr_event::proofs::Read::step_read))]
+fn step_wakes(run: &[Footprint], i: usize, thread: u32) -> bool
+    requires { i < length run.now }
+    ensures { result ≡ is_waking (step_at run.now i) thread }
+{
+    let step = &run[i];
+    wakes(step, thread)
+}
+
+#[tactic(auto, using(mr_event::proofs::Read::step_read))]
+fn step_depends(run: &[Footprint], i: usize, j: usize) -> bool
+    requires first { i < length run.now }
+    requires second { j < length run.now }
+    ensures { result ≡ is_dependent (step_at run.now i) (step_at run.now j) }
+{
+    let first = &run[i];
+    let second = &run[j];
+    depends(first, second)
+}
+
+// Whether some accesses of the two steps race.
+#[tactic(auto, using(mr_event::proofs::Read::step_read))]
+fn step_races(run: &[Footprint], i: usize, j: usize) -> bool
+    requires first { i < length run.now }
+    requires second { j < length run.now }
+    ensures { result ≡ some_race (step_at run.now i).accesses (step_at run.now j).accesses }
+{
+    let first = &run[i];
+    let second = &run[j];
+    mr_track::races(&first.accesses, &second.accesses)
+}
+
+// Whether step `i` woke or created the thread of step `j` and is not before `next`.
+fn is_woken_by(run: &[Footprint], i: usize, j: usize, next: usize) -> bool
+    requires first { i < length run.now }
+    requires second { j < length run.now }
+    ensures { IsTrue result ↔ (next ≤ i) × (is_waking (step_at run.now i) (thread_at run.now j) ≡ true) }
+{
+    next <= i && step_wakes(run, i, thread_at(run, j))
+}
+
+// Whether step `j` depends on step `i`, and they don't race.
+fn is_bound_by(run: &[Footprint], i: usize, j: usize) -> bool
+    requires first { i < length run.now }
+    requires second { j < length run.now }
+    ensures { IsTrue result ↔ (is_dependent (step_at run.now i) (step_at run.now j) ≡ true) × (some_race (step_at run.now i).accesses (step_at run.now j).accesses ≡ false) }
+{
+    step_depends(run, i, j) && !step_races(run, i, j)
+}
+
+/// Whether there is an edge from step `i` to step `j` of another thread, of which the step before comes directly before `next`.
+pub(crate) fn edge(run: &[Footprint], i: usize, j: usize, next: usize) -> bool
+    requires order { i < j }
+    requires within { j < length run.now }
+    requires apart { thread_at run.now i ≢ thread_at run.now j }
+    requires next { IsNext run.now j next }
+    ensures { IsTrue result ↔ Edge run.now i j }
+{
+    is_woken_by(run, i, j, next) || is_bound_by(run, i, j)
+}
+
+/// Whether the steps are of two threads and some of their accesses race.
+pub fn are_rivals(run: &[Footprint], i: usize, j: usize) -> bool
+    requires first { i < length run.now }
+    requires second { j < length run.now }
+    ensures { IsTrue result ↔ AreRivals run.now i j }
+{
+    thread_at(run, i) != thread_at(run, j) && step_races(run, i, j)
+}

@@ -1,0 +1,66 @@
+//! Runs that are added to an analysis a step at a time, and a long one.
+use mr_base::Access;
+use mr_clocks::{Analysis, predicted_by_clocks};
+use mr_event::{Footprint, OutOfMemory};
+use std::alloc::Global;
+
+fn access(store: bool, atomic: bool, addr: u64) -> Access {
+    Access {
+        store,
+        atomic,
+        addr,
+        len: 1,
+    }
+}
+
+fn step(
+    alloc: Global,
+    thread: u32,
+    first: Access,
+    second: Access,
+) -> Result<Footprint, OutOfMemory> {
+    let mut f = Footprint::nothing(alloc);
+    f.thread = thread;
+    f.accesses.add(first)?;
+    f.accesses.add(second)?;
+    Ok(f)
+}
+
+fn single(alloc: Global, thread: u32, only: Access) -> Result<Footprint, OutOfMemory> {
+    let mut f = Footprint::nothing(alloc);
+    f.thread = thread;
+    f.accesses.add(only)?;
+    Ok(f)
+}
+
+// The third step follows the first one, though it races with the second. Whoever doesn't look back lets the fourth race with the first.
+#[test]
+fn the_clock_looks_back(rt: HostRuntime) -> Result<(), OutOfMemory> {
+    let alloc = rt.alloc();
+    let mut run = Vec::new(alloc);
+    run.push(step(alloc, 1, access(true, true, 16), access(true, false, 48))?)?;
+    run.push(step(alloc, 1, access(true, true, 16), access(true, false, 32))?)?;
+    run.push(step(alloc, 2, access(false, true, 16), access(true, false, 32))?)?;
+    run.push(single(alloc, 2, access(true, false, 48))?)?;
+    let mut analysis = Analysis::new(alloc);
+    assert!(rt; analysis.add(&run[..1])?.is_none());
+    assert!(rt; analysis.add(&run[..2])?.is_none());
+    assert!(rt; analysis.add(&run[..3])? == Some(1));
+    assert!(rt; analysis.add(&run)?.is_none());
+    assert!(rt; analysis.orders(&run, 0, 3) && !analysis.orders(&run, 1, 3));
+    Ok(())
+}
+
+// Two threads store atomically to one byte in turn. Comparing all steps would take some 10^10 comparisons. (`rt try`, whose checks
+// are slow, doesn't come to the end of it in its time.)
+#[test]
+fn a_long_run_ends(rt: HostRuntime) -> Result<(), OutOfMemory> {
+    let alloc = rt.alloc();
+    let mut run = Vec::new(alloc);
+    for i in 0..262144u32 {
+        run.push(single(alloc, i % 2, access(true, true, 16))?)?;
+    }
+    let pairs = predicted_by_clocks(alloc, &run)?;
+    assert!(rt; pairs.is_empty());
+    Ok(())
+}
