@@ -1,9 +1,12 @@
 //! Runs the cases of standard input, each a line with the words of a command over the files of `data/`, and writes what each comes
-//! to: `$` and the words, what the command writes, and `=` and the status. JSON is read back, and told in lines behind it.
+//! to: `$` and the words, what the command writes, and `=` and the status. JSON is read back, and told in lines behind it. The bytes of a
+//! trace are written as numbers.
 #![tactic(auto)]
 
+mod in_numbers;
 mod read_back;
 
+use crate::in_numbers::in_numbers;
 use crate::read_back::read_back;
 use mr_command::mirace;
 use mr_io::{HostFiles, HostOut};
@@ -16,6 +19,7 @@ fn main(rt: HostRuntime) -> io::Result<()> {
         let words = words_of(&rt, line.as_str())?;
         let status = match words.first() {
             Some(word) if word.as_str() == "json" => read_back(&rt, words.as_slice())?,
+            Some(word) if word.as_str() == "trace" => in_numbers(&rt, words.as_slice())?,
             _ => written(&rt, words.as_slice()),
         };
         println!(rt; "= {status}")?;

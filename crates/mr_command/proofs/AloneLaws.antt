@@ -1,10 +1,11 @@
--- Runs of thread 0 alone.
+-- Runs of which no footprint is kept: those of thread 0 alone, and others that show no race.
 use Rattle.std.proofs.Common.{◌≡◌, ℕ, refl, sym, ap, ◌∙◌, subst, arith, Bool, true, false, List, [], ◌∷◌, ◌++◌, Option, Some, None, Ok, Err}
 use Rattle.std.proofs.lemmas.Bool.Decides.{nat_tests}
 use Rattle.std.specs.Prelude.{◌==◌, ◌&&◌}
 use Rattle.mr_ast.specs.declared.program.Program.{Program}
 use Rattle.mr_event.specs.declared.footprint.Footprint.{Footprint}
 use Rattle.mr_event.specs.declared.footprint.Pair.{Pair}
+use Rattle.mr_event.specs.Predicted.{predicted}
 use Rattle.mr_exchange.proofs.Law.{thread_noted}
 use Rattle.mr_frame.specs.Frames.{Look}
 use Rattle.mr_plan.specs.Machine.{Bare, Completed, IllFormedStep, State, Stops, bare}
@@ -22,10 +23,10 @@ use Rattle.mr_thread.specs.Steps.{Own, thread_step}
 use Rattle.mr_command.specs.declared.command.Format.{Format}
 use Rattle.mr_command.specs.declared.refusal.Refusal.{Refusal}
 use Rattle.mr_command.specs.declared.run.Finished.{Finished}
-use Rattle.mr_command.specs.Answer.{Answer, Ran, ran, told_in, unless_broken, witness_for}
+use Rattle.mr_command.specs.Answer.{Answer, Ran, legal_run, ran, told_in, unless_broken, witness_for}
 use Rattle.mr_command.specs.Alone.{are_alone}
 use Rattle.mr_command.specs.Report.{report_of, report_status}
-use Rattle.mr_command.specs.Running.{AloneAnswer, TakeAnswer, TakenAnswer, are_of_first, placed}
+use Rattle.mr_command.specs.Running.{BareAnswer, TakeAnswer, TakenAnswer, are_of_first, placed}
 use Rattle.mr_command.proofs.OneThread.{none_alone}
 use Rattle.mr_command.proofs.RunLaws.{entry_refused, entry_taken, run_led, run_refused}
 
@@ -92,24 +93,27 @@ alone_steps : (p : Program) (w : Schedule) → are_of_first w.entries ≡ true �
 unfolding steps_of
 alone_steps p w h = alone_feet (look_of p w.start) (start_config p w.start) w.entries h
 
--- entries of thread 0 alone that a started machine took
-pub run_alone_taken : (p : Program) (w : Schedule) (picks : List ℕ) (es : List Entry) (m : Standing) (done : Finished) → picks ≡ w.start → es ≡ w.entries → are_of_first w.entries ≡ true
-    → done.steps.items ≡ [] → StartAnswer p picks (Ok m) → TakenAnswer es m done.machine (Ok tt) → AloneAnswer p w (Ok done)
-run_alone_taken p w picks es m done e k first kept h (steps, a) =
-    let (working, legal) = run_led p w picks es m done.machine [] steps e k refl h a in
-    let is = is_ran (schedule_fault p w) (ran p w) (record { config = done.machine.config; steps = steps }) legal in
-    (working, kept, steps, subst (λ (r : Ran). are_alone r.steps ≡ true) is (alone_steps p w first), legal)
+-- where all entries are of thread 0, so are the steps
+pub alone_run : (p : Program) (w : Schedule) (r : Ran) → are_of_first w.entries ≡ true → legal_run p w ≡ Ok r → are_alone r.steps ≡ true
+alone_run p w r first legal = subst (λ (x : Ran). are_alone x.steps ≡ true) (is_ran (schedule_fault p w) (ran p w) r legal) (alone_steps p w first)
 
-pub run_alone_refused : (p : Program) (w : Schedule) (picks : List ℕ) (es : List Entry) (m new : Standing) (r : Refusal) → picks ≡ w.start → es ≡ w.entries
-    → StartAnswer p picks (Ok m) → TakenAnswer es m new (Err r) → AloneAnswer p w (Err r)
-run_alone_refused p w picks es m new r e k h (steps, a) = run_refused p w picks es m new [] steps r e k h a
+-- entries that a started machine took
+pub run_bare_taken : (p : Program) (w : Schedule) (picks : List ℕ) (es : List Entry) (m : Standing) (done : Finished) → picks ≡ w.start → es ≡ w.entries
+    → done.steps.items ≡ [] → StartAnswer p picks (Ok m) → TakenAnswer es m done.machine (Ok tt) → BareAnswer p w (Ok done)
+run_bare_taken p w picks es m done e k kept h (steps, a) =
+    let (working, legal) = run_led p w picks es m done.machine [] steps e k refl h a in
+    (working, kept, steps, legal)
+
+pub run_bare_refused : (p : Program) (w : Schedule) (picks : List ℕ) (es : List Entry) (m new : Standing) (r : Refusal) → picks ≡ w.start → es ≡ w.entries
+    → StartAnswer p picks (Ok m) → TakenAnswer es m new (Err r) → BareAnswer p w (Err r)
+run_bare_refused p w picks es m new r e k h (steps, a) = run_refused p w picks es m new [] steps r e k h a
 
 -- ---- its report
 
--- A RUN OF THREAD 0 ALONE is reported without its footprints
-pub reported_alone : (format : Format) (v : Version) (w : Schedule) (c : Config Own) (steps : List Footprint) → are_alone steps ≡ true
+-- A RUN THAT SHOWS NO RACE is reported without its footprints
+pub reported_bare : (format : Format) (v : Version) (w : Schedule) (c : Config Own) (steps : List Footprint) → predicted steps ≡ []
     → told_in format v w (record { config = c; steps = steps }) ≡ told_in format v w (record { config = c; steps = [] })
-reported_alone format v w c steps alone = ap (by steps) (none_alone steps alone) ∙ sym (ap (by []) (none_alone [] refl))
+reported_bare format v w c steps none = ap (by steps) none ∙ sym (ap (by []) (none_alone [] refl))
   where
     by : List Footprint → List Pair → Answer
     by fs races = record {

@@ -4,7 +4,7 @@ use Rattle.std.specs.Prelude.{bytes_eq, codes, if◌then◌else◌, nat_lt}
 use Rattle.mr_ast.specs.Words.{is_number, value_of}
 use Rattle.mr_base.proofs.Comparisons.{lt_from}
 use Rattle.mr_command.specs.declared.command.Format.{Format}
-use Rattle.mr_command.specs.Command.{Check, Command, IsBounded, Upgrade, auto_of, big_of, command_of, format_of, number_below, run_of, shuffle_of}
+use Rattle.mr_command.specs.Command.{Check, Command, IsBounded, Offline, Upgrade, auto_of, big_of, command_of, format_of, number_below, run_of, shuffle_of}
 
 abbrev AllBounded : Option Command → Type 0
 AllBounded None = Unit {0}
@@ -50,10 +50,12 @@ words_bounded : (words : List (List ℕ)) → AllBounded (command_of words)
 words_bounded [] = tt
 words_bounded (word ∷ []) = tt
 words_bounded (word ∷ name ∷ []) =
-    let upgrade = if bytes_eq word (codes "upgrade") then Some (Upgrade name) else None in
+    let offline = if bytes_eq word (codes "offline") then Some (Offline name) else None in
+    let upgrade = if bytes_eq word (codes "upgrade") then Some (Upgrade name) else offline in
     either_bounded (bytes_eq word (codes "check")) (Some (Check name)) (if bytes_eq word (codes "big") then big_of (number_below (2 ^ 64) name) else upgrade) tt
     (either_bounded (bytes_eq word (codes "big")) (big_of (number_below (2 ^ 64) name)) upgrade (big_bounded (number_below (2 ^ 64) name))
-    (either_bounded (bytes_eq word (codes "upgrade")) (Some (Upgrade name)) None tt tt))
+    (either_bounded (bytes_eq word (codes "upgrade")) (Some (Upgrade name)) offline tt
+    (either_bounded (bytes_eq word (codes "offline")) (Some (Offline name)) None tt tt)))
 words_bounded (word ∷ program ∷ schedule ∷ []) = run_bounded (format_of word) program schedule
 words_bounded (word ∷ program ∷ number ∷ most ∷ []) =
     either_bounded (bytes_eq word (codes "auto")) (auto_of program (number_below (2 ^ 64) number) (number_below (2 ^ 20 + 1) most))

@@ -6,7 +6,7 @@ use Rattle.mr_io.specs.Files.{Contents}
 use Rattle.mr_command.specs.declared.answer.Written.{Written}
 use Rattle.mr_command.specs.declared.refusal.Refusal.{Refusal}
 use Rattle.mr_command.specs.declared.refusal.Refusal.TheVariants as refusal
-use Rattle.mr_command.specs.Command.{Auto, Big, Check, Command, Run, Upgrade}
+use Rattle.mr_command.specs.Command.{Auto, Big, Check, Command, Offline, Run, Upgrade}
 use Rattle.mr_command.specs.Answer.{Answer, answer_of, refused}
 use Rattle.mr_command.specs.Answering.{IsAnswered, Tells, seen}
 use Rattle.mr_command.specs.Outcome.{Ends, IsLeft, IsPossible, IsRefusedOrLeft, IsWritten}
@@ -18,6 +18,8 @@ refusal_told answer refusal.Memory h = inl refl
 refusal_told answer refusal.ReadProgram h = inr h
 refusal_told answer (refusal.Text at col code) h = inr h
 refusal_told answer refusal.ReadSchedule h = inr h
+refusal_told answer refusal.ReadTrace h = inr h
+refusal_told answer (refusal.Trace at code) h = inr h
 refusal_told answer (refusal.Schedule at code earlier) h = inr h
 
 same_refusal : {r s : Refusal} → ◌≡◌ {A = Result Written Refusal} (Err r) (Err s) → r ≡ s
@@ -36,6 +38,8 @@ module _ (files : Contents) (files_rose out_rose : Type 0) (old new : Option (Li
   written_ends (Big number) a tells written = inr (seen a, inl tells, written)
   written_ends (Upgrade schedule) a (inl tells) written = inr (seen a, inl tells, written)
   written_ends (Upgrade schedule) a (inr (rose, e)) written = absurd (cc)
+  written_ends (Offline trace) a (inl tells) written = inr (seen a, inl tells, written)
+  written_ends (Offline trace) a (inr (rose, e)) written = absurd (cc)
 
   -- a refusal that is defined
   is_defined : (command : Command) (r : Refusal) → IsAnswered files command files_rose (Err r) → (r ≡ refusal.Memory) ⊎ IsPossible files (Some command) files_rose (refused r)
@@ -53,6 +57,9 @@ module _ (files : Contents) (files_rose out_rose : Type 0) (old new : Option (Li
   is_defined (Upgrade schedule) r (inl tells) =
       elim (refusal_told (answer_of files (Some (Upgrade schedule))) r tells) [ inl e ↦ inl e | inr e ↦ inr (inl (sym e)) ]
   is_defined (Upgrade schedule) r (inr (rose, e)) = inr (inr (rose, ap refused (same_refusal e)))
+  is_defined (Offline trace) r (inl tells) =
+      elim (refusal_told (answer_of files (Some (Offline trace))) r tells) [ inl e ↦ inl e | inr e ↦ inr (inl (sym e)) ]
+  is_defined (Offline trace) r (inr (rose, e)) = inr (inr (rose, ap refused (same_refusal e)))
 
   -- nothing was written, or the line of a refusal that isn't for want of memory
   left_or_written : (r : Refusal) → IsRefusedOrLeft r out_rose old new status → IsLeft old new status ⊎ ((r ≡ refusal.Memory → ⊥) × IsWritten (refused r) out_rose old new status)
@@ -63,6 +70,10 @@ module _ (files : Contents) (files_rose out_rose : Type 0) (old new : Option (Li
   left_or_written (refusal.Text at col code) (inr h) = inr ((λ e. absurd (cc)), h)
   left_or_written refusal.ReadSchedule (inl h) = inl h
   left_or_written refusal.ReadSchedule (inr h) = inr ((λ e. absurd (cc)), h)
+  left_or_written refusal.ReadTrace (inl h) = inl h
+  left_or_written refusal.ReadTrace (inr h) = inr ((λ e. absurd (cc)), h)
+  left_or_written (refusal.Trace at code) (inl h) = inl h
+  left_or_written (refusal.Trace at code) (inr h) = inr ((λ e. absurd (cc)), h)
   left_or_written (refusal.Schedule at code earlier) (inl h) = inl h
   left_or_written (refusal.Schedule at code earlier) (inr h) = inr ((λ e. absurd (cc)), h)
 
@@ -81,12 +92,19 @@ module _ (files : Contents) (files_rose out_rose : Type 0) (old new : Option (Li
 same_some : {A : Type 0} {x y : A} → Some x ≡ Some y → x ≡ y
 same_some e = cc
 
--- the lines of the two reads that fail have 13 and 14 bytes
+-- the lines of the reads that fail have 13, 14 and 11 bytes
 other_line : (taken : List ℕ) → ◌≡◌ {A = Option (List ℕ)} (Some (taken ++ refusal_text refusal.ReadSchedule)) (Some (taken ++ refusal_text refusal.ReadProgram)) → ⊥
 other_line taken e =
     let schedule : length (taken ++ refusal_text refusal.ReadSchedule) ≡ length taken + 14 = length-append taken (refusal_text refusal.ReadSchedule) in
     let program : length (taken ++ refusal_text refusal.ReadProgram) ≡ length taken + 13 = length-append taken (refusal_text refusal.ReadProgram) in
     let same : length (taken ++ refusal_text refusal.ReadSchedule) ≡ length (taken ++ refusal_text refusal.ReadProgram) = ap length (same_some e) in
+    absurd (omega arith)
+
+trace_line : (taken : List ℕ) → ◌≡◌ {A = Option (List ℕ)} (Some (taken ++ refusal_text refusal.ReadTrace)) (Some (taken ++ refusal_text refusal.ReadProgram)) → ⊥
+trace_line taken e =
+    let trace : length (taken ++ refusal_text refusal.ReadTrace) ≡ length taken + 11 = length-append taken (refusal_text refusal.ReadTrace) in
+    let program : length (taken ++ refusal_text refusal.ReadProgram) ≡ length taken + 13 = length-append taken (refusal_text refusal.ReadProgram) in
+    let same : length (taken ++ refusal_text refusal.ReadTrace) ≡ length (taken ++ refusal_text refusal.ReadProgram) = ap length (same_some e) in
     absurd (omega arith)
 
 module _ (rose : Type 0) (taken : List ℕ) (new : Option (List ℕ)) (status : ℕ) (six : status ≡ 6) (line : new ≡ Some (taken ++ refusal_text refusal.ReadProgram)) where
@@ -100,6 +118,12 @@ module _ (rose : Type 0) (taken : List ℕ) (new : Option (List ℕ)) (status : 
   program_unread refusal.ReadSchedule (inl h) = let eight = h.0 in absurd (omega arith)
   program_unread refusal.ReadSchedule (inr (inl h)) = absurd (other_line taken (sym h.1 ∙ line))
   program_unread refusal.ReadSchedule (inr (inr h)) = let seven = h.0 in absurd (omega arith)
+  program_unread refusal.ReadTrace (inl h) = let eight = h.0 in absurd (omega arith)
+  program_unread refusal.ReadTrace (inr (inl h)) = absurd (trace_line taken (sym h.1 ∙ line))
+  program_unread refusal.ReadTrace (inr (inr h)) = let seven = h.0 in absurd (omega arith)
+  program_unread (refusal.Trace at code) (inl h) = let eight = h.0 in absurd (omega arith)
+  program_unread (refusal.Trace at code) (inr (inl h)) = let nine : status ≡ 9 = h.0 in absurd (omega arith)
+  program_unread (refusal.Trace at code) (inr (inr h)) = let seven = h.0 in absurd (omega arith)
   program_unread (refusal.Schedule at code earlier) (inl h) = let eight = h.0 in absurd (omega arith)
   program_unread (refusal.Schedule at code earlier) (inr (inl h)) = let five : status ≡ 5 = h.0 in absurd (omega arith)
   program_unread (refusal.Schedule at code earlier) (inr (inr h)) = let seven = h.0 in absurd (omega arith)

@@ -8,10 +8,10 @@ use Rattle.mr_ast.specs.declared.program.Function.{Function}
 use Rattle.mr_ast.specs.declared.program.Program.{Program}
 use Rattle.mr_ast.specs.declared.program.Term.TheVariants.{Exit}
 use Rattle.mr_wf.specs.declared.fault.Item.TheVariants.{Function as InFunction}
-use Rattle.mr_command.specs.declared.refusal.Refusal.TheVariants.{Schedule, Text}
+use Rattle.mr_command.specs.declared.refusal.Refusal.TheVariants.{Schedule, Text, Trace}
 use Rattle.mr_command.specs.declared.command.Format.TheVariants as Format
 use Rattle.mr_sched.specs.declared.version.Version.TheVariants.{One, Two}
-use Rattle.mr_command.specs.Command.{Check, Run, Upgrade, command_of}
+use Rattle.mr_command.specs.Command.{Check, Offline, Run, Upgrade, command_of}
 use Rattle.mr_command.specs.Answer.{line_at}
 use Rattle.mr_command.specs.Form.{form_line}
 use Rattle.mr_report.specs.Report.{line}
@@ -25,6 +25,12 @@ the_other_form = refl
 
 the_upgrade : command_of (codes "upgrade" ∷ codes "S" ∷ []) ≡ Some (Upgrade (codes "S"))
 the_upgrade = refl
+
+the_trace : command_of (codes "trace" ∷ codes "P" ∷ codes "S" ∷ []) ≡ Some (Run Format.Footprints (codes "P") (codes "S"))
+the_trace = refl
+
+the_offline : command_of (codes "offline" ∷ codes "T" ∷ []) ≡ Some (Offline (codes "T"))
+the_offline = refl
 
 a_word_more : command_of (codes "check" ∷ codes "P" ∷ codes "S" ∷ []) ≡ None
 a_word_more = refl
@@ -54,6 +60,10 @@ at_a_line = refl
 of_a_text : refusal_text (Text 1 16 4) ≡ line (codes "text 1 16 4 Unexpected")
 unfolding digits
 of_a_text = refl
+
+of_a_trace : refusal_text (Trace 8 72) ≡ line (codes "trace 8 72 Truncated")
+unfolding digits
+of_a_trace = refl
 
 -- ---- lines of places
 

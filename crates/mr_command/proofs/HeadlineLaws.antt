@@ -26,22 +26,27 @@ use Rattle.mr_auto.proofs.LegalRuns.{schedule_legal}
 use Rattle.mr_command.specs.declared.refusal.Refusal.TheVariants as refusal
 use Rattle.mr_command.specs.declared.command.Format.{Format}
 use Rattle.mr_command.specs.declared.command.Format.TheVariants as format
-use Rattle.mr_command.specs.Command.{Auto, Big, Check, Command, NamesProgram, Run, Upgrade}
-use Rattle.mr_command.specs.Answer.{Answer, Ran, auto_answer, big_answer, big_schedule, drawn_answer, program_in, ran, schedule_in, denoted, spelled, text_refusal, legal_run, unless_broken, canonical, check_answer, form_answer, form_or, in_text, line_at, read_report, refused, report_under, reported, run_answer, shuffled_answer, told, upgrade_answer, upgraded, answer_of}
+use Rattle.mr_command.specs.Command.{Auto, Big, Check, Command, NamesProgram, Offline, Run, Upgrade}
+use Rattle.mr_command.specs.Answer.{Answer, Ran, auto_answer, big_answer, big_schedule, drawn_answer, program_in, ran, schedule_in, denoted, spelled, text_refusal, legal_run, unless_broken, canonical, check_answer, form_answer, form_or, in_text, line_at, listed, races_in, races_status, read_report, refused, shown, report_under, reported, run_answer, shuffled_answer, told, upgrade_answer, upgraded, answer_of}
 use Rattle.mr_witness.proofs.Kept.{first_witness}
 use Rattle.mr_order.proofs.First.{first_of_predicted}
 use Rattle.mr_short.proofs.Witness.{witness_of_run}
 use Rattle.mr_shuffle.specs.Shuffled.{shuffled}
 use Rattle.mr_shuffle.proofs.Copied.{shuffled_same}
 use Rattle.mr_shuffle.proofs.Drawn.{shuffled_rearranged}
+use Rattle.mr_event.specs.declared.footprint.Footprint.{Footprint}
+use Rattle.mr_event.proofs.Tests.{predicted_is}
+use Rattle.mr_trace.specs.Reading.{races_in as races_read, races_of, trace_of}
+use Rattle.mr_trace.proofs.TraceLaws.{fault_so, trace_again}
 use Rattle.mr_command.specs.Report.{report_status, verdict_status}
 use Rattle.mr_command.specs.Outcome.{Ends, EndsOverTexts, RanOut, holding, IsLeft, IsPossible, IsUnread, IsWritten}
 use Rattle.mr_command.specs.Headline.{ChecksProgram, DrawsFor, IsSoundUnder, Names, NamesBroken, NamesBrokenSchedule, NamesFault, NamesScheduleFault, KeepsResult, ReadsSchedule, RunsProgram, IsOfMachine, IsTold, ShowsFirstRace, Upgrades}
+use Rattle.mr_command.specs.Traces.{NamesTraceFault, Replays}
 use Rattle.mr_command.proofs.AnswerLaws.{first_told}
 
 -- ---- what a file holds
 
-denoted_in : (file : Option (List ℕ)) (text : List ℕ) (p : Program) → file ≡ Some text → Denotes text p → program_in file ≡ Ok p
+pub denoted_in : (file : Option (List ℕ)) (text : List ℕ) (p : Program) → file ≡ Some text → Denotes text p → program_in file ≡ Ok p
 denoted_in file text p there d = ap program_in there ∙ ap denoted (denotes_parsed text p d)
 
 fault_in : (file : Option (List ℕ)) (text : List ℕ) (fault : TextFault) → file ≡ Some text → FirstFault text fault → program_in file ≡ Err (text_refusal fault)
@@ -154,6 +159,25 @@ upgraded_answer files command v w h =
     ∙ ap (λ file. told upgrade_answer (schedule_in file)) h.there
     ∙ ap (λ r. told upgrade_answer (spelled r)) (schedule_again h.text v w h.schedules)
 
+pub races_from : (bytes : List ℕ) → races_of bytes ≡ races_read (trace_of bytes)
+unfolding races_of
+races_from bytes = refl
+
+-- the bytes of a run are answered by its races
+pub replayed_answer : (files : Contents) (command : Option Command) (run : List Footprint) → Replays files command run → answer_of files command ≡ listed (predicted run)
+replayed_answer files command run h =
+    ap (answer_of files) h.is_offline
+    ∙ ap (λ file. told listed (races_in file)) h.there
+    ∙ ap (λ r. told listed (shown r)) (races_from h.bytes ∙ ap races_read (trace_again h.bytes run h.traces))
+
+-- and the first fault of bytes is told
+pub trace_fault_answer : (files : Contents) (command : Option Command) (at code : ℕ) → NamesTraceFault files command at code
+    → answer_of files command ≡ refused (refusal.Trace at code)
+trace_fault_answer files command at code h =
+    ap (answer_of files) h.is_offline
+    ∙ ap (λ file. told listed (races_in file)) h.there
+    ∙ ap (λ r. told listed (shown r)) (races_from h.bytes ∙ ap races_read (fault_so h.bytes at code h.first))
+
 -- ---- witnesses and other orders
 
 -- what is shown for the first race is a witness
@@ -161,6 +185,7 @@ pub witnessed : (format : Format) (p : Program) (w : Schedule) → WellFormed p 
 witnessed format.Text p w well legal = first_witness p w well legal
 witnessed format.Json p w well legal = first_witness p w well legal
 witnessed format.Short p w well legal = λ pair races e. witness_of_run p w _ (steps_of p w) pair.first pair.second well legal refl (first_of_predicted (steps_of p w) pair races e) refl
+witnessed format.Footprints p w well legal = first_witness p w well legal
 witnessed (format.Shuffled number) p w well legal = first_witness p w well legal
 
 -- another order comes to the same
@@ -168,6 +193,7 @@ keeps_result : (format : Format) (p : Program) (w : Schedule) → WellFormed p �
 keeps_result format.Text p w well legal = tt
 keeps_result format.Json p w well legal = tt
 keeps_result format.Short p w well legal = tt
+keeps_result format.Footprints p w well legal = tt
 keeps_result (format.Shuffled number) p w well legal = λ none. (
   shuffled_rearranged (steps_of p w) number,
   shuffled_same (steps_of p w) w (shuffled (steps_of p w) w number) number refl p well legal refl none,
@@ -188,6 +214,7 @@ unread_status files (Some (Check program)) a h = ap (λ (b : Answer). b.status) 
 unread_status files (Some (Auto program number most)) a h = ap (λ (b : Answer). b.status) h
 unread_status files (Some (Big number)) a h = absurd h
 unread_status files (Some (Upgrade schedule)) a h = ap (λ (b : Answer). b.status) h
+unread_status files (Some (Offline trace)) a h = ap (λ (b : Answer). b.status) h
 
 pub written_status : (a : Answer) (rose : Type 0) (old new : Option (List ℕ)) (status : ℕ) → IsWritten a rose old new status → (status ≡ a.status) ⊎ (rose × (status ≡ 7))
 written_status a rose old new status (inl h) = inl h.0
@@ -215,6 +242,7 @@ module _ (files : Contents) (command : Option Command) (files_rose out_rose : Ty
       → IsOfMachine format p v w files_rose out_rose old new status
   of_machine format p v w h e = record {
     sound = sound_run p w h.well_formed h.legal;
+    races = predicted_is (steps_of p w);
     witness = witnessed format p w h.well_formed h.legal;
     order = keeps_result format p w h.well_formed h.legal;
     report = ends_told (reported format p v w (ran p w)) (named_answer files command format p v w h) e;
@@ -245,6 +273,14 @@ module _ (files : Contents) (command : Option Command) (files_rose out_rose : Ty
   broken_schedule_told v w fault h e =
       ends_told (refused (refusal.Schedule (line_at v w fault.line) fault.fault.code fault.fault.earlier)) (broken_schedule_answer files command v w fault h) e
 
+  pub replayed_told : (run : List Footprint) → Replays files command run → Ends files command files_rose out_rose old new status
+      → IsTold (listed (predicted run)) files_rose out_rose old new status
+  replayed_told run h e = ends_told (listed (predicted run)) (replayed_answer files command run h) e
+
+  pub trace_fault_told : (at code : ℕ) → NamesTraceFault files command at code → Ends files command files_rose out_rose old new status
+      → IsTold (refused (refusal.Trace at code)) files_rose out_rose old new status
+  trace_fault_told at code h e = ends_told (refused (refusal.Trace at code)) (trace_fault_answer files command at code h) e
+
   pub upgraded_told : (v : Version) (w : Schedule) → Upgrades files command v w → Ends files command files_rose out_rose old new status
       → IsTold (upgraded w) files_rose out_rose old new status
   upgraded_told v w h e = ends_told (upgraded w) (upgraded_answer files command v w h) e
@@ -270,6 +306,7 @@ pub reported_least : (format : Format) (p : Program) (v : Version) (w : Schedule
 reported_least format.Text p v w r = at_most_one r.config.verdict (predicted r.steps)
 reported_least format.Json p v w r = at_most_one r.config.verdict (predicted r.steps)
 reported_least format.Short p v w r = at_most_one r.config.verdict (predicted r.steps)
+reported_least format.Footprints p v w r = omega arith
 reported_least (format.Shuffled number) p v w r = shuffled_least number p v w r (predicted r.steps)
 
 -- without faults the status is that of the report, unless memory ran out
@@ -297,6 +334,22 @@ drawn_unless_faults p w files_rose out_rose old new status (inl written) no_read
     ]
 drawn_unless_faults p w files_rose out_rose old new status (inr (inl left)) no_read no_write = inr left.0
 drawn_unless_faults p w files_rose out_rose old new status (inr (inr f)) no_read no_write = absurd (no_read f.0)
+
+-- the status of races
+pub races_least : (races : List Pair) → races_status races ≤ 1
+races_least [] = omega arith
+races_least (p ∷ races) = omega arith
+
+-- the same of races that bytes show
+pub listed_unless_faults : (races : List Pair) (files_rose out_rose : Type 0) (old new : Option (List ℕ)) (status : ℕ) → IsTold (listed races) files_rose out_rose old new status
+    → ¬ files_rose → ¬ out_rose → (status ≤ 1) ⊎ (status ≡ 8)
+listed_unless_faults races files_rose out_rose old new status (inl written) no_read no_write =
+    elim (written_status (listed races) out_rose old new status written) [
+      | inl s ↦ inl (let least = races_least races in omega arith)
+      | inr f ↦ absurd (no_write f.0)
+    ]
+listed_unless_faults races files_rose out_rose old new status (inr (inl left)) no_read no_write = inr left.0
+listed_unless_faults races files_rose out_rose old new status (inr (inr f)) no_read no_write = absurd (no_read f.0)
 
 -- the same of a schedule that is upgraded
 pub upgraded_unless_faults : (w : Schedule) (files_rose out_rose : Type 0) (old new : Option (List ℕ)) (status : ℕ) → IsTold (upgraded w) files_rose out_rose old new status

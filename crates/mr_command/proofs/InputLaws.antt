@@ -8,8 +8,9 @@ use Rattle.mr_grammar.specs.Faults.{OfTokens}
 use Rattle.mr_grammar.specs.Parsing.{parsed}
 use Rattle.mr_grammar.proofs.ParsingLaws.{fault_parsed}
 use Rattle.mr_sched.specs.Reading.{schedule_of}
-use Rattle.mr_command.specs.Answer.{denoted, program_in, schedule_in, spelled}
-use Rattle.mr_command.specs.declared.refusal.Refusal.TheVariants.{Schedule, Text}
+use Rattle.mr_trace.specs.Reading.{races_of, trace_of}
+use Rattle.mr_command.specs.Answer.{denoted, program_in, races_in, schedule_in, shown, spelled}
+use Rattle.mr_command.specs.declared.refusal.Refusal.TheVariants.{Schedule, Text, Trace}
 
 less : (m n : ℕ) → m < n → nat_lt m n ≡ true
 less m n h = grind (arith, nat_tests)
@@ -32,6 +33,13 @@ too_long text h = rw (less (2 ^ 26) (length text) h) refl
 pub long_schedule : (file : Option (List ℕ)) (text : List ℕ) → file ≡ Some text → 2 ^ 26 < length text → schedule_in file ≡ Err (Schedule 1 52 None)
 long_schedule file text e h = ap schedule_in e ∙ ap spelled (too_long text h)
 
+long_races : (bytes : List ℕ) → 2 ^ 28 < length bytes → races_of bytes ≡ Err (record { at = 0; code = 74 })
+unfolding races_of trace_of
+long_races bytes h = rw (less (2 ^ 28) (length bytes) h) refl
+
+pub long_trace : (file : Option (List ℕ)) (bytes : List ℕ) → file ≡ Some bytes → 2 ^ 28 < length bytes → races_in file ≡ Err (Trace 0 74)
+long_trace file bytes e h = ap races_in e ∙ ap shown (long_races bytes h)
+
 -- ---- texts that are too long, whatever a file holds
 
 longer : (n : ℕ) → (text : List ℕ) × (n < length text)
@@ -48,3 +56,9 @@ a_long_schedule (text, long) = (text, long_schedule (Some text) text refl long)
 
 pub some_long_schedule : (text : List ℕ) × (schedule_in (Some text) ≡ Err (Schedule 1 52 None))
 some_long_schedule = a_long_schedule (longer (2 ^ 26))
+
+a_long_trace : ((bytes : List ℕ) × (2 ^ 28 < length bytes)) → (bytes : List ℕ) × (races_in (Some bytes) ≡ Err (Trace 0 74))
+a_long_trace (bytes, long) = (bytes, long_trace (Some bytes) bytes refl long)
+
+pub some_long_trace : (bytes : List ℕ) × (races_in (Some bytes) ≡ Err (Trace 0 74))
+some_long_trace = a_long_trace (longer (2 ^ 28))

@@ -9,8 +9,11 @@ pub mod OneThread
 pub mod OnlyLaws
 pub mod PlaceLaws
 pub mod PrintedLaws
+pub mod PromiseLaws
 pub mod ReorderedLaws
 pub mod RunLaws
+pub mod StatusLaws
 pub mod StepCount
 pub mod TextLaws
+pub mod TraceRuns
 pub mod UnreadLaws

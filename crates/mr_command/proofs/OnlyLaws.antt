@@ -1,5 +1,5 @@
 -- Where 0 or 1 is answered, the files hold what is defined for it.
-use Rattle.std.proofs.Common.{◌≡◌, ℕ, ◌≤◌, ap, ◌∙◌, sym, subst, arith, List, [], ◌∷◌, inl, inr, refl}
+use Rattle.std.proofs.Common.{◌≡◌, ℕ, ◌<◌, ◌≤◌, ◌^◌, ap, ◌∙◌, sym, subst, arith, List, [], ◌∷◌, length, inl, inr, refl}
 use Rattle.std.specs.Prelude.{Some, None, Option, Result, Ok, Err}
 use Rattle.std.specs.Io.KnownBytes.{append_known}
 use Rattle.mr_ast.specs.declared.program.Program.{Program}
@@ -18,12 +18,22 @@ use Rattle.mr_start.proofs.RunLaws.{legal_schedule}
 use Rattle.mr_wf.specs.declared.fault.FormFault.{FormFault}
 use Rattle.mr_wf.specs.Walk.{WellFormed, faults_of}
 use Rattle.mr_auto.specs.Drawing.{drawn_schedule}
+use Rattle.mr_event.specs.declared.footprint.Footprint.{Footprint}
+use Rattle.mr_event.specs.Predicted.{predicted}
+use Rattle.mr_trace.specs.declared.fault.TheConstants.{TOO_LONG}
+use Rattle.mr_trace.specs.Faults.{too_long}
+use Rattle.mr_trace.specs.Reading.{Place, races_in as races_read, trace_of}
+use Rattle.mr_trace.proofs.TraceLaws.{fault_is, trace_is}
 use Rattle.mr_command.specs.declared.command.Format.{Format}
-use Rattle.mr_command.specs.Command.{Auto, Check, Command, Run, Upgrade}
-use Rattle.mr_command.specs.Answer.{Answer, Ran, answer_of, auto_answer, canonical, check_answer, denoted, drawn_answer, form_or, in_text, program_in, ran, read_report, report_under, reported, run_answer, schedule_in, spelled, told, unless_broken, upgrade_answer, upgraded}
+use Rattle.mr_command.specs.Command.{Auto, Check, Command, Offline, Run, Upgrade}
+use Rattle.mr_command.specs.Answer.{Answer, Ran, answer_of, auto_answer, canonical, check_answer, denoted, drawn_answer, form_or, in_text, listed, program_in, races_in, ran, read_report, report_under, reported, run_answer, schedule_in, shown, spelled, told, unless_broken, upgrade_answer, upgraded}
 use Rattle.mr_command.specs.Outcome.{Ends, IsWhole}
 use Rattle.mr_command.specs.Headline.{ChecksProgram, DrawsFor, HasScheduleFault, Names, ReportsLegalRun, Upgrades, WritesCanonical, WritesDrawn, WritesUpgraded}
-use Rattle.mr_command.proofs.HeadlineLaws.{auto_answered, checked_answer, named_answer, ran_out, unread_status, upgraded_answer}
+use Rattle.mr_command.specs.Showing.{HasBytes, Shown}
+use Rattle.mr_command.specs.Traces.{HasTraceFault, Replays, WritesRaces}
+use Rattle.mr_command.proofs.HeadlineLaws.{auto_answered, checked_answer, named_answer, races_from, races_least, ran_out, replayed_answer, unread_status, upgraded_answer}
+use Rattle.mr_command.proofs.InputLaws.{long_trace}
+use Rattle.mr_command.proofs.StatusLaws.{only_offline}
 
 -- a program that a text denotes and that breaks no rule is well-formed
 unbroken_well_formed : (text : List ℕ) (p : Program) → parsed text ≡ Ok p → faults_of p ≡ [] → WellFormed p
@@ -153,6 +163,37 @@ module _ (files : Contents) (schedule : List ℕ) where
       let (f, fails) = fault_of (schedule_of text) s in
       (f.line, f.code, record { schedule_name = schedule; reads = inr refl; text = text; there = e; first = schedule_failed text f fails })
 
+-- ---- traces
+
+run_in_trace : (r : Result (List Footprint) Place) → (told listed (shown (races_read r))).status ≤ 1 → (run : List Footprint) × (r ≡ Ok run)
+run_in_trace (Ok run) s = (run, refl)
+run_in_trace (Err f) s = let nine : 9 ≤ 1 = s in absurd (omega arith)
+
+fault_in_trace : (r : Result (List Footprint) Place) → (told listed (shown (races_read r))).status ≡ 9 → (f : Place) × (r ≡ Err f)
+fault_in_trace (Ok run) s = let least = races_least (predicted run) in absurd (omega (arith, s, least))
+fault_in_trace (Err f) s = (f, refl)
+
+long_status : (text : List ℕ) → 2 ^ 28 < length text → (told listed (races_in (Some text))).status ≡ 9
+long_status text long = ap (λ r. (told listed r).status) (long_trace (Some text) text refl long)
+
+module _ (files : Contents) (trace : List ℕ) where
+  replayed_of : (file : Option (List ℕ)) → files trace ≡ file → HasBytes file → (told listed (races_in file)).status ≤ 1 → (run : List Footprint) × Replays files (Some (Offline trace)) run
+  replayed_of None e bytes s = absurd bytes
+  replayed_of (Some text) e (inr long) s = let nine = long_status text long in absurd (omega (arith, s, nine))
+  replayed_of (Some text) e (inl bytes) s =
+      let small = subst (λ r. (told listed (shown r)).status ≤ 1) (races_from text) s in
+      let (run, reads) = run_in_trace (trace_of text) small in
+      (run, record { name = trace; is_offline = refl; bytes = text; there = e; traces = trace_is text run bytes reads })
+
+  trace_faulty_of : (file : Option (List ℕ)) → files trace ≡ file → HasBytes file → (told listed (races_in file)).status ≡ 9 → HasTraceFault files (Some (Offline trace))
+  trace_faulty_of None e bytes s = absurd bytes
+  trace_faulty_of (Some text) e (inr long) s =
+      (0, TOO_LONG, record { name = trace; is_offline = refl; bytes = text; there = e; first = too_long long refl refl })
+  trace_faulty_of (Some text) e (inl bytes) s =
+      let nine = subst (λ r. (told listed (shown r)).status ≡ 9) (races_from text) s in
+      let (f, fails) = fault_in_trace (trace_of text) nine in
+      (f.at, f.code, record { name = trace; is_offline = refl; bytes = text; there = e; first = fault_is text f bytes fails })
+
 -- ---- how a call ends with 0 or 1
 
 module _ (files : Contents) (files_rose out_rose : Type 0) (old new : Option (List ℕ)) (status : ℕ) where
@@ -202,6 +243,22 @@ module _ (files : Contents) (files_rose out_rose : Type 0) (old new : Option (Li
       let (v, w, upgrades) = upgraded_of files schedule (files schedule) refl (small_answer (answer_of files command) whole s) in
       (v, w, upgrades, same_whole (answer_of files command) (upgraded w) (upgraded_answer files command v w upgrades) whole)
 
+  offline_only : (trace : List ℕ) → HasBytes (files trace) → Ends files (Some (Offline trace)) files_rose out_rose old new status → status ≤ 1
+      → WritesRaces files (Some (Offline trace)) old new status
+  offline_only trace bytes ends s =
+      let command = Some (Offline trace) in
+      let whole = whole_answer command ends s in
+      let (run, replays) = replayed_of files trace (files trace) refl bytes (small_answer (answer_of files command) whole s) in
+      (run, replays, same_whole (answer_of files command) (listed (predicted run)) (replayed_answer files command run replays) whole)
+
+  -- so is 9
+  nine_answer : (command : Option Command) → Ends files command files_rose out_rose old new status → status ≡ 9 → (answer_of files command).status ≡ 9
+  nine_answer command (inl out) s = let eight = (ran_out command old new status out).0 in absurd (omega arith)
+  nine_answer command (inr (a, inl is, inl (same, text))) s = sym (ap (λ (b : Answer). b.status) is) ∙ sym same ∙ s
+  nine_answer command (inr (a, inl is, inr (seven, rises, part))) s = absurd (omega arith)
+  nine_answer command (inr (a, inr (rose, unread), inl (same, text))) s = let six = unread_status files command a unread in absurd (omega arith)
+  nine_answer command (inr (a, inr (rose, unread), inr (seven, rises, part))) s = absurd (omega arith)
+
   -- 5 is that of the answer by definition
   five_answer : (command : Option Command) → Ends files command files_rose out_rose old new status → status ≡ 5 → (answer_of files command).status ≡ 5
   five_answer command (inl out) s = let eight = (ran_out command old new status out).0 in absurd (omega arith)
@@ -236,6 +293,19 @@ module _ (files : Contents) (files_rose out_rose : Type 0) (old new : Option (Li
   only_upgraded command schedule e =
       let P : Option Command → Type 0 = λ c. Ends files c files_rose out_rose old new status → status ≤ 1 → WritesUpgraded files c old new status in
       subst P (sym e) (upgrade_only schedule)
+
+  pub only_replayed : (command : Option Command) (trace : List ℕ) → command ≡ Some (Offline trace)
+      → Shown files command status → Ends files command files_rose out_rose old new status → status ≤ 1 → WritesRaces files command old new status
+  only_replayed command trace e =
+      let P : Option Command → Type 0 = λ c. Shown files c status → Ends files c files_rose out_rose old new status → status ≤ 1 → WritesRaces files c old new status in
+      subst P (sym e) (λ shows ends s. offline_only trace (shows (inl s)) ends s)
+
+  pub only_fault : (command : Option Command) → Shown files command status → Ends files command files_rose out_rose old new status → status ≡ 9 → HasTraceFault files command
+  only_fault command shows ends s =
+      let nine = nine_answer command ends s in
+      let (trace, e) = only_offline files command nine in
+      let P : Option Command → Type 0 = λ c. Shown files c status → (answer_of files c).status ≡ 9 → HasTraceFault files c in
+      subst P (sym e) (λ known k. trace_faulty_of files trace (files trace) refl (known (inr s)) k) shows nine
 
   pub only_text : (command : Option Command) (schedule : List ℕ) → command ≡ Some (Upgrade schedule)
       → Ends files command files_rose out_rose old new status → status ≡ 5 → HasScheduleFault files command

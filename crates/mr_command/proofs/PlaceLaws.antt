@@ -63,6 +63,8 @@ refused_placed w f x (refusal.Text at col code) k h = tt
 refused_placed w f x refusal.ReadSchedule k h = tt
 refused_placed w None x (refusal.Schedule place code earlier) k h = absurd (cc)
 refused_placed w (Some f) x (refusal.Schedule place code earlier) k h = let same : f.line ≡ place = cc in subst (IsPlace w) same k
+refused_placed w f x refusal.ReadTrace k h = tt
+refused_placed w f x (refusal.Trace at code) k h = tt
 refused_placed w f x refusal.Memory k h = tt
 
 -- WHAT REFUSES A RUN has a place of the schedule
@@ -77,19 +79,29 @@ told_on_line v w say run refusal.Memory h = tt
 told_on_line v w say run refusal.ReadProgram h = ap (λ x. told say (in_text v w x)) h
 told_on_line v w say run (refusal.Text at col code) h = ap (λ x. told say (in_text v w x)) h
 told_on_line v w say run refusal.ReadSchedule h = ap (λ x. told say (in_text v w x)) h
+told_on_line v w say run refusal.ReadTrace h = ap (λ x. told say (in_text v w x)) h
+told_on_line v w say run (refusal.Trace at code) h = ap (λ x. told say (in_text v w x)) h
 told_on_line v w say run (refusal.Schedule place code earlier) h = ap (λ x. told say (in_text v w x)) h
 
 refused_read : (v : Version) (w : Schedule) (f : Option PlacedFault) (x : Ran) (r : Refusal) → Refuses r (unless_broken f x) → IsUnreadFault {A = Written} (Err (on_line v w r)) → ⊥
 refused_read v w f x refusal.Memory h (inl e) = absurd (cc)
-refused_read v w f x refusal.Memory h (inr e) = absurd (cc)
+refused_read v w f x refusal.Memory h (inr (inl e)) = absurd (cc)
+refused_read v w f x refusal.Memory h (inr (inr e)) = absurd (cc)
 refused_read v w None x refusal.ReadProgram h e = absurd (cc)
 refused_read v w (Some f) x refusal.ReadProgram h e = absurd (cc)
 refused_read v w f x (refusal.Text at col code) h (inl e) = absurd (cc)
-refused_read v w f x (refusal.Text at col code) h (inr e) = absurd (cc)
+refused_read v w f x (refusal.Text at col code) h (inr (inl e)) = absurd (cc)
+refused_read v w f x (refusal.Text at col code) h (inr (inr e)) = absurd (cc)
 refused_read v w None x refusal.ReadSchedule h e = absurd (cc)
 refused_read v w (Some f) x refusal.ReadSchedule h e = absurd (cc)
 refused_read v w f x (refusal.Schedule place code earlier) h (inl e) = absurd (cc)
-refused_read v w f x (refusal.Schedule place code earlier) h (inr e) = absurd (cc)
+refused_read v w f x (refusal.Schedule place code earlier) h (inr (inl e)) = absurd (cc)
+refused_read v w f x (refusal.Schedule place code earlier) h (inr (inr e)) = absurd (cc)
+refused_read v w None x refusal.ReadTrace h e = absurd (cc)
+refused_read v w (Some f) x refusal.ReadTrace h e = absurd (cc)
+refused_read v w f x (refusal.Trace at code) h (inl e) = absurd (cc)
+refused_read v w f x (refusal.Trace at code) h (inr (inl e)) = absurd (cc)
+refused_read v w f x (refusal.Trace at code) h (inr (inr e)) = absurd (cc)
 
 -- and is no failed read
 pub run_was_read : (p : Program) (v : Version) (w : Schedule) (r : Refusal) → Refuses r (legal_run p w) → IsUnreadFault {A = Written} (Err (on_line v w r)) → ⊥

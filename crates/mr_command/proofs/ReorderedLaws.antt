@@ -14,6 +14,7 @@ use Rattle.mr_plan.specs.Runs.{AreLegal, Config, after_bare, feet, foot_from, fo
 use Rattle.mr_sched.specs.declared.schedule.Entry.{Entry}
 use Rattle.mr_sched.specs.declared.schedule.Schedule.{Schedule}
 use Rattle.mr_sched.specs.declared.version.Version.{Version}
+use Rattle.mr_sched.specs.Versions.{text_in}
 use Rattle.mr_start.specs.Start.{Legal, PlacedFault, look_of, schedule_fault, start_config, steps_of}
 use Rattle.mr_start.proofs.RunLaws.{legal_schedule, no_schedule_fault}
 use Rattle.mr_frame.specs.Frames.{Look}
@@ -30,6 +31,7 @@ use Rattle.mr_command.specs.declared.refusal.Refusal.TheVariants as refusal
 use Rattle.mr_command.specs.Answer.{Answer, Ran, behind_schedule, legal_run, ordered_answer, ran, shuffled_answer, told_in, unless_broken}
 use Rattle.mr_command.specs.Answering.{Tells}
 use Rattle.mr_command.specs.Running.{Refuses}
+use Rattle.mr_command.proofs.AloneLaws.{reported_bare}
 
 -- ---- legal entries complete all but the last one
 
@@ -110,11 +112,27 @@ only_memory refusal.Memory x a h = tt
 only_memory refusal.ReadProgram x a h = absurd (cc)
 only_memory (refusal.Text at col code) x a h = absurd (cc)
 only_memory refusal.ReadSchedule x a h = absurd (cc)
+only_memory refusal.ReadTrace x a h = absurd (cc)
+only_memory (refusal.Trace at code) x a h = absurd (cc)
 only_memory (refusal.Schedule at code earlier) x a h = absurd (cc)
 
 -- what it comes to is what is kept of it
 pub again_is : (p : Program) (v : Version) (w : Schedule) (r : Ran) → Legal p w → legal_run p w ≡ Ok r → behind_schedule v w r ≡ ordered_answer p v w
 again_is p v w r legal h = let same : Ok (ran p w) ≡ Ok r = sym (legal_is_run p w legal) ∙ h in let is : ran p w ≡ r = cc in ap (behind_schedule v w) (sym is)
+
+-- also where no footprint is kept, since it shows no race
+pub again_bare : (p : Program) (v : Version) (w : Schedule) (config : Config Own) (steps kept : List Footprint) → kept ≡ [] → Legal p w
+    → legal_run p w ≡ Ok (record { config = config; steps = steps }) → predicted (steps_of p w) ≡ []
+    → behind_schedule v w (record { config = config; steps = kept }) ≡ ordered_answer p v w
+again_bare p v w config steps kept none legal h silent =
+    let r : Ran = record { config = config; steps = steps } in
+    let are = (legal_run_is p w r h).are in
+    ap (λ (fs : List Footprint). behind_schedule v w (record { config = config; steps = fs })) none
+    ∙ ap (λ (a : Answer). behind_text v w a) (sym (reported_bare Text v w config steps (subst (λ (l : List Footprint). predicted l ≡ []) are silent)))
+    ∙ again_is p v w r legal h
+  where
+    behind_text : Version → Schedule → Answer → Answer
+    behind_text v w a = record { text = text_in v w ++ a.text; status = a.status }
 
 pub refused_again : (p : Program) (v : Version) (w : Schedule) (r : Refusal) → Legal p w → Refuses r (legal_run p w) → Tells (ordered_answer p v w) (Err r)
 refused_again p v w r legal h = only_memory r (ran p w) (ordered_answer p v w) (subst (Refuses r) (legal_is_run p w legal) h)
@@ -126,9 +144,9 @@ no_races races n b len is e = nil_from_length races (let zero = eqb-true n 0 (sy
 pub some_races : (races : List Pair) (n : ℕ) (b : Bool) → n ≡ length races → b ≡ (n == 0) → b ≡ false → races ≡ [] → ⊥
 some_races races n b len is e none = both_ways b e (is ∙ eq-eqb n 0 (let l = ap length none in omega (arith, len, l)))
 
--- the other order of a run that shows no race is legal
-pub order_legal : (p q : Program) (w v : Schedule) (r : Ran) (steps : List Footprint) (number : ℕ) → legal_run p w ≡ Ok r → steps ≡ r.steps → q ≡ p → WellFormed q → predicted steps ≡ []
-    → ((p : Program) → WellFormed p → Legal p w → steps_of p w ≡ steps → predicted steps ≡ [] → ComesToTheSame p w (shuffled_order steps number) v) → Legal p v
-order_legal p q w v r steps number legal are same well none all =
+-- the other order of a run that shows no race comes to the same
+pub order_same : (p q : Program) (w v : Schedule) (r : Ran) (steps : List Footprint) (number : ℕ) → legal_run p w ≡ Ok r → steps ≡ r.steps → q ≡ p → WellFormed q → predicted steps ≡ []
+    → ((p : Program) → WellFormed p → Legal p w → steps_of p w ≡ steps → predicted steps ≡ [] → ComesToTheSame p w (shuffled_order steps number) v) → ComesToTheSame p w (shuffled_order steps number) v
+order_same p q w v r steps number legal are same well none all =
     let is = legal_run_is p w r legal in
-    (all p (subst WellFormed same well) is.legal (is.are ∙ sym are) none).legal
+    all p (subst WellFormed same well) is.legal (is.are ∙ sym are) none

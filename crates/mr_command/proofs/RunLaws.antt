@@ -18,6 +18,7 @@ use Rattle.mr_auto.specs.Answers.{AdvanceAnswer}
 use Rattle.mr_start.specs.Start.{PlacedFault, at_line, entries_fault, program_fault, program_step, start_fault, schedule_fault, look_of, start_config, run_of, steps_of}
 use Rattle.mr_plan.proofs.RunLaws.{completed_by_step}
 use Rattle.mr_command.specs.declared.refusal.Refusal.{Refusal}
+use Rattle.mr_command.specs.declared.refusal.Refusal.TheVariants as refusal
 use Rattle.mr_command.specs.declared.run.Finished.{Finished}
 use Rattle.mr_command.specs.Answer.{Ran, legal_run, ran, unless_broken}
 use Rattle.mr_command.specs.Running.{placed, legal_after, Refuses, RunAnswer, EntriesAnswer, EntryAnswer, legal_step}
@@ -167,6 +168,25 @@ pub goes_behind : (first m new : Standing) (was now more : List Footprint) (line
     → IsUnderWay first m was now line index es → EntryAnswer e line m new [] more (Ok tt) → IsUnderWay first new was (now ++ more) (line + 1) (index + 1) es
 goes_behind first m new was now more line index e es d h k =
     goes_on first m new was now (now ++ more) line index e es d h (record { working = k.working; look = k.look; steps = k.steps; joined = ap (λ xs. now ++ xs) k.joined; is = k.is })
+
+-- what an entry breaks is what all entries break
+refused_so : (r : Refusal) (x y : Result Ran Refusal) → (x ≡ Err r → y ≡ Err r) → Refuses r x → Refuses r y
+refused_so refusal.Memory x y f h = tt
+refused_so refusal.ReadProgram x y f h = f h
+refused_so (refusal.Text at col code) x y f h = f h
+refused_so refusal.ReadSchedule x y f h = f h
+refused_so refusal.ReadTrace x y f h = f h
+refused_so (refusal.Trace at code) x y f h = f h
+refused_so (refusal.Schedule at code earlier) x y f h = f h
+
+pub stops_at : (first m : Standing) (was now : List Footprint) (line index : ℕ) (e : Entry) (es : List Entry) (r : Refusal) → drop index es ≡ e ∷ drop (index + 1) es
+    → IsUnderWay first m was now line index es → Refuses r (legal_step m.look m.config line e) → Refuses r (legal_after first.look first.config 3 es)
+stops_at first m was now line index e es r d h refuses =
+    refused_so r (legal_step m.look m.config line e) (legal_after first.look first.config 3 es)
+    (λ err.
+    sym h.leads
+    ∙ ap (behind_all h.steps) (ap (λ xs. legal_after m.look m.config line xs) d ∙ broken line (program_fault m.look m.config e) _ _ _ r err))
+    refuses
 
 pub ends_at : (first m : Standing) (was now : List Footprint) (line index : ℕ) (es : List Entry) → drop index es ≡ [] → IsUnderWay first m was now line index es → EntriesAnswer es first m was now (Ok tt)
 ends_at first m was now line index es d h = record {

@@ -42,6 +42,8 @@ refused_over say defined refusal.Memory h = tt
 refused_over say defined refusal.ReadProgram h = ap (told say) h
 refused_over say defined (refusal.Text at col code) h = ap (told say) h
 refused_over say defined refusal.ReadSchedule h = ap (told say) h
+refused_over say defined refusal.ReadTrace h = ap (told say) h
+refused_over say defined (refusal.Trace at code) h = ap (told say) h
 refused_over say defined (refusal.Schedule at code earlier) h = ap (told say) h
 
 same_refusal : {A : Type 0} {r s : Refusal} → ◌≡◌ {A = Result A Refusal} (Err r) (Err s) → r ≡ s

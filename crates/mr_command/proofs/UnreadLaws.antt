@@ -15,12 +15,14 @@ use Rattle.mr_wf.specs.declared.fault.FormFault.{FormFault}
 use Rattle.mr_wf.specs.Walk.{faults_of}
 use Rattle.mr_auto.specs.Drawing.{drawn_schedule}
 use Rattle.mr_gen.specs.Generated.{generated}
+use Rattle.mr_event.specs.declared.footprint.Pair.{Pair}
+use Rattle.mr_trace.specs.Reading.{Place, races_of}
 use Rattle.mr_command.specs.declared.command.Format.{Format}
-use Rattle.mr_command.specs.Command.{Auto, Big, Check, Command, Run, Upgrade}
-use Rattle.mr_command.specs.Answer.{Answer, Ran, answer_of, auto_answer, big_answer, big_schedule, drawn_answer, canonical, check_answer, denoted, form_or, in_text, program_in, ran, read_report, report_under, reported, run_answer, schedule_in, spelled, told, unless_broken, upgrade_answer}
+use Rattle.mr_command.specs.Command.{Auto, Big, Check, Command, Offline, Run, Upgrade}
+use Rattle.mr_command.specs.Answer.{Answer, Ran, answer_of, auto_answer, big_answer, big_schedule, drawn_answer, canonical, check_answer, denoted, form_or, in_text, listed, program_in, races_in, ran, read_report, report_under, reported, run_answer, schedule_in, shown, spelled, told, unless_broken, upgrade_answer}
 use Rattle.mr_command.specs.Outcome.{Ends, IsPossible}
 use Rattle.mr_command.specs.Headline.{IsUnreadBecause, LacksFile}
-use Rattle.mr_command.proofs.HeadlineLaws.{at_most_one, ran_out, reported_least, written_status}
+use Rattle.mr_command.proofs.HeadlineLaws.{at_most_one, races_least, ran_out, reported_least, written_status}
 
 -- ---- the status 6 is that of a file that isn't there
 
@@ -55,7 +57,7 @@ of_check (Err f) s = let three : 3 ≡ 6 = s in absurd (omega arith)
 run_lacks : (files : Contents) (format : Format) (program schedule : List ℕ) (file : Option (List ℕ)) → files program ≡ file
     → (told (run_answer format (files schedule)) (program_in file)).status ≡ 6 → LacksFile files (Some (Run format program schedule))
 run_lacks files format program schedule None e s = inl (program, inr (inr (format, schedule, refl)), e)
-run_lacks files format program schedule (Some bytes) e s = inr (schedule, inr (format, program, refl), of_run format (parsed bytes) (files schedule) s)
+run_lacks files format program schedule (Some bytes) e s = inr (inl (schedule, inr (format, program, refl), of_run format (parsed bytes) (files schedule) s))
 
 check_lacks : (files : Contents) (program : List ℕ) (file : Option (List ℕ)) → files program ≡ file
     → (told check_answer (program_in file)).status ≡ 6 → LacksFile files (Some (Check program))
@@ -85,8 +87,17 @@ of_upgrade (Err f) s = let five : 5 ≡ 6 = s in absurd (omega arith)
 
 upgrade_lacks : (files : Contents) (schedule : List ℕ) (file : Option (List ℕ)) → files schedule ≡ file
     → (told upgrade_answer (schedule_in file)).status ≡ 6 → LacksFile files (Some (Upgrade schedule))
-upgrade_lacks files schedule None e s = inr (schedule, inl refl, e)
+upgrade_lacks files schedule None e s = inr (inl (schedule, inl refl, e))
 upgrade_lacks files schedule (Some bytes) e s = absurd (of_upgrade (schedule_of bytes) s)
+
+of_listed : (r : Result (List Pair) Place) → (told listed (shown r)).status ≡ 6 → ⊥
+of_listed (Ok races) s = let least = races_least races in absurd (omega (arith, s, least))
+of_listed (Err f) s = let nine : 9 ≡ 6 = s in absurd (omega arith)
+
+offline_lacks : (files : Contents) (trace : List ℕ) (file : Option (List ℕ)) → files trace ≡ file
+    → (told listed (races_in file)).status ≡ 6 → LacksFile files (Some (Offline trace))
+offline_lacks files trace None e s = inr (inr (trace, refl, e))
+offline_lacks files trace (Some bytes) e s = absurd (of_listed (races_of bytes) s)
 
 lacks : (files : Contents) (command : Option Command) → (answer_of files command).status ≡ 6 → LacksFile files command
 lacks files None s = let two : 2 ≡ 6 = s in absurd (omega arith)
@@ -95,6 +106,7 @@ lacks files (Some (Check program)) s = check_lacks files program (files program)
 lacks files (Some (Auto program number most)) s = auto_lacks files program number most (files program) refl s
 lacks files (Some (Big number)) s = absurd (of_big number s)
 lacks files (Some (Upgrade schedule)) s = upgrade_lacks files schedule (files schedule) refl s
+lacks files (Some (Offline trace)) s = offline_lacks files trace (files trace) refl s
 
 -- ---- how a call ends with it
 

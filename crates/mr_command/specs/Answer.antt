@@ -24,12 +24,14 @@ use Rattle.mr_wf.specs.Walk.{faults_of}
 use Rattle.mr_command.specs.declared.command.Format.{Format}
 use Rattle.mr_command.specs.declared.refusal.Refusal.{Refusal}
 use Rattle.mr_command.specs.declared.refusal.Refusal.TheVariants as refusal
-use Rattle.mr_command.specs.declared.command.Format.TheVariants.{Json, Short, Shuffled, Text}
-use Rattle.mr_command.specs.Command.{Auto, Big, Check, Command, Run, Upgrade}
+use Rattle.mr_command.specs.declared.command.Format.TheVariants.{Footprints, Json, Short, Shuffled, Text}
+use Rattle.mr_command.specs.Command.{Auto, Big, Check, Command, Offline, Run, Upgrade}
 use Rattle.mr_command.specs.Form.{form_line}
 use Rattle.mr_auto.specs.Drawing.{drawn_schedule}
 use Rattle.mr_gen.specs.Generated.{generated, rounds_of, workers_of}
-use Rattle.mr_report.specs.Report.{brief_text, line}
+use Rattle.mr_report.specs.Report.{brief_text, line, races_text}
+use Rattle.mr_trace.specs.Reading.{Place, races_of}
+use Rattle.mr_trace.specs.Spelling.{spelling}
 use Rattle.mr_sched.specs.Versions.{line_in, text_in}
 use Rattle.mr_command.specs.Report.{line_of, report_of, report_status, refusal_text, refusal_status, usage_text}
 
@@ -56,6 +58,16 @@ spelled (Err f) = Err (refusal.Schedule f.line f.code None)
 abbrev pub schedule_in : Option (List ℕ) → Result Read Refusal
 schedule_in None = Err refusal.ReadSchedule
 schedule_in (Some bytes) = spelled (schedule_of bytes)
+
+-- the races that bytes show, or their first fault, as a refusal
+abbrev pub shown : Result (List Pair) Place → Result (List Pair) Refusal
+shown (Ok races) = Ok races
+shown (Err f) = Err (refusal.Trace f.at f.code)
+
+-- the races that the trace in a file shows
+abbrev pub races_in : Option (List ℕ) → Result (List Pair) Refusal
+races_in None = Err refusal.ReadTrace
+races_in (Some bytes) = shown (races_of bytes)
 
 -- a thing, or the rule that is broken, as a refusal at the place of the fault
 abbrev pub unless_broken : {A : Type 0} → Option PlacedFault → A → Result A Refusal
@@ -85,6 +97,8 @@ on_line v w refusal.ReadProgram = refusal.ReadProgram
 on_line v w (refusal.Text at col code) = refusal.Text at col code
 on_line v w refusal.ReadSchedule = refusal.ReadSchedule
 on_line v w (refusal.Schedule place code earlier) = refusal.Schedule (line_at v w place) code earlier
+on_line v w refusal.ReadTrace = refusal.ReadTrace
+on_line v w (refusal.Trace at code) = refusal.Trace at code
 on_line v w refusal.Memory = refusal.Memory
 
 -- a thing, or what refuses it, on its line of the text
@@ -106,6 +120,7 @@ abbrev pub witness_in : Format → List Footprint → Schedule → ℕ → ℕ �
 witness_in Text steps w i j = kept_schedule steps w i j
 witness_in Json steps w i j = kept_schedule steps w i j
 witness_in Short steps w i j = short_schedule steps w i j
+witness_in Footprints steps w i j = kept_schedule steps w i j
 witness_in (Shuffled number) steps w i j = kept_schedule steps w i j
 
 -- the witness for the first of some races, where there is one
@@ -137,11 +152,17 @@ abbrev pub shuffled_answer : ℕ → Program → Version → Schedule → Ran �
 shuffled_answer number p v w r [] = ordered_answer p v (shuffled r.steps w number)
 shuffled_answer number p v w r (pair ∷ races) = told_in Text v w r
 
--- THE REPORT of a run of a program under a schedule, in a format, with schedules in a version; and its status
+-- the bytes of the footprints of a run
+abbrev pub traced : List Footprint → Answer
+traced steps = record { text = spelling steps; status = 0 }
+
+-- THE REPORT of a run of a program under a schedule, in a format, with schedules in a version, and its status; or the
+-- bytes of its footprints
 abbrev pub reported : Format → Program → Version → Schedule → Ran → Answer
 reported Text p v w r = told_in Text v w r
 reported Json p v w r = told_in Json v w r
 reported Short p v w r = told_in Short v w r
+reported Footprints p v w r = traced r.steps
 reported (Shuffled number) p v w r = shuffled_answer number p v w r (predicted r.steps)
 
 -- what a run printed, its verdict and how many races it shows
@@ -221,6 +242,15 @@ upgraded w = record { text = text_in Two w; status = 0 }
 abbrev pub upgrade_answer : Read → Answer
 upgrade_answer r = upgraded r.schedule
 
+-- 0 where no race is listed
+abbrev pub races_status : List Pair → ℕ
+races_status [] = 0
+races_status (p ∷ races) = 1
+
+-- what is said of races that bytes show: how many there are, and each
+abbrev pub listed : List Pair → Answer
+listed races = record { text = races_text races; status = races_status races }
+
 -- what words of no form are told
 abbrev pub usage : Answer
 usage = record { text = usage_text; status = 2 }
@@ -234,3 +264,4 @@ answer_of files (Some (Check program)) = told check_answer (program_in (files pr
 answer_of files (Some (Auto program number most)) = told (auto_answer number most) (program_in (files program))
 answer_of files (Some (Big number)) = big_answer number
 answer_of files (Some (Upgrade schedule)) = told upgrade_answer (schedule_in (files schedule))
+answer_of files (Some (Offline trace)) = told listed (races_in (files trace))

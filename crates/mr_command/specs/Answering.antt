@@ -7,8 +7,8 @@ use Rattle.mr_command.specs.declared.answer.Written.{Written}
 use Rattle.mr_command.specs.declared.command.Format.{Format}
 use Rattle.mr_command.specs.declared.refusal.Refusal.{Refusal}
 use Rattle.mr_command.specs.declared.refusal.Refusal.TheVariants as refusal
-use Rattle.mr_command.specs.Answer.{Answer, auto_answer, big_answer, check_answer, program_in, refused, run_answer, schedule_in, told, upgrade_answer}
-use Rattle.mr_command.specs.Command.{Auto, Big, Check, Command, Run, Upgrade}
+use Rattle.mr_command.specs.Answer.{Answer, auto_answer, big_answer, check_answer, listed, program_in, races_in, refused, run_answer, schedule_in, told, upgrade_answer}
+use Rattle.mr_command.specs.Command.{Auto, Big, Check, Command, Offline, Run, Upgrade}
 use Rattle.mr_command.specs.Outcome.{holding, over_holding}
 
 -- what is written, seen as an answer
@@ -26,6 +26,8 @@ Tells answer (Err refusal.Memory) = Unit {0}
 Tells answer (Err refusal.ReadProgram) = answer ≡ refused refusal.ReadProgram
 Tells answer (Err (refusal.Text at col code)) = answer ≡ refused (refusal.Text at col code)
 Tells answer (Err refusal.ReadSchedule) = answer ≡ refused refusal.ReadSchedule
+Tells answer (Err refusal.ReadTrace) = answer ≡ refused refusal.ReadTrace
+Tells answer (Err (refusal.Trace at code)) = answer ≡ refused (refusal.Trace at code)
 Tells answer (Err (refusal.Schedule at code earlier)) = answer ≡ refused (refusal.Schedule at code earlier)
 
 -- or the read of the schedule failed
@@ -66,6 +68,14 @@ IsRunOverText rose format p result = (text : List ℕ) × IsFormOrReport rose fo
 abbrev pub IsUpgraded : Contents → List ℕ → Type 0 → Result Written Refusal → Type 0
 IsUpgraded files schedule rose result = TellsOrUnread rose (told upgrade_answer (schedule_in (files schedule))) result
 
+-- what is said of the trace that a file holds, or what refuses it; or the read failed
+abbrev pub IsListedOf : Option (List ℕ) → Type 0 → Result Written Refusal → Type 0
+IsListedOf file rose result = Tells (told listed (races_in file)) result ⊎ (rose × (result ≡ Err refusal.ReadTrace))
+
+-- the same of the file of a name
+abbrev pub IsListed : Contents → List ℕ → Type 0 → Result Written Refusal → Type 0
+IsListed files trace rose result = IsListedOf (files trace) rose result
+
 -- how a command is answered
 abbrev pub IsAnswered : Contents → Command → Type 0 → Result Written Refusal → Type 0
 IsAnswered files (Run format program schedule) rose result = IsReported files format program schedule rose result
@@ -73,6 +83,7 @@ IsAnswered files (Check program) rose result = IsSaid check_answer files program
 IsAnswered files (Auto program number most) rose result = IsSaid (auto_answer number most) files program rose result
 IsAnswered files (Big number) rose result = Tells (big_answer number) result
 IsAnswered files (Upgrade schedule) rose result = IsUpgraded files schedule rose result
+IsAnswered files (Offline trace) rose result = IsListed files trace rose result
 
 -- there are texts of the named files of which a command is answered so
 abbrev pub IsAnsweredOverTexts : Command → Type 0 → Result Written Refusal → Type 0

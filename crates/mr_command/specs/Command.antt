@@ -3,27 +3,31 @@ use Rattle.std.specs.Prelude.{◌≡◌, ℕ, ◌+◌, ◌≤◌, ◌^◌, ◌�
 use Rattle.std.specs.Prelude.{if◌then◌else◌}
 use Rattle.mr_ast.specs.Words.{is_number, value_of}
 use Rattle.mr_command.specs.declared.command.Format.{Format}
-use Rattle.mr_command.specs.declared.command.Format.TheVariants.{Json, Short, Shuffled, Text}
+use Rattle.mr_command.specs.declared.command.Format.TheVariants.{Footprints, Json, Short, Shuffled, Text}
 use Rattle.mr_command.specs.declared.command.Command.{Command as Words}
 use Rattle.mr_command.specs.declared.command.Command.TheVariants as words
 
 -- What is asked for: a run of the program in one file under the schedule in another, with its report in a format; the
 -- canonical text of the program in a file; a schedule of it that is drawn from a number, with at most so many entries;
--- a run of the program of a number; or the schedule in a file, written in version 2.
+-- a run of the program of a number; the schedule in a file, written in version 2; or the races that a trace in a file
+-- shows.
 pub data Command : Type 0 where
   Run : (format : Format) (program schedule : List ℕ) → Command
   Check : (program : List ℕ) → Command
   Auto : (program : List ℕ) (number most : ℕ) → Command
   Big : (number : ℕ) → Command
   Upgrade : (schedule : List ℕ) → Command
+  Offline : (trace : List ℕ) → Command
 
 -- the format of the report that this word asks for
 abbrev pub format_of : List ℕ → Option Format
 format_of word =
     if bytes_eq word (codes "run") then Some Text
     else (if bytes_eq word (codes "json") then Some Json
-    else (if bytes_eq word (codes "short") then Some Short else None))
+    else (if bytes_eq word (codes "short") then Some Short
+    else (if bytes_eq word (codes "trace") then Some Footprints else None)))
 
+-- a run with its report in this format, where the word asks for one
 abbrev pub run_of : Option Format → List ℕ → List ℕ → Option Command
 run_of None program schedule = None
 run_of (Some format) program schedule = Some (Run format program schedule)
@@ -33,21 +37,24 @@ abbrev pub number_below : ℕ → List ℕ → Option ℕ
 number_below limit word =
     if is_number word then (if nat_lt (value_of word) limit then Some (value_of word) else None) else None
 
+-- a drawn schedule, where both numbers are within their limits
 abbrev pub auto_of : List ℕ → Option ℕ → Option ℕ → Option Command
 auto_of program None most = None
 auto_of program (Some number) None = None
 auto_of program (Some number) (Some most) = Some (Auto program number most)
 
+-- a run in another order, where the number is within its limit
 abbrev pub shuffle_of : List ℕ → List ℕ → Option ℕ → Option Command
 shuffle_of program schedule None = None
 shuffle_of program schedule (Some number) = Some (Run (Shuffled number) program schedule)
 
+-- a run of a generated program, where the number is within its limit
 abbrev pub big_of : Option ℕ → Option Command
 big_of None = None
 big_of (Some number) = Some (Big number)
 
--- `run P S`, `json P S`, `short P S`, `shuffle P S N`, `check P`, `auto P N M`, `big N` and `upgrade S`, where N is below
--- 2^64 and M at most 2^20, and no other form
+-- `run P S`, `json P S`, `short P S`, `trace P S`, `shuffle P S N`, `check P`, `auto P N M`, `big N`, `upgrade S` and
+-- `offline T`, where N is below 2^64 and M at most 2^20, and no other form
 abbrev pub command_of : List (List ℕ) → Option Command
 command_of (word ∷ program ∷ schedule ∷ []) = run_of (format_of word) program schedule
 command_of (word ∷ program ∷ number ∷ most ∷ []) =
@@ -57,7 +64,8 @@ command_of (word ∷ program ∷ number ∷ most ∷ []) =
 command_of (word ∷ name ∷ []) =
     if bytes_eq word (codes "check") then Some (Check name)
     else (if bytes_eq word (codes "big") then big_of (number_below (2 ^ 64) name)
-    else (if bytes_eq word (codes "upgrade") then Some (Upgrade name) else None))
+    else (if bytes_eq word (codes "upgrade") then Some (Upgrade name)
+    else (if bytes_eq word (codes "offline") then Some (Offline name) else None)))
 command_of _ = None
 
 -- a schedule is drawn of at most 2^20 entries
@@ -67,6 +75,7 @@ IsBounded (Check program) = Unit {0}
 IsBounded (Auto program number most) = most ≤ 2 ^ 20
 IsBounded (Big number) = Unit {0}
 IsBounded (Upgrade schedule) = Unit {0}
+IsBounded (Offline trace) = Unit {0}
 
 -- how many files the words name
 abbrev pub named_files : Option Command → ℕ
@@ -76,6 +85,7 @@ named_files (Some (Check program)) = 1
 named_files (Some (Auto program number most)) = 1
 named_files (Some (Big number)) = 0
 named_files (Some (Upgrade schedule)) = 1
+named_files (Some (Offline trace)) = 1
 
 -- the command names this file for the program
 abbrev pub NamesProgram : Option Command → List ℕ → Type 0
@@ -97,3 +107,4 @@ asked (words.Check program) = Check program.now
 asked (words.Auto program number most) = Auto program.now number most
 asked (words.Big number) = Big number
 asked (words.Upgrade schedule) = Upgrade schedule.now
+asked (words.Offline trace) = Offline trace.now

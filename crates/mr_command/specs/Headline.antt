@@ -16,14 +16,14 @@ use Rattle.mr_auto.specs.Drawing.{drawn_schedule}
 use Rattle.mr_wf.specs.declared.fault.FormFault.{FormFault}
 use Rattle.mr_wf.specs.Walk.{FirstBroken, WellFormed, faults_of}
 use Rattle.mr_command.specs.declared.command.Format.{Format}
-use Rattle.mr_command.specs.declared.command.Format.TheVariants.{Json, Short, Shuffled, Text}
-use Rattle.mr_command.specs.Command.{Auto, Check, Command, NamesProgram, NamesSchedule, Run, Upgrade}
+use Rattle.mr_command.specs.declared.command.Format.TheVariants.{Footprints, Json, Short, Shuffled, Text}
+use Rattle.mr_command.specs.Command.{Auto, Check, Command, NamesProgram, NamesSchedule, Offline, Run, Upgrade}
 use Rattle.mr_event.specs.declared.footprint.Pair.{Pair}
 use Rattle.mr_event.specs.Predicted.{predicted}
 use Rattle.mr_exchange.specs.Witness.{IsWitness}
 use Rattle.mr_shuffle.specs.EveryOrder.{ComesToTheSame}
 use Rattle.mr_shuffle.specs.Shuffled.{shuffled, shuffled_order}
-use Rattle.mr_event.specs.Order.{IsRearrangement}
+use Rattle.mr_event.specs.Order.{IsPredicted, IsRearrangement}
 use Rattle.mr_command.specs.Answer.{Answer, canonical, drawn_answer, program_in, ran, reported, upgraded, witness_in}
 use Rattle.mr_command.specs.Outcome.{IsLeft, IsWhole, IsWritten}
 
@@ -67,16 +67,19 @@ abbrev pub KeepsResult : Format → Program → Schedule → Type 0
 KeepsResult Text p w = Unit {0}
 KeepsResult Json p w = Unit {0}
 KeepsResult Short p w = Unit {0}
+KeepsResult Footprints p w = Unit {0}
 KeepsResult (Shuffled number) p w =
     predicted (steps_of p w) ≡ []
     → IsRearrangement (steps_of p w) (shuffled_order (steps_of p w) number)
     × ComesToTheSame p w (shuffled_order (steps_of p w) number) (shuffled (steps_of p w) w number)
 
--- No step is ill-formed; the witness brings the machine to the first race; another order that is written comes to the same;
--- and the report of the run is written, with schedules in the version.
+-- No step is ill-formed; the listed pairs are the predicted races of the run, each step that has a partner with its
+-- greatest one; the witness brings the machine to the first race; another order that is written comes to the same; and
+-- the report of the run is written, with schedules in the version.
 pub record IsOfMachine (format : Format) (p : Program) (v : Version) (w : Schedule) (files_rose out_rose : Type 0)
     (old new : Option (List ℕ)) (status : ℕ) : Type 0 where
   pub sound : IsSoundRun p w
+  pub races : IsPredicted (steps_of p w) (predicted (steps_of p w))
   pub witness : ShowsFirstRace format p w
   pub order : KeepsResult format p w
   pub report : IsTold (reported format p v w (ran p w)) files_rose out_rose old new status
@@ -210,7 +213,8 @@ AsksForSchedule file = (p : Program) × (program_in file ≡ Ok p) × (faults_of
 abbrev pub LacksFile : Contents → Option Command → Type 0
 LacksFile files command =
     ((program : List ℕ) × NamesProgram command program × (files program ≡ None))
-    ⊎ ((schedule : List ℕ) × NamesSchedule command schedule × (files schedule ≡ None))
+    ⊎ (((schedule : List ℕ) × NamesSchedule command schedule × (files schedule ≡ None))
+    ⊎ ((trace : List ℕ) × (command ≡ Some (Offline trace)) × (files trace ≡ None)))
 
 -- Why a file was not read: a failure, which is counted, or where the files tell what they hold, that it isn't there.
 abbrev pub IsUnreadBecause : Type 0 → Option Contents → Option Command → Type 0

@@ -5,5 +5,8 @@ pub mod Command
 pub mod Form
 pub mod Headline
 pub mod Outcome
+pub mod Promises
 pub mod Report
 pub mod Running
+pub mod Showing
+pub mod Traces

@@ -7,7 +7,7 @@ use Rattle.mr_io.specs.Files.{Contents}
 use Rattle.mr_wf.specs.Walk.{faults_of}
 use Rattle.mr_command.specs.declared.refusal.Refusal.{Refusal}
 use Rattle.mr_command.specs.declared.refusal.Refusal.TheVariants as refusal
-use Rattle.mr_command.specs.Command.{Auto, Big, Check, Command, Run, Upgrade}
+use Rattle.mr_command.specs.Command.{Auto, Big, Check, Command, Offline, Run, Upgrade}
 use Rattle.mr_command.specs.Answer.{Answer, program_in, refused, answer_of, usage}
 
 -- What a function returned is what is defined, unless memory ran out.
@@ -17,6 +17,8 @@ Gives (Err refusal.Memory) defined = Unit {0}
 Gives (Err refusal.ReadProgram) defined = defined ≡ Err refusal.ReadProgram
 Gives (Err (refusal.Text at col code)) defined = defined ≡ Err (refusal.Text at col code)
 Gives (Err refusal.ReadSchedule) defined = defined ≡ Err refusal.ReadSchedule
+Gives (Err refusal.ReadTrace) defined = defined ≡ Err refusal.ReadTrace
+Gives (Err (refusal.Trace at code)) defined = defined ≡ Err (refusal.Trace at code)
 Gives (Err (refusal.Schedule at code earlier)) defined = defined ≡ Err (refusal.Schedule at code earlier)
 
 -- A read failed, which is counted: that of the program, or that of the schedule; where the command names a program, only
@@ -30,6 +32,7 @@ IsUnread files (Some (Check program)) a = a ≡ refused refusal.ReadProgram
 IsUnread files (Some (Auto program number most)) a = a ≡ refused refusal.ReadProgram
 IsUnread files (Some (Big number)) a = ⊥
 IsUnread files (Some (Upgrade schedule)) a = a ≡ refused refusal.ReadSchedule
+IsUnread files (Some (Offline trace)) a = a ≡ refused refusal.ReadTrace
 
 -- the answer by definition, or that of a read that failed where the count of faults of the files rose
 abbrev pub IsPossible : Contents → Option Command → Type 0 → Answer → Type 0
@@ -63,13 +66,14 @@ holding program schedule name =
     if bytes_eq name (codes "program") then Some program
     else (if bytes_eq name (codes "schedule") then Some schedule else None)
 
--- the same command over these files
+-- The same command over these files. A trace, which is read alone, stands where a schedule would.
 abbrev pub over_holding : Command → Command
 over_holding (Run format program schedule) = Run format (codes "program") (codes "schedule")
 over_holding (Check program) = Check (codes "program")
 over_holding (Auto program number most) = Auto (codes "program") number most
 over_holding (Big number) = Big number
 over_holding (Upgrade schedule) = Upgrade (codes "schedule")
+over_holding (Offline trace) = Offline (codes "schedule")
 
 -- How a call ends over files that don't tell what they hold: there are texts of the named files of which it ends as
 -- defined.
@@ -86,7 +90,8 @@ IsRead rose unread result defined = Gives result defined ⊎ (rose × (result �
 
 -- the answer is that a file was not read
 abbrev pub IsUnreadFault : {A : Type 0} → Result A Refusal → Type 0
-IsUnreadFault result = (result ≡ Err refusal.ReadProgram) ⊎ (result ≡ Err refusal.ReadSchedule)
+IsUnreadFault result =
+    (result ≡ Err refusal.ReadProgram) ⊎ ((result ≡ Err refusal.ReadSchedule) ⊎ (result ≡ Err refusal.ReadTrace))
 
 -- memory ran out, and the sink was left as it was
 abbrev pub IsLeft : Option (List ℕ) → Option (List ℕ) → ℕ → Type 0

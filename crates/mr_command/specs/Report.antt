@@ -11,9 +11,11 @@ use Rattle.mr_sched.specs.declared.schedule.Schedule.{Schedule}
 use Rattle.mr_sched.specs.declared.version.Version.{Version}
 use Rattle.mr_lex.specs.Rules as text
 use Rattle.mr_sched.specs.Rules as schedule
+use Rattle.mr_trace.specs.declared.rule.TraceRule.{TraceRule}
+use Rattle.mr_trace.specs.Rules as trace
 use Rattle.mr_plan.specs.Runs.{Printed}
 use Rattle.mr_command.specs.declared.command.Format.{Format}
-use Rattle.mr_command.specs.declared.command.Format.TheVariants.{Json, Short, Shuffled, Text}
+use Rattle.mr_command.specs.declared.command.Format.TheVariants.{Footprints, Json, Short, Shuffled, Text}
 use Rattle.mr_command.specs.declared.refusal.Refusal.{Refusal}
 use Rattle.mr_command.specs.declared.refusal.Refusal.TheVariants as refusal
 
@@ -28,6 +30,7 @@ abbrev pub written_as : Format → List Line → Verdict → List Pair → Optio
 written_as Text output v races witness version = report_text output v races witness version
 written_as Json output v races witness version = json_text output v races witness version
 written_as Short output v races witness version = report_text output v races witness version
+written_as Footprints output v races witness version = report_text output v races witness version
 written_as (Shuffled number) output v races witness version = report_text output v races witness version
 
 -- The prints in order, the verdict, the races, and the witness where there is one.
@@ -61,6 +64,19 @@ abbrev pub earlier_text : Option AllocId → List ℕ
 earlier_text None = []
 earlier_text (Some id) = codes " " ++ decimal id.thread ++ codes " " ++ decimal id.count
 
+-- the name of a fault that bytes have
+abbrev pub named_or : Option TraceRule → List ℕ
+named_or None = []
+named_or (Some r) = trace.name_of r
+
+abbrev pub trace_name : ℕ → List ℕ
+trace_name code = named_or (trace.rule_of code)
+
+-- `trace OFFSET CODE NAME`
+abbrev pub trace_line : ℕ → ℕ → List ℕ
+trace_line at code =
+    line (codes "trace " ++ decimal at ++ codes " " ++ decimal code ++ codes " " ++ trace_name code)
+
 -- the line of a refusal, and none for want of memory
 abbrev pub refusal_text : Refusal → List ℕ
 refusal_text refusal.ReadProgram = line (codes "read program")
@@ -69,6 +85,8 @@ refusal_text refusal.ReadSchedule = line (codes "read schedule")
 refusal_text (refusal.Schedule at code earlier) =
     line (codes "schedule " ++ decimal at ++ codes " " ++ decimal code
     ++ codes " " ++ schedule.name_by_code code ++ earlier_text earlier)
+refusal_text refusal.ReadTrace = line (codes "read trace")
+refusal_text (refusal.Trace at code) = trace_line at code
 refusal_text refusal.Memory = []
 
 -- the exit status of a refusal
@@ -77,6 +95,8 @@ refusal_status refusal.ReadProgram = 6
 refusal_status (refusal.Text at col code) = 3
 refusal_status refusal.ReadSchedule = 6
 refusal_status (refusal.Schedule at code earlier) = 5
+refusal_status refusal.ReadTrace = 6
+refusal_status (refusal.Trace at code) = 9
 refusal_status refusal.Memory = 8
 
 -- the line for words of no form

@@ -16,7 +16,6 @@ use Rattle.mr_command.specs.declared.refusal.Refusal.{Refusal}
 use Rattle.mr_command.specs.declared.refusal.Refusal.TheVariants as refusal
 use Rattle.mr_command.specs.declared.run.Finished.{Finished}
 use Rattle.mr_command.specs.Answer.{Ran, legal_run, unless_broken}
-use Rattle.mr_command.specs.Alone.{are_alone}
 use Rattle.mr_command.specs.Outcome.{Gives}
 
 -- a fault of a start or a step, at this place
@@ -82,9 +81,11 @@ IsPlaced w refusal.ReadProgram = Unit {0}
 IsPlaced w (refusal.Text at col code) = Unit {0}
 IsPlaced w refusal.ReadSchedule = Unit {0}
 IsPlaced w (refusal.Schedule place code earlier) = IsPlace w place
+IsPlaced w refusal.ReadTrace = Unit {0}
+IsPlaced w (refusal.Trace at code) = Unit {0}
 IsPlaced w refusal.Memory = Unit {0}
 
--- ---- runs of thread 0 alone
+-- ---- runs of which no footprint is kept
 
 -- all entries are of thread 0
 abbrev pub are_of_first : List Entry → Bool
@@ -98,10 +99,10 @@ TakenAnswer es old new r = (steps : List Footprint) × EntriesAnswer es old new 
 abbrev pub TakeAnswer : Entry → ℕ → Standing → Standing → Result (Unit {0}) Refusal → Type 0
 TakeAnswer e line old new r = (steps : List Footprint) × EntryAnswer e line old new [] steps r
 
--- how a run of thread 0 alone is answered: by the machine where it ends, and no footprint; or by what refuses it
-abbrev pub AloneAnswer : Program → Schedule → Result Finished Refusal → Type 0
-AloneAnswer p w (Ok f) =
+-- how a run of which no footprint is kept is answered: by the machine where it ends, whatever its steps are; or by what
+-- refuses it
+abbrev pub BareAnswer : Program → Schedule → Result Finished Refusal → Type 0
+BareAnswer p w (Ok f) =
     (f.machine.failed ≡ false) × (f.steps.items ≡ [])
-    × (steps : List Footprint) × (are_alone steps ≡ true)
-    × (legal_run p w ≡ Ok (record { config = f.machine.config; steps = steps }))
-AloneAnswer p w (Err r) = Refuses r (legal_run p w)
+    × (steps : List Footprint) × (legal_run p w ≡ Ok (record { config = f.machine.config; steps = steps }))
+BareAnswer p w (Err r) = Refuses r (legal_run p w)

@@ -2,14 +2,17 @@
 ghost use Rattle.std.specs.Prelude.{◌≡◌, ◌+◌, ◌^◌, ◌≤◌, ℕ, List, [], None, Some, Ok, Err, length, true, IfOk};
 ghost use Rattle.mr_io.specs.Counts.{Rose};
 ghost use Rattle.mr_io.specs.Files.{Contents};
+ghost use Rattle.mr_ast.specs.declared.program.Program.{Program as AstProgram};
 ghost use Rattle.mr_ast.specs.Shaped.{Shaped};
+ghost use Rattle.mr_sched.specs.declared.version.Read.{Read as Spelled};
 ghost use Rattle.mr_wf.specs.Walk.{faults_of};
-ghost use Rattle.mr_command.specs.Answer.{auto_answer, big_answer, canonical, check_answer, form_answer, in_text, legal_run, report_under, run_report, told, told_in, upgrade_answer};
+ghost use Rattle.mr_command.specs.Answer.{auto_answer, big_answer, canonical, check_answer, form_answer, in_text, legal_run, program_in, report_under, run_report, schedule_in, told, told_in, upgrade_answer};
 ghost use Rattle.mr_command.specs.Answering.{IsAnswered, IsAnsweredOverTexts, IsFormOrReport, IsReported, IsRunOverText, IsSaid, IsStatus, IsUpgraded, Tells, TellsOrUnread};
 ghost use Rattle.mr_command.specs.Command.{asked, named_files, Auto, Check, IsBounded, NamesProgram, Run, Upgrade};
 ghost use Rattle.mr_command.specs.Headline.{AsksForSchedule};
 ghost use Rattle.mr_command.specs.Outcome.{IsUnreadFault};
 ghost use Rattle.mr_command.specs.Running.{are_of_first};
+ghost use Rattle.mr_command.specs.Showing.{IsSpelled, Shows};
 
 use crate::command::{Command, Format};
 use crate::drawn::{drawn, summary};
@@ -18,7 +21,8 @@ use crate::input::{read_program, read_schedule};
 use crate::refusal::Refusal;
 use crate::reordered::report_shuffled;
 use crate::report::report;
-use crate::run::{is_alone, on_line, run, run_alone};
+use crate::run::{is_alone, on_line, run, run_bare};
+use crate::traced::{listed_file, report_footprints};
 use mr_ast::Program;
 use mr_gen::program;
 use mr_io::Files;
@@ -49,6 +53,7 @@ pub fn answer<F: Files>(
     ensures faults { F.faults files.old ≤ F.faults files.new }
     ensures answer { (contents : Contents) → F.told files.old ≡ Some contents
         → IsAnswered contents (asked command.entry) (Rose (F.faults files.old) (F.faults files.new)) result }
+    ensures shows { (contents : Contents) → F.told files.old ≡ Some contents → Shows contents (asked command.entry) result }
     ensures status { IfOk result (λ a. IsStatus a.status) }
     ensures texts { F.told files.old ≡ None
         → IsAnsweredOverTexts (asked command.entry) (Rose (F.faults files.old) (F.faults files.new)) result }
@@ -69,6 +74,7 @@ pub fn answer<F: Files>(
         } => drawn_file(alloc, files, program, number, most),
         Command::Big { number } => big(alloc, number),
         Command::Upgrade { schedule } => upgraded_file(alloc, files, schedule),
+        Command::Offline { trace } => listed_file(alloc, files, trace),
     }
 }
 
@@ -88,6 +94,9 @@ fn report_files<F: Files>(
     ensures faults { F.faults files.old ≤ F.faults files.new }
     ensures answer { (contents : Contents) → F.told files.old ≡ Some contents
         → IsReported contents format program.now schedule.now (Rose (F.faults files.old) (F.faults files.new)) result }
+    ensures spelled { (contents : Contents) → F.told files.old ≡ Some contents → (p : AstProgram) (r : Spelled)
+        → program_in (contents program.now) ≡ Ok p → faults_of p ≡ [] → schedule_in (contents schedule.now) ≡ Ok r
+        → IsSpelled format p r.schedule result }
     ensures status { IfOk result (λ a. IsStatus a.status) }
     ensures texts { F.told files.old ≡ None
         → IsAnsweredOverTexts (Run format program.now schedule.now) (Rose (F.faults files.old) (F.faults files.new)) result }
@@ -118,6 +127,8 @@ fn report_program<F: Files>(
     ensures answer { (contents : Contents) → F.told files.old ≡ Some contents
         → IsFormOrReport (Rose (F.faults files.old) (F.faults files.new)) format
         (contents schedule.now) p result }
+    ensures spelled { (contents : Contents) → F.told files.old ≡ Some contents → (r : Spelled)
+        → schedule_in (contents schedule.now) ≡ Ok r → faults_of p ≡ [] → IsSpelled format p r.schedule result }
     ensures status { IfOk result (λ a. IsStatus a.status) }
     ensures texts { F.told files.old ≡ None → IsRunOverText (Rose (F.faults files.old) (F.faults files.new)) format p result }
     ensures untold { F.told files.old ≡ None → IsUnreadFault result
@@ -145,6 +156,8 @@ fn report_schedule<F: Files>(
     ensures answer { (contents : Contents) → F.told files.old ≡ Some contents
         → TellsOrUnread (Rose (F.faults files.old) (F.faults files.new))
         (report_under format (contents schedule.now) p.now) result }
+    ensures spelled { (contents : Contents) → F.told files.old ≡ Some contents → (r : Spelled)
+        → schedule_in (contents schedule.now) ≡ Ok r → IsSpelled format p.now r.schedule result }
     ensures status { IfOk result (λ a. IsStatus a.status) }
     ensures texts { F.told files.old ≡ None → (text : List ℕ)
         × TellsOrUnread (Rose (F.faults files.old) (F.faults files.new)) (report_under format (Some text) p.now) result }
@@ -167,6 +180,7 @@ fn report_run(
 ) -> Result<Written, Refusal>
     requires { length w.now.entries ≤ 2 ^ 22 }
     ensures answer { Tells (run_report format p.now v w.now) result }
+    ensures spelled { IsSpelled format p.now w.now result }
     ensures status { IfOk result (λ a. IsStatus a.status) }
     ensures read { ¬ IsUnreadFault result }
 {
@@ -174,6 +188,7 @@ fn report_run(
         Format::Text => report_plainly(alloc, Format::Text, p, v, w),
         Format::Json => report_plainly(alloc, Format::Json, p, v, w),
         Format::Short => report_plainly(alloc, Format::Short, p, v, w),
+        Format::Footprints => report_footprints(alloc, p, v, w),
         Format::Shuffled { number } => report_shuffled(alloc, p, v, w, number),
     }
 }
@@ -200,7 +215,7 @@ fn report_plainly(
     }
 }
 
-// The same of a schedule of thread 0 alone.
+// The same of a schedule of thread 0 alone. One thread has no race.
 fn report_alone(
     alloc: Global,
     format: Format,
@@ -214,7 +229,7 @@ fn report_alone(
     ensures status { IfOk result (λ a. IsStatus a.status) }
     ensures read { ¬ IsUnreadFault result }
 {
-    match run_alone(alloc, p, w) {
+    match run_bare(alloc, p, w) {
         Ok(finished) => Ok(report(alloc, format, &finished, v, w)?),
         Err(refusal) => Err(on_line(v, w, refusal)),
     }

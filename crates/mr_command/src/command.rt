@@ -14,6 +14,8 @@ pub enum Format {
     Json,
     /// Line by line, with a shorter witness.
     Short,
+    /// The footprints of the completed steps, as bytes.
+    Footprints,
     /// Line by line; and where no race is listed, behind the schedule in an order that is drawn from a number, of the run
     /// in that order.
     Shuffled { number: u64 },
@@ -46,6 +48,10 @@ pub enum Command<'a> {
     Upgrade {
         schedule: &'a str,
     },
+    /// The races that the bytes of footprints show.
+    Offline {
+        trace: &'a str,
+    },
 }
 
 // The format of the report that a word asks for.
@@ -56,6 +62,7 @@ fn format_of(word: &str) -> Option<Format>
         "run" => Some(Format::Text),
         "json" => Some(Format::Json),
         "short" => Some(Format::Short),
+        "trace" => Some(Format::Footprints),
         _ => None,
     }
 }
@@ -68,7 +75,7 @@ fn number_below(word: &str, limit: u128) -> Option<u128>
     if number < limit { Some(number) } else { None }
 }
 
-// `run P S`, `json P S` and `short P S`.
+// `run P S`, `json P S`, `short P S` and `trace P S`.
 fn run_of<'a>(word: &str, program: &'a str, schedule: &'a str) -> Option<Command<'a>>
     ensures { option_map asked result ≡ run_of (format_of word.now) program.now schedule.now }
 {
@@ -107,7 +114,7 @@ fn shuffle_of<'a>(program: &'a str, schedule: &'a str, number: &str) -> Option<C
     })
 }
 
-// `check P`, `big N` and `upgrade S`.
+// `check P`, `big N`, `upgrade S` and `offline T`.
 fn short_of<'a>(word: &str, name: &'a str) -> Option<Command<'a>>
     ensures { option_map asked result ≡ command_of (word.now ∷ name.now ∷ []) }
 {
@@ -120,12 +127,13 @@ fn short_of<'a>(word: &str, name: &'a str) -> Option<Command<'a>>
             })
         }
         "upgrade" => Some(Command::Upgrade { schedule: name }),
+        "offline" => Some(Command::Offline { trace: name }),
         _ => None,
     }
 }
 
-/// The command of these words. There are eight forms: `run P S`, `json P S`, `short P S`, `shuffle P S N`, `check P`,
-/// `auto P N M`, `big N` and `upgrade S`.
+/// The command of these words. There are ten forms: `run P S`, `json P S`, `short P S`, `trace P S`, `shuffle P S N`, `check P`,
+/// `auto P N M`, `big N`, `upgrade S` and `offline T`.
 pub fn command_of(words: &[String]) -> Option<Command<'_>>
     ensures { option_map asked result ≡ command_of (map string_bytes words.now) }
 {

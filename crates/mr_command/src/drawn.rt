@@ -49,7 +49,7 @@ pub fn drawn(alloc: Global, p: &Checked, number: u64, most: u32) -> Result<Writt
 }
 
 // Appends a line of a word and a number.
-fn push_count(text: &mut Vec<u8>, word: &[u8], count: u64) -> Result<(), AllocError>
+pub(crate) fn push_count(text: &mut Vec<u8>, word: &[u8], count: u64) -> Result<(), AllocError>
     ensures { OnOk result (text.new.items ≡ text.old.items ++ line (word.now ++ decimal count)) }
 {
     text.extend_from_slice(word)?;

@@ -2,12 +2,13 @@
 ghost use Rattle.std.specs.Prelude.{◌≡◌, ◌++◌, IfOk, OnOk, decimal};
 ghost use Rattle.mr_lex.specs.Rules.{name_by_code as text_name_of};
 ghost use Rattle.mr_sched.specs.Rules.{name_by_code as schedule_name_of};
-ghost use Rattle.mr_command.specs.Report.{earlier_text, refusal_text, text_line};
+ghost use Rattle.mr_command.specs.Report.{earlier_text, refusal_text, text_line, trace_name};
 
 use itoa::Buffer;
 use mr_base::AllocId;
 use mr_lex::TextRule;
 use mr_sched::ScheduleRule;
+use mr_trace::TraceRule;
 use std::alloc::{AllocError, AllocFailed, Global};
 
 /// Why there is no report, and no canonical text.
@@ -28,6 +29,13 @@ pub enum Refusal {
         line: u32,
         code: u8,
         earlier: Option<AllocId>,
+    },
+    /// The file of the trace was not read.
+    ReadTrace,
+    /// The bytes of a trace have their first fault at this offset from 0.
+    Trace {
+        at: u64,
+        code: u8,
     },
     /// Memory ran out.
     Memory,
@@ -64,9 +72,10 @@ impl Refusal {
         ensures { result ≡ refusal_status self }
     {
         match self {
-            Refusal::ReadProgram | Refusal::ReadSchedule => 6,
+            Refusal::ReadProgram | Refusal::ReadSchedule | Refusal::ReadTrace => 6,
             Refusal::Text { .. } => 3,
             Refusal::Schedule { .. } => 5,
+            Refusal::Trace { .. } => 9,
             Refusal::Memory => 8,
         }
     }
@@ -90,6 +99,8 @@ impl Refusal {
                 code,
                 earlier,
             } => schedule_line(alloc, line, code, earlier),
+            Refusal::ReadTrace => Vec::from_slice(alloc, b"read trace\n"),
+            Refusal::Trace { at, code } => trace_line(alloc, at, code),
             Refusal::Memory => Ok(Vec::new(alloc)),
         }
     }
@@ -170,6 +181,29 @@ fn schedule_rule_name(code: u8) -> &'static str
     ensures { result.now ≡ schedule_name_of code }
 {
     match ScheduleRule::of_code(code) {
+        Some(rule) => rule.name(),
+        None => "",
+    }
+}
+
+fn trace_line(alloc: Global, at: u64, code: u8) -> Result<Vec<u8>, AllocError>
+    ensures { IfOk result (λ text. text.items ≡ refusal_text (Refusal.Trace at code)) }
+{
+    let mut text = Vec::from_slice(alloc, b"trace ")?;
+    push_number(&mut text, at)?;
+    text.push(b' ')?;
+    push_number(&mut text, code.into())?;
+    text.push(b' ')?;
+    text.extend_from_slice(trace_rule_name(code).as_bytes())?;
+    text.push(b'\n')?;
+    Ok(text)
+}
+
+// The name of the fault that bytes have, by its code.
+fn trace_rule_name(code: u8) -> &'static str
+    ensures { result.now ≡ trace_name code }
+{
+    match TraceRule::of_code(code) {
         Some(rule) => rule.name(),
         None => "",
     }

@@ -1,9 +1,9 @@
 //! Runs in another order, which is drawn from a number.
-ghost use Rattle.std.specs.Prelude.{◌≡◌, ◌≤◌, ◌^◌, ◌++◌, IfOk, Ok, length, map};
+ghost use Rattle.std.specs.Prelude.{◌≡◌, ◌≤◌, ◌^◌, ◌++◌, [], IfOk, Ok, length, map};
 ghost use Rattle.mr_event.specs.Predicted.{predicted};
 ghost use Rattle.mr_report.specs.Json.{ArePrinted};
 ghost use Rattle.mr_sched.specs.Versions.{text_in};
-ghost use Rattle.mr_start.specs.Start.{Legal};
+ghost use Rattle.mr_start.specs.Start.{Legal, steps_of};
 ghost use Rattle.mr_command.specs.Answer.{behind_schedule, in_text, legal_run, ordered_answer, run_report, shuffled_answer};
 ghost use Rattle.mr_command.specs.Answering.{IsStatus, Tells, seen};
 ghost use Rattle.mr_command.specs.declared.command.Format.TheVariants.{Shuffled};
@@ -15,7 +15,7 @@ use crate::answer::Written;
 use crate::command::Format;
 use crate::refusal::Refusal;
 use crate::report::report;
-use crate::run::{Finished, on_line, run};
+use crate::run::{Finished, on_line, run, run_bare};
 use mr_clocks::predicted_by_clocks;
 use mr_sched::{Schedule, Version, print_version};
 use mr_shuffle::shuffle;
@@ -67,15 +67,16 @@ fn shuffled_run(
     run_again(alloc, p, v, &order)
 }
 
-// The text of a legal schedule, and the report of the run under it.
+// The text of a legal schedule whose run shows no race, and the report of that run.
 fn run_again(alloc: Global, p: &Checked, v: Version, order: &Schedule) -> Result<Written, Refusal>
     requires few { length order.now.entries ≤ 2 ^ 22 }
     requires legal { Legal p.now order.now }
+    requires silent { predicted (steps_of p.now order.now) ≡ [] }
     ensures answer { Tells (ordered_answer p.now v order.now) result }
     ensures status { IfOk result (λ a. IsStatus a.status) }
     ensures read { ¬ IsUnreadFault result }
 {
-    match run(alloc, p, order) {
+    match run_bare(alloc, p, order) {
         Ok(finished) => Ok(with_schedule(alloc, &finished, v, order)?),
         Err(refusal) => Err(refusal),
     }

@@ -108,6 +108,7 @@ fn text_of(alloc: Global, format: Format, report: &Report<'_>) -> Result<Vec<u8>
         Format::Text => text(alloc, report, &mut out)?,
         Format::Json => json(alloc, report, &mut out)?,
         Format::Short => text(alloc, report, &mut out)?,
+        Format::Footprints => text(alloc, report, &mut out)?,
         Format::Shuffled { .. } => text(alloc, report, &mut out)?,
     }
     Ok(out)
@@ -151,6 +152,7 @@ fn witness_in(
         Format::Text => witness(alloc, steps, w, pair),
         Format::Json => witness(alloc, steps, w, pair),
         Format::Short => short(alloc, steps, w, pair),
+        Format::Footprints => witness(alloc, steps, w, pair),
         Format::Shuffled { .. } => witness(alloc, steps, w, pair),
     }
 }

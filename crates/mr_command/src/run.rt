@@ -2,7 +2,7 @@
 ghost use Rattle.std.specs.Prelude.{◌≡◌, ◌==◌, ◌+◌, ◌-◌, ◌^◌, ◌<◌, ◌≤◌, ◌⊎◌, false, true, length};
 ghost use Rattle.std.specs.List.{list_all};
 ghost use Rattle.mr_command.specs.Answer.{line_at, on_line};
-ghost use Rattle.mr_command.specs.Running.{AloneAnswer, EntriesAnswer, EntryAnswer, IsPlace, IsPlaced, RunAnswer, TakeAnswer, TakenAnswer, are_of_first, placed};
+ghost use Rattle.mr_command.specs.Running.{BareAnswer, EntriesAnswer, EntryAnswer, IsPlace, IsPlaced, RunAnswer, TakeAnswer, TakenAnswer, are_of_first, placed};
 
 use crate::refusal::Refusal;
 use mr_auto::advance;
@@ -43,12 +43,10 @@ pub fn is_alone(entries: &[Entry]) -> bool
     entries.iter().all(|entry| entry.thread == 0)
 }
 
-/// The run of a program under a schedule of thread 0 alone, or the first rule that the schedule breaks. One thread has no race, so that
-/// no footprint is kept.
-pub fn run_alone<'p>(alloc: Global, p: &'p Checked, w: &Schedule) -> Result<Finished<'p>, Refusal>
-    requires few { length w.now.entries ≤ 2 ^ 22 }
-    requires alone { are_of_first w.now.entries ≡ true }
-    ensures { AloneAnswer p.now w.now result }
+/// The same of a run that is known to show no race: no footprint is kept of it.
+pub fn run_bare<'p>(alloc: Global, p: &'p Checked, w: &Schedule) -> Result<Finished<'p>, Refusal>
+    requires { length w.now.entries ≤ 2 ^ 22 }
+    ensures { BareAnswer p.now w.now result }
 {
     let mut machine = match Machine::start(alloc, p, w.start.as_slice()) {
         Ok(machine) => machine,
@@ -72,8 +70,10 @@ fn take_entries(machine: &mut Machine<'_>, entries: &[Entry]) -> Result<(), Refu
 {
     let mut place = 3;
     for entry in entries {
-        take(machine, entry, place)?;
-        place += 1;
+        match take(machine, entry, place) {
+            Ok(()) => place += 1,
+            Err(refusal) => return Err(refusal),
+        }
     }
     Ok(())
 }
@@ -161,6 +161,8 @@ pub fn on_line(v: Version, w: &Schedule, refusal: Refusal) -> Refusal
             code,
             earlier,
         },
+        Refusal::ReadTrace => Refusal::ReadTrace,
+        Refusal::Trace { at, code } => Refusal::Trace { at, code },
         Refusal::Memory => Refusal::Memory,
     }
 }

@@ -25,7 +25,7 @@ pub fn finish<O: Sink>(out: &mut O, text: &[u8], status: u8) -> u8
 /// Writes the line of a refusal.
 pub fn refuse<O: Sink>(alloc: Global, out: &mut O, refusal: Refusal) -> u8
     ensures told { IsRefusedOrLeft refusal (Rose (O.faults out.old) (O.faults out.new)) (O.taken out.old) (O.taken out.new) result }
-    ensures bounded { result ≤ 8 }
+    ensures bounded { result ≤ 9 }
 {
     match refusal.text(alloc) {
         Ok(text) => finish(out, text.as_slice(), refusal.status()),

@@ -3,6 +3,7 @@ use Rattle.std.specs.Prelude.{Option, map, string_bytes}
 use Rattle.mr_io.specs.Counts.{Rose}
 use Rattle.mr_command.specs.Command.{Command, NamesProgram, asked}
 use Rattle.mr_command.specs.Outcome.{Ends, EndsOverTexts}
+use Rattle.mr_command.specs.Showing.{Shown}
 use Rattle.mr_command.proofs.BoundLaws.{command_bounded}
 use Rattle.mr_command.proofs.served.Goals as goal
 
@@ -27,3 +28,8 @@ pub returns-in-Some-clause-once : goal.returns-in-Some-clause-once
 returns-in-Some-clause-once g c = λ contents program told names silent.
     let N : Option Command → Type 0 = λ command. NamesProgram command program in
     c.obey.ensures.once contents program told (subst N (sym c.in-Some.ensures) names) silent
+
+pub returns-in-Some-clause-shown : goal.returns-in-Some-clause-shown
+returns-in-Some-clause-shown g c = λ contents told.
+    let S : Option Command → Type 0 = λ command. Shown contents command c.obey.result in
+    subst S c.in-Some.ensures (c.obey.ensures.shows contents told)

@@ -4,6 +4,7 @@ use Rattle.mr_io.specs.Counts.{Rose}
 use Rattle.mr_command.specs.Command.{asked}
 use Rattle.mr_command.specs.Outcome.{IsRefusedOrLeft, IsWritten, holding, over_holding}
 use Rattle.mr_command.proofs.EndLaws.{program_unread, refused_ends, written_ends}
+use Rattle.mr_command.proofs.TraceRuns.{shows_refused, shows_written}
 use Rattle.mr_command.proofs.GlobalObeys.obey.Goals as goal
 
 pub returns-in-Ok-clause-ends : goal.returns-in-Ok-clause-ends
@@ -44,3 +45,10 @@ returns-in-Err-clause-texts g c = λ untold.
       texts.1,
       refused_ends (holding texts.0 texts.1) _ _ _ _ _ (over_holding (asked c.args.command)) c.in-Err.refusal texts.2 c.refuse.ensures.told,
     )
+
+pub returns-in-Ok-clause-shows : goal.returns-in-Ok-clause-shows
+returns-in-Ok-clause-shows g c = λ contents told. shows_written contents (asked c.args.command) c.in-Ok.written _ (c.in-Ok.ensures.shows contents told)
+
+pub returns-in-Err-clause-shows : goal.returns-in-Err-clause-shows
+returns-in-Err-clause-shows g c = λ contents told.
+    shows_refused _ _ _ _ contents (asked c.args.command) c.in-Err.refusal (c.in-Err.ensures.shows contents told) c.refuse.ensures.told

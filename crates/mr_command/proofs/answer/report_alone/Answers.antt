@@ -1,6 +1,7 @@
 use Rattle.std.proofs.Common.{ap, ◌∙◌, sym, arith, length}
 use Rattle.mr_command.specs.Answer.{in_text, legal_run, told, told_in}
-use Rattle.mr_command.proofs.AloneLaws.{reported_alone}
+use Rattle.mr_command.proofs.AloneLaws.{alone_run, reported_bare}
+use Rattle.mr_command.proofs.OneThread.{none_alone}
 use Rattle.mr_command.proofs.PlaceLaws.{run_placed, run_was_read, told_on_line}
 use Rattle.mr_command.proofs.PrintedLaws.{printed_lines}
 use Rattle.mr_command.proofs.answer.report_alone.Goals as goal
@@ -12,18 +13,18 @@ report-requires-clause-steps c =
 
 pub report-requires-clause-texts : goal.report-requires-clause-texts
 report-requires-clause-texts c =
-    let (working, none, steps, alone, legal) = c.in-Ok.ensures in
+    let (working, none, steps, legal) = c.in-Ok.ensures in
     printed_lines c.args.p.now c.args.w.now (record { config = c.in-Ok.finished.machine.config; steps = steps }) legal
 
 pub returns-in_ok-report-in-Ok-clause-answer : goal.returns-in_ok-report-in-Ok-clause-answer
 returns-in_ok-report-in-Ok-clause-answer c =
-    let (working, none, steps, alone, legal) = c.in-Ok.ensures in
+    let (working, none, steps, legal) = c.in-Ok.ensures in
     let v = c.args.v in
     let w = c.args.w.now in
     let config = c.in-Ok.finished.machine.config in
     c.in_ok-report-in-Ok.ensures.answer
     ∙ ap (λ fs. told_in c.args.format v w (record { config = config; steps = fs })) none
-    ∙ sym (reported_alone c.args.format v w config steps alone)
+    ∙ sym (reported_bare c.args.format v w config steps (none_alone steps (alone_run c.args.p.now w (record { config = config; steps = steps }) c.requires.alone legal)))
     ∙ sym (ap (λ r. told (told_in c.args.format v w) (in_text v w r)) legal)
 
 pub on_line-requires-clause-there : goal.on_line-requires-clause-there

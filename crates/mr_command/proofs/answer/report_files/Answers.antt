@@ -1,5 +1,6 @@
 use Rattle.std.proofs.Common.{[], ◌∙◌}
 use Rattle.mr_command.proofs.TextLaws.{rose_in_all, run_over, unread_over, was_read}
+use Rattle.mr_command.proofs.TraceRuns.{spelled_program, unspelled}
 use Rattle.mr_command.proofs.answer.report_files.Goals as goal
 
 pub returns-in-Ok-clause-texts : goal.returns-in-Ok-clause-texts
@@ -17,3 +18,11 @@ returns-in-Ok-clause-texts g c = λ untold.
 pub returns-in-Err-clause-texts : goal.returns-in-Err-clause-texts
 returns-in-Err-clause-texts g c = λ untold.
     let program = c.in-Err.ensures.texts untold in (program.0, [], unread_over c.args.format program.0 c.in-Err.refusal _ program.1)
+
+pub returns-in-Ok-clause-spelled : goal.returns-in-Ok-clause-spelled
+returns-in-Ok-clause-spelled g c = λ contents told p r is unbroken spells.
+    spelled_program c.args.format c.in-Ok.p p r.schedule _ _ _ c.report_program.result (c.in-Ok.ensures.read contents told) is unbroken
+    (c.report_program.ensures.spelled contents (c.in-Ok.ensures.same ∙ told) r spells)
+
+pub returns-in-Err-clause-spelled : goal.returns-in-Err-clause-spelled
+returns-in-Err-clause-spelled g c = λ contents told p r is unbroken spells. unspelled c.args.format p r.schedule c.in-Err.refusal

@@ -2,7 +2,7 @@ use Rattle.std.proofs.Common.{◌≤◌, ◌+◌, List, length, arith, sym, ◌�
 use Rattle.mr_event.specs.declared.footprint.Footprint.{Footprint}
 use Rattle.mr_command.specs.Running.{ran_by}
 use Rattle.mr_command.proofs.PrintedLaws.{printed_lines}
-use Rattle.mr_command.proofs.ReorderedLaws.{legal_run_is, no_races, order_legal, shuffled_many}
+use Rattle.mr_command.proofs.ReorderedLaws.{legal_run_is, no_races, order_same, shuffled_many}
 use Rattle.mr_command.proofs.StepCount.{steps_within}
 use Rattle.mr_command.proofs.reordered.shuffled_run.Goals as goal
 
@@ -30,5 +30,11 @@ run_again-requires-clause-few c =
 pub run_again-requires-clause-legal : goal.run_again-requires-clause-legal
 run_again-requires-clause-legal c =
     let none = no_races c.in_ok-races.races.items c.in_ok-races.races.len c.is_empty.result c.in_ok-races.races.ok.0 c.is_empty.ensures c.if-not-is_empty.false in
-    order_legal c.args.p.now c.program-program.result.now c.args.w.now c.in_ok-order.order (ran_by c.args.finished.now) c.as_slice-steps.result.now c.args.number c.requires.legal c.as_slice-steps.ensures.value
-    c.program-program.ensures.same c.program-program.ensures.well_formed (sym c.in_ok-races.ensures ∙ none) c.in_ok-order.ensures.same
+    (order_same c.args.p.now c.program-program.result.now c.args.w.now c.in_ok-order.order (ran_by c.args.finished.now) c.as_slice-steps.result.now c.args.number c.requires.legal c.as_slice-steps.ensures.value
+    c.program-program.ensures.same c.program-program.ensures.well_formed (sym c.in_ok-races.ensures ∙ none) c.in_ok-order.ensures.same).legal
+
+pub run_again-requires-clause-silent : goal.run_again-requires-clause-silent
+run_again-requires-clause-silent c =
+    let none = no_races c.in_ok-races.races.items c.in_ok-races.races.len c.is_empty.result c.in_ok-races.races.ok.0 c.is_empty.ensures c.if-not-is_empty.false in
+    (order_same c.args.p.now c.program-program.result.now c.args.w.now c.in_ok-order.order (ran_by c.args.finished.now) c.as_slice-steps.result.now c.args.number c.requires.legal c.as_slice-steps.ensures.value
+    c.program-program.ensures.same c.program-program.ensures.well_formed (sym c.in_ok-races.ensures ∙ none) c.in_ok-order.ensures.same).no_race
