@@ -68,6 +68,7 @@ looked_up (entry ∷ entries) text = if bytes_eq text entry.0 then Some entry.1 
 abbrev pub edition_words : Table ℕ
 edition_words = (codes "1", 1) ∷ (codes "2", 2) ∷ []
 
+-- an edition is 1 or 2
 abbrev pub IsEdition : ℕ → Type 0
 IsEdition n = (n ≡ 1) ⊎ (n ≡ 2)
 

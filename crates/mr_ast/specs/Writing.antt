@@ -27,6 +27,7 @@ pub data Kind : Type 0 where
   ThePlace : Bool → Kind
   TheValue : Kind
 
+-- what is read by a form of this kind
 abbrev pub Meaning : Kind → Type 0
 Meaning TheType = Ty
 Meaning TheTree = Tree
@@ -50,9 +51,11 @@ fine (Some i) = Some (i, None)
 abbrev pub limit : ℕ → Bool → Option ℕ
 limit code broken = if broken then Some code else None
 
+-- the text is this word
 abbrev pub is_word : List ℕ → List ℕ → Bool
 is_word word text = bytes_eq text word
 
+-- the text is another than this word
 abbrev pub other_than : List ℕ → List ℕ → Bool
 other_than word text = not (bytes_eq text word)
 
@@ -64,6 +67,7 @@ word text = Cases (λ scope w. fine (if bytes_eq w.text text then Some tt else N
 abbrev pub limited_word : ℕ → Bool → List ℕ → Writing (Unit {0})
 limited_word code over text = Cases (λ scope w. if bytes_eq w.text text then Some (tt, limit code over) else None) Empty
 
+-- what the form writes, seen by a function
 abbrev pub giving : {A B : Type 0} → (A → B) → Writing A → Writing B
 giving f a = Then (λ (u : Unit {0}) x. f x) (Empty tt) a
 
@@ -80,6 +84,7 @@ a ◂ text = Then (λ x u. x) a (word text)
 abbrev pub ◌▪◌ : {A B : Type 0} → Writing A → Writing B → Writing (A × B)
 a ▪ b = Then (λ x y. (x, y)) a b
 
+-- what stands within a pair of brackets
 abbrev pub within : {A : Type 0} → Bracket → Writing A → Writing A
 within bracket a = Within false bracket a
 
@@ -114,6 +119,7 @@ judged_repeat =
 unfoldable pub judged_any : Word → Judged ℕ
 judged_any = judged_number (λ n. Some None)
 
+-- any number but 0
 unfoldable pub judged_positive : Word → Judged ℕ
 judged_positive = judged_number (λ n. if n == 0 then None else Some None)
 
@@ -121,12 +127,15 @@ judged_positive = judged_number (λ n. if n == 0 then None else Some None)
 abbrev pub token : {I : Type 0} → (Word → Judged I) → Writing I
 token judge = Cases (λ scope. judge) Empty
 
+-- a number below 2^64
 abbrev pub u64_form : Writing ℕ
 u64_form = token judged_u64
 
+-- a number that isn't negative
 abbrev pub plus : ℕ → Num
 plus n = record { neg = false; mag = n }
 
+-- a number with a minus
 abbrev pub minus : ℕ → Num
 minus n = record { neg = true; mag = n }
 
@@ -142,6 +151,7 @@ judged_name over role scope w =
     (let found = name_number scope role w in Some (found.0, if over then Some 8 else found.1))
     else None
 
+-- a name in this role, which is one too many where over holds
 abbrev pub name_form : Bool → Role → Writing ℕ
 name_form over role = Cases (judged_name over role) Empty
 
@@ -149,12 +159,15 @@ name_form over role = Cases (judged_name over role) Empty
 abbrev pub local_use : Writing LocalName
 local_use = giving (λ n. record { 0 = n }) (name_form false UsesLocal)
 
+-- the name of a block, where it is used
 abbrev pub block_use : Writing BlockName
 block_use = giving (λ n. record { 0 = n }) (name_form false UsesBlock)
 
+-- the name of a function, where it is used
 abbrev pub function_use : Writing FnName
 function_use = giving (λ n. record { 0 = n }) (name_form false UsesFunction)
 
+-- the name of a global, where it is used
 abbrev pub global_use : Writing GlobalName
 global_use = giving (λ n. record { 0 = n }) (name_form false UsesGlobal)
 
@@ -162,11 +175,14 @@ global_use = giving (λ n. record { 0 = n }) (name_form false UsesGlobal)
 unfoldable pub judged_target : Scope → Word → Judged Target
 judged_target scope w = if is_name w.text then Some (name_target scope w) else None
 
+-- the name of a function or of a global, where a pointer to it is used
 abbrev pub target_use : Writing Target
 target_use = Cases judged_target Empty
 
+-- a word that is an integer type
 unfoldable pub judged_int : Word → Judged IntType
 judged_int w = fine (looked_up int_words w.text)
 
+-- an integer type
 abbrev pub int_form : Writing IntType
 int_form = token judged_int

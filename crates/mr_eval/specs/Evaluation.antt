@@ -55,6 +55,7 @@ abbrev pub elements : Ty-F Ty Variant → Option (ℕ × ℕ)
 elements (Ty-F.Array count elem) = Some (count, size_of elem)
 elements _ = None
 
+-- how many elements an array has and how large each is, where the type is known and is one of an array
 abbrev pub elements_in : Option Ty → Option (ℕ × ℕ)
 elements_in None = None
 elements_in (Some t) = elements (out-Ty t)
@@ -103,6 +104,7 @@ union_layer (Ty-F.Union size align fields chunks) n v =
     option_map (λ f. chunks_in chunks (with_range_replaced (blank size) f.0 (encoding_of f.1 v))) (slice_get fields n)
 union_layer _ n v = None
 
+-- the value of a union whose field of this number is written, and nothing else of it
 abbrev pub union_of : Ty → ℕ → Val → ReadScript Val
 union_of t n v = do
   bytes ← or_ill_formed (union_layer (out-Ty t) n v)
@@ -115,10 +117,12 @@ discriminant_layer (Ty-F.Enum size align disc variants tree) p = do
   Done (val.Int (bits_of_number disc n))
 discriminant_layer _ p = IllFormed
 
+-- the discriminant of the enum at the pointer, whose type is to be known
 abbrev pub discriminant_at : Option Ty → Pointer → ReadScript Val
 discriminant_at None p = IllFormed
 discriminant_at (Some t) p = discriminant_layer (out-Ty t) p
 
+-- what a load of the type gives, which is to be known
 abbrev pub loaded : Option Ty → Pointer → ReadScript Val
 loaded None p = IllFormed
 loaded (Some t) p = loading t p
@@ -180,6 +184,7 @@ value_step s (Value-F.Binary op left right) = do
 unfoldable pub place_script : Surround → Place → ReadScript Pointer
 place_script s = para-Place (ReadScript Pointer) (ReadScript Val) (place_step s) (value_step s)
 
+-- what a value comes to: each place and value below it is evaluated first, in written order
 unfoldable pub value_script : Surround → Value → ReadScript Val
 value_script s = para-Value (ReadScript Pointer) (ReadScript Val) (place_step s) (value_step s)
 

@@ -47,6 +47,7 @@ reading_part (Ask q k) = Ask (Reading q) (λ x. reading_part (k x))
 abbrev pub next_id : Tally → AllocId
 next_id n = record { thread = n.thread; count = n.count }
 
+-- the pointer to an address, with the provenance of an allocation
 abbrev pub pointer_to : AllocId → ℕ → Pointer
 pointer_to id addr = record { addr = addr; prov = Some id }
 

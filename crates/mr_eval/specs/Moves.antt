@@ -6,6 +6,7 @@ use Rattle.mr_base.specs.declared.reason.Reason.TheVariants.{OffsetOverflow}
 use Rattle.mr_script.specs.Script.{Done, Undefined, Ask}
 use Rattle.mr_eval.specs.Reads.{Check, ReadScript}
 
+-- the pointer at another address, with its provenance
 abbrev pub at_address : Pointer → ℕ → Pointer
 at_address p addr = record { addr = addr; prov = p.prov }
 
@@ -17,6 +18,7 @@ behind p n = at_address p ((p.addr + n) % 2 ^ 64)
 abbrev pub lower : Pointer → ℤ → ℤ → Pointer
 lower p n to = if int_lt n (pos 0) then at_address p (unsigned_abs to) else p
 
+-- the pointer moved by n bytes to where it comes; all bytes between are to be in bounds of its allocation
 abbrev pub moved_to : Pointer → ℤ → ℤ → ReadScript Pointer
 moved_to p n to =
     if int_le (pos 0) to && int_lt to (pos (2 ^ 64))

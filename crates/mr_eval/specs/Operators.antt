@@ -37,6 +37,7 @@ use Rattle.mr_eval.specs.Moves.{behind, moved}
 
 -- ---- the parts of operands
 
+-- what is there, and no rule where it isn't
 abbrev pub or_ill_formed : {A : Type 0} → Option A → ReadScript A
 or_ill_formed None = IllFormed
 or_ill_formed (Some x) = Done x
@@ -53,13 +54,16 @@ abbrev pub index_in : Val-F Val → Option ℕ
 index_in (Val-F.Int n) = if nat_lt n (2 ^ 64) then Some n else None
 index_in _ = None
 
+-- the index that a value is
 abbrev pub index_of_value : Val → ReadScript ℕ
 index_of_value v = or_ill_formed (index_in (out-Val v))
 
+-- the pointer that the outermost layer of a value is
 abbrev pub pointer_in : Val-F Val → Option Pointer
 pointer_in (Val-F.Ptr p) = Some p
 pointer_in _ = None
 
+-- the pointer that a value is
 abbrev pub pointer_of_value : Val → ReadScript Pointer
 pointer_of_value v = or_ill_formed (pointer_in (out-Val v))
 
@@ -114,6 +118,7 @@ kind_of binary.WrappingOffset = Wrapping
 
 -- ---- results
 
+-- the result, or the program is undefined for the reason
 abbrev pub or_reason : {A : Type 0} → Result A Reason → ReadScript A
 or_reason (Ok x) = Done x
 or_reason (Err r) = Undefined r
@@ -186,25 +191,30 @@ operated Wrapping left right a b = do
   n ← or_ill_formed (right_in I64 b)
   Done (val.Ptr (behind p n))
 
+-- what an operator comes to with two operands and the types that are known of them
 abbrev pub binary_of : BinaryOp → Option Ty → Option Ty → Val → Val → ReadScript Val
 binary_of op left right a b = operated (kind_of op) (integer_told left) (integer_told right) (out-Val a) (out-Val b)
 
 -- ---- operators with one operand
 
+-- what an operator makes of the bits of an integer
 abbrev pub unary_bits : UnaryOp → IntType → ℕ → ℕ
 unary_bits unary.Neg int n = negate_of int n
 unary_bits unary.Not int n = invert_of int n
 
+-- what an operator makes of a bool
 abbrev pub unary_bool : UnaryOp → Bool → ReadScript Val
 unary_bool unary.Neg b = IllFormed
 unary_bool unary.Not b = Done (val.Bool (not b))
 
+-- what an operator makes of the outermost layer of a value
 abbrev pub unary_in : UnaryOp → Option IntType → Val-F Val → ReadScript Val
 unary_in op t (Val-F.Int n) =
     or_ill_formed (integer_like (Val-F.Int n) t) >>= λ int. Done (val.Int (unary_bits op int n))
 unary_in op t (Val-F.Bool b) = unary_bool op b
 unary_in op t _ = IllFormed
 
+-- what an operator comes to with one operand and the type that is known of it
 abbrev pub unary_of : UnaryOp → Option Ty → Val → ReadScript Val
 unary_of op t v = unary_in op (integer_told t) (out-Val v)
 
@@ -215,5 +225,6 @@ cast_layer to t v = do
   bits ← or_ill_formed (bits_in v)
   Done (val.Int (cast_of from to bits))
 
+-- the value as an integer of another type
 abbrev pub cast_value : IntType → Option Ty → Val → ReadScript Val
 cast_value to t v = cast_layer to (integer_told t) (out-Val v)

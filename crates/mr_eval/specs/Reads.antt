@@ -17,11 +17,13 @@ pub data ReadQuery : Type 0 where
   Refer : (p : Pointer) (len : ℕ) → ReadQuery
   Read : (atomic : Bool) (p : Pointer) (len align : ℕ) → ReadQuery
 
+-- what is answered to each query: the bytes of a read, and nothing of a check
 abbrev pub ReadReply : ReadQuery → Type 0
 ReadReply (Check p len) = Unit {0}
 ReadReply (Refer p len) = Unit {0}
 ReadReply (Read atomic p len align) = List AbstractByte
 
+-- a script of what reads memory and changes nothing
 abbrev pub ReadScript : Type 0 → Type 0
 ReadScript A = Script ReadQuery ReadReply A
 
@@ -32,6 +34,7 @@ pub record Seen : Type 0 where
   pub accesses : List Access
   pub touched : List AllocId
 
+-- the allocation, where there is one
 abbrev pub ids : Option AllocId → List AllocId
 ids None = []
 ids (Some id) = id ∷ []
@@ -45,11 +48,13 @@ abbrev pub accessing : Bool → Bool → Pointer → ℕ → List Access
 accessing store atomic p len =
     if len == 0 then [] else (record { store = store; atomic = atomic; addr = p.addr; len = len }) ∷ []
 
+-- with these accesses and touched allocations behind those so far
 abbrev pub seeing : List Access → List AllocId → Seen → Seen
 seeing accesses touched s = record { accesses = s.accesses ++ accesses; touched = s.touched ++ touched }
 
 -- ---- what memory answers
 
+-- what goes on behind an answer of memory, or its reason
 abbrev pub answered : {X A S : Type 0} → Result X Reason → (X → Outcome A S) → Outcome A S
 answered (Ok x) f = f x
 answered (Err r) f = Refused r

@@ -30,18 +30,22 @@ use Rattle.mr_eval.specs.Moves.{behind}
 abbrev pub Targets : Type 0
 Targets = List (Pointer × ℕ)
 
+-- what finds the references in a value
 abbrev pub Finder : Type 0
 Finder = Val → Targets
 
+-- the references in the fields of a tuple, by the finder of each
 abbrev pub field_targets : List (ℕ × (Ty × Finder)) → List Val → Targets
 field_targets [] vs = []
 field_targets (f ∷ fields) [] = []
 field_targets (f ∷ fields) (v ∷ vs) = f.1.1 v ++ field_targets fields vs
 
+-- the references in the elements of an array
 abbrev pub element_targets : Finder → List Val → Targets
 element_targets find [] = []
 element_targets find (v ∷ vs) = find v ++ element_targets find vs
 
+-- the references in the value of the variant with this number
 abbrev pub variant_targets : List (Variant × Finder) → Num → Val → Targets
 variant_targets [] n v = []
 variant_targets (w ∷ variants) n v = if same_num w.0.number n then w.1 v else variant_targets variants n v
@@ -51,10 +55,12 @@ abbrev pub pointed : ℕ → Val-F Val → Targets
 pointed size (Val-F.Ptr p) = (p, size) ∷ []
 pointed size _ = []
 
+-- the references in the parts of a value that has parts
 abbrev pub in_parts : (List Val → Targets) → Val-F Val → Targets
 in_parts find (Val-F.Tuple vs) = find vs
 in_parts find _ = []
 
+-- the references in a value that is a variant
 abbrev pub in_variant : (Num → Val → Targets) → Val-F Val → Targets
 in_variant find (Val-F.Variant n v) = find n v
 in_variant find _ = []
@@ -116,6 +122,7 @@ loading t p = Ask (Read false p (size_of t) (align_of t)) (meant InvalidValue t)
 abbrev pub Search : Type 0
 Search = Pointer → ReadScript Num
 
+-- the search of the case with this number, or that of the rest
 abbrev pub case_search : Num → List (Num × Search) → Search → Search
 case_search n [] rest = rest
 case_search n (c ∷ cases) rest = if same_num c.0 n then c.1 else case_search n cases rest

@@ -38,11 +38,13 @@ use Rattle.mr_frame.specs.Sites.{Site, kept_locals}
 
 -- ---- which function is called
 
+-- both have the same allocation, or neither has one
 abbrev pub same_provenance : Option AllocId → Option AllocId → Bool
 same_provenance None None = true
 same_provenance (Some a) (Some b) = is_same_id a b
 same_provenance _ _ = false
 
+-- they have the same address and provenance
 abbrev pub same_pointer : Pointer → Pointer → Bool
 same_pointer p q = (p.addr == q.addr) && same_provenance p.prov q.prov
 
@@ -135,6 +137,7 @@ enter_with number fn types vs picks = do
   _ ← store_each (behind_first types) (behind_first ps) vs
   Done (first_frame number fn ps)
 
+-- the first frame of a function, where the types of what it keeps are known and it begins with a regular block
 abbrev pub enter_at : ℕ → Function → Option (List Ty) → List Val → List ℕ → MemoryScript Frame
 enter_at number fn None vs picks = IllFormed
 enter_at number fn (Some types) vs picks =
@@ -164,12 +167,14 @@ call_plan s site place number fn vs (Some types) =
     })
     else Undefined SignatureMismatch
 
+-- the call of the function of this number, which is to be there
 abbrev pub call_function : Look → Stack → Site → Option (List Ty) → Pointer → List Val → ℕ → Option Function
     → ReadScript (Plan (MemoryScript Onward))
 call_function look s site given place vs number None = IllFormed
 call_function look s site given place vs number (Some fn) =
     call_plan s site place number fn vs (both_there given (kept_types fn))
 
+-- the call of a function of the program; what has no number is none
 abbrev pub call_number : Look → Stack → Site → Option (List Ty) → Pointer → List Val → Option ℕ
     → ReadScript (Plan (MemoryScript Onward))
 call_number look s site given place vs None = Undefined NotAFunction
@@ -201,6 +206,7 @@ pub record Targets : Type 0 where
   pub next : Option BlockName
   pub unwind : Option BlockName
 
+-- where a call goes on behind the return, and where behind unwinding
 abbrev pub targets_in : Term → Option Targets
 targets_in (term.Call callee args place next unwind) = Some (record { next = next; unwind = unwind })
 targets_in _ = None
@@ -210,10 +216,12 @@ abbrev pub targets_at : Option Block → Option Targets
 targets_at None = None
 targets_at (Some b) = targets_in b.term
 
+-- the same of the terminator of the block in which a frame of the function stands
 abbrev pub targets_in_function : Frame → Option Function → Option Targets
 targets_in_function f None = None
 targets_in_function f (Some fn) = targets_at (slice_get fn.blocks f.block)
 
+-- the same of a frame
 abbrev pub targets_of : Look → Frame → Option Targets
 targets_of look f = targets_in_function f (slice_get look.program.functions f.function)
 
@@ -232,6 +240,7 @@ give_result s caller below (Some t) v (Some b) (Some place) =
     store t place v >>= λ _. Done (GoesOn (with_top s below (at_block caller b.0)))
 give_result s caller below _ v (Some b) _ = IllFormed
 
+-- the result is stored where the call's terminator says, and the caller goes on
 abbrev pub give_to : Stack → Frame → List Frame → Option Ty → Val → Option Targets → MemoryScript Onward
 give_to s caller below t v None = IllFormed
 give_to s caller below t v (Some targets) = give_result s caller below t v targets.next caller.call
@@ -264,6 +273,7 @@ unwind_to s site caller below None = Undefined NoUnwindBlock
 unwind_to s site caller below (Some b) =
     free_each site.function.locals site.frame.locals >>= λ _. Done (GoesOn (with_top s below (at_block caller b.0)))
 
+-- unwinding goes on where the call's terminator says
 abbrev pub unwind_in : Stack → Site → Frame → List Frame → Option Targets → MemoryScript Onward
 unwind_in s site caller below None = IllFormed
 unwind_in s site caller below (Some targets) = unwind_to s site caller below targets.unwind

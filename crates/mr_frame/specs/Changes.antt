@@ -66,6 +66,7 @@ validate_at p t = do
   v ← reading_part (loading t p)
   store t p v
 
+-- the value at a place is loaded and stored back
 abbrev pub validate : Surround → Place → Change
 validate s place = do
   p ← reading_part (place_script s place)
@@ -89,6 +90,7 @@ write_tags p (tag ∷ tags) = do
   _ ← write (behind p tag.at) (tag_bytes tag) 1
   write_tags p tags
 
+-- the tags of the variant are written, where the type has it
 abbrev pub write_found : Pointer → Option (List Tag) → Change
 write_found p None = IllFormed
 write_found p (Some tags) = write_tags p tags

@@ -48,11 +48,13 @@ pub record DueDo : Type 0 where
   pub place : Option Place
   pub next : BlockName
 
+-- the intrinsic that is due at a site, where one is
 abbrev pub do_due : Site → Option Due → Option DueDo
 do_due site (Some (AtDo op args place next)) =
     Some (record { site = site; op = op; args = args; place = place; next = next })
 do_due site _ = None
 
+-- the same where a thread stands
 abbrev pub do_at : Option Site → Option DueDo
 do_at None = None
 do_at (Some site) = do_due site (due_of site)

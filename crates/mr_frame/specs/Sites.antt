@@ -72,11 +72,13 @@ site_in p f below fn (Some b) =
     then Some (record { function = fn; block = b; frame = f; below = below })
     else None
 
+-- where a frame of the function stands, which is to keep its storage and to be at a block of it
 abbrev pub site_of_frame : Program → Frame → List Frame → Option Function → Option Site
 site_of_frame p f below None = None
 site_of_frame p f below (Some fn) =
     if keeps_storage fn f then site_in p f below fn (slice_get fn.blocks f.block) else None
 
+-- where the frame on top stands
 abbrev pub site_of_frames : Look → List Frame → Option Site
 site_of_frames look [] = None
 site_of_frames look (f ∷ below) =

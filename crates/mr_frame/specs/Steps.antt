@@ -60,6 +60,7 @@ dead s site x (Some l) (Some storage) =
     free_storage l.ty storage >>= λ _. Done (next s site (with_storage site.frame x None))
 dead s site x _ _ = IllFormed
 
+-- the step of a statement
 abbrev pub statement : Look → Stack → Site → Stmt → FramePlan
 statement look s site (stmt.Live x) =
     live s site x.0 (slice_get site.function.locals x.0) (slice_get site.frame.locals x.0)
@@ -70,6 +71,7 @@ statement look s site changes =
 
 -- ---- terminators
 
+-- the step of a terminator
 abbrev pub terminator : Look → ℕ → Stack → Site → Term → FramePlan
 terminator look thread s site (term.Goto b) = plain (Done (goes_to s site b.0))
 terminator look thread s site (term.Switch value cases other) =
@@ -88,12 +90,14 @@ terminator look thread s site (term.Do op args place next) = IllFormed
 
 -- ---- the step
 
+-- the step of what is due: a statement, or a terminator that is no intrinsic
 abbrev pub plan_due : Look → ℕ → Stack → Site → Option Due → FramePlan
 plan_due look thread s site None = IllFormed
 plan_due look thread s site (Some (AtStatement stmt)) = statement look s site stmt
 plan_due look thread s site (Some (AtTerminator term)) = terminator look thread s site term
 plan_due look thread s site (Some (AtDo op args place next)) = IllFormed
 
+-- the step of a thread that stands at a site; it has none elsewhere
 abbrev pub plan_at : Look → ℕ → Stack → Option Site → FramePlan
 plan_at look thread s None = IllFormed
 plan_at look thread s (Some site) = plan_due look thread s site (due_of site)

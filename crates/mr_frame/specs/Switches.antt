@@ -22,6 +22,7 @@ number_layer (Ty-F.Int int) (Val-F.Int bits) = Some (number_of_bits int bits)
 number_layer Ty-F.Bool (Val-F.Bool b) = Some (record { neg = false; mag = if b then 1 else 0 })
 number_layer _ _ = None
 
+-- the number that a value of the type is for a switch
 abbrev pub number_as : Option Ty → Val → Option Num
 number_as None v = None
 number_as (Some t) v = number_layer (out-Ty t) (out-Val v)

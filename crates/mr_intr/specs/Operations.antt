@@ -58,18 +58,22 @@ on_memory script = instant (memory_part script)
 abbrev pub found : {A : Type 0} → Option A → StepScript A
 found o = memory_part (reading_part (or_ill_formed o))
 
+-- the bits of an integer
 abbrev pub number_in : Val-F Val → Option ℕ
 number_in (Val-F.Int bits) = Some bits
 number_in _ = None
 
+-- the truth of a bool
 abbrev pub truth_in : Val-F Val → Option Bool
 truth_in (Val-F.Bool b) = Some b
 truth_in _ = None
 
+-- the pointer that a value is
 abbrev pub pointer_in : Val-F Val → Option Pointer
 pointer_in (Val-F.Ptr p) = Some p
 pointer_in _ = None
 
+-- the integer type that a type is
 abbrev pub int_in : Ty-F Ty Variant → Option IntType
 int_in (Ty-F.Int int) = Some int
 int_in _ = None
@@ -78,6 +82,7 @@ int_in _ = None
 abbrev pub number : Val → StepScript ℕ
 number v = found (number_in (out-Val v))
 
+-- the pointer that an argument is
 abbrev pub pointer : Val → StepScript Pointer
 pointer v = found (pointer_in (out-Val v))
 
@@ -87,6 +92,7 @@ pointer v = found (pointer_in (out-Val v))
 abbrev pub assuming : Bool → StepScript Result
 assuming b = if b then Done None else Undefined AssumeFalse
 
+-- it does nothing where the argument is true, and else the program is undefined
 abbrev pub assume : Val → Operation
 assume v = instant (found (truth_in (out-Val v)) >>= assuming)
 
@@ -110,6 +116,7 @@ allocating size align =
     (with_pick (Address size align) (λ a. Asks (OfMemory (Allocate Heap size align a)) (λ p. Done (Some (val.Ptr p)))))
     else Undefined BadAlign)
 
+-- an allocation on the heap of a size and an alignment, at an address that is picked
 abbrev pub allocate : Val → Val → Operation
 allocate size align = do
   s ← number size
@@ -143,6 +150,7 @@ acquire lock = instant (number lock >>= λ l. Asks (TryLock l) (λ has. Done Non
 abbrev pub unlocking : ℕ → Option ℕ → StepScript Result
 unlocking l to = Asks (Unlock l to) (λ _. Done None)
 
+-- a lock is given back, to a waiter that is picked where threads wait for it
 abbrev pub releasing : ℕ → Bool → Plan (StepScript Result)
 releasing l true = with_pick (Waiter l) (λ u. unlocking l (Some u))
 releasing l false = record { creates = CreatesNothing; asks = []; go = λ picks. unlocking l None }

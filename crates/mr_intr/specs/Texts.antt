@@ -16,6 +16,7 @@ use Rattle.mr_eval.specs.Reads.{ReadScript}
 abbrev pub number_text : Num → List ℕ
 number_text n = if n.neg then 45 ∷ decimal n.mag else decimal n.mag
 
+-- a bool as text
 abbrev pub bool_text : Bool → List ℕ
 bool_text b = if b then codes "true" else codes "false"
 

@@ -18,6 +18,7 @@ pub record Fault : Type 0 where
   pub code : ℕ
   pub earlier : Option AllocId
 
+-- a broken rule of which no earlier allocation is told
 abbrev pub fault : ℕ → Option Fault
 fault code = Some (record { code = code; earlier = None })
 
@@ -55,10 +56,12 @@ abbrev pub status_fault : Option Status → Option Fault
 status_fault (Some Enabled) = None
 status_fault _ = fault 60
 
+-- how many allocations a thread made so far
 abbrev pub count_of : {L : Type 0} → Option (Thread L) → ℕ
 count_of None = 0
 count_of (Some th) = th.count
 
+-- the first rule that the picks break, given what the step needs: of threads and locks, then of each pick
 abbrev pub needs_fault : Shared → ℕ → ℕ → Needs → List ℕ → Option Fault
 needs_fault s t count n picks =
     else_fault (creation_fault s n.creates) (picks_fault s.statuses (ranges_of s.memory) t count n.asks picks)

@@ -39,6 +39,7 @@ pub record Thread (L : Type 0) : Type 0 where
   pub own : L
   pub count : ℕ
 
+-- what the threads share, and each thread
 pub record State (L : Type 0) : Type 0 where
   pub shared : Shared
   pub threads : List (Thread L)
@@ -50,9 +51,11 @@ pub data Bare (L : Type 0) : Type 0 where
   Stops : Verdict → Bare L
   IllFormedStep : Bare L
 
+-- a thread with its own state that made so many allocations
 abbrev pub thread_of : {L : Type 0} → L → ℕ → Thread L
 thread_of own count = record { own = own; count = count }
 
+-- the thread that a step started, which made no allocation yet
 abbrev pub started_threads : {L : Type 0} → Option L → List (Thread L)
 started_threads None = []
 started_threads (Some new) = thread_of new 0 ∷ []
@@ -61,6 +64,7 @@ started_threads (Some new) = thread_of new 0 ∷ []
 abbrev pub exit_verdict : Shared → Verdict
 exit_verdict s = if leaks s.memory then verdict.Leak else verdict.Exit
 
+-- the state behind a step that went on, and the verdict behind one that ended the run
 abbrev pub settle : {L : Type 0} → State L → ℕ → Flow L → Shared × Notes → Bare L
 settle s t (Goes own started) w =
     Completed w.1
@@ -71,11 +75,13 @@ settle s t (Goes own started) w =
 settle s t Exits w = Stops (exit_verdict w.0)
 settle s t Aborts w = Stops verdict.Abort
 
+-- the same of an outcome, which may be that the program is undefined or that there is no rule
 abbrev pub settled : {L : Type 0} → State L → ℕ → Outcome (Flow L) (Shared × Notes) → Bare L
 settled s t (Went f w) = settle s t f w
 settled s t (Refused r) = Stops (verdict.Undefined r)
 settled s t Broken = IllFormedStep
 
+-- the step of a thread with these picks
 abbrev pub acted : {L : Type 0} → Language L → State L → ℕ → List ℕ → Option (Thread L) → Bare L
 acted step s t picks None = IllFormedStep
 acted step s t picks (Some th) =
@@ -92,14 +98,17 @@ pub record Needs : Type 0 where
   pub creates : Creation
   pub asks : List Ask
 
+-- a step that makes no thread and no lock and asks for nothing
 abbrev pub no_needs : Needs
 no_needs = record { creates = CreatesNothing; asks = [] }
 
+-- what a plan needs; what has no plan needs nothing
 abbrev pub needs_of : {A : Type 0} → Outcome (Plan A) (Shared × Notes) → Needs
 needs_of (Went plan w) = record { creates = plan.creates; asks = plan.asks }
 needs_of (Refused r) = no_needs
 needs_of Broken = no_needs
 
+-- what the next step of a thread needs
 abbrev pub needed : {L : Type 0} → Language L → State L → ℕ → Option (Thread L) → Needs
 needed step s t None = no_needs
 needed step s t (Some th) = needs_of (run answer (step.next th.own) (s.shared, start_notes t th.count))

@@ -28,6 +28,7 @@ pub record Config (L : Type 0) : Type 0 where
   pub completed : ℕ
   pub verdict : Verdict
 
+-- a text that a thread printed
 abbrev pub printed_by : ℕ → List ℕ → Printed
 printed_by t text = record { thread = t; text = text }
 
@@ -48,6 +49,7 @@ verdict_after last f s =
 abbrev pub foot_in : {L : Type 0} → Language L → Notes → State L → Footprint
 foot_in step n s = foot_of step.edition s.shared.memory n
 
+-- where the machine stands behind a step that completed, that stopped the run, or that has no rule
 abbrev pub after_bare : {L : Type 0} → Language L → Config L → Bare L → Config L
 after_bare step c (Completed n s) = record {
   state = Some s;
@@ -59,6 +61,7 @@ after_bare step c (Completed n s) = record {
 after_bare step c (Stops v) = record c { state = None; verdict = v }
 after_bare step c IllFormedStep = record c { state = None }
 
+-- the same behind the step of an entry, from a state; without a state nothing changes
 abbrev pub stepped_from : {L : Type 0} → Language L → Config L → ℕ → List ℕ → Option (State L) → Config L
 stepped_from step c t picks None = c
 stepped_from step c t picks (Some s) = after_bare step c (bare step s t picks)
@@ -67,6 +70,7 @@ stepped_from step c t picks (Some s) = after_bare step c (bare step s t picks)
 unfoldable pub machine_step : {L : Type 0} → Language L → Config L → Entry → Config L
 machine_step step c e = stepped_from step c e.thread e.picks c.state
 
+-- the run goes on
 abbrev pub is_running : Verdict → Bool
 is_running verdict.Running = true
 is_running verdict.Exit = false
@@ -75,6 +79,7 @@ is_running verdict.Abort = false
 is_running verdict.Deadlock = false
 is_running (verdict.Undefined r) = false
 
+-- the first rule that an entry breaks at a state; without a state no entry is legal (66)
 abbrev pub fault_in : {L : Type 0} → Language L → ℕ → List ℕ → Option (State L) → Option Fault
 fault_in step t picks None = fault 66
 fault_in step t picks (Some s) = state_fault step s t picks
@@ -93,11 +98,13 @@ abbrev pub AreLegal : {L : Type 0} → Language L → Config L → List Entry �
 AreLegal step c [] = Unit {0}
 AreLegal step c (e ∷ es) = (entry_fault step c e ≡ None) × AreLegal step (machine_step step c e) es
 
+-- the step has no rule
 abbrev pub is_ill_formed : {L : Type 0} → Bare L → Bool
 is_ill_formed (Completed n s) = false
 is_ill_formed (Stops v) = false
 is_ill_formed IllFormedStep = true
 
+-- the step of an entry has a rule
 abbrev pub has_rule : {L : Type 0} → Language L → ℕ → List ℕ → Option (State L) → Bool
 has_rule step t picks None = true
 has_rule step t picks (Some s) = not (is_ill_formed (bare step s t picks))
@@ -116,6 +123,7 @@ foot_of_bare step (Completed n s) = foot_in step n s ∷ []
 foot_of_bare step (Stops v) = []
 foot_of_bare step IllFormedStep = []
 
+-- the footprint of the step of an entry, where it completes
 abbrev pub foot_from : {L : Type 0} → Language L → ℕ → List ℕ → Option (State L) → List Footprint
 foot_from step t picks None = []
 foot_from step t picks (Some s) = foot_of_bare step (bare step s t picks)

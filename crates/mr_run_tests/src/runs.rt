@@ -245,3 +245,70 @@ fn runs_are_told(rt: HostRuntime) -> Result<(), Fail> {
     }
     Ok(())
 }
+
+// What the answers of a machine's steps come to: none of them found no memory; from one that found none on, all are refused as of a
+// machine that has failed; or another answer stands behind it.
+#[derive(Clone, Copy, Debug, PartialEq, Eq)]
+enum Lasting {
+    Whole,
+    Failed,
+    GoesOn,
+}
+
+// The same with one answer more.
+fn with(so_far: Lasting, answer: &Result<Turn, StepFault>) -> Lasting {
+    let is_lacking = matches!(answer, Err(StepFault::Memory));
+    let is_failed = matches!(answer, Err(StepFault::Failed));
+    match so_far {
+        Lasting::Whole if is_lacking => Lasting::Failed,
+        Lasting::Whole if is_failed => Lasting::GoesOn,
+        Lasting::Whole => Lasting::Whole,
+        Lasting::Failed if is_failed => Lasting::Failed,
+        Lasting::Failed | Lasting::GoesOn => Lasting::GoesOn,
+    }
+}
+
+// The same of a machine's steps under some entries.
+fn outcome(alloc: Global, machine: &mut Machine, entries: &[Entry]) -> Lasting {
+    let mut so_far = Lasting::Whole;
+    let mut foot = quiet(alloc, 0);
+    for entry in entries {
+        let answer = step(machine, entry, &mut foot, true);
+        so_far = with(so_far, &answer);
+    }
+    so_far
+}
+
+// The same of the run of a program from a start line, with entries of its own thread.
+fn outcome_of_run(alloc: Global, program: &str, schedule: &str) -> Result<Lasting, Fail> {
+    let program = checked(alloc, program)?;
+    let schedule = match mr_sched::read_version(alloc, schedule.as_bytes()) {
+        Ok(read) => read.schedule,
+        Err(_) => return Err("no schedule".into()),
+    };
+    match Machine::start(alloc, &program, schedule.start.as_slice()) {
+        Ok(mut machine) => Ok(outcome(alloc, &mut machine, schedule.entries.as_slice())),
+        Err(_) => Err("no start".into()),
+    }
+}
+
+// A run without end, which stores, loads, evaluates and prints.
+const ENDLESS: &str = "minirust 1
+global g align 8 { 8*4 }
+fn main() -> r {
+let r: unit, x: tuple size 8 align 4 { 0: u32, 4: u32 };
+b0 regular: live x; goto b1;
+b1 regular: x = tuple(tuple size 8 align 4 { 0: u32, 4: u32 }, load(deref(global g + 0, u32)), u32 7); do print(load(x.1), load(deref(global g + 4, u32))) to b1;
+}
+main main
+";
+
+// With memory enough no step fails. `.ci/refused` runs this with each allocation refused in turn: then the answers are never of
+// a machine that goes on.
+#[test]
+fn a_failed_machine_stays_failed(rt: HostRuntime) -> Result<(), Fail> {
+    let lines = "schedule 2\nstart 16 32 64\n0 8192\n0*20\n";
+    let answers = outcome_of_run(rt.alloc(), ENDLESS, lines)?;
+    assert_eq!(rt; answers, Lasting::Whole);
+    Ok(())
+}

@@ -12,6 +12,7 @@ use Rattle.mr_sched.specs.Spelling.{EntryFits, Fits, ended, entry_line, start_li
 abbrev pub has_no_pick : Entry → Bool
 has_no_pick e = length e.picks == 0
 
+-- in version 2 two entries of one thread without picks stand on one line
 abbrev pub are_together : Version → Entry → Entry → Bool
 are_together One e f = false
 are_together Two e f = (e.thread == f.thread) && (has_no_pick e && has_no_pick f)

@@ -8,6 +8,7 @@ pub data Script (Q : Type 0) (R : Q → Type 0) (A : Type 0) : Type 0 where
   IllFormed : Script Q R A
   Ask : (q : Q) → (R q → Script Q R A) → Script Q R A
 
+-- a script, and behind it another that is given what the first one came to
 infixl 10 ◌>>=◌
 abbrev pub ◌>>=◌ : {Q : Type 0} {R : Q → Type 0} {A B : Type 0} → Script Q R A → (A → Script Q R B) → Script Q R B
 Done a >>= f = f a

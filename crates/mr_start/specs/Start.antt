@@ -44,6 +44,7 @@ pub record Piece : Type 0 where
   pub size : ℕ
   pub align : ℕ
 
+-- the allocation of a global
 abbrev pub global_piece : Global_ → Piece
 global_piece g = record { kind = kind.Static; size = items_size g.items; align = g.align }
 
@@ -51,10 +52,12 @@ global_piece g = record { kind = kind.Static; size = items_size g.items; align =
 abbrev pub function_piece : Function → Piece
 function_piece f = record { kind = kind.Function; size = 1; align = 1 }
 
+-- the allocation of a local, where there is one
 abbrev pub local_piece : Option Local → List Piece
 local_piece None = []
 local_piece (Some l) = (record { kind = kind.Stack; size = size_of l.ty; align = align_of l.ty }) ∷ []
 
+-- the allocation of the returned local of the main function
 abbrev pub return_piece : Option Function → List Piece
 return_piece None = []
 return_piece (Some f) = local_piece (slice_get f.locals f.ret.0)
@@ -64,6 +67,7 @@ abbrev pub pieces : Program → List Piece
 pieces p =
     map function_piece p.functions ++ (map global_piece p.globals ++ return_piece (slice_get p.functions p.start.0))
 
+-- what the start asks for a piece: an address for its size and alignment
 abbrev pub ask_of : Piece → Ask
 ask_of piece = Address piece.size piece.align
 
@@ -88,6 +92,7 @@ placed m count (piece ∷ pieces) (addr ∷ picks) =
 placed m count [] picks = record { memory = m; pointers = [] }
 placed m count (piece ∷ pieces) [] = record { memory = m; pointers = [] }
 
+-- memory with all pieces at the picked addresses, and the pointers to them
 abbrev pub start_placed : Program → List ℕ → Placed
 start_placed p picks = placed fin.empty 0 (pieces p) picks
 
@@ -103,11 +108,13 @@ abbrev pub pointer_behind : Option Pointer → ℕ → Bytes
 pointer_behind None offset = blank 8
 pointer_behind (Some p) offset = pointer_bytes (behind p offset)
 
+-- the bytes of an item of a global, given the addresses of functions and globals
 abbrev pub item_bytes : List Pointer → List Pointer → Item_ → Bytes
 item_bytes functions globals (item.Byte b count) = replicate count (Init b None)
 item_bytes functions globals (item.Uninit count) = blank count
 item_bytes functions globals (item.Reloc to offset) = pointer_behind (target_of functions globals to) offset
 
+-- the bytes of a global
 abbrev pub global_bytes : List Pointer → List Pointer → List Item_ → Bytes
 global_bytes functions globals items = flat_map (item_bytes functions globals) items
 
@@ -156,6 +163,7 @@ abbrev pub start_locals : Option Function → Option Pointer → List (Option Po
 start_locals None p = []
 start_locals (Some f) p = slice_set (replicate (length f.locals) None) f.ret.0 p
 
+-- the first frame of the main function, whose returned local has storage
 abbrev pub start_frame : Program → Option Pointer → Frame
 start_frame p ret = record {
   function = p.start.0;

@@ -30,9 +30,11 @@ pub record Own : Type 0 where
 abbrev pub Turn : Type 0
 Turn = Flow Own
 
+-- what finds out what a step needs, and then takes it with the picks
 abbrev pub TurnPlan : Type 0
 TurnPlan = StepScript (Plan (StepScript Turn))
 
+-- the thread with another stack
 abbrev pub with_stack : Own → Stack → Own
 with_stack own s = record own { stack = s }
 
@@ -58,6 +60,7 @@ abbrev pub in_step : Own → Plan (MemoryScript Onward) → Plan (StepScript Tur
 in_step own plan =
     record { creates = plan.creates; asks = plan.asks; go = λ picks. memory_part (plan.go picks) >>= onward own }
 
+-- the step of a thread at a statement or a terminator
 abbrev pub frame_step : Look → Own → TurnPlan
 frame_step look own = reads (frame_plan look own.thread own.stack) >>= λ plan. Done (in_step own plan)
 
@@ -76,6 +79,7 @@ last_payload (p ∷ payloads) = instant (Done (Some (val.Ptr p)))
 abbrev pub unit : Ty
 unit = ty.Tuple 0 1 []
 
+-- the types of what a thread's function keeps: its result and its argument
 abbrev pub thread_types : List Ty
 thread_types = unit ∷ ty.Raw ∷ []
 
@@ -98,10 +102,12 @@ spawn_types own d o number fn argument (Some types) =
     then Done (record { creates = CreatesThread; asks = storage_asks types; go = start own d o number fn argument })
     else Undefined SignatureMismatch
 
+-- a thread is started with the function of this number, which is to be there
 abbrev pub spawn_function : Own → DueDo → Operands → ℕ → Val → Option Function → TurnPlan
 spawn_function own d o number argument None = IllFormed
 spawn_function own d o number argument (Some fn) = spawn_types own d o number fn argument (kept_types fn)
 
+-- the same of a function of the program; what has no number is none
 abbrev pub spawn_number : Look → Own → DueDo → Operands → Val → Option ℕ → TurnPlan
 spawn_number look own d o argument None = Undefined NotAFunction
 spawn_number look own d o argument (Some number) =
@@ -113,19 +119,23 @@ spawn look own d o (callee ∷ argument ∷ []) =
     pointer callee >>= λ c. spawn_number look own d o argument (callee_of look.functions c)
 spawn look own d o _ = IllFormed
 
+-- an operation, and then the thread goes on with its result
 abbrev pub finished : Own → DueDo → Operands → Operation → TurnPlan
 finished own d o operating = operating >>= λ plan. Done (planned plan (λ v. finishing own d o v None))
 
+-- the step of an intrinsic with its operands
 abbrev pub operated : Look → Own → DueDo → Operands → Intrinsic → TurnPlan
 operated look own d o intrinsic.Spawn = spawn look own d o o.args
 operated look own d o intrinsic.Payload = finished own d o (last_payload own.stack.payloads)
 operated look own d o op = finished own d o (operation op o.args o.arg_types o.result_type)
 
+-- the operands of an intrinsic are evaluated, and then its step is taken
 abbrev pub do_step : Look → Own → DueDo → TurnPlan
 do_step look own d = reads (operands look d) >>= λ o. operated look own d o d.op
 
 -- ---- the step
 
+-- the step of a thread: an intrinsic where one is due, and else that of its frame
 abbrev pub step_due : Look → Own → Option DueDo → TurnPlan
 step_due look own None = frame_step look own
 step_due look own (Some d) = do_step look own d

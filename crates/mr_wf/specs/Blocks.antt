@@ -34,6 +34,7 @@ use Rattle.mr_wf.specs.Broken.{where_both_typed, where_typed}
 abbrev pub is_kept : Function → LocalName → Bool
 is_kept f x = (x.0 == f.ret.0) || list_any (λ (y : LocalName). y.0 == x.0) f.args
 
+-- the rules that a statement breaks
 abbrev pub broken_in_stmt : Function → Surroundings → Stmt → Codes
 broken_in_stmt f at (stmt.Live x) = rule 38 (not (is_kept f x))
 broken_in_stmt f at (stmt.Dead x) = rule 38 (not (is_kept f x))
@@ -58,6 +59,7 @@ are_int_cases i (c ∷ cases) = is_fitting i c.0 && (not (is_case c.0 cases) && 
 abbrev pub is_bit : Num → Bool
 is_bit n = not n.neg && ((n.mag == 0) || (n.mag == 1))
 
+-- the cases of a switch on a bool: 0 and 1, each once
 abbrev pub are_bool_cases : List (Num × BlockName) → Bool
 are_bool_cases [] = true
 are_bool_cases (c ∷ cases) = is_bit c.0 && (not (is_case c.0 cases) && are_bool_cases cases)
@@ -68,11 +70,13 @@ fits_switch_layer cases (Ty-F.Int i) = are_int_cases i cases
 fits_switch_layer cases Ty-F.Bool = are_bool_cases cases
 fits_switch_layer cases _ = false
 
+-- the cases fit the type of what is switched on
 abbrev pub fits_switch : List (Num × BlockName) → Ty → Bool
 fits_switch cases t = fits_switch_layer cases (out-Ty t)
 
 -- ---- kinds of blocks
 
+-- they are blocks of one kind
 abbrev pub same_kind : BlockKind → BlockKind → Bool
 same_kind kind.Regular kind.Regular = true
 same_kind kind.Cleanup kind.Cleanup = true
@@ -128,6 +132,7 @@ abbrev pub where_result_typed : List Local → Option Place → (Option Ty → B
 where_result_typed locals None test = test None
 where_result_typed locals (Some place) test = where_typed (type_of_place locals place) (λ t. test (Some t))
 
+-- the rules that the place of a result breaks
 abbrev pub broken_in_result : Surroundings → Option Place → Codes
 broken_in_result at None = []
 broken_in_result at (Some place) = broken_in_place at place

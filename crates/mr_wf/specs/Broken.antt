@@ -57,6 +57,7 @@ item_size (item.Byte value repeat) = repeat
 item_size (item.Uninit repeat) = repeat
 item_size (item.Reloc to offset) = 8
 
+-- how many bytes the items of a global have
 abbrev pub items_size : List Item_ → ℕ
 items_size [] = 0
 items_size (i ∷ items) = item_size i + items_size items
@@ -76,6 +77,7 @@ pub record Surroundings : Type 0 where
   pub sizes : List ℕ
   pub locals : List Local
 
+-- what the rules of a function's places and values look at
 abbrev pub surroundings : Program → Function → Surroundings
 surroundings p f = record { sizes = sizes_of p.globals; locals = f.locals }
 
@@ -128,5 +130,6 @@ broken_value_step at (Value-F.Binary operator left right) =
 unfoldable pub broken_in_place : Surroundings → Place → Codes
 broken_in_place at = para-Place Codes Codes (broken_place_step at) (broken_value_step at)
 
+-- the rules that a value breaks, with those of all places and values in it
 unfoldable pub broken_in_value : Surroundings → Value → Codes
 broken_in_value at = para-Value Codes Codes (broken_place_step at) (broken_value_step at)

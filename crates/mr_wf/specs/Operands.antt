@@ -20,34 +20,43 @@ use Rattle.mr_wf.specs.Types.{field_type, integer_of, variant_type}
 
 -- ---- kinds of types
 
+-- the type is one of integers
 abbrev pub is_integer : Ty → Bool
 is_integer t = is_some (integer_of t)
 
+-- the outermost layer is bool
 abbrev pub is_bool_layer : Ty-F Ty Variant → Bool
 is_bool_layer Ty-F.Bool = true
 is_bool_layer _ = false
 
+-- the type is bool
 abbrev pub is_bool : Ty → Bool
 is_bool t = is_bool_layer (out-Ty t)
 
+-- the outermost layer is raw
 abbrev pub is_raw_layer : Ty-F Ty Variant → Bool
 is_raw_layer Ty-F.Raw = true
 is_raw_layer _ = false
 
+-- the type is that of raw pointers
 abbrev pub is_raw : Ty → Bool
 is_raw t = is_raw_layer (out-Ty t)
 
+-- the outermost layer is that of function pointers
 abbrev pub is_fn_ptr_layer : Ty-F Ty Variant → Bool
 is_fn_ptr_layer Ty-F.FnPtr = true
 is_fn_ptr_layer _ = false
 
+-- the type is that of function pointers
 abbrev pub is_fn_ptr : Ty → Bool
 is_fn_ptr t = is_fn_ptr_layer (out-Ty t)
 
+-- the outermost layer is that of references
 abbrev pub is_ref_layer : Ty-F Ty Variant → Bool
 is_ref_layer (Ty-F.Ref size align never) = true
 is_ref_layer _ = false
 
+-- the type is one of references
 abbrev pub is_ref : Ty → Bool
 is_ref t = is_ref_layer (out-Ty t)
 
@@ -89,6 +98,7 @@ operands_of binary.Offset = Moved
 operands_of binary.WrappingOffset = Moved
 operands_of _ = Integers
 
+-- the types are those of operands of this sort
 abbrev pub fit : Operands → Ty → Ty → Bool
 fit Integers left right = is_integer left && same_type left right
 fit Bitwise left right = is_scalar_number left && same_type left right
@@ -96,6 +106,7 @@ fit Shifted left right = is_integer left && is_integer right
 fit Compared left right = (is_scalar_number left || is_raw left) && same_type left right
 fit Moved left right = is_raw left && is_int I64 right
 
+-- the types fit the operator
 abbrev pub fits_binary : BinaryOp → Ty → Ty → Bool
 fits_binary op left right = fit (operands_of op) left right
 
@@ -118,6 +129,7 @@ fits_parts_layer (Ty-F.Tuple size align fields) types = match_fields fields type
 fits_parts_layer (Ty-F.Array count elem) types = (length types == count) && match_element elem types
 fits_parts_layer _ types = false
 
+-- values of these types make a value of the type
 abbrev pub fits_parts : Ty → List Ty → Bool
 fits_parts t types = fits_parts_layer (out-Ty t) types
 
@@ -126,6 +138,7 @@ abbrev pub is_type : Option Ty → Ty → Bool
 is_type None t = false
 is_type (Some u) t = same_type t u
 
+-- the outermost layer is a union
 abbrev pub is_union_layer : Ty-F Ty Variant → Bool
 is_union_layer (Ty-F.Union size align fields chunks) = true
 is_union_layer _ = false

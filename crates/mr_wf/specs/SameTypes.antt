@@ -13,6 +13,7 @@ use Rattle.mr_ast.specs.declared.types.Variant.{Variant, out-Variant}
 use Rattle.mr_ast.specs.Integers.{is_signed, int_size}
 use Rattle.mr_layout.specs.EnumRules.{same_num}
 
+-- both are true or both are false
 abbrev pub same_bool : Bool → Bool → Bool
 same_bool a b = if a then b else not b
 
@@ -20,11 +21,13 @@ same_bool a b = if a then b else not b
 abbrev pub same_int : IntType → IntType → Bool
 same_int i j = (int_size i == int_size j) && same_bool (is_signed i) (is_signed j)
 
+-- the same chunks in the same order
 abbrev pub same_chunks : List (ℕ × ℕ) → List (ℕ × ℕ) → Bool
 same_chunks [] [] = true
 same_chunks (c ∷ cs) (d ∷ ds) = (c.0 == d.0) && ((c.1 == d.1) && same_chunks cs ds)
 same_chunks _ _ = false
 
+-- the same tags in the same order
 abbrev pub same_tags : List Tag → List Tag → Bool
 same_tags [] [] = true
 same_tags (t ∷ ts) (u ∷ us) =
@@ -45,6 +48,7 @@ same_tree_layer (Tree-F.Branch at i cases other) (Tree-F.Branch at2 j cases2 oth
     (at == at2) && (same_int i j && (same_cases cases cases2 && other other2))
 same_tree_layer _ _ = false
 
+-- the trees are written alike
 unfoldable pub same_tree : Tree → Tree → Bool
 same_tree = fold-Tree (Tree → Bool) (λ layer u. same_tree_layer layer (out-Tree u))
 
@@ -78,6 +82,7 @@ same_layer (Ty-F.Enum size align disc variants tree) (Ty-F.Enum size2 align2 dis
     && ((align == align2) && (same_int disc disc2 && (same_variants variants variants2 && same_tree tree tree2)))
 same_layer _ _ = false
 
+-- variants with the same number, type and tags
 abbrev pub same_variant_layer : Variant-F (Ty → Bool) (Variant → Bool) → Variant-F Ty Variant → Bool
 same_variant_layer v w = same_num v.number w.number && (v.ty w.ty && same_tags v.tags w.tags)
 

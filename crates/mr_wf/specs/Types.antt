@@ -34,6 +34,7 @@ field_offset layer n = option_map (λ f. f.0) (field_part layer n)
 abbrev pub field_in : Ty-F Ty Variant → ℕ → Option Ty
 field_in layer n = option_map (λ f. f.1) (field_part layer n)
 
+-- the type of a field of a type that has fields
 abbrev pub field_type : Ty → ℕ → Option Ty
 field_type t n = field_in (out-Ty t) n
 
@@ -42,6 +43,7 @@ abbrev pub element_in : Ty-F Ty Variant → Option Ty
 element_in (Ty-F.Array count elem) = Some elem
 element_in _ = None
 
+-- the type of the elements of an array
 abbrev pub element_type : Ty → Option Ty
 element_type t = element_in (out-Ty t)
 
@@ -50,6 +52,7 @@ abbrev pub among : {A : Type 0} → (Variant → A) → List Variant → Num →
 among part [] n = None
 among part (v ∷ variants) n = if same_num v.number n then Some (part v) else among part variants n
 
+-- a part of the variant with this number, where the type is an enum that has it
 abbrev pub variant_part : {A : Type 0} → (Variant → A) → Ty-F Ty Variant → Num → Option A
 variant_part part (Ty-F.Enum size align disc variants tree) n = among part variants n
 variant_part part _ n = None
@@ -58,9 +61,11 @@ variant_part part _ n = None
 abbrev pub variant_among : List Variant → Num → Option Ty
 variant_among = among (λ v. v.ty)
 
+-- the type of that variant
 abbrev pub variant_in : Ty-F Ty Variant → Num → Option Ty
 variant_in = variant_part (λ v. v.ty)
 
+-- the type of the variant with this number
 abbrev pub variant_type : Ty → Num → Option Ty
 variant_type t n = variant_in (out-Ty t) n
 
@@ -68,6 +73,7 @@ variant_type t n = variant_in (out-Ty t) n
 abbrev pub tags_among : List Variant → Num → Option (List Tag)
 tags_among = among (λ v. v.tags)
 
+-- the tags of that variant
 abbrev pub tags_layer : Ty-F Ty Variant → Num → Option (List Tag)
 tags_layer = variant_part (λ v. v.tags)
 
@@ -76,6 +82,7 @@ abbrev pub discriminant_in : Ty-F Ty Variant → Option Ty
 discriminant_in (Ty-F.Enum size align disc variants tree) = Some (ty.Int disc)
 discriminant_in _ = None
 
+-- the type of an enum's discriminant
 abbrev pub discriminant_type : Ty → Option Ty
 discriminant_type t = discriminant_in (out-Ty t)
 
@@ -84,6 +91,7 @@ abbrev pub integer_in : Ty-F Ty Variant → Option IntType
 integer_in (Ty-F.Int i) = Some i
 integer_in _ = None
 
+-- the integer type that a type is
 abbrev pub integer_of : Ty → Option IntType
 integer_of t = integer_in (out-Ty t)
 
@@ -101,6 +109,7 @@ tells_overflow binary.SubOverflow = true
 tells_overflow binary.MulOverflow = true
 tells_overflow _ = false
 
+-- the operator compares
 abbrev pub compares : BinaryOp → Bool
 compares binary.Eq = true
 compares binary.Ne = true
@@ -123,6 +132,7 @@ result_type op left =
 
 -- ---- places and values
 
+-- what the function gives of what is there
 abbrev pub chained : {A B : Type 0} → Option A → (A → Option B) → Option B
 chained None f = None
 chained (Some x) f = f x
@@ -158,5 +168,6 @@ value_type_step (Value-F.Binary operator left right) = chained left (result_type
 unfoldable pub type_of_place : List Local → Place → Option Ty
 type_of_place locals = fold-Place (Option Ty) (Option Ty) (place_type_step locals) value_type_step
 
+-- the type of a value, where its parts have the types that it needs
 unfoldable pub type_of_value : List Local → Value → Option Ty
 type_of_value locals = fold-Value (Option Ty) (Option Ty) (place_type_step locals) value_type_step

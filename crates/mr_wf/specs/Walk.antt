@@ -43,6 +43,7 @@ is_target sizes (item.Uninit repeat) = true
 is_target sizes (item.Reloc (target.Global g) offset) = is_in_global sizes g.0 offset
 is_target sizes (item.Reloc (target.Function f) offset) = offset == 0
 
+-- a global has at most 2^20 bytes and a lawful alignment
 abbrev pub is_global_form : Global_ → Bool
 is_global_form g = nat_le (items_size g.items) (2 ^ 20) && is_align g.align
 
@@ -63,6 +64,7 @@ abbrev pub begins_regular : List Block → Bool
 begins_regular [] = false
 begins_regular (b ∷ blocks) = same_kind Regular b.kind
 
+-- the rules that a statement breaks, at its place in the block
 abbrev pub faults_in_stmt : ℕ → Function → Surroundings → Option BlockName → ℕ → Stmt → List FormFault
 faults_in_stmt n f at block place s = at_position (InFunction n) block place (broken_in_stmt f at s)
 
@@ -73,6 +75,7 @@ faults_in_block n f at k b =
     each_at (faults_in_stmt n f at block) 0 b.stmts
     ++ at_position (InFunction n) block (length b.stmts) (broken_in_term f at b.kind b.term)
 
+-- the rules that the type of a local breaks, at its place in the function
 abbrev pub faults_in_local : ℕ → ℕ → Local → List FormFault
 faults_in_local n place l = at_position (InFunction n) None place (of_type l.ty)
 
@@ -90,6 +93,7 @@ faults_in_function p n f =
 abbrev pub is_main_form : Program → Bool
 is_main_form p = elim (slice_get p.functions p.start.0) as (λ _. Bool) [ Some f ↦ length f.args == 0 | None ↦ false ]
 
+-- the rules that a global breaks
 abbrev pub faults_in_global : Program → ℕ → Global_ → List FormFault
 faults_in_global p n g = at_position (Static n) None 0 (broken_in_global (sizes_of p.globals) g)
 
