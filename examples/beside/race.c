@@ -1,0 +1,17 @@
+// The twin of ../race.mr: a reader that doesn't wait.
+#include "beside.h"
+uint32_t number;
+static void *reader(void *p) {
+  at(9);
+  uint32_t n = number; // step 9
+  print(n);
+  return p;
+}
+int main(void) {
+  pthread_t t;
+  begin(20);
+  pthread_create(&t, 0, reader, 0);
+  at(4);
+  number = 7; // step 4
+  pthread_join(t, 0);
+}
