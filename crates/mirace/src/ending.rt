@@ -33,7 +33,8 @@ pub fn run<C: Caller, F: Files, O: Sink>(
     out: &mut O,
 ) -> Ending
     ensures { IsEnd (C.says caller.now)
-        (IsDone (F.told files.old) (Rose (F.faults files.old) (F.faults files.new)) (Rose (O.faults out.old) (O.faults out.new))
+        (IsDone (F.told files.old) (Rose (F.faults files.old) (F.faults files.new))
+        (Rose (O.faults out.old) (O.faults out.new))
         (O.taken out.old) (O.taken out.new) (exit_status result.status))
         (O.taken out.old) (O.taken out.new) (exit_status result.status) }
 {

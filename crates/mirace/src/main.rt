@@ -44,27 +44,32 @@ pub fn mirace<F: Files, O: Sink>(alloc: Global, words: &[String], files: &mut F,
         (Rose (O.faults out.old) (O.faults out.new)) (O.taken out.old) (O.taken out.new) result }
 
     // The headline.
-    ensures headline { (contents : Contents) (format : Format) (p : Program) (v : Version) (w : Recorded) → F.told files.old ≡ Some contents
+    ensures headline { (contents : Contents) (format : Format) (p : Program) (v : Version) (w : Recorded)
+        → F.told files.old ≡ Some contents
         → Names contents (command_of (map string_bytes words.now)) format p v w
         → IsOfMachine format p v w (Rose (F.faults files.old) (F.faults files.new))
         (Rose (O.faults out.old) (O.faults out.new)) (O.taken out.old) (O.taken out.new) result }
 
     // What is promised beside it of runs, of texts and of traces (`specs/Promises.antt` of `mr_command`).
     ensures runs { (contents : Contents) → F.told files.old ≡ Some contents
-        → PromisesOfRuns contents (command_of (map string_bytes words.now)) (Rose (F.faults files.old) (F.faults files.new))
+        → PromisesOfRuns contents (command_of (map string_bytes words.now))
+        (Rose (F.faults files.old) (F.faults files.new))
         (Rose (O.faults out.old) (O.faults out.new)) (O.taken out.old) (O.taken out.new) result }
     ensures texts { (contents : Contents) → F.told files.old ≡ Some contents
-        → PromisesOfTexts contents (command_of (map string_bytes words.now)) (Rose (F.faults files.old) (F.faults files.new))
+        → PromisesOfTexts contents (command_of (map string_bytes words.now))
+        (Rose (F.faults files.old) (F.faults files.new))
         (Rose (O.faults out.old) (O.faults out.new)) (O.taken out.old) (O.taken out.new) result }
     ensures traces { (contents : Contents) → F.told files.old ≡ Some contents
-        → PromisesOfTraces contents (command_of (map string_bytes words.now)) (Rose (F.faults files.old) (F.faults files.new))
+        → PromisesOfTraces contents (command_of (map string_bytes words.now))
+        (Rose (F.faults files.old) (F.faults files.new))
         (Rose (O.faults out.old) (O.faults out.new)) (O.taken out.old) (O.taken out.new) result }
 
     // A schedule is drawn for the program of a number, whatever the files are; its summary is written.
     ensures big { (number : ℕ) → command_of (map string_bytes words.now) ≡ Some (Big number)
         → IsSoundUnder (generated number) (big_schedule number)
         × (IsLeft (O.taken out.old) (O.taken out.new) result
-        ⊎ IsWritten (big_answer number) (Rose (O.faults out.old) (O.faults out.new)) (O.taken out.old) (O.taken out.new) result) }
+        ⊎ IsWritten (big_answer number) (Rose (O.faults out.old) (O.faults out.new))
+        (O.taken out.old) (O.taken out.new) result) }
     ensures grows { (number : ℕ) → command_of (map string_bytes words.now) ≡ Some (Big number)
         → ¬ Rose (O.faults out.old) (O.faults out.new) → (result ≤ 1) ⊎ (result ≡ 8) }
 
@@ -73,7 +78,8 @@ pub fn mirace<F: Files, O: Sink>(alloc: Global, words: &[String], files: &mut F,
     ensures usage { command_of (map string_bytes words.now) ≡ None
         → IsWritten usage (Rose (O.faults out.old) (O.faults out.new)) (O.taken out.old) (O.taken out.new) result }
     ensures no_usage { result ≡ 2 → command_of (map string_bytes words.now) ≡ None }
-    ensures read_fault { result ≡ 6 → IsUnreadBecause (Rose (F.faults files.old) (F.faults files.new)) (F.told files.old) (command_of (map string_bytes words.now)) }
+    ensures read_fault { result ≡ 6 → IsUnreadBecause (Rose (F.faults files.old) (F.faults files.new))
+        (F.told files.old) (command_of (map string_bytes words.now)) }
     ensures write_fault { result ≡ 7 → Rose (O.faults out.old) (O.faults out.new) }
     ensures memory { result ≡ 8 → O.taken out.new ≡ O.taken out.old }
     ensures same { F.told files.new ≡ F.told files.old }

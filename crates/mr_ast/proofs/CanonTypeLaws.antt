@@ -102,7 +102,3 @@ pub words_enum : (size align : ℕ) (disc : IntType) (variants : List Variant) (
 words_enum size align disc variants t =
     ap words_of_type (sym (ty.rolls-Enum size align disc variants t)) ∙ words_roll (Ty-F.Enum size align disc variants t)
     ∙ ap (λ rows. codes "enum" ∷ shape_words size align ++ codes "disc" ∷ int_word disc ∷ braced rows ++ words_of_tree t) (variants_are variants)
-
-pub ruleset words_of_tree_laws = (words_known, words_invalid, words_branch)
-
-pub ruleset words_of_type_laws = (words_int_type, words_bool, words_raw_type, words_fn_ptr, words_ref, words_tuple_type, words_array, words_union_type, words_enum)

@@ -92,5 +92,3 @@ module _ (names : NameTexts) where
 
   pub words_binary : (o : BinaryOp) (a : Value) (b : Value) → words_of_value names (value.Binary o a b) ≡ binary_word o ∷ codes "(" ∷ words_of_value names a ++ codes "," ∷ words_of_value names b ++ codes ")" ∷ []
   words_binary o a b = ap (words_of_value names) (sym (value.rolls-Binary o a b)) ∙ value_roll (Value-F.Binary o a b)
-
-pub ruleset words_of_value_laws = (words_local, words_deref, words_field, words_index, words_variant_place, words_int, words_true, words_false, words_raw, words_fn, words_global, words_tuple, words_union, words_variant, words_load, words_disc, words_addr_of, words_cast, words_transmute, words_unary, words_binary)

@@ -1,7 +1,9 @@
 -- How statements, terminators, functions, globals and whole programs are written.
 use Rattle.std.specs.Prelude.{ℕ, suc, Bool, false, ◌||◌, nat_le, if◌then◌else◌, List, ◌∷◌, codes, Option, None, Some}
 use Rattle.std.specs.Prelude.{option_map, is_some}
+use Rattle.mr_ast.specs.Limits.{max_blocks, max_items, max_stmts}
 use Rattle.mr_ast.specs.declared.types.Num.{Num}
+use Rattle.mr_ast.specs.declared.expr.Place.{Place}
 use Rattle.mr_ast.specs.declared.expr.Value.{Value}
 use Rattle.mr_ast.specs.declared.program.LocalName.{LocalName}
 use Rattle.mr_ast.specs.declared.program.BlockName.{BlockName}
@@ -39,18 +41,34 @@ use Rattle.mr_ast.specs.Writing.{other_than, separated, target_use, token, u64_f
 unfoldable pub judged_stmt : Bool → Word → Judged StmtWord
 judged_stmt over w = option_map (λ s. (s, limit 8 over)) (looked_up stmt_words w.text)
 
--- a statement that sets a discriminant
-unfoldable pub disc_form : Writing Stmt
-disc_form = Then (λ p n. stmt.Disc p n) (Part (ThePlace false)) (codes "=" ▸ num_form)
+-- what stands behind the word of a statement, and what is made of it: a local, a place, or a place with a number
+pub data StmtShape : Type 0 where
+  OfLocal : (LocalName → Stmt) → StmtShape
+  OfPlace : (Place → Stmt) → StmtShape
+  OfNumber : (Place → Num → Stmt) → StmtShape
+
+-- a place, and behind `=` a number
+unfoldable pub numbered_form : (Place → Num → Stmt) → Writing Stmt
+numbered_form make = Then make (Part (ThePlace false)) (codes "=" ▸ num_form)
+
+-- how a shape is written
+abbrev pub stmt_shape_form : StmtShape → Writing Stmt
+stmt_shape_form (OfLocal make) = giving make local_use
+stmt_shape_form (OfPlace make) = giving make (Part (ThePlace false))
+stmt_shape_form (OfNumber make) = numbered_form make
+
+-- the shape behind each word
+abbrev pub stmt_shape : StmtWord → StmtShape
+stmt_shape stmt_word.Live = OfLocal (λ x. stmt.Live x)
+stmt_shape stmt_word.Dead = OfLocal (λ x. stmt.Dead x)
+stmt_shape stmt_word.Mention = OfPlace (λ p. stmt.Mention p)
+stmt_shape stmt_word.Disc = OfNumber (λ p n. stmt.Disc p n)
+stmt_shape stmt_word.Deinit = OfPlace (λ p. stmt.Deinit p)
+stmt_shape stmt_word.Validate = OfPlace (λ p. stmt.Validate p)
 
 -- what stands behind the word of a statement
 abbrev pub stmt_behind : StmtWord → Writing Stmt
-stmt_behind stmt_word.Live = giving stmt.Live local_use
-stmt_behind stmt_word.Dead = giving stmt.Dead local_use
-stmt_behind stmt_word.Mention = giving stmt.Mention (Part (ThePlace false))
-stmt_behind stmt_word.Disc = disc_form
-stmt_behind stmt_word.Deinit = giving stmt.Deinit (Part (ThePlace false))
-stmt_behind stmt_word.Validate = giving stmt.Validate (Part (ThePlace false))
+stmt_behind word = stmt_shape_form (stmt_shape word)
 
 -- whether a word begins a statement that is no assignment
 abbrev pub is_stmt_word : List ℕ → Bool
@@ -67,7 +85,7 @@ assign_form over = Then (λ p v. stmt.Assign p v) (Part (ThePlace over)) (codes 
 -- the statement of number k in a block, of which there may be 4,096
 unfoldable pub stmt_form : ℕ → Writing Stmt
 stmt_form k =
-    let over = nat_le 4096 k in
+    let over = nat_le max_stmts k in
     Either is_stmt_word (Cases (λ scope. judged_stmt over) stmt_behind) (assign_form over) ◂ codes ";"
 
 -- a number of a switch, and where it leads
@@ -148,13 +166,13 @@ stmts_form = Many begins_stmt stmt_form
 unfoldable pub block_form : ℕ → Writing Block
 block_form k =
     Then (λ head body. record { name = head.0; kind = head.1; stmts = body.0; term = body.1 })
-    (name_form (nat_le 1024 k) (DefinesBlock k) ▪ token judged_kind) (codes ":" ▸ stmts_form ▪ term_form)
+    (name_form (nat_le max_blocks k) (DefinesBlock k) ▪ token judged_kind) (codes ":" ▸ stmts_form ▪ term_form)
 
 -- the local of number k in a function, of which there may be 256
 unfoldable pub local_form : ℕ → Writing Local
 local_form k =
     Then (λ name t. record { name = name; ty = t })
-    (name_form (nat_le 256 k) (DefinesLocal k)) (codes ":" ▸ Part TheType)
+    (name_form (nat_le max_items k) (DefinesLocal k)) (codes ":" ▸ Part TheType)
 
 -- the locals of a function
 unfoldable pub locals_form : Writing (List Local)
@@ -193,7 +211,7 @@ inside_function k scope = record { known = scope.known; function = k }
 -- the function of number k, of which there may be 256
 unfoldable pub function_form : ℕ → Writing Function
 function_form k =
-    codes "fn" ▸ Then with_name (name_form (nat_le 256 k) (DefinesFunction k)) (In (inside_function k) body_form)
+    codes "fn" ▸ Then with_name (name_form (nat_le max_items k) (DefinesFunction k)) (In (inside_function k) body_form)
 
 -- a repeat, which is 1 where none is written
 unfoldable pub repeat_form : Writing ℕ
@@ -232,7 +250,7 @@ items_form = Many (other_than (codes "}")) (λ k. item_form)
 unfoldable pub global_form : ℕ → Writing Global_
 global_form k =
     codes "global" ▸ Then (λ head items. record { name = head.0; align = head.1; items = items })
-    (name_form (nat_le 256 k) (DefinesGlobal k) ▪ codes "align" ▸ u64_form) (within Curly items_form)
+    (name_form (nat_le max_items k) (DefinesGlobal k) ▪ codes "align" ▸ u64_form) (within Curly items_form)
 
 -- a program without its names
 pub record ProgramBody : Type 0 where

@@ -2,6 +2,7 @@
 -- within the limits. Each program that a text denotes is shaped.
 use Rattle.std.specs.Prelude.{◌≡◌, ℕ, ◌<◌, ◌≤◌, ◌^◌, Bool, true, ◌&&◌, nat_lt, length, All, Option, None, Some}
 use Rattle.std.specs.List.{AllPass, list_all}
+use Rattle.mr_ast.specs.Limits.{max_blocks, max_items, max_size, max_stmts}
 use Rattle.mr_ast.specs.declared.types.Num.{Num}
 use Rattle.mr_ast.specs.declared.expr.Place.{Place}
 use Rattle.mr_ast.specs.declared.program.LocalName.{LocalName}
@@ -90,7 +91,7 @@ IsText p n = n < length p.names
 -- how often an item stands in a row
 pub record IsRepeat (n : ℕ) : Type 0 where
   pub some : 1 ≤ n
-  pub bounded : n ≤ 2 ^ 20
+  pub bounded : n ≤ max_size
 
 -- what an item points to is one of the program's globals or functions
 abbrev pub IsTarget : Program → Target → Type 0
@@ -119,7 +120,7 @@ pub record ShapedBlock (p : Program) (f : Function) (b : Block) : Type 0 where
   pub name : IsText p b.name
   pub stmts : AllPass (is_shaped_stmt (named_in p f)) b.stmts
   pub term : is_shaped_term (named_in p f) b.term ≡ true
-  pub few_stmts : length b.stmts ≤ 4096
+  pub few_stmts : length b.stmts ≤ max_stmts
 
 -- a function's name is held, its arguments and its return local are locals of its own, it begins at a first block, and
 -- it keeps the limits
@@ -130,8 +131,8 @@ pub record ShapedFunction (p : Program) (f : Function) : Type 0 where
   pub locals : All (ShapedLocal p) f.locals
   pub blocks : All (ShapedBlock p f) f.blocks
   pub has_start : 0 < length f.blocks
-  pub few_locals : length f.locals ≤ 256
-  pub few_blocks : length f.blocks ≤ 1024
+  pub few_locals : length f.locals ≤ max_items
+  pub few_blocks : length f.blocks ≤ max_blocks
 
 -- a program of an edition that there is, whose globals and functions are shaped, whose start is one of its
 -- functions, and which keeps the limits
@@ -140,5 +141,5 @@ pub record Shaped (p : Program) : Type 0 where
   pub globals : All (ShapedGlobal p) p.globals
   pub functions : All (ShapedFunction p) p.functions
   pub start : p.start.0 < length p.functions
-  pub few_globals : length p.globals ≤ 256
-  pub few_functions : length p.functions ≤ 256
+  pub few_globals : length p.globals ≤ max_items
+  pub few_functions : length p.functions ≤ max_items

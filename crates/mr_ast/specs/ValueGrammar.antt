@@ -1,6 +1,7 @@
 -- How places and values are written.
 use Rattle.std.specs.Prelude.{ℕ, Bool, false, ◌||◌, nat_le, if◌then◌else◌, List, codes, Option, None, Some}
 use Rattle.std.specs.List.{fold}
+use Rattle.mr_ast.specs.Limits.{max_open}
 use Rattle.mr_ast.specs.declared.types.Num.{Num}
 use Rattle.mr_ast.specs.declared.expr.Place.{Place}
 use Rattle.mr_ast.specs.declared.expr.Place.TheVariants as place
@@ -32,10 +33,10 @@ with_postfix p (ByVariant n) = place.Variant p n
 abbrev pub begins_postfix : List ℕ → Bool
 begins_postfix text = is_word (codes ".") text || (is_word (codes "[") text || is_word (codes "@") text)
 
--- the postfix of number k on a place, of which there may be 32
+-- the postfix of number k on a place, of which there may be as many as brackets may be open
 unfoldable pub postfix_form : ℕ → Writing Postfix
 postfix_form k =
-    let over = nat_le 32 k in
+    let over = nat_le max_open k in
     Either (is_word (codes "[")) (giving ByIndex (Within over Square (Part TheValue)))
     (Either (is_word (codes ".")) (Then (λ u n. ByField n) (limited_word 7 over (codes ".")) u64_form)
     (Then (λ u n. ByVariant n) (limited_word 7 over (codes "@")) num_form))

@@ -1,6 +1,7 @@
 -- The pieces of the grammar: words, names, numbers, lists.
 use Rattle.std.specs.Prelude.{ℕ, ◌^◌, Bool, true, false, not, ◌&&◌, ◌==◌, nat_lt, nat_le, if◌then◌else◌, List, [], ◌∷◌}
 use Rattle.std.specs.Prelude.{codes, bytes_eq, Option, None, Some, option_map}
+use Rattle.mr_ast.specs.Limits.{max_size}
 use Rattle.mr_ast.specs.declared.types.IntType.{IntType}
 use Rattle.mr_ast.specs.declared.types.Num.{Num}
 use Rattle.mr_ast.specs.declared.types.Tree.{Tree}
@@ -113,7 +114,7 @@ judged_u64 = judged_number (λ n. Some (limit 2 (not (nat_lt n (2 ^ 64)))))
 unfoldable pub judged_repeat : Word → Judged ℕ
 judged_repeat =
     judged_number
-    (λ n. if nat_lt n (2 ^ 64) then (if nat_lt 0 n && nat_le n (2 ^ 20) then Some None else None) else Some (Some 2))
+    (λ n. if nat_lt n (2 ^ 64) then (if nat_lt 0 n && nat_le n max_size then Some None else None) else Some (Some 2))
 
 -- any number, and any but 0
 unfoldable pub judged_any : Word → Judged ℕ

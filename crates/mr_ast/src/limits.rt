@@ -15,6 +15,6 @@ pub const MAX_OPEN: u32 = 32;
 /// The greatest alignment.
 pub const MAX_ALIGN: u64 = 4096;
 
-/// The greatest size of a type in bytes, the greatest count of an array, the longest text, and how often an item may be
+/// The greatest size of a type and of a global in bytes, the greatest count of an array, and how often an item may be
 /// repeated.
 pub const MAX_SIZE: u64 = 0x10_0000;

@@ -1,8 +1,7 @@
 -- The whole draw: its start line, and the run that the entries behind it are drawn in.
-use Rattle.std.proofs.Common.{◌≡◌, ℕ, ◌+◌, ◌<◌, ◌≤◌, ◌^◌, refl, sym, ap, ap₂, ◌∙◌, arith, List, [], ◌∷◌, map, Some, None}
+use Rattle.std.proofs.Common.{◌≡◌, ℕ, ◌+◌, ◌<◌, ◌≤◌, ◌^◌, refl, sym, ap, ap₂, ◌∙◌, subst, arith, List, [], ◌∷◌, map, Some, None}
 use Rattle.mr_ast.specs.declared.program.Program.{Program}
 use Rattle.mr_base.specs.declared.thread.Status.TheVariants.{Enabled}
-use Rattle.mr_event.specs.declared.footprint.Footprint.{Footprint}
 use Rattle.mr_plan.specs.Legal.{Fault}
 use Rattle.mr_plan.specs.Runs.{after, feet}
 use Rattle.mr_sched.specs.Chooser.{first_chooser}
@@ -12,13 +11,15 @@ use Rattle.mr_sched.specs.declared.schedule.Entry.{Entry}
 use Rattle.mr_sched.specs.declared.schedule.Schedule.{Schedule}
 use Rattle.mr_thread.specs.Steps.{thread_step}
 use Rattle.mr_wf.specs.Walk.{WellFormed}
-use Rattle.mr_start.specs.Start.{Piece, ask_of, look_of, pieces, run_of, start_config, start_fault, steps_of}
+use Rattle.mr_run.specs.Runs.{IsRun}
+use Rattle.mr_start.specs.Start.{Legal, Piece, ask_of, look_of, pieces, run_of, start_config, start_fault, steps_of}
 use Rattle.mr_start.proofs.StartSound.{start_look, start_sound}
 use Rattle.mr_step.specs.Answers.{standing}
 use Rattle.mr_step.specs.Standing.{Standing}
-use Rattle.mr_auto.specs.Answers.{AreAddresses, IsRunOf}
+use Rattle.mr_auto.specs.Answers.{AreAddresses}
 use Rattle.mr_auto.specs.Drawing.{Picked, drawn_schedule, picked, schedule_from, start_picked}
-use Rattle.mr_auto.specs.Drawn.{BeginsDrawing, DrawnAfter}
+use Rattle.mr_auto.specs.Drawn.{BeginsDrawing, DrawnAfter, drawn_from_here}
+use Rattle.mr_auto.proofs.LegalRuns.{schedule_legal}
 use Rattle.mr_auto.proofs.StartFound.{start_found}
 use Rattle.mr_auto.proofs.Starts.{start_legal, start_lies}
 
@@ -64,17 +65,23 @@ module _ (p : Program) (number : ℕ) where
     unfolding start_config
     completed_none most few = omega arith
 
-    module _ (most : ℕ) (new : Standing) (es : List Entry) (steps : List Footprint) (h : DrawnAfter most (standing p r.picks) r.chooser new [] es [] steps) where
+    module _ (most : ℕ) (new : Standing) (es : List Entry) (h : DrawnAfter most (standing p r.picks) r.chooser new [] es) where
       -- the entries behind the start line are those of the definition
       pub drawn_is : with_entries r.picks es ≡ drawn_schedule p number most
       unfolding drawn_schedule
       drawn_is = ap (with_entries r.picks) h.entries ∙ sym (ap (schedule_from p most) e)
 
-      -- and the machine is where the run under them ends
-      pub drawn_run : IsRunOf p (with_entries r.picks es) new steps
-      unfolding run_of steps_of
-      drawn_run = record {
+      -- the machine is where the run under them ends
+      pub drawn_run : WellFormed p → IsRun p (with_entries r.picks es) new
+      unfolding run_of
+      drawn_run well = record {
+        legal = subst (λ (w : Schedule). Legal p w) (sym drawn_is) (schedule_legal p number most well);
         working = h.working;
+        look = h.look;
         config = h.config ∙ ap (after (thread_step (look_of p r.picks)) (start_config p r.picks)) (sym h.entries);
-        are = h.joined ∙ ap (feet (thread_step (look_of p r.picks)) (start_config p r.picks)) (sym h.entries);
       }
+
+      -- and their steps are those of the run
+      pub drawn_steps : feet (thread_step (look_of p r.picks)) (start_config p r.picks) (drawn_from_here most (standing p r.picks) r.chooser) ≡ steps_of p (with_entries r.picks es)
+      unfolding steps_of
+      drawn_steps = ap (feet (thread_step (look_of p r.picks)) (start_config p r.picks)) (sym h.entries)

@@ -1,9 +1,9 @@
 -- Drawing one entry more.
-use Rattle.std.proofs.Common.{◌≡◌, ℕ, suc, ◌+◌, ◌-◌, ◌<◌, ◌≤◌, refl, sym, ap, ◌∙◌, subst, arith, List, [], ◌∷◌, ◌++◌, append-nil, append_assoc, Bool, true, false, not, Option, Some, None}
+use Rattle.std.proofs.Common.{◌≡◌, ℕ, suc, ◌+◌, ◌-◌, ◌<◌, ◌≤◌, refl, sym, ap, ◌∙◌, subst, arith, List, [], ◌∷◌, ◌++◌, length, length-append, append-nil, append_assoc, Bool, true, false, not, Option, Some, None}
 use Rattle.std.specs.Prelude.{slice_get, if◌then◌else◌}
 use Rattle.mr_base.specs.declared.reason.Verdict.{Verdict}
 use Rattle.mr_base.specs.declared.reason.Verdict.TheVariants as verdict
-use Rattle.mr_event.specs.declared.footprint.Footprint.{Footprint}
+use Rattle.mr_event.specs.Footprint.{Footprint}
 use Rattle.mr_mem.specs.Memory.{leaks}
 use Rattle.mr_sched.specs.declared.chooser.Chooser.{Chooser}
 use Rattle.mr_sched.specs.declared.schedule.Entry.{Entry}
@@ -17,7 +17,9 @@ use Rattle.mr_frame.specs.Frames.{Look}
 use Rattle.mr_thread.specs.Steps.{Own, thread_step}
 use Rattle.mr_start.specs.Start.{program_fault, program_step}
 use Rattle.mr_step.specs.Standing.{Standing}
-use Rattle.mr_auto.specs.Answers.{HasState, Made, NextAnswer}
+use Rattle.mr_run.specs.Runs.{IsMade, foot_by}
+use Rattle.mr_run.proofs.EntryLaws.{one_foot}
+use Rattle.mr_auto.specs.Answers.{HasState, NextAnswer}
 use Rattle.mr_auto.specs.Drawing.{Next, drawn_entries, led, next_at}
 use Rattle.mr_auto.specs.Drawn.{BeginsDrawing, DrawnAfter, drawn_from_here}
 use Rattle.mr_auto.proofs.Steps.{drawn_at, next_legal, next_lies, next_sound}
@@ -77,51 +79,57 @@ feet_more step c (d ∷ es) e =
 
 -- ---- entries that were drawn so far
 
-pub record DrawnSo (most i : ℕ) (old : Standing) (first : Chooser) (m : Standing) (c : Chooser) (was is : List Entry) (feet_were feet_are : List Footprint) : Type 0 where
+pub record DrawnSo (most i : ℕ) (old : Standing) (first : Chooser) (m : Standing) (c : Chooser) (was is : List Entry) (steps : List Footprint) : Type 0 where
   pub begins : BeginsDrawing m c
   pub es : List Entry
   pub look : m.look ≡ old.look
   pub rest : drawn_entries old.look most old.config first ≡ es ++ drawn_entries old.look (most - i) m.config c
   pub entries : is ≡ was ++ es
   pub config : m.config ≡ after (thread_step old.look) old.config es
-  pub joined : feet_are ≡ feet_were ++ feet (thread_step old.look) old.config es
+  pub are : steps ≡ feet (thread_step old.look) old.config es
   pub few : m.config.completed ≤ old.config.completed + i
+  pub room : length steps ≤ i
 
-pub so_begins : (most : ℕ) (old : Standing) (first : Chooser) (was : List Entry) (feet_were : List Footprint) → BeginsDrawing old first → DrawnSo most 0 old first old first was was feet_were feet_were
-so_begins most old first was feet_were begins = record {
+pub so_begins : (most : ℕ) (old : Standing) (first : Chooser) (was : List Entry) → BeginsDrawing old first → DrawnSo most 0 old first old first was was []
+so_begins most old first was begins = record {
   begins = begins;
   es = [];
   look = refl;
   rest = ap (λ n. drawn_entries old.look n old.config first) (omega arith);
   entries = sym (append-nil was);
   config = refl;
-  joined = sym (append-nil feet_were);
+  are = refl;
   few = omega arith;
+  room = omega arith;
 }
 
-module _ (most i : ℕ) (old : Standing) (first : Chooser) (m : Standing) (c : Chooser) (was is : List Entry) (feet_were feet_are : List Footprint) (so : DrawnSo most i old first m c was is feet_were feet_are) where
-  -- nothing more is drawn
-  pub so_ends : drawn_entries old.look (most - i) m.config c ≡ [] → DrawnAfter most old first m was is feet_were feet_are
-  so_ends none =
-      let all : so.es ≡ drawn_from_here most old first = sym (so.rest ∙ ap (λ l. so.es ++ l) none ∙ append-nil so.es) in
-      record {
-        entries = so.entries ∙ ap (λ l. was ++ l) all;
-        working = so.begins.working;
-        config = so.config ∙ ap (after (thread_step old.look) old.config) all;
-        joined = so.joined ∙ ap (λ l. feet_were ++ feet (thread_step old.look) old.config l) all;
-      }
-
+module _ (most i : ℕ) (old : Standing) (first : Chooser) (m : Standing) (c : Chooser) (was is : List Entry) (steps : List Footprint) (so : DrawnSo most i old first m c was is steps) where
   -- there were so many
-  pub so_many : most - i ≡ 0 → DrawnAfter most old first m was is feet_were feet_are
-  so_many z = so_ends (ap (λ n. drawn_entries old.look n m.config c) z)
+  pub none_more : most - i ≡ 0 → drawn_entries old.look (most - i) m.config c ≡ []
+  none_more z = ap (λ n. drawn_entries old.look n m.config c) z
 
   -- there is no next entry
-  pub so_none : i < most → (c' : Chooser) → NextAnswer (next_at m.look m.config c) None c' → DrawnAfter most old first m was is feet_were feet_are
-  so_none lt c' none =
+  pub none_next : i < most → (c' : Chooser) → NextAnswer (next_at m.look m.config c) None c' → drawn_entries old.look (most - i) m.config c ≡ []
+  none_next lt c' none =
       let left : most - i ≡ suc (most - (i + 1)) = omega arith in
-      so_ends
-      (ap (λ n. drawn_entries old.look n m.config c) left
-      ∙ ap (λ o. led o (λ next. drawn_entries old.look (most - (i + 1)) (program_step old.look m.config next.entry) next.chooser)) (ap (λ (l : Look). next_at l m.config c) (sym so.look) ∙ none))
+      ap (λ n. drawn_entries old.look n m.config c) left
+      ∙ ap (λ o. led o (λ next. drawn_entries old.look (most - (i + 1)) (program_step old.look m.config next.entry) next.chooser)) (ap (λ (l : Look). next_at l m.config c) (sym so.look) ∙ none)
+
+  -- where nothing more is drawn, all is
+  all_drawn : drawn_entries old.look (most - i) m.config c ≡ [] → so.es ≡ drawn_from_here most old first
+  all_drawn none = sym (so.rest ∙ ap (λ l. so.es ++ l) none ∙ append-nil so.es)
+
+  pub so_ends : drawn_entries old.look (most - i) m.config c ≡ [] → DrawnAfter most old first m was is
+  so_ends none = record {
+    entries = so.entries ∙ ap (λ l. was ++ l) (all_drawn none);
+    working = so.begins.working;
+    look = so.look;
+    config = so.config ∙ ap (after (thread_step old.look) old.config) (all_drawn none);
+  }
+
+  -- and so are the steps
+  pub so_feet : drawn_entries old.look (most - i) m.config c ≡ [] → steps ≡ feet (thread_step old.look) old.config (drawn_from_here most old first)
+  so_feet none = so.are ∙ ap (feet (thread_step old.look) old.config) (all_drawn none)
 
   module _ (entry : Entry) (c' : Chooser) (drawn : NextAnswer (next_at m.look m.config c) (Some entry) c') where
     abbrev next : Next
@@ -132,8 +140,8 @@ module _ (most i : ℕ) (old : Standing) (first : Chooser) (m : Standing) (c : C
     so_legal = next_legal m.look so.begins.look so.begins.well m.config c next so.begins.sound so.begins.lies (drawn_at m.look m.config c next drawn)
 
     -- and behind its step one more is drawn
-    pub so_more : i < most → (m' : Standing) (is' : List Entry) (feet' : List Footprint) → Made entry m m' feet_are feet' → is' ≡ is ++ entry ∷ [] → DrawnSo most (i + 1) old first m' c' was is' feet_were feet'
-    so_more lt m' is' feet' made pushed =
+    pub so_more : i < most → (m' : Standing) (is' : List Entry) → IsMade entry m m' → is' ≡ is ++ entry ∷ [] → DrawnSo most (i + 1) old first m' c' was is' (steps ++ foot_by entry m)
+    so_more lt m' is' made pushed =
         let d = drawn_at m.look m.config c next drawn in
         let config : m'.config ≡ program_step m.look m.config entry = ap (λ (x : Standing). x.config) made.after in
         let same : m'.look ≡ m.look = ap (λ (x : Standing). x.look) made.after in
@@ -164,12 +172,11 @@ module _ (most i : ℕ) (old : Standing) (first : Chooser) (m : Standing) (c : C
           config =
               config ∙ ap (λ (l : Look). program_step l m.config entry) so.look ∙ ap (λ (k : Config Own). program_step old.look k entry) so.config
               ∙ sym (after_more (thread_step old.look) old.config so.es entry);
-          joined =
-              made.joined
-              ∙ ap (λ (l : Look). feet_are ++ foot_from (thread_step l) entry.thread entry.picks m.config.state) so.look
-              ∙ ap (λ (k : Config Own). feet_are ++ foot_from (thread_step old.look) entry.thread entry.picks k.state) so.config
-              ∙ ap (λ l. l ++ foot_from (thread_step old.look) entry.thread entry.picks (after (thread_step old.look) old.config so.es).state) so.joined
-              ∙ append_assoc feet_were (feet (thread_step old.look) old.config so.es) (foot_from (thread_step old.look) entry.thread entry.picks (after (thread_step old.look) old.config so.es).state)
-              ∙ ap (λ l. feet_were ++ l) (sym (feet_more (thread_step old.look) old.config so.es entry));
+          are =
+              ap (λ (l : Look). steps ++ foot_from (thread_step l) entry.thread entry.picks m.config.state) so.look
+              ∙ ap (λ (k : Config Own). steps ++ foot_from (thread_step old.look) entry.thread entry.picks k.state) so.config
+              ∙ ap (λ l. l ++ foot_from (thread_step old.look) entry.thread entry.picks (after (thread_step old.look) old.config so.es).state) so.are
+              ∙ sym (feet_more (thread_step old.look) old.config so.es entry);
           few = omega arith;
+          room = omega (arith, so.room, length-append steps (foot_by entry m), one_foot entry m);
         }

@@ -2,7 +2,7 @@
 use Rattle.std.proofs.Common.{◌≡◌, ℕ, zero, suc, ◌+◌, ◌*◌, ◌<◌, ◌≤◌, ◌^◌, ◌-◌, ◌%◌, refl, sym, ap, ap₂, ◌∙◌, subst, arith, List, [], ◌∷◌, ◌++◌, length, map, Bool, true, false, Some, None}
 use Rattle.std.specs.Prelude.{All, count_ones, ◌==◌, nat_le, nat_lt, if◌then◌else◌, slice_get}
 use Rattle.std.proofs.Math.Nat.{mod-lt}
-use Rattle.std.proofs.lemmas.Bool.{lt-ltb}
+use Rattle.std.proofs.lemmas.Bool.{lt-ltb, and_parts}
 use Rattle.std.proofs.lemmas.Bool.Decides.{nat_tests}
 use Rattle.std.proofs.lemmas.List.Elements.{All-append, All-cons, All-head, All-nil, All-tail}
 use Rattle.mr_ast.specs.declared.program.Function.{Function}
@@ -12,11 +12,9 @@ use Rattle.mr_ast.specs.declared.program.Program.{Program}
 use Rattle.mr_base.proofs.Comparisons.{le_from}
 use Rattle.mr_base.specs.declared.thread.Status.{Status}
 use Rattle.mr_base.specs.declared.thread.Status.TheVariants.{Enabled}
-use Rattle.mr_eval.proofs.SafeLaws.{item_ok}
 use Rattle.mr_layout.specs.Rules.{is_align}
 use Rattle.mr_layout.specs.TypeOk.{TypeOk}
 use Rattle.mr_layout.proofs.Bounds.{type_ok_small}
-use Rattle.mr_layout.proofs.PartsOk.{and_true}
 use Rattle.mr_sched.specs.Chooser.{address_from, aligned_from, behind_address, behind_bytes, first_chooser, has_address}
 use Rattle.mr_sched.specs.declared.chooser.Chooser.{Chooser}
 use Rattle.mr_wf.specs.Broken.{items_size}
@@ -27,6 +25,7 @@ use Rattle.mr_layout.proofs.Aligned.{type_ok_aligned}
 use Rattle.mr_start.specs.Start.{Piece, ask_of, function_piece, global_piece, pieces, return_piece}
 use Rattle.mr_start.proofs.StartFacts.{has_main, pieces_length, return_is}
 use Rattle.mr_auto.specs.Drawing.{Picked, found, picked, put, start_picked}
+use Rattle.mr_base.proofs.Lists.{all_at}
 
 -- ---- small pieces
 
@@ -38,13 +37,13 @@ pub record IsLow (p : Piece) : Type 0 where
 power_some : (n : ℕ) → is_align n ≡ true → 0 < n
 unfolding lib.Count.ones
 power_some zero e =
-    let one = (and_true (count_ones 0 == 1) (nat_le 0 4096) e).0 in
+    let one = (and_parts (count_ones 0 == 1) (nat_le 0 4096) e).0 in
     let none : (count_ones 0 == 1) ≡ false = refl in
     absurd (cc)
 power_some (suc n) e = omega arith
 
 power_low : (n : ℕ) → is_align n ≡ true → n ≤ 4096
-power_low n e = le_from n 4096 (and_true (count_ones n == 1) (nat_le n 4096) e).1
+power_low n e = le_from n 4096 (and_parts (count_ones n == 1) (nat_le n 4096) e).1
 
 functions_low : (fs : List Function) → All IsLow (map function_piece fs)
 functions_low [] = All-nil IsLow
@@ -53,15 +52,15 @@ functions_low (f ∷ fs) = All-cons IsLow (function_piece f) (map function_piece
 globals_low : (p : Program) (gs : List Global_) → All (UnbrokenGlobal p) gs → All IsLow (map global_piece gs)
 globals_low p [] h = All-nil IsLow
 globals_low p (g ∷ gs) h =
-    let parts = and_true (nat_le (items_size g.items) (2 ^ 20)) (is_align g.align) (All-head (UnbrokenGlobal p) g gs h).form in
+    let parts = and_parts (nat_le (items_size g.items) (2 ^ 20)) (is_align g.align) (All-head (UnbrokenGlobal p) g gs h).form in
     let small = le_from (items_size g.items) (2 ^ 20) parts.0 in
     All-cons IsLow (global_piece g) (map global_piece gs) (record { some = power_some g.align parts.1; align = power_low g.align parts.1; size = omega arith }) (globals_low p gs (All-tail (UnbrokenGlobal p) g gs h))
 
 pieces_low : (p : Program) → WellFormed p → All IsLow (pieces p)
 pieces_low p well =
     let h = has_main p well.shaped in
-    let ok = item_ok (λ (l : Local). TypeOk l.ty) h.function.locals h.function.ret.0 h.local
-    (item_ok (UnbrokenFunction p) p.functions p.start.0 h.function (well_formed_keeps p well).functions h.is).locals h.here in
+    let ok = all_at (λ (l : Local). TypeOk l.ty) h.function.locals h.function.ret.0 h.local
+    (all_at (UnbrokenFunction p) p.functions p.start.0 h.function (well_formed_keeps p well).functions h.is).locals h.here in
     let small = type_ok_small h.local.ty ok in
     let power = (type_ok_aligned h.local.ty ok).power in
     let last : All IsLow (return_piece (slice_get p.functions p.start.0)) =

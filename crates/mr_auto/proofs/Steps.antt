@@ -20,8 +20,8 @@ use Rattle.mr_frame.specs.Frames.{Look}
 use Rattle.mr_thread.specs.Steps.{Own, thread_step}
 use Rattle.mr_thread.proofs.RunSound.{entry_sound}
 use Rattle.mr_thread.specs.SoundState.{IsSoundConfig}
-use Rattle.mr_tracks.proofs.Sane.{sound_is_sane}
-use Rattle.mr_tracks.proofs.Telling.{thread_step_tells}
+use Rattle.mr_tells.proofs.Sane.{sound_is_sane}
+use Rattle.mr_tells.proofs.Telling.{thread_step_tells}
 use Rattle.mr_swap.specs.Meets.{AreNewIn, IsTaken, addresses}
 use Rattle.mr_swap.proofs.BareSteps.{needs_are, taken, whole, whole_run}
 use Rattle.mr_swap.proofs.MeetsLaws.{legal_of_meets, step_only}
@@ -30,6 +30,7 @@ use Rattle.mr_step.proofs.EntryLaws.{enabled_is}
 use Rattle.mr_auto.specs.Drawing.{Next, Picked, candidate, drawn_entries, enabled_in, entry_by, entry_of, led, next_at, next_in, picked, within_limits}
 use Rattle.mr_auto.specs.Drawn.{EndsBy, LiesBehind}
 use Rattle.mr_auto.proofs.Picks.{ArePicks, candidate_passes, picks_are}
+use Rattle.mr_sched.specs.declared.rule.ScheduleRule.TheVariants as rule
 
 -- ---- an entry that was drawn, taken apart
 
@@ -130,7 +131,7 @@ module _ (look : Look) (is : IsLook look) (well : WellFormed look.program) (c : 
   legal_here : entry_fault (thread_step look) c entry ≡ None
   unfolding entry_fault
   legal_here =
-      ap (λ (b : Bool). if b then fault_in (thread_step look) entry.thread entry.picks c.state else fault 66) d.running
+      ap (λ (b : Bool). if b then fault_in (thread_step look) entry.thread entry.picks c.state else fault rule.AfterStop) d.running
       ∙ ap (fault_in (thread_step look) entry.thread entry.picks) d.there
       ∙ drawn_legal look s chooser next d.drawn lies.positive (lies.behind s d.there)
 

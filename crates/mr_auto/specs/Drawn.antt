@@ -1,13 +1,12 @@
 -- How entries are drawn, one behind the other.
 use Rattle.std.specs.Prelude.{◌≡◌, ℕ, ◌<◌, ◌≤◌, ◌++◌, false, List, Some}
-use Rattle.mr_event.specs.declared.footprint.Footprint.{Footprint}
 use Rattle.mr_mem.specs.Memory.{ranges_of}
 use Rattle.mr_sched.specs.Chooser.{behind_bytes}
 use Rattle.mr_sched.specs.declared.chooser.Chooser.{Chooser}
 use Rattle.mr_sched.specs.declared.schedule.Entry.{Entry}
 use Rattle.mr_wf.specs.Walk.{WellFormed}
 use Rattle.mr_plan.specs.Machine.{State}
-use Rattle.mr_plan.specs.Runs.{Config, after, feet}
+use Rattle.mr_plan.specs.Runs.{Config, after}
 use Rattle.mr_frame.specs.Fits.{IsLook}
 use Rattle.mr_swap.specs.Meets.{IsTaken}
 use Rattle.mr_thread.specs.Steps.{Own, thread_step}
@@ -41,11 +40,10 @@ pub record BeginsDrawing (m : Standing) (chooser : Chooser) : Type 0 where
 abbrev pub drawn_from_here : ℕ → Standing → Chooser → List Entry
 drawn_from_here most m chooser = drawn_entries m.look most m.config chooser
 
--- These entries were drawn and joined the others, the machine stands behind them, and their footprints joined the
--- others.
+-- These entries were drawn and joined the others, and the machine stands behind them.
 pub record DrawnAfter (most : ℕ) (old : Standing) (chooser : Chooser) (new : Standing) (was is : List Entry)
-    (feet_were feet_are : List Footprint) : Type 0 where
+    : Type 0 where
   pub entries : is ≡ was ++ drawn_from_here most old chooser
   pub working : new.failed ≡ false
+  pub look : new.look ≡ old.look
   pub config : new.config ≡ after (thread_step old.look) old.config (drawn_from_here most old chooser)
-  pub joined : feet_are ≡ feet_were ++ feet (thread_step old.look) old.config (drawn_from_here most old chooser)

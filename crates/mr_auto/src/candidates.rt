@@ -10,7 +10,8 @@ use std::alloc::{AllocError, Global};
 /// The threads that can go on, by rising number.
 pub fn enabled_threads(alloc: Global, machine: &Machine<'_>) -> Result<Vec<u32>, AllocError>
     requires { (s : State Own) × (machine.now.config.state ≡ Some s) }
-    ensures { IfOk result (λ threads. (s : State Own) → machine.now.config.state ≡ Some s → threads.items ≡ enabled_in s.shared.statuses) }
+    ensures { IfOk result (λ threads. (s : State Own) → machine.now.config.state ≡ Some s
+        → threads.items ≡ enabled_in s.shared.statuses) }
 {
     let mut threads = Vec::new(alloc);
     for t in 0..machine.threads() {
@@ -28,7 +29,8 @@ pub fn waiting_threads(
     lock: u32,
 ) -> Result<Vec<u32>, AllocError>
     requires { (s : State Own) × (machine.now.config.state ≡ Some s) }
-    ensures { IfOk result (λ threads. (s : State Own) → machine.now.config.state ≡ Some s → threads.items ≡ waiting_in lock s.shared.statuses) }
+    ensures { IfOk result (λ threads. (s : State Own) → machine.now.config.state ≡ Some s
+        → threads.items ≡ waiting_in lock s.shared.statuses) }
 {
     let mut threads = Vec::new(alloc);
     for t in 0..machine.threads() {

@@ -1,31 +1,33 @@
 //! The run that a schedule is drawn in.
-ghost use Rattle.std.specs.Prelude.{◌≡◌, ℕ, ◌+◌, ◌^◌, ◌<◌, ◌≤◌, false, IfOk, OnOk, Some, List};
+ghost use Rattle.std.specs.Prelude.{◌≡◌, ℕ, ◌+◌, ◌^◌, ◌<◌, ◌≤◌, [], false, IfOk, OnOk, Some, List};
 ghost use Rattle.mr_plan.specs.Machine.{State};
 ghost use Rattle.mr_plan.specs.Queries.{tables_of};
 ghost use Rattle.mr_sync.specs.Tables.{IsEnabled};
-ghost use Rattle.mr_thread.specs.Steps.{Own};
+ghost use Rattle.mr_plan.specs.Runs.{feet};
+ghost use Rattle.mr_run.specs.Runs.{IsRun};
+ghost use Rattle.mr_start.specs.Start.{steps_of};
+ghost use Rattle.mr_thread.specs.Steps.{Own, thread_step};
 ghost use Rattle.mr_wf.specs.Walk.{WellFormed};
-ghost use Rattle.mr_auto.specs.Answers.{HasState, IsRunOf, NextAnswer};
+ghost use Rattle.mr_auto.specs.Answers.{HasState, NextAnswer};
 ghost use Rattle.mr_auto.specs.Drawing.{drawn_schedule, entry_from, next_at};
-ghost use Rattle.mr_auto.specs.Drawn.{BeginsDrawing, DrawnAfter};
+ghost use Rattle.mr_auto.specs.Drawn.{BeginsDrawing, DrawnAfter, drawn_from_here};
 
 use crate::candidates::enabled_threads;
 use crate::picking::{picks_for, start_picks};
 use crate::running::make_step;
 use mr_base::Verdict;
-use mr_event::Footprint;
+use mr_run::Record;
 use mr_sched::{Chooser, Entry, Items, Schedule};
 use mr_start::start_asks;
 use mr_step::{Machine, StepFault};
 use mr_wf::Checked;
 use std::alloc::{AllocError, Global};
 
-/// A schedule that was drawn, the machine behind its last entry, and the footprints of the steps that completed.
+/// A schedule that was drawn, and the machine behind its last entry.
 #[derive(Drop)]
 pub struct Drawn<'p> {
     pub schedule: Schedule,
     pub machine: Machine<'p>,
-    pub steps: Vec<Footprint>,
 }
 
 // The entry of a thread, where one is found: none where the step would create a thread or a lock too many, or where no address is left.
@@ -37,7 +39,8 @@ fn entry_of(
 ) -> Result<Option<Entry>, AllocError>
     requires working { machine.now.failed ≡ false }
     requires enabled { (s : State Own) × (machine.now.config.state ≡ Some s) × IsEnabled thread (tables_of s.shared) }
-    ensures { IfOk result (λ entry. (s : State Own) → machine.now.config.state ≡ Some s → NextAnswer (entry_from machine.now.look s chooser.old thread) entry chooser.new) }
+    ensures { IfOk result (λ entry. (s : State Own) → machine.now.config.state ≡ Some s
+        → NextAnswer (entry_from machine.now.look s chooser.old thread) entry chooser.new) }
 {
     let mut asks = Vec::new(alloc);
     if machine.asks(thread, &mut asks)?.is_some() {
@@ -57,7 +60,8 @@ fn next_entry(
 ) -> Result<Option<Entry>, AllocError>
     requires working { machine.now.failed ≡ false }
     requires state { HasState machine.now.config }
-    ensures { IfOk result (λ entry. NextAnswer (next_at machine.now.look machine.now.config chooser.old) entry chooser.new) }
+    ensures { IfOk result (λ entry. NextAnswer
+        (next_at machine.now.look machine.now.config chooser.old) entry chooser.new) }
 {
     if !matches!(machine.verdict(), Verdict::Running) {
         return Ok(None);
@@ -71,22 +75,25 @@ fn next_entry(
 }
 
 // Draws entries until there is none or there are so many, and makes their steps.
-fn draw_entries(
+fn draw_entries<R: Record>(
     alloc: Global,
     machine: &mut Machine<'_>,
     chooser: &mut Chooser,
     most: u32,
     entries: &mut Items<Entry>,
-    steps: &mut Vec<Footprint>,
+    kept: &mut R,
 ) -> Result<(), AllocError>
     requires begins { BeginsDrawing machine.old chooser.old }
     requires completed { machine.old.config.completed + most < 2 ^ 32 }
-    ensures { OnOk result (DrawnAfter most machine.old chooser.old machine.new entries.old entries.new steps.old.items steps.new.items) }
+    requires none { R.keeps kept.old [] }
+    ensures drawn { OnOk result (DrawnAfter most machine.old chooser.old machine.new entries.old entries.new) }
+    ensures kept { OnOk result (R.keeps kept.new
+        (feet (thread_step machine.old.look) machine.old.config (drawn_from_here most machine.old chooser.old))) }
 {
     for i in 0..most {
         match next_entry(alloc, machine, chooser)? {
             Some(entry) => {
-                make_step(alloc, machine, &entry, steps)?;
+                make_step(alloc, machine, &entry, kept)?;
                 entries.push(entry)?;
             }
             None => return Ok(()),
@@ -95,17 +102,20 @@ fn draw_entries(
     Ok(())
 }
 
-/// The schedule that is drawn from a number for a program, with at most so many entries, and the run under it. Want of memory is its only
-/// error.
-pub fn draw<'p>(
+/// The schedule that is drawn from a number for a program, with at most so many entries, and the machine that ran under
+/// it; and in `kept` what is kept of its steps. Want of memory is its only error.
+pub fn draw<'p, R: Record>(
     alloc: Global,
     p: &'p Checked,
     number: u64,
     most: u32,
+    kept: &mut R,
 ) -> Result<Drawn<'p>, AllocError>
-    requires { most ≤ 2 ^ 20 }
+    requires few { most ≤ 2 ^ 20 }
+    requires none { R.keeps kept.old [] }
     ensures schedule { IfOk result (λ drawn. drawn.schedule ≡ drawn_schedule p.now number most) }
-    ensures run { IfOk result (λ drawn. IsRunOf p.now drawn.schedule drawn.machine drawn.steps.items) }
+    ensures run { IfOk result (λ drawn. IsRun p.now drawn.schedule drawn.machine) }
+    ensures kept { IfOk result (λ drawn. R.keeps kept.new (steps_of p.now drawn.schedule)) }
 {
     // A checked program is well-formed, so that there is an address for all that its start asks for.
     p.program();
@@ -120,18 +130,9 @@ pub fn draw<'p>(
         Err(StepFault::Memory | StepFault::Failed) => return Err(AllocError),
     };
     let mut entries = Items::new(alloc);
-    let mut steps = Vec::new(alloc);
-    draw_entries(
-        alloc,
-        &mut machine,
-        &mut chooser,
-        most,
-        &mut entries,
-        &mut steps,
-    )?;
+    draw_entries(alloc, &mut machine, &mut chooser, most, &mut entries, kept)?;
     Ok(Drawn {
         schedule: Schedule { start, entries },
         machine,
-        steps,
     })
 }

@@ -3,11 +3,10 @@
 //! The number decides at each step which enabled thread goes on and which waiting thread gets a lock; the addresses rise from 65,536 on.
 //! `specs/Drawing.antt` defines the schedule over the machine of MiniRust: its start line, and entry by entry what the machine asks for.
 //!
-//! - [`draw`]: steps the machine of a program once, drawing each entry from a number, and hands out the schedule, the machine behind its
-//!   last entry, and the footprints of the steps that completed. Proved: the schedule is exactly the defined one, and machine and
-//!   footprints are those of the program's run under it; want of memory is its only error.
-//! - [`advance`]: one step of a machine, whose footprint joins those before it where it completed. Proved: exactly so, or the rule that the
-//!   entry breaks.
+//! - [`draw`]: steps the machine of a program once, drawing each entry from a number, and hands out the schedule and the
+//!   machine behind its last entry; what is kept of the steps the caller chooses (`mr_run`: `Record`). Proved: the
+//!   schedule is exactly the defined one, and legal; machine and record are those of the program's run under it; want of
+//!   memory is its only error.
 //! - [`drawn_schedules_are_legal`], a law: of a well-formed program the drawn schedule is legal, so that it is read back as any other.
 #![tactic(auto)]
 
@@ -19,4 +18,3 @@ mod running;
 
 pub use drawing::{Drawn, draw};
 pub use laws::drawn_schedules_are_legal;
-pub use running::advance;

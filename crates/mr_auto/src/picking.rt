@@ -31,7 +31,8 @@ fn waiter(
     lock: u32,
 ) -> Result<Option<u64>, AllocError>
     requires { (s : State Own) × (machine.now.config.state ≡ Some s) }
-    ensures { IfOk result (λ pick. (s : State Own) → machine.now.config.state ≡ Some s → PickAnswer (pick_of s.shared.statuses chooser.old (Waiter lock)) (behind_draw chooser.old) pick chooser.new) }
+    ensures { IfOk result (λ pick. (s : State Own) → machine.now.config.state ≡ Some s
+        → PickAnswer (pick_of s.shared.statuses chooser.old (Waiter lock)) (behind_draw chooser.old) pick chooser.new) }
 {
     let waiting = waiting_threads(alloc, machine, lock)?;
     if waiting.is_empty() {
@@ -48,7 +49,8 @@ fn pick_for(
     ask: Ask,
 ) -> Result<Option<u64>, AllocError>
     requires { (s : State Own) × (machine.now.config.state ≡ Some s) }
-    ensures { IfOk result (λ pick. (s : State Own) → machine.now.config.state ≡ Some s → PickAnswer (pick_of s.shared.statuses chooser.old ask) (behind_pick chooser.old ask) pick chooser.new) }
+    ensures { IfOk result (λ pick. (s : State Own) → machine.now.config.state ≡ Some s
+        → PickAnswer (pick_of s.shared.statuses chooser.old ask) (behind_pick chooser.old ask) pick chooser.new) }
 {
     match ask {
         Ask::Address { size, align } => Ok(address(chooser, size, align)),
@@ -64,7 +66,8 @@ pub fn picks_for(
     asks: &[Ask],
 ) -> Result<Option<Items<u64>>, AllocError>
     requires { (s : State Own) × (machine.now.config.state ≡ Some s) }
-    ensures { IfOk result (λ picks. (s : State Own) → machine.now.config.state ≡ Some s → PicksAnswer (picked s.shared.statuses chooser.old asks.now) picks chooser.new) }
+    ensures { IfOk result (λ picks. (s : State Own) → machine.now.config.state ≡ Some s
+        → PicksAnswer (picked s.shared.statuses chooser.old asks.now) picks chooser.new) }
 {
     let mut picks = Items::new(alloc);
     for ask in asks {

@@ -15,6 +15,15 @@ eq_from a b e = grind (arith, nat_tests)
 pub lt_test : (a b : ℕ) → a < b → nat_lt a b ≡ true
 lt_test a b p = grind (arith, nat_tests)
 
+pub le_test : (a b : ℕ) → a ≤ b → nat_le a b ≡ true
+le_test a b p = grind (arith, nat_tests)
+
+pub not_lt_test : (a b : ℕ) → b ≤ a → nat_lt a b ≡ false
+not_lt_test a b p = grind (arith, nat_tests)
+
+pub eq_itself : (n : ℕ) → (n == n) ≡ true
+eq_itself n = grind (arith, nat_tests)
+
 pub eq_test : (a b : ℕ) → a ≡ b → (a == b) ≡ true
 eq_test a b p = grind (arith, nat_tests)
 

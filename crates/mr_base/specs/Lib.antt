@@ -1,3 +1,5 @@
 pub mod Accesses
+pub mod Identities
+pub mod Limits
 pub mod Pairs
 pub mod Reasons

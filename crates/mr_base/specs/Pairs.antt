@@ -1,6 +1,8 @@
 -- Whether a test holds of two elements of a list.
 use Rattle.std.specs.Prelude.{ℕ, ◌+◌, Bool, false, ◌&&◌, ◌||◌, ◌==◌, nat_lt, if◌then◌else◌, List, [], ◌∷◌}
 use Rattle.std.specs.List.{list_any}
+use Rattle.std.specs.Ordering.{nat_cmp, ordering_then}
+use Rattle.std.specs.declared.cmp.Ordering.{Ordering}
 
 -- whether the test holds of an element and a later one
 abbrev pub some_pair : {A : Type 0} → (A → A → Bool) → List A → Bool
@@ -20,6 +22,10 @@ some_neighbours test (x ∷ xs) = some_next test x xs
 -- whether the two pairs are equal
 abbrev pub same_pair : ℕ × ℕ → ℕ × ℕ → Bool
 same_pair x y = (x.0 == y.0) && (x.1 == y.1)
+
+-- the order of pairs: by their first numbers, and where these are equal by the second ones
+abbrev pub pair_cmp : ℕ × ℕ → ℕ × ℕ → Ordering
+pair_cmp x y = ordering_then (nat_cmp x.0 y.0) (nat_cmp x.1 y.1)
 
 -- two ranges, by start and length, have a byte in common; a range of length 0 has none
 abbrev pub is_meeting : ℕ → ℕ → ℕ → ℕ → Bool

@@ -1,6 +1,9 @@
-//! Whether two ranges meet; lists of pairs of numbers: whether a pair stands twice in one, and whether two ranges in it meet.
+//! Whether two ranges meet; lists of pairs of numbers: whether a pair stands in one, whether one stands twice in it, and whether
+//! two ranges in it meet.
 ghost use Rattle.std.specs.Prelude.{◌≡◌, ◌<◌, All};
-ghost use Rattle.mr_base.specs.Pairs.{some_pair, some_next, some_neighbours, same_pair, are_meeting, is_meeting};
+ghost use Rattle.std.specs.List.{list_any};
+ghost use Rattle.std.specs.List.Sorted.{IsSorted};
+ghost use Rattle.mr_base.specs.Pairs.{pair_cmp, some_pair, some_next, some_neighbours, same_pair, are_meeting, is_meeting};
 
 /// A pair of numbers; of a range of bytes its start and its length.
 pub type Pair = (u128, u128);
@@ -41,6 +44,14 @@ fn any_equal_next(first: Pair, pairs: &[Pair]) -> bool
         last = *pair;
     }
     false
+}
+
+/// Whether a pair stands in a list that is in order.
+pub fn is_among(pair: Pair, pairs: &[Pair]) -> bool
+    requires { IsSorted pair_cmp pairs.now }
+    ensures { result ≡ list_any (same_pair pair) pairs.now }
+{
+    pairs.binary_search(&pair).is_ok()
 }
 
 /// Whether two ranges of a list, none of which is empty, have a byte in common. The list is sorted for it.

@@ -1,7 +1,12 @@
+pub mod Chains
 pub mod Edges
 pub mod Kept
 pub mod KeyLaws
-pub mod KindLaws
+pub mod KeyLists
 pub mod Longer
+pub mod MarkLaws
+pub mod Noting
 pub mod Parts
+pub mod RowLaws
+pub mod SkipLaws
 pub mod Wholes

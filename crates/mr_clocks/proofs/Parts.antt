@@ -1,7 +1,7 @@
 -- The clock of a step, made from those of the steps that an edge leads from.
 use Rattle.std.proofs.Common.{◌≡◌, ◌≢◌, ℕ, suc, ◌<◌, ◌≤◌, ◌-◌, List, [], slice_index, sym, ◌∙◌, ap, subst, inl, inr, ◌⊎◌, arith}
 use native.Mathlib.Decide.{ℕ_discrete, dec_lt}
-use Rattle.mr_event.specs.declared.footprint.Footprint.{Footprint}
+use Rattle.mr_event.specs.Footprint.{Footprint}
 use Rattle.mr_event.specs.Order.{thread_at, Edge, HappensBefore}
 use Rattle.mr_event.specs.Order.Edge.{in_thread}
 use Rattle.mr_event.specs.Order.HappensBefore.{edge, chain}

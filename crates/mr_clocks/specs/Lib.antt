@@ -1,4 +1,7 @@
 pub mod Clocks
 pub mod Keys
-pub mod Kinds
+pub mod Marks
+pub mod Rows
+pub mod Skips
+pub mod Tracked
 pub mod Whole

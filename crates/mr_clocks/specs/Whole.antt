@@ -1,9 +1,9 @@
 -- Questions on a whole run: what happens before some steps, and what lies before the threads' fronts.
 use Rattle.std.specs.Prelude.{◌≡◌, ℕ, ◌<◌, ◌^◌, ◌⊎◌, List, length, slice_index, slice_index_or, MatchOption}
-use Rattle.mr_event.specs.declared.footprint.Footprint.{Footprint}
+use Rattle.mr_event.specs.Footprint.{Footprint}
 use Rattle.mr_event.specs.Order.{thread_at, HappensBefore}
 use Rattle.mr_clocks.specs.declared.whole.RunOrder.{RunOrder}
-use Rattle.mr_clocks.specs.Kinds.{Tracks}
+use Rattle.mr_clocks.specs.Tracked.{Tracks}
 
 -- the front of a thread, past the run where the list has none of it
 abbrev pub front_of : List Footprint → List ℕ → ℕ → ℕ

@@ -1,24 +1,33 @@
 //! The clocks of a run, a step at a time, and the greatest partner of each step.
 
-ghost use Rattle.std.specs.Prelude.{◌≡◌, ◌≢◌, ℕ, ◌+◌, ◌-◌, ◌<◌, ◌≤◌, ◌^◌, ◌↔◌, [], All, IsTrue, IsFalse, IfOk, OnOk, OnErr, MatchOption, false, length, slice_index, slice_index_or, take, vec_len, vec_capacity};
-ghost use Rattle.mr_event.specs.Order.{step_at, thread_at, Edge, HappensBefore, IsGreatestPartner, HasNoPartner, RacePair};
+ghost use Rattle.std.specs.Prelude.{◌≡◌, ◌≢◌, ℕ, ◌+◌, ◌-◌, ◌<◌, ◌≤◌, ◌^◌, ◌↔◌, [], All, IsTrue, IsFalse, IfOk, OnOk, OnErr, MatchOption, false, length, slice_index, slice_index_or, take, max, vec_len, vec_capacity};
+ghost use Rattle.mr_event.specs.Order.{step_at, thread_at, HappensBefore, IsGreatestPartner, HasNoPartner, RacePair};
 ghost use Rattle.mr_clocks.specs.Clocks.{AreClocks, AreLatest, IsClockOf, IsPart, IsUnder, Numbered, clock_at};
-ghost use Rattle.mr_clocks.specs.Kinds.{AreKinds, IsBeyond, IsNext, IsPartnerOr, IsThreadSeen, NotesKind};
+ghost use Rattle.mr_clocks.specs.Keys.{asks, keys_noted};
+ghost use Rattle.mr_clocks.specs.Marks.{AreMarked, IsMarked};
+ghost use Rattle.mr_clocks.specs.Rows.{AreAllAsked, ArePlaces, AreRows, HaveKeysOf, IsGrown, IsListed};
+ghost use Rattle.mr_clocks.specs.Skips.{AreSkips};
+ghost use Rattle.mr_clocks.specs.Tracked.{IsPartnerOr};
+ghost use Rattle.mr_clocks.specs.declared.keys.Key.{Key};
 ghost use Rattle.mr_clocks.specs.Whole.{IsNeeded};
 
 use crate::clock::Clock;
-use crate::order::{are_rivals, edge, thread_at};
-use crate::same::same_steps;
+use crate::index::{Index, places_for, rows_asked};
+use crate::keys::{Key, noted_by};
+use crate::order::{are_rivals, thread_at};
+use crate::rows::{Link, Row, better, follow_place, keep_walk, note_all};
+use crate::skips::{Skip, reserve_table, store_all};
 use crate::whole::front_at;
 use mr_event::{Footprint, OutOfMemory};
 use std::alloc::Global;
+use std::collections::BTreeSet;
 use std::marker::Model;
 
-// Among how many of the latest kinds that of a step is looked for. Where it isn't found, a kind stands twice in the list.
-const MOST_COMPARED: usize = 4096;
+// How many links there can be, which have numbers of 32 bits.
+const MOST_LINKS: usize = 4_294_967_295;
 
 /// Whether step `i` lies under a clock.
-fn is_under(run: &[Footprint], clock: &Clock, i: usize) -> bool
+pub(crate) fn is_under(run: &[Footprint], clock: &Clock, i: usize) -> bool
     requires { i < length run.now }
     ensures { IsTrue result ↔ IsUnder run.now clock.now i }
 {
@@ -45,8 +54,15 @@ pub(crate) struct Made {
     pub changed: bool,
 }
 
-// The clock of an earlier step.
-fn lent<'a>(clocks: &'a [Clock], numbers: &[u32], k: usize) -> &'a Clock
+/// The clock of a step, and the skips that its walks over rows leave.
+#[derive(Drop)]
+pub(crate) struct Found {
+    pub made: Made,
+    pub skips: Vec<Skip>,
+}
+
+/// The clock of an earlier step.
+pub(crate) fn lent<'a>(clocks: &'a [Clock], numbers: &[u32], k: usize) -> &'a Clock
     requires step { k < length numbers.now }
     requires within { slice_index numbers.now k < length clocks.now }
     ensures { result.now ≡ clock_at clocks.now numbers.now k }
@@ -67,7 +83,8 @@ fn base(
     requires clocks { AreClocks run.now j clocks.now numbers.now }
     requires latest { AreLatest run.now j latest.now }
     ensures part { IfOk result (λ c. IsPart run.now c j) }
-    ensures previous { IfOk result (λ c. (p : ℕ) → slice_index latest.now (thread_at run.now j) ≡ p + 1 → c ≡ clock_at clocks.now numbers.now p) }
+    ensures previous { IfOk result
+        (λ c. (p : ℕ) → slice_index latest.now (thread_at run.now j) ≡ p + 1 → c ≡ clock_at clocks.now numbers.now p) }
 {
     let next = latest.at(thread_at(run, j));
     if next == 0 {
@@ -77,107 +94,27 @@ fn base(
     Ok(clock)
 }
 
-// The first place in the list whose step is not before a number.
-fn place_of(kinds: &[u32], number: u32) -> usize
-    requires { (x y : ℕ) → x < y → y < length kinds.now → slice_index kinds.now x < slice_index kinds.now y }
-    ensures most { result ≤ length kinds.now }
-    ensures behind { (y : ℕ) → result ≤ y → y < length kinds.now → number ≤ slice_index kinds.now y }
-{
-    let mut low = 0;
-    let mut high = kinds.len();
-    while low < high {
-        let middle = low + (high - low) / 2;
-        if kinds[middle] < number {
-            low = middle + 1;
-        } else {
-            high = middle;
-        }
-    }
-    high
-}
-
-// Follows the latest step of a thread in the list, below a place, from which an edge leads to step `j`, unless the clock knows it. Those behind it
-// race with `j`, and those before it are known with it. The answer is whether the clock changed.
-fn follow_thread(
+// The places of the rows whose keys step `j` asks, and maybe of others.
+#[tactic(auto, using(mr_event::proofs::Read::step_read))]
+fn asked_at(
+    alloc: Global,
+    index: &Index,
     run: &[Footprint],
-    clocks: &[Clock],
-    numbers: &[u32],
-    kinds: &[u32],
-    top: usize,
-    u: usize,
-    clock: &mut Clock,
     j: usize,
-    next: usize,
-) -> Result<bool, OutOfMemory>
-    requires within { j < length run.now }
-    requires few { length run.now < 2 ^ 32 }
-    requires clocks { AreClocks run.now j clocks.now numbers.now }
-    requires kinds { AreKinds run.now j kinds.now }
-    requires apart { u ≢ thread_at run.now j }
-    requires top { top ≤ length kinds.now }
-    requires above { (y : ℕ) → top ≤ y → y < length kinds.now → thread_at run.now (slice_index kinds.now y) ≢ u }
-    requires next { IsNext run.now j next }
-    requires part { IsPart run.now clock.old j }
-    ensures part { OnOk result (IsPart run.now clock.new j) }
-    ensures seen { OnOk result (IsThreadSeen run.now kinds.now clock.new j u) }
-    ensures kept { OnOk result ((m : ℕ) → IsUnder run.now clock.old m → IsUnder run.now clock.new m) }
-    ensures same { IfOk result (λ changed. IsFalse changed → clock.new ≡ clock.old) }
+) -> Result<Vec<usize>, OutOfMemory>
+    requires { j < length run.now }
+    ensures { IfOk result (λ v. (key : Key) (x : ℕ) → IsTrue (asks (step_at run.now j) key)
+        → IsMarked index.now.shelves.items index.now.marks.keys key x → IsListed v.items x) }
 {
-    for x in (0..top).rev() {
-        let i = kinds[x] as usize;
-        if i < clock.of(u) as usize {
-            return Ok(false);
-        }
-        if leads_from(run, i, u, j, next) {
-            clock.follow(lent(clocks, numbers, i), thread_at(run, i), i as u32)?;
-            return Ok(true);
-        }
-    }
-    Ok(false)
+    let step = &run[j];
+    rows_asked(alloc, index, step)
 }
 
-// Whether an edge leads to step `j` from step `i`, of another thread.
-fn leads_from(run: &[Footprint], i: usize, u: usize, j: usize, next: usize) -> bool
-    requires order { i < j }
-    requires within { j < length run.now }
-    requires apart { u ≢ thread_at run.now j }
-    requires next { IsNext run.now j next }
-    ensures { IsTrue result ↔ (thread_at run.now i ≡ u) × Edge run.now i j }
+fn is_either(one: bool, other: bool) -> bool
+    ensures one { IsFalse result → one ≡ false }
+    ensures other { IsFalse result → other ≡ false }
 {
-    thread_at(run, i) as usize == u && edge(run, i, j, next)
-}
-
-// The same of a thread that may be known, or be that of step `j`.
-fn follow_unknown(
-    run: &[Footprint],
-    clocks: &[Clock],
-    numbers: &[u32],
-    latest: &Clock,
-    kinds: &[u32],
-    u: usize,
-    clock: &mut Clock,
-    j: usize,
-    next: usize,
-) -> Result<bool, OutOfMemory>
-    requires within { j < length run.now }
-    requires few { length run.now < 2 ^ 32 }
-    requires clocks { AreClocks run.now j clocks.now numbers.now }
-    requires latest { AreLatest run.now j latest.now }
-    requires kinds { AreKinds run.now j kinds.now }
-    requires next { IsNext run.now j next }
-    requires part { IsPart run.now clock.old j }
-    ensures part { OnOk result (IsPart run.now clock.new j) }
-    ensures seen { OnOk result (u ≢ thread_at run.now j → IsThreadSeen run.now kinds.now clock.new j u) }
-    ensures kept { OnOk result ((m : ℕ) → IsUnder run.now clock.old m → IsUnder run.now clock.new m) }
-    ensures same { IfOk result (λ changed. IsFalse changed → clock.new ≡ clock.old) }
-{
-    let last = latest.of(u);
-    if u == thread_at(run, j) as usize || last <= clock.of(u) {
-        return Ok(false);
-    }
-    let top = place_of(kinds, last);
-    let changed = follow_thread(run, clocks, numbers, kinds, top, u, clock, j, next)?;
-    Ok(changed)
+    one || other
 }
 
 // The clock of step `j`, from those of the steps before it: it follows each step of another thread that an edge leads from.
@@ -187,29 +124,44 @@ fn clock_of(
     clocks: &[Clock],
     numbers: &[u32],
     latest: &Clock,
-    kinds: &[u32],
+    rows: &[Row],
+    links: &[Link],
+    skips: &[Skip],
+    found: &[usize],
     j: usize,
-) -> Result<Made, OutOfMemory>
+) -> Result<Found, OutOfMemory>
     requires within { j < length run.now }
     requires few { length run.now < 2 ^ 32 }
     requires clocks { AreClocks run.now j clocks.now numbers.now }
     requires latest { AreLatest run.now j latest.now }
-    requires kinds { AreKinds run.now j kinds.now }
-    ensures clock { IfOk result (λ m. IsClockOf run.now m.clock j) }
-    ensures same { IfOk result (λ m. IsFalse m.changed → (p : ℕ) → slice_index latest.now (thread_at run.now j) ≡ p + 1 → m.clock ≡ clock_at clocks.now numbers.now p) }
+    requires rows { AreRows run.now j rows.now links.now }
+    requires skips { AreSkips run.now j links.now skips.now }
+    requires found { AreAllAsked run.now rows.now found.now j }
+    ensures clock { IfOk result (λ f. IsClockOf run.now f.made.clock j) }
+    ensures same { IfOk result (λ f. IsFalse f.made.changed → (p : ℕ)
+        → slice_index latest.now (thread_at run.now j) ≡ p + 1 → f.made.clock ≡ clock_at clocks.now numbers.now p) }
+    ensures skips { IfOk result (λ f. AreSkips run.now j links.now f.skips.items) }
 {
     let mut clock = base(alloc, run, clocks, numbers, latest, j)?;
     let mut changed = false;
+    let mut left = Vec::new(alloc);
     let next = latest.at(thread_at(run, j)) as usize;
-    for u in 0..latest.len() {
-        let more = follow_unknown(run, clocks, numbers, latest, kinds, u, &mut clock, j, next)?;
-        changed = changed || more;
+    for y in 0..found.len() {
+        let x = found[y];
+        let walk = follow_place(
+            alloc, run, clocks, numbers, rows, links, skips, x, &mut clock, j, next,
+        )?;
+        changed = is_either(changed, walk.changed);
+        keep_walk(&mut left, rows, x, walk)?;
     }
-    Ok(Made { clock, changed })
+    Ok(Found {
+        made: Made { clock, changed },
+        skips: left,
+    })
 }
 
-// Whether step `i` is a partner of step `j`, of which this is the clock.
-fn is_partner(run: &[Footprint], clock: &Clock, i: usize, j: usize) -> bool
+/// Whether step `i` is a partner of step `j`, of which this is the clock.
+pub(crate) fn is_partner(run: &[Footprint], clock: &Clock, i: usize, j: usize) -> bool
     requires order { i < j }
     requires within { j < length run.now }
     requires clock { IsClockOf run.now clock.now j }
@@ -218,51 +170,26 @@ fn is_partner(run: &[Footprint], clock: &Clock, i: usize, j: usize) -> bool
     !is_under(run, clock, i) && are_rivals(run, i, j)
 }
 
-// The number, or one more than the place of the greatest partner of step `j` among a thread's steps in the list, where that is more.
-fn better(
+// One more than the place of the greatest partner of step `j`, or 0. Of a partner's thread the latest step with an access of
+// the same range is one too.
+fn best_partner(
     run: &[Footprint],
     clock: &Clock,
-    latest: &Clock,
-    kinds: &[u32],
-    u: usize,
+    rows: &[Row],
+    links: &[Link],
+    found: &[usize],
     j: usize,
-    best: usize,
 ) -> usize
     requires within { j < length run.now }
     requires clock { IsClockOf run.now clock.now j }
-    requires latest { AreLatest run.now j latest.now }
-    requires kinds { AreKinds run.now j kinds.now }
-    requires partner { IsPartnerOr run.now j best }
-    ensures partner { IsPartnerOr run.now j result }
-    ensures beyond { IsBeyond run.now kinds.now j u result }
-    ensures grown { best ≤ result }
-{
-    let last = latest.of(u);
-    let known = clock.of(u) as usize;
-    for x in (0..place_of(kinds, last)).rev() {
-        let i = kinds[x] as usize;
-        if i < known || i < best {
-            return best;
-        }
-        if thread_at(run, i) as usize == u && is_partner(run, clock, i, j) {
-            return i + 1;
-        }
-    }
-    best
-}
-
-// One more than the place of the greatest partner of step `j`, or 0. A step that did the same as a partner, later in its thread, is one too.
-fn best_partner(run: &[Footprint], clock: &Clock, kinds: &[u32], latest: &Clock, j: usize) -> usize
-    requires within { j < length run.now }
-    requires clock { IsClockOf run.now clock.now j }
-    requires latest { AreLatest run.now j latest.now }
-    requires kinds { AreKinds run.now j kinds.now }
+    requires rows { AreRows run.now j rows.now links.now }
+    requires found { AreAllAsked run.now rows.now found.now j }
     ensures partner { IsPartnerOr run.now j result }
     ensures greatest { (m : ℕ) → RacePair run.now m j → m < result }
 {
     let mut best = 0;
-    for u in 0..latest.len() {
-        best = better(run, clock, latest, kinds, u, j, best);
+    for y in 0..found.len() {
+        best = better(run, clock, rows, links, found[y], j, best);
     }
     best
 }
@@ -271,44 +198,104 @@ fn best_partner(run: &[Footprint], clock: &Clock, kinds: &[u32], latest: &Clock,
 fn partner_of(
     run: &[Footprint],
     clock: &Clock,
-    kinds: &[u32],
-    latest: &Clock,
+    rows: &[Row],
+    links: &[Link],
+    found: &[usize],
     j: usize,
 ) -> Option<usize>
     requires within { j < length run.now }
     requires clock { IsClockOf run.now clock.now j }
-    requires latest { AreLatest run.now j latest.now }
-    requires kinds { AreKinds run.now j kinds.now }
+    requires rows { AreRows run.now j rows.now links.now }
+    requires found { AreAllAsked run.now rows.now found.now j }
     ensures { MatchOption result (HasNoPartner run.now j) (λ i. IsGreatestPartner run.now i j) }
 {
-    let best = best_partner(run, clock, kinds, latest, j);
+    let best = best_partner(run, clock, rows, links, found, j);
     if best == 0 { None } else { Some(best - 1) }
 }
 
-// The place in the list of a step that did the same as step `j`, or the list's length.
-fn kind_of(run: &[Footprint], kinds: &[u32], j: usize) -> usize
-    requires within { j < length run.now }
-    requires kinds { AreKinds run.now j kinds.now }
-    ensures same { result < length kinds.now → step_at run.now (slice_index kinds.now result) ≡ step_at run.now j }
-    ensures most { result ≤ length kinds.now }
+// The keys under which step `j` is noted.
+#[tactic(auto, using(mr_event::proofs::Read::step_read))]
+fn noted_at(alloc: Global, run: &[Footprint], j: usize) -> Result<Vec<Key>, OutOfMemory>
+    requires { j < length run.now }
+    ensures { IfOk result (λ v. v.items ≡ keys_noted (step_at run.now j)) }
 {
-    for x in (kinds.len().saturating_sub(MOST_COMPARED)..kinds.len()).rev() {
-        if same_steps(run, kinds[x] as usize, j) {
-            return x;
-        }
-    }
-    kinds.len()
+    let step = &run[j];
+    noted_by(alloc, step)
 }
 
-// Step `j` is the latest of its kind.
-fn note_kind(kinds: &mut Vec<u32>, x: usize, j: u32)
-    requires room { vec_len kinds.old < vec_capacity kinds.old }
-    ensures { NotesKind kinds.old.items x j kinds.new.items }
+// The places of the rows in which step `j` is noted; those that are missing are made.
+fn places_at(
+    alloc: Global,
+    run: &[Footprint],
+    index: &mut Index,
+    rows: &mut Vec<Row>,
+    j: usize,
+) -> Result<Vec<usize>, OutOfMemory>
+    requires within { j < length run.now }
+    requires marked { AreMarked index.old.shelves.items index.old.marks.keys rows.old.items }
+    ensures marked { AreMarked index.new.shelves.items index.new.marks.keys rows.new.items }
+    ensures grown { IsGrown rows.old.items rows.new.items }
+    ensures places { IfOk result (λ v. ArePlaces run.now rows.new.items v.items j) }
 {
-    if x < kinds.len() {
-        kinds.remove(x);
+    let keys = noted_at(alloc, run, j)?;
+    let places = places_for(alloc, index, rows, keys.as_slice(), thread_at(run, j))?;
+    Ok(places)
+}
+
+// Room for some more links.
+fn reserve_links(links: &mut Vec<Link>, more: usize) -> Result<(), OutOfMemory>
+    ensures same { links.new.items ≡ links.old.items }
+    ensures room { OnOk result (vec_len links.new + more ≤ vec_capacity links.new) }
+    ensures small { OnOk result (vec_len links.new + more < 2 ^ 32) }
+{
+    if links.len() > MOST_LINKS || more > MOST_LINKS - links.len() {
+        return Err(OutOfMemory);
     }
-    kinds.push_reserved(j);
+    links.reserve(more)
+}
+
+// The places of the rows in which step `j` is noted. All the memory that keeping the step needs is taken.
+fn prepare(
+    alloc: Global,
+    run: &[Footprint],
+    clocks: &mut Vec<Clock>,
+    numbers: &mut Vec<u32>,
+    latest: &mut Clock,
+    index: &mut Index,
+    rows: &mut Vec<Row>,
+    links: &mut Vec<Link>,
+    skips: &mut Vec<Skip>,
+    more: usize,
+    j: usize,
+) -> Result<Vec<usize>, OutOfMemory>
+    requires within { j < length run.now }
+    requires few { length run.now < 2 ^ 32 }
+    requires marked { AreMarked index.old.shelves.items index.old.marks.keys rows.old.items }
+    ensures clocks { clocks.new.items ≡ clocks.old.items }
+    ensures numbers { numbers.new.items ≡ numbers.old.items }
+    ensures links { links.new.items ≡ links.old.items }
+    ensures skips { skips.new.items ≡ skips.old.items }
+    ensures marked { AreMarked index.new.shelves.items index.new.marks.keys rows.new.items }
+    ensures grown { IsGrown rows.old.items rows.new.items }
+    ensures err { OnErr result (latest.new ≡ latest.old) }
+    ensures own { OnOk result
+        (slice_index latest.new (thread_at run.now j) ≡ max (slice_index latest.old (thread_at run.now j)) (j + 1)) }
+    ensures others { OnOk result
+        ((t : ℕ) → t ≢ thread_at run.now j → slice_index latest.new t ≡ slice_index latest.old t) }
+    ensures places { IfOk result (λ v. ArePlaces run.now rows.new.items v.items j) }
+    ensures one_clock { OnOk result (vec_len clocks.new < vec_capacity clocks.new) }
+    ensures one_number { OnOk result (vec_len numbers.new < vec_capacity numbers.new) }
+    ensures table { OnOk result (0 < more → vec_len skips.new < 8192 → 8192 ≤ vec_capacity skips.new) }
+    ensures room { IfOk result (λ v. vec_len links.new + vec_len v ≤ vec_capacity links.new) }
+    ensures small { IfOk result (λ v. vec_len links.new + vec_len v < 2 ^ 32) }
+{
+    let places = places_at(alloc, run, index, rows, j)?;
+    reserve_links(links, places.len())?;
+    reserve_table(skips, more)?;
+    clocks.reserve(1)?;
+    numbers.reserve(1)?;
+    latest.raise(thread_at(run, j), j as u32 + 1)?;
+    Ok(places)
 }
 
 // The number of the clock of a step: a new one, or that of the step before in its thread, to which the table of latest steps leads.
@@ -317,7 +304,8 @@ fn numbered(clocks: &mut Vec<Clock>, numbers: &[u32], next: u32, made: Made) -> 
     requires few { length clocks.old.items < 2 ^ 32 }
     requires step { next ≤ length numbers.now }
     requires within { (p : ℕ) → next ≡ p + 1 → slice_index numbers.now p < length clocks.old.items }
-    requires same { IsFalse made.changed → (p : ℕ) → next ≡ p + 1 → made.clock ≡ clock_at clocks.old.items numbers.now p }
+    requires same { IsFalse made.changed → (p : ℕ) → next ≡ p + 1
+        → made.clock ≡ clock_at clocks.old.items numbers.now p }
     ensures { Numbered clocks.old.items made.clock result clocks.new.items }
 {
     if made.changed || next == 0 {
@@ -327,6 +315,49 @@ fn numbered(clocks: &mut Vec<Clock>, numbers: &[u32], next: u32, made: Made) -> 
     } else {
         numbers[next as usize - 1]
     }
+}
+
+// Keeps the clock of step `j` and the skips that its walks leave, and notes the step in the rows at some places. The memory
+// for it is there.
+fn enter(
+    alloc: Global,
+    run: &[Footprint],
+    clocks: &mut Vec<Clock>,
+    numbers: &mut Vec<u32>,
+    rows: &mut Vec<Row>,
+    links: &mut Vec<Link>,
+    skips: &mut Vec<Skip>,
+    next: u32,
+    places: &[usize],
+    j: usize,
+    made: Made,
+    left: Vec<Skip>,
+)
+    requires within { j < length run.now }
+    requires few { length run.now < 2 ^ 32 }
+    requires clocks { AreClocks run.now j clocks.old.items numbers.old.items }
+    requires rows { AreRows run.now j rows.old.items links.old.items }
+    requires skips { AreSkips run.now j links.old.items skips.old.items }
+    requires places { ArePlaces run.now rows.old.items places.now j }
+    requires next { next ≤ j }
+    requires clock { IsClockOf run.now made.clock j }
+    requires same { IsFalse made.changed → (p : ℕ) → next ≡ p + 1
+        → made.clock ≡ clock_at clocks.old.items numbers.old.items p }
+    requires left { AreSkips run.now j links.old.items left.items }
+    requires one_clock { vec_len clocks.old < vec_capacity clocks.old }
+    requires one_number { vec_len numbers.old < vec_capacity numbers.old }
+    requires room { vec_len links.old + length places.now ≤ vec_capacity links.old }
+    requires small { vec_len links.old + length places.now < 2 ^ 32 }
+    requires table { 0 < vec_len left → vec_len skips.old < 8192 → 8192 ≤ vec_capacity skips.old }
+    ensures clocks { AreClocks run.now (j + 1) clocks.new.items numbers.new.items }
+    ensures rows { AreRows run.now (j + 1) rows.new.items links.new.items }
+    ensures keys { HaveKeysOf rows.old.items rows.new.items }
+    ensures skips { AreSkips run.now (j + 1) links.new.items skips.new.items }
+{
+    let number = numbered(clocks, numbers.as_slice(), next, made);
+    numbers.push_reserved(number);
+    note_all(run, rows, links, places, j);
+    store_all(alloc, skips, left);
 }
 
 // The clocks of these steps joined, with the steps themselves under it.
@@ -353,7 +384,8 @@ fn joined(
 // For each step whether it lies under a clock.
 fn marks_under(alloc: Global, run: &[Footprint], clock: &Clock) -> Result<Vec<bool>, OutOfMemory>
     ensures length { IfOk result (λ v. vec_len v ≡ length run.now) }
-    ensures each { IfOk result (λ v. (k : ℕ) → k < length run.now → IsTrue (slice_index_or v.items k false) ↔ IsUnder run.now clock.now k) }
+    ensures each { IfOk result
+        (λ v. (k : ℕ) → k < length run.now → IsTrue (slice_index_or v.items k false) ↔ IsUnder run.now clock.now k) }
 {
     let mut marks = Vec::new(alloc);
     for k in 0..run.len() {
@@ -362,29 +394,41 @@ fn marks_under(alloc: Global, run: &[Footprint], clock: &Clock) -> Result<Vec<bo
     Ok(marks)
 }
 
-/// The clocks of the steps of a run so far, and for each thread its latest step.
+/// The clocks of the steps of a run so far, for each thread its latest step, and the rows of the steps.
 #[derive(Drop)]
 pub struct Analysis {
     alloc: Global,
     clocks: Vec<Clock>,
     numbers: Vec<u32>,
     latest: Clock,
-    kinds: Vec<u32>,
+    index: Index,
+    rows: Vec<Row>,
+    links: Vec<Link>,
+    skips: Vec<Skip>,
 }
 
 impl Model for Analysis {
     ghost use Rattle.std.specs.Prelude.{List, ℕ};
+    ghost use Rattle.mr_base.specs.declared.access.Access.{Access};
+    ghost use Rattle.mr_clocks.specs.declared.rows.Row.{Row};
+    ghost use Rattle.mr_clocks.specs.declared.rows.Link.{Link};
+    ghost use Rattle.mr_clocks.specs.Marks.{AreMarked};
 
-    ghost Value = { List (List ℕ) × List ℕ × List ℕ × List ℕ };
+    ghost Value = { List (List ℕ) × List ℕ × List ℕ × List Row × List Link × List (ℕ × ℕ × List Access) };
 
-    ghost view = { λ a. (a.clocks.items, a.numbers.items, a.latest, a.kinds.items) };
+    ghost view = { λ a. (a.clocks.items, a.numbers.items, a.latest, a.rows.items, a.links.items, a.skips.items) };
+
+    // Each row is found by its key.
+    ghost invariant = { λ a. AreMarked a.index.shelves.items a.index.marks.keys a.rows.items };
 }
 
 impl Analysis {
     ghost use Rattle.std.specs.Prelude.{◌≡◌, ℕ, ◌+◌, ◌-◌, ◌<◌, ◌^◌, [], ◌↔◌, All, IsFalse, IsTrue, IfOk, OnOk, OnErr, MatchOption, false, length, slice_index, slice_index_or, take, vec_len};
     ghost use Rattle.mr_event.specs.Order.{thread_at, HappensBefore, IsGreatestPartner, HasNoPartner};
     ghost use Rattle.mr_clocks.specs.Clocks.{AreClocks, AreLatest, IsClockOf, clock_at};
-    ghost use Rattle.mr_clocks.specs.Kinds.{AreKinds, Tracks};
+    ghost use Rattle.mr_clocks.specs.Rows.{AreRows};
+    ghost use Rattle.mr_clocks.specs.Skips.{AreSkips};
+    ghost use Rattle.mr_clocks.specs.Tracked.{Tracks};
     ghost use Rattle.mr_clocks.specs.Whole.{AreFronts, IsNeeded, IsReady};
 
     /// The analysis of no step.
@@ -396,7 +440,13 @@ impl Analysis {
             clocks: Vec::new(alloc),
             numbers: Vec::new(alloc),
             latest: Clock::new(alloc),
-            kinds: Vec::new(alloc),
+            index: Index {
+                shelves: Vec::new(alloc),
+                marks: BTreeSet::new(alloc),
+            },
+            rows: Vec::new(alloc),
+            links: Vec::new(alloc),
+            skips: Vec::new(alloc),
         }
     }
 
@@ -405,23 +455,28 @@ impl Analysis {
         requires some { 0 < length run.now }
         requires few { length run.now < 2 ^ 32 }
         requires tracks { Tracks self.old (take (length run.now - 1) run.now) }
-        ensures partner { IfOk result (λ o. MatchOption o (HasNoPartner run.now (length run.now - 1)) (λ i. IsGreatestPartner run.now i (length run.now - 1))) }
+        ensures partner { IfOk result (λ o. MatchOption o (HasNoPartner run.now (length run.now - 1))
+            (λ i. IsGreatestPartner run.now i (length run.now - 1))) }
         ensures tracks { OnOk result (Tracks self.new run.now) }
         ensures err { OnErr result (self.new ≡ self.old) }
     {
         let j = run.len() - 1;
-        let made = clock_of(
+        let found = asked_at(self.alloc, &self.index, run, j)?;
+        let here = clock_of(
             self.alloc,
             run,
             &self.clocks,
             &self.numbers,
             &self.latest,
-            &self.kinds,
+            &self.rows,
+            &self.links,
+            &self.skips,
+            &found,
             j,
         )?;
-        let found = partner_of(run, &made.clock, &self.kinds, &self.latest, j);
-        self.keep(run, j, made)?;
-        Ok(found)
+        let partner = partner_of(run, &here.made.clock, &self.rows, &self.links, &found, j);
+        self.keep(run, j, here)?;
+        Ok(partner)
     }
 
     /// Whether step `i` of the run happens before step `k`.
@@ -474,7 +529,8 @@ impl Analysis {
         requires steps { All (λ s. s < length run.now) steps.now }
         requires tracks { Tracks self.now run.now }
         ensures length { IfOk result (λ v. vec_len v ≡ length run.now) }
-        ensures each { IfOk result (λ v. (k : ℕ) → k < length run.now → IsTrue (slice_index_or v.items k false) ↔ IsNeeded run.now steps.now k) }
+        ensures each { IfOk result (λ v. (k : ℕ) → k < length run.now
+            → IsTrue (slice_index_or v.items k false) ↔ IsNeeded run.now steps.now k) }
     {
         let clock = joined(
             alloc,
@@ -486,30 +542,61 @@ impl Analysis {
         marks_under(alloc, run, &clock)
     }
 
-    // Keeps the clock of the next step. It takes its memory before it changes anything.
-    fn keep(&mut self, run: &[Footprint], j: usize, made: Made) -> Result<(), OutOfMemory>
+    // Keeps the clock of the next step, and notes the step in its rows. It takes its memory before it changes anything;
+    // where that fails, the rows that it made go.
+    fn keep(&mut self, run: &[Footprint], j: usize, here: Found) -> Result<(), OutOfMemory>
         requires within { j < length run.now }
         requires few { length run.now < 2 ^ 32 }
         requires clocks { AreClocks run.now j self.old.0 self.old.1 }
         requires latest { AreLatest run.now j self.old.2 }
-        requires kinds { AreKinds run.now j self.old.3 }
-        requires clock { IsClockOf run.now made.clock j }
-        requires same { IsFalse made.changed → (p : ℕ) → slice_index self.old.2 (thread_at run.now j) ≡ p + 1 → made.clock ≡ clock_at self.old.0 self.old.1 p }
+        requires rows { AreRows run.now j self.old.3 self.old.4 }
+        requires skips { AreSkips run.now j self.old.4 self.old.5 }
+        requires clock { IsClockOf run.now here.made.clock j }
+        requires same { IsFalse here.made.changed → (p : ℕ) → slice_index self.old.2 (thread_at run.now j) ≡ p + 1
+            → here.made.clock ≡ clock_at self.old.0 self.old.1 p }
+        requires more { AreSkips run.now j self.old.4 here.skips.items }
         ensures clocks { OnOk result (AreClocks run.now (j + 1) self.new.0 self.new.1) }
         ensures latest { OnOk result (AreLatest run.now (j + 1) self.new.2) }
-        ensures kinds { OnOk result (AreKinds run.now (j + 1) self.new.3) }
+        ensures rows { OnOk result (AreRows run.now (j + 1) self.new.3 self.new.4) }
+        ensures skips { OnOk result (AreSkips run.now (j + 1) self.new.4 self.new.5) }
         ensures err { OnErr result (self.new ≡ self.old) }
     {
-        let thread = thread_at(run, j);
-        let next = self.latest.at(thread);
-        let kind = kind_of(run, self.kinds.as_slice(), j);
-        self.clocks.reserve(1)?;
-        self.numbers.reserve(1)?;
-        self.kinds.reserve(1)?;
-        self.latest.raise(thread, j as u32 + 1)?;
-        let number = numbered(&mut self.clocks, self.numbers.as_slice(), next, made);
-        self.numbers.push_reserved(number);
-        note_kind(&mut self.kinds, kind, j as u32);
-        Ok(())
+        let next = self.latest.at(thread_at(run, j));
+        let count = self.rows.len();
+        match prepare(
+            self.alloc,
+            run,
+            &mut self.clocks,
+            &mut self.numbers,
+            &mut self.latest,
+            &mut self.index,
+            &mut self.rows,
+            &mut self.links,
+            &mut self.skips,
+            here.skips.len(),
+            j,
+        ) {
+            Ok(places) => {
+                enter(
+                    self.alloc,
+                    run,
+                    &mut self.clocks,
+                    &mut self.numbers,
+                    &mut self.rows,
+                    &mut self.links,
+                    &mut self.skips,
+                    next,
+                    places.as_slice(),
+                    j,
+                    here.made,
+                    here.skips,
+                );
+                Ok(())
+            }
+            Err(fault) => {
+                self.rows.truncate(count);
+                Err(fault)
+            }
+        }
     }
 }

@@ -31,23 +31,6 @@ impl Clock {
         }
     }
 
-    /// How many threads have a number.
-    pub(crate) fn len(&self) -> usize
-        ensures { result ≡ length self.now }
-    {
-        self.times.len()
-    }
-
-    /// The number of a thread.
-    pub(crate) fn of(&self, thread: usize) -> u32
-        ensures { result ≡ slice_index self.now thread }
-    {
-        match self.times.get(thread) {
-            Some(time) => *time,
-            None => 0,
-        }
-    }
-
     /// The number of a thread.
     pub(crate) fn at(&self, thread: u32) -> u32
         ensures { result ≡ slice_index self.now thread }
@@ -69,7 +52,8 @@ impl Clock {
 
     /// Whether no number is above its bound. A thread past the end of the bounds has none.
     pub(crate) fn is_within(&self, bounds: &[usize]) -> bool
-        ensures { IsTrue result ↔ ((t : ℕ) → t < length bounds.now → slice_index self.now t ≤ slice_index bounds.now t) }
+        ensures { IsTrue result
+            ↔ ((t : ℕ) → t < length bounds.now → slice_index self.now t ≤ slice_index bounds.now t) }
     {
         for t in 0..self.times.len().min(bounds.len()) {
             if self.times[t] as usize > bounds[t] {
@@ -92,7 +76,8 @@ impl Clock {
 
     // Raises each number to that of another clock.
     fn join(&mut self, other: &Clock) -> Result<(), OutOfMemory>
-        ensures { OnOk result ((t : ℕ) → slice_index self.new t ≡ max (slice_index self.old t) (slice_index other.now t)) }
+        ensures { OnOk result
+            ((t : ℕ) → slice_index self.new t ≡ max (slice_index self.old t) (slice_index other.now t)) }
     {
         if !other.times.is_empty() {
             extend_past(&mut self.times, other.times.len() - 1)?;

@@ -1,10 +1,12 @@
 //! Vector clocks of the steps of a run, a step at a time, and the races that the run shows. (Lamport: happens-before; FastTrack: races.)
 //!
-//! - [`Analysis`]: what is known of a run. Contracts see it as its clocks, for each step the number of its clock, and for each thread its
-//!   latest step.
+//! - [`Analysis`]: what is known of a run. Contracts see it as its clocks, for each step the number of its clock, for each
+//!   thread its latest step, the rows of the steps with their links, and skips: a row has for a key and a thread the steps that
+//!   are noted under the key.
 //!
-//! Definitions: `specs/Clocks.antt` says what the clock of a step is and what an analysis tracks; happens-before and the races are those of
-//! `mr_event`. Proved of the public calls:
+//! Definitions: `specs/Clocks.antt` says what the clock of a step is, `Keys` under which keys a step is noted and which it
+//! asks, `Rows` and `Marks` how the steps of a key are kept and found, `Skips` how steps that race are passed, and `Tracked`
+//! what an analysis tracks; happens-before and the races are those of `mr_event`. Proved of the public calls:
 //!
 //! - [`Analysis::new`] tracks the empty list.
 //! - [`Analysis::add`], on an analysis that tracks a run without its last step, gives the greatest partner of that step, and then tracks the
@@ -22,10 +24,14 @@
 
 mod analysis;
 mod clock;
+mod index;
+mod keys;
 mod laws;
 mod order;
+mod rows;
 mod runs;
-mod same;
+mod skips;
+mod walks;
 mod whole;
 
 pub use analysis::Analysis;

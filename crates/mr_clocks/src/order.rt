@@ -1,13 +1,13 @@
 //! Edges and races of two steps of a run, by their footprints.
 
-ghost use Rattle.std.specs.Prelude.{◌≡◌, ◌≢◌, ◌==◌, ◌<◌, ◌≤◌, ◌↔◌, IsTrue, true, false, length};
-ghost use Rattle.std.specs.List.{list_any};
-ghost use Rattle.mr_base.specs.Accesses.{some_race};
-ghost use Rattle.mr_event.specs.Footprints.{depends as is_dependent, spawns as is_spawning, wakes as is_waking};
+ghost use Rattle.std.specs.Prelude.{◌≡◌, ◌≢◌, ◌<◌, ◌≤◌, ◌↔◌, IsTrue, true, false, length};
+ghost use Rattle.mr_base.specs.Accesses.{some_race as has_race};
+ghost use Rattle.mr_event.specs.Footprints.{depends as is_dependent, wakes as is_waking};
 ghost use Rattle.mr_event.specs.Order.{step_at, thread_at, AreRivals, Edge};
-ghost use Rattle.mr_clocks.specs.Kinds.{IsNext};
+ghost use Rattle.mr_clocks.specs.Tracked.{IsNext};
 
-use mr_event::{Event, Footprint, depends};
+use mr_event::{Footprint, depends, wakes};
+use mr_track::some_race;
 
 /// The thread of a step.
 #[tactic(auto, using(mr_event::proofs::Read::step_read))]
@@ -16,30 +16,7 @@ pub fn thread_at(run: &[Footprint], i: usize) -> u32
     ensures { result ≡ thread_at run.now i }
 {
     let step = &run[i];
-    step.thread
-}
-
-fn contains_thread(list: &[u32], thread: u32) -> bool
-    ensures { result ≡ list_any (λ t. t == thread) list.now }
-{
-    list.iter().any(|t| *t == thread)
-}
-
-fn spawns(event: Event, thread: u32) -> bool
-    ensures { result ≡ is_spawning event thread }
-{
-    match event {
-        Event::Spawn(spawned) => spawned == thread,
-        _ => false,
-    }
-}
-
-// Whether a step woke or created the thread.
-#[tactic(auto, unfolding(mr_event::specs::Footprints::wakes))]
-fn wakes(f: &Footprint, thread: u32) -> bool
-    ensures { result ≡ is_waking f.now thread }
-{
-    contains_thread(f.woken.as_slice(), thread) || spawns(f.event, thread)
+    step.thread()
 }
 
 #[tactic(auto, using(mr_event::proofs::Read::step_read))]
@@ -67,11 +44,11 @@ fn step_depends(run: &[Footprint], i: usize, j: usize) -> bool
 fn step_races(run: &[Footprint], i: usize, j: usize) -> bool
     requires first { i < length run.now }
     requires second { j < length run.now }
-    ensures { result ≡ some_race (step_at run.now i).accesses (step_at run.now j).accesses }
+    ensures { result ≡ has_race (step_at run.now i).accesses (step_at run.now j).accesses }
 {
     let first = &run[i];
     let second = &run[j];
-    mr_track::races(&first.accesses, &second.accesses)
+    some_race(first.accesses(), second.accesses())
 }
 
 // Whether step `i` woke or created the thread of step `j` and is not before `next`.
@@ -87,7 +64,8 @@ fn is_woken_by(run: &[Footprint], i: usize, j: usize, next: usize) -> bool
 fn is_bound_by(run: &[Footprint], i: usize, j: usize) -> bool
     requires first { i < length run.now }
     requires second { j < length run.now }
-    ensures { IsTrue result ↔ (is_dependent (step_at run.now i) (step_at run.now j) ≡ true) × (some_race (step_at run.now i).accesses (step_at run.now j).accesses ≡ false) }
+    ensures { IsTrue result ↔ (is_dependent (step_at run.now i) (step_at run.now j) ≡ true)
+        × (has_race (step_at run.now i).accesses (step_at run.now j).accesses ≡ false) }
 {
     step_depends(run, i, j) && !step_races(run, i, j)
 }

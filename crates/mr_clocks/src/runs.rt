@@ -40,7 +40,8 @@ fn predicted_of(alloc: Global, run: &[Footprint]) -> Result<Vec<Pair>, OutOfMemo
 pub fn follows(alloc: Global, run: &[Footprint], first: usize) -> Result<Vec<bool>, OutOfMemory>
     requires { first < length run.now }
     ensures length { IfOk result (λ v. vec_len v ≡ length run.now) }
-    ensures each { IfOk result (λ v. (k : ℕ) → k < length run.now → IsTrue (slice_index_or v.items k false) ↔ HappensBefore run.now first k) }
+    ensures each { IfOk result
+        (λ v. (k : ℕ) → k < length run.now → IsTrue (slice_index_or v.items k false) ↔ HappensBefore run.now first k) }
 {
     if run.len() > MOST_STEPS {
         return follows_plain(alloc, run, first);
@@ -53,7 +54,8 @@ fn follows_of(alloc: Global, run: &[Footprint], first: usize) -> Result<Vec<bool
     requires first { first < length run.now }
     requires few { length run.now < 2 ^ 32 }
     ensures length { IfOk result (λ v. vec_len v ≡ length run.now) }
-    ensures each { IfOk result (λ v. (k : ℕ) → k < length run.now → IsTrue (slice_index_or v.items k false) ↔ HappensBefore run.now first k) }
+    ensures each { IfOk result
+        (λ v. (k : ℕ) → k < length run.now → IsTrue (slice_index_or v.items k false) ↔ HappensBefore run.now first k) }
 {
     let analysis = Analysis::of_run(alloc, run)?;
     let mut marked = Vec::new(alloc);

@@ -80,7 +80,8 @@ fn is_needed_plain(
 fn needed_plain(alloc: Global, run: &[Footprint], steps: &[usize]) -> Result<Vec<bool>, OutOfMemory>
     requires { All (λ s. s < length run.now) steps.now }
     ensures length { IfOk result (λ v. vec_len v ≡ length run.now) }
-    ensures each { IfOk result (λ v. (k : ℕ) → k < length run.now → IsTrue (slice_index_or v.items k false) ↔ IsNeeded run.now steps.now k) }
+    ensures each { IfOk result
+        (λ v. (k : ℕ) → k < length run.now → IsTrue (slice_index_or v.items k false) ↔ IsNeeded run.now steps.now k) }
 {
     let mut marks = Vec::new(alloc);
     for k in 0..run.len() {
@@ -140,7 +141,8 @@ impl RunOrder {
         requires steps { All (λ s. s < length run.now) steps.now }
         requires order { IsOrderOf self.now run.now }
         ensures length { IfOk result (λ v. vec_len v ≡ length run.now) }
-        ensures each { IfOk result (λ v. (k : ℕ) → k < length run.now → IsTrue (slice_index_or v.items k false) ↔ IsNeeded run.now steps.now k) }
+        ensures each { IfOk result (λ v. (k : ℕ) → k < length run.now
+            → IsTrue (slice_index_or v.items k false) ↔ IsNeeded run.now steps.now k) }
     {
         match &self.clocks {
             Some(analysis) => analysis.needed(alloc, run, steps),

@@ -27,14 +27,14 @@ use Rattle.mr_command.specs.declared.refusal.Refusal.TheVariants as refusal
 use Rattle.mr_command.specs.declared.command.Format.{Format}
 use Rattle.mr_command.specs.declared.command.Format.TheVariants as format
 use Rattle.mr_command.specs.Command.{Auto, Big, Check, Command, NamesProgram, Offline, Run, Upgrade}
-use Rattle.mr_command.specs.Answer.{Answer, Ran, auto_answer, big_answer, big_schedule, drawn_answer, program_in, ran, schedule_in, denoted, spelled, text_refusal, legal_run, unless_broken, canonical, check_answer, form_answer, form_or, in_text, line_at, listed, races_in, races_status, read_report, refused, shown, report_under, reported, run_answer, shuffled_answer, told, upgrade_answer, upgraded, answer_of}
+use Rattle.mr_command.specs.Answer.{Answer, Ran, auto_answer, big_answer, big_schedule, drawn_answer, program_in, ran, schedule_in, denoted, spelled, text_refusal, legal_run, unless_broken, canonical, check_answer, form_answer, form_or, line_at, listed, races_in, races_status, read_report, refused, shown, report_under, reported, run_answer, shuffled_answer, told, upgrade_answer, upgraded, answer_of}
 use Rattle.mr_witness.proofs.Kept.{first_witness}
 use Rattle.mr_order.proofs.First.{first_of_predicted}
 use Rattle.mr_short.proofs.Witness.{witness_of_run}
 use Rattle.mr_shuffle.specs.Shuffled.{shuffled}
 use Rattle.mr_shuffle.proofs.Copied.{shuffled_same}
 use Rattle.mr_shuffle.proofs.Drawn.{shuffled_rearranged}
-use Rattle.mr_event.specs.declared.footprint.Footprint.{Footprint}
+use Rattle.mr_event.specs.Footprint.{Footprint}
 use Rattle.mr_event.proofs.Tests.{predicted_is}
 use Rattle.mr_trace.specs.Reading.{races_in as races_read, races_of, trace_of}
 use Rattle.mr_trace.proofs.TraceLaws.{fault_so, trace_again}
@@ -60,12 +60,12 @@ pub named_answer : (files : Contents) (command : Option Command) (format : Forma
 named_answer files command format p v w h =
     let program = denoted_in (files h.program_name) h.program_text p h.program_there h.denotes in
     let schedule : schedule_in (files h.schedule_name) ≡ Ok (as_read v w) = ap schedule_in h.schedule_there ∙ ap spelled (schedule_again h.schedule_text v w h.schedules) in
-    let legal : legal_run p w ≡ Ok (ran p w) = ap (λ f. unless_broken f (ran p w)) (no_schedule_fault p w h.legal) in
+    let legal : legal_run v p w ≡ Ok (ran p w) = ap (λ f. unless_broken v w f (ran p w)) (no_schedule_fault p w h.legal) in
     ap (answer_of files) h.is_run
     ∙ ap (told (run_answer format (files h.schedule_name))) program
     ∙ ap (λ faults. form_or p faults (report_under format (files h.schedule_name) p)) h.well_formed.unbroken
     ∙ ap (told (read_report format p)) schedule
-    ∙ ap (λ r. told (reported format p v w) (in_text v w r)) legal
+    ∙ ap (told (reported format p v w)) legal
 
 -- a well-formed program that is checked is answered by its canonical text
 pub checked_answer : (files : Contents) (command : Option Command) (p : Program) → ChecksProgram files command p → answer_of files command ≡ canonical p
@@ -150,7 +150,7 @@ broken_schedule_answer files command v w fault h =
     run_answer_of files command h.program h.schedule_name h.runs
     ∙ ap (λ file. report_under h.runs.format file h.program) h.there
     ∙ ap (λ r. told (read_report h.runs.format h.program) (spelled r)) (schedule_again h.text v w h.schedules)
-    ∙ ap (λ f. told (reported h.runs.format h.program v w) (in_text v w (unless_broken f (ran h.program w)))) h.first
+    ∙ ap (λ f. told (reported h.runs.format h.program v w) (unless_broken v w f (ran h.program w))) h.first
 
 -- a schedule that is upgraded is answered by its text in version 2
 pub upgraded_answer : (files : Contents) (command : Option Command) (v : Version) (w : Schedule) → Upgrades files command v w → answer_of files command ≡ upgraded w

@@ -18,7 +18,7 @@ use Rattle.mr_start.proofs.RunLaws.{legal_schedule}
 use Rattle.mr_wf.specs.declared.fault.FormFault.{FormFault}
 use Rattle.mr_wf.specs.Walk.{WellFormed, faults_of}
 use Rattle.mr_auto.specs.Drawing.{drawn_schedule}
-use Rattle.mr_event.specs.declared.footprint.Footprint.{Footprint}
+use Rattle.mr_event.specs.Footprint.{Footprint}
 use Rattle.mr_event.specs.Predicted.{predicted}
 use Rattle.mr_trace.specs.declared.fault.TheConstants.{TOO_LONG}
 use Rattle.mr_trace.specs.Faults.{too_long}
@@ -26,7 +26,7 @@ use Rattle.mr_trace.specs.Reading.{Place, races_in as races_read, trace_of}
 use Rattle.mr_trace.proofs.TraceLaws.{fault_is, trace_is}
 use Rattle.mr_command.specs.declared.command.Format.{Format}
 use Rattle.mr_command.specs.Command.{Auto, Check, Command, Offline, Run, Upgrade}
-use Rattle.mr_command.specs.Answer.{Answer, Ran, answer_of, auto_answer, canonical, check_answer, denoted, drawn_answer, form_or, in_text, listed, program_in, races_in, ran, read_report, report_under, reported, run_answer, schedule_in, shown, spelled, told, unless_broken, upgrade_answer, upgraded}
+use Rattle.mr_command.specs.Answer.{Answer, Ran, answer_of, auto_answer, canonical, check_answer, denoted, drawn_answer, form_or, listed, program_in, races_in, ran, read_report, report_under, reported, run_answer, schedule_in, shown, spelled, told, unless_broken, upgrade_answer, upgraded}
 use Rattle.mr_command.specs.Outcome.{Ends, IsWhole}
 use Rattle.mr_command.specs.Headline.{ChecksProgram, DrawsFor, HasScheduleFault, Names, ReportsLegalRun, Upgrades, WritesCanonical, WritesDrawn, WritesUpgraded}
 use Rattle.mr_command.specs.Showing.{HasBytes, Shown}
@@ -41,7 +41,7 @@ unbroken_well_formed text p parses none = record { shaped = denoted_is_shaped te
 
 -- ---- where a status is at most 1
 
-no_fault : (format : Format) (p : Program) (v : Version) (w : Schedule) (f : Option PlacedFault) (c : Ran) → (told (reported format p v w) (in_text v w (unless_broken f c))).status ≤ 1
+no_fault : (format : Format) (p : Program) (v : Version) (w : Schedule) (f : Option PlacedFault) (c : Ran) → (told (reported format p v w) (unless_broken v w f c)).status ≤ 1
     → f ≡ None
 no_fault format p v w None c s = refl
 no_fault format p v w (Some f) c s = let five : 5 ≤ 1 = s in absurd (omega arith)

@@ -17,11 +17,11 @@ use Rattle.mr_auto.specs.Drawing.{drawn_schedule}
 use Rattle.mr_gen.specs.Generated.{generated}
 use Rattle.mr_command.specs.declared.command.Format.{Format}
 use Rattle.mr_command.specs.Command.{Auto, Big, Check, Command, Offline, Run, Upgrade}
-use Rattle.mr_command.specs.Answer.{Answer, Ran, answer_of, auto_answer, big_answer, big_schedule, canonical, check_answer, denoted, drawn_answer, form_or, in_text, program_in, ran, read_report, report_under, reported, run_answer, schedule_in, spelled, told, unless_broken, upgrade_answer}
+use Rattle.mr_command.specs.Answer.{Answer, Ran, answer_of, auto_answer, big_answer, big_schedule, canonical, check_answer, denoted, drawn_answer, form_or, program_in, ran, read_report, report_under, reported, run_answer, schedule_in, spelled, told, unless_broken, upgrade_answer}
 use Rattle.mr_command.proofs.HeadlineLaws.{at_most_one, reported_least}
 
 -- what else is answered has a status below that
-legal_below : (format : Format) (p : Program) (v : Version) (w : Schedule) (f : Option PlacedFault) (r : Ran) → (told (reported format p v w) (in_text v w (unless_broken f r))).status ≤ 8
+legal_below : (format : Format) (p : Program) (v : Version) (w : Schedule) (f : Option PlacedFault) (r : Ran) → (told (reported format p v w) (unless_broken v w f r)).status ≤ 8
 legal_below format p v w None r = let least = reported_least format p v w r in omega (arith, least)
 legal_below format p v w (Some f) r = omega arith
 

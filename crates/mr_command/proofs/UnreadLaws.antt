@@ -19,14 +19,14 @@ use Rattle.mr_event.specs.declared.footprint.Pair.{Pair}
 use Rattle.mr_trace.specs.Reading.{Place, races_of}
 use Rattle.mr_command.specs.declared.command.Format.{Format}
 use Rattle.mr_command.specs.Command.{Auto, Big, Check, Command, Offline, Run, Upgrade}
-use Rattle.mr_command.specs.Answer.{Answer, Ran, answer_of, auto_answer, big_answer, big_schedule, drawn_answer, canonical, check_answer, denoted, form_or, in_text, listed, program_in, races_in, ran, read_report, report_under, reported, run_answer, schedule_in, shown, spelled, told, unless_broken, upgrade_answer}
+use Rattle.mr_command.specs.Answer.{Answer, Ran, answer_of, auto_answer, big_answer, big_schedule, drawn_answer, canonical, check_answer, denoted, form_or, listed, program_in, races_in, ran, read_report, report_under, reported, run_answer, schedule_in, shown, spelled, told, unless_broken, upgrade_answer}
 use Rattle.mr_command.specs.Outcome.{Ends, IsPossible}
 use Rattle.mr_command.specs.Headline.{IsUnreadBecause, LacksFile}
 use Rattle.mr_command.proofs.HeadlineLaws.{at_most_one, races_least, ran_out, reported_least, written_status}
 
 -- ---- the status 6 is that of a file that isn't there
 
-of_legal : (format : Format) (p : Program) (v : Version) (w : Schedule) (f : Option PlacedFault) (r : Ran) → (told (reported format p v w) (in_text v w (unless_broken f r))).status ≡ 6 → ⊥
+of_legal : (format : Format) (p : Program) (v : Version) (w : Schedule) (f : Option PlacedFault) (r : Ran) → (told (reported format p v w) (unless_broken v w f r)).status ≡ 6 → ⊥
 of_legal format p v w None r s = let least = reported_least format p v w r in absurd (omega arith)
 of_legal format p v w (Some f) r s = let five : 5 ≡ 6 = s in absurd (omega arith)
 

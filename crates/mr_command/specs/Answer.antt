@@ -12,12 +12,13 @@ use Rattle.mr_sched.specs.declared.version.Version.TheVariants.{One, Two}
 use Rattle.mr_sched.specs.Reading.{Fault, schedule_of}
 use Rattle.mr_plan.specs.Runs.{Config}
 use Rattle.mr_thread.specs.Steps.{Own}
-use Rattle.mr_event.specs.declared.footprint.Footprint.{Footprint}
+use Rattle.mr_event.specs.Footprint.{Footprint}
 use Rattle.mr_event.specs.declared.footprint.Pair.{Pair}
 use Rattle.mr_event.specs.Predicted.{predicted}
 use Rattle.mr_start.specs.Start.{run_of, schedule_fault, steps_of, PlacedFault}
-use Rattle.mr_exchange.specs.Witness.{kept_schedule}
-use Rattle.mr_short.specs.Short.{short_schedule}
+use Rattle.mr_run.specs.declared.witnesses.Selection.{Selection}
+use Rattle.mr_run.specs.declared.witnesses.Selection.TheVariants.{Kept, Needed}
+use Rattle.mr_run.specs.Witnesses.{witness_for}
 use Rattle.mr_shuffle.specs.Shuffled.{shuffled}
 use Rattle.mr_wf.specs.declared.fault.FormFault.{FormFault}
 use Rattle.mr_wf.specs.Walk.{faults_of}
@@ -69,10 +70,15 @@ abbrev pub races_in : Option (List ℕ) → Result (List Pair) Refusal
 races_in None = Err refusal.ReadTrace
 races_in (Some bytes) = shown (races_of bytes)
 
--- a thing, or the rule that is broken, as a refusal at the place of the fault
-abbrev pub unless_broken : {A : Type 0} → Option PlacedFault → A → Result A Refusal
-unless_broken None x = Ok x
-unless_broken (Some f) x = Err (refusal.Schedule f.line f.fault.code f.fault.earlier)
+-- THE LINE OF A PLACE in the text of a schedule: that of the start, or that which holds the entry
+abbrev pub line_at : Version → Schedule → ℕ → ℕ
+line_at v w place = if place == 2 then 2 else line_in v w.entries (place - 3)
+
+-- a thing, or the rule that a schedule breaks, as a refusal on the line of its place: that of the start line is 2, and
+-- that of the first entry 3
+abbrev pub unless_broken : {A : Type 0} → Version → Schedule → Option PlacedFault → A → Result A Refusal
+unless_broken v w None x = Ok x
+unless_broken v w (Some f) x = Err (refusal.Schedule (line_at v w f.line) f.fault.code f.fault.earlier)
 
 -- WHAT A RUN COMES TO: where the machine stands, and the footprints of the steps that completed
 pub record Ran : Type 0 where
@@ -83,28 +89,9 @@ pub record Ran : Type 0 where
 abbrev pub ran : Program → Schedule → Ran
 ran p w = record { config = run_of p w; steps = steps_of p w }
 
--- The same, or the first rule that the schedule breaks, at its place: that of the start line is 2, and that of the first entry 3.
-abbrev pub legal_run : Program → Schedule → Result Ran Refusal
-legal_run p w = unless_broken (schedule_fault p w) (ran p w)
-
--- THE LINE OF A PLACE in the text of a schedule: that of the start, or that which holds the entry
-abbrev pub line_at : Version → Schedule → ℕ → ℕ
-line_at v w place = if place == 2 then 2 else line_in v w.entries (place - 3)
-
--- a refusal at a place, on the line of that
-abbrev pub on_line : Version → Schedule → Refusal → Refusal
-on_line v w refusal.ReadProgram = refusal.ReadProgram
-on_line v w (refusal.Text at col code) = refusal.Text at col code
-on_line v w refusal.ReadSchedule = refusal.ReadSchedule
-on_line v w (refusal.Schedule place code earlier) = refusal.Schedule (line_at v w place) code earlier
-on_line v w refusal.ReadTrace = refusal.ReadTrace
-on_line v w (refusal.Trace at code) = refusal.Trace at code
-on_line v w refusal.Memory = refusal.Memory
-
--- a thing, or what refuses it, on its line of the text
-abbrev pub in_text : {A : Type 0} → Version → Schedule → Result A Refusal → Result A Refusal
-in_text v w (Ok x) = Ok x
-in_text v w (Err r) = Err (on_line v w r)
+-- the same, or the first rule that the schedule breaks, on its line of the text in a version
+abbrev pub legal_run : Version → Program → Schedule → Result Ran Refusal
+legal_run v p w = unless_broken v w (schedule_fault p w) (ran p w)
 
 -- What is written, and the exit status.
 pub record Answer : Type 0 where
@@ -115,33 +102,33 @@ pub record Answer : Type 0 where
 abbrev pub refused : Refusal → Answer
 refused r = record { text = refusal_text r; status = refusal_status r }
 
--- the witness that a format has for a race: the kept schedule, or the short one
-abbrev pub witness_in : Format → List Footprint → Schedule → ℕ → ℕ → Schedule
-witness_in Text steps w i j = kept_schedule steps w i j
-witness_in Json steps w i j = kept_schedule steps w i j
-witness_in Short steps w i j = short_schedule steps w i j
-witness_in Footprints steps w i j = kept_schedule steps w i j
-witness_in (Shuffled number) steps w i j = kept_schedule steps w i j
+-- which entries the witness takes in a format: `short` leaves out more
+abbrev pub selection_of : Format → Selection
+selection_of Text = Kept
+selection_of Json = Kept
+selection_of Short = Needed
+selection_of Footprints = Kept
+selection_of (Shuffled number) = Kept
 
--- the witness for the first of some races, where there is one
-abbrev pub witness_for : Format → List Footprint → Schedule → List Pair → Option Schedule
-witness_for format steps w [] = None
-witness_for format steps w (pair ∷ races) = Some (witness_in format steps w pair.first pair.second)
+-- the report in a format of where the machine stands, of these races, and of this witness in a version; and its status
+abbrev pub told_by : Format → Version → Config Own → List Pair → Option Schedule → Answer
+told_by format v config races witness = record {
+  text = report_of format config.output config.verdict races witness v;
+  status = report_status config.verdict races;
+}
 
 -- what a run under a schedule came to, in a format, with the witness in a version; and its status
 abbrev pub told_in : Format → Version → Schedule → Ran → Answer
-told_in format v w r = record {
-  text = report_of format r.config.output r.config.verdict (predicted r.steps) (witness_for format r.steps w (predicted r.steps)) v;
-  status = report_status r.config.verdict (predicted r.steps);
-}
+told_in format v w r =
+    told_by format v r.config (predicted r.steps) (witness_for (selection_of format) r.steps w (predicted r.steps))
 
--- the text of a schedule in a version, and behind it what the run under it came to
-abbrev pub behind_schedule : Version → Schedule → Ran → Answer
-behind_schedule v w r = record { text = text_in v w ++ (told_in Text v w r).text; status = (told_in Text v w r).status }
+-- the text of a schedule in a version, and behind it an answer
+abbrev pub behind_schedule : Version → Schedule → Answer → Answer
+behind_schedule v w a = record { text = text_in v w ++ a.text; status = a.status }
 
--- the same of a run of a program
+-- the text of a schedule in a version, and behind it what the run of a program under it came to
 abbrev pub ordered_answer : Program → Version → Schedule → Answer
-ordered_answer p v w = behind_schedule v w (ran p w)
+ordered_answer p v w = behind_schedule v w (told_in Text v w (ran p w))
 
 -- a schedule that is drawn is written in version 1
 abbrev pub drawn_answer : Program → Schedule → Answer
@@ -165,30 +152,26 @@ reported Short p v w r = told_in Short v w r
 reported Footprints p v w r = traced r.steps
 reported (Shuffled number) p v w r = shuffled_answer number p v w r (predicted r.steps)
 
--- what a run printed, its verdict and how many races it shows
-abbrev pub briefly : Ran → Answer
-briefly r = record {
-  text = brief_text (map line_of r.config.output) r.config.verdict (predicted r.steps);
-  status = report_status r.config.verdict (predicted r.steps);
-}
-
--- what is said of a run of the program of a number, under a schedule with so many entries
-abbrev pub summary : ℕ → ℕ → Ran → Answer
-summary number entries r = record {
+-- what is said of a run of the program of a number, under a schedule with so many entries: what it printed, its verdict
+-- and how many races it shows
+abbrev pub summary : ℕ → ℕ → Config Own → List Pair → Answer
+summary number entries config races = record {
   text =
       line (codes "big " ++ decimal number) ++ line (codes "workers " ++ decimal (workers_of number))
       ++ line (codes "rounds " ++ decimal (rounds_of number)) ++ line (codes "entries " ++ decimal entries)
-      ++ (briefly r).text;
-  status = (briefly r).status;
+      ++ brief_text (map line_of config.output) config.verdict races;
+  status = report_status config.verdict races;
 }
 
--- the same of the schedule that is drawn from that number, with at most 65,536 entries
+-- the schedule that is drawn from that number, with at most 65,536 entries
 abbrev pub big_schedule : ℕ → Schedule
 big_schedule number = drawn_schedule (generated number) number 65536
 
+-- what is said of the run under it
 abbrev pub big_answer : ℕ → Answer
 big_answer number =
-    summary number (length (big_schedule number).entries) (ran (generated number) (big_schedule number))
+    summary number (length (big_schedule number).entries) (run_of (generated number) (big_schedule number))
+    (predicted (steps_of (generated number) (big_schedule number)))
 
 -- the canonical text of a program
 abbrev pub canonical : Program → Answer
@@ -219,7 +202,7 @@ auto_answer number most p = form_or p (faults_of p) (drawn_answer p (drawn_sched
 -- the report of the run of a program under a schedule whose text is in a version, or the first rule that the schedule
 -- breaks, with the line of the text
 abbrev pub run_report : Format → Program → Version → Schedule → Answer
-run_report format p v w = told (reported format p v w) (in_text v w (legal_run p w))
+run_report format p v w = told (reported format p v w) (legal_run v p w)
 
 -- the same of what was read
 abbrev pub read_report : Format → Program → Read → Answer

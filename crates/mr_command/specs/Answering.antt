@@ -19,6 +19,11 @@ seen a = record { text = a.text.items; status = a.status }
 abbrev pub IsStatus : ℕ → Type 0
 IsStatus status = (status ≤ 1) ⊎ (status ≡ 4)
 
+-- what was written, or want of memory
+abbrev pub answered : {E : Type 0} → Result Written E → Result Written Refusal
+answered (Ok a) = Ok a
+answered (Err e) = Err refusal.Memory
+
 -- What is written is the answer, or what refuses is; unless memory ran out.
 abbrev pub Tells : Answer → Result Written Refusal → Type 0
 Tells answer (Ok a) = seen a ≡ answer

@@ -24,7 +24,8 @@ use Rattle.mr_exchange.specs.Witness.{IsWitness}
 use Rattle.mr_shuffle.specs.EveryOrder.{ComesToTheSame}
 use Rattle.mr_shuffle.specs.Shuffled.{shuffled, shuffled_order}
 use Rattle.mr_event.specs.Order.{IsPredicted, IsRearrangement}
-use Rattle.mr_command.specs.Answer.{Answer, canonical, drawn_answer, program_in, ran, reported, upgraded, witness_in}
+use Rattle.mr_run.specs.Witnesses.{witness_by}
+use Rattle.mr_command.specs.Answer.{Answer, canonical, drawn_answer, program_in, ran, reported, selection_of, upgraded}
 use Rattle.mr_command.specs.Outcome.{IsLeft, IsWhole, IsWritten}
 
 -- a read failed and was told, or the write of that failed
@@ -41,7 +42,8 @@ IsTold a files_rose out_rose old new status =
 
 -- The command names a file whose text denotes the program, which is well-formed, and a file whose text is that of the
 -- schedule in the version; and the schedule is legal.
-pub record Names (files : Contents) (command : Option Command) (format : Format) (p : Program) (v : Version) (w : Schedule)
+pub record Names (files : Contents) (command : Option Command) (format : Format) (p : Program)
+    (v : Version) (w : Schedule)
     : Type 0 where
   pub program_name : List ℕ
   pub schedule_name : List ℕ
@@ -59,7 +61,7 @@ pub record Names (files : Contents) (command : Option Command) (format : Format)
 abbrev pub ShowsFirstRace : Format → Program → Schedule → Type 0
 ShowsFirstRace format p w =
     (pair : Pair) (races : List Pair) → predicted (steps_of p w) ≡ pair ∷ races
-    → IsWitness p w pair.first pair.second (witness_in format (steps_of p w) w pair.first pair.second)
+    → IsWitness p w pair.first pair.second (witness_by (selection_of format) (steps_of p w) w pair.first pair.second)
 
 -- Where no race is listed, what is written of another order is: the order is a rearrangement of the run, and the schedule in it
 -- comes to the same.

@@ -1,4 +1,3 @@
-pub mod Alone
 pub mod Answer
 pub mod Answering
 pub mod Command

@@ -1,7 +1,7 @@
 -- What is promised of a call over files that tell what they hold, beside the headline.
 use Rattle.std.specs.Prelude.{◌≡◌, ℕ, ◌≤◌, ◌^◌, ◌⊎◌, List, Option, None, Some, length}
 use Rattle.mr_ast.specs.declared.program.Program.{Program}
-use Rattle.mr_event.specs.declared.footprint.Footprint.{Footprint}
+use Rattle.mr_event.specs.Footprint.{Footprint}
 use Rattle.mr_event.specs.Predicted.{predicted}
 use Rattle.mr_io.specs.Files.{Contents}
 use Rattle.mr_lex.specs.declared.token.TextFault.{TextFault}

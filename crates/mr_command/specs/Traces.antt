@@ -1,6 +1,6 @@
 -- Traces: the bytes of a run in a file, and what is said of them.
 use Rattle.std.specs.Prelude.{◌≡◌, ℕ, List, Option, Some}
-use Rattle.mr_event.specs.declared.footprint.Footprint.{Footprint}
+use Rattle.mr_event.specs.Footprint.{Footprint}
 use Rattle.mr_event.specs.Predicted.{predicted}
 use Rattle.mr_io.specs.Files.{Contents}
 use Rattle.mr_trace.specs.Faults.{FirstFault}

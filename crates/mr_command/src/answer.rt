@@ -1,17 +1,16 @@
 //! The answer to a command: what is written, and the exit status, or why there is none.
-ghost use Rattle.std.specs.Prelude.{◌≡◌, ◌+◌, ◌^◌, ◌≤◌, ℕ, List, [], None, Some, Ok, Err, length, true, IfOk};
+ghost use Rattle.std.specs.Prelude.{◌≡◌, ◌+◌, ◌^◌, ◌≤◌, ℕ, List, [], None, Some, Ok, Err, IfOk};
 ghost use Rattle.mr_io.specs.Counts.{Rose};
 ghost use Rattle.mr_io.specs.Files.{Contents};
 ghost use Rattle.mr_ast.specs.declared.program.Program.{Program as AstProgram};
 ghost use Rattle.mr_ast.specs.Shaped.{Shaped};
 ghost use Rattle.mr_sched.specs.declared.version.Read.{Read as Spelled};
 ghost use Rattle.mr_wf.specs.Walk.{faults_of};
-ghost use Rattle.mr_command.specs.Answer.{auto_answer, big_answer, canonical, check_answer, form_answer, in_text, legal_run, program_in, report_under, run_report, schedule_in, told, told_in, upgrade_answer};
-ghost use Rattle.mr_command.specs.Answering.{IsAnswered, IsAnsweredOverTexts, IsFormOrReport, IsReported, IsRunOverText, IsSaid, IsStatus, IsUpgraded, Tells, TellsOrUnread};
+ghost use Rattle.mr_command.specs.Answer.{Answer, auto_answer, big_answer, canonical, check_answer, form_answer, program_in, report_under, schedule_in, upgrade_answer};
+ghost use Rattle.mr_command.specs.Answering.{answered, IsAnswered, IsAnsweredOverTexts, IsFormOrReport, IsReported, IsRunOverText, IsSaid, IsStatus, IsUpgraded, seen, Tells, TellsOrUnread};
 ghost use Rattle.mr_command.specs.Command.{asked, named_files, Auto, Check, IsBounded, NamesProgram, Run, Upgrade};
 ghost use Rattle.mr_command.specs.Headline.{AsksForSchedule};
 ghost use Rattle.mr_command.specs.Outcome.{IsUnreadFault};
-ghost use Rattle.mr_command.specs.Running.{are_of_first};
 ghost use Rattle.mr_command.specs.Showing.{IsSpelled, Shows};
 
 use crate::command::{Command, Format};
@@ -19,22 +18,34 @@ use crate::drawn::{drawn, summary};
 use crate::form::form_line;
 use crate::input::{read_program, read_schedule};
 use crate::refusal::Refusal;
-use crate::reordered::report_shuffled;
-use crate::report::report;
-use crate::run::{is_alone, on_line, run, run_bare};
-use crate::traced::{listed_file, report_footprints};
+use crate::run::report_run;
+use crate::traced::listed_file;
 use mr_ast::Program;
 use mr_gen::program;
 use mr_io::Files;
-use mr_sched::{Read, Schedule, Version, print_version};
+use mr_sched::{Read, Version, print_version};
 use mr_wf::{Checked, FormFault, WfFault, well_formed};
-use std::alloc::Global;
+use std::alloc::{AllocError, Global};
 
 /// What is written, and the exit status.
 #[derive(Drop)]
 pub struct Written {
     pub text: Vec<u8>,
     pub status: u8,
+}
+
+/// What was written of a run, or want of memory.
+pub fn answered(written: Result<Written, AllocError>) -> Result<Written, Refusal>
+    requires { IfOk written (λ a. IsStatus a.status) }
+    ensures same { result ≡ answered written }
+    ensures answer { (a : Answer) → IfOk written (λ x. seen x ≡ a) → Tells a result }
+    ensures status { IfOk result (λ a. IsStatus a.status) }
+    ensures read { ¬ IsUnreadFault result }
+{
+    match written {
+        Ok(report) => Ok(report),
+        Err(_) => Err(Refusal::Memory),
+    }
 }
 
 /// The answer to a command.
@@ -53,7 +64,8 @@ pub fn answer<F: Files>(
     ensures faults { F.faults files.old ≤ F.faults files.new }
     ensures answer { (contents : Contents) → F.told files.old ≡ Some contents
         → IsAnswered contents (asked command.entry) (Rose (F.faults files.old) (F.faults files.new)) result }
-    ensures shows { (contents : Contents) → F.told files.old ≡ Some contents → Shows contents (asked command.entry) result }
+    ensures shows { (contents : Contents) → F.told files.old ≡ Some contents
+        → Shows contents (asked command.entry) result }
     ensures status { IfOk result (λ a. IsStatus a.status) }
     ensures texts { F.told files.old ≡ None
         → IsAnsweredOverTexts (asked command.entry) (Rose (F.faults files.old) (F.faults files.new)) result }
@@ -99,7 +111,8 @@ fn report_files<F: Files>(
         → IsSpelled format p r.schedule result }
     ensures status { IfOk result (λ a. IsStatus a.status) }
     ensures texts { F.told files.old ≡ None
-        → IsAnsweredOverTexts (Run format program.now schedule.now) (Rose (F.faults files.old) (F.faults files.new)) result }
+        → IsAnsweredOverTexts (Run format program.now schedule.now)
+        (Rose (F.faults files.old) (F.faults files.new)) result }
     ensures untold { F.told files.old ≡ None → IsUnreadFault result
         → Rose (F.faults files.old) (F.faults files.new) }
 {
@@ -130,7 +143,8 @@ fn report_program<F: Files>(
     ensures spelled { (contents : Contents) → F.told files.old ≡ Some contents → (r : Spelled)
         → schedule_in (contents schedule.now) ≡ Ok r → faults_of p ≡ [] → IsSpelled format p r.schedule result }
     ensures status { IfOk result (λ a. IsStatus a.status) }
-    ensures texts { F.told files.old ≡ None → IsRunOverText (Rose (F.faults files.old) (F.faults files.new)) format p result }
+    ensures texts { F.told files.old ≡ None
+        → IsRunOverText (Rose (F.faults files.old) (F.faults files.new)) format p result }
     ensures untold { F.told files.old ≡ None → IsUnreadFault result
         → Rose (F.faults files.old) (F.faults files.new) }
 {
@@ -160,78 +174,14 @@ fn report_schedule<F: Files>(
         → schedule_in (contents schedule.now) ≡ Ok r → IsSpelled format p.now r.schedule result }
     ensures status { IfOk result (λ a. IsStatus a.status) }
     ensures texts { F.told files.old ≡ None → (text : List ℕ)
-        × TellsOrUnread (Rose (F.faults files.old) (F.faults files.new)) (report_under format (Some text) p.now) result }
+        × TellsOrUnread (Rose (F.faults files.old) (F.faults files.new)) (report_under format (Some text) p.now)
+        result }
     ensures untold { F.told files.old ≡ None → IsUnreadFault result
         → Rose (F.faults files.old) (F.faults files.new) }
 {
     match read_schedule(alloc, files, schedule) {
         Ok(read) => report_run(alloc, format, p, read.version, &read.schedule),
         Err(refusal) => Err(refusal),
-    }
-}
-
-// The report of the run of a program under a schedule whose text is in a version.
-fn report_run(
-    alloc: Global,
-    format: Format,
-    p: &Checked,
-    v: Version,
-    w: &Schedule,
-) -> Result<Written, Refusal>
-    requires { length w.now.entries ≤ 2 ^ 22 }
-    ensures answer { Tells (run_report format p.now v w.now) result }
-    ensures spelled { IsSpelled format p.now w.now result }
-    ensures status { IfOk result (λ a. IsStatus a.status) }
-    ensures read { ¬ IsUnreadFault result }
-{
-    match format {
-        Format::Text => report_plainly(alloc, Format::Text, p, v, w),
-        Format::Json => report_plainly(alloc, Format::Json, p, v, w),
-        Format::Short => report_plainly(alloc, Format::Short, p, v, w),
-        Format::Footprints => report_footprints(alloc, p, v, w),
-        Format::Shuffled { number } => report_shuffled(alloc, p, v, w, number),
-    }
-}
-
-// What the run of a program under a schedule came to.
-fn report_plainly(
-    alloc: Global,
-    format: Format,
-    p: &Checked,
-    v: Version,
-    w: &Schedule,
-) -> Result<Written, Refusal>
-    requires { length w.now.entries ≤ 2 ^ 22 }
-    ensures answer { Tells (told (told_in format v w.now) (in_text v w.now (legal_run p.now w.now))) result }
-    ensures status { IfOk result (λ a. IsStatus a.status) }
-    ensures read { ¬ IsUnreadFault result }
-{
-    if is_alone(w.entries.as_slice()) {
-        return report_alone(alloc, format, p, v, w);
-    }
-    match run(alloc, p, w) {
-        Ok(finished) => Ok(report(alloc, format, &finished, v, w)?),
-        Err(refusal) => Err(on_line(v, w, refusal)),
-    }
-}
-
-// The same of a schedule of thread 0 alone. One thread has no race.
-fn report_alone(
-    alloc: Global,
-    format: Format,
-    p: &Checked,
-    v: Version,
-    w: &Schedule,
-) -> Result<Written, Refusal>
-    requires few { length w.now.entries ≤ 2 ^ 22 }
-    requires alone { are_of_first w.now.entries ≡ true }
-    ensures answer { Tells (told (told_in format v w.now) (in_text v w.now (legal_run p.now w.now))) result }
-    ensures status { IfOk result (λ a. IsStatus a.status) }
-    ensures read { ¬ IsUnreadFault result }
-{
-    match run_bare(alloc, p, w) {
-        Ok(finished) => Ok(report(alloc, format, &finished, v, w)?),
-        Err(refusal) => Err(on_line(v, w, refusal)),
     }
 }
 
@@ -267,7 +217,8 @@ fn drawn_file<F: Files>(
     ensures reads { F.reads files.new ≤ F.reads files.old + 1 }
     ensures faults { F.faults files.old ≤ F.faults files.new }
     ensures answer { (contents : Contents) → F.told files.old ≡ Some contents
-        → IsSaid (auto_answer number most) contents program.now (Rose (F.faults files.old) (F.faults files.new)) result }
+        → IsSaid (auto_answer number most) contents program.now
+        (Rose (F.faults files.old) (F.faults files.new)) result }
     ensures status { IfOk result (λ a. IsStatus a.status) }
     ensures texts { F.told files.old ≡ None
         → IsAnsweredOverTexts (Auto program.now number most) (Rose (F.faults files.old) (F.faults files.new)) result }
@@ -289,7 +240,7 @@ fn draw_for(alloc: Global, p: Program, number: u64, most: u32) -> Result<Written
     ensures read { ¬ IsUnreadFault result }
 {
     match well_formed(alloc, p) {
-        Ok(checked) => Ok(drawn(alloc, &checked, number, most)?),
+        Ok(checked) => answered(drawn(alloc, &checked, number, most)),
         Err(WfFault::Form { fault, program }) => broken_rule(alloc, &program, fault),
         Err(WfFault::Memory) => Err(Refusal::Memory),
     }
@@ -333,7 +284,7 @@ fn big(alloc: Global, number: u64) -> Result<Written, Refusal>
 {
     let p = program(alloc, number)?;
     match well_formed(alloc, p) {
-        Ok(checked) => Ok(summary(alloc, &checked, number)?),
+        Ok(checked) => answered(summary(alloc, &checked, number)),
         Err(WfFault::Form { .. }) => unreachable!(),
         Err(WfFault::Memory) => Err(Refusal::Memory),
     }

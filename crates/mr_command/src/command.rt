@@ -89,7 +89,8 @@ fn run_of<'a>(word: &str, program: &'a str, schedule: &'a str) -> Option<Command
 
 // `auto P N M`.
 fn auto_of<'a>(program: &'a str, number: &str, most: &str) -> Option<Command<'a>>
-    ensures { option_map asked result ≡ auto_of program.now (number_below (2 ^ 64) number.now) (number_below (2 ^ 20 + 1) most.now) }
+    ensures { option_map asked result
+        ≡ auto_of program.now (number_below (2 ^ 64) number.now) (number_below (2 ^ 20 + 1) most.now) }
 {
     let number = number_below(number, 1 << 64)?;
     let most = number_below(most, (1 << 20) + 1)?;

@@ -82,7 +82,8 @@ pub fn read_schedule<F: Files>(alloc: Global, files: &mut F, name: &str) -> Resu
     ensures second { ¬ result ≡ Err Refusal.ReadProgram }
     ensures few { IfOk result (λ r. length r.schedule.entries ≤ 2 ^ 22) }
     ensures read { (contents : Contents) → F.told files.old ≡ Some contents
-        → IsRead (Rose (F.faults files.old) (F.faults files.new)) ReadSchedule result (schedule_in (contents name.now)) }
+        → IsRead (Rose (F.faults files.old) (F.faults files.new))
+        ReadSchedule result (schedule_in (contents name.now)) }
     ensures texts { F.told files.old ≡ None → (bytes : List ℕ)
         × IsRead (Rose (F.faults files.old) (F.faults files.new)) ReadSchedule result (schedule_in (Some bytes)) }
     ensures untold { F.told files.old ≡ None → IsUnreadFault result

@@ -1,24 +1,24 @@
 //! Runs in another order, which is drawn from a number.
-ghost use Rattle.std.specs.Prelude.{◌≡◌, ◌≤◌, ◌^◌, ◌++◌, [], IfOk, Ok, length, map};
+ghost use Rattle.std.specs.Prelude.{◌≡◌, ◌≤◌, ◌^◌, [], IfOk, None, length, map};
 ghost use Rattle.mr_event.specs.Predicted.{predicted};
 ghost use Rattle.mr_report.specs.Json.{ArePrinted};
-ghost use Rattle.mr_sched.specs.Versions.{text_in};
+ghost use Rattle.mr_run.specs.Runs.{IsRun};
 ghost use Rattle.mr_start.specs.Start.{Legal, steps_of};
-ghost use Rattle.mr_command.specs.Answer.{behind_schedule, in_text, legal_run, ordered_answer, run_report, shuffled_answer};
+ghost use Rattle.mr_command.specs.Answer.{behind_schedule, ordered_answer, run_report, shuffled_answer, told_by};
 ghost use Rattle.mr_command.specs.Answering.{IsStatus, Tells, seen};
-ghost use Rattle.mr_command.specs.declared.command.Format.TheVariants.{Shuffled};
+ghost use Rattle.mr_command.specs.declared.command.Format.TheVariants.{Shuffled, Text};
 ghost use Rattle.mr_command.specs.Outcome.{IsUnreadFault};
 ghost use Rattle.mr_command.specs.Report.{line_of};
-ghost use Rattle.mr_command.specs.Running.{ran_by};
 
-use crate::answer::Written;
+use crate::answer::{Written, answered};
 use crate::command::Format;
 use crate::refusal::Refusal;
-use crate::report::report;
-use crate::run::{Finished, on_line, run, run_bare};
-use mr_clocks::predicted_by_clocks;
-use mr_sched::{Schedule, Version, print_version};
+use crate::report::{behind_schedule, report, report_kept};
+use crate::run::refusal_of;
+use mr_run::{Clocked, Nothing, run};
+use mr_sched::{Schedule, Version};
 use mr_shuffle::shuffle;
+use mr_step::Machine;
 use mr_wf::Checked;
 use std::alloc::{AllocError, Global};
 
@@ -36,9 +36,10 @@ pub fn report_shuffled(
     ensures status { IfOk result (λ a. IsStatus a.status) }
     ensures read { ¬ IsUnreadFault result }
 {
-    match run(alloc, p, w) {
-        Ok(finished) => shuffled_run(alloc, p, v, w, &finished, number),
-        Err(refusal) => Err(on_line(v, w, refusal)),
+    let mut kept = Clocked::new(alloc);
+    match run(alloc, p, w, &mut kept) {
+        Ok(machine) => shuffled_run(alloc, p, v, w, number, &machine, &kept),
+        Err(fault) => Err(refusal_of(v, w, fault)),
     }
 }
 
@@ -48,26 +49,28 @@ fn shuffled_run(
     p: &Checked,
     v: Version,
     w: &Schedule,
-    finished: &Finished<'_>,
     number: u64,
+    machine: &Machine<'_>,
+    kept: &Clocked,
 ) -> Result<Written, Refusal>
     requires few { length w.now.entries ≤ 2 ^ 22 }
-    requires legal { legal_run p.now w.now ≡ Ok (ran_by finished.now) }
-    ensures answer { Tells (shuffled_answer number p.now v w.now (ran_by finished.now) (predicted finished.now.steps.items)) result }
+    requires run { IsRun p.now w.now machine.now }
+    requires kept { kept.now ≡ steps_of p.now w.now }
+    ensures answer { Tells (shuffled_answer number p.now v w.now
+        (record { config = machine.now.config; steps = kept.now }) (predicted kept.now)) result }
     ensures status { IfOk result (λ a. IsStatus a.status) }
     ensures read { ¬ IsUnreadFault result }
 {
-    let steps = finished.steps.as_slice();
-    let races = predicted_by_clocks(alloc, steps)?;
+    let races = kept.races();
     if !races.is_empty() {
-        return Ok(report(alloc, Format::Text, finished, v, w)?);
+        return answered(report_kept(alloc, Format::Text, v, w, machine, kept));
     }
     let _program = p.program();
-    let order = shuffle(alloc, steps, w, number)?;
+    let order = shuffle(alloc, kept.steps(), w, number)?;
     run_again(alloc, p, v, &order)
 }
 
-// The text of a legal schedule whose run shows no race, and the report of that run.
+// The text of a legal schedule whose run shows no race, and the report of that run, of whose steps nothing is kept.
 fn run_again(alloc: Global, p: &Checked, v: Version, order: &Schedule) -> Result<Written, Refusal>
     requires few { length order.now.entries ≤ 2 ^ 22 }
     requires legal { Legal p.now order.now }
@@ -76,30 +79,25 @@ fn run_again(alloc: Global, p: &Checked, v: Version, order: &Schedule) -> Result
     ensures status { IfOk result (λ a. IsStatus a.status) }
     ensures read { ¬ IsUnreadFault result }
 {
-    match run_bare(alloc, p, order) {
-        Ok(finished) => Ok(with_schedule(alloc, &finished, v, order)?),
-        Err(refusal) => Err(refusal),
+    let mut nothing = Nothing;
+    match run(alloc, p, order, &mut nothing) {
+        Ok(machine) => answered(with_schedule(alloc, v, order, &machine)),
+        Err(fault) => Err(refusal_of(v, order, fault)),
     }
 }
 
-// The text of a schedule, and the report of the run under it.
+// The text of a schedule, and the report of the run under it, which shows no race.
 fn with_schedule(
     alloc: Global,
-    finished: &Finished<'_>,
     v: Version,
     order: &Schedule,
+    machine: &Machine<'_>,
 ) -> Result<Written, AllocError>
-    requires steps { length finished.now.steps.items ≤ length order.now.entries }
-    requires texts { ArePrinted (map line_of finished.now.machine.config.output) }
-    ensures answer { IfOk result (λ a. seen a ≡ behind_schedule v order.now (ran_by finished.now)) }
+    requires { ArePrinted (map line_of machine.now.config.output) }
+    ensures answer { IfOk result
+        (λ a. seen a ≡ behind_schedule v order.now (told_by Text v machine.now.config [] None)) }
     ensures status { IfOk result (λ a. IsStatus a.status) }
 {
-    let written = report(alloc, Format::Text, finished, v, order)?;
-    let mut text = Vec::new(alloc);
-    print_version(alloc, v, order, &mut text)?;
-    text.extend_from_slice(written.text.as_slice())?;
-    Ok(Written {
-        text,
-        status: written.status,
-    })
+    let written = report(alloc, Format::Text, v, machine, &[], None)?;
+    behind_schedule(alloc, v, order, written)
 }

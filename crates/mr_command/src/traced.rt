@@ -1,25 +1,27 @@
 //! The footprints of a run as bytes, and the races that such bytes show.
-ghost use Rattle.std.specs.Prelude.{◌≡◌, ◌+◌, ◌≤◌, ◌^◌, ◌++◌, ℕ, List, None, Some, Ok, Err, IfOk, OnOk, decimal, flat_map, length};
+ghost use Rattle.std.specs.Prelude.{◌≡◌, ◌+◌, ◌≤◌, ◌^◌, ◌++◌, ℕ, All, List, None, Some, Err, IfOk, OnOk, decimal, flat_map, length};
 ghost use Rattle.mr_io.specs.Counts.{Rose};
 ghost use Rattle.mr_io.specs.Files.{Contents};
+ghost use Rattle.mr_event.specs.FootOk.{IsFootOk};
 ghost use Rattle.mr_report.specs.Report.{race_line};
 ghost use Rattle.mr_start.specs.Start.{steps_of};
 ghost use Rattle.mr_trace.specs.Reading.{races_of};
 ghost use Rattle.mr_trace.specs.Spelling.{AreBytes, IsRun};
-ghost use Rattle.mr_command.specs.Answer.{in_text, legal_run, listed, races_in, races_status, run_report, shown, told, traced};
+ghost use Rattle.mr_command.specs.Answer.{listed, races_in, races_status, run_report, shown, told, traced};
 ghost use Rattle.mr_command.specs.Answering.{IsAnsweredOverTexts, IsListed, IsListedOf, IsStatus, Tells, seen};
 ghost use Rattle.mr_command.specs.Command.{Offline};
 ghost use Rattle.mr_command.specs.declared.command.Format.TheVariants.{Footprints};
 ghost use Rattle.mr_command.specs.Outcome.{IsUnreadFault};
-ghost use Rattle.mr_command.specs.Running.{ran_by};
 ghost use Rattle.mr_command.specs.Showing.{IsOfBytes};
 
-use crate::answer::Written;
+use crate::answer::{Written, answered};
 use crate::drawn::push_count;
 use crate::refusal::Refusal;
-use crate::run::{Finished, on_line, run};
+use crate::run::refusal_of;
 use itoa::Buffer;
+use mr_event::Footprint;
 use mr_io::{FileFault, Files};
+use mr_run::run;
 use mr_sched::{Schedule, Version};
 use mr_trace::{MAX_BYTES, Pair, TOO_LONG, TraceFault, encode, offline};
 use mr_wf::Checked;
@@ -38,27 +40,22 @@ pub fn report_footprints(
     ensures read { ¬ IsUnreadFault result }
     ensures run { OnOk result (IsRun (steps_of p.now w.now)) }
 {
-    match run(alloc, p, w) {
-        Ok(finished) => Ok(spelled_run(alloc, p, w, &finished)?),
-        Err(refusal) => Err(on_line(v, w, refusal)),
+    let _program = p.program();
+    let mut steps: Vec<Footprint> = Vec::new(alloc);
+    match run(alloc, p, w, &mut steps) {
+        Ok(_) => answered(spelled_run(alloc, steps.as_slice())),
+        Err(fault) => Err(refusal_of(v, w, fault)),
     }
 }
 
-// The bytes of a run that was taken to its end.
-fn spelled_run(
-    alloc: Global,
-    p: &Checked,
-    w: &Schedule,
-    finished: &Finished<'_>,
-) -> Result<Written, AllocError>
-    requires few { length w.now.entries ≤ 2 ^ 22 }
-    requires legal { legal_run p.now w.now ≡ Ok (ran_by finished.now) }
-    ensures answer { IfOk result (λ a. seen a ≡ traced finished.now.steps.items) }
+// The bytes of the footprints of a run.
+fn spelled_run(alloc: Global, steps: &[Footprint]) -> Result<Written, AllocError>
+    requires few { length steps.now ≤ 2 ^ 22 }
+    requires limits { All IsFootOk steps.now }
+    ensures answer { IfOk result (λ a. seen a ≡ traced steps.now) }
     ensures status { IfOk result (λ a. IsStatus a.status) }
-    ensures run { OnOk result (IsRun (steps_of p.now w.now)) }
+    ensures run { OnOk result (IsRun steps.now) }
 {
-    let _program = p.program();
-    let steps = finished.steps.as_slice();
     let mut text = Vec::new(alloc);
     encode(alloc, steps, &mut text)?;
     Ok(Written { text, status: 0 })

@@ -11,7 +11,8 @@ use std::alloc::Global;
 
 /// Writes a text, and answers this status, or 7 where a write failed.
 pub fn finish<O: Sink>(out: &mut O, text: &[u8], status: u8) -> u8
-    ensures written { IsWritten (record { text = text.now; status = status }) (Rose (O.faults out.old) (O.faults out.new))
+    ensures written { IsWritten (record { text = text.now; status = status })
+        (Rose (O.faults out.old) (O.faults out.new))
         (O.taken out.old) (O.taken out.new) result }
     ensures bounded { (result ≡ status) ⊎ (result ≡ 7) }
     ensures empty { text.now ≡ [] → (result ≡ status) × (O.taken out.new ≡ O.taken out.old) }
@@ -24,7 +25,8 @@ pub fn finish<O: Sink>(out: &mut O, text: &[u8], status: u8) -> u8
 
 /// Writes the line of a refusal.
 pub fn refuse<O: Sink>(alloc: Global, out: &mut O, refusal: Refusal) -> u8
-    ensures told { IsRefusedOrLeft refusal (Rose (O.faults out.old) (O.faults out.new)) (O.taken out.old) (O.taken out.new) result }
+    ensures told { IsRefusedOrLeft refusal (Rose (O.faults out.old) (O.faults out.new))
+        (O.taken out.old) (O.taken out.new) result }
     ensures bounded { result ≤ 9 }
 {
     match refusal.text(alloc) {

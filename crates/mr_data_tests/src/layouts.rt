@@ -1,6 +1,6 @@
 //! Sizes, alignments, used bytes and broken rules of types.
 use crate::texts::{program_of, type_of};
-use mr_ast::{OutOfMemory, Program, Ty};
+use mr_ast::{OutOfMemory, Program, Rule, Ty};
 use mr_layout::{align, broken_rule, first_broken_rule, inhabited, int_bytes, size, type_ok, used};
 use mr_parse::parse;
 use std::alloc::Global;
@@ -15,6 +15,14 @@ fn tell_bytes(told: &mut String, ty: &Ty) -> Result<(), OutOfMemory> {
     Ok(())
 }
 
+// The number of a broken rule.
+fn number_of(rule: Option<Rule>) -> Option<u8> {
+    match rule {
+        Some(rule) => Some(rule.code()),
+        None => None,
+    }
+}
+
 // Whether the calls that tell the broken rule of a type have one answer, and those that tell the size of an integer.
 fn are_agreed(alloc: Global, ty: &Ty) -> bool {
     let rule = broken_rule(ty);
@@ -22,7 +30,7 @@ fn are_agreed(alloc: Global, ty: &Ty) -> bool {
         Ty::Int(int) => size(ty) == Some(int_bytes(*int)),
         _ => true,
     };
-    sized && first_broken_rule(alloc, ty) == rule && type_ok(alloc, ty) == Ok(rule)
+    sized && first_broken_rule(alloc, ty) == rule && type_ok(alloc, ty) == Ok(number_of(rule))
 }
 
 // Tells of a type its size, its alignment, whether it has a value, its broken rule and its used bytes.
@@ -30,7 +38,8 @@ fn tell(alloc: Global, told: &mut String, ty: &Ty) -> Result<(), OutOfMemory> {
     if !are_agreed(alloc, ty) {
         return write!(told, "the calls differ");
     }
-    let (size, align, inhabited, rule) = (size(ty), align(ty), inhabited(ty), broken_rule(ty));
+    let (size, align, inhabited) = (size(ty), align(ty), inhabited(ty));
+    let rule = number_of(broken_rule(ty));
     write!(told, "{size:?} {align} {inhabited} {rule:?} ")?;
     tell_bytes(told, ty)
 }

@@ -2,6 +2,7 @@
 use Rattle.std.proofs.Common.{◌≡◌, ℕ, List, [], ◌∷◌, Some, Bool, true, false, map, refl, sym, ap, subst, ◌∙◌}
 use Rattle.std.specs.Prelude.{not, ◌&&◌, ◌||◌, ◌==◌, nat_le, if◌then◌else◌}
 use Rattle.std.proofs.lemmas.Option.{same_Some}
+use Rattle.std.proofs.lemmas.Bool.{and_parts}
 use Rattle.mr_ast.specs.declared.types.IntType.{IntType}
 use Rattle.mr_ast.specs.declared.types.Num.{Num}
 use Rattle.mr_ast.specs.declared.types.Tree.{Tree, roll-Tree}
@@ -18,14 +19,13 @@ use Rattle.mr_layout.specs.EnumRules.{are_tree_cases, are_variants, is_case, is_
 use Rattle.mr_ast.specs.Integers.{is_fitting}
 use Rattle.mr_layout.specs.Sizes.{align_of, size_of}
 use Rattle.mr_layout.specs.TypeOk.{TypeOk}
-use Rattle.mr_layout.proofs.PartsOk.{and_true}
 use Rattle.mr_layout.proofs.TreeOk.{branch_ok, leaf_ok, same_num_equal}
 use Rattle.mr_layout.proofs.WellFormed.{enum_ok}
 use Rattle.mr_value.specs.declared.val.Val.TheVariants as val
 use Rattle.mr_value.specs.Discriminants.{bits_of_number, number_of_bits}
 use Rattle.mr_value.specs.Numbers.{number_of}
 use Rattle.mr_value.specs.Shape.{has_shape}
-use Rattle.mr_value.proofs.TreeInduction.{AllCases, TreeCases, tree_induction}
+use Rattle.mr_ast.proofs.TreeInduction.{AllCases, TreeCases, tree_induction}
 use Rattle.mr_script.specs.Script.{Done, Undefined, ◌>>=◌}
 use Rattle.mr_wf.specs.Types.{discriminant_in, discriminant_type}
 use Rattle.mr_ast.proofs.OrderHeads.{type_made}
@@ -66,10 +66,10 @@ numbered_safe int p = λ bytes sized.
 number_fits : (size align : ℕ) (disc : IntType) (variants : List Variant) (n : Num) → are_variants size align disc variants ≡ true → is_number_of n variants ≡ true → is_fitting disc n ≡ true
 number_fits size align disc [] n ok e = absurd (cc)
 number_fits size align disc (v ∷ variants) n ok e =
-    let p = and_true (size_of v.ty == size) (nat_le (align_of v.ty) align && (is_fitting disc v.number && (not (is_number_of v.number variants) && are_variants size align disc variants))) ok in
-    let q = and_true (nat_le (align_of v.ty) align) (is_fitting disc v.number && (not (is_number_of v.number variants) && are_variants size align disc variants)) p.1 in
-    let r = and_true (is_fitting disc v.number) (not (is_number_of v.number variants) && are_variants size align disc variants) q.1 in
-    let s = and_true (not (is_number_of v.number variants)) (are_variants size align disc variants) r.1 in
+    let p = and_parts (size_of v.ty == size) (nat_le (align_of v.ty) align && (is_fitting disc v.number && (not (is_number_of v.number variants) && are_variants size align disc variants))) ok in
+    let q = and_parts (nat_le (align_of v.ty) align) (is_fitting disc v.number && (not (is_number_of v.number variants) && are_variants size align disc variants)) p.1 in
+    let r = and_parts (is_fitting disc v.number) (not (is_number_of v.number variants) && are_variants size align disc variants) q.1 in
+    let s = and_parts (not (is_number_of v.number variants)) (are_variants size align disc variants) r.1 in
     here_or_there (same_num v.number n) e r.0 (λ more. number_fits size align disc variants n s.1 more) refl
   where
     here_or_there : (b : Bool) → (b || is_number_of n variants) ≡ true → is_fitting disc v.number ≡ true → (is_number_of n variants ≡ true → is_fitting disc n ≡ true)
@@ -88,9 +88,9 @@ module _ (size align : ℕ) (disc : IntType) (variants : List Variant) (are_numb
       → IsSafe Fits (case_search n (searches cases) (searched rest) p)
   case_safe int n [] rest p all ok last = last
   case_safe int n (c ∷ cases) rest p all ok last =
-      let a = and_true (is_fitting int c.0) (not (is_case c.0 cases) && (is_tree size variants c.1 && are_tree_cases size variants int cases)) ok in
-      let b = and_true (not (is_case c.0 cases)) (is_tree size variants c.1 && are_tree_cases size variants int cases) a.1 in
-      let d = and_true (is_tree size variants c.1) (are_tree_cases size variants int cases) b.1 in
+      let a = and_parts (is_fitting int c.0) (not (is_case c.0 cases) && (is_tree size variants c.1 && are_tree_cases size variants int cases)) ok in
+      let b = and_parts (not (is_case c.0 cases)) (is_tree size variants c.1 && are_tree_cases size variants int cases) a.1 in
+      let d = and_parts (is_tree size variants c.1) (are_tree_cases size variants int cases) b.1 in
       chosen (same_num c.0 n) (all.0 d.0 p) (case_safe int n cases rest p all.1 d.1 last)
     where
       chosen : (t : Bool) → IsSafe Fits (searched c.1 p) → IsSafe Fits (case_search n (searches cases) (searched rest) p)

@@ -4,6 +4,7 @@ use Rattle.std.specs.Prelude.{◌||◌, is_some, nat_lt, pos, if◌then◌else�
 use Rattle.std.specs.Option.{option_map}
 use Rattle.std.specs.List.{list_all, flat_map}
 use Rattle.std.proofs.lemmas.Option.{same_Some}
+use Rattle.std.proofs.lemmas.Bool.{and_parts}
 use Rattle.mr_ast.specs.Integers.{bits_of}
 use Rattle.mr_ast.specs.declared.types.IntType.{IntType}
 use Rattle.mr_ast.specs.declared.types.IntType.TheVariants.{U64}
@@ -31,7 +32,6 @@ use Rattle.mr_base.specs.declared.reason.Reason.TheVariants.{IndexOutOfRange, Tr
 use Rattle.mr_layout.specs.Sizes.{size_of}
 use Rattle.mr_layout.specs.TypeOk.{TypeOk}
 use Rattle.mr_layout.proofs.BrokenLaws.{broken_int, broken_bool, broken_raw, broken_fn_ptr}
-use Rattle.mr_layout.proofs.PartsOk.{and_true, same_of}
 use Rattle.mr_value.specs.declared.val.Val.{Val, out-Val}
 use Rattle.mr_value.specs.declared.val.Val.TheOpen.{Val-F}
 use Rattle.mr_value.specs.declared.val.Val.TheVariants as val
@@ -39,7 +39,7 @@ use Rattle.mr_value.specs.Discriminants.{bits_of_number}
 use Rattle.mr_value.specs.Encode.{encoding_of}
 use Rattle.mr_value.specs.Numbers.{Bytes}
 use Rattle.mr_value.specs.Shape.{has_shape}
-use Rattle.mr_base.proofs.Comparisons.{lt_from, lt_test}
+use Rattle.mr_base.proofs.Comparisons.{lt_from, lt_test, eq_from}
 use Rattle.mr_value.proofs.EncodeLength.{length-encoding_of}
 use Rattle.mr_value.proofs.ShapeLaws.{has_bool, has_fn_ptr, has_raw, has_ref, shape_fn_ptr, shape_raw, shape_ref}
 use Rattle.mr_script.specs.Script.{Done, IllFormed, Undefined, ◌>>=◌}
@@ -63,9 +63,10 @@ use Rattle.mr_eval.proofs.EvaluationLaws.{script_addr_of, script_binary, script_
 use Rattle.mr_eval.proofs.OperatorsSafe.{Shaped, binary_safe, cast_safe, int_layer, unary_safe}
 use Rattle.mr_eval.proofs.OverflowTypes.{overflow_ok}
 use Rattle.mr_eval.proofs.PartTypes.{element_ok, field_ok, variant_ok}
-use Rattle.mr_eval.proofs.SafeLaws.{item_ok, item_there, loading_safe, meant_safe, moved_safe, safe_found, safe_if, safe_then}
+use Rattle.mr_eval.proofs.SafeLaws.{loading_safe, meant_safe, moved_safe, safe_found, safe_if, safe_then}
 use Rattle.mr_eval.proofs.ShapeOf.{int_shape, parts_shape, union_shape, variant_shape}
 use Rattle.mr_eval.specs.Shapes.{HaveShapes}
+use Rattle.mr_base.proofs.Lists.{item_there, all_at}
 
 -- ---- pointers in values
 
@@ -176,7 +177,7 @@ module _ (named : Named) (sizes : List ℕ) (s : Surround) (stands : Stands name
       record {
         ty = l.0.ty;
         is = type_of_local s.locals x ∙ ap (option_map (λ (y : Local). y.ty)) l.1;
-        ok = item_ok (λ (y : Local). TypeOk y.ty) s.locals x.0 l.0 stands.types l.1;
+        ok = all_at (λ (y : Local). TypeOk y.ty) s.locals x.0 l.0 stands.types l.1;
         safe = subst (IsSafe any_result) (sym (script_local s x ∙ ap stored p.1)) (storage_safe p.0);
       }
     where
@@ -187,7 +188,7 @@ module _ (named : Named) (sizes : List ℕ) (s : Surround) (stands : Stands name
   deref_safe : (v : Value) (t : Ty) → ValueSafe v → PlaceSafe (place.Deref v t)
   deref_safe v t good shaped none =
       let typed = typed_deref named at stands.locals v t shaped none in
-      let part = (and_true (is_shaped_value named v) _ (sym (shaped_deref named v t) ∙ shaped)).0 in
+      let part = (and_parts (is_shaped_value named v) _ (sym (shaped_deref named v t) ∙ shaped)).0 in
       let g = good part typed.0.unbroken in
       record {
         ty = t;
@@ -199,7 +200,7 @@ module _ (named : Named) (sizes : List ℕ) (s : Surround) (stands : Stands name
   field_safe : (p : Place) (k : ℕ) → PlaceSafe p → PlaceSafe (place.Field p k)
   field_safe p k good shaped none =
       let typed = typed_field named at stands.locals p k shaped none in
-      let part = (and_true (is_shaped_place named p) _ (sym (shaped_field_place named p k) ∙ shaped)).0 in
+      let part = (and_parts (is_shaped_place named p) _ (sym (shaped_field_place named p k) ∙ shaped)).0 in
       let g = good part typed.unbroken in
       let whole = subst TypeOk (place_type p _ typed g) g.ok in
       let t = some_type (field_type typed.ty k) typed.fits in
@@ -216,7 +217,7 @@ module _ (named : Named) (sizes : List ℕ) (s : Surround) (stands : Stands name
   variant_place_safe : (p : Place) (n : Num) → PlaceSafe p → PlaceSafe (place.Variant p n)
   variant_place_safe p n good shaped none =
       let typed = typed_variant_place named at stands.locals p n shaped none in
-      let part = (and_true (is_shaped_place named p) _ (sym (shaped_variant_place named p n) ∙ shaped)).0 in
+      let part = (and_parts (is_shaped_place named p) _ (sym (shaped_variant_place named p n) ∙ shaped)).0 in
       let g = good part typed.unbroken in
       let whole = subst TypeOk (place_type p _ typed g) g.ok in
       let t = some_type (variant_type typed.ty n) typed.fits in
@@ -232,7 +233,7 @@ module _ (named : Named) (sizes : List ℕ) (s : Surround) (stands : Stands name
   index_safe : (p : Place) (i : Value) → PlaceSafe p → ValueSafe i → PlaceSafe (place.Index p i)
   index_safe p i good good_i shaped none =
       let typed = typed_index named at stands.locals p i shaped none in
-      let parts = and_true (is_shaped_place named p) (is_shaped_value named i) (sym (shaped_index_place named p i) ∙ shaped) in
+      let parts = and_parts (is_shaped_place named p) (is_shaped_value named i) (sym (shaped_index_place named p i) ∙ shaped) in
       let g = good parts.0 typed.0.unbroken in
       let h = good_i parts.1 typed.1.unbroken in
       let whole = subst TypeOk (place_type p _ typed.0 g) g.ok in
@@ -272,7 +273,7 @@ module _ (named : Named) (sizes : List ℕ) (s : Surround) (stands : Stands name
 
   global_safe : (g : GlobalName) (k : ℕ) → ValueSafe (value.Global g k)
   global_safe g k shaped none =
-      let named_one = (and_true (nat_lt g.0 named.globals) _ (sym (shaped_global named g k) ∙ shaped)).0 in
+      let named_one = (and_parts (nat_lt g.0 named.globals) _ (sym (shaped_global named g k) ∙ shaped)).0 in
       let lt : g.0 < length s.globals = omega (arith, stands.globals, lt_from g.0 named.globals named_one) in
       let p = item_there s.globals g.0 lt in
       done_safe (value.Global g k) ty.Raw (val.Ptr (behind p.0 k)) (type_of_global s.locals g k) broken_raw
@@ -285,7 +286,7 @@ module _ (named : Named) (sizes : List ℕ) (s : Surround) (stands : Stands name
   values_safe [] all shaped none (t ∷ types) are = absurd (cc)
   values_safe (v ∷ vs) all shaped none [] are = absurd (cc)
   values_safe (v ∷ vs) all shaped none (t ∷ types) are =
-      let parts = and_true (is_shaped_value named v) (list_all (is_shaped_value named) vs) shaped in
+      let parts = and_parts (is_shaped_value named v) (list_all (is_shaped_value named) vs) shaped in
       let nones = both_nothing (broken_in_value at v) (flat_map (broken_in_value at) vs) none in
       let first : type_of_value s.locals v ≡ Some t = cc in
       let rest : Judges at vs types = cc in
@@ -295,7 +296,7 @@ module _ (named : Named) (sizes : List ℕ) (s : Surround) (stands : Stands name
   tuple_safe : (t : Ty) (vs : List Value) → AllValues ValueSafe vs → ValueSafe (value.Tuple t vs)
   tuple_safe t vs all shaped none =
       let typed = typed_tuple named at stands.locals t vs shaped none in
-      let part = (and_true _ (list_all (is_shaped_value named) vs) (sym (shaped_tuple named t vs) ∙ shaped)).1 in
+      let part = (and_parts _ (list_all (is_shaped_value named) vs) (sym (shaped_tuple named t vs) ∙ shaped)).1 in
       let row = typed.1 in
       record {
         ty = t;
@@ -308,7 +309,7 @@ module _ (named : Named) (sizes : List ℕ) (s : Surround) (stands : Stands name
   union_safe : (t : Ty) (k : ℕ) (v : Value) → ValueSafe v → ValueSafe (value.Union t k v)
   union_safe t k v good shaped none =
       let typed = typed_union named at stands.locals t k v shaped none in
-      let part = (and_true (fits_u64 k) (is_shaped_value named v) (and_true (is_shaped_type t) _ (sym (shaped_union named t k v) ∙ shaped)).1).1 in
+      let part = (and_parts (fits_u64 k) (is_shaped_value named v) (and_parts (is_shaped_type t) _ (sym (shaped_union named t k v) ∙ shaped)).1).1 in
       let g = good part typed.1.unbroken in
       record {
         ty = t;
@@ -322,7 +323,7 @@ module _ (named : Named) (sizes : List ℕ) (s : Surround) (stands : Stands name
   variant_safe : (t : Ty) (n : Num) (v : Value) → ValueSafe v → ValueSafe (value.Variant t n v)
   variant_safe t n v good shaped none =
       let typed = typed_variant named at stands.locals t n v shaped none in
-      let part = (and_true (is_shaped_num n) (is_shaped_value named v) (and_true (is_shaped_type t) _ (sym (shaped_variant named t n v) ∙ shaped)).1).1 in
+      let part = (and_parts (is_shaped_num n) (is_shaped_value named v) (and_parts (is_shaped_type t) _ (sym (shaped_variant named t n v) ∙ shaped)).1).1 in
       let g = good part typed.1.unbroken in
       record {
         ty = t;
@@ -361,7 +362,7 @@ module _ (named : Named) (sizes : List ℕ) (s : Surround) (stands : Stands name
   address_safe : (t : Ty) (p : Place) → PlaceSafe p → ValueSafe (value.AddrOf t p)
   address_safe t p good shaped none =
       let typed = typed_addr_of named at stands.locals t p shaped none in
-      let part = (and_true (is_shaped_type t) (is_shaped_place named p) (sym (shaped_addr_of named t p) ∙ shaped)).1 in
+      let part = (and_parts (is_shaped_type t) (is_shaped_place named p) (sym (shaped_addr_of named t p) ∙ shaped)).1 in
       let g = good part typed.2.unbroken in
       record {
         ty = t;
@@ -385,7 +386,7 @@ module _ (named : Named) (sizes : List ℕ) (s : Surround) (stands : Stands name
   transmute_safe : (t : Ty) (v : Value) → ValueSafe v → ValueSafe (value.Transmute t v)
   transmute_safe t v good shaped none =
       let typed = typed_transmute named at stands.locals t v shaped none in
-      let part = (and_true (is_shaped_type t) (is_shaped_value named v) (sym (shaped_transmute named t v) ∙ shaped)).1 in
+      let part = (and_parts (is_shaped_type t) (is_shaped_value named v) (sym (shaped_transmute named t v) ∙ shaped)).1 in
       let g = good part typed.1.unbroken in
       let u = typed.1.ty in
       let ok_u = subst TypeOk (value_type v u typed.1.is g) g.ok in
@@ -396,7 +397,7 @@ module _ (named : Named) (sizes : List ℕ) (s : Surround) (stands : Stands name
         safe = subst (IsSafe (Shaped t)) (sym (script_transmute s t v)) (safe_then (Shaped u) (Shaped t) (value_script s v) (transmuted t (type_of_value s.locals v)) (value_at v u typed.1.is g) (λ x h.
             subst (λ (o : Option Ty). IsSafe (Shaped t) (transmuted t o x)) (sym typed.1.is)
             (subst (λ (b : Bool). IsSafe (Shaped t) (if b then meant TransmuteInvalid t (encoding_of u x) else IllFormed)) (sym h)
-            (meant_safe TransmuteInvalid t (encoding_of u x) typed.0 (length-encoding_of u ok_u x h ∙ sym (same_of (size_of t) (size_of u) typed.1.fits))))));
+            (meant_safe TransmuteInvalid t (encoding_of u x) typed.0 (length-encoding_of u ok_u x h ∙ sym (eq_from (size_of t) (size_of u) typed.1.fits))))));
       }
 
   unary_value_safe : (o : UnaryOp) (v : Value) → ValueSafe v → ValueSafe (value.Unary o v)
@@ -414,7 +415,7 @@ module _ (named : Named) (sizes : List ℕ) (s : Surround) (stands : Stands name
   binary_value_safe : (o : BinaryOp) (a b : Value) → ValueSafe a → ValueSafe b → ValueSafe (value.Binary o a b)
   binary_value_safe o a b good_a good_b shaped none =
       let typed = typed_binary named at stands.locals o a b shaped none in
-      let parts = and_true (is_shaped_value named a) (is_shaped_value named b) (sym (shaped_binary named o a b) ∙ shaped) in
+      let parts = and_parts (is_shaped_value named a) (is_shaped_value named b) (sym (shaped_binary named o a b) ∙ shaped) in
       let g = good_a parts.0 typed.unbroken_left in
       let h = good_b parts.1 typed.unbroken_right in
       let l = typed.left in

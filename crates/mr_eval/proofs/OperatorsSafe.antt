@@ -4,6 +4,7 @@ use Rattle.std.specs.Prelude.{not, ◌&&◌, ◌||◌, ◌==◌, is_some, neg_�
 use Rattle.std.specs.Option.{option_map}
 use Rattle.std.specs.Cmp.Derive.{both_true}
 use Rattle.std.proofs.lemmas.Option.{same_Some}
+use Rattle.std.proofs.lemmas.Bool.{and_parts}
 use Rattle.mr_ast.specs.Integers.{bits_of, int_size}
 use Rattle.mr_ast.specs.declared.types.IntType.{IntType}
 use Rattle.mr_ast.specs.declared.types.IntType.TheVariants.{U8, U16, U32, U64, U128, I8, I16, I32, I64, I128}
@@ -26,7 +27,6 @@ use Rattle.mr_intops.specs.Compare.{compare_of}
 use Rattle.mr_intops.specs.Numbers.{value_of}
 use Rattle.mr_intops.specs.Shift.{shift_of}
 use Rattle.mr_intops.proofs.Within.{arith_of-within, bits_for-lt, invert_of-lt, overflowing_of-within, shift_of-within}
-use Rattle.mr_layout.proofs.PartsOk.{and_true}
 use Rattle.mr_value.specs.declared.val.Val.{Val, out-Val}
 use Rattle.mr_value.specs.declared.val.Val.TheOpen.{Val-F}
 use Rattle.mr_value.specs.declared.val.Val.TheVariants as val
@@ -63,7 +63,7 @@ pub record IntLayer (t : Ty) (v : Val) : Type 0 where
   pub layer : out-Val v ≡ Val-F.Int bits
   pub within : bits < 2 ^ bits_of int
 
-width : (i : IntType) → 8 * int_size i ≡ bits_of i
+pub width : (i : IntType) → 8 * int_size i ≡ bits_of i
 width U8 = refl
 width U16 = refl
 width U32 = refl
@@ -237,11 +237,11 @@ module _ (l r : Ty) (a b : Val) (ha : Shaped l a) (hb : Shaped r b) where
   same_result op t e h = subst (λ (u : Ty). IsSafe (Shaped u) (operated op (integer_of l) (integer_of r) (out-Val a) (out-Val b))) (same_Some l t e) h
 
   by_integers : (op : ArithOp) (t : Ty) → Some l ≡ Some t → (is_integer l && same_type l r) ≡ true → IsSafe (Shaped t) (operated (Arith op) (integer_of l) (integer_of r) (out-Val a) (out-Val b))
-  by_integers op t e fits = let p = and_true (is_integer l) (same_type l r) fits in same_result (Arith op) t e (arith_ints op p.0 p.1)
+  by_integers op t e fits = let p = and_parts (is_integer l) (same_type l r) fits in same_result (Arith op) t e (arith_ints op p.0 p.1)
 
   by_bits : (op : ArithOp) (t : Ty) → Some l ≡ Some t → (is_scalar_number l && same_type l r) ≡ true → IsSafe (Shaped t) (operated (Arith op) (integer_of l) (integer_of r) (out-Val a) (out-Val b))
   by_bits op t e fits =
-      let p = and_true (is_scalar_number l) (same_type l r) fits in
+      let p = and_parts (is_scalar_number l) (same_type l r) fits in
       same_result (Arith op) t e (or_cases (is_integer l) (is_bool l) p.0 (λ i. arith_ints op i p.1) (λ i. arith_bools op i p.1))
 
   overflow_given : (op : OverflowOp) (o : Option IntType) (t : Ty) → integer_of l ≡ o → option_map overflow_type o ≡ Some t → same_type l r ≡ true
@@ -252,15 +252,15 @@ module _ (l r : Ty) (a b : Val) (ha : Shaped l a) (hb : Shaped r b) where
 
   by_overflow : (op : OverflowOp) (t : Ty) → option_map overflow_type (integer_of l) ≡ Some t → (is_integer l && same_type l r) ≡ true
       → IsSafe (Shaped t) (operated (Overflowing op) (integer_of l) (integer_of r) (out-Val a) (out-Val b))
-  by_overflow op t e fits = overflow_given op (integer_of l) t refl e (and_true (is_integer l) (same_type l r) fits).1
+  by_overflow op t e fits = overflow_given op (integer_of l) t refl e (and_parts (is_integer l) (same_type l r) fits).1
 
   by_shift : (op : ShiftOp) (t : Ty) → Some l ≡ Some t → (is_integer l && is_integer r) ≡ true → IsSafe (Shaped t) (operated (Shifting op) (integer_of l) (integer_of r) (out-Val a) (out-Val b))
-  by_shift op t e fits = let p = and_true (is_integer l) (is_integer r) fits in same_result (Shifting op) t e (shifting_ints op p.0 p.1)
+  by_shift op t e fits = let p = and_parts (is_integer l) (is_integer r) fits in same_result (Shifting op) t e (shifting_ints op p.0 p.1)
 
   by_comparison : (op : CmpOp) (t : Ty) → Some ty.Bool ≡ Some t → ((is_scalar_number l || is_raw l) && same_type l r) ≡ true
       → IsSafe (Shaped t) (operated (Comparing op) (integer_of l) (integer_of r) (out-Val a) (out-Val b))
   by_comparison op t e fits =
-      let p = and_true (is_scalar_number l || is_raw l) (same_type l r) fits in
+      let p = and_parts (is_scalar_number l || is_raw l) (same_type l r) fits in
       subst (λ (u : Ty). IsSafe (Shaped u) (operated (Comparing op) (integer_of l) (integer_of r) (out-Val a) (out-Val b))) (same_Some ty.Bool t e)
       (or_cases (is_scalar_number l) (is_raw l) p.0 (λ s. or_cases (is_integer l) (is_bool l) s (λ i. compared_ints op i p.1) (λ i. compared_bools op i p.1)) (λ i. compared_raws op i p.1))
 
@@ -289,8 +289,8 @@ module _ (l r : Ty) (a b : Val) (ha : Shaped l a) (hb : Shaped r b) where
   binary_safe binary.Le t fits e = by_comparison cmp_op.Le t e fits
   binary_safe binary.Gt t fits e = by_comparison cmp_op.Gt t e fits
   binary_safe binary.Ge t fits e = by_comparison cmp_op.Ge t e fits
-  binary_safe binary.Offset t fits e = let p = and_true (is_raw l) (is_int I64 r) fits in same_result Moving t e (moved_raw p.0 p.1)
-  binary_safe binary.WrappingOffset t fits e = let p = and_true (is_raw l) (is_int I64 r) fits in same_result Wrapping t e (wrapped_raw p.0 p.1)
+  binary_safe binary.Offset t fits e = let p = and_parts (is_raw l) (is_int I64 r) fits in same_result Moving t e (moved_raw p.0 p.1)
+  binary_safe binary.WrappingOffset t fits e = let p = and_parts (is_raw l) (is_int I64 r) fits in same_result Wrapping t e (wrapped_raw p.0 p.1)
 
 -- ---- one operand
 

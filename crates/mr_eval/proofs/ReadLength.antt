@@ -3,16 +3,16 @@ use Rattle.std.proofs.Common.{◌≡◌, ℕ, ◌+◌, ◌-◌, ◌≤◌, List,
 use Rattle.std.specs.Prelude.{◌&&◌, ◌==◌, nat_le, if◌then◌else◌}
 use Rattle.std.proofs.lemmas.Bool.Decides.{nat_tests}
 use Rattle.std.proofs.lemmas.List.{length-drop, length-take-le}
+use Rattle.std.proofs.lemmas.Bool.{and_parts}
 use Rattle.mr_base.specs.declared.byte.AbstractByte.{AbstractByte}
 use Rattle.mr_base.specs.declared.byte.Pointer.{Pointer}
 use Rattle.mr_base.specs.declared.reason.Reason.{Reason}
 use Rattle.mr_base.specs.declared.reason.Reason.TheVariants.{DeadAllocation, Misaligned, OutOfBounds}
-use Rattle.mr_layout.proofs.PartsOk.{and_true}
 use Rattle.mr_mem.specs.Memory.{Allocation, Memory, bytes_at, found, inside, is_multiple, read, then_give}
 
 in_range : (a : Allocation) (addr len : ℕ) → (nat_le a.addr addr && nat_le (addr + len) (a.addr + length a.bytes)) ≡ true → length (bytes_at a addr len) ≡ len
 in_range a addr len e =
-    let p = and_true (nat_le a.addr addr) (nat_le (addr + len) (a.addr + length a.bytes)) e in
+    let p = and_parts (nat_le a.addr addr) (nat_le (addr + len) (a.addr + length a.bytes)) e in
     let low : a.addr ≤ addr = lower p.0 in
     let high : addr + len ≤ a.addr + length a.bytes = upper p.1 in
     let left = length-drop (addr - a.addr) a.bytes in

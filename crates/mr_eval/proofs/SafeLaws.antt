@@ -1,8 +1,7 @@
 -- Scripts that are never ill-formed, by their parts.
-use Rattle.std.proofs.Common.{◌≡◌, ℕ, zero, suc, ◌<◌, List, [], ◌∷◌, All, Option, None, Some, Result, Ok, Err, Bool, true, false, length, refl, sym, subst, arith}
-use Rattle.std.specs.Prelude.{◌^◌, ◌&&◌, ℤ, pos, ◌+ℤ◌, int_le, int_lt, slice_get, unsigned_abs, if◌then◌else◌}
+use Rattle.std.proofs.Common.{◌≡◌, [], ◌∷◌, Option, None, Some, Result, Ok, Err, Bool, true, false, length, refl, sym, subst}
+use Rattle.std.specs.Prelude.{◌^◌, ◌&&◌, ℤ, pos, ◌+ℤ◌, int_le, int_lt, unsigned_abs, if◌then◌else◌}
 use Rattle.std.specs.Ordering.{int_eq}
-use Rattle.std.proofs.lemmas.Option.{get_or_from_slice_get, slice_get_within}
 use Rattle.mr_ast.specs.declared.types.Ty.{Ty}
 use Rattle.mr_base.specs.declared.byte.Pointer.{Pointer}
 use Rattle.mr_base.specs.declared.reason.Reason.{Reason}
@@ -41,16 +40,6 @@ safe_option P r (Some x) h = h x refl
 pub safe_result : {A : Type 0} (P : A → Type 0) (r : Result A Reason) → ((x : A) → r ≡ Ok x → P x) → IsSafe P (or_reason r)
 safe_result P (Ok x) h = h x refl
 safe_result P (Err e) h = tt
-
--- an element that is there
-pub item_there : {A : Type 0} (xs : List A) (i : ℕ) → i < length xs → (x : A) × (slice_get xs i ≡ Some x)
-item_there [] i lt = absurd (omega arith)
-item_there (x ∷ xs) zero lt = (x, refl)
-item_there (x ∷ xs) (suc i) lt = item_there xs i (omega arith)
-
--- what holds of all holds of the one at a position
-pub item_ok : {A : Type 0} (P : A → Type 0) (xs : List A) (i : ℕ) (x : A) → All P xs → slice_get xs i ≡ Some x → P x
-item_ok P xs i x all e = subst P (get_or_from_slice_get xs i x x e) (all i x (slice_get_within xs i x e))
 
 -- ---- pointers
 

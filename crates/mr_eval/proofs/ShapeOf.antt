@@ -6,6 +6,7 @@ use Rattle.std.specs.Cmp.Derive.{both_true}
 use Rattle.std.proofs.lemmas.Bool.Decides.{nat_tests}
 use Rattle.std.proofs.lemmas.List.{length-replicate}
 use Rattle.std.proofs.lemmas.Option.{same_Some}
+use Rattle.std.proofs.lemmas.Bool.{and_parts}
 use Rattle.mr_ast.specs.Integers.{is_signed, is_fitting, int_size}
 use Rattle.mr_ast.specs.declared.types.IntType.{IntType}
 use Rattle.mr_ast.specs.declared.types.IntType.TheVariants.{U8, U16, U32, U64, U128, I8, I16, I32, I64, I128}
@@ -18,7 +19,6 @@ use Rattle.mr_layout.specs.EnumRules.{same_num}
 use Rattle.mr_layout.proofs.PartFacts.{FieldsOk, PartOk}
 use Rattle.mr_layout.specs.Sizes.{size_of}
 use Rattle.mr_layout.specs.TypeOk.{TypeOk}
-use Rattle.mr_layout.proofs.PartsOk.{and_true}
 use Rattle.mr_layout.proofs.WellFormed.{UnionOk, union_ok}
 use Rattle.mr_base.specs.declared.byte.AbstractByte.TheVariants.{Uninit}
 use Rattle.mr_runs.specs.Ranges.{with_range_replaced}
@@ -52,7 +52,7 @@ fits_width : (signed neg : Bool) (mag half whole : ℕ) → half ≤ whole
     → (if signed then (if neg then nat_lt 0 mag && nat_le mag half else nat_lt mag half) else (not neg && nat_lt mag whole)) ≡ true
     → nat_lt (if neg then whole - mag else mag) whole ≡ true
 fits_width true true mag half whole le e =
-    let p = and_true (nat_lt 0 mag) (nat_le mag half) e in
+    let p = and_parts (nat_lt 0 mag) (nat_le mag half) e in
     negative p.0 p.1
   where
     negative : nat_lt 0 mag ≡ true → nat_le mag half ≡ true → nat_lt (whole - mag) whole ≡ true
@@ -91,7 +91,7 @@ fields_shaped [] (t ∷ ts) xs e h = absurd (cc)
 fields_shaped (f ∷ fields) [] xs e h = absurd (cc)
 fields_shaped (f ∷ fields) (t ∷ ts) [] e h = absurd h
 fields_shaped (f ∷ fields) (t ∷ ts) (x ∷ xs) e h =
-    let p = and_true (same_type t f.1) (match_fields fields ts) e in
+    let p = and_parts (same_type t f.1) (match_fields fields ts) e in
     both_true (subst (λ (u : Ty). has_shape u x ≡ true) (same_type_equal t f.1 p.0) h.0) (fields_shaped fields ts xs p.1 h.1)
 
 elements_shaped : (elem : Ty) (ts : List Ty) (xs : List Val) → match_element elem ts ≡ true → HaveShapes ts xs → elements_pass (has_shape elem) xs ≡ true
@@ -99,7 +99,7 @@ elements_shaped elem [] [] e h = refl
 elements_shaped elem [] (x ∷ xs) e h = absurd h
 elements_shaped elem (t ∷ ts) [] e h = absurd h
 elements_shaped elem (t ∷ ts) (x ∷ xs) e h =
-    let p = and_true (same_type t elem) (match_element elem ts) e in
+    let p = and_parts (same_type t elem) (match_element elem ts) e in
     both_true (subst (λ (u : Ty). has_shape u x ≡ true) (same_type_equal t elem p.0) h.0) (elements_shaped elem ts xs p.1 h.1)
 
 -- parts that fit a tuple or an array make one of its values
@@ -110,7 +110,7 @@ parts_shape t ts xs e h = subst (λ (u : Ty). has_shape u (val.Tuple xs) ≡ tru
     by_layer (Ty-F.Tuple size align fields) k =
         ap (λ (u : Ty). has_shape u (val.Tuple xs)) (ty.rolls-Tuple size align fields) ∙ has_tuple size align fields xs ∙ fields_shaped fields ts xs k h
     by_layer (Ty-F.Array count elem) k =
-        let p = and_true (length ts == count) (match_element elem ts) k in
+        let p = and_parts (length ts == count) (match_element elem ts) k in
         ap (λ (u : Ty). has_shape u (val.Tuple xs)) (ty.rolls-Array count elem) ∙ has_array count elem xs
         ∙ both_true (ap (λ (n : ℕ). n == count) (shapes_length ts xs h) ∙ p.0) (elements_shaped elem ts xs p.1 h)
     by_layer _ k = absurd (cc)
@@ -150,7 +150,7 @@ replaced_length size at new le =
 -- the bytes that are kept of a union, of which a field is written
 pub union_shape : (t : Ty) → TypeOk t → (k : ℕ) (u : Ty) (x : Val) → fits_union t k u ≡ true → has_shape u x ≡ true
     → (bytes : Bytes) × (union_layer (out-Ty t) k x ≡ Some bytes) × (has_shape t (val.Union bytes) ≡ true)
-union_shape t ok k u x e h = transported (type_made t) (by_layer (out-Ty t) (subst TypeOk (sym (type_made t)) ok) (and_true (is_union_layer (out-Ty t)) (is_type (field_in (out-Ty t) k) u) e))
+union_shape t ok k u x e h = transported (type_made t) (by_layer (out-Ty t) (subst TypeOk (sym (type_made t)) ok) (and_parts (is_union_layer (out-Ty t)) (is_type (field_in (out-Ty t) k) u) e))
   where
     Made : Layer → Ty → Type 0
     Made l w = (bytes : Bytes) × (union_layer l k x ≡ Some bytes) × (has_shape w (val.Union bytes) ≡ true)

@@ -16,10 +16,10 @@ use Rattle.mr_ast.specs.ShapedValues.{Named, is_shaped_place, is_shaped_value}
 use Rattle.mr_ast.proofs.ShapedLaws.{shaped_addr_of, shaped_binary, shaped_cast, shaped_deref, shaped_disc, shaped_field_place, shaped_index_place, shaped_load, shaped_transmute, shaped_tuple, shaped_unary, shaped_union, shaped_variant, shaped_variant_place}
 use Rattle.std.proofs.lemmas.List.{drop_more}
 use Rattle.std.proofs.lemmas.Option.{same_Some}
+use Rattle.std.proofs.lemmas.Bool.{and_parts}
 use Rattle.mr_ast.specs.Integers.{is_fitting}
 use Rattle.mr_layout.specs.TypeOk.{TypeOk}
 use Rattle.mr_layout.specs.Sizes.{size_of}
-use Rattle.mr_layout.proofs.PartsOk.{and_true, same_of}
 use Rattle.mr_mem.specs.Memory.{Memory}
 use Rattle.mr_script.specs.Script.{Went}
 use Rattle.mr_value.specs.Shape.{has_shape}
@@ -40,6 +40,7 @@ use Rattle.mr_eval.proofs.FoundFits.{comes_to}
 use Rattle.mr_eval.proofs.OperatorsSafe.{Shaped}
 use Rattle.mr_eval.proofs.SafeRuns.{value_comes}
 use Rattle.mr_eval.specs.Sound.{SoundPlace, SoundValue, SoundValues, Stands, around}
+use Rattle.mr_base.proofs.Comparisons.{eq_from}
 
 -- a type that is there and is this one
 is_type_there : (o : Option Ty) (u : Ty) → is_type o u ≡ true → o ≡ Some u
@@ -56,43 +57,43 @@ module _ (s : Surround) where
   pub sound_deref : (whole : Place) (v : Value) (t : Ty) → whole ≡ place.Deref v t → SoundPlace s whole → SoundValue s v
   sound_deref whole v t is sound = let h = subst (SoundPlace s) is sound in
       a_value v h.named h.sizes h.stands
-      ((and_true (is_shaped_value h.named v) (is_shaped_type t) (sym (shaped_deref h.named v t) ∙ h.shaped)).0)
+      ((and_parts (is_shaped_value h.named v) (is_shaped_type t) (sym (shaped_deref h.named v t) ∙ h.shaped)).0)
       ((typed_deref h.named (around h.sizes s) h.stands.locals v t h.shaped h.unbroken).0.unbroken)
 
   pub sound_field : (whole : Place) (p : Place) (k : ℕ) → whole ≡ place.Field p k → SoundPlace s whole → SoundPlace s p
   sound_field whole p k is sound = let h = subst (SoundPlace s) is sound in
       a_place p h.named h.sizes h.stands
-      ((and_true (is_shaped_place h.named p) (fits_u64 k) (sym (shaped_field_place h.named p k) ∙ h.shaped)).0)
+      ((and_parts (is_shaped_place h.named p) (fits_u64 k) (sym (shaped_field_place h.named p k) ∙ h.shaped)).0)
       ((typed_field h.named (around h.sizes s) h.stands.locals p k h.shaped h.unbroken).unbroken)
 
   pub sound_array : (whole : Place) (p : Place) (i : Value) → whole ≡ place.Index p i → SoundPlace s whole → SoundPlace s p
   sound_array whole p i is sound = let h = subst (SoundPlace s) is sound in
       a_place p h.named h.sizes h.stands
-      ((and_true (is_shaped_place h.named p) (is_shaped_value h.named i) (sym (shaped_index_place h.named p i) ∙ h.shaped)).0)
+      ((and_parts (is_shaped_place h.named p) (is_shaped_value h.named i) (sym (shaped_index_place h.named p i) ∙ h.shaped)).0)
       ((typed_index h.named (around h.sizes s) h.stands.locals p i h.shaped h.unbroken).0.unbroken)
 
   pub sound_index : (whole : Place) (p : Place) (i : Value) → whole ≡ place.Index p i → SoundPlace s whole → SoundValue s i
   sound_index whole p i is sound = let h = subst (SoundPlace s) is sound in
       a_value i h.named h.sizes h.stands
-      ((and_true (is_shaped_place h.named p) (is_shaped_value h.named i) (sym (shaped_index_place h.named p i) ∙ h.shaped)).1)
+      ((and_parts (is_shaped_place h.named p) (is_shaped_value h.named i) (sym (shaped_index_place h.named p i) ∙ h.shaped)).1)
       ((typed_index h.named (around h.sizes s) h.stands.locals p i h.shaped h.unbroken).1.unbroken)
 
   pub sound_variant_place : (whole : Place) (p : Place) (n : Num) → whole ≡ place.Variant p n → SoundPlace s whole → SoundPlace s p
   sound_variant_place whole p n is sound = let h = subst (SoundPlace s) is sound in
       a_place p h.named h.sizes h.stands
-      ((and_true (is_shaped_place h.named p) (is_shaped_num n) (sym (shaped_variant_place h.named p n) ∙ h.shaped)).0)
+      ((and_parts (is_shaped_place h.named p) (is_shaped_num n) (sym (shaped_variant_place h.named p n) ∙ h.shaped)).0)
       ((typed_variant_place h.named (around h.sizes s) h.stands.locals p n h.shaped h.unbroken).unbroken)
 
   pub sound_union : (whole : Value) (t : Ty) (k : ℕ) (v : Value) → whole ≡ value.Union t k v → SoundValue s whole → SoundValue s v
   sound_union whole t k v is sound = let h = subst (SoundValue s) is sound in
       a_value v h.named h.sizes h.stands
-      ((and_true (fits_u64 k) (is_shaped_value h.named v) (and_true (is_shaped_type t) (fits_u64 k && is_shaped_value h.named v) (sym (shaped_union h.named t k v) ∙ h.shaped)).1).1)
+      ((and_parts (fits_u64 k) (is_shaped_value h.named v) (and_parts (is_shaped_type t) (fits_u64 k && is_shaped_value h.named v) (sym (shaped_union h.named t k v) ∙ h.shaped)).1).1)
       ((typed_union h.named (around h.sizes s) h.stands.locals t k v h.shaped h.unbroken).1.unbroken)
 
   pub sound_variant : (whole : Value) (t : Ty) (n : Num) (v : Value) → whole ≡ value.Variant t n v → SoundValue s whole → SoundValue s v
   sound_variant whole t n v is sound = let h = subst (SoundValue s) is sound in
       a_value v h.named h.sizes h.stands
-      ((and_true (is_shaped_num n) (is_shaped_value h.named v) (and_true (is_shaped_type t) (is_shaped_num n && is_shaped_value h.named v) (sym (shaped_variant h.named t n v) ∙ h.shaped)).1).1)
+      ((and_parts (is_shaped_num n) (is_shaped_value h.named v) (and_parts (is_shaped_type t) (is_shaped_num n && is_shaped_value h.named v) (sym (shaped_variant h.named t n v) ∙ h.shaped)).1).1)
       ((typed_variant h.named (around h.sizes s) h.stands.locals t n v h.shaped h.unbroken).1.unbroken)
 
   pub sound_load : (whole : Value) (p : Place) → whole ≡ value.Load p → SoundValue s whole → SoundPlace s p
@@ -110,7 +111,7 @@ module _ (s : Surround) where
   pub sound_addr_of : (whole : Value) (t : Ty) (p : Place) → whole ≡ value.AddrOf t p → SoundValue s whole → SoundPlace s p
   sound_addr_of whole t p is sound = let h = subst (SoundValue s) is sound in
       a_place p h.named h.sizes h.stands
-      ((and_true (is_shaped_type t) (is_shaped_place h.named p) (sym (shaped_addr_of h.named t p) ∙ h.shaped)).1)
+      ((and_parts (is_shaped_type t) (is_shaped_place h.named p) (sym (shaped_addr_of h.named t p) ∙ h.shaped)).1)
       ((typed_addr_of h.named (around h.sizes s) h.stands.locals t p h.shaped h.unbroken).2.unbroken)
 
   pub sound_cast : (whole : Value) (i : IntType) (v : Value) → whole ≡ value.Cast i v → SoundValue s whole → SoundValue s v
@@ -122,7 +123,7 @@ module _ (s : Surround) where
   pub sound_transmute : (whole : Value) (t : Ty) (v : Value) → whole ≡ value.Transmute t v → SoundValue s whole → SoundValue s v
   sound_transmute whole t v is sound = let h = subst (SoundValue s) is sound in
       a_value v h.named h.sizes h.stands
-      ((and_true (is_shaped_type t) (is_shaped_value h.named v) (sym (shaped_transmute h.named t v) ∙ h.shaped)).1)
+      ((and_parts (is_shaped_type t) (is_shaped_value h.named v) (sym (shaped_transmute h.named t v) ∙ h.shaped)).1)
       ((typed_transmute h.named (around h.sizes s) h.stands.locals t v h.shaped h.unbroken).1.unbroken)
 
   pub sound_unary : (whole : Value) (o : UnaryOp) (v : Value) → whole ≡ value.Unary o v → SoundValue s whole → SoundValue s v
@@ -134,13 +135,13 @@ module _ (s : Surround) where
   pub sound_left : (whole : Value) (o : BinaryOp) (a b : Value) → whole ≡ value.Binary o a b → SoundValue s whole → SoundValue s a
   sound_left whole o a b is sound = let h = subst (SoundValue s) is sound in
       a_value a h.named h.sizes h.stands
-      ((and_true (is_shaped_value h.named a) (is_shaped_value h.named b) (sym (shaped_binary h.named o a b) ∙ h.shaped)).0)
+      ((and_parts (is_shaped_value h.named a) (is_shaped_value h.named b) (sym (shaped_binary h.named o a b) ∙ h.shaped)).0)
       ((typed_binary h.named (around h.sizes s) h.stands.locals o a b h.shaped h.unbroken).unbroken_left)
 
   pub sound_right : (whole : Value) (o : BinaryOp) (a b : Value) → whole ≡ value.Binary o a b → SoundValue s whole → SoundValue s b
   sound_right whole o a b is sound = let h = subst (SoundValue s) is sound in
       a_value b h.named h.sizes h.stands
-      ((and_true (is_shaped_value h.named a) (is_shaped_value h.named b) (sym (shaped_binary h.named o a b) ∙ h.shaped)).1)
+      ((and_parts (is_shaped_value h.named a) (is_shaped_value h.named b) (sym (shaped_binary h.named o a b) ∙ h.shaped)).1)
       ((typed_binary h.named (around h.sizes s) h.stands.locals o a b h.shaped h.unbroken).unbroken_right)
 
   pub sound_tuple : (whole : Value) (t : Ty) (vs : List Value) → whole ≡ value.Tuple t vs → SoundValue s whole → SoundValues s vs
@@ -149,14 +150,14 @@ module _ (s : Surround) where
         named = h.named;
         sizes = h.sizes;
         stands = h.stands;
-        shaped = (and_true (is_shaped_type t) (list_all (is_shaped_value h.named) vs) (sym (shaped_tuple h.named t vs) ∙ h.shaped)).1;
+        shaped = (and_parts (is_shaped_type t) (list_all (is_shaped_value h.named) vs) (sym (shaped_tuple h.named t vs) ∙ h.shaped)).1;
         unbroken = (typed_tuple h.named (around h.sizes s) h.stands.locals t vs h.shaped h.unbroken).1.unbroken;
       }
 
   -- the first of values in a row, and the others
   row_parts : (v : Value) (vs : List Value) → SoundValues s (v ∷ vs) → SoundValue s v × SoundValues s vs
   row_parts v vs h =
-      let shaped = and_true (is_shaped_value h.named v) (list_all (is_shaped_value h.named) vs) h.shaped in
+      let shaped = and_parts (is_shaped_value h.named v) (list_all (is_shaped_value h.named) vs) h.shaped in
       let none = both_nothing (broken_in_value (around h.sizes s) v) (flat_map (broken_in_value (around h.sizes s)) vs) h.unbroken in (
         a_value v h.named h.sizes h.stands shaped.0 none.0,
         record { named = h.named; sizes = h.sizes; stands = h.stands; shaped = shaped.1; unbroken = none.1 },
@@ -204,7 +205,7 @@ module _ (s : Surround) where
   union_content m whole v t u k x old new is sound e went =
       let h = subst (SoundValue s) is sound in
       let typed = typed_union h.named (around h.sizes s) h.stands.locals t k v h.shaped h.unbroken in
-      let fits = (and_true (is_union_layer (out-Ty t)) (is_type (field_type t k) typed.1.ty) typed.1.fits).1 in
+      let fits = (and_parts (is_union_layer (out-Ty t)) (is_type (field_type t k) typed.1.ty) typed.1.fits).1 in
       let field = is_type_there (field_type t k) typed.1.ty fits in
       (typed.0, record { ty = typed.1.ty; is = field; shape = shape_given m v typed.1.ty x old new (sound_union whole t k v is sound) typed.1.is went })
 
@@ -214,7 +215,7 @@ module _ (s : Surround) where
   transmute_types whole v t u is sound e =
       let h = subst (SoundValue s) is sound in
       let typed = typed_transmute h.named (around h.sizes s) h.stands.locals t v h.shaped h.unbroken in
-      (typed.0, sym (same_of (size_of t) (size_of u) (subst (λ (w : Ty). same_size t w ≡ true) (same_Some typed.1.ty u (sym typed.1.is ∙ e)) typed.1.fits)))
+      (typed.0, sym (eq_from (size_of t) (size_of u) (subst (λ (w : Ty). same_size t w ≡ true) (same_Some typed.1.ty u (sym typed.1.is ∙ e)) typed.1.fits)))
 
   -- an operator gives a result on the types of its operands
   pub result_given : (whole : Value) (o : BinaryOp) (a b : Value) (t : Ty) → whole ≡ value.Binary o a b → SoundValue s whole

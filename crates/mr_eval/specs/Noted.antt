@@ -19,4 +19,5 @@ noted_targets (t ∷ targets) s = noted_targets targets (seeing [] (touching t.0
 
 -- what a load notes that gives this value of a type: its access, and then what the references in the value point to
 abbrev pub noted_load : Ty → Pointer → Val → Seen → Seen
-noted_load t p v s = noted_targets (targets_of t v) (seeing (accessing false false p (size_of t)) (touching p (size_of t)) s)
+noted_load t p v s =
+    noted_targets (targets_of t v) (seeing (accessing false false p (size_of t)) (touching p (size_of t)) s)

@@ -17,7 +17,7 @@ use crate::moving::behind;
 use crate::notes::Notes;
 use crate::placing::{Placed, element_by, field, local, target, variant};
 use crate::valuing::{
-    Valued, binary_value, cast_value, discriminant, loaded_value, transmuted_value, typed,
+    Valued, binary_value, cast_value, discriminant, integer, loaded_value, transmuted_value, typed,
     unary_value, union_value, variant_value,
 };
 use mr_ast::{BinaryOp, IntType, Items, Num, Place, Ty, UnaryOp, Value};
@@ -30,7 +30,8 @@ use mr_wf::Known;
 #[tactic(auto, using(crate::proofs::EvalRuns::eval_laws, crate::proofs::SoundParts::sound_laws, crate::proofs::SoundParts::type_facts, crate::proofs::SoundParts::int_fits, mr_wf::proofs::TypeLaws::type_laws, crate::proofs::ExtendsLaws::extends_laws))]
 pub fn placed<'p>(here: &Here<'p>, notes: &mut Notes, place: &'p Place) -> Result<Placed<'p>, Halt>
     requires { SoundPlace (surround_of here.now) place.now }
-    ensures given { Gives at_pointer result (placed here.now.memory.now (surround_of here.now) place.now (seen notes.old)) (seen notes.new) }
+    ensures given { Gives at_pointer result
+        (placed here.now.memory.now (surround_of here.now) place.now (seen notes.old)) (seen notes.new) }
     ensures ty { IfOk result (λ p. type_of_place here.now.locals.now place.now ≡ Some p.ty.now) }
     ensures kept { Extends (seen notes.old) (seen notes.new) }
 {
@@ -62,8 +63,10 @@ fn indexed_place<'p>(
     index: &'p Value,
 ) -> Result<Placed<'p>, Halt>
     requires { SoundPlace (surround_of here.now) (Place.Index array.now index.now) }
-    ensures given { Gives at_pointer result (placed here.now.memory.now (surround_of here.now) (Place.Index array.now index.now) (seen notes.old)) (seen notes.new) }
-    ensures ty { IfOk result (λ p. type_of_place here.now.locals.now (Place.Index array.now index.now) ≡ Some p.ty.now) }
+    ensures given { Gives at_pointer result (placed here.now.memory.now (surround_of here.now)
+        (Place.Index array.now index.now) (seen notes.old)) (seen notes.new) }
+    ensures ty { IfOk result
+        (λ p. type_of_place here.now.locals.now (Place.Index array.now index.now) ≡ Some p.ty.now) }
     ensures kept { Extends (seen notes.old) (seen notes.new) }
 {
     let p = placed(here, notes, array)?;
@@ -90,7 +93,8 @@ fn bare(addr: u64) -> Pointer
 #[tactic(auto, using(crate::proofs::EvalRuns::eval_laws, crate::proofs::SoundParts::sound_laws, crate::proofs::SoundParts::type_facts, crate::proofs::SoundParts::int_fits, mr_wf::proofs::TypeLaws::type_laws, crate::proofs::ExtendsLaws::extends_laws))]
 pub fn valued<'p>(here: &Here<'p>, notes: &mut Notes, value: &'p Value) -> Result<Valued<'p>, Halt>
     requires { SoundValue (surround_of here.now) value.now }
-    ensures given { Gives value_in result (valued here.now.memory.now (surround_of here.now) value.now (seen notes.old)) (seen notes.new) }
+    ensures given { Gives value_in result (valued here.now.memory.now (surround_of here.now) value.now (seen notes.old))
+        (seen notes.new) }
     ensures ty { IfOk result (λ v. type_of_value here.now.locals.now value.now ≡ Some (ty_of v.ty)) }
     ensures kept { Extends (seen notes.old) (seen notes.new) }
 {
@@ -99,9 +103,7 @@ pub fn valued<'p>(here: &Here<'p>, notes: &mut Notes, value: &'p Value) -> Resul
             let p = placed(here, notes, place)?;
             loaded_value(here, notes, p)
         }
-        Value::Int(int, number) => {
-            Ok(typed(Val::Int(bits_of_number(*int, *number)), Known::Int(*int)))
-        }
+        Value::Int(int, number) => Ok(integer(bits_of_number(*int, *number), *int)),
         Value::True => Ok(typed(Val::Bool(true), Known::Bool)),
         Value::False => Ok(typed(Val::Bool(false), Known::Bool)),
         Value::Raw(addr) => Ok(typed(Val::Ptr(bare(*addr)), Known::Raw)),
@@ -147,7 +149,8 @@ fn cast_expression<'p>(
     operand: &'p Value,
 ) -> Result<Valued<'p>, Halt>
     requires { SoundValue (surround_of here.now) (Value.Cast int operand.now) }
-    ensures given { Gives value_in result (valued here.now.memory.now (surround_of here.now) (Value.Cast int operand.now) (seen notes.old)) (seen notes.new) }
+    ensures given { Gives value_in result (valued here.now.memory.now (surround_of here.now)
+        (Value.Cast int operand.now) (seen notes.old)) (seen notes.new) }
     ensures ty { IfOk result (λ v. type_of_value here.now.locals.now (Value.Cast int operand.now) ≡ Some (ty_of v.ty)) }
     ensures kept { Extends (seen notes.old) (seen notes.new) }
 {
@@ -165,7 +168,8 @@ fn unary_expression<'p>(
     operand: &'p Value,
 ) -> Result<Valued<'p>, Halt>
     requires { SoundValue (surround_of here.now) (Value.Unary op operand.now) }
-    ensures given { Gives value_in result (valued here.now.memory.now (surround_of here.now) (Value.Unary op operand.now) (seen notes.old)) (seen notes.new) }
+    ensures given { Gives value_in result (valued here.now.memory.now (surround_of here.now)
+        (Value.Unary op operand.now) (seen notes.old)) (seen notes.new) }
     ensures ty { IfOk result (λ v. type_of_value here.now.locals.now (Value.Unary op operand.now) ≡ Some (ty_of v.ty)) }
     ensures kept { Extends (seen notes.old) (seen notes.new) }
 {
@@ -183,8 +187,10 @@ fn tuple_expression<'p>(
     values: &'p [Value],
 ) -> Result<Valued<'p>, Halt>
     requires { SoundValue (surround_of here.now) (Value.Tuple ty.now values.now) }
-    ensures given { Gives value_in result (valued here.now.memory.now (surround_of here.now) (Value.Tuple ty.now values.now) (seen notes.old)) (seen notes.new) }
-    ensures ty { IfOk result (λ v. type_of_value here.now.locals.now (Value.Tuple ty.now values.now) ≡ Some (ty_of v.ty)) }
+    ensures given { Gives value_in result (valued here.now.memory.now (surround_of here.now)
+        (Value.Tuple ty.now values.now) (seen notes.old)) (seen notes.new) }
+    ensures ty { IfOk result
+        (λ v. type_of_value here.now.locals.now (Value.Tuple ty.now values.now) ≡ Some (ty_of v.ty)) }
     ensures kept { Extends (seen notes.old) (seen notes.new) }
 {
     let row = each_valued(here, notes, values)?;
@@ -202,8 +208,10 @@ fn variant_expression<'p>(
     content: &'p Value,
 ) -> Result<Valued<'p>, Halt>
     requires { SoundValue (surround_of here.now) (Value.Variant ty.now number content.now) }
-    ensures given { Gives value_in result (valued here.now.memory.now (surround_of here.now) (Value.Variant ty.now number content.now) (seen notes.old)) (seen notes.new) }
-    ensures ty { IfOk result (λ v. type_of_value here.now.locals.now (Value.Variant ty.now number content.now) ≡ Some (ty_of v.ty)) }
+    ensures given { Gives value_in result (valued here.now.memory.now (surround_of here.now)
+        (Value.Variant ty.now number content.now) (seen notes.old)) (seen notes.new) }
+    ensures ty { IfOk result
+        (λ v. type_of_value here.now.locals.now (Value.Variant ty.now number content.now) ≡ Some (ty_of v.ty)) }
     ensures kept { Extends (seen notes.old) (seen notes.new) }
 {
     let v = valued(here, notes, content)?;
@@ -221,8 +229,10 @@ fn union_expression<'p>(
     content: &'p Value,
 ) -> Result<Valued<'p>, Halt>
     requires { SoundValue (surround_of here.now) (Value.Union ty.now number content.now) }
-    ensures given { Gives value_in result (valued here.now.memory.now (surround_of here.now) (Value.Union ty.now number content.now) (seen notes.old)) (seen notes.new) }
-    ensures ty { IfOk result (λ v. type_of_value here.now.locals.now (Value.Union ty.now number content.now) ≡ Some (ty_of v.ty)) }
+    ensures given { Gives value_in result (valued here.now.memory.now (surround_of here.now)
+        (Value.Union ty.now number content.now) (seen notes.old)) (seen notes.new) }
+    ensures ty { IfOk result
+        (λ v. type_of_value here.now.locals.now (Value.Union ty.now number content.now) ≡ Some (ty_of v.ty)) }
     ensures kept { Extends (seen notes.old) (seen notes.new) }
 {
     let v = valued(here, notes, content)?;
@@ -239,8 +249,10 @@ fn transmute_expression<'p>(
     operand: &'p Value,
 ) -> Result<Valued<'p>, Halt>
     requires { SoundValue (surround_of here.now) (Value.Transmute ty.now operand.now) }
-    ensures given { Gives value_in result (valued here.now.memory.now (surround_of here.now) (Value.Transmute ty.now operand.now) (seen notes.old)) (seen notes.new) }
-    ensures ty { IfOk result (λ v. type_of_value here.now.locals.now (Value.Transmute ty.now operand.now) ≡ Some (ty_of v.ty)) }
+    ensures given { Gives value_in result (valued here.now.memory.now (surround_of here.now)
+        (Value.Transmute ty.now operand.now) (seen notes.old)) (seen notes.new) }
+    ensures ty { IfOk result
+        (λ v. type_of_value here.now.locals.now (Value.Transmute ty.now operand.now) ≡ Some (ty_of v.ty)) }
     ensures kept { Extends (seen notes.old) (seen notes.new) }
 {
     let v = valued(here, notes, operand)?;
@@ -258,8 +270,10 @@ fn binary_expression<'p>(
     right: &'p Value,
 ) -> Result<Valued<'p>, Halt>
     requires { SoundValue (surround_of here.now) (Value.Binary op left.now right.now) }
-    ensures given { Gives value_in result (valued here.now.memory.now (surround_of here.now) (Value.Binary op left.now right.now) (seen notes.old)) (seen notes.new) }
-    ensures ty { IfOk result (λ v. type_of_value here.now.locals.now (Value.Binary op left.now right.now) ≡ Some (ty_of v.ty)) }
+    ensures given { Gives value_in result (valued here.now.memory.now (surround_of here.now)
+        (Value.Binary op left.now right.now) (seen notes.old)) (seen notes.new) }
+    ensures ty { IfOk result
+        (λ v. type_of_value here.now.locals.now (Value.Binary op left.now right.now) ≡ Some (ty_of v.ty)) }
     ensures kept { Extends (seen notes.old) (seen notes.new) }
 {
     let a = valued(here, notes, left)?;
@@ -287,7 +301,8 @@ fn each_valued<'p>(
     values: &'p [Value],
 ) -> Result<Items<Val>, Halt>
     requires { SoundValues (surround_of here.now) values.now }
-    ensures given { Gives same result (each_valued here.now.memory.now (surround_of here.now) values.now (seen notes.old)) (seen notes.new) }
+    ensures given { Gives same result
+        (each_valued here.now.memory.now (surround_of here.now) values.now (seen notes.old)) (seen notes.new) }
     ensures kept { Extends (seen notes.old) (seen notes.new) }
 {
     let mut row = Items::new(here.alloc);

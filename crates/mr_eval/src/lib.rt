@@ -46,6 +46,6 @@ pub use loading::load_scalar;
 pub use moving::behind;
 pub use mr_mem::Fault;
 pub use notes::Notes;
-pub use scalars::{Scalar, scalar_of, truth_in};
+pub use scalars::{Scalar, scalar_of};
 pub use scene::Scene;
 pub use stores::{store_bytes, store_uninit};

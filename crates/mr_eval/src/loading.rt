@@ -34,7 +34,8 @@ use std::alloc::{AllocError, Global};
 /// The reference check of a value, which is given back.
 #[tactic(auto, using(crate::proofs::ExtendsLaws::extends_laws))]
 pub fn referred(alloc: Global, m: &Memory, notes: &mut Notes, t: &Ty, v: Val) -> Result<Val, Halt>
-    ensures given { Gives same result (on (referred_to m.now (targets_of t.now v) (seen notes.old)) (λ u s. Went v s)) (seen notes.new) }
+    ensures given { Gives same result (on (referred_to m.now (targets_of t.now v) (seen notes.old)) (λ u s. Went v s))
+        (seen notes.new) }
     ensures kept { Extends (seen notes.old) (seen notes.new) }
     ensures same { IfOk result (λ w. w ≡ v) }
 {
@@ -110,7 +111,8 @@ fn target_of(t: &Ty, v: &Val) -> Option<(Pointer, u64)>
 // The reference check of what a value points to, if it points to anything.
 #[tactic(auto, unfolding(crate::specs::Evaluated::referred_to))]
 fn check_target(m: &Memory, target: Option<(Pointer, u64)>) -> Result<(), Reason>
-    ensures { (s : Seen) → referred_to m.now (listed target) s ≡ outcome_of result (λ _. noted_targets (listed target) s) }
+    ensures { (s : Seen)
+        → referred_to m.now (listed target) s ≡ outcome_of result (λ _. noted_targets (listed target) s) }
 {
     match target {
         None => Ok(()),
@@ -127,7 +129,8 @@ fn scalar_in(m: &Memory, view: &View<'_>, t: &Ty) -> Result<Val, Reason>
     requires scalar { IsTrue (is_scalar t.now) }
     requires ok { TypeOk t.now }
     requires sized { length (bytes_of_pieces view.now) ≡ size_of t.now }
-    ensures given { (s : Seen) → meant_by m.now InvalidValue t.now (bytes_of_pieces view.now) s ≡ outcome_of result (λ v. noted_targets (targets_of t.now v) s) }
+    ensures given { (s : Seen) → meant_by m.now InvalidValue t.now (bytes_of_pieces view.now) s
+        ≡ outcome_of result (λ v. noted_targets (targets_of t.now v) s) }
     ensures shape { IfOk result (λ v. has_shape t.now v ≡ true) }
 {
     let Some(v) = decode_scalar(view, t) else {
@@ -174,7 +177,8 @@ fn note_load(
     size: u64,
     target: Option<(Pointer, u64)>,
 ) -> Result<(), AllocError>
-    ensures noted { OnOk result (seen notes.new ≡ noted_targets (listed target) (seeing (accessing false false p size) (touching p size) (seen notes.old))) }
+    ensures noted { OnOk result (seen notes.new
+        ≡ noted_targets (listed target) (seeing (accessing false false p size) (touching p size) (seen notes.old))) }
     ensures kept { Extends (seen notes.old) (seen notes.new) }
 {
     notes.touch(p, size)?;
@@ -195,7 +199,8 @@ pub fn noted_scalar<'p>(
 ) -> Result<Valued<'p>, Halt>
     requires scalar { IsTrue (is_scalar p.ty.now) }
     requires ok { TypeOk p.ty.now }
-    ensures given { Gives value_in result (read_typed m.now p.entry.ty.now p.entry.at (seen notes.old)) (seen notes.new) }
+    ensures given { Gives value_in result (read_typed m.now p.entry.ty.now p.entry.at (seen notes.old))
+        (seen notes.new) }
     ensures ty { IfOk result (λ v. ty_of v.ty ≡ p.entry.ty.now) }
     ensures kept { Extends (seen notes.old) (seen notes.new) }
     ensures shape { IfOk result (λ v. has_shape p.entry.ty.now v.value ≡ true) }

@@ -80,7 +80,8 @@ pub fn field<'p>(
     whole: Placed<'p>,
     number: u64,
 ) -> Result<Placed<'p>, Halt>
-    ensures given { Gives at_pointer result (in_field m.now (Some whole.entry.ty.now) number whole.entry.at (seen notes.old)) (seen notes.new) }
+    ensures given { Gives at_pointer result
+        (in_field m.now (Some whole.entry.ty.now) number whole.entry.at (seen notes.old)) (seen notes.new) }
     ensures ty { IfOk result (λ p. field_type whole.entry.ty.now number ≡ Some p.ty.now) }
     ensures kept { Extends (seen notes.old) (seen notes.new) }
 {
@@ -130,7 +131,8 @@ fn element_of(
     elements: (u64, u64),
 ) -> Result<Pointer, Halt>
     requires { elements.0 * elements.1 < 2 ^ 63 }
-    ensures given { Gives same result (run (reading m.now) (element_at at index elements) (seen notes.old)) (seen notes.new) }
+    ensures given { Gives same result (run (reading m.now) (element_at at index elements) (seen notes.old))
+        (seen notes.new) }
     ensures kept { Extends (seen notes.old) (seen notes.new) }
 {
     if index < elements.0 {
@@ -150,7 +152,8 @@ pub fn element<'p>(
     index: &Val,
 ) -> Result<Placed<'p>, Halt>
     requires { TypeOk array.ty.now }
-    ensures given { Gives at_pointer result (in_array m.now (Some array.entry.ty.now) index.now array.entry.at (seen notes.old)) (seen notes.new) }
+    ensures given { Gives at_pointer result
+        (in_array m.now (Some array.entry.ty.now) index.now array.entry.at (seen notes.old)) (seen notes.new) }
     ensures ty { IfOk result (λ p. element_type array.entry.ty.now ≡ Some p.ty.now) }
     ensures kept { Extends (seen notes.old) (seen notes.new) }
 {
@@ -176,7 +179,8 @@ pub fn element_by<'p>(
     index: Val,
 ) -> Result<Placed<'p>, Halt>
     requires { TypeOk array.ty.now }
-    ensures given { Gives at_pointer result (in_array m.now (Some array.entry.ty.now) index array.entry.at (seen notes.old)) (seen notes.new) }
+    ensures given { Gives at_pointer result
+        (in_array m.now (Some array.entry.ty.now) index array.entry.at (seen notes.old)) (seen notes.new) }
     ensures ty { IfOk result (λ p. element_type array.entry.ty.now ≡ Some p.ty.now) }
     ensures kept { Extends (seen notes.old) (seen notes.new) }
 {

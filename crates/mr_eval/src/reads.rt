@@ -46,7 +46,8 @@ pub fn lend<'m>(
     len: u64,
     align: u64,
 ) -> Result<View<'m>, Halt>
-    ensures given { Gives bytes_of_pieces result (reading m.now (Read false p len align) (seen notes.old)) (seen notes.new) }
+    ensures given { Gives bytes_of_pieces result (reading m.now (Read false p len align) (seen notes.old))
+        (seen notes.new) }
     ensures sized { IfOk result (λ v. length (bytes_of_pieces v) ≡ len) }
     ensures kept { Extends (seen notes.old) (seen notes.new) }
     ensures refused { IsUnnoted result (seen notes.old) (seen notes.new) }

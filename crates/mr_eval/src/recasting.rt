@@ -140,7 +140,8 @@ pub fn transmuted(
     requires from_ok { TypeOk (ty_of from) }
     requires shape { has_shape (ty_of from) v.now ≡ true }
     requires same { size_of (ty_of from) ≡ size_of to.now }
-    ensures given { Gives same result (transmuted_to m.now to.now (Some (ty_of from.entry)) v.now (seen notes.old)) (seen notes.new) }
+    ensures given { Gives same result (transmuted_to m.now to.now (Some (ty_of from.entry)) v.now (seen notes.old))
+        (seen notes.new) }
     ensures kept { Extends (seen notes.old) (seen notes.new) }
 {
     let mut piece = Vec::new(alloc);

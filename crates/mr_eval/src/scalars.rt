@@ -1,12 +1,12 @@
 //! Integers and bools, as numbers or truths.
-ghost use Rattle.std.specs.Prelude.{◌≡◌, ℕ, Bool, Some, true};
+ghost use Rattle.std.specs.Prelude.{◌≡◌, Some, true};
 ghost use Rattle.mr_value.specs.Shape.{has_shape};
 ghost use Rattle.mr_wf.specs.Known.{ty_of};
 ghost use Rattle.mr_wf.specs.Operands.{is_scalar_number};
 ghost use Rattle.mr_eval.specs.Scalars.{scalar_as};
 
 use mr_ast::Num;
-use mr_value::{Val, number_of_bits};
+use mr_value::{Val, bits_in, number_of_bits, truth_in};
 use mr_wf::Known;
 
 /// An integer or a bool.
@@ -14,28 +14,6 @@ use mr_wf::Known;
 pub enum Scalar {
     Number(Num),
     Truth(bool),
-}
-
-// The bits of an integer.
-fn bits_in(v: &Val) -> u128
-    requires { (bits : ℕ) × (v.now ≡ Val.Int bits) }
-    ensures { v.now ≡ Val.Int result }
-{
-    match v {
-        Val::Int(bits) => *bits,
-        _ => unreachable!(),
-    }
-}
-
-/// The truth of a bool.
-pub fn truth_in(v: &Val) -> bool
-    requires { (truth : Bool) × (v.now ≡ Val.Bool truth) }
-    ensures { v.now ≡ Val.Bool result }
-{
-    match v {
-        Val::Bool(truth) => *truth,
-        _ => unreachable!(),
-    }
 }
 
 /// What a value of an integer type or bool is.

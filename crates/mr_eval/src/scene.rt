@@ -72,7 +72,8 @@ impl Scene {
         requires size { size < 2 ^ 63 }
         requires align { IsPowerOfTwo align }
         requires asked { IsAsked kind size align }
-        ensures { IfOk result (λ p. memory_answer (Allocate kind size align addr) (world_of self.old) ≡ Went p (world_of self.new)) }
+        ensures { IfOk result
+            (λ p. memory_answer (Allocate kind size align addr) (world_of self.old) ≡ Went p (world_of self.new)) }
     {
         let id = AllocId {
             thread: self.thread,

@@ -16,7 +16,8 @@ use std::alloc::AllocError;
 // Notes a store of this length and the range check before it.
 #[tactic(auto, using(crate::proofs::ExtendsLaws::extends_laws))]
 fn note_store(notes: &mut Notes, atomic: bool, p: Pointer, len: u64) -> Result<(), AllocError>
-    ensures noted { OnOk result (seen notes.new ≡ seeing (accessing true atomic p len) (touching p len) (seen notes.old)) }
+    ensures noted { OnOk result
+        (seen notes.new ≡ seeing (accessing true atomic p len) (touching p len) (seen notes.old)) }
     ensures kept { Extends (seen notes.old) (seen notes.new) }
 {
     notes.touch(p, len)?;
@@ -55,7 +56,10 @@ pub fn store_scalar(
     align: u64,
 ) -> Result<(), Fault>
     requires { bytes.now.count ≤ 16 }
-    ensures given { Leaves result (storing m.old false p (with_provenance bytes.now.provenance (take bytes.now.count bytes.now.all)) align (seen notes.old)) m.new (seen notes.new) }
+    ensures given { Leaves result
+        (storing m.old false p (with_provenance bytes.now.provenance (take bytes.now.count bytes.now.all)) align
+        (seen notes.old))
+        m.new (seen notes.new) }
     ensures kept { Extends (seen notes.old) (seen notes.new) }
     ensures err { OnErr result (m.new ≡ m.old) }
 {

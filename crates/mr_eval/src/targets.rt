@@ -50,7 +50,8 @@ fn add_parts(
     v: &Val,
     found: &mut Vec<(Pointer, u64)>,
 ) -> Result<(), OutOfMemory>
-    ensures { OnOk result (found.new.items ≡ found.old.items ++ in_parts (targets_of_fields fields.now) (out-Val v.now)) }
+    ensures { OnOk result
+        (found.new.items ≡ found.old.items ++ in_parts (targets_of_fields fields.now) (out-Val v.now)) }
 {
     match v {
         Val::Tuple(values) => add_fields(fields, values.as_slice(), found),
@@ -79,7 +80,8 @@ fn add_fields(
 // Adds those of the elements of an array.
 #[cycle(targets)]
 fn add_elements(elem: &Ty, v: &Val, found: &mut Vec<(Pointer, u64)>) -> Result<(), OutOfMemory>
-    ensures { OnOk result (found.new.items ≡ found.old.items ++ in_parts (element_targets (targets_of elem.now)) (out-Val v.now)) }
+    ensures { OnOk result
+        (found.new.items ≡ found.old.items ++ in_parts (element_targets (targets_of elem.now)) (out-Val v.now)) }
 {
     match v {
         Val::Tuple(values) => add_each(elem, values.as_slice(), found),
@@ -104,7 +106,8 @@ fn add_content(
     v: &Val,
     found: &mut Vec<(Pointer, u64)>,
 ) -> Result<(), OutOfMemory>
-    ensures { OnOk result (found.new.items ≡ found.old.items ++ in_variant (targets_of_variant variants.now) (out-Val v.now)) }
+    ensures { OnOk result
+        (found.new.items ≡ found.old.items ++ in_variant (targets_of_variant variants.now) (out-Val v.now)) }
 {
     match v {
         Val::Variant(number, content) => add_variant(variants, *number, content.get(), found),

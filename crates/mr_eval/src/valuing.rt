@@ -3,7 +3,9 @@ ghost use Rattle.std.specs.Prelude.{◌≡◌, ◌<◌, ◌^◌, IfOk, None, Som
 ghost use Rattle.mr_layout.specs.Sizes.{size_of};
 ghost use Rattle.mr_layout.specs.TypeOk.{TypeOk};
 ghost use Rattle.mr_value.specs.Shape.{has_shape};
+ghost use Rattle.mr_ast.specs.declared.types.Ty.TheVariants as types;
 ghost use Rattle.mr_value.specs.declared.val.Val.{out-Val};
+ghost use Rattle.mr_value.specs.declared.val.Val.TheVariants as val;
 ghost use Rattle.mr_script.specs.Script.{Done, run};
 ghost use Rattle.mr_ast.specs.declared.types.IntType.TheVariants.{I64};
 ghost use Rattle.mr_intops.specs.Numbers.{value_of};
@@ -48,6 +50,14 @@ pub fn typed(value: Val, ty: Known<'_>) -> Valued<'_>
     ensures ty { result.ty ≡ ty.entry }
 {
     Valued { value, ty }
+}
+
+/// An integer of these bits.
+pub fn integer<'p>(bits: u128, int: IntType) -> Valued<'p>
+    ensures value { result.value ≡ val.Int bits }
+    ensures ty { ty_of result.ty ≡ types.Int int }
+{
+    typed(Val::Int(bits), Known::Int(int))
 }
 
 /// The load of a place.
@@ -96,7 +106,8 @@ pub fn loaded_value<'p>(
     p: Placed<'p>,
 ) -> Result<Valued<'p>, Halt>
     requires { TypeOk p.ty.now }
-    ensures given { Gives value_in result (read_typed here.now.memory.now p.entry.ty.now p.entry.at (seen notes.old)) (seen notes.new) }
+    ensures given { Gives value_in result (read_typed here.now.memory.now p.entry.ty.now p.entry.at (seen notes.old))
+        (seen notes.new) }
     ensures ty { IfOk result (λ v. ty_of v.ty ≡ p.entry.ty.now) }
     ensures kept { Extends (seen notes.old) (seen notes.new) }
 {
@@ -113,7 +124,8 @@ pub fn loaded_value<'p>(
 #[tactic(auto, using(crate::proofs::ExtendsLaws::extends_laws, crate::proofs::FoundFits::found_fits))]
 pub fn discriminant<'p>(m: &Memory, notes: &mut Notes, p: Placed<'_>) -> Result<Valued<'p>, Halt>
     requires { TypeOk p.ty.now }
-    ensures given { Gives value_in result (disc_at m.now (Some p.entry.ty.now) p.entry.at (seen notes.old)) (seen notes.new) }
+    ensures given { Gives value_in result (disc_at m.now (Some p.entry.ty.now) p.entry.at (seen notes.old))
+        (seen notes.new) }
     ensures ty { IfOk result (λ v. discriminant_type p.entry.ty.now ≡ Some (ty_of v.ty)) }
     ensures kept { Extends (seen notes.old) (seen notes.new) }
 {
@@ -155,7 +167,8 @@ fn moved_value(m: &Memory, notes: &mut Notes, p: Pointer, n: i128) -> Result<Val
 // A pointer moved in bounds, by a number in two's complement.
 #[tactic(auto, using(crate::proofs::ExtendsLaws::extends_laws))]
 fn moved_by(m: &Memory, notes: &mut Notes, a: &Val, b: &Val) -> Result<Val, Halt>
-    ensures given { Gives same result (run (reading m.now) (operated Moving None None (out-Val a.now) (out-Val b.now)) (seen notes.old)) (seen notes.new) }
+    ensures given { Gives same result (run (reading m.now)
+        (operated Moving None None (out-Val a.now) (out-Val b.now)) (seen notes.old)) (seen notes.new) }
     ensures kept { Extends (seen notes.old) (seen notes.new) }
 {
     match (pointer_in(a), right_in(IntType::I64, b)) {
@@ -175,7 +188,8 @@ fn binary(
     a: &Val,
     b: &Val,
 ) -> Result<Val, Halt>
-    ensures given { Gives same result (run (reading m.now) (operated (kind_of op) told.0 told.1 (out-Val a.now) (out-Val b.now)) (seen notes.old)) (seen notes.new) }
+    ensures given { Gives same result (run (reading m.now)
+        (operated (kind_of op) told.0 told.1 (out-Val a.now) (out-Val b.now)) (seen notes.old)) (seen notes.new) }
     ensures kept { Extends (seen notes.old) (seen notes.new) }
 {
     let (left, right) = told;
@@ -254,7 +268,8 @@ pub fn transmuted_value<'p>(
     requires from_ok { TypeOk (ty_of v.ty) }
     requires shape { has_shape (ty_of v.ty) v.value ≡ true }
     requires same { size_of (ty_of v.ty) ≡ size_of to.now }
-    ensures given { Gives value_in result (transmuted_to here.now.memory.now to.entry.now (Some (ty_of v.entry.ty)) v.entry.value (seen notes.old)) (seen notes.new) }
+    ensures given { Gives value_in result (transmuted_to here.now.memory.now to.entry.now
+        (Some (ty_of v.entry.ty)) v.entry.value (seen notes.old)) (seen notes.new) }
     ensures ty { IfOk result (λ w. ty_of w.ty ≡ to.entry.now) }
     ensures kept { Extends (seen notes.old) (seen notes.new) }
 {
@@ -284,7 +299,12 @@ pub fn binary_value<'p>(
     b: Valued<'p>,
 ) -> Result<Valued<'p>, Halt>
     requires { is_some (result_type op (ty_of a.ty)) ≡ true }
-    ensures given { Gives value_in result (run (reading here.now.memory.now) (operated (kind_of op) (integer_of (ty_of a.entry.ty)) (integer_of (ty_of b.entry.ty)) (out-Val a.entry.value) (out-Val b.entry.value)) (seen notes.old)) (seen notes.new) }
+    ensures given { Gives value_in result
+        (run (reading here.now.memory.now)
+        (operated (kind_of op) (integer_of (ty_of a.entry.ty)) (integer_of (ty_of b.entry.ty))
+        (out-Val a.entry.value) (out-Val b.entry.value))
+        (seen notes.old))
+        (seen notes.new) }
     ensures ty { IfOk result (λ w. result_type op (ty_of a.entry.ty) ≡ Some (ty_of w.ty)) }
     ensures kept { Extends (seen notes.old) (seen notes.new) }
 {

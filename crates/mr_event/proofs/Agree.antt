@@ -1,7 +1,7 @@
 -- The order of two steps depends on the steps up to the later one alone.
 use Rattle.std.proofs.Common.{◌≡◌, ℕ, ◌<◌, List, true, sym, ◌∙◌, ap, arith}
 use Rattle.mr_base.specs.Accesses.{some_race}
-use Rattle.mr_event.specs.declared.footprint.Footprint.{Footprint}
+use Rattle.mr_event.specs.Footprint.{Footprint}
 use Rattle.mr_event.specs.Footprints.{depends, wakes}
 use Rattle.mr_event.specs.Order.{step_at, thread_at, Sync, Races, Edge, HappensBefore}
 use Rattle.mr_event.specs.Order.Edge.{in_thread, woken, dependent}

@@ -1,64 +1,12 @@
 -- The clock of a step, made from the last step before it down.
-use Rattle.std.proofs.Common.{◌≡◌, ◌≢◌, ℕ, suc, ◌<◌, ◌≤◌, ◌+◌, List, [], ◌∷◌, ◌++◌, length, get_or, refl, sym, ◌∙◌, ap, subst, inl, inr, ◌⊎◌, arith, length-append}
-use Rattle.std.proofs.lemmas.List.{get_or_append_left}
-use Rattle.std.proofs.Math.Seq.{get_or-append_seam}
+use Rattle.std.proofs.Common.{◌≡◌, ℕ, suc, ◌<◌, ◌≤◌, ◌+◌, List, length, get_or, refl, sym, ◌∙◌, ap, subst, inl, inr, ◌⊎◌, arith}
 use native.Mathlib.Decide.{ℕ_discrete, dec_lt}
-use Rattle.mr_event.specs.declared.footprint.Footprint.{Footprint}
-use Rattle.mr_event.specs.Clocks.{AreSlots, AreSlotsBelow, AreClocks, IsBelow, IsClock, Follows}
-use Rattle.mr_event.specs.Order.{thread_at, Edge, HappensBefore}
+use Rattle.mr_event.specs.Footprint.{Footprint}
+use Rattle.mr_event.specs.Clocks.{AreSlots, IsBelow, IsClock, Follows}
+use Rattle.mr_event.specs.Order.{Edge, HappensBefore}
 use Rattle.mr_event.specs.Order.Edge.{in_thread}
 use Rattle.mr_event.specs.Order.HappensBefore.{edge, chain}
 use Rattle.mr_event.proofs.Ordered.{first_edge, Edge-before, HappensBefore-before}
-
--- one more slot: that of an earlier step of the thread, or a new one
-pub slots_more : (run : List Footprint) (n : ℕ) (old new : List ℕ) (count more slot : ℕ) → AreSlotsBelow run n old count → new ≡ old ++ slot ∷ [] → count ≤ more → slot < more → ((m : ℕ) → m < n → get_or old m 0 ≡ slot → thread_at run m ≡ thread_at run n) → AreSlotsBelow run (n + 1) new more
-slots_more run n old new count more slot s is wide own same =
-    record {
-      all = ap length is ∙ length-append old (slot ∷ []) ∙ omega (arith, s.all);
-      below = λ m lt. elim (ℕ_discrete m n) [
-        | yes e ↦ let at = last m e in omega (arith, at, own)
-        | no e ↦ let at = first m (omega arith) in let low = s.below m (omega arith) in omega (arith, at, low, wide)
-      ];
-      apart = λ i j a b e. elim (ℕ_discrete i n) [
-        | yes ei ↦ elim (ℕ_discrete j n) [
-          | yes ej ↦ ap (thread_at run) (ei ∙ sym ej)
-          | no nj ↦ ap (thread_at run) ei ∙ sym (same j (omega arith) (sym (first j (omega arith)) ∙ sym e ∙ last i ei))
-        ]
-        | no ni ↦ elim (ℕ_discrete j n) [
-          | yes ej ↦ same i (omega arith) (sym (first i (omega arith)) ∙ e ∙ last j ej) ∙ ap (thread_at run) (sym ej)
-          | no nj ↦ s.apart i j (omega arith) (omega arith) (sym (first i (omega arith)) ∙ e ∙ first j (omega arith))
-        ]
-      ];
-    }
-  where
-    first : (m : ℕ) → m < n → get_or new m 0 ≡ get_or old m 0
-    first m lt = ap (λ l. get_or l m 0) is ∙ get_or_append_left old (slot ∷ []) 0 m (omega (arith, s.all, lt))
-
-    last : (m : ℕ) → m ≡ n → get_or new m 0 ≡ slot
-    last m e = ap (λ l. get_or l m 0) is ∙ ap (λ k. get_or (old ++ slot ∷ []) k 0) (e ∙ sym s.all) ∙ get_or-append_seam old slot [] 0
-
--- one more clock
-pub clocks_more : (run : List Footprint) (slots : List ℕ) (count : ℕ) (old new : List (List ℕ)) (clock : List ℕ) → AreClocks run slots count old → new ≡ old ++ clock ∷ [] → length clock ≡ count → IsClock run slots clock (length old) → AreClocks run slots count new
-clocks_more run slots count old new clock c is wide here =
-    record {
-      wide = λ k lt. elim (ℕ_discrete k (length old)) [
-        | yes e ↦ ap length (last k e) ∙ wide
-        | no e ↦ ap length (first k (low k lt e)) ∙ c.wide k (low k lt e)
-      ];
-      each = λ k lt. elim (ℕ_discrete k (length old)) [
-        | yes e ↦ subst (λ l. IsClock run slots l k) (sym (last k e)) (subst (λ j. IsClock run slots clock j) (sym e) here)
-        | no e ↦ subst (λ l. IsClock run slots l k) (sym (first k (low k lt e))) (c.each k (low k lt e))
-      ];
-    }
-  where
-    low : (k : ℕ) → k < length new → k ≢ length old → k < length old
-    low k lt e = let wide = ap length is ∙ length-append old (clock ∷ []) in omega (arith, wide, lt, e)
-
-    first : (k : ℕ) → k < length old → get_or new k [] ≡ get_or old k []
-    first k lt = ap (λ l. get_or l k []) is ∙ get_or_append_left old (clock ∷ []) [] k lt
-
-    last : (k : ℕ) → k ≡ length old → get_or new k [] ≡ clock
-    last k e = ap (λ l. get_or l k []) is ∙ ap (λ j. get_or (old ++ clock ∷ []) j []) e ∙ get_or-append_seam old clock [] []
 
 -- the clock of step k as far as the steps from i on have been looked at: what lies below it happens before k, and with
 -- each step all that happen before that; and each step from i on that happens before k lies below it
@@ -67,24 +15,6 @@ pub record IsClockFrom (run : List Footprint) (slots clock : List ℕ) (i k : �
   pub sound : (m : ℕ) → m < k → IsBelow slots clock m → HappensBefore run m k
   pub closed : (m q : ℕ) → m < k → IsBelow slots clock m → HappensBefore run q m → IsBelow slots clock q
   pub complete : (m : ℕ) → i ≤ m → m < k → HappensBefore run m k → IsBelow slots clock m
-
--- nothing is known
-pub clock_begins : (run : List Footprint) (slots clock : List ℕ) (k : ℕ) → ((s : ℕ) → get_or clock s 0 ≡ 0) → IsClockFrom run slots clock k k
-clock_begins run slots clock k none =
-    record {
-      bounded = λ s. omega (arith, none s);
-      sound = λ m lt below. absurd (omega (arith, none (get_or slots m 0), below));
-      closed = λ m q lt below h. absurd (omega (arith, none (get_or slots m 0), below));
-      complete = λ m low high h. absurd (omega (arith));
-    }
-
--- all steps were looked at
-pub clock_ends : (run : List Footprint) (slots clock : List ℕ) (k : ℕ) → IsClockFrom run slots clock 0 k → IsClock run slots clock k
-clock_ends run slots clock k c =
-    record {
-      bounded = c.bounded;
-      exact = λ m lt. (c.sound m lt, λ h. c.complete m (omega arith) lt h);
-    }
 
 -- the next step down lies below the clock, or is not before step k
 pub clock_stays : (run : List Footprint) (slots clock : List ℕ) (i k : ℕ) → IsClockFrom run slots clock (suc i) k → (HappensBefore run i k → IsBelow slots clock i) → IsClockFrom run slots clock i k

@@ -1,14 +1,15 @@
 -- The clock of a step: for each thread, up to which place its steps happen before the step. (Lamport; FastTrack: vector
 -- clocks.) A thread that has a step in the run has a slot, the place of its entry in each clock.
 use Rattle.std.specs.Prelude.{◌≡◌, ◌≢◌, ℕ, ◌+◌, ◌<◌, ◌≤◌, ◌↔◌, max, List, [], length, slice_index_or}
-use Rattle.mr_event.specs.declared.footprint.Footprint.{Footprint}
+use Rattle.mr_event.specs.Footprint.{Footprint}
 use Rattle.mr_event.specs.Order.{thread_at, HappensBefore}
 
 -- the slots of the first n steps of a run lie below the count, and steps with one slot are of one thread
 pub record AreSlotsBelow (run : List Footprint) (n : ℕ) (slots : List ℕ) (count : ℕ) : Type 0 where
   pub all : length slots ≡ n
   pub below : (i : ℕ) → i < n → slice_index_or slots i 0 < count
-  pub apart : (i j : ℕ) → i < n → j < n → slice_index_or slots i 0 ≡ slice_index_or slots j 0 → thread_at run i ≡ thread_at run j
+  pub apart : (i j : ℕ) → i < n → j < n → slice_index_or slots i 0 ≡ slice_index_or slots j 0
+      → thread_at run i ≡ thread_at run j
 
 -- the slots of all steps of a run
 abbrev pub AreSlots : List Footprint → List ℕ → ℕ → Type 0

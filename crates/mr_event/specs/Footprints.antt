@@ -5,11 +5,8 @@ use Rattle.mr_base.specs.declared.byte.AllocId.{AllocId}
 use Rattle.mr_base.specs.Accesses.{some_conflict}
 use Rattle.mr_base.specs.declared.thread.Event.{Event}
 use Rattle.mr_base.specs.declared.thread.Event.TheVariants.{CreateLock, Acquire, Release, Spawn, Join}
-use Rattle.mr_event.specs.declared.footprint.Footprint.{Footprint}
-
--- whether two identities are one
-abbrev pub same_id : AllocId → AllocId → Bool
-same_id a b = (a.thread == b.thread) && (a.count == b.count)
+use Rattle.mr_event.specs.Footprint.{Footprint}
+use Rattle.mr_base.specs.Identities.{same_id}
 
 -- whether some allocation stands in both lists
 abbrev pub share_id : List AllocId → List AllocId → Bool

@@ -5,7 +5,7 @@ use Rattle.std.specs.Prelude.{AllPairs, IsPermutation}
 use Rattle.std.specs.List.{range_with_len}
 use Rattle.mr_base.specs.Accesses.{some_race}
 use Rattle.mr_base.specs.declared.thread.Event.TheVariants.{Quiet}
-use Rattle.mr_event.specs.declared.footprint.Footprint.{Footprint}
+use Rattle.mr_event.specs.Footprint.{Footprint}
 use Rattle.mr_event.specs.declared.footprint.Pair.{Pair}
 use Rattle.mr_event.specs.Footprints.{depends, wakes}
 

@@ -2,11 +2,12 @@
 
 ghost use Rattle.std.specs.Prelude.{◌≡◌, ◌==◌};
 ghost use Rattle.std.specs.List.{list_any};
-ghost use Rattle.mr_event.specs.Footprints.{same_id as is_same_id, share_id as have_shared_id, lock_of as lock_in, same_lock as have_same_lock, both_create as are_both_creating, both_spawn as are_both_spawning, joined_by as is_joined_by, depends as is_dependent, spawns as is_spawning, wakes as is_waking};
+ghost use Rattle.mr_base.specs.Identities.{same_id as is_same_id};
+ghost use Rattle.mr_event.specs.Footprints.{share_id as have_shared_id, lock_of as lock_in, same_lock as have_same_lock, both_create as are_both_creating, both_spawn as are_both_spawning, joined_by as is_joined_by, depends as is_dependent, spawns as is_spawning, wakes as is_waking};
 
 use crate::footprint::Footprint;
 use mr_base::{AllocId, Event};
-use mr_track::AllocIds;
+use mr_track::some_conflict;
 
 fn same_id(a: AllocId, b: AllocId) -> bool
     ensures { result ≡ is_same_id a b }
@@ -21,10 +22,10 @@ fn contains_id(a: AllocId, list: &[AllocId]) -> bool
 }
 
 // Whether some allocation stands in both lists.
-fn share_id(a: &AllocIds, b: &AllocIds) -> bool
+fn share_id(a: &[AllocId], b: &[AllocId]) -> bool
     ensures { result ≡ have_shared_id a.now b.now }
 {
-    a.as_slice().iter().any(|x| contains_id(*x, b.as_slice()))
+    a.iter().any(|x| contains_id(*x, b))
 }
 
 // The lock that a step acts on.
@@ -72,8 +73,8 @@ fn spawns(event: Event, thread: u32) -> bool
 fn joined_by(f: &Footprint, g: &Footprint) -> bool
     ensures { result ≡ is_joined_by f.now g.now }
 {
-    match g.event {
-        Event::Join(joined) => spawns(f.event, joined) || (f.ended && f.thread == joined),
+    match g.event() {
+        Event::Join(joined) => spawns(f.event(), joined) || (f.ended() && f.thread() == joined),
         _ => false,
     }
 }
@@ -85,15 +86,15 @@ fn joined_by(f: &Footprint, g: &Footprint) -> bool
 pub fn depends(f: &Footprint, g: &Footprint) -> bool
     ensures { result ≡ is_dependent f.now g.now }
 {
-    same_lock(f.event, g.event)
-        || both_create(f.event, g.event)
-        || both_spawn(f.event, g.event)
+    same_lock(f.event(), g.event())
+        || both_create(f.event(), g.event())
+        || both_spawn(f.event(), g.event())
         || joined_by(f, g)
         || joined_by(g, f)
-        || share_id(&f.allocated, &g.touched)
-        || share_id(&f.allocated, &g.freed)
-        || share_id(&f.touched, &g.freed)
-        || mr_track::conflicts(&f.accesses, &g.accesses)
+        || share_id(f.allocated(), g.touched())
+        || share_id(f.allocated(), g.freed())
+        || share_id(f.touched(), g.freed())
+        || some_conflict(f.accesses(), g.accesses())
 }
 
 fn contains_thread(list: &[u32], thread: u32) -> bool
@@ -102,10 +103,10 @@ fn contains_thread(list: &[u32], thread: u32) -> bool
     list.iter().any(|t| *t == thread)
 }
 
-// Whether `f` woke or created the thread.
+/// Whether `f` woke or created the thread.
 #[tactic(auto, unfolding(crate::specs::Footprints::wakes))]
-pub(crate) fn wakes(f: &Footprint, thread: u32) -> bool
+pub fn wakes(f: &Footprint, thread: u32) -> bool
     ensures { result ≡ is_waking f.now thread }
 {
-    contains_thread(f.woken.as_slice(), thread) || spawns(f.event, thread)
+    contains_thread(f.woken(), thread) || spawns(f.event(), thread)
 }

@@ -1,7 +1,7 @@
 //! Laws of the order of steps and of its races.
 
 ghost use Rattle.std.specs.Prelude.{◌≡◌, ℕ, ◌↔◌, IsTrue, List};
-ghost use Rattle.mr_event.specs.declared.footprint.Footprint.{Footprint};
+ghost use Rattle.mr_event.specs.Footprint.{Footprint};
 ghost use Rattle.mr_event.specs.declared.footprint.Pair.{Pair};
 ghost use Rattle.mr_event.specs.Footprints.{depends};
 ghost use Rattle.mr_event.specs.Order.{step_at, Edge, Races, HappensBefore, RacePair, IsPredicted};

@@ -1,9 +1,10 @@
 //! The footprints of steps, when a step depends on another, happens-before, and the races that a run shows.
 //! (Lamport: happens-before; FastTrack: races; which steps wake, depend and have an edge is this project's.)
 //!
-//! - [`Footprint`]: what a completed step read, changed and woke. A run is the list of its steps' footprints.
-//!   [`AllocIds`] and [`ThreadIds`] are its lists; contracts see them as lists. [`Footprint::nothing`] is one of a step that did
-//!   nothing, and [`Footprint::copy_from`] puts a copy of another in its place.
+//! - [`Footprint`]: what a completed step read, changed and woke, which contracts see as the record of
+//!   `specs/Footprint.antt`. A run is the list of its steps' footprints. [`Footprint::nothing`] is one of a step that did
+//!   nothing, [`Footprint::of`] that of a [`Step`], and [`Footprint::step`] gives the step back. [`Footprint::copy_from`] puts a
+//!   copy of another in its place. The other calls read a field each.
 //! - [`Event`]: what a step did to a lock or to another thread.
 //! - [`Pair`]: a race, by the places of its two steps in the run.
 //!
@@ -12,7 +13,7 @@
 //! of a step is, `specs/FootOk.antt` has the machine's limits, and `specs/Kept.antt` the steps of a witness. Proved of the
 //! public calls:
 //!
-//! - [`depends`]: whether a later step of another thread depends on a step, exactly.
+//! - [`depends`]: whether a later step of another thread depends on a step, and [`wakes`]: whether it woke or created a thread, exactly.
 //! - [`predicted_plain`]: each step that races with an earlier one unordered by happens-before, with the greatest such
 //!   one, by rising second step; want of memory is its only error. It compares each two steps. Clocks order them, which
 //!   are made only up to the last step that has a rival, an earlier step of another thread with an access that races.
@@ -28,14 +29,16 @@ mod dependence;
 mod footprint;
 mod laws;
 mod limits;
+mod lists;
 mod order;
 mod races;
 
-pub use dependence::depends;
+pub use dependence::{depends, wakes};
 pub use footprint::{Footprint, Pair};
 pub use laws::{decided, predicted_lists, racing_steps_depend};
 pub use limits::foot_ok;
+pub use lists::Step;
 pub use mr_base::Event;
-pub use mr_track::{AllocIds, OutOfMemory, ThreadIds};
+pub use mr_track::OutOfMemory;
 pub use order::follows_plain;
 pub use races::predicted_plain;

@@ -2,23 +2,20 @@
 
 ghost use Rattle.std.specs.Prelude.{ℕ, ◌<◌, ◌↔◌, IsTrue, All};
 ghost use Rattle.std.specs.List.Sorted.{IsStrictlyIncreasing};
+ghost use Rattle.mr_base.specs.Limits.{max_threads};
 ghost use Rattle.mr_event.specs.FootOk.{IsAccessOk, IsEventOk, IsFootOk};
 
 use crate::footprint::Footprint;
-use mr_base::{Access, AllocId, Event};
-
-const MAX_THREADS: u32 = 1024;
-
-const MAX_LOCKS: u32 = 4096;
+use mr_base::{Access, AllocId, Event, MAX_LOCKS, MAX_THREADS};
 
 fn threads_ok(list: &[u32]) -> bool
-    ensures { IsTrue result ↔ All (λ t. t < 1024) list.now }
+    ensures { IsTrue result ↔ All (λ t. t < max_threads) list.now }
 {
     list.iter().all(|t| *t < MAX_THREADS)
 }
 
 fn ids_ok(list: &[AllocId]) -> bool
-    ensures { IsTrue result ↔ All (λ a. a.thread < 1024) list.now }
+    ensures { IsTrue result ↔ All (λ a. a.thread < max_threads) list.now }
 {
     list.iter().all(|a| a.thread < MAX_THREADS)
 }
@@ -62,12 +59,12 @@ fn event_ok(event: Event) -> bool
 pub fn foot_ok(f: &Footprint) -> bool
     ensures { IsTrue result ↔ IsFootOk f.now }
 {
-    f.thread < MAX_THREADS
-        && threads_ok(f.woken.as_slice())
-        && rises(f.woken.as_slice())
-        && event_ok(f.event)
-        && ids_ok(f.allocated.as_slice())
-        && ids_ok(f.freed.as_slice())
-        && ids_ok(f.touched.as_slice())
-        && accesses_ok(f.accesses.as_slice())
+    f.thread() < MAX_THREADS
+        && threads_ok(f.woken())
+        && rises(f.woken())
+        && event_ok(f.event())
+        && ids_ok(f.allocated())
+        && ids_ok(f.freed())
+        && ids_ok(f.touched())
+        && accesses_ok(f.accesses())
 }

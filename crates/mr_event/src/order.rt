@@ -1,13 +1,14 @@
 //! What happens before what in a run, by comparing all steps.
 
 ghost use Rattle.std.specs.Prelude.{◌≡◌, ℕ, ◌+◌, ◌<◌, ◌≤◌, ◌↔◌, IsTrue, IfOk, length, slice_index_or, vec_len, false};
-ghost use Rattle.mr_base.specs.Accesses.{some_race};
+ghost use Rattle.mr_base.specs.Accesses.{some_race as has_race};
 ghost use Rattle.mr_event.specs.Footprints.{depends as is_dependent, wakes as is_waking};
 ghost use Rattle.mr_event.specs.Order.{step_at, thread_at, Sync, Edge, HappensBefore, HasLink};
 
 use crate::OutOfMemory;
 use crate::dependence::{depends, wakes};
 use crate::footprint::Footprint;
+use mr_track::some_race;
 use std::alloc::Global;
 
 // The thread of a step.
@@ -17,7 +18,7 @@ pub(crate) fn thread_at(run: &[Footprint], i: usize) -> u32
     ensures { result ≡ thread_at run.now i }
 {
     let step = &run[i];
-    step.thread
+    step.thread()
 }
 
 #[tactic(auto, using(crate::proofs::Read::step_read))]
@@ -45,11 +46,11 @@ fn step_depends(run: &[Footprint], i: usize, j: usize) -> bool
 pub(crate) fn step_races(run: &[Footprint], i: usize, j: usize) -> bool
     requires first { i < length run.now }
     requires second { j < length run.now }
-    ensures { result ≡ some_race (step_at run.now i).accesses (step_at run.now j).accesses }
+    ensures { result ≡ has_race (step_at run.now i).accesses (step_at run.now j).accesses }
 {
     let first = &run[i];
     let second = &run[j];
-    mr_track::races(&first.accesses, &second.accesses)
+    some_race(first.accesses(), second.accesses())
 }
 
 // Whether step `i` woke the thread of step `j` and `j` is that thread's first step after `i`.
@@ -103,7 +104,8 @@ pub fn follows_plain(
 ) -> Result<Vec<bool>, OutOfMemory>
     requires { first < length run.now }
     ensures length { IfOk result (λ v. vec_len v ≡ length run.now) }
-    ensures each { IfOk result (λ v. (k : ℕ) → k < length run.now → IsTrue (slice_index_or v.items k false) ↔ HappensBefore run.now first k) }
+    ensures each { IfOk result
+        (λ v. (k : ℕ) → k < length run.now → IsTrue (slice_index_or v.items k false) ↔ HappensBefore run.now first k) }
 {
     let mut marked = Vec::new(alloc);
     for k in 0..run.len() {

@@ -1,7 +1,7 @@
 -- Neighbours in a run are exchanged, wherever they stand.
 use Rattle.std.proofs.Common.{◌≡◌, ◌≢◌, ℕ, suc, refl, sym, ◌∙◌, ap, subst, arith, List, [], ◌∷◌, ◌++◌, length, false}
 use Rattle.std.specs.Prelude.{None}
-use Rattle.mr_event.specs.declared.footprint.Footprint.{Footprint}
+use Rattle.mr_event.specs.Footprint.{Footprint}
 use Rattle.mr_event.specs.Footprints.{depends, wakes}
 use Rattle.mr_order.specs.Trace.{AreIndependent}
 use Rattle.mr_sched.specs.declared.schedule.Entry.{Entry}

@@ -1,6 +1,6 @@
 -- Runs of entries by bare steps, and neighbours that may be exchanged. (Mazurkiewicz: traces.)
 use Rattle.std.specs.Prelude.{◌≡◌, ℕ, List, [], ◌∷◌, None}
-use Rattle.mr_event.specs.declared.footprint.Footprint.{Footprint}
+use Rattle.mr_event.specs.Footprint.{Footprint}
 use Rattle.mr_sched.specs.declared.schedule.Entry.{Entry}
 use Rattle.mr_plan.specs.Legal.{state_fault}
 use Rattle.mr_plan.specs.Machine.{Completed, State, bare}

@@ -5,7 +5,7 @@ use Rattle.std.specs.List.{filter}
 use Rattle.mr_ast.specs.declared.program.Program.{Program}
 use Rattle.mr_base.specs.declared.reason.Reason.TheVariants.{DataRace}
 use Rattle.mr_base.specs.declared.reason.Verdict.TheVariants as verdict
-use Rattle.mr_event.specs.declared.footprint.Footprint.{Footprint}
+use Rattle.mr_event.specs.Footprint.{Footprint}
 use Rattle.mr_event.specs.Kept.{kept}
 use Rattle.mr_event.specs.Order.{step_at}
 use Rattle.mr_sched.specs.declared.schedule.Entry.{Entry}

@@ -22,7 +22,8 @@ ghost use Rattle.mr_exchange.specs.Exchange.{Done, Leads};
 pub fn swap()
     ensures states { (look : Look) → SwapLaw (thread_step look) }
     ensures sound { (p : Program) (s : State Own) → SoundState p s → IsSane s }
-    ensures runs { (p : Program) (picks : List ℕ) (s t : State Own) (front : List Entry) (e f : Entry) (before : List Done) (a b : Done)
+    ensures runs { (p : Program) (picks : List ℕ) (s t : State Own) (front : List Entry)
+        (e f : Entry) (before : List Done) (a b : Done)
         → WellFormed p → start_fault p picks ≡ None → (start_config p picks).state ≡ Some s
         → length front ≡ length before → AreIndependent a.foot b.foot
         → Leads (look_of p picks) s (front ++ e ∷ f ∷ []) (before ++ a ∷ b ∷ []) t
@@ -38,6 +39,8 @@ pub fn limits()
 
 /// A law: a legal run of a well-formed program has a footprint for each entry, or one fewer exactly where the last entry itself stops.
 pub fn counts()
-    ensures each { (p : Program) (w : Schedule) → WellFormed p → Legal p w → ¬ LastStops p w → length (steps_of p w) ≡ length w.entries }
-    ensures fewer { (p : Program) (w : Schedule) → WellFormed p → Legal p w → LastStops p w → length (steps_of p w) + 1 ≡ length w.entries }
+    ensures each { (p : Program) (w : Schedule) → WellFormed p → Legal p w → ¬ LastStops p w
+        → length (steps_of p w) ≡ length w.entries }
+    ensures fewer { (p : Program) (w : Schedule) → WellFormed p → Legal p w → LastStops p w
+        → length (steps_of p w) + 1 ≡ length w.entries }
 {}

@@ -38,9 +38,11 @@ use Rattle.mr_frame.specs.Kept.{IsReady, look_of}
 use Rattle.mr_frame.specs.Sites.{AtStatement, AtTerminator, Due, Site, site_of}
 use Rattle.mr_frame.specs.Standing.{StandsAt}
 use Rattle.mr_frame.specs.Switches.{switched}
-use Rattle.mr_frame.specs.Steps.{FramePlan, dead, frame_plan, live, next, plain, plan_at, plan_due, statement}
+use Rattle.mr_frame.proofs.Statements.{changes}
+use Rattle.mr_frame.specs.Steps.{FramePlan, dead, frame_plan, live, next, plan_at, plan_due}
 use Rattle.mr_frame.proofs.ChangeRuns.{left, makes_change}
 use Rattle.mr_frame.proofs.Frames.{site_is}
+use Rattle.mr_plan.proofs.SafetyLaws.{on_itself}
 
 -- ---- runs, by their parts
 
@@ -49,12 +51,6 @@ pub on_same : {A B S T : Type 0} (o : Outcome A S) (f g : A → S → Outcome B 
 on_same (Went x s) f g h = h x s
 on_same (Refused r) f g h = refl
 on_same Broken f g h = refl
-
--- a result as it is
-pub on_itself : {A S : Type 0} (o : Outcome A S) → on o (λ x s. Went x s) ≡ o
-on_itself (Went x s) = refl
-on_itself (Refused r) = refl
-on_itself Broken = refl
 
 -- a script over memory, and one behind it
 pub memory_bind : {A B : Type 0} (script : MemoryScript A) (f : A → MemoryScript B) (w : World) → run memory_answer (script >>= f) w ≡ on (run memory_answer script w) (λ x v. run memory_answer (f x) v)
@@ -111,15 +107,6 @@ module _ (look : KeptLook) (ready : IsReady look) (f : Frame) (below : List Fram
     abbrev scene : Surround
     scene = scene_in lk h.fits.function f
 
-    changes : (x : Stmt) → IsChange x → (at : Site) → statement lk stack at x ≡ plain (change (scene_in lk at.function at.frame) x >>= λ _. Done (next stack at at.frame))
-    changes (stmt.Assign place value) kind at = refl
-    changes (stmt.Mention place) kind at = refl
-    changes (stmt.Disc place number) kind at = refl
-    changes (stmt.Deinit place) kind at = refl
-    changes (stmt.Validate place) kind at = refl
-    changes (stmt.Live y) kind at = absurd kind
-    changes (stmt.Dead y) kind at = absurd kind
-
     went_on : (w : World) (o : Outcome Memory Seen) (n : Onward) → on (on o (left w)) (λ u v. Went n v) ≡ on o (λ m s. Went n (m, with_seen w.1 s))
     went_on w (Went m s) n = refl
     went_on w (Refused r) n = refl
@@ -128,22 +115,15 @@ module _ (look : KeptLook) (ready : IsReady look) (f : Frame) (below : List Fram
     pub acted_change : (t : ℕ) (picks : List ℕ) (w : World) → acted lk t stack picks w ≡ on (changed w.0 scene x (seen_of w.1)) (λ m s. Went (next stack here f) (m, with_seen w.1 s))
     acted_change t picks w =
         acted_is (AtStatement x) h t picks w
-        ∙ ap (λ (p : FramePlan). run memory_answer (reading_part p >>= λ plan. plan.go picks) w) (changes x kind here)
+        ∙ ap (λ (p : FramePlan). run memory_answer (reading_part p >>= λ plan. plan.go picks) w) (changes lk stack here x kind)
         ∙ memory_bind (change scene x) (λ _. Done (next stack here f)) w
         ∙ ap (λ (o : Outcome (Unit {0}) World). on o (λ u v. Went (next stack here f) v)) (makes_change scene x kind w)
         ∙ went_on w (changed w.0 scene x (seen_of w.1)) (next stack here f)
 
-    asked_changed : (y : Stmt) → IsChange y → (at : Site) (m : Memory) (s : Seen) → asks_of (run (reading m) (statement lk stack at y) s) ≡ []
-    asked_changed (stmt.Assign place value) kind at m s = refl
-    asked_changed (stmt.Mention place) kind at m s = refl
-    asked_changed (stmt.Disc place number) kind at m s = refl
-    asked_changed (stmt.Deinit place) kind at m s = refl
-    asked_changed (stmt.Validate place) kind at m s = refl
-    asked_changed (stmt.Live y) kind at m s = absurd kind
-    asked_changed (stmt.Dead y) kind at m s = absurd kind
-
     pub asked_change : (m : Memory) (t : ℕ) (s : Seen) → asked m lk t stack s ≡ []
-    asked_change m t s = asked_is (AtStatement x) h m t s ∙ asked_changed x kind here m s
+    asked_change m t s =
+        asked_is (AtStatement x) h m t s
+        ∙ ap (λ (p : FramePlan). asks_of (run (reading m) p s)) (changes lk stack here x kind)
 
   module _ (x : LocalName) (h : StandsAt look.program.now f below (AtStatement (stmt.Live x))) (l : Local) (there : slice_get h.fits.function.locals x.0 ≡ Some l) (storage : Option Pointer) (stored : slice_get f.locals x.0 ≡ Some storage) where
     abbrev at_live : Site

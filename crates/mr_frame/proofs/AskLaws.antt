@@ -31,10 +31,11 @@ use Rattle.mr_frame.specs.Kept.{IsReady, below_of, frame_of, look_of, stack_of}
 use Rattle.mr_frame.specs.Sites.{AtStatement, AtTerminator, NoDo, due_term, kept_locals}
 use Rattle.mr_frame.specs.Standing.{Holds, IsDue, StandsAt}
 use Rattle.mr_frame.proofs.ActedLaws.{asked_change, asked_dead, asked_is, asked_live, stack}
+use Rattle.mr_frame.proofs.Statements.{by_kind}
 use Rattle.mr_frame.proofs.BeginSteps.{first_typed, kept_known}
-use Rattle.mr_frame.proofs.Places.{all_at, within}
 use Rattle.mr_frame.proofs.StandLaws.{holds_below, live_holds}
 use Rattle.mr_frame.proofs.TypeRows.{none_there}
+use Rattle.mr_base.proofs.Lists.{item_there, all_at}
 
 -- ---- what the start of a function asks for, one local after another
 
@@ -77,8 +78,7 @@ module _ (fn : Function) (xs : List LocalName) (k : ℕ) (before after : List As
 
 -- neither `live` nor a call
 abbrev pub NoLive : Stmt → Type 0
-NoLive (stmt.Live x) = ⊥
-NoLive x = Unit {0}
+NoLive x = (y : LocalName) → x ≡ stmt.Live y → ⊥
 
 abbrev pub NoCall : Term → Type 0
 NoCall (term.Call callee args place next unwind) = ⊥
@@ -92,13 +92,11 @@ module _ (look : KeptLook) (ready : IsReady look) (f : Frame) (below : List Fram
   whole = stack look ready f below payloads
 
   pub asked_stmt : (x : Stmt) → NoLive x → StandsAt look.program.now f below (AtStatement x) → (m : Memory) (t : ℕ) (s : Seen) → asked m lk t whole s ≡ []
-  asked_stmt (stmt.Live x) other h m t s = absurd other
-  asked_stmt (stmt.Dead x) other h m t s = asked_dead look ready f below payloads x h m t s
-  asked_stmt (stmt.Assign place value) other h m t s = asked_change look ready f below payloads (stmt.Assign place value) tt h m t s
-  asked_stmt (stmt.Mention place) other h m t s = asked_change look ready f below payloads (stmt.Mention place) tt h m t s
-  asked_stmt (stmt.Disc place number) other h m t s = asked_change look ready f below payloads (stmt.Disc place number) tt h m t s
-  asked_stmt (stmt.Deinit place) other h m t s = asked_change look ready f below payloads (stmt.Deinit place) tt h m t s
-  asked_stmt (stmt.Validate place) other h m t s = asked_change look ready f below payloads (stmt.Validate place) tt h m t s
+  asked_stmt =
+      by_kind (λ x. NoLive x → StandsAt look.program.now f below (AtStatement x) → (m : Memory) (t : ℕ) (s : Seen) → asked m lk t whole s ≡ [])
+      (λ x other h m t s. absurd (other x refl))
+      (λ x other h m t s. asked_dead look ready f below payloads x h m t s)
+      (λ x kind other h m t s. asked_change look ready f below payloads x kind h m t s)
 
   pub asked_term : (x : Term) → NoDo x → NoCall x → StandsAt look.program.now f below (due_term x) → (m : Memory) (t : ℕ) (s : Seen) → asked m lk t whole s ≡ []
   asked_term (term.Goto b) clear other h m t s = asked_is look ready f below payloads (AtTerminator (term.Goto b)) h m t s
@@ -113,16 +111,7 @@ module _ (look : KeptLook) (ready : IsReady look) (f : Frame) (below : List Fram
   asked_term term.Abort clear other h m t s = asked_is look ready f below payloads (AtTerminator term.Abort) h m t s
   asked_term (term.Do op args place next) clear other h m t s = absurd clear
 
--- of a statement that isn't `live`, and of a terminator that is no call
-pub no_live : (x : Stmt) → ((y : LocalName) → x ≡ stmt.Live y → ⊥) → NoLive x
-no_live (stmt.Live y) h = h y refl
-no_live (stmt.Dead y) h = tt
-no_live (stmt.Assign place value) h = tt
-no_live (stmt.Mention place) h = tt
-no_live (stmt.Disc place number) h = tt
-no_live (stmt.Deinit place) h = tt
-no_live (stmt.Validate place) h = tt
-
+-- of a terminator that is no call
 pub no_call : (x : Term) → ((callee : Value) (args : List Value) (place : Place) (next unwind : Option BlockName) → x ≡ term.Call callee args place next unwind → ⊥) → NoCall x
 no_call (term.Goto b) h = tt
 no_call (term.Switch v cases last) h = tt
@@ -156,5 +145,5 @@ module _ (look : KeptLook) (s : KeptStack) (x : LocalName) (h : IsDue look s (At
     live_asks m t seen =
         let fits = h.stands.fits in
         let same : fits.function ≡ fn = same_Some fits.function fn (sym fits.is ∙ there) in
-        let storage = within (frame_of s.top).locals x.0 (holds_below look s x holds) in
+        let storage = item_there (frame_of s.top).locals x.0 (holds_below look s x holds) in
         asked_live look h.ready (frame_of s.top) (below_of s) (stack_of s).payloads x h.stands l (ap (λ (f : Function). slice_get f.locals x.0) same ∙ at) storage.0 storage.1 m t seen

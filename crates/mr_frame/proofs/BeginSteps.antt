@@ -24,11 +24,13 @@ use Rattle.mr_frame.specs.Calling.{HasLocals, written_types}
 use Rattle.mr_frame.specs.Calls.{all_there, kept_types, local_type, storage_asks}
 use Rattle.mr_frame.specs.Effects.{stored_in}
 use Rattle.mr_frame.specs.Sites.{kept_locals}
-use Rattle.mr_frame.proofs.ActedLaws.{on_itself, on_same}
+use Rattle.mr_frame.proofs.ActedLaws.{on_same}
 use Rattle.mr_frame.proofs.BeginLaws.{allocated_behind, first_can, next_allocated, next_stored, none_allocated, none_stored, rest_can, stop_stored}
 use Rattle.mr_frame.proofs.CallSafe.{all_within, types_there}
-use Rattle.mr_frame.proofs.Places.{AllWithin, all_at}
+use Rattle.mr_frame.proofs.Places.{AllWithin}
 use Rattle.mr_frame.proofs.TypeRows.{first_there, none_there}
+use Rattle.mr_base.proofs.Lists.{all_at}
+use Rattle.mr_plan.proofs.SafetyLaws.{on_itself}
 
 -- ---- types in a row
 

@@ -4,6 +4,7 @@ use Rattle.std.proofs.lemmas.List.Elements.{All-cons, All-nil}
 use Rattle.std.specs.List.{flat_map, list_all}
 use Rattle.std.specs.Option.{option_map}
 use Rattle.std.specs.Prelude.{Err, slice_get, ◌&&◌, ◌||◌, if◌then◌else◌}
+use Rattle.std.proofs.lemmas.Bool.{and_parts}
 use Rattle.mr_ast.specs.Shaped.{is_optional_block, named_in}
 use Rattle.mr_ast.specs.ShapedValues.{Named, is_shaped_place, is_shaped_value}
 use Rattle.mr_ast.specs.declared.expr.Place.{Place}
@@ -16,7 +17,6 @@ use Rattle.mr_ast.specs.declared.types.Ty.{Ty}
 use Rattle.mr_base.specs.declared.byte.Pointer.{Pointer}
 use Rattle.mr_base.specs.declared.reason.Reason.{Reason}
 use Rattle.mr_base.specs.declared.reason.Reason.TheVariants.{SignatureMismatch}
-use Rattle.mr_layout.proofs.PartsOk.{and_true}
 use Rattle.mr_mem.specs.Memory.{Memory}
 use Rattle.mr_mem.specs.declared.fault.Fault.{Fault}
 use Rattle.mr_mem.specs.declared.fault.Fault.TheVariants as fault
@@ -55,7 +55,7 @@ module _ (e : Env) (f : Function) (h : InProgram f e) where
   pub args_in : (args : List Value) → list_all (is_shaped_value named) args ≡ true → flat_map (broken_in_value (surroundings e.program.now f)) args ≡ [] → ArgsIn e args
   args_in [] shaped none = All-nil (TypedIn e)
   args_in (v ∷ args) shaped none =
-      let first = and_true (is_shaped_value named v) (list_all (is_shaped_value named) args) shaped in
+      let first = and_parts (is_shaped_value named v) (list_all (is_shaped_value named) args) shaped in
       let rules = both_nothing (broken_in_value (surroundings e.program.now f) v) (flat_map (broken_in_value (surroundings e.program.now f)) args) none in
       let typed = typed_value named (surroundings e.program.now f) refl v first.0 rules.0 in
       All-cons (TypedIn e) v args
@@ -79,9 +79,9 @@ call_in e callee args to next unwind h =
     let at = surroundings e.program.now f in
     let named = named_in e.program.now f in
     let blocks = is_optional_block named next && is_optional_block named unwind in
-    let first = and_true (is_shaped_value named callee) (list_all (is_shaped_value named) args && (is_shaped_place named to && blocks)) h.shaped in
-    let row = and_true (list_all (is_shaped_value named) args) (is_shaped_place named to && blocks) first.1 in
-    let last = and_true (is_shaped_place named to) blocks row.1 in
+    let first = and_parts (is_shaped_value named callee) (list_all (is_shaped_value named) args && (is_shaped_place named to && blocks)) h.shaped in
+    let row = and_parts (list_all (is_shaped_value named) args) (is_shaped_place named to && blocks) first.1 in
+    let last = and_parts (is_shaped_place named to) blocks row.1 in
     let typed = typed_call named f at refl callee args to next unwind h.shaped h.unbroken in
     let there = type_there e f h.inside to last.0 typed.2.unbroken in
     record {

@@ -5,6 +5,7 @@ use Rattle.std.proofs.lemmas.Option.{same_Some}
 use Rattle.std.specs.Prelude.{slice_get, ◌&&◌, if◌then◌else◌, replicate}
 use Rattle.std.specs.Option.{option_map}
 use Rattle.std.specs.List.{flat_map, list_all}
+use Rattle.std.proofs.lemmas.Bool.{and_parts}
 use Rattle.mr_ast.specs.Shaped.{is_optional_block, is_shaped_term, named_in}
 use Rattle.mr_ast.specs.ShapedValues.{Named, is_shaped_place, is_shaped_value}
 use Rattle.mr_ast.specs.declared.expr.Place.{Place}
@@ -18,7 +19,6 @@ use Rattle.mr_ast.specs.declared.program.Term.TheVariants as term
 use Rattle.mr_ast.specs.declared.types.Ty.{Ty}
 use Rattle.mr_base.specs.declared.byte.Pointer.{Pointer}
 use Rattle.mr_base.specs.declared.reason.Reason.TheVariants.{SignatureMismatch}
-use Rattle.mr_layout.proofs.PartsOk.{and_true}
 use Rattle.mr_value.specs.declared.val.Val.{Val, out-Val}
 use Rattle.mr_value.specs.declared.val.Val.TheOpen.{Val-F}
 use Rattle.mr_value.specs.declared.val.Val.TheVariants as val
@@ -45,14 +45,15 @@ use Rattle.mr_eval.specs.Shapes.{HaveShapes}
 use Rattle.mr_plan.specs.Machine.{CreatesNothing}
 use Rattle.mr_plan.specs.Safety.{IsSafeChange}
 use Rattle.mr_plan.proofs.SafetyLaws.{change_then}
-use Rattle.mr_frame.specs.Calls.{all_there, allocate_each, behind_first, both_there, call, call_function, call_number, call_plan, callee_of, calling, enter, enter_at, enter_with, first_frame, given_types, kept_types, local_type, position_from, same_pointer, same_types, storage_asks, store_each}
+use Rattle.mr_frame.proofs.ChangesSafe.{store_safe}
 use Rattle.mr_frame.specs.Changes.{store}
+use Rattle.mr_frame.specs.Calls.{all_there, allocate_each, behind_first, both_there, call, call_function, call_number, call_plan, callee_of, calling, enter, enter_at, enter_with, first_frame, given_types, kept_types, local_type, position_from, same_pointer, same_types, storage_asks, store_each}
 use Rattle.mr_frame.specs.Fits.{AreCalling, FitsFrame, FitsOnward, IsCalling, IsLook, IsSafePlan}
 use Rattle.mr_frame.specs.Frames.{Frame, GoesOn, Look, Stack, scene_in}
 use Rattle.mr_frame.specs.Sites.{Site, kept_locals}
-use Rattle.mr_frame.proofs.ChangesSafe.{store_safe}
 use Rattle.mr_frame.proofs.Frames.{Keeps, function_keeps, here, stands}
-use Rattle.mr_frame.proofs.Places.{AllWithin, all_at, each_has, length-with_each, within}
+use Rattle.mr_frame.proofs.Places.{AllWithin, each_has, length-with_each}
+use Rattle.mr_base.proofs.Lists.{item_there, all_at}
 
 -- ---- values in a row
 
@@ -69,7 +70,7 @@ module _ (named : Named) (sizes : List ℕ) (s : Surround) (stand : Stands named
   row_safe [] (t ∷ types) are shaped none = absurd (cc)
   row_safe (v ∷ vs) [] are shaped none = absurd (cc)
   row_safe (v ∷ vs) (t ∷ types) are shaped none =
-      let first = and_true (is_shaped_value named v) (list_all (is_shaped_value named) vs) shaped in
+      let first = and_parts (is_shaped_value named v) (list_all (is_shaped_value named) vs) shaped in
       let rules = both_nothing (broken_in_value (around sizes s) v) (flat_map (broken_in_value (around sizes s)) vs) none in
       let is = value_safe named sizes s stand v first.0 rules.0 in
       let same : is.ty ≡ t = same_Some is.ty t (sym is.is ∙ heads are) in
@@ -96,7 +97,7 @@ judged_there os xs e = ap all_there e ∙ all_some xs
 pub types_there : (fn : Function) (xs : List LocalName) → AllWithin (length fn.locals) xs → (types : List Ty) × (all_there (map (local_type fn) xs) ≡ Some types) × (length types ≡ length xs)
 types_there fn [] all = ([], refl, refl)
 types_there fn (x ∷ xs) all =
-    let l = within fn.locals x.0 all.0 in
+    let l = item_there fn.locals x.0 all.0 in
     let rest = types_there fn xs all.1 in
     let here : local_type fn x ≡ Some l.0.ty = ap (λ o. option_map (λ (k : Local). k.ty) o) l.1 in
     (l.0.ty ∷ rest.0, (λ i. option_map (λ e. e.0 ∷ e.1) (both_there (here i) (rest.1 i))), ap suc rest.2)
@@ -106,7 +107,7 @@ equal_types [] [] e = refl
 equal_types [] (u ∷ us) e = absurd (cc)
 equal_types (t ∷ ts) [] e = absurd (cc)
 equal_types (t ∷ ts) (u ∷ us) e =
-    let parts = and_true (same_type t u) (same_types ts us) e in
+    let parts = and_parts (same_type t u) (same_types ts us) e in
     λ i. same_type_equal t u parts.0 i ∷ equal_types ts us parts.1 i
 
 -- ---- the storage of a new frame
@@ -117,6 +118,8 @@ allocates [] (a ∷ picks) e = absurd (omega arith)
 allocates (t ∷ ts) [] e = absurd (omega arith)
 allocates (t ∷ ts) (a ∷ picks) e =
     λ q good. change_then (λ ps. length ps ≡ length ts) (λ ps. length ps ≡ suc (length ts)) (allocate_each ts picks) (λ ps. Done (q ∷ ps)) (allocates ts picks (omega arith)) (λ ps h. ap suc h)
+
+-- ---- the start of a function
 
 stores : (ts : List Ty) (ps : List Pointer) (vs : List Val) → length ps ≡ length ts → HaveShapes ts vs → IsSafeChange any_result (store_each ts ps vs)
 stores [] [] [] e h = tt
@@ -153,7 +156,7 @@ module _ (p : Program) (fn : Function) (kept : Keeps p fn) where
 
   pub kept_there : KeptTypes fn
   kept_there =
-      let l = within fn.locals fn.ret.0 kept.shaped.ret in
+      let l = item_there fn.locals fn.ret.0 kept.shaped.ret in
       let rest = types_there fn fn.args args_within in
       let here : local_type fn fn.ret ≡ Some l.0.ty = ap (λ o. option_map (λ (k : Local). k.ty) o) l.1 in
       record {
@@ -175,7 +178,7 @@ module _ (p : Program) (fn : Function) (kept : Keeps p fn) where
     first_fits =
         let none : Option Pointer = None in
         let sized : length (replicate (length fn.locals) none) ≡ length fn.locals = length-replicate (length fn.locals) none in
-        let block = within fn.blocks 0 kept.shaped.has_start in
+        let block = item_there fn.blocks 0 kept.shaped.has_start in
         record {
           function = fn;
           is = is;
@@ -270,7 +273,7 @@ module _ (look : Look) (is : IsLook look) (well : WellFormed look.program) (s : 
       numbered_safe : (o : Option ℕ) → ((n : ℕ) → o ≡ Some n → n < length p.functions) → IsSafe (IsSafePlan p) (call_number look s site (given_types scene place args) q vs o)
       numbered_safe None h = tt
       numbered_safe (Some number) h =
-          let there = within p.functions number (h number refl) in
+          let there = item_there p.functions number (h number refl) in
           subst (λ (w : Option Function). IsSafe (IsSafePlan p) (call_function look s site (given_types scene place args) q vs number w)) (sym there.1) (planned_safe number there.0 there.1)
 
     callee_below : (c : Pointer) (n : ℕ) → callee_of look.functions c ≡ Some n → n < length p.functions
@@ -284,9 +287,9 @@ module _ (look : Look) (is : IsLook look) (well : WellFormed look.program) (s : 
         let stand = stands look is well f below fits in
         let typed = typed_call named fn (surroundings p fn) refl callee args place next unwind shaped none in
         let blocks = is_optional_block named next && is_optional_block named unwind in
-        let first = and_true (is_shaped_value named callee) (list_all (is_shaped_value named) args && (is_shaped_place named place && blocks)) shaped in
-        let row = and_true (list_all (is_shaped_value named) args) (is_shaped_place named place && blocks) first.1 in
-        let last = and_true (is_shaped_place named place) blocks row.1 in
+        let first = and_parts (is_shaped_value named callee) (list_all (is_shaped_value named) args && (is_shaped_place named place && blocks)) shaped in
+        let row = and_parts (list_all (is_shaped_value named) args) (is_shaped_place named place && blocks) first.1 in
+        let last = and_parts (is_shaped_place named place) blocks row.1 in
         let at_place = place_safe named (sizes_of p.globals) scene stand place last.0 typed.2.unbroken in
         let called = value_safe named (sizes_of p.globals) scene stand callee first.0 typed.0.unbroken in
         let fn_ptr : is_fn_ptr called.ty ≡ true = subst (λ (t : Ty). is_fn_ptr t ≡ true) (same_Some typed.0.ty called.ty (sym typed.0.is ∙ called.is)) typed.0.fits in

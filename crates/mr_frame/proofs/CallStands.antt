@@ -4,6 +4,7 @@ use Rattle.std.proofs.Common.{◌≡◌, ℕ, ◌+◌, ◌<◌, ◌≤◌, ◌^�
 use Rattle.std.specs.List.{list_all}
 use Rattle.std.specs.Option.{option_map}
 use Rattle.std.specs.Prelude.{slice_get, ◌&&◌, if◌then◌else◌}
+use Rattle.std.proofs.lemmas.Bool.{and_parts}
 use Rattle.mr_ast.specs.Shaped.{is_optional_block, is_shaped_term, named_in}
 use Rattle.mr_ast.specs.ShapedValues.{Named, is_shaped_place, is_shaped_value}
 use Rattle.mr_ast.specs.declared.expr.Place.{Place}
@@ -16,7 +17,6 @@ use Rattle.mr_ast.specs.declared.types.Ty.{Ty}
 use Rattle.mr_base.specs.declared.byte.Pointer.{Pointer}
 use Rattle.mr_base.specs.declared.reason.Reason.{Reason}
 use Rattle.mr_base.specs.declared.reason.Reason.TheVariants.{SignatureMismatch}
-use Rattle.mr_layout.proofs.PartsOk.{and_true}
 use Rattle.mr_mem.specs.Memory.{Memory, ranges_of}
 use Rattle.mr_sched.specs.declared.schedule.Ask.{Ask}
 use Rattle.mr_value.specs.declared.val.Val.{Val}
@@ -157,8 +157,8 @@ module _ (look : KeptLook) (s : KeptStack) (callee : Value) (args : List Value) 
   call_shapes m s0 =
       let typed = typed_call named fn (surroundings p fn) refl callee args to h.next h.unwind shaped unbroken in
       let blocks = is_optional_block named h.next && is_optional_block named h.unwind in
-      let first = and_true (is_shaped_value named callee) (list_all (is_shaped_value named) args && (is_shaped_place named to && blocks)) shaped in
-      let row = and_true (list_all (is_shaped_value named) args) (is_shaped_place named to && blocks) first.1 in
+      let first = and_parts (is_shaped_value named callee) (list_all (is_shaped_value named) args && (is_shaped_place named to && blocks)) shaped in
+      let row = and_parts (list_all (is_shaped_value named) args) (is_shaped_place named to && blocks) first.1 in
       let given : given_types scene to args ≡ Some (typed.2.ty ∷ typed.1.types) =
       λ i. option_map (λ e. e.0 ∷ e.1) (both_there (typed.2.is i) (judged_there (map (type_of_value fn.locals) args) typed.1.types typed.1.are i)) in
       prepared_shapes m lk scene callee args to s0 typed.2.ty typed.1.types given

@@ -2,6 +2,7 @@
 use Rattle.std.proofs.Common.{◌≡◌, ℕ, Bool, true, false, List, [], ◌∷◌, Option, None, Some, refl, sym, ◌∙◌, subst}
 use Rattle.std.specs.Prelude.{is_some, if◌then◌else◌}
 use Rattle.std.proofs.lemmas.Option.{same_Some}
+use Rattle.std.proofs.lemmas.Bool.{and_parts}
 use Rattle.mr_ast.specs.Shaped.{is_shaped_stmt}
 use Rattle.mr_ast.specs.ShapedTypes.{is_shaped_num}
 use Rattle.mr_ast.specs.ShapedValues.{Named, is_shaped_place, is_shaped_value}
@@ -19,7 +20,6 @@ use Rattle.mr_base.specs.declared.byte.Pointer.{Pointer}
 use Rattle.mr_layout.specs.EnumRules.{same_num}
 use Rattle.mr_layout.specs.Sizes.{align_of, size_of}
 use Rattle.mr_layout.specs.TypeOk.{TypeOk}
-use Rattle.mr_layout.proofs.PartsOk.{and_true}
 use Rattle.mr_value.specs.declared.val.Val.{Val}
 use Rattle.mr_value.specs.Encode.{blank, encoding_of, tag_bytes}
 use Rattle.mr_value.specs.Shape.{has_shape}
@@ -123,13 +123,13 @@ module _ (named : Named) (sizes : List ℕ) (s : Surround) (stands : Stands name
   change_safe f (stmt.Live x) shaped none kind = absurd kind
   change_safe f (stmt.Dead x) shaped none kind = absurd kind
   change_safe f (stmt.Assign place value) shaped none kind =
-      let parts = and_true (is_shaped_place named place) (is_shaped_value named value) shaped in
+      let parts = and_parts (is_shaped_place named place) (is_shaped_value named value) shaped in
       let typed = typed_assign named f (around sizes s) stands.locals place value shaped none in
       assign_safe place value parts.0 parts.1 typed.unbroken_place typed.unbroken_value
       (λ t u is_t is_u. same_Some t typed.ty (sym is_t ∙ typed.place) ∙ same_Some typed.ty u (sym typed.value ∙ is_u))
   change_safe f (stmt.Mention place) shaped none kind = mention_safe place shaped none
   change_safe f (stmt.Disc place number) shaped none kind =
-      let parts = and_true (is_shaped_place named place) (is_shaped_num number) shaped in
+      let parts = and_parts (is_shaped_place named place) (is_shaped_num number) shaped in
       let typed = typed_disc_stmt named f (around sizes s) stands.locals place number shaped none in
       discriminate_safe place number parts.0 typed.unbroken (λ t is. subst (λ (u : Ty). is_some (variant_type u number) ≡ true) (same_Some typed.ty t (sym typed.is ∙ is)) typed.fits)
   change_safe f (stmt.Deinit place) shaped none kind = deinit_safe place shaped none

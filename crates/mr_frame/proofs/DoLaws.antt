@@ -7,6 +7,7 @@ use Rattle.std.proofs.lemmas.Option.{same_Some}
 use Rattle.std.specs.List.{flat_map, list_all}
 use Rattle.std.specs.Option.{option_map}
 use Rattle.std.specs.Prelude.{All, ◌&&◌}
+use Rattle.std.proofs.lemmas.Bool.{and_parts}
 use Rattle.mr_ast.specs.Shaped.{is_block, is_optional_place, named_in}
 use Rattle.mr_ast.specs.ShapedValues.{is_shaped_value}
 use Rattle.mr_ast.specs.declared.expr.Place.{Place}
@@ -18,7 +19,6 @@ use Rattle.mr_ast.specs.declared.program.Term.TheVariants as term
 use Rattle.mr_ast.specs.declared.types.Ty.{Ty}
 use Rattle.mr_base.specs.declared.byte.Pointer.{Pointer}
 use Rattle.mr_base.specs.declared.reason.Reason.{Reason}
-use Rattle.mr_layout.proofs.PartsOk.{and_true}
 use Rattle.mr_mem.specs.Memory.{Memory}
 use Rattle.mr_value.specs.declared.val.Val.{Val}
 use Rattle.mr_wf.specs.Blocks.{broken_in_result}
@@ -61,7 +61,7 @@ module _ (e : Env) (f : Function) (h : InProgram f e) where
   plain_args (v ∷ args) [] are plain shaped none = absurd (cc)
   plain_args (v ∷ args) (t ∷ types) are plain shaped none =
       let named = named_in e.program.now f in
-      let first = and_true (is_shaped_value named v) (list_all (is_shaped_value named) args) shaped in
+      let first = and_parts (is_shaped_value named v) (list_all (is_shaped_value named) args) shaped in
       let rules = both_nothing (broken_in_value (surroundings e.program.now f) v) (flat_map (broken_in_value (surroundings e.program.now f)) args) none in
       All-cons (PlainIn e) v args
       (record {
@@ -92,8 +92,8 @@ module _ (e : Env) (op : Intrinsic) (args : List Value) (place : Option Place) (
   do_operands =
       let f = h.function in
       let named = named_in e.program.now f in
-      let row = and_true (list_all (is_shaped_value named) args) (is_optional_place named place && is_block named next) h.shaped in
-      let last = and_true (is_optional_place named place) (is_block named next) row.1 in
+      let row = and_parts (list_all (is_shaped_value named) args) (is_optional_place named place && is_block named next) h.shaped in
+      let last = and_parts (is_optional_place named place) (is_block named next) row.1 in
       let typed = typed_do named f (surroundings e.program.now f) refl op args place next h.shaped h.unbroken in
       let plain = plain_intrinsic op typed.types typed.result typed.fits in
       (plain_args e f h.inside args typed.types typed.are plain.0 row.0 typed.unbroken_args, plain_place e f h.inside place typed.result typed.gives plain.1 last.0 typed.unbroken_place)

@@ -3,18 +3,17 @@ use Rattle.std.proofs.Common.{◌≡◌, refl, sym, ap, ◌∙◌, subst, subst�
 use Rattle.std.proofs.lemmas.Option.{same_Some, slice_get_cases}
 use Rattle.std.specs.Prelude.{◌&&◌}
 use Rattle.std.specs.List.{list_all}
+use Rattle.std.proofs.lemmas.Bool.{and_parts}
 use Rattle.mr_ast.specs.Shaped.{is_block, is_optional_place, is_shaped_term, named_in}
 use Rattle.mr_ast.specs.ShapedValues.{is_shaped_value}
 use Rattle.mr_ast.specs.declared.expr.Place.{Place}
 use Rattle.mr_ast.specs.declared.program.Function.{Function}
-use Rattle.mr_ast.specs.declared.program.Intrinsic.{Intrinsic}
 use Rattle.mr_ast.specs.declared.program.Program.{Program}
 use Rattle.mr_ast.specs.declared.program.Stmt.{Stmt}
 use Rattle.mr_ast.specs.declared.program.Term.{Term}
 use Rattle.mr_ast.specs.declared.program.Term.TheVariants as term
 use Rattle.mr_ast.specs.declared.types.Ty.{Ty}
 use Rattle.mr_base.specs.declared.byte.Pointer.{Pointer}
-use Rattle.mr_layout.proofs.PartsOk.{and_true}
 use Rattle.mr_value.specs.declared.val.Val.{Val}
 use Rattle.mr_value.specs.Shape.{has_shape}
 use Rattle.mr_wf.specs.Blocks.{broken_in_parts, broken_in_result}
@@ -40,7 +39,7 @@ use Rattle.mr_frame.specs.Sites.{AtStatement, Site, due_of, due_term, site_of, s
 use Rattle.mr_frame.proofs.CallSafe.{judged_there, row_safe}
 use Rattle.mr_frame.proofs.ChangesSafe.{store_safe}
 use Rattle.mr_frame.proofs.Frames.{block_shaped, block_unbroken, due_end, due_stmt, fits_block, here, site_is, stands}
-use Rattle.mr_frame.proofs.Places.{below_of}
+use Rattle.mr_base.proofs.Comparisons.{lt_from}
 
 -- An intrinsic that is due in a thread whose frames fit.
 pub record DoStands (look : Look) (is : IsLook look) (well : WellFormed look.program) (s : Stack) (d : DueDo) : Type 0 where
@@ -145,8 +144,8 @@ module _ (look : Look) (is : IsLook look) (well : WellFormed look.program) (s : 
   pub operands_safe : IsSafe (OperandsFit d.op) (operands look d)
   operands_safe =
       let named = named_in p fn in
-      let row = and_true (list_all (is_shaped_value named) d.args) (is_optional_place named d.place && is_block named d.next) shaped in
-      let last = and_true (is_optional_place named d.place) (is_block named d.next) row.1 in
+      let row = and_parts (list_all (is_shaped_value named) d.args) (is_optional_place named d.place && is_block named d.next) shaped in
+      let last = and_parts (is_optional_place named d.place) (is_block named d.next) row.1 in
       let judged : all_there (map (type_of_value fn.locals) d.args) ≡ Some typed.types = judged_there (map (type_of_value fn.locals) d.args) typed.types typed.are in
       subst (λ (site : Site). IsSafe (OperandsFit d.op) (operands_in (scene_in look site.function site.frame) d)) (sym h.site)
       (safe_then (λ o. PlaceFits o typed.result) (OperandsFit d.op) (result_place scene d.place) _ (place_there d.place typed.result typed.gives last.0 typed.unbroken_place)
@@ -177,10 +176,10 @@ module _ (look : Look) (is : IsLook look) (well : WellFormed look.program) (s : 
   done_fits : FitsStack p (done_stack s d)
   done_fits =
       let named = named_in p fn in
-      let row = and_true (list_all (is_shaped_value named) d.args) (is_optional_place named d.place && is_block named d.next) shaped in
-      let last = and_true (is_optional_place named d.place) (is_block named d.next) row.1 in
+      let row = and_parts (list_all (is_shaped_value named) d.args) (is_optional_place named d.place && is_block named d.next) shaped in
+      let last = and_parts (is_optional_place named d.place) (is_block named d.next) row.1 in
       subst (λ (site : Site). FitFrames p (at_block site.frame d.next.0 ∷ site.below)) (sym h.site)
-      (fits_block p h.frame h.fits d.next.0 (below_of d.next.0 (length fn.blocks) last.1), refl, h.calling)
+      (fits_block p h.frame h.fits d.next.0 (lt_from d.next.0 (length fn.blocks) last.1), refl, h.calling)
 
   -- HOW AN INTRINSIC ENDS
   pub finish_safe : (o : Operands) (v : Option Val) → OperandsFit d.op o → ValueFits o.result_type v → IsSafeChange (FitsStack p) (finish s d o v)

@@ -4,6 +4,7 @@ use Rattle.std.proofs.lemmas.Option.{same_Some}
 use Rattle.std.specs.Prelude.{slice_get, ◌&&◌, if◌then◌else◌}
 use Rattle.std.specs.Option.{option_map}
 use Rattle.std.specs.List.{list_all}
+use Rattle.std.proofs.lemmas.Bool.{and_parts}
 use Rattle.mr_ast.specs.Shaped.{is_block, is_optional_block, is_shaped_term, named_in}
 use Rattle.mr_ast.specs.ShapedValues.{is_shaped_place, is_shaped_value}
 use Rattle.mr_ast.specs.declared.expr.Value.{Value}
@@ -16,7 +17,6 @@ use Rattle.mr_ast.specs.declared.types.Ty.{Ty}
 use Rattle.mr_base.specs.declared.byte.Pointer.{Pointer}
 use Rattle.mr_base.specs.declared.reason.Reason.TheVariants.{MainReturned}
 use Rattle.mr_layout.specs.TypeOk.{TypeOk}
-use Rattle.mr_layout.proofs.PartsOk.{and_true}
 use Rattle.mr_value.specs.declared.val.Val.{Val, out-Val}
 use Rattle.mr_value.specs.Shape.{has_shape}
 use Rattle.mr_wf.specs.Blocks.{broken_in_parts}
@@ -42,7 +42,9 @@ use Rattle.mr_frame.specs.Frames.{Frame, GoesOn, Look, Stack, at_block, scene_in
 use Rattle.mr_frame.specs.Sites.{Site, has_storage}
 use Rattle.mr_frame.proofs.ChangesSafe.{free_safe, store_safe}
 use Rattle.mr_frame.proofs.Frames.{block_shaped, fits_block, here, keeps, onward_block, stands}
-use Rattle.mr_frame.proofs.Places.{all_at, below_of, storage_there, within}
+use Rattle.mr_frame.proofs.Places.{storage_there}
+use Rattle.mr_base.proofs.Comparisons.{lt_from}
+use Rattle.mr_base.proofs.Lists.{item_there, all_at}
 
 -- ---- parts
 
@@ -68,13 +70,13 @@ module _ (look : Look) (well : WellFormed look.program) (result : Option Ty) (f 
   targets_shaped =
       let named = named_in look.program c.fits.function in
       let shaped : is_shaped_term named (term.Call c.callee c.args c.place c.next c.unwind) ≡ true = ap (is_shaped_term named) (sym c.term) ∙ (block_shaped look.program well f c.fits).term in
-      let first = and_true (is_shaped_value named c.callee) (list_all (is_shaped_value named) c.args && (is_shaped_place named c.place && called)) shaped in
-      let row = and_true (list_all (is_shaped_value named) c.args) (is_shaped_place named c.place && called) first.1 in
-      let last = and_true (is_shaped_place named c.place) called row.1 in
-      and_true (is_optional_block named c.next) (is_optional_block named c.unwind) last.1
+      let first = and_parts (is_shaped_value named c.callee) (list_all (is_shaped_value named) c.args && (is_shaped_place named c.place && called)) shaped in
+      let row = and_parts (list_all (is_shaped_value named) c.args) (is_shaped_place named c.place && called) first.1 in
+      let last = and_parts (is_shaped_place named c.place) called row.1 in
+      and_parts (is_optional_block named c.next) (is_optional_block named c.unwind) last.1
 
   optional_below : (o : Option BlockName) (b : BlockName) → is_optional_block (named_in look.program c.fits.function) o ≡ true → o ≡ Some b → b.0 < length c.fits.function.blocks
-  optional_below o b h e = below_of b.0 (length c.fits.function.blocks) (ap (is_optional_block (named_in look.program c.fits.function)) (sym e) ∙ h)
+  optional_below o b h e = lt_from b.0 (length c.fits.function.blocks) (ap (is_optional_block (named_in look.program c.fits.function)) (sym e) ∙ h)
 
   pub next_below : (b : BlockName) → c.next ≡ Some b → b.0 < length c.fits.function.blocks
   next_below b e = optional_below c.next b targets_shaped.0 e
@@ -103,7 +105,7 @@ module _ (look : Look) (is : IsLook look) (well : WellFormed look.program) (s : 
   -- ---- return
 
   abbrev ret_local : (l : Local) × (slice_get fn.locals fn.ret.0 ≡ Some l)
-  ret_local = within fn.locals fn.ret.0 (keeps p well f fits).shaped.ret
+  ret_local = item_there fn.locals fn.ret.0 (keeps p well f fits).shaped.ret
 
   abbrev ret_ty : Ty
   ret_ty = ret_local.0.ty
@@ -116,7 +118,7 @@ module _ (look : Look) (is : IsLook look) (well : WellFormed look.program) (s : 
 
   value_there : IsSafe (Shaped ret_ty) (return_value fn f)
   value_there =
-      let kept = and_true (has_storage f.locals fn.ret) (list_all (has_storage f.locals) fn.args) fits.kept in
+      let kept = and_parts (has_storage f.locals fn.ret) (list_all (has_storage f.locals) fn.args) fits.kept in
       let q = storage_there f.locals fn.ret kept.0 in
       subst (λ (w : Option (Option Pointer)). IsSafe (Shaped ret_ty) (stored w >>= λ a. or_ill_formed (local_type fn fn.ret) >>= λ t. loading t a)) (sym q.1)
       (subst (λ (w : Option Ty). IsSafe (Shaped ret_ty) (or_ill_formed w >>= λ t. loading t q.0)) (sym ret_is) (loading_safe ret_ty q.0 ret_ok))
@@ -169,11 +171,11 @@ module _ (look : Look) (is : IsLook look) (well : WellFormed look.program) (s : 
   pub unwind_safe : (value : Value) (b : BlockName) → is_shaped_term (named_in p fn) (term.Unwind value b) ≡ true → broken_in_parts (surroundings p fn) (term.Unwind value b) ≡ []
       → IsSafeChange (FitsOnward p) (unwind look s site value b.0)
   unwind_safe value b shaped none =
-      let parts = and_true (is_shaped_value (named_in p fn) value) (is_block (named_in p fn) b) shaped in
+      let parts = and_parts (is_shaped_value (named_in p fn) value) (is_block (named_in p fn) b) shaped in
       let typed = typed_unwind (named_in p fn) fn (surroundings p fn) refl value b shaped none in
       let v = value_safe (named_in p fn) (sizes_of p.globals) scene (stands look is well f below fits) value parts.0 typed.unbroken in
       let raw : is_raw v.ty ≡ true = subst (λ (t : Ty). is_raw t ≡ true) (same_Some typed.ty v.ty (sym typed.is ∙ v.is)) typed.fits in
       read_then (Shaped v.ty) (FitsOnward p) (value_script scene value) _ v.safe
       (λ x shape. let q = raw_layer v.ty x raw shape in
       read_then any_result (FitsOnward p) (pointer_of_value x) _ (safe_found any_result (pointer_in (out-Val x)) q.0 (ap pointer_in q.1) tt)
-      (λ a u. onward_block look is well f below fits (record s { payloads = a ∷ s.payloads }) b.0 calling (below_of b.0 (length fn.blocks) parts.1)))
+      (λ a u. onward_block look is well f below fits (record s { payloads = a ∷ s.payloads }) b.0 calling (lt_from b.0 (length fn.blocks) parts.1)))

@@ -48,8 +48,8 @@ use Rattle.mr_frame.specs.Sites.{kept_locals}
 use Rattle.mr_frame.proofs.BeginLaws.{entered_is, first_lawful, first_new, next_allocated, next_stored, none_allocated, none_stored, rest_can}
 use Rattle.mr_frame.proofs.ChangeRuns.{store_tells}
 use Rattle.mr_frame.proofs.Frames.{Keeps, function_keeps}
-use Rattle.mr_frame.proofs.Places.{all_at}
 use Rattle.mr_frame.proofs.TypeRows.{first_there, none_there}
+use Rattle.mr_base.proofs.Lists.{all_at}
 
 -- ---- what lies at the pointers of locals
 

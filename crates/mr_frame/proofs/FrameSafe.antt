@@ -1,7 +1,7 @@
 -- The step of a frame of a well-formed program is never ill-formed, and the frames fit again behind it.
-use Rattle.std.proofs.Common.{◌≡◌, ℕ, ◌<◌, refl, sym, subst, arith, List, [], ◌∷◌, length, Bool, true, false, inl, inr, Option, Some, None}
+use Rattle.std.proofs.Common.{◌≡◌, ℕ, ◌<◌, refl, sym, subst, arith, List, [], ◌∷◌, length, true, false, inl, inr, Option, Some, None}
 use Rattle.std.proofs.lemmas.Option.{slice_get_cases}
-use Rattle.std.specs.Prelude.{slice_get, not}
+use Rattle.std.specs.Prelude.{slice_get}
 use Rattle.mr_ast.specs.Shaped.{is_block, is_shaped_stmt, is_shaped_term, named_in}
 use Rattle.mr_ast.specs.ShapedValues.{Named}
 use Rattle.mr_ast.specs.declared.expr.Value.{Value}
@@ -11,7 +11,6 @@ use Rattle.mr_ast.specs.declared.program.Local.{Local}
 use Rattle.mr_ast.specs.declared.program.LocalName.{LocalName}
 use Rattle.mr_ast.specs.declared.program.Program.{Program}
 use Rattle.mr_ast.specs.declared.program.Stmt.{Stmt}
-use Rattle.mr_ast.specs.declared.program.Stmt.TheVariants as stmt
 use Rattle.mr_ast.specs.declared.program.Term.{Term}
 use Rattle.mr_ast.specs.declared.program.Term.TheVariants as term
 use Rattle.mr_ast.specs.declared.types.Num.{Num}
@@ -23,14 +22,14 @@ use Rattle.mr_wf.specs.Walk.{WellFormed}
 use Rattle.mr_wf.proofs.TypedStmts.{typed_dead}
 use Rattle.mr_script.specs.Script.{Done, ◌>>=◌}
 use Rattle.mr_eval.specs.Evaluation.{Surround}
-use Rattle.mr_eval.specs.MemoryQueries.{MemoryScript, reading_part}
+use Rattle.mr_eval.specs.MemoryQueries.{reading_part}
 use Rattle.mr_eval.specs.Sound.{IsSafe, Stands, any_result}
 use Rattle.mr_plan.specs.Safety.{IsSafeChange}
 use Rattle.mr_plan.proofs.SafetyLaws.{change_then, read_then}
 use Rattle.mr_frame.specs.Calls.{behind_first, goes_to, local_type}
 use Rattle.mr_frame.specs.Changes.{IsChange, change, free_storage}
 use Rattle.mr_frame.specs.Fits.{AreCalling, FitFrames, FitsFrame, FitsOnward, FitsStack, IsLook, IsSafePlan}
-use Rattle.mr_frame.specs.Frames.{Frame, Look, Onward, Stack, scene_in, with_storage}
+use Rattle.mr_frame.specs.Frames.{Frame, Look, Stack, scene_in, with_storage}
 use Rattle.mr_frame.specs.Operations.{do_at, do_due, next_do}
 use Rattle.mr_frame.specs.Sites.{NoDo, Due, Site, due_of, due_term, site_of, site_of_frames}
 use Rattle.mr_frame.specs.Steps.{dead, frame_plan, live, live_at, next, plain, plan_at, plan_due, statement, terminator}
@@ -40,12 +39,9 @@ use Rattle.mr_frame.proofs.CallSafe.{call_safe}
 use Rattle.mr_frame.proofs.EndSafe.{resume_safe, return_safe, unwind_safe}
 use Rattle.mr_frame.proofs.Frames.{block_shaped, block_unbroken, due_end, due_stmt, fits_next, fits_stored, fits_unstored, here, onward_block, site_is, stands}
 use Rattle.mr_frame.proofs.SwitchSafe.{switch_safe}
-use Rattle.mr_frame.proofs.Places.{all_at, below_of, within}
-
--- not so
-not_false : (b : Bool) → not b ≡ true → b ≡ false
-not_false true e = absurd (cc)
-not_false false e = refl
+use Rattle.mr_frame.proofs.Statements.{by_kind, changes}
+use Rattle.mr_base.proofs.Comparisons.{lt_from, not_true}
+use Rattle.mr_base.proofs.Lists.{item_there, all_at}
 
 module _ (look : Look) (is : IsLook look) (well : WellFormed look.program) (s : Stack) (f : Frame) (below : List Frame) (fits : FitsFrame look.program f) (bare : f.call ≡ None) (calling : AreCalling look.program (local_type fits.function fits.function.ret) below) where
   abbrev p : Program
@@ -69,10 +65,6 @@ module _ (look : Look) (is : IsLook look) (well : WellFormed look.program) (s : 
   abbrev stand : Stands named scene
   stand = stands look is well f below fits
 
-  -- a step that creates nothing and needs no pick
-  plain_safe : (script : MemoryScript Onward) → IsSafeChange (FitsOnward p) script → IsSafe (IsSafePlan p) (plain script)
-  plain_safe script h = λ picks e. h
-
   -- ---- statements
   module _ (before : f.at < length fits.block.stmts) where
     onward_stored : (x : ℕ) (q : Pointer) → FitsOnward p (next s site (with_storage f x (Some q)))
@@ -91,15 +83,15 @@ module _ (look : Look) (is : IsLook look) (well : WellFormed look.program) (s : 
 
     live_safe : (x : LocalName) → x.0 < length fn.locals → IsSafe (IsSafePlan p) (live s site x.0 (slice_get fn.locals x.0) (slice_get f.locals x.0))
     live_safe x lt =
-        let l = within fn.locals x.0 lt in
-        let o = within f.locals x.0 (let same = fits.locals in omega arith) in
+        let l = item_there fn.locals x.0 lt in
+        let o = item_there f.locals x.0 (let same = fits.locals in omega arith) in
         subst (λ (w : Option Local × Option (Option Pointer)). IsSafe (IsSafePlan p) (live s site x.0 w.0 w.1)) (sym (λ i. (l.1 i, o.1 i)))
         (λ picks e. live_picked x.0 l.0.ty o.0 picks e)
 
     dead_safe : (x : LocalName) → x.0 < length fn.locals → is_kept fn x ≡ false → IsSafe (IsSafePlan p) (plain (dead s site x.0 (slice_get fn.locals x.0) (slice_get f.locals x.0)))
     dead_safe x lt h =
-        let l = within fn.locals x.0 lt in
-        let o = within f.locals x.0 (let same = fits.locals in omega arith) in
+        let l = item_there fn.locals x.0 lt in
+        let o = item_there f.locals x.0 (let same = fits.locals in omega arith) in
         subst (λ (w : Option Local × Option (Option Pointer)). IsSafe (IsSafePlan p) (plain (dead s site x.0 w.0 w.1))) (sym (λ i. (l.1 i, o.1 i)))
         (λ picks e. change_then any_result (FitsOnward p) (free_storage l.0.ty o.0) _ (free_safe l.0.ty o.0) (λ u k. onward_unstored x h))
 
@@ -108,13 +100,11 @@ module _ (look : Look) (is : IsLook look) (well : WellFormed look.program) (s : 
         λ picks e. change_then any_result (FitsOnward p) (change scene x) (λ _. Done (next s site f)) (change_safe named sizes scene stand fn x shaped none kind) (λ u k. onward_next)
 
     statement_safe : (x : Stmt) → is_shaped_stmt named x ≡ true → broken_in_stmt fn (surroundings p fn) x ≡ [] → IsSafe (IsSafePlan p) (statement look s site x)
-    statement_safe (stmt.Live x) shaped none = live_safe x (below_of x.0 (length fn.locals) shaped)
-    statement_safe (stmt.Dead x) shaped none = dead_safe x (below_of x.0 (length fn.locals) shaped) (not_false (is_kept fn x) (typed_dead named fn (surroundings p fn) refl x none))
-    statement_safe (stmt.Assign place value) shaped none = changed_safe (stmt.Assign place value) shaped none tt
-    statement_safe (stmt.Mention place) shaped none = changed_safe (stmt.Mention place) shaped none tt
-    statement_safe (stmt.Disc place number) shaped none = changed_safe (stmt.Disc place number) shaped none tt
-    statement_safe (stmt.Deinit place) shaped none = changed_safe (stmt.Deinit place) shaped none tt
-    statement_safe (stmt.Validate place) shaped none = changed_safe (stmt.Validate place) shaped none tt
+    statement_safe =
+        by_kind (λ x. is_shaped_stmt named x ≡ true → broken_in_stmt fn (surroundings p fn) x ≡ [] → IsSafe (IsSafePlan p) (statement look s site x))
+        (λ x shaped none. live_safe x (lt_from x.0 (length fn.locals) shaped))
+        (λ x shaped none. dead_safe x (lt_from x.0 (length fn.locals) shaped) (not_true (is_kept fn x) (typed_dead named fn (surroundings p fn) refl x none)))
+        (λ x kind shaped none. subst (IsSafe (IsSafePlan p)) (sym (changes look s site x kind)) (changed_safe x shaped none kind))
 
   -- ---- terminators
   module _ (end : f.at ≡ length fits.block.stmts) where
@@ -125,7 +115,7 @@ module _ (look : Look) (is : IsLook look) (well : WellFormed look.program) (s : 
     IsShaped t = is_shaped_term named t ≡ true
 
     onward_at : (b : BlockName) → is_block named b ≡ true → FitsOnward p (goes_to s site b.0)
-    onward_at b h = onward_block look is well f below fits s b.0 calling (below_of b.0 (length fn.blocks) h)
+    onward_at b h = onward_block look is well f below fits s b.0 calling (lt_from b.0 (length fn.blocks) h)
 
     -- a switch, and on to its block
     switching_safe : (v : Value) (cases : List (Num × BlockName)) (other : BlockName) → IsShaped (term.Switch v cases other) → Unbroken (term.Switch v cases other)
@@ -145,7 +135,7 @@ module _ (look : Look) (is : IsLook look) (well : WellFormed look.program) (s : 
     terminator_safe thread (term.Unwind v b) due shaped none other_than = λ picks e. unwind_safe look is well s f below fits calling v b shaped none
     terminator_safe thread term.Resume due shaped none other_than = λ picks e. resume_safe look is well s f below fits calling below calling
     terminator_safe thread (term.Stop b) due shaped none other_than =
-        λ picks e. onward_block look is well f below fits (record s { payloads = behind_first s.payloads }) b.0 calling (below_of b.0 (length fn.blocks) shaped)
+        λ picks e. onward_block look is well f below fits (record s { payloads = behind_first s.payloads }) b.0 calling (lt_from b.0 (length fn.blocks) shaped)
     terminator_safe thread term.Exit due shaped none other_than = λ picks e. tt
     terminator_safe thread term.Abort due shaped none other_than = λ picks e. tt
     terminator_safe thread (term.Do op args place next) due shaped none other_than = absurd other_than

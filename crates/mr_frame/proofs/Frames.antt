@@ -5,17 +5,19 @@ use Rattle.std.proofs.Math.ListN.{length-set}
 use Rattle.std.specs.Prelude.{flat_map, slice_get, ◌==◌, ◌||◌}
 use Rattle.std.specs.List.{list_any}
 use Rattle.std.proofs.lemmas.Bool.Decides.{nat_tests}
+use Rattle.std.proofs.lemmas.Bool.{and_from, or_parts}
+use Rattle.mr_ast.specs.declared.rule.Rule.TheVariants as form
+use Rattle.mr_ast.specs.declared.rule.Rule.{Rule}
 use Rattle.mr_ast.specs.Shaped.{ShapedBlock, ShapedFunction, named_in}
 use Rattle.mr_ast.specs.declared.program.Block.{Block}
 use Rattle.mr_ast.specs.declared.program.Function.{Function}
 use Rattle.mr_ast.specs.declared.program.Local.{Local}
-use Rattle.mr_ast.specs.declared.types.Ty.{Ty}
 use Rattle.mr_ast.specs.declared.program.LocalName.{LocalName}
 use Rattle.mr_ast.specs.declared.program.Program.{Program}
 use Rattle.mr_ast.specs.declared.program.Stmt.{Stmt}
 use Rattle.mr_base.specs.declared.byte.Pointer.{Pointer}
 use Rattle.mr_wf.specs.Blocks.{broken_in_stmt, is_allowed, is_kept}
-use Rattle.mr_wf.specs.Broken.{Codes, of_type, rule, surroundings}
+use Rattle.mr_wf.specs.Broken.{of_type, rule, surroundings}
 use Rattle.mr_layout.specs.TypeOk.{TypeOk}
 use Rattle.mr_wf.specs.Unbroken.{UnbrokenBlock, UnbrokenFunction}
 use Rattle.mr_wf.specs.Walk.{WellFormed, are_arguments, begins_regular}
@@ -25,7 +27,10 @@ use Rattle.mr_frame.specs.Calls.{goes_to, local_type}
 use Rattle.mr_frame.specs.Fits.{AreCalling, FitsFrame, FitsOnward, IsLook}
 use Rattle.mr_frame.specs.Frames.{Frame, Look, Stack, at_block, behind_stmt, scene_in, with_storage}
 use Rattle.mr_frame.specs.Sites.{AtStatement, Site, broken_at, broken_in_head, due_at, due_of, due_term, kept_locals, none_broken, site_in, site_of_frame, site_of_frames}
-use Rattle.mr_frame.proofs.Places.{all_apart, all_at, all_stay, both_true, equal_test, none_behind, or_false, within}
+use Rattle.mr_frame.proofs.Places.{all_apart, all_stay, none_behind}
+use Rattle.mr_base.proofs.Comparisons.{eq_test}
+use Rattle.mr_base.proofs.Lists.{item_there, all_at}
+use Rattle.mr_wf.proofs.NothingLaws.{type_nothing}
 
 -- ---- what a function of a well-formed program keeps
 
@@ -51,37 +56,33 @@ module _ (p : Program) (well : WellFormed p) (f : Frame) (fits : FitsFrame p f) 
 
 -- ---- no rule is broken
 
-kept_rule : (code : ℕ) (test : Bool) → test ≡ true → rule code test ≡ []
-kept_rule code test e = ap (rule code) e
-
--- a type that breaks none
-type_unbroken : (t : Ty) → TypeOk t → of_type t ≡ []
-type_unbroken t ok = ap (λ (o : Option ℕ). elim o as (λ _. Codes) [ Some code ↦ code ∷ [] | None ↦ [] ]) ok
+kept_rule : (r : Rule) (test : Bool) → test ≡ true → rule r test ≡ []
+kept_rule r test e = ap (rule r) e
 
 locals_unbroken : (ls : List Local) → All (λ (l : Local). TypeOk l.ty) ls → flat_map (λ (l : Local). of_type l.ty) ls ≡ []
 locals_unbroken [] h = refl
 locals_unbroken (l ∷ ls) h =
-    ap₂ (λ a b. a ++ b) (type_unbroken l.ty (All-head (λ (x : Local). TypeOk x.ty) l ls h)) (locals_unbroken ls (All-tail (λ (x : Local). TypeOk x.ty) l ls h))
+    ap₂ (λ a b. a ++ b) (type_nothing l.ty (All-head (λ (x : Local). TypeOk x.ty) l ls h)) (locals_unbroken ls (All-tail (λ (x : Local). TypeOk x.ty) l ls h))
 
 head_unbroken : (p : Program) (fn : Function) → Keeps p fn → broken_in_head fn ≡ []
 head_unbroken p fn k =
     ap₂ (λ a b. a ++ b)
-    (ap₂ (λ a b. a ++ b) (locals_unbroken fn.locals k.unbroken.locals) (kept_rule 30 (are_arguments fn.ret fn.args) k.unbroken.args))
-    (kept_rule 31 (begins_regular fn.blocks) k.unbroken.first)
+    (ap₂ (λ a b. a ++ b) (locals_unbroken fn.locals k.unbroken.locals) (kept_rule form.Arguments (are_arguments fn.ret fn.args) k.unbroken.args))
+    (kept_rule form.FirstBlock (begins_regular fn.blocks) k.unbroken.first)
 
 unbroken_at : (p : Program) (fn : Function) (b : Block) → UnbrokenBlock p fn b → (at : ℕ) → broken_at p fn b (slice_get b.stmts at) ≡ []
 unbroken_at p fn b u at = by_stmt (slice_get b.stmts at) refl
   where
     by_stmt : (o : Option Stmt) → slice_get b.stmts at ≡ o → broken_at p fn b o ≡ []
     by_stmt (Some x) e = all_at (λ (s : Stmt). broken_in_stmt fn (surroundings p fn) s ≡ []) b.stmts at x u.stmts e
-    by_stmt None e = ap₂ (λ a c. a ++ c) u.parts (kept_rule 32 (is_allowed fn b.kind b.term) u.allowed)
+    by_stmt None e = ap₂ (λ a c. a ++ c) u.parts (kept_rule form.BlockKind (is_allowed fn b.kind b.term) u.allowed)
 
 -- ---- how a frame goes on
 
 -- at the start of a block
 abbrev pub fits_block : (p : Program) (f : Frame) (fits : FitsFrame p f) (b : ℕ) → b < length fits.function.blocks → FitsFrame p (at_block f b)
 fits_block p f fits b h =
-    let there = within fits.function.blocks b h in
+    let there = item_there fits.function.blocks b h in
     record { function = fits.function; is = fits.is; locals = fits.locals; kept = fits.kept; block = there.0; here = there.1; at = omega arith }
 
 -- behind a statement
@@ -103,7 +104,7 @@ fits_stored p f fits x q = record {
 -- a local that is not kept is none of those that are
 pub other_local : (fn : Function) (x : LocalName) → is_kept fn x ≡ false → list_any (λ (y : LocalName). y.0 == x.0) (kept_locals fn) ≡ false
 other_local fn x h =
-    let parts = or_false (x.0 == fn.ret.0) (list_any (λ (y : LocalName). y.0 == x.0) fn.args) h in
+    let parts = or_parts (x.0 == fn.ret.0) (list_any (λ (y : LocalName). y.0 == x.0) fn.args) h in
     or_both (fn.ret.0 == x.0) (list_any (λ (y : LocalName). y.0 == x.0) fn.args) (turned fn.ret.0 x.0 parts.0) parts.1
   where
     or_both : (a b : Bool) → a ≡ false → b ≡ false → (a || b) ≡ false
@@ -136,7 +137,7 @@ module _ (look : Look) (is : IsLook look) (well : WellFormed look.program) (f : 
       ap (site_of_frame look.program f below) fits.is
       ∙ ap (λ b. cond b (site_in look.program f below fits.function (slice_get fits.function.blocks f.block)) None) fits.kept
       ∙ ap (site_in look.program f below fits.function) fits.here
-      ∙ ap (λ codes. cond (none_broken codes) (Some here) None) (ap₂ (λ a b. a ++ b) (head_unbroken look.program fits.function (keeps look.program well f fits)) (unbroken_at look.program fits.function fits.block (block_unbroken look.program well f fits) f.at))
+      ∙ ap (λ rules. cond (none_broken rules) (Some here) None) (ap₂ (λ a b. a ++ b) (head_unbroken look.program fits.function (keeps look.program well f fits)) (unbroken_at look.program fits.function fits.block (block_unbroken look.program well f fits) f.at))
 
   -- its expressions can be evaluated
   pub stands : Stands (named_in look.program fits.function) (scene_in look fits.function f)
@@ -153,7 +154,7 @@ module _ (look : Look) (is : IsLook look) (well : WellFormed look.program) (f : 
   due_end e =
       ap (due_at here) (none_behind fits.block.stmts f.at e)
       ∙ ap (λ b. cond b (Some (due_term fits.block.term)) None)
-      (both_true (f.at == length fits.block.stmts) (is_allowed fits.function fits.block.kind fits.block.term) (equal_test f.at (length fits.block.stmts) e) (block_unbroken look.program well f fits).allowed)
+      (and_from (f.at == length fits.block.stmts) (is_allowed fits.function fits.block.kind fits.block.term) (eq_test f.at (length fits.block.stmts) e) (block_unbroken look.program well f fits).allowed)
 
   -- it goes on at a block that is there
   pub onward_block : (s : Stack) (b : ℕ) → AreCalling look.program (local_type fits.function fits.function.ret) below → b < length fits.function.blocks → FitsOnward look.program (goes_to s here b)

@@ -2,6 +2,7 @@
 use Rattle.std.proofs.Common.{◌≡◌, ℕ, Bool, true, false, List, [], ◌∷◌, Some, refl, sym, ap, ◌∙◌, subst}
 use Rattle.std.specs.Prelude.{is_some}
 use Rattle.std.proofs.lemmas.Option.{same_Some}
+use Rattle.std.proofs.lemmas.Bool.{and_parts}
 use Rattle.mr_ast.specs.Shaped.{named_in}
 use Rattle.mr_ast.specs.ShapedTypes.{is_shaped_num}
 use Rattle.mr_ast.specs.ShapedValues.{is_shaped_place, is_shaped_value}
@@ -17,7 +18,6 @@ use Rattle.mr_ast.specs.declared.program.Function.{Function}
 use Rattle.mr_ast.specs.declared.program.Stmt.TheVariants as stmt
 use Rattle.mr_layout.specs.EnumRules.{are_all_tags, are_tags, same_num}
 use Rattle.mr_layout.specs.TypeOk.{TypeOk}
-use Rattle.mr_layout.proofs.PartsOk.{and_true}
 use Rattle.mr_layout.proofs.WellFormed.{enum_ok}
 use Rattle.mr_value.specs.declared.val.Val.{Val}
 use Rattle.mr_value.specs.Shape.{has_shape}
@@ -35,7 +35,7 @@ use Rattle.mr_eval.proofs.ExprSafe.{place_safe}
 use Rattle.mr_frame.specs.Changes.{tags_in}
 use Rattle.mr_frame.specs.Inside.{InProgram, StmtIn, TypeAt}
 use Rattle.mr_frame.proofs.ChangesSafe.{tags_there}
-use Rattle.mr_frame.proofs.Places.{all_at}
+use Rattle.mr_base.proofs.Lists.{all_at}
 
 module _ (e : Env) (f : Function) (h : InProgram f e) where
   -- the locals of the scene are those of the function
@@ -74,17 +74,17 @@ module _ (e : Env) (p : Place) where
 
   pub assign_place : (v : Value) → StmtIn e (stmt.Assign p v) → PlaceIn e p
   assign_place v h =
-      let parts = and_true (is_shaped_place (named_in e.program.now h.function) p) (is_shaped_value (named_in e.program.now h.function) v) h.shaped in
+      let parts = and_parts (is_shaped_place (named_in e.program.now h.function) p) (is_shaped_value (named_in e.program.now h.function) v) h.shaped in
       record { function = h.function; env = h.inside.env; shaped = parts.0; unbroken = (assign_typed v h).unbroken_place }
 
   pub assign_value : (v : Value) → StmtIn e (stmt.Assign p v) → ValueIn e v
   assign_value v h =
-      let parts = and_true (is_shaped_place (named_in e.program.now h.function) p) (is_shaped_value (named_in e.program.now h.function) v) h.shaped in
+      let parts = and_parts (is_shaped_place (named_in e.program.now h.function) p) (is_shaped_value (named_in e.program.now h.function) v) h.shaped in
       record { function = h.function; env = h.inside.env; shaped = parts.1; unbroken = (assign_typed v h).unbroken_value }
 
   pub assign_type : (v : Value) → StmtIn e (stmt.Assign p v) → (t : Ty) × TypeAt e p t
   assign_type v h =
-      let parts = and_true (is_shaped_place (named_in e.program.now h.function) p) (is_shaped_value (named_in e.program.now h.function) v) h.shaped in
+      let parts = and_parts (is_shaped_place (named_in e.program.now h.function) p) (is_shaped_value (named_in e.program.now h.function) v) h.shaped in
       type_there e h.function h.inside p parts.0 (assign_typed v h).unbroken_place
 
   -- the value has the shape of the place's type
@@ -100,7 +100,7 @@ module _ (e : Env) (p : Place) where
 
   pub disc_place : (n : Num) → StmtIn e (stmt.Disc p n) → PlaceIn e p
   disc_place n h =
-      let parts = and_true (is_shaped_place (named_in e.program.now h.function) p) (is_shaped_num n) h.shaped in
+      let parts = and_parts (is_shaped_place (named_in e.program.now h.function) p) (is_shaped_num n) h.shaped in
       record { function = h.function; env = h.inside.env; shaped = parts.0; unbroken = (typed_disc_stmt (named_in e.program.now h.function) h.function (surroundings e.program.now h.function) refl p n h.shaped h.unbroken).unbroken }
 
   pub disc_type : (n : Num) → StmtIn e (stmt.Disc p n) → (t : Ty) × TypeAt e p t
@@ -117,14 +117,14 @@ module _ (e : Env) (p : Place) where
 tags_kept : (size : ℕ) (variants : List Variant) (n : Num) (tags : List Tag) → are_all_tags size variants ≡ true → tags_among variants n ≡ Some tags → (u : Ty) × (are_tags size u tags ≡ true)
 tags_kept size [] n tags all e = absurd (cc)
 tags_kept size (v ∷ variants) n tags all e =
-    let both = and_true (are_tags size v.ty v.tags) (are_all_tags size variants) all in
+    let both = and_parts (are_tags size v.ty v.tags) (are_all_tags size variants) all in
     by_test (same_num v.number n) refl (tags_kept size variants n tags both.1)
   where
     by_test : (b : Bool) → same_num v.number n ≡ b → (tags_among variants n ≡ Some tags → (u : Ty) × (are_tags size u tags ≡ true)) → (u : Ty) × (are_tags size u tags ≡ true)
     by_test true is more =
         let here : Some v.tags ≡ Some tags = rw is at e in
         let same : v.tags ≡ tags = same_Some v.tags tags here in
-        (v.ty, subst (λ ts. are_tags size v.ty ts ≡ true) same (and_true (are_tags size v.ty v.tags) (are_all_tags size variants) all).0)
+        (v.ty, subst (λ ts. are_tags size v.ty ts ≡ true) same (and_parts (are_tags size v.ty v.tags) (are_all_tags size variants) all).0)
     by_test false is more = more (rw is at e)
 
 pub tags_fit : (t : Ty) (n : Num) (tags : List Tag) → TypeOk t → tags_layer (out-Ty t) n ≡ Some tags → (size : ℕ) × (u : Ty) × (are_tags size u tags ≡ true)

@@ -31,6 +31,7 @@ pub mod QuietChanges
 pub mod ResultFits
 pub mod StackLaws
 pub mod StandLaws
+pub mod Statements
 pub mod StorageLaws
 pub mod StorageSteps
 pub mod SwitchRuns

@@ -1,48 +1,23 @@
 -- Lists by their positions, storage of locals, and what a function of a well-formed program keeps.
-use Rattle.std.proofs.Common.{◌≡◌, ℕ, zero, suc, ◌<◌, refl, sym, ap, ◌∙◌, subst, arith, List, [], ◌∷◌, length, Bool, true, false, inl, inr, Option, Some, None}
-use Rattle.std.proofs.lemmas.Bool.{both_ways, cases_eq}
-use Rattle.std.proofs.lemmas.Bool.Decides.{nat_tests}
-use Rattle.std.proofs.lemmas.Option.{slice_get_cases, slice_get_within, get_or_from_slice_get}
-use Rattle.std.proofs.lemmas.List.Elements.{All-get_or}
+use Rattle.std.proofs.Common.{◌≡◌, ℕ, ◌<◌, refl, sym, ap, ◌∙◌, subst, arith, List, [], ◌∷◌, length, Bool, true, false, inl, inr, Option, Some, None}
+use Rattle.std.proofs.lemmas.Bool.{both_ways, cases_eq, and_parts, and_from, or_parts}
+use Rattle.std.proofs.lemmas.Option.{slice_get_cases}
 use Rattle.std.proofs.Math.ListN.{length-set}
-use Rattle.std.specs.Prelude.{slice_get, slice_set, All, nat_lt, ◌==◌, ◌&&◌, ◌||◌, is_some}
+use Rattle.std.specs.Prelude.{slice_get, slice_set, ◌==◌, is_some}
 use Rattle.std.specs.Option.{option_and_then}
 use Rattle.std.specs.List.{list_all, list_any}
 use Rattle.mr_ast.specs.declared.program.LocalName.{LocalName}
 use Rattle.mr_base.specs.declared.byte.Pointer.{Pointer}
-use Rattle.mr_layout.proofs.PartsOk.{and_true}
-use Rattle.mr_plan.proofs.Positions.{set_here, set_there}
 use Rattle.mr_frame.specs.Calls.{with_each}
+use Rattle.mr_plan.proofs.Positions.{set_here}
 use Rattle.mr_frame.specs.Sites.{has_storage}
-
--- there is an element within the list
-pub within : {A : Type 0} (xs : List A) (i : ℕ) → i < length xs → (x : A) × (slice_get xs i ≡ Some x)
-within [] i h = absurd (omega arith)
-within (x ∷ xs) zero h = (x, refl)
-within (x ∷ xs) (suc i) h = within xs i (omega arith)
-
--- what holds of all holds of the one at a position
-pub all_at : {A : Type 0} (P : A → Type 0) (xs : List A) (i : ℕ) (x : A) → All P xs → slice_get xs i ≡ Some x → P x
-all_at P xs i x h here = subst P (get_or_from_slice_get xs i x x here) (All-get_or P xs i x (slice_get_within xs i x here) h)
-
-pub below_of : (m n : ℕ) → nat_lt m n ≡ true → m < n
-below_of m n h = grind (arith, nat_tests)
-
-pub equal_test : (m n : ℕ) → m ≡ n → (m == n) ≡ true
-equal_test m n h = grind (arith, nat_tests)
+use Rattle.mr_base.proofs.Comparisons.{eq_test}
+use Rattle.mr_base.proofs.Lists.{set_there}
 
 pub none_behind : {A : Type 0} (xs : List A) (i : ℕ) → i ≡ length xs → slice_get xs i ≡ None
 none_behind xs i e = elim (slice_get_cases xs i).1 [ inl s ↦ absurd (let lt = s.1 in omega arith) | inr none ↦ none.1 ]
 
 -- ---- tests
-
-pub both_true : (a b : Bool) → a ≡ true → b ≡ true → (a && b) ≡ true
-both_true true b e h = h
-both_true false b e h = absurd (cc)
-
-pub or_false : (a b : Bool) → (a || b) ≡ false → (a ≡ false) × (b ≡ false)
-or_false true b h = absurd (cc)
-or_false false b h = (refl, h)
 
 -- each local's number is below a bound
 abbrev pub AllWithin : ℕ → List LocalName → Type 0
@@ -78,21 +53,21 @@ storage_stays locals x p y h = elim (cases_eq y.0 x) [
 
 -- and where another local gets storage or loses it
 pub storage_apart : (locals : List (Option Pointer)) (x : ℕ) (s : Option Pointer) (y : LocalName) → (y.0 == x) ≡ false → has_storage locals y ≡ true → has_storage (slice_set locals x s) y ≡ true
-storage_apart locals x s y d h = ap is_there (set_there locals x y.0 s (λ e. both_ways (y.0 == x) d (equal_test y.0 x e))) ∙ h
+storage_apart locals x s y d h = ap is_there (set_there locals x y.0 s (λ e. both_ways (y.0 == x) d (eq_test y.0 x e))) ∙ h
 
 -- the same of several
 pub all_stay : (locals : List (Option Pointer)) (x : ℕ) (p : Pointer) (ys : List LocalName) → list_all (has_storage locals) ys ≡ true → list_all (has_storage (slice_set locals x (Some p))) ys ≡ true
 all_stay locals x p [] h = refl
 all_stay locals x p (y ∷ ys) h =
-    let parts = and_true (has_storage locals y) (list_all (has_storage locals) ys) h in
-    both_true _ _ (storage_stays locals x p y parts.0) (all_stay locals x p ys parts.1)
+    let parts = and_parts (has_storage locals y) (list_all (has_storage locals) ys) h in
+    and_from _ _ (storage_stays locals x p y parts.0) (all_stay locals x p ys parts.1)
 
 pub all_apart : (locals : List (Option Pointer)) (x : ℕ) (s : Option Pointer) (ys : List LocalName) → list_any (λ (y : LocalName). y.0 == x) ys ≡ false → list_all (has_storage locals) ys ≡ true → list_all (has_storage (slice_set locals x s)) ys ≡ true
 all_apart locals x s [] d h = refl
 all_apart locals x s (y ∷ ys) d h =
-    let parts = and_true (has_storage locals y) (list_all (has_storage locals) ys) h in
-    let neither = or_false (y.0 == x) (list_any (λ (z : LocalName). z.0 == x) ys) d in
-    both_true _ _ (storage_apart locals x s y neither.0 parts.0) (all_apart locals x s ys neither.1 parts.1)
+    let parts = and_parts (has_storage locals y) (list_all (has_storage locals) ys) h in
+    let neither = or_parts (y.0 == x) (list_any (λ (z : LocalName). z.0 == x) ys) d in
+    and_from _ _ (storage_apart locals x s y neither.0 parts.0) (all_apart locals x s ys neither.1 parts.1)
 
 -- ---- a new frame's storage
 
@@ -112,5 +87,5 @@ each_has [] locals ps same all = refl
 each_has (x ∷ xs) locals [] same all = absurd (omega arith)
 each_has (x ∷ xs) locals (p ∷ ps) same all =
     let here : has_storage (slice_set locals x.0 (Some p)) x ≡ true = ap is_there (set_here locals x.0 (Some p) all.0) in
-    both_true _ _ (each_stays xs (slice_set locals x.0 (Some p)) ps x here)
+    and_from _ _ (each_stays xs (slice_set locals x.0 (Some p)) ps x here)
     (each_has xs (slice_set locals x.0 (Some p)) ps (omega arith) (subst (λ n. AllWithin n xs) (sym (length-set locals x.0 (Some p))) all.1))

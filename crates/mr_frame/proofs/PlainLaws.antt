@@ -2,6 +2,7 @@
 use Rattle.std.proofs.Common.{◌≡◌, Bool, true, false, refl, sym, ap, ◌∙◌, List, [], ◌∷◌, Option, None, Some, subst}
 use Rattle.std.specs.List.{list_all}
 use Rattle.std.specs.Prelude.{◌&&◌, ◌||◌, is_some, nat_le}
+use Rattle.std.proofs.lemmas.Bool.{and_parts, or_left, or_right}
 use Rattle.mr_ast.specs.declared.program.Intrinsic.{Intrinsic}
 use Rattle.mr_ast.specs.declared.program.Intrinsic.TheVariants as intrinsic
 use Rattle.mr_ast.specs.declared.types.IntType.{IntType}
@@ -11,7 +12,6 @@ use Rattle.mr_ast.specs.declared.types.Ty.TheVariants as ty
 use Rattle.mr_layout.specs.Sizes.{size_of}
 use Rattle.mr_layout.specs.TypeOk.{TypeOk}
 use Rattle.mr_layout.proofs.BrokenLaws.{broken_bool, broken_fn_ptr, broken_int, broken_raw}
-use Rattle.mr_layout.proofs.PartsOk.{and_true}
 use Rattle.mr_wf.specs.Intrinsics.{fits_intrinsic, gives, gives_nothing, is_atomic}
 use Rattle.mr_wf.specs.Operands.{is_bool, is_fn_ptr, is_int, is_integer, is_raw, is_raw_layer, is_scalar_number}
 use Rattle.mr_wf.specs.SameTypes.{same_type}
@@ -37,13 +37,6 @@ plain_fn_ptr t none no_bool no_raw plain =
 
 -- ---- what intrinsics take and give
 
-or_left : (a b : Bool) → a ≡ true → (a || b) ≡ true
-or_left a b e = ap (λ c. c || b) e
-
-or_right : (a b : Bool) → b ≡ true → (a || b) ≡ true
-or_right true b e = refl
-or_right false b e = e
-
 abbrev pub IsPlain : Ty → Type 0
 IsPlain t = is_plain t ≡ true
 
@@ -63,7 +56,7 @@ from_int : (i : IntType) (t : Ty) → is_int i t ≡ true → IsPlain t
 from_int i t e = from_integer t (ap (λ (o : Option IntType). is_some o) ((same_with_int t i).0 e))
 
 from_atomic : (t : Ty) → is_atomic t ≡ true → IsPlain t
-from_atomic t e = from_integer t (and_true (is_integer t) (nat_le (size_of t) 8) e).0
+from_atomic t e = from_integer t (and_parts (is_integer t) (nat_le (size_of t) 8) e).0
 
 from_scalar : (t : Ty) → is_scalar_number t ≡ true → IsPlain t
 from_scalar t e = by_test (is_integer t) refl
@@ -101,7 +94,7 @@ AllPlain (t ∷ ts) = IsPlain t × AllPlain ts
 
 all_scalar : (ts : List Ty) → list_all is_scalar_number ts ≡ true → AllPlain ts
 all_scalar [] e = tt
-all_scalar (t ∷ ts) e = let parts = and_true (is_scalar_number t) (list_all is_scalar_number ts) e in (from_scalar t parts.0, all_scalar ts parts.1)
+all_scalar (t ∷ ts) e = let parts = and_parts (is_scalar_number t) (list_all is_scalar_number ts) e in (from_scalar t parts.0, all_scalar ts parts.1)
 
 abbrev Plain : List Ty → Option Ty → Type 0
 Plain ts result = AllPlain ts × PlainResult result
@@ -109,41 +102,41 @@ Plain ts result = AllPlain ts × PlainResult result
 -- an atomic operation with a pointer and an integer of the result's type
 plain_fetch : (a b : Ty) (result : Option Ty) → (is_raw a && (is_atomic b && gives b result)) ≡ true → Plain (a ∷ b ∷ []) result
 plain_fetch a b result e =
-    let p = and_true (is_raw a) (is_atomic b && gives b result) e in
-    let q = and_true (is_atomic b) (gives b result) p.1 in
+    let p = and_parts (is_raw a) (is_atomic b && gives b result) e in
+    let q = and_parts (is_atomic b) (gives b result) p.1 in
     let h = from_atomic b q.0 in
     ((from_raw a p.0, (h, tt)), plain_given b h result q.1)
 
 -- WHAT AN INTRINSIC TAKES AND GIVES is plain
 pub plain_intrinsic : (op : Intrinsic) (ts : List Ty) (result : Option Ty) → fits_intrinsic op ts result ≡ true → AllPlain ts × PlainResult result
-plain_intrinsic intrinsic.Assume (a ∷ []) result e = let p = and_true (is_bool a) (gives_nothing result) e in ((from_bool a p.0, tt), nothing_given result p.1)
-plain_intrinsic intrinsic.Print ts result e = let p = and_true (list_all is_scalar_number ts) (gives_nothing result) e in (all_scalar ts p.0, nothing_given result p.1)
+plain_intrinsic intrinsic.Assume (a ∷ []) result e = let p = and_parts (is_bool a) (gives_nothing result) e in ((from_bool a p.0, tt), nothing_given result p.1)
+plain_intrinsic intrinsic.Print ts result e = let p = and_parts (list_all is_scalar_number ts) (gives_nothing result) e in (all_scalar ts p.0, nothing_given result p.1)
 plain_intrinsic intrinsic.Allocate (a ∷ b ∷ []) result e =
-    let p = and_true (is_int U64 a) (is_int U64 b && gives ty.Raw result) e in
-    let q = and_true (is_int U64 b) (gives ty.Raw result) p.1 in
+    let p = and_parts (is_int U64 a) (is_int U64 b && gives ty.Raw result) e in
+    let q = and_parts (is_int U64 b) (gives ty.Raw result) p.1 in
     ((from_int U64 a p.0, (from_int U64 b q.0, tt)), plain_given ty.Raw raw_plain result q.1)
 plain_intrinsic intrinsic.Deallocate (a ∷ b ∷ c ∷ []) result e =
-    let p = and_true (is_raw a) (is_int U64 b && (is_int U64 c && gives_nothing result)) e in
-    let q = and_true (is_int U64 b) (is_int U64 c && gives_nothing result) p.1 in
-    let r = and_true (is_int U64 c) (gives_nothing result) q.1 in
+    let p = and_parts (is_raw a) (is_int U64 b && (is_int U64 c && gives_nothing result)) e in
+    let q = and_parts (is_int U64 b) (is_int U64 c && gives_nothing result) p.1 in
+    let r = and_parts (is_int U64 c) (gives_nothing result) q.1 in
     ((from_raw a p.0, (from_int U64 b q.0, (from_int U64 c r.0, tt))), nothing_given result r.1)
 plain_intrinsic intrinsic.Spawn (a ∷ b ∷ []) result e =
-    let p = and_true (is_fn_ptr a) (is_raw b && gives (ty.Int U32) result) e in
-    let q = and_true (is_raw b) (gives (ty.Int U32) result) p.1 in
+    let p = and_parts (is_fn_ptr a) (is_raw b && gives (ty.Int U32) result) e in
+    let q = and_parts (is_raw b) (gives (ty.Int U32) result) p.1 in
     ((from_fn_ptr a p.0, (from_raw b q.0, tt)), plain_given (ty.Int U32) (int_plain U32) result q.1)
-plain_intrinsic intrinsic.Join (a ∷ []) result e = let p = and_true (is_int U32 a) (gives_nothing result) e in ((from_int U32 a p.0, tt), nothing_given result p.1)
+plain_intrinsic intrinsic.Join (a ∷ []) result e = let p = and_parts (is_int U32 a) (gives_nothing result) e in ((from_int U32 a p.0, tt), nothing_given result p.1)
 plain_intrinsic intrinsic.CreateLock [] result e = (tt, plain_given (ty.Int U32) (int_plain U32) result e)
-plain_intrinsic intrinsic.Acquire (a ∷ []) result e = let p = and_true (is_int U32 a) (gives_nothing result) e in ((from_int U32 a p.0, tt), nothing_given result p.1)
-plain_intrinsic intrinsic.Release (a ∷ []) result e = let p = and_true (is_int U32 a) (gives_nothing result) e in ((from_int U32 a p.0, tt), nothing_given result p.1)
+plain_intrinsic intrinsic.Acquire (a ∷ []) result e = let p = and_parts (is_int U32 a) (gives_nothing result) e in ((from_int U32 a p.0, tt), nothing_given result p.1)
+plain_intrinsic intrinsic.Release (a ∷ []) result e = let p = and_parts (is_int U32 a) (gives_nothing result) e in ((from_int U32 a p.0, tt), nothing_given result p.1)
 plain_intrinsic intrinsic.AtomicStore (a ∷ b ∷ []) result e =
-    let p = and_true (is_raw a) (is_atomic b && gives_nothing result) e in
-    let q = and_true (is_atomic b) (gives_nothing result) p.1 in
+    let p = and_parts (is_raw a) (is_atomic b && gives_nothing result) e in
+    let q = and_parts (is_atomic b) (gives_nothing result) p.1 in
     ((from_raw a p.0, (from_atomic b q.0, tt)), nothing_given result q.1)
-plain_intrinsic intrinsic.AtomicLoad (a ∷ []) (Some t) e = let p = and_true (is_raw a) (is_atomic t) e in ((from_raw a p.0, tt), from_atomic t p.1)
+plain_intrinsic intrinsic.AtomicLoad (a ∷ []) (Some t) e = let p = and_parts (is_raw a) (is_atomic t) e in ((from_raw a p.0, tt), from_atomic t p.1)
 plain_intrinsic intrinsic.CompareExchange (a ∷ b ∷ c ∷ []) result e =
-    let p = and_true (is_raw a) (is_atomic b && (same_type c b && gives b result)) e in
-    let q = and_true (is_atomic b) (same_type c b && gives b result) p.1 in
-    let r = and_true (same_type c b) (gives b result) q.1 in
+    let p = and_parts (is_raw a) (is_atomic b && (same_type c b && gives b result)) e in
+    let q = and_parts (is_atomic b) (same_type c b && gives b result) p.1 in
+    let r = and_parts (same_type c b) (gives b result) q.1 in
     let h = from_atomic b q.0 in
     ((from_raw a p.0, (h, (from_same c b r.0 h, tt))), plain_given b h result r.1)
 plain_intrinsic intrinsic.FetchAdd (a ∷ b ∷ []) result e = plain_fetch a b result e

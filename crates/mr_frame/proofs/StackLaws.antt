@@ -11,7 +11,7 @@ use Rattle.mr_frame.specs.Calls.{is_main}
 use Rattle.mr_frame.specs.Frames.{Frame, Stack, at_block}
 use Rattle.mr_frame.specs.Kept.{below_of, frame_of, stack_of}
 use Rattle.mr_frame.proofs.CallSafe.{heads, tails}
-use Rattle.mr_frame.proofs.Places.{within}
+use Rattle.mr_base.proofs.Lists.{item_there}
 
 -- a stack of these
 abbrev pub with_frames : List Frame → List Pointer → Stack
@@ -70,7 +70,7 @@ none_below s e = ap (λ xs. map frame_of (reverse xs)) (by_items s.below.items e
   where
     by_items : (xs : List KeptFrame) → slice_get xs (length xs - 1) ≡ None → xs ≡ []
     by_items [] h = refl
-    by_items (x ∷ xs) h = let there = within (x ∷ xs) (length (x ∷ xs) - 1) (omega arith) in absurd (let k = sym h ∙ there.1 in absurd (cc))
+    by_items (x ∷ xs) h = let there = item_there (x ∷ xs) (length (x ∷ xs) - 1) (omega arith) in absurd (let k = sym h ∙ there.1 in absurd (cc))
 
 -- a pop where there is a frame below
 pub popped : (s new : KeptStack) (b : Bool) (caller : Frame) (rest : List Frame) → below_of s ≡ caller ∷ rest → (IsTrue b → (stack_of s).frames ≡ frame_of s.top ∷ (stack_of new).frames) → (IsFalse b → below_of s ≡ [])

@@ -26,7 +26,8 @@ use Rattle.mr_frame.specs.Kept.{IsReady, frame_of, below_of as under, look_of}
 use Rattle.mr_frame.specs.Sites.{AtDo, AtStatement, AtTerminator, Due, Site, due_at, due_of, due_term}
 use Rattle.mr_frame.specs.Standing.{Holds, IsAt, IsDue, due_in}
 use Rattle.mr_frame.proofs.Frames.{block_shaped, block_unbroken, due_end, due_stmt, keeps}
-use Rattle.mr_frame.proofs.Places.{all_at, below_of}
+use Rattle.mr_base.proofs.Comparisons.{lt_from}
+use Rattle.mr_base.proofs.Lists.{all_at}
 
 -- ---- what is due, in its block
 
@@ -163,12 +164,12 @@ module _ (look : KeptLook) (s : KeptStack) (due : Due) (h : IsDue look s due) wh
   pub live_holds : (x : LocalName) → due ≡ AtStatement (stmt.Live x) → Holds look s x
   live_holds x is =
       let here = stmt_at (at_site) (stmt.Live x) (h.stands.is ∙ ap (λ d. Some d) is) in
-      holds_at x (below_of x.0 (length fn.locals) (all_at (λ (y : Stmt). is_shaped_stmt (named_in p fn) y ≡ true) h.stands.fits.block.stmts s.top.at (stmt.Live x) (block_shaped p h.ready.well (frame_of s.top) h.stands.fits).stmts here))
+      holds_at x (lt_from x.0 (length fn.locals) (all_at (λ (y : Stmt). is_shaped_stmt (named_in p fn) y ≡ true) h.stands.fits.block.stmts s.top.at (stmt.Live x) (block_shaped p h.ready.well (frame_of s.top) h.stands.fits).stmts here))
 
   pub dead_holds : (x : LocalName) → due ≡ AtStatement (stmt.Dead x) → Holds look s x
   dead_holds x is =
       let here = stmt_at (at_site) (stmt.Dead x) (h.stands.is ∙ ap (λ d. Some d) is) in
-      holds_at x (below_of x.0 (length fn.locals) (all_at (λ (y : Stmt). is_shaped_stmt (named_in p fn) y ≡ true) h.stands.fits.block.stmts s.top.at (stmt.Dead x) (block_shaped p h.ready.well (frame_of s.top) h.stands.fits).stmts here))
+      holds_at x (lt_from x.0 (length fn.locals) (all_at (λ (y : Stmt). is_shaped_stmt (named_in p fn) y ≡ true) h.stands.fits.block.stmts s.top.at (stmt.Dead x) (block_shaped p h.ready.well (frame_of s.top) h.stands.fits).stmts here))
 
 -- ---- the function of the top frame
 

@@ -14,7 +14,6 @@ use Rattle.mr_ast.specs.declared.program.Local.{Local}
 use Rattle.mr_ast.specs.declared.program.LocalName.{LocalName}
 use Rattle.mr_ast.specs.declared.program.Program.{Program}
 use Rattle.mr_ast.specs.declared.program.Stmt.{Stmt}
-use Rattle.mr_ast.specs.declared.program.Stmt.TheVariants as stmt
 use Rattle.mr_ast.specs.declared.program.Term.{Term}
 use Rattle.mr_ast.specs.declared.program.Term.TheVariants as term
 use Rattle.mr_ast.specs.declared.types.Ty.{Ty}
@@ -43,6 +42,7 @@ use Rattle.mr_frame.specs.Switches.{switched}
 use Rattle.mr_frame.proofs.CallSafe.{heads, tails}
 use Rattle.mr_frame.proofs.DoSafe.{DoStands}
 use Rattle.mr_frame.proofs.QuietChanges.{change_quiet, store_quiet, stores_quiet}
+use Rattle.mr_frame.proofs.Statements.{by_kind, changes}
 use Rattle.mr_plan.proofs.QuietRuns.{reading_quiet}
 
 -- ---- rooms by position
@@ -271,13 +271,11 @@ module _ (look : Look) (s : Stack) (others : List Slot) (f : Frame) (below : Lis
   changed x = quiet_step (change (scene_in look fn f) x) (λ u. next s site f) (change_quiet (scene_in look fn f) x) (λ u. refl)
 
   statement_keeps : (x : Stmt) → Leads (KeepsSlots p others (slots f.locals)) (statement look s site x)
-  statement_keeps (stmt.Live x) = live_leads x.0 (slice_get fn.locals x.0) (slice_get f.locals x.0) refl refl
-  statement_keeps (stmt.Dead x) = λ picks. dead_leads x.0 (slice_get fn.locals x.0) (slice_get f.locals x.0) refl refl
-  statement_keeps (stmt.Assign place value) = λ picks. changed (stmt.Assign place value)
-  statement_keeps (stmt.Mention place) = λ picks. changed (stmt.Mention place)
-  statement_keeps (stmt.Disc place number) = λ picks. changed (stmt.Disc place number)
-  statement_keeps (stmt.Deinit place) = λ picks. changed (stmt.Deinit place)
-  statement_keeps (stmt.Validate place) = λ picks. changed (stmt.Validate place)
+  statement_keeps =
+      by_kind (λ x. Leads (KeepsSlots p others (slots f.locals)) (statement look s site x))
+      (λ x. live_leads x.0 (slice_get fn.locals x.0) (slice_get f.locals x.0) refl refl)
+      (λ x picks. dead_leads x.0 (slice_get fn.locals x.0) (slice_get f.locals x.0) refl refl)
+      (λ x kind. subst (Leads (KeepsSlots p others (slots f.locals))) (sym (changes look s site x kind)) (λ picks. changed x))
 
   -- ---- calls
 

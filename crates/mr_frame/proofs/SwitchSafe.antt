@@ -3,6 +3,7 @@ use Rattle.std.proofs.Common.{◌≡◌, ℕ, ◌<◌, Bool, true, false, List, 
 use Rattle.std.specs.Prelude.{◌&&◌, ◌||◌, if◌then◌else◌, is_some}
 use Rattle.std.specs.List.{list_all}
 use Rattle.std.proofs.lemmas.Option.{same_Some}
+use Rattle.std.proofs.lemmas.Bool.{and_parts}
 use Rattle.mr_ast.specs.Shaped.{is_block, is_shaped_target, is_shaped_term}
 use Rattle.mr_ast.specs.ShapedTypes.{is_shaped_num}
 use Rattle.mr_ast.specs.ShapedValues.{Named, is_shaped_value}
@@ -16,7 +17,6 @@ use Rattle.mr_ast.specs.declared.types.Ty.TheOpen.{Ty-F}
 use Rattle.mr_ast.specs.declared.types.Ty.TheVariants as ty
 use Rattle.mr_ast.specs.declared.types.Variant.{Variant}
 use Rattle.mr_layout.specs.EnumRules.{same_num}
-use Rattle.mr_layout.proofs.PartsOk.{and_true}
 use Rattle.mr_value.specs.declared.val.Val.{Val, out-Val}
 use Rattle.mr_value.specs.declared.val.Val.TheOpen.{Val-F}
 use Rattle.mr_wf.specs.Blocks.{broken_in_parts, fits_switch, fits_switch_layer}
@@ -32,7 +32,7 @@ use Rattle.mr_eval.proofs.ExprSafe.{value_safe}
 use Rattle.mr_eval.proofs.OperatorsSafe.{Shaped, bool_layer, integer_layer}
 use Rattle.mr_eval.proofs.SafeLaws.{safe_found, safe_then}
 use Rattle.mr_frame.specs.Switches.{first_case, number_as, number_layer, switched}
-use Rattle.mr_frame.proofs.Places.{below_of}
+use Rattle.mr_base.proofs.Comparisons.{lt_from}
 
 -- what is told of integers and of bools
 pub by_kind : {B : Type 0} (told : Ty-F Ty Variant → Val-F Val → Option B) (t : Ty) (v : Val) → ((i : _) (n : ℕ) → (x : B) × (told (Ty-F.Int i) (Val-F.Int n) ≡ Some x)) → ((b : Bool) → (x : B) × (told Ty-F.Bool (Val-F.Bool b) ≡ Some x))
@@ -64,11 +64,11 @@ switch_scalar cases t e = by_layer (out-Ty t) e
 
 -- the cases of a switch are blocks that are there
 case_there : (named : Named) (n : Num) (cases : List (Num × BlockName)) (other : BlockName) → list_all (is_shaped_target named) cases ≡ true → is_block named other ≡ true → first_case n cases other < named.blocks
-case_there named n [] other all last = below_of other.0 named.blocks last
+case_there named n [] other all last = lt_from other.0 named.blocks last
 case_there named n (c ∷ cases) other all last =
-    let parts = and_true (is_shaped_target named c) (list_all (is_shaped_target named) cases) all in
-    let block = and_true (is_shaped_num c.0) (is_block named c.1) parts.0 in
-    by_test (same_num c.0 n) (below_of c.1.0 named.blocks block.1) (case_there named n cases other parts.1 last)
+    let parts = and_parts (is_shaped_target named c) (list_all (is_shaped_target named) cases) all in
+    let block = and_parts (is_shaped_num c.0) (is_block named c.1) parts.0 in
+    by_test (same_num c.0 n) (lt_from c.1.0 named.blocks block.1) (case_there named n cases other parts.1 last)
   where
     by_test : (b : Bool) → c.1.0 < named.blocks → first_case n cases other < named.blocks → (if b then c.1.0 else first_case n cases other) < named.blocks
     by_test true h k = h
@@ -77,8 +77,8 @@ case_there named n (c ∷ cases) other all last =
 pub switch_safe : (named : Named) (sizes : List ℕ) (s : Surround) (stands : Stands named s) (fn : Function) (v : Value) (cases : List (Num × BlockName)) (other : BlockName) → is_shaped_term named (term.Switch v cases other) ≡ true
     → broken_in_parts (around sizes s) (term.Switch v cases other) ≡ [] → IsSafe (λ b. b < named.blocks) (switched s v cases other)
 switch_safe named sizes s stands fn v cases other shaped none =
-    let parts = and_true (is_shaped_value named v) (list_all (is_shaped_target named) cases && is_block named other) shaped in
-    let blocks = and_true (list_all (is_shaped_target named) cases) (is_block named other) parts.1 in
+    let parts = and_parts (is_shaped_value named v) (list_all (is_shaped_target named) cases && is_block named other) shaped in
+    let blocks = and_parts (list_all (is_shaped_target named) cases) (is_block named other) parts.1 in
     let typed = typed_switch named fn (around sizes s) stands.locals v cases other shaped none in
     let is = value_safe named sizes s stands v parts.0 typed.unbroken in
     let scalar : is_scalar_number is.ty ≡ true = subst (λ (t : Ty). is_scalar_number t ≡ true) (same_Some typed.ty is.ty (sym typed.is ∙ is.is)) (switch_scalar cases typed.ty typed.fits) in

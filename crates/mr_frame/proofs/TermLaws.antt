@@ -2,6 +2,7 @@
 use Rattle.std.proofs.Common.{◌≡◌, Bool, true, List, [], Some, refl, ap, ◌∙◌}
 use Rattle.std.specs.Prelude.{◌&&◌, ◌||◌}
 use Rattle.std.specs.List.{list_all}
+use Rattle.std.proofs.lemmas.Bool.{and_parts}
 use Rattle.mr_ast.specs.Shaped.{is_block, is_shaped_target, named_in}
 use Rattle.mr_ast.specs.ShapedValues.{is_shaped_value}
 use Rattle.mr_ast.specs.declared.types.Num.{Num}
@@ -10,7 +11,6 @@ use Rattle.mr_ast.specs.declared.expr.Value.{Value}
 use Rattle.mr_ast.specs.declared.program.BlockName.{BlockName}
 use Rattle.mr_ast.specs.declared.program.Function.{Function}
 use Rattle.mr_ast.specs.declared.program.Term.TheVariants as term
-use Rattle.mr_layout.proofs.PartsOk.{and_true}
 use Rattle.mr_wf.specs.Broken.{broken_in_value, surroundings}
 use Rattle.mr_wf.specs.Operands.{is_fn_ptr, is_raw, is_scalar_number}
 use Rattle.mr_wf.specs.Types.{type_of_value}
@@ -35,7 +35,7 @@ module _ (e : Env) where
   pub switch_value : (v : Value) (cases : List (Num × BlockName)) (other : BlockName) → TermIn e (term.Switch v cases other) → ValueAt e v is_scalar_number
   switch_value v cases other h =
       let named = named_in e.program.now h.function in
-      let parts = and_true (is_shaped_value named v) (list_all (is_shaped_target named) cases && is_block named other) h.shaped in
+      let parts = and_parts (is_shaped_value named v) (list_all (is_shaped_target named) cases && is_block named other) h.shaped in
       let typed = typed_switch named h.function (surroundings e.program.now h.function) refl v cases other h.shaped h.unbroken in
       value_at h.function h.inside v typed.ty is_scalar_number parts.0 typed.unbroken typed.is (switch_scalar cases typed.ty typed.fits)
 
@@ -45,6 +45,6 @@ module _ (e : Env) where
   pub unwind_value : (v : Value) (b : BlockName) → TermIn e (term.Unwind v b) → ValueAt e v is_address
   unwind_value v b h =
       let named = named_in e.program.now h.function in
-      let parts = and_true (is_shaped_value named v) (is_block named b) h.shaped in
+      let parts = and_parts (is_shaped_value named v) (is_block named b) h.shaped in
       let typed = typed_unwind named h.function (surroundings e.program.now h.function) refl v b h.shaped h.unbroken in
       value_at h.function h.inside v typed.ty is_address parts.0 typed.unbroken typed.is (raw_address typed.ty typed.fits)

@@ -21,7 +21,6 @@ use Rattle.mr_layout.specs.Sizes.{align_of, size_of}
 use Rattle.mr_sched.specs.declared.schedule.Ask.{Ask}
 use Rattle.mr_sched.specs.declared.schedule.Ask.TheVariants.{Address}
 use Rattle.mr_value.specs.declared.val.Val.{Val}
-use Rattle.mr_value.specs.Numbers.{is_same_id}
 use Rattle.mr_wf.specs.SameTypes.{same_type}
 use Rattle.mr_wf.specs.Types.{type_of_place, type_of_value}
 use Rattle.mr_wf.specs.Walk.{begins_regular}
@@ -35,13 +34,14 @@ use Rattle.mr_plan.specs.Machine.{Plan, CreatesNothing}
 use Rattle.mr_frame.specs.Changes.{Change, free_storage, store}
 use Rattle.mr_frame.specs.Frames.{Frame, Look, Stack, Onward, GoesOn, EndsThread, at_block, scene_in, with_top}
 use Rattle.mr_frame.specs.Sites.{Site, kept_locals}
+use Rattle.mr_base.specs.Identities.{same_id}
 
 -- ---- which function is called
 
 -- both have the same allocation, or neither has one
 abbrev pub same_provenance : Option AllocId → Option AllocId → Bool
 same_provenance None None = true
-same_provenance (Some a) (Some b) = is_same_id a b
+same_provenance (Some a) (Some b) = same_id a b
 same_provenance _ _ = false
 
 -- they have the same address and provenance

@@ -33,8 +33,8 @@ abbrev pub PlaceFits : Option Pointer → Option Ty → Type 0
 PlaceFits None result = result ≡ None
 PlaceFits (Some p) result = (t : Ty) × (result ≡ Some t)
 
--- What an intrinsic is given fits it: values of the shapes of their types, a place where there is a result, and types that the
--- intrinsic takes.
+-- What an intrinsic is given fits it: values of the shapes of their types, a place where there is a result, and types
+-- that the intrinsic takes.
 pub record OperandsFit (op : Intrinsic) (o : Operands) : Type 0 where
   pub shapes : HaveShapes o.arg_types o.args
   pub place : PlaceFits o.result o.result_type

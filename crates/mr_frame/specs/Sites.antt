@@ -1,8 +1,10 @@
 -- Where a thread stands, and what it does next.
-use Rattle.std.specs.Prelude.{Bool, true, false, ◌==◌, ◌&&◌, List, [], ◌∷◌, ◌++◌, flat_map, length, Option, None, Some, slice_get, is_some}
+use Rattle.std.specs.Prelude.{Bool, true, false, ◌==◌, ◌&&◌, List, [], ◌∷◌, ◌++◌, flat_map, length, Option, None, Some}
+use Rattle.std.specs.Prelude.{slice_get, is_some}
 use Rattle.std.specs.Prelude.{if◌then◌else◌}
 use Rattle.std.specs.Option.{option_and_then}
 use Rattle.std.specs.List.{list_all}
+use Rattle.mr_ast.specs.declared.rule.Rule.TheVariants as form
 use Rattle.mr_ast.specs.declared.expr.Place.{Place}
 use Rattle.mr_ast.specs.declared.expr.Value.{Value}
 use Rattle.mr_ast.specs.declared.program.Block.{Block}
@@ -17,7 +19,7 @@ use Rattle.mr_ast.specs.declared.program.Term.{Term}
 use Rattle.mr_ast.specs.declared.program.Term.TheVariants as term
 use Rattle.mr_base.specs.declared.byte.Pointer.{Pointer}
 use Rattle.mr_wf.specs.Blocks.{broken_in_stmt, broken_in_term, is_allowed}
-use Rattle.mr_wf.specs.Broken.{Codes, of_type, rule, surroundings}
+use Rattle.mr_wf.specs.Broken.{Rules, of_type, rule, surroundings}
 use Rattle.mr_wf.specs.Walk.{are_arguments, begins_regular}
 use Rattle.mr_frame.specs.Frames.{Frame, Look, Stack}
 
@@ -48,19 +50,19 @@ abbrev pub keeps_storage : Function → Frame → Bool
 keeps_storage fn f = list_all (has_storage f.locals) (kept_locals fn)
 
 -- no rule is broken
-abbrev pub none_broken : Codes → Bool
+abbrev pub none_broken : Rules → Bool
 none_broken [] = true
-none_broken (code ∷ codes) = false
+none_broken (broken ∷ rules) = false
 
 -- the rules that a function breaks beside those of its blocks: of its locals' types, its arguments and its first block
-abbrev pub broken_in_head : Function → Codes
+abbrev pub broken_in_head : Function → Rules
 broken_in_head fn =
     flat_map (λ (l : Local). of_type l.ty) fn.locals
-    ++ rule 30 (are_arguments fn.ret fn.args)
-    ++ rule 31 (begins_regular fn.blocks)
+    ++ rule form.Arguments (are_arguments fn.ret fn.args)
+    ++ rule form.FirstBlock (begins_regular fn.blocks)
 
 -- those of what stands at a position of a block: a statement, or behind the last one the terminator
-abbrev pub broken_at : Program → Function → Block → Option Stmt → Codes
+abbrev pub broken_at : Program → Function → Block → Option Stmt → Rules
 broken_at p fn b (Some x) = broken_in_stmt fn (surroundings p fn) x
 broken_at p fn b None = broken_in_term fn (surroundings p fn) b.kind b.term
 

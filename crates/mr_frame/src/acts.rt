@@ -40,7 +40,8 @@ fn push_ask(c: &Cache, t: &Ty, out: &mut Vec<Ask>) -> Result<(), AllocError>
 // An address for the return local, and for each argument.
 fn push_asks(c: &Cache, function: &Function, out: &mut Vec<Ask>) -> Result<(), AllocError>
     requires { HasTypes function.now }
-    ensures { (types : List TypeOf) → kept_types function.now ≡ Some types → OnOk result (out.new.items ≡ out.old.items ++ storage_asks types) }
+    ensures { (types : List TypeOf) → kept_types function.now ≡ Some types
+        → OnOk result (out.new.items ≡ out.old.items ++ storage_asks types) }
 {
     let names = function.args.as_slice();
     push_ask(c, &local_at(function, function.ret).ty, out)?;
@@ -74,7 +75,8 @@ impl Stack {
     // What a local of the top frame has.
     fn slot(&self, look: &Look<'_>, x: LocalName) -> Slot
         requires { Holds look.now self.now x }
-        ensures { (fn : FunctionOf) → slice_get look.now.program.now.functions self.now.top.function ≡ Some fn → IsSlot fn (frame_of self.now.top) x result }
+        ensures { (fn : FunctionOf) → slice_get look.now.program.now.functions self.now.top.function ≡ Some fn
+            → IsSlot fn (frame_of self.now.top) x result }
     {
         let t = &local_at(look.function(self.top.function), x).ty;
         Slot {
@@ -94,7 +96,8 @@ impl Stack {
     ) -> Result<Flow, Fault>
         requires due { IsDue look.now self.old (AtStatement (stmt.Live x)) }
         requires lawful { AreLawful (look_of look.now) (stack_of self.old) picks.now s.old }
-        ensures { TellsBy (λ flow. onward_of flow (stack_of self.new)) result (acted (look_of look.now) s.old.thread (stack_of self.old) picks.now (world_of s.old)) (world_of s.new) }
+        ensures { TellsBy (λ flow. onward_of flow (stack_of self.new)) result
+            (acted (look_of look.now) s.old.thread (stack_of self.old) picks.now (world_of s.old)) (world_of s.new) }
     {
         let slot = self.slot(look, x);
         match renew(s, slot, picks[0]) {
@@ -110,7 +113,8 @@ impl Stack {
     // `dead`: the storage of a local goes, where it has some.
     fn dead(&mut self, look: &Look<'_>, s: &mut Scene, x: LocalName) -> Result<Flow, Fault>
         requires { IsDue look.now self.old (AtStatement (stmt.Dead x)) }
-        ensures { (picks : List ℕ) → TellsBy (λ flow. onward_of flow (stack_of self.new)) result (acted (look_of look.now) s.old.thread (stack_of self.old) picks (world_of s.old)) (world_of s.new) }
+        ensures { (picks : List ℕ) → TellsBy (λ flow. onward_of flow (stack_of self.new)) result
+            (acted (look_of look.now) s.old.thread (stack_of self.old) picks (world_of s.old)) (world_of s.new) }
     {
         let slot = self.slot(look, x);
         match release(s, slot.storage, slot.size, slot.align) {
@@ -133,7 +137,8 @@ impl Stack {
     ) -> Result<Flow, Fault>
         requires due { IsDue look.now self.old (AtStatement stmt.now) }
         requires kind { IsChange stmt.now }
-        ensures { (picks : List ℕ) → TellsBy (λ flow. onward_of flow (stack_of self.new)) result (acted (look_of look.now) s.old.thread (stack_of self.old) picks (world_of s.old)) (world_of s.new) }
+        ensures { (picks : List ℕ) → TellsBy (λ flow. onward_of flow (stack_of self.new)) result
+            (acted (look_of look.now) s.old.thread (stack_of self.old) picks (world_of s.old)) (world_of s.new) }
     {
         let env = look.env(&self.top);
         match change(alloc, &env, &mut s.memory, &mut s.notes, stmt) {
@@ -156,7 +161,8 @@ impl Stack {
         other: BlockName,
     ) -> Result<Flow, Fault>
         requires { IsDue look.now self.old (AtTerminator (term.Switch on.now cases.now other)) }
-        ensures { (picks : List ℕ) → TellsBy (λ flow. onward_of flow (stack_of self.new)) result (acted (look_of look.now) s.old.thread (stack_of self.old) picks (world_of s.old)) (world_of s.new) }
+        ensures { (picks : List ℕ) → TellsBy (λ flow. onward_of flow (stack_of self.new)) result
+            (acted (look_of look.now) s.old.thread (stack_of self.old) picks (world_of s.old)) (world_of s.new) }
     {
         let env = look.env(&self.top);
         match switch(alloc, &env, &s.memory, &mut s.notes, on, cases, other) {
@@ -181,7 +187,8 @@ impl Stack {
     ) -> Result<Flow, Fault>
         requires due { IsDueCall look.now self.old callee.now args.now place.now }
         requires lawful { AreLawful (look_of look.now) (stack_of self.old) picks.now s.old }
-        ensures { TellsBy (λ flow. onward_of flow (stack_of self.new)) result (acted (look_of look.now) s.old.thread (stack_of self.old) picks.now (world_of s.old)) (world_of s.new) }
+        ensures { TellsBy (λ flow. onward_of flow (stack_of self.new)) result
+            (acted (look_of look.now) s.old.thread (stack_of self.old) picks.now (world_of s.old)) (world_of s.new) }
     {
         match self.prepared(alloc, look, &s.memory, &mut s.notes, callee, args, place) {
             Err(fault) => Err(fault),
@@ -201,7 +208,9 @@ impl Stack {
         place: &'p Place,
     ) -> Result<Prepared, Fault>
         requires { IsDueCall look.now self.now callee.now args.now place.now }
-        ensures { (fn : FunctionOf) → slice_get look.now.program.now.functions self.now.top.function ≡ Some fn → Prepares look.now.program.now result (prepared m.now (look_of look.now) (scene_in (look_of look.now) fn (frame_of self.now.top)) callee.now args.now place.now (seen notes.old)) (seen notes.new) }
+        ensures { (fn : FunctionOf) → slice_get look.now.program.now.functions self.now.top.function ≡ Some fn
+            → Prepares look.now.program.now result (prepared m.now (look_of look.now) (scene_in (look_of look.now) fn
+            (frame_of self.now.top)) callee.now args.now place.now (seen notes.old)) (seen notes.new) }
     {
         let env = look.env(&self.top);
         prepare(alloc, &env, m, notes, callee, args, place)
@@ -217,7 +226,14 @@ impl Stack {
         picks: &[u64],
     ) -> Result<Flow, Fault>
         requires { CanBegin look.now prepared.now.function.0 prepared.now.args.items picks.now (world_of s.old) }
-        ensures { TellsBy (λ flow. onward_of flow (stack_of self.new)) result (on (entered prepared.now.function.0 (slice_get look.now.program.now.functions prepared.now.function.0) prepared.now.args.items picks.now (world_of s.old)) (λ f w. Went (GoesOn (record (stack_of self.old) { frames = f ∷ record (frame_of self.old.top) { call = Some prepared.now.place } ∷ below_of self.old })) w)) (world_of s.new) }
+        ensures { TellsBy (λ flow. onward_of flow (stack_of self.new)) result
+            (on (entered prepared.now.function.0
+            (slice_get look.now.program.now.functions prepared.now.function.0) prepared.now.args.items picks.now
+            (world_of s.old)) (λ f w. Went (GoesOn
+            (record (stack_of self.old) {
+              frames = f ∷ record
+                  (frame_of self.old.top) { call = Some prepared.now.place } ∷ below_of self.old;
+            })) w)) (world_of s.new) }
     {
         let args = prepared.args.as_slice();
         match begin(alloc, look, s, prepared.function, args, picks) {
@@ -242,7 +258,8 @@ impl Stack {
         requires due { IsDue look.now self.old (due_term t.now) }
         requires other { NoDo t.now }
         requires lawful { AreLawful (look_of look.now) (stack_of self.old) picks.now s.old }
-        ensures { TellsBy (λ flow. onward_of flow (stack_of self.new)) result (acted (look_of look.now) s.old.thread (stack_of self.old) picks.now (world_of s.old)) (world_of s.new) }
+        ensures { TellsBy (λ flow. onward_of flow (stack_of self.new)) result
+            (acted (look_of look.now) s.old.thread (stack_of self.old) picks.now (world_of s.old)) (world_of s.new) }
     {
         match t {
             Term::Goto(b) => {
@@ -285,7 +302,8 @@ impl Stack {
         requires fits { FitsStack look.now.program.now (stack_of self.old) }
         requires other { next_do (look_of look.now) (stack_of self.old) ≡ None }
         requires lawful { AreLawful (look_of look.now) (stack_of self.old) picks.now s.old }
-        ensures { TellsBy (λ flow. onward_of flow (stack_of self.new)) result (acted (look_of look.now) s.old.thread (stack_of self.old) picks.now (world_of s.old)) (world_of s.new) }
+        ensures { TellsBy (λ flow. onward_of flow (stack_of self.new)) result
+            (acted (look_of look.now) s.old.thread (stack_of self.old) picks.now (world_of s.old)) (world_of s.new) }
     {
         match self.due(look) {
             Next::Statement(Stmt::Live(x)) => self.live(look, s, *x, picks),
@@ -306,7 +324,8 @@ impl Stack {
         requires ready { IsReady look.now }
         requires fits { FitsStack look.now.program.now (stack_of self.now) }
         requires other { next_do (look_of look.now) (stack_of self.now) ≡ None }
-        ensures ok { (thread : ℕ) → OnOk result (out.new.items ≡ out.old.items ++ asked m.now (look_of look.now) thread (stack_of self.now) nothing_seen) }
+        ensures ok { (thread : ℕ) → OnOk result
+            (out.new.items ≡ out.old.items ++ asked m.now (look_of look.now) thread (stack_of self.now) nothing_seen) }
         ensures err { OnErr result (out.new.items ≡ out.old.items) }
     {
         match self.due(look) {
@@ -323,7 +342,8 @@ impl Stack {
         out: &mut Vec<Ask>,
     ) -> Result<(), AllocError>
         requires { IsDue look.now self.now (AtStatement stmt.now) }
-        ensures ok { (m : MemoryOf) → (thread : ℕ) → OnOk result (out.new.items ≡ out.old.items ++ asked m (look_of look.now) thread (stack_of self.now) nothing_seen) }
+        ensures ok { (m : MemoryOf) → (thread : ℕ) → OnOk result
+            (out.new.items ≡ out.old.items ++ asked m (look_of look.now) thread (stack_of self.now) nothing_seen) }
         ensures err { OnErr result (out.new.items ≡ out.old.items) }
     {
         match stmt {
@@ -346,7 +366,8 @@ impl Stack {
     ) -> Result<(), AllocError>
         requires due { IsDue look.now self.now (due_term t.now) }
         requires other { NoDo t.now }
-        ensures ok { (thread : ℕ) → OnOk result (out.new.items ≡ out.old.items ++ asked m.now (look_of look.now) thread (stack_of self.now) nothing_seen) }
+        ensures ok { (thread : ℕ) → OnOk result
+            (out.new.items ≡ out.old.items ++ asked m.now (look_of look.now) thread (stack_of self.now) nothing_seen) }
         ensures err { OnErr result (out.new.items ≡ out.old.items) }
     {
         match t {
@@ -370,7 +391,8 @@ impl Stack {
         out: &mut Vec<Ask>,
     ) -> Result<(), AllocError>
         requires { IsDueCall look.now self.now callee.now args.now place.now }
-        ensures ok { (thread : ℕ) → OnOk result (out.new.items ≡ out.old.items ++ asked m.now (look_of look.now) thread (stack_of self.now) nothing_seen) }
+        ensures ok { (thread : ℕ) → OnOk result
+            (out.new.items ≡ out.old.items ++ asked m.now (look_of look.now) thread (stack_of self.now) nothing_seen) }
         ensures err { OnErr result (out.new.items ≡ out.old.items) }
     {
         let mut notes = Notes::new(alloc);

@@ -67,8 +67,10 @@ fn allocate_each(
 ) -> Result<(), AllocError>
     requires function { HasTypes function.now }
     requires none { out.old.items ≡ [] }
-    requires allocates { (types : List TypeOf) → kept_types function.now ≡ Some types → CanAllocate types picks.now (world_of s.old) }
-    ensures { (types : List TypeOf) → kept_types function.now ≡ Some types → OnOk result (allocated_each types picks.now (world_of s.old) ≡ Went out.new.items (world_of s.new)) }
+    requires allocates { (types : List TypeOf) → kept_types function.now ≡ Some types
+        → CanAllocate types picks.now (world_of s.old) }
+    ensures { (types : List TypeOf) → kept_types function.now ≡ Some types
+        → OnOk result (allocated_each types picks.now (world_of s.old) ≡ Went out.new.items (world_of s.new)) }
 {
     let names = function.args.as_slice();
     allocate_local(c, s, &local_at(function, function.ret).ty, picks[0], out)?;
@@ -88,9 +90,11 @@ fn store_each(
     args: &[Val],
 ) -> Result<(), Fault>
     requires function { HasTypes function.now }
-    requires shapes { (types : List TypeOf) → written_types function.now function.now.args ≡ Some types → HaveShapes types args.now }
+    requires shapes { (types : List TypeOf) → written_types function.now function.now.args ≡ Some types
+        → HaveShapes types args.now }
     requires pointers { length pointers.now ≡ length function.now.args + 1 }
-    ensures { (types : List TypeOf) → written_types function.now function.now.args ≡ Some types → Tells result (stored_each types (drop 1 pointers.now) args.now (world_of s.old)) (world_of s.new) }
+    ensures { (types : List TypeOf) → written_types function.now function.now.args ≡ Some types
+        → Tells result (stored_each types (drop 1 pointers.now) args.now (world_of s.old)) (world_of s.new) }
 {
     let names = function.args.as_slice();
     for (k, v) in args.iter().enumerate() {
@@ -111,7 +115,8 @@ fn first_locals(
 ) -> Result<Vec<Option<Pointer>>, AllocError>
     requires locals { HasLocals function.now }
     requires pointers { length pointers.now ≡ length function.now.args + 1 }
-    ensures { IfOk result (λ locals. locals.items ≡ with_each (replicate (length function.now.locals) None) (kept_locals function.now) pointers.now) }
+    ensures { IfOk result (λ locals. locals.items
+        ≡ with_each (replicate (length function.now.locals) None) (kept_locals function.now) pointers.now) }
 {
     let names = function.args.as_slice();
     let mut locals = vec![in alloc; None; function.locals.len()]?;
@@ -132,7 +137,8 @@ pub fn begin(
     picks: &[u64],
 ) -> Result<Frame, Fault>
     requires { CanBegin look.now f.0 args.now picks.now (world_of s.old) }
-    ensures { TellsBy frame_of result (entered f.0 (slice_get look.now.program.now.functions f.0) args.now picks.now (world_of s.old)) (world_of s.new) }
+    ensures { TellsBy frame_of result (entered f.0 (slice_get look.now.program.now.functions f.0) args.now picks.now
+        (world_of s.old)) (world_of s.new) }
 {
     let function = look.function(f.0);
     let mut pointers = Vec::new(alloc);

@@ -58,7 +58,8 @@ pub fn prepare<'a>(
     to: &'a Place,
 ) -> Result<Prepared, Fault>
     requires { CallIn e.now written.now args.now to.now }
-    ensures given { Prepares e.now.program.now result (prepared m.now (look_in e.now) (env_surround e.now) written.now args.now to.now (seen n.old)) (seen n.new) }
+    ensures given { Prepares e.now.program.now result
+        (prepared m.now (look_in e.now) (env_surround e.now) written.now args.now to.now (seen n.old)) (seen n.new) }
     ensures kept { Extends (seen n.old) (seen n.new) }
 {
     let at = place(alloc, e, m, n, to)?;
@@ -78,7 +79,8 @@ fn called<'a>(
 ) -> Result<Prepared, Fault>
     requires inside { (f : Function) × InProgram f e.now }
     requires call { GivenIn e.now args.now to.now }
-    ensures { (s : Seen) → Prepares e.now.program.now result (called (look_in e.now) (given_types (env_surround e.now) to.now args.now) place row.items (callee_of e.now.functions.now function) s) s }
+    ensures { (s : Seen) → Prepares e.now.program.now result (called (look_in e.now) (given_types
+        (env_surround e.now) to.now args.now) place row.items (callee_of e.now.functions.now function) s) s }
 {
     let Some(function) = callee(e.functions, function) else {
         return Err(Fault::Undefined(Reason::NotAFunction));

@@ -172,7 +172,8 @@ fn write_tag(
     tag: &Tag,
 ) -> Result<(), Fault>
     requires { is_fitting tag.now.int tag.now.number ≡ true }
-    ensures { Leaves result (storing m.old false (behind p tag.now.at) (tag_bytes tag.now) 1 (seen n.old)) m.new (seen n.new) }
+    ensures { Leaves result (storing m.old false (behind p tag.now.at) (tag_bytes tag.now) 1 (seen n.old)) m.new
+        (seen n.new) }
 {
     let mut bytes = Vec::new(alloc);
     encode_tag(alloc, tag, &mut bytes)?;

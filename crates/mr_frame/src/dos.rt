@@ -79,7 +79,8 @@ fn result_place(
     at: Option<&Place>,
 ) -> Result<Option<Pointer>, Fault>
     requires { ResultIn e.now (option_copied at) }
-    ensures given { Tells result (result_placed m.now (env_surround e.now) (option_copied at.entry) (seen n.old)) (seen n.new) }
+    ensures given { Tells result (result_placed m.now (env_surround e.now) (option_copied at.entry) (seen n.old))
+        (seen n.new) }
     ensures kept { Extends (seen n.old) (seen n.new) }
 {
     match at {
@@ -100,7 +101,8 @@ fn operands<'a>(
 ) -> Result<DoCall, Fault>
     requires args { All (PlainIn e.now) args.now }
     requires place { ResultIn e.now (option_copied place) }
-    ensures given { TellsBy operands_of result (given_operands m.now (env_surround e.now) args.now (option_copied place.entry) (seen n.old)) (seen n.new) }
+    ensures given { TellsBy operands_of result
+        (given_operands m.now (env_surround e.now) args.now (option_copied place.entry) (seen n.old)) (seen n.new) }
     ensures kept { Extends (seen n.old) (seen n.new) }
 {
     let at = result_place(alloc, e, m, n, place)?;
@@ -119,7 +121,8 @@ fn typed<'a>(
 ) -> Result<DoCall, Fault>
     requires args { All (PlainIn e.now) args.now }
     requires place { ResultIn e.now (option_copied place) }
-    ensures { (s : Seen) → TellsBy operands_of result (with_types at row.items (result_typed (env_surround e.now) (option_copied place.entry)) (arg_types (env_surround e.now) args.now) s) s }
+    ensures { (s : Seen) → TellsBy operands_of result (with_types at row.items
+        (result_typed (env_surround e.now) (option_copied place.entry)) (arg_types (env_surround e.now) args.now) s) s }
 {
     match types(alloc, e, args) {
         Ok(arg_types) => Ok(DoCall {
@@ -141,7 +144,8 @@ fn store_result(
     value: Option<&Val>,
 ) -> Result<(), Fault>
     requires { FitsResult call.now.result call.now.result_type (option_copied value) }
-    ensures { Tells result (result_stored call.now.result call.now.result_type (option_copied value.entry) (world_of s.old)) (world_of s.new) }
+    ensures { Tells result (result_stored call.now.result call.now.result_type
+        (option_copied value.entry) (world_of s.old)) (world_of s.new) }
 {
     match (call.result, &call.result_type, value) {
         (Some(p), Some(t), Some(v)) => store(alloc, e, s, p, t, v),
@@ -177,7 +181,8 @@ impl Stack {
     /// The intrinsic that is due, if one is.
     pub fn intrinsic(&self, program: &Checked) -> Option<Intrinsic>
         requires { FitsStack program.now (stack_of self.now) }
-        ensures { (functions globals : List PointerOf) → result ≡ option_map (λ d. d.op) (next_do (record { program = program.now; functions = functions; globals = globals }) (stack_of self.now)) }
+        ensures { (functions globals : List PointerOf) → result ≡ option_map (λ d. d.op)
+            (next_do (record { program = program.now; functions = functions; globals = globals }) (stack_of self.now)) }
     {
         let function = function_at(program.program(), self.top.function);
         match next_of(function, &self.top) {
@@ -192,7 +197,8 @@ impl Stack {
         requires fits { FitsStack look.now.program.now (stack_of self.now) }
         requires due { (d : DueDo) × (next_do (look_of look.now) (stack_of self.now) ≡ Some d) }
         ensures due { IsDue look.now self.now (due_term result.now) }
-        ensures is { (d : DueDo) → next_do (look_of look.now) (stack_of self.now) ≡ Some d → result.now ≡ term.Do d.op d.args d.place d.next }
+        ensures is { (d : DueDo) → next_do (look_of look.now) (stack_of self.now) ≡ Some d
+            → result.now ≡ term.Do d.op d.args d.place d.next }
     {
         match self.due(look) {
             Next::Statement(_) => unreachable!(),
@@ -213,7 +219,8 @@ impl Stack {
         requires ready { IsReady look.now }
         requires fits { FitsStack look.now.program.now (stack_of self.now) }
         requires due { (d : DueDo) × (next_do (look_of look.now) (stack_of self.now) ≡ Some d) }
-        ensures given { (d : DueDo) → next_do (look_of look.now) (stack_of self.now) ≡ Some d → TellsBy operands_of result (argued m.now (look_of look.now) d (seen notes.old)) (seen notes.new) }
+        ensures given { (d : DueDo) → next_do (look_of look.now) (stack_of self.now) ≡ Some d
+            → TellsBy operands_of result (argued m.now (look_of look.now) d (seen notes.old)) (seen notes.new) }
         ensures kept { Extends (seen notes.old) (seen notes.new) }
     {
         let Term::Do(_, args, place, _) = self.due_do(look) else {
@@ -238,7 +245,9 @@ impl Stack {
         requires fits { FitsStack look.now.program.now (stack_of self.old) }
         requires due { (d : DueDo) × (next_do (look_of look.now) (stack_of self.old) ≡ Some d) }
         requires result { FitsResult call.now.result call.now.result_type (option_copied value) }
-        ensures { (d : DueDo) → next_do (look_of look.now) (stack_of self.old) ≡ Some d → TellsBy (λ u. stack_of self.new) result (finished (stack_of self.old) d (operands_of call.now) (option_copied value.entry) (world_of s.old)) (world_of s.new) }
+        ensures { (d : DueDo) → next_do (look_of look.now) (stack_of self.old) ≡ Some d
+            → TellsBy (λ u. stack_of self.new) result (finished (stack_of self.old) d
+            (operands_of call.now) (option_copied value.entry) (world_of s.old)) (world_of s.new) }
     {
         let Term::Do(_, _, _, next) = self.due_do(look) else {
             unreachable!()

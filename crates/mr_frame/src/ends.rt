@@ -93,7 +93,8 @@ impl Stack {
     ) -> Result<Val, Fault>
         requires due { IsDue look.now self.now (AtTerminator term.Return) }
         requires function { slice_get look.now.program.now.functions self.now.top.function ≡ Some f.now }
-        ensures given { Tells result (returned s.old.memory f.now (frame_of self.now.top) (seen s.old.notes)) (seen s.new.notes) }
+        ensures given { Tells result (returned s.old.memory f.now (frame_of self.now.top) (seen s.old.notes))
+            (seen s.new.notes) }
         ensures shape { (t : TypeOf) → local_type f.now f.now.ret ≡ Some t → IfOk result (λ v. has_shape t v ≡ true) }
         ensures rest { s.new ≡ record s.old { notes = s.new.notes } }
     {
@@ -124,7 +125,8 @@ impl Stack {
         requires calling { AreCalling look.now.program.now (Some t.now) (below_of self.old) }
         requires ok { TypeOk t.now }
         requires shape { has_shape t.now v.now ≡ true }
-        ensures { TellsBy (λ flow. onward_of flow (stack_of self.new)) result (left_by (look_of look.now) (stack_of self.old) (Some t.now) v.now (below_of self.old) (world_of s.old)) (world_of s.new) }
+        ensures { TellsBy (λ flow. onward_of flow (stack_of self.new)) result (left_by (look_of look.now)
+            (stack_of self.old) (Some t.now) v.now (below_of self.old) (world_of s.old)) (world_of s.new) }
     {
         if !self.pop() {
             return Ok(Flow::Ended);
@@ -161,7 +163,8 @@ impl Stack {
         s: &mut Scene,
     ) -> Result<Flow, Fault>
         requires { IsDue look.now self.old (AtTerminator term.Return) }
-        ensures { (picks : List ℕ) → TellsBy (λ flow. onward_of flow (stack_of self.new)) result (acted (look_of look.now) s.old.thread (stack_of self.old) picks (world_of s.old)) (world_of s.new) }
+        ensures { (picks : List ℕ) → TellsBy (λ flow. onward_of flow (stack_of self.new)) result
+            (acted (look_of look.now) s.old.thread (stack_of self.old) picks (world_of s.old)) (world_of s.new) }
     {
         if self.is_main(s.thread) {
             return Err(Fault::Undefined(Reason::MainReturned));
@@ -185,7 +188,9 @@ impl Stack {
         requires due { IsDue look.now self.old (AtTerminator term.Return) }
         requires function { slice_get look.now.program.now.functions self.old.top.function ≡ Some f.now }
         requires shape { (t : TypeOf) → local_type f.now f.now.ret ≡ Some t → has_shape t v.now ≡ true }
-        ensures { TellsBy (λ flow. onward_of flow (stack_of self.new)) result (on (freed_each f.now.locals self.old.top.locals.items (world_of s.old)) (λ u w. left_by (look_of look.now) (stack_of self.old) (local_type f.now f.now.ret) v.now (below_of self.old) w)) (world_of s.new) }
+        ensures { TellsBy (λ flow. onward_of flow (stack_of self.new)) result
+            (on (freed_each f.now.locals self.old.top.locals.items (world_of s.old)) (λ u w. left_by (look_of look.now)
+            (stack_of self.old) (local_type f.now f.now.ret) v.now (below_of self.old) w)) (world_of s.new) }
     {
         match free_each(
             look.cache,
@@ -201,7 +206,8 @@ impl Stack {
     // `resume`: 122 in a bottom frame, 121 where the caller's call doesn't unwind.
     pub(crate) fn resume(&mut self, look: &Look<'_>, s: &mut Scene) -> Result<Flow, Fault>
         requires { IsDue look.now self.old (AtTerminator term.Resume) }
-        ensures { (picks : List ℕ) → TellsBy (λ flow. onward_of flow (stack_of self.new)) result (acted (look_of look.now) s.old.thread (stack_of self.old) picks (world_of s.old)) (world_of s.new) }
+        ensures { (picks : List ℕ) → TellsBy (λ flow. onward_of flow (stack_of self.new)) result
+            (acted (look_of look.now) s.old.thread (stack_of self.old) picks (world_of s.old)) (world_of s.new) }
     {
         let Some(caller) = self.below.last() else {
             return Err(Fault::Undefined(Reason::UnwoundThread));
@@ -235,7 +241,8 @@ impl Stack {
         block: BlockName,
     ) -> Result<Flow, Fault>
         requires { IsDue look.now self.old (AtTerminator (term.Unwind payload.now block)) }
-        ensures { (picks : List ℕ) → TellsBy (λ flow. onward_of flow (stack_of self.new)) result (acted (look_of look.now) s.old.thread (stack_of self.old) picks (world_of s.old)) (world_of s.new) }
+        ensures { (picks : List ℕ) → TellsBy (λ flow. onward_of flow (stack_of self.new)) result
+            (acted (look_of look.now) s.old.thread (stack_of self.old) picks (world_of s.old)) (world_of s.new) }
     {
         let env = look.env(&self.top);
         match pointer(alloc, &env, &s.memory, &mut s.notes, payload) {

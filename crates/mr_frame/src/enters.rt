@@ -26,7 +26,8 @@ impl Stack {
         picks: &[u64],
     ) -> Result<Stack, AllocError>
         requires { CanBegin look.now f.0 args.now picks.now (world_of s.old) }
-        ensures { IfOk result (λ stack. IsBottom (entered f.0 (slice_get look.now.program.now.functions f.0) args.now picks.now (world_of s.old)) (stack_of stack) (world_of s.new)) }
+        ensures { IfOk result (λ stack. IsBottom (entered f.0 (slice_get look.now.program.now.functions f.0)
+            args.now picks.now (world_of s.old)) (stack_of stack) (world_of s.new)) }
     {
         match begin(alloc, look, s, f, args, picks) {
             Ok(frame) => Ok(Stack::of(alloc, frame)),

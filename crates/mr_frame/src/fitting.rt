@@ -15,7 +15,8 @@ use mr_wf::Known;
 pub fn is_fitting<'a>(e: &Env<'a>, args: &'a [Value], to: &'a Place, function: &'a Function) -> bool
     requires call { GivenIn e.now args.now to.now }
     requires locals { HasLocals function.now }
-    ensures { (given kept : List TypeOf) → given_types (env_surround e.now) to.now args.now ≡ Some given → kept_types function.now ≡ Some kept → result ≡ same_types given kept }
+    ensures { (given kept : List TypeOf) → given_types (env_surround e.now) to.now args.now ≡ Some given
+        → kept_types function.now ≡ Some kept → result ≡ same_types given kept }
 {
     let place = Known::Written(type_at(e, to));
     let ret = Known::Written(&local_at(function, function.ret).ty);
@@ -31,7 +32,8 @@ fn are_fitting<'a>(
 ) -> bool
     requires args { ArgsIn e.now args.now }
     requires names { All (λ x. x.0 < length function.now.locals) names.now }
-    ensures { (given kept : List TypeOf) → arg_types (env_surround e.now) args.now ≡ Some given → written_types function.now names.now ≡ Some kept → result ≡ same_types given kept }
+    ensures { (given kept : List TypeOf) → arg_types (env_surround e.now) args.now ≡ Some given
+        → written_types function.now names.now ≡ Some kept → result ≡ same_types given kept }
 {
     for (k, arg) in args.iter().enumerate() {
         let Some(x) = names.get(k) else {

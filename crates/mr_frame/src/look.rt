@@ -36,7 +36,8 @@ impl<'a> Look<'a> {
     /// Where the expressions of a frame are evaluated.
     pub(crate) fn env<'e>(&'e self, frame: &'e Frame) -> Env<'e>
         requires { IsReady self.now }
-        ensures scene { (fn : Function) → slice_get self.now.program.now.functions frame.now.function ≡ Some fn → env_surround result ≡ scene_in (look_of self.now) fn (frame_of frame.now) }
+        ensures scene { (fn : Function) → slice_get self.now.program.now.functions frame.now.function ≡ Some fn
+            → env_surround result ≡ scene_in (look_of self.now) fn (frame_of frame.now) }
         ensures inside { (h : FitsFrame self.now.program.now (frame_of frame.now)) → InProgram h.function result }
         ensures program { result.program.now ≡ self.now.program.now }
         ensures look { look_in result ≡ look_of self.now }

@@ -53,7 +53,8 @@ impl Stack {
 
     // A frame above the others.
     pub(crate) fn push(&mut self, frame: Frame) -> Result<(), AllocError>
-        ensures { OnOk result (stack_of self.new ≡ record (stack_of self.old) { frames = frame_of frame ∷ (stack_of self.old).frames }) }
+        ensures { OnOk result
+            (stack_of self.new ≡ record (stack_of self.old) { frames = frame_of frame ∷ (stack_of self.old).frames }) }
     {
         let caller = replace(&mut self.top, frame);
         self.below.push(caller)?;
@@ -77,7 +78,8 @@ impl Stack {
 
     // A payload joins the others.
     pub(crate) fn push_payload(&mut self, payload: Pointer) -> Result<(), AllocError>
-        ensures { OnOk result (stack_of self.new ≡ record (stack_of self.old) { payloads = payload ∷ (stack_of self.old).payloads }) }
+        ensures { OnOk result
+            (stack_of self.new ≡ record (stack_of self.old) { payloads = payload ∷ (stack_of self.old).payloads }) }
     {
         self.payloads.push(payload)?;
         Ok(())
@@ -85,7 +87,10 @@ impl Stack {
 
     // The last payload goes, where there is one.
     pub(crate) fn drop_payload(&mut self)
-        ensures { stack_of self.new ≡ record (stack_of self.old) { payloads = behind_first (stack_of self.old).payloads } }
+        ensures { stack_of self.new ≡ record (stack_of self.old) {
+          payloads = behind_first
+              (stack_of self.old).payloads;
+        } }
     {
         self.payloads.pop();
     }

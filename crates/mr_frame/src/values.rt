@@ -25,7 +25,8 @@ pub fn values(
     args: &[Value],
 ) -> Result<Vec<Val>, Fault>
     requires { All (ValueIn e.now) args.now }
-    ensures given { TellsBy (λ vs. vs.items) result (each_valued m.now (env_surround e.now) args.now (seen n.old)) (seen n.new) }
+    ensures given { TellsBy (λ vs. vs.items) result (each_valued m.now (env_surround e.now) args.now (seen n.old))
+        (seen n.new) }
     ensures kept { Extends (seen n.old) (seen n.new) }
 {
     let mut row = Vec::new(alloc);

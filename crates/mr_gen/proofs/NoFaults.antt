@@ -2,6 +2,8 @@
 use Rattle.std.proofs.Common.{◌≡◌, ℕ, suc, Bool, true, List, [], ◌∷◌, ◌++◌, length, Option, None, Some, All, refl, ap}
 use Rattle.std.specs.List.{AllPass, flat_map}
 use Rattle.std.proofs.lemmas.List.Elements.{All-head, All-tail}
+use Rattle.mr_ast.specs.declared.rule.Rule.{Rule}
+use Rattle.mr_ast.specs.declared.rule.Rule.TheVariants as form
 use Rattle.mr_ast.specs.declared.program.Block.{Block}
 use Rattle.mr_ast.specs.declared.program.BlockName.{BlockName}
 use Rattle.mr_ast.specs.declared.program.Function.{Function}
@@ -10,15 +12,15 @@ use Rattle.mr_ast.specs.declared.program.Item_.{Item_}
 use Rattle.mr_ast.specs.declared.program.Local.{Local}
 use Rattle.mr_ast.specs.declared.program.Program.{Program}
 use Rattle.mr_ast.specs.declared.program.Stmt.{Stmt}
-use Rattle.mr_ast.specs.declared.types.Ty.{Ty}
 use Rattle.mr_layout.specs.TypeOk.{TypeOk}
 use Rattle.mr_wf.specs.declared.fault.FormFault.{FormFault}
 use Rattle.mr_wf.specs.declared.fault.Item.{Item}
 use Rattle.mr_wf.specs.declared.fault.Item.TheVariants.{Static, Function as InFunction}
 use Rattle.mr_wf.specs.Blocks.{broken_in_stmt}
 use Rattle.mr_wf.specs.Unbroken.{UnbrokenBlock, UnbrokenFunction, UnbrokenGlobal, UnbrokenProgram}
-use Rattle.mr_wf.specs.Broken.{Codes, of_type, rule, sizes_of, surroundings}
+use Rattle.mr_wf.specs.Broken.{Rules, rule, sizes_of, surroundings}
 use Rattle.mr_wf.specs.Walk.{at_position, each_at, faults_in_block, faults_in_function, faults_in_global, faults_in_local, faults_in_stmt, faults_of, is_target}
+use Rattle.mr_wf.proofs.NothingLaws.{type_nothing}
 
 -- ---- lists of nothing
 
@@ -27,14 +29,10 @@ pub both_nothing : {A : Type 0} {a b : List A} → a ≡ [] → b ≡ [] → a +
 both_nothing x y = (λ i. x i ++ y i)
 
 -- a rule that is kept
-pub rule_nothing : (code : ℕ) {kept : Bool} → kept ≡ true → rule code kept ≡ []
-rule_nothing code e = ap (rule code) e
+pub rule_nothing : (broken : Rule) {kept : Bool} → kept ≡ true → rule broken kept ≡ []
+rule_nothing broken e = ap (rule broken) e
 
--- a type that breaks no rule
-pub type_nothing : (t : Ty) → TypeOk t → of_type t ≡ []
-type_nothing t e = ap (λ (o : Option ℕ). elim o as (λ _. Codes) [ Some code ↦ code ∷ [] | None ↦ [] ]) e
-
-position_nothing : (it : Item) (block : Option BlockName) (place : ℕ) {codes : Codes} → codes ≡ [] → at_position it block place codes ≡ []
+position_nothing : (it : Item) (block : Option BlockName) (place : ℕ) {rules : Rules} → rules ≡ [] → at_position it block place rules ≡ []
 position_nothing it block place e = ap (at_position it block place) e
 
 each_nothing : {A : Type 0} (faults : ℕ → A → List FormFault) (P : A → Type 0) → ((k : ℕ) (x : A) → P x → faults k x ≡ [])
@@ -52,29 +50,29 @@ module _ (p : Program) (n : ℕ) (f : Function) where
       let block : Option BlockName = Some (record { 0 = k }) in
       both_nothing
       (each_nothing (faults_in_stmt n f at block) (λ (s : Stmt). broken_in_stmt f at s ≡ []) (λ place s h. position_nothing (InFunction n) block place h) 0 b.stmts whole.stmts)
-      (position_nothing (InFunction n) block (length b.stmts) (both_nothing whole.parts (rule_nothing 32 whole.allowed)))
+      (position_nothing (InFunction n) block (length b.stmts) (both_nothing whole.parts (rule_nothing form.BlockKind whole.allowed)))
 
   function_nothing : UnbrokenFunction p f → faults_in_function p n f ≡ []
   function_nothing whole =
       let locals = each_nothing (faults_in_local n) (λ (l : Local). TypeOk l.ty) (λ place l h. position_nothing (InFunction n) None place (type_nothing l.ty h)) 0 f.locals whole.locals in
-      let args = position_nothing (InFunction n) None 0 (rule_nothing 30 whole.args) in
-      let first = position_nothing (InFunction n) None 0 (rule_nothing 31 whole.first) in
+      let args = position_nothing (InFunction n) None 0 (rule_nothing form.Arguments whole.args) in
+      let first = position_nothing (InFunction n) None 0 (rule_nothing form.FirstBlock whole.first) in
       let blocks = each_nothing (faults_in_block n f (surroundings p f)) (UnbrokenBlock p f) block_nothing 0 f.blocks whole.blocks in
       both_nothing (both_nothing (both_nothing locals args) first) blocks
 
-items_nothing : (sizes : List ℕ) (items : List Item_) → AllPass (is_target sizes) items → flat_map (λ i. rule 43 (is_target sizes i)) items ≡ []
+items_nothing : (sizes : List ℕ) (items : List Item_) → AllPass (is_target sizes) items → flat_map (λ i. rule form.GlobalRef (is_target sizes i)) items ≡ []
 items_nothing sizes [] all = refl
 items_nothing sizes (i ∷ items) all =
     let P = λ (j : Item_). is_target sizes j ≡ true in
-    both_nothing (rule_nothing 43 (All-head P i items all)) (items_nothing sizes items (All-tail P i items all))
+    both_nothing (rule_nothing form.GlobalRef (All-head P i items all)) (items_nothing sizes items (All-tail P i items all))
 
 global_nothing : (p : Program) (n : ℕ) (g : Global_) → UnbrokenGlobal p g → faults_in_global p n g ≡ []
 global_nothing p n g whole =
-    position_nothing (Static n) None 0 (both_nothing (rule_nothing 44 whole.form) (items_nothing (sizes_of p.globals) g.items whole.targets))
+    position_nothing (Static n) None 0 (both_nothing (rule_nothing form.GlobalForm whole.form) (items_nothing (sizes_of p.globals) g.items whole.targets))
 
 pub program_nothing : (p : Program) → UnbrokenProgram p → faults_of p ≡ []
 unfolding faults_of
 program_nothing p whole =
     let globals = each_nothing (faults_in_global p) (UnbrokenGlobal p) (global_nothing p) 0 p.globals whole.globals in
     let functions = each_nothing (faults_in_function p) (UnbrokenFunction p) (function_nothing p) 0 p.functions whole.functions in
-    both_nothing (both_nothing globals functions) (position_nothing (InFunction p.start.0) None 0 (rule_nothing 45 whole.main))
+    both_nothing (both_nothing globals functions) (position_nothing (InFunction p.start.0) None 0 (rule_nothing form.MainForm whole.main))

@@ -1,6 +1,7 @@
 -- Places, values, statements and ends that break no rule, from parts that break none.
 use Rattle.std.proofs.Common.{◌≡◌, ℕ, ◌^◌, Bool, true, List, [], ◌∷◌, Option, None, Some, refl, ap, ◌∙◌, option_map}
 use Rattle.std.specs.Prelude.{◌&&◌, ◌||◌, is_some, nat_lt, slice_get}
+use Rattle.mr_ast.specs.declared.rule.Rule.TheVariants as form
 use Rattle.mr_ast.specs.declared.types.IntType.{IntType}
 use Rattle.mr_ast.specs.declared.types.IntType.TheVariants.{U32, U64}
 use Rattle.mr_ast.specs.declared.types.Num.{Num}
@@ -36,7 +37,8 @@ use Rattle.mr_wf.proofs.BrokenInLaws.{broken_in_binary, broken_in_deref, broken_
 use Rattle.mr_wf.proofs.SameTypeLaws.{same_type_itself}
 use Rattle.mr_wf.proofs.TypeLaws.{type_of_binary, type_of_deref, type_of_fn, type_of_global, type_of_int, type_of_load, type_of_local, type_of_raw}
 use Rattle.mr_gen.specs.Generated.{action, counter, creation, handle, increment, plain_num, u64_value, with_number}
-use Rattle.mr_gen.proofs.NoFaults.{both_nothing, rule_nothing, type_nothing}
+use Rattle.mr_gen.proofs.NoFaults.{both_nothing, rule_nothing}
+use Rattle.mr_wf.proofs.NothingLaws.{type_nothing}
 
 -- ---- types
 
@@ -98,15 +100,15 @@ module _ (at : Surroundings) where
   sound_counter inside =
       let g : GlobalName = record { 0 = 0 } in
       let v = value.Global g 0 in
-      let pointer : broken_in_value at v ≡ [] = broken_in_global at g 0 ∙ rule_nothing 43 inside in
+      let pointer : broken_in_value at v ≡ [] = broken_in_global at g 0 ∙ rule_nothing form.GlobalRef inside in
       let points : where_typed (type_of_value at.locals v) is_pointer ≡ true = ap (λ (o : Option Ty). where_typed o is_pointer) (type_of_global at.locals g 0) ∙ raw_points in
       record {
-        unbroken = broken_in_deref at v (ty.Int U64) ∙ both_nothing (both_nothing pointer (type_nothing (ty.Int U64) (broken_int U64))) (rule_nothing 33 points);
+        unbroken = broken_in_deref at v (ty.Int U64) ∙ both_nothing (both_nothing pointer (type_nothing (ty.Int U64) (broken_int U64))) (rule_nothing form.Place points);
         typed = type_of_deref at.locals v (ty.Int U64);
       }
 
   pub sound_int : (i : IntType) (n : ℕ) → is_fitting i (plain_num n) ≡ true → SoundValue (value.Int i (plain_num n)) (ty.Int i)
-  sound_int i n fits = record { unbroken = broken_in_int at i (plain_num n) ∙ rule_nothing 35 fits; typed = type_of_int at.locals i (plain_num n) }
+  sound_int i n fits = record { unbroken = broken_in_int at i (plain_num n) ∙ rule_nothing form.ConstRange fits; typed = type_of_int at.locals i (plain_num n) }
 
   pub sound_load : (p : Place) (t : Ty) → SoundPlace p t → SoundValue (value.Load p) t
   sound_load p t sound = record { unbroken = broken_in_load at p ∙ sound.unbroken; typed = type_of_load at.locals p ∙ sound.typed }
@@ -121,7 +123,7 @@ module _ (at : Surroundings) where
       let right = sound_int U64 n below in
       let kept = both_typed (fits_binary op) left.typed right.typed ∙ fits in
       record {
-        unbroken = broken_in_binary at op a b ∙ both_nothing (both_nothing left.unbroken right.unbroken) (rule_nothing 34 kept);
+        unbroken = broken_in_binary at op a b ∙ both_nothing (both_nothing left.unbroken right.unbroken) (rule_nothing form.Operand kept);
         typed = type_of_binary at.locals op a b ∙ ap (λ (o : Option Ty). chained o (result_type op)) left.typed ∙ gives;
       }
 
@@ -129,7 +131,7 @@ module _ (at : Surroundings) where
 
   pub unbroken_assign : (f : Function) (p : Place) (v : Value) (t : Ty) → SoundPlace p t → SoundValue v t → broken_in_stmt f at (stmt.Assign p v) ≡ []
   unbroken_assign f p v t to from =
-      both_nothing (both_nothing to.unbroken from.unbroken) (rule_nothing 36 (both_typed same_type to.typed from.typed ∙ same_type_itself t))
+      both_nothing (both_nothing to.unbroken from.unbroken) (rule_nothing form.Assign (both_typed same_type to.typed from.typed ∙ same_type_itself t))
 
   pub unbroken_increment : (f : Function) (p : Place) → SoundPlace p (ty.Int U64) → broken_in_stmt f at (increment p) ≡ []
   unbroken_increment f p sound = unbroken_assign f p (with_number Add p 1) (ty.Int U64) sound (sound_with_number Add p 1 (ty.Int U64) sound refl add_fits refl)
@@ -142,12 +144,12 @@ module _ (at : Surroundings) where
       let cases : List (Num × BlockName) = (plain_num 1, then_block) ∷ [] in
       let tested = sound_with_number Lt p n ty.Bool sound below lt_fits refl in
       let kept = ap (λ (o : Option Ty). where_typed o (fits_switch cases)) tested.typed ∙ ap (fits_switch_layer cases) ty.outs-Bool in
-      both_nothing tested.unbroken (rule_nothing 39 kept)
+      both_nothing tested.unbroken (rule_nothing form.Switch kept)
 
   pub unbroken_action : (op : Intrinsic) (v : Value) (t : Ty) (next : ℕ) → SoundValue v t → fits_intrinsic op (t ∷ []) None ≡ true → broken_in_parts at (action op v next) ≡ []
   unbroken_action op v t next sound fits =
       let kept = ap (λ (o : Option Ty). where_all_typed (o ∷ []) (λ types. where_result_typed at.locals None (fits_intrinsic op types))) sound.typed ∙ fits in
-      both_nothing (both_nothing {b = []} (both_nothing {b = []} sound.unbroken refl) refl) (rule_nothing 41 kept)
+      both_nothing (both_nothing {b = []} (both_nothing {b = []} sound.unbroken refl) refl) (rule_nothing form.Intrinsic kept)
 
   -- what is made goes to a place
   pub unbroken_spawn : (w : FnName) (next : ℕ) → SoundPlace handle (ty.Int U32) → broken_in_parts at (creation intrinsic.Spawn (value.Fn w ∷ value.Raw 0 ∷ []) next) ≡ []
@@ -156,9 +158,9 @@ module _ (at : Surroundings) where
       let arguments : where_all_typed (type_of_value at.locals (value.Fn w) ∷ type_of_value at.locals (value.Raw 0) ∷ []) spawned ≡ spawned (ty.FnPtr ∷ ty.Raw ∷ []) =
       (λ i. where_all_typed (type_of_fn at.locals w i ∷ type_of_raw at.locals 0 i ∷ []) spawned) in
       let kept = arguments ∙ ap (λ (o : Option Ty). where_typed o (λ t. fits_intrinsic intrinsic.Spawn (ty.FnPtr ∷ ty.Raw ∷ []) (Some t))) sound.typed ∙ spawn_fits in
-      both_nothing (both_nothing (both_nothing (broken_in_fn at w) (both_nothing {b = []} (broken_in_raw at 0) refl)) sound.unbroken) (rule_nothing 41 kept)
+      both_nothing (both_nothing (both_nothing (broken_in_fn at w) (both_nothing {b = []} (broken_in_raw at 0) refl)) sound.unbroken) (rule_nothing form.Intrinsic kept)
 
   pub unbroken_lock : (next : ℕ) → SoundPlace handle (ty.Int U32) → broken_in_parts at (creation intrinsic.CreateLock [] next) ≡ []
   unbroken_lock next sound =
       let kept = ap (λ (o : Option Ty). where_typed o (λ t. fits_intrinsic intrinsic.CreateLock [] (Some t))) sound.typed ∙ same_type_itself (ty.Int U32) in
-      both_nothing sound.unbroken (rule_nothing 41 kept)
+      both_nothing sound.unbroken (rule_nothing form.Intrinsic kept)

@@ -33,7 +33,8 @@ fn push_functions(
     number: u64,
     functions: &mut Items<Function>,
 ) -> Result<(), OutOfMemory>
-    ensures { OnOk result (functions.new ≡ functions.old ++ worker_function (rounds_of number) (is_resetting number) ∷ main_function (workers_of number) ∷ []) }
+    ensures { OnOk result (functions.new ≡ functions.old
+        ++ worker_function (rounds_of number) (is_resetting number) ∷ main_function (workers_of number) ∷ []) }
 {
     functions.push(worker_function(alloc, rounds(number), is_resetting(number))?)?;
     functions.push(main_function(alloc, workers(number))?)

@@ -81,10 +81,10 @@ breaks_program words s (inr (shape, w, b)) =
     ∙ ap (λ a. a >>= (λ body. Ok (program_of (definitions_in words shape) body))) (breaks_body (knowing (definitions_in words shape)) words s b)
 
 -- what parsing answers of the tokens, and of their program
-abbrev of_program : List ℕ → List Lexeme → Result Program Stop → Result Program TextFault
+abbrev pub of_program : List ℕ → List Lexeme → Result Program Stop → Result Program TextFault
 of_program text lexemes found = elim found as (λ _. Result Program TextFault) [ Ok p ↦ Ok p | Err s ↦ Err (fault_at text lexemes s) ]
 
-abbrev of_tokens : List ℕ → Result (List Lexeme) TextFault → Result Program TextFault
+abbrev pub of_tokens : List ℕ → Result (List Lexeme) TextFault → Result Program TextFault
 of_tokens text found = elim found as (λ _. Result Program TextFault) [ Ok lexemes ↦ of_program text lexemes (program_in (words_of lexemes)) | Err fault ↦ Err fault ]
 
 program_told : (text : List ℕ) (lexemes : List Lexeme) (found : Result Program Stop) (p : Program) → of_program text lexemes found ≡ Ok p → found ≡ Ok p

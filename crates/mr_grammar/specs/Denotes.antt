@@ -1,6 +1,7 @@
 -- What a text denotes.
 use Rattle.std.specs.Prelude.{◌≡◌, ℕ, List, map, None, Ok}
 use Rattle.std.specs.List.{AllByRecursion}
+use Rattle.mr_ast.specs.Limits.{max_open}
 use Rattle.mr_ast.specs.declared.program.Program.{Program}
 use Rattle.mr_ast.specs.Forms.{Word, Mark}
 use Rattle.mr_ast.specs.Scope.{Scope, Definitions, names_of}
@@ -19,9 +20,9 @@ words_in marks = map (λ m. m.word) marks
 abbrev pub IsFine : List Mark → Type 0
 IsFine marks = AllByRecursion (λ m. m.flaw ≡ None) marks
 
--- in a text, 32 brackets may be open
+-- in a text, `max_open` brackets may be open
 abbrev pub SpelledProgram : Scope → ProgramBody → List Mark → Type 0
-SpelledProgram scope body marks = (height : ℕ) × Spelled height 32 scope program_form body marks
+SpelledProgram scope body marks = (height : ℕ) × Spelled height max_open scope program_form body marks
 
 -- the words write the program, and none of them breaks a limit
 pub record Writes (scope : Scope) (words : List Word) (body : ProgramBody) : Type 0 where

@@ -1,5 +1,6 @@
 -- Parsing a text, computed: its tokens, its grammar, its names.
 use Rattle.std.specs.Prelude.{ℕ, List, [], ◌∷◌, Result, Ok, Err}
+use Rattle.mr_ast.specs.Limits.{max_open}
 use Rattle.mr_ast.specs.declared.program.Program.{Program}
 use Rattle.mr_ast.specs.Forms.{Word}
 use Rattle.mr_ast.specs.Scope.{Scope}
@@ -21,7 +22,7 @@ ended (body, w ∷ ws) = stop 4 (w ∷ ws)
 
 -- what all of the words write
 abbrev pub whole_of : Scope → List Word → Result ProgramBody Stop
-whole_of scope words = read 32 scope program_form words >>= ended
+whole_of scope words = read max_open scope program_form words >>= ended
 
 unfoldable pub body_of : Scope → List Word → Result ProgramBody Stop
 body_of scope words =

@@ -21,5 +21,6 @@ pub fn one_fault()
 
 /// A law, and no code: where a text denotes a program whose canonical text has at most 2^20 bytes, that text denotes the same program.
 pub fn reads_back()
-    ensures { (text : List ℕ) (p : Program) → Denotes text p → length (canonical_text p) ≤ 2 ^ 20 → Denotes (canonical_text p) p }
+    ensures { (text : List ℕ) (p : Program) → Denotes text p → length (canonical_text p) ≤ 2 ^ 20
+        → Denotes (canonical_text p) p }
 {}

@@ -1,6 +1,5 @@
 pub mod Division
 pub mod NumberLaws
 pub mod Residues
-pub mod RoundTrips
 pub mod Widths
 pub mod Within

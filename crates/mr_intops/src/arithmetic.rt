@@ -165,7 +165,8 @@ fn unsigned_fits(t: IntType, exact: Option<u128>) -> bool
 fn quotient(t: IntType, a: u128, b: u128) -> Result<u128, Reason>
     requires left { a < 2 ^ bits_of t }
     requires right { b < 2 ^ bits_of t }
-    ensures { result ≡ if_quotient_defined t (value_of t a) (value_of t b) (bits_for t (int_div (value_of t a) (value_of t b))) }
+    ensures { result
+        ≡ if_quotient_defined t (value_of t a) (value_of t b) (bits_for t (int_div (value_of t a) (value_of t b))) }
 {
     check_division(t, a, b)?;
     Ok(quotient_bits(t, a, b))
@@ -188,7 +189,8 @@ fn quotient_bits(t: IntType, a: u128, b: u128) -> u128
 fn remainder(t: IntType, a: u128, b: u128) -> Result<u128, Reason>
     requires left { a < 2 ^ bits_of t }
     requires right { b < 2 ^ bits_of t }
-    ensures { result ≡ if_quotient_defined t (value_of t a) (value_of t b) (bits_for t (int_rem (value_of t a) (value_of t b))) }
+    ensures { result
+        ≡ if_quotient_defined t (value_of t a) (value_of t b) (bits_for t (int_rem (value_of t a) (value_of t b))) }
 {
     check_division(t, a, b)?;
     Ok(remainder_bits(t, a, b))

@@ -5,8 +5,7 @@
 //! each: its answer is the one that `specs/` defines among the unbounded integers, cut to the width of
 //! the type, or the reason why the operation is undefined behaviour. No call takes memory.
 //!
-//! For the proofs of callers, `proofs/Within.antt` says that the answers are bits of the type, and
-//! `proofs/RoundTrips.antt` that bits and the numbers that they mean determine each other.
+//! For the proofs of callers, `proofs/Within.antt` says that the answers are bits of the type.
 #![tactic(auto)]
 
 mod arithmetic;

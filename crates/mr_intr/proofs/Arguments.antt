@@ -2,6 +2,7 @@
 use Rattle.std.proofs.Common.{◌≡◌, ℕ, ◌<◌, ◌*◌, ◌^◌, arith, refl, subst, sym, ap, ◌∙◌, List, [], ◌∷◌, Option, Some, None, Bool, true, false}
 use Rattle.std.proofs.lemmas.Option.{same_Some}
 use Rattle.std.specs.Prelude.{◌&&◌, is_some, nat_le, slice_get}
+use Rattle.std.proofs.lemmas.Bool.{and_parts}
 use Rattle.mr_ast.specs.Integers.{int_size}
 use Rattle.mr_ast.specs.declared.program.Intrinsic.{Intrinsic}
 use Rattle.mr_ast.specs.declared.program.Intrinsic.TheVariants as intrinsic
@@ -11,23 +12,23 @@ use Rattle.mr_ast.specs.declared.types.Ty.{Ty}
 use Rattle.mr_ast.specs.declared.types.Ty.TheVariants as ty
 use Rattle.mr_base.specs.declared.byte.Pointer.{Pointer}
 use Rattle.mr_base.proofs.Comparisons.{lt_from}
-use Rattle.mr_layout.proofs.PartsOk.{and_true}
 use Rattle.mr_layout.specs.Sizes.{size_of}
 use Rattle.mr_value.specs.declared.val.Val.{Val}
 use Rattle.mr_value.specs.declared.val.Val.TheVariants as val
 use Rattle.mr_value.specs.Shape.{has_shape}
-use Rattle.mr_value.proofs.ShapeLaws.{shape_bool, shape_int, shape_raw}
+use Rattle.mr_value.proofs.ShapeLaws.{shape_int, shape_raw}
 use Rattle.mr_wf.specs.Intrinsics.{fits_intrinsic, gives, gives_nothing, is_atomic}
 use Rattle.mr_wf.specs.Operands.{is_bool, is_int, is_integer, is_raw}
 use Rattle.mr_wf.specs.SameTypes.{same_type}
 use Rattle.mr_wf.specs.Types.{integer_of}
-use Rattle.mr_wf.proofs.KindLaws.{bool_is, integer_is, raw_is}
+use Rattle.mr_wf.proofs.KindLaws.{integer_is, raw_is}
 use Rattle.mr_wf.proofs.SameTypeLaws.{same_type_equal}
 use Rattle.mr_eval.specs.Shapes.{HaveShapes}
 use Rattle.mr_intr.specs.Atomics.{IsFetch}
 use Rattle.mr_intr.specs.Atomics.{IsFetch}
 use Rattle.mr_intr.specs.Effects.{Fits}
 use Rattle.mr_intr.proofs.OperationSafe.{no_result, result_is}
+use Rattle.mr_eval.proofs.ScalarLaws.{truth_value}
 
 -- ---- values of a type
 
@@ -44,9 +45,6 @@ number_at i t v e h =
 
 number_of_int : (i : IntType) (t : Ty) (v : Val) → is_int i t ≡ true → has_shape t v ≡ true → IsNumber (8 * int_size i) v
 number_of_int i t v e h = number_at i t v (same_type_equal t (ty.Int i) e) h
-
-truth_there : (t : Ty) (v : Val) → is_bool t ≡ true → has_shape t v ≡ true → (b : Bool) × (v ≡ val.Bool b)
-truth_there t v e h = let made = shape_bool v (subst (λ (u : Ty). has_shape u v ≡ true) (bool_is t e) h) in (made.truth, made.is)
 
 pointer_there : (t : Ty) (v : Val) → is_raw t ≡ true → has_shape t v ≡ true → (p : Pointer) × (v ≡ val.Ptr p)
 pointer_there t v e h = let made = shape_raw v (subst (λ (u : Ty). has_shape u v ≡ true) (raw_is t e) h) in (made.pointer, made.is)
@@ -70,7 +68,7 @@ pub record IsAtomic (t : Ty) : Type 0 where
   pub is : t ≡ ty.Int int
 
 atomic_there : (t : Ty) → is_atomic t ≡ true → IsAtomic t
-atomic_there t e = by_integer (integer_of t) refl (and_true (is_integer t) (nat_le (size_of t) 8) e).0
+atomic_there t e = by_integer (integer_of t) refl (and_parts (is_integer t) (nat_le (size_of t) 8) e).0
   where
     by_integer : (o : Option IntType) → integer_of t ≡ o → is_some o ≡ true → IsAtomic t
     by_integer None is some = absurd (cc)
@@ -145,9 +143,9 @@ pub record TakesTruth (args : List Val) (place : Option Ty) : Type 0 where
 pub assume_takes : (args : List Val) (types : List Ty) (place : Option Ty) → Fits intrinsic.Assume args types place → TakesTruth args place
 assume_takes args [] place fit = absurd (let e = fit.fitting in cc)
 assume_takes args (a ∷ []) place fit =
-    let p = and_true (is_bool a) (gives_nothing place) fit.fitting in
+    let p = and_parts (is_bool a) (gives_nothing place) fit.fitting in
     let one = one_value a args fit.shapes in
-    let b = truth_there a one.x p.0 one.shape in
+    let b = truth_value a one.x p.0 one.shape in
     record { truth = b.0; is = one.is ∙ ap (λ v. v ∷ []) b.1; gives = no_result place p.1 }
 assume_takes args (a ∷ b ∷ types) place fit = absurd (let e = fit.fitting in cc)
 
@@ -165,8 +163,8 @@ pub allocate_takes : (args : List Val) (types : List Ty) (place : Option Ty) →
 allocate_takes args [] place fit = absurd (let e = fit.fitting in cc)
 allocate_takes args (a ∷ []) place fit = absurd (let e = fit.fitting in cc)
 allocate_takes args (a ∷ b ∷ []) place fit =
-    let p = and_true (is_int U64 a) (is_int U64 b && gives ty.Raw place) fit.fitting in
-    let q = and_true (is_int U64 b) (gives ty.Raw place) p.1 in
+    let p = and_parts (is_int U64 a) (is_int U64 b && gives ty.Raw place) fit.fitting in
+    let q = and_parts (is_int U64 b) (gives ty.Raw place) p.1 in
     let two = two_values a b args fit.shapes in
     let n = number_of_int U64 a two.x p.0 two.first in
     let k = number_of_int U64 b two.y q.0 two.second in
@@ -187,9 +185,9 @@ deallocate_takes args [] place fit = absurd (let e = fit.fitting in cc)
 deallocate_takes args (a ∷ []) place fit = absurd (let e = fit.fitting in cc)
 deallocate_takes args (a ∷ b ∷ []) place fit = absurd (let e = fit.fitting in cc)
 deallocate_takes args (a ∷ b ∷ d ∷ []) place fit =
-    let p = and_true (is_raw a) (is_int U64 b && (is_int U64 d && gives_nothing place)) fit.fitting in
-    let q = and_true (is_int U64 b) (is_int U64 d && gives_nothing place) p.1 in
-    let r = and_true (is_int U64 d) (gives_nothing place) q.1 in
+    let p = and_parts (is_raw a) (is_int U64 b && (is_int U64 d && gives_nothing place)) fit.fitting in
+    let q = and_parts (is_int U64 b) (is_int U64 d && gives_nothing place) p.1 in
+    let r = and_parts (is_int U64 d) (gives_nothing place) q.1 in
     let three = three_values a b d args fit.shapes in
     let at = pointer_there a three.x p.0 three.first in
     let n = number_of_int U64 b three.y q.0 three.second in
@@ -208,7 +206,7 @@ pub record TakesNumber (args : List Val) (place : Option Ty) : Type 0 where
 
 number_takes : (args : List Val) (a : Ty) (place : Option Ty) → (is_int U32 a && gives_nothing place) ≡ true → HaveShapes (a ∷ []) args → TakesNumber args place
 number_takes args a place e shapes =
-    let p = and_true (is_int U32 a) (gives_nothing place) e in
+    let p = and_parts (is_int U32 a) (gives_nothing place) e in
     let one = one_value a args shapes in
     let n = number_of_int U32 a one.x p.0 one.shape in
     record { number = n.bits; is = one.is ∙ ap (λ v. v ∷ []) n.is; small = n.small; gives = no_result place p.1 }
@@ -253,8 +251,8 @@ pub atomic_store_takes : (args : List Val) (types : List Ty) (place : Option Ty)
 atomic_store_takes args [] place fit = absurd (let e = fit.fitting in cc)
 atomic_store_takes args (a ∷ []) place fit = absurd (let e = fit.fitting in cc)
 atomic_store_takes args (a ∷ b ∷ []) place fit =
-    let p = and_true (is_raw a) (is_atomic b && gives_nothing place) fit.fitting in
-    let q = and_true (is_atomic b) (gives_nothing place) p.1 in
+    let p = and_parts (is_raw a) (is_atomic b && gives_nothing place) fit.fitting in
+    let q = and_parts (is_atomic b) (gives_nothing place) p.1 in
     let two = two_values a b args fit.shapes in
     let at = pointer_there a two.x p.0 two.first in
     let int = atomic_there b q.0 in
@@ -281,7 +279,7 @@ pub atomic_load_takes : (args : List Val) (types : List Ty) (place : Option Ty) 
 atomic_load_takes args [] place fit = absurd (let e = fit.fitting in cc)
 atomic_load_takes args (a ∷ []) None fit = absurd (let e = fit.fitting in cc)
 atomic_load_takes args (a ∷ []) (Some t) fit =
-    let p = and_true (is_raw a) (is_atomic t) fit.fitting in
+    let p = and_parts (is_raw a) (is_atomic t) fit.fitting in
     let one = one_value a args fit.shapes in
     let at = pointer_there a one.x p.0 one.shape in
     let int = atomic_there t p.1 in
@@ -303,9 +301,9 @@ exchange_takes args [] place fit = absurd (let e = fit.fitting in cc)
 exchange_takes args (a ∷ []) place fit = absurd (let e = fit.fitting in cc)
 exchange_takes args (a ∷ b ∷ []) place fit = absurd (let e = fit.fitting in cc)
 exchange_takes args (a ∷ b ∷ d ∷ []) place fit =
-    let p = and_true (is_raw a) (is_atomic b && (same_type d b && gives b place)) fit.fitting in
-    let q = and_true (is_atomic b) (same_type d b && gives b place) p.1 in
-    let r = and_true (same_type d b) (gives b place) q.1 in
+    let p = and_parts (is_raw a) (is_atomic b && (same_type d b && gives b place)) fit.fitting in
+    let q = and_parts (is_atomic b) (same_type d b && gives b place) p.1 in
+    let r = and_parts (same_type d b) (gives b place) q.1 in
     let three = three_values a b d args fit.shapes in
     let at = pointer_there a three.x p.0 three.first in
     let int = atomic_there b q.0 in
@@ -366,8 +364,8 @@ fetch_takes op args types place is fit = by_types types (fetch_fits op types pla
     by_types [] e shapes = absurd (cc)
     by_types (a ∷ []) e shapes = absurd (cc)
     by_types (a ∷ b ∷ []) e shapes =
-        let p = and_true (is_raw a) (is_atomic b && gives b place) e in
-        let q = and_true (is_atomic b) (gives b place) p.1 in
+        let p = and_parts (is_raw a) (is_atomic b && gives b place) e in
+        let q = and_parts (is_atomic b) (gives b place) p.1 in
         let two = two_values a b args shapes in
         let at = pointer_there a two.x p.0 two.first in
         let int = atomic_there b q.0 in

@@ -2,12 +2,10 @@
 use Rattle.std.proofs.Common.{◌≡◌, ℕ, ◌*◌, ◌^◌, ◌<◌, refl, subst, sym, ap, ◌∙◌, Option, Some, None, Ok}
 use Rattle.std.proofs.lemmas.Option.{same_Some}
 use Rattle.std.specs.Prelude.{option_map}
-use Rattle.mr_ast.specs.Integers.{bits_of, int_size}
+use Rattle.mr_ast.specs.Integers.{int_size}
 use Rattle.mr_ast.specs.declared.types.IntType.{IntType}
-use Rattle.mr_ast.specs.declared.types.IntType.TheVariants.{U8, U16, U32, U64, U128, I8, I16, I32, I64, I128}
 use Rattle.mr_ast.specs.declared.types.Ty.TheVariants as ty
-use Rattle.mr_layout.specs.TypeOk.{TypeOk}
-use Rattle.mr_layout.proofs.BrokenLaws.{broken_int}
+use Rattle.mr_layout.proofs.BrokenLaws.{int_ok}
 use Rattle.mr_layout.proofs.SizeLaws.{size_int}
 use Rattle.mr_intops.specs.Arith.{arith_of}
 use Rattle.mr_intops.specs.declared.arithmetic.ArithOp.{ArithOp}
@@ -22,23 +20,9 @@ use Rattle.mr_value.proofs.EncodeLaws.{encode_int}
 use Rattle.mr_eval.specs.MemoryQueries.{number_bytes}
 use Rattle.mr_intr.specs.Operations.{number_in}
 use Rattle.mr_intr.proofs.OperatedLaws.{int_number}
+use Rattle.mr_eval.proofs.OperatorsSafe.{width}
 
 -- ---- an integer's bits and bytes
-
-pub width : (i : IntType) → 8 * int_size i ≡ bits_of i
-width U8 = refl
-width U16 = refl
-width U32 = refl
-width U64 = refl
-width U128 = refl
-width I8 = refl
-width I16 = refl
-width I32 = refl
-width I64 = refl
-width I128 = refl
-
-pub int_ok : (i : IntType) → TypeOk (ty.Int i)
-int_ok i = broken_int i
 
 -- the number that decoding finds
 pub number_found : (i : IntType) (bytes : Bytes) (v : Val) → decoded (ty.Int i) bytes ≡ Some v → (n : ℕ) × (v ≡ val.Int n) × (number_of bytes ≡ Some n)

@@ -39,11 +39,12 @@ use Rattle.mr_plan.specs.Notes.{Notes}
 use Rattle.mr_plan.specs.Queries.{OfMemory, Shared, answer, in_shared, memory_part}
 use Rattle.mr_intr.specs.Atomics.{IsFetch, number_read, number_written, numbered}
 use Rattle.mr_intr.specs.Effects.{Does, Fits, FitsPlace, IsDone, Prints, begun, notes_in, operated}
-use Rattle.mr_intr.specs.Operations.{exchanged, fetched, found, int_in, loaded, modify}
+use Rattle.mr_intr.specs.Operations.{exchanged, fetched, found, loaded, modify}
 use Rattle.mr_intr.specs.declared.effect.Effect.{Effect}
 use Rattle.mr_intr.proofs.Arguments.{TakesStore, atomic_load_takes, exchange_takes, fetch_takes, one_read, three_read, two_read}
 use Rattle.mr_intr.proofs.AtomicLaws.{same_bits}
 use Rattle.mr_intr.proofs.OperatedLaws.{asked, int_number, ptr_pointer, quiet}
+use Rattle.mr_wf.specs.Types.{integer_in}
 
 -- ---- faults that are handed on
 
@@ -89,9 +90,6 @@ module _ (m : Memory) (n : Tally) (p : Pointer) (size : ℕ) (change : ℕ → O
     went_on : memory_answer (Modify p size change) (m, n) ≡ behind k s
     went_on = modify_run ∙ ap (λ (o : Outcome ℕ Seen). on o behind) went
 
-    pub modify_kept : change k ≡ None → memory_answer (Modify p size change) (m, n) ≡ Went k (m, with_seen n s)
-    modify_kept none = went_on ∙ ap (λ (o : Option ℕ). on (replacing m p size k o s) (λ x v. Went x (v.0, with_seen n v.1))) none
-
     module _ (new : ℕ) (some : change k ≡ Some new) where
       abbrev noted : Seen
       noted = seeing (accessing true true p size) [] s
@@ -134,8 +132,8 @@ write_fault s fault.Memory after last p bytes align w h = tt
 
 -- ---- by intrinsic
 
-int_there : (i : IntType) → int_in (out-Ty (ty.Int i)) ≡ Some i
-int_there i = ap int_in (ty.outs-Int i)
+int_there : (i : IntType) → integer_in (out-Ty (ty.Int i)) ≡ Some i
+int_there i = ap integer_in (ty.outs-Int i)
 
 module _ (types : List Ty) (picks : List ℕ) (p : Pointer) (int : IntType) where
   pub operated_store : (bits : ℕ) (first : Ty) (place : Option Ty) (w : Shared × Notes)
@@ -154,7 +152,7 @@ module _ (types : List Ty) (picks : List ℕ) (p : Pointer) (int : IntType) wher
       ∙ (λ i. run answer (found (ptr_pointer p i) >>= λ at. Ask (OfMemory (Modify at (size_int int i) (exchanged expected new))) (λ n. Done (Some (val.Int n)))) w)
 
   fetching : (op : Intrinsic) (by : ℕ) (w : Shared × Notes)
-      → run answer (found (int_in (out-Ty (ty.Int int))) >>= λ i. found (Some by) >>= λ k. modify (val.Ptr p) (ty.Int int) (fetched op i k)) w
+      → run answer (found (integer_in (out-Ty (ty.Int int))) >>= λ i. found (Some by) >>= λ k. modify (val.Ptr p) (ty.Int int) (fetched op i k)) w
       ≡ asked (Modify p (int_size int) (fetched op int by)) (λ n. Some (val.Int n)) w
   fetching op by w =
       (λ j. run answer (found (int_there int j) >>= λ i. modify (val.Ptr p) (ty.Int int) (fetched op i by)) w)
@@ -163,11 +161,11 @@ module _ (types : List Ty) (picks : List ℕ) (p : Pointer) (int : IntType) wher
   pub operated_fetch : (op : Intrinsic) (by : ℕ) (w : Shared × Notes) → IsFetch op
       → operated op (val.Ptr p ∷ val.Int by ∷ []) types (Some (ty.Int int)) picks w ≡ asked (Modify p (int_size int) (fetched op int by)) (λ n. Some (val.Int n)) w
   unfolding operated
-  operated_fetch intrinsic.FetchAdd by w is = (λ j. run answer (found (int_in (out-Ty (ty.Int int))) >>= λ i. found (int_number by j) >>= λ k. modify (val.Ptr p) (ty.Int int) (fetched intrinsic.FetchAdd i k)) w) ∙ fetching intrinsic.FetchAdd by w
-  operated_fetch intrinsic.FetchSub by w is = (λ j. run answer (found (int_in (out-Ty (ty.Int int))) >>= λ i. found (int_number by j) >>= λ k. modify (val.Ptr p) (ty.Int int) (fetched intrinsic.FetchSub i k)) w) ∙ fetching intrinsic.FetchSub by w
-  operated_fetch intrinsic.FetchAnd by w is = (λ j. run answer (found (int_in (out-Ty (ty.Int int))) >>= λ i. found (int_number by j) >>= λ k. modify (val.Ptr p) (ty.Int int) (fetched intrinsic.FetchAnd i k)) w) ∙ fetching intrinsic.FetchAnd by w
-  operated_fetch intrinsic.FetchOr by w is = (λ j. run answer (found (int_in (out-Ty (ty.Int int))) >>= λ i. found (int_number by j) >>= λ k. modify (val.Ptr p) (ty.Int int) (fetched intrinsic.FetchOr i k)) w) ∙ fetching intrinsic.FetchOr by w
-  operated_fetch intrinsic.FetchXor by w is = (λ j. run answer (found (int_in (out-Ty (ty.Int int))) >>= λ i. found (int_number by j) >>= λ k. modify (val.Ptr p) (ty.Int int) (fetched intrinsic.FetchXor i k)) w) ∙ fetching intrinsic.FetchXor by w
+  operated_fetch intrinsic.FetchAdd by w is = (λ j. run answer (found (integer_in (out-Ty (ty.Int int))) >>= λ i. found (int_number by j) >>= λ k. modify (val.Ptr p) (ty.Int int) (fetched intrinsic.FetchAdd i k)) w) ∙ fetching intrinsic.FetchAdd by w
+  operated_fetch intrinsic.FetchSub by w is = (λ j. run answer (found (integer_in (out-Ty (ty.Int int))) >>= λ i. found (int_number by j) >>= λ k. modify (val.Ptr p) (ty.Int int) (fetched intrinsic.FetchSub i k)) w) ∙ fetching intrinsic.FetchSub by w
+  operated_fetch intrinsic.FetchAnd by w is = (λ j. run answer (found (integer_in (out-Ty (ty.Int int))) >>= λ i. found (int_number by j) >>= λ k. modify (val.Ptr p) (ty.Int int) (fetched intrinsic.FetchAnd i k)) w) ∙ fetching intrinsic.FetchAnd by w
+  operated_fetch intrinsic.FetchOr by w is = (λ j. run answer (found (integer_in (out-Ty (ty.Int int))) >>= λ i. found (int_number by j) >>= λ k. modify (val.Ptr p) (ty.Int int) (fetched intrinsic.FetchOr i k)) w) ∙ fetching intrinsic.FetchOr by w
+  operated_fetch intrinsic.FetchXor by w is = (λ j. run answer (found (integer_in (out-Ty (ty.Int int))) >>= λ i. found (int_number by j) >>= λ k. modify (val.Ptr p) (ty.Int int) (fetched intrinsic.FetchXor i k)) w) ∙ fetching intrinsic.FetchXor by w
   operated_fetch _ by w is = absurd is
 
   -- ---- an atomic load
@@ -213,7 +211,7 @@ module _ (types : List Ty) (picks : List ℕ) (p : Pointer) (int : IntType) wher
 -- ---- with the arguments as they are read
 
 same_int : (a b : IntType) → Some (ty.Int a) ≡ Some (ty.Int b) → a ≡ b
-same_int a b e = same_Some a b (sym (int_there a) ∙ ap (λ (t : Ty). int_in (out-Ty t)) (same_Some (ty.Int a) (ty.Int b) e) ∙ int_there b)
+same_int a b e = same_Some a b (sym (int_there a) ∙ ap (λ (t : Ty). integer_in (out-Ty t)) (same_Some (ty.Int a) (ty.Int b) e) ∙ int_there b)
 
 -- a number of the type of the place
 pub place_value : (place : Option Ty) (int : IntType) (n : ℕ) (e : Effect) → place ≡ Some (ty.Int int) → e ≡ quiet (Some (val.Int n)) → n < 2 ^ (8 * int_size int) → FitsPlace place e.value

@@ -1,14 +1,10 @@
 -- What an intrinsic's operation leaves, on the way to what the next state keeps.
-use Rattle.std.proofs.Common.{◌≡◌, ◌≢◌, ℕ, ◌<◌, refl, subst, sym, ap, ◌∙◌, List, length, Option, Some, None, true, false}
-use Rattle.std.proofs.lemmas.Option.{slice_get_within}
-use Rattle.std.proofs.Math.ListN.{length-set}
-use Rattle.std.specs.Prelude.{slice_get, slice_set}
+use Rattle.std.proofs.Common.{◌≡◌, ◌≢◌, ℕ, ◌<◌, refl, subst, sym, ap, ◌∙◌, List, length, Option, Some, None, false}
+use Rattle.std.specs.Prelude.{slice_get}
 use Rattle.mr_ast.specs.declared.types.Ty.{Ty}
-use Rattle.mr_base.specs.declared.thread.Status.{Status}
 use Rattle.mr_base.specs.declared.thread.Status.TheVariants.{Enabled}
 use Rattle.mr_mem.specs.Memory.{Memory}
 use Rattle.mr_value.specs.declared.val.Val.{Val}
-use Rattle.mr_value.specs.Shape.{has_shape}
 use Rattle.mr_script.specs.Script.{run}
 use Rattle.mr_eval.specs.MemoryQueries.{MemoryScript}
 use Rattle.mr_eval.specs.Tally.{Tally}
@@ -24,7 +20,6 @@ use Rattle.mr_plan.proofs.MemoryFacts.{MemoryFacts}
 use Rattle.mr_plan.proofs.MemoryParts.{Leaves, Left, leaves_then, memory_after}
 use Rattle.mr_plan.proofs.Outcomes.{After, after_weaker}
 use Rattle.mr_plan.proofs.StorageRuns.{Keeps}
-use Rattle.mr_plan.proofs.Positions.{set_here, set_there}
 use Rattle.mr_intr.specs.Effects.{FitsPlace}
 
 -- What it leaves of a state in which thread t, which can go on, began its step: sound tables, in which no thread ended or came back, and the
@@ -77,15 +72,3 @@ module _ (s : Shared) (t c : ℕ) (sound : IsSoundTables (tables_of s)) (enabled
       after_weaker (Left s.memory t c (FitsPlace result) (λ r. rooms) w) (AfterOp s t c rooms result) (run answer (memory_part script) w)
       (memory_after s.memory t c (FitsPlace result) (λ r. rooms) rooms script safe keeps w leaves.facts held)
       (λ v u left. (left.value, same_left u u (leaves_then s.memory t c (s, start_notes t c) w u leaves left.leaves) left.held refl refl))
-
-  t_there : t < length s.statuses
-  t_there = slice_get_within s.statuses t Enabled enabled
-
-  -- a status of a thread that waits now
-  pub blocked_left : (status : Status) (w u : Shared × Notes) → over (Some status) ≡ Some false → Leaves s.memory t c (s, start_notes t c) w → AreHeld w.0.memory rooms
-      → u.0.memory ≡ w.0.memory → u.1.tally ≡ w.1.tally → IsSoundTables (tables_of u.0) → u.0.statuses ≡ slice_set s.statuses t status → OpLeaves s t c rooms u
-  blocked_left status w u not_over leaves held memory tally tables is =
-      with_other w u leaves held memory tally tables
-      (ap (λ x. length x) is ∙ length-set s.statuses t status)
-      (ap (λ x. over (slice_get x t)) is ∙ ap over (set_here s.statuses t status t_there) ∙ not_over)
-      (λ k d lt. ap (λ x. over (slice_get x k)) is ∙ ap over (set_there s.statuses t k status d))

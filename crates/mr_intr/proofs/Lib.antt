@@ -2,6 +2,7 @@ pub mod Arguments
 pub mod AtomicLaws
 pub mod AtomicRuns
 pub mod HeapLaws
+pub mod EachOperation
 pub mod Leaving
 pub mod LockLaws
 pub mod LockSafe

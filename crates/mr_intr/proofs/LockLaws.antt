@@ -1,7 +1,7 @@
 -- What an operation on a thread or a lock comes to, by what the tables answer.
 use Rattle.std.proofs.Common.{◌≡◌, ℕ, ◌<◌, refl, subst, sym, ap, ◌∙◌, arith, List, [], ◌∷◌, length, Option, Some, None, Bool, true, false, Result, Ok, Err, not, ◌==◌}
 use Rattle.std.proofs.lemmas.Option.{same_Some, slice_get_within}
-use Rattle.std.specs.Prelude.{slice_get, if◌then◌else◌, nat_lt}
+use Rattle.std.specs.Prelude.{slice_get, if◌then◌else◌}
 use Rattle.mr_ast.specs.declared.program.Intrinsic.{Intrinsic}
 use Rattle.mr_ast.specs.declared.program.Intrinsic.TheVariants as intrinsic
 use Rattle.mr_ast.specs.declared.types.Ty.{Ty}
@@ -10,7 +10,7 @@ use Rattle.mr_base.specs.declared.reason.Reason.TheVariants.{NotHolder}
 use Rattle.mr_base.specs.declared.thread.Event.{Event}
 use Rattle.mr_base.specs.declared.thread.Event.TheVariants.{Acquire, CreateLock, Join, Release}
 use Rattle.mr_base.specs.declared.thread.Status.{Status}
-use Rattle.mr_base.proofs.Comparisons.{eq_test, lt_from}
+use Rattle.mr_base.proofs.Comparisons.{eq_test}
 use Rattle.mr_mem.specs.Memory.{ranges_of}
 use Rattle.mr_sched.specs.declared.schedule.Ask.TheVariants.{Waiter}
 use Rattle.mr_value.specs.declared.val.Val.{Val}
@@ -19,8 +19,8 @@ use Rattle.mr_script.specs.Script.{Done, Ask as Asks, ◌>>=◌, Outcome, Broken
 use Rattle.mr_eval.specs.World.{tally_of}
 use Rattle.mr_eval.specs.declared.scene.Scene.{Scene}
 use Rattle.mr_sync.specs.Tables.{Tables, acquired, any_waits, created, handed, holder_of, holding, joined, names_waiter, on_lock, released, taken_by, waits}
-use Rattle.mr_plan.specs.Legal.{creation_fault, fault, needs_fault, picks_fault}
-use Rattle.mr_plan.specs.Machine.{CreatesLock, CreatesNothing, needs_of}
+use Rattle.mr_plan.specs.Legal.{creation_fault, needs_fault, picks_fault}
+use Rattle.mr_plan.specs.Machine.{CreatesNothing, needs_of}
 use Rattle.mr_plan.specs.Notes.{Notes, event_of}
 use Rattle.mr_plan.specs.Queries.{Await, Shared, StepScript, TryLock, Waiting, answer, blocked, fits, giving, going, note, telling, with_tables, woke}
 use Rattle.mr_plan.proofs.LegalLaws.{no_faults, one_waiter, picks_length}
@@ -83,14 +83,6 @@ module _ (types : List Ty) (place : Option Ty) (picks : List ℕ) (s : Scene) (x
   pub create_went : (out : List ℕ) → IsDone intrinsic.CreateLock (made (created x).0) (operated intrinsic.CreateLock [] types place picks (begun s x)) s (created x).1 out out
   unfolding operated
   create_went out = record { notes = note (CreateLock (created x).0) (notes_in s); went = refl; tally = refl; event = refl; going = refl; woken = refl; printed = (refl, refl) }
-
-  pub few_locks : AreLawful intrinsic.CreateLock [] types place picks s x → length x.holders < 4096
-  few_locks lawful =
-      by_test (nat_lt (length x.holders) 4096) refl (no_faults (creation_fault (shared_in s x) CreatesLock) (picks_fault x.statuses (ranges_of s.memory) s.thread s.count [] picks) lawful).0
-    where
-      by_test : (b : Bool) → nat_lt (length x.holders) 4096 ≡ b → (if b then None else fault 68) ≡ None → length x.holders < 4096
-      by_test true e k = lt_from (length x.holders) 4096 e
-      by_test false e k = absurd (cc)
 
 -- ---- release
 

@@ -33,11 +33,13 @@ use Rattle.mr_plan.specs.Storage.{AreHeld, Slot}
 use Rattle.mr_plan.proofs.LegalLaws.{no_faults, one_waiter, picks_length}
 use Rattle.mr_plan.proofs.MemoryParts.{Leaves}
 use Rattle.mr_plan.proofs.Outcomes.{After}
-use Rattle.mr_plan.proofs.Positions.{set_here, set_there}
+use Rattle.mr_plan.proofs.Positions.{set_here}
 use Rattle.mr_intr.specs.Effects.{FitsPlace}
 use Rattle.mr_intr.specs.Operations.{acquire, create_lock, join, number_in, release, releasing, unlocking}
 use Rattle.mr_intr.proofs.Leaving.{AfterOp, OpLeaves, OpPlan, with_other}
 use Rattle.mr_intr.proofs.OperationSafe.{found_then, int_there}
+use Rattle.mr_base.proofs.Lists.{set_there}
+use Rattle.mr_sched.specs.declared.rule.ScheduleRule.TheVariants as rule
 
 -- What a call leaves of sound tables in which thread t can go on: sound ones, in which no thread ended or came back.
 pub record TablesLeft (s : Tables) (t : ℕ) (x : Tables) : Type 0 where
@@ -198,7 +200,7 @@ module _ (s : Shared) (t c : ℕ) (sound : IsSoundTables (tables_of s)) (enabled
   few_locks : creation_fault s CreatesLock ≡ None → length s.holders < 4096
   few_locks h = by_test (nat_lt (length s.holders) 4096) refl h
     where
-      by_test : (b : Bool) → nat_lt (length s.holders) 4096 ≡ b → (if b then None else fault 68) ≡ None → length s.holders < 4096
+      by_test : (b : Bool) → nat_lt (length s.holders) 4096 ≡ b → (if b then None else fault rule.TooManyLocks) ≡ None → length s.holders < 4096
       by_test true e k = lt_from (length s.holders) 4096 e
       by_test false e k = absurd (cc)
 

@@ -1,5 +1,5 @@
 -- What an intrinsic needs before it acts.
-use Rattle.std.proofs.Common.{◌≡◌, ◌≢◌, ℕ, refl, subst, sym, ap, ◌∙◌, List, [], ◌∷◌, Option, Some, None, Bool, true, false, Result, Ok, Err}
+use Rattle.std.proofs.Common.{◌≡◌, ◌≢◌, ℕ, refl, subst, sym, ap, ◌∙◌, List, [], ◌∷◌, Option, Some, None, Bool, true, false, Result, Ok}
 use Rattle.std.specs.Prelude.{slice_get}
 use Rattle.mr_ast.specs.declared.program.Intrinsic.{Intrinsic}
 use Rattle.mr_ast.specs.declared.program.Intrinsic.TheVariants as intrinsic
@@ -12,7 +12,7 @@ use Rattle.mr_mem.specs.Memory.{Memory}
 use Rattle.mr_sched.specs.declared.schedule.Ask.TheVariants.{Address, Waiter}
 use Rattle.mr_value.specs.declared.val.Val.{Val}
 use Rattle.mr_value.specs.declared.val.Val.TheVariants as val
-use Rattle.mr_script.specs.Script.{Done, Undefined, IllFormed, Ask as Asks, ◌>>=◌, Outcome, Refused, Went, on, run}
+use Rattle.mr_script.specs.Script.{Done, Undefined, IllFormed, Ask as Asks, ◌>>=◌, Outcome, Went, on, run}
 use Rattle.mr_sync.specs.Tables.{Tables, any_waits, holding}
 use Rattle.mr_plan.specs.Machine.{CreatesNothing, Plan}
 use Rattle.mr_plan.specs.Notes.{Notes}
@@ -50,9 +50,6 @@ module _ (args : List Val) (can : CanTake intrinsic.Release args) (l : ℕ) (rea
       ap (λ (vs : List Val). run answer (operation intrinsic.Release vs types place) (shared_of m x, n)) (release_read args l read can)
       ∙ (λ i. run answer (found (int_number l i) >>= λ k. Asks (Waiting k) Done >>= λ waits. Done (releasing k waits)) (shared_of m x, n))
       ∙ ap (λ t. asked (holding t (slice_get x.holders l) (any_waits l x))) same
-
-  pub release_stops : (r : Reason) → holding thread (slice_get x.holders l) (any_waits l x) ≡ Err r → run answer (operation intrinsic.Release args types place) (shared_of m x, n) ≡ Refused r
-  release_stops r h = released_plan ∙ ap asked h
 
   pub release_asks : (needs : Needs) → needs ≡ record { creates = Nothing; ask = Some (Waiter l) } → holding thread (slice_get x.holders l) (any_waits l x) ≡ Ok true
       → IsPlanned needs (run answer (operation intrinsic.Release args types place) (shared_of m x, n))

@@ -20,8 +20,9 @@ use Rattle.mr_sync.specs.Tables.{Tables}
 use Rattle.mr_plan.specs.Notes.{Notes}
 use Rattle.mr_plan.specs.Queries.{OfMemory, Shared, answer, in_shared}
 use Rattle.mr_intr.specs.Effects.{Does, IsDone, Prints, begun, notes_in, operated}
-use Rattle.mr_intr.specs.Operations.{allocating, assuming, found, number_in, pointer_in, truth_in}
+use Rattle.mr_intr.specs.Operations.{allocating, assuming, found, number_in, truth_in}
 use Rattle.mr_intr.specs.declared.effect.Effect.{Effect}
+use Rattle.mr_eval.specs.Operators.{pointer_in}
 
 -- ---- arguments that are known
 

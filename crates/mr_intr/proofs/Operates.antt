@@ -2,6 +2,7 @@
 use Rattle.std.proofs.Common.{◌≡◌, ℕ, subst, sym, List, [], ◌∷◌, Option, None, Some, true}
 use Rattle.std.specs.Prelude.{◌&&◌, nat_le, slice_get}
 use Rattle.std.specs.List.{list_all}
+use Rattle.std.proofs.lemmas.Bool.{and_parts}
 use Rattle.mr_ast.specs.declared.program.Intrinsic.{Intrinsic}
 use Rattle.mr_ast.specs.declared.program.Intrinsic.TheVariants as intrinsic
 use Rattle.mr_ast.specs.declared.types.IntType.TheVariants.{U32, U64}
@@ -9,7 +10,6 @@ use Rattle.mr_ast.specs.declared.types.Ty.{Ty}
 use Rattle.mr_ast.specs.declared.types.Ty.TheVariants as ty
 use Rattle.mr_base.specs.declared.thread.Status.TheVariants.{Enabled}
 use Rattle.mr_layout.specs.Sizes.{size_of}
-use Rattle.mr_layout.proofs.PartsOk.{and_true}
 use Rattle.mr_value.specs.declared.val.Val.{Val}
 use Rattle.mr_wf.specs.Intrinsics.{fits_intrinsic, gives, gives_nothing, is_atomic}
 use Rattle.mr_wf.specs.Operands.{is_bool, is_int, is_integer, is_raw, is_scalar_number}
@@ -38,7 +38,7 @@ module _ (s : Shared) (t c : ℕ) (sound : IsSoundTables (tables_of s)) (enabled
   assume_operates [] args result shapes fits = absurd (cc)
   assume_operates (a ∷ []) [] result shapes fits = absurd shapes
   assume_operates (a ∷ []) (x ∷ []) result shapes fits =
-      let p = and_true (is_bool a) (gives_nothing result) fits in
+      let p = and_parts (is_bool a) (gives_nothing result) fits in
       assume_safe s t c sound enabled rooms v leaves held a x result p.0 shapes.0 (no_result result p.1)
   assume_operates (a ∷ []) (x ∷ more ∷ args) result shapes fits = absurd (shapes.1)
   assume_operates (a ∷ more ∷ types) args result shapes fits = absurd (cc)
@@ -49,8 +49,8 @@ module _ (s : Shared) (t c : ℕ) (sound : IsSoundTables (tables_of s)) (enabled
   allocate_operates (a ∷ b ∷ []) [] result shapes fits = absurd shapes
   allocate_operates (a ∷ b ∷ []) (x ∷ []) result shapes fits = absurd shapes.1
   allocate_operates (a ∷ b ∷ []) (x ∷ y ∷ []) result shapes fits =
-      let p = and_true (is_int U64 a) (is_int U64 b && gives ty.Raw result) fits in
-      let q = and_true (is_int U64 b) (gives ty.Raw result) p.1 in
+      let p = and_parts (is_int U64 a) (is_int U64 b && gives ty.Raw result) fits in
+      let q = and_parts (is_int U64 b) (gives ty.Raw result) p.1 in
       allocate_safe s t c sound enabled rooms v leaves held a b x y result p.0 q.0 shapes.0 shapes.1.0 (result_is ty.Raw result q.1)
   allocate_operates (a ∷ b ∷ []) (x ∷ y ∷ more ∷ args) result shapes fits = absurd (shapes.1.1)
   allocate_operates (a ∷ b ∷ more ∷ types) args result shapes fits = absurd (cc)
@@ -63,9 +63,9 @@ module _ (s : Shared) (t c : ℕ) (sound : IsSoundTables (tables_of s)) (enabled
   deallocate_operates (a ∷ b ∷ d ∷ []) (x ∷ []) result shapes fits = absurd shapes.1
   deallocate_operates (a ∷ b ∷ d ∷ []) (x ∷ y ∷ []) result shapes fits = absurd shapes.1.1
   deallocate_operates (a ∷ b ∷ d ∷ []) (x ∷ y ∷ z ∷ []) result shapes fits =
-      let p = and_true (is_raw a) (is_int U64 b && (is_int U64 d && gives_nothing result)) fits in
-      let q = and_true (is_int U64 b) (is_int U64 d && gives_nothing result) p.1 in
-      let r = and_true (is_int U64 d) (gives_nothing result) q.1 in
+      let p = and_parts (is_raw a) (is_int U64 b && (is_int U64 d && gives_nothing result)) fits in
+      let q = and_parts (is_int U64 b) (is_int U64 d && gives_nothing result) p.1 in
+      let r = and_parts (is_int U64 d) (gives_nothing result) q.1 in
       deallocate_safe s t c sound enabled rooms v leaves held a b d x y z result p.0 q.0 r.0 shapes.0 shapes.1.0 shapes.1.1.0 (no_result result r.1)
   deallocate_operates (a ∷ b ∷ d ∷ []) (x ∷ y ∷ z ∷ more ∷ args) result shapes fits = absurd (shapes.1.1.1)
   deallocate_operates (a ∷ b ∷ d ∷ more ∷ types) args result shapes fits = absurd (cc)
@@ -74,7 +74,7 @@ module _ (s : Shared) (t c : ℕ) (sound : IsSoundTables (tables_of s)) (enabled
   join_operates [] args result shapes fits = absurd (cc)
   join_operates (a ∷ []) [] result shapes fits = absurd shapes
   join_operates (a ∷ []) (x ∷ []) result shapes fits =
-      let p = and_true (is_int U32 a) (gives_nothing result) fits in
+      let p = and_parts (is_int U32 a) (gives_nothing result) fits in
       join_safe s t c sound enabled rooms v leaves held a x result p.0 shapes.0 (no_result result p.1)
   join_operates (a ∷ []) (x ∷ more ∷ args) result shapes fits = absurd (shapes.1)
   join_operates (a ∷ more ∷ types) args result shapes fits = absurd (cc)
@@ -88,7 +88,7 @@ module _ (s : Shared) (t c : ℕ) (sound : IsSoundTables (tables_of s)) (enabled
   acquire_operates [] args result shapes fits = absurd (cc)
   acquire_operates (a ∷ []) [] result shapes fits = absurd shapes
   acquire_operates (a ∷ []) (x ∷ []) result shapes fits =
-      let p = and_true (is_int U32 a) (gives_nothing result) fits in
+      let p = and_parts (is_int U32 a) (gives_nothing result) fits in
       acquire_safe s t c sound enabled rooms v leaves held a x result p.0 shapes.0 (no_result result p.1)
   acquire_operates (a ∷ []) (x ∷ more ∷ args) result shapes fits = absurd (shapes.1)
   acquire_operates (a ∷ more ∷ types) args result shapes fits = absurd (cc)
@@ -97,7 +97,7 @@ module _ (s : Shared) (t c : ℕ) (sound : IsSoundTables (tables_of s)) (enabled
   release_operates [] args result shapes fits = absurd (cc)
   release_operates (a ∷ []) [] result shapes fits = absurd shapes
   release_operates (a ∷ []) (x ∷ []) result shapes fits =
-      let p = and_true (is_int U32 a) (gives_nothing result) fits in
+      let p = and_parts (is_int U32 a) (gives_nothing result) fits in
       release_safe s t c sound enabled rooms v leaves held a x result p.0 shapes.0 (no_result result p.1)
   release_operates (a ∷ []) (x ∷ more ∷ args) result shapes fits = absurd (shapes.1)
   release_operates (a ∷ more ∷ types) args result shapes fits = absurd (cc)
@@ -108,8 +108,8 @@ module _ (s : Shared) (t c : ℕ) (sound : IsSoundTables (tables_of s)) (enabled
   atomic_store_operates (a ∷ b ∷ []) [] result shapes fits = absurd shapes
   atomic_store_operates (a ∷ b ∷ []) (x ∷ []) result shapes fits = absurd shapes.1
   atomic_store_operates (a ∷ b ∷ []) (x ∷ y ∷ []) result shapes fits =
-      let p = and_true (is_raw a) (is_atomic b && gives_nothing result) fits in
-      let q = and_true (is_atomic b) (gives_nothing result) p.1 in
+      let p = and_parts (is_raw a) (is_atomic b && gives_nothing result) fits in
+      let q = and_parts (is_atomic b) (gives_nothing result) p.1 in
       atomic_store_safe s t c sound enabled rooms v leaves held a b x y result p.0 shapes.0 (no_result result q.1)
   atomic_store_operates (a ∷ b ∷ []) (x ∷ y ∷ more ∷ args) result shapes fits = absurd (shapes.1.1)
   atomic_store_operates (a ∷ b ∷ more ∷ types) args result shapes fits = absurd (cc)
@@ -122,10 +122,10 @@ module _ (s : Shared) (t c : ℕ) (sound : IsSoundTables (tables_of s)) (enabled
   compare_exchange_operates (a ∷ b ∷ d ∷ []) (x ∷ []) result shapes fits = absurd shapes.1
   compare_exchange_operates (a ∷ b ∷ d ∷ []) (x ∷ y ∷ []) result shapes fits = absurd shapes.1.1
   compare_exchange_operates (a ∷ b ∷ d ∷ []) (x ∷ y ∷ z ∷ []) result shapes fits =
-      let p = and_true (is_raw a) (is_atomic b && (same_type d b && gives b result)) fits in
-      let q = and_true (is_atomic b) (same_type d b && gives b result) p.1 in
-      let r = and_true (same_type d b) (gives b result) q.1 in
-      let int = (and_true (is_integer b) (nat_le (size_of b) 8) q.0).0 in
+      let p = and_parts (is_raw a) (is_atomic b && (same_type d b && gives b result)) fits in
+      let q = and_parts (is_atomic b) (same_type d b && gives b result) p.1 in
+      let r = and_parts (same_type d b) (gives b result) q.1 in
+      let int = (and_parts (is_integer b) (nat_le (size_of b) 8) q.0).0 in
       subst (λ (o : Option Ty). Planned o (operation intrinsic.CompareExchange (x ∷ y ∷ z ∷ []) (a ∷ b ∷ d ∷ []) o)) (sym (result_is b result r.1))
       (exchange_safe s t c sound enabled rooms v leaves held a b d x y z p.0 int (subst (λ (u : Ty). is_integer u ≡ true) (sym (same_type_equal d b r.0)) int) shapes.0 shapes.1.0 shapes.1.1.0)
   compare_exchange_operates (a ∷ b ∷ d ∷ []) (x ∷ y ∷ z ∷ more ∷ args) result shapes fits = absurd (shapes.1.1.1)
@@ -137,10 +137,10 @@ module _ (s : Shared) (t c : ℕ) (sound : IsSoundTables (tables_of s)) (enabled
   fetch_add_operates (a ∷ b ∷ []) [] result shapes fits = absurd shapes
   fetch_add_operates (a ∷ b ∷ []) (x ∷ []) result shapes fits = absurd shapes.1
   fetch_add_operates (a ∷ b ∷ []) (x ∷ y ∷ []) result shapes fits =
-      let p = and_true (is_raw a) (is_atomic b && gives b result) fits in
-      let q = and_true (is_atomic b) (gives b result) p.1 in
+      let p = and_parts (is_raw a) (is_atomic b && gives b result) fits in
+      let q = and_parts (is_atomic b) (gives b result) p.1 in
       subst (λ (o : Option Ty). Planned o (operation intrinsic.FetchAdd (x ∷ y ∷ []) (a ∷ b ∷ []) o)) (sym (result_is b result q.1))
-      (fetch_safe s t c sound enabled rooms v leaves held intrinsic.FetchAdd a b x y p.0 (and_true (is_integer b) (nat_le (size_of b) 8) q.0).0 shapes.0 shapes.1.0)
+      (fetch_safe s t c sound enabled rooms v leaves held intrinsic.FetchAdd a b x y p.0 (and_parts (is_integer b) (nat_le (size_of b) 8) q.0).0 shapes.0 shapes.1.0)
   fetch_add_operates (a ∷ b ∷ []) (x ∷ y ∷ more ∷ args) result shapes fits = absurd (shapes.1.1)
   fetch_add_operates (a ∷ b ∷ more ∷ types) args result shapes fits = absurd (cc)
 
@@ -150,10 +150,10 @@ module _ (s : Shared) (t c : ℕ) (sound : IsSoundTables (tables_of s)) (enabled
   fetch_sub_operates (a ∷ b ∷ []) [] result shapes fits = absurd shapes
   fetch_sub_operates (a ∷ b ∷ []) (x ∷ []) result shapes fits = absurd shapes.1
   fetch_sub_operates (a ∷ b ∷ []) (x ∷ y ∷ []) result shapes fits =
-      let p = and_true (is_raw a) (is_atomic b && gives b result) fits in
-      let q = and_true (is_atomic b) (gives b result) p.1 in
+      let p = and_parts (is_raw a) (is_atomic b && gives b result) fits in
+      let q = and_parts (is_atomic b) (gives b result) p.1 in
       subst (λ (o : Option Ty). Planned o (operation intrinsic.FetchSub (x ∷ y ∷ []) (a ∷ b ∷ []) o)) (sym (result_is b result q.1))
-      (fetch_safe s t c sound enabled rooms v leaves held intrinsic.FetchSub a b x y p.0 (and_true (is_integer b) (nat_le (size_of b) 8) q.0).0 shapes.0 shapes.1.0)
+      (fetch_safe s t c sound enabled rooms v leaves held intrinsic.FetchSub a b x y p.0 (and_parts (is_integer b) (nat_le (size_of b) 8) q.0).0 shapes.0 shapes.1.0)
   fetch_sub_operates (a ∷ b ∷ []) (x ∷ y ∷ more ∷ args) result shapes fits = absurd (shapes.1.1)
   fetch_sub_operates (a ∷ b ∷ more ∷ types) args result shapes fits = absurd (cc)
 
@@ -163,10 +163,10 @@ module _ (s : Shared) (t c : ℕ) (sound : IsSoundTables (tables_of s)) (enabled
   fetch_and_operates (a ∷ b ∷ []) [] result shapes fits = absurd shapes
   fetch_and_operates (a ∷ b ∷ []) (x ∷ []) result shapes fits = absurd shapes.1
   fetch_and_operates (a ∷ b ∷ []) (x ∷ y ∷ []) result shapes fits =
-      let p = and_true (is_raw a) (is_atomic b && gives b result) fits in
-      let q = and_true (is_atomic b) (gives b result) p.1 in
+      let p = and_parts (is_raw a) (is_atomic b && gives b result) fits in
+      let q = and_parts (is_atomic b) (gives b result) p.1 in
       subst (λ (o : Option Ty). Planned o (operation intrinsic.FetchAnd (x ∷ y ∷ []) (a ∷ b ∷ []) o)) (sym (result_is b result q.1))
-      (fetch_safe s t c sound enabled rooms v leaves held intrinsic.FetchAnd a b x y p.0 (and_true (is_integer b) (nat_le (size_of b) 8) q.0).0 shapes.0 shapes.1.0)
+      (fetch_safe s t c sound enabled rooms v leaves held intrinsic.FetchAnd a b x y p.0 (and_parts (is_integer b) (nat_le (size_of b) 8) q.0).0 shapes.0 shapes.1.0)
   fetch_and_operates (a ∷ b ∷ []) (x ∷ y ∷ more ∷ args) result shapes fits = absurd (shapes.1.1)
   fetch_and_operates (a ∷ b ∷ more ∷ types) args result shapes fits = absurd (cc)
 
@@ -176,10 +176,10 @@ module _ (s : Shared) (t c : ℕ) (sound : IsSoundTables (tables_of s)) (enabled
   fetch_or_operates (a ∷ b ∷ []) [] result shapes fits = absurd shapes
   fetch_or_operates (a ∷ b ∷ []) (x ∷ []) result shapes fits = absurd shapes.1
   fetch_or_operates (a ∷ b ∷ []) (x ∷ y ∷ []) result shapes fits =
-      let p = and_true (is_raw a) (is_atomic b && gives b result) fits in
-      let q = and_true (is_atomic b) (gives b result) p.1 in
+      let p = and_parts (is_raw a) (is_atomic b && gives b result) fits in
+      let q = and_parts (is_atomic b) (gives b result) p.1 in
       subst (λ (o : Option Ty). Planned o (operation intrinsic.FetchOr (x ∷ y ∷ []) (a ∷ b ∷ []) o)) (sym (result_is b result q.1))
-      (fetch_safe s t c sound enabled rooms v leaves held intrinsic.FetchOr a b x y p.0 (and_true (is_integer b) (nat_le (size_of b) 8) q.0).0 shapes.0 shapes.1.0)
+      (fetch_safe s t c sound enabled rooms v leaves held intrinsic.FetchOr a b x y p.0 (and_parts (is_integer b) (nat_le (size_of b) 8) q.0).0 shapes.0 shapes.1.0)
   fetch_or_operates (a ∷ b ∷ []) (x ∷ y ∷ more ∷ args) result shapes fits = absurd (shapes.1.1)
   fetch_or_operates (a ∷ b ∷ more ∷ types) args result shapes fits = absurd (cc)
 
@@ -189,16 +189,16 @@ module _ (s : Shared) (t c : ℕ) (sound : IsSoundTables (tables_of s)) (enabled
   fetch_xor_operates (a ∷ b ∷ []) [] result shapes fits = absurd shapes
   fetch_xor_operates (a ∷ b ∷ []) (x ∷ []) result shapes fits = absurd shapes.1
   fetch_xor_operates (a ∷ b ∷ []) (x ∷ y ∷ []) result shapes fits =
-      let p = and_true (is_raw a) (is_atomic b && gives b result) fits in
-      let q = and_true (is_atomic b) (gives b result) p.1 in
+      let p = and_parts (is_raw a) (is_atomic b && gives b result) fits in
+      let q = and_parts (is_atomic b) (gives b result) p.1 in
       subst (λ (o : Option Ty). Planned o (operation intrinsic.FetchXor (x ∷ y ∷ []) (a ∷ b ∷ []) o)) (sym (result_is b result q.1))
-      (fetch_safe s t c sound enabled rooms v leaves held intrinsic.FetchXor a b x y p.0 (and_true (is_integer b) (nat_le (size_of b) 8) q.0).0 shapes.0 shapes.1.0)
+      (fetch_safe s t c sound enabled rooms v leaves held intrinsic.FetchXor a b x y p.0 (and_parts (is_integer b) (nat_le (size_of b) 8) q.0).0 shapes.0 shapes.1.0)
   fetch_xor_operates (a ∷ b ∷ []) (x ∷ y ∷ more ∷ args) result shapes fits = absurd (shapes.1.1)
   fetch_xor_operates (a ∷ b ∷ more ∷ types) args result shapes fits = absurd (cc)
 
   print_operates : (types : List Ty) (args : List Val) (result : Option Ty) → HaveShapes types args → fits_intrinsic intrinsic.Print types result ≡ true → Planned result (operation intrinsic.Print args types result)
   print_operates types args result shapes fits =
-      let p = and_true (list_all is_scalar_number types) (gives_nothing result) fits in
+      let p = and_parts (list_all is_scalar_number types) (gives_nothing result) fits in
       print_safe s t c sound enabled rooms v leaves held types args result p.0 shapes (no_result result p.1)
 
   atomic_load_operates : (types : List Ty) (args : List Val) (result : Option Ty) → HaveShapes types args → fits_intrinsic intrinsic.AtomicLoad types result ≡ true → Planned result (operation intrinsic.AtomicLoad args types result)
@@ -206,8 +206,8 @@ module _ (s : Shared) (t c : ℕ) (sound : IsSoundTables (tables_of s)) (enabled
   atomic_load_operates (a ∷ []) args None shapes fits = absurd (cc)
   atomic_load_operates (a ∷ []) [] (Some b) shapes fits = absurd shapes
   atomic_load_operates (a ∷ []) (x ∷ []) (Some b) shapes fits =
-      let p = and_true (is_raw a) (is_atomic b) fits in
-      atomic_load_safe s t c sound enabled rooms v leaves held a b x p.0 shapes.0 (and_true (is_integer b) (nat_le (size_of b) 8) p.1).0
+      let p = and_parts (is_raw a) (is_atomic b) fits in
+      atomic_load_safe s t c sound enabled rooms v leaves held a b x p.0 shapes.0 (and_parts (is_integer b) (nat_le (size_of b) 8) p.1).0
   atomic_load_operates (a ∷ []) (x ∷ more ∷ args) (Some b) shapes fits = absurd (shapes.1)
   atomic_load_operates (a ∷ more ∷ types) args result shapes fits = absurd (cc)
 

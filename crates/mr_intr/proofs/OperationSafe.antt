@@ -2,6 +2,7 @@
 use Rattle.std.proofs.Common.{◌≡◌, ℕ, ◌<◌, ◌*◌, ◌^◌, refl, subst, sym, ap, ◌∙◌, arith, List, [], ◌∷◌, length, Option, Some, None, Bool, true, false}
 use Rattle.std.specs.Prelude.{◌||◌, slice_get, if◌then◌else◌, is_some, nat_lt, ◌-◌, ◌++◌}
 use Rattle.std.specs.List.{list_all}
+use Rattle.std.proofs.lemmas.Bool.{and_parts}
 use Rattle.mr_ast.specs.Integers.{int_size}
 use Rattle.mr_ast.specs.declared.types.IntType.{IntType}
 use Rattle.mr_ast.specs.declared.types.IntType.TheVariants.{U64}
@@ -15,7 +16,6 @@ use Rattle.mr_ast.specs.declared.program.Intrinsic.{Intrinsic}
 use Rattle.mr_base.specs.declared.thread.Status.TheVariants.{Enabled}
 use Rattle.mr_layout.specs.Sizes.{align_of, size_of}
 use Rattle.mr_base.proofs.Comparisons.{lt_test}
-use Rattle.mr_layout.proofs.PartsOk.{and_true}
 use Rattle.mr_layout.proofs.SizeLaws.{size_int}
 use Rattle.mr_mem.specs.Memory.{ranges_of}
 use Rattle.mr_value.specs.declared.val.Val.{Val, out-Val}
@@ -27,12 +27,12 @@ use Rattle.mr_value.proofs.DecodeShape.{number_fits}
 use Rattle.mr_value.proofs.ShapeLaws.{has_int, has_raw, shape_int}
 use Rattle.mr_wf.specs.Intrinsics.{gives, gives_nothing}
 use Rattle.mr_wf.specs.Operands.{is_bool, is_int, is_integer, is_raw, is_scalar_number}
-use Rattle.mr_wf.specs.Types.{integer_of}
+use Rattle.mr_wf.specs.Types.{integer_of, integer_in}
 use Rattle.mr_wf.proofs.KindLaws.{bool_is, integer_is}
 use Rattle.mr_wf.proofs.SameTypeLaws.{same_type_equal}
 use Rattle.mr_script.specs.Script.{Done, Undefined, Ask, ◌>>=◌, run}
 use Rattle.mr_eval.specs.MemoryQueries.{Allocate, Free, MemoryScript, Modify, Write, reading_part}
-use Rattle.mr_eval.specs.Operators.{or_ill_formed}
+use Rattle.mr_eval.specs.Operators.{or_ill_formed, pointer_in}
 use Rattle.mr_eval.specs.Reads.{Read}
 use Rattle.mr_eval.specs.Sound.{IsSafe, any_result}
 use Rattle.mr_eval.proofs.OperatorsSafe.{bool_layer, integer_layer, raw_layer}
@@ -53,7 +53,7 @@ use Rattle.mr_plan.proofs.SafetyLaws.{reading_safe}
 use Rattle.mr_plan.proofs.StorageRuns.{Keeps, entails_same, quiet_keeps}
 use Rattle.mr_plan.proofs.QuietRuns.{reading_quiet}
 use Rattle.mr_intr.specs.Effects.{FitsPlace}
-use Rattle.mr_intr.specs.Operations.{Operation, allocate, allocating, assume, assuming, atomic_load, atomic_store, compare_exchange, deallocate, exchanged, fetch, fetched, found, instant, int_in, loaded, modify, number_in, pointer_in, print, truth_in, is_power_of_two, with_pick}
+use Rattle.mr_intr.specs.Operations.{Operation, allocate, allocating, assume, assuming, atomic_load, atomic_store, compare_exchange, deallocate, exchanged, fetch, fetched, found, instant, loaded, modify, number_in, print, truth_in, is_power_of_two, with_pick}
 use Rattle.mr_intr.specs.Texts.{bool_text, number_text, spaced, text_layer, text_of, texts_of}
 use Rattle.mr_value.specs.Discriminants.{number_of_bits}
 use Rattle.mr_intr.proofs.Leaving.{AfterOp, OpPlan, memory_op, same_left}
@@ -217,7 +217,7 @@ module _ (s : Shared) (t c : ℕ) (sound : IsSoundTables (tables_of s)) (enabled
       let i = some_int (integer_of b) is_b in
       let n = number_there b y is_b shape_b in
       λ picks legal.
-      found_then (AfterDone (Some b)) (int_in (out-Ty b)) i.0 _ i.1
+      found_then (AfterDone (Some b)) (integer_in (out-Ty b)) i.0 _ i.1
       (found_then (AfterDone (Some b)) (number_in (out-Val y)) n.0 _ n.1 (modify_safe a b x (fetched op i.0 n.0) is_a shape_a is_b))
 
   texts_safe : (types : List Ty) (args : List Val) → list_all is_scalar_number types ≡ true → HaveShapes types args → IsSafe any_result (texts_of types args)
@@ -225,7 +225,7 @@ module _ (s : Shared) (t c : ℕ) (sound : IsSoundTables (tables_of s)) (enabled
   texts_safe [] (x ∷ args) all shapes = absurd shapes
   texts_safe (a ∷ types) [] all shapes = absurd shapes
   texts_safe (a ∷ types) (x ∷ args) all shapes =
-      let parts = and_true (is_scalar_number a) (list_all is_scalar_number types) all in
+      let parts = and_parts (is_scalar_number a) (list_all is_scalar_number types) all in
       let text = text_there a x parts.0 shapes.0 in
       safe_then any_result any_result (or_ill_formed (text_of a x)) _ (safe_found any_result (text_of a x) text.0 text.1 tt)
       (λ y u. safe_then any_result any_result (texts_of types args) _ (texts_safe types args parts.1 shapes.1) (λ ys w. tt))

@@ -4,6 +4,7 @@ use Rattle.std.proofs.lemmas.List.{drop_all, take_all}
 use Rattle.std.proofs.Math.Seq.{drop-cons}
 use Rattle.std.specs.List.{list_all}
 use Rattle.std.specs.Option.{unwrap_or}
+use Rattle.std.proofs.lemmas.Bool.{and_parts}
 use Rattle.mr_ast.specs.declared.types.IntType.{IntType}
 use Rattle.mr_ast.specs.declared.types.Num.{Num}
 use Rattle.mr_ast.specs.declared.types.Ty.{Ty, out-Ty}
@@ -13,7 +14,6 @@ use Rattle.mr_value.specs.declared.val.Val.{Val, out-Val}
 use Rattle.mr_value.specs.declared.val.Val.TheOpen.{Val-F}
 use Rattle.mr_value.specs.Discriminants.{number_of_bits}
 use Rattle.mr_value.specs.Shape.{has_shape}
-use Rattle.mr_layout.proofs.PartsOk.{and_true}
 use Rattle.mr_wf.specs.Intrinsics.{gives_nothing}
 use Rattle.mr_wf.specs.Operands.{is_scalar_number}
 use Rattle.mr_wf.specs.Types.{integer_of}
@@ -72,7 +72,7 @@ texts_done [] [] all shapes = refl
 texts_done [] (v ∷ args) all shapes = absurd shapes
 texts_done (t ∷ types) [] all shapes = absurd shapes
 texts_done (t ∷ types) (v ∷ args) all shapes =
-    let parts = and_true (is_scalar_number t) (list_all is_scalar_number types) all in
+    let parts = and_parts (is_scalar_number t) (list_all is_scalar_number types) all in
     (λ i. or_ill_formed (has_text t v parts.0 shapes.0 i) >>= λ text. texts_done types args parts.1 shapes.1 i >>= λ texts. Done (text ∷ texts))
 
 -- one more, led by a space
@@ -103,8 +103,8 @@ shape_here (a ∷ types) (x ∷ args) (suc i) t v shapes lt is_t is_v = shape_he
 
 pub scalar_here : (types : List Ty) (i : ℕ) (t : Ty) → list_all is_scalar_number types ≡ true → i < length types → t ≡ get_or types i t → is_scalar_number t ≡ true
 scalar_here [] i t all lt is = absurd (omega arith)
-scalar_here (a ∷ types) zero t all lt is = ap is_scalar_number is ∙ (and_true (is_scalar_number a) (list_all is_scalar_number types) all).0
-scalar_here (a ∷ types) (suc i) t all lt is = scalar_here types i t (and_true (is_scalar_number a) (list_all is_scalar_number types) all).1 (omega arith) is
+scalar_here (a ∷ types) zero t all lt is = ap is_scalar_number is ∙ (and_parts (is_scalar_number a) (list_all is_scalar_number types) all).0
+scalar_here (a ∷ types) (suc i) t all lt is = scalar_here types i t (and_parts (is_scalar_number a) (list_all is_scalar_number types) all).1 (omega arith) is
 
 -- ---- a print
 
@@ -119,11 +119,7 @@ behind_first (t ∷ types) = take_all (length (t ∷ types) - 1) types (omega ar
 
 -- a print takes integers and bools, and gives nothing
 pub print_kinds : (types : List Ty) (args : List Val) (place : Option Ty) → Fits intrinsic.Print args types place → list_all is_scalar_number types ≡ true
-print_kinds types args place fit = (and_true (list_all is_scalar_number types) (gives_nothing place) fit.fitting).0
-
-pub no_args : {A : Type 0} (xs : List A) → length xs ≡ 0 → xs ≡ []
-no_args [] e = refl
-no_args (x ∷ xs) e = absurd (omega (arith, e))
+print_kinds types args place fit = (and_parts (list_all is_scalar_number types) (gives_nothing place) fit.fitting).0
 
 pub no_texts : (types : List Ty) → spaced (texts_in types []) ≡ []
 no_texts [] = refl

@@ -6,8 +6,6 @@ use Rattle.mr_ast.specs.declared.program.Intrinsic.{Intrinsic}
 use Rattle.mr_ast.specs.declared.program.Intrinsic.TheVariants as intrinsic
 use Rattle.mr_ast.specs.declared.types.IntType.{IntType}
 use Rattle.mr_ast.specs.declared.types.Ty.{Ty, out-Ty}
-use Rattle.mr_ast.specs.declared.types.Ty.TheOpen.{Ty-F}
-use Rattle.mr_ast.specs.declared.types.Variant.{Variant}
 use Rattle.mr_base.specs.declared.byte.Kind.TheVariants.{Heap}
 use Rattle.mr_base.specs.declared.byte.Pointer.{Pointer}
 use Rattle.mr_base.specs.declared.reason.Reason.TheVariants.{AssumeFalse, BadAlign, InvalidValue, SizeTooLarge}
@@ -21,12 +19,13 @@ use Rattle.mr_value.specs.declared.val.Val.TheOpen.{Val-F}
 use Rattle.mr_value.specs.Encode.{encoding_of}
 use Rattle.mr_value.specs.Numbers.{number_of}
 use Rattle.mr_script.specs.Script.{Done, Undefined, IllFormed, Ask as Asks, ◌>>=◌}
-use Rattle.mr_eval.specs.MemoryQueries.{Allocate, Free, MemoryScript, Modify, Write, reading_part}
-use Rattle.mr_eval.specs.Operators.{or_ill_formed}
+use Rattle.mr_eval.specs.MemoryQueries.{Allocate, Free, Modify, Write, reading_part}
+use Rattle.mr_eval.specs.Operators.{or_ill_formed, pointer_in}
 use Rattle.mr_eval.specs.Reads.{Read, ReadScript}
 use Rattle.mr_plan.specs.Machine.{CreatesLock, CreatesNothing, Plan}
 use Rattle.mr_plan.specs.Queries.{Await, NewLock, OfMemory, Print, StepScript, TryLock, Unlock, Waiting, memory_part}
 use Rattle.mr_intr.specs.Texts.{spaced, texts_of}
+use Rattle.mr_wf.specs.Types.{integer_in}
 
 -- what an intrinsic comes to: a value, where it gives one
 abbrev pub Result : Type 0
@@ -50,10 +49,6 @@ with_pick ask f = record { creates = CreatesNothing; asks = ask ∷ []; go = pic
     picked g (pick ∷ []) = g pick
     picked g _ = IllFormed
 
--- a part that only memory is asked in
-abbrev pub on_memory : MemoryScript Result → Operation
-on_memory script = instant (memory_part script)
-
 -- what evaluation could find out without memory
 abbrev pub found : {A : Type 0} → Option A → StepScript A
 found o = memory_part (reading_part (or_ill_formed o))
@@ -67,16 +62,6 @@ number_in _ = None
 abbrev pub truth_in : Val-F Val → Option Bool
 truth_in (Val-F.Bool b) = Some b
 truth_in _ = None
-
--- the pointer that a value is
-abbrev pub pointer_in : Val-F Val → Option Pointer
-pointer_in (Val-F.Ptr p) = Some p
-pointer_in _ = None
-
--- the integer type that a type is
-abbrev pub int_in : Ty-F Ty Variant → Option IntType
-int_in (Ty-F.Int int) = Some int
-int_in _ = None
 
 -- an unsigned integer's number, and an integer's bits
 abbrev pub number : Val → StepScript ℕ
@@ -209,7 +194,7 @@ fetched _ int k n = None
 -- `fetch_add` to `fetch_xor`
 abbrev pub fetch : Intrinsic → Val → Ty → Val → Operation
 fetch op at t v = instant (do
-  int ← found (int_in (out-Ty t))
+  int ← found (integer_in (out-Ty t))
   k ← number v
   modify at t (fetched op int k))
 

@@ -1,5 +1,5 @@
 //! The arguments of an intrinsic that fit it.
-ghost use Rattle.std.specs.Prelude.{◌≡◌, ℕ, Some, option_copied, slice_get};
+ghost use Rattle.std.specs.Prelude.{◌≡◌, Some, option_copied, slice_get};
 ghost use Rattle.mr_ast.specs.declared.types.Ty.TheVariants as ty;
 ghost use Rattle.mr_intr.specs.Arguments.{HasInteger, HasNumber, HasPointer, HasTruth};
 
@@ -25,17 +25,6 @@ pub fn pointer_at(args: &[Val], at: usize) -> Pointer
 {
     match &args[at] {
         Val::Ptr(p) => *p,
-        _ => unreachable!(),
-    }
-}
-
-/// The bits of an integer.
-pub fn bits(v: &Val) -> u128
-    requires { (n : ℕ) × (v.now ≡ Val.Int n) }
-    ensures { v.now ≡ Val.Int result }
-{
-    match v {
-        Val::Int(bits) => *bits,
         _ => unreachable!(),
     }
 }

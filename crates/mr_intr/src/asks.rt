@@ -49,7 +49,8 @@ fn waits_for_held(sync: &SyncTable, t: u32, lock: u32) -> Result<bool, Reason>
 // An address for an allocation.
 fn allocation_needs(args: &[Val]) -> Result<Needs, Reason>
     requires { CanTake intrinsic.Allocate args.now }
-    ensures { (types : List Ty) (place : Option Ty) (w : Shared × Notes) → TellsNeeds result (run answer (operation intrinsic.Allocate args.now types place) w) }
+    ensures { (types : List Ty) (place : Option Ty) (w : Shared × Notes)
+        → TellsNeeds result (run answer (operation intrinsic.Allocate args.now types place) w) }
 {
     let size = size_at(args, 0);
     let align = size_at(args, 1);
@@ -62,7 +63,8 @@ fn allocation_needs(args: &[Val]) -> Result<Needs, Reason>
 // A waiting thread, where one waits for the lock.
 fn release_needs(args: &[Val], sync: &SyncTable, thread: u32) -> Result<Needs, Reason>
     requires { CanTake intrinsic.Release args.now }
-    ensures { (types : List Ty) (place : Option Ty) (m : Memory) (n : Notes) → n.tally.thread ≡ thread → TellsNeeds result (run answer (operation intrinsic.Release args.now types place) (shared_of m sync.now, n)) }
+    ensures { (types : List Ty) (place : Option Ty) (m : Memory) (n : Notes) → n.tally.thread ≡ thread
+        → TellsNeeds result (run answer (operation intrinsic.Release args.now types place) (shared_of m sync.now, n)) }
 {
     let lock = number_at(args, 0);
     if waits_for_held(sync, thread, lock)? {
@@ -78,7 +80,9 @@ fn release_needs(args: &[Val], sync: &SyncTable, thread: u32) -> Result<Needs, R
 pub fn needs_of(op: Intrinsic, args: &[Val], sync: &SyncTable, thread: u32) -> Result<Needs, Reason>
     requires operation { IsOperation op }
     requires fits { CanTake op args.now }
-    ensures { (types : List Ty) (place : Option Ty) (m : Memory) (n : Notes) → Fits op args.now types place → n.tally.thread ≡ thread → TellsNeeds result (run answer (operation op args.now types place) (shared_of m sync.now, n)) }
+    ensures { (types : List Ty) (place : Option Ty) (m : Memory) (n : Notes) → Fits op args.now types place
+        → n.tally.thread ≡ thread
+        → TellsNeeds result (run answer (operation op args.now types place) (shared_of m sync.now, n)) }
 {
     match op {
         Intrinsic::Allocate => allocation_needs(args),

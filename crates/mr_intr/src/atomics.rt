@@ -14,7 +14,7 @@ ghost use Rattle.mr_intr.specs.Atomics.{IsFetch, numbered, number_read, number_w
 ghost use Rattle.mr_intr.specs.Effects.{ChangesMemory, CanTake, Fits, FitsPlace};
 ghost use Rattle.mr_intr.specs.Operations.{exchanged, fetched};
 
-use crate::args::{bits, bits_at, integer_of, pointer_at};
+use crate::args::{bits_at, integer_of, pointer_at};
 use crate::effect::Effect;
 use mr_ast::{IntType, Intrinsic, Ty};
 use mr_base::{Pointer, Reason};
@@ -23,7 +23,7 @@ use mr_intops::{ArithOp, arith};
 use mr_layout::{align, int_bytes};
 use mr_mem::Memory;
 use mr_runs::View;
-use mr_value::{Val, decode_scalar, encode};
+use mr_value::{Val, bits_in, decode_scalar, encode};
 use std::alloc::Global;
 
 // The number that lent bytes are.
@@ -34,7 +34,7 @@ fn number_in(view: &View<'_>, int: IntType) -> Result<u128, Reason>
     ensures small { IfOk result (λ n. n < 2 ^ (8 * int_size int)) }
 {
     match decode_scalar(view, &Ty::Int(int)) {
-        Some(v) => Ok(bits(&v)),
+        Some(v) => Ok(bits_in(&v)),
         None => Err(Reason::InvalidValue),
     }
 }
@@ -88,7 +88,8 @@ fn exchange(
     new: u128,
 ) -> Result<u128, Fault>
     requires { new < 2 ^ (8 * int_size int) }
-    ensures told { Tells result (memory_answer (Modify p (int_size int) (exchanged expected new)) (world_of s.old)) (world_of s.new) }
+    ensures told { Tells result (memory_answer (Modify p (int_size int) (exchanged expected new)) (world_of s.old))
+        (world_of s.new) }
     ensures small { IfOk result (λ n. n < 2 ^ (8 * int_size int)) }
 {
     let found = load_number(&s.memory, &mut s.notes, p, int)?;
@@ -140,7 +141,8 @@ fn replace(
 ) -> Result<u128, Fault>
     requires op { IsFetch op }
     requires by { by < 2 ^ (8 * int_size int) }
-    ensures told { Tells result (memory_answer (Modify p (int_size int) (fetched op int by)) (world_of s.old)) (world_of s.new) }
+    ensures told { Tells result (memory_answer (Modify p (int_size int) (fetched op int by)) (world_of s.old))
+        (world_of s.new) }
     ensures small { IfOk result (λ n. n < 2 ^ (8 * int_size int)) }
 {
     let found = load_number(&s.memory, &mut s.notes, p, int)?;
@@ -152,7 +154,8 @@ fn replace(
 /// The atomic load of an integer of the type of the place for it.
 pub fn atomic_load(args: &[Val], place: Option<&Ty>, s: &mut Scene) -> Result<Effect, Fault>
     requires { (types : List Ty) × Fits intrinsic.AtomicLoad args.now types (option_copied place) }
-    ensures done { (types : List Ty) (picks : List ℕ) → ChangesMemory intrinsic.AtomicLoad result args.now types (option_copied place.entry) picks s.old s.new }
+    ensures done { (types : List Ty) (picks : List ℕ)
+        → ChangesMemory intrinsic.AtomicLoad result args.now types (option_copied place.entry) picks s.old s.new }
     ensures value { IfOk result (λ e. FitsPlace (option_copied place.entry) e.value) }
 {
     let n = load_number(
@@ -172,7 +175,8 @@ pub fn atomic_store(
     s: &mut Scene,
 ) -> Result<Effect, Fault>
     requires { (place : Option Ty) × Fits intrinsic.AtomicStore args.now types.now place }
-    ensures done { (place : Option Ty) (picks : List ℕ) → ChangesMemory intrinsic.AtomicStore result args.now types.now place picks s.old s.new }
+    ensures done { (place : Option Ty) (picks : List ℕ)
+        → ChangesMemory intrinsic.AtomicStore result args.now types.now place picks s.old s.new }
     ensures value { IfOk result (λ e. FitsPlace None e.value) }
 {
     let p = pointer_at(args, 0);
@@ -198,7 +202,8 @@ pub fn compare_exchange(
     s: &mut Scene,
 ) -> Result<Effect, Fault>
     requires { (types : List Ty) × Fits intrinsic.CompareExchange args.now types (option_copied place) }
-    ensures done { (types : List Ty) (picks : List ℕ) → ChangesMemory intrinsic.CompareExchange result args.now types (option_copied place.entry) picks s.old s.new }
+    ensures done { (types : List Ty) (picks : List ℕ)
+        → ChangesMemory intrinsic.CompareExchange result args.now types (option_copied place.entry) picks s.old s.new }
     ensures value { IfOk result (λ e. FitsPlace (option_copied place.entry) e.value) }
 {
     let p = pointer_at(args, 0);
@@ -218,7 +223,8 @@ pub fn fetch(
 ) -> Result<Effect, Fault>
     requires op { IsFetch op }
     requires fits { (types : List Ty) × Fits op args.now types (option_copied place) }
-    ensures done { (types : List Ty) (picks : List ℕ) → ChangesMemory op result args.now types (option_copied place.entry) picks s.old s.new }
+    ensures done { (types : List Ty) (picks : List ℕ)
+        → ChangesMemory op result args.now types (option_copied place.entry) picks s.old s.new }
     ensures value { IfOk result (λ e. FitsPlace (option_copied place.entry) e.value) }
 {
     let p = pointer_at(args, 0);

@@ -30,9 +30,11 @@ pub fn allocation_fault(size: u64, align: u64) -> Option<Reason>
 /// A new allocation at the picked address, and the pointer to it.
 pub fn allocate(args: &[Val], s: &mut Scene, picks: &[u64]) -> Result<Effect, Fault>
     requires fits { CanTake intrinsic.Allocate args.now }
-    requires lawful { (types : List Ty) × (place : Option Ty) × (x : Tables) × AreLawful intrinsic.Allocate args.now types place picks.now s.old x }
+    requires lawful { (types : List Ty) × (place : Option Ty) × (x : Tables)
+        × AreLawful intrinsic.Allocate args.now types place picks.now s.old x }
     requires count { CanCount s.old }
-    ensures done { (types : List Ty) (place : Option Ty) → ChangesMemory intrinsic.Allocate result args.now types place picks.now s.old s.new }
+    ensures done { (types : List Ty) (place : Option Ty)
+        → ChangesMemory intrinsic.Allocate result args.now types place picks.now s.old s.new }
     ensures value { IfOk result (λ e. FitsPlace (Some ty.Raw) e.value) }
 {
     let size = size_at(args, 0);
@@ -49,7 +51,8 @@ pub fn allocate(args: &[Val], s: &mut Scene, picks: &[u64]) -> Result<Effect, Fa
 /// The end of an allocation.
 pub fn deallocate(args: &[Val], s: &mut Scene) -> Result<Effect, Fault>
     requires { CanTake intrinsic.Deallocate args.now }
-    ensures done { (types : List Ty) (place : Option Ty) (picks : List ℕ) → ChangesMemory intrinsic.Deallocate result args.now types place picks s.old s.new }
+    ensures done { (types : List Ty) (place : Option Ty) (picks : List ℕ)
+        → ChangesMemory intrinsic.Deallocate result args.now types place picks s.old s.new }
     ensures value { IfOk result (λ e. FitsPlace None e.value) }
 {
     let p = pointer_at(args, 0);

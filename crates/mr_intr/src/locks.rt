@@ -1,5 +1,6 @@
 //! Threads and locks.
 ghost use Rattle.std.specs.Prelude.{◌≡◌, ℕ, ◌<◌, [], length, List, Option, Some, None, IfOk, OnErr};
+ghost use Rattle.mr_base.specs.Limits.{max_locks};
 ghost use Rattle.mr_ast.specs.declared.program.Intrinsic.TheVariants as intrinsic;
 ghost use Rattle.mr_ast.specs.declared.types.IntType.TheVariants.{U32};
 ghost use Rattle.mr_ast.specs.declared.types.Ty.{Ty};
@@ -33,8 +34,9 @@ pub fn join(args: &[Val], thread: u32, sync: &mut SyncTable) -> Result<Effect, F
 
 /// A new lock, and its number.
 pub fn create_lock(sync: &mut SyncTable) -> Result<Effect, Fault>
-    requires { length sync.old.holders < 4096 }
-    ensures done { (picks : List ℕ) (thread : ℕ) → ChangesTables intrinsic.CreateLock result [] picks thread sync.old sync.new }
+    requires { length sync.old.holders < max_locks }
+    ensures done { (picks : List ℕ) (thread : ℕ)
+        → ChangesTables intrinsic.CreateLock result [] picks thread sync.old sync.new }
     ensures value { IfOk result (λ e. FitsPlace (Some (ty.Int U32)) e.value) }
     ensures err { OnErr result (sync.new ≡ sync.old) }
 {
@@ -85,7 +87,8 @@ pub fn release(
 ) -> Result<Effect, Fault>
     requires fits { CanTake intrinsic.Release args.now }
     requires enabled { IsEnabled thread sync.old }
-    requires lawful { (types : List Ty) × (place : Option Ty) × (s : Scene) × (s.thread ≡ thread) × AreLawful intrinsic.Release args.now types place picks.now s sync.old }
+    requires lawful { (types : List Ty) × (place : Option Ty) × (s : Scene) × (s.thread ≡ thread)
+        × AreLawful intrinsic.Release args.now types place picks.now s sync.old }
     ensures done { ChangesTables intrinsic.Release result args.now picks.now thread sync.old sync.new }
     ensures value { IfOk result (λ e. FitsPlace None e.value) }
     ensures err { OnErr result (sync.new ≡ sync.old) }

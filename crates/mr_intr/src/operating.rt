@@ -33,7 +33,8 @@ pub fn operate(
     requires enabled { IsEnabled s.old.thread sync.old }
     requires lawful { AreLawful op args.now arg_types.now (option_copied result_type) picks.now s.old sync.old }
     requires count { CanCount s.old }
-    ensures done { Does op result (operated op args.now arg_types.now (option_copied result_type.entry) picks.now (begun s.old sync.old)) s.new sync.new output.old.items output.new.items }
+    ensures done { Does op result (operated op args.now arg_types.now (option_copied result_type.entry) picks.now
+        (begun s.old sync.old)) s.new sync.new output.old.items output.new.items }
     ensures value { IfOk result (λ e. FitsPlace (option_copied result_type.entry) e.value) }
     ensures err { OnErr result (sync.new ≡ sync.old) }
 {

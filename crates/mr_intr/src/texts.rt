@@ -25,7 +25,8 @@ use std::alloc::AllocError;
 /// Nothing, where the argument is true.
 pub fn assume(args: &[Val]) -> Result<Effect, Fault>
     requires { CanTake intrinsic.Assume args.now }
-    ensures done { (types : List Ty) (place : Option Ty) (picks out : List ℕ) (s : Scene) (x : Tables) → Does intrinsic.Assume result (operated intrinsic.Assume args.now types place picks (begun s x)) s x out out }
+    ensures done { (types : List Ty) (place : Option Ty) (picks out : List ℕ) (s : Scene) (x : Tables)
+        → Does intrinsic.Assume result (operated intrinsic.Assume args.now types place picks (begun s x)) s x out out }
     ensures value { IfOk result (λ e. FitsPlace None e.value) }
 {
     if truth_at(args, 0) {
@@ -83,7 +84,8 @@ fn push_others(text: &mut Vec<u8>, types: &[Ty], args: &[Val]) -> Result<(), All
 /// Appends the texts of the arguments to the output, with a space between.
 pub fn print(args: &[Val], types: &[Ty], output: &mut Vec<u8>) -> Result<Effect, Fault>
     requires { (place : Option Ty) × Fits intrinsic.Print args.now types.now place }
-    ensures done { (place : Option Ty) (picks : List ℕ) (s : Scene) (x : Tables) → Does intrinsic.Print result (operated intrinsic.Print args.now types.now place picks (begun s x)) s x output.old.items output.new.items }
+    ensures done { (place : Option Ty) (picks : List ℕ) (s : Scene) (x : Tables) → Does intrinsic.Print result
+        (operated intrinsic.Print args.now types.now place picks (begun s x)) s x output.old.items output.new.items }
     ensures value { IfOk result (λ e. FitsPlace None e.value) }
 {
     let Some((first, rest)) = args.split_first() else {

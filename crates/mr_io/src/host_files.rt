@@ -102,7 +102,8 @@ fn take_file<H: Opener>(
     ensures whole { OnOk result (Opened H.opens host.old name.now host.new
         (IsGained H.File.gives max into.old.items into.new.items)) }
     ensures failed { IsErrOf result FileFault.Failed → HostFailed H.opens H.File.gives host.old name.now host.new }
-    ensures more { IsErrOf result FileFault.Long → Opened H.opens host.old name.now host.new (HasMore H.File.gives max) }
+    ensures more { IsErrOf result FileFault.Long
+        → Opened H.opens host.old name.now host.new (HasMore H.File.gives max) }
     ensures taken { taken.new ≤ max + 1 }
     ensures ok { OnOk result ((taken.new ≤ max) × GrowsBy taken.new into.old.items into.new.items) }
     ensures err { OnErr result (Grows into.old.items into.new.items) }

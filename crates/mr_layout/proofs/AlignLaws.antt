@@ -36,5 +36,3 @@ align_union size align fields chunks = ap align_of (sym (ty.rolls-Union size ali
 
 pub align_enum : (size align : ℕ) (disc : IntType) (variants : List Variant) (tree : Tree) → align_of (ty.Enum size align disc variants tree) ≡ align
 align_enum size align disc variants tree = ap align_of (sym (ty.rolls-Enum size align disc variants tree)) ∙ fold-roll-Ty ℕ ℕ align_step variant_step (Ty-F.Enum size align disc variants tree)
-
-pub ruleset align_laws = (align_int, align_bool, align_raw, align_fn_ptr, align_ref, align_tuple, align_array, align_union, align_enum)

@@ -1,9 +1,7 @@
 -- The alignment of a type without a broken rule is a power of two of at most 4096, and its size is a multiple of it.
-use Rattle.std.proofs.Common.{◌≡◌, ℕ, zero, suc, ◌*◌, ◌%◌, ◌<◌, ◌≤◌, true, refl, sym, ap, ◌∙◌, arith}
-use Rattle.std.proofs.lemmas.Bool.Decides.{nat_tests}
+use Rattle.std.proofs.Common.{◌≡◌, ℕ, ◌*◌, ◌%◌, true, refl, sym, ap, ◌∙◌, arith}
 use Rattle.std.proofs.lemmas.Nat.{mul-mod_second}
 use Rattle.std.specs.Int.Count.{ones}
-use Rattle.std.specs.Prelude.{count_ones, nat_le, ◌==◌}
 use Rattle.mr_ast.specs.declared.types.IntType.{IntType}
 use Rattle.mr_ast.specs.declared.types.IntType.TheVariants.{U8, U16, U32, U64, U128, I8, I16, I32, I64, I128}
 use Rattle.mr_ast.specs.declared.types.Ty.{Ty}
@@ -15,17 +13,7 @@ use Rattle.mr_layout.specs.Rules.{is_align}
 use Rattle.mr_layout.specs.TypeOk.{TypeOk}
 use Rattle.mr_layout.proofs.SizeLaws.{size_int, size_bool, size_raw, size_fn_ptr, size_ref, size_tuple, size_array, size_union, size_enum}
 use Rattle.mr_layout.proofs.AlignLaws.{align_int, align_bool, align_raw, align_fn_ptr, align_ref, align_tuple, align_array, align_union, align_enum}
-use Rattle.mr_layout.proofs.PartsOk.{and_true}
 use Rattle.mr_layout.proofs.WellFormed.{tuple_ok, array_ok, union_ok, enum_ok}
-
--- an alignment isn't 0, and at most 4096
-pub align_positive : (a : ℕ) → is_align a ≡ true → 0 < a
-unfolding ones
-align_positive zero e = absurd (cc)
-align_positive (suc a) e = omega arith
-
-pub align_small : (a : ℕ) → is_align a ≡ true → a ≤ 4096
-align_small a e = let h = (and_true (count_ones a == 1) (nat_le a 4096) e).1 in grind (arith, nat_tests)
 
 -- a type's alignment is one, and its size is a multiple of it
 pub record IsAligned (t : Ty) : Type 0 where

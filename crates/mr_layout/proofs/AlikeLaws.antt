@@ -4,7 +4,8 @@ use Rattle.std.specs.Prelude.{not, ◌&&◌, ◌==◌, nat_le, nat_lt, if◌then
 use Rattle.std.specs.List.{list_any}
 use Rattle.std.proofs.lemmas.Bool.{or_parts}
 use Rattle.std.proofs.lemmas.Bool.Decides.{nat_tests}
-use Rattle.std.proofs.lemmas.List.{map-append, take_more}
+use Rattle.std.proofs.lemmas.List.{map-append, take_more, drop_more}
+use Rattle.std.proofs.lemmas.List.Sorted.{list_any-IsPermutation}
 use Rattle.mr_ast.specs.declared.types.IntType.{IntType}
 use Rattle.mr_ast.specs.declared.types.Num.{Num}
 use Rattle.mr_ast.specs.declared.types.Tag.{Tag}
@@ -14,9 +15,8 @@ use Rattle.mr_ast.specs.declared.types.Variant.{Variant}
 use Rattle.mr_ast.specs.Integers.{int_size, is_fitting}
 use Rattle.mr_base.specs.Pairs.{some_pair, same_pair, are_meeting, not_empty}
 use Rattle.mr_base.proofs.Twins.{some_pair_not_empty}
-use Rattle.mr_layout.specs.Alike.{number_key, variant_key, case_key, tag_range, field_range, number_twice, case_twice, tags_meeting, each_variant, are_tags_fitting, is_some_tag_used, each_case}
+use Rattle.mr_layout.specs.Alike.{AreKeys, number_key, variant_key, case_key, tag_range, field_range, number_twice, case_twice, tags_meeting, each_variant, are_tags_fitting, is_some_tag_used, each_case}
 use Rattle.mr_layout.specs.EnumRules.{same_num, is_number_of, are_variants, meets_tag, is_some_used, are_tags, is_case, is_tree, are_tree_cases}
-use Rattle.mr_layout.proofs.Turns.{left_at}
 use Rattle.mr_layout.specs.Rules.{is_past, meets_any, is_overlapping, meets_chunk, is_chunk_overlapping}
 use Rattle.mr_layout.specs.Sizes.{size_of, align_of}
 
@@ -97,6 +97,10 @@ is_number_of_keys : (n : Num) (variants : List Variant) → is_number_of n varia
 is_number_of_keys n [] = refl
 is_number_of_keys n (v ∷ variants) = (λ i. same_key n v.number i || is_number_of_keys n variants i)
 
+-- a variant has the number where it stands among the numbers of the variants, in whichever order
+pub known_keys : (n : Num) (variants : List Variant) (keys : List (ℕ × ℕ)) → AreKeys variants keys → list_any (same_pair (number_key n)) keys ≡ is_number_of n variants
+known_keys n variants keys h = sym (is_number_of_keys n variants ∙ list_any-IsPermutation (same_pair (number_key n)) (map variant_key variants) keys h.moved)
+
 pub number_twice_keys : (variants : List Variant) → some_pair same_pair (map variant_key variants) ≡ number_twice variants
 number_twice_keys [] = refl
 number_twice_keys (v ∷ variants) = (λ i. sym (is_number_of_keys v.number variants) i || number_twice_keys variants i)
@@ -174,4 +178,4 @@ not_empty_next xs i d inside old new before pushed =
 pub past_next : (end : ℕ) (fields : List (ℕ × Ty)) (i : ℕ) (d : ℕ × Ty) → i < length fields → is_past end (drop i fields) ≡ false → is_past end (drop (i + 1) fields) ≡ false
 past_next end fields i d inside none =
     let f = get_or fields i d in
-    (or_parts (nat_lt end (f.0 + size_of f.1)) (is_past end (drop (i + 1) fields)) (sym (ap (is_past end) (left_at fields i d inside)) ∙ none)).1
+    (or_parts (nat_lt end (f.0 + size_of f.1)) (is_past end (drop (i + 1) fields)) (sym (ap (is_past end) (drop_more fields i d inside)) ∙ none)).1

@@ -1,16 +1,18 @@
 -- Types with their sizes and alignments, whether they have a value, their used bytes, and which types are written with them, computed.
-use Rattle.std.proofs.Common.{◌≡◌, ◌*◌, true, false, [], ◌∷◌, ap, ◌∙◌}
+use Rattle.std.proofs.Common.{◌≡◌, ℕ, ◌*◌, Bool, true, false, [], ◌∷◌, sym, ap, ◌∙◌}
+use Rattle.std.specs.Prelude.{not}
 use Rattle.mr_ast.specs.declared.types.IntType.TheVariants.{U8, U16, U32, I16, I128}
 use Rattle.mr_ast.specs.declared.types.Ty.{Ty}
 use Rattle.mr_ast.specs.declared.types.Ty.TheVariants as ty
+use Rattle.mr_ast.specs.declared.types.Ty.TheOpen.{Ty-F}
+use Rattle.mr_ast.specs.declared.types.Ty.TheFolds.{fold-roll-Ty}
 use Rattle.mr_ast.specs.declared.expr.Place.TheVariants as place
 use Rattle.mr_ast.specs.declared.expr.Value.TheVariants as value
 use Rattle.mr_layout.specs.Used.{is_used}
 use Rattle.mr_layout.specs.Written.{types_of, types_of_place, types_of_value}
-use Rattle.mr_layout.specs.Sizes.{size_of, align_of, is_inhabited}
+use Rattle.mr_layout.specs.Sizes.{size_of, align_of, is_inhabited, inhabited_step, variant_step}
 use Rattle.mr_layout.proofs.SizeLaws.{size_int, size_tuple, size_array}
 use Rattle.mr_layout.proofs.AlignLaws.{align_int, align_tuple, align_array}
-use Rattle.mr_layout.proofs.InhabitedLaws.{inhabited_ref}
 use Rattle.mr_layout.proofs.UsedLaws.{used_laws}
 use Rattle.mr_layout.proofs.WrittenLaws.{parts_laws, written_laws}
 
@@ -46,6 +48,9 @@ array_size = size_array 3 (ty.Int U16) ∙ ap (λ n. 3 * n) (size_int U16)
 
 array_alignment : align_of three ≡ 2
 array_alignment = align_array 3 (ty.Int U16) ∙ align_int U16
+
+inhabited_ref : (size align : ℕ) (never : Bool) → is_inhabited (ty.Ref size align never) ≡ not never
+inhabited_ref size align never = ap is_inhabited (sym (ty.rolls-Ref size align never)) ∙ fold-roll-Ty Bool Bool inhabited_step variant_step (Ty-F.Ref size align never)
 
 -- a reference to what has no value has none
 reference_to_a_value : is_inhabited (ty.Ref 2 2 false) ≡ true

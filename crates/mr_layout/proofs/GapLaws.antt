@@ -10,14 +10,15 @@ use Rattle.mr_layout.specs.Used.{is_in, is_in_part, is_in_chunk, is_used}
 use Rattle.mr_layout.specs.Rules.{is_past, is_chunk_past, is_rising, is_rising_after, is_covered, are_covered}
 use Rattle.mr_layout.specs.Met.{is_some_below, is_met, is_in_order, is_in_order_after, end_of, gaps_from, are_outside}
 use Rattle.mr_layout.proofs.Below.{none_below, same_tests}
-use Rattle.mr_layout.proofs.RunLaws.{earlier, le_test, le_of, lt_of}
+use Rattle.mr_layout.proofs.RunLaws.{earlier}
+use Rattle.mr_base.proofs.Comparisons.{le_from, lt_from, le_test}
 
 -- chunks that rise after a start have no byte up to it
 before_rising : (start at : ℕ) (chunks : List (ℕ × ℕ)) → at ≤ start → is_rising_after start chunks ≡ true → is_in_chunk chunks at ≡ false
 before_rising start at [] h e = refl
 before_rising start at (c ∷ chunks) h e =
     let p = and_parts (nat_lt start c.0) (is_rising_after c.0 chunks) e in
-    let l : start < c.0 = lt_of start c.0 p.0 in
+    let l : start < c.0 = lt_from start c.0 p.0 in
     let apart : nat_le c.0 at ≡ false = grind (arith, nat_tests) in
     or_from (is_in c.0 c.1 at) (is_in_chunk chunks at) (and_left (nat_le c.0 at) (nat_lt at (c.0 + c.1)) apart) (before_rising c.0 at chunks (omega arith) p.1)
 
@@ -31,7 +32,7 @@ gap_at : (at start len next k : ℕ) (later : Bool) → (k ≤ start → later �
 gap_at at start len next k true none n = by (nat_le k start) refl
   where
     by : (b : Bool) → nat_le k start ≡ b → (is_in at (start - at) k || (nat_le next k && false)) ≡ (nat_le at k && not (is_in start len k || true))
-    by true e = absurd (clash (none (le_of k start e)))
+    by true e = absurd (clash (none (le_from k start e)))
       where
         clash : true ≡ false → ⊥
         clash h = cc
@@ -71,7 +72,7 @@ one_more low r ranges l small rest = by (nat_lt 0 r.1) refl
         ap (λ b. is_in_order_after low (if b then r ∷ ranges else ranges)) e
         ∙ and_from (nat_le low r.0) (nat_lt 0 r.1 && (nat_le (r.0 + r.1) (2 ^ 64) && is_in_order_after (r.0 + r.1) ranges)) (le_test low r.0 l)
         (and_from (nat_lt 0 r.1) (nat_le (r.0 + r.1) (2 ^ 64) && is_in_order_after (r.0 + r.1) ranges) e
-        (and_from (nat_le (r.0 + r.1) (2 ^ 64)) (is_in_order_after (r.0 + r.1) ranges) (le_test (r.0 + r.1) (2 ^ 64) (small (lt_of 0 r.1 e))) rest))
+        (and_from (nat_le (r.0 + r.1) (2 ^ 64)) (is_in_order_after (r.0 + r.1) ranges) (le_test (r.0 + r.1) (2 ^ 64) (small (lt_from 0 r.1 e))) rest))
     by false e = ap (λ b. is_in_order_after low (if b then r ∷ ranges else ranges)) e ∙ earlier low (r.0 + r.1) ranges (omega arith) rest
 
 -- what was looked at never ends before a chunk's start
@@ -80,7 +81,7 @@ ends_behind at c = by (nat_lt at (c.0 + c.1)) refl
   where
     by : (b : Bool) → nat_lt at (c.0 + c.1) ≡ b → at + (c.0 - at) ≤ end_of at c
     by true e =
-        let l : at < c.0 + c.1 = lt_of at (c.0 + c.1) e in
+        let l : at < c.0 + c.1 = lt_from at (c.0 + c.1) e in
         let h : at + (c.0 - at) ≤ c.0 + c.1 = omega arith in
         subst (λ n. at + (c.0 - at) ≤ n) (sym (ap (λ b. if b then c.0 + c.1 else at) e)) h
     by false e =

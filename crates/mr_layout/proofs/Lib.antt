@@ -1,15 +1,12 @@
 pub mod AlignLaws
 pub mod Aligned
 pub mod AlikeLaws
-pub mod Apart
 pub mod Below
 pub mod Bounds
 pub mod BrokenLaws
 pub mod CacheLaws
 pub mod Examples
 pub mod GapLaws
-pub mod HeldTypes
-pub mod InhabitedLaws
 pub mod MetLaws
 pub mod OkTests
 pub mod PartFacts
@@ -21,7 +18,6 @@ pub mod TagLaws
 pub mod TreeLaws
 pub mod TreeOk
 pub mod Turns
-pub mod UsedInside
 pub mod UsedLaws
 pub mod WellFormed
 pub mod WrittenLaws

@@ -1,10 +1,9 @@
 -- The parts of a type without a broken rule, as facts.
-use Rattle.std.specs.Prelude.{◌≡◌, ℕ, ◌+◌, ◌≤◌, Bool, true, false, ◌&&◌, ◌==◌, None, List, [], ◌∷◌}
+use Rattle.std.specs.Prelude.{◌≡◌, ℕ, ◌+◌, ◌≤◌, List, [], ◌∷◌}
 use Rattle.mr_ast.specs.declared.types.Ty.{Ty}
 use Rattle.mr_ast.specs.declared.types.Variant.{Variant}
 use Rattle.mr_layout.specs.Sizes.{size_of}
-use Rattle.mr_layout.specs.TypeOk.{TypeOk, first_broken_field, first_broken_variant}
-use Rattle.mr_layout.specs.Rules.{is_past}
+use Rattle.mr_layout.specs.TypeOk.{TypeOk}
 
 -- a part breaks no rule and lies inside the size
 pub record PartOk (size at : ℕ) (t : Ty) : Type 0 where
@@ -25,17 +24,3 @@ ChunksInside size (c ∷ chunks) = (c.0 + c.1 ≤ size) × ChunksInside size chu
 abbrev pub VariantsOk : ℕ → List Variant → Type 0
 VariantsOk size [] = Unit {0}
 VariantsOk size (v ∷ variants) = PartOk size 0 v.ty × (size_of v.ty ≡ size) × VariantsOk size variants
-
--- each variant has the size
-abbrev pub are_sized : ℕ → List Variant → Bool
-are_sized size [] = true
-are_sized size (v ∷ variants) = (size_of v.ty == size) && are_sized size variants
-
--- the same facts as tests, for loops
-pub record AreFields (size : ℕ) (fields : List (ℕ × Ty)) : Type 0 where
-  pub unbroken : first_broken_field fields ≡ None
-  pub inside : is_past size fields ≡ false
-
-pub record AreVariants (size : ℕ) (variants : List Variant) : Type 0 where
-  pub unbroken : first_broken_variant variants ≡ None
-  pub sized : are_sized size variants ≡ true

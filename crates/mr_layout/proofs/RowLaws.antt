@@ -5,18 +5,19 @@ use Rattle.std.proofs.lemmas.Bool.{and_parts, and_from, and_left, or_from}
 use Rattle.std.proofs.Math.Nat.{mod-add-div', mod-eq_of_lt, suc-mul}
 use Rattle.std.proofs.lemmas.Nat.{mod-mul-add}
 use Rattle.std.proofs.lemmas.Bool.{or_cases, or_left, or_right}
+use Rattle.std.proofs.lemmas.List.{drop_more}
 use Rattle.mr_ast.specs.declared.types.Ty.{Ty}
 use Rattle.mr_ast.specs.declared.types.Ty.TheVariants as ty
 use Rattle.mr_layout.specs.Sizes.{size_of}
 use Rattle.mr_layout.specs.Used.{Use, is_in, is_in_part, is_in_chunk, is_used}
 use Rattle.mr_layout.specs.Met.{is_some_below, is_met, is_row_met, are_rows_met, ranges_past, is_in_order, is_in_order_after}
-use Rattle.mr_layout.proofs.RunLaws.{First, first_of_order, earlier, le_test, lt_test, le_of, lt_of}
-use Rattle.mr_layout.proofs.Turns.{left_at}
+use Rattle.mr_layout.proofs.RunLaws.{First, first_of_order, earlier}
 use Rattle.mr_layout.proofs.UsedLaws.{used_array}
 use Rattle.mr_layout.proofs.Below.{some_at, none_below, same_some, same_tests, some_either}
+use Rattle.mr_base.proofs.Comparisons.{le_from, lt_from, lt_test, le_test}
 
 in_of : (start len at : ℕ) → is_in start len at ≡ true → (start ≤ at) × (at < start + len)
-in_of start len at h = let p = and_parts (nat_le start at) (nat_lt at (start + len)) h in (le_of _ _ p.0, lt_of _ _ p.1)
+in_of start len at h = let p = and_parts (nat_le start at) (nat_lt at (start + len)) h in (le_from _ _ p.0, lt_from _ _ p.1)
 
 in_from : (start len at : ℕ) → start ≤ at → at < start + len → is_in start len at ≡ true
 in_from start len at h k = and_from (nat_le start at) (nat_lt at (start + len)) (le_test _ _ h) (lt_test _ _ k)
@@ -37,7 +38,7 @@ module _ (part : Use) (len from to end : ℕ) where
       some_at (λ at. is_in_part 0 part at && is_in_chunk pieces at) (len) (k % len) (omega arith)
       (and_from (is_in_part 0 part (k % len)) (is_in_chunk pieces (k % len))
       (and_from (nat_le 0 (k % len)) (part (k % len - 0)) (le_test 0 (k % len) (omega arith)) (ap part (same (k % len)) ∙ q.1))
-      (there k (le_of from k p.0) (lt_of k to q.0) l)))
+      (there k (le_from from k p.0) (lt_from k to q.0) l)))
       (λ k l e.
       let p = and_parts (is_in_part 0 part k) (is_in_chunk pieces k) e in
       let u = and_parts (nat_le 0 k) (part (k - 0)) p.0 in
@@ -57,7 +58,7 @@ module _ (part : Use) (len from to end : ℕ) where
       outside : (k : ℕ) → k < end → (a b : Bool) → nat_le from k ≡ a → nat_lt k to ≡ b → (nat_le from k && (nat_lt k to && part (k % len))) ≡ false
       outside k l false b e f = and_left (nat_le from k) (nat_lt k to && part (k % len)) e
       outside k l true false e f = ap (λ c. c && (nat_lt k to && part (k % len))) e ∙ ap (λ c. c && part (k % len)) f
-      outside k l true true e f = absurd (clash (le_of from k e) (lt_of k to f))
+      outside k l true true e f = absurd (clash (le_from from k e) (lt_from k to f))
         where
           clash : from ≤ k → k < to → ⊥
           clash x y = omega arith
@@ -184,10 +185,10 @@ one_row part whole len most start end r same =
     there k l e =
         let p = and_parts (is_in_part start whole k) (is_in r.0 r.1 k || false) e in
         let q = and_parts (nat_le start k) (whole (k - start)) p.0 in
-        let a : start ≤ k = le_of start k q.0 in
+        let a : start ≤ k = le_from start k q.0 in
         let u = and_parts (nat_lt (k - start) most) (part ((k - start) % len)) (sym (same (k - start) (omega arith)) ∙ q.1) in
         let i = in_of r.0 r.1 k (one (is_in r.0 r.1 k) p.1) in
-        let b : k - start < most = lt_of (k - start) most u.0 in
+        let b : k - start < most = lt_from (k - start) most u.0 in
         let c : r.0 ≤ k = i.0 in
         let d : k < r.0 + r.1 = i.1 in
         some_at (λ at. nat_le (r.0 - start) at && (nat_lt at ((r.0 + r.1) - start) && part (at % len))) (min end (start + most) - start) (k - start) (omega arith)
@@ -199,8 +200,8 @@ one_row part whole len most start end r same =
     back k l e =
         let p = and_parts (nat_le (r.0 - start) k) (nat_lt k ((r.0 + r.1) - start) && part (k % len)) e in
         let q = and_parts (nat_lt k ((r.0 + r.1) - start)) (part (k % len)) p.1 in
-        let a : r.0 - start ≤ k = le_of (r.0 - start) k p.0 in
-        let b : k < (r.0 + r.1) - start = lt_of k ((r.0 + r.1) - start) q.0 in
+        let a : r.0 - start ≤ k = le_from (r.0 - start) k p.0 in
+        let b : k < (r.0 + r.1) - start = lt_from k ((r.0 + r.1) - start) q.0 in
         let there : k ≡ (start + k) - start = omega arith in
         some_at (λ at. is_in_part start whole at && (is_in r.0 r.1 at || false)) end (start + k) (omega arith)
         (and_from (is_in_part start whole (start + k)) (is_in r.0 r.1 (start + k) || false)
@@ -266,7 +267,7 @@ rows_past part len start stop (r ∷ ranges) = by (rows_past part len start stop
     by : are_rows_met part len start stop (ranges_past start ranges) ≡ are_rows_met part len start stop ranges → (b : Bool) → nat_le (r.0 + r.1) start ≡ b
         → are_rows_met part len start stop (if nat_le (r.0 + r.1) start then ranges_past start ranges else r ∷ ranges) ≡ are_rows_met part len start stop (r ∷ ranges)
     by rest true e =
-        let h : r.0 + r.1 ≤ start = le_of (r.0 + r.1) start e in
+        let h : r.0 + r.1 ≤ start = le_from (r.0 + r.1) start e in
         ap (λ b. are_rows_met part len start stop (if b then ranges_past start ranges else r ∷ ranges)) e ∙ rest
         ∙ sym (ap (λ b. b || are_rows_met part len start stop ranges) (row_none part len (r.0 - start) ((r.0 + r.1) - start) (stop - start) (omega arith)))
     by rest false e = ap (λ b. are_rows_met part len start stop (if b then ranges_past start ranges else r ∷ ranges)) e
@@ -283,7 +284,7 @@ rows_done part len start stop low (r ∷ ranges) h e =
 
 -- what is left of ranges in order, at one of them
 pub order_next : (ranges : List (ℕ × ℕ)) (i : ℕ) (d : ℕ × ℕ) → i < length ranges → is_in_order (drop i ranges) ≡ true → First 0 (get_or ranges i d) (drop (i + 1) ranges)
-order_next ranges i d h e = first_of_order 0 (get_or ranges i d) (drop (i + 1) ranges) (sym (ap is_in_order (left_at ranges i d h)) ∙ e)
+order_next ranges i d h e = first_of_order 0 (get_or ranges i d) (drop (i + 1) ranges) (sym (ap is_in_order (drop_more ranges i d h)) ∙ e)
 
 pub order_rest : (ranges : List (ℕ × ℕ)) (i : ℕ) (d : ℕ × ℕ) → i < length ranges → is_in_order (drop i ranges) ≡ true → is_in_order (drop (i + 1) ranges) ≡ true
 order_rest ranges i d h e =
@@ -295,7 +296,7 @@ pub rows_next : (part : Use) (len start stop : ℕ) (ranges : List (ℕ × ℕ))
     → is_row_met part len ((get_or ranges i d).0 - start) (((get_or ranges i d).0 + (get_or ranges i d).1) - start) (stop - start) ≡ false
     → are_rows_met part len start stop (drop i ranges) ≡ are_rows_met part len start stop (drop (i + 1) ranges)
 rows_next part len start stop ranges i d h e =
-    ap (are_rows_met part len start stop) (left_at ranges i d h) ∙ ap (λ b. b || are_rows_met part len start stop (drop (i + 1) ranges)) e
+    ap (are_rows_met part len start stop) (drop_more ranges i d h) ∙ ap (λ b. b || are_rows_met part len start stop (drop (i + 1) ranges)) e
 
 -- the rest from a range on that begins where the elements stop, or behind
 pub rows_over : (part : Use) (len start stop : ℕ) (ranges : List (ℕ × ℕ)) (i : ℕ) (d : ℕ × ℕ) → i < length ranges → stop ≤ (get_or ranges i d).0
@@ -303,7 +304,7 @@ pub rows_over : (part : Use) (len start stop : ℕ) (ranges : List (ℕ × ℕ))
 rows_over part len start stop ranges i d h l e =
     let r = get_or ranges i d in
     let f = order_next ranges i d h e in
-    ap (are_rows_met part len start stop) (left_at ranges i d h)
+    ap (are_rows_met part len start stop) (drop_more ranges i d h)
     ∙ or_from (is_row_met part len (r.0 - start) ((r.0 + r.1) - start) (stop - start)) (are_rows_met part len start stop (drop (i + 1) ranges))
     (row_none part len (r.0 - start) ((r.0 + r.1) - start) (stop - start) (omega arith))
     (rows_done part len start stop (r.0 + r.1) (drop (i + 1) ranges) (omega arith) f.rest)

@@ -8,21 +8,7 @@ use Rattle.std.proofs.lemmas.Bool.Decides.{nat_tests}
 use Rattle.mr_layout.specs.Used.{is_in, is_in_chunk}
 use Rattle.mr_layout.specs.Met.{is_some_below, is_run_met, ranges_past, is_in_order, is_in_order_after}
 use Rattle.mr_layout.proofs.Below.{some_at, none_below, same_tests}
-
-pub le_test : (a b : ℕ) → a ≤ b → nat_le a b ≡ true
-le_test a b h = grind (arith, nat_tests)
-
-pub lt_test : (a b : ℕ) → a < b → nat_lt a b ≡ true
-lt_test a b h = grind (arith, nat_tests)
-
-pub le_of : (a b : ℕ) → nat_le a b ≡ true → a ≤ b
-le_of a b h = grind (arith, nat_tests)
-
-pub lt_of : (a b : ℕ) → nat_lt a b ≡ true → a < b
-lt_of a b h = grind (arith, nat_tests)
-
-pub not_lt_test : (a b : ℕ) → b ≤ a → nat_lt a b ≡ false
-not_lt_test a b h = grind (arith, nat_tests)
+use Rattle.mr_base.proofs.Comparisons.{le_from, lt_from, lt_test, le_test}
 
 -- the first range of some in order, and the others
 pub record First (low : ℕ) (r : ℕ × ℕ) (ranges : List (ℕ × ℕ)) : Type 0 where
@@ -36,14 +22,14 @@ first_of_order low r ranges e =
     let p = and_parts (nat_le low r.0) (nat_lt 0 r.1 && (nat_le (r.0 + r.1) (2 ^ 64) && is_in_order_after (r.0 + r.1) ranges)) e in
     let q = and_parts (nat_lt 0 r.1) (nat_le (r.0 + r.1) (2 ^ 64) && is_in_order_after (r.0 + r.1) ranges) p.1 in
     let s = and_parts (nat_le (r.0 + r.1) (2 ^ 64)) (is_in_order_after (r.0 + r.1) ranges) q.1 in
-    record { behind = le_of low r.0 p.0; some = lt_of 0 r.1 q.0; small = le_of (r.0 + r.1) (2 ^ 64) s.0; rest = s.1 }
+    record { behind = le_from low r.0 p.0; some = lt_from 0 r.1 q.0; small = le_from (r.0 + r.1) (2 ^ 64) s.0; rest = s.1 }
 
 -- ranges that are in order after a byte are so after an earlier one
 pub earlier : (low at : ℕ) (ranges : List (ℕ × ℕ)) → low ≤ at → is_in_order_after at ranges ≡ true → is_in_order_after low ranges ≡ true
 earlier low at [] h e = refl
 earlier low at (r ∷ ranges) h e =
     let p = and_parts (nat_le at r.0) (nat_lt 0 r.1 && (nat_le (r.0 + r.1) (2 ^ 64) && is_in_order_after (r.0 + r.1) ranges)) e in
-    let l : at ≤ r.0 = le_of at r.0 p.0 in
+    let l : at ≤ r.0 = le_from at r.0 p.0 in
     and_from (nat_le low r.0) (nat_lt 0 r.1 && (nat_le (r.0 + r.1) (2 ^ 64) && is_in_order_after (r.0 + r.1) ranges)) (le_test low r.0 (omega arith)) p.1
 
 pub order_past : (low at : ℕ) (ranges : List (ℕ × ℕ)) → is_in_order_after low ranges ≡ true → is_in_order_after low (ranges_past at ranges) ≡ true
@@ -73,7 +59,7 @@ in_past from at (r ∷ ranges) h = by (in_past from at ranges h) (nat_le (r.0 + 
   where
     by : is_in_chunk (ranges_past from ranges) at ≡ is_in_chunk ranges at → (b : Bool) → nat_le (r.0 + r.1) from ≡ b → is_in_chunk (if nat_le (r.0 + r.1) from then ranges_past from ranges else r ∷ ranges) at ≡ is_in_chunk (r ∷ ranges) at
     by rest true e =
-        let l : r.0 + r.1 ≤ from = le_of (r.0 + r.1) from e in
+        let l : r.0 + r.1 ≤ from = le_from (r.0 + r.1) from e in
         let apart : is_in r.0 r.1 at ≡ false = grind (arith, nat_tests) in
         ap (λ b. is_in_chunk (if b then ranges_past from ranges else r ∷ ranges) at) e ∙ rest ∙ sym (ap (λ b. b || is_in_chunk ranges at) apart)
     by rest false e = ap (λ b. is_in_chunk (if b then ranges_past from ranges else r ∷ ranges) at) e
@@ -84,7 +70,7 @@ unfolding is_run_met
 run_past start len end ranges = same_tests _ _ end (λ k l. by k (nat_le start k) refl)
   where
     by : (k : ℕ) (b : Bool) → nat_le start k ≡ b → (is_in start len k && is_in_chunk (ranges_past start ranges) k) ≡ (is_in start len k && is_in_chunk ranges k)
-    by k true e = ap (λ b. is_in start len k && b) (in_past start k ranges (le_of start k e))
+    by k true e = ap (λ b. is_in start len k && b) (in_past start k ranges (le_from start k e))
     by k false e = (λ i. (e i && nat_lt k (start + len)) && is_in_chunk (ranges_past start ranges) k) ∙ sym (λ i. (e i && nat_lt k (start + len)) && is_in_chunk ranges k)
 
 pub run_none : (start len end : ℕ) → is_run_met start len end [] ≡ false
@@ -106,7 +92,7 @@ run_first start len end r ranges order ends = by (nat_lt start (min end (start +
     met a b (inl e) =
         let f = first_of_order 0 r ranges order in
         let s : 0 < r.1 = f.some in
-        let l : start ≤ r.0 = le_of start r.0 e in
+        let l : start ≤ r.0 = le_from start r.0 e in
         some_at (λ at. is_in start len at && is_in_chunk (r ∷ ranges) at) end r.0 (omega arith)
         (and_from (is_in start len r.0) (is_in_chunk (r ∷ ranges) r.0)
         (and_from (nat_le start r.0) (nat_lt r.0 (start + len)) e (lt_test r.0 (start + len) (omega arith)))
@@ -129,8 +115,8 @@ run_first start len end r ranges order ends = by (nat_lt start (min end (start +
         at_byte false e = and_left (is_in start len k) (is_in_chunk (r ∷ ranges) k) e
         at_byte true e =
             let p = and_parts (nat_le start k) (nat_lt k (start + len)) e in
-            let a : start ≤ k = le_of start k p.0 in
-            let b : k < start + len = lt_of k (start + len) p.1 in
+            let a : start ≤ k = le_from start k p.0 in
+            let b : k < start + len = lt_from k (start + len) p.1 in
             let c : min end (start + len) ≤ r.0 = above (λ h. never_both (omega arith) h) in
             let f = first_of_order 0 r ranges order in
             let h : is_in_order_after r.0 (r ∷ ranges) ≡ true =
@@ -151,7 +137,7 @@ run_first start len end r ranges order ends = by (nat_lt start (min end (start +
 
     by : (a b : Bool) → nat_lt start (min end (start + len)) ≡ a → nat_lt r.0 (min end (start + len)) ≡ b
         → is_some_below (λ at. is_in start len at && is_in_chunk (r ∷ ranges) at) end ≡ (nat_lt start (min end (start + len)) && nat_lt r.0 (min end (start + len)))
-    by true true e f = met (lt_of _ _ e) (lt_of _ _ f) (either (nat_le start r.0)) ∙ sym (λ i. e i && f i)
+    by true true e f = met (lt_from _ _ e) (lt_from _ _ f) (either (nat_le start r.0)) ∙ sym (λ i. e i && f i)
     by true false e f =
         none_below (λ at. is_in start len at && is_in_chunk (r ∷ ranges) at) end (λ k l. missed k l (λ x y. absurd (both_ways _ f (lt_test _ _ y)))) ∙ sym (λ i. e i && f i)
     by false b e f =

@@ -16,8 +16,8 @@ use Rattle.mr_layout.specs.Used.{is_in, is_in_part, is_in_chunk, is_used}
 use Rattle.mr_layout.specs.Met.{is_some_below, is_met}
 use Rattle.mr_layout.proofs.Below.{none_below, same_tests}
 use Rattle.mr_layout.proofs.GapLaws.{in_not_empty}
-use Rattle.mr_layout.proofs.RunLaws.{le_test, lt_test, not_lt_test, le_of}
 use Rattle.mr_layout.proofs.RowLaws.{met_none, met_one}
+use Rattle.mr_base.proofs.Comparisons.{le_from, lt_test, le_test, not_lt_test}
 
 no_part : (b : Bool) → (b && false) ≡ false
 no_part true = refl
@@ -86,7 +86,7 @@ tags_met size t (g ∷ tags) e =
     let p = and_parts (nat_le (g.at + int_size g.int) size) (is_fitting g.int g.number && are_tags_fitting size tags) e in
     let q = and_parts (is_fitting g.int g.number) (are_tags_fitting size tags) p.1 in
     met_one (is_used t) 0 size (tag_range g) (map tag_range tags)
-    ∙ (λ i. range_met t g.at (int_size g.int) size (le_of (g.at + int_size g.int) size p.0) i || tags_met size t tags q.1 i)
+    ∙ (λ i. range_met t g.at (int_size g.int) size (le_from (g.at + int_size g.int) size p.0) i || tags_met size t tags q.1 i)
 
 in_some : (ranges : List (ℕ × ℕ)) (k : ℕ) → is_in_chunk ranges k ≡ list_any (λ (r : ℕ × ℕ). is_in r.0 r.1 k) ranges
 in_some [] k = refl

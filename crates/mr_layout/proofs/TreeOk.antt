@@ -1,7 +1,7 @@
 -- What a tree without a fault keeps, and which variant a number names.
-use Rattle.std.proofs.Common.{◌≡◌, ℕ, ◌+◌, ◌≤◌, ⊎_elim, Bool, true, false, List, [], ◌∷◌, refl, sym, ap, ◌∙◌, arith}
-use Rattle.std.specs.Prelude.{Contains, nat_le, not, ◌==◌, if◌then◌else◌}
-use Rattle.std.proofs.lemmas.List.Elements.{Contains-append_left, Contains-append_right}
+use Rattle.std.proofs.Common.{◌≡◌, ℕ, ◌+◌, ◌≤◌, Bool, true, false, List, refl, sym, ap, ◌∙◌}
+use Rattle.std.specs.Prelude.{nat_le, not, ◌==◌, if◌then◌else◌}
+use Rattle.std.proofs.lemmas.Bool.{and_parts}
 use Rattle.mr_ast.specs.declared.types.IntType.{IntType}
 use Rattle.mr_ast.specs.declared.types.Num.{Num}
 use Rattle.mr_ast.specs.declared.types.Tree.{Tree}
@@ -9,10 +9,8 @@ use Rattle.mr_ast.specs.declared.types.Tree.TheVariants as tree
 use Rattle.mr_ast.specs.declared.types.Variant.{Variant}
 use Rattle.mr_ast.specs.Integers.{int_size}
 use Rattle.mr_layout.specs.EnumRules.{same_num, is_number_of, is_tree, are_tree_cases}
-use Rattle.mr_layout.proofs.PartsOk.{and_true, same_of}
 use Rattle.mr_layout.proofs.TreeLaws.{tree_known, tree_branch}
-use Rattle.mr_layout.proofs.Turns.{at_most}
-use Rattle.mr_layout.proofs.UsedInside.{or_true}
+use Rattle.mr_base.proofs.Comparisons.{le_from, eq_from}
 
 -- a branch reads inside the size, and its cases and the rest have no fault
 pub record BranchOk (size : ℕ) (variants : List Variant) (at : ℕ) (int : IntType) (cases : List (Num × Tree)) (rest : Tree) : Type 0 where
@@ -22,9 +20,9 @@ pub record BranchOk (size : ℕ) (variants : List Variant) (at : ℕ) (int : Int
 
 pub branch_ok : (size : ℕ) (variants : List Variant) (at : ℕ) (int : IntType) (cases : List (Num × Tree)) (rest : Tree) → is_tree size variants (tree.Branch at int cases rest) ≡ true → BranchOk size variants at int cases rest
 branch_ok size variants at int cases rest ok =
-    let a = and_true (nat_le (at + int_size int) size) _ (sym (tree_branch size variants at int cases rest) ∙ ok) in
-    let b = and_true (are_tree_cases size variants int cases) (is_tree size variants rest) a.1 in
-    record { inside = at_most (at + int_size int) size a.0; told = b.0; other = b.1 }
+    let a = and_parts (nat_le (at + int_size int) size) _ (sym (tree_branch size variants at int cases rest) ∙ ok) in
+    let b = and_parts (are_tree_cases size variants int cases) (is_tree size variants rest) a.1 in
+    record { inside = le_from (at + int_size int) size a.0; told = b.0; other = b.1 }
 
 -- a leaf names a variant
 pub leaf_ok : (size : ℕ) (variants : List Variant) (n : Num) → is_tree size variants (tree.Known n) ≡ true → is_number_of n variants ≡ true
@@ -42,14 +40,5 @@ numbered sign n = record { neg = sign; mag = n }
 -- numbers that are written alike are equal
 pub same_num_equal : (a b : Num) → same_num a b ≡ true → a ≡ b
 same_num_equal a b e =
-    let p = and_true (if a.neg then b.neg else not b.neg) (a.mag == b.mag) e in
-    ap (λ (sign : Bool). numbered sign a.mag) (same_sign a.neg b.neg p.0) ∙ ap (λ (n : ℕ). numbered b.neg n) (same_of a.mag b.mag p.1)
-
--- a number that one of the variants has is that of a variant
-pub variant_of : (n : Num) (variants : List Variant) → is_number_of n variants ≡ true → (v : Variant) × Contains variants v × (v.number ≡ n)
-variant_of n [] e = cc
-variant_of n (v ∷ variants) e =
-    ⊎_elim
-    (λ h. (v, Contains-append_left (v ∷ []) variants v (0, omega arith, refl), same_num_equal v.number n h))
-    (λ h. let w = variant_of n variants h in (w.0, Contains-append_right (v ∷ []) variants w.0 w.1, w.2))
-    (or_true (same_num v.number n) (is_number_of n variants) e)
+    let p = and_parts (if a.neg then b.neg else not b.neg) (a.mag == b.mag) e in
+    ap (λ (sign : Bool). numbered sign a.mag) (same_sign a.neg b.neg p.0) ∙ ap (λ (n : ℕ). numbered b.neg n) (eq_from a.mag b.mag p.1)

@@ -1,7 +1,8 @@
 -- What a type without a broken rule keeps, for each kind that has parts or numbers of its own.
-use Rattle.std.proofs.Common.{◌≡◌, ℕ, ◌*◌, ◌%◌, ◌^◌, ◌<◌, ◌≤◌, Bool, true, false, List, None, refl, sym, ◌∙◌, arith}
-use Rattle.std.proofs.lemmas.Bool.Decides.{nat_tests}
-use Rattle.std.specs.Prelude.{nat_lt, not, ◌&&◌, ◌||◌, ◌==◌}
+use Rattle.std.proofs.Common.{◌≡◌, ℕ, ◌*◌, ◌%◌, ◌^◌, ◌≤◌, true, false, List, None, sym, ◌∙◌}
+use Rattle.std.specs.Prelude.{not, ◌&&◌, ◌||◌, ◌==◌}
+use Rattle.std.proofs.lemmas.Bool.{and_parts, or_parts}
+use Rattle.mr_ast.specs.declared.rule.Rule.TheVariants.{TypeSize, TypeAlign, FieldOutside, FieldOverlap, SizeMultiple, EnumVariant, EnumTag, EnumTree, UnionChunk}
 use Rattle.mr_ast.specs.declared.types.IntType.{IntType}
 use Rattle.mr_ast.specs.declared.types.Tree.{Tree}
 use Rattle.mr_ast.specs.declared.types.Ty.{Ty}
@@ -12,27 +13,16 @@ use Rattle.mr_layout.specs.Rules.{is_large, is_align, is_past, is_overlapping, i
 use Rattle.mr_layout.specs.EnumRules.{are_variants, are_all_tags, is_tree, enum_rules}
 use Rattle.mr_layout.specs.TypeOk.{TypeOk, broken_rule, first_broken_field, first_broken_variant}
 use Rattle.mr_layout.proofs.PartFacts.{FieldsOk, ChunksInside, VariantsOk}
-use Rattle.mr_layout.proofs.Bounds.{or_else_none, rule_none, small_of, or_false}
+use Rattle.mr_layout.proofs.Bounds.{or_else_none, rule_none, small_of}
 use Rattle.mr_layout.proofs.BrokenLaws.{broken_tuple, broken_array, broken_union, broken_enum}
-use Rattle.mr_layout.proofs.PartsOk.{fields_ok, chunks_inside, variants_ok, and_true, not_false, same_of}
-
-pub not_true : (b : Bool) → not b ≡ true → b ≡ false
-not_true true e = cc
-not_true false e = refl
+use Rattle.mr_layout.proofs.PartsOk.{fields_ok, chunks_inside, variants_ok}
+use Rattle.mr_base.proofs.Comparisons.{eq_from, not_true, not_false}
 
 -- a size, and an alignment of which it is a multiple
 pub record SizeOk (size align : ℕ) : Type 0 where
   pub small : size ≤ 2 ^ 20
   pub power : is_align align ≡ true
   pub whole : size % align ≡ 0
-
--- a reference's target is smaller than 2 ^ 63, and has an alignment
-pub record RefOk (size align : ℕ) : Type 0 where
-  pub small : size < 2 ^ 63
-  pub power : is_align align ≡ true
-
-below : (a b : ℕ) → nat_lt a b ≡ true → a < b
-below a b e = grind (arith, nat_tests)
 
 -- a tuple's fields break no rule, lie inside it, and have no byte in common
 pub record TupleOk (size align : ℕ) (fields : List (ℕ × Ty)) : Type 0 where
@@ -43,13 +33,13 @@ pub record TupleOk (size align : ℕ) (fields : List (ℕ × Ty)) : Type 0 where
 tuples : (size align : ℕ) (fields : List (ℕ × Ty)) → first_broken_field fields ≡ None → tuple_rules size align fields ≡ None → TupleOk size align fields
 unfolding tuple_rules
 tuples size align fields unbroken e =
-    let a = rule_none 20 (is_large size) _ e in
-    let b = rule_none 21 (not (is_align align)) _ a.1 in
-    let c = rule_none 22 (is_past size fields) _ b.1 in
-    let d = rule_none 23 (is_overlapping fields) _ c.1 in
-    let f = rule_none 24 (not (size % align == 0)) None d.1 in
+    let a = rule_none TypeSize (is_large size) _ e in
+    let b = rule_none TypeAlign (not (is_align align)) _ a.1 in
+    let c = rule_none FieldOutside (is_past size fields) _ b.1 in
+    let d = rule_none FieldOverlap (is_overlapping fields) _ c.1 in
+    let f = rule_none SizeMultiple (not (size % align == 0)) None d.1 in
     record {
-      sized = record { small = small_of size a.0; power = not_false _ b.0; whole = same_of (size % align) 0 (not_false _ f.0) };
+      sized = record { small = small_of size a.0; power = not_false _ b.0; whole = eq_from (size % align) 0 (not_false _ f.0) };
       parts = fields_ok size fields unbroken c.0;
       apart = d.0;
     }
@@ -68,7 +58,7 @@ pub record ArrayOk (count : ℕ) (elem : Ty) : Type 0 where
 arrays : (count : ℕ) (elem : Ty) → TypeOk elem → array_rules count elem ≡ None → ArrayOk count elem
 unfolding array_rules
 arrays count elem part e =
-    let a = or_false (is_large count) (is_large (count * size_of elem)) (rule_none 20 (is_large count || is_large (count * size_of elem)) None e).0 in
+    let a = or_parts (is_large count) (is_large (count * size_of elem)) (rule_none TypeSize (is_large count || is_large (count * size_of elem)) None e).0 in
     record { part = part; few = small_of count a.0; small = small_of (count * size_of elem) a.1 }
 
 pub array_ok : (count : ℕ) (elem : Ty) → TypeOk (ty.Array count elem) → ArrayOk count elem
@@ -88,16 +78,16 @@ pub record UnionOk (size align : ℕ) (fields : List (ℕ × Ty)) (chunks : List
 unions : (size align : ℕ) (fields : List (ℕ × Ty)) (chunks : List (ℕ × ℕ)) → first_broken_field fields ≡ None → union_rules size align fields chunks ≡ None → UnionOk size align fields chunks
 unfolding union_rules
 unions size align fields chunks unbroken e =
-    let a = rule_none 20 (is_large size) _ e in
-    let b = rule_none 21 (not (is_align align)) _ a.1 in
-    let c = rule_none 22 (is_past size fields || is_chunk_past size chunks) _ b.1 in
-    let d = rule_none 24 (not (size % align == 0)) _ c.1 in
-    let f = rule_none 28 (not (is_rising chunks && (not (is_chunk_overlapping chunks) && are_covered fields chunks))) None d.1 in
-    let past = or_false (is_past size fields) (is_chunk_past size chunks) c.0 in
-    let g = and_true (is_rising chunks) _ (not_false _ f.0) in
-    let h = and_true (not (is_chunk_overlapping chunks)) (are_covered fields chunks) g.1 in
+    let a = rule_none TypeSize (is_large size) _ e in
+    let b = rule_none TypeAlign (not (is_align align)) _ a.1 in
+    let c = rule_none FieldOutside (is_past size fields || is_chunk_past size chunks) _ b.1 in
+    let d = rule_none SizeMultiple (not (size % align == 0)) _ c.1 in
+    let f = rule_none UnionChunk (not (is_rising chunks && (not (is_chunk_overlapping chunks) && are_covered fields chunks))) None d.1 in
+    let past = or_parts (is_past size fields) (is_chunk_past size chunks) c.0 in
+    let g = and_parts (is_rising chunks) _ (not_false _ f.0) in
+    let h = and_parts (not (is_chunk_overlapping chunks)) (are_covered fields chunks) g.1 in
     record {
-      sized = record { small = small_of size a.0; power = not_false _ b.0; whole = same_of (size % align) 0 (not_false _ d.0) };
+      sized = record { small = small_of size a.0; power = not_false _ b.0; whole = eq_from (size % align) 0 (not_false _ d.0) };
       parts = fields_ok size fields unbroken past.0;
       inside = chunks_inside size chunks past.1;
       rising = g.0;
@@ -121,14 +111,14 @@ pub record EnumOk (size align : ℕ) (disc : IntType) (variants : List Variant) 
 enums : (size align : ℕ) (disc : IntType) (variants : List Variant) (tree : Tree) → first_broken_variant variants ≡ None → enum_rules size align disc variants tree ≡ None → EnumOk size align disc variants tree
 unfolding enum_rules
 enums size align disc variants tree unbroken e =
-    let a = rule_none 20 (is_large size) _ e in
-    let b = rule_none 21 (not (is_align align)) _ a.1 in
-    let c = rule_none 24 (not (size % align == 0)) _ b.1 in
-    let d = rule_none 25 (not (are_variants size align disc variants)) _ c.1 in
-    let f = rule_none 26 (not (are_all_tags size variants)) _ d.1 in
-    let g = rule_none 27 (not (is_tree size variants tree)) None f.1 in
+    let a = rule_none TypeSize (is_large size) _ e in
+    let b = rule_none TypeAlign (not (is_align align)) _ a.1 in
+    let c = rule_none SizeMultiple (not (size % align == 0)) _ b.1 in
+    let d = rule_none EnumVariant (not (are_variants size align disc variants)) _ c.1 in
+    let f = rule_none EnumTag (not (are_all_tags size variants)) _ d.1 in
+    let g = rule_none EnumTree (not (is_tree size variants tree)) None f.1 in
     record {
-      sized = record { small = small_of size a.0; power = not_false _ b.0; whole = same_of (size % align) 0 (not_false _ c.0) };
+      sized = record { small = small_of size a.0; power = not_false _ b.0; whole = eq_from (size % align) 0 (not_false _ c.0) };
       parts = variants_ok size align disc variants unbroken (not_false _ d.0);
       numbered = not_false _ d.0;
       tagged = not_false _ f.0;

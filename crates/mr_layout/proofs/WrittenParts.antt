@@ -1,17 +1,14 @@
 -- The types that are written in a program hold their parts, and the parts of a well-formed type are well-formed.
-use Rattle.std.proofs.Common.{◌≡◌, ℕ, ⊎_elim, List, [], ◌∷◌, ◌++◌, refl, subst, arith}
-use Rattle.std.specs.Prelude.{All, Contains}
-use Rattle.std.specs.List.{flat_map}
-use Rattle.std.proofs.lemmas.List.Elements.{All-nil, All-cons, All-append, All-weaker, All-same, All-contains, All-contains_itself, Contains-append_left, Contains-append_right, Contains-append_cases}
+use Rattle.std.proofs.Common.{◌≡◌, ℕ, List, [], ◌∷◌}
+use Rattle.std.specs.Prelude.{All}
+use Rattle.std.proofs.lemmas.List.Elements.{All-nil, All-cons, All-append, All-same}
 use Rattle.mr_ast.specs.declared.types.Ty.{Ty}
 use Rattle.mr_ast.specs.declared.types.Ty.TheVariants as ty
 use Rattle.mr_ast.specs.declared.types.Variant.{Variant}
-use Rattle.mr_ast.specs.declared.expr.Value.{Value}
 use Rattle.mr_ast.proofs.TypeInduction.{AllFields, AllVariants, TypeCases, type_induction}
-use Rattle.mr_ast.proofs.ExprInduction.{AllValues}
 use Rattle.mr_layout.specs.TypeOk.{TypeOk}
 use Rattle.mr_layout.proofs.PartFacts.{FieldsOk, VariantsOk}
-use Rattle.mr_layout.specs.Written.{parts_of, types_of, types_of_fields, types_of_variants, types_of_value, types_of_values}
+use Rattle.mr_layout.specs.Written.{parts_of, types_of, types_of_fields, types_of_variants}
 use Rattle.mr_layout.proofs.WrittenLaws.{parts_int, parts_bool, parts_raw, parts_fn_ptr, parts_ref, parts_tuple, parts_array, parts_union, parts_enum}
 use Rattle.mr_layout.proofs.WellFormed.{tuple_ok, array_ok, union_ok, enum_ok}
 
@@ -49,52 +46,3 @@ ok_cases = record {
 -- a well-formed type and its parts are well-formed
 pub ok_types : (t : Ty) → TypeOk t → All TypeOk (types_of t)
 ok_types t ok = All-cons TypeOk t (parts_of t) ok (type_induction AreOk ok_cases t ok)
-
--- the parts of the types of a list stand in the list
-
-abbrev pub IsClosed : List Ty → Type 0
-IsClosed types = (t : Ty) → Contains types t → All (Contains types) (parts_of t)
-
-closed_nil : IsClosed []
-closed_nil t c = absurd (omega (arith, c.1))
-
-closed_append : (xs ys : List Ty) → IsClosed xs → IsClosed ys → IsClosed (xs ++ ys)
-closed_append xs ys left right t c =
-    ⊎_elim
-    (λ (h : Contains xs t). All-weaker (Contains xs) (Contains (xs ++ ys)) (λ u k. Contains-append_left xs ys u k) (parts_of t) (left t h))
-    (λ (h : Contains ys t). All-weaker (Contains ys) (Contains (xs ++ ys)) (λ u k. Contains-append_right xs ys u k) (parts_of t) (right t h))
-    (Contains-append_cases xs ys t c)
-
-closed_flat_map : {X : Type 0} (f : X → List Ty) (xs : List X) → ((x : X) → IsClosed (f x)) → IsClosed (flat_map f xs)
-closed_flat_map f [] each = closed_nil
-closed_flat_map f (x ∷ xs) each = closed_append (f x) (flat_map f xs) (each x) (closed_flat_map f xs each)
-
-the_one : (t u : Ty) → Contains (t ∷ []) u → t ≡ u
-the_one t u k = All-contains (λ (s : Ty). t ≡ s) (t ∷ []) u (All-cons (λ (s : Ty). t ≡ s) t [] refl (All-nil (λ (s : Ty). t ≡ s))) k
-
--- a type in front of its parts
-closed_type : (t : Ty) → IsClosed (parts_of t) → IsClosed (types_of t)
-closed_type t h u c =
-    ⊎_elim
-    (λ (k : Contains (t ∷ []) u). All-weaker (Contains (parts_of t)) (Contains (types_of t)) (λ w j. Contains-append_right (t ∷ []) (parts_of t) w j) (parts_of u)
-    (subst (λ (s : Ty). All (Contains (parts_of t)) (parts_of s)) (the_one t u k) (All-contains_itself (parts_of t))))
-    (λ (k : Contains (parts_of t) u). All-weaker (Contains (parts_of t)) (Contains (types_of t)) (λ w j. Contains-append_right (t ∷ []) (parts_of t) w j) (parts_of u) (h u k))
-    (Contains-append_cases (t ∷ []) (parts_of t) u c)
-
-abbrev PartsClosed : Ty → Type 0
-PartsClosed t = IsClosed (parts_of t)
-
-closed_fields : (fields : List (ℕ × Ty)) → AllFields PartsClosed fields → IsClosed (types_of_fields fields)
-closed_fields [] all = closed_nil
-closed_fields (f ∷ fields) all = closed_append (types_of f.1) (types_of_fields fields) (closed_type f.1 all.0) (closed_fields fields all.1)
-
-closed_variants : (variants : List Variant) → AllVariants PartsClosed variants → IsClosed (types_of_variants variants)
-closed_variants [] all = closed_nil
-closed_variants (v ∷ variants) all = closed_append (types_of v.ty) (types_of_variants variants) (closed_type v.ty all.0) (closed_variants variants all.1)
-
-abbrev ValueClosed : Value → Type 0
-ValueClosed v = IsClosed (types_of_value v)
-
-closed_all : (vs : List Value) → AllValues ValueClosed vs → IsClosed (types_of_values vs)
-closed_all [] all = closed_nil
-closed_all (v ∷ vs) all = closed_append (types_of_value v) (types_of_values vs) all.0 (closed_all vs all.1)

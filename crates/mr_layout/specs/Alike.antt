@@ -1,5 +1,6 @@
 -- The parts of a list that are compared with one another, and what is asked of each of them alone.
-use Rattle.std.specs.Prelude.{ℕ, ◌+◌, Bool, true, false, ◌&&◌, ◌||◌, ◌==◌, nat_le, if◌then◌else◌, List, [], ◌∷◌}
+use Rattle.std.specs.Prelude.{ℕ, ◌+◌, Bool, true, false, ◌&&◌, ◌||◌, ◌==◌, nat_le, if◌then◌else◌, List, [], ◌∷◌, map}
+use Rattle.std.specs.List.Sorted.{IsPermutation, IsSorted}
 use Rattle.mr_ast.specs.declared.types.IntType.{IntType}
 use Rattle.mr_ast.specs.declared.types.Num.{Num}
 use Rattle.mr_ast.specs.declared.types.Tag.{Tag}
@@ -7,6 +8,7 @@ use Rattle.mr_ast.specs.declared.types.Tree.{Tree}
 use Rattle.mr_ast.specs.declared.types.Ty.{Ty}
 use Rattle.mr_ast.specs.declared.types.Variant.{Variant}
 use Rattle.mr_ast.specs.Integers.{int_size, is_fitting}
+use Rattle.mr_base.specs.Pairs.{pair_cmp}
 use Rattle.mr_layout.specs.Sizes.{size_of, align_of}
 use Rattle.mr_layout.specs.EnumRules.{is_number_of, is_some_used, is_case, is_tree, meets_tag}
 
@@ -17,6 +19,11 @@ number_key n = ((if n.neg then 1 else 0), n.mag)
 -- the number of a variant
 abbrev pub variant_key : Variant → ℕ × ℕ
 variant_key v = number_key v.number
+
+-- the numbers of the variants, in order
+pub record AreKeys (variants : List Variant) (keys : List (ℕ × ℕ)) : Type 0 where
+  pub moved : IsPermutation (map variant_key variants) keys
+  pub sorted : IsSorted pair_cmp keys
 
 -- the number of a case
 abbrev pub case_key : Num × Tree → ℕ × ℕ

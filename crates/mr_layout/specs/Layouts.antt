@@ -1,10 +1,9 @@
 -- The layout of a type, and when the layouts that are kept are those of their types.
-use Rattle.std.specs.Prelude.{◌≡◌, ℕ, List, Some, map, slice_get, All, AllPairs}
+use Rattle.std.specs.Prelude.{◌≡◌, List, Some, map, slice_get, All, AllPairs}
 use Rattle.std.specs.declared.cmp.Ordering.TheVariants.{Less}
 use Rattle.mr_ast.specs.declared.types.IntType.{IntType}
-use Rattle.mr_ast.specs.declared.types.IntType.TheVariants.{U8, U16, U32, U64, U128, I8, I16, I32, I64, I128}
 use Rattle.mr_ast.specs.declared.types.Ty.{Ty}
-use Rattle.mr_ast.specs.Order.{ty_cmp}
+use Rattle.mr_ast.specs.Order.{int_number, ty_cmp}
 use Rattle.mr_layout.specs.declared.cache.Layout.{Layout}
 use Rattle.mr_layout.specs.declared.cache.Entry.{Entry}
 use Rattle.mr_layout.specs.Sizes.{size_of, align_of, is_inhabited}
@@ -25,19 +24,6 @@ AreDefined entries = All (λ (e : Entry). e.layout ≡ layout_of e.ty) entries
 abbrev pub AreRising : List Entry → Type 0
 AreRising entries = AllPairs (λ (a b : Entry). ty_cmp a.ty b.ty ≡ Less) entries
 
--- the place of an integer type among all
-abbrev pub integer_row : IntType → ℕ
-integer_row U8 = 0
-integer_row U16 = 1
-integer_row U32 = 2
-integer_row U64 = 3
-integer_row U128 = 4
-integer_row I8 = 5
-integer_row I16 = 6
-integer_row I32 = 7
-integer_row I64 = 8
-integer_row I128 = 9
-
 -- these are the layouts of all integer types, each in its place
 abbrev pub AreIntegers : List Layout → Type 0
-AreIntegers layouts = (int : IntType) → slice_get layouts (integer_row int) ≡ Some (layout_of (Ty.Int int))
+AreIntegers layouts = (int : IntType) → slice_get layouts (int_number int) ≡ Some (layout_of (Ty.Int int))

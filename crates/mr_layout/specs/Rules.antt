@@ -1,7 +1,7 @@
--- The rules of a well-formed type, each with its number, and the first that is broken.
+-- The rules of a well-formed type, and the first that is broken.
 use Rattle.std.specs.Prelude.{ℕ, zero, suc, ◌+◌, ◌*◌, ◌%◌, ◌^◌, Bool, true, false, not, ◌&&◌, ◌||◌, ◌==◌, nat_lt}
 use Rattle.std.specs.Prelude.{nat_le, if◌then◌else◌, List, [], ◌∷◌, Option, Some, None, count_ones}
-use Rattle.mr_ast.specs.FormRules.{code_of}
+use Rattle.mr_ast.specs.declared.rule.Rule.{Rule}
 use Rattle.mr_ast.specs.declared.rule.Rule.TheVariants.{TypeSize, TypeAlign, FieldOutside, FieldOverlap, SizeMultiple}
 use Rattle.mr_ast.specs.declared.rule.Rule.TheVariants.{UnionChunk}
 use Rattle.mr_ast.specs.declared.types.Ty.{Ty}
@@ -11,14 +11,14 @@ use Rattle.mr_ast.specs.Limits.{max_align, max_size}
 use Rattle.mr_layout.specs.Sizes.{size_of}
 use Rattle.mr_layout.specs.Used.{is_used, is_in_chunk}
 
--- the number of a rule, or else what comes after it
-abbrev pub rule : ℕ → Bool → Option ℕ → Option ℕ
-rule code broken next = if broken then Some code else next
+-- a rule where it is broken, or else what comes after it
+abbrev pub rule : Rule → Bool → Option Rule → Option Rule
+rule r broken next = if broken then Some r else next
 
 -- the first of two
-abbrev pub or_else : Option ℕ → Option ℕ → Option ℕ
+abbrev pub or_else : Option Rule → Option Rule → Option Rule
 or_else None next = next
-or_else (Some code) next = Some code
+or_else (Some r) next = Some r
 
 -- a size or a count passes the limit
 abbrev pub is_large : ℕ → Bool
@@ -44,22 +44,22 @@ is_overlapping [] = false
 is_overlapping (f ∷ fields) = meets_any f.0 (size_of f.1) fields || is_overlapping fields
 
 -- the first broken rule of a tuple, whose fields break none
-unfoldable pub tuple_rules : ℕ → ℕ → List (ℕ × Ty) → Option ℕ
+unfoldable pub tuple_rules : ℕ → ℕ → List (ℕ × Ty) → Option Rule
 tuple_rules size align fields =
-    rule (code_of TypeSize) (is_large size)
-    (rule (code_of TypeAlign) (not (is_align align))
-    (rule (code_of FieldOutside) (is_past size fields)
-    (rule (code_of FieldOverlap) (is_overlapping fields)
-    (rule (code_of SizeMultiple) (not (size % align == 0)) None))))
+    rule TypeSize (is_large size)
+    (rule TypeAlign (not (is_align align))
+    (rule FieldOutside (is_past size fields)
+    (rule FieldOverlap (is_overlapping fields)
+    (rule SizeMultiple (not (size % align == 0)) None))))
 
 -- the first broken rule of a reference
-unfoldable pub ref_rules : ℕ → ℕ → Option ℕ
+unfoldable pub ref_rules : ℕ → ℕ → Option Rule
 ref_rules size align =
-    rule (code_of TypeSize) (not (nat_lt size (2 ^ 63))) (rule (code_of TypeAlign) (not (is_align align)) None)
+    rule TypeSize (not (nat_lt size (2 ^ 63))) (rule TypeAlign (not (is_align align)) None)
 
 -- the first broken rule of an array, whose element breaks none
-unfoldable pub array_rules : ℕ → Ty → Option ℕ
-array_rules count elem = rule (code_of TypeSize) (is_large count || is_large (count * size_of elem)) None
+unfoldable pub array_rules : ℕ → Ty → Option Rule
+array_rules count elem = rule TypeSize (is_large count || is_large (count * size_of elem)) None
 
 -- a chunk passes the size
 abbrev pub is_chunk_past : ℕ → List (ℕ × ℕ) → Bool
@@ -97,31 +97,31 @@ are_covered [] chunks = true
 are_covered (f ∷ fields) chunks = is_covered f.0 f.1 chunks (size_of f.1) && are_covered fields chunks
 
 -- the first broken rule of a union, whose fields break none
-unfoldable pub union_rules : ℕ → ℕ → List (ℕ × Ty) → List (ℕ × ℕ) → Option ℕ
+unfoldable pub union_rules : ℕ → ℕ → List (ℕ × Ty) → List (ℕ × ℕ) → Option Rule
 union_rules size align fields chunks =
-    rule (code_of TypeSize) (is_large size)
-    (rule (code_of TypeAlign) (not (is_align align))
-    (rule (code_of FieldOutside) (is_past size fields || is_chunk_past size chunks)
-    (rule (code_of SizeMultiple) (not (size % align == 0))
-    (rule (code_of UnionChunk)
+    rule TypeSize (is_large size)
+    (rule TypeAlign (not (is_align align))
+    (rule FieldOutside (is_past size fields || is_chunk_past size chunks)
+    (rule SizeMultiple (not (size % align == 0))
+    (rule UnionChunk
     (not (is_rising chunks && (not (is_chunk_overlapping chunks) && are_covered fields chunks))) None))))
 
 -- the first broken rule of these fields
-abbrev pub first_field : List (ℕ × (Ty × Option ℕ)) → Option ℕ
+abbrev pub first_field : List (ℕ × (Ty × Option Rule)) → Option Rule
 first_field [] = None
 first_field (f ∷ fields) = or_else f.1.1 (first_field fields)
 
 -- the first broken rule of these variants
-abbrev pub first_variant : List (Variant × Option ℕ) → Option ℕ
+abbrev pub first_variant : List (Variant × Option Rule) → Option Rule
 first_variant [] = None
 first_variant (v ∷ variants) = or_else v.1 (first_variant variants)
 
 -- the types alone
-abbrev pub field_types : List (ℕ × (Ty × Option ℕ)) → List (ℕ × Ty)
+abbrev pub field_types : List (ℕ × (Ty × Option Rule)) → List (ℕ × Ty)
 field_types [] = []
 field_types (f ∷ fields) = (f.0, f.1.0) ∷ field_types fields
 
 -- the variants alone
-abbrev pub variant_types : List (Variant × Option ℕ) → List Variant
+abbrev pub variant_types : List (Variant × Option Rule) → List Variant
 variant_types [] = []
 variant_types (v ∷ variants) = v.0 ∷ variant_types variants

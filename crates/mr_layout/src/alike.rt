@@ -1,9 +1,9 @@
 //! Whether two parts of a list are alike or meet: in the time of a sort where memory is at hand for it, and else each with
 //! each.
-ghost use Rattle.std.specs.Prelude.{◌≡◌, ◌<◌, ◌≤◌, ◌+◌, ◌^◌, ◌++◌, ◌∷◌, [], false, map, IfOk, OnOk};
+ghost use Rattle.std.specs.Prelude.{◌≡◌, ◌<◌, ◌≤◌, ◌+◌, ◌^◌, ◌++◌, ◌∷◌, [], false, map, IfOk, IfSome, OnOk};
 ghost use Rattle.mr_ast.specs.Integers.{int_size};
 ghost use Rattle.mr_base.specs.Pairs.{not_empty};
-ghost use Rattle.mr_layout.specs.Alike.{number_key, variant_key, case_key, tag_range, field_range, number_twice, case_twice, tags_meeting};
+ghost use Rattle.mr_layout.specs.Alike.{AreKeys, number_key, variant_key, case_key, tag_range, field_range, number_twice, case_twice, tags_meeting};
 ghost use Rattle.mr_layout.specs.EnumRules.{is_number_of, is_case, meets_tag};
 ghost use Rattle.mr_layout.specs.Rules.{is_chunk_overlapping, is_overlapping, is_past};
 ghost use Rattle.mr_layout.specs.Sizes.{size_of};
@@ -12,7 +12,7 @@ use crate::enum_rules::{is_case, is_number_of, meets_tag};
 use crate::rules::{are_chunks_overlapping, are_overlapping};
 use crate::sizes::{int_bytes, size};
 use mr_ast::{Num, OutOfMemory, Tag, Tree, Ty, Variant};
-use mr_base::{Pair, any_meeting, any_twice};
+use mr_base::{Pair, any_meeting, any_twice, is_among};
 use std::alloc::Global;
 
 /// Where memory may be taken from, if it may.
@@ -32,6 +32,33 @@ fn variant_keys(alloc: Global, variants: &[Variant]) -> Result<Vec<Pair>, OutOfM
         keys.push(number_key(variant.number))?;
     }
     Ok(keys)
+}
+
+/// The numbers of the variants in order, where memory is at hand for them.
+pub(crate) fn sorted_keys(room: Room, variants: &[Variant]) -> Option<Vec<Pair>>
+    ensures { IfSome result (λ keys. AreKeys variants.now keys.items) }
+{
+    match room {
+        Some(alloc) => match variant_keys(alloc, variants) {
+            Ok(mut keys) => {
+                keys.sort_unstable();
+                Some(keys)
+            }
+            Err(_) => None,
+        },
+        None => None,
+    }
+}
+
+/// Whether a variant has the number: they are searched in order, or else one after another.
+pub(crate) fn is_known(number: Num, variants: &[Variant], keys: &Option<Vec<Pair>>) -> bool
+    requires { IfSome keys.now (λ keys. AreKeys variants.now keys.items) }
+    ensures { result ≡ is_number_of number variants.now }
+{
+    match keys {
+        Some(sorted) => is_among(number_key(number), sorted.as_slice()),
+        None => is_number_of(number, variants),
+    }
 }
 
 /// Whether two variants have one number.

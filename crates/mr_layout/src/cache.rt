@@ -1,12 +1,12 @@
 //! The layouts of the types of a program.
 ghost use Rattle.std.specs.Prelude.{◌≡◌, ◌<◌, ◌^◌, ◌↔◌, [], ◌∷◌, ◌++◌, All, Contains, Some, false, slice_get, IsTrue, OnOk, IfOk, IfSome, IfNone};
 ghost use Rattle.std.specs.Ordering.{is_lt};
-ghost use Rattle.mr_ast.specs.Order.{ty_cmp};
+ghost use Rattle.mr_ast.specs.Order.{int_number, ty_cmp};
 ghost use Rattle.mr_layout.specs.Sizes.{size_of};
 ghost use Rattle.mr_layout.specs.TypeOk.{TypeOk};
 ghost use Rattle.mr_layout.specs.Written.{written_types};
 ghost use Rattle.mr_layout.specs.Cached.{IsCacheOf, Adds};
-ghost use Rattle.mr_layout.specs.Layouts.{layout_of, held_types, integer_row, AreIntegers, AreRising};
+ghost use Rattle.mr_layout.specs.Layouts.{layout_of, held_types, AreIntegers, AreRising};
 
 use crate::sizes::{align, inhabited, int_bytes, size};
 use crate::written::find_types;
@@ -160,7 +160,7 @@ fn position(entries: &[Entry], t: &Ty) -> Option<usize>
 
 // The place of an integer type among all.
 fn row_of(int: IntType) -> usize
-    ensures { result ≡ integer_row int }
+    ensures { result ≡ int_number int }
 {
     match int {
         IntType::U8 => 0,

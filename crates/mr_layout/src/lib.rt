@@ -7,8 +7,8 @@
 //! - [`inhabited`]: whether a type has a value.
 //! - [`int_bytes`]: how many bytes an integer has.
 //! - [`used`]: whether the byte at an offset carries a part of a value (`specs/Used.antt`).
-//! - [`broken_rule`], [`first_broken_rule`] and [`type_ok`]: the code of the first rule that a type breaks, its parts before itself, and `None` where it is
-//!   well-formed (`specs/TypeOk.antt`, over `specs/Rules.antt` and `specs/EnumRules.antt`).
+//! - [`broken_rule`] and [`first_broken_rule`]: the first rule that a type breaks, its parts before itself, and `None` where it is
+//!   well-formed (`specs/TypeOk.antt`, over `specs/Rules.antt` and `specs/EnumRules.antt`); [`type_ok`]: the number of that rule.
 //! - [`is_align`], [`is_fitting`] and [`is_case`]: whether a number is an alignment, whether it is one of an integer type's, and whether
 //!   one of some cases has it.
 //! - [`find_types`]: the types written in a program, whole or as a part of another, in their order (`specs/Written.antt`).
@@ -31,20 +31,18 @@
 //! - 27: in an enum's tree a leaf names no variant, a branch passes the size, or a case doesn't fit or stands twice.
 //! - 28: a union's chunks don't rise strictly by offset, two of them overlap, or a used byte of a field is in none.
 //!
-//! What other crates rest on, beside the equations of each definition (`proofs/SizeLaws.antt`, `AlignLaws`, `InhabitedLaws`, `UsedLaws`,
+//! What other crates rest on, beside the equations of each definition (`proofs/SizeLaws.antt`, `AlignLaws`, `UsedLaws`,
 //! `BrokenLaws`, `TreeLaws`, `WrittenLaws`):
 //!
 //! - `proofs/WellFormed.antt`: what a type that breaks no rule keeps, for each kind. `proofs/OkTests.antt` says it of the test `is_ok`,
 //!   and `proofs/Turns.antt` of the next element in a loop.
-//! - `proofs/Bounds.antt`, `Aligned`, `UsedInside`: such a type has at most 2^20 bytes, a power of two as its alignment that divides its
-//!   size, and no used byte at or past its end.
+//! - `proofs/Bounds.antt`, `Aligned`: such a type has at most 2^20 bytes, and a power of two as its alignment that divides its size.
 //! - `proofs/AlikeLaws.antt`: to compare each two parts of a list, as the rules do, is to look at what is asked of each part alone and
 //!   at the pairs of numbers that `mr_base` compares in the time of a sort. Where memory is wanting, parts are compared one by one.
 //! - `proofs/MetLaws.antt`, `RunLaws`, `RowLaws`: what ranges in order meet of a type is found by a search among them for each part of the
 //!   type, and of an array by the bytes of one element. `GapLaws` and `TagLaws` say so of a union's chunks and of a variant's tags.
-//! - `proofs/Apart.antt`, `TreeOk`: fields, chunks and tags have no byte in common, and a tree's leaf names a variant.
-//! - `proofs/WrittenParts.antt`, `HeldTypes`: the parts of a well-formed type are well-formed, those of a written type are written, and
-//!   which types the cache holds of a function, a block, a place or a value.
+//! - `proofs/TreeOk.antt`: a tree's leaf names a variant.
+//! - `proofs/WrittenParts.antt`: the parts of a well-formed type are well-formed.
 #![tactic(auto)]
 
 mod alike;

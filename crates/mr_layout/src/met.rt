@@ -83,7 +83,8 @@ fn pieces(len: u128, start: u128, stop: u128, range: Pair) -> ([Pair; 2], usize)
     requires small { range.0 + range.1 ≤ 2 ^ 64 }
     ensures few { result.1 ≤ 2 }
     ensures order { is_in_order (take result.1 result.0) ≡ true }
-    ensures same { (part : ℕ → Bool) → is_row_met part len (range.0 - start) ((range.0 + range.1) - start) (stop - start) ≡ is_met part 0 len (take result.1 result.0) }
+    ensures same { (part : ℕ → Bool) → is_row_met part len (range.0 - start)
+        ((range.0 + range.1) - start) (stop - start) ≡ is_met part 0 len (take result.1 result.0) }
 {
     let from = range.0.saturating_sub(start);
     let last = (range.0 + range.1).min(stop).saturating_sub(start);

@@ -1,33 +1,34 @@
 //! The first broken rule of a type.
-ghost use Rattle.std.specs.Prelude.{◌≡◌};
+ghost use Rattle.std.specs.Prelude.{◌≡◌, option_map};
+ghost use Rattle.mr_ast.specs.FormRules.{code_of};
 ghost use Rattle.mr_layout.specs.TypeOk.{broken_rule, first_broken_field, first_broken_variant};
 
 use crate::alike::Room;
 use crate::enum_rules::enum_rules;
 use crate::rules::{array_rules, ref_rules, tuple_rules, union_rules};
-use mr_ast::{OutOfMemory, Ty, Variant};
+use mr_ast::{OutOfMemory, Rule, Ty, Variant};
 use std::alloc::Global;
 
-/// The code of the first broken rule of a type, its parts before itself. It takes no memory, so that it compares each two
+/// The first broken rule of a type, its parts before itself. It takes no memory, so that it compares each two
 /// parts of a list.
-pub fn broken_rule(t: &Ty) -> Option<u8>
+pub fn broken_rule(t: &Ty) -> Option<Rule>
     ensures { result ≡ broken_rule t.now }
 {
     broken(None, t)
 }
 
-/// The code of the first broken rule of a type, its parts before itself. It takes memory to sort lists by, and compares each
+/// The first broken rule of a type, its parts before itself. It takes memory to sort lists by, and compares each
 /// two parts of a list only where memory is wanting.
-pub fn first_broken_rule(alloc: Global, t: &Ty) -> Option<u8>
+pub fn first_broken_rule(alloc: Global, t: &Ty) -> Option<Rule>
     ensures { result ≡ broken_rule t.now }
 {
     broken(Some(alloc), t)
 }
 
-// The code of the first broken rule of a type.
+// The first broken rule of a type.
 #[cycle(broken)]
 #[tactic(auto, using(crate::proofs::BrokenLaws::broken_laws))]
-fn broken(room: Room, t: &Ty) -> Option<u8>
+fn broken(room: Room, t: &Ty) -> Option<Rule>
     ensures { result ≡ broken_rule t.now }
 {
     match t {
@@ -41,11 +42,11 @@ fn broken(room: Room, t: &Ty) -> Option<u8>
             align,
             fields,
         } => match first_broken_field(room, fields.as_slice()) {
-            Some(code) => Some(code),
+            Some(rule) => Some(rule),
             None => tuple_rules(room, *size, *align, fields.as_slice()),
         },
         Ty::Array { count, elem } => match broken(room, elem.get()) {
-            Some(code) => Some(code),
+            Some(rule) => Some(rule),
             None => array_rules(*count, elem.get()),
         },
         Ty::Union {
@@ -54,7 +55,7 @@ fn broken(room: Room, t: &Ty) -> Option<u8>
             fields,
             chunks,
         } => match first_broken_field(room, fields.as_slice()) {
-            Some(code) => Some(code),
+            Some(rule) => Some(rule),
             None => union_rules(room, *size, *align, fields.as_slice(), chunks.as_slice()),
         },
         Ty::Enum {
@@ -64,19 +65,19 @@ fn broken(room: Room, t: &Ty) -> Option<u8>
             variants,
             tree,
         } => match first_broken_variant(room, variants.as_slice()) {
-            Some(code) => Some(code),
+            Some(rule) => Some(rule),
             None => enum_rules(room, *size, *align, *disc, variants.as_slice(), tree),
         },
     }
 }
 
 #[cycle(broken)]
-fn first_broken_field(room: Room, fields: &[(u64, Ty)]) -> Option<u8>
+fn first_broken_field(room: Room, fields: &[(u64, Ty)]) -> Option<Rule>
     ensures { result ≡ first_broken_field fields.now }
 {
     for field in fields {
-        if let Some(code) = broken(room, &field.1) {
-            return Some(code);
+        if let Some(rule) = broken(room, &field.1) {
+            return Some(rule);
         }
     }
     None
@@ -84,20 +85,23 @@ fn first_broken_field(room: Room, fields: &[(u64, Ty)]) -> Option<u8>
 
 #[cycle(broken)]
 #[tactic(auto, using(crate::proofs::BrokenLaws::broken_laws))]
-fn first_broken_variant(room: Room, variants: &[Variant]) -> Option<u8>
+fn first_broken_variant(room: Room, variants: &[Variant]) -> Option<Rule>
     ensures { result ≡ first_broken_variant variants.now }
 {
     for variant in variants {
-        if let Some(code) = broken(room, &variant.ty) {
-            return Some(code);
+        if let Some(rule) = broken(room, &variant.ty) {
+            return Some(rule);
         }
     }
     None
 }
 
-/// The code of the first broken rule of a type, as `first_broken_rule` gives it. It does not fail.
+/// The number of the first broken rule of a type. It does not fail.
 pub fn type_ok(alloc: Global, t: &Ty) -> Result<Option<u8>, OutOfMemory>
-    ensures { result ≡ Ok (broken_rule t.now) }
+    ensures { result ≡ Ok (option_map code_of (broken_rule t.now)) }
 {
-    Ok(first_broken_rule(alloc, t))
+    match first_broken_rule(alloc, t) {
+        Some(rule) => Ok(Some(rule.code())),
+        None => Ok(None),
+    }
 }

@@ -101,48 +101,48 @@ fn part_meets(end: u64, start: u64, t: &Ty, fields: &[(u64, Ty)]) -> bool
 
 // The first broken rule of a tuple, whose fields break none.
 #[tactic(auto, unfolding(crate::specs::Rules::tuple_rules))]
-pub(crate) fn tuple_rules(room: Room, size: u64, align: u64, fields: &[(u64, Ty)]) -> Option<u8>
+pub(crate) fn tuple_rules(room: Room, size: u64, align: u64, fields: &[(u64, Ty)]) -> Option<Rule>
     ensures { result ≡ tuple_rules size align fields.now }
 {
     if size > MAX_SIZE {
-        return Some(Rule::TypeSize.code());
+        return Some(Rule::TypeSize);
     }
     if !is_align(align) {
-        return Some(Rule::TypeAlign.code());
+        return Some(Rule::TypeAlign);
     }
     if is_past(size, fields) {
-        return Some(Rule::FieldOutside.code());
+        return Some(Rule::FieldOutside);
     }
     if is_overlapping(room, size, fields) {
-        return Some(Rule::FieldOverlap.code());
+        return Some(Rule::FieldOverlap);
     }
     if align == 0 || size % align != 0 {
-        return Some(Rule::SizeMultiple.code());
+        return Some(Rule::SizeMultiple);
     }
     None
 }
 
 // The first broken rule of a reference.
 #[tactic(auto, unfolding(crate::specs::Rules::ref_rules))]
-pub(crate) fn ref_rules(size: u64, align: u64) -> Option<u8>
+pub(crate) fn ref_rules(size: u64, align: u64) -> Option<Rule>
     ensures { result ≡ ref_rules size align }
 {
     if size > MAX_POINTEE {
-        return Some(Rule::TypeSize.code());
+        return Some(Rule::TypeSize);
     }
     if !is_align(align) {
-        return Some(Rule::TypeAlign.code());
+        return Some(Rule::TypeAlign);
     }
     None
 }
 
 // The first broken rule of an array, whose element breaks none.
 #[tactic(auto, unfolding(crate::specs::Rules::array_rules))]
-pub(crate) fn array_rules(count: u64, elem: &Ty) -> Option<u8>
+pub(crate) fn array_rules(count: u64, elem: &Ty) -> Option<Rule>
     ensures { result ≡ array_rules count elem.now }
 {
     if count > MAX_SIZE || is_large_array(count, size(elem)) {
-        return Some(Rule::TypeSize.code());
+        return Some(Rule::TypeSize);
     }
     None
 }
@@ -265,26 +265,26 @@ pub(crate) fn union_rules(
     align: u64,
     fields: &[(u64, Ty)],
     chunks: &[(u64, u64)],
-) -> Option<u8>
+) -> Option<Rule>
     ensures { result ≡ union_rules size align fields.now chunks.now }
 {
     if size > MAX_SIZE {
-        return Some(Rule::TypeSize.code());
+        return Some(Rule::TypeSize);
     }
     if !is_align(align) {
-        return Some(Rule::TypeAlign.code());
+        return Some(Rule::TypeAlign);
     }
     if is_past(size, fields) || is_chunk_past(size, chunks) {
-        return Some(Rule::FieldOutside.code());
+        return Some(Rule::FieldOutside);
     }
     if align == 0 || size % align != 0 {
-        return Some(Rule::SizeMultiple.code());
+        return Some(Rule::SizeMultiple);
     }
     if !is_rising(chunks)
         || is_chunk_overlapping(room, chunks)
         || !are_in_chunks(room, size, fields, chunks)
     {
-        return Some(Rule::UnionChunk.code());
+        return Some(Rule::UnionChunk);
     }
     None
 }

@@ -1,12 +1,11 @@
 -- Numbers and their decimal digits.
-use Rattle.std.proofs.Common.{◌≡◌, ℕ, ◌+◌, ◌-◌, ◌*◌, ◌/◌, ◌%◌, ◌^◌, ◌<◌, ◌≤◌, true, List, [], ◌∷◌, ◌++◌, length, sym, ap, ◌∙◌, arith, rules, append_assoc}
+use Rattle.std.proofs.Common.{◌≡◌, ℕ, ◌+◌, ◌-◌, ◌*◌, ◌/◌, ◌%◌, ◌^◌, ◌<◌, ◌≤◌, true, List, [], ◌∷◌, ◌++◌, length, sym, ap, ◌∙◌, arith, append_assoc}
 use Rattle.std.specs.Prelude.{IsTrue}
 use Rattle.std.specs.List.{AllByRecursion}
 use Rattle.std.specs.Fmt.{decimal}
 use Rattle.std.proofs.lemmas.Bool.Decides.{nat_tests}
 use Rattle.std.proofs.lemmas.List.{append-nil}
-use Rattle.std.proofs.lemmas.Fmt.{decimal_is_IsNumeral_wide, decimal_step_wide, decimal_digit}
-use Rattle.std.proofs.lemmas.Str.Parse.{IsNumeralModel, numerals_by_fold}
+use Rattle.std.proofs.lemmas.Fmt.{decimal_step_wide, decimal_digit}
 use Rattle.mr_lex.specs.Bytes.{is_digit}
 use Rattle.mr_lex.specs.Numbers.{number_of, IsFineNumber}
 use Rattle.mr_lex.proofs.NumberLaws.{number_after, number_after_ge}
@@ -20,15 +19,6 @@ digit_least b digit = grind (arith, nat_tests)
 
 digit_most : (b : ℕ) → is_digit b ≡ true → b ≤ 57
 digit_most b digit = grind (arith, nat_tests)
-
-digits_model : IsNumeralModel AreDigits number_of
-digits_model = numerals_by_fold AreDigits (search rules) number_after (search rules)
-
--- what a number is written as reads back
-pub number_of-decimal : (n : ℕ) → n < 10 ^ 64 → number_of (decimal n) ≡ n
-number_of-decimal n small =
-    let numeral = decimal_is_IsNumeral_wide n small in
-    digits_model.same (decimal n) numeral.0.1 ∙ numeral.1
 
 decimal-number_after : (n : ℕ) (digits : List ℕ) → 0 < n → AreDigits digits → number_after n digits < 10 ^ 64 → decimal (number_after n digits) ≡ decimal n ++ digits
 decimal-number_after n [] some each small = sym (append-nil (decimal n))

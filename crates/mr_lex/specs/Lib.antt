@@ -1,4 +1,5 @@
 pub mod Bytes
+pub mod Limits
 pub mod Numbers
 pub mod Pieces
 pub mod Places

@@ -2,6 +2,9 @@
 use Rattle.std.specs.Prelude.{◌≡◌, ℕ, zero, suc, ◌-◌, ◌^◌, Bool, not, ◌||◌, ◌&&◌, ◌==◌, nat_lt, if◌then◌else◌, List, []}
 use Rattle.std.specs.Prelude.{◌∷◌, length, take, drop, slice_index, Result, Ok, Err}
 use Rattle.std.specs.List.{take_while}
+use Rattle.mr_lex.specs.Rules.{code_of}
+use Rattle.mr_lex.specs.declared.rule.TextRule.TheVariants.{BadByte, BadNumber, LongText}
+use Rattle.mr_lex.specs.Limits.{max_text}
 use Rattle.mr_lex.specs.Bytes.{is_blank, is_inline, begins_comment, is_letter, is_digit, is_word_byte, is_symbol}
 use Rattle.mr_lex.specs.Bytes.{begins_arrow, ends_arrow}
 use Rattle.mr_lex.specs.Numbers.{number_of}
@@ -17,13 +20,15 @@ is_fine_number digits = (not (slice_index digits 0 == 48) || length digits == 1)
 
 -- the number, or its fault
 unfoldable pub number_at : List ℕ → Result Piece ℕ
-number_at rest = let digits = take_while is_digit rest in if is_fine_number digits then Ok (Number digits) else Err 2
+number_at rest =
+    let digits = take_while is_digit rest in
+    if is_fine_number digits then Ok (Number digits) else Err (code_of BadNumber)
 
 -- the symbol at the front, or its fault
 unfoldable pub symbol_at : List ℕ → Result Piece ℕ
 symbol_at rest =
     if begins_arrow (slice_index rest 0) && ends_arrow (slice_index rest 1) then Ok (Symbol (take 2 rest))
-    else (if is_symbol (slice_index rest 0) then Ok (Symbol (take 1 rest)) else Err 1)
+    else (if is_symbol (slice_index rest 0) then Ok (Symbol (take 1 rest)) else Err (code_of BadByte))
 
 -- the piece at the front of a rest that is not empty, or the code of the fault there
 unfoldable pub piece_at : List ℕ → Result Piece ℕ
@@ -49,13 +54,14 @@ unfoldable pub outcome_of : List ℕ → List Piece × List ℕ → Result (List
 outcome_of text split =
     elim split.1 as (λ _. Result (List Lexeme) TextFault) [
       | [] ↦ Ok (lexemes_from text 0 split.0)
-      | b ∷ bytes ↦ Err (fault_at text (length text - length split.1) (if is_digit b then 2 else 1))
+      | b ∷ bytes ↦
+          Err (fault_at text (length text - length split.1) (if is_digit b then code_of BadNumber else code_of BadByte))
     ]
 
 -- the tokens of a text, or its first fault
 unfoldable pub lexed : List ℕ → Result (List Lexeme) TextFault
 lexed text =
-    if nat_lt (2 ^ 20) (length text) then Err (record { line = 1; col = 1; code = 3 })
+    if nat_lt max_text (length text) then Err (record { line = 1; col = 1; code = code_of LongText })
     else outcome_of text (split_of (length text) text)
 
 -- an answer is what reading gives, unless memory ran out

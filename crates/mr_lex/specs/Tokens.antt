@@ -1,6 +1,9 @@
 -- The tokens of a text, or its first fault.
-use Rattle.std.specs.Prelude.{◌≡◌, ℕ, ◌+◌, ◌-◌, ◌^◌, ◌<◌, ◌≤◌, ◌⊎◌, List, [], ◌∷◌, ◌++◌, length, slice_range, IsFalse}
+use Rattle.std.specs.Prelude.{◌≡◌, ℕ, ◌+◌, ◌-◌, ◌<◌, ◌≤◌, ◌⊎◌, List, [], ◌∷◌, ◌++◌, length, slice_range, IsFalse}
 use Rattle.std.specs.List.{AllByRecursion}
+use Rattle.mr_lex.specs.Rules.{code_of}
+use Rattle.mr_lex.specs.declared.rule.TextRule.TheVariants.{BadByte, BadNumber, LongText}
+use Rattle.mr_lex.specs.Limits.{max_text}
 use Rattle.mr_lex.specs.Bytes.{begins, begins_piece}
 use Rattle.mr_lex.specs.Numbers.{IsFineNumber}
 use Rattle.mr_lex.specs.Pieces.{Piece, Blank, Comment, Word, Number, Symbol, spelling_of, IsPiece, IsFine, Splits}
@@ -43,7 +46,7 @@ lexemes_from text at (piece ∷ pieces) =
 
 -- the text splits into pieces, each number among them fine, and the lexemes are those of its words, numbers and symbols
 pub record Lexes (text : List ℕ) (lexemes : List Lexeme) : Type 0 where
-  pub short : length text ≤ 2 ^ 20
+  pub short : length text ≤ max_text
   pub pieces : List Piece
   pub split : Splits text pieces []
   pub fine : AllByRecursion IsFine pieces
@@ -76,11 +79,11 @@ pub record IsBadNumber (rest : List ℕ) : Type 0 where
 
 -- the fault of a rest, by its code
 abbrev pub IsFaulty : List ℕ → ℕ → Type 0
-IsFaulty rest code = ((code ≡ 1) × IsBadByte rest) ⊎ ((code ≡ 2) × IsBadNumber rest)
+IsFaulty rest code = ((code ≡ code_of BadByte) × IsBadByte rest) ⊎ ((code ≡ code_of BadNumber) × IsBadNumber rest)
 
 -- the text splits into pieces, each number among them fine, and a rest at whose begin the fault is
 pub record StopsAt (text : List ℕ) (fault : TextFault) : Type 0 where
-  pub short : length text ≤ 2 ^ 20
+  pub short : length text ≤ max_text
   pub pieces : List Piece
   pub rest : List ℕ
   pub split : Splits text pieces rest
@@ -91,4 +94,4 @@ pub record StopsAt (text : List ℕ) (fault : TextFault) : Type 0 where
 -- the first fault of a text: it is too long, or else what stands in it before the fault is fine
 abbrev pub FirstFault : List ℕ → TextFault → Type 0
 FirstFault text fault =
-    ((2 ^ 20 < length text) × (fault ≡ record { line = 1; col = 1; code = 3 })) ⊎ StopsAt text fault
+    ((max_text < length text) × (fault ≡ record { line = 1; col = 1; code = code_of LongText })) ⊎ StopsAt text fault

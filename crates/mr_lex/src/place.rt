@@ -1,5 +1,6 @@
 //! Places in a text: offset, line and column.
-ghost use Rattle.std.specs.Prelude.{◌≡◌, ◌+◌, ◌^◌, ◌<◌, ◌≤◌, length, slice_range};
+ghost use Rattle.std.specs.Prelude.{◌≡◌, ◌+◌, ◌<◌, ◌≤◌, length, slice_range};
+ghost use Rattle.mr_lex.specs.Limits.{max_text};
 ghost use Rattle.mr_lex.specs.Scanning.{IsPlaceIn, IsOneLine};
 
 use crate::token::{LexFault, TextFault};
@@ -37,7 +38,7 @@ impl Place {
 
     /// The place behind the next bytes of the text, among which a line feed stands only alone.
     pub fn behind(self, text: &[u8], len: usize) -> Place
-        requires short { length text.now ≤ 2 ^ 20 }
+        requires short { length text.now ≤ max_text }
         requires placed { IsPlaceIn text.now self }
         requires some { 0 < len }
         requires within { self.at + len ≤ length text.now }

@@ -3,6 +3,8 @@ ghost use Rattle.std.specs.Prelude.{◌≡◌, IfSome, Some};
 ghost use Rattle.mr_lex.specs.Rules.{code_of, name_of, rule_of};
 ghost use Rattle.mr_lex.specs.declared.rule.TextRule.{TextRule as Rule};
 
+use crate::{BAD_BYTE, BAD_NUMBER, LONG_TEXT};
+
 /// Which rule a text breaks: one of its tokens, of the grammar, or of its names.
 #[derive(Clone, Copy, Debug, PartialEq, Eq)]
 pub enum TextRule {
@@ -32,9 +34,9 @@ impl TextRule {
         ensures { result ≡ code_of self }
     {
         match self {
-            TextRule::BadByte => 1,
-            TextRule::BadNumber => 2,
-            TextRule::LongText => 3,
+            TextRule::BadByte => BAD_BYTE,
+            TextRule::BadNumber => BAD_NUMBER,
+            TextRule::LongText => LONG_TEXT,
             TextRule::Unexpected => 4,
             TextRule::UnknownName => 5,
             TextRule::DoubleName => 6,
@@ -68,9 +70,9 @@ impl TextRule {
         ensures is { result ≡ rule_of code }
     {
         match code {
-            1 => Some(TextRule::BadByte),
-            2 => Some(TextRule::BadNumber),
-            3 => Some(TextRule::LongText),
+            BAD_BYTE => Some(TextRule::BadByte),
+            BAD_NUMBER => Some(TextRule::BadNumber),
+            LONG_TEXT => Some(TextRule::LongText),
             4 => Some(TextRule::Unexpected),
             5 => Some(TextRule::UnknownName),
             6 => Some(TextRule::DoubleName),

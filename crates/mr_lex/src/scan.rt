@@ -1,5 +1,6 @@
 //! Reading a text into its tokens.
-ghost use Rattle.std.specs.Prelude.{◌≡◌, List, ◌^◌, ◌≤◌, ◌++◌, length, IfOk, IfErr, OnOk, IsErrOf, Ok, Err};
+ghost use Rattle.std.specs.Prelude.{◌≡◌, List, ◌≤◌, ◌++◌, length, IfOk, IfErr, OnOk, IsErrOf, Ok, Err};
+ghost use Rattle.mr_lex.specs.Limits.{max_text};
 ghost use Rattle.mr_lex.specs.Tokens.{Lexeme, Lexes, AreInOrder, FirstFault};
 ghost use Rattle.mr_lex.specs.Reading.{lexed, Gives};
 ghost use Rattle.mr_lex.specs.Spans.{spans_of};
@@ -38,7 +39,7 @@ pub fn tokens(alloc: Global, text: &[u8]) -> Result<Tokens<'_>, LexFault>
 
 // The tokens of a text that is not too long, or its first fault.
 fn scan(alloc: Global, text: &[u8]) -> Result<Tokens<'_>, LexFault>
-    requires { length text.now ≤ 2 ^ 20 }
+    requires { length text.now ≤ max_text }
     ensures { Gives result (lexed text.now) }
 {
     let mut spans = Vec::new(alloc);

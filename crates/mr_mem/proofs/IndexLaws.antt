@@ -1,6 +1,6 @@
 -- The spans beside the memory are those of its ranges: what changes of the memory keep of that, and what it is for.
 use Rattle.std.proofs.Common.{◌≡◌, ◌≢◌, ℕ, ◌<◌, ◌⊎◌, inl, inr, refl, sym, ap, ◌∙◌, subst, arith, [], Bool, true, false, cond}
-use Rattle.std.proofs.lemmas.Bool.{true≢false}
+use Rattle.std.proofs.lemmas.Bool.{true≢false, false_from_ne_true}
 use Rattle.std.proofs.lemmas.Option.{none-some, same_Some}
 use Rattle.std.specs.Prelude.{Option, Some, None, Result, Ok, Err, OnErr, OnOk, IsSomeAnd}
 use Rattle.std.specs.FinMap as fin
@@ -17,7 +17,7 @@ use Rattle.mr_mem.specs.Memory.{Allocation, Memory, Range, Ranges, first_overlap
 use Rattle.mr_mem.specs.Spans.{AreSpansOf, IsFree, IsLeast, IsOverlapped, Puts, Taken, range_at, span_at, span_of}
 use Rattle.mr_mem.proofs.Identities.{id_exact, id_total}
 use Rattle.mr_mem.proofs.LeastLaws.{IsShared, first_least, least_same}
-use Rattle.mr_mem.proofs.Meetings.{AreSharing, false_from, from_meeting, meeting_from}
+use Rattle.mr_mem.proofs.Meetings.{AreSharing, from_meeting, meeting_from}
 use Rattle.mr_mem.proofs.RangeLaws.{ranges-empty, ranges-insert, ranges-without_life, ranges_absent, ranges_sorted}
 use Rattle.mr_mem.proofs.SpanLaws.{undone, which_span}
 
@@ -151,7 +151,7 @@ first_found m taken addr size found h least =
     (λ id o. (o.0.addr, span_of id o.0, h.each id o.0 o.1 (from_meeting addr size o.0.addr o.0.size o.2).other_filled, refl, o.2))
     found (first_overlapped addr size (ranges_of m)) least (first_least addr size (ranges_of m) (ranges_sorted m))
 
-not_reused : (o : Option AllocId) → reused o ≡ None → o ≡ None
+pub not_reused : (o : Option AllocId) → reused o ≡ None → o ≡ None
 not_reused None e = refl
 not_reused (Some id) e = absurd (cc)
 
@@ -166,7 +166,7 @@ none_picked rs addr size align h = by_test (is_bad_address addr size align) h
 -- where a pick is lawful, no span shares an address with it
 pub lawful_free : (m : Memory) (taken : Taken) (addr size align : ℕ) → AreSpansOf taken (ranges_of m) → pick_fault m addr size align ≡ None → IsFree taken addr size
 lawful_free m taken addr size align h e = λ start s f.
-    false_from (is_meeting addr size start s.size) (λ meets.
+    false_from_ne_true (is_meeting addr size start s.size) (λ meets.
     let shared : IsShared (ranges_of m) addr size s.id = (range_at start s, (h.only start s f).0, meets) in
     let some = (first_least addr size (ranges_of m) (ranges_sorted m)).least s.id shared in
     subst (λ (o : Option AllocId). IsSomeAnd o (λ q. is_lt (id_cmp s.id q) ≡ false)) (none_picked (ranges_of m) addr size align e) some)

@@ -1,14 +1,9 @@
 -- When two ranges share an address.
-use Rattle.std.proofs.Common.{◌≡◌, ℕ, ◌+◌, ◌<◌, refl, sym, ◌∙◌, Bool, true, false}
+use Rattle.std.proofs.Common.{◌≡◌, ℕ, ◌+◌, ◌<◌, sym, ◌∙◌, true, false}
 use Rattle.std.specs.Prelude.{◌&&◌, nat_lt}
-use Rattle.std.proofs.lemmas.Bool.{and_from, and_parts, true≢false}
+use Rattle.std.proofs.lemmas.Bool.{and_from, and_parts, true≢false, false_from_ne_true}
 use Rattle.mr_base.specs.Pairs.{is_meeting}
 use Rattle.mr_base.proofs.Comparisons.{lt_from, lt_test}
-
--- a test that can't pass fails
-pub false_from : (b : Bool) → (b ≡ true → ⊥) → b ≡ false
-false_from true h = absurd (h refl)
-false_from false h = refl
 
 -- both have an address, and each begins before the other ends
 pub record AreSharing (a len b count : ℕ) : Type 0 where
@@ -33,6 +28,6 @@ from_meeting a len b count e =
 -- those that share no address don't share one the other way round
 pub meeting-sym : (a len b count : ℕ) → is_meeting a len b count ≡ false → is_meeting b count a len ≡ false
 meeting-sym a len b count h =
-    false_from (is_meeting b count a len) (λ m.
+    false_from_ne_true (is_meeting b count a len) (λ m.
     let p = from_meeting b count a len m in
     true≢false (sym (meeting_from a len b count (record { filled = p.other_filled; other_filled = p.filled; before = p.behind; behind = p.before })) ∙ h))

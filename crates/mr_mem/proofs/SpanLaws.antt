@@ -1,6 +1,6 @@
 -- Spans that are apart: what adding and taking away one keeps, and which of them a range overlaps.
 use Rattle.std.proofs.Common.{◌≡◌, ◌≢◌, ℕ, ◌+◌, ◌-◌, ◌<◌, ◌≤◌, ◌⊎◌, inl, inr, refl, sym, ap, ◌∙◌, subst, arith, [], ◌∷◌, ◌++◌, true, false, cond}
-use Rattle.std.proofs.lemmas.Bool.{cases_eq, true≢false}
+use Rattle.std.proofs.lemmas.Bool.{cases_eq, true≢false, false_from_ne_true}
 use Rattle.std.proofs.lemmas.List.Elements.{All-weaker, recursion_from_All}
 use Rattle.std.proofs.lemmas.Map.Entries.{lookup-filter-keys}
 use Rattle.std.proofs.lemmas.Map.Keys.{ge_from_not_lt, le_from_not_gt}
@@ -12,9 +12,8 @@ use Rattle.std.specs.BTreeMap.Range.{IsEntryInRange, IsInRange, IsRangeOf, entri
 use Rattle.std.specs.Cmp.{Equal-is, nat_cmp_is, nat_cmp_total, ranked}
 use Rattle.std.specs.FinMap.{nat_cmp-IsAntisymmetric}
 use Rattle.std.specs.List.{AllByRecursion}
-use Rattle.std.specs.Ordering.{is_gt, is_lt, nat_cmp}
-use Rattle.std.specs.declared.cmp.Ordering.{Ordering}
-use Rattle.std.specs.declared.cmp.Ordering.TheVariants.{Less, Equal, Greater}
+use Rattle.std.specs.Ordering.{is_lt, nat_cmp}
+use Rattle.std.specs.declared.cmp.Ordering.TheVariants.{Less}
 use Rattle.std.specs.declared.ops.Bound.TheVariants.{Included, Excluded, Unbounded}
 use Rattle.mr_base.proofs.Comparisons.{below_or}
 use Rattle.mr_base.specs.Pairs.{is_meeting}
@@ -24,19 +23,17 @@ use Rattle.mr_mem.specs.Memory.{id_cmp}
 use Rattle.mr_mem.specs.Spans.{AreApart, IsFree, IsLeast, IsOverlapped, IsSharedBefore, Puts, Taken, span_at}
 use Rattle.mr_mem.proofs.Identities.{not_less}
 use Rattle.mr_mem.proofs.LeastLaws.{fold_has, fold_keeps, fold_reaches, least_with}
-use Rattle.mr_mem.proofs.Meetings.{AreSharing, false_from, from_meeting, meeting_from, meeting-sym}
+use Rattle.mr_mem.proofs.Meetings.{AreSharing, from_meeting, meeting_from, meeting-sym}
+use Rattle.mr_runs.proofs.FindLaws.{not_greater}
 
 -- ---- one span added or taken away
 
 other_key : (a b : ℕ) → b ≢ a → is_at (nat_cmp a) b ≡ false
-other_key a b n = false_from (is_at (nat_cmp a) b) (λ e. n (sym (nat_cmp-IsAntisymmetric a b ((Equal-is (nat_cmp a b)).0 e))))
+other_key a b n = false_from_ne_true (is_at (nat_cmp a) b) (λ e. n (sym (nat_cmp-IsAntisymmetric a b ((Equal-is (nat_cmp a b)).0 e))))
 
 -- what a change of the program's map at one key says
 pub puts_from : (es fs : Taken) (start : ℕ) (s : Option Span) → span_at fs start ≡ s → ((q : ℕ) → is_at (nat_cmp start) q ≡ false → span_at fs q ≡ span_at es q) → Puts es start s fs
 puts_from es fs start s h k = record { here = h; others = λ q n. k q (other_key start q n) }
-
-pub none_apart : AreApart []
-none_apart = record { filled = λ start s e. absurd (none-some s e); apart = λ start other s t e f n. absurd (none-some s e) }
 
 -- a span behind an addition is the new one, or an old one elsewhere
 pub which_span : (old new : Taken) (start : ℕ) (s : Span) → Puts old start (Some s) new → (q : ℕ) (t : Span) → span_at new q ≡ Some t
@@ -139,14 +136,6 @@ module _ (m : BTreeMap ℕ Span) (addr size : ℕ) (apart : AreApart m.entries) 
 
 -- ---- the spans in a range
 
-not_above : (a b : ℕ) → a ≤ b → is_gt (nat_cmp a b) ≡ false
-not_above a b le = by_order (nat_cmp a b) refl
-  where
-    by_order : (o : Ordering) → nat_cmp a b ≡ o → is_gt o ≡ false
-    by_order Less is = refl
-    by_order Equal is = refl
-    by_order Greater is = let above : b < a = ranked a b Greater (sym is) in absurd (omega arith)
-
 module _ (m : BTreeMap ℕ Span) (addr size first last : ℕ) (filled : 0 < size) (is_first : first ≡ addr) (is_last : last ≡ addr + (size - 1)) (apart : AreApart m.entries)
     (r : Taken) (within : IsRangeOf nat_cmp (Included first) (Included last) m r) (all : r ≡ entries_between nat_cmp (Included first) (Included last) m.entries) where
   overlapped : (e : ℕ × Span) → IsEntryInRange nat_cmp (Included first) (Included last) m e → IsOverlapped m.entries addr size e.1.id
@@ -168,7 +157,7 @@ module _ (m : BTreeMap ℕ Span) (addr size first last : ℕ) (filled : 0 < size
       ap (λ (es : Taken). span_at es start) all
       ∙ lookup-filter-keys (is_at (nat_cmp start)) (range_contains nat_cmp (Included first) (Included last)) true
       (λ k t. subst (λ (q : ℕ). range_contains nat_cmp (Included first) (Included last) q ≡ true) (nat_cmp-IsAntisymmetric start k ((Equal-is (nat_cmp start k)).0 t))
-      (range_contains-from_IsInRange nat_cmp_total (Included first) (Included last) start (not_above first start low, not_above start last high)))
+      (range_contains-from_IsInRange nat_cmp_total (Included first) (Included last) start (not_greater first start low, not_greater start last high)))
       m.entries
       ∙ f
 

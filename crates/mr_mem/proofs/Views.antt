@@ -1,5 +1,5 @@
 -- The program's map of allocations, seen as a finite map.
-use Rattle.std.proofs.Common.{◌≡◌, refl, sym, ap, ◌∙◌, List, [], ◌∷◌, Option, Bool, true, false, cond, length, arith}
+use Rattle.std.proofs.Common.{◌≡◌, refl, sym, ap, ◌∙◌, List, [], ◌∷◌, Option, Bool, true, false, cond}
 use Rattle.std.specs.Prelude.{Some}
 use Rattle.std.specs.Option.{option_map}
 use Rattle.std.specs.FinMap as fin
@@ -10,6 +10,7 @@ use Rattle.std.specs.List.Sorted.{IsStrictlySortedBy}
 use Rattle.std.specs.Cmp.{eq_by_cmp_equiv}
 use Rattle.std.specs.Ordering.{eq_by_cmp}
 use Rattle.std.specs.declared.cmp.Ordering.TheVariants.{Less}
+use Rattle.std.proofs.lemmas.List.{nil_from_length}
 use Rattle.mr_base.specs.declared.byte.AllocId.{AllocId}
 use Rattle.mr_mem.specs.declared.memory.Stored.{Stored}
 use Rattle.mr_mem.specs.Memory.{Allocation, id_cmp}
@@ -44,12 +45,8 @@ put_first e [] h = refl
 put_first e (f ∷ es) h =
     ap (λ r. by_order r ((e.0, allocation_of e.1) ∷ (f.0, allocation_of f.1) ∷ entries_of es) ((f.0, allocation_of e.1) ∷ entries_of es) ((f.0, allocation_of f.1) ∷ put id_cmp e.0 (allocation_of e.1) (entries_of es))) h.0
 
-no_length : {A : Type 0} (xs : List A) → length xs ≡ 0 → xs ≡ []
-no_length [] e = refl
-no_length (x ∷ xs) e = absurd (omega arith)
-
 pub no_entries : fin.entries {X = Allocation} {R = id_cmp} fin.empty ≡ []
-no_entries = no_length _ (sym (fin.len-entries fin.empty) ∙ fin.len-empty id_cmp Allocation)
+no_entries = nil_from_length _ (sym (fin.len-entries fin.empty) ∙ fin.len-empty id_cmp Allocation)
 
 -- the entries of the map are the program's, in their order
 pub entries_view : (es : List (AllocId × Stored)) → IsStrictlySortedBy id_cmp (keys_of es) → fin.entries (memory_of es) ≡ entries_of es

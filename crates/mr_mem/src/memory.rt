@@ -119,7 +119,8 @@ impl Memory {
     /// the time for it grows as the logarithm of their number.
     #[tactic(auto, unfolding(crate::specs::Memory::range_fault))]
     pub fn lawful(&self, addr: u64, size: u64, align: u64) -> Result<(), PickFault>
-        ensures { MatchResult result (λ _. pick_fault self.now addr size align ≡ None) (λ f. pick_fault self.now addr size align ≡ Some f) }
+        ensures { MatchResult result (λ _. pick_fault self.now addr size align ≡ None)
+            (λ f. pick_fault self.now addr size align ≡ Some f) }
     {
         if is_bad(addr, size, align) {
             return Err(PickFault::BadAddress);
@@ -148,7 +149,8 @@ impl Memory {
         size: u64,
         align: u64,
     ) -> Result<AllocId, Reason>
-        ensures freed { MatchResult result (λ id. freed self.old p kind size align ≡ Ok (id, self.new)) (λ r. freed self.old p kind size align ≡ Err r) }
+        ensures freed { MatchResult result (λ id. freed self.old p kind size align ≡ Ok (id, self.new))
+            (λ r. freed self.old p kind size align ≡ Err r) }
         ensures err { OnErr result (self.new ≡ self.old) }
     {
         let Some(id) = p.prov else {
@@ -296,7 +298,8 @@ fn enter_by_identity(
     id: AllocId,
     stored: Stored,
 ) -> Result<(), AllocError>
-    ensures ok { OnOk result (memory_of allocations.new.entries ≡ fin.insert (memory_of allocations.old.entries) id (allocation_of stored)) }
+    ensures ok { OnOk result
+        (memory_of allocations.new.entries ≡ fin.insert (memory_of allocations.old.entries) id (allocation_of stored)) }
     ensures err { OnErr result (memory_of allocations.new.entries ≡ memory_of allocations.old.entries) }
 {
     allocations.insert(id, stored)?;
@@ -313,7 +316,8 @@ fn enter(
     requires absent { fin.get (memory_of allocations.old.entries) id ≡ None }
     requires spans { AreSpansOf spans.old (ranges_of (memory_of allocations.old.entries)) }
     requires free { IsFree spans.old stored.addr stored.span }
-    ensures ok { OnOk result (memory_of allocations.new.entries ≡ fin.insert (memory_of allocations.old.entries) id (allocation_of stored)) }
+    ensures ok { OnOk result
+        (memory_of allocations.new.entries ≡ fin.insert (memory_of allocations.old.entries) id (allocation_of stored)) }
     ensures err { OnErr result (memory_of allocations.new.entries ≡ memory_of allocations.old.entries) }
     ensures spans { AreSpansOf spans.new (ranges_of (memory_of allocations.new.entries)) }
 {
@@ -351,7 +355,8 @@ fn against_free(
 
 // Marks the allocation dead, where there is one.
 fn end_life(allocations: &mut BTreeMap<AllocId, Stored>, id: AllocId)
-    ensures { memory_of allocations.new.entries ≡ without_life (memory_of allocations.old.entries) id (fin.get (memory_of allocations.old.entries) id) }
+    ensures { memory_of allocations.new.entries
+        ≡ without_life (memory_of allocations.old.entries) id (fin.get (memory_of allocations.old.entries) id) }
 {
     if let Some(a) = allocations.get_mut(&id) {
         a.live = false;

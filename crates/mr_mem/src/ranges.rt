@@ -57,7 +57,8 @@ pub fn missed(a: Option<&Stored>, addr: u64, len: u64) -> Result<(), Reason>
 
 /// The bytes of a range.
 pub fn lent(a: Option<&Stored>, addr: u64, len: u64) -> Result<View<'_>, Reason>
-    ensures lent { seen_view result ≡ then_give (inside (option_map allocation_of (option_copied a.entry)) addr len) (λ b. bytes_at b addr len) }
+    ensures lent { seen_view result
+        ≡ then_give (inside (option_map allocation_of (option_copied a.entry)) addr len) (λ b. bytes_at b addr len) }
     ensures maximal { IfOk result AreMaximal }
 {
     match a {
@@ -68,7 +69,8 @@ pub fn lent(a: Option<&Stored>, addr: u64, len: u64) -> Result<View<'_>, Reason>
 
 // The bytes of a range of an allocation.
 fn lent_by(a: &Stored, addr: u64, len: u64) -> Result<View<'_>, Reason>
-    ensures lent { seen_view result ≡ then_give (inside (Some (allocation_of a.now)) addr len) (λ b. bytes_at b addr len) }
+    ensures lent { seen_view result
+        ≡ then_give (inside (Some (allocation_of a.now)) addr len) (λ b. bytes_at b addr len) }
     ensures maximal { IfOk result AreMaximal }
 {
     range_fault(a, addr, len)?;
@@ -82,7 +84,9 @@ pub fn put(
     addr: u64,
     bytes: &[AbstractByte],
 ) -> Result<(), Fault>
-    ensures stored { IsStored (put_at (memory_of allocations.old.entries) id (fin.get (memory_of allocations.old.entries) id) addr bytes.now) (memory_of allocations.new.entries) result }
+    ensures stored { IsStored
+        (put_at (memory_of allocations.old.entries) id (fin.get (memory_of allocations.old.entries) id) addr bytes.now)
+        (memory_of allocations.new.entries) result }
     ensures err { OnErr result (memory_of allocations.new.entries ≡ memory_of allocations.old.entries) }
 {
     match allocations.get_mut(&id) {
@@ -111,7 +115,10 @@ pub fn put_numbers(
     numbers: &[u8],
     provenance: Option<AllocId>,
 ) -> Result<(), Fault>
-    ensures stored { IsStored (put_at (memory_of allocations.old.entries) id (fin.get (memory_of allocations.old.entries) id) addr (with_provenance provenance numbers.now)) (memory_of allocations.new.entries) result }
+    ensures stored { IsStored
+        (put_at (memory_of allocations.old.entries) id (fin.get (memory_of allocations.old.entries) id) addr
+        (with_provenance provenance numbers.now))
+        (memory_of allocations.new.entries) result }
     ensures err { OnErr result (memory_of allocations.new.entries ≡ memory_of allocations.old.entries) }
 {
     match allocations.get_mut(&id) {
@@ -127,7 +134,8 @@ fn put_numbers_into(
     numbers: &[u8],
     provenance: Option<AllocId>,
 ) -> Result<(), Fault>
-    ensures stored { IsStoredIn (allocation_of a.old) addr (with_provenance provenance numbers.now) (allocation_of a.new) result }
+    ensures stored { IsStoredIn (allocation_of a.old) addr (with_provenance provenance numbers.now)
+        (allocation_of a.new) result }
     ensures err { OnErr result (allocation_of a.new ≡ allocation_of a.old) }
 {
     if let Err(reason) = range_fault(a, addr, numbers.len() as u64) {
@@ -145,7 +153,10 @@ pub fn put_repeated(
     len: u64,
     byte: AbstractByte,
 ) -> Result<(), Fault>
-    ensures stored { IsStored (put_at (memory_of allocations.old.entries) id (fin.get (memory_of allocations.old.entries) id) addr (replicate len byte)) (memory_of allocations.new.entries) result }
+    ensures stored { IsStored
+        (put_at (memory_of allocations.old.entries) id (fin.get (memory_of allocations.old.entries) id) addr
+        (replicate len byte))
+        (memory_of allocations.new.entries) result }
     ensures err { OnErr result (memory_of allocations.new.entries ≡ memory_of allocations.old.entries) }
 {
     match allocations.get_mut(&id) {

@@ -3,7 +3,7 @@ use Rattle.std.proofs.Common.{◌≡◌, ℕ, suc, zero, List, [], ◌∷◌, fa
 use Rattle.std.proofs.lemmas.Bool.{both_ways}
 use Rattle.mr_base.specs.Accesses.{some_conflict, some_race}
 use Rattle.mr_base.specs.declared.thread.Event.TheVariants.{Quiet}
-use Rattle.mr_event.specs.declared.footprint.Footprint.{Footprint}
+use Rattle.mr_event.specs.Footprint.{Footprint}
 use Rattle.mr_event.specs.Footprints.{depends, wakes}
 use Rattle.mr_event.specs.Kept.{kept, selected}
 use Rattle.mr_event.specs.Order.{no_step, HappensBefore}

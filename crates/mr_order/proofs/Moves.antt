@@ -1,7 +1,7 @@
 -- Steps that move past independent ones, and steps that run without the others.
 use Rattle.std.proofs.Common.{◌≡◌, ℕ, List, [], ◌∷◌, ◌++◌, Bool, true, false, cond, not, refl, subst}
 use Rattle.std.specs.List.{filter}
-use Rattle.mr_event.specs.declared.footprint.Footprint.{Footprint}
+use Rattle.mr_event.specs.Footprint.{Footprint}
 use Rattle.mr_event.specs.Order.{step_at}
 use Rattle.mr_order.specs.Trace.{AreIndependent, Machine, Runs}
 use Rattle.mr_order.proofs.Lists.{Each, Ahead, Each-weaker, Each-filter}

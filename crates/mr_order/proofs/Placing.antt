@@ -3,7 +3,7 @@ use Rattle.std.proofs.Common.{◌≡◌, ℕ, suc, zero, ◌<◌, ◌≤◌, ◌
 use native.Mathlib.Decide.{ℕ_discrete, dec_lt}
 use Rattle.std.specs.Prelude.{AllPairs}
 use Rattle.std.proofs.lemmas.Bool.{eq-eqb, ne_eqb}
-use Rattle.mr_event.specs.declared.footprint.Footprint.{Footprint}
+use Rattle.mr_event.specs.Footprint.{Footprint}
 use Rattle.mr_event.specs.Order.{HappensBefore, places, IsRearrangement}
 use Rattle.mr_order.specs.Trace.{IsAmong, IsPlacing}
 use Rattle.mr_order.proofs.Lists.{Each, Ahead, Each-at, Each-weaker, Each-places, Ahead-places}
@@ -20,7 +20,7 @@ placing_keeps run placed [] h = tt
 placing_keeps run placed (x ∷ o) h =
     (Each-weaker _ _ (λ y n b. n (inr (h.0.ready y b))) o (unplaced run (x ∷ placed) o h.1), placing_keeps run (x ∷ placed) o h.1)
 
-placing_within : (run : List Footprint) (placed o : List ℕ) → IsPlacing run placed o → Each (λ k. k < length run) o
+pub placing_within : (run : List Footprint) (placed o : List ℕ) → IsPlacing run placed o → Each (λ k. k < length run) o
 placing_within run placed [] h = tt
 placing_within run placed (x ∷ o) h = (h.0.within, placing_within run (x ∷ placed) o h.1)
 

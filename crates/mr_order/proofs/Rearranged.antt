@@ -8,7 +8,7 @@ use Rattle.std.proofs.lemmas.List.{get_or-map}
 use Rattle.std.proofs.lemmas.List.Sums.{sum_by-cons}
 use Rattle.std.proofs.lemmas.List.Sorted.{IsPermutation-refl, IsPermutation-trans, IsPermutation-middle, IsPermutation-cons, sum_by-IsPermutation}
 use Rattle.mr_base.specs.Accesses.{some_race}
-use Rattle.mr_event.specs.declared.footprint.Footprint.{Footprint}
+use Rattle.mr_event.specs.Footprint.{Footprint}
 use Rattle.mr_event.specs.Footprints.{wakes}
 use Rattle.mr_event.specs.Order.{no_step, step_at, thread_at, places, Edge, HappensBefore, RacePair, IsRearrangement}
 use Rattle.mr_event.specs.Order.Edge.{in_thread, woken, dependent}

@@ -1,6 +1,6 @@
 -- Steps of which neither happens before the other.
 use Rattle.std.proofs.Common.{ℕ, ◌<◌, List, inl, inr}
-use Rattle.mr_event.specs.declared.footprint.Footprint.{Footprint}
+use Rattle.mr_event.specs.Footprint.{Footprint}
 use Rattle.mr_event.specs.Footprints.{depends, wakes}
 use Rattle.mr_event.specs.Order.{step_at, thread_at, HappensBefore, RacePair}
 use Rattle.mr_event.specs.Order.Edge.{in_thread, dependent}

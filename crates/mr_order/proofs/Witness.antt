@@ -5,7 +5,7 @@ use Rattle.std.specs.Prelude.{◌==◌}
 use Rattle.std.specs.List.{filter, range_with_len}
 use Rattle.std.proofs.lemmas.Bool.{both_ways, eq-eqb, ne_eqb, and_parts, eqb-true, cases_Bool, not-true}
 use Rattle.std.proofs.lemmas.List.Elements.{filter-append}
-use Rattle.mr_event.specs.declared.footprint.Footprint.{Footprint}
+use Rattle.mr_event.specs.Footprint.{Footprint}
 use Rattle.mr_event.specs.Footprints.{wakes}
 use Rattle.mr_event.specs.Order.{step_at, thread_at, places, Edge, HappensBefore, RacePair}
 use Rattle.mr_event.specs.Order.Edge.{in_thread, woken, dependent}

@@ -2,7 +2,7 @@
 -- two statements on every machine, which proofs/ proves.
 use Rattle.std.specs.Prelude.{◌≡◌, ℕ, suc, List, [], ◌∷◌, ◌++◌, length, Bool, ◌==◌}
 use Rattle.std.specs.List.{filter}
-use Rattle.mr_event.specs.declared.footprint.Footprint.{Footprint}
+use Rattle.mr_event.specs.Footprint.{Footprint}
 use Rattle.mr_event.specs.Kept.{selected}
 use Rattle.mr_event.specs.Order.{places, thread_at, HasNoRace, IsRearrangement}
 use Rattle.mr_order.specs.Trace.{Machine, Runs, IsReported, IsFirstPair, Selects}

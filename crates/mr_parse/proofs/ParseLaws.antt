@@ -23,7 +23,7 @@ use Rattle.mr_grammar.specs.Parsing.{body_of, parsed, program_in, whole_of}
 use Rattle.mr_words.specs.Brackets.{told}
 use Rattle.mr_words.specs.Places.{words_of}
 use Rattle.mr_grammar.proofs.Stops.BodyLaws.{body_writes}
-use Rattle.mr_grammar.proofs.ParsingLaws.{denotes_parsed, fault_parsed, parsed_denotes, parsed_fault}
+use Rattle.mr_grammar.proofs.ParsingLaws.{denotes_parsed, fault_parsed, parsed_denotes, parsed_fault, of_program, of_tokens}
 use Rattle.mr_grammar.proofs.Shape.ShapedLaws.{denoted_is_shaped}
 use Rattle.mr_grammar.proofs.Shape.SmallLaws.{few_written, names_small}
 
@@ -39,13 +39,6 @@ whole_written scope words body e = ap (λ r. elim r as (λ _. Result ProgramBody
 pub whole_stopped : (scope : Scope) (words : List Word) (s t : Stop) → whole_of scope words ≡ Err s → t ≡ told words s → body_of scope words ≡ Err t
 unfolding body_of
 whole_stopped scope words s t e is = ap (λ r. elim r as (λ _. Result ProgramBody Stop) [ Ok x ↦ Ok x | Err s ↦ Err (told words s) ]) e ∙ ap Err (sym is)
-
--- what a text gives, by its tokens
-abbrev of_program : List ℕ → List Lexeme → Result Program Stop → Result Program TextFault
-of_program text lexemes found = elim found as (λ _. Result Program TextFault) [ Ok p ↦ Ok p | Err s ↦ Err (fault_at text lexemes s) ]
-
-abbrev of_tokens : List ℕ → Result (List Lexeme) TextFault → Result Program TextFault
-of_tokens text found = elim found as (λ _. Result Program TextFault) [ Ok lexemes ↦ of_program text lexemes (program_in (words_of lexemes)) | Err fault ↦ Err fault ]
 
 pub program_parsed : (text : List ℕ) (lexemes : List Lexeme) (p : Program) → lexed text ≡ Ok lexemes → program_in (words_of lexemes) ≡ Ok p → parsed text ≡ Ok p
 unfolding parsed

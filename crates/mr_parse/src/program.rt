@@ -197,7 +197,8 @@ fn arguments_and_return(
     scope: &Scope,
     room: u32,
 ) -> Result<Head, ReadFault>
-    ensures { Gives (λ h. (head_of h, reader.new)) result (read room scope.now (listed Round args_form ▪ codes "->" ▸ local_use) reader.old) }
+    ensures { Gives (λ h. (head_of h, reader.new)) result
+        (read room scope.now (listed Round args_form ▪ codes "->" ▸ local_use) reader.old) }
 {
     match arguments(reader, alloc, scope, room) {
         Ok(args) => match beside(args, return_local(reader, scope)) {
@@ -222,7 +223,8 @@ fn locals_and_blocks(
     scope: &Scope,
     room: u32,
 ) -> Result<Inner, ReadFault>
-    ensures { Gives (λ i. (parts_of i, reader.new)) result (read room scope.now (codes "let" ▸ locals_form ◂ codes ";" ▪ blocks_form) reader.old) }
+    ensures { Gives (λ i. (parts_of i, reader.new)) result
+        (read room scope.now (codes "let" ▸ locals_form ◂ codes ";" ▪ blocks_form) reader.old) }
 {
     match locals_of_function(reader, alloc, scope, room) {
         Ok(locals) => match beside(locals, blocks(reader, alloc, scope, room)) {
@@ -240,7 +242,8 @@ fn locals_of_function(
     scope: &Scope,
     room: u32,
 ) -> Result<Items<Local>, ReadFault>
-    ensures { Gives (λ ls. (ls, reader.new)) result (read room scope.now (codes "let" ▸ locals_form ◂ codes ";") reader.old) }
+    ensures { Gives (λ ls. (ls, reader.new)) result
+        (read room scope.now (codes "let" ▸ locals_form ◂ codes ";") reader.old) }
 {
     reader.expect(b"let")?;
     match locals(reader, alloc, scope, room) {
@@ -257,7 +260,8 @@ fn braced_locals_and_blocks(
     scope: &Scope,
     room: u32,
 ) -> Result<Inner, ReadFault>
-    ensures { Gives (λ i. (parts_of i, reader.new)) result (read room scope.now (within Curly (codes "let" ▸ locals_form ◂ codes ";" ▪ blocks_form)) reader.old) }
+    ensures { Gives (λ i. (parts_of i, reader.new)) result
+        (read room scope.now (within Curly (codes "let" ▸ locals_form ◂ codes ";" ▪ blocks_form)) reader.old) }
 {
     let within = reader.open(Bracket::Curly, room)?;
     match locals_and_blocks(reader, alloc, scope, within) {

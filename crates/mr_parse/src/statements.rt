@@ -3,7 +3,7 @@ ghost use Rattle.std.specs.Prelude.{◌≡◌, codes, false};
 ghost use Rattle.mr_ast.specs.declared.words.Bracket.TheVariants.{Curly, Round};
 ghost use Rattle.mr_ast.specs.Forms.{Cases, Either, Part};
 ghost use Rattle.mr_ast.specs.Writing.{ThePlace, TheValue, block_use, listed, num_form, optional, within, ◌▪◌, ◌▸◌};
-ghost use Rattle.mr_ast.specs.ProgramGrammar.{assign_form, begins_stmt, call_form, disc_form, do_form, is_stmt_word, judged_intrinsic, judged_stmt, judged_term, stmt_behind, stmt_form, stmts_form, switch_case_form, switch_cases_form, switch_form, term_behind, term_form, unwind_form, values_form};
+ghost use Rattle.mr_ast.specs.ProgramGrammar.{assign_form, begins_stmt, call_form, numbered_form, do_form, is_stmt_word, judged_intrinsic, judged_stmt, judged_term, stmt_behind, stmt_form, stmts_form, switch_case_form, switch_cases_form, switch_form, term_behind, term_form, unwind_form, values_form};
 ghost use Rattle.mr_reader.specs.Gives.{Gives};
 ghost use Rattle.mr_grammar.specs.Reading.{first_at, is_next, read};
 ghost use Rattle.mr_parse.specs.Views.{call_end_form, called, called_behind, unwound, ways_form, ways_of};
@@ -89,7 +89,8 @@ fn bare_statement(
     room: u32,
     over: bool,
 ) -> Result<Stmt, ReadFault>
-    ensures { Gives (λ s. (s, reader.new)) result (read room scope.now (Either is_stmt_word (Cases (λ _. judged_stmt over) stmt_behind) (assign_form over)) reader.old) }
+    ensures { Gives (λ s. (s, reader.new)) result (read room scope.now
+        (Either is_stmt_word (Cases (λ _. judged_stmt over) stmt_behind) (assign_form over)) reader.old) }
 {
     if !is_statement_word_next(reader) {
         return assignment(reader, alloc, scope, room, over);
@@ -118,14 +119,14 @@ fn statement_behind(
     }
 }
 
-#[tactic(auto, unfolding(mr_ast::specs::ProgramGrammar::disc_form))]
+#[tactic(auto, unfolding(mr_ast::specs::ProgramGrammar::numbered_form))]
 fn discriminant(
     reader: &mut Reader<'_>,
     alloc: Global,
     scope: &Scope,
     room: u32,
 ) -> Result<Stmt, ReadFault>
-    ensures { Gives (λ s. (s, reader.new)) result (read room scope.now disc_form reader.old) }
+    ensures { Gives (λ s. (s, reader.new)) result (read room scope.now (numbered_form (λ p n. Stmt.Disc p n)) reader.old) }
 {
     match reader.place(alloc, scope, room, false) {
         Ok(place) => match beside(place, assigned_number(reader, scope, room)) {
@@ -282,7 +283,8 @@ fn braced_cases(
     scope: &Scope,
     room: u32,
 ) -> Result<(Items<(Num, BlockName)>, BlockName), ReadFault>
-    ensures { Gives (λ cs. (cs, reader.new)) result (read room scope.now (within Curly (switch_cases_form ▪ codes "_" ▸ codes "=>" ▸ block_use)) reader.old) }
+    ensures { Gives (λ cs. (cs, reader.new)) result
+        (read room scope.now (within Curly (switch_cases_form ▪ codes "_" ▸ codes "=>" ▸ block_use)) reader.old) }
 {
     let inner = reader.open(Bracket::Curly, room)?;
     match all_switch_cases(reader, alloc, scope, inner) {
@@ -298,7 +300,8 @@ fn all_switch_cases(
     scope: &Scope,
     room: u32,
 ) -> Result<(Items<(Num, BlockName)>, BlockName), ReadFault>
-    ensures { Gives (λ cs. (cs, reader.new)) result (read room scope.now (switch_cases_form ▪ codes "_" ▸ codes "=>" ▸ block_use) reader.old) }
+    ensures { Gives (λ cs. (cs, reader.new)) result
+        (read room scope.now (switch_cases_form ▪ codes "_" ▸ codes "=>" ▸ block_use) reader.old) }
 {
     match switch_cases(reader, alloc, scope, room) {
         Ok(cases) => beside(cases, other_case(reader, scope)),
@@ -368,7 +371,8 @@ fn unwind(
 
 // The end of an unwinding behind its payload.
 fn unwound(reader: &mut Reader<'_>, scope: &Scope, payload: Value) -> Result<Term, ReadFault>
-    ensures { Gives (λ t. (t, reader.new)) result (unwound payload (read 0 scope.now (codes "to" ▸ block_use) reader.old)) }
+    ensures { Gives (λ t. (t, reader.new)) result
+        (unwound payload (read 0 scope.now (codes "to" ▸ block_use) reader.old)) }
 {
     let block = to_block(reader, scope);
     match beside(payload, block) {
@@ -567,7 +571,8 @@ fn place_and_next(
     scope: &Scope,
     room: u32,
 ) -> Result<(Option<Place>, BlockName), ReadFault>
-    ensures { Gives (λ e. (e, reader.new)) result (read room scope.now (optional (codes "->") (Part (ThePlace false)) ▪ codes "to" ▸ block_use) reader.old) }
+    ensures { Gives (λ e. (e, reader.new)) result
+        (read room scope.now (optional (codes "->") (Part (ThePlace false)) ▪ codes "to" ▸ block_use) reader.old) }
 {
     match result_place(reader, alloc, scope, room) {
         Ok(place) => beside(place, to_block(reader, scope)),
@@ -582,7 +587,8 @@ fn result_place(
     scope: &Scope,
     room: u32,
 ) -> Result<Option<Place>, ReadFault>
-    ensures { Gives (λ p. (p, reader.new)) result (read room scope.now (optional (codes "->") (Part (ThePlace false))) reader.old) }
+    ensures { Gives (λ p. (p, reader.new)) result
+        (read room scope.now (optional (codes "->") (Part (ThePlace false))) reader.old) }
 {
     if !reader.is_next(b"->") {
         return Ok(None);
@@ -597,7 +603,8 @@ fn place_behind(
     scope: &Scope,
     room: u32,
 ) -> Result<Place, ReadFault>
-    ensures { Gives (λ p. (p, reader.new)) result (read room scope.now (codes "->" ▸ Part (ThePlace false)) reader.old) }
+    ensures { Gives (λ p. (p, reader.new)) result
+        (read room scope.now (codes "->" ▸ Part (ThePlace false)) reader.old) }
 {
     reader.expect(b"->")?;
     reader.place(alloc, scope, room, false)

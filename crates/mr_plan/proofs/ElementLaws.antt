@@ -1,6 +1,6 @@
 -- The elements of short lists, and of two lists, one behind the other.
 use Rattle.std.proofs.Common.{◌≡◌, subst, sym, List, [], ◌∷◌, ◌++◌, arith, inl, inr, Any, Contains}
-use Rattle.std.proofs.lemmas.List.Elements.{Contains-append_left, Contains-append_right, Contains-push_cases}
+use Rattle.std.proofs.lemmas.List.Elements.{Contains-append_right, Contains-push_cases}
 
 pub Contains-nil : {A : Type 0} (x : A) → Contains [] x → ⊥
 Contains-nil x h = let k = h.1 in omega arith
@@ -10,9 +10,6 @@ Contains-one x y h = elim (Contains-push_cases [] x y h) [ inl k ↦ absurd (Con
 
 pub Any-one : {A : Type 0} (P : A → Type 0) (x : A) → Any P (x ∷ []) → P x
 Any-one P x h = subst P (sym (Contains-one x h.1 (h.0, h.2, h.3))) h.4
-
-pub Any-append_left : {A : Type 0} (P : A → Type 0) (xs ys : List A) → Any P xs → Any P (xs ++ ys)
-Any-append_left P xs ys h = let c = Contains-append_left xs ys h.1 (h.0, h.2, h.3) in (c.0, h.1, c.1, c.2, h.4)
 
 pub Any-append_right : {A : Type 0} (P : A → Type 0) (xs ys : List A) → Any P ys → Any P (xs ++ ys)
 Any-append_right P xs ys h = let c = Contains-append_right xs ys h.1 (h.0, h.2, h.3) in (c.0, h.1, c.1, c.2, h.4)

@@ -1,6 +1,5 @@
 -- The end of an allocation: what it needs of memory, and that the header tells it all.
-use Rattle.std.proofs.Common.{◌≡◌, ℕ, refl, ap, ◌∙◌, List, [], ◌∷◌, Option, Some, None, Ok, Bool, true, false, length, arith, ◌==◌}
-use Rattle.std.proofs.lemmas.Bool.Decides.{nat_tests}
+use Rattle.std.proofs.Common.{◌≡◌, ℕ, refl, ap, ◌∙◌, List, [], ◌∷◌, Option, Some, None, Ok, Bool, true, false, length, ◌==◌}
 use Rattle.std.specs.FinMap as fin
 use Rattle.mr_base.specs.declared.byte.AllocId.{AllocId}
 use Rattle.mr_base.specs.declared.byte.Kind.{Kind}
@@ -9,6 +8,7 @@ use Rattle.mr_base.specs.declared.reason.Reason.{Reason}
 use Rattle.mr_base.specs.declared.reason.Reason.TheVariants.{DeadAllocation, FreeAddress, FreeAlign, FreeKind, FreeSize}
 use Rattle.mr_mem.specs.Memory.{Allocation, Memory, first_failed, free_fault, freed, freed_of, kind_number, refusal, unless, without_life}
 use Rattle.mr_plan.proofs.Headers.{Like}
+use Rattle.mr_base.proofs.Comparisons.{eq_from}
 
 abbrev pub dead : Allocation → Allocation
 dead a = record a { live = false }
@@ -82,9 +82,6 @@ rest_passes : (b : Bool) (r : Reason) (ts : List (Bool × Reason)) → first_fai
 rest_passes true r ts h = h
 rest_passes false r ts h = absurd (cc)
 
-same_number : (i k : ℕ) → (i == k) ≡ true → i ≡ k
-same_number i k h = grind (arith, nat_tests)
-
 -- and what is of the kind
 pub free_kind : (a : Allocation) (addr : ℕ) (kind : Kind) (size align : ℕ) → free_fault a addr kind size align ≡ None → kind_number kind ≡ kind_number a.kind
 unfolding free_fault
@@ -92,5 +89,5 @@ free_kind a addr kind size align h =
     let sized : List (Bool × Reason) = (size == length a.bytes, FreeSize) ∷ (align == a.align, FreeAlign) ∷ [] in
     let kinded : List (Bool × Reason) = (kind_number kind == kind_number a.kind, FreeKind) ∷ sized in
     let placed : List (Bool × Reason) = (addr == a.addr, FreeAddress) ∷ kinded in
-    same_number (kind_number kind) (kind_number a.kind)
+    eq_from (kind_number kind) (kind_number a.kind)
     (first_passes (kind_number kind == kind_number a.kind) FreeKind sized (rest_passes (addr == a.addr) FreeAddress kinded (rest_passes a.live DeadAllocation placed h)))

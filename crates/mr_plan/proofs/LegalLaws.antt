@@ -7,13 +7,14 @@ use Rattle.mr_sched.specs.declared.schedule.Ask.{Ask}
 use Rattle.mr_sched.specs.declared.schedule.Ask.TheVariants.{Address, Waiter}
 use Rattle.mr_sync.specs.Tables.{on_lock}
 use Rattle.mr_plan.specs.Legal.{Fault, address_fault, else_fault, fault, picks_fault}
+use Rattle.mr_sched.specs.declared.rule.ScheduleRule.TheVariants as rule
 
 pub no_faults : (a b : Option Fault) → else_fault a b ≡ None → (a ≡ None) × (b ≡ None)
 no_faults None b h = (refl, h)
 no_faults (Some f) b h = absurd (cc)
 
 -- a waiter that waits
-waits_there : (b : Bool) (rest : Option Fault) → (if b then rest else fault 65) ≡ None → (b ≡ true) × (rest ≡ None)
+waits_there : (b : Bool) (rest : Option Fault) → (if b then rest else fault rule.NotWaiting) ≡ None → (b ≡ true) × (rest ≡ None)
 waits_there true rest h = (refl, h)
 waits_there false rest h = absurd (cc)
 

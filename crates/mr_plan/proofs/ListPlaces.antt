@@ -1,5 +1,5 @@
 -- What a list has at each place: two lists, one behind the other, and a part of a list.
-use Rattle.std.proofs.Common.{◌≡◌, ℕ, zero, suc, ◌+◌, ◌-◌, ◌<◌, ◌≤◌, refl, sym, ap, ◌∙◌, List, [], ◌∷◌, ◌++◌, length, take, drop, arith, Some, None, slice_get}
+use Rattle.std.proofs.Common.{◌≡◌, ℕ, zero, suc, ◌+◌, ◌<◌, ◌≤◌, refl, sym, ap, ◌∙◌, List, [], ◌∷◌, take, drop, arith, Some, None, slice_get}
 
 -- lists with the same at each place are one
 pub same_by_places : {A : Type 0} (xs ys : List A) → ((k : ℕ) → slice_get xs k ≡ slice_get ys k) → xs ≡ ys
@@ -26,28 +26,3 @@ same_part (x ∷ xs) (y ∷ ys) zero (suc n) h =
 same_part [] (y ∷ ys) (suc i) n h = ap (take n) (sym (drop_nil i)) ∙ same_part [] ys i n (λ k a b. h (suc k) (omega arith) (omega arith))
 same_part (x ∷ xs) [] (suc i) n h = same_part xs [] i n (λ k a b. h (suc k) (omega arith) (omega arith)) ∙ ap (take n) (drop_nil i)
 same_part (x ∷ xs) (y ∷ ys) (suc i) n h = same_part xs ys i n (λ k a b. h (suc k) (omega arith) (omega arith))
-
-pub slice_get-append_left : {A : Type 0} (xs ys : List A) (k : ℕ) → k < length xs → slice_get (xs ++ ys) k ≡ slice_get xs k
-slice_get-append_left [] ys k h = absurd (omega arith)
-slice_get-append_left (x ∷ xs) ys zero h = refl
-slice_get-append_left (x ∷ xs) ys (suc k) h = slice_get-append_left xs ys k (omega arith)
-
-pub slice_get-append_right : {A : Type 0} (xs ys : List A) (k : ℕ) → length xs ≤ k → slice_get (xs ++ ys) k ≡ slice_get ys (k - length xs)
-slice_get-append_right [] ys k h = let e : k ≡ k - 0 = omega arith in ap (slice_get ys) e
-slice_get-append_right (x ∷ xs) ys zero h = absurd (omega arith)
-slice_get-append_right (x ∷ xs) ys (suc k) h =
-    let e : k - length xs ≡ suc k - suc (length xs) = omega arith in
-    slice_get-append_right xs ys k (omega arith) ∙ ap (slice_get ys) e
-
-pub slice_get-take : {A : Type 0} (xs : List A) (n k : ℕ) → k < n → slice_get (take n xs) k ≡ slice_get xs k
-slice_get-take xs zero k h = absurd (omega arith)
-slice_get-take [] (suc n) k h = refl
-slice_get-take (x ∷ xs) (suc n) zero h = refl
-slice_get-take (x ∷ xs) (suc n) (suc k) h = slice_get-take xs n k (omega arith)
-
-pub slice_get-drop : {A : Type 0} (xs : List A) (n k : ℕ) → slice_get (drop n xs) k ≡ slice_get xs (n + k)
-slice_get-drop xs zero k = let e : k ≡ 0 + k = omega arith in ap (slice_get xs) e
-slice_get-drop [] (suc n) k = refl
-slice_get-drop (x ∷ xs) (suc n) k =
-    let e : suc n + k ≡ suc (n + k) = omega arith in
-    slice_get-drop xs n k ∙ ap (slice_get (x ∷ xs)) (sym e)

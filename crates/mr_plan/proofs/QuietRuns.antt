@@ -1,8 +1,7 @@
 -- Scripts over memory that neither make nor free an allocation, and what their runs leave.
-use Rattle.std.proofs.Common.{◌≡◌, ℕ, refl, ◌∙◌, subst, Option}
+use Rattle.std.proofs.Common.{◌≡◌, ℕ, refl, subst, Option}
 use Rattle.mr_mem.specs.Memory.{Memory}
-use Rattle.mr_script.specs.Script.{Done, Undefined, IllFormed, Ask, ◌>>=◌, Went, run}
-use Rattle.mr_script.proofs.SwapRuns.{goes_on, same_state}
+use Rattle.mr_script.specs.Script.{Done, Undefined, IllFormed, Ask, ◌>>=◌, Went}
 use Rattle.mr_eval.specs.MemoryQueries.{Allocate, Free, MemoryQuery, MemoryReply, MemoryScript, Modify, Reading, Write, memory_answer, reading_part}
 use Rattle.mr_eval.specs.Reads.{Check, Read, ReadScript, Refer}
 use Rattle.mr_eval.specs.Tally.{Tally}
@@ -48,18 +47,6 @@ pub record IsUnmade (n n' : Tally) : Type 0 where
   pub ranges : n'.ranges ≡ n.ranges
   pub freed : n'.freed ≡ n.freed
 
-pub unmade_same : (n : Tally) → IsUnmade n n
-unmade_same n = record { thread = refl; count = refl; made = refl; ranges = refl; freed = refl }
-
-pub unmade_then : (a b c : Tally) → IsUnmade a b → IsUnmade b c → IsUnmade a c
-unmade_then a b c g k = record {
-  thread = k.thread ∙ g.thread;
-  count = k.count ∙ g.count;
-  made = k.made ∙ g.made;
-  ranges = k.ranges ∙ g.ranges;
-  freed = k.freed ∙ g.freed;
-}
-
 replaced_unmade : (p : _) (size : ℕ) (m : Memory) (n : Tally) (put : Option ℕ) (t : Memory) (n' : Tally) → Replaces p size m n put t n' → IsUnmade n n'
 replaced_unmade p size m n put t n' (stays none same noted) = subst (IsUnmade n) noted (record { thread = refl; count = refl; made = refl; ranges = refl; freed = refl })
 replaced_unmade p size m n put t n' (changes k some wrote noted) = subst (IsUnmade n) noted (record { thread = refl; count = refl; made = refl; ranges = refl; freed = refl })
@@ -72,12 +59,3 @@ query_unmade (Write atomic p ys align) quiet m t n n' x h = at_outcome (store_we
 query_unmade (Modify p size change) quiet m t n n' x h = replaced_unmade p size m n (change x) t n' (modify_went p size m n change x t n' h).replaces
 query_unmade (Allocate kind size align addr) quiet m t n n' x h = absurd quiet
 query_unmade (Free p kind size align) quiet m t n n' x h = absurd quiet
-
--- A QUIET RUN makes and frees nothing
-pub quiet_run : {A : Type 0} (script : MemoryScript A) → IsQuiet script → (m t : Memory) (n n' : Tally) (x : A) → run memory_answer script (m, n) ≡ Went x (t, n') → IsUnmade n n'
-quiet_run (Done a) quiet m t n n' x h = subst (λ w. IsUnmade n w.1) (same_state h) (unmade_same n)
-quiet_run (Undefined r) quiet m t n n' x h = cc
-quiet_run IllFormed quiet m t n n' x h = cc
-quiet_run (Ask q k) quiet m t n n' x h =
-    let g = goes_on _ _ _ _ h in
-    unmade_then n g.mid.1 n' (query_unmade q quiet.0 m g.mid.0 n g.mid.1 g.value g.first) (quiet_run (k g.value) (quiet.1 g.value) g.mid.0 t g.mid.1 n' x g.rest)

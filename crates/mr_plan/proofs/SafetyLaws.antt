@@ -41,7 +41,7 @@ answered_comes : {X A S : Type 0} (Q : A → Type 0) (r : Result X Reason) (f : 
 answered_comes Q (Ok x) f h = h x
 answered_comes Q (Err e) f h = tt
 
-on_itself : {A S : Type 0} (o : Outcome A S) → on o (λ x s. Went x s) ≡ o
+pub on_itself : {A S : Type 0} (o : Outcome A S) → on o (λ x s. Went x s) ≡ o
 on_itself (Went x s) = refl
 on_itself (Refused r) = refl
 on_itself Broken = refl

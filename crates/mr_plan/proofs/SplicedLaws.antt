@@ -2,7 +2,7 @@
 use Rattle.std.proofs.Common.{◌≡◌, ℕ, ◌+◌, ◌-◌, ◌<◌, ◌≤◌, ap, ◌∙◌, List, ◌++◌, length, take, drop, arith, append_assoc, length-take, slice_get}
 use Rattle.mr_base.specs.declared.byte.AbstractByte.{AbstractByte}
 use Rattle.mr_runs.specs.Ranges.{with_range_replaced}
-use Rattle.mr_plan.proofs.ListPlaces.{slice_get-append_left, slice_get-append_right, slice_get-drop, slice_get-take}
+use Rattle.mr_base.proofs.Lists.{slice_get-drop, slice_get-append_left, slice_get-append_right, slice_get-take}
 
 module _ (xs : List AbstractByte) (i : ℕ) (ys : List AbstractByte) (fits : i + length ys ≤ length xs) where
   length-front : length (take i xs) ≡ i

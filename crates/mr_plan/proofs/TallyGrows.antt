@@ -11,9 +11,9 @@ use Rattle.mr_base.specs.declared.byte.Pointer.{Pointer}
 use Rattle.mr_eval.specs.MemoryQueries.{Allocate, Free, Modify, MemoryQuery, MemoryReply, Reading, Write, memory_answer}
 use Rattle.mr_eval.specs.Tally.{Tally, seen_of, with_seen}
 use Rattle.mr_plan.specs.Places.{ByteAt, Covers, HeaderOf, MemoryPlace, ReadsMemory, StoresAt, WritesMemory}
-use Rattle.mr_plan.proofs.ElementLaws.{Any-append_left}
 use Rattle.mr_plan.proofs.MemoryAnswers.{Modifies, Replaces, changes, check_went, free_went, load_went, modify_went, refer_went, stays, store_went, with_freed, with_load, with_made}
 use Rattle.mr_plan.proofs.WentLaws.{at_outcome}
+use Rattle.mr_base.proofs.Lists.{Any-append_left}
 
 -- with more at its end
 abbrev pub Longer : {A : Type 0} → List A → List A → Type 0

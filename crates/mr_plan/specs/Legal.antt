@@ -1,5 +1,6 @@
 -- Which entries of a schedule are legal, and the first rule that an entry breaks.
 use Rattle.std.specs.Prelude.{ℕ, ◌+◌, List, [], ◌∷◌, length, Option, None, Some, slice_get, if◌then◌else◌, nat_lt}
+use Rattle.mr_base.specs.Limits.{max_locks, max_threads}
 use Rattle.mr_base.specs.declared.byte.AllocId.{AllocId}
 use Rattle.mr_base.specs.declared.thread.Status.{Status}
 use Rattle.mr_base.specs.declared.thread.Status.TheVariants.{Enabled}
@@ -12,49 +13,52 @@ use Rattle.mr_sync.specs.Tables.{on_lock}
 use Rattle.mr_plan.specs.Queries.{Shared}
 use Rattle.mr_plan.specs.Machine.{State, Language, Thread, Creation, CreatesNothing, CreatesThread, CreatesLock, Needs}
 use Rattle.mr_plan.specs.Machine.{needs}
+use Rattle.mr_sched.specs.declared.rule.ScheduleRule.{ScheduleRule}
+use Rattle.mr_sched.specs.declared.rule.ScheduleRule.TheVariants as rule
+use Rattle.mr_sched.specs.Rules.{code_of}
 
--- the rule that an entry breaks; for 64 with the identity whose range is overlapped
+-- the number of the rule that an entry breaks; of a range that is used again with the identity whose range it overlaps
 pub record Fault : Type 0 where
   pub code : ℕ
   pub earlier : Option AllocId
 
 -- a broken rule of which no earlier allocation is told
-abbrev pub fault : ℕ → Option Fault
-fault code = Some (record { code = code; earlier = None })
+abbrev pub fault : ScheduleRule → Option Fault
+fault broken = Some (record { code = code_of broken; earlier = None })
 
 -- the first of two faults
 abbrev pub else_fault : Option Fault → Option Fault → Option Fault
 else_fault None later = later
 else_fault (Some f) later = Some f
 
--- 63 BadAddress, 64 Reused
+-- why an address can't be picked, as a broken rule
 abbrev pub address_fault : Option PickFault → Option Fault
 address_fault None = None
-address_fault (Some BadAddress) = fault 63
-address_fault (Some (Reused id)) = Some (record { code = 64; earlier = Some id })
+address_fault (Some BadAddress) = fault rule.BadAddress
+address_fault (Some (Reused id)) = Some (record { code = code_of rule.Reused; earlier = Some id })
 
--- Pick by pick: 61 MissingPick, 63, 64, 65 NotWaiting; and 62 ExtraPick behind the last ask. A picked address is tried
+-- Pick by pick; and a pick too many behind the last ask. A picked address is tried
 -- among the ranges of all allocations so far and of the earlier picks, with the identities that these get.
 abbrev pub picks_fault : List Status → Ranges → ℕ → ℕ → List Ask → List ℕ → Option Fault
 picks_fault ss rs t count [] [] = None
-picks_fault ss rs t count [] (pick ∷ picks) = fault 62
-picks_fault ss rs t count (ask ∷ asks) [] = fault 61
+picks_fault ss rs t count [] (pick ∷ picks) = fault rule.ExtraPick
+picks_fault ss rs t count (ask ∷ asks) [] = fault rule.MissingPick
 picks_fault ss rs t count (Address size align ∷ asks) (addr ∷ picks) =
     else_fault (address_fault (range_fault rs addr size align))
     (picks_fault ss (with_range rs (record { thread = t; count = count }) addr size) t (count + 1) asks picks)
 picks_fault ss rs t count (Waiter lock ∷ asks) (thread ∷ picks) =
-    if on_lock lock (slice_get ss thread) then picks_fault ss rs t count asks picks else fault 65
+    if on_lock lock (slice_get ss thread) then picks_fault ss rs t count asks picks else fault rule.NotWaiting
 
--- 67 TooManyThreads while 1,024 exist, 68 TooManyLocks while 4,096 exist; an ended thread exists
+-- a thread or a lock too many; an ended thread exists still
 abbrev pub creation_fault : Shared → Creation → Option Fault
 creation_fault s CreatesNothing = None
-creation_fault s CreatesThread = if nat_lt (length s.statuses) 1024 then None else fault 67
-creation_fault s CreatesLock = if nat_lt (length s.holders) 4096 then None else fault 68
+creation_fault s CreatesThread = if nat_lt (length s.statuses) max_threads then None else fault rule.TooManyThreads
+creation_fault s CreatesLock = if nat_lt (length s.holders) max_locks then None else fault rule.TooManyLocks
 
--- 60 NotEnabled
+-- whether the thread can go on
 abbrev pub status_fault : Option Status → Option Fault
 status_fault (Some Enabled) = None
-status_fault _ = fault 60
+status_fault _ = fault rule.NotEnabled
 
 -- how many allocations a thread made so far
 abbrev pub count_of : {L : Type 0} → Option (Thread L) → ℕ

@@ -5,7 +5,7 @@ use Rattle.mr_base.specs.Accesses.{some_race}
 use Rattle.mr_base.specs.declared.reason.Reason.TheVariants.{DataRace}
 use Rattle.mr_base.specs.declared.reason.Verdict.{Verdict}
 use Rattle.mr_base.specs.declared.reason.Verdict.TheVariants as verdict
-use Rattle.mr_event.specs.declared.footprint.Footprint.{Footprint}
+use Rattle.mr_event.specs.Footprint.{Footprint}
 use Rattle.mr_event.specs.Footprints.{wakes}
 use Rattle.mr_sync.specs.Tables.{is_any_enabled}
 use Rattle.mr_sched.specs.declared.schedule.Entry.{Entry}
@@ -13,6 +13,7 @@ use Rattle.mr_plan.specs.Notes.{Notes, foot_of}
 use Rattle.mr_plan.specs.Queries.{tables_of}
 use Rattle.mr_plan.specs.Machine.{State, Language, Bare, Completed, Stops, IllFormedStep, bare}
 use Rattle.mr_plan.specs.Legal.{Fault, fault, state_fault}
+use Rattle.mr_sched.specs.declared.rule.ScheduleRule.TheVariants as rule
 
 -- a print, with the thread that made it
 pub record Printed : Type 0 where
@@ -79,14 +80,14 @@ is_running verdict.Abort = false
 is_running verdict.Deadlock = false
 is_running (verdict.Undefined r) = false
 
--- the first rule that an entry breaks at a state; without a state no entry is legal (66)
+-- the first rule that an entry breaks at a state; without a state the run has stopped, and no entry is legal
 abbrev pub fault_in : {L : Type 0} → Language L → ℕ → List ℕ → Option (State L) → Option Fault
-fault_in step t picks None = fault 66
+fault_in step t picks None = fault rule.AfterStop
 fault_in step t picks (Some s) = state_fault step s t picks
 
 -- THE FIRST RULE THAT AN ENTRY BREAKS, if it breaks one: 66 AfterStop, and then those of the state
 unfoldable pub entry_fault : {L : Type 0} → Language L → Config L → Entry → Option Fault
-entry_fault step c e = if is_running c.verdict then fault_in step e.thread e.picks c.state else fault 66
+entry_fault step c e = if is_running c.verdict then fault_in step e.thread e.picks c.state else fault rule.AfterStop
 
 -- where the machine stands after these entries
 abbrev pub after : {L : Type 0} → Language L → Config L → List Entry → Config L

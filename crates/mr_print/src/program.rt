@@ -81,7 +81,8 @@ fn print_global(program: &Program, global: &Global_, text: &mut Vec<u8>) -> Resu
 
 #[tactic(auto, using(crate::proofs::AppendLaws::word_laws))]
 fn print_items(program: &Program, items: &[Item_], text: &mut Vec<u8>) -> Result<(), OutOfMemory>
-    ensures { OnOk result (text.new.items ≡ with_words text.old.items (flat_map (words_of_item program.now) items.now)) }
+    ensures { OnOk result
+        (text.new.items ≡ with_words text.old.items (flat_map (words_of_item program.now) items.now)) }
 {
     for item in items {
         print_item(program, *item, text)?;
@@ -139,7 +140,8 @@ fn print_functions(
     functions: &[Function],
     text: &mut Vec<u8>,
 ) -> Result<(), OutOfMemory>
-    ensures { OnOk result (text.new.items ≡ with_lines text.old.items (flat_map (function_lines program.now) functions.now)) }
+    ensures { OnOk result
+        (text.new.items ≡ with_lines text.old.items (flat_map (function_lines program.now) functions.now)) }
 {
     for function in functions {
         print_function(program, function, text)?;
@@ -182,7 +184,8 @@ fn print_arguments(
     function: &Function,
     text: &mut Vec<u8>,
 ) -> Result<(), OutOfMemory>
-    ensures { OnOk result (text.new.items ≡ with_words text.old.items (with_commas (map (argument_words program.now function.now) function.now.args))) }
+    ensures { OnOk result (text.new.items
+        ≡ with_words text.old.items (with_commas (map (argument_words program.now function.now) function.now.args))) }
 {
     let args = function.args.as_slice();
     for i in 0..args.len() {
@@ -237,7 +240,8 @@ fn print_blocks(
     blocks: &[Block],
     text: &mut Vec<u8>,
 ) -> Result<(), OutOfMemory>
-    ensures { OnOk result (text.new.items ≡ with_lines text.old.items (flat_map (block_lines program.now function.now) blocks.now)) }
+    ensures { OnOk result
+        (text.new.items ≡ with_lines text.old.items (flat_map (block_lines program.now function.now) blocks.now)) }
 {
     for block in blocks {
         print_block(program, function, block, text)?;
@@ -253,7 +257,8 @@ fn print_block(
     block: &Block,
     text: &mut Vec<u8>,
 ) -> Result<(), OutOfMemory>
-    ensures { OnOk result (text.new.items ≡ with_lines text.old.items (block_lines program.now function.now block.now)) }
+    ensures { OnOk result
+        (text.new.items ≡ with_lines text.old.items (block_lines program.now function.now block.now)) }
 {
     word(program.names.text_or_empty(block.name), text)?;
     word(kind_word(block.kind), text)?;
@@ -270,7 +275,8 @@ fn print_stmts(
     stmts: &[Stmt],
     text: &mut Vec<u8>,
 ) -> Result<(), OutOfMemory>
-    ensures { OnOk result (text.new.items ≡ with_lines text.old.items (map (stmt_line (texts_in program.now function.now)) stmts.now)) }
+    ensures { OnOk result
+        (text.new.items ≡ with_lines text.old.items (map (stmt_line (texts_in program.now function.now)) stmts.now)) }
 {
     for stmt in stmts {
         print_line(program, function, stmt, text)?;
@@ -286,7 +292,8 @@ fn print_line(
     stmt: &Stmt,
     text: &mut Vec<u8>,
 ) -> Result<(), OutOfMemory>
-    ensures { OnOk result (text.new.items ≡ with_line text.old.items (stmt_line (texts_in program.now function.now) stmt.now)) }
+    ensures { OnOk result
+        (text.new.items ≡ with_line text.old.items (stmt_line (texts_in program.now function.now) stmt.now)) }
 {
     print_stmt(program, function, stmt, text)?;
     last_word(";", text)

@@ -18,7 +18,8 @@ pub(crate) fn print_stmt(
     stmt: &Stmt,
     text: &mut Vec<u8>,
 ) -> Result<(), OutOfMemory>
-    ensures { OnOk result (text.new.items ≡ with_words text.old.items (words_of_stmt (texts_in program.now function.now) stmt.now)) }
+    ensures { OnOk result
+        (text.new.items ≡ with_words text.old.items (words_of_stmt (texts_in program.now function.now) stmt.now)) }
 {
     match stmt {
         Stmt::Live(local) => print_of_local(program, function, "live", *local, text),
@@ -40,7 +41,8 @@ fn print_of_local(
     local: LocalName,
     text: &mut Vec<u8>,
 ) -> Result<(), OutOfMemory>
-    ensures { OnOk result (text.new.items ≡ with_words text.old.items (head.now ∷ text_at (local_texts program.now function.now) local.0 ∷ [])) }
+    ensures { OnOk result (text.new.items
+        ≡ with_words text.old.items (head.now ∷ text_at (local_texts program.now function.now) local.0 ∷ [])) }
 {
     word(head, text)?;
     word(program.local_name(function, local), text)
@@ -55,7 +57,8 @@ fn print_behind(
     place: &Place,
     text: &mut Vec<u8>,
 ) -> Result<(), OutOfMemory>
-    ensures { OnOk result (text.new.items ≡ with_words text.old.items (head.now ∷ words_of_place (texts_in program.now function.now) place.now)) }
+    ensures { OnOk result (text.new.items
+        ≡ with_words text.old.items (head.now ∷ words_of_place (texts_in program.now function.now) place.now)) }
 {
     word(head, text)?;
     print_place(program, function, place, text)
@@ -69,7 +72,8 @@ fn print_assign(
     value: &Value,
     text: &mut Vec<u8>,
 ) -> Result<(), OutOfMemory>
-    ensures { OnOk result (text.new.items ≡ with_words text.old.items (words_of_stmt (texts_in program.now function.now) (Stmt.Assign place.now value.now))) }
+    ensures { OnOk result (text.new.items ≡ with_words text.old.items
+        (words_of_stmt (texts_in program.now function.now) (Stmt.Assign place.now value.now))) }
 {
     print_place(program, function, place, text)?;
     word("=", text)?;
@@ -84,7 +88,8 @@ fn print_disc(
     n: Num,
     text: &mut Vec<u8>,
 ) -> Result<(), OutOfMemory>
-    ensures { OnOk result (text.new.items ≡ with_words text.old.items (words_of_stmt (texts_in program.now function.now) (Stmt.Disc place.now n))) }
+    ensures { OnOk result (text.new.items
+        ≡ with_words text.old.items (words_of_stmt (texts_in program.now function.now) (Stmt.Disc place.now n))) }
 {
     word("disc", text)?;
     print_place(program, function, place, text)?;
@@ -100,7 +105,8 @@ pub(crate) fn print_term(
     term: &Term,
     text: &mut Vec<u8>,
 ) -> Result<(), OutOfMemory>
-    ensures { OnOk result (text.new.items ≡ with_words text.old.items (words_of_term (texts_in program.now function.now) term.now)) }
+    ensures { OnOk result
+        (text.new.items ≡ with_words text.old.items (words_of_term (texts_in program.now function.now) term.now)) }
 {
     match term {
         Term::Goto(to) => print_of_block(program, function, "goto", *to, text),
@@ -135,7 +141,8 @@ fn print_of_block(
     block: BlockName,
     text: &mut Vec<u8>,
 ) -> Result<(), OutOfMemory>
-    ensures { OnOk result (text.new.items ≡ with_words text.old.items (head.now ∷ text_at (block_texts program.now function.now) block.0 ∷ [])) }
+    ensures { OnOk result (text.new.items
+        ≡ with_words text.old.items (head.now ∷ text_at (block_texts program.now function.now) block.0 ∷ [])) }
 {
     word(head, text)?;
     word(program.block_name(function, block), text)
@@ -148,7 +155,8 @@ fn print_stop(
     to: BlockName,
     text: &mut Vec<u8>,
 ) -> Result<(), OutOfMemory>
-    ensures { OnOk result (text.new.items ≡ with_words text.old.items (words_of_term (texts_in program.now function.now) (Term.Stop to))) }
+    ensures { OnOk result (text.new.items
+        ≡ with_words text.old.items (words_of_term (texts_in program.now function.now) (Term.Stop to))) }
 {
     word("stop", text)?;
     print_of_block(program, function, "to", to, text)
@@ -162,7 +170,8 @@ fn print_unwind(
     to: BlockName,
     text: &mut Vec<u8>,
 ) -> Result<(), OutOfMemory>
-    ensures { OnOk result (text.new.items ≡ with_words text.old.items (words_of_term (texts_in program.now function.now) (Term.Unwind payload.now to))) }
+    ensures { OnOk result (text.new.items
+        ≡ with_words text.old.items (words_of_term (texts_in program.now function.now) (Term.Unwind payload.now to))) }
 {
     word("unwind", text)?;
     print_value(program, function, payload, text)?;
@@ -178,7 +187,8 @@ fn print_switch(
     other: BlockName,
     text: &mut Vec<u8>,
 ) -> Result<(), OutOfMemory>
-    ensures { OnOk result (text.new.items ≡ with_words text.old.items (words_of_term (texts_in program.now function.now) (Term.Switch value.now cases.now other))) }
+    ensures { OnOk result (text.new.items ≡ with_words text.old.items
+        (words_of_term (texts_in program.now function.now) (Term.Switch value.now cases.now other))) }
 {
     word("switch", text)?;
     print_value(program, function, value, text)?;
@@ -196,7 +206,8 @@ fn print_cases(
     cases: &[(Num, BlockName)],
     text: &mut Vec<u8>,
 ) -> Result<(), OutOfMemory>
-    ensures { OnOk result (text.new.items ≡ with_words text.old.items (flat_map (target_words (texts_in program.now function.now)) cases.now)) }
+    ensures { OnOk result (text.new.items
+        ≡ with_words text.old.items (flat_map (target_words (texts_in program.now function.now)) cases.now)) }
 {
     for case in cases {
         print_case(program, function, *case, text)?;
@@ -211,7 +222,8 @@ fn print_case(
     case: (Num, BlockName),
     text: &mut Vec<u8>,
 ) -> Result<(), OutOfMemory>
-    ensures { OnOk result (text.new.items ≡ with_words text.old.items (target_words (texts_in program.now function.now) case)) }
+    ensures { OnOk result
+        (text.new.items ≡ with_words text.old.items (target_words (texts_in program.now function.now) case)) }
 {
     signed(case.0, text)?;
     print_of_block(program, function, "=>", case.1, text)?;
@@ -228,7 +240,8 @@ fn print_call(
     place: &Place,
     text: &mut Vec<u8>,
 ) -> Result<(), OutOfMemory>
-    ensures { OnOk result (text.new.items ≡ with_words text.old.items (call_words (texts_in program.now function.now) callee.now args.now place.now)) }
+    ensures { OnOk result (text.new.items
+        ≡ with_words text.old.items (call_words (texts_in program.now function.now) callee.now args.now place.now)) }
 {
     word("call", text)?;
     print_value(program, function, callee, text)?;
@@ -247,7 +260,8 @@ fn print_do(
     place: &Option<Place>,
     text: &mut Vec<u8>,
 ) -> Result<(), OutOfMemory>
-    ensures { OnOk result (text.new.items ≡ with_words text.old.items (do_words (texts_in program.now function.now) intrinsic args.now place.now)) }
+    ensures { OnOk result (text.new.items
+        ≡ with_words text.old.items (do_words (texts_in program.now function.now) intrinsic args.now place.now)) }
 {
     word("do", text)?;
     word(intrinsic_word(intrinsic), text)?;
@@ -263,7 +277,8 @@ fn print_arguments(
     args: &[Value],
     text: &mut Vec<u8>,
 ) -> Result<(), OutOfMemory>
-    ensures { OnOk result (text.new.items ≡ with_words text.old.items (arguments (texts_in program.now function.now) args.now)) }
+    ensures { OnOk result
+        (text.new.items ≡ with_words text.old.items (arguments (texts_in program.now function.now) args.now)) }
 {
     word("(", text)?;
     print_values(program, function, args, text)?;
@@ -278,7 +293,8 @@ fn print_result(
     place: &Option<Place>,
     text: &mut Vec<u8>,
 ) -> Result<(), OutOfMemory>
-    ensures { OnOk result (text.new.items ≡ with_words text.old.items (optional_result (texts_in program.now function.now) place.now)) }
+    ensures { OnOk result
+        (text.new.items ≡ with_words text.old.items (optional_result (texts_in program.now function.now) place.now)) }
 {
     match place {
         None => Ok(()),
@@ -295,7 +311,8 @@ fn print_optional(
     block: Option<BlockName>,
     text: &mut Vec<u8>,
 ) -> Result<(), OutOfMemory>
-    ensures { OnOk result (text.new.items ≡ with_words text.old.items (optional_block (texts_in program.now function.now) head.now block)) }
+    ensures { OnOk result (text.new.items
+        ≡ with_words text.old.items (optional_block (texts_in program.now function.now) head.now block)) }
 {
     match block {
         None => Ok(()),

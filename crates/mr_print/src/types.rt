@@ -30,7 +30,8 @@ pub(crate) fn print_tree(tree: &Tree, text: &mut Vec<u8>) -> Result<(), OutOfMem
 // Writes what stands before the cases of a branch.
 #[tactic(auto, using(crate::proofs::AppendLaws::word_laws))]
 fn print_branch_head(at: u64, int: IntType, text: &mut Vec<u8>) -> Result<(), OutOfMemory>
-    ensures { OnOk result (text.new.items ≡ with_words text.old.items (codes "branch" ∷ decimal at ∷ int_word int ∷ codes "{" ∷ [])) }
+    ensures { OnOk result
+        (text.new.items ≡ with_words text.old.items (codes "branch" ∷ decimal at ∷ int_word int ∷ codes "{" ∷ [])) }
 {
     word("branch", text)?;
     number(at, text)?;
@@ -42,7 +43,8 @@ fn print_branch_head(at: u64, int: IntType, text: &mut Vec<u8>) -> Result<(), Ou
 #[cycle(print_tree)]
 #[tactic(auto, using(crate::proofs::AppendLaws::word_laws))]
 fn print_other_case(tree: &Tree, text: &mut Vec<u8>) -> Result<(), OutOfMemory>
-    ensures { OnOk result (text.new.items ≡ with_words text.old.items (codes "_" ∷ codes "=>" ∷ words_of_tree tree.now ++ codes "}" ∷ [])) }
+    ensures { OnOk result (text.new.items
+        ≡ with_words text.old.items (codes "_" ∷ codes "=>" ∷ words_of_tree tree.now ++ codes "}" ∷ [])) }
 {
     word("_", text)?;
     word("=>", text)?;
@@ -145,7 +147,8 @@ fn print_tuple(
     fields: &[(u64, Ty)],
     text: &mut Vec<u8>,
 ) -> Result<(), OutOfMemory>
-    ensures { OnOk result (text.new.items ≡ with_words text.old.items (words_of_type (Ty.Tuple size align fields.now))) }
+    ensures { OnOk result
+        (text.new.items ≡ with_words text.old.items (words_of_type (Ty.Tuple size align fields.now))) }
 {
     if is_unit(size, align, fields) {
         return word("unit", text);
@@ -177,7 +180,8 @@ fn print_union(
     chunks: &[(u64, u64)],
     text: &mut Vec<u8>,
 ) -> Result<(), OutOfMemory>
-    ensures { OnOk result (text.new.items ≡ with_words text.old.items (words_of_type (Ty.Union size align fields.now chunks.now))) }
+    ensures { OnOk result
+        (text.new.items ≡ with_words text.old.items (words_of_type (Ty.Union size align fields.now chunks.now))) }
 {
     word("union", text)?;
     print_shape(size, align, text)?;
@@ -196,7 +200,8 @@ fn print_enum(
     tree: &Tree,
     text: &mut Vec<u8>,
 ) -> Result<(), OutOfMemory>
-    ensures { OnOk result (text.new.items ≡ with_words text.old.items (words_of_type (Ty.Enum size align disc variants.now tree.now))) }
+    ensures { OnOk result
+        (text.new.items ≡ with_words text.old.items (words_of_type (Ty.Enum size align disc variants.now tree.now))) }
 {
     word("enum", text)?;
     print_shape(size, align, text)?;

@@ -21,7 +21,8 @@ pub(crate) fn print_place(
     place: &Place,
     text: &mut Vec<u8>,
 ) -> Result<(), OutOfMemory>
-    ensures { OnOk result (text.new.items ≡ with_words text.old.items (words_of_place (texts_in program.now function.now) place.now)) }
+    ensures { OnOk result
+        (text.new.items ≡ with_words text.old.items (words_of_place (texts_in program.now function.now) place.now)) }
 {
     match place {
         Place::Local(local) => word(program.local_name(function, *local), text),
@@ -66,7 +67,8 @@ fn print_index(
     index: &Value,
     text: &mut Vec<u8>,
 ) -> Result<(), OutOfMemory>
-    ensures { OnOk result (text.new.items ≡ with_words text.old.items (codes "[" ∷ words_of_value (texts_in program.now function.now) index.now ++ codes "]" ∷ [])) }
+    ensures { OnOk result (text.new.items ≡ with_words text.old.items
+        (codes "[" ∷ words_of_value (texts_in program.now function.now) index.now ++ codes "]" ∷ [])) }
 {
     word("[", text)?;
     print_value(program, function, index, text)?;
@@ -82,7 +84,8 @@ fn print_deref(
     ty: &Ty,
     text: &mut Vec<u8>,
 ) -> Result<(), OutOfMemory>
-    ensures { OnOk result (text.new.items ≡ with_words text.old.items (words_of_place (texts_in program.now function.now) (Place.Deref pointer.now ty.now))) }
+    ensures { OnOk result (text.new.items ≡ with_words text.old.items
+        (words_of_place (texts_in program.now function.now) (Place.Deref pointer.now ty.now))) }
 {
     opened("deref", text)?;
     print_value(program, function, pointer, text)?;
@@ -100,7 +103,8 @@ pub(crate) fn print_value(
     value: &Value,
     text: &mut Vec<u8>,
 ) -> Result<(), OutOfMemory>
-    ensures { OnOk result (text.new.items ≡ with_words text.old.items (words_of_value (texts_in program.now function.now) value.now)) }
+    ensures { OnOk result
+        (text.new.items ≡ with_words text.old.items (words_of_value (texts_in program.now function.now) value.now)) }
 {
     match value {
         Value::Int(int, n) => print_int(*int, *n, text),
@@ -156,7 +160,8 @@ fn print_raw(address: u64, text: &mut Vec<u8>) -> Result<(), OutOfMemory>
 
 #[tactic(auto, using(crate::proofs::AppendLaws::word_laws))]
 fn print_function(program: &Program, name: FnName, text: &mut Vec<u8>) -> Result<(), OutOfMemory>
-    ensures { OnOk result (text.new.items ≡ with_words text.old.items (codes "fn" ∷ text_at (function_texts program.now) name.0 ∷ [])) }
+    ensures { OnOk result
+        (text.new.items ≡ with_words text.old.items (codes "fn" ∷ text_at (function_texts program.now) name.0 ∷ [])) }
 {
     word("fn", text)?;
     word(program.function_name(name), text)
@@ -169,7 +174,8 @@ fn print_global(
     offset: u64,
     text: &mut Vec<u8>,
 ) -> Result<(), OutOfMemory>
-    ensures { OnOk result (text.new.items ≡ with_words text.old.items (codes "global" ∷ text_at (global_texts program.now) name.0 ∷ codes "+" ∷ decimal offset ∷ [])) }
+    ensures { OnOk result (text.new.items ≡ with_words text.old.items
+        (codes "global" ∷ text_at (global_texts program.now) name.0 ∷ codes "+" ∷ decimal offset ∷ [])) }
 {
     word("global", text)?;
     word(program.global_name(name), text)?;
@@ -186,7 +192,8 @@ fn print_tuple(
     ty: &Ty,
     text: &mut Vec<u8>,
 ) -> Result<(), OutOfMemory>
-    ensures { OnOk result (text.new.items ≡ with_words text.old.items (words_of_value (texts_in program.now function.now) (Value.Tuple ty.now values.now))) }
+    ensures { OnOk result (text.new.items ≡ with_words text.old.items
+        (words_of_value (texts_in program.now function.now) (Value.Tuple ty.now values.now))) }
 {
     opened("tuple", text)?;
     print_type(ty, text)?;
@@ -203,7 +210,8 @@ fn print_parts(
     values: &[Value],
     text: &mut Vec<u8>,
 ) -> Result<(), OutOfMemory>
-    ensures { OnOk result (text.new.items ≡ with_words text.old.items (flat_map (λ v. codes "," ∷ words_of_value (texts_in program.now function.now) v) values.now)) }
+    ensures { OnOk result (text.new.items ≡ with_words text.old.items
+        (flat_map (λ v. codes "," ∷ words_of_value (texts_in program.now function.now) v) values.now)) }
 {
     for value in values {
         print_part(program, function, value, text)?;
@@ -219,7 +227,8 @@ fn print_part(
     value: &Value,
     text: &mut Vec<u8>,
 ) -> Result<(), OutOfMemory>
-    ensures { OnOk result (text.new.items ≡ with_words text.old.items (codes "," ∷ words_of_value (texts_in program.now function.now) value.now)) }
+    ensures { OnOk result (text.new.items
+        ≡ with_words text.old.items (codes "," ∷ words_of_value (texts_in program.now function.now) value.now)) }
 {
     word(",", text)?;
     print_value(program, function, value, text)
@@ -235,7 +244,8 @@ fn print_union(
     field: u64,
     text: &mut Vec<u8>,
 ) -> Result<(), OutOfMemory>
-    ensures { OnOk result (text.new.items ≡ with_words text.old.items (words_of_value (texts_in program.now function.now) (Value.Union ty.now field value.now))) }
+    ensures { OnOk result (text.new.items ≡ with_words text.old.items
+        (words_of_value (texts_in program.now function.now) (Value.Union ty.now field value.now))) }
 {
     opened("union", text)?;
     print_type(ty, text)?;
@@ -256,7 +266,8 @@ fn print_variant(
     n: Num,
     text: &mut Vec<u8>,
 ) -> Result<(), OutOfMemory>
-    ensures { OnOk result (text.new.items ≡ with_words text.old.items (words_of_value (texts_in program.now function.now) (Value.Variant ty.now n value.now))) }
+    ensures { OnOk result (text.new.items ≡ with_words text.old.items
+        (words_of_value (texts_in program.now function.now) (Value.Variant ty.now n value.now))) }
 {
     opened("variant", text)?;
     print_type(ty, text)?;
@@ -277,7 +288,8 @@ fn print_of_place(
     place: &Place,
     text: &mut Vec<u8>,
 ) -> Result<(), OutOfMemory>
-    ensures { OnOk result (text.new.items ≡ with_words text.old.items (head.now ∷ codes "(" ∷ words_of_place (texts_in program.now function.now) place.now ++ codes ")" ∷ [])) }
+    ensures { OnOk result (text.new.items ≡ with_words text.old.items
+        (head.now ∷ codes "(" ∷ words_of_place (texts_in program.now function.now) place.now ++ codes ")" ∷ [])) }
 {
     opened(head, text)?;
     print_place(program, function, place, text)?;
@@ -293,7 +305,8 @@ fn print_address(
     ty: &Ty,
     text: &mut Vec<u8>,
 ) -> Result<(), OutOfMemory>
-    ensures { OnOk result (text.new.items ≡ with_words text.old.items (words_of_value (texts_in program.now function.now) (Value.AddrOf ty.now place.now))) }
+    ensures { OnOk result (text.new.items ≡ with_words text.old.items
+        (words_of_value (texts_in program.now function.now) (Value.AddrOf ty.now place.now))) }
 {
     opened("addrof", text)?;
     print_type(ty, text)?;
@@ -311,7 +324,8 @@ fn print_cast(
     value: &Value,
     text: &mut Vec<u8>,
 ) -> Result<(), OutOfMemory>
-    ensures { OnOk result (text.new.items ≡ with_words text.old.items (words_of_value (texts_in program.now function.now) (Value.Cast int value.now))) }
+    ensures { OnOk result (text.new.items
+        ≡ with_words text.old.items (words_of_value (texts_in program.now function.now) (Value.Cast int value.now))) }
 {
     opened("cast", text)?;
     int_type(int, text)?;
@@ -329,7 +343,8 @@ fn print_transmute(
     ty: &Ty,
     text: &mut Vec<u8>,
 ) -> Result<(), OutOfMemory>
-    ensures { OnOk result (text.new.items ≡ with_words text.old.items (words_of_value (texts_in program.now function.now) (Value.Transmute ty.now value.now))) }
+    ensures { OnOk result (text.new.items ≡ with_words text.old.items
+        (words_of_value (texts_in program.now function.now) (Value.Transmute ty.now value.now))) }
 {
     opened("transmute", text)?;
     print_type(ty, text)?;
@@ -347,7 +362,8 @@ fn print_unary(
     value: &Value,
     text: &mut Vec<u8>,
 ) -> Result<(), OutOfMemory>
-    ensures { OnOk result (text.new.items ≡ with_words text.old.items (words_of_value (texts_in program.now function.now) (Value.Unary operator value.now))) }
+    ensures { OnOk result (text.new.items ≡ with_words text.old.items
+        (words_of_value (texts_in program.now function.now) (Value.Unary operator value.now))) }
 {
     opened(unary_word(operator), text)?;
     print_value(program, function, value, text)?;
@@ -364,7 +380,8 @@ fn print_left(
     operator: BinaryOp,
     text: &mut Vec<u8>,
 ) -> Result<(), OutOfMemory>
-    ensures { OnOk result (text.new.items ≡ with_words text.old.items (binary_word operator ∷ codes "(" ∷ words_of_value (texts_in program.now function.now) left.now ++ codes "," ∷ [])) }
+    ensures { OnOk result (text.new.items ≡ with_words text.old.items (binary_word operator
+        ∷ codes "(" ∷ words_of_value (texts_in program.now function.now) left.now ++ codes "," ∷ [])) }
 {
     opened(binary_word(operator), text)?;
     print_value(program, function, left, text)?;
@@ -380,7 +397,8 @@ fn print_right(
     right: &Value,
     text: &mut Vec<u8>,
 ) -> Result<(), OutOfMemory>
-    ensures { OnOk result (text.new.items ≡ with_words text.old.items (words_of_value (texts_in program.now function.now) right.now ++ codes ")" ∷ [])) }
+    ensures { OnOk result (text.new.items
+        ≡ with_words text.old.items (words_of_value (texts_in program.now function.now) right.now ++ codes ")" ∷ [])) }
 {
     print_value(program, function, right, text)?;
     word(")", text)
@@ -394,7 +412,8 @@ pub(crate) fn print_values(
     values: &[Value],
     text: &mut Vec<u8>,
 ) -> Result<(), OutOfMemory>
-    ensures { OnOk result (text.new.items ≡ with_words text.old.items (with_commas (map (words_of_value (texts_in program.now function.now)) values.now))) }
+    ensures { OnOk result (text.new.items ≡ with_words text.old.items
+        (with_commas (map (words_of_value (texts_in program.now function.now)) values.now))) }
 {
     for i in 0..values.len() {
         comma(i, text)?;

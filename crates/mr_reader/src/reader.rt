@@ -1,5 +1,6 @@
 //! The tokens that are left, and what is taken from their front.
-ghost use Rattle.std.specs.Prelude.{◌≡◌, ◌==◌, ◌-◌, ◌||◌, false, [], ◌∷◌, List, length, IfOk, IfSome, MatchOption, ◌≤◌, ◌<◌, ◌^◌};
+ghost use Rattle.std.specs.Prelude.{◌≡◌, ◌==◌, ◌-◌, ◌||◌, false, [], ◌∷◌, List, length, IfOk, IfSome, MatchOption, ◌≤◌, ◌<◌};
+ghost use Rattle.mr_lex.specs.Limits.{max_text};
 ghost use Rattle.mr_ast.specs.Forms.{Word, opening, closing};
 ghost use Rattle.mr_ast.specs.Writing.{block_use, is_word, judged_int, judged_name, judged_target, local_use, other_than};
 ghost use Rattle.mr_reader.specs.Gives.{Gives};
@@ -20,7 +21,8 @@ pub struct Reader<'a> {
 }
 
 impl<'a> Model for Reader<'a> {
-    ghost use Rattle.std.specs.Prelude.{List, length, ◌≤◌, ◌^◌};
+    ghost use Rattle.std.specs.Prelude.{List, length, ◌≤◌};
+    ghost use Rattle.mr_lex.specs.Limits.{max_text};
     ghost use Rattle.mr_ast.specs.Forms.{Word};
     ghost use Rattle.mr_words.specs.Places.{words_from};
 
@@ -28,7 +30,7 @@ impl<'a> Model for Reader<'a> {
 
     ghost view = { λ r. words_from r.at r.tokens.now };
 
-    ghost invariant = { λ r. length r.tokens.now ≤ 2 ^ 20 };
+    ghost invariant = { λ r. length r.tokens.now ≤ max_text };
 }
 
 /// A token that is next: its text, and its place among the tokens.
@@ -41,7 +43,7 @@ pub struct Next<'a> {
 impl<'a> Reader<'a> {
     /// All tokens.
     pub fn new(tokens: &'a Tokens<'a>) -> Reader<'a>
-        requires { length tokens.now ≤ 2 ^ 20 }
+        requires { length tokens.now ≤ max_text }
         ensures { result ≡ words_of tokens.now }
     {
         Reader { tokens, at: 0 }
@@ -51,7 +53,7 @@ impl<'a> Reader<'a> {
     #[tactic(auto, using(mr_words::proofs::PlaceLaws::words_length))]
     pub fn left(&self) -> usize
         ensures left { result ≡ length self.now }
-        ensures few { result ≤ 2 ^ 20 }
+        ensures few { result ≤ max_text }
     {
         self.tokens.len().saturating_sub(self.at)
     }
@@ -77,8 +79,9 @@ impl<'a> Reader<'a> {
     /// The next token.
     #[tactic(auto, using(mr_words::proofs::PlaceLaws::words_here, mr_words::proofs::PlaceLaws::words_end))]
     pub fn peek(&self) -> Option<Next<'a>>
-        ensures small { IfSome result (λ next. next.place < 2 ^ 20) }
-        ensures next { MatchOption result (self.now ≡ []) (λ next. (rest : List Word) × (self.now ≡ record { text = next.text.now; place = next.place } ∷ rest)) }
+        ensures small { IfSome result (λ next. next.place < max_text) }
+        ensures next { MatchOption result (self.now ≡ [])
+            (λ next. (rest : List Word) × (self.now ≡ record { text = next.text.now; place = next.place } ∷ rest)) }
     {
         match self.tokens.get(self.at) {
             Some(token) => Some(Next {

@@ -180,7 +180,8 @@ impl<'a> Reader<'a> {
         scope: &Scope,
         room: u32,
     ) -> Result<Items<(u64, Ty)>, ReadFault>
-        ensures { Gives (λ fs. (fs, self.new)) result (read_outside room scope.now (listed Curly fields_form) self.old) }
+        ensures { Gives (λ fs. (fs, self.new)) result
+            (read_outside room scope.now (listed Curly fields_form) self.old) }
     {
         let inner = self.open(Bracket::Curly, room)?;
         if !self.is_other(b"}") {
@@ -236,7 +237,8 @@ impl<'a> Reader<'a> {
         scope: &Scope,
         room: u32,
     ) -> Result<Items<(u64, u64)>, ReadFault>
-        ensures { Gives (λ xs. (xs, self.new)) result (read_outside room scope.now (listed Curly chunks_form) self.old) }
+        ensures { Gives (λ xs. (xs, self.new)) result
+            (read_outside room scope.now (listed Curly chunks_form) self.old) }
     {
         let inner = self.open(Bracket::Curly, room)?;
         if !self.is_other(b"}") {
@@ -291,7 +293,8 @@ impl<'a> Reader<'a> {
         scope: &Scope,
         room: u32,
     ) -> Result<Items<Variant>, ReadFault>
-        ensures { Gives (λ xs. (xs, self.new)) result (read_outside room scope.now (listed Curly variants_form) self.old) }
+        ensures { Gives (λ xs. (xs, self.new)) result
+            (read_outside room scope.now (listed Curly variants_form) self.old) }
     {
         let inner = self.open(Bracket::Curly, room)?;
         if !self.is_other(b"}") {
@@ -351,7 +354,8 @@ impl<'a> Reader<'a> {
         scope: &Scope,
         room: u32,
     ) -> Result<(Num, Ty), ReadFault>
-        ensures { Gives (λ x. (x, self.new)) result (read room scope.now (num_form ◂ codes ":" ▪ Part TheType) self.old) }
+        ensures { Gives (λ x. (x, self.new)) result
+            (read room scope.now (num_form ◂ codes ":" ▪ Part TheType) self.old) }
     {
         let number = self.num(scope, room)?;
         self.expect(b":")?;
@@ -365,7 +369,8 @@ impl<'a> Reader<'a> {
         scope: &Scope,
         room: u32,
     ) -> Result<Items<Tag>, ReadFault>
-        ensures { Gives (λ xs. (xs, self.new)) result (read room scope.now (codes "tag" ▸ listed Curly tags_form) self.old) }
+        ensures { Gives (λ xs. (xs, self.new)) result
+            (read room scope.now (codes "tag" ▸ listed Curly tags_form) self.old) }
     {
         self.expect(b"tag")?;
         self.tags(alloc, scope, room)
@@ -461,7 +466,8 @@ impl<'a> Reader<'a> {
         scope: &Scope,
         room: u32,
     ) -> Result<(Items<(Num, Tree)>, Boxed<Tree>), ReadFault>
-        ensures { Gives (λ cs. (cs, self.new)) result (read room scope.now (cases_form ▪ codes "_" ▸ codes "=>" ▸ Part TheTree) self.old) }
+        ensures { Gives (λ cs. (cs, self.new)) result
+            (read room scope.now (cases_form ▪ codes "_" ▸ codes "=>" ▸ Part TheTree) self.old) }
     {
         match self.cases(alloc, scope, room) {
             Ok(cases) => beside(cases, self.other_tree(alloc, scope, room)),
@@ -477,7 +483,8 @@ impl<'a> Reader<'a> {
         scope: &Scope,
         room: u32,
     ) -> Result<Boxed<Tree>, ReadFault>
-        ensures { Gives (λ t. (t, self.new)) result (read room scope.now (codes "_" ▸ codes "=>" ▸ Part TheTree) self.old) }
+        ensures { Gives (λ t. (t, self.new)) result
+            (read room scope.now (codes "_" ▸ codes "=>" ▸ Part TheTree) self.old) }
     {
         self.expect(b"_")?;
         self.expect(b"=>")?;

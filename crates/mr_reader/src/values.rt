@@ -150,7 +150,8 @@ impl<'a> Reader<'a> {
         room: u32,
         op: BinaryOp,
     ) -> Result<Value, ReadFault>
-        ensures { Gives (λ v. (v, self.new)) result (read room scope.now (value_inside (ValueWord.Binary op)) self.old) }
+        ensures { Gives (λ v. (v, self.new)) result
+            (read room scope.now (value_inside (ValueWord.Binary op)) self.old) }
     {
         match self.value_and_comma(alloc, scope, room) {
             Ok(left) => match beside(left, self.boxed_value(alloc, scope, room)) {
@@ -312,7 +313,8 @@ impl<'a> Reader<'a> {
         scope: &Scope<'_>,
         room: u32,
     ) -> Result<(u64, Boxed<Value>), ReadFault>
-        ensures { Gives (λ x. (x, self.new)) result (read room scope.now (u64_form ◂ codes "," ▪ Part TheValue) self.old) }
+        ensures { Gives (λ x. (x, self.new)) result
+            (read room scope.now (u64_form ◂ codes "," ▪ Part TheValue) self.old) }
     {
         let field = self.number()?;
         self.expect(b",")?;
@@ -327,7 +329,8 @@ impl<'a> Reader<'a> {
         scope: &Scope<'_>,
         room: u32,
     ) -> Result<(Num, Boxed<Value>), ReadFault>
-        ensures { Gives (λ x. (x, self.new)) result (read room scope.now (num_form ◂ codes "," ▪ Part TheValue) self.old) }
+        ensures { Gives (λ x. (x, self.new)) result
+            (read room scope.now (num_form ◂ codes "," ▪ Part TheValue) self.old) }
     {
         let number = self.num(scope, room)?;
         self.expect(b",")?;
@@ -441,7 +444,8 @@ impl<'a> Reader<'a> {
         scope: &Scope<'_>,
         room: u32,
     ) -> Result<Place, ReadFault>
-        ensures { Gives (λ p. (p, self.new)) result (read room scope.now (giving (λ parts. Place.Deref parts.0 parts.1) (Part TheValue ◂ codes "," ▪ Part TheType)) self.old) }
+        ensures { Gives (λ p. (p, self.new)) result (read room scope.now
+            (giving (λ parts. Place.Deref parts.0 parts.1) (Part TheValue ◂ codes "," ▪ Part TheType)) self.old) }
     {
         let pointer = self.boxed_value(alloc, scope, room)?;
         self.expect(b",")?;
@@ -459,7 +463,8 @@ impl<'a> Reader<'a> {
         room: u32,
         place: Place,
     ) -> Result<Place, ReadFault>
-        ensures { Gives (λ p. (p, self.new)) result (with_all place (read_outside room scope.now postfixes_form self.old)) }
+        ensures { Gives (λ p. (p, self.new)) result
+            (with_all place (read_outside room scope.now postfixes_form self.old)) }
     {
         let mut place = place;
         let most = self.left();

@@ -14,7 +14,7 @@ use Rattle.mr_value.specs.declared.val.Val.TheVariants as val
 use Rattle.mr_value.specs.Numbers.{number_of}
 use Rattle.mr_script.specs.Script.{Ask, Done, IllFormed, Undefined, ◌>>=◌}
 use Rattle.mr_eval.specs.MemoryQueries.{Allocate, MemoryScript, reading_part}
-use Rattle.mr_eval.specs.Operators.{or_ill_formed}
+use Rattle.mr_eval.specs.Operators.{or_ill_formed, pointer_in}
 use Rattle.mr_eval.specs.Reads.{ReadScript}
 use Rattle.mr_plan.specs.Machine.{CreatesThread, Plan}
 use Rattle.mr_plan.specs.Queries.{OfMemory, StepScript, memory_part}
@@ -22,12 +22,14 @@ use Rattle.mr_frame.specs.Calls.{callee_of, enter, kept_types, same_types, stora
 use Rattle.mr_frame.specs.Frames.{Aborts, EndsThread, Exits, GoesOn, Look, Onward}
 use Rattle.mr_frame.specs.Operations.{DueDo, Operands, finish, next_do, operands}
 use Rattle.mr_frame.specs.Steps.{frame_plan}
-use Rattle.mr_intr.specs.Operations.{Operation, acquire, allocate, allocating, assume, assuming, atomic_load, atomic_store, compare_exchange, create_lock, deallocate, exchanged, fetch, fetched, found, instant, int_in, is_power_of_two, join, loaded, modify, number_in, operation, pointer_in, print, release, releasing, truth_in, with_pick}
+use Rattle.mr_intr.specs.Operations.{Operation, acquire, allocate, allocating, assume, assuming, atomic_load, atomic_store, compare_exchange, create_lock, deallocate, exchanged, fetch, fetched, found, instant, is_power_of_two, join, loaded, modify, number_in, operation, print, release, releasing, truth_in, with_pick}
 use Rattle.mr_intr.specs.Texts.{text_of, texts_of}
+use Rattle.mr_intr.proofs.EachOperation.{of_operation}
 use Rattle.mr_thread.specs.Steps.{Own, Turn, TurnPlan, do_step, finished, finishing, frame_step, in_step, last_payload, new_thread, onward, operated, own_step, spawn, spawn_function, spawn_number, spawn_types, start, step_due, thread_types}
 use Rattle.mr_reasons.proofs.Calm.{Anything, Calms, calms_then, memory_calms, reading_calms}
 use Rattle.mr_reasons.proofs.Expressions.{Reads, found_reads}
 use Rattle.mr_reasons.proofs.Frames.{Acts, PlanActs, enter_acts, finish_acts, frame_plans, operands_read}
+use Rattle.mr_wf.specs.Types.{integer_in}
 
 -- a script of a step, or of a part of one
 abbrev Steps : {A : Type 0} → StepScript A → Type 0
@@ -106,28 +108,27 @@ modify_steps at t change = found_then Anything (pointer_in (out-Val at)) _ (λ p
 
 fetch_operates : (op : Intrinsic) (at : Val) (t : Ty) (v : Val) → Operates (fetch op at t v)
 fetch_operates op at t v =
-    instantly _ (found_then Anything (int_in (out-Ty t)) _ (λ int. found_then Anything (number_in (out-Val v)) _ (λ k. modify_steps at t (fetched op int k))))
+    instantly _ (found_then Anything (integer_in (out-Ty t)) _ (λ int. found_then Anything (number_in (out-Val v)) _ (λ k. modify_steps at t (fetched op int k))))
 
 operation_operates : (op : Intrinsic) (args : List Val) (types : List Ty) (result : Option Ty) → Operates (operation op args types result)
-operation_operates intrinsic.Assume (v ∷ []) types result = instantly _ (found_then Anything (truth_in (out-Val v)) assuming assuming_steps)
-operation_operates intrinsic.Print args types result = instantly _ (reads_then Anything (texts_of types args) _ (texts_read types args) (λ texts x. tt))
-operation_operates intrinsic.Allocate (size ∷ align ∷ []) types result = found_then PlanSteps (number_in (out-Val size)) _ (λ s. found_then PlanSteps (number_in (out-Val align)) _ (λ a. allocating_operates s a))
-operation_operates intrinsic.Deallocate (what ∷ size ∷ align ∷ []) types result =
-    instantly _ (found_then Anything (pointer_in (out-Val what)) _ (λ p. found_then Anything (number_in (out-Val size)) _ (λ s. found_then Anything (number_in (out-Val align)) _ (λ a x. tt))))
-operation_operates intrinsic.Join (thread ∷ []) types result = instantly _ (found_then Anything (number_in (out-Val thread)) _ (λ u x. tt))
-operation_operates intrinsic.CreateLock [] types result = λ picks l. tt
-operation_operates intrinsic.Acquire (lock ∷ []) types result = instantly _ (found_then Anything (number_in (out-Val lock)) _ (λ l x. tt))
-operation_operates intrinsic.Release (lock ∷ []) types result = found_then PlanSteps (number_in (out-Val lock)) _ (λ l waits. releasing_steps l waits)
-operation_operates intrinsic.AtomicStore (at ∷ v ∷ []) (p ∷ t ∷ []) result = instantly _ (found_then Anything (pointer_in (out-Val at)) _ (λ p x. tt))
-operation_operates intrinsic.AtomicLoad (at ∷ []) types (Some t) = instantly _ (found_then Anything (pointer_in (out-Val at)) _ (λ p bytes. loaded_steps (number_of bytes)))
-operation_operates intrinsic.CompareExchange (at ∷ old ∷ new ∷ []) types (Some t) =
-    instantly _ (found_then Anything (number_in (out-Val old)) _ (λ a. found_then Anything (number_in (out-Val new)) _ (λ b. modify_steps at t (exchanged a b))))
-operation_operates intrinsic.FetchAdd (at ∷ v ∷ []) types (Some t) = fetch_operates intrinsic.FetchAdd at t v
-operation_operates intrinsic.FetchSub (at ∷ v ∷ []) types (Some t) = fetch_operates intrinsic.FetchSub at t v
-operation_operates intrinsic.FetchAnd (at ∷ v ∷ []) types (Some t) = fetch_operates intrinsic.FetchAnd at t v
-operation_operates intrinsic.FetchOr (at ∷ v ∷ []) types (Some t) = fetch_operates intrinsic.FetchOr at t v
-operation_operates intrinsic.FetchXor (at ∷ v ∷ []) types (Some t) = fetch_operates intrinsic.FetchXor at t v
-operation_operates _ args types result = tt
+operation_operates = of_operation Operates (record {
+  assumes = λ v. instantly _ (found_then Anything (truth_in (out-Val v)) assuming assuming_steps);
+  prints = λ types args. instantly _ (reads_then Anything (texts_of types args) _ (texts_read types args) (λ texts x. tt));
+  allocates = λ size align. found_then PlanSteps (number_in (out-Val size)) _
+      (λ s. found_then PlanSteps (number_in (out-Val align)) _ (λ a. allocating_operates s a));
+  deallocates = λ what size align. instantly _ (found_then Anything (pointer_in (out-Val what)) _
+      (λ p. found_then Anything (number_in (out-Val size)) _ (λ s. found_then Anything (number_in (out-Val align)) _ (λ a x. tt))));
+  joins = λ thread. instantly _ (found_then Anything (number_in (out-Val thread)) _ (λ u x. tt));
+  creates = λ picks l. tt;
+  acquires = λ lock. instantly _ (found_then Anything (number_in (out-Val lock)) _ (λ l x. tt));
+  releases = λ lock. found_then PlanSteps (number_in (out-Val lock)) _ (λ l waits. releasing_steps l waits);
+  stores = λ at t v. instantly _ (found_then Anything (pointer_in (out-Val at)) _ (λ p x. tt));
+  loads = λ at t. instantly _ (found_then Anything (pointer_in (out-Val at)) _ (λ p bytes. loaded_steps (number_of bytes)));
+  exchanges = λ at t old new. instantly _ (found_then Anything (number_in (out-Val old)) _
+      (λ a. found_then Anything (number_in (out-Val new)) _ (λ b. modify_steps at t (exchanged a b))));
+  fetches = fetch_operates;
+  broken = tt;
+})
 
 -- ---- a step
 

@@ -48,7 +48,8 @@ impl Serialize for Told<'_> {
 
 // An array of strings.
 fn send_texts<S: Serializer>(texts: &[&str], out: &mut S) -> Result<(), S::Error>
-    ensures { OnOk result (SendsValue (texts_data (map (λ s. s.now) texts.now)) (S.written out.old) (S.written out.new)) }
+    ensures { OnOk result
+        (SendsValue (texts_data (map (λ s. s.now) texts.now)) (S.written out.old) (S.written out.new)) }
 {
     texts.serialize(out)
 }
@@ -62,7 +63,8 @@ fn send_races<S: Serializer>(races: &[(u128, u128)], out: &mut S) -> Result<(), 
 
 // A string, or null.
 fn send_witness<S: Serializer>(witness: &Option<String>, out: &mut S) -> Result<(), S::Error>
-    ensures { OnOk result (SendsValue (witness_data (option_map string_bytes witness.now)) (S.written out.old) (S.written out.new)) }
+    ensures { OnOk result
+        (SendsValue (witness_data (option_map string_bytes witness.now)) (S.written out.old) (S.written out.new)) }
 {
     witness.serialize(out)
 }
@@ -127,7 +129,8 @@ fn told_witness(
     witness: Option<&Schedule>,
     version: Version,
 ) -> Result<Option<String>, OutOfMemory>
-    ensures { IfOk result (λ text. option_map string_bytes text ≡ option_map (text_in version) (option_copied witness.entry)) }
+    ensures { IfOk result
+        (λ text. option_map string_bytes text ≡ option_map (text_in version) (option_copied witness.entry)) }
 {
     let Some(schedule) = witness else {
         return Ok(None);
@@ -140,7 +143,8 @@ fn told_witness(
 // The object with no line feed behind it. The writer fails only for want of memory.
 fn object(alloc: Global, r: &Report<'_>) -> Result<Vec<u8>, OutOfMemory>
     requires texts { ArePrinted r.now.output.now }
-    ensures { IfOk result (λ bytes. bytes.items ≡ object_text r.now.output.now r.now.verdict r.now.races.now (option_copied r.now.witness) r.now.version) }
+    ensures { IfOk result (λ bytes. bytes.items
+        ≡ object_text r.now.output.now r.now.verdict r.now.races.now (option_copied r.now.witness) r.now.version) }
 {
     let told = Told {
         output: told_texts(alloc, r.output)?,
@@ -159,7 +163,8 @@ fn object(alloc: Global, r: &Report<'_>) -> Result<Vec<u8>, OutOfMemory>
 /// `Err` is for want of memory, and leaves `out` as it was.
 pub fn json(alloc: Global, r: &Report<'_>, out: &mut Vec<u8>) -> Result<(), OutOfMemory>
     requires texts { ArePrinted r.now.output.now }
-    ensures ok { OnOk result (out.new.items ≡ out.old.items ++ json_text r.now.output.now r.now.verdict r.now.races.now (option_copied r.now.witness) r.now.version) }
+    ensures ok { OnOk result (out.new.items ≡ out.old.items
+        ++ json_text r.now.output.now r.now.verdict r.now.races.now (option_copied r.now.witness) r.now.version) }
     ensures err { OnErr result (out.new.items ≡ out.old.items) }
 {
     let mut bytes = object(alloc, r)?;

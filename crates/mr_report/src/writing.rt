@@ -143,7 +143,8 @@ fn push_witness(
 
 // The same, where a part of the text may stand behind what was there after want of memory.
 fn push_report(alloc: Global, r: &Report<'_>, out: &mut Vec<u8>) -> Result<(), OutOfMemory>
-    ensures ok { OnOk result (out.new.items ≡ out.old.items ++ report_text r.now.output.now r.now.verdict r.now.races.now (option_copied r.now.witness) r.now.version) }
+    ensures ok { OnOk result (out.new.items ≡ out.old.items
+        ++ report_text r.now.output.now r.now.verdict r.now.races.now (option_copied r.now.witness) r.now.version) }
     ensures err { OnErr result (Extends out.old.items out.new.items) }
 {
     push_output(out, r.output)?;
@@ -155,7 +156,8 @@ fn push_report(alloc: Global, r: &Report<'_>, out: &mut Vec<u8>) -> Result<(), O
 /// Appends the text of a report: a line for each print, the verdict, the races, and the witness in its version where there is one. An `Err` is for want of
 /// memory, and leaves `out` as it was.
 pub fn text(alloc: Global, r: &Report<'_>, out: &mut Vec<u8>) -> Result<(), OutOfMemory>
-    ensures ok { OnOk result (out.new.items ≡ out.old.items ++ report_text r.now.output.now r.now.verdict r.now.races.now (option_copied r.now.witness) r.now.version) }
+    ensures ok { OnOk result (out.new.items ≡ out.old.items
+        ++ report_text r.now.output.now r.now.verdict r.now.races.now (option_copied r.now.witness) r.now.version) }
     ensures err { OnErr result (out.new.items ≡ out.old.items) }
 {
     let len = out.len();

@@ -31,7 +31,7 @@ use Rattle.mr_mem.specs.Memory.{Ranges, range_fault}
 use Rattle.mr_sched.specs.declared.schedule.Ask.{Ask}
 use Rattle.mr_sched.specs.declared.schedule.Ask.TheVariants.{Address, Waiter}
 use Rattle.mr_sched.specs.declared.schedule.Entry.{Entry}
-use Rattle.mr_event.specs.declared.footprint.Footprint.{Footprint}
+use Rattle.mr_event.specs.Footprint.{Footprint}
 use Rattle.mr_event.specs.Footprints as footprints
 use Rattle.mr_script.specs.Script.{Done, Undefined, ◌>>=◌, run as run_script}
 use Rattle.mr_base.specs.declared.reason.Verdict.{Verdict}
@@ -42,7 +42,8 @@ use Rattle.mr_frame.specs.Frames.{Frame, Look}
 use Rattle.mr_frame.specs.Operations as operations
 use Rattle.mr_frame.specs.Operations.{do_at}
 use Rattle.std.specs.Prelude.{◌++◌, if◌then◌else◌}
-use Rattle.mr_wf.specs.Broken.{Codes}
+use Rattle.mr_ast.specs.declared.rule.Rule.{Rule}
+use Rattle.mr_wf.specs.Broken.{Rules}
 use Rattle.mr_frame.specs.Sites.{Site, none_broken, site_of}
 use Rattle.mr_frame.specs.Steps.{FramePlan, plan_at}
 use Rattle.mr_frame.specs.Sites as sites
@@ -52,6 +53,7 @@ use Rattle.mr_plan.specs.Runs.{Config, after_bare, machine_step, races_with}
 use Rattle.mr_intr.specs.Texts.{number_text, spaced}
 use Rattle.mr_thread.specs.Steps.{Own, TurnPlan, in_step, own_step, reads, step_due, thread_step}
 use Rattle.mr_start.specs.Start.{item_bytes, look_of, run_of, start_config, start_memory}
+use Rattle.mr_sched.specs.declared.rule.ScheduleRule.TheVariants as rule
 
 -- ---- numbers as they are printed
 
@@ -87,18 +89,18 @@ lawful : breaks earlier (Address 4 4 ∷ []) (8196 ∷ []) ≡ None
 unfolding range_fault
 lawful = refl
 
-missing_pick : breaks [] (Address 1 1 ∷ Address 4 4 ∷ []) (16 ∷ []) ≡ fault 61
+missing_pick : breaks [] (Address 1 1 ∷ Address 4 4 ∷ []) (16 ∷ []) ≡ fault rule.MissingPick
 unfolding range_fault
 missing_pick = refl
 
-extra_pick : breaks [] [] (5 ∷ []) ≡ fault 62
+extra_pick : breaks [] [] (5 ∷ []) ≡ fault rule.ExtraPick
 extra_pick = refl
 
-misaligned : breaks earlier (Address 4 4 ∷ []) (8194 ∷ []) ≡ fault 63
+misaligned : breaks earlier (Address 4 4 ∷ []) (8194 ∷ []) ≡ fault rule.BadAddress
 unfolding range_fault
 misaligned = refl
 
-past_the_end : breaks [] (Address 4 4 ∷ []) (18446744073709551616 ∷ []) ≡ fault 63
+past_the_end : breaks [] (Address 4 4 ∷ []) (18446744073709551616 ∷ []) ≡ fault rule.BadAddress
 unfolding range_fault
 past_the_end = refl
 
@@ -120,13 +122,13 @@ shared_address = refl
 waiter : breaks [] (Waiter 3 ∷ []) (1 ∷ []) ≡ None
 waiter = refl
 
-not_waiting : breaks [] (Waiter 3 ∷ []) (0 ∷ []) ≡ fault 65
+not_waiting : breaks [] (Waiter 3 ∷ []) (0 ∷ []) ≡ fault rule.NotWaiting
 not_waiting = refl
 
-waiting_for_another : breaks [] (Waiter 4 ∷ []) (1 ∷ []) ≡ fault 65
+waiting_for_another : breaks [] (Waiter 4 ∷ []) (1 ∷ []) ≡ fault rule.NotWaiting
 waiting_for_another = refl
 
-no_such_waiter : breaks [] (Waiter 3 ∷ []) (2 ∷ []) ≡ fault 65
+no_such_waiter : breaks [] (Waiter 3 ∷ []) (2 ∷ []) ≡ fault rule.NotWaiting
 no_such_waiter = refl
 
 -- ---- the race check
@@ -245,7 +247,7 @@ returning_here = record { function = function [] (block Regular [] term.Return �
 returning_site : site_of returning_look returning_main.stack ≡ Some returning_here
 unfolding look_of returning sites.site_of
 returning_site =
-    ap (λ (o : Option ℕ). if none_broken ((((elim o as (λ _. Codes) [ Some code ↦ code ∷ [] | None ↦ [] ] ++ []) ++ []) ++ []) ++ []) then Some returning_here else None) unit_ok
+    ap (λ (o : Option Rule). if none_broken ((((elim o as (λ _. Rules) [ Some broken ↦ broken ∷ [] | None ↦ [] ] ++ []) ++ []) ++ []) ++ []) then Some returning_here else None) unit_ok
 
 returning_step : own_step returning_look returning_main ≡ Done (record { creates = CreatesNothing; asks = []; go = λ picks. Undefined reason.MainReturned })
 unfolding own_step operations.next_do steps.frame_plan sites.due_of

@@ -1,6 +1,8 @@
 -- Steps without a rule: each program here breaks a rule of well-formed programs, and its first step is one for which the machine has no rule.
 use Rattle.std.proofs.Common.{◌≡◌, ℕ, Bool, true, false, not, ◌&&◌, ◌||◌, List, [], ◌∷◌, ◌++◌, None, Some, refl, sym, ap, ap₂, ◌∙◌}
 use Rattle.std.specs.Prelude.{if◌then◌else◌, is_some, slice_get}
+use Rattle.mr_ast.specs.declared.rule.Rule.TheVariants as form
+use Rattle.mr_ast.specs.declared.rule.Rule.{Rule}
 use Rattle.mr_base.specs.declared.byte.Pointer.{Pointer}
 use Rattle.mr_base.specs.declared.thread.Status.TheVariants.{Enabled}
 use Rattle.mr_ast.specs.declared.types.IntType.TheVariants.{I32, U16, U32, U64, U8}
@@ -26,7 +28,7 @@ use Rattle.mr_ast.specs.declared.program.Stmt.TheVariants as stmt
 use Rattle.mr_ast.specs.declared.program.Term.{Term}
 use Rattle.mr_ast.specs.declared.program.Term.TheVariants as term
 use Rattle.mr_wf.specs.Blocks.{broken_in_parts, fits_switch_layer}
-use Rattle.mr_wf.specs.Broken.{Codes, Surroundings, broken_in_place, broken_in_value, rule, surroundings, where_all_typed, where_both_typed, where_typed}
+use Rattle.mr_wf.specs.Broken.{Rules, Surroundings, broken_in_place, broken_in_value, rule, surroundings, where_all_typed, where_both_typed, where_typed}
 use Rattle.mr_wf.specs.Intrinsics.{fits_intrinsic, gives_nothing}
 use Rattle.mr_wf.specs.Operands.{fits_binary, is_bool_layer, is_fn_ptr, is_fn_ptr_layer, is_int, is_integer, is_raw, is_raw_layer, is_scalar_number}
 use Rattle.mr_wf.specs.SameTypes.{same_type}
@@ -60,16 +62,16 @@ begins_by_rule p = has_rule (thread_step (look_of p picks)) 0 [] (start_config p
 
 -- ---- codes
 
-in_front : (xs ys : Codes) → none_broken xs ≡ false → none_broken (xs ++ ys) ≡ false
+in_front : (xs ys : Rules) → none_broken xs ≡ false → none_broken (xs ++ ys) ≡ false
 in_front [] ys e = absurd (cc)
 in_front (x ∷ xs) ys e = refl
 
-behind : (xs ys : Codes) → none_broken ys ≡ false → none_broken (xs ++ ys) ≡ false
+behind : (xs ys : Rules) → none_broken ys ≡ false → none_broken (xs ++ ys) ≡ false
 behind [] ys e = e
 behind (x ∷ xs) ys e = refl
 
-breaks : (code : ℕ) (kept : Bool) → kept ≡ false → none_broken (rule code kept) ≡ false
-breaks code kept e = ap (λ b. none_broken (rule code b)) e
+breaks : (r : Rule) (kept : Bool) → kept ≡ false → none_broken (rule r kept) ≡ false
+breaks r kept e = ap (λ b. none_broken (rule r b)) e
 
 -- ---- a main function whose first block is this one
 
@@ -110,7 +112,7 @@ module _ (b : Block) (others : List Block) where
   first_rule = refl
 
   -- the rules that are broken where it stands
-  abbrev broken : Codes
+  abbrev broken : Rules
   broken = broken_in_head fn ++ broken_at (main_of b others) fn b (slice_get b.stmts 0)
 
   -- where one is, the thread stands nowhere
@@ -140,7 +142,7 @@ at blocks = surroundings (program (function [] blocks ∷ [])) (function [] bloc
 ill_formed_first_block : begins_by_rule (main_of (block Cleanup [] term.Exit) []) ≡ false
 ill_formed_first_block =
     let b = block Cleanup [] term.Exit in
-    ill_formed b [] (in_front (broken_in_head (fn b [])) (broken_at (main_of b []) (fn b []) b None) (behind _ (31 ∷ []) refl))
+    ill_formed b [] (in_front (broken_in_head (fn b [])) (broken_at (main_of b []) (fn b []) b None) (behind _ (form.FirstBlock ∷ []) refl))
 
 -- the rule of block kinds (32): `stop` in a regular block has no payload to take
 ill_formed_kind : begins_by_rule (main_of (block Regular [] (term.Stop (record { 0 = 0 }))) []) ≡ false
@@ -152,7 +154,7 @@ unwinding = term.Call (value.Fn (record { 0 = 0 })) [] (place.Local result) None
 
 ill_formed_unwind_target : begins_by_rule (main_of (block Regular [] unwinding) []) ≡ false
 ill_formed_unwind_target =
-    ill_formed_due (block Regular [] unwinding) [] (behind (broken_in_parts (at (block Regular [] unwinding ∷ [])) unwinding) (32 ∷ []) refl)
+    ill_formed_due (block Regular [] unwinding) [] (behind (broken_in_parts (at (block Regular [] unwinding ∷ [])) unwinding) (form.BlockKind ∷ []) refl)
 
 -- the rule of main functions (45): one with an argument, which has no storage at the start
 main_with_argument : Program
@@ -200,7 +202,7 @@ ill_formed_assigned =
     let locals = (at (assigning ∷ [])).locals in
     ill_formed_due assigning []
     (behind (broken_in_place (at (assigning ∷ [])) byte_place ++ broken_in_value (at (assigning ∷ [])) (value.Int U16 (number 5))) _
-    (breaks 36 _
+    (breaks form.Assign _
     (ap₂ (λ a b. where_both_typed a b same_type) (type_of_deref locals (value.Raw 8) (ty.Int U8)) (type_of_int locals U16 (number 5)) ∙ two_sizes)))
 
 -- ---- values, as they are printed
@@ -230,7 +232,7 @@ ill_formed_operands =
     ill_formed_value sum
     (ap none_broken (broken_in_binary here binary.Add (byte 1) (value.Int U16 (number 1)))
     ∙ behind (broken_in_value here (byte 1) ++ broken_in_value here (value.Int U16 (number 1))) _
-    (breaks 34 _
+    (breaks form.Operand _
     (ap₂ (λ a b. where_both_typed a b (fits_binary binary.Add)) (type_of_int here.locals U8 (number 1)) (type_of_int here.locals U16 (number 1))
     ∙ and_false (is_integer (ty.Int U8)) (same_type (ty.Int U8) (ty.Int U16)) two_sizes)))
 
@@ -247,7 +249,7 @@ ill_formed_cast =
     ill_formed_value exposed
     (ap none_broken (broken_in_cast here I32 (value.Raw 5))
     ∙ behind (broken_in_value here (value.Raw 5)) _
-    (breaks 47 _ (ap (λ o. where_typed o is_scalar_number) (type_of_raw here.locals 5) ∙ raw_is_no_number)))
+    (breaks form.Cast _ (ap (λ o. where_typed o is_scalar_number) (type_of_raw here.locals 5) ∙ raw_is_no_number)))
 
 -- the rule of places (33): a raw pointer is an index
 abbrev bytes : Place
@@ -265,7 +267,7 @@ ill_formed_index =
     ill_formed_value (value.Load indexed)
     (ap none_broken (broken_in_load here indexed ∙ broken_in_index here bytes (value.Raw 0))
     ∙ behind (broken_in_place here bytes ++ broken_in_value here (value.Raw 0)) _
-    (breaks 33 _
+    (breaks form.Place _
     (ap₂ (λ a b. where_both_typed a b (λ t i. is_some (element_type t) && is_int U64 i)) (type_of_deref here.locals (value.Raw 8) (ty.Array 1 (ty.Int U8))) (type_of_raw here.locals 0)
     ∙ and_false (is_some (element_type (ty.Array 1 (ty.Int U8)))) (is_int U64 ty.Raw) raw_is_no_index)))
 
@@ -289,7 +291,7 @@ ill_formed_switch cases e =
     let here = at (ending (choosing cases) ∷ []) in
     ill_formed_parts (choosing cases) []
     (behind (broken_in_value here (byte 5)) _
-    (breaks 39 _
+    (breaks form.Switch _
     (ap (λ o. where_typed o (λ t. fits_switch_layer cases (out-Ty t))) (type_of_int here.locals U8 (number 5)) ∙ ap (fits_switch_layer cases) (ty.outs-Int U8) ∙ e)))
 
 ill_formed_case : begins_by_rule (main_of (ending (choosing ((number 300, first) ∷ []))) []) ≡ false
@@ -307,7 +309,7 @@ ill_formed_callee =
     let here = at (ending calling ∷ []) in
     ill_formed_parts calling []
     (behind (broken_in_value here (value.Raw 16) ++ [] ++ broken_in_place here (place.Local result)) _
-    (breaks 40 _ (ap (λ o. where_typed o is_fn_ptr) (type_of_raw here.locals 16) ∙ ap is_fn_ptr_layer ty.outs-Raw)))
+    (breaks form.Callee _ (ap (λ o. where_typed o is_fn_ptr) (type_of_raw here.locals 16) ∙ ap is_fn_ptr_layer ty.outs-Raw)))
 
 -- the rule of payloads (42): a pointer to a function is one
 abbrev giving_up : Term
@@ -318,7 +320,7 @@ ill_formed_payload =
     let here = at (ending giving_up ∷ block Cleanup [] term.Exit ∷ []) in
     ill_formed_parts giving_up (block Cleanup [] term.Exit ∷ [])
     (behind (broken_in_value here (value.Fn (record { 0 = 0 }))) _
-    (breaks 42 _ (ap (λ o. where_typed o is_raw) (type_of_fn here.locals (record { 0 = 0 })) ∙ ap is_raw_layer ty.outs-FnPtr)))
+    (breaks form.Payload _ (ap (λ o. where_typed o is_raw) (type_of_fn here.locals (record { 0 = 0 })) ∙ ap is_raw_layer ty.outs-FnPtr)))
 
 -- the rule of intrinsics (41): the number of a lock is a u64
 abbrev locking : Term
@@ -332,6 +334,6 @@ ill_formed_lock =
     let here = at (ending locking ∷ []) in
     ill_formed_parts locking []
     (behind ((broken_in_value here (value.Int U64 (number 0)) ++ []) ++ []) _
-    (breaks 41 _
+    (breaks form.Intrinsic _
     (ap (λ o. where_all_typed (o ∷ []) (λ types. fits_intrinsic intrinsic.Acquire types None)) (type_of_int here.locals U64 (number 0))
     ∙ ap (λ b. b && gives_nothing None) wide_is_no_lock)))

@@ -16,7 +16,7 @@ use std::test::Fail;
 // The entry of a step at a place.
 fn entry(alloc: Global, run: &[Footprint], place: usize) -> Result<Entry, OutOfMemory> {
     let thread = match run.get(place) {
-        Some(step) => step.thread,
+        Some(step) => step.thread(),
         None => 0,
     };
     Ok(Entry {

@@ -1,7 +1,7 @@
 //! Runs that are added to an analysis a step at a time, and a long one.
 use mr_base::Access;
 use mr_clocks::{Analysis, predicted_by_clocks};
-use mr_event::{Footprint, OutOfMemory};
+use mr_event::{Event, Footprint, OutOfMemory, Step};
 use std::alloc::Global;
 
 fn access(store: bool, atomic: bool, addr: u64) -> Access {
@@ -13,24 +13,32 @@ fn access(store: bool, atomic: bool, addr: u64) -> Access {
     }
 }
 
+// A step of a thread with these accesses and nothing else.
+fn accessing(alloc: Global, thread: u32, accesses: &[Access]) -> Result<Footprint, OutOfMemory> {
+    let step = Step {
+        thread,
+        event: Event::Quiet,
+        ended: false,
+        accesses,
+        allocated: &[],
+        freed: &[],
+        touched: &[],
+        woken: &[],
+    };
+    Footprint::of(alloc, &step)
+}
+
 fn step(
     alloc: Global,
     thread: u32,
     first: Access,
     second: Access,
 ) -> Result<Footprint, OutOfMemory> {
-    let mut f = Footprint::nothing(alloc);
-    f.thread = thread;
-    f.accesses.add(first)?;
-    f.accesses.add(second)?;
-    Ok(f)
+    accessing(alloc, thread, &[first, second])
 }
 
 fn single(alloc: Global, thread: u32, only: Access) -> Result<Footprint, OutOfMemory> {
-    let mut f = Footprint::nothing(alloc);
-    f.thread = thread;
-    f.accesses.add(only)?;
-    Ok(f)
+    accessing(alloc, thread, &[only])
 }
 
 // The third step follows the first one, though it races with the second. Whoever doesn't look back lets the fourth race with the first.

@@ -1,16 +1,16 @@
-//! Footprints as texts: which depend on one another or link, which keep the machine's limits, and the order and the races of their
+//! Footprints as texts: which depend on one another, which keep the machine's limits, and the order and the races of their
 //! runs, by comparing all steps and by clocks.
 //!
 //! A step is a thread and what it does, as `1 store 4096,wake 2`. Each access has four bytes; an allocation is named by the
-//! thread that made it; a number that says nothing is 0. A run is its steps, with `; ` between them.
+//! thread that made it; a number that says nothing is 0. An access that is `wide` has 24 bytes. A run is its steps, with
+//! `; ` between them.
 ghost use Rattle.std.specs.Prelude.{◌<◌, length};
 
 use mr_base::{Access, AllocId};
 use mr_clocks::{follows, predicted_by_clocks};
 use mr_event::{
-    Event, Footprint, OutOfMemory, Pair, depends, follows_plain, foot_ok, predicted_plain,
+    Event, Footprint, OutOfMemory, Pair, Step, depends, follows_plain, foot_ok, predicted_plain,
 };
-use mr_links::{links, rivals, thread_at};
 use std::alloc::Global;
 use std::test::Fail;
 
@@ -26,7 +26,7 @@ fn access(verb: &str, number: u32) -> Access {
         store: verb.ends_with("store"),
         atomic: verb.starts_with("atomic"),
         addr: u64::from(number),
-        len: 4,
+        len: if verb.contains("wide") { 24 } else { 4 },
     }
 }
 
@@ -41,45 +41,75 @@ fn event(verb: &str, number: u32) -> Option<Event> {
     }
 }
 
-// Notes in a footprint what a verb with a number says.
-fn note(foot: &mut Footprint, verb: &str, number: u32) -> Result<(), OutOfMemory> {
-    let id = AllocId {
-        thread: number,
-        count: 5,
-    };
-    match verb {
-        "make" => foot.allocated.push(id),
-        "free" => foot.freed.push(id),
-        "touch" => foot.touched.push(id),
-        "wake" => foot.woken.push(number),
-        "end" => {
-            foot.ended = true;
-            Ok(())
+// What a step's text says.
+#[derive(Drop)]
+struct Said {
+    thread: u32,
+    event: Event,
+    ended: bool,
+    accesses: Vec<Access>,
+    made: Vec<AllocId>,
+    freed: Vec<AllocId>,
+    touched: Vec<AllocId>,
+    woken: Vec<u32>,
+}
+
+impl Said {
+    fn nothing(alloc: Global, thread: u32) -> Said {
+        Said {
+            thread,
+            event: Event::Quiet,
+            ended: false,
+            accesses: Vec::new(alloc),
+            made: Vec::new(alloc),
+            freed: Vec::new(alloc),
+            touched: Vec::new(alloc),
+            woken: Vec::new(alloc),
         }
-        _ => match event(verb, number) {
-            Some(event) => {
-                foot.event = event;
-                Ok(())
+    }
+
+    // Notes what a verb with a number says.
+    fn note(&mut self, verb: &str, number: u32) -> Result<(), OutOfMemory> {
+        let id = AllocId {
+            thread: number,
+            count: 5,
+        };
+        match verb {
+            "make" => self.made.push(id)?,
+            "free" => self.freed.push(id)?,
+            "touch" => self.touched.push(id)?,
+            "wake" => self.woken.push(number)?,
+            "end" => self.ended = true,
+            _ => match event(verb, number) {
+                Some(event) => self.event = event,
+                None => self.accesses.push(access(verb, number))?,
+            },
+        }
+        Ok(())
+    }
+
+    fn note_all(&mut self, acts: &str) -> Result<(), OutOfMemory> {
+        for act in acts.split(',') {
+            if let Some((verb, word)) = act.split_once(' ') {
+                self.note(verb, number(word))?;
             }
-            None => foot.accesses.add(access(verb, number)),
-        },
-    }
-}
-
-/// A footprint that says nothing but the thread.
-pub fn quiet(alloc: Global, thread: u32) -> Footprint {
-    let mut foot = Footprint::nothing(alloc);
-    foot.thread = thread;
-    foot
-}
-
-fn note_all(foot: &mut Footprint, acts: &str) -> Result<(), OutOfMemory> {
-    for act in acts.split(',') {
-        if let Some((verb, word)) = act.split_once(' ') {
-            note(foot, verb, number(word))?;
         }
+        Ok(())
     }
-    Ok(())
+
+    fn footprint(&self, alloc: Global) -> Result<Footprint, OutOfMemory> {
+        let step = Step {
+            thread: self.thread,
+            event: self.event,
+            ended: self.ended,
+            accesses: self.accesses.as_slice(),
+            allocated: self.made.as_slice(),
+            freed: self.freed.as_slice(),
+            touched: self.touched.as_slice(),
+            woken: self.woken.as_slice(),
+        };
+        Footprint::of(alloc, &step)
+    }
 }
 
 // The footprint of a step's text.
@@ -88,9 +118,9 @@ fn step(alloc: Global, text: &str) -> Result<Footprint, OutOfMemory> {
         Some((thread, acts)) => (thread, acts),
         None => (text, ""),
     };
-    let mut foot = quiet(alloc, number(thread));
-    note_all(&mut foot, acts)?;
-    Ok(foot)
+    let mut said = Said::nothing(alloc, number(thread));
+    said.note_all(acts)?;
+    said.footprint(alloc)
 }
 
 /// The run of a text.
@@ -191,7 +221,7 @@ fn are_ways_alike(alloc: Global, text: &str) -> Result<bool, OutOfMemory> {
 }
 
 /// A run, a place in it, and the races of the run with the steps behind that place.
-static RUNS: [(&str, usize, &str); 13] = [
+static RUNS: [(&str, usize, &str); 19] = [
     // Two threads store: the one doesn't wait for the other.
     (
         "0; 0 spawn 1,wake 1; 0 spawn 2,wake 2; 1 store 64; 1 end 0; 2 store 64; 2 end 0; 0",
@@ -261,8 +291,90 @@ static RUNS: [(&str, usize, &str); 13] = [
         2,
         "behind 2: 3 4 5",
     ),
+    // Behind racing steps there is one that doesn't race: the edge comes from it. A later step takes the same way.
+    (
+        "1 atomic-store 64,store 96; 1 atomic-store 64,store 80; 1 atomic-store 64,store 84; 2 atomic-load 64,load 80,load 84; 2 atomic-load 64,load 80,load 84; 2 load 96",
+        0,
+        "2 3, 2 4, behind 0: 1 2 3 4 5",
+    ),
+    // A third thread has the accesses of the way that was left; a fourth lacks one of them, and follows what it reaches first.
+    (
+        "1 atomic-store 64,store 80; 1 atomic-store 64,store 84; 2 atomic-load 64,load 80,load 84; 3 atomic-load 64,load 80,load 84; 4 atomic-load 64,load 80",
+        1,
+        "1 2, 1 3, behind 1: 4",
+    ),
+    // Ranges of two lengths, the longer one from before the shorter one.
+    ("1 wide-store 60; 2 load 80", 0, "0 1, behind 0:"),
+    ("1 load 80; 2 wide-store 60", 0, "0 1, behind 0:"),
+    ("1 wide-load 60; 2 load 80", 0, "behind 0:"),
+    ("1 wide-store 60; 2 load 84", 0, "behind 0:"),
     ("0 store 64", 0, "behind 0:"),
 ];
+
+/// What a step of a run from a number may do.
+static ACTS: [&str; 24] = [
+    "",
+    "load 64",
+    "load 66",
+    "load 80",
+    "store 64",
+    "store 80",
+    "wide-load 60",
+    "wide-store 64",
+    "atomic-load 64",
+    "atomic-store 64",
+    "atomic-store 64",
+    "atomic-wide-store 60",
+    "atomic-load 64,store 80",
+    "atomic-store 64,load 80",
+    "atomic-load 64,load 80,load 84",
+    "atomic-store 64,store 84",
+    "acquire 0",
+    "release 0,wake 1",
+    "release 0",
+    "spawn 2,wake 2",
+    "join 1",
+    "end 0",
+    "make 1,touch 1",
+    "touch 1,free 1",
+];
+
+// How many steps a run from a number has.
+const STEPS: u64 = 24;
+
+// The text of the run of a number: steps of three threads, each doing what some bits of a number tell.
+fn text_from(alloc: Global, seed: u64) -> Result<String, OutOfMemory> {
+    let mut text = String::new(alloc);
+    let mut number = seed;
+    for k in 0..STEPS {
+        number = number
+            .wrapping_mul(6364136223846793005)
+            .wrapping_add(1442695040888963407);
+        let thread = (number >> 33) % 3;
+        let act = ACTS[((number >> 40) % 24) as usize];
+        let end = if k + 1 < STEPS { "; " } else { "" };
+        write!(text, "{thread} {act}{end}")?;
+    }
+    Ok(text)
+}
+
+// Whether both ways tell the same of a run.
+fn are_told_alike(alloc: Global, text: &str, first: usize) -> Result<bool, OutOfMemory> {
+    let plain = told(Way::Plain, alloc, text, first)?;
+    let by_clocks = told(Way::Clocks, alloc, text, first)?;
+    Ok(plain.as_str() == by_clocks.as_str())
+}
+
+// The first number at whose run the ways differ.
+fn first_other_number(alloc: Global) -> Result<Option<u64>, OutOfMemory> {
+    for seed in 0..10_000u64 {
+        let text = text_from(alloc, seed)?;
+        if !are_told_alike(alloc, text.as_str(), (seed % STEPS) as usize)? {
+            return Ok(Some(seed));
+        }
+    }
+    Ok(None)
+}
 
 /// Two steps, and whether the later one depends on the earlier one.
 static DEPENDENCE: [(&str, bool); 24] = [
@@ -298,54 +410,6 @@ fn is_dependent(alloc: Global, text: &str) -> Result<bool, OutOfMemory> {
         (Some(f), Some(g)) => depends(f, g),
         _ => false,
     })
-}
-
-/// A run, its threads, and for each pair of steps whether the earlier one links to the later one (`-`) or is its rival (`x`).
-static LINKS: [(&str, &str); 4] = [
-    (
-        "0 spawn 1,wake 1; 1 store 64; 0 store 64; 1 end 0",
-        "0 1 0 1: 0-1 0-2 1x2 0-3 1-3 ",
-    ),
-    (
-        "0 create 0; 1 acquire 0; 2 atomic-store 64; 1 atomic-store 64; 2 load 64",
-        "0 1 2 1 2: 0-1 1-3 2-3 2-4 3x4 ",
-    ),
-    // Atomic at one place, and a race at another.
-    (
-        "1 store 68,atomic-store 64; 2 atomic-load 64,store 68; 2",
-        "1 2 2: 0x1 1-2 ",
-    ),
-    // A thread that was woken, and one that wasn't.
-    ("0 release 0,wake 2; 1 acquire 1; 2 store 64", "0 1 2: 0-2 "),
-];
-
-fn show_pairs(told: &mut String, run: &[Footprint], j: usize) -> Result<(), OutOfMemory>
-    requires { j < length run.now }
-{
-    for i in 0..j {
-        if links(run, i, j) {
-            write!(told, "{i}-{j} ")?;
-        }
-        if rivals(run, i, j) {
-            write!(told, "{i}x{j} ")?;
-        }
-    }
-    Ok(())
-}
-
-fn links_told(alloc: Global, text: &str) -> Result<String, OutOfMemory> {
-    let run = run_of(alloc, text)?;
-    let run = run.as_slice();
-    let mut told = String::new(alloc);
-    for k in 0..run.len() {
-        let thread = thread_at(run, k);
-        let end = if k + 1 < run.len() { " " } else { ": " };
-        write!(told, "{thread}{end}")?;
-    }
-    for j in 0..run.len() {
-        show_pairs(&mut told, run, j)?;
-    }
-    Ok(told)
 }
 
 /// A step, and whether it keeps the limits.
@@ -385,19 +449,19 @@ static ACCESSES: [(u64, u64, bool); 5] = [
 ];
 
 fn access_keeps_limits(alloc: Global, addr: u64, len: u64) -> Result<bool, OutOfMemory> {
-    let mut foot = quiet(alloc, 0);
-    foot.accesses.add(Access {
+    let mut said = Said::nothing(alloc, 0);
+    said.accesses.push(Access {
         store: false,
         atomic: false,
         addr,
         len,
     })?;
-    Ok(foot_ok(&foot))
+    Ok(foot_ok(&said.footprint(alloc)?))
 }
 
 // Whether the lists of the step `0 make 5,make 6,wake 9` hold what it says.
 fn has_lists(foot: &Footprint) -> bool {
-    let (ids, threads) = (&foot.allocated, &foot.woken);
+    let (ids, threads) = (foot.allocated(), foot.woken());
     let second = AllocId {
         thread: 6,
         count: 5,
@@ -408,7 +472,7 @@ fn has_lists(foot: &Footprint) -> bool {
         && threads.len() == 1
         && threads.get(0).copied() == Some(9)
         && threads.get(1).is_none()
-        && threads.as_slice() == [9].as_slice()
+        && threads == [9].as_slice()
 }
 
 fn are_lists_kept(alloc: Global) -> Result<bool, OutOfMemory> {
@@ -441,16 +505,6 @@ fn first_wrong_run(way: Way, alloc: Global) -> Result<Option<usize>, OutOfMemory
 fn first_other_way(alloc: Global) -> Result<Option<usize>, OutOfMemory> {
     for (n, (text, _, _)) in RUNS.iter().enumerate() {
         if !are_ways_alike(alloc, text)? {
-            return Ok(Some(n));
-        }
-    }
-    Ok(None)
-}
-
-fn first_wrong_links(alloc: Global) -> Result<Option<usize>, OutOfMemory> {
-    for (n, (text, wanted)) in LINKS.iter().enumerate() {
-        let said = links_told(alloc, text)?;
-        if said.as_str() != *wanted {
             return Ok(Some(n));
         }
     }
@@ -491,10 +545,8 @@ fn footprints_are_ordered(rt: HostRuntime) -> Result<(), Fail> {
         assert_eq!(rt; first_wrong_run(way, alloc)?, None);
     }
     assert_eq!(rt; first_other_way(alloc)?, None);
-    assert_eq!(rt;
-        (first_wrong_links(alloc)?, first_wrong_dependence(alloc)?),
-        (None, None)
-    );
+    assert_eq!(rt; first_other_number(alloc)?, None);
+    assert_eq!(rt; first_wrong_dependence(alloc)?, None);
     let (limit, access) = (first_wrong_limit(alloc)?, first_wrong_access(alloc)?);
     assert_eq!(rt; (limit, access, are_lists_kept(alloc)?), (None, None, true));
     Ok(())

@@ -1,5 +1,4 @@
 //! Programs and schedules as texts, and what each entry of their runs comes to.
-use crate::orders::quiet;
 use mr_event::Footprint;
 use mr_sched::Entry;
 use mr_step::{Machine, StepFault, Turn};
@@ -8,7 +7,7 @@ use std::alloc::Global;
 use std::test::Fail;
 
 // The program that a text denotes, which breaks no rule.
-fn checked(alloc: Global, text: &str) -> Result<Checked, Fail> {
+pub(crate) fn checked(alloc: Global, text: &str) -> Result<Checked, Fail> {
     match mr_parse::parse(alloc, text.as_bytes()) {
         Ok(program) => match well_formed(alloc, program) {
             Ok(checked) => Ok(checked),
@@ -45,7 +44,7 @@ fn told(
 ) -> Result<String, Fail> {
     let mut told = String::new(alloc);
     told.push_str(format!(in alloc; "{:?} {}\n", machine.verdict(), machine.lines())?.as_str())?;
-    let mut foot = quiet(alloc, 0);
+    let mut foot = Footprint::nothing(alloc);
     for entry in entries {
         let turn = step(machine, entry, &mut foot, handed);
         let verdict = machine.verdict();
@@ -271,7 +270,7 @@ fn with(so_far: Lasting, answer: &Result<Turn, StepFault>) -> Lasting {
 // The same of a machine's steps under some entries.
 fn outcome(alloc: Global, machine: &mut Machine, entries: &[Entry]) -> Lasting {
     let mut so_far = Lasting::Whole;
-    let mut foot = quiet(alloc, 0);
+    let mut foot = Footprint::nothing(alloc);
     for entry in entries {
         let answer = step(machine, entry, &mut foot, true);
         so_far = with(so_far, &answer);

@@ -1,23 +1,23 @@
 -- A row of pieces put in place of others: step by step, and what it makes of the bytes.
-use Rattle.std.proofs.Common.{◌≡◌, ℕ, ◌+◌, ◌-◌, ◌<◌, ◌≤◌, ◌⊎◌, Bool, true, false, cond, ◌||◌, List, [], ◌∷◌, ◌++◌, length, take, drop, get_or, Some, None, Option, refl, sym, ap, ◌∙◌, subst, inl, inr, ⊎_elim, arith, append_assoc, append-nil, length-append, length-drop, length-take, nat_cmp, take_all}
-use Rattle.std.specs.Prelude.{IsSome, OnOk, is_some, eqb, Result, Ok, Err}
+use Rattle.std.proofs.Common.{◌≡◌, ℕ, ◌+◌, ◌-◌, ◌<◌, ◌≤◌, ◌⊎◌, Bool, true, false, cond, ◌||◌, List, [], ◌∷◌, ◌++◌, length, take, drop, Some, None, Option, refl, sym, ap, ◌∙◌, subst, inl, inr, ⊎_elim, arith, append_assoc, length-append, length-drop, length-take, nat_cmp}
+use Rattle.std.specs.Prelude.{IsSome, OnOk, eqb, Result, Ok, Err}
 use Rattle.std.specs.BTreeMap.{is_at}
 use Rattle.std.specs.List.Sorted.{IsStrictlySortedBy}
 use Rattle.std.specs.Map.{keys_of, values_of}
 use Rattle.std.proofs.lemmas.Bool.{cases_eq, cases_lt, ne_eqb, or_parts}
 use Rattle.std.proofs.lemmas.List.{take-append-drop}
-use Rattle.std.proofs.lemmas.List.Folds.{list_any-append, list_any_more}
+use Rattle.std.proofs.lemmas.List.Folds.{list_any-append}
 use Rattle.mr_base.specs.declared.byte.AbstractByte.{AbstractByte}
 use Rattle.mr_runs.specs.declared.mark.Mark.{Mark}
-use Rattle.mr_runs.specs.Exchanged.{begins, is_stake, last_mark, first_mark, staked, unstaked, IsBegun, IsEnded, IsExchanged, IsRow, IsSettled}
-use Rattle.mr_runs.specs.Pieces.{SeenPiece, UninitPiece, piece_len, AreMaximal}
+use Rattle.mr_runs.specs.Exchanged.{begins, last_mark, first_mark, staked, unstaked, IsBegun, IsEnded, IsExchanged, IsRow, IsSettled}
+use Rattle.mr_runs.specs.Pieces.{SeenPiece, piece_len, AreMaximal}
 use Rattle.mr_runs.specs.Placed.{bytes_in, found, total_len, IsPlaced, IsReplaced, IsTiled}
 use Rattle.mr_runs.specs.Ranges.{with_range_replaced}
 use Rattle.mr_runs.proofs.FindLaws.{maximal_rest, placed_rest, tiled_as, tiled_front}
 use Rattle.mr_runs.proofs.MaximalLaws.{apart_with_first, apart_with_last, first_mark-append, maximal_append, maximal_back, maximal_front, maximal_seam, AreApart}
 use Rattle.mr_runs.proofs.PlacedLaws.{bytes_in-append, length-bytes_in, none_before, none_behind, placed_append, placed_at, placed_back, placed_front, same_as_placed, total_len-append, values_of-append}
 use Rattle.mr_runs.proofs.RangeLaws.{length-with_range_replaced}
-use Rattle.mr_runs.proofs.Positions.{at_other, at_same, found_before, found_behind, found_here, found_later, same_at}
+use Rattle.mr_runs.proofs.Positions.{at_other, at_same, found_before, found_behind, found_here, found_later}
 
 -- two facts where a call succeeded
 pub on_ok_both : {T E P Q R : Type 0} (r : Result T E) → (P → Q → R) → OnOk r P → OnOk r Q → OnOk r R
@@ -38,106 +38,10 @@ filled_found (e ∷ es) q h = by_test (is_at (nat_cmp q) e.0) (filled_found es q
     by_test true rest = ap (λ b. cond b None (Some e.1)) (not_empty h.0)
     by_test false rest = rest
 
-staked_twice : (o : Option SeenPiece) → staked (staked o) ≡ staked o
-staked_twice None = refl
-staked_twice (Some p) = refl
-
-unstaked_twice : (o : Option SeenPiece) → unstaked (unstaked o) ≡ unstaked o
-unstaked_twice o = by_test (is_stake o) refl
-  where
-    by_test : (b : Bool) → is_stake o ≡ b → unstaked (cond b None o) ≡ cond b None o
-    by_test true is = refl
-    by_test false is = ap (λ b. cond b None o) is
-
 -- a position that is taken is given back as it was
 unstaked_staked : (o : Option SeenPiece) → unstaked o ≡ o → unstaked (staked o) ≡ o
 unstaked_staked None is = refl
 unstaked_staked (Some p) is = is
-
-pub staked_some : (o : Option SeenPiece) → is_some (staked o) ≡ true
-staked_some None = refl
-staked_some (Some p) = refl
-
--- one position: where a piece begins there, it is taken already, and else an empty one makes it so
-pub stake_there : (es : List (ℕ × SeenPiece)) (at q : ℕ) → is_some (found at es) ≡ true → found q es ≡ cond (is_at (nat_cmp at) q) (staked (found q es)) (found q es)
-stake_there es at q some = by_test (is_at (nat_cmp at) q) refl
-  where
-    same : (o : Option SeenPiece) → is_some o ≡ true → o ≡ staked o
-    same None some = absurd (cc)
-    same (Some p) some = refl
-
-    by_test : (b : Bool) → is_at (nat_cmp at) q ≡ b → found q es ≡ cond b (staked (found q es)) (found q es)
-    by_test true is = same (found q es) (ap (λ k. is_some (found k es)) (sym (same_at at q is)) ∙ some)
-    by_test false is = refl
-
-pub stake_new : (es fs : List (ℕ × SeenPiece)) (at q : ℕ) → found at es ≡ None → found q fs ≡ cond (is_at (nat_cmp at) q) (Some (UninitPiece 0)) (found q es)
-    → found q fs ≡ cond (is_at (nat_cmp at) q) (staked (found q es)) (found q es)
-stake_new es fs at q none is = is ∙ by_test (is_at (nat_cmp at) q) refl
-  where
-    by_test : (b : Bool) → is_at (nat_cmp at) q ≡ b → cond b (Some (UninitPiece 0)) (found q es) ≡ cond b (staked (found q es)) (found q es)
-    by_test true at_q = ap (λ (o : Option SeenPiece). staked o) (sym none ∙ ap (λ k. found k es) (same_at at q at_q))
-    by_test false at_q = refl
-
--- one position given back: an empty piece goes, and any other stays
-pub unstake_gone : (es fs : List (ℕ × SeenPiece)) (at q : ℕ) → is_stake (found at es) ≡ true → found q fs ≡ cond (is_at (nat_cmp at) q) None (found q es)
-    → found q fs ≡ cond (is_at (nat_cmp at) q) (unstaked (found q es)) (found q es)
-unstake_gone es fs at q stake is = is ∙ by_test (is_at (nat_cmp at) q) refl
-  where
-    by_test : (b : Bool) → is_at (nat_cmp at) q ≡ b → cond b None (found q es) ≡ cond b (unstaked (found q es)) (found q es)
-    by_test true at_q =
-        let here : is_stake (found q es) ≡ true = ap (λ k. is_stake (found k es)) (sym (same_at at q at_q)) ∙ stake in
-        sym (ap (λ b. cond b None (found q es)) here)
-    by_test false at_q = refl
-
-pub unstake_kept : (es : List (ℕ × SeenPiece)) (at q : ℕ) → is_stake (found at es) ≡ false → found q es ≡ cond (is_at (nat_cmp at) q) (unstaked (found q es)) (found q es)
-unstake_kept es at q none = by_test (is_at (nat_cmp at) q) refl
-  where
-    by_test : (b : Bool) → is_at (nat_cmp at) q ≡ b → found q es ≡ cond b (unstaked (found q es)) (found q es)
-    by_test true at_q =
-        let here : is_stake (found q es) ≡ false = ap (λ k. is_stake (found k es)) (sym (same_at at q at_q)) ∙ none in
-        sym (ap (λ b. cond b None (found q es)) here)
-    by_test false at_q = refl
-
--- one more position: f is what is done to what is there, and doing it twice does no more
-marked_more : (f : Option SeenPiece → Option SeenPiece) → ((o : Option SeenPiece) → f (f o) ≡ f o) → (a b : Bool) (o : Option SeenPiece)
-    → cond b (f (cond a (f o) o)) (cond a (f o) o) ≡ cond (a || b) (f o) o
-marked_more f twice true true o = twice o
-marked_more f twice true false o = refl
-marked_more f twice false true o = refl
-marked_more f twice false false o = refl
-
-begins_more : (row : List (ℕ × SeenPiece)) (i : ℕ) (e : ℕ × SeenPiece) (q : ℕ) → i < length row → e ≡ get_or row i e → (begins q (take i row) || is_at (nat_cmp e.0) q) ≡ begins q (take (i + 1) row)
-begins_more row i e q inside is =
-    ap (λ (x : ℕ × SeenPiece). begins q (take i row) || is_at (nat_cmp x.0) q) is
-    ∙ sym (list_any_more (λ (x : ℕ × SeenPiece). is_at (nat_cmp x.0) q) row i e inside)
-
--- the step of a loop that does this at the positions of a row
-marked_step : (f : Option SeenPiece → Option SeenPiece) → ((o : Option SeenPiece) → f (f o) ≡ f o)
-    → (old now new row : List (ℕ × SeenPiece)) (i : ℕ) (e : ℕ × SeenPiece) (q : ℕ) → i < length row → e ≡ get_or row i e
-    → found q now ≡ cond (begins q (take i row)) (f (found q old)) (found q old)
-    → found q new ≡ cond (is_at (nat_cmp e.0) q) (f (found q now)) (found q now)
-    → found q new ≡ cond (begins q (take (i + 1) row)) (f (found q old)) (found q old)
-marked_step f twice old now new row i e q inside is before step =
-    step
-    ∙ ap (λ (o : Option SeenPiece). cond (is_at (nat_cmp e.0) q) (f o) o) before
-    ∙ marked_more f twice (begins q (take i row)) (is_at (nat_cmp e.0) q) (found q old)
-    ∙ ap (λ b. cond b (f (found q old)) (found q old)) (begins_more row i e q inside is)
-
-pub staked_step : (old now new row : List (ℕ × SeenPiece)) (i : ℕ) (e : ℕ × SeenPiece) (q : ℕ) → i < length row → e ≡ get_or row i e
-    → found q now ≡ cond (begins q (take i row)) (staked (found q old)) (found q old)
-    → found q new ≡ cond (is_at (nat_cmp e.0) q) (staked (found q now)) (found q now)
-    → found q new ≡ cond (begins q (take (i + 1) row)) (staked (found q old)) (found q old)
-staked_step = marked_step (λ o. staked o) staked_twice
-
-pub unstaked_step : (old now new row : List (ℕ × SeenPiece)) (i : ℕ) (e : ℕ × SeenPiece) (q : ℕ) → i < length row → e ≡ get_or row i e
-    → found q now ≡ cond (begins q (take i row)) (unstaked (found q old)) (found q old)
-    → found q new ≡ cond (is_at (nat_cmp e.0) q) (unstaked (found q now)) (found q now)
-    → found q new ≡ cond (begins q (take (i + 1) row)) (unstaked (found q old)) (found q old)
-unstaked_step = marked_step (λ o. unstaked o) unstaked_twice
-
--- all positions of a row
-pub begins_all : (row : List (ℕ × SeenPiece)) (i q : ℕ) → length row ≤ i → begins q (take i row) ≡ begins q row
-begins_all row i q le = ap (begins q) (take_all i row le)
 
 -- what begins in a first part of a row begins in it
 begins_part : (row : List (ℕ × SeenPiece)) (i q : ℕ) → begins q row ≡ false → begins q (take i row) ≡ false
@@ -183,18 +87,6 @@ begins_behind (e ∷ row) at q h m le =
     let begin : e.0 ≡ at = h.0 in
     let filled : 0 < piece_len e.1 = m.0 in
     ap (λ b. b || begins q row) (at_other e.0 q (λ same. omega arith)) ∙ begins_behind row (at + piece_len e.1) q h.1 m.2 (omega arith)
-
-pub settled_start : (row old : List (ℕ × SeenPiece)) (end : ℕ) → IsRow row end → IsSettled row row old old end end
-settled_start row old end r =
-    let fits : total_len row ≤ end = r.fits in
-    record {
-      put = [];
-      is = sym (append-nil row);
-      last_is = omega arith;
-      before = λ q lt. refl;
-      within = λ q ge lt. absurd (omega arith);
-      behind = λ q ge. refl;
-    }
 
 -- the piece that is put next, in the row
 record Next (row rest : List (ℕ × SeenPiece)) (at : ℕ) (p : SeenPiece) (last end : ℕ) : Type 0 where
@@ -304,16 +196,6 @@ settled_step row rest at p old now cleared new last end r s before gone behind p
         kept q other
         ∙ ⊎_elim (λ l. gone q (omega arith) l ∙ sym (n.between q more l)) (λ g. behind q g ∙ s.within q g lt) (cases_lt q last)
 
--- all are put
-pub settled_end : (row old new : List (ℕ × SeenPiece)) (last end : ℕ) → IsSettled row [] old new last end → IsExchanged row old new end
-settled_end row old new last end s =
-    let last_is : last ≡ end - total_len row = omega (arith, s.last_is) in
-    record {
-      before = λ q lt. s.before q (omega arith);
-      within = λ q ge lt. s.within q (omega arith) lt;
-      behind = s.behind;
-    }
-
 -- the positions of the row were taken before: elsewhere that says nothing
 pub exchanged_from_staked : (row old taken new : List (ℕ × SeenPiece)) (end : ℕ) → IsRow row end
     → ((q : ℕ) → found q taken ≡ cond (begins q row) (staked (found q old)) (found q old)) → IsExchanged row taken new end → IsExchanged row old new end
@@ -327,11 +209,6 @@ exchanged_from_staked row old taken new end r staked_is x =
   where
     untaken : (q : ℕ) → begins q row ≡ false → found q taken ≡ found q old
     untaken q none = staked_is q ∙ ap (λ b. cond b (staked (found q old)) (found q old)) none
-
-pub taken_from_staked : (row old taken : List (ℕ × SeenPiece)) → ((q : ℕ) → found q taken ≡ cond (begins q row) (staked (found q old)) (found q old))
-    → (q : ℕ) → begins q row ≡ true → is_some (found q taken) ≡ true
-taken_from_staked row old taken staked_is q is =
-    ap (λ (o : Option SeenPiece). is_some o) (staked_is q ∙ ap (λ b. cond b (staked (found q old)) (found q old)) is) ∙ staked_some (found q old)
 
 -- ---- the bytes
 

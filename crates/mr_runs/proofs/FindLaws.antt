@@ -9,10 +9,10 @@ use Rattle.std.proofs.lemmas.Option.{same_Some}
 use Rattle.mr_base.specs.declared.byte.AbstractByte.{AbstractByte}
 use Rattle.mr_runs.specs.Pieces.{SeenPiece, bytes_of_piece, piece_len, AreMaximal}
 use Rattle.mr_runs.specs.Placed.{begun_from, bytes_in, found, total_len, Holds, IsPlaced, IsTiled}
-use Rattle.mr_runs.proofs.ListLaws.{slice_get_before, slice_get_behind}
 use Rattle.mr_runs.proofs.MaximalLaws.{maximal_back, maximal_front}
 use Rattle.mr_runs.proofs.PlacedLaws.{bytes_in-append, length-bytes_in, length-bytes_of_piece, none_behind, placed_back, placed_front, total_len-append, values_of-append}
 use Rattle.mr_runs.proofs.Positions.{found_behind, found_here, found_later, same_at}
+use Rattle.mr_base.proofs.Lists.{slice_get-append_left, slice_get-append_right}
 
 pub not_greater : (q k : ℕ) → q ≤ k → is_gt (nat_cmp q k) ≡ false
 not_greater q k le = by_order (nat_cmp q k) refl
@@ -149,9 +149,9 @@ byte_of_holder es at begin p b t h is =
     let from : begin ≤ at = h.from in
     let to : at < begin + piece_len p = h.to in
     ap (λ (bs : List AbstractByte). slice_get bs at) (holds_bytes es at begin p h)
-    ∙ slice_get_behind (bytes_in h.before) (bytes_of_piece p ++ bytes_in h.behind) at (omega arith)
+    ∙ slice_get-append_right (bytes_in h.before) (bytes_of_piece p ++ bytes_in h.behind) at (omega arith)
     ∙ ap (λ n. slice_get (bytes_of_piece p ++ bytes_in h.behind) (at - n)) len
-    ∙ slice_get_before (bytes_of_piece p) (bytes_in h.behind) (at - begin) (omega (arith, length-bytes_of_piece p))
+    ∙ slice_get-append_left (bytes_of_piece p) (bytes_in h.behind) (at - begin) (omega (arith, length-bytes_of_piece p))
     ∙ is
 
 -- ---- the pieces from one on

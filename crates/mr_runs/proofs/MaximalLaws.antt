@@ -55,9 +55,3 @@ apart_with_first xs ys zs m apart e f = λ n last first. apart n last (e ∙ sym
 
 pub apart_with_last : (xs ys zs : List SeenPiece) (m : Mark) → AreApart xs zs → last_mark xs ≡ Some m → last_mark ys ≡ Some m → AreApart ys zs
 apart_with_last xs ys zs m apart e f = λ n last first. apart n (e ∙ sym f ∙ last) first
-
-pub apart_from_nothing : (xs : List SeenPiece) → AreApart xs []
-apart_from_nothing xs = λ m last first. no_mark m first
-
-pub nothing_apart : (ys : List SeenPiece) → AreApart [] ys
-nothing_apart ys = λ m last first. no_mark m last

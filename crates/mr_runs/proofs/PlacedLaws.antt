@@ -1,5 +1,5 @@
 -- Pieces under the positions where they begin: their bytes, and what stands at a position.
-use Rattle.std.proofs.Common.{◌≡◌, ◌≢◌, ℕ, ◌+◌, ◌<◌, ◌≤◌, List, [], ◌∷◌, ◌++◌, length, Some, None, refl, sym, ap, ◌∙◌, subst, ⊎_elim, arith, append_assoc, length-append, nat_cmp, Less}
+use Rattle.std.proofs.Common.{◌≡◌, ◌≢◌, ℕ, ◌+◌, ◌<◌, ◌≤◌, List, [], ◌∷◌, ◌++◌, length, Some, None, refl, sym, ap, ◌∙◌, subst, ⊎_elim, arith, append_assoc, length-append, nat_cmp}
 use Rattle.std.proofs.lemmas.Bool.{cases_order, cases_eq}
 use Rattle.std.proofs.lemmas.List.{length-replicate, length-map}
 use Rattle.std.proofs.lemmas.Map.{lookup-none}
@@ -8,7 +8,6 @@ use Rattle.std.proofs.lemmas.Map.Keys.{IsDistinct-from_sorted, sorted_tail}
 use Rattle.std.proofs.lemmas.Option.{same_Some}
 use Rattle.std.specs.BTreeMap.{is_at}
 use Rattle.std.specs.Cmp.{nat_cmp_total, eq_by_cmp_equiv}
-use Rattle.std.specs.List.{AllByRecursion}
 use Rattle.std.specs.List.Sorted.{IsStrictlySortedBy}
 use Rattle.std.specs.Map.{keys_of, values_of}
 use Rattle.mr_base.specs.declared.byte.AbstractByte.{AbstractByte}
@@ -77,18 +76,6 @@ none_behind (e ∷ es) at q h m le =
     found_later q e es other ∙ none_behind es (at + piece_len e.1) q h.1 m.2 (omega arith)
 
 -- ---- the order of positions
-
-all_behind : (es : List (ℕ × SeenPiece)) (at x : ℕ) → IsPlaced es at → x < at → AllByRecursion (λ y. nat_cmp x y ≡ Less) (keys_of es)
-all_behind [] at x h lt = tt
-all_behind (e ∷ es) at x h lt = let begin : e.0 ≡ at = h.0 in (less x e.0 (omega arith), all_behind es (at + piece_len e.1) x h.1 (omega arith))
-
-pub sorted : (es : List (ℕ × SeenPiece)) (at : ℕ) → IsPlaced es at → AreMaximal (values_of es) → IsStrictlySortedBy nat_cmp (keys_of es)
-unfolding IsStrictlySortedBy
-sorted [] at h m = tt
-sorted (e ∷ es) at h m =
-    let begin : e.0 ≡ at = h.0 in
-    let filled : 0 < piece_len e.1 = m.0 in
-    (all_behind es (at + piece_len e.1) e.0 h.1 (omega arith), sorted es (at + piece_len e.1) h.1 m.2)
 
 not_Some : (x : SeenPiece) → None ≡ Some x → ⊥
 not_Some x e = cc

@@ -29,9 +29,6 @@ same_at q k at = by_order (nat_cmp q k) refl
     by_order Equal e = ranked q k Equal e
     by_order Greater e = let no : false ≡ true = ap is_eq e ∙ at in absurd (cc)
 
-pub other_at : (q k : ℕ) → is_at (nat_cmp q) k ≡ false → q ≢ k
-other_at q k at same = let no : true ≡ false = sym (at_same q k same) ∙ at in absurd (cc)
-
 pub less : (q k : ℕ) → q < k → nat_cmp q k ≡ Less
 less q k lt = by_order (nat_cmp q k) refl
   where

@@ -1,5 +1,5 @@
 -- A range replaced: its length, and one item more.
-use Rattle.std.proofs.Common.{◌≡◌, ℕ, suc, ◌+◌, ◌-◌, ◌<◌, ◌≤◌, List, [], ◌∷◌, ◌++◌, length, map, take, drop, get_or, set, sym, ap, ◌∙◌, arith, append_assoc, length-take, length-append, take_all, take-append-drop, append-nil}
+use Rattle.std.proofs.Common.{◌≡◌, ℕ, suc, ◌+◌, ◌-◌, ◌<◌, ◌≤◌, List, [], ◌∷◌, ◌++◌, length, map, take, drop, get_or, set, sym, ap, ◌∙◌, arith, append_assoc, length-take, length-append, take_all}
 use Rattle.std.proofs.lemmas.List.{drop-append-le, drop-map, length-map, map-append, take-append-le, take-map}
 use Rattle.std.proofs.Math.Seq.{drop-cons, set-append_seam}
 use Rattle.std.proofs.lemmas.Grind.{common_steps}
@@ -63,14 +63,3 @@ map_replaced {X} {Y} f old from new =
     ∙ ap (λ (xs : List Y). xs ++ map f new ++ map f (drop (from + length new) old)) (sym (take-map f from old))
     ∙ ap (λ (xs : List Y). take from (map f old) ++ map f new ++ xs) (sym (drop-map f (from + length new) old))
     ∙ ap (λ n. take from (map f old) ++ map f new ++ drop (from + n) (map f old)) (sym (length-map new f))
-
--- nothing replaced
-pub nothing_replaced : {X : Type 0} (old : List X) (from : ℕ) (new : List X) → length new ≡ 0 → old ≡ with_range_replaced old from new
-nothing_replaced {X} old from [] none =
-    sym (take-append-drop from old)
-    ∙ ap (λ n. take from old ++ drop n old) (no_more from)
-    ∙ ap (λ (xs : List X). xs ++ drop (from + 0) old) (sym (append-nil (take from old)))
-  where
-    no_more : (n : ℕ) → n ≡ n + 0
-    no_more n = omega arith
-nothing_replaced {X} old from (x ∷ new) none = absurd (omega arith)

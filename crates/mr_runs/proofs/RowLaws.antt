@@ -192,10 +192,6 @@ begun_byte es initial now new at i bytes b pushed inside is grown done begun end
     )
     (begun_push es now (done ++ take i bytes) (at + i) (one_piece b) new (grown done begun ends) pushed ends_now (omega (arith, piece_len-one_piece b)))
 
--- the empty row, with nothing before it
-pub begun_empty : (es : List (ℕ × SeenPiece)) → IsBegun es [] []
-begun_empty es = record { before = []; rest = es; is = refl; placed = tt; maximal = tt; bytes_are = refl; meets = inl refl }
-
 -- the row of what stands before a position in the piece that holds the one before it
 pub begun_front : (es : List (ℕ × SeenPiece)) (from begin : ℕ) (p q : SeenPiece) → IsTiled es → 0 < from → Holds es (from - 1) begin p
     → q ≡ first_piece (piece_past p 0) (from - begin) → IsBegun es ((begin, q) ∷ []) (take from (bytes_in es))

@@ -1,5 +1,5 @@
 -- What windows on pieces show.
-use Rattle.std.proofs.Common.{◌≡◌, ℕ, zero, suc, ◌+◌, ◌-◌, ◌<◌, ◌≤◌, ◌^◌, ◌⊎◌, cond, List, [], ◌∷◌, ◌++◌, length, take, drop, Some, None, Option, BTreeMap, refl, sym, ap, ◌∙◌, inl, inr, arith, length-drop, length-take, le-ltb, lt-ltb, take-take, drop-drop}
+use Rattle.std.proofs.Common.{◌≡◌, ℕ, zero, suc, ◌+◌, ◌-◌, ◌<◌, ◌≤◌, ◌⊎◌, cond, List, [], ◌∷◌, ◌++◌, length, take, drop, Some, None, Option, BTreeMap, refl, sym, ap, ◌∙◌, inl, inr, arith, length-drop, length-take, le-ltb, lt-ltb, take-take, drop-drop}
 use Rattle.std.specs.Prelude.{slice_get}
 use Rattle.std.specs.Map.{values_of}
 use Rattle.std.proofs.lemmas.Bool.{cases_lt}
@@ -9,9 +9,9 @@ use Rattle.mr_runs.specs.Pieces.{SeenPiece, bytes_of_pieces, piece_len, AreMaxim
 use Rattle.mr_runs.specs.Placed.{bytes_in, total_len, Holds, IsPlaced, IsTiled}
 use Rattle.mr_runs.specs.Windows.{clipped_piece, first_piece, first_pieces, lent_pieces, piece_past, pieces_past, IsLent}
 use Rattle.mr_runs.proofs.FindLaws.{holds_start, placed_rest, tiled_as}
-use Rattle.mr_runs.proofs.ListLaws.{slice_get-drop, slice_get-take}
 use Rattle.mr_runs.proofs.PlacedLaws.{length-bytes_in, values_of-append}
 use Rattle.mr_runs.proofs.WindowLaws.{bytes_of_pieces-first, bytes_of_pieces-past, maximal_first, maximal_past, piece_len-past, piece_past-zero}
+use Rattle.mr_base.proofs.Lists.{slice_get-drop, slice_get-take}
 
 -- ---- the bytes of a window
 
@@ -57,13 +57,6 @@ lent_part_bytes (Some runs) begin whole from len h inside =
 pub lent_maximal : (o : Option (BTreeMap ℕ SeenPiece)) (begin whole from len : ℕ) → IsLent o begin whole → AreMaximal (lent_pieces o (begin + from) len)
 lent_maximal None begin whole from len h = tt
 lent_maximal (Some runs) begin whole from len h = window_maximal runs.entries (begin + from) len h.0
-
-pub lent_part : (o : Option (BTreeMap ℕ SeenPiece)) (begin whole from len : ℕ) → IsLent o begin whole → from + len ≤ whole → IsLent o (begin + from) len
-lent_part None begin whole from len h inside = let none : whole ≡ 0 = h.0 in let fits : begin + whole < 2 ^ 64 = h.1 in (omega arith, omega arith)
-lent_part (Some runs) begin whole from len h inside =
-    let within : begin + whole ≤ total_len runs.entries = h.1 in
-    let fits : begin + whole < 2 ^ 64 = h.2 in
-    (h.0, omega arith, omega arith)
 
 pub window_byte : (es : List (ℕ × SeenPiece)) (from len at : ℕ) (b : AbstractByte) → at < len → slice_get (bytes_in es) (from + at) ≡ Some b
     → slice_get (bytes_of_pieces (first_pieces (pieces_past (values_of es) from) len)) at ≡ Some b

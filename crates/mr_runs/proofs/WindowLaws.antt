@@ -60,14 +60,6 @@ first_piece-all (UninitPiece len) n le = ap UninitPiece (smaller le)
     smaller le = omega arith
 first_piece-all (InitPiece numbers provenance) n le = ap (λ (ns : List ℕ). InitPiece ns provenance) (take_all n numbers le)
 
--- as many bytes as there are at most
-pub first_piece-min : (p : SeenPiece) (n : ℕ) → first_piece p (min n (piece_len p)) ≡ first_piece p n
-first_piece-min (UninitPiece len) n = ap UninitPiece (twice n len)
-  where
-    twice : (n len : ℕ) → min (min n len) len ≡ min n len
-    twice n len = omega arith
-first_piece-min (InitPiece numbers provenance) n = ap (λ (ns : List ℕ). InitPiece ns provenance) (take_min n numbers)
-
 -- ---- pieces past some bytes
 
 past_by : (p : SeenPiece) (ps : List SeenPiece) (n : ℕ) (b : Bool) → nat_lt n (piece_len p) ≡ b

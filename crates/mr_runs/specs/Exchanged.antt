@@ -1,5 +1,6 @@
 -- Pieces that are put together in a row, and put in place of others.
-use Rattle.std.specs.Prelude.{◌≡◌, ℕ, ◌+◌, ◌-◌, ◌<◌, ◌≤◌, Bool, false, ◌==◌, List, [], ◌∷◌, ◌++◌, length, drop, replicate, Option, Some, None, if◌then◌else◌, ◌⊎◌}
+use Rattle.std.specs.Prelude.{◌≡◌, ℕ, ◌+◌, ◌-◌, ◌<◌, ◌≤◌, Bool, false, ◌==◌, List, [], ◌∷◌, ◌++◌, length, drop}
+use Rattle.std.specs.Prelude.{replicate, Option, Some, None, if◌then◌else◌, ◌⊎◌}
 use Rattle.std.specs.List.{list_any}
 use Rattle.std.specs.Map.{values_of}
 use Rattle.std.specs.BTreeMap.{is_at}
@@ -61,7 +62,8 @@ pub record IsAdded (old : List (ℕ × SeenPiece)) (at : ℕ) (p : SeenPiece) (n
 abbrev pub IsPushed : List (ℕ × SeenPiece) → ℕ → SeenPiece → List (ℕ × SeenPiece) → Type 0
 IsPushed old at p new = IsJoined old p new ⊎ IsAdded old at p new
 
--- The row, behind some first pieces of `es`, has the bytes `bytes`. Where pieces stand before it, it begins as they went on.
+-- The row, behind some first pieces of `es`, has the bytes `bytes`. Where pieces stand before it, it begins as they
+-- went on.
 pub record IsBegun (es row : List (ℕ × SeenPiece)) (bytes : List AbstractByte) : Type 0 where
   pub before : List (ℕ × SeenPiece)
   pub rest : List (ℕ × SeenPiece)
@@ -69,10 +71,11 @@ pub record IsBegun (es row : List (ℕ × SeenPiece)) (bytes : List AbstractByte
   pub placed : IsPlaced row (total_len before)
   pub maximal : AreMaximal (values_of row)
   pub bytes_are : bytes_in before ++ bytes_in row ≡ bytes
-  pub meets : (before ≡ []) ⊎ ((m : Mark) × (first_mark (values_of row) ≡ Some m) × (first_mark (values_of rest) ≡ Some m))
+  pub meets :
+      (before ≡ []) ⊎ ((m : Mark) × (first_mark (values_of row) ≡ Some m) × (first_mark (values_of rest) ≡ Some m))
 
--- The row is ready to take the place of pieces of `es` up to the position `end`: it was made longer by the bytes between `to` and `end`.
--- Where pieces stand behind it, it ends as those did that stood before them.
+-- The row is ready to take the place of pieces of `es` up to the position `end`: it was made longer by the bytes
+-- between `to` and `end`. Where pieces stand behind it, it ends as those did that stood before them.
 pub record IsEnded (es old row : List (ℕ × SeenPiece)) (to end : ℕ) : Type 0 where
   pub front : List (ℕ × SeenPiece)
   pub behind : List (ℕ × SeenPiece)
@@ -80,8 +83,10 @@ pub record IsEnded (es old row : List (ℕ × SeenPiece)) (to end : ℕ) : Type 
   pub end_is : total_len front ≡ end
   pub more : List AbstractByte
   pub bytes_are : drop to (bytes_in es) ≡ more ++ bytes_in behind
-  pub grown : (fs : List (ℕ × SeenPiece)) (bytes : List AbstractByte) → IsBegun fs old bytes → length bytes ≡ to → IsBegun fs row (bytes ++ more)
-  pub meets : (behind ≡ []) ⊎ ((m : Mark) × (last_mark (values_of row) ≡ Some m) × (last_mark (values_of front) ≡ Some m))
+  pub grown : (fs : List (ℕ × SeenPiece)) (bytes : List AbstractByte) → IsBegun fs old bytes → length bytes ≡ to
+      → IsBegun fs row (bytes ++ more)
+  pub meets :
+      (behind ≡ []) ⊎ ((m : Mark) × (last_mark (values_of row) ≡ Some m) × (last_mark (values_of front) ≡ Some m))
 
 -- ---- a row in place of other pieces
 

@@ -15,8 +15,8 @@ abbrev pub IsLike : SeenPiece → List AbstractByte → Type 0
 IsLike (UninitPiece len) bytes = ⊥
 IsLike (InitPiece numbers provenance) bytes = AreOf provenance bytes
 
--- The piece under `begin` ends at the position `from`, and the bytes are like its own. Uninitialised bytes begin there, `rest` more
--- than these.
+-- The piece under `begin` ends at the position `from`, and the bytes are like its own. Uninitialised bytes begin there,
+-- `rest` more than these.
 pub record CanGrow (es : List (ℕ × SeenPiece)) (from : ℕ) (bytes : List AbstractByte) (begin rest : ℕ) : Type 0 where
   pub piece : SeenPiece
   pub some : 0 < from

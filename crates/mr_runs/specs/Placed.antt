@@ -18,7 +18,8 @@ abbrev pub total_len : List (ℕ × SeenPiece) → ℕ
 total_len [] = 0
 total_len (e ∷ es) = piece_len e.1 + total_len es
 
--- each stands under the position where it begins, right behind the one before, and the first at the position that is given
+-- each stands under the position where it begins, right behind the one before, and the first at the position that is
+-- given
 abbrev pub IsPlaced : List (ℕ × SeenPiece) → ℕ → Type 0
 IsPlaced [] at = Unit {0}
 IsPlaced (e ∷ es) at = (e.0 ≡ at) × IsPlaced es (at + piece_len e.1)

@@ -1,5 +1,6 @@
 -- A window of pieces: some bytes from a position on, in pieces.
-use Rattle.std.specs.Prelude.{◌≡◌, ℕ, zero, suc, ◌+◌, ◌-◌, ◌<◌, ◌≤◌, ◌^◌, min, nat_lt, if◌then◌else◌, List, [], ◌∷◌, take, drop, Option, Some, None}
+use Rattle.std.specs.Prelude.{◌≡◌, ℕ, zero, suc, ◌+◌, ◌-◌, ◌<◌, ◌≤◌, ◌^◌, min, nat_lt, if◌then◌else◌, List, [], ◌∷◌}
+use Rattle.std.specs.Prelude.{take, drop, Option, Some, None}
 use Rattle.std.specs.Map.{values_of}
 use Rattle.std.specs.BTreeMap.{BTreeMap}
 use Rattle.mr_runs.specs.Pieces.{SeenPiece, UninitPiece, InitPiece, piece_len}
@@ -18,7 +19,8 @@ first_piece (InitPiece numbers provenance) n = InitPiece (take n numbers) proven
 -- pieces without their first n bytes
 abbrev pub pieces_past : List SeenPiece → ℕ → List SeenPiece
 pieces_past [] n = []
-pieces_past (p ∷ pieces) n = (if nat_lt n (piece_len p) then piece_past p n ∷ pieces else pieces_past pieces (n - piece_len p))
+pieces_past (p ∷ pieces) n =
+    (if nat_lt n (piece_len p) then piece_past p n ∷ pieces else pieces_past pieces (n - piece_len p))
 
 -- the first n bytes of some pieces, or all
 abbrev pub first_pieces : List SeenPiece → ℕ → List SeenPiece
@@ -38,4 +40,5 @@ IsLent (Some runs) from len = IsTiled runs.entries × (from + len ≤ total_len 
 
 -- what a window from `from` up to `to` has of a piece that begins at `begin` and ends behind `from`
 abbrev pub clipped_piece : SeenPiece → ℕ → ℕ → ℕ → Option SeenPiece
-clipped_piece p begin from to = (if nat_lt begin to then Some (first_piece (piece_past p (from - begin)) (to - begin - (from - begin))) else None)
+clipped_piece p begin from to =
+    (if nat_lt begin to then Some (first_piece (piece_past p (from - begin)) (to - begin - (from - begin))) else None)

@@ -34,7 +34,8 @@ pub(crate) fn exchange(
 // Takes the positions of all runs of a row.
 fn stake_all(runs: &mut BTreeMap<u64, Run>, row: &[(u64, Run)]) -> Result<(), OutOfMemory>
     requires { IsTiled runs.old.entries }
-    ensures ok { OnOk result ((q : ℕ) → found q runs.new.entries ≡ cond (begins q row.now) (staked (found q runs.old.entries)) (found q runs.old.entries)) }
+    ensures ok { OnOk result ((q : ℕ) → found q runs.new.entries
+        ≡ cond (begins q row.now) (staked (found q runs.old.entries)) (found q runs.old.entries)) }
     ensures err { OnErr result (runs.new.entries ≡ runs.old.entries) }
 {
     for (at, _) in row {
@@ -52,7 +53,8 @@ fn stake_all(runs: &mut BTreeMap<u64, Run>, row: &[(u64, Run)]) -> Result<(), Ou
 
 // Takes a position: where no run begins, an empty one is put.
 fn stake(runs: &mut BTreeMap<u64, Run>, at: u64) -> Result<(), OutOfMemory>
-    ensures ok { OnOk result ((q : ℕ) → found q runs.new.entries ≡ cond (is_at (nat_cmp at) q) (staked (found q runs.old.entries)) (found q runs.old.entries)) }
+    ensures ok { OnOk result ((q : ℕ) → found q runs.new.entries
+        ≡ cond (is_at (nat_cmp at) q) (staked (found q runs.old.entries)) (found q runs.old.entries)) }
     ensures err { OnErr result (runs.new.entries ≡ runs.old.entries) }
 {
     if runs.contains_key(&at) {
@@ -64,7 +66,8 @@ fn stake(runs: &mut BTreeMap<u64, Run>, at: u64) -> Result<(), OutOfMemory>
 
 // Gives the positions of a row back.
 fn unstake_all(runs: &mut BTreeMap<u64, Run>, row: &[(u64, Run)])
-    ensures { (q : ℕ) → found q runs.new.entries ≡ cond (begins q row.now) (unstaked (found q runs.old.entries)) (found q runs.old.entries) }
+    ensures { (q : ℕ) → found q runs.new.entries
+        ≡ cond (begins q row.now) (unstaked (found q runs.old.entries)) (found q runs.old.entries) }
 {
     for (at, _) in row {
         unstake(runs, *at);
@@ -73,7 +76,8 @@ fn unstake_all(runs: &mut BTreeMap<u64, Run>, row: &[(u64, Run)])
 
 // Gives a position back: takes an empty run away.
 fn unstake(runs: &mut BTreeMap<u64, Run>, at: u64)
-    ensures { (q : ℕ) → found q runs.new.entries ≡ cond (is_at (nat_cmp at) q) (unstaked (found q runs.old.entries)) (found q runs.old.entries) }
+    ensures { (q : ℕ) → found q runs.new.entries
+        ≡ cond (is_at (nat_cmp at) q) (unstaked (found q runs.old.entries)) (found q runs.old.entries) }
 {
     if !is_staked(runs, at) {
         return;

@@ -28,7 +28,8 @@ pub(crate) fn write_behind(
     requires fits { from + length bytes.now < 2 ^ 64 }
     ensures done { IfOk result (λ did. IsTrue did → IsReplaced runs.old.entries runs.new.entries from bytes.now) }
     ensures not_done { IfOk result (λ did. did ≡ false → runs.new.entries ≡ runs.old.entries) }
-    ensures never { IfOk result (λ did. did ≡ false → (begin : ℕ) (rest : ℕ) → CanGrow runs.old.entries from bytes.now begin rest → ⊥) }
+    ensures never { IfOk result
+        (λ did. did ≡ false → (begin : ℕ) (rest : ℕ) → CanGrow runs.old.entries from bytes.now begin rest → ⊥) }
     ensures err { OnErr result (runs.new.entries ≡ runs.old.entries) }
 {
     let Some((begin, rest)) = growing(runs, from, bytes) else {
@@ -82,7 +83,9 @@ fn growing(runs: &BTreeMap<u64, Run>, from: u64, bytes: &[AbstractByte]) -> Opti
 
 // Puts numbers behind those of the run that begins at the position.
 fn grow(runs: &mut BTreeMap<u64, Run>, begin: u64, numbers: &[u8]) -> Result<(), OutOfMemory>
-    ensures ok { OnOk result ((p : SeenPiece) → found begin runs.old.entries ≡ Some p → (q : ℕ) → found q runs.new.entries ≡ cond (is_at (nat_cmp begin) q) (Some (with_numbers p numbers.now)) (found q runs.old.entries)) }
+    ensures ok { OnOk result ((p : SeenPiece) → found begin runs.old.entries ≡ Some p → (q : ℕ)
+        → found q runs.new.entries
+        ≡ cond (is_at (nat_cmp begin) q) (Some (with_numbers p numbers.now)) (found q runs.old.entries)) }
     ensures err { OnErr result ((q : ℕ) → found q runs.new.entries ≡ found q runs.old.entries) }
 {
     match runs.get_mut(&begin) {

@@ -26,7 +26,8 @@ pub(crate) fn write_in_place(
     requires some { 0 < length bytes.now }
     ensures done { IsTrue result → IsReplaced runs.old.entries runs.new.entries from bytes.now }
     ensures not_done { result ≡ false → runs.new.entries ≡ runs.old.entries }
-    ensures never { result ≡ false → (begin : ℕ) (piece : SeenPiece) → Holds runs.old.entries from begin piece → IsInPlace piece (from - begin) bytes.now → ⊥ }
+    ensures never { result ≡ false → (begin : ℕ) (piece : SeenPiece)
+        → Holds runs.old.entries from begin piece → IsInPlace piece (from - begin) bytes.now → ⊥ }
 {
     let (begin, run) = run_at(runs, from);
     if !run.takes(from - begin, bytes) {
@@ -50,7 +51,8 @@ pub(crate) fn put_in_place(
     requires tiled { IsTiled runs.old.entries }
     requires inside { from + length numbers.now ≤ total_len runs.old.entries }
     requires some { 0 < length numbers.now }
-    ensures done { IsTrue result → IsReplaced runs.old.entries runs.new.entries from (with_provenance provenance numbers.now) }
+    ensures done { IsTrue result
+        → IsReplaced runs.old.entries runs.new.entries from (with_provenance provenance numbers.now) }
     ensures not_done { result ≡ false → runs.new.entries ≡ runs.old.entries }
 {
     let (begin, run) = run_at(runs, from);

@@ -80,7 +80,8 @@ pub(crate) fn push_bytes(
 ) -> Result<(), OutOfMemory>
     requires room { total_len row.old.items ≤ at }
     requires fits { at + length bytes.now < 2 ^ 64 }
-    ensures { OnOk result ((es : List (ℕ × SeenPiece)) (done : List AbstractByte) → IsBegun es row.old.items done → length done ≡ at → IsBegun es row.new.items (done ++ bytes.now)) }
+    ensures { OnOk result ((es : List (ℕ × SeenPiece)) (done : List AbstractByte)
+        → IsBegun es row.old.items done → length done ≡ at → IsBegun es row.new.items (done ++ bytes.now)) }
 {
     match provenance_of(bytes) {
         Some(provenance) => {
@@ -100,7 +101,8 @@ fn push_each(
 ) -> Result<(), OutOfMemory>
     requires room { total_len row.old.items ≤ at }
     requires fits { at + length bytes.now < 2 ^ 64 }
-    ensures { OnOk result ((es : List (ℕ × SeenPiece)) (done : List AbstractByte) → IsBegun es row.old.items done → length done ≡ at → IsBegun es row.new.items (done ++ bytes.now)) }
+    ensures { OnOk result ((es : List (ℕ × SeenPiece)) (done : List AbstractByte)
+        → IsBegun es row.old.items done → length done ≡ at → IsBegun es row.new.items (done ++ bytes.now)) }
 {
     for (index, byte) in bytes.iter().enumerate() {
         push_byte(alloc, row, at + index as u64, *byte)?;

@@ -87,7 +87,8 @@ impl Runs {
         provenance: Option<AllocId>,
     ) -> Result<(), OutOfMemory>
         requires { from + length numbers.now ≤ length self.old }
-        ensures ok { OnOk result (self.new ≡ with_range_replaced self.old from (with_provenance provenance numbers.now)) }
+        ensures ok { OnOk result
+            (self.new ≡ with_range_replaced self.old from (with_provenance provenance numbers.now)) }
         ensures err { OnErr result (self.new ≡ self.old) }
     {
         let _all = self.len();

@@ -145,7 +145,8 @@ fn window<'a>(
 ) -> View<'a>
     requires lent { IsLent (option_copied runs) begin whole }
     requires inside { from + len ≤ whole }
-    ensures same { bytes_of_pieces result ≡ take len (drop from (bytes_of_pieces (lent_pieces (option_copied runs.entry) begin whole))) }
+    ensures same { bytes_of_pieces result
+        ≡ take len (drop from (bytes_of_pieces (lent_pieces (option_copied runs.entry) begin whole))) }
     ensures maximal { AreMaximal result }
 {
     View {
@@ -196,7 +197,8 @@ fn piece_of<'a>(runs: &'a BTreeMap<u64, Run>, from: u64, len: u64, n: usize) -> 
     requires tiled { IsTiled runs.now.entries }
     requires inside { from + len ≤ total_len runs.now.entries }
     requires fits { from + len < 2 ^ 64 }
-    ensures { option_map seen_piece result ≡ slice_get (first_pieces (pieces_past (values_of runs.now.entries) from) len) n }
+    ensures { option_map seen_piece result
+        ≡ slice_get (first_pieces (pieces_past (values_of runs.now.entries) from) len) n }
 {
     if len == 0 {
         return None;

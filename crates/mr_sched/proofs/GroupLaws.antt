@@ -2,7 +2,7 @@
 use Rattle.std.proofs.Common.{◌≡◌, ℕ, suc, zero, ◌+◌, ◌^◌, ◌<◌, ◌≤◌, Bool, true, false, if◌then◌else◌, eqb, ltb, List, [], ◌∷◌, ◌++◌, length, map, Option, Some, None, refl, sym, ap, subst, ◌∙◌, arith, inl, inr}
 use Rattle.std.specs.Prelude.{replicate, decimal, slice_index_or, option_map}
 use Rattle.std.specs.List.{AllByRecursion}
-use Rattle.std.proofs.lemmas.Bool.{ltb-true, lt-ltb, eqb-true, ne_eqb, eq-eqb}
+use Rattle.std.proofs.lemmas.Bool.{ltb-true, lt-ltb, eqb-true, ne_eqb, eq-eqb, and_parts}
 use Rattle.std.proofs.lemmas.Option.{cond_some}
 use Rattle.std.proofs.lemmas.List.{nil_from_length, length-append, length-replicate}
 use Rattle.mr_sched.specs.declared.schedule.Entry.{Entry}
@@ -15,7 +15,7 @@ use Rattle.mr_sched.specs.Versions.{AreLines, GroupFits, are_together, entries_i
 use Rattle.mr_sched.specs.Reading.{number_of, parts_at, entry_of, count_of, repeated_of, single, starred_of, group_of}
 use Rattle.mr_sched.proofs.Numerals.{spelled_from_number, number_of-decimal}
 use Rattle.mr_sched.proofs.Parts.{parts_at-free, parts_at-append}
-use Rattle.mr_sched.proofs.VersionLaws.{both_true, together_same}
+use Rattle.mr_sched.proofs.VersionLaws.{together_same}
 use Rattle.mr_sched.proofs.WordLaws.{and_then_some, decimal_free, entry_again, entry_free, entry_spelled, free-append, joined, map_some}
 
 -- ---- a line
@@ -212,8 +212,8 @@ groups_again v last (g ∷ gs) are =
 bare_self : (v : Version) (e : Entry) → are_together v e e ≡ true → (v ≡ Two) × (e.picks ≡ [])
 bare_self One e h = absurd cc
 bare_self Two e h =
-    let p = both_true (eqb e.thread e.thread) _ h in
-    let q = both_true (eqb (length e.picks) 0) _ p.1 in
+    let p = and_parts (eqb e.thread e.thread) _ h in
+    let q = and_parts (eqb (length e.picks) 0) _ p.1 in
     (refl, nil_from_length e.picks (eqb-true (length e.picks) 0 q.0))
 
 group_fits : (v : Version) (n : ℕ) (e : Entry) → EntryFits e → (1 ≤ n → are_together v e e ≡ true) → n + 1 < 2 ^ 64 → GroupFits v (record { entry = e; count = n + 1 })

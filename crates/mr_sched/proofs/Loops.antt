@@ -1,18 +1,18 @@
 -- Reading one item after the other, as the code does.
-use Rattle.std.proofs.Common.{◌≡◌, ℕ, zero, suc, ◌+◌, ◌-◌, ◌^◌, ◌<◌, ◌≤◌, true, false, eqb, List, [], ◌∷◌, ◌++◌, length, Option, Some, None, Result, Ok, Err, refl, sym, ap, subst, ◌∙◌, append_assoc, arith}
+use Rattle.std.proofs.Common.{◌≡◌, ℕ, ◌+◌, ◌^◌, ◌<◌, ◌≤◌, false, eqb, List, [], ◌∷◌, ◌++◌, length, Option, Some, None, Result, Ok, Err, refl, sym, ap, ◌∙◌, append_assoc, arith}
 use Rattle.std.specs.Prelude.{option_map, replicate, IfOk}
 use Rattle.std.specs.List.{join_with_byte}
-use Rattle.std.proofs.lemmas.Bool.{lt-ltb, le-ltb, ne_eqb}
+use Rattle.std.proofs.lemmas.Bool.{ne_eqb}
 use Rattle.std.proofs.lemmas.List.{append-nil, nil_from_length}
 use Rattle.std.proofs.lemmas.List.Splits.{join_with_byte-slice_split}
 use Rattle.mr_sched.specs.declared.fault.SchedFault.{SchedFault}
 use Rattle.mr_sched.specs.declared.fault.SchedFault.TheVariants.{Bad, Memory}
-use Rattle.mr_sched.specs.declared.fault.TheConstants.{BAD_LINE, TOO_LONG}
+use Rattle.mr_sched.specs.declared.fault.TheConstants.{BAD_LINE}
 use Rattle.mr_sched.specs.declared.schedule.Entry.{Entry}
 use Rattle.mr_sched.specs.declared.version.Group.{Group}
 use Rattle.mr_sched.specs.declared.version.Read.{Read}
 use Rattle.mr_sched.specs.declared.version.Version.{Version}
-use Rattle.mr_sched.specs.Versions.{GroupFits, joins, last_entry}
+use Rattle.mr_sched.specs.Versions.{GroupFits}
 use Rattle.mr_sched.specs.Reading.{Fault, Gives, at_line, body_of, entries_from, group_of, line_then, number_of, on_entries, parts_at, parts_after, picks_of, starred_of, start_of}
 use Rattle.mr_sched.proofs.FirstLines.{body_of-line, entries_from-line}
 use Rattle.mr_sched.proofs.GroupLaws.{group_spelled, length_with}
@@ -26,10 +26,6 @@ all_read es = Ok es
 pub some_at_line : {A : Type 0} (line : ℕ) (o : Option A) (x : A) → at_line line o ≡ Ok x → o ≡ Some x
 some_at_line line None x e = absurd cc
 some_at_line line (Some y) x e = cc
-
-pub none_at_line : {A : Type 0} (line : ℕ) (o : Option A) (f : Fault) → at_line line o ≡ Err f → (o ≡ None) × (record { line = line; code = BAD_LINE } ≡ f)
-none_at_line line None f e = (refl, cc)
-none_at_line line (Some y) f e = absurd cc
 
 -- ---- the picks of a line
 
@@ -106,31 +102,8 @@ entries_end v front n rest whole none so_far = sym so_far ∙ ap (λ (t : List �
 
 -- ---- a line
 
-pub line_joined : (v : Version) (front : List Entry) (line : ℕ) (g : Group) (o : Option Group) → at_line line o ≡ Ok g → joins v (last_entry None front) g.entry ≡ true
-    → line_then v front line o ≡ Err (record { line = line; code = BAD_LINE })
-line_joined v front line g o found joined = rw (some_at_line line o g found, joined) refl
-
-pub line_full : (v : Version) (front : List Entry) (line : ℕ) (g : Group) (o : Option Group) → at_line line o ≡ Ok g → joins v (last_entry None front) g.entry ≡ false → 2 ^ 22 < length front + g.count
-    → line_then v front line o ≡ Err (record { line = line; code = TOO_LONG })
-line_full v front line g o found apart full = rw (some_at_line line o g found, apart, lt-ltb (2 ^ 22) (length front + g.count) full) refl
-
-pub line_taken : (v : Version) (front : List Entry) (line : ℕ) (g : Group) (o : Option Group) → at_line line o ≡ Ok g → joins v (last_entry None front) g.entry ≡ false → length front + g.count ≤ 2 ^ 22
-    → line_then v front line o ≡ Ok (front ++ replicate g.count g.entry)
-line_taken v front line g o found apart few = rw (some_at_line line o g found, apart, le-ltb (2 ^ 22) (length front + g.count) few) refl
-
-pub line_fails : (v : Version) (front : List Entry) (line : ℕ) (o : Option Group) (f : SchedFault) → Gives {A = Group} (Err f) (at_line line o) → Gives {A = List Entry} (Err f) (line_then v front line o)
-line_fails v front line o Memory failed = tt
-line_fails v front line o (Bad k code) failed =
-    let none = none_at_line line o (record { line = k; code = code }) failed in
-    rw none.0 (ap (λ (f : Fault). Err f) none.1)
-
 pub line_fits : (v : Version) (text : List ℕ) (line : ℕ) (g : Group) → at_line line (group_of v text) ≡ Ok g → GroupFits v g
 line_fits v text line g found = (group_spelled v text g (some_at_line line (group_of v text) g found)).0
-
--- what was pushed is what the line gives
-pub pushed_line : (v : Version) (front : List Entry) (line : ℕ) (g : Group) (o : Option Group) (r : Result (List Entry) SchedFault) → at_line line o ≡ Ok g → joins v (last_entry None front) g.entry ≡ false
-    → length front + g.count ≤ 2 ^ 22 → Gives r (all_read (front ++ replicate g.count g.entry)) → Gives r (line_then v front line o)
-pushed_line v front line g o r found apart few given = subst (Gives r) (sym (line_taken v front line g o found apart few)) given
 
 pub pushed_more : (front : List Entry) (g : Group) (r : Result (List Entry) SchedFault) → 1 ≤ g.count → length front + g.count ≤ 2 ^ 22 → Gives r (all_read (front ++ replicate g.count g.entry))
     → IfOk r (λ es. (length front + 1 ≤ length es) × (length es ≤ 2 ^ 22))
@@ -145,19 +118,6 @@ pub starred_twice : (text thread after count more : List ℕ) → parts_at 42 te
 starred_twice text thread after count more one two =
     let p = parts_at-first 42 more in
     ap (starred_of text) (one ∙ ap (λ (ws : List (List ℕ)). thread ∷ ws) (two ∙ ap (λ (ws : List (List ℕ)). count ∷ ws) p.2))
-
--- one more of the entries of a line
-pub one_pushed : (es whole : List Entry) (left : ℕ) (e : Entry) → 1 < left → e.picks ≡ [] → es ++ replicate left e ≡ whole → (es ++ record { thread = e.thread; picks = [] } ∷ []) ++ replicate (left - 1) e ≡ whole
-one_pushed es whole zero e more bare so_far = absurd (omega arith)
-one_pushed es whole (suc left) e more bare so_far =
-    let made : Entry = record { thread = e.thread; picks = [] } in
-    let same : made ≡ e = ap (λ (ns : List ℕ). let x : Entry = record { thread = e.thread; picks = ns } in x) (sym bare) in
-    let less : suc left - 1 ≡ left = omega arith in
-    ap (λ (n : ℕ). (es ++ made ∷ []) ++ replicate n e) less
-    ∙ ap (λ (x : Entry). (es ++ x ∷ []) ++ replicate left e) same ∙ append_assoc es (e ∷ []) (replicate left e) ∙ so_far
-
-pub last_pushed : (es whole : List Entry) (left : ℕ) (e : Entry) → left ≡ 1 → es ++ replicate left e ≡ whole → es ++ e ∷ [] ≡ whole
-last_pushed es whole left e one so_far = sym (ap (λ (n : ℕ). es ++ replicate n e) one) ∙ so_far
 
 -- ---- line 2, and then the entries
 

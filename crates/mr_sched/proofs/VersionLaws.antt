@@ -1,9 +1,8 @@
 -- Lines of entries, by version.
 use Rattle.std.proofs.Common.{◌++◌, append_assoc, codes, map, ◌≡◌, ℕ, suc, zero, ◌+◌, ◌<◌, ◌≤◌, refl, ap, sym, ◌∙◌, arith, ◌⊎◌, inl, inr, drop, Bool, true, false, if◌then◌else◌, List, [], ◌∷◌, length}
 use Rattle.std.specs.Prelude.{◌==◌, ◌&&◌, flat_map, replicate, slice_index_or}
-use Rattle.std.proofs.lemmas.Bool.{eqb-true}
+use Rattle.std.proofs.lemmas.Bool.{eqb-true, and_parts}
 use Rattle.std.proofs.lemmas.List.{nil_from_length, replicate-append-replicate}
-use Rattle.std.proofs.lemmas.List.{get_or_default}
 use Rattle.mr_sched.specs.declared.schedule.Entry.{Entry}
 use Rattle.mr_sched.specs.declared.version.Group.{Group}
 use Rattle.mr_sched.specs.declared.version.Version.{Version}
@@ -28,11 +27,6 @@ line_small v es (suc k) = by (is_joined v es k) (line_small v es k)
     by : (b : Bool) → line_in v es k ≤ 3 + k → 3 + (if b then begun_to v es k else suc (begun_to v es k)) ≤ 3 + suc k
     by true h = omega (arith, h)
     by false h = omega (arith, h)
-
-pub joined_at : (v : Version) (es : List Entry) (k : ℕ) (d e n : Entry) → k + 1 < length es → are_together v (slice_index_or es k d) (slice_index_or es (k + 1) e) ≡ are_together v (slice_index_or es k n) (slice_index_or es (k + 1) n)
-joined_at v es k d e n within =
-    ap (λ x. are_together v x (slice_index_or es (k + 1) e)) (get_or_default es k d n (omega arith))
-    ∙ ap (are_together v (slice_index_or es k n)) (get_or_default es (k + 1) e n within)
 
 -- ---- where lines end
 
@@ -105,16 +99,12 @@ text_by_pieces v old a b c d e s p q r t u =
 
 -- ---- the entries of lines
 
-pub both_true : (a b : Bool) → (a && b) ≡ true → (a ≡ true) × (b ≡ true)
-both_true true b h = (refl, h)
-both_true false b h = absurd (cc)
-
 -- entries that stand on one line are the same
 pub together_same : (v : Version) (e f : Entry) → are_together v e f ≡ true → e ≡ f
 together_same One e f h = absurd (cc)
 together_same Two e f h =
-    let (thread, picks) = both_true (e.thread == f.thread) (has_no_pick e && has_no_pick f) h in
-    let (one, other) = both_true (has_no_pick e) (has_no_pick f) picks in
+    let (thread, picks) = and_parts (e.thread == f.thread) (has_no_pick e && has_no_pick f) h in
+    let (one, other) = and_parts (has_no_pick e) (has_no_pick f) picks in
     let same : e.picks ≡ f.picks = nil_from_length e.picks (eqb-true (length e.picks) 0 one) ∙ sym (nil_from_length f.picks (eqb-true (length f.picks) 0 other)) in
     λ i. record { thread = eqb-true e.thread f.thread thread i; picks = same i }
 

@@ -1,6 +1,8 @@
 -- The first fault of a text that is no schedule.
-use Rattle.std.specs.Prelude.{◌≡◌, ◌≢◌, ℕ, ◌+◌, ◌^◌, ◌<◌, ◌≤◌, ◌⊎◌, false, Option, None, List, [], ◌∷◌, ◌++◌, length, map, flat_map}
+use Rattle.std.specs.Prelude.{◌≡◌, ◌≢◌, ℕ, ◌+◌, ◌<◌, ◌≤◌, ◌⊎◌, false, Option, None, List, [], ◌∷◌, ◌++◌, length, map}
+use Rattle.std.specs.Prelude.{flat_map}
 use Rattle.std.specs.List.{AllByRecursion}
+use Rattle.mr_sched.specs.Limits.{max_bytes, max_entries}
 use Rattle.mr_sched.specs.declared.schedule.Entry.{Entry}
 use Rattle.mr_sched.specs.declared.fault.TheConstants.{BAD_HEADER, BAD_LINE, TOO_LONG}
 use Rattle.mr_sched.specs.declared.version.Group.{Group}
@@ -39,23 +41,26 @@ pub record HasUnendedLine (lines : List (List ℕ)) (rest : List ℕ) (good : Li
   pub begun : rest ≢ []
 
 -- behind the good lines, before which so many entries stand, the line may stand that holds the first entry too many
-pub record HasEntryTooMany (v : Version) (last : Option Entry) (before : ℕ) (lines : List (List ℕ)) (good : List Group) : Type 0 where
+pub record HasEntryTooMany (v : Version) (last : Option Entry) (before : ℕ) (lines : List (List ℕ))
+    (good : List Group) : Type 0 where
   pub group : Group
   pub more : List (List ℕ)
   pub parts : lines ≡ map group_line good ++ group_line group ∷ more
   pub fits : GroupFits v group
   pub apart : joins v (last_line last good) group.entry ≡ false
-  pub full : 2 ^ 22 < before + entry_count good + group.count
+  pub full : max_entries < before + entry_count good + group.count
 
--- behind a line of the last entry, before which so many entries stand, the lines from line number `from` on are wrong at this
--- line with this code: those before it are good
-pub record EntriesFail (v : Version) (last : Option Entry) (before from : ℕ) (lines : List (List ℕ)) (rest : List ℕ) (line code : ℕ) : Type 0 where
+-- behind a line of the last entry, before which so many entries stand, the lines from line number `from` on are wrong
+-- at this line with this code: those before it are good
+pub record EntriesFail (v : Version) (last : Option Entry) (before from : ℕ) (lines : List (List ℕ)) (rest : List ℕ)
+    (line code : ℕ) : Type 0 where
   pub good : List Group
   pub are_good : AreLines v last good
-  pub few : before + entry_count good ≤ 2 ^ 22
+  pub few : before + entry_count good ≤ max_entries
   pub place : line ≡ from + length good
   pub why : (HasOtherLine v last lines good × (code ≡ BAD_LINE))
-      ⊎ ((HasUnendedLine lines rest good × (code ≡ BAD_LINE)) ⊎ (HasEntryTooMany v last before lines good × (code ≡ TOO_LONG)))
+      ⊎ ((HasUnendedLine lines rest good × (code ≡ BAD_LINE))
+      ⊎ (HasEntryTooMany v last before lines good × (code ≡ TOO_LONG)))
 
 -- line 2 is missing, isn't ended, or spells no start picks
 abbrev pub HasBadStart : List (List ℕ) → Type 0
@@ -65,7 +70,8 @@ HasBadStart lines = (first : List ℕ) (more : List (List ℕ)) → lines ≡ fi
 abbrev pub BodyFails : Version → List (List ℕ) → List ℕ → ℕ → ℕ → Type 0
 BodyFails v lines rest line code =
     (HasBadStart lines × (line ≡ 2) × (code ≡ BAD_LINE))
-    ⊎ ((first : List ℕ) × (more : List (List ℕ)) × (lines ≡ first ∷ more) × IsStartLine first × EntriesFail v None 0 3 more rest line code)
+    ⊎ ((first : List ℕ) × (more : List (List ℕ)) × (lines ≡ first ∷ more) × IsStartLine first
+    × EntriesFail v None 0 3 more rest line code)
 
 -- line 1 is no header, or it isn't ended
 abbrev pub HasBadHeader : List (List ℕ) → Type 0
@@ -80,6 +86,6 @@ LinesFail lines rest line code =
 -- the first fault of the text, at this line and with this code: too many bytes, or else the first line that is wrong
 abbrev pub FirstFault : List ℕ → ℕ → ℕ → Type 0
 FirstFault text line code =
-    ((2 ^ 26 < length text) × (line ≡ 1) × (code ≡ TOO_LONG))
-    ⊎ ((length text ≤ 2 ^ 26) × ((lines : List (List ℕ)) × (rest : List ℕ) × Lines text lines rest
+    ((max_bytes < length text) × (line ≡ 1) × (code ≡ TOO_LONG))
+    ⊎ ((length text ≤ max_bytes) × ((lines : List (List ℕ)) × (rest : List ℕ) × Lines text lines rest
     × LinesFail lines rest line code))

@@ -1,10 +1,12 @@
 -- Reading a schedule from its text, as functions on lists that compute.
 use Rattle.std.specs.Prelude.{◌≡◌, ℕ, ◌+◌, ◌^◌, Bool, false, ◌&&◌, not, if◌then◌else◌, ◌==◌, nat_lt, List, [], ◌∷◌}
-use Rattle.std.specs.Prelude.{◌++◌, replicate, length, Option, Some, None, Result, Ok, Err, option_and_then, option_map, bytes_eq, codes}
+use Rattle.std.specs.Prelude.{◌++◌, replicate, length, Option, Some, None, Result, Ok, Err, option_and_then, option_map}
+use Rattle.std.specs.Prelude.{bytes_eq, codes}
 use Rattle.std.specs.List.{slice_split}
 use Rattle.std.specs.Char.{is_ascii_digit}
 use Rattle.std.specs.Str.{all_ascii_digits}
 use Rattle.std.specs.Str.Parse.{digits_value}
+use Rattle.mr_sched.specs.Limits.{max_bytes, max_entries}
 use Rattle.mr_sched.specs.declared.fault.SchedFault.{SchedFault}
 use Rattle.mr_sched.specs.declared.fault.SchedFault.TheVariants.{Bad, Memory}
 use Rattle.mr_sched.specs.declared.fault.TheConstants.{BAD_HEADER, BAD_LINE, TOO_LONG}
@@ -75,7 +77,8 @@ count_of word = option_and_then (λ n. if nat_lt 1 n then Some n else None) (num
 -- the entries that a thread and a count spell
 unfoldable pub repeated_of : List ℕ → List ℕ → Option Group
 repeated_of thread count =
-    option_and_then (λ t. option_map (λ n. record { entry = record { thread = t; picks = [] }; count = n }) (count_of count))
+    option_and_then
+    (λ t. option_map (λ n. record { entry = record { thread = t; picks = [] }; count = n }) (count_of count))
     (number_of (2 ^ 32) thread)
 
 -- an entry that stands alone on its line
@@ -99,7 +102,7 @@ abbrev pub line_then : Version → List Entry → ℕ → Option Group → Resul
 line_then v front line None = Err (record { line = line; code = BAD_LINE })
 line_then v front line (Some g) =
     if joins v (last_entry None front) g.entry then Err (record { line = line; code = BAD_LINE })
-    else if nat_lt (2 ^ 22) (length front + g.count) then Err (record { line = line; code = TOO_LONG })
+    else if nat_lt max_entries (length front + g.count) then Err (record { line = line; code = TOO_LONG })
     else Ok (front ++ replicate g.count g.entry)
 
 -- what comes of entries, where there is no fault
@@ -147,5 +150,5 @@ lines_schedule (line ∷ next ∷ lines) = header_then (version_of line) (next �
 -- the schedule and the version that the text spells, or its first fault
 unfoldable pub schedule_of : List ℕ → Result Read Fault
 schedule_of text =
-    if nat_lt (2 ^ 26) (length text) then Err (record { line = 1; code = TOO_LONG })
+    if nat_lt max_bytes (length text) then Err (record { line = 1; code = TOO_LONG })
     else lines_schedule (parts_at 10 text)

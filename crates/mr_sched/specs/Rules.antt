@@ -2,6 +2,7 @@
 use Rattle.std.specs.Prelude.{ℕ, ◌==◌, List, [], ◌∷◌, codes, Option}
 use Rattle.std.specs.List.{find}
 use Rattle.std.specs.Option.{option_map_or}
+use Rattle.mr_sched.specs.declared.fault.TheConstants.{BAD_HEADER, BAD_LINE, TOO_LONG}
 use Rattle.mr_sched.specs.declared.rule.ScheduleRule.{ScheduleRule}
 use Rattle.mr_sched.specs.declared.rule.ScheduleRule.TheVariants.{BadHeader, BadLine, TooLong, NotEnabled, MissingPick}
 use Rattle.mr_sched.specs.declared.rule.ScheduleRule.TheVariants.{ExtraPick, BadAddress, Reused, NotWaiting, AfterStop}
@@ -9,9 +10,9 @@ use Rattle.mr_sched.specs.declared.rule.ScheduleRule.TheVariants.{TooManyThreads
 
 -- each rule has a number: those of the text from 50 on, and those of a step from 60 on
 abbrev pub code_of : ScheduleRule → ℕ
-code_of BadHeader = 50
-code_of BadLine = 51
-code_of TooLong = 52
+code_of BadHeader = BAD_HEADER
+code_of BadLine = BAD_LINE
+code_of TooLong = TOO_LONG
 code_of NotEnabled = 60
 code_of MissingPick = 61
 code_of ExtraPick = 62

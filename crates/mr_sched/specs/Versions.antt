@@ -1,6 +1,9 @@
 -- The text of a schedule in each version.
-use Rattle.std.specs.Prelude.{◌≡◌, ℕ, suc, zero, ◌+◌, ◌^◌, ◌<◌, ◌≤◌, ◌⊎◌, Bool, false, ◌&&◌, ◌==◌, if◌then◌else◌, Option, Some, None}
-use Rattle.std.specs.Prelude.{List, [], ◌∷◌, ◌++◌, length, map, flat_map, replicate, take, codes, decimal, slice_index_or}
+use Rattle.std.specs.Prelude.{◌≡◌, ℕ, suc, zero, ◌+◌, ◌^◌, ◌<◌, ◌≤◌, ◌⊎◌, Bool, false, ◌&&◌, ◌==◌, if◌then◌else◌}
+use Rattle.std.specs.Prelude.{Option, Some, None}
+use Rattle.std.specs.Prelude.{List, [], ◌∷◌, ◌++◌, length, map, flat_map, replicate, take, codes, decimal}
+use Rattle.std.specs.Prelude.{slice_index_or}
+use Rattle.mr_sched.specs.Limits.{max_bytes, max_entries}
 use Rattle.mr_sched.specs.declared.schedule.Entry.{Entry}
 use Rattle.mr_sched.specs.declared.schedule.Schedule.{Schedule}
 use Rattle.mr_sched.specs.declared.version.Group.{Group}
@@ -54,10 +57,10 @@ groups_text gs = flat_map (λ g. ended (group_line g)) gs
 unfoldable pub text_in : Version → Schedule → List ℕ
 text_in v s = flat_map ended (lines_in v s)
 
--- at most 2 ^ 22 entries, in at most 2 ^ 26 bytes
+-- at most so many entries, in at most so many bytes as a schedule may have
 pub record IsWithinLimits (v : Version) (s : Schedule) : Type 0 where
-  pub entries : length s.entries ≤ 2 ^ 22
-  pub bytes : length (text_in v s) ≤ 2 ^ 26
+  pub entries : length s.entries ≤ max_entries
+  pub bytes : length (text_in v s) ≤ max_bytes
 
 -- the text is that of the schedule in the version, which fits and is within the limits
 pub record Schedules (text : List ℕ) (v : Version) (s : Schedule) : Type 0 where

@@ -93,7 +93,8 @@ fn print_end(
 ) -> Result<usize, AllocError>
     requires there { at < length entries.now }
     requires few { count ≤ at }
-    ensures ok { IfOk result (λ left. out.new.items ++ groups_text (groups_behind v left (drop (at + 1) entries.now)) ≡ out.old.items ++ groups_text (groups_behind v count (drop at entries.now))) }
+    ensures ok { IfOk result (λ left. out.new.items ++ groups_text (groups_behind v left (drop (at + 1) entries.now))
+        ≡ out.old.items ++ groups_text (groups_behind v count (drop at entries.now))) }
     ensures fewer { IfOk result (λ left. left ≤ at + 1) }
     ensures more { Extends out.old.items out.new.items }
 {
@@ -106,7 +107,8 @@ fn print_end(
 
 // The line of an entry that stands there so many times.
 fn print_group(entry: &Entry, count: usize, out: &mut Vec<u8>) -> Result<(), AllocError>
-    ensures ok { OnOk result (out.new.items ≡ out.old.items ++ ended (group_line (record { entry = entry.now; count = count }))) }
+    ensures ok { OnOk result
+        (out.new.items ≡ out.old.items ++ ended (group_line (record { entry = entry.now; count = count }))) }
     ensures err { OnErr result (Extends out.old.items out.new.items) }
 {
     if count == 1 {

@@ -2,6 +2,7 @@
 ghost use Rattle.std.specs.Prelude.{◌≡◌, ℕ, ◌^◌, ◌<◌, ◌≤◌, List, [], ◌∷◌, ◌++◌, length, replicate, IfSome, IfOk, option_copied, SomeIff, position, ◌==◌, ◌+◌, ◌*◌, ◌↔◌, IsTrue, slice_index};
 ghost use Rattle.std.specs.Char.{digit_value};
 ghost use Rattle.std.specs.Str.Parse.{AllDigits, digits_value};
+ghost use Rattle.mr_sched.specs.Limits.{max_entries};
 ghost use Rattle.mr_sched.specs.declared.schedule.Entry.{Entry};
 ghost use Rattle.mr_sched.specs.declared.schedule.Schedule.{Schedule};
 ghost use Rattle.mr_sched.specs.declared.version.Read.{Read};
@@ -128,9 +129,9 @@ fn read_line(
     line: u32,
     entries: Items<Entry>,
 ) -> Result<Items<Entry>, SchedFault>
-    requires { length entries ≤ 2 ^ 22 }
+    requires { length entries ≤ max_entries }
     ensures given { Gives result (line_then v entries line (group_of v text.now)) }
-    ensures more { IfOk result (λ es. (length entries + 1 ≤ length es) × (length es ≤ 2 ^ 22)) }
+    ensures more { IfOk result (λ es. (length entries + 1 ≤ length es) × (length es ≤ max_entries)) }
 {
     let group = read_group(alloc, v, text, line)?;
     if joins(v, entries.as_slice(), &group.entry) {

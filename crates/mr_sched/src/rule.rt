@@ -3,6 +3,8 @@ ghost use Rattle.std.specs.Prelude.{◌≡◌, IfSome, Some};
 ghost use Rattle.mr_sched.specs.Rules.{code_of, name_of, rule_of};
 ghost use Rattle.mr_sched.specs.declared.rule.ScheduleRule.{ScheduleRule as Rule};
 
+use crate::fault::{BAD_HEADER, BAD_LINE, TOO_LONG};
+
 /// Which rule a schedule breaks: one of its text, or one of a step that it records.
 #[derive(Clone, Copy, Debug, PartialEq, Eq)]
 pub enum ScheduleRule {
@@ -38,9 +40,9 @@ impl ScheduleRule {
         ensures { result ≡ code_of self }
     {
         match self {
-            ScheduleRule::BadHeader => 50,
-            ScheduleRule::BadLine => 51,
-            ScheduleRule::TooLong => 52,
+            ScheduleRule::BadHeader => BAD_HEADER,
+            ScheduleRule::BadLine => BAD_LINE,
+            ScheduleRule::TooLong => TOO_LONG,
             ScheduleRule::NotEnabled => 60,
             ScheduleRule::MissingPick => 61,
             ScheduleRule::ExtraPick => 62,
@@ -80,9 +82,9 @@ impl ScheduleRule {
         ensures is { result ≡ rule_of code }
     {
         match code {
-            50 => Some(ScheduleRule::BadHeader),
-            51 => Some(ScheduleRule::BadLine),
-            52 => Some(ScheduleRule::TooLong),
+            BAD_HEADER => Some(ScheduleRule::BadHeader),
+            BAD_LINE => Some(ScheduleRule::BadLine),
+            TOO_LONG => Some(ScheduleRule::TooLong),
             60 => Some(ScheduleRule::NotEnabled),
             61 => Some(ScheduleRule::MissingPick),
             62 => Some(ScheduleRule::ExtraPick),

@@ -1,5 +1,6 @@
 //! The versions of the text of a schedule, and which entries stand on one line.
-ghost use Rattle.std.specs.Prelude.{◌≡◌, ◌<◌, ◌≤◌, ◌+◌, ◌^◌, None, length};
+ghost use Rattle.std.specs.Prelude.{◌≡◌, ◌<◌, ◌≤◌, ◌+◌, None, length};
+ghost use Rattle.mr_sched.specs.Limits.{max_entries};
 ghost use Rattle.mr_sched.specs.Versions.{are_together, is_joined, joins, last_entry, line_in};
 
 use crate::schedule::{Entry, Schedule};
@@ -62,7 +63,7 @@ pub(crate) fn is_joined(v: Version, entries: &[Entry], at: usize) -> bool
 #[tactic(auto, using(crate::proofs::VersionLaws::line_next, crate::proofs::VersionLaws::line_small))]
 pub fn line_of(v: Version, s: &Schedule, entry: usize) -> u32
     requires there { entry < length s.now.entries }
-    requires few { length s.now.entries ≤ 2 ^ 22 }
+    requires few { length s.now.entries ≤ max_entries }
     ensures { result ≡ line_in v s.now.entries entry }
 {
     let entries = s.entries.as_slice();

@@ -2,7 +2,7 @@
 use Rattle.std.proofs.Common.{◌≡◌, ℕ, sym, ◌∙◌, ap, arith, List, [], ◌∷◌, ◌++◌, map, Bool, false, not, ◌&&◌}
 use Rattle.std.specs.Prelude.{◌==◌, slice_index_or}
 use Rattle.std.specs.List.{filter}
-use Rattle.mr_event.specs.declared.footprint.Footprint.{Footprint}
+use Rattle.mr_event.specs.Footprint.{Footprint}
 use Rattle.mr_event.specs.Order.{places}
 use Rattle.mr_order.specs.Trace.{IsFirstPair, short_keeps}
 use Rattle.mr_order.proofs.Lists.{Each-places, Each-weaker, filter-agree}

@@ -1,6 +1,6 @@
 -- Which steps the second step of a race needs.
 use Rattle.std.specs.Prelude.{◌≡◌, ℕ, ◌<◌, ◌⊎◌, ◌↔◌, Bool, true, false, List, length, slice_index, slice_index_or}
-use Rattle.mr_event.specs.declared.footprint.Footprint.{Footprint}
+use Rattle.mr_event.specs.Footprint.{Footprint}
 use Rattle.mr_event.specs.Order.{AreRivals}
 use Rattle.mr_clocks.specs.Whole.{IsUpTo}
 

@@ -17,20 +17,8 @@ ghost use Rattle.mr_short.specs.Short.{short_schedule};
 use mr_clocks::{RunOrder, are_rivals};
 use mr_event::{Footprint, OutOfMemory, Pair};
 use mr_sched::{Entry, Items, Schedule};
+use mr_witness::entry_copied;
 use std::alloc::Global;
-
-// A copy of the entry at a place.
-fn entry_copied(alloc: Global, entries: &[Entry], k: usize) -> Result<Entry, OutOfMemory>
-    requires { k < length entries.now }
-    ensures { IfOk result (λ copy. copy ≡ entry_at entries.now k) }
-{
-    let entry = &entries[k];
-    let picks = Items::from_slice(alloc, entry.picks.as_slice())?;
-    Ok(Entry {
-        thread: entry.thread,
-        picks,
-    })
-}
 
 // The rivals of step `j` before it, and step `j`.
 fn ends_of(alloc: Global, run: &[Footprint], j: usize) -> Result<Vec<usize>, OutOfMemory>
@@ -75,7 +63,8 @@ fn chosen(
 ) -> Result<Items<Entry>, OutOfMemory>
     requires marks { pair.second < length marks.now }
     requires within { pair.second < length entries.now }
-    ensures { IfOk result (λ copies. copies ≡ map (entry_at entries.now) (filter (λ k. slice_index_or marks.now k false && not (k == pair.first)) (places pair.second))) }
+    ensures { IfOk result (λ copies. copies ≡ map (entry_at entries.now)
+        (filter (λ k. slice_index_or marks.now k false && not (k == pair.first)) (places pair.second))) }
 {
     let mut copies = Items::new(alloc);
     for k in 0..pair.second {
@@ -99,9 +88,12 @@ pub fn short(
     requires many { length run.now ≤ length s.now.entries }
     requires first { (rest : List PairOf) × (predicted run.now ≡ pair ∷ rest) }
     ensures short { IfOk result (λ v. v ≡ short_schedule run.now s.now pair.first pair.second) }
-    ensures witness { IfOk result (λ v. (p : Program) → WellFormed p → Legal p s.now → steps_of p s.now ≡ run.now → IsWitness p s.now pair.first pair.second v) }
-    ensures among { IfOk result (λ v. (e : EntryOf) → Contains v.entries e → Contains (kept_schedule run.now s.now pair.first pair.second).entries e) }
-    ensures no_longer { IfOk result (λ v. length v.entries ≤ length (kept_schedule run.now s.now pair.first pair.second).entries) }
+    ensures witness { IfOk result (λ v. (p : Program) → WellFormed p → Legal p s.now
+        → steps_of p s.now ≡ run.now → IsWitness p s.now pair.first pair.second v) }
+    ensures among { IfOk result (λ v. (e : EntryOf) → Contains v.entries e
+        → Contains (kept_schedule run.now s.now pair.first pair.second).entries e) }
+    ensures no_longer { IfOk result
+        (λ v. length v.entries ≤ length (kept_schedule run.now s.now pair.first pair.second).entries) }
 {
     let marks = marks_of(alloc, run, pair.second)?;
     let recorded = s.entries.as_slice();

@@ -1,24 +1,25 @@
 -- The fronts of the threads tell which are ready, and stay so behind one more step.
-use Rattle.std.proofs.Common.{◌≡◌, ◌≢◌, ℕ, suc, ◌+◌, ◌-◌, ◌<◌, ◌≤◌, ◌^◌, refl, sym, ◌∙◌, ap, subst, arith, List, [], ◌∷◌, ◌++◌, length, get_or, set, Bool, true, false, Some, None, cond, inl, inr, IsTrue, ◌↔◌, zero-add, append-nil, append_assoc}
+use Rattle.std.proofs.Common.{◌≡◌, ◌≢◌, ℕ, suc, ◌+◌, ◌-◌, ◌<◌, ◌≤◌, ◌^◌, refl, sym, ◌∙◌, ap, subst, arith, List, [], ◌∷◌, ◌++◌, length, get_or, set, Bool, true, false, Some, None, cond, inl, inr, IsTrue, ◌↔◌, append-nil, append_assoc}
 use native.Mathlib.Decide.{ℕ_discrete, dec_lt}
 use Rattle.std.specs.Prelude.{◌==◌, nat_lt, not, ◌&&◌}
 use Rattle.std.specs.List.{filter, find}
-use Rattle.std.proofs.lemmas.Bool.{and_from, and_parts, both_ways, cases_Bool, eq-eqb, eqb-true, ne_eqb, not-true, lt-ltb, le-ltb, ltb-true, ltb-false}
+use Rattle.std.proofs.lemmas.Bool.{and_from, and_parts, both_ways, cases_Bool, eq-eqb, eqb-true, ne_eqb, not-true, lt-ltb, le-ltb, ltb-true, ltb-false, false_from_ne_true}
 use Rattle.std.proofs.lemmas.List.{get_or-set_same, get_or-set_other, get_or_default, get_or_past, get_or_read, length-set}
 use Rattle.std.proofs.lemmas.List.Elements.{filter-append}
-use Rattle.mr_event.specs.declared.footprint.Footprint.{Footprint}
+use Rattle.mr_event.specs.Footprint.{Footprint}
 use Rattle.mr_event.specs.Order.{places, thread_at}
 use Rattle.mr_event.specs.Predicted.{happens_before}
 use Rattle.mr_event.proofs.Ordered.{HappensBefore-before}
 use Rattle.mr_event.proofs.Tests.{happens_before_is, not_false}
 use Rattle.mr_clocks.specs.Whole.{AreFronts, IsReady, front_of}
 use Rattle.mr_order.specs.Trace.{IsAmong}
-use Rattle.mr_order.proofs.Lists.{Ahead, Ahead-filter, Ahead-places, Each, Each-filter, Each-places, Each-weaker, filter-kept, filter-left_out, range_with_len-parts}
+use Rattle.mr_order.proofs.Lists.{Ahead, Ahead-filter, Ahead-places, Each, Each-filter, Each-places, Each-weaker, filter-kept, filter-left_out}
 use Rattle.mr_shuffle.specs.Board.{IsBoard, IsNextOf, left_of}
 use Rattle.mr_shuffle.specs.Shuffled.{above_threads, drawn_step, earliest_of, free_step, is_free, is_ready, placed_in, ready_threads, shuffled_order, step_or_first, without}
 use Rattle.mr_sched.specs.declared.chooser.Chooser.{Chooser}
 use Rattle.mr_sched.specs.Chooser.{behind_draw, drawn_from, first_chooser}
 use Rattle.mr_shuffle.proofs.Drawn.{AreLeft, among_each, among_filter, among_places, any_among, drawn_below, drawn_ready, filter_among, next_step, none_each, places_length, some_ready, thread_below, without_length}
+use Rattle.mr_witness.proofs.Chosen.{one_more_place}
 
 -- ---- lists
 
@@ -61,10 +62,6 @@ same_truth false false f g = refl
 each_among : (P : ℕ → Type 0) (xs : List ℕ) → ((k : ℕ) → IsAmong k xs → P k) → Each P xs
 each_among P [] f = tt
 each_among P (x ∷ xs) f = (f x (inl refl), each_among P xs (λ k a. f k (inr a)))
-
-never : (b : Bool) → (b ≡ true → ⊥) → b ≡ false
-never true f = absurd (f refl)
-never false f = refl
 
 -- ---- what is left
 
@@ -119,7 +116,7 @@ module _ (run : List Footprint) (fronts : List ℕ) where
   ready_free k ready =
       not_false _ (none_each (λ a. happens_before run a k) (left_of run fronts)
       (each_among (λ a. happens_before run a k ≡ false) (left_of run fronts)
-      (λ a at. never _ (λ e.
+      (λ a at. false_from_ne_true _ (λ e.
       let lt = ready a ((happens_before_is run a k).0 e) in
       let le = (is_left a at).1 in
       omega (arith, lt, le)))))
@@ -129,7 +126,7 @@ module _ (run : List Footprint) (fronts : List ℕ) where
   front_earliest own t lt =
       let same = ap (front_of run fronts) (own t lt) in
       find_least (λ k. thread_at run k == t) (left_of run fronts) (front_of run fronts t) known.rising (left_is (front_of run fronts t) lt (omega (arith, same))) (eq-eqb _ _ (own t lt))
-      (λ a at low. never _ (λ e.
+      (λ a at low. false_from_ne_true _ (λ e.
       let is = ap (front_of run fronts) (eqb-true _ _ e) in
       let le = (is_left a at).1 in
       omega (arith, is, le, low)))
@@ -137,7 +134,7 @@ module _ (run : List Footprint) (fronts : List ℕ) where
   front_none : (t : ℕ) → length run ≤ front_of run fronts t → earliest_of run (left_of run fronts) t ≡ None
   front_none t over =
       find_none (λ k. thread_at run k == t) (left_of run fronts)
-      (λ a at. never _ (λ e.
+      (λ a at. false_from_ne_true _ (λ e.
       let is = ap (front_of run fronts) (eqb-true _ _ e) in
       let r = is_left a at in
       let le = r.1 in
@@ -165,19 +162,16 @@ front_there run fronts t lt = get_or_default fronts t 0 (length run) lt
 
 -- ---- the loops
 
-one_more : (k : ℕ) → places (k + 1) ≡ places k ++ k ∷ []
-one_more k = range_with_len-parts 0 k 1 ∙ ap (λ n. places k ++ n ∷ []) (zero-add k)
-
 -- the next number passes the test, or doesn't
 pub chosen_more : (p : ℕ → Bool) (k : ℕ) (xs ys : List ℕ) → xs ≡ filter p (places k) → p k ≡ true → ys ≡ xs ++ k ∷ [] → ys ≡ filter p (places (k + 1))
 chosen_more p k xs ys is yes_k pushed =
     pushed ∙ ap (λ l. l ++ k ∷ []) is
-    ∙ ap (λ l. filter p (places k) ++ l) (sym (filter-kept p k [] yes_k)) ∙ sym (filter-append p (places k) (k ∷ [])) ∙ ap (filter p) (sym (one_more k))
+    ∙ ap (λ l. filter p (places k) ++ l) (sym (filter-kept p k [] yes_k)) ∙ sym (filter-append p (places k) (k ∷ [])) ∙ ap (filter p) (sym (one_more_place k))
 
 pub chosen_same : (p : ℕ → Bool) (k : ℕ) (xs : List ℕ) → xs ≡ filter p (places k) → p k ≡ false → xs ≡ filter p (places (k + 1))
 chosen_same p k xs is no_k =
     is ∙ sym (append-nil (filter p (places k)))
-    ∙ ap (λ l. filter p (places k) ++ l) (sym (filter-left_out p k [] no_k)) ∙ sym (filter-append p (places k) (k ∷ [])) ∙ ap (filter p) (sym (one_more k))
+    ∙ ap (λ l. filter p (places k) ++ l) (sym (filter-left_out p k [] no_k)) ∙ sym (filter-append p (places k) (k ∷ [])) ∙ ap (filter p) (sym (one_more_place k))
 
 -- ---- one more step
 

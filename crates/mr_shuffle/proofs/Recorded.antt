@@ -3,14 +3,14 @@ use Rattle.std.proofs.Common.{◌≡◌, ℕ, suc, zero, ◌+◌, ◌<◌, ◌�
 use Rattle.std.specs.List.{range_with_len}
 use Rattle.std.specs.Prelude.{slice_index_or}
 use Rattle.mr_base.specs.declared.reason.Verdict.{Verdict}
-use Rattle.mr_event.specs.declared.footprint.Footprint.{Footprint}
+use Rattle.mr_event.specs.Footprint.{Footprint}
 use Rattle.mr_event.specs.Order.{no_step, step_at}
 use Rattle.mr_order.specs.Trace.{Runs}
 use Rattle.mr_sched.specs.declared.schedule.Entry.{Entry}
 use Rattle.mr_wf.specs.Walk.{WellFormed}
 use Rattle.mr_plan.specs.Legal.{state_fault}
-use Rattle.mr_plan.specs.Machine.{Bare, Completed, IllFormedStep, Language, State, Stops, bare}
-use Rattle.mr_plan.specs.Runs.{AreLegal, Config, Printed, after_bare, feet, foot_of_bare, machine_step, printed_by}
+use Rattle.mr_plan.specs.Machine.{Bare, Completed, IllFormedStep, State, Stops, bare}
+use Rattle.mr_plan.specs.Runs.{AreLegal, Printed, after_bare, feet, foot_of_bare, machine_step, printed_by}
 use Rattle.mr_frame.specs.Fits.{IsLook}
 use Rattle.mr_frame.specs.Frames.{Look}
 use Rattle.mr_thread.specs.SoundState.{SoundState}
@@ -18,12 +18,8 @@ use Rattle.mr_thread.specs.Steps.{Own, thread_step}
 use Rattle.mr_swap.specs.Swap.{IsSane, SwapLaw}
 use Rattle.mr_exchange.proofs.Exchanged.{NotesThread, sound_then}
 use Rattle.mr_exchange.specs.Witness.{entry_at}
-use Rattle.mr_witness.proofs.Recorded.{config, legal_here, none_legal}
+use Rattle.mr_witness.proofs.Recorded.{config, legal_here, none_feet}
 use Rattle.mr_shuffle.proofs.Moves.{Goes, Place, machine}
-
--- where there is no state, legal entries complete nothing
-pub none_complete : {L : Type 0} (step : Language L) (c : Config L) (es : List Entry) → c.state ≡ None → AreLegal step c es → feet step c es ≡ []
-none_complete step c es e h = ap (feet step c) (none_legal step c es e h)
 
 module _ (look : Look) (is : IsLook look) (well : WellFormed look.program) (es : List Entry) (run : List Footprint) (law : SwapLaw (thread_step look)) (noted : NotesThread look) (sane : (s : State Own) → SoundState look.program s → IsSane s) where
   abbrev Moves : Place look.program → List ℕ → Place look.program → Type 0
@@ -60,9 +56,9 @@ module _ (look : Look) (is : IsLook look) (well : WellFormed look.program) (es :
       } in
       (behind.0, (record { state = s'; sound = sound'; output = output ++ map (printed_by nt.tally.thread) nt.printed }, goes, behind.1))
   recorded_step s sound output last completed v k e rest n here lawful later (Stops w) is_bare legal steps le =
-      absurd (let none = none_complete (thread_step look) (after_bare (thread_step look) (config s output last completed v) (Stops w)) rest refl legal in let l = ap length none in omega (arith, l))
+      absurd (let none = none_feet (thread_step look) (after_bare (thread_step look) (config s output last completed v) (Stops w)) rest refl legal in let l = ap length none in omega (arith, l))
   recorded_step s sound output last completed v k e rest n here lawful later IllFormedStep is_bare legal steps le =
-      absurd (let none = none_complete (thread_step look) (after_bare (thread_step look) (config s output last completed v) IllFormedStep) rest refl legal in let l = ap length none in omega (arith, l))
+      absurd (let none = none_feet (thread_step look) (after_bare (thread_step look) (config s output last completed v) IllFormedStep) rest refl legal in let l = ap length none in omega (arith, l))
 
   -- THE FIRST STEPS FROM PLACE k ON are taken, where the rest of the entries is legal, and where its footprints are the run's
   pub recorded : (k : ℕ) (rest : List Entry) → ((m : ℕ) → m < length rest → entry_at rest m ≡ entry_at es (k + m)) → (n : ℕ) → Later k rest n

@@ -4,7 +4,7 @@ use Rattle.std.specs.Prelude.{if◌then◌else◌}
 use Rattle.mr_base.specs.declared.reason.Reason.TheVariants.{DataRace}
 use Rattle.mr_base.specs.declared.reason.Verdict.{Verdict}
 use Rattle.mr_base.specs.declared.reason.Verdict.TheVariants as verdict
-use Rattle.mr_event.specs.declared.footprint.Footprint.{Footprint}
+use Rattle.mr_event.specs.Footprint.{Footprint}
 use Rattle.mr_event.specs.Order.{step_at}
 use Rattle.mr_order.specs.Trace.{Runs}
 use Rattle.mr_sched.specs.declared.schedule.Entry.{Entry}
@@ -22,8 +22,7 @@ use Rattle.mr_exchange.proofs.Exchanged.{NotesThread}
 use Rattle.mr_exchange.specs.Witness.{entry_at}
 use Rattle.mr_reasons.proofs.Runs.{never_raced as never_raced_itself}
 use Rattle.mr_witness.proofs.Recorded.{config, none_legal}
-use Rattle.mr_shuffle.proofs.Enabled.{legal_enabled}
-use Rattle.mr_witness.proofs.Replayed.{AreCalm, last_of}
+use Rattle.mr_witness.proofs.Replayed.{AreCalm, last_of, legal_enabled}
 use Rattle.mr_shuffle.specs.EveryOrder.{StandAlike, prints_of}
 use Rattle.mr_shuffle.proofs.Moves.{AreSame, Goes, Place, machine}
 

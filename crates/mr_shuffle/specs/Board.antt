@@ -1,7 +1,7 @@
 -- What is kept while steps are placed: of each thread the earliest step that is not.
 use Rattle.std.specs.Prelude.{◌≡◌, ◌≢◌, ℕ, ◌<◌, ◌≤◌, ◌^◌, not, List, length, nat_lt}
 use Rattle.std.specs.List.{filter}
-use Rattle.mr_event.specs.declared.footprint.Footprint.{Footprint}
+use Rattle.mr_event.specs.Footprint.{Footprint}
 use Rattle.mr_event.specs.Order.{places, thread_at}
 use Rattle.mr_clocks.specs.Whole.{AreFronts, front_of}
 use Rattle.mr_shuffle.specs.Shuffled.{above_threads}

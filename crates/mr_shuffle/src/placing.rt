@@ -18,7 +18,7 @@ fn above_threads(run: &[Footprint]) -> usize
 {
     let mut above = 0;
     for step in run {
-        above = above.max(step.thread as usize + 1);
+        above = above.max(step.thread() as usize + 1);
     }
     above
 }
@@ -48,7 +48,8 @@ fn next_behind(run: &[Footprint], thread: u32, step: usize) -> usize
 fn fronts_of(alloc: Global, run: &[Footprint]) -> Result<Vec<usize>, OutOfMemory>
     ensures width { IfOk result (λ v. length v.items ≡ above_threads run.now) }
     ensures limit { IfOk result (λ v. length v.items ≤ 2 ^ 32) }
-    ensures each { IfOk result (λ v. (t : ℕ) → t < above_threads run.now → IsNextOf run.now t 0 (slice_index_or v.items t 0)) }
+    ensures each { IfOk result
+        (λ v. (t : ℕ) → t < above_threads run.now → IsNextOf run.now t 0 (slice_index_or v.items t 0)) }
 {
     let mut fronts = Vec::new(alloc);
     for thread in 0..above_threads(run) {
@@ -107,7 +108,8 @@ fn taken(run: &[Footprint], fronts: &mut Vec<usize>, thread: u32) -> usize
     requires ready { is_ready run.now (left_of run.now fronts.old.items) thread ≡ true }
     ensures fronts { IsBoard run.now fronts.new.items }
     ensures step { result ≡ step_or_first (earliest_of run.now (left_of run.now fronts.old.items) thread) }
-    ensures left { left_of run.now fronts.new.items ≡ without (step_or_first (earliest_of run.now (left_of run.now fronts.old.items) thread)) (left_of run.now fronts.old.items) }
+    ensures left { left_of run.now fronts.new.items ≡ without (step_or_first
+        (earliest_of run.now (left_of run.now fronts.old.items) thread)) (left_of run.now fronts.old.items) }
 {
     let number = thread as usize;
     let step = fronts[number];

@@ -38,6 +38,7 @@ use Rattle.mr_start.specs.Start.{Piece, Placed, ask_of, function_piece, global_p
 use Rattle.mr_start.proofs.PlacedLaws.{InTwo, in_two}
 use Rattle.mr_start.proofs.StartFacts.{HasMain, has_main, no_argument, pieces_length, pointers_length, return_is}
 use Rattle.mr_start.proofs.StartStores.{AreCounted, none_counted, placed_counted}
+use Rattle.mr_sched.specs.declared.rule.ScheduleRule.TheVariants as rule
 
 -- ---- a single pick
 
@@ -51,7 +52,7 @@ one_address ss rs t count size align [] h = absurd (cc)
 one_address ss rs t count size align (addr ∷ []) h = record { addr = addr; is = refl }
 one_address ss rs t count size align (addr ∷ more ∷ picks) h = absurd (by_first (address_fault (range_fault rs addr size align)) h)
   where
-    by_first : (o : Option Fault) → else_fault o (fault 62) ≡ None → ⊥
+    by_first : (o : Option Fault) → else_fault o (fault rule.ExtraPick) ≡ None → ⊥
     by_first None k = cc
     by_first (Some f) k = cc
 

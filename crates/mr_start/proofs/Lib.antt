@@ -2,8 +2,8 @@ pub mod Begun
 pub mod Entering
 pub mod Overlaps
 pub mod PickLaws
+pub mod PieceStores
 pub mod PlacedLaws
-pub mod RepeatedItems
 pub mod RunLaws
 pub mod StartFacts
 pub mod StartLimits

@@ -16,6 +16,7 @@ use Rattle.mr_plan.specs.Legal.{Fault, address_fault, else_fault, fault, picks_f
 use Rattle.mr_frame.specs.Standing.{IsUncounted}
 use Rattle.mr_start.specs.Judging.{address_among, least, picked, waiter_fault}
 use Rattle.mr_start.proofs.Overlaps.{AreUncounted, id_of, overlaps, with_ranges}
+use Rattle.mr_sched.specs.declared.rule.ScheduleRule.TheVariants as rule
 
 -- what is left at a position begins with what stands there, and joins what stands before it
 pub left_at : {X : Type 0} (xs : List X) (i : ℕ) (d : X) → i < length xs → drop i xs ≡ get_or xs i d ∷ drop (i + 1) xs
@@ -55,11 +56,11 @@ ranges_uncounted m t count none c le =
 -- ---- an address, and an earlier pick that it overlaps
 
 module _ (m : Memory) (earlier : Option AllocId) (addr size align : ℕ) where
-  pub bad_among : pick_fault m addr size align ≡ Some BadAddress → address_among m earlier addr size align ≡ fault 63
+  pub bad_among : pick_fault m addr size align ≡ Some BadAddress → address_among m earlier addr size align ≡ fault rule.BadAddress
   unfolding range_fault
   bad_among h = by_parts (is_bad_address addr size align) (first_overlapped addr size (ranges_of m)) h
     where
-      by_parts : (b : Bool) (o : Option AllocId) → cond b (Some BadAddress) (reused o) ≡ Some BadAddress → address_fault (cond b (Some BadAddress) (reused (least o earlier))) ≡ fault 63
+      by_parts : (b : Bool) (o : Option AllocId) → cond b (Some BadAddress) (reused o) ≡ Some BadAddress → address_fault (cond b (Some BadAddress) (reused (least o earlier))) ≡ fault rule.BadAddress
       by_parts true o k = refl
       by_parts false None k = absurd (cc)
       by_parts false (Some id) k = absurd (cc)
@@ -126,12 +127,12 @@ length_joined : (xs ys : Ranges) → length (xs ++ ys) ≡ length xs + length ys
 length_joined [] ys = omega arith
 length_joined (x ∷ xs) ys = let e = length_joined xs ys in omega arith
 
-waits_on : (b : Bool) (o : Option Fault) → cond b None (fault 65) ≡ None → cond b o (fault 65) ≡ o
+waits_on : (b : Bool) (o : Option Fault) → cond b None (fault rule.NotWaiting) ≡ None → cond b o (fault rule.NotWaiting) ≡ o
 waits_on true o h = refl
 waits_on false o h = absurd (cc)
 
 -- a thread that doesn't wait, whatever else is picked
-not_waiting : (b : Bool) (o : Option Fault) (f : Fault) → cond b None (fault 65) ≡ Some f → cond b o (fault 65) ≡ Some f
+not_waiting : (b : Bool) (o : Option Fault) (f : Fault) → cond b None (fault rule.NotWaiting) ≡ Some f → cond b o (fault rule.NotWaiting) ≡ Some f
 not_waiting true o f h = absurd (cc)
 not_waiting false o f h = h
 
@@ -180,11 +181,11 @@ module _ (ss : List Status) (m : Memory) (t count : ℕ) (asks : List Ask) (pick
   abbrev earlier : ℕ → Option AllocId
   earlier size = first_overlapped pick size (picked t count (take i asks) (take i picks))
 
-  pub no_pick_left : Left i → i < length asks → length picks ≤ i → picks_fault ss (ranges_of m) t count asks picks ≡ fault 61
+  pub no_pick_left : Left i → i < length asks → length picks ≤ i → picks_fault ss (ranges_of m) t count asks picks ≡ fault rule.MissingPick
   no_pick_left left inside few =
       left ∙ (λ k. fault_behind ss m t count (take i asks) (take i picks) (left_at asks i d inside k) (drop_of_length-le picks few k))
 
-  pub picks_left : Left i → length asks ≤ i → i < length picks → picks_fault ss (ranges_of m) t count asks picks ≡ fault 62
+  pub picks_left : Left i → length asks ≤ i → i < length picks → picks_fault ss (ranges_of m) t count asks picks ≡ fault rule.ExtraPick
   picks_left left all more =
       left ∙ (λ k. fault_behind ss m t count (take i asks) (take i picks) (drop_of_length-le asks all k) (left_at picks i 0 more k))
 

@@ -9,6 +9,7 @@ use Rattle.std.proofs.lemmas.Bool.Decides.{nat_tests}
 use Rattle.std.proofs.lemmas.Option.{same_Some}
 use Rattle.std.proofs.lemmas.List.Elements.{All-append, All-cons, All-head, All-nil, All-tail}
 use Rattle.std.specs.FinMap as fin
+use Rattle.std.proofs.lemmas.Bool.{and_parts}
 use Rattle.mr_base.specs.declared.byte.Pointer.{Pointer}
 use Rattle.mr_base.specs.declared.thread.Status.TheVariants.{Enabled}
 use Rattle.mr_ast.specs.Shaped.{Shaped, ShapedFunction}
@@ -20,7 +21,6 @@ use Rattle.mr_ast.specs.declared.program.Program.{Program}
 use Rattle.mr_layout.specs.Rules.{is_align}
 use Rattle.mr_layout.specs.TypeOk.{TypeOk}
 use Rattle.mr_layout.proofs.Bounds.{type_ok_small}
-use Rattle.mr_layout.proofs.PartsOk.{and_true}
 use Rattle.mr_mem.specs.Memory.{Memory, Ranges, allocated, range_fault, with_range}
 use Rattle.mr_wf.specs.Broken.{items_size}
 use Rattle.mr_wf.specs.Unbroken.{UnbrokenFunction, UnbrokenGlobal}
@@ -36,7 +36,7 @@ use Rattle.mr_start.proofs.Overlaps.{id_of}
 use Rattle.mr_start.specs.Start.{Piece, ask_of, function_piece, global_piece, local_piece, look_of, pieces, placed, return_piece, start_fault, start_frame, start_locals, start_placed}
 use Rattle.mr_frame.proofs.AlignPowers.{align_power, type_ok_power}
 use Rattle.mr_base.proofs.Comparisons.{le_from}
-use Rattle.mr_eval.proofs.SafeLaws.{item_ok, item_there}
+use Rattle.mr_base.proofs.Lists.{item_there, all_at}
 
 -- picks that break no rule give a pointer for each piece
 pub placed_length : (m : Memory) (rs : Ranges) (count : ℕ) (ps : List Piece) (picks : List ℕ) → picks_fault (Enabled ∷ []) rs 0 count (map ask_of ps) picks ≡ None → length (placed m count ps picks).pointers ≡ length ps
@@ -56,7 +56,7 @@ pub record HasMain (p : Program) : Type 0 where
 pub has_main : (p : Program) → Shaped p → HasMain p
 has_main p shaped =
     let f = item_there p.functions p.start.0 shaped.start in
-    let k = item_ok (ShapedFunction p) p.functions p.start.0 f.0 shaped.functions f.1 in
+    let k = all_at (ShapedFunction p) p.functions p.start.0 f.0 shaped.functions f.1 in
     let l = item_there f.0.locals f.0.ret.0 k.ret in
     record { function = f.0; is = f.1; shaped = k; local = l.0; here = l.1 }
 
@@ -138,7 +138,7 @@ all_behind f Q (x ∷ xs) h = All-cons (λ y. Q (f y)) x xs (All-head Q (f x) (m
 pub have_room : (p : Program) → WellFormed p → HaveRoom p.globals
 have_room p well =
     all_turned (UnbrokenGlobal p) (λ (g : Global_). items_size g.items ≤ 2 ^ 20)
-    (λ g h. le_from (items_size g.items) (2 ^ 20) (and_true (nat_le (items_size g.items) (2 ^ 20)) (is_align g.align) h.form).0) p.globals (well_formed_keeps p well).globals
+    (λ g h. le_from (items_size g.items) (2 ^ 20) (and_parts (nat_le (items_size g.items) (2 ^ 20)) (is_align g.align) h.form).0) p.globals (well_formed_keeps p well).globals
 
 function_possible : (fs : List Function) → All IsPossible (map function_piece fs)
 function_possible [] = All-nil IsPossible
@@ -146,15 +146,15 @@ function_possible (f ∷ fs) = All-cons IsPossible (function_piece f) (map funct
 
 global_possible : (p : Program) (g : Global_) → UnbrokenGlobal p g → IsPossible (global_piece g)
 global_possible p g h =
-    let parts = and_true (nat_le (items_size g.items) (2 ^ 20)) (is_align g.align) h.form in
+    let parts = and_parts (nat_le (items_size g.items) (2 ^ 20)) (is_align g.align) h.form in
     let small = le_from (items_size g.items) (2 ^ 20) parts.0 in
     record { size = omega arith; align = align_power g.align parts.1; asked = tt }
 
 pub pieces_possible : (p : Program) → WellFormed p → All IsPossible (pieces p)
 pieces_possible p well =
     let h = has_main p well.shaped in
-    let ok = item_ok (λ (l : Local). TypeOk l.ty) h.function.locals h.function.ret.0 h.local
-    (item_ok (UnbrokenFunction p) p.functions p.start.0 h.function (well_formed_keeps p well).functions h.is).locals h.here in
+    let ok = all_at (λ (l : Local). TypeOk l.ty) h.function.locals h.function.ret.0 h.local
+    (all_at (UnbrokenFunction p) p.functions p.start.0 h.function (well_formed_keeps p well).functions h.is).locals h.here in
     let small = type_ok_small h.local.ty ok in
     let last : All IsPossible (return_piece (slice_get p.functions p.start.0)) =
     subst (All IsPossible) (sym (return_is p h))

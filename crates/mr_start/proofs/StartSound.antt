@@ -15,7 +15,6 @@ use Rattle.mr_sched.specs.declared.schedule.Schedule.{Schedule}
 use Rattle.mr_sync.proofs.SoundTables.{stay_sound}
 use Rattle.mr_plan.specs.Machine.{State, Thread, thread_of}
 use Rattle.mr_plan.specs.Storage.{AreHeld, IsStorage, Slot}
-use Rattle.mr_plan.proofs.ListPlaces.{slice_get-drop}
 use Rattle.mr_plan.proofs.StorageRuns.{set_cases}
 use Rattle.mr_frame.specs.Fits.{IsLook}
 use Rattle.mr_frame.specs.Storage.{slot_of, slots_in, slots_with}
@@ -25,6 +24,7 @@ use Rattle.mr_thread.proofs.RunSound.{never_ill_formed}
 use Rattle.mr_start.specs.Start.{IsSoundRun, Legal, Piece, look_of, main_thread, pieces, start_config, start_fault, start_frame, start_locals, start_memory, start_placed}
 use Rattle.mr_start.proofs.StartFacts.{HasMain, functions_length, globals_length, has_main, return_is, start_fits}
 use Rattle.mr_start.proofs.StartStores.{AllLie, Lies, start_kept}
+use Rattle.mr_base.proofs.Lists.{slice_get-drop}
 
 -- ---- the one local that has storage
 

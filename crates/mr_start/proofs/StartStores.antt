@@ -186,12 +186,12 @@ length_behind : (o : Option Pointer) (offset : ℕ) → length (pointer_behind o
 length_behind None offset = length-replicate 8 Uninit
 length_behind (Some p) offset = length-initialised p.prov 8 (behind p offset).addr
 
-length_item : (functions globals : List Pointer) (i : Item_) → length (item_bytes functions globals i) ≡ item_size i
+pub length_item : (functions globals : List Pointer) (i : Item_) → length (item_bytes functions globals i) ≡ item_size i
 length_item functions globals (item.Byte b count) = length-replicate count (Init b None)
 length_item functions globals (item.Uninit count) = length-replicate count Uninit
 length_item functions globals (item.Reloc to offset) = length_behind (target_of functions globals to) offset
 
-length_items : (functions globals : List Pointer) (is : List Item_) → length (global_bytes functions globals is) ≡ items_size is
+pub length_items : (functions globals : List Pointer) (is : List Item_) → length (global_bytes functions globals is) ≡ items_size is
 length_items functions globals [] = refl
 length_items functions globals (i ∷ is) =
     length-append (item_bytes functions globals i) (global_bytes functions globals is)

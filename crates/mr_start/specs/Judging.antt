@@ -10,6 +10,7 @@ use Rattle.mr_sched.specs.declared.schedule.Ask.TheVariants.{Address, Waiter}
 use Rattle.mr_sync.specs.Tables.{on_lock}
 use Rattle.mr_plan.specs.Legal.{Fault, address_fault, fault}
 use Rattle.mr_start.specs.declared.failure.PickFailure.{PickFailure}
+use Rattle.mr_sched.specs.declared.rule.ScheduleRule.TheVariants as rule
 
 -- a failure is the rule that is broken
 abbrev pub fault_of : PickFailure → Fault
@@ -38,4 +39,4 @@ address_among m earlier addr size align =
 
 -- the rule that a thread breaks which is to get a lock
 abbrev pub waiter_fault : List Status → ℕ → ℕ → Option Fault
-waiter_fault ss lock thread = if on_lock lock (slice_get ss thread) then None else fault 65
+waiter_fault ss lock thread = if on_lock lock (slice_get ss thread) then None else fault rule.NotWaiting

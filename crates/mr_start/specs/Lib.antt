@@ -1,3 +1,4 @@
 pub mod Begin
 pub mod Judging
+pub mod Pieces
 pub mod Start

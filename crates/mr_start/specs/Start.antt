@@ -29,7 +29,7 @@ use Rattle.mr_sched.specs.declared.schedule.Ask.{Ask}
 use Rattle.mr_sched.specs.declared.schedule.Ask.TheVariants.{Address}
 use Rattle.mr_sched.specs.declared.schedule.Entry.{Entry}
 use Rattle.mr_sched.specs.declared.schedule.Schedule.{Schedule}
-use Rattle.mr_event.specs.declared.footprint.Footprint.{Footprint}
+use Rattle.mr_event.specs.Footprint.{Footprint}
 use Rattle.mr_plan.specs.Machine.{thread_of}
 use Rattle.mr_plan.specs.Legal.{Fault, picks_fault}
 use Rattle.mr_plan.specs.Runs.{AreLegal, Config, NeverIllFormed, after, entry_fault, feet, machine_step}

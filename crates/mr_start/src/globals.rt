@@ -1,11 +1,13 @@
 //! The bytes of globals, stored at the start.
-ghost use Rattle.std.specs.Prelude.{◌≡◌, ◌++◌, IfOk, IfSome, List, OnErr, OnOk, Result, length, replicate};
+ghost use Rattle.std.specs.Prelude.{◌≡◌, ◌++◌, IfOk, List, Ok, OnErr, OnOk, Result, length, replicate, true};
 ghost use Rattle.mr_base.specs.declared.byte.Pointer.{Pointer as PointerOf};
 ghost use Rattle.mr_base.specs.declared.reason.Reason.{Reason};
 ghost use Rattle.mr_eval.specs.Moves.{behind};
 ghost use Rattle.mr_value.specs.Numbers.{pointer_bytes};
-ghost use Rattle.mr_mem.specs.Memory.{written, Memory as MemoryOf};
+ghost use Rattle.mr_mem.specs.Memory.{Memory as MemoryOf, is_multiple, written};
 ghost use Rattle.mr_mem.specs.Stored.{IsStored};
+ghost use Rattle.mr_wf.specs.Broken.{item_size, items_size};
+ghost use Rattle.mr_start.specs.Pieces.{HasRange};
 ghost use Rattle.mr_start.specs.Start.{behind_store, filled, global_bytes, item_bytes, target_of};
 
 use mr_ast::{Global_, Item_, Target, Ty};
@@ -13,6 +15,7 @@ use mr_base::{AbstractByte, Pointer};
 use mr_eval::{Fault, behind};
 use mr_mem::Memory;
 use mr_value::{Val, encode};
+use mr_wf::items_size;
 use std::alloc::{AllocError, Global};
 
 // Appends a byte, so often.
@@ -84,50 +87,10 @@ fn global_bytes(
     Ok(bytes)
 }
 
-// How many bytes an item has, if all are this one.
-fn count_of(item: &Item_, byte: AbstractByte) -> Option<u64>
-    ensures { (functions : List PointerOf) → (globals : List PointerOf) → IfSome result (λ n. item_bytes functions globals item.now ≡ replicate n byte) }
-{
-    match (item, byte) {
-        (Item_::Uninit(repeat), AbstractByte::Uninit) => Some(u64::from(*repeat)),
-        (Item_::Byte(number, repeat), AbstractByte::Init(wanted, None)) => {
-            if *number == wanted {
-                Some(u64::from(*repeat))
-            } else {
-                None
-            }
-        }
-        _ => None,
-    }
-}
-
-// How many bytes some items have, if all are this one.
-fn len_of(items: &[Item_], byte: AbstractByte) -> Option<u64>
-    ensures { (functions : List PointerOf) → (globals : List PointerOf) → IfSome result (λ n. global_bytes functions globals items.now ≡ replicate n byte) }
-{
-    let mut len: u64 = 0;
-    for item in items {
-        len = len.checked_add(count_of(item, byte)?)?;
-    }
-    Some(len)
-}
-
-// The byte that all bytes of some items are, and how many there are.
-fn repeated(items: &[Item_]) -> Option<(AbstractByte, u64)>
-    ensures { (functions : List PointerOf) → (globals : List PointerOf) → IfSome result (λ r. global_bytes functions globals items.now ≡ replicate r.1 r.0) }
-{
-    let byte = match items.first()? {
-        Item_::Uninit(_) => AbstractByte::Uninit,
-        Item_::Byte(number, _) => AbstractByte::Init(*number, None),
-        Item_::Reloc(_, _) => return None,
-    };
-    let len = len_of(items, byte)?;
-    Some((byte, len))
-}
-
 // A store at the start. Its address was picked for its alignment, and its allocation has room for it.
 fn stored(answer: Result<(), Fault>) -> Result<(), AllocError>
-    ensures { (old : MemoryOf) (new : MemoryOf) (wanted : Result MemoryOf Reason) → IsStored wanted new answer → OnErr answer (new ≡ old) → OnOk result (new ≡ behind_store old wanted) }
+    ensures { (old : MemoryOf) (new : MemoryOf) (wanted : Result MemoryOf Reason) → IsStored wanted new answer
+        → OnErr answer (new ≡ old) → OnOk result (new ≡ behind_store old wanted) }
 {
     match answer {
         Err(Fault::Memory) => Err(AllocError),
@@ -135,7 +98,108 @@ fn stored(answer: Result<(), Fault>) -> Result<(), AllocError>
     }
 }
 
-// Stores the bytes of a global. They are listed only where they differ.
+// How many bytes an item of a global has.
+fn item_len(item: &Item_) -> u64
+    ensures { result ≡ item_size item.now }
+{
+    match item {
+        Item_::Byte(_, repeat) | Item_::Uninit(repeat) => u64::from(*repeat),
+        Item_::Reloc(_, _) => 8,
+    }
+}
+
+// Stores the bytes of a pointer so many bytes behind another.
+fn store_pointer(
+    alloc: Global,
+    memory: &mut Memory,
+    target: Pointer,
+    offset: u64,
+    p: Pointer,
+) -> Result<(), AllocError>
+    ensures { OnOk result
+        (memory.new ≡ behind_store memory.old (written memory.old p (pointer_bytes (behind target offset)) 1)) }
+{
+    let mut bytes = Vec::new(alloc);
+    push_pointer(alloc, &mut bytes, target, offset)?;
+    stored(memory.store(p, bytes.as_slice(), 1))
+}
+
+// Stores the bytes of an item.
+fn store_item(
+    alloc: Global,
+    memory: &mut Memory,
+    functions: &[Pointer],
+    globals: &[Pointer],
+    item: &Item_,
+    p: Pointer,
+) -> Result<(), AllocError>
+    ensures { OnOk result (memory.new ≡ behind_store memory.old
+        (written memory.old p (item_bytes functions.now globals.now item.now) 1)) }
+{
+    match item {
+        Item_::Byte(byte, repeat) => {
+            let number = AbstractByte::Init(*byte, None);
+            stored(memory.fill(p, u64::from(*repeat), number, 1))
+        }
+        Item_::Uninit(repeat) => {
+            stored(memory.fill(p, u64::from(*repeat), AbstractByte::Uninit, 1))
+        }
+        Item_::Reloc(to, offset) => match target_of(functions, globals, *to) {
+            Some(target) => store_pointer(alloc, memory, target, *offset, p),
+            None => stored(memory.fill(p, 8, AbstractByte::Uninit, 1)),
+        },
+    }
+}
+
+// Stores the bytes of items one behind the other, where they lie in a live allocation.
+fn store_items(
+    alloc: Global,
+    memory: &mut Memory,
+    functions: &[Pointer],
+    globals: &[Pointer],
+    items: &[Item_],
+    p: Pointer,
+) -> Result<(), AllocError>
+    requires { HasRange memory.old p (length (global_bytes functions.now globals.now items.now)) }
+    ensures { OnOk result
+        (written memory.old p (global_bytes functions.now globals.now items.now) 1 ≡ Ok memory.new) }
+{
+    let mut at = p;
+    for item in items {
+        store_item(alloc, memory, functions, globals, item, at)?;
+        at = behind(at, item_len(item));
+    }
+    Ok(())
+}
+
+// Whether an address is a multiple of an alignment.
+fn is_aligned(addr: u64, align: u64) -> bool
+    ensures { result ≡ is_multiple addr align }
+{
+    align != 0 && addr % align == 0
+}
+
+// Whether so many bytes lie in a live allocation, one or more, and end below 2^64.
+fn is_open(memory: &Memory, p: Pointer, len: u64) -> bool
+    ensures { result ≡ true → HasRange memory.now p len }
+{
+    if p.addr.checked_add(len).is_none() {
+        return false;
+    }
+    matches!(memory.check(p, len), Ok(Some(_)))
+}
+
+// The same of the bytes of a global's items.
+fn has_room(memory: &Memory, p: Pointer, items: &[Item_]) -> bool
+    ensures { result ≡ true → HasRange memory.now p (items_size items.now) }
+{
+    match u64::try_from(items_size(items)) {
+        Ok(len) => is_open(memory, p, len),
+        Err(_) => false,
+    }
+}
+
+// Stores the bytes of a global: item by item where there is room for all, which behind a lawful start line there is.
 fn fill_one(
     alloc: Global,
     memory: &mut Memory,
@@ -144,11 +208,13 @@ fn fill_one(
     places: &[Pointer],
     p: Pointer,
 ) -> Result<(), AllocError>
-    ensures { OnOk result (memory.new ≡ behind_store memory.old (written memory.old p (global_bytes functions.now places.now global.now.items) global.now.align)) }
+    ensures { OnOk result
+        (memory.new ≡ behind_store memory.old
+        (written memory.old p (global_bytes functions.now places.now global.now.items) global.now.align)) }
 {
     let items = global.items.as_slice();
-    if let Some((byte, len)) = repeated(items) {
-        return stored(memory.fill(p, len, byte, global.align));
+    if is_aligned(p.addr, global.align) && has_room(memory, p, items) {
+        return store_items(alloc, memory, functions, places, items, p);
     }
     let bytes = global_bytes(alloc, functions, places, items)?;
     stored(memory.store(p, bytes.as_slice(), global.align))

@@ -5,10 +5,10 @@ ghost use Rattle.mr_frame.specs.Standing.{IsUncounted};
 ghost use Rattle.mr_plan.specs.Legal.{address_fault, picks_fault};
 ghost use Rattle.mr_start.specs.Judging.{address_among, fault_of, least, picked, waiter_fault};
 
-use crate::failure::{BAD_ADDRESS, EXTRA_PICK, MISSING_PICK, NOT_WAITING, PickFailure};
+use crate::failure::PickFailure;
 use mr_base::{AllocId, ranges_meet};
 use mr_mem::{Memory, PickFault};
-use mr_sched::Ask;
+use mr_sched::{Ask, ScheduleRule};
 use mr_sync::SyncTable;
 
 // The lesser of two identities.
@@ -59,10 +59,11 @@ fn judge_address(
     size: u64,
     align: u64,
 ) -> Result<(), PickFailure>
-    ensures { MatchResult result (λ _. address_among memory.now earlier addr size align ≡ None) (λ f. address_among memory.now earlier addr size align ≡ Some (fault_of f)) }
+    ensures { MatchResult result (λ _. address_among memory.now earlier addr size align ≡ None)
+        (λ f. address_among memory.now earlier addr size align ≡ Some (fault_of f)) }
 {
     let known = match memory.lawful(addr, size, align) {
-        Err(PickFault::BadAddress) => return Err(PickFailure::of(BAD_ADDRESS)),
+        Err(PickFault::BadAddress) => return Err(PickFailure::of(ScheduleRule::BadAddress)),
         Err(PickFault::Reused(id)) => Some(id),
         Ok(()) => None,
     };
@@ -74,12 +75,13 @@ fn judge_address(
 
 // A thread that is to get a lock.
 fn judge_waiter(sync: &SyncTable, lock: u32, thread: u64) -> Result<(), PickFailure>
-    ensures { MatchResult result (λ _. waiter_fault sync.now.statuses lock thread ≡ None) (λ f. waiter_fault sync.now.statuses lock thread ≡ Some (fault_of f)) }
+    ensures { MatchResult result (λ _. waiter_fault sync.now.statuses lock thread ≡ None)
+        (λ f. waiter_fault sync.now.statuses lock thread ≡ Some (fault_of f)) }
 {
     if thread < u64::from(sync.threads()) && sync.waiting(lock, thread as u32) {
         return Ok(());
     }
-    Err(PickFailure::of(NOT_WAITING))
+    Err(PickFailure::of(ScheduleRule::NotWaiting))
 }
 
 /// An entry's picks against what its step asks for, pick by pick: the first rule that they break. `count` is how many allocations the thread
@@ -94,11 +96,13 @@ pub fn judge(
 ) -> Result<(), PickFailure>
     requires room { count + length asks.now < 2 ^ 64 }
     requires uncounted { IsUncounted memory.now thread count }
-    ensures { MatchResult result (λ _. picks_fault sync.now.statuses (ranges_of memory.now) thread count asks.now picks.now ≡ None) (λ f. picks_fault sync.now.statuses (ranges_of memory.now) thread count asks.now picks.now ≡ Some (fault_of f)) }
+    ensures { MatchResult result
+        (λ _. picks_fault sync.now.statuses (ranges_of memory.now) thread count asks.now picks.now ≡ None)
+        (λ f. picks_fault sync.now.statuses (ranges_of memory.now) thread count asks.now picks.now ≡ Some (fault_of f)) }
 {
     for (i, ask) in asks.iter().enumerate() {
         if i >= picks.len() {
-            return Err(PickFailure::of(MISSING_PICK));
+            return Err(PickFailure::of(ScheduleRule::MissingPick));
         }
         let pick = picks[i];
         match *ask {
@@ -110,7 +114,7 @@ pub fn judge(
         }
     }
     if picks.len() > asks.len() {
-        return Err(PickFailure::of(EXTRA_PICK));
+        return Err(PickFailure::of(ScheduleRule::ExtraPick));
     }
     Ok(())
 }

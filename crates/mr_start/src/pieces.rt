@@ -36,7 +36,8 @@ fn piece_of_global(g: &Global_) -> Piece
 
 // Appends a piece for each function.
 fn push_functions(made: &mut Vec<Piece>, functions: &[Function]) -> Result<(), AllocError>
-    ensures { OnOk result (map piece_of made.new.items ≡ map piece_of made.old.items ++ map function_piece functions.now) }
+    ensures { OnOk result
+        (map piece_of made.new.items ≡ map piece_of made.old.items ++ map function_piece functions.now) }
 {
     for _function in functions {
         made.push(Piece {
@@ -90,7 +91,8 @@ fn local_at(f: &Function, x: LocalName) -> &Local
 // The return local of the main function.
 fn return_local(p: &Program) -> &Local
     requires { WellFormed p.now }
-    ensures { (f : Function) × (slice_get p.now.functions p.now.start.0 ≡ Some f) × (slice_get f.locals f.ret.0 ≡ Some result.now) × TypeOk result.now.ty }
+    ensures { (f : Function) × (slice_get p.now.functions p.now.start.0 ≡ Some f)
+        × (slice_get f.locals f.ret.0 ≡ Some result.now) × TypeOk result.now.ty }
 {
     let main = function_at(p, p.start);
     local_at(main, main.ret)

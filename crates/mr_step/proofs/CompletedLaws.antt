@@ -2,7 +2,7 @@
 use Rattle.std.proofs.Common.{◌≡◌, ℕ, ◌+◌, ◌++◌, sym, ap, ◌∙◌, List, map, length, true, false, Some}
 use Rattle.std.specs.Prelude.{slice_set}
 use Rattle.std.specs.Option.{option_map}
-use Rattle.mr_event.specs.declared.footprint.Footprint.{Footprint}
+use Rattle.mr_event.specs.Footprint.{Footprint}
 use Rattle.mr_eval.specs.Tally.{Tally}
 use Rattle.mr_eval.specs.declared.scene.Scene.{Scene}
 use Rattle.mr_plan.specs.Machine.{Completed, State, Thread, settle, started_threads}

@@ -6,7 +6,7 @@ use Rattle.mr_base.specs.declared.reason.Verdict.{Verdict}
 use Rattle.mr_base.specs.declared.reason.Verdict.TheVariants as verdict
 use Rattle.mr_base.specs.declared.thread.Status.{Status}
 use Rattle.mr_base.specs.declared.thread.Status.TheVariants.{Enabled, Ended, OnJoin, OnLock}
-use Rattle.mr_event.specs.declared.footprint.Footprint.{Footprint}
+use Rattle.mr_event.specs.Footprint.{Footprint}
 use Rattle.mr_sched.specs.declared.schedule.Entry.{Entry}
 use Rattle.mr_sync.specs.Tables.{is_enabled}
 use Rattle.mr_plan.specs.Legal.{Fault, count_of, else_fault, fault, needs_fault, status_fault}
@@ -17,6 +17,7 @@ use Rattle.mr_plan.specs.Runs.{Config, after_bare, entry_fault, fault_in, foot_f
 use Rattle.mr_frame.specs.Frames.{Look}
 use Rattle.mr_thread.specs.Steps.{Own, thread_step}
 use Rattle.mr_turn.specs.Turning.{picks_break, planned, turned}
+use Rattle.mr_sched.specs.declared.rule.ScheduleRule.TheVariants as rule
 
 -- a verdict with which the machine runs
 pub running_is : (v : Verdict) → is_running v ≡ true → v ≡ verdict.Running
@@ -36,7 +37,7 @@ enabled_is (Some (OnLock l)) h = absurd (cc)
 enabled_is (Some Ended) h = absurd (cc)
 
 -- another status, or none
-status_breaks : (o : Option Status) → is_enabled o ≡ false → status_fault o ≡ fault 60
+status_breaks : (o : Option Status) → is_enabled o ≡ false → status_fault o ≡ fault rule.NotEnabled
 status_breaks None h = refl
 status_breaks (Some Enabled) h = absurd (cc)
 status_breaks (Some (OnJoin u)) h = refl
@@ -45,16 +46,16 @@ status_breaks (Some Ended) h = refl
 
 module _ (look : Look) (c : Config Own) (e : Entry) where
   -- an entry behind a stop
-  pub stopped_breaks : is_running c.verdict ≡ false → entry_fault (thread_step look) c e ≡ fault 66
+  pub stopped_breaks : is_running c.verdict ≡ false → entry_fault (thread_step look) c e ≡ fault rule.AfterStop
   unfolding entry_fault
-  stopped_breaks h = ap (λ (b : Bool). if b then fault_in (thread_step look) e.thread e.picks c.state else fault 66) h
+  stopped_breaks h = ap (λ (b : Bool). if b then fault_in (thread_step look) e.thread e.picks c.state else fault rule.AfterStop) h
 
   -- an entry where there is no state
-  pub gone_breaks : c.state ≡ None → entry_fault (thread_step look) c e ≡ fault 66
+  pub gone_breaks : c.state ≡ None → entry_fault (thread_step look) c e ≡ fault rule.AfterStop
   unfolding entry_fault
-  gone_breaks h = ap (λ (o : Option (State Own)). if is_running c.verdict then fault_in (thread_step look) e.thread e.picks o else fault 66) h ∙ both (is_running c.verdict)
+  gone_breaks h = ap (λ (o : Option (State Own)). if is_running c.verdict then fault_in (thread_step look) e.thread e.picks o else fault rule.AfterStop) h ∙ both (is_running c.verdict)
     where
-      both : (b : Bool) → (if b then fault 66 else fault 66) ≡ fault 66
+      both : (b : Bool) → (if b then fault rule.AfterStop else fault rule.AfterStop) ≡ fault rule.AfterStop
       both true = refl
       both false = refl
 
@@ -64,11 +65,11 @@ module _ (look : Look) (c : Config Own) (e : Entry) where
         ≡ else_fault (status_fault (slice_get s.shared.statuses e.thread)) (needs_fault s.shared e.thread (count_of (slice_get s.threads e.thread)) (needs (thread_step look) s e.thread) e.picks)
     unfolding entry_fault
     by_state running =
-        ap (λ (v : Verdict). if is_running v then fault_in (thread_step look) e.thread e.picks c.state else fault 66) running
+        ap (λ (v : Verdict). if is_running v then fault_in (thread_step look) e.thread e.picks c.state else fault rule.AfterStop) running
         ∙ ap (fault_in (thread_step look) e.thread e.picks) state
 
     -- an entry of a thread that can't go on, or isn't there
-    pub disabled_breaks : c.verdict ≡ verdict.Running → is_enabled (slice_get s.shared.statuses e.thread) ≡ false → entry_fault (thread_step look) c e ≡ fault 60
+    pub disabled_breaks : c.verdict ≡ verdict.Running → is_enabled (slice_get s.shared.statuses e.thread) ≡ false → entry_fault (thread_step look) c e ≡ fault rule.NotEnabled
     disabled_breaks running h =
         by_state running
         ∙ ap (λ (f : Option Fault). else_fault f (needs_fault s.shared e.thread (count_of (slice_get s.threads e.thread)) (needs (thread_step look) s e.thread) e.picks)) (status_breaks (slice_get s.shared.statuses e.thread) h)
@@ -102,7 +103,7 @@ legal_runs look c e legal = by (is_running c.verdict) refl
     by true is = running_is c.verdict is
     by false is = absurd (none_some (sym legal ∙ stopped_breaks look c e is))
       where
-        none_some : None ≡ fault 66 → ⊥
+        none_some : None ≡ fault rule.AfterStop → ⊥
         none_some h = cc
 
 -- what a step that completed printed stands behind what was printed before

@@ -2,7 +2,7 @@
 use Rattle.std.proofs.Common.{◌≡◌, ◌<◌, ℕ, arith, refl, sym, ap, ap₂, ◌∙◌, subst, All, List, [], ◌∷◌, length, true, false, Some, None, Ok}
 use Rattle.std.specs.Prelude.{take}
 use Rattle.std.proofs.lemmas.List.Elements.{All-head}
-use Rattle.mr_event.specs.declared.footprint.Footprint.{Footprint}
+use Rattle.mr_event.specs.Footprint.{Footprint}
 use Rattle.mr_event.specs.FootOk.{IsFootOk}
 use Rattle.mr_event.specs.Order.{no_step}
 use Rattle.mr_sched.specs.declared.schedule.Entry.{Entry}

@@ -5,7 +5,7 @@ use Rattle.mr_base.specs.declared.reason.Verdict.{Verdict}
 use Rattle.mr_base.specs.declared.reason.Verdict.TheVariants as verdict
 use Rattle.mr_ast.specs.declared.program.Program.{Program}
 use Rattle.mr_event.specs.FootOk.{IsFootOk}
-use Rattle.mr_event.specs.declared.footprint.Footprint.{Footprint}
+use Rattle.mr_event.specs.Footprint.{Footprint}
 use Rattle.mr_sched.specs.declared.schedule.Entry.{Entry}
 use Rattle.mr_plan.specs.Legal.{Fault}
 use Rattle.mr_plan.specs.Runs.{Config, foot_from, has_rule}

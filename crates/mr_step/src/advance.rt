@@ -8,13 +8,13 @@ ghost use Rattle.mr_sync.specs.Tables.{is_enabled as enabled_in};
 ghost use Rattle.mr_step.specs.Advance.{ActAnswer, AdvanceAnswer, BeginsAct, IsDue, IsSoundBefore, WithoutAnswer};
 ghost use Rattle.mr_step.specs.Kept.{config_of};
 
-use crate::fault::{AFTER_STOP, NOT_ENABLED, StepFault, broken, refused};
+use crate::fault::{StepFault, broken, refused};
 use crate::progress::{Progress, Thread};
 use crate::settle::settle;
 use mr_base::Verdict;
 use mr_eval::Scene;
 use mr_frame::Look;
-use mr_sched::Entry;
+use mr_sched::{Entry, ScheduleRule};
 use mr_sync::{Status, SyncTable};
 use mr_turn::{Deed, TurnFault, turn};
 use std::alloc::Global;
@@ -46,7 +46,8 @@ fn act(
     requires begins { BeginsAct look.now scene.old.thread thread.old scene.old.memory sync.old }
     requires scene { tally_of scene.old ≡ start_tally scene.old.thread scene.old.count }
     requires count { scene.old.count ≡ thread.old.count }
-    ensures { ActAnswer (look_of look.now) scene.old.thread picks.now thread.old thread.new scene.old.memory scene.new sync.old sync.new result }
+    ensures { ActAnswer (look_of look.now) scene.old.thread picks.now thread.old thread.new
+        scene.old.memory scene.new sync.old sync.new result }
 {
     if thread.count >= MOST_ALLOCATIONS {
         return Err(TurnFault::Memory);
@@ -100,10 +101,10 @@ pub fn advance(
     ensures { AdvanceAnswer (look_of look.now) entry.now (config_of p.old) (config_of p.new) result }
 {
     if p.gone || !is_running(p.verdict) {
-        return Err(broken(AFTER_STOP));
+        return Err(broken(ScheduleRule::AfterStop));
     }
     if !is_enabled(p.sync.status(entry.thread)) {
-        return Err(broken(NOT_ENABLED));
+        return Err(broken(ScheduleRule::NotEnabled));
     }
     take(alloc, look, p, entry)
 }

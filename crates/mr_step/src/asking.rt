@@ -21,7 +21,8 @@ pub fn asked(
     out: &mut Vec<Ask>,
 ) -> Result<Option<u8>, AllocError>
     requires { CanAsk look.now t p.now }
-    ensures { AsksAnswer (state_of p.now).shared (needs (thread_step (look_of look.now)) (state_of p.now) t) out.old.items out.new.items result }
+    ensures { AsksAnswer (state_of p.now).shared
+        (needs (thread_step (look_of look.now)) (state_of p.now) t) out.old.items out.new.items result }
 {
     let thread = &p.threads[t as usize];
     asks(alloc, look, &thread.stack, &p.scene.memory, &p.sync, t, out)

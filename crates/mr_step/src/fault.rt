@@ -1,8 +1,10 @@
 //! What an entry comes to.
 ghost use Rattle.std.specs.Prelude.{◌≡◌, None};
+ghost use Rattle.mr_sched.specs.Rules.{code_of};
 ghost use Rattle.mr_step.specs.First.{unmade_by};
 
 use mr_base::{AllocId, Verdict};
+use mr_sched::ScheduleRule;
 use mr_start::{PickFailure, StartFault};
 use std::alloc::{AllocError, AllocFailed};
 
@@ -40,18 +42,12 @@ impl<T: Drop> From<AllocFailed<T>> for StepFault {
     }
 }
 
-/// The machine had stopped before the entry.
-pub const AFTER_STOP: u8 = 66;
-
-/// No thread has the number, or it isn't enabled.
-pub const NOT_ENABLED: u8 = 60;
-
 /// A refusal by a rule without an identity.
-pub fn broken(code: u8) -> StepFault
-    ensures { result ≡ StepFault.BadEntry code None }
+pub fn broken(rule: ScheduleRule) -> StepFault
+    ensures { result ≡ StepFault.BadEntry (code_of rule) None }
 {
     StepFault::BadEntry {
-        code,
+        code: rule.code(),
         earlier: None,
     }
 }

@@ -46,7 +46,7 @@ impl<'p> Model for Machine<'p> {
 }
 
 impl<'p> Machine<'p> {
-    ghost use Rattle.std.specs.Prelude.{◌≡◌, ℕ, ◌<◌, ◌^◌, IfOk, List, None, OnErr, Some, false, length, slice_get};
+    ghost use Rattle.std.specs.Prelude.{◌≡◌, ℕ, ◌<◌, ◌^◌, IfOk, List, None, OnErr, Some, false, length, option_copied, slice_get};
     ghost use Rattle.std.specs.Option.{option_map};
     ghost use Rattle.mr_sync.specs.Tables.{IsEnabled, holder_of, is_enabled, waits};
     ghost use Rattle.mr_plan.specs.Machine.{State, needs};
@@ -170,6 +170,13 @@ impl<'p> Machine<'p> {
         self.progress.completed
     }
 
+    /// The footprint of the last step that completed, where one did.
+    pub fn last(&self) -> Option<&Footprint>
+        ensures { option_copied result ≡ self.now.config.last }
+    {
+        self.progress.last.as_ref()
+    }
+
     /// How many prints there are.
     pub fn lines(&self) -> usize
         ensures { result ≡ length self.now.config.output }
@@ -198,7 +205,8 @@ impl<'p> Machine<'p> {
 
     /// Whether a thread exists and can go on; none can behind a step that itself stopped.
     pub fn enabled(&self, t: u32) -> bool
-        ensures there { (s : State Own) → self.now.config.state ≡ Some s → result ≡ is_enabled (slice_get s.shared.statuses t) }
+        ensures there { (s : State Own) → self.now.config.state ≡ Some s
+            → result ≡ is_enabled (slice_get s.shared.statuses t) }
         ensures gone { self.now.config.state ≡ None → result ≡ false }
     {
         !self.progress.gone && matches!(self.progress.sync.status(t), Some(Status::Enabled))
@@ -240,7 +248,8 @@ impl<'p> Machine<'p> {
 
     /// The thread that holds a lock: None exactly where there is no such lock, or it is free, or a step itself stopped.
     pub fn holder(&self, lock: u32) -> Option<u32>
-        ensures there { (s : State Own) → self.now.config.state ≡ Some s → result ≡ holder_of lock (tables_of s.shared) }
+        ensures there { (s : State Own) → self.now.config.state ≡ Some s
+            → result ≡ holder_of lock (tables_of s.shared) }
         ensures gone { self.now.config.state ≡ None → result ≡ None }
     {
         if self.progress.gone {
@@ -255,7 +264,8 @@ impl<'p> Machine<'p> {
     pub fn asks(&self, t: u32, out: &mut Vec<Ask>) -> Result<Option<u8>, AllocError>
         requires working { self.now.failed ≡ false }
         requires enabled { (s : State Own) × (self.now.config.state ≡ Some s) × IsEnabled t (tables_of s.shared) }
-        ensures asks { (s : State Own) → self.now.config.state ≡ Some s → AsksAnswer s.shared (needs (thread_step self.now.look) s t) out.old.items out.new.items result }
+        ensures asks { (s : State Own) → self.now.config.state ≡ Some s
+            → AsksAnswer s.shared (needs (thread_step self.now.look) s t) out.old.items out.new.items result }
         ensures err { OnErr result (out.new.items ≡ out.old.items) }
     {
         let look = self.setting.look();

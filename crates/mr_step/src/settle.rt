@@ -24,7 +24,8 @@ use std::alloc::{AllocError, Global};
 
 // The print of a step, where it made one.
 fn print(output: &mut Vec<Line>, thread: u32, text: Option<Vec<u8>>) -> Result<(), AllocError>
-    ensures ok { OnOk result (map printed_of output.new.items ≡ map printed_of output.old.items ++ map (printed_by thread) (printed_lines (option_map (λ t. t.items) text))) }
+    ensures ok { OnOk result (map printed_of output.new.items
+        ≡ map printed_of output.old.items ++ map (printed_by thread) (printed_lines (option_map (λ t. t.items) text))) }
     ensures err { OnErr result (output.new.items ≡ output.old.items) }
 {
     if let Some(text) = text {
@@ -35,7 +36,8 @@ fn print(output: &mut Vec<Line>, thread: u32, text: Option<Vec<u8>>) -> Result<(
 
 // A thread that was started joins the others.
 fn join(threads: &mut Vec<Thread>, started: Option<Boxed<Stack>>) -> Result<(), AllocError>
-    ensures { OnOk result (numbered 0 threads.new.items ≡ numbered 0 threads.old.items ++ started_threads (option_map (own_of (length threads.old.items)) started)) }
+    ensures { OnOk result (numbered 0 threads.new.items
+        ≡ numbered 0 threads.old.items ++ started_threads (option_map (own_of (length threads.old.items)) started)) }
 {
     if let Some(stack) = started {
         threads.push(Thread {
@@ -50,7 +52,8 @@ fn join(threads: &mut Vec<Thread>, started: Option<Boxed<Stack>>) -> Result<(), 
 // Whether the thread has ended, and how many allocations it has made.
 fn mark(threads: &mut Vec<Thread>, thread: u32, ended: bool, count: u64)
     requires { thread < length threads.old.items }
-    ensures { (th : KeptThread) → slice_get threads.old.items thread ≡ Some th → numbered 0 threads.new.items ≡ slice_set (numbered 0 threads.old.items) thread (standing_thread thread ended count th.stack) }
+    ensures { (th : KeptThread) → slice_get threads.old.items thread ≡ Some th → numbered 0 threads.new.items
+        ≡ slice_set (numbered 0 threads.old.items) thread (standing_thread thread ended count th.stack) }
 {
     let one = &mut threads[thread as usize];
     one.ended = ended;
@@ -73,7 +76,7 @@ fn complete(
     let (number, count) = (p.scene.thread, p.scene.count);
     complete_accesses(look.program.program().edition, &mut p.scene)?;
     let verdict = verdict_behind(p.last.as_ref(), &p.scene, &p.sync);
-    keep_last(alloc, &mut p.last, &mut p.scene, &deed)?;
+    keep_last(alloc, &mut p.last, &p.scene, &deed)?;
     mark(&mut p.threads, thread, is_end(deed.flow), count);
     join(&mut p.threads, deed.started)?;
     print(&mut p.output, number, deed.text)?;

@@ -1,5 +1,5 @@
 -- A bare step that completes, taken apart and put together, and what it makes of the list of threads.
-use Rattle.std.proofs.Common.{◌≡◌, ◌≢◌, ℕ, zero, suc, ◌<◌, refl, sym, ap, ◌∙◌, append-nil, List, [], ◌∷◌, ◌++◌, length, arith, Option, Some, None}
+use Rattle.std.proofs.Common.{◌≡◌, ◌≢◌, ℕ, ◌<◌, refl, sym, ap, ◌∙◌, append-nil, List, [], ◌∷◌, ◌++◌, length, arith, Option, Some, None}
 use Rattle.std.specs.Prelude.{slice_get, slice_set}
 use Rattle.std.proofs.lemmas.List.{length-set, set-append_left, set_comm}
 use Rattle.mr_script.specs.Script.{◌>>=◌, Outcome, Went, Refused, Broken, on, run}
@@ -8,16 +8,10 @@ use Rattle.mr_script.proofs.SwapRuns.{goes_on}
 use Rattle.mr_plan.specs.Machine.{Aborts, Completed, Exits, Flow, Goes, Language, Needs, Plan, State, Thread, acted, bare, needed, needs, needs_of, settle, settled, started_threads, thread_of}
 use Rattle.mr_plan.specs.Notes.{Notes, start_notes}
 use Rattle.mr_plan.specs.Queries.{Shared, StepScript, answer}
-use Rattle.mr_plan.proofs.Positions.{set_there}
 use Rattle.mr_plan.proofs.Rooms.{in_front}
+use Rattle.mr_base.proofs.Lists.{set_there}
 
 -- ---- the list of threads
-
--- below its length a list has an element
-pub element_at : {A : Type 0} (xs : List A) (i : ℕ) → i < length xs → (x : A) × (slice_get xs i ≡ Some x)
-element_at [] i h = absurd (omega arith)
-element_at (x ∷ xs) zero h = (x, refl)
-element_at (x ∷ xs) (suc i) h = element_at xs i (omega arith)
 
 -- behind a step: the thread's own state and count, and the thread that it starts
 abbrev pub threads_after : {L : Type 0} → List (Thread L) → ℕ → L → ℕ → Option L → List (Thread L)

@@ -9,7 +9,7 @@ use Rattle.mr_base.specs.declared.access.Access.{Access}
 use Rattle.mr_base.specs.declared.byte.AllocId.{AllocId}
 use Rattle.mr_eval.specs.Tally.{Tally}
 use Rattle.mr_event.specs.FootOk.{IsAccessOk}
-use Rattle.mr_event.specs.declared.footprint.Footprint.{Footprint}
+use Rattle.mr_event.specs.Footprint.{Footprint}
 use Rattle.mr_mem.specs.Memory.{Allocation, Memory, extent_of}
 use Rattle.mr_plan.specs.Limits.{ArePlaced, IsPlaced}
 use Rattle.mr_plan.specs.Notes.{Notes, accesses_in, event_of, foot_of, whole_store, whole_stores}

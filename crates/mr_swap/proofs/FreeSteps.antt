@@ -8,13 +8,14 @@ use Rattle.mr_base.specs.declared.access.Access.{Access}
 use Rattle.mr_base.specs.declared.byte.AllocId.{AllocId}
 use Rattle.mr_base.specs.declared.thread.Event.{Event}
 use Rattle.mr_base.specs.declared.thread.Event.TheVariants.{Acquire, CreateLock, Join, Quiet, Release, Spawn}
-use Rattle.mr_event.specs.Footprints.{both_create, both_spawn, depends, joined_by, joins_of, lock_of, same_id, same_lock, same_number, share_id, spawns, wakes}
-use Rattle.mr_event.specs.declared.footprint.Footprint.{Footprint}
+use Rattle.mr_event.specs.Footprints.{both_create, both_spawn, depends, joined_by, joins_of, lock_of, same_lock, same_number, share_id, spawns, wakes}
+use Rattle.mr_event.specs.Footprint.{Footprint}
 use Rattle.mr_plan.specs.Notes.{event_of}
 use Rattle.mr_plan.specs.Places.{Covers}
 use Rattle.mr_swap.specs.Spots.{ActsOn, IsCreation, IsSpawn}
 use Rattle.mr_swap.specs.Swap.{HasOneEvent}
 use Rattle.mr_swap.proofs.ElementTests.{any_element, none_passes}
+use Rattle.mr_base.specs.Identities.{same_id}
 
 -- ---- the tests
 

@@ -11,6 +11,8 @@ use Rattle.mr_plan.specs.Legal.{count_of, creation_fault, else_fault, fault, nee
 use Rattle.mr_swap.specs.Meets.{AreNewIn, HasRoom, IsLegalEntry}
 use Rattle.mr_plan.proofs.LegalLaws.{no_faults}
 use Rattle.mr_swap.proofs.MeetsLaws.{legal_of_meets, meets_of_legal, new_of_memory}
+use Rattle.mr_sched.specs.declared.rule.ScheduleRule.{ScheduleRule}
+use Rattle.mr_sched.specs.declared.rule.ScheduleRule.TheVariants as rule
 
 -- no fault of the status: the thread is enabled
 enabled_from : (o : Option Status) → status_fault o ≡ None → o ≡ Some Enabled
@@ -21,20 +23,20 @@ enabled_from (Some (OnLock l)) h = absurd (cc)
 enabled_from (Some Ended) h = absurd (cc)
 
 -- a test of a limit that is passed
-below : (b : Bool) (n : ℕ) → cond b None (fault n) ≡ None → b ≡ true
-below true n h = refl
-below false n h = absurd (cc)
+below : (b : Bool) (r : ScheduleRule) → cond b None (fault r) ≡ None → b ≡ true
+below true r h = refl
+below false r h = absurd (cc)
 
 -- there is room where the limit is no rule that is broken
 room_from : (s : Shared) (c : Creation) → creation_fault s c ≡ None → HasRoom s c
 room_from s CreatesNothing h = tt
-room_from s CreatesThread h = ltb-true (length s.statuses) 1024 (below (nat_lt (length s.statuses) 1024) 67 h)
-room_from s CreatesLock h = ltb-true (length s.holders) 4096 (below (nat_lt (length s.holders) 4096) 68 h)
+room_from s CreatesThread h = ltb-true (length s.statuses) 1024 (below (nat_lt (length s.statuses) 1024) rule.TooManyThreads h)
+room_from s CreatesLock h = ltb-true (length s.holders) 4096 (below (nat_lt (length s.holders) 4096) rule.TooManyLocks h)
 
 room_to : (s : Shared) (c : Creation) → HasRoom s c → creation_fault s c ≡ None
 room_to s CreatesNothing h = refl
-room_to s CreatesThread h = ap (λ b. cond b None (fault 67)) (lt-ltb (length s.statuses) 1024 h)
-room_to s CreatesLock h = ap (λ b. cond b None (fault 68)) (lt-ltb (length s.holders) 4096 h)
+room_to s CreatesThread h = ap (λ b. cond b None (fault rule.TooManyThreads)) (lt-ltb (length s.statuses) 1024 h)
+room_to s CreatesLock h = ap (λ b. cond b None (fault rule.TooManyLocks)) (lt-ltb (length s.holders) 4096 h)
 
 module _ {L : Type 0} (step : Language L) (s : State L) (t : ℕ) (picks : List ℕ) where
   -- where no rule is broken the thread is enabled

@@ -18,6 +18,8 @@ use Rattle.mr_plan.proofs.MemoryFacts.{MemoryFacts, Ranged}
 use Rattle.mr_swap.specs.Meets.{AreApart, AreNew, AreNewIn, AreWaiting, Exchanged, IsApartFrom, IsClear, IsTaken, Meets, MeetsAfter, TakesAlso, TakesOnly, addresses, ranges_after, waiters}
 use Rattle.mr_swap.proofs.ElementTests.{front_cases, here, there}
 use Rattle.mr_swap.proofs.RangeLists.{put_from, put_has, put_keeps, range_from, range_there}
+use Rattle.mr_mem.proofs.IndexLaws.{not_reused}
+use Rattle.mr_sched.specs.declared.rule.ScheduleRule.TheVariants as rule
 
 -- ---- ranges apart
 
@@ -61,10 +63,6 @@ clear_overlapped (r ∷ rs) addr size c =
     ap (λ b. cond b (Some r.0) (first_overlapped addr size rs)) (c r.0 r.1 (here r rs))
     ∙ clear_overlapped rs addr size (λ id q h. c id q (there r rs (id, q) h))
 
-no_reuse : (o : Option AllocId) → reused o ≡ None → o ≡ None
-no_reuse None h = refl
-no_reuse (Some id) h = absurd (cc)
-
 -- an address may be picked exactly where it isn't bad and its range is clear
 pub lawful_from : (rs : Ranges) (addr size align : ℕ) → range_fault rs addr size align ≡ None → (is_bad_address addr size align ≡ false) × IsClear rs (addr, size)
 unfolding range_fault
@@ -72,7 +70,7 @@ lawful_from rs addr size align h = by_test (is_bad_address addr size align) h
   where
     by_test : (b : Bool) → cond b (Some BadAddress) (reused (first_overlapped addr size rs)) ≡ None → (b ≡ false) × IsClear rs (addr, size)
     by_test true e = absurd (cc)
-    by_test false e = (refl, none_overlapped rs addr size (no_reuse _ e))
+    by_test false e = (refl, none_overlapped rs addr size (not_reused _ e))
 
 pub lawful_to : (rs : Ranges) (addr size align : ℕ) → is_bad_address addr size align ≡ false → IsClear rs (addr, size) → range_fault rs addr size align ≡ None
 unfolding range_fault
@@ -119,7 +117,7 @@ module _ (rs : Ranges) (t count addr size : ℕ) where
 
 -- ---- no fault exactly where the picks meet the asks
 
-lock_test : (b : Bool) (o : Option Fault) → cond b o (fault 65) ≡ None → (b ≡ true) × (o ≡ None)
+lock_test : (b : Bool) (o : Option Fault) → cond b o (fault rule.NotWaiting) ≡ None → (b ≡ true) × (o ≡ None)
 lock_test true o h = (refl, h)
 lock_test false o h = absurd (cc)
 
@@ -168,7 +166,7 @@ meets_to ss rs es rs' t count (Address size align ∷ asks) (addr ∷ picks) k m
       | inr e ↦ inr (subst (Contains ((addr, size) ∷ es)) (sym e) (here (addr, size) es))
     ]) m.3
 meets_to ss rs es rs' t count (Waiter lock ∷ asks) (thread ∷ picks) k m =
-    ap (λ b. cond b (picks_fault ss rs' t count asks picks) (fault 65)) m.0 ∙ meets_to ss rs es rs' t count asks picks k m.1
+    ap (λ b. cond b (picks_fault ss rs' t count asks picks) (fault rule.NotWaiting)) m.0 ∙ meets_to ss rs es rs' t count asks picks k m.1
 
 module _ (ss : List Status) (rs : Ranges) (t count : ℕ) (asks : List Ask) (picks : List ℕ) where
   -- WHERE NO RULE IS BROKEN THE PICKS MEET THE ASKS
@@ -263,19 +261,6 @@ pub still_waiting : (ss ss' : List Status) (rs : Ranges) (asks : List Ask) (pick
 still_waiting ss ss' rs asks picks same m l w h = sym (same l w (waiters_asked asks picks l w h)) ∙ meets_waiting ss rs [] asks picks m l w h
 
 -- ---- the ranges behind an entry
-
-pub after_also : (rs : Ranges) (t count : ℕ) (asks : List Ask) (picks : List ℕ) → AreNew rs t count → TakesAlso rs (addresses asks picks) (ranges_after rs t count asks picks)
-after_also rs t count [] picks new = (λ q k. k, λ q h. absurd (Contains-nil q h))
-after_also rs t count (ask ∷ asks) [] new = (λ q k. k, λ q h. absurd (Contains-nil q h))
-after_also rs t count (Address size align ∷ asks) (addr ∷ picks) new =
-    let more = after_also (with_range rs (own t count) addr size) t (count + 1) asks picks (with_new rs t count addr size new) in (
-      λ q k. more.0 q (with_keeps rs t count addr size new q k),
-      λ q h. elim (front_cases (addr, size) (addresses asks picks) q h) [
-        | inl e ↦ more.0 q (subst (IsTaken (with_range rs (own t count) addr size)) e (with_has rs t count addr size))
-        | inr k ↦ more.1 q k
-      ],
-    )
-after_also rs t count (Waiter lock ∷ asks) (thread ∷ picks) new = after_also rs t count asks picks new
 
 pub after_only : (rs : Ranges) (t count : ℕ) (asks : List Ask) (picks : List ℕ) → TakesOnly rs (addresses asks picks) (ranges_after rs t count asks picks)
 after_only rs t count [] picks q k = inl k

@@ -10,12 +10,13 @@ use Rattle.mr_base.specs.declared.thread.Status.TheVariants.{Enabled, Ended, OnJ
 use Rattle.mr_sync.specs.Tables.{joiners, wake}
 use Rattle.mr_plan.specs.Notes.{Notes, start_notes}
 use Rattle.mr_plan.specs.Queries.{Shared}
-use Rattle.mr_plan.proofs.ElementLaws.{Any-append_left, Contains-nil}
+use Rattle.mr_plan.proofs.ElementLaws.{Contains-nil}
 use Rattle.mr_swap.specs.Spots.{IsCreation, IsSpawn}
 use Rattle.mr_swap.specs.Swap.{HasOneEvent}
 use Rattle.mr_swap.proofs.Changes.{Change, at_memory, awaits_end, awaits_lock, frees_lock, gives_lock, new_lock, new_thread, own_end, prints, sees_end, sees_lock, takes_lock}
 use Rattle.mr_swap.proofs.ElementTests.{any_element, any_from}
 use Rattle.mr_swap.proofs.Rising.{joiner_between}
+use Rattle.mr_base.proofs.Lists.{Any-append_left}
 
 -- the lock or the thread of an event is there, with so many threads and locks
 abbrev pub IsThere : ℕ → ℕ → Event → Type 0

@@ -11,7 +11,7 @@ use Rattle.std.specs.declared.cmp.Ordering.{Ordering}
 use Rattle.std.specs.declared.cmp.Ordering.TheVariants.{Less, Equal, Greater}
 use Rattle.mr_base.specs.declared.byte.AllocId.{AllocId}
 use Rattle.mr_mem.specs.Memory.{Allocation, Memory, Range, Ranges, id_cmp, range_of, ranges_of}
-use Rattle.mr_mem.proofs.Identities.{id_exact, id_total}
+use Rattle.mr_mem.proofs.Identities.{id_exact, id_total, is_less}
 use Rattle.mr_plan.proofs.ElementLaws.{Contains-nil, Contains-one}
 use Rattle.mr_swap.proofs.ElementTests.{from_map, front_cases, here, in_map, there}
 
@@ -63,11 +63,6 @@ module _ (id : AllocId) (v : Range) where
 test_true : (b : Bool) → T b → b ≡ true
 test_true true h = refl
 test_true false h = absurd h
-
-is_less : (o : Ordering) → is_lt o ≡ true → o ≡ Less
-is_less Less p = refl
-is_less Equal p = absurd (cc)
-is_less Greater p = absurd (cc)
 
 below_each : (id : AllocId) (es : List (AllocId × Allocation)) → below_all id_cmp id es ≡ true → (x : AllocId × Allocation) → Contains es x → id_cmp id x.0 ≡ Less
 below_each id [] h x c = absurd (Contains-nil x c)

@@ -13,12 +13,12 @@ use Rattle.mr_sync.specs.Tables.{joiners, wake}
 use Rattle.mr_plan.specs.Notes.{Notes, start_notes}
 use Rattle.mr_plan.specs.Queries.{Shared}
 use Rattle.mr_plan.proofs.ElementLaws.{Contains-nil}
-use Rattle.mr_plan.proofs.Positions.{set_there}
 use Rattle.mr_plan.proofs.TallyGrows.{tally_grows}
 use Rattle.mr_swap.proofs.Changes.{Change, at_memory, awaits_end, awaits_lock, frees_lock, gives_lock, new_lock, new_thread, own_end, prints, sees_end, sees_lock, takes_lock}
 use Rattle.mr_swap.proofs.ElementTests.{last_is}
 use Rattle.mr_swap.proofs.PushedLists.{push_here, push_there, set_same}
 use Rattle.mr_swap.proofs.Statuses.{after_end, behind_end, joiner_listed, woken_enabled}
+use Rattle.mr_base.proofs.Lists.{set_there}
 
 -- A step of thread t began with the statuses ss and is at xs with the notes n: it disabled no other thread; each other thread that is enabled
 -- was so before, or is noted as woken; the threads that it started are new, and none is gone.

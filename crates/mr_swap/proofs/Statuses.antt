@@ -8,9 +8,9 @@ use Rattle.mr_base.specs.declared.thread.Status.{Status}
 use Rattle.mr_base.specs.declared.thread.Status.TheVariants.{Enabled, OnJoin, OnLock, Ended}
 use Rattle.mr_sync.specs.Tables.{any_waiting, joiners, on_join, on_lock, over, wake}
 use Rattle.mr_plan.proofs.MemoryMoves.{IsMove}
-use Rattle.mr_plan.proofs.Positions.{set_there}
 use Rattle.mr_swap.proofs.ElementTests.{here, there}
 use Rattle.mr_swap.proofs.PushedLists.{push_here, push_there, set_same}
+use Rattle.mr_base.proofs.Lists.{set_there}
 
 -- ---- one status
 

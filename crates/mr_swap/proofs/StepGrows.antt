@@ -12,12 +12,12 @@ use Rattle.mr_plan.specs.Notes.{Notes}
 use Rattle.mr_plan.specs.Queries.{Query, Reply, Shared, answer}
 use Rattle.mr_plan.proofs.ListPlaces.{same_by_places}
 use Rattle.mr_plan.proofs.MemoryLocal.{same_memory}
-use Rattle.mr_plan.proofs.Positions.{set_there}
 use Rattle.mr_plan.proofs.TallyGrows.{Longer, TallyGrows, grows_same, longer_any, longer_contains, longer_same, reads_grow, tally_grows, writes_grow}
 use Rattle.mr_swap.specs.Spots.{ActsOn, At, EndsThread, Holder, InMemory, IsCreation, IsGoing, IsSpawn, LockCount, Over, Reads, Spot, ThreadCount, WaitsJoin, WaitsLock, Writes, at_spot}
 use Rattle.mr_swap.proofs.Changes.{Change, at_memory, awaits_end, awaits_lock, change, frees_lock, gives_lock, new_lock, new_thread, own_end, prints, sees_end, sees_lock, takes_lock}
 use Rattle.mr_swap.proofs.PushedLists.{push_there, set_same}
 use Rattle.mr_swap.proofs.Statuses.{same_status}
+use Rattle.mr_base.proofs.Lists.{set_there}
 
 -- ---- notes
 

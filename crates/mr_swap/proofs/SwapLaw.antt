@@ -18,7 +18,7 @@ use Rattle.mr_plan.proofs.MemoryFacts.{MemoryFacts}
 use Rattle.mr_swap.specs.Meets.{AreNewIn, Exchanged, HasRoom, IsLegalEntry, Meets}
 use Rattle.mr_swap.specs.Spots.{At, IsGoing, LockCount, Reads, Spot, ThreadCount, WaitsLock, Writes, at_spot}
 use Rattle.mr_swap.specs.Swap.{AreExchanged, IsCreated, IsSane, IsStarted, IsTelling, IsWaiter, StepTold, SwapLaw}
-use Rattle.mr_swap.proofs.BareSteps.{Taken, bare_goes, element_at, needs_are, needs_in, other_thread, taken, threads_after, threads_in_order, whole, whole_run}
+use Rattle.mr_swap.proofs.BareSteps.{Taken, bare_goes, needs_are, needs_in, other_thread, taken, threads_after, threads_in_order, whole, whole_run}
 use Rattle.mr_swap.proofs.ElementTests.{any_from}
 use Rattle.mr_swap.proofs.Editions.{foot_same, freed_there}
 use Rattle.mr_swap.proofs.FreeSteps.{not_woken}
@@ -29,6 +29,7 @@ use Rattle.mr_swap.proofs.MeetsLaws.{steps_exchanged}
 use Rattle.mr_swap.proofs.StatusFacts.{StatusFacts}
 use Rattle.mr_swap.proofs.StepGrows.{growing, kept, same_shared}
 use Rattle.mr_swap.proofs.StepRuns.{memory_of, statuses_of}
+use Rattle.mr_base.proofs.Lists.{item_there}
 
 -- ---- the laws of scripts, for steps
 
@@ -114,7 +115,7 @@ module _ {L : Type 0} (step : Language L) (tells : IsTelling step) (s s1 s2 : St
   -- and it has the same state of its own
   u_here : slice_get s.threads u ≡ Some g.th
   u_here =
-      let e = element_at s.threads u u_thread in
+      let e = item_there s.threads u u_thread in
       let later : slice_get s1.threads u ≡ Some e.0 = ap (λ ths. slice_get ths u) f.threads ∙ other_thread s.threads t u f.own nf.tally.count f.started e.0 turned e.1 in
       e.1 ∙ sym later ∙ g.here
 

@@ -7,8 +7,8 @@ use Rattle.mr_plan.specs.Machine.{Completed, Language, State, bare}
 use Rattle.mr_plan.specs.Notes.{Notes, foot_of}
 use Rattle.mr_swap.specs.Swap.{IsSane}
 
--- THE LAW OF LIMITS, of a language: the footprint of a step of a legal entry keeps the machine's limits, and so does the
--- state behind it
+-- THE LAW OF LIMITS, of a language: the footprint of a step of a legal entry keeps the machine's limits, and so does
+-- the state behind it
 abbrev pub LimitLaw : {L : Type 0} → Language L → Type 0
 LimitLaw {L} step =
     (s s' : State L) (t : ℕ) (picks : List ℕ) (n : Notes) → IsSane s → IsWithin s

@@ -2,6 +2,7 @@
 -- them.
 use Rattle.std.specs.Prelude.{◌≡◌, ℕ, ◌+◌, ◌<◌, ◌⊎◌, true, false, List, [], ◌∷◌, length, Some, slice_get, Contains}
 use Rattle.std.specs.FinMap as fin
+use Rattle.mr_base.specs.Limits.{max_locks, max_threads}
 use Rattle.mr_base.specs.declared.byte.AllocId.{AllocId}
 use Rattle.mr_base.specs.declared.thread.Status.{Status}
 use Rattle.mr_base.specs.declared.thread.Status.TheVariants.{Enabled}
@@ -24,10 +25,6 @@ IsTaken rs q = (id : AllocId) × Contains rs (id, record { addr = q.0; size = q.
 -- it is apart from the range of each identity
 abbrev pub IsClear : Ranges → ℕ × ℕ → Type 0
 IsClear rs r = (id : AllocId) (q : Range) → Contains rs (id, q) → AreApart r (q.addr, q.size)
-
--- it is apart from the range of each allocation, dead or live
-abbrev pub IsClearIn : Memory → ℕ × ℕ → Type 0
-IsClearIn m r = (id : AllocId) (a : Allocation) → fin.get m id ≡ Some a → AreApart r (a.addr, a.span)
 
 -- it is apart from each of these
 abbrev pub IsApartFrom : List (ℕ × ℕ) → ℕ × ℕ → Type 0
@@ -107,8 +104,8 @@ pub record Exchanged (ss0 ss2 : List Status) (rs0 rs2 : Ranges) (asks : List Ask
 -- there may be one more of what a step creates
 abbrev pub HasRoom : Shared → Creation → Type 0
 HasRoom s CreatesNothing = Unit {0}
-HasRoom s CreatesThread = length s.statuses < 1024
-HasRoom s CreatesLock = length s.holders < 4096
+HasRoom s CreatesThread = length s.statuses < max_threads
+HasRoom s CreatesLock = length s.holders < max_locks
 
 -- An entry of thread t with these picks is legal, as far as its bare step goes: the thread is enabled, there is room
 -- for what its step creates, and the picks meet what it asks for.

@@ -9,15 +9,9 @@ use Rattle.mr_base.specs.declared.thread.Status.TheVariants.{Enabled, OnJoin, On
 use Rattle.mr_sync.specs.Tables.{Tables, acquired, any_waiting, any_waits, awaiting, created, ended, handed, holder_of, holding, joined, names_waiter, on_lock, over, released, spawned, start_tables, taken_by, trying, waits, wake}
 use Rattle.mr_sync.proofs.Waiters.{waiter_counts}
 use Rattle.mr_sync.specs.Sound.{IsSoundTables, StaySound}
+use Rattle.mr_base.proofs.Lists.{set_there}
 
 -- PLACES OF A LIST
-
-get_set_other : {A : Type 0} (xs : List A) (i j : ℕ) (v : A) → j ≢ i → slice_get (slice_set xs i v) j ≡ slice_get xs j
-get_set_other [] i j v h = refl
-get_set_other (x ∷ xs) zero zero v h = absurd (h refl)
-get_set_other (x ∷ xs) zero (suc j) v h = refl
-get_set_other (x ∷ xs) (suc i) zero v h = refl
-get_set_other (x ∷ xs) (suc i) (suc j) v h = get_set_other xs i j v (λ e. h (ap suc e))
 
 -- what stands at j after a write at i was written, or stood there before
 set_cases : {A : Type 0} (xs : List A) (i j : ℕ) (v w : A) → slice_get (slice_set xs i v) j ≡ Some w → (v ≡ w) ⊎ (slice_get xs j ≡ Some w)
@@ -150,7 +144,7 @@ module _ (s : Tables) (sound : IsSoundTables s) where
   free_sound l none = record {
     locks = λ t l' h. elim (cases_eq l' l) [
       | inl e ↦ let some = waiter_counts l' s.statuses t (ap (on_lock l') h ∙ eq-eqb l' l' refl) in let some_here = subst (λ k. any_waiting k s.statuses ≡ true) e some in cc
-      | inr e ↦ let old = sound.locks t l' h in (old.0, ap taken_by (get_set_other s.holders l l' None e) ∙ old.1)
+      | inr e ↦ let old = sound.locks t l' h in (old.0, ap taken_by (set_there s.holders l l' None e) ∙ old.1)
     ];
     joins = sound.joins;
   }
@@ -203,7 +197,7 @@ module _ (s : Tables) (sound : IsSoundTables s) where
     locks = λ t' l g. elim (set_cases s.statuses t t' Ended (OnLock l) (lock_woken t l (slice_set s.statuses t Ended) t' g)) [ inl e ↦ cc | inr e ↦ sound.locks t' l e ];
     joins = λ t' u g.
         let waiting = join_woken t u (slice_set s.statuses t Ended) t' g in
-        over_woken t (slice_set s.statuses t Ended) u (elim (set_cases s.statuses t t' Ended (OnJoin u) waiting.0) [ inl e ↦ cc | inr e ↦ ap over (get_set_other s.statuses t u Ended waiting.1) ∙ sound.joins t' u e ]);
+        over_woken t (slice_set s.statuses t Ended) u (elim (set_cases s.statuses t t' Ended (OnJoin u) waiting.0) [ inl e ↦ cc | inr e ↦ ap over (set_there s.statuses t u Ended waiting.1) ∙ sound.joins t' u e ]);
   }
 
 -- the one thread of the first tables waits for nothing

@@ -6,7 +6,7 @@ use mr_base::{Reason, Status};
 use std::alloc::Global;
 use std::marker::Model;
 
-/// The status of each thread and the holder of each lock. At most 1,024 threads and 4,096 locks.
+/// The status of each thread and the holder of each lock. There are at most as many threads and locks as a run may have.
 #[derive(Drop)]
 pub struct SyncTable {
     statuses: Vec<Status>,
@@ -15,17 +15,19 @@ pub struct SyncTable {
 
 impl Model for SyncTable {
     ghost use Rattle.std.specs.Prelude.{◌≤◌, length};
+    ghost use Rattle.mr_base.specs.Limits.{max_locks, max_threads};
     ghost use Rattle.mr_sync.specs.Tables.{Tables};
 
     ghost Value = { Tables };
 
     ghost view = { λ s. record { statuses = s.statuses.items; holders = s.holders.items } };
 
-    ghost invariant = { λ s. (length s.statuses.items ≤ 1024) × (length s.holders.items ≤ 4096) };
+    ghost invariant = { λ s. (length s.statuses.items ≤ max_threads) × (length s.holders.items ≤ max_locks) };
 }
 
 impl SyncTable {
     ghost use Rattle.std.specs.Prelude.{◌≡◌, ◌<◌, ◌++◌, length, slice_get, IfOk, OnOk, OnErr, MatchResult, Some, None, Ok, Err};
+    ghost use Rattle.mr_base.specs.Limits.{max_locks, max_threads};
     ghost use Rattle.mr_sync.specs.Tables.{IsEnabled, acquired, any_waits, created, ended, handed, holder_of, is_any_enabled, joined, names_waiter, released, spawned, start_tables, waits};
 
     /// Thread 0, which is enabled, and no lock.
@@ -73,7 +75,7 @@ impl SyncTable {
 
     /// Makes the next thread, and gives its number.
     pub fn spawn(&mut self) -> Result<u32, OutOfMemory>
-        requires { length self.old.statuses < 1024 }
+        requires { length self.old.statuses < max_threads }
         ensures number { IfOk result (λ t. t ≡ (spawned self.old).0) }
         ensures ok { OnOk result (self.new ≡ (spawned self.old).1) }
         ensures err { OnErr result (self.new ≡ self.old) }
@@ -85,7 +87,7 @@ impl SyncTable {
 
     /// Makes the next lock, and gives its number.
     pub fn create_lock(&mut self) -> Result<u32, OutOfMemory>
-        requires { length self.old.holders < 4096 }
+        requires { length self.old.holders < max_locks }
         ensures number { IfOk result (λ lock. lock ≡ (created self.old).0) }
         ensures ok { OnOk result (self.new ≡ (created self.old).1) }
         ensures err { OnErr result (self.new ≡ self.old) }
@@ -98,7 +100,8 @@ impl SyncTable {
     /// Thread `t` takes a free lock, or waits for a taken one, also for its own: false exactly where it waits.
     pub fn acquire(&mut self, t: u32, lock: u32) -> Result<bool, Reason>
         requires { IsEnabled t self.old }
-        ensures acquired { MatchResult result (λ b. acquired t lock self.old ≡ Ok (b, self.new)) (λ r. acquired t lock self.old ≡ Err r) }
+        ensures acquired { MatchResult result (λ b. acquired t lock self.old ≡ Ok (b, self.new))
+            (λ r. acquired t lock self.old ≡ Err r) }
         ensures err { OnErr result (self.new ≡ self.old) }
     {
         match self.holders.get(lock as usize) {
@@ -119,7 +122,8 @@ impl SyncTable {
     pub fn release(&mut self, t: u32, lock: u32, to: Option<u32>) -> Result<(), Reason>
         requires enabled { IsEnabled t self.old }
         requires to { holder_of lock self.old ≡ Some t → names_waiter lock to self.old ≡ any_waits lock self.old }
-        ensures released { MatchResult result (λ _. released t lock to self.old ≡ Ok self.new) (λ r. released t lock to self.old ≡ Err r) }
+        ensures released { MatchResult result (λ _. released t lock to self.old ≡ Ok self.new)
+            (λ r. released t lock to self.old ≡ Err r) }
         ensures err { OnErr result (self.new ≡ self.old) }
     {
         let Some(holder) = self.holders.get(lock as usize) else {
@@ -151,7 +155,8 @@ impl SyncTable {
     /// Thread `t` goes on behind the end of thread `target`, or waits for it: false exactly where it waits.
     pub fn join(&mut self, t: u32, target: u32) -> Result<bool, Reason>
         requires { IsEnabled t self.old }
-        ensures joined { MatchResult result (λ b. joined t target self.old ≡ Ok (b, self.new)) (λ r. joined t target self.old ≡ Err r) }
+        ensures joined { MatchResult result (λ b. joined t target self.old ≡ Ok (b, self.new))
+            (λ r. joined t target self.old ≡ Err r) }
         ensures err { OnErr result (self.new ≡ self.old) }
     {
         match self.statuses.get(target as usize) {

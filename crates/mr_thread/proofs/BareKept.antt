@@ -1,16 +1,16 @@
 -- A bare step of a legal entry from a state that keeps what each state keeps has a rule, and leaves one that keeps it.
-use Rattle.std.proofs.Common.{◌≡◌, ℕ, ◌<◌, refl, subst, sym, ap, ◌∙◌, arith, List, length, Option, Some, None, Bool, true, false}
+use Rattle.std.proofs.Common.{◌≡◌, ℕ, ◌<◌, refl, subst, sym, ap, ◌∙◌, arith, List, length, Option, Some, None}
 use Rattle.std.proofs.lemmas.Option.{same_Some, slice_get_within}
 use Rattle.std.specs.Prelude.{slice_get}
 use Rattle.mr_ast.specs.declared.program.Program.{Program}
 use Rattle.mr_base.specs.declared.thread.Status.{Status}
 use Rattle.mr_base.specs.declared.thread.Status.TheVariants.{Enabled, Ended, OnJoin, OnLock}
 use Rattle.mr_wf.specs.Walk.{WellFormed}
-use Rattle.mr_script.specs.Script.{◌>>=◌, Outcome, Went, Refused, Broken, on, run}
+use Rattle.mr_script.specs.Script.{Outcome, Went, Refused, Broken, on, run}
 use Rattle.mr_script.proofs.Runs.{run_bind}
 use Rattle.mr_eval.specs.Tally.{start_tally}
-use Rattle.mr_plan.specs.Legal.{count_of, else_fault, fault, needs_fault, state_fault, status_fault}
-use Rattle.mr_plan.specs.Machine.{Aborts, Bare, Completed, Exits, Flow, Goes, IllFormedStep, Needs, Plan, State, Stops, Thread, acted, bare, needs, needed, needs_of, settled}
+use Rattle.mr_plan.specs.Legal.{count_of, needs_fault, state_fault, status_fault}
+use Rattle.mr_plan.specs.Machine.{Aborts, Bare, Completed, Exits, Goes, IllFormedStep, Plan, State, Stops, Thread, acted, bare, needs, needed, needs_of, settled}
 use Rattle.mr_plan.specs.Notes.{Notes, start_notes}
 use Rattle.mr_plan.specs.Queries.{Shared, StepScript, answer}
 use Rattle.mr_plan.specs.Storage.{AreHeld, Slot}
@@ -22,14 +22,14 @@ use Rattle.mr_frame.specs.Fits.{FitsStack, IsLook}
 use Rattle.mr_frame.specs.Frames.{Look}
 use Rattle.mr_frame.specs.Operations.{DueDo, next_do}
 use Rattle.mr_frame.proofs.DoSafe.{do_stands}
-use Rattle.mr_frame.proofs.Places.{within}
-use Rattle.mr_thread.specs.SoundState.{FitsStatus, SoundState}
+use Rattle.mr_thread.specs.SoundState.{SoundState}
 use Rattle.mr_thread.specs.Steps.{Own, Turn, own_step, step_due, thread_step}
 use Rattle.mr_thread.proofs.DoTurn.{do_turn}
 use Rattle.mr_thread.proofs.FrameTurn.{PlanTurns, frame_turn}
 use Rattle.mr_thread.proofs.Settled.{settled_sound}
 use Rattle.mr_thread.proofs.ThreadRooms.{in_front_of_others, other_slots}
 use Rattle.mr_thread.proofs.Turns.{AfterTurn}
+use Rattle.mr_base.proofs.Lists.{item_there}
 
 -- what a bare step comes to: a state that keeps it all, or a verdict
 abbrev pub SoundBare : Program → Bare Own → Type 0
@@ -99,7 +99,7 @@ module _ (look : Look) (is : IsLook look) (well : WellFormed look.program) (s : 
       let parts = no_faults (status_fault (slice_get s.shared.statuses t)) (needs_fault s.shared t (count_of (slice_get s.threads t)) (needs (thread_step look) s t) picks) h in
       let enabled = enabled_there (slice_get s.shared.statuses t) parts.0 in
       let lt : t < length s.threads = (let k = slice_get_within s.shared.statuses t Enabled enabled in let m = sound.many in omega arith) in
-      let th = within s.threads t lt in
+      let th = item_there s.threads t lt in
       let legal : needs_fault s.shared t th.0.count (needed (thread_step look) s t (Some th.0)) picks ≡ None =
       (λ i. needs_fault s.shared t (count_of (sym th.1 i)) (needed (thread_step look) s t (sym th.1 i)) picks) ∙ parts.1 in
       subst (λ (o : Option (Thread Own)). SoundBare p (acted (thread_step look) s t picks o)) (sym th.1) (acted_sound enabled th.0 th.1 legal)

@@ -1,8 +1,9 @@
 -- The turn of a thread whose next step is an intrinsic.
-use Rattle.std.proofs.Common.{◌≡◌, ◌≢◌, ℕ, zero, suc, ◌<◌, ◌+◌, ◌^◌, refl, subst, sym, ap, ◌∙◌, arith, List, [], ◌∷◌, ◌++◌, length, Option, Some, None, Bool, true, false}
+use Rattle.std.proofs.Common.{◌≡◌, ◌≢◌, ℕ, ◌<◌, ◌+◌, ◌^◌, refl, subst, sym, ap, ◌∙◌, arith, List, [], ◌∷◌, ◌++◌, length, Option, Some, None, Bool, true, false}
 use Rattle.std.proofs.lemmas.List.{length-append}
-use Rattle.std.proofs.lemmas.Option.{same_Some, slice_get_within}
+use Rattle.std.proofs.lemmas.Option.{slice_get_within}
 use Rattle.std.specs.Prelude.{◌&&◌, slice_get, if◌then◌else◌, nat_lt}
+use Rattle.std.proofs.lemmas.Bool.{and_parts}
 use Rattle.mr_ast.specs.declared.program.Function.{Function}
 use Rattle.mr_ast.specs.declared.program.Intrinsic.{Intrinsic}
 use Rattle.mr_ast.specs.declared.program.Intrinsic.TheVariants as intrinsic
@@ -16,52 +17,51 @@ use Rattle.mr_base.specs.declared.reason.Reason.TheVariants.{SignatureMismatch}
 use Rattle.mr_base.specs.declared.thread.Event.TheVariants.{Spawn}
 use Rattle.mr_base.specs.declared.thread.Status.{Status}
 use Rattle.mr_base.specs.declared.thread.Status.TheVariants.{Enabled}
-use Rattle.mr_layout.proofs.PartsOk.{and_true}
 use Rattle.mr_mem.specs.Memory.{ranges_of}
 use Rattle.mr_value.specs.declared.val.Val.{Val, out-Val}
 use Rattle.mr_value.specs.declared.val.Val.TheVariants as val
-use Rattle.mr_value.specs.declared.val.Val.TheOpen.{Val-F}
 use Rattle.mr_value.specs.Shape.{has_shape}
 use Rattle.mr_value.proofs.ShapeLaws.{has_int, has_raw, shape_fn_ptr}
 use Rattle.mr_wf.specs.Intrinsics.{fits_intrinsic, gives}
 use Rattle.mr_wf.specs.Operands.{is_fn_ptr, is_raw}
 use Rattle.mr_wf.specs.Walk.{WellFormed}
 use Rattle.mr_wf.proofs.KindLaws.{fn_ptr_is, raw_is}
-use Rattle.mr_script.specs.Script.{Done, Undefined, IllFormed, Ask, ◌>>=◌, Outcome, Went, on, run}
+use Rattle.mr_script.specs.Script.{Done, Undefined, on, run}
 use Rattle.mr_eval.specs.Tally.{start_tally}
 use Rattle.mr_eval.specs.Shapes.{HaveShapes}
 use Rattle.mr_sync.specs.Sound.{IsSoundTables}
 use Rattle.mr_sync.specs.Tables.{over, spawned}
 use Rattle.mr_sync.proofs.SoundTables.{stay_sound}
-use Rattle.mr_plan.specs.Legal.{creation_fault, fault, needs_fault, picks_fault}
-use Rattle.mr_plan.specs.Machine.{CreatesThread, Flow, Goes, Plan}
+use Rattle.mr_plan.specs.Legal.{creation_fault, fault, picks_fault}
+use Rattle.mr_plan.specs.Machine.{CreatesThread, Goes}
 use Rattle.mr_plan.specs.Notes.{Notes, start_notes}
-use Rattle.mr_plan.specs.Queries.{Shared, Start, StepScript, answer, memory_part, note, tables_of, with_tables, woke}
+use Rattle.mr_plan.specs.Queries.{Shared, answer, memory_part, note, tables_of, with_tables, woke}
 use Rattle.mr_plan.specs.Storage.{AreHeld, Slot}
 use Rattle.mr_plan.proofs.LegalLaws.{no_faults, picks_length}
 use Rattle.mr_plan.proofs.MemoryFacts.{MemoryFacts}
 use Rattle.mr_plan.proofs.MemoryParts.{Leaves, Left, leaves_then, memory_after, reading_after}
 use Rattle.mr_plan.proofs.Outcomes.{After, after_then}
 use Rattle.mr_plan.proofs.Rooms.{behind, in_front}
-use Rattle.mr_frame.specs.Calls.{behind_first, callee_of, enter, kept_types, local_type, same_types, storage_asks}
+use Rattle.mr_frame.specs.Calls.{behind_first, callee_of, enter, kept_types, same_types, storage_asks}
 use Rattle.mr_frame.specs.Fits.{FitsStack, IsLook}
 use Rattle.mr_frame.specs.Frames.{Frame, Look, Stack}
-use Rattle.mr_frame.specs.Operations.{DueDo, Operands, OperandsFit, finish, next_do, operands}
+use Rattle.mr_frame.specs.Operations.{DueDo, Operands, OperandsFit, finish, operands}
 use Rattle.mr_frame.specs.Storage.{frame_slots, slots_with}
 use Rattle.mr_frame.proofs.CallSafe.{IsFirst, enter_safe, equal_types, kept_there, position_below}
-use Rattle.mr_frame.proofs.DoSafe.{DoStands, ValueFits, do_stands, finish_safe, operands_safe}
+use Rattle.mr_frame.proofs.DoSafe.{DoStands, ValueFits, finish_safe, operands_safe}
 use Rattle.mr_frame.proofs.Frames.{function_keeps}
-use Rattle.mr_frame.proofs.Places.{within}
 use Rattle.mr_frame.proofs.StorageSteps.{enter_keeps, finish_keeps}
 use Rattle.mr_intr.specs.Effects.{FitsPlace, IsOperation}
-use Rattle.mr_intr.specs.Operations.{Operation, instant, operation, pointer, pointer_in}
+use Rattle.mr_intr.specs.Operations.{Operation, operation, pointer}
 use Rattle.mr_intr.proofs.Leaving.{AfterOp, OpLeaves, OpPlan, same_left}
 use Rattle.mr_intr.proofs.Operates.{operation_safe}
 use Rattle.mr_intr.proofs.OperationSafe.{found_then, result_is}
-use Rattle.mr_thread.specs.SoundState.{FitsStatus}
-use Rattle.mr_thread.specs.Steps.{Own, Turn, do_step, finished, finishing, last_payload, new_thread, operated, reads, spawn, spawn_function, spawn_number, spawn_types, start, thread_types, with_stack}
+use Rattle.mr_thread.specs.Steps.{Own, do_step, finished, finishing, last_payload, new_thread, operated, reads, spawn, spawn_function, spawn_number, spawn_types, start, thread_types, with_stack}
 use Rattle.mr_thread.proofs.FrameTurn.{PlanTurns}
-use Rattle.mr_thread.proofs.Turns.{AfterTurn, StartedFits, TurnLeaves, fits_over, many_started, started_slots}
+use Rattle.mr_thread.proofs.Turns.{AfterTurn, StartedFits, fits_over, many_started, started_slots}
+use Rattle.mr_base.proofs.Lists.{item_there}
+use Rattle.mr_eval.specs.Operators.{pointer_in}
+use Rattle.mr_sched.specs.declared.rule.ScheduleRule.TheVariants as rule
 
 value_fits : (t : Option Ty) (v : Option Val) → FitsPlace t v → ValueFits t v
 value_fits None v h = h
@@ -154,7 +154,7 @@ module _ (look : Look) (is : IsLook look) (well : WellFormed look.program) (s : 
     few_threads : creation_fault s CreatesThread ≡ None → length s.statuses < 1024
     few_threads h = by_test (nat_lt (length s.statuses) 1024) refl h
       where
-        by_test : (b : Bool) → nat_lt (length s.statuses) 1024 ≡ b → (if b then None else fault 67) ≡ None → length s.statuses < 1024
+        by_test : (b : Bool) → nat_lt (length s.statuses) 1024 ≡ b → (if b then None else fault rule.TooManyThreads) ≡ None → length s.statuses < 1024
         by_test true e k = lt_from (length s.statuses) 1024 e
         by_test false e k = absurd (cc)
 
@@ -162,7 +162,7 @@ module _ (look : Look) (is : IsLook look) (well : WellFormed look.program) (s : 
     more = s.statuses ++ Enabled ∷ []
 
     get_front : (k : ℕ) → k < length s.statuses → slice_get more k ≡ slice_get s.statuses k
-    get_front k lt = let x = within s.statuses k lt in in_front s.statuses (Enabled ∷ []) k x.0 x.1 ∙ sym x.1
+    get_front k lt = let x = item_there s.statuses k lt in in_front s.statuses (Enabled ∷ []) k x.0 x.1 ∙ sym x.1
 
     get_last : slice_get more (length s.statuses) ≡ Some Enabled
     get_last = ap (slice_get more) (plus_none (length s.statuses)) ∙ behind s.statuses (Enabled ∷ []) 0 Enabled refl
@@ -227,7 +227,7 @@ module _ (look : Look) (is : IsLook look) (well : WellFormed look.program) (s : 
             → After (PlanTurns p s t c others) (run answer (spawn_number look own d o argument n) v)
         numbered_spawn argument shape int q None e = tt
         numbered_spawn argument shape int q (Some number) e =
-            let fn = within p.functions number (callee_below q number e) in
+            let fn = item_there p.functions number (callee_below q number e) in
             subst (λ (f : Option Function). After (PlanTurns p s t c others) (run answer (spawn_function own d o number argument f) v)) (sym fn.1)
             (typed_spawn number fn.0 fn.1 argument shape int (kept_types fn.0) refl)
 
@@ -237,8 +237,8 @@ module _ (look : Look) (is : IsLook look) (well : WellFormed look.program) (s : 
         by_types (a ∷ b ∷ []) [] shapes fits = absurd shapes
         by_types (a ∷ b ∷ []) (x ∷ []) shapes fits = absurd (shapes.1)
         by_types (a ∷ b ∷ []) (x ∷ y ∷ []) shapes fits =
-            let parts = and_true (is_fn_ptr a) (is_raw b && gives (ty.Int U32) o.result_type) fits in
-            let rest = and_true (is_raw b) (gives (ty.Int U32) o.result_type) parts.1 in
+            let parts = and_parts (is_fn_ptr a) (is_raw b && gives (ty.Int U32) o.result_type) fits in
+            let rest = and_parts (is_raw b) (gives (ty.Int U32) o.result_type) parts.1 in
             let made = shape_fn_ptr x (subst (λ (u : Ty). has_shape u x ≡ true) (fn_ptr_is a parts.0) shapes.0) in
             let is_pointer : pointer_in (out-Val x) ≡ Some made.pointer = ap pointer_in (ap out-Val made.is ∙ val.outs-Ptr made.pointer) in
             found_then s t c sound enabled rooms v leaves held (PlanTurns p s t c others) (pointer_in (out-Val x)) made.pointer _ is_pointer

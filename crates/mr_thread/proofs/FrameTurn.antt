@@ -9,16 +9,16 @@ use Rattle.mr_ast.specs.declared.program.Program.{Program}
 use Rattle.mr_base.specs.declared.thread.Status.{Status}
 use Rattle.mr_base.specs.declared.thread.Status.TheVariants.{Enabled, Ended, OnJoin, OnLock}
 use Rattle.mr_wf.specs.Walk.{WellFormed}
-use Rattle.mr_script.specs.Script.{Done, Undefined, IllFormed, Ask, Outcome, Went, Broken, on, run}
+use Rattle.mr_script.specs.Script.{Done, Undefined, IllFormed, Ask, Went, Broken, on, run}
 use Rattle.mr_eval.specs.MemoryQueries.{MemoryScript}
 use Rattle.mr_eval.specs.Reads.{ReadScript}
 use Rattle.mr_eval.specs.Sound.{IsSafe}
 use Rattle.mr_eval.specs.Tally.{start_tally}
 use Rattle.mr_sync.specs.Sound.{IsSoundTables}
-use Rattle.mr_sync.specs.Tables.{ended, on_join, over, wake}
+use Rattle.mr_sync.specs.Tables.{ended, over, wake}
 use Rattle.mr_sync.proofs.SoundTables.{stay_sound}
 use Rattle.mr_plan.specs.Legal.{creation_fault, needs_fault, picks_fault}
-use Rattle.mr_plan.specs.Machine.{Flow, Goes, Needs, Plan}
+use Rattle.mr_plan.specs.Machine.{Goes, Plan}
 use Rattle.mr_plan.specs.Notes.{Notes, start_notes}
 use Rattle.mr_plan.specs.Queries.{Finish, Shared, StepScript, answer, ending, memory_part, tables_of, with_tables}
 use Rattle.mr_plan.specs.Storage.{AreHeld, Slot}
@@ -33,11 +33,11 @@ use Rattle.mr_frame.specs.Operations.{next_do}
 use Rattle.mr_frame.specs.Steps.{frame_plan}
 use Rattle.mr_frame.specs.Storage.{frame_slots, onward_slots}
 use Rattle.mr_frame.proofs.FrameSafe.{frame_safe}
-use Rattle.mr_plan.proofs.Positions.{set_here, set_there}
+use Rattle.mr_plan.proofs.Positions.{set_here}
 use Rattle.mr_frame.proofs.StorageSteps.{KeepsSlots, Leads, frame_keeps}
-use Rattle.mr_thread.specs.SoundState.{FitsStatus}
 use Rattle.mr_thread.specs.Steps.{Own, Turn, frame_step, in_step, onward, reads, with_stack}
 use Rattle.mr_thread.proofs.Turns.{AfterTurn, TurnLeaves, fits_over, same_tables}
+use Rattle.mr_base.proofs.Lists.{set_there}
 
 -- whatever picks an entry brings that breaks no rule, the turn of this plan leaves what the next state keeps
 abbrev pub PlanTurns : Program → Shared → ℕ → ℕ → List Slot → Plan (StepScript Turn) → Shared × Notes → Type 0

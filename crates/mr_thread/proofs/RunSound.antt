@@ -13,6 +13,7 @@ use Rattle.mr_frame.specs.Frames.{Look}
 use Rattle.mr_thread.specs.SoundState.{IsSoundConfig, SoundState}
 use Rattle.mr_thread.specs.Steps.{Own, thread_step}
 use Rattle.mr_thread.proofs.BareKept.{SoundBare, bare_sound}
+use Rattle.mr_sched.specs.declared.rule.ScheduleRule.TheVariants as rule
 
 -- a legal entry finds a state, of which it breaks no rule
 pub record LegalAt (look : Look) (c : Config Own) (e : Entry) : Type 0 where
@@ -28,7 +29,7 @@ legal_at look c e h = by_verdict (is_running c.verdict) h
     by_state None is k = absurd (cc)
     by_state (Some s) is k = record { state = s; is = is; legal = k }
 
-    by_verdict : (b : Bool) → (if b then fault_in (thread_step look) e.thread e.picks c.state else fault 66) ≡ None → LegalAt look c e
+    by_verdict : (b : Bool) → (if b then fault_in (thread_step look) e.thread e.picks c.state else fault rule.AfterStop) ≡ None → LegalAt look c e
     by_verdict true k = by_state c.state refl k
     by_verdict false k = absurd (cc)
 

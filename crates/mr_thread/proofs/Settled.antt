@@ -1,5 +1,5 @@
 -- The state behind a turn keeps what each state keeps.
-use Rattle.std.proofs.Common.{◌≡◌, ◌≢◌, ℕ, zero, suc, ◌+◌, ◌<◌, refl, sym, ap, ◌∙◌, subst, arith, List, [], ◌∷◌, ◌++◌, length, ◌⊎◌, inl, inr, Option, Some, None}
+use Rattle.std.proofs.Common.{◌≡◌, ◌≢◌, ℕ, zero, suc, ◌+◌, ◌<◌, refl, sym, ap, ◌∙◌, subst, arith, List, [], ◌++◌, length, inl, inr, Option, Some, None}
 use Rattle.std.proofs.lemmas.Bool.{cases_eq}
 use Rattle.std.proofs.lemmas.List.{length-append}
 use Rattle.std.proofs.lemmas.Option.{same_Some, slice_get_within}
@@ -17,12 +17,12 @@ use Rattle.mr_plan.specs.Notes.{Notes}
 use Rattle.mr_plan.specs.Queries.{Shared}
 use Rattle.mr_plan.proofs.Rooms.{append_cases, behind, in_front}
 use Rattle.mr_plan.proofs.StorageRuns.{set_cases}
-use Rattle.mr_frame.proofs.Places.{within}
-use Rattle.mr_plan.proofs.Positions.{set_here, set_there}
+use Rattle.mr_plan.proofs.Positions.{set_here}
 use Rattle.mr_thread.specs.SoundState.{FitsStatus, IsCounted, SoundState}
 use Rattle.mr_thread.specs.Steps.{Own}
 use Rattle.mr_thread.proofs.ThreadRooms.{back_in_place, other_slots}
 use Rattle.mr_thread.proofs.Turns.{StartedFits, TurnLeaves, fits_over, many_started}
+use Rattle.mr_base.proofs.Lists.{item_there, set_there}
 
 -- which thread stands at a position behind the turn
 pub data Stands (threads : List (Thread Own)) (t : ℕ) (now : Thread Own) (started : Option Own) (u : ℕ) (x : Thread Own) : Type 0 where
@@ -87,7 +87,7 @@ module _ (p : Program) (s : State Own) (sound : SoundState p s) (t : ℕ) (th : 
   other_fits : (u : ℕ) (status : Status) (x : Thread Own) → u ≢ t → slice_get w.0.statuses u ≡ Some status → slice_get s.threads u ≡ Some x → FitsStatus p status x.own.stack
   other_fits u status x d has h =
       let lt : u < length s.shared.statuses = (let k = slice_get_within s.threads u x h in let m = sound.many in omega arith) in
-      let old = within s.shared.statuses u lt in
+      let old = item_there s.shared.statuses u lt in
       fits_over p old.0 status x.own.stack (ap over (sym old.1) ∙ sym (turn.other u d lt) ∙ ap over has) (sound.fits u old.0 x old.1 h)
 
   fits_now : (u : ℕ) (status : Status) (x : Thread Own) → slice_get w.0.statuses u ≡ Some status → Stands s.threads t now started u x → FitsStatus p status x.own.stack

@@ -1,6 +1,6 @@
 //! The races of a run, from its bytes alone.
 ghost use Rattle.std.specs.Prelude.{◌≡◌, ℕ, List, IfOk};
-ghost use Rattle.mr_event.specs.declared.footprint.Footprint.{Footprint};
+ghost use Rattle.mr_event.specs.Footprint.{Footprint};
 ghost use Rattle.mr_event.specs.declared.footprint.Pair.{Pair};
 ghost use Rattle.mr_event.specs.Predicted.{predicted};
 ghost use Rattle.mr_trace.specs.Faults.{FirstFault};

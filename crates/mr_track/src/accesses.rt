@@ -49,15 +49,6 @@ impl Accesses {
         self.items.clear();
     }
 
-    /// These accesses in place of those that were there. After an `Err` nothing is promised of them.
-    pub fn copy_from(&mut self, other: &Accesses) -> Result<(), OutOfMemory>
-        ensures { OnOk result (self.new ≡ other.now) }
-    {
-        self.clear();
-        self.items.extend_from_slice(other.items.as_slice())?;
-        Ok(())
-    }
-
     /// How many there are.
     pub fn len(&self) -> usize
         ensures { result ≡ length self.now }

@@ -1,7 +1,7 @@
 //! Whether accesses conflict or race.
 ghost use Rattle.std.specs.Prelude.{◌≡◌};
 ghost use Rattle.std.specs.List.{list_any};
-ghost use Rattle.mr_base.specs.Accesses.{overlaps, conflicts as conflict_of, races as race_of, some_conflict, some_race};
+ghost use Rattle.mr_base.specs.Accesses.{overlaps, conflicts as conflict_of, races as race_of, some_conflict as has_conflict, some_race as has_race};
 
 use crate::accesses::Accesses;
 use mr_base::{Access, ranges_meet};
@@ -39,18 +39,30 @@ fn races_with(a: Access, others: &[Access]) -> bool
 
 /// Whether some access of the one list overlaps some access of the other, one of the two being a store.
 #[tactic(auto, unfolding(mr_base::specs::Accesses::some_conflict))]
-pub fn conflicts(a: &Accesses, b: &Accesses) -> bool
-    ensures { result ≡ some_conflict a.now b.now }
+pub fn some_conflict(a: &[Access], b: &[Access]) -> bool
+    ensures { result ≡ has_conflict a.now b.now }
 {
-    a.as_slice()
-        .iter()
-        .any(|x| conflicts_with(*x, b.as_slice()))
+    a.iter().any(|x| conflicts_with(*x, b))
 }
 
 /// Whether some access of the one list overlaps some access of the other, one of the two being a store and one not atomic.
 #[tactic(auto, unfolding(mr_base::specs::Accesses::some_race))]
-pub fn races(a: &Accesses, b: &Accesses) -> bool
-    ensures { result ≡ some_race a.now b.now }
+pub fn some_race(a: &[Access], b: &[Access]) -> bool
+    ensures { result ≡ has_race a.now b.now }
 {
-    a.as_slice().iter().any(|x| races_with(*x, b.as_slice()))
+    a.iter().any(|x| races_with(*x, b))
+}
+
+/// [`some_conflict`] of the accesses of two steps.
+pub fn conflicts(a: &Accesses, b: &Accesses) -> bool
+    ensures { result ≡ has_conflict a.now b.now }
+{
+    some_conflict(a.as_slice(), b.as_slice())
+}
+
+/// [`some_race`] of the accesses of two steps.
+pub fn races(a: &Accesses, b: &Accesses) -> bool
+    ensures { result ≡ has_race a.now b.now }
+{
+    some_race(a.as_slice(), b.as_slice())
 }

@@ -7,8 +7,8 @@
 //! - [`Accesses::len`], [`Accesses::get`], [`Accesses::as_slice`]: how many there are, each of them, and all.
 //! - [`conflicts`]: whether some access of the one list overlaps some access of the other, one of the two being a store.
 //! - [`races`]: the same, where one of the two isn't atomic as well.
+//! - [`some_conflict`], [`some_race`]: both, of accesses that lie one behind another.
 //! - [`AllocIds`], [`ThreadIds`]: lists of allocations and of threads, which contracts see as lists; `push` changes nothing where memory runs out.
-//! - `copy_from` of each of the three: a copy of another list takes the place of what was there.
 //! - [`Accesses::clear`], [`AllocIds::clear`]: nothing is left in the list.
 #![tactic(auto)]
 
@@ -17,6 +17,6 @@ mod compare;
 mod lists;
 
 pub use accesses::Accesses;
-pub use compare::{conflicts, races};
+pub use compare::{conflicts, races, some_conflict, some_race};
 pub use lists::{AllocIds, ThreadIds};
 pub use std::alloc::AllocError as OutOfMemory;

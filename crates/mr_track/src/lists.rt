@@ -49,18 +49,6 @@ impl AllocIds {
         self.items.clear();
     }
 
-    /// These allocations in place of those that were there. After an `Err` nothing is promised of them.
-    pub fn copy_from(&mut self, other: &AllocIds) -> Result<(), OutOfMemory>
-        ensures { OnOk result (self.new ≡ other.now) }
-    {
-        if self.items.is_empty() && other.items.is_empty() {
-            return Ok(());
-        }
-        self.clear();
-        self.items.extend_from_slice(other.items.as_slice())?;
-        Ok(())
-    }
-
     /// How many there are.
     pub fn len(&self) -> usize
         ensures { result ≡ length self.now }
@@ -117,18 +105,6 @@ impl ThreadIds {
         ensures err { OnErr result (self.new ≡ self.old) }
     {
         self.items.push(thread)?;
-        Ok(())
-    }
-
-    /// These threads in place of those that were there. After an `Err` nothing is promised of them.
-    pub fn copy_from(&mut self, other: &ThreadIds) -> Result<(), OutOfMemory>
-        ensures { OnOk result (self.new ≡ other.now) }
-    {
-        if self.items.is_empty() && other.items.is_empty() {
-            return Ok(());
-        }
-        self.items.clear();
-        self.items.extend_from_slice(other.items.as_slice())?;
         Ok(())
     }
 

@@ -1,12 +1,11 @@
 -- The plan of a frame's step creates nothing and asks for addresses alone.
-use Rattle.std.proofs.Common.{◌≡◌, ℕ, ◌+◌, refl, ap, List, [], ◌∷◌, Bool, true, false, Option, Some, None}
+use Rattle.std.proofs.Common.{◌≡◌, ℕ, ◌+◌, refl, ap, List, [], ◌∷◌, Bool, true, false, Option, Some, None, sym, subst}
 use Rattle.std.specs.Prelude.{slice_get, if◌then◌else◌}
 use Rattle.mr_ast.specs.declared.expr.Place.{Place}
 use Rattle.mr_ast.specs.declared.expr.Value.{Value}
 use Rattle.mr_ast.specs.declared.program.Function.{Function}
 use Rattle.mr_ast.specs.declared.program.Local.{Local}
 use Rattle.mr_ast.specs.declared.program.Stmt.{Stmt}
-use Rattle.mr_ast.specs.declared.program.Stmt.TheVariants as stmt
 use Rattle.mr_ast.specs.declared.program.Term.{Term}
 use Rattle.mr_ast.specs.declared.program.Term.TheVariants as term
 use Rattle.mr_ast.specs.declared.types.Ty.{Ty}
@@ -29,6 +28,7 @@ use Rattle.mr_frame.specs.Frames.{GoesOn, Look, Onward, Stack, scene_in}
 use Rattle.mr_frame.specs.Sites.{AtDo, AtStatement, AtTerminator, Due, Site, due_of, site_of}
 use Rattle.mr_frame.specs.Steps.{frame_plan, live, plan_at, plan_due, statement, terminator}
 use Rattle.mr_frame.proofs.StorageSteps.{Leads}
+use Rattle.mr_frame.proofs.Statements.{by_kind, changes}
 
 -- addresses alone
 abbrev pub AreAddresses : List Ask → Type 0
@@ -68,13 +68,11 @@ module _ (look : Look) (s : Stack) (site : Site) where
   live_plain x None storage = tt
 
   statement_plain : (x : Stmt) → Leads IsPlain (statement look s site x)
-  statement_plain (stmt.Live x) = live_plain x.0 (slice_get site.function.locals x.0) (slice_get site.frame.locals x.0)
-  statement_plain (stmt.Dead x) = record { creates = refl; asks = tt }
-  statement_plain (stmt.Assign place value) = record { creates = refl; asks = tt }
-  statement_plain (stmt.Mention place) = record { creates = refl; asks = tt }
-  statement_plain (stmt.Disc place number) = record { creates = refl; asks = tt }
-  statement_plain (stmt.Deinit place) = record { creates = refl; asks = tt }
-  statement_plain (stmt.Validate place) = record { creates = refl; asks = tt }
+  statement_plain =
+      by_kind (λ x. Leads IsPlain (statement look s site x))
+      (λ x. live_plain x.0 (slice_get site.function.locals x.0) (slice_get site.frame.locals x.0))
+      (λ x. record { creates = refl; asks = tt })
+      (λ x kind. subst (Leads IsPlain) (sym (changes look s site x kind)) (record { creates = refl; asks = tt }))
 
   plan_plain : (place : Pointer) (number : ℕ) (fn : Function) (vs : List Val) (types : Option (List Ty × List Ty)) → Leads IsPlain (call_plan s site place number fn vs types)
   plan_plain place number fn vs None = tt

@@ -14,7 +14,6 @@ use Rattle.mr_base.specs.declared.reason.Reason.{Reason}
 use Rattle.mr_base.specs.declared.thread.Event.TheVariants.{Spawn}
 use Rattle.mr_frame.specs.declared.flow.Flow.TheVariants as flow
 use Rattle.mr_layout.proofs.AlignLaws.{align_raw, align_tuple}
-use Rattle.mr_layout.proofs.PartsOk.{and_true}
 use Rattle.mr_layout.proofs.SizeLaws.{size_raw, size_tuple}
 use Rattle.mr_layout.specs.Sizes.{align_of, size_of}
 use Rattle.mr_mem.specs.Memory.{ranges_of}
@@ -39,7 +38,6 @@ use Rattle.mr_plan.proofs.ReadingRuns.{moved_to}
 use Rattle.mr_plan.proofs.LegalLaws.{no_faults}
 use Rattle.mr_frame.proofs.CallSafe.{equal_types, kept_there, position_below}
 use Rattle.mr_frame.proofs.Frames.{function_keeps}
-use Rattle.mr_frame.proofs.Places.{within}
 use Rattle.mr_frame.proofs.DoSafe.{ValueFits}
 use Rattle.mr_frame.specs.Operations.{DueDo, Operands, OperandsFit, next_do}
 use Rattle.mr_frame.specs.Beginning.{CanBegin, IsBottom}
@@ -51,8 +49,8 @@ use Rattle.mr_frame.specs.declared.dos.DoCall.{DoCall}
 use Rattle.mr_frame.specs.declared.look.Look.{Look as KeptLook}
 use Rattle.mr_frame.specs.declared.stack.Stack.{Stack as KeptStack}
 use Rattle.mr_intr.proofs.OperationSafe.{result_is}
-use Rattle.mr_intr.specs.Operations.{pointer_in}
 use Rattle.std.proofs.lemmas.Option.{same_Some}
+use Rattle.std.proofs.lemmas.Bool.{and_parts}
 use Rattle.mr_turn.proofs.PlanAsks.{same_statuses}
 use Rattle.mr_thread.specs.Steps.{Own, finishing, new_thread, thread_types, with_stack}
 use Rattle.mr_turn.specs.declared.deed.Deed.{Deed}
@@ -63,12 +61,15 @@ use Rattle.mr_frame.proofs.ResultFits.{result_fits}
 use Rattle.mr_turn.specs.Turning.{DeedAnswer, Does, Turned, asks_break, begun, is_end, own_of, picks_break, printed_lines, shared_in, turn_by}
 use Rattle.mr_turn.proofs.DoTurns.{finishing_run}
 use Rattle.mr_turn.proofs.SpawnTurns.{start_planned, start_turned, with_thread}
+use Rattle.mr_base.proofs.Lists.{item_there}
+use Rattle.mr_eval.specs.Operators.{pointer_in}
+use Rattle.mr_sched.specs.declared.rule.ScheduleRule.TheVariants as rule
 
 -- there are fewer than 1,024 threads
 pub few_from : (w : Shared) → creation_fault w CreatesThread ≡ None → length w.statuses < 1024
 few_from w h = by_test (nat_lt (length w.statuses) 1024) refl h
   where
-    by_test : (b : Bool) → nat_lt (length w.statuses) 1024 ≡ b → (if b then None else fault 67) ≡ None → length w.statuses < 1024
+    by_test : (b : Bool) → nat_lt (length w.statuses) 1024 ≡ b → (if b then None else fault rule.TooManyThreads) ≡ None → length w.statuses < 1024
     by_test true e k = lt_from (length w.statuses) 1024 e
     by_test false e k = absurd (cc)
 
@@ -84,8 +85,8 @@ spawn_given o fit = by_types o.arg_types o.args o.result_type fit.shapes fit.fit
     by_types (a ∷ b ∷ []) [] result shapes fits is to = absurd shapes
     by_types (a ∷ b ∷ []) (x ∷ []) result shapes fits is to = absurd (shapes.1)
     by_types (a ∷ b ∷ []) (x ∷ y ∷ []) result shapes fits is to =
-        let parts = and_true (is_fn_ptr a) (is_raw b && gives (ty.Int U32) result) fits in
-        let rest = and_true (is_raw b) (gives (ty.Int U32) result) parts.1 in
+        let parts = and_parts (is_fn_ptr a) (is_raw b && gives (ty.Int U32) result) fits in
+        let rest = and_parts (is_raw b) (gives (ty.Int U32) result) parts.1 in
         let made = shape_fn_ptr x (subst (λ (u : Ty). has_shape u x ≡ true) (fn_ptr_is a parts.0) shapes.0) in
         record {
           callee = made.pointer;
@@ -213,7 +214,7 @@ pub stands_for : (look : KeptLook) → IsReady look → (o : Operands) (to : Spa
 stands_for look ready o to xs are q at number found =
     let called : callee_of look.functions.now to.callee ≡ Some number = ap (callee_of look.functions.now) (sym (callee_found o to xs are q at)) ∙ sym found in
     let below : number < length look.program.now.functions = (let k = callee_below look.functions.now to.callee number called in let many = ready.functions in omega arith) in
-    let fn = within look.program.now.functions number below in
+    let fn = item_there look.program.now.functions number below in
     let kept = kept_there look.program.now fn.0 (function_keeps look.program.now ready.well number fn.0 fn.1) in
     record { called = called; function = fn.0; there = fn.1; types = kept.ret ∷ kept.args; typed = kept.is }
 

@@ -20,9 +20,10 @@ use Rattle.mr_frame.specs.Calls.{callee_of, enter, kept_types, same_types, stora
 use Rattle.mr_frame.specs.Effects.{entered}
 use Rattle.mr_frame.specs.Frames.{Look}
 use Rattle.mr_frame.specs.Operations.{DueDo, Operands}
-use Rattle.mr_intr.specs.Operations.{found, pointer_in}
+use Rattle.mr_intr.specs.Operations.{found}
 use Rattle.mr_thread.specs.Steps.{Own, Turn, finishing, new_thread, operated, spawn, spawn_function, spawn_number, spawn_types, start, thread_types}
 use Rattle.mr_turn.specs.Doing.{do_planned, do_turned}
+use Rattle.mr_eval.specs.Operators.{pointer_in}
 
 module _ (look : Look) (own : Own) (d : DueDo) (o : Operands) (is : d.op ≡ intrinsic.Spawn) (c : Pointer) (argument : Val) (args : o.args ≡ val.Ptr c ∷ argument ∷ []) (w : Shared × Notes) where
   script_is : operated look own d o d.op ≡ spawn_number look own d o argument (callee_of look.functions c)

@@ -5,7 +5,7 @@ use Rattle.mr_ast.specs.declared.program.Intrinsic.TheVariants as intrinsic
 use Rattle.mr_mem.specs.Memory.{Memory}
 use Rattle.mr_sched.specs.declared.schedule.Ask.{Ask}
 use Rattle.mr_sync.specs.Tables.{Tables}
-use Rattle.mr_plan.specs.Legal.{Fault, creation_fault, fault}
+use Rattle.mr_plan.specs.Legal.{Fault, creation_fault}
 use Rattle.mr_plan.specs.Machine.{Needs, needs_of}
 use Rattle.mr_plan.specs.Notes.{Notes, start_notes}
 use Rattle.mr_plan.specs.Queries.{Shared}
@@ -42,12 +42,26 @@ abbrev pub do_needs : KeptLook → KeptStack → DoCall → DueDo → ℕ → Sh
 do_needs look stack call d thread w =
     needs_of (do_planned (look_of look) (own_of thread stack) d (operands_of call) w)
 
--- the fault of this code without an identity, if there is one
+-- the fault with this number and no identity, if there is one
 abbrev pub bare_fault : Option ℕ → Option Fault
 bare_fault None = None
-bare_fault (Some code) = fault code
+bare_fault (Some code) = Some (record { code = code; earlier = None })
 
 -- The asks were appended, and the code is that of the limit that is reached; or nothing changed.
 abbrev pub AsksAnswer : {E : Type 0} → Shared → Needs → List Ask → List Ask → Result (Option ℕ) E → Type 0
-AsksAnswer w n old new (Ok code) = (new ≡ old ++ n.asks) × (code ≡ option_map (λ f. f.code) (creation_fault w n.creates))
+AsksAnswer w n old new (Ok code) = (new ≡ old ++ n.asks)
+    × (code ≡ option_map (λ f. f.code) (creation_fault w n.creates))
 AsksAnswer w n old new (Err e) = new ≡ old
+
+-- what a step asks for is told of each number of allocations
+abbrev pub AsksStep : {E : Type 0} → KeptLook → KeptStack → Memory → Tables → ℕ → List Ask → List Ask
+    → Result (Option ℕ) E → Type 0
+AsksStep look stack m x thread old new told =
+    (count : ℕ) → AsksAnswer (shared_of m x) (step_needs look stack m x thread count) old new told
+
+-- and so is what an intrinsic asks for that is due and was given this, over each memory and whatever was noted
+abbrev pub AsksDo : {E : Type 0} → KeptLook → KeptStack → Tables → DoCall → ℕ → List Ask → List Ask
+    → Result (Option ℕ) E → Type 0
+AsksDo look stack x call thread old new told =
+    (d : DueDo) → next_do (look_of look) (stack_of stack) ≡ Some d → (m : Memory) (n : Notes) → n.tally.thread ≡ thread
+    → AsksAnswer (shared_of m x) (do_needs look stack call d thread (shared_of m x, n)) old new told

@@ -25,7 +25,7 @@ use Rattle.mr_turn.specs.declared.deed.Deed.{Deed}
 use Rattle.mr_base.specs.declared.thread.Event.{Event}
 use Rattle.mr_base.specs.declared.thread.Event.TheVariants.{Quiet, Spawn}
 use Rattle.mr_script.specs.Script.{Outcome, Refused, Went, run, ◌>>=◌}
-use Rattle.mr_eval.specs.World.{World}
+use Rattle.mr_eval.specs.World.{World, world_of}
 use Rattle.mr_turn.specs.declared.deed.TurnFault.{TurnFault}
 use Rattle.mr_turn.specs.declared.deed.TurnFault.TheVariants as answer
 use Rattle.mr_sync.specs.Tables.{IsEnabled, Tables}
@@ -38,12 +38,13 @@ use Rattle.mr_frame.specs.declared.dos.DoCall.{DoCall}
 use Rattle.mr_frame.specs.declared.look.Look.{Look as KeptLook}
 use Rattle.mr_frame.specs.declared.stack.Stack.{Stack as KeptStack}
 use Rattle.mr_frame.specs.Doing.{FitsResult, operands_of}
+use Rattle.mr_frame.specs.Effects.{finished}
 use Rattle.mr_frame.specs.Fits.{FitsStack}
 use Rattle.mr_frame.specs.Frames.{Look, Stack}
 use Rattle.mr_frame.specs.Kept.{IsReady, look_of, stack_of}
 use Rattle.mr_frame.specs.Standing.{IsUncounted}
 use Rattle.mr_thread.specs.Steps.{Own, Turn, operated, thread_types}
-use Rattle.mr_turn.specs.Turning.{asks_break, begun, own_of, picks_break, shared_in}
+use Rattle.mr_turn.specs.Turning.{DeedAnswer, Does, IsSame, TurnAnswer, asks_break, begun, own_of, picks_break, shared_in}
 
 -- the plan of an intrinsic that is given this, or why it stops before it has one
 unfoldable pub do_planned : Look → Own → DueDo → Operands → Shared × Notes
@@ -174,3 +175,29 @@ pub record StartsThread (look : KeptLook) (stack : KeptStack) (s : Scene) (x : T
   pub at : IsStart look given_to number
   pub lawful : picks_fault [] (ranges_of s.memory) s.thread s.count (storage_asks thread_types) picks ≡ None
   pub few : length x.statuses < 1024
+
+-- ---- answers
+
+-- how the turn of an intrinsic is answered that is due and was given this
+abbrev pub TakesDoTurn : KeptLook → KeptStack → Scene → Tables → DoCall → List ℕ → Result Deed TurnFault
+    → KeptStack → Scene → Tables → Type 0
+TakesDoTurn look stack s x call picks told stack' s' x' =
+    (d : DueDo) → next_do (look_of look) (stack_of stack) ≡ Some d
+    → TurnAnswer told (do_breaks look stack s x call d picks) (do_comes_to look stack s x call d picks)
+    (Does stack s x (do_comes_to look stack s x call d picks) stack' s' x') (IsSame stack s x stack' s' x')
+
+-- the same of one whose picks were judged
+abbrev pub TakesDoStep : KeptLook → KeptStack → Scene → Tables → DoCall → List ℕ → Result Deed TurnFault
+    → KeptStack → Scene → Tables → Type 0
+TakesDoStep look stack s x call picks told stack' s' x' =
+    (d : DueDo) → next_do (look_of look) (stack_of stack) ≡ Some d
+    → DeedAnswer told (do_comes_to look stack s x call d picks)
+    (Does stack s x (do_comes_to look stack s x call d picks) stack' s' x')
+
+-- how the end of such an intrinsic with this result is answered, whose deed is so
+abbrev pub EndsDo : KeptLook → KeptStack → Scene → DoCall → Option Val → Result Deed TurnFault → KeptStack → Scene
+    → (Deed → Type 0) → Type 0
+EndsDo look stack s call value told stack' s' IsSo =
+    (d : DueDo) → next_do (look_of look) (stack_of stack) ≡ Some d
+    → EndAnswer told (finished (stack_of stack) d (operands_of call) value (world_of s))
+    (stack_of stack') (world_of s') IsSo

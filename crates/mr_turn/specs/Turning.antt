@@ -177,3 +177,17 @@ comes_to look stack s x picks = turned (look_of look) (own_of s.thread stack) pi
 abbrev pub Does : KeptStack → Scene → Tables → Outcome Turn (Shared × Notes) → KeptStack → Scene → Tables → Deed
     → Type 0
 Does stack s x o stack' s' x' d = Turned (own_of s.thread stack) (length x.statuses) o d stack' s' x'
+
+-- HOW A TURN IS ANSWERED, with stack, scene and tables behind it: by a deed; by the rule that the picks break, and then
+-- they are as before; or by the reason for which the step itself stops
+abbrev pub TakesTurn : KeptLook → KeptStack → Scene → Tables → List ℕ → Result Deed TurnFault
+    → KeptStack → Scene → Tables → Type 0
+TakesTurn look stack s x picks told stack' s' x' =
+    TurnAnswer told (breaks look stack s x picks) (comes_to look stack s x picks)
+    (Does stack s x (comes_to look stack s x picks) stack' s' x') (IsSame stack s x stack' s' x')
+
+-- the same of a turn whose picks were judged
+abbrev pub TakesStep : KeptLook → KeptStack → Scene → Tables → List ℕ → Result Deed TurnFault
+    → KeptStack → Scene → Tables → Type 0
+TakesStep look stack s x picks told stack' s' x' =
+    DeedAnswer told (comes_to look stack s x picks) (Does stack s x (comes_to look stack s x picks) stack' s' x')

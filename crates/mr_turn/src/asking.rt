@@ -1,14 +1,12 @@
 //! What the next step of a thread asks for.
-ghost use Rattle.std.specs.Prelude.{◌≡◌, ℕ, ◌++◌, OnErr, OnOk, Option, Some};
+ghost use Rattle.std.specs.Prelude.{◌≡◌, ◌++◌, OnErr, OnOk, Option, Some};
 ghost use Rattle.mr_ast.specs.declared.program.Intrinsic.TheVariants as intrinsic;
-ghost use Rattle.mr_mem.specs.Memory.{Memory as MemoryOf};
-ghost use Rattle.mr_plan.specs.Notes.{Notes as NotesOf};
 ghost use Rattle.mr_frame.specs.Fits.{FitsStack};
 ghost use Rattle.mr_frame.specs.Kept.{IsReady, look_of, stack_of};
 ghost use Rattle.mr_frame.specs.Operations.{DueDo, next_do};
-ghost use Rattle.mr_intr.specs.Effects.{IsOperation, shared_of};
+ghost use Rattle.mr_intr.specs.Effects.{IsOperation};
 ghost use Rattle.mr_intr.specs.Needs.{asks_of};
-ghost use Rattle.mr_turn.specs.Asking.{AsksAnswer, AsksFunction, IsAsked, do_needs, step_needs};
+ghost use Rattle.mr_turn.specs.Asking.{AsksDo, AsksFunction, AsksStep, IsAsked};
 
 use crate::judging::over_limit;
 use crate::spawning::{begins_thread, callee_in, function_of};
@@ -44,7 +42,7 @@ fn operation_asks(
 ) -> Result<Option<u8>, AllocError>
     requires given { (d : DueDo) × IsAsked look.now stack.now call.now d × (d.op ≡ op) }
     requires kind { IsOperation op }
-    ensures { (d : DueDo) → next_do (look_of look.now) (stack_of stack.now) ≡ Some d → (m : MemoryOf) (n : NotesOf) → n.tally.thread ≡ thread → AsksAnswer (shared_of m sync.now) (do_needs look.now stack.now call.now d thread (shared_of m sync.now, n)) out.old.items out.new.items result }
+    ensures { AsksDo look.now stack.now sync.now call.now thread out.old.items out.new.items result }
 {
     match needs_of(op, call.args.as_slice(), sync, thread) {
         Err(_) => Ok(None),
@@ -67,7 +65,7 @@ fn start_asks(
     out: &mut Vec<Ask>,
 ) -> Result<Option<u8>, AllocError>
     requires { (d : DueDo) × AsksFunction look.now stack.now call.now d f.0 }
-    ensures { (d : DueDo) → next_do (look_of look.now) (stack_of stack.now) ≡ Some d → (m : MemoryOf) (n : NotesOf) → n.tally.thread ≡ thread → AsksAnswer (shared_of m sync.now) (do_needs look.now stack.now call.now d thread (shared_of m sync.now, n)) out.old.items out.new.items result }
+    ensures { AsksDo look.now stack.now sync.now call.now thread out.old.items out.new.items result }
 {
     if !begins_thread(alloc, function_of(look, f)) {
         return Ok(None);
@@ -91,7 +89,7 @@ fn spawn_asks(
     out: &mut Vec<Ask>,
 ) -> Result<Option<u8>, AllocError>
     requires { (d : DueDo) × IsAsked look.now stack.now call.now d × (d.op ≡ intrinsic.Spawn) }
-    ensures { (d : DueDo) → next_do (look_of look.now) (stack_of stack.now) ≡ Some d → (m : MemoryOf) (n : NotesOf) → n.tally.thread ≡ thread → AsksAnswer (shared_of m sync.now) (do_needs look.now stack.now call.now d thread (shared_of m sync.now, n)) out.old.items out.new.items result }
+    ensures { AsksDo look.now stack.now sync.now call.now thread out.old.items out.new.items result }
 {
     match callee(look.functions, callee_in(call.args.as_slice())) {
         None => Ok(None),
@@ -111,7 +109,7 @@ fn given_asks(
     out: &mut Vec<Ask>,
 ) -> Result<Option<u8>, AllocError>
     requires { (d : DueDo) × IsAsked look.now stack.now call.now d × (d.op ≡ op) }
-    ensures { (d : DueDo) → next_do (look_of look.now) (stack_of stack.now) ≡ Some d → (m : MemoryOf) (n : NotesOf) → n.tally.thread ≡ thread → AsksAnswer (shared_of m sync.now) (do_needs look.now stack.now call.now d thread (shared_of m sync.now, n)) out.old.items out.new.items result }
+    ensures { AsksDo look.now stack.now sync.now call.now thread out.old.items out.new.items result }
 {
     match op {
         Intrinsic::Spawn => spawn_asks(alloc, look, stack, sync, thread, call, out),
@@ -134,7 +132,7 @@ fn do_asks(
     requires ready { IsReady look.now }
     requires fits { FitsStack look.now.program.now (stack_of stack.now) }
     requires due { (d : DueDo) × (next_do (look_of look.now) (stack_of stack.now) ≡ Some d) × (d.op ≡ op) }
-    ensures { (count : ℕ) → AsksAnswer (shared_of m.now sync.now) (step_needs look.now stack.now m.now sync.now thread count) out.old.items out.new.items result }
+    ensures { AsksStep look.now stack.now m.now sync.now thread out.old.items out.new.items result }
 {
     let mut notes = Notes::new(alloc);
     match stack.arguments(alloc, look, m, &mut notes) {
@@ -157,7 +155,7 @@ pub fn asks(
 ) -> Result<Option<u8>, AllocError>
     requires ready { IsReady look.now }
     requires fits { FitsStack look.now.program.now (stack_of stack.now) }
-    ensures { (count : ℕ) → AsksAnswer (shared_of m.now sync.now) (step_needs look.now stack.now m.now sync.now thread count) out.old.items out.new.items result }
+    ensures { AsksStep look.now stack.now m.now sync.now thread out.old.items out.new.items result }
 {
     match stack.intrinsic(look.program) {
         None => {

@@ -1,13 +1,10 @@
 //! The turn of a thread whose next step is an intrinsic.
 ghost use Rattle.std.specs.Prelude.{◌≡◌, IfOk, None, Some};
 ghost use Rattle.mr_intr.specs.Effects.{IsOperation};
-ghost use Rattle.mr_eval.specs.World.{world_of};
-ghost use Rattle.mr_frame.specs.Doing.{operands_of};
-ghost use Rattle.mr_frame.specs.Effects.{finished};
 ghost use Rattle.mr_frame.specs.Kept.{look_of, stack_of};
 ghost use Rattle.mr_frame.specs.Operations.{DueDo, next_do};
-ghost use Rattle.mr_turn.specs.Doing.{CanAsk, CanEnd, EndAnswer, IsDeed, IsGiven, IsNoted, IsTold, MeetsNeeds, do_breaks, do_comes_to};
-ghost use Rattle.mr_turn.specs.Turning.{BeginsTurn, DeedAnswer, Does, IsSame, JudgeAnswer, TurnAnswer, breaks, comes_to};
+ghost use Rattle.mr_turn.specs.Doing.{CanAsk, CanEnd, EndsDo, IsDeed, IsGiven, IsNoted, IsTold, MeetsNeeds, TakesDoStep, TakesDoTurn, do_breaks};
+ghost use Rattle.mr_turn.specs.Turning.{BeginsTurn, JudgeAnswer, TakesTurn};
 
 use crate::deed::{Deed, TurnFault};
 use crate::judging::{judged, met, stopped};
@@ -33,7 +30,7 @@ pub fn do_turn(
 ) -> Result<Deed, TurnFault>
     requires begins { BeginsTurn look.now stack.old s.old sync.old }
     requires due { (d : DueDo) × (next_do (look_of look.now) (stack_of stack.old) ≡ Some d) × (d.op ≡ op) }
-    ensures { TurnAnswer result (breaks look.now stack.old s.old sync.old picks.now) (comes_to look.now stack.old s.old sync.old picks.now) (Does stack.old s.old sync.old (comes_to look.now stack.old s.old sync.old picks.now) stack.new s.new sync.new) (IsSame stack.old s.old sync.old stack.new s.new sync.new) }
+    ensures { TakesTurn look.now stack.old s.old sync.old picks.now result stack.new s.new sync.new }
 {
     match stack.arguments(alloc, look, &s.memory, &mut s.notes) {
         Err(Fault::Memory) => Err(TurnFault::Memory),
@@ -54,7 +51,7 @@ fn act(
     picks: &[u64],
 ) -> Result<Deed, TurnFault>
     requires { (d : DueDo) × IsGiven look.now stack.old s.old sync.old call.now d × (d.op ≡ op) }
-    ensures { (d : DueDo) → next_do (look_of look.now) (stack_of stack.old) ≡ Some d → TurnAnswer result (do_breaks look.now stack.old s.old sync.old call.now d picks.now) (do_comes_to look.now stack.old s.old sync.old call.now d picks.now) (Does stack.old s.old sync.old (do_comes_to look.now stack.old s.old sync.old call.now d picks.now) stack.new s.new sync.new) (IsSame stack.old s.old sync.old stack.new s.new sync.new) }
+    ensures { TakesDoTurn look.now stack.old s.old sync.old call.now picks.now result stack.new s.new sync.new }
 {
     match op {
         Intrinsic::Spawn => spawn(alloc, look, stack, s, sync, call, picks),
@@ -74,7 +71,7 @@ fn payload(
     picks: &[u64],
 ) -> Result<Deed, TurnFault>
     requires { (d : DueDo) × IsGiven look.now stack.old s.old sync.now call.now d × (d.op ≡ Intrinsic.Payload) }
-    ensures { (d : DueDo) → next_do (look_of look.now) (stack_of stack.old) ≡ Some d → TurnAnswer result (do_breaks look.now stack.old s.old sync.now call.now d picks.now) (do_comes_to look.now stack.old s.old sync.now call.now d picks.now) (Does stack.old s.old sync.now (do_comes_to look.now stack.old s.old sync.now call.now d picks.now) stack.new s.new sync.now) (IsSame stack.old s.old sync.now stack.new s.new sync.now) }
+    ensures { TakesDoTurn look.now stack.old s.old sync.now call.now picks.now result stack.new s.new sync.now }
 {
     match stack.payload() {
         None => Err(stopped(Reason::NoPayload, picks)),
@@ -95,7 +92,7 @@ fn end(
     value: &Val,
 ) -> Result<Deed, TurnFault>
     requires { CanEnd look.now stack.old call.now (Some value.now) }
-    ensures { (d : DueDo) → next_do (look_of look.now) (stack_of stack.old) ≡ Some d → EndAnswer result (finished (stack_of stack.old) d (operands_of call.now) (Some value.now) (world_of s.old)) (stack_of stack.new) (world_of s.new) IsNoted }
+    ensures { EndsDo look.now stack.old s.old call.now (Some value.now) result stack.new s.new IsNoted }
 {
     match stack.finish(alloc, look, s, call, Some(value)) {
         Err(fault) => Err(TurnFault::from(fault)),
@@ -133,7 +130,7 @@ fn operation(
 ) -> Result<Deed, TurnFault>
     requires given { (d : DueDo) × IsGiven look.now stack.old s.old sync.old call.now d × (d.op ≡ op) }
     requires kind { IsOperation op }
-    ensures { (d : DueDo) → next_do (look_of look.now) (stack_of stack.old) ≡ Some d → TurnAnswer result (do_breaks look.now stack.old s.old sync.old call.now d picks.now) (do_comes_to look.now stack.old s.old sync.old call.now d picks.now) (Does stack.old s.old sync.old (do_comes_to look.now stack.old s.old sync.old call.now d picks.now) stack.new s.new sync.new) (IsSame stack.old s.old sync.old stack.new s.new sync.new) }
+    ensures { TakesDoTurn look.now stack.old s.old sync.old call.now picks.now result stack.new s.new sync.new }
 {
     match needs_of(op, call.args.as_slice(), sync, s.thread) {
         Err(reason) => Err(stopped(reason, picks)),
@@ -155,9 +152,10 @@ fn carry_out(
     call: &DoCall,
     picks: &[u64],
 ) -> Result<Deed, TurnFault>
-    requires given { (d : DueDo) × IsGiven look.now stack.old s.old sync.old call.now d × (d.op ≡ op) × (do_breaks look.now stack.old s.old sync.old call.now d picks.now ≡ None) }
+    requires given { (d : DueDo) × IsGiven look.now stack.old s.old sync.old call.now d × (d.op ≡ op)
+        × (do_breaks look.now stack.old s.old sync.old call.now d picks.now ≡ None) }
     requires kind { IsOperation op }
-    ensures { (d : DueDo) → next_do (look_of look.now) (stack_of stack.old) ≡ Some d → DeedAnswer result (do_comes_to look.now stack.old s.old sync.old call.now d picks.now) (Does stack.old s.old sync.old (do_comes_to look.now stack.old s.old sync.old call.now d picks.now) stack.new s.new sync.new) }
+    ensures { TakesDoStep look.now stack.old s.old sync.old call.now picks.now result stack.new s.new sync.new }
 {
     let mut text = Vec::new(alloc);
     let (args, types) = (call.args.as_slice(), call.arg_types.as_slice());
@@ -180,7 +178,8 @@ fn end_told(
     text: Vec<u8>,
 ) -> Result<Deed, TurnFault>
     requires { CanEnd look.now stack.old call.now effect.value }
-    ensures { (d : DueDo) → next_do (look_of look.now) (stack_of stack.old) ≡ Some d → EndAnswer result (finished (stack_of stack.old) d (operands_of call.now) effect.value (world_of s.old)) (stack_of stack.new) (world_of s.new) (IsTold op effect text.items) }
+    ensures { EndsDo look.now stack.old s.old call.now effect.value result stack.new s.new
+        (IsTold op effect text.items) }
 {
     match stack.finish(alloc, look, s, call, effect.value.as_ref()) {
         Err(fault) => Err(TurnFault::from(fault)),

@@ -4,7 +4,7 @@ ghost use Rattle.mr_sync.specs.Tables.{IsEnabled};
 ghost use Rattle.mr_frame.specs.Acting.{AreLawful};
 ghost use Rattle.mr_frame.specs.Kept.{look_of, stack_of};
 ghost use Rattle.mr_frame.specs.Operations.{next_do};
-ghost use Rattle.mr_turn.specs.Turning.{BeginsTurn, DeedAnswer, Does, IsFlow, IsSame, TurnAnswer, breaks, comes_to};
+ghost use Rattle.mr_turn.specs.Turning.{BeginsTurn, IsFlow, TakesStep, TakesTurn};
 
 use crate::deed::{Deed, TurnFault};
 use crate::judging::judged;
@@ -45,7 +45,7 @@ fn take(
     requires begins { BeginsTurn look.now stack.old s.old sync.old }
     requires other { next_do (look_of look.now) (stack_of stack.old) ≡ None }
     requires lawful { AreLawful (look_of look.now) (stack_of stack.old) picks.now s.old }
-    ensures { DeedAnswer result (comes_to look.now stack.old s.old sync.old picks.now) (Does stack.old s.old sync.old (comes_to look.now stack.old s.old sync.old picks.now) stack.new s.new sync.new) }
+    ensures { TakesStep look.now stack.old s.old sync.old picks.now result stack.new s.new sync.new }
 {
     let thread = s.thread;
     match stack.act(alloc, look, s, picks) {
@@ -65,7 +65,7 @@ pub fn frame_turn(
 ) -> Result<Deed, TurnFault>
     requires begins { BeginsTurn look.now stack.old s.old sync.old }
     requires other { next_do (look_of look.now) (stack_of stack.old) ≡ None }
-    ensures { TurnAnswer result (breaks look.now stack.old s.old sync.old picks.now) (comes_to look.now stack.old s.old sync.old picks.now) (Does stack.old s.old sync.old (comes_to look.now stack.old s.old sync.old picks.now) stack.new s.new sync.new) (IsSame stack.old s.old sync.old stack.new s.new sync.new) }
+    ensures { TakesTurn look.now stack.old s.old sync.old picks.now result stack.new s.new sync.new }
 {
     let mut asks = Vec::new(alloc);
     stack.asks(alloc, look, &s.memory, &mut asks)?;

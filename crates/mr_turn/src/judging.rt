@@ -9,27 +9,12 @@ ghost use Rattle.mr_turn.specs.Asking.{bare_fault};
 ghost use Rattle.mr_turn.specs.Turning.{JudgeAnswer, StopAnswer, asks_break, shared_in};
 
 use crate::deed::TurnFault;
-use mr_base::Reason;
+use mr_base::{MAX_LOCKS, MAX_THREADS, Reason};
 use mr_eval::Scene;
 use mr_intr::Creation;
-use mr_sched::Ask;
+use mr_sched::{Ask, ScheduleRule};
 use mr_start::{PickFailure, judge};
 use mr_sync::SyncTable;
-
-/// As many threads may be.
-const THREADS: u32 = 1024;
-
-/// As many locks may be.
-const LOCKS: u32 = 4096;
-
-/// There are as many threads as may be.
-const TOO_MANY_THREADS: u8 = 67;
-
-/// There are as many locks as may be.
-const TOO_MANY_LOCKS: u8 = 68;
-
-/// The step needs no pick, and there is one.
-const EXTRA_PICK: u8 = 62;
 
 /// The picks for what a step asks.
 pub fn judged(s: &Scene, sync: &SyncTable, asks: &[Ask], picks: &[u64]) -> Result<(), TurnFault>
@@ -48,7 +33,7 @@ pub fn judged(s: &Scene, sync: &SyncTable, asks: &[Ask], picks: &[u64]) -> Resul
 
 // A refusal by a rule without an identity.
 fn broken(code: u8) -> TurnFault
-    ensures { (o : Option FaultOf) → o ≡ fault code → JudgeAnswer (Err result) o }
+    ensures { (o : Option FaultOf) → o ≡ bare_fault (Some code) → JudgeAnswer (Err result) o }
 {
     TurnFault::Broken(PickFailure {
         code,
@@ -56,21 +41,25 @@ fn broken(code: u8) -> TurnFault
     })
 }
 
-// The code of the limit that so many of something have reached, if they have.
-fn over(count: u32, limit: u32, code: u8) -> Option<u8>
-    ensures { bare_fault result ≡ (if nat_lt count limit then None else fault code) }
+// The number of the rule by which there are no more of something, if there are as many as may be.
+fn over(count: u32, limit: u32, rule: ScheduleRule) -> Option<u8>
+    ensures { bare_fault result ≡ (if nat_lt count limit then None else fault rule) }
 {
-    if count < limit { None } else { Some(code) }
+    if count < limit {
+        None
+    } else {
+        Some(rule.code())
+    }
 }
 
-/// 67 or 68, where there are as many threads or locks as may be, and one more is to be created.
+/// The number of the rule of too many threads or locks, where there are as many as may be and one more is to be created.
 pub fn over_limit(creates: Creation, sync: &SyncTable) -> Option<u8>
     ensures { (m : Memory) → bare_fault result ≡ creation_fault (shared_of m sync.now) (creation_of creates) }
 {
     match creates {
         Creation::Nothing => None,
-        Creation::Thread => over(sync.threads(), THREADS, TOO_MANY_THREADS),
-        Creation::Lock => over(sync.locks(), LOCKS, TOO_MANY_LOCKS),
+        Creation::Thread => over(sync.threads(), MAX_THREADS, ScheduleRule::TooManyThreads),
+        Creation::Lock => over(sync.locks(), MAX_LOCKS, ScheduleRule::TooManyLocks),
     }
 }
 
@@ -94,7 +83,8 @@ pub fn met(
 ) -> Result<(), TurnFault>
     requires room { s.now.count + length asks.now < 2 ^ 64 }
     requires uncounted { IsUncounted s.now.memory s.now.thread s.now.count }
-    ensures { JudgeAnswer result (else_fault (creation_fault (shared_in s.now sync.now) (creation_of creates)) (asks_break s.now sync.now asks.now picks.now)) }
+    ensures { JudgeAnswer result (else_fault (creation_fault (shared_in s.now sync.now) (creation_of creates))
+        (asks_break s.now sync.now asks.now picks.now)) }
 {
     match limited(creates, sync) {
         Err(fault) => Err(fault),
@@ -109,9 +99,6 @@ pub fn stopped(reason: Reason, picks: &[u64]) -> TurnFault
     if picks.is_empty() {
         TurnFault::Undefined(reason)
     } else {
-        TurnFault::Broken(PickFailure {
-            code: EXTRA_PICK,
-            earlier: None,
-        })
+        TurnFault::Broken(PickFailure::of(ScheduleRule::ExtraPick))
     }
 }

@@ -6,14 +6,9 @@ ghost use Rattle.mr_base.specs.declared.byte.Pointer.{Pointer as PointerOf};
 ghost use Rattle.mr_value.specs.declared.val.Val.TheVariants as val;
 ghost use Rattle.mr_frame.specs.Calling.{HasLocals};
 ghost use Rattle.mr_frame.specs.Calls.{kept_types, local_type, same_types};
-ghost use Rattle.mr_eval.specs.World.{world_of};
-ghost use Rattle.mr_frame.specs.Doing.{operands_of};
-ghost use Rattle.mr_frame.specs.Effects.{finished};
-ghost use Rattle.mr_frame.specs.Kept.{look_of, stack_of};
-ghost use Rattle.mr_frame.specs.Operations.{DueDo, next_do};
+ghost use Rattle.mr_frame.specs.Operations.{DueDo};
 ghost use Rattle.mr_thread.specs.Steps.{thread_types};
-ghost use Rattle.mr_turn.specs.Doing.{CanEnd, EndAnswer, IsGiven, IsNewThread, SpawnsFunction, StartsThread, do_breaks, do_comes_to};
-ghost use Rattle.mr_turn.specs.Turning.{DeedAnswer, Does, IsSame, TurnAnswer};
+ghost use Rattle.mr_turn.specs.Doing.{CanEnd, EndsDo, IsGiven, IsNewThread, SpawnsFunction, StartsThread, TakesDoStep, TakesDoTurn};
 
 use crate::deed::{Deed, TurnFault};
 use crate::judging::{met, stopped};
@@ -85,7 +80,7 @@ pub fn spawn(
     picks: &[u64],
 ) -> Result<Deed, TurnFault>
     requires { (d : DueDo) × IsGiven look.now stack.old s.old sync.old call.now d × (d.op ≡ intrinsic.Spawn) }
-    ensures { (d : DueDo) → next_do (look_of look.now) (stack_of stack.old) ≡ Some d → TurnAnswer result (do_breaks look.now stack.old s.old sync.old call.now d picks.now) (do_comes_to look.now stack.old s.old sync.old call.now d picks.now) (Does stack.old s.old sync.old (do_comes_to look.now stack.old s.old sync.old call.now d picks.now) stack.new s.new sync.new) (IsSame stack.old s.old sync.old stack.new s.new sync.new) }
+    ensures { TakesDoTurn look.now stack.old s.old sync.old call.now picks.now result stack.new s.new sync.new }
 {
     match callee(look.functions, callee_in(call.args.as_slice())) {
         None => Err(stopped(Reason::NotAFunction, picks)),
@@ -105,7 +100,7 @@ fn spawn_function(
     picks: &[u64],
 ) -> Result<Deed, TurnFault>
     requires { (d : DueDo) × SpawnsFunction look.now stack.old s.old sync.old call.now d f.0 }
-    ensures { (d : DueDo) → next_do (look_of look.now) (stack_of stack.old) ≡ Some d → TurnAnswer result (do_breaks look.now stack.old s.old sync.old call.now d picks.now) (do_comes_to look.now stack.old s.old sync.old call.now d picks.now) (Does stack.old s.old sync.old (do_comes_to look.now stack.old s.old sync.old call.now d picks.now) stack.new s.new sync.new) (IsSame stack.old s.old sync.old stack.new s.new sync.new) }
+    ensures { TakesDoTurn look.now stack.old s.old sync.old call.now picks.now result stack.new s.new sync.new }
 {
     if !begins_thread(alloc, function_of(look, f)) {
         return Err(stopped(Reason::SignatureMismatch, picks));
@@ -132,7 +127,7 @@ fn start(
     picks: &[u64],
 ) -> Result<Deed, TurnFault>
     requires { (d : DueDo) × StartsThread look.now stack.old s.old sync.old call.now d f.0 picks.now }
-    ensures { (d : DueDo) → next_do (look_of look.now) (stack_of stack.old) ≡ Some d → DeedAnswer result (do_comes_to look.now stack.old s.old sync.old call.now d picks.now) (Does stack.old s.old sync.old (do_comes_to look.now stack.old s.old sync.old call.now d picks.now) stack.new s.new sync.new) }
+    ensures { TakesDoStep look.now stack.old s.old sync.old call.now picks.now result stack.new s.new sync.new }
 {
     let new = Stack::enter(alloc, look, s, f, &call.args.as_slice()[1..], picks)?;
     let number = sync.spawn()?;
@@ -150,7 +145,8 @@ fn end_start(
     number: u32,
 ) -> Result<Deed, TurnFault>
     requires { CanEnd look.now stack.old call.now (Some (val.Int number)) }
-    ensures { (d : DueDo) → next_do (look_of look.now) (stack_of stack.old) ≡ Some d → EndAnswer result (finished (stack_of stack.old) d (operands_of call.now) (Some (val.Int number)) (world_of s.old)) (stack_of stack.new) (world_of s.new) (IsNewThread new number) }
+    ensures { EndsDo look.now stack.old s.old call.now (Some (val.Int number)) result stack.new s.new
+        (IsNewThread new number) }
 {
     match stack.finish(alloc, look, s, call, Some(&Val::Int(number as u128))) {
         Err(fault) => Err(TurnFault::from(fault)),

@@ -1,5 +1,5 @@
 //! The turn of a thread.
-ghost use Rattle.mr_turn.specs.Turning.{BeginsTurn, Does, IsSame, TurnAnswer, breaks, comes_to};
+ghost use Rattle.mr_turn.specs.Turning.{BeginsTurn, TakesTurn};
 
 use crate::deed::{Deed, TurnFault};
 use crate::doing::do_turn;
@@ -22,7 +22,7 @@ pub fn turn(
     picks: &[u64],
 ) -> Result<Deed, TurnFault>
     requires { BeginsTurn look.now stack.old s.old sync.old }
-    ensures { TurnAnswer result (breaks look.now stack.old s.old sync.old picks.now) (comes_to look.now stack.old s.old sync.old picks.now) (Does stack.old s.old sync.old (comes_to look.now stack.old s.old sync.old picks.now) stack.new s.new sync.new) (IsSame stack.old s.old sync.old stack.new s.new sync.new) }
+    ensures { TakesTurn look.now stack.old s.old sync.old picks.now result stack.new s.new sync.new }
 {
     match stack.intrinsic(look.program) {
         None => frame_turn(alloc, look, stack, s, sync, picks),

@@ -1,22 +1,23 @@
 -- The fields of a tuple and the chunks of a union that break no rule have no byte in common.
 use Rattle.std.proofs.Common.{◌≡◌, ℕ, ◌%◌, false, List, None, sym, ◌∙◌}
 use Rattle.std.specs.Prelude.{not, ◌&&◌, ◌||◌, ◌==◌}
+use Rattle.std.proofs.lemmas.Bool.{and_parts}
+use Rattle.mr_ast.specs.declared.rule.Rule.TheVariants.{TypeSize, TypeAlign, FieldOutside, FieldOverlap, SizeMultiple, UnionChunk}
 use Rattle.mr_ast.specs.declared.types.Ty.{Ty}
 use Rattle.mr_ast.specs.declared.types.Ty.TheVariants as ty
 use Rattle.mr_layout.specs.Rules.{is_large, is_align, is_past, is_overlapping, tuple_rules, is_chunk_past, is_rising, is_chunk_overlapping, are_covered, union_rules}
 use Rattle.mr_layout.specs.TypeOk.{TypeOk, first_broken_field}
 use Rattle.mr_layout.proofs.BrokenLaws.{broken_tuple, broken_union}
 use Rattle.mr_layout.proofs.Bounds.{or_else_none, rule_none}
-use Rattle.mr_layout.proofs.PartsOk.{and_true}
 use Rattle.mr_base.proofs.Comparisons.{not_false, not_true}
 
 apart_fields : (size align : ℕ) (fields : List (ℕ × Ty)) → tuple_rules size align fields ≡ None → is_overlapping fields ≡ false
 unfolding tuple_rules
 apart_fields size align fields e =
-    let a = rule_none 20 (is_large size) _ e in
-    let b = rule_none 21 (not (is_align align)) _ a.1 in
-    let c = rule_none 22 (is_past size fields) _ b.1 in
-    (rule_none 23 (is_overlapping fields) _ c.1).0
+    let a = rule_none TypeSize (is_large size) _ e in
+    let b = rule_none TypeAlign (not (is_align align)) _ a.1 in
+    let c = rule_none FieldOutside (is_past size fields) _ b.1 in
+    (rule_none FieldOverlap (is_overlapping fields) _ c.1).0
 
 pub tuple_apart : (size align : ℕ) (fields : List (ℕ × Ty)) → TypeOk (ty.Tuple size align fields) → is_overlapping fields ≡ false
 tuple_apart size align fields ok =
@@ -25,13 +26,13 @@ tuple_apart size align fields ok =
 apart_chunks : (size align : ℕ) (fields : List (ℕ × Ty)) (chunks : List (ℕ × ℕ)) → union_rules size align fields chunks ≡ None → is_chunk_overlapping chunks ≡ false
 unfolding union_rules
 apart_chunks size align fields chunks e =
-    let a = rule_none 20 (is_large size) _ e in
-    let b = rule_none 21 (not (is_align align)) _ a.1 in
-    let c = rule_none 22 (is_past size fields || is_chunk_past size chunks) _ b.1 in
-    let d = rule_none 24 (not (size % align == 0)) _ c.1 in
-    let f = rule_none 28 (not (is_rising chunks && (not (is_chunk_overlapping chunks) && are_covered fields chunks))) None d.1 in
-    let g = and_true (is_rising chunks) _ (not_false _ f.0) in
-    not_true _ (and_true (not (is_chunk_overlapping chunks)) (are_covered fields chunks) g.1).0
+    let a = rule_none TypeSize (is_large size) _ e in
+    let b = rule_none TypeAlign (not (is_align align)) _ a.1 in
+    let c = rule_none FieldOutside (is_past size fields || is_chunk_past size chunks) _ b.1 in
+    let d = rule_none SizeMultiple (not (size % align == 0)) _ c.1 in
+    let f = rule_none UnionChunk (not (is_rising chunks && (not (is_chunk_overlapping chunks) && are_covered fields chunks))) None d.1 in
+    let g = and_parts (is_rising chunks) _ (not_false _ f.0) in
+    not_true _ (and_parts (not (is_chunk_overlapping chunks)) (are_covered fields chunks) g.1).0
 
 pub union_apart : (size align : ℕ) (fields : List (ℕ × Ty)) (chunks : List (ℕ × ℕ)) → TypeOk (ty.Union size align fields chunks) → is_chunk_overlapping chunks ≡ false
 union_apart size align fields chunks ok =

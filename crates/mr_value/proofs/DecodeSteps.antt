@@ -1,22 +1,18 @@
 -- One turn of each loop of decoding.
-use Rattle.std.proofs.Common.{◌≡◌, ℕ, suc, ◌+◌, ◌-◌, ◌*◌, ◌<◌, ◌≤◌, true, List, [], ◌∷◌, ◌++◌, length, get_or, take, drop, Option, Some, None, refl, sym, ap, ◌∙◌, arith, drop-cons, append_assoc, append-nil}
+use Rattle.std.proofs.Common.{◌≡◌, ℕ, suc, ◌+◌, ◌-◌, ◌*◌, ◌<◌, ◌≤◌, true, List, [], ◌∷◌, ◌++◌, length, get_or, take, drop, Option, Some, None, refl, sym, ap, ◌∙◌, arith, append_assoc, append-nil}
 use Rattle.std.specs.Prelude.{option_map, option_and_then, nat_le, ◌==◌}
-use Rattle.std.proofs.lemmas.List.{drop-drop}
+use Rattle.std.proofs.lemmas.List.{drop-drop, drop_more}
 use Rattle.std.proofs.Math.Nat.{mul-le-mul_right}
+use Rattle.std.proofs.lemmas.Bool.{and_parts}
 use Rattle.mr_ast.specs.declared.types.Ty.{Ty}
 use Rattle.mr_ast.specs.declared.types.Variant.{Variant}
 use Rattle.mr_layout.specs.Sizes.{size_of}
 use Rattle.mr_layout.specs.Parts.{is_ok, are_ok, are_variants_ok, are_chunks_ok}
-use Rattle.mr_layout.proofs.PartsOk.{and_true}
 use Rattle.mr_value.specs.declared.val.Val.{Val}
 use Rattle.mr_value.specs.Numbers.{Bytes, part}
 use Rattle.mr_value.specs.Decode.{Reader, decoded, read_fields, elements_in, chunks_in}
 use Rattle.mr_base.proofs.Comparisons.{eq_from, le_from}
 use Rattle.mr_value.proofs.PartLaws.{part_part}
-
--- what is left of a list is its next item and what is left behind that
-pub at_drop : {X : Type 0} (xs : List X) (i : ℕ) (d : X) → i < length xs → drop i xs ≡ get_or xs i d ∷ drop (i + 1) xs
-at_drop xs i d p = let e : suc i ≡ i + 1 = omega arith in drop-cons xs i d p ∙ ap (λ n. get_or xs i d ∷ drop n xs) e
 
 -- the next field lies inside, and its type and the fields behind it break no rule
 pub record NextField (size : ℕ) (fields : List (ℕ × Ty)) (i : ℕ) (f : ℕ × Ty) : Type 0 where
@@ -26,10 +22,10 @@ pub record NextField (size : ℕ) (fields : List (ℕ × Ty)) (i : ℕ) (f : ℕ
 
 pub next_field : (size : ℕ) (fields : List (ℕ × Ty)) (i : ℕ) (d : ℕ × Ty) → i < length fields → are_ok size (drop i fields) ≡ true → NextField size fields i (get_or fields i d)
 next_field size fields i d p u =
-    let e = at_drop fields i d p in
+    let e = drop_more fields i d p in
     let f = get_or fields i d in
-    let a = and_true (is_ok f.1) _ (sym (ap (are_ok size) e) ∙ u) in
-    let b = and_true (nat_le (f.0 + size_of f.1) size) (are_ok size (drop (i + 1) fields)) a.1 in
+    let a = and_parts (is_ok f.1) _ (sym (ap (are_ok size) e) ∙ u) in
+    let b = and_parts (nat_le (f.0 + size_of f.1) size) (are_ok size (drop (i + 1) fields)) a.1 in
     record { ok = a.0; inside = le_from (f.0 + size_of f.1) size b.0; rest = b.1 }
 
 -- the next variant has the size, and its type and the variants behind it break no rule
@@ -40,10 +36,10 @@ pub record NextVariant (size : ℕ) (variants : List Variant) (i : ℕ) (v : Var
 
 pub next_variant : (size : ℕ) (variants : List Variant) (i : ℕ) (d : Variant) → i < length variants → are_variants_ok size (drop i variants) ≡ true → NextVariant size variants i (get_or variants i d)
 next_variant size variants i d p u =
-    let e = at_drop variants i d p in
+    let e = drop_more variants i d p in
     let v = get_or variants i d in
-    let a = and_true (is_ok v.ty) _ (sym (ap (are_variants_ok size) e) ∙ u) in
-    let b = and_true (size_of v.ty == size) (are_variants_ok size (drop (i + 1) variants)) a.1 in
+    let a = and_parts (is_ok v.ty) _ (sym (ap (are_variants_ok size) e) ∙ u) in
+    let b = and_parts (size_of v.ty == size) (are_variants_ok size (drop (i + 1) variants)) a.1 in
     record { ok = a.0; sized = eq_from (size_of v.ty) size b.0; rest = b.1 }
 
 -- the next chunk lies inside, and so do those behind it
@@ -53,9 +49,9 @@ pub record NextChunk (size : ℕ) (chunks : List (ℕ × ℕ)) (i : ℕ) (c : �
 
 pub next_chunk : (size : ℕ) (chunks : List (ℕ × ℕ)) (i : ℕ) (d : ℕ × ℕ) → i < length chunks → are_chunks_ok size (drop i chunks) ≡ true → NextChunk size chunks i (get_or chunks i d)
 next_chunk size chunks i d p u =
-    let e = at_drop chunks i d p in
+    let e = drop_more chunks i d p in
     let c = get_or chunks i d in
-    let a = and_true (nat_le (c.0 + c.1) size) (are_chunks_ok size (drop (i + 1) chunks)) (sym (ap (are_chunks_ok size) e) ∙ u) in
+    let a = and_parts (nat_le (c.0 + c.1) size) (are_chunks_ok size (drop (i + 1) chunks)) (sym (ap (are_chunks_ok size) e) ∙ u) in
     record { inside = le_from (c.0 + c.1) size a.0; rest = a.1 }
 
 -- what is read of one part and then of the rest, behind values that were read before
@@ -76,7 +72,7 @@ pub fields_next : (b : Bytes) (at size : ℕ) (fields : List (ℕ × Ty)) (i : �
     → option_map (λ vs. values ++ vs) (read_fields (drop i fields) (part at size b)) ≡ after values (decoded (get_or fields i d).1 (part (at + (get_or fields i d).0) (size_of (get_or fields i d).1) b)) (read_fields (drop (i + 1) fields) (part at size b))
 fields_next b at size fields i d values p q =
     let f = get_or fields i d in
-    ap (λ (x : List (ℕ × Ty)). option_map (λ vs. values ++ vs) (read_fields x (part at size b))) (at_drop fields i d p)
+    ap (λ (x : List (ℕ × Ty)). option_map (λ vs. values ++ vs) (read_fields x (part at size b))) (drop_more fields i d p)
     ∙ ap (λ (x : Bytes). after values (decoded f.1 x) (read_fields (drop (i + 1) fields) (part at size b))) (part_part b at size f.0 (size_of f.1) q)
 
 pub elements_next : (b : Bytes) (at count size : ℕ) (read : Reader) (i : ℕ) (values : List Val) → i < count → i * size + size ≤ count * size
@@ -100,7 +96,7 @@ pub chunks_next : (b : Bytes) (at size : ℕ) (chunks : List (ℕ × ℕ)) (i : 
 chunks_next b at size chunks i d content more p q e =
     let c = get_or chunks i d in
     let rest = chunks_in (drop (i + 1) chunks) (part at size b) in
-    ap (λ (x : List (ℕ × ℕ)). content ++ chunks_in x (part at size b)) (at_drop chunks i d p)
+    ap (λ (x : List (ℕ × ℕ)). content ++ chunks_in x (part at size b)) (drop_more chunks i d p)
     ∙ ap (λ (x : Bytes). content ++ (x ++ rest)) (part_part b at size c.0 c.1 q)
     ∙ sym (append_assoc content (part (at + c.0) c.1 b) rest)
     ∙ ap (λ (x : Bytes). x ++ rest) (sym e)

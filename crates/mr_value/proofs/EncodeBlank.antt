@@ -4,6 +4,7 @@ use Rattle.std.proofs.lemmas.Bool.Decides.{nat_tests}
 use Rattle.std.proofs.lemmas.List.{get_or-replicate, get_or_append_left, get_or-append_right, length-replicate}
 use Rattle.std.proofs.Math.Nat.{mod-eq_of_lt, add-mod_left}
 use Rattle.std.specs.Prelude.{◌&&◌, nat_lt, nat_le, if◌then◌else◌}
+use Rattle.std.proofs.lemmas.Bool.{and_parts, or_parts}
 use Rattle.mr_ast.specs.declared.types.Num.{Num}
 use Rattle.mr_ast.specs.declared.types.Ty.{Ty}
 use Rattle.mr_ast.specs.declared.types.Ty.TheVariants as ty
@@ -16,8 +17,7 @@ use Rattle.mr_layout.specs.Sizes.{size_of}
 use Rattle.mr_ast.specs.Integers.{int_size}
 use Rattle.mr_layout.specs.TypeOk.{TypeOk}
 use Rattle.mr_layout.specs.Used.{is_in, is_in_part, is_in_tag, is_used, is_used_variant, is_used_field, is_used_in}
-use Rattle.mr_layout.proofs.Bounds.{or_false}
-use Rattle.mr_layout.proofs.PartsOk.{and_true, tuple_parts, array_part, union_parts, enum_parts}
+use Rattle.mr_layout.proofs.PartsOk.{tuple_parts, array_part, union_parts, enum_parts}
 use Rattle.mr_layout.proofs.SizeLaws.{size_int, size_bool, size_raw, size_fn_ptr, size_ref, size_tuple, size_array, size_union, size_enum}
 use Rattle.mr_layout.proofs.UsedLaws.{used_int, used_bool, used_raw, used_fn_ptr, used_ref, used_tuple, used_array, used_union, used_enum, used_variant_is}
 use Rattle.mr_runs.specs.Ranges.{with_range_replaced}
@@ -44,7 +44,7 @@ in_cases : (start len i : ℕ) → (is_in start len i ≡ false) ⊎ ((start ≤
 in_cases start len i = by (is_in start len i) refl
   where
     by : (t : Bool) → is_in start len i ≡ t → (is_in start len i ≡ false) ⊎ ((start ≤ i) × (i < start + len))
-    by true e = let h = and_true (nat_le start i) (nat_lt i (start + len)) e in let a : start ≤ i = grind (arith, nat_tests) in let b : i < start + len = grind (arith, nat_tests) in inr (a, b)
+    by true e = let h = and_parts (nat_le start i) (nat_lt i (start + len)) e in let a : start ≤ i = grind (arith, nat_tests) in let b : i < start + len = grind (arith, nat_tests) in inr (a, b)
     by false e = inl e
 
 part_unused : (start i : ℕ) (t : Ty) → is_in_part start (is_used t) i ≡ false → start ≤ i → is_used t (i - start) ≡ false
@@ -57,8 +57,8 @@ fields_blank : (size : ℕ) (fields : List (ℕ × Ty)) (vs : List Val) (bytes :
 fields_blank size [] vs bytes i all ok e h u n = u
 fields_blank size (f ∷ fields) [] bytes i all ok e h u n = u
 fields_blank size (f ∷ fields) (v ∷ vs) bytes i all ok e h u n =
-    let p = and_true (has_shape f.1 v) (fields_have_shape fields vs) e in
-    let apart = or_false (is_in_part f.0 (is_used f.1) i) (is_used_field fields i) n in
+    let p = and_parts (has_shape f.1 v) (fields_have_shape fields vs) e in
+    let apart = or_parts (is_in_part f.0 (is_used f.1) i) (is_used_field fields i) n in
     let piece = encoding_of f.1 v in
     let long = length-encoding_of f.1 ok.0.ok v p.0 in
     let inside : f.0 + length piece ≤ length bytes = omega (arith, ok.0.inside) in
@@ -78,7 +78,7 @@ elements_blank : (elem : Ty) (vs : List Val) (i : ℕ) → IsBlank elem → Type
 elements_blank elem [] i all ok e p n = absurd (omega arith)
 elements_blank elem (v ∷ vs) i all ok e p n =
     let size = size_of elem in
-    let s = and_true (has_shape elem v) (elements_pass (has_shape elem) vs) e in
+    let s = and_parts (has_shape elem v) (elements_pass (has_shape elem) vs) e in
     let piece = encoding_of elem v in
     let rest = element_bytes (encoding_of elem) vs in
     let long : length piece ≡ size = length-encoding_of elem ok v s.0 in
@@ -98,9 +98,9 @@ variant_blank : (size : ℕ) (variants : List Variant) (n : Num) (v : Val) (i : 
     → byte_at (write_variant variants n v) i ≡ Uninit
 variant_blank size [] n v i all ok tags e p u = absurd (cc)
 variant_blank size (w ∷ variants) n v i all ok tags e p u =
-    let t = and_true (are_tags size w.ty w.tags) (are_all_tags size variants) tags in
-    let unused = or_false (is_used_variant w i) (is_used_in variants i) u in
-    let part = or_false (is_used w.ty i) (is_in_tag w.tags i) (sym (used_variant_is w i) ∙ unused.0) in
+    let t = and_parts (are_tags size w.ty w.tags) (are_all_tags size variants) tags in
+    let unused = or_parts (is_used_variant w i) (is_used_in variants i) u in
+    let part = or_parts (is_used w.ty i) (is_in_tag w.tags i) (sym (used_variant_is w i) ∙ unused.0) in
     chosen (same_num w.number n)
     (λ here.
     let long : length (encoding_of w.ty v) ≡ size = length-encoding_of w.ty ok.0.ok v here ∙ ok.1 in

@@ -2,6 +2,7 @@
 use Rattle.std.proofs.Common.{◌≡◌, ℕ, zero, suc, ◌+◌, ◌*◌, ◌≤◌, Bool, true, false, List, [], ◌∷◌, length, take, drop, Option, None, refl, sym, ap, ◌∙◌, arith, length-append, length-take, length-drop}
 use Rattle.std.specs.Prelude.{if◌then◌else◌}
 use Rattle.std.proofs.lemmas.List.{length-replicate, length-map}
+use Rattle.std.proofs.lemmas.Bool.{and_parts}
 use Rattle.mr_ast.specs.declared.types.Num.{Num}
 use Rattle.mr_ast.specs.declared.types.Tag.{Tag}
 use Rattle.mr_ast.specs.declared.types.Ty.{Ty}
@@ -15,7 +16,7 @@ use Rattle.mr_ast.specs.Integers.{int_size}
 use Rattle.mr_layout.specs.EnumRules.{same_num, are_tags, are_all_tags}
 use Rattle.mr_layout.proofs.PartFacts.{FieldsOk, ChunksInside, VariantsOk}
 use Rattle.mr_layout.specs.TypeOk.{TypeOk}
-use Rattle.mr_layout.proofs.PartsOk.{and_true, tuple_parts, array_part, union_parts, enum_parts}
+use Rattle.mr_layout.proofs.PartsOk.{tuple_parts, array_part, union_parts, enum_parts}
 use Rattle.mr_layout.proofs.SizeLaws.{size_int, size_bool, size_raw, size_fn_ptr, size_ref, size_tuple, size_array, size_union, size_enum}
 use Rattle.mr_runs.specs.Ranges.{with_range_replaced}
 use Rattle.mr_runs.proofs.RangeLaws.{length-with_range_replaced}
@@ -48,7 +49,7 @@ pub fields_keep_length : (size : ℕ) (fields : List (ℕ × Ty)) (vs : List Val
 fields_keep_length size [] vs bytes all ok e h = h
 fields_keep_length size (f ∷ fields) [] bytes all ok e h = h
 fields_keep_length size (f ∷ fields) (v ∷ vs) bytes all ok e h =
-    let p = and_true (has_shape f.1 v) (fields_have_shape fields vs) e in
+    let p = and_parts (has_shape f.1 v) (fields_have_shape fields vs) e in
     let one = all.0 ok.0.ok v p.0 in
     let inside : f.0 + length (encoding_of f.1 v) ≤ length bytes = omega (arith, ok.0.inside) in
     fields_keep_length size fields vs (with_range_replaced bytes f.0 (encoding_of f.1 v)) all.1 ok.1 p.1 (length-with_range_replaced bytes f.0 (encoding_of f.1 v) inside ∙ h)
@@ -56,7 +57,7 @@ fields_keep_length size (f ∷ fields) (v ∷ vs) bytes all ok e h =
 pub elements_length : (elem : Ty) (vs : List Val) → HasLength elem → TypeOk elem → elements_pass (has_shape elem) vs ≡ true → length (element_bytes (encoding_of elem) vs) ≡ length vs * size_of elem
 elements_length elem [] all ok e = omega arith
 elements_length elem (v ∷ vs) all ok e =
-    let p = and_true (has_shape elem v) (elements_pass (has_shape elem) vs) e in
+    let p = and_parts (has_shape elem v) (elements_pass (has_shape elem) vs) e in
     let one = all ok v p.0 in
     let rest = elements_length elem vs all ok p.1 in
     let both = length-append (encoding_of elem v) (element_bytes (encoding_of elem) vs) in
@@ -83,7 +84,7 @@ tags_keep_length size t (g ∷ tags) bytes e h =
 variant_length : (size : ℕ) (variants : List Variant) (n : Num) (v : Val) → AllVariants HasLength variants → VariantsOk size variants → are_all_tags size variants ≡ true → variant_has_shape variants n v ≡ true → length (write_variant variants n v) ≡ size
 variant_length size [] n v all ok tags e = absurd (cc)
 variant_length size (w ∷ variants) n v all ok tags e =
-    let p = and_true (are_tags size w.ty w.tags) (are_all_tags size variants) tags in
+    let p = and_parts (are_tags size w.ty w.tags) (are_all_tags size variants) tags in
     chosen (same_num w.number n) (λ here. tags_keep_length size w.ty w.tags (encoding_of w.ty v) p.0 (all.0 ok.0.ok v here ∙ ok.1)) (variant_length size variants n v all.1 ok.2 p.1) e
   where
     chosen : (t : Bool) → (has_shape w.ty v ≡ true → length (with_tags w.tags (encoding_of w.ty v)) ≡ size) → (variant_has_shape variants n v ≡ true → length (write_variant variants n v) ≡ size)

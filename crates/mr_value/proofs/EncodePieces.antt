@@ -1,6 +1,7 @@
 -- What is written for fields, chunks and tags, as pieces.
 use Rattle.std.proofs.Common.{◌≡◌, ℕ, ◌+◌, ◌≤◌, true, List, [], ◌∷◌, length, take, drop, refl, ap, ◌∙◌, arith, length-take, length-drop}
 use Rattle.std.specs.Prelude.{◌||◌}
+use Rattle.std.proofs.lemmas.Bool.{and_parts}
 use Rattle.mr_ast.specs.declared.types.Tag.{Tag}
 use Rattle.mr_ast.specs.declared.types.Ty.{Ty}
 use Rattle.mr_layout.specs.EnumRules.{are_tags}
@@ -10,7 +11,6 @@ use Rattle.mr_base.specs.Pairs.{is_meeting}
 use Rattle.mr_layout.specs.Sizes.{size_of}
 use Rattle.mr_ast.specs.Integers.{int_size}
 use Rattle.mr_layout.specs.Used.{is_in, is_in_chunk, is_in_tag}
-use Rattle.mr_layout.proofs.PartsOk.{and_true}
 use Rattle.mr_runs.specs.Ranges.{with_range_replaced}
 use Rattle.mr_value.specs.declared.val.Val.{Val}
 use Rattle.mr_value.specs.Numbers.{Bytes}
@@ -35,7 +35,7 @@ pub fields_inside : (size : ℕ) (fields : List (ℕ × Ty)) (vs : List Val) →
 fields_inside size [] vs ok e = tt
 fields_inside size (f ∷ fields) [] ok e = tt
 fields_inside size (f ∷ fields) (v ∷ vs) ok e =
-    let p = and_true (has_shape f.1 v) (fields_have_shape fields vs) e in
+    let p = and_parts (has_shape f.1 v) (fields_have_shape fields vs) e in
     let long = length-encoding_of f.1 ok.0.ok v p.0 in
     let here : f.0 + length (encoding_of f.1 v) ≤ size = omega (arith, ok.0.inside) in
     (here, fields_inside size fields vs ok.1 p.1)
@@ -45,7 +45,7 @@ meets_fields size start len [] [] ok e = refl
 meets_fields size start len [] (v ∷ vs) ok e = cc
 meets_fields size start len (f ∷ fields) [] ok e = cc
 meets_fields size start len (f ∷ fields) (v ∷ vs) ok e =
-    let p = and_true (has_shape f.1 v) (fields_have_shape fields vs) e in
+    let p = and_parts (has_shape f.1 v) (fields_have_shape fields vs) e in
     ap (λ n. is_meeting start len f.0 n || meets_piece start len (field_pieces fields vs)) (length-encoding_of f.1 ok.0.ok v p.0)
     ∙ ap (λ t. is_meeting start len f.0 (size_of f.1) || t) (meets_fields size start len fields vs ok.1 p.1)
 

@@ -1,8 +1,10 @@
 -- One turn of each loop of encoding.
-use Rattle.std.proofs.Common.{◌≡◌, ℕ, suc, ◌+◌, ◌-◌, ◌/◌, ◌%◌, ◌<◌, ◌≤◌, Bool, true, false, List, [], ◌∷◌, ◌++◌, length, get_or, take, drop, Option, refl, sym, ap, ◌∙◌, arith, append_assoc, append-nil}
+use Rattle.std.proofs.Common.{◌≡◌, ℕ, suc, ◌+◌, ◌-◌, ◌/◌, ◌%◌, ◌<◌, ◌≤◌, Bool, true, false, List, [], ◌∷◌, ◌++◌, length, get_or, drop, Option, refl, sym, ap, ◌∙◌, arith, append_assoc, append-nil}
 use mathlib.Core.Bool.{beq}
 use Rattle.std.specs.Prelude.{Result, IsErr, OnErr, ⊤, not, ◌&&◌, ◌==◌, if◌then◌else◌}
 use Rattle.std.proofs.lemmas.Result.{MatchResult-from_err}
+use Rattle.std.proofs.lemmas.Bool.{and_parts}
+use Rattle.std.proofs.lemmas.List.{drop_more}
 use Rattle.mr_ast.specs.declared.types.Num.{Num}
 use Rattle.mr_ast.specs.declared.types.Tag.{Tag}
 use Rattle.mr_ast.specs.declared.types.Ty.{Ty}
@@ -10,14 +12,12 @@ use Rattle.mr_ast.specs.declared.types.Variant.{Variant}
 use Rattle.mr_base.specs.declared.byte.AllocId.{AllocId}
 use Rattle.mr_base.specs.declared.byte.AbstractByte.TheVariants.{Init}
 use Rattle.mr_layout.specs.EnumRules.{same_num, are_tags}
-use Rattle.mr_layout.proofs.PartsOk.{and_true}
 use Rattle.mr_runs.specs.Ranges.{with_range_replaced}
 use Rattle.mr_runs.specs.Numbers.{with_provenance}
 use Rattle.mr_value.specs.declared.val.Val.{Val}
 use Rattle.mr_value.specs.Numbers.{Bytes, little_endian}
 use Rattle.mr_value.specs.Encode.{BeginsWith, tag_bytes, with_tags, encoding_of, write_fields}
-use Rattle.mr_value.specs.Shape.{chunks_size, elements_pass, has_shape, fields_have_shape, variant_has_shape}
-use Rattle.mr_value.proofs.DecodeSteps.{at_drop}
+use Rattle.mr_value.specs.Shape.{has_shape, fields_have_shape, variant_has_shape}
 use Rattle.mr_value.proofs.TagParts.{TagOk, first_tag}
 
 -- a list begins with itself, with what it was before it grew, and with what that began with
@@ -51,7 +51,7 @@ pub same_length : (fields : List (ℕ × Ty)) (vs : List Val) → fields_have_sh
 same_length [] [] e = refl
 same_length [] (v ∷ vs) e = cc
 same_length (f ∷ fields) [] e = cc
-same_length (f ∷ fields) (v ∷ vs) e = ap suc (same_length fields vs (and_true (has_shape f.1 v) (fields_have_shape fields vs) e).1)
+same_length (f ∷ fields) (v ∷ vs) e = ap suc (same_length fields vs (and_parts (has_shape f.1 v) (fields_have_shape fields vs) e).1)
 
 -- the next value has the shape of the next field, and so do those behind it
 pub record NextValue (fields : List (ℕ × Ty)) (vs : List Val) (i : ℕ) (f : ℕ × Ty) (v : Val) : Type 0 where
@@ -60,39 +60,28 @@ pub record NextValue (fields : List (ℕ × Ty)) (vs : List Val) (i : ℕ) (f : 
 
 pub next_value : (fields : List (ℕ × Ty)) (vs : List Val) (i : ℕ) (f : ℕ × Ty) (v : Val) → i < length fields → i < length vs → fields_have_shape (drop i fields) (drop i vs) ≡ true → NextValue fields vs i (get_or fields i f) (get_or vs i v)
 next_value fields vs i f v p q e =
-    let at = ap (λ (x : List (ℕ × Ty)). fields_have_shape x (drop i vs)) (at_drop fields i f p)
-    ∙ ap (fields_have_shape (get_or fields i f ∷ drop (i + 1) fields)) (at_drop vs i v q) in
-    let h = and_true (has_shape (get_or fields i f).1 (get_or vs i v)) (fields_have_shape (drop (i + 1) fields) (drop (i + 1) vs)) (sym at ∙ e) in
+    let at = ap (λ (x : List (ℕ × Ty)). fields_have_shape x (drop i vs)) (drop_more fields i f p)
+    ∙ ap (fields_have_shape (get_or fields i f ∷ drop (i + 1) fields)) (drop_more vs i v q) in
+    let h = and_parts (has_shape (get_or fields i f).1 (get_or vs i v)) (fields_have_shape (drop (i + 1) fields) (drop (i + 1) vs)) (sym at ∙ e) in
     record { here = h.0; rest = h.1 }
 
 pub fields_written : (fields : List (ℕ × Ty)) (vs : List Val) (bytes : Bytes) (i : ℕ) (f : ℕ × Ty) (v : Val) → i < length fields → i < length vs
     → write_fields (drop i fields) (drop i vs) bytes ≡ write_fields (drop (i + 1) fields) (drop (i + 1) vs) (with_range_replaced bytes (get_or fields i f).0 (encoding_of (get_or fields i f).1 (get_or vs i v)))
 fields_written fields vs bytes i f v p q =
-    ap (λ (x : List (ℕ × Ty)). write_fields x (drop i vs) bytes) (at_drop fields i f p)
-    ∙ ap (λ (x : List Val). write_fields (get_or fields i f ∷ drop (i + 1) fields) x bytes) (at_drop vs i v q)
-
--- the next element has the shape, and so do those behind it
-pub record NextElement (elem : Ty) (vs : List Val) (i : ℕ) (v : Val) : Type 0 where
-  pub here : has_shape elem v ≡ true
-  pub rest : elements_pass (has_shape elem) (drop (i + 1) vs) ≡ true
-
--- the next chunk lies inside and takes as much of the content as it has
-pub record NextContent (chunks : List (ℕ × ℕ)) (content : Bytes) (i : ℕ) (c : ℕ × ℕ) : Type 0 where
-  pub enough : c.1 ≤ length content
-  pub taken : length (take c.1 content) ≡ c.1
-  pub rest : length (drop c.1 content) ≡ chunks_size (drop (i + 1) chunks)
+    ap (λ (x : List (ℕ × Ty)). write_fields x (drop i vs) bytes) (drop_more fields i f p)
+    ∙ ap (λ (x : List Val). write_fields (get_or fields i f ∷ drop (i + 1) fields) x bytes) (drop_more vs i v q)
 
 -- the next tag of an enum that breaks no rule
 pub next_tag : (size : ℕ) (t : Ty) (tags : List Tag) (i : ℕ) (g : Tag) → i < length tags → are_tags size t (drop i tags) ≡ true → TagOk size t (get_or tags i g) (drop (i + 1) tags)
-next_tag size t tags i g p e = first_tag size t (get_or tags i g) (drop (i + 1) tags) (sym (ap (are_tags size t) (at_drop tags i g p)) ∙ e)
+next_tag size t tags i g p e = first_tag size t (get_or tags i g) (drop (i + 1) tags) (sym (ap (are_tags size t) (drop_more tags i g p)) ∙ e)
 
 pub tags_written : (tags : List Tag) (bytes : Bytes) (i : ℕ) (g : Tag) → i < length tags → with_tags (drop i tags) bytes ≡ with_tags (drop (i + 1) tags) (with_range_replaced bytes (get_or tags i g).at (tag_bytes (get_or tags i g)))
-tags_written tags bytes i g p = ap (λ (x : List Tag). with_tags x bytes) (at_drop tags i g p)
+tags_written tags bytes i g p = ap (λ (x : List Tag). with_tags x bytes) (drop_more tags i g p)
 
 -- the variant with a number, where the next one has it and where it hasn't
 pub variant_shaped_here : (variants : List Variant) (i : ℕ) (w : Variant) (n : Num) (v : Val) → i < length variants → same_num (get_or variants i w).number n ≡ true → variant_has_shape (drop i variants) n v ≡ has_shape (get_or variants i w).ty v
 variant_shaped_here variants i w n v p e =
-    ap (λ (x : List Variant). variant_has_shape x n v) (at_drop variants i w p)
+    ap (λ (x : List Variant). variant_has_shape x n v) (drop_more variants i w p)
     ∙ ap (λ t. if t then has_shape (get_or variants i w).ty v else variant_has_shape (drop (i + 1) variants) n v) e
 
 beq_is : (a b : Bool) → beq a b ≡ (if a then b else not b)

@@ -15,8 +15,9 @@ use Rattle.mr_value.specs.declared.val.Val.TheVariants as val
 use Rattle.mr_value.specs.Decode.{is_not_null, is_aligned}
 use Rattle.mr_value.specs.Discriminants.{walk}
 use Rattle.mr_value.specs.Encode.{encoding_of}
-use Rattle.mr_value.specs.Faithful.{is_address, is_found, faithful_step, variant_faithful_step, is_faithful, fields_faithful, variant_faithful}
+use Rattle.mr_value.specs.Faithful.{is_found, faithful_step, variant_faithful_step, is_faithful, fields_faithful, variant_faithful}
 use Rattle.mr_value.specs.Shape.{ValueTest, elements_pass, variant_passes}
+use Rattle.mr_ast.specs.ShapedTypes.{fits_u64}
 
 unfoldable variant_test : Variant → ValueTest
 variant_test = para-Variant ValueTest ValueTest (λ layer v. faithful_step layer (out-Val v)) variant_faithful_step
@@ -26,13 +27,13 @@ faithful_roll : (d : Ty-F Ty Variant) (v : Val) → is_faithful (roll-Ty d) v �
 unfolding is_faithful variant_test
 faithful_roll d v = ap (λ (test : ValueTest). test v) (para-roll-Ty ValueTest ValueTest (λ layer v. faithful_step layer (out-Val v)) variant_faithful_step d)
 
-pub faithful_raw : (p : Pointer) → is_faithful ty.Raw (val.Ptr p) ≡ is_address p.addr
+pub faithful_raw : (p : Pointer) → is_faithful ty.Raw (val.Ptr p) ≡ fits_u64 p.addr
 faithful_raw p = ap (λ t. is_faithful t (val.Ptr p)) (sym ty.rolls-Raw) ∙ faithful_roll Ty-F.Raw (val.Ptr p) ∙ ap (faithful_step Ty-F.Raw) (val.outs-Ptr p)
 
-pub faithful_fn_ptr : (p : Pointer) → is_faithful ty.FnPtr (val.Ptr p) ≡ (is_address p.addr && is_not_null p.addr)
+pub faithful_fn_ptr : (p : Pointer) → is_faithful ty.FnPtr (val.Ptr p) ≡ (fits_u64 p.addr && is_not_null p.addr)
 faithful_fn_ptr p = ap (λ t. is_faithful t (val.Ptr p)) (sym ty.rolls-FnPtr) ∙ faithful_roll Ty-F.FnPtr (val.Ptr p) ∙ ap (faithful_step Ty-F.FnPtr) (val.outs-Ptr p)
 
-pub faithful_ref : (size align : ℕ) (never : Bool) (p : Pointer) → is_faithful (ty.Ref size align never) (val.Ptr p) ≡ (is_address p.addr && (is_aligned align p.addr && not never))
+pub faithful_ref : (size align : ℕ) (never : Bool) (p : Pointer) → is_faithful (ty.Ref size align never) (val.Ptr p) ≡ (fits_u64 p.addr && (is_aligned align p.addr && not never))
 faithful_ref size align never p =
     ap (λ t. is_faithful t (val.Ptr p)) (sym (ty.rolls-Ref size align never)) ∙ faithful_roll (Ty-F.Ref size align never) (val.Ptr p) ∙ ap (faithful_step (Ty-F.Ref size align never)) (val.outs-Ptr p)
 

@@ -19,7 +19,6 @@ pub mod RefParts
 pub mod ShapeLaws
 pub mod SpelledLaws
 pub mod TagParts
-pub mod TreeInduction
 pub mod ValCases
 pub mod WalkLaws
 pub mod WalkSame

@@ -5,8 +5,9 @@ use Rattle.std.specs.Prelude.{◌&&◌, if◌then◌else◌, option_map}
 use Rattle.mr_base.specs.declared.byte.AllocId.{AllocId}
 use Rattle.mr_base.specs.declared.byte.Pointer.{Pointer}
 use Rattle.mr_runs.specs.Numbers.{with_provenance}
-use Rattle.mr_value.specs.Numbers.{number_of, little_endian, is_same_id, all_have, shared_provenance, pointer, pointer_of, pointer_bytes}
+use Rattle.mr_value.specs.Numbers.{number_of, little_endian, all_have, shared_provenance, pointer, pointer_of, pointer_bytes}
 use Rattle.mr_value.proofs.Digits.{more_byte}
+use Rattle.mr_base.specs.Identities.{same_id}
 
 pub number_back : (provenance : Option AllocId) (count n : ℕ) → n < 2 ^ (8 * count) → number_of (with_provenance provenance (little_endian count n)) ≡ Some n
 number_back provenance zero n p = let h : 0 ≡ n = omega arith in ap Some h
@@ -16,12 +17,12 @@ number_back provenance (suc count) n p =
     let digits : n % 256 % 256 + 256 * (n / 256) ≡ n = omega arith in
     ap (option_map (λ m. n % 256 % 256 + 256 * m)) (number_back provenance count (n / 256) rest) ∙ ap Some digits
 
-pub same_id : (p : AllocId) → is_same_id p p ≡ true
-same_id p = grind (arith, nat_tests)
+pub id_itself : (p : AllocId) → same_id p p ≡ true
+id_itself p = grind (arith, nat_tests)
 
 all_have_it : (p : AllocId) (ns : List ℕ) → all_have p (with_provenance (Some p) ns) ≡ true
 all_have_it p [] = refl
-all_have_it p (n ∷ ns) = ap (λ t. t && all_have p (with_provenance (Some p) ns)) (same_id p) ∙ all_have_it p ns
+all_have_it p (n ∷ ns) = ap (λ t. t && all_have p (with_provenance (Some p) ns)) (id_itself p) ∙ all_have_it p ns
 
 pub provenance_back : (provenance : Option AllocId) (n : ℕ) (ns : List ℕ) → shared_provenance (with_provenance provenance (n ∷ ns)) ≡ provenance
 provenance_back None n ns = refl

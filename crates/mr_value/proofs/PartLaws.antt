@@ -1,9 +1,10 @@
 -- Parts of a list of bytes.
-use Rattle.std.proofs.Common.{◌≡◌, ℕ, zero, suc, ◌+◌, ◌-◌, ◌<◌, ◌≤◌, List, [], ◌∷◌, ◌++◌, take, drop, Some, refl, ap, ◌∙◌, arith}
+use Rattle.std.proofs.Common.{◌≡◌, ℕ, zero, suc, ◌+◌, ◌-◌, ◌<◌, ◌≤◌, [], ◌∷◌, ◌++◌, take, drop, Some, refl, ap, ◌∙◌, arith}
 use Rattle.std.specs.Prelude.{slice_get}
 use Rattle.std.proofs.lemmas.List.{drop-drop, take-take, drop-take}
 use Rattle.mr_base.specs.declared.byte.AbstractByte.{AbstractByte}
 use Rattle.mr_value.specs.Numbers.{Bytes, part}
+use Rattle.mr_base.proofs.Lists.{slice_get-drop}
 
 step : (b : Bytes) (at len : ℕ) (x : AbstractByte) → slice_get b at ≡ Some x → take (suc len) (drop at b) ≡ x ∷ take len (drop (suc at) b)
 step [] at len x e = cc
@@ -19,11 +20,6 @@ part_step b at len x e p =
 
 pub part_none : (b : Bytes) (at : ℕ) → part at 0 b ≡ []
 part_none b at = refl
-
-pub slice_get-drop : {X : Type 0} (xs : List X) (n i : ℕ) → slice_get (drop n xs) i ≡ slice_get xs (n + i)
-slice_get-drop xs zero i = let e : i ≡ 0 + i = omega arith in ap (slice_get xs) e
-slice_get-drop [] (suc n) i = refl
-slice_get-drop (x ∷ xs) (suc n) i = let e : suc (n + i) ≡ suc n + i = omega arith in slice_get-drop xs n i ∙ ap (slice_get (x ∷ xs)) e
 
 take_push : (b : Bytes) (i : ℕ) (x : AbstractByte) → slice_get b i ≡ Some x → take (suc i) b ≡ take i b ++ x ∷ []
 take_push [] i x e = cc

@@ -3,11 +3,11 @@ use Rattle.std.proofs.Common.{◌≡◌, ℕ, ◌+◌, ◌-◌, ◌<◌, ◌≤�
 use Rattle.std.proofs.lemmas.Bool.Decides.{nat_tests}
 use Rattle.std.proofs.lemmas.List.{get_or-take, get_or-drop, get_or_append_left, get_or-append_right}
 use Rattle.std.specs.Prelude.{◌||◌}
+use Rattle.std.proofs.lemmas.Bool.{or_parts}
 use Rattle.mr_base.specs.declared.byte.AbstractByte.{AbstractByte}
 use Rattle.mr_base.specs.declared.byte.AbstractByte.TheVariants.{Uninit}
 use Rattle.mr_base.specs.Pairs.{is_meeting}
 use Rattle.mr_layout.specs.Used.{is_in}
-use Rattle.mr_layout.proofs.Bounds.{or_false}
 use Rattle.mr_runs.specs.Ranges.{with_range_replaced}
 use Rattle.mr_runs.proofs.RangeLaws.{length-with_range_replaced}
 use Rattle.mr_value.specs.Numbers.{Bytes}
@@ -60,12 +60,6 @@ abbrev pub meets_piece : ℕ → ℕ → List (ℕ × Bytes) → Bool
 meets_piece start len [] = false
 meets_piece start len (p ∷ pieces) = is_meeting start len p.0 (length p.1) || meets_piece start len pieces
 
-pub length-with_pieces : (size : ℕ) (pieces : List (ℕ × Bytes)) (bytes : Bytes) → PiecesInside size pieces → length bytes ≡ size → length (with_pieces pieces bytes) ≡ size
-length-with_pieces size [] bytes inside h = h
-length-with_pieces size (p ∷ pieces) bytes inside h =
-    let here : p.0 + length p.1 ≤ length bytes = omega (arith, inside.0) in
-    length-with_pieces size pieces (with_range_replaced bytes p.0 p.1) inside.1 (length-with_range_replaced bytes p.0 p.1 here ∙ h)
-
 in_range : (start len i : ℕ) → is_in start len i ≡ false → (i < start) ⊎ (start + len ≤ i)
 in_range start len i e = grind (arith, nat_tests)
 
@@ -77,7 +71,7 @@ pub byte_outside : (size : ℕ) (pieces : List (ℕ × Bytes)) (bytes : Bytes) (
 byte_outside size [] bytes i inside h e = refl
 byte_outside size (p ∷ pieces) bytes i inside h e =
     let here : p.0 + length p.1 ≤ length bytes = omega (arith, inside.0) in
-    let apart = or_false (is_in p.0 (length p.1) i) (is_in_piece pieces i) e in
+    let apart = or_parts (is_in p.0 (length p.1) i) (is_in_piece pieces i) e in
     byte_outside size pieces (with_range_replaced bytes p.0 p.1) i inside.1 (length-with_range_replaced bytes p.0 p.1 here ∙ h) apart.1
     ∙ untouched bytes p.0 p.1 i here apart.0
 
@@ -87,7 +81,7 @@ not_in start len from count i e p q = grind (arith, nat_tests)
 pub not_in_pieces : (start len : ℕ) (pieces : List (ℕ × Bytes)) (i : ℕ) → meets_piece start len pieces ≡ false → start ≤ i → i < start + len → is_in_piece pieces i ≡ false
 not_in_pieces start len [] i e p q = refl
 not_in_pieces start len (r ∷ pieces) i e p q =
-    let apart = or_false (is_meeting start len r.0 (length r.1)) (meets_piece start len pieces) e in
+    let apart = or_parts (is_meeting start len r.0 (length r.1)) (meets_piece start len pieces) e in
     both_false (is_in r.0 (length r.1) i) (is_in_piece pieces i) (not_in start len r.0 (length r.1) i apart.0 p q) (not_in_pieces start len pieces i apart.1 p q)
   where
     both_false : (a b : Bool) → a ≡ false → b ≡ false → (a || b) ≡ false

@@ -3,7 +3,8 @@ use Rattle.std.proofs.Common.{◌≡◌, ℕ, zero, suc, ◌+◌, ◌-◌, ◌*�
 use Rattle.std.proofs.lemmas.Bool.Decides.{nat_tests}
 use Rattle.std.proofs.lemmas.List.{get_or-take, get_or-drop, get_or_past, get_or_append_left, get_or-append_right, ext_get_or, length-replicate, take-append-drop}
 use Rattle.std.proofs.Math.Nat.{mod-eq_of_lt, add-mod_left}
-use Rattle.std.specs.Prelude.{not, ◌&&◌, ◌||◌, ◌==◌, nat_lt, nat_le, if◌then◌else◌, option_map, option_and_then}
+use Rattle.std.specs.Prelude.{not, ◌&&◌, ◌||◌, nat_lt, nat_le, if◌then◌else◌, option_map, option_and_then}
+use Rattle.std.proofs.lemmas.Bool.{and_parts, or_parts, or_left, or_right}
 use Rattle.mr_ast.specs.declared.types.Num.{Num}
 use Rattle.mr_ast.specs.declared.types.Tag.{Tag}
 use Rattle.mr_ast.specs.declared.types.Ty.{Ty}
@@ -19,8 +20,7 @@ use Rattle.mr_layout.specs.Sizes.{size_of}
 use Rattle.mr_ast.specs.Integers.{int_size}
 use Rattle.mr_layout.specs.TypeOk.{TypeOk}
 use Rattle.mr_layout.specs.Used.{is_in, is_in_part, is_in_chunk, is_in_tag, is_used, is_used_variant, is_used_field, is_used_in}
-use Rattle.mr_layout.proofs.Bounds.{or_false}
-use Rattle.mr_layout.proofs.PartsOk.{and_true, tuple_parts, array_part, union_parts, enum_parts}
+use Rattle.mr_layout.proofs.PartsOk.{tuple_parts, array_part, union_parts, enum_parts}
 use Rattle.mr_layout.proofs.SizeLaws.{size_int, size_bool, size_raw, size_fn_ptr, size_ref, size_tuple, size_array, size_union, size_enum}
 use Rattle.mr_layout.proofs.UsedLaws.{used_int, used_bool, used_raw, used_fn_ptr, used_ref, used_tuple, used_array, used_union, used_enum, used_variant_is}
 use Rattle.mr_runs.specs.Ranges.{with_range_replaced}
@@ -32,7 +32,7 @@ use Rattle.mr_value.specs.Numbers.{Bytes, part, number_of, little_endian, pointe
 use Rattle.mr_value.specs.Discriminants.{walk}
 use Rattle.mr_value.specs.Decode.{bool_of, pointer_where, is_not_null, is_aligned, elements_in, chunks_in, decoded, read_fields, read_variant}
 use Rattle.mr_value.specs.Encode.{blank, element_bytes, with_chunks, with_tags, encoding_of, write_fields, write_variant}
-use Rattle.mr_value.specs.Faithful.{is_address, is_found, is_faithful, fields_faithful, variant_faithful}
+use Rattle.mr_value.specs.Faithful.{is_found, is_faithful, fields_faithful, variant_faithful}
 use Rattle.mr_value.specs.Shape.{chunks_size, elements_pass, has_shape, fields_have_shape, variant_has_shape}
 use Rattle.mr_value.proofs.ApartParts.{tuple_apart, union_apart}
 use Rattle.mr_base.proofs.Comparisons.{below_or, eq_from, lt_from, lt_test}
@@ -48,6 +48,8 @@ use Rattle.mr_value.proofs.Pieces.{byte_at, byte_outside, byte_of_piece}
 use Rattle.mr_value.proofs.ShapeLaws.{shape_int, shape_bool, shape_raw, shape_fn_ptr, shape_ref, shape_tuple, shape_array, shape_union, shape_enum}
 use Rattle.mr_value.proofs.TagParts.{enum_tags, first_tag}
 use Rattle.mr_value.proofs.WalkSame.{Holds, uninit_init, walk_same}
+use Rattle.mr_layout.proofs.TreeOk.{same_num_equal}
+use Rattle.mr_ast.specs.ShapedTypes.{fits_u64}
 
 -- the bytes that the type uses are the same
 abbrev pub Agrees : Ty → Bytes → Bytes → Type 0
@@ -63,7 +65,7 @@ all_same t size v w b bytes is written used sized long h agrees =
     (λ i p. let q : i < size_of t = subst (λ n. i < n) h p in
     agrees i q (used i ∙ lt_test i size (subst (λ n. i < n) sized q)) ∙ ap (λ x. byte_at (encoding_of t x) i) is ∙ ap (λ (x : Bytes). byte_at x i) written)
 
-pointer_where_back : (test : ℕ → Bool) (p : Pointer) → is_address p.addr ≡ true → test p.addr ≡ true → pointer_where test (pointer_bytes p) ≡ Some (val.Ptr p)
+pointer_where_back : (test : ℕ → Bool) (p : Pointer) → fits_u64 p.addr ≡ true → test p.addr ≡ true → pointer_where test (pointer_bytes p) ≡ Some (val.Ptr p)
 pointer_where_back test p small passes =
     ap (option_and_then (λ (q : Pointer). if test q.addr then Some (val.Ptr q) else None)) (pointer_back p (lt_from p.addr (2 ^ 64) small))
     ∙ ap (λ t. if t then Some (val.Ptr p) else None) passes
@@ -75,14 +77,6 @@ bool_back false = refl
 inhabited_back : (never : Bool) (o : Option Val) → not never ≡ true → (if never then None else o) ≡ o
 inhabited_back true o e = cc
 inhabited_back false o e = refl
-
-or_right : (a b : Bool) → b ≡ true → (a || b) ≡ true
-or_right true b e = refl
-or_right false b e = e
-
-or_left : (a b : Bool) → a ≡ true → (a || b) ≡ true
-or_left true b e = refl
-or_left false b e = cc
 
 part_used : (start j : ℕ) (t : Ty) → is_used t j ≡ true → is_in_part start (is_used t) (start + j) ≡ true
 part_used start j t e =
@@ -104,8 +98,8 @@ fields_agree : (size : ℕ) (fields : List (ℕ × Ty)) (vs : List Val) (b bytes
 fields_agree size [] vs b bytes ok e apart h same = tt
 fields_agree size (f ∷ fields) [] b bytes ok e apart h same = tt
 fields_agree size (f ∷ fields) (v ∷ vs) b bytes ok e apart h same =
-    let p = and_true (has_shape f.1 v) (fields_have_shape fields vs) e in
-    let far = or_false (meets_any f.0 (size_of f.1) fields) (is_overlapping fields) apart in
+    let p = and_parts (has_shape f.1 v) (fields_have_shape fields vs) e in
+    let far = or_parts (meets_any f.0 (size_of f.1) fields) (is_overlapping fields) apart in
     let piece = encoding_of f.1 v in
     let long : length piece ≡ size_of f.1 = length-encoding_of f.1 ok.0.ok v p.0 in
     let inside : f.0 + length piece ≤ size = omega (arith, ok.0.inside) in
@@ -128,8 +122,8 @@ fields_read size [] [] b all ok e g h agree = refl
 fields_read size [] (v ∷ vs) b all ok e g h agree = cc
 fields_read size (f ∷ fields) [] b all ok e g h agree = cc
 fields_read size (f ∷ fields) (v ∷ vs) b all ok e g h agree =
-    let p = and_true (has_shape f.1 v) (fields_have_shape fields vs) e in
-    let q = and_true (is_faithful f.1 v) (fields_faithful fields vs) g in
+    let p = and_parts (has_shape f.1 v) (fields_have_shape fields vs) e in
+    let q = and_parts (is_faithful f.1 v) (fields_faithful fields vs) g in
     let long = length-part f.0 (size_of f.1) b (omega (arith, ok.0.inside)) in
     let one = all.0 ok.0.ok v p.0 q.0 (part f.0 (size_of f.1) b) long agree.0 in
     ap (option_and_then (λ w. option_map (λ ws. w ∷ ws) (read_fields fields b))) one
@@ -141,8 +135,8 @@ elements_read : (elem : Ty) (vs : List Val) (b : Bytes) → Reads elem → TypeO
 elements_read elem [] b all ok e g h same = refl
 elements_read elem (v ∷ vs) b all ok e g h same =
     let size = size_of elem in
-    let p = and_true (has_shape elem v) (elements_pass (has_shape elem) vs) e in
-    let q = and_true (is_faithful elem v) (elements_pass (is_faithful elem) vs) g in
+    let p = and_parts (has_shape elem v) (elements_pass (has_shape elem) vs) e in
+    let q = and_parts (is_faithful elem v) (elements_pass (is_faithful elem) vs) g in
     let piece = encoding_of elem v in
     let rest = element_bytes (encoding_of elem) vs in
     let long : length piece ≡ size = length-encoding_of elem ok v p.0 in
@@ -187,7 +181,7 @@ chunks_read : (size : ℕ) (chunks : List (ℕ × ℕ)) (content b bytes : Bytes
     → ((i : ℕ) → i < size → is_in_chunk chunks i ≡ true → byte_at b i ≡ byte_at (with_chunks chunks content bytes) i) → chunks_in chunks b ≡ content
 chunks_read size [] content b bytes ok apart k h s same = none_left content k
 chunks_read size (c ∷ chunks) content b bytes ok apart k h s same =
-    let far = or_false (meets_chunk c.0 c.1 chunks) (is_chunk_overlapping chunks) apart in
+    let far = or_parts (meets_chunk c.0 c.1 chunks) (is_chunk_overlapping chunks) apart in
     let piece = take c.1 content in
     let long : length piece ≡ c.1 = length-taken c chunks content k in
     let left = length-left c chunks content k in
@@ -212,7 +206,7 @@ chunks_read size (c ∷ chunks) content b bytes ok apart k h s same =
 some_unused : (t : Ty) (start n j : ℕ) → is_some_used t start n ≡ false → j < n → is_used t (start + j) ≡ false
 some_unused t start zero j e p = absurd (omega arith)
 some_unused t start (suc n) j e p =
-    let h = or_false (is_some_used t start n) (is_used t (start + n)) e in
+    let h = or_parts (is_some_used t start n) (is_used t (start + n)) e in
     ⊎_elim
     (λ (low : j < n). some_unused t start n j h.0 low)
     (λ (high : n ≤ j). let same : n ≡ j = omega arith in subst (λ k. is_used t (start + k) ≡ false) same h.1)
@@ -224,7 +218,7 @@ tags_unused size t [] i e u = refl
 tags_unused size t (g ∷ tags) i e u =
     let p = first_tag size t g tags e in
     neither (is_in g.at (int_size g.int) i) (is_in_tag tags i)
-    (λ h. let q = and_true (nat_le g.at i) (nat_lt i (g.at + int_size g.int)) h in
+    (λ h. let q = and_parts (nat_le g.at i) (nat_lt i (g.at + int_size g.int)) h in
     let low : g.at ≤ i = grind (arith, nat_tests) in
     let high : i < g.at + int_size g.int = grind (arith, nat_tests) in
     let place : g.at + (i - g.at) ≡ i = omega arith in
@@ -247,7 +241,7 @@ variant_read : (size : ℕ) (variants : List Variant) (n : Num) (v : Val) (b : B
     → Found size variants b (write_variant variants n v) → read_variant variants b n ≡ Some (val.Variant n v)
 variant_read size [] n v b all ok tags e g h same = cc
 variant_read size (w ∷ variants) n v b all ok tags e g h same =
-    let t = and_true (are_tags size w.ty w.tags) (are_all_tags size variants) tags in
+    let t = and_parts (are_tags size w.ty w.tags) (are_all_tags size variants) tags in
     chosen (same_num w.number n)
     (λ here faithful found. all.0 ok.0.ok v here faithful b (h ∙ sym ok.1)
     (λ i p u.
@@ -269,22 +263,9 @@ variant_read size (w ∷ variants) n v b all ok tags e g h same =
     chosen true here rest e g found = ap (option_map (λ x. val.Variant n x)) (here e g found)
     chosen false here rest e g found = rest e g found
 
-abbrev num : Bool → ℕ → Num
-num neg mag = record { neg = neg; mag = mag }
-
-same_is : (a b : Num) → same_num a b ≡ true → a ≡ b
-same_is a b e =
-    let p = and_true (if a.neg then b.neg else not b.neg) (a.mag == b.mag) e in
-    ap (λ s. num s a.mag) (signs a.neg b.neg p.0) ∙ ap (num b.neg) (eq_from a.mag b.mag p.1)
-  where
-    signs : (s t : Bool) → (if s then t else not t) ≡ true → s ≡ t
-    signs true t h = sym h
-    signs false true h = cc
-    signs false false h = refl
-
 found_is : (n : Num) (o : Option Num) → is_found n o ≡ true → o ≡ Some n
 found_is n None e = cc
-found_is n (Some m) e = ap Some (same_is m n e)
+found_is n (Some m) e = ap Some (same_num_equal m n e)
 
 holds_used : (t : Ty) (v : Val) (b : Bytes) → TypeOk t → has_shape t v ≡ true → Agrees t b (encoding_of t v) → Holds b (encoding_of t v)
 holds_used t v b ok e agrees i n p is = ⊎_elim within past (below_or i (size_of t))
@@ -324,14 +305,14 @@ reads_cases = record {
       let s = shape_fn_ptr v e in
       let p = s.pointer in
       let same = all_same ty.FnPtr 8 v (val.Ptr p) b (pointer_bytes p) s.is (encode_fn_ptr p) used_fn_ptr size_fn_ptr (length-initialised p.prov 8 p.addr) h agrees in
-      let good = and_true (is_address p.addr) (is_not_null p.addr) (sym (faithful_fn_ptr p) ∙ sym (ap (is_faithful ty.FnPtr) s.is) ∙ g) in
+      let good = and_parts (fits_u64 p.addr) (is_not_null p.addr) (sym (faithful_fn_ptr p) ∙ sym (ap (is_faithful ty.FnPtr) s.is) ∙ g) in
       ap (decoded ty.FnPtr) same ∙ decode_fn_ptr (pointer_bytes p) ∙ pointer_where_back is_not_null p good.0 good.1 ∙ ap Some (sym s.is);
   at_ref = λ size align never ok v e g b h agrees.
       let s = shape_ref size align never v e in
       let p = s.pointer in
       let same = all_same (ty.Ref size align never) 8 v (val.Ptr p) b (pointer_bytes p) s.is (encode_ref size align never p) (used_ref size align never) (size_ref size align never) (length-initialised p.prov 8 p.addr) h agrees in
-      let good = and_true (is_address p.addr) (is_aligned align p.addr && not never) (sym (faithful_ref size align never p) ∙ sym (ap (is_faithful (ty.Ref size align never)) s.is) ∙ g) in
-      let fine = and_true (is_aligned align p.addr) (not never) good.1 in
+      let good = and_parts (fits_u64 p.addr) (is_aligned align p.addr && not never) (sym (faithful_ref size align never p) ∙ sym (ap (is_faithful (ty.Ref size align never)) s.is) ∙ g) in
+      let fine = and_parts (is_aligned align p.addr) (not never) good.1 in
       ap (decoded (ty.Ref size align never)) same ∙ decode_ref size align never (pointer_bytes p)
       ∙ inhabited_back never (pointer_where (is_aligned align) (pointer_bytes p)) fine.1
       ∙ pointer_where_back (is_aligned align) p good.0 fine.0 ∙ ap Some (sym s.is);
@@ -373,7 +354,7 @@ reads_cases = record {
       let s = shape_enum size align disc variants tree v e in
       let w = val.Variant s.number s.value in
       let sized = size_enum size align disc variants tree in
-      let good = and_true (is_found s.number (walk tree (encoding_of t w))) (variant_faithful variants s.number s.value)
+      let good = and_parts (is_found s.number (walk tree (encoding_of t w))) (variant_faithful variants s.number s.value)
       (sym (faithful_enum size align disc variants tree s.number s.value) ∙ sym (ap (is_faithful t) s.is) ∙ g) in
       let reached = ap (λ x. walk tree (encoding_of t x)) s.is ∙ found_is s.number (walk tree (encoding_of t w)) good.0 in
       let long = h ∙ sym (length-encoding_of t ok v e) in

@@ -1,6 +1,7 @@
 -- The equations of `has_shape`, and which values have the shape of each kind of type.
 use Rattle.std.proofs.Common.{◌≡◌, ℕ, ◌*◌, ◌^◌, Bool, true, List, [], ◌∷◌, map, refl, sym, ap, ◌∙◌}
 use Rattle.std.specs.Prelude.{◌&&◌, ◌==◌, nat_lt, length}
+use Rattle.std.proofs.lemmas.Bool.{and_parts}
 use Rattle.mr_ast.specs.declared.types.IntType.{IntType}
 use Rattle.mr_ast.specs.declared.types.Num.{Num}
 use Rattle.mr_ast.specs.declared.types.Tree.{Tree}
@@ -11,7 +12,6 @@ use Rattle.mr_ast.specs.declared.types.Ty.TheFolds.{map-Ty, para-Variant, para-r
 use Rattle.mr_ast.specs.declared.types.Variant.{Variant, out-Variant}
 use Rattle.mr_base.specs.declared.byte.Pointer.{Pointer}
 use Rattle.mr_ast.specs.Integers.{int_size}
-use Rattle.mr_layout.proofs.PartsOk.{and_true}
 use Rattle.mr_value.specs.declared.val.Val.{Val, out-Val}
 use Rattle.mr_value.specs.declared.val.Val.TheVariants as val
 use Rattle.mr_value.specs.declared.val.Val.TheOpen.{Val-F}
@@ -109,7 +109,7 @@ shape_array count elem v e = by_layer (out-Val v) refl (sym (ap (λ t. has_shape
   where
     by_layer : (x : Val-F Val) → out-Val v ≡ x → shape_step (Ty-F.Array count (elem, has_shape elem)) x ≡ true → IsArray count elem v
     by_layer (Val-F.Tuple vs) is h =
-        let p = and_true (length vs == count) (elements_pass (has_shape elem) vs) h in
+        let p = and_parts (length vs == count) (elements_pass (has_shape elem) vs) h in
         record { values = vs; is = is_tuple v vs is; counted = p.0; shaped = p.1 }
     by_layer _ is h = absurd (cc)
 

@@ -12,10 +12,11 @@ use Rattle.mr_runs.specs.Numbers.{with_provenance}
 use Rattle.mr_value.specs.declared.numbers.Sharing.{Sharing}
 use Rattle.mr_value.specs.declared.numbers.Sharing.TheVariants.{Any, One, Differ}
 use Rattle.mr_value.specs.declared.numbers.Spelled.{Spelled}
-use Rattle.mr_value.specs.Numbers.{Bytes, number_of, is_same_id, all_have}
+use Rattle.mr_value.specs.Numbers.{Bytes, number_of, all_have}
 use Rattle.mr_value.specs.Spelled.{initial_number, shared_in, shares, sharing_behind, Spells}
 use Rattle.mr_value.proofs.Digits.{byte_fits}
-use Rattle.mr_value.proofs.NumbersBack.{same_id}
+use Rattle.mr_value.proofs.NumbersBack.{id_itself}
+use Rattle.mr_base.specs.Identities.{same_id}
 
 -- ---- numbers
 
@@ -70,19 +71,12 @@ wider a b n le lt =
     let m : 2 ^ (8 * a) ≤ 2 ^ (8 * b) = pow_mono h in
     omega arith
 
--- with so many lowest bytes more
-pub initial_fits : (numbers : List ℕ) (k rest : ℕ) → rest < 2 ^ (8 * k) → initial_number numbers rest < 2 ^ (8 * (k + length numbers))
-initial_fits [] k rest lt = wider k (k + 0) rest (omega arith) lt
-initial_fits (n ∷ numbers) k rest lt =
-    byte_fits (k + suc (length numbers)) (n % 256) (initial_number numbers rest) (omega arith) (omega arith)
-    (wider (k + length numbers) (k + suc (length numbers) - 1) (initial_number numbers rest) (omega arith) (initial_fits numbers k rest lt))
-
 -- ---- provenances
 
-both_same : (p q r : AllocId) → is_same_id p q ≡ true → (is_same_id r p && is_same_id r q) ≡ is_same_id r q
+both_same : (p q r : AllocId) → same_id p q ≡ true → (same_id r p && same_id r q) ≡ same_id r q
 both_same p q r same = grind (arith, nat_tests)
 
-both_differ : (p q r : AllocId) → is_same_id p q ≡ false → (is_same_id r p && is_same_id r q) ≡ false
+both_differ : (p q r : AllocId) → same_id p q ≡ false → (same_id r p && same_id r q) ≡ false
 both_differ p q r differ = grind (arith, nat_tests)
 
 twice : (a b : Bool) → (a && (a && b)) ≡ (a && b)
@@ -92,33 +86,33 @@ twice false b = refl
 none_have : (r : AllocId) (n : ℕ) (numbers : List ℕ) (bytes : Bytes) → all_have r (with_provenance None (n ∷ numbers) ++ bytes) ≡ false
 none_have r n numbers bytes = refl
 
-all_have-append : (r p : AllocId) (n : ℕ) (numbers : List ℕ) (bytes : Bytes) → all_have r (with_provenance (Some p) (n ∷ numbers) ++ bytes) ≡ (is_same_id r p && all_have r bytes)
+all_have-append : (r p : AllocId) (n : ℕ) (numbers : List ℕ) (bytes : Bytes) → all_have r (with_provenance (Some p) (n ∷ numbers) ++ bytes) ≡ (same_id r p && all_have r bytes)
 all_have-append r p n [] bytes = refl
 all_have-append r p n (k ∷ numbers) bytes =
-    ap (λ b. is_same_id r p && b) (all_have-append r p k numbers bytes) ∙ twice (is_same_id r p) (all_have r bytes)
+    ap (λ b. same_id r p && b) (all_have-append r p k numbers bytes) ∙ twice (same_id r p) (all_have r bytes)
 
 same_have : (p : AllocId) (numbers : List ℕ) (bytes : Bytes) → all_have p (with_provenance (Some p) numbers ++ bytes) ≡ all_have p bytes
 same_have p [] bytes = refl
-same_have p (n ∷ numbers) bytes = all_have-append p p n numbers bytes ∙ ap (λ b. b && all_have p bytes) (same_id p)
+same_have p (n ∷ numbers) bytes = all_have-append p p n numbers bytes ∙ ap (λ b. b && all_have p bytes) (id_itself p)
 
-shares_behind : (r p : AllocId) (rest : Sharing) → (is_same_id r p && shares r rest) ≡ shares r (sharing_behind (Some p) rest)
-shares_behind r p Any = and_true (is_same_id r p)
+shares_behind : (r p : AllocId) (rest : Sharing) → (same_id r p && shares r rest) ≡ shares r (sharing_behind (Some p) rest)
+shares_behind r p Any = and_true (same_id r p)
   where
     and_true : (b : Bool) → (b && true) ≡ b
     and_true true = refl
     and_true false = refl
-shares_behind r p (One q) = by_test (is_same_id p q) refl
+shares_behind r p (One q) = by_test (same_id p q) refl
   where
-    by_test : (b : Bool) → is_same_id p q ≡ b → (is_same_id r p && is_same_id r q) ≡ shares r (if b then One q else Differ)
+    by_test : (b : Bool) → same_id p q ≡ b → (same_id r p && same_id r q) ≡ shares r (if b then One q else Differ)
     by_test true is = both_same p q r is
     by_test false is = both_differ p q r is
-shares_behind r p Differ = and_false (is_same_id r p)
+shares_behind r p Differ = and_false (same_id r p)
   where
     and_false : (b : Bool) → (b && false) ≡ false
     and_false true = refl
     and_false false = refl
 
-same_ids : (p q : AllocId) → is_same_id p q ≡ true → p ≡ q
+same_ids : (p q : AllocId) → same_id p q ≡ true → p ≡ q
 same_ids p q is =
     let thread : p.thread ≡ q.thread = grind (arith, nat_tests) in
     let count : p.count ≡ q.count = grind (arith, nat_tests) in
@@ -126,9 +120,9 @@ same_ids p q is =
 
 shared_behind : (p : AllocId) (rest : Sharing) → (if shares p rest then Some p else None) ≡ shared_in (sharing_behind (Some p) rest)
 shared_behind p Any = refl
-shared_behind p (One q) = by_test (is_same_id p q) refl
+shared_behind p (One q) = by_test (same_id p q) refl
   where
-    by_test : (b : Bool) → is_same_id p q ≡ b → (if b then Some p else None) ≡ shared_in (if b then One q else Differ)
+    by_test : (b : Bool) → same_id p q ≡ b → (if b then Some p else None) ≡ shared_in (if b then One q else Differ)
     by_test true is = ap (λ (r : AllocId). Some r) (same_ids p q is)
     by_test false is = refl
 shared_behind p Differ = refl
@@ -158,7 +152,7 @@ spelled_more None (n ∷ numbers) bytes s some h =
 spelled_more (Some p) (n ∷ numbers) bytes s some h = (
   number_of-append (Some p) (n ∷ numbers) bytes ∙ ap (option_map (initial_number (n ∷ numbers))) h.0,
   ap (λ b. if b then Some p else None) (same_have p numbers bytes ∙ h.2 p) ∙ shared_behind p s.sharing,
-  λ r. all_have-append r p n numbers bytes ∙ ap (λ b. is_same_id r p && b) (h.2 r) ∙ shares_behind r p s.sharing,
+  λ r. all_have-append r p n numbers bytes ∙ ap (λ b. same_id r p && b) (h.2 r) ∙ shares_behind r p s.sharing,
 )
 
 -- ---- pieces by number

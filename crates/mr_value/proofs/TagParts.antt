@@ -1,6 +1,8 @@
 -- The tags of an enum that breaks no rule.
 use Rattle.std.proofs.Common.{◌≡◌, ℕ, ◌+◌, ◌%◌, ◌≤◌, true, false, List, ◌∷◌, None, sym, ◌∙◌}
 use Rattle.std.specs.Prelude.{nat_le, not, ◌==◌}
+use Rattle.std.proofs.lemmas.Bool.{and_parts}
+use Rattle.mr_ast.specs.declared.rule.Rule.TheVariants.{TypeSize, TypeAlign, SizeMultiple, EnumVariant, EnumTag}
 use Rattle.mr_ast.specs.declared.types.IntType.{IntType}
 use Rattle.mr_ast.specs.declared.types.Tag.{Tag}
 use Rattle.mr_ast.specs.declared.types.Tree.{Tree}
@@ -13,17 +15,16 @@ use Rattle.mr_layout.specs.EnumRules.{are_variants, meets_tag, is_some_used, are
 use Rattle.mr_layout.specs.TypeOk.{TypeOk, first_broken_variant}
 use Rattle.mr_layout.proofs.BrokenLaws.{broken_enum}
 use Rattle.mr_layout.proofs.Bounds.{or_else_none, rule_none}
-use Rattle.mr_layout.proofs.PartsOk.{and_true}
 use Rattle.mr_base.proofs.Comparisons.{le_from, not_false, not_true}
 
 tags_of_rules : (size align : ℕ) (disc : IntType) (variants : List Variant) (tree : Tree) → enum_rules size align disc variants tree ≡ None → are_all_tags size variants ≡ true
 unfolding enum_rules
 tags_of_rules size align disc variants tree e =
-    let a = rule_none 20 (is_large size) _ e in
-    let b = rule_none 21 (not (is_align align)) _ a.1 in
-    let c = rule_none 24 (not (size % align == 0)) _ b.1 in
-    let d = rule_none 25 (not (are_variants size align disc variants)) _ c.1 in
-    not_false _ (rule_none 26 (not (are_all_tags size variants)) _ d.1).0
+    let a = rule_none TypeSize (is_large size) _ e in
+    let b = rule_none TypeAlign (not (is_align align)) _ a.1 in
+    let c = rule_none SizeMultiple (not (size % align == 0)) _ b.1 in
+    let d = rule_none EnumVariant (not (are_variants size align disc variants)) _ c.1 in
+    not_false _ (rule_none EnumTag (not (are_all_tags size variants)) _ d.1).0
 
 pub enum_tags : (size align : ℕ) (disc : IntType) (variants : List Variant) (tree : Tree) → TypeOk (ty.Enum size align disc variants tree) → are_all_tags size variants ≡ true
 enum_tags size align disc variants tree ok =
@@ -39,8 +40,8 @@ pub record TagOk (size : ℕ) (t : Ty) (g : Tag) (tags : List Tag) : Type 0 wher
 
 pub first_tag : (size : ℕ) (t : Ty) (g : Tag) (tags : List Tag) → are_tags size t (g ∷ tags) ≡ true → TagOk size t g tags
 first_tag size t g tags e =
-    let a = and_true (nat_le (g.at + int_size g.int) size) _ e in
-    let b = and_true (is_fitting g.int g.number) _ a.1 in
-    let c = and_true (not (meets_tag g tags)) _ b.1 in
-    let d = and_true (not (is_some_used t g.at (int_size g.int))) (are_tags size t tags) c.1 in
+    let a = and_parts (nat_le (g.at + int_size g.int) size) _ e in
+    let b = and_parts (is_fitting g.int g.number) _ a.1 in
+    let c = and_parts (not (meets_tag g tags)) _ b.1 in
+    let d = and_parts (not (is_some_used t g.at (int_size g.int))) (are_tags size t tags) c.1 in
     record { inside = le_from (g.at + int_size g.int) size a.0; fits = b.0; apart = not_true _ c.0; unused = not_true _ d.0; rest = d.1 }

@@ -14,7 +14,7 @@ use Rattle.mr_value.specs.Discriminants.{number_of_bits, walk, walk_case}
 use Rattle.mr_base.proofs.Comparisons.{below_or}
 use Rattle.mr_base.proofs.Options.{mapped, followed}
 use Rattle.mr_value.proofs.Pieces.{byte_at}
-use Rattle.mr_value.proofs.TreeInduction.{AllCases, TreeCases, tree_induction}
+use Rattle.mr_ast.proofs.TreeInduction.{AllCases, TreeCases, tree_induction}
 use Rattle.mr_value.proofs.WalkLaws.{walk_known, walk_invalid, walk_branch}
 
 -- each initialised byte of the one stands in the other, too

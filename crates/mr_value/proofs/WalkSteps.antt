@@ -1,6 +1,7 @@
 -- A branch of a tree that breaks no rule: its parts break none, and it reads inside.
 use Rattle.std.proofs.Common.{◌≡◌, ℕ, zero, suc, ◌+◌, ◌<◌, ◌≤◌, true, List, [], ◌∷◌, length, get_or, sym, ap, ◌∙◌, arith}
 use Rattle.std.specs.Prelude.{not, nat_le, option_and_then}
+use Rattle.std.proofs.lemmas.Bool.{and_parts}
 use Rattle.mr_ast.specs.declared.types.IntType.{IntType}
 use Rattle.mr_ast.specs.declared.types.Num.{Num}
 use Rattle.mr_ast.specs.declared.types.Tree.{Tree}
@@ -8,7 +9,6 @@ use Rattle.mr_ast.specs.declared.types.Tree.TheVariants as tree
 use Rattle.mr_ast.specs.declared.types.Variant.{Variant}
 use Rattle.mr_ast.specs.Integers.{int_size, is_fitting}
 use Rattle.mr_layout.specs.EnumRules.{is_case, is_tree, are_tree_cases}
-use Rattle.mr_layout.proofs.PartsOk.{and_true}
 use Rattle.mr_layout.proofs.TreeLaws.{tree_branch}
 use Rattle.mr_value.specs.Numbers.{Bytes, part, number_of}
 use Rattle.mr_value.specs.Discriminants.{number_of_bits, walk, walk_case}
@@ -23,16 +23,16 @@ pub record BranchParts (size : ℕ) (variants : List Variant) (at : ℕ) (int : 
 
 pub branch_parts : (size : ℕ) (variants : List Variant) (at : ℕ) (int : IntType) (cases : List (Num × Tree)) (rest : Tree) → is_tree size variants (tree.Branch at int cases rest) ≡ true → BranchParts size variants at int cases rest
 branch_parts size variants at int cases rest e =
-    let a = and_true (nat_le (at + int_size int) size) _ (sym (tree_branch size variants at int cases rest) ∙ e) in
-    let b = and_true (are_tree_cases size variants int cases) (is_tree size variants rest) a.1 in
+    let a = and_parts (nat_le (at + int_size int) size) _ (sym (tree_branch size variants at int cases rest) ∙ e) in
+    let b = and_parts (are_tree_cases size variants int cases) (is_tree size variants rest) a.1 in
     record { inside = le_from (at + int_size int) size a.0; cases_ok = b.0; rest_ok = b.1 }
 
 -- the first case breaks no rule, nor do the others
 first_case : (size : ℕ) (variants : List Variant) (int : IntType) (c : Num × Tree) (cases : List (Num × Tree)) → are_tree_cases size variants int (c ∷ cases) ≡ true → (is_tree size variants c.1 ≡ true) × (are_tree_cases size variants int cases ≡ true)
 first_case size variants int c cases e =
-    let a = and_true (is_fitting int c.0) _ e in
-    let b = and_true (not (is_case c.0 cases)) _ a.1 in
-    and_true (is_tree size variants c.1) (are_tree_cases size variants int cases) b.1
+    let a = and_parts (is_fitting int c.0) _ e in
+    let b = and_parts (not (is_case c.0 cases)) _ a.1 in
+    and_parts (is_tree size variants c.1) (are_tree_cases size variants int cases) b.1
 
 pub case_ok : (size : ℕ) (variants : List Variant) (int : IntType) (cases : List (Num × Tree)) (i : ℕ) (d : Num × Tree) → i < length cases → are_tree_cases size variants int cases ≡ true → is_tree size variants (get_or cases i d).1 ≡ true
 case_ok size variants int [] i d p e = absurd (omega arith)

@@ -1,5 +1,5 @@
 -- Which values are read back from the bytes that they are written as.
-use Rattle.std.specs.Prelude.{ℕ, ◌^◌, Bool, true, false, not, ◌&&◌, nat_lt, if◌then◌else◌, List, [], ◌∷◌, map, Option}
+use Rattle.std.specs.Prelude.{ℕ, Bool, true, false, not, ◌&&◌, if◌then◌else◌, List, [], ◌∷◌, map, Option}
 use Rattle.std.specs.Prelude.{Some, None}
 use Rattle.mr_ast.specs.declared.types.Num.{Num}
 use Rattle.mr_ast.specs.declared.types.Ty.{Ty}
@@ -15,10 +15,7 @@ use Rattle.mr_value.specs.Decode.{is_not_null, is_aligned}
 use Rattle.mr_value.specs.Discriminants.{walk}
 use Rattle.mr_value.specs.Encode.{encoding_of}
 use Rattle.mr_value.specs.Shape.{ValueTest, fields_pass, elements_pass, variant_passes}
-
--- a number that is an address, as that of every `Pointer` in memory is
-abbrev pub is_address : ℕ → Bool
-is_address addr = nat_lt addr (2 ^ 64)
+use Rattle.mr_ast.specs.ShapedTypes.{fits_u64}
 
 -- this number was found
 abbrev pub is_found : Num → Option Num → Bool
@@ -29,9 +26,9 @@ is_found n (Some m) = same_num m n
 abbrev pub faithful_step : Ty-F (Ty × ValueTest) (Variant × ValueTest) → Val-F Val → Bool
 faithful_step (Ty-F.Int int) (Val-F.Int n) = true
 faithful_step Ty-F.Bool (Val-F.Bool b) = true
-faithful_step Ty-F.Raw (Val-F.Ptr p) = is_address p.addr
-faithful_step Ty-F.FnPtr (Val-F.Ptr p) = is_address p.addr && is_not_null p.addr
-faithful_step (Ty-F.Ref size align never) (Val-F.Ptr p) = is_address p.addr && (is_aligned align p.addr && not never)
+faithful_step Ty-F.Raw (Val-F.Ptr p) = fits_u64 p.addr
+faithful_step Ty-F.FnPtr (Val-F.Ptr p) = fits_u64 p.addr && is_not_null p.addr
+faithful_step (Ty-F.Ref size align never) (Val-F.Ptr p) = fits_u64 p.addr && (is_aligned align p.addr && not never)
 faithful_step (Ty-F.Tuple size align fields) (Val-F.Tuple vs) = fields_pass fields vs
 faithful_step (Ty-F.Array count elem) (Val-F.Tuple vs) = elements_pass elem.1 vs
 faithful_step (Ty-F.Union size align fields chunks) (Val-F.Union content) = true

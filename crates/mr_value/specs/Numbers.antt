@@ -1,11 +1,12 @@
 -- Numbers and pointers as abstract bytes.
-use Rattle.std.specs.Prelude.{ℕ, zero, suc, ◌+◌, ◌*◌, ◌/◌, ◌%◌, Bool, true, false, ◌&&◌, ◌==◌, if◌then◌else◌, List, []}
+use Rattle.std.specs.Prelude.{ℕ, zero, suc, ◌+◌, ◌*◌, ◌/◌, ◌%◌, Bool, true, false, ◌&&◌, if◌then◌else◌, List, []}
 use Rattle.std.specs.Prelude.{◌∷◌, take, drop, Option, Some, None, option_map}
 use Rattle.mr_base.specs.declared.byte.AllocId.{AllocId}
 use Rattle.mr_base.specs.declared.byte.Pointer.{Pointer}
 use Rattle.mr_base.specs.declared.byte.AbstractByte.{AbstractByte}
 use Rattle.mr_base.specs.declared.byte.AbstractByte.TheVariants.{Uninit, Init}
 use Rattle.mr_runs.specs.Numbers.{with_provenance}
+use Rattle.mr_base.specs.Identities.{same_id}
 
 -- abstract bytes in a row
 abbrev pub Bytes : Type 0
@@ -26,16 +27,12 @@ abbrev pub little_endian : ℕ → ℕ → List ℕ
 little_endian zero n = []
 little_endian (suc count) n = (n % 256) ∷ little_endian count (n / 256)
 
--- two identities are equal
-abbrev pub is_same_id : AllocId → AllocId → Bool
-is_same_id a b = (a.thread == b.thread) && (a.count == b.count)
-
 -- all bytes have this provenance
 abbrev pub all_have : AllocId → Bytes → Bool
 all_have p [] = true
 all_have p (Uninit ∷ bytes) = false
 all_have p (Init n None ∷ bytes) = false
-all_have p (Init n (Some q) ∷ bytes) = is_same_id p q && all_have p bytes
+all_have p (Init n (Some q) ∷ bytes) = same_id p q && all_have p bytes
 
 -- the provenance that all bytes share
 abbrev pub shared_provenance : Bytes → Option AllocId

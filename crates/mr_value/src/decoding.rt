@@ -102,7 +102,8 @@ fn decode_elements(
 ) -> Result<Option<Items<Val>>, OutOfMemory>
     requires ok { is_ok elem.now ≡ true }
     requires inside { at + count * size_of elem.now ≤ length (bytes_of_pieces v.now) }
-    ensures { IfOk result (λ o. o ≡ elements_in count (size_of elem.now) (decoded elem.now) (part at (count * size_of elem.now) (bytes_of_pieces v.now))) }
+    ensures { IfOk result (λ o. o ≡ elements_in count (size_of elem.now) (decoded elem.now)
+        (part at (count * size_of elem.now) (bytes_of_pieces v.now))) }
 {
     let _all = v.len();
     let size = bytes_of(elem);

@@ -29,7 +29,8 @@ fn append_number(
     provenance: Option<AllocId>,
     out: &mut Vec<AbstractByte>,
 ) -> Result<(), OutOfMemory>
-    ensures ok { OnOk result (out.new.items ≡ out.old.items ++ with_provenance provenance (little_endian count number)) }
+    ensures ok { OnOk result
+        (out.new.items ≡ out.old.items ++ with_provenance provenance (little_endian count number)) }
     ensures err { OnErr result (BeginsWith out.new.items out.old.items) }
 {
     let mut rest = number;

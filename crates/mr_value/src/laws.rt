@@ -21,5 +21,6 @@ pub fn has_shape()
 
 /// The bytes that a value is written as mean that value, where the value is faithful.
 pub fn reads_back()
-    ensures { (t : Ty) (v : Val) → TypeOk t → has_shape_lem t v ≡ true → is_faithful t v ≡ true → Means t (encoding_of t v) v }
+    ensures { (t : Ty) (v : Val) → TypeOk t → has_shape_lem t v ≡ true → is_faithful t v ≡ true
+        → Means t (encoding_of t v) v }
 {}

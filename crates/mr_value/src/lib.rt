@@ -13,6 +13,7 @@
 //!   `encoding_of` of `specs/Encode.antt`, where what no part writes is uninitialised. After want of memory the list is as it
 //!   was.
 //! - [`encode_scalar`]: the same bytes of an integer, a bool or a pointer, without memory, as [`ScalarBytes`].
+//! - [`bits_in`] and [`truth_in`]: the bits of an integer, and the truth of a bool.
 //!
 //! Laws, proved of the definitions: [`one_value`], bytes mean at most one value of a type; [`has_shape`], what bytes mean has the
 //! type's shape; [`reads_back`], the bytes that a value is written as mean that value, unless a part of it is a variant that the
@@ -37,6 +38,7 @@ pub use decoding::decode;
 pub use encoding::{bits_of_number, encode};
 pub use laws::{has_shape, one_value, reads_back};
 pub use mr_ast::{Boxed, Items};
+pub use parts::{bits_in, truth_in};
 pub use scalar_bytes::{ScalarBytes, encode_scalar};
 pub use scalars::decode_scalar;
 pub use std::alloc::AllocError as OutOfMemory;

@@ -1,7 +1,8 @@
 //! Numbers of several bytes.
 ghost use Rattle.std.specs.Prelude.{◌≡◌, ◌<◌, ◌≤◌, ◌+◌, ◌-◌, ◌*◌, ◌^◌, drop, length, IfSome};
+ghost use Rattle.mr_base.specs.Identities.{same_id as is_same_id};
 ghost use Rattle.mr_runs.specs.Pieces.{bytes_of_pieces, AreMaximal};
-ghost use Rattle.mr_value.specs.Numbers.{part, number_of, pointer_of, is_same_id};
+ghost use Rattle.mr_value.specs.Numbers.{part, number_of, pointer_of};
 ghost use Rattle.mr_value.specs.Spelled.{initial_number, sharing_behind, shared_in, Spells};
 
 use mr_base::{AllocId, Pointer};

@@ -10,7 +10,7 @@ use mr_ast::Num;
 use mr_base::{AbstractByte, Pointer};
 
 /// The bits of an integer.
-pub(crate) fn bits_in(v: &Val) -> u128
+pub fn bits_in(v: &Val) -> u128
     requires { (bits : ℕ) × (v.now ≡ Val.Int bits) }
     ensures { v.now ≡ Val.Int result }
 {
@@ -21,7 +21,7 @@ pub(crate) fn bits_in(v: &Val) -> u128
 }
 
 /// The truth of a bool.
-pub(crate) fn truth_in(v: &Val) -> bool
+pub fn truth_in(v: &Val) -> bool
     requires { (truth : Bool) × (v.now ≡ Val.Bool truth) }
     ensures { v.now ≡ Val.Bool result }
 {

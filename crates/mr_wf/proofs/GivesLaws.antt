@@ -1,11 +1,12 @@
 -- What follows of an answer for the walk that goes on behind it.
 use Rattle.std.proofs.Common.{◌≡◌, ℕ, suc, ◌+◌, ◌<◌, ◌≤◌, List, [], ◌∷◌, ◌++◌, length, drop, get_or, Option, Result, Ok, Err, refl, sym, ap, subst, ◌∙◌, arith, append_assoc, append-nil}
 use Rattle.std.proofs.lemmas.List.{drop_all, drop_more}
+use Rattle.mr_ast.specs.declared.rule.Rule.{Rule}
 use Rattle.mr_ast.specs.declared.program.BlockName.{BlockName}
 use Rattle.mr_ast.specs.declared.expr.Value.{Value}
 use Rattle.mr_ast.specs.declared.types.Ty.{Ty}
 use Rattle.mr_wf.specs.declared.fault.Broken.{Broken}
-use Rattle.mr_wf.specs.declared.fault.Broken.TheVariants.{Rule, Memory}
+use Rattle.mr_wf.specs.declared.fault.Broken.TheVariants as why
 use Rattle.mr_wf.specs.declared.fault.Item.{Item}
 use Rattle.mr_wf.specs.declared.fault.Stopped.{Stopped}
 use Rattle.mr_wf.specs.declared.fault.Stopped.TheVariants as stopped
@@ -17,19 +18,19 @@ use Rattle.mr_wf.specs.Known.{Gives, Stops, Walks, placing}
 -- ---- the types of values
 
 -- what is judged of the values that are left, behind the types of those before them
-abbrev pub with_types : List Ty → Result (List Ty) ℕ → Result (List Ty) ℕ
+abbrev pub with_types : List Ty → Result (List Ty) Rule → Result (List Ty) Rule
 with_types front r = r >>= (λ ts. Ok (front ++ ts))
 
-with_types-push : (front : List Ty) (t : Ty) (r : Result (List Ty) ℕ) → with_types front (r >>= (λ ts. Ok (t ∷ ts))) ≡ with_types (front ++ t ∷ []) r
+with_types-push : (front : List Ty) (t : Ty) (r : Result (List Ty) Rule) → with_types front (r >>= (λ ts. Ok (t ∷ ts))) ≡ with_types (front ++ t ∷ []) r
 with_types-push front t (Ok ts) = ap (λ (all : List Ty). Ok all) (sym (append_assoc front (t ∷ []) ts))
-with_types-push front t (Err code) = refl
+with_types-push front t (Err broken) = refl
 
-pub with_none : (r : Result (List Ty) ℕ) → with_types [] r ≡ r
+pub with_none : (r : Result (List Ty) Rule) → with_types [] r ≡ r
 with_none (Ok ts) = refl
-with_none (Err code) = refl
+with_none (Err broken) = refl
 
-module _ (at : Surroundings) (front : List Ty) (vs : List Value) (i : ℕ) (whole : Result (List Ty) ℕ) (so_far : with_types front (judged_values at (drop i vs)) ≡ whole) where
-  abbrev rest_judged : Result Ty ℕ → Result (List Ty) ℕ
+module _ (at : Surroundings) (front : List Ty) (vs : List Value) (i : ℕ) (whole : Result (List Ty) Rule) (so_far : with_types front (judged_values at (drop i vs)) ≡ whole) where
+  abbrev rest_judged : Result Ty Rule → Result (List Ty) Rule
   rest_judged r = with_types front (r >>= (λ t. judged_values at (drop (i + 1) vs) >>= (λ ts. Ok (t ∷ ts))))
 
   values_left : (v : Value) → i < length vs → v ≡ get_or vs i v → rest_judged (judged_value at v) ≡ whole
@@ -42,8 +43,8 @@ module _ (at : Surroundings) (front : List Ty) (vs : List Value) (i : ℕ) (whol
 
   -- one more value breaks a rule
   pub value_stops : (v : Value) (broken : Broken) → i < length vs → v ≡ get_or vs i v → Stops broken (judged_value at v) → Stops broken whole
-  value_stops v (Rule code) lt is h = sym (values_left v lt is) ∙ ap rest_judged h
-  value_stops v Memory lt is h = tt
+  value_stops v (why.Rule broken) lt is h = sym (values_left v lt is) ∙ ap rest_judged h
+  value_stops v why.Memory lt is h = tt
 
   -- no value is left
   pub values_done : length vs ≤ i → whole ≡ Ok front
@@ -60,8 +61,8 @@ walks_stop stopped.Memory r next h = tt
 pub placed_walks : (it : Item) (block : Option BlockName) (place : ℕ) (answer : Result (Unit {0}) Broken) (r : Judged)
     → Gives (λ u. u) answer r → Walks (placing it block place answer) (placed it block place r)
 placed_walks it block place (Ok u) r h = ap (placed it block place) h
-placed_walks it block place (Err (Rule code)) r h = ap (placed it block place) h
-placed_walks it block place (Err Memory) r h = tt
+placed_walks it block place (Err (why.Rule broken)) r h = ap (placed it block place) h
+placed_walks it block place (Err why.Memory) r h = tt
 
 -- ---- things in a row
 

@@ -1,12 +1,11 @@
 -- Which type a kind of type is, and what it means to be written as a type that has no parts.
-use Rattle.std.proofs.Common.{◌≡◌, ◌↔◌, ℕ, Bool, true, List, [], ◌∷◌, Some, refl, sym, ap, subst, ◌∙◌}
+use Rattle.std.proofs.Common.{◌≡◌, ◌↔◌, Bool, true, Some, refl, sym, ap, subst, ◌∙◌}
 use Rattle.std.proofs.lemmas.Bool.Decides.{same_from_decides}
 use Rattle.mr_ast.specs.declared.types.IntType.{IntType}
 use Rattle.mr_ast.specs.declared.types.Ty.{Ty, roll-Ty, out-Ty}
 use Rattle.mr_ast.specs.declared.types.Ty.TheVariants as ty
 use Rattle.mr_ast.specs.declared.types.Ty.TheOpen.{Ty-F}
 use Rattle.mr_ast.specs.declared.types.Variant.{Variant}
-use Rattle.mr_ast.specs.Integers.{int_size}
 use Rattle.mr_wf.specs.SameTypes.{same_type}
 use Rattle.mr_wf.specs.Types.{integer_in, integer_of}
 use Rattle.mr_wf.specs.Operands.{is_bool, is_bool_layer, is_fn_ptr, is_fn_ptr_layer, is_raw, is_raw_layer}
@@ -73,8 +72,3 @@ same_with_int t i = (
   λ e. ap integer_of (same_type_equal t (ty.Int i) e) ∙ ap integer_in (ty.outs-Int i),
   λ e. subst (λ (x : Ty). same_type x (ty.Int i) ≡ true) (sym (integer_is t i e)) (same_type_itself (ty.Int i)),
 )
-
--- ---- written as what an overflowing operator gives
-
-abbrev overflow_fields : IntType → List (ℕ × Ty)
-overflow_fields i = (0, ty.Int i) ∷ (int_size i, ty.Bool) ∷ []

@@ -1,9 +1,9 @@
 -- What is known of a type, told by tests of its kind, against what is written alike.
-use Rattle.std.proofs.Common.{◌≡◌, ◌↔◌, ℕ, ◌*◌, Bool, true, false, IsTrue, List, [], ◌∷◌, Option, Some, None, sym, ap, ap₂, ◌∙◌, arith}
+use Rattle.std.proofs.Common.{◌≡◌, ◌↔◌, ℕ, ◌*◌, Bool, true, false, IsTrue, List, [], ◌∷◌, Option, Some, None, sym, ap, ap₂, ◌∙◌}
 use Rattle.std.specs.Prelude.{◌&&◌, ◌==◌, is_some, nat_le}
 use Rattle.std.specs.Cmp.Derive.{both_true}
-use Rattle.std.proofs.lemmas.Bool.{false≢true}
-use Rattle.std.proofs.lemmas.Bool.Decides.{nat_tests, same_from_decides}
+use Rattle.std.proofs.lemmas.Bool.{false≢true, and_parts}
+use Rattle.std.proofs.lemmas.Bool.Decides.{same_from_decides}
 use Rattle.std.proofs.lemmas.Option.{none-some, same_Some}
 use Rattle.mr_ast.specs.declared.types.IntType.{IntType}
 use Rattle.mr_ast.specs.declared.types.Ty.{Ty, out-Ty, roll-Ty}
@@ -12,7 +12,6 @@ use Rattle.mr_ast.specs.declared.types.Ty.TheOpen.{Ty-F}
 use Rattle.mr_ast.specs.declared.types.Variant.{Variant}
 use Rattle.mr_layout.specs.Sizes.{size_of}
 use Rattle.mr_ast.specs.Integers.{int_size}
-use Rattle.mr_layout.proofs.PartsOk.{and_true, same_of}
 use Rattle.mr_layout.proofs.SizeLaws.{size_int}
 use Rattle.mr_wf.specs.SameTypes.{same_type}
 use Rattle.mr_wf.specs.Types.{integer_in, integer_of, overflow_type}
@@ -22,9 +21,7 @@ use Rattle.mr_wf.specs.Known.{are_overflow_fields, is_overflow_layer}
 use Rattle.mr_wf.proofs.KindLaws.{integer_is, same_type_sym, same_with_bool, same_with_fn_ptr, same_with_int, same_with_raw}
 use Rattle.mr_ast.proofs.OrderHeads.{type_made}
 use Rattle.mr_wf.proofs.SameTypeLaws.{same_type_answer, same_type_equal, same_type_itself}
-
-itself : (n : ℕ) → (n == n) ≡ true
-itself n = grind (arith, nat_tests)
+use Rattle.mr_base.proofs.Comparisons.{eq_from, eq_itself}
 
 -- ---- types without parts
 
@@ -65,29 +62,29 @@ overflow_fields i = (0, ty.Int i) ∷ (int_size i, ty.Bool) ∷ []
 
 fields_are : (i : IntType) (fields : List (ℕ × Ty)) → are_overflow_fields i fields ≡ true → fields ≡ overflow_fields i
 fields_are i (f ∷ g ∷ []) e =
-    let p = and_true (f.0 == 0) (same_type f.1 (ty.Int i) && ((g.0 == int_size i) && is_bool g.1)) e in
-    let q = and_true (same_type f.1 (ty.Int i)) ((g.0 == int_size i) && is_bool g.1) p.1 in
-    let r = and_true (g.0 == int_size i) (is_bool g.1) q.1 in
-    let one : f ≡ (0, ty.Int i) = ap₂ (λ (n : ℕ) (t : Ty). (n, t)) (same_of f.0 0 p.0) (same_type_equal f.1 (ty.Int i) q.0) in
-    let two : g ≡ (int_size i, ty.Bool) = ap₂ (λ (n : ℕ) (t : Ty). (n, t)) (same_of g.0 (int_size i) r.0) (same_type_equal g.1 ty.Bool (same_with_bool g.1 ∙ r.1)) in
+    let p = and_parts (f.0 == 0) (same_type f.1 (ty.Int i) && ((g.0 == int_size i) && is_bool g.1)) e in
+    let q = and_parts (same_type f.1 (ty.Int i)) ((g.0 == int_size i) && is_bool g.1) p.1 in
+    let r = and_parts (g.0 == int_size i) (is_bool g.1) q.1 in
+    let one : f ≡ (0, ty.Int i) = ap₂ (λ (n : ℕ) (t : Ty). (n, t)) (eq_from f.0 0 p.0) (same_type_equal f.1 (ty.Int i) q.0) in
+    let two : g ≡ (int_size i, ty.Bool) = ap₂ (λ (n : ℕ) (t : Ty). (n, t)) (eq_from g.0 (int_size i) r.0) (same_type_equal g.1 ty.Bool (same_with_bool g.1 ∙ r.1)) in
     ap₂ (λ (a b : ℕ × Ty). a ∷ b ∷ []) one two
 fields_are i _ e = absurd (cc)
 
 fields_are_so : (i : IntType) → are_overflow_fields i (overflow_fields i) ≡ true
-fields_are_so i = both_true (itself 0) (both_true (same_type_itself (ty.Int i)) (both_true (itself (int_size i)) (ap is_bool_layer ty.outs-Bool)))
+fields_are_so i = both_true (eq_itself 0) (both_true (same_type_itself (ty.Int i)) (both_true (eq_itself (int_size i)) (ap is_bool_layer ty.outs-Bool)))
 
 overflow_layer : (i : IntType) (d : Ty-F Ty Variant) → is_overflow_layer i d ≡ true → d ≡ Ty-F.Tuple (2 * int_size i) (int_size i) (overflow_fields i)
 overflow_layer i (Ty-F.Tuple size align fields) e =
-    let p = and_true (size == 2 * int_size i) ((align == int_size i) && are_overflow_fields i fields) e in
-    let q = and_true (align == int_size i) (are_overflow_fields i fields) p.1 in
-    ap₂ (λ (s a : ℕ). Ty-F.Tuple s a fields) (same_of size (2 * int_size i) p.0) (same_of align (int_size i) q.0)
+    let p = and_parts (size == 2 * int_size i) ((align == int_size i) && are_overflow_fields i fields) e in
+    let q = and_parts (align == int_size i) (are_overflow_fields i fields) p.1 in
+    ap₂ (λ (s a : ℕ). Ty-F.Tuple s a fields) (eq_from size (2 * int_size i) p.0) (eq_from align (int_size i) q.0)
     ∙ ap (λ (fs : List (ℕ × Ty)). Ty-F.Tuple (2 * int_size i) (int_size i) fs) (fields_are i fields q.1)
 overflow_layer i _ e = absurd (cc)
 
 overflow_layer_so : (i : IntType) → is_overflow_layer i (out-Ty (overflow_type i)) ≡ true
 overflow_layer_so i =
     ap (is_overflow_layer i) (ty.outs-Tuple (2 * int_size i) (int_size i) (overflow_fields i))
-    ∙ both_true (itself (2 * int_size i)) (both_true (itself (int_size i)) (fields_are_so i))
+    ∙ both_true (eq_itself (2 * int_size i)) (both_true (eq_itself (int_size i)) (fields_are_so i))
 
 pub same_as_overflow : (i : IntType) (t : Ty) → is_overflow_layer i (out-Ty t) ≡ same_type t (overflow_type i)
 same_as_overflow i t = same_type_answer (is_overflow_layer i (out-Ty t)) t (overflow_type i) (

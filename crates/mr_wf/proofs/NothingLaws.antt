@@ -1,8 +1,9 @@
--- Lists of codes and faults that hold nothing, and what a rule that is not broken tells.
-use Rattle.std.proofs.Common.{◌≡◌, ℕ, Bool, true, false, List, [], ◌∷◌, ◌++◌, map, Option, None, Some, refl}
+-- Lists of rules and faults that hold nothing, and what a rule that is not broken tells.
+use Rattle.std.proofs.Common.{◌≡◌, Bool, true, false, List, [], ◌∷◌, ◌++◌, map, Option, None, Some, refl, ap}
+use Rattle.mr_ast.specs.declared.rule.Rule.{Rule}
 use Rattle.mr_ast.specs.declared.types.Ty.{Ty}
 use Rattle.mr_layout.specs.TypeOk.{TypeOk, broken_rule}
-use Rattle.mr_wf.specs.Broken.{Codes, of_type, rule}
+use Rattle.mr_wf.specs.Broken.{Rules, of_type, rule}
 
 pub cons_apart : {A : Type 0} (x : A) (rest : List A) → x ∷ rest ≡ [] → ⊥
 cons_apart x rest e = cc
@@ -24,18 +25,22 @@ map_nothing f [] e = refl
 map_nothing f (x ∷ xs) e = absurd (cons_apart (f x) (map f xs) e)
 
 -- a rule that is not broken is kept
-pub rule_kept : (code : ℕ) (b : Bool) → rule code b ≡ [] → b ≡ true
-rule_kept code true e = refl
-rule_kept code false e = absurd (cons_apart code [] e)
+pub rule_kept : (broken : Rule) (b : Bool) → rule broken b ≡ [] → b ≡ true
+rule_kept broken true e = refl
+rule_kept broken false e = absurd (cons_apart broken [] e)
 
--- the codes of a type whose first broken rule is this one
-abbrev type_codes : Option ℕ → Codes
-type_codes o = elim o as (λ _. Codes) [ Some code ↦ code ∷ [] | None ↦ [] ]
+-- what a type breaks whose first broken rule is this one
+abbrev type_rules : Option Rule → Rules
+type_rules o = elim o as (λ _. Rules) [ Some broken ↦ broken ∷ [] | None ↦ [] ]
 
 -- a type that breaks no rule is well-formed
 pub type_kept : (t : Ty) → of_type t ≡ [] → TypeOk t
 type_kept t e = none_left (broken_rule t) e
   where
-    none_left : (o : Option ℕ) → type_codes o ≡ [] → o ≡ None
+    none_left : (o : Option Rule) → type_rules o ≡ [] → o ≡ None
     none_left None h = refl
-    none_left (Some code) h = absurd (cons_apart code [] h)
+    none_left (Some broken) h = absurd (cons_apart broken [] h)
+
+-- and a well-formed type breaks none
+pub type_nothing : (t : Ty) → TypeOk t → of_type t ≡ []
+type_nothing t ok = ap type_rules ok

@@ -3,6 +3,8 @@ use Rattle.std.proofs.Common.{◌≡◌, ℕ, suc, Bool, true, List, [], ◌∷�
 use Rattle.std.specs.Prelude.{slice_get}
 use Rattle.std.specs.List.{flat_map}
 use Rattle.std.proofs.lemmas.List.Elements.{All-head, All-tail}
+use Rattle.mr_ast.specs.declared.rule.Rule.{Rule}
+use Rattle.mr_ast.specs.declared.rule.Rule.TheVariants as form
 use Rattle.mr_ast.specs.declared.program.Block.{Block}
 use Rattle.mr_ast.specs.declared.program.BlockName.{BlockName}
 use Rattle.mr_ast.specs.declared.program.Function.{Function}
@@ -15,7 +17,7 @@ use Rattle.mr_wf.specs.declared.fault.FormFault.{FormFault}
 use Rattle.mr_wf.specs.declared.fault.Item.{Item}
 use Rattle.mr_wf.specs.declared.fault.Item.TheVariants.{Static, Function as InFunction}
 use Rattle.mr_wf.specs.Blocks.{broken_in_stmt, broken_in_term}
-use Rattle.mr_wf.specs.Broken.{Codes, of_type, rule, sizes_of, surroundings}
+use Rattle.mr_wf.specs.Broken.{Rules, of_type, rule, sizes_of, surroundings}
 use Rattle.mr_wf.specs.Judging.{kept, sound_type}
 use Rattle.mr_wf.specs.JudgingBlocks.{Judged, Walked, ◌then◌, each_walked, judged_global, judged_items, judged_stmt, judged_term, placed, walked, walked_block, walked_function, walked_global, walked_head, walked_local, walked_stmt}
 use Rattle.mr_wf.specs.Walk.{FirstBroken, WellFormed, are_arguments, at_position, begins_regular, broken_in_global, each_at, faults_in_block, faults_in_function, faults_in_global, faults_in_local, faults_in_stmt, faults_of, is_global_form, is_main_form, is_target}
@@ -41,9 +43,9 @@ then_assoc : (u v w : Walked) → ((u then v) then w) ≡ (u then (v then w))
 then_assoc (Ok x) v w = refl
 then_assoc (Err fault) v w = refl
 
-pub finds_placed : (it : Item) (block : Option BlockName) (place : ℕ) (j : Judged) (codes : Codes) → Tells j codes Any → Finds (placed it block place j) (at_position it block place codes)
-finds_placed it block place (Ok u) codes tells = ap (at_position it block place) tells.0
-finds_placed it block place (Err code) codes tells = (at_position it block place tells.0, ap (at_position it block place) tells.1)
+pub finds_placed : (it : Item) (block : Option BlockName) (place : ℕ) (j : Judged) (rules : Rules) → Tells j rules Any → Finds (placed it block place j) (at_position it block place rules)
+finds_placed it block place (Ok u) rules tells = ap (at_position it block place) tells.0
+finds_placed it block place (Err broken) rules tells = (at_position it block place tells.0, ap (at_position it block place) tells.1)
 
 pub finds_each : {A : Type 0} (walk : ℕ → A → Walked) (faults : ℕ → A → List FormFault) (P : A → Type 0) → ((k : ℕ) (x : A) → P x → Finds (walk k x) (faults k x))
     → (k : ℕ) (xs : List A) → All P xs → Finds (each_walked walk k xs) (each_at faults k xs)
@@ -54,19 +56,19 @@ finds_each walk faults P each k (x ∷ xs) all =
 
 -- ---- globals
 
-abbrev target_codes : List ℕ → Item_ → Codes
-target_codes sizes i = rule 43 (is_target sizes i)
+abbrev target_rules : List ℕ → Item_ → Rules
+target_rules sizes i = rule form.GlobalRef (is_target sizes i)
 
-items_told : (sizes : List ℕ) (items : List Item_) → Tells (judged_items sizes items) (flat_map (target_codes sizes) items) Any
+items_told : (sizes : List ℕ) (items : List Item_) → Tells (judged_items sizes items) (flat_map (target_rules sizes) items) Any
 items_told sizes [] = (refl, tt)
 items_told sizes (i ∷ items) =
-    tells_then (kept 43 (is_target sizes i)) (target_codes sizes i) (flat_map (target_codes sizes) items) Any (λ _. judged_items sizes items) Any
-    (tells_kept 43 (is_target sizes i)) (λ _ _. items_told sizes items)
+    tells_then (kept form.GlobalRef (is_target sizes i)) (target_rules sizes i) (flat_map (target_rules sizes) items) Any (λ _. judged_items sizes items) Any
+    (tells_kept form.GlobalRef (is_target sizes i)) (λ _ _. items_told sizes items)
 
 pub global_told : (sizes : List ℕ) (g : Global_) → Tells (judged_global sizes g) (broken_in_global sizes g) Any
 global_told sizes g =
-    tells_then (kept 44 (is_global_form g)) (rule 44 (is_global_form g)) (flat_map (target_codes sizes) g.items) Any (λ _. judged_items sizes g.items) Any
-    (tells_kept 44 (is_global_form g)) (λ _ _. items_told sizes g.items)
+    tells_then (kept form.GlobalForm (is_global_form g)) (rule form.GlobalForm (is_global_form g)) (flat_map (target_rules sizes) g.items) Any (λ _. judged_items sizes g.items) Any
+    (tells_kept form.GlobalForm (is_global_form g)) (λ _ _. items_told sizes g.items)
 
 -- ---- functions
 
@@ -82,18 +84,18 @@ module _ (p : Program) (n : ℕ) (f : Function) where
       (finds_placed (InFunction n) block (length b.stmts) (judged_term f at b.kind b.term) (broken_in_term f at b.kind b.term) (term_told (named_in p f) f at refl b.kind b.term shaped.term))
 
   -- a single rule of the function's own
-  own_found : (code : ℕ) (b : Bool) → Finds (placed (InFunction n) None 0 (kept code b)) (at_position (InFunction n) None 0 (rule code b))
-  own_found code b = finds_placed (InFunction n) None 0 (kept code b) (rule code b) (tells_kept code b)
+  own_found : (broken : Rule) (b : Bool) → Finds (placed (InFunction n) None 0 (kept broken b)) (at_position (InFunction n) None 0 (rule broken b))
+  own_found broken b = finds_placed (InFunction n) None 0 (kept broken b) (rule broken b) (tells_kept broken b)
 
   pub function_found : ShapedFunction p f → Finds (walked_function (sizes_of p.globals) n f) (faults_in_function p n f)
   function_found shaped =
       let at = surroundings p f in
       let args = are_arguments f.ret f.args in
       let first = begins_regular f.blocks in
-      let args_walk = placed (InFunction n) None 0 (kept 30 args) in
-      let first_walk = placed (InFunction n) None 0 (kept 31 first) in
-      let args_faults = at_position (InFunction n) None 0 (rule 30 args) in
-      let first_faults = at_position (InFunction n) None 0 (rule 31 first) in
+      let args_walk = placed (InFunction n) None 0 (kept form.Arguments args) in
+      let first_walk = placed (InFunction n) None 0 (kept form.FirstBlock first) in
+      let args_faults = at_position (InFunction n) None 0 (rule form.Arguments args) in
+      let first_faults = at_position (InFunction n) None 0 (rule form.FirstBlock first) in
       let blocks_walk = each_walked (walked_block n f at) 0 f.blocks in
       let blocks_faults = each_at (faults_in_block n f at) 0 f.blocks in
       let locals_walk = each_walked (walked_local n) 0 f.locals in
@@ -104,8 +106,8 @@ module _ (p : Program) (n : ℕ) (f : Function) where
       (finds_then locals_walk (walked_head n f then blocks_walk) locals_faults (args_faults ++ (first_faults ++ blocks_faults))
       (finds_each (walked_local n) (faults_in_local n) (ShapedLocal p) (λ place l ok. finds_placed (InFunction n) None place (sound_type l.ty) (of_type l.ty) (tells_type l.ty)) 0 f.locals shaped.locals)
       (subst (λ (w : Walked). Finds w (args_faults ++ (first_faults ++ blocks_faults))) (sym (then_assoc args_walk first_walk blocks_walk))
-      (finds_then args_walk (first_walk then blocks_walk) args_faults (first_faults ++ blocks_faults) (own_found 30 args)
-      (finds_then first_walk blocks_walk first_faults blocks_faults (own_found 31 first)
+      (finds_then args_walk (first_walk then blocks_walk) args_faults (first_faults ++ blocks_faults) (own_found form.Arguments args)
+      (finds_then first_walk blocks_walk first_faults blocks_faults (own_found form.FirstBlock first)
       (finds_each (walked_block n f at) (faults_in_block n f at) (ShapedBlock p f) block_found 0 f.blocks shaped.blocks))))))
 
 -- ---- programs
@@ -115,8 +117,8 @@ unfolding walked faults_of
 program_found p shaped =
     let sizes = sizes_of p.globals in
     let main = is_main_form p in
-    let main_walk = placed (InFunction p.start.0) None 0 (kept 45 main) in
-    let main_faults = at_position (InFunction p.start.0) None 0 (rule 45 main) in
+    let main_walk = placed (InFunction p.start.0) None 0 (kept form.MainForm main) in
+    let main_faults = at_position (InFunction p.start.0) None 0 (rule form.MainForm main) in
     let functions_walk = each_walked (walked_function sizes) 0 p.functions in
     let functions_faults = each_at (faults_in_function p) 0 p.functions in
     let globals_walk = each_walked (walked_global sizes) 0 p.globals in
@@ -127,7 +129,7 @@ program_found p shaped =
     (λ n g ok. finds_placed (Static n) None 0 (judged_global sizes g) (broken_in_global sizes g) (global_told sizes g)) 0 p.globals shaped.globals)
     (finds_then functions_walk main_walk functions_faults main_faults
     (finds_each (walked_function sizes) (faults_in_function p) (ShapedFunction p) (function_found p) 0 p.functions shaped.functions)
-    (finds_placed (InFunction p.start.0) None 0 (kept 45 main) (rule 45 main) (tells_kept 45 main))))
+    (finds_placed (InFunction p.start.0) None 0 (kept form.MainForm main) (rule form.MainForm main) (tells_kept form.MainForm main))))
 
 -- a walk that finds nothing tells that no rule is broken
 pub walked_nothing : (p : Program) → Shaped p → walked p ≡ Ok tt → faults_of p ≡ []

@@ -1,8 +1,9 @@
 -- Two types are written alike exactly where they are equal; the same of trees and variants.
-use Rattle.std.proofs.Common.{◌≡◌, ◌↔◌, ℕ, Bool, true, false, IsTrue, List, [], ◌∷◌, map, refl, sym, ap, ap₂, subst, ◌∙◌, arith}
+use Rattle.std.proofs.Common.{◌≡◌, ◌↔◌, ℕ, Bool, true, false, IsTrue, List, [], ◌∷◌, map, refl, sym, ap, ap₂, subst, ◌∙◌}
 use Rattle.std.specs.Prelude.{◌&&◌, ◌==◌, if◌then◌else◌}
 use Rattle.std.specs.Cmp.Derive.{both_true}
-use Rattle.std.proofs.lemmas.Bool.Decides.{nat_tests, same_from_decides}
+use Rattle.std.proofs.lemmas.Bool.Decides.{same_from_decides}
+use Rattle.std.proofs.lemmas.Bool.{and_parts}
 use Rattle.mr_ast.specs.declared.types.IntType.{IntType}
 use Rattle.mr_ast.specs.declared.types.IntType.TheVariants.{U8, U16, U32, U64, U128, I8, I16, I32, I64, I128}
 use Rattle.mr_ast.specs.declared.types.Num.{Num}
@@ -17,14 +18,11 @@ use Rattle.mr_ast.specs.declared.types.Variant.{Variant, roll-Variant, out-Varia
 use Rattle.mr_ast.specs.Integers.{is_signed, int_size}
 use Rattle.mr_ast.proofs.OrderHeads.{tree_made, type_made}
 use Rattle.mr_layout.specs.EnumRules.{same_num}
-use Rattle.mr_layout.proofs.PartsOk.{and_true, same_of}
 use Rattle.mr_layout.proofs.TreeOk.{same_num_equal}
 use Rattle.mr_wf.specs.SameTypes.{same_bool, same_cases, same_chunks, same_fields, same_int, same_layer, same_tags, same_tree, same_tree_layer, same_type, same_variant_layer, same_variants}
+use Rattle.mr_base.proofs.Comparisons.{eq_from, eq_itself}
 
 -- ---- numbers and lists
-
-number_itself : (n : ℕ) → (n == n) ≡ true
-number_itself n = grind (arith, nat_tests)
 
 pub same_bool_equal : (a b : Bool) → same_bool a b ≡ true → a ≡ b
 same_bool_equal true true e = refl
@@ -55,14 +53,14 @@ int_of_is I128 = refl
 
 pub same_int_equal : (i j : IntType) → same_int i j ≡ true → i ≡ j
 same_int_equal i j e =
-    let p = and_true (int_size i == int_size j) (same_bool (is_signed i) (is_signed j)) e in
-    sym (int_of_is i) ∙ ap₂ int_of (same_of (int_size i) (int_size j) p.0) (same_bool_equal (is_signed i) (is_signed j) p.1) ∙ int_of_is j
+    let p = and_parts (int_size i == int_size j) (same_bool (is_signed i) (is_signed j)) e in
+    sym (int_of_is i) ∙ ap₂ int_of (eq_from (int_size i) (int_size j) p.0) (same_bool_equal (is_signed i) (is_signed j) p.1) ∙ int_of_is j
 
 pub same_int_itself : (i : IntType) → same_int i i ≡ true
-same_int_itself i = both_true (number_itself (int_size i)) (same_bool_itself (is_signed i))
+same_int_itself i = both_true (eq_itself (int_size i)) (same_bool_itself (is_signed i))
 
 pub same_num_itself : (n : Num) → same_num n n ≡ true
-same_num_itself n = both_true (same_bool_itself n.neg) (number_itself n.mag)
+same_num_itself n = both_true (same_bool_itself n.neg) (eq_itself n.mag)
 
 abbrev chunk_at : ℕ → ℕ → ℕ × ℕ
 chunk_at at len = (at, len)
@@ -70,15 +68,15 @@ chunk_at at len = (at, len)
 pub same_chunks_equal : (cs ds : List (ℕ × ℕ)) → same_chunks cs ds ≡ true → cs ≡ ds
 same_chunks_equal [] [] e = refl
 same_chunks_equal (c ∷ cs) (d ∷ ds) e =
-    let p = and_true (c.0 == d.0) ((c.1 == d.1) && same_chunks cs ds) e in
-    let q = and_true (c.1 == d.1) (same_chunks cs ds) p.1 in
-    let one : c ≡ d = ap₂ chunk_at (same_of c.0 d.0 p.0) (same_of c.1 d.1 q.0) in
+    let p = and_parts (c.0 == d.0) ((c.1 == d.1) && same_chunks cs ds) e in
+    let q = and_parts (c.1 == d.1) (same_chunks cs ds) p.1 in
+    let one : c ≡ d = ap₂ chunk_at (eq_from c.0 d.0 p.0) (eq_from c.1 d.1 q.0) in
     ap₂ (λ (x : ℕ × ℕ) (xs : List (ℕ × ℕ)). x ∷ xs) one (same_chunks_equal cs ds q.1)
 same_chunks_equal _ _ e = absurd (cc)
 
 pub same_chunks_itself : (cs : List (ℕ × ℕ)) → same_chunks cs cs ≡ true
 same_chunks_itself [] = refl
-same_chunks_itself (c ∷ cs) = both_true (number_itself c.0) (both_true (number_itself c.1) (same_chunks_itself cs))
+same_chunks_itself (c ∷ cs) = both_true (eq_itself c.0) (both_true (eq_itself c.1) (same_chunks_itself cs))
 
 abbrev tag_at : ℕ → IntType → Num → Tag
 tag_at at int number = record { at = at; int = int; number = number }
@@ -86,16 +84,16 @@ tag_at at int number = record { at = at; int = int; number = number }
 pub same_tags_equal : (ts us : List Tag) → same_tags ts us ≡ true → ts ≡ us
 same_tags_equal [] [] e = refl
 same_tags_equal (t ∷ ts) (u ∷ us) e =
-    let p = and_true (t.at == u.at) (same_int t.int u.int && (same_num t.number u.number && same_tags ts us)) e in
-    let q = and_true (same_int t.int u.int) (same_num t.number u.number && same_tags ts us) p.1 in
-    let r = and_true (same_num t.number u.number) (same_tags ts us) q.1 in
-    let one : t ≡ u = ap (λ (at : ℕ). tag_at at t.int t.number) (same_of t.at u.at p.0) ∙ ap₂ (tag_at u.at) (same_int_equal t.int u.int q.0) (same_num_equal t.number u.number r.0) in
+    let p = and_parts (t.at == u.at) (same_int t.int u.int && (same_num t.number u.number && same_tags ts us)) e in
+    let q = and_parts (same_int t.int u.int) (same_num t.number u.number && same_tags ts us) p.1 in
+    let r = and_parts (same_num t.number u.number) (same_tags ts us) q.1 in
+    let one : t ≡ u = ap (λ (at : ℕ). tag_at at t.int t.number) (eq_from t.at u.at p.0) ∙ ap₂ (tag_at u.at) (same_int_equal t.int u.int q.0) (same_num_equal t.number u.number r.0) in
     ap₂ (λ (x : Tag) (xs : List Tag). x ∷ xs) one (same_tags_equal ts us r.1)
 same_tags_equal _ _ e = absurd (cc)
 
 pub same_tags_itself : (ts : List Tag) → same_tags ts ts ≡ true
 same_tags_itself [] = refl
-same_tags_itself (t ∷ ts) = both_true (number_itself t.at) (both_true (same_int_itself t.int) (both_true (same_num_itself t.number) (same_tags_itself ts)))
+same_tags_itself (t ∷ ts) = both_true (eq_itself t.at) (both_true (same_int_itself t.int) (both_true (same_num_itself t.number) (same_tags_itself ts)))
 
 -- ---- trees
 
@@ -123,8 +121,8 @@ case_at n t = (n, t)
 cases_equal : (ys : List (Num × ShownTree)) (ds : List (Num × Tree)) → same_cases (case_tests (cases_of ys)) ds ≡ true → cases_of ys ≡ ds
 cases_equal [] [] e = refl
 cases_equal (y ∷ ys) (d ∷ ds) e =
-    let p = and_true (same_num y.0 d.0) (same_tree y.1.0 d.1 && same_cases (case_tests (cases_of ys)) ds) e in
-    let q = and_true (same_tree y.1.0 d.1) (same_cases (case_tests (cases_of ys)) ds) p.1 in
+    let p = and_parts (same_num y.0 d.0) (same_tree y.1.0 d.1 && same_cases (case_tests (cases_of ys)) ds) e in
+    let q = and_parts (same_tree y.1.0 d.1) (same_cases (case_tests (cases_of ys)) ds) p.1 in
     let one : case_at y.0 y.1.0 ≡ d = ap₂ case_at (same_num_equal y.0 d.0 p.0) (y.1.1.equal d.1 q.0) in
     ap₂ (λ (c : Num × Tree) (cs : List (Num × Tree)). c ∷ cs) one (cases_equal ys ds q.1)
 cases_equal _ _ e = absurd (cc)
@@ -143,17 +141,17 @@ tree_layer_equal : (y : Tree-F ShownTree) (x : Tree-F Tree) → same_tree_layer 
 tree_layer_equal (Tree-F.Known n) (Tree-F.Known m) e = ap (λ (k : Num). Tree-F.Known k) (same_num_equal n m e)
 tree_layer_equal Tree-F.Invalid Tree-F.Invalid e = refl
 tree_layer_equal (Tree-F.Branch at i ys rest) (Tree-F.Branch at2 i2 ds other) e =
-    let p = and_true (at == at2) (same_int i i2 && (same_cases (case_tests (cases_of ys)) ds && same_tree rest.0 other)) e in
-    let q = and_true (same_int i i2) (same_cases (case_tests (cases_of ys)) ds && same_tree rest.0 other) p.1 in
-    let r = and_true (same_cases (case_tests (cases_of ys)) ds) (same_tree rest.0 other) q.1 in
-    ap₂ (λ (a : ℕ) (int : IntType). Tree-F.Branch a int (cases_of ys) rest.0) (same_of at at2 p.0) (same_int_equal i i2 q.0)
+    let p = and_parts (at == at2) (same_int i i2 && (same_cases (case_tests (cases_of ys)) ds && same_tree rest.0 other)) e in
+    let q = and_parts (same_int i i2) (same_cases (case_tests (cases_of ys)) ds && same_tree rest.0 other) p.1 in
+    let r = and_parts (same_cases (case_tests (cases_of ys)) ds) (same_tree rest.0 other) q.1 in
+    ap₂ (λ (a : ℕ) (int : IntType). Tree-F.Branch a int (cases_of ys) rest.0) (eq_from at at2 p.0) (same_int_equal i i2 q.0)
     ∙ ap₂ (λ (cs : List (Num × Tree)) (t : Tree). Tree-F.Branch at2 i2 cs t) (cases_equal ys ds r.0) (rest.1.equal other r.1)
 tree_layer_equal _ _ e = absurd (cc)
 
 tree_layer_itself : (y : Tree-F ShownTree) → same_tree_layer (tree_tests (tree_of y)) (tree_of y) ≡ true
 tree_layer_itself (Tree-F.Known n) = same_num_itself n
 tree_layer_itself Tree-F.Invalid = refl
-tree_layer_itself (Tree-F.Branch at i ys rest) = both_true (number_itself at) (both_true (same_int_itself i) (both_true (cases_itself ys) rest.1.itself))
+tree_layer_itself (Tree-F.Branch at i ys rest) = both_true (eq_itself at) (both_true (same_int_itself i) (both_true (cases_itself ys) rest.1.itself))
 
 tree_same_layer : (y : Tree-F ShownTree) → TreeSame (roll-Tree (tree_of y))
 tree_same_layer y = record {
@@ -221,15 +219,15 @@ field_at n t = (n, t)
 fields_equal : (ys : List (ℕ × Shown)) (gs : List (ℕ × Ty)) → same_fields (field_tests (fields_of ys)) gs ≡ true → fields_of ys ≡ gs
 fields_equal [] [] e = refl
 fields_equal (y ∷ ys) (g ∷ gs) e =
-    let p = and_true (y.0 == g.0) (same_type y.1.0 g.1 && same_fields (field_tests (fields_of ys)) gs) e in
-    let q = and_true (same_type y.1.0 g.1) (same_fields (field_tests (fields_of ys)) gs) p.1 in
-    let one : field_at y.0 y.1.0 ≡ g = ap₂ field_at (same_of y.0 g.0 p.0) (y.1.1.equal g.1 q.0) in
+    let p = and_parts (y.0 == g.0) (same_type y.1.0 g.1 && same_fields (field_tests (fields_of ys)) gs) e in
+    let q = and_parts (same_type y.1.0 g.1) (same_fields (field_tests (fields_of ys)) gs) p.1 in
+    let one : field_at y.0 y.1.0 ≡ g = ap₂ field_at (eq_from y.0 g.0 p.0) (y.1.1.equal g.1 q.0) in
     ap₂ (λ (f : ℕ × Ty) (fs : List (ℕ × Ty)). f ∷ fs) one (fields_equal ys gs q.1)
 fields_equal _ _ e = absurd (cc)
 
 fields_itself : (ys : List (ℕ × Shown)) → same_fields (field_tests (fields_of ys)) (fields_of ys) ≡ true
 fields_itself [] = refl
-fields_itself (y ∷ ys) = both_true (number_itself y.0) (both_true y.1.1.itself (fields_itself ys))
+fields_itself (y ∷ ys) = both_true (eq_itself y.0) (both_true y.1.1.itself (fields_itself ys))
 
 abbrev variants_of : List ShownVariant → List Variant
 variants_of ys = map (λ (v : ShownVariant). v.0) ys
@@ -237,7 +235,7 @@ variants_of ys = map (λ (v : ShownVariant). v.0) ys
 variants_equal : (ys : List ShownVariant) (ws : List Variant) → same_variants (map same_variant (variants_of ys)) ws ≡ true → variants_of ys ≡ ws
 variants_equal [] [] e = refl
 variants_equal (y ∷ ys) (w ∷ ws) e =
-    let p = and_true (same_variant y.0 w) (same_variants (map same_variant (variants_of ys)) ws) e in
+    let p = and_parts (same_variant y.0 w) (same_variants (map same_variant (variants_of ys)) ws) e in
     ap₂ (λ (v : Variant) (vs : List Variant). v ∷ vs) (y.1.equal w p.0) (variants_equal ys ws p.1)
 variants_equal _ _ e = absurd (cc)
 
@@ -257,29 +255,29 @@ layer_equal Ty-F.Bool Ty-F.Bool e = refl
 layer_equal Ty-F.Raw Ty-F.Raw e = refl
 layer_equal Ty-F.FnPtr Ty-F.FnPtr e = refl
 layer_equal (Ty-F.Ref size align never) (Ty-F.Ref size2 align2 never2) e =
-    let p = and_true (size == size2) ((align == align2) && same_bool never never2) e in
-    let q = and_true (align == align2) (same_bool never never2) p.1 in
-    ap₂ (λ (s a : ℕ). Ty-F.Ref s a never) (same_of size size2 p.0) (same_of align align2 q.0) ∙ ap (λ (b : Bool). Ty-F.Ref size2 align2 b) (same_bool_equal never never2 q.1)
+    let p = and_parts (size == size2) ((align == align2) && same_bool never never2) e in
+    let q = and_parts (align == align2) (same_bool never never2) p.1 in
+    ap₂ (λ (s a : ℕ). Ty-F.Ref s a never) (eq_from size size2 p.0) (eq_from align align2 q.0) ∙ ap (λ (b : Bool). Ty-F.Ref size2 align2 b) (same_bool_equal never never2 q.1)
 layer_equal (Ty-F.Tuple size align ys) (Ty-F.Tuple size2 align2 gs) e =
-    let p = and_true (size == size2) ((align == align2) && same_fields (field_tests (fields_of ys)) gs) e in
-    let q = and_true (align == align2) (same_fields (field_tests (fields_of ys)) gs) p.1 in
-    ap₂ (λ (s a : ℕ). Ty-F.Tuple s a (fields_of ys)) (same_of size size2 p.0) (same_of align align2 q.0) ∙ ap (λ (fs : List (ℕ × Ty)). Ty-F.Tuple size2 align2 fs) (fields_equal ys gs q.1)
+    let p = and_parts (size == size2) ((align == align2) && same_fields (field_tests (fields_of ys)) gs) e in
+    let q = and_parts (align == align2) (same_fields (field_tests (fields_of ys)) gs) p.1 in
+    ap₂ (λ (s a : ℕ). Ty-F.Tuple s a (fields_of ys)) (eq_from size size2 p.0) (eq_from align align2 q.0) ∙ ap (λ (fs : List (ℕ × Ty)). Ty-F.Tuple size2 align2 fs) (fields_equal ys gs q.1)
 layer_equal (Ty-F.Array count y) (Ty-F.Array count2 t) e =
-    let p = and_true (count == count2) (same_type y.0 t) e in
-    ap₂ (λ (n : ℕ) (u : Ty). Ty-F.Array n u) (same_of count count2 p.0) (y.1.equal t p.1)
+    let p = and_parts (count == count2) (same_type y.0 t) e in
+    ap₂ (λ (n : ℕ) (u : Ty). Ty-F.Array n u) (eq_from count count2 p.0) (y.1.equal t p.1)
 layer_equal (Ty-F.Union size align ys chunks) (Ty-F.Union size2 align2 gs chunks2) e =
-    let p = and_true (size == size2) ((align == align2) && (same_fields (field_tests (fields_of ys)) gs && same_chunks chunks chunks2)) e in
-    let q = and_true (align == align2) (same_fields (field_tests (fields_of ys)) gs && same_chunks chunks chunks2) p.1 in
-    let r = and_true (same_fields (field_tests (fields_of ys)) gs) (same_chunks chunks chunks2) q.1 in
-    ap₂ (λ (s a : ℕ). Ty-F.Union s a (fields_of ys) chunks) (same_of size size2 p.0) (same_of align align2 q.0)
+    let p = and_parts (size == size2) ((align == align2) && (same_fields (field_tests (fields_of ys)) gs && same_chunks chunks chunks2)) e in
+    let q = and_parts (align == align2) (same_fields (field_tests (fields_of ys)) gs && same_chunks chunks chunks2) p.1 in
+    let r = and_parts (same_fields (field_tests (fields_of ys)) gs) (same_chunks chunks chunks2) q.1 in
+    ap₂ (λ (s a : ℕ). Ty-F.Union s a (fields_of ys) chunks) (eq_from size size2 p.0) (eq_from align align2 q.0)
     ∙ ap₂ (λ (fs : List (ℕ × Ty)) (cs : List (ℕ × ℕ)). Ty-F.Union size2 align2 fs cs) (fields_equal ys gs r.0) (same_chunks_equal chunks chunks2 r.1)
 layer_equal (Ty-F.Enum size align disc ys tree) (Ty-F.Enum size2 align2 disc2 ws tree2) e =
     let variants = same_variants (map same_variant (variants_of ys)) ws in
-    let p = and_true (size == size2) ((align == align2) && (same_int disc disc2 && (variants && same_tree tree tree2))) e in
-    let q = and_true (align == align2) (same_int disc disc2 && (variants && same_tree tree tree2)) p.1 in
-    let r = and_true (same_int disc disc2) (variants && same_tree tree tree2) q.1 in
-    let t = and_true variants (same_tree tree tree2) r.1 in
-    ap₂ (λ (s a : ℕ). Ty-F.Enum s a disc (variants_of ys) tree) (same_of size size2 p.0) (same_of align align2 q.0)
+    let p = and_parts (size == size2) ((align == align2) && (same_int disc disc2 && (variants && same_tree tree tree2))) e in
+    let q = and_parts (align == align2) (same_int disc disc2 && (variants && same_tree tree tree2)) p.1 in
+    let r = and_parts (same_int disc disc2) (variants && same_tree tree tree2) q.1 in
+    let t = and_parts variants (same_tree tree tree2) r.1 in
+    ap₂ (λ (s a : ℕ). Ty-F.Enum s a disc (variants_of ys) tree) (eq_from size size2 p.0) (eq_from align align2 q.0)
     ∙ ap₂ (λ (d : IntType) (vs : List Variant). Ty-F.Enum size2 align2 d vs tree) (same_int_equal disc disc2 r.0) (variants_equal ys ws t.0)
     ∙ ap (λ (u : Tree). Ty-F.Enum size2 align2 disc2 ws u) (same_tree_equal tree tree2 t.1)
 layer_equal _ _ e = absurd (cc)
@@ -289,12 +287,12 @@ layer_itself (Ty-F.Int i) = same_int_itself i
 layer_itself Ty-F.Bool = refl
 layer_itself Ty-F.Raw = refl
 layer_itself Ty-F.FnPtr = refl
-layer_itself (Ty-F.Ref size align never) = both_true (number_itself size) (both_true (number_itself align) (same_bool_itself never))
-layer_itself (Ty-F.Tuple size align ys) = both_true (number_itself size) (both_true (number_itself align) (fields_itself ys))
-layer_itself (Ty-F.Array count y) = both_true (number_itself count) y.1.itself
-layer_itself (Ty-F.Union size align ys chunks) = both_true (number_itself size) (both_true (number_itself align) (both_true (fields_itself ys) (same_chunks_itself chunks)))
+layer_itself (Ty-F.Ref size align never) = both_true (eq_itself size) (both_true (eq_itself align) (same_bool_itself never))
+layer_itself (Ty-F.Tuple size align ys) = both_true (eq_itself size) (both_true (eq_itself align) (fields_itself ys))
+layer_itself (Ty-F.Array count y) = both_true (eq_itself count) y.1.itself
+layer_itself (Ty-F.Union size align ys chunks) = both_true (eq_itself size) (both_true (eq_itself align) (both_true (fields_itself ys) (same_chunks_itself chunks)))
 layer_itself (Ty-F.Enum size align disc ys tree) =
-    both_true (number_itself size) (both_true (number_itself align) (both_true (same_int_itself disc) (both_true (variants_itself ys) (same_tree_itself tree))))
+    both_true (eq_itself size) (both_true (eq_itself align) (both_true (same_int_itself disc) (both_true (variants_itself ys) (same_tree_itself tree))))
 
 type_same_layer : (y : Ty-F Shown ShownVariant) → TypeSame (roll-Ty (type_of_shown y))
 type_same_layer y = record {
@@ -307,8 +305,8 @@ variant_with number t tags = record { number = number; ty = t; tags = tags }
 
 variant_equal : (v w : Variant) → TypeSame v.ty → same_variant v w ≡ true → v ≡ w
 variant_equal v w same e =
-    let p = and_true (same_num v.number w.number) (same_type v.ty w.ty && same_tags v.tags w.tags) (sym (variant_is v w) ∙ e) in
-    let q = and_true (same_type v.ty w.ty) (same_tags v.tags w.tags) p.1 in
+    let p = and_parts (same_num v.number w.number) (same_type v.ty w.ty && same_tags v.tags w.tags) (sym (variant_is v w) ∙ e) in
+    let q = and_parts (same_type v.ty w.ty) (same_tags v.tags w.tags) p.1 in
     ap₂ (λ (n : Num) (t : Ty). variant_with n t v.tags) (same_num_equal v.number w.number p.0) (same.equal w.ty q.0)
     ∙ ap (λ (ts : List Tag). variant_with w.number w.ty ts) (same_tags_equal v.tags w.tags q.1)
 

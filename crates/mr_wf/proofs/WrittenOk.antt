@@ -19,7 +19,7 @@ use Rattle.mr_layout.specs.Written.{types_of, types_of_block, types_of_function,
 use Rattle.mr_layout.proofs.WrittenLaws.{types_local, types_deref, types_field, types_index, types_variant_place, types_int, types_true, types_false, types_raw, types_fn, types_global, types_tuple, types_union, types_variant, types_load, types_disc, types_addr_of, types_cast, types_transmute, types_unary, types_binary}
 use Rattle.mr_layout.proofs.WrittenParts.{ok_types}
 use Rattle.mr_wf.specs.Blocks.{broken_in_parts, broken_in_result, broken_in_stmt, broken_in_values}
-use Rattle.mr_wf.specs.Broken.{Codes, Surroundings, broken_in_place, broken_in_value, of_type, surroundings}
+use Rattle.mr_wf.specs.Broken.{Rules, Surroundings, broken_in_place, broken_in_value, of_type, surroundings}
 use Rattle.mr_wf.specs.Walk.{WellFormed}
 use Rattle.mr_wf.proofs.BrokenInLaws.{broken_in_deref, broken_in_field, broken_in_index, broken_in_variant_place, broken_in_tuple, broken_in_union, broken_in_variant, broken_in_load, broken_in_disc, broken_in_addr_of, broken_in_cast, broken_in_transmute, broken_in_unary, broken_in_binary}
 use Rattle.mr_wf.proofs.NothingLaws.{both_nothing, three_nothing, type_kept}
@@ -27,18 +27,18 @@ use Rattle.mr_wf.specs.Unbroken.{UnbrokenBlock, UnbrokenFunction}
 use Rattle.mr_wf.proofs.UnbrokenLaws.{well_formed_keeps}
 
 -- the types are well-formed where these rules are not broken
-abbrev OkWhere : Codes → List Ty → Type 0
-OkWhere codes types = codes ≡ [] → All TypeOk types
+abbrev OkWhere : Rules → List Ty → Type 0
+OkWhere rules types = rules ≡ [] → All TypeOk types
 
 -- ---- joining parts
 
-ok_same : (codes parts : Codes) (types less : List Ty) → codes ≡ parts → types ≡ less → OkWhere parts less → OkWhere codes types
-ok_same codes parts types less ec et ok e = All-same TypeOk types less et (ok (sym ec ∙ e))
+ok_same : (rules parts : Rules) (types less : List Ty) → rules ≡ parts → types ≡ less → OkWhere parts less → OkWhere rules types
+ok_same rules parts types less ec et ok e = All-same TypeOk types less et (ok (sym ec ∙ e))
 
-ok_first : (a b : Codes) (types : List Ty) → OkWhere a types → OkWhere (a ++ b) types
+ok_first : (a b : Rules) (types : List Ty) → OkWhere a types → OkWhere (a ++ b) types
 ok_first a b types ok e = ok (both_nothing a b e).0
 
-ok_two : (a b last : Codes) (types more : List Ty) → OkWhere a types → OkWhere b more → OkWhere ((a ++ b) ++ last) (types ++ more)
+ok_two : (a b last : Rules) (types more : List Ty) → OkWhere a types → OkWhere b more → OkWhere ((a ++ b) ++ last) (types ++ more)
 ok_two a b last types more first second e =
     let none = three_nothing a b last e in
     All-append TypeOk types more (first none.0) (second none.1)

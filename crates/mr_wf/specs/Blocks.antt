@@ -2,6 +2,7 @@
 use Rattle.std.specs.Prelude.{Bool, true, false, not, ◌&&◌, ◌||◌, ◌==◌, List, [], ◌∷◌, ◌++◌, map, flat_map, Option}
 use Rattle.std.specs.Prelude.{None, Some, is_some, slice_get}
 use Rattle.std.specs.List.{list_all, list_any}
+use Rattle.mr_ast.specs.declared.rule.Rule.TheVariants as form
 use Rattle.mr_ast.specs.declared.types.IntType.{IntType}
 use Rattle.mr_ast.specs.declared.types.Num.{Num}
 use Rattle.mr_ast.specs.declared.types.Ty.{Ty, out-Ty}
@@ -25,7 +26,7 @@ use Rattle.mr_wf.specs.SameTypes.{same_type}
 use Rattle.mr_wf.specs.Types.{type_of_place, type_of_value, variant_type}
 use Rattle.mr_wf.specs.Operands.{is_fn_ptr, is_raw}
 use Rattle.mr_wf.specs.Intrinsics.{fits_intrinsic}
-use Rattle.mr_wf.specs.Broken.{Codes, Surroundings, broken_in_place, broken_in_value, rule, where_all_typed}
+use Rattle.mr_wf.specs.Broken.{Rules, Surroundings, broken_in_place, broken_in_value, rule, where_all_typed}
 use Rattle.mr_wf.specs.Broken.{where_both_typed, where_typed}
 
 -- ---- statements
@@ -35,16 +36,16 @@ abbrev pub is_kept : Function → LocalName → Bool
 is_kept f x = (x.0 == f.ret.0) || list_any (λ (y : LocalName). y.0 == x.0) f.args
 
 -- the rules that a statement breaks
-abbrev pub broken_in_stmt : Function → Surroundings → Stmt → Codes
-broken_in_stmt f at (stmt.Live x) = rule 38 (not (is_kept f x))
-broken_in_stmt f at (stmt.Dead x) = rule 38 (not (is_kept f x))
+abbrev pub broken_in_stmt : Function → Surroundings → Stmt → Rules
+broken_in_stmt f at (stmt.Live x) = rule form.LiveLocal (not (is_kept f x))
+broken_in_stmt f at (stmt.Dead x) = rule form.LiveLocal (not (is_kept f x))
 broken_in_stmt f at (stmt.Assign place value) =
     broken_in_place at place ++ broken_in_value at value
-    ++ rule 36 (where_both_typed (type_of_place at.locals place) (type_of_value at.locals value) same_type)
+    ++ rule form.Assign (where_both_typed (type_of_place at.locals place) (type_of_value at.locals value) same_type)
 broken_in_stmt f at (stmt.Mention place) = broken_in_place at place
 broken_in_stmt f at (stmt.Disc place number) =
     broken_in_place at place
-    ++ rule 37 (where_typed (type_of_place at.locals place) (λ t. is_some (variant_type t number)))
+    ++ rule form.Discriminant (where_typed (type_of_place at.locals place) (λ t. is_some (variant_type t number)))
 broken_in_stmt f at (stmt.Deinit place) = broken_in_place at place
 broken_in_stmt f at (stmt.Validate place) = broken_in_place at place
 
@@ -124,7 +125,7 @@ is_allowed f k (term.Do intrinsic args place next) = goes_to f k next
 -- ---- terminators
 
 -- the rules that are broken in the values of a call
-abbrev pub broken_in_values : Surroundings → List Value → Codes
+abbrev pub broken_in_values : Surroundings → List Value → Rules
 broken_in_values at values = flat_map (broken_in_value at) values
 
 -- a test of the types of arguments and of the place of a result, which may be missing
@@ -133,26 +134,26 @@ where_result_typed locals None test = test None
 where_result_typed locals (Some place) test = where_typed (type_of_place locals place) (λ t. test (Some t))
 
 -- the rules that the place of a result breaks
-abbrev pub broken_in_result : Surroundings → Option Place → Codes
+abbrev pub broken_in_result : Surroundings → Option Place → Rules
 broken_in_result at None = []
 broken_in_result at (Some place) = broken_in_place at place
 
 -- the rules that a terminator breaks beside those of kinds
-abbrev pub broken_in_parts : Surroundings → Term → Codes
+abbrev pub broken_in_parts : Surroundings → Term → Rules
 broken_in_parts at (term.Switch value cases other) =
-    broken_in_value at value ++ rule 39 (where_typed (type_of_value at.locals value) (fits_switch cases))
+    broken_in_value at value ++ rule form.Switch (where_typed (type_of_value at.locals value) (fits_switch cases))
 broken_in_parts at (term.Unwind payload b) =
-    broken_in_value at payload ++ rule 42 (where_typed (type_of_value at.locals payload) is_raw)
+    broken_in_value at payload ++ rule form.Payload (where_typed (type_of_value at.locals payload) is_raw)
 broken_in_parts at (term.Call callee args place next unwind) =
     broken_in_value at callee ++ broken_in_values at args ++ broken_in_place at place
-    ++ rule 40 (where_typed (type_of_value at.locals callee) is_fn_ptr)
+    ++ rule form.Callee (where_typed (type_of_value at.locals callee) is_fn_ptr)
 broken_in_parts at (term.Do intrinsic args place next) =
     broken_in_values at args ++ broken_in_result at place
-    ++ rule 41
+    ++ rule form.Intrinsic
     (where_all_typed (map (type_of_value at.locals) args)
     (λ types. where_result_typed at.locals place (fits_intrinsic intrinsic types)))
 broken_in_parts at _ = []
 
 -- the rules that a terminator of a block of this kind breaks; that of kinds comes last
-abbrev pub broken_in_term : Function → Surroundings → BlockKind → Term → Codes
-broken_in_term f at k t = broken_in_parts at t ++ rule 32 (is_allowed f k t)
+abbrev pub broken_in_term : Function → Surroundings → BlockKind → Term → Rules
+broken_in_term f at k t = broken_in_parts at t ++ rule form.BlockKind (is_allowed f k t)

@@ -2,6 +2,8 @@
 -- expression itself. A rule is looked at only where the parts that it speaks of have types.
 use Rattle.std.specs.Prelude.{ℕ, ◌+◌, Bool, true, false, ◌&&◌, ◌||◌, nat_le, if◌then◌else◌, List, [], ◌∷◌, ◌++◌, map}
 use Rattle.std.specs.Prelude.{flat_map, Option, None, Some, is_some, slice_get}
+use Rattle.mr_ast.specs.declared.rule.Rule.{Rule}
+use Rattle.mr_ast.specs.declared.rule.Rule.TheVariants as form
 use Rattle.mr_ast.specs.declared.types.IntType.TheVariants.{U64}
 use Rattle.mr_ast.specs.declared.types.Ty.{Ty}
 use Rattle.mr_ast.specs.declared.expr.Place.{Place}
@@ -22,17 +24,17 @@ use Rattle.mr_wf.specs.Operands.{is_raw, is_ref, is_scalar_number, same_size}
 
 -- ---- rules
 
--- the codes of broken rules, in the order of the walk
-abbrev pub Codes : Type 0
-Codes = List ℕ
+-- broken rules, in the order of the walk
+abbrev pub Rules : Type 0
+Rules = List Rule
 
--- a rule with this code, which a test keeps
-abbrev pub rule : ℕ → Bool → Codes
-rule code kept = if kept then [] else code ∷ []
+-- a rule that is kept where a test holds
+abbrev pub rule : Rule → Bool → Rules
+rule broken kept = if kept then [] else broken ∷ []
 
 -- the first rule that a type breaks, if it breaks one
-abbrev pub of_type : Ty → Codes
-of_type t = elim (broken_rule t) as (λ _. Codes) [ Some code ↦ code ∷ [] | None ↦ [] ]
+abbrev pub of_type : Ty → Rules
+of_type t = elim (broken_rule t) as (λ _. Rules) [ Some broken ↦ broken ∷ [] | None ↦ [] ]
 
 -- a test of the type of a part, which is kept where the part has none
 abbrev pub where_typed : Option Ty → (Ty → Bool) → Bool
@@ -82,54 +84,56 @@ abbrev pub surroundings : Program → Function → Surroundings
 surroundings p f = record { sizes = sizes_of p.globals; locals = f.locals }
 
 -- one level of a place, with each part beside the rules that are broken in it
-abbrev pub broken_place_step : Surroundings → Place-F (Place × Codes) (Value × Codes) → Codes
+abbrev pub broken_place_step : Surroundings → Place-F (Place × Rules) (Value × Rules) → Rules
 broken_place_step at (Place-F.Local x) = []
 broken_place_step at (Place-F.Deref pointer ty) =
-    pointer.1 ++ of_type ty ++ rule 33 (where_typed (type_of_value at.locals pointer.0) is_pointer)
+    pointer.1 ++ of_type ty ++ rule form.Place (where_typed (type_of_value at.locals pointer.0) is_pointer)
 broken_place_step at (Place-F.Field place field) =
-    place.1 ++ rule 33 (where_typed (type_of_place at.locals place.0) (λ t. is_some (field_type t field)))
+    place.1 ++ rule form.Place (where_typed (type_of_place at.locals place.0) (λ t. is_some (field_type t field)))
 broken_place_step at (Place-F.Index place index) =
     place.1 ++ index.1
-    ++ rule 33
+    ++ rule form.Place
     (where_both_typed (type_of_place at.locals place.0) (type_of_value at.locals index.0)
     (λ t i. is_some (element_type t) && is_int U64 i))
 broken_place_step at (Place-F.Place::Variant place number) =
-    place.1 ++ rule 33 (where_typed (type_of_place at.locals place.0) (λ t. is_some (variant_type t number)))
+    place.1 ++ rule form.Place (where_typed (type_of_place at.locals place.0) (λ t. is_some (variant_type t number)))
 
 -- the same of a value
-abbrev pub broken_value_step : Surroundings → Value-F (Place × Codes) (Value × Codes) → Codes
-broken_value_step at (Value-F.Int int number) = rule 35 (is_fitting int number)
+abbrev pub broken_value_step : Surroundings → Value-F (Place × Rules) (Value × Rules) → Rules
+broken_value_step at (Value-F.Int int number) = rule form.ConstRange (is_fitting int number)
 broken_value_step at Value-F.True = []
 broken_value_step at Value-F.False = []
 broken_value_step at (Value-F.Raw address) = []
 broken_value_step at (Value-F.Fn f) = []
-broken_value_step at (Value-F.Global g offset) = rule 43 (is_in_global at.sizes g.0 offset)
+broken_value_step at (Value-F.Global g offset) = rule form.GlobalRef (is_in_global at.sizes g.0 offset)
 broken_value_step at (Value-F.Tuple ty values) =
     of_type ty ++ flat_map (λ v. v.1) values
-    ++ rule 46 (where_all_typed (map (λ v. type_of_value at.locals v.0) values) (fits_parts ty))
+    ++ rule form.Aggregate (where_all_typed (map (λ v. type_of_value at.locals v.0) values) (fits_parts ty))
 broken_value_step at (Value-F.Union ty field value) =
-    of_type ty ++ value.1 ++ rule 46 (where_typed (type_of_value at.locals value.0) (fits_union ty field))
+    of_type ty ++ value.1 ++ rule form.Aggregate (where_typed (type_of_value at.locals value.0) (fits_union ty field))
 broken_value_step at (Value-F.Value::Variant ty number value) =
-    of_type ty ++ value.1 ++ rule 46 (where_typed (type_of_value at.locals value.0) (fits_variant ty number))
+    of_type ty ++ value.1
+    ++ rule form.Aggregate (where_typed (type_of_value at.locals value.0) (fits_variant ty number))
 broken_value_step at (Value-F.Load place) = place.1
 broken_value_step at (Value-F.Disc place) =
-    place.1 ++ rule 37 (where_typed (type_of_place at.locals place.0) (λ t. is_some (discriminant_type t)))
-broken_value_step at (Value-F.AddrOf ty place) = of_type ty ++ place.1 ++ rule 47 (is_raw ty || is_ref ty)
+    place.1 ++ rule form.Discriminant
+    (where_typed (type_of_place at.locals place.0) (λ t. is_some (discriminant_type t)))
+broken_value_step at (Value-F.AddrOf ty place) = of_type ty ++ place.1 ++ rule form.Cast (is_raw ty || is_ref ty)
 broken_value_step at (Value-F.Cast int value) =
-    value.1 ++ rule 47 (where_typed (type_of_value at.locals value.0) is_scalar_number)
+    value.1 ++ rule form.Cast (where_typed (type_of_value at.locals value.0) is_scalar_number)
 broken_value_step at (Value-F.Transmute ty value) =
-    of_type ty ++ value.1 ++ rule 47 (where_typed (type_of_value at.locals value.0) (same_size ty))
+    of_type ty ++ value.1 ++ rule form.Cast (where_typed (type_of_value at.locals value.0) (same_size ty))
 broken_value_step at (Value-F.Unary operator value) =
-    value.1 ++ rule 34 (where_typed (type_of_value at.locals value.0) (fits_unary operator))
+    value.1 ++ rule form.Operand (where_typed (type_of_value at.locals value.0) (fits_unary operator))
 broken_value_step at (Value-F.Binary operator left right) =
     left.1 ++ right.1
-    ++ rule 34
+    ++ rule form.Operand
     (where_both_typed (type_of_value at.locals left.0) (type_of_value at.locals right.0) (fits_binary operator))
 
 -- the rules that are broken in a place, and in a value
-unfoldable pub broken_in_place : Surroundings → Place → Codes
-broken_in_place at = para-Place Codes Codes (broken_place_step at) (broken_value_step at)
+unfoldable pub broken_in_place : Surroundings → Place → Rules
+broken_in_place at = para-Place Rules Rules (broken_place_step at) (broken_value_step at)
 
 -- the rules that a value breaks, with those of all places and values in it
-unfoldable pub broken_in_value : Surroundings → Value → Codes
-broken_in_value at = para-Value Codes Codes (broken_place_step at) (broken_value_step at)
+unfoldable pub broken_in_value : Surroundings → Value → Rules
+broken_in_value at = para-Value Rules Rules (broken_place_step at) (broken_value_step at)

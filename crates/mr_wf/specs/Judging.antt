@@ -1,6 +1,8 @@
 -- The walk over an expression, computed: its type, or the first rule that is broken in it.
-use Rattle.std.specs.Prelude.{ℕ, Bool, ◌||◌, if◌then◌else◌, List, [], ◌∷◌, Option, None, Some, Result, Ok, Err}
+use Rattle.std.specs.Prelude.{Bool, ◌||◌, if◌then◌else◌, List, [], ◌∷◌, Option, None, Some, Result, Ok, Err}
 use Rattle.std.specs.Prelude.{slice_get}
+use Rattle.mr_ast.specs.declared.rule.Rule.{Rule}
+use Rattle.mr_ast.specs.declared.rule.Rule.TheVariants as form
 use Rattle.mr_ast.specs.declared.types.IntType.TheVariants.{U64}
 use Rattle.mr_ast.specs.declared.types.Ty.{Ty}
 use Rattle.mr_ast.specs.declared.types.Ty.TheVariants as ty
@@ -16,25 +18,25 @@ use Rattle.mr_wf.specs.Operands.{is_raw, is_ref, is_scalar_number, same_size}
 use Rattle.mr_wf.specs.Broken.{Surroundings, is_in_global}
 
 infixl 10 ◌>>=◌
-abbrev pub ◌>>=◌ : {A B : Type 0} → Result A ℕ → (A → Result B ℕ) → Result B ℕ
+abbrev pub ◌>>=◌ : {A B : Type 0} → Result A Rule → (A → Result B Rule) → Result B Rule
 (Ok x) >>= f = f x
-(Err code) >>= f = Err code
+(Err broken) >>= f = Err broken
 
--- a rule with this code
-abbrev pub kept : ℕ → Bool → Result (Unit {0}) ℕ
-kept code test = if test then Ok tt else Err code
+-- a rule that is kept where a test holds
+abbrev pub kept : Rule → Bool → Result (Unit {0}) Rule
+kept broken test = if test then Ok tt else Err broken
 
 -- the rules of a written type
-abbrev pub sound_type : Ty → Result (Unit {0}) ℕ
-sound_type t = elim (broken_rule t) as (λ _. Result (Unit {0}) ℕ) [ None ↦ Ok tt | Some code ↦ Err code ]
+abbrev pub sound_type : Ty → Result (Unit {0}) Rule
+sound_type t = elim (broken_rule t) as (λ _. Result (Unit {0}) Rule) [ None ↦ Ok tt | Some broken ↦ Err broken ]
 
--- what must be there
-abbrev pub there : {A : Type 0} → ℕ → Option A → Result A ℕ
-there code None = Err code
-there code (Some x) = Ok x
+-- what must be there, by this rule
+abbrev pub there : {A : Type 0} → Rule → Option A → Result A Rule
+there broken None = Err broken
+there broken (Some x) = Ok x
 
 -- the types of values in a row
-abbrev pub all_judged : List (Result Ty ℕ) → Result (List Ty) ℕ
+abbrev pub all_judged : List (Result Ty Rule) → Result (List Ty) Rule
 all_judged [] = Ok []
 all_judged (v ∷ vs) = do
   t ← v
@@ -42,93 +44,93 @@ all_judged (v ∷ vs) = do
   Ok (t ∷ ts)
 
 -- one level of a place, where the answer for each part stands in its place
-abbrev pub judged_place_step : Surroundings → Place-F (Result Ty ℕ) (Result Ty ℕ) → Result Ty ℕ
+abbrev pub judged_place_step : Surroundings → Place-F (Result Ty Rule) (Result Ty Rule) → Result Ty Rule
 judged_place_step at (Place-F.Local x) = do
-  l ← there 33 (slice_get at.locals x.0)
+  l ← there form.Place (slice_get at.locals x.0)
   Ok l.ty
 judged_place_step at (Place-F.Deref pointer ty) = do
   t ← pointer
   _ ← sound_type ty
-  _ ← kept 33 (is_pointer t)
+  _ ← kept form.Place (is_pointer t)
   Ok ty
 judged_place_step at (Place-F.Field place field) = do
   t ← place
-  there 33 (field_type t field)
+  there form.Place (field_type t field)
 judged_place_step at (Place-F.Index place index) = do
   t ← place
   i ← index
-  elem ← there 33 (element_type t)
-  _ ← kept 33 (is_int U64 i)
+  elem ← there form.Place (element_type t)
+  _ ← kept form.Place (is_int U64 i)
   Ok elem
 judged_place_step at (Place-F.Place::Variant place number) = do
   t ← place
-  there 33 (variant_type t number)
+  there form.Place (variant_type t number)
 
 -- the same of a value
-abbrev pub judged_value_step : Surroundings → Value-F (Result Ty ℕ) (Result Ty ℕ) → Result Ty ℕ
+abbrev pub judged_value_step : Surroundings → Value-F (Result Ty Rule) (Result Ty Rule) → Result Ty Rule
 judged_value_step at (Value-F.Int int number) = do
-  _ ← kept 35 (is_fitting int number)
+  _ ← kept form.ConstRange (is_fitting int number)
   Ok (ty.Int int)
 judged_value_step at Value-F.True = Ok ty.Bool
 judged_value_step at Value-F.False = Ok ty.Bool
 judged_value_step at (Value-F.Raw address) = Ok ty.Raw
 judged_value_step at (Value-F.Fn f) = Ok ty.FnPtr
 judged_value_step at (Value-F.Global g offset) = do
-  _ ← kept 43 (is_in_global at.sizes g.0 offset)
+  _ ← kept form.GlobalRef (is_in_global at.sizes g.0 offset)
   Ok ty.Raw
 judged_value_step at (Value-F.Tuple t values) = do
   _ ← sound_type t
   types ← all_judged values
-  _ ← kept 46 (fits_parts t types)
+  _ ← kept form.Aggregate (fits_parts t types)
   Ok t
 judged_value_step at (Value-F.Union t field value) = do
   _ ← sound_type t
   content ← value
-  _ ← kept 46 (fits_union t field content)
+  _ ← kept form.Aggregate (fits_union t field content)
   Ok t
 judged_value_step at (Value-F.Value::Variant t number value) = do
   _ ← sound_type t
   content ← value
-  _ ← kept 46 (fits_variant t number content)
+  _ ← kept form.Aggregate (fits_variant t number content)
   Ok t
 judged_value_step at (Value-F.Load place) = place
 judged_value_step at (Value-F.Disc place) = do
   t ← place
-  there 37 (discriminant_type t)
+  there form.Discriminant (discriminant_type t)
 judged_value_step at (Value-F.AddrOf t place) = do
   _ ← sound_type t
   _ ← place
-  _ ← kept 47 (is_raw t || is_ref t)
+  _ ← kept form.Cast (is_raw t || is_ref t)
   Ok t
 judged_value_step at (Value-F.Cast int value) = do
   t ← value
-  _ ← kept 47 (is_scalar_number t)
+  _ ← kept form.Cast (is_scalar_number t)
   Ok (ty.Int int)
 judged_value_step at (Value-F.Transmute t value) = do
   _ ← sound_type t
   from ← value
-  _ ← kept 47 (same_size t from)
+  _ ← kept form.Cast (same_size t from)
   Ok t
 judged_value_step at (Value-F.Unary operator value) = do
   t ← value
-  _ ← kept 34 (fits_unary operator t)
+  _ ← kept form.Operand (fits_unary operator t)
   Ok t
 judged_value_step at (Value-F.Binary operator left right) = do
   l ← left
   r ← right
-  _ ← kept 34 (fits_binary operator l r)
-  there 34 (result_type operator l)
+  _ ← kept form.Operand (fits_binary operator l r)
+  there form.Operand (result_type operator l)
 
 -- the type of a place, or the first broken rule
-unfoldable pub judged_place : Surroundings → Place → Result Ty ℕ
-judged_place at = fold-Place (Result Ty ℕ) (Result Ty ℕ) (judged_place_step at) (judged_value_step at)
+unfoldable pub judged_place : Surroundings → Place → Result Ty Rule
+judged_place at = fold-Place (Result Ty Rule) (Result Ty Rule) (judged_place_step at) (judged_value_step at)
 
 -- the same of a value
-unfoldable pub judged_value : Surroundings → Value → Result Ty ℕ
-judged_value at = fold-Value (Result Ty ℕ) (Result Ty ℕ) (judged_place_step at) (judged_value_step at)
+unfoldable pub judged_value : Surroundings → Value → Result Ty Rule
+judged_value at = fold-Value (Result Ty Rule) (Result Ty Rule) (judged_place_step at) (judged_value_step at)
 
 -- the types of some values
-abbrev pub judged_values : Surroundings → List Value → Result (List Ty) ℕ
+abbrev pub judged_values : Surroundings → List Value → Result (List Ty) Rule
 judged_values at [] = Ok []
 judged_values at (v ∷ vs) = do
   t ← judged_value at v

@@ -1,6 +1,9 @@
 -- The walk over statements, terminators and blocks, computed: the first broken rule, if there is one.
 use Rattle.std.specs.Prelude.{ℕ, suc, ◌≤◌, ◌^◌, All, not, if◌then◌else◌, List, [], ◌∷◌, length, Option, None, Some}
 use Rattle.std.specs.Prelude.{Result, Ok, Err, is_some}
+use Rattle.mr_ast.specs.FormRules.{code_of}
+use Rattle.mr_ast.specs.declared.rule.Rule.{Rule}
+use Rattle.mr_ast.specs.declared.rule.Rule.TheVariants as form
 use Rattle.mr_ast.specs.declared.types.Ty.{Ty}
 use Rattle.mr_ast.specs.declared.expr.Place.{Place}
 use Rattle.mr_ast.specs.declared.expr.Value.{Value}
@@ -30,23 +33,23 @@ use Rattle.mr_wf.specs.Judging.{◌>>=◌, judged_place, judged_value, judged_va
 use Rattle.mr_wf.specs.Walk.{are_arguments, begins_regular, is_global_form, is_main_form, is_target}
 
 abbrev pub Judged : Type 0
-Judged = Result (Unit {0}) ℕ
+Judged = Result (Unit {0}) Rule
 
 -- ---- statements
 
 abbrev pub judged_stmt : Function → Surroundings → Stmt → Judged
-judged_stmt f at (stmt.Live x) = kept 38 (not (is_kept f x))
-judged_stmt f at (stmt.Dead x) = kept 38 (not (is_kept f x))
+judged_stmt f at (stmt.Live x) = kept form.LiveLocal (not (is_kept f x))
+judged_stmt f at (stmt.Dead x) = kept form.LiveLocal (not (is_kept f x))
 judged_stmt f at (stmt.Assign place value) = do
   t ← judged_place at place
   u ← judged_value at value
-  kept 36 (same_type t u)
+  kept form.Assign (same_type t u)
 judged_stmt f at (stmt.Mention place) = do
   _ ← judged_place at place
   Ok tt
 judged_stmt f at (stmt.Disc place number) = do
   t ← judged_place at place
-  kept 37 (is_some (variant_type t number))
+  kept form.Discriminant (is_some (variant_type t number))
 judged_stmt f at (stmt.Deinit place) = do
   _ ← judged_place at place
   Ok tt
@@ -57,7 +60,7 @@ judged_stmt f at (stmt.Validate place) = do
 -- ---- terminators
 
 -- the type of the place of a result
-abbrev pub judged_result : Surroundings → Option Place → Result (Option Ty) ℕ
+abbrev pub judged_result : Surroundings → Option Place → Result (Option Ty) Rule
 judged_result at None = Ok None
 judged_result at (Some place) = do
   t ← judged_place at place
@@ -68,21 +71,21 @@ judged_call at callee args place = do
   t ← judged_value at callee
   _ ← judged_values at args
   _ ← judged_place at place
-  kept 40 (is_fn_ptr t)
+  kept form.Callee (is_fn_ptr t)
 
 abbrev pub judged_intrinsic : Surroundings → Intrinsic → List Value → Option Place → Judged
 judged_intrinsic at op args place = do
   types ← judged_values at args
   result ← judged_result at place
-  kept 41 (fits_intrinsic op types result)
+  kept form.Intrinsic (fits_intrinsic op types result)
 
 abbrev pub judged_parts : Surroundings → Term → Judged
 judged_parts at (term.Switch value cases other) = do
   t ← judged_value at value
-  kept 39 (fits_switch cases t)
+  kept form.Switch (fits_switch cases t)
 judged_parts at (term.Unwind payload b) = do
   t ← judged_value at payload
-  kept 42 (is_raw t)
+  kept form.Payload (is_raw t)
 judged_parts at (term.Call callee args place next unwind) = judged_call at callee args place
 judged_parts at (term.Do intrinsic args place next) = judged_intrinsic at intrinsic args place
 judged_parts at _ = Ok tt
@@ -90,7 +93,7 @@ judged_parts at _ = Ok tt
 abbrev pub judged_term : Function → Surroundings → BlockKind → Term → Judged
 judged_term f at k t = do
   _ ← judged_parts at t
-  kept 32 (is_allowed f k t)
+  kept form.BlockKind (is_allowed f k t)
 
 -- ---- positions
 
@@ -105,7 +108,7 @@ abbrev pub ◌then◌ : Walked → Walked → Walked
 -- what is judged at a position
 abbrev pub placed : Item → Option BlockName → ℕ → Judged → Walked
 placed it block place (Ok u) = Ok u
-placed it block place (Err code) = Err (record { item = it; block = block; place = place; code = code })
+placed it block place (Err broken) = Err (record { item = it; block = block; place = place; code = code_of broken })
 
 -- things in a row, numbered from k on
 abbrev pub each_walked : {A : Type 0} → (ℕ → A → Walked) → ℕ → List A → Walked
@@ -118,12 +121,12 @@ each_walked walk k (x ∷ xs) = walk k x then each_walked walk (suc k) xs
 abbrev pub judged_items : List ℕ → List Item_ → Judged
 judged_items sizes [] = Ok tt
 judged_items sizes (i ∷ items) = do
-  _ ← kept 43 (is_target sizes i)
+  _ ← kept form.GlobalRef (is_target sizes i)
   judged_items sizes items
 
 abbrev pub judged_global : List ℕ → Global_ → Judged
 judged_global sizes g = do
-  _ ← kept 44 (is_global_form g)
+  _ ← kept form.GlobalForm (is_global_form g)
   judged_items sizes g.items
 
 abbrev pub walked_stmt : ℕ → Function → Surroundings → ℕ → ℕ → Stmt → Walked
@@ -140,8 +143,8 @@ walked_local n place l = placed (InFunction n) None place (sound_type l.ty)
 -- the arguments, and the first block
 abbrev pub walked_head : ℕ → Function → Walked
 walked_head n f =
-    placed (InFunction n) None 0
-    (kept 30 (are_arguments f.ret f.args)) then placed (InFunction n) None 0 (kept 31 (begins_regular f.blocks))
+    placed (InFunction n) None 0 (kept form.Arguments (are_arguments f.ret f.args))
+    then placed (InFunction n) None 0 (kept form.FirstBlock (begins_regular f.blocks))
 
 abbrev pub walked_function : List ℕ → ℕ → Function → Walked
 walked_function sizes n f =
@@ -157,7 +160,7 @@ abbrev pub walked_with : List ℕ → Program → Walked
 walked_with sizes p =
     each_walked (walked_global sizes) 0 p.globals
     then (each_walked (walked_function sizes) 0 p.functions
-    then placed (InFunction p.start.0) None 0 (kept 45 (is_main_form p)))
+    then placed (InFunction p.start.0) None 0 (kept form.MainForm (is_main_form p)))
 
 -- the first fault of a program, if it has one
 unfoldable pub walked : Program → Walked

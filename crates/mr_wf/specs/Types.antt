@@ -119,11 +119,6 @@ compares binary.Gt = true
 compares binary.Ge = true
 compares _ = false
 
-abbrev pub moves_pointer : BinaryOp → Bool
-moves_pointer binary.Offset = true
-moves_pointer binary.WrappingOffset = true
-moves_pointer _ = false
-
 -- the type of what a binary operator gives, from that of its left operand
 abbrev pub result_type : BinaryOp → Ty → Option Ty
 result_type op left =

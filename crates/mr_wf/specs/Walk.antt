@@ -1,8 +1,11 @@
 -- The faults of a program: each position at which a rule is broken, with its code, in the order of the walk.
 -- A type counts with the first rule that it breaks.
-use Rattle.std.specs.Prelude.{◌≡◌, ℕ, suc, ◌^◌, Bool, true, false, not, ◌&&◌, ◌==◌, nat_le, List, [], ◌∷◌, ◌++◌, map}
+use Rattle.std.specs.Prelude.{◌≡◌, ℕ, suc, Bool, true, false, not, ◌&&◌, ◌==◌, nat_le, List, [], ◌∷◌, ◌++◌, map}
 use Rattle.std.specs.Prelude.{flat_map, length, Option, None, Some, slice_get}
 use Rattle.std.specs.List.{list_any}
+use Rattle.mr_ast.specs.FormRules.{code_of}
+use Rattle.mr_ast.specs.Limits.{max_size}
+use Rattle.mr_ast.specs.declared.rule.Rule.TheVariants as form
 use Rattle.mr_ast.specs.declared.program.LocalName.{LocalName}
 use Rattle.mr_ast.specs.declared.program.BlockName.{BlockName}
 use Rattle.mr_ast.specs.declared.program.BlockKind.TheVariants.{Regular}
@@ -21,13 +24,14 @@ use Rattle.mr_wf.specs.declared.fault.FormFault.{FormFault}
 use Rattle.mr_wf.specs.declared.fault.Item.{Item}
 use Rattle.mr_wf.specs.declared.fault.Item.TheVariants.{Static, Function as InFunction}
 use Rattle.mr_wf.specs.Blocks.{broken_in_stmt, broken_in_term, same_kind}
-use Rattle.mr_wf.specs.Broken.{Codes, Surroundings, is_in_global, items_size, of_type, rule, sizes_of, surroundings}
+use Rattle.mr_wf.specs.Broken.{Rules, Surroundings, is_in_global, items_size, of_type, rule, sizes_of, surroundings}
 
 -- ---- positions
 
 -- broken rules at one position
-abbrev pub at_position : Item → Option BlockName → ℕ → Codes → List FormFault
-at_position it block place codes = map (λ code. record { item = it; block = block; place = place; code = code }) codes
+abbrev pub at_position : Item → Option BlockName → ℕ → Rules → List FormFault
+at_position it block place rules =
+    map (λ broken. record { item = it; block = block; place = place; code = code_of broken }) rules
 
 -- the faults of things in a row, numbered from k on
 abbrev pub each_at : {A : Type 0} → (ℕ → A → List FormFault) → ℕ → List A → List FormFault
@@ -45,11 +49,12 @@ is_target sizes (item.Reloc (target.Function f) offset) = offset == 0
 
 -- a global has at most 2^20 bytes and a lawful alignment
 abbrev pub is_global_form : Global_ → Bool
-is_global_form g = nat_le (items_size g.items) (2 ^ 20) && is_align g.align
+is_global_form g = nat_le (items_size g.items) max_size && is_align g.align
 
 -- the rules that a global breaks: its form, then each of its pointers
-abbrev pub broken_in_global : List ℕ → Global_ → Codes
-broken_in_global sizes g = rule 44 (is_global_form g) ++ flat_map (λ i. rule 43 (is_target sizes i)) g.items
+abbrev pub broken_in_global : List ℕ → Global_ → Rules
+broken_in_global sizes g =
+    rule form.GlobalForm (is_global_form g) ++ flat_map (λ i. rule form.GlobalRef (is_target sizes i)) g.items
 
 -- ---- functions
 
@@ -83,8 +88,8 @@ faults_in_local n place l = at_position (InFunction n) None place (of_type l.ty)
 abbrev pub faults_in_function : Program → ℕ → Function → List FormFault
 faults_in_function p n f =
     each_at (faults_in_local n) 0 f.locals
-    ++ at_position (InFunction n) None 0 (rule 30 (are_arguments f.ret f.args))
-    ++ at_position (InFunction n) None 0 (rule 31 (begins_regular f.blocks))
+    ++ at_position (InFunction n) None 0 (rule form.Arguments (are_arguments f.ret f.args))
+    ++ at_position (InFunction n) None 0 (rule form.FirstBlock (begins_regular f.blocks))
     ++ each_at (faults_in_block n f (surroundings p f)) 0 f.blocks
 
 -- ---- programs
@@ -103,7 +108,7 @@ unfoldable pub faults_of : Program → List FormFault
 faults_of p =
     each_at (faults_in_global p) 0 p.globals
     ++ each_at (faults_in_function p) 0 p.functions
-    ++ at_position (InFunction p.start.0) None 0 (rule 45 (is_main_form p))
+    ++ at_position (InFunction p.start.0) None 0 (rule form.MainForm (is_main_form p))
 
 -- the first broken rule of the walk
 abbrev pub FirstBroken : Program → FormFault → Type 0

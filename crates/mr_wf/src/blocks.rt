@@ -13,7 +13,8 @@ use crate::known::Known;
 use crate::parts::variant;
 use crate::seen::Seen;
 use mr_ast::{
-    BlockKind, BlockName, Function, IntType, Intrinsic, LocalName, Num, Place, Stmt, Term, Value,
+    BlockKind, BlockName, Function, IntType, Intrinsic, LocalName, Num, Place, Rule, Stmt, Term,
+    Value,
 };
 use mr_layout::{is_case, is_fitting};
 use std::alloc::Global;
@@ -47,15 +48,15 @@ pub fn judged_stmt(
     ensures { Gives (λ u. u) result (judged_stmt f.now (surroundings_of at.entry) stmt.now) }
 {
     match stmt {
-        Stmt::Live(x) | Stmt::Dead(x) => kept(38, !is_kept(f, *x)),
+        Stmt::Live(x) | Stmt::Dead(x) => kept(Rule::LiveLocal, !is_kept(f, *x)),
         Stmt::Assign(place, value) => {
             let t = judged_place(alloc, at, place)?;
             let u = judged_value(alloc, at, value)?;
-            kept(36, Known::Written(t).same(u))
+            kept(Rule::Assign, Known::Written(t).same(u))
         }
         Stmt::Disc(place, number) => {
             let t = judged_place(alloc, at, place)?;
-            kept(37, variant(t, *number).is_some())
+            kept(Rule::Discriminant, variant(t, *number).is_some())
         }
         Stmt::Mention(place) | Stmt::Deinit(place) | Stmt::Validate(place) => {
             judged_place(alloc, at, place)?;
@@ -203,7 +204,7 @@ fn judged_call(
     let t = judged_value(alloc, at, callee)?;
     judged_values(alloc, at, args)?;
     judged_place(alloc, at, place)?;
-    kept(40, t.is_fn_ptr())
+    kept(Rule::Callee, t.is_fn_ptr())
 }
 
 fn judged_intrinsic(
@@ -217,7 +218,7 @@ fn judged_intrinsic(
 {
     let types = judged_values(alloc, at, args)?;
     let given = judged_result(alloc, at, place)?;
-    kept(41, fits_intrinsic(op, types.as_slice(), given))
+    kept(Rule::Intrinsic, fits_intrinsic(op, types.as_slice(), given))
 }
 
 // The first rule that a terminator breaks beside that of kinds.
@@ -227,11 +228,11 @@ fn judged_parts(alloc: Global, at: Surroundings<'_>, term: &Term) -> Result<(), 
     match term {
         Term::Switch(value, cases, _) => {
             let t = judged_value(alloc, at, value)?;
-            kept(39, fits_switch(alloc, cases.as_slice(), t)?)
+            kept(Rule::Switch, fits_switch(alloc, cases.as_slice(), t)?)
         }
         Term::Unwind(payload, _) => {
             let t = judged_value(alloc, at, payload)?;
-            kept(42, t.is_raw())
+            kept(Rule::Payload, t.is_raw())
         }
         Term::Call(callee, args, place, _, _) => {
             judged_call(alloc, at, callee, args.as_slice(), place)
@@ -252,5 +253,5 @@ pub fn judged_term(
     ensures { Gives (λ u. u) result (judged_term f.now (surroundings_of at.entry) kind term.now) }
 {
     judged_parts(alloc, at, term)?;
-    kept(32, is_allowed(f, kind, term))
+    kept(Rule::BlockKind, is_allowed(f, kind, term))
 }

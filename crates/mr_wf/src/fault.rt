@@ -1,5 +1,5 @@
 //! What breaks a rule, and where; and why a walk stops.
-use mr_ast::{BlockName, Program};
+use mr_ast::{BlockName, Program, Rule};
 use std::alloc::{AllocError, AllocFailed};
 
 /// What a broken rule stands in: the global or the function of this position.
@@ -33,8 +33,8 @@ pub enum WfFault {
 /// Why an expression, a statement or a terminator was not judged.
 #[derive(Clone, Copy, Debug, PartialEq, Eq)]
 pub enum Broken {
-    /// The code of the first broken rule.
-    Rule(u8),
+    /// The first broken rule.
+    Rule(Rule),
     /// Memory ran out.
     Memory,
 }

@@ -7,12 +7,9 @@ ghost use Rattle.mr_wf.specs.Walk.{is_global_form, is_target};
 
 use crate::fault::Broken;
 use crate::judging::kept;
-use mr_ast::{Global_, GlobalName, Item_, OutOfMemory, Target};
+use mr_ast::{Global_, GlobalName, Item_, MAX_SIZE, OutOfMemory, Rule, Target};
 use mr_layout::is_align;
 use std::alloc::Global;
-
-/// How many bytes a global may have.
-const MAX_GLOBAL: u128 = 1 << 20;
 
 fn item_size(item: &Item_) -> u32
     ensures { result ≡ item_size item.now }
@@ -69,7 +66,7 @@ fn is_target(sizes: &[u128], item: &Item_) -> bool
 fn is_global_form(g: &Global_) -> bool
     ensures { result ≡ is_global_form g.now }
 {
-    items_size(g.items.as_slice()) <= MAX_GLOBAL && is_align(g.align)
+    items_size(g.items.as_slice()) <= u128::from(MAX_SIZE) && is_align(g.align)
 }
 
 fn judged_items(sizes: &[u128], items: &[Item_]) -> Result<(), Broken>
@@ -77,7 +74,7 @@ fn judged_items(sizes: &[u128], items: &[Item_]) -> Result<(), Broken>
 {
     for item in items {
         if !is_target(sizes, item) {
-            return Err(Broken::Rule(43));
+            return Err(Broken::Rule(Rule::GlobalRef));
         }
     }
     Ok(())
@@ -87,6 +84,6 @@ fn judged_items(sizes: &[u128], items: &[Item_]) -> Result<(), Broken>
 pub fn judged_global(sizes: &[u128], g: &Global_) -> Result<(), Broken>
     ensures { Gives (λ u. u) result (judged_global sizes.now g.now) }
 {
-    kept(44, is_global_form(g))?;
+    kept(Rule::GlobalForm, is_global_form(g))?;
     judged_items(sizes, g.items.as_slice())
 }

@@ -49,7 +49,8 @@ fn are_printed(args: &[Known<'_>]) -> bool
 
 // A pointer to an atomic integer, and an operand of that type, which is given back.
 fn fits_fetch(pointer: Known<'_>, by: Known<'_>, place: Option<Known<'_>>) -> bool
-    ensures { result ≡ (is_raw (ty_of pointer.entry) && (is_atomic (ty_of by.entry) && gives (ty_of by.entry) (option_map ty_of place.entry))) }
+    ensures { result ≡ (is_raw (ty_of pointer.entry)
+        && (is_atomic (ty_of by.entry) && gives (ty_of by.entry) (option_map ty_of place.entry))) }
 {
     pointer.is_raw() && is_atomic(by) && gives(by, place)
 }
@@ -100,7 +101,8 @@ fn fits_three(
     c: Known<'_>,
     place: Option<Known<'_>>,
 ) -> bool
-    ensures { result ≡ fits_intrinsic op (ty_of a.entry ∷ ty_of b.entry ∷ ty_of c.entry ∷ []) (option_map ty_of place.entry) }
+    ensures { result
+        ≡ fits_intrinsic op (ty_of a.entry ∷ ty_of b.entry ∷ ty_of c.entry ∷ []) (option_map ty_of place.entry) }
 {
     match op {
         Intrinsic::Print => {

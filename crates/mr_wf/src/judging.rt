@@ -1,5 +1,6 @@
 //! The types of places and values, or the first rule that is broken in them.
 ghost use Rattle.std.specs.Prelude.{◌≡◌, ◌||◌, map, option_copied, option_map, slice_get};
+ghost use Rattle.mr_ast.specs.declared.rule.Rule.TheVariants as form;
 ghost use Rattle.mr_ast.specs.declared.expr.Place.TheVariants as place;
 ghost use Rattle.mr_ast.specs.declared.expr.Value.TheVariants as value;
 ghost use Rattle.mr_wf.specs.Judging.{judged_place, judged_value, judged_values, kept, sound_type, there};
@@ -12,7 +13,9 @@ use crate::globals::is_in_global;
 use crate::known::Known;
 use crate::operands::{fits_binary, fits_parts, fits_unary, fits_union, fits_variant, same_size};
 use crate::parts::{discriminant, element, field, variant};
-use mr_ast::{BinaryOp, GlobalName, IntType, Local, LocalName, Num, Place, Ty, UnaryOp, Value};
+use mr_ast::{
+    BinaryOp, GlobalName, IntType, Local, LocalName, Num, Place, Rule, Ty, UnaryOp, Value,
+};
 use mr_layout::{first_broken_rule, is_fitting};
 use std::alloc::Global;
 
@@ -23,14 +26,14 @@ pub struct Surroundings<'p> {
     pub locals: &'p [Local],
 }
 
-/// A rule with this code.
-pub fn kept(code: u8, test: bool) -> Result<(), Broken>
-    ensures { Gives (λ u. u) result (kept code test) }
+/// A rule that is kept where a test holds.
+pub fn kept(rule: Rule, test: bool) -> Result<(), Broken>
+    ensures { Gives (λ u. u) result (kept rule test) }
 {
     if test {
         Ok(())
     } else {
-        Err(Broken::Rule(code))
+        Err(Broken::Rule(rule))
     }
 }
 
@@ -39,16 +42,16 @@ pub fn sound_type(alloc: Global, t: &Ty) -> Result<(), Broken>
     ensures { Gives (λ u. u) result (sound_type t.now) }
 {
     match first_broken_rule(alloc, t) {
-        Some(code) => Err(Broken::Rule(code)),
+        Some(rule) => Err(Broken::Rule(rule)),
         None => Ok(()),
     }
 }
 
-// What must be there.
-fn there(code: u8, found: Option<&Ty>) -> Result<&Ty, Broken>
-    ensures { Gives (λ t. t.now) result (there code (option_copied found.entry)) }
+// What must be there, by this rule.
+fn there(rule: Rule, found: Option<&Ty>) -> Result<&Ty, Broken>
+    ensures { Gives (λ t. t.now) result (there rule (option_copied found.entry)) }
 {
-    found.ok_or(Broken::Rule(code))
+    found.ok_or(Broken::Rule(rule))
 }
 
 /// The type of the local of this name.
@@ -72,7 +75,7 @@ pub fn judged_place<'p>(
     ensures { Gives (λ t. t.now) result (judged_place (surroundings_of at.entry) place.now) }
 {
     match place {
-        Place::Local(x) => there(33, local_type(at.locals, *x)),
+        Place::Local(x) => there(Rule::Place, local_type(at.locals, *x)),
         Place::Deref(pointer, ty) => judged_target(alloc, at, pointer.get(), ty),
         Place::Field(whole, number) => judged_field(alloc, at, whole.get(), *number),
         Place::Index(array, index) => {
@@ -81,7 +84,10 @@ pub fn judged_place<'p>(
             element_at(t, i)
         }
         Place::Variant(whole, number) => {
-            there(33, variant(judged_place(alloc, at, whole.get())?, *number))
+            there(
+                Rule::Place,
+                variant(judged_place(alloc, at, whole.get())?, *number),
+            )
         }
     }
 }
@@ -99,7 +105,7 @@ fn judged_target<'p>(
 {
     let t = judged_value(alloc, at, pointer)?;
     sound_type(alloc, ty)?;
-    kept(33, t.is_pointer())?;
+    kept(Rule::Place, t.is_pointer())?;
     Ok(ty)
 }
 
@@ -114,15 +120,15 @@ fn judged_field<'p>(
 ) -> Result<&'p Ty, Broken>
     ensures { Gives (λ t. t.now) result (judged_place (surroundings_of at.entry) (place.Field whole.now number)) }
 {
-    there(33, field(judged_place(alloc, at, whole)?, number))
+    there(Rule::Place, field(judged_place(alloc, at, whole)?, number))
 }
 
 // The type of an element of an array.
 fn element_at<'p>(t: &'p Ty, index: Known<'p>) -> Result<&'p Ty, Broken>
     ensures { Gives (λ t. t.now) result (element_at t.now (ty_of index.entry)) }
 {
-    let elem = there(33, element(t))?;
-    kept(33, index.same(Known::Int(IntType::U64)))?;
+    let elem = there(Rule::Place, element(t))?;
+    kept(Rule::Place, index.same(Known::Int(IntType::U64)))?;
     Ok(elem)
 }
 
@@ -165,7 +171,7 @@ pub fn judged_value<'p>(
 fn judged_number<'p>(at: Surroundings<'p>, int: IntType, number: Num) -> Result<Known<'p>, Broken>
     ensures { Gives ty_of result (judged_value (surroundings_of at.entry) (value.Int int number)) }
 {
-    kept(35, is_fitting(int, number))?;
+    kept(Rule::ConstRange, is_fitting(int, number))?;
     Ok(Known::Int(int))
 }
 
@@ -174,7 +180,7 @@ fn judged_number<'p>(at: Surroundings<'p>, int: IntType, number: Num) -> Result<
 fn judged_pointer<'p>(at: Surroundings<'p>, g: GlobalName, offset: u64) -> Result<Known<'p>, Broken>
     ensures { Gives ty_of result (judged_value (surroundings_of at.entry) (value.Global g offset)) }
 {
-    kept(43, is_in_global(at.sizes, g, offset))?;
+    kept(Rule::GlobalRef, is_in_global(at.sizes, g, offset))?;
     Ok(Known::Raw)
 }
 
@@ -206,11 +212,11 @@ fn judged_discriminant<'p>(
 
 // The type of the discriminant of an enum.
 fn discriminant_of<'p>(t: &Ty) -> Result<Known<'p>, Broken>
-    ensures { Gives ty_of result (there 37 (discriminant_type t.now)) }
+    ensures { Gives ty_of result (there form.Discriminant (discriminant_type t.now)) }
 {
     match discriminant(t) {
         Some(int) => Ok(Known::Int(int)),
-        None => Err(Broken::Rule(37)),
+        None => Err(Broken::Rule(Rule::Discriminant)),
     }
 }
 
@@ -226,7 +232,7 @@ fn judged_cast<'p>(
     ensures { Gives ty_of result (judged_value (surroundings_of at.entry) (value.Cast int operand.now)) }
 {
     let t = judged_value(alloc, at, operand)?;
-    kept(47, t.is_scalar_number())?;
+    kept(Rule::Cast, t.is_scalar_number())?;
     Ok(Known::Int(int))
 }
 
@@ -242,7 +248,7 @@ fn judged_unary<'p>(
     ensures { Gives ty_of result (judged_value (surroundings_of at.entry) (value.Unary op operand.now)) }
 {
     let t = judged_value(alloc, at, operand)?;
-    kept(34, fits_unary(op, t))?;
+    kept(Rule::Operand, fits_unary(op, t))?;
     Ok(t)
 }
 
@@ -250,7 +256,7 @@ fn judged_unary<'p>(
 fn operated<'p>(op: BinaryOp, left: Known<'p>, right: Known<'p>) -> Result<Known<'p>, Broken>
     ensures { Gives ty_of result (operated op (ty_of left.entry) (ty_of right.entry)) }
 {
-    kept(34, fits_binary(op, left, right))?;
+    kept(Rule::Operand, fits_binary(op, left, right))?;
     result_type(op, left)
 }
 
@@ -267,7 +273,7 @@ fn judged_tuple<'p>(
 {
     sound_type(alloc, ty)?;
     let types = judged_values(alloc, at, values)?;
-    kept(46, fits_parts(ty, types.as_slice()))?;
+    kept(Rule::Aggregate, fits_parts(ty, types.as_slice()))?;
     Ok(Known::Written(ty))
 }
 
@@ -285,7 +291,7 @@ fn judged_union<'p>(
 {
     sound_type(alloc, ty)?;
     let t = judged_value(alloc, at, content)?;
-    kept(46, fits_union(ty, number, t))?;
+    kept(Rule::Aggregate, fits_union(ty, number, t))?;
     Ok(Known::Written(ty))
 }
 
@@ -303,7 +309,7 @@ fn judged_variant<'p>(
 {
     sound_type(alloc, ty)?;
     let t = judged_value(alloc, at, content)?;
-    kept(46, fits_variant(ty, number, t))?;
+    kept(Rule::Aggregate, fits_variant(ty, number, t))?;
     Ok(Known::Written(ty))
 }
 
@@ -320,7 +326,7 @@ fn judged_address<'p>(
 {
     sound_type(alloc, ty)?;
     judged_place(alloc, at, place)?;
-    kept(47, is_address(ty))?;
+    kept(Rule::Cast, is_address(ty))?;
     Ok(Known::Written(ty))
 }
 
@@ -337,7 +343,7 @@ fn judged_transmute<'p>(
 {
     sound_type(alloc, ty)?;
     let t = judged_value(alloc, at, operand)?;
-    kept(47, same_size(ty, t))?;
+    kept(Rule::Cast, same_size(ty, t))?;
     Ok(Known::Written(ty))
 }
 
@@ -367,10 +373,10 @@ pub fn judged_values<'p>(
 
 // What an operator gives, from its left operand.
 fn result_type<'p>(op: BinaryOp, left: Known<'p>) -> Result<Known<'p>, Broken>
-    ensures { Gives ty_of result (there 34 (result_type op (ty_of left.entry))) }
+    ensures { Gives ty_of result (there form.Operand (result_type op (ty_of left.entry))) }
 {
     match left.under(op) {
         Some(t) => Ok(t),
-        None => Err(Broken::Rule(34)),
+        None => Err(Broken::Rule(Rule::Operand)),
     }
 }

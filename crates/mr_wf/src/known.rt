@@ -112,7 +112,8 @@ impl<'p> Known<'p> {
     /// How many bytes it has, where those are below 2^63.
     #[tactic(auto, using(mr_layout::proofs::SizeLaws::size_laws, crate::proofs::KnownSizes::known_sizes))]
     pub fn size(self) -> Option<u64>
-        ensures { result ≡ (if nat_lt (size_of (ty_of self.entry)) (2 ^ 63) then Some (size_of (ty_of self.entry)) else None) }
+        ensures { result
+            ≡ (if nat_lt (size_of (ty_of self.entry)) (2 ^ 63) then Some (size_of (ty_of self.entry)) else None) }
     {
         match self {
             Known::Written(t) => size(t),

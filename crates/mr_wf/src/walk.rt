@@ -12,7 +12,9 @@ use crate::blocks::{is_among, judged_stmt, judged_term};
 use crate::fault::{Broken, FormFault, Item, Stopped};
 use crate::globals::{judged_global, sizes_of};
 use crate::judging::{Surroundings, kept, sound_type};
-use mr_ast::{Block, BlockKind, BlockName, Function, Global_, Local, LocalName, Program, Stmt};
+use mr_ast::{
+    Block, BlockKind, BlockName, Function, Global_, Local, LocalName, Program, Rule, Stmt,
+};
 use std::alloc::Global;
 
 // What is judged at a position.
@@ -26,21 +28,21 @@ fn placed(
 {
     match judged {
         Ok(()) => Ok(()),
-        Err(Broken::Rule(code)) => Err(Stopped::At(FormFault {
+        Err(Broken::Rule(rule)) => Err(Stopped::At(FormFault {
             item,
             block,
             place,
-            code,
+            code: rule.code(),
         })),
         Err(Broken::Memory) => Err(Stopped::Memory),
     }
 }
 
 // A rule of a whole function or program.
-fn kept_at(item: Item, code: u8, test: bool) -> Result<(), Stopped>
-    ensures { Walks result (placed item None 0 (kept code test)) }
+fn kept_at(item: Item, rule: Rule, test: bool) -> Result<(), Stopped>
+    ensures { Walks result (placed item None 0 (kept rule test)) }
 {
-    placed(item, None, 0, kept(code, test))
+    placed(item, None, 0, kept(rule, test))
 }
 
 // Global n.
@@ -116,7 +118,8 @@ fn walked_stmt(
     place: u32,
     stmt: &Stmt,
 ) -> Result<(), Stopped>
-    ensures { Walks result (walked_stmt inside.entry.n inside.entry.function.now (surroundings_of inside.entry.at) k place stmt.now) }
+    ensures { Walks result
+        (walked_stmt inside.entry.n inside.entry.function.now (surroundings_of inside.entry.at) k place stmt.now) }
 {
     let judged = judged_stmt(alloc, inside.function, inside.at, stmt);
     placed(Item::Function(inside.n), Some(BlockName(k)), place, judged)
@@ -125,7 +128,9 @@ fn walked_stmt(
 // The statements of block k.
 fn walked_stmts(alloc: Global, inside: Inside<'_>, k: u32, stmts: &[Stmt]) -> Result<(), Stopped>
     requires { length stmts.now ≤ 2 ^ 20 }
-    ensures { Walks result (each_walked (walked_stmt inside.entry.n inside.entry.function.now (surroundings_of inside.entry.at) k) 0 stmts.now) }
+    ensures { Walks result
+        (each_walked (walked_stmt inside.entry.n inside.entry.function.now (surroundings_of inside.entry.at) k)
+        0 stmts.now) }
 {
     for (place, stmt) in stmts.iter().enumerate() {
         walked_stmt(alloc, inside, k, place as u32, stmt)?;
@@ -136,7 +141,8 @@ fn walked_stmts(alloc: Global, inside: Inside<'_>, k: u32, stmts: &[Stmt]) -> Re
 // The terminator of block k.
 fn walked_term(alloc: Global, inside: Inside<'_>, k: u32, block: &Block) -> Result<(), Stopped>
     requires { length block.now.stmts ≤ 2 ^ 20 }
-    ensures { Walks result (placed (InFunction inside.entry.n) (Some (record { 0 = k })) (length block.now.stmts) (judged_term inside.entry.function.now (surroundings_of inside.entry.at) block.now.kind block.now.term)) }
+    ensures { Walks result (placed (InFunction inside.entry.n) (Some (record { 0 = k })) (length block.now.stmts)
+        (judged_term inside.entry.function.now (surroundings_of inside.entry.at) block.now.kind block.now.term)) }
 {
     let judged = judged_term(alloc, inside.function, inside.at, block.kind, &block.term);
     let place = block.stmts.len() as u32;
@@ -146,7 +152,8 @@ fn walked_term(alloc: Global, inside: Inside<'_>, k: u32, block: &Block) -> Resu
 // Block k.
 fn walked_block(alloc: Global, inside: Inside<'_>, k: u32, block: &Block) -> Result<(), Stopped>
     requires { length block.now.stmts ≤ 2 ^ 20 }
-    ensures { Walks result (walked_block inside.entry.n inside.entry.function.now (surroundings_of inside.entry.at) k block.now) }
+    ensures { Walks result
+        (walked_block inside.entry.n inside.entry.function.now (surroundings_of inside.entry.at) k block.now) }
 {
     walked_stmts(alloc, inside, k, block.stmts.as_slice())?;
     walked_term(alloc, inside, k, block)
@@ -155,7 +162,9 @@ fn walked_block(alloc: Global, inside: Inside<'_>, k: u32, block: &Block) -> Res
 fn walked_blocks(alloc: Global, inside: Inside<'_>, blocks: &[Block]) -> Result<(), Stopped>
     requires few { length blocks.now ≤ 2 ^ 20 }
     requires short { All (λ (b : Block). length b.stmts ≤ 2 ^ 20) blocks.now }
-    ensures { Walks result (each_walked (walked_block inside.entry.n inside.entry.function.now (surroundings_of inside.entry.at)) 0 blocks.now) }
+    ensures { Walks result
+        (each_walked (walked_block inside.entry.n inside.entry.function.now (surroundings_of inside.entry.at))
+        0 blocks.now) }
 {
     for (k, block) in blocks.iter().enumerate() {
         walked_block(alloc, inside, k as u32, block)?;
@@ -168,10 +177,10 @@ fn walked_head(n: u32, function: &Function) -> Result<(), Stopped>
     ensures { Walks result (walked_head n function.now) }
 {
     let arguments = are_arguments(function.ret, function.args.as_slice());
-    kept_at(Item::Function(n), 30, arguments)?;
+    kept_at(Item::Function(n), Rule::Arguments, arguments)?;
     kept_at(
         Item::Function(n),
-        31,
+        Rule::FirstBlock,
         begins_regular(function.blocks.as_slice()),
     )
 }
@@ -232,7 +241,7 @@ fn walked_with(alloc: Global, sizes: &[u128], p: &Program) -> Result<(), Stopped
 {
     walked_globals(sizes, p.globals.as_slice())?;
     walked_functions(alloc, sizes, p.functions.as_slice())?;
-    kept_at(Item::Function(p.start.0), 45, is_main_form(p))
+    kept_at(Item::Function(p.start.0), Rule::MainForm, is_main_form(p))
 }
 
 /// The walk over a program, up to the first broken rule.

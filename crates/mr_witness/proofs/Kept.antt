@@ -2,7 +2,7 @@
 use Rattle.std.proofs.Common.{◌≡◌, ℕ, refl, ◌∙◌, ap, subst, List, ◌∷◌, map}
 use Rattle.mr_ast.specs.declared.program.Program.{Program}
 use Rattle.mr_base.specs.declared.reason.Verdict.TheVariants as verdict
-use Rattle.mr_event.specs.declared.footprint.Footprint.{Footprint}
+use Rattle.mr_event.specs.Footprint.{Footprint}
 use Rattle.mr_event.specs.declared.footprint.Pair.{Pair}
 use Rattle.mr_event.specs.Kept.{kept}
 use Rattle.mr_event.specs.Order.{step_at}
@@ -18,7 +18,7 @@ use Rattle.mr_thread.specs.Steps.{Own, thread_step}
 use Rattle.mr_start.specs.Start.{Legal, look_of, run_of, start_config, steps_of}
 use Rattle.mr_start.proofs.StartSound.{start_look, start_sound}
 use Rattle.mr_swap.specs.Swap.{IsSane, SwapLaw}
-use Rattle.mr_tracks.proofs.Sane.{sound_is_sane}
+use Rattle.mr_tells.proofs.Sane.{sound_is_sane}
 use Rattle.mr_exchange.proofs.Exchanged.{NotesThread}
 use Rattle.mr_exchange.proofs.Law.{law_of, thread_noted}
 use Rattle.mr_exchange.specs.Witness.{IsWitness, kept_schedule, schedule_at}

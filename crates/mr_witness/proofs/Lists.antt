@@ -2,7 +2,7 @@
 use Rattle.std.proofs.Common.{◌≡◌, ℕ, suc, zero, ◌+◌, ◌-◌, ◌≤◌, refl, sym, ◌∙◌, ap, arith, List, [], ◌∷◌, ◌++◌, map, length, get_or, Bool, true, false, inl, inr, append_assoc, length-append}
 use Rattle.std.specs.List.{filter, range_with_len}
 use Rattle.std.proofs.lemmas.Bool.{cases_Bool}
-use Rattle.mr_event.specs.declared.footprint.Footprint.{Footprint}
+use Rattle.mr_event.specs.Footprint.{Footprint}
 use Rattle.mr_sched.specs.declared.schedule.Entry.{Entry}
 use Rattle.mr_plan.specs.Machine.{Bare, Completed, IllFormedStep, Language, State, Stops, bare}
 use Rattle.mr_plan.specs.Runs.{AreLegal, Config, after, feet, foot_from, foot_of_bare, machine_step}

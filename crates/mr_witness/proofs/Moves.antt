@@ -2,7 +2,7 @@
 use Rattle.std.proofs.Common.{◌≡◌, ◌≢◌, ℕ, refl, sym, ◌∙◌, ap, subst, List, [], ◌∷◌, false}
 use Rattle.std.specs.Prelude.{None}
 use Rattle.mr_ast.specs.declared.program.Program.{Program}
-use Rattle.mr_event.specs.declared.footprint.Footprint.{Footprint}
+use Rattle.mr_event.specs.Footprint.{Footprint}
 use Rattle.mr_event.specs.Footprints.{depends, wakes}
 use Rattle.mr_event.specs.Order.{step_at, thread_at}
 use Rattle.mr_order.specs.Trace.{AreIndependent, Machine, Runs}

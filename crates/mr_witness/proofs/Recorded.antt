@@ -1,14 +1,14 @@
 -- The recorded run of legal entries, as moves.
-use Rattle.std.proofs.Common.{◌≡◌, ℕ, suc, zero, ◌+◌, ◌<◌, ◌≤◌, refl, sym, ◌∙◌, ap, subst, arith, List, [], ◌∷◌, ◌++◌, length, Bool, true, false, Option, Some, None, add-zero}
+use Rattle.std.proofs.Common.{◌≡◌, ℕ, suc, zero, ◌+◌, ◌<◌, ◌≤◌, refl, ◌∙◌, ap, subst, arith, List, [], ◌∷◌, ◌++◌, length, Bool, true, false, Option, Some, None, add-zero}
 use Rattle.std.specs.List.{range_with_len}
 use Rattle.std.specs.Prelude.{slice_index_or, if◌then◌else◌}
 use Rattle.mr_base.specs.declared.reason.Verdict.{Verdict}
-use Rattle.mr_event.specs.declared.footprint.Footprint.{Footprint}
+use Rattle.mr_event.specs.Footprint.{Footprint}
 use Rattle.mr_event.specs.Order.{no_step, step_at}
 use Rattle.mr_order.specs.Trace.{Runs}
 use Rattle.mr_sched.specs.declared.schedule.Entry.{Entry}
 use Rattle.mr_wf.specs.Walk.{WellFormed}
-use Rattle.mr_plan.specs.Legal.{Fault, fault, state_fault}
+use Rattle.mr_plan.specs.Legal.{fault, state_fault}
 use Rattle.mr_plan.specs.Machine.{Bare, Completed, IllFormedStep, Language, State, Stops, bare}
 use Rattle.mr_plan.specs.Runs.{AreLegal, Config, Printed, after_bare, entry_fault, fault_in, feet, foot_of_bare, is_running, machine_step}
 use Rattle.mr_frame.specs.Fits.{IsLook}
@@ -17,8 +17,9 @@ use Rattle.mr_thread.specs.SoundState.{SoundState}
 use Rattle.mr_thread.specs.Steps.{Own, thread_step}
 use Rattle.mr_swap.specs.Swap.{IsSane, SwapLaw}
 use Rattle.mr_exchange.proofs.Exchanged.{NotesThread, sound_then}
-use Rattle.mr_exchange.specs.Witness.{entry_at, no_entry}
+use Rattle.mr_exchange.specs.Witness.{entry_at}
 use Rattle.mr_witness.proofs.Moves.{Kept, Takes, machine}
+use Rattle.mr_sched.specs.declared.rule.ScheduleRule.TheVariants as rule
 
 -- a machine that has a state
 abbrev pub config : {L : Type 0} → State L → List Printed → Option Footprint → ℕ → Verdict → Config L
@@ -29,7 +30,7 @@ pub legal_here : {L : Type 0} (step : Language L) (s : State L) (output : List P
 unfolding entry_fault
 legal_here step s output last completed v e h = by_running (is_running v) h
   where
-    by_running : (b : Bool) → (if b then fault_in step e.thread e.picks (Some s) else fault 66) ≡ None → state_fault step s e.thread e.picks ≡ None
+    by_running : (b : Bool) → (if b then fault_in step e.thread e.picks (Some s) else fault rule.AfterStop) ≡ None → state_fault step s e.thread e.picks ≡ None
     by_running true k = k
     by_running false k = absurd (cc)
 
@@ -37,13 +38,13 @@ legal_here step s output last completed v e h = by_running (is_running v) h
 pub none_legal : {L : Type 0} (step : Language L) (c : Config L) (es : List Entry) → c.state ≡ None → AreLegal step c es → es ≡ []
 unfolding entry_fault
 none_legal step c [] e h = refl
-none_legal step c (x ∷ es) e h = absurd (by_running (is_running c.verdict) (subst (λ o. (if is_running c.verdict then fault_in step x.thread x.picks o else fault 66) ≡ None) e h.0))
+none_legal step c (x ∷ es) e h = absurd (by_running (is_running c.verdict) (subst (λ o. (if is_running c.verdict then fault_in step x.thread x.picks o else fault rule.AfterStop) ≡ None) e h.0))
   where
-    by_running : (b : Bool) → (if b then fault 66 else fault 66) ≡ None → ⊥
+    by_running : (b : Bool) → (if b then fault rule.AfterStop else fault rule.AfterStop) ≡ None → ⊥
     by_running true k = cc
     by_running false k = cc
 
-none_feet : {L : Type 0} (step : Language L) (c : Config L) (es : List Entry) → c.state ≡ None → AreLegal step c es → feet step c es ≡ []
+pub none_feet : {L : Type 0} (step : Language L) (c : Config L) (es : List Entry) → c.state ≡ None → AreLegal step c es → feet step c es ≡ []
 none_feet step c es e h = (λ i. feet step c (none_legal step c es e h i))
 
 module _ (look : Look) (is : IsLook look) (well : WellFormed look.program) (es : List Entry) (run : List Footprint) (law : SwapLaw (thread_step look)) (noted : NotesThread look) (sane : (s : State Own) → SoundState look.program s → IsSane s) where

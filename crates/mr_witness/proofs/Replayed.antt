@@ -1,14 +1,14 @@
 -- Moves as a run of entries: each but the last goes, and behind the last the machine reports the data race.
-use Rattle.std.proofs.Common.{◌≡◌, ℕ, suc, zero, ◌+◌, refl, sym, ◌∙◌, ap, subst, inl, inr, List, [], ◌∷◌, ◌++◌, map, length, Bool, true, false, not, ◌&&◌, Option, Some, None, append_assoc}
-use Rattle.std.specs.Prelude.{◌==◌, ◌||◌, slice_get, if◌then◌else◌}
+use Rattle.std.proofs.Common.{◌≡◌, ℕ, suc, zero, ◌+◌, refl, sym, ◌∙◌, ap, subst, inl, inr, List, [], ◌∷◌, ◌++◌, map, Bool, true, false, not, ◌&&◌, Option, Some, None}
+use Rattle.std.specs.Prelude.{◌==◌, ◌||◌, slice_get}
 use Rattle.std.specs.List.{list_any}
-use Rattle.std.proofs.lemmas.Bool.{and_parts, both_ways, cases_Bool, eqb-true, eq-eqb, not-true}
+use Rattle.std.proofs.lemmas.Bool.{both_ways, cases_Bool, eqb-true, eq-eqb}
 use Rattle.mr_base.specs.Accesses.{some_race}
 use Rattle.mr_base.specs.declared.reason.Reason.TheVariants.{DataRace}
 use Rattle.mr_base.specs.declared.reason.Verdict.TheVariants as verdict
 use Rattle.mr_base.specs.declared.thread.Status.{Status}
 use Rattle.mr_base.specs.declared.thread.Status.TheVariants.{Enabled, Ended, OnJoin, OnLock}
-use Rattle.mr_event.specs.declared.footprint.Footprint.{Footprint}
+use Rattle.mr_event.specs.Footprint.{Footprint}
 use Rattle.mr_event.specs.Footprints.{wakes}
 use Rattle.mr_event.specs.Order.{step_at, thread_at}
 use Rattle.mr_order.specs.Shown.{AreAdjacent, NextIs}
@@ -16,8 +16,8 @@ use Rattle.mr_order.specs.Trace.{IsReported, Runs}
 use Rattle.mr_sched.specs.declared.schedule.Entry.{Entry}
 use Rattle.mr_sync.specs.Tables.{is_any_enabled, is_enabled}
 use Rattle.mr_wf.specs.Walk.{WellFormed}
-use Rattle.mr_plan.specs.Legal.{Fault, else_fault, needs_fault, state_fault, status_fault}
-use Rattle.mr_plan.specs.Machine.{Bare, Completed, Language, State, bare}
+use Rattle.mr_plan.specs.Legal.{state_fault, status_fault}
+use Rattle.mr_plan.specs.Machine.{Bare, Language, State, bare}
 use Rattle.mr_plan.specs.Queries.{tables_of}
 use Rattle.mr_plan.specs.Runs.{AreLegal, Config, Printed, after, after_bare, feet, foot_in, foot_of_bare, machine_step, entry_fault, printed_by, races_with, verdict_after}
 use Rattle.mr_plan.proofs.LegalLaws.{no_faults}
@@ -83,7 +83,7 @@ last_push run last (y ∷ ys) x = last_push run (Some (step_at run y)) ys x
 
 -- ---- a thread is enabled
 
-enabled_among : (ss : List Status) (t : ℕ) → slice_get ss t ≡ Some Enabled → list_any (λ s. is_enabled (Some s)) ss ≡ true
+pub enabled_among : (ss : List Status) (t : ℕ) → slice_get ss t ≡ Some Enabled → list_any (λ s. is_enabled (Some s)) ss ≡ true
 enabled_among [] t h = absurd (cc)
 enabled_among (s ∷ ss) zero h = by s h
   where
@@ -98,7 +98,7 @@ enabled_among (s ∷ ss) (suc t) h = by (is_enabled (Some s)) (enabled_among ss 
     by true k = refl
     by false k = k
 
-status_there : (o : Option Status) → status_fault o ≡ None → o ≡ Some Enabled
+pub status_there : (o : Option Status) → status_fault o ≡ None → o ≡ Some Enabled
 status_there None h = absurd (cc)
 status_there (Some Enabled) h = refl
 status_there (Some (OnJoin u)) h = absurd (cc)
@@ -106,7 +106,7 @@ status_there (Some (OnLock l)) h = absurd (cc)
 status_there (Some Ended) h = absurd (cc)
 
 -- where an entry breaks no rule of the state, some thread is enabled
-legal_enabled : {L : Type 0} (step : Language L) (s : State L) (t : ℕ) (picks : List ℕ) → state_fault step s t picks ≡ None → is_any_enabled (tables_of s.shared) ≡ true
+pub legal_enabled : {L : Type 0} (step : Language L) (s : State L) (t : ℕ) (picks : List ℕ) → state_fault step s t picks ≡ None → is_any_enabled (tables_of s.shared) ≡ true
 legal_enabled step s t picks h = enabled_among s.shared.statuses t (status_there (slice_get s.shared.statuses t) (no_faults _ _ h).0)
 
 -- ---- the run

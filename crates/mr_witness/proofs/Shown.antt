@@ -5,7 +5,7 @@ use Rattle.std.specs.List.{filter, range_with_len}
 use Rattle.std.proofs.lemmas.List.Elements.{filter-append}
 use Rattle.mr_base.specs.declared.reason.Reason.TheVariants.{DataRace}
 use Rattle.mr_base.specs.declared.reason.Verdict.TheVariants as verdict
-use Rattle.mr_event.specs.declared.footprint.Footprint.{Footprint}
+use Rattle.mr_event.specs.Footprint.{Footprint}
 use Rattle.mr_event.specs.Kept.{selected}
 use Rattle.mr_event.specs.Order.{places, step_at, thread_at}
 use Rattle.mr_order.specs.Shown.{IsShown, steps_of}

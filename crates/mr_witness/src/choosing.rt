@@ -15,8 +15,8 @@ use mr_event::{Footprint, OutOfMemory, Pair};
 use mr_sched::{Entry, Items, Schedule};
 use std::alloc::Global;
 
-// A copy of the entry at a place.
-fn entry_copied(alloc: Global, entries: &[Entry], k: usize) -> Result<Entry, OutOfMemory>
+/// A copy of the entry at a place.
+pub fn entry_copied(alloc: Global, entries: &[Entry], k: usize) -> Result<Entry, OutOfMemory>
     requires { k < length entries.now }
     ensures { IfOk result (λ copy. copy ≡ entry_at entries.now k) }
 {
@@ -45,7 +45,8 @@ fn unmarked(
 ) -> Result<Items<Entry>, OutOfMemory>
     requires marks { pair.second < length marked.now }
     requires within { pair.second < length entries.now }
-    ensures { IfOk result (λ chosen. chosen ≡ map (entry_at entries.now) (filter (λ k. not (slice_index_or marked.now k false) && not (k == pair.first)) (places pair.second))) }
+    ensures { IfOk result (λ chosen. chosen ≡ map (entry_at entries.now)
+        (filter (λ k. not (slice_index_or marked.now k false) && not (k == pair.first)) (places pair.second))) }
 {
     let mut chosen = Items::new(alloc);
     for k in 0..pair.second {
@@ -68,7 +69,8 @@ pub fn witness(
     requires many { length run.now ≤ length s.now.entries }
     requires first { (rest : List PairOf) × (predicted run.now ≡ pair ∷ rest) }
     ensures kept { IfOk result (λ v. v ≡ kept_schedule run.now s.now pair.first pair.second) }
-    ensures witness { IfOk result (λ v. (p : Program) → WellFormed p → Legal p s.now → steps_of p s.now ≡ run.now → IsWitness p s.now pair.first pair.second v) }
+    ensures witness { IfOk result (λ v. (p : Program) → WellFormed p → Legal p s.now
+        → steps_of p s.now ≡ run.now → IsWitness p s.now pair.first pair.second v) }
 {
     let marked = follows(alloc, run, pair.first)?;
     let recorded = s.entries.as_slice();

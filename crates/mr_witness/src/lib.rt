@@ -5,12 +5,13 @@
 //!   steps. Proved: the answer is that schedule, and of each well-formed program whose run under the recorded schedule
 //!   this is, it is a witness (`mr_exchange`: `specs/Witness.antt`): legal, of each thread the first entries, each step the one that it
 //!   was in the run, and behind the last the machine reports the data race. Want of memory is its only error.
+//! - [`entry_copied`]: a copy of an entry, for other choices of entries.
 #![tactic(auto)]
 
 mod choosing;
 mod laws;
 
-pub use choosing::witness;
+pub use choosing::{entry_copied, witness};
 pub use laws::first_race_has_a_witness;
 pub use mr_event::{Footprint, OutOfMemory, Pair};
 pub use mr_sched::{Entry, Schedule};

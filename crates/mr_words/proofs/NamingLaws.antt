@@ -35,9 +35,6 @@ IsAscii-from_name t name =
 
 -- ---- where a text stands
 
-same_text : (t : List ℕ) → bytes_eq t t ≡ true
-same_text t = (bytes_eq-Decides t t).1 refl
-
 texts_differ : (a b : List ℕ) → a ≢ b → bytes_eq a b ≡ false
 texts_differ a b ne = false_from_ne_true (bytes_eq a b) (λ e. ne ((bytes_eq-Decides a b).0 e))
 

@@ -2,6 +2,7 @@
 use Rattle.std.specs.Prelude.{◌+◌, ◌-◌, ◌==◌, Bool, false, ◌&&◌, ◌||◌, nat_le, if◌then◌else◌, List, [], ◌∷◌, length}
 use Rattle.std.specs.Prelude.{take, drop, codes, bytes_eq}
 use Rattle.std.specs.List.{count_by}
+use Rattle.mr_ast.specs.Limits.{max_open}
 use Rattle.mr_ast.specs.Forms.{Word}
 use Rattle.mr_words.specs.declared.fault.Stop.{Stop}
 
@@ -13,10 +14,10 @@ opens w = bytes_eq w.text (codes "(") || (bytes_eq w.text (codes "{") || bytes_e
 abbrev pub closes : Word → Bool
 closes w = bytes_eq w.text (codes ")") || (bytes_eq w.text (codes "}") || bytes_eq w.text (codes "]"))
 
--- an opening bracket, behind words that leave 32 brackets open
+-- an opening bracket, behind words that leave as many brackets open as may be
 abbrev pub is_bracket_too_many : List Word → List Word → Bool
 is_bracket_too_many front [] = false
-is_bracket_too_many front (w ∷ ws) = opens w && nat_le (count_by closes front + 32) (count_by opens front)
+is_bracket_too_many front (w ∷ ws) = opens w && nat_le (count_by closes front + max_open) (count_by opens front)
 
 -- the words from a stop on
 abbrev pub left_at : List Word → Stop → List Word

@@ -2,6 +2,7 @@
 use Rattle.std.specs.Prelude.{ℕ, ◌≤◌, ◌≡◌, true, List, [], ◌∷◌, ◌++◌, length, bytes_eq, All, Option, None, Some}
 use Rattle.std.specs.List.{list_any}
 use Rattle.std.specs.Str.{IsAscii}
+use Rattle.mr_ast.specs.Limits.{max_blocks, max_items}
 use Rattle.mr_ast.specs.Words.{Texts}
 use Rattle.mr_ast.specs.Scope.{Definitions, FunctionNames, function_names}
 
@@ -10,15 +11,15 @@ pub record IsSmallFunction (f : FunctionNames) : Type 0 where
   pub name : IsAscii f.name
   pub locals : All IsAscii f.locals
   pub blocks : All IsAscii f.blocks
-  pub few_locals : length f.locals ≤ 256
-  pub few_blocks : length f.blocks ≤ 1024
+  pub few_locals : length f.locals ≤ max_items
+  pub few_blocks : length f.blocks ≤ max_blocks
 
 -- a text has at most 256 globals and 256 functions
 pub record IsSmall (d : Definitions) : Type 0 where
   pub globals : All IsAscii d.globals
   pub functions : All IsSmallFunction d.functions
-  pub few_globals : length d.globals ≤ 256
-  pub few_functions : length d.functions ≤ 256
+  pub few_globals : length d.globals ≤ max_items
+  pub few_functions : length d.functions ≤ max_items
 
 -- the names that a function defines, in order
 abbrev pub names_in : FunctionNames → Texts

@@ -1,6 +1,7 @@
 //! Brackets of a text, and the fault that is told of one too many.
-ghost use Rattle.std.specs.Prelude.{◌≡◌, ◌+◌, ◌≤◌, ◌<◌, drop, ◌^◌, if◌then◌else◌, length, take};
+ghost use Rattle.std.specs.Prelude.{◌≡◌, ◌+◌, ◌≤◌, ◌<◌, drop, if◌then◌else◌, length, take};
 ghost use Rattle.std.specs.List.{count_by};
+ghost use Rattle.mr_lex.specs.Limits.{max_text};
 ghost use Rattle.mr_words.specs.Brackets.{closes, is_bracket_too_many, opens};
 ghost use Rattle.mr_words.specs.Brackets.{told};
 ghost use Rattle.mr_words.specs.Places.{words_of};
@@ -56,7 +57,7 @@ fn brackets_before(tokens: &Tokens<'_>, n: usize) -> Brackets
 // Whether at token n a bracket is opened, behind tokens that leave as many open as may be.
 fn is_bracket_too_many(tokens: &Tokens<'_>, n: usize) -> bool
     requires within { n ≤ length tokens.now }
-    requires few { length tokens.now ≤ 2 ^ 20 }
+    requires few { length tokens.now ≤ max_text }
     ensures { result ≡ is_bracket_too_many (take n (words_of tokens.now)) (drop n (words_of tokens.now)) }
 {
     if !opens(text_at(&*tokens, n)) {
@@ -68,7 +69,7 @@ fn is_bracket_too_many(tokens: &Tokens<'_>, n: usize) -> bool
 
 /// The fault that is told: a bracket too many, before a token that doesn't fit.
 pub fn told(tokens: &Tokens<'_>, stop: Stop) -> Stop
-    requires { length tokens.now ≤ 2 ^ 20 }
+    requires { length tokens.now ≤ max_text }
     ensures { result ≡ told (words_of tokens.now) stop }
 {
     if stop.code != UNEXPECTED {

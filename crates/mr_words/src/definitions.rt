@@ -104,7 +104,8 @@ fn global_names<'a>(
     tokens: &'a Tokens<'a>,
     globals: &[Global_],
 ) -> Result<Vec<&'a [u8]>, OutOfMemory>
-    ensures { IfOk result (λ names. map (λ w. w.now) names.items ≡ map (λ g. text_at (words_of tokens.now) g.name) globals.now) }
+    ensures { IfOk result
+        (λ names. map (λ w. w.now) names.items ≡ map (λ g. text_at (words_of tokens.now) g.name) globals.now) }
 {
     let mut names = Vec::with_capacity(alloc, globals.len())?;
     for global in globals {
@@ -118,7 +119,8 @@ fn local_names<'a>(
     tokens: &'a Tokens<'a>,
     locals: &[Local],
 ) -> Result<Vec<&'a [u8]>, OutOfMemory>
-    ensures { IfOk result (λ names. map (λ w. w.now) names.items ≡ map (λ l. text_at (words_of tokens.now) l.name) locals.now) }
+    ensures { IfOk result
+        (λ names. map (λ w. w.now) names.items ≡ map (λ l. text_at (words_of tokens.now) l.name) locals.now) }
 {
     let mut names = Vec::with_capacity(alloc, locals.len())?;
     for local in locals {
@@ -132,7 +134,8 @@ fn block_names<'a>(
     tokens: &'a Tokens<'a>,
     blocks: &[Block],
 ) -> Result<Vec<&'a [u8]>, OutOfMemory>
-    ensures { IfOk result (λ names. map (λ w. w.now) names.items ≡ map (λ b. text_at (words_of tokens.now) b.name) blocks.now) }
+    ensures { IfOk result
+        (λ names. map (λ w. w.now) names.items ≡ map (λ b. text_at (words_of tokens.now) b.name) blocks.now) }
 {
     let mut names = Vec::with_capacity(alloc, blocks.len())?;
     for block in blocks {

@@ -1,5 +1,6 @@
 //! The place of a fault in a text.
 ghost use Rattle.std.specs.Prelude.{◌≡◌, ◌+◌, ◌-◌, ◌==◌, ◌^◌, ◌<◌, ◌≤◌, if◌then◌else◌, length};
+ghost use Rattle.mr_lex.specs.Limits.{max_text};
 ghost use Rattle.mr_lex.specs.Places.{column_of, line_of};
 ghost use Rattle.mr_words.specs.TextFaults.{fault_at};
 
@@ -31,8 +32,13 @@ fn behind(fault: TextFault, byte: u8) -> TextFault
 
 // The fault with this code at the end of a text.
 fn fault_at_end(text: &[u8], code: u8) -> TextFault
-    requires { length text.now ≤ 2 ^ 20 }
-    ensures { result ≡ record { line = line_of text.now (length text.now); col = column_of text.now (length text.now); code = code } }
+    requires { length text.now ≤ max_text }
+    ensures { result ≡ record {
+      line = line_of text.now (length text.now);
+      col = column_of text.now
+          (length text.now);
+      code = code;
+    } }
 {
     let mut fault = TextFault {
         line: 1,
@@ -47,7 +53,7 @@ fn fault_at_end(text: &[u8], code: u8) -> TextFault
 
 /// The fault of a text where reading stops: at one of its tokens, or at its end.
 pub fn fault_at(text: &[u8], tokens: &Tokens<'_>, stop: Stop) -> TextFault
-    requires { length text.now ≤ 2 ^ 20 }
+    requires { length text.now ≤ max_text }
     ensures { result ≡ fault_at text.now tokens.now stop }
 {
     match tokens.get(tokens.len().saturating_sub(stop.left)) {

@@ -2,6 +2,7 @@
 ghost use Rattle.std.specs.Prelude.{◌≡◌, ◌<◌, ◌≤◌, ◌^◌, None, Some, IfOk, bytes_eq, if◌then◌else◌, length, true};
 ghost use Rattle.std.specs.List.{position_or_len};
 ghost use Rattle.std.specs.Option.{option_copied};
+ghost use Rattle.mr_ast.specs.Limits.{max_items};
 ghost use Rattle.mr_ast.specs.ProgramGrammar.{inside_function};
 ghost use Rattle.mr_ast.specs.Scope.{all_names, as_function, as_global, each_once, function_names, is_number, item_names, name_number, name_target, names_of, number_in, number_of_name, target_of, used_in};
 ghost use Rattle.mr_ast.specs.Words.{is_name};
@@ -62,7 +63,7 @@ impl<'a> Tables<'a> {
     // How many globals there are.
     fn globals(&self) -> usize
         ensures count { result ≡ length self.now.globals }
-        ensures few { result ≤ 256 }
+        ensures few { result ≤ max_items }
     {
         self.definitions.globals().len()
     }
@@ -99,7 +100,11 @@ impl<'a> Tables<'a> {
     // The number of a name that is defined, where it is the first of this name in its space.
     fn defined(&self, text: &str, is_first: bool) -> Result<u32, u8>
         requires { is_first ≡ true → IsAmong (all_names self.now) text.now }
-        ensures { Numbers result (position_or_len (bytes_eq text.now) (names_of self.now), if is_first then None else Some 6) }
+        ensures { Numbers result (
+          position_or_len (bytes_eq text.now) (names_of self.now),
+          if is_first then None
+              else Some 6,
+        ) }
     {
         if !is_first {
             return Err(DOUBLE_NAME);

@@ -29,8 +29,9 @@ use Rattle.mr_grammar.proofs.Walk.HeightLaws.{SomePart}
 use Rattle.mr_grammar.proofs.Canon.CanonForms.{AllStand, Stands, each_stand, rows_with_commas, stands_before, stands_behind, stands_in, stands_listed, stands_many, stands_pair, stands_same, stands_then, stands_token, stands_within}
 use Rattle.mr_grammar.proofs.Canon.CanonStmts.{local_use_stands, stmt_stands, term_stands}
 use Rattle.mr_grammar.proofs.Canon.CanonTypes.{type_part_stands}
-use Rattle.mr_grammar.proofs.Canon.KnownNames.{all_at, block_name_stands, few_at, function_name_stands, known_names, local_name_stands}
+use Rattle.mr_grammar.proofs.Canon.KnownNames.{block_name_stands, few_at, function_name_stands, known_names, local_name_stands}
 use Rattle.mr_words.proofs.ScopeLaws.{scope_at}
+use Rattle.mr_base.proofs.Lists.{all_at}
 
 -- ---- words by lines
 

@@ -19,8 +19,9 @@ use Rattle.mr_grammar.proofs.Canon.CanonNames.{IsNamed, definitions_of}
 use Rattle.mr_grammar.proofs.Walk.HeightLaws.{SomePart}
 use Rattle.mr_grammar.proofs.Canon.CanonForms.{Parts, Stands, each_stand, stands_before, stands_cases, stands_empty, stands_first, stands_giving, stands_many, stands_pair, stands_second, stands_then, stands_within}
 use Rattle.mr_grammar.proofs.Canon.CanonNumbers.{is_number-decimal, stands_repeat, stands_u64, value_of-decimal}
-use Rattle.mr_grammar.proofs.Canon.KnownNames.{all_at, global_name_stands, target_use_stands}
+use Rattle.mr_grammar.proofs.Canon.KnownNames.{global_name_stands, target_use_stands}
 use Rattle.mr_words.proofs.ScopeLaws.{scope_at}
+use Rattle.mr_base.proofs.Lists.{all_at}
 
 byte_judged : (v k : ℕ) → v ≤ 255 → judged_item (record { text = decimal v; place = k }) ≡ Some (item_word.Byte v, None)
 unfolding judged_item

@@ -24,7 +24,7 @@ use Rattle.mr_ast.specs.Shaped.{is_block, is_optional_block, is_optional_place, 
 use Rattle.mr_ast.specs.ShapedTypes.{is_shaped_num}
 use Rattle.mr_ast.specs.ShapedValues.{Named, is_shaped_place, is_shaped_value}
 use Rattle.mr_ast.specs.Writing.{ThePlace, TheValue, block_use, listed, local_use, optional, other_than}
-use Rattle.mr_ast.specs.ProgramGrammar.{assign_form, call_form, disc_form, do_form, judged_intrinsic, judged_stmt, judged_term, stmt_form, switch_case_form, switch_cases_form, switch_form, term_form, unwind_form, values_form}
+use Rattle.mr_ast.specs.ProgramGrammar.{assign_form, call_form, numbered_form, do_form, judged_intrinsic, judged_stmt, judged_term, stmt_form, switch_case_form, switch_cases_form, switch_form, term_form, unwind_form, values_form}
 use Rattle.mr_ast.specs.CanonValues.{NameTexts, text_at, words_of_place, words_of_value}
 use Rattle.mr_ast.specs.Canon.{arguments, intrinsic_word, optional_block, optional_result, stmt_line, target_words, term_line, words_of_stmt, words_of_term}
 use Rattle.mr_grammar.proofs.Nesting.NestingValues.{place_fits, value_fits}
@@ -80,7 +80,7 @@ module _ (named : Named) (names : NameTexts) (scope : Scope) (known : Known name
 
   pub stmt_stands : (room j : ℕ) (s : Stmt) → nat_le 4096 j ≡ false → stmt_fits room s ≡ true → is_shaped_stmt named s ≡ true
       → Stands room (SomePart room) scope (stmt_form j) s (stmt_line names s)
-  unfolding stmt_form judged_stmt words_of_stmt disc_form assign_form
+  unfolding stmt_form judged_stmt words_of_stmt numbered_form assign_form
   stmt_stands room j (stmt.Live x) few fits shaped =
       stands_behind (stands_first (stands_cases {i = stmt_word.Live} (λ k. rw few refl) (stands_giving (local_use_stands x shaped) refl))) (codes ";")
   stmt_stands room j (stmt.Dead x) few fits shaped =

@@ -380,10 +380,6 @@ module _ (named : Named) (names : NameTexts) (scope : Scope) (known : Known name
     at_binary = at_binary;
   }
 
-  -- The canonical words of a shaped value write it, where there is room for its brackets.
-  pub value_stands : {part : Parts} (v : Value) (room : ℕ) → value_fits v room ≡ true → is_shaped_value named v ≡ true → Stands room part scope value_form v (words_of_value names v)
-  value_stands v room fits shaped = stands_any (value_induction WrittenPlace Written all_cases v room fits shaped)
-
   pub value_part_stands : (v : Value) (room : ℕ) → value_fits v room ≡ true → is_shaped_value named v ≡ true → Stands room (SomePart room) scope (Part TheValue) v (words_of_value names v)
   value_part_stands v room fits shaped = value_part (value_induction WrittenPlace Written all_cases v room fits shaped)
 

@@ -1,12 +1,12 @@
 -- What the names of a program stand for among the program's own definitions: positions.
-use Rattle.std.proofs.Common.{◌≡◌, ℕ, ◌+◌, ◌-◌, ◌<◌, ◌≤◌, ◌==◌, Bool, true, false, if◌then◌else◌, List, [], ◌∷◌, ◌++◌, length, map, slice_get, slice_index_or, Option, Some, None, refl, ap, sym, ◌∙◌, subst, arith, All, bytes_eq, length-append}
+use Rattle.std.proofs.Common.{◌≡◌, ℕ, ◌+◌, ◌-◌, ◌<◌, ◌≤◌, Bool, true, false, if◌then◌else◌, List, [], ◌∷◌, ◌++◌, length, map, slice_get, slice_index_or, Option, Some, None, refl, ap, sym, ◌∙◌, subst, arith, All, bytes_eq, length-append}
 use Rattle.std.specs.Prelude.{nat_le, nat_lt, option_map}
 use Rattle.std.specs.List.{position_or_len}
 use Rattle.std.proofs.lemmas.Bool.Decides.{nat_tests}
 use Rattle.std.proofs.lemmas.List.{get_or-append-add, get_or_append_left, length-map}
 use Rattle.std.proofs.lemmas.List.Elements.{All-get_or, All-map, All-weaker}
 use Rattle.std.proofs.lemmas.Option.{get_or_from_slice_get, slice_get-map, slice_get_within}
-use Rattle.mr_base.proofs.Comparisons.{lt_from, lt_test}
+use Rattle.mr_base.proofs.Comparisons.{lt_from, lt_test, eq_itself}
 use Rattle.mr_ast.specs.declared.program.Block.{Block}
 use Rattle.mr_ast.specs.declared.program.FnName.{FnName}
 use Rattle.mr_ast.specs.declared.program.Function.{Function}
@@ -28,11 +28,9 @@ use Rattle.mr_grammar.proofs.Canon.CanonForms.{Parts, Stands, stands_cases, stan
 use Rattle.mr_grammar.proofs.Canon.CanonNameLaws.{each_once-distinct, number_distinct, place_distinct}
 use Rattle.mr_grammar.proofs.Canon.CanonValues.{Known}
 use Rattle.mr_words.proofs.ScopeLaws.{scope_at}
+use Rattle.mr_base.proofs.Lists.{all_at}
 
 -- ---- what stands at a position of a list
-
-pub all_at : {A : Type 0} (P : A → Type 0) (xs : List A) (k : ℕ) (x : A) → All P xs → slice_get xs k ≡ Some x → P x
-all_at P xs k x all at = subst P (get_or_from_slice_get xs k x x at) (all k x (slice_get_within xs k x at))
 
 pub mapped_at : {A B : Type 0} (f : A → B) (xs : List A) (k : ℕ) (x : A) (other : B) → slice_get xs k ≡ Some x → slice_index_or (map f xs) k other ≡ f x
 mapped_at f xs k x other at = get_or_from_slice_get (map f xs) k (f x) other (slice_get-map f xs k ∙ ap (option_map f) at)
@@ -88,15 +86,12 @@ target_function globals n =
 
 -- ---- names that are defined
 
-same_number : (k : ℕ) → (k == k) ≡ true
-same_number k = grind (arith, nat_tests)
-
 -- the name at a position of a space in which no name is twice
 defined_at : (d : Definitions) (space : Texts) (k n : ℕ) (text : List ℕ) → IsDistinct space → k < length space → text_at space k ≡ text → n < length (names_of d) → text_at (names_of d) n ≡ text
     → defined_in d space k text ≡ (n, None)
 defined_at d space k n text distinct inside here held same =
     let first : is_number k (number_in space text) ≡ true =
-    ap (λ t. is_number k (number_in space t)) (sym here) ∙ ap (is_number k) (number_distinct space k distinct inside) ∙ same_number k in
+    ap (λ t. is_number k (number_in space t)) (sym here) ∙ ap (is_number k) (number_distinct space k distinct inside) ∙ eq_itself k in
     let place : position_or_len (bytes_eq text) (names_of d) ≡ n =
     ap (λ t. position_or_len (bytes_eq t) (names_of d)) (sym same) ∙ place_distinct (names_of d) n (each_once-distinct (all_names d)) held in
     rw (first, place) refl

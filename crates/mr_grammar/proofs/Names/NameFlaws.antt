@@ -4,11 +4,10 @@ use Rattle.mr_ast.specs.declared.words.Role.{Role}
 use Rattle.mr_ast.specs.declared.words.Role.TheVariants.{DefinesGlobal, DefinesFunction, DefinesLocal, DefinesBlock, UsesGlobal, UsesFunction, UsesLocal, UsesBlock}
 use Rattle.mr_ast.specs.Forms.{Word, Mark}
 use Rattle.mr_ast.specs.Scope.{Definitions, Scope, number_of_name, name_number, name_target, used_in, target_of}
-use Rattle.mr_ast.specs.Writing.{Kind, Meaning, Writing}
-use Rattle.mr_ast.specs.Spelled.{SpelledPart, Spelled}
-use Rattle.mr_ast.specs.ProgramGrammar.{ProgramBody, program_form}
-use Rattle.mr_grammar.proofs.Names.RenamingLaws.{IsNeutral, Renaming, renamed_form, renamed_part}
-use Rattle.mr_grammar.proofs.Names.NeutralForms.{IsPlain, IsRenaming, none_plain, seven_plain, forms_neutral, program_neutral}
+use Rattle.mr_ast.specs.Writing.{Writing}
+use Rattle.mr_ast.specs.Spelled.{Spelled}
+use Rattle.mr_grammar.proofs.Names.RenamingLaws.{IsNeutral, Renaming, renamed_form}
+use Rattle.mr_grammar.proofs.Names.NeutralForms.{IsPlain, IsRenaming, none_plain, seven_plain, forms_neutral}
 
 -- a name's flaw: none, not defined, or defined twice
 abbrev pub IsNaming : Option ℕ → Type 0
@@ -91,12 +90,3 @@ module _ {Alike : Scope → Scope → Type 0} {Kept : Option ℕ → Option ℕ 
       → Spelled height room s form x marks → Renaming Kept (Spelled height room t form) marks
   renamed height room s t alike form neutral x marks h =
       renamed_form Alike Kept (r.plain None none_plain) (r.plain (Some 7) seven_plain) (forms_neutral r) height room s t alike form neutral x marks h
-
-  pub renamed_kind : (height room : ℕ) (s t : Scope) → Alike s t → (kind : Kind) (x : Meaning kind) (marks : List Mark)
-      → SpelledPart height room s kind x marks → Renaming Kept (SpelledPart height room t kind) marks
-  renamed_kind height room s t alike kind x marks h =
-      renamed_part Alike Kept (r.plain None none_plain) (r.plain (Some 7) seven_plain) (forms_neutral r) height room s t alike kind x marks h
-
-  pub renamed_program : (height room : ℕ) (s t : Scope) → Alike s t → (x : ProgramBody) (marks : List Mark)
-      → Spelled height room s program_form x marks → Renaming Kept (Spelled height room t program_form) marks
-  renamed_program height room s t alike x marks h = renamed height room s t alike program_form (program_neutral r) x marks h

@@ -12,7 +12,6 @@ use Rattle.mr_ast.specs.declared.words.TreeWord.TheVariants as tree_word
 use Rattle.mr_ast.specs.declared.words.ValueWord.{ValueWord}
 use Rattle.mr_ast.specs.declared.words.ValueWord.TheVariants as value_word
 use Rattle.mr_ast.specs.declared.words.StmtWord.{StmtWord}
-use Rattle.mr_ast.specs.declared.words.StmtWord.TheVariants as stmt_word
 use Rattle.mr_ast.specs.declared.words.TermWord.{TermWord}
 use Rattle.mr_ast.specs.declared.words.TermWord.TheVariants as term_word
 use Rattle.mr_ast.specs.declared.words.ItemWord.{ItemWord}
@@ -24,7 +23,7 @@ use Rattle.mr_ast.specs.Words.{edition_words, is_name, is_number, looked_up, int
 use Rattle.mr_ast.specs.Writing.{Kind, TheType, TheTree, ThePlace, TheValue, Writing, Judged, fine, limit, word, limited_word, token, judged_u64, judged_repeat, judged_any, judged_positive, judged_name, judged_target, judged_int, u64_form, num_form, name_form, target_use, int_form}
 use Rattle.mr_ast.specs.TypeGrammar.{shape_form, field_form, chunk_form, tag_form, variant_form, case_form, branch_form, tree_behind, judged_tree, tree_form, ref_form, tuple_type_form, array_form, union_type_form, enum_form, type_behind, type_word_of, judged_type, type_form, tags_form, cases_form, fields_form, chunks_form, variants_form}
 use Rattle.mr_ast.specs.ValueGrammar.{postfix_form, deref_form, base_form, place_from, global_value_form, tuple_value_form, union_value_form, variant_value_form, addr_of_form, cast_form, transmute_form, binary_form, value_behind, value_word_of, judged_value, value_form, postfixes_form, more_values_form}
-use Rattle.mr_ast.specs.ProgramGrammar.{judged_edition, judged_stmt, disc_form, stmt_behind, assign_form, stmt_form, switch_case_form, switch_form, unwind_form, call_form, judged_intrinsic, intrinsic_form, do_form, term_behind, judged_term, term_form, judged_kind, block_form, local_form, locals_form, blocks_form, body_form, inside_function, function_form, repeat_form, reloc_form, item_behind, item_word_of, judged_item, item_form, global_form, program_form, switch_cases_form, values_form, stmts_form, args_form, items_form, globals_form, functions_form}
+use Rattle.mr_ast.specs.ProgramGrammar.{StmtShape, OfLocal, OfNumber, OfPlace, judged_edition, judged_stmt, numbered_form, stmt_shape_form, stmt_behind, stmt_shape, assign_form, stmt_form, switch_case_form, switch_form, unwind_form, call_form, judged_intrinsic, intrinsic_form, do_form, term_behind, judged_term, term_form, judged_kind, block_form, local_form, locals_form, blocks_form, body_form, inside_function, function_form, repeat_form, reloc_form, item_behind, item_word_of, judged_item, item_form, global_form, program_form, switch_cases_form, values_form, stmts_form, args_form, items_form, globals_form, functions_form}
 use Rattle.mr_ast.specs.Spelled.{form_of}
 use Rattle.mr_grammar.proofs.Names.RenamingLaws.{IsNeutral}
 
@@ -331,14 +330,14 @@ module _ {Alike : Scope → Scope → Type 0} {Kept : Option ℕ → Option ℕ 
   forms_neutral TheValue = value_neutral
 
   -- statements
+  stmt_shape_neutral : (s : StmtShape) → IsNeutral Alike Kept (stmt_shape_form s)
+  unfolding numbered_form
+  stmt_shape_neutral (OfLocal make) = search pieces parts 10
+  stmt_shape_neutral (OfPlace make) = (tt, tt)
+  stmt_shape_neutral (OfNumber make) = search pieces parts 10
+
   pub stmt_behind_neutral : (w : StmtWord) → IsNeutral Alike Kept (stmt_behind w)
-  unfolding disc_form
-  stmt_behind_neutral stmt_word.Live = search pieces parts 10
-  stmt_behind_neutral stmt_word.Dead = search pieces parts 10
-  stmt_behind_neutral stmt_word.Mention = (tt, tt)
-  stmt_behind_neutral stmt_word.Disc = search pieces parts 10
-  stmt_behind_neutral stmt_word.Deinit = (tt, tt)
-  stmt_behind_neutral stmt_word.Validate = (tt, tt)
+  stmt_behind_neutral w = stmt_shape_neutral (stmt_shape w)
 
   pub assign_neutral : (over : Bool) → IsNeutral Alike Kept (assign_form over)
   unfolding assign_form

@@ -12,7 +12,7 @@ use Rattle.mr_ast.specs.declared.words.Bracket.TheVariants.{Round}
 use Rattle.mr_ast.specs.Forms.{Part}
 use Rattle.mr_ast.specs.Scope.{Scope}
 use Rattle.mr_ast.specs.Writing.{ThePlace, TheValue, listed}
-use Rattle.mr_ast.specs.ProgramGrammar.{assign_form, block_form, blocks_form, body_form, call_form, disc_form, do_form, function_form, functions_form, local_form, locals_form, program_form, stmt_behind, stmt_form, stmts_form, switch_form, term_behind, term_form, unwind_form, values_form, with_name}
+use Rattle.mr_ast.specs.ProgramGrammar.{assign_form, block_form, blocks_form, body_form, call_form, numbered_form, do_form, function_form, functions_form, local_form, locals_form, program_form, stmt_behind, stmt_form, stmts_form, switch_form, term_behind, term_form, unwind_form, values_form, with_name}
 use Rattle.mr_ast.specs.Spelled.{SpelledPart}
 use Rattle.mr_grammar.proofs.Nesting.Nesting.{type_fits}
 use Rattle.mr_grammar.proofs.Nesting.NestingValues.{place_fits, value_fits}
@@ -35,7 +35,7 @@ module _ {height room : ℕ} {scope : Scope} where
 
   -- statements
   fits_stmt_behind : (i : StmtWord) → Ensures height room (SpelledPart height) scope (stmt_behind i) (λ s. stmt_fits room s ≡ true)
-  unfolding disc_form
+  unfolding numbered_form
   fits_stmt_behind stmt_word.Live = ensures_giving ensures_any (λ x p. refl)
   fits_stmt_behind stmt_word.Dead = ensures_giving ensures_any (λ x p. refl)
   fits_stmt_behind stmt_word.Mention = ensures_giving fits_place (λ x p. p)

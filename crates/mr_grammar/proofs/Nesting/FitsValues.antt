@@ -1,8 +1,9 @@
 -- The places and values that a row without a broken limit writes fit, and no place has more postfixes than it may have.
-use Rattle.std.proofs.Common.{◌≡◌, ℕ, zero, suc, ◌+◌, ◌-◌, ◌==◌, ◌≤◌, ◌<◌, Bool, true, false, not, ◌||◌, List, [], ◌∷◌, length, refl, ap, ◌∙◌, subst, arith}
+use Rattle.std.proofs.Common.{◌≡◌, ℕ, zero, suc, ◌+◌, ◌-◌, ◌==◌, ◌≤◌, ◌<◌, Bool, true, false, not, List, [], ◌∷◌, length, refl, ap, ◌∙◌, subst, arith}
 use Rattle.std.specs.Prelude.{nat_le}
 use Rattle.std.specs.List.{AllByRecursion, fold}
 use Rattle.std.proofs.lemmas.Bool.Decides.{nat_tests}
+use Rattle.std.proofs.lemmas.Bool.{or_parts}
 use Rattle.mr_ast.specs.declared.expr.Place.{Place}
 use Rattle.mr_ast.specs.declared.words.ValueWord.{ValueWord}
 use Rattle.mr_ast.specs.declared.words.ValueWord.TheVariants as value_word
@@ -48,11 +49,6 @@ few_postfixes_fit room n p has few = both (ap (λ m. nat_le m 32) has.0 ∙ few_
     few_test : (m : ℕ) → m ≤ 32 → nat_le m 32 ≡ true
     few_test m le = grind (arith, nat_tests)
 
--- neither is so
-neither : (a b : Bool) → (a || b) ≡ false → (a ≡ false) × (b ≡ false)
-neither true b e = absurd (cc)
-neither false b e = (refl, e)
-
 module _ (scope : Scope) where
   -- a part that is a place, or a value
   abbrev pub PlacesFit : ℕ → ℕ → Bool → Type 0
@@ -75,7 +71,7 @@ module _ (scope : Scope) where
         ensures_either
         (ensures_giving
         (ensures_bracket {Q = λ v. (nat_le 32 j ≡ false) × (inside (value_fits v) room ≡ true)} (λ lower e. fits_value_part (values lower e))
-        (λ v one p. (let some = neither (nat_le 32 j) (room == 0) one in (some.0, both (ap not some.1) p))))
+        (λ v one p. (let some = or_parts (nat_le 32 j) (room == 0) one in (some.0, both (ap not some.1) p))))
         (λ v p. (below j 32 p.0, p.1)))
         (ensures_either (ensures_then (ensures_limited 7 (nat_le 32 j)) ensures_any (λ u n p q. (below j 32 p, tt))) (ensures_then (ensures_limited 7 (nat_le 32 j)) ensures_any (λ u n p q. (below j 32 p, tt))))
 

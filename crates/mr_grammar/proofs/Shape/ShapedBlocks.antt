@@ -17,7 +17,7 @@ use Rattle.mr_ast.specs.ShapedValues.{is_shaped_place, is_shaped_value}
 use Rattle.mr_ast.specs.Words.{looked_up, stmt_words}
 use Rattle.mr_ast.specs.Writing.{ThePlace, TheValue, block_use, limit, listed, optional}
 use Rattle.mr_ast.specs.declared.words.Bracket.TheVariants.{Round}
-use Rattle.mr_ast.specs.ProgramGrammar.{assign_form, block_form, call_form, disc_form, do_form, judged_stmt, stmt_behind, stmt_form, stmts_form, switch_case_form, switch_cases_form, switch_form, term_behind, term_form, unwind_form, values_form}
+use Rattle.mr_ast.specs.ProgramGrammar.{assign_form, block_form, call_form, numbered_form, do_form, judged_stmt, stmt_behind, stmt_form, stmts_form, switch_case_form, switch_cases_form, switch_form, term_behind, term_form, unwind_form, values_form}
 use Rattle.mr_ast.specs.Spelled.{SpelledPart}
 use Rattle.mr_grammar.proofs.Walk.EnsureLaws.{EachFrom, Ensures, Parts, ensures_all, ensures_also, ensures_before, ensures_behind, ensures_cases, ensures_either, ensures_empty, ensures_giving, ensures_listed, ensures_many, ensures_optional, ensures_pair, ensures_separated, ensures_then, ensures_token, ensures_within}
 use Rattle.mr_grammar.proofs.Shape.ShapedNames.{below, ensures_block_name, ensures_block_use, ensures_local_use}
@@ -61,7 +61,7 @@ module _ {height room : ℕ} (d : Definitions) (k : ℕ) where
 
   -- statements, of which none is one too many
   ensures_stmt_behind : (i : StmtWord) → Ensures height room (SpelledPart height) (scope_at d k) (stmt_behind i) (λ s. is_shaped_stmt (named_at d k) s ≡ true)
-  unfolding disc_form
+  unfolding numbered_form
   ensures_stmt_behind stmt_word.Live = ensures_giving (ensures_local_use d k) (λ x p. p)
   ensures_stmt_behind stmt_word.Dead = ensures_giving (ensures_local_use d k) (λ x p. p)
   ensures_stmt_behind stmt_word.Mention = ensures_giving ensures_place (λ x p. p)

@@ -7,7 +7,7 @@ use Rattle.mr_ast.specs.TypeGrammar.{type_form, tree_form}
 use Rattle.mr_ast.specs.ValueGrammar.{base_form, deref_form, place_from, value_form, postfixes_form}
 use Rattle.mr_ast.specs.Spelled.{form_of, NoPart, SpelledInside, SpelledPart, Spelled}
 use Rattle.mr_grammar.specs.Reading.{stop, no_part, read_inside, read_part, read}
-use Rattle.mr_grammar.proofs.Walk.Conditions.{is_nullable, Begins, Stops}
+use Rattle.mr_grammar.proofs.Walk.Conditions.{is_nullable, Stops}
 use Rattle.mr_grammar.proofs.Walk.InsideLaws.{inside}
 use Rattle.mr_grammar.specs.Denotes.{IsFine, words_in}
 use Rattle.mr_grammar.proofs.Stops.PartLaws.{part_begins, part_stops, IsTold}
@@ -36,13 +36,6 @@ first_of_part : (height room : ℕ) (scope : Scope) (kind : Kind) (x : Meaning k
 first_of_part height room scope kind x m marks s =
     spelled_begins (room == 0) (SpelledInside height (room - 1)) NoPart (λ inner v. ⊥) (λ inner k y none. none) (λ inner k y n more none. none)
     scope (form_of kind) x m marks (m ∷ marks) s refl
-
--- The first word of a row that writes a thing begins the thing's form.
-pub begins : (height room : ℕ) (scope : Scope) {A : Type 0} (form : Writing A) (x : A) (m : Mark) (marks : List Mark)
-    → Spelled height room scope form x (m ∷ marks) → Begins part_begins form m.word
-begins height room scope form x m marks s =
-    spelled_begins (room == 0) (SpelledInside height (room - 1)) (SpelledPart height room) part_begins
-    (no_empty_part height room) (first_of_part height room) scope form x m marks (m ∷ marks) s refl
 
 -- a row that breaks no limit, and the first mark that breaks one
 checked-fine : {A : Type 0} (x : A) (marks : List Mark) (rest : List Word) → IsFine marks → checked x marks rest ≡ Ok (x, rest)

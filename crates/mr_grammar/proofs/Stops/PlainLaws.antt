@@ -13,7 +13,6 @@ use Rattle.mr_ast.specs.declared.words.TreeWord.TheVariants as tree_word
 use Rattle.mr_ast.specs.declared.words.ValueWord.{ValueWord}
 use Rattle.mr_ast.specs.declared.words.ValueWord.TheVariants as value_word
 use Rattle.mr_ast.specs.declared.words.StmtWord.{StmtWord}
-use Rattle.mr_ast.specs.declared.words.StmtWord.TheVariants as stmt_word
 use Rattle.mr_ast.specs.declared.words.TermWord.{TermWord}
 use Rattle.mr_ast.specs.declared.words.TermWord.TheVariants as term_word
 use Rattle.mr_ast.specs.declared.words.ItemWord.{ItemWord}
@@ -24,7 +23,7 @@ use Rattle.mr_ast.specs.Words.{is_name, is_number, value_of, is_exposed, looked_
 use Rattle.mr_ast.specs.Writing.{Kind, TheType, TheTree, ThePlace, TheValue, Writing, Judged, fine, limit, word, limited_word, token, judged_number, judged_u64, judged_repeat, judged_any, judged_positive, u64_form, num_form, judged_name, name_form, judged_target, target_use, local_use, block_use, function_use, judged_int, int_form, ◌▸◌, ◌◂◌, separated, listed, optional}
 use Rattle.mr_ast.specs.TypeGrammar.{shape_form, field_form, fields_form, chunk_form, chunks_form, tag_form, tags_form, variant_form, variants_form, case_form, cases_form, branch_form, tree_behind, judged_tree, tree_form, ref_form, tuple_type_form, array_form, union_type_form, enum_form, type_behind, judged_type, type_form}
 use Rattle.mr_ast.specs.ValueGrammar.{postfix_form, postfixes_form, deref_form, base_form, place_from, value_word_of, judged_value, global_value_form, more_values_form, tuple_value_form, union_value_form, variant_value_form, addr_of_form, cast_form, transmute_form, binary_form, value_behind, value_form}
-use Rattle.mr_ast.specs.ProgramGrammar.{judged_edition, judged_stmt, disc_form, stmt_behind, assign_form, stmt_form, switch_case_form, switch_cases_form, switch_form, unwind_form, values_form, call_form, judged_intrinsic, intrinsic_form, do_form, term_behind, judged_term, term_form, judged_kind, stmts_form, block_form, local_form, locals_form, blocks_form, args_form, body_form, function_form, repeat_form, reloc_form, item_behind, judged_item, item_form, items_form, global_form, globals_form, functions_form, program_form}
+use Rattle.mr_ast.specs.ProgramGrammar.{StmtShape, OfLocal, OfNumber, OfPlace, judged_edition, judged_stmt, numbered_form, stmt_shape_form, stmt_shape, assign_form, stmt_form, switch_case_form, switch_cases_form, switch_form, unwind_form, values_form, call_form, judged_intrinsic, intrinsic_form, do_form, term_behind, judged_term, term_form, judged_kind, stmts_form, block_form, local_form, locals_form, blocks_form, args_form, body_form, function_form, repeat_form, reloc_form, item_behind, judged_item, item_form, items_form, global_form, globals_form, functions_form, program_form}
 use Rattle.mr_ast.specs.Spelled.{form_of}
 use Rattle.mr_grammar.proofs.Stops.LimitLaws.{NeverBreaks}
 
@@ -284,10 +283,10 @@ plain_block_use : IsPlain block_use
 plain_block_use = (tt, plain_name false UsesBlock)
 
 plain_stmt : (k : ℕ) → IsPlain (stmt_form k)
-unfolding stmt_form judged_stmt assign_form disc_form
+unfolding stmt_form judged_stmt assign_form numbered_form
 plain_stmt k = (
   (
-    ((λ scope w i e. judge (nat_le 4096 k) (looked_up stmt_words w.text) (finds _ i e)), behind),
+    ((λ scope w i e. judge (nat_le 4096 k) (looked_up stmt_words w.text) (finds _ i e)), λ i. behind (stmt_shape i)),
     (tt, plain_behind (codes "=") (Part TheValue) tt),
   ),
   plain_word (codes ";"),
@@ -297,13 +296,10 @@ plain_stmt k = (
     judge over None e = absurd (cc)
     judge over (Some s) e = plain_limit 8 over (λ f. absurd (cc)) e
 
-    behind : (i : StmtWord) → IsPlain (stmt_behind i)
-    behind stmt_word.Live = (tt, plain_local_use)
-    behind stmt_word.Dead = (tt, plain_local_use)
-    behind stmt_word.Mention = (tt, tt)
-    behind stmt_word.Disc = (tt, plain_behind (codes "=") num_form plain_num)
-    behind stmt_word.Deinit = (tt, tt)
-    behind stmt_word.Validate = (tt, tt)
+    behind : (s : StmtShape) → IsPlain (stmt_shape_form s)
+    behind (OfLocal make) = (tt, plain_local_use)
+    behind (OfPlace make) = (tt, tt)
+    behind (OfNumber make) = (tt, plain_behind (codes "=") num_form plain_num)
 
 -- terminators
 plain_values : IsPlain (listed Round values_form)

@@ -5,7 +5,6 @@ use Rattle.mr_ast.specs.declared.words.Bracket.TheVariants.{Round}
 use Rattle.mr_ast.specs.declared.words.Role.TheVariants.{UsesLocal, DefinesBlock}
 use Rattle.mr_ast.specs.declared.program.LocalName.{LocalName}
 use Rattle.mr_ast.specs.declared.words.StmtWord.{StmtWord}
-use Rattle.mr_ast.specs.declared.words.StmtWord.TheVariants as stmt_word
 use Rattle.mr_ast.specs.declared.words.TermWord.{TermWord}
 use Rattle.mr_ast.specs.declared.words.TermWord.TheVariants as term_word
 use Rattle.mr_ast.specs.declared.words.ItemWord.{ItemWord}
@@ -14,7 +13,7 @@ use Rattle.mr_ast.specs.Forms.{Word, Part}
 use Rattle.mr_ast.specs.Words.{is_name, is_number}
 use Rattle.mr_ast.specs.Writing.{TheType, ThePlace, TheValue, Writing, is_word, ◌▸◌, ◌◂◌, ◌▪◌, listed, optional, token, judged_repeat, u64_form, num_form, name_form, local_use, block_use, function_use}
 use Rattle.mr_ast.specs.ValueGrammar.{begins_postfix}
-use Rattle.mr_ast.specs.ProgramGrammar.{disc_form, stmt_behind, begins_stmt, assign_form, stmt_form, switch_case_form, switch_cases_form, switch_form, unwind_form, values_form, call_form, do_form, term_behind, term_form, stmts_form, block_form, local_form, locals_form, blocks_form, args_form, body_form, function_form, repeat_form, reloc_form, item_behind, item_form, items_form, global_form, globals_form, functions_form, program_form}
+use Rattle.mr_ast.specs.ProgramGrammar.{StmtShape, OfLocal, OfNumber, OfPlace, numbered_form, stmt_shape_form, stmt_behind, stmt_shape, begins_stmt, assign_form, stmt_form, switch_case_form, switch_cases_form, switch_form, unwind_form, values_form, call_form, do_form, term_behind, term_form, stmts_form, block_form, local_form, locals_form, blocks_form, args_form, body_form, function_form, repeat_form, reloc_form, item_behind, item_form, items_form, global_form, globals_form, functions_form, program_form}
 use Rattle.mr_grammar.proofs.Walk.Conditions.{Begins, Stops}
 use Rattle.mr_grammar.proofs.Stops.PartLaws.{part_begins, part_stops, IsTold}
 use Rattle.mr_grammar.proofs.Stops.PieceLaws.{word_begins, behind_begins, giving_begins, only_first, told_behind, told_before, separated_begins, told_separated, separated_stops, told_listed, told_optional, behind_stops, before_stops}
@@ -42,23 +41,23 @@ optional_stops : (t : List ℕ) {A : Type 0} (a : Writing A) (w : Word) → is_w
 optional_stops t a w other s = ((λ empty. other), ((λ empty. tt), behind_stops t a w s), tt)
 
 -- statements
+told_stmt_shape : (s : StmtShape) → IsTold (stmt_shape_form s)
+unfolding numbered_form
+told_stmt_shape (OfLocal make) = (tt, told_local_use, λ w b. tt)
+told_stmt_shape (OfPlace make) = (tt, tt, λ w b. tt)
+told_stmt_shape (OfNumber make) = (tt, told_behind (codes "=") num_form told_num, λ w b. rw (behind_begins (codes "=") num_form w b) refl)
+
 told_stmt_behind : (i : StmtWord) → IsTold (stmt_behind i)
-unfolding disc_form
-told_stmt_behind stmt_word.Live = (tt, told_local_use, λ w b. tt)
-told_stmt_behind stmt_word.Dead = (tt, told_local_use, λ w b. tt)
-told_stmt_behind stmt_word.Mention = (tt, tt, λ w b. tt)
-told_stmt_behind stmt_word.Disc = (tt, told_behind (codes "=") num_form told_num, λ w b. rw (behind_begins (codes "=") num_form w b) refl)
-told_stmt_behind stmt_word.Deinit = (tt, tt, λ w b. tt)
-told_stmt_behind stmt_word.Validate = (tt, tt, λ w b. tt)
+told_stmt_behind i = told_stmt_shape (stmt_shape i)
+
+stmt_shape_stops : (s : StmtShape) (w : Word) → begins_postfix w.text ≡ false → Stops part_stops (stmt_shape_form s) w
+unfolding numbered_form
+stmt_shape_stops (OfLocal make) w other = ((λ empty. tt), use_stops w)
+stmt_shape_stops (OfPlace make) w other = ((λ empty. tt), other)
+stmt_shape_stops (OfNumber make) w other = ((λ empty. absurd (cc)), behind_stops (codes "=") num_form w (num_stops w))
 
 stmt_behind_stops : (i : StmtWord) (w : Word) → begins_postfix w.text ≡ false → Stops part_stops (stmt_behind i) w
-unfolding disc_form
-stmt_behind_stops stmt_word.Live w other = ((λ empty. tt), use_stops w)
-stmt_behind_stops stmt_word.Dead w other = ((λ empty. tt), use_stops w)
-stmt_behind_stops stmt_word.Mention w other = ((λ empty. tt), other)
-stmt_behind_stops stmt_word.Disc w other = ((λ empty. absurd (cc)), behind_stops (codes "=") num_form w (num_stops w))
-stmt_behind_stops stmt_word.Deinit w other = ((λ empty. tt), other)
-stmt_behind_stops stmt_word.Validate w other = ((λ empty. tt), other)
+stmt_behind_stops i w other = stmt_shape_stops (stmt_shape i) w other
 
 told_stmt : (k : ℕ) → IsTold (stmt_form k)
 unfolding stmt_form assign_form

@@ -29,7 +29,7 @@ use Rattle.mr_ast.specs.Words.{is_name, is_number}
 use Rattle.mr_ast.specs.Writing.{Kind, TheType, TheTree, ThePlace, TheValue, Writing, fine, limit, word, limited_word, token, judged_u64, judged_repeat, judged_any, judged_positive, judged_name, judged_target, judged_int, u64_form, num_form, name_form, int_form}
 use Rattle.mr_ast.specs.TypeGrammar.{shape_form, field_form, chunk_form, tag_form, variant_form, case_form, branch_form, tree_behind, judged_tree, tree_form, ref_form, tuple_type_form, array_form, union_type_form, enum_form, type_behind, judged_type, type_form, tags_form, cases_form, fields_form, chunks_form, variants_form}
 use Rattle.mr_ast.specs.ValueGrammar.{postfix_form, deref_form, base_form, place_from, global_value_form, tuple_value_form, union_value_form, variant_value_form, addr_of_form, cast_form, transmute_form, binary_form, value_behind, judged_value, value_form, postfixes_form, more_values_form}
-use Rattle.mr_ast.specs.ProgramGrammar.{judged_edition, judged_stmt, disc_form, stmt_behind, assign_form, stmt_form, switch_case_form, switch_form, unwind_form, call_form, judged_intrinsic, intrinsic_form, do_form, term_behind, judged_term, term_form, judged_kind, block_form, local_form, locals_form, blocks_form, body_form, function_form, repeat_form, reloc_form, item_behind, judged_item, item_form, global_form, program_form, switch_cases_form, values_form, stmts_form, args_form, items_form, globals_form, functions_form}
+use Rattle.mr_ast.specs.ProgramGrammar.{StmtShape, OfLocal, OfNumber, OfPlace, judged_edition, judged_stmt, numbered_form, stmt_shape_form, stmt_behind, stmt_shape, assign_form, stmt_form, switch_case_form, switch_form, unwind_form, call_form, judged_intrinsic, intrinsic_form, do_form, term_behind, judged_term, term_form, judged_kind, block_form, local_form, locals_form, blocks_form, body_form, function_form, repeat_form, reloc_form, item_behind, judged_item, item_form, global_form, program_form, switch_cases_form, values_form, stmts_form, args_form, items_form, globals_form, functions_form}
 use Rattle.mr_ast.specs.Spelled.{form_of}
 use Rattle.mr_grammar.proofs.Walk.Conditions.{IsSampled}
 use Rattle.mr_grammar.proofs.Walk.HeightLaws.{SomePart, SomeSpelled, settled}
@@ -253,14 +253,14 @@ sample room scope form sampled =
     (x, marks, settled room scope form x marks one)
 
 -- statements
+stmt_shape_sampled : (s : StmtShape) → IsSampled true (stmt_shape_form s)
+unfolding numbered_form
+stmt_shape_sampled (OfLocal make) = search pieces parts 10
+stmt_shape_sampled (OfPlace make) = (tt, refl)
+stmt_shape_sampled (OfNumber make) = search pieces parts 10
+
 pub stmt_behind_sampled : (w : StmtWord) → IsSampled true (stmt_behind w)
-unfolding disc_form
-stmt_behind_sampled stmt_word.Live = search pieces parts 10
-stmt_behind_sampled stmt_word.Dead = search pieces parts 10
-stmt_behind_sampled stmt_word.Mention = (tt, refl)
-stmt_behind_sampled stmt_word.Disc = search pieces parts 10
-stmt_behind_sampled stmt_word.Deinit = (tt, refl)
-stmt_behind_sampled stmt_word.Validate = (tt, refl)
+stmt_behind_sampled w = stmt_shape_sampled (stmt_shape w)
 
 pub assign_sampled : (over : Bool) → IsSampled true (assign_form over)
 unfolding assign_form

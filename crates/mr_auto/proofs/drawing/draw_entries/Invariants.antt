@@ -1,6 +1,10 @@
+use Rattle.std.proofs.Common.{List}
+use Rattle.mr_event.specs.Footprint.{Footprint}
 use Rattle.mr_auto.proofs.DrawnSoFar.{DrawnSo}
 use Rattle.mr_auto.proofs.drawing.draw_entries.Given as goal
 
+-- what is kept is that of some steps
 abbrev pub invariant-loop-i : goal.invariant-loop-i
-invariant-loop-i l =
-    DrawnSo l.most l.i l.initial.machine l.initial.chooser l.machine l.chooser l.initial.entries l.entries l.initial.steps.items l.steps.items
+invariant-loop-i g l =
+    (steps : List Footprint) × g.R.Record.keeps l.kept steps
+    × DrawnSo l.most l.i l.initial.machine l.initial.chooser l.machine l.chooser l.initial.entries l.entries steps

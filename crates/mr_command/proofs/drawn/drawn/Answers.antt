@@ -1,19 +1,27 @@
-use Rattle.std.proofs.Common.{◌≤◌, length, subst, sym}
-use Rattle.std.specs.Prelude.{map}
-use Rattle.mr_plan.specs.Runs.{Config}
-use Rattle.mr_thread.specs.Steps.{Own}
-use Rattle.mr_report.specs.Json.{ArePrinted}
-use Rattle.mr_command.specs.Report.{line_of}
-use Rattle.mr_command.proofs.PrintedLaws.{run_printed}
-use Rattle.mr_command.proofs.StepCount.{run_steps}
+use Rattle.std.proofs.Common.{◌≡◌, ◌≤◌, List, length, subst, sym}
+use Rattle.std.specs.Prelude.{IfOk}
+use Rattle.mr_auto.specs.Drawing.{drawn_schedule}
+use Rattle.mr_event.specs.Footprint.{Footprint}
+use Rattle.mr_run.proofs.StepCount.{steps_within}
+use Rattle.mr_command.specs.declared.answer.Written.{Written}
+use Rattle.mr_command.specs.Answer.{Answer}
+use Rattle.mr_command.specs.Answering.{seen}
+use Rattle.mr_command.proofs.PrintedLaws.{printed_by_run}
+use Rattle.mr_command.proofs.RunLaws.{drawn_is}
 use Rattle.mr_command.proofs.drawn.drawn.Goals as goal
 
-pub report-requires-clause-steps : goal.report-requires-clause-steps
-report-requires-clause-steps c =
-    let w = c.in_ok-schedule.field-0.schedule in
-    subst (λ steps. length steps ≤ length w.entries) (sym c.in_ok-schedule.ensures.run.are) (run_steps c.args.p.now w)
+pub drawn_report-requires-clause-steps : goal.drawn_report-requires-clause-steps
+drawn_report-requires-clause-steps c =
+    let w = c.in-Ok.run'.schedule in
+    subst (λ (l : List Footprint). length l ≤ length w.entries) (sym c.in-Ok.ensures.kept) (steps_within c.args.p.now w)
 
-pub report-requires-clause-texts : goal.report-requires-clause-texts
-report-requires-clause-texts c =
-    let w = c.in_ok-schedule.field-0.schedule in
-    subst (λ (x : Config Own). ArePrinted (map line_of x.output)) (sym c.in_ok-schedule.ensures.run.config) (run_printed c.args.p.now w)
+pub drawn_report-requires-clause-texts : goal.drawn_report-requires-clause-texts
+drawn_report-requires-clause-texts c = printed_by_run c.args.p.now c.in-Ok.run'.schedule c.in-Ok.run'.machine.config c.in-Ok.ensures.run.config
+
+pub returns-in-Ok-clause-answer : goal.returns-in-Ok-clause-answer
+returns-in-Ok-clause-answer c =
+    let p = c.args.p.now in
+    let run = c.in-Ok.run' in
+    subst (λ (a : Answer). IfOk c.drawn_report.result (λ (x : Written). seen x ≡ a))
+    (drawn_is p run.schedule (drawn_schedule p c.args.number c.args.most) run.machine.config c.draw.new.kept c.in-Ok.ensures.schedule c.in-Ok.ensures.run.config c.in-Ok.ensures.kept)
+    c.drawn_report.ensures.answer

@@ -1,23 +1,27 @@
-use Rattle.std.proofs.Common.{ap, ◌∙◌, arith, length}
-use Rattle.mr_command.proofs.PrintedLaws.{printed_lines}
-use Rattle.mr_command.proofs.ReorderedLaws.{again_bare, refused_again}
+use Rattle.std.proofs.Common.{[], None, subst}
+use Rattle.mr_command.specs.declared.command.Format.TheVariants.{Text}
+use Rattle.mr_command.specs.Answer.{Answer, behind_schedule, ordered_answer, told_by}
+use Rattle.mr_command.specs.Answering.{Tells}
+use Rattle.mr_command.proofs.PrintedLaws.{printed_by_run}
+use Rattle.mr_command.proofs.ReorderedLaws.{again_is}
+use Rattle.mr_command.proofs.RunLaws.{refused_again, refused_read}
 use Rattle.mr_command.proofs.reordered.run_again.Goals as goal
 
-pub with_schedule-requires-clause-steps : goal.with_schedule-requires-clause-steps
-with_schedule-requires-clause-steps c =
-    let none = ap length c.in-Ok.ensures.1 in
-    omega arith
+pub with_schedule-requires : goal.with_schedule-requires
+with_schedule-requires c = printed_by_run c.args.p.now c.args.order.now c.in-Ok.machine.config c.in-Ok.ensures.answer.config
 
-pub with_schedule-requires-clause-texts : goal.with_schedule-requires-clause-texts
-with_schedule-requires-clause-texts c =
-    let (working, none, steps, legal) = c.in-Ok.ensures in
-    printed_lines c.args.p.now c.args.order.now (record { config = c.in-Ok.finished.machine.config; steps = steps }) legal
+pub returns-in-Ok-clause-answer : goal.returns-in-Ok-clause-answer
+returns-in-Ok-clause-answer c =
+    subst (λ (a : Answer). Tells a c.answered.result) (again_is c.args.p.now c.args.v c.args.order.now c.in-Ok.machine.config c.in-Ok.ensures.answer.config c.requires.silent)
+    (c.answered.ensures.answer (behind_schedule c.args.v c.args.order.now (told_by Text c.args.v c.in-Ok.machine.config [] None)) c.with_schedule.ensures.answer)
 
-pub returns-in_ok-with_schedule-in-Ok-clause-answer : goal.returns-in_ok-with_schedule-in-Ok-clause-answer
-returns-in_ok-with_schedule-in-Ok-clause-answer c =
-    let (working, none, steps, legal) = c.in-Ok.ensures in
-    c.in_ok-with_schedule-in-Ok.ensures.answer
-    ∙ again_bare c.args.p.now c.args.v c.args.order.now c.in-Ok.finished.machine.config steps c.in-Ok.finished.steps.items none c.requires.legal legal c.requires.silent
+pub refusal_of-requires-clause-there : goal.refusal_of-requires-clause-there
+refusal_of-requires-clause-there c = c.in-Err.ensures.place
 
 pub returns-in-Err-clause-answer : goal.returns-in-Err-clause-answer
-returns-in-Err-clause-answer c = refused_again c.args.p.now c.args.v c.args.order.now c.in-Err.refusal c.requires.legal c.in-Err.ensures
+returns-in-Err-clause-answer c =
+    rw c.refusal_of.ensures
+    (refused_again c.args.p.now c.args.v c.args.order.now c.in-Err.fault (ordered_answer c.args.p.now c.args.v c.args.order.now) c.requires.legal c.in-Err.ensures.answer)
+
+pub returns-in-Err-clause-read : goal.returns-in-Err-clause-read
+returns-in-Err-clause-read c = rw c.refusal_of.ensures (refused_read c.args.v c.args.order.now c.in-Err.fault)

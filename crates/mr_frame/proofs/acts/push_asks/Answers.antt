@@ -3,7 +3,7 @@ use Rattle.mr_ast.specs.declared.program.Local.{Local}
 use Rattle.mr_ast.specs.declared.program.LocalName.{LocalName}
 use Rattle.mr_layout.specs.TypeOk.{TypeOk}
 use Rattle.mr_frame.proofs.AskLaws.{Asking, asking_cut, asking_end, asking_first, asking_next}
-use Rattle.mr_frame.proofs.Places.{all_at}
+use Rattle.mr_base.proofs.Lists.{all_at}
 use Rattle.mr_frame.proofs.acts.push_asks.Goals as goal
 
 -- what stands for a name that isn't there

@@ -9,8 +9,8 @@ use Rattle.mr_eval.specs.World.{world_of}
 use Rattle.mr_frame.specs.Beginning.{stored_each}
 use Rattle.mr_frame.specs.Effects.{stored_in}
 use Rattle.mr_frame.proofs.BeginSteps.{Storing, shape_here, storing_cut, storing_end, storing_first, storing_next, storing_stops}
-use Rattle.mr_frame.proofs.Places.{all_at}
 use Rattle.mr_frame.proofs.ToldLaws.{told_stop}
+use Rattle.mr_base.proofs.Lists.{all_at}
 use Rattle.mr_frame.proofs.begins.store_each.Goals as goal
 
 -- what stands for a name and a pointer that aren't there

@@ -5,8 +5,8 @@ use Rattle.mr_eval.specs.Evaluated.{each_valued, valued}
 use Rattle.mr_eval.specs.declared.halt.Halt.TheVariants as halt
 use Rattle.mr_eval.proofs.ExtendsLaws.{extends_same, extends_then}
 use Rattle.mr_eval.proofs.RowRuns.{behind_row, row_end, row_next, row_stop}
-use Rattle.mr_frame.proofs.ActedLaws.{on_itself}
 use Rattle.mr_frame.proofs.ToldLaws.{told_stop}
+use Rattle.mr_plan.proofs.SafetyLaws.{on_itself}
 use Rattle.mr_frame.proofs.values.values.Goals as goal
 
 pub loop-arg-init : goal.loop-arg-init

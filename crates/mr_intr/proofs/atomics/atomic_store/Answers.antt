@@ -18,9 +18,9 @@ use Rattle.mr_eval.specs.Stores.{storing}
 use Rattle.mr_eval.specs.World.{world_of}
 use Rattle.mr_intr.specs.Effects.{begun}
 use Rattle.mr_intr.proofs.Arguments.{atomic_store_takes}
-use Rattle.mr_intr.proofs.AtomicLaws.{int_ok}
 use Rattle.mr_intr.proofs.AtomicRuns.{does_handed, store_read, write_fault, write_went}
 use Rattle.mr_intr.proofs.OperatedLaws.{done_as, fault_as, memory_fault, memory_went}
+use Rattle.mr_layout.proofs.BrokenLaws.{int_ok}
 use Rattle.mr_intr.proofs.atomics.atomic_store.Goals as goal
 
 pub pointer_at-p-requires : goal.pointer_at-p-requires

@@ -1,4 +1,5 @@
 use Rattle.std.proofs.Common.{◌≡◌, ℕ, List, ◌++◌, [], ◌∷◌, drop, ap, sym, subst, ◌∙◌, append-nil, append_assoc}
+use Rattle.std.proofs.lemmas.List.{nil_from_length}
 use Rattle.mr_eval.specs.Shapes.{HaveShapes}
 use Rattle.mr_ast.specs.declared.program.Intrinsic.TheVariants as intrinsic
 use Rattle.mr_ast.specs.declared.types.Ty.{Ty}
@@ -7,7 +8,7 @@ use Rattle.mr_intr.specs.Printed.{text_in, texts_in}
 use Rattle.mr_intr.specs.Texts.{spaced, spaced_behind}
 use Rattle.mr_intr.specs.Effects.{begun, operated}
 use Rattle.mr_intr.proofs.OperatedLaws.{done_as}
-use Rattle.mr_intr.proofs.TextLaws.{behind_first, no_args, no_texts, printed_done, print_kinds, texts_first}
+use Rattle.mr_intr.proofs.TextLaws.{behind_first, no_texts, printed_done, print_kinds, texts_first}
 use Rattle.mr_intr.proofs.texts.print.Goals as goal
 
 pub returns-in_default-clause-done : goal.returns-in_default-clause-done
@@ -15,7 +16,7 @@ returns-in_default-clause-done c =
     λ place picks s x.
     let types = c.args.types.now in
     let old = c.args.output.now.items in
-    let none : c.args.args.now ≡ [] = no_args c.args.args.now c.in_default.ensures.cases in
+    let none : c.args.args.now ≡ [] = nil_from_length c.args.args.now c.in_default.ensures.cases in
     let shapes : HaveShapes types [] = subst (HaveShapes types) none c.requires.1.shapes in
     let is : old ≡ old ++ spaced (texts_in types []) = sym (ap (λ (xs : List ℕ). old ++ xs) (no_texts types) ∙ append-nil old) in
     let done = printed_done types [] place picks s x old old (print_kinds types c.args.args.now c.requires.0 c.requires.1) shapes is in

@@ -28,7 +28,7 @@ returns-clause-ok c = λ th n here tells.
     let many : length marked ≡ length p.threads.items =
     sym (numbered_length 0 marked) ∙ ap length marks ∙ length-set (numbered 0 p.threads.items) t (standing_thread t c.is_end.result s.count th.stack) ∙ numbered_length 0 p.threads.items in
     let q : Progress = record {
-      scene = c.keep_last.new.scene;
+      scene = c.complete_accesses.new.scene;
       threads = c.join.new.threads;
       sync = p.sync;
       gone = p.gone;
@@ -39,14 +39,14 @@ returns-clause-ok c = λ th n here tells.
     } in
     let behind : IsBehind edition p t s d th.stack foot q = record {
       foot = refl;
-      memory = c.in_ok-keep_last.ensures.memory ∙ ap (λ (x : Scene). x.memory) whole;
+      memory = ap (λ (x : Scene). x.memory) whole;
       sync = refl;
       gone = refl;
       threads = c.in_ok-join.ensures
           ∙ (λ i. marks i ++ started_threads (option_map (own_of (many i)) d.started))
           ∙ (λ i. slice_set (numbered 0 p.threads.items) t (standing_thread t (c.is_end.ensures i) s.count th.stack) ++ started_threads (option_map (own_of (length p.threads.items)) d.started));
       output = c.in_ok-print.ensures.ok;
-      last = c.in_ok-keep_last.ensures.last ∙ ap (λ (x : Scene). Some (foot_by x d)) whole;
+      last = c.in_ok-keep_last.ensures ∙ ap (λ (x : Scene). Some (foot_by x d)) whole;
       completed = refl;
       verdict = c.verdict_behind-verdict.ensures d ∙ ap (λ o. verdict_in o (foot_by c.complete_accesses.new.scene d) p.sync) c.as_ref.ensures.value ∙ ap (λ (x : Scene). verdict_in p.last (foot_by x d) p.sync) whole;
     } in

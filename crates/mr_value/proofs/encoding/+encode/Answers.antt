@@ -1,5 +1,6 @@
 use Rattle.std.proofs.Common.{ℕ, true, subst, ◌≡◌, ◌+◌, ◌≤◌, ◌<◌, ◌++◌, List, [], drop, get_or, length, sym, ap, ◌∙◌, arith}
 use Rattle.std.specs.Prelude.{◌==◌}
+use Rattle.std.proofs.lemmas.Bool.{and_parts}
 use Rattle.mr_ast.specs.declared.types.Ty.{Ty}
 use Rattle.mr_ast.specs.declared.types.Ty.TheVariants as ty
 use Rattle.mr_ast.specs.declared.types.Variant.{Variant}
@@ -9,7 +10,6 @@ use Rattle.mr_layout.specs.EnumRules.{same_num, are_all_tags}
 use Rattle.mr_layout.specs.Sizes.{size_of}
 use Rattle.mr_layout.specs.Parts.{is_ok, are_ok, are_chunks_ok, are_variants_ok}
 use Rattle.mr_layout.proofs.OkTests.{ok_of, ok_tuple, ok_array, ok_union, ok_enum}
-use Rattle.mr_layout.proofs.PartsOk.{and_true}
 use Rattle.mr_runs.specs.Ranges.{with_range_replaced}
 use Rattle.mr_runs.proofs.RangeLaws.{length-with_range_replaced}
 use Rattle.mr_value.specs.declared.val.Val.{Val}
@@ -75,7 +75,7 @@ append-append_elements-requires t c =
     let whole : has_shape (ty.Array i.count i.elem) (val.Tuple vs) ≡ true =
     sym (ap (λ x. has_shape x c.args.v.now) i.is ∙ ap (has_shape (ty.Array i.count i.elem)) c.values_in-in-Array.ensures) ∙ c.requires.shape in
     let s : elements_pass (has_shape c.get.result.now) vs ≡ true =
-    ap (λ x. elements_pass (has_shape x) vs) same ∙ (and_true (length vs == i.count) (elements_pass (has_shape i.elem) vs) (sym (has_array i.count i.elem vs) ∙ whole)).1 in
+    ap (λ x. elements_pass (has_shape x) vs) same ∙ (and_parts (length vs == i.count) (elements_pass (has_shape i.elem) vs) (sym (has_array i.count i.elem vs) ∙ whole)).1 in
     let w : weight_of c.args.t.now ≡ 1 + weight_of c.get.result.now = ap weight_of i.is ∙ weight_array i.count i.elem ∙ ap (λ x. 1 + weight_of x) (sym same) in
     (omega (arith, c.decreases), (o, s))
 

@@ -1,5 +1,5 @@
 use Rattle.std.proofs.Common.{take}
-use Rattle.mr_clocks.specs.Kinds.{Tracks}
+use Rattle.mr_clocks.specs.Tracked.{Tracks}
 use Rattle.mr_clocks.proofs.analysis.Analysis.of_run.Given as goal
 
 abbrev pub invariant-loop-j : goal.invariant-loop-j

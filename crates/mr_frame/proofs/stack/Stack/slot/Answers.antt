@@ -5,7 +5,7 @@ use Rattle.mr_ast.specs.declared.program.Function.{Function}
 use Rattle.mr_ast.specs.declared.program.Local.{Local}
 use Rattle.mr_layout.specs.TypeOk.{TypeOk}
 use Rattle.mr_layout.proofs.Bounds.{type_ok_small}
-use Rattle.mr_frame.proofs.Places.{all_at}
+use Rattle.mr_base.proofs.Lists.{all_at}
 use Rattle.mr_frame.proofs.stack.Stack.slot.Goals as goal
 
 pub returns : goal.returns

@@ -6,7 +6,7 @@ use Rattle.mr_frame.specs.Acting.{nothing_seen}
 use Rattle.mr_frame.specs.Kept.{below_of, frame_of, stack_of}
 use Rattle.mr_frame.specs.Sites.{AtStatement}
 use Rattle.mr_frame.specs.Standing.{IsDue}
-use Rattle.mr_frame.proofs.AskLaws.{asked_stmt, live_asks, live_inside, live_ok, no_live}
+use Rattle.mr_frame.proofs.AskLaws.{asked_stmt, live_asks, live_inside, live_ok}
 use Rattle.mr_frame.proofs.stack.Stack.statement_asks.Goals as goal
 
 pub local_at-requires : goal.local_at-requires
@@ -28,4 +28,4 @@ returns-in-Live-clause-ok c =
 pub returns-in_default-clause-ok : goal.returns-in_default-clause-ok
 returns-in_default-clause-ok c =
     let s = c.args.self.now in
-    λ m thread. sym (ap (λ (asks : List Ask). c.args.out.now.items ++ asks) (asked_stmt c.args.look.now c.requires.ready (frame_of s.top) (below_of s) (stack_of s).payloads c.args.stmt.now (no_live c.args.stmt.now c.in_default.not-Live) c.requires.stands m thread nothing_seen) ∙ append-nil c.args.out.now.items)
+    λ m thread. sym (ap (λ (asks : List Ask). c.args.out.now.items ++ asks) (asked_stmt c.args.look.now c.requires.ready (frame_of s.top) (below_of s) (stack_of s).payloads c.args.stmt.now c.in_default.not-Live c.requires.stands m thread nothing_seen) ∙ append-nil c.args.out.now.items)

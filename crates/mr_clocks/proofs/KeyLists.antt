@@ -1,0 +1,364 @@
+-- The keys of a step as lists.
+use Rattle.std.proofs.Common.{◌≡◌, ℕ, ◌+◌, ◌<◌, ◌≤◌, ◌⊎◌, inl, inr, List, [], ◌∷◌, ◌++◌, Bool, true, false, map, length, get_or, take, refl, sym, ◌∙◌, ap, arith}
+use Rattle.std.specs.Prelude.{Some, ◌==◌, ◌&&◌, ◌||◌, slice_index, slice_index_or, All}
+use Rattle.std.specs.List.{Contains, list_any}
+use Rattle.std.proofs.lemmas.Bool.{and_from, and_parts, eq-eqb, eqb-true, false≢true, or_cases, or_left, or_right}
+use Rattle.std.proofs.lemmas.List.{append_assoc, get_or-map, length-map, map_more, take_all}
+use Rattle.std.proofs.lemmas.List.Elements.{All-append, All-cons, All-map, All-nil, Contains-append_left, Contains-append_right}
+use Rattle.std.proofs.lemmas.List.Folds.{list_any_at}
+use Rattle.std.proofs.lemmas.Map.Views.{Contains-from_any}
+use Rattle.mr_base.specs.declared.access.Access.{Access}
+use Rattle.mr_base.specs.declared.byte.AllocId.{AllocId}
+use Rattle.mr_base.specs.declared.thread.Event.{Event}
+use Rattle.mr_base.specs.declared.thread.Event.TheVariants.{Quiet, CreateLock, Acquire, Release, Spawn, Join}
+use Rattle.mr_base.specs.Accesses.{races, some_race}
+use Rattle.mr_event.specs.Footprint.{Footprint}
+use Rattle.mr_base.specs.Identities.{same_id}
+use Rattle.mr_event.specs.Footprints.{lock_of, same_number, spawns, wakes}
+use Rattle.mr_event.specs.Order.{step_at, thread_at}
+use Rattle.mr_clocks.specs.declared.keys.Key.{Key}
+use Rattle.mr_clocks.specs.declared.keys.Key.TheVariants.{Lock, Creation, Spawning, Starts, Joins, Made, Touched, Range, Wakes}
+use Rattle.mr_clocks.specs.declared.rows.Row.{Row}
+use Rattle.mr_clocks.specs.Keys.{IsExact, asks, creates, end_asked, end_noted, event_asked, event_noted, joins, keys_asked, keys_noted, made_keys, notes, range_keys, same_access, same_bool, spawns_some, starts, touched_keys, woken_keys}
+use Rattle.mr_clocks.specs.Rows.{ArePlaces, IsRowFor}
+use Rattle.mr_clocks.proofs.KeyLaws.{same_access_refl, same_id_refl}
+
+-- ---- lists that are made an element at a time
+
+pub mapped_more : {A B : Type 0} (f : A → B) (old keys new : List B) (xs : List A) (i : ℕ) (d : A) → i < length xs → keys ≡ old ++ map f (take i xs) → new ≡ keys ++ f (get_or xs i d) ∷ [] → new ≡ old ++ map f (take (i + 1) xs)
+mapped_more f old keys new xs i d lt is pushed =
+    pushed
+    ∙ ap (λ l. l ++ f (get_or xs i d) ∷ []) is
+    ∙ append_assoc old (map f (take i xs)) (f (get_or xs i d) ∷ [])
+    ∙ ap (λ l. old ++ l) (sym (map_more f xs i d lt))
+
+pub mapped_all : {A B : Type 0} (f : A → B) (old keys : List B) (xs : List A) (i : ℕ) → length xs ≤ i → keys ≡ old ++ map f (take i xs) → keys ≡ old ++ map f xs
+mapped_all f old keys xs i le is = is ∙ ap (λ l. old ++ map f l) (take_all i xs le)
+
+-- six parts, appended one after the other
+pub six_parts : (a b c d e f k0 k1 k2 k3 k4 k5 k6 : List Key) → k0 ≡ [] → k1 ≡ k0 ++ a → k2 ≡ k1 ++ b → k3 ≡ k2 ++ c → k4 ≡ k3 ++ d → k5 ≡ k4 ++ e → k6 ≡ k5 ++ f → k6 ≡ a ++ (b ++ (c ++ (d ++ (e ++ f))))
+six_parts a b c d e f k0 k1 k2 k3 k4 k5 k6 e0 e1 e2 e3 e4 e5 e6 =
+    e6
+    ∙ ap (λ (l : List Key). l ++ f) (e5 ∙ ap (λ (l : List Key). l ++ e) (e4 ∙ ap (λ (l : List Key). l ++ d) (e3 ∙ ap (λ (l : List Key). l ++ c) (e2 ∙ ap (λ (l : List Key). l ++ b) (e1 ∙ ap (λ (l : List Key). l ++ a) e0)))))
+    ∙ append_assoc (((a ++ b) ++ c) ++ d) e f
+    ∙ append_assoc ((a ++ b) ++ c) d (e ++ f)
+    ∙ append_assoc (a ++ b) c (d ++ (e ++ f))
+    ∙ append_assoc a b (c ++ (d ++ (e ++ f)))
+
+-- ---- tests that hold of equal things alone
+
+pub id_exact : (a b : AllocId) → same_id a b ≡ true → a ≡ b
+id_exact a b e =
+    let p = and_parts (a.thread == b.thread) (a.count == b.count) e in
+    let one : a.thread ≡ b.thread = eqb-true a.thread b.thread p.0 in
+    let two : a.count ≡ b.count = eqb-true a.count b.count p.1 in
+    λ i. record { thread = one i; count = two i }
+
+bool_exact : (a b : Bool) → same_bool a b ≡ true → a ≡ b
+bool_exact true true e = refl
+bool_exact true false e = absurd (false≢true e)
+bool_exact false true e = absurd (false≢true e)
+bool_exact false false e = refl
+
+pub access_exact : (a b : Access) → same_access a b ≡ true → a ≡ b
+access_exact a b e =
+    let p = and_parts (same_bool a.store b.store && same_bool a.atomic b.atomic && (a.addr == b.addr)) (a.len == b.len) e in
+    let q = and_parts (same_bool a.store b.store && same_bool a.atomic b.atomic) (a.addr == b.addr) p.0 in
+    let r = and_parts (same_bool a.store b.store) (same_bool a.atomic b.atomic) q.0 in
+    let one : a.store ≡ b.store = bool_exact a.store b.store r.0 in
+    let two : a.atomic ≡ b.atomic = bool_exact a.atomic b.atomic r.1 in
+    let three : a.addr ≡ b.addr = eqb-true a.addr b.addr q.1 in
+    let four : a.len ≡ b.len = eqb-true a.len b.len p.1 in
+    λ i. record { store = one i; atomic = two i; addr = three i; len = four i }
+
+-- the key of an element stands among the keys of all
+any_mapped : {X : Type 0} (eq : X → X → Bool) (make : X → Key) → ((x y : X) → eq x y ≡ true → x ≡ y) → (x : X) (xs : List X) → list_any (eq x) xs ≡ true → Contains (map make xs) (make x)
+any_mapped eq make exact x xs h =
+    let c = Contains-from_any exact x xs h in
+    (c.0, omega (arith, length-map xs make, c.1), get_or-map make xs c.0 x (make x) c.1 ∙ ap make c.2)
+
+woken_mapped : (thread : ℕ) (ts : List ℕ) → list_any (λ t. t == thread) ts ≡ true → Contains (woken_keys ts) (Wakes thread)
+woken_mapped thread [] h = absurd (false≢true h)
+woken_mapped thread (t ∷ ts) h =
+    elim (or_cases (t == thread) (list_any (λ t. t == thread) ts) h) [
+      | inl e ↦ (0, omega arith, ap Wakes (eqb-true t thread e))
+      | inr e ↦ Contains-append_right (Wakes t ∷ []) (woken_keys ts) (Wakes thread) (woken_mapped thread ts e)
+    ]
+
+-- ---- the keys of an event
+
+lock_noted : (e : Event) (n : ℕ) → same_number (lock_of e) (Some n) ≡ true → Contains (event_noted e) (Lock n)
+lock_noted (CreateLock l) n h = (0, omega arith, ap Lock (eqb-true l n h))
+lock_noted (Acquire l) n h = (0, omega arith, ap Lock (eqb-true l n h))
+lock_noted (Release l) n h = (0, omega arith, ap Lock (eqb-true l n h))
+lock_noted Quiet n h = absurd (false≢true h)
+lock_noted (Spawn t) n h = absurd (false≢true h)
+lock_noted (Join t) n h = absurd (false≢true h)
+
+lock_asked : (e : Event) (n : ℕ) → same_number (lock_of e) (Some n) ≡ true → Contains (event_asked e) (Lock n)
+lock_asked (CreateLock l) n h = (0, omega arith, ap Lock (eqb-true l n h))
+lock_asked (Acquire l) n h = (0, omega arith, ap Lock (eqb-true l n h))
+lock_asked (Release l) n h = (0, omega arith, ap Lock (eqb-true l n h))
+lock_asked Quiet n h = absurd (false≢true h)
+lock_asked (Spawn t) n h = absurd (false≢true h)
+lock_asked (Join t) n h = absurd (false≢true h)
+
+creation_noted : (e : Event) → creates e ≡ true → Contains (event_noted e) Creation
+creation_noted (CreateLock l) h = (1, omega arith, refl)
+creation_noted Quiet h = absurd (false≢true h)
+creation_noted (Acquire l) h = absurd (false≢true h)
+creation_noted (Release l) h = absurd (false≢true h)
+creation_noted (Spawn t) h = absurd (false≢true h)
+creation_noted (Join t) h = absurd (false≢true h)
+
+creation_asked : (e : Event) → creates e ≡ true → Contains (event_asked e) Creation
+creation_asked (CreateLock l) h = (1, omega arith, refl)
+creation_asked Quiet h = absurd (false≢true h)
+creation_asked (Acquire l) h = absurd (false≢true h)
+creation_asked (Release l) h = absurd (false≢true h)
+creation_asked (Spawn t) h = absurd (false≢true h)
+creation_asked (Join t) h = absurd (false≢true h)
+
+spawning_noted : (e : Event) → spawns_some e ≡ true → Contains (event_noted e) Spawning
+spawning_noted (Spawn t) h = (0, omega arith, refl)
+spawning_noted Quiet h = absurd (false≢true h)
+spawning_noted (CreateLock l) h = absurd (false≢true h)
+spawning_noted (Acquire l) h = absurd (false≢true h)
+spawning_noted (Release l) h = absurd (false≢true h)
+spawning_noted (Join t) h = absurd (false≢true h)
+
+spawning_asked : (e : Event) → spawns_some e ≡ true → Contains (event_asked e) Spawning
+spawning_asked (Spawn t) h = (0, omega arith, refl)
+spawning_asked Quiet h = absurd (false≢true h)
+spawning_asked (CreateLock l) h = absurd (false≢true h)
+spawning_asked (Acquire l) h = absurd (false≢true h)
+spawning_asked (Release l) h = absurd (false≢true h)
+spawning_asked (Join t) h = absurd (false≢true h)
+
+join_noted : (e : Event) (t : ℕ) → joins e t ≡ true → Contains (event_noted e) (Joins t)
+join_noted (Join s) t h = (0, omega arith, ap Joins (eqb-true s t h))
+join_noted Quiet t h = absurd (false≢true h)
+join_noted (CreateLock l) t h = absurd (false≢true h)
+join_noted (Acquire l) t h = absurd (false≢true h)
+join_noted (Release l) t h = absurd (false≢true h)
+join_noted (Spawn s) t h = absurd (false≢true h)
+
+join_asked : (e : Event) (t : ℕ) → joins e t ≡ true → Contains (event_asked e) (Starts t)
+join_asked (Join s) t h = (0, omega arith, ap Starts (eqb-true s t h))
+join_asked Quiet t h = absurd (false≢true h)
+join_asked (CreateLock l) t h = absurd (false≢true h)
+join_asked (Acquire l) t h = absurd (false≢true h)
+join_asked (Release l) t h = absurd (false≢true h)
+join_asked (Spawn s) t h = absurd (false≢true h)
+
+-- of a spawned thread: the second and the third key under which the step is noted, and the second that it asks
+spawn_noted : (e : Event) (t : ℕ) → spawns e t ≡ true → Contains (event_noted e) (Starts t) × Contains (event_noted e) (Wakes t)
+spawn_noted (Spawn s) t h = ((1, omega arith, ap Starts (eqb-true s t h)), (2, omega arith, ap Wakes (eqb-true s t h)))
+spawn_noted Quiet t h = absurd (false≢true h)
+spawn_noted (CreateLock l) t h = absurd (false≢true h)
+spawn_noted (Acquire l) t h = absurd (false≢true h)
+spawn_noted (Release l) t h = absurd (false≢true h)
+spawn_noted (Join s) t h = absurd (false≢true h)
+
+spawn_asked : (e : Event) (t : ℕ) → spawns e t ≡ true → Contains (event_asked e) (Joins t)
+spawn_asked (Spawn s) t h = (1, omega arith, ap Joins (eqb-true s t h))
+spawn_asked Quiet t h = absurd (false≢true h)
+spawn_asked (CreateLock l) t h = absurd (false≢true h)
+spawn_asked (Acquire l) t h = absurd (false≢true h)
+spawn_asked (Release l) t h = absurd (false≢true h)
+spawn_asked (Join s) t h = absurd (false≢true h)
+
+ended_noted : (b : Bool) (s t : ℕ) → b ≡ true → (s == t) ≡ true → Contains (end_noted b s) (Starts t)
+ended_noted true s t e h = (0, omega arith, ap Starts (eqb-true s t h))
+ended_noted false s t e h = absurd (false≢true e)
+
+ended_asked : (b : Bool) (s t : ℕ) → b ≡ true → (s == t) ≡ true → Contains (end_asked b s) (Joins t)
+ended_asked true s t e h = (0, omega arith, ap Joins (eqb-true s t h))
+ended_asked false s t e h = absurd (false≢true e)
+
+-- ---- each key under which a step is noted stands in the list
+
+module _ (f : Footprint) where
+  abbrev behind_made : List Key
+  behind_made = touched_keys f.touched ++ range_keys f.accesses
+
+  abbrev behind_woken : List Key
+  behind_woken = made_keys f.allocated ++ behind_made
+
+  abbrev behind_end : List Key
+  behind_end = woken_keys f.woken ++ behind_woken
+
+  abbrev behind_event : List Key
+  behind_event = end_noted f.ended f.thread ++ behind_end
+
+  in_event : (k : Key) → Contains (event_noted f.event) k → Contains (keys_noted f) k
+  in_event k c = Contains-append_left (event_noted f.event) behind_event k c
+
+  past_event : (k : Key) → Contains behind_event k → Contains (keys_noted f) k
+  past_event k c = Contains-append_right (event_noted f.event) behind_event k c
+
+  past_end : (k : Key) → Contains behind_end k → Contains (keys_noted f) k
+  past_end k c = past_event k (Contains-append_right (end_noted f.ended f.thread) behind_end k c)
+
+  past_woken : (k : Key) → Contains behind_woken k → Contains (keys_noted f) k
+  past_woken k c = past_end k (Contains-append_right (woken_keys f.woken) behind_woken k c)
+
+  past_made : (k : Key) → Contains behind_made k → Contains (keys_noted f) k
+  past_made k c = past_woken k (Contains-append_right (made_keys f.allocated) behind_made k c)
+
+  starts_listed : (t : ℕ) → starts f t ≡ true → Contains (keys_noted f) (Starts t)
+  starts_listed t h = elim (or_cases (spawns f.event t) (f.ended && (f.thread == t)) h) [
+    | inl e ↦ in_event (Starts t) (spawn_noted f.event t e).0
+    | inr e ↦
+        let p = and_parts f.ended (f.thread == t) e in
+        past_event (Starts t) (Contains-append_left (end_noted f.ended f.thread) behind_end (Starts t) (ended_noted f.ended f.thread t p.0 p.1))
+  ]
+
+  wakes_listed : (t : ℕ) → wakes f t ≡ true → Contains (keys_noted f) (Wakes t)
+  unfolding wakes
+  wakes_listed t h = elim (or_cases (list_any (λ s. s == t) f.woken) (spawns f.event t) h) [
+    | inl e ↦ past_end (Wakes t) (Contains-append_left (woken_keys f.woken) behind_woken (Wakes t) (woken_mapped t f.woken e))
+    | inr e ↦ in_event (Wakes t) (spawn_noted f.event t e).1
+  ]
+
+  pub noted_listed : (k : Key) → notes f k ≡ true → Contains (keys_noted f) k
+  noted_listed (Lock n) h = in_event (Lock n) (lock_noted f.event n h)
+  noted_listed Creation h = in_event Creation (creation_noted f.event h)
+  noted_listed Spawning h = in_event Spawning (spawning_noted f.event h)
+  noted_listed (Starts t) h = starts_listed t h
+  noted_listed (Joins t) h = in_event (Joins t) (join_noted f.event t h)
+  noted_listed (Made a) h = past_woken (Made a) (Contains-append_left (made_keys f.allocated) behind_made (Made a) (any_mapped same_id Made id_exact a f.allocated h))
+  noted_listed (Touched a) h = past_made (Touched a) (Contains-append_left (touched_keys f.touched) (range_keys f.accesses) (Touched a) (any_mapped same_id Touched id_exact a f.touched h))
+  noted_listed (Range r) h = past_made (Range r) (Contains-append_right (touched_keys f.touched) (range_keys f.accesses) (Range r) (any_mapped same_access Range access_exact r f.accesses h))
+  noted_listed (Wakes t) h = wakes_listed t h
+
+  -- ---- and each key of the list is one under which the step is noted
+
+  abbrev Notes : Key → Type 0
+  Notes k = notes f k ≡ true
+
+  wakes_spawned : (t : ℕ) → spawns f.event t ≡ true → wakes f t ≡ true
+  unfolding wakes
+  wakes_spawned t h = or_right (list_any (λ s. s == t) f.woken) (spawns f.event t) h
+
+  wakes_woken : (t : ℕ) → list_any (λ s. s == t) f.woken ≡ true → wakes f t ≡ true
+  unfolding wakes
+  wakes_woken t h = or_left (list_any (λ s. s == t) f.woken) (spawns f.event t) h
+
+  event_each : (e : Event) → f.event ≡ e → All Notes (event_noted e)
+  event_each Quiet is = All-nil Notes
+  event_each (CreateLock l) is =
+      All-cons Notes (Lock l) (Creation ∷ []) (ap (λ d. same_number (lock_of d) (Some l)) is ∙ eq-eqb l l refl)
+      (All-cons Notes Creation [] (ap creates is) (All-nil Notes))
+  event_each (Acquire l) is = All-cons Notes (Lock l) [] (ap (λ d. same_number (lock_of d) (Some l)) is ∙ eq-eqb l l refl) (All-nil Notes)
+  event_each (Release l) is = All-cons Notes (Lock l) [] (ap (λ d. same_number (lock_of d) (Some l)) is ∙ eq-eqb l l refl) (All-nil Notes)
+  event_each (Spawn t) is =
+      let here : spawns f.event t ≡ true = ap (λ d. spawns d t) is ∙ eq-eqb t t refl in
+      All-cons Notes Spawning (Starts t ∷ Wakes t ∷ []) (ap spawns_some is)
+      (All-cons Notes (Starts t) (Wakes t ∷ []) (or_left (spawns f.event t) (f.ended && (f.thread == t)) here)
+      (All-cons Notes (Wakes t) [] (wakes_spawned t here) (All-nil Notes)))
+  event_each (Join t) is = All-cons Notes (Joins t) [] (ap (λ d. joins d t) is ∙ eq-eqb t t refl) (All-nil Notes)
+
+  end_each : (b : Bool) → f.ended ≡ b → All Notes (end_noted b f.thread)
+  end_each true is = All-cons Notes (Starts f.thread) [] (or_right (spawns f.event f.thread) (f.ended && (f.thread == f.thread)) (and_from f.ended (f.thread == f.thread) is (eq-eqb f.thread f.thread refl))) (All-nil Notes)
+  end_each false is = All-nil Notes
+
+  pub each_noted : All Notes (keys_noted f)
+  each_noted =
+      All-append Notes (event_noted f.event) behind_event (event_each f.event refl)
+      (All-append Notes (end_noted f.ended f.thread) behind_end (end_each f.ended refl)
+      (All-append Notes (woken_keys f.woken) behind_woken (All-map Notes Wakes f.woken (λ k d lt. wakes_woken (get_or f.woken k d) (list_any_at (λ s. s == get_or f.woken k d) f.woken k d lt (eq-eqb (get_or f.woken k d) (get_or f.woken k d) refl))))
+      (All-append Notes (made_keys f.allocated) behind_made (All-map Notes Made f.allocated (λ k d lt. list_any_at (same_id (get_or f.allocated k d)) f.allocated k d lt (same_id_refl (get_or f.allocated k d))))
+      (All-append Notes (touched_keys f.touched) (range_keys f.accesses) (All-map Notes Touched f.touched (λ k d lt. list_any_at (same_id (get_or f.touched k d)) f.touched k d lt (same_id_refl (get_or f.touched k d))))
+      (All-map Notes Range f.accesses (λ k d lt. list_any_at (same_access (get_or f.accesses k d)) f.accesses k d lt (same_access_refl (get_or f.accesses k d))))))))
+
+-- ---- each key that a step asks, but a range, stands in the list
+
+module _ (g : Footprint) where
+  abbrev after_touched : List Key
+  after_touched = made_keys g.freed ++ touched_keys g.freed
+
+  abbrev after_end : List Key
+  after_end = made_keys g.touched ++ after_touched
+
+  abbrev after_event : List Key
+  after_event = end_asked g.ended g.thread ++ after_end
+
+  abbrev after_own : List Key
+  after_own = event_asked g.event ++ after_event
+
+  from_own : (k : Key) → Contains after_own k → Contains (keys_asked g) k
+  from_own k c = Contains-append_right (Wakes g.thread ∷ []) after_own k c
+
+  from_event : (k : Key) → Contains (event_asked g.event) k → Contains (keys_asked g) k
+  from_event k c = from_own k (Contains-append_left (event_asked g.event) after_event k c)
+
+  from_behind : (k : Key) → Contains after_event k → Contains (keys_asked g) k
+  from_behind k c = from_own k (Contains-append_right (event_asked g.event) after_event k c)
+
+  from_ids : (k : Key) → Contains after_end k → Contains (keys_asked g) k
+  from_ids k c = from_behind k (Contains-append_right (end_asked g.ended g.thread) after_end k c)
+
+  from_freed : (k : Key) → Contains after_touched k → Contains (keys_asked g) k
+  from_freed k c = from_ids k (Contains-append_right (made_keys g.touched) after_touched k c)
+
+  joins_listed : (t : ℕ) → starts g t ≡ true → Contains (keys_asked g) (Joins t)
+  joins_listed t h = elim (or_cases (spawns g.event t) (g.ended && (g.thread == t)) h) [
+    | inl e ↦ from_event (Joins t) (spawn_asked g.event t e)
+    | inr e ↦
+        let p = and_parts g.ended (g.thread == t) e in
+        from_behind (Joins t) (Contains-append_left (end_asked g.ended g.thread) after_end (Joins t) (ended_asked g.ended g.thread t p.0 p.1))
+  ]
+
+  made_listed : (a : AllocId) → (list_any (same_id a) g.touched || list_any (same_id a) g.freed) ≡ true → Contains (keys_asked g) (Made a)
+  made_listed a h = elim (or_cases (list_any (same_id a) g.touched) (list_any (same_id a) g.freed) h) [
+    | inl e ↦ from_ids (Made a) (Contains-append_left (made_keys g.touched) after_touched (Made a) (any_mapped same_id Made id_exact a g.touched e))
+    | inr e ↦ from_freed (Made a) (Contains-append_left (made_keys g.freed) (touched_keys g.freed) (Made a) (any_mapped same_id Made id_exact a g.freed e))
+  ]
+
+  pub asked_listed : (k : Key) → IsExact k → asks g k ≡ true → Contains (keys_asked g) k
+  asked_listed (Lock n) x h = from_event (Lock n) (lock_asked g.event n h)
+  asked_listed Creation x h = from_event Creation (creation_asked g.event h)
+  asked_listed Spawning x h = from_event Spawning (spawning_asked g.event h)
+  asked_listed (Starts t) x h = from_event (Starts t) (join_asked g.event t h)
+  asked_listed (Joins t) x h = joins_listed t h
+  asked_listed (Made a) x h = made_listed a h
+  asked_listed (Touched a) x h = from_freed (Touched a) (Contains-append_right (made_keys g.freed) (touched_keys g.freed) (Touched a) (any_mapped same_id Touched id_exact a g.freed h))
+  asked_listed (Range r) x h = absurd x
+  asked_listed (Wakes t) x h = (0, omega arith, ap Wakes (eqb-true g.thread t h))
+
+-- ---- a key is a range or none
+
+pub exact_or_range : (k : Key) → IsExact k ⊎ ((r : Access) × (k ≡ Range r))
+exact_or_range (Range r) = inr (r, refl)
+exact_or_range (Lock n) = inl tt
+exact_or_range Creation = inl tt
+exact_or_range Spawning = inl tt
+exact_or_range (Starts t) = inl tt
+exact_or_range (Joins t) = inl tt
+exact_or_range (Made a) = inl tt
+exact_or_range (Touched a) = inl tt
+exact_or_range (Wakes t) = inl tt
+
+-- a step that is noted under a range that races with g races with it
+pub race_from_range : (f g : Footprint) (r : Access) → list_any (same_access r) f.accesses ≡ true → list_any (races r) g.accesses ≡ true → some_race f.accesses g.accesses ≡ true
+unfolding some_race
+race_from_range f g r h e =
+    let c = Contains-from_any access_exact r f.accesses h in
+    list_any_at (λ x. list_any (races x) g.accesses) f.accesses c.0 r c.1 (ap (λ (x : Access). list_any (races x) g.accesses) c.2 ∙ e)
+
+-- ---- the places of the rows of a step's keys
+
+pub places_from : (run : List Footprint) (rows : List Row) (places : List ℕ) (keys : List Key) (j thread : ℕ) → keys ≡ keys_noted (step_at run j) → thread ≡ thread_at run j → length places ≡ length keys → ((y : ℕ) (d : Key) → y < length keys → IsRowFor rows (slice_index places y) (slice_index_or keys y d) thread) → ArePlaces run rows places j
+places_from run rows places keys j thread are of many each =
+    record {
+      each = λ y lt.
+          let r = each y Creation (omega (arith, lt, many)) in
+          (r.within, r.of_thread ∙ of, ap (notes (step_at run j)) (r.of_key ∙ ap (λ (l : List Key). get_or l y Creation) are) ∙ each_noted (step_at run j) y Creation (let long = ap length are in omega (arith, lt, many, long)));
+      all = λ key noted.
+          let c = noted_listed (step_at run j) key noted in
+          let long = ap length are in
+          let lt : c.0 < length keys = omega (arith, c.1, long) in
+          let r = each c.0 key lt in
+          (c.0, omega (arith, lt, many), r.of_key ∙ ap (λ (l : List Key). get_or l c.0 key) are ∙ c.2);
+    }

@@ -1,0 +1,145 @@
+-- The rows that a step asks tell its edges and its greatest partner.
+use Rattle.std.proofs.Common.{◌≡◌, ◌≢◌, ℕ, ◌+◌, ◌-◌, ◌<◌, ◌≤◌, inl, inr, List, true, false, length, take, slice_index, refl, sym, ◌∙◌, ap, subst, arith}
+use native.Mathlib.Decide.{ℕ_discrete}
+use Rattle.std.specs.List.{list_any}
+use Rattle.std.proofs.lemmas.Bool.{and_parts, both_ways, cases_Bool, eq-eqb}
+use Rattle.std.proofs.lemmas.List.{get_or-take}
+use Rattle.mr_base.specs.Accesses.{conflicts, races, some_race}
+use Rattle.mr_event.specs.Footprint.{Footprint}
+use Rattle.mr_event.specs.Order.{no_step, step_at, thread_at, Edge, HappensBefore, RacePair}
+use Rattle.mr_event.specs.Order.Edge.{in_thread, woken}
+use Rattle.mr_event.specs.Order.HappensBefore.{edge, chain}
+use Rattle.mr_event.proofs.Ordered.{Edge-before, any_weaker}
+use Rattle.mr_clocks.specs.declared.keys.Key.{Key}
+use Rattle.mr_clocks.specs.declared.keys.Key.TheVariants.{Lock, Creation, Spawning, Starts, Joins, Made, Touched, Range, Wakes}
+use Rattle.mr_clocks.specs.declared.rows.Row.{Row}
+use Rattle.mr_clocks.specs.declared.rows.Link.{Link}
+use Rattle.mr_clocks.specs.Clocks.{AreLatest, AreUnder, IsUnder}
+use Rattle.mr_clocks.specs.Keys.{Counts, asks, key_races, notes}
+use Rattle.mr_clocks.specs.Tracked.{IsNext}
+use Rattle.mr_clocks.specs.Rows.{AreAllAsked, AreRows, IsPlaceBeyond, IsPlaceSeen, row_at, step_of}
+use Rattle.mr_clocks.proofs.Chains.{in_here, in_low, in_most}
+use Rattle.mr_clocks.proofs.Edges.{edge_back}
+use Rattle.mr_clocks.proofs.KeyLaws.{depends_share, race_shares}
+use Rattle.mr_clocks.proofs.KeyLists.{race_from_range}
+
+-- where a step is a partner of j, each later step of its thread that races with j is one
+pub partner_up : (run : List Footprint) (m e j : ℕ) → thread_at run e ≡ thread_at run m → m ≤ e → e < j → some_race (step_at run e).accesses (step_at run j).accesses ≡ true → RacePair run m j → RacePair run e j
+partner_up run m e j thread le lt race r =
+    let unordered : HappensBefore run e j → ⊥ = λ h. r.unordered (elim (ℕ_discrete m e) [
+      | yes equal ↦ subst (λ (x : ℕ). HappensBefore run x j) (sym equal) h
+      | no differs ↦ chain (edge (in_thread (omega (arith, le, differs)) (sym thread))) h
+    ]) in
+    record {
+      before = lt;
+      races = record { apart = λ h. r.races.apart (sym thread ∙ h); race = race; unsynced = λ s. unordered (edge (woken s)) };
+      unordered = unordered;
+    }
+
+-- ---- all rows that a step asks
+
+-- a key of a step that doesn't race with g names no range that races with g
+no_race_key : (key : Key) (f g : Footprint) → notes f key ≡ true → some_race f.accesses g.accesses ≡ false → key_races key g ≡ false
+no_race_key (Range r) f g h none =
+    elim (cases_Bool (list_any (races r) g.accesses)) [
+      | inl e ↦ absurd (both_ways _ none (race_from_range f g r h e))
+      | inr e ↦ e
+    ]
+no_race_key (Lock n) f g h none = refl
+no_race_key Creation f g h none = refl
+no_race_key Spawning f g h none = refl
+no_race_key (Starts t) f g h none = refl
+no_race_key (Joins t) f g h none = refl
+no_race_key (Made a) f g h none = refl
+no_race_key (Touched a) f g h none = refl
+no_race_key (Wakes t) f g h none = refl
+
+-- where an edge leads from a step of another thread, the two have a key in common that names no range that races
+shared_key : (run : List Footprint) (m j next : ℕ) → IsNext run j next → thread_at run m ≢ thread_at run j → Edge run m j → (key : Key) × (notes (step_at run m) key ≡ true) × (asks (step_at run j) key ≡ true) × (key_races key (step_at run j) ≡ false) × Counts key (step_at run m) (step_at run j)
+shared_key run m j next n apart e =
+    elim (edge_back run m j next n apart e) [
+      | inl w ↦ (Wakes (thread_at run j), w.1, eq-eqb (thread_at run j) (thread_at run j) refl, refl, inl tt)
+      | inr d ↦
+          let s = depends_share (step_at run m) (step_at run j) d.0 in
+          (s.0, s.1, s.2, no_race_key s.0 (step_at run m) (step_at run j) s.1 d.1, inr d.1)
+    ]
+
+-- each step with an edge to j lies under the clock, where that holds of the rows that j asks
+pub seen_rows : (run : List Footprint) (rows : List Row) (links : List Link) (found clock : List ℕ) (j next : ℕ) → AreRows run j rows links → AreAllAsked run rows found j → IsNext run j next → ((y : ℕ) → y < length found → IsPlaceSeen run rows links (slice_index found y) clock j) → AreUnder run clock 0 j
+seen_rows run rows links found clock j next a asked n seen = λ m low e apart.
+    let t = shared_key run m j next n apart e in
+    let h = a.held m t.0 (Edge-before e) t.1 in
+    let it_asks = ap (asks (step_at run j)) h.of_key ∙ t.2 in
+    let f = asked h.row h.within it_asks in
+    let here = subst (λ (x : ℕ). IsPlaceSeen run rows links x clock j) f.2 (seen f.0 f.1) in
+    let k = h.kept in
+    let counts : Counts (row_at rows h.row).key (step_at run m) (step_at run j) =
+    subst (λ (q : Key). Counts q (step_at run m) (step_at run j)) (sym h.of_key) t.4 in
+    let under = here h.within (λ same. apart (sym h.of_thread ∙ same)) it_asks (ap (λ (q : Key). key_races q (step_at run j)) h.of_key ∙ t.3) k.link k.inside
+    (subst (λ (q : ℕ). Edge run q j) (sym k.is) e)
+    (subst (λ (q : ℕ). Counts (row_at rows h.row).key (step_at run q) (step_at run j)) (sym k.is) counts) in
+    subst (λ (q : ℕ). IsUnder run clock q) k.is under
+
+-- a number beyond the latest steps of the rows that j asks, where these are partners, is beyond all partners
+pub greatest_rows : (run : List Footprint) (rows : List Row) (links : List Link) (found : List ℕ) (j best : ℕ) → AreRows run j rows links → AreAllAsked run rows found j → ((y : ℕ) → y < length found → IsPlaceBeyond run rows links (slice_index found y) j best) → (m : ℕ) → RacePair run m j → m < best
+greatest_rows run rows links found j best a asked beyond m r =
+    let t = race_shares (step_at run m) (step_at run j) r.races.race in
+    let h = a.held m (Range t.0) r.before t.1 in
+    let asks_it = any_weaker (races t.0) (conflicts t.0) (λ x e. (and_parts _ _ e).1) (step_at run j).accesses t.2 in
+    let f = asked h.row h.within (ap (asks (step_at run j)) h.of_key ∙ asks_it) in
+    let k = h.kept in
+    let row = row_at rows h.row in
+    let each = a.each h.row h.within in
+    let some : row.last ≡ (row.last - 1) + 1 = (let low = in_low links a.chained k.inside each.last in omega (arith, low)) in
+    let top = row.last - 1 in
+    let of = each.steps top (in_here links top row.last some) in
+    let most = in_most links a.chained top k.link row.last some each.last k.inside in
+    let kept = k.is in
+    let le : m ≤ step_of links top = omega (arith, most, kept) in
+    let race = race_from_range (step_at run (step_of links top)) (step_at run j) t.0 (ap (notes (step_at run (step_of links top))) (sym h.of_key) ∙ of.noted) t.2 in
+    let pair = partner_up run m (step_of links top) j (of.thread ∙ h.of_thread) le of.within race r in
+    let less = subst (λ (x : ℕ). IsPlaceBeyond run rows links x j best) f.2 (beyond f.0 f.1) top h.within (ap (λ (q : Key). key_races q (step_at run j)) h.of_key ∙ t.2) some pair in
+    omega (arith, le, less)
+
+-- ---- the number of the step before j in its thread
+
+-- the number of the table is one more than the place of the step before j
+pub next_of : (run : List Footprint) (j next : ℕ) (latest : List ℕ) → AreLatest run j latest → next ≡ slice_index latest (thread_at run j) → IsNext run j next
+next_of run j next latest a e =
+    record {
+      covers = λ k lt same. let number = ap (slice_index latest) same in omega (arith, a.covers k lt, number, e);
+      step = λ p is. a.step (thread_at run j) p (sym e ∙ is);
+    }
+
+-- ---- a run without its last step
+
+-- the rows of a run without its last steps
+pub rows_longer : (run : List Footprint) (n : ℕ) (rows : List Row) (links : List Link) → AreRows (take n run) n rows links → AreRows run n rows links
+rows_longer run n rows links a =
+    record {
+      chained = a.chained;
+      each = λ x lt.
+          let r = a.each x lt in
+          record {
+            last = r.last;
+            steps = λ k inside.
+                let s = r.steps k inside in
+                record {
+                  within = s.within;
+                  thread = ap (λ (f : Footprint). f.thread) (sym (same (step_of links k) s.within)) ∙ s.thread;
+                  noted = ap (λ (f : Footprint). notes f (row_at rows x).key) (sym (same (step_of links k) s.within)) ∙ s.noted;
+                };
+          };
+      held = λ i key lt noted.
+          let h = a.held i key lt (ap (λ (f : Footprint). notes f key) (same i lt) ∙ noted) in
+          record {
+            row = h.row;
+            within = h.within;
+            of_key = h.of_key;
+            of_thread = h.of_thread ∙ ap (λ (f : Footprint). f.thread) (same i lt);
+            kept = h.kept;
+          };
+    }
+  where
+    same : (i : ℕ) → i < n → step_at (take n run) i ≡ step_at run i
+    same i lt = get_or-take n run i no_step lt

@@ -1,0 +1,13 @@
+use Rattle.std.proofs.Common.{arith}
+use Rattle.mr_base.specs.declared.byte.AllocId.{AllocId}
+use Rattle.mr_clocks.specs.declared.keys.Key.TheVariants.{Made}
+use Rattle.mr_clocks.proofs.KeyLists.{mapped_all, mapped_more}
+use Rattle.mr_clocks.proofs.keys.add_made.Goals as goal
+
+pub loop-i-preserved : goal.loop-i-preserved
+loop-i-preserved c =
+    let none : AllocId = record { thread = 0; count = 0 } in
+    mapped_more Made c.args.keys.now.items c.loop-i.keys.items c.push.new.self.items c.args.ids.now c.loop-i.i none c.loop-i-test.true c.loop-i.invariant c.in_ok-push.ensures.items
+
+pub returns : goal.returns
+returns c = mapped_all Made c.args.keys.now.items c.loop-i.keys.items c.args.ids.now c.loop-i.i (omega arith) c.loop-i.invariant

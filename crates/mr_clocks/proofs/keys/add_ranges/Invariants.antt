@@ -1,0 +1,6 @@
+use Rattle.std.proofs.Common.{◌≡◌, ◌++◌, map, take}
+use Rattle.mr_clocks.specs.declared.keys.Key.TheVariants.{Range}
+use Rattle.mr_clocks.proofs.keys.add_ranges.Given as goal
+
+abbrev pub invariant-loop-i : goal.invariant-loop-i
+invariant-loop-i l = l.keys.items ≡ l.initial.keys.items ++ map Range (take l.i l.accesses)

@@ -1,0 +1,223 @@
+//! What two steps may have in common: the keys under which a step is noted, and those that a later step asks.
+
+ghost use Rattle.std.specs.Prelude.{◌≡◌, ◌++◌, IfOk, IsTrue, OnOk, true, false};
+ghost use Rattle.std.specs.List.{list_any};
+ghost use Rattle.mr_base.specs.Accesses.{conflicts as conflict_of, races as race_of};
+ghost use Rattle.mr_clocks.specs.Keys.{IsWakes, asks, end_asked, end_noted, event_asked, event_noted, key_races, keys_asked, keys_noted, made_keys, range_keys, touched_keys, woken_keys};
+
+use mr_base::{Access, AllocId, ranges_meet};
+use mr_event::{Event, Footprint, OutOfMemory};
+use std::alloc::Global;
+
+/// What two steps may have in common.
+#[derive(Clone, Copy, Debug, PartialEq, Eq)]
+pub enum Key {
+    Lock(u32),
+    /// The making of a lock.
+    Creation,
+    /// The making of a thread.
+    Spawning,
+    /// A thread that one of them starts or ends, and the other joins: noted by the first, and by the second.
+    Starts(u32),
+    Joins(u32),
+    /// An allocation that one of them made, or touched.
+    Made(AllocId),
+    Touched(AllocId),
+    /// A range of addresses, with what was done to it.
+    Range(Access),
+    /// A thread that one of them wakes.
+    Wakes(u32),
+}
+
+/// Whether two accesses are equal.
+pub(crate) fn same_access(a: Access, b: Access) -> bool
+    ensures { IsTrue result → a ≡ b }
+{
+    a == b
+}
+
+/// Whether two keys are one.
+pub(crate) fn same_key(a: Key, b: Key) -> bool
+    ensures { IsTrue result → a ≡ b }
+{
+    a == b
+}
+
+// Appends the keys of accesses.
+fn add_ranges(keys: &mut Vec<Key>, accesses: &[Access]) -> Result<(), OutOfMemory>
+    ensures { OnOk result (keys.new.items ≡ keys.old.items ++ range_keys accesses.now) }
+{
+    for i in 0..accesses.len() {
+        keys.push(Key::Range(accesses[i]))?;
+    }
+    Ok(())
+}
+
+// Appends the keys of allocations that were made.
+fn add_made(keys: &mut Vec<Key>, ids: &[AllocId]) -> Result<(), OutOfMemory>
+    ensures { OnOk result (keys.new.items ≡ keys.old.items ++ made_keys ids.now) }
+{
+    for i in 0..ids.len() {
+        keys.push(Key::Made(ids[i]))?;
+    }
+    Ok(())
+}
+
+// Appends the keys of allocations that were touched.
+fn add_touched(keys: &mut Vec<Key>, ids: &[AllocId]) -> Result<(), OutOfMemory>
+    ensures { OnOk result (keys.new.items ≡ keys.old.items ++ touched_keys ids.now) }
+{
+    for i in 0..ids.len() {
+        keys.push(Key::Touched(ids[i]))?;
+    }
+    Ok(())
+}
+
+// Appends the keys of threads that were woken.
+fn add_woken(keys: &mut Vec<Key>, threads: &[u32]) -> Result<(), OutOfMemory>
+    ensures { OnOk result (keys.new.items ≡ keys.old.items ++ woken_keys threads.now) }
+{
+    for i in 0..threads.len() {
+        keys.push(Key::Wakes(threads[i]))?;
+    }
+    Ok(())
+}
+
+// Appends the keys under which a step with an event is noted.
+fn add_event_noted(keys: &mut Vec<Key>, event: Event) -> Result<(), OutOfMemory>
+    ensures { OnOk result (keys.new.items ≡ keys.old.items ++ event_noted event) }
+{
+    match event {
+        Event::Quiet => keys.extend_from_slice(&[]),
+        Event::CreateLock(lock) => keys.extend_from_slice(&[Key::Lock(lock), Key::Creation]),
+        Event::Acquire(lock) => keys.extend_from_slice(&[Key::Lock(lock)]),
+        Event::Release(lock) => keys.extend_from_slice(&[Key::Lock(lock)]),
+        Event::Spawn(thread) => {
+            keys.extend_from_slice(&[Key::Spawning, Key::Starts(thread), Key::Wakes(thread)])
+        }
+        Event::Join(thread) => keys.extend_from_slice(&[Key::Joins(thread)]),
+    }
+}
+
+// Appends the keys that a step with an event asks.
+fn add_event_asked(keys: &mut Vec<Key>, event: Event) -> Result<(), OutOfMemory>
+    ensures { OnOk result (keys.new.items ≡ keys.old.items ++ event_asked event) }
+{
+    match event {
+        Event::Quiet => keys.extend_from_slice(&[]),
+        Event::CreateLock(lock) => keys.extend_from_slice(&[Key::Lock(lock), Key::Creation]),
+        Event::Acquire(lock) => keys.extend_from_slice(&[Key::Lock(lock)]),
+        Event::Release(lock) => keys.extend_from_slice(&[Key::Lock(lock)]),
+        Event::Spawn(thread) => keys.extend_from_slice(&[Key::Spawning, Key::Joins(thread)]),
+        Event::Join(thread) => keys.extend_from_slice(&[Key::Starts(thread)]),
+    }
+}
+
+// Appends the key under which a step that ended its thread is noted.
+fn add_end_noted(keys: &mut Vec<Key>, ended: bool, thread: u32) -> Result<(), OutOfMemory>
+    ensures { OnOk result (keys.new.items ≡ keys.old.items ++ end_noted ended thread) }
+{
+    if ended {
+        keys.extend_from_slice(&[Key::Starts(thread)])
+    } else {
+        keys.extend_from_slice(&[])
+    }
+}
+
+// Appends the key that a step that ended its thread asks.
+fn add_end_asked(keys: &mut Vec<Key>, ended: bool, thread: u32) -> Result<(), OutOfMemory>
+    ensures { OnOk result (keys.new.items ≡ keys.old.items ++ end_asked ended thread) }
+{
+    if ended {
+        keys.extend_from_slice(&[Key::Joins(thread)])
+    } else {
+        keys.extend_from_slice(&[])
+    }
+}
+
+/// The keys under which a step is noted.
+pub(crate) fn noted_by(alloc: Global, step: &Footprint) -> Result<Vec<Key>, OutOfMemory>
+    ensures { IfOk result (λ v. v.items ≡ keys_noted step.now) }
+{
+    let mut keys = Vec::new(alloc);
+    add_event_noted(&mut keys, step.event())?;
+    add_end_noted(&mut keys, step.ended(), step.thread())?;
+    add_woken(&mut keys, step.woken())?;
+    add_made(&mut keys, step.allocated())?;
+    add_touched(&mut keys, step.touched())?;
+    add_ranges(&mut keys, step.accesses())?;
+    Ok(keys)
+}
+
+/// The keys but ranges that a step asks.
+pub(crate) fn asked_by(alloc: Global, step: &Footprint) -> Result<Vec<Key>, OutOfMemory>
+    ensures { IfOk result (λ v. v.items ≡ keys_asked step.now) }
+{
+    let mut keys = Vec::new(alloc);
+    keys.push(Key::Wakes(step.thread()))?;
+    add_event_asked(&mut keys, step.event())?;
+    add_end_asked(&mut keys, step.ended(), step.thread())?;
+    add_made(&mut keys, step.touched())?;
+    add_made(&mut keys, step.freed())?;
+    add_touched(&mut keys, step.freed())?;
+    Ok(keys)
+}
+
+// Whether two accesses overlap, and one of them stores.
+fn conflict(a: Access, b: Access) -> bool
+    ensures { result ≡ conflict_of a b }
+{
+    (a.store || b.store) && ranges_meet(a.addr, a.len, b.addr, b.len)
+}
+
+/// Whether two accesses race.
+pub(crate) fn race(a: Access, b: Access) -> bool
+    ensures { result ≡ race_of a b }
+{
+    (!a.atomic || !b.atomic) && conflict(a, b)
+}
+
+/// Whether an access races with one of these.
+pub(crate) fn races_with(a: Access, others: &[Access]) -> bool
+    ensures { result ≡ list_any (race_of a) others.now }
+{
+    others.iter().any(|b| race(a, *b))
+}
+
+// Whether an access conflicts with one of these.
+fn conflicts_with(a: Access, others: &[Access]) -> bool
+    ensures { result ≡ list_any (conflict_of a) others.now }
+{
+    others.iter().any(|b| conflict(a, *b))
+}
+
+/// Whether an edge to the step may come from an earlier one that is noted under the key: not where the key is a range
+/// that no access conflicts with, and not where one races with it.
+pub(crate) fn may_bind(key: Key, step: &Footprint) -> bool
+    ensures { IsTrue (asks step.now key) → key_races key step.now ≡ false → IsTrue result }
+{
+    match key {
+        Key::Range(a) => { conflicts_with(a, step.accesses()) && !races_with(a, step.accesses()) }
+        _ => true,
+    }
+}
+
+/// Whether some access of the step may race with the range that the key names.
+pub(crate) fn may_race(key: Key, step: &Footprint) -> bool
+    ensures { key_races key step.now ≡ true → IsTrue result }
+{
+    match key {
+        Key::Range(a) => races_with(a, step.accesses()),
+        _ => false,
+    }
+}
+
+/// Whether the key is that of a woken thread.
+pub(crate) fn is_wakes(key: Key) -> bool
+    ensures { result ≡ false → IsWakes key → ⊥ }
+{
+    match key {
+        Key::Wakes(_) => true,
+        _ => false,
+    }
+}

@@ -1,0 +1,282 @@
+//! Rows: for a key and a thread the steps of the thread that are noted under the key, the latest first.
+
+ghost use Rattle.std.specs.Prelude.{◌≡◌, ◌≢◌, ℕ, ◌+◌, ◌<◌, ◌≤◌, ◌^◌, ◌↔◌, List, IfOk, IsFalse, IsTrue, OnOk, length, slice_index, vec_capacity, vec_len, true, false};
+ghost use Rattle.mr_event.specs.Footprint.{Footprint};
+ghost use Rattle.mr_event.specs.Order.{step_at, thread_at};
+ghost use Rattle.mr_clocks.specs.declared.rows.Link.{Link};
+ghost use Rattle.mr_clocks.specs.Clocks.{AreClocks, IsClockOf, IsPart, IsUnder};
+ghost use Rattle.mr_clocks.specs.Keys.{asks, key_races};
+ghost use Rattle.mr_clocks.specs.Rows.{AreLinks, AreLonger, ArePlaces, AreRows, HaveKeysOf, IsBelow, IsNoted, IsPlaceBeyond, IsPlaceSeen, IsRow, IsRowSeen, row_at};
+ghost use Rattle.mr_clocks.specs.Skips.{AreSkips, IsSkip};
+ghost use Rattle.mr_clocks.specs.Tracked.{IsNext, IsPartnerOr};
+
+use crate::analysis::{is_partner, lent};
+use crate::clock::Clock;
+use crate::keys::{Key, may_bind, may_race};
+use crate::order::edge;
+use crate::skips::{Skip, slot_of};
+use crate::walks::{Walk, no_walk, pass};
+use mr_event::{Footprint, OutOfMemory};
+use std::alloc::Global;
+
+/// The row of a key and a thread. `last` is one more than the place of its latest link, or 0.
+#[derive(Clone, Copy, Debug, PartialEq, Eq)]
+pub struct Row {
+    pub key: Key,
+    pub thread: u32,
+    pub last: u32,
+}
+
+/// A step in a row, and one more than the place of the link to the step before it there, or 0.
+#[derive(Clone, Copy, Debug, PartialEq, Eq)]
+pub struct Link {
+    pub step: u32,
+    pub before: u32,
+}
+
+// Whether a clock knows the step that a link of a row keeps.
+fn is_known(clock: &Clock, row: Row, link: Link) -> bool
+    ensures { IsTrue result ↔ link.step < slice_index clock.now row.thread }
+{
+    link.step < clock.at(row.thread)
+}
+
+// Follows the latest step of a row from which an edge leads to step `j`, unless the clock knows it. Those behind it race
+// with `j`, and those before it are known with it.
+fn follow_row(
+    alloc: Global,
+    run: &[Footprint],
+    clocks: &[Clock],
+    numbers: &[u32],
+    links: &[Link],
+    skips: &[Skip],
+    row: Row,
+    x: usize,
+    clock: &mut Clock,
+    j: usize,
+    next: usize,
+) -> Result<Walk, OutOfMemory>
+    requires within { j < length run.now }
+    requires few { length run.now < 2 ^ 32 }
+    requires clocks { AreClocks run.now j clocks.now numbers.now }
+    requires links { AreLinks links.now }
+    requires skips { AreSkips run.now j links.now skips.now }
+    requires row { IsRow run.now j links.now row }
+    requires apart { row.thread ≢ thread_at run.now j }
+    requires next { IsNext run.now j next }
+    requires part { IsPart run.now clock.old j }
+    ensures part { OnOk result (IsPart run.now clock.new j) }
+    ensures seen { OnOk result (IsRowSeen run.now links.now row clock.new j) }
+    ensures kept { OnOk result ((m : ℕ) → IsUnder run.now clock.old m → IsUnder run.now clock.new m) }
+    ensures same { IfOk result (λ w. IsFalse w.changed → clock.new ≡ clock.old) }
+    ensures skip { IfOk result (λ w. IsTrue w.whole → IsSkip run.now j links.now (row.last, w.end, w.by.items)) }
+{
+    let mut walk = Walk {
+        changed: false,
+        whole: true,
+        end: row.last,
+        slot: slot_of(x, j),
+        by: Vec::new(alloc),
+    };
+    while walk.end > 0 {
+        let link = links[walk.end as usize - 1];
+        let i = link.step as usize;
+        if is_known(clock, row, link) {
+            return Ok(walk);
+        }
+        if edge(run, i, j, next) {
+            clock.follow(lent(clocks, numbers, i), row.thread, link.step)?;
+            walk.changed = true;
+            return Ok(walk);
+        }
+        pass(run, links, skips, row, x, &mut walk, j)?;
+    }
+    Ok(walk)
+}
+
+/// The same of the row at a place, if there is one, of another thread, whose key step `j` asks and doesn't race with.
+pub(crate) fn follow_place(
+    alloc: Global,
+    run: &[Footprint],
+    clocks: &[Clock],
+    numbers: &[u32],
+    rows: &[Row],
+    links: &[Link],
+    skips: &[Skip],
+    x: usize,
+    clock: &mut Clock,
+    j: usize,
+    next: usize,
+) -> Result<Walk, OutOfMemory>
+    requires within { j < length run.now }
+    requires few { length run.now < 2 ^ 32 }
+    requires clocks { AreClocks run.now j clocks.now numbers.now }
+    requires rows { AreRows run.now j rows.now links.now }
+    requires skips { AreSkips run.now j links.now skips.now }
+    requires next { IsNext run.now j next }
+    requires part { IsPart run.now clock.old j }
+    ensures part { OnOk result (IsPart run.now clock.new j) }
+    ensures seen { OnOk result (IsPlaceSeen run.now rows.now links.now x clock.new j) }
+    ensures kept { OnOk result ((m : ℕ) → IsUnder run.now clock.old m → IsUnder run.now clock.new m) }
+    ensures same { IfOk result (λ w. IsFalse w.changed → clock.new ≡ clock.old) }
+    ensures skip { IfOk result
+        (λ w. IsTrue w.whole → IsSkip run.now j links.now ((row_at rows.now x).last, w.end, w.by.items)) }
+{
+    if x >= rows.len() {
+        return Ok(no_walk(alloc));
+    }
+    let row = rows[x];
+    if !may_lead(run, row, j) {
+        return Ok(no_walk(alloc));
+    }
+    follow_row(
+        alloc, run, clocks, numbers, links, skips, row, x, clock, j, next,
+    )
+}
+
+/// Appends the skip that a walk over the row at a place leaves.
+pub(crate) fn keep_walk(
+    left: &mut Vec<Skip>,
+    rows: &[Row],
+    x: usize,
+    walk: Walk,
+) -> Result<(), OutOfMemory>
+    ensures { OnOk result ((run : List Footprint) (j : ℕ) (links : List Link)
+        → (IsTrue walk.whole → IsSkip run j links ((row_at rows.now x).last, walk.end, walk.by.items))
+        → AreSkips run j links left.old.items → AreSkips run j links left.new.items) }
+{
+    if !walk.whole {
+        return Ok(());
+    }
+    if walk.by.is_empty() {
+        return Ok(());
+    }
+    if x >= rows.len() {
+        return Ok(());
+    }
+    left.push(Skip::new(walk.slot, rows[x].last, walk.end, walk.by))?;
+    Ok(())
+}
+
+// Whether an edge to step `j` may come from a step of a row: not where the row is of j's own thread, and not where the
+// key allows none.
+#[tactic(auto, using(mr_event::proofs::Read::step_read))]
+fn may_lead(run: &[Footprint], row: Row, j: usize) -> bool
+    requires { j < length run.now }
+    ensures apart { IsTrue result → row.thread ≢ thread_at run.now j }
+    ensures asked { row.thread ≢ thread_at run.now j → IsTrue (asks (step_at run.now j) row.key)
+        → key_races row.key (step_at run.now j) ≡ false → IsTrue result }
+{
+    let step = &run[j];
+    row.thread != step.thread() && may_bind(row.key, step)
+}
+
+// Whether a partner of step `j` may be noted under the key.
+#[tactic(auto, using(mr_event::proofs::Read::step_read))]
+fn may_rival(run: &[Footprint], key: Key, j: usize) -> bool
+    requires { j < length run.now }
+    ensures { key_races key (step_at run.now j) ≡ true → IsTrue result }
+{
+    let step = &run[j];
+    may_race(key, step)
+}
+
+/// The number, or one more than the latest step of the row at a place, where that is more and a partner of step `j`.
+pub(crate) fn better(
+    run: &[Footprint],
+    clock: &Clock,
+    rows: &[Row],
+    links: &[Link],
+    x: usize,
+    j: usize,
+    best: usize,
+) -> usize
+    requires within { j < length run.now }
+    requires clock { IsClockOf run.now clock.now j }
+    requires rows { AreRows run.now j rows.now links.now }
+    requires partner { IsPartnerOr run.now j best }
+    ensures partner { IsPartnerOr run.now j result }
+    ensures beyond { IsPlaceBeyond run.now rows.now links.now x j result }
+    ensures grown { best ≤ result }
+{
+    if x >= rows.len() {
+        return best;
+    }
+    let row = rows[x];
+    if row.last == 0 {
+        return best;
+    }
+    if !may_rival(run, row.key, j) {
+        return best;
+    }
+    let i = links[row.last as usize - 1].step as usize;
+    if best <= i && is_partner(run, clock, i, j) {
+        i + 1
+    } else {
+        best
+    }
+}
+
+// Before which link of a row step `j` goes: the latest, or the one before that where it keeps `j` already.
+fn below(links: &[Link], last: u32, j: usize) -> u32
+    requires { last ≤ length links.now }
+    ensures { IsBelow links.now last j result }
+{
+    if last == 0 {
+        return 0;
+    }
+    let link = links[last as usize - 1];
+    if link.step as usize == j {
+        link.before
+    } else {
+        last
+    }
+}
+
+// Notes step `j` in the row at a place.
+fn note(rows: &mut Vec<Row>, links: &mut Vec<Link>, x: usize, j: usize)
+    requires small { j < 2 ^ 32 }
+    requires inside { x < length rows.old.items }
+    requires last { (row_at rows.old.items x).last ≤ length links.old.items }
+    requires room { vec_len links.old < vec_capacity links.old }
+    requires few { vec_len links.old + 1 < 2 ^ 32 }
+    ensures noted { IsNoted rows.old.items links.old.items x j rows.new.items links.new.items }
+    ensures one { vec_len links.new ≡ vec_len links.old + 1 }
+    ensures room { vec_capacity links.new ≡ vec_capacity links.old }
+{
+    let row = rows[x];
+    let before = below(links.as_slice(), row.last, j);
+    links.push_reserved(Link {
+        step: j as u32,
+        before,
+    });
+    let last = links.len() as u32;
+    rows[x] = Row {
+        key: row.key,
+        thread: row.thread,
+        last,
+    };
+}
+
+/// Notes step `j` in the rows at some places, which are those of the keys under which it is noted.
+pub(crate) fn note_all(
+    run: &[Footprint],
+    rows: &mut Vec<Row>,
+    links: &mut Vec<Link>,
+    places: &[usize],
+    j: usize,
+)
+    requires within { j < length run.now }
+    requires few { length run.now < 2 ^ 32 }
+    requires rows { AreRows run.now j rows.old.items links.old.items }
+    requires places { ArePlaces run.now rows.old.items places.now j }
+    requires room { vec_len links.old + length places.now ≤ vec_capacity links.old }
+    requires small { vec_len links.old + length places.now < 2 ^ 32 }
+    ensures rows { AreRows run.now (j + 1) rows.new.items links.new.items }
+    ensures keys { HaveKeysOf rows.old.items rows.new.items }
+    ensures longer { AreLonger links.old.items links.new.items }
+{
+    for y in 0..places.len() {
+        note(rows, links, places[y], j);
+    }
+}

@@ -1,3 +1,0 @@
-pub mod Prints
-pub mod Runs
-pub mod Steps

@@ -1,0 +1,7 @@
+use Rattle.std.proofs.Common.{List, subst}
+use Rattle.mr_clocks.specs.Tracked.{Tracks}
+use Rattle.mr_event.specs.Footprint.{Footprint}
+use Rattle.mr_run.proofs.clocked.Clocked.order.Goals as goal
+
+pub returns : goal.returns
+returns c = subst (λ (l : List Footprint). Tracks c.self.inside.order l) c.self.view_is c.self.invariant.tracks

@@ -1,0 +1,19 @@
+-- The witness for the first race of a run.
+use Rattle.std.specs.Prelude.{ℕ, List, [], ◌∷◌, Option, None, Some}
+use Rattle.mr_event.specs.Footprint.{Footprint}
+use Rattle.mr_event.specs.declared.footprint.Pair.{Pair}
+use Rattle.mr_exchange.specs.Witness.{kept_schedule}
+use Rattle.mr_sched.specs.declared.schedule.Schedule.{Schedule}
+use Rattle.mr_short.specs.Short.{short_schedule}
+use Rattle.mr_run.specs.declared.witnesses.Selection.{Selection}
+use Rattle.mr_run.specs.declared.witnesses.Selection.TheVariants.{Kept, Needed}
+
+-- the witness for the race of two steps: the kept schedule, or the short one
+abbrev pub witness_by : Selection → List Footprint → Schedule → ℕ → ℕ → Schedule
+witness_by Kept steps w i j = kept_schedule steps w i j
+witness_by Needed steps w i j = short_schedule steps w i j
+
+-- the witness for the first of some races, where there is one
+abbrev pub witness_for : Selection → List Footprint → Schedule → List Pair → Option Schedule
+witness_for selection steps w [] = None
+witness_for selection steps w (pair ∷ races) = Some (witness_by selection steps w pair.first pair.second)
