@@ -68,6 +68,14 @@ def listed(piece, count):
     return b", ".join(piece.replace(b"%d", b"%d" % number) for number in range(count))
 
 
+def rows_of_padded(count):
+    """So many rows of elements with one used byte, each its own, and six times as many chunks with such a byte."""
+    rows = ((15 * (k % 50), 6 * count - 50 - k // 50) for k in range(count))
+    fields = b", ".join(b"%d: array(%d, tuple size 15 align 1 { 0: u8 })" % row for row in rows)
+    chunks = b", ".join(b"%d 1" % (15 * k) for k in range(6 * count))
+    return b"union size 1048576 align 1 { %s } chunks { %s }" % (fields, chunks)
+
+
 def local(of_type):
     return program(b"", b", x: " + of_type)
 
@@ -127,6 +135,7 @@ WIDE = (
      lambda n: local(b"union size 1048576 align 1 { %s } chunks { %s }" % (listed(b"%d: u8", n), listed(b"%d 1", n)))),
     ("chunks under an array",
      lambda n: local(b"union size 1048576 align 1 { 0: array(%d, u8) } chunks { %s }" % (n, listed(b"%d 1", n)))),
+    ("chunks under padded arrays", lambda n: local(rows_of_padded(n))),
     ("chunks without bytes", lambda n: local(b"union size 1048576 align 1 { } chunks { %s }" % listed(b"%d 0", n))),
     ("variants", lambda n: local(b"enum size 0 align 1 disc u32 { %s } invalid" % listed(b"%d: unit tag { }", n))),
     ("variants with tags and cases", lambda n: local(

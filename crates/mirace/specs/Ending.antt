@@ -6,7 +6,8 @@ use Rattle.std.specs.declared.io.ErrorKind.TheVariants.{OutOfMemory}
 use Rattle.mr_io.specs.Files.{Contents}
 use Rattle.mr_command.specs.Answer.{usage}
 use Rattle.mr_command.specs.Command.{command_of}
-use Rattle.mr_command.specs.Outcome.{Ends, EndsOverTexts, IsWritten}
+use Rattle.mr_input.specs.Writing.{IsWritten}
+use Rattle.mr_command.specs.Outcome.{Ends, EndsOverTexts}
 
 -- What the words ask for was done, over files that tell what they hold and over files that don't.
 pub record IsDone (told : Option Contents) (files_rose out_rose : Type 0) (old new : Option (List ℕ)) (status : ℕ)

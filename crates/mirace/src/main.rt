@@ -12,14 +12,16 @@ ghost use Rattle.mr_io.specs.Files.{Contents};
 ghost use Rattle.mr_sched.specs.declared.schedule.Schedule.{Schedule as Recorded};
 ghost use Rattle.mr_sched.specs.declared.version.Version.{Version};
 ghost use Rattle.mr_gen.specs.Generated.{generated};
-ghost use Rattle.mr_command.specs.Answer.{big_answer, big_schedule, usage};
-ghost use Rattle.mr_command.specs.declared.command.Format.{Format};
+ghost use Rattle.mr_answer.specs.Answers.{big_answer, big_schedule};
+ghost use Rattle.mr_command.specs.Answer.{usage};
 ghost use Rattle.mr_command.specs.Command.{command_of, named_files, Big, NamesProgram};
-ghost use Rattle.mr_command.specs.Headline.{AsksForSchedule, IsOfMachine, IsSoundUnder, IsUnreadBecause, Names};
-ghost use Rattle.mr_command.specs.Outcome.{Ends, EndsOverTexts, IsLeft, IsWritten};
+ghost use Rattle.mr_command.specs.Headline.{IsOfMachine, Names};
+ghost use Rattle.mr_command.specs.Named.{AsksForSchedule, IsSoundUnder, IsUnreadBecause};
+ghost use Rattle.mr_input.specs.Writing.{IsLeft, IsWritten};
+ghost use Rattle.mr_command.specs.Outcome.{Ends, EndsOverTexts};
 ghost use Rattle.mr_command.specs.Promises.{PromisesOfRuns, PromisesOfTexts, PromisesOfTraces};
-ghost use Rattle.mr_command.specs.Report.{refusal_text};
-ghost use Rattle.mr_command.specs.declared.refusal.Refusal.TheVariants.{ReadProgram};
+ghost use Rattle.mr_input.specs.Refusals.{refusal_text};
+ghost use Rattle.mr_input.specs.declared.refusal.Refusal.TheVariants.{ReadProgram};
 
 mod ending;
 
@@ -43,11 +45,10 @@ pub fn mirace<F: Files, O: Sink>(alloc: Global, words: &[String], files: &mut F,
         → EndsOverTexts (command_of (map string_bytes words.now)) (Rose (F.faults files.old) (F.faults files.new))
         (Rose (O.faults out.old) (O.faults out.new)) (O.taken out.old) (O.taken out.new) result }
 
-    // The headline.
-    ensures headline { (contents : Contents) (format : Format) (p : Program) (v : Version) (w : Recorded)
-        → F.told files.old ≡ Some contents
-        → Names contents (command_of (map string_bytes words.now)) format p v w
-        → IsOfMachine format p v w (Rose (F.faults files.old) (F.faults files.new))
+    // THE HEADLINE, of `run P S`.
+    ensures headline { (contents : Contents) (p : Program) (v : Version) (w : Recorded)
+        → F.told files.old ≡ Some contents → Names contents (map string_bytes words.now) p v w
+        → IsOfMachine p v w (Rose (F.faults files.old) (F.faults files.new))
         (Rose (O.faults out.old) (O.faults out.new)) (O.taken out.old) (O.taken out.new) result }
 
     // What is promised beside it of runs, of texts and of traces (`specs/Promises.antt` of `mr_command`).

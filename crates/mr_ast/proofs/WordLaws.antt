@@ -34,15 +34,7 @@ edition_found text n h = by (bytes_eq text (codes "1")) (bytes_eq text (codes "2
 
 pub int_word_found : (i : IntType) → looked_up int_words (int_word i) ≡ Some i
 int_word_found int.U8 = refl
-int_word_found int.U16 = refl
-int_word_found int.U32 = refl
-int_word_found int.U64 = refl
-int_word_found int.U128 = refl
-int_word_found int.I8 = refl
-int_word_found int.I16 = refl
-int_word_found int.I32 = refl
-int_word_found int.I64 = refl
-int_word_found int.I128 = refl
+int_word_found _ = refl
 
 pub unary_word_found : (o : UnaryOp) → looked_up unary_words (unary_word o) ≡ Some o
 unary_word_found unary.Neg = refl
@@ -50,54 +42,12 @@ unary_word_found unary.Not = refl
 
 pub binary_word_found : (o : BinaryOp) → looked_up binary_words (binary_word o) ≡ Some o
 binary_word_found binary.Add = refl
-binary_word_found binary.Sub = refl
-binary_word_found binary.Mul = refl
-binary_word_found binary.Div = refl
-binary_word_found binary.Rem = refl
-binary_word_found binary.And = refl
-binary_word_found binary.Or = refl
-binary_word_found binary.Xor = refl
-binary_word_found binary.AddUnchecked = refl
-binary_word_found binary.SubUnchecked = refl
-binary_word_found binary.MulUnchecked = refl
-binary_word_found binary.AddOverflow = refl
-binary_word_found binary.SubOverflow = refl
-binary_word_found binary.MulOverflow = refl
-binary_word_found binary.Shl = refl
-binary_word_found binary.Shr = refl
-binary_word_found binary.ShlUnchecked = refl
-binary_word_found binary.ShrUnchecked = refl
-binary_word_found binary.Eq = refl
-binary_word_found binary.Ne = refl
-binary_word_found binary.Lt = refl
-binary_word_found binary.Le = refl
-binary_word_found binary.Gt = refl
-binary_word_found binary.Ge = refl
-binary_word_found binary.Offset = refl
-binary_word_found binary.WrappingOffset = refl
+binary_word_found _ = refl
 
 pub kind_word_found : (k : BlockKind) → looked_up kind_words (kind_word k) ≡ Some k
 kind_word_found kind.Regular = refl
-kind_word_found kind.Cleanup = refl
-kind_word_found kind.Catch = refl
-kind_word_found kind.Terminate = refl
+kind_word_found _ = refl
 
 pub intrinsic_word_found : (i : Intrinsic) → looked_up intrinsic_words (intrinsic_word i) ≡ Some i
 intrinsic_word_found intrinsic.Assume = refl
-intrinsic_word_found intrinsic.Print = refl
-intrinsic_word_found intrinsic.Allocate = refl
-intrinsic_word_found intrinsic.Deallocate = refl
-intrinsic_word_found intrinsic.Spawn = refl
-intrinsic_word_found intrinsic.Join = refl
-intrinsic_word_found intrinsic.CreateLock = refl
-intrinsic_word_found intrinsic.Acquire = refl
-intrinsic_word_found intrinsic.Release = refl
-intrinsic_word_found intrinsic.AtomicStore = refl
-intrinsic_word_found intrinsic.AtomicLoad = refl
-intrinsic_word_found intrinsic.CompareExchange = refl
-intrinsic_word_found intrinsic.FetchAdd = refl
-intrinsic_word_found intrinsic.FetchSub = refl
-intrinsic_word_found intrinsic.FetchAnd = refl
-intrinsic_word_found intrinsic.FetchOr = refl
-intrinsic_word_found intrinsic.FetchXor = refl
-intrinsic_word_found intrinsic.Payload = refl
+intrinsic_word_found _ = refl

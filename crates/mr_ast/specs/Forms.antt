@@ -27,11 +27,7 @@ closing Curly = codes "}"
 closing Square = codes "]"
 
 -- How a thing of a type is written. S is what names stand for, and P names the kinds of parts that a form may refer to.
---
--- Empty: no word. Then: one behind the other. Cases: a word that tells which of some forms stands behind it; the word
--- may break a limit. Either: one of two, told by the next word. Many: any number in a row, counted from 0; the next
--- word tells whether one more stands there. Within: something in brackets, of which the opening one may be one too many
--- (7). Part: a part of the kind. In: what stands in a function of this number.
+-- Cases: a word tells which form follows. Either, Many: the next word tells. Within: brackets, maybe one too many (7).
 pub data Form (S : Type 0) (P : Type 0) (M : P → Type 0) : Type 0 → Type 1 where
   Empty : {A : Type 0} → A → Form S P M A
   Then : {A B C : Type 0} → (A → B → C) → Form S P M A → Form S P M B → Form S P M C
@@ -53,8 +49,7 @@ EachSpelled spelled k (x ∷ xs) marks =
     (front : List Mark) × (back : List Mark) × (marks ≡ front ++ back) × spelled k x front
     × EachSpelled spelled (suc k) xs back
 
--- The row of marks writes the thing in this form. Where no bracket may be opened any more (full), one that is opened
--- breaks the limit 7. What stands inside a bracket, and what writes a part, the two functions say.
+-- The marks write the thing in this form; full: one more bracket breaks limit 7; inside, part: what writes those parts.
 abbrev pub SpelledBy : {S P : Type 0} {M : P → Type 0} → Bool → Spelling S P M
     → (S → (p : P) → M p → List Mark → Type 0) → S → {A : Type 0} → Form S P M A → A → List Mark → Type 0
 SpelledBy full inside part scope (Empty a) x marks = (x ≡ a) × (marks ≡ [])

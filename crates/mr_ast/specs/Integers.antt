@@ -33,34 +33,20 @@ int_size I128 = 16
 
 -- whether an integer has a sign
 abbrev pub is_signed : IntType → Bool
-is_signed U8 = false
-is_signed U16 = false
-is_signed U32 = false
-is_signed U64 = false
-is_signed U128 = false
 is_signed I8 = true
 is_signed I16 = true
 is_signed I32 = true
 is_signed I64 = true
 is_signed I128 = true
-
--- the least number of a signed or unsigned type of this width
-abbrev pub least_at : Bool → ℕ → ℤ
-least_at false width = pos 0
-least_at true width = neg_ℤ (pos (2 ^ (width - 1)))
-
--- the greatest number of a signed or unsigned type of this width
-abbrev pub greatest_at : Bool → ℕ → ℤ
-greatest_at false width = pos (2 ^ width - 1)
-greatest_at true width = pos (2 ^ (width - 1) - 1)
+is_signed _ = false
 
 -- the least number of an integer type
 abbrev pub least_of : IntType → ℤ
-least_of t = least_at (is_signed t) (bits_of t)
+least_of t = if is_signed t then neg_ℤ (pos (2 ^ (bits_of t - 1))) else pos 0
 
 -- the greatest number of an integer type
 abbrev pub greatest_of : IntType → ℤ
-greatest_of t = greatest_at (is_signed t) (bits_of t)
+greatest_of t = if is_signed t then pos (2 ^ (bits_of t - 1) - 1) else pos (2 ^ bits_of t - 1)
 
 -- whether the number is one of the type's
 abbrev pub fits : IntType → ℤ → Bool

@@ -21,7 +21,6 @@ max_open = 32
 abbrev pub max_align : ℕ
 max_align = 4096
 
--- the greatest size of a type and of a global in bytes, the greatest count of an array, and how often an item may be
--- repeated
+-- the greatest size of a type and of a global in bytes, count of an array, and number of repeats of an item
 abbrev pub max_size : ℕ
 max_size = 2 ^ 20

@@ -21,8 +21,7 @@ pub record Definitions : Type 0 where
   pub globals : Texts
   pub functions : List FunctionNames
 
--- Where a word stands: in a text that defines these names, or of which they aren't known yet; and in the function of
--- this number.
+-- Where a word stands: in a text that defines these names, or none known yet; and in the function of this number.
 pub record Scope : Type 0 where
   pub known : Option Definitions
   pub function : ℕ
@@ -75,8 +74,7 @@ abbrev pub is_number : ℕ → Option ℕ → Bool
 is_number k (Some n) = n == k
 is_number k None = false
 
--- The number of a name's text, where the thing of number k in the space is the first of this name; else the name is
--- there twice.
+-- The number of a name's text, where the thing of number k is the first of its name; else the name is there twice.
 abbrev pub defined_in : Definitions → Texts → ℕ → List ℕ → ℕ × Option ℕ
 defined_in d space k text =
     (position_or_len (bytes_eq text) (names_of d), if is_number k (number_in space text) then None else Some 6)

@@ -20,8 +20,7 @@ use Rattle.mr_ast.specs.declared.words.Role.TheVariants.{UsesGlobal, UsesFunctio
 use Rattle.mr_ast.specs.Scope.{Scope, name_number, name_target}
 use Rattle.mr_ast.specs.Words.{is_name, is_number, value_of, looked_up, int_words}
 
--- the kinds of things that stand inside things of their own kind; of a place, whether its first word is one too many
--- (8)
+-- the kinds of things that stand inside things of their own kind; of a place, whether its first word is too many (8)
 pub data Kind : Type 0 where
   TheType : Kind
   TheTree : Kind
@@ -132,18 +131,15 @@ token judge = Cases (λ scope. judge) Empty
 abbrev pub u64_form : Writing ℕ
 u64_form = token judged_u64
 
--- a number that isn't negative
-abbrev pub plus : ℕ → Num
-plus n = record { neg = false; mag = n }
-
--- a number with a minus
-abbrev pub minus : ℕ → Num
-minus n = record { neg = true; mag = n }
+-- a number of this sign
+abbrev pub signed : Bool → ℕ → Num
+signed neg n = record { neg = neg; mag = n }
 
 -- a number with its sign; there is no minus 0
 abbrev pub num_form : Writing Num
 num_form =
-    Either (is_word (codes "-")) (giving minus (codes "-" ▸ token judged_positive)) (giving plus (token judged_any))
+    Either (is_word (codes "-")) (giving (signed true) (codes "-" ▸ token judged_positive))
+    (giving (signed false) (token judged_any))
 
 -- a name, one too many (8) or not, and what it stands for
 unfoldable pub judged_name : Bool → Role → Scope → Word → Judged ℕ

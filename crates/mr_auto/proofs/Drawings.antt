@@ -12,7 +12,8 @@ use Rattle.mr_sched.specs.declared.schedule.Schedule.{Schedule}
 use Rattle.mr_thread.specs.Steps.{thread_step}
 use Rattle.mr_wf.specs.Walk.{WellFormed}
 use Rattle.mr_run.specs.Runs.{IsRun}
-use Rattle.mr_start.specs.Start.{Legal, Piece, ask_of, look_of, pieces, run_of, start_config, start_fault, steps_of}
+use Rattle.mr_start.specs.Runs.{Legal, run_of, steps_of}
+use Rattle.mr_start.specs.Start.{Piece, ask_of, look_of, pieces, start_config, start_fault}
 use Rattle.mr_start.proofs.StartSound.{start_look, start_sound}
 use Rattle.mr_step.specs.Answers.{standing}
 use Rattle.mr_step.specs.Standing.{Standing}

@@ -15,7 +15,7 @@ use Rattle.mr_plan.specs.Runs.{Config, after, after_bare, feet, foot_from, has_r
 use Rattle.mr_plan.proofs.RunLaws.{completed_by_step}
 use Rattle.mr_frame.specs.Frames.{Look}
 use Rattle.mr_thread.specs.Steps.{Own, thread_step}
-use Rattle.mr_start.specs.Start.{program_fault, program_step}
+use Rattle.mr_start.specs.Runs.{program_fault, program_step}
 use Rattle.mr_step.specs.Standing.{Standing}
 use Rattle.mr_run.specs.Runs.{IsMade, foot_by}
 use Rattle.mr_run.proofs.EntryLaws.{one_foot}

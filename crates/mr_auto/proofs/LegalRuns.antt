@@ -2,7 +2,8 @@
 use Rattle.std.proofs.Common.{◌≡◌, ℕ, sym, subst, Some}
 use Rattle.mr_ast.specs.declared.program.Program.{Program}
 use Rattle.mr_wf.specs.Walk.{WellFormed}
-use Rattle.mr_start.specs.Start.{Legal, look_of, start_config}
+use Rattle.mr_start.specs.Runs.{Legal}
+use Rattle.mr_start.specs.Start.{look_of, start_config}
 use Rattle.mr_start.proofs.StartSound.{start_look, start_sound}
 use Rattle.mr_auto.specs.Drawing.{Picked, drawn_schedule, schedule_from, start_picked}
 use Rattle.mr_auto.proofs.StartFound.{start_found}

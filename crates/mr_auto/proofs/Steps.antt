@@ -169,7 +169,7 @@ entries_legal look is well (suc n) c chooser sound lies = by_next (next_at look 
   where
     by_next : (o : Option Next) → next_at look c chooser ≡ o
         → ((c : Config Own) (chooser : Chooser) → IsSoundConfig look.program c → LiesBehind c chooser → AreLegal (thread_step look) c (drawn_entries look n c chooser))
-        → AreLegal (thread_step look) c (led o (λ next. drawn_entries look n (Rattle.mr_start.specs.Start.program_step look c next.entry) next.chooser))
+        → AreLegal (thread_step look) c (led o (λ next. drawn_entries look n (Rattle.mr_start.specs.Runs.program_step look c next.entry) next.chooser))
     by_next None e more = tt
     by_next (Some next) e more =
         let d = drawn_at look c chooser next e in (

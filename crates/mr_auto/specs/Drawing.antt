@@ -18,7 +18,8 @@ use Rattle.mr_plan.specs.Machine.{State, needs}
 use Rattle.mr_plan.specs.Runs.{Config, is_running}
 use Rattle.mr_frame.specs.Frames.{Look}
 use Rattle.mr_thread.specs.Steps.{Own, thread_step}
-use Rattle.mr_start.specs.Start.{ask_of, look_of, pieces, program_step, start_config}
+use Rattle.mr_start.specs.Runs.{program_step}
+use Rattle.mr_start.specs.Start.{ask_of, look_of, pieces, start_config}
 
 -- ---- candidates
 
@@ -131,7 +132,7 @@ schedule_from p most (Some r) = record {
 abbrev pub start_picked : Program → ℕ → Option Picked
 start_picked p number = picked (Enabled ∷ []) (first_chooser number) (map ask_of (pieces p))
 
--- THE SCHEDULE that is drawn from a number, with at most so many entries. It ends where the machine isn't running, where
--- the drawn thread would create one thread or lock too many, and where no address is found.
+-- THE SCHEDULE that is drawn from a number, with at most so many entries. It ends where the machine isn't running,
+-- where the drawn thread would create one thread or lock too many, and where no address is found.
 unfoldable pub drawn_schedule : Program → ℕ → ℕ → Schedule
 drawn_schedule p number most = schedule_from p most (start_picked p number)

@@ -5,7 +5,7 @@ ghost use Rattle.mr_plan.specs.Queries.{tables_of};
 ghost use Rattle.mr_sync.specs.Tables.{IsEnabled};
 ghost use Rattle.mr_plan.specs.Runs.{feet};
 ghost use Rattle.mr_run.specs.Runs.{IsRun};
-ghost use Rattle.mr_start.specs.Start.{steps_of};
+ghost use Rattle.mr_start.specs.Runs.{steps_of};
 ghost use Rattle.mr_thread.specs.Steps.{Own, thread_step};
 ghost use Rattle.mr_wf.specs.Walk.{WellFormed};
 ghost use Rattle.mr_auto.specs.Answers.{HasState, NextAnswer};

@@ -2,7 +2,7 @@
 ghost use Rattle.std.specs.Prelude.{ℕ};
 ghost use Rattle.mr_ast.specs.declared.program.Program.{Program};
 ghost use Rattle.mr_wf.specs.Walk.{WellFormed};
-ghost use Rattle.mr_start.specs.Start.{Legal};
+ghost use Rattle.mr_start.specs.Runs.{Legal};
 ghost use Rattle.mr_auto.specs.Drawing.{drawn_schedule};
 
 /// A law: the schedule that is drawn for a well-formed program is legal.

@@ -1,6 +1,6 @@
--- Where the rows of a run are marked, so that those of a key can be found. A mark is in a shelf, at a place, and names a
--- thread and a row. A range is marked where it begins, in a shelf for ranges that are not longer than its width: so the
--- ranges of a shelf that have an address in common with another range begin at most the width before it.
+-- Where the rows of a run are marked, so that those of a key can be found. A mark is in a shelf, at a place, and names
+-- a thread and a row. A range is marked where it begins, in a shelf for ranges that are not longer than its width: so
+-- the ranges of a shelf that have an address in common with another range begin at most the width before it.
 use Rattle.std.specs.Prelude.{◌≡◌, ℕ, ◌+◌, ◌*◌, ◌<◌, ◌≤◌, ◌^◌, List, length, slice_index_or, Bool, false, IsTrue}
 use Rattle.std.specs.BTreeMap.{is_at}
 use Rattle.std.specs.List.{list_any}
@@ -59,7 +59,8 @@ place_of (Made a) = a.count
 place_of (Touched a) = a.count
 place_of (Range r) = r.addr
 
--- a range is on the shelf at a place: it is not longer than the shelf's width, and a load where the shelf has loads alone
+-- a range is on the shelf at a place: it is not longer than the shelf's width, and a load where the shelf has loads
+-- alone
 pub record IsOnShelf (shelves : List Shelf) (r : Access) (s : ℕ) : Type 0 where
   pub within : s < length shelves
   pub narrow : r.len ≤ (shelf_at shelves s).width

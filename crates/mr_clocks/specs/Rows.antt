@@ -1,5 +1,5 @@
--- The rows of a run. A row keeps, for a key and a thread, the steps of the thread that are noted under the key, the latest
--- first, as links of which each leads to the one before it.
+-- The rows of a run. A row keeps, for a key and a thread, the steps of the thread that are noted under the key, the
+-- latest first, as links of which each leads to the one before it.
 use Rattle.std.specs.Prelude.{◌≡◌, ◌≢◌, ℕ, suc, ◌+◌, ◌<◌, ◌≤◌, ◌⊎◌, List, [], ◌∷◌, ◌++◌, length, take, slice_index, slice_index_or, IsTrue, true, false}
 use Rattle.mr_event.specs.Footprint.{Footprint}
 use Rattle.mr_event.specs.Order.{step_at, thread_at, Edge, RacePair}
@@ -27,7 +27,8 @@ row_at rows x = slice_index_or rows x no_row
 abbrev pub step_of : List Link → ℕ → ℕ
 step_of links k = (link_at links k).step
 
--- link k is one of those that begin at a number, which is one more than the place of the first, or 0 where there is none
+-- link k is one of those that begin at a number, which is one more than the place of the first, or 0 where there is
+-- none
 pub data IsIn (links : List Link) (k : ℕ) : ℕ → Type 0 where
   latest : IsIn links k (suc k)
   behind : (m : ℕ) → IsIn links k (link_at links m).before → IsIn links k (suc m)

@@ -1,6 +1,6 @@
--- Skips. A step that asks a row passes the steps there that race with it, until it comes to one that it knows or that an
--- edge leads from. It leaves a skip over those that it passed: a later step, of whatever thread, that has the accesses by
--- which they race need not walk there again.
+-- Skips. A step that asks a row passes the steps there that race with it, until it comes to one that it knows or that
+-- an edge leads from. It leaves a skip over those that it passed: a later step, of whatever thread, that has the
+-- accesses by which they race need not walk there again.
 use Rattle.std.specs.Prelude.{◌≡◌, ℕ, ◌<◌, ◌≤◌, ◌⊎◌, Bool, true, List, [], length, slice_index_or}
 use Rattle.std.specs.List.{Contains}
 use Rattle.mr_base.specs.declared.access.Access.{Access}
@@ -20,8 +20,8 @@ RacesBy run s by = some_race (step_at run s).accesses by ≡ true
 abbrev pub AreAmong : List Access → List Access → Type 0
 AreAmong by accesses = (b : Access) → Contains by b → Contains accesses b
 
--- A skip of the first n steps: the number at which it begins, the one at which it ends, and accesses. Each link from the
--- first number on keeps a step that races with one of the accesses, or is one of those from the second number on.
+-- A skip of the first n steps: the number at which it begins, the one at which it ends, and accesses. Each link from
+-- the first number on keeps a step that races with one of the accesses, or is one of those from the second number on.
 pub record IsSkip (run : List Footprint) (n : ℕ) (links : List Link) (skip : ℕ × ℕ × List Access) : Type 0 where
   pub inside : skip.0 ≤ length links
   pub falls : skip.1 ≤ skip.0
@@ -45,8 +45,9 @@ pub record IsServing (run : List Footprint) (skip : ℕ × ℕ × List Access) (
   pub falls : skip.1 < at
   pub covered : AreAmong skip.2 (step_at run j).accesses
 
--- A walk of step j that has come to a number: what is behind it is of the row, and from what it passed no edge leads that
--- counts for the row's key. Where the walk is whole, each step that it passed races with one of the accesses, which are j's.
+-- A walk of step j that has come to a number: what is behind it is of the row, and from what it passed no edge leads
+-- that counts for the row's key. Where the walk is whole, each step that it passed races with one of the accesses,
+-- which are j's.
 pub record IsWalking (run : List Footprint) (j at : ℕ) (links : List Link)
     (row : Row) (whole : Bool) (by : List Access) : Type 0 where
   pub low : at ≤ length links

@@ -3,7 +3,7 @@ use Rattle.std.proofs.Common.{◌≡◌, ℕ, ◌+◌, ◌<◌, ◌^◌, refl, s
 use Rattle.std.specs.Prelude.{bytes_eq, codes, if◌then◌else◌, nat_lt}
 use Rattle.mr_ast.specs.Words.{is_number, value_of}
 use Rattle.mr_base.proofs.Comparisons.{lt_from}
-use Rattle.mr_command.specs.declared.command.Format.{Format}
+use Rattle.mr_answer.specs.declared.formats.Format.{Format}
 use Rattle.mr_command.specs.Command.{Check, Command, IsBounded, Offline, Upgrade, auto_of, big_of, command_of, format_of, number_below, run_of, shuffle_of}
 
 abbrev AllBounded : Option Command → Type 0

@@ -3,14 +3,16 @@ use Rattle.std.proofs.Common.{◌≡◌, ℕ, ◌+◌, ap, ◌∙◌, sym, arith
 use Rattle.std.proofs.lemmas.List.{length-append}
 use Rattle.std.specs.Prelude.{Some, Option, Result, Ok, Err}
 use Rattle.mr_io.specs.Files.{Contents}
-use Rattle.mr_command.specs.declared.answer.Written.{Written}
-use Rattle.mr_command.specs.declared.refusal.Refusal.{Refusal}
-use Rattle.mr_command.specs.declared.refusal.Refusal.TheVariants as refusal
+use Rattle.mr_input.specs.declared.written.Written.{Written}
+use Rattle.mr_input.specs.declared.refusal.Refusal.{Refusal}
+use Rattle.mr_input.specs.declared.refusal.Refusal.TheVariants as refusal
 use Rattle.mr_command.specs.Command.{Auto, Big, Check, Command, Offline, Run, Upgrade}
-use Rattle.mr_command.specs.Answer.{Answer, answer_of, refused}
-use Rattle.mr_command.specs.Answering.{IsAnswered, Tells, seen}
-use Rattle.mr_command.specs.Outcome.{Ends, IsLeft, IsPossible, IsRefusedOrLeft, IsWritten}
-use Rattle.mr_command.specs.Report.{refusal_text}
+use Rattle.mr_input.specs.Answer.{Answer, refused, Tells, seen}
+use Rattle.mr_command.specs.Answer.{answer_of}
+use Rattle.mr_command.specs.Answering.{IsAnswered}
+use Rattle.mr_input.specs.Writing.{IsLeft, IsRefusedOrLeft, IsWritten}
+use Rattle.mr_command.specs.Outcome.{Ends, IsPossible}
+use Rattle.mr_input.specs.Refusals.{refusal_text}
 
 -- a refusal is what the answer says, unless memory ran out
 refusal_told : (answer : Answer) (r : Refusal) → Tells answer (Err r) → (r ≡ refusal.Memory) ⊎ (answer ≡ refused r)

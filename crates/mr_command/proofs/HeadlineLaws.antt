@@ -1,9 +1,7 @@
--- The headline, and what is said of a text, follow from how a call ends.
-use Rattle.std.proofs.Common.{◌≡◌, ℕ, ◌≤◌, ap, ◌∙◌, refl, subst, arith, List, [], ◌∷◌, ◌⊎◌, inl, inr}
+-- What is told of a run, of a text or of a trace follows from how a call ends.
+use Rattle.std.proofs.Common.{◌≡◌, ℕ, ◌≤◌, ap, ◌∙◌, refl, subst, arith, List, ◌⊎◌, inl, inr}
 use Rattle.std.specs.Prelude.{Some, None, Option, Ok, Err}
 use Rattle.mr_ast.specs.declared.program.Program.{Program}
-use Rattle.mr_base.specs.declared.reason.Verdict.{Verdict}
-use Rattle.mr_base.specs.declared.reason.Verdict.TheVariants as verdict
 use Rattle.mr_io.specs.Files.{Contents}
 use Rattle.mr_lex.specs.declared.token.TextFault.{TextFault}
 use Rattle.mr_grammar.specs.Denotes.{Denotes}
@@ -14,7 +12,7 @@ use Rattle.mr_sched.specs.declared.version.Version.{Version}
 use Rattle.mr_sched.proofs.TextLaws.{as_read, schedule_again, schedule_fails_at}
 use Rattle.mr_event.specs.declared.footprint.Pair.{Pair}
 use Rattle.mr_event.specs.Predicted.{predicted}
-use Rattle.mr_start.specs.Start.{Legal, PlacedFault, run_of, steps_of}
+use Rattle.mr_start.specs.Runs.{Legal, PlacedFault, run_of, steps_of}
 use Rattle.mr_start.proofs.RunLaws.{no_schedule_fault}
 use Rattle.mr_start.proofs.StartSound.{sound_run}
 use Rattle.mr_wf.specs.declared.fault.FormFault.{FormFault}
@@ -23,11 +21,6 @@ use Rattle.mr_gen.specs.Generated.{generated}
 use Rattle.mr_gen.proofs.GeneratedLaws.{well_formed}
 use Rattle.mr_auto.specs.Drawing.{drawn_schedule}
 use Rattle.mr_auto.proofs.LegalRuns.{schedule_legal}
-use Rattle.mr_command.specs.declared.refusal.Refusal.TheVariants as refusal
-use Rattle.mr_command.specs.declared.command.Format.{Format}
-use Rattle.mr_command.specs.declared.command.Format.TheVariants as format
-use Rattle.mr_command.specs.Command.{Auto, Big, Check, Command, NamesProgram, Offline, Run, Upgrade}
-use Rattle.mr_command.specs.Answer.{Answer, Ran, auto_answer, big_answer, big_schedule, drawn_answer, program_in, ran, schedule_in, denoted, spelled, text_refusal, legal_run, unless_broken, canonical, check_answer, form_answer, form_or, line_at, listed, races_in, races_status, read_report, refused, shown, report_under, reported, run_answer, shuffled_answer, told, upgrade_answer, upgraded, answer_of}
 use Rattle.mr_witness.proofs.Kept.{first_witness}
 use Rattle.mr_order.proofs.First.{first_of_predicted}
 use Rattle.mr_short.proofs.Witness.{witness_of_run}
@@ -38,11 +31,20 @@ use Rattle.mr_event.specs.Footprint.{Footprint}
 use Rattle.mr_event.proofs.Tests.{predicted_is}
 use Rattle.mr_trace.specs.Reading.{races_in as races_read, races_of, trace_of}
 use Rattle.mr_trace.proofs.TraceLaws.{fault_so, trace_again}
-use Rattle.mr_command.specs.Report.{report_status, verdict_status}
-use Rattle.mr_command.specs.Outcome.{Ends, EndsOverTexts, RanOut, holding, IsLeft, IsPossible, IsUnread, IsWritten}
-use Rattle.mr_command.specs.Headline.{ChecksProgram, DrawsFor, IsSoundUnder, Names, NamesBroken, NamesBrokenSchedule, NamesFault, NamesScheduleFault, KeepsResult, ReadsSchedule, RunsProgram, IsOfMachine, IsTold, ShowsFirstRace, Upgrades}
+use Rattle.mr_input.specs.declared.refusal.Refusal.TheVariants as refusal
+use Rattle.mr_input.specs.Answer.{Answer, form_answer, form_or, refused, told}
+use Rattle.mr_input.specs.Inputs.{program_in, schedule_in, denoted, spelled, text_refusal}
+use Rattle.mr_input.specs.Writing.{IsLeft, IsWritten}
+use Rattle.mr_input.proofs.AnswerLaws.{first_told}
+use Rattle.mr_answer.specs.declared.formats.Format.{Format}
+use Rattle.mr_answer.specs.declared.formats.Format.TheVariants as format
+use Rattle.mr_answer.specs.Answers.{big_answer, big_schedule, drawn_answer, ran, legal_run, unless_broken, line_at, listed, reported}
+use Rattle.mr_answer.proofs.StatusLaws.{at_most_one, reported_least, races_least}
+use Rattle.mr_command.specs.Command.{Auto, Big, Check, Command, NamesProgram, Offline, Run, Upgrade}
+use Rattle.mr_command.specs.Answer.{auto_answer, canonical, check_answer, races_in, read_report, shown, report_under, run_answer, upgrade_answer, upgraded, answer_of}
+use Rattle.mr_command.specs.Outcome.{Ends, EndsOverTexts, RanOut, holding, IsPossible, IsUnread}
+use Rattle.mr_command.specs.Named.{ChecksProgram, DrawsFor, IsSoundUnder, NamesRun, NamesBroken, NamesBrokenSchedule, NamesFault, NamesScheduleFault, KeepsResult, ReadsSchedule, RunsProgram, ReportsRun, IsTold, ShowsFirstRace, Upgrades}
 use Rattle.mr_command.specs.Traces.{NamesTraceFault, Replays}
-use Rattle.mr_command.proofs.AnswerLaws.{first_told}
 
 -- ---- what a file holds
 
@@ -55,7 +57,7 @@ fault_in file text fault there f = ap program_in there ∙ ap denoted (fault_par
 -- ---- the answers by definition
 
 -- a well-formed program and a legal schedule are answered by the report of their run
-pub named_answer : (files : Contents) (command : Option Command) (format : Format) (p : Program) (v : Version) (w : Schedule) → Names files command format p v w
+pub named_answer : (files : Contents) (command : Option Command) (format : Format) (p : Program) (v : Version) (w : Schedule) → NamesRun files command format p v w
     → answer_of files command ≡ reported format p v w (ran p w)
 named_answer files command format p v w h =
     let program = denoted_in (files h.program_name) h.program_text p h.program_there h.denotes in
@@ -238,9 +240,9 @@ module _ (files : Contents) (command : Option Command) (files_rose out_rose : Ty
   ends_told b e (inl out) = inr (inl (ran_out command old new status out))
   ends_told b e (inr ends) = possible_told ends.0 b e ends.1 ends.2
 
-  pub of_machine : (format : Format) (p : Program) (v : Version) (w : Schedule) → Names files command format p v w → Ends files command files_rose out_rose old new status
-      → IsOfMachine format p v w files_rose out_rose old new status
-  of_machine format p v w h e = record {
+  pub reports_run : (format : Format) (p : Program) (v : Version) (w : Schedule) → NamesRun files command format p v w → Ends files command files_rose out_rose old new status
+      → ReportsRun format p v w files_rose out_rose old new status
+  reports_run format p v w h e = record {
     sound = sound_run p w h.well_formed h.legal;
     races = predicted_is (steps_of p w);
     witness = witnessed format p w h.well_formed h.legal;
@@ -285,32 +287,8 @@ module _ (files : Contents) (command : Option Command) (files_rose out_rose : Ty
       → IsTold (upgraded w) files_rose out_rose old new status
   upgraded_told v w h e = ends_told (upgraded w) (upgraded_answer files command v w h) e
 
-verdict_at_most_one : (v : Verdict) → verdict_status v ≤ 1
-verdict_at_most_one verdict.Running = omega arith
-verdict_at_most_one verdict.Exit = omega arith
-verdict_at_most_one verdict.Leak = omega arith
-verdict_at_most_one verdict.Abort = omega arith
-verdict_at_most_one verdict.Deadlock = omega arith
-verdict_at_most_one (verdict.Undefined r) = omega arith
-
-pub at_most_one : (v : Verdict) (races : List Pair) → report_status v races ≤ 1
-at_most_one v [] = verdict_at_most_one v
-at_most_one v (p ∷ races) = omega arith
-
-shuffled_least : (number : ℕ) (p : Program) (v : Version) (w : Schedule) (r : Ran) (races : List Pair) → (shuffled_answer number p v w r races).status ≤ 1
-shuffled_least number p v w r [] = at_most_one (run_of p (shuffled r.steps w number)).verdict (predicted (steps_of p (shuffled r.steps w number)))
-shuffled_least number p v w r (pair ∷ races) = at_most_one r.config.verdict (predicted r.steps)
-
--- the status of a report
-pub reported_least : (format : Format) (p : Program) (v : Version) (w : Schedule) (r : Ran) → (reported format p v w r).status ≤ 1
-reported_least format.Text p v w r = at_most_one r.config.verdict (predicted r.steps)
-reported_least format.Json p v w r = at_most_one r.config.verdict (predicted r.steps)
-reported_least format.Short p v w r = at_most_one r.config.verdict (predicted r.steps)
-reported_least format.Footprints p v w r = omega arith
-reported_least (format.Shuffled number) p v w r = shuffled_least number p v w r (predicted r.steps)
-
 -- without faults the status is that of the report, unless memory ran out
-pub unless_faults : (format : Format) (p : Program) (v : Version) (w : Schedule) (files_rose out_rose : Type 0) (old new : Option (List ℕ)) (status : ℕ) → IsOfMachine format p v w files_rose out_rose old new status
+pub unless_faults : (format : Format) (p : Program) (v : Version) (w : Schedule) (files_rose out_rose : Type 0) (old new : Option (List ℕ)) (status : ℕ) → ReportsRun format p v w files_rose out_rose old new status
     → ¬ files_rose → ¬ out_rose → (status ≤ 1) ⊎ (status ≡ 8)
 unless_faults format p v w files_rose out_rose old new status m no_read no_write =
     elim m.report [
@@ -334,11 +312,6 @@ drawn_unless_faults p w files_rose out_rose old new status (inl written) no_read
     ]
 drawn_unless_faults p w files_rose out_rose old new status (inr (inl left)) no_read no_write = inr left.0
 drawn_unless_faults p w files_rose out_rose old new status (inr (inr f)) no_read no_write = absurd (no_read f.0)
-
--- the status of races
-pub races_least : (races : List Pair) → races_status races ≤ 1
-races_least [] = omega arith
-races_least (p ∷ races) = omega arith
 
 -- the same of races that bytes show
 pub listed_unless_faults : (races : List Pair) (files_rose out_rose : Type 0) (old new : Option (List ℕ)) (status : ℕ) → IsTold (listed races) files_rose out_rose old new status

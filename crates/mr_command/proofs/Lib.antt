@@ -1,14 +1,11 @@
-pub mod AnswerLaws
 pub mod BoundLaws
 pub mod EndLaws
 pub mod Examples
 pub mod HeadlineLaws
-pub mod InputLaws
+pub mod ListedLaws
+pub mod MachineLaws
 pub mod OnlyLaws
-pub mod PrintedLaws
 pub mod PromiseLaws
-pub mod ReorderedLaws
-pub mod RunLaws
 pub mod StatusLaws
 pub mod TextLaws
 pub mod TraceRuns

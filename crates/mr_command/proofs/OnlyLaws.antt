@@ -13,7 +13,7 @@ use Rattle.mr_sched.specs.declared.version.Read.{Read}
 use Rattle.mr_sched.specs.declared.version.Version.{Version}
 use Rattle.mr_sched.specs.Reading.{Fault, schedule_of}
 use Rattle.mr_sched.proofs.TextLaws.{schedule_failed, schedule_read}
-use Rattle.mr_start.specs.Start.{PlacedFault, schedule_fault}
+use Rattle.mr_start.specs.Runs.{PlacedFault, schedule_fault}
 use Rattle.mr_start.proofs.RunLaws.{legal_schedule}
 use Rattle.mr_wf.specs.declared.fault.FormFault.{FormFault}
 use Rattle.mr_wf.specs.Walk.{WellFormed, faults_of}
@@ -24,15 +24,20 @@ use Rattle.mr_trace.specs.declared.fault.TheConstants.{TOO_LONG}
 use Rattle.mr_trace.specs.Faults.{too_long}
 use Rattle.mr_trace.specs.Reading.{Place, races_in as races_read, trace_of}
 use Rattle.mr_trace.proofs.TraceLaws.{fault_is, trace_is}
-use Rattle.mr_command.specs.declared.command.Format.{Format}
+use Rattle.mr_answer.specs.declared.formats.Format.{Format}
 use Rattle.mr_command.specs.Command.{Auto, Check, Command, Offline, Run, Upgrade}
-use Rattle.mr_command.specs.Answer.{Answer, Ran, answer_of, auto_answer, canonical, check_answer, denoted, drawn_answer, form_or, listed, program_in, races_in, ran, read_report, report_under, reported, run_answer, schedule_in, shown, spelled, told, unless_broken, upgrade_answer, upgraded}
-use Rattle.mr_command.specs.Outcome.{Ends, IsWhole}
-use Rattle.mr_command.specs.Headline.{ChecksProgram, DrawsFor, HasScheduleFault, Names, ReportsLegalRun, Upgrades, WritesCanonical, WritesDrawn, WritesUpgraded}
+use Rattle.mr_input.specs.Answer.{Answer, form_or, told}
+use Rattle.mr_input.specs.Inputs.{denoted, program_in, schedule_in, spelled}
+use Rattle.mr_answer.specs.Answers.{Ran, drawn_answer, listed, ran, reported, unless_broken}
+use Rattle.mr_command.specs.Answer.{answer_of, auto_answer, canonical, check_answer, races_in, read_report, report_under, run_answer, shown, upgrade_answer, upgraded}
+use Rattle.mr_input.specs.Writing.{IsWhole}
+use Rattle.mr_command.specs.Outcome.{Ends}
+use Rattle.mr_command.specs.Named.{ChecksProgram, DrawsFor, HasScheduleFault, NamesRun, ReportsLegalRun, Upgrades, WritesCanonical, WritesDrawn, WritesUpgraded}
 use Rattle.mr_command.specs.Showing.{HasBytes, Shown}
 use Rattle.mr_command.specs.Traces.{HasTraceFault, Replays, WritesRaces}
-use Rattle.mr_command.proofs.HeadlineLaws.{auto_answered, checked_answer, named_answer, races_from, races_least, ran_out, replayed_answer, unread_status, upgraded_answer}
-use Rattle.mr_command.proofs.InputLaws.{long_trace}
+use Rattle.mr_answer.proofs.StatusLaws.{races_least}
+use Rattle.mr_command.proofs.HeadlineLaws.{auto_answered, checked_answer, named_answer, races_from, ran_out, replayed_answer, unread_status, upgraded_answer}
+use Rattle.mr_command.proofs.ListedLaws.{long_trace}
 use Rattle.mr_command.proofs.StatusLaws.{only_offline}
 
 -- a program that a text denotes and that breaks no rule is well-formed
@@ -84,7 +89,7 @@ unbroken_program_of say (Err f) s = let three : 3 ≤ 1 = s in absurd (omega ari
 
 module _ (files : Contents) where
   named_of : (format : Format) (program schedule : List ℕ) (file : Option (List ℕ)) → files program ≡ file → (told (run_answer format (files schedule)) (program_in file)).status ≤ 1
-      → (p : Program) × (v : Version) × (w : Schedule) × Names files (Some (Run format program schedule)) format p v w
+      → (p : Program) × (v : Version) × (w : Schedule) × NamesRun files (Some (Run format program schedule)) format p v w
   named_of format program schedule None e s = let six : 6 ≤ 1 = s in absurd (omega arith)
   named_of format program schedule (Some text) e s =
       let (p, parses, sound) = sound_program_of format (parsed text) (files schedule) s in

@@ -16,8 +16,9 @@ module _ (files : Contents) (command : Option Command) (files_rose out_rose : Ty
     (ends : Ends files command files_rose out_rose old new status) where
   pub of_runs : PromisesOfRuns files command files_rose out_rose old new status
   of_runs = record {
+    reported = λ format p v w names. told.reports_run files command files_rose out_rose old new status format p v w names ends;
     complete = λ format p v w names.
-        told.unless_faults format p v w files_rose out_rose old new status (told.of_machine files command files_rose out_rose old new status format p v w names ends);
+        told.unless_faults format p v w files_rose out_rose old new status (told.reports_run files command files_rose out_rose old new status format p v w names ends);
     only_legal = λ format program schedule is. only.only_legal files files_rose out_rose old new status command format program schedule is ends;
     schedule_fault = λ line code names. told.schedule_fault_told files command files_rose out_rose old new status line code names ends;
     broken_schedule = λ v w fault names. told.broken_schedule_told files command files_rose out_rose old new status v w fault names ends;

@@ -10,15 +10,18 @@ use Rattle.mr_sched.specs.declared.version.Read.{Read}
 use Rattle.mr_sched.specs.declared.version.Version.{Version}
 use Rattle.mr_sched.specs.Reading.{Fault, schedule_of}
 use Rattle.mr_event.specs.Predicted.{predicted}
-use Rattle.mr_start.specs.Start.{PlacedFault, schedule_fault}
+use Rattle.mr_start.specs.Runs.{PlacedFault, schedule_fault}
 use Rattle.mr_wf.specs.declared.fault.FormFault.{FormFault}
 use Rattle.mr_wf.specs.Walk.{faults_of}
 use Rattle.mr_auto.specs.Drawing.{drawn_schedule}
 use Rattle.mr_gen.specs.Generated.{generated}
-use Rattle.mr_command.specs.declared.command.Format.{Format}
+use Rattle.mr_answer.specs.declared.formats.Format.{Format}
 use Rattle.mr_command.specs.Command.{Auto, Big, Check, Command, Offline, Run, Upgrade}
-use Rattle.mr_command.specs.Answer.{Answer, Ran, answer_of, auto_answer, big_answer, big_schedule, canonical, check_answer, denoted, drawn_answer, form_or, program_in, ran, read_report, report_under, reported, run_answer, schedule_in, spelled, told, unless_broken, upgrade_answer}
-use Rattle.mr_command.proofs.HeadlineLaws.{at_most_one, reported_least}
+use Rattle.mr_input.specs.Answer.{Answer, form_or, told}
+use Rattle.mr_input.specs.Inputs.{denoted, program_in, schedule_in, spelled}
+use Rattle.mr_answer.specs.Answers.{Ran, big_answer, big_schedule, drawn_answer, ran, reported, unless_broken}
+use Rattle.mr_command.specs.Answer.{answer_of, auto_answer, canonical, check_answer, read_report, report_under, run_answer, upgrade_answer}
+use Rattle.mr_answer.proofs.StatusLaws.{at_most_one, reported_least}
 
 -- what else is answered has a status below that
 legal_below : (format : Format) (p : Program) (v : Version) (w : Schedule) (f : Option PlacedFault) (r : Ran) → (told (reported format p v w) (unless_broken v w f r)).status ≤ 8

@@ -5,13 +5,15 @@ use Rattle.mr_ast.specs.declared.program.Program.{Program}
 use Rattle.mr_io.specs.Counts.{Rose}
 use Rattle.mr_sched.specs.declared.version.Read.{Read}
 use Rattle.mr_wf.specs.Walk.{WellFormed}
-use Rattle.mr_command.specs.declared.answer.Written.{Written}
-use Rattle.mr_command.specs.declared.command.Format.{Format}
-use Rattle.mr_command.specs.declared.refusal.Refusal.{Refusal}
-use Rattle.mr_command.specs.declared.refusal.Refusal.TheVariants as refusal
-use Rattle.mr_command.specs.Answer.{Answer, form_or, program_in, report_under, run_answer, schedule_in, told, upgrade_answer}
-use Rattle.mr_command.specs.Answering.{IsFormOrReport, IsReported, IsSaid, IsUpgraded, Tells, TellsOrUnread}
-use Rattle.mr_command.specs.Outcome.{Gives, IsRead, holding}
+use Rattle.mr_input.specs.declared.written.Written.{Written}
+use Rattle.mr_answer.specs.declared.formats.Format.{Format}
+use Rattle.mr_input.specs.declared.refusal.Refusal.{Refusal}
+use Rattle.mr_input.specs.declared.refusal.Refusal.TheVariants as refusal
+use Rattle.mr_input.specs.Answer.{Answer, form_or, told, Tells}
+use Rattle.mr_input.specs.Inputs.{program_in, schedule_in, Gives, IsRead}
+use Rattle.mr_command.specs.Answer.{report_under, run_answer, upgrade_answer}
+use Rattle.mr_command.specs.Answering.{IsFormOrReport, IsReported, IsSaid, IsUpgraded, TellsOrUnread}
+use Rattle.mr_command.specs.Outcome.{holding}
 
 -- a count that rose later rose in all
 pub rose_in_all : (first then last : ℕ) → first ≤ then → Rose then last → Rose first last

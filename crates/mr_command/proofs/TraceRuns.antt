@@ -1,42 +1,29 @@
 -- What an answer shows of runs that are traced and of files whose races are listed, by the result and by the status.
-use Rattle.std.proofs.Common.{◌≡◌, ℕ, ◌<◌, ◌≤◌, ◌^◌, ap, subst, sym, ◌∙◌, arith, List, [], ◌∷◌, ◌++◌, length, ◌⊎◌, inl, inr, refl}
-use Rattle.std.specs.Prelude.{All, OnOk, Some, Option, Result, Ok, Err}
+use Rattle.std.proofs.Common.{◌≡◌, ℕ, ◌<◌, ◌≤◌, ◌^◌, ap, subst, sym, ◌∙◌, arith, List, [], ◌++◌, length, ◌⊎◌, inl, inr, refl}
+use Rattle.std.specs.Prelude.{Some, Option, Result, Ok, Err}
 use Rattle.mr_ast.specs.declared.program.Program.{Program}
-use Rattle.mr_event.specs.Footprint.{Footprint}
-use Rattle.mr_event.specs.FootOk.{IsFootOk}
 use Rattle.mr_io.specs.Files.{Contents}
 use Rattle.mr_sched.specs.declared.schedule.Schedule.{Schedule}
 use Rattle.mr_sched.specs.declared.version.Read.{Read}
 use Rattle.mr_sched.specs.declared.version.Version.{Version}
 use Rattle.mr_sched.proofs.TextLaws.{schedule_again}
-use Rattle.mr_start.specs.Start.{Legal, steps_of}
-use Rattle.mr_trace.specs.Spelling.{AreBytes, IsRun, Traces, spelling}
+use Rattle.mr_start.specs.Runs.{steps_of}
+use Rattle.mr_trace.specs.Spelling.{AreBytes, Traces, spelling}
 use Rattle.mr_wf.specs.Walk.{WellFormed, faults_of}
-use Rattle.mr_exchange.proofs.FootLimits.{run_ok}
-use Rattle.mr_command.specs.declared.answer.Written.{Written}
-use Rattle.mr_command.specs.declared.command.Format.{Format}
-use Rattle.mr_command.specs.declared.command.Format.TheVariants as format
-use Rattle.mr_command.specs.declared.refusal.Refusal.{Refusal}
-use Rattle.mr_command.specs.declared.refusal.Refusal.TheVariants as refusal
-use Rattle.mr_command.specs.Answer.{Answer, program_in, refused, schedule_in, spelled}
-use Rattle.mr_command.specs.Answering.{answered}
+use Rattle.mr_input.specs.declared.written.Written.{Written}
+use Rattle.mr_input.specs.declared.refusal.Refusal.{Refusal}
+use Rattle.mr_input.specs.declared.refusal.Refusal.TheVariants as refusal
+use Rattle.mr_input.specs.Answer.{Answer, refused}
+use Rattle.mr_input.specs.Inputs.{schedule_in, spelled, IsRead}
+use Rattle.mr_input.specs.Writing.{IsLeft, IsRefusedOrLeft, IsWritten}
+use Rattle.mr_answer.specs.declared.formats.Format.{Format}
+use Rattle.mr_answer.specs.declared.formats.Format.TheVariants as format
+use Rattle.mr_answer.specs.Spelled.{IsSpelled}
 use Rattle.mr_command.specs.Command.{Auto, Big, Check, Command, Offline, Run, Upgrade}
-use Rattle.mr_command.specs.Headline.{Names}
-use Rattle.mr_command.specs.Outcome.{IsLeft, IsRead, IsRefusedOrLeft, IsWritten}
-use Rattle.mr_command.specs.Showing.{HasBytes, IsOfBytes, IsSpelled, IsSpelledBy, Shown, Shows, ShowsBy}
+use Rattle.mr_command.specs.Named.{NamesRun}
+use Rattle.mr_command.specs.Showing.{HasBytes, IsOfBytes, IsSpelledBy, Shown, Shows, ShowsBy}
 use Rattle.mr_command.proofs.HeadlineLaws.{denoted_in}
 use Rattle.mr_command.proofs.TextLaws.{was_read}
-
--- ---- a run that is traced
-
--- each of its footprints keeps the machine's limits
-pub run_limits : (p q : Program) (w : Schedule) (steps : List Footprint) → q ≡ p → WellFormed q → Legal p w → steps ≡ steps_of p w → All IsFootOk steps
-run_limits p q w steps same well legal are = subst (All IsFootOk) (sym are) (run_ok p w (subst WellFormed same well) legal)
-
--- what holds where bytes were written
-pub on_answered : {E : Type 0} (P : Type 0) (r : Result Written E) → OnOk r P → OnOk (answered r) P
-on_answered P (Ok a) h = h
-on_answered P (Err e) h = tt
 
 -- ---- by the result
 
@@ -162,7 +149,7 @@ module _ (rose : Type 0) (old new : Option (List ℕ)) (status : ℕ) where
 -- ---- the run that a command names
 
 -- what was written of it spells it
-pub traced_run : (files : Contents) (command : Option Command) (p : Program) (v : Version) (w : Schedule) (status : ℕ) → Names files command format.Footprints p v w
+pub traced_run : (files : Contents) (command : Option Command) (p : Program) (v : Version) (w : Schedule) (status : ℕ) → NamesRun files command format.Footprints p v w
     → Shown files command status → status ≤ 1 → length (spelling (steps_of p w)) ≤ 2 ^ 28 → Traces (spelling (steps_of p w)) (steps_of p w)
 traced_run files command p v w status h shows small limit =
     let known = subst (λ (c : Option Command). Shown files c status) h.is_run shows in

@@ -10,19 +10,23 @@ use Rattle.mr_sched.specs.declared.version.Read.{Read}
 use Rattle.mr_sched.specs.declared.version.Version.{Version}
 use Rattle.mr_sched.specs.Reading.{Fault, schedule_of}
 use Rattle.mr_event.specs.Predicted.{predicted}
-use Rattle.mr_start.specs.Start.{PlacedFault, schedule_fault}
+use Rattle.mr_start.specs.Runs.{PlacedFault, schedule_fault}
 use Rattle.mr_wf.specs.declared.fault.FormFault.{FormFault}
 use Rattle.mr_wf.specs.Walk.{faults_of}
 use Rattle.mr_auto.specs.Drawing.{drawn_schedule}
 use Rattle.mr_gen.specs.Generated.{generated}
 use Rattle.mr_event.specs.declared.footprint.Pair.{Pair}
 use Rattle.mr_trace.specs.Reading.{Place, races_of}
-use Rattle.mr_command.specs.declared.command.Format.{Format}
+use Rattle.mr_answer.specs.declared.formats.Format.{Format}
 use Rattle.mr_command.specs.Command.{Auto, Big, Check, Command, Offline, Run, Upgrade}
-use Rattle.mr_command.specs.Answer.{Answer, Ran, answer_of, auto_answer, big_answer, big_schedule, drawn_answer, canonical, check_answer, denoted, form_or, listed, program_in, races_in, ran, read_report, report_under, reported, run_answer, schedule_in, shown, spelled, told, unless_broken, upgrade_answer}
+use Rattle.mr_input.specs.Answer.{Answer, form_or, told}
+use Rattle.mr_input.specs.Inputs.{denoted, program_in, schedule_in, spelled}
+use Rattle.mr_answer.specs.Answers.{Ran, big_answer, big_schedule, drawn_answer, listed, ran, reported, unless_broken}
+use Rattle.mr_command.specs.Answer.{answer_of, auto_answer, canonical, check_answer, races_in, read_report, report_under, run_answer, shown, upgrade_answer}
 use Rattle.mr_command.specs.Outcome.{Ends, IsPossible}
-use Rattle.mr_command.specs.Headline.{IsUnreadBecause, LacksFile}
-use Rattle.mr_command.proofs.HeadlineLaws.{at_most_one, races_least, ran_out, reported_least, written_status}
+use Rattle.mr_command.specs.Named.{IsUnreadBecause, LacksFile}
+use Rattle.mr_answer.proofs.StatusLaws.{at_most_one, races_least, reported_least}
+use Rattle.mr_command.proofs.HeadlineLaws.{ran_out, written_status}
 
 -- ---- the status 6 is that of a file that isn't there
 

@@ -1,39 +1,18 @@
 -- How a command is answered, whatever the files do.
-use Rattle.std.specs.Prelude.{◌≡◌, ℕ, ◌≤◌, ◌⊎◌, List, [], Option, Some, Result, Ok, Err}
+use Rattle.std.specs.Prelude.{◌≡◌, ℕ, ◌⊎◌, List, [], Option, Some, Result, Ok, Err}
 use Rattle.mr_ast.specs.declared.program.Program.{Program}
 use Rattle.mr_io.specs.Files.{Contents}
 use Rattle.mr_wf.specs.Walk.{faults_of}
-use Rattle.mr_command.specs.declared.answer.Written.{Written}
-use Rattle.mr_command.specs.declared.command.Format.{Format}
-use Rattle.mr_command.specs.declared.refusal.Refusal.{Refusal}
-use Rattle.mr_command.specs.declared.refusal.Refusal.TheVariants as refusal
-use Rattle.mr_command.specs.Answer.{Answer, auto_answer, big_answer, check_answer, listed, program_in, races_in, refused, run_answer, schedule_in, told, upgrade_answer}
+use Rattle.mr_input.specs.declared.written.Written.{Written}
+use Rattle.mr_input.specs.declared.refusal.Refusal.{Refusal}
+use Rattle.mr_input.specs.declared.refusal.Refusal.TheVariants as refusal
+use Rattle.mr_input.specs.Answer.{Answer, told, Tells}
+use Rattle.mr_input.specs.Inputs.{program_in, schedule_in}
+use Rattle.mr_answer.specs.declared.formats.Format.{Format}
+use Rattle.mr_answer.specs.Answers.{big_answer, listed}
+use Rattle.mr_command.specs.Answer.{auto_answer, check_answer, races_in, run_answer, upgrade_answer}
 use Rattle.mr_command.specs.Command.{Auto, Big, Check, Command, Offline, Run, Upgrade}
 use Rattle.mr_command.specs.Outcome.{holding, over_holding}
-
--- what is written, seen as an answer
-abbrev pub seen : Written → Answer
-seen a = record { text = a.text.items; status = a.status }
-
--- the status of a report, of a canonical text, or of a rule that a program breaks
-abbrev pub IsStatus : ℕ → Type 0
-IsStatus status = (status ≤ 1) ⊎ (status ≡ 4)
-
--- what was written, or want of memory
-abbrev pub answered : {E : Type 0} → Result Written E → Result Written Refusal
-answered (Ok a) = Ok a
-answered (Err e) = Err refusal.Memory
-
--- What is written is the answer, or what refuses is; unless memory ran out.
-abbrev pub Tells : Answer → Result Written Refusal → Type 0
-Tells answer (Ok a) = seen a ≡ answer
-Tells answer (Err refusal.Memory) = Unit {0}
-Tells answer (Err refusal.ReadProgram) = answer ≡ refused refusal.ReadProgram
-Tells answer (Err (refusal.Text at col code)) = answer ≡ refused (refusal.Text at col code)
-Tells answer (Err refusal.ReadSchedule) = answer ≡ refused refusal.ReadSchedule
-Tells answer (Err refusal.ReadTrace) = answer ≡ refused refusal.ReadTrace
-Tells answer (Err (refusal.Trace at code)) = answer ≡ refused (refusal.Trace at code)
-Tells answer (Err (refusal.Schedule at code earlier)) = answer ≡ refused (refusal.Schedule at code earlier)
 
 -- or the read of the schedule failed
 abbrev pub TellsOrUnread : Type 0 → Answer → Result Written Refusal → Type 0

@@ -1,9 +1,8 @@
 -- The words behind the program's name.
-use Rattle.std.specs.Prelude.{◌≡◌, ℕ, ◌+◌, ◌≤◌, ◌^◌, ◌⊎◌, nat_lt, List, [], ◌∷◌, Option, None, Some, bytes_eq, codes}
-use Rattle.std.specs.Prelude.{if◌then◌else◌}
+use Rattle.std.specs.Prelude.{◌≡◌, ℕ, ◌+◌, ◌≤◌, ◌^◌, ◌⊎◌, nat_lt, List, [], ◌∷◌, Option, None, Some, bytes_eq, codes, if◌then◌else◌}
 use Rattle.mr_ast.specs.Words.{is_number, value_of}
-use Rattle.mr_command.specs.declared.command.Format.{Format}
-use Rattle.mr_command.specs.declared.command.Format.TheVariants.{Footprints, Json, Short, Shuffled, Text}
+use Rattle.mr_answer.specs.declared.formats.Format.{Format}
+use Rattle.mr_answer.specs.declared.formats.Format.TheVariants.{Footprints, Json, Short, Shuffled, Text}
 use Rattle.mr_command.specs.declared.command.Command.{Command as Words}
 use Rattle.mr_command.specs.declared.command.Command.TheVariants as words
 

@@ -1,11 +1,9 @@
 pub mod Answer
 pub mod Answering
 pub mod Command
-pub mod Form
 pub mod Headline
+pub mod Named
 pub mod Outcome
 pub mod Promises
-pub mod Report
-pub mod Running
 pub mod Showing
 pub mod Traces

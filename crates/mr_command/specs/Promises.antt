@@ -7,23 +7,29 @@ use Rattle.mr_io.specs.Files.{Contents}
 use Rattle.mr_lex.specs.declared.token.TextFault.{TextFault}
 use Rattle.mr_sched.specs.declared.schedule.Schedule.{Schedule}
 use Rattle.mr_sched.specs.declared.version.Version.{Version}
-use Rattle.mr_start.specs.Start.{PlacedFault, steps_of}
+use Rattle.mr_start.specs.Runs.{PlacedFault, steps_of}
 use Rattle.mr_trace.specs.Spelling.{Traces, spelling}
 use Rattle.mr_wf.specs.declared.fault.FormFault.{FormFault}
 use Rattle.mr_auto.specs.Drawing.{drawn_schedule}
-use Rattle.mr_command.specs.declared.command.Format.{Format}
-use Rattle.mr_command.specs.declared.command.Format.TheVariants.{Footprints}
-use Rattle.mr_command.specs.declared.refusal.Refusal.TheVariants as refusal
-use Rattle.mr_command.specs.Answer.{canonical, drawn_answer, form_answer, line_at, listed, refused, text_refusal, upgraded}
+use Rattle.mr_answer.specs.declared.formats.Format.{Format}
+use Rattle.mr_answer.specs.declared.formats.Format.TheVariants.{Footprints}
+use Rattle.mr_input.specs.declared.refusal.Refusal.TheVariants as refusal
+use Rattle.mr_input.specs.Answer.{form_answer, refused}
+use Rattle.mr_input.specs.Inputs.{text_refusal}
+use Rattle.mr_answer.specs.Answers.{drawn_answer, line_at, listed}
+use Rattle.mr_command.specs.Answer.{canonical, upgraded}
 use Rattle.mr_command.specs.Command.{Auto, Check, Command, Offline, Run, Upgrade}
-use Rattle.mr_command.specs.Headline.{ChecksProgram, DrawsFor, HasScheduleFault, IsSoundUnder, IsTold, Names, NamesBroken, NamesBrokenSchedule, NamesFault, NamesScheduleFault, ReportsLegalRun, Upgrades, WritesCanonical, WritesDrawn, WritesUpgraded}
+use Rattle.mr_command.specs.Named.{ChecksProgram, DrawsFor, HasScheduleFault, IsSoundUnder, IsTold, NamesRun, NamesBroken, NamesBrokenSchedule, NamesFault, NamesScheduleFault, ReportsLegalRun, ReportsRun, Upgrades, WritesCanonical, WritesDrawn, WritesUpgraded}
 use Rattle.mr_command.specs.Traces.{HasTraceFault, NamesTraceFault, Replays, WritesRaces}
 
 -- OF RUNS: of programs under schedules that are recorded or drawn.
 pub record PromisesOfRuns (files : Contents) (command : Option Command) (files_rose out_rose : Type 0)
     (old new : Option (List ℕ)) (status : ℕ) : Type 0 where
-  -- without a counted fault the headline's report is written, or memory ran out
-  pub complete : (format : Format) (p : Program) (v : Version) (w : Schedule) → Names files command format p v w
+  -- of a well-formed program and a legal schedule the report of the run is written, in each format
+  pub reported : (format : Format) (p : Program) (v : Version) (w : Schedule) → NamesRun files command format p v w
+      → ReportsRun format p v w files_rose out_rose old new status
+  -- without a counted fault it is, or memory ran out
+  pub complete : (format : Format) (p : Program) (v : Version) (w : Schedule) → NamesRun files command format p v w
       → ¬ files_rose → ¬ out_rose → (status ≤ 1) ⊎ (status ≡ 8)
   -- where a run is reported, the files denote a well-formed program and a legal schedule of it
   pub only_legal : (format : Format) (program schedule : List ℕ) → command ≡ Some (Run format program schedule)
@@ -73,7 +79,7 @@ pub record PromisesOfTexts (files : Contents) (command : Option Command) (files_
 pub record PromisesOfTraces (files : Contents) (command : Option Command) (files_rose out_rose : Type 0)
     (old new : Option (List ℕ)) (status : ℕ) : Type 0 where
   -- what is written of a run spells it, and no other run
-  pub traced : (p : Program) (v : Version) (w : Schedule) → Names files command Footprints p v w
+  pub traced : (p : Program) (v : Version) (w : Schedule) → NamesRun files command Footprints p v w
       → status ≤ 1 → length (spelling (steps_of p w)) ≤ 2 ^ 28 → Traces (spelling (steps_of p w)) (steps_of p w)
   -- the races that bytes show are those of the run that they spell
   pub replayed : (run : List Footprint) → Replays files command run

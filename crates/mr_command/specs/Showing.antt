@@ -1,27 +1,20 @@
 -- What an answer shows of the run whose footprints were written, and of the file whose races were listed.
-use Rattle.std.specs.Prelude.{◌≡◌, ℕ, ◌<◌, ◌≤◌, ◌^◌, ◌⊎◌, List, [], length, Option, None, Some, Result, Ok, Err, OnOk}
+use Rattle.std.specs.Prelude.{◌≡◌, ℕ, ◌<◌, ◌≤◌, ◌^◌, ◌⊎◌, List, [], length, Option, None, Some, Result, Ok, Err}
 use Rattle.mr_ast.specs.declared.program.Program.{Program}
 use Rattle.mr_io.specs.Files.{Contents}
 use Rattle.mr_sched.specs.declared.schedule.Schedule.{Schedule}
 use Rattle.mr_sched.specs.declared.version.Read.{Read}
-use Rattle.mr_start.specs.Start.{steps_of}
+use Rattle.mr_start.specs.Runs.{steps_of}
 use Rattle.mr_trace.specs.Spelling.{AreBytes, IsRun}
 use Rattle.mr_wf.specs.Walk.{faults_of}
-use Rattle.mr_command.specs.declared.answer.Written.{Written}
-use Rattle.mr_command.specs.declared.command.Format.{Format}
-use Rattle.mr_command.specs.declared.command.Format.TheVariants.{Footprints, Json, Short, Shuffled, Text}
-use Rattle.mr_command.specs.declared.refusal.Refusal.{Refusal}
-use Rattle.mr_command.specs.declared.refusal.Refusal.TheVariants as refusal
-use Rattle.mr_command.specs.Answer.{program_in, schedule_in}
+use Rattle.mr_input.specs.declared.written.Written.{Written}
+use Rattle.mr_input.specs.declared.refusal.Refusal.{Refusal}
+use Rattle.mr_input.specs.declared.refusal.Refusal.TheVariants as refusal
+use Rattle.mr_input.specs.Inputs.{program_in, schedule_in}
+use Rattle.mr_answer.specs.declared.formats.Format.{Format}
+use Rattle.mr_answer.specs.declared.formats.Format.TheVariants.{Footprints, Json, Short, Shuffled, Text}
+use Rattle.mr_answer.specs.Spelled.{IsSpelled}
 use Rattle.mr_command.specs.Command.{Auto, Big, Check, Command, Offline, Run, Upgrade}
-
--- where the footprints of a run were written, the run has a spelling of its own
-abbrev pub IsSpelled : Format → Program → Schedule → Result Written Refusal → Type 0
-IsSpelled Text p w result = Unit {0}
-IsSpelled Json p w result = Unit {0}
-IsSpelled Short p w result = Unit {0}
-IsSpelled Footprints p w result = OnOk result (IsRun (steps_of p w))
-IsSpelled (Shuffled number) p w result = Unit {0}
 
 -- the file has bytes, or more of them than are read
 abbrev pub HasBytes : Option (List ℕ) → Type 0

@@ -5,9 +5,9 @@ use Rattle.mr_event.specs.Predicted.{predicted}
 use Rattle.mr_io.specs.Files.{Contents}
 use Rattle.mr_trace.specs.Faults.{FirstFault}
 use Rattle.mr_trace.specs.Spelling.{Traces}
-use Rattle.mr_command.specs.Answer.{listed}
+use Rattle.mr_answer.specs.Answers.{listed}
 use Rattle.mr_command.specs.Command.{Command, Offline}
-use Rattle.mr_command.specs.Outcome.{IsWhole}
+use Rattle.mr_input.specs.Writing.{IsWhole}
 
 -- the command is to list the races of a file whose bytes are those of the run
 pub record Replays (files : Contents) (command : Option Command) (run : List Footprint) : Type 0 where

@@ -6,47 +6,26 @@ ghost use Rattle.mr_ast.specs.declared.program.Program.{Program as AstProgram};
 ghost use Rattle.mr_ast.specs.Shaped.{Shaped};
 ghost use Rattle.mr_sched.specs.declared.version.Read.{Read as Spelled};
 ghost use Rattle.mr_wf.specs.Walk.{faults_of};
-ghost use Rattle.mr_command.specs.Answer.{Answer, auto_answer, big_answer, canonical, check_answer, form_answer, program_in, report_under, schedule_in, upgrade_answer};
-ghost use Rattle.mr_command.specs.Answering.{answered, IsAnswered, IsAnsweredOverTexts, IsFormOrReport, IsReported, IsRunOverText, IsSaid, IsStatus, IsUpgraded, seen, Tells, TellsOrUnread};
+ghost use Rattle.mr_input.specs.Answer.{IsStatus, Tells};
+ghost use Rattle.mr_input.specs.Inputs.{program_in, schedule_in, IsUnreadFault};
+ghost use Rattle.mr_answer.specs.Answers.{big_answer};
+ghost use Rattle.mr_command.specs.Answer.{auto_answer, canonical, check_answer, report_under, upgrade_answer};
+ghost use Rattle.mr_command.specs.Answering.{IsAnswered, IsAnsweredOverTexts, IsFormOrReport, IsReported, IsRunOverText, IsSaid, IsUpgraded, TellsOrUnread};
 ghost use Rattle.mr_command.specs.Command.{asked, named_files, Auto, Check, IsBounded, NamesProgram, Run, Upgrade};
-ghost use Rattle.mr_command.specs.Headline.{AsksForSchedule};
-ghost use Rattle.mr_command.specs.Outcome.{IsUnreadFault};
-ghost use Rattle.mr_command.specs.Showing.{IsSpelled, Shows};
+ghost use Rattle.mr_command.specs.Named.{AsksForSchedule};
+ghost use Rattle.mr_answer.specs.Spelled.{IsSpelled};
+ghost use Rattle.mr_command.specs.Showing.{Shows};
 
-use crate::command::{Command, Format};
-use crate::drawn::{drawn, summary};
-use crate::form::form_line;
-use crate::input::{read_program, read_schedule};
-use crate::refusal::Refusal;
-use crate::run::report_run;
-use crate::traced::listed_file;
+use crate::command::Command;
+use crate::listed::listed_file;
+use mr_answer::{Format, drawn, report_run, summary};
 use mr_ast::Program;
 use mr_gen::program;
+use mr_input::{Refusal, Written, answered, form_answer, read_program, read_schedule};
 use mr_io::Files;
 use mr_sched::{Read, Version, print_version};
-use mr_wf::{Checked, FormFault, WfFault, well_formed};
-use std::alloc::{AllocError, Global};
-
-/// What is written, and the exit status.
-#[derive(Drop)]
-pub struct Written {
-    pub text: Vec<u8>,
-    pub status: u8,
-}
-
-/// What was written of a run, or want of memory.
-pub fn answered(written: Result<Written, AllocError>) -> Result<Written, Refusal>
-    requires { IfOk written (λ a. IsStatus a.status) }
-    ensures same { result ≡ answered written }
-    ensures answer { (a : Answer) → IfOk written (λ x. seen x ≡ a) → Tells a result }
-    ensures status { IfOk result (λ a. IsStatus a.status) }
-    ensures read { ¬ IsUnreadFault result }
-{
-    match written {
-        Ok(report) => Ok(report),
-        Err(_) => Err(Refusal::Memory),
-    }
-}
+use mr_wf::{Checked, WfFault, well_formed};
+use std::alloc::Global;
 
 /// The answer to a command.
 pub fn answer<F: Files>(
@@ -123,7 +102,7 @@ fn report_files<F: Files>(
 }
 
 // The report of the run of a program that breaks no rule under the schedule in a file, and else the line of the first rule that it breaks.
-#[tactic(auto, using(crate::proofs::AnswerLaws::broken_told))]
+#[tactic(auto, using(mr_input::proofs::AnswerLaws::broken_told))]
 fn report_program<F: Files>(
     alloc: Global,
     files: &mut F,
@@ -150,7 +129,7 @@ fn report_program<F: Files>(
 {
     match well_formed(alloc, p) {
         Ok(checked) => report_schedule(alloc, files, format, &checked, schedule),
-        Err(WfFault::Form { fault, program }) => broken_rule(alloc, &program, fault),
+        Err(WfFault::Form { fault, program }) => form_answer(alloc, &program, fault),
         Err(WfFault::Memory) => Err(Refusal::Memory),
     }
 }
@@ -241,7 +220,7 @@ fn draw_for(alloc: Global, p: Program, number: u64, most: u32) -> Result<Written
 {
     match well_formed(alloc, p) {
         Ok(checked) => answered(drawn(alloc, &checked, number, most)),
-        Err(WfFault::Form { fault, program }) => broken_rule(alloc, &program, fault),
+        Err(WfFault::Form { fault, program }) => form_answer(alloc, &program, fault),
         Err(WfFault::Memory) => Err(Refusal::Memory),
     }
 }
@@ -299,7 +278,7 @@ fn check(alloc: Global, p: Program) -> Result<Written, Refusal>
 {
     match well_formed(alloc, p) {
         Ok(checked) => canonical(alloc, checked.program()),
-        Err(WfFault::Form { fault, program }) => broken_rule(alloc, &program, fault),
+        Err(WfFault::Form { fault, program }) => form_answer(alloc, &program, fault),
         Err(WfFault::Memory) => Err(Refusal::Memory),
     }
 }
@@ -313,14 +292,4 @@ fn canonical(alloc: Global, p: &Program) -> Result<Written, Refusal>
     let mut text = Vec::new(alloc);
     mr_print::print(alloc, p, &mut text)?;
     Ok(Written { text, status: 0 })
-}
-
-// The line of a rule that a program breaks.
-fn broken_rule(alloc: Global, p: &Program, fault: FormFault) -> Result<Written, Refusal>
-    ensures answer { Tells (form_answer p.now fault) result }
-    ensures status { IfOk result (λ a. IsStatus a.status) }
-    ensures read { ¬ IsUnreadFault result }
-{
-    let text = form_line(alloc, p, fault)?;
-    Ok(Written { text, status: 4 })
 }

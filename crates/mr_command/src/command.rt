@@ -3,23 +3,8 @@ ghost use Rattle.std.specs.Prelude.{◌≡◌, ◌+◌, ◌^◌, [], ◌∷◌, 
 ghost use Rattle.std.specs.Option.{option_map};
 ghost use Rattle.mr_command.specs.Command.{asked, auto_of, command_of, format_of, number_below, run_of, shuffle_of};
 
+use mr_answer::Format;
 use mr_words::number_of;
-
-/// How a report is written.
-#[derive(Clone, Copy, Debug, PartialEq, Eq)]
-pub enum Format {
-    /// Line by line.
-    Text,
-    /// As one JSON object.
-    Json,
-    /// Line by line, with a shorter witness.
-    Short,
-    /// The footprints of the completed steps, as bytes.
-    Footprints,
-    /// Line by line; and where no race is listed, behind the schedule in an order that is drawn from a number, of the run
-    /// in that order.
-    Shuffled { number: u64 },
-}
 
 /// What is asked for, with the names of files.
 #[derive(Clone, Copy, Debug)]

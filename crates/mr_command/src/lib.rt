@@ -16,10 +16,12 @@
 //! that breaks a rule of well-formedness they write where the first one is broken: the global or function, the block, a place, a code and
 //! a name.
 //!
-//! The public call is [`mirace`], over files and a sink. Its promises are clauses of it: what is written and the status are those
-//! of `specs/Answer.antt`, and each fault has its cause. Of a well-formed program and a legal schedule the report is that of the
-//! machine of MiniRust, none of whose steps is ill-formed; and a text is answered by what it denotes or breaks
-//! (`specs/Headline.antt`).
+//! The public call is [`mirace`], over files and a sink; `mr_input` reads the files and writes to the sink, and
+//! `mr_answer` makes the report of a run. Its promises are clauses of it. The headline is that of `run P S`: of a
+//! program that breaks no rule and a legal schedule the report is that of the machine of MiniRust, none of whose steps
+//! is ill-formed (`specs/Headline.antt`). Beside it, what is written and the status are those of `specs/Answer.antt`,
+//! each fault has its cause, and a run in another format and a text are answered by what they come to
+//! (`specs/Named.antt`, `specs/Promises.antt`).
 #![tactic(auto)]
 
 ghost use Rattle.std.specs.Prelude.{◌≡◌, ℕ, ◌+◌, ◌≤◌, ◌⊎◌, List, ◌++◌, None, Some, map, string_bytes};
@@ -29,31 +31,25 @@ ghost use Rattle.mr_io.specs.Files.{Contents};
 ghost use Rattle.mr_sched.specs.declared.schedule.Schedule.{Schedule as Recorded};
 ghost use Rattle.mr_sched.specs.declared.version.Version.{Version};
 ghost use Rattle.mr_gen.specs.Generated.{generated};
-ghost use Rattle.mr_command.specs.Answer.{big_answer, big_schedule, usage};
-ghost use Rattle.mr_command.specs.declared.command.Format.{Format};
+ghost use Rattle.mr_answer.specs.Answers.{big_answer, big_schedule};
+ghost use Rattle.mr_command.specs.Answer.{usage};
 ghost use Rattle.mr_command.specs.Command.{asked, command_of, named_files, Big, IsBounded, NamesProgram};
-ghost use Rattle.mr_command.specs.Headline.{AsksForSchedule, IsOfMachine, IsSoundUnder, IsUnreadBecause, Names};
-ghost use Rattle.mr_command.specs.Outcome.{Ends, EndsOverTexts, IsLeft, IsWritten};
+ghost use Rattle.mr_command.specs.Headline.{IsOfMachine, Names};
+ghost use Rattle.mr_command.specs.Named.{AsksForSchedule, IsSoundUnder, IsUnreadBecause};
+ghost use Rattle.mr_input.specs.Writing.{IsLeft, IsWritten};
+ghost use Rattle.mr_command.specs.Outcome.{Ends, EndsOverTexts};
 ghost use Rattle.mr_command.specs.Promises.{PromisesOfRuns, PromisesOfTexts, PromisesOfTraces};
-ghost use Rattle.mr_command.specs.Report.{refusal_text};
+ghost use Rattle.mr_input.specs.Refusals.{refusal_text};
 ghost use Rattle.mr_command.specs.Showing.{Shown, ShowsBy};
-ghost use Rattle.mr_command.specs.declared.refusal.Refusal.TheVariants.{ReadProgram};
+ghost use Rattle.mr_input.specs.declared.refusal.Refusal.TheVariants.{ReadProgram};
 
 mod answer;
 mod command;
-mod drawn;
-mod form;
-mod input;
-mod refusal;
-mod reordered;
-mod report;
-mod run;
-mod traced;
-mod writing;
+mod listed;
 
 use crate::answer::answer;
 use crate::command::{Command, command_of};
-use crate::writing::{finish, refuse};
+use mr_input::{finish, refuse};
 use mr_io::{Files, Sink};
 use std::alloc::Global;
 
@@ -75,11 +71,10 @@ pub fn mirace<F: Files, O: Sink>(alloc: Global, words: &[String], files: &mut F,
         → EndsOverTexts (command_of (map string_bytes words.now)) (Rose (F.faults files.old) (F.faults files.new))
         (Rose (O.faults out.old) (O.faults out.new)) (O.taken out.old) (O.taken out.new) result }
 
-    // The headline.
-    ensures headline { (contents : Contents) (format : Format) (p : Program) (v : Version) (w : Recorded)
-        → F.told files.old ≡ Some contents
-        → Names contents (command_of (map string_bytes words.now)) format p v w
-        → IsOfMachine format p v w (Rose (F.faults files.old) (F.faults files.new))
+    // THE HEADLINE, of `run P S`.
+    ensures headline { (contents : Contents) (p : Program) (v : Version) (w : Recorded)
+        → F.told files.old ≡ Some contents → Names contents (map string_bytes words.now) p v w
+        → IsOfMachine p v w (Rose (F.faults files.old) (F.faults files.new))
         (Rose (O.faults out.old) (O.faults out.new)) (O.taken out.old) (O.taken out.new) result }
 
     // What is promised beside it of runs, of texts and of traces (`specs/Promises.antt` of `mr_command`).

@@ -248,3 +248,209 @@ fn types_are_described(rt: HostRuntime) -> Result<(), Fail> {
     }
     Ok(())
 }
+
+// Adds chunks without a byte behind those of a union of 2,048 bytes, so that it has many.
+fn push_chunks(text: &mut String) -> Result<(), OutOfMemory> {
+    for at in 1984..2048 {
+        write!(text, ", {at} 0")?;
+    }
+    Ok(())
+}
+
+// The text of a union of 2,048 bytes with these fields and chunks, and many chunks without a byte behind them.
+fn chunked(alloc: Global, fields: &str, chunks: &str) -> Result<String, OutOfMemory> {
+    let mut text = format!(in alloc; "union size 2048 align 1 {{ {fields} }} chunks {{ {chunks}")?;
+    push_chunks(&mut text)?;
+    text.push_str(" }")?;
+    Ok(text)
+}
+
+// The fields and the chunks of a union, and the number of the rule that it breaks.
+static CHUNKED: [(&str, &str, Option<u8>); 34] = [
+    // A used byte of the first, a middle and the last element in no chunk; the padding may be.
+    (
+        "0: array(4, tuple size 3 align 1 { 1: u8 })",
+        "1 1, 4 1, 7 1, 10 1",
+        None,
+    ),
+    (
+        "0: array(4, tuple size 3 align 1 { 1: u8 })",
+        "0 1, 2 1, 4 1, 7 1, 10 1",
+        Some(28),
+    ),
+    (
+        "0: array(4, tuple size 3 align 1 { 1: u8 })",
+        "1 1, 4 1, 6 1, 8 1, 10 1",
+        Some(28),
+    ),
+    (
+        "0: array(4, tuple size 3 align 1 { 1: u8 })",
+        "1 1, 4 1, 7 1, 9 1, 11 1",
+        Some(28),
+    ),
+    (
+        "5: array(4, tuple size 3 align 1 { 1: u8 })",
+        "6 1, 9 1, 12 1, 15 1",
+        None,
+    ),
+    (
+        "5: array(4, tuple size 3 align 1 { 1: u8 })",
+        "5 1, 9 1, 12 1, 15 1",
+        Some(28),
+    ),
+    // The byte behind a row.
+    (
+        "0: array(3, tuple size 3 align 1 { 1: u8 })",
+        "1 1, 4 1, 7 1",
+        None,
+    ),
+    (
+        "0: array(4, tuple size 3 align 1 { 1: u8 })",
+        "1 1, 4 1, 7 1",
+        Some(28),
+    ),
+    // Rows in rows.
+    (
+        "0: array(2, tuple size 8 align 1 { 0: array(2, tuple size 3 align 1 { 0: u8 }), 7: bool })",
+        "0 1, 3 1, 7 2, 11 1, 15 1",
+        None,
+    ),
+    (
+        "0: array(2, tuple size 8 align 1 { 0: array(2, tuple size 3 align 1 { 0: u8 }), 7: bool })",
+        "0 1, 3 1, 7 2, 15 1",
+        Some(28),
+    ),
+    (
+        "0: array(2, tuple size 8 align 1 { 0: array(2, tuple size 3 align 1 { 0: u8 }), 7: bool })",
+        "0 1, 3 1, 8 1, 11 1, 15 1",
+        Some(28),
+    ),
+    (
+        "2: array(2, array(3, tuple size 2 align 1 { 1: u8 }))",
+        "3 1, 5 1, 7 1, 9 1, 11 1, 13 1",
+        None,
+    ),
+    (
+        "2: array(2, array(3, tuple size 2 align 1 { 1: u8 }))",
+        "3 1, 5 1, 7 1, 9 1, 11 1",
+        Some(28),
+    ),
+    // A union's used bytes are its chunks, alone and in a row.
+    (
+        "4: union size 6 align 1 { 0: u8 } chunks { 0 2, 5 1 }",
+        "4 2, 9 1",
+        None,
+    ),
+    (
+        "4: union size 6 align 1 { 0: u8 } chunks { 0 2, 5 1 }",
+        "4 1, 9 1",
+        Some(28),
+    ),
+    (
+        "0: array(3, union size 4 align 1 { } chunks { 1 1, 3 1 })",
+        "1 1, 3 1, 5 1, 7 1, 9 1, 11 1",
+        None,
+    ),
+    (
+        "0: array(3, union size 4 align 1 { } chunks { 1 1, 3 1 })",
+        "1 1, 3 1, 5 1, 7 1, 11 1",
+        Some(28),
+    ),
+    // An enum's used bytes, and its tags.
+    (
+        "0: array(2, enum size 4 align 1 disc u8 { 0: tuple size 4 align 1 { 0: u8 } tag { 2: u8 = 1 } } known 0)",
+        "0 1, 2 1, 4 1, 6 1",
+        None,
+    ),
+    (
+        "0: array(2, enum size 4 align 1 disc u8 { 0: tuple size 4 align 1 { 0: u8 } tag { 2: u8 = 1 } } known 0)",
+        "0 1, 2 1, 4 1",
+        Some(28),
+    ),
+    (
+        "0: array(2, enum size 4 align 1 disc u8 { 0: tuple size 4 align 1 { 0: u8 } tag { 2: u8 = 1 } } known 0)",
+        "0 1, 2 1, 6 1",
+        Some(28),
+    ),
+    // One element, none, and elements without a byte.
+    ("0: array(1, tuple size 3 align 1 { 1: u8 })", "1 1", None),
+    (
+        "0: array(1, tuple size 3 align 1 { 1: u8 })",
+        "0 1, 2 1",
+        Some(28),
+    ),
+    ("0: array(0, u64), 3: array(9, unit)", "0 0", None),
+    // A field that meets no gap, beside one that does.
+    (
+        "0: array(4, tuple size 3 align 1 { 1: u8 }), 20: u16",
+        "0 12, 20 2",
+        None,
+    ),
+    (
+        "0: array(4, tuple size 3 align 1 { 1: u8 }), 20: u16",
+        "0 12, 20 1",
+        Some(28),
+    ),
+    (
+        "20: u16, 0: array(4, tuple size 3 align 1 { 1: u8 })",
+        "0 10, 11 1, 20 2",
+        Some(28),
+    ),
+    // A row of long elements.
+    (
+        "0: array(3, tuple size 300 align 1 { 299: u8 })",
+        "299 1, 599 1, 899 1",
+        None,
+    ),
+    (
+        "0: array(3, tuple size 300 align 1 { 299: u8 })",
+        "0 599, 600 300",
+        Some(28),
+    ),
+    (
+        "0: array(3, tuple size 300 align 1 { 299: u8 })",
+        "0 899",
+        Some(28),
+    ),
+    // A long row of short elements.
+    (
+        "0: array(600, tuple size 2 align 1 { 0: u8 })",
+        "0 601, 602 597",
+        None,
+    ),
+    (
+        "0: array(600, tuple size 2 align 1 { 0: u8 })",
+        "0 600, 601 598",
+        Some(28),
+    ),
+    (
+        "0: array(600, tuple size 2 align 1 { 0: u8 })",
+        "0 1198",
+        Some(28),
+    ),
+    (
+        "0: array(600, tuple size 2 align 1 { 0: u8 }), 8: array(600, tuple size 2 align 1 { 0: u8 })",
+        "0 1207",
+        None,
+    ),
+    (
+        "0: array(600, tuple size 2 align 1 { 0: u8 }), 8: array(600, tuple size 2 align 1 { 0: u8 })",
+        "0 1206",
+        Some(28),
+    ),
+];
+
+#[test]
+fn many_chunks_hold_the_used_bytes(rt: HostRuntime) -> Result<(), Fail> {
+    for row in CHUNKED.iter() {
+        let (fields, chunks, rule) = *row;
+        let ty = chunked(rt.alloc(), fields, chunks)?;
+        let wanted = format!(in rt.alloc(); "Some(2048) 1 true {rule:?} ")?;
+        let told = told(rt.alloc(), ty.as_str())?;
+        assert!(rt;
+            told.as_str().starts_with(wanted.as_str()),
+            "{fields}: {told}"
+        );
+    }
+    Ok(())
+}

@@ -29,8 +29,7 @@ use Rattle.mr_eval.specs.Moves.{behind, moved}
 use Rattle.mr_eval.specs.Typed.{loading, meant, searched}
 use Rattle.mr_eval.specs.Operators.{binary_of, cast_value, index_of_value, or_ill_formed, pointer_of_value, unary_of}
 
--- Where an expression is evaluated: the locals of its function and the storage that each has, and the pointers to the
--- functions and the globals of the program.
+-- Where an expression is evaluated: its function's locals and their storage; where functions and globals begin.
 pub record Surround : Type 0 where
   pub locals : List Local
   pub storage : List (Option Pointer)

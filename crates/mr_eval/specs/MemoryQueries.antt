@@ -13,8 +13,7 @@ use Rattle.mr_eval.specs.Reads.{Read, ReadQuery, ReadReply, ReadScript, Seen, ac
 use Rattle.mr_eval.specs.Stores.{storing}
 use Rattle.mr_eval.specs.Tally.{Tally, seen_of, with_seen}
 
--- What evaluation asks; a store; the read of an integer and, where the change gives one, the store of another in its
--- place; a new allocation at a picked address; the end of one.
+-- What evaluation asks; a store; an integer's read and, where the change gives one, a store; an allocation; its end.
 pub data MemoryQuery : Type 0 where
   Reading : (q : ReadQuery) → MemoryQuery
   Write : (atomic : Bool) (p : Pointer) (bytes : List AbstractByte) (align : ℕ) → MemoryQuery
@@ -25,10 +24,9 @@ pub data MemoryQuery : Type 0 where
 -- a modification gives the number before it; an allocation the pointer to it
 abbrev pub MemoryReply : MemoryQuery → Type 0
 MemoryReply (Reading q) = ReadReply q
-MemoryReply (Write atomic p bytes align) = Unit {0}
 MemoryReply (Modify p size change) = ℕ
 MemoryReply (Allocate kind size align addr) = Pointer
-MemoryReply (Free p kind size align) = Unit {0}
+MemoryReply _ = Unit {0}
 
 -- a script of a step that asks memory alone
 abbrev pub MemoryScript : Type 0 → Type 0
@@ -67,8 +65,7 @@ abbrev pub changing : Memory → Pointer → ℕ → (ℕ → Option ℕ) → Op
 changing m p size change None s = Refused InvalidValue
 changing m p size change (Some n) s = replacing m p size n (change n) s
 
--- the read and the change of an integer of so many bytes: one range check, an atomic load, and an atomic store where
--- there is a new number
+-- the read and change of an integer: one range check, an atomic load, and an atomic store where there is a new number
 abbrev pub modifying : Memory → Pointer → ℕ → (ℕ → Option ℕ) → Seen → Outcome ℕ (Memory × Seen)
 modifying m p size change s =
     on (reading m (Read true p size size) s) (λ bytes s'. changing m p size change (number_of bytes) s')

@@ -158,8 +158,7 @@ moved_pointer p n = do
   q ← moved p n
   Done (val.Ptr q)
 
--- what an operator of a kind gives, by the types of its operands; a pointer that is moved around the end of the address
--- space is as many bytes behind as the bits of the number say, for 2^64 bytes more or less are none
+-- what an operator gives, by its operands' types; a pointer moves by the bytes that the number's bits say, modulo 2^64
 abbrev pub operated : Operator → Option IntType → Option IntType → Val-F Val → Val-F Val → ReadScript Val
 operated (Arith op) left right a b = do
   int ← or_ill_formed (integer_like a left)

@@ -19,9 +19,8 @@ pub data ReadQuery : Type 0 where
 
 -- what is answered to each query: the bytes of a read, and nothing of a check
 abbrev pub ReadReply : ReadQuery → Type 0
-ReadReply (Check p len) = Unit {0}
-ReadReply (Refer p len) = Unit {0}
 ReadReply (Read atomic p len align) = List AbstractByte
+ReadReply _ = Unit {0}
 
 -- a script of what reads memory and changes nothing
 abbrev pub ReadScript : Type 0 → Type 0

@@ -4,8 +4,7 @@ use Rattle.mr_base.specs.declared.access.Access.{Access}
 use Rattle.mr_base.specs.declared.byte.AllocId.{AllocId}
 use Rattle.mr_eval.specs.Reads.{Seen}
 
--- The thread of the step, and how many allocations it has made; the accesses in order; the allocations touched, made
--- and freed, and the ranges of those made.
+-- The thread, and how many allocations it has made; what the step accessed, touched, made and freed; ranges made.
 pub record Tally : Type 0 where
   pub thread : ℕ
   pub count : ℕ

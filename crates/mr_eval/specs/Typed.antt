@@ -36,9 +36,8 @@ Finder = Val → Targets
 
 -- the references in the fields of a tuple, by the finder of each
 abbrev pub field_targets : List (ℕ × (Ty × Finder)) → List Val → Targets
-field_targets [] vs = []
-field_targets (f ∷ fields) [] = []
 field_targets (f ∷ fields) (v ∷ vs) = f.1.1 v ++ field_targets fields vs
+field_targets _ _ = []
 
 -- the references in the elements of an array
 abbrev pub element_targets : Finder → List Val → Targets

@@ -48,26 +48,20 @@ abbrev pub joins_of : Footprint → Event → Bool
 joins_of f (Join joined) = spawns f.event joined || f.ended && (f.thread == joined)
 joins_of _ _ = false
 
--- whether g joins a thread that f spawns or ends
-abbrev pub joined_by : Footprint → Footprint → Bool
-joined_by f g = joins_of f g.event
-
--- Whether g depends on f, an earlier step of another thread: both act on one lock; both create locks; both spawn; one
--- spawns or ends a thread that the other joins; f made an allocation that g touches or frees; f touched one that g
--- frees; or some of their accesses overlap, at least one of the two being a store.
+-- Whether g depends on f, an earlier step of another thread: they act on one lock, create locks, or spawn; one joins
+-- what the other spawns or ends; g touches or frees what f made, or frees what f touched; or some accesses conflict.
 unfoldable pub depends : Footprint → Footprint → Bool
 depends f g =
     same_lock f.event g.event
     || both_create f.event g.event
     || both_spawn f.event g.event
-    || joined_by f g
-    || joined_by g f
+    || joins_of f g.event
+    || joins_of g f.event
     || share_id f.allocated g.touched
     || share_id f.allocated g.freed
     || share_id f.touched g.freed
     || some_conflict f.accesses g.accesses
 
--- whether f woke or created the thread; a step that spawns a thread creates it, whatever stands in its list of woken
--- threads
+-- whether f woke or created the thread; a step that spawns a thread creates it, whatever its list of woken threads
 unfoldable pub wakes : Footprint → ℕ → Bool
 wakes f thread = list_any (λ t. t == thread) f.woken || spawns f.event thread

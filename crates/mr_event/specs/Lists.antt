@@ -5,6 +5,7 @@ use Rattle.mr_base.specs.declared.byte.AllocId.{AllocId}
 use Rattle.mr_event.specs.declared.lists.Lists.{Lists}
 use Rattle.mr_event.specs.declared.lists.Lists.TheVariants.{Few, Many}
 use Rattle.mr_event.specs.declared.lists.Step.{Step}
+use Rattle.mr_event.specs.declared.lists.Whole.{Whole}
 use Rattle.mr_event.specs.Footprint.{Footprint}
 
 -- one item, or none
@@ -39,6 +40,14 @@ pub record AreListsOf (step : Step) (lists : Lists) : Type 0 where
   pub freed : freed_of lists ≡ step.freed.now
   pub touched : touched_of lists ≡ step.touched.now
   pub woken : woken_of lists ≡ step.woken.now
+
+-- the same of lists with room of their own
+pub record IsWholeOf (step : Step) (whole : Whole) : Type 0 where
+  pub accesses : whole.accesses.items ≡ step.accesses.now
+  pub allocated : whole.allocated.items ≡ step.allocated.now
+  pub freed : whole.freed.items ≡ step.freed.now
+  pub touched : whole.touched.items ≡ step.touched.now
+  pub woken : whole.woken.items ≡ step.woken.now
 
 -- the footprint of a step
 abbrev pub footprint_of : Step → Footprint

@@ -37,15 +37,13 @@ pub record Sync (run : List Footprint) (i j : ℕ) : Type 0 where
   pub woken : IsTrue (wakes (step_at run i) (thread_at run j))
   pub first : (k : ℕ) → i < k → k < j → thread_at run k ≢ thread_at run j
 
--- racing steps: their threads differ, some access of step i and some access of step j race, and they are not
--- synchronised
+-- racing steps: of different threads, with an access of step i and one of step j that race, and not synchronised
 pub record Races (run : List Footprint) (i j : ℕ) : Type 0 where
   pub apart : thread_at run i ≢ thread_at run j
   pub race : IsTrue (some_race (step_at run i).accesses (step_at run j).accesses)
   pub unsynced : ¬ Sync run i j
 
--- There is an edge from step i to a later step j: they are of one thread, or synchronised, or j depends on i and they
--- do not race. So neither a lock nor an atomic access orders two steps that race directly.
+-- An edge from step i to a later step j: of one thread, or synchronised, or j depends on i and they do not race.
 pub data Edge (run : List Footprint) (i j : ℕ) : Type 0 where
   in_thread : i < j → thread_at run i ≡ thread_at run j → Edge run i j
   woken : Sync run i j → Edge run i j

@@ -3,7 +3,7 @@
 ghost use Rattle.std.specs.Prelude.{◌≡◌, ◌==◌};
 ghost use Rattle.std.specs.List.{list_any};
 ghost use Rattle.mr_base.specs.Identities.{same_id as is_same_id};
-ghost use Rattle.mr_event.specs.Footprints.{share_id as have_shared_id, lock_of as lock_in, same_lock as have_same_lock, both_create as are_both_creating, both_spawn as are_both_spawning, joined_by as is_joined_by, depends as is_dependent, spawns as is_spawning, wakes as is_waking};
+ghost use Rattle.mr_event.specs.Footprints.{share_id as have_shared_id, lock_of as lock_in, same_lock as have_same_lock, both_create as are_both_creating, both_spawn as are_both_spawning, joins_of as is_joining, depends as is_dependent, spawns as is_spawning, wakes as is_waking};
 
 use crate::footprint::Footprint;
 use mr_base::{AllocId, Event};
@@ -71,7 +71,7 @@ fn spawns(event: Event, thread: u32) -> bool
 
 // Whether `g` joins the thread that `f` spawns or ends.
 fn joined_by(f: &Footprint, g: &Footprint) -> bool
-    ensures { result ≡ is_joined_by f.now g.now }
+    ensures { result ≡ is_joining f.now g.now.event }
 {
     match g.event() {
         Event::Join(joined) => spawns(f.event(), joined) || (f.ended() && f.thread() == joined),

@@ -81,7 +81,18 @@ impl Footprint {
         })
     }
 
-    /// Puts a copy of another footprint in its place. After an `Err` it is what it was.
+    /// Takes the footprint of a step, and keeps the room that it has.
+    pub fn refill(&mut self, step: &Step<'_>) -> Result<(), OutOfMemory>
+        ensures { OnOk result (self.new ≡ footprint_of step.now) }
+    {
+        self.lists.refill(self.alloc, step)?;
+        self.thread = step.thread;
+        self.event = step.event;
+        self.ended = step.ended;
+        Ok(())
+    }
+
+    /// Puts a copy of another footprint in its place.
     pub fn copy_from(&mut self, other: &Footprint) -> Result<(), OutOfMemory>
         ensures { OnOk result (self.new ≡ other.now) }
     {

@@ -3,8 +3,8 @@
 //!
 //! - [`Footprint`]: what a completed step read, changed and woke, which contracts see as the record of
 //!   `specs/Footprint.antt`. A run is the list of its steps' footprints. [`Footprint::nothing`] is one of a step that did
-//!   nothing, [`Footprint::of`] that of a [`Step`], and [`Footprint::step`] gives the step back. [`Footprint::copy_from`] puts a
-//!   copy of another in its place. The other calls read a field each.
+//!   nothing, [`Footprint::of`] that of a [`Step`], and [`Footprint::step`] gives the step back. [`Footprint::refill`] and
+//!   [`Footprint::copy_from`] put that of a step, or a copy of another, in its place. The other calls read a field each.
 //! - [`Event`]: what a step did to a lock or to another thread.
 //! - [`Pair`]: a race, by the places of its two steps in the run.
 //!

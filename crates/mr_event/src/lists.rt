@@ -1,7 +1,7 @@
 //! The lists of a step, and how a footprint keeps them.
-ghost use Rattle.std.specs.Prelude.{◌≡◌, [], IfOk, IfSome, IsTrue};
+ghost use Rattle.std.specs.Prelude.{◌≡◌, [], IfOk, IfSome, IsTrue, OnOk};
 ghost use Rattle.std.specs.Mem.{FitsInMemory};
-ghost use Rattle.mr_event.specs.Lists.{AreListsOf, accesses_of, allocated_of, freed_of, items_of, touched_of, woken_of};
+ghost use Rattle.mr_event.specs.Lists.{AreListsOf, IsWholeOf, accesses_of, allocated_of, freed_of, items_of, touched_of, woken_of};
 
 use crate::OutOfMemory;
 use mr_base::{Access, AllocId, Event};
@@ -50,6 +50,17 @@ impl Lists {
         }
     }
 
+    /// Takes the lists of a step, and keeps the room that it has.
+    pub fn refill(&mut self, alloc: Global, step: &Step<'_>) -> Result<(), OutOfMemory>
+        ensures { OnOk result (AreListsOf step.now self.new) }
+    {
+        if let Lists::Many(whole) = self {
+            return whole.refill(step);
+        }
+        *self = Lists::of(alloc, step)?;
+        Ok(())
+    }
+
     pub fn accesses(&self) -> &[Access]
         ensures { result.now ≡ accesses_of self.now }
     {
@@ -94,6 +105,30 @@ impl Lists {
             Lists::Many(whole) => whole.woken.as_slice(),
         }
     }
+}
+
+impl Whole {
+    // The lists of a step, in the room of those before.
+    fn refill(&mut self, step: &Step<'_>) -> Result<(), OutOfMemory>
+        ensures { OnOk result (IsWholeOf step.now self.new) }
+    {
+        refill(&mut self.accesses, step.accesses)?;
+        refill(&mut self.allocated, step.allocated)?;
+        refill(&mut self.freed, step.freed)?;
+        refill(&mut self.touched, step.touched)?;
+        refill(&mut self.woken, step.woken)
+    }
+}
+
+// A list takes these items, and keeps the room that it has. Most lists of a step are empty.
+fn refill<T: Copy + Drop>(list: &mut Vec<T>, items: &[T]) -> Result<(), OutOfMemory>
+    ensures { OnOk result (list.new.items ≡ items.now) }
+{
+    list.clear();
+    if is_none(items) {
+        return Ok(());
+    }
+    list.extend_from_slice(items)
 }
 
 // The item, where there is one.

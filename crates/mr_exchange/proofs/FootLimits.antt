@@ -16,7 +16,8 @@ use Rattle.mr_frame.specs.Frames.{Look}
 use Rattle.mr_thread.specs.SoundState.{IsSoundConfig, SoundState}
 use Rattle.mr_thread.specs.Steps.{Own, thread_step}
 use Rattle.mr_thread.proofs.RunSound.{entry_sound, legal_at}
-use Rattle.mr_start.specs.Start.{Legal, look_of, start_config, steps_of}
+use Rattle.mr_start.specs.Runs.{Legal, steps_of}
+use Rattle.mr_start.specs.Start.{look_of, start_config}
 use Rattle.mr_start.proofs.StartLimits.{start_within}
 use Rattle.mr_start.proofs.StartSound.{start_look, start_sound}
 use Rattle.mr_swap.specs.Limits.{LimitLaw}

@@ -10,7 +10,7 @@ use Rattle.mr_event.specs.Kept.{kept}
 use Rattle.mr_event.specs.Order.{step_at}
 use Rattle.mr_sched.specs.declared.schedule.Entry.{Entry}
 use Rattle.mr_sched.specs.declared.schedule.Schedule.{Schedule}
-use Rattle.mr_start.specs.Start.{Legal, run_of, steps_of}
+use Rattle.mr_start.specs.Runs.{Legal, run_of, steps_of}
 
 -- what stands past the end of a schedule
 abbrev pub no_entry : Entry
@@ -24,8 +24,7 @@ entry_at entries k = slice_index_or entries k no_entry
 abbrev pub schedule_at : Schedule → List ℕ → Schedule
 schedule_at w ks = record { start = w.start; entries = map (entry_at w.entries) ks }
 
--- THE WITNESS for the pair (i, j): the entries of the steps before j, but i, that i does not happen before, in recorded
--- order; then those of i and of j.
+-- THE WITNESS for (i, j): the entries, in order, of the steps before j, but i, that i does not happen before; i and j.
 unfoldable pub kept_schedule : List Footprint → Schedule → ℕ → ℕ → Schedule
 kept_schedule run w i j = schedule_at w (kept run i j)
 

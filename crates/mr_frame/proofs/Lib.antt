@@ -13,7 +13,6 @@ pub mod ChangeRuns
 pub mod ChangesSafe
 pub mod DoLaws
 pub mod DoSafe
-pub mod EffectLaws
 pub mod EndLaws
 pub mod EndSafe
 pub mod EnterLaws

@@ -14,21 +14,13 @@ pub by_kind : (P : Stmt → Type 0) → ((x : LocalName) → P (stmt.Live x)) �
     → (x : Stmt) → P x
 by_kind P live dead change (stmt.Live x) = live x
 by_kind P live dead change (stmt.Dead x) = dead x
-by_kind P live dead change (stmt.Assign place value) = change (stmt.Assign place value) tt
-by_kind P live dead change (stmt.Mention place) = change (stmt.Mention place) tt
-by_kind P live dead change (stmt.Disc place number) = change (stmt.Disc place number) tt
-by_kind P live dead change (stmt.Deinit place) = change (stmt.Deinit place) tt
-by_kind P live dead change (stmt.Validate place) = change (stmt.Validate place) tt
+by_kind P live dead change x = change x tt
 
 -- the step of a change: it changes memory, and the next statement follows
 abbrev pub changing : Look → Stack → Site → Stmt → FramePlan
 changing look s site x = plain (change (scene_in look site.function site.frame) x >>= λ _. Done (next s site site.frame))
 
 pub changes : (look : Look) (s : Stack) (site : Site) (x : Stmt) → IsChange x → statement look s site x ≡ changing look s site x
-changes look s site (stmt.Assign place value) kind = refl
-changes look s site (stmt.Mention place) kind = refl
-changes look s site (stmt.Disc place number) kind = refl
-changes look s site (stmt.Deinit place) kind = refl
-changes look s site (stmt.Validate place) kind = refl
 changes look s site (stmt.Live x) kind = absurd kind
 changes look s site (stmt.Dead x) kind = absurd kind
+changes look s site _ kind = refl

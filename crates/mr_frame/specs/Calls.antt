@@ -255,8 +255,7 @@ abbrev pub is_main : ℕ → List Frame → Bool
 is_main thread [] = thread == 0
 is_main thread (f ∷ below) = false
 
--- `return`: 120 in the bottom frame of thread 0; else the return local is loaded, the storage of the locals goes, and
--- the caller has the result
+-- `return`: 120 in thread 0's bottom frame; else the result is loaded, the storage goes, and the caller has the result
 abbrev pub return_from : Look → ℕ → Stack → Site → MemoryScript Onward
 return_from look thread s site =
     if is_main thread site.below then Undefined MainReturned

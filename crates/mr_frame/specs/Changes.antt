@@ -114,5 +114,4 @@ change s (stmt.Mention place) = mention s place
 change s (stmt.Disc place number) = set_discriminant s place number
 change s (stmt.Deinit place) = deinit s place
 change s (stmt.Validate place) = validate s place
-change s (stmt.Live x) = IllFormed
-change s (stmt.Dead x) = IllFormed
+change s _ = IllFormed

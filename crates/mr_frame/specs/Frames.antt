@@ -5,8 +5,7 @@ use Rattle.mr_ast.specs.declared.program.Program.{Program}
 use Rattle.mr_base.specs.declared.byte.Pointer.{Pointer}
 use Rattle.mr_eval.specs.Evaluation.{Surround}
 
--- A call of a function at work: its function; the storage that each local has; the block and the position in it at
--- which it goes on; and, while it stands at a call, the place for the result.
+-- A call at work: its function, its locals' storage, the block and position where it goes on, and a result's place.
 pub record Frame : Type 0 where
   pub function : ℕ
   pub locals : List (Option Pointer)

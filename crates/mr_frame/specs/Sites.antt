@@ -30,8 +30,7 @@ pub record Site : Type 0 where
   pub frame : Frame
   pub below : List Frame
 
--- What is due: a statement; an intrinsic, with its arguments, the place for its result and the block behind it; or
--- another terminator.
+-- What is due: a statement; an intrinsic, with arguments, place for its result and block behind; or another terminator.
 pub data Due : Type 0 where
   AtStatement : (stmt : Stmt) → Due
   AtDo : (op : Intrinsic) (args : List Value) (place : Option Place) (next : BlockName) → Due

@@ -20,7 +20,7 @@ use Rattle.mr_frame.specs.Calls.{call, goes_to, resume, return_from, stop, unwin
 use Rattle.mr_frame.specs.Changes.{change, free_storage}
 use Rattle.mr_frame.specs.Frames.{Frame, Look, Stack, Onward, GoesOn, Exits, Aborts, behind_stmt, scene_in}
 use Rattle.mr_frame.specs.Frames.{with_storage, with_top}
-use Rattle.mr_frame.specs.Sites.{Due, AtStatement, AtDo, AtTerminator, Site, due_of, site_of}
+use Rattle.mr_frame.specs.Sites.{Due, AtStatement, AtTerminator, Site, due_of, site_of}
 use Rattle.mr_frame.specs.Switches.{switched}
 
 -- what a step finds out by reading, before it needs a pick
@@ -92,10 +92,9 @@ terminator look thread s site (term.Do op args place next) = IllFormed
 
 -- the step of what is due: a statement, or a terminator that is no intrinsic
 abbrev pub plan_due : Look → ℕ → Stack → Site → Option Due → FramePlan
-plan_due look thread s site None = IllFormed
 plan_due look thread s site (Some (AtStatement stmt)) = statement look s site stmt
 plan_due look thread s site (Some (AtTerminator term)) = terminator look thread s site term
-plan_due look thread s site (Some (AtDo op args place next)) = IllFormed
+plan_due look thread s site _ = IllFormed
 
 -- the step of a thread that stands at a site; it has none elsewhere
 abbrev pub plan_at : Look → ℕ → Stack → Option Site → FramePlan

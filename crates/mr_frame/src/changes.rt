@@ -47,7 +47,7 @@ pub fn change(
 }
 
 // The place, the value, and the store.
-#[tactic(auto, using(crate::proofs::EffectLaws::effect_laws, crate::proofs::InsideLaws::stmt_laws))]
+#[tactic(auto, unfolding(crate::specs::Effects::assigned), using(crate::proofs::InsideLaws::stmt_laws))]
 fn assign<'a>(
     alloc: Global,
     e: &Env<'a>,
@@ -65,7 +65,7 @@ fn assign<'a>(
 }
 
 // The place.
-#[tactic(auto, using(crate::proofs::EffectLaws::effect_laws, crate::proofs::InsideLaws::stmt_laws))]
+#[tactic(auto, unfolding(crate::specs::Effects::mentioned), using(crate::proofs::InsideLaws::stmt_laws))]
 fn mention(
     alloc: Global,
     e: &Env<'_>,
@@ -81,7 +81,7 @@ fn mention(
 }
 
 // The place, the load, and the store of the same value.
-#[tactic(auto, using(crate::proofs::EffectLaws::effect_laws, crate::proofs::InsideLaws::stmt_laws))]
+#[tactic(auto, unfolding(crate::specs::Effects::validated), using(crate::proofs::InsideLaws::stmt_laws))]
 fn validate<'a>(
     alloc: Global,
     e: &Env<'a>,
@@ -99,7 +99,7 @@ fn validate<'a>(
 }
 
 // The place, and its bytes become uninitialised.
-#[tactic(auto, using(crate::proofs::EffectLaws::effect_laws, crate::proofs::InsideLaws::stmt_laws))]
+#[tactic(auto, unfolding(crate::specs::Effects::deinited), using(crate::proofs::InsideLaws::stmt_laws))]
 fn deinit<'a>(
     alloc: Global,
     e: &Env<'a>,
@@ -116,7 +116,7 @@ fn deinit<'a>(
 }
 
 // The place, and the tags of the variant with the number.
-#[tactic(auto, using(crate::proofs::EffectLaws::effect_laws, crate::proofs::InsideLaws::stmt_laws))]
+#[tactic(auto, unfolding(crate::specs::Effects::discriminated), using(crate::proofs::InsideLaws::stmt_laws))]
 fn set_discriminant<'a>(
     alloc: Global,
     e: &Env<'a>,

@@ -25,8 +25,7 @@ if_quotient_defined t x y answer =
     if int_eq y (pos 0) then Err ZeroDivisor
     else (if int_eq x (least_of t) && int_eq y (negsuc 0) then Err DivOverflow else Ok answer)
 
--- what an operator gives of the bits of two numbers of a type. Division rounds toward zero, and a remainder has the
--- dividend's sign
+-- what an operator gives of two numbers' bits; division rounds toward zero, and a remainder has the dividend's sign
 abbrev pub arith_of : ArithOp → IntType → ℕ → ℕ → Result ℕ Reason
 arith_of Add t a b = Ok (bits_for t (value_of t a +ℤ value_of t b))
 arith_of Sub t a b = Ok (bits_for t (value_of t a -ℤ value_of t b))

@@ -6,8 +6,7 @@ use Rattle.std.specs.Int.{int_rem_euclid}
 use Rattle.mr_ast.specs.declared.types.IntType.{IntType}
 use Rattle.mr_ast.specs.Integers.{bits_of, is_signed}
 
--- the number that a signed or unsigned type of this width means by the bits: in a signed type the highest bit counts as
--- its negative
+-- the number that a type of this width means by the bits: in a signed type the highest bit counts as its negative
 abbrev pub number_at : Bool → ℕ → ℕ → ℤ
 number_at false width a = pos a
 number_at true width a = if nat_lt a (2 ^ (width - 1)) then pos a else pos a -ℤ pos (2 ^ width)

@@ -10,8 +10,7 @@ use Rattle.mr_intops.specs.declared.shifts.ShiftOp.{ShiftOp}
 use Rattle.mr_intops.specs.declared.shifts.ShiftOp.TheVariants.{Shl, Shr, ShlUnchecked, ShrUnchecked}
 use Rattle.mr_intops.specs.Numbers.{value_of, bits_for}
 
--- by how many bits a number of type t is shifted: the number that the bits b of the other type mean, modulo the width
--- of t, from 0
+-- by how many bits a number of type t is shifted: what the bits b of the other type mean, modulo the width of t, from 0
 abbrev pub amount_of : IntType → IntType → ℕ → ℕ
 amount_of t by b = unsigned_abs (int_rem_euclid (value_of by b) (pos (bits_of t)))
 

@@ -25,7 +25,6 @@ use Rattle.mr_wf.proofs.KindLaws.{integer_is, raw_is}
 use Rattle.mr_wf.proofs.SameTypeLaws.{same_type_equal}
 use Rattle.mr_eval.specs.Shapes.{HaveShapes}
 use Rattle.mr_intr.specs.Atomics.{IsFetch}
-use Rattle.mr_intr.specs.Atomics.{IsFetch}
 use Rattle.mr_intr.specs.Effects.{Fits}
 use Rattle.mr_intr.proofs.OperationSafe.{no_result, result_is}
 use Rattle.mr_eval.proofs.ScalarLaws.{truth_value}
@@ -330,31 +329,21 @@ pub record TakesFetch (args : List Val) (place : Option Ty) : Type 0 where
   pub gives : place ≡ Some (ty.Int int)
 
 -- the types of a fetch
-abbrev fetch_types : List Ty → Option Ty → Bool
+abbrev pub fetch_types : List Ty → Option Ty → Bool
 fetch_types (a ∷ b ∷ []) place = is_raw a && (is_atomic b && gives b place)
 fetch_types _ place = false
 
-fetch_fits : (op : Intrinsic) (types : List Ty) (place : Option Ty) → IsFetch op → fits_intrinsic op types place ≡ true → fetch_types types place ≡ true
-fetch_fits intrinsic.FetchAdd [] place is e = e
-fetch_fits intrinsic.FetchAdd (a ∷ []) place is e = e
+pub fetch_fits : (op : Intrinsic) (types : List Ty) (place : Option Ty) → IsFetch op → fits_intrinsic op types place ≡ true → fetch_types types place ≡ true
 fetch_fits intrinsic.FetchAdd (a ∷ b ∷ []) place is e = e
-fetch_fits intrinsic.FetchAdd (a ∷ b ∷ d ∷ types) place is e = e
-fetch_fits intrinsic.FetchSub [] place is e = e
-fetch_fits intrinsic.FetchSub (a ∷ []) place is e = e
+fetch_fits intrinsic.FetchAdd _ place is e = e
 fetch_fits intrinsic.FetchSub (a ∷ b ∷ []) place is e = e
-fetch_fits intrinsic.FetchSub (a ∷ b ∷ d ∷ types) place is e = e
-fetch_fits intrinsic.FetchAnd [] place is e = e
-fetch_fits intrinsic.FetchAnd (a ∷ []) place is e = e
+fetch_fits intrinsic.FetchSub _ place is e = e
 fetch_fits intrinsic.FetchAnd (a ∷ b ∷ []) place is e = e
-fetch_fits intrinsic.FetchAnd (a ∷ b ∷ d ∷ types) place is e = e
-fetch_fits intrinsic.FetchOr [] place is e = e
-fetch_fits intrinsic.FetchOr (a ∷ []) place is e = e
+fetch_fits intrinsic.FetchAnd _ place is e = e
 fetch_fits intrinsic.FetchOr (a ∷ b ∷ []) place is e = e
-fetch_fits intrinsic.FetchOr (a ∷ b ∷ d ∷ types) place is e = e
-fetch_fits intrinsic.FetchXor [] place is e = e
-fetch_fits intrinsic.FetchXor (a ∷ []) place is e = e
+fetch_fits intrinsic.FetchOr _ place is e = e
 fetch_fits intrinsic.FetchXor (a ∷ b ∷ []) place is e = e
-fetch_fits intrinsic.FetchXor (a ∷ b ∷ d ∷ types) place is e = e
+fetch_fits intrinsic.FetchXor _ place is e = e
 fetch_fits _ types place is e = absurd is
 
 pub fetch_takes : (op : Intrinsic) (args : List Val) (types : List Ty) (place : Option Ty) → IsFetch op → Fits op args types place → TakesFetch args place

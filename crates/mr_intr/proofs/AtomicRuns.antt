@@ -219,12 +219,8 @@ place_value place int n e is q lt =
     subst (λ (o : Option Ty). FitsPlace o e.value) (sym is) (val.Int n, ap (λ (f : Effect). f.value) q, has_int int n ∙ lt_test n (2 ^ (8 * int_size int)) lt)
 
 pub fetch_prints : (op : Intrinsic) (out : List ℕ) → IsFetch op → Prints op [] out out
-fetch_prints intrinsic.FetchAdd out is = (refl, refl)
-fetch_prints intrinsic.FetchSub out is = (refl, refl)
-fetch_prints intrinsic.FetchAnd out is = (refl, refl)
-fetch_prints intrinsic.FetchOr out is = (refl, refl)
-fetch_prints intrinsic.FetchXor out is = (refl, refl)
-fetch_prints _ out is = absurd is
+fetch_prints intrinsic.Print out is = absurd is
+fetch_prints _ out is = (refl, refl)
 
 -- a fault that is handed on
 pub does_handed : (op : Intrinsic) (r : Result Effect Fault) (f : Fault) (o : Outcome (Option Val) (Shared × Notes)) (s : Scene) (x : Tables) (out : List ℕ) → IsErrAnd r (λ e. e ≡ f) → Does op (Err f) o s x out out → Does op r o s x out out

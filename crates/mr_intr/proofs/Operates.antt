@@ -1,5 +1,5 @@
 -- Each intrinsic but the start of a thread and the look at a payload, on what fits it, has a rule.
-use Rattle.std.proofs.Common.{◌≡◌, ℕ, subst, sym, List, [], ◌∷◌, Option, None, Some, true}
+use Rattle.std.proofs.Common.{◌≡◌, ℕ, refl, subst, sym, List, [], ◌∷◌, Option, None, Some, true}
 use Rattle.std.specs.Prelude.{◌&&◌, nat_le, slice_get}
 use Rattle.std.specs.List.{list_all}
 use Rattle.std.proofs.lemmas.Bool.{and_parts}
@@ -24,7 +24,8 @@ use Rattle.mr_plan.specs.Storage.{AreHeld, Slot}
 use Rattle.mr_plan.proofs.MemoryParts.{Leaves}
 use Rattle.mr_plan.proofs.Outcomes.{After}
 use Rattle.mr_intr.specs.Effects.{IsOperation}
-use Rattle.mr_intr.specs.Operations.{Operation, operation}
+use Rattle.mr_intr.specs.Operations.{Operation, fetch, operation}
+use Rattle.mr_intr.proofs.Arguments.{fetch_fits, fetch_types}
 use Rattle.mr_intr.proofs.Leaving.{OpPlan}
 use Rattle.mr_intr.proofs.LockSafe.{acquire_safe, create_safe, join_safe, release_safe}
 use Rattle.mr_intr.proofs.OperationSafe.{allocate_safe, assume_safe, atomic_load_safe, atomic_store_safe, deallocate_safe, exchange_safe, fetch_safe, no_result, print_safe, result_is}
@@ -131,70 +132,21 @@ module _ (s : Shared) (t c : ℕ) (sound : IsSoundTables (tables_of s)) (enabled
   compare_exchange_operates (a ∷ b ∷ d ∷ []) (x ∷ y ∷ z ∷ more ∷ args) result shapes fits = absurd (shapes.1.1.1)
   compare_exchange_operates (a ∷ b ∷ d ∷ more ∷ types) args result shapes fits = absurd (cc)
 
-  fetch_add_operates : (types : List Ty) (args : List Val) (result : Option Ty) → HaveShapes types args → fits_intrinsic intrinsic.FetchAdd types result ≡ true → Planned result (operation intrinsic.FetchAdd args types result)
-  fetch_add_operates [] args result shapes fits = absurd (cc)
-  fetch_add_operates (a ∷ []) args result shapes fits = absurd (cc)
-  fetch_add_operates (a ∷ b ∷ []) [] result shapes fits = absurd shapes
-  fetch_add_operates (a ∷ b ∷ []) (x ∷ []) result shapes fits = absurd shapes.1
-  fetch_add_operates (a ∷ b ∷ []) (x ∷ y ∷ []) result shapes fits =
+  -- a fetch, by what it does with two arguments
+  fetch_operates : (op : Intrinsic) → ((x y : Val) (ts : List Ty) (u : Ty) → operation op (x ∷ y ∷ []) ts (Some u) ≡ fetch op x u y)
+      → (types : List Ty) (args : List Val) (result : Option Ty) → HaveShapes types args → fetch_types types result ≡ true → Planned result (operation op args types result)
+  fetch_operates op is [] args result shapes fits = absurd (cc)
+  fetch_operates op is (a ∷ []) args result shapes fits = absurd (cc)
+  fetch_operates op is (a ∷ b ∷ []) [] result shapes fits = absurd shapes
+  fetch_operates op is (a ∷ b ∷ []) (x ∷ []) result shapes fits = absurd shapes.1
+  fetch_operates op is (a ∷ b ∷ []) (x ∷ y ∷ []) result shapes fits =
       let p = and_parts (is_raw a) (is_atomic b && gives b result) fits in
       let q = and_parts (is_atomic b) (gives b result) p.1 in
-      subst (λ (o : Option Ty). Planned o (operation intrinsic.FetchAdd (x ∷ y ∷ []) (a ∷ b ∷ []) o)) (sym (result_is b result q.1))
-      (fetch_safe s t c sound enabled rooms v leaves held intrinsic.FetchAdd a b x y p.0 (and_parts (is_integer b) (nat_le (size_of b) 8) q.0).0 shapes.0 shapes.1.0)
-  fetch_add_operates (a ∷ b ∷ []) (x ∷ y ∷ more ∷ args) result shapes fits = absurd (shapes.1.1)
-  fetch_add_operates (a ∷ b ∷ more ∷ types) args result shapes fits = absurd (cc)
-
-  fetch_sub_operates : (types : List Ty) (args : List Val) (result : Option Ty) → HaveShapes types args → fits_intrinsic intrinsic.FetchSub types result ≡ true → Planned result (operation intrinsic.FetchSub args types result)
-  fetch_sub_operates [] args result shapes fits = absurd (cc)
-  fetch_sub_operates (a ∷ []) args result shapes fits = absurd (cc)
-  fetch_sub_operates (a ∷ b ∷ []) [] result shapes fits = absurd shapes
-  fetch_sub_operates (a ∷ b ∷ []) (x ∷ []) result shapes fits = absurd shapes.1
-  fetch_sub_operates (a ∷ b ∷ []) (x ∷ y ∷ []) result shapes fits =
-      let p = and_parts (is_raw a) (is_atomic b && gives b result) fits in
-      let q = and_parts (is_atomic b) (gives b result) p.1 in
-      subst (λ (o : Option Ty). Planned o (operation intrinsic.FetchSub (x ∷ y ∷ []) (a ∷ b ∷ []) o)) (sym (result_is b result q.1))
-      (fetch_safe s t c sound enabled rooms v leaves held intrinsic.FetchSub a b x y p.0 (and_parts (is_integer b) (nat_le (size_of b) 8) q.0).0 shapes.0 shapes.1.0)
-  fetch_sub_operates (a ∷ b ∷ []) (x ∷ y ∷ more ∷ args) result shapes fits = absurd (shapes.1.1)
-  fetch_sub_operates (a ∷ b ∷ more ∷ types) args result shapes fits = absurd (cc)
-
-  fetch_and_operates : (types : List Ty) (args : List Val) (result : Option Ty) → HaveShapes types args → fits_intrinsic intrinsic.FetchAnd types result ≡ true → Planned result (operation intrinsic.FetchAnd args types result)
-  fetch_and_operates [] args result shapes fits = absurd (cc)
-  fetch_and_operates (a ∷ []) args result shapes fits = absurd (cc)
-  fetch_and_operates (a ∷ b ∷ []) [] result shapes fits = absurd shapes
-  fetch_and_operates (a ∷ b ∷ []) (x ∷ []) result shapes fits = absurd shapes.1
-  fetch_and_operates (a ∷ b ∷ []) (x ∷ y ∷ []) result shapes fits =
-      let p = and_parts (is_raw a) (is_atomic b && gives b result) fits in
-      let q = and_parts (is_atomic b) (gives b result) p.1 in
-      subst (λ (o : Option Ty). Planned o (operation intrinsic.FetchAnd (x ∷ y ∷ []) (a ∷ b ∷ []) o)) (sym (result_is b result q.1))
-      (fetch_safe s t c sound enabled rooms v leaves held intrinsic.FetchAnd a b x y p.0 (and_parts (is_integer b) (nat_le (size_of b) 8) q.0).0 shapes.0 shapes.1.0)
-  fetch_and_operates (a ∷ b ∷ []) (x ∷ y ∷ more ∷ args) result shapes fits = absurd (shapes.1.1)
-  fetch_and_operates (a ∷ b ∷ more ∷ types) args result shapes fits = absurd (cc)
-
-  fetch_or_operates : (types : List Ty) (args : List Val) (result : Option Ty) → HaveShapes types args → fits_intrinsic intrinsic.FetchOr types result ≡ true → Planned result (operation intrinsic.FetchOr args types result)
-  fetch_or_operates [] args result shapes fits = absurd (cc)
-  fetch_or_operates (a ∷ []) args result shapes fits = absurd (cc)
-  fetch_or_operates (a ∷ b ∷ []) [] result shapes fits = absurd shapes
-  fetch_or_operates (a ∷ b ∷ []) (x ∷ []) result shapes fits = absurd shapes.1
-  fetch_or_operates (a ∷ b ∷ []) (x ∷ y ∷ []) result shapes fits =
-      let p = and_parts (is_raw a) (is_atomic b && gives b result) fits in
-      let q = and_parts (is_atomic b) (gives b result) p.1 in
-      subst (λ (o : Option Ty). Planned o (operation intrinsic.FetchOr (x ∷ y ∷ []) (a ∷ b ∷ []) o)) (sym (result_is b result q.1))
-      (fetch_safe s t c sound enabled rooms v leaves held intrinsic.FetchOr a b x y p.0 (and_parts (is_integer b) (nat_le (size_of b) 8) q.0).0 shapes.0 shapes.1.0)
-  fetch_or_operates (a ∷ b ∷ []) (x ∷ y ∷ more ∷ args) result shapes fits = absurd (shapes.1.1)
-  fetch_or_operates (a ∷ b ∷ more ∷ types) args result shapes fits = absurd (cc)
-
-  fetch_xor_operates : (types : List Ty) (args : List Val) (result : Option Ty) → HaveShapes types args → fits_intrinsic intrinsic.FetchXor types result ≡ true → Planned result (operation intrinsic.FetchXor args types result)
-  fetch_xor_operates [] args result shapes fits = absurd (cc)
-  fetch_xor_operates (a ∷ []) args result shapes fits = absurd (cc)
-  fetch_xor_operates (a ∷ b ∷ []) [] result shapes fits = absurd shapes
-  fetch_xor_operates (a ∷ b ∷ []) (x ∷ []) result shapes fits = absurd shapes.1
-  fetch_xor_operates (a ∷ b ∷ []) (x ∷ y ∷ []) result shapes fits =
-      let p = and_parts (is_raw a) (is_atomic b && gives b result) fits in
-      let q = and_parts (is_atomic b) (gives b result) p.1 in
-      subst (λ (o : Option Ty). Planned o (operation intrinsic.FetchXor (x ∷ y ∷ []) (a ∷ b ∷ []) o)) (sym (result_is b result q.1))
-      (fetch_safe s t c sound enabled rooms v leaves held intrinsic.FetchXor a b x y p.0 (and_parts (is_integer b) (nat_le (size_of b) 8) q.0).0 shapes.0 shapes.1.0)
-  fetch_xor_operates (a ∷ b ∷ []) (x ∷ y ∷ more ∷ args) result shapes fits = absurd (shapes.1.1)
-  fetch_xor_operates (a ∷ b ∷ more ∷ types) args result shapes fits = absurd (cc)
+      let int = (and_parts (is_integer b) (nat_le (size_of b) 8) q.0).0 in
+      subst (λ (o : Option Ty). Planned o (operation op (x ∷ y ∷ []) (a ∷ b ∷ []) o)) (sym (result_is b result q.1))
+      (subst (Planned (Some b)) (sym (is x y (a ∷ b ∷ []) b)) (fetch_safe s t c sound enabled rooms v leaves held op a b x y p.0 int shapes.0 shapes.1.0))
+  fetch_operates op is (a ∷ b ∷ []) (x ∷ y ∷ more ∷ args) result shapes fits = absurd (shapes.1.1)
+  fetch_operates op is (a ∷ b ∷ more ∷ types) args result shapes fits = absurd (cc)
 
   print_operates : (types : List Ty) (args : List Val) (result : Option Ty) → HaveShapes types args → fits_intrinsic intrinsic.Print types result ≡ true → Planned result (operation intrinsic.Print args types result)
   print_operates types args result shapes fits =
@@ -225,9 +177,9 @@ module _ (s : Shared) (t c : ℕ) (sound : IsSoundTables (tables_of s)) (enabled
   operation_safe intrinsic.AtomicStore is types args result shapes fits = atomic_store_operates types args result shapes fits
   operation_safe intrinsic.AtomicLoad is types args result shapes fits = atomic_load_operates types args result shapes fits
   operation_safe intrinsic.CompareExchange is types args result shapes fits = compare_exchange_operates types args result shapes fits
-  operation_safe intrinsic.FetchAdd is types args result shapes fits = fetch_add_operates types args result shapes fits
-  operation_safe intrinsic.FetchSub is types args result shapes fits = fetch_sub_operates types args result shapes fits
-  operation_safe intrinsic.FetchAnd is types args result shapes fits = fetch_and_operates types args result shapes fits
-  operation_safe intrinsic.FetchOr is types args result shapes fits = fetch_or_operates types args result shapes fits
-  operation_safe intrinsic.FetchXor is types args result shapes fits = fetch_xor_operates types args result shapes fits
+  operation_safe intrinsic.FetchAdd is types args result shapes fits = fetch_operates intrinsic.FetchAdd (λ x y ts u. refl) types args result shapes (fetch_fits intrinsic.FetchAdd types result tt fits)
+  operation_safe intrinsic.FetchSub is types args result shapes fits = fetch_operates intrinsic.FetchSub (λ x y ts u. refl) types args result shapes (fetch_fits intrinsic.FetchSub types result tt fits)
+  operation_safe intrinsic.FetchAnd is types args result shapes fits = fetch_operates intrinsic.FetchAnd (λ x y ts u. refl) types args result shapes (fetch_fits intrinsic.FetchAnd types result tt fits)
+  operation_safe intrinsic.FetchOr is types args result shapes fits = fetch_operates intrinsic.FetchOr (λ x y ts u. refl) types args result shapes (fetch_fits intrinsic.FetchOr types result tt fits)
+  operation_safe intrinsic.FetchXor is types args result shapes fits = fetch_operates intrinsic.FetchXor (λ x y ts u. refl) types args result shapes (fetch_fits intrinsic.FetchXor types result tt fits)
   operation_safe intrinsic.Payload is types args result shapes fits = absurd is

@@ -6,7 +6,9 @@ pub mod Bounds
 pub mod BrokenLaws
 pub mod CacheLaws
 pub mod Examples
+pub mod FoldLaws
 pub mod GapLaws
+pub mod MarkLaws
 pub mod MetLaws
 pub mod OkTests
 pub mod PartFacts

@@ -41,6 +41,9 @@
 //!   at the pairs of numbers that `mr_base` compares in the time of a sort. Where memory is wanting, parts are compared one by one.
 //! - `proofs/MetLaws.antt`, `RunLaws`, `RowLaws`: what ranges in order meet of a type is found by a search among them for each part of the
 //!   type, and of an array by the bytes of one element. `GapLaws` and `TagLaws` say so of a union's chunks and of a variant's tags.
+//! - `proofs/MarkLaws.antt`, `FoldLaws`: the same by a table with a mark for each byte in no chunk of a union, in which an array's
+//!   row of elements is folded to one. Where a union has many chunks it is looked at so, for a search looks at each of them for
+//!   each array.
 //! - `proofs/TreeOk.antt`: a tree's leaf names a variant.
 //! - `proofs/WrittenParts.antt`: the parts of a well-formed type are well-formed.
 #![tactic(auto)]
@@ -50,6 +53,8 @@ mod bytes;
 mod cache;
 mod enum_rules;
 mod gaps;
+mod marked;
+mod marks;
 mod met;
 mod ok;
 mod rules;

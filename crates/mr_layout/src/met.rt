@@ -40,8 +40,8 @@ fn ranges_past(ranges: &[Pair], at: u128) -> &[Pair]
     &ranges[first..]
 }
 
-// Whether a byte of a run lies in one of the ranges and before the end.
-fn is_run_met(ranges: &[Pair], start: u128, len: u64, end: u128) -> bool
+/// Whether a byte of a run lies in one of the ranges and before the end.
+pub(crate) fn is_run_met(ranges: &[Pair], start: u128, len: u64, end: u128) -> bool
     requires order { is_in_order ranges.now ≡ true }
     requires small { start < 2 ^ 66 }
     ensures { result ≡ is_run_met start len end ranges.now }

@@ -6,7 +6,7 @@ use Rattle.mr_lex.specs.declared.rule.TextRule.TheVariants.{BadByte, BadNumber, 
 use Rattle.mr_lex.specs.Limits.{max_text}
 use Rattle.mr_lex.specs.Bytes.{begins, begins_piece}
 use Rattle.mr_lex.specs.Numbers.{IsFineNumber}
-use Rattle.mr_lex.specs.Pieces.{Piece, Blank, Comment, Word, Number, Symbol, spelling_of, IsPiece, IsFine, Splits}
+use Rattle.mr_lex.specs.Pieces.{Piece, Word, Number, Symbol, spelling_of, IsPiece, IsFine, Splits}
 use Rattle.mr_lex.specs.Places.{line_of, column_of}
 use Rattle.mr_lex.specs.declared.token.TextFault.{TextFault}
 use Rattle.mr_lex.specs.declared.token.Token.{Token}
@@ -32,11 +32,10 @@ lexeme_at text at kind bytes =
 
 -- the lexeme of a piece at a place, where it is a word, a number or a symbol
 abbrev pub lexemes_at : List ℕ → ℕ → Piece → List Lexeme
-lexemes_at text at (Blank b) = []
-lexemes_at text at (Comment bytes) = []
 lexemes_at text at (Word bytes) = lexeme_at text at kinds.Word bytes ∷ []
 lexemes_at text at (Number bytes) = lexeme_at text at kinds.Number bytes ∷ []
 lexemes_at text at (Symbol bytes) = lexeme_at text at kinds.Symbol bytes ∷ []
+lexemes_at text at _ = []
 
 -- the lexemes of pieces that follow one another from a place on
 abbrev pub lexemes_from : List ℕ → ℕ → List Piece → List Lexeme

@@ -44,9 +44,7 @@ Memory = FinMap id_cmp Allocation
 -- how many bytes an allocation of a size holds: a function takes an address and holds none
 abbrev pub held : Kind → ℕ → ℕ
 held Function size = 0
-held Heap size = size
-held Stack size = size
-held Static size = size
+held _ size = size
 
 -- a new allocation, all of whose bytes are uninitialised
 abbrev pub fresh : Kind → ℕ → ℕ → ℕ → Allocation
@@ -246,9 +244,7 @@ extent_of (Some a) = Some (a.addr, length a.bytes)
 -- whether an allocation is of the heap
 abbrev pub is_heap : Kind → Bool
 is_heap Heap = true
-is_heap Stack = false
-is_heap Static = false
-is_heap Function = false
+is_heap _ = false
 
 -- a live allocation of the heap
 abbrev pub is_leak : AllocId × Allocation → Bool

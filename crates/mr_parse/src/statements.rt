@@ -126,7 +126,8 @@ fn discriminant(
     scope: &Scope,
     room: u32,
 ) -> Result<Stmt, ReadFault>
-    ensures { Gives (λ s. (s, reader.new)) result (read room scope.now (numbered_form (λ p n. Stmt.Disc p n)) reader.old) }
+    ensures { Gives (λ s. (s, reader.new)) result
+        (read room scope.now (numbered_form (λ p n. Stmt.Disc p n)) reader.old) }
 {
     match reader.place(alloc, scope, room, false) {
         Ok(place) => match beside(place, assigned_number(reader, scope, room)) {

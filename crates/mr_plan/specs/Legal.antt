@@ -37,8 +37,7 @@ address_fault None = None
 address_fault (Some BadAddress) = fault rule.BadAddress
 address_fault (Some (Reused id)) = Some (record { code = code_of rule.Reused; earlier = Some id })
 
--- Pick by pick; and a pick too many behind the last ask. A picked address is tried
--- among the ranges of all allocations so far and of the earlier picks, with the identities that these get.
+-- Pick by pick, and a pick too many at the end; an address is tried among all ranges so far and of the earlier picks.
 abbrev pub picks_fault : List Status → Ranges → ℕ → ℕ → List Ask → List ℕ → Option Fault
 picks_fault ss rs t count [] [] = None
 picks_fault ss rs t count [] (pick ∷ picks) = fault rule.ExtraPick

@@ -22,14 +22,12 @@ pub data Creation : Type 0 where
   CreatesLock : Creation
 
 -- What a step finds out before it needs a pick: what it creates, which picks it asks for, and what it does with them.
--- So what it asks for doesn't depend on the picks.
 pub record Plan (A : Type 0) : Type 0 where
   pub creates : Creation
   pub asks : List Ask
   pub go : List ℕ → A
 
--- A LANGUAGE OF STEPS: the next step of a thread with a state of its own, as a script that makes a plan, and behind it
--- one that carries it out; and its edition
+-- A LANGUAGE OF STEPS: a thread's next step, as a script that makes a plan and one that carries it out; its edition
 pub record Language (L : Type 0) : Type 0 where
   pub next : L → StepScript (Plan (StepScript (Flow L)))
   pub edition : ℕ
@@ -44,8 +42,7 @@ pub record State (L : Type 0) : Type 0 where
   pub shared : Shared
   pub threads : List (Thread L)
 
--- what a bare step comes to: it completes, with what it noted and the state after it; or it stops the machine with a
--- verdict; or it has no rule
+-- what a bare step comes to: it completes, with notes and a state; or it stops with a verdict; or it has no rule
 pub data Bare (L : Type 0) : Type 0 where
   Completed : Notes → State L → Bare L
   Stops : Verdict → Bare L
@@ -60,10 +57,6 @@ abbrev pub started_threads : {L : Type 0} → Option L → List (Thread L)
 started_threads None = []
 started_threads (Some new) = thread_of new 0 ∷ []
 
--- an exit while a heap allocation is live is a leak
-abbrev pub exit_verdict : Shared → Verdict
-exit_verdict s = if leaks s.memory then verdict.Leak else verdict.Exit
-
 -- the state behind a step that went on, and the verdict behind one that ended the run
 abbrev pub settle : {L : Type 0} → State L → ℕ → Flow L → Shared × Notes → Bare L
 settle s t (Goes own started) w =
@@ -72,7 +65,7 @@ settle s t (Goes own started) w =
       shared = w.0;
       threads = slice_set s.threads t (thread_of own w.1.tally.count) ++ started_threads started;
     })
-settle s t Exits w = Stops (exit_verdict w.0)
+settle s t Exits w = Stops (if leaks w.0.memory then verdict.Leak else verdict.Exit)
 settle s t Aborts w = Stops verdict.Abort
 
 -- the same of an outcome, which may be that the program is undefined or that there is no rule
@@ -105,8 +98,7 @@ no_needs = record { creates = CreatesNothing; asks = [] }
 -- what a plan needs; what has no plan needs nothing
 abbrev pub needs_of : {A : Type 0} → Outcome (Plan A) (Shared × Notes) → Needs
 needs_of (Went plan w) = record { creates = plan.creates; asks = plan.asks }
-needs_of (Refused r) = no_needs
-needs_of Broken = no_needs
+needs_of _ = no_needs
 
 -- what the next step of a thread needs
 abbrev pub needed : {L : Type 0} → Language L → State L → ℕ → Option (Thread L) → Needs

@@ -10,8 +10,7 @@ use Rattle.mr_eval.specs.Tally.{Tally, start_tally}
 use Rattle.mr_event.specs.Footprint.{Footprint}
 use Rattle.mr_mem.specs.Memory.{Memory, extent_of}
 
--- What it did to memory; whether its thread can't go on; what it did to locks and threads; whether its thread ended;
--- the threads that it woke; its prints.
+-- What it did to memory, locks and threads; whether its thread can't go on, or ended; the threads it woke; its prints.
 pub record Notes : Type 0 where
   pub tally : Tally
   pub stopped : Bool
@@ -48,8 +47,7 @@ whole_store (Some e) =
 abbrev pub whole_stores : Memory → List AllocId → List Access
 whole_stores m ids = flat_map (λ id. whole_store (extent_of (fin.get m id))) ids
 
--- THE ACCESSES OF A STEP, in the memory behind it: those of its evaluation; and in edition 2, behind them, a store of
--- all bytes of each allocation that it freed
+-- THE ACCESSES OF A STEP, in the memory behind it; in edition 2 also a store of all bytes of each allocation it freed
 unfoldable pub accesses_in : ℕ → Memory → Tally → List Access
 accesses_in edition m n = if edition == 2 then n.accesses ++ whole_stores m n.freed else n.accesses
 

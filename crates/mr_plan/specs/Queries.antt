@@ -26,8 +26,7 @@ tables_of s = record { statuses = s.statuses; holders = s.holders }
 abbrev pub with_tables : Shared → Tables → Shared
 with_tables s x = record s { statuses = x.statuses; holders = x.holders }
 
--- a query to memory; a new lock; to take a lock; whether a thread waits for it; to give it back, to a waiting thread if
--- there is one; a new thread; to wait for the end of a thread; the end of the own thread; a print
+-- a query to memory; of a lock: a new one, to take it, whether a thread waits, to give it back; of threads; a print
 pub data Query : Type 0 where
   OfMemory : (q : MemoryQuery) → Query
   NewLock : Query
@@ -45,11 +44,9 @@ Reply (OfMemory q) = MemoryReply q
 Reply NewLock = ℕ
 Reply (TryLock lock) = Bool
 Reply (Waiting lock) = Bool
-Reply (Unlock lock to) = Unit {0}
 Reply Start = ℕ
 Reply (Await thread) = Bool
-Reply Finish = Unit {0}
-Reply (Print text) = Unit {0}
+Reply _ = Unit {0}
 
 -- a step, or a part of one
 abbrev pub StepScript : Type 0 → Type 0
@@ -104,14 +101,6 @@ giving l to (Ok x) s n =
 abbrev pub ending : Tables × List ℕ → Shared → Notes → Outcome (Unit {0}) (Shared × Notes)
 ending e s n = Went tt (with_tables s e.0, record n { ended = true; stopped = true; woken = n.woken ++ e.1 })
 
--- a new lock, of which the number is told
-abbrev pub creating : ℕ × Tables → Shared → Notes → Outcome ℕ (Shared × Notes)
-creating c s n = Went c.0 (with_tables s c.1, note (CreateLock c.0) n)
-
--- a new thread, which the step that starts it wakes
-abbrev pub starting : ℕ × Tables → Shared → Notes → Outcome ℕ (Shared × Notes)
-starting c s n = Went c.0 (with_tables s c.1, woke (Some c.0) (note (Spawn c.0) n))
-
 -- what a query to memory comes to in all that is shared
 abbrev pub in_shared : {A : Type 0} → Shared × Notes → A → Memory × Tally → Outcome A (Shared × Notes)
 in_shared w x v = Went x (record w.0 { memory = v.0 }, record w.1 { tally = v.1 })
@@ -119,13 +108,14 @@ in_shared w x v = Went x (record w.0 { memory = v.0 }, record w.1 { tally = v.1 
 -- WHAT EACH QUERY GIVES AND LEAVES. A thread that can't go on takes no lock, waits for no thread and doesn't end.
 abbrev pub answer : (q : Query) → Shared × Notes → Outcome (Reply q) (Shared × Notes)
 answer (OfMemory q) w = on (memory_answer q (w.0.memory, w.1.tally)) (in_shared w)
-answer NewLock w = creating (created (tables_of w.0)) w.0 w.1
+answer NewLock w = let c = created (tables_of w.0) in Went c.0 (with_tables w.0 c.1, note (CreateLock c.0) w.1)
 answer (TryLock l) w =
     if w.1.stopped then Broken else going (Acquire l) (acquired w.1.tally.thread l (tables_of w.0)) w.0 w.1
 answer (Waiting l) w =
     telling (Release l) (holding w.1.tally.thread (slice_get w.0.holders l) (any_waits l (tables_of w.0))) w.0 w.1
 answer (Unlock l to) w = giving l to (released w.1.tally.thread l to (tables_of w.0)) w.0 w.1
-answer Start w = starting (spawned (tables_of w.0)) w.0 w.1
+answer Start w =
+    let c = spawned (tables_of w.0) in Went c.0 (with_tables w.0 c.1, woke (Some c.0) (note (Spawn c.0) w.1))
 answer (Await u) w =
     if w.1.stopped then Broken else going (Join u) (joined w.1.tally.thread u (tables_of w.0)) w.0 w.1
 answer Finish w =

@@ -20,8 +20,7 @@ pub record Printed : Type 0 where
   pub thread : ℕ
   pub text : List ℕ
 
--- Where a machine stands: its state, which is gone once a step itself stopped; the prints in order; the footprint of
--- the last completed step; how many completed; the verdict so far.
+-- Where a machine stands: its state, gone once a step itself stopped; prints; last footprint; completed steps; verdict.
 pub record Config (L : Type 0) : Type 0 where
   pub state : Option (State L)
   pub output : List Printed
@@ -33,8 +32,7 @@ pub record Config (L : Type 0) : Type 0 where
 abbrev pub printed_by : ℕ → List ℕ → Printed
 printed_by t text = record { thread = t; text = text }
 
--- The race check: an access of the step races with one of the step immediately before, which is of another thread and
--- did not wake this one.
+-- The race check: an access races with one of the step right before, which is of another thread and did not wake it.
 abbrev pub races_with : Footprint → Option Footprint → Bool
 races_with f None = false
 races_with f (Some last) =
@@ -74,11 +72,7 @@ machine_step step c e = stepped_from step c e.thread e.picks c.state
 -- the run goes on
 abbrev pub is_running : Verdict → Bool
 is_running verdict.Running = true
-is_running verdict.Exit = false
-is_running verdict.Leak = false
-is_running verdict.Abort = false
-is_running verdict.Deadlock = false
-is_running (verdict.Undefined r) = false
+is_running _ = false
 
 -- the first rule that an entry breaks at a state; without a state the run has stopped, and no entry is legal
 abbrev pub fault_in : {L : Type 0} → Language L → ℕ → List ℕ → Option (State L) → Option Fault
@@ -101,9 +95,8 @@ AreLegal step c (e ∷ es) = (entry_fault step c e ≡ None) × AreLegal step (m
 
 -- the step has no rule
 abbrev pub is_ill_formed : {L : Type 0} → Bare L → Bool
-is_ill_formed (Completed n s) = false
-is_ill_formed (Stops v) = false
 is_ill_formed IllFormedStep = true
+is_ill_formed _ = false
 
 -- the step of an entry has a rule
 abbrev pub has_rule : {L : Type 0} → Language L → ℕ → List ℕ → Option (State L) → Bool
@@ -121,8 +114,7 @@ NeverIllFormed step c (e ∷ es) =
 -- the footprint of the step of an entry, where it completes
 abbrev pub foot_of_bare : {L : Type 0} → Language L → Bare L → List Footprint
 foot_of_bare step (Completed n s) = foot_in step n s ∷ []
-foot_of_bare step (Stops v) = []
-foot_of_bare step IllFormedStep = []
+foot_of_bare step _ = []
 
 -- the footprint of the step of an entry, where it completes
 abbrev pub foot_from : {L : Type 0} → Language L → ℕ → List ℕ → Option (State L) → List Footprint

@@ -9,11 +9,8 @@ use Rattle.mr_ast.specs.declared.program.Program.{Program}
 use Rattle.mr_ast.specs.CanonTypes.{with_commas}
 use Rattle.mr_ast.specs.CanonValues.{text_at}
 use Rattle.mr_ast.specs.Canon.{local_texts, texts_in, kind_word, words_of_term, words_of_item, global_line, argument_words, head_line, local_words, locals_line, stmt_line, block_lines, function_lines, header_line, main_line, lines_of}
-use Rattle.mr_ast.proofs.CanonProgramLaws.{words_byte, words_uninit, words_reloc}
 use Rattle.mr_print.specs.Appends.{with_word, with_words, with_last, with_line, with_lines}
-use Rattle.mr_print.proofs.AppendLaws.{with_words-none, word_laws, line_laws, lines_laws}
-
-pub ruleset item_laws = (word_laws, words_byte, words_uninit, words_reloc)
+use Rattle.mr_print.proofs.AppendLaws.{with_words-none, line_laws, lines_laws}
 
 pub written_global : (old : List ℕ) (p : Program) (g : Global_) → with_line old (global_line p g)
     ≡ with_last (with_words (with_word (with_word (with_word (with_word (with_word old (codes "global")) (text_at p.names g.name)) (codes "align")) (decimal g.align)) (codes "{")) (flat_map (words_of_item p) g.items)) (codes "}")

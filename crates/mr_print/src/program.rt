@@ -90,7 +90,7 @@ fn print_items(program: &Program, items: &[Item_], text: &mut Vec<u8>) -> Result
     Ok(())
 }
 
-#[tactic(auto, using(crate::proofs::ProgramLaws::item_laws))]
+#[tactic(auto, unfolding(mr_ast::specs::Canon::words_of_item), using(crate::proofs::AppendLaws::word_laws))]
 fn print_item(program: &Program, item: Item_, text: &mut Vec<u8>) -> Result<(), OutOfMemory>
     ensures { OnOk result (text.new.items ≡ with_words text.old.items (words_of_item program.now item)) }
 {

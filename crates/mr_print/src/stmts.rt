@@ -11,7 +11,7 @@ use crate::words::{signed, word};
 use mr_ast::{BlockName, Function, Intrinsic, LocalName, Num, Place, Program, Stmt, Term, Value};
 
 // Writes the words of a statement, without its semicolon.
-#[tactic(auto, using(crate::proofs::StmtLaws::stmt_laws))]
+#[tactic(auto, unfolding(mr_ast::specs::Canon::words_of_stmt))]
 pub(crate) fn print_stmt(
     program: &Program,
     function: &Function,
@@ -64,7 +64,7 @@ fn print_behind(
     print_place(program, function, place, text)
 }
 
-#[tactic(auto, using(crate::proofs::StmtLaws::assign_laws))]
+#[tactic(auto, unfolding(mr_ast::specs::Canon::words_of_stmt), using(crate::proofs::AppendLaws::word_laws))]
 fn print_assign(
     program: &Program,
     function: &Function,
@@ -80,7 +80,7 @@ fn print_assign(
     print_value(program, function, value, text)
 }
 
-#[tactic(auto, using(crate::proofs::StmtLaws::disc_laws))]
+#[tactic(auto, unfolding(mr_ast::specs::Canon::words_of_stmt), using(crate::proofs::AppendLaws::word_laws))]
 fn print_disc(
     program: &Program,
     function: &Function,
@@ -98,7 +98,7 @@ fn print_disc(
 }
 
 // Writes the words of a terminator, without its semicolon.
-#[tactic(auto, using(crate::proofs::StmtLaws::term_laws))]
+#[tactic(auto, unfolding(mr_ast::specs::Canon::words_of_term, crate::specs::Calls::call_words, crate::specs::Calls::do_words), using(crate::proofs::AppendLaws::word_laws))]
 pub(crate) fn print_term(
     program: &Program,
     function: &Function,
@@ -148,7 +148,7 @@ fn print_of_block(
     word(program.block_name(function, block), text)
 }
 
-#[tactic(auto, using(crate::proofs::StmtLaws::stop_laws))]
+#[tactic(auto, unfolding(mr_ast::specs::Canon::words_of_term), using(crate::proofs::AppendLaws::word_laws))]
 fn print_stop(
     program: &Program,
     function: &Function,
@@ -162,7 +162,7 @@ fn print_stop(
     print_of_block(program, function, "to", to, text)
 }
 
-#[tactic(auto, using(crate::proofs::StmtLaws::unwind_laws))]
+#[tactic(auto, unfolding(mr_ast::specs::Canon::words_of_term), using(crate::proofs::AppendLaws::word_laws))]
 fn print_unwind(
     program: &Program,
     function: &Function,
@@ -178,7 +178,7 @@ fn print_unwind(
     print_of_block(program, function, "to", to, text)
 }
 
-#[tactic(auto, using(crate::proofs::StmtLaws::written_switch))]
+#[tactic(auto, unfolding(mr_ast::specs::Canon::words_of_term), using(crate::proofs::AppendLaws::word_laws))]
 fn print_switch(
     program: &Program,
     function: &Function,
@@ -231,7 +231,7 @@ fn print_case(
 }
 
 // Writes the words of a call up to the place of its result.
-#[tactic(auto, using(crate::proofs::StmtLaws::written_call))]
+#[tactic(auto, unfolding(crate::specs::Calls::call_words), using(crate::proofs::AppendLaws::word_laws))]
 fn print_call(
     program: &Program,
     function: &Function,
@@ -251,7 +251,7 @@ fn print_call(
 }
 
 // Writes the words of an intrinsic's call up to the place of its result.
-#[tactic(auto, using(crate::proofs::StmtLaws::written_do))]
+#[tactic(auto, unfolding(crate::specs::Calls::do_words), using(crate::proofs::AppendLaws::word_laws))]
 fn print_do(
     program: &Program,
     function: &Function,

@@ -7,7 +7,7 @@ use Rattle.mr_base.specs.declared.reason.Verdict.{Verdict}
 use Rattle.mr_base.specs.declared.reason.Verdict.TheVariants as verdict
 use Rattle.mr_mem.specs.Memory.{leaks}
 use Rattle.mr_script.specs.Script.{Broken, Outcome, Refused, Went, run, ◌>>=◌}
-use Rattle.mr_plan.specs.Machine.{Aborts, Bare, Completed, Exits, Flow, Goes, IllFormedStep, State, Stops, Thread, acted, bare, exit_verdict, settle, settled}
+use Rattle.mr_plan.specs.Machine.{Aborts, Bare, Completed, Exits, Flow, Goes, IllFormedStep, State, Stops, Thread, acted, bare, settle, settled}
 use Rattle.mr_plan.specs.Notes.{Notes, start_notes}
 use Rattle.mr_plan.specs.Queries.{Shared, answer}
 use Rattle.mr_frame.specs.Frames.{Look}
@@ -25,7 +25,7 @@ CalmBare (Completed n s) = Unit {0}
 CalmBare (Stops v) = CalmVerdict v
 CalmBare IllFormedStep = Unit {0}
 
-exit_calm : (s : Shared) → CalmVerdict (exit_verdict s)
+exit_calm : (s : Shared) → CalmVerdict (if leaks s.memory then verdict.Leak else verdict.Exit)
 exit_calm s = by (leaks s.memory)
   where
     by : (b : Bool) → CalmVerdict (if b then verdict.Leak else verdict.Exit)

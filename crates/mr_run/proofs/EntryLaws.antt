@@ -1,8 +1,8 @@
 -- What the step of an entry comes to of which no footprint is handed out, and what stands behind it.
-use Rattle.std.proofs.Common.{◌≡◌, ◌≤◌, ℕ, arith, sym, ap, ◌∙◌, subst, List, [], ◌∷◌, length, false, Some, None, Ok, Err}
+use Rattle.std.proofs.Common.{◌≡◌, ◌≤◌, arith, sym, ap, ◌∙◌, subst, [], ◌∷◌, length, false, Some, None, Ok, Err}
 use Rattle.mr_event.specs.Footprint.{Footprint}
 use Rattle.mr_sched.specs.declared.schedule.Entry.{Entry}
-use Rattle.mr_start.specs.Start.{program_step}
+use Rattle.mr_start.specs.Runs.{program_step}
 use Rattle.mr_step.specs.declared.fault.StepFault.{StepFault}
 use Rattle.mr_step.specs.declared.fault.StepFault.TheVariants as answer
 use Rattle.mr_step.specs.declared.fault.Turn.{Turn}

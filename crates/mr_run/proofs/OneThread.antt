@@ -15,7 +15,8 @@ use Rattle.mr_plan.specs.Machine.{Bare, Completed, IllFormedStep, State, Stops, 
 use Rattle.mr_plan.specs.Runs.{Config, feet, foot_from, foot_of_bare, machine_step}
 use Rattle.mr_sched.specs.declared.schedule.Entry.{Entry}
 use Rattle.mr_sched.specs.declared.schedule.Schedule.{Schedule}
-use Rattle.mr_start.specs.Start.{look_of, start_config, steps_of}
+use Rattle.mr_start.specs.Runs.{steps_of}
+use Rattle.mr_start.specs.Start.{look_of, start_config}
 use Rattle.mr_thread.specs.Steps.{Own, thread_step}
 use Rattle.mr_run.specs.Runs.{are_of_first}
 

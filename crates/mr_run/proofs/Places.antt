@@ -8,7 +8,8 @@ use Rattle.mr_plan.specs.Legal.{Fault}
 use Rattle.mr_plan.specs.Runs.{Config}
 use Rattle.mr_frame.specs.Frames.{Look}
 use Rattle.mr_thread.specs.Steps.{Own}
-use Rattle.mr_start.specs.Start.{PlacedFault, at_line, entries_fault, look_of, program_fault, program_step, schedule_fault, start_config, start_fault}
+use Rattle.mr_start.specs.Runs.{PlacedFault, at_line, entries_fault, program_fault, program_step, schedule_fault}
+use Rattle.mr_start.specs.Start.{look_of, start_config, start_fault}
 use Rattle.mr_step.specs.Answers.{fault_of}
 use Rattle.mr_step.specs.Standing.{Standing}
 use Rattle.mr_run.specs.declared.fault.RunFault.{RunFault}

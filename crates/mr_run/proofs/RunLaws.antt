@@ -1,9 +1,8 @@
 -- Entries that are taken one after another, and the whole run.
 use Rattle.std.proofs.Common.{◌≡◌, ℕ, ◌+◌, refl, sym, ap, ap₂, ◌∙◌, subst, List, [], ◌∷◌, ◌++◌, false, suc, ◌<◌, ◌≤◌, arith, drop, length, length-append, append-nil, append_assoc}
 use Rattle.std.proofs.Math.Seq.{drop-cons}
-use Rattle.std.specs.Prelude.{get_or, Some, None, Option, Result, Ok, Err}
+use Rattle.std.specs.Prelude.{get_or, Some, None, Option, Ok, Err}
 use Rattle.mr_ast.specs.declared.program.Program.{Program}
-use Rattle.mr_base.specs.declared.byte.AllocId.{AllocId}
 use Rattle.mr_event.specs.Footprint.{Footprint}
 use Rattle.mr_sched.specs.declared.schedule.Entry.{Entry}
 use Rattle.mr_sched.specs.declared.schedule.Schedule.{Schedule}
@@ -12,10 +11,11 @@ use Rattle.mr_plan.specs.Runs.{AreLegal, Config, after, feet, foot_from}
 use Rattle.mr_plan.proofs.RunLaws.{completed_by_step}
 use Rattle.mr_frame.specs.Frames.{Look}
 use Rattle.mr_thread.specs.Steps.{Own, thread_step}
-use Rattle.mr_start.specs.Start.{PlacedFault, at_line, entries_fault, look_of, program_fault, program_step, run_of, schedule_fault, start_config, start_fault, steps_of}
+use Rattle.mr_start.specs.Runs.{PlacedFault, at_line, entries_fault, program_fault, program_step, run_of, schedule_fault, steps_of}
+use Rattle.mr_start.specs.Start.{look_of, start_config}
 use Rattle.mr_step.specs.declared.fault.StepFault.{StepFault}
 use Rattle.mr_step.specs.declared.fault.StepFault.TheVariants as answer
-use Rattle.mr_step.specs.Answers.{StartAnswer, fault_of, standing}
+use Rattle.mr_step.specs.Answers.{StartAnswer, fault_of}
 use Rattle.mr_step.specs.Standing.{Standing}
 use Rattle.mr_run.specs.declared.fault.RunFault.{RunFault}
 use Rattle.mr_run.specs.declared.fault.RunFault.TheVariants.{Broken, Memory}

@@ -1,6 +1,5 @@
 //! Schedules of one thread.
 ghost use Rattle.std.specs.Prelude.{◌≡◌, ◌==◌};
-ghost use Rattle.std.specs.List.{list_all};
 ghost use Rattle.mr_run.specs.Runs.{are_of_first};
 
 use mr_sched::Entry;

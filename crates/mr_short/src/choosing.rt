@@ -8,7 +8,7 @@ ghost use Rattle.mr_event.specs.declared.footprint.Pair.{Pair as PairOf};
 ghost use Rattle.mr_event.specs.Order.{places};
 ghost use Rattle.mr_event.specs.Predicted.{predicted};
 ghost use Rattle.mr_sched.specs.declared.schedule.Entry.{Entry as EntryOf};
-ghost use Rattle.mr_start.specs.Start.{Legal, steps_of};
+ghost use Rattle.mr_start.specs.Runs.{Legal, steps_of};
 ghost use Rattle.mr_wf.specs.Walk.{WellFormed};
 ghost use Rattle.mr_exchange.specs.Witness.{IsWitness, entry_at, kept_schedule};
 ghost use Rattle.mr_short.specs.Marks.{AreEnds, AreMarks};

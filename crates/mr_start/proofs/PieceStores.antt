@@ -1,5 +1,5 @@
 -- Bytes that are stored one piece behind the other, in a range of a live allocation, are stored as one.
-use Rattle.std.proofs.Common.{◌≡◌, ◌≢◌, ℕ, suc, ◌+◌, ◌-◌, ◌<◌, ◌≤◌, refl, sym, ap, ◌∙◌, subst, List, [], ◌∷◌, ◌++◌, length, take, drop, get_or, inl, inr, Option, None, Some, Result, Ok, Bool, true, false, cond, arith, append-nil, append_assoc, length-append, length-take}
+use Rattle.std.proofs.Common.{◌≡◌, ◌≢◌, ℕ, suc, ◌+◌, ◌-◌, ◌<◌, ◌≤◌, refl, sym, ap, ◌∙◌, subst, List, [], ◌∷◌, ◌++◌, length, take, drop, get_or, inl, inr, Option, None, Some, Ok, Bool, true, false, cond, arith, append-nil, append_assoc, length-append, length-take}
 use Rattle.std.proofs.lemmas.Bool.{cases_eq, eq-eqb}
 use Rattle.std.proofs.lemmas.List.{drop_all, take_all}
 use Rattle.std.proofs.lemmas.Slice.{drop-append-drop}
@@ -10,7 +10,6 @@ use Rattle.std.specs.Ordering.{eq_by_cmp}
 use Rattle.mr_base.specs.declared.byte.AbstractByte.{AbstractByte}
 use Rattle.mr_base.specs.declared.byte.AllocId.{AllocId}
 use Rattle.mr_base.specs.declared.byte.Pointer.{Pointer}
-use Rattle.mr_base.specs.declared.reason.Reason.{Reason}
 use Rattle.mr_ast.specs.declared.program.Item_.{Item_}
 use Rattle.mr_mem.specs.Memory.{Allocation, Memory, checked, id_cmp, is_multiple, written}
 use Rattle.mr_mem.proofs.Identities.{get_here, id_exact, id_total}

@@ -9,7 +9,8 @@ use Rattle.mr_plan.specs.Machine.{Bare, Completed, IllFormedStep, Language, Stat
 use Rattle.mr_plan.specs.Runs.{AreLegal, Config, after, after_bare, feet, foot_from, foot_of_bare, machine_step, stepped_from}
 use Rattle.mr_frame.specs.Frames.{Look}
 use Rattle.mr_thread.specs.Steps.{Own, thread_step}
-use Rattle.mr_start.specs.Start.{Legal, PlacedFault, at_line, entries_fault, look_of, program_fault, program_step, run_of, schedule_fault, start_config, start_fault, steps_of}
+use Rattle.mr_start.specs.Runs.{Legal, PlacedFault, at_line, entries_fault, program_fault, program_step, run_of, schedule_fault, steps_of}
+use Rattle.mr_start.specs.Start.{look_of, start_config, start_fault}
 
 -- ---- footprints
 

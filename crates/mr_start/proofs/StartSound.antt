@@ -21,7 +21,8 @@ use Rattle.mr_frame.specs.Storage.{slot_of, slots_in, slots_with}
 use Rattle.mr_thread.specs.SoundState.{FitsStatus, IsSoundConfig, SoundState, thread_slots}
 use Rattle.mr_thread.specs.Steps.{Own}
 use Rattle.mr_thread.proofs.RunSound.{never_ill_formed}
-use Rattle.mr_start.specs.Start.{IsSoundRun, Legal, Piece, look_of, main_thread, pieces, start_config, start_fault, start_frame, start_locals, start_memory, start_placed}
+use Rattle.mr_start.specs.Runs.{IsSoundRun, Legal}
+use Rattle.mr_start.specs.Start.{Piece, look_of, main_thread, pieces, start_config, start_fault, start_frame, start_locals, start_memory, start_placed}
 use Rattle.mr_start.proofs.StartFacts.{HasMain, functions_length, globals_length, has_main, return_is, start_fits}
 use Rattle.mr_start.proofs.StartStores.{AllLie, Lies, start_kept}
 use Rattle.mr_base.proofs.Lists.{slice_get-drop}

@@ -1,4 +1,4 @@
--- The start of a run, and legal schedules of a program.
+-- The start of a run: what it allocates, the bytes of the globals, and where the machine stands before the first entry.
 use Rattle.std.specs.Prelude.{◌≡◌, ℕ, ◌+◌, List, [], ◌∷◌, ◌++◌, map, length, replicate, take, drop, slice_set, Option}
 use Rattle.std.specs.Prelude.{None, Some, Result, Ok, Err, slice_get}
 use Rattle.std.specs.List.{flat_map}
@@ -27,14 +27,11 @@ use Rattle.mr_wf.specs.Broken.{items_size}
 use Rattle.mr_eval.specs.Moves.{behind}
 use Rattle.mr_sched.specs.declared.schedule.Ask.{Ask}
 use Rattle.mr_sched.specs.declared.schedule.Ask.TheVariants.{Address}
-use Rattle.mr_sched.specs.declared.schedule.Entry.{Entry}
-use Rattle.mr_sched.specs.declared.schedule.Schedule.{Schedule}
-use Rattle.mr_event.specs.Footprint.{Footprint}
 use Rattle.mr_plan.specs.Machine.{thread_of}
 use Rattle.mr_plan.specs.Legal.{Fault, picks_fault}
-use Rattle.mr_plan.specs.Runs.{AreLegal, Config, NeverIllFormed, after, entry_fault, feet, machine_step}
+use Rattle.mr_plan.specs.Runs.{Config}
 use Rattle.mr_frame.specs.Frames.{Frame, Look}
-use Rattle.mr_thread.specs.Steps.{Own, thread_step}
+use Rattle.mr_thread.specs.Steps.{Own}
 
 -- ---- what the start allocates
 
@@ -193,48 +190,3 @@ start_config p picks =
       completed = 0;
       verdict = verdict.Running;
     }
-
--- ---- runs of a program
-
--- one step of a program's machine
-abbrev pub program_step : Look → Config Own → Entry → Config Own
-program_step look = machine_step (thread_step look)
-
-abbrev pub program_fault : Look → Config Own → Entry → Option Fault
-program_fault look = entry_fault (thread_step look)
-
--- THE RUN of a program under a schedule: where its machine stands in the end
-unfoldable pub run_of : Program → Schedule → Config Own
-run_of p w = after (thread_step (look_of p w.start)) (start_config p w.start) w.entries
-
--- THE FOOTPRINTS of its completed steps, in order
-unfoldable pub steps_of : Program → Schedule → List Footprint
-steps_of p w = feet (thread_step (look_of p w.start)) (start_config p w.start) w.entries
-
--- neither the start line nor an entry breaks a rule
-pub record Legal (p : Program) (w : Schedule) : Type 0 where
-  pub start : start_fault p w.start ≡ None
-  pub entries : AreLegal (thread_step (look_of p w.start)) (start_config p w.start) w.entries
-
--- no step of the run is without a rule
-abbrev pub IsSoundRun : Program → Schedule → Type 0
-IsSoundRun p w = NeverIllFormed (thread_step (look_of p w.start)) (start_config p w.start) w.entries
-
--- a fault with the line of the schedule's text on which it stands
-pub record PlacedFault : Type 0 where
-  pub line : ℕ
-  pub fault : Fault
-
-abbrev pub at_line : ℕ → Option Fault → Option PlacedFault → Option PlacedFault
-at_line line None later = later
-at_line line (Some f) later = Some (record { line = line; fault = f })
-
-abbrev pub entries_fault : Look → Config Own → ℕ → List Entry → Option PlacedFault
-entries_fault look c line [] = None
-entries_fault look c line (e ∷ es) =
-    at_line line (program_fault look c e) (entries_fault look (program_step look c e) (line + 1) es)
-
--- the first rule that a schedule breaks: the start line is line 2, and entry k stands on line k + 2
-unfoldable pub schedule_fault : Program → Schedule → Option PlacedFault
-schedule_fault p w =
-    at_line 2 (start_fault p w.start) (entries_fault (look_of p w.start) (start_config p w.start) 3 w.entries)

@@ -1,6 +1,5 @@
 //! The bytes of globals, stored at the start.
-ghost use Rattle.std.specs.Prelude.{◌≡◌, ◌++◌, IfOk, List, Ok, OnErr, OnOk, Result, length, replicate, true};
-ghost use Rattle.mr_base.specs.declared.byte.Pointer.{Pointer as PointerOf};
+ghost use Rattle.std.specs.Prelude.{◌≡◌, ◌++◌, IfOk, Ok, OnErr, OnOk, Result, length, replicate, true};
 ghost use Rattle.mr_base.specs.declared.reason.Reason.{Reason};
 ghost use Rattle.mr_eval.specs.Moves.{behind};
 ghost use Rattle.mr_value.specs.Numbers.{pointer_bytes};

@@ -98,7 +98,8 @@ pub fn judge(
     requires uncounted { IsUncounted memory.now thread count }
     ensures { MatchResult result
         (λ _. picks_fault sync.now.statuses (ranges_of memory.now) thread count asks.now picks.now ≡ None)
-        (λ f. picks_fault sync.now.statuses (ranges_of memory.now) thread count asks.now picks.now ≡ Some (fault_of f)) }
+        (λ f. picks_fault sync.now.statuses (ranges_of memory.now) thread count asks.now picks.now
+        ≡ Some (fault_of f)) }
 {
     for (i, ask) in asks.iter().enumerate() {
         if i >= picks.len() {

@@ -7,7 +7,8 @@ ghost use Rattle.mr_wf.specs.Walk.{WellFormed};
 ghost use Rattle.mr_plan.specs.Runs.{Config};
 ghost use Rattle.mr_frame.specs.Frames.{Look};
 ghost use Rattle.mr_thread.specs.Steps.{Own};
-ghost use Rattle.mr_start.specs.Start.{IsSoundRun, IsWholeStart, Legal, program_step, run_of, schedule_fault, start_fault, steps_of};
+ghost use Rattle.mr_start.specs.Runs.{IsSoundRun, Legal, program_step, run_of, schedule_fault, steps_of};
+ghost use Rattle.mr_start.specs.Start.{IsWholeStart, start_fault};
 
 /// A law: no step of a well-formed program under a legal schedule is ill-formed.
 pub fn never_ill_formed()

@@ -10,7 +10,8 @@ use Rattle.mr_sched.specs.declared.schedule.Entry.{Entry}
 use Rattle.mr_plan.specs.Legal.{Fault}
 use Rattle.mr_plan.specs.Runs.{Config, foot_from, has_rule}
 use Rattle.mr_thread.specs.Steps.{Own, thread_step}
-use Rattle.mr_start.specs.Start.{start_fault, start_config, look_of, program_fault, program_step}
+use Rattle.mr_start.specs.Runs.{program_fault, program_step}
+use Rattle.mr_start.specs.Start.{start_fault, start_config, look_of}
 use Rattle.mr_step.specs.declared.fault.StepFault.{StepFault}
 use Rattle.mr_step.specs.declared.fault.StepFault.TheVariants as answer
 use Rattle.mr_step.specs.declared.fault.Turn.{Turn}
@@ -69,8 +70,8 @@ pub record KeepsTold (old new : Config Own) : Type 0 where
   pub completed : new.completed ≡ old.completed
   pub verdict : new.verdict ≡ old.verdict
 
--- Memory ran out, and the machine has failed, which tells what it told before. The entry may break a rule, for a step can
--- ask behind what ran out.
+-- Memory ran out, and the machine has failed, which tells what it told before. The entry may break a rule, for a step
+-- can ask behind what ran out.
 pub record RunsOut (old new : Standing) : Type 0 where
   pub working : old.failed ≡ false
   pub failed : new.failed ≡ true
@@ -99,7 +100,8 @@ pub record IsTakenBack (prints : ℕ) (old new : Config Own) : Type 0 where
   pub completed : new.completed + 1 ≡ old.completed
   pub verdict : new.verdict ≡ verdict.Running
 
--- memory ran out where the footprint of the last step was to be handed out: the machine has failed, and tells it no more
+-- memory ran out where the footprint of the last step was to be handed out: the machine has failed, and tells it no
+-- more
 pub record FailsToHand (prints : ℕ) (old new : Standing) : Type 0 where
   pub failed : new.failed ≡ true
   pub look : new.look ≡ old.look

@@ -1,7 +1,8 @@
 //! The footprint of a completed step, and the verdict behind it.
-ghost use Rattle.std.specs.Prelude.{◌≡◌, IfOk, OnOk, Some, option_copied};
+ghost use Rattle.std.specs.Prelude.{◌≡◌, OnOk, Some, option_copied};
 ghost use Rattle.mr_plan.specs.Runs.{races_with as is_racing};
 ghost use Rattle.mr_event.specs.Footprint.{Footprint as FootprintOf};
+ghost use Rattle.mr_event.specs.Lists.{footprint_of};
 ghost use Rattle.mr_turn.specs.declared.deed.Deed.{Deed as DeedOf};
 ghost use Rattle.mr_turn.specs.Turning.{is_end as is_ending};
 ghost use Rattle.mr_step.specs.Settling.{foot_by, verdict_in};
@@ -22,11 +23,11 @@ pub fn is_end(flow: Flow) -> bool
     matches!(flow, Flow::Ended)
 }
 
-// The footprint that a turn leaves.
-fn footprint(alloc: Global, scene: &Scene, deed: &Deed) -> Result<Footprint, AllocError>
-    ensures { IfOk result (λ foot. foot ≡ foot_by scene.now deed.now) }
+// The step that a turn made.
+fn step_of<'a>(scene: &'a Scene, deed: &'a Deed) -> Step<'a>
+    ensures { footprint_of result ≡ foot_by scene.now deed.now }
 {
-    let step = Step {
+    Step {
         thread: scene.thread,
         event: deed.event,
         ended: is_end(deed.flow),
@@ -35,8 +36,7 @@ fn footprint(alloc: Global, scene: &Scene, deed: &Deed) -> Result<Footprint, All
         freed: scene.freed.as_slice(),
         touched: scene.notes.touched.as_slice(),
         woken: deed.woken.as_slice(),
-    };
-    Footprint::of(alloc, &step)
+    }
 }
 
 /// The footprint that a turn leaves takes the place of the last one.
@@ -48,7 +48,11 @@ pub fn keep_last(
 ) -> Result<(), AllocError>
     ensures { OnOk result (last.new ≡ Some (foot_by scene.now deed.now)) }
 {
-    *last = Some(footprint(alloc, scene, deed)?);
+    let step = step_of(scene, deed);
+    if let Some(foot) = last {
+        return foot.refill(&step);
+    }
+    *last = Some(Footprint::of(alloc, &step)?);
     Ok(())
 }
 

@@ -36,7 +36,14 @@ impl<'p> Model for Machine<'p> {
     ghost use Rattle.mr_ast.specs.contracts.expr.Value as values;
     ghost use Rattle.mr_mem.specs.contracts.memory.Memory as memories;
 
-    ghost coded = { Prim.hlevel (codes, types.the_row.coded, trees.the_row.coded, places.the_row.coded, values.the_row.coded, memories.the_row.coded) };
+    ghost coded = { Prim.hlevel (
+      codes,
+      types.the_row.coded,
+      trees.the_row.coded,
+      places.the_row.coded,
+      values.the_row.coded,
+      memories.the_row.coded,
+    ) };
 
     ghost use Rattle.mr_step.specs.Kept.{standing_of, IsKept};
 

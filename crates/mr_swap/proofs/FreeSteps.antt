@@ -8,7 +8,7 @@ use Rattle.mr_base.specs.declared.access.Access.{Access}
 use Rattle.mr_base.specs.declared.byte.AllocId.{AllocId}
 use Rattle.mr_base.specs.declared.thread.Event.{Event}
 use Rattle.mr_base.specs.declared.thread.Event.TheVariants.{Acquire, CreateLock, Join, Quiet, Release, Spawn}
-use Rattle.mr_event.specs.Footprints.{both_create, both_spawn, depends, joined_by, joins_of, lock_of, same_lock, same_number, share_id, spawns, wakes}
+use Rattle.mr_event.specs.Footprints.{both_create, both_spawn, depends, joins_of, lock_of, same_lock, same_number, share_id, spawns, wakes}
 use Rattle.mr_event.specs.Footprint.{Footprint}
 use Rattle.mr_plan.specs.Notes.{event_of}
 use Rattle.mr_plan.specs.Places.{Covers}
@@ -24,8 +24,8 @@ pub record IsFree (f g : Footprint) : Type 0 where
   pub locks : same_lock f.event g.event ≡ false
   pub creations : both_create f.event g.event ≡ false
   pub spawnings : both_spawn f.event g.event ≡ false
-  pub joined : joined_by f g ≡ false
-  pub joins : joined_by g f ≡ false
+  pub joined : joins_of f g.event ≡ false
+  pub joins : joins_of g f.event ≡ false
   pub made_touched : share_id f.allocated g.touched ≡ false
   pub made_freed : share_id f.allocated g.freed ≡ false
   pub touched_freed : share_id f.touched g.freed ≡ false

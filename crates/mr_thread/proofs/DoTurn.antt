@@ -247,24 +247,9 @@ module _ (look : Look) (is : IsLook look) (well : WellFormed look.program) (s : 
         by_types (a ∷ b ∷ e ∷ types) args shapes fits = absurd (cc)
 
     by_op : (op : Intrinsic) → d.op ≡ op → After (PlanTurns p s t c others) (run answer (operated look own d o op) v)
-    by_op intrinsic.Assume same = operation_turn intrinsic.Assume same tt
-    by_op intrinsic.Print same = operation_turn intrinsic.Print same tt
-    by_op intrinsic.Allocate same = operation_turn intrinsic.Allocate same tt
-    by_op intrinsic.Deallocate same = operation_turn intrinsic.Deallocate same tt
-    by_op intrinsic.Join same = operation_turn intrinsic.Join same tt
-    by_op intrinsic.CreateLock same = operation_turn intrinsic.CreateLock same tt
-    by_op intrinsic.Acquire same = operation_turn intrinsic.Acquire same tt
-    by_op intrinsic.Release same = operation_turn intrinsic.Release same tt
-    by_op intrinsic.AtomicStore same = operation_turn intrinsic.AtomicStore same tt
-    by_op intrinsic.AtomicLoad same = operation_turn intrinsic.AtomicLoad same tt
-    by_op intrinsic.CompareExchange same = operation_turn intrinsic.CompareExchange same tt
-    by_op intrinsic.FetchAdd same = operation_turn intrinsic.FetchAdd same tt
-    by_op intrinsic.FetchSub same = operation_turn intrinsic.FetchSub same tt
-    by_op intrinsic.FetchAnd same = operation_turn intrinsic.FetchAnd same tt
-    by_op intrinsic.FetchOr same = operation_turn intrinsic.FetchOr same tt
-    by_op intrinsic.FetchXor same = operation_turn intrinsic.FetchXor same tt
     by_op intrinsic.Spawn same = spawn_turn same
     by_op intrinsic.Payload same = payload_turn same
+    by_op op same = operation_turn op same tt
 
   -- THE TURN of an intrinsic
   pub do_turn : MemoryFacts s.memory t c s.memory (start_tally t c) → AreHeld s.memory rooms → After (PlanTurns p s t c others) (run answer (do_step look own d) begin)

@@ -122,23 +122,7 @@ due_named (Some d) op h = (d, refl, same_Some d.op op (sym h))
 -- what was printed, by what a deed tells
 printed_told : (op : Intrinsic) (printed : List (List ℕ)) (text : List ℕ) → Prints op printed [] text → printed ≡ printed_lines (if is_print op then Some text else None)
 printed_told intrinsic.Print printed text h = h.1 ∙ ap (λ t. t ∷ []) (sym h.2)
-printed_told intrinsic.Assume printed text h = h.0
-printed_told intrinsic.Allocate printed text h = h.0
-printed_told intrinsic.Deallocate printed text h = h.0
-printed_told intrinsic.Spawn printed text h = h.0
-printed_told intrinsic.Join printed text h = h.0
-printed_told intrinsic.CreateLock printed text h = h.0
-printed_told intrinsic.Acquire printed text h = h.0
-printed_told intrinsic.Release printed text h = h.0
-printed_told intrinsic.AtomicStore printed text h = h.0
-printed_told intrinsic.AtomicLoad printed text h = h.0
-printed_told intrinsic.CompareExchange printed text h = h.0
-printed_told intrinsic.FetchAdd printed text h = h.0
-printed_told intrinsic.FetchSub printed text h = h.0
-printed_told intrinsic.FetchAnd printed text h = h.0
-printed_told intrinsic.FetchOr printed text h = h.0
-printed_told intrinsic.FetchXor printed text h = h.0
-printed_told intrinsic.Payload printed text h = h.0
+printed_told _ printed text h = h.0
 
 module _ (look : KeptLook) (stack : KeptStack) (s : Scene) (x : Tables) (call : DoCall) (d : DueDo) (is : IsOperation d.op) (picks : List ℕ) where
   abbrev o : Operands

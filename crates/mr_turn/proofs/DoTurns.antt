@@ -104,21 +104,6 @@ module _ (look : Look) (own : Own) (d : DueDo) (o : Operands) (w : Shared × Not
 
   -- all but the start of a thread and the look at a payload are operations
   pub by_operation : (op : Intrinsic) → IsOperation op → operated look own d o op ≡ finished own d o (operation op o.args o.arg_types o.result_type)
-  by_operation intrinsic.Assume is = refl
-  by_operation intrinsic.Print is = refl
-  by_operation intrinsic.Allocate is = refl
-  by_operation intrinsic.Deallocate is = refl
   by_operation intrinsic.Spawn is = absurd is
-  by_operation intrinsic.Join is = refl
-  by_operation intrinsic.CreateLock is = refl
-  by_operation intrinsic.Acquire is = refl
-  by_operation intrinsic.Release is = refl
-  by_operation intrinsic.AtomicStore is = refl
-  by_operation intrinsic.AtomicLoad is = refl
-  by_operation intrinsic.CompareExchange is = refl
-  by_operation intrinsic.FetchAdd is = refl
-  by_operation intrinsic.FetchSub is = refl
-  by_operation intrinsic.FetchAnd is = refl
-  by_operation intrinsic.FetchOr is = refl
-  by_operation intrinsic.FetchXor is = refl
   by_operation intrinsic.Payload is = absurd is
+  by_operation _ is = refl

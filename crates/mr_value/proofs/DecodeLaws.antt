@@ -13,14 +13,14 @@ use Rattle.mr_layout.specs.Sizes.{size_of}
 use Rattle.mr_value.specs.declared.val.Val.TheVariants as val
 use Rattle.mr_value.specs.Numbers.{Bytes, number_of}
 use Rattle.mr_value.specs.Discriminants.{walk}
-use Rattle.mr_value.specs.Decode.{Reader, bool_of, pointer_where, is_not_null, is_aligned, elements_in, chunks_in, variant_in, decode_step, variant_decode_step, decoded, read_fields, read_variant}
+use Rattle.mr_value.specs.Decode.{Reader, bool_of, pointer_where, is_not_null, is_aligned, elements_in, chunks_in, variant_in, decode_step, decoded, read_fields, read_variant}
 
 unfoldable pub decoded_variant : Variant → Reader
-decoded_variant = para-Variant Reader Reader decode_step variant_decode_step
+decoded_variant = para-Variant Reader Reader decode_step (λ v. v.ty.1)
 
 decode_roll : (d : Ty-F Ty Variant) (b : Bytes) → decoded (roll-Ty d) b ≡ decode_step (map-Ty Ty Variant (Ty × Reader) (Variant × Reader) (λ t. (t, decoded t)) (λ v. (v, decoded_variant v)) d) b
 unfolding decoded decoded_variant
-decode_roll d b = ap (λ (r : Reader). r b) (para-roll-Ty Reader Reader decode_step variant_decode_step d)
+decode_roll d b = ap (λ (r : Reader). r b) (para-roll-Ty Reader Reader decode_step (λ v. v.ty.1) d)
 
 pub decode_int : (i : IntType) (b : Bytes) → decoded (ty.Int i) b ≡ option_map val.Int (number_of b)
 decode_int i b = ap (λ t. decoded t b) (sym (ty.rolls-Int i)) ∙ decode_roll (Ty-F.Int i) b
@@ -48,7 +48,7 @@ decode_union size align fields chunks b = ap (λ t. decoded t b) (sym (ty.rolls-
 
 pub decode_variant : (v : Variant) (b : Bytes) → decoded_variant v b ≡ decoded v.ty b
 unfolding decoded decoded_variant
-decode_variant v b = ap (λ (r : Reader). r b) (para-roll-Variant Reader Reader decode_step variant_decode_step (out-Variant v))
+decode_variant v b = ap (λ (r : Reader). r b) (para-roll-Variant Reader Reader decode_step (λ v. v.ty.1) (out-Variant v))
 
 variant_in_is : (variants : List Variant) (b : Bytes) (n : Num) → variant_in (map (λ v. (v, decoded_variant v)) variants) b n ≡ read_variant variants b n
 variant_in_is [] b n = refl

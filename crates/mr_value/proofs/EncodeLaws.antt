@@ -15,15 +15,15 @@ use Rattle.mr_runs.specs.Numbers.{with_provenance}
 use Rattle.mr_value.specs.declared.val.Val.{Val, out-Val}
 use Rattle.mr_value.specs.declared.val.Val.TheVariants as val
 use Rattle.mr_value.specs.Numbers.{Bytes, little_endian, pointer_bytes}
-use Rattle.mr_value.specs.Encode.{Writer, blank, element_bytes, with_chunks, variant_bytes, encode_step, variant_encode_step, encoding_of, write_fields, write_variant}
+use Rattle.mr_value.specs.Encode.{Writer, blank, element_bytes, with_chunks, variant_bytes, encode_step, encoding_of, write_fields, write_variant}
 
 unfoldable variant_writer : Variant → Writer
-variant_writer = para-Variant Writer Writer (λ layer v. encode_step layer (out-Val v)) variant_encode_step
+variant_writer = para-Variant Writer Writer (λ layer v. encode_step layer (out-Val v)) (λ v. v.ty.1)
 
 -- one level, at a type that is made of it
 encode_roll : (d : Ty-F Ty Variant) (v : Val) → encoding_of (roll-Ty d) v ≡ encode_step (map-Ty Ty Variant (Ty × Writer) (Variant × Writer) (λ t. (t, encoding_of t)) (λ w. (w, variant_writer w)) d) (out-Val v)
 unfolding encoding_of variant_writer
-encode_roll d v = ap (λ (w : Writer). w v) (para-roll-Ty Writer Writer (λ layer v. encode_step layer (out-Val v)) variant_encode_step d)
+encode_roll d v = ap (λ (w : Writer). w v) (para-roll-Ty Writer Writer (λ layer v. encode_step layer (out-Val v)) (λ v. v.ty.1) d)
 
 pub encode_int : (int : IntType) (n : ℕ) → encoding_of (ty.Int int) (val.Int n) ≡ with_provenance None (little_endian (int_size int) n)
 encode_int int n =
@@ -61,7 +61,7 @@ encode_union size align fields chunks content =
 
 variant_writer_is : (w : Variant) (v : Val) → variant_writer w v ≡ encoding_of w.ty v
 unfolding encoding_of variant_writer
-variant_writer_is w v = ap (λ (x : Writer). x v) (para-roll-Variant Writer Writer (λ layer v. encode_step layer (out-Val v)) variant_encode_step (out-Variant w))
+variant_writer_is w v = ap (λ (x : Writer). x v) (para-roll-Variant Writer Writer (λ layer v. encode_step layer (out-Val v)) (λ v. v.ty.1) (out-Variant w))
 
 variant_bytes_is : (variants : List Variant) (n : Num) (v : Val) → variant_bytes (map (λ w. (w, variant_writer w)) variants) n v ≡ write_variant variants n v
 variant_bytes_is [] n v = refl

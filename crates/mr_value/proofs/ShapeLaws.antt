@@ -16,20 +16,20 @@ use Rattle.mr_value.specs.declared.val.Val.{Val, out-Val}
 use Rattle.mr_value.specs.declared.val.Val.TheVariants as val
 use Rattle.mr_value.specs.declared.val.Val.TheOpen.{Val-F}
 use Rattle.mr_value.specs.Numbers.{Bytes}
-use Rattle.mr_value.specs.Shape.{ValueTest, elements_pass, chunks_size, variant_passes, shape_step, variant_shape_step, has_shape, fields_have_shape, variant_has_shape}
+use Rattle.mr_value.specs.Shape.{ValueTest, elements_pass, chunks_size, variant_passes, shape_step, has_shape, fields_have_shape, variant_has_shape}
 use Rattle.mr_value.proofs.ValCases.{is_int, is_bool, is_ptr, is_tuple, is_union, is_variant}
 
 unfoldable variant_test : Variant → ValueTest
-variant_test = para-Variant ValueTest ValueTest (λ layer v. shape_step layer (out-Val v)) variant_shape_step
+variant_test = para-Variant ValueTest ValueTest (λ layer v. shape_step layer (out-Val v)) (λ v. v.ty.1)
 
 -- one level, at a type that is made of it
 shape_roll : (d : Ty-F Ty Variant) (v : Val) → has_shape (roll-Ty d) v ≡ shape_step (map-Ty Ty Variant (Ty × ValueTest) (Variant × ValueTest) (λ t. (t, has_shape t)) (λ w. (w, variant_test w)) d) (out-Val v)
 unfolding has_shape variant_test
-shape_roll d v = ap (λ (test : ValueTest). test v) (para-roll-Ty ValueTest ValueTest (λ layer v. shape_step layer (out-Val v)) variant_shape_step d)
+shape_roll d v = ap (λ (test : ValueTest). test v) (para-roll-Ty ValueTest ValueTest (λ layer v. shape_step layer (out-Val v)) (λ v. v.ty.1) d)
 
 variant_test_is : (w : Variant) (v : Val) → variant_test w v ≡ has_shape w.ty v
 unfolding has_shape variant_test
-variant_test_is w v = ap (λ (test : ValueTest). test v) (para-roll-Variant ValueTest ValueTest (λ layer v. shape_step layer (out-Val v)) variant_shape_step (out-Variant w))
+variant_test_is w v = ap (λ (test : ValueTest). test v) (para-roll-Variant ValueTest ValueTest (λ layer v. shape_step layer (out-Val v)) (λ v. v.ty.1) (out-Variant w))
 
 variant_passes_is : (variants : List Variant) (n : Num) (v : Val) → variant_passes (map (λ w. (w, variant_test w)) variants) n v ≡ variant_has_shape variants n v
 variant_passes_is [] n v = refl

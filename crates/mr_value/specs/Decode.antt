@@ -3,7 +3,7 @@ use Rattle.std.specs.Prelude.{◌≡◌, ℕ, zero, suc, ◌%◌, Bool, true, fa
 use Rattle.std.specs.Prelude.{◌++◌, map, length, take, drop, Option, Some, None, option_map, option_and_then}
 use Rattle.mr_ast.specs.declared.types.Num.{Num}
 use Rattle.mr_ast.specs.declared.types.Ty.{Ty, out-Ty}
-use Rattle.mr_ast.specs.declared.types.Ty.TheOpen.{Ty-F, Variant-F}
+use Rattle.mr_ast.specs.declared.types.Ty.TheOpen.{Ty-F}
 use Rattle.mr_ast.specs.declared.types.Ty.TheFolds.{para-Ty}
 use Rattle.mr_ast.specs.declared.types.Variant.{Variant}
 use Rattle.mr_base.specs.declared.byte.Pointer.{Pointer}
@@ -74,13 +74,9 @@ decode_step (Ty-F.Union size align fields chunks) bytes = Some (val.Union (chunk
 decode_step (Ty-F.Enum size align disc variants tree) bytes =
     option_and_then (variant_in variants bytes) (walk tree bytes)
 
--- a variant means what its type means
-abbrev pub variant_decode_step : Variant-F (Ty × Reader) (Variant × Reader) → Reader
-variant_decode_step v = v.ty.1
-
 -- the value that bytes of a type's size mean
 unfoldable pub decoded : Ty → Reader
-decoded = para-Ty Reader Reader decode_step variant_decode_step
+decoded = para-Ty Reader Reader decode_step (λ v. v.ty.1)
 
 -- a list of bytes has the type's size, and decodes to the value
 pub record Means (t : Ty) (bytes : Bytes) (v : Val) : Type 0 where

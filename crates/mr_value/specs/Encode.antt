@@ -3,7 +3,7 @@ use Rattle.std.specs.Prelude.{◌≡◌, ℕ, if◌then◌else◌, List, [], ◌
 use Rattle.mr_ast.specs.declared.types.Num.{Num}
 use Rattle.mr_ast.specs.declared.types.Tag.{Tag}
 use Rattle.mr_ast.specs.declared.types.Ty.{Ty}
-use Rattle.mr_ast.specs.declared.types.Ty.TheOpen.{Ty-F, Variant-F}
+use Rattle.mr_ast.specs.declared.types.Ty.TheOpen.{Ty-F}
 use Rattle.mr_ast.specs.declared.types.Ty.TheFolds.{para-Ty}
 use Rattle.mr_ast.specs.declared.types.Variant.{Variant}
 use Rattle.mr_base.specs.declared.byte.AbstractByte.TheVariants.{Uninit}
@@ -26,9 +26,8 @@ blank n = replicate n Uninit
 
 -- bytes into which the values of fields are written, each at its offset
 abbrev pub with_fields : List (ℕ × (Ty × Writer)) → List Val → Bytes → Bytes
-with_fields [] vs bytes = bytes
-with_fields (f ∷ fields) [] bytes = bytes
 with_fields (f ∷ fields) (v ∷ vs) bytes = with_fields fields vs (with_range_replaced bytes f.0 (f.1.1 v))
+with_fields _ _ bytes = bytes
 
 -- elements, one behind the other
 abbrev pub element_bytes : Writer → List Val → Bytes
@@ -69,13 +68,9 @@ encode_step (Ty-F.Union size align fields chunks) (Val-F.Union content) = with_c
 encode_step (Ty-F.Enum size align disc variants tree) (Val-F.Variant n v) = variant_bytes variants n v
 encode_step _ _ = []
 
--- a variant is written as its type's value is
-abbrev pub variant_encode_step : Variant-F (Ty × Writer) (Variant × Writer) → Writer
-variant_encode_step v = v.ty.1
-
 -- the bytes of a value that has the shape of a type; those that no part writes are uninitialised
 unfoldable pub encoding_of : Ty → Writer
-encoding_of = para-Ty Writer Writer (λ layer v. encode_step layer (out-Val v)) variant_encode_step
+encoding_of = para-Ty Writer Writer (λ layer v. encode_step layer (out-Val v)) (λ v. v.ty.1)
 
 -- the same of fields and of a variant, each with its type alone
 abbrev pub write_fields : List (ℕ × Ty) → List Val → Bytes → Bytes

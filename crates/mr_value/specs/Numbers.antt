@@ -30,16 +30,13 @@ little_endian (suc count) n = (n % 256) ∷ little_endian count (n / 256)
 -- all bytes have this provenance
 abbrev pub all_have : AllocId → Bytes → Bool
 all_have p [] = true
-all_have p (Uninit ∷ bytes) = false
-all_have p (Init n None ∷ bytes) = false
 all_have p (Init n (Some q) ∷ bytes) = same_id p q && all_have p bytes
+all_have p _ = false
 
 -- the provenance that all bytes share
 abbrev pub shared_provenance : Bytes → Option AllocId
-shared_provenance [] = None
-shared_provenance (Uninit ∷ bytes) = None
-shared_provenance (Init n None ∷ bytes) = None
 shared_provenance (Init n (Some p) ∷ bytes) = if all_have p bytes then Some p else None
+shared_provenance _ = None
 
 -- the pointer with an address and a provenance
 abbrev pub pointer : ℕ → Option AllocId → Pointer

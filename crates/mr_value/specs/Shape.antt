@@ -3,7 +3,7 @@ use Rattle.std.specs.Prelude.{ℕ, ◌+◌, ◌*◌, ◌^◌, Bool, true, false,
 use Rattle.std.specs.Prelude.{map, length}
 use Rattle.mr_ast.specs.declared.types.Num.{Num}
 use Rattle.mr_ast.specs.declared.types.Ty.{Ty}
-use Rattle.mr_ast.specs.declared.types.Ty.TheOpen.{Ty-F, Variant-F}
+use Rattle.mr_ast.specs.declared.types.Ty.TheOpen.{Ty-F}
 use Rattle.mr_ast.specs.declared.types.Ty.TheFolds.{para-Ty}
 use Rattle.mr_ast.specs.declared.types.Variant.{Variant}
 use Rattle.mr_ast.specs.Integers.{int_size}
@@ -18,9 +18,8 @@ ValueTest = Val → Bool
 -- there is one value for each field, and each passes its field's test
 abbrev pub fields_pass : List (ℕ × (Ty × ValueTest)) → List Val → Bool
 fields_pass [] [] = true
-fields_pass [] (v ∷ vs) = false
-fields_pass (f ∷ fields) [] = false
 fields_pass (f ∷ fields) (v ∷ vs) = f.1.1 v && fields_pass fields vs
+fields_pass _ _ = false
 
 -- each element passes
 abbrev pub elements_pass : ValueTest → List Val → Bool
@@ -50,15 +49,9 @@ shape_step (Ty-F.Union size align fields chunks) (Val-F.Union bytes) = length by
 shape_step (Ty-F.Enum size align disc variants tree) (Val-F.Variant n v) = variant_passes variants n v
 shape_step _ _ = false
 
--- a variant's shape is that of its type
-abbrev pub variant_shape_step : Variant-F (Ty × ValueTest) (Variant × ValueTest) → ValueTest
-variant_shape_step v = v.ty.1
-
--- a value has the shape of a type: an integer of its width, a bool, a pointer whatever its address, one value of the
--- right shape for each field or element, as many bytes as a union's chunks have, or a variant of an enum with a value
--- of its shape
+-- a value has a type's shape: an integer of its width, any pointer, parts of their shapes, a union's bytes, a variant
 unfoldable pub has_shape : Ty → ValueTest
-has_shape = para-Ty ValueTest ValueTest (λ layer v. shape_step layer (out-Val v)) variant_shape_step
+has_shape = para-Ty ValueTest ValueTest (λ layer v. shape_step layer (out-Val v)) (λ v. v.ty.1)
 
 -- the same of fields and of a variant, each with its type alone
 abbrev pub fields_have_shape : List (ℕ × Ty) → List Val → Bool

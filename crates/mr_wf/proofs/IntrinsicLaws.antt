@@ -10,24 +10,8 @@ use Rattle.mr_wf.specs.Intrinsics.{fits_intrinsic, gives_nothing, is_print}
 
 many : (op : Intrinsic) (a b c d : Ty) (rest : List Ty) (result : Option Ty)
     → fits_intrinsic op (a ∷ b ∷ c ∷ d ∷ rest) result ≡ (is_print op && (list_all is_scalar_number (a ∷ b ∷ c ∷ d ∷ rest) && gives_nothing result))
-many intrinsic.Assume a b c d rest result = refl
 many intrinsic.Print a b c d rest result = refl
-many intrinsic.Allocate a b c d rest result = refl
-many intrinsic.Deallocate a b c d rest result = refl
-many intrinsic.Spawn a b c d rest result = refl
-many intrinsic.Join a b c d rest result = refl
-many intrinsic.CreateLock a b c d rest result = refl
-many intrinsic.Acquire a b c d rest result = refl
-many intrinsic.Release a b c d rest result = refl
-many intrinsic.AtomicStore a b c d rest result = refl
-many intrinsic.AtomicLoad a b c d rest result = refl
-many intrinsic.CompareExchange a b c d rest result = refl
-many intrinsic.FetchAdd a b c d rest result = refl
-many intrinsic.FetchSub a b c d rest result = refl
-many intrinsic.FetchAnd a b c d rest result = refl
-many intrinsic.FetchOr a b c d rest result = refl
-many intrinsic.FetchXor a b c d rest result = refl
-many intrinsic.Payload a b c d rest result = refl
+many _ a b c d rest result = refl
 
 pub many_arguments : (op : Intrinsic) (args : List Ty) (result : Option Ty) → 4 ≤ length args
     → fits_intrinsic op args result ≡ (is_print op && (list_all is_scalar_number args && gives_nothing result))

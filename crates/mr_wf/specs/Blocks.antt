@@ -56,14 +56,11 @@ abbrev pub are_int_cases : IntType → List (Num × BlockName) → Bool
 are_int_cases i [] = true
 are_int_cases i (c ∷ cases) = is_fitting i c.0 && (not (is_case c.0 cases) && are_int_cases i cases)
 
--- a bool counts as 0 or 1
-abbrev pub is_bit : Num → Bool
-is_bit n = not n.neg && ((n.mag == 0) || (n.mag == 1))
-
 -- the cases of a switch on a bool: 0 and 1, each once
 abbrev pub are_bool_cases : List (Num × BlockName) → Bool
 are_bool_cases [] = true
-are_bool_cases (c ∷ cases) = is_bit c.0 && (not (is_case c.0 cases) && are_bool_cases cases)
+are_bool_cases (c ∷ cases) =
+    (not c.0.neg && ((c.0.mag == 0) || (c.0.mag == 1))) && (not (is_case c.0 cases) && are_bool_cases cases)
 
 -- a switch on a value of this type
 abbrev pub fits_switch_layer : List (Num × BlockName) → Ty-F Ty Variant → Bool
@@ -111,16 +108,14 @@ where_there test (Some b) = test b
 abbrev pub is_allowed : Function → BlockKind → Term → Bool
 is_allowed f k (term.Goto b) = goes_to f k b
 is_allowed f k (term.Switch value cases other) = list_all (λ c. goes_to f k c.1) cases && goes_to f k other
-is_allowed f k term.Unreachable = true
 is_allowed f k term.Return = same_kind k kind.Regular
-is_allowed f k term.Exit = true
-is_allowed f k term.Abort = true
 is_allowed f k term.Resume = same_kind k kind.Cleanup
 is_allowed f k (term.Stop b) = same_kind k kind.Catch && goes_to f kind.Regular b
 is_allowed f k (term.Unwind payload b) = same_kind k kind.Regular && unwinds_to f b
 is_allowed f k (term.Call callee args place next unwind) =
     where_there (goes_to f k) next && where_there (call_unwinds_to f k) unwind
 is_allowed f k (term.Do intrinsic args place next) = goes_to f k next
+is_allowed f k _ = true
 
 -- ---- terminators
 

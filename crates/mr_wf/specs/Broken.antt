@@ -101,10 +101,6 @@ broken_place_step at (Place-F.Place::Variant place number) =
 -- the same of a value
 abbrev pub broken_value_step : Surroundings → Value-F (Place × Rules) (Value × Rules) → Rules
 broken_value_step at (Value-F.Int int number) = rule form.ConstRange (is_fitting int number)
-broken_value_step at Value-F.True = []
-broken_value_step at Value-F.False = []
-broken_value_step at (Value-F.Raw address) = []
-broken_value_step at (Value-F.Fn f) = []
 broken_value_step at (Value-F.Global g offset) = rule form.GlobalRef (is_in_global at.sizes g.0 offset)
 broken_value_step at (Value-F.Tuple ty values) =
     of_type ty ++ flat_map (λ v. v.1) values
@@ -129,6 +125,7 @@ broken_value_step at (Value-F.Binary operator left right) =
     left.1 ++ right.1
     ++ rule form.Operand
     (where_both_typed (type_of_value at.locals left.0) (type_of_value at.locals right.0) (fits_binary operator))
+broken_value_step at _ = []
 
 -- the rules that are broken in a place, and in a value
 unfoldable pub broken_in_place : Surroundings → Place → Rules

@@ -101,8 +101,7 @@ integer_of t = integer_in (out-Ty t)
 abbrev pub overflow_type : IntType → Ty
 overflow_type i = ty.Tuple (2 * int_size i) (int_size i) ((0, ty.Int i) ∷ (int_size i, ty.Bool) ∷ [])
 
--- whether an operator gives a result and tells of overflow, compares, or moves a pointer; the others give the type of
--- the left operand
+-- whether an operator tells of overflow, compares, or moves a pointer; the others give the left operand's type
 abbrev pub tells_overflow : BinaryOp → Bool
 tells_overflow binary.AddOverflow = true
 tells_overflow binary.SubOverflow = true

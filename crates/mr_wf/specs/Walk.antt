@@ -42,10 +42,9 @@ each_at faults k (x ∷ xs) = faults k x ++ each_at faults (suc k) xs
 
 -- a pointer in a global points into a global, or to the start of a function
 abbrev pub is_target : List ℕ → Item_ → Bool
-is_target sizes (item.Byte value repeat) = true
-is_target sizes (item.Uninit repeat) = true
 is_target sizes (item.Reloc (target.Global g) offset) = is_in_global sizes g.0 offset
 is_target sizes (item.Reloc (target.Function f) offset) = offset == 0
+is_target sizes _ = true
 
 -- a global has at most 2^20 bytes and a lawful alignment
 abbrev pub is_global_form : Global_ → Bool
@@ -102,8 +101,7 @@ is_main_form p = elim (slice_get p.functions p.start.0) as (λ _. Bool) [ Some f
 abbrev pub faults_in_global : Program → ℕ → Global_ → List FormFault
 faults_in_global p n g = at_position (Static n) None 0 (broken_in_global (sizes_of p.globals) g)
 
--- The faults of a program, in the order of the walk: of each type that stands in it the first rule that the type
--- breaks, and every other rule that is broken.
+-- The faults in the order of the walk: of each type that stands there the first broken rule, and all other ones.
 unfoldable pub faults_of : Program → List FormFault
 faults_of p =
     each_at (faults_in_global p) 0 p.globals

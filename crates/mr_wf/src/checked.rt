@@ -29,7 +29,13 @@ impl Model for Checked {
     ghost use Rattle.mr_ast.specs.contracts.expr.Place as places;
     ghost use Rattle.mr_ast.specs.contracts.expr.Value as values;
 
-    ghost coded = { Prim.hlevel (codes, types.the_row.coded, trees.the_row.coded, places.the_row.coded, values.the_row.coded) };
+    ghost coded = { Prim.hlevel (
+      codes,
+      types.the_row.coded,
+      trees.the_row.coded,
+      places.the_row.coded,
+      values.the_row.coded,
+    ) };
 
     ghost view = { λ c. c.program };
 

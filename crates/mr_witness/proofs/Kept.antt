@@ -15,7 +15,8 @@ use Rattle.mr_wf.specs.Walk.{WellFormed}
 use Rattle.mr_plan.specs.Machine.{State}
 use Rattle.mr_thread.specs.SoundState.{SoundState}
 use Rattle.mr_thread.specs.Steps.{Own, thread_step}
-use Rattle.mr_start.specs.Start.{Legal, look_of, run_of, start_config, steps_of}
+use Rattle.mr_start.specs.Runs.{Legal, run_of, steps_of}
+use Rattle.mr_start.specs.Start.{look_of, start_config}
 use Rattle.mr_start.proofs.StartSound.{start_look, start_sound}
 use Rattle.mr_swap.specs.Swap.{IsSane, SwapLaw}
 use Rattle.mr_tells.proofs.Sane.{sound_is_sane}

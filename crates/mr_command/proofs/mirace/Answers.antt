@@ -1,12 +1,13 @@
 use Rattle.mr_io.specs.Counts.{Rose}
-use Rattle.mr_command.proofs.HeadlineLaws.{big_soundly, big_unless_faults, big_written, of_machine}
+use Rattle.mr_command.proofs.HeadlineLaws.{big_soundly, big_unless_faults, big_written}
+use Rattle.mr_command.proofs.MachineLaws.{headline}
 use Rattle.mr_command.proofs.PromiseLaws.{of_runs, of_texts, of_traces}
 use Rattle.mr_command.proofs.UnreadLaws.{unread_because}
 use Rattle.mr_command.proofs.mirace.Goals as goal
 
 pub returns-clause-headline : goal.returns-clause-headline
-returns-clause-headline g c = λ contents format p v w told names.
-    of_machine contents _ _ _ _ _ _ format p v w names (c.served.ensures.ends contents told)
+returns-clause-headline g c = λ contents p v w told names.
+    headline contents _ _ _ _ _ _ p v w names (c.served.ensures.ends contents told)
 
 pub returns-clause-runs : goal.returns-clause-runs
 returns-clause-runs g c = λ contents told. of_runs contents _ _ _ _ _ _ (c.served.ensures.ends contents told)

@@ -38,23 +38,7 @@ use Rattle.mr_grammar.proofs.Canon.CanonValues.{Known, opened, place_from_stands
 intrinsic_begins : (i : Intrinsic) (k : ℕ) → judged_intrinsic (record { text = intrinsic_word i; place = k }) ≡ Some (i, None)
 unfolding judged_intrinsic
 intrinsic_begins intrinsic.Assume k = refl
-intrinsic_begins intrinsic.Print k = refl
-intrinsic_begins intrinsic.Allocate k = refl
-intrinsic_begins intrinsic.Deallocate k = refl
-intrinsic_begins intrinsic.Spawn k = refl
-intrinsic_begins intrinsic.Join k = refl
-intrinsic_begins intrinsic.CreateLock k = refl
-intrinsic_begins intrinsic.Acquire k = refl
-intrinsic_begins intrinsic.Release k = refl
-intrinsic_begins intrinsic.AtomicStore k = refl
-intrinsic_begins intrinsic.AtomicLoad k = refl
-intrinsic_begins intrinsic.CompareExchange k = refl
-intrinsic_begins intrinsic.FetchAdd k = refl
-intrinsic_begins intrinsic.FetchSub k = refl
-intrinsic_begins intrinsic.FetchAnd k = refl
-intrinsic_begins intrinsic.FetchOr k = refl
-intrinsic_begins intrinsic.FetchXor k = refl
-intrinsic_begins intrinsic.Payload k = refl
+intrinsic_begins _ k = refl
 
 regroup : (a b c d e : Texts) → (((a ++ b) ++ c) ++ d) ++ e ≡ (a ++ b) ++ (c ++ (d ++ e))
 regroup a b c d e = simp append_assoc

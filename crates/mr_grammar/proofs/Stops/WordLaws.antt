@@ -9,7 +9,7 @@ use Rattle.mr_ast.specs.declared.words.TermWord.{TermWord}
 use Rattle.mr_ast.specs.Forms.{Word}
 use Rattle.mr_ast.specs.Scope.{Scope}
 use Rattle.mr_ast.specs.Words.{is_name, is_number, value_of, looked_up, stmt_words, term_words}
-use Rattle.mr_ast.specs.Writing.{ThePlace, TheValue, fine, limit, is_word, token, judged_number, judged_u64, judged_any, judged_positive, u64_form, num_form, plus, minus, judged_name, name_form, giving, ◌▸◌}
+use Rattle.mr_ast.specs.Writing.{ThePlace, TheValue, fine, limit, is_word, token, judged_number, judged_u64, judged_any, judged_positive, u64_form, num_form, signed, judged_name, name_form, giving, ◌▸◌}
 use Rattle.mr_ast.specs.ValueGrammar.{judged_value, value_form, place_from, base_form, deref_form}
 use Rattle.mr_ast.specs.ProgramGrammar.{judged_stmt, is_stmt_word, begins_stmt, judged_term, item_word_of, judged_item, item_form}
 use Rattle.mr_grammar.proofs.Walk.Conditions.{Begins, Stops}
@@ -29,12 +29,12 @@ pub u64_begins : (w : Word) → Begins part_begins u64_form w → is_number w.te
 unfolding judged_u64
 u64_begins w b = number_taken (λ n. Some (limit 2 (not (nat_lt n (2 ^ 64))))) w (b.1, b.2) b.3
 
-any_begins : (w : Word) → Begins part_begins (giving plus (token judged_any)) w → is_number w.text ≡ true
+any_begins : (w : Word) → Begins part_begins (giving (signed false) (token judged_any)) w → is_number w.text ≡ true
 unfolding judged_any
-any_begins w b = let taken = giving_begins plus (token judged_any) w b in number_taken (λ n. Some None) w (taken.1, taken.2) taken.3
+any_begins w b = let taken = giving_begins (signed false) (token judged_any) w b in number_taken (λ n. Some None) w (taken.1, taken.2) taken.3
 
 pub num_begins : (w : Word) → Begins part_begins num_form w → (w.text ≡ codes "-") ⊎ (is_number w.text ≡ true)
-num_begins w (inl b) = inl (behind_begins (codes "-") (token judged_positive) w (giving_begins minus (codes "-" ▸ token judged_positive) w b))
+num_begins w (inl b) = inl (behind_begins (codes "-") (token judged_positive) w (giving_begins (signed true) (codes "-" ▸ token judged_positive) w b))
 num_begins w (inr b) = inr (any_begins w b)
 
 -- a number is no such word
@@ -51,7 +51,7 @@ told_num = (
   (tt, ((λ i. tt), (λ i. tt), λ w b i. tt), λ w b. tt),
   (tt, (λ i. tt), λ w b. tt),
   refl,
-  (λ w b. rw (behind_begins (codes "-") (token judged_positive) w (giving_begins minus (codes "-" ▸ token judged_positive) w b)) refl),
+  (λ w b. rw (behind_begins (codes "-") (token judged_positive) w (giving_begins (signed true) (codes "-" ▸ token judged_positive) w b)) refl),
   (λ w b. no_number (codes "-") w refl (any_begins w b)),
 )
 

@@ -1,12 +1,12 @@
 -- What a script prints, by its form.
-use Rattle.std.proofs.Common.{◌≡◌, ℕ, refl, sym, subst, List, [], ◌∷◌, ◌++◌, Bool, true, false, Option, Some, None, Result, Ok, Err}
+use Rattle.std.proofs.Common.{◌≡◌, ℕ, refl, sym, subst, List, Bool, true, false, Option, Some, None, Result, Ok, Err}
 use Rattle.std.specs.Prelude.{All, if◌then◌else◌, slice_get}
 use Rattle.std.specs.List.{list_all}
 use Rattle.std.proofs.lemmas.List.Elements.{All-push}
 use Rattle.mr_base.specs.declared.reason.Reason.{Reason}
 use Rattle.mr_base.specs.declared.thread.Event.{Event}
 use Rattle.mr_base.specs.declared.thread.Event.TheVariants.{Acquire, Join, Release}
-use Rattle.mr_script.specs.Script.{Ask, Broken, Done, IllFormed, Outcome, Undefined, Went, run, ◌>>=◌}
+use Rattle.mr_script.specs.Script.{Ask, Broken, Done, IllFormed, Undefined, Went, run, ◌>>=◌}
 use Rattle.mr_script.proofs.SwapRuns.{goes_on}
 use Rattle.mr_sync.specs.Tables.{Tables, acquired, any_waits, ended, holding, joined, released}
 use Rattle.mr_eval.specs.MemoryQueries.{MemoryScript, memory_answer, reading_part}

@@ -1,5 +1,5 @@
 -- What runs print.
-use Rattle.std.proofs.Common.{◌≡◌, ℕ, refl, sym, ap, ◌∙◌, subst, List, [], ◌∷◌, ◌++◌, map, true, Option, Some, None}
+use Rattle.std.proofs.Common.{◌≡◌, ℕ, refl, List, [], ◌∷◌, map, true, Option, Some, None}
 use Rattle.std.specs.Prelude.{All}
 use Rattle.std.specs.List.{list_all}
 use Rattle.std.proofs.lemmas.List.Elements.{All-append, All-cons, All-head, All-nil, All-tail}
@@ -11,7 +11,8 @@ use Rattle.mr_plan.specs.Notes.{Notes, start_notes}
 use Rattle.mr_plan.specs.Runs.{Config, Printed, after, after_bare, machine_step, printed_by, stepped_from}
 use Rattle.mr_frame.specs.Frames.{Look}
 use Rattle.mr_thread.specs.Steps.{Own, thread_step}
-use Rattle.mr_start.specs.Start.{look_of, run_of, start_config}
+use Rattle.mr_start.specs.Runs.{run_of}
+use Rattle.mr_start.specs.Start.{look_of, start_config}
 use Rattle.mr_swap.proofs.BareSteps.{taken, whole, whole_run}
 use Rattle.mr_report.specs.Json.{is_printed}
 use Rattle.mr_run.proofs.Printing.Prints.{Anything, IsPlain, run_prints}

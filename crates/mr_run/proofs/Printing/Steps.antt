@@ -1,6 +1,6 @@
 -- A step prints the texts of integers and bools alone.
-use Rattle.std.proofs.Common.{◌≡◌, ℕ, refl, sym, ap, ◌∙◌, subst, List, [], ◌∷◌, ◌++◌, ◌-◌, ◌^◌, ◌%◌, arith, Bool, true, false, ◌&&◌, Option, Some, None, codes, decimal}
-use Rattle.std.specs.Prelude.{All, flat_map, if◌then◌else◌, nat_lt, slice_get}
+use Rattle.std.proofs.Common.{◌≡◌, ℕ, refl, ◌∙◌, List, [], ◌∷◌, ◌++◌, ◌-◌, ◌^◌, ◌%◌, arith, Bool, true, false, Option, Some, None, decimal}
+use Rattle.std.specs.Prelude.{All, if◌then◌else◌, nat_lt, slice_get}
 use Rattle.std.specs.Fmt.{digit_glyph}
 use Rattle.std.specs.List.{list_all}
 use Rattle.std.proofs.lemmas.Bool.{and_from}
@@ -17,7 +17,7 @@ use Rattle.mr_ast.specs.declared.types.Variant.{Variant}
 use Rattle.mr_base.specs.declared.byte.Kind.TheVariants.{Heap}
 use Rattle.mr_base.specs.declared.byte.Pointer.{Pointer}
 use Rattle.mr_base.specs.declared.reason.Reason.TheVariants.{BadAlign, SignatureMismatch, SizeTooLarge}
-use Rattle.mr_sched.specs.declared.schedule.Ask.TheVariants.{Address, Waiter}
+use Rattle.mr_sched.specs.declared.schedule.Ask.TheVariants.{Address}
 use Rattle.mr_value.specs.declared.val.Val.{Val, out-Val}
 use Rattle.mr_value.specs.declared.val.Val.TheVariants as val
 use Rattle.mr_value.specs.declared.val.Val.TheOpen.{Val-F}

@@ -1,6 +1,6 @@
 use Rattle.mr_auto.specs.Drawing.{drawn_schedule}
-use Rattle.mr_command.specs.Answer.{drawn_answer}
-use Rattle.mr_command.proofs.AnswerLaws.{checked_told}
+use Rattle.mr_answer.specs.Answers.{drawn_answer}
+use Rattle.mr_input.proofs.AnswerLaws.{checked_told}
 use Rattle.mr_command.proofs.answer.draw_for.Goals as goal
 
 pub returns-in-Ok-clause-answer : goal.returns-in-Ok-clause-answer

@@ -1,12 +1,33 @@
-use Rattle.std.proofs.Common.{subst, sym}
+use Rattle.std.proofs.Common.{◌≡◌, Bool, true, Option, Some, subst, sym, ap, ◌∙◌}
+use Rattle.std.specs.Prelude.{if◌then◌else◌}
+use Rattle.mr_ast.specs.declared.expr.Place.{Place}
+use Rattle.mr_ast.specs.declared.expr.Value.{Value}
+use Rattle.mr_ast.specs.declared.types.Ty.{Ty}
+use Rattle.mr_base.specs.declared.byte.Pointer.{Pointer}
 use Rattle.mr_mem.specs.Memory.{Memory}
-use Rattle.mr_script.specs.Script.{Outcome}
+use Rattle.mr_value.specs.declared.val.Val.{Val}
+use Rattle.mr_value.specs.Shape.{has_shape}
+use Rattle.mr_script.specs.Script.{Broken, Outcome, Went, on}
+use Rattle.mr_wf.specs.Types.{type_of_place}
 use Rattle.mr_eval.specs.Answers.{seen}
 use Rattle.mr_eval.specs.Environment.{Leaves, env_surround}
+use Rattle.mr_eval.specs.Evaluated.{placed, valued}
+use Rattle.mr_eval.specs.Evaluation.{Surround}
 use Rattle.mr_eval.specs.Reads.{Seen}
-use Rattle.mr_frame.proofs.EffectLaws.{assign_went}
+use Rattle.mr_eval.specs.Stores.{stored_typed}
+use Rattle.mr_frame.specs.Effects.{assigned, stored_at}
 use Rattle.mr_frame.proofs.InsideLaws.{assign_place, assign_shape, assign_value}
 use Rattle.mr_frame.proofs.changes.assign.Goals as goal
+
+-- where both sides are found, and the value has the shape of the place's type, the value is stored
+assign_went : (m : Memory) (s : Surround) (place : Place) (value : Value) (seen s1 s2 : Seen) (p : Pointer) (v : Val) (t : Ty)
+    → placed m s place seen ≡ Went p s1 → valued m s value s1 ≡ Went v s2 → type_of_place s.locals place ≡ Some t → has_shape t v ≡ true → assigned m s place value seen ≡ stored_typed m t p v s2
+unfolding assigned
+assign_went m s place value seen s1 s2 p v t at went typed shape =
+    ap (λ (o : Outcome Pointer Seen). on o (λ q l. on (valued m s value l) (λ x last. stored_at m (type_of_place s.locals place) q x last))) at
+    ∙ ap (λ (o : Outcome Val Seen). on o (λ x last. stored_at m (type_of_place s.locals place) p x last)) went
+    ∙ ap (λ (o : Option Ty). stored_at m o p v s2) typed
+    ∙ ap (λ (b : Bool). if b then stored_typed m t p v s2 else Broken) shape
 
 pub place-requires : goal.place-requires
 place-requires c = assign_place c.args.e.now c.args.to.now c.args.«from».now c.requires

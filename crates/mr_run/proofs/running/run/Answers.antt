@@ -1,4 +1,4 @@
-use Rattle.std.proofs.Common.{◌≡◌, ◌≤◌, ◌^◌, ap, arith, length, List, refl, subst, sym}
+use Rattle.std.proofs.Common.{◌≤◌, ◌^◌, ap, arith, length, List, refl, subst, sym}
 use Rattle.mr_sched.specs.declared.schedule.Entry.{Entry}
 use Rattle.mr_run.specs.Runs.{placed}
 use Rattle.mr_run.proofs.Places.{has_place}

@@ -1,0 +1,6 @@
+pub mod Examples
+pub mod PrintedLaws
+pub mod ReorderedLaws
+pub mod RunLaws
+pub mod StatusLaws
+pub mod TracedLaws

@@ -1,0 +1,4 @@
+pub mod Answers
+pub mod Report
+pub mod Running
+pub mod Spelled

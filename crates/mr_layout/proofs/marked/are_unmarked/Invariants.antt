@@ -1,0 +1,7 @@
+use Rattle.std.proofs.Common.{◌≡◌, false, drop}
+use Rattle.mr_layout.specs.Marks.{are_unmarked}
+use Rattle.mr_layout.specs.Rules.{is_past}
+use Rattle.mr_layout.proofs.marked.are_unmarked.Given as goal
+
+abbrev pub invariant-loop-field : goal.invariant-loop-field
+invariant-loop-field l = (are_unmarked l.fields l.table ≡ are_unmarked (drop l.field-index l.fields) l.table) × (is_past l.end (drop l.field-index l.fields) ≡ false)
