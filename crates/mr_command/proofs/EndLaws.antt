@@ -6,7 +6,7 @@ use Rattle.mr_io.specs.Files.{Contents}
 use Rattle.mr_input.specs.declared.written.Written.{Written}
 use Rattle.mr_input.specs.declared.refusal.Refusal.{Refusal}
 use Rattle.mr_input.specs.declared.refusal.Refusal.TheVariants as refusal
-use Rattle.mr_command.specs.Command.{Auto, Big, Check, Command, Offline, Run, Upgrade}
+use Rattle.mr_command.specs.Command.{Command, OfNumber, OfProgram, OfSchedule, OfTrace, Run}
 use Rattle.mr_input.specs.Answer.{Answer, refused, Tells, seen}
 use Rattle.mr_command.specs.Answer.{answer_of}
 use Rattle.mr_command.specs.Answering.{IsAnswered}
@@ -33,35 +33,29 @@ module _ (files : Contents) (files_rose out_rose : Type 0) (old new : Option (Li
   written_ends (Run format program schedule) a (inl tells) written = inr (seen a, inl tells, written)
   written_ends (Run format program schedule) a (inr (rose, inl e)) written = absurd (cc)
   written_ends (Run format program schedule) a (inr (rose, inr (p, read, unbroken, e))) written = absurd (cc)
-  written_ends (Check program) a (inl tells) written = inr (seen a, inl tells, written)
-  written_ends (Check program) a (inr (rose, e)) written = absurd (cc)
-  written_ends (Auto program number most) a (inl tells) written = inr (seen a, inl tells, written)
-  written_ends (Auto program number most) a (inr (rose, e)) written = absurd (cc)
-  written_ends (Big number) a tells written = inr (seen a, inl tells, written)
-  written_ends (Upgrade schedule) a (inl tells) written = inr (seen a, inl tells, written)
-  written_ends (Upgrade schedule) a (inr (rose, e)) written = absurd (cc)
-  written_ends (Offline trace) a (inl tells) written = inr (seen a, inl tells, written)
-  written_ends (Offline trace) a (inr (rose, e)) written = absurd (cc)
+  written_ends (OfProgram saying program) a (inl tells) written = inr (seen a, inl tells, written)
+  written_ends (OfProgram saying program) a (inr (rose, e)) written = absurd (cc)
+  written_ends (OfSchedule schedule) a (inl tells) written = inr (seen a, inl tells, written)
+  written_ends (OfSchedule schedule) a (inr (rose, e)) written = absurd (cc)
+  written_ends (OfTrace trace) a (inl tells) written = inr (seen a, inl tells, written)
+  written_ends (OfTrace trace) a (inr (rose, e)) written = absurd (cc)
+  written_ends (OfNumber number) a tells written = inr (seen a, inl tells, written)
 
   -- a refusal that is defined
+  told_defined : (command : Command) (r : Refusal) → Tells (answer_of files (Some command)) (Err r) → (r ≡ refusal.Memory) ⊎ IsPossible files (Some command) files_rose (refused r)
+  told_defined command r tells = elim (refusal_told (answer_of files (Some command)) r tells) [ inl e ↦ inl e | inr e ↦ inr (inl (sym e)) ]
+
   is_defined : (command : Command) (r : Refusal) → IsAnswered files command files_rose (Err r) → (r ≡ refusal.Memory) ⊎ IsPossible files (Some command) files_rose (refused r)
-  is_defined (Run format program schedule) r (inl tells) =
-      elim (refusal_told (answer_of files (Some (Run format program schedule))) r tells) [ inl e ↦ inl e | inr e ↦ inr (inl (sym e)) ]
+  is_defined (Run format program schedule) r (inl tells) = told_defined (Run format program schedule) r tells
   is_defined (Run format program schedule) r (inr (rose, inl e)) = inr (inr (rose, inl (ap refused (same_refusal e))))
   is_defined (Run format program schedule) r (inr (rose, inr (p, read, unbroken, e))) = inr (inr (rose, inr (p, read, unbroken, ap refused (same_refusal e))))
-  is_defined (Check program) r (inl tells) =
-      elim (refusal_told (answer_of files (Some (Check program))) r tells) [ inl e ↦ inl e | inr e ↦ inr (inl (sym e)) ]
-  is_defined (Check program) r (inr (rose, e)) = inr (inr (rose, ap refused (same_refusal e)))
-  is_defined (Auto program number most) r (inl tells) =
-      elim (refusal_told (answer_of files (Some (Auto program number most))) r tells) [ inl e ↦ inl e | inr e ↦ inr (inl (sym e)) ]
-  is_defined (Auto program number most) r (inr (rose, e)) = inr (inr (rose, ap refused (same_refusal e)))
-  is_defined (Big number) r tells = elim (refusal_told (answer_of files (Some (Big number))) r tells) [ inl e ↦ inl e | inr e ↦ inr (inl (sym e)) ]
-  is_defined (Upgrade schedule) r (inl tells) =
-      elim (refusal_told (answer_of files (Some (Upgrade schedule))) r tells) [ inl e ↦ inl e | inr e ↦ inr (inl (sym e)) ]
-  is_defined (Upgrade schedule) r (inr (rose, e)) = inr (inr (rose, ap refused (same_refusal e)))
-  is_defined (Offline trace) r (inl tells) =
-      elim (refusal_told (answer_of files (Some (Offline trace))) r tells) [ inl e ↦ inl e | inr e ↦ inr (inl (sym e)) ]
-  is_defined (Offline trace) r (inr (rose, e)) = inr (inr (rose, ap refused (same_refusal e)))
+  is_defined (OfProgram saying program) r (inl tells) = told_defined (OfProgram saying program) r tells
+  is_defined (OfProgram saying program) r (inr (rose, e)) = inr (inr (rose, ap refused (same_refusal e)))
+  is_defined (OfSchedule schedule) r (inl tells) = told_defined (OfSchedule schedule) r tells
+  is_defined (OfSchedule schedule) r (inr (rose, e)) = inr (inr (rose, ap refused (same_refusal e)))
+  is_defined (OfTrace trace) r (inl tells) = told_defined (OfTrace trace) r tells
+  is_defined (OfTrace trace) r (inr (rose, e)) = inr (inr (rose, ap refused (same_refusal e)))
+  is_defined (OfNumber number) r tells = told_defined (OfNumber number) r tells
 
   -- nothing was written, or the line of a refusal that isn't for want of memory
   left_or_written : (r : Refusal) → IsRefusedOrLeft r out_rose old new status → IsLeft old new status ⊎ ((r ≡ refusal.Memory → ⊥) × IsWritten (refused r) out_rose old new status)

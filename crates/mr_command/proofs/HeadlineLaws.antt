@@ -10,7 +10,6 @@ use Rattle.mr_grammar.proofs.ParsingLaws.{denotes_parsed, fault_parsed}
 use Rattle.mr_sched.specs.declared.schedule.Schedule.{Schedule}
 use Rattle.mr_sched.specs.declared.version.Version.{Version}
 use Rattle.mr_sched.proofs.TextLaws.{as_read, schedule_again, schedule_fails_at}
-use Rattle.mr_event.specs.declared.footprint.Pair.{Pair}
 use Rattle.mr_event.specs.Predicted.{predicted}
 use Rattle.mr_start.specs.Runs.{Legal, PlacedFault, run_of, steps_of}
 use Rattle.mr_start.proofs.RunLaws.{no_schedule_fault}
@@ -38,12 +37,13 @@ use Rattle.mr_input.specs.Writing.{IsLeft, IsWritten}
 use Rattle.mr_input.proofs.AnswerLaws.{first_told}
 use Rattle.mr_answer.specs.declared.formats.Format.{Format}
 use Rattle.mr_answer.specs.declared.formats.Format.TheVariants as format
-use Rattle.mr_answer.specs.Answers.{big_answer, big_schedule, drawn_answer, ran, legal_run, unless_broken, line_at, listed, reported}
-use Rattle.mr_answer.proofs.StatusLaws.{at_most_one, reported_least, races_least}
-use Rattle.mr_command.specs.Command.{Auto, Big, Check, Command, NamesProgram, Offline, Run, Upgrade}
-use Rattle.mr_command.specs.Answer.{auto_answer, canonical, check_answer, races_in, read_report, shown, report_under, run_answer, upgrade_answer, upgraded, answer_of}
+use Rattle.mr_answer.specs.Answers.{big_answer, big_schedule, ran, legal_run, unless_broken, line_at, listed, reported}
+use Rattle.mr_answer.proofs.StatusLaws.{at_most_one}
+use Rattle.mr_command.specs.declared.command.Saying.{Saying}
+use Rattle.mr_command.specs.Command.{Big, Command, NamesProgram, OfNumber, OfProgram, OfSchedule, OfTrace, Run}
+use Rattle.mr_command.specs.Answer.{races_in, read_report, said, said_answer, shown, report_under, run_answer, upgrade_answer, upgraded, answer_of}
 use Rattle.mr_command.specs.Outcome.{Ends, EndsOverTexts, RanOut, holding, IsPossible, IsUnread}
-use Rattle.mr_command.specs.Named.{ChecksProgram, DrawsFor, IsSoundUnder, NamesRun, NamesBroken, NamesBrokenSchedule, NamesFault, NamesScheduleFault, KeepsResult, ReadsSchedule, RunsProgram, ReportsRun, IsTold, ShowsFirstRace, Upgrades}
+use Rattle.mr_command.specs.Named.{AsksOf, IsSoundUnder, NamesRun, NamesBroken, NamesBrokenSchedule, NamesFault, NamesScheduleFault, KeepsResult, ReadsSchedule, RunsProgram, ReportsRun, IsTold, ShowsFirstRace, Upgrades}
 use Rattle.mr_command.specs.Traces.{NamesTraceFault, Replays}
 
 -- ---- what a file holds
@@ -69,19 +69,12 @@ named_answer files command format p v w h =
     ∙ ap (told (read_report format p)) schedule
     ∙ ap (told (reported format p v w)) legal
 
--- a well-formed program that is checked is answered by its canonical text
-pub checked_answer : (files : Contents) (command : Option Command) (p : Program) → ChecksProgram files command p → answer_of files command ≡ canonical p
-checked_answer files command p h =
-    ap (answer_of files) h.is_check
-    ∙ ap (told check_answer) (denoted_in (files h.name) h.text p h.there h.denotes)
-    ∙ ap (λ faults. form_or p faults (canonical p)) h.well_formed.unbroken
-
--- a well-formed program for which a schedule is drawn is answered by the schedule and its report
-pub auto_answered : (files : Contents) (command : Option Command) (number most : ℕ) (p : Program) → DrawsFor files command number most p → answer_of files command ≡ drawn_answer p (drawn_schedule p number most)
-auto_answered files command number most p h =
-    ap (answer_of files) h.is_auto
-    ∙ ap (told (auto_answer number most)) (denoted_in (files h.name) h.text p h.there h.denotes)
-    ∙ ap (λ faults. form_or p faults (drawn_answer p (drawn_schedule p number most))) h.well_formed.unbroken
+-- a well-formed program is answered by what is said of it
+pub said_answered : (files : Contents) (command : Option Command) (saying : Saying) (p : Program) → AsksOf files command saying p → answer_of files command ≡ said saying p
+said_answered files command saying p h =
+    ap (answer_of files) h.is_asked
+    ∙ ap (told (said_answer saying)) (denoted_in (files h.name) h.text p h.there h.denotes)
+    ∙ ap (λ faults. form_or p faults (said saying p)) h.well_formed.unbroken
 
 -- a well-formed program is run soundly under what is drawn for it
 pub drawn_soundly : (p : Program) (number most : ℕ) → WellFormed p → IsSoundUnder p (drawn_schedule p number most)
@@ -101,9 +94,8 @@ fault_answer files command fault h = go h.names_program
     at = fault_in (files h.name) h.text fault h.there h.first
 
     go : NamesProgram command h.name → answer_of files command ≡ refused (text_refusal fault)
-    go (inl is) = ap (answer_of files) is ∙ ap (told check_answer) at
-    go (inr (inl (number, most, is))) = ap (answer_of files) is ∙ ap (told (auto_answer number most)) at
-    go (inr (inr (format, schedule, is))) = ap (answer_of files) is ∙ ap (told (run_answer format (files schedule))) at
+    go (inl (saying, is)) = ap (answer_of files) is ∙ ap (told (said_answer saying)) at
+    go (inr (format, schedule, is)) = ap (answer_of files) is ∙ ap (told (run_answer format (files schedule))) at
 
 -- the first rule that a program breaks is told by each command
 broken_answer : (files : Contents) (command : Option Command) (p : Program) (fault : FormFault) → NamesBroken files command p fault → answer_of files command ≡ form_answer p fault
@@ -113,10 +105,8 @@ broken_answer files command p fault h = go h.judges
     at = denoted_in (files h.name) h.text p h.there h.denotes
 
     go : NamesProgram command h.name → answer_of files command ≡ form_answer p fault
-    go (inl is) = ap (answer_of files) is ∙ ap (told check_answer) at ∙ first_told p (faults_of p) fault (canonical p) h.first
-    go (inr (inl (number, most, is))) =
-        ap (answer_of files) is ∙ ap (told (auto_answer number most)) at ∙ first_told p (faults_of p) fault (drawn_answer p (drawn_schedule p number most)) h.first
-    go (inr (inr (format, schedule, is))) =
+    go (inl (saying, is)) = ap (answer_of files) is ∙ ap (told (said_answer saying)) at ∙ first_told p (faults_of p) fault (said saying p) h.first
+    go (inr (format, schedule, is)) =
         ap (answer_of files) is
         ∙ ap (told (run_answer format (files schedule))) at
         ∙ first_told p (faults_of p) fault (report_under format (files schedule) p) h.first
@@ -212,11 +202,10 @@ pub unread_status : (files : Contents) (command : Option Command) (a : Answer) �
 unread_status files None a h = absurd h
 unread_status files (Some (Run format program schedule)) a (inl h) = ap (λ (b : Answer). b.status) h
 unread_status files (Some (Run format program schedule)) a (inr h) = ap (λ (b : Answer). b.status) h.3
-unread_status files (Some (Check program)) a h = ap (λ (b : Answer). b.status) h
-unread_status files (Some (Auto program number most)) a h = ap (λ (b : Answer). b.status) h
-unread_status files (Some (Big number)) a h = absurd h
-unread_status files (Some (Upgrade schedule)) a h = ap (λ (b : Answer). b.status) h
-unread_status files (Some (Offline trace)) a h = ap (λ (b : Answer). b.status) h
+unread_status files (Some (OfProgram saying program)) a h = ap (λ (b : Answer). b.status) h
+unread_status files (Some (OfSchedule schedule)) a h = ap (λ (b : Answer). b.status) h
+unread_status files (Some (OfTrace trace)) a h = ap (λ (b : Answer). b.status) h
+unread_status files (Some (OfNumber number)) a h = absurd h
 
 pub written_status : (a : Answer) (rose : Type 0) (old new : Option (List ℕ)) (status : ℕ) → IsWritten a rose old new status → (status ≡ a.status) ⊎ (rose × (status ≡ 7))
 written_status a rose old new status (inl h) = inl h.0
@@ -250,13 +239,9 @@ module _ (files : Contents) (command : Option Command) (files_rose out_rose : Ty
     report = ends_told (reported format p v w (ran p w)) (named_answer files command format p v w h) e;
   }
 
-  pub drawn_told : (number most : ℕ) (p : Program) → DrawsFor files command number most p → Ends files command files_rose out_rose old new status
-      → IsSoundUnder p (drawn_schedule p number most) × IsTold (drawn_answer p (drawn_schedule p number most)) files_rose out_rose old new status
-  drawn_told number most p h e = (drawn_soundly p number most h.well_formed, ends_told (drawn_answer p (drawn_schedule p number most)) (auto_answered files command number most p h) e)
-
-  pub canonical_told : (p : Program) → ChecksProgram files command p → Ends files command files_rose out_rose old new status
-      → IsTold (canonical p) files_rose out_rose old new status
-  canonical_told p h e = ends_told (canonical p) (checked_answer files command p h) e
+  pub said_told : (saying : Saying) (p : Program) → AsksOf files command saying p → Ends files command files_rose out_rose old new status
+      → IsTold (said saying p) files_rose out_rose old new status
+  said_told saying p h e = ends_told (said saying p) (said_answered files command saying p h) e
 
   pub fault_told : (fault : TextFault) → NamesFault files command fault → Ends files command files_rose out_rose old new status
       → IsTold (refused (text_refusal fault)) files_rose out_rose old new status
@@ -287,50 +272,17 @@ module _ (files : Contents) (command : Option Command) (files_rose out_rose : Ty
       → IsTold (upgraded w) files_rose out_rose old new status
   upgraded_told v w h e = ends_told (upgraded w) (upgraded_answer files command v w h) e
 
--- without faults the status is that of the report, unless memory ran out
-pub unless_faults : (format : Format) (p : Program) (v : Version) (w : Schedule) (files_rose out_rose : Type 0) (old new : Option (List ℕ)) (status : ℕ) → ReportsRun format p v w files_rose out_rose old new status
-    → ¬ files_rose → ¬ out_rose → (status ≤ 1) ⊎ (status ≡ 8)
-unless_faults format p v w files_rose out_rose old new status m no_read no_write =
-    elim m.report [
-      | inl written ↦ elim (written_status (reported format p v w (ran p w)) out_rose old new status written) [
-        | inl s ↦ inl (let least = reported_least format p v w (ran p w) in omega arith)
-        | inr f ↦ absurd (no_write f.0)
-      ]
-      | inr left ↦ elim left [
-        | inl l ↦ inr l.0
-        | inr f ↦ absurd (no_read f.0)
-      ]
-    ]
+-- without faults the status is that of the answer, unless memory ran out
+module _ (a : Answer) (files_rose out_rose : Type 0) (old new : Option (List ℕ)) (status : ℕ) where
+  pub unless_faults : IsTold a files_rose out_rose old new status → ¬ files_rose → ¬ out_rose → (status ≡ a.status) ⊎ (status ≡ 8)
+  unless_faults (inl written) no_read no_write =
+      elim (written_status a out_rose old new status written) [ inl s ↦ inl s | inr f ↦ absurd (no_write f.0) ]
+  unless_faults (inr (inl left)) no_read no_write = inr left.0
+  unless_faults (inr (inr f)) no_read no_write = absurd (no_read f.0)
 
--- the same of what is drawn
-pub drawn_unless_faults : (p : Program) (w : Schedule) (files_rose out_rose : Type 0) (old new : Option (List ℕ)) (status : ℕ) → IsTold (drawn_answer p w) files_rose out_rose old new status
-    → ¬ files_rose → ¬ out_rose → (status ≤ 1) ⊎ (status ≡ 8)
-drawn_unless_faults p w files_rose out_rose old new status (inl written) no_read no_write =
-    elim (written_status (drawn_answer p w) out_rose old new status written) [
-      | inl s ↦ inl (let least = at_most_one (run_of p w).verdict (predicted (steps_of p w)) in omega arith)
-      | inr f ↦ absurd (no_write f.0)
-    ]
-drawn_unless_faults p w files_rose out_rose old new status (inr (inl left)) no_read no_write = inr left.0
-drawn_unless_faults p w files_rose out_rose old new status (inr (inr f)) no_read no_write = absurd (no_read f.0)
-
--- the same of races that bytes show
-pub listed_unless_faults : (races : List Pair) (files_rose out_rose : Type 0) (old new : Option (List ℕ)) (status : ℕ) → IsTold (listed races) files_rose out_rose old new status
-    → ¬ files_rose → ¬ out_rose → (status ≤ 1) ⊎ (status ≡ 8)
-listed_unless_faults races files_rose out_rose old new status (inl written) no_read no_write =
-    elim (written_status (listed races) out_rose old new status written) [
-      | inl s ↦ inl (let least = races_least races in omega arith)
-      | inr f ↦ absurd (no_write f.0)
-    ]
-listed_unless_faults races files_rose out_rose old new status (inr (inl left)) no_read no_write = inr left.0
-listed_unless_faults races files_rose out_rose old new status (inr (inr f)) no_read no_write = absurd (no_read f.0)
-
--- the same of a schedule that is upgraded
-pub upgraded_unless_faults : (w : Schedule) (files_rose out_rose : Type 0) (old new : Option (List ℕ)) (status : ℕ) → IsTold (upgraded w) files_rose out_rose old new status
-    → ¬ files_rose → ¬ out_rose → (status ≡ 0) ⊎ (status ≡ 8)
-upgraded_unless_faults w files_rose out_rose old new status (inl written) no_read no_write =
-    elim (written_status (upgraded w) out_rose old new status written) [ inl s ↦ inl s | inr f ↦ absurd (no_write f.0) ]
-upgraded_unless_faults w files_rose out_rose old new status (inr (inl left)) no_read no_write = inr left.0
-upgraded_unless_faults w files_rose out_rose old new status (inr (inr f)) no_read no_write = absurd (no_read f.0)
+  pub least_unless_faults : a.status ≤ 1 → IsTold a files_rose out_rose old new status → ¬ files_rose → ¬ out_rose → (status ≤ 1) ⊎ (status ≡ 8)
+  least_unless_faults least is_told no_read no_write =
+      elim (unless_faults is_told no_read no_write) [ inl s ↦ inl (omega (arith, s, least)) | inr eight ↦ inr eight ]
 
 -- ---- the program of a number
 

@@ -1,4 +1,3 @@
-pub mod BoundLaws
 pub mod EndLaws
 pub mod Examples
 pub mod HeadlineLaws

@@ -17,7 +17,6 @@ use Rattle.mr_start.specs.Runs.{PlacedFault, schedule_fault}
 use Rattle.mr_start.proofs.RunLaws.{legal_schedule}
 use Rattle.mr_wf.specs.declared.fault.FormFault.{FormFault}
 use Rattle.mr_wf.specs.Walk.{WellFormed, faults_of}
-use Rattle.mr_auto.specs.Drawing.{drawn_schedule}
 use Rattle.mr_event.specs.Footprint.{Footprint}
 use Rattle.mr_event.specs.Predicted.{predicted}
 use Rattle.mr_trace.specs.declared.fault.TheConstants.{TOO_LONG}
@@ -25,18 +24,19 @@ use Rattle.mr_trace.specs.Faults.{too_long}
 use Rattle.mr_trace.specs.Reading.{Place, races_in as races_read, trace_of}
 use Rattle.mr_trace.proofs.TraceLaws.{fault_is, trace_is}
 use Rattle.mr_answer.specs.declared.formats.Format.{Format}
-use Rattle.mr_command.specs.Command.{Auto, Check, Command, Offline, Run, Upgrade}
+use Rattle.mr_command.specs.declared.command.Saying.{Saying}
+use Rattle.mr_command.specs.Command.{Command, OfProgram, Offline, Run, Upgrade}
 use Rattle.mr_input.specs.Answer.{Answer, form_or, told}
 use Rattle.mr_input.specs.Inputs.{denoted, program_in, schedule_in, spelled}
-use Rattle.mr_answer.specs.Answers.{Ran, drawn_answer, listed, ran, reported, unless_broken}
-use Rattle.mr_command.specs.Answer.{answer_of, auto_answer, canonical, check_answer, races_in, read_report, report_under, run_answer, shown, upgrade_answer, upgraded}
+use Rattle.mr_answer.specs.Answers.{Ran, listed, ran, reported, unless_broken}
+use Rattle.mr_command.specs.Answer.{answer_of, races_in, read_report, report_under, run_answer, said, said_answer, shown, upgrade_answer, upgraded}
 use Rattle.mr_input.specs.Writing.{IsWhole}
 use Rattle.mr_command.specs.Outcome.{Ends}
-use Rattle.mr_command.specs.Named.{ChecksProgram, DrawsFor, HasScheduleFault, NamesRun, ReportsLegalRun, Upgrades, WritesCanonical, WritesDrawn, WritesUpgraded}
+use Rattle.mr_command.specs.Named.{AsksOf, HasScheduleFault, NamesRun, ReportsLegalRun, Upgrades, WritesSaid, WritesUpgraded}
 use Rattle.mr_command.specs.Showing.{HasBytes, Shown}
 use Rattle.mr_command.specs.Traces.{HasTraceFault, Replays, WritesRaces}
 use Rattle.mr_answer.proofs.StatusLaws.{races_least}
-use Rattle.mr_command.proofs.HeadlineLaws.{auto_answered, checked_answer, named_answer, races_from, ran_out, replayed_answer, unread_status, upgraded_answer}
+use Rattle.mr_command.proofs.HeadlineLaws.{named_answer, races_from, ran_out, replayed_answer, said_answered, unread_status, upgraded_answer}
 use Rattle.mr_command.proofs.ListedLaws.{long_trace}
 use Rattle.mr_command.proofs.StatusLaws.{only_offline}
 
@@ -79,13 +79,9 @@ sound_program_of : (format : Format) (r : Result Program TextFault) (schedule : 
 sound_program_of format (Ok p) schedule s = (p, refl, run_soundly format p schedule s)
 sound_program_of format (Err f) schedule s = let three : 3 ≤ 1 = s in absurd (omega arith)
 
--- what is said of a program that breaks no rule
-abbrev unless_form : (Program → Answer) → Program → Answer
-unless_form say p = form_or p (faults_of p) (say p)
-
-unbroken_program_of : (say : Program → Answer) (r : Result Program TextFault) → (told (unless_form say) (denoted r)).status ≤ 1 → (p : Program) × (r ≡ Ok p) × (faults_of p ≡ [])
-unbroken_program_of say (Ok p) s = (p, refl, (no_broken_rule p (faults_of p) (say p) s).0)
-unbroken_program_of say (Err f) s = let three : 3 ≤ 1 = s in absurd (omega arith)
+unbroken_program_of : (saying : Saying) (r : Result Program TextFault) → (told (said_answer saying) (denoted r)).status ≤ 1 → (p : Program) × (r ≡ Ok p) × (faults_of p ≡ [])
+unbroken_program_of saying (Ok p) s = (p, refl, (no_broken_rule p (faults_of p) (said saying p) s).0)
+unbroken_program_of saying (Err f) s = let three : 3 ≤ 1 = s in absurd (omega arith)
 
 module _ (files : Contents) where
   named_of : (format : Format) (program schedule : List ℕ) (file : Option (List ℕ)) → files program ≡ file → (told (run_answer format (files schedule)) (program_in file)).status ≤ 1
@@ -112,31 +108,15 @@ module _ (files : Contents) where
         },
       )
 
-  checked_of : (program : List ℕ) (file : Option (List ℕ)) → files program ≡ file → (told check_answer (program_in file)).status ≤ 1
-      → (p : Program) × ChecksProgram files (Some (Check program)) p
-  checked_of program None e s = let six : 6 ≤ 1 = s in absurd (omega arith)
-  checked_of program (Some text) e s =
-      let (p, parses, unbroken) = unbroken_program_of canonical (parsed text) s in (
+  said_of : (saying : Saying) (program : List ℕ) (file : Option (List ℕ)) → files program ≡ file → (told (said_answer saying) (program_in file)).status ≤ 1
+      → (p : Program) × AsksOf files (Some (OfProgram saying program)) saying p
+  said_of saying program None e s = let six : 6 ≤ 1 = s in absurd (omega arith)
+  said_of saying program (Some text) e s =
+      let (p, parses, unbroken) = unbroken_program_of saying (parsed text) s in (
         p,
         record {
           name = program;
-          is_check = refl;
-          text = text;
-          there = e;
-          denotes = parsed_denotes text p parses;
-          well_formed = unbroken_well_formed text p parses unbroken;
-        },
-      )
-
-  drawn_of : (program : List ℕ) (number most : ℕ) (file : Option (List ℕ)) → files program ≡ file → (told (auto_answer number most) (program_in file)).status ≤ 1
-      → (p : Program) × DrawsFor files (Some (Auto program number most)) number most p
-  drawn_of program number most None e s = let six : 6 ≤ 1 = s in absurd (omega arith)
-  drawn_of program number most (Some text) e s =
-      let (p, parses, unbroken) = unbroken_program_of (λ p. drawn_answer p (drawn_schedule p number most)) (parsed text) s in (
-        p,
-        record {
-          name = program;
-          is_auto = refl;
+          is_asked = refl;
           text = text;
           there = e;
           denotes = parsed_denotes text p parses;
@@ -224,21 +204,13 @@ module _ (files : Contents) (files_rose out_rose : Type 0) (old new : Option (Li
       let (p, v, w, names) = named_of files format program schedule (files program) refl (small_answer (answer_of files command) whole s) in
       (p, v, w, names, same_whole (answer_of files command) (reported format p v w (ran p w)) (named_answer files command format p v w names) whole)
 
-  check_only : (program : List ℕ) → Ends files (Some (Check program)) files_rose out_rose old new status → status ≤ 1
-      → WritesCanonical files (Some (Check program)) old new status
-  check_only program ends s =
-      let command = Some (Check program) in
+  said_only : (saying : Saying) (program : List ℕ) → Ends files (Some (OfProgram saying program)) files_rose out_rose old new status → status ≤ 1
+      → WritesSaid files (Some (OfProgram saying program)) saying old new status
+  said_only saying program ends s =
+      let command = Some (OfProgram saying program) in
       let whole = whole_answer command ends s in
-      let (p, checks) = checked_of files program (files program) refl (small_answer (answer_of files command) whole s) in
-      (p, checks, same_whole (answer_of files command) (canonical p) (checked_answer files command p checks) whole)
-
-  auto_only : (program : List ℕ) (number most : ℕ) → Ends files (Some (Auto program number most)) files_rose out_rose old new status → status ≤ 1
-      → WritesDrawn files (Some (Auto program number most)) number most old new status
-  auto_only program number most ends s =
-      let command = Some (Auto program number most) in
-      let whole = whole_answer command ends s in
-      let (p, draws) = drawn_of files program number most (files program) refl (small_answer (answer_of files command) whole s) in
-      (p, draws, same_whole (answer_of files command) (drawn_answer p (drawn_schedule p number most)) (auto_answered files command number most p draws) whole)
+      let (p, asks) = said_of files saying program (files program) refl (small_answer (answer_of files command) whole s) in
+      (p, asks, same_whole (answer_of files command) (said saying p) (said_answered files command saying p asks) whole)
 
   upgrade_only : (schedule : List ℕ) → Ends files (Some (Upgrade schedule)) files_rose out_rose old new status → status ≤ 1
       → WritesUpgraded files (Some (Upgrade schedule)) old new status
@@ -281,17 +253,11 @@ module _ (files : Contents) (files_rose out_rose : Type 0) (old new : Option (Li
       let P : Option Command → Type 0 = λ c. Ends files c files_rose out_rose old new status → status ≤ 1 → ReportsLegalRun files c format old new status in
       subst P (sym e) (run_only format program schedule)
 
-  pub only_sound : (command : Option Command) (program : List ℕ) → command ≡ Some (Check program)
-      → Ends files command files_rose out_rose old new status → status ≤ 1 → WritesCanonical files command old new status
-  only_sound command program e =
-      let P : Option Command → Type 0 = λ c. Ends files c files_rose out_rose old new status → status ≤ 1 → WritesCanonical files c old new status in
-      subst P (sym e) (check_only program)
-
-  pub only_drawn : (command : Option Command) (program : List ℕ) (number most : ℕ) → command ≡ Some (Auto program number most)
-      → Ends files command files_rose out_rose old new status → status ≤ 1 → WritesDrawn files command number most old new status
-  only_drawn command program number most e =
-      let P : Option Command → Type 0 = λ c. Ends files c files_rose out_rose old new status → status ≤ 1 → WritesDrawn files c number most old new status in
-      subst P (sym e) (auto_only program number most)
+  pub only_said : (command : Option Command) (saying : Saying) (program : List ℕ) → command ≡ Some (OfProgram saying program)
+      → Ends files command files_rose out_rose old new status → status ≤ 1 → WritesSaid files command saying old new status
+  only_said command saying program e =
+      let P : Option Command → Type 0 = λ c. Ends files c files_rose out_rose old new status → status ≤ 1 → WritesSaid files c saying old new status in
+      subst P (sym e) (said_only saying program)
 
   pub only_upgraded : (command : Option Command) (schedule : List ℕ) → command ≡ Some (Upgrade schedule)
       → Ends files command files_rose out_rose old new status → status ≤ 1 → WritesUpgraded files command old new status

@@ -3,13 +3,17 @@ use Rattle.std.proofs.Common.{ℕ, List}
 use Rattle.std.specs.Prelude.{Option}
 use Rattle.mr_io.specs.Files.{Contents}
 use Rattle.mr_event.specs.Predicted.{predicted}
-use Rattle.mr_auto.specs.Drawing.{drawn_schedule}
+use Rattle.mr_answer.specs.Answers.{listed, ran, reported}
+use Rattle.mr_answer.proofs.StatusLaws.{races_least, reported_least}
+use Rattle.mr_command.specs.Answer.{said, upgraded}
 use Rattle.mr_command.specs.Command.{Command}
+use Rattle.mr_command.specs.declared.command.Saying.TheVariants.{Canonical, Drawn}
 use Rattle.mr_command.specs.Outcome.{Ends}
 use Rattle.mr_command.specs.Promises.{PromisesOfRuns, PromisesOfTexts, PromisesOfTraces}
 use Rattle.mr_command.specs.Showing.{Shown}
 use Rattle.mr_command.proofs.HeadlineLaws as told
 use Rattle.mr_command.proofs.OnlyLaws as only
+use Rattle.mr_command.proofs.StatusLaws.{said_least}
 use Rattle.mr_command.proofs.TraceRuns.{traced_run}
 
 module _ (files : Contents) (command : Option Command) (files_rose out_rose : Type 0) (old new : Option (List ℕ)) (status : ℕ)
@@ -18,25 +22,30 @@ module _ (files : Contents) (command : Option Command) (files_rose out_rose : Ty
   of_runs = record {
     reported = λ format p v w names. told.reports_run files command files_rose out_rose old new status format p v w names ends;
     complete = λ format p v w names.
-        told.unless_faults format p v w files_rose out_rose old new status (told.reports_run files command files_rose out_rose old new status format p v w names ends);
+        told.least_unless_faults (reported format p v w (ran p w)) files_rose out_rose old new status (reported_least format p v w (ran p w))
+        (told.reports_run files command files_rose out_rose old new status format p v w names ends).report;
     only_legal = λ format program schedule is. only.only_legal files files_rose out_rose old new status command format program schedule is ends;
     schedule_fault = λ line code names. told.schedule_fault_told files command files_rose out_rose old new status line code names ends;
     broken_schedule = λ v w fault names. told.broken_schedule_told files command files_rose out_rose old new status v w fault names ends;
-    drawn = λ number most p draws. told.drawn_told files command files_rose out_rose old new status number most p draws ends;
+    drawn = λ number most p draws. (
+      told.drawn_soundly p number most draws.well_formed,
+      told.said_told files command files_rose out_rose old new status (Drawn number most) p draws ends,
+    );
     draws = λ number most p draws.
-        told.drawn_unless_faults p (drawn_schedule p number most) files_rose out_rose old new status (told.drawn_told files command files_rose out_rose old new status number most p draws ends).1;
-    only_drawn = λ program number most is. only.only_drawn files files_rose out_rose old new status command program number most is ends;
+        told.least_unless_faults (said (Drawn number most) p) files_rose out_rose old new status (said_least (Drawn number most) p)
+        (told.said_told files command files_rose out_rose old new status (Drawn number most) p draws ends);
+    only_drawn = λ program number most is. only.only_said files files_rose out_rose old new status command (Drawn number most) program is ends;
   }
 
   pub of_texts : PromisesOfTexts files command files_rose out_rose old new status
   of_texts = record {
-    canonical = λ p checks. told.canonical_told files command files_rose out_rose old new status p checks ends;
-    only_sound = λ program is. only.only_sound files files_rose out_rose old new status command program is ends;
+    canonical = λ p checks. told.said_told files command files_rose out_rose old new status Canonical p checks ends;
+    only_sound = λ program is. only.only_said files files_rose out_rose old new status command Canonical program is ends;
     text_fault = λ fault names. told.fault_told files command files_rose out_rose old new status fault names ends;
     form = λ p fault names. told.form_told files command files_rose out_rose old new status p fault names ends;
     upgraded = λ v w upgrades. told.upgraded_told files command files_rose out_rose old new status v w upgrades ends;
     upgrades = λ v w upgrades.
-        told.upgraded_unless_faults w files_rose out_rose old new status (told.upgraded_told files command files_rose out_rose old new status v w upgrades ends);
+        told.unless_faults (upgraded w) files_rose out_rose old new status (told.upgraded_told files command files_rose out_rose old new status v w upgrades ends);
     only_upgraded = λ schedule is. only.only_upgraded files files_rose out_rose old new status command schedule is ends;
     only_text = λ schedule is. only.only_text files files_rose out_rose old new status command schedule is ends;
   }
@@ -46,7 +55,8 @@ module _ (files : Contents) (command : Option Command) (files_rose out_rose : Ty
     traced = λ p v w names. traced_run files command p v w status names shows;
     replayed = λ run replays. told.replayed_told files command files_rose out_rose old new status run replays ends;
     replays = λ run replays.
-        told.listed_unless_faults (predicted run) files_rose out_rose old new status (told.replayed_told files command files_rose out_rose old new status run replays ends);
+        told.least_unless_faults (listed (predicted run)) files_rose out_rose old new status (races_least (predicted run))
+        (told.replayed_told files command files_rose out_rose old new status run replays ends);
     only_replayed = λ trace is. only.only_replayed files files_rose out_rose old new status command trace is shows ends;
     trace_fault = λ at code names. told.trace_fault_told files command files_rose out_rose old new status at code names ends;
     only_fault = only.only_fault files files_rose out_rose old new status command shows ends;

@@ -11,7 +11,8 @@ use Rattle.mr_input.specs.declared.refusal.Refusal.{Refusal}
 use Rattle.mr_input.specs.declared.refusal.Refusal.TheVariants as refusal
 use Rattle.mr_input.specs.Answer.{Answer, form_or, told, Tells}
 use Rattle.mr_input.specs.Inputs.{program_in, schedule_in, Gives, IsRead}
-use Rattle.mr_command.specs.Answer.{report_under, run_answer, upgrade_answer}
+use Rattle.mr_command.specs.declared.command.Saying.{Saying}
+use Rattle.mr_command.specs.Answer.{report_under, run_answer, said_answer, upgrade_answer}
 use Rattle.mr_command.specs.Answering.{IsFormOrReport, IsReported, IsSaid, IsUpgraded, TellsOrUnread}
 use Rattle.mr_command.specs.Outcome.{holding}
 
@@ -56,10 +57,10 @@ pub unread_over : (format : Format) (program : List ℕ) (r : Refusal) (rose : T
 unread_over format program r rose (inl h) = inl (refused_over (run_answer format (Some [])) (program_in (Some program)) r h)
 unread_over format program r rose (inr (rises, e)) = inr (rises, inl (ap Err (same_refusal e)))
 
-pub unsaid_over : (say : Program → Answer) (program : List ℕ) (r : Refusal) (rose : Type 0) → IsRead {A = Program} rose refusal.ReadProgram (Err r) (program_in (Some program))
-    → IsSaid say (holding program []) (codes "program") rose (Err r)
-unsaid_over say program r rose (inl h) = inl (refused_over say (program_in (Some program)) r h)
-unsaid_over say program r rose (inr (rises, e)) = inr (rises, ap Err (same_refusal e))
+pub unsaid_over : (saying : Saying) (program : List ℕ) (r : Refusal) (rose : Type 0) → IsRead {A = Program} rose refusal.ReadProgram (Err r) (program_in (Some program))
+    → IsSaid saying (holding program []) (codes "program") rose (Err r)
+unsaid_over saying program r rose (inl h) = inl (refused_over (said_answer saying) (program_in (Some program)) r h)
+unsaid_over saying program r rose (inr (rises, e)) = inr (rises, ap Err (same_refusal e))
 
 -- a schedule that was read is upgraded, and what refuses its text is told
 pub upgraded_over : (schedule : List ℕ) (r : Read) (rose : Type 0) (result : Result Written Refusal) → schedule_in (Some schedule) ≡ Ok r → Tells (upgrade_answer r) result

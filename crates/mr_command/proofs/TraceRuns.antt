@@ -19,7 +19,7 @@ use Rattle.mr_input.specs.Writing.{IsLeft, IsRefusedOrLeft, IsWritten}
 use Rattle.mr_answer.specs.declared.formats.Format.{Format}
 use Rattle.mr_answer.specs.declared.formats.Format.TheVariants as format
 use Rattle.mr_answer.specs.Spelled.{IsSpelled}
-use Rattle.mr_command.specs.Command.{Auto, Big, Check, Command, Offline, Run, Upgrade}
+use Rattle.mr_command.specs.Command.{Command, OfNumber, OfProgram, OfSchedule, OfTrace, Run}
 use Rattle.mr_command.specs.Named.{NamesRun}
 use Rattle.mr_command.specs.Showing.{HasBytes, IsOfBytes, IsSpelledBy, Shown, Shows, ShowsBy}
 use Rattle.mr_command.proofs.HeadlineLaws.{denoted_in}
@@ -87,11 +87,10 @@ spelled_by (format.Shuffled number) p w a status h = tt
 pub shows_written : (files : Contents) (command : Command) (a : Written) (status : ℕ) → Shows files command (Ok a) → ShowsBy files command status
 shows_written files (Run form program schedule) a status shows =
     λ p r reads unbroken spells. spelled_by form p r.schedule a status (shows p r reads unbroken spells)
-shows_written files (Check program) a status shows = tt
-shows_written files (Auto program number most) a status shows = tt
-shows_written files (Big number) a status shows = tt
-shows_written files (Upgrade schedule) a status shows = tt
-shows_written files (Offline trace) a status shows = λ either. shows
+shows_written files (OfProgram saying program) a status shows = tt
+shows_written files (OfSchedule schedule) a status shows = tt
+shows_written files (OfTrace trace) a status shows = λ either. shows
+shows_written files (OfNumber number) a status shows = tt
 
 -- a status that is neither that of races nor of a fault of bytes
 neither : (n status : ℕ) → status ≡ n → 2 ≤ n → n ≤ 8 → (status ≤ 1) ⊎ (status ≡ 9) → ⊥
@@ -140,11 +139,10 @@ module _ (rose : Type 0) (old new : Option (List ℕ)) (status : ℕ) where
   -- and so does what refuses
   pub shows_refused : (files : Contents) (command : Command) (r : Refusal) → Shows files command (Err r) → IsRefusedOrLeft r rose old new status → ShowsBy files command status
   shows_refused files (Run form program schedule) r shows h = λ p x reads unbroken spells. unwritten form p x.schedule (refused_least r h)
-  shows_refused files (Check program) r shows h = tt
-  shows_refused files (Auto program number most) r shows h = tt
-  shows_refused files (Big number) r shows h = tt
-  shows_refused files (Upgrade schedule) r shows h = tt
-  shows_refused files (Offline trace) r shows h = unlisted (files trace) r shows h
+  shows_refused files (OfProgram saying program) r shows h = tt
+  shows_refused files (OfSchedule schedule) r shows h = tt
+  shows_refused files (OfTrace trace) r shows h = unlisted (files trace) r shows h
+  shows_refused files (OfNumber number) r shows h = tt
 
 -- ---- the run that a command names
 

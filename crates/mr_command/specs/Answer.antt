@@ -18,7 +18,9 @@ use Rattle.mr_input.specs.Inputs.{program_in, schedule_in}
 use Rattle.mr_input.specs.Answer.{Answer, told, form_or}
 use Rattle.mr_answer.specs.declared.formats.Format.{Format}
 use Rattle.mr_answer.specs.Answers.{drawn_answer, big_answer, run_report, listed}
-use Rattle.mr_command.specs.Command.{Auto, Big, Check, Command, Offline, Run, Upgrade}
+use Rattle.mr_command.specs.Command.{Command, OfNumber, OfProgram, OfSchedule, OfTrace, Run}
+use Rattle.mr_command.specs.declared.command.Saying.{Saying}
+use Rattle.mr_command.specs.declared.command.Saying.TheVariants.{Canonical, Drawn}
 
 -- the races that bytes show, or their first fault, as a refusal
 abbrev pub shown : Result (List Pair) Place → Result (List Pair) Refusal
@@ -34,13 +36,15 @@ races_in (Some bytes) = shown (races_of bytes)
 abbrev pub canonical : Program → Answer
 canonical p = record { text = canonical_text p; status = 0 }
 
--- what is said of a program that is checked: its canonical text, where it breaks no rule
-abbrev pub check_answer : Program → Answer
-check_answer p = form_or p (faults_of p) (canonical p)
+-- what is said of a program that breaks no rule: its canonical text; or the schedule that is drawn for it, and its
+-- report
+abbrev pub said : Saying → Program → Answer
+said Canonical p = canonical p
+said (Drawn number most) p = drawn_answer p (drawn_schedule p number most)
 
--- what is said of a program for which a schedule is drawn: the schedule and the report, where it breaks no rule
-abbrev pub auto_answer : ℕ → ℕ → Program → Answer
-auto_answer number most p = form_or p (faults_of p) (drawn_answer p (drawn_schedule p number most))
+-- the same of any program: the line of the first rule that it breaks, where it breaks one
+abbrev pub said_answer : Saying → Program → Answer
+said_answer saying p = form_or p (faults_of p) (said saying p)
 
 -- the report of the run of a program under a schedule that was read, or the first rule that the schedule breaks
 abbrev pub read_report : Format → Program → Read → Answer
@@ -76,8 +80,7 @@ abbrev pub answer_of : Contents → Option Command → Answer
 answer_of files None = usage
 answer_of files (Some (Run format program schedule)) =
     told (run_answer format (files schedule)) (program_in (files program))
-answer_of files (Some (Check program)) = told check_answer (program_in (files program))
-answer_of files (Some (Auto program number most)) = told (auto_answer number most) (program_in (files program))
-answer_of files (Some (Big number)) = big_answer number
-answer_of files (Some (Upgrade schedule)) = told upgrade_answer (schedule_in (files schedule))
-answer_of files (Some (Offline trace)) = told listed (races_in (files trace))
+answer_of files (Some (OfProgram saying program)) = told (said_answer saying) (program_in (files program))
+answer_of files (Some (OfSchedule schedule)) = told upgrade_answer (schedule_in (files schedule))
+answer_of files (Some (OfTrace trace)) = told listed (races_in (files trace))
+answer_of files (Some (OfNumber number)) = big_answer number

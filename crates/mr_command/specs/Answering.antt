@@ -10,8 +10,9 @@ use Rattle.mr_input.specs.Answer.{Answer, told, Tells}
 use Rattle.mr_input.specs.Inputs.{program_in, schedule_in}
 use Rattle.mr_answer.specs.declared.formats.Format.{Format}
 use Rattle.mr_answer.specs.Answers.{big_answer, listed}
-use Rattle.mr_command.specs.Answer.{auto_answer, check_answer, races_in, run_answer, upgrade_answer}
-use Rattle.mr_command.specs.Command.{Auto, Big, Check, Command, Offline, Run, Upgrade}
+use Rattle.mr_command.specs.Answer.{races_in, run_answer, said_answer, upgrade_answer}
+use Rattle.mr_command.specs.Command.{Command, OfNumber, OfProgram, OfSchedule, OfTrace, Run}
+use Rattle.mr_command.specs.declared.command.Saying.{Saying}
 use Rattle.mr_command.specs.Outcome.{holding, over_holding}
 
 -- or the read of the schedule failed
@@ -39,9 +40,9 @@ IsReported files format program schedule rose result =
     ⊎ (rose × IsUnreadHere files program result)
 
 -- what is said of the program in a file, or what refuses it; or the read failed
-abbrev pub IsSaid : (Program → Answer) → Contents → List ℕ → Type 0 → Result Written Refusal → Type 0
-IsSaid say files program rose result =
-    Tells (told say (program_in (files program))) result
+abbrev pub IsSaid : Saying → Contents → List ℕ → Type 0 → Result Written Refusal → Type 0
+IsSaid saying files program rose result =
+    Tells (told (said_answer saying) (program_in (files program))) result
     ⊎ (rose × (result ≡ Err refusal.ReadProgram))
 
 -- a schedule's file has some text, of which a program that is read is answered
@@ -63,11 +64,10 @@ IsListed files trace rose result = IsListedOf (files trace) rose result
 -- how a command is answered
 abbrev pub IsAnswered : Contents → Command → Type 0 → Result Written Refusal → Type 0
 IsAnswered files (Run format program schedule) rose result = IsReported files format program schedule rose result
-IsAnswered files (Check program) rose result = IsSaid check_answer files program rose result
-IsAnswered files (Auto program number most) rose result = IsSaid (auto_answer number most) files program rose result
-IsAnswered files (Big number) rose result = Tells (big_answer number) result
-IsAnswered files (Upgrade schedule) rose result = IsUpgraded files schedule rose result
-IsAnswered files (Offline trace) rose result = IsListed files trace rose result
+IsAnswered files (OfProgram saying program) rose result = IsSaid saying files program rose result
+IsAnswered files (OfSchedule schedule) rose result = IsUpgraded files schedule rose result
+IsAnswered files (OfTrace trace) rose result = IsListed files trace rose result
+IsAnswered files (OfNumber number) rose result = Tells (big_answer number) result
 
 -- there are texts of the named files of which a command is answered so
 abbrev pub IsAnsweredOverTexts : Command → Type 0 → Result Written Refusal → Type 0

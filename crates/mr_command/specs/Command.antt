@@ -5,18 +5,38 @@ use Rattle.mr_answer.specs.declared.formats.Format.{Format}
 use Rattle.mr_answer.specs.declared.formats.Format.TheVariants.{Footprints, Json, Short, Shuffled, Text}
 use Rattle.mr_command.specs.declared.command.Command.{Command as Words}
 use Rattle.mr_command.specs.declared.command.Command.TheVariants as words
+use Rattle.mr_command.specs.declared.command.Saying.{Saying}
+use Rattle.mr_command.specs.declared.command.Saying.TheVariants.{Canonical, Drawn}
 
--- What is asked for: a run of the program in one file under the schedule in another, with its report in a format; the
--- canonical text of the program in a file; a schedule of it that is drawn from a number, with at most so many entries;
--- a run of the program of a number; the schedule in a file, written in version 2; or the races that a trace in a file
--- shows.
+-- What is asked for, by the files that are read for it: a run of the program in one file under the schedule in another,
+-- with its report in a format; something that is said of the program in a file; the schedule in a file, written in
+-- version 2; the races that the trace in a file shows; or, of no file, a run of the program of a number.
 pub data Command : Type 0 where
   Run : (format : Format) (program schedule : List ℕ) → Command
-  Check : (program : List ℕ) → Command
-  Auto : (program : List ℕ) (number most : ℕ) → Command
-  Big : (number : ℕ) → Command
-  Upgrade : (schedule : List ℕ) → Command
-  Offline : (trace : List ℕ) → Command
+  OfProgram : (saying : Saying) (program : List ℕ) → Command
+  OfSchedule : (schedule : List ℕ) → Command
+  OfTrace : (trace : List ℕ) → Command
+  OfNumber : (number : ℕ) → Command
+
+-- `check P`: the canonical text of the program in a file
+abbrev pub Check : List ℕ → Command
+Check program = OfProgram Canonical program
+
+-- `auto P N M`: a schedule of it that is drawn from a number, with at most so many entries, and its report
+abbrev pub Auto : List ℕ → ℕ → ℕ → Command
+Auto program number most = OfProgram (Drawn number most) program
+
+-- `upgrade S`: the schedule in a file, written in version 2
+abbrev pub Upgrade : List ℕ → Command
+Upgrade schedule = OfSchedule schedule
+
+-- `offline T`: the races that the trace in a file shows
+abbrev pub Offline : List ℕ → Command
+Offline trace = OfTrace trace
+
+-- `big N`: a run of the program of a number
+abbrev pub Big : ℕ → Command
+Big number = OfNumber number
 
 -- the format of the report that this word asks for
 abbrev pub format_of : List ℕ → Option Format
@@ -68,42 +88,43 @@ command_of (word ∷ name ∷ []) =
 command_of _ = None
 
 -- a schedule is drawn of at most 2^20 entries
+abbrev pub IsWithin : Saying → Type 0
+IsWithin Canonical = Unit {0}
+IsWithin (Drawn number most) = most ≤ 2 ^ 20
+
+-- what is said of a program keeps its limits
 abbrev pub IsBounded : Command → Type 0
 IsBounded (Run format program schedule) = Unit {0}
-IsBounded (Check program) = Unit {0}
-IsBounded (Auto program number most) = most ≤ 2 ^ 20
-IsBounded (Big number) = Unit {0}
-IsBounded (Upgrade schedule) = Unit {0}
-IsBounded (Offline trace) = Unit {0}
+IsBounded (OfProgram saying program) = IsWithin saying
+IsBounded (OfSchedule schedule) = Unit {0}
+IsBounded (OfTrace trace) = Unit {0}
+IsBounded (OfNumber number) = Unit {0}
 
 -- how many files the words name
 abbrev pub named_files : Option Command → ℕ
 named_files None = 0
 named_files (Some (Run format program schedule)) = 2
-named_files (Some (Check program)) = 1
-named_files (Some (Auto program number most)) = 1
-named_files (Some (Big number)) = 0
-named_files (Some (Upgrade schedule)) = 1
-named_files (Some (Offline trace)) = 1
+named_files (Some (OfProgram saying program)) = 1
+named_files (Some (OfSchedule schedule)) = 1
+named_files (Some (OfTrace trace)) = 1
+named_files (Some (OfNumber number)) = 0
 
 -- the command names this file for the program
 abbrev pub NamesProgram : Option Command → List ℕ → Type 0
 NamesProgram command program =
-    (command ≡ Some (Check program))
-    ⊎ ((number : ℕ) × (most : ℕ) × (command ≡ Some (Auto program number most)))
+    ((saying : Saying) × (command ≡ Some (OfProgram saying program)))
     ⊎ ((format : Format) × (schedule : List ℕ) × (command ≡ Some (Run format program schedule)))
 
 -- the command names this file for the schedule
 abbrev pub NamesSchedule : Option Command → List ℕ → Type 0
 NamesSchedule command schedule =
-    (command ≡ Some (Upgrade schedule))
+    (command ≡ Some (OfSchedule schedule))
     ⊎ ((format : Format) × (program : List ℕ) × (command ≡ Some (Run format program schedule)))
 
 -- the command that the words ask for
 abbrev pub asked : Words → Command
 asked (words.Run format program schedule) = Run format program.now schedule.now
-asked (words.Check program) = Check program.now
-asked (words.Auto program number most) = Auto program.now number most
-asked (words.Big number) = Big number
-asked (words.Upgrade schedule) = Upgrade schedule.now
-asked (words.Offline trace) = Offline trace.now
+asked (words.OfProgram saying program) = OfProgram saying program.now
+asked (words.OfSchedule schedule) = OfSchedule schedule.now
+asked (words.OfTrace trace) = OfTrace trace.now
+asked (words.OfNumber number) = OfNumber number

@@ -11,12 +11,13 @@ use Rattle.mr_sched.specs.Faults.{FirstFault as FirstScheduleFault}
 use Rattle.mr_sched.specs.declared.version.Version.{Version}
 use Rattle.mr_sched.specs.Versions.{Schedules}
 use Rattle.mr_start.specs.Runs.{Legal, IsSoundRun, PlacedFault, schedule_fault, steps_of}
-use Rattle.mr_auto.specs.Drawing.{drawn_schedule}
 use Rattle.mr_wf.specs.declared.fault.FormFault.{FormFault}
 use Rattle.mr_wf.specs.Walk.{FirstBroken, WellFormed, faults_of}
 use Rattle.mr_answer.specs.declared.formats.Format.{Format}
 use Rattle.mr_answer.specs.declared.formats.Format.TheVariants.{Footprints, Json, Short, Shuffled, Text}
-use Rattle.mr_command.specs.Command.{Auto, Check, Command, NamesProgram, NamesSchedule, Offline, Run, Upgrade}
+use Rattle.mr_command.specs.Command.{Command, NamesProgram, NamesSchedule, OfProgram, Offline, Run, Upgrade}
+use Rattle.mr_command.specs.declared.command.Saying.{Saying}
+use Rattle.mr_command.specs.declared.command.Saying.TheVariants.{Canonical, Drawn}
 use Rattle.mr_event.specs.declared.footprint.Pair.{Pair}
 use Rattle.mr_event.specs.Predicted.{predicted}
 use Rattle.mr_exchange.specs.Witness.{IsWitness}
@@ -26,8 +27,8 @@ use Rattle.mr_event.specs.Order.{IsPredicted, IsRearrangement}
 use Rattle.mr_run.specs.Witnesses.{witness_by}
 use Rattle.mr_input.specs.Answer.{Answer}
 use Rattle.mr_input.specs.Inputs.{program_in}
-use Rattle.mr_answer.specs.Answers.{drawn_answer, ran, reported, selection_of}
-use Rattle.mr_command.specs.Answer.{canonical, upgraded}
+use Rattle.mr_answer.specs.Answers.{ran, reported, selection_of}
+use Rattle.mr_command.specs.Answer.{said, upgraded}
 use Rattle.mr_input.specs.Writing.{IsLeft, IsWhole, IsWritten}
 
 -- a read failed and was told, or the write of that failed
@@ -133,19 +134,27 @@ pub record NamesBrokenSchedule (files : Contents) (command : Option Command) (v 
 
 -- ---- texts
 
--- the command is to check a file whose text denotes the program, which is well-formed
-pub record ChecksProgram (files : Contents) (command : Option Command) (p : Program) : Type 0 where
+-- the command asks for this of a file whose text denotes the program, which is well-formed
+pub record AsksOf (files : Contents) (command : Option Command) (saying : Saying) (p : Program) : Type 0 where
   pub name : List ℕ
-  pub is_check : command ≡ Some (Check name)
+  pub is_asked : command ≡ Some (OfProgram saying name)
   pub text : List ℕ
   pub there : files name ≡ Some text
   pub denotes : Denotes text p
   pub well_formed : WellFormed p
 
+-- A file denotes a well-formed program; and what is said of it was written whole.
+abbrev pub WritesSaid : Contents → Option Command → Saying → Option (List ℕ) → Option (List ℕ) → ℕ → Type 0
+WritesSaid files command saying old new status =
+    (p : Program) × AsksOf files command saying p × IsWhole (said saying p) old new status
+
+-- the command is to check a file whose text denotes the program, which is well-formed
+abbrev pub ChecksProgram : Contents → Option Command → Program → Type 0
+ChecksProgram files command p = AsksOf files command Canonical p
+
 -- A file denotes a well-formed program; and its whole canonical text was written.
 abbrev pub WritesCanonical : Contents → Option Command → Option (List ℕ) → Option (List ℕ) → ℕ → Type 0
-WritesCanonical files command old new status =
-    (p : Program) × ChecksProgram files command p × IsWhole (canonical p) old new status
+WritesCanonical files command old new status = WritesSaid files command Canonical old new status
 
 -- the command names a file of a program whose text has this first fault
 pub record NamesFault (files : Contents) (command : Option Command) (fault : TextFault) : Type 0 where
@@ -168,19 +177,12 @@ pub record NamesBroken (files : Contents) (command : Option Command) (p : Progra
 -- ---- drawn schedules
 
 -- the command is to draw a schedule for a file whose text denotes the program, which is well-formed
-pub record DrawsFor (files : Contents) (command : Option Command) (number most : ℕ) (p : Program) : Type 0 where
-  pub name : List ℕ
-  pub is_auto : command ≡ Some (Auto name number most)
-  pub text : List ℕ
-  pub there : files name ≡ Some text
-  pub denotes : Denotes text p
-  pub well_formed : WellFormed p
+abbrev pub DrawsFor : Contents → Option Command → ℕ → ℕ → Program → Type 0
+DrawsFor files command number most p = AsksOf files command (Drawn number most) p
 
 -- A file denotes a well-formed program; and the schedule that is drawn for it was written whole, with its report.
 abbrev pub WritesDrawn : Contents → Option Command → ℕ → ℕ → Option (List ℕ) → Option (List ℕ) → ℕ → Type 0
-WritesDrawn files command number most old new status =
-    (p : Program) × DrawsFor files command number most p
-    × IsWhole (drawn_answer p (drawn_schedule p number most)) old new status
+WritesDrawn files command number most old new status = WritesSaid files command (Drawn number most) old new status
 
 -- The schedule is legal, no step under it is ill-formed, and the witness brings the machine to the first race.
 pub record IsSoundUnder (p : Program) (w : Schedule) : Type 0 where

@@ -7,7 +7,7 @@ use Rattle.mr_input.specs.declared.refusal.Refusal.TheVariants as refusal
 use Rattle.mr_input.specs.Answer.{Answer, refused}
 use Rattle.mr_input.specs.Inputs.{program_in}
 use Rattle.mr_input.specs.Writing.{IsWritten}
-use Rattle.mr_command.specs.Command.{Auto, Big, Check, Command, Offline, Run, Upgrade}
+use Rattle.mr_command.specs.Command.{Command, OfNumber, OfProgram, OfSchedule, OfTrace, Run}
 use Rattle.mr_command.specs.Answer.{answer_of, usage}
 
 -- A read failed, which is counted: that of the program, or that of the schedule; where the command names a program, only
@@ -17,11 +17,10 @@ IsUnread files None a = ⊥
 IsUnread files (Some (Run format program schedule)) a =
     (a ≡ refused refusal.ReadProgram)
     ⊎ ((p : Program) × (program_in (files program) ≡ Ok p) × (faults_of p ≡ []) × (a ≡ refused refusal.ReadSchedule))
-IsUnread files (Some (Check program)) a = a ≡ refused refusal.ReadProgram
-IsUnread files (Some (Auto program number most)) a = a ≡ refused refusal.ReadProgram
-IsUnread files (Some (Big number)) a = ⊥
-IsUnread files (Some (Upgrade schedule)) a = a ≡ refused refusal.ReadSchedule
-IsUnread files (Some (Offline trace)) a = a ≡ refused refusal.ReadTrace
+IsUnread files (Some (OfProgram saying program)) a = a ≡ refused refusal.ReadProgram
+IsUnread files (Some (OfSchedule schedule)) a = a ≡ refused refusal.ReadSchedule
+IsUnread files (Some (OfTrace trace)) a = a ≡ refused refusal.ReadTrace
+IsUnread files (Some (OfNumber number)) a = ⊥
 
 -- the answer by definition, or that of a read that failed where the count of faults of the files rose
 abbrev pub IsPossible : Contents → Option Command → Type 0 → Answer → Type 0
@@ -47,11 +46,10 @@ holding program schedule name =
 -- The same command over these files. A trace, which is read alone, stands where a schedule would.
 abbrev pub over_holding : Command → Command
 over_holding (Run format program schedule) = Run format (codes "program") (codes "schedule")
-over_holding (Check program) = Check (codes "program")
-over_holding (Auto program number most) = Auto (codes "program") number most
-over_holding (Big number) = Big number
-over_holding (Upgrade schedule) = Upgrade (codes "schedule")
-over_holding (Offline trace) = Offline (codes "schedule")
+over_holding (OfProgram saying program) = OfProgram saying (codes "program")
+over_holding (OfSchedule schedule) = OfSchedule (codes "schedule")
+over_holding (OfTrace trace) = OfTrace (codes "schedule")
+over_holding (OfNumber number) = OfNumber number
 
 -- How a call ends over files that don't tell what they hold: there are texts of the named files of which it ends as
 -- defined.

@@ -14,7 +14,7 @@ use Rattle.mr_input.specs.Inputs.{program_in, schedule_in}
 use Rattle.mr_answer.specs.declared.formats.Format.{Format}
 use Rattle.mr_answer.specs.declared.formats.Format.TheVariants.{Footprints, Json, Short, Shuffled, Text}
 use Rattle.mr_answer.specs.Spelled.{IsSpelled}
-use Rattle.mr_command.specs.Command.{Auto, Big, Check, Command, Offline, Run, Upgrade}
+use Rattle.mr_command.specs.Command.{Command, OfNumber, OfProgram, OfSchedule, OfTrace, Run}
 
 -- the file has bytes, or more of them than are read
 abbrev pub HasBytes : Option (List ℕ) → Type 0
@@ -37,11 +37,10 @@ abbrev pub Shows : Contents → Command → Result Written Refusal → Type 0
 Shows files (Run format program schedule) result =
     (p : Program) (r : Read) → program_in (files program) ≡ Ok p → faults_of p ≡ []
     → schedule_in (files schedule) ≡ Ok r → IsSpelled format p r.schedule result
-Shows files (Check program) result = Unit {0}
-Shows files (Auto program number most) result = Unit {0}
-Shows files (Big number) result = Unit {0}
-Shows files (Upgrade schedule) result = Unit {0}
-Shows files (Offline trace) result = IsOfBytes (files trace) result
+Shows files (OfProgram saying program) result = Unit {0}
+Shows files (OfSchedule schedule) result = Unit {0}
+Shows files (OfTrace trace) result = IsOfBytes (files trace) result
+Shows files (OfNumber number) result = Unit {0}
 
 -- the same, by the status
 abbrev pub IsSpelledBy : Format → Program → Schedule → ℕ → Type 0
@@ -55,11 +54,10 @@ abbrev pub ShowsBy : Contents → Command → ℕ → Type 0
 ShowsBy files (Run format program schedule) status =
     (p : Program) (r : Read) → program_in (files program) ≡ Ok p → faults_of p ≡ []
     → schedule_in (files schedule) ≡ Ok r → IsSpelledBy format p r.schedule status
-ShowsBy files (Check program) status = Unit {0}
-ShowsBy files (Auto program number most) status = Unit {0}
-ShowsBy files (Big number) status = Unit {0}
-ShowsBy files (Upgrade schedule) status = Unit {0}
-ShowsBy files (Offline trace) status = (status ≤ 1) ⊎ (status ≡ 9) → HasBytes (files trace)
+ShowsBy files (OfProgram saying program) status = Unit {0}
+ShowsBy files (OfSchedule schedule) status = Unit {0}
+ShowsBy files (OfTrace trace) status = (status ≤ 1) ⊎ (status ≡ 9) → HasBytes (files trace)
+ShowsBy files (OfNumber number) status = Unit {0}
 
 -- and by the words, where they are a command
 abbrev pub Shown : Contents → Option Command → ℕ → Type 0

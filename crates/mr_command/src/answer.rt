@@ -1,5 +1,5 @@
 //! The answer to a command: what is written, and the exit status, or why there is none.
-ghost use Rattle.std.specs.Prelude.{◌≡◌, ◌+◌, ◌^◌, ◌≤◌, ℕ, List, [], None, Some, Ok, Err, IfOk};
+ghost use Rattle.std.specs.Prelude.{◌≡◌, ◌+◌, ◌≤◌, ℕ, List, [], None, Some, Ok, Err, IfOk};
 ghost use Rattle.mr_io.specs.Counts.{Rose};
 ghost use Rattle.mr_io.specs.Files.{Contents};
 ghost use Rattle.mr_ast.specs.declared.program.Program.{Program as AstProgram};
@@ -9,14 +9,14 @@ ghost use Rattle.mr_wf.specs.Walk.{faults_of};
 ghost use Rattle.mr_input.specs.Answer.{IsStatus, Tells};
 ghost use Rattle.mr_input.specs.Inputs.{program_in, schedule_in, IsUnreadFault};
 ghost use Rattle.mr_answer.specs.Answers.{big_answer};
-ghost use Rattle.mr_command.specs.Answer.{auto_answer, canonical, check_answer, report_under, upgrade_answer};
+ghost use Rattle.mr_command.specs.Answer.{canonical, report_under, said, said_answer, upgrade_answer};
 ghost use Rattle.mr_command.specs.Answering.{IsAnswered, IsAnsweredOverTexts, IsFormOrReport, IsReported, IsRunOverText, IsSaid, IsUpgraded, TellsOrUnread};
-ghost use Rattle.mr_command.specs.Command.{asked, named_files, Auto, Check, IsBounded, NamesProgram, Run, Upgrade};
+ghost use Rattle.mr_command.specs.Command.{asked, named_files, IsBounded, IsWithin, NamesProgram, OfProgram, OfSchedule, Run};
 ghost use Rattle.mr_command.specs.Named.{AsksForSchedule};
 ghost use Rattle.mr_answer.specs.Spelled.{IsSpelled};
 ghost use Rattle.mr_command.specs.Showing.{Shows};
 
-use crate::command::Command;
+use crate::command::{Command, Saying};
 use crate::listed::listed_file;
 use mr_answer::{Format, drawn, report_run, summary};
 use mr_ast::Program;
@@ -57,15 +57,10 @@ pub fn answer<F: Files>(
             program,
             schedule,
         } => report_files(alloc, files, format, program, schedule),
-        Command::Check { program } => canonical_file(alloc, files, program),
-        Command::Auto {
-            program,
-            number,
-            most,
-        } => drawn_file(alloc, files, program, number, most),
-        Command::Big { number } => big(alloc, number),
-        Command::Upgrade { schedule } => upgraded_file(alloc, files, schedule),
-        Command::Offline { trace } => listed_file(alloc, files, trace),
+        Command::OfProgram { saying, program } => said_file(alloc, files, saying, program),
+        Command::OfSchedule { schedule } => upgraded_file(alloc, files, schedule),
+        Command::OfTrace { trace } => listed_file(alloc, files, trace),
+        Command::OfNumber { number } => big(alloc, number),
     }
 }
 
@@ -164,65 +159,68 @@ fn report_schedule<F: Files>(
     }
 }
 
-// The canonical text of the program in a file, where it breaks no rule.
-fn canonical_file<F: Files>(alloc: Global, files: &mut F, program: &str) -> Result<Written, Refusal>
-    ensures same { F.told files.new ≡ F.told files.old }
-    ensures reads { F.reads files.new ≤ F.reads files.old + 1 }
-    ensures faults { F.faults files.old ≤ F.faults files.new }
-    ensures answer { (contents : Contents) → F.told files.old ≡ Some contents
-        → IsSaid check_answer contents program.now (Rose (F.faults files.old) (F.faults files.new)) result }
-    ensures status { IfOk result (λ a. IsStatus a.status) }
-    ensures texts { F.told files.old ≡ None
-        → IsAnsweredOverTexts (Check program.now) (Rose (F.faults files.old) (F.faults files.new)) result }
-    ensures untold { F.told files.old ≡ None → IsUnreadFault result
-        → Rose (F.faults files.old) (F.faults files.new) }
-{
-    match read_program(alloc, files, program) {
-        Ok(p) => check(alloc, p),
-        Err(refusal) => Err(refusal),
-    }
-}
-
-// The schedule that is drawn for the program in a file, and the report of the run under it.
-fn drawn_file<F: Files>(
+// What is said of the program in a file, where it breaks no rule.
+fn said_file<F: Files>(
     alloc: Global,
     files: &mut F,
+    saying: Saying,
     program: &str,
-    number: u64,
-    most: u32,
 ) -> Result<Written, Refusal>
-    requires { most ≤ 2 ^ 20 }
+    requires { IsWithin saying }
     ensures same { F.told files.new ≡ F.told files.old }
     ensures reads { F.reads files.new ≤ F.reads files.old + 1 }
     ensures faults { F.faults files.old ≤ F.faults files.new }
     ensures answer { (contents : Contents) → F.told files.old ≡ Some contents
-        → IsSaid (auto_answer number most) contents program.now
-        (Rose (F.faults files.old) (F.faults files.new)) result }
+        → IsSaid saying contents program.now (Rose (F.faults files.old) (F.faults files.new)) result }
     ensures status { IfOk result (λ a. IsStatus a.status) }
     ensures texts { F.told files.old ≡ None
-        → IsAnsweredOverTexts (Auto program.now number most) (Rose (F.faults files.old) (F.faults files.new)) result }
+        → IsAnsweredOverTexts (OfProgram saying program.now) (Rose (F.faults files.old) (F.faults files.new)) result }
     ensures untold { F.told files.old ≡ None → IsUnreadFault result
         → Rose (F.faults files.old) (F.faults files.new) }
 {
     match read_program(alloc, files, program) {
-        Ok(p) => draw_for(alloc, p, number, most),
+        Ok(p) => judged(alloc, saying, p),
         Err(refusal) => Err(refusal),
     }
 }
 
-// The schedule that is drawn for a program that breaks no rule, and else the line of the first rule that it breaks.
-fn draw_for(alloc: Global, p: Program, number: u64, most: u32) -> Result<Written, Refusal>
+// What is said of a program that breaks no rule, and else the line of the first rule that it breaks.
+fn judged(alloc: Global, saying: Saying, p: Program) -> Result<Written, Refusal>
     requires shaped { Shaped p }
-    requires few { most ≤ 2 ^ 20 }
-    ensures answer { Tells (auto_answer number most p) result }
+    requires within { IsWithin saying }
+    ensures answer { Tells (said_answer saying p) result }
     ensures status { IfOk result (λ a. IsStatus a.status) }
     ensures read { ¬ IsUnreadFault result }
 {
     match well_formed(alloc, p) {
-        Ok(checked) => answered(drawn(alloc, &checked, number, most)),
+        Ok(checked) => said(alloc, saying, &checked),
         Err(WfFault::Form { fault, program }) => form_answer(alloc, &program, fault),
         Err(WfFault::Memory) => Err(Refusal::Memory),
     }
+}
+
+// What is said of a program that breaks no rule.
+fn said(alloc: Global, saying: Saying, p: &Checked) -> Result<Written, Refusal>
+    requires { IsWithin saying }
+    ensures answer { Tells (said saying p.now) result }
+    ensures status { IfOk result (λ a. IsStatus a.status) }
+    ensures read { ¬ IsUnreadFault result }
+{
+    match saying {
+        Saying::Canonical => canonical(alloc, p.program()),
+        Saying::Drawn { number, most } => Ok(drawn(alloc, p, number, most)?),
+    }
+}
+
+// The canonical text of a program.
+fn canonical(alloc: Global, p: &Program) -> Result<Written, Refusal>
+    ensures answer { Tells (canonical p.now) result }
+    ensures status { IfOk result (λ a. IsStatus a.status) }
+    ensures read { ¬ IsUnreadFault result }
+{
+    let mut text = Vec::new(alloc);
+    mr_print::print(alloc, p, &mut text)?;
+    Ok(Written { text, status: 0 })
 }
 
 // The schedule in a file, written in version 2.
@@ -234,7 +232,7 @@ fn upgraded_file<F: Files>(alloc: Global, files: &mut F, schedule: &str) -> Resu
         → IsUpgraded contents schedule.now (Rose (F.faults files.old) (F.faults files.new)) result }
     ensures status { IfOk result (λ a. IsStatus a.status) }
     ensures texts { F.told files.old ≡ None
-        → IsAnsweredOverTexts (Upgrade schedule.now) (Rose (F.faults files.old) (F.faults files.new)) result }
+        → IsAnsweredOverTexts (OfSchedule schedule.now) (Rose (F.faults files.old) (F.faults files.new)) result }
     ensures untold { F.told files.old ≡ None → IsUnreadFault result
         → Rose (F.faults files.old) (F.faults files.new) }
 {
@@ -267,29 +265,4 @@ fn big(alloc: Global, number: u64) -> Result<Written, Refusal>
         Err(WfFault::Form { .. }) => unreachable!(),
         Err(WfFault::Memory) => Err(Refusal::Memory),
     }
-}
-
-// The canonical text of a program that breaks no rule, and else the line of the first rule that it breaks.
-fn check(alloc: Global, p: Program) -> Result<Written, Refusal>
-    requires { Shaped p }
-    ensures answer { Tells (check_answer p) result }
-    ensures status { IfOk result (λ a. IsStatus a.status) }
-    ensures read { ¬ IsUnreadFault result }
-{
-    match well_formed(alloc, p) {
-        Ok(checked) => canonical(alloc, checked.program()),
-        Err(WfFault::Form { fault, program }) => form_answer(alloc, &program, fault),
-        Err(WfFault::Memory) => Err(Refusal::Memory),
-    }
-}
-
-// The canonical text of a program.
-fn canonical(alloc: Global, p: &Program) -> Result<Written, Refusal>
-    ensures answer { Tells (canonical p.now) result }
-    ensures status { IfOk result (λ a. IsStatus a.status) }
-    ensures read { ¬ IsUnreadFault result }
-{
-    let mut text = Vec::new(alloc);
-    mr_print::print(alloc, p, &mut text)?;
-    Ok(Written { text, status: 0 })
 }

@@ -9,7 +9,7 @@ ghost use Rattle.mr_input.specs.Inputs.{IsUnreadFault};
 ghost use Rattle.mr_answer.specs.Answers.{listed};
 ghost use Rattle.mr_command.specs.Answer.{shown};
 ghost use Rattle.mr_command.specs.Answering.{IsAnsweredOverTexts, IsListed, IsListedOf};
-ghost use Rattle.mr_command.specs.Command.{Offline};
+ghost use Rattle.mr_command.specs.Command.{OfTrace};
 ghost use Rattle.mr_command.specs.Showing.{IsOfBytes};
 
 use mr_answer::listing;
@@ -28,7 +28,7 @@ pub fn listed_file<F: Files>(alloc: Global, files: &mut F, trace: &str) -> Resul
     ensures bytes { (contents : Contents) → F.told files.old ≡ Some contents → IsOfBytes (contents trace.now) result }
     ensures status { IfOk result (λ a. IsStatus a.status) }
     ensures texts { F.told files.old ≡ None
-        → IsAnsweredOverTexts (Offline trace.now) (Rose (F.faults files.old) (F.faults files.new)) result }
+        → IsAnsweredOverTexts (OfTrace trace.now) (Rose (F.faults files.old) (F.faults files.new)) result }
     ensures untold { F.told files.old ≡ None → IsUnreadFault result
         → Rose (F.faults files.old) (F.faults files.new) }
 {
