@@ -25,7 +25,8 @@ impl Termination for Ending {
     }
 }
 
-/// Does what the words behind the program's name ask for, and ends with the status of that: with 8 or 10 where there are none.
+/// Does what the words behind the program's name ask for, and ends with the status of that: with 8 or 10 where there
+/// are none.
 pub fn run<C: Caller, F: Files, O: Sink>(
     alloc: Global,
     caller: &C,

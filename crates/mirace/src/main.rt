@@ -1,8 +1,9 @@
-//! The program `mirace`. `mirace run P S` writes the report of the run of a program under a recorded schedule; the head of `mr_command`
-//! has the other forms: `json`, `short`, `shuffle`, `trace`, `offline`, `check`, `auto`, `big` and `upgrade`.
+//! The program `mirace`. `mirace run P S` writes the report of the run of a program under a recorded schedule; the head
+//! of `mr_command` has the other forms: `json`, `short`, `shuffle`, `trace`, `offline`, `check`, `auto`, `big` and
+//! `upgrade`.
 //!
-//! The public call is [`mirace`], over files and a sink, whose promises are its clauses; the library `mr_command` does what it asks
-//! for. `run` asks for the words and makes the end of the process (`src/ending.rt`), which `main` returns.
+//! The public call is [`mirace`], over files and a sink, whose promises are its clauses; the library `mr_command` does
+//! what it asks for. `run` asks for the words and makes the end of the process (`src/ending.rt`), which `main` returns.
 #![tactic(auto)]
 
 ghost use Rattle.std.specs.Prelude.{◌≡◌, ℕ, ◌+◌, ◌≤◌, ◌⊎◌, List, ◌++◌, None, Some, map, string_bytes};
@@ -29,11 +30,11 @@ use crate::ending::{Ending, run};
 use mr_io::{Files, HostFiles, HostOut, Sink};
 use std::alloc::Global;
 
-/// Does what the words behind the program's name ask for, and answers the exit status: 0 or 1 of a report, 0 of a canonical text or of a
-/// schedule in version 2, or of the bytes of a run, 0 or 1 of the races that such bytes show,
-/// 2 of words without a form, 3 of a text that denotes no program, 4 of a program that breaks a rule
-/// of well-formedness, 5 of a schedule, 6 of a file that was not read, 7 of a failed write, 8 where memory ran out and 9 of
-/// bytes that are no trace.
+/// Does what the words behind the program's name ask for, and answers the exit status: 0 or 1 of a report, 0 of a
+/// canonical text or of a schedule in version 2, or of the bytes of a run, 0 or 1 of the races that such bytes show, 2
+/// of words without a form, 3 of a text that denotes no program, 4 of a program that breaks a rule of well-formedness,
+/// 5 of a schedule, 6 of a file that was not read, 7 of a failed write, 8 where memory ran out and 9 of bytes that are
+/// no trace.
 pub fn mirace<F: Files, O: Sink>(alloc: Global, words: &[String], files: &mut F, out: &mut O) -> u8
     // What is written and answered, over files that tell what they hold.
     ensures ends { (contents : Contents) → F.told files.old ≡ Some contents

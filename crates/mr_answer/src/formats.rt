@@ -11,7 +11,7 @@ pub enum Format {
     Short,
     /// The footprints of the completed steps, as bytes.
     Footprints,
-    /// Line by line; and where no race is listed, behind the schedule in an order that is drawn from a number, of the run
-    /// in that order.
+    /// Line by line; and where no race is listed, behind the schedule in an order that is drawn from a number, of the
+    /// run in that order.
     Shuffled { number: u64 },
 }

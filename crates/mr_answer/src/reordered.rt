@@ -21,8 +21,8 @@ use mr_step::Machine;
 use mr_wf::Checked;
 use std::alloc::{AllocError, Global};
 
-/// The report of the run of a program under a schedule; where no race is listed, the schedule in an order that is drawn from the
-/// number, and the report of the run in that order.
+/// The report of the run of a program under a schedule; where no race is listed, the schedule in an order that is drawn
+/// from the number, and the report of the run in that order.
 pub fn report_shuffled(
     alloc: Global,
     p: &Checked,

@@ -15,7 +15,6 @@ use Rattle.mr_base.specs.Accesses.{races, some_race}
 use Rattle.mr_event.specs.Footprint.{Footprint}
 use Rattle.mr_base.specs.Identities.{same_id}
 use Rattle.mr_event.specs.Footprints.{lock_of, same_number, spawns, wakes}
-use Rattle.mr_event.specs.Order.{step_at, thread_at}
 use Rattle.mr_clocks.specs.declared.keys.Key.{Key}
 use Rattle.mr_clocks.specs.declared.keys.Key.TheVariants.{Lock, Creation, Spawning, Starts, Joins, Made, Touched, Range, Wakes}
 use Rattle.mr_clocks.specs.declared.rows.Row.{Row}
@@ -349,14 +348,14 @@ race_from_range f g r h e =
 
 -- ---- the places of the rows of a step's keys
 
-pub places_from : (run : List Footprint) (rows : List Row) (places : List ℕ) (keys : List Key) (j thread : ℕ) → keys ≡ keys_noted (step_at run j) → thread ≡ thread_at run j → length places ≡ length keys → ((y : ℕ) (d : Key) → y < length keys → IsRowFor rows (slice_index places y) (slice_index_or keys y d) thread) → ArePlaces run rows places j
-places_from run rows places keys j thread are of many each =
+pub places_from : (step : Footprint) (rows : List Row) (places : List ℕ) (keys : List Key) (thread : ℕ) → keys ≡ keys_noted step → thread ≡ step.thread → length places ≡ length keys → ((y : ℕ) (d : Key) → y < length keys → IsRowFor rows (slice_index places y) (slice_index_or keys y d) thread) → ArePlaces step rows places
+places_from step rows places keys thread are of many each =
     record {
       each = λ y lt.
           let r = each y Creation (omega (arith, lt, many)) in
-          (r.within, r.of_thread ∙ of, ap (notes (step_at run j)) (r.of_key ∙ ap (λ (l : List Key). get_or l y Creation) are) ∙ each_noted (step_at run j) y Creation (let long = ap length are in omega (arith, lt, many, long)));
+          (r.within, r.of_thread ∙ of, ap (notes step) (r.of_key ∙ ap (λ (l : List Key). get_or l y Creation) are) ∙ each_noted step y Creation (let long = ap length are in omega (arith, lt, many, long)));
       all = λ key noted.
-          let c = noted_listed (step_at run j) key noted in
+          let c = noted_listed step key noted in
           let long = ap length are in
           let lt : c.0 < length keys = omega (arith, c.1, long) in
           let r = each c.0 key lt in

@@ -1,10 +1,12 @@
 pub mod Chains
+pub mod Each
 pub mod Edges
 pub mod Kept
 pub mod KeyLaws
 pub mod KeyLists
 pub mod Longer
 pub mod MarkLaws
+pub mod MemoLaws
 pub mod Noting
 pub mod Parts
 pub mod RowLaws

@@ -22,11 +22,9 @@ use Rattle.mr_clocks.specs.declared.keys.Key.TheVariants.{Lock, Creation, Spawni
 use Rattle.mr_clocks.specs.declared.index.Mark.{Mark}
 use Rattle.mr_clocks.specs.declared.index.Shelf.{Shelf}
 use Rattle.mr_clocks.specs.declared.rows.Row.{Row}
-use Rattle.mr_event.specs.Footprint.{Footprint}
-use Rattle.mr_event.specs.Order.{step_at}
-use Rattle.mr_clocks.specs.Keys.{IsExact, asks}
+use Rattle.mr_clocks.specs.Keys.{IsExact}
 use Rattle.mr_clocks.specs.Marks.{AreKept, AreMarked, IsMarked, IsOnShelf, IsShelfOf, has_mark, mark_cmp, mark_of, no_shelf, place_of, shelf_at, shelf_of}
-use Rattle.mr_clocks.specs.Rows.{AreAllAsked, HaveKeysOf, IsGrown, IsListed, IsRowFor, no_row, row_at}
+use Rattle.mr_clocks.specs.Rows.{HaveKeysOf, IsGrown, IsListed, IsRowFor, no_row, row_at}
 
 -- ---- the order of marks
 
@@ -368,9 +366,3 @@ pub keys_all : (shelves : List Shelf) (marks : List Mark) (keys : List Key) (i :
 keys_all shelves marks keys i found long all key x exact c m =
     let inside = c.1 in
     all key c.0 x (omega (arith, inside, long)) (subst (λ (k : Key). IsExact k) (sym c.2) exact) (subst (λ (k : Key). IsMarked shelves marks k x) (sym c.2) m)
-
--- each row that a step asks is among those that were found
-pub all_asked : (run : List Footprint) (j : ℕ) (shelves : List Shelf) (marks : List Mark) (rows same : List Row) (found equal : List ℕ) → AreMarked shelves marks rows → same ≡ rows → equal ≡ found → ((key : Key) (x : ℕ) → asks (step_at run j) key ≡ true → IsMarked shelves marks key x → IsListed found x) → AreAllAsked run same equal j
-all_asked run j shelves marks rows same found equal marked is_rows is_found all =
-    subst (λ (l : List ℕ). AreAllAsked run same l j) (sym is_found)
-    (subst (λ (l : List Row). AreAllAsked run l found j) (sym is_rows) (λ x lt it_asks. all (row_at rows x).key x it_asks (marked x lt)))

@@ -255,7 +255,7 @@ pub keys_same : (rows : List Row) → HaveKeysOf rows rows
 keys_same rows = record { many = refl; key = λ x. refl; thread = λ x. refl }
 
 -- the step is noted in all its rows
-pub partly_ends : (run : List Footprint) (j : ℕ) (first rows : List Row) (links : List Link) (places : List ℕ) → ArePartly run j rows links → ArePlaces run first places j → HaveKeysOf first rows → ((y : ℕ) → y < length places → IsKept links (row_at rows (slice_index places y)).last j) → AreRows run (j + 1) rows links
+pub partly_ends : (run : List Footprint) (j : ℕ) (first rows : List Row) (links : List Link) (places : List ℕ) → ArePartly run j rows links → ArePlaces (step_at run j) first places → HaveKeysOf first rows → ((y : ℕ) → y < length places → IsKept links (row_at rows (slice_index places y)).last j) → AreRows run (j + 1) rows links
 partly_ends run j first rows links places p at keys kept =
     record {
       chained = p.chained;
@@ -357,7 +357,7 @@ pub longer_none : (links : List Link) → AreLonger links links
 longer_none links = ([], sym (append-nil links))
 
 -- one place more is noted
-pub noted_more : (run : List Footprint) (j y : ℕ) (first rows rows' : List Row) (links links' : List Link) (places : List ℕ) → ArePartly run j rows links → ArePlaces run first places j → HaveKeysOf first rows → y < length places → IsNoted rows links (slice_index places y) j rows' links' → ((z : ℕ) → z < y → IsKept links (row_at rows (slice_index places z)).last j) → ArePartly run j rows' links' × HaveKeysOf first rows' × ((z : ℕ) → z < y + 1 → IsKept links' (row_at rows' (slice_index places z)).last j)
+pub noted_more : (run : List Footprint) (j y : ℕ) (first rows rows' : List Row) (links links' : List Link) (places : List ℕ) → ArePartly run j rows links → ArePlaces (step_at run j) first places → HaveKeysOf first rows → y < length places → IsNoted rows links (slice_index places y) j rows' links' → ((z : ℕ) → z < y → IsKept links (row_at rows (slice_index places z)).last j) → ArePartly run j rows' links' × HaveKeysOf first rows' × ((z : ℕ) → z < y + 1 → IsKept links' (row_at rows' (slice_index places z)).last j)
 noted_more run j y first rows rows' links links' places p at keys lt n kept =
     let x = slice_index places y in
     let place = at.each y lt in

@@ -1,12 +1,13 @@
 -- The clock of a step, made from those of the steps that an edge leads from.
-use Rattle.std.proofs.Common.{◌≡◌, ◌≢◌, ℕ, suc, ◌<◌, ◌≤◌, ◌-◌, List, [], slice_index, sym, ◌∙◌, ap, subst, inl, inr, ◌⊎◌, arith}
+use Rattle.std.proofs.Common.{◌≡◌, ◌≢◌, ℕ, suc, ◌<◌, ◌≤◌, ◌-◌, Bool, false, List, [], slice_index, sym, ◌∙◌, ap, subst, inl, inr, ◌⊎◌, arith}
 use native.Mathlib.Decide.{ℕ_discrete, dec_lt}
+use Rattle.std.specs.Prelude.{Option, Some, None, MatchOption}
 use Rattle.mr_event.specs.Footprint.{Footprint}
 use Rattle.mr_event.specs.Order.{thread_at, Edge, HappensBefore}
 use Rattle.mr_event.specs.Order.Edge.{in_thread}
 use Rattle.mr_event.specs.Order.HappensBefore.{edge, chain}
 use Rattle.mr_event.proofs.Ordered.{last_edge, Edge-before, HappensBefore-before}
-use Rattle.mr_clocks.specs.Clocks.{IsUnder, IsClockOf, IsPart, AreUnder, AreClocks, AreLatest, Follows, clock_at}
+use Rattle.mr_clocks.specs.Clocks.{IsUnder, IsClockOf, IsMade, IsPart, AreUnder, AreClocks, AreLatest, Follows, clock_at}
 
 -- the first step of its thread knows nothing
 pub part_of_none : (run : List Footprint) (clock : List ℕ) (j : ℕ) → ((t : ℕ) → slice_index clock t ≡ 0) → ((p : ℕ) → p < j → thread_at run p ≢ thread_at run j) → IsPart run clock j
@@ -164,6 +165,16 @@ pub part_of_first : (run : List Footprint) (j : ℕ) (latest clock : List ℕ) �
 part_of_first run j latest clock a none is =
     part_of_none run clock j (λ t. ap (λ (l : List ℕ). slice_index l t) is)
     (λ p lt same. let number = ap (slice_index latest) same in omega (arith, a.covers p lt, number, none))
+
+-- what is made for step j where its clock is told unless it didn't change
+pub made_of : (run : List Footprint) (clocks : List (List ℕ)) (numbers clock : List ℕ) (next j : ℕ) (changed : Bool) (made : Option (List ℕ)) → IsClockOf run clock j → (changed ≡ false → 0 < next → clock ≡ clock_at clocks numbers (next - 1)) → MatchOption made ((changed ≡ false) × (0 < next)) (λ c. c ≡ clock) → IsMade run clocks numbers next made j
+made_of run clocks numbers clock next j changed None here same none = record { some = none.1; clock = subst (λ l. IsClockOf run l j) (same none.0 none.1) here }
+made_of run clocks numbers clock next j changed (Some c) here same is = subst (λ l. IsClockOf run l j) (sym is) here
+
+-- where no clock is made there is a step before
+pub made_some : (run : List Footprint) (clocks : List (List ℕ)) (numbers : List ℕ) (next j : ℕ) (made : Option (List ℕ)) → IsMade run clocks numbers next made j → MatchOption made (0 < next) (λ _. Unit {0})
+made_some run clocks numbers next j None m = m.some
+made_some run clocks numbers next j (Some c) m = tt
 
 -- of two steps of one thread the earlier one happens before the later one
 pub before_in_thread : (run : List Footprint) (i k : ℕ) → i < k → thread_at run i ≡ thread_at run k → HappensBefore run i k

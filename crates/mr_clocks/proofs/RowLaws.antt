@@ -65,28 +65,37 @@ shared_key run m j next n apart e =
     ]
 
 -- each step with an edge to j lies under the clock, where that holds of the rows that j asks
-pub seen_rows : (run : List Footprint) (rows : List Row) (links : List Link) (found clock : List ℕ) (j next : ℕ) → AreRows run j rows links → AreAllAsked run rows found j → IsNext run j next → ((y : ℕ) → y < length found → IsPlaceSeen run rows links (slice_index found y) clock j) → AreUnder run clock 0 j
+pub seen_rows : (run : List Footprint) (rows : List Row) (links : List Link) (found clock : List ℕ) (j next : ℕ) → AreRows run j rows links → AreAllAsked (step_at run j) rows found → IsNext run j next → ((y : ℕ) → y < length found → IsPlaceSeen run rows links (slice_index found y) clock j) → AreUnder run clock 0 j
 seen_rows run rows links found clock j next a asked n seen = λ m low e apart.
     let t = shared_key run m j next n apart e in
     let h = a.held m t.0 (Edge-before e) t.1 in
     let it_asks = ap (asks (step_at run j)) h.of_key ∙ t.2 in
-    let f = asked h.row h.within it_asks in
+    let other : (row_at rows h.row).thread ≢ thread_at run j = λ same. apart (sym h.of_thread ∙ same) in
+    let f = asked h.row h.within other it_asks in
     let here = subst (λ (x : ℕ). IsPlaceSeen run rows links x clock j) f.2 (seen f.0 f.1) in
     let k = h.kept in
     let counts : Counts (row_at rows h.row).key (step_at run m) (step_at run j) =
     subst (λ (q : Key). Counts q (step_at run m) (step_at run j)) (sym h.of_key) t.4 in
-    let under = here h.within (λ same. apart (sym h.of_thread ∙ same)) it_asks (ap (λ (q : Key). key_races q (step_at run j)) h.of_key ∙ t.3) k.link k.inside
+    let under = here h.within other it_asks (ap (λ (q : Key). key_races q (step_at run j)) h.of_key ∙ t.3) k.link k.inside
     (subst (λ (q : ℕ). Edge run q j) (sym k.is) e)
     (subst (λ (q : ℕ). Counts (row_at rows h.row).key (step_at run q) (step_at run j)) (sym k.is) counts) in
     subst (λ (q : ℕ). IsUnder run clock q) k.is under
 
+-- each step of a row is known to a clock that knows the latest one
+pub known_place : (run : List Footprint) (rows : List Row) (links : List Link) (x j top : ℕ) (clock : List ℕ) → AreRows run j rows links → (row_at rows x).last ≡ top + 1 → step_of links top < slice_index clock (row_at rows x).thread → IsPlaceSeen run rows links x clock j
+known_place run rows links x j top clock a at known = λ inside apart it_asks none k here e counts.
+    let each = a.each x inside in
+    let most = in_most links a.chained top k (row_at rows x).last at each.last here in
+    let number = ap (slice_index clock) (each.steps k here).thread in
+    omega (arith, most, known, number)
+
 -- a number beyond the latest steps of the rows that j asks, where these are partners, is beyond all partners
-pub greatest_rows : (run : List Footprint) (rows : List Row) (links : List Link) (found : List ℕ) (j best : ℕ) → AreRows run j rows links → AreAllAsked run rows found j → ((y : ℕ) → y < length found → IsPlaceBeyond run rows links (slice_index found y) j best) → (m : ℕ) → RacePair run m j → m < best
+pub greatest_rows : (run : List Footprint) (rows : List Row) (links : List Link) (found : List ℕ) (j best : ℕ) → AreRows run j rows links → AreAllAsked (step_at run j) rows found → ((y : ℕ) → y < length found → IsPlaceBeyond run rows links (slice_index found y) j best) → (m : ℕ) → RacePair run m j → m < best
 greatest_rows run rows links found j best a asked beyond m r =
     let t = race_shares (step_at run m) (step_at run j) r.races.race in
     let h = a.held m (Range t.0) r.before t.1 in
     let asks_it = any_weaker (races t.0) (conflicts t.0) (λ x e. (and_parts _ _ e).1) (step_at run j).accesses t.2 in
-    let f = asked h.row h.within (ap (asks (step_at run j)) h.of_key ∙ asks_it) in
+    let f = asked h.row h.within (λ same. r.races.apart (sym h.of_thread ∙ same)) (ap (asks (step_at run j)) h.of_key ∙ asks_it) in
     let k = h.kept in
     let row = row_at rows h.row in
     let each = a.each h.row h.within in

@@ -2,10 +2,9 @@
 use Rattle.std.proofs.Common.{◌≡◌, ℕ, ◌+◌, ◌<◌, ◌≤◌, ◌⊎◌, inl, inr, List, [], ◌∷◌, ◌++◌, Bool, true, length, length-append, get_or, set, take, slice_index, refl, sym, ◌∙◌, ap, subst, arith}
 use Rattle.std.specs.List.{Contains, list_any}
 use Rattle.std.proofs.lemmas.Bool.{both_ways}
-use Rattle.std.proofs.lemmas.List.{get_or-set_other, get_or-set_same, get_or-take, get_or_append_left, get_or_push, get_or_read, length-set}
+use Rattle.std.proofs.lemmas.List.{get_or-take, get_or_append_left, get_or_push, get_or_read}
 use Rattle.std.proofs.lemmas.List.Elements.{Contains-append_left, Contains-push, Contains-push_cases}
 use Rattle.std.proofs.lemmas.List.Folds.{Any-from_list_any, list_any_at}
-use native.Mathlib.Decide.{ℕ_discrete}
 use Rattle.mr_base.specs.declared.access.Access.{Access}
 use Rattle.mr_base.specs.Accesses.{races, some_race}
 use Rattle.mr_event.specs.Footprint.{Footprint}
@@ -17,6 +16,7 @@ use Rattle.mr_clocks.specs.Clocks.{IsUnder}
 use Rattle.mr_clocks.specs.Keys.{IsWakes}
 use Rattle.mr_clocks.specs.Rows.{AreLinks, AreLonger, IsIn, IsOfRow, IsRow, IsRowSeen, link_at, step_of}
 use Rattle.mr_clocks.specs.Skips.{AreAmong, AreSkips, IsServing, IsSkip, IsWalking, RacesBy, no_skip, skip_at}
+use Rattle.mr_clocks.proofs.Each.{each_pushed, each_set}
 use Rattle.mr_clocks.proofs.Chains.{in_behind, in_cases, in_here, in_less, in_low, in_more, in_most, in_none, link_left}
 
 -- ---- accesses by which steps race
@@ -72,30 +72,10 @@ pub skips_none : (run : List Footprint) (n : ℕ) (links : List Link) (skips : L
 skips_none run n links skips e = λ x lt. let none = ap length e in absurd (omega (arith, lt, none))
 
 pub skips_push : (run : List Footprint) (n : ℕ) (links : List Link) (skips new : List (ℕ × ℕ × List Access)) (skip : ℕ × ℕ × List Access) → new ≡ skips ++ skip ∷ [] → AreSkips run n links skips → IsSkip run n links skip → AreSkips run n links new
-skips_push run n links skips new skip e all own = λ x lt.
-    elim (ℕ_discrete x (length skips)) [
-      | yes is ↦
-          let same : skip_at new x ≡ skip = ap (λ (l : List (ℕ × ℕ × List Access)). skip_at l x) e ∙ get_or_push skips skip no_skip x (sym is) in
-          subst (λ (s : ℕ × ℕ × List Access). IsSkip run n links s) (sym same) own
-      | no ne ↦
-          let long = ap length e in
-          let low : x < length skips = omega (arith, lt, ne, long, length-append skips (skip ∷ [])) in
-          let same : skip_at new x ≡ skip_at skips x = ap (λ (l : List (ℕ × ℕ × List Access)). skip_at l x) e ∙ get_or_append_left skips (skip ∷ []) no_skip x low in
-          subst (λ (s : ℕ × ℕ × List Access). IsSkip run n links s) (sym same) (all x low)
-    ]
+skips_push run n links skips new skip e all own = each_pushed (IsSkip run n links) no_skip skip skips new e all own
 
-pub skips_set : (run : List Footprint) (n : ℕ) (links : List Link) (skips new : List (ℕ × ℕ × List Access)) (slot : ℕ) (skip : ℕ × ℕ × List Access) → slot < length skips → new ≡ set skips slot skip → AreSkips run n links skips → IsSkip run n links skip → AreSkips run n links new
-skips_set run n links skips new slot skip inside e all own = λ x lt.
-    elim (ℕ_discrete x slot) [
-      | yes is ↦
-          let same : skip_at new x ≡ skip = ap (λ (l : List (ℕ × ℕ × List Access)). skip_at l x) e ∙ ap (λ (q : ℕ). skip_at (set skips slot skip) q) is ∙ get_or-set_same skips slot skip no_skip inside in
-          subst (λ (s : ℕ × ℕ × List Access). IsSkip run n links s) (sym same) own
-      | no ne ↦
-          let long = ap length e in
-          let low : x < length skips = omega (arith, lt, long, length-set skips slot skip) in
-          let same : skip_at new x ≡ skip_at skips x = ap (λ (l : List (ℕ × ℕ × List Access)). skip_at l x) e ∙ get_or-set_other skips slot x skip no_skip ne in
-          subst (λ (s : ℕ × ℕ × List Access). IsSkip run n links s) (sym same) (all x low)
-    ]
+pub skips_set : (run : List Footprint) (n : ℕ) (links : List Link) (skips : List (ℕ × ℕ × List Access)) (slot : ℕ) (skip : ℕ × ℕ × List Access) → slot < length skips → AreSkips run n links skips → IsSkip run n links skip → AreSkips run n links (set skips slot skip)
+skips_set run n links skips slot skip inside all own = each_set (IsSkip run n links) no_skip skip skips slot inside all own
 
 -- all but the last, and the last
 pub skips_pop : (run : List Footprint) (n : ℕ) (links : List Link) (skips less : List (ℕ × ℕ × List Access)) (skip : ℕ × ℕ × List Access) → skips ≡ less ++ skip ∷ [] → AreSkips run n links skips → AreSkips run n links less × IsSkip run n links skip

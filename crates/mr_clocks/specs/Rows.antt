@@ -124,20 +124,21 @@ AreLonger old new = (more : List Link) × (new ≡ old ++ more)
 abbrev pub IsListed : List ℕ → ℕ → Type 0
 IsListed xs x = (y : ℕ) × (y < length xs) × (slice_index xs y ≡ x)
 
--- the list has the place of each row whose key step j asks
-abbrev pub AreAllAsked : List Footprint → List Row → List ℕ → ℕ → Type 0
-AreAllAsked run rows found j =
-    (x : ℕ) → x < length rows → IsTrue (asks (step_at run j) (row_at rows x).key) → IsListed found x
+-- the list has the place of each row of another thread whose key the step asks
+abbrev pub AreAllAsked : Footprint → List Row → List ℕ → Type 0
+AreAllAsked step rows found =
+    (x : ℕ) → x < length rows → (row_at rows x).thread ≢ step.thread → IsTrue (asks step (row_at rows x).key)
+    → IsListed found x
 
--- each place has a row of j's thread under whose key j is noted, and there is one for each such key
-pub record ArePlaces (run : List Footprint) (rows : List Row) (places : List ℕ) (j : ℕ) : Type 0 where
+-- each place has a row of the step's thread under whose key the step is noted, and there is one for each such key
+pub record ArePlaces (step : Footprint) (rows : List Row) (places : List ℕ) : Type 0 where
   pub each :
       (y : ℕ) → y < length places
       → (slice_index places y < length rows)
-      × ((row_at rows (slice_index places y)).thread ≡ thread_at run j)
-      × IsTrue (notes (step_at run j) (row_at rows (slice_index places y)).key)
+      × ((row_at rows (slice_index places y)).thread ≡ step.thread)
+      × IsTrue (notes step (row_at rows (slice_index places y)).key)
   pub all :
-      (key : Key) → IsTrue (notes (step_at run j) key)
+      (key : Key) → IsTrue (notes step key)
       → (y : ℕ) × (y < length places) × ((row_at rows (slice_index places y)).key ≡ key)
 
 -- as many rows, of the same keys and threads

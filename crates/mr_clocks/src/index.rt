@@ -34,7 +34,8 @@ pub struct Shelf {
     pub stores: bool,
 }
 
-/// The shelves of the ranges, and the marks of the rows. The marks of the ranges on a shelf have its place for a number.
+/// The shelves of the ranges, and the marks of the rows. The marks of the ranges on a shelf have its place for a
+/// number.
 #[derive(Drop)]
 pub(crate) struct Index {
     pub shelves: Vec<Shelf>,

@@ -70,7 +70,8 @@ fn is_bound_by(run: &[Footprint], i: usize, j: usize) -> bool
     step_depends(run, i, j) && !step_races(run, i, j)
 }
 
-/// Whether there is an edge from step `i` to step `j` of another thread, of which the step before comes directly before `next`.
+/// Whether there is an edge from step `i` to step `j` of another thread, of which the step before comes directly before
+/// `next`.
 pub(crate) fn edge(run: &[Footprint], i: usize, j: usize, next: usize) -> bool
     requires order { i < j }
     requires within { j < length run.now }

@@ -10,9 +10,10 @@ ghost use Rattle.mr_clocks.specs.Rows.{AreLinks, AreLonger, ArePlaces, AreRows, 
 ghost use Rattle.mr_clocks.specs.Skips.{AreSkips, IsSkip};
 ghost use Rattle.mr_clocks.specs.Tracked.{IsNext, IsPartnerOr};
 
-use crate::analysis::{is_partner, lent};
+use crate::analysis::lent;
 use crate::clock::Clock;
 use crate::keys::{Key, may_bind, may_race};
+use crate::made::is_partner;
 use crate::order::edge;
 use crate::skips::{Skip, slot_of};
 use crate::walks::{Walk, no_walk, pass};
@@ -34,15 +35,15 @@ pub struct Link {
     pub before: u32,
 }
 
-// Whether a clock knows the step that a link of a row keeps.
-fn is_known(clock: &Clock, row: Row, link: Link) -> bool
+/// Whether a clock knows the step that a link of a row keeps.
+pub(crate) fn is_known(clock: &Clock, row: Row, link: Link) -> bool
     ensures { IsTrue result ↔ link.step < slice_index clock.now row.thread }
 {
     link.step < clock.at(row.thread)
 }
 
-// Follows the latest step of a row from which an edge leads to step `j`, unless the clock knows it. Those behind it race
-// with `j`, and those before it are known with it.
+// Follows the latest step of a row from which an edge leads to step `j`, unless the clock knows it. Those behind it
+// race with `j`, and those before it are known with it.
 fn follow_row(
     alloc: Global,
     run: &[Footprint],
@@ -158,10 +159,10 @@ pub(crate) fn keep_walk(
     Ok(())
 }
 
-// Whether an edge to step `j` may come from a step of a row: not where the row is of j's own thread, and not where the
-// key allows none.
+/// Whether an edge to step `j` may come from a step of a row: not where the row is of j's own thread, and not where the
+/// key allows none.
 #[tactic(auto, using(mr_event::proofs::Read::step_read))]
-fn may_lead(run: &[Footprint], row: Row, j: usize) -> bool
+pub(crate) fn may_lead(run: &[Footprint], row: Row, j: usize) -> bool
     requires { j < length run.now }
     ensures apart { IsTrue result → row.thread ≢ thread_at run.now j }
     ensures asked { row.thread ≢ thread_at run.now j → IsTrue (asks (step_at run.now j) row.key)
@@ -269,7 +270,7 @@ pub(crate) fn note_all(
     requires within { j < length run.now }
     requires few { length run.now < 2 ^ 32 }
     requires rows { AreRows run.now j rows.old.items links.old.items }
-    requires places { ArePlaces run.now rows.old.items places.now j }
+    requires places { ArePlaces (step_at run.now j) rows.old.items places.now }
     requires room { vec_len links.old + length places.now ≤ vec_capacity links.old }
     requires small { vec_len links.old + length places.now < 2 ^ 32 }
     ensures rows { AreRows run.now (j + 1) rows.new.items links.new.items }

@@ -9,8 +9,8 @@ use crate::whole::MOST_STEPS;
 use mr_event::{Footprint, OutOfMemory, Pair, follows_plain, predicted_plain};
 use std::alloc::Global;
 
-/// The races that a run shows: each step that has a partner, with its greatest one, by rising second step. A partner of a
-/// step is an earlier step that races with it and doesn't happen before it.
+/// The races that a run shows: each step that has a partner, with its greatest one, by rising second step. A partner of
+/// a step is an earlier step that races with it and doesn't happen before it.
 pub fn predicted_by_clocks(alloc: Global, run: &[Footprint]) -> Result<Vec<Pair>, OutOfMemory>
     ensures { IfOk result (λ v. v.items ≡ predicted run.now) }
 {

@@ -14,7 +14,8 @@ use mr_event::{Footprint, OutOfMemory};
 use std::alloc::Global;
 use std::marker::Model;
 
-// How many skips the table has for a row, for how many rows, and in all. Rows whose places are that far apart share them.
+// How many skips the table has for a row, for how many rows, and in all. Rows whose places are that far apart share
+// them.
 const SKIPS_OF_A_ROW: usize = 8;
 
 const ROWS_WITH_SKIPS: usize = 1024;

@@ -199,8 +199,8 @@ fn pass_skip(
     Ok(())
 }
 
-// The place of a skip that takes step `j` down from a number in the row of a key, if there is one. From a step that wakes
-// j's thread an edge may lead though the two race.
+// The place of a skip that takes step `j` down from a number in the row of a key, if there is one. From a step that
+// wakes j's thread an edge may lead though the two race.
 fn skip_in_row(
     skips: &[Skip],
     run: &[Footprint],

@@ -91,8 +91,8 @@ fn needed_plain(alloc: Global, run: &[Footprint], steps: &[usize]) -> Result<Vec
     Ok(marks)
 }
 
-/// What happens before what in a run of any length. It is told by an analysis of the run; from 2^32 steps on by the run alone,
-/// in the plain way, which compares all steps.
+/// What happens before what in a run of any length. It is told by an analysis of the run; from 2^32 steps on by the run
+/// alone, in the plain way, which compares all steps.
 #[derive(Drop)]
 pub struct RunOrder {
     clocks: Option<Analysis>,

@@ -66,8 +66,8 @@ ShowsFirstRace format p w =
     (pair : Pair) (races : List Pair) → predicted (steps_of p w) ≡ pair ∷ races
     → IsWitness p w pair.first pair.second (witness_by (selection_of format) (steps_of p w) w pair.first pair.second)
 
--- Where no race is listed, what is written of another order is: the order is a rearrangement of the run, and the schedule in it
--- comes to the same.
+-- Where no race is listed, what is written of another order is: the order is a rearrangement of the run, and the
+-- schedule in it comes to the same.
 abbrev pub KeepsResult : Format → Program → Schedule → Type 0
 KeepsResult Text p w = Unit {0}
 KeepsResult Json p w = Unit {0}
@@ -89,8 +89,8 @@ pub record ReportsRun (format : Format) (p : Program) (v : Version) (w : Schedul
   pub order : KeepsResult format p w
   pub report : IsTold (reported format p v w (ran p w)) files_rose out_rose old new status
 
--- The files denote a well-formed program, and a legal schedule of it; and the whole report of that run was written, with
--- schedules in the version of the file.
+-- The files denote a well-formed program, and a legal schedule of it; and the whole report of that run was written,
+-- with schedules in the version of the file.
 abbrev pub ReportsLegalRun : Contents → Option Command → Format → Option (List ℕ) → Option (List ℕ) → ℕ → Type 0
 ReportsLegalRun files command format old new status =
     (p : Program) × (v : Version) × (w : Schedule) × NamesRun files command format p v w

@@ -10,8 +10,8 @@ use Rattle.mr_input.specs.Writing.{IsWritten}
 use Rattle.mr_command.specs.Command.{Command, OfNumber, OfProgram, OfSchedule, OfTrace, Run}
 use Rattle.mr_command.specs.Answer.{answer_of, usage}
 
--- A read failed, which is counted: that of the program, or that of the schedule; where the command names a program, only
--- behind one that breaks no rule.
+-- A read failed, which is counted: that of the program, or that of the schedule; where the command names a program,
+-- only behind one that breaks no rule.
 abbrev pub IsUnread : Contents → Option Command → Answer → Type 0
 IsUnread files None a = ⊥
 IsUnread files (Some (Run format program schedule)) a =

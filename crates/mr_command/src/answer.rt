@@ -96,7 +96,8 @@ fn report_files<F: Files>(
     }
 }
 
-// The report of the run of a program that breaks no rule under the schedule in a file, and else the line of the first rule that it breaks.
+// The report of the run of a program that breaks no rule under the schedule in a file, and else the line of the first
+// rule that it breaks.
 #[tactic(auto, using(mr_input::proofs::AnswerLaws::broken_told))]
 fn report_program<F: Files>(
     alloc: Global,

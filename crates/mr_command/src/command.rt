@@ -130,8 +130,8 @@ fn short_of<'a>(word: &str, name: &'a str) -> Option<Command<'a>>
     }
 }
 
-/// The command of these words. There are ten forms: `run P S`, `json P S`, `short P S`, `trace P S`, `shuffle P S N`, `check P`,
-/// `auto P N M`, `big N`, `upgrade S` and `offline T`.
+/// The command of these words. There are ten forms: `run P S`, `json P S`, `short P S`, `trace P S`, `shuffle P S N`,
+/// `check P`, `auto P N M`, `big N`, `upgrade S` and `offline T`.
 pub fn command_of(words: &[String]) -> Option<Command<'_>>
     ensures command { option_map asked result ≡ command_of (map string_bytes words.now) }
     ensures bounded { IfSome result (λ c. IsBounded (asked c)) }

@@ -1,20 +1,17 @@
 //! `mirace run P S`: what the machine comes to that runs the program in file P under the recorded schedule in file S.
-//! `mirace json P S`: the same report as JSON.
-//! `mirace short P S`: the same report with a shorter witness.
-//! `mirace shuffle P S N`: the schedule in another order, which is drawn from number N, and the report of that run, where no race
-//! is listed.
-//! `mirace auto P N M`: a schedule that is drawn from number N with at most M entries, and the report of that run.
-//! `mirace big N`: a summary of such a run of the program of number N.
-//! `mirace check P`: the canonical text of the program in file P, where it is well-formed.
-//! `mirace upgrade S`: the schedule in file S, written in version 2.
-//! `mirace trace P S`: the footprints of the completed steps of that run, as bytes.
-//! `mirace offline T`: the races that the bytes in file T show, without a program.
+//! `mirace json P S`: the same report as JSON. `mirace short P S`: the same report with a shorter witness. `mirace
+//! shuffle P S N`: the schedule in another order, which is drawn from number N, and the report of that run, where no
+//! race is listed. `mirace auto P N M`: a schedule that is drawn from number N with at most M entries, and the report
+//! of that run. `mirace big N`: a summary of such a run of the program of number N. `mirace check P`: the canonical
+//! text of the program in file P, where it is well-formed. `mirace upgrade S`: the schedule in file S, written in
+//! version 2. `mirace trace P S`: the footprints of the completed steps of that run, as bytes. `mirace offline T`: the
+//! races that the bytes in file T show, without a program.
 //!
 //! A schedule's file may be of either version, and a report has schedules in that of the file. `auto` writes version 1.
 //!
-//! Where the text denotes no program, all that read one write the first fault of it: its line, its column, a code and a name. Of a program
-//! that breaks a rule of well-formedness they write where the first one is broken: the global or function, the block, a place, a code and
-//! a name.
+//! Where the text denotes no program, all that read one write the first fault of it: its line, its column, a code and a
+//! name. Of a program that breaks a rule of well-formedness they write where the first one is broken: the global or
+//! function, the block, a place, a code and a name.
 //!
 //! The public call is [`mirace`], over files and a sink; `mr_input` reads the files and writes to the sink, and
 //! `mr_answer` makes the report of a run. Its promises are clauses of it. The headline is that of `run P S`: of a
@@ -55,11 +52,11 @@ use std::alloc::Global;
 
 const USAGE: &[u8] = b"usage: see the table of commands\n";
 
-/// Does what the words behind the program's name ask for, and answers the exit status: 0 or 1 of a report, 0 of a canonical text or of a
-/// schedule in version 2, or of the bytes of a run, 0 or 1 of the races that such bytes show,
-/// 2 of words without a form, 3 of a text that denotes no program, 4 of a program that breaks a rule
-/// of well-formedness, 5 of a schedule, 6 of a file that was not read, 7 of a failed write, 8 where memory ran out and 9 of
-/// bytes that are no trace.
+/// Does what the words behind the program's name ask for, and answers the exit status: 0 or 1 of a report, 0 of a
+/// canonical text or of a schedule in version 2, or of the bytes of a run, 0 or 1 of the races that such bytes show, 2
+/// of words without a form, 3 of a text that denotes no program, 4 of a program that breaks a rule of well-formedness,
+/// 5 of a schedule, 6 of a file that was not read, 7 of a failed write, 8 where memory ran out and 9 of bytes that are
+/// no trace.
 pub fn mirace<F: Files, O: Sink>(alloc: Global, words: &[String], files: &mut F, out: &mut O) -> u8
     // What is written and answered, over files that tell what they hold.
     ensures ends { (contents : Contents) → F.told files.old ≡ Some contents
@@ -122,8 +119,8 @@ pub fn mirace<F: Files, O: Sink>(alloc: Global, words: &[String], files: &mut F,
     served(alloc, words, files, out)
 }
 
-// Does what the words ask for. Of the memory nothing is known but that a command can be obeyed with it, so none is taken for words of
-// no form.
+// Does what the words ask for. Of the memory nothing is known but that a command can be obeyed with it, so none is
+// taken for words of no form.
 fn served<M: Obeys, F: Files, O: Sink>(
     memory: M,
     words: &[String],

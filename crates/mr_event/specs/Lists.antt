@@ -1,53 +1,17 @@
--- The lists of a step, wherever they lie.
-use Rattle.std.specs.Prelude.{◌≡◌, ℕ, List, [], ◌∷◌, Option, Some, None}
-use Rattle.mr_base.specs.declared.access.Access.{Access}
-use Rattle.mr_base.specs.declared.byte.AllocId.{AllocId}
+-- The lists of a step, and the footprint of a step that is told by its lists.
+use Rattle.std.specs.Prelude.{◌≡◌, ℕ, Bool}
+use Rattle.mr_base.specs.declared.thread.Event.{Event}
 use Rattle.mr_event.specs.declared.lists.Lists.{Lists}
-use Rattle.mr_event.specs.declared.lists.Lists.TheVariants.{Few, Many}
 use Rattle.mr_event.specs.declared.lists.Step.{Step}
-use Rattle.mr_event.specs.declared.lists.Whole.{Whole}
 use Rattle.mr_event.specs.Footprint.{Footprint}
-
--- one item, or none
-abbrev pub items_of : {T : Type 0} → Option T → List T
-items_of None = []
-items_of (Some item) = item ∷ []
-
-abbrev pub accesses_of : Lists → List Access
-accesses_of (Few access _) = items_of access
-accesses_of (Many whole) = whole.value.accesses.items
-
-abbrev pub touched_of : Lists → List AllocId
-touched_of (Few _ touched) = items_of touched
-touched_of (Many whole) = whole.value.touched.items
-
-abbrev pub allocated_of : Lists → List AllocId
-allocated_of (Few _ _) = []
-allocated_of (Many whole) = whole.value.allocated.items
-
-abbrev pub freed_of : Lists → List AllocId
-freed_of (Few _ _) = []
-freed_of (Many whole) = whole.value.freed.items
-
-abbrev pub woken_of : Lists → List ℕ
-woken_of (Few _ _) = []
-woken_of (Many whole) = whole.value.woken.items
 
 -- these are the lists of the step
 pub record AreListsOf (step : Step) (lists : Lists) : Type 0 where
-  pub accesses : accesses_of lists ≡ step.accesses.now
-  pub allocated : allocated_of lists ≡ step.allocated.now
-  pub freed : freed_of lists ≡ step.freed.now
-  pub touched : touched_of lists ≡ step.touched.now
-  pub woken : woken_of lists ≡ step.woken.now
-
--- the same of lists with room of their own
-pub record IsWholeOf (step : Step) (whole : Whole) : Type 0 where
-  pub accesses : whole.accesses.items ≡ step.accesses.now
-  pub allocated : whole.allocated.items ≡ step.allocated.now
-  pub freed : whole.freed.items ≡ step.freed.now
-  pub touched : whole.touched.items ≡ step.touched.now
-  pub woken : whole.woken.items ≡ step.woken.now
+  pub accesses : lists.accesses.items ≡ step.accesses.now
+  pub allocated : lists.allocated.items ≡ step.allocated.now
+  pub freed : lists.freed.items ≡ step.freed.now
+  pub touched : lists.touched.items ≡ step.touched.now
+  pub woken : lists.woken.items ≡ step.woken.now
 
 -- the footprint of a step
 abbrev pub footprint_of : Step → Footprint
@@ -61,4 +25,18 @@ footprint_of step =
       event = step.event;
       ended = step.ended;
       woken = step.woken.now;
+    }
+
+-- the footprint of a step with these lists
+abbrev pub listed : ℕ → Event → Bool → Lists → Footprint
+listed thread event ended lists =
+    record {
+      thread = thread;
+      accesses = lists.accesses.items;
+      allocated = lists.allocated.items;
+      freed = lists.freed.items;
+      touched = lists.touched.items;
+      event = event;
+      ended = ended;
+      woken = lists.woken.items;
     }

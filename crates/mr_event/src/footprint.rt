@@ -1,50 +1,41 @@
 //! What is kept of a completed step, and a race of two of them.
 
 use crate::OutOfMemory;
-use crate::lists::{Lists, Step};
+use crate::lists::Step;
+use crate::shape::Shape;
 use mr_base::{Access, AllocId, Event};
 use std::alloc::Global;
 use std::marker::Model;
 use std::mem::size_of;
+use std::slice::from_ref;
 
 /// What a completed step read, changed and woke.
 ///
-/// A footprint is kept for each step of a run. One of a step that has at most one access and one touched allocation, and
-/// no list but those, takes no memory but its own.
+/// A footprint is kept for each step of a run. One of a step that has no list, or that did nothing to a lock or a thread
+/// and has at most one access, one touched allocation and no other list, takes no memory but its own.
 #[derive(Drop)]
 pub struct Footprint {
-    thread: u32,
-    event: Event,
-    ended: bool,
     alloc: Global,
-    lists: Lists,
+    shape: Shape,
 }
 
-const _: () = prove!(size_of::<Footprint>() <= 80);
+const _: () = prove!(size_of::<Footprint>() <= 48);
 
 impl Model for Footprint {
     ghost use Rattle.mr_event.specs.Footprint.{Footprint as Contents};
 
     ghost Value = { Contents };
 
-    ghost use Rattle.mr_event.specs.Lists.{accesses_of, allocated_of, freed_of, touched_of, woken_of};
+    ghost use Rattle.mr_event.specs.Shape.{footprint_in};
 
-    ghost view = { λ f. record {
-      thread = f.thread;
-      accesses = accesses_of f.lists;
-      allocated = allocated_of f.lists;
-      freed = freed_of f.lists;
-      touched = touched_of f.lists;
-      event = f.event;
-      ended = f.ended;
-      woken = woken_of f.lists;
-    } };
+    ghost view = { λ f. footprint_in f.shape };
 }
 
 impl Footprint {
-    ghost use Rattle.std.specs.Prelude.{◌≡◌, [], false, IfOk, OnOk};
+    ghost use Rattle.std.specs.Prelude.{◌≡◌, [], false, IfOk, OnErr, OnOk};
     ghost use Rattle.mr_base.specs.declared.thread.Event.TheVariants.{Quiet};
     ghost use Rattle.mr_event.specs.Lists.{footprint_of};
+    ghost use Rattle.mr_event.specs.Shape.{footprint_in};
 
     /// A step of thread 0 that did nothing.
     pub fn nothing(alloc: Global) -> Footprint
@@ -60,11 +51,8 @@ impl Footprint {
         } }
     {
         Footprint {
-            thread: 0,
-            event: Event::Quiet,
-            ended: false,
             alloc,
-            lists: Lists::Few(None, None),
+            shape: Shape::Bare(0, Event::Quiet, false),
         }
     }
 
@@ -73,11 +61,8 @@ impl Footprint {
         ensures { IfOk result (λ f. f ≡ footprint_of step.now) }
     {
         Ok(Footprint {
-            thread: step.thread,
-            event: step.event,
-            ended: step.ended,
             alloc,
-            lists: Lists::of(alloc, step)?,
+            shape: Shape::of(alloc, step)?,
         })
     }
 
@@ -85,19 +70,16 @@ impl Footprint {
     pub fn refill(&mut self, step: &Step<'_>) -> Result<(), OutOfMemory>
         ensures { OnOk result (self.new ≡ footprint_of step.now) }
     {
-        self.lists.refill(self.alloc, step)?;
-        self.thread = step.thread;
-        self.event = step.event;
-        self.ended = step.ended;
+        self.shape.refill(self.alloc, step)?;
         Ok(())
     }
 
-    /// Puts a copy of another footprint in its place.
+    /// Puts a copy of another footprint in its place. After an `Err` it is what it was.
     pub fn copy_from(&mut self, other: &Footprint) -> Result<(), OutOfMemory>
-        ensures { OnOk result (self.new ≡ other.now) }
+        ensures ok { OnOk result (self.new ≡ other.now) }
+        ensures err { OnErr result (self.new ≡ self.old) }
     {
-        let step = other.step();
-        *self = Footprint::of(self.alloc, &step)?;
+        self.shape = other.shape.copy(self.alloc)?;
         Ok(())
     }
 
@@ -106,9 +88,9 @@ impl Footprint {
         ensures { footprint_of result ≡ self.now }
     {
         Step {
-            thread: self.thread,
-            event: self.event,
-            ended: self.ended,
+            thread: self.thread(),
+            event: self.event(),
+            ended: self.ended(),
             accesses: self.accesses(),
             allocated: self.allocated(),
             freed: self.freed(),
@@ -117,60 +99,96 @@ impl Footprint {
         }
     }
 
+    /// How it is kept.
+    pub(crate) fn shape(&self) -> &Shape
+        ensures { footprint_in result.now ≡ self.now }
+    {
+        &self.shape
+    }
+
     /// The thread that took the step.
     pub fn thread(&self) -> u32
         ensures { result ≡ self.now.thread }
     {
-        self.thread
+        match &self.shape {
+            Shape::Bare(thread, _, _)
+            | Shape::Accessed(thread, _)
+            | Shape::Touched(thread, _)
+            | Shape::Both(thread, _, _)
+            | Shape::Listed(thread, _, _, _) => *thread,
+        }
     }
 
     /// What it did to a lock or to another thread.
     pub fn event(&self) -> Event
         ensures { result ≡ self.now.event }
     {
-        self.event
+        match &self.shape {
+            Shape::Bare(_, event, _) | Shape::Listed(_, event, _, _) => *event,
+            _ => Event::Quiet,
+        }
     }
 
     /// Whether the step ended its thread.
     pub fn ended(&self) -> bool
         ensures { result ≡ self.now.ended }
     {
-        self.ended
+        match &self.shape {
+            Shape::Bare(_, _, ended) | Shape::Listed(_, _, ended, _) => *ended,
+            _ => false,
+        }
     }
 
     /// Its loads and stores, in the order in which it made them.
     pub fn accesses(&self) -> &[Access]
         ensures { result.now ≡ self.now.accesses }
     {
-        self.lists.accesses()
+        match &self.shape {
+            Shape::Accessed(_, access) | Shape::Both(_, access, _) => from_ref(access),
+            Shape::Listed(_, _, _, lists) => lists.accesses.as_slice(),
+            _ => &[],
+        }
     }
 
     /// The allocations that it made.
     pub fn allocated(&self) -> &[AllocId]
         ensures { result.now ≡ self.now.allocated }
     {
-        self.lists.allocated()
+        match &self.shape {
+            Shape::Listed(_, _, _, lists) => lists.allocated.as_slice(),
+            _ => &[],
+        }
     }
 
     /// The allocations that it freed.
     pub fn freed(&self) -> &[AllocId]
         ensures { result.now ≡ self.now.freed }
     {
-        self.lists.freed()
+        match &self.shape {
+            Shape::Listed(_, _, _, lists) => lists.freed.as_slice(),
+            _ => &[],
+        }
     }
 
     /// The allocations on which a range check of positive length passed.
     pub fn touched(&self) -> &[AllocId]
         ensures { result.now ≡ self.now.touched }
     {
-        self.lists.touched()
+        match &self.shape {
+            Shape::Touched(_, id) | Shape::Both(_, _, id) => from_ref(id),
+            Shape::Listed(_, _, _, lists) => lists.touched.as_slice(),
+            _ => &[],
+        }
     }
 
     /// The threads that it woke, by rising number.
     pub fn woken(&self) -> &[u32]
         ensures { result.now ≡ self.now.woken }
     {
-        self.lists.woken()
+        match &self.shape {
+            Shape::Listed(_, _, _, lists) => lists.woken.as_slice(),
+            _ => &[],
+        }
     }
 }
 

@@ -18,7 +18,7 @@
 //!   one, by rising second step; want of memory is its only error. It compares each two steps. Clocks order them, which
 //!   are made only up to the last step that has a rival, an earlier step of another thread with an access that races.
 //! - [`follows_plain`]: for each step of a run whether a given step happens before it, likewise.
-//! - [`foot_ok`]: whether a footprint keeps the machine's limits, exactly.
+//! - [`foot_ok`]: whether a footprint keeps the machine's limits, exactly, and [`same_step`]: whether two are equal.
 //!
 //! Laws: [`decided`] (what computes is the order and its races), [`predicted_lists`] (the list is that of the
 //! definition, and no other list is), [`racing_steps_depend`].
@@ -28,14 +28,17 @@ mod clocks;
 mod dependence;
 mod footprint;
 mod laws;
+mod likeness;
 mod limits;
 mod lists;
 mod order;
 mod races;
+mod shape;
 
 pub use dependence::{depends, wakes};
 pub use footprint::{Footprint, Pair};
 pub use laws::{decided, predicted_lists, racing_steps_depend};
+pub use likeness::same_step;
 pub use limits::foot_ok;
 pub use lists::Step;
 pub use mr_base::Event;

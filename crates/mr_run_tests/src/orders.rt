@@ -342,16 +342,18 @@ static ACTS: [&str; 24] = [
 // How many steps a run from a number has.
 const STEPS: u64 = 24;
 
-// The text of the run of a number: steps of three threads, each doing what some bits of a number tell.
+// The text of the run of a number: steps of three threads, each doing what some bits of a number tell. In every second
+// run a step does one of five things, so that many steps do the same.
 fn text_from(alloc: Global, seed: u64) -> Result<String, OutOfMemory> {
     let mut text = String::new(alloc);
     let mut number = seed;
+    let span = if seed % 2 == 0 { 24 } else { 5 };
     for k in 0..STEPS {
         number = number
             .wrapping_mul(6364136223846793005)
             .wrapping_add(1442695040888963407);
         let thread = (number >> 33) % 3;
-        let act = ACTS[((number >> 40) % 24) as usize];
+        let act = ACTS[(((number >> 40) % span + seed / 2) % 24) as usize];
         let end = if k + 1 < STEPS { "; " } else { "" };
         write!(text, "{thread} {act}{end}")?;
     }

@@ -1,4 +1,4 @@
-use Rattle.std.proofs.Common.{refl, set, arith}
+use Rattle.std.proofs.Common.{arith}
 use Rattle.mr_clocks.proofs.SkipLaws.{skips_set}
 use Rattle.mr_clocks.proofs.skips.store.Goals as goal
 
@@ -8,4 +8,4 @@ returns-then-slot-len c = λ run n links h g. h
 pub returns : goal.returns
 returns c = λ run n links h g.
     let skips = c.args.skips.now.items in
-    skips_set run n links skips (set skips c.slot-slot.result c.args.skip) c.slot-slot.result c.args.skip (omega arith) refl h g
+    skips_set run n links skips c.slot-slot.result c.args.skip (omega arith) h g

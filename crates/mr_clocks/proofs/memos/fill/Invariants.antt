@@ -1,0 +1,13 @@
+use Rattle.std.proofs.Common.{◌≡◌, List, vec_len}
+use Rattle.std.specs.Prelude.{vec_capacity}
+use Rattle.mr_clocks.specs.declared.rows.Row.{Row}
+use Rattle.mr_clocks.specs.Memos.{AreMemos}
+use Rattle.mr_clocks.proofs.memos.fill.Given as goal
+
+abbrev pub invariant-loop-k : goal.invariant-loop-k
+invariant-loop-k l =
+    record {
+      each : (rows : List Row) → AreMemos rows l.initial.memos.items → AreMemos rows l.memos.items;
+      count : vec_len l.memos ≡ l.k;
+      room : vec_capacity l.memos ≡ vec_capacity l.initial.memos;
+    }

@@ -1,0 +1,256 @@
+//! The clock of a step and its greatest partner, from the clocks and the rows of the steps before it.
+
+ghost use Rattle.std.specs.Prelude.{◌≡◌, ℕ, ◌+◌, ◌<◌, ◌≤◌, ◌^◌, ◌↔◌, IfOk, IsFalse, IsTrue, MatchOption, false, length, slice_index};
+ghost use Rattle.mr_event.specs.Order.{step_at, thread_at, IsGreatestPartner, HasNoPartner, RacePair};
+ghost use Rattle.mr_clocks.specs.Clocks.{AreClocks, AreLatest, IsClockOf, IsMade, IsPart, KeepsClock, clock_at};
+ghost use Rattle.mr_clocks.specs.Rows.{AreAllAsked, AreRows};
+ghost use Rattle.mr_clocks.specs.Skips.{AreSkips};
+ghost use Rattle.mr_clocks.specs.Tracked.{IsPartnerOr};
+
+use crate::analysis::{is_under, lent};
+use crate::clock::Clock;
+use crate::known::are_known;
+use crate::order::{are_rivals, thread_at};
+use crate::rows::{Link, Row, better, follow_place, keep_walk};
+use crate::skips::Skip;
+use mr_event::{Footprint, OutOfMemory};
+use std::alloc::Global;
+
+/// The clock that was made for a step, or none where it keeps that of the step before in its thread; and the skips that
+/// its walks over rows leave.
+#[derive(Drop)]
+pub(crate) struct Found {
+    pub clock: Option<Clock>,
+    pub skips: Vec<Skip>,
+}
+
+// With what the clock of step `j` begins: that of the step before in its thread.
+fn base(
+    alloc: Global,
+    run: &[Footprint],
+    clocks: &[Clock],
+    numbers: &[u32],
+    latest: &Clock,
+    j: usize,
+) -> Result<Clock, OutOfMemory>
+    requires within { j < length run.now }
+    requires clocks { AreClocks run.now j clocks.now numbers.now }
+    requires latest { AreLatest run.now j latest.now }
+    ensures part { IfOk result (λ c. IsPart run.now c j) }
+    ensures previous { IfOk result
+        (λ c. (p : ℕ) → slice_index latest.now (thread_at run.now j) ≡ p + 1 → c ≡ clock_at clocks.now numbers.now p) }
+{
+    let next = latest.at(thread_at(run, j));
+    if next == 0 {
+        return Ok(Clock::new(alloc));
+    }
+    let clock = lent(clocks, numbers, next as usize - 1).copied(alloc)?;
+    Ok(clock)
+}
+
+fn is_either(one: bool, other: bool) -> bool
+    ensures one { IsFalse result → one ≡ false }
+    ensures other { IsFalse result → other ≡ false }
+{
+    one || other
+}
+
+// The clock, unless it didn't change and there is a step before it in its thread.
+fn if_new(clock: Clock, changed: bool, next: usize) -> Option<Clock>
+    ensures { MatchOption result ((changed ≡ false) × (0 < next)) (λ c. c ≡ clock) }
+{
+    if changed || next == 0 {
+        Some(clock)
+    } else {
+        None
+    }
+}
+
+// The clock of step `j`, from those of the steps before it: it follows each step of another thread that an edge leads
+// from.
+fn walked_clock(
+    alloc: Global,
+    run: &[Footprint],
+    clocks: &[Clock],
+    numbers: &[u32],
+    latest: &Clock,
+    rows: &[Row],
+    links: &[Link],
+    skips: &[Skip],
+    found: &[usize],
+    j: usize,
+) -> Result<Found, OutOfMemory>
+    requires within { j < length run.now }
+    requires few { length run.now < 2 ^ 32 }
+    requires clocks { AreClocks run.now j clocks.now numbers.now }
+    requires latest { AreLatest run.now j latest.now }
+    requires rows { AreRows run.now j rows.now links.now }
+    requires skips { AreSkips run.now j links.now skips.now }
+    requires found { AreAllAsked (step_at run.now j) rows.now found.now }
+    ensures made { IfOk result (λ f. IsMade run.now clocks.now numbers.now
+        (slice_index latest.now (thread_at run.now j)) f.clock j) }
+    ensures skips { IfOk result (λ f. AreSkips run.now j links.now f.skips.items) }
+{
+    let mut clock = base(alloc, run, clocks, numbers, latest, j)?;
+    let mut changed = false;
+    let mut left = Vec::new(alloc);
+    let next = latest.at(thread_at(run, j)) as usize;
+    for y in 0..found.len() {
+        let x = found[y];
+        let walk = follow_place(
+            alloc, run, clocks, numbers, rows, links, skips, x, &mut clock, j, next,
+        )?;
+        changed = is_either(changed, walk.changed);
+        keep_walk(&mut left, rows, x, walk)?;
+    }
+    let made = if_new(clock, changed, next);
+    Ok(Found {
+        clock: made,
+        skips: left,
+    })
+}
+
+// Whether the clock of the step before in j's thread knows all steps that edges lead from to `j`.
+fn keeps_clock(
+    run: &[Footprint],
+    clocks: &[Clock],
+    numbers: &[u32],
+    latest: &Clock,
+    rows: &[Row],
+    links: &[Link],
+    found: &[usize],
+    j: usize,
+) -> bool
+    requires within { j < length run.now }
+    requires clocks { AreClocks run.now j clocks.now numbers.now }
+    requires latest { AreLatest run.now j latest.now }
+    requires rows { AreRows run.now j rows.now links.now }
+    requires found { AreAllAsked (step_at run.now j) rows.now found.now }
+    ensures { IsTrue result
+        → KeepsClock run.now clocks.now numbers.now (slice_index latest.now (thread_at run.now j)) j }
+{
+    let next = latest.at(thread_at(run, j));
+    if next == 0 {
+        return false;
+    }
+    let clock = lent(clocks, numbers, next as usize - 1);
+    are_known(run, clock, rows, links, found, j)
+}
+
+/// The clock of step `j`, from those of the steps before it.
+pub(crate) fn clock_of(
+    alloc: Global,
+    run: &[Footprint],
+    clocks: &[Clock],
+    numbers: &[u32],
+    latest: &Clock,
+    rows: &[Row],
+    links: &[Link],
+    skips: &[Skip],
+    found: &[usize],
+    j: usize,
+) -> Result<Found, OutOfMemory>
+    requires within { j < length run.now }
+    requires few { length run.now < 2 ^ 32 }
+    requires clocks { AreClocks run.now j clocks.now numbers.now }
+    requires latest { AreLatest run.now j latest.now }
+    requires rows { AreRows run.now j rows.now links.now }
+    requires skips { AreSkips run.now j links.now skips.now }
+    requires found { AreAllAsked (step_at run.now j) rows.now found.now }
+    ensures made { IfOk result (λ f. IsMade run.now clocks.now numbers.now
+        (slice_index latest.now (thread_at run.now j)) f.clock j) }
+    ensures skips { IfOk result (λ f. AreSkips run.now j links.now f.skips.items) }
+{
+    if keeps_clock(run, clocks, numbers, latest, rows, links, found, j) {
+        return Ok(Found {
+            clock: None,
+            skips: Vec::new(alloc),
+        });
+    }
+    walked_clock(
+        alloc, run, clocks, numbers, latest, rows, links, skips, found, j,
+    )
+}
+
+/// Whether step `i` is a partner of step `j`, of which this is the clock.
+pub(crate) fn is_partner(run: &[Footprint], clock: &Clock, i: usize, j: usize) -> bool
+    requires order { i < j }
+    requires within { j < length run.now }
+    requires clock { IsClockOf run.now clock.now j }
+    ensures { IsTrue result ↔ RacePair run.now i j }
+{
+    !is_under(run, clock, i) && are_rivals(run, i, j)
+}
+
+// One more than the place of the greatest partner of step `j`, or 0. Of a partner's thread the latest step with an
+// access of the same range is one too.
+fn best_partner(
+    run: &[Footprint],
+    clock: &Clock,
+    rows: &[Row],
+    links: &[Link],
+    found: &[usize],
+    j: usize,
+) -> usize
+    requires within { j < length run.now }
+    requires clock { IsClockOf run.now clock.now j }
+    requires rows { AreRows run.now j rows.now links.now }
+    requires found { AreAllAsked (step_at run.now j) rows.now found.now }
+    ensures partner { IsPartnerOr run.now j result }
+    ensures greatest { (m : ℕ) → RacePair run.now m j → m < result }
+{
+    let mut best = 0;
+    for y in 0..found.len() {
+        best = better(run, clock, rows, links, found[y], j, best);
+    }
+    best
+}
+
+// The greatest partner of step `j`, by its clock.
+fn partner_of(
+    run: &[Footprint],
+    clock: &Clock,
+    rows: &[Row],
+    links: &[Link],
+    found: &[usize],
+    j: usize,
+) -> Option<usize>
+    requires within { j < length run.now }
+    requires clock { IsClockOf run.now clock.now j }
+    requires rows { AreRows run.now j rows.now links.now }
+    requires found { AreAllAsked (step_at run.now j) rows.now found.now }
+    ensures { MatchOption result (HasNoPartner run.now j) (λ i. IsGreatestPartner run.now i j) }
+{
+    let best = best_partner(run, clock, rows, links, found, j);
+    if best == 0 { None } else { Some(best - 1) }
+}
+
+/// The greatest partner of step `j`, by the clock that was made for it, or else by that of the step before in its
+/// thread.
+pub(crate) fn partner_by(
+    run: &[Footprint],
+    clocks: &[Clock],
+    numbers: &[u32],
+    rows: &[Row],
+    links: &[Link],
+    found: &[usize],
+    next: u32,
+    made: &Option<Clock>,
+    j: usize,
+) -> Option<usize>
+    requires within { j < length run.now }
+    requires clocks { AreClocks run.now j clocks.now numbers.now }
+    requires rows { AreRows run.now j rows.now links.now }
+    requires found { AreAllAsked (step_at run.now j) rows.now found.now }
+    requires next { next ≤ j }
+    requires made { IsMade run.now clocks.now numbers.now next made.now j }
+    ensures { MatchOption result (HasNoPartner run.now j) (λ i. IsGreatestPartner run.now i j) }
+{
+    match made {
+        Some(clock) => partner_of(run, clock, rows, links, found, j),
+        None => {
+            let clock = lent(clocks, numbers, next as usize - 1);
+            partner_of(run, clock, rows, links, found, j)
+        }
+    }
+}

@@ -1,0 +1,115 @@
+//! Whether two footprints are equal.
+
+ghost use Rattle.std.specs.Prelude.{◌≡◌, ◌↔◌, IsTrue};
+ghost use Rattle.mr_event.specs.Likeness.{AreAlike};
+ghost use Rattle.mr_event.specs.Shape.{footprint_in};
+
+use crate::footprint::Footprint;
+use crate::shape::Shape;
+use mr_base::{Access, AllocId, Event};
+
+fn same_event(a: Event, b: Event) -> bool
+    ensures { IsTrue result ↔ (a ≡ b) }
+{
+    a == b
+}
+
+fn same_access(a: Access, b: Access) -> bool
+    ensures { IsTrue result ↔ (a ≡ b) }
+{
+    a == b
+}
+
+fn same_id(a: AllocId, b: AllocId) -> bool
+    ensures { IsTrue result ↔ (a ≡ b) }
+{
+    a == b
+}
+
+fn same_accesses(a: &[Access], b: &[Access]) -> bool
+    ensures { IsTrue result ↔ (a.now ≡ b.now) }
+{
+    if a.len() != b.len() {
+        return false;
+    }
+    for i in 0..a.len() {
+        if !same_access(a[i], b[i]) {
+            return false;
+        }
+    }
+    true
+}
+
+fn same_ids(a: &[AllocId], b: &[AllocId]) -> bool
+    ensures { IsTrue result ↔ (a.now ≡ b.now) }
+{
+    if a.len() != b.len() {
+        return false;
+    }
+    for i in 0..a.len() {
+        if !same_id(a[i], b[i]) {
+            return false;
+        }
+    }
+    true
+}
+
+fn same_threads(a: &[u32], b: &[u32]) -> bool
+    ensures { IsTrue result ↔ (a.now ≡ b.now) }
+{
+    if a.len() != b.len() {
+        return false;
+    }
+    for i in 0..a.len() {
+        if a[i] != b[i] {
+            return false;
+        }
+    }
+    true
+}
+
+// Whether each field of the one is that of the other.
+fn fields_alike(a: &Footprint, b: &Footprint) -> bool
+    ensures { IsTrue result ↔ AreAlike a.now b.now }
+{
+    a.thread() == b.thread()
+        && a.ended() == b.ended()
+        && same_event(a.event(), b.event())
+        && same_accesses(a.accesses(), b.accesses())
+        && same_ids(a.touched(), b.touched())
+        && same_ids(a.allocated(), b.allocated())
+        && same_ids(a.freed(), b.freed())
+        && same_threads(a.woken(), b.woken())
+}
+
+// Whether the two are equal and have no room of their own.
+fn shapes_alike(a: &Shape, b: &Shape) -> bool
+    ensures { IsTrue result → footprint_in a.now ≡ footprint_in b.now }
+{
+    match (a, b) {
+        (Shape::Bare(thread, event, ended), Shape::Bare(thread2, event2, ended2)) => {
+            thread == thread2 && ended == ended2 && same_event(*event, *event2)
+        }
+        (Shape::Accessed(thread, access), Shape::Accessed(thread2, access2)) => {
+            thread == thread2 && same_access(*access, *access2)
+        }
+        (Shape::Touched(thread, id), Shape::Touched(thread2, id2)) => {
+            thread == thread2 && same_id(*id, *id2)
+        }
+        (Shape::Both(thread, access, id), Shape::Both(thread2, access2, id2)) => {
+            thread == thread2 && same_access(*access, *access2) && same_id(*id, *id2)
+        }
+        _ => false,
+    }
+}
+
+/// Whether two footprints are equal. Most are kept in one way and take no memory of their own: of these it is soon told.
+#[tactic(auto, using(crate::proofs::AlikeLaws::alike_equal, crate::proofs::AlikeLaws::equal_alike))]
+pub fn same_step(a: &Footprint, b: &Footprint) -> bool
+    ensures { IsTrue result ↔ (a.now ≡ b.now) }
+{
+    if shapes_alike(a.shape(), b.shape()) {
+        return true;
+    }
+    fields_alike(a, b)
+}
