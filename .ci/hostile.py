@@ -23,8 +23,7 @@ EXITED = b"verdict exit\nraces 0\n"
 TOP = os.path.dirname(os.path.dirname(os.path.abspath(__file__)))
 PROGRAM = f"{TOP}/crates/mirace/out/mirace"
 # How many times as long as a plain text of its length a text may take to be checked, and in how much memory, in MiB.
-# And the bytes of the texts that take the product of two numbers in them: a whole text would take more.
-TIMES, TEXT_ROOM, PRODUCT = 12, 300, TEXT // 8
+TIMES, TEXT_ROOM = 12, 300
 # What is tried: the words of the command, the files, what must be written (of a text that is taken none: its tokens)
 # and ended with; the most processor seconds (of a text none: as many as TIMES says); and its memory, in MiB.
 Case = collections.namedtuple("Case", "what words files written status seconds room")
@@ -53,12 +52,12 @@ def is_well(case, text, status):
     return status == case.status and text == case.written
 
 
-def widest(made, most=TEXT):
-    """A text with as many pieces as go into so many bytes."""
-    count = most // 50
+def widest(made):
+    """A text with as many pieces as go into one."""
+    count = TEXT // 50
     for _ in range(2):
-        count = count * most // len(made(count))
-    while len(made(count)) > most:
+        count = count * TEXT // len(made(count))
+    while len(made(count)) > TEXT:
         count -= count // 500 + 1
     return made(count)
 
@@ -74,6 +73,29 @@ def rows_of_padded(count):
     fields = b", ".join(b"%d: array(%d, tuple size 15 align 1 { 0: u8 })" % row for row in rows)
     chunks = b", ".join(b"%d 1" % (15 * k) for k in range(6 * count))
     return b"union size 1048576 align 1 { %s } chunks { %s }" % (fields, chunks)
+
+
+def tags_from(first, count):
+    """So many tags on odd bytes, from one of them on."""
+    return b", ".join(b"%d: u8 = 1" % (2 * k + 1) for k in range(first, first + count))
+
+
+def tagged_elements(count):
+    """An array of elements with so many fields and a hole behind each, and more tags in the holes."""
+    fields = min(count, 32768)
+    elements = b"array(16, tuple size 65536 align 1 { %s })" % b", ".join(b"%d: u8" % (2 * k) for k in range(fields))
+    tags = tags_from(0, min(count * 5 // 4, 524288))
+    return b"enum size 1048576 align 1 disc u8 { 0: %s tag { %s } } known 0" % (elements, tags)
+
+
+def tagged_arrays(array, count, tags, depth=1):
+    """So many arrays over one another, whose odd bytes are padding, and tags there, in enums around one another."""
+    arrays = b", ".join(b"%d: %s tag { }" % (k, array) for k in range(count))
+    of_type = b"enum size 1048576 align 1 disc u32 { %s } known 0" % arrays
+    for level in range(depth):
+        more = tags_from(level * (tags // depth), tags // depth)
+        of_type = b"enum size 1048576 align 1 disc u8 { 0: %s tag { %s } } known 0" % (of_type, more)
+    return of_type
 
 
 def local(of_type):
@@ -101,6 +123,12 @@ def locals_of(number):
     return b"fn f%d() -> r {\nlet r: unit%s;\nb0 regular: exit;\n}\n" % (number, names)
 
 
+def locals_alike(number):
+    """The same, with names that std's hasher, whose seed is known, gives one hash."""
+    names = b"".join(b", nnnnnnnnnnaaamQwdDfmMBSQ%08d: u8" % (255 * number + k) for k in range(255))
+    return b"fn f%d() -> r {\nlet r: unit%s;\nb0 regular: exit;\n}\n" % (number, names)
+
+
 def blocks_in(number):
     """A function with as many blocks as there may be."""
     return b"fn f%d() -> r {\nlet r: unit;\n%s}\n" % (number, repeated(b"b%d regular: exit;\n", 1024))
@@ -124,8 +152,14 @@ TAGGED = b"enum size 1048576 align 1 disc u8 { 0: tuple size 1048576 align 1 { %
 CASES = b"enum size 4 align 4 disc u8 { 0: tuple size 4 align 4 { } tag { } } %s"
 TREE = b"branch 0 u32 { %s_ => invalid }"
 ONE_FIELD = b"tuple size 1 align 1 { 0: "
+ONE_VARIANT = b"enum size 0 align 1 disc u8 { 0: "
+# The same without bytes, and the least that has a part.
+EMPTY = b"tuple size 0 align 1 { 0: "
+SMALL = EMPTY + b"unit }"
 # An array of 16 bytes, of which each second one is padding.
 PADDED = b"array(8, tuple size 2 align 1 { 0: u8 })"
+# The same as long as may be.
+LONG = b"array(524288, tuple size 2 align 1 { 0: u8 })"
 # Each form of a text that repeats something, and as often as goes into a text. The first is the plain one.
 WIDE = (
     ("statements", lambda n: program(b"", b", x: u8", blocks_of(b"live x;\n", n))),
@@ -148,6 +182,11 @@ WIDE = (
     ("tags in padded arrays", lambda n: local(TAGGED % (
         b", ".join(b"%d: %s" % (16 * k, PADDED) for k in range(n)),
         b", ".join(b"%d: u8 = 1, %d: u8 = 1" % (16 * k + 1, 16 * k + 15) for k in range(n))))),
+    ("tags beside the fields of an array's elements", lambda n: local(tagged_elements(n))),
+    ("tags beside arrays over one another", lambda n: local(tagged_arrays(LONG, n, 3 * n))),
+    ("a tag beside arrays over one another", lambda n: local(tagged_arrays(LONG, n, 1))),
+    ("enums with a tag beside one another", lambda n: local(b"enum size 1048576 align 1 disc u32 { %s } known 0" % listed(
+        b"%d: enum size 1048576 align 1 disc u8 { 0: tuple size 1048576 align 1 { } tag { 7: u8 = 1 } } known 0 tag { }", n))),
     ("cases of a tree", lambda n: local(CASES % (TREE % repeated(b"%d => known 0, ", n)))),
     ("cases of a switch", lambda n: block(b"switch u32 7 { %s_ => b0 }" % repeated(b"%d => b0, ", n))),
     ("arguments of a print", lambda n: block(b"do print(%s) to b0" % listed(b"i8 1", n))),
@@ -161,6 +200,7 @@ WIDE = (
     ("items of a global", lambda n: program(b"global g align 1 { %s}\n" % (b"7 8 " * n))),
     ("pointers of a global", lambda n: program(b"global g align 8 { %s}\n" % (b"&g + 0 " * min(n, 1 << 17)))),
     ("locals of many functions", lambda n: program(b"".join(map(locals_of, range(min(n, 255)))))),
+    ("locals whose names have one hash", lambda n: program(b"".join(map(locals_alike, range(min(n // 80, 255)))))),
     ("blocks of many functions", lambda n: program(b"".join(map(blocks_in, range(min(n, 255)))))),
     ("functions with long names", lambda n: program(b"".join(called(b"x" * n + b"%d" % k) for k in range(255)))),
     ("statements behind many arguments", lambda n: program(of_arguments(blocks_of(b"live x;\n", n)))),
@@ -177,6 +217,16 @@ def nested(opened, inner, closed, depth=29):
     return opened * depth + inner + closed * depth
 
 
+def wide(count):
+    """A type with so many parts, without bytes."""
+    return b"tuple size 0 align 1 { %s }" % listed(b"0: unit", count)
+
+
+def wide_before(count, number):
+    """The same, and behind the parts another that has a number."""
+    return b"tuple size 0 align 1 { %s, 0: array(0, array(%d, u8)) }" % (listed(b"0: unit", count), number)
+
+
 # Each form that may stand in itself, as deep as may be, around something wide; and deep ones over and over.
 DEEP = (
     ("tuples around fields", lambda n: local(nested(FIELDS[:-4] + b"0: ", FIELDS % listed(b"%d: u8", n), b" }"))),
@@ -188,6 +238,9 @@ DEEP = (
     ("enums with tags around fields", lambda n: local(b"".join((
         b"".join(b"enum size 1048576 align 1 disc u8 { 0: " for k in range(29)), FIELDS % listed(b"%d: u8", n),
         b"".join(b" tag { %d: u8 = 1 } } known 0" % (TEXT - 1 - k) for k in range(29)))))),
+    ("enums with tags around arrays over one another", lambda n: local(tagged_arrays(LONG, n, 3 * n, 28))),
+    ("enums with some tags around arrays over one another", lambda n: local(tagged_arrays(LONG, n, 28 * 64, 28))),
+    ("enums with a tag around arrays over one another", lambda n: local(tagged_arrays(LONG, n, 28, 28))),
     ("trees in the first case", lambda n: local(CASES % nested(
         b"branch 0 u32 { 0 => ", TREE % repeated(b"%d => known 0, ", n), b", _ => invalid }"))),
     ("trees in the last case", lambda n: local(CASES % nested(
@@ -197,6 +250,24 @@ DEEP = (
         b"", b", x: raw", blocks_of(b"x = load(%s);\n" % nested(b"deref(load(", b"x", b"), raw)", 15), n))),
     ("fields of fields", lambda n: program(
         b"", b", x: " + nested(ONE_FIELD, b"u8", b" }"), blocks_of(b"mention x%s;\n" % (b".0" * 29), n))),
+    ("variants of variants", lambda n: program(
+        b"", b", x: " + nested(ONE_VARIANT, b"unit", b" tag { } } known 0"),
+        blocks_of(b"mention x%s;\n" % (b"@0" * 29), n))),
+    ("variants of variants moved", lambda n: program(
+        b"", b", x: " + nested(ONE_VARIANT, SMALL, b" tag { } } known 0", 28),
+        blocks_of(b"x%s = load(x%s);\n" % (b"@0" * 28, b"@0" * 28), n))),
+    ("equal types in one another", lambda n: local(
+        b"tuple size 0 align 1 { %s }" % listed(b"0: " + nested(EMPTY, b"unit", b" }", 28), n))),
+    ("equal arrays in one another", lambda n: local(
+        b"tuple size 0 align 1 { %s }" % listed(b"0: " + nested(b"array(1, ", b"unit", b")", 28), n))),
+    ("equal types around fields", lambda n: local(
+        b"tuple size 0 align 1 { %s }" % listed(b"0: " + nested(b"array(1, ", wide(45), b")", 28), n))),
+    ("few equal types around many fields", lambda n: local(
+        b"tuple size 0 align 1 { %s }" % listed(b"0: " + nested(b"array(1, ", wide(n), b")", 28), 32))),
+    ("types around many fields that end otherwise", lambda n: local(b"tuple size 0 align 1 { %s }" % b", ".join(
+        b"0: " + nested(b"array(1, ", wide_before(n, k), b")", 26) for k in range(32)))),
+    ("many types around fields that end otherwise", lambda n: local(b"tuple size 0 align 1 { %s }" % b", ".join(
+        b"0: " + nested(b"array(1, ", wide_before(200, 40503 * k % (1 << 17)), b")", 26) for k in range(n)))),
     ("types written in statements", lambda n: program(
         blocks=blocks_of(b"mention deref(raw 0, %s);\n" % nested(ONE_FIELD, b"u8", b" }", 28), n))),
 )
@@ -206,14 +277,53 @@ def variants(count):
     return b"enum size 0 align 1 disc u32 { %s } invalid" % listed(b"%d: unit tag { }", count)
 
 
-# What has to do with one wide thing, over and over: the time of most of these is a product.
+def turned(count):
+    """The same, each with a number that the others' order doesn't tell."""
+    numbers = (40503 * k % (1 << 17) for k in range(count))
+    return b"enum size 0 align 1 disc u32 { %s } invalid" % b", ".join(b"%d: unit tag { }" % k for k in numbers)
+
+
+def halves(count):
+    """A type with two equal wide parts."""
+    return b"tuple size 0 align 1 { %s }" % listed(b"0: " + wide(count // 2), 2)
+
+
+def halved(count):
+    """Types with two equal parts, in one another as deep as so many go."""
+    return SMALL if count < 2 else b"tuple size 0 align 1 { %s }" % listed(b"0: " + halved(count // 2), 2)
+
+
+# What has to do with one wide thing, over and over.
 AGAIN = (
-    ("a wide type moved", lambda n: program(
-        b"", b", x: tuple size 0 align 1 { %s }" % listed(b"0: unit", n), blocks_of(b"x = load(x);\n", n))),
-    ("the last of many fields", lambda n: program(
-        b"", b", x: tuple size 0 align 1 { %s }" % listed(b"0: unit", n), blocks_of(b"mention x.%d;\n" % (n - 1), n))),
+    ("a wide type moved", lambda n: program(b"", b", x: " + wide(n), blocks_of(b"x = load(x);\n", n))),
+    ("a wide type moved from one local to another", lambda n: program(
+        b"", b", x: %s, y: %s" % (wide(n), wide(n)), blocks_of(b"x = load(y);\n", n))),
+    ("a wide part moved", lambda n: program(b"", b", x: " + halves(n), blocks_of(b"x.0 = load(x.1);\n", n))),
+    ("a wide element moved", lambda n: program(
+        b"", b", x: array(2, %s)" % wide(n), blocks_of(b"x[u64 0] = load(x[u64 1]);\n", n))),
+    ("a wide variant moved", lambda n: program(
+        b"", b", x: enum size 0 align 1 disc u8 { 0: %s tag { } } known 0, y: %s" % (wide(n), wide(n)),
+        blocks_of(b"x@0 = load(y);\n", n))),
+    ("a type of halves moved", lambda n: program(b"", b", x: " + halved(n), blocks_of(b"x = load(x);\n", n))),
+    ("a union of chunks moved", lambda n: program(
+        b"", b", x: union size 1048576 align 1 { } chunks { %s }" % listed(b"%d 0", n),
+        blocks_of(b"x = load(x);\n", n))),
+    ("an enum with a wide tree moved", lambda n: program(
+        b"", b", x: " + CASES % (TREE % repeated(b"%d => known 0, ", n)), blocks_of(b"x = load(x);\n", n))),
+    ("an element of arrays in one another moved", lambda n: program(
+        b"", b", x: " + nested(b"array(1, ", SMALL, b")", 28),
+        blocks_of(b"x%s = load(x%s);\n" % (b"[u64 0]" * 28, b"[u64 0]" * 28), n))),
+    ("an array of wide elements", lambda n: program(
+        b"", b", x: %s, y: %s, z: array(%d, %s)" % (wide(n // 4), wide(n // 4), n, wide(n // 4)),
+        b"b0 regular: z = tuple(array(%d, %s), %s); exit;" % (
+            n, wide(n // 4), b", ".join((b"load(x)", b"load(y)")[k % 2] for k in range(n))))),
+    ("the last of many fields", lambda n: program(b"", b", x: " + wide(n), blocks_of(b"mention x.%d;\n" % (n - 1), n))),
     ("the last of many variants", lambda n: program(
         b"", b", x: " + variants(n), blocks_of(b"mention x@%d;\n" % (n - 1), n))),
+    ("the last of many variants in no order", lambda n: program(
+        b"", b", x: " + turned(n), blocks_of(b"mention x@%d;\n" % (40503 * (n - 1) % (1 << 17)), n))),
+    ("each of many variants", lambda n: program(b"", b", x: " + turned(n), b"b0 regular:\n%sexit;\n" % b"".join(
+        b"mention x@%d;\n" % (40503 * k % (1 << 17)) for k in range(min(n, 4096))))),
     ("the discriminant of the last of many variants", lambda n: program(
         b"", b", x: " + variants(n), blocks_of(b"disc x = %d;\n" % (n - 1), n))),
     ("leaves that name the last of many variants", lambda n: local(
@@ -239,10 +349,9 @@ def faults():
 
 def texts():
     """The texts that are taken, and those with a fault."""
-    for kind, table, most in (("wide", WIDE, TEXT), ("deep", DEEP, TEXT), ("again", AGAIN, PRODUCT)):
+    for kind, table in (("wide", WIDE), ("deep", DEEP), ("again", AGAIN)):
         for what, made in table:
-            text = widest(made, most)
-            yield Case(f"{kind}: {what}", ["check", "P"], {"P": text}, None, 0, None, TEXT_ROOM)
+            yield Case(f"{kind}: {what}", ["check", "P"], {"P": widest(made)}, None, 0, None, TEXT_ROOM)
     yield from faults()
 
 

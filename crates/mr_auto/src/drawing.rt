@@ -93,7 +93,7 @@ fn draw_entries<R: Record>(
     for i in 0..most {
         match next_entry(alloc, machine, chooser)? {
             Some(entry) => {
-                make_step(alloc, machine, &entry, kept)?;
+                make_step(machine, &entry, kept)?;
                 entries.push(entry)?;
             }
             None => return Ok(()),

@@ -8,11 +8,10 @@ ghost use Rattle.mr_run.specs.Runs.{IsMade, foot_by};
 use mr_run::{Record, step};
 use mr_sched::Entry;
 use mr_step::{Machine, StepFault};
-use std::alloc::{AllocError, Global};
+use std::alloc::AllocError;
 
 /// The step of an entry that breaks no rule.
 pub fn make_step<R: Record>(
-    alloc: Global,
     machine: &mut Machine<'_>,
     entry: &Entry,
     kept: &mut R,
@@ -25,7 +24,7 @@ pub fn make_step<R: Record>(
     ensures kept { (steps : List Footprint) → R.keeps kept.old steps
         → OnOk result (R.keeps kept.new (steps ++ foot_by entry.now machine.old)) }
 {
-    match step(alloc, machine, entry, kept) {
+    match step(machine, entry, kept) {
         Ok(()) => Ok(()),
         Err(StepFault::BadEntry { .. }) => unreachable!(),
         Err(StepFault::Memory | StepFault::Failed) => Err(AllocError),

@@ -1,7 +1,7 @@
 -- Marks in their order, and the rows that are found by them.
 use Rattle.std.proofs.Common.{◌≡◌, ℕ, ◌+◌, ◌-◌, ◌<◌, ◌≤◌, ◌^◌, List, [], ◌∷◌, ◌++◌, Bool, true, false, cond, map, length, length-append, get_or, min, take, refl, sym, ◌∙◌, ap, subst, arith}
 use Rattle.std.proofs.lemmas.Bool.{and_parts, both_ways}
-use Rattle.std.proofs.lemmas.List.{get_or-append-add, get_or-map, get_or-take, get_or_append_left, get_or_default, get_or_push, get_or_read, length-map, take-append-le, take-take}
+use Rattle.std.proofs.lemmas.List.{get_or-append-add, get_or-map, get_or-take, get_or_append_left, get_or_default, get_or_push, get_or_read, length-map, take-append-le, take-take, take_all}
 use Rattle.std.proofs.lemmas.Map.Lookups.{CmpEqualImpliesEq, exact_unsigned}
 use Rattle.std.proofs.lemmas.Map.Views.{Contains-from_any, any-filter_same, range_contains-from_IsInRange, tells_apart}
 use native.Mathlib.Decide.{ℕ_discrete, dec_lt}
@@ -218,11 +218,7 @@ marked_same shelves marks rows new keys all = λ x lt.
     subst (λ (k : Key). IsMarked shelves marks k x) (sym (keys.key x)) (all x (omega (arith, lt, many)))
 
 pub grown_same : (rows : List Row) → IsGrown rows rows
-grown_same rows = record { longer = omega arith; same = grown_all rows; empty = λ x low high. absurd (omega (arith, low, high)) }
-  where
-    grown_all : (rows : List Row) → take (length rows) rows ≡ rows
-    grown_all [] = refl
-    grown_all (r ∷ rest) = ap (λ (l : List Row). r ∷ l) (grown_all rest)
+grown_same rows = record { longer = omega arith; same = take_all (length rows) rows (omega arith); empty = λ x low high. absurd (omega (arith, low, high)) }
 
 pub grown_push : (old rows new : List Row) (row : Row) → IsGrown old rows → row.last ≡ 0 → new ≡ rows ++ row ∷ [] → IsGrown old new
 grown_push old rows new row g none e =

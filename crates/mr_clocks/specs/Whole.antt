@@ -1,5 +1,5 @@
 -- Questions on a whole run: what happens before some steps, and what lies before the threads' fronts.
-use Rattle.std.specs.Prelude.{◌≡◌, ℕ, ◌<◌, ◌^◌, ◌⊎◌, List, length, slice_index, slice_index_or, MatchOption}
+use Rattle.std.specs.Prelude.{◌≡◌, ℕ, ◌<◌, ◌≤◌, ◌^◌, ◌⊎◌, List, length, slice_index, slice_index_or, MatchOption}
 use Rattle.mr_event.specs.Footprint.{Footprint}
 use Rattle.mr_event.specs.Order.{thread_at, HappensBefore}
 use Rattle.mr_clocks.specs.declared.whole.RunOrder.{RunOrder}
@@ -29,6 +29,6 @@ IsNeededBy run steps n k = (m : ℕ) × (m < n) × IsUpTo run (slice_index steps
 abbrev pub IsNeeded : List Footprint → List ℕ → ℕ → Type 0
 IsNeeded run steps k = IsNeededBy run steps (length steps) k
 
--- the order of a run: an analysis that tracks it, or none, from 2^32 steps on
+-- the order of a run: an analysis that tracks it, or none, from 2^32 steps on alone
 abbrev pub IsOrderOf : RunOrder → List Footprint → Type 0
-IsOrderOf order run = MatchOption order.clocks (Unit {0}) (λ a. (length run < 2 ^ 32) × Tracks a run)
+IsOrderOf order run = MatchOption order.clocks (2 ^ 32 ≤ length run) (λ a. (length run < 2 ^ 32) × Tracks a run)

@@ -1,4 +1,7 @@
 //! One more step of a run: its clock, its greatest partner, and its rows.
+//!
+//! Most steps do what an earlier one did, and keep the clock of the step before in their thread. What the others need
+//! stands in calls of their own, which are marked `inline(never)`, so that it costs those steps nothing.
 
 ghost use Rattle.std.specs.Prelude.{◌≡◌, ◌≢◌, ℕ, ◌+◌, ◌<◌, ◌≤◌, ◌^◌, IfOk, OnOk, OnErr, MatchOption, length, slice_index, max, vec_len, vec_capacity};
 ghost use Rattle.mr_event.specs.Order.{step_at, thread_at, IsGreatestPartner, HasNoPartner};
@@ -224,6 +227,7 @@ fn add_step(
 
 /// Adds step `j` of the run, and gives its greatest partner. Where memory runs out, there may be rows without a step
 /// behind those of before.
+#[inline(always)]
 pub(crate) fn add_last(
     alloc: Global,
     run: &[Footprint],

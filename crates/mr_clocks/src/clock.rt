@@ -69,7 +69,9 @@ impl Clock {
         ensures others { OnOk result ((t : ℕ) → t ≢ thread → slice_index self.new t ≡ slice_index self.old t) }
         ensures err { OnErr result (self.new ≡ self.old) }
     {
-        extend_past(&mut self.times, thread as usize)?;
+        if self.times.len() <= thread as usize {
+            extend_past(&mut self.times, thread as usize)?;
+        }
         self.times[thread as usize] = self.times[thread as usize].max(time);
         Ok(())
     }

@@ -191,6 +191,16 @@ fn conflicts_with(a: Access, others: &[Access]) -> bool
     others.iter().any(|b| conflict(a, *b))
 }
 
+/// Whether the step may ask the key: where that is a range, exactly if one of its accesses conflicts with it.
+pub(crate) fn may_ask(key: Key, step: &Footprint) -> bool
+    ensures { IsTrue (asks step.now key) → IsTrue result }
+{
+    match key {
+        Key::Range(a) => conflicts_with(a, step.accesses()),
+        _ => true,
+    }
+}
+
 /// Whether an edge to the step may come from an earlier one that is noted under the key: not where the key is a range
 /// that no access conflicts with, and not where one races with it.
 pub(crate) fn may_bind(key: Key, step: &Footprint) -> bool

@@ -68,6 +68,7 @@ fn if_new(clock: Clock, changed: bool, next: usize) -> Option<Clock>
 
 // The clock of step `j`, from those of the steps before it: it follows each step of another thread that an edge leads
 // from.
+#[inline(never)]
 fn walked_clock(
     alloc: Global,
     run: &[Footprint],

@@ -3,12 +3,13 @@
 
 ghost use Rattle.std.specs.Prelude.{◌≡◌, ◌≢◌, ℕ, ◌<◌, List, IfOk, IsTrue, OnOk, length, vec_len};
 ghost use Rattle.mr_clocks.specs.declared.rows.Row.{Row};
+ghost use Rattle.mr_clocks.specs.Keys.{asks};
 ghost use Rattle.mr_clocks.specs.Marks.{AreMarked};
 ghost use Rattle.mr_clocks.specs.Memos.{AreMemos, IsMemo, IsMemoOf, memo_at};
 ghost use Rattle.mr_clocks.specs.Rows.{IsGrown, IsListed, row_at};
 
 use crate::index::{Index, places_for, rows_asked};
-use crate::keys::noted_by;
+use crate::keys::{may_ask, noted_by};
 use crate::rows::Row;
 use mr_base::Access;
 use mr_event::{Footprint, OutOfMemory, same_step};
@@ -21,7 +22,7 @@ const MEMOS: usize = 1024;
 
 const FEW: usize = 64;
 
-/// A step, the places of all rows of other threads that it asks, and of those in which it is noted. The stamp is one
+/// A step, the places of the rows of other threads that it asks, and of those in which it is noted. The stamp is one
 /// more than the number of rows that there were, or 0 where there is no step.
 #[derive(Drop)]
 pub(crate) struct Memo {
@@ -115,45 +116,47 @@ fn fill(alloc: Global, memos: &mut Vec<Memo>) -> Result<(), OutOfMemory>
     Ok(())
 }
 
-// Appends a place, if a row of another thread is there.
+// Appends a place, if a row of another thread is there whose key the step may ask.
 fn add_other(
     others: &mut Vec<usize>,
     rows: &[Row],
     x: usize,
-    thread: u32,
+    step: &Footprint,
 ) -> Result<(), OutOfMemory>
     ensures kept { OnOk result ((z : ℕ) → IsListed others.old.items z → IsListed others.new.items z) }
-    ensures here { OnOk result (x < length rows.now → (row_at rows.now x).thread ≢ thread
-        → IsListed others.new.items x) }
+    ensures here { OnOk result (x < length rows.now → (row_at rows.now x).thread ≢ step.now.thread
+        → IsTrue (asks step.now (row_at rows.now x).key) → IsListed others.new.items x) }
 {
     if x >= rows.len() {
         return Ok(());
     }
-    if rows[x].thread == thread {
+    let row = &rows[x];
+    if row.thread == step.thread() || !may_ask(row.key, step) {
         return Ok(());
     }
     others.push(x)?;
     Ok(())
 }
 
-// Those places at which there are rows of other threads.
+// Those places at which there are rows of other threads whose keys the step asks.
 fn of_others(
     alloc: Global,
     rows: &[Row],
     found: &[usize],
-    thread: u32,
+    step: &Footprint,
 ) -> Result<Vec<usize>, OutOfMemory>
-    ensures { IfOk result (λ v. (x : ℕ) → x < length rows.now → (row_at rows.now x).thread ≢ thread
-        → IsListed found.now x → IsListed v.items x) }
+    ensures { IfOk result (λ v. (x : ℕ) → x < length rows.now → (row_at rows.now x).thread ≢ step.now.thread
+        → IsTrue (asks step.now (row_at rows.now x).key) → IsListed found.now x → IsListed v.items x) }
 {
     let mut others = Vec::new(alloc);
     for y in 0..found.len() {
-        add_other(&mut others, rows, found[y], thread)?;
+        add_other(&mut others, rows, found[y], step)?;
     }
     Ok(others)
 }
 
 // A memo of a step, whose rows are searched for. Those in which it is noted are made where they are missing.
+#[inline(never)]
 fn memo_for(
     alloc: Global,
     index: &mut Index,
@@ -168,12 +171,10 @@ fn memo_for(
     let keys = noted_by(alloc, step)?;
     let noted = places_for(alloc, index, rows, keys.as_slice(), step.thread())?;
     let found = rows_asked(alloc, &*index, step)?;
-    let asked = of_others(alloc, rows.as_slice(), found.as_slice(), step.thread())?;
-    let mut copy = Footprint::nothing(alloc);
-    copy.copy_from(step)?;
+    let asked = of_others(alloc, rows.as_slice(), found.as_slice(), step)?;
     let stamp = rows.len() + 1;
     Ok(Memo {
-        step: copy,
+        step: step.copied()?,
         stamp,
         asked,
         noted,

@@ -245,18 +245,13 @@ fn note(rows: &mut Vec<Row>, links: &mut Vec<Link>, x: usize, j: usize)
     ensures one { vec_len links.new ≡ vec_len links.old + 1 }
     ensures room { vec_capacity links.new ≡ vec_capacity links.old }
 {
-    let row = rows[x];
+    let row = &mut rows[x];
     let before = below(links.as_slice(), row.last, j);
     links.push_reserved(Link {
         step: j as u32,
         before,
     });
-    let last = links.len() as u32;
-    rows[x] = Row {
-        key: row.key,
-        thread: row.thread,
-        last,
-    };
+    row.last = links.len() as u32;
 }
 
 /// Notes step `j` in the rows at some places, which are those of the keys under which it is noted.

@@ -172,6 +172,7 @@ pub(crate) fn reserve_table(skips: &mut Vec<Skip>, more: usize) -> Result<(), Ou
 }
 
 // Fills the table with skips over nothing.
+#[inline(never)]
 fn fill(alloc: Global, skips: &mut Vec<Skip>)
     requires { vec_len skips.old < 8192 → 8192 ≤ vec_capacity skips.old }
     ensures { (run : List Footprint) (n : ℕ) (links : List Link) → AreSkips run n links skips.old.items
@@ -195,6 +196,7 @@ fn store(skips: &mut Vec<Skip>, skip: Skip)
 }
 
 // Puts skips into their places in the table.
+#[inline(never)]
 fn store_each(skips: &mut Vec<Skip>, news: Vec<Skip>)
     ensures { (run : List Footprint) (n : ℕ) (links : List Link) → AreSkips run n links skips.old.items
         → AreSkips run n links news.items → AreSkips run n links skips.new.items }

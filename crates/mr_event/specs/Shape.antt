@@ -1,5 +1,5 @@
 -- The footprint that is kept in a shape.
-use Rattle.std.specs.Prelude.{ℕ, List, [], ◌∷◌, Bool, false, Option, Some, None}
+use Rattle.std.specs.Prelude.{ℕ, List, [], ◌∷◌, Bool, false}
 use Rattle.mr_base.specs.declared.access.Access.{Access}
 use Rattle.mr_base.specs.declared.byte.AllocId.{AllocId}
 use Rattle.mr_base.specs.declared.thread.Event.{Event}
@@ -8,11 +8,6 @@ use Rattle.mr_event.specs.declared.shape.Shape.{Shape}
 use Rattle.mr_event.specs.declared.shape.Shape.TheVariants.{Bare, Accessed, Touched, Both, Listed}
 use Rattle.mr_event.specs.Footprint.{Footprint}
 use Rattle.mr_event.specs.Lists.{listed}
-
--- one item, or none
-abbrev pub items_of : {T : Type 0} → Option T → List T
-items_of None = []
-items_of (Some item) = item ∷ []
 
 -- the footprint of a step that made, freed and woke nothing
 abbrev pub plain : ℕ → Event → Bool → List Access → List AllocId → Footprint

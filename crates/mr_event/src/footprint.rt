@@ -1,7 +1,7 @@
 //! What is kept of a completed step, and a race of two of them.
 
 use crate::OutOfMemory;
-use crate::lists::Step;
+use crate::lists::{Lists, Step};
 use crate::shape::Shape;
 use mr_base::{Access, AllocId, Event};
 use std::alloc::Global;
@@ -32,7 +32,7 @@ impl Model for Footprint {
 }
 
 impl Footprint {
-    ghost use Rattle.std.specs.Prelude.{◌≡◌, [], false, IfOk, OnErr, OnOk};
+    ghost use Rattle.std.specs.Prelude.{◌≡◌, ◌++◌, ◌∷◌, [], false, IfOk, OnErr, OnOk};
     ghost use Rattle.mr_base.specs.declared.thread.Event.TheVariants.{Quiet};
     ghost use Rattle.mr_event.specs.Lists.{footprint_of};
     ghost use Rattle.mr_event.specs.Shape.{footprint_in};
@@ -66,12 +66,60 @@ impl Footprint {
         })
     }
 
-    /// Takes the footprint of a step, and keeps the room that it has.
-    pub fn refill(&mut self, step: &Step<'_>) -> Result<(), OutOfMemory>
+    /// Takes the footprint of a step, in the room of lists that there is or its own, which is put away while the step needs
+    /// none.
+    pub(crate) fn refill(
+        &mut self,
+        room: &mut Option<Box<Lists>>,
+        step: &Step<'_>,
+    ) -> Result<(), OutOfMemory>
         ensures { OnOk result (self.new ≡ footprint_of step.now) }
     {
-        self.shape.refill(self.alloc, step)?;
+        self.shape.refill(self.alloc, room, step)
+    }
+
+    /// A copy. It takes room of its own only where the step needs it.
+    pub fn copied(&self) -> Result<Footprint, OutOfMemory>
+        ensures { IfOk result (λ f. f ≡ self.now) }
+    {
+        Ok(self.with(self.shape.copy(self.alloc)?))
+    }
+
+    /// Appends a copy to others. It takes room of its own only where the step needs it.
+    pub fn push_to(&self, steps: &mut Vec<Footprint>) -> Result<(), OutOfMemory>
+        ensures ok { OnOk result (steps.new.items ≡ steps.old.items ++ self.now ∷ []) }
+        ensures err { OnErr result (steps.new.items ≡ steps.old.items) }
+    {
+        steps.reserve(1)?;
+        match &self.shape {
+            Shape::Bare(thread, event, ended) => {
+                steps.push_reserved(self.with(Shape::Bare(*thread, *event, *ended)))
+            }
+            Shape::Accessed(thread, access) => {
+                steps.push_reserved(self.with(Shape::Accessed(*thread, *access)))
+            }
+            Shape::Touched(thread, allocation) => {
+                steps.push_reserved(self.with(Shape::Touched(*thread, *allocation)))
+            }
+            Shape::Both(thread, access, allocation) => {
+                steps.push_reserved(self.with(Shape::Both(*thread, *access, *allocation)))
+            }
+            Shape::Listed(_, _, _, _) => {
+                let copy = self.copied()?;
+                steps.push_reserved(copy)
+            }
+        }
         Ok(())
+    }
+
+    // A footprint with the same allocator.
+    fn with(&self, shape: Shape) -> Footprint
+        ensures { result ≡ footprint_in shape }
+    {
+        Footprint {
+            alloc: self.alloc,
+            shape,
+        }
     }
 
     /// Puts a copy of another footprint in its place. After an `Err` it is what it was.

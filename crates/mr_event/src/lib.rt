@@ -3,8 +3,9 @@
 //!
 //! - [`Footprint`]: what a completed step read, changed and woke, which contracts see as the record of
 //!   `specs/Footprint.antt`. A run is the list of its steps' footprints. [`Footprint::nothing`] is one of a step that did
-//!   nothing, [`Footprint::of`] that of a [`Step`], and [`Footprint::step`] gives the step back. [`Footprint::refill`] and
-//!   [`Footprint::copy_from`] put that of a step, or a copy of another, in its place. The other calls read a field each.
+//!   nothing, [`Footprint::of`] that of a [`Step`], and [`Footprint::step`] gives the step back. [`Footprint::copied`]
+//!   is a copy, which [`Footprint::copy_from`] puts in another's place. The other calls read a field each.
+//! - [`Latest`]: the footprint of the last step of a run, of which each step takes the place ([`Latest::refill`]).
 //! - [`Event`]: what a step did to a lock or to another thread.
 //! - [`Pair`]: a race, by the places of its two steps in the run.
 //!
@@ -27,6 +28,7 @@
 mod clocks;
 mod dependence;
 mod footprint;
+mod latest;
 mod laws;
 mod likeness;
 mod limits;
@@ -37,6 +39,7 @@ mod shape;
 
 pub use dependence::{depends, wakes};
 pub use footprint::{Footprint, Pair};
+pub use latest::Latest;
 pub use laws::{decided, predicted_lists, racing_steps_depend};
 pub use likeness::same_step;
 pub use limits::foot_ok;

@@ -69,6 +69,7 @@ fn same_threads(a: &[u32], b: &[u32]) -> bool
 }
 
 // Whether each field of the one is that of the other.
+#[inline(never)]
 fn fields_alike(a: &Footprint, b: &Footprint) -> bool
     ensures { IsTrue result ↔ AreAlike a.now b.now }
 {

@@ -1,13 +1,14 @@
 //! How a footprint is kept.
-ghost use Rattle.std.specs.Prelude.{◌≡◌, [], IfOk, IfSome, IsTrue, OnOk, false};
+ghost use Rattle.std.specs.Prelude.{◌≡◌, IfOk, IsTrue, OnOk, false};
 ghost use Rattle.mr_base.specs.declared.thread.Event.TheVariants.{Quiet};
 ghost use Rattle.mr_event.specs.Lists.{footprint_of};
-ghost use Rattle.mr_event.specs.Shape.{footprint_in, items_of, plain};
+ghost use Rattle.mr_event.specs.Shape.{footprint_in};
 
 use crate::OutOfMemory;
 use crate::lists::{Lists, Step, is_none};
 use mr_base::{Access, AllocId, Event};
 use std::alloc::Global;
+use std::mem::replace;
 
 /// How a footprint is kept: the thread of its step, and what else the step did. A step without lists takes no room of its
 /// own, nor does one that did nothing to a lock or a thread and has at most one access and one touched allocation. Most
@@ -31,25 +32,61 @@ impl Shape {
     pub fn of(alloc: Global, step: &Step<'_>) -> Result<Shape, OutOfMemory>
         ensures { IfOk result (λ shape. footprint_in shape ≡ footprint_of step.now) }
     {
-        match small_of(step) {
-            Some(shape) => Ok(shape),
-            None => listed(alloc, step),
+        let mut shape = Shape::Bare(step.thread, step.event, step.ended);
+        if shape.take_small(step) {
+            return Ok(shape);
+        }
+        listed(alloc, step)
+    }
+
+    /// Takes that of a step. The room of its lists is put away while a step needs none.
+    pub fn refill(
+        &mut self,
+        alloc: Global,
+        room: &mut Option<Box<Lists>>,
+        step: &Step<'_>,
+    ) -> Result<(), OutOfMemory>
+        ensures { OnOk result (footprint_in self.new ≡ footprint_of step.now) }
+    {
+        self.put_away(room);
+        if self.take_small(step) {
+            return Ok(());
+        }
+        *self = match room.take() {
+            Some(lists) => listed_in(lists, step)?,
+            None => listed(alloc, step)?,
+        };
+        Ok(())
+    }
+
+    // Puts away the room of lists, if there is any.
+    fn put_away(&mut self, room: &mut Option<Box<Lists>>) {
+        if let Shape::Listed(_, _, _, _) = self {
+            let shape = replace(self, Shape::Bare(0, Event::Quiet, false));
+            if let Shape::Listed(_, _, _, lists) = shape {
+                *room = Some(lists);
+            }
         }
     }
 
-    /// Takes that of a step, and keeps the room that it has.
-    pub fn refill(&mut self, alloc: Global, step: &Step<'_>) -> Result<(), OutOfMemory>
-        ensures { OnOk result (footprint_in self.new ≡ footprint_of step.now) }
+    // Takes that of a step which needs no room, and tells whether it is one. Each case writes its own parts alone.
+    fn take_small(&mut self, step: &Step<'_>) -> bool
+        ensures { IsTrue result → footprint_in self.new ≡ footprint_of step.now }
     {
-        if let Shape::Listed(thread, event, ended, lists) = self {
-            lists.refill(step)?;
-            *thread = step.thread;
-            *event = step.event;
-            *ended = step.ended;
-            return Ok(());
+        if !(is_none(step.allocated) && is_none(step.freed) && is_none(step.woken)) {
+            return false;
         }
-        *self = Shape::of(alloc, step)?;
-        Ok(())
+        let quiet = is_quiet(step);
+        match (step.accesses, step.touched) {
+            ([], []) => *self = Shape::Bare(step.thread, step.event, step.ended),
+            ([access], []) if quiet => *self = Shape::Accessed(step.thread, *access),
+            ([], [allocation]) if quiet => *self = Shape::Touched(step.thread, *allocation),
+            ([access], [allocation]) if quiet => {
+                *self = Shape::Both(step.thread, *access, *allocation)
+            }
+            _ => return false,
+        }
+        true
     }
 
     /// That of the same footprint. It takes room of its own only where the step needs it.
@@ -71,17 +108,6 @@ impl Shape {
     }
 }
 
-// The item, where there is at most one.
-fn single<T: Copy + Drop>(items: &[T]) -> Option<Option<T>>
-    ensures { IfSome result (λ item. items_of item ≡ items.now) }
-{
-    match items {
-        [] => Some(None),
-        [item] => Some(Some(*item)),
-        _ => None,
-    }
-}
-
 // Whether the step did nothing to a lock or a thread, and didn't end its own.
 fn is_quiet(step: &Step<'_>) -> bool
     ensures { IsTrue result → (step.now.event ≡ Quiet) × (step.now.ended ≡ false) }
@@ -89,48 +115,15 @@ fn is_quiet(step: &Step<'_>) -> bool
     matches!((step.event, step.ended), (Event::Quiet, false))
 }
 
-// The shape of such a step.
-fn quiet(thread: u32, access: Option<Access>, allocation: Option<AllocId>) -> Shape
-    ensures { footprint_in result ≡ plain thread Quiet false (items_of access) (items_of allocation) }
+// The shape of a step with lists, which take this room.
+fn listed_in(mut lists: Box<Lists>, step: &Step<'_>) -> Result<Shape, OutOfMemory>
+    ensures { IfOk result (λ shape. footprint_in shape ≡ footprint_of step.now) }
 {
-    match (access, allocation) {
-        (Some(access), Some(allocation)) => Shape::Both(thread, access, allocation),
-        (Some(access), None) => Shape::Accessed(thread, access),
-        (None, Some(allocation)) => Shape::Touched(thread, allocation),
-        (None, None) => Shape::Bare(thread, Event::Quiet, false),
-    }
+    lists.refill(step)?;
+    Ok(Shape::Listed(step.thread, step.event, step.ended, lists))
 }
 
-// The shape of a step that made, freed and woke nothing, where it takes no room of its own.
-fn few_of(step: &Step<'_>) -> Option<Shape>
-    requires allocated { [] ≡ step.now.allocated.now }
-    requires freed { [] ≡ step.now.freed.now }
-    requires woken { [] ≡ step.now.woken.now }
-    ensures { IfSome result (λ shape. footprint_in shape ≡ footprint_of step.now) }
-{
-    if is_quiet(step) {
-        match (single(step.accesses), single(step.touched)) {
-            (Some(access), Some(allocation)) => Some(quiet(step.thread, access, allocation)),
-            _ => None,
-        }
-    } else if is_none(step.accesses) && is_none(step.touched) {
-        Some(Shape::Bare(step.thread, step.event, step.ended))
-    } else {
-        None
-    }
-}
-
-// The shape of a step, where it takes no room of its own.
-fn small_of(step: &Step<'_>) -> Option<Shape>
-    ensures { IfSome result (λ shape. footprint_in shape ≡ footprint_of step.now) }
-{
-    if is_none(step.allocated) && is_none(step.freed) && is_none(step.woken) {
-        few_of(step)
-    } else {
-        None
-    }
-}
-
+// The shape of a step with lists, which take room of their own.
 fn listed(alloc: Global, step: &Step<'_>) -> Result<Shape, OutOfMemory>
     ensures { IfOk result (λ shape. footprint_in shape ≡ footprint_of step.now) }
 {

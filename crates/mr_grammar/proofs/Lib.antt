@@ -1,7 +1,6 @@
 pub mod AsciiLaws
 pub mod Canon
 pub mod Names
-pub mod Nesting
 pub mod ParsingLaws
 pub mod Shape
 pub mod Stops

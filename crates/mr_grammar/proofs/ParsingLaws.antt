@@ -14,9 +14,17 @@ use Rattle.mr_grammar.specs.Faults.{BreaksFirst, FirstFault, OfTokens, OfGrammar
 use Rattle.mr_words.specs.TextFaults.{fault_at}
 use Rattle.mr_grammar.specs.Parsing.{body_of, parsed, program_in}
 use Rattle.mr_grammar.specs.Reading.{◌>>=◌}
-use Rattle.mr_grammar.proofs.Walk.SoundLaws.{given}
-use Rattle.mr_grammar.proofs.Stops.StopLaws.{stopped}
+use Rattle.mr_grammar.proofs.Walk.Says.{err-same}
 use Rattle.mr_grammar.proofs.Stops.BodyLaws.{body_writes, writes_body, body_breaks, breaks_body}
+
+-- what comes of a step and of what follows it, and the stop of a step or of what follows it
+given : {A B : Type 0} (m : Result A Stop) (f : A → Result B Stop) (y : B) → m >>= f ≡ Ok y → (x : A) × (m ≡ Ok x) × (f x ≡ Ok y)
+given (Ok x) f y e = (x, refl, e)
+given (Err s) f y e = absurd (cc)
+
+stopped : {A B : Type 0} (m : Result A Stop) (f : A → Result B Stop) (s : Stop) → m >>= f ≡ Err s → (m ≡ Err s) ⊎ ((x : A) × (m ≡ Ok x) × (f x ≡ Err s))
+stopped (Ok x) f s e = inr (x, refl, e)
+stopped (Err t) f s e = inl (ap Err (err-same e))
 
 -- The words are in the grammar whatever their names stand for, and where names stand for what the words define, they write the program.
 pub record WritesProgram (words : List Word) (p : Program) : Type 0 where

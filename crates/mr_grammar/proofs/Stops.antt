@@ -2,15 +2,9 @@
 pub mod BodyLaws
 pub mod FlawLaws
 pub mod LimitLaws
-pub mod LocalLaws
 pub mod PartLaws
 pub mod PieceLaws
-pub mod PlainLaws
 pub mod Predictive
-pub mod PrefixLaws
-pub mod ProgramLaws
 pub mod ProgramTold
-pub mod SampledForms
+pub mod Said
 pub mod Samples
-pub mod StopLaws
-pub mod WordLaws

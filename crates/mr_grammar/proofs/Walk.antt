@@ -5,8 +5,10 @@ pub mod CheckedLaws
 pub mod CompleteLaws
 pub mod Conditions
 pub mod EnsureLaws
+pub mod Fair
+pub mod FairForms
+pub mod FairJudges
 pub mod HeightLaws
 pub mod InsideLaws
-pub mod ManyLaws
 pub mod Rows
-pub mod SoundLaws
+pub mod Says

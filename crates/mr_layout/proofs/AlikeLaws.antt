@@ -15,8 +15,8 @@ use Rattle.mr_ast.specs.declared.types.Variant.{Variant}
 use Rattle.mr_ast.specs.Integers.{int_size, is_fitting}
 use Rattle.mr_base.specs.Pairs.{some_pair, same_pair, are_meeting, not_empty}
 use Rattle.mr_base.proofs.Twins.{some_pair_not_empty}
-use Rattle.mr_layout.specs.Alike.{AreKeys, number_key, variant_key, case_key, tag_range, field_range, number_twice, case_twice, tags_meeting, each_variant, are_tags_fitting, is_some_tag_used, each_case}
-use Rattle.mr_layout.specs.EnumRules.{same_num, is_number_of, are_variants, meets_tag, is_some_used, are_tags, is_case, is_tree, are_tree_cases}
+use Rattle.mr_layout.specs.Alike.{AreKeys, number_key, variant_key, case_key, tag_range, field_range, number_twice, case_twice, tags_meeting, each_variant, are_tags_fitting, is_some_tag_used, are_tags_alone, is_variant_tag_used, each_case}
+use Rattle.mr_layout.specs.EnumRules.{same_num, is_number_of, are_variants, meets_tag, is_some_used, are_tags, are_all_tags, is_case, is_tree, are_tree_cases}
 use Rattle.mr_layout.specs.Rules.{is_past, meets_any, is_overlapping, meets_chunk, is_chunk_overlapping}
 use Rattle.mr_layout.specs.Sizes.{size_of, align_of}
 
@@ -72,6 +72,20 @@ are_tags_apart size t [] = refl
 are_tags_apart size t (g ∷ tags) =
     ap (λ r. nat_le (g.at + int_size g.int) size && (is_fitting g.int g.number && (not (meets_tag g tags) && (not (is_some_used t g.at (int_size g.int)) && r)))) (are_tags_apart size t tags)
     ∙ past_four (nat_le (g.at + int_size g.int) size) (is_fitting g.int g.number) (meets_tag g tags) (tags_meeting tags) (is_some_used t g.at (int_size g.int)) (is_some_tag_used t tags) (are_tags_fitting size tags)
+
+apart_two : (m f u a x : Bool) → ((not m && (f && not u)) && (a && not x)) ≡ (((not m && f) && a) && not (u || x))
+apart_two true f u a x = refl
+apart_two false false u a x = refl
+apart_two false true true true x = refl
+apart_two false true true false x = refl
+apart_two false true false a x = refl
+
+-- the tags of all variants: what is asked of those of each alone, and that no variant's type uses a byte of one
+pub all_tags_apart : (size : ℕ) (variants : List Variant) → are_all_tags size variants ≡ (are_tags_alone size variants && not (is_variant_tag_used variants))
+all_tags_apart size [] = refl
+all_tags_apart size (v ∷ variants) =
+    (λ i. are_tags_apart size v.ty v.tags i && all_tags_apart size variants i)
+    ∙ apart_two (tags_meeting v.tags) (are_tags_fitting size v.tags) (is_some_tag_used v.ty v.tags) (are_tags_alone size variants) (is_variant_tag_used variants)
 
 -- the cases of a branch: none twice, and each in order
 pub are_cases_apart : (size : ℕ) (variants : List Variant) (i : IntType) (cases : List (Num × Tree)) → are_tree_cases size variants i cases ≡ (not (case_twice cases) && each_case size variants i cases)

@@ -11,7 +11,7 @@ use Rattle.mr_layout.specs.Met.{is_some_below}
 use Rattle.mr_layout.proofs.Below.{some_at, none_below, same_some, same_tests, some_either}
 use Rattle.mr_base.proofs.Comparisons.{le_from, lt_from, lt_test, le_test}
 
-mark_take : (m k : ℕ) (table : List ℕ) → k < m → is_mark (take m table) k ≡ is_mark table k
+pub mark_take : (m k : ℕ) (table : List ℕ) → k < m → is_mark (take m table) k ≡ is_mark table k
 mark_take m k table h = ap (nat_lt 0) (get_or-take m table k 0 h)
 
 mark_drop : (s k : ℕ) (table : List ℕ) → is_mark (drop s table) k ≡ is_mark table (s + k)
@@ -89,7 +89,7 @@ marked_first p m table =
     some_at (λ at. (nat_lt at m && p at) && is_mark table at) (length table) k low
     (and_from (nat_lt k m && p k) (is_mark table k) (and_from (nat_lt k m) (p k) (lt_test k m h) a.0) (sym (mark_take m k table h) ∙ a.1)))
 
-or_false : (b : Bool) → (b || false) ≡ b
+pub or_false : (b : Bool) → (b || false) ≡ b
 or_false true = refl
 or_false false = refl
 
@@ -137,7 +137,7 @@ longer p table m h =
     let low : k < m = omega arith in
     some_at (λ at. p at && is_mark table at) m k low e)
 
-both_marks : (a b : ℕ) → nat_lt 0 (max a b) ≡ (nat_lt 0 a || nat_lt 0 b)
+pub both_marks : (a b : ℕ) → nat_lt 0 (max a b) ≡ (nat_lt 0 a || nat_lt 0 b)
 both_marks a b = by (nat_lt 0 a) refl
   where
     by : (t : Bool) → nat_lt 0 a ≡ t → nat_lt 0 (max a b) ≡ (nat_lt 0 a || nat_lt 0 b)

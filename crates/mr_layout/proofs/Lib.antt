@@ -16,6 +16,7 @@ pub mod PartsOk
 pub mod RowLaws
 pub mod RunLaws
 pub mod SizeLaws
+pub mod TableLaws
 pub mod TagLaws
 pub mod TreeLaws
 pub mod TreeOk

@@ -51,7 +51,7 @@ met_either part other start end ranges =
     same_tests _ _ end (λ k l. spread (nat_le start k) (part (k - start)) (other (k - start)) (is_in_chunk ranges k))
     ∙ some_either (λ at. is_in_part start part at && is_in_chunk ranges at) (λ at. is_in_part start other at && is_in_chunk ranges at) end
 
-part_in : (part : Use) (start inside at : ℕ) → is_in_part start (is_in_part inside part) at ≡ is_in_part (start + inside) part at
+pub part_in : (part : Use) (start inside at : ℕ) → is_in_part start (is_in_part inside part) at ≡ is_in_part (start + inside) part at
 part_in part start inside at = by (nat_le start at) (nat_le inside (at - start)) (nat_le (start + inside) at) refl refl refl
   where
     by : (a b c : Bool) → nat_le start at ≡ a → nat_le inside (at - start) ≡ b → nat_le (start + inside) at ≡ c
@@ -77,7 +77,7 @@ pub met_part : (part : Use) (start inside end : ℕ) (ranges : List (ℕ × ℕ)
 unfolding is_met
 met_part part start inside end ranges = same_tests _ _ end (λ k l. ap (λ b. b && is_in_chunk ranges k) (part_in part start inside k))
 
-run_in : (start len at : ℕ) → (nat_le start at && nat_lt (at - start) len) ≡ is_in start len at
+pub run_in : (start len at : ℕ) → (nat_le start at && nat_lt (at - start) len) ≡ is_in start len at
 run_in start len at = grind (arith, nat_tests)
 
 -- the first bytes of a part

@@ -1,5 +1,5 @@
 -- The parts of a list that are compared with one another, and what is asked of each of them alone.
-use Rattle.std.specs.Prelude.{ℕ, ◌+◌, Bool, true, false, ◌&&◌, ◌||◌, ◌==◌, nat_le, if◌then◌else◌, List, [], ◌∷◌, map}
+use Rattle.std.specs.Prelude.{ℕ, ◌+◌, Bool, true, false, not, ◌&&◌, ◌||◌, ◌==◌, nat_le, if◌then◌else◌, List, [], ◌∷◌, map}
 use Rattle.std.specs.List.Sorted.{IsPermutation, IsSorted}
 use Rattle.mr_ast.specs.declared.types.IntType.{IntType}
 use Rattle.mr_ast.specs.declared.types.Num.{Num}
@@ -69,6 +69,17 @@ are_tags_fitting size (g ∷ tags) =
 abbrev pub is_some_tag_used : Ty → List Tag → Bool
 is_some_tag_used t [] = false
 is_some_tag_used t (g ∷ tags) = is_some_used t g.at (int_size g.int) || is_some_tag_used t tags
+
+-- of each variant no two tags meet, and each lies inside the size and has a number that fits
+abbrev pub are_tags_alone : ℕ → List Variant → Bool
+are_tags_alone size [] = true
+are_tags_alone size (v ∷ variants) =
+    (not (tags_meeting v.tags) && are_tags_fitting size v.tags) && are_tags_alone size variants
+
+-- a byte of a variant's tag is used by the variant's type
+abbrev pub is_variant_tag_used : List Variant → Bool
+is_variant_tag_used [] = false
+is_variant_tag_used (v ∷ variants) = is_some_tag_used v.ty v.tags || is_variant_tag_used variants
 
 -- each case fits and has a tree without a fault
 abbrev pub each_case : ℕ → List Variant → IntType → List (Num × Tree) → Bool

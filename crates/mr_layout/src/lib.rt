@@ -39,8 +39,12 @@
 //! - `proofs/Bounds.antt`, `Aligned`: such a type has at most 2^20 bytes, and a power of two as its alignment that divides its size.
 //! - `proofs/AlikeLaws.antt`: to compare each two parts of a list, as the rules do, is to look at what is asked of each part alone and
 //!   at the pairs of numbers that `mr_base` compares in the time of a sort. Where memory is wanting, parts are compared one by one.
+//! - `proofs/TableLaws.antt`: the bytes that a type uses are marked in a table while its rules are looked at, part by part
+//!   (`src/ok.rt`, `src/tables.rt`), so that enums in one another look at no part again. The tags of a variant bear no mark until its
+//!   type is done: so it is seen whether the type uses a byte of one.
 //! - `proofs/MetLaws.antt`, `RunLaws`, `RowLaws`: what ranges in order meet of a type is found by a search among them for each part of the
-//!   type, and of an array by the bytes of one element. `GapLaws` and `TagLaws` say so of a union's chunks and of a variant's tags.
+//!   type, and of an array by the bytes of one element. `GapLaws` says so of a union's chunks, and `TagLaws` of a variant's tags, where
+//!   memory is wanting for a table.
 //! - `proofs/MarkLaws.antt`, `FoldLaws`: the same by a table with a mark for each byte in no chunk of a union, in which an array's
 //!   row of elements is folded to one. Where a union has many chunks it is looked at so, for a search looks at each of them for
 //!   each array.
@@ -59,6 +63,7 @@ mod met;
 mod ok;
 mod rules;
 mod sizes;
+mod tables;
 mod written;
 
 pub use bytes::used;

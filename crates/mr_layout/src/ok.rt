@@ -1,11 +1,20 @@
 //! The first broken rule of a type.
-ghost use Rattle.std.specs.Prelude.{◌≡◌, option_map};
+ghost use Rattle.std.specs.Prelude.{◌≡◌, ◌≤◌, ◌-◌, ◌^◌, ℕ, true, nat_lt, ◌&&◌, if◌then◌else◌, length, option_map, IfOk, IfSome};
 ghost use Rattle.mr_ast.specs.FormRules.{code_of};
+ghost use Rattle.mr_layout.specs.Alike.{is_some_tag_used, is_variant_tag_used};
+ghost use Rattle.mr_layout.specs.Rows.{IsRow};
+ghost use Rattle.mr_layout.specs.Tables.{Marks, is_used_row, rule_of, either};
+ghost use Rattle.mr_layout.specs.Used.{is_used, is_used_field, is_used_in, is_used_variant};
 ghost use Rattle.mr_layout.specs.TypeOk.{broken_rule, first_broken_field, first_broken_variant};
 
 use crate::alike::Room;
 use crate::enum_rules::enum_rules;
 use crate::rules::{array_rules, ref_rules, tuple_rules, union_rules};
+use crate::sizes::{int_bytes, size};
+use crate::tables::{
+    NOWHERE, are_tags_inside, blank, is_some_tag_mark, mark_chunks, mark_first, mark_over,
+    mark_row, own_table, put_tags,
+};
 use mr_ast::{OutOfMemory, Rule, Ty, Variant};
 use std::alloc::Global;
 
@@ -14,7 +23,7 @@ use std::alloc::Global;
 pub fn broken_rule(t: &Ty) -> Option<Rule>
     ensures { result ≡ broken_rule t.now }
 {
-    broken(None, t)
+    rule_alone(None, t)
 }
 
 /// The first broken rule of a type, its parts before itself. It takes memory to sort lists by, and compares each
@@ -22,78 +31,292 @@ pub fn broken_rule(t: &Ty) -> Option<Rule>
 pub fn first_broken_rule(alloc: Global, t: &Ty) -> Option<Rule>
     ensures { result ≡ broken_rule t.now }
 {
-    broken(Some(alloc), t)
+    rule_alone(Some(alloc), t)
 }
 
-// The first broken rule of a type.
-#[cycle(broken)]
-#[tactic(auto, using(crate::proofs::BrokenLaws::broken_laws))]
-fn broken(room: Room, t: &Ty) -> Option<Rule>
+// The first broken rule of a type whose bytes no table has.
+fn rule_alone(room: Room, t: &Ty) -> Option<Rule>
     ensures { result ≡ broken_rule t.now }
 {
+    let mut table: [u8; 0] = [];
+    match broken(room, t, &mut table, 0) {
+        Ok(_) => None,
+        Err(rule) => Some(rule),
+    }
+}
+
+// What was told, unless a rule is broken.
+fn unless(rule: Option<Rule>, told: bool) -> Result<bool, Rule>
+    ensures rule { rule_of result ≡ rule }
+    ensures told { IfOk result (λ b. b ≡ told) }
+{
+    match rule {
+        Some(rule) => Err(rule),
+        None => Ok(told),
+    }
+}
+
+fn both(one: bool, other: bool) -> bool
+    ensures { result ≡ (one && other) }
+{
+    one && other
+}
+
+// How an array's elements lie in the bytes that a table has left for them.
+#[derive(Clone, Copy)]
+enum Row {
+    // They have no byte.
+    Empty,
+    // One has as many as are left, or more.
+    Long,
+    // Each has so many.
+    Elems(u64),
+}
+
+fn row_of(count: u64, elem: Option<u64>, left: u64) -> Row
+    requires { left ≤ 2 ^ 20 }
+    ensures { (n : ℕ) → elem ≡ (if nat_lt n (2 ^ 63) then Some n else None) → IsRow count n left result }
+{
+    if count == 0 {
+        return Row::Empty;
+    }
+    match elem {
+        None => Row::Long,
+        Some(0) => Row::Empty,
+        Some(len) => {
+            if left <= len {
+                Row::Long
+            } else {
+                Row::Elems(len)
+            }
+        }
+    }
+}
+
+// The bytes that a table has from an offset on.
+fn left(bytes: u64, start: u64) -> u64
+    ensures { result ≡ bytes - start }
+{
+    bytes.saturating_sub(start)
+}
+
+// The first broken rule of a type that begins at an offset of a table, in which the bytes that it uses are marked. It is
+// told whether they are: memory may be wanting. What is taken is at most a table of 2^20 bytes for each type around it.
+#[cycle(broken)]
+#[tactic(auto, using(crate::proofs::BrokenLaws::broken_laws))]
+fn broken(room: Room, t: &Ty, table: &mut [u8], start: u64) -> Result<bool, Rule>
+    requires small { length table.old ≤ 2 ^ 20 }
+    ensures rule { rule_of result ≡ broken_rule t.now }
+    ensures long { length table.new ≡ length table.old }
+    ensures marks { IfOk result (λ told. told ≡ true → Marks (is_used t.now) start table.old table.new) }
+{
     match t {
-        Ty::Int(_) => None,
-        Ty::Bool => None,
-        Ty::Raw => None,
-        Ty::FnPtr => None,
-        Ty::Ref { size, align, .. } => ref_rules(*size, *align),
+        Ty::Int(int) => {
+            mark_first(table, start, int_bytes(*int));
+            Ok(true)
+        }
+        Ty::Bool => {
+            mark_first(table, start, 1);
+            Ok(true)
+        }
+        Ty::Raw => {
+            mark_first(table, start, 8);
+            Ok(true)
+        }
+        Ty::FnPtr => {
+            mark_first(table, start, 8);
+            Ok(true)
+        }
+        Ty::Ref { size, align, .. } => {
+            mark_first(table, start, 8);
+            unless(ref_rules(*size, *align), true)
+        }
         Ty::Tuple {
             size,
             align,
             fields,
-        } => match first_broken_field(room, fields.as_slice()) {
-            Some(rule) => Some(rule),
-            None => tuple_rules(room, *size, *align, fields.as_slice()),
-        },
-        Ty::Array { count, elem } => match broken(room, elem.get()) {
-            Some(rule) => Some(rule),
-            None => array_rules(*count, elem.get()),
-        },
+        } => {
+            let told = first_broken_field(room, fields.as_slice(), table, start)?;
+            unless(tuple_rules(room, *size, *align, fields.as_slice()), told)
+        }
+        Ty::Array { count, elem } => {
+            let told = broken_elem(room, *count, elem.get(), table, start)?;
+            unless(array_rules(*count, elem.get()), told)
+        }
         Ty::Union {
             size,
             align,
             fields,
             chunks,
-        } => match first_broken_field(room, fields.as_slice()) {
-            Some(rule) => Some(rule),
-            None => union_rules(room, *size, *align, fields.as_slice(), chunks.as_slice()),
-        },
+        } => {
+            let told = first_broken_field(room, fields.as_slice(), table, NOWHERE)?;
+            mark_chunks(table, start, chunks.as_slice());
+            unless(
+                union_rules(room, *size, *align, fields.as_slice(), chunks.as_slice()),
+                told,
+            )
+        }
         Ty::Enum {
             size,
             align,
             disc,
             variants,
             tree,
-        } => match first_broken_variant(room, variants.as_slice()) {
-            Some(rule) => Some(rule),
-            None => enum_rules(room, *size, *align, *disc, variants.as_slice(), tree),
+        } => {
+            let used = broken_variants(room, *size, variants.as_slice(), table, start)?;
+            unless(
+                enum_rules(room, *size, *align, *disc, variants.as_slice(), tree, used),
+                used.is_some(),
+            )
+        }
+    }
+}
+
+#[cycle(broken)]
+fn first_broken_field(
+    room: Room,
+    fields: &[(u64, Ty)],
+    table: &mut [u8],
+    start: u64,
+) -> Result<bool, Rule>
+    requires small { length table.old ≤ 2 ^ 20 }
+    ensures rule { rule_of result ≡ first_broken_field fields.now }
+    ensures long { length table.new ≡ length table.old }
+    ensures marks { IfOk result (λ told. told ≡ true
+        → Marks (is_used_field fields.now) start table.old table.new) }
+{
+    let mut told = true;
+    for field in fields {
+        let at = start.saturating_add(field.0);
+        told = both(broken(room, &field.1, table, at)?, told);
+    }
+    Ok(told)
+}
+
+// The first broken rule of an array's element. Where the table has more bytes than one element, a table of its own is
+// taken for it.
+#[cycle(broken)]
+fn broken_elem(
+    room: Room,
+    count: u64,
+    elem: &Ty,
+    table: &mut [u8],
+    start: u64,
+) -> Result<bool, Rule>
+    requires small { length table.old ≤ 2 ^ 20 }
+    ensures rule { rule_of result ≡ broken_rule elem.now }
+    ensures long { length table.new ≡ length table.old }
+    ensures marks { IfOk result (λ told. told ≡ true
+        → Marks (is_used_row count elem.now) start table.old table.new) }
+{
+    let bytes = table.len() as u64;
+    match row_of(count, size(elem), left(bytes, start)) {
+        Row::Empty => broken(room, elem, table, NOWHERE),
+        Row::Long => broken(room, elem, table, start),
+        Row::Elems(len) => match blank(room, len) {
+            Some(mut one) => {
+                let told = broken(room, elem, one.as_mut_slice(), 0)?;
+                let marked = mark_row(room, table, start, one.as_slice(), count);
+                Ok(both(marked, told))
+            }
+            None => {
+                broken(room, elem, table, NOWHERE)?;
+                Ok(false)
+            }
         },
     }
 }
 
+// The first broken rule of an enum's variants, in the table or in one of the enum's own; and whether a byte of a variant's
+// tag is used, where that is known.
 #[cycle(broken)]
-fn first_broken_field(room: Room, fields: &[(u64, Ty)]) -> Option<Rule>
-    ensures { result ≡ first_broken_field fields.now }
+fn broken_variants(
+    room: Room,
+    size: u64,
+    variants: &[Variant],
+    table: &mut [u8],
+    start: u64,
+) -> Result<Option<bool>, Rule>
+    requires small { length table.old ≤ 2 ^ 20 }
+    ensures rule { rule_of result ≡ first_broken_variant variants.now }
+    ensures long { length table.new ≡ length table.old }
+    ensures marks { IfOk result (λ used. IfSome used (λ b.
+        Marks (is_used_in variants.now) start table.old table.new)) }
+    ensures used { IfOk result (λ used. IfSome used (λ b. b ≡ is_variant_tag_used variants.now)) }
 {
-    for field in fields {
-        if let Some(rule) = broken(room, &field.1) {
-            return Some(rule);
+    let bytes = table.len() as u64;
+    match own_table(room, size, variants, start, bytes) {
+        Some(mut own) => {
+            let used = first_broken_variant(room, variants, own.as_mut_slice(), 0)?;
+            mark_over(table, start, own.as_slice());
+            Ok(used)
         }
+        None => first_broken_variant(room, variants, table, start),
     }
-    None
 }
 
 #[cycle(broken)]
-#[tactic(auto, using(crate::proofs::BrokenLaws::broken_laws))]
-fn first_broken_variant(room: Room, variants: &[Variant]) -> Option<Rule>
-    ensures { result ≡ first_broken_variant variants.now }
+fn first_broken_variant(
+    room: Room,
+    variants: &[Variant],
+    table: &mut [u8],
+    start: u64,
+) -> Result<Option<bool>, Rule>
+    requires small { length table.old ≤ 2 ^ 20 }
+    ensures rule { rule_of result ≡ first_broken_variant variants.now }
+    ensures long { length table.new ≡ length table.old }
+    ensures marks { IfOk result (λ used. IfSome used (λ b.
+        Marks (is_used_in variants.now) start table.old table.new)) }
+    ensures used { IfOk result (λ used. IfSome used (λ b. b ≡ is_variant_tag_used variants.now)) }
 {
+    let mut used = Some(false);
     for variant in variants {
-        if let Some(rule) = broken(room, &variant.ty) {
-            return Some(rule);
-        }
+        used = either(used, broken_variant(room, variant, table, start)?);
     }
-    None
+    Ok(used)
+}
+
+// One of two, where both are known.
+fn either(left: Option<bool>, right: Option<bool>) -> Option<bool>
+    ensures { result ≡ either left right }
+{
+    match (left, right) {
+        (Some(left), Some(right)) => Some(left || right),
+        _ => None,
+    }
+}
+
+// The first broken rule of a variant's type. The bytes of its tags bear no mark while the type marks those that it uses, so
+// that it is seen whether it uses one of them.
+#[cycle(broken)]
+fn broken_variant(
+    room: Room,
+    variant: &Variant,
+    table: &mut [u8],
+    start: u64,
+) -> Result<Option<bool>, Rule>
+    requires small { length table.old ≤ 2 ^ 20 }
+    ensures rule { rule_of result ≡ broken_rule variant.now.ty }
+    ensures long { length table.new ≡ length table.old }
+    ensures marks { IfOk result (λ used. IfSome used (λ b.
+        Marks (is_used_variant variant.now) start table.old table.new)) }
+    ensures used { IfOk result (λ used. IfSome used (λ b.
+        b ≡ is_some_tag_used variant.now.ty variant.now.tags)) }
+{
+    let tags = variant.tags.as_slice();
+    let bytes = table.len() as u64;
+    if !are_tags_inside(start, bytes, tags) {
+        broken(room, &variant.ty, table, NOWHERE)?;
+        return Ok(None);
+    }
+    put_tags(table, start, tags, 0);
+    let told = broken(room, &variant.ty, table, start)?;
+    let used = is_some_tag_mark(table, start, tags);
+    put_tags(table, start, tags, 1);
+    if !told {
+        return Ok(None);
+    }
+    Ok(Some(used))
 }
 
 /// The number of the first broken rule of a type. It does not fail.

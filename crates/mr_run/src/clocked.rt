@@ -3,7 +3,7 @@ ghost use Rattle.std.specs.Prelude.{◌≡◌, ◌+◌, ◌<◌, ◌^◌, ◌++�
 ghost use Rattle.mr_event.specs.Predicted.{pair_with};
 ghost use Rattle.mr_run.specs.Records.{AreAnalysed};
 
-use crate::keeping::{Record, push_copy};
+use crate::keeping::Record;
 use mr_clocks::Analysis;
 use mr_event::{Footprint, OutOfMemory, Pair};
 use std::alloc::Global;
@@ -81,7 +81,6 @@ fn note(races: &mut Vec<Pair>, partner: Option<usize>, second: usize)
 // A step joins others, and what is known of it what is known of them. It takes its memory before it changes anything
 // that it doesn't take back.
 fn join(
-    alloc: Global,
     steps: &mut Vec<Footprint>,
     order: &mut Analysis,
     races: &mut Vec<Pair>,
@@ -94,7 +93,7 @@ fn join(
     ensures err { OnErr result (steps.new.items ≡ steps.old.items) }
 {
     races.reserve(1)?;
-    push_copy(alloc, steps, foot)?;
+    foot.push_to(steps)?;
     match order.add(steps.as_slice()) {
         Ok(partner) => {
             let last = steps.len() - 1;
@@ -111,13 +110,7 @@ fn join(
 impl Record for Clocked {
     ghost keeps = { λ kept steps. kept ≡ steps };
 
-    fn keep(&mut self, alloc: Global, foot: &Footprint) -> Result<(), OutOfMemory> {
-        join(
-            alloc,
-            &mut self.steps,
-            &mut self.order,
-            &mut self.races,
-            foot,
-        )
+    fn keep(&mut self, foot: &Footprint) -> Result<(), OutOfMemory> {
+        join(&mut self.steps, &mut self.order, &mut self.races, foot)
     }
 }

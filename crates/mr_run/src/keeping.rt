@@ -4,7 +4,6 @@ ghost use Rattle.mr_event.specs.Footprint.{Footprint as FootprintOf};
 ghost use Rattle.mr_run.specs.Records.{HasRoom};
 
 use mr_event::{Footprint, OutOfMemory};
-use std::alloc::Global;
 
 /// What takes the footprint of each step that completes, in order. The caller of a run chooses by type what is kept of
 /// its steps.
@@ -13,7 +12,7 @@ pub trait Record {
     ghost keeps: { Self → List FootprintOf → Type 0 };
 
     /// Takes the footprint of the next step. An `Err` is for want of memory, and leaves what is kept as it was.
-    fn keep(&mut self, alloc: Global, foot: &Footprint) -> Result<(), OutOfMemory>
+    fn keep(&mut self, foot: &Footprint) -> Result<(), OutOfMemory>
         requires { HasRoom (keeps self.old) }
         ensures ok { (steps : List FootprintOf) → keeps self.old steps
             → OnOk result (keeps self.new (steps ++ foot.now ∷ [])) }
@@ -27,7 +26,7 @@ pub struct Nothing;
 impl Record for Nothing {
     ghost keeps = { λ _ _. Unit {0} };
 
-    fn keep(&mut self, _alloc: Global, _foot: &Footprint) -> Result<(), OutOfMemory> {
+    fn keep(&mut self, _foot: &Footprint) -> Result<(), OutOfMemory> {
         Ok(())
     }
 }
@@ -36,22 +35,7 @@ impl Record for Nothing {
 impl Record for Vec<Footprint> {
     ghost keeps = { λ kept steps. kept.items ≡ steps };
 
-    fn keep(&mut self, alloc: Global, foot: &Footprint) -> Result<(), OutOfMemory> {
-        push_copy(alloc, self, foot)
+    fn keep(&mut self, foot: &Footprint) -> Result<(), OutOfMemory> {
+        foot.push_to(self)
     }
-}
-
-/// A copy of a footprint joins others.
-pub(crate) fn push_copy(
-    alloc: Global,
-    steps: &mut Vec<Footprint>,
-    foot: &Footprint,
-) -> Result<(), OutOfMemory>
-    ensures ok { OnOk result (steps.new.items ≡ steps.old.items ++ foot.now ∷ []) }
-    ensures err { OnErr result (steps.new.items ≡ steps.old.items) }
-{
-    let mut copy = Footprint::nothing(alloc);
-    copy.copy_from(foot)?;
-    steps.push(copy)?;
-    Ok(())
 }

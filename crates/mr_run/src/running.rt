@@ -32,7 +32,7 @@ pub fn run<'p, R: Record>(
         Ok(machine) => machine,
         Err(fault) => return Err(at_place(2, fault)),
     };
-    match run_entries(alloc, &mut machine, w.entries.as_slice(), kept) {
+    match run_entries(&mut machine, w.entries.as_slice(), kept) {
         Ok(()) => Ok(machine),
         Err(fault) => Err(fault),
     }
@@ -40,7 +40,6 @@ pub fn run<'p, R: Record>(
 
 // Steps by each entry. The first has place 3.
 fn run_entries<R: Record>(
-    alloc: Global,
     machine: &mut Machine<'_>,
     entries: &[Entry],
     kept: &mut R,
@@ -55,7 +54,7 @@ fn run_entries<R: Record>(
 {
     let mut place = 3;
     for entry in entries {
-        match step(alloc, machine, entry, kept) {
+        match step(machine, entry, kept) {
             Ok(()) => place += 1,
             Err(fault) => return Err(at_place(place, fault)),
         }
@@ -66,7 +65,6 @@ fn run_entries<R: Record>(
 /// The step of an entry, whose footprint is kept where it completes; or the rule that the entry breaks, and then
 /// nothing changes.
 pub fn step<R: Record>(
-    alloc: Global,
     machine: &mut Machine<'_>,
     entry: &Entry,
     kept: &mut R,
@@ -88,7 +86,7 @@ pub fn step<R: Record>(
         return Ok(());
     }
     match machine.last() {
-        Some(foot) => match kept.keep(alloc, foot) {
+        Some(foot) => match kept.keep(foot) {
             Ok(()) => Ok(()),
             Err(_) => Err(StepFault::Memory),
         },

@@ -9,7 +9,7 @@ ghost use Rattle.mr_step.specs.Settling.{foot_by, verdict_in};
 
 use mr_base::{Reason, Verdict};
 use mr_eval::Scene;
-use mr_event::{Footprint, Step, wakes};
+use mr_event::{Latest, Step, wakes};
 use mr_frame::Flow;
 use mr_sync::SyncTable;
 use mr_track::{Accesses, some_race};
@@ -42,28 +42,29 @@ fn step_of<'a>(scene: &'a Scene, deed: &'a Deed) -> Step<'a>
 /// The footprint that a turn leaves takes the place of the last one.
 pub fn keep_last(
     alloc: Global,
-    last: &mut Option<Footprint>,
+    last: &mut Option<Latest>,
     scene: &Scene,
     deed: &Deed,
 ) -> Result<(), AllocError>
     ensures { OnOk result (last.new ≡ Some (foot_by scene.now deed.now)) }
 {
     let step = step_of(scene, deed);
-    if let Some(foot) = last {
-        return foot.refill(&step);
+    if let Some(latest) = last {
+        return latest.refill(&step);
     }
-    *last = Some(Footprint::of(alloc, &step)?);
+    *last = Some(Latest::of(alloc, &step)?);
     Ok(())
 }
 
 // Whether a step of a thread with these accesses races with the one immediately before it.
-fn races(thread: u32, accesses: &Accesses, last: Option<&Footprint>) -> bool
+fn races(thread: u32, accesses: &Accesses, last: Option<&Latest>) -> bool
     ensures { (f : FootprintOf) → f.thread ≡ thread → f.accesses ≡ accesses.now
         → result ≡ is_racing f (option_copied last.entry) }
 {
     match last {
         None => false,
         Some(last) => {
+            let last = last.footprint();
             last.thread() != thread
                 && !wakes(last, thread)
                 && some_race(last.accesses(), accesses.as_slice())
@@ -72,7 +73,7 @@ fn races(thread: u32, accesses: &Accesses, last: Option<&Footprint>) -> bool
 }
 
 /// The verdict behind a completed step that left this scene: the race check comes first, and then whether a thread is enabled.
-pub fn verdict_behind(last: Option<&Footprint>, scene: &Scene, sync: &SyncTable) -> Verdict
+pub fn verdict_behind(last: Option<&Latest>, scene: &Scene, sync: &SyncTable) -> Verdict
     ensures { (d : DeedOf) → result ≡ verdict_in (option_copied last.entry) (foot_by scene.now d) sync.now }
 {
     if races(scene.thread, &scene.notes.accesses, last) {

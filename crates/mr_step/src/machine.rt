@@ -181,7 +181,10 @@ impl<'p> Machine<'p> {
     pub fn last(&self) -> Option<&Footprint>
         ensures { option_copied result ≡ self.now.config.last }
     {
-        self.progress.last.as_ref()
+        match &self.progress.last {
+            Some(last) => Some(last.footprint()),
+            None => None,
+        }
     }
 
     /// How many prints there are.

@@ -7,7 +7,7 @@ ghost use Rattle.mr_step.specs.Standing.{seen_line};
 
 use mr_base::Verdict;
 use mr_eval::Scene;
-use mr_event::Footprint;
+use mr_event::Latest;
 use mr_frame::{At, Stack};
 use mr_sync::SyncTable;
 
@@ -38,7 +38,7 @@ pub struct Progress {
     pub gone: bool,
     pub output: Vec<Line>,
     /// The footprint of the last completed step.
-    pub last: Option<Footprint>,
+    pub last: Option<Latest>,
     pub completed: u64,
     pub verdict: Verdict,
 }

@@ -6,8 +6,10 @@ pub mod JudgedLaws
 pub mod KindLaws
 pub mod KnownLaws
 pub mod KnownSizes
+pub mod ListedLaws
 pub mod NothingLaws
 pub mod PartLaws
+pub mod PositionLaws
 pub mod ProgramWalk
 pub mod SameTypeLaws
 pub mod ShortPrograms

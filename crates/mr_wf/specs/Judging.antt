@@ -129,6 +129,12 @@ judged_place at = fold-Place (Result Ty Rule) (Result Ty Rule) (judged_place_ste
 unfoldable pub judged_value : Surroundings → Value → Result Ty Rule
 judged_value at = fold-Value (Result Ty Rule) (Result Ty Rule) (judged_place_step at) (judged_value_step at)
 
+-- a value that is a position in an array
+abbrev pub judged_position : Surroundings → Value → Result (Unit {0}) Rule
+judged_position at index = do
+  i ← judged_value at index
+  kept form.Place (is_int U64 i)
+
 -- the types of some values
 abbrev pub judged_values : Surroundings → List Value → Result (List Ty) Rule
 judged_values at [] = Ok []

@@ -1,5 +1,5 @@
 -- What the code's answers stand for.
-use Rattle.std.specs.Prelude.{◌≡◌, ℕ, ◌*◌, Bool, false, ◌&&◌, ◌==◌, List, [], ◌∷◌, Option, Result, Ok, Err}
+use Rattle.std.specs.Prelude.{◌≡◌, ℕ, ◌*◌, Bool, false, ◌&&◌, ◌==◌, List, [], ◌∷◌, Option, Some, Result, Ok, Err}
 use Rattle.mr_ast.specs.FormRules.{code_of}
 use Rattle.mr_ast.specs.declared.rule.Rule.{Rule}
 use Rattle.mr_ast.specs.declared.rule.Rule.TheVariants as form
@@ -10,6 +10,7 @@ use Rattle.mr_ast.specs.declared.types.Ty.TheVariants as ty
 use Rattle.mr_ast.specs.declared.types.Ty.TheOpen.{Ty-F}
 use Rattle.mr_ast.specs.declared.types.Variant.{Variant}
 use Rattle.mr_ast.specs.declared.expr.BinaryOp.{BinaryOp}
+use Rattle.mr_ast.specs.declared.expr.Place.{Place}
 use Rattle.mr_ast.specs.declared.program.BlockName.{BlockName}
 use Rattle.mr_wf.specs.declared.fault.FormFault.{FormFault}
 use Rattle.mr_wf.specs.declared.fault.Item.{Item}
@@ -20,11 +21,11 @@ use Rattle.mr_wf.specs.declared.fault.Stopped.TheVariants as stopped
 use Rattle.mr_wf.specs.declared.known.Known.{Known}
 use Rattle.mr_wf.specs.declared.known.Known.TheVariants as known
 use Rattle.mr_wf.specs.declared.judging.Surroundings.{Surroundings as Around}
-use Rattle.mr_wf.specs.Types.{element_type, overflow_type, result_type}
+use Rattle.mr_wf.specs.Types.{element_type, overflow_type, result_type, type_of_place}
 use Rattle.mr_ast.specs.Integers.{int_size}
 use Rattle.mr_wf.specs.Operands.{fits_binary, is_bool, is_int}
 use Rattle.mr_wf.specs.Broken.{Surroundings}
-use Rattle.mr_wf.specs.Judging.{◌>>=◌, kept, there}
+use Rattle.mr_wf.specs.Judging.{◌>>=◌, judged_place, kept, there}
 
 -- the type that is known
 abbrev pub ty_of : Known → Ty
@@ -48,7 +49,7 @@ is_overflow_layer i _ = false
 
 -- where an expression stands
 abbrev pub surroundings_of : Around → Surroundings
-surroundings_of at = record { sizes = at.sizes.now; locals = at.locals.now }
+surroundings_of at = record { sizes = at.sizes.now; locals = at.listed.now }
 
 -- the type of an element, from those of the array and the position
 abbrev pub element_at : Ty → Ty → Result Ty Rule
@@ -72,6 +73,11 @@ Stops why.Memory walk = Unit {0}
 abbrev pub Gives : {X Y : Type 0} → (X → Y) → Result X Broken → Result Y Rule → Type 0
 Gives view (Ok x) walk = walk ≡ Ok (view x)
 Gives view (Err e) walk = Stops e walk
+
+-- An answer is what the walk over a place comes to, if the place has a type.
+abbrev pub GivesWhereTyped : Surroundings → Result (Unit {0}) Broken → Place → Type 0
+GivesWhereTyped at result place =
+    (t : Ty) → type_of_place at.locals place ≡ Some t → Gives (λ (u : Unit {0}). t) result (judged_place at place)
 
 -- what is judged at a position, unless memory ran out
 abbrev pub placing : Item → Option BlockName → ℕ → Result (Unit {0}) Broken → Result (Unit {0}) Stopped

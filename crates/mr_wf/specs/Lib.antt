@@ -10,4 +10,5 @@ pub mod Walk
 pub mod Judging
 pub mod JudgingBlocks
 pub mod Known
+pub mod Listed
 pub mod Answers

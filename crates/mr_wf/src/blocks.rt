@@ -6,11 +6,11 @@ ghost use Rattle.mr_wf.specs.Blocks.{are_bool_cases, are_int_cases, call_unwinds
 ghost use Rattle.mr_wf.specs.JudgingBlocks.{judged_call, judged_intrinsic, judged_parts, judged_result, judged_stmt, judged_term};
 ghost use Rattle.mr_wf.specs.Known.{Gives, surroundings_of, ty_of};
 
+use crate::alike::{takes, variant_at};
 use crate::fault::Broken;
 use crate::intrinsics::fits_intrinsic;
 use crate::judging::{Surroundings, judged_place, judged_value, judged_values, kept};
 use crate::known::Known;
-use crate::parts::variant;
 use crate::seen::Seen;
 use mr_ast::{
     BlockKind, BlockName, Function, IntType, Intrinsic, LocalName, Num, Place, Rule, Stmt, Term,
@@ -52,11 +52,14 @@ pub fn judged_stmt(
         Stmt::Assign(place, value) => {
             let t = judged_place(alloc, at, place)?;
             let u = judged_value(alloc, at, value)?;
-            kept(Rule::Assign, Known::Written(t).same(u))
+            kept(Rule::Assign, takes(at, place, value, t, u))
         }
         Stmt::Disc(place, number) => {
             let t = judged_place(alloc, at, place)?;
-            kept(Rule::Discriminant, variant(t, *number).is_some())
+            kept(
+                Rule::Discriminant,
+                variant_at(at, place, t, *number).is_some(),
+            )
         }
         Stmt::Mention(place) | Stmt::Deinit(place) | Stmt::Validate(place) => {
             judged_place(alloc, at, place)?;

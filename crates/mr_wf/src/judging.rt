@@ -3,14 +3,15 @@ ghost use Rattle.std.specs.Prelude.{◌≡◌, ◌||◌, map, option_copied, opt
 ghost use Rattle.mr_ast.specs.declared.rule.Rule.TheVariants as form;
 ghost use Rattle.mr_ast.specs.declared.expr.Place.TheVariants as place;
 ghost use Rattle.mr_ast.specs.declared.expr.Value.TheVariants as value;
-ghost use Rattle.mr_wf.specs.Judging.{judged_place, judged_value, judged_values, kept, sound_type, there};
-ghost use Rattle.mr_wf.specs.Known.{Gives, element_at, operated, surroundings_of, ty_of};
+ghost use Rattle.mr_wf.specs.Judging.{judged_place, judged_position, judged_value, judged_values, kept, sound_type, there};
+ghost use Rattle.mr_wf.specs.Known.{Gives, GivesWhereTyped, element_at, operated, surroundings_of, ty_of};
 ghost use Rattle.mr_wf.specs.Operands.{is_raw, is_ref};
 ghost use Rattle.mr_wf.specs.Types.{discriminant_type, result_type};
 
 use crate::fault::Broken;
 use crate::globals::is_in_global;
 use crate::known::Known;
+use crate::listed::TypeList;
 use crate::operands::{fits_binary, fits_parts, fits_unary, fits_union, fits_variant, same_size};
 use crate::parts::{discriminant, element, field, variant};
 use mr_ast::{
@@ -19,11 +20,12 @@ use mr_ast::{
 use mr_layout::{first_broken_rule, is_fitting};
 use std::alloc::Global;
 
-/// What an expression may speak of: the globals of its program, of which the sizes count, and the locals of its function.
+/// What an expression may speak of: the globals of its program, of which the sizes count, and the locals of its
+/// function with their types.
 #[derive(Clone, Copy)]
 pub struct Surroundings<'p> {
     pub sizes: &'p [u128],
-    pub locals: &'p [Local],
+    pub listed: &'p TypeList<'p>,
 }
 
 /// A rule that is kept where a test holds.
@@ -75,7 +77,7 @@ pub fn judged_place<'p>(
     ensures { Gives (λ t. t.now) result (judged_place (surroundings_of at.entry) place.now) }
 {
     match place {
-        Place::Local(x) => there(Rule::Place, local_type(at.locals, *x)),
+        Place::Local(x) => there(Rule::Place, local_type(at.listed.locals(), *x)),
         Place::Deref(pointer, ty) => judged_target(alloc, at, pointer.get(), ty),
         Place::Field(whole, number) => judged_field(alloc, at, whole.get(), *number),
         Place::Index(array, index) => {
@@ -83,12 +85,7 @@ pub fn judged_place<'p>(
             let i = judged_value(alloc, at, index.get())?;
             element_at(t, i)
         }
-        Place::Variant(whole, number) => {
-            there(
-                Rule::Place,
-                variant(judged_place(alloc, at, whole.get())?, *number),
-            )
-        }
+        Place::Variant(whole, number) => judged_part(alloc, at, whole.get(), *number),
     }
 }
 
@@ -121,6 +118,59 @@ fn judged_field<'p>(
     ensures { Gives (λ t. t.now) result (judged_place (surroundings_of at.entry) (place.Field whole.now number)) }
 {
     there(Rule::Place, field(judged_place(alloc, at, whole)?, number))
+}
+
+// A variant of a whole.
+#[cycle(judged)]
+#[tactic(auto, using(crate::proofs::JudgedLaws::judged_laws, crate::proofs::PositionLaws::part_laws))]
+fn judged_part<'p>(
+    alloc: Global,
+    at: Surroundings<'p>,
+    whole: &'p Place,
+    number: Num,
+) -> Result<&'p Ty, Broken>
+    ensures { Gives (λ t. t.now) result (judged_place (surroundings_of at.entry) (place.Variant whole.now number)) }
+{
+    match at.listed.variant(whole, number) {
+        Some(t) => {
+            judged_positions(alloc, at, whole)?;
+            Ok(t)
+        }
+        None => there(
+            Rule::Place,
+            variant(judged_place(alloc, at, whole)?, number),
+        ),
+    }
+}
+
+// What may be wrong with a place that has a type: the positions in its arrays, and what it is behind.
+#[cycle(judged)]
+#[tactic(auto, using(crate::proofs::PositionLaws::given_laws))]
+fn judged_positions<'p>(alloc: Global, at: Surroundings<'p>, place: &'p Place) -> Result<(), Broken>
+    ensures { GivesWhereTyped (surroundings_of at.entry) result place.now }
+{
+    match place {
+        Place::Local(_) => Ok(()),
+        Place::Deref(pointer, ty) => {
+            judged_target(alloc, at, pointer.get(), ty)?;
+            Ok(())
+        }
+        Place::Field(whole, _) => judged_positions(alloc, at, whole.get()),
+        Place::Index(array, index) => {
+            judged_positions(alloc, at, array.get())?;
+            judged_position(alloc, at, index.get())
+        }
+        Place::Variant(whole, _) => judged_positions(alloc, at, whole.get()),
+    }
+}
+
+// A position in an array.
+#[cycle(judged)]
+fn judged_position<'p>(alloc: Global, at: Surroundings<'p>, index: &'p Value) -> Result<(), Broken>
+    ensures { Gives (λ u. u) result (judged_position (surroundings_of at.entry) index.now) }
+{
+    let i = judged_value(alloc, at, index)?;
+    kept(Rule::Place, i.same(Known::Int(IntType::U64)))
 }
 
 // The type of an element of an array.
@@ -273,7 +323,10 @@ fn judged_tuple<'p>(
 {
     sound_type(alloc, ty)?;
     let types = judged_values(alloc, at, values)?;
-    kept(Rule::Aggregate, fits_parts(ty, types.as_slice()))?;
+    kept(
+        Rule::Aggregate,
+        fits_parts(at, values, ty, types.as_slice()),
+    )?;
     Ok(Known::Written(ty))
 }
 

@@ -10,8 +10,12 @@
 //! A [`Checked`] is a well-formed program. [`items_size`] gives the size of a global's items. Public laws for the layers above:
 //! [`keeps_rules`], [`writes_sound_types`], [`equal_types`], [`has_type`] and [`place_has_type`]. What each construct of a
 //! well-formed program gives its evaluation is in `proofs/TypedLaws.antt` and `proofs/TypedStmts.antt`.
+//!
+//! The types of a function's locals and of their parts are listed once (`specs/Listed.antt`), so that no statement
+//! looks at each part of a wide type again: a variant is searched in the list, and equal types have one number there.
 #![tactic(auto)]
 
+mod alike;
 mod blocks;
 mod checked;
 mod fault;
@@ -20,8 +24,11 @@ mod intrinsics;
 mod judging;
 mod known;
 mod laws;
+mod listed;
+mod listing;
 mod operands;
 mod parts;
+mod rows;
 mod seen;
 mod walk;
 

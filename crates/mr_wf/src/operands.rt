@@ -1,14 +1,17 @@
 //! The types that operators and aggregates take.
-ghost use Rattle.std.specs.Prelude.{◌≡◌, map, length, option_copied};
+ghost use Rattle.std.specs.Prelude.{◌≡◌, Ok, map, length, option_copied};
 ghost use Rattle.mr_ast.specs.declared.types.Ty.{out-Ty};
 ghost use Rattle.mr_layout.specs.TypeOk.{TypeOk};
-ghost use Rattle.mr_wf.specs.Known.{ty_of};
+ghost use Rattle.mr_wf.specs.Judging.{judged_values};
+ghost use Rattle.mr_wf.specs.Known.{surroundings_of, ty_of};
 ghost use Rattle.mr_wf.specs.SameTypes.{same_type};
-ghost use Rattle.mr_wf.specs.Operands.{fit, fits_binary, fits_parts, fits_unary, fits_union, fits_variant, is_type, match_element, match_fields, operands_of, same_size};
+ghost use Rattle.mr_wf.specs.Operands.{fit, fits_binary, fits_parts, fits_unary, fits_union, fits_variant, is_type, match_fields, operands_of, same_size};
 
+use crate::alike::match_element;
+use crate::judging::Surroundings;
 use crate::known::Known;
 use crate::parts::{field, is_union, variant};
-use mr_ast::{BinaryOp, IntType, Num, Ty, UnaryOp};
+use mr_ast::{BinaryOp, IntType, Num, Ty, UnaryOp, Value};
 use mr_layout::size;
 
 /// What the operands of an operator are.
@@ -88,26 +91,15 @@ fn match_fields(fields: &[(u64, Ty)], types: &[Known<'_>]) -> bool
     left.is_empty()
 }
 
-// Whether each type is that of the elements.
-fn match_element(elem: &Ty, types: &[Known<'_>]) -> bool
-    ensures { result ≡ match_element elem.now (map ty_of types.now) }
-{
-    for t in types {
-        if !t.same(Known::Written(elem)) {
-            return false;
-        }
-    }
-    true
-}
-
-/// Whether values of these types are the parts of a tuple or an array.
-pub fn fits_parts(t: &Ty, types: &[Known<'_>]) -> bool
+/// Whether values, whose types are given, are the parts of a tuple or an array.
+pub fn fits_parts(at: Surroundings<'_>, values: &[Value], t: &Ty, types: &[Known<'_>]) -> bool
+    requires { judged_values (surroundings_of at) values.now ≡ Ok (map ty_of types.now) }
     ensures { result ≡ fits_parts t.now (map ty_of types.now) }
 {
     match t {
         Ty::Tuple { fields, .. } => match_fields(fields.as_slice(), types),
         Ty::Array { count, elem } => {
-            types.len() as u64 == *count && match_element(elem.get(), types)
+            types.len() as u64 == *count && match_element(at, values, elem.get(), types)
         }
         _ => false,
     }

@@ -112,3 +112,12 @@ pub fn is_union(t: &Ty) -> bool
 {
     matches!(t, Ty::Union { .. })
 }
+
+/// Whether a type may have parts, so that it may take long to compare. The chunks of a union are such parts too.
+pub fn has_parts(t: &Ty) -> bool {
+    match t {
+        Ty::Tuple { fields, .. } => !fields.is_empty(),
+        Ty::Array { .. } | Ty::Union { .. } | Ty::Enum { .. } => true,
+        Ty::Int(_) | Ty::Bool | Ty::Raw | Ty::FnPtr | Ty::Ref { .. } => false,
+    }
+}

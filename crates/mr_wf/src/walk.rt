@@ -6,12 +6,14 @@ ghost use Rattle.mr_wf.specs.declared.fault.Item.TheVariants.{Function as InFunc
 ghost use Rattle.mr_wf.specs.Judging.{kept};
 ghost use Rattle.mr_wf.specs.JudgingBlocks.{IsShort, each_walked, judged_term, placed, walked, walked_block, walked_function, walked_global, walked_head, walked_local, walked_stmt, walked_with};
 ghost use Rattle.mr_wf.specs.Known.{Walks, placing, surroundings_of};
+ghost use Rattle.mr_wf.specs.Listed.{around};
 ghost use Rattle.mr_wf.specs.Walk.{are_arguments, begins_regular, is_main_form};
 
 use crate::blocks::{is_among, judged_stmt, judged_term};
 use crate::fault::{Broken, FormFault, Item, Stopped};
 use crate::globals::{judged_global, sizes_of};
 use crate::judging::{Surroundings, kept, sound_type};
+use crate::listed::TypeList;
 use mr_ast::{
     Block, BlockKind, BlockName, Function, Global_, Local, LocalName, Program, Rule, Stmt,
 };
@@ -185,6 +187,26 @@ fn walked_head(n: u32, function: &Function) -> Result<(), Stopped>
     )
 }
 
+// The blocks of function n, the types of whose locals are listed.
+fn walked_body(
+    alloc: Global,
+    sizes: &[u128],
+    n: u32,
+    function: &Function,
+    listed: &TypeList<'_>,
+) -> Result<(), Stopped>
+    requires { IsShort function.now }
+    ensures { Walks result
+        (each_walked (walked_block n function.now (around sizes.now listed.now)) 0 function.now.blocks) }
+{
+    let inside = Inside {
+        n,
+        function,
+        at: Surroundings { sizes, listed },
+    };
+    walked_blocks(alloc, inside, function.blocks.as_slice())
+}
+
 // Function n.
 fn walked_function(
     alloc: Global,
@@ -198,12 +220,8 @@ fn walked_function(
     let locals = function.locals.as_slice();
     walked_locals(alloc, n, locals)?;
     walked_head(n, function)?;
-    let inside = Inside {
-        n,
-        function,
-        at: Surroundings { sizes, locals },
-    };
-    walked_blocks(alloc, inside, function.blocks.as_slice())
+    let listed = TypeList::new(alloc, locals);
+    walked_body(alloc, sizes, n, function, &listed)
 }
 
 fn walked_functions(alloc: Global, sizes: &[u128], functions: &[Function]) -> Result<(), Stopped>

@@ -63,7 +63,7 @@ position_by n m lt = let is : nat_lt n m ≡ true = grind (arith, nat_tests) in 
 position_past : (n : ℕ) → ◌≡◌ {A = Option ℕ} (if nat_lt n n then Some n else None) None
 position_past n = let is : nat_lt n n ≡ false = grind (arith, nat_tests) in rw is refl
 
--- what a look-up by hash answers is the position
+-- what a look-up answers is the position
 pub position_found : (names : Texts) (t : List ℕ) (found : Option ℕ) → IfSome found (λ n. IsFirst names t n) → IfNone found ((k : ℕ) → slice_get names k ≢ Some t)
     → found ≡ position (bytes_eq t) names
 position_found names t (Some n) first missing =

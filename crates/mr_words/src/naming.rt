@@ -21,7 +21,7 @@ pub fn text_of(name: &[u8]) -> &str
     }
 }
 
-/// The number of a text among these, by its hash.
+/// The number of a text among these.
 pub fn position(names: &Names, text: &str) -> Option<u32>
     ensures { result ≡ position (bytes_eq text.now) names.now }
 {

@@ -17,7 +17,7 @@ use mr_ast::{FnName, GlobalName, Names, OutOfMemory, Role, Target};
 use std::alloc::Global;
 use std::marker::Model;
 
-/// The names that a text defines, held by hash: all of them, and those of the globals and functions.
+/// The names that a text defines, each found by a search: all of them, and those of the globals and functions.
 #[derive(Drop)]
 pub struct Tables<'a> {
     definitions: Definitions<'a>,

@@ -1,15 +1,26 @@
--- How texts stand for things in forms: a law for each way to make a form.
-use Rattle.std.proofs.Common.{◌≡◌, ℕ, suc, ◌+◌, ◌-◌, ◌==◌, inl, inr, Bool, true, false, if◌then◌else◌, List, [], ◌∷◌, ◌++◌, map, codes, slice_get, None, Some, refl, ap, sym, ◌∙◌, subst, arith, bytes_eq}
+-- What a row without a broken limit writes, its canonical words write too: a law for each way to make a form.
+use Rattle.std.proofs.Common.{ℕ, List, [], ◌∷◌, None, suc, ◌++◌, ◌≡◌, refl, ap, ◌==◌, ◌-◌, bytes_eq, true, ◌∙◌, sym, Some, Bool, ◌||◌, false, if◌then◌else◌, inl, inr, subst, codes, map, Option}
+use Rattle.std.specs.List.{AllByRecursion}
 use Rattle.std.specs.Prelude.{flat_map}
+use Rattle.std.proofs.lemmas.List.{append-nil}
 use Rattle.std.proofs.lemmas.Slice.Eq.{bytes_eq-Decides}
 use Rattle.mr_ast.specs.declared.words.Bracket.{Bracket}
-use Rattle.mr_ast.specs.Words.{Texts}
-use Rattle.mr_ast.specs.Forms.{Word, Mark, Empty, Then, Cases, Either, Many, Within, Part, In, SpelledBy, EachSpelled, opening, closing}
-use Rattle.mr_ast.specs.Scope.{Scope}
-use Rattle.mr_ast.specs.Writing.{Judged, Kind, Meaning, Writing, fine, giving, limited_word, listed, separated, token, word, ◌▪◌, ◌▸◌, ◌◂◌}
-use Rattle.mr_ast.specs.Spelled.{form_of, NoPart, SpelledInside}
+use Rattle.mr_ast.specs.declared.words.Bracket.TheVariants.{Round, Curly, Square}
 use Rattle.mr_ast.specs.CanonTypes.{with_commas}
-use Rattle.mr_grammar.proofs.Walk.HeightLaws.{SomeInside, SomePart, also_by, settled, settled_part}
+use Rattle.mr_ast.specs.Forms.{Mark, SpelledBy, opening, closing, Empty, Then, Word, Cases, Within, EachSpelled, Many, Either, In, Part}
+use Rattle.mr_ast.specs.Scope.{Scope}
+use Rattle.mr_ast.specs.Spelled.{SpelledInside, SpelledPart, form_of}
+use Rattle.mr_ast.specs.Words.{Texts}
+use Rattle.mr_ast.specs.Writing.{word, Writing, Judged, token, giving, fine, limited_word, ◌▸◌, ◌◂◌, ◌▪◌, is_word, optional, listed, separated, Kind, Meaning}
+use Rattle.mr_ast.proofs.CanonTypeLaws.{flat_map-map}
+use Rattle.mr_words.specs.Places.{numbered}
+use Rattle.mr_grammar.specs.Denotes.{IsFine, words_in}
+use Rattle.mr_grammar.proofs.Shape.ShapedNumbers.{ensures_limited}
+use Rattle.mr_grammar.proofs.Tokens.TokenRows.{fixed_token, is_fixed}
+use Rattle.mr_grammar.proofs.Tokens.TokenTexts.{IsTokenText}
+use Rattle.mr_grammar.proofs.Walk.EnsureLaws.{Parts, EachFrom, Ensures, ensures_empty, ensures_then, ensures_either, ensures_also, ensures_many, ensures_cases, ensures_bracket, ensures_in, no_parts, ensures_part}
+use Rattle.mr_grammar.proofs.Walk.HeightLaws.{SomeInside, SomePart, settled, settled_part}
+use Rattle.mr_grammar.proofs.Walk.Rows.{all_append}
 
 -- words with these texts, numbered from k on, none of which breaks a limit
 abbrev pub marked : ℕ → Texts → List Mark
@@ -23,132 +34,24 @@ behind k (text ∷ texts) = behind (suc k) texts
 
 marked-append : (k : ℕ) (xs ys : Texts) → marked k (xs ++ ys) ≡ marked k xs ++ marked (behind k xs) ys
 marked-append k [] ys = refl
-marked-append k (x ∷ xs) ys = ap (λ rest. record { word = record { text = x; place = k }; flaw = None } ∷ rest) (marked-append (suc k) xs ys)
+marked-append k (x ∷ xs) ys =
+    ap (λ rest. record { word = record { text = x; place = k }; flaw = None } ∷ rest) (marked-append (suc k) xs ys)
 
--- what writes a part
-abbrev pub Parts : Type 1
-Parts = Scope → (kind : Kind) → Meaning kind → List Mark → Type 0
-
--- The texts write the thing in this form, wherever they stand, and break no limit where so many brackets may be opened.
-pub record Stands (room : ℕ) (part : Parts) (scope : Scope) {A : Type 0} (form : Writing A) (x : A) (texts : Texts) : Type 0 where
-  pub at : (k : ℕ) → SpelledBy (room == 0) (SomeInside (room - 1)) part scope form x (marked k texts)
-
--- each of the things in a row, of which the first has this number
-abbrev pub EachStands : ℕ → Parts → Scope → {A : Type 0} → (ℕ → Writing A) → (A → Texts) → ℕ → List A → Type 0
-EachStands room part scope form row j [] = Unit {0}
-EachStands room part scope form row j (x ∷ xs) = Stands room part scope (form j) x (row x) × EachStands room part scope form row (suc j) xs
-
-each_at : (room : ℕ) (part : Parts) (scope : Scope) {A : Type 0} (form : ℕ → Writing A) (row : A → Texts) (j : ℕ) (xs : List A) → EachStands room part scope form row j xs
-    → (k : ℕ) → EachSpelled (λ n. SpelledBy (room == 0) (SomeInside (room - 1)) part scope (form n)) j xs (marked k (flat_map row xs))
-each_at room part scope form row j [] each k = refl
-each_at room part scope form row j (x ∷ xs) each k = (
-  marked k (row x),
-  marked (behind k (row x)) (flat_map row xs),
-  marked-append k (row x) (flat_map row xs),
-  each.0.at k,
-  each_at room part scope form row (suc j) xs each.1 (behind k (row x)),
-)
-
--- where each stands at its number, all do
-each_from : {room : ℕ} {part : Parts} {scope : Scope} {A : Type 0} (form : ℕ → Writing A) (row : A → Texts) (j : ℕ) (xs : List A)
-    → ((i : ℕ) (x : A) → slice_get xs i ≡ Some x → Stands room part scope (form (j + i)) x (row x)) → EachStands room part scope form row j xs
-each_from form row j [] law = tt
-each_from {room} {part} {scope} form row j (x ∷ xs) law =
-    let first : j + 0 ≡ j = omega arith in (
-      subst (λ (n : ℕ). Stands room part scope (form n) x (row x)) first (law 0 x refl),
-      each_from form row (suc j) xs (λ i y at. (let next : j + suc i ≡ suc j + i = omega arith in subst (λ (n : ℕ). Stands room part scope (form n) y (row y)) next (law (suc i) y at))),
-    )
-
-pub each_stand : {room : ℕ} {part : Parts} {scope : Scope} {A : Type 0} (form : ℕ → Writing A) (row : A → Texts) (xs : List A)
-    → ((i : ℕ) (x : A) → slice_get xs i ≡ Some x → Stands room part scope (form i) x (row x)) → EachStands room part scope form row 0 xs
-each_stand {room} {part} {scope} form row xs law =
-    each_from form row 0 xs (λ i x at. (let here : i ≡ 0 + i = omega arith in subst (λ (n : ℕ). Stands room part scope (form n) x (row x)) here (law i x at)))
-
--- all things of a list
-abbrev pub AllStand : ℕ → Parts → Scope → {A : Type 0} → Writing A → (A → Texts) → List A → Type 0
-AllStand room part scope a row [] = Unit {0}
-AllStand room part scope a row (x ∷ xs) = Stands room part scope a x (row x) × AllStand room part scope a row xs
+-- Behind the front the row has tokens that write the thing in this form, wherever they stand, and break no limit where so many
+-- brackets may be opened.
+pub record Stands (room : ℕ) (part : Parts) (scope : Scope) (front : Texts) {A : Type 0} (form : Writing A) (x : A) (row : Texts) : Type 0 where
+  pub texts : Texts
+  pub whole : row ≡ front ++ texts
+  pub tokens : AllByRecursion IsTokenText texts
+  pub at : (k : ℕ) → SpelledBy (room == 0) (SomeInside (room - 1)) (part room) scope form x (marked k texts)
 
 same_text : (text : List ℕ) → bytes_eq text text ≡ true
 same_text text = (bytes_eq-Decides text text).1 refl
 
-pub rows_with_commas : {A : Type 0} (row : A → Texts) (xs : List A) → flat_map (λ r. codes "," ∷ r) (map row xs) ≡ flat_map (λ x. codes "," ∷ row x) xs
-rows_with_commas row [] = refl
-rows_with_commas row (x ∷ xs) = ap (λ rest. (codes "," ∷ row x) ++ rest) (rows_with_commas row xs)
-
-module _ {room : ℕ} {part : Parts} {scope : Scope} where
-  pub stands_empty : {A : Type 0} {a : A} → Stands room part scope (Empty a) a []
-  stands_empty = record { at = λ k. (refl, refl) }
-
-  pub stands_then : {A B C : Type 0} {f : A → B → C} {a : Writing A} {b : Writing B} {x : A} {y : B} {z : C} {xs ys zs : Texts}
-      → Stands room part scope a x xs → Stands room part scope b y ys → z ≡ f x y → zs ≡ xs ++ ys → Stands room part scope (Then f a b) z zs
-  stands_then {x} {y} {xs} {ys} one other is_z whole = record {
-    at = λ k. (x, y, marked k xs, marked (behind k xs) ys, is_z, ap (marked k) whole ∙ marked-append k xs ys, one.at k, other.at (behind k xs));
-  }
-
-  -- the same texts
-  pub stands_same : {A : Type 0} {form : Writing A} {x : A} {xs ys : Texts} → Stands room part scope form x xs → ys ≡ xs → Stands room part scope form x ys
-  stands_same {form} {x} one same = subst (Stands room part scope form x) (sym same) one
-
-  pub stands_cases : {I A : Type 0} {judge : Scope → Word → Judged I} {form : I → Writing A} {i : I} {x : A} {text : List ℕ} {texts : Texts}
-      → ((k : ℕ) → judge scope (record { text = text; place = k }) ≡ Some (i, None)) → Stands room part scope (form i) x texts
-      → Stands room part scope (Cases judge form) x (text ∷ texts)
-  stands_cases {i} {text} {texts} judged rest = record {
-    at = λ k. (record { text = text; place = k }, i, None, marked (suc k) texts, judged k, refl, rest.at (suc k));
-  }
-
-  pub stands_first : {A : Type 0} {test : List ℕ → Bool} {a b : Writing A} {x : A} {texts : Texts} → Stands room part scope a x texts → Stands room part scope (Either test a b) x texts
-  stands_first one = record { at = λ k. inl (one.at k) }
-
-  pub stands_second : {A : Type 0} {test : List ℕ → Bool} {a b : Writing A} {x : A} {texts : Texts} → Stands room part scope b x texts → Stands room part scope (Either test a b) x texts
-  stands_second one = record { at = λ k. inr (one.at k) }
-
-  pub stands_many : {A : Type 0} {test : List ℕ → Bool} {form : ℕ → Writing A} (row : A → Texts) {xs : List A} → EachStands room part scope form row 0 xs
-      → Stands room part scope (Many test form) xs (flat_map row xs)
-  stands_many {form} row {xs} each = record { at = each_at room part scope form row 0 xs each }
-
-  pub stands_giving : {A B : Type 0} {f : A → B} {a : Writing A} {x : A} {y : B} {texts : Texts} → Stands room part scope a x texts → y ≡ f x → Stands room part scope (giving f a) y texts
-  stands_giving one is = stands_then (stands_empty {a = tt}) one is refl
-
-  pub stands_word : (text : List ℕ) → Stands room part scope (word text) tt (text ∷ [])
-  stands_word text = stands_cases {i = tt} (λ k. ap (λ b. fine (if b then Some tt else None)) (same_text text)) stands_empty
-
-  pub stands_limited : (code : ℕ) (over : Bool) (text : List ℕ) → over ≡ false → Stands room part scope (limited_word code over text) tt (text ∷ [])
-  stands_limited code over text few = stands_cases {i = tt} (λ k. rw (same_text text, few) refl) stands_empty
-
-  pub stands_before : {A : Type 0} {a : Writing A} {x : A} {texts : Texts} (text : List ℕ) → Stands room part scope a x texts → Stands room part scope (text ▸ a) x (text ∷ texts)
-  stands_before text one = stands_then (stands_word text) one refl refl
-
-  pub stands_behind : {A : Type 0} {a : Writing A} {x : A} {texts : Texts} → Stands room part scope a x texts → (text : List ℕ) → Stands room part scope (a ◂ text) x (texts ++ text ∷ [])
-  stands_behind one text = stands_then one (stands_word text) refl refl
-
-  pub stands_pair : {A B : Type 0} {a : Writing A} {b : Writing B} {x : A} {y : B} {xs ys : Texts}
-      → Stands room part scope a x xs → Stands room part scope b y ys → Stands room part scope (a ▪ b) (x, y) (xs ++ ys)
-  stands_pair one other = stands_then one other refl refl
-
-  pub stands_token : {I : Type 0} {judge : Word → Judged I} {i : I} {text : List ℕ} → ((k : ℕ) → judge (record { text = text; place = k }) ≡ Some (i, None))
-      → Stands room part scope (token judge) i (text ∷ [])
-  stands_token judged = stands_cases judged stands_empty
-
--- ---- in another scope
-
-pub stands_in : {room : ℕ} {part : Parts} {scope : Scope} {A : Type 0} {into : Scope → Scope} {a : Writing A} {x : A} {texts : Texts} → Stands room part (into scope) a x texts
-    → Stands room part scope (In into a) x texts
-stands_in one = record { at = one.at }
-
--- ---- lists
-
-behind_commas : (room : ℕ) (part : Parts) (scope : Scope) {A : Type 0} (a : Writing A) (row : A → Texts) (j : ℕ) (xs : List A) → AllStand room part scope a row xs
-    → EachStands room part scope (λ k. codes "," ▸ a) (λ x. codes "," ∷ row x) j xs
-behind_commas room part scope a row j [] all = tt
-behind_commas room part scope a row j (x ∷ xs) all = (stands_before (codes ",") all.0, behind_commas room part scope a row (suc j) xs all.1)
-
-pub stands_separated : {room : ℕ} {part : Parts} {scope : Scope} {A : Type 0} {a : Writing A} (row : A → Texts) (x : A) (xs : List A)
-    → AllStand room part scope a row (x ∷ xs) → Stands room part scope (separated a) (x ∷ xs) (with_commas (map row (x ∷ xs)))
-stands_separated {room} {part} {scope} {a} row x xs all =
-    stands_then all.0 (stands_many (λ y. codes "," ∷ row y) (behind_commas room part scope a row 0 xs all.1)) refl (ap (λ rest. row x ++ rest) (rows_with_commas row xs))
-
--- ---- brackets and parts
+bracket_tokens : (bracket : Bracket) → IsTokenText (opening bracket) × IsTokenText (closing bracket)
+bracket_tokens Round = (fixed_token _ refl, fixed_token _ refl)
+bracket_tokens Curly = (fixed_token _ refl, fixed_token _ refl)
+bracket_tokens Square = (fixed_token _ refl, fixed_token _ refl)
 
 -- what stands inside a bracket
 inside_at : (room : ℕ) (scope : Scope) {A : Type 0} (form : Writing A) (x : A) (marks : List Mark)
@@ -156,41 +59,207 @@ inside_at : (room : ℕ) (scope : Scope) {A : Type 0} (form : Writing A) (x : A)
 unfolding SpelledInside
 inside_at room scope form x marks h = let (height, written) = settled room scope form x marks h in (suc height, written)
 
-pub stands_within : {room : ℕ} {part : Parts} {scope : Scope} {A : Type 0} {bracket : Bracket} {a : Writing A} {x : A} {texts : Texts} → (room == 0) ≡ false
-    → Stands (room - 1) (SomePart (room - 1)) scope a x texts → Stands room part scope (Within false bracket a) x (opening bracket ∷ texts ++ closing bracket ∷ [])
-stands_within {room} {scope} {bracket} {a} {x} {texts} some inner = record {
-  at = λ k. (
-    record { text = opening bracket; place = k },
-    record { text = closing bracket; place = behind (suc k) texts },
-    marked (suc k) texts,
-    refl,
-    refl,
-    ap (λ rest. record { word = record { text = opening bracket; place = k }; flaw = None } ∷ rest) (marked-append (suc k) texts (closing bracket ∷ []))
-        ∙ ap (λ full. record { word = record { text = opening bracket; place = k }; flaw = if full then Some 7 else None }
-        ∷ marked (suc k) texts ++ record { word = record { text = closing bracket; place = behind (suc k) texts }; flaw = None } ∷ []) (sym some),
-    inside_at (room - 1) scope a x (marked (suc k) texts) (inner.at (suc k)),
-  );
+module _ {room : ℕ} {part : Parts} {scope : Scope} where
+  pub stands_empty : {A : Type 0} {front : Texts} {a : A} {row : Texts} → row ≡ front → Stands room part scope front (Empty a) a row
+  stands_empty {front} same = record { texts = []; whole = same ∙ sym (append-nil front); tokens = tt; at = λ k. (refl, refl) }
+
+  pub stands_then : {A B C : Type 0} {front : Texts} {f : A → B → C} {a : Writing A} {b : Writing B} {x : A} {y : B} {xs ys zs : Texts}
+      → Stands room part scope [] a x xs → Stands room part scope [] b y ys → zs ≡ front ++ (xs ++ ys)
+      → Stands room part scope front (Then f a b) (f x y) zs
+  stands_then {front} {x} {y} one other same = record {
+    texts = one.texts ++ other.texts;
+    whole = same ∙ (λ i. front ++ (one.whole i ++ other.whole i));
+    tokens = all_append IsTokenText one.texts other.texts one.tokens other.tokens;
+    at = λ k. (
+      x,
+      y,
+      marked k one.texts,
+      marked (behind k one.texts) other.texts,
+      refl,
+      marked-append k one.texts other.texts,
+      one.at k,
+      other.at (behind k one.texts),
+    );
+  }
+
+  -- the same words
+  pub stands_same : {A : Type 0} {form : Writing A} {x : A} {row other : Texts} → Stands room part scope [] form x row → other ≡ row → Stands room part scope [] form x other
+  stands_same one same = record { texts = one.texts; whole = same ∙ one.whole; tokens = one.tokens; at = one.at }
+
+  -- behind a first word
+  pub stands_first : {I A : Type 0} {judge : Scope → Word → Judged I} {form : I → Writing A} {x : A} {row : Texts} {text : List ℕ} (i : I)
+      → IsTokenText text → ((k : ℕ) → judge scope (record { text = text; place = k }) ≡ Some (i, None))
+      → Stands room part scope (text ∷ []) (form i) x row → Stands room part scope [] (Cases judge form) x row
+  stands_first {text} i token judged one = record {
+    texts = text ∷ one.texts;
+    whole = one.whole;
+    tokens = (token, one.tokens);
+    at = λ k. (record { text = text; place = k }, i, None, marked (suc k) one.texts, judged k, refl, one.at (suc k));
+  }
+
+  stands_within : {A : Type 0} {over : Bool} {bracket : Bracket} {a : Writing A} {x : A} {row : Texts} → (over || (room == 0)) ≡ false
+      → Stands (room - 1) SomePart scope [] a x row
+      → Stands room part scope [] (Within over bracket a) x (opening bracket ∷ row ++ closing bracket ∷ [])
+  stands_within {over} {bracket} {a} {x} free inner =
+      let end = closing bracket ∷ [] in
+      let (token, last) = bracket_tokens bracket in
+      record {
+        texts = opening bracket ∷ inner.texts ++ end;
+        whole = ap (λ texts. opening bracket ∷ texts ++ end) inner.whole;
+        tokens = (token, all_append IsTokenText inner.texts end inner.tokens (last, tt));
+        at = λ k. (
+          record { text = opening bracket; place = k },
+          record { text = closing bracket; place = behind (suc k) inner.texts },
+          marked (suc k) inner.texts,
+          refl,
+          refl,
+          ap (λ rest. record { word = record { text = opening bracket; place = k }; flaw = None } ∷ rest) (marked-append (suc k) inner.texts end)
+              ∙ ap (λ full. record { word = record { text = opening bracket; place = k }; flaw = if full then Some 7 else None }
+              ∷ marked (suc k) inner.texts ++ marked (behind (suc k) inner.texts) end) (sym free),
+          inside_at (room - 1) scope a x (marked (suc k) inner.texts) (inner.at (suc k)),
+        );
+      }
+
+module _ (room : ℕ) (part : Parts) (scope : Scope) {A : Type 0} (form : ℕ → Writing A) (row : A → Texts) where
+  -- things in a row, of which the first has this number
+  each_stands : (j : ℕ) (xs : List A) → EachFrom (λ k x. Stands room part scope [] (form k) x (row x)) j xs
+      → (texts : Texts) × (flat_map row xs ≡ texts) × AllByRecursion IsTokenText texts
+      × ((k : ℕ) → EachSpelled (λ n. SpelledBy (room == 0) (SomeInside (room - 1)) (part room) scope (form n)) j xs (marked k texts))
+  each_stands j [] each = ([], refl, tt, λ k. refl)
+  each_stands j (x ∷ xs) (one, each) =
+      let (texts, whole, tokens, at) = each_stands (suc j) xs each in (
+        one.texts ++ texts,
+        (λ i. one.whole i ++ whole i),
+        all_append IsTokenText one.texts texts one.tokens tokens,
+        λ k. (marked k one.texts, marked (behind k one.texts) texts, marked-append k one.texts texts, one.at k, at (behind k one.texts)),
+      )
+
+  pub stands_many : {test : List ℕ → Bool} (xs : List A) → EachFrom (λ k x. Stands room part scope [] (form k) x (row x)) 0 xs
+      → Stands room part scope [] (Many test form) xs (flat_map row xs)
+  stands_many xs each = let (texts, whole, tokens, at) = each_stands 0 xs each in record { texts = texts; whole = whole; tokens = tokens; at = at }
+
+-- the row breaks no limit, and its words are the texts in order
+pub marked-fine : (k : ℕ) (texts : Texts) → IsFine (marked k texts)
+marked-fine k [] = tt
+marked-fine k (text ∷ texts) = (refl, marked-fine (suc k) texts)
+
+pub marked-words : (k : ℕ) (texts : Texts) → words_in (marked k texts) ≡ numbered k texts
+marked-words k [] = refl
+marked-words k (text ∷ texts) = ap (λ rest. record { text = text; place = k } ∷ rest) (marked-words (suc k) texts)
+
+-- What a row without a broken limit writes in this form stands where its canonical words do, of which the front stands before it.
+pub record Canon (height room : ℕ) (part mine : Parts) (scope : Scope) (front : Texts) {A : Type 0} (form : Writing A) (row : A → Texts) : Type 0 where
+  pub law : Ensures height room part scope form (λ x. Stands room mine scope front form x (row x))
+
+-- the same of what stands inside a bracket
+abbrev pub CanonInside : ℕ → ℕ → Scope → {A : Type 0} → Writing A → (A → Texts) → Type 0
+CanonInside height room scope form row = (lower : ℕ) → height ≡ suc lower → Canon lower (room - 1) (SpelledPart lower) SomePart scope [] form row
+
+module _ {height room : ℕ} {part mine : Parts} {scope : Scope} where
+  pub canon_empty : {A : Type 0} {front : Texts} {a : A} {row : A → Texts} → row a ≡ front → Canon height room part mine scope front (Empty a) row
+  canon_empty same = record { law = ensures_empty (stands_empty same) }
+
+  pub canon_then : {A B C : Type 0} {front : Texts} {f : A → B → C} {a : Writing A} {b : Writing B} {row_a : A → Texts} {row_b : B → Texts} {row : C → Texts}
+      → Canon height room part mine scope [] a row_a → Canon height room part mine scope [] b row_b
+      → ((x : A) (y : B) → row (f x y) ≡ front ++ (row_a x ++ row_b y)) → Canon height room part mine scope front (Then f a b) row
+  canon_then one other same = record { law = ensures_then one.law other.law (λ x y p q. stands_then p q (same x y)) }
+
+  pub canon_giving : {A B : Type 0} {front : Texts} {f : A → B} {a : Writing A} {row_a : A → Texts} {row : B → Texts}
+      → Canon height room part mine scope [] a row_a → ((x : A) → row (f x) ≡ front ++ row_a x) → Canon height room part mine scope front (giving f a) row
+  canon_giving one same = canon_then (canon_empty {row = λ u. []} refl) one (λ u x. same x)
+
+  pub canon_either : {A : Type 0} {front : Texts} {test : List ℕ → Bool} {a b : Writing A} {row : A → Texts}
+      → Canon height room part mine scope front a row → Canon height room part mine scope front b row → Canon height room part mine scope front (Either test a b) row
+  canon_either one other = record {
+    law = ensures_either
+        (ensures_also one.law (λ x s. record { texts = s.texts; whole = s.whole; tokens = s.tokens; at = λ k. inl (s.at k) }))
+        (ensures_also other.law (λ x s. record { texts = s.texts; whole = s.whole; tokens = s.tokens; at = λ k. inr (s.at k) }));
+  }
+
+  pub canon_many : {A : Type 0} {test : List ℕ → Bool} {form : ℕ → Writing A} {row : A → Texts} → ((k : ℕ) → Canon height room part mine scope [] (form k) row)
+      → Canon height room part mine scope [] (Many test form) (flat_map row)
+  canon_many {form} {row} law = record { law = ensures_also (ensures_many (λ k. (law k).law)) (λ xs each. stands_many room mine scope form row xs each) }
+
+  -- what stands behind a first word of the language
+  pub canon_word : {I A : Type 0} {judge : Scope → Word → Judged I} {form : I → Writing A} {row : A → Texts} (text : List ℕ) (i : I) → is_fixed text ≡ true
+      → ((k : ℕ) → judge scope (record { text = text; place = k }) ≡ Some (i, None)) → Canon height room part mine scope (text ∷ []) (form i) row
+      → Ensures height room part scope (form i) (λ x. Stands room mine scope [] (Cases judge form) x (row x))
+  canon_word text i fixed judged one = ensures_also one.law (λ x s. stands_first i (fixed_token text fixed) judged s)
+
+  -- one word, which is printed as it was written, or as another
+  pub canon_token : {I : Type 0} {judge : Scope → Word → Judged I} {text : I → List ℕ}
+      → ((w : Word) (i : I) → judge scope w ≡ Some (i, None)
+      → IsTokenText (text i) × ((k : ℕ) → judge scope (record { text = text i; place = k }) ≡ Some (i, None)))
+      → Canon height room part mine scope [] (Cases judge Empty) (λ i. text i ∷ [])
+  canon_token law = record { law = ensures_cases (λ w i e. ensures_empty (stands_first i (law w i e).0 (law w i e).1 (stands_empty refl))) }
+
+  pub canon_same : {I : Type 0} {judge : Scope → Word → Judged I} {text : I → List ℕ}
+      → ((w : Word) (i : I) → judge scope w ≡ Some (i, None)
+      → (text i ≡ w.text) × IsTokenText w.text × ((k : ℕ) → judge scope (record { text = w.text; place = k }) ≡ Some (i, None)))
+      → Canon height room part mine scope [] (Cases judge Empty) (λ i. text i ∷ [])
+  canon_same {judge} law = canon_token (λ w i e.
+      (let (same, token, again) = law w i e in
+      (subst IsTokenText (sym same) token, λ k. subst (λ bytes. judge scope (record { text = bytes; place = k }) ≡ Some (i, None)) (sym same) (again k))))
+
+  pub canon_text : (text : List ℕ) → is_fixed text ≡ true → Canon height room part mine scope [] (word text) (λ u. text ∷ [])
+  canon_text text fixed =
+      canon_token (λ w u e. (fixed_token text fixed, λ k. ap (λ b. fine (if b then Some tt else None)) (same_text text)))
+
+  pub canon_limited : (code : ℕ) (over : Bool) (text : List ℕ) → is_fixed text ≡ true → Canon height room part mine scope [] (limited_word code over text) (λ u. text ∷ [])
+  canon_limited code over text fixed = record {
+    law = ensures_also (ensures_limited code over)
+        (λ u few. stands_first tt (fixed_token text fixed) (λ k. rw (same_text text, few) refl) (stands_empty refl));
+  }
+
+  pub canon_before : {A : Type 0} {a : Writing A} {row : A → Texts} (text : List ℕ) → is_fixed text ≡ true → Canon height room part mine scope [] a row
+      → Canon height room part mine scope [] (text ▸ a) (λ x. text ∷ row x)
+  canon_before text fixed one = canon_then (canon_text text fixed) one (λ u x. refl)
+
+  pub canon_behind : {A : Type 0} {a : Writing A} {row : A → Texts} → Canon height room part mine scope [] a row → (text : List ℕ) → is_fixed text ≡ true
+      → Canon height room part mine scope [] (a ◂ text) (λ x. row x ++ text ∷ [])
+  canon_behind one text fixed = canon_then one (canon_text text fixed) (λ x u. refl)
+
+  pub canon_pair : {A B : Type 0} {a : Writing A} {b : Writing B} {row_a : A → Texts} {row_b : B → Texts}
+      → Canon height room part mine scope [] a row_a → Canon height room part mine scope [] b row_b
+      → Canon height room part mine scope [] (a ▪ b) (λ p. row_a p.0 ++ row_b p.1)
+  canon_pair one other = canon_then one other (λ x y. refl)
+
+  -- things with commas between them, each in the form of its number
+  pub canon_commas : {A : Type 0} (form : ℕ → Writing A) {row : A → Texts} → ((k : ℕ) → Canon height room part mine scope [] (form k) row)
+      → Canon height room part mine scope [] (Then (λ x xs. x ∷ xs) (form 0) (Many (is_word (codes ",")) (λ k. codes "," ▸ form (suc k)))) (λ xs. with_commas (map row xs))
+  canon_commas form {row} law =
+      canon_then (law 0) (canon_many (λ k. canon_before (codes ",") refl (law (suc k))))
+      (λ x xs. ap (λ rest. row x ++ rest) (flat_map-map (λ words. codes "," ∷ words) row xs))
+
+  pub canon_optional : {A : Type 0} {a : Writing A} {row_a : A → Texts} {row : Option A → Texts} (text : List ℕ) → is_fixed text ≡ true
+      → Canon height room part mine scope [] a row_a → row None ≡ [] → ((x : A) → row (Some x) ≡ text ∷ row_a x)
+      → Canon height room part mine scope [] (optional text a) row
+  canon_optional text fixed one none some = canon_either (canon_giving (canon_before text fixed one) some) (canon_empty none)
+
+  pub canon_within : {A : Type 0} {over : Bool} {bracket : Bracket} {a : Writing A} {row : A → Texts} → CanonInside height room scope a row
+      → Canon height room part mine scope [] (Within over bracket a) (λ x. opening bracket ∷ row x ++ closing bracket ∷ [])
+  canon_within inner = record { law = ensures_bracket (λ lower e. (inner lower e).law) (λ x free s. stands_within free s) }
+
+  pub canon_in : {A : Type 0} {into : Scope → Scope} {a : Writing A} {row : A → Texts} → Canon height room part mine (into scope) [] a row
+      → Canon height room part mine scope [] (In into a) row
+  canon_in one = record {
+    law = ensures_in (ensures_also one.law (λ x s. record { texts = s.texts; whole = s.whole; tokens = s.tokens; at = s.at }));
+  }
+
+module _ {height room : ℕ} {part mine : Parts} {scope : Scope} where
+  -- a list in brackets
+  pub canon_listed : {A : Type 0} {bracket : Bracket} {a : Writing A} {row : A → Texts} → CanonInside height room scope a row
+      → Canon height room part mine scope [] (listed bracket (separated a)) (λ xs. opening bracket ∷ with_commas (map row xs) ++ closing bracket ∷ [])
+  canon_listed {a} inner = canon_within (λ lower e. canon_either (canon_commas (λ k. a) (λ k. inner lower e)) (canon_empty refl))
+
+-- a part, whose form has no part outside brackets
+pub canon_part : {height room : ℕ} {scope : Scope} {kind : Kind} {row : Meaning kind → Texts} → Canon height room no_parts no_parts scope [] (form_of kind) row
+    → Canon height room (SpelledPart height) SomePart scope [] (Part kind) row
+canon_part {room = room} {scope} {kind} one = record {
+  law = ensures_part {kind = kind} (ensures_also one.law (λ x s. record {
+    texts = s.texts;
+    whole = s.whole;
+    tokens = s.tokens;
+    at = λ k. settled_part room scope kind x (marked k s.texts) (s.at k);
+  }));
 }
-
--- one of few brackets
-pub stands_within_few : {room : ℕ} {part : Parts} {scope : Scope} {A : Type 0} {over : Bool} {bracket : Bracket} {a : Writing A} {x : A} {texts : Texts} → over ≡ false → (room == 0) ≡ false
-    → Stands (room - 1) (SomePart (room - 1)) scope a x texts → Stands room part scope (Within over bracket a) x (opening bracket ∷ texts ++ closing bracket ∷ [])
-stands_within_few {room} {part} {scope} {over} {bracket} {a} {x} {texts} few some inner =
-    subst (λ (b : Bool). Stands room part scope (Within b bracket a) x (opening bracket ∷ texts ++ closing bracket ∷ [])) (sym few) (stands_within some inner)
-
-pub stands_part : {room : ℕ} {scope : Scope} {kind : Kind} {x : Meaning kind} {texts : Texts} → Stands room NoPart scope (form_of kind) x texts
-    → Stands room (SomePart room) scope (Part kind) x texts
-stands_part {room} {scope} {kind} {x} {texts} one = record { at = λ k. settled_part room scope kind x (marked k texts) (one.at k) }
-
--- what has no part outside brackets, whatever writes parts
-pub stands_any : {room : ℕ} {part : Parts} {scope : Scope} {A : Type 0} {form : Writing A} {x : A} {texts : Texts} → Stands room NoPart scope form x texts → Stands room part scope form x texts
-stands_any {room} {part} {scope} {form} {x} {texts} one = record {
-  at = λ k. also_by (room == 0) (SomeInside (room - 1)) (SomeInside (room - 1)) NoPart part (λ s A a y marks h. h) (λ s kind y marks none. absurd none) scope form x (marked k texts) (one.at k);
-}
-
--- a list in brackets
-pub stands_listed : {room : ℕ} {part : Parts} {scope : Scope} {A : Type 0} {bracket : Bracket} {a : Writing A} (row : A → Texts) (xs : List A) → (room == 0) ≡ false
-    → AllStand (room - 1) (SomePart (room - 1)) scope a row xs
-    → Stands room part scope (listed bracket (separated a)) xs (opening bracket ∷ with_commas (map row xs) ++ closing bracket ∷ [])
-stands_listed row [] some all = stands_within some (stands_second stands_empty)
-stands_listed row (x ∷ xs) some all = stands_within some (stands_first (stands_separated row x xs all))

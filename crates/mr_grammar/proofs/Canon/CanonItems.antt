@@ -1,61 +1,73 @@
--- The canonical words of an item or a global write it.
-use Rattle.std.proofs.Common.{◌≡◌, ℕ, ◌-◌, ◌≤◌, ◌<◌, ◌^◌, ◌==◌, Bool, true, false, if◌then◌else◌, [], ◌∷◌, codes, slice_get, Some, None, refl, sym, subst, arith}
-use Rattle.std.specs.Prelude.{decimal, nat_le}
-use Rattle.std.proofs.lemmas.Bool.Decides.{nat_tests}
-use Rattle.mr_base.proofs.Comparisons.{lt_test}
-use Rattle.mr_ast.specs.declared.program.Global_.{Global_}
-use Rattle.mr_ast.specs.declared.program.Item_.{Item_}
+-- Items of globals are printed as they are written.
+use Rattle.std.proofs.Common.{◌≡◌, List, ℕ, None, length, [], codes, refl, ◌==◌, inr, ◌∷◌, Bool, if◌then◌else◌, true, false, inl, Some, ap, sym, ◌∙◌, subst}
+use Rattle.std.specs.Prelude.{decimal}
+use Rattle.mr_base.proofs.Comparisons.{eq_from}
 use Rattle.mr_ast.specs.declared.program.Item_.TheVariants as item
 use Rattle.mr_ast.specs.declared.program.Program.{Program}
-use Rattle.mr_ast.specs.declared.words.Bracket.TheVariants.{Curly}
+use Rattle.mr_ast.specs.declared.program.Target.{Target}
+use Rattle.mr_ast.specs.declared.words.ItemWord.{ItemWord}
 use Rattle.mr_ast.specs.declared.words.ItemWord.TheVariants as item_word
-use Rattle.mr_ast.specs.Words.{is_number}
-use Rattle.mr_ast.specs.Scope.{Scope}
-use Rattle.mr_ast.specs.Shaped.{IsRepeat, Shaped, ShapedGlobal, ShapedItem}
-use Rattle.mr_ast.specs.Writing.{other_than}
-use Rattle.mr_ast.specs.ProgramGrammar.{global_form, item_form, items_form, judged_item, reloc_form, repeat_form}
-use Rattle.mr_ast.specs.Canon.{global_line, repeat_words, words_of_item}
-use Rattle.mr_grammar.proofs.Canon.CanonNames.{IsNamed, definitions_of}
-use Rattle.mr_grammar.proofs.Walk.HeightLaws.{SomePart}
-use Rattle.mr_grammar.proofs.Canon.CanonForms.{Parts, Stands, each_stand, stands_before, stands_cases, stands_empty, stands_first, stands_giving, stands_many, stands_pair, stands_second, stands_then, stands_within}
-use Rattle.mr_grammar.proofs.Canon.CanonNumbers.{is_number-decimal, stands_repeat, stands_u64, value_of-decimal}
-use Rattle.mr_grammar.proofs.Canon.KnownNames.{global_name_stands, target_use_stands}
+use Rattle.mr_ast.specs.declared.words.Role.TheVariants.{UsesFunction}
+use Rattle.mr_ast.specs.Canon.{function_texts, target_text, repeat_words, words_of_item}
+use Rattle.mr_ast.specs.CanonValues.{text_at}
+use Rattle.mr_ast.specs.Forms.{Either, Empty, Word, Cases}
+use Rattle.mr_ast.specs.ProgramGrammar.{repeat_form, item_form, reloc_form, judged_item, item_behind, judged_edition}
+use Rattle.mr_ast.specs.Scope.{Definitions, names_of, number_of_name, target_of, number_in, item_names, Scope}
+use Rattle.mr_ast.specs.Words.{is_number, looked_up, edition_words}
+use Rattle.mr_ast.specs.Writing.{is_word, ◌▸◌, token, judged_repeat, target_use, judged_target, fine, giving}
+use Rattle.mr_ast.proofs.WordLaws.{edition_word_found, edition_found}
 use Rattle.mr_words.proofs.ScopeLaws.{scope_at}
-use Rattle.mr_base.proofs.Lists.{all_at}
+use Rattle.mr_grammar.proofs.Canon.CanonForms.{Canon, canon_before, Stands, canon_same, canon_giving, stands_first, canon_word, canon_then, canon_token}
+use Rattle.mr_grammar.proofs.Canon.CanonWords.{canon_repeat, canon_u64}
+use Rattle.mr_grammar.proofs.Shape.ShapedNames.{target_named}
+use Rattle.mr_grammar.proofs.Shape.ShapedPrograms.{byte_fine, fine_some}
+use Rattle.mr_grammar.proofs.Tokens.TokenRows.{name_token, number_is, number_token, table_passes}
+use Rattle.mr_grammar.proofs.Tokens.TokenTexts.{IsTokenText}
+use Rattle.mr_grammar.proofs.Walk.EnsureLaws.{Parts, ensures_either, ensures_also, ensures_empty, ensures_cases, Ensures}
 
-byte_judged : (v k : ℕ) → v ≤ 255 → judged_item (record { text = decimal v; place = k }) ≡ Some (item_word.Byte v, None)
-unfolding judged_item
-byte_judged v k small =
-    let below : v < 2 ^ 128 = omega arith in
-    let one : nat_le v 255 ≡ true = grind (arith, nat_tests) in
-    rw (is_number-decimal v below, value_of-decimal v below, one) refl
+-- what names stand for in a program that defines the names of a text
+pub record KnownProgram (d : Definitions) (p : Program) : Type 0 where
+  pub names : p.names ≡ names_of d
+  pub functions : (text : List ℕ) (n : ℕ) → number_of_name d 0 UsesFunction text ≡ (n, None) → text_at (function_texts p) n ≡ text
+  pub targets : (text : List ℕ) (t : Target) → target_of (length d.globals) (number_in (item_names d) text) ≡ (t, None) → target_text p t ≡ text
 
--- a repeat, which is left out where it is 1
-repeat_stands : {room : ℕ} {part : Parts} {scope : Scope} (n : ℕ) → IsRepeat n → Stands room part scope repeat_form n (repeat_words n)
-unfolding repeat_form
-repeat_stands {room} {part} {scope} n is = go (n == 1) refl
-  where
-    go : (b : Bool) → (n == 1) ≡ b → Stands room part scope repeat_form n (if b then [] else codes "*" ∷ decimal n ∷ [])
-    go true same =
-        let one : n ≡ 1 = grind (arith, nat_tests, same) in
-        subst (λ (m : ℕ). Stands room part scope repeat_form m []) (sym one) (stands_second stands_empty)
-    go false other = stands_first (stands_before (codes "*") (stands_repeat n is.some is.bounded))
+module _ {height room : ℕ} {part mine : Parts} where
+  -- a repeat of 1 is left out
+  canon_repeats : {scope : Scope} → Canon height room part mine scope [] repeat_form repeat_words
+  unfolding repeat_form
+  canon_repeats {scope} = record { law = ensures_either (ensures_also (canon_before (codes "*") refl canon_repeat).law (λ n s. left_out n s (n == 1) refl)) (ensures_empty second) }
+    where
+      second : Stands room mine scope [] (Either (is_word (codes "*")) (codes "*" ▸ token judged_repeat) (Empty 1)) 1 []
+      second = record { texts = []; whole = refl; tokens = tt; at = λ k. inr (refl, refl) }
 
-module _ (p : Program) (shaped : Shaped p) (named : IsNamed p) (j : ℕ) where
-  item_stands : {room : ℕ} {part : Parts} (i : Item_) → ShapedItem p i → Stands room part (scope_at (definitions_of p) j) item_form i (words_of_item p i)
-  unfolding item_form words_of_item reloc_form judged_item is_number
-  item_stands (item.Byte v repeat) is = stands_cases {i = item_word.Byte v} (λ k. byte_judged v k is.0) (stands_giving (repeat_stands repeat is.1) refl)
-  item_stands (item.Uninit repeat) is = stands_cases {i = item_word.Uninit} (λ k. refl) (stands_giving (repeat_stands repeat is) refl)
-  item_stands (item.Reloc to offset) is =
-      stands_cases {i = item_word.Reloc} (λ k. refl)
-      (stands_then (target_use_stands p shaped named j to is.0) (stands_before (codes "+") (stands_u64 offset (lt_test offset (2 ^ 64) is.1))) refl refl)
+      left_out : (n : ℕ) → Stands room mine scope [] (codes "*" ▸ token judged_repeat) n (codes "*" ∷ decimal n ∷ []) → (one : Bool) → (n == 1) ≡ one
+          → Stands room mine scope [] (Either (is_word (codes "*")) (codes "*" ▸ token judged_repeat) (Empty 1)) n (if one then [] else codes "*" ∷ decimal n ∷ [])
+      left_out n s true is = record { texts = []; whole = refl; tokens = tt; at = λ k. inr (eq_from n 1 is, refl) }
+      left_out n s false is = record { texts = s.texts; whole = s.whole; tokens = s.tokens; at = λ k. inl (s.at k) }
 
-  pub global_stands : {room : ℕ} {part : Parts} (k : ℕ) (g : Global_) → slice_get p.globals k ≡ Some g → (room == 0) ≡ false
-      → Stands room part (scope_at (definitions_of p) j) (global_form k) g (global_line p g)
-  unfolding global_form items_form global_line
-  global_stands {room} k g at some =
-      let good = all_at (ShapedGlobal p) p.globals k g shaped.globals at in
-      let items = each_stand {room = room - 1} {part = SomePart (room - 1)} {scope = scope_at (definitions_of p) j} (λ i. item_form) (words_of_item p) g.items
-      (λ i x here. item_stands x (all_at (ShapedItem p) g.items i x good.items here)) in
-      let head = stands_pair (global_name_stands p shaped named j k g at) (stands_before (codes "align") (stands_u64 g.align (lt_test g.align (2 ^ 64) good.align))) in
-      stands_before (codes "global") (stands_then head (stands_within {bracket = Curly} some (stands_many {test = other_than (codes "}")} (words_of_item p) items)) refl refl)
+  canon_target : {d : Definitions} {k : ℕ} (p : Program) → KnownProgram d p → Canon height room part mine (scope_at d k) [] target_use (λ t. target_text p t ∷ [])
+  unfolding judged_target
+  canon_target {d} {k} p known = canon_same {text = target_text p} (λ w t e.
+      (let fine = target_named (scope_at d k) w t e in (known.targets w.text t fine.1, name_token w.text fine.0, λ j. e)))
+
+  pub canon_item : {d : Definitions} {k : ℕ} (p : Program) → KnownProgram d p → Canon height room part mine (scope_at d k) [] item_form (words_of_item p)
+  unfolding item_form reloc_form judged_item words_of_item is_number
+  canon_item {d} {k} p known = record { law = ensures_cases behind }
+    where
+      behind : (w : Word) (i : ItemWord) → judged_item w ≡ Some (i, None)
+          → Ensures height room part (scope_at d k) (item_behind i) (λ x. Stands room mine (scope_at d k) [] (Cases (λ s. judged_item) item_behind) x (words_of_item p x))
+      behind w (item_word.Byte b) e =
+          let fine = byte_fine w b e in
+          let same : decimal b ≡ w.text = ap decimal (sym fine.1) ∙ number_is w.text fine.0 in
+          let one : Canon height room part mine (scope_at d k) (decimal b ∷ []) (giving (item.Byte b) repeat_form) (words_of_item p) = canon_giving canon_repeats (λ n. refl) in
+          ensures_also one.law (λ x s. stands_first (item_word.Byte b) (subst IsTokenText (sym same) (number_token w.text fine.0))
+          (λ j. subst (λ text. judged_item (record { text = text; place = j }) ≡ Some (item_word.Byte b, None)) (sym same) e) s)
+      behind w item_word.Uninit e = canon_word (codes "?") item_word.Uninit refl (λ j. refl) (canon_giving canon_repeats (λ n. refl))
+      behind w item_word.Reloc e = canon_word (codes "&") item_word.Reloc refl (λ j. refl)
+          (canon_then (canon_target p known) (canon_before (codes "+") refl canon_u64) (λ to offset. refl))
+
+  pub canon_edition : {scope : Scope} → Canon height room part mine scope [] (token judged_edition) (λ n. decimal n ∷ [])
+  unfolding judged_edition is_number
+  canon_edition = canon_token {text = decimal} (λ w n e.
+      (let found = edition_word_found n (edition_found w.text n (fine_some (looked_up edition_words w.text) n e)) in
+      (number_token (decimal n) (table_passes is_number edition_words (decimal n) n refl found), λ j. ap fine found)))

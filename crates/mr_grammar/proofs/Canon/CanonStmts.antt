@@ -1,167 +1,107 @@
--- The canonical words of a statement or terminator write it.
-use Rattle.std.proofs.Common.{◌≡◌, ℕ, suc, ◌-◌, ◌==◌, Bool, true, false, not, ◌&&◌, List, [], ◌∷◌, ◌++◌, codes, Option, Some, None, refl, ap, sym, ◌∙◌, subst, append_assoc}
-use Rattle.std.specs.Prelude.{flat_map, nat_le, nat_lt}
-use Rattle.std.specs.List.{list_all}
-use Rattle.std.proofs.lemmas.Bool.{and_parts}
-use Rattle.mr_ast.specs.declared.types.Num.{Num}
-use Rattle.mr_ast.specs.declared.expr.Place.{Place}
-use Rattle.mr_ast.specs.declared.expr.Value.{Value}
-use Rattle.mr_ast.specs.declared.program.LocalName.{LocalName}
-use Rattle.mr_ast.specs.declared.program.BlockName.{BlockName}
+-- Statements and terminators are printed as they are written.
+use Rattle.std.proofs.Common.{ℕ, ◌≡◌, Some, None, refl, [], Bool, ◌∷◌, codes, false, append_assoc, List, true}
+use Rattle.std.specs.Prelude.{nat_le}
 use Rattle.mr_ast.specs.declared.program.Intrinsic.{Intrinsic}
 use Rattle.mr_ast.specs.declared.program.Intrinsic.TheVariants as intrinsic
-use Rattle.mr_ast.specs.declared.program.Stmt.{Stmt}
-use Rattle.mr_ast.specs.declared.program.Stmt.TheVariants as stmt
-use Rattle.mr_ast.specs.declared.program.Term.{Term}
-use Rattle.mr_ast.specs.declared.program.Term.TheVariants as term
+use Rattle.mr_ast.specs.declared.words.Bracket.TheVariants.{Round}
+use Rattle.mr_ast.specs.declared.words.StmtWord.{StmtWord}
 use Rattle.mr_ast.specs.declared.words.StmtWord.TheVariants as stmt_word
+use Rattle.mr_ast.specs.declared.words.TermWord.{TermWord}
 use Rattle.mr_ast.specs.declared.words.TermWord.TheVariants as term_word
-use Rattle.mr_ast.specs.declared.words.Bracket.TheVariants.{Curly, Round}
-use Rattle.mr_ast.specs.Words.{Texts}
-use Rattle.mr_ast.specs.Forms.{Part}
-use Rattle.mr_ast.specs.Scope.{Scope}
-use Rattle.mr_ast.specs.Shaped.{is_block, is_optional_block, is_optional_place, is_shaped_stmt, is_shaped_target, is_shaped_term}
-use Rattle.mr_ast.specs.ShapedTypes.{is_shaped_num}
-use Rattle.mr_ast.specs.ShapedValues.{Named, is_shaped_place, is_shaped_value}
-use Rattle.mr_ast.specs.Writing.{ThePlace, TheValue, block_use, listed, local_use, optional, other_than}
-use Rattle.mr_ast.specs.ProgramGrammar.{assign_form, call_form, numbered_form, do_form, judged_intrinsic, judged_stmt, judged_term, stmt_form, switch_case_form, switch_cases_form, switch_form, term_form, unwind_form, values_form}
-use Rattle.mr_ast.specs.CanonValues.{NameTexts, text_at, words_of_place, words_of_value}
-use Rattle.mr_ast.specs.Canon.{arguments, intrinsic_word, optional_block, optional_result, stmt_line, target_words, term_line, words_of_stmt, words_of_term}
-use Rattle.mr_grammar.proofs.Nesting.NestingValues.{place_fits, value_fits}
-use Rattle.mr_grammar.proofs.Nesting.NestingPrograms.{result_fits, stmt_fits, term_fits, values_fit}
+use Rattle.mr_ast.specs.Canon.{intrinsic_word, stmt_line, words_of_stmt, target_words, term_line, words_of_term, arguments, optional_block, optional_result}
+use Rattle.mr_ast.specs.CanonValues.{NameTexts, words_of_value, words_of_place, text_at}
+use Rattle.mr_ast.specs.Forms.{Part, Cases}
+use Rattle.mr_ast.specs.ProgramGrammar.{judged_intrinsic, stmt_form, assign_form, numbered_form, judged_stmt, stmt_behind, switch_case_form, intrinsic_form, term_form, judged_term, switch_form, switch_cases_form, unwind_form, call_form, do_form, values_form, term_behind}
+use Rattle.mr_ast.specs.Scope.{Definitions}
+use Rattle.mr_ast.specs.Spelled.{SpelledPart}
+use Rattle.mr_ast.specs.Words.{intrinsic_words}
+use Rattle.mr_ast.specs.Writing.{TheValue, ThePlace, block_use, local_use, ◌▸◌, listed, separated, optional}
+use Rattle.mr_ast.proofs.WordLaws.{intrinsic_word_found}
+use Rattle.mr_words.proofs.ScopeLaws.{scope_at}
+use Rattle.mr_grammar.proofs.Canon.CanonForms.{Canon, canon_before, canon_behind, canon_either, canon_then, Stands, canon_word, canon_giving, canon_token, canon_listed, canon_optional, canon_within, canon_pair, canon_many, canon_empty}
+use Rattle.mr_grammar.proofs.Canon.CanonValues.{canon_parts}
+use Rattle.mr_grammar.proofs.Canon.CanonWords.{Known, canon_block, canon_local, canon_num}
+use Rattle.mr_grammar.proofs.Shape.ShapedBlocks.{stmt_fine}
+use Rattle.mr_grammar.proofs.Tokens.TokenRows.{fixed_token, table_fixed, is_fixed}
+use Rattle.mr_grammar.proofs.Walk.EnsureLaws.{ensures_cases, Ensures}
 use Rattle.mr_grammar.proofs.Walk.HeightLaws.{SomePart}
-use Rattle.mr_grammar.proofs.Canon.CanonForms.{AllStand, EachStands, Parts, Stands, stands_before, stands_behind, stands_cases, stands_empty, stands_first, stands_giving, stands_listed, stands_many, stands_pair, stands_part, stands_same, stands_second, stands_then, stands_token, stands_within}
-use Rattle.mr_grammar.proofs.Canon.CanonNumbers.{stands_num}
-use Rattle.mr_grammar.proofs.Canon.CanonTypes.{is_open}
-use Rattle.mr_grammar.proofs.Canon.CanonValues.{Known, opened, place_from_stands, value_part_stands}
 
 intrinsic_begins : (i : Intrinsic) (k : ℕ) → judged_intrinsic (record { text = intrinsic_word i; place = k }) ≡ Some (i, None)
 unfolding judged_intrinsic
 intrinsic_begins intrinsic.Assume k = refl
 intrinsic_begins _ k = refl
 
-regroup : (a b c d e : Texts) → (((a ++ b) ++ c) ++ d) ++ e ≡ (a ++ b) ++ (c ++ (d ++ e))
-regroup a b c d e = simp append_assoc
+module _ {d : Definitions} {k : ℕ} (names : NameTexts) (known : Known d k names) where
+  module _ {height room : ℕ} where
+    value : Canon height room (SpelledPart height) SomePart (scope_at d k) [] (Part TheValue) (words_of_value names)
+    value = canon_parts names known TheValue
 
-module _ (named : Named) (names : NameTexts) (scope : Scope) (known : Known named names scope) where
-  pub local_use_stands : {room : ℕ} {part : Parts} (x : LocalName) → nat_lt x.0 named.locals ≡ true → Stands room part scope local_use x (text_at names.locals x.0 ∷ [])
-  local_use_stands x is = stands_giving (stands_cases {i = x.0} (λ k. known.locals x.0 k is) stands_empty) refl
+    place : (over : Bool) → Canon height room (SpelledPart height) SomePart (scope_at d k) [] (Part (ThePlace over)) (words_of_place names)
+    place over = canon_parts names known (ThePlace over)
 
-  block_use_stands : {room : ℕ} {part : Parts} (b : BlockName) → nat_lt b.0 named.blocks ≡ true → Stands room part scope block_use b (text_at names.blocks b.0 ∷ [])
-  block_use_stands b is = stands_giving (stands_cases {i = b.0} (λ k. known.blocks b.0 k is) stands_empty) refl
+    block : Canon height room (SpelledPart height) SomePart (scope_at d k) [] block_use (λ b. text_at names.blocks b.0 ∷ [])
+    block = canon_block names known
 
-  -- a place, as a part; its first word is one of few
-  place_part : (room : ℕ) (over : Bool) (p : Place) → over ≡ false → place_fits p room ≡ true → is_shaped_place named p ≡ true
-      → Stands room (SomePart room) scope (Part (ThePlace over)) p (words_of_place names p)
-  place_part room over p few fits shaped =
-      subst (λ (b : Bool). Stands room (SomePart room) scope (Part (ThePlace b)) p (words_of_place names p)) (sym few)
-      (stands_part {kind = ThePlace false} (place_from_stands named names scope known p room fits shaped))
+    local : Canon height room (SpelledPart height) SomePart (scope_at d k) [] local_use (λ x. text_at names.locals x.0 ∷ [])
+    local = canon_local names known
 
-  value_part : (room : ℕ) (v : Value) → value_fits v room ≡ true → is_shaped_value named v ≡ true → Stands room (SomePart room) scope (Part TheValue) v (words_of_value names v)
-  value_part room v fits shaped = value_part_stands named names scope known v room fits shaped
+    to_block : Canon height room (SpelledPart height) SomePart (scope_at d k) [] (codes "to" ▸ block_use) (λ b. codes "to" ∷ text_at names.blocks b.0 ∷ [])
+    to_block = canon_before (codes "to") refl block
 
-  -- ---- statements
+  module _ {height room : ℕ} where
+    pub canon_stmt : (j : ℕ) → Canon height room (SpelledPart height) SomePart (scope_at d k) [] (stmt_form j) (stmt_line names)
+    unfolding stmt_form assign_form numbered_form judged_stmt words_of_stmt
+    canon_stmt j = canon_behind {row = words_of_stmt names} (canon_either (record { law = ensures_cases (λ w i e. behind i (stmt_fine (nat_le 4096 j) w i e)) })
+        (canon_then (place (nat_le 4096 j)) (canon_before (codes "=") refl value) (λ p v. refl))) (codes ";") refl
+      where
+        behind : (i : StmtWord) → nat_le 4096 j ≡ false → Ensures height room (SpelledPart height) (scope_at d k) (stmt_behind i)
+            (λ s. Stands room SomePart (scope_at d k) [] (Cases (λ scope. judged_stmt (nat_le 4096 j)) stmt_behind) s (words_of_stmt names s))
+        behind stmt_word.Live few = canon_word (codes "live") stmt_word.Live refl (λ n. rw few refl) (canon_giving local (λ x. refl))
+        behind stmt_word.Dead few = canon_word (codes "dead") stmt_word.Dead refl (λ n. rw few refl) (canon_giving local (λ x. refl))
+        behind stmt_word.Mention few = canon_word (codes "mention") stmt_word.Mention refl (λ n. rw few refl) (canon_giving (place false) (λ p. refl))
+        behind stmt_word.Disc few = canon_word (codes "disc") stmt_word.Disc refl (λ n. rw few refl)
+            (canon_then (place false) (canon_before (codes "=") refl canon_num) (λ p number. refl))
+        behind stmt_word.Deinit few = canon_word (codes "deinit") stmt_word.Deinit refl (λ n. rw few refl) (canon_giving (place false) (λ p. refl))
+        behind stmt_word.Validate few = canon_word (codes "validate") stmt_word.Validate refl (λ n. rw few refl) (canon_giving (place false) (λ p. refl))
 
-  pub stmt_stands : (room j : ℕ) (s : Stmt) → nat_le 4096 j ≡ false → stmt_fits room s ≡ true → is_shaped_stmt named s ≡ true
-      → Stands room (SomePart room) scope (stmt_form j) s (stmt_line names s)
-  unfolding stmt_form judged_stmt words_of_stmt numbered_form assign_form
-  stmt_stands room j (stmt.Live x) few fits shaped =
-      stands_behind (stands_first (stands_cases {i = stmt_word.Live} (λ k. rw few refl) (stands_giving (local_use_stands x shaped) refl))) (codes ";")
-  stmt_stands room j (stmt.Dead x) few fits shaped =
-      stands_behind (stands_first (stands_cases {i = stmt_word.Dead} (λ k. rw few refl) (stands_giving (local_use_stands x shaped) refl))) (codes ";")
-  stmt_stands room j (stmt.Assign p v) few fits shaped =
-      let (fit, fit_value) = and_parts (place_fits p room) (value_fits v room) fits in
-      let (good, of) = and_parts (is_shaped_place named p) (is_shaped_value named v) shaped in
-      stands_behind (stands_second (stands_then (place_part room (nat_le 4096 j) p few fit good) (stands_before (codes "=") (value_part room v fit_value of)) refl refl)) (codes ";")
-  stmt_stands room j (stmt.Mention p) few fits shaped =
-      stands_behind (stands_first (stands_cases {i = stmt_word.Mention} (λ k. rw few refl) (stands_giving (place_part room false p refl fits shaped) refl))) (codes ";")
-  stmt_stands room j (stmt.Disc p n) few fits shaped =
-      let (good, of) = and_parts (is_shaped_place named p) (is_shaped_num n) shaped in
-      stands_behind (stands_first (stands_cases {i = stmt_word.Disc} (λ k. rw few refl) (stands_then (place_part room false p refl fits good) (stands_before (codes "=") (stands_num n of)) refl refl))) (codes ";")
-  stmt_stands room j (stmt.Deinit p) few fits shaped =
-      stands_behind (stands_first (stands_cases {i = stmt_word.Deinit} (λ k. rw few refl) (stands_giving (place_part room false p refl fits shaped) refl))) (codes ";")
-  stmt_stands room j (stmt.Validate p) few fits shaped =
-      stands_behind (stands_first (stands_cases {i = stmt_word.Validate} (λ k. rw few refl) (stands_giving (place_part room false p refl fits shaped) refl))) (codes ";")
+    canon_target : Canon height room (SpelledPart height) SomePart (scope_at d k) [] switch_case_form (target_words names)
+    unfolding switch_case_form
+    canon_target = canon_then (canon_behind canon_num (codes "=>") refl) (canon_behind block (codes ",") refl) (λ n b. simp append_assoc)
 
-  -- ---- terminators
+    canon_intrinsic : Canon height room (SpelledPart height) SomePart (scope_at d k) [] intrinsic_form (λ i. intrinsic_word i ∷ [])
+    canon_intrinsic = canon_token {text = intrinsic_word} (λ w i e.
+        (fixed_token (intrinsic_word i) (table_fixed intrinsic_words (intrinsic_word i) i refl (intrinsic_word_found i)), intrinsic_begins i))
 
-  targets_stand : (room : ℕ) (part : Parts) (j : ℕ) (cases : List (Num × BlockName)) → list_all (is_shaped_target named) cases ≡ true
-      → EachStands room part scope (λ k. switch_case_form) (target_words names) j cases
-  unfolding switch_case_form
-  targets_stand room part j [] shaped = tt
-  targets_stand room part j (c ∷ cases) shaped =
-      let (good, rest) = and_parts (is_shaped_target named c) (list_all (is_shaped_target named) cases) shaped in
-      let (number, to) = and_parts (is_shaped_num c.0) (is_block named c.1) good in (
-        stands_same (stands_pair (stands_behind (stands_num c.0 number) (codes "=>")) (stands_behind (block_use_stands c.1 to) (codes ","))) (simp append_assoc),
-        targets_stand room part (suc j) cases rest,
-      )
+  module _ {height room : ℕ} where
+    pub canon_term : Canon height room (SpelledPart height) SomePart (scope_at d k) [] term_form (term_line names)
+    unfolding term_form judged_term words_of_term switch_form switch_cases_form unwind_form call_form do_form values_form
+    canon_term = canon_behind {row = words_of_term names} (record { law = ensures_cases (λ w i e. behind i) }) (codes ";") refl
+      where
+        args : Canon height room (SpelledPart height) SomePart (scope_at d k) [] (listed Round (separated (Part TheValue))) (arguments names)
+        args = canon_listed (λ lower e. value)
 
-  all_values : (room : ℕ) (vs : List Value) → list_all (λ v. value_fits v room) vs ≡ true → list_all (is_shaped_value named) vs ≡ true
-      → AllStand room (SomePart room) scope (Part TheValue) (words_of_value names) vs
-  all_values room [] fits shaped = tt
-  all_values room (v ∷ vs) fits shaped =
-      let (fit, fit_rest) = and_parts (value_fits v room) (list_all (λ w. value_fits w room) vs) fits in
-      let (good, good_rest) = and_parts (is_shaped_value named v) (list_all (is_shaped_value named) vs) shaped in
-      (value_part room v fit good, all_values room vs fit_rest good_rest)
+        next : (text : List ℕ) → is_fixed text ≡ true
+            → Canon height room (SpelledPart height) SomePart (scope_at d k) [] (optional text block_use) (optional_block names text)
+        next text fixed = canon_optional text fixed block refl (λ b. refl)
 
-  arguments_stand : {part : Parts} (room : ℕ) (vs : List Value) → values_fit vs room ≡ true → list_all (is_shaped_value named) vs ≡ true
-      → Stands room part scope (listed Round values_form) vs (arguments names vs)
-  unfolding values_form
-  arguments_stand room vs fits shaped =
-      let (some, inner) = opened (λ r. list_all (λ v. value_fits v r) vs) room fits in
-      stands_listed {bracket = Round} (words_of_value names) vs some (all_values (room - 1) vs inner shaped)
-
-  optional_stands : {room : ℕ} {part : Parts} (word : List ℕ) (b : Option BlockName) → is_optional_block named b ≡ true
-      → Stands room part scope (optional word block_use) b (optional_block names word b)
-  optional_stands word None shaped = stands_second stands_empty
-  optional_stands word (Some b) shaped = stands_first (stands_giving (stands_before word (block_use_stands b shaped)) refl)
-
-  result_stands : (room : ℕ) (p : Option Place) → result_fits room p ≡ true → is_optional_place named p ≡ true
-      → Stands room (SomePart room) scope (optional (codes "->") (Part (ThePlace false))) p (optional_result names p)
-  result_stands room None fits shaped = stands_second stands_empty
-  result_stands room (Some p) fits shaped = stands_first (stands_giving (stands_before (codes "->") (place_part room false p refl fits shaped)) refl)
-
-  pub term_stands : (room : ℕ) (t : Term) → term_fits room t ≡ true → is_shaped_term named t ≡ true → Stands room (SomePart room) scope term_form t (term_line names t)
-  unfolding term_form judged_term words_of_term switch_form switch_cases_form unwind_form call_form do_form
-  term_stands room (term.Goto b) fits shaped =
-      stands_behind (stands_cases {i = term_word.Goto} (λ k. refl) (stands_giving (block_use_stands b shaped) refl)) (codes ";")
-  term_stands room (term.Switch v cases other) fits shaped =
-      let (fit, some) = and_parts (value_fits v room) (not (room == 0)) fits in
-      let (good, rest) = and_parts (is_shaped_value named v) (list_all (is_shaped_target named) cases && is_block named other) shaped in
-      let (each, to) = and_parts (list_all (is_shaped_target named) cases) (is_block named other) rest in
-      let rows = stands_many {test = other_than (codes "_")} (target_words names) (targets_stand (room - 1) (SomePart (room - 1)) 0 cases each) in
-      let between = stands_pair rows (stands_before (codes "_") (stands_before (codes "=>") (block_use_stands other to))) in
-      let front = words_of_value names v in
-      let row = flat_map (target_words names) cases in
-      let last = codes "_" ∷ codes "=>" ∷ text_at names.blocks other.0 ∷ [] in
-      let words = append_assoc front (codes "{" ∷ row) (last ++ codes "}" ∷ []) ∙ ap (λ w. front ++ codes "{" ∷ w) (sym (append_assoc row last (codes "}" ∷ []))) in
-      stands_behind (stands_cases {i = term_word.Switch} (λ k. refl) (stands_then (value_part room v fit good) (stands_within {bracket = Curly} (is_open room some) between) refl words)) (codes ";")
-  term_stands room term.Unreachable fits shaped = stands_behind (stands_cases {i = term_word.Unreachable} (λ k. refl) stands_empty) (codes ";")
-  term_stands room term.Return fits shaped = stands_behind (stands_cases {i = term_word.Return} (λ k. refl) stands_empty) (codes ";")
-  term_stands room term.Exit fits shaped = stands_behind (stands_cases {i = term_word.Exit} (λ k. refl) stands_empty) (codes ";")
-  term_stands room term.Abort fits shaped = stands_behind (stands_cases {i = term_word.Abort} (λ k. refl) stands_empty) (codes ";")
-  term_stands room term.Resume fits shaped = stands_behind (stands_cases {i = term_word.Resume} (λ k. refl) stands_empty) (codes ";")
-  term_stands room (term.Stop b) fits shaped =
-      stands_behind (stands_cases {i = term_word.Stop} (λ k. refl) (stands_giving (stands_before (codes "to") (block_use_stands b shaped)) refl)) (codes ";")
-  term_stands room (term.Unwind v b) fits shaped =
-      let (good, to) = and_parts (is_shaped_value named v) (is_block named b) shaped in
-      stands_behind (stands_cases {i = term_word.Unwind} (λ k. refl) (stands_then (value_part room v fits good) (stands_before (codes "to") (block_use_stands b to)) refl refl)) (codes ";")
-  term_stands room (term.Call callee args p next unwind) fits shaped =
-      let (fit, fit_rest) = and_parts (value_fits callee room) (values_fit args room && place_fits p room) fits in
-      let (fit_args, fit_place) = and_parts (values_fit args room) (place_fits p room) fit_rest in
-      let (good, rest) = and_parts (is_shaped_value named callee) (list_all (is_shaped_value named) args && (is_shaped_place named p && (is_optional_block named next && is_optional_block named unwind))) shaped in
-      let (of, rest_of) = and_parts (list_all (is_shaped_value named) args) (is_shaped_place named p && (is_optional_block named next && is_optional_block named unwind)) rest in
-      let (at, blocks) = and_parts (is_shaped_place named p) (is_optional_block named next && is_optional_block named unwind) rest_of in
-      let (to, away) = and_parts (is_optional_block named next) (is_optional_block named unwind) blocks in
-      let head = stands_pair (value_part room callee fit good) (arguments_stand room args fit_args of) in
-      let back = stands_pair (stands_before (codes "->") (place_part room false p refl fit_place at)) (stands_pair (optional_stands (codes "to") next to) (optional_stands (codes "unwind") unwind away)) in
-      let words = regroup (words_of_value names callee) (arguments names args) (codes "->" ∷ words_of_place names p) (optional_block names (codes "to") next) (optional_block names (codes "unwind") unwind) in
-      stands_behind (stands_cases {i = term_word.Call} (λ k. refl) (stands_then head back refl words)) (codes ";")
-  term_stands room (term.Do intrinsic args p next) fits shaped =
-      let (fit, fit_place) = and_parts (values_fit args room) (result_fits room p) fits in
-      let (good, rest) = and_parts (list_all (is_shaped_value named) args) (is_optional_place named p && is_block named next) shaped in
-      let (at, to) = and_parts (is_optional_place named p) (is_block named next) rest in
-      let head = stands_pair (stands_token {judge = judged_intrinsic} (intrinsic_begins intrinsic)) (arguments_stand room args fit good) in
-      let back = stands_pair (result_stands room p fit_place at) (stands_before (codes "to") (block_use_stands next to)) in
-      let words = append_assoc (intrinsic_word intrinsic ∷ arguments names args) (optional_result names p) (codes "to" ∷ text_at names.blocks next.0 ∷ []) in
-      stands_behind (stands_cases {i = term_word.Do} (λ k. refl) (stands_then head back refl words)) (codes ";")
+        behind : (i : TermWord) → Ensures height room (SpelledPart height) (scope_at d k) (term_behind i)
+            (λ t. Stands room SomePart (scope_at d k) [] (Cases (λ scope. judged_term) term_behind) t (words_of_term names t))
+        behind term_word.Goto = canon_word (codes "goto") term_word.Goto refl (λ n. refl) (canon_giving block (λ b. refl))
+        behind term_word.Switch = canon_word (codes "switch") term_word.Switch refl (λ n. refl)
+            (canon_then value (canon_within (λ lower e. canon_pair (canon_many (λ j. canon_target))
+            (canon_before (codes "_") refl (canon_before (codes "=>") refl block)))) (λ v cases. simp append_assoc))
+        behind term_word.Unreachable = canon_word (codes "unreachable") term_word.Unreachable refl (λ n. refl) (canon_empty refl)
+        behind term_word.Return = canon_word (codes "return") term_word.Return refl (λ n. refl) (canon_empty refl)
+        behind term_word.Exit = canon_word (codes "exit") term_word.Exit refl (λ n. refl) (canon_empty refl)
+        behind term_word.Abort = canon_word (codes "abort") term_word.Abort refl (λ n. refl) (canon_empty refl)
+        behind term_word.Resume = canon_word (codes "resume") term_word.Resume refl (λ n. refl) (canon_empty refl)
+        behind term_word.Stop = canon_word (codes "stop") term_word.Stop refl (λ n. refl) (canon_giving to_block (λ b. refl))
+        behind term_word.Unwind = canon_word (codes "unwind") term_word.Unwind refl (λ n. refl) (canon_then value to_block (λ v b. refl))
+        behind term_word.Call = canon_word (codes "call") term_word.Call refl (λ n. refl)
+            (canon_then (canon_pair value args)
+            (canon_pair (canon_before (codes "->") refl (place false)) (canon_pair (next (codes "to") refl) (next (codes "unwind") refl)))
+            (λ callee rest. simp append_assoc))
+        behind term_word.Do = canon_word (codes "do") term_word.Do refl (λ n. refl)
+            (canon_then (canon_pair canon_intrinsic args)
+            (canon_pair (canon_optional {row = optional_result names} (codes "->") refl (place false) refl (λ p. refl)) to_block)
+            (λ head rest. simp append_assoc))

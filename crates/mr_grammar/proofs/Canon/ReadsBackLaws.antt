@@ -1,56 +1,62 @@
--- A text whose words are the canonical ones of a program denotes the program.
-use Rattle.std.proofs.Common.{◌≡◌, ℕ, ◌≤◌, ◌^◌, List, length, map, Ok, refl, ap, sym, ◌∙◌, subst}
+-- The canonical text of a program that some text denotes denotes the same program.
+use Rattle.std.proofs.Common.{List, ◌≡◌, map, refl, length, ◌≤◌, ◌^◌, ◌∙◌, subst, sym, ap, ℕ}
+use Rattle.std.specs.List.{AllByRecursion}
 use Rattle.mr_ast.specs.declared.program.Program.{Program}
+use Rattle.mr_ast.specs.Canon.{canonical_text, lines_of}
 use Rattle.mr_ast.specs.Forms.{Word}
-use Rattle.mr_ast.specs.Scope.{names_of}
-use Rattle.mr_ast.specs.Shaped.{Shaped}
-use Rattle.mr_ast.specs.Canon.{canonical_text, canonical_words}
+use Rattle.mr_ast.specs.ProgramGrammar.{ProgramBody, program_form}
 use Rattle.mr_lex.specs.Tokens.{Lexeme}
-use Rattle.mr_lex.specs.Reading.{lexed}
-use Rattle.mr_grammar.proofs.Canon.CanonNames.{IsNamed, body_of, definitions_of}
-use Rattle.mr_grammar.specs.Denotes.{Denotes, Writes, definitions_in}
-use Rattle.mr_words.specs.Defined.{knowing, unknown}
-use Rattle.mr_grammar.proofs.Nesting.NestingPrograms.{ProgramFits}
-use Rattle.mr_words.specs.Places.{numbered, words_from, words_of}
-use Rattle.mr_grammar.proofs.Canon.CanonPrograms.{canonical_words_write}
-use Rattle.mr_grammar.proofs.Tokens.CanonTokens.{canonical_text_is_lexed}
-use Rattle.mr_grammar.proofs.Names.DefinedTwice.{written_twice}
-use Rattle.mr_grammar.proofs.Nesting.DenotedFits.{denoted_fits}
-use Rattle.mr_grammar.proofs.Names.DenotedNames.{denoted_named}
 use Rattle.mr_words.proofs.PlaceLaws.{StandsIn, words_stand}
+use Rattle.mr_words.specs.Defined.{unknown, knowing}
+use Rattle.mr_words.specs.Places.{words_of, numbered, words_from}
+use Rattle.mr_grammar.specs.Denotes.{Writes, definitions_in, program_of, Denotes}
+use Rattle.mr_grammar.specs.Reading.{read}
+use Rattle.mr_grammar.proofs.Canon.CanonForms.{marked, marked-words, marked-fine}
+use Rattle.mr_grammar.proofs.Canon.CanonPrograms.{canon_program, canonical_words_are}
+use Rattle.mr_grammar.proofs.Names.DefinedTwice.{defined_twice, written_twice}
+use Rattle.mr_grammar.proofs.Names.DenotedNames.{program_known, functions_known}
 use Rattle.mr_grammar.proofs.Names.SameDefinitions.{same_definitions}
-use Rattle.mr_grammar.proofs.Shape.ShapedLaws.{denoted_is_shaped}
+use Rattle.mr_grammar.proofs.Tokens.LexedWords.{words_are_lexed}
+use Rattle.mr_grammar.proofs.Tokens.TokenTexts.{IsTokenText}
+use Rattle.mr_grammar.proofs.Walk.HeightLaws.{settled}
 
 -- the words of the tokens
 words_are : (lexemes : List Lexeme) → words_of lexemes ≡ numbered 0 (map (λ l. l.text) lexemes)
 unfolding words_from
 words_are lexemes = refl
 
--- A text whose words are the canonical ones denotes the program.
-pub canonical_words_denote : (p : Program) → Shaped p → IsNamed p → ProgramFits p → (text : List ℕ) (lexemes : List Lexeme) → lexed text ≡ Ok lexemes
-    → map (λ l. l.text) lexemes ≡ canonical_words p → Denotes text p
-canonical_words_denote p shaped named fits text lexemes lexes same =
-    let words = words_of lexemes in
-    let d = definitions_of p in
-    let known : Writes (knowing d) words (body_of p) =
-    subst (λ (ws : List Word). Writes (knowing d) ws (body_of p)) (sym (words_are lexemes ∙ ap (numbered 0) same)) (canonical_words_write p shaped named fits) in
-    let (shape, grammatical, twice) = written_twice (StandsIn words) (knowing d) unknown refl words (body_of p) (words_stand lexemes) known in
-    let defined : definitions_in words shape ≡ d = same_definitions words d p named.names shape twice in
-    let names : p.names ≡ names_of (definitions_in words shape) = named.names ∙ ap names_of (sym defined) in
+-- the same of the program of the words, where the names stand for what the words define
+program_reads_back : (words : List Word) (shape body : ProgramBody) → AllByRecursion (StandsIn words) words → Writes unknown words shape
+    → Writes (knowing (definitions_in words shape)) words body → length (canonical_text (program_of (definitions_in words shape) body)) ≤ 2 ^ 20
+    → Denotes (canonical_text (program_of (definitions_in words shape) body)) (program_of (definitions_in words shape) body)
+program_reads_back words shape body stand grammatical named short =
+    let d = definitions_in words shape in
+    let p = program_of d body in
+    let twice = defined_twice (StandsIn words) d words shape body stand grammatical named in
+    let stands = (canon_program p (program_known words shape body twice) {height = named.written.0} {room = 32}).holds body named.marks named.fine named.written.1 (functions_known words shape body twice) in
+    let same = canonical_words_are p ∙ stands.whole in
+    let (lexemes, lexes, read) = words_are_lexed (lines_of p) (subst (AllByRecursion IsTokenText) (sym same) stands.tokens) short in
+    let known : Writes (knowing d) (words_of lexemes) body = record {
+      marks = marked 0 stands.texts;
+      row = words_are lexemes ∙ ap (numbered 0) (read ∙ same) ∙ sym (marked-words 0 stands.texts);
+      fine = marked-fine 0 stands.texts;
+      written = settled 32 (knowing d) program_form body (marked 0 stands.texts) (stands.at 0);
+    } in
+    let (other, other_grammatical, other_twice) = written_twice (StandsIn (words_of lexemes)) (knowing d) unknown refl (words_of lexemes) body (words_stand lexemes) known in
+    let defined : definitions_in (words_of lexemes) other ≡ d =
+    same_definitions (words_of lexemes) d p refl other other_twice ∙ sym (same_definitions words d p refl shape twice) in
     record {
       lexemes = lexemes;
       lexes = lexes;
-      shape = shape;
-      grammatical = grammatical;
-      body = body_of p;
-      named = subst (λ e. Writes (knowing e) words (body_of p)) (sym defined) known;
-      program = λ i. record { edition = p.edition; globals = p.globals; functions = p.functions; names = names i; start = p.start };
+      shape = other;
+      grammatical = other_grammatical;
+      body = body;
+      named = subst (λ e. Writes (knowing e) (words_of lexemes) body) (sym defined) known;
+      program = ap (λ e. program_of e body) (sym defined);
     }
 
--- The canonical text of a program that some text denotes denotes the same program.
 pub reads_back : (text : List ℕ) (p : Program) → Denotes text p → length (canonical_text p) ≤ 2 ^ 20 → Denotes (canonical_text p) p
 reads_back text p denotes short =
-    let shaped = denoted_is_shaped text p denotes in
-    let named = denoted_named text p denotes in
-    let (lexemes, lexes, same) = canonical_text_is_lexed p shaped named short in
-    canonical_words_denote p shaped named (denoted_fits text p denotes) (canonical_text p) lexemes lexes same
+    subst (λ q. Denotes (canonical_text q) q) (sym denotes.program)
+    (program_reads_back (words_of denotes.lexemes) denotes.shape denotes.body (words_stand denotes.lexemes) denotes.grammatical denotes.named
+    (subst (λ q. length (canonical_text q) ≤ 2 ^ 20) denotes.program short))

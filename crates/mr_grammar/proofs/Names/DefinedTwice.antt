@@ -1,31 +1,33 @@
 -- What the words of a program write where the text's names are known, and where each name stands for its place: in both the same things are defined.
-use Rattle.std.proofs.Common.{◌≡◌, ◌⊎◌, ℕ, suc, ◌+◌, inl, inr, Bool, true, false, nat_le, List, [], ◌∷◌, map, slice_index_or, None, Some, refl, ap, sym, ◌∙◌, subst, arith}
+use Rattle.std.proofs.Common.{ℕ, ◌≡◌, None, List, true, false, Some, refl, Bool, ◌∷◌, ◌∙◌, ap, [], sym, suc, subst, ◌+◌, slice_index_or, map, arith, length}
 use Rattle.std.specs.List.{AllByRecursion}
+use Rattle.std.specs.Prelude.{nat_le}
+use Rattle.std.proofs.lemmas.List.{length-map}
 use Rattle.mr_ast.specs.declared.program.Block.{Block}
 use Rattle.mr_ast.specs.declared.program.Function.{Function}
 use Rattle.mr_ast.specs.declared.program.Local.{Local}
 use Rattle.mr_ast.specs.declared.words.Role.{Role}
-use Rattle.mr_ast.specs.declared.words.Role.TheVariants.{DefinesBlock, DefinesFunction, DefinesGlobal, DefinesLocal}
+use Rattle.mr_ast.specs.declared.words.Role.TheVariants.{DefinesLocal, DefinesBlock, DefinesFunction, DefinesGlobal}
 use Rattle.mr_ast.specs.Forms.{Word, Mark}
-use Rattle.mr_ast.specs.Scope.{Definitions, Scope, function_names, name_number}
+use Rattle.mr_ast.specs.ProgramGrammar.{inside_function, ProgramBody, local_form, locals_form, block_form, blocks_form, global_form, body_form, function_form, program_form, globals_form, functions_form}
+use Rattle.mr_ast.specs.Scope.{Scope, name_number, Definitions, function_names}
+use Rattle.mr_ast.specs.Spelled.{SpelledPart}
 use Rattle.mr_ast.specs.Words.{is_name}
 use Rattle.mr_ast.specs.Writing.{judged_name, name_form}
-use Rattle.mr_ast.specs.ProgramGrammar.{ProgramBody, block_form, blocks_form, body_form, function_form, functions_form, global_form, globals_form, inside_function, local_form, locals_form, program_form}
-use Rattle.mr_grammar.specs.Denotes.{IsFine, Writes, definitions_in, words_in}
-use Rattle.mr_words.specs.Defined.{function_names_in, knowing, unknown}
-use Rattle.mr_grammar.proofs.Stops.BodyLaws.{writes_body}
-use Rattle.mr_grammar.proofs.Names.NameFlaws.{IsUnknown, KeptOrForgotten, to_unknown, unknown_number}
-use Rattle.mr_grammar.proofs.Names.NeutralForms.{block_neutral, body_neutral, global_neutral, local_neutral, none_plain, program_neutral}
-use Rattle.mr_grammar.proofs.Names.RenamingLaws.{Renamed, renamed-words}
+use Rattle.mr_words.proofs.ScopeLaws.{named_at}
+use Rattle.mr_words.specs.Defined.{unknown, knowing, function_names_in, text_at}
+use Rattle.mr_grammar.specs.Denotes.{words_in, IsFine, Writes, definitions_in}
+use Rattle.mr_grammar.proofs.Names.TwoScopes.{EachTwo, Renames, AreGood, renames_then, renames_any, renames_many, renames_behind, each_later, renames_within, renames_before, renames_in, each_length}
 use Rattle.mr_grammar.proofs.Shape.ShapedNames.{name_fine}
-use Rattle.mr_grammar.proofs.Walk.SoundLaws.{ok-same}
-use Rattle.mr_grammar.proofs.Names.TwoScopes.{AreGood, EachTwo, Renames, each_later, renames_any, renames_before, renames_behind, renames_in, renames_many, renames_then, renames_within}
+use Rattle.mr_grammar.proofs.Stops.BodyLaws.{writes_body}
+use Rattle.mr_grammar.proofs.Walk.Fair.{IsUnknown}
+use Rattle.mr_grammar.proofs.Walk.FairForms.{local_fair, block_fair, global_fair, body_fair, program_fair}
+use Rattle.mr_grammar.proofs.Walk.Says.{ok-same}
 
 -- a name by its number where the names are known, and by its place
 pub record NamedTwice (IsGood : Word → Type 0) (s : Scope) (role : Role) (number place : ℕ) : Type 0 where
   pub word : Word
   pub good : IsGood word
-  pub name : is_name word.text ≡ true
   pub known : name_number s role word ≡ (number, None)
   pub at : place ≡ word.place
 
@@ -47,88 +49,79 @@ pub record ProgramTwice (IsGood : Word → Type 0) (s : Scope) (x y : ProgramBod
 
 judged_unknown : (t : Scope) → IsUnknown t → (role : Role) (w : Word) → is_name w.text ≡ true → judged_name false role t w ≡ Some (w.place, None)
 unfolding judged_name
-judged_unknown t unknown role w name = rw (name, unknown_number t unknown role w) refl
+judged_unknown t unknown role w name = rw (name, unknown) refl
 
-module _ {IsGood : Word → Type 0} {s t : Scope} (unknown : IsUnknown t) where
-  renames_name : (over : Bool) (role : Role) → Renames IsGood s t (name_form over role) (NamedTwice IsGood s role)
+module _ {IsGood : Word → Type 0} {s t : Scope} (unknown : IsUnknown t) {height room : ℕ} where
+  renames_name : (over : Bool) (role : Role) → Renames IsGood height room (SpelledPart height) s t (name_form over role) (NamedTwice IsGood s role)
   renames_name over role = record {
-    holds = λ height room x marks good (w, n, flaw, back, judged, whole, behind).
+    holds = λ x marks good (w, n, flaw, back, judged, whole, behind).
         (let row : AreGood IsGood (record { word = w; flaw = flaw } ∷ back) = rw whole at good in
         let fine = name_fine over role s w n (judged ∙ ap (λ f. Some (n, f)) row.0.0) in
-        let kept : KeptOrForgotten flaw None = rw row.0.0 (to_unknown.plain None none_plain) in
         let there : judged_name over role t w ≡ Some (w.place, None) = rw fine.0 (judged_unknown t unknown role w fine.1) in (
           w.place,
           record { word = w; flaw = None } ∷ [],
-          rw (whole, behind.1) (refl, kept, tt),
+          ap words_in (sym (whole ∙ ap (λ ms. record { word = w; flaw = flaw } ∷ ms) behind.1)),
+          (refl, tt),
           (w, w.place, None, [], there, refl, (refl, refl)),
-          record { word = w; good = row.0.1; name = fine.1; known = rw behind.0 fine.2; at = refl },
+          record { word = w; good = row.0.1; known = rw behind.0 fine.2; at = refl },
         ));
   }
 
-  renames_local : (k : ℕ) → Renames IsGood s t (local_form k) (λ x y. NamedTwice IsGood s (DefinesLocal k) x.name y.name)
+  renames_local : (k : ℕ) → Renames IsGood height room (SpelledPart height) s t (local_form k) (λ x y. NamedTwice IsGood s (DefinesLocal k) x.name y.name)
   unfolding local_form
-  renames_local k = renames_then (renames_name (nat_le 256 k) (DefinesLocal k)) (renames_any unknown (local_neutral to_unknown k).1) (λ n n' ty ty' p q. p)
+  renames_local k = renames_then (renames_name (nat_le 256 k) (DefinesLocal k)) (renames_any unknown (local_fair k).1) (λ n n' ty ty' p q. p)
 
-  renames_locals : Renames IsGood s t locals_form (LocalsTwice IsGood s)
+  renames_locals : Renames IsGood height room (SpelledPart height) s t locals_form (LocalsTwice IsGood s)
   unfolding locals_form
   renames_locals =
       renames_then (renames_local 0) (renames_many (λ k. renames_behind unknown (renames_local (suc k))))
       (λ x x' xs ys one each. (one, each_later (λ k a b. NamedTwice IsGood s (DefinesLocal k) a.name b.name) 0 xs ys each))
 
-  renames_block : (k : ℕ) → Renames IsGood s t (block_form k) (λ x y. NamedTwice IsGood s (DefinesBlock k) x.name y.name)
+  renames_block : (k : ℕ) → Renames IsGood height room (SpelledPart height) s t (block_form k) (λ x y. NamedTwice IsGood s (DefinesBlock k) x.name y.name)
   unfolding block_form
   renames_block k =
       renames_then {R = λ x y. NamedTwice IsGood s (DefinesBlock k) x.0 y.0}
-      (renames_then (renames_name (nat_le 1024 k) (DefinesBlock k)) (renames_any unknown (block_neutral to_unknown k).0.1) (λ n n' i i' p q. p))
-      (renames_any unknown (block_neutral to_unknown k).1) (λ head head' body body' p q. p)
+      (renames_then (renames_name (nat_le 1024 k) (DefinesBlock k)) (renames_any unknown (block_fair k).0.1) (λ n n' i i' p q. p))
+      (renames_any unknown (block_fair k).1) (λ head head' body body' p q. p)
 
-  renames_blocks : Renames IsGood s t blocks_form (BlocksTwice IsGood s)
+  renames_blocks : Renames IsGood height room (SpelledPart height) s t blocks_form (BlocksTwice IsGood s)
   unfolding blocks_form
   renames_blocks =
       renames_then (renames_block 0) (renames_many (λ k. renames_block (suc k)))
       (λ x x' xs ys one each. (one, each_later (λ k a b. NamedTwice IsGood s (DefinesBlock k) a.name b.name) 0 xs ys each))
 
-  renames_body : Renames IsGood s t body_form (λ x y. LocalsTwice IsGood s x.locals y.locals × BlocksTwice IsGood s x.blocks y.blocks)
-  unfolding body_form
-  renames_body =
-      renames_then (renames_any unknown (body_neutral to_unknown).0)
-      (renames_within (renames_then {T = λ x y. LocalsTwice IsGood s x.0 y.0 × BlocksTwice IsGood s x.1 y.1}
-      (renames_behind unknown (renames_before unknown renames_locals)) renames_blocks (λ x x' y y' p q. (p, q))))
-      (λ head head' body body' p q. q)
-
-  renames_global : (k : ℕ) → Renames IsGood s t (global_form k) (λ x y. NamedTwice IsGood s (DefinesGlobal k) x.name y.name)
+  renames_global : (k : ℕ) → Renames IsGood height room (SpelledPart height) s t (global_form k) (λ x y. NamedTwice IsGood s (DefinesGlobal k) x.name y.name)
   unfolding global_form
   renames_global k =
       renames_behind unknown (renames_then {R = λ x y. NamedTwice IsGood s (DefinesGlobal k) x.0 y.0}
-      (renames_then (renames_name (nat_le 256 k) (DefinesGlobal k)) (renames_any unknown (global_neutral to_unknown k).1.0.1) (λ n n' a a' p q. p))
-      (renames_any unknown (global_neutral to_unknown k).1.1) (λ head head' items items' p q. p))
+      (renames_then (renames_name (nat_le 256 k) (DefinesGlobal k)) (renames_any unknown (global_fair k).1.0.1) (λ n n' a a' p q. p))
+      (renames_any unknown (global_fair k).1.1) (λ head head' items items' p q. p))
 
-renames_function : {IsGood : Word → Type 0} {s t : Scope} (k : ℕ) → IsUnknown t → Renames IsGood s t (function_form k) (FunctionTwice IsGood s k)
+module _ {IsGood : Word → Type 0} {s t : Scope} (unknown : IsUnknown t) {height room : ℕ} where
+  renames_body : Renames IsGood height room (SpelledPart height) s t body_form (λ x y. LocalsTwice IsGood s x.locals y.locals × BlocksTwice IsGood s x.blocks y.blocks)
+  unfolding body_form
+  renames_body =
+      renames_then (renames_any unknown body_fair.0)
+      (renames_within (λ lower e. renames_then {T = λ x y. LocalsTwice IsGood s x.0 y.0 × BlocksTwice IsGood s x.1 y.1}
+      (renames_behind unknown (renames_before unknown (renames_locals unknown))) (renames_blocks unknown) (λ x x' y y' p q. (p, q))))
+      (λ head head' body body' p q. q)
+
+renames_function : {IsGood : Word → Type 0} {s t : Scope} {height room : ℕ} (k : ℕ) → IsUnknown t
+    → Renames IsGood height room (SpelledPart height) s t (function_form k) (FunctionTwice IsGood s k)
 unfolding function_form
 renames_function {IsGood} {s} k unknown =
     renames_behind unknown (renames_then {T = FunctionTwice IsGood s k} (renames_name unknown (nat_le 256 k) (DefinesFunction k)) (renames_in (renames_body unknown))
     (λ n n' body body' p q. record { name = p; locals = q.0; blocks = q.1 }))
 
-renames_program : {IsGood : Word → Type 0} {s t : Scope} → IsUnknown t → Renames IsGood s t program_form (ProgramTwice IsGood s)
+renames_program : {IsGood : Word → Type 0} {s t : Scope} {height room : ℕ} → IsUnknown t → Renames IsGood height room (SpelledPart height) s t program_form (ProgramTwice IsGood s)
 unfolding program_form globals_form functions_form
 renames_program {IsGood} {s} unknown =
-    renames_behind unknown (renames_then {T = ProgramTwice IsGood s} (renames_any unknown (program_neutral to_unknown).1.0)
+    renames_behind unknown (renames_then {T = ProgramTwice IsGood s} (renames_any unknown program_fair.1.0)
     (renames_then {T = λ x y. EachTwo (λ k g h. NamedTwice IsGood s (DefinesGlobal k) g.name h.name) 0 x.0.0 y.0.0 × EachTwo (FunctionTwice IsGood s) 0 x.0.1 y.0.1}
     (renames_then {T = λ x y. EachTwo (λ k g h. NamedTwice IsGood s (DefinesGlobal k) g.name h.name) 0 x.0 y.0 × EachTwo (FunctionTwice IsGood s) 0 x.1 y.1}
     (renames_many (renames_global unknown)) (renames_many (λ k. renames_function k unknown)) (λ x x' y y' p q. (p, q)))
-    (renames_any unknown (program_neutral to_unknown).1.1.1) (λ items items' start start' p q. p))
+    (renames_any unknown program_fair.1.1.1) (λ items items' start start' p q. p))
     (λ edition edition' parts parts' p q. record { globals = q.0; functions = q.1 }))
-
--- a row that breaks no limit keeps to it where names are forgotten
-forgotten_fine : (marks others : List Mark) → Renamed KeptOrForgotten marks others → IsFine marks → IsFine others
-forgotten_fine [] [] same fine = tt
-forgotten_fine [] (n ∷ ns) same fine = absurd same
-forgotten_fine (m ∷ ms) [] same fine = absurd same
-forgotten_fine (m ∷ ms) (n ∷ ns) same fine = (go same.1.1, forgotten_fine ms ns same.2 fine.1)
-  where
-    go : (m.flaw ≡ n.flaw) ⊎ (n.flaw ≡ None) × ((m.flaw ≡ Some 5) ⊎ (m.flaw ≡ Some 6)) → n.flaw ≡ None
-    go (inl e) = sym e ∙ fine.0
-    go (inr e) = e.0
 
 good_row : (IsGood : Word → Type 0) (marks : List Mark) → IsFine marks → AllByRecursion IsGood (words_in marks) → AreGood IsGood marks
 good_row IsGood [] fine good = tt
@@ -139,16 +132,9 @@ pub written_twice : (IsGood : Word → Type 0) (s t : Scope) → IsUnknown t →
     → (y : ProgramBody) × Writes t words y × ProgramTwice IsGood s x y
 written_twice IsGood s t unknown words x all w =
     let good : AreGood IsGood w.marks = good_row IsGood w.marks w.fine (rw w.row at all) in
-    let (y, others, same, written, twice) = (renames_program {IsGood = IsGood} {s = s} {t = t} unknown).holds w.written.0 32 x w.marks good w.written.1 in (
-      y,
-      record {
-        marks = others;
-        row = w.row ∙ sym (renamed-words KeptOrForgotten w.marks others same);
-        fine = forgotten_fine w.marks others same w.fine;
-        written = (w.written.0, written);
-      },
-      twice,
-    )
+    let law : Renames IsGood w.written.0 32 (SpelledPart w.written.0) s t program_form (ProgramTwice IsGood s) = renames_program unknown in
+    let (y, others, same, fine, written, twice) = law.holds x w.marks good w.written.1 in
+    (y, record { marks = others; row = w.row ∙ sym same; fine = fine; written = (w.written.0, written) }, twice)
 
 -- There is one program that they write where no names are known.
 pub defined_twice : (IsGood : Word → Type 0) (d : Definitions) (words : List Word) (shape body : ProgramBody) → AllByRecursion IsGood words
@@ -175,3 +161,14 @@ pub functions_twice : (IsGood : Word → Type 0) (words : List Word) (shape body
 functions_twice IsGood words shape body twice =
     let d : Definitions = definitions_in words shape in
     functions_known (FunctionTwice IsGood (knowing d)) d words 0 body.functions shape.functions (λ i. (let n : 0 + i ≡ i = omega arith in ap (function_names d) n)) twice.functions
+
+-- a function that has as many locals and blocks as are defined in it
+abbrev pub Counted : Definitions → ℕ → Function → Type 0
+Counted d k f = (length f.locals ≡ (named_at d k).locals) × (length f.blocks ≡ (named_at d k).blocks)
+
+pub counted : (IsGood : Word → Type 0) (d : Definitions) (words : List Word) (k : ℕ) (f g : Function) → FunctionTwice IsGood (knowing d) k f g
+    → function_names d k ≡ function_names_in words g → Counted d k f
+counted IsGood d words k f g twice here = (
+  each_length _ 0 f.locals g.locals twice.locals ∙ sym (length-map g.locals (λ l. text_at words l.name)) ∙ sym (ap (λ names. length names.locals) here),
+  each_length _ 0 f.blocks g.blocks twice.blocks ∙ sym (length-map g.blocks (λ b. text_at words b.name)) ∙ sym (ap (λ names. length names.blocks) here),
+)

@@ -1,35 +1,41 @@
--- The names of each program that a text denotes are those that the text defines, and each is defined once in its space.
-use Rattle.std.proofs.Common.{◌≡◌, ℕ, suc, ◌+◌, Bool, true, false, if◌then◌else◌, List, [], ◌∷◌, ◌++◌, length, map, flat_map, bytes_eq, Some, refl, ap, sym, ◌∙◌, subst, All}
-use Rattle.std.specs.List.{fold, list_any}
-use Rattle.std.proofs.lemmas.List.Elements.{All-append, All-cons, All-from_recursion, All-head, All-nil, All-push, All-tail}
-use Rattle.std.proofs.lemmas.Simd.{map-map}
+-- What names stand for in a program that a text denotes: the positions of their texts.
+use Rattle.std.proofs.Common.{List, ℕ, length, ◌+◌, ◌≡◌, Option, None, Some, ap, Bool, if◌then◌else◌, true, false, ◌≤◌, arith, refl, ◌-◌, ◌∙◌, sym, ◌<◌, subst}
+use Rattle.std.specs.Prelude.{nat_lt}
+use Rattle.std.proofs.lemmas.Bool.Decides.{nat_tests}
+use Rattle.std.proofs.lemmas.List.{length-map}
+use Rattle.mr_base.proofs.Comparisons.{lt_from}
 use Rattle.mr_ast.specs.declared.program.Block.{Block}
 use Rattle.mr_ast.specs.declared.program.Function.{Function}
 use Rattle.mr_ast.specs.declared.program.Global_.{Global_}
 use Rattle.mr_ast.specs.declared.program.Local.{Local}
 use Rattle.mr_ast.specs.declared.program.Program.{Program}
+use Rattle.mr_ast.specs.declared.program.Target.{Target}
+use Rattle.mr_ast.specs.declared.program.Target.TheVariants as target
+use Rattle.mr_ast.specs.declared.words.Role.TheVariants.{UsesFunction}
+use Rattle.mr_ast.specs.Canon.{global_texts, function_texts, target_text, texts_in}
+use Rattle.mr_ast.specs.CanonValues.{text_at}
 use Rattle.mr_ast.specs.Forms.{Word}
-use Rattle.mr_ast.specs.Scope.{Definitions, FunctionNames, each_once, function_names, item_names, names_of, number_in, with_text}
-use Rattle.mr_ast.specs.Words.{Texts, is_name}
-use Rattle.mr_ast.specs.Canon.{block_texts, local_texts}
 use Rattle.mr_ast.specs.ProgramGrammar.{ProgramBody}
-use Rattle.mr_grammar.proofs.Canon.CanonNames.{IsDistinct, IsNamed, definitions_of}
-use Rattle.mr_grammar.specs.Denotes.{Denotes, definitions_in, program_of}
-use Rattle.mr_words.specs.Defined.{function_names_in, knowing, text_at as word_at}
-use Rattle.mr_words.specs.Places.{words_of}
-use Rattle.mr_grammar.proofs.Names.DefinedTwice.{FunctionTwice, ProgramTwice, defined_twice, functions_twice}
+use Rattle.mr_ast.specs.Scope.{Definitions, item_names, function_names, used_in, as_global, as_function, number_in, number_of_name, target_of}
+use Rattle.mr_words.proofs.PlaceLaws.{StandsIn}
+use Rattle.mr_words.proofs.ScopeLaws.{use_function, number_within, use_global, use_local, use_block}
+use Rattle.mr_words.specs.Defined.{knowing, function_names_in, text_at as word_at}
+use Rattle.mr_grammar.specs.Denotes.{definitions_in, program_of}
+use Rattle.mr_grammar.proofs.Canon.CanonItems.{KnownProgram}
+use Rattle.mr_grammar.proofs.Canon.CanonWords.{Known}
+use Rattle.mr_grammar.proofs.Names.DefinedTwice.{counted, Counted, FunctionTwice, ProgramTwice, functions_twice}
+use Rattle.mr_grammar.proofs.Names.NamedBack.{ReadsBack, function_back, local_back, block_back, global_back, text_of_number}
+use Rattle.mr_grammar.proofs.Names.TwoScopes.{EachTwo, each_two_also, each_length, each_from}
+use Rattle.mr_grammar.proofs.Shape.ShapedNames.{items-length}
 use Rattle.mr_grammar.proofs.Walk.EnsureLaws.{EachFrom}
-use Rattle.mr_grammar.proofs.Names.NamedBack.{ReadsBack, block_back, each_joined, each_shifted, function_back, global_back, local_back, space_distinct, texts_back, texts_first, texts_names}
-use Rattle.mr_words.proofs.PlaceLaws.{StandsIn, words_stand}
-use Rattle.mr_grammar.proofs.Names.SameDefinitions.{same_definitions}
-use Rattle.mr_grammar.proofs.Names.TwoScopes.{EachTwo, each_first, each_two_also}
+use Rattle.mr_grammar.proofs.Walk.InsideLaws.{inside}
 
 -- the names of a function read back, and are those that are defined in it
-record FunctionBack (d : Definitions) (words : List Word) (k : ℕ) (f g : Function) : Type 0 where
+pub record FunctionBack (d : Definitions) (words : List Word) (k : ℕ) (f g : Function) : Type 0 where
   pub name : ReadsBack d words (item_names d) (length d.globals + k) f.name g.name
   pub locals : EachTwo (λ j x y. ReadsBack d words (function_names d k).locals j x.name y.name) 0 f.locals g.locals
   pub blocks : EachTwo (λ j x y. ReadsBack d words (function_names d k).blocks j x.name y.name) 0 f.blocks g.blocks
-  pub here : function_names d k ≡ function_names_in words g
+  pub counted : Counted d k f
 
 function_reads_back : (d : Definitions) (words : List Word) (k : ℕ) (f g : Function)
     → FunctionTwice (StandsIn words) (knowing d) k f g × (function_names d k ≡ function_names_in words g) → FunctionBack d words k f g
@@ -37,129 +43,97 @@ function_reads_back d words k f g twice = record {
   name = function_back d words k f.name g.name twice.0.name;
   locals = each_two_also _ (λ j x y. ReadsBack d words (function_names d k).locals j x.name y.name) (λ j x y one. local_back d words j x.name y.name k one) 0 f.locals g.locals twice.0.locals;
   blocks = each_two_also _ (λ j x y. ReadsBack d words (function_names d k).blocks j x.name y.name) (λ j x y one. block_back d words j x.name y.name k one) 0 f.blocks g.blocks twice.0.blocks;
-  here = twice.1;
+  counted = counted (StandsIn words) d words k f g twice.0 twice.1;
 }
 
--- ---- one function of a program
+-- ---- the numbers of names
 
-module _ (d : Definitions) (words : List Word) (body : ProgramBody) (k : ℕ) (f g : Function) (back : FunctionBack d words k f g) where
-  locals_same : local_texts (program_of d body) f ≡ (function_names_in words g).locals
-  locals_same = texts_back d words (function_names d k).locals (λ j. j) (λ (l : Local). l.name) 0 f.locals g.locals back.locals
+used_some : (found : Option ℕ) (n : ℕ) → used_in found ≡ (n, None) → found ≡ Some n
+used_some (Some m) n e = ap (λ p. Some p.0) e
+used_some None n e = let clash = ap (λ p. p.1) e in absurd (cc)
 
-  blocks_same : block_texts (program_of d body) f ≡ (function_names_in words g).blocks
-  blocks_same = texts_back d words (function_names d k).blocks (λ j. j) (λ (b : Block). b.name) 0 f.blocks g.blocks back.blocks
-
-  locals_distinct : IsDistinct (local_texts (program_of d body) f)
-  locals_distinct =
-      let space = (function_names d k).locals in
-      let whole : (function_names_in words g).locals ≡ space = sym (ap (λ names. names.locals) back.here) in
-      let each = texts_first d words space (λ j. j) (λ (l : Local). l.name) 0 f.locals g.locals back.locals in
-      subst IsDistinct (sym (locals_same ∙ whole)) (space_distinct space (subst (EachFrom (λ j text. number_in space text ≡ Some j) 0) whole each))
-
-  blocks_distinct : IsDistinct (block_texts (program_of d body) f)
-  blocks_distinct =
-      let space = (function_names d k).blocks in
-      let whole : (function_names_in words g).blocks ≡ space = sym (ap (λ names. names.blocks) back.here) in
-      let each = texts_first d words space (λ j. j) (λ (b : Block). b.name) 0 f.blocks g.blocks back.blocks in
-      subst IsDistinct (sym (blocks_same ∙ whole)) (space_distinct space (subst (EachFrom (λ j text. number_in space text ≡ Some j) 0) whole each))
-
--- ---- all that are names
-
-abbrev IsName : List ℕ → Type 0
-IsName text = is_name text ≡ true
-
-function_words : (d : Definitions) (words : List Word) (k : ℕ) (f g : Function) → FunctionBack d words k f g
-    → All IsName ((function_names_in words g).name ∷ (function_names_in words g).locals ++ (function_names_in words g).blocks)
-function_words d words k f g back =
-    All-cons IsName (word_at words g.name) ((function_names_in words g).locals ++ (function_names_in words g).blocks) back.name.name
-    (All-append IsName (function_names_in words g).locals (function_names_in words g).blocks
-    (texts_names d words (function_names d k).locals (λ j. j) (λ (l : Local). l.name) 0 f.locals g.locals back.locals)
-    (texts_names d words (function_names d k).blocks (λ j. j) (λ (b : Block). b.name) 0 f.blocks g.blocks back.blocks))
-
-functions_words : (d : Definitions) (words : List Word) (k : ℕ) (fs gs : List Function) → EachTwo (FunctionBack d words) k fs gs
-    → All IsName (flat_map (λ (n : FunctionNames). n.name ∷ n.locals ++ n.blocks) (map (function_names_in words) gs))
-functions_words d words k [] [] each = All-nil IsName
-functions_words d words k [] (g ∷ gs) each = absurd each
-functions_words d words k (f ∷ fs) [] each = absurd each
-functions_words d words k (f ∷ fs) (g ∷ gs) each =
-    All-append IsName ((function_names_in words g).name ∷ (function_names_in words g).locals ++ (function_names_in words g).blocks)
-    (flat_map (λ (n : FunctionNames). n.name ∷ n.locals ++ n.blocks) (map (function_names_in words) gs))
-    (function_words d words k f g each.0) (functions_words d words (suc k) fs gs each.1)
-
--- what is so of each text is so where each stands once
-once_all : (P : List ℕ → Type 0) (texts front : Texts) → All P front → All P texts → All P (fold with_text front texts)
-once_all P [] front old all = old
-once_all P (t ∷ texts) front old all = once_all P texts (with_text front t) (one (list_any (bytes_eq t) front)) (All-tail P t texts all)
+global_some : (globals n : ℕ) (found : Option ℕ) → as_global globals found ≡ Some n → found ≡ Some n
+global_some globals n None e = e
+global_some globals n (Some m) e = go (nat_lt m globals) e
   where
-    one : (there : Bool) → All P (if there then front else front ++ t ∷ [])
-    one true = old
-    one false = All-push P front t old (All-head P t texts all)
+    go : (small : Bool) → (if small then Some m else None) ≡ Some n → Some m ≡ Some n
+    go true e = e
+    go false e = absurd (cc)
+
+not_less : (a b : ℕ) → nat_lt a b ≡ false → b ≤ a
+not_less a b e = grind (arith, nat_tests)
+
+function_some : (globals n : ℕ) (found : Option ℕ) → as_function globals found ≡ Some n → found ≡ Some (globals + n)
+function_some globals n None e = absurd (cc)
+function_some globals n (Some m) e = go (nat_lt m globals) refl e
+  where
+    go : (small : Bool) → nat_lt m globals ≡ small → (if small then None else Some (m - globals)) ≡ Some n → Some m ≡ Some (globals + n)
+    go true is e = absurd (cc)
+    go false is e = let same : m - globals ≡ n = cc in let sum : m ≡ globals + n = omega (arith, not_less m globals is) in ap Some sum
 
 -- ---- a program
 
-function_names_first : (d : Definitions) (words : List Word) (fs gs : List Function) → EachTwo (FunctionBack d words) 0 fs gs
-    → EachFrom (λ k text. number_in (item_names d) text ≡ Some (length d.globals + k)) 0 (map (λ (n : FunctionNames). n.name) (map (function_names_in words) gs))
-function_names_first d words fs gs each =
-    subst (EachFrom (λ k text. number_in (item_names d) text ≡ Some (length d.globals + k)) 0) (sym (map-map (λ (n : FunctionNames). n.name) (function_names_in words) gs))
-    (texts_first d words (item_names d) (λ k. length d.globals + k) (λ (f : Function). f.name) 0 fs gs
-    (each_two_also (FunctionBack d words) (λ k f g. ReadsBack d words (item_names d) (length d.globals + k) f.name g.name) (λ k f g back. back.name) 0 fs gs each))
-
 module _ (words : List Word) (shape body : ProgramBody) (twice : ProgramTwice (StandsIn words) (knowing (definitions_in words shape)) body shape) where
-  globals_back : EachTwo (λ k g h. ReadsBack (definitions_in words shape) words (item_names (definitions_in words shape)) k g.name h.name) 0 body.globals shape.globals
-  globals_back =
-      let d : Definitions = definitions_in words shape in
-      each_two_also _ (λ k g h. ReadsBack d words (item_names d) k g.name h.name) (λ k g h one. global_back d words k g.name h.name one) 0 body.globals shape.globals twice.globals
+  abbrev d : Definitions
+  d = definitions_in words shape
 
-  functions_back : EachTwo (FunctionBack (definitions_in words shape) words) 0 body.functions shape.functions
+  abbrev p : Program
+  p = program_of (definitions_in words shape) body
+
+  globals_back : EachTwo (λ k g h. ReadsBack d words (item_names d) k g.name h.name) 0 body.globals shape.globals
+  globals_back = each_two_also _ (λ k g h. ReadsBack d words (item_names d) k g.name h.name) (λ k g h one. global_back d words k g.name h.name one) 0 body.globals shape.globals twice.globals
+
+  functions_back : EachTwo (FunctionBack d words) 0 body.functions shape.functions
   functions_back =
-      let d : Definitions = definitions_in words shape in
       each_two_also _ (FunctionBack d words) (function_reads_back d words) 0 body.functions shape.functions (functions_twice (StandsIn words) words shape body twice)
 
-  -- what the program defines is what the words do
-  definitions_same : definitions_of (program_of (definitions_in words shape) body) ≡ definitions_in words shape
-  definitions_same =
-      let d : Definitions = definitions_in words shape in sym (same_definitions words d (program_of d body) refl shape twice)
+  globals_counted : length body.globals ≡ length d.globals
+  globals_counted = each_length _ 0 body.globals shape.globals twice.globals ∙ sym (length-map shape.globals (λ g. word_at words g.name))
 
-  names_words : All IsName (names_of (definitions_in words shape))
-  unfolding each_once
-  names_words =
-      let d : Definitions = definitions_in words shape in
-      once_all IsName (d.globals ++ flat_map (λ (n : FunctionNames). n.name ∷ n.locals ++ n.blocks) d.functions) [] (All-nil IsName)
-      (All-append IsName d.globals (flat_map (λ (n : FunctionNames). n.name ∷ n.locals ++ n.blocks) d.functions)
-      (texts_names d words (item_names d) (λ k. k) (λ (g : Global_). g.name) 0 body.globals shape.globals globals_back)
-      (functions_words d words 0 body.functions shape.functions functions_back))
+  functions_counted : length body.functions ≡ length d.functions
+  functions_counted = each_length _ 0 body.functions shape.functions twice.functions ∙ sym (length-map shape.functions (function_names_in words))
 
-  items_distinct : IsDistinct (item_names (definitions_in words shape))
-  items_distinct =
-      let d : Definitions = definitions_in words shape in
-      let functions : Texts = map (λ (n : FunctionNames). n.name) d.functions in
-      space_distinct (item_names d)
-      (each_joined (λ k text. number_in (item_names d) text ≡ Some k) 0 d.globals functions
-      (texts_first d words (item_names d) (λ k. k) (λ (g : Global_). g.name) 0 body.globals shape.globals globals_back)
-      (each_shifted (λ k text. number_in (item_names d) text ≡ Some k) (length d.globals) 0 functions
-      (function_names_first d words body.functions shape.functions functions_back)))
+  -- the texts of globals and functions
+  global_text : (text : List ℕ) (n : ℕ) → n < length d.globals → number_in (item_names d) text ≡ Some n → text_at (global_texts p) n ≡ text
+  global_text text n inside e =
+      text_of_number d words (item_names d) (λ k. k) (λ (g : Global_). g.name) body.globals shape.globals globals_back n (omega (arith, globals_counted)) text e
 
-  named : IsNamed (program_of (definitions_in words shape) body)
-  named =
-      let d : Definitions = definitions_in words shape in
-      let p : Program = program_of d body in record {
-        names = ap names_of (sym definitions_same);
-        words = names_words;
-        items = subst (λ e. IsDistinct (item_names e)) (sym definitions_same) items_distinct;
-        locals = All-from_recursion (λ f. IsDistinct (local_texts p f)) body.functions
-            (each_first (FunctionBack d words) (λ f. IsDistinct (local_texts p f)) (locals_distinct d words body) 0 body.functions shape.functions functions_back);
-        blocks = All-from_recursion (λ f. IsDistinct (block_texts p f)) body.functions
-            (each_first (FunctionBack d words) (λ f. IsDistinct (block_texts p f)) (blocks_distinct d words body) 0 body.functions shape.functions functions_back);
-      }
+  function_text : (text : List ℕ) (n : ℕ) → n < length d.functions → number_in (item_names d) text ≡ Some (length d.globals + n) → text_at (function_texts p) n ≡ text
+  function_text text n inside e =
+      text_of_number d words (item_names d) (λ k. length d.globals + k) (λ (f : Function). f.name) body.functions shape.functions
+      (each_two_also (FunctionBack d words) (λ k f g. ReadsBack d words (item_names d) (length d.globals + k) f.name g.name) (λ k f g back. back.name) 0 body.functions shape.functions functions_back)
+      n (omega (arith, functions_counted)) text e
 
--- what a text defines
-abbrev DefinedBy : (text : List ℕ) (p : Program) → Denotes text p → Definitions
-DefinedBy text p den = definitions_in (words_of den.lexemes) den.shape
+  function_known : (k : ℕ) (text : List ℕ) (n : ℕ) → number_of_name d k UsesFunction text ≡ (n, None) → text_at (function_texts p) n ≡ text
+  unfolding number_of_name
+  function_known k text n e = function_text text n (use_function d k n text e) (function_some (length d.globals) n _ (used_some _ n e))
 
-twice_in : (text : List ℕ) (p : Program) (den : Denotes text p) → ProgramTwice (StandsIn (words_of den.lexemes)) (knowing (DefinedBy text p den)) den.body den.shape
-twice_in text p den =
-    defined_twice (StandsIn (words_of den.lexemes)) (DefinedBy text p den) (words_of den.lexemes) den.shape den.body (words_stand den.lexemes) den.grammatical den.named
+  pub program_known : KnownProgram d p
+  program_known = record { names = refl; functions = function_known 0; targets = λ text t e. at_target (number_in (item_names d) text) text t refl e }
+    where
+      at_target : (found : Option ℕ) (text : List ℕ) (t : Target) → number_in (item_names d) text ≡ found → target_of (length d.globals) found ≡ (t, None) → target_text p t ≡ text
+      at_target None text t at e = let clash = ap (λ r. r.1) e in absurd (cc)
+      at_target (Some n) text t at e = subst (λ u. target_text p u ≡ text) (ap (λ r. r.0) e) (go (nat_lt n (length d.globals)) refl)
+        where
+          go : (small : Bool) → nat_lt n (length d.globals) ≡ small
+              → target_text p (if small then target.Global (record { 0 = n }) else target.Function (record { 0 = n - length d.globals })) ≡ text
+          go true is = global_text text n (lt_from n (length d.globals) is) at
+          go false is =
+              let least = not_less n (length d.globals) is in
+              let sum : n ≡ length d.globals + (n - length d.globals) = omega arith in
+              function_text text (n - length d.globals) (omega (arith, number_within (item_names d) text n at, items-length d)) (at ∙ ap Some sum)
 
--- Each program that a text denotes has the names that it defines.
-pub denoted_named : (text : List ℕ) (p : Program) → Denotes text p → IsNamed p
-denoted_named text p den = subst IsNamed (sym den.program) (named (words_of den.lexemes) den.shape den.body (twice_in text p den))
+  -- the names that are used in a function
+  function_names_known : (k : ℕ) (f g : Function) → FunctionBack d words k f g → Known d k (texts_in p f)
+  unfolding number_of_name
+  function_names_known k f g back = record {
+    globals = λ text n e. global_text text n (use_global d k n text e) (global_some (length d.globals) n _ (used_some _ n e));
+    functions = function_known k;
+    locals = λ text n e. text_of_number d words (function_names d k).locals (λ j. j) (λ (l : Local). l.name) f.locals g.locals back.locals
+        n (let inside = use_local d k n text e in omega (arith, back.counted.0)) text (used_some _ n e);
+    blocks = λ text n e. text_of_number d words (function_names d k).blocks (λ j. j) (λ (b : Block). b.name) f.blocks g.blocks back.blocks
+        n (let inside = use_block d k n text e in omega (arith, back.counted.1)) text (used_some _ n e);
+  }
+
+  pub functions_known : EachFrom (λ k f. Known d k (texts_in p f)) 0 body.functions
+  functions_known = each_from (FunctionBack d words) (λ k f. Known d k (texts_in p f)) function_names_known 0 body.functions shape.functions functions_back

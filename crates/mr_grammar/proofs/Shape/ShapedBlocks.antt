@@ -1,29 +1,29 @@
 -- The statements, terminators and blocks that a row without a broken limit writes are shaped.
-use Rattle.std.proofs.Common.{◌≡◌, ℕ, suc, ◌+◌, ◌-◌, ◌≤◌, ◌<◌, Bool, true, false, nat_le, List, [], ◌∷◌, length, Option, None, Some, refl, ap, arith}
-use Rattle.std.specs.Prelude.{option_map}
+use Rattle.std.proofs.Common.{ℕ, ◌<◌, List, ◌≤◌, ◌+◌, length, [], arith, ◌∷◌, suc, Bool, ◌≡◌, Some, None, false, Option, true, ap, refl, nat_le, ◌-◌}
 use Rattle.std.specs.List.{AllByRecursion}
+use Rattle.std.specs.Prelude.{option_map}
 use Rattle.std.proofs.lemmas.List.Sums.{AllPass-from_list_all}
 use Rattle.mr_base.proofs.Options.{some_is}
 use Rattle.mr_ast.specs.declared.program.Function.{Function}
 use Rattle.mr_ast.specs.declared.program.Program.{Program}
+use Rattle.mr_ast.specs.declared.words.Bracket.TheVariants.{Round}
 use Rattle.mr_ast.specs.declared.words.StmtWord.{StmtWord}
 use Rattle.mr_ast.specs.declared.words.StmtWord.TheVariants as stmt_word
 use Rattle.mr_ast.specs.declared.words.TermWord.{TermWord}
 use Rattle.mr_ast.specs.declared.words.TermWord.TheVariants as term_word
 use Rattle.mr_ast.specs.Forms.{Word, Part}
+use Rattle.mr_ast.specs.ProgramGrammar.{judged_stmt, switch_case_form, stmt_behind, numbered_form, stmt_form, assign_form, values_form, term_behind, switch_form, switch_cases_form, unwind_form, call_form, do_form, term_form, stmts_form, block_form}
 use Rattle.mr_ast.specs.Scope.{Definitions, names_of}
-use Rattle.mr_ast.specs.Shaped.{ShapedBlock, is_optional_block, is_optional_place, is_shaped_stmt, is_shaped_target, is_shaped_term, named_in}
-use Rattle.mr_ast.specs.ShapedValues.{is_shaped_place, is_shaped_value}
-use Rattle.mr_ast.specs.Words.{looked_up, stmt_words}
-use Rattle.mr_ast.specs.Writing.{ThePlace, TheValue, block_use, limit, listed, optional}
-use Rattle.mr_ast.specs.declared.words.Bracket.TheVariants.{Round}
-use Rattle.mr_ast.specs.ProgramGrammar.{assign_form, block_form, call_form, numbered_form, do_form, judged_stmt, stmt_behind, stmt_form, stmts_form, switch_case_form, switch_cases_form, switch_form, term_behind, term_form, unwind_form, values_form}
+use Rattle.mr_ast.specs.Shaped.{is_shaped_target, is_shaped_stmt, is_optional_block, is_shaped_term, is_optional_place, named_in, ShapedBlock}
+use Rattle.mr_ast.specs.ShapedValues.{is_shaped_value, is_shaped_place}
 use Rattle.mr_ast.specs.Spelled.{SpelledPart}
-use Rattle.mr_grammar.proofs.Walk.EnsureLaws.{EachFrom, Ensures, Parts, ensures_all, ensures_also, ensures_before, ensures_behind, ensures_cases, ensures_either, ensures_empty, ensures_giving, ensures_listed, ensures_many, ensures_optional, ensures_pair, ensures_separated, ensures_then, ensures_token, ensures_within}
-use Rattle.mr_grammar.proofs.Shape.ShapedNames.{below, ensures_block_name, ensures_block_use, ensures_local_use}
-use Rattle.mr_grammar.proofs.Shape.ShapedNumbers.{all_pass, both, ensures_num}
-use Rattle.mr_grammar.proofs.Shape.ShapedValues.{ensures_place_part, ensures_value_part, places_shaped, values_shaped}
-use Rattle.mr_words.proofs.ScopeLaws.{named_at, scope_at}
+use Rattle.mr_ast.specs.Words.{looked_up, stmt_words}
+use Rattle.mr_ast.specs.Writing.{limit, TheValue, ThePlace, listed, optional, block_use}
+use Rattle.mr_words.proofs.ScopeLaws.{scope_at, named_at}
+use Rattle.mr_grammar.proofs.Shape.ShapedNames.{ensures_block_use, ensures_local_use, below, ensures_block_name}
+use Rattle.mr_grammar.proofs.Shape.ShapedNumbers.{ensures_num, both, all_pass}
+use Rattle.mr_grammar.proofs.Shape.ShapedValues.{ensures_value_part, values_shaped, ensures_place_part, places_shaped}
+use Rattle.mr_grammar.proofs.Walk.EnsureLaws.{EachFrom, Parts, Ensures, ensures_also, ensures_pair, ensures_before, ensures_giving, ensures_then, ensures_behind, ensures_either, ensures_cases, ensures_listed, ensures_separated, ensures_optional, ensures_within, ensures_all, ensures_empty, ensures_token, ensures_many}
 
 -- where each thing of a row has a number below a bound, there are no more of them
 pub each_few : {A : Type 0} (P : ℕ → A → Type 0) (n : ℕ) → ((k : ℕ) (x : A) → P k x → k < n) → (k : ℕ) (xs : List A) → k ≤ n → EachFrom P k xs → k + length xs ≤ n
@@ -36,7 +36,7 @@ each_also P Q law k [] each = tt
 each_also P Q law k (x ∷ xs) each = (law k x each.0, each_also P Q law (suc k) xs each.1)
 
 -- the word of a statement that is not one too many
-stmt_fine : (over : Bool) (w : Word) (i : StmtWord) → judged_stmt over w ≡ Some (i, None) → over ≡ false
+pub stmt_fine : (over : Bool) (w : Word) (i : StmtWord) → judged_stmt over w ≡ Some (i, None) → over ≡ false
 unfolding judged_stmt
 stmt_fine over w i e = go over (looked_up stmt_words w.text) e
   where

@@ -1,23 +1,23 @@
 -- Each program that a text denotes is shaped.
-use Rattle.std.proofs.Common.{◌≡◌, ℕ, suc, List, [], ◌∷◌, length, refl, ap, sym, ◌∙◌}
+use Rattle.std.proofs.Common.{List, ℕ, ◌≡◌, [], ◌∷◌, suc, length, ◌∙◌, sym, refl}
 use Rattle.std.specs.List.{AllByRecursion}
 use Rattle.std.proofs.lemmas.List.{length-map}
 use Rattle.std.proofs.lemmas.List.Elements.{All-from_recursion}
 use Rattle.mr_ast.specs.declared.program.Function.{Function}
 use Rattle.mr_ast.specs.declared.program.Program.{Program}
 use Rattle.mr_ast.specs.Forms.{Word}
-use Rattle.mr_ast.specs.Scope.{Definitions, function_names}
-use Rattle.mr_ast.specs.Shaped.{Shaped, ShapedFunction}
 use Rattle.mr_ast.specs.ProgramGrammar.{ProgramBody, program_form}
+use Rattle.mr_ast.specs.Scope.{Definitions, function_names}
+use Rattle.mr_ast.specs.Shaped.{ShapedFunction, Shaped}
 use Rattle.mr_ast.specs.Spelled.{SpelledPart}
-use Rattle.mr_words.specs.Places.{words_of}
-use Rattle.mr_grammar.specs.Denotes.{Denotes, Writes, definitions_in, program_of}
-use Rattle.mr_words.specs.Defined.{function_names_in, knowing, text_at, unknown}
-use Rattle.mr_grammar.proofs.Names.DefinedTwice.{FunctionTwice, ProgramTwice, defined_twice, functions_twice}
-use Rattle.mr_grammar.proofs.Walk.EnsureLaws.{EachFrom, Ensures}
 use Rattle.mr_words.proofs.PlaceLaws.{StandsIn, words_stand}
-use Rattle.mr_grammar.proofs.Shape.ShapedPrograms.{BodyShaped, Counted, ensures_program}
+use Rattle.mr_words.specs.Defined.{knowing, function_names_in, unknown, text_at}
+use Rattle.mr_words.specs.Places.{words_of}
+use Rattle.mr_grammar.specs.Denotes.{Writes, definitions_in, program_of, Denotes}
+use Rattle.mr_grammar.proofs.Names.DefinedTwice.{FunctionTwice, Counted, counted, functions_twice, ProgramTwice, defined_twice}
 use Rattle.mr_grammar.proofs.Names.TwoScopes.{EachTwo, each_length}
+use Rattle.mr_grammar.proofs.Shape.ShapedPrograms.{BodyShaped, ensures_program}
+use Rattle.mr_grammar.proofs.Walk.EnsureLaws.{EachFrom, Ensures}
 
 -- the functions have as many locals and blocks as are defined in them
 functions_shaped : (IsGood : Word → Type 0) (p : Program) (d : Definitions) (words : List Word) (k : ℕ) (fs gs : List Function)
@@ -26,13 +26,7 @@ functions_shaped : (IsGood : Word → Type 0) (p : Program) (d : Definitions) (w
 functions_shaped IsGood p d words k [] gs twice each = tt
 functions_shaped IsGood p d words k (f ∷ fs) [] twice each = absurd twice
 functions_shaped IsGood p d words k (f ∷ fs) (g ∷ gs) twice each =
-    (each.0 (counted twice.0.0 twice.0.1), functions_shaped IsGood p d words (suc k) fs gs twice.1 each.1)
-  where
-    counted : FunctionTwice IsGood (knowing d) k f g → function_names d k ≡ function_names_in words g → Counted d k f
-    counted both here = (
-      each_length _ 0 f.locals g.locals both.locals ∙ sym (length-map g.locals (λ l. text_at words l.name)) ∙ sym (ap (λ names. length names.locals) here),
-      each_length _ 0 f.blocks g.blocks both.blocks ∙ sym (length-map g.blocks (λ b. text_at words b.name)) ∙ sym (ap (λ names. length names.blocks) here),
-    )
+    (each.0 (counted IsGood d words k f g twice.0.0 twice.0.1), functions_shaped IsGood p d words (suc k) fs gs twice.1 each.1)
 
 -- the program of the words, where the names stand for what the words define
 named_is_shaped : (words : List Word) (shape body : ProgramBody) → AllByRecursion (StandsIn words) words → Writes unknown words shape → Writes (knowing (definitions_in words shape)) words body

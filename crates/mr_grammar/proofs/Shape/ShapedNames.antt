@@ -1,22 +1,22 @@
 -- The names that a row without a broken limit writes, where the text's definitions are known.
-use Rattle.std.proofs.Common.{◌≡◌, ℕ, ◌+◌, ◌-◌, ◌<◌, ◌≤◌, Bool, true, false, if◌then◌else◌, List, length, map, Option, None, Some, refl, ap, sym, ◌∙◌, arith}
+use Rattle.std.proofs.Common.{ℕ, ◌≡◌, false, ◌<◌, arith, Bool, Some, None, true, refl, Option, if◌then◌else◌, ap, length, ◌+◌, sym, ◌≤◌, ◌-◌, map, ◌∙◌, List}
 use Rattle.std.specs.Prelude.{nat_le, nat_lt}
 use Rattle.std.proofs.lemmas.Bool.Decides.{nat_tests}
+use Rattle.std.proofs.lemmas.List.{length-append, length-map}
 use Rattle.mr_base.proofs.Comparisons.{lt_from, lt_test}
 use Rattle.mr_base.proofs.Options.{some_is}
-use Rattle.mr_ast.specs.declared.words.Role.{Role}
-use Rattle.mr_ast.specs.declared.words.Role.TheVariants.{DefinesGlobal, DefinesFunction, DefinesLocal, DefinesBlock, UsesGlobal, UsesFunction, UsesLocal, UsesBlock}
 use Rattle.mr_ast.specs.declared.program.Target.{Target}
 use Rattle.mr_ast.specs.declared.program.Target.TheVariants as target
+use Rattle.mr_ast.specs.declared.words.Role.{Role}
+use Rattle.mr_ast.specs.declared.words.Role.TheVariants.{UsesLocal, UsesBlock, UsesFunction, UsesGlobal, DefinesGlobal, DefinesFunction, DefinesLocal, DefinesBlock}
 use Rattle.mr_ast.specs.Forms.{Word}
-use Rattle.mr_ast.specs.Scope.{Definitions, Scope, item_names, name_number, names_of, number_in, number_of_name, target_of}
-use Rattle.mr_ast.specs.Shaped.{is_block, is_local}
+use Rattle.mr_ast.specs.Scope.{Scope, name_number, name_target, Definitions, target_of, item_names, number_of_name, number_in, names_of}
+use Rattle.mr_ast.specs.Shaped.{is_local, is_block}
 use Rattle.mr_ast.specs.ShapedValues.{Named}
-use Rattle.std.proofs.lemmas.List.{length-append, length-map}
 use Rattle.mr_ast.specs.Words.{is_name}
-use Rattle.mr_ast.specs.Writing.{block_use, function_use, global_use, judged_name, judged_target, local_use, name_form, target_use}
-use Rattle.mr_grammar.proofs.Walk.EnsureLaws.{Ensures, Parts, ensures_giving, ensures_cases, ensures_empty}
-use Rattle.mr_words.proofs.ScopeLaws.{define_block, define_function, define_global, define_local, named_at, number_within, scope_at, use_block, use_function, use_global, use_local}
+use Rattle.mr_ast.specs.Writing.{judged_name, judged_target, name_form, local_use, block_use, function_use, global_use, target_use}
+use Rattle.mr_words.proofs.ScopeLaws.{named_at, scope_at, use_local, use_block, use_function, use_global, number_within, define_global, define_function, define_local, define_block}
+use Rattle.mr_grammar.proofs.Walk.EnsureLaws.{Parts, Ensures, ensures_cases, ensures_empty, ensures_giving}
 
 pub below : (m n : ℕ) → nat_le n m ≡ false → m < n
 below m n e = grind (arith, nat_tests)
@@ -33,6 +33,16 @@ name_fine over role scope w n e = go (is_name w.text) over (name_number scope ro
     go false many found is e = absurd (cc)
     go true true found is e = let clash = ap (λ p. p.1) (some_is e) in absurd (cc)
     go true false found is e = (refl, is, some_is e)
+
+-- the name of a global or of a function that breaks no limit
+pub target_named : (scope : Scope) (w : Word) (t : Target) → judged_target scope w ≡ Some (t, None) → (is_name w.text ≡ true) × (name_target scope w ≡ (t, None))
+unfolding judged_target
+target_named scope w t e = go (is_name w.text) refl e
+  where
+    go : (name : Bool) → is_name w.text ≡ name → (if name then Some (name_target scope w) else None) ≡ Some (t, None)
+        → (is_name w.text ≡ true) × (name_target scope w ≡ (t, None))
+    go true is e = (is, some_is e)
+    go false is e = absurd (cc)
 
 -- a target is one of the text's globals or functions
 abbrev pub IsWithin : Named → Target → Type 0
@@ -52,7 +62,7 @@ target_fine d k (Some n) t within e = rw (sym (ap (λ p. p.0) e)) (go (nat_lt n 
     go true h = lt_from n (length d.globals) h
     go false h = omega (arith, more n (length d.globals) h, within n refl)
 
-items-length : (d : Definitions) → length (item_names d) ≡ length d.globals + length d.functions
+pub items-length : (d : Definitions) → length (item_names d) ≡ length d.globals + length d.functions
 items-length d = length-append d.globals (map (λ f. f.name) d.functions) ∙ ap (λ n. length d.globals + n) (length-map d.functions (λ f. f.name))
 
 module _ {height room : ℕ} {part : Parts} (d : Definitions) (k : ℕ) where
@@ -74,14 +84,8 @@ module _ {height room : ℕ} {part : Parts} (d : Definitions) (k : ℕ) where
   ensures_global_use = ensures_giving (ensures_name UsesGlobal (λ text n e. use_global d k n text e)) (λ n p. lt_test n (named_at d k).globals p.1)
 
   pub ensures_target_use : Ensures height room part (scope_at d k) target_use (IsWithin (named_at d k))
-  unfolding judged_target
-  ensures_target_use = ensures_cases (λ w t e. ensures_empty (go w t (is_name w.text) e))
-    where
-      go : (w : Word) (t : Target) (name : Bool) → (if name then Some (target_of (length d.globals) (number_in (item_names d) w.text)) else None) ≡ Some (t, None) → IsWithin (named_at d k) t
-      go w t false e = absurd (cc)
-      go w t true e =
-          target_fine d k (number_in (item_names d) w.text) t
-          (λ n found. (let within = number_within (item_names d) w.text n found in omega (arith, items-length d))) (some_is e)
+  ensures_target_use = ensures_cases (λ w t e. ensures_empty (target_fine d k (number_in (item_names d) w.text) t
+      (λ n found. (let within = number_within (item_names d) w.text n found in omega (arith, items-length d))) (target_named (scope_at d k) w t e).1))
 
   -- names that are defined
   pub ensures_global_name : {over : Bool} (j : ℕ) → Ensures height room part (scope_at d k) (name_form over (DefinesGlobal j)) (λ n. (over ≡ false) × (n < length (names_of d)))

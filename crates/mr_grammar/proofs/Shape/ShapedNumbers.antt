@@ -1,17 +1,17 @@
 -- The numbers that a row without a broken limit writes can be written.
-use Rattle.std.proofs.Common.{◌≡◌, ℕ, ◌^◌, ◌==◌, Bool, true, false, not, ◌&&◌, if◌then◌else◌, bytes_eq, List, [], ◌∷◌, Option, None, Some, refl, ap, sym, ◌∙◌}
-use Rattle.std.specs.Prelude.{option_map, nat_lt, nat_le}
+use Rattle.std.proofs.Common.{Bool, ◌≡◌, true, ◌&&◌, refl, List, [], ◌∷◌, ℕ, Option, Some, if◌then◌else◌, None, false, sym, ap, ◌∙◌, ◌^◌, ◌==◌, not, bytes_eq}
 use Rattle.std.specs.List.{AllByRecursion, list_all}
+use Rattle.std.specs.Prelude.{option_map, nat_lt, nat_le}
 use Rattle.std.proofs.lemmas.Bool.{and_parts}
-use Rattle.mr_base.proofs.Comparisons.{le_from, lt_from, not_false}
+use Rattle.mr_base.proofs.Comparisons.{lt_from, le_from, not_false}
 use Rattle.mr_base.proofs.Options.{some_is}
 use Rattle.mr_ast.specs.Forms.{Word}
 use Rattle.mr_ast.specs.Scope.{Scope}
 use Rattle.mr_ast.specs.Shaped.{IsRepeat}
-use Rattle.mr_ast.specs.ShapedTypes.{fits_u64, is_shaped_num}
+use Rattle.mr_ast.specs.ShapedTypes.{is_shaped_num, fits_u64}
 use Rattle.mr_ast.specs.Words.{is_number, value_of}
-use Rattle.mr_ast.specs.Writing.{judged_any, judged_number, judged_positive, judged_repeat, judged_u64, limit, limited_word, num_form, token, u64_form}
-use Rattle.mr_grammar.proofs.Walk.EnsureLaws.{Ensures, Parts, ensures_behind, ensures_cases, ensures_either, ensures_empty, ensures_giving, ensures_token}
+use Rattle.mr_ast.specs.Writing.{judged_number, limit, u64_form, judged_u64, num_form, judged_any, judged_positive, token, judged_repeat, limited_word}
+use Rattle.mr_grammar.proofs.Walk.EnsureLaws.{Parts, Ensures, ensures_token, ensures_either, ensures_giving, ensures_behind, ensures_cases, ensures_empty}
 
 -- both tests pass
 pub both : {a b : Bool} → a ≡ true → b ≡ true → (a && b) ≡ true
@@ -22,18 +22,22 @@ pub all_pass : {A : Type 0} (test : A → Bool) (xs : List A) → AllByRecursion
 all_pass test [] all = refl
 all_pass test (x ∷ xs) all = both all.0 (all_pass test xs all.1)
 
--- a number that may stand there and breaks no limit
-pub number_fine : (judge : ℕ → Option (Option ℕ)) (w : Word) (n : ℕ) → judged_number judge w ≡ Some (n, None) → (is_number w.text ≡ true) × (n ≡ value_of w.text) × (judge n ≡ Some None)
-number_fine judge w n e = go (is_number w.text) (judge (value_of w.text)) refl refl e
+-- a number that may stand there, and the limit that it breaks
+pub number_read : (judge : ℕ → Option (Option ℕ)) (w : Word) (n : ℕ) (flaw : Option ℕ) → judged_number judge w ≡ Some (n, flaw)
+    → (is_number w.text ≡ true) × (n ≡ value_of w.text) × (judge n ≡ Some flaw)
+number_read judge w n flaw e = go (is_number w.text) (judge (value_of w.text)) refl refl e
   where
     go : (number : Bool) (verdict : Option (Option ℕ)) → is_number w.text ≡ number → judge (value_of w.text) ≡ verdict
-        → (if number then option_map {U = ℕ × Option ℕ} (λ flaw. (value_of w.text, flaw)) verdict else None) ≡ Some (n, None) → (is_number w.text ≡ true) × (n ≡ value_of w.text) × (judge n ≡ Some None)
+        → (if number then option_map {U = ℕ × Option ℕ} (λ f. (value_of w.text, f)) verdict else None) ≡ Some (n, flaw) → (is_number w.text ≡ true) × (n ≡ value_of w.text) × (judge n ≡ Some flaw)
     go false verdict is same at = absurd (cc)
     go true None is same at = absurd (cc)
-    go true (Some flaw) is same at =
+    go true (Some f) is same at =
         let pair = some_is at in
         let value = sym (ap (λ p. p.0) pair) in
         (is, value, ap judge value ∙ same ∙ ap Some (ap (λ p. p.1) pair))
+
+pub number_fine : (judge : ℕ → Option (Option ℕ)) (w : Word) (n : ℕ) → judged_number judge w ≡ Some (n, None) → (is_number w.text ≡ true) × (n ≡ value_of w.text) × (judge n ≡ Some None)
+number_fine judge w n e = number_read judge w n None e
 
 limit_kept : (code : ℕ) (broken : Bool) → Some (limit code broken) ≡ Some None → broken ≡ false
 limit_kept code true e = absurd (cc)

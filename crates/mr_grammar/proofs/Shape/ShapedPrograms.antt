@@ -1,49 +1,52 @@
 -- The globals and functions that a row without a broken limit writes are shaped, where the program has as many of each as are defined.
-use Rattle.std.proofs.Common.{◌≡◌, ℕ, suc, ◌≤◌, ◌<◌, ◌^◌, Bool, true, false, if◌then◌else◌, nat_le, List, [], ◌∷◌, length, codes, Option, None, Some, option_map, refl, ap, sym, arith, All}
-use Rattle.std.proofs.lemmas.List.Elements.{All-cons, All-from_recursion, All-weaker}
+use Rattle.std.proofs.Common.{ℕ, ◌≡◌, Some, None, true, ◌≤◌, nat_le, codes, refl, Bool, if◌then◌else◌, ap, sym, false, Option, option_map, All, length, ◌<◌, List, [], ◌∷◌, suc, arith, ◌^◌}
+use Rattle.std.proofs.lemmas.List.Elements.{All-from_recursion, All-cons, All-weaker}
 use Rattle.mr_base.proofs.Comparisons.{le_from, lt_from}
 use Rattle.mr_base.proofs.Options.{some_is}
 use Rattle.mr_ast.specs.declared.program.Block.{Block}
 use Rattle.mr_ast.specs.declared.program.Function.{Function}
 use Rattle.mr_ast.specs.declared.program.Program.{Program}
-use Rattle.mr_ast.specs.declared.words.ItemWord.{ItemWord}
-use Rattle.mr_ast.specs.declared.words.ItemWord.TheVariants as item_word
 use Rattle.mr_ast.specs.declared.program.Target.{Target}
 use Rattle.mr_ast.specs.declared.program.Target.TheVariants as target
+use Rattle.mr_ast.specs.declared.words.ItemWord.{ItemWord}
+use Rattle.mr_ast.specs.declared.words.ItemWord.TheVariants as item_word
 use Rattle.mr_ast.specs.Forms.{Word}
+use Rattle.mr_ast.specs.ProgramGrammar.{judged_item, ProgramBody, repeat_form, item_form, reloc_form, item_behind, global_form, items_form, local_form, locals_form, blocks_form, body_form, with_name, args_form, function_form, judged_edition, program_form, globals_form, functions_form}
 use Rattle.mr_ast.specs.Scope.{Definitions, names_of}
-use Rattle.mr_ast.specs.Shaped.{IsRepeat, IsTarget, ShapedBlock, ShapedFunction, ShapedGlobal, ShapedItem, ShapedLocal, is_local, named_in}
-use Rattle.mr_ast.specs.Words.{IsEdition, is_number, value_of}
-use Rattle.mr_ast.proofs.WordLaws.{edition_found}
-use Rattle.mr_ast.specs.Writing.{fine, is_word, token}
-use Rattle.mr_ast.specs.ProgramGrammar.{ProgramBody, args_form, blocks_form, body_form, function_form, functions_form, global_form, globals_form, item_behind, item_form, items_form, judged_edition, judged_item, local_form, locals_form, program_form, reloc_form, repeat_form, with_name}
+use Rattle.mr_ast.specs.Shaped.{ShapedGlobal, ShapedFunction, IsRepeat, IsTarget, ShapedItem, ShapedLocal, named_in, ShapedBlock, is_local}
 use Rattle.mr_ast.specs.Spelled.{SpelledPart}
-use Rattle.mr_grammar.proofs.Walk.EnsureLaws.{EachFrom, Ensures, Parts, ensures_all, ensures_before, ensures_behind, ensures_cases, ensures_either, ensures_empty, ensures_giving, ensures_in, ensures_listed, ensures_many, ensures_pair, ensures_separated, ensures_then, ensures_token, ensures_within}
-use Rattle.mr_grammar.proofs.Shape.ShapedBlocks.{each_also, each_few, ensures_block}
-use Rattle.mr_grammar.proofs.Shape.ShapedNames.{IsWithin, below, ensures_function_name, ensures_function_use, ensures_global_name, ensures_local_name, ensures_local_use, ensures_target_use}
+use Rattle.mr_ast.specs.Words.{is_number, value_of, IsEdition}
+use Rattle.mr_ast.specs.Writing.{is_word, fine, token}
+use Rattle.mr_ast.proofs.WordLaws.{edition_found}
+use Rattle.mr_words.proofs.BracketCounts.{counted}
+use Rattle.mr_words.proofs.ScopeLaws.{scope_at, named_at}
+use Rattle.mr_grammar.proofs.Names.DefinedTwice.{Counted}
+use Rattle.mr_grammar.proofs.Shape.ShapedBlocks.{each_few, each_also, ensures_block}
+use Rattle.mr_grammar.proofs.Shape.ShapedNames.{IsWithin, ensures_target_use, ensures_global_name, below, ensures_local_name, ensures_local_use, ensures_function_name, ensures_function_use}
 use Rattle.mr_grammar.proofs.Shape.ShapedNumbers.{ensures_repeat, ensures_u64}
 use Rattle.mr_grammar.proofs.Shape.ShapedTypes.{ensures_type_part, types_shaped}
-use Rattle.mr_words.proofs.ScopeLaws.{named_at, scope_at}
+use Rattle.mr_grammar.proofs.Walk.EnsureLaws.{EachFrom, Parts, Ensures, ensures_either, ensures_behind, ensures_empty, ensures_cases, ensures_giving, ensures_then, ensures_pair, ensures_within, ensures_all, ensures_many, ensures_listed, ensures_separated, ensures_before, ensures_in, ensures_token}
 
--- a byte of an item
-byte_small : (w : Word) (b : ℕ) → judged_item w ≡ Some (item_word.Byte b, None) → b ≤ 255
+-- a byte of an item, which is the number that is written
+pub byte_fine : (w : Word) (b : ℕ) → judged_item w ≡ Some (item_word.Byte b, None) → (is_number w.text ≡ true) × (value_of w.text ≡ b) × (b ≤ 255)
 unfolding judged_item
-byte_small w b e = go (is_number w.text) (nat_le (value_of w.text) 255) (is_word (codes "?") w.text) (is_word (codes "&") w.text) refl e
+byte_fine w b e = go (is_number w.text) (nat_le (value_of w.text) 255) (is_word (codes "?") w.text) (is_word (codes "&") w.text) refl refl e
   where
-    go : (number little uninit reloc : Bool) → nat_le (value_of w.text) 255 ≡ little
+    go : (number little uninit reloc : Bool) → is_number w.text ≡ number → nat_le (value_of w.text) 255 ≡ little
         → fine (if number then (if little then Some (item_word.Byte (value_of w.text)) else None) else (if uninit then Some item_word.Uninit else (if reloc then Some item_word.Reloc else None)))
-        ≡ Some (item_word.Byte b, None) → b ≤ 255
-    go true true uninit reloc t e =
+        ≡ Some (item_word.Byte b, None) → (is_number w.text ≡ true) × (value_of w.text ≡ b) × (b ≤ 255)
+    go true true uninit reloc is t e =
         let same : item_word.Byte (value_of w.text) ≡ item_word.Byte b = ap (λ p. p.0) (some_is e) in
-        let value : value_of w.text ≡ b = cc in rw (sym value) (le_from (value_of w.text) 255 t)
-    go true false uninit reloc t e = absurd (cc)
-    go false little true reloc t e = let clash = ap (λ p. p.0) (some_is e) in absurd (cc)
-    go false little false true t e = let clash = ap (λ p. p.0) (some_is e) in absurd (cc)
-    go false little false false t e = absurd (cc)
+        let value : value_of w.text ≡ b = cc in (is, value, rw (sym value) (le_from (value_of w.text) 255 t))
+    go true false uninit reloc is t e = absurd (cc)
+    go false little true reloc is t e = let clash = ap (λ p. p.0) (some_is e) in absurd (cc)
+    go false little false true is t e = let clash = ap (λ p. p.0) (some_is e) in absurd (cc)
+    go false little false false is t e = absurd (cc)
 
--- a function that has as many locals and blocks as are defined in it
-abbrev pub Counted : Definitions → ℕ → Function → Type 0
-Counted d k f = (length f.locals ≡ (named_at d k).locals) × (length f.blocks ≡ (named_at d k).blocks)
+-- what a word is found to be
+pub fine_some : {I : Type 0} (found : Option I) (i : I) → fine found ≡ Some (i, None) → found ≡ Some i
+fine_some None i e = absurd (cc)
+fine_some {I} (Some j) i e = ap (λ (verdict : Option (I × Option ℕ)). option_map (λ p. p.0) verdict) e
 
 -- the body of a program: its globals and functions are shaped, where each function has as many names as are defined in it, and keep the limits
 pub record BodyShaped (p : Program) (d : Definitions) (body : ProgramBody) : Type 0 where
@@ -73,7 +76,7 @@ module _ (p : Program) (d : Definitions) (names : length p.names ≡ length (nam
   ensures_item {height} {room} {part} k = ensures_cases behind
     where
       behind : (w : Word) (i : ItemWord) → judged_item w ≡ Some (i, None) → Ensures height room part (scope_at d k) (item_behind i) (ShapedItem p)
-      behind w (item_word.Byte b) e = ensures_giving (ensures_repeat_form k) (λ n r. (byte_small w b e, r))
+      behind w (item_word.Byte b) e = ensures_giving (ensures_repeat_form k) (λ n r. ((byte_fine w b e).2, r))
       behind w item_word.Uninit e = ensures_giving (ensures_repeat_form k) (λ n r. r)
       behind w item_word.Reloc e = ensures_then (ensures_target_use d k) (ensures_behind ensures_u64) (λ t n within fits. (target_shaped k t within, lt_from n (2 ^ 64) fits))
 
@@ -148,11 +151,7 @@ module _ (p : Program) (d : Definitions) (names : length p.names ≡ length (nam
 
   ensures_edition : {height room : ℕ} → Ensures height room (SpelledPart height) (scope_at d 0) (token judged_edition) IsEdition
   unfolding judged_edition
-  ensures_edition = ensures_token (λ w n e. edition_found w.text n (named _ n e))
-    where
-      named : (o : Option ℕ) (n : ℕ) → fine o ≡ Some (n, None) → o ≡ Some n
-      named None n e = absurd (cc)
-      named (Some k) n e = ap (λ (j : Option (ℕ × Option ℕ)). option_map (λ p. p.0) j) e
+  ensures_edition = ensures_token (λ w n e. edition_found w.text n (fine_some _ n e))
 
   pub ensures_program : {height room : ℕ} → Ensures height room (SpelledPart height) (scope_at d 0) program_form (BodyShaped p d)
   unfolding program_form globals_form functions_form

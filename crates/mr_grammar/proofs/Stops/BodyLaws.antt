@@ -1,163 +1,72 @@
 -- What is read of a whole row of words: the program that they write, or the first word at which they leave the grammar or break a limit.
-use Rattle.std.proofs.Common.{◌≡◌, ℕ, suc, ◌-◌, ◌≤◌, ◌<◌, ◌==◌, ◌⊎◌, inl, inr, Bool, true, false, if◌then◌else◌, List, [], ◌∷◌, ◌++◌, length, Option, None, Some, Result, Ok, Err, refl, ap, sym, ◌∙◌, subst, arith}
-use Rattle.std.proofs.lemmas.List.{append-nil, append_assoc, length-append, nil_from_length, take_at, drop_at}
-use Rattle.std.proofs.lemmas.Bool.Decides.{nat_tests}
+use Rattle.std.proofs.Common.{List, Result, Ok, Err, ◌≡◌, [], ap, sym, ◌∙◌, ℕ, ◌∷◌, Option, Some, ◌++◌, None, ◌≤◌, length, suc, arith, length-append, refl, ◌⊎◌, inl, inr, ◌-◌, Bool, if◌then◌else◌, true, false, ◌==◌, subst, ◌<◌, append_assoc}
 use Rattle.std.proofs.lemmas.Bool.{cases_order}
+use Rattle.std.proofs.lemmas.Bool.Decides.{nat_tests}
+use Rattle.std.proofs.lemmas.List.{append-nil, nil_from_length, take_at, drop_at}
 use Rattle.mr_ast.specs.Forms.{Word, Mark}
-use Rattle.mr_ast.specs.Scope.{Scope}
-use Rattle.mr_ast.specs.Spelled.{Spelled}
 use Rattle.mr_ast.specs.ProgramGrammar.{ProgramBody, program_form}
+use Rattle.mr_ast.specs.Scope.{Scope}
+use Rattle.mr_words.specs.Brackets.{told, is_bracket_too_many}
 use Rattle.mr_words.specs.declared.fault.Stop.{Stop}
-use Rattle.mr_grammar.specs.Reading.{◌>>=◌, read}
-use Rattle.mr_grammar.specs.Denotes.{IsFine, SpelledProgram, Writes, words_in}
-use Rattle.mr_grammar.specs.Faults.{BreaksFirst, BreaksLimit, GoesOn, NothingFits, code_of_unexpected}
-use Rattle.mr_words.specs.Brackets.{is_bracket_too_many}
-use Rattle.mr_grammar.specs.Parsing.{body_of, ended}
-use Rattle.mr_words.specs.Brackets.{told}
-use Rattle.mr_grammar.proofs.Walk.Rows.{words-append, words-append-rest}
-use Rattle.mr_grammar.proofs.Walk.SoundLaws.{Row}
-use Rattle.mr_grammar.proofs.Stops.StopLaws.{StopsAt, Breaks, err-same}
-use Rattle.mr_grammar.proofs.Walk.HeightLaws.{SomeSpelled}
-use Rattle.mr_grammar.proofs.Stops.ProgramLaws.{sound_program, stops_program}
+use Rattle.mr_grammar.specs.Denotes.{SpelledProgram, words_in, IsFine, Writes}
+use Rattle.mr_grammar.specs.Faults.{BreaksLimit, code_of_unexpected, NothingFits, BreaksFirst, GoesOn}
+use Rattle.mr_grammar.specs.Parsing.{ended, body_of}
+use Rattle.mr_grammar.specs.Reading.{◌>>=◌, read, stop}
+use Rattle.mr_grammar.proofs.Stops.FlawLaws.{read_checked, checked-flawed, checked-fine}
+use Rattle.mr_grammar.proofs.Stops.LimitLaws.{Keeps, row_keeps}
 use Rattle.mr_grammar.proofs.Stops.ProgramTold.{told_program}
-use Rattle.mr_grammar.proofs.Stops.PlainLaws.{plain_program}
+use Rattle.mr_grammar.proofs.Stops.Said.{said}
 use Rattle.mr_grammar.proofs.Walk.CheckedLaws.{checked, unless_flawed}
-use Rattle.mr_grammar.proofs.Stops.LimitLaws.{Keeps}
-use Rattle.mr_grammar.proofs.Stops.LocalLaws.{Alike, AtMost}
-use Rattle.mr_grammar.proofs.Stops.FlawLaws.{read_checked}
-use Rattle.mr_grammar.proofs.Stops.PrefixLaws.{read_local, row_keeps, program_read, program_flawed, no_program, no_program_goes_on, no_program_is_longer}
+use Rattle.mr_grammar.proofs.Walk.FairForms.{program_fair}
+use Rattle.mr_grammar.proofs.Walk.HeightLaws.{SomeSpelled}
+use Rattle.mr_grammar.proofs.Walk.Rows.{words-append, words-append-rest}
+use Rattle.mr_grammar.proofs.Walk.Says.{Says, err-same, ok-same, next_of, Reached, Stopped}
 
 -- what is told of an answer of the grammar
 abbrev outcome : List Word → Result (ProgramBody × List Word) Stop → Result ProgramBody Stop
 outcome words answer = elim (answer >>= ended) as (λ _. Result ProgramBody Stop) [ Ok body ↦ Ok body | Err s ↦ Err (told words s) ]
 
-of_whole : (words : List Word) (answer : Result (ProgramBody × List Word) Stop) (body : ProgramBody) → outcome words answer ≡ Ok body → answer ≡ Ok (body, [])
-of_whole words (Ok (x, [])) body e = let same : x ≡ body = cc in ap (λ y. Ok (y, [])) same
-of_whole words (Ok (x, w ∷ ws)) body e = absurd (cc)
-of_whole words (Err s) body e = absurd (cc)
+-- what reading says of the words of a program
+program_said : (scope : Scope) (words : List Word) → Says (SomeSpelled 32 scope program_form) (λ us. read 32 scope program_form us) words
+program_said scope words = said 32 scope program_form program_fair told_program words
 
--- reading stopped, or went as far as a program, with words behind it
-abbrev Short : List Word → Result (ProgramBody × List Word) Stop → Stop → Type 0
-Short words answer s =
-    ((t : Stop) × (answer ≡ Err t) × (told words t ≡ s))
-    ⊎ ((x : ProgramBody) × (w : Word) × (ws : List Word) × (answer ≡ Ok (x, w ∷ ws)) × (told words (record { code = 4; left = length (w ∷ ws) }) ≡ s))
+-- a row is read whole, or up to the first limit that it breaks
+row_read : (scope : Scope) (x : ProgramBody) (marks : List Mark) → SpelledProgram scope x marks → read 32 scope program_form (words_in marks) ≡ checked x marks []
+row_read scope x marks s =
+    ap (read 32 scope program_form) (sym (append-nil (words_in marks))) ∙ read_checked s.0 32 scope program_form x marks told_program s.1 [] (λ good. tt)
 
-of_short : (words : List Word) (answer : Result (ProgramBody × List Word) Stop) (s : Stop) → outcome words answer ≡ Err s → Short words answer s
-of_short words (Ok (x, [])) s e = absurd (cc)
-of_short words (Ok (x, w ∷ ws)) s e = let same : told words (record { code = 4; left = length (w ∷ ws) }) ≡ s = cc in inr (x, w, ws, refl, same)
-of_short words (Err t) s e = let same : told words t ≡ s = cc in inl (t, refl, same)
-
-stop_same : (s t : Stop) → s.code ≡ t.code → s.left ≡ t.left → s ≡ t
-stop_same s t p q = λ i. record { code = p i; left = q i }
-
--- the code 7 is told in place of 4, where a bracket is one too many
-told_here : (front rest : List Word) (s : Stop) → length rest ≡ s.left → s.code ≡ 4
-    → told (front ++ rest) s ≡ record { code = code_of_unexpected front rest; left = length rest }
-told_here front rest s left code =
-    let n : length front ≡ length (front ++ rest) - s.left = omega (arith, length-append front rest) in
-    rw (code, take_at front rest (length (front ++ rest) - s.left) n, drop_at front rest (length (front ++ rest) - s.left) n) (go (is_bracket_too_many front rest))
+never_stops : (left : ℕ) (x : ProgramBody) (marks : List Mark) → Keeps marks → checked x marks [] ≡ Err (record { code = 4; left = left }) → ⊥
+never_stops left x [] keeps e = absurd (cc)
+never_stops left x (m ∷ marks) keeps e = go m.flaw keeps.0 (never_stops left x marks keeps.1) e
   where
-    go : (many : Bool) → ◌≡◌ {A = Stop} (if many then record { code = 7; left = s.left } else record { code = 4; left = s.left }) (record { code = if many then 7 else 4; left = length rest })
-    go true = stop_same _ _ refl (sym left)
-    go false = stop_same _ _ refl (sym left)
+    go : (flaw : Option ℕ) → (flaw ≡ Some 4 → ⊥) → (checked x marks [] ≡ Err (record { code = 4; left = left }) → ⊥)
+        → unless_flawed flaw (m.word ∷ words_in marks ++ []) (checked x marks []) ≡ Err (record { code = 4; left = left }) → ⊥
+    go None keep behind e = behind e
+    go (Some found) keep behind e = keep (ap (λ s. Some s.code) (err-same e))
 
-told_other : (words : List Word) (s : Stop) → (s.code ≡ 4 → ⊥) → told words s ≡ s
-told_other words s other = go (s.code == 4) refl
+never_leaves : (x y : ProgramBody) (marks : List Mark) (t : Word) (rest : List Word) → checked x marks [] ≡ Ok (y, t ∷ rest) → ⊥
+never_leaves x y [] t rest e = let clash = ap (λ p. p.1) (ok-same e) in absurd (cc)
+never_leaves x y (m ∷ marks) t rest e = go m.flaw (never_leaves x y marks t rest) e
   where
-    go : (four : Bool) → (s.code == 4) ≡ four → told words s ≡ s
-    go true e = absurd (other (grind (arith, nat_tests)))
-    go false e = rw e refl
+    go : (flaw : Option ℕ) → (checked x marks [] ≡ Ok (y, t ∷ rest) → ⊥) → unless_flawed flaw (m.word ∷ words_in marks ++ []) (checked x marks []) ≡ Ok (y, t ∷ rest) → ⊥
+    go None behind e = behind e
+    go (Some found) behind e = absurd (cc)
 
--- a program is read where the words write it
-pub writes_read : (scope : Scope) (words : List Word) (body : ProgramBody) → Writes scope words body → read 32 scope program_form words ≡ Ok (body, [])
-writes_read scope words body w = rw w.row (program_read w.written.0 scope body w.marks w.written.1 w.fine)
-
-read_writes : (scope : Scope) (words : List Word) (body : ProgramBody) → read 32 scope program_form words ≡ Ok (body, []) → Writes scope words body
-read_writes scope words body e =
-    let row : Row (Spelled 32 32 scope program_form) words body [] = sound_program scope words (body, []) e in
-    record { marks = row.marks; row = row.words ∙ append-nil (words_in row.marks); fine = row.fine; written = (32, row.written) }
+-- where a row is read behind a front that breaks no limit, reading stops behind this front too
+checked_left : (x : ProgramBody) (front back : List Mark) → IsFine front → (s : Stop) → checked x (front ++ back) [] ≡ Err s → s.left ≤ length (words_in back)
+checked_left x [] [] good s e = absurd (cc)
+checked_left x [] (m ∷ back) good s e = go m.flaw (checked_left x [] back tt s) e
+  where
+    go : (flaw : Option ℕ) → (checked x back [] ≡ Err s → s.left ≤ length (words_in back))
+        → unless_flawed flaw (m.word ∷ words_in back ++ []) (checked x back []) ≡ Err s → s.left ≤ suc (length (words_in back))
+    go None more e = let le = more e in omega arith
+    go (Some code) more e = let same = ap (λ t. t.left) (err-same e) in omega (arith, same, length-append (words_in back) [])
+checked_left x (m ∷ front) back good s e = checked_left x front back good.1 s (rw good.0 at e)
 
 -- a limit of a row is no limit that it keeps
-breaks_no_kept : (code : ℕ) (front : List Mark) (m : Mark) (back : List Mark) → Keeps code (front ++ m ∷ back) → m.flaw ≡ Some code → ⊥
-breaks_no_kept code [] m back keeps e = keeps.0 e
-breaks_no_kept code (n ∷ front) m back keeps e = breaks_no_kept code front m back keeps.1 e
-
--- where reading stops by the code 4, no program fits
-nothing_fits : (scope : Scope) (front rest : List Word) (t : Stop) → read 32 scope program_form (front ++ rest) ≡ Err t → t.code ≡ 4 → length rest ≡ t.left
-    → NothingFits scope front rest
-nothing_fits scope front [] t e code left = λ body marks words s.
-    no_program scope front 0 (ap (read 32 scope program_form) (sym (append-nil front)) ∙ e ∙ ap Err (stop_same t (record { code = 4; left = 0 }) code (sym left))) s.0 body marks words s.1
-nothing_fits scope front (w ∷ ws) t e code left = λ body marks behind words s.
-    no_program_goes_on scope front w ws (e ∙ ap Err (stop_same t (record { code = 4; left = length (w ∷ ws) }) code (sym left))) behind s.0 body marks words s.1
-
--- the first fault, where reading stops
-stop_breaks : (scope : Scope) (words : List Word) (t : Stop) → read 32 scope program_form words ≡ Err t → BreaksFirst scope words (told words t)
-stop_breaks scope words t e = go (stops_program scope words t e)
-  where
-    go : StopsAt (SomeSpelled 32 scope program_form) words t → BreaksFirst scope words (told words t)
-    go at = ends at.ending
-      where
-        ends : Breaks (SomeSpelled 32 scope program_form) t at.front at.rest ⊎ ((back : List Mark) × (x : ProgramBody) × (t.code ≡ 4) × SomeSpelled 32 scope program_form x (at.front ++ back))
-            → BreaksFirst scope words (told words t)
-        ends (inl (m, others, back, x, next, flaw, (height, written))) =
-            let other : t.code ≡ 4 → ⊥ = λ four. breaks_no_kept 4 at.front m back (row_keeps height 32 scope program_form x (at.front ++ m ∷ back) plain_program written) (flaw ∙ ap Some four) in
-            let here : BreaksFirst scope words t = record {
-              front = at.front;
-              rest = at.rest;
-              whole = at.words;
-              left = at.place;
-              fine = at.fine;
-              ending = inl (record { mark = m; others = others; next = next; broken = flaw; back = back; body = x; written = (height, written) });
-            } in
-            subst (BreaksFirst scope words) (sym (told_other words t other)) here
-        ends (inr (back, x, code, written)) =
-            let here : BreaksFirst scope words (record { code = code_of_unexpected (words_in at.front) at.rest; left = length at.rest }) = record {
-              front = at.front;
-              rest = at.rest;
-              whole = at.words;
-              left = refl;
-              fine = at.fine;
-              ending = inr (refl, record { back = back; body = x; written = written }, nothing_fits scope (words_in at.front) at.rest t (ap (read 32 scope program_form) (sym at.words) ∙ e) code at.place);
-            } in
-            subst (BreaksFirst scope words) (sym (ap (λ ws. told ws t) at.words ∙ told_here (words_in at.front) at.rest t at.place code)) here
-
--- the first fault, where a program ends before the words do
-left_breaks : (scope : Scope) (words : List Word) (x : ProgramBody) (w : Word) (ws : List Word) → read 32 scope program_form words ≡ Ok (x, w ∷ ws)
-    → BreaksFirst scope words (told words (record { code = 4; left = length (w ∷ ws) }))
-left_breaks scope words x w ws e =
-    let row : Row (Spelled 32 32 scope program_form) words x (w ∷ ws) = sound_program scope words (x, w ∷ ws) e in
-    let here : BreaksFirst scope words (record { code = code_of_unexpected (words_in row.marks) (w ∷ ws); left = length (w ∷ ws) }) = record {
-      front = row.marks;
-      rest = w ∷ ws;
-      whole = row.words;
-      left = refl;
-      fine = row.fine;
-      ending = inr (
-        refl,
-        record { back = []; body = x; written = (32, rw (append-nil row.marks) row.written) },
-        λ body marks behind same s. no_program_is_longer scope (words_in row.marks) w ws x (ap (read 32 scope program_form) (sym row.words) ∙ e) behind s.0 body marks same s.1,
-      );
-    } in
-    subst (BreaksFirst scope words)
-    (sym (ap (λ us. told us (record { code = 4; left = length (w ∷ ws) })) row.words ∙ told_here (words_in row.marks) (w ∷ ws) (record { code = 4; left = length (w ∷ ws) }) refl refl)) here
-
--- What is read of the words is what they write.
-pub body_writes : (scope : Scope) (words : List Word) (body : ProgramBody) → body_of scope words ≡ Ok body → Writes scope words body
-unfolding body_of
-body_writes scope words body e = read_writes scope words body (of_whole words (read 32 scope program_form words) body e)
-
-pub writes_body : (scope : Scope) (words : List Word) (body : ProgramBody) → Writes scope words body → body_of scope words ≡ Ok body
-unfolding body_of
-writes_body scope words body w = ap (outcome words) (writes_read scope words body w)
-
--- Where reading stops, the words have their first fault.
-pub body_breaks : (scope : Scope) (words : List Word) (s : Stop) → body_of scope words ≡ Err s → BreaksFirst scope words s
-unfolding body_of
-body_breaks scope words s e = go (of_short words (read 32 scope program_form words) s e)
-  where
-    go : Short words (read 32 scope program_form words) s → BreaksFirst scope words s
-    go (inl (t, at, same)) = subst (BreaksFirst scope words) same (stop_breaks scope words t at)
-    go (inr (x, w, ws, at, same)) = subst (BreaksFirst scope words) same (left_breaks scope words x w ws at)
+breaks_no_kept : (front : List Mark) (m : Mark) (back : List Mark) → Keeps (front ++ m ∷ back) → m.flaw ≡ Some 4 → ⊥
+breaks_no_kept [] m back keeps e = keeps.0 e
+breaks_no_kept (n ∷ front) m back keeps e = breaks_no_kept front m back keeps.1 e
 
 -- of two ways to part a list, one part reaches further
 split_at : {X : Type 0} (u v a b : List X) → u ++ a ≡ v ++ b → length b ≤ length a → (more : List X) × (v ≡ u ++ more) × (a ≡ more ++ b)
@@ -169,66 +78,131 @@ split_at (x ∷ u) (y ∷ v) a b e le =
     let r = split_at u v a b tail le in
     (r.0, ap (λ z. z ∷ v) (sym head) ∙ ap (λ t. x ∷ t) r.1, r.2)
 
-split_last : {X : Type 0} (xs : List X) → (xs ≡ []) ⊎ ((init : List X) × (x : X) × (xs ≡ init ++ x ∷ []))
-split_last [] = inl refl
-split_last {X} (x ∷ xs) = go (split_last xs)
-  where
-    go : (xs ≡ []) ⊎ ((init : List X) × (y : X) × (xs ≡ init ++ y ∷ [])) → (x ∷ xs ≡ []) ⊎ ((init : List X) × (y : X) × (x ∷ xs ≡ init ++ y ∷ []))
-    go (inl e) = inr ([], x, ap (λ ys. x ∷ ys) e)
-    go (inr (init, y, e)) = inr (x ∷ init, y, ap (λ ys. x ∷ ys) e)
+split_same : {X : Type 0} (u v a b : List X) → u ++ a ≡ v ++ b → length a ≡ length b → (u ≡ v) × (a ≡ b)
+split_same u v a b e lengths =
+    let (more, fronts, rests) = split_at u v a b e (omega arith) in
+    let none : more ≡ [] = nil_from_length more (omega (arith, ap length rests, length-append more b)) in
+    (sym (append-nil u) ∙ ap (λ m. u ++ m) (sym none) ∙ sym fronts, rests ∙ ap (λ m. m ++ b) none)
 
--- what is read of a row goes behind the front that breaks no limit
-checked_all : (x : ProgramBody) (back : List Mark) → AtMost (length (words_in back)) (checked x back [])
-checked_all x [] = omega arith
-checked_all x (m ∷ back) = go m.flaw (checked_all x back)
-  where
-    go : (flaw : Option ℕ) → AtMost (length (words_in back)) (checked x back []) → AtMost (suc (length (words_in back))) (unless_flawed flaw (m.word ∷ words_in back ++ []) (checked x back []))
-    go None most = up (checked x back []) most
-      where
-        up : (answer : Result (ProgramBody × List Word) Stop) → AtMost (length (words_in back)) answer → AtMost (suc (length (words_in back))) answer
-        up (Ok y) le = omega arith
-        up (Err s) le = omega arith
-    go (Some code) most = omega (arith, length-append (words_in back) [])
+stop_same : (s t : Stop) → s.code ≡ t.code → s.left ≡ t.left → s ≡ t
+stop_same s t p q = λ i. record { code = p i; left = q i }
 
-checked_behind : (x : ProgramBody) (front back : List Mark) → IsFine front → AtMost (length (words_in back)) (checked x (front ++ back) [])
-checked_behind x [] back good = checked_all x back
-checked_behind x (m ∷ front) back good = rw good.0 (checked_behind x front back good.1)
-
--- what is read of words goes behind a front that a program begins with, where it breaks no limit
-reaches : (scope : Scope) (front back : List Mark) (rest : List Word) (body : ProgramBody) → SpelledProgram scope body (front ++ back) → IsFine front
-    → AtMost (length rest) (read 32 scope program_form (words_in front ++ rest))
-reaches scope front back rest body s good = go (split_last front)
-  where
-    whole : read 32 scope program_form (words_in (front ++ back)) ≡ checked body (front ++ back) []
-    whole = ap (read 32 scope program_form) (sym (append-nil (words_in (front ++ back)))) ∙ read_checked s.0 32 scope program_form body (front ++ back) [] told_program s.1 (λ fine. tt)
-
-    behind : AtMost (length (words_in back)) (read 32 scope program_form (words_in (front ++ back)))
-    behind = rw whole (checked_behind body front back good)
-
-    go : (front ≡ []) ⊎ ((init : List Mark) × (m : Mark) × (front ≡ init ++ m ∷ [])) → AtMost (length rest) (read 32 scope program_form (words_in front ++ rest))
-    go (inl e) = rw e ((read_local 32 scope program_form told_program).most rest)
-    go (inr (init, m, e)) =
-        rw (ap words_in e ∙ words-append init (m ∷ []), append_assoc (words_in init) (m.word ∷ []) rest)
-        (both ((read_local 32 scope program_form told_program).alike (words_in init) m.word rest (words_in back)))
-      where
-        same : words_in (front ++ back) ≡ words_in init ++ m.word ∷ words_in back
-        same = words-append front back ∙ ap (λ ms. words_in ms ++ words_in back) e ∙ ap (λ ws. ws ++ words_in back) (words-append init (m ∷ []))
-            ∙ append_assoc (words_in init) (m.word ∷ []) (words_in back)
-
-        there : AtMost (length (words_in back)) (read 32 scope program_form (words_in init ++ m.word ∷ words_in back))
-        there = rw same at behind
-
-        both : Alike m.word rest (words_in back) (read 32 scope program_form (words_in init ++ m.word ∷ rest)) (read 32 scope program_form (words_in init ++ m.word ∷ words_in back))
-            → AtMost (length rest) (read 32 scope program_form (words_in init ++ m.word ∷ rest))
-        both (inl a) = let most = rw a.3 at there in absurd (omega (arith, length-append a.1 (m.word ∷ words_in back)))
-        both (inr (inl a)) = let most = rw a.3 at there in absurd (omega (arith, length-append a.1 (m.word ∷ words_in back)))
-        both (inr (inr a)) = a.0
-
--- reading stops at a limit that is the first
+-- reading stops at a limit that is the first, whatever stands behind its word
 limit_reads : (scope : Scope) (front : List Mark) (rest : List Word) (code : ℕ) → BreaksLimit scope front rest code → IsFine front
-    → read 32 scope program_form (words_in front ++ rest) ≡ Err (record { code = code; left = length rest })
-limit_reads scope front rest code b good =
-    rw b.next (program_flawed b.written.0 scope b.body front b.mark b.back code b.written.1 good b.broken b.others)
+    → (v : List Word) → next_of v ≡ next_of rest → read 32 scope program_form (words_in front ++ v) ≡ stop code v
+limit_reads scope front rest code b good v e = go a.ending
+  where
+    a : Says (SomeSpelled 32 scope program_form) (λ us. read 32 scope program_form us) (words_in (front ++ b.mark ∷ b.back))
+    a = program_said scope (words_in (front ++ b.mark ∷ b.back))
+
+    found : read 32 scope program_form (words_in a.front ++ a.rest) ≡ stop code (b.mark.word ∷ words_in b.back ++ [])
+    found = ap (read 32 scope program_form) (sym a.words) ∙ row_read scope b.body (front ++ b.mark ∷ b.back) b.written
+        ∙ checked-flawed b.body front b.mark b.back [] code good b.broken
+
+    go : Reached (SomeSpelled 32 scope program_form) (λ us. read 32 scope program_form us) a.front a.rest
+        ⊎ Stopped (SomeSpelled 32 scope program_form) (λ us. read 32 scope program_form us) a.front a.rest
+        → read 32 scope program_form (words_in front ++ v) ≡ stop code v
+    go (inl (x, written, reads)) = let clash = sym (reads a.rest refl) ∙ found in absurd (cc)
+    go (inr (other, stops, more)) =
+        let same = err-same (sym (stops a.rest refl) ∙ found) in
+        let (fronts, rests) = split_same (words_in front) (words_in a.front) (b.mark.word ∷ words_in b.back) a.rest (sym (words-append front (b.mark ∷ b.back)) ∙ a.words)
+        (omega (arith, ap (λ s. s.left) same, length-append (words_in b.back) [])) in
+        ap (λ us. read 32 scope program_form (us ++ v)) fronts ∙ stops v (e ∙ ap next_of b.next ∙ ap next_of rests) ∙ ap (λ c. stop c v) (ap (λ s. s.code) same)
+
+-- the code 7 is told in place of 4, where a bracket is one too many
+told_here : (front rest : List Word) → told (front ++ rest) (record { code = 4; left = length rest }) ≡ record { code = code_of_unexpected front rest; left = length rest }
+told_here front rest =
+    let n : length front ≡ length (front ++ rest) - length rest = omega (arith, length-append front rest) in
+    rw (take_at front rest (length (front ++ rest) - length rest) n, drop_at front rest (length (front ++ rest) - length rest) n) (go (is_bracket_too_many front rest))
+  where
+    go : (many : Bool) → ◌≡◌ {A = Stop} (if many then record { code = 7; left = length rest } else record { code = 4; left = length rest }) (record { code = if many then 7 else 4; left = length rest })
+    go true = refl
+    go false = refl
+
+told_other : (words : List Word) (s : Stop) → (s.code ≡ 4 → ⊥) → told words s ≡ s
+told_other words s other = go (s.code == 4) refl
+  where
+    go : (four : Bool) → (s.code == 4) ≡ four → told words s ≡ s
+    go true e = absurd (other (grind (arith, nat_tests)))
+    go false e = rw e refl
+
+-- nothing fits where no program begins with these words and the next
+unfit : (scope : Scope) (front rest : List Word)
+    → ((v : List Word) → next_of v ≡ next_of rest → (body : ProgramBody) (marks : List Mark) → words_in marks ≡ front ++ v → SpelledProgram scope body marks → ⊥)
+    → NothingFits scope front rest
+unfit scope front [] none = λ body marks words s. none [] refl body marks (words ∙ sym (append-nil front)) s
+unfit scope front (w ∷ ws) none = λ body marks behind words s. none (w ∷ behind) refl body marks words s
+
+-- What is read of the words is what they write.
+pub body_writes : (scope : Scope) (words : List Word) (body : ProgramBody) → body_of scope words ≡ Ok body → Writes scope words body
+unfolding body_of
+body_writes scope words body e = go a.rest a.words a.ending
+  where
+    a : Says (SomeSpelled 32 scope program_form) (λ us. read 32 scope program_form us) words
+    a = program_said scope words
+
+    go : (rest : List Word) → words ≡ words_in a.front ++ rest
+        → Reached (SomeSpelled 32 scope program_form) (λ us. read 32 scope program_form us) a.front rest
+        ⊎ Stopped (SomeSpelled 32 scope program_form) (λ us. read 32 scope program_form us) a.front rest → Writes scope words body
+    go [] whole (inl (x, written, reads)) =
+        let same : x ≡ body = ok-same (sym (ap (outcome words) (ap (read 32 scope program_form) whole ∙ reads [] refl)) ∙ e) in
+        record { marks = a.front; row = whole ∙ append-nil (words_in a.front); fine = a.fine; written = subst (λ y. SpelledProgram scope y a.front) same written }
+    go (w ∷ ws) whole (inl (x, written, reads)) = let clash = sym (ap (outcome words) (ap (read 32 scope program_form) whole ∙ reads (w ∷ ws) refl)) ∙ e in absurd (cc)
+    go rest whole (inr (code, stops, more)) = let clash = sym (ap (outcome words) (ap (read 32 scope program_form) whole ∙ stops rest refl)) ∙ e in absurd (cc)
+
+writes_read : (scope : Scope) (words : List Word) (body : ProgramBody) → Writes scope words body → read 32 scope program_form words ≡ Ok (body, [])
+writes_read scope words body w = rw w.row (row_read scope body w.marks w.written ∙ checked-fine body w.marks [] w.fine)
+
+pub writes_body : (scope : Scope) (words : List Word) (body : ProgramBody) → Writes scope words body → body_of scope words ≡ Ok body
+unfolding body_of
+writes_body scope words body w = ap (outcome words) (writes_read scope words body w)
+
+-- Where reading stops, the words have their first fault.
+pub body_breaks : (scope : Scope) (words : List Word) (s : Stop) → body_of scope words ≡ Err s → BreaksFirst scope words s
+unfolding body_of
+body_breaks scope words s e = go a.rest a.words a.ending
+  where
+    a : Says (SomeSpelled 32 scope program_form) (λ us. read 32 scope program_form us) words
+    a = program_said scope words
+
+    unexpected : (rest : List Word) → words ≡ words_in a.front ++ rest → GoesOn scope a.front → NothingFits scope (words_in a.front) rest
+        → told words (record { code = 4; left = length rest }) ≡ s → BreaksFirst scope words s
+    unexpected rest whole on none same =
+        let here : BreaksFirst scope words (record { code = code_of_unexpected (words_in a.front) rest; left = length rest })
+        = record { front = a.front; rest = rest; whole = whole; left = refl; fine = a.fine; ending = inr (refl, on, none) } in
+        subst (BreaksFirst scope words) (sym (ap (λ ws. told ws (record { code = 4; left = length rest })) whole ∙ told_here (words_in a.front) rest) ∙ same) here
+
+    go : (rest : List Word) → words ≡ words_in a.front ++ rest
+        → Reached (SomeSpelled 32 scope program_form) (λ us. read 32 scope program_form us) a.front rest
+        ⊎ Stopped (SomeSpelled 32 scope program_form) (λ us. read 32 scope program_form us) a.front rest → BreaksFirst scope words s
+    go [] whole (inl (x, written, reads)) = let clash = sym (ap (outcome words) (ap (read 32 scope program_form) whole ∙ reads [] refl)) ∙ e in absurd (cc)
+    go (w ∷ ws) whole (inl (x, written, reads)) =
+        unexpected (w ∷ ws) whole (record { back = []; body = x; written = rw (append-nil a.front) written })
+        (λ body marks behind same row.
+        never_leaves body x marks w behind (sym (row_read scope body marks row) ∙ ap (read 32 scope program_form) same ∙ reads (w ∷ behind) refl))
+        (err-same (sym (ap (outcome words) (ap (read 32 scope program_form) whole ∙ reads (w ∷ ws) refl)) ∙ e))
+    go rest whole (inr (code, stops, (x, back, written, inl (m, others, more, same, next, flaw)))) =
+        let row : SpelledProgram scope x (a.front ++ m ∷ more) = rw same at written in
+        let other : code ≡ 4 → ⊥ = λ four. breaks_no_kept a.front m more (row_keeps row.0 32 scope program_form x (a.front ++ m ∷ more) program_fair row.1) (flaw ∙ ap Some four) in
+        let here : BreaksFirst scope words (record { code = code; left = length rest }) = record {
+          front = a.front;
+          rest = rest;
+          whole = whole;
+          left = refl;
+          fine = a.fine;
+          ending = inl (record { mark = m; others = others; next = next; broken = flaw; back = more; body = x; written = row });
+        } in
+        subst (BreaksFirst scope words)
+        (sym (told_other words (record { code = code; left = length rest }) other)
+        ∙ err-same (sym (ap (outcome words) (ap (read 32 scope program_form) whole ∙ stops rest refl)) ∙ e)) here
+    go rest whole (inr (code, stops, (x, back, written, inr four))) =
+        unexpected rest whole (record { back = back; body = x; written = written })
+        (unfit scope (words_in a.front) rest
+        (λ v next body marks same row.
+        never_stops (length v) body marks (row_keeps row.0 32 scope program_form body marks program_fair row.1)
+        (sym (row_read scope body marks row) ∙ ap (read 32 scope program_form) same ∙ stops v next ∙ ap (λ c. stop c v) four)))
+        (ap (λ c. told words (record { code = c; left = length rest })) (sym four)
+        ∙ err-same (sym (ap (outcome words) (ap (read 32 scope program_form) whole ∙ stops rest refl)) ∙ e))
 
 -- a row goes no further than to where nothing fits
 not_longer : (scope : Scope) (front back : List Mark) (body : ProgramBody) (rest u others : List Word) → SpelledProgram scope body (front ++ back)
@@ -246,27 +220,34 @@ not_longer scope front back body rest u (w ∷ ws) s e less none =
         (words-append front back ∙ ap (λ ws. ws ++ words_in back) same ∙ append_assoc u (v ∷ more) (words_in back) ∙ ap (λ x. u ++ (x ∷ (more ++ words_in back))) (sym head)) s
 
 -- the parts of a first fault
-abbrev Ends : Scope → List Mark → List Word → Stop → Type 0
-Ends scope front rest s =
+abbrev FaultEnds : Scope → List Mark → List Word → Stop → Type 0
+FaultEnds scope front rest s =
     BreaksLimit scope front rest s.code ⊎ ((s.code ≡ code_of_unexpected (words_in front) rest) × GoesOn scope front × NothingFits scope (words_in front) rest)
 
 -- a limit that is the first comes behind no place where nothing fits, and before none
-limit_clash : (scope : Scope) (words : List Word) (s t : Stop) (front front' : List Mark) (rest rest' : List Word)
-    → words ≡ words_in front ++ rest → words ≡ words_in front' ++ rest' → length rest ≡ s.left → length rest' ≡ t.left → IsFine front → IsFine front'
-    → BreaksLimit scope front rest s.code → GoesOn scope front' → NothingFits scope (words_in front') rest' → ⊥
-limit_clash scope words s t front front' rest rest' e e' left left' good good' b on none =
-    not_longer scope (front ++ b.mark ∷ []) b.back b.body b.others (words_in front') rest'
-    (rw (append_assoc front (b.mark ∷ []) b.back) b.written)
-    (words-append-rest front (b.mark ∷ []) b.others ∙ ap (λ ws. words_in front ++ ws) (sym b.next) ∙ sym e ∙ e') less none
+limit_clash : (scope : Scope) (front front' : List Mark) (rest rest' : List Word) (code : ℕ) → words_in front ++ rest ≡ words_in front' ++ rest' → IsFine front → IsFine front'
+    → BreaksLimit scope front rest code → GoesOn scope front' → NothingFits scope (words_in front') rest' → ⊥
+limit_clash scope front front' rest rest' code e good good' b on none = go (cases_order (length rest') (length rest))
   where
-    most : length rest ≤ length rest'
-    most =
-        let reach = reaches scope front' on.back rest' on.body on.written good' in
-        let at : read 32 scope program_form (words_in front' ++ rest') ≡ Err (record { code = s.code; left = length rest }) =
-        ap (read 32 scope program_form) (sym e' ∙ e) ∙ limit_reads scope front rest s.code b good in rw at at reach
+    behind : length rest ≤ length rest' → ⊥
+    behind le =
+        not_longer scope (front ++ b.mark ∷ []) b.back b.body b.others (words_in front') rest' (rw (append_assoc front (b.mark ∷ []) b.back) b.written)
+        (words-append-rest front (b.mark ∷ []) b.others ∙ ap (λ ws. words_in front ++ ws) (sym b.next) ∙ e) (omega (arith, ap length b.next)) none
 
-    less : length b.others < length rest'
-    less = let n : length rest ≡ suc (length b.others) = ap length b.next in omega (arith, most)
+    before : (more : List Word) → words_in front' ≡ words_in front ++ more → rest ≡ more ++ rest' → length rest' < length rest → ⊥
+    before [] fronts rests less = absurd (omega (arith, ap length rests))
+    before (v ∷ more) fronts rests less =
+        let stops = limit_reads scope front rest code b good (v ∷ more ++ words_in on.back) (ap next_of (sym rests)) in
+        let whole : words_in (front' ++ on.back) ≡ words_in front ++ (v ∷ more ++ words_in on.back)
+        = words-append front' on.back ∙ ap (λ ws. ws ++ words_in on.back) fronts ∙ append_assoc (words_in front) (v ∷ more) (words_in on.back) in
+        let left = checked_left on.body front' on.back good' (record { code = code; left = length (v ∷ more ++ words_in on.back) })
+        (sym (row_read scope on.body (front' ++ on.back) on.written) ∙ ap (read 32 scope program_form) whole ∙ stops) in
+        absurd (omega (arith, left, length-append more (words_in on.back)))
+
+    go : (length rest' ≡ length rest) ⊎ ((length rest' < length rest) ⊎ (length rest < length rest')) → ⊥
+    go (inl same) = behind (omega arith)
+    go (inr (inl less)) = let (more, fronts, rests) = split_at (words_in front) (words_in front') rest rest' e (omega arith) in before more fronts rests less
+    go (inr (inr less)) = behind (omega arith)
 
 -- The words have one first fault at most.
 pub one_fault : (scope : Scope) (words : List Word) (s t : Stop) → BreaksFirst scope words s → BreaksFirst scope words t → s ≡ t
@@ -275,38 +256,32 @@ one_fault scope words s t b b' = go b.ending b'.ending
     place : words_in b.front ++ b.rest ≡ words_in b'.front ++ b'.rest
     place = sym b.whole ∙ b'.whole
 
-    same_place : length b.rest ≡ length b'.rest → b.rest ≡ b'.rest → words_in b.front ≡ words_in b'.front
-        → s.code ≡ code_of_unexpected (words_in b.front) b.rest → t.code ≡ code_of_unexpected (words_in b'.front) b'.rest → s ≡ t
-    same_place lengths rests fronts code code' =
-        stop_same s t (code ∙ ap (λ f. code_of_unexpected f b.rest) fronts ∙ ap (code_of_unexpected (words_in b'.front)) rests ∙ sym code') (sym b.left ∙ lengths ∙ b'.left)
-
     both : s.code ≡ code_of_unexpected (words_in b.front) b.rest → GoesOn scope b.front → NothingFits scope (words_in b.front) b.rest
         → t.code ≡ code_of_unexpected (words_in b'.front) b'.rest → GoesOn scope b'.front → NothingFits scope (words_in b'.front) b'.rest
         → (length b.rest ≡ length b'.rest) ⊎ ((length b.rest < length b'.rest) ⊎ (length b'.rest < length b.rest)) → s ≡ t
     both code on none code' on' none' (inr (inl less)) = absurd (not_longer scope b.front on.back on.body b.rest (words_in b'.front) b'.rest on.written place less none')
     both code on none code' on' none' (inr (inr less)) = absurd (not_longer scope b'.front on'.back on'.body b'.rest (words_in b.front) b.rest on'.written (sym place) less none)
     both code on none code' on' none' (inl same) =
-        let r = split_at (words_in b.front) (words_in b'.front) b.rest b'.rest place (omega arith) in
-        let empty : r.0 ≡ [] = nil_from_length r.0 (omega (arith, ap length r.2, length-append r.0 b'.rest)) in
-        same_place same (r.2 ∙ ap (λ m. m ++ b'.rest) empty) (sym (append-nil (words_in b.front)) ∙ ap (λ m. words_in b.front ++ m) (sym empty) ∙ sym r.1) code code'
+        let (fronts, rests) = split_same (words_in b.front) (words_in b'.front) b.rest b'.rest place same in
+        stop_same s t (code ∙ ap (λ f. code_of_unexpected f b.rest) fronts ∙ ap (code_of_unexpected (words_in b'.front)) rests ∙ sym code') (sym b.left ∙ same ∙ b'.left)
 
-    go : Ends scope b.front b.rest s → Ends scope b'.front b'.rest t → s ≡ t
+    go : FaultEnds scope b.front b.rest s → FaultEnds scope b'.front b'.rest t → s ≡ t
     go (inl limit) (inl limit') =
-        let at = limit_reads scope b.front b.rest s.code limit b.fine in
-        let at' = limit_reads scope b'.front b'.rest t.code limit' b'.fine in
+        let at = limit_reads scope b.front b.rest s.code limit b.fine b.rest refl in
+        let at' = limit_reads scope b'.front b'.rest t.code limit' b'.fine b'.rest refl in
         let same = err-same (sym at ∙ ap (read 32 scope program_form) place ∙ at') in
         stop_same s t (ap (λ r. r.code) same) (sym b.left ∙ ap (λ r. r.left) same ∙ b'.left)
-    go (inl limit) (inr (code, on, none)) = absurd (limit_clash scope words s t b.front b'.front b.rest b'.rest b.whole b'.whole b.left b'.left b.fine b'.fine limit on none)
-    go (inr (code, on, none)) (inl limit) = absurd (limit_clash scope words t s b'.front b.front b'.rest b.rest b'.whole b.whole b'.left b.left b'.fine b.fine limit on none)
+    go (inl limit) (inr (code, on, none)) = absurd (limit_clash scope b.front b'.front b.rest b'.rest s.code place b.fine b'.fine limit on none)
+    go (inr (code, on, none)) (inl limit) = absurd (limit_clash scope b'.front b.front b'.rest b.rest t.code (sym place) b'.fine b.fine limit on none)
     go (inr (code, on, none)) (inr (code', on', none')) = both code on none code' on' none' (cases_order (length b.rest) (length b'.rest))
 
 -- Words that write a program have no fault.
 pub writes_no_fault : (scope : Scope) (words : List Word) (body : ProgramBody) (s : Stop) → Writes scope words body → BreaksFirst scope words s → ⊥
 writes_no_fault scope words body s w b = go b.rest b.whole b.ending
   where
-    go : (rest : List Word) → words ≡ words_in b.front ++ rest → Ends scope b.front rest s → ⊥
+    go : (rest : List Word) → words ≡ words_in b.front ++ rest → FaultEnds scope b.front rest s → ⊥
     go rest e (inl limit) =
-        let clash = sym (writes_read scope words body w) ∙ ap (read 32 scope program_form) e ∙ limit_reads scope b.front rest s.code limit b.fine in absurd (cc)
+        let clash = sym (writes_read scope words body w) ∙ ap (read 32 scope program_form) e ∙ limit_reads scope b.front rest s.code limit b.fine rest refl in absurd (cc)
     go [] e (inr (code, on, none)) = none body w.marks (sym w.row ∙ e ∙ append-nil (words_in b.front)) w.written
     go (v ∷ rest) e (inr (code, on, none)) = none body w.marks rest (sym w.row ∙ e) w.written
 

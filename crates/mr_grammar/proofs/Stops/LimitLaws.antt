@@ -1,64 +1,61 @@
--- Which limits the marks of a row may break: those that a judge finds, and 7.
-use Rattle.std.proofs.Common.{◌≡◌, ℕ, suc, ◌||◌, inl, inr, Bool, true, false, if◌then◌else◌, List, [], ◌∷◌, ◌++◌, None, Some, ap, ◌∙◌}
-use Rattle.mr_ast.specs.Forms.{Word, Mark, Form, Empty, Then, Cases, Either, Many, Within, Part, In, Spelling, SpelledBy, EachSpelled}
+-- No mark of a row has the code 4: that is the code of a word that cannot stand where it stands.
+use Rattle.std.proofs.Common.{List, ◌≡◌, Some, ◌++◌, ℕ, [], ◌∷◌, suc, Bool, true, ◌∙◌, ap, inl, inr, ◌||◌, None, Option, if◌then◌else◌, false, zero, ◌==◌, ◌-◌}
+use Rattle.std.specs.List.{AllByRecursion}
+use Rattle.mr_ast.specs.Forms.{Mark, EachSpelled, Spelling, SpelledBy, Empty, Then, Cases, Either, Many, Within, Part, In}
+use Rattle.mr_ast.specs.Scope.{Scope}
+use Rattle.mr_ast.specs.Spelled.{SpelledInside, SpelledPart, NoPart, form_of, Spelled}
+use Rattle.mr_ast.specs.Writing.{Kind, Meaning, Writing}
+use Rattle.mr_grammar.proofs.Walk.Fair.{AreFair}
+use Rattle.mr_grammar.proofs.Walk.FairForms.{forms_fair}
+use Rattle.mr_grammar.proofs.Walk.Rows.{all_append}
 
--- no mark of the row breaks this limit
-abbrev pub Keeps : ℕ → List Mark → Type 0
-Keeps code [] = Unit {0}
-Keeps code (m ∷ marks) = (m.flaw ≡ Some code → ⊥) × Keeps code marks
+-- no mark of the row has the code 4
+abbrev pub Keeps : List Mark → Type 0
+Keeps marks = AllByRecursion (λ m. m.flaw ≡ Some 4 → ⊥) marks
 
-keeps-append : (code : ℕ) (front back : List Mark) → Keeps code front → Keeps code back → Keeps code (front ++ back)
-keeps-append code [] back a b = b
-keeps-append code (m ∷ front) back a b = (a.0, keeps-append code front back a.1 b)
+keeps-append : (front back : List Mark) → Keeps front → Keeps back → Keeps (front ++ back)
+keeps-append front back a b = all_append (λ m. m.flaw ≡ Some 4 → ⊥) front back a b
 
-module _ {S P : Type 0} {M : P → Type 0} where
-  -- no judge of the form finds that this limit is broken
-  abbrev pub NeverBreaks : ℕ → {A : Type 0} → Form S P M A → Type 0
-  NeverBreaks code (Empty a) = Unit {0}
-  NeverBreaks code (Then f a b) = NeverBreaks code a × NeverBreaks code b
-  NeverBreaks code (Cases {I} judge form) =
-      ((scope : S) (w : Word) (i : I) → judge scope w ≡ Some (i, Some code) → ⊥) × ((i : I) → NeverBreaks code (form i))
-  NeverBreaks code (Either test a b) = NeverBreaks code a × NeverBreaks code b
-  NeverBreaks code (Many test form) = (k : ℕ) → NeverBreaks code (form k)
-  NeverBreaks code (Within over bracket a) = NeverBreaks code a
-  NeverBreaks code (Part p) = Unit {0}
-  NeverBreaks code (In into a) = NeverBreaks code a
+each_keeps : {A : Type 0} (spelled : ℕ → A → List Mark → Type 0) → ((k : ℕ) (x : A) (marks : List Mark) → spelled k x marks → Keeps marks)
+    → (k : ℕ) (xs : List A) (marks : List Mark) → EachSpelled spelled k xs marks → Keeps marks
+each_keeps spelled item k [] marks s = rw s tt
+each_keeps spelled item k (x ∷ xs) marks s = rw s.2 (keeps-append s.0 s.1 (item k x s.0 s.3) (each_keeps spelled item (suc k) xs s.1 s.4))
 
-each_keeps : {A : Type 0} (spelled : ℕ → A → List Mark → Type 0) (code : ℕ) → ((k : ℕ) (x : A) (marks : List Mark) → spelled k x marks → Keeps code marks)
-    → (k : ℕ) (xs : List A) (marks : List Mark) → EachSpelled spelled k xs marks → Keeps code marks
-each_keeps spelled code item k [] marks s = rw s tt
-each_keeps spelled code item k (x ∷ xs) marks s =
-    rw s.2 (keeps-append code s.0 s.1 (item k x s.0 s.3) (each_keeps spelled code item (suc k) xs s.1 s.4))
-
-module _ {S P : Type 0} {M : P → Type 0} where
-  -- A row that writes something in a form breaks no limit that no judge of it finds, where what stands in brackets and the parts break it neither.
-  pub spelled_keeps : (code : ℕ) → (7 ≡ code → ⊥) → (full : Bool) (inside : Spelling S P M) (part : S → (p : P) → M p → List Mark → Type 0)
-      → ((scope : S) (p : P) (x : M p) (marks : List Mark) → part scope p x marks → Keeps code marks)
-      → ((scope : S) (A : Type 0) (form : Form S P M A) (x : A) (marks : List Mark) → NeverBreaks code form → inside scope A form x marks → Keeps code marks)
-      → (scope : S) {A : Type 0} (form : Form S P M A) (x : A) (marks : List Mark) → NeverBreaks code form → SpelledBy full inside part scope form x marks
-      → Keeps code marks
-  spelled_keeps code other full inside part parts within scope (Empty a) x marks never s = rw s.1 tt
-  spelled_keeps code other full inside part parts within scope (Then f a b) z marks never s =
-      rw s.5 (keeps-append code s.2 s.3 (spelled_keeps code other full inside part parts within scope a s.0 s.2 never.0 s.6)
-      (spelled_keeps code other full inside part parts within scope b s.1 s.3 never.1 s.7))
-  spelled_keeps code other full inside part parts within scope (Cases judge form) x marks never s =
-      rw s.5 (
-        (λ e. never.0 scope s.0 s.1 (s.4 ∙ ap (λ flaw. Some (s.1, flaw)) e)),
-        spelled_keeps code other full inside part parts within scope (form s.1) x s.3 (never.1 s.1) s.6,
-      )
-  spelled_keeps code other full inside part parts within scope (Either test a b) x marks never (inl s) =
-      spelled_keeps code other full inside part parts within scope a x marks never.0 s
-  spelled_keeps code other full inside part parts within scope (Either test a b) x marks never (inr s) =
-      spelled_keeps code other full inside part parts within scope b x marks never.1 s
-  spelled_keeps code other full inside part parts within scope (Many test form) xs marks never s =
-      each_keeps (λ k. SpelledBy full inside part scope (form k)) code
-      (λ k y front t. spelled_keeps code other full inside part parts within scope (form k) y front (never k) t) 0 xs marks s
-  spelled_keeps code other full inside part parts within scope (Within {A} over bracket a) x marks never s =
-      rw s.5 (go (over || full), keeps-append code s.2 (record { word = s.1; flaw = None } ∷ []) (within scope A a x s.2 never s.6) ((λ e. absurd (cc)), tt))
+-- where what stands in brackets and the parts have none
+module _ (full : Bool) (inside : Spelling Scope Kind Meaning) (part : Scope → (kind : Kind) → Meaning kind → List Mark → Type 0)
+    (parts : (scope : Scope) (kind : Kind) (x : Meaning kind) (marks : List Mark) → part scope kind x marks → Keeps marks)
+    (within : (scope : Scope) (A : Type 0) (form : Writing A) (x : A) (marks : List Mark) → AreFair true form → inside scope A form x marks → Keeps marks) where
+  keeps_by : (outside : Bool) (scope : Scope) {A : Type 0} (form : Writing A) (x : A) (marks : List Mark) → AreFair outside form
+      → SpelledBy full inside part scope form x marks → Keeps marks
+  keeps_by outside scope (Empty a) x marks fair s = rw s.1 tt
+  keeps_by outside scope (Then f a b) z marks fair s =
+      rw s.5 (keeps-append s.2 s.3 (keeps_by outside scope a s.0 s.2 fair.0 s.6) (keeps_by outside scope b s.1 s.3 fair.1 s.7))
+  keeps_by outside scope (Cases judge form) x marks fair s =
+      rw s.5 ((λ e. fair.0.plain scope s.0 s.1 (s.4 ∙ ap (λ flaw. Some (s.1, flaw)) e)), keeps_by outside scope (form s.1) x s.3 (fair.1 s.1) s.6)
+  keeps_by outside scope (Either test a b) x marks fair (inl s) = keeps_by outside scope a x marks fair.0 s
+  keeps_by outside scope (Either test a b) x marks fair (inr s) = keeps_by outside scope b x marks fair.1 s
+  keeps_by outside scope (Many test form) xs marks fair s =
+      each_keeps (λ k. SpelledBy full inside part scope (form k)) (λ k y front t. keeps_by outside scope (form k) y front (fair k) t) 0 xs marks s
+  keeps_by outside scope (Within {A} over bracket a) x marks fair s =
+      rw s.5 (go (over || full), keeps-append s.2 (record { word = s.1; flaw = None } ∷ []) (within scope A a x s.2 fair s.6) ((λ e. absurd (cc)), tt))
     where
-      go : (closed : Bool) → (if closed then Some 7 else None) ≡ Some code → ⊥
-      go true e = other (cc)
+      go : (closed : Bool) → ◌≡◌ {A = Option ℕ} (if closed then Some 7 else None) (Some 4) → ⊥
+      go true e = absurd (cc)
       go false e = absurd (cc)
-  spelled_keeps code other full inside part parts within scope (Part p) x marks never s = parts scope p x marks s
-  spelled_keeps code other full inside part parts within scope (In into a) x marks never s =
-      spelled_keeps code other full inside part parts within (into scope) a x marks never s
+  keeps_by outside scope (Part kind) x marks fair s = parts scope kind x marks s
+  keeps_by outside scope (In into a) x marks fair s = keeps_by outside (into scope) a x marks fair.1 s
+
+keeps_inside : (height room : ℕ) (scope : Scope) (A : Type 0) (form : Writing A) (x : A) (marks : List Mark) → AreFair true form
+    → SpelledInside height room scope A form x marks → Keeps marks
+unfolding SpelledInside
+keeps_inside zero room scope A form x marks fair s = absurd s
+keeps_inside (suc height) room scope A form x marks fair s =
+    keeps_by (room == 0) (SpelledInside height (room - 1)) (SpelledPart height room)
+    (λ inner kind y front t. keeps_by (room == 0) (SpelledInside height (room - 1)) NoPart (λ i k z m absent. absurd absent)
+    (keeps_inside height (room - 1)) false inner (form_of kind) y front (forms_fair false kind) t)
+    (keeps_inside height (room - 1)) true scope form x marks fair s
+
+pub row_keeps : (height room : ℕ) (scope : Scope) {A : Type 0} (form : Writing A) (x : A) (marks : List Mark) → AreFair true form
+    → Spelled height room scope form x marks → Keeps marks
+unfolding SpelledInside
+row_keeps height room scope {A} form x marks fair s = keeps_inside (suc height) room scope A form x marks fair s

@@ -1,14 +1,32 @@
--- The pieces of the grammar can be read a word at a time, where what they are made of can.
-use Rattle.std.proofs.Common.{◌≡◌, ℕ, Bool, true, false, ◌||◌, ◌⊎◌, inl, inr, if◌then◌else◌, List, [], ◌∷◌, codes, bytes_eq, Option, Some, None, refl, ap, ◌∙◌}
-use Rattle.std.specs.List.{list_any}
+-- The words that the judges of the language take, and when its pieces can be read a word at a time.
+use Rattle.std.proofs.Common.{Bool, Option, if◌then◌else◌, None, ◌≡◌, Some, true, refl, false, List, ℕ, bytes_eq, ap, not, ◌⊎◌, inl, inr, codes, ◌^◌, ◌||◌}
+use Rattle.std.specs.List.{list_all}
+use Rattle.std.specs.Prelude.{nat_lt, option_map, is_some}
+use Rattle.std.proofs.Math.Bool.{or-true}
+use Rattle.std.proofs.lemmas.Bool.{or_cases}
 use Rattle.std.proofs.lemmas.Slice.Eq.{bytes_eq-Decides}
+use Rattle.mr_ast.specs.declared.expr.Place.TheVariants as place
 use Rattle.mr_ast.specs.declared.words.Bracket.{Bracket}
 use Rattle.mr_ast.specs.declared.words.Bracket.TheVariants.{Round, Curly, Square}
-use Rattle.mr_ast.specs.Forms.{Word, closing}
-use Rattle.mr_ast.specs.Words.{Table, looked_up}
-use Rattle.mr_ast.specs.Writing.{Writing, fine, limit, is_word, other_than, word, limited_word, giving, ◌▸◌, ◌◂◌, separated, listed, optional}
-use Rattle.mr_grammar.proofs.Walk.Conditions.{is_nullable, Begins, Stops}
-use Rattle.mr_grammar.proofs.Stops.PartLaws.{part_begins, part_stops, IsTold}
+use Rattle.mr_ast.specs.declared.words.Role.{Role}
+use Rattle.mr_ast.specs.declared.words.Role.TheVariants.{UsesLocal}
+use Rattle.mr_ast.specs.declared.words.StmtWord.{StmtWord}
+use Rattle.mr_ast.specs.declared.words.TermWord.{TermWord}
+use Rattle.mr_ast.specs.Forms.{Word, closing, Either}
+use Rattle.mr_ast.specs.ProgramGrammar.{judged_stmt, is_stmt_word, begins_stmt, judged_term, item_word_of, item_form, judged_item}
+use Rattle.mr_ast.specs.ValueGrammar.{place_from, base_form, deref_form, value_form, judged_value}
+use Rattle.mr_ast.specs.Words.{Table, looked_up, is_number, is_name, stmt_words, term_words}
+use Rattle.mr_ast.specs.Writing.{is_word, word, Writing, ◌▸◌, limited_word, giving, other_than, listed, separated, optional, judged_number, u64_form, judged_u64, limit, signed, token, judged_any, judged_positive, num_form, name_form, judged_name, ThePlace, TheValue}
+use Rattle.mr_grammar.proofs.Shape.ShapedNumbers.{number_read}
+use Rattle.mr_grammar.proofs.Stops.PartLaws.{part_begins, IsTold, part_stops}
+use Rattle.mr_grammar.proofs.Tokens.TokenRows.{table_passes}
+use Rattle.mr_grammar.proofs.Walk.Conditions.{When, Begins, is_nullable, Stops}
+use Rattle.mr_grammar.proofs.Walk.FairJudges.{fine_found}
+
+-- what a choice gives, where it gives something
+if_some : {X : Type 0} (b : Bool) (found : Option X) (x : X) → (if b then found else None) ≡ Some x → b ≡ true
+if_some true found x e = refl
+if_some false found x e = absurd (cc)
 
 -- a word that passes a test is none that fails it
 pub other_word : (test : List ℕ → Bool) (t text : List ℕ) → test t ≡ false → test text ≡ true → is_word t text ≡ false
@@ -19,93 +37,73 @@ other_word test t text fails passes = go (bytes_eq text t) refl
     go false e = refl
 
 -- a word that a table gives something for fails a test that all its words fail
-pub found_fails : {X : Type 0} (table : Table X) (test : List ℕ → Bool) → list_any (λ e. test e.0) table ≡ false
+pub found_fails : {X : Type 0} (table : Table X) (test : List ℕ → Bool) → list_all (λ e. not (test e.0)) table ≡ true
     → (text : List ℕ) (x : X) → looked_up table text ≡ Some x → test text ≡ false
-found_fails [] test none text x found = absurd (cc)
-found_fails {X} (entry ∷ table) test none text x found =
-    go (bytes_eq text entry.0) refl found (found_fails table test (or_parts (test entry.0) (list_any (λ e. test e.0) table) none).1 text x)
+found_fails table test none text x found = not_true (test text) (table_passes (λ t. not (test t)) table text x none found)
   where
-    or_parts : (a b : Bool) → a || b ≡ false → (a ≡ false) × (b ≡ false)
-    or_parts true b e = absurd (cc)
-    or_parts false b e = (refl, e)
+    not_true : (b : Bool) → not b ≡ true → b ≡ false
+    not_true true e = absurd (cc)
+    not_true false e = refl
 
-    go : (same : Bool) → bytes_eq text entry.0 ≡ same → (if same then Some entry.1 else looked_up table text) ≡ Some x
-        → (looked_up table text ≡ Some x → test text ≡ false) → test text ≡ false
-    go true e found behind = ap test ((bytes_eq-Decides text entry.0).0 e) ∙ (or_parts (test entry.0) (list_any (λ k. test k.0) table) none).0
-    go false e found behind = behind found
+-- the words that begin the first of two things, which needs a word
+pub only_first : {X : Type 0} → X ⊎ ⊥ → X
+only_first (inl x) = x
+only_first (inr e) = absurd e
 
--- the words that a judge takes who takes one word alone
-pub word_taken : (t text : List ℕ) (i : Unit {0}) (flaw : Option ℕ) → fine (if bytes_eq text t then Some tt else None) ≡ Some (i, flaw) → text ≡ t
-word_taken t text i flaw e = go (bytes_eq text t) refl e
-  where
-    go : (b : Bool) → bytes_eq text t ≡ b → fine (if b then Some tt else None) ≡ Some (i, flaw) → text ≡ t
-    go true same e = (bytes_eq-Decides text t).0 same
-    go false same e = absurd (cc)
+pub when : {T : Type 0} (b : Bool) → T → When b T
+when true t = t
+when false t = tt
 
-pub limited_taken : {I : Type 0} (t text : List ℕ) (found : I) (i : I) → (if bytes_eq text t then Some found else None) ≡ Some i → text ≡ t
-limited_taken t text found i e = go (bytes_eq text t) refl e
-  where
-    go : (b : Bool) → bytes_eq text t ≡ b → (if b then Some found else None) ≡ Some i → text ≡ t
-    go true same e = (bytes_eq-Decides text t).0 same
-    go false same e = absurd (cc)
-
-closing_same : (bracket : Bracket) → other_than (closing bracket) (closing bracket) ≡ false
-closing_same Round = refl
-closing_same Curly = refl
-closing_same Square = refl
-
--- the word, and what stands behind it
+-- a word, and what stands behind it
 pub word_begins : (t : List ℕ) (w : Word) → Begins part_begins (word t) w → w.text ≡ t
-word_begins t w b = word_taken t w.text b.1 b.2 b.3
+word_begins t w b = (bytes_eq-Decides w.text t).0 (if_some (bytes_eq w.text t) (Some tt) b.1 (fine_found _ b.1 b.2 b.3))
 
 pub behind_begins : (t : List ℕ) {A : Type 0} (a : Writing A) (w : Word) → Begins part_begins (t ▸ a) w → w.text ≡ t
-behind_begins t a w (inl b) = word_begins t w b
-behind_begins t a w (inr b) = let clash = b.0 in absurd (cc)
+behind_begins t a w b = word_begins t w (only_first b)
 
 pub limited_begins : (code : ℕ) (over : Bool) (t : List ℕ) (w : Word) → Begins part_begins (limited_word code over t) w → w.text ≡ t
-limited_begins code over t w b = limited_taken t w.text (tt, limit code over) (b.1, b.2) b.3
-
--- something behind a word, before a word, and before something else
-pub told_behind : (t : List ℕ) {A : Type 0} (a : Writing A) → IsTold a → IsTold (t ▸ a)
-told_behind t a told = ((λ i. tt), told, λ w b i. tt)
-
-pub told_before : {A : Type 0} (a : Writing A) (t : List ℕ) → IsTold a → ((w : Word) → w.text ≡ t → Stops part_stops a w)
-    → IsTold (a ◂ t)
-told_before a t told ends = (told, (λ i. tt), λ w b. ends w (word_begins t w b))
+limited_begins code over t w b = (bytes_eq-Decides w.text t).0 (if_some (bytes_eq w.text t) _ (b.1, b.2) b.3)
 
 pub giving_begins : {A B : Type 0} (f : A → B) (a : Writing A) (w : Word) → Begins part_begins (giving f a) w → Begins part_begins a w
 giving_begins f a w (inl b) = absurd b
-giving_begins f a w (inr b) = b.1
+giving_begins f a w (inr b) = b
 
--- a list in brackets
-pub separated_begins : {A : Type 0} (a : Writing A) (w : Word) → is_nullable a ≡ false → Begins part_begins (separated a) w → Begins part_begins a w
-separated_begins a w some (inl b) = b
-separated_begins a w some (inr b) = let empty = b.0 in absurd (cc)
+pub told_behind : (t : List ℕ) {A : Type 0} (a : Writing A) → IsTold a → IsTold (t ▸ a)
+told_behind t a told = ((λ i. tt), told, λ w b i. tt)
 
-pub told_separated : {A : Type 0} (a : Writing A) → IsTold a → ((w : Word) → w.text ≡ codes "," → Stops part_stops a w)
-    → IsTold (separated a)
-told_separated a told ends = (
-  told,
+closing_is : (bracket : Bracket) → (other_than (closing bracket) (closing bracket) ≡ false) × (is_word (codes ",") (closing bracket) ≡ false) × (is_word (codes "never") (closing bracket) ≡ false)
+closing_is Round = (refl, refl, refl)
+closing_is Curly = (refl, refl, refl)
+closing_is Square = (refl, refl, refl)
+
+-- a list in brackets, of things that begin with words that pass a test and end in front of each word but `never`
+pub told_list : (bracket : Bracket) {A : Type 0} (a : Writing A) (test : List ℕ → Bool) → IsTold a → is_nullable a ≡ false
+    → ((w : Word) → Begins part_begins a w → test w.text ≡ true) → test (closing bracket) ≡ false
+    → ((w : Word) → is_word (codes "never") w.text ≡ false → Stops part_stops a w) → IsTold (listed bracket (separated a))
+told_list bracket a test item some starts misses ends = (
   (
-    (λ k. told_behind (codes ",") a told),
-    (λ k. refl),
-    (λ k w b. rw (behind_begins (codes ",") a w b) refl),
-    (λ j k w b. ((λ empty i. tt), ends w (behind_begins (codes ",") a w b))),
+    (
+      item,
+      ((λ k. told_behind (codes ",") a item), (λ k. refl), (λ k w b. rw (behind_begins (codes ",") a w b) refl), λ j k w b. behind w (comma w b)),
+      λ w b. comma w b.1,
+    ),
+    tt,
+    rw some refl,
+    (λ w b. ap not (other_word test (closing bracket) w.text misses (starts w (first w b)))),
+    λ w b. absurd b,
   ),
-  λ w b. ends w (behind_begins (codes ",") a w b.1),
+  λ w e. (rw e (closing_is bracket).0, (ends w (rw e (closing_is bracket).2), (rw e (closing_is bracket).1, λ k. behind w (ends w (rw e (closing_is bracket).2)))), tt),
 )
+  where
+    comma : (w : Word) → Begins part_begins (codes "," ▸ a) w → Stops part_stops a w
+    comma w b = ends w (rw (behind_begins (codes ",") a w b) refl)
 
-pub separated_stops : {A : Type 0} (a : Writing A) (w : Word) → is_word (codes ",") w.text ≡ false → Stops part_stops a w → Stops part_stops (separated a) w
-separated_stops a w other s = ((λ empty. s), (other, λ k. ((λ empty i. tt), s)))
+    behind : (w : Word) → Stops part_stops a w → Stops part_stops (codes "," ▸ a) w
+    behind w s = (when (is_nullable a) (λ i. tt), s)
 
-pub told_listed : (bracket : Bracket) {A : Type 0} (some : Writing (List A)) → IsTold some → is_nullable some ≡ false
-    → ((w : Word) → Begins part_begins some w → is_word (closing bracket) w.text ≡ false)
-    → ((w : Word) → w.text ≡ closing bracket → Stops part_stops some w)
-    → IsTold (listed bracket some)
-told_listed bracket some told needs other ends = (
-  (told, tt, needs, (λ w b. rw (other w b) refl), λ w b. absurd b),
-  λ w e. ((λ empty. rw e (closing_same bracket)), ends w e, tt),
-)
+    first : (w : Word) → Begins part_begins (separated a) w → Begins part_begins a w
+    first w (inl b) = b
+    first w (inr b) = absurd (rw some at b)
 
 -- something that may stand behind a word
 pub told_optional : (t : List ℕ) {A : Type 0} (a : Writing A) → IsTold a → IsTold (optional t a)
@@ -114,17 +112,106 @@ told_optional t a told = (
   tt,
   refl,
   (λ w b. rw (behind_begins t a w (giving_begins (λ x. Some x) (t ▸ a) w b)) ((bytes_eq-Decides t t).1 refl)),
-  (λ w b. absurd b),
+  λ w b. absurd b,
 )
 
--- the words behind the pieces
-pub behind_stops : (t : List ℕ) {A : Type 0} (a : Writing A) (w : Word) → Stops part_stops a w → Stops part_stops (t ▸ a) w
-behind_stops t a w s = ((λ empty i. tt), s)
+pub optional_begins : (t : List ℕ) {A : Type 0} (a : Writing A) (w : Word) → Begins part_begins (optional t a) w → w.text ≡ t
+optional_begins t a w (inl b) = behind_begins t a w (giving_begins (λ x. Some x) (t ▸ a) w b)
+optional_begins t a w (inr b) = absurd b
 
-pub before_stops : {A : Type 0} (a : Writing A) (t : List ℕ) (w : Word) → Stops part_stops (a ◂ t) w
-before_stops a t w = ((λ empty. absurd (cc)), λ i. tt)
+-- ---- numbers and names
 
--- the words that begin the first of two things, which needs a word
-pub only_first : {X Y : Type 0} → X ⊎ ((false ≡ true) × Y) → X
-only_first (inl x) = x
-only_first (inr e) = let empty = e.0 in absurd (cc)
+number_taken : (judge : ℕ → Option (Option ℕ)) (w : Word) (n : ℕ) (flaw : Option ℕ) → judged_number judge w ≡ Some (n, flaw) → is_number w.text ≡ true
+number_taken judge w n flaw e = (number_read judge w n flaw e).0
+
+pub u64_begins : (w : Word) → Begins part_begins u64_form w → is_number w.text ≡ true
+unfolding judged_u64
+u64_begins w b = number_taken (λ n. Some (limit 2 (not (nat_lt n (2 ^ 64))))) w b.1 b.2 b.3
+
+-- a number, or the minus in front of it
+abbrev pub begins_num : List ℕ → Bool
+begins_num text = is_word (codes "-") text || is_number text
+
+any_begins : (w : Word) → Begins part_begins (giving (signed false) (token judged_any)) w → is_number w.text ≡ true
+unfolding judged_any
+any_begins w b = let taken = giving_begins (signed false) (token judged_any) w b in number_taken (λ n. Some None) w taken.1 taken.2 taken.3
+
+minus_begins : (w : Word) → Begins part_begins (giving (signed true) (codes "-" ▸ token judged_positive)) w → w.text ≡ codes "-"
+minus_begins w b = behind_begins (codes "-") (token judged_positive) w (giving_begins (signed true) (codes "-" ▸ token judged_positive) w b)
+
+pub num_begins : (w : Word) → Begins part_begins num_form w → begins_num w.text ≡ true
+num_begins w (inl b) = rw (minus_begins w b) refl
+num_begins w (inr b) = rw (any_begins w b) (or-true (is_word (codes "-") w.text))
+
+pub told_num : IsTold num_form
+unfolding is_number
+told_num = (
+  (tt, ((λ i. tt), (λ i. tt), λ w b i. tt), λ w b. tt),
+  (tt, (λ i. tt), λ w b. tt),
+  refl,
+  (λ w b. rw (minus_begins w b) refl),
+  λ w b. other_word is_number (codes "-") w.text refl (any_begins w b),
+)
+
+pub name_begins : (over : Bool) (role : Role) (w : Word) → Begins part_begins (name_form over role) w → is_name w.text ≡ true
+unfolding judged_name
+name_begins over role w b = if_some (is_name w.text) _ (b.1, b.2) b.3
+
+-- a place begins with `deref` or a name
+abbrev pub begins_place : List ℕ → Bool
+begins_place text = is_word (codes "deref") text || is_name text
+
+pub place_begins : (over : Bool) (w : Word) → part_begins (ThePlace over) w → begins_place w.text ≡ true
+unfolding place_from base_form deref_form
+place_begins over w b = go (only_first b)
+  where
+    go : Begins part_begins (Either (is_word (codes "deref")) (deref_form over) (giving (λ n. place.Local (record { 0 = n })) (name_form over UsesLocal))) w → begins_place w.text ≡ true
+    go (inl c) = rw (limited_begins 8 over (codes "deref") w (only_first c)) refl
+    go (inr c) = rw (name_begins over UsesLocal w (giving_begins (λ n. place.Local (record { 0 = n })) (name_form over UsesLocal) w c)) (or-true (is_word (codes "deref") w.text))
+
+-- a value begins with no closing bracket
+pub value_begins : (w : Word) → part_begins TheValue w → other_than (codes ")") w.text ≡ true
+unfolding value_form judged_value
+value_begins w b = go (bytes_eq w.text (codes ")")) refl
+  where
+    go : (same : Bool) → bytes_eq w.text (codes ")") ≡ same → not same ≡ true
+    go true e = let text = (bytes_eq-Decides w.text (codes ")")).0 e in let taken = rw text at b.3 in absurd (cc)
+    go false e = refl
+
+-- ---- the words of statements, terminators and items
+
+pub stmt_taken : (over : Bool) (w : Word) (found : StmtWord × Option ℕ) → judged_stmt over w ≡ Some found → is_stmt_word w.text ≡ true
+unfolding judged_stmt
+stmt_taken over w found e = go (looked_up stmt_words w.text) e
+  where
+    go : (entry : Option StmtWord) → option_map (λ s. (s, limit 8 over)) entry ≡ Some found → is_some entry ≡ true
+    go None e = absurd (cc)
+    go (Some s) e = refl
+
+name_no_stmt : (text : List ℕ) → is_name text ≡ true → is_stmt_word text ≡ false
+unfolding is_name
+name_no_stmt text name = go (looked_up stmt_words text) refl
+  where
+    go : (entry : Option StmtWord) → looked_up stmt_words text ≡ entry → is_some entry ≡ false
+    go None e = refl
+    go (Some s) e = let reserved = found_fails stmt_words is_name refl text s e in absurd (cc)
+
+-- a place is no statement's word, and begins a statement
+pub place_no_stmt : (text : List ℕ) → begins_place text ≡ true → (is_stmt_word text ≡ false) × (begins_stmt text ≡ true)
+place_no_stmt text e = go (or_cases (is_word (codes "deref") text) (is_name text) e)
+  where
+    go : (is_word (codes "deref") text ≡ true) ⊎ (is_name text ≡ true) → (is_stmt_word text ≡ false) × (begins_stmt text ≡ true)
+    go (inl e) = let same = (bytes_eq-Decides text (codes "deref")).0 e in rw same (refl, refl)
+    go (inr name) = (name_no_stmt text name, rw (name_no_stmt text name, name) (or-true (is_word (codes "deref") text)))
+
+pub term_no_stmt : (w : Word) (i : TermWord) (flaw : Option ℕ) → judged_term w ≡ Some (i, flaw) → begins_stmt w.text ≡ false
+unfolding judged_term is_name
+term_no_stmt w i flaw e = found_fails term_words begins_stmt refl w.text i (fine_found (looked_up term_words w.text) i flaw e)
+
+pub no_item : (t : List ℕ) → item_word_of t ≡ None → (w : Word) → Begins part_begins item_form w → is_word t w.text ≡ false
+unfolding item_form judged_item
+no_item t none w b = go (bytes_eq w.text t) refl
+  where
+    go : (same : Bool) → bytes_eq w.text t ≡ same → same ≡ false
+    go true e = let text = (bytes_eq-Decides w.text t).0 e in let taken = rw (text, none) at b.3 in absurd (cc)
+    go false e = refl

@@ -1,18 +1,18 @@
 -- A text in which blanks stand between words is read as these words.
-use Rattle.std.proofs.Common.{◌≡◌, ℕ, ◌+◌, ◌^◌, ◌≤◌, ◌&&◌, true, false, inl, inr, List, [], ◌∷◌, ◌++◌, length, map, refl, ap, sym, ◌∙◌, subst, arith, append_assoc}
-use Rattle.std.specs.Prelude.{Ok, flat_map}
-use Rattle.std.specs.List.{All, AllByRecursion, join_with_byte}
+use Rattle.std.proofs.Common.{ℕ, ◌≡◌, true, false, arith, ◌&&◌, List, [], ◌∷◌, subst, sym, refl, ◌++◌, ap, inl, inr, append_assoc, ◌∙◌, map, ◌+◌, length, ◌≤◌, ◌^◌}
+use Rattle.std.specs.List.{AllByRecursion, join_with_byte}
+use Rattle.std.specs.Prelude.{flat_map, Ok}
 use Rattle.std.proofs.lemmas.Bool.Decides.{nat_tests}
 use Rattle.std.proofs.lemmas.List.{map-append}
-use Rattle.std.proofs.lemmas.List.Elements.{recursion_from_All}
-use Rattle.mr_ast.specs.Words.{Texts}
 use Rattle.mr_ast.specs.Canon.{text_of_line, text_of_lines}
-use Rattle.mr_lex.specs.Bytes.{begins_arrow, ends_arrow, is_blank, is_digit, is_word_byte}
-use Rattle.mr_lex.specs.Pieces.{Blank, Comment, Number, Piece, Symbol, Word, IsFine, IsPiece, IsSymbol, Splits, spelling_of}
-use Rattle.mr_lex.specs.Reading.{lexed}
-use Rattle.mr_lex.specs.Tokens.{Lexeme, lexemes_at, lexemes_from}
+use Rattle.mr_ast.specs.Words.{Texts}
 use Rattle.mr_lex.proofs.ReadingLaws.{lexes_lexed}
+use Rattle.mr_lex.specs.Bytes.{is_blank, is_word_byte, is_digit, begins_arrow, ends_arrow}
+use Rattle.mr_lex.specs.Pieces.{IsSymbol, Piece, Blank, Comment, Word, Number, Symbol, Splits, IsFine, IsPiece, spelling_of}
+use Rattle.mr_lex.specs.Reading.{lexed}
+use Rattle.mr_lex.specs.Tokens.{lexemes_at, lexemes_from, Lexeme}
 use Rattle.mr_grammar.proofs.Tokens.TokenTexts.{IsTokenText}
+use Rattle.mr_grammar.proofs.Walk.Rows.{all_parts}
 
 -- ---- blanks end each token
 
@@ -92,14 +92,10 @@ line_before {text} (word ∷ next ∷ line) tokens made =
     (append_assoc (word ++ 32 ∷ rest) (10 ∷ []) text ∙ append_assoc word (32 ∷ rest) (10 ∷ text) ∙ ap (λ bytes. word ++ 32 ∷ bytes) (sym (append_assoc rest (10 ∷ []) text)))
     (token_before word 32 refl tokens.0 (line_before (next ∷ line) tokens.1 made))
 
-front_tokens : (line words : Texts) → AreTokens (line ++ words) → AreTokens line × AreTokens words
-front_tokens [] words tokens = (tt, tokens)
-front_tokens (word ∷ line) words tokens = let rest = front_tokens line words tokens.1 in ((tokens.0, rest.0), rest.1)
-
 lines_made : (lines : List Texts) → AreTokens (flat_map (λ line. line) lines) → IsMadeOf (text_of_lines lines) (flat_map (λ line. line) lines)
 lines_made [] tokens = made_of_nothing
 lines_made (line ∷ lines) tokens =
-    let (front, rest) = front_tokens line (flat_map (λ line. line) lines) tokens in line_before line front (lines_made lines rest)
+    let (front, rest) = all_parts IsTokenText line (flat_map (λ line. line) lines) tokens in line_before line front (lines_made lines rest)
 
 -- ---- what is read
 
@@ -126,8 +122,8 @@ made_is_lexed text words short made =
     )
 
 -- Lines of tokens, one space between two tokens and LF behind each line, are read as these tokens.
-pub words_are_lexed : (lines : List Texts) → All IsTokenText (flat_map (λ line. line) lines) → length (text_of_lines lines) ≤ 2 ^ 20
+pub words_are_lexed : (lines : List Texts) → AreTokens (flat_map (λ line. line) lines) → length (text_of_lines lines) ≤ 2 ^ 20
     → (lexemes : List Lexeme) × (lexed (text_of_lines lines) ≡ Ok lexemes) × (map (λ l. l.text) lexemes ≡ flat_map (λ line. line) lines)
 words_are_lexed lines tokens short =
     let words = flat_map (λ line. line) lines in
-    made_is_lexed (text_of_lines lines) words short (lines_made lines (recursion_from_All IsTokenText words tokens))
+    made_is_lexed (text_of_lines lines) words short (lines_made lines tokens)

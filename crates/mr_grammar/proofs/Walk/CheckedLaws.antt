@@ -1,9 +1,9 @@
 -- What reading gives where a row of marks writes a thing: the thing, or the first limit that the row breaks.
-use Rattle.std.proofs.Common.{◌≡◌, ℕ, List, [], ◌∷◌, ◌++◌, Option, None, Some, Result, Ok, refl, ap, sym}
+use Rattle.std.proofs.Common.{List, [], ◌∷◌, Option, ℕ, Result, None, Some, Ok, ◌++◌, ◌≡◌, refl, ap, sym}
 use Rattle.mr_ast.specs.Forms.{Word, Mark}
 use Rattle.mr_words.specs.declared.fault.Stop.{Stop}
-use Rattle.mr_grammar.specs.Reading.{stop, ◌>>=◌}
-use Rattle.mr_grammar.specs.Denotes.{IsFine, words_in}
+use Rattle.mr_grammar.specs.Denotes.{words_in, IsFine}
+use Rattle.mr_grammar.specs.Reading.{stop, Reads, read, ◌>>=◌}
 use Rattle.mr_grammar.proofs.Walk.Rows.{words-append-rest}
 
 -- the first of the words, if there is one, is such a word
@@ -23,6 +23,10 @@ unless_flawed (Some code) ws answer = stop code ws
 abbrev pub checked : {A : Type 0} → A → List Mark → List Word → Result (A × List Word) Stop
 checked x [] rest = Ok (x, rest)
 checked x (m ∷ marks) rest = unless_flawed m.flaw (m.word ∷ words_in marks ++ rest) (checked x marks rest)
+
+-- so it is read in front of all words that end it, where the row breaks no limit
+abbrev pub IsRead : {A : Type 0} → Reads A → (Word → Type 0) → A → List Mark → Type 0
+IsRead read ends x marks = (rest : List Word) → (IsFine marks → First ends rest) → read (words_in marks ++ rest) ≡ checked x marks rest
 
 -- a thing that is made of what was read
 pub checked-made : {A B : Type 0} (f : A → B) (x : A) (marks : List Mark) (rest : List Word)

@@ -1,6 +1,15 @@
 -- When a form can be read from left to right, a word at a time.
-use Rattle.std.proofs.Common.{◌≡◌, ℕ, Bool, true, false, ◌&&◌, ◌||◌, ◌⊎◌, Option, Some}
-use Rattle.mr_ast.specs.Forms.{Word, Form, Empty, Then, Cases, Either, Many, Within, Part, In, opening, closing}
+use Rattle.std.proofs.Common.{Bool, true, false, ◌&&◌, ◌||◌, ◌⊎◌, Option, ℕ, ◌≡◌, Some}
+use Rattle.mr_ast.specs.Forms.{Form, Empty, Then, Cases, Either, Many, Within, Part, In, Word, opening, closing}
+
+-- a demand where something holds, and one that it holds and more
+abbrev pub When : Bool → Type 0 → Type 0
+When true T = T
+When false T = Unit {0}
+
+abbrev pub Only : Bool → Type 0 → Type 0
+Only true T = T
+Only false T = ⊥
 
 module _ {S P : Type 0} {M : P → Type 0} where
   -- whether no word may write a thing
@@ -17,7 +26,7 @@ module _ {S P : Type 0} {M : P → Type 0} where
   -- the words with which a thing may begin; of parts another relation says it
   abbrev pub Begins : (P → Word → Type 0) → {A : Type 0} → Form S P M A → Word → Type 0
   Begins part (Empty a) w = ⊥
-  Begins part (Then f a b) w = Begins part a w ⊎ ((is_nullable a ≡ true) × Begins part b w)
+  Begins part (Then f a b) w = Begins part a w ⊎ Only (is_nullable a) (Begins part b w)
   Begins part (Cases {I} judge form) w = (scope : S) × (i : I) × (flaw : Option ℕ) × (judge scope w ≡ Some (i, flaw))
   Begins part (Either test a b) w = Begins part a w ⊎ Begins part b w
   Begins part (Many test form) w = (k : ℕ) × Begins part (form k) w
@@ -28,9 +37,9 @@ module _ {S P : Type 0} {M : P → Type 0} where
   -- the words behind a thing that no reader takes for more of it
   abbrev pub Stops : (P → Word → Type 0) → {A : Type 0} → Form S P M A → Word → Type 0
   Stops part (Empty a) w = Unit {0}
-  Stops part (Then f a b) w = (is_nullable b ≡ true → Stops part a w) × Stops part b w
+  Stops part (Then f a b) w = When (is_nullable b) (Stops part a w) × Stops part b w
   Stops part (Cases {I} judge form) w = (i : I) → Stops part (form i) w
-  Stops part (Either test a b) w = (is_nullable b ≡ true → test w.text ≡ false) × Stops part a w × Stops part b w
+  Stops part (Either test a b) w = When (is_nullable b) (test w.text ≡ false) × Stops part a w × Stops part b w
   Stops part (Many test form) w = (test w.text ≡ false) × ((k : ℕ) → Stops part (form k) w)
   Stops part (Within over bracket a) w = Unit {0}
   Stops part (Part p) w = part p w
@@ -53,15 +62,3 @@ module _ {S P : Type 0} {M : P → Type 0} where
       IsPredictive begins stops a × ((w : Word) → w.text ≡ closing bracket → Stops stops a w)
   IsPredictive begins stops (Part p) = Unit {0}
   IsPredictive begins stops (In into a) = IsPredictive begins stops a
-
-  -- each choice has a word that it takes; and whether parts may stand outside brackets
-  abbrev pub IsSampled : Bool → {A : Type 0} → Form S P M A → Type 0
-  IsSampled parts (Empty a) = Unit {0}
-  IsSampled parts (Then f a b) = IsSampled parts a × IsSampled parts b
-  IsSampled parts (Cases {I} judge form) =
-      ((scope : S) → (w : Word) × (i : I) × (flaw : Option ℕ) × (judge scope w ≡ Some (i, flaw))) × ((i : I) → IsSampled parts (form i))
-  IsSampled parts (Either test a b) = IsSampled parts a × IsSampled parts b
-  IsSampled parts (Many test form) = (k : ℕ) → IsSampled parts (form k)
-  IsSampled parts (Within over bracket a) = IsSampled true a
-  IsSampled parts (Part p) = parts ≡ true
-  IsSampled parts (In into a) = IsSampled parts a

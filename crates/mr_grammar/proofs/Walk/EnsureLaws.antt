@@ -1,11 +1,11 @@
 -- What is so of each thing that a row without a broken limit writes in a form: a law for each way to make a form.
-use Rattle.std.proofs.Common.{◌≡◌, ℕ, zero, suc, ◌-◌, ◌==◌, ◌||◌, inl, inr, Bool, true, false, if◌then◌else◌, List, [], ◌∷◌, ◌++◌, Option, None, Some, refl, ap, sym, ◌∙◌, subst}
+use Rattle.std.proofs.Common.{ℕ, List, ◌==◌, ◌-◌, ◌≡◌, suc, [], ◌∷◌, subst, sym, Some, None, ◌∙◌, ap, Bool, inl, inr, ◌||◌, false, if◌then◌else◌, ◌++◌, Option, true, refl, zero}
 use Rattle.std.specs.List.{AllByRecursion}
 use Rattle.mr_ast.specs.declared.words.Bracket.{Bracket}
-use Rattle.mr_ast.specs.Forms.{Word, Mark, Empty, Then, Cases, Either, Many, Within, Part, In, SpelledBy, EachSpelled}
+use Rattle.mr_ast.specs.Forms.{Mark, SpelledBy, EachSpelled, Empty, Then, Word, Cases, Either, Many, Within, In, Part}
 use Rattle.mr_ast.specs.Scope.{Scope}
-use Rattle.mr_ast.specs.Writing.{Judged, Kind, Meaning, Writing, giving, listed, optional, separated, token, word, ◌▪◌, ◌▸◌, ◌◂◌}
-use Rattle.mr_ast.specs.Spelled.{form_of, NoPart, SpelledInside, SpelledPart}
+use Rattle.mr_ast.specs.Spelled.{NoPart, SpelledInside, SpelledPart, form_of}
+use Rattle.mr_ast.specs.Writing.{Kind, Meaning, Writing, Judged, word, token, giving, ◌▸◌, ◌◂◌, ◌▪◌, separated, optional, listed}
 use Rattle.mr_grammar.specs.Denotes.{IsFine}
 use Rattle.mr_grammar.proofs.Walk.Rows.{fine_parts}
 
@@ -143,3 +143,10 @@ ensures_part law = record { holds = λ x marks fine s. law.holds x marks fine s 
 pub ensures_listed : {height room : ℕ} {part : Parts} {scope : Scope} {A : Type 0} {bracket : Bracket} {some : Writing (List A)} {P : A → Type 0}
     → EnsuresInside height room scope some (AllByRecursion P) → Ensures height room part scope (listed bracket some) (AllByRecursion P)
 ensures_listed law = ensures_within (λ lower e. ensures_either (law lower e) (ensures_empty tt))
+
+-- what is so at a height where it is so at all lower ones
+pub by_height {ℓ} : (P : ℕ → ℕ → Type ℓ) → ((height room : ℕ) → ((lower : ℕ) → height ≡ suc lower → P lower (room - 1)) → P height room)
+    → (height room : ℕ) → P height room
+by_height P step zero room = step zero room (λ lower e. absurd (cc))
+by_height P step (suc height) room =
+    step (suc height) room (λ lower e. (let same : height ≡ lower = cc in subst (λ h. P h (room - 1)) same (by_height P step height (room - 1))))

@@ -1,9 +1,9 @@
 -- Rows of marks: their words, and that none of them breaks a limit.
-use Rattle.std.proofs.Common.{◌≡◌, List, [], ◌∷◌, ◌++◌, None}
+use Rattle.std.proofs.Common.{List, ◌++◌, ◌≡◌, [], ◌∷◌, None}
 use Rattle.std.specs.List.{AllByRecursion}
 use Rattle.std.proofs.lemmas.List.{map-append, append_assoc}
-use Rattle.mr_ast.specs.Forms.{Word, Mark}
-use Rattle.mr_grammar.specs.Denotes.{IsFine, words_in}
+use Rattle.mr_ast.specs.Forms.{Mark, Word}
+use Rattle.mr_grammar.specs.Denotes.{words_in, IsFine}
 
 -- the words of one row behind another
 pub words-append : (front back : List Mark) → words_in (front ++ back) ≡ words_in front ++ words_in back
@@ -13,10 +13,13 @@ pub words-append-rest : (front back : List Mark) (rest : List Word)
     → words_in (front ++ back) ++ rest ≡ words_in front ++ (words_in back ++ rest)
 words-append-rest front back rest = rw (words-append front back) (append_assoc (words_in front) (words_in back) rest)
 
--- two rows that break no limit, one behind the other
+-- one list behind another, and two rows that break no limit
+pub all_append : {A : Type 0} (P : A → Type 0) (front back : List A) → AllByRecursion P front → AllByRecursion P back → AllByRecursion P (front ++ back)
+all_append P [] back a b = b
+all_append P (x ∷ front) back a b = (a.0, all_append P front back a.1 b)
+
 pub fine-append : (front back : List Mark) → IsFine front → IsFine back → IsFine (front ++ back)
-fine-append [] back a b = b
-fine-append (m ∷ front) back a b = (a.0, fine-append front back a.1 b)
+fine-append front back a b = all_append (λ m. m.flaw ≡ None) front back a b
 
 -- the parts of a list, and of a row that breaks no limit
 pub all_parts : {A : Type 0} (P : A → Type 0) (front back : List A) → AllByRecursion P (front ++ back) → AllByRecursion P front × AllByRecursion P back

@@ -9,10 +9,10 @@ returns-clause-memo c =
     let step = c.args.step.now in
     let rows = c.places_for.new.rows.items in
     record {
-      of_step = c.in_ok-copy_from.ensures.ok;
+      of_step = c.in_ok-copied.ensures;
       stamp = omega (arith, c.len-stamp.ensures, c.places_for.new.rows.ok.0);
-      asked = asked_of step rows c.as_slice-2.result.now c.in_ok-found.found.items c.as_slice-3.result.now c.in_ok-asked.asked.items c.thread-2.result
-          c.as_slice-2.ensures.value c.as_slice-3.ensures.value c.thread-2.ensures c.in_ok-asked.ensures
+      asked = asked_of step rows c.as_slice-2.result.now c.in_ok-found.found.items c.as_slice-3.result.now c.in_ok-asked.asked.items
+          c.as_slice-2.ensures.value c.as_slice-3.ensures.value c.in_ok-asked.ensures
           (λ x lt it_asks. c.in_ok-found.ensures _ x it_asks (c.in_ok-noted.ensures.marked x lt));
       noted = places_from step rows noted.items c.as_slice.result.now c.thread.result
           (c.as_slice.ensures.value ∙ c.in_ok-keys.ensures) c.thread.ensures (sym noted.ok.0 ∙ c.in_ok-noted.ensures.many) c.in_ok-noted.ensures.rows;

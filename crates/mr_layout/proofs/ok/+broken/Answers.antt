@@ -1,0 +1,108 @@
+use Rattle.std.proofs.Common.{◌≡◌, ℕ, ◌≤◌, Bool, true, false, List, Option, Some, None, length, refl, sym, ap, ◌∙◌, arith}
+use Rattle.std.specs.Prelude.{nat_lt, IfSome, is_some}
+use Rattle.std.proofs.lemmas.Result.{IfOk-weaker}
+use Rattle.mr_ast.specs.declared.types.Tag.{Tag}
+use Rattle.mr_ast.specs.declared.types.Ty.{Ty}
+use Rattle.mr_ast.specs.declared.types.Variant.{Variant}
+use Rattle.mr_layout.specs.Sizes.{size_of}
+use Rattle.mr_layout.specs.Used.{is_in_chunk, is_used, is_used_field, is_used_in}
+use Rattle.mr_layout.specs.Tables.{is_first, is_used_row, are_tags_inside, is_some_tag_mark}
+use Rattle.mr_layout.proofs.UsedLaws.{used_int, used_bool, used_raw, used_fn_ptr, used_ref, used_tuple, used_array, used_union, used_enum}
+use Rattle.mr_layout.proofs.TableLaws.{marks_alike, marks_then, marks_nowhere, marks_long, with_tags, tags_seen, variant_marks}
+use Rattle.mr_layout.proofs.ok.+broken.Goals as goal
+
+pub broken-returns-in-Int-clause-marks : goal.broken-returns-in-Int-clause-marks
+broken-returns-in-Int-clause-marks t c = λ _.
+    marks_alike (is_first c.int_bytes.result) (is_used c.args.t.now) c.args.start c.args.table.now c.mark_first.new.table
+    (λ at. ap (nat_lt at) c.int_bytes.ensures ∙ sym (ap (λ (u : Ty). is_used u at) c.in-Int.is ∙ used_int _ at)) c.mark_first.ensures
+
+pub broken-returns-in-Bool-clause-marks : goal.broken-returns-in-Bool-clause-marks
+broken-returns-in-Bool-clause-marks t c = λ _.
+    marks_alike (is_first 1) (is_used c.args.t.now) c.args.start c.args.table.now c.mark_first-in-Bool.new.table
+    (λ at. sym (ap (λ (u : Ty). is_used u at) c.in-Bool.is ∙ used_bool at)) c.mark_first-in-Bool.ensures
+
+pub broken-returns-in-Raw-clause-marks : goal.broken-returns-in-Raw-clause-marks
+broken-returns-in-Raw-clause-marks t c = λ _.
+    marks_alike (is_first 8) (is_used c.args.t.now) c.args.start c.args.table.now c.mark_first-in-Raw.new.table
+    (λ at. sym (ap (λ (u : Ty). is_used u at) c.in-Raw.is ∙ used_raw at)) c.mark_first-in-Raw.ensures
+
+pub broken-returns-in-FnPtr-clause-marks : goal.broken-returns-in-FnPtr-clause-marks
+broken-returns-in-FnPtr-clause-marks t c = λ _.
+    marks_alike (is_first 8) (is_used c.args.t.now) c.args.start c.args.table.now c.mark_first-in-FnPtr.new.table
+    (λ at. sym (ap (λ (u : Ty). is_used u at) c.in-FnPtr.is ∙ used_fn_ptr at)) c.mark_first-in-FnPtr.ensures
+
+pub broken-returns-in-Ref-clause-marks : goal.broken-returns-in-Ref-clause-marks
+broken-returns-in-Ref-clause-marks t c =
+    IfOk-weaker c.unless.result _ _
+    (λ b h e.
+    marks_alike (is_first 8) (is_used c.args.t.now) c.args.start c.args.table.now c.mark_first-in-Ref.new.table
+    (λ at. sym (ap (λ (u : Ty). is_used u at) c.in-Ref.is ∙ used_ref _ _ _ at)) c.mark_first-in-Ref.ensures)
+    c.unless.ensures.told
+
+pub broken-returns-in_ok-told-in-Tuple-clause-marks : goal.broken-returns-in_ok-told-in-Tuple-clause-marks
+broken-returns-in_ok-told-in-Tuple-clause-marks t c =
+    IfOk-weaker c.unless-in-Tuple.result _ _
+    (λ b h e.
+    marks_alike (is_used_field c.as_slice.result.now) (is_used c.args.t.now) c.args.start c.args.table.now c.first_broken_field.new.table
+    (λ at. ap (λ (fields : List (ℕ × Ty)). is_used_field fields at) c.as_slice.ensures ∙ sym (ap (λ (u : Ty). is_used u at) c.in-Tuple.is ∙ used_tuple _ _ _ at))
+    (c.in_ok-told-in-Tuple.ensures.marks (sym h ∙ e)))
+    c.unless-in-Tuple.ensures.told
+
+pub broken-returns-in_ok-told-in-Array-clause-marks : goal.broken-returns-in_ok-told-in-Array-clause-marks
+broken-returns-in_ok-told-in-Array-clause-marks t c =
+    IfOk-weaker c.unless-in-Array.result _ _
+    (λ b h e.
+    marks_alike (is_used_row c.in-Array.count c.get.result.now) (is_used c.args.t.now) c.args.start c.args.table.now c.broken_elem.new.table
+    (λ at. ap (λ (elem : Ty). is_used_row c.in-Array.count elem at) c.get.ensures ∙ sym (ap (λ (u : Ty). is_used u at) c.in-Array.is ∙ used_array _ _ at))
+    (c.in_ok-told-in-Array.ensures.marks (sym h ∙ e)))
+    c.unless-in-Array.ensures.told
+
+pub broken-returns-in_ok-told-in-Union-clause-marks : goal.broken-returns-in_ok-told-in-Union-clause-marks
+broken-returns-in_ok-told-in-Union-clause-marks t c =
+    let past : length c.args.table.now ≤ 18446744073709551615 = omega arith in
+    IfOk-weaker c.unless-in-Union.result _ _
+    (λ b h e.
+    marks_then (λ at. false) (is_in_chunk c.as_slice-in-Union-2.result.now) (is_used c.args.t.now) c.args.start c.args.table.now c.first_broken_field-in-Union.new.table c.mark_chunks.new.table
+    (λ at. ap (λ (u : Ty). is_used u at) c.in-Union.is ∙ used_union _ _ _ _ at ∙ sym (ap (λ (chunks : List (ℕ × ℕ)). is_in_chunk chunks at) c.as_slice-in-Union-2.ensures))
+    (marks_nowhere (is_used_field c.as_slice-in-Union.result.now) (λ at. false) 18446744073709551615 c.args.start c.args.table.now c.first_broken_field-in-Union.new.table past (λ at. refl)
+    (c.in_ok-told-in-Union.ensures.marks (sym h ∙ e)))
+    c.mark_chunks.ensures)
+    c.unless-in-Union.ensures.told
+
+-- what is told of an enum, where it is known
+known : (used : Option Bool) (P : Type 0) → IfSome used (λ b. P) → is_some used ≡ true → P
+known None P h e = cc
+known (Some b) P h e = h
+
+pub broken-returns-in_ok-used-in-Enum-clause-marks : goal.broken-returns-in_ok-used-in-Enum-clause-marks
+broken-returns-in_ok-used-in-Enum-clause-marks t c =
+    IfOk-weaker c.unless-in-Enum.result _ _
+    (λ b h e.
+    marks_alike (is_used_in c.as_slice-in-Enum.result.now) (is_used c.args.t.now) c.args.start c.args.table.now c.broken_variants.new.table
+    (λ at. ap (λ (variants : List Variant). is_used_in variants at) c.as_slice-in-Enum.ensures ∙ sym (ap (λ (u : Ty). is_used u at) c.in-Enum.is ∙ used_enum _ _ _ _ _ at))
+    (known c.in_ok-used-in-Enum.used _ c.in_ok-used-in-Enum.ensures.marks (sym c.is_some.ensures ∙ sym h ∙ e)))
+    c.unless-in-Enum.ensures.told
+
+pub broken_elem-returns-in-Long-clause-marks : goal.broken_elem-returns-in-Long-clause-marks
+broken_elem-returns-in-Long-clause-marks t c =
+    let row = c.in-Long.ensures (size_of c.args.elem.now) c.size.ensures in
+    IfOk-weaker c.broken-in-Long.result _ _
+    (λ told h e. marks_long c.args.count c.args.start c.args.elem.now c.args.table.now c.broken-in-Long.new.table row.0 (omega (arith, row.1, c.left.ensures)) (h e))
+    c.broken-in-Long.ensures.marks
+
+pub broken_variant-returns-clause-marks : goal.broken_variant-returns-clause-marks
+broken_variant-returns-clause-marks t c =
+    variant_marks c.args.start c.args.variant.now c.args.table.now c.put_tags.new.table c.broken-2.new.table c.put_tags-2.new.table c.put_tags.ensures.long c.put_tags-2.ensures.long
+    (λ k l. c.put_tags.ensures.values k l ∙ ap (λ (tags : List Tag). with_tags c.args.table.now c.args.start tags 0 k) c.as_slice-tags.ensures)
+    (c.in_ok-told.ensures.marks c.if-not-told.false)
+    (λ k l. c.put_tags-2.ensures.values k l ∙ ap (λ (tags : List Tag). with_tags c.broken-2.new.table c.args.start tags 1 k) c.as_slice-tags.ensures)
+
+pub broken_variant-returns-clause-used : goal.broken_variant-returns-clause-used
+broken_variant-returns-clause-used t c =
+    let inside = sym c.are_tags_inside.ensures ∙ c.if-not-are_tags_inside.false in
+    c.is_some_tag_mark-used.ensures
+    ∙ ap (is_some_tag_mark c.broken-2.new.table c.args.start) c.as_slice-tags.ensures
+    ∙ tags_seen c.args.start c.args.variant.now.tags c.args.variant.now.ty c.args.table.now c.put_tags.new.table c.broken-2.new.table c.put_tags.ensures.long
+    (ap (are_tags_inside c.args.start (length c.args.table.now)) (sym c.as_slice-tags.ensures) ∙ inside)
+    (λ k l. c.put_tags.ensures.values k l ∙ ap (λ (tags : List Tag). with_tags c.args.table.now c.args.start tags 0 k) c.as_slice-tags.ensures)
+    (c.in_ok-told.ensures.marks c.if-not-told.false)

@@ -1,0 +1,6 @@
+use Rattle.std.proofs.Common.{◌≡◌, drop}
+use Rattle.mr_layout.specs.Tables.{are_tags_inside}
+use Rattle.mr_layout.proofs.tables.are_tags_inside.Given as goal
+
+abbrev pub invariant-loop-tag : goal.invariant-loop-tag
+invariant-loop-tag l = are_tags_inside l.start l.end l.tags ≡ are_tags_inside l.start l.end (drop l.tag-index l.tags)

@@ -1,0 +1,7 @@
+use Rattle.std.proofs.Common.{drop}
+use Rattle.mr_layout.specs.Used.{is_in_chunk}
+use Rattle.mr_layout.proofs.TableLaws.{Owes}
+use Rattle.mr_layout.proofs.tables.mark_chunks.Given as goal
+
+abbrev pub invariant-loop-chunk : goal.invariant-loop-chunk
+invariant-loop-chunk l = Owes (is_in_chunk (drop l.chunk-index l.chunks)) (is_in_chunk l.chunks) l.start l.fn.table l.table

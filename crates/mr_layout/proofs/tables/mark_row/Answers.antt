@@ -1,0 +1,14 @@
+use Rattle.std.proofs.Common.{ℕ, List, subst}
+use Rattle.mr_layout.specs.Tables.{Marks, is_row_mark}
+use Rattle.mr_layout.proofs.TableLaws.{marks_row, marks_wide}
+use Rattle.mr_layout.proofs.tables.mark_row.Goals as goal
+
+pub returns-then-row-ge-WIDE-clause-marks : goal.returns-then-row-ge-WIDE-clause-marks
+returns-then-row-ge-WIDE-clause-marks c = λ _.
+    marks_row c.args.start c.args.count c.row_bytes-bytes.result c.args.row.now c.args.table.now c.mark_rows.new.table c.row_bytes-bytes.ensures c.mark_rows.ensures
+
+pub returns-in-Ok-clause-marks : goal.returns-in-Ok-clause-marks
+returns-in-Ok-clause-marks c = λ _.
+    marks_row c.args.start c.args.count c.row_bytes-bytes.result c.args.row.now c.args.table.now c.mark_rows-in-Ok.new.table c.row_bytes-bytes.ensures
+    (marks_wide c.args.start c.row_bytes-bytes.result c.args.row.now c.in-Ok.wide.items c.args.table.now c.mark_rows-in-Ok.new.table c.in-Ok.ensures.some c.in-Ok.ensures.whole c.in-Ok.ensures.same
+    (subst (λ (w : List ℕ). Marks (is_row_mark w c.row_bytes-bytes.result) c.args.start c.args.table.now c.mark_rows-in-Ok.new.table) c.as_slice.ensures.value c.mark_rows-in-Ok.ensures))

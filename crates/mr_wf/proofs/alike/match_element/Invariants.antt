@@ -1,0 +1,10 @@
+use Rattle.std.proofs.Common.{◌≡◌, drop, map}
+use Rattle.mr_wf.specs.Known.{surroundings_of, ty_of}
+use Rattle.mr_wf.specs.Listed.{HasType}
+use Rattle.mr_wf.specs.Operands.{match_element}
+use Rattle.mr_wf.proofs.alike.match_element.Given as goal
+
+abbrev pub invariant-loop-i : goal.invariant-loop-i
+invariant-loop-i l =
+    (match_element l.elem (map ty_of l.types) ≡ match_element l.elem (map ty_of (drop l.i l.types)))
+    × HasType (surroundings_of l.at) l.last l.elem

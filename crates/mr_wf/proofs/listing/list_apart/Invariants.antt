@@ -1,0 +1,5 @@
+use Rattle.mr_wf.specs.Listed.{IsWhole}
+use Rattle.mr_wf.proofs.listing.list_apart.Given as goal
+
+abbrev pub invariant-loop-variant : goal.invariant-loop-variant
+invariant-loop-variant l = IsWhole l.locals l.list.items l.whole l.t

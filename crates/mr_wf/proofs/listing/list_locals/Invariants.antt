@@ -1,0 +1,5 @@
+use Rattle.mr_wf.specs.Listed.{AreListed}
+use Rattle.mr_wf.proofs.listing.list_locals.Given as goal
+
+abbrev pub invariant-loop-n : goal.invariant-loop-n
+invariant-loop-n l = AreListed l.locals l.list.items
