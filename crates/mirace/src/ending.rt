@@ -3,7 +3,8 @@ ghost use Rattle.std.specs.Prelude.{◌≡◌, ℕ, List, IfOk, IfErr, map, stri
 ghost use Rattle.std.specs.IoError.{error_kind};
 ghost use Rattle.std.specs.Process.{exit_status};
 ghost use Rattle.mr_io.specs.Counts.{Rose};
-ghost use Rattle.mirace.specs.Ending.{IsDone, IsEnd};
+ghost use Rattle.mr_input.specs.Ending.{IsEnd};
+ghost use Rattle.mirace.specs.Ending.{IsDone};
 
 use crate::mirace;
 use mr_io::{Caller, Files, Sink, wordless, words_of};

@@ -10,6 +10,8 @@
 //! - [`drawn`]: the schedule that is drawn from a number for a program, and the report of the run under it, exactly.
 //! - [`summary`]: the summary of such a run of the program of a number, exactly.
 //! - [`listing`]: how many races there are, and each, exactly.
+//! - [`lines_of`], [`status_of`], [`refusal_of`]: of a run, what it printed, its status, and why there is no report, with
+//!   the line of the schedule's text.
 //!
 //! Each answer has a status of at most 1. Want of memory alone is free: nothing is said of when it comes.
 #![tactic(auto)]
@@ -24,5 +26,6 @@ mod traced;
 pub use drawing::{drawn, summary};
 pub use formats::Format;
 pub use mr_input::{Refusal, Written};
-pub use run::report_run;
+pub use report::{lines_of, status_of};
+pub use run::{refusal_of, report_run};
 pub use traced::listing;

@@ -6,7 +6,7 @@ use Rattle.std.proofs.lemmas.Bool.{and_parts, both_ways, cases_Bool, eq-eqb}
 use Rattle.std.proofs.lemmas.List.{get_or-take}
 use Rattle.mr_base.specs.Accesses.{conflicts, races, some_race}
 use Rattle.mr_event.specs.Footprint.{Footprint}
-use Rattle.mr_event.specs.Order.{no_step, step_at, thread_at, Edge, HappensBefore, RacePair}
+use Rattle.mr_event.specs.Order.{no_step, step_at, thread_at, Edge, HappensBefore, HasNoPartner, RacePair}
 use Rattle.mr_event.specs.Order.Edge.{in_thread, woken}
 use Rattle.mr_event.specs.Order.HappensBefore.{edge, chain}
 use Rattle.mr_event.proofs.Ordered.{Edge-before, any_weaker}
@@ -14,10 +14,10 @@ use Rattle.mr_clocks.specs.declared.keys.Key.{Key}
 use Rattle.mr_clocks.specs.declared.keys.Key.TheVariants.{Lock, Creation, Spawning, Starts, Joins, Made, Touched, Range, Wakes}
 use Rattle.mr_clocks.specs.declared.rows.Row.{Row}
 use Rattle.mr_clocks.specs.declared.rows.Link.{Link}
-use Rattle.mr_clocks.specs.Clocks.{AreLatest, AreUnder, IsUnder}
+use Rattle.mr_clocks.specs.Clocks.{AreLatest, AreUnder, IsClockOf, IsUnder}
 use Rattle.mr_clocks.specs.Keys.{Counts, asks, key_races, notes}
 use Rattle.mr_clocks.specs.Tracked.{IsNext}
-use Rattle.mr_clocks.specs.Rows.{AreAllAsked, AreRows, IsPlaceBeyond, IsPlaceSeen, row_at, step_of}
+use Rattle.mr_clocks.specs.Rows.{AreAllAsked, ArePlacesKnown, AreRows, IsPlaceBeyond, IsPlaceKnown, IsPlaceSeen, row_at, step_of}
 use Rattle.mr_clocks.proofs.Chains.{in_here, in_low, in_most}
 use Rattle.mr_clocks.proofs.Edges.{edge_back}
 use Rattle.mr_clocks.proofs.KeyLaws.{depends_share, race_shares}
@@ -82,12 +82,31 @@ seen_rows run rows links found clock j next a asked n seen = λ m low e apart.
     subst (λ (q : ℕ). IsUnder run clock q) k.is under
 
 -- each step of a row is known to a clock that knows the latest one
-pub known_place : (run : List Footprint) (rows : List Row) (links : List Link) (x j top : ℕ) (clock : List ℕ) → AreRows run j rows links → (row_at rows x).last ≡ top + 1 → step_of links top < slice_index clock (row_at rows x).thread → IsPlaceSeen run rows links x clock j
-known_place run rows links x j top clock a at known = λ inside apart it_asks none k here e counts.
+pub known_place : (run : List Footprint) (rows : List Row) (links : List Link) (x j : ℕ) (clock : List ℕ) → AreRows run j rows links → IsPlaceKnown rows links x clock → IsPlaceSeen run rows links x clock j
+known_place run rows links x j clock a known = λ inside apart it_asks none k here e counts.
     let each = a.each x inside in
-    let most = in_most links a.chained top k (row_at rows x).last at each.last here in
+    let row = row_at rows x in
+    let low = in_low links a.chained here each.last in
+    let top : ℕ = row.last - 1 in
+    let at : row.last ≡ top + 1 = omega (arith, low) in
+    let most = in_most links a.chained top k row.last at each.last here in
     let number = ap (slice_index clock) (each.steps k here).thread in
-    omega (arith, most, known, number)
+    let latest = known top inside at in
+    omega (arith, most, latest, number)
+
+-- the latest step that a clock of j knows is no partner of j
+pub known_beyond : (run : List Footprint) (rows : List Row) (links : List Link) (x j best : ℕ) (clock : List ℕ) → AreRows run j rows links → IsClockOf run clock j → IsPlaceKnown rows links x clock → IsPlaceBeyond run rows links x j best
+known_beyond run rows links x j best clock a of known = λ k inside races at pair.
+    let steps = (a.each x inside).steps k (in_here links k (row_at rows x).last at) in
+    let under : IsUnder run clock (step_of links k) = subst (λ (t : ℕ). step_of links k < slice_index clock t) (sym steps.thread) (known k inside at) in
+    absurd (pair.unordered (of.sound (step_of links k) under))
+
+-- what a clock knows, one that is not below it knows too
+pub known_stays : (run : List Footprint) (rows : List Row) (links : List Link) (x j : ℕ) (old new : List ℕ) → AreRows run j rows links → ((m : ℕ) → IsUnder run old m → IsUnder run new m) → IsPlaceKnown rows links x old → IsPlaceKnown rows links x new
+known_stays run rows links x j old new a kept known = λ k inside at.
+    let steps = (a.each x inside).steps k (in_here links k (row_at rows x).last at) in
+    let under : IsUnder run old (step_of links k) = subst (λ (t : ℕ). step_of links k < slice_index old t) (sym steps.thread) (known k inside at) in
+    subst (λ (t : ℕ). step_of links k < slice_index new t) steps.thread (kept (step_of links k) under)
 
 -- a number beyond the latest steps of the rows that j asks, where these are partners, is beyond all partners
 pub greatest_rows : (run : List Footprint) (rows : List Row) (links : List Link) (found : List ℕ) (j best : ℕ) → AreRows run j rows links → AreAllAsked (step_at run j) rows found → ((y : ℕ) → y < length found → IsPlaceBeyond run rows links (slice_index found y) j best) → (m : ℕ) → RacePair run m j → m < best
@@ -109,6 +128,12 @@ greatest_rows run rows links found j best a asked beyond m r =
     let pair = partner_up run m (step_of links top) j (of.thread ∙ h.of_thread) le of.within race r in
     let less = subst (λ (x : ℕ). IsPlaceBeyond run rows links x j best) f.2 (beyond f.0 f.1) top h.within (ap (λ (q : Key). key_races q (step_at run j)) h.of_key ∙ t.2) some pair in
     omega (arith, le, less)
+
+-- a step whose clock knows the latest step of each row that it asks has no partner
+pub known_alone : (run : List Footprint) (rows : List Row) (links : List Link) (found clock : List ℕ) (j : ℕ) → AreRows run j rows links → AreAllAsked (step_at run j) rows found → IsClockOf run clock j → ArePlacesKnown rows links found clock → HasNoPartner run j
+known_alone run rows links found clock j a asked of known = λ m r.
+    let less = greatest_rows run rows links found j 0 a asked (λ y lt. known_beyond run rows links (slice_index found y) j 0 clock a of (known y lt)) m r in
+    omega (arith, less)
 
 -- ---- the number of the step before j in its thread
 

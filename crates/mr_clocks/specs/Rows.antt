@@ -110,6 +110,17 @@ IsPlaceSeen run rows links x clock j =
     x < length rows → (row_at rows x).thread ≢ thread_at run j → IsTrue (asks (step_at run j) (row_at rows x).key)
     → key_races (row_at rows x).key (step_at run j) ≡ false → IsRowSeen run links (row_at rows x) clock j
 
+-- a clock knows the latest step of the row at a place, if there is one
+abbrev pub IsPlaceKnown : List Row → List Link → ℕ → List ℕ → Type 0
+IsPlaceKnown rows links x clock =
+    (k : ℕ) → x < length rows → (row_at rows x).last ≡ k + 1
+    → step_of links k < slice_index clock (row_at rows x).thread
+
+-- the same of the rows at all of some places
+abbrev pub ArePlacesKnown : List Row → List Link → List ℕ → List ℕ → Type 0
+ArePlacesKnown rows links found clock =
+    (y : ℕ) → y < length found → IsPlaceKnown rows links (slice_index found y) clock
+
 -- the number is beyond the latest step of the row at a place, if its key races with j and the step is a partner of j
 abbrev pub IsPlaceBeyond : List Footprint → List Row → List Link → ℕ → ℕ → ℕ → Type 0
 IsPlaceBeyond run rows links x j best =

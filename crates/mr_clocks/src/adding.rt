@@ -5,7 +5,7 @@
 
 ghost use Rattle.std.specs.Prelude.{◌≡◌, ◌≢◌, ℕ, ◌+◌, ◌<◌, ◌≤◌, ◌^◌, IfOk, OnOk, OnErr, MatchOption, length, slice_index, max, vec_len, vec_capacity};
 ghost use Rattle.mr_event.specs.Order.{step_at, thread_at, IsGreatestPartner, HasNoPartner};
-ghost use Rattle.mr_clocks.specs.Clocks.{AreClocks, AreLatest, IsMade, IsNumbered};
+ghost use Rattle.mr_clocks.specs.Clocks.{AreClocks, AreLatest, IsMade, IsNumbered, KeepsClock};
 ghost use Rattle.mr_clocks.specs.Marks.{AreMarked};
 ghost use Rattle.mr_clocks.specs.Memos.{AreMemos, IsMemoOf, memo_at};
 ghost use Rattle.mr_clocks.specs.Rows.{AreAllAsked, ArePlaces, AreRows, HaveKeysOf, IsGrown};
@@ -13,7 +13,7 @@ ghost use Rattle.mr_clocks.specs.Skips.{AreSkips};
 
 use crate::clock::Clock;
 use crate::index::Index;
-use crate::made::{clock_of, partner_by};
+use crate::made::{clock_of, is_settled, partner_by};
 use crate::memos::{Memo, look_up};
 use crate::order::thread_at;
 use crate::rows::{Link, Row, note_all};
@@ -60,6 +60,7 @@ fn reserve_links(links: &mut Vec<Link>, more: usize) -> Result<(), OutOfMemory>
 }
 
 // Takes the memory that keeping step `j` needs, with some more skips and with a link for each row in which it is noted.
+#[inline(always)]
 fn prepare(
     run: &[Footprint],
     clocks: &mut Vec<Clock>,
@@ -117,6 +118,7 @@ fn numbered(clocks: &mut Vec<Clock>, numbers: &[u32], next: u32, made: Option<Cl
 
 // Keeps the clock of step `j` and the skips that its walks leave, and notes the step in the rows at some places. The
 // memory for it is there.
+#[inline(always)]
 fn enter(
     alloc: Global,
     run: &[Footprint],
@@ -156,9 +158,9 @@ fn enter(
     store_all(alloc, skips, left);
 }
 
-// Adds step `j` of the run, which asks the rows at some places and is noted in those at others, and gives its greatest
-// partner. It takes its memory before it changes anything.
-fn add_step(
+// Adds step `j` of the run, by walks over the rows at some places, and gives its greatest partner.
+#[inline(never)]
+fn add_walked(
     alloc: Global,
     run: &[Footprint],
     clocks: &mut Vec<Clock>,
@@ -215,6 +217,7 @@ fn add_step(
         found,
         next,
         &here.clock,
+        here.alone,
         j,
     );
     let (more, noted) = (here.skips.len(), places.len());
@@ -223,6 +226,117 @@ fn add_step(
         alloc, run, clocks, numbers, rows, links, skips, next, places, j, here.clock, here.skips,
     );
     Ok(partner)
+}
+
+// Adds step `j` of the run, which keeps the clock of the step before in its thread.
+fn add_settled(
+    alloc: Global,
+    run: &[Footprint],
+    clocks: &mut Vec<Clock>,
+    numbers: &mut Vec<u32>,
+    latest: &mut Clock,
+    rows: &mut Vec<Row>,
+    links: &mut Vec<Link>,
+    skips: &mut Vec<Skip>,
+    places: &[usize],
+    j: usize,
+) -> Result<(), OutOfMemory>
+    requires within { j < length run.now }
+    requires few { length run.now < 2 ^ 32 }
+    requires clocks { AreClocks run.now j clocks.old.items numbers.old.items }
+    requires latest { AreLatest run.now j latest.old }
+    requires rows { AreRows run.now j rows.old.items links.old.items }
+    requires skips { AreSkips run.now j links.old.items skips.old.items }
+    requires places { ArePlaces (step_at run.now j) rows.old.items places.now }
+    requires keeps { KeepsClock run.now clocks.old.items numbers.old.items
+        (slice_index latest.old (thread_at run.now j)) j }
+    ensures clocks { OnOk result (AreClocks run.now (j + 1) clocks.new.items numbers.new.items) }
+    ensures latest { OnOk result (AreLatest run.now (j + 1) latest.new) }
+    ensures rows { OnOk result (AreRows run.now (j + 1) rows.new.items links.new.items) }
+    ensures skips { OnOk result (AreSkips run.now (j + 1) links.new.items skips.new.items) }
+    ensures keys { HaveKeysOf rows.old.items rows.new.items }
+    ensures err_clocks { OnErr result (clocks.new.items ≡ clocks.old.items) }
+    ensures err_numbers { OnErr result (numbers.new.items ≡ numbers.old.items) }
+    ensures err_latest { OnErr result (latest.new ≡ latest.old) }
+    ensures err_rows { OnErr result (rows.new.items ≡ rows.old.items) }
+    ensures err_links { OnErr result (links.new.items ≡ links.old.items) }
+    ensures err_skips { OnErr result (skips.new.items ≡ skips.old.items) }
+{
+    let next = latest.at(thread_at(run, j));
+    prepare(
+        run,
+        clocks,
+        numbers,
+        latest,
+        links,
+        skips,
+        0,
+        places.len(),
+        j,
+    )?;
+    let left = Vec::new(alloc);
+    enter(
+        alloc, run, clocks, numbers, rows, links, skips, next, places, j, None, left,
+    );
+    Ok(())
+}
+
+// Adds step `j` of the run, which asks the rows at some places and is noted in those at others, and gives its greatest
+// partner. It takes its memory before it changes anything.
+fn add_step(
+    alloc: Global,
+    run: &[Footprint],
+    clocks: &mut Vec<Clock>,
+    numbers: &mut Vec<u32>,
+    latest: &mut Clock,
+    rows: &mut Vec<Row>,
+    links: &mut Vec<Link>,
+    skips: &mut Vec<Skip>,
+    found: &[usize],
+    places: &[usize],
+    j: usize,
+) -> Result<Option<usize>, OutOfMemory>
+    requires within { j < length run.now }
+    requires few { length run.now < 2 ^ 32 }
+    requires clocks { AreClocks run.now j clocks.old.items numbers.old.items }
+    requires latest { AreLatest run.now j latest.old }
+    requires rows { AreRows run.now j rows.old.items links.old.items }
+    requires skips { AreSkips run.now j links.old.items skips.old.items }
+    requires found { AreAllAsked (step_at run.now j) rows.old.items found.now }
+    requires places { ArePlaces (step_at run.now j) rows.old.items places.now }
+    ensures partner { IfOk result
+        (λ o. MatchOption o (HasNoPartner run.now j) (λ i. IsGreatestPartner run.now i j)) }
+    ensures clocks { OnOk result (AreClocks run.now (j + 1) clocks.new.items numbers.new.items) }
+    ensures latest { OnOk result (AreLatest run.now (j + 1) latest.new) }
+    ensures rows { OnOk result (AreRows run.now (j + 1) rows.new.items links.new.items) }
+    ensures skips { OnOk result (AreSkips run.now (j + 1) links.new.items skips.new.items) }
+    ensures keys { HaveKeysOf rows.old.items rows.new.items }
+    ensures err_clocks { OnErr result (clocks.new.items ≡ clocks.old.items) }
+    ensures err_numbers { OnErr result (numbers.new.items ≡ numbers.old.items) }
+    ensures err_latest { OnErr result (latest.new ≡ latest.old) }
+    ensures err_rows { OnErr result (rows.new.items ≡ rows.old.items) }
+    ensures err_links { OnErr result (links.new.items ≡ links.old.items) }
+    ensures err_skips { OnErr result (skips.new.items ≡ skips.old.items) }
+{
+    let is_settled = is_settled(
+        run,
+        clocks.as_slice(),
+        numbers.as_slice(),
+        &*latest,
+        rows.as_slice(),
+        links.as_slice(),
+        found,
+        j,
+    );
+    if !is_settled {
+        return add_walked(
+            alloc, run, clocks, numbers, latest, rows, links, skips, found, places, j,
+        );
+    }
+    add_settled(
+        alloc, run, clocks, numbers, latest, rows, links, skips, places, j,
+    )?;
+    Ok(None)
 }
 
 /// Adds step `j` of the run, and gives its greatest partner. Where memory runs out, there may be rows without a step

@@ -1,14 +1,15 @@
-//! Whether a clock knows all steps of rows that an edge may lead from.
+//! Whether a clock knows the latest steps of rows, or all steps there that an edge may lead from.
 
-ghost use Rattle.std.specs.Prelude.{◌≡◌, ℕ, ◌<◌, IsTrue, length, slice_index};
-ghost use Rattle.mr_clocks.specs.Rows.{AreRows, IsPlaceSeen};
+ghost use Rattle.std.specs.Prelude.{◌≡◌, ◌≢◌, ℕ, ◌+◌, ◌<◌, IsFalse, IsTrue, length, slice_index};
+ghost use Rattle.mr_event.specs.Order.{thread_at};
+ghost use Rattle.mr_clocks.specs.Rows.{ArePlacesKnown, AreRows, IsPlaceKnown, IsPlaceSeen, row_at};
 
 use crate::clock::Clock;
 use crate::rows::{Link, Row, is_known, may_lead};
 use mr_event::Footprint;
 
-// Whether a clock knows each step from which an edge leads to `j`, of the row at a place.
-fn is_place_known(
+/// Whether a clock knows the latest step of the row at a place, or there is none.
+pub(crate) fn is_latest_known(
     run: &[Footprint],
     clock: &Clock,
     rows: &[Row],
@@ -18,7 +19,9 @@ fn is_place_known(
 ) -> bool
     requires within { j < length run.now }
     requires rows { AreRows run.now j rows.now links.now }
-    ensures { IsTrue result → IsPlaceSeen run.now rows.now links.now x clock.now j }
+    ensures known { IsTrue result → IsPlaceKnown rows.now links.now x clock.now }
+    ensures inside { IsFalse result → x < length rows.now }
+    ensures some { IsFalse result → 0 < (row_at rows.now x).last }
 {
     if x >= rows.len() {
         return true;
@@ -28,9 +31,49 @@ fn is_place_known(
         return true;
     }
     let link = links[row.last as usize - 1];
-    if is_known(clock, row, link) {
+    is_known(clock, row, link)
+}
+
+/// The same of the rows at some places.
+pub(crate) fn are_latest_known(
+    run: &[Footprint],
+    clock: &Clock,
+    rows: &[Row],
+    links: &[Link],
+    found: &[usize],
+    j: usize,
+) -> bool
+    requires within { j < length run.now }
+    requires rows { AreRows run.now j rows.now links.now }
+    ensures { IsTrue result → ArePlacesKnown rows.now links.now found.now clock.now }
+{
+    for y in 0..found.len() {
+        if !is_latest_known(run, clock, rows, links, found[y], j) {
+            return false;
+        }
+    }
+    true
+}
+
+/// Whether a clock knows each step from which an edge leads to `j`, of the row at a place.
+pub(crate) fn is_place_known(
+    run: &[Footprint],
+    clock: &Clock,
+    rows: &[Row],
+    links: &[Link],
+    x: usize,
+    j: usize,
+) -> bool
+    requires within { j < length run.now }
+    requires rows { AreRows run.now j rows.now links.now }
+    ensures seen { IsTrue result → IsPlaceSeen run.now rows.now links.now x clock.now j }
+    ensures inside { IsFalse result → x < length rows.now }
+    ensures apart { IsFalse result → (row_at rows.now x).thread ≢ thread_at run.now j }
+{
+    if is_latest_known(run, clock, rows, links, x, j) {
         return true;
     }
+    let row = rows[x];
     !may_lead(run, row, j)
 }
 

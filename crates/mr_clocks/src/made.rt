@@ -1,27 +1,35 @@
 //! The clock of a step and its greatest partner, from the clocks and the rows of the steps before it.
 
-ghost use Rattle.std.specs.Prelude.{◌≡◌, ℕ, ◌+◌, ◌<◌, ◌≤◌, ◌^◌, ◌↔◌, IfOk, IsFalse, IsTrue, MatchOption, false, length, slice_index};
+ghost use Rattle.std.specs.Prelude.{◌≡◌, ℕ, ◌+◌, ◌<◌, ◌≤◌, ◌^◌, ◌↔◌, IfOk, IsFalse, IsTrue, MatchOption, OnOk, false, length, slice_index};
 ghost use Rattle.mr_event.specs.Order.{step_at, thread_at, IsGreatestPartner, HasNoPartner, RacePair};
-ghost use Rattle.mr_clocks.specs.Clocks.{AreClocks, AreLatest, IsClockOf, IsMade, IsPart, KeepsClock, clock_at};
-ghost use Rattle.mr_clocks.specs.Rows.{AreAllAsked, AreRows};
+ghost use Rattle.mr_clocks.specs.Clocks.{AreClocks, AreLatest, IsClockOf, IsMade, IsPart, IsUnder, KeepsClock, clock_at};
+ghost use Rattle.mr_clocks.specs.Rows.{AreAllAsked, AreRows, IsPlaceKnown, IsPlaceSeen};
 ghost use Rattle.mr_clocks.specs.Skips.{AreSkips};
-ghost use Rattle.mr_clocks.specs.Tracked.{IsPartnerOr};
+ghost use Rattle.mr_clocks.specs.Tracked.{IsNext, IsPartnerOr};
 
 use crate::analysis::{is_under, lent};
 use crate::clock::Clock;
-use crate::known::are_known;
+use crate::known::{are_known, are_latest_known, is_latest_known};
 use crate::order::{are_rivals, thread_at};
 use crate::rows::{Link, Row, better, follow_place, keep_walk};
 use crate::skips::Skip;
 use mr_event::{Footprint, OutOfMemory};
 use std::alloc::Global;
 
-/// The clock that was made for a step, or none where it keeps that of the step before in its thread; and the skips that
-/// its walks over rows leave.
+/// The clock that was made for a step, or none where it keeps that of the step before in its thread; the skips that its
+/// walks over rows leave; and whether it was seen on these that the step has no partner.
 #[derive(Drop)]
 pub(crate) struct Found {
     pub clock: Option<Clock>,
     pub skips: Vec<Skip>,
+    pub alone: bool,
+}
+
+// Whether a walk over a row changed the clock, and whether the clock knows the row's latest step behind it.
+#[derive(Clone, Copy)]
+struct Walked {
+    changed: bool,
+    known: bool,
 }
 
 // With what the clock of step `j` begins: that of the step before in its thread.
@@ -53,6 +61,58 @@ fn is_either(one: bool, other: bool) -> bool
     ensures other { IsFalse result → other ≡ false }
 {
     one || other
+}
+
+fn is_both(one: bool, other: bool) -> bool
+    ensures one { IsTrue result → IsTrue one }
+    ensures other { IsTrue result → IsTrue other }
+{
+    one && other
+}
+
+// Follows the row at a place, and keeps the skip that the walk leaves.
+fn walk_place(
+    alloc: Global,
+    run: &[Footprint],
+    clocks: &[Clock],
+    numbers: &[u32],
+    rows: &[Row],
+    links: &[Link],
+    skips: &[Skip],
+    x: usize,
+    clock: &mut Clock,
+    left: &mut Vec<Skip>,
+    j: usize,
+    next: usize,
+) -> Result<Walked, OutOfMemory>
+    requires within { j < length run.now }
+    requires few { length run.now < 2 ^ 32 }
+    requires clocks { AreClocks run.now j clocks.now numbers.now }
+    requires rows { AreRows run.now j rows.now links.now }
+    requires skips { AreSkips run.now j links.now skips.now }
+    requires next { IsNext run.now j next }
+    requires part { IsPart run.now clock.old j }
+    requires left { AreSkips run.now j links.now left.old.items }
+    ensures part { OnOk result (IsPart run.now clock.new j) }
+    ensures seen { OnOk result (IsPlaceSeen run.now rows.now links.now x clock.new j) }
+    ensures kept { OnOk result ((m : ℕ) → IsUnder run.now clock.old m → IsUnder run.now clock.new m) }
+    ensures same { IfOk result (λ w. IsFalse w.changed → clock.new ≡ clock.old) }
+    ensures left { OnOk result (AreSkips run.now j links.now left.new.items) }
+    ensures known { IfOk result (λ w. IsTrue w.known → IsPlaceKnown rows.now links.now x clock.new) }
+{
+    if is_latest_known(run, &*clock, rows, links, x, j) {
+        return Ok(Walked {
+            changed: false,
+            known: true,
+        });
+    }
+    let walk = follow_place(
+        alloc, run, clocks, numbers, rows, links, skips, x, clock, j, next,
+    )?;
+    let changed = walk.changed;
+    keep_walk(left, rows, x, walk)?;
+    let known = is_latest_known(run, &*clock, rows, links, x, j);
+    Ok(Walked { changed, known })
 }
 
 // The clock, unless it didn't change and there is a step before it in its thread.
@@ -91,23 +151,26 @@ fn walked_clock(
     ensures made { IfOk result (λ f. IsMade run.now clocks.now numbers.now
         (slice_index latest.now (thread_at run.now j)) f.clock j) }
     ensures skips { IfOk result (λ f. AreSkips run.now j links.now f.skips.items) }
+    ensures alone { IfOk result (λ f. IsTrue f.alone → HasNoPartner run.now j) }
 {
     let mut clock = base(alloc, run, clocks, numbers, latest, j)?;
     let mut changed = false;
+    let mut alone = true;
     let mut left = Vec::new(alloc);
     let next = latest.at(thread_at(run, j)) as usize;
     for y in 0..found.len() {
         let x = found[y];
-        let walk = follow_place(
-            alloc, run, clocks, numbers, rows, links, skips, x, &mut clock, j, next,
+        let walked = walk_place(
+            alloc, run, clocks, numbers, rows, links, skips, x, &mut clock, &mut left, j, next,
         )?;
-        changed = is_either(changed, walk.changed);
-        keep_walk(&mut left, rows, x, walk)?;
+        changed = is_either(changed, walked.changed);
+        alone = is_both(alone, walked.known);
     }
     let made = if_new(clock, changed, next);
     Ok(Found {
         clock: made,
         skips: left,
+        alone,
     })
 }
 
@@ -138,6 +201,35 @@ fn keeps_clock(
     are_known(run, clock, rows, links, found, j)
 }
 
+/// Whether the clock of the step before in j's thread knows the latest step of each row that `j` asks. Then `j` keeps it,
+/// and has no partner.
+pub(crate) fn is_settled(
+    run: &[Footprint],
+    clocks: &[Clock],
+    numbers: &[u32],
+    latest: &Clock,
+    rows: &[Row],
+    links: &[Link],
+    found: &[usize],
+    j: usize,
+) -> bool
+    requires within { j < length run.now }
+    requires clocks { AreClocks run.now j clocks.now numbers.now }
+    requires latest { AreLatest run.now j latest.now }
+    requires rows { AreRows run.now j rows.now links.now }
+    requires found { AreAllAsked (step_at run.now j) rows.now found.now }
+    ensures keeps { IsTrue result
+        → KeepsClock run.now clocks.now numbers.now (slice_index latest.now (thread_at run.now j)) j }
+    ensures alone { IsTrue result → HasNoPartner run.now j }
+{
+    let next = latest.at(thread_at(run, j));
+    if next == 0 {
+        return false;
+    }
+    let clock = lent(clocks, numbers, next as usize - 1);
+    are_latest_known(run, clock, rows, links, found, j)
+}
+
 /// The clock of step `j`, from those of the steps before it.
 pub(crate) fn clock_of(
     alloc: Global,
@@ -161,11 +253,13 @@ pub(crate) fn clock_of(
     ensures made { IfOk result (λ f. IsMade run.now clocks.now numbers.now
         (slice_index latest.now (thread_at run.now j)) f.clock j) }
     ensures skips { IfOk result (λ f. AreSkips run.now j links.now f.skips.items) }
+    ensures alone { IfOk result (λ f. IsTrue f.alone → HasNoPartner run.now j) }
 {
     if keeps_clock(run, clocks, numbers, latest, rows, links, found, j) {
         return Ok(Found {
             clock: None,
             skips: Vec::new(alloc),
+            alone: false,
         });
     }
     walked_clock(
@@ -227,7 +321,7 @@ fn partner_of(
 }
 
 /// The greatest partner of step `j`, by the clock that was made for it, or else by that of the step before in its
-/// thread.
+/// thread; none where it is known that it has none.
 pub(crate) fn partner_by(
     run: &[Footprint],
     clocks: &[Clock],
@@ -237,6 +331,7 @@ pub(crate) fn partner_by(
     found: &[usize],
     next: u32,
     made: &Option<Clock>,
+    alone: bool,
     j: usize,
 ) -> Option<usize>
     requires within { j < length run.now }
@@ -245,8 +340,12 @@ pub(crate) fn partner_by(
     requires found { AreAllAsked (step_at run.now j) rows.now found.now }
     requires next { next ≤ j }
     requires made { IsMade run.now clocks.now numbers.now next made.now j }
+    requires alone { IsTrue alone → HasNoPartner run.now j }
     ensures { MatchOption result (HasNoPartner run.now j) (λ i. IsGreatestPartner run.now i j) }
 {
+    if alone {
+        return None;
+    }
     match made {
         Some(clock) => partner_of(run, clock, rows, links, found, j),
         None => {

@@ -20,7 +20,7 @@ use std::marker::Model;
 // these are at most. Behind them stands one memo of the last other step.
 const MEMOS: usize = 1024;
 
-const FEW: usize = 64;
+const FEW: usize = 256;
 
 /// A step, the places of the rows of other threads that it asks, and of those in which it is noted. The stamp is one
 /// more than the number of rows that there were, or 0 where there is no step.

@@ -13,6 +13,7 @@ ghost use Rattle.mr_clocks.specs.Tracked.{IsNext, IsPartnerOr};
 use crate::analysis::lent;
 use crate::clock::Clock;
 use crate::keys::{Key, may_bind, may_race};
+use crate::known::{is_latest_known, is_place_known};
 use crate::made::is_partner;
 use crate::order::edge;
 use crate::skips::{Skip, slot_of};
@@ -123,13 +124,10 @@ pub(crate) fn follow_place(
     ensures skip { IfOk result
         (λ w. IsTrue w.whole → IsSkip run.now j links.now ((row_at rows.now x).last, w.end, w.by.items)) }
 {
-    if x >= rows.len() {
+    if is_place_known(run, &*clock, rows, links, x, j) {
         return Ok(no_walk(alloc));
     }
     let row = rows[x];
-    if !may_lead(run, row, j) {
-        return Ok(no_walk(alloc));
-    }
     follow_row(
         alloc, run, clocks, numbers, links, skips, row, x, clock, j, next,
     )
@@ -200,13 +198,10 @@ pub(crate) fn better(
     ensures beyond { IsPlaceBeyond run.now rows.now links.now x j result }
     ensures grown { best ≤ result }
 {
-    if x >= rows.len() {
+    if is_latest_known(run, clock, rows, links, x, j) {
         return best;
     }
     let row = rows[x];
-    if row.last == 0 {
-        return best;
-    }
     if !may_rival(run, row.key, j) {
         return best;
     }

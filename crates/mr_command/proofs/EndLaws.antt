@@ -1,31 +1,19 @@
 -- How a command that was answered ends.
 use Rattle.std.proofs.Common.{◌≡◌, ℕ, ◌+◌, ap, ◌∙◌, sym, arith, List, ◌++◌, length, ◌⊎◌, inl, inr, refl}
 use Rattle.std.proofs.lemmas.List.{length-append}
-use Rattle.std.specs.Prelude.{Some, Option, Result, Ok, Err}
+use Rattle.std.specs.Prelude.{Some, Option, Ok, Err}
 use Rattle.mr_io.specs.Files.{Contents}
 use Rattle.mr_input.specs.declared.written.Written.{Written}
 use Rattle.mr_input.specs.declared.refusal.Refusal.{Refusal}
 use Rattle.mr_input.specs.declared.refusal.Refusal.TheVariants as refusal
 use Rattle.mr_command.specs.Command.{Command, OfNumber, OfProgram, OfSchedule, OfTrace, Run}
-use Rattle.mr_input.specs.Answer.{Answer, refused, Tells, seen}
+use Rattle.mr_input.specs.Answer.{refused, Tells, seen}
 use Rattle.mr_command.specs.Answer.{answer_of}
 use Rattle.mr_command.specs.Answering.{IsAnswered}
 use Rattle.mr_input.specs.Writing.{IsLeft, IsRefusedOrLeft, IsWritten}
 use Rattle.mr_command.specs.Outcome.{Ends, IsPossible}
 use Rattle.mr_input.specs.Refusals.{refusal_text}
-
--- a refusal is what the answer says, unless memory ran out
-refusal_told : (answer : Answer) (r : Refusal) → Tells answer (Err r) → (r ≡ refusal.Memory) ⊎ (answer ≡ refused r)
-refusal_told answer refusal.Memory h = inl refl
-refusal_told answer refusal.ReadProgram h = inr h
-refusal_told answer (refusal.Text at col code) h = inr h
-refusal_told answer refusal.ReadSchedule h = inr h
-refusal_told answer refusal.ReadTrace h = inr h
-refusal_told answer (refusal.Trace at code) h = inr h
-refusal_told answer (refusal.Schedule at code earlier) h = inr h
-
-same_refusal : {r s : Refusal} → ◌≡◌ {A = Result Written Refusal} (Err r) (Err s) → r ≡ s
-same_refusal e = cc
+use Rattle.mr_input.proofs.RefusedLaws.{left_or_written, refusal_told, same_refusal}
 
 module _ (files : Contents) (files_rose out_rose : Type 0) (old new : Option (List ℕ)) (status : ℕ) where
   pub written_ends : (command : Command) (a : Written) → IsAnswered files command files_rose (Ok a) → IsWritten (seen a) out_rose old new status
@@ -57,25 +45,9 @@ module _ (files : Contents) (files_rose out_rose : Type 0) (old new : Option (Li
   is_defined (OfTrace trace) r (inr (rose, e)) = inr (inr (rose, ap refused (same_refusal e)))
   is_defined (OfNumber number) r tells = told_defined (OfNumber number) r tells
 
-  -- nothing was written, or the line of a refusal that isn't for want of memory
-  left_or_written : (r : Refusal) → IsRefusedOrLeft r out_rose old new status → IsLeft old new status ⊎ ((r ≡ refusal.Memory → ⊥) × IsWritten (refused r) out_rose old new status)
-  left_or_written refusal.Memory h = inl h
-  left_or_written refusal.ReadProgram (inl h) = inl h
-  left_or_written refusal.ReadProgram (inr h) = inr ((λ e. absurd (cc)), h)
-  left_or_written (refusal.Text at col code) (inl h) = inl h
-  left_or_written (refusal.Text at col code) (inr h) = inr ((λ e. absurd (cc)), h)
-  left_or_written refusal.ReadSchedule (inl h) = inl h
-  left_or_written refusal.ReadSchedule (inr h) = inr ((λ e. absurd (cc)), h)
-  left_or_written refusal.ReadTrace (inl h) = inl h
-  left_or_written refusal.ReadTrace (inr h) = inr ((λ e. absurd (cc)), h)
-  left_or_written (refusal.Trace at code) (inl h) = inl h
-  left_or_written (refusal.Trace at code) (inr h) = inr ((λ e. absurd (cc)), h)
-  left_or_written (refusal.Schedule at code earlier) (inl h) = inl h
-  left_or_written (refusal.Schedule at code earlier) (inr h) = inr ((λ e. absurd (cc)), h)
-
   pub refused_ends : (command : Command) (r : Refusal) → IsAnswered files command files_rose (Err r) → IsRefusedOrLeft r out_rose old new status
       → Ends files (Some command) files_rose out_rose old new status
-  refused_ends command r answered ended = go (is_defined command r answered) (left_or_written r ended)
+  refused_ends command r answered ended = go (is_defined command r answered) (left_or_written out_rose old new status r ended)
     where
       go : (r ≡ refusal.Memory) ⊎ IsPossible files (Some command) files_rose (refused r)
           → IsLeft old new status ⊎ ((r ≡ refusal.Memory → ⊥) × IsWritten (refused r) out_rose old new status) → Ends files (Some command) files_rose out_rose old new status

@@ -32,9 +32,10 @@ use Rattle.mr_trace.specs.Reading.{races_in as races_read, races_of, trace_of}
 use Rattle.mr_trace.proofs.TraceLaws.{fault_so, trace_again}
 use Rattle.mr_input.specs.declared.refusal.Refusal.TheVariants as refusal
 use Rattle.mr_input.specs.Answer.{Answer, form_answer, form_or, refused, told}
-use Rattle.mr_input.specs.Inputs.{program_in, schedule_in, denoted, spelled, text_refusal}
+use Rattle.mr_input.specs.Inputs.{holding, program_in, schedule_in, denoted, spelled, text_refusal}
 use Rattle.mr_input.specs.Writing.{IsLeft, IsWritten}
 use Rattle.mr_input.proofs.AnswerLaws.{first_told}
+use Rattle.mr_input.proofs.RefusedLaws.{written_status}
 use Rattle.mr_answer.specs.declared.formats.Format.{Format}
 use Rattle.mr_answer.specs.declared.formats.Format.TheVariants as format
 use Rattle.mr_answer.specs.Answers.{big_answer, big_schedule, ran, legal_run, unless_broken, line_at, listed, reported}
@@ -42,7 +43,7 @@ use Rattle.mr_answer.proofs.StatusLaws.{at_most_one}
 use Rattle.mr_command.specs.declared.command.Saying.{Saying}
 use Rattle.mr_command.specs.Command.{Big, Command, NamesProgram, OfNumber, OfProgram, OfSchedule, OfTrace, Run}
 use Rattle.mr_command.specs.Answer.{races_in, read_report, said, said_answer, shown, report_under, run_answer, upgrade_answer, upgraded, answer_of}
-use Rattle.mr_command.specs.Outcome.{Ends, EndsOverTexts, RanOut, holding, IsPossible, IsUnread}
+use Rattle.mr_command.specs.Outcome.{Ends, EndsOverTexts, RanOut, IsPossible, IsUnread}
 use Rattle.mr_command.specs.Named.{AsksOf, IsSoundUnder, NamesRun, NamesBroken, NamesBrokenSchedule, NamesFault, NamesScheduleFault, KeepsResult, ReadsSchedule, RunsProgram, ReportsRun, IsTold, ShowsFirstRace, Upgrades}
 use Rattle.mr_command.specs.Traces.{NamesTraceFault, Replays}
 
@@ -206,10 +207,6 @@ unread_status files (Some (OfProgram saying program)) a h = ap (λ (b : Answer).
 unread_status files (Some (OfSchedule schedule)) a h = ap (λ (b : Answer). b.status) h
 unread_status files (Some (OfTrace trace)) a h = ap (λ (b : Answer). b.status) h
 unread_status files (Some (OfNumber number)) a h = absurd h
-
-pub written_status : (a : Answer) (rose : Type 0) (old new : Option (List ℕ)) (status : ℕ) → IsWritten a rose old new status → (status ≡ a.status) ⊎ (rose × (status ≡ 7))
-written_status a rose old new status (inl h) = inl h.0
-written_status a rose old new status (inr h) = inr (h.1, h.0)
 
 module _ (files : Contents) (command : Option Command) (files_rose out_rose : Type 0) (old new : Option (List ℕ)) (status : ℕ) where
   possible_told : (a b : Answer) → answer_of files command ≡ b → IsPossible files command files_rose a → IsWritten a out_rose old new status

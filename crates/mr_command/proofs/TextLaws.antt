@@ -1,29 +1,19 @@
 -- How a command is answered over texts that its files have, whatever they tell.
-use Rattle.std.proofs.Common.{◌≡◌, ℕ, ◌≤◌, ap, ◌∙◌, sym, subst, arith, List, [], inl, inr, codes}
+use Rattle.std.proofs.Common.{◌≡◌, ℕ, ap, ◌∙◌, sym, subst, List, [], inl, inr, codes}
 use Rattle.std.specs.Prelude.{Some, Option, Result, Ok, Err}
 use Rattle.mr_ast.specs.declared.program.Program.{Program}
-use Rattle.mr_io.specs.Counts.{Rose}
 use Rattle.mr_sched.specs.declared.version.Read.{Read}
 use Rattle.mr_wf.specs.Walk.{WellFormed}
 use Rattle.mr_input.specs.declared.written.Written.{Written}
 use Rattle.mr_answer.specs.declared.formats.Format.{Format}
 use Rattle.mr_input.specs.declared.refusal.Refusal.{Refusal}
 use Rattle.mr_input.specs.declared.refusal.Refusal.TheVariants as refusal
-use Rattle.mr_input.specs.Answer.{Answer, form_or, told, Tells}
-use Rattle.mr_input.specs.Inputs.{program_in, schedule_in, Gives, IsRead}
+use Rattle.mr_input.specs.Answer.{TellsOrUnread, form_or, told, Tells}
+use Rattle.mr_input.specs.Inputs.{program_in, schedule_in, holding, IsRead}
+use Rattle.mr_input.proofs.RefusedLaws.{refused_over, same_refusal}
 use Rattle.mr_command.specs.declared.command.Saying.{Saying}
 use Rattle.mr_command.specs.Answer.{report_under, run_answer, said_answer, upgrade_answer}
-use Rattle.mr_command.specs.Answering.{IsFormOrReport, IsReported, IsSaid, IsUpgraded, TellsOrUnread}
-use Rattle.mr_command.specs.Outcome.{holding}
-
--- a count that rose later rose in all
-pub rose_in_all : (first then last : ℕ) → first ≤ then → Rose then last → Rose first last
-rose_in_all first then last h rose = grind arith
-
--- what was read is defined
-pub was_read : {A : Type 0} (x : A) (rose : Type 0) (unread : Refusal) (defined : Result A Refusal) → IsRead rose unread (Ok x) defined → defined ≡ Ok x
-was_read x rose unread defined (inl h) = h
-was_read x rose unread defined (inr h) = let e = h.1 in absurd (cc)
+use Rattle.mr_command.specs.Answering.{IsFormOrReport, IsReported, IsSaid, IsUpgraded}
 
 -- a checked program is answered by the report
 pub checked_reported : (format : Format) (p q : Program) (file : Option (List ℕ)) (rose : Type 0) (result : Result Written Refusal) → (q ≡ p) × WellFormed p
@@ -38,19 +28,6 @@ pub run_over : (format : Format) (program schedule : List ℕ) (p : Program) (la
 run_over format program schedule p later rose result up e (inl tells) =
     inl (subst (λ r. Tells (told (run_answer format (Some schedule)) r) result) (sym e) tells)
 run_over format program schedule p later rose result up e (inr (rises, unbroken, is)) = inr (up rises, inr (p, e, unbroken, is))
-
--- what refuses a text is told
-refused_over : {A : Type 0} (say : A → Answer) (defined : Result A Refusal) (r : Refusal) → Gives {A = A} (Err r) defined → Tells (told say defined) (Err r)
-refused_over say defined refusal.Memory h = tt
-refused_over say defined refusal.ReadProgram h = ap (told say) h
-refused_over say defined (refusal.Text at col code) h = ap (told say) h
-refused_over say defined refusal.ReadSchedule h = ap (told say) h
-refused_over say defined refusal.ReadTrace h = ap (told say) h
-refused_over say defined (refusal.Trace at code) h = ap (told say) h
-refused_over say defined (refusal.Schedule at code earlier) h = ap (told say) h
-
-same_refusal : {A : Type 0} {r s : Refusal} → ◌≡◌ {A = Result A Refusal} (Err r) (Err s) → r ≡ s
-same_refusal e = cc
 
 pub unread_over : (format : Format) (program : List ℕ) (r : Refusal) (rose : Type 0) → IsRead {A = Program} rose refusal.ReadProgram (Err r) (program_in (Some program))
     → IsReported (holding program []) format (codes "program") (codes "schedule") rose (Err r)

@@ -16,6 +16,7 @@ use Rattle.mr_input.specs.declared.refusal.Refusal.TheVariants as refusal
 use Rattle.mr_input.specs.Answer.{Answer, refused}
 use Rattle.mr_input.specs.Inputs.{schedule_in, spelled, IsRead}
 use Rattle.mr_input.specs.Writing.{IsLeft, IsRefusedOrLeft, IsWritten}
+use Rattle.mr_input.proofs.InputLaws.{was_read}
 use Rattle.mr_answer.specs.declared.formats.Format.{Format}
 use Rattle.mr_answer.specs.declared.formats.Format.TheVariants as format
 use Rattle.mr_answer.specs.Spelled.{IsSpelled}
@@ -23,7 +24,6 @@ use Rattle.mr_command.specs.Command.{Command, OfNumber, OfProgram, OfSchedule, O
 use Rattle.mr_command.specs.Named.{NamesRun}
 use Rattle.mr_command.specs.Showing.{HasBytes, IsOfBytes, IsSpelledBy, Shown, Shows, ShowsBy}
 use Rattle.mr_command.proofs.HeadlineLaws.{denoted_in}
-use Rattle.mr_command.proofs.TextLaws.{was_read}
 
 -- ---- by the result
 

@@ -6,7 +6,8 @@ use Rattle.mr_input.specs.Answer.{Answer}
 use Rattle.mr_command.specs.Command.{Command}
 use Rattle.mr_command.specs.Outcome.{Ends, IsPossible}
 use Rattle.mr_command.specs.Named.{IsUnreadBecause, LacksFile}
-use Rattle.mr_command.proofs.HeadlineLaws.{ran_out, written_status}
+use Rattle.mr_input.proofs.RefusedLaws.{written_status}
+use Rattle.mr_command.proofs.HeadlineLaws.{ran_out}
 use Rattle.mr_command.proofs.StatusLaws.{lacks}
 
 module _ (command : Option Command) (files_rose out_rose : Type 0) (old new : Option (List ℕ)) (status : ℕ) (six : status ≡ 6) where

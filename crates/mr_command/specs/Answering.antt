@@ -6,18 +6,14 @@ use Rattle.mr_wf.specs.Walk.{faults_of}
 use Rattle.mr_input.specs.declared.written.Written.{Written}
 use Rattle.mr_input.specs.declared.refusal.Refusal.{Refusal}
 use Rattle.mr_input.specs.declared.refusal.Refusal.TheVariants as refusal
-use Rattle.mr_input.specs.Answer.{Answer, told, Tells}
-use Rattle.mr_input.specs.Inputs.{program_in, schedule_in}
+use Rattle.mr_input.specs.Answer.{TellsOrUnread, told, Tells}
+use Rattle.mr_input.specs.Inputs.{holding, program_in, schedule_in}
 use Rattle.mr_answer.specs.declared.formats.Format.{Format}
 use Rattle.mr_answer.specs.Answers.{big_answer, listed}
 use Rattle.mr_command.specs.Answer.{races_in, run_answer, said_answer, upgrade_answer}
 use Rattle.mr_command.specs.Command.{Command, OfNumber, OfProgram, OfSchedule, OfTrace, Run}
 use Rattle.mr_command.specs.declared.command.Saying.{Saying}
-use Rattle.mr_command.specs.Outcome.{holding, over_holding}
-
--- or the read of the schedule failed
-abbrev pub TellsOrUnread : Type 0 → Answer → Result Written Refusal → Type 0
-TellsOrUnread rose answer result = Tells answer result ⊎ (rose × (result ≡ Err refusal.ReadSchedule))
+use Rattle.mr_command.specs.Outcome.{over_holding}
 
 -- what is said of a program that is run under the schedule in a file; or, where it breaks no rule, the read of that
 -- failed

@@ -1,6 +1,6 @@
 -- The words behind the program's name.
-use Rattle.std.specs.Prelude.{◌≡◌, ℕ, ◌+◌, ◌≤◌, ◌^◌, ◌⊎◌, nat_lt, List, [], ◌∷◌, Option, None, Some, bytes_eq, codes, if◌then◌else◌}
-use Rattle.mr_ast.specs.Words.{is_number, value_of}
+use Rattle.std.specs.Prelude.{◌≡◌, ℕ, ◌+◌, ◌≤◌, ◌^◌, ◌⊎◌, List, [], ◌∷◌, Option, None, Some, bytes_eq, codes, if◌then◌else◌}
+use Rattle.mr_input.specs.Numbers.{number_below}
 use Rattle.mr_answer.specs.declared.formats.Format.{Format}
 use Rattle.mr_answer.specs.declared.formats.Format.TheVariants.{Footprints, Json, Short, Shuffled, Text}
 use Rattle.mr_command.specs.declared.command.Command.{Command as Words}
@@ -50,11 +50,6 @@ format_of word =
 abbrev pub run_of : Option Format → List ℕ → List ℕ → Option Command
 run_of None program schedule = None
 run_of (Some format) program schedule = Some (Run format program schedule)
-
--- a number in decimal below a limit
-abbrev pub number_below : ℕ → List ℕ → Option ℕ
-number_below limit word =
-    if is_number word then (if nat_lt (value_of word) limit then Some (value_of word) else None) else None
 
 -- a drawn schedule, where both numbers are within their limits
 abbrev pub auto_of : List ℕ → Option ℕ → Option ℕ → Option Command

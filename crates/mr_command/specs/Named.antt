@@ -1,6 +1,6 @@
 -- What the files that a command names hold, and what is told of it: of a program and a legal schedule of it, of texts
 -- and their first faults, and of files that were not read.
-use Rattle.std.specs.Prelude.{◌≡◌, ℕ, ◌⊎◌, List, [], ◌∷◌, Option, None, Some, Ok}
+use Rattle.std.specs.Prelude.{◌≡◌, ℕ, ◌⊎◌, List, [], ◌∷◌, Option, None, Some}
 use Rattle.mr_ast.specs.declared.program.Program.{Program}
 use Rattle.mr_io.specs.Files.{Contents}
 use Rattle.mr_lex.specs.declared.token.TextFault.{TextFault}
@@ -12,7 +12,7 @@ use Rattle.mr_sched.specs.declared.version.Version.{Version}
 use Rattle.mr_sched.specs.Versions.{Schedules}
 use Rattle.mr_start.specs.Runs.{Legal, IsSoundRun, PlacedFault, schedule_fault, steps_of}
 use Rattle.mr_wf.specs.declared.fault.FormFault.{FormFault}
-use Rattle.mr_wf.specs.Walk.{FirstBroken, WellFormed, faults_of}
+use Rattle.mr_wf.specs.Walk.{FirstBroken, WellFormed}
 use Rattle.mr_answer.specs.declared.formats.Format.{Format}
 use Rattle.mr_answer.specs.declared.formats.Format.TheVariants.{Footprints, Json, Short, Shuffled, Text}
 use Rattle.mr_command.specs.Command.{Command, NamesProgram, NamesSchedule, OfProgram, Offline, Run, Upgrade}
@@ -26,7 +26,6 @@ use Rattle.mr_shuffle.specs.Shuffled.{shuffled, shuffled_order}
 use Rattle.mr_event.specs.Order.{IsPredicted, IsRearrangement}
 use Rattle.mr_run.specs.Witnesses.{witness_by}
 use Rattle.mr_input.specs.Answer.{Answer}
-use Rattle.mr_input.specs.Inputs.{program_in}
 use Rattle.mr_answer.specs.Answers.{ran, reported, selection_of}
 use Rattle.mr_command.specs.Answer.{said, upgraded}
 use Rattle.mr_input.specs.Writing.{IsLeft, IsWhole, IsWritten}
@@ -210,10 +209,6 @@ abbrev pub HasScheduleFault : Contents → Option Command → Type 0
 HasScheduleFault files command = (line : ℕ) × (code : ℕ) × NamesScheduleFault files command line code
 
 -- ---- files that were not read
-
--- The file's text denotes a program that breaks no rule: only then its schedule is read.
-abbrev pub AsksForSchedule : Option (List ℕ) → Type 0
-AsksForSchedule file = (p : Program) × (program_in file ≡ Ok p) × (faults_of p ≡ [])
 
 -- a file that the command names isn't there
 abbrev pub LacksFile : Contents → Option Command → Type 0

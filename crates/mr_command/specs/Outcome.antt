@@ -1,11 +1,11 @@
 -- How a call ends, whatever the files and the sink do.
-use Rattle.std.specs.Prelude.{◌≡◌, ℕ, ◌⊎◌, List, [], Option, None, Some, Ok, bytes_eq, codes, if◌then◌else◌}
+use Rattle.std.specs.Prelude.{◌≡◌, ℕ, ◌⊎◌, List, [], Option, None, Some, Ok, codes}
 use Rattle.mr_ast.specs.declared.program.Program.{Program}
 use Rattle.mr_io.specs.Files.{Contents}
 use Rattle.mr_wf.specs.Walk.{faults_of}
 use Rattle.mr_input.specs.declared.refusal.Refusal.TheVariants as refusal
 use Rattle.mr_input.specs.Answer.{Answer, refused}
-use Rattle.mr_input.specs.Inputs.{program_in}
+use Rattle.mr_input.specs.Inputs.{holding, program_in}
 use Rattle.mr_input.specs.Writing.{IsWritten}
 use Rattle.mr_command.specs.Command.{Command, OfNumber, OfProgram, OfSchedule, OfTrace, Run}
 use Rattle.mr_command.specs.Answer.{answer_of, usage}
@@ -36,12 +36,6 @@ abbrev pub Ends : Contents → Option Command → Type 0 → Type 0 → Option (
 Ends files command files_rose out_rose old new status =
     RanOut command old new status
     ⊎ ((a : Answer) × IsPossible files command files_rose a × IsWritten a out_rose old new status)
-
--- two files, named `program` and `schedule`, that hold these texts
-abbrev pub holding : List ℕ → List ℕ → Contents
-holding program schedule name =
-    if bytes_eq name (codes "program") then Some program
-    else (if bytes_eq name (codes "schedule") then Some schedule else None)
 
 -- The same command over these files. A trace, which is read alone, stands where a schedule would.
 abbrev pub over_holding : Command → Command

@@ -6,13 +6,12 @@ ghost use Rattle.mr_ast.specs.declared.program.Program.{Program as AstProgram};
 ghost use Rattle.mr_ast.specs.Shaped.{Shaped};
 ghost use Rattle.mr_sched.specs.declared.version.Read.{Read as Spelled};
 ghost use Rattle.mr_wf.specs.Walk.{faults_of};
-ghost use Rattle.mr_input.specs.Answer.{IsStatus, Tells};
-ghost use Rattle.mr_input.specs.Inputs.{program_in, schedule_in, IsUnreadFault};
+ghost use Rattle.mr_input.specs.Answer.{IsStatus, Tells, TellsOrUnread};
+ghost use Rattle.mr_input.specs.Inputs.{program_in, schedule_in, AsksForSchedule, IsUnreadFault};
 ghost use Rattle.mr_answer.specs.Answers.{big_answer};
 ghost use Rattle.mr_command.specs.Answer.{canonical, report_under, said, said_answer, upgrade_answer};
-ghost use Rattle.mr_command.specs.Answering.{IsAnswered, IsAnsweredOverTexts, IsFormOrReport, IsReported, IsRunOverText, IsSaid, IsUpgraded, TellsOrUnread};
+ghost use Rattle.mr_command.specs.Answering.{IsAnswered, IsAnsweredOverTexts, IsFormOrReport, IsReported, IsRunOverText, IsSaid, IsUpgraded};
 ghost use Rattle.mr_command.specs.Command.{asked, named_files, IsBounded, IsWithin, NamesProgram, OfProgram, OfSchedule, Run};
-ghost use Rattle.mr_command.specs.Named.{AsksForSchedule};
 ghost use Rattle.mr_answer.specs.Spelled.{IsSpelled};
 ghost use Rattle.mr_command.specs.Showing.{Shows};
 

@@ -1,10 +1,11 @@
 //! The commands, and the words that ask for them.
-ghost use Rattle.std.specs.Prelude.{◌≡◌, ◌+◌, ◌<◌, ◌^◌, [], ◌∷◌, IfSome, map, string_bytes};
+ghost use Rattle.std.specs.Prelude.{◌≡◌, ◌+◌, ◌^◌, [], ◌∷◌, IfSome, map, string_bytes};
 ghost use Rattle.std.specs.Option.{option_map};
-ghost use Rattle.mr_command.specs.Command.{asked, auto_of, command_of, format_of, number_below, run_of, shuffle_of, IsBounded};
+ghost use Rattle.mr_input.specs.Numbers.{number_below};
+ghost use Rattle.mr_command.specs.Command.{asked, auto_of, command_of, format_of, run_of, shuffle_of, IsBounded};
 
 use mr_answer::Format;
-use mr_words::number_of;
+use mr_input::number_below;
 
 /// What is said of a program that breaks no rule.
 #[derive(Clone, Copy, Debug)]
@@ -54,15 +55,6 @@ fn format_of(word: &str) -> Option<Format>
         "trace" => Some(Format::Footprints),
         _ => None,
     }
-}
-
-// A number in decimal, which is below a limit.
-fn number_below(word: &str, limit: u128) -> Option<u128>
-    ensures number { result ≡ number_below limit word.now }
-    ensures below { IfSome result (λ n. n < limit) }
-{
-    let number = number_of(word.as_bytes())?;
-    if number < limit { Some(number) } else { None }
 }
 
 // `run P S`, `json P S`, `short P S` and `trace P S`.

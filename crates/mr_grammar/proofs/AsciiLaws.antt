@@ -4,8 +4,8 @@ use Rattle.std.specs.Prelude.{IsTrue}
 use Rattle.std.specs.List.{AllByRecursion}
 use Rattle.std.specs.Str.{IsAscii}
 use Rattle.std.proofs.lemmas.Bool.Decides.{nat_tests}
-use Rattle.mr_lex.specs.Bytes.{begins_arrow, ends_arrow, is_digit, is_symbol, is_word_byte}
-use Rattle.mr_lex.specs.Pieces.{ArePieces, Blank, Comment, IsSymbol, Number, Piece, Symbol, Word, row_of, spelling_of}
+use Rattle.mr_lex.specs.Bytes.{is_digit, is_word_byte}
+use Rattle.mr_lex.specs.Pieces.{ArePieces, Blank, IsSymbol, Piece, row_of, spelling_of}
 use Rattle.mr_lex.specs.Tokens.{Lexeme, Lexes, lexemes_at, lexemes_from}
 use Rattle.mr_lex.specs.declared.token.TokenKind.{TokenKind}
 use Rattle.mr_lex.specs.declared.token.TokenKind.TheVariants as kinds
@@ -14,21 +14,6 @@ use Rattle.mr_lex.proofs.ShapeLaws.{HasShape, IsShaped, lexes_shaped}
 use Rattle.mr_words.specs.Defined.{text_at}
 use Rattle.mr_words.specs.Places.{words_of}
 use Rattle.mr_words.proofs.TextLaws.{text_at_place, text_of}
-
-word_small : (b : ℕ) → is_word_byte b ≡ true → b < 128
-word_small b e = grind (arith, nat_tests)
-
-digit_small : (b : ℕ) → is_digit b ≡ true → b < 128
-digit_small b e = grind (arith, nat_tests)
-
-symbol_small : (b : ℕ) → is_symbol b ≡ true → b < 128
-symbol_small b e = grind (arith, nat_tests)
-
-begin_small : (b : ℕ) → begins_arrow b ≡ true → b < 128
-begin_small b e = grind (arith, nat_tests)
-
-end_small : (b : ℕ) → ends_arrow b ≡ true → b < 128
-end_small b e = grind (arith, nat_tests)
 
 none_ascii : IsAscii []
 none_ascii i = omega arith
@@ -43,13 +28,13 @@ all_ascii test small (b ∷ bytes) all = more_ascii b bytes (small b all.0) (all
 
 symbol_ascii : (bytes behind : List ℕ) → IsSymbol bytes behind → IsAscii bytes
 symbol_ascii [] behind symbol = none_ascii
-symbol_ascii (b ∷ []) behind symbol = more_ascii b [] (symbol_small b symbol.0) none_ascii
-symbol_ascii (b ∷ c ∷ []) behind symbol = more_ascii b (c ∷ []) (begin_small b symbol.0) (more_ascii c [] (end_small c symbol.1) none_ascii)
+symbol_ascii (b ∷ []) behind symbol = more_ascii b [] (grind (arith, nat_tests, symbol.0)) none_ascii
+symbol_ascii (b ∷ c ∷ []) behind symbol = more_ascii b (c ∷ []) (grind (arith, nat_tests, symbol.0)) (more_ascii c [] (grind (arith, nat_tests, symbol.1)) none_ascii)
 symbol_ascii (b ∷ c ∷ d ∷ bytes) behind symbol = absurd symbol
 
 shape_ascii : (kind : TokenKind) (bytes : List ℕ) → HasShape kind bytes → IsAscii bytes
-shape_ascii kinds.Word bytes shape = all_ascii is_word_byte word_small bytes shape.within
-shape_ascii kinds.Number bytes shape = all_ascii is_digit digit_small bytes shape.digits
+shape_ascii kinds.Word bytes shape = all_ascii is_word_byte (λ b e. grind (arith, nat_tests)) bytes shape.within
+shape_ascii kinds.Number bytes shape = all_ascii is_digit (λ b e. grind (arith, nat_tests)) bytes shape.digits
 shape_ascii kinds.Symbol bytes shape = symbol_ascii bytes [] shape
 
 at_ascii : (lexemes : List Lexeme) (n : ℕ) → AllByRecursion IsShaped lexemes → IsAscii (text_of (slice_get lexemes n))
@@ -65,10 +50,7 @@ texts_ascii text lexemes lexes n = subst IsAscii (text_at_place lexemes n (slice
 
 one_at_most : (text : List ℕ) (at : ℕ) (piece : Piece) → length (lexemes_at text at piece) ≤ 1
 one_at_most text at (Blank b) = omega arith
-one_at_most text at (Comment bytes) = omega arith
-one_at_most text at (Word bytes) = omega arith
-one_at_most text at (Number bytes) = omega arith
-one_at_most text at (Symbol bytes) = omega arith
+one_at_most text at _ = omega arith
 
 few_from : (text : List ℕ) (at : ℕ) (pieces : List Piece) (rest : List ℕ) → ArePieces pieces rest → length (lexemes_from text at pieces) ≤ length (row_of pieces rest)
 few_from text at [] rest each = omega arith

@@ -1,5 +1,5 @@
 -- Parsing a text gives the program that it denotes, or its first fault.
-use Rattle.std.proofs.Common.{◌≡◌, ◌⊎◌, inl, inr, ℕ, List, Result, Ok, Err, refl, ap, sym, ◌∙◌}
+use Rattle.std.proofs.Common.{◌≡◌, ◌⊎◌, inl, inr, ℕ, List, Result, Ok, Err, refl, ap, sym, ◌∙◌, subst}
 use Rattle.mr_ast.specs.declared.program.Program.{Program}
 use Rattle.mr_ast.specs.Forms.{Word}
 use Rattle.mr_ast.specs.ProgramGrammar.{ProgramBody}
@@ -14,17 +14,7 @@ use Rattle.mr_grammar.specs.Faults.{BreaksFirst, FirstFault, OfTokens, OfGrammar
 use Rattle.mr_words.specs.TextFaults.{fault_at}
 use Rattle.mr_grammar.specs.Parsing.{body_of, parsed, program_in}
 use Rattle.mr_grammar.specs.Reading.{◌>>=◌}
-use Rattle.mr_grammar.proofs.Walk.Says.{err-same}
 use Rattle.mr_grammar.proofs.Stops.BodyLaws.{body_writes, writes_body, body_breaks, breaks_body}
-
--- what comes of a step and of what follows it, and the stop of a step or of what follows it
-given : {A B : Type 0} (m : Result A Stop) (f : A → Result B Stop) (y : B) → m >>= f ≡ Ok y → (x : A) × (m ≡ Ok x) × (f x ≡ Ok y)
-given (Ok x) f y e = (x, refl, e)
-given (Err s) f y e = absurd (cc)
-
-stopped : {A B : Type 0} (m : Result A Stop) (f : A → Result B Stop) (s : Stop) → m >>= f ≡ Err s → (m ≡ Err s) ⊎ ((x : A) × (m ≡ Ok x) × (f x ≡ Err s))
-stopped (Ok x) f s e = inr (x, refl, e)
-stopped (Err t) f s e = inl (ap Err (err-same e))
 
 -- The words are in the grammar whatever their names stand for, and where names stand for what the words define, they write the program.
 pub record WritesProgram (words : List Word) (p : Program) : Type 0 where
@@ -43,20 +33,29 @@ ProgramFault words s =
 abbrev named : List Word → ProgramBody → Result Program Stop
 named words shape = body_of (knowing (definitions_in words shape)) words >>= (λ body. Ok (program_of (definitions_in words shape) body))
 
--- the program of the words
-pub program_writes : (words : List Word) (p : Program) → program_in words ≡ Ok p → WritesProgram words p
+-- the program of the words, or their first fault
+abbrev ProgramSaid : List Word → Result Program Stop → Type 0
+ProgramSaid words (Ok p) = WritesProgram words p
+ProgramSaid words (Err s) = ProgramFault words s
+
+program_said : (words : List Word) → ProgramSaid words (program_in words)
 unfolding program_in
-program_writes words p e =
-    let (shape, at, behind) = given (body_of unknown words) (named words) p e in
-    let (body, at_body, last) = given (body_of (knowing (definitions_in words shape)) words) (λ y. Ok (program_of (definitions_in words shape) y)) p behind in
-    let same : program_of (definitions_in words shape) body ≡ p = cc in
-    record {
+program_said words = first (body_of unknown words) refl
+  where
+    second : (shape : ProgramBody) → body_of unknown words ≡ Ok shape → (answer : Result ProgramBody Stop) → body_of (knowing (definitions_in words shape)) words ≡ answer
+        → ProgramSaid words (answer >>= (λ body. Ok (program_of (definitions_in words shape) body)))
+    second shape at (Ok body) at_body = record {
       shape = shape;
       grammatical = body_writes unknown words shape at;
       body = body;
       named = body_writes (knowing (definitions_in words shape)) words body at_body;
-      program = sym same;
+      program = refl;
     }
+    second shape at (Err s) stop = inr (shape, body_writes unknown words shape at, body_breaks (knowing (definitions_in words shape)) words s stop)
+
+    first : (answer : Result ProgramBody Stop) → body_of unknown words ≡ answer → ProgramSaid words (answer >>= named words)
+    first (Ok shape) at = second shape at (body_of (knowing (definitions_in words shape)) words) refl
+    first (Err s) stop = inl (body_breaks unknown words s stop)
 
 pub writes_program : (words : List Word) (p : Program) → WritesProgram words p → program_in words ≡ Ok p
 unfolding program_in
@@ -66,21 +65,6 @@ writes_program words p w =
     ∙ ap Ok (sym w.program)
 
 -- the first fault of the words
-pub program_breaks : (words : List Word) (s : Stop) → program_in words ≡ Err s → ProgramFault words s
-unfolding program_in
-program_breaks words s e = first (stopped (body_of unknown words) (named words) s e)
-  where
-    second : (shape : ProgramBody) → body_of unknown words ≡ Ok shape
-        → (body_of (knowing (definitions_in words shape)) words ≡ Err s) ⊎ ((body : ProgramBody) × (body_of (knowing (definitions_in words shape)) words ≡ Ok body)
-        × (◌≡◌ {A = Result Program Stop} (Ok (program_of (definitions_in words shape) body)) (Err s))) → ProgramFault words s
-    second shape at (inl stop) = inr (shape, body_writes unknown words shape at, body_breaks (knowing (definitions_in words shape)) words s stop)
-    second shape at (inr (body, at_body, clash)) = absurd (cc)
-
-    first : (body_of unknown words ≡ Err s) ⊎ ((shape : ProgramBody) × (body_of unknown words ≡ Ok shape) × (named words shape ≡ Err s)) → ProgramFault words s
-    first (inl stop) = inl (body_breaks unknown words s stop)
-    first (inr (shape, at, behind)) =
-        second shape at (stopped (body_of (knowing (definitions_in words shape)) words) (λ body. Ok (program_of (definitions_in words shape) body)) s behind)
-
 pub breaks_program : (words : List Word) (s : Stop) → ProgramFault words s → program_in words ≡ Err s
 unfolding program_in
 breaks_program words s (inl b) = ap (λ a. a >>= named words) (breaks_body unknown words s b)
@@ -95,25 +79,27 @@ of_program text lexemes found = elim found as (λ _. Result Program TextFault) [
 abbrev pub of_tokens : List ℕ → Result (List Lexeme) TextFault → Result Program TextFault
 of_tokens text found = elim found as (λ _. Result Program TextFault) [ Ok lexemes ↦ of_program text lexemes (program_in (words_of lexemes)) | Err fault ↦ Err fault ]
 
-program_told : (text : List ℕ) (lexemes : List Lexeme) (found : Result Program Stop) (p : Program) → of_program text lexemes found ≡ Ok p → found ≡ Ok p
-program_told text lexemes (Ok q) p e = let same : q ≡ p = cc in ap Ok same
-program_told text lexemes (Err s) p e = absurd (cc)
+-- what is parsed, or the text's first fault
+abbrev TextSaid : List ℕ → Result Program TextFault → Type 0
+TextSaid text (Ok p) = Denotes text p
+TextSaid text (Err fault) = FirstFault text fault
 
-fault_told : (text : List ℕ) (lexemes : List Lexeme) (found : Result Program Stop) (fault : TextFault) → of_program text lexemes found ≡ Err fault
-    → (s : Stop) × (found ≡ Err s) × (fault ≡ fault_at text lexemes s)
-fault_told text lexemes (Ok q) fault e = absurd (cc)
-fault_told text lexemes (Err s) fault e = let same : fault_at text lexemes s ≡ fault = cc in (s, refl, sym same)
+text_said : (text : List ℕ) → TextSaid text (parsed text)
+unfolding parsed
+text_said text = go (lexed text) refl
+  where
+    of : (lexemes : List Lexeme) → lexed text ≡ Ok lexemes → (found : Result Program Stop) → ProgramSaid (words_of lexemes) found → TextSaid text (of_program text lexemes found)
+    of lexemes at (Ok p) w = record { lexemes = lexemes; lexes = at; shape = w.shape; grammatical = w.grammatical; body = w.body; named = w.named; program = w.program }
+    of lexemes at (Err s) (inl b) = OfGrammar lexemes s at b refl
+    of lexemes at (Err s) (inr (shape, w, b)) = OfNames lexemes s shape at w b refl
+
+    go : (found : Result (List Lexeme) TextFault) → lexed text ≡ found → TextSaid text (of_tokens text found)
+    go (Ok lexemes) at = of lexemes at (program_in (words_of lexemes)) (program_said (words_of lexemes))
+    go (Err fault) at = OfTokens at
 
 -- What is parsed is what the text denotes.
 pub parsed_denotes : (text : List ℕ) (p : Program) → parsed text ≡ Ok p → Denotes text p
-unfolding parsed
-parsed_denotes text p e = go (lexed text) refl e
-  where
-    go : (found : Result (List Lexeme) TextFault) → lexed text ≡ found → of_tokens text found ≡ Ok p → Denotes text p
-    go (Ok lexemes) at e =
-        let w = program_writes (words_of lexemes) p (program_told text lexemes (program_in (words_of lexemes)) p e) in
-        record { lexemes = lexemes; lexes = at; shape = w.shape; grammatical = w.grammatical; body = w.body; named = w.named; program = w.program }
-    go (Err fault) at e = absurd (cc)
+parsed_denotes text p e = subst (TextSaid text) e (text_said text)
 
 pub denotes_parsed : (text : List ℕ) (p : Program) → Denotes text p → parsed text ≡ Ok p
 unfolding parsed
@@ -123,17 +109,7 @@ denotes_parsed text p d =
 
 -- Where nothing is parsed, the text's first fault is told.
 pub parsed_fault : (text : List ℕ) (fault : TextFault) → parsed text ≡ Err fault → FirstFault text fault
-unfolding parsed
-parsed_fault text fault e = go (lexed text) refl e
-  where
-    of : (lexemes : List Lexeme) (s : Stop) → lexed text ≡ Ok lexemes → ProgramFault (words_of lexemes) s → fault ≡ fault_at text lexemes s → FirstFault text fault
-    of lexemes s at (inl b) same = OfGrammar lexemes s at b same
-    of lexemes s at (inr (shape, w, b)) same = OfNames lexemes s shape at w b same
-
-    go : (found : Result (List Lexeme) TextFault) → lexed text ≡ found → of_tokens text found ≡ Err fault → FirstFault text fault
-    go (Ok lexemes) at e =
-        let (s, stop, same) = fault_told text lexemes (program_in (words_of lexemes)) fault e in of lexemes s at (program_breaks (words_of lexemes) s stop) same
-    go (Err other) at e = let same : other ≡ fault = cc in OfTokens (at ∙ ap Err same)
+parsed_fault text fault e = subst (TextSaid text) e (text_said text)
 
 pub fault_parsed : (text : List ℕ) (fault : TextFault) → FirstFault text fault → parsed text ≡ Err fault
 unfolding parsed

@@ -1,15 +1,35 @@
--- Texts that are too long.
-use Rattle.std.proofs.Common.{◌≡◌, ℕ, ◌+◌, ◌<◌, ◌^◌, ap, ◌∙◌, refl, arith, List, length, true}
+-- Files that are read, and texts that are too long.
+use Rattle.std.proofs.Common.{◌≡◌, ℕ, ◌+◌, ◌<◌, ◌≤◌, ◌^◌, ap, ◌∙◌, refl, subst, sym, arith, List, length, true, inl, inr}
 use Rattle.std.proofs.lemmas.Bool.Decides.{nat_tests}
 use Rattle.std.proofs.lemmas.List.{length-replicate}
-use Rattle.std.specs.Prelude.{Some, None, Option, Err, nat_lt, replicate, if◌then◌else◌}
+use Rattle.std.specs.Prelude.{Some, None, Option, Result, Ok, Err, nat_lt, replicate, if◌then◌else◌}
+use Rattle.mr_ast.specs.declared.program.Program.{Program}
+use Rattle.mr_io.specs.Counts.{Rose}
 use Rattle.mr_lex.specs.Reading.{lexed, outcome_of, split_of}
 use Rattle.mr_grammar.specs.Faults.{OfTokens}
 use Rattle.mr_grammar.specs.Parsing.{parsed}
 use Rattle.mr_grammar.proofs.ParsingLaws.{fault_parsed}
 use Rattle.mr_sched.specs.Reading.{schedule_of}
-use Rattle.mr_input.specs.Inputs.{denoted, program_in, schedule_in, spelled}
-use Rattle.mr_input.specs.declared.refusal.Refusal.TheVariants.{Schedule, Text}
+use Rattle.mr_input.specs.Inputs.{Gives, IsRead, denoted, program_in, schedule_in, spelled}
+use Rattle.mr_input.specs.declared.refusal.Refusal.{Refusal}
+use Rattle.mr_input.specs.declared.refusal.Refusal.TheVariants.{ReadProgram, Schedule, Text}
+
+-- a count that rose later rose in all
+pub rose_in_all : (first middle last : ℕ) → first ≤ middle → Rose middle last → Rose first last
+rose_in_all first middle last h rose = grind arith
+
+-- what was read is defined
+pub was_read : {A : Type 0} (x : A) (rose : Type 0) (unread : Refusal) (defined : Result A Refusal) → IsRead rose unread (Ok x) defined → defined ≡ Ok x
+was_read x rose unread defined (inl h) = h
+was_read x rose unread defined (inr h) = let e = h.1 in absurd (cc)
+
+-- the program in a file is that of its text
+pub of_its_text : (rose : Type 0) (result : Result Program Refusal) (file : Option (List ℕ)) (text seen : List ℕ) → file ≡ Some text → seen ≡ text
+    → Gives result (denoted (parsed seen)) → IsRead rose ReadProgram result (program_in file)
+of_its_text rose result file text seen there same gives =
+    inl (subst (λ (d : Result Program Refusal). Gives result d) (ap (λ (xs : List ℕ). program_in (Some xs)) same ∙ sym (ap program_in there)) gives)
+
+-- ---- texts that are too long
 
 pub less : (m n : ℕ) → m < n → nat_lt m n ≡ true
 less m n h = grind (arith, nat_tests)

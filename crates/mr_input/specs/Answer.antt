@@ -54,3 +54,7 @@ Tells answer (Err refusal.ReadSchedule) = answer ≡ refused refusal.ReadSchedul
 Tells answer (Err refusal.ReadTrace) = answer ≡ refused refusal.ReadTrace
 Tells answer (Err (refusal.Trace at code)) = answer ≡ refused (refusal.Trace at code)
 Tells answer (Err (refusal.Schedule at code earlier)) = answer ≡ refused (refusal.Schedule at code earlier)
+
+-- or the read of the schedule failed
+abbrev pub TellsOrUnread : Type 0 → Answer → Result Written Refusal → Type 0
+TellsOrUnread rose answer result = Tells answer result ⊎ (rose × (result ≡ Err refusal.ReadSchedule))

@@ -1,5 +1,7 @@
 pub mod Answer
+pub mod Ending
 pub mod Form
 pub mod Inputs
+pub mod Numbers
 pub mod Refusals
 pub mod Writing

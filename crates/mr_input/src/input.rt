@@ -1,11 +1,12 @@
 //! The program and the schedule that a command names, read from files.
-ghost use Rattle.std.specs.Prelude.{◌≡◌, ℕ, ◌+◌, ◌^◌, ◌≤◌, List, None, Some, Err, length, IfOk};
+ghost use Rattle.std.specs.Prelude.{◌≡◌, ℕ, ◌+◌, ◌^◌, ◌≤◌, List, None, Some, Err, length, IfErr, IfOk, OnOk};
 ghost use Rattle.mr_ast.specs.Shaped.{Shaped};
 ghost use Rattle.mr_io.specs.Counts.{Rose};
 ghost use Rattle.mr_io.specs.Files.{Contents};
 ghost use Rattle.mr_grammar.specs.Parsing.{parsed};
 ghost use Rattle.mr_sched.specs.Reading.{schedule_of};
-ghost use Rattle.mr_input.specs.Inputs.{denoted, program_in, schedule_in, spelled, text_refusal, Gives, IsRead, IsUnreadFault};
+ghost use Rattle.mr_input.specs.Inputs.{denoted, program_in, schedule_in, spelled, text_refusal};
+ghost use Rattle.mr_input.specs.Inputs.{Gives, IsNoText, IsRead, IsUnreadFault};
 ghost use Rattle.mr_input.specs.declared.refusal.Refusal.TheVariants.{ReadProgram, ReadSchedule};
 
 use crate::refusal::Refusal;
@@ -21,6 +22,35 @@ const MAX_PROGRAM: u64 = 1 << 20;
 
 const MAX_SCHEDULE: u64 = 1 << 26;
 
+/// The text of a program in a file, which is no longer than a program's may be.
+pub fn read_text<F: Files>(alloc: Global, files: &mut F, name: &str) -> Result<Vec<u8>, Refusal>
+    ensures same { F.told files.new ≡ F.told files.old }
+    ensures reads { F.reads files.new ≤ F.reads files.old + 1 }
+    ensures faults { F.faults files.old ≤ F.faults files.new }
+    ensures memory { result ≡ Err Refusal.Memory → F.faults files.new ≡ F.faults files.old }
+    ensures quiet { OnOk result (F.faults files.new ≡ F.faults files.old) }
+    ensures whole { (contents : Contents) → F.told files.old ≡ Some contents
+        → IfOk result (λ text. contents name.now ≡ Some text.items) }
+    ensures refused { (contents : Contents) → F.told files.old ≡ Some contents
+        → IfErr result (IsNoText (Rose (F.faults files.old) (F.faults files.new)) (contents name.now)) }
+    ensures texts { F.told files.old ≡ None → IfErr result (λ refusal. (bytes : List ℕ)
+        × IsNoText (Rose (F.faults files.old) (F.faults files.new)) (Some bytes) refusal) }
+    ensures untold { F.told files.old ≡ None → IsUnreadFault result
+        → Rose (F.faults files.old) (F.faults files.new) }
+{
+    let mut text = Vec::new(alloc);
+    match files.read(alloc, name, MAX_PROGRAM, &mut text) {
+        Ok(()) => Ok(text),
+        Err(FileFault::Failed) | Err(FileFault::Missing) => Err(Refusal::ReadProgram),
+        Err(FileFault::Long) => Err(Refusal::Text {
+            line: 1,
+            col: 1,
+            code: LONG_TEXT,
+        }),
+        Err(FileFault::Memory) => Err(Refusal::Memory),
+    }
+}
+
 /// The program in a file.
 pub fn read_program<F: Files>(alloc: Global, files: &mut F, name: &str) -> Result<Program, Refusal>
     ensures same { F.told files.new ≡ F.told files.old }
@@ -35,21 +65,14 @@ pub fn read_program<F: Files>(alloc: Global, files: &mut F, name: &str) -> Resul
     ensures untold { F.told files.old ≡ None → IsUnreadFault result
         → Rose (F.faults files.old) (F.faults files.new) }
 {
-    let mut text = Vec::new(alloc);
-    match files.read(alloc, name, MAX_PROGRAM, &mut text) {
-        Ok(()) => program(alloc, text.as_slice()),
-        Err(FileFault::Failed) | Err(FileFault::Missing) => Err(Refusal::ReadProgram),
-        Err(FileFault::Long) => Err(Refusal::Text {
-            line: 1,
-            col: 1,
-            code: LONG_TEXT,
-        }),
-        Err(FileFault::Memory) => Err(Refusal::Memory),
+    match read_text(alloc, files, name) {
+        Ok(text) => program_of(alloc, text.as_slice()),
+        Err(refusal) => Err(refusal),
     }
 }
 
-// The program that a text denotes.
-fn program(alloc: Global, text: &[u8]) -> Result<Program, Refusal>
+/// The program that a text denotes, or the text's first fault.
+pub fn program_of(alloc: Global, text: &[u8]) -> Result<Program, Refusal>
     ensures given { Gives result (denoted (parsed text.now)) }
     ensures read { ¬ IsUnreadFault result }
     ensures shaped { IfOk result Shaped }

@@ -9,6 +9,8 @@
 //!   name. Proved, over files that tell what they hold: exactly what the text denotes or spells, or its first fault, or
 //!   that the file isn't there; a read that failed was counted. Over others there is a text of which the same holds. At
 //!   most one read is made, and the files stay as they are.
+//! - [`read_text`], [`program_of`]: the two parts of [`read_program`], for a caller that needs the text too.
+//! - [`number_below`]: a word that is a number in decimal below a limit, exactly.
 //! - [`form_answer`]: the line of a rule of well-formedness that a program breaks, with status 4.
 //! - [`Refusal::text`], [`Refusal::status`]: the line of a refusal and its status, exactly.
 //! - [`answered`]: what was written of a run, or want of memory as a refusal.
@@ -21,14 +23,16 @@
 
 mod form;
 mod input;
+mod number;
 mod refusal;
 mod writing;
 mod written;
 
 pub use form::form_answer;
-pub use input::{read_program, read_schedule};
+pub use input::{program_of, read_program, read_schedule, read_text};
 pub use mr_ast::Program;
 pub use mr_sched::Read;
+pub use number::number_below;
 pub use refusal::{Refusal, push_number};
 pub use writing::{finish, refuse};
 pub use written::{Written, answered};

@@ -82,6 +82,12 @@ module _ {room : ℕ} {part : Parts} {scope : Scope} where
     );
   }
 
+  -- in a form in which the words write it too
+  pub stands_also : {A : Type 0} {other : Parts} {scope' : Scope} {front : Texts} {form form' : Writing A} {x : A} {row : Texts} → Stands room part scope front form x row
+      → ((marks : List Mark) → SpelledBy (room == 0) (SomeInside (room - 1)) (part room) scope form x marks → SpelledBy (room == 0) (SomeInside (room - 1)) (other room) scope' form' x marks)
+      → Stands room other scope' front form' x row
+  stands_also one law = record { texts = one.texts; whole = one.whole; tokens = one.tokens; at = λ k. law (marked k one.texts) (one.at k) }
+
   -- the same words
   pub stands_same : {A : Type 0} {form : Writing A} {x : A} {row other : Texts} → Stands room part scope [] form x row → other ≡ row → Stands room part scope [] form x other
   stands_same one same = record { texts = one.texts; whole = same ∙ one.whole; tokens = one.tokens; at = one.at }
@@ -170,11 +176,7 @@ module _ {height room : ℕ} {part mine : Parts} {scope : Scope} where
 
   pub canon_either : {A : Type 0} {front : Texts} {test : List ℕ → Bool} {a b : Writing A} {row : A → Texts}
       → Canon height room part mine scope front a row → Canon height room part mine scope front b row → Canon height room part mine scope front (Either test a b) row
-  canon_either one other = record {
-    law = ensures_either
-        (ensures_also one.law (λ x s. record { texts = s.texts; whole = s.whole; tokens = s.tokens; at = λ k. inl (s.at k) }))
-        (ensures_also other.law (λ x s. record { texts = s.texts; whole = s.whole; tokens = s.tokens; at = λ k. inr (s.at k) }));
-  }
+  canon_either one other = record { law = ensures_either (ensures_also one.law (λ x s. stands_also s (λ marks. inl))) (ensures_also other.law (λ x s. stands_also s (λ marks. inr))) }
 
   pub canon_many : {A : Type 0} {test : List ℕ → Bool} {form : ℕ → Writing A} {row : A → Texts} → ((k : ℕ) → Canon height room part mine scope [] (form k) row)
       → Canon height room part mine scope [] (Many test form) (flat_map row)
@@ -242,9 +244,7 @@ module _ {height room : ℕ} {part mine : Parts} {scope : Scope} where
 
   pub canon_in : {A : Type 0} {into : Scope → Scope} {a : Writing A} {row : A → Texts} → Canon height room part mine (into scope) [] a row
       → Canon height room part mine scope [] (In into a) row
-  canon_in one = record {
-    law = ensures_in (ensures_also one.law (λ x s. record { texts = s.texts; whole = s.whole; tokens = s.tokens; at = s.at }));
-  }
+  canon_in one = record { law = ensures_in (ensures_also one.law (λ x s. stands_also s (λ marks written. written))) }
 
 module _ {height room : ℕ} {part mine : Parts} {scope : Scope} where
   -- a list in brackets
@@ -255,11 +255,5 @@ module _ {height room : ℕ} {part mine : Parts} {scope : Scope} where
 -- a part, whose form has no part outside brackets
 pub canon_part : {height room : ℕ} {scope : Scope} {kind : Kind} {row : Meaning kind → Texts} → Canon height room no_parts no_parts scope [] (form_of kind) row
     → Canon height room (SpelledPart height) SomePart scope [] (Part kind) row
-canon_part {room = room} {scope} {kind} one = record {
-  law = ensures_part {kind = kind} (ensures_also one.law (λ x s. record {
-    texts = s.texts;
-    whole = s.whole;
-    tokens = s.tokens;
-    at = λ k. settled_part room scope kind x (marked k s.texts) (s.at k);
-  }));
-}
+canon_part {room = room} {scope} {kind} one =
+    record { law = ensures_part {kind = kind} (ensures_also one.law (λ x s. stands_also s (λ marks. settled_part room scope kind x marks))) }

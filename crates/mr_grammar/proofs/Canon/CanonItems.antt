@@ -17,13 +17,14 @@ use Rattle.mr_ast.specs.Words.{is_number, looked_up, edition_words}
 use Rattle.mr_ast.specs.Writing.{is_word, ◌▸◌, token, judged_repeat, target_use, judged_target, fine, giving}
 use Rattle.mr_ast.proofs.WordLaws.{edition_word_found, edition_found}
 use Rattle.mr_words.proofs.ScopeLaws.{scope_at}
-use Rattle.mr_grammar.proofs.Canon.CanonForms.{Canon, canon_before, Stands, canon_same, canon_giving, stands_first, canon_word, canon_then, canon_token}
+use Rattle.mr_grammar.proofs.Canon.CanonForms.{Canon, canon_before, Stands, stands_also, canon_same, canon_giving, stands_first, canon_word, canon_then, canon_token}
 use Rattle.mr_grammar.proofs.Canon.CanonWords.{canon_repeat, canon_u64}
 use Rattle.mr_grammar.proofs.Shape.ShapedNames.{target_named}
-use Rattle.mr_grammar.proofs.Shape.ShapedPrograms.{byte_fine, fine_some}
+use Rattle.mr_grammar.proofs.Shape.ShapedPrograms.{byte_fine}
 use Rattle.mr_grammar.proofs.Tokens.TokenRows.{name_token, number_is, number_token, table_passes}
 use Rattle.mr_grammar.proofs.Tokens.TokenTexts.{IsTokenText}
 use Rattle.mr_grammar.proofs.Walk.EnsureLaws.{Parts, ensures_either, ensures_also, ensures_empty, ensures_cases, Ensures}
+use Rattle.mr_grammar.proofs.Walk.FairJudges.{fine_found}
 
 -- what names stand for in a program that defines the names of a text
 pub record KnownProgram (d : Definitions) (p : Program) : Type 0 where
@@ -43,7 +44,7 @@ module _ {height room : ℕ} {part mine : Parts} where
       left_out : (n : ℕ) → Stands room mine scope [] (codes "*" ▸ token judged_repeat) n (codes "*" ∷ decimal n ∷ []) → (one : Bool) → (n == 1) ≡ one
           → Stands room mine scope [] (Either (is_word (codes "*")) (codes "*" ▸ token judged_repeat) (Empty 1)) n (if one then [] else codes "*" ∷ decimal n ∷ [])
       left_out n s true is = record { texts = []; whole = refl; tokens = tt; at = λ k. inr (eq_from n 1 is, refl) }
-      left_out n s false is = record { texts = s.texts; whole = s.whole; tokens = s.tokens; at = λ k. inl (s.at k) }
+      left_out n s false is = stands_also s (λ marks. inl)
 
   canon_target : {d : Definitions} {k : ℕ} (p : Program) → KnownProgram d p → Canon height room part mine (scope_at d k) [] target_use (λ t. target_text p t ∷ [])
   unfolding judged_target
@@ -69,5 +70,5 @@ module _ {height room : ℕ} {part mine : Parts} where
   pub canon_edition : {scope : Scope} → Canon height room part mine scope [] (token judged_edition) (λ n. decimal n ∷ [])
   unfolding judged_edition is_number
   canon_edition = canon_token {text = decimal} (λ w n e.
-      (let found = edition_word_found n (edition_found w.text n (fine_some (looked_up edition_words w.text) n e)) in
+      (let found = edition_word_found n (edition_found w.text n (fine_found (looked_up edition_words w.text) n None e)) in
       (number_token (decimal n) (table_passes is_number edition_words (decimal n) n refl found), λ j. ap fine found)))

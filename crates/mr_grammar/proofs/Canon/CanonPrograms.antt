@@ -1,5 +1,5 @@
 -- Blocks, functions, globals and programs are printed as they are written, by lines.
-use Rattle.std.proofs.Common.{List, map, ◌++◌, ◌∷◌, [], ◌≡◌, ◌∙◌, ap, refl, codes, ℕ, append_assoc, suc, Bool, true, sym, length, ◌+◌, false}
+use Rattle.std.proofs.Common.{List, map, ◌++◌, ◌∷◌, [], ◌≡◌, refl, ◌∙◌, ap, codes, ℕ, append_assoc, suc, Bool, true, sym, length, ◌+◌, false}
 use Rattle.std.specs.Prelude.{flat_map, decimal, nat_le}
 use Rattle.std.proofs.lemmas.Grind.{flat_map-append}
 use Rattle.std.proofs.lemmas.List.{append-nil}
@@ -42,9 +42,7 @@ words_of_lines lines = flat_map (λ line. line) lines
 
 -- a line for each thing, and one more
 lines_behind : {A : Type 0} (line : A → Texts) (xs : List A) (last : Texts) → words_of_lines (map line xs ++ last ∷ []) ≡ flat_map line xs ++ last
-lines_behind line xs last =
-    flat_map-append (λ (l : Texts). l) (map line xs) (last ∷ []) ∙ ap (λ front. front ++ (last ++ [])) (flat_map-map (λ (l : Texts). l) line xs)
-    ∙ ap (λ back. flat_map line xs ++ back) (append-nil last)
+lines_behind line xs last = simp (flat_map-append, flat_map-map, append-nil)
 
 -- some lines for each thing
 lines_of_each : {A : Type 0} (lines : A → List Texts) (xs : List A) → words_of_lines (flat_map lines xs) ≡ flat_map (λ x. words_of_lines (lines x)) xs

@@ -22,7 +22,7 @@ use Rattle.mr_grammar.proofs.Canon.CanonForms.{Canon, canon_before, canon_behind
 use Rattle.mr_grammar.proofs.Canon.CanonValues.{canon_parts}
 use Rattle.mr_grammar.proofs.Canon.CanonWords.{Known, canon_block, canon_local, canon_num}
 use Rattle.mr_grammar.proofs.Shape.ShapedBlocks.{stmt_fine}
-use Rattle.mr_grammar.proofs.Tokens.TokenRows.{fixed_token, table_fixed, is_fixed}
+use Rattle.mr_grammar.proofs.Tokens.TokenRows.{fixed_token, table_passes, is_fixed}
 use Rattle.mr_grammar.proofs.Walk.EnsureLaws.{ensures_cases, Ensures}
 use Rattle.mr_grammar.proofs.Walk.HeightLaws.{SomePart}
 
@@ -70,7 +70,7 @@ module _ {d : Definitions} {k : ℕ} (names : NameTexts) (known : Known d k name
 
     canon_intrinsic : Canon height room (SpelledPart height) SomePart (scope_at d k) [] intrinsic_form (λ i. intrinsic_word i ∷ [])
     canon_intrinsic = canon_token {text = intrinsic_word} (λ w i e.
-        (fixed_token (intrinsic_word i) (table_fixed intrinsic_words (intrinsic_word i) i refl (intrinsic_word_found i)), intrinsic_begins i))
+        (fixed_token (intrinsic_word i) (table_passes is_fixed intrinsic_words (intrinsic_word i) i refl (intrinsic_word_found i)), intrinsic_begins i))
 
   module _ {height room : ℕ} where
     pub canon_term : Canon height room (SpelledPart height) SomePart (scope_at d k) [] term_form (term_line names)

@@ -22,7 +22,7 @@ use Rattle.mr_ast.proofs.CanonTypeLaws.{words_known, words_invalid, words_branch
 use Rattle.mr_ast.proofs.WordLaws.{int_word_found}
 use Rattle.mr_grammar.proofs.Canon.CanonForms.{CanonInside, Canon, canon_then, canon_before, canon_behind, canon_pair, canon_listed, Stands, canon_word, canon_giving, canon_empty, canon_within, canon_many, stands_first, stands_empty, stands_then, canon_either, canon_text}
 use Rattle.mr_grammar.proofs.Canon.CanonWords.{canon_u64, canon_int, canon_num}
-use Rattle.mr_grammar.proofs.Tokens.TokenRows.{is_fixed, table_fixed, fixed_token}
+use Rattle.mr_grammar.proofs.Tokens.TokenRows.{is_fixed, table_passes, fixed_token}
 use Rattle.mr_grammar.proofs.Walk.EnsureLaws.{Parts, ensures_cases, Ensures, ensures_then}
 
 -- the words of a part of each kind
@@ -41,7 +41,7 @@ int_begins i =
     ap (λ found. elim found as (λ _. Option TypeWord) [ Some j ↦ Some (type_word.Int j) | None ↦ looked_up type_words (int_word i) ]) (int_word_found i)
 
 pub int_fixed : (i : IntType) → is_fixed (int_word i) ≡ true
-int_fixed i = table_fixed int_words (int_word i) i refl (int_word_found i)
+int_fixed i = table_passes is_fixed int_words (int_word i) i refl (int_word_found i)
 
 -- a type with a word of its own
 unit_is : (size align : ℕ) (fields : List (ℕ × Ty)) → is_unit size align (length fields) ≡ true → ty.Tuple size align fields ≡ ty.Tuple 0 1 []

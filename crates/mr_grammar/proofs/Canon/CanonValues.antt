@@ -27,7 +27,7 @@ use Rattle.mr_words.proofs.ScopeLaws.{scope_at}
 use Rattle.mr_grammar.proofs.Canon.CanonForms.{Canon, canon_either, canon_giving, canon_within, canon_then, canon_limited, canon_pair, canon_behind, canon_many, Stands, canon_word, canon_empty, canon_before, canon_part}
 use Rattle.mr_grammar.proofs.Canon.CanonTypes.{Inner, int_fixed, words_as, canon_type, canon_tree}
 use Rattle.mr_grammar.proofs.Canon.CanonWords.{Known, canon_u64, canon_num, canon_name, canon_function, canon_global, canon_int}
-use Rattle.mr_grammar.proofs.Tokens.TokenRows.{table_fixed}
+use Rattle.mr_grammar.proofs.Tokens.TokenRows.{table_passes, is_fixed}
 use Rattle.mr_grammar.proofs.Walk.EnsureLaws.{no_parts, ensures_cases, Ensures, by_height}
 use Rattle.mr_grammar.proofs.Walk.HeightLaws.{SomePart}
 
@@ -119,10 +119,10 @@ module _ {d : Definitions} {k : ℕ} (names : NameTexts) (known : Known d k name
             (canon_giving (canon_within (λ lower e. canon_pair (canon_behind (inner TheType lower e) (codes ",") refl) (inner TheValue lower e)))
             (λ parts. words_transmute names parts.0 parts.1 ∙ simp append_assoc))
         behind (value_word.Unary o) =
-            canon_word (unary_word o) (value_word.Unary o) (table_fixed unary_words (unary_word o) o refl (unary_word_found o)) (unary_begins o)
+            canon_word (unary_word o) (value_word.Unary o) (table_passes is_fixed unary_words (unary_word o) o refl (unary_word_found o)) (unary_begins o)
             (canon_giving (canon_within (inner TheValue)) (words_unary names o))
         behind (value_word.Binary o) =
-            canon_word (binary_word o) (value_word.Binary o) (table_fixed binary_words (binary_word o) o refl (binary_word_found o)) (binary_begins o)
+            canon_word (binary_word o) (value_word.Binary o) (table_passes is_fixed binary_words (binary_word o) o refl (binary_word_found o)) (binary_begins o)
             (canon_giving (canon_within (λ lower e. canon_pair (canon_behind (inner TheValue lower e) (codes ",") refl) (inner TheValue lower e)))
             (λ parts. words_binary names o parts.0 parts.1 ∙ simp append_assoc))
 

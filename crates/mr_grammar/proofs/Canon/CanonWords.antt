@@ -14,7 +14,7 @@ use Rattle.mr_words.proofs.ScopeLaws.{scope_at}
 use Rattle.mr_grammar.proofs.Canon.CanonForms.{Canon, canon_same, canon_either, canon_giving, canon_before, canon_token}
 use Rattle.mr_grammar.proofs.Shape.ShapedNames.{name_fine}
 use Rattle.mr_grammar.proofs.Shape.ShapedNumbers.{number_fine}
-use Rattle.mr_grammar.proofs.Tokens.TokenRows.{number_is, number_token, is_fixed, fixed_token, table_fixed, name_token}
+use Rattle.mr_grammar.proofs.Tokens.TokenRows.{number_is, number_token, is_fixed, fixed_token, table_passes, name_token}
 use Rattle.mr_grammar.proofs.Walk.EnsureLaws.{Parts}
 
 -- What the names that are used in a function of a text that defines these names stand for: the positions of their texts.
@@ -47,7 +47,7 @@ module _ {height room : ℕ} {part mine : Parts} {scope : Scope} where
   pub canon_table : {X : Type 0} (table : Table X) (word : X → List ℕ) → list_all (λ entry. is_fixed entry.0) table ≡ true → ((x : X) → looked_up table (word x) ≡ Some x)
       → Canon height room part mine scope [] (token (λ w. fine (looked_up table w.text))) (λ x. word x ∷ [])
   canon_table table word all found =
-      canon_token {text = word} (λ w x e. (fixed_token (word x) (table_fixed table (word x) x all (found x)), λ k. ap fine (found x)))
+      canon_token {text = word} (λ w x e. (fixed_token (word x) (table_passes is_fixed table (word x) x all (found x)), λ k. ap fine (found x)))
 
   pub canon_int : Canon height room part mine scope [] int_form (λ i. int_word i ∷ [])
   unfolding judged_int

@@ -17,7 +17,7 @@ use Rattle.mr_ast.specs.Writing.{judged_name, name_form}
 use Rattle.mr_words.proofs.ScopeLaws.{named_at}
 use Rattle.mr_words.specs.Defined.{unknown, knowing, function_names_in, text_at}
 use Rattle.mr_grammar.specs.Denotes.{words_in, IsFine, Writes, definitions_in}
-use Rattle.mr_grammar.proofs.Names.TwoScopes.{EachTwo, Renames, AreGood, renames_then, renames_any, renames_many, renames_behind, each_later, renames_within, renames_before, renames_in, each_length}
+use Rattle.mr_grammar.proofs.Names.TwoScopes.{EachTwo, Renames, AreGood, renames_then, renames_any, renames_many, renames_behind, each_later, renames_within, renames_before, renames_in, each_two, each_length}
 use Rattle.mr_grammar.proofs.Shape.ShapedNames.{name_fine}
 use Rattle.mr_grammar.proofs.Stops.BodyLaws.{writes_body}
 use Rattle.mr_grammar.proofs.Walk.Fair.{IsUnknown}
@@ -148,13 +148,16 @@ defined_twice IsGood d words shape body all grammatical named =
 functions_known : (R : ℕ → Function → Function → Type 0) (d : Definitions) (words : List Word) (k : ℕ) (fs gs : List Function)
     → ((i : ℕ) → function_names d (k + i) ≡ slice_index_or (map (function_names_in words) gs) i (record { name = []; locals = []; blocks = [] }))
     → EachTwo R k fs gs → EachTwo (λ j f g. R j f g × (function_names d j ≡ function_names_in words g)) k fs gs
-functions_known R d words k [] [] law each = tt
-functions_known R d words k [] (g ∷ gs) law each = absurd each
-functions_known R d words k (f ∷ fs) [] law each = absurd each
-functions_known R d words k (f ∷ fs) (g ∷ gs) law each = (
-  (each.0, (let n : k ≡ k + 0 = omega arith in ap (function_names d) n ∙ law 0)),
-  functions_known R d words (suc k) fs gs (λ i. (let n : suc k + i ≡ k + suc i = omega arith in rw n (law (suc i)))) each.1,
-)
+functions_known R d words k fs gs law each =
+    each_two R
+    (λ k fs gs. ((i : ℕ) → function_names d (k + i) ≡ slice_index_or (map (function_names_in words) gs) i (record { name = []; locals = []; blocks = [] }))
+    → EachTwo (λ j f g. R j f g × (function_names d j ≡ function_names_in words g)) k fs gs)
+    (λ k here. tt)
+    (λ k f g fs gs one more here. (
+      (one, (let n : k ≡ k + 0 = omega arith in ap (function_names d) n ∙ here 0)),
+      more (λ i. (let n : suc k + i ≡ k + suc i = omega arith in rw n (here (suc i)))),
+    ))
+    k fs gs each law
 
 pub functions_twice : (IsGood : Word → Type 0) (words : List Word) (shape body : ProgramBody) → ProgramTwice IsGood (knowing (definitions_in words shape)) body shape
     → EachTwo (λ j f g. FunctionTwice IsGood (knowing (definitions_in words shape)) j f g × (function_names (definitions_in words shape) j ≡ function_names_in words g)) 0 body.functions shape.functions

@@ -1,5 +1,5 @@
 -- What names stand for in a program that a text denotes: the positions of their texts.
-use Rattle.std.proofs.Common.{List, ℕ, length, ◌+◌, ◌≡◌, Option, None, Some, ap, Bool, if◌then◌else◌, true, false, ◌≤◌, arith, refl, ◌-◌, ◌∙◌, sym, ◌<◌, subst}
+use Rattle.std.proofs.Common.{List, ℕ, length, ◌+◌, ◌≡◌, Option, None, Some, ap, Bool, if◌then◌else◌, true, false, refl, ◌-◌, ◌≤◌, arith, ◌∙◌, sym, ◌<◌, subst}
 use Rattle.std.specs.Prelude.{nat_lt}
 use Rattle.std.proofs.lemmas.Bool.Decides.{nat_tests}
 use Rattle.std.proofs.lemmas.List.{length-map}
@@ -60,16 +60,13 @@ global_some globals n (Some m) e = go (nat_lt m globals) e
     go true e = e
     go false e = absurd (cc)
 
-not_less : (a b : ℕ) → nat_lt a b ≡ false → b ≤ a
-not_less a b e = grind (arith, nat_tests)
-
 function_some : (globals n : ℕ) (found : Option ℕ) → as_function globals found ≡ Some n → found ≡ Some (globals + n)
 function_some globals n None e = absurd (cc)
 function_some globals n (Some m) e = go (nat_lt m globals) refl e
   where
     go : (small : Bool) → nat_lt m globals ≡ small → (if small then None else Some (m - globals)) ≡ Some n → Some m ≡ Some (globals + n)
     go true is e = absurd (cc)
-    go false is e = let same : m - globals ≡ n = cc in let sum : m ≡ globals + n = omega (arith, not_less m globals is) in ap Some sum
+    go false is e = let same : m - globals ≡ n = cc in let least : globals ≤ m = grind (arith, nat_tests, is) in let sum : m ≡ globals + n = omega arith in ap Some sum
 
 -- ---- a program
 
@@ -119,7 +116,7 @@ module _ (words : List Word) (shape body : ProgramBody) (twice : ProgramTwice (S
               → target_text p (if small then target.Global (record { 0 = n }) else target.Function (record { 0 = n - length d.globals })) ≡ text
           go true is = global_text text n (lt_from n (length d.globals) is) at
           go false is =
-              let least = not_less n (length d.globals) is in
+              let least : length d.globals ≤ n = grind (arith, nat_tests, is) in
               let sum : n ≡ length d.globals + (n - length d.globals) = omega arith in
               function_text text (n - length d.globals) (omega (arith, number_within (item_names d) text n at, items-length d)) (at ∙ ap Some sum)
 

@@ -1,5 +1,5 @@
 -- The names that a text defines, read from its words, are those that a program defines which the words write where the names are known.
-use Rattle.std.proofs.Common.{◌≡◌, ℕ, suc, ◌+◌, List, [], ◌∷◌, length, map, refl, ap, sym, ◌∙◌}
+use Rattle.std.proofs.Common.{◌≡◌, ℕ, ◌+◌, List, length, map, refl, ap, sym, ◌∙◌}
 use Rattle.mr_ast.specs.declared.program.Block.{Block}
 use Rattle.mr_ast.specs.declared.program.Function.{Function}
 use Rattle.mr_ast.specs.declared.program.Global_.{Global_}
@@ -17,14 +17,11 @@ use Rattle.mr_words.specs.Defined.{text_at as word_at}
 use Rattle.mr_grammar.proofs.Names.DefinedTwice.{FunctionTwice, ProgramTwice}
 use Rattle.mr_grammar.proofs.Names.NamedBack.{ReadsBack, block_back, function_back, global_back, local_back}
 use Rattle.mr_words.proofs.PlaceLaws.{StandsIn}
-use Rattle.mr_grammar.proofs.Names.TwoScopes.{EachTwo}
+use Rattle.mr_grammar.proofs.Names.TwoScopes.{EachTwo, each_two}
 
 pub each_map : {A B : Type 0} (R : ℕ → A → A → Type 0) (one other : A → B) → ((k : ℕ) (x y : A) → R k x y → other y ≡ one x) → (k : ℕ) (xs ys : List A) → EachTwo R k xs ys
     → map other ys ≡ map one xs
-each_map R one other law k [] [] each = refl
-each_map R one other law k [] (y ∷ ys) each = absurd each
-each_map R one other law k (x ∷ xs) [] each = absurd each
-each_map R one other law k (x ∷ xs) (y ∷ ys) each = rw (law k x y each.0, each_map R one other law (suc k) xs ys each.1) refl
+each_map R one other law = each_two R (λ k xs ys. map other ys ≡ map one xs) (λ k. refl) (λ k x y xs ys two same. rw (law k x y two, same) refl)
 
 module _ (words : List Word) (d : Definitions) (p : Program) (names : p.names ≡ names_of d) where
   -- the text at a place is the one of the number that reads back

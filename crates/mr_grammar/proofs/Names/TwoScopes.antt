@@ -41,31 +41,27 @@ EachTwo R k [] (y ∷ ys) = ⊥
 EachTwo R k (x ∷ xs) [] = ⊥
 EachTwo R k (x ∷ xs) (y ∷ ys) = R k x y × EachTwo R (suc k) xs ys
 
+-- what is so of two empty rows, and stays so where two more are related
+pub each_two {ℓ} : {A : Type 0} (R : ℕ → A → A → Type 0) (P : ℕ → List A → List A → Type ℓ) → ((k : ℕ) → P k [] [])
+    → ((k : ℕ) (x y : A) (xs ys : List A) → R k x y → P (suc k) xs ys → P k (x ∷ xs) (y ∷ ys)) → (k : ℕ) (xs ys : List A) → EachTwo R k xs ys → P k xs ys
+each_two R P none more k [] [] each = none k
+each_two R P none more k [] (y ∷ ys) each = absurd each
+each_two R P none more k (x ∷ xs) [] each = absurd each
+each_two R P none more k (x ∷ xs) (y ∷ ys) each = more k x y xs ys each.0 (each_two R P none more (suc k) xs ys each.1)
+
 pub each_length : {A : Type 0} (R : ℕ → A → A → Type 0) (k : ℕ) (xs ys : List A) → EachTwo R k xs ys → length xs ≡ length ys
-each_length R k [] [] each = refl
-each_length R k [] (y ∷ ys) each = absurd each
-each_length R k (x ∷ xs) [] each = absurd each
-each_length R k (x ∷ xs) (y ∷ ys) each = ap suc (each_length R (suc k) xs ys each.1)
+each_length R = each_two R (λ k xs ys. length xs ≡ length ys) (λ k. refl) (λ k x y xs ys one same. ap suc same)
 
--- what follows for each two
+-- what follows for each two, and for each one
 pub each_two_also : {A : Type 0} (R Q : ℕ → A → A → Type 0) → ((k : ℕ) (x y : A) → R k x y → Q k x y) → (k : ℕ) (xs ys : List A) → EachTwo R k xs ys → EachTwo Q k xs ys
-each_two_also R Q law k [] [] each = tt
-each_two_also R Q law k [] (y ∷ ys) each = absurd each
-each_two_also R Q law k (x ∷ xs) [] each = absurd each
-each_two_also R Q law k (x ∷ xs) (y ∷ ys) each = (law k x y each.0, each_two_also R Q law (suc k) xs ys each.1)
+each_two_also R Q law = each_two R (EachTwo Q) (λ k. tt) (λ k x y xs ys one more. (law k x y one, more))
 
--- and for each one
 pub each_from : {A : Type 0} (R : ℕ → A → A → Type 0) (Q : ℕ → A → Type 0) → ((k : ℕ) (x y : A) → R k x y → Q k x) → (k : ℕ) (xs ys : List A) → EachTwo R k xs ys → EachFrom Q k xs
-each_from R Q law k [] ys each = tt
-each_from R Q law k (x ∷ xs) [] each = absurd each
-each_from R Q law k (x ∷ xs) (y ∷ ys) each = (law k x y each.0, each_from R Q law (suc k) xs ys each.1)
+each_from R Q law = each_two R (λ k xs ys. EachFrom Q k xs) (λ k. tt) (λ k x y xs ys one more. (law k x y one, more))
 
 -- where the first is left out, the others have the next numbers
 pub each_later : {A : Type 0} (R : ℕ → A → A → Type 0) (k : ℕ) (xs ys : List A) → EachTwo (λ j. R (suc j)) k xs ys → EachTwo R (suc k) xs ys
-each_later R k [] [] each = tt
-each_later R k [] (y ∷ ys) each = absurd each
-each_later R k (x ∷ xs) [] each = absurd each
-each_later R k (x ∷ xs) (y ∷ ys) each = (each.0, each_later R (suc k) xs ys each.1)
+each_later R = each_two (λ j. R (suc j)) (λ k. EachTwo R (suc k)) (λ k. tt) (λ k x y xs ys one more. (one, more))
 
 -- one row behind another
 words_joined : (front front' back back' whole : List Mark) → whole ≡ front ++ back → words_in front' ≡ words_in front → words_in back' ≡ words_in back
@@ -116,15 +112,6 @@ module _ {IsGood : Word → Type 0} {height room : ℕ} {part : Parts} {s t : Sc
           rw is_z (both x x' y y' r q),
         ));
   }
-
-  renames_either : {A : Type 0} {test : List ℕ → Bool} {a b : Writing A} {R : A → A → Type 0} → Renames IsGood height room part s t a R
-      → Renames IsGood height room part s t b R → Renames IsGood height room part s t (Either test a b) R
-  renames_either {A} {test} {a} {b} {R} one other = record { holds = go }
-    where
-      go : (x : A) (marks : List Mark) → AreGood IsGood marks → SpelledBy (room == 0) (SpelledInside height (room - 1)) (part room) s (Either test a b) x marks
-          → Again (SpelledBy (room == 0) (SpelledInside height (room - 1)) (part room) t (Either test a b)) (R x) marks
-      go x marks good (inl h) = let (y, others, same, fine, written, r) = one.holds x marks good h in (y, others, same, fine, inl written, r)
-      go x marks good (inr h) = let (y, others, same, fine, written, r) = other.holds x marks good h in (y, others, same, fine, inr written, r)
 
   pub renames_many : {A : Type 0} {test : List ℕ → Bool} {form : ℕ → Writing A} {R : ℕ → A → A → Type 0} → ((k : ℕ) → Renames IsGood height room part s t (form k) (R k))
       → Renames IsGood height room part s t (Many test form) (EachTwo R 0)
@@ -187,7 +174,11 @@ module _ (IsGood : Word → Type 0) (height room : ℕ) (part : Parts) (outside 
         let none = empty_writes (room == 0) (SpelledInside height (room - 1)) (part room) s (form i) here x back behind in
         (y, record { word = w; flaw = None } ∷ [], ap (λ ms. w ∷ words_in ms) (sym none) ∙ ap words_in (sym whole), (refl, tt), (w, j, None, [], there, refl, written), tt))));
   }
-  again_by s t unknown (Either test a b) fair = renames_either (again_by s t unknown a fair.0) (again_by s t unknown b fair.1)
+  again_by s t unknown (Either test a b) fair = record {
+    holds = λ x marks good h. either_way h
+        (λ one. (let (y, others, same, fine, written, r) = (again_by s t unknown a fair.0).holds x marks good one in (y, others, same, fine, inl written, r)))
+        (λ one. (let (y, others, same, fine, written, r) = (again_by s t unknown b fair.1).holds x marks good one in (y, others, same, fine, inr written, r)));
+  }
   again_by s t unknown (Many test form) fair = record {
     holds = λ xs marks good h.
         (let (ys, others, same, fine, written, each) = (renames_many {test = test} (λ k. again_by s t unknown (form k) (fair k))).holds xs marks good h in (ys, others, same, fine, written, tt));

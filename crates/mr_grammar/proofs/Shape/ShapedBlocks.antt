@@ -1,5 +1,5 @@
 -- The statements, terminators and blocks that a row without a broken limit writes are shaped.
-use Rattle.std.proofs.Common.{ℕ, ◌<◌, List, ◌≤◌, ◌+◌, length, [], arith, ◌∷◌, suc, Bool, ◌≡◌, Some, None, false, Option, true, ap, refl, nat_le, ◌-◌}
+use Rattle.std.proofs.Common.{ℕ, ◌<◌, List, ◌≤◌, ◌+◌, length, [], arith, ◌∷◌, suc, Bool, ◌≡◌, Some, None, false, Option, true, ap, refl, nat_le}
 use Rattle.std.specs.List.{AllByRecursion}
 use Rattle.std.specs.Prelude.{option_map}
 use Rattle.std.proofs.lemmas.List.Sums.{AllPass-from_list_all}
@@ -7,6 +7,7 @@ use Rattle.mr_base.proofs.Options.{some_is}
 use Rattle.mr_ast.specs.declared.program.Function.{Function}
 use Rattle.mr_ast.specs.declared.program.Program.{Program}
 use Rattle.mr_ast.specs.declared.words.Bracket.TheVariants.{Round}
+use Rattle.mr_ast.specs.declared.words.Role.TheVariants.{DefinesBlock}
 use Rattle.mr_ast.specs.declared.words.StmtWord.{StmtWord}
 use Rattle.mr_ast.specs.declared.words.StmtWord.TheVariants as stmt_word
 use Rattle.mr_ast.specs.declared.words.TermWord.{TermWord}
@@ -19,21 +20,16 @@ use Rattle.mr_ast.specs.ShapedValues.{is_shaped_value, is_shaped_place}
 use Rattle.mr_ast.specs.Spelled.{SpelledPart}
 use Rattle.mr_ast.specs.Words.{looked_up, stmt_words}
 use Rattle.mr_ast.specs.Writing.{limit, TheValue, ThePlace, listed, optional, block_use}
-use Rattle.mr_words.proofs.ScopeLaws.{scope_at, named_at}
-use Rattle.mr_grammar.proofs.Shape.ShapedNames.{ensures_block_use, ensures_local_use, below, ensures_block_name}
+use Rattle.mr_words.proofs.ScopeLaws.{scope_at, named_at, define_block}
+use Rattle.mr_grammar.proofs.Shape.ShapedNames.{ensures_block_use, ensures_local_use, below, ensures_name}
 use Rattle.mr_grammar.proofs.Shape.ShapedNumbers.{ensures_num, both, all_pass}
-use Rattle.mr_grammar.proofs.Shape.ShapedValues.{ensures_value_part, values_shaped, ensures_place_part, places_shaped}
-use Rattle.mr_grammar.proofs.Walk.EnsureLaws.{EachFrom, Parts, Ensures, ensures_also, ensures_pair, ensures_before, ensures_giving, ensures_then, ensures_behind, ensures_either, ensures_cases, ensures_listed, ensures_separated, ensures_optional, ensures_within, ensures_all, ensures_empty, ensures_token, ensures_many}
+use Rattle.mr_grammar.proofs.Shape.ShapedValues.{parts_shaped}
+use Rattle.mr_grammar.proofs.Walk.EnsureLaws.{EachFrom, Parts, Ensures, ensures_also, ensures_pair, ensures_before, ensures_giving, ensures_then, ensures_behind, ensures_either, ensures_cases, ensures_listed, ensures_separated, ensures_optional, ensures_within, ensures_all, ensures_empty, ensures_token, ensures_many, each_also}
 
 -- where each thing of a row has a number below a bound, there are no more of them
 pub each_few : {A : Type 0} (P : ℕ → A → Type 0) (n : ℕ) → ((k : ℕ) (x : A) → P k x → k < n) → (k : ℕ) (xs : List A) → k ≤ n → EachFrom P k xs → k + length xs ≤ n
 each_few P n small k [] le each = omega arith
 each_few P n small k (x ∷ xs) le each = omega (arith, each_few P n small (suc k) xs (small k x each.0) each.1)
-
--- what is so of each thing, whatever its number
-pub each_also : {A : Type 0} (P : ℕ → A → Type 0) (Q : A → Type 0) → ((k : ℕ) (x : A) → P k x → Q x) → (k : ℕ) (xs : List A) → EachFrom P k xs → AllByRecursion Q xs
-each_also P Q law k [] each = tt
-each_also P Q law k (x ∷ xs) each = (law k x each.0, each_also P Q law (suc k) xs each.1)
 
 -- the word of a statement that is not one too many
 pub stmt_fine : (over : Bool) (w : Word) (i : StmtWord) → judged_stmt over w ≡ Some (i, None) → over ≡ false
@@ -51,10 +47,10 @@ ensures_switch_case d k = ensures_also (ensures_pair (ensures_before ensures_num
 
 module _ {height room : ℕ} (d : Definitions) (k : ℕ) where
   pub ensures_value : Ensures height room (SpelledPart height) (scope_at d k) (Part TheValue) (λ v. is_shaped_value (named_at d k) v ≡ true)
-  ensures_value = ensures_value_part d k (values_shaped d k height room)
+  ensures_value = parts_shaped d k TheValue
 
   ensures_place_once : (over : Bool) → Ensures height room (SpelledPart height) (scope_at d k) (Part (ThePlace over)) (λ p. (over ≡ false) × (is_shaped_place (named_at d k) p ≡ true))
-  ensures_place_once over = ensures_place_part d k (places_shaped d k height room over)
+  ensures_place_once over = parts_shaped d k (ThePlace over)
 
   pub ensures_place : Ensures height room (SpelledPart height) (scope_at d k) (Part (ThePlace false)) (λ p. is_shaped_place (named_at d k) p ≡ true)
   ensures_place = ensures_also (ensures_place_once false) (λ p shaped. shaped.1)
@@ -64,10 +60,8 @@ module _ {height room : ℕ} (d : Definitions) (k : ℕ) where
   unfolding numbered_form
   ensures_stmt_behind stmt_word.Live = ensures_giving (ensures_local_use d k) (λ x p. p)
   ensures_stmt_behind stmt_word.Dead = ensures_giving (ensures_local_use d k) (λ x p. p)
-  ensures_stmt_behind stmt_word.Mention = ensures_giving ensures_place (λ x p. p)
   ensures_stmt_behind stmt_word.Disc = ensures_then ensures_place (ensures_behind ensures_num) (λ x n p q. both p q)
-  ensures_stmt_behind stmt_word.Deinit = ensures_giving ensures_place (λ x p. p)
-  ensures_stmt_behind stmt_word.Validate = ensures_giving ensures_place (λ x p. p)
+  ensures_stmt_behind _ = ensures_giving ensures_place (λ x p. p)
 
   ensures_stmt : (j : ℕ) → Ensures height room (SpelledPart height) (scope_at d k) (stmt_form j) (λ s. (j < 4096) × (is_shaped_stmt (named_at d k) s ≡ true))
   unfolding stmt_form assign_form
@@ -79,7 +73,7 @@ module _ {height room : ℕ} (d : Definitions) (k : ℕ) where
   -- terminators
   ensures_values : Ensures height room (SpelledPart height) (scope_at d k) (listed Round values_form) (AllByRecursion (λ v. is_shaped_value (named_at d k) v ≡ true))
   unfolding values_form
-  ensures_values = ensures_listed (λ lower e. ensures_separated (ensures_value_part d k (values_shaped d k lower (room - 1))))
+  ensures_values = ensures_listed (λ lower e. ensures_separated (parts_shaped d k TheValue))
 
   ensures_optional_block : {text : List ℕ} → Ensures height room (SpelledPart height) (scope_at d k) (optional text block_use) (λ b. is_optional_block (named_at d k) b ≡ true)
   ensures_optional_block = ensures_optional (ensures_block_use d k) (λ b p. p) refl
@@ -91,11 +85,6 @@ module _ {height room : ℕ} (d : Definitions) (k : ℕ) where
       ensures_then ensures_value
       (ensures_within (λ lower e. ensures_pair (ensures_all (λ j. ensures_switch_case d k)) (ensures_behind (ensures_behind (ensures_block_use d k)))))
       (λ v cases p q. both p (both (all_pass (is_shaped_target (named_at d k)) cases.0 q.0) q.1))
-  ensures_term_behind term_word.Unreachable = ensures_empty refl
-  ensures_term_behind term_word.Return = ensures_empty refl
-  ensures_term_behind term_word.Exit = ensures_empty refl
-  ensures_term_behind term_word.Abort = ensures_empty refl
-  ensures_term_behind term_word.Resume = ensures_empty refl
   ensures_term_behind term_word.Stop = ensures_giving (ensures_behind (ensures_block_use d k)) (λ b p. p)
   ensures_term_behind term_word.Unwind = ensures_then ensures_value (ensures_behind (ensures_block_use d k)) (λ v b p q. both p q)
   ensures_term_behind term_word.Call =
@@ -105,6 +94,7 @@ module _ {height room : ℕ} (d : Definitions) (k : ℕ) where
       ensures_then (ensures_pair (ensures_token {Q = λ i. Unit {0}} (λ w i e. tt)) ensures_values)
       (ensures_pair (ensures_optional {Q = λ x. is_optional_place (named_at d k) x ≡ true} ensures_place (λ x p. p) refl) (ensures_behind (ensures_block_use d k)))
       (λ head rest p q. both (all_pass (is_shaped_value (named_at d k)) head.1 p.1) (both q.0 q.1))
+  ensures_term_behind _ = ensures_empty refl
 
   pub ensures_term : Ensures height room (SpelledPart height) (scope_at d k) term_form (λ t. is_shaped_term (named_at d k) t ≡ true)
   unfolding term_form
@@ -119,7 +109,7 @@ module _ {height room : ℕ} (d : Definitions) (k : ℕ) where
       → Ensures height room (SpelledPart height) (scope_at d k) (block_form j) (λ b. (j < 1024) × ((f : Function) → named_in p f ≡ named_at d k → ShapedBlock p f b))
   unfolding block_form
   ensures_block p names j =
-      ensures_then (ensures_pair (ensures_block_name d k j) (ensures_token {Q = λ i. Unit {0}} (λ w i e. tt))) (ensures_pair (ensures_behind ensures_stmts) ensures_term)
+      ensures_then (ensures_pair (ensures_name d k (DefinesBlock j) (λ text n e. define_block d k j n text e)) (ensures_token {Q = λ i. Unit {0}} (λ w i e. tt))) (ensures_pair (ensures_behind ensures_stmts) ensures_term)
       (λ head body p₁ q. (
         below j 1024 p₁.0.0,
         λ f same. record {

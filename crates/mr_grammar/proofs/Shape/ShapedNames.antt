@@ -1,5 +1,5 @@
 -- The names that a row without a broken limit writes, where the text's definitions are known.
-use Rattle.std.proofs.Common.{ℕ, ◌≡◌, false, ◌<◌, arith, Bool, Some, None, true, refl, Option, if◌then◌else◌, ap, length, ◌+◌, sym, ◌≤◌, ◌-◌, map, ◌∙◌, List}
+use Rattle.std.proofs.Common.{ℕ, ◌≡◌, false, ◌<◌, arith, Bool, Some, None, true, refl, Option, if◌then◌else◌, ap, length, ◌+◌, sym, ◌-◌, ◌≤◌, map, ◌∙◌, List}
 use Rattle.std.specs.Prelude.{nat_le, nat_lt}
 use Rattle.std.proofs.lemmas.Bool.Decides.{nat_tests}
 use Rattle.std.proofs.lemmas.List.{length-append, length-map}
@@ -8,14 +8,14 @@ use Rattle.mr_base.proofs.Options.{some_is}
 use Rattle.mr_ast.specs.declared.program.Target.{Target}
 use Rattle.mr_ast.specs.declared.program.Target.TheVariants as target
 use Rattle.mr_ast.specs.declared.words.Role.{Role}
-use Rattle.mr_ast.specs.declared.words.Role.TheVariants.{UsesLocal, UsesBlock, UsesFunction, UsesGlobal, DefinesGlobal, DefinesFunction, DefinesLocal, DefinesBlock}
+use Rattle.mr_ast.specs.declared.words.Role.TheVariants.{UsesLocal, UsesBlock, UsesFunction, UsesGlobal}
 use Rattle.mr_ast.specs.Forms.{Word}
-use Rattle.mr_ast.specs.Scope.{Scope, name_number, name_target, Definitions, target_of, item_names, number_of_name, number_in, names_of}
+use Rattle.mr_ast.specs.Scope.{Scope, name_number, name_target, Definitions, target_of, item_names, number_of_name, number_in}
 use Rattle.mr_ast.specs.Shaped.{is_local, is_block}
 use Rattle.mr_ast.specs.ShapedValues.{Named}
 use Rattle.mr_ast.specs.Words.{is_name}
 use Rattle.mr_ast.specs.Writing.{judged_name, judged_target, name_form, local_use, block_use, function_use, global_use, target_use}
-use Rattle.mr_words.proofs.ScopeLaws.{named_at, scope_at, use_local, use_block, use_function, use_global, number_within, define_global, define_function, define_local, define_block}
+use Rattle.mr_words.proofs.ScopeLaws.{named_at, scope_at, use_local, use_block, use_function, use_global, number_within}
 use Rattle.mr_grammar.proofs.Walk.EnsureLaws.{Parts, Ensures, ensures_cases, ensures_empty, ensures_giving}
 
 pub below : (m n : ℕ) → nat_le n m ≡ false → m < n
@@ -54,13 +54,10 @@ target_fine : (d : Definitions) (k : ℕ) (found : Option ℕ) (t : Target) → 
 target_fine d k None t within e = let clash = ap (λ p. p.1) e in absurd (cc)
 target_fine d k (Some n) t within e = rw (sym (ap (λ p. p.0) e)) (go (nat_lt n (length d.globals)) refl)
   where
-    more : (a b : ℕ) → nat_lt a b ≡ false → b ≤ a
-    more a b h = grind (arith, nat_tests)
-
     go : (small : Bool) → nat_lt n (length d.globals) ≡ small
         → IsWithin (named_at d k) (if small then target.Global (record { 0 = n }) else target.Function (record { 0 = n - length d.globals }))
     go true h = lt_from n (length d.globals) h
-    go false h = omega (arith, more n (length d.globals) h, within n refl)
+    go false h = let least : length d.globals ≤ n = grind (arith, nat_tests, h) in omega (arith, least, within n refl)
 
 pub items-length : (d : Definitions) → length (item_names d) ≡ length d.globals + length d.functions
 items-length d = length-append d.globals (map (λ f. f.name) d.functions) ∙ ap (λ n. length d.globals + n) (length-map d.functions (λ f. f.name))
@@ -86,16 +83,3 @@ module _ {height room : ℕ} {part : Parts} (d : Definitions) (k : ℕ) where
   pub ensures_target_use : Ensures height room part (scope_at d k) target_use (IsWithin (named_at d k))
   ensures_target_use = ensures_cases (λ w t e. ensures_empty (target_fine d k (number_in (item_names d) w.text) t
       (λ n found. (let within = number_within (item_names d) w.text n found in omega (arith, items-length d))) (target_named (scope_at d k) w t e).1))
-
-  -- names that are defined
-  pub ensures_global_name : {over : Bool} (j : ℕ) → Ensures height room part (scope_at d k) (name_form over (DefinesGlobal j)) (λ n. (over ≡ false) × (n < length (names_of d)))
-  ensures_global_name j = ensures_name (DefinesGlobal j) (λ text n e. define_global d k j n text e)
-
-  pub ensures_function_name : {over : Bool} (j : ℕ) → Ensures height room part (scope_at d k) (name_form over (DefinesFunction j)) (λ n. (over ≡ false) × (n < length (names_of d)))
-  ensures_function_name j = ensures_name (DefinesFunction j) (λ text n e. define_function d k j n text e)
-
-  pub ensures_local_name : {over : Bool} (j : ℕ) → Ensures height room part (scope_at d k) (name_form over (DefinesLocal j)) (λ n. (over ≡ false) × (n < length (names_of d)))
-  ensures_local_name j = ensures_name (DefinesLocal j) (λ text n e. define_local d k j n text e)
-
-  pub ensures_block_name : {over : Bool} (j : ℕ) → Ensures height room part (scope_at d k) (name_form over (DefinesBlock j)) (λ n. (over ≡ false) × (n < length (names_of d)))
-  ensures_block_name j = ensures_name (DefinesBlock j) (λ text n e. define_block d k j n text e)

@@ -1,5 +1,5 @@
 -- The numbers that a row without a broken limit writes can be written.
-use Rattle.std.proofs.Common.{Bool, ◌≡◌, true, ◌&&◌, refl, List, [], ◌∷◌, ℕ, Option, Some, if◌then◌else◌, None, false, sym, ap, ◌∙◌, ◌^◌, ◌==◌, not, bytes_eq}
+use Rattle.std.proofs.Common.{Bool, ◌≡◌, true, ◌&&◌, refl, List, [], ◌∷◌, ℕ, Option, Some, if◌then◌else◌, None, false, sym, ap, ◌∙◌, ◌^◌, not, ◌==◌, bytes_eq}
 use Rattle.std.specs.List.{AllByRecursion, list_all}
 use Rattle.std.specs.Prelude.{option_map, nat_lt, nat_le}
 use Rattle.std.proofs.lemmas.Bool.{and_parts}
@@ -8,10 +8,10 @@ use Rattle.mr_base.proofs.Options.{some_is}
 use Rattle.mr_ast.specs.Forms.{Word}
 use Rattle.mr_ast.specs.Scope.{Scope}
 use Rattle.mr_ast.specs.Shaped.{IsRepeat}
-use Rattle.mr_ast.specs.ShapedTypes.{is_shaped_num, fits_u64}
+use Rattle.mr_ast.specs.ShapedTypes.{fits_u64, is_shaped_num}
 use Rattle.mr_ast.specs.Words.{is_number, value_of}
-use Rattle.mr_ast.specs.Writing.{judged_number, limit, u64_form, judged_u64, num_form, judged_any, judged_positive, token, judged_repeat, limited_word}
-use Rattle.mr_grammar.proofs.Walk.EnsureLaws.{Parts, Ensures, ensures_token, ensures_either, ensures_giving, ensures_behind, ensures_cases, ensures_empty}
+use Rattle.mr_ast.specs.Writing.{judged_number, u64_form, judged_u64, limit, num_form, judged_any, judged_positive, token, judged_repeat, limited_word}
+use Rattle.mr_grammar.proofs.Walk.EnsureLaws.{Parts, Ensures, ensures_token, unbroken, ensures_either, ensures_giving, ensures_behind, ensures_cases, ensures_empty}
 
 -- both tests pass
 pub both : {a b : Bool} → a ≡ true → b ≡ true → (a && b) ≡ true
@@ -39,10 +39,6 @@ number_read judge w n flaw e = go (is_number w.text) (judge (value_of w.text)) r
 pub number_fine : (judge : ℕ → Option (Option ℕ)) (w : Word) (n : ℕ) → judged_number judge w ≡ Some (n, None) → (is_number w.text ≡ true) × (n ≡ value_of w.text) × (judge n ≡ Some None)
 number_fine judge w n e = number_read judge w n None e
 
-limit_kept : (code : ℕ) (broken : Bool) → Some (limit code broken) ≡ Some None → broken ≡ false
-limit_kept code true e = absurd (cc)
-limit_kept code false e = refl
-
 -- a number below 2^128
 number_small : (text : List ℕ) → is_number text ≡ true → nat_lt (value_of text) (2 ^ 128) ≡ true
 unfolding is_number
@@ -58,12 +54,6 @@ second_choice true true e = refl
 second_choice true false e = absurd (cc)
 second_choice false good e = absurd (cc)
 
-plus_shaped : (n : ℕ) → nat_lt n (2 ^ 128) ≡ true → is_shaped_num (record { neg = false; mag = n }) ≡ true
-plus_shaped n small = both small refl
-
-minus_shaped : (n : ℕ) → nat_lt n (2 ^ 128) ≡ true → (n == 0) ≡ false → is_shaped_num (record { neg = true; mag = n }) ≡ true
-minus_shaped n small some = both small (ap not some)
-
 repeat_shaped : (n : ℕ) → (nat_lt 0 n && nat_le n (2 ^ 20)) ≡ true → IsRepeat n
 repeat_shaped n e = let tests = and_parts (nat_lt 0 n) (nat_le n (2 ^ 20)) e in record { some = lt_from 0 n tests.0; bounded = le_from n (2 ^ 20) tests.1 }
 
@@ -73,15 +63,15 @@ small_value judge w n e = let fine = number_fine judge w n e in ap (λ m. nat_lt
 module _ {height room : ℕ} {part : Parts} {scope : Scope} where
   pub ensures_u64 : Ensures height room part scope u64_form (λ n. fits_u64 n ≡ true)
   unfolding judged_u64
-  ensures_u64 = ensures_token (λ w n e. not_false (fits_u64 n) (limit_kept 2 (not (fits_u64 n)) (number_fine (λ m. Some (limit 2 (not (nat_lt m (2 ^ 64))))) w n e).2))
+  ensures_u64 = ensures_token (λ w n e. not_false (fits_u64 n) (unbroken 2 (not (fits_u64 n)) (some_is (number_fine (λ m. Some (limit 2 (not (nat_lt m (2 ^ 64))))) w n e).2)))
 
   pub ensures_num : Ensures height room part scope num_form (λ n. is_shaped_num n ≡ true)
   unfolding judged_any judged_positive
   ensures_num = ensures_either
       (ensures_giving (ensures_behind (ensures_token {Q = λ n. (nat_lt n (2 ^ 128) ≡ true) × ((n == 0) ≡ false)}
       (λ w n e. (small_value (λ m. if m == 0 then None else Some None) w n e, first_choice (n == 0) (number_fine (λ m. if m == 0 then None else Some None) w n e).2))))
-      (λ n p. minus_shaped n p.0 p.1))
-      (ensures_giving (ensures_token {Q = λ n. nat_lt n (2 ^ 128) ≡ true} (λ w n e. small_value (λ m. Some None) w n e)) (λ n p. plus_shaped n p))
+      (λ n p. both p.0 (ap not p.1)))
+      (ensures_giving (ensures_token {Q = λ n. nat_lt n (2 ^ 128) ≡ true} (λ w n e. small_value (λ m. Some None) w n e)) (λ n p. both p refl))
 
   pub ensures_repeat : Ensures height room part scope (token judged_repeat) IsRepeat
   unfolding judged_repeat
@@ -93,5 +83,5 @@ module _ {height room : ℕ} {part : Parts} {scope : Scope} where
   ensures_limited code over {text} = ensures_cases (λ w i e. ensures_empty (kept (bytes_eq w.text text) i e))
     where
       kept : (same : Bool) (i : Unit {0}) → ◌≡◌ {A = Option (Unit {0} × Option ℕ)} (if same then Some (tt, limit code over) else None) (Some (i, None)) → over ≡ false
-      kept true i e = limit_kept code over (ap Some (ap (λ p. p.1) (some_is e)))
+      kept true i e = unbroken code over (ap (λ p. p.1) (some_is e))
       kept false i e = absurd (cc)

@@ -1,5 +1,5 @@
 -- The globals and functions that a row without a broken limit writes are shaped, where the program has as many of each as are defined.
-use Rattle.std.proofs.Common.{ℕ, ◌≡◌, Some, None, true, ◌≤◌, nat_le, codes, refl, Bool, if◌then◌else◌, ap, sym, false, Option, option_map, All, length, ◌<◌, List, [], ◌∷◌, suc, arith, ◌^◌}
+use Rattle.std.proofs.Common.{ℕ, ◌≡◌, Some, None, true, ◌≤◌, nat_le, codes, refl, Bool, if◌then◌else◌, ap, sym, false, All, length, ◌<◌, List, [], ◌∷◌, suc, arith, ◌^◌}
 use Rattle.std.proofs.lemmas.List.Elements.{All-from_recursion, All-cons, All-weaker}
 use Rattle.mr_base.proofs.Comparisons.{le_from, lt_from}
 use Rattle.mr_base.proofs.Options.{some_is}
@@ -10,22 +10,24 @@ use Rattle.mr_ast.specs.declared.program.Target.{Target}
 use Rattle.mr_ast.specs.declared.program.Target.TheVariants as target
 use Rattle.mr_ast.specs.declared.words.ItemWord.{ItemWord}
 use Rattle.mr_ast.specs.declared.words.ItemWord.TheVariants as item_word
+use Rattle.mr_ast.specs.declared.words.Role.TheVariants.{DefinesGlobal, DefinesLocal, DefinesFunction}
 use Rattle.mr_ast.specs.Forms.{Word}
 use Rattle.mr_ast.specs.ProgramGrammar.{judged_item, ProgramBody, repeat_form, item_form, reloc_form, item_behind, global_form, items_form, local_form, locals_form, blocks_form, body_form, with_name, args_form, function_form, judged_edition, program_form, globals_form, functions_form}
 use Rattle.mr_ast.specs.Scope.{Definitions, names_of}
 use Rattle.mr_ast.specs.Shaped.{ShapedGlobal, ShapedFunction, IsRepeat, IsTarget, ShapedItem, ShapedLocal, named_in, ShapedBlock, is_local}
 use Rattle.mr_ast.specs.Spelled.{SpelledPart}
 use Rattle.mr_ast.specs.Words.{is_number, value_of, IsEdition}
-use Rattle.mr_ast.specs.Writing.{is_word, fine, token}
+use Rattle.mr_ast.specs.Writing.{is_word, fine, TheType, token}
 use Rattle.mr_ast.proofs.WordLaws.{edition_found}
 use Rattle.mr_words.proofs.BracketCounts.{counted}
-use Rattle.mr_words.proofs.ScopeLaws.{scope_at, named_at}
+use Rattle.mr_words.proofs.ScopeLaws.{scope_at, named_at, define_global, define_local, define_function}
 use Rattle.mr_grammar.proofs.Names.DefinedTwice.{Counted}
-use Rattle.mr_grammar.proofs.Shape.ShapedBlocks.{each_few, each_also, ensures_block}
-use Rattle.mr_grammar.proofs.Shape.ShapedNames.{IsWithin, ensures_target_use, ensures_global_name, below, ensures_local_name, ensures_local_use, ensures_function_name, ensures_function_use}
+use Rattle.mr_grammar.proofs.Shape.ShapedBlocks.{each_few, ensures_block}
+use Rattle.mr_grammar.proofs.Shape.ShapedNames.{IsWithin, ensures_target_use, ensures_name, below, ensures_local_use, ensures_function_use}
 use Rattle.mr_grammar.proofs.Shape.ShapedNumbers.{ensures_repeat, ensures_u64}
-use Rattle.mr_grammar.proofs.Shape.ShapedTypes.{ensures_type_part, types_shaped}
-use Rattle.mr_grammar.proofs.Walk.EnsureLaws.{EachFrom, Parts, Ensures, ensures_either, ensures_behind, ensures_empty, ensures_cases, ensures_giving, ensures_then, ensures_pair, ensures_within, ensures_all, ensures_many, ensures_listed, ensures_separated, ensures_before, ensures_in, ensures_token}
+use Rattle.mr_grammar.proofs.Shape.ShapedValues.{parts_shaped}
+use Rattle.mr_grammar.proofs.Walk.EnsureLaws.{EachFrom, Parts, Ensures, ensures_either, ensures_behind, ensures_empty, ensures_cases, ensures_giving, ensures_then, ensures_pair, ensures_within, ensures_all, ensures_many, each_also, ensures_listed, ensures_separated, ensures_before, ensures_in, ensures_token}
+use Rattle.mr_grammar.proofs.Walk.FairJudges.{fine_found}
 
 -- a byte of an item, which is the number that is written
 pub byte_fine : (w : Word) (b : ℕ) → judged_item w ≡ Some (item_word.Byte b, None) → (is_number w.text ≡ true) × (value_of w.text ≡ b) × (b ≤ 255)
@@ -42,11 +44,6 @@ byte_fine w b e = go (is_number w.text) (nat_le (value_of w.text) 255) (is_word 
     go false little true reloc is t e = let clash = ap (λ p. p.0) (some_is e) in absurd (cc)
     go false little false true is t e = let clash = ap (λ p. p.0) (some_is e) in absurd (cc)
     go false little false false is t e = absurd (cc)
-
--- what a word is found to be
-pub fine_some : {I : Type 0} (found : Option I) (i : I) → fine found ≡ Some (i, None) → found ≡ Some i
-fine_some None i e = absurd (cc)
-fine_some {I} (Some j) i e = ap (λ (verdict : Option (I × Option ℕ)). option_map (λ p. p.0) verdict) e
 
 -- the body of a program: its globals and functions are shaped, where each function has as many names as are defined in it, and keep the limits
 pub record BodyShaped (p : Program) (d : Definitions) (body : ProgramBody) : Type 0 where
@@ -84,7 +81,7 @@ module _ (p : Program) (d : Definitions) (names : length p.names ≡ length (nam
   ensures_global : {height room : ℕ} {part : Parts} (j : ℕ) → Ensures height room part (scope_at d 0) (global_form j) (λ g. (j < 256) × ShapedGlobal p g)
   unfolding global_form items_form
   ensures_global j =
-      ensures_behind (ensures_then (ensures_pair (ensures_global_name d 0 j) (ensures_behind ensures_u64)) (ensures_within (λ lower e. ensures_all (λ i. ensures_item 0)))
+      ensures_behind (ensures_then (ensures_pair (ensures_name d 0 (DefinesGlobal j) (λ text n e. define_global d 0 j n text e)) (ensures_behind ensures_u64)) (ensures_within (λ lower e. ensures_all (λ i. ensures_item 0)))
       (λ head items q all. (
         below j 256 q.0.0,
         record { name = omega (arith, q.0.1, names); align = lt_from head.1 (2 ^ 64) q.1; items = All-from_recursion (ShapedItem p) items all },
@@ -94,7 +91,7 @@ module _ (p : Program) (d : Definitions) (names : length p.names ≡ length (nam
   ensures_local : {height room : ℕ} (k j : ℕ) → Ensures height room (SpelledPart height) (scope_at d k) (local_form j) (λ l. (j < 256) × ShapedLocal p l)
   unfolding local_form
   ensures_local {height} {room} k j =
-      ensures_then (ensures_local_name d k j) (ensures_behind (ensures_type_part (types_shaped height room (scope_at d k))))
+      ensures_then (ensures_name d k (DefinesLocal j) (λ text n e. define_local d k j n text e)) (ensures_behind (parts_shaped d k TheType))
       (λ name t q shaped. (below j 256 q.0, record { name = omega (arith, q.1, names); ty = shaped }))
 
   ensures_locals : {height room : ℕ} (k : ℕ) → Ensures height room (SpelledPart height) (scope_at d k) locals_form (λ ls. (length ls ≤ 256) × All (ShapedLocal p) ls)
@@ -146,12 +143,12 @@ module _ (p : Program) (d : Definitions) (names : length p.names ≡ length (nam
   ensures_function : {height room : ℕ} (k : ℕ) → Ensures height room (SpelledPart height) (scope_at d 0) (function_form k) (λ f. (k < 256) × (Counted d k f → ShapedFunction p f))
   unfolding function_form
   ensures_function k =
-      ensures_behind (ensures_then (ensures_function_name d 0 k) (ensures_in (ensures_body k))
+      ensures_behind (ensures_then (ensures_name d 0 (DefinesFunction k) (λ text n e. define_function d 0 k n text e)) (ensures_in (ensures_body k))
       (λ n body q shaped. (below k 256 q.0, λ counted. shaped n (omega (arith, q.1, names)) counted)))
 
   ensures_edition : {height room : ℕ} → Ensures height room (SpelledPart height) (scope_at d 0) (token judged_edition) IsEdition
   unfolding judged_edition
-  ensures_edition = ensures_token (λ w n e. edition_found w.text n (fine_some _ n e))
+  ensures_edition = ensures_token (λ w n e. edition_found w.text n (fine_found _ n None e))
 
   pub ensures_program : {height room : ℕ} → Ensures height room (SpelledPart height) (scope_at d 0) program_form (BodyShaped p d)
   unfolding program_form globals_form functions_form

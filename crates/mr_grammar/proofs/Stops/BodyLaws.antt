@@ -133,23 +133,6 @@ unfit : (scope : Scope) (front rest : List Word)
 unfit scope front [] none = λ body marks words s. none [] refl body marks (words ∙ sym (append-nil front)) s
 unfit scope front (w ∷ ws) none = λ body marks behind words s. none (w ∷ behind) refl body marks words s
 
--- What is read of the words is what they write.
-pub body_writes : (scope : Scope) (words : List Word) (body : ProgramBody) → body_of scope words ≡ Ok body → Writes scope words body
-unfolding body_of
-body_writes scope words body e = go a.rest a.words a.ending
-  where
-    a : Says (SomeSpelled 32 scope program_form) (λ us. read 32 scope program_form us) words
-    a = program_said scope words
-
-    go : (rest : List Word) → words ≡ words_in a.front ++ rest
-        → Reached (SomeSpelled 32 scope program_form) (λ us. read 32 scope program_form us) a.front rest
-        ⊎ Stopped (SomeSpelled 32 scope program_form) (λ us. read 32 scope program_form us) a.front rest → Writes scope words body
-    go [] whole (inl (x, written, reads)) =
-        let same : x ≡ body = ok-same (sym (ap (outcome words) (ap (read 32 scope program_form) whole ∙ reads [] refl)) ∙ e) in
-        record { marks = a.front; row = whole ∙ append-nil (words_in a.front); fine = a.fine; written = subst (λ y. SpelledProgram scope y a.front) same written }
-    go (w ∷ ws) whole (inl (x, written, reads)) = let clash = sym (ap (outcome words) (ap (read 32 scope program_form) whole ∙ reads (w ∷ ws) refl)) ∙ e in absurd (cc)
-    go rest whole (inr (code, stops, more)) = let clash = sym (ap (outcome words) (ap (read 32 scope program_form) whole ∙ stops rest refl)) ∙ e in absurd (cc)
-
 writes_read : (scope : Scope) (words : List Word) (body : ProgramBody) → Writes scope words body → read 32 scope program_form words ≡ Ok (body, [])
 writes_read scope words body w = rw w.row (row_read scope body w.marks w.written ∙ checked-fine body w.marks [] w.fine)
 
@@ -157,30 +140,40 @@ pub writes_body : (scope : Scope) (words : List Word) (body : ProgramBody) → W
 unfolding body_of
 writes_body scope words body w = ap (outcome words) (writes_read scope words body w)
 
--- Where reading stops, the words have their first fault.
-pub body_breaks : (scope : Scope) (words : List Word) (s : Stop) → body_of scope words ≡ Err s → BreaksFirst scope words s
+-- what is read of the words is what they write, or they have their first fault
+abbrev BodySaid : Scope → List Word → Result ProgramBody Stop → Type 0
+BodySaid scope words (Ok body) = Writes scope words body
+BodySaid scope words (Err s) = BreaksFirst scope words s
+
+body_said : (scope : Scope) (words : List Word) → BodySaid scope words (body_of scope words)
 unfolding body_of
-body_breaks scope words s e = go a.rest a.words a.ending
+body_said scope words = go a.rest a.words a.ending
   where
     a : Says (SomeSpelled 32 scope program_form) (λ us. read 32 scope program_form us) words
     a = program_said scope words
 
+    found : (rest : List Word) (answer : Result (ProgramBody × List Word) Stop) → words ≡ words_in a.front ++ rest → read 32 scope program_form (words_in a.front ++ rest) ≡ answer
+        → BodySaid scope words (outcome words answer) → BodySaid scope words (outcome words (read 32 scope program_form words))
+    found rest answer whole is said = subst (λ r. BodySaid scope words (outcome words r)) (sym (ap (read 32 scope program_form) whole ∙ is)) said
+
     unexpected : (rest : List Word) → words ≡ words_in a.front ++ rest → GoesOn scope a.front → NothingFits scope (words_in a.front) rest
-        → told words (record { code = 4; left = length rest }) ≡ s → BreaksFirst scope words s
-    unexpected rest whole on none same =
+        → BreaksFirst scope words (told words (record { code = 4; left = length rest }))
+    unexpected rest whole on none =
         let here : BreaksFirst scope words (record { code = code_of_unexpected (words_in a.front) rest; left = length rest })
         = record { front = a.front; rest = rest; whole = whole; left = refl; fine = a.fine; ending = inr (refl, on, none) } in
-        subst (BreaksFirst scope words) (sym (ap (λ ws. told ws (record { code = 4; left = length rest })) whole ∙ told_here (words_in a.front) rest) ∙ same) here
+        subst (BreaksFirst scope words) (sym (ap (λ ws. told ws (record { code = 4; left = length rest })) whole ∙ told_here (words_in a.front) rest)) here
 
     go : (rest : List Word) → words ≡ words_in a.front ++ rest
         → Reached (SomeSpelled 32 scope program_form) (λ us. read 32 scope program_form us) a.front rest
-        ⊎ Stopped (SomeSpelled 32 scope program_form) (λ us. read 32 scope program_form us) a.front rest → BreaksFirst scope words s
-    go [] whole (inl (x, written, reads)) = let clash = sym (ap (outcome words) (ap (read 32 scope program_form) whole ∙ reads [] refl)) ∙ e in absurd (cc)
+        ⊎ Stopped (SomeSpelled 32 scope program_form) (λ us. read 32 scope program_form us) a.front rest
+        → BodySaid scope words (outcome words (read 32 scope program_form words))
+    go [] whole (inl (x, written, reads)) =
+        found [] (Ok (x, [])) whole (reads [] refl) (record { marks = a.front; row = whole ∙ append-nil (words_in a.front); fine = a.fine; written = written })
     go (w ∷ ws) whole (inl (x, written, reads)) =
-        unexpected (w ∷ ws) whole (record { back = []; body = x; written = rw (append-nil a.front) written })
+        found (w ∷ ws) (Ok (x, w ∷ ws)) whole (reads (w ∷ ws) refl)
+        (unexpected (w ∷ ws) whole (record { back = []; body = x; written = rw (append-nil a.front) written })
         (λ body marks behind same row.
-        never_leaves body x marks w behind (sym (row_read scope body marks row) ∙ ap (read 32 scope program_form) same ∙ reads (w ∷ behind) refl))
-        (err-same (sym (ap (outcome words) (ap (read 32 scope program_form) whole ∙ reads (w ∷ ws) refl)) ∙ e))
+        never_leaves body x marks w behind (sym (row_read scope body marks row) ∙ ap (read 32 scope program_form) same ∙ reads (w ∷ behind) refl)))
     go rest whole (inr (code, stops, (x, back, written, inl (m, others, more, same, next, flaw)))) =
         let row : SpelledProgram scope x (a.front ++ m ∷ more) = rw same at written in
         let other : code ≡ 4 → ⊥ = λ four. breaks_no_kept a.front m more (row_keeps row.0 32 scope program_form x (a.front ++ m ∷ more) program_fair row.1) (flaw ∙ ap Some four) in
@@ -192,17 +185,22 @@ body_breaks scope words s e = go a.rest a.words a.ending
           fine = a.fine;
           ending = inl (record { mark = m; others = others; next = next; broken = flaw; back = more; body = x; written = row });
         } in
-        subst (BreaksFirst scope words)
-        (sym (told_other words (record { code = code; left = length rest }) other)
-        ∙ err-same (sym (ap (outcome words) (ap (read 32 scope program_form) whole ∙ stops rest refl)) ∙ e)) here
+        found rest (stop code rest) whole (stops rest refl) (subst (BreaksFirst scope words) (sym (told_other words (record { code = code; left = length rest }) other)) here)
     go rest whole (inr (code, stops, (x, back, written, inr four))) =
-        unexpected rest whole (record { back = back; body = x; written = written })
+        found rest (stop 4 rest) whole (stops rest refl ∙ ap (λ c. stop c rest) four)
+        (unexpected rest whole (record { back = back; body = x; written = written })
         (unfit scope (words_in a.front) rest
         (λ v next body marks same row.
         never_stops (length v) body marks (row_keeps row.0 32 scope program_form body marks program_fair row.1)
-        (sym (row_read scope body marks row) ∙ ap (read 32 scope program_form) same ∙ stops v next ∙ ap (λ c. stop c v) four)))
-        (ap (λ c. told words (record { code = c; left = length rest })) (sym four)
-        ∙ err-same (sym (ap (outcome words) (ap (read 32 scope program_form) whole ∙ stops rest refl)) ∙ e))
+        (sym (row_read scope body marks row) ∙ ap (read 32 scope program_form) same ∙ stops v next ∙ ap (λ c. stop c v) four))))
+
+-- What is read of the words is what they write.
+pub body_writes : (scope : Scope) (words : List Word) (body : ProgramBody) → body_of scope words ≡ Ok body → Writes scope words body
+body_writes scope words body e = subst (BodySaid scope words) e (body_said scope words)
+
+-- Where reading stops, the words have their first fault.
+pub body_breaks : (scope : Scope) (words : List Word) (s : Stop) → body_of scope words ≡ Err s → BreaksFirst scope words s
+body_breaks scope words s e = subst (BodySaid scope words) e (body_said scope words)
 
 -- a row goes no further than to where nothing fits
 not_longer : (scope : Scope) (front back : List Mark) (body : ProgramBody) (rest u others : List Word) → SpelledProgram scope body (front ++ back)

@@ -1,5 +1,5 @@
 -- What reading says of words in the forms of the language.
-use Rattle.std.proofs.Common.{Bool, ◌||◌, ◌≡◌, false, true, List, refl, Ok, ◌∷◌, [], ap, ◌++◌, length, arith, ℕ, ◌==◌, ◌-◌, suc, zero}
+use Rattle.std.proofs.Common.{Bool, List, true, ◌≡◌, false, refl, Ok, ◌∷◌, [], ap, ◌++◌, length, arith, ◌||◌, ℕ, ◌==◌, ◌-◌, suc, zero}
 use Rattle.mr_ast.specs.Forms.{Spelling, Mark, Part, SpelledBy, Word, Empty, Then, Cases, Either, Many, Within, In}
 use Rattle.mr_ast.specs.Scope.{Scope}
 use Rattle.mr_ast.specs.Spelled.{SpelledInside, NoPart, form_of}
@@ -10,15 +10,11 @@ use Rattle.mr_grammar.proofs.Stops.PartLaws.{part_begins, IsTold}
 use Rattle.mr_grammar.proofs.Stops.Predictive.{told_part}
 use Rattle.mr_grammar.proofs.Stops.Samples.{sample_by, kinds_sampled}
 use Rattle.mr_grammar.proofs.Walk.BeginLaws.{Opens, spelled_opens}
+use Rattle.mr_grammar.proofs.Walk.CompleteLaws.{left_false}
 use Rattle.mr_grammar.proofs.Walk.Fair.{AreFair}
 use Rattle.mr_grammar.proofs.Walk.FairForms.{forms_fair}
 use Rattle.mr_grammar.proofs.Walk.HeightLaws.{SomeInside, SomePart, settled, settled_part, SomeSpelled}
 use Rattle.mr_grammar.proofs.Walk.Says.{Sample, Says, says_ok, says_then, says_made, says_first, says_either, says_many, says_within, says_also}
-
--- the second of two is false where neither is true
-neither : (a b : Bool) → (a || b) ≡ false → b ≡ false
-neither true b e = absurd (cc)
-neither false b e = e
 
 module _ (full : Bool) (read_in : Reading Scope Kind Meaning) (write_in : Spelling Scope Kind Meaning)
     (read_p : Scope → (kind : Kind) → Reads (Meaning kind)) (write_p : Scope → (kind : Kind) → Meaning kind → List Mark → Type 0) (parts : Bool)
@@ -49,7 +45,7 @@ module _ (full : Bool) (read_in : Reading Scope Kind Meaning) (write_in : Spelli
       (λ k x one. (let yes = spelled_opens part_begins full write_in write_p opens_p scope (form k) x [] one in let no = told.1 k in absurd (cc)))
       (length ws) 0 ws (omega arith)
   said_by scope (Within {A} over bracket a) fair told ws =
-      says_within (over || full) bracket (sample_in scope A a fair) (λ free us. said_in (neither over full free) scope A a fair told.0 us) ws
+      says_within (over || full) bracket (sample_in scope A a fair) (λ free us. said_in (left_false over full free) scope A a fair told.0 us) ws
   said_by scope (Part kind) fair told ws = said_p fair scope kind ws
   said_by scope (In into a) fair told ws = said_by (into scope) a fair.1 told ws
 

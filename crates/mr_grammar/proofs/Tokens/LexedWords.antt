@@ -1,5 +1,5 @@
 -- A text in which blanks stand between words is read as these words.
-use Rattle.std.proofs.Common.{ℕ, ◌≡◌, true, false, arith, ◌&&◌, List, [], ◌∷◌, subst, sym, refl, ◌++◌, ap, inl, inr, append_assoc, ◌∙◌, map, ◌+◌, length, ◌≤◌, ◌^◌}
+use Rattle.std.proofs.Common.{List, ℕ, ◌≡◌, true, [], ◌∷◌, arith, subst, sym, refl, ◌++◌, ap, inl, inr, append_assoc, ◌∙◌, map, ◌+◌, length, ◌≤◌, ◌^◌}
 use Rattle.std.specs.List.{AllByRecursion, join_with_byte}
 use Rattle.std.specs.Prelude.{flat_map, Ok}
 use Rattle.std.proofs.lemmas.Bool.Decides.{nat_tests}
@@ -7,7 +7,7 @@ use Rattle.std.proofs.lemmas.List.{map-append}
 use Rattle.mr_ast.specs.Canon.{text_of_line, text_of_lines}
 use Rattle.mr_ast.specs.Words.{Texts}
 use Rattle.mr_lex.proofs.ReadingLaws.{lexes_lexed}
-use Rattle.mr_lex.specs.Bytes.{is_blank, is_word_byte, is_digit, begins_arrow, ends_arrow}
+use Rattle.mr_lex.specs.Bytes.{is_blank}
 use Rattle.mr_lex.specs.Pieces.{IsSymbol, Piece, Blank, Comment, Word, Number, Symbol, Splits, IsFine, IsPiece, spelling_of}
 use Rattle.mr_lex.specs.Reading.{lexed}
 use Rattle.mr_lex.specs.Tokens.{lexemes_at, lexemes_from, Lexeme}
@@ -16,18 +16,9 @@ use Rattle.mr_grammar.proofs.Walk.Rows.{all_parts}
 
 -- ---- blanks end each token
 
-word_ends : (b : ℕ) → is_blank b ≡ true → is_word_byte b ≡ false
-word_ends b blank = grind (arith, nat_tests)
-
-digits_end : (b : ℕ) → is_blank b ≡ true → is_digit b ≡ false
-digits_end b blank = grind (arith, nat_tests)
-
-symbol_ends : (c b : ℕ) → is_blank b ≡ true → (begins_arrow c && ends_arrow b) ≡ false
-symbol_ends c b blank = grind (arith, nat_tests)
-
 symbol_before : (text : List ℕ) (b : ℕ) (behind : List ℕ) → is_blank b ≡ true → IsSymbol text [] → IsSymbol text (b ∷ behind)
 symbol_before [] b behind blank symbol = symbol
-symbol_before (c ∷ []) b behind blank symbol = (symbol.0, symbol_ends c b blank)
+symbol_before (c ∷ []) b behind blank symbol = (symbol.0, grind (arith, nat_tests, blank))
 symbol_before (c ∷ d ∷ []) b behind blank symbol = symbol
 symbol_before (c ∷ d ∷ e ∷ text) b behind blank symbol = symbol
 
@@ -71,9 +62,9 @@ blank_before b blank made = piece_before (Blank b) blank tt made
 -- a token, and a blank behind it
 token_before : {text : List ℕ} {words : Texts} (token : List ℕ) (b : ℕ) → is_blank b ≡ true → IsTokenText token → IsMadeOf text words → IsMadeOf (token ++ b ∷ text) (token ∷ words)
 token_before token b blank (inl word) made =
-    piece_before (Word token) (record { begun = word.begun; within = word.within; longest = word_ends b blank }) tt (blank_before b blank made)
+    piece_before (Word token) (record { begun = word.begun; within = word.within; longest = grind (arith, nat_tests, blank) }) tt (blank_before b blank made)
 token_before token b blank (inr (inl number)) made =
-    piece_before (Number token) (record { begun = number.0.begun; within = number.0.within; longest = digits_end b blank }) number.1 (blank_before b blank made)
+    piece_before (Number token) (record { begun = number.0.begun; within = number.0.within; longest = grind (arith, nat_tests, blank) }) number.1 (blank_before b blank made)
 token_before {text} token b blank (inr (inr symbol)) made =
     piece_before (Symbol token) (symbol_before token b text blank symbol) tt (blank_before b blank made)
 
@@ -101,10 +92,7 @@ lines_made (line ∷ lines) tokens =
 
 texts_at : (text : List ℕ) (at : ℕ) (piece : Piece) → map (λ l. l.text) (lexemes_at text at piece) ≡ token_texts piece
 texts_at text at (Blank b) = refl
-texts_at text at (Comment bytes) = refl
-texts_at text at (Word bytes) = refl
-texts_at text at (Number bytes) = refl
-texts_at text at (Symbol bytes) = refl
+texts_at text at _ = refl
 
 texts_from : (text : List ℕ) (at : ℕ) (pieces : List Piece) → map (λ l. l.text) (lexemes_from text at pieces) ≡ flat_map token_texts pieces
 texts_from text at [] = refl
@@ -113,17 +101,13 @@ texts_from text at (piece ∷ pieces) =
     map-append (λ (l : Lexeme). l.text) (lexemes_at text at piece) (lexemes_from text next pieces)
     ∙ (λ i. texts_at text at piece i ++ texts_from text next pieces i)
 
-made_is_lexed : (text : List ℕ) (words : Texts) → length text ≤ 2 ^ 20 → IsMadeOf text words → (lexemes : List Lexeme) × (lexed text ≡ Ok lexemes) × (map (λ l. l.text) lexemes ≡ words)
-made_is_lexed text words short made =
-    let lexemes = lexemes_from text 0 made.pieces in (
-      lexemes,
-      lexes_lexed text lexemes (record { short = short; pieces = made.pieces; split = made.split; fine = made.fine; listed = refl }),
-      texts_from text 0 made.pieces ∙ made.tokens,
-    )
-
 -- Lines of tokens, one space between two tokens and LF behind each line, are read as these tokens.
 pub words_are_lexed : (lines : List Texts) → AreTokens (flat_map (λ line. line) lines) → length (text_of_lines lines) ≤ 2 ^ 20
     → (lexemes : List Lexeme) × (lexed (text_of_lines lines) ≡ Ok lexemes) × (map (λ l. l.text) lexemes ≡ flat_map (λ line. line) lines)
 words_are_lexed lines tokens short =
-    let words = flat_map (λ line. line) lines in
-    made_is_lexed (text_of_lines lines) words short (lines_made lines tokens)
+    let made = lines_made lines tokens in
+    let lexemes = lexemes_from (text_of_lines lines) 0 made.pieces in (
+      lexemes,
+      lexes_lexed (text_of_lines lines) lexemes (record { short = short; pieces = made.pieces; split = made.split; fine = made.fine; listed = refl }),
+      texts_from (text_of_lines lines) 0 made.pieces ∙ made.tokens,
+    )

@@ -91,6 +91,3 @@ table_passes {X} test (entry ∷ entries) text x all found =
         → (if same then Some entry.1 else looked_up entries text) ≡ Some x → test text ≡ true
     go true same first rest found = ap test ((bytes_eq-Decides text entry.0).0 same) ∙ first
     go false differ first rest found = rest found
-
-pub table_fixed : {X : Type 0} (table : Table X) (text : List ℕ) (x : X) → list_all (λ entry. is_fixed entry.0) table ≡ true → looked_up table text ≡ Some x → is_fixed text ≡ true
-table_fixed table text x all found = table_passes is_fixed table text x all found

@@ -1,5 +1,6 @@
 -- What reading gives where a row of marks writes a thing: the thing, or the first limit that the row breaks.
-use Rattle.std.proofs.Common.{List, [], ◌∷◌, Option, ℕ, Result, None, Some, Ok, ◌++◌, ◌≡◌, refl, ap, sym}
+use Rattle.std.proofs.Common.{List, [], ◌∷◌, Option, ℕ, Result, None, Some, Ok, ◌++◌, ◌≡◌, refl, ap, sym, ◌∙◌}
+use Rattle.std.proofs.lemmas.List.{append-nil}
 use Rattle.mr_ast.specs.Forms.{Word, Mark}
 use Rattle.mr_words.specs.declared.fault.Stop.{Stop}
 use Rattle.mr_grammar.specs.Denotes.{words_in, IsFine}
@@ -28,18 +29,6 @@ checked x (m ∷ marks) rest = unless_flawed m.flaw (m.word ∷ words_in marks +
 abbrev pub IsRead : {A : Type 0} → Reads A → (Word → Type 0) → A → List Mark → Type 0
 IsRead read ends x marks = (rest : List Word) → (IsFine marks → First ends rest) → read (words_in marks ++ rest) ≡ checked x marks rest
 
--- a thing that is made of what was read
-pub checked-made : {A B : Type 0} (f : A → B) (x : A) (marks : List Mark) (rest : List Word)
-    → checked x marks rest >>= (λ y. Ok (f y.0, y.1)) ≡ checked (f x) marks rest
-checked-made f x [] rest = refl
-checked-made f x (m ∷ marks) rest = go m.flaw (checked-made f x marks rest)
-  where
-    go : (flaw : Option ℕ) → checked x marks rest >>= (λ y. Ok (f y.0, y.1)) ≡ checked (f x) marks rest
-        → unless_flawed flaw (m.word ∷ words_in marks ++ rest) (checked x marks rest) >>= (λ y. Ok (f y.0, y.1))
-        ≡ unless_flawed flaw (m.word ∷ words_in marks ++ rest) (checked (f x) marks rest)
-    go None behind = behind
-    go (Some code) behind = refl
-
 -- a row behind another
 pub checked-then : {A B : Type 0} (next : A × List Word → Result (B × List Word) Stop) (x : A) (z : B) (front back : List Mark) (rest : List Word)
     → (IsFine front → next (x, words_in back ++ rest) ≡ checked z back rest)
@@ -52,3 +41,9 @@ checked-then {B} next x z (m ∷ front) back rest behind = go m.flaw (λ e. chec
         ≡ unless_flawed flaw (m.word ∷ words_in (front ++ back) ++ rest) (checked z (front ++ back) rest)
     go None more = more refl
     go (Some code) more = ap (λ ws. stop {A = B × List Word} code (m.word ∷ ws)) (sym (words-append-rest front back rest))
+
+-- a thing that is made of what was read
+pub checked-made : {A B : Type 0} (f : A → B) (x : A) (marks : List Mark) (rest : List Word)
+    → checked x marks rest >>= (λ y. Ok (f y.0, y.1)) ≡ checked (f x) marks rest
+checked-made f x marks rest =
+    checked-then (λ y. Ok (f y.0, y.1)) x (f x) marks [] rest (λ good. refl) ∙ ap (λ row. checked (f x) row rest) (append-nil marks)

@@ -1,5 +1,5 @@
 -- What a row of marks writes in a form is read: the thing, and the rest behind it; or the first limit that the row breaks.
-use Rattle.std.proofs.Common.{List, ℕ, Bool, ◌≡◌, false, [], refl, ◌∷◌, Ok, zero, suc, bytes_eq, true, ◌||◌, ◌++◌, length, ◌≤◌, Result, arith, ap, ◌∙◌, length-append, sym, Option, Some, None, inl, inr, if◌then◌else◌}
+use Rattle.std.proofs.Common.{List, ℕ, Bool, ◌≡◌, false, [], refl, ◌∷◌, Ok, zero, suc, ◌||◌, true, ◌++◌, length, ◌≤◌, Result, arith, ap, ◌∙◌, length-append, sym, Option, Some, None, inl, inr, if◌then◌else◌}
 use Rattle.std.proofs.lemmas.Slice.Eq.{bytes_eq-Decides}
 use Rattle.mr_ast.specs.Forms.{Word, Form, Mark, Many, EachSpelled, Spelling, Part, SpelledBy, Empty, Then, Cases, Either, Within, closing, opening, In}
 use Rattle.mr_words.specs.declared.fault.Stop.{Stop}
@@ -22,10 +22,8 @@ unfolding many_at
 many_none read test zero k ws e = refl
 many_none read test (suc most) k ws e = rw e refl
 
-bytes_same : (a b : List ℕ) → a ≡ b → bytes_eq a b ≡ true
-bytes_same a b e = (bytes_eq-Decides a b).1 e
-
-left_false : (a b : Bool) → a || b ≡ false → b ≡ false
+-- the second of two is false where neither is true
+pub left_false : (a b : Bool) → a || b ≡ false → b ≡ false
 left_false true b e = absurd (cc)
 left_false false b e = e
 
@@ -128,7 +126,7 @@ module _ {S P : Type 0} {M : P → Type 0} (begins stops : P → Word → Type 0
         rw whole (go (over || full)
         (λ free. ap (λ ws. inner scope A a ws >>= next) (words-append-rest between (record { word = end; flaw = None } ∷ []) rest)
         ∙ ap (λ r. r >>= next) (within (left_false over full free) scope A a x between told.0 one (end ∷ rest) (λ good. told.1 end is_end))
-        ∙ checked-then next x x between (record { word = end; flaw = None } ∷ []) rest (λ good. rw (bytes_same end.text (closing bracket) is_end) refl)))
+        ∙ checked-then next x x between (record { word = end; flaw = None } ∷ []) rest (λ good. rw ((bytes_eq-Decides end.text (closing bracket)).1 is_end) refl)))
       where
         next : A × List Word → Result (A × List Word) Stop
         next y = expected (closing bracket) y.1 >>= (λ last. Ok (y.0, last))
@@ -139,7 +137,7 @@ module _ {S P : Type 0} {M : P → Type 0} (begins stops : P → Word → Type 0
         go : (closed : Bool) → (closed ≡ false → inner scope A a (words_in row ++ rest) >>= next ≡ checked x row rest)
             → opened closed bracket (start ∷ words_in row ++ rest) >>= (λ ws. inner scope A a ws >>= next)
             ≡ unless_flawed (if closed then Some 7 else None) (start ∷ words_in row ++ rest) (checked x row rest)
-        go true more = rw (bytes_same start.text (opening bracket) is_start) refl
-        go false more = rw (bytes_same start.text (opening bracket) is_start) (more refl)
+        go true more = rw ((bytes_eq-Decides start.text (opening bracket)).1 is_start) refl
+        go false more = rw ((bytes_eq-Decides start.text (opening bracket)).1 is_start) (more refl)
     checked_by scope (Part p) x marks told s rest last = parts scope p x marks s rest last
     checked_by scope (In into a) x marks told s rest last = checked_by (into scope) a x marks told s rest last

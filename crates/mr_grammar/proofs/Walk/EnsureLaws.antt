@@ -1,13 +1,18 @@
 -- What is so of each thing that a row without a broken limit writes in a form: a law for each way to make a form.
-use Rattle.std.proofs.Common.{ℕ, List, ◌==◌, ◌-◌, ◌≡◌, suc, [], ◌∷◌, subst, sym, Some, None, ◌∙◌, ap, Bool, inl, inr, ◌||◌, false, if◌then◌else◌, ◌++◌, Option, true, refl, zero}
+use Rattle.std.proofs.Common.{ℕ, Bool, ◌≡◌, None, false, true, refl, List, ◌==◌, ◌-◌, suc, [], ◌∷◌, subst, sym, Some, ◌∙◌, ap, inl, inr, ◌||◌, if◌then◌else◌, ◌++◌, zero, Option}
 use Rattle.std.specs.List.{AllByRecursion}
 use Rattle.mr_ast.specs.declared.words.Bracket.{Bracket}
 use Rattle.mr_ast.specs.Forms.{Mark, SpelledBy, EachSpelled, Empty, Then, Word, Cases, Either, Many, Within, In, Part}
 use Rattle.mr_ast.specs.Scope.{Scope}
 use Rattle.mr_ast.specs.Spelled.{NoPart, SpelledInside, SpelledPart, form_of}
-use Rattle.mr_ast.specs.Writing.{Kind, Meaning, Writing, Judged, word, token, giving, ◌▸◌, ◌◂◌, ◌▪◌, separated, optional, listed}
+use Rattle.mr_ast.specs.Writing.{limit, Kind, Meaning, Writing, Judged, word, token, giving, ◌▸◌, ◌◂◌, ◌▪◌, separated, optional, listed}
 use Rattle.mr_grammar.specs.Denotes.{IsFine}
 use Rattle.mr_grammar.proofs.Walk.Rows.{fine_parts}
+
+-- a limit that is not broken
+pub unbroken : (code : ℕ) (broken : Bool) → limit code broken ≡ None → broken ≡ false
+unbroken code true e = absurd (cc)
+unbroken code false e = refl
 
 -- what writes a part, where so many brackets may be open
 abbrev pub Parts : Type 1
@@ -36,9 +41,10 @@ each_ensured spelled P one k [] marks fine s = tt
 each_ensured spelled P one k (x ∷ xs) marks fine (front, back, whole, first, others) =
     let good = fine_parts front back (rw whole at fine) in (one k x front good.0 first, each_ensured spelled P one (suc k) xs back good.1 others)
 
-pub each_same : {A : Type 0} (P : A → Type 0) (k : ℕ) (xs : List A) → EachFrom (λ k. P) k xs → AllByRecursion P xs
-each_same P k [] each = tt
-each_same P k (x ∷ xs) each = (each.0, each_same P (suc k) xs each.1)
+-- what is so of each thing, whatever its number
+pub each_also : {A : Type 0} (P : ℕ → A → Type 0) (Q : A → Type 0) → ((k : ℕ) (x : A) → P k x → Q x) → (k : ℕ) (xs : List A) → EachFrom P k xs → AllByRecursion Q xs
+each_also P Q law k [] each = tt
+each_also P Q law k (x ∷ xs) each = (law k x each.0, each_also P Q law (suc k) xs each.1)
 
 module _ {height room : ℕ} {part : Parts} {scope : Scope} where
   pub ensures_also : {A : Type 0} {form : Writing A} {P Q : A → Type 0} → Ensures height room part scope form P → ((x : A) → P x → Q x) → Ensures height room part scope form Q
@@ -80,7 +86,7 @@ module _ {height room : ℕ} {part : Parts} {scope : Scope} where
 
   pub ensures_all : {A : Type 0} {test : List ℕ → Bool} {form : ℕ → Writing A} {P : A → Type 0}
       → ((k : ℕ) → Ensures height room part scope (form k) P) → Ensures height room part scope (Many test form) (AllByRecursion P)
-  ensures_all {P} law = ensures_also (ensures_many law) (λ xs each. each_same P 0 xs each)
+  ensures_all {P} law = ensures_also (ensures_many law) (λ xs each. each_also (λ k. P) P (λ k x p. p) 0 xs each)
 
   -- something in brackets, of which the opening one is not one too many
   pub ensures_bracket : {A : Type 0} {over : Bool} {bracket : Bracket} {a : Writing A} {P Q : A → Type 0}
@@ -89,13 +95,9 @@ module _ {height room : ℕ} {part : Parts} {scope : Scope} where
   ensures_bracket {A} {over} {bracket} {a} {P} {Q} law one = record {
     holds = λ x marks fine (start, end, between, is_start, is_end, whole, inner).
         (let good : IsFine (record { word = start; flaw = if over || (room == 0) then Some 7 else None } ∷ between ++ record { word = end; flaw = None } ∷ []) = rw whole at fine in
-        one x (not_many (over || (room == 0)) good.0) (inside height law x between (fine_parts between (record { word = end; flaw = None } ∷ []) good.1).0 inner));
+        one x (unbroken 7 (over || (room == 0)) good.0) (inside height law x between (fine_parts between (record { word = end; flaw = None } ∷ []) good.1).0 inner));
   }
     where
-      not_many : (many : Bool) → ◌≡◌ {A = Option ℕ} (if many then Some 7 else None) None → many ≡ false
-      not_many true e = absurd (cc)
-      not_many false e = refl
-
       inside : (deep : ℕ) → EnsuresInside deep room scope a P → (x : A) (marks : List Mark) → IsFine marks → SpelledInside deep (room - 1) scope A a x marks → P x
       inside zero law x marks fine s = absurd s
       inside (suc deep) law x marks fine s = (law deep refl).holds x marks fine s

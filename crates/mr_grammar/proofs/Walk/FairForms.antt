@@ -24,7 +24,7 @@ use Rattle.mr_ast.specs.ValueGrammar.{place_from, postfixes_form, postfix_form, 
 use Rattle.mr_ast.specs.Words.{looked_up, tree_words, is_exposed, stmt_words, term_words, intrinsic_words, kind_words, is_number, edition_words}
 use Rattle.mr_ast.specs.Writing.{Kind, TheType, TheTree, ThePlace, TheValue, limit, Judged}
 use Rattle.mr_grammar.proofs.Walk.Fair.{AreFair}
-use Rattle.mr_grammar.proofs.Walk.FairJudges.{fair_pieces, fair_fine, fair_word, exposed_plain, word_fair, limit_plain, name_fair, repeat_fair, target_fair}
+use Rattle.mr_grammar.proofs.Walk.FairJudges.{fair_pieces, fair_fine, fair_word, exposed_plain, word_fair, limit_plain, name_fair}
 
 -- types
 shape_fair : (parts : Bool) → AreFair parts shape_form
@@ -47,13 +47,15 @@ tree_fair parts = (fair_fine (λ w. looked_up tree_words w.text) (codes "invalid
     behind tree_word.Invalid = tt
     behind _ = search fair_pieces parts 10
 
+ruleset fair_types = (shape_fair, field_fair, variant_fair, tree_fair)
+
 pub type_fair : (parts : Bool) → AreFair parts type_form
 unfolding type_form judged_type ref_form tuple_type_form fields_form array_form union_type_form chunks_form chunk_form enum_form variants_form
 type_fair parts = (fair_fine (λ w. type_word_of w.text) (codes "bool") type_word.Bool refl, behind)
   where
     behind : (i : TypeWord) → AreFair parts (type_behind i)
     behind type_word.Bool = tt
-    behind _ = search (fair_pieces, shape_fair, field_fair, variant_fair, tree_fair) parts 10
+    behind _ = search (fair_pieces, fair_types) parts 10
 
 -- places and values
 pub place_fair : (parts over : Bool) → AreFair parts (place_from over)
@@ -134,8 +136,8 @@ unfolding item_form judged_item repeat_form reloc_form is_number
 item_fair = (fair_fine (λ w. item_word_of w.text) (codes "?") item_word.Uninit refl, behind)
   where
     behind : (i : ItemWord) → AreFair true (item_behind i)
-    behind item_word.Uninit = search (fair_pieces, repeat_fair, target_fair) parts 10
-    behind _ = search (fair_pieces, repeat_fair, target_fair) parts 10
+    behind item_word.Uninit = search fair_pieces parts 10
+    behind _ = search fair_pieces parts 10
 
 pub global_fair : (k : ℕ) → AreFair true (global_form k)
 unfolding global_form items_form

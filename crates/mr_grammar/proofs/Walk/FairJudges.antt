@@ -7,7 +7,7 @@ use Rattle.mr_ast.specs.declared.program.Target.{Target}
 use Rattle.mr_ast.specs.declared.program.Target.TheVariants as target
 use Rattle.mr_ast.specs.declared.types.IntType.TheVariants as int
 use Rattle.mr_ast.specs.declared.words.Role.{Role}
-use Rattle.mr_ast.specs.declared.words.Role.TheVariants.{DefinesGlobal, DefinesFunction, DefinesLocal, DefinesBlock, UsesGlobal, UsesFunction, UsesLocal, UsesBlock}
+use Rattle.mr_ast.specs.declared.words.Role.TheVariants.{DefinesGlobal, DefinesFunction, DefinesLocal, DefinesBlock}
 use Rattle.mr_ast.specs.Forms.{Word}
 use Rattle.mr_ast.specs.Scope.{used_in, Definitions, number_of_name, name_number, name_target, number_in, item_names, target_of, Scope}
 use Rattle.mr_ast.specs.Words.{is_number, looked_up, int_words, is_name}
@@ -124,10 +124,7 @@ role_plain d f (DefinesGlobal k) text e = defined_plain _ e
 role_plain d f (DefinesFunction k) text e = defined_plain _ e
 role_plain d f (DefinesLocal k) text e = defined_plain _ e
 role_plain d f (DefinesBlock k) text e = defined_plain _ e
-role_plain d f UsesGlobal text e = used_plain _ e
-role_plain d f UsesFunction text e = used_plain _ e
-role_plain d f UsesLocal text e = used_plain _ e
-role_plain d f UsesBlock text e = used_plain _ e
+role_plain d f _ text e = used_plain _ e
 
 number_plain : (known : Option Definitions) (k : ℕ) (role : Role) (w : Word) → (name_number (record { known = known; function = k }) role w).1 ≡ Some 4 → ⊥
 number_plain None k role w e = absurd (cc)
@@ -179,4 +176,4 @@ target_fair parts = (
     plain scope w i true e = target_plain scope.known scope.function w (ap (λ p. p.1) (some_is e))
     plain scope w i false e = absurd (cc)
 
-pub ruleset fair_pieces = (word_fair, limited_7_fair, limited_8_fair, u64_fair, num_fair, name_fair, int_fair)
+pub ruleset fair_pieces = (word_fair, limited_7_fair, limited_8_fair, u64_fair, num_fair, name_fair, int_fair, repeat_fair, target_fair)

@@ -9,6 +9,7 @@ use Rattle.mr_ast.specs.Forms.{Mark, Word, opening, closing, EachSpelled}
 use Rattle.mr_words.specs.declared.fault.Stop.{Stop}
 use Rattle.mr_grammar.specs.Denotes.{words_in, IsFine}
 use Rattle.mr_grammar.specs.Reading.{is_next, Reads, stop, first_at, ◌>>=◌, opened, taken, expected, many_at}
+use Rattle.mr_grammar.proofs.Walk.EnsureLaws.{unbroken}
 use Rattle.mr_grammar.proofs.Walk.FairJudges.{spelt, taken_here}
 use Rattle.mr_grammar.proofs.Walk.Rows.{words-append-rest, fine-append}
 
@@ -182,15 +183,12 @@ says_either test {writes_a} {writes_b} {read_a} {read_b} ws a b = go (is_next te
 
 -- ---- brackets
 
-opener : Bool → Bracket → Word → Option (Unit {0} × Option ℕ)
-opener closed bracket w = if bytes_eq w.text (opening bracket) then Some (tt, if closed then Some 7 else None) else None
-
-closer : Bracket → Word → Option (Unit {0} × Option ℕ)
-closer bracket w = if bytes_eq w.text (closing bracket) then Some (tt, None) else None
+-- a word that is one too many where no more may be open
+abbrev bracket_word : Bool → List ℕ → Word → Option (Unit {0} × Option ℕ)
+bracket_word closed text w = if bytes_eq w.text text then Some (tt, if closed then Some 7 else None) else None
 
 opened_first : {B : Type 0} (closed : Bool) (bracket : Bracket) (next : List Word → Result B Stop) (ws : List Word)
-    → opened closed bracket ws >>= next ≡ first_at (opener closed bracket) ws >>= (λ i. next i.1)
-unfolding opener
+    → opened closed bracket ws >>= next ≡ first_at (bracket_word closed (opening bracket)) ws >>= (λ i. next i.1)
 opened_first closed bracket next [] = refl
 opened_first {B} closed bracket next (w ∷ ws) = go (bytes_eq w.text (opening bracket)) closed
   where
@@ -200,55 +198,36 @@ opened_first {B} closed bracket next (w ∷ ws) = go (bytes_eq w.text (opening b
     go true false = refl
     go false full = refl
 
-expected_first : {B : Type 0} (bracket : Bracket) (next : List Word → Result B Stop) (ws : List Word)
-    → expected (closing bracket) ws >>= next ≡ first_at (closer bracket) ws >>= (λ i. next i.1)
-unfolding closer
-expected_first bracket next [] = refl
-expected_first {B} bracket next (w ∷ ws) = go (bytes_eq w.text (closing bracket))
+expected_first : {B : Type 0} (text : List ℕ) (next : List Word → Result B Stop) (ws : List Word)
+    → expected text ws >>= next ≡ first_at (bracket_word false text) ws >>= (λ i. next i.1)
+expected_first text next [] = refl
+expected_first {B} text next (w ∷ ws) = go (bytes_eq w.text text)
   where
     go : (same : Bool) → (if same then Ok ws else stop 4 (w ∷ ws)) >>= next ≡ taken (if same then Some (tt {0}, None) else None) w ws >>= (λ i. next i.1)
     go true = refl
     go false = refl
 
-this_word : {X : Type 0} (text t : List ℕ) (x y : X) → (if bytes_eq text t then Some x else None) ≡ Some y → (text ≡ t) × (x ≡ y)
-this_word {X} text t x y e = go (bytes_eq text t) refl e
+-- the row of this word alone
+abbrev Alone : Bool → List ℕ → List Mark → Type 0
+Alone closed text marks = (w : Word) × (w.text ≡ text) × (marks ≡ record { word = w; flaw = if closed then Some 7 else None } ∷ [])
+
+says_bracket : (closed : Bool) (text : List ℕ) (ws : List Word) → Says (λ u. Alone closed text) (first_at (bracket_word closed text)) ws
+says_bracket closed text ws = says_also
+    (says_first (bracket_word closed text) (tt, record { word = spelt text; flaw = flaw } ∷ [], (spelt text, flaw, refl, taken_here text (tt, flaw))) ws)
+    (λ u marks (w, found, is, judged). (let (same, at) = go w (u, found) (bytes_eq w.text text) refl judged in (w, same, is ∙ ap (λ p. record { word = w; flaw = p.1 } ∷ []) (sym at))))
+    (λ us e. refl)
   where
-    go : (same : Bool) → bytes_eq text t ≡ same → ◌≡◌ {A = Option X} (if same then Some x else None) (Some y) → (text ≡ t) × (x ≡ y)
-    go true is e = ((bytes_eq-Decides text t).0 is, some_is e)
-    go false is e = absurd (cc)
+    flaw : Option ℕ
+    flaw = if closed then Some 7 else None
 
-opener_takes : (closed : Bool) (bracket : Bracket) → Sample (One (opener closed bracket))
-unfolding opener
-opener_takes closed bracket =
-    let w = spelt (opening bracket) in let flaw = if closed then Some 7 else None in
-    (tt, record { word = w; flaw = flaw } ∷ [], (w, flaw, refl, taken_here (opening bracket) (tt, flaw)))
+    go : (w : Word) (p : Unit {0} × Option ℕ) (same : Bool) → bytes_eq w.text text ≡ same
+        → ◌≡◌ {A = Option (Unit {0} × Option ℕ)} (if same then Some (tt, flaw) else None) (Some p) → (w.text ≡ text) × ((tt, flaw) ≡ p)
+    go w p true is e = ((bytes_eq-Decides w.text text).0 is, some_is e)
+    go w p false is e = absurd (cc)
 
-opener_is : (closed : Bool) (bracket : Bracket) (u : Unit {0}) (front : List Mark) → One (opener closed bracket) u front
-    → (w : Word) × (w.text ≡ opening bracket) × (front ≡ record { word = w; flaw = if closed then Some 7 else None } ∷ [])
-unfolding opener
-opener_is closed bracket u front (w, flaw, is, judged) =
-    let (text, same) = this_word w.text (opening bracket) (tt {0}, if closed then Some 7 else None) (u, flaw) judged in
-    (w, text, is ∙ ap (λ p. record { word = w; flaw = p.1 } ∷ []) (sym same))
-
-opener_free : (closed : Bool) (w : Word) (front : List Mark) → front ≡ record { word = w; flaw = if closed then Some 7 else None } ∷ [] → IsFine front → closed ≡ false
-opener_free closed w front is fine = go closed (rw is at fine)
-  where
-    go : (full : Bool) → IsFine (record { word = w; flaw = if full then Some 7 else None } ∷ []) → full ≡ false
-    go true fine = let clash = fine.0 in absurd (cc)
-    go false fine = refl
-
--- the word that closes a bracket
-abbrev Closing : Bracket → List Mark → Type 0
-Closing bracket marks = (end : Word) × (end.text ≡ closing bracket) × (marks ≡ record { word = end; flaw = None } ∷ [])
-
-says_closing : (bracket : Bracket) {A : Type 0} (x : A) (ws : List Word)
-    → Says (λ y marks. (y ≡ x) × Closing bracket marks) (λ us. first_at (closer bracket) us >>= (λ p. Ok (x, p.1))) ws
-unfolding closer
-says_closing bracket x ws =
-    says_made (λ u. x) (says_first (closer bracket) (tt, record { word = spelt (closing bracket); flaw = None } ∷ [], (spelt (closing bracket), None, refl, taken_here (closing bracket) (tt, None))) ws)
-    (λ u marks (w, flaw, is, judged).
-    (let (text, same) = this_word w.text (closing bracket) (tt {0}, None) (u, flaw) judged in
-    (refl, (w, text, is ∙ ap (λ p. record { word = w; flaw = p.1 } ∷ []) (sym same)))))
+bracket_free : (closed : Bool) (w : Word) (front : List Mark) → front ≡ record { word = w; flaw = if closed then Some 7 else None } ∷ [] → IsFine front → closed ≡ false
+bracket_free closed w front is fine =
+    let row : IsFine (record { word = w; flaw = if closed then Some 7 else None } ∷ []) = rw is at fine in unbroken 7 closed row.0
 
 abbrev to_closing : {A : Type 0} → Bracket → Reads A → Reads A
 to_closing bracket inner ws = inner ws >>= (λ x. expected (closing bracket) x.1 >>= (λ end. Ok (x.0, end)))
@@ -261,26 +240,24 @@ pub says_within : (closed : Bool) (bracket : Bracket) {A : Type 0} {inner : Read
     (λ us. opened closed bracket us >>= to_closing bracket inner) ws
 says_within closed bracket {A} {inner} {writes} (x, between, one) said ws =
     says_also
-    (says_then (λ u. Closed) (λ u us. inner us >>= (λ p. close p.0 p.1)) (says_first (opener closed bracket) (opener_takes closed bracket) ws)
-    (λ u front rest words fine first.
-    (let (w, text, is) = opener_is closed bracket u front first in
-    says_then (λ y z back. (z ≡ y) × Closing bracket back) close (said (opener_free closed w front is fine) rest)
-    (λ y middle after e good inside. says_closing bracket y after)
+    (says_then (λ u. Closed) (λ u us. inner us >>= (λ p. close p.0 p.1)) (says_bracket closed (opening bracket) ws)
+    (λ u front rest words fine (w, text, is).
+    says_then (λ y z back. (z ≡ y) × Alone false (closing bracket) back) close (said (bracket_free closed w front is fine) rest)
+    (λ y middle after e good inside. says_made (λ u. y) (says_bracket false (closing bracket) after) (λ u marks end. (refl, end)))
     (λ y. (y, last, (refl, (spelt (closing bracket), refl, refl))))
-    (λ y z middle back inside (same, (end, is_end, is_back)). (end, middle, is_end, ap (λ ms. middle ++ ms) is_back, rw same inside))))
+    (λ y z middle back inside (same, (end, is_end, is_back)). (end, middle, is_end, ap (λ ms. middle ++ ms) is_back, rw same inside)))
     (λ u. (x, between ++ last, (spelt (closing bracket), between, refl, refl, one)))
-    (λ u y front back first (end, middle, is_end, is_back, inside).
-    (let (w, text, is) = opener_is closed bracket u front first in
-    (w, end, middle, text, is_end, ap (λ ms. ms ++ back) is ∙ ap (λ ms. record { word = w; flaw = if closed then Some 7 else None } ∷ ms) is_back, inside))))
+    (λ u y front back (w, text, is) (end, middle, is_end, is_back, inside).
+    (w, end, middle, text, is_end, ap (λ ms. ms ++ back) is ∙ ap (λ ms. record { word = w; flaw = if closed then Some 7 else None } ∷ ms) is_back, inside)))
     (λ y marks written. written)
     (λ us e. opened_first closed bracket (to_closing bracket inner) us
-    ∙ (λ i. first_at (opener closed bracket) us >>= (λ p. inner p.1 >>= (λ y. expected_first bracket (λ end. Ok (y.0, end)) y.1 i))))
+    ∙ (λ i. first_at (bracket_word closed (opening bracket)) us >>= (λ p. inner p.1 >>= (λ y. expected_first (closing bracket) (λ end. Ok (y.0, end)) y.1 i))))
   where
     last : List Mark
     last = record { word = spelt (closing bracket); flaw = None } ∷ []
 
     close : A → Reads A
-    close y us = first_at (closer bracket) us >>= (λ p. Ok (y, p.1))
+    close y us = first_at (bracket_word false (closing bracket)) us >>= (λ p. Ok (y, p.1))
 
     Closed : A → List Mark → Type 0
     Closed y marks = (end : Word) × (middle : List Mark) × (end.text ≡ closing bracket) × (marks ≡ middle ++ record { word = end; flaw = None } ∷ []) × writes y middle

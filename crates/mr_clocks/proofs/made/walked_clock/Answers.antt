@@ -1,27 +1,35 @@
 use Rattle.std.proofs.Common.{ℕ, ◌-◌, ◌∙◌, ap, slice_index, subst, sym, arith}
 use native.Mathlib.Decide.{ℕ_discrete}
 use Rattle.mr_clocks.specs.Clocks.{IsMade}
-use Rattle.mr_clocks.specs.Rows.{IsPlaceSeen, step_of}
+use Rattle.mr_clocks.specs.Rows.{IsPlaceKnown, IsPlaceSeen, step_of}
 use Rattle.mr_clocks.proofs.Parts.{made_of, part_ends}
-use Rattle.mr_clocks.proofs.RowLaws.{next_of, seen_rows}
+use Rattle.mr_clocks.proofs.RowLaws.{known_alone, known_stays, next_of, seen_rows}
 use Rattle.mr_clocks.proofs.made.walked_clock.Goals as goal
 
-pub follow_place-requires-clause-next : goal.follow_place-requires-clause-next
-follow_place-requires-clause-next c =
+pub walk_place-requires-clause-next : goal.walk_place-requires-clause-next
+walk_place-requires-clause-next c =
     next_of c.args.run.now c.args.j c.at-next.result c.args.latest.now c.requires.latest (c.at-next.ensures ∙ ap (slice_index c.args.latest.now) c.thread_at.ensures)
 
 pub loop-y-preserved : goal.loop-y-preserved
 loop-y-preserved c =
     let i = c.loop-y.invariant in
-    let w = c.in_ok-walk.ensures in
+    let w = c.in_ok-walked.ensures in
+    let rows = c.args.rows.now in
+    let links = c.args.links.now in
+    let found = c.args.found.now in
+    let new = c.walk_place.new.clock in
     record {
       part = w.part;
       seen = λ z lt. elim (ℕ_discrete z c.loop-y.y) [
-        | yes is ↦ subst (λ (q : ℕ). IsPlaceSeen c.args.run.now c.args.rows.now c.args.links.now (slice_index c.args.found.now q) c.follow_place.new.clock c.args.j) (sym is) w.seen
-        | no ne ↦ λ inside apart it_asks none k here e counts. w.kept (step_of c.args.links.now k) (i.seen z (omega (arith, lt, ne)) inside apart it_asks none k here e counts)
+        | yes is ↦ subst (λ (q : ℕ). IsPlaceSeen c.args.run.now rows links (slice_index found q) new c.args.j) (sym is) w.seen
+        | no ne ↦ λ inside apart it_asks none k here e counts. w.kept (step_of links k) (i.seen z (omega (arith, lt, ne)) inside apart it_asks none k here e counts)
       ];
       same = λ none p e. w.same (c.is_either-changed.ensures.other none) ∙ i.same (c.is_either-changed.ensures.one none) p e;
-      left = c.in_ok-keep_walk.ensures c.args.run.now c.args.j c.args.links.now w.skip i.left;
+      left = w.left;
+      known = λ all z lt. elim (ℕ_discrete z c.loop-y.y) [
+        | yes is ↦ subst (λ (q : ℕ). IsPlaceKnown rows links (slice_index found q) new) (sym is) (w.known (c.is_both-alone.ensures.other all))
+        | no ne ↦ known_stays c.args.run.now rows links (slice_index found z) c.args.j c.loop-y.clock new c.requires.rows w.kept (i.known (c.is_both-alone.ensures.one all) z (omega (arith, lt, ne)))
+      ];
     }
 
 pub returns-clause-made : goal.returns-clause-made
@@ -39,3 +47,15 @@ returns-clause-made c =
     (made_of run clocks numbers c.loop-y.clock number c.args.j c.loop-y.changed c.if_new-made.result here
     (λ none some. c.loop-y.invariant.same none (number - 1) (sym is_next ∙ omega (arith, some)))
     c.if_new-made.ensures)
+
+pub returns-clause-alone : goal.returns-clause-alone
+returns-clause-alone c = λ all.
+    let run = c.args.run.now in
+    let rows = c.args.rows.now in
+    let links = c.args.links.now in
+    let found = c.args.found.now in
+    let clock = c.loop-y.clock in
+    let next = next_of run c.args.j c.at-next.result c.args.latest.now c.requires.latest (c.at-next.ensures ∙ ap (slice_index c.args.latest.now) c.thread_at.ensures) in
+    let here = part_ends run clock c.args.j c.loop-y.invariant.part
+    (seen_rows run rows links found clock c.args.j c.at-next.result c.requires.rows c.requires.found next (λ z lt. c.loop-y.invariant.seen z (omega (arith, lt)))) in
+    known_alone run rows links found clock c.args.j c.requires.rows c.requires.found here (λ z lt. c.loop-y.invariant.known all z (omega (arith, lt)))

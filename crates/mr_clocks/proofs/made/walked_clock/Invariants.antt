@@ -1,8 +1,8 @@
 use Rattle.std.proofs.Common.{◌≡◌, ℕ, ◌+◌, ◌<◌, slice_index}
-use Rattle.std.specs.Prelude.{IsFalse}
+use Rattle.std.specs.Prelude.{IsFalse, IsTrue}
 use Rattle.mr_event.specs.Order.{thread_at}
 use Rattle.mr_clocks.specs.Clocks.{IsPart, clock_at}
-use Rattle.mr_clocks.specs.Rows.{IsPlaceSeen}
+use Rattle.mr_clocks.specs.Rows.{IsPlaceKnown, IsPlaceSeen}
 use Rattle.mr_clocks.specs.Skips.{AreSkips}
 use Rattle.mr_clocks.proofs.made.walked_clock.Given as goal
 
@@ -13,4 +13,5 @@ invariant-loop-y l =
       seen : (z : ℕ) → z < l.y → IsPlaceSeen l.run l.rows l.links (slice_index l.found z) l.clock l.j;
       same : IsFalse l.changed → (p : ℕ) → slice_index l.latest (thread_at l.run l.j) ≡ p + 1 → l.clock ≡ clock_at l.clocks l.numbers p;
       left : AreSkips l.run l.j l.links l.left.items;
+      known : IsTrue l.alone → (z : ℕ) → z < l.y → IsPlaceKnown l.rows l.links (slice_index l.found z) l.clock;
     }

@@ -1,12 +1,18 @@
-use Rattle.std.proofs.Common.{inl, ap}
-use Rattle.std.specs.Prelude.{Err}
-use Rattle.mr_input.proofs.InputLaws.{long_program, some_long_program}
+use Rattle.std.proofs.Common.{ap, refl}
+use Rattle.std.specs.Prelude.{Err, Some}
+use Rattle.mr_input.proofs.InputLaws.{of_its_text}
+use Rattle.mr_input.proofs.RefusedLaws.{same_refusal}
 use Rattle.mr_input.proofs.input.read_program.Goals as goal
 
-pub returns-in-Err-Long-clause-read : goal.returns-in-Err-Long-clause-read
-returns-in-Err-Long-clause-read g c = λ contents told.
-    let long = c.in-Err-Long.ensures.long contents told (ap Err c.in-Err-Long.field-0-is) in
-    inl (long_program (contents c.args.name.now) long.0 long.1 long.2)
+pub returns-in-Ok-clause-read : goal.returns-in-Ok-clause-read
+returns-in-Ok-clause-read g c = λ contents told.
+    of_its_text _ c.program_of.result (contents c.args.name.now) c.in-Ok.text.items c.as_slice.result.now
+    (c.in-Ok.ensures.whole contents told) c.as_slice.ensures.value c.program_of.ensures.given
 
-pub returns-in-Err-Long-clause-texts : goal.returns-in-Err-Long-clause-texts
-returns-in-Err-Long-clause-texts g c = λ untold. (some_long_program.0, inl some_long_program.1)
+pub returns-in-Ok-clause-texts : goal.returns-in-Ok-clause-texts
+returns-in-Ok-clause-texts g c = λ untold.
+    let text = c.as_slice.result.now in
+    (text, of_its_text _ c.program_of.result (Some text) text text refl refl c.program_of.ensures.given)
+
+pub returns-in-Err-clause-memory : goal.returns-in-Err-clause-memory
+returns-in-Err-clause-memory g c = λ e. c.in-Err.ensures.memory (ap Err (same_refusal e))

@@ -4,7 +4,7 @@ use Rattle.std.specs.Prelude.{IfOk, IfErr}
 use Rattle.std.specs.IoError.{error_kind}
 use Rattle.std.specs.declared.io.Error.{Error}
 use Rattle.std.specs.declared.io.ErrorKind.TheVariants.{OutOfMemory}
-use Rattle.mirace.specs.Ending.{IsEnd, by_words, no_words, no_memory}
+use Rattle.mr_input.specs.Ending.{IsEnd, by_words, no_words, no_memory}
 
 pub ended_so : {V : Type 0} (says : Result (List (List ℕ)) Error → Type 0)
     (done : List (List ℕ) → Type 0) (old new : Option (List ℕ)) (status : ℕ) (items : V → List (List ℕ)) (words : Result V Error)

@@ -1,0 +1,51 @@
+use Rattle.std.proofs.Common.{◌-◌, ap, ◌∙◌, arith, slice_index, subst}
+use Rattle.mr_clocks.specs.Clocks.{IsClockOf, KeepsClock}
+use Rattle.mr_clocks.proofs.Parts.{latest_step, part_ends, part_of_latest}
+use Rattle.mr_clocks.proofs.RowLaws.{known_alone, known_place, next_of, seen_rows}
+use Rattle.mr_clocks.proofs.made.is_settled.Goals as goal
+
+pub lent-clock-requires-clause-step : goal.lent-clock-requires-clause-step
+lent-clock-requires-clause-step c =
+    let step = latest_step c.args.run.now c.args.j c.args.latest.now c.thread_at.result c.at-next.result c.requires.latest c.at-next.ensures c.if-next-eq0.false in
+    omega (arith, step.0, c.requires.clocks.all)
+
+pub lent-clock-requires-clause-within : goal.lent-clock-requires-clause-within
+lent-clock-requires-clause-within c =
+    let step = latest_step c.args.run.now c.args.j c.args.latest.now c.thread_at.result c.at-next.result c.requires.latest c.at-next.ensures c.if-next-eq0.false in
+    c.requires.clocks.within (c.at-next.result - 1) step.0
+
+pub returns-clause-keeps : goal.returns-clause-keeps
+returns-clause-keeps c = λ known.
+    let run = c.args.run.now in
+    let clocks = c.args.clocks.now in
+    let numbers = c.args.numbers.now in
+    let latest = c.args.latest.now in
+    let rows = c.args.rows.now in
+    let links = c.args.links.now in
+    let found = c.args.found.now in
+    let next = c.at-next.result in
+    let clock = c.lent-clock.result.now in
+    let is_next = c.at-next.ensures ∙ ap (slice_index latest) c.thread_at.ensures in
+    let part = part_of_latest run c.args.j clocks numbers latest clock next c.requires.clocks c.requires.latest is_next c.if-next-eq0.false c.lent-clock.ensures in
+    let seen = seen_rows run rows links found clock c.args.j next c.requires.rows c.requires.found (next_of run c.args.j next latest c.requires.latest is_next)
+    (λ y lt. known_place run rows links (slice_index found y) c.args.j clock c.requires.rows (c.are_latest_known.ensures known y lt)) in
+    subst (λ n. KeepsClock run clocks numbers n c.args.j) is_next
+    (record {
+      some = omega (arith, c.if-next-eq0.false);
+      clock = subst (λ l. IsClockOf run l c.args.j) c.lent-clock.ensures (part_ends run clock c.args.j part seen);
+    })
+
+pub returns-clause-alone : goal.returns-clause-alone
+returns-clause-alone c = λ known.
+    let run = c.args.run.now in
+    let clock = c.lent-clock.result.now in
+    let latest = c.args.latest.now in
+    let rows = c.args.rows.now in
+    let links = c.args.links.now in
+    let found = c.args.found.now in
+    let next = c.at-next.result in
+    let is_next = c.at-next.ensures ∙ ap (slice_index latest) c.thread_at.ensures in
+    let part = part_of_latest run c.args.j c.args.clocks.now c.args.numbers.now latest clock next c.requires.clocks c.requires.latest is_next c.if-next-eq0.false c.lent-clock.ensures in
+    let seen = seen_rows run rows links found clock c.args.j next c.requires.rows c.requires.found (next_of run c.args.j next latest c.requires.latest is_next)
+    (λ y lt. known_place run rows links (slice_index found y) c.args.j clock c.requires.rows (c.are_latest_known.ensures known y lt)) in
+    known_alone run rows links found clock c.args.j c.requires.rows c.requires.found (part_ends run clock c.args.j part seen) (c.are_latest_known.ensures known)

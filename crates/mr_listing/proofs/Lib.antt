@@ -1,0 +1,6 @@
+pub mod Appended
+mod Examples
+pub mod GroupLaws
+pub mod OnceLaws
+pub mod PartnerLaws
+pub mod RankLaws

@@ -1,0 +1,8 @@
+use Rattle.std.specs.Prelude.{◌≡◌, ◌++◌, flat_map, take}
+use Rattle.mr_listing.specs.Seen.{seen}
+use Rattle.mr_listing.specs.Steps.{step_text}
+use Rattle.mr_listing.proofs.listing.push_steps.Given as goal
+
+-- the steps before this one have their lines
+abbrev pub invariant-loop-told : goal.invariant-loop-told
+invariant-loop-told l = l.out.items ≡ l.fn.out.items ++ flat_map (step_text (seen l.shown)) (take l.told-index l.steps)

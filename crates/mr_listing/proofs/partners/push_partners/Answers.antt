@@ -1,0 +1,14 @@
+use Rattle.std.proofs.Common.{◌≡◌, ◌∙◌, ◌++◌, List, subst}
+use Rattle.std.specs.Prelude.{OnOk, flat_map}
+use Rattle.mr_listing.specs.declared.partners.Partner.{Partner}
+use Rattle.mr_listing.specs.Partners.{partner_line}
+use Rattle.mr_listing.proofs.partners.push_partners.Goals as goal
+
+pub block_of-requires : goal.block_of-requires
+block_of-requires c = c.requires.rising
+
+pub returns : goal.returns
+returns c =
+    subst (λ (ps : List Partner). OnOk c.push_block.result
+    (c.push_block.new.out.items ≡ c.args.out.now.items ++ flat_map partner_line ps))
+    (c.block_of.ensures ∙ c.requires.each c.args.number) c.push_block.ensures

@@ -1,0 +1,10 @@
+pub mod Accesses
+pub mod Events
+pub mod Leaks
+pub mod Partners
+pub mod Races
+pub mod Rests
+pub mod Seen
+pub mod Spots
+pub mod Steps
+pub mod Words

@@ -1,0 +1,31 @@
+//! A run as people read it: its steps by their statements in the program's text, and its races by pairs of places.
+//!
+//! - [`Shown`]: what a text is made of: a program with its text, and what its run tells.
+//! - [`steps`]: a line for each step that is told, with what it printed, what it did to locks and threads, its accesses by
+//!   name, and its partners; and the verdict.
+//! - [`races`]: the listed races by pairs of places, those with most races first, each pair with how many there are.
+//! - [`stand_text`]: where a thread stands, by the statement at which it does.
+//!
+//! `specs/Words.antt`, `specs/Steps.antt` and `specs/Races.antt` say what is written. Proved: exactly that, and want of
+//! memory is the only error. [`races_are_grouped`] is the law that the order of the pairs of places is a permutation of
+//! them, and that each race is of the places of exactly one.
+#![tactic(auto)]
+
+mod accesses;
+mod events;
+mod law;
+mod leaks;
+mod listing;
+mod pairs;
+mod partners;
+mod rests;
+mod shown;
+mod spots;
+mod words;
+
+pub use law::races_are_grouped;
+pub use listing::steps;
+pub use pairs::races;
+pub use shown::Shown;
+pub use spots::stand_text;
+pub use std::alloc::AllocError as OutOfMemory;

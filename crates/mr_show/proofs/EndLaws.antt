@@ -1,0 +1,48 @@
+-- How a form that was answered ends.
+use Rattle.std.proofs.Common.{◌≡◌, ℕ, ap, sym, List, ◌⊎◌, inl, inr}
+use Rattle.std.specs.Prelude.{Some, Option, Err, Ok}
+use Rattle.mr_io.specs.Files.{Contents}
+use Rattle.mr_input.specs.declared.refusal.Refusal.{Refusal}
+use Rattle.mr_input.specs.declared.refusal.Refusal.TheVariants as refusal
+use Rattle.mr_input.specs.declared.written.Written.{Written}
+use Rattle.mr_input.specs.Answer.{refused, seen}
+use Rattle.mr_input.specs.Writing.{IsLeft, IsRefusedOrLeft, IsWritten}
+use Rattle.mr_input.proofs.RefusedLaws.{left_or_written, refusal_told, same_refusal}
+use Rattle.mr_show.specs.Answer.{answer_of}
+use Rattle.mr_show.specs.Answering.{IsAnswered}
+use Rattle.mr_show.specs.Form.{Form, Help, Shown, Why}
+use Rattle.mr_show.specs.Outcome.{Ends, IsPossible}
+
+module _ (files : Contents) (files_rose out_rose : Type 0) (old new : Option (List ℕ)) (status : ℕ) where
+  pub written_ends : (form : Form) (a : Written) → IsAnswered files form files_rose (Ok a)
+      → IsWritten (seen a) out_rose old new status → Ends files (Some form) files_rose out_rose old new status
+  written_ends (Shown part program schedule) a (inl tells) written = inr (seen a, inl tells, written)
+  written_ends (Shown part program schedule) a (inr (rose, inl e)) written = absurd (cc)
+  written_ends (Shown part program schedule) a (inr (rose, inr (p, read, unbroken, e))) written = absurd (cc)
+  written_ends (Why code) a tells written = inr (seen a, inl tells, written)
+  written_ends (Help topic) a tells written = inr (seen a, inl tells, written)
+
+  -- a refusal that is defined
+  is_defined : (form : Form) (r : Refusal) → IsAnswered files form files_rose (Err r)
+      → (r ≡ refusal.Memory) ⊎ IsPossible files form files_rose (refused r)
+  is_defined (Shown part program schedule) r (inl tells) =
+      elim (refusal_told (answer_of files (Some (Shown part program schedule))) r tells)
+      [ inl e ↦ inl e | inr e ↦ inr (inl (sym e)) ]
+  is_defined (Shown part program schedule) r (inr (rose, inl e)) = inr (inr (rose, inl (ap refused (same_refusal e))))
+  is_defined (Shown part program schedule) r (inr (rose, inr (p, read, unbroken, e))) =
+      inr (inr (rose, inr (p, read, unbroken, ap refused (same_refusal e))))
+  is_defined (Why code) r tells =
+      elim (refusal_told (answer_of files (Some (Why code))) r tells) [ inl e ↦ inl e | inr e ↦ inr (inl (sym e)) ]
+  is_defined (Help topic) r tells =
+      elim (refusal_told (answer_of files (Some (Help topic))) r tells) [ inl e ↦ inl e | inr e ↦ inr (inl (sym e)) ]
+
+  pub refused_ends : (form : Form) (r : Refusal) → IsAnswered files form files_rose (Err r)
+      → IsRefusedOrLeft r out_rose old new status → Ends files (Some form) files_rose out_rose old new status
+  refused_ends form r answered ended = go (is_defined form r answered) (left_or_written out_rose old new status r ended)
+    where
+      go : (r ≡ refusal.Memory) ⊎ IsPossible files form files_rose (refused r)
+          → IsLeft old new status ⊎ ((r ≡ refusal.Memory → ⊥) × IsWritten (refused r) out_rose old new status)
+          → Ends files (Some form) files_rose out_rose old new status
+      go defined (inl left) = inl left
+      go (inl memory) (inr written) = absurd (written.0 memory)
+      go (inr possible) (inr written) = inr (refused r, possible, written.1)

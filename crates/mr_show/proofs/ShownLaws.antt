@@ -1,0 +1,122 @@
+-- What is said of a run, from how its parts are answered.
+use Rattle.std.proofs.Common.{◌≡◌, ℕ, ap, sym, ◌∙◌, subst, length, List, [], inl, inr}
+use Rattle.std.specs.Prelude.{Option, None, Some, Result, Ok, Err}
+use Rattle.mr_ast.specs.declared.program.Program.{Program}
+use Rattle.mr_lex.specs.Reading.{lexed}
+use Rattle.mr_lex.specs.Tokens.{Lexeme}
+use Rattle.mr_lex.specs.declared.token.TextFault.{TextFault}
+use Rattle.mr_grammar.specs.Faults.{OfTokens}
+use Rattle.mr_grammar.specs.Parsing.{parsed}
+use Rattle.mr_grammar.proofs.ParsingLaws.{fault_parsed}
+use Rattle.mr_wf.specs.declared.fault.FormFault.{FormFault}
+use Rattle.mr_wf.specs.Walk.{WellFormed}
+use Rattle.mr_event.specs.Footprint.{Footprint}
+use Rattle.mr_sched.specs.declared.schedule.Schedule.{Schedule}
+use Rattle.mr_sched.specs.declared.version.Version.{Version}
+use Rattle.mr_start.specs.Runs.{PlacedFault, steps_of}
+use Rattle.mr_start.proofs.RunLaws.{no_schedule_fault}
+use Rattle.mr_step.specs.Standing.{Standing}
+use Rattle.mr_run.specs.declared.fault.RunFault.{RunFault}
+use Rattle.mr_run.specs.declared.fault.RunFault.TheVariants.{Broken, Memory}
+use Rattle.mr_run.specs.Runs.{IsFirstFault, IsRun}
+use Rattle.mr_input.specs.declared.refusal.Refusal.{Refusal}
+use Rattle.mr_input.specs.declared.written.Written.{Written}
+use Rattle.mr_input.specs.Answer.{Answer, Tells, TellsOrUnread, form_or, told}
+use Rattle.mr_input.specs.Inputs.{Gives, IsNoText, denoted, program_in}
+use Rattle.mr_input.proofs.RefusedLaws.{refused_over, same_refusal}
+use Rattle.mr_answer.specs.Answers.{unless_broken}
+use Rattle.mr_answer.specs.Running.{refusal_by}
+use Rattle.mr_told.specs.declared.rows.Allocation.{Allocation}
+use Rattle.mr_told.specs.declared.step.ToldStep.{ToldStep}
+use Rattle.mr_show.specs.declared.form.Part.{Part}
+use Rattle.mr_show.specs.Answer.{answer_under, file_answer, part_answer, part_steps}
+use Rattle.mr_show.specs.Answer.{program_answer, run_answer, run_rows, run_seen}
+use Rattle.mr_show.specs.Gathered.{gathered, lexemes_in}
+use Rattle.mr_show.specs.Answering.{IsOfFile, IsOfProgram, IsOfText, IsScheduleUnread}
+
+-- ---- the run
+
+module _ (part : Part) (text : List ℕ) (p : Program) (v : Version) (w : Schedule) where
+  -- one that was taken to its end is told by where its machine stands behind how many steps, their allocations, what
+  -- those of the part tell, and their footprints
+  pub told_run : (m : Standing) (count : ℕ) (rows : List Allocation) (steps : List ToldStep) (feet : List Footprint)
+      → (result : Result Written Refusal) → IsRun p w m → count ≡ length w.entries → rows ≡ run_rows p w
+      → steps ≡ part_steps part p w → feet ≡ steps_of p w
+      → Tells (part_answer part (gathered text p m.config count rows steps feet)) result
+      → Tells (run_answer part text p v w) result
+  told_run m count rows steps feet result run all made tell are tells =
+      subst (λ (a : Answer). Tells a result) (whole ∙ sym legal) tells
+    where
+      legal : run_answer part text p v w ≡ part_answer part (run_seen part text p w)
+      legal =
+          ap (λ (f : Option PlacedFault). told (part_answer part) (unless_broken v w f (run_seen part text p w)))
+          (no_schedule_fault p w run.legal)
+
+      whole : part_answer part (gathered text p m.config count rows steps feet) ≡ part_answer part (run_seen part text p w)
+      whole = (λ i. part_answer part (gathered text p (run.config i) (all i) (made i) (tell i) (are i)))
+
+  -- and the first rule that the schedule breaks, on its line
+  pub told_broken : (f : RunFault) → IsFirstFault p w f → Tells (run_answer part text p v w) (Err (refusal_by v w f))
+  told_broken (Broken place code earlier) h =
+      ap (λ (o : Option PlacedFault). told (part_answer part) (unless_broken v w o (run_seen part text p w))) h
+  told_broken Memory h = tt
+
+-- ---- the text
+
+-- one with a fault among its tokens denotes no program
+pub no_program : (text : List ℕ) (f : TextFault) (p : Program) → lexed text ≡ Err f → parsed text ≡ Ok p → ⊥
+no_program text f p e is = let bad = sym (fault_parsed text f (OfTokens e)) ∙ is in absurd (cc)
+
+-- its tokens
+pub its_lexemes : (text : List ℕ) (lexemes : List Lexeme) → lexed text ≡ Ok lexemes → lexemes ≡ lexemes_in (lexed text)
+its_lexemes text lexemes e = sym (ap lexemes_in e)
+
+module _ (part : Part) (file : Option (List ℕ)) (rose : Type 0) (result : Result Written Refusal) where
+  -- a checked program is answered by its run
+  pub of_checked : (text : List ℕ) (p q : Program) → (q ≡ p) × WellFormed p
+      → TellsOrUnread rose (answer_under part text file q) result → IsOfProgram rose part text file p result
+  of_checked text p q (same, well) (inl tells) =
+      inl (subst (λ (a : Answer). Tells a result)
+      (ap (answer_under part text file) same
+      ∙ sym (ap (λ (faults : List FormFault). form_or p faults (answer_under part text file p)) well.unbroken)) tells)
+  of_checked text p q (same, well) (inr (rises, is)) = inr (rises, well.unbroken, is)
+
+  -- a text that was parsed is answered by its program
+  pub of_text : (text : List ℕ) (p : Program) → parsed text ≡ Ok p → IsOfProgram rose part text file p result
+      → IsOfText rose part file text result
+  of_text text p e (inl tells) =
+      inl (subst (λ (r : Result Program TextFault). Tells (told (program_answer part text file) (denoted r)) result)
+      (sym e) tells)
+  of_text text p e (inr (rises, unbroken, is)) = inr (rises, (p, ap denoted e, unbroken, is))
+
+  -- a file that was read is answered by its text
+  pub of_file : (program : Option (List ℕ)) (text bytes : List ℕ) (later : Type 0) → (later → rose) → program ≡ Some bytes
+      → text ≡ bytes → IsOfText later part file text result → IsOfFile rose part file program result
+  of_file program text bytes later up there same (inl tells) =
+      inl (subst (λ (f : Option (List ℕ)). Tells (file_answer part file f) result) (ap Some same ∙ sym there) tells)
+  of_file program text bytes later up there same (inr (rises, unread)) =
+      inr (
+        up rises,
+        inr (subst (λ (f : Option (List ℕ)). IsScheduleUnread f result) (ap Some same ∙ sym there) unread),
+      )
+
+-- what refuses the text of a program is told
+pub of_refused : (part : Part) (file : Option (List ℕ)) (rose : Type 0) (text : List ℕ) (r : Refusal)
+    → Gives {A = Program} (Err r) (denoted (parsed text)) → IsOfText rose part file text (Err r)
+of_refused part file rose text r h = inl (refused_over (program_answer part text file) (denoted (parsed text)) r h)
+
+-- what refuses the file of a program is told, or its read failed
+module _ (part : Part) (file : Option (List ℕ)) (rose : Type 0) (r : Refusal) where
+  told_file : (program : Option (List ℕ)) → Gives {A = Program} (Err r) (program_in program)
+      → Tells (file_answer part file program) (Err r)
+  told_file None h = refused_over (program_answer part [] file) (program_in None) r h
+  told_file (Some text) h = refused_over (program_answer part text file) (denoted (parsed text)) r h
+
+  pub no_text : (program : Option (List ℕ)) → IsNoText rose program r → IsOfFile rose part file program (Err r)
+  no_text program (inl h) = inl (told_file program h)
+  no_text program (inr (rises, e)) = inr (rises, inl (ap Err (same_refusal e)))
+
+-- a program that a text is read as is the one that it denotes
+pub was_parsed : (read : Result Program TextFault) (p : Program) → denoted read ≡ Ok p → read ≡ Ok p
+was_parsed (Ok q) p e = cc
+was_parsed (Err f) p e = absurd (cc)

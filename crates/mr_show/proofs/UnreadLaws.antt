@@ -1,0 +1,119 @@
+-- Why a file was not read: what the status 6 of an answer tells.
+use Rattle.std.proofs.Common.{◌≡◌, ℕ, ◌≤◌, ap, arith, refl, subst, sym, ◌∙◌, List, [], ◌∷◌, ◌⊎◌, inl, inr}
+use Rattle.std.specs.Prelude.{None, Some, Option, Result, Ok, Err}
+use Rattle.mr_ast.specs.declared.program.Program.{Program}
+use Rattle.mr_io.specs.Files.{Contents}
+use Rattle.mr_lex.specs.declared.token.TextFault.{TextFault}
+use Rattle.mr_grammar.specs.Parsing.{parsed}
+use Rattle.mr_sched.specs.Reading.{Fault, schedule_of}
+use Rattle.mr_sched.specs.declared.schedule.Schedule.{Schedule}
+use Rattle.mr_sched.specs.declared.version.Read.{Read}
+use Rattle.mr_sched.specs.declared.version.Version.{Version}
+use Rattle.mr_start.specs.Runs.{PlacedFault, schedule_fault}
+use Rattle.mr_wf.specs.declared.fault.FormFault.{FormFault}
+use Rattle.mr_wf.specs.Walk.{faults_of}
+use Rattle.mr_input.specs.Answer.{Answer, form_or, told}
+use Rattle.mr_input.specs.Inputs.{AsksForSchedule, denoted, spelled}
+use Rattle.mr_input.proofs.RefusedLaws.{written_status}
+use Rattle.mr_answer.specs.Answers.{unless_broken}
+use Rattle.mr_answer.proofs.StatusLaws.{at_most_one}
+use Rattle.mr_listing.specs.Seen.{Seen}
+use Rattle.mr_show.specs.declared.form.Part.{Part}
+use Rattle.mr_show.specs.Answer.{answer_of, answer_under, file_answer, part_answer, program_answer, read_answer, run_seen}
+use Rattle.mr_show.specs.Answer.{usage, why_answer}
+use Rattle.mr_why.specs.Why.{Entry, entry_of}
+use Rattle.mr_show.specs.Form.{Form, Help, Shown, Why}
+use Rattle.mr_show.specs.Outcome.{Ends, IsPossible}
+use Rattle.mr_show.specs.Unread.{IsUnreadBecause, LacksFile}
+
+-- ---- the status of an answer
+
+-- at most 5, or 6 where a file is lacking
+abbrev SixIf : Type 0 → ℕ → Type 0
+SixIf lacking status = (status ≤ 5) ⊎ ((status ≡ 6) × lacking)
+
+module _ (part : Part) (text : List ℕ) (p : Program) where
+  module _ (lacking : Type 0) where
+    legal_six : (v : Version) (w : Schedule) (f : Option PlacedFault) (s : Seen)
+        → SixIf lacking (told (part_answer part) (unless_broken v w f s)).status
+    legal_six v w None s = inl (let least = at_most_one s.verdict s.races in omega (arith, least))
+    legal_six v w (Some f) s = inl (omega arith)
+
+    read_six : (r : Result Read Fault) → SixIf lacking (told (read_answer part text p) (spelled r)).status
+    read_six (Ok r) = legal_six r.version r.schedule (schedule_fault p r.schedule) (run_seen part text p r.schedule)
+    read_six (Err f) = inl (omega arith)
+
+  under_six : (file : Option (List ℕ)) → SixIf (file ≡ None) (answer_under part text file p).status
+  under_six None = inr (refl, refl)
+  under_six (Some bytes) = read_six (Some bytes ≡ None) (schedule_of bytes)
+
+  form_six : (file : Option (List ℕ)) (faults : List FormFault) → faults_of p ≡ faults
+      → SixIf ((faults_of p ≡ []) × (file ≡ None)) (form_or p faults (answer_under part text file p)).status
+  form_six file [] e = elim (under_six file) [ inl small ↦ inl small | inr six ↦ inr (six.0, (e, six.1)) ]
+  form_six file (f ∷ faults) e = inl (omega arith)
+
+text_six : (part : Part) (file : Option (List ℕ)) (text : List ℕ) (r : Result Program TextFault) → parsed text ≡ r
+    → SixIf (AsksForSchedule (Some text) × (file ≡ None)) (told (program_answer part text file) (denoted r)).status
+text_six part file text (Ok p) e =
+    elim (form_six part text p file (faults_of p) refl) [
+      | inl small ↦ inl small
+      | inr six ↦ inr (six.0, ((p, ap denoted e, six.1.0), six.1.1))
+    ]
+text_six part file text (Err f) e = inl (omega arith)
+
+why_least : (code : ℕ) (entry : Option Entry) → (why_answer code entry).status ≤ 5
+why_least code None = omega arith
+why_least code (Some entry) = omega arith
+
+module _ (files : Contents) where
+  shown_six : (part : Part) (program schedule : List ℕ) (file : Option (List ℕ)) → files program ≡ file
+      → SixIf (LacksFile files (Some (Shown part program schedule))) (file_answer part (files schedule) file).status
+  shown_six part program schedule None e = inr (refl, inl e)
+  shown_six part program schedule (Some text) e =
+      elim (text_six part (files schedule) text (parsed text) refl) [
+        | inl small ↦ inl small
+        | inr six ↦ inr (six.0, inr (subst AsksForSchedule (sym e) six.1.0, six.1.1))
+      ]
+
+  answer_six : (form : Option Form) → SixIf (LacksFile files form) (answer_of files form).status
+  answer_six None = inl (omega arith)
+  answer_six (Some (Shown part program schedule)) = shown_six part program schedule (files program) refl
+  answer_six (Some (Why code)) = inl (why_least code (entry_of code))
+  answer_six (Some (Help topic)) = inl (omega arith)
+
+  -- 6 is answered only where a file isn't there
+  lacks : (form : Option Form) → (answer_of files form).status ≡ 6 → LacksFile files form
+  lacks form s = go (answer_six form)
+    where
+      go : SixIf (LacksFile files form) (answer_of files form).status → LacksFile files form
+      go (inl small) = absurd (omega (arith, s, small))
+      go (inr (six, lacking)) = lacking
+
+-- ---- how a call ended
+
+module _ (files_rose out_rose : Type 0) (old new : Option (List ℕ)) (status : ℕ) (six : status ≡ 6) where
+  possible_unread : (files : Contents) (form : Form) (a : Answer) → IsPossible files form files_rose a → a.status ≡ 6
+      → files_rose ⊎ LacksFile files (Some form)
+  possible_unread files form a (inl is) s = inr (lacks files (Some form) (sym (ap (λ (b : Answer). b.status) is) ∙ s))
+  possible_unread files form a (inr unread) s = inl unread.0
+
+  ends_unread : (files : Contents) (form : Option Form) → Ends files form files_rose out_rose old new status
+      → files_rose ⊎ LacksFile files form
+  ends_unread files None written =
+      elim (written_status usage out_rose old new status written) [
+        | inl two ↦ absurd (omega (arith, two, six))
+        | inr f ↦ let seven = f.1 in absurd (omega arith)
+      ]
+  ends_unread files (Some form) (inl left) = let eight = left.0 in absurd (omega arith)
+  ends_unread files (Some form) (inr (a, possible, written)) =
+      elim (written_status a out_rose old new status written) [
+        | inl s ↦ possible_unread files form a possible (sym s ∙ six)
+        | inr f ↦ let seven = f.1 in absurd (omega arith)
+      ]
+
+  pub unread_because : (form : Option Form) (tale : Option Contents) → (tale ≡ None → files_rose)
+      → ((files : Contents) → tale ≡ Some files → Ends files form files_rose out_rose old new status)
+      → IsUnreadBecause files_rose tale form
+  unread_because form None untold ends = inl (untold refl)
+  unread_because form (Some files) untold ends =
+      elim (ends_unread files form (ends files refl)) [ inl rose ↦ inl rose | inr lacking ↦ inr (files, refl, lacking) ]

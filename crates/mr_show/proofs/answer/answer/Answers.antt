@@ -1,0 +1,11 @@
+use Rattle.std.proofs.Common.{[]}
+use Rattle.mr_show.proofs.answer.answer.Goals as goal
+
+pub returns-in-Shown-clause-texts : goal.returns-in-Shown-clause-texts
+returns-in-Shown-clause-texts g c = λ untold. rw c.in-Shown.is (c.shown_file.ensures.texts untold)
+
+pub returns-in-Help-clause-texts : goal.returns-in-Help-clause-texts
+returns-in-Help-clause-texts g c = λ untold. rw c.in-Help.is ([], [], c.help.ensures.answer)
+
+pub returns-in-Why-clause-texts : goal.returns-in-Why-clause-texts
+returns-in-Why-clause-texts g c = λ untold. rw c.in-Why.is ([], [], c.explained.ensures.answer)

@@ -1,0 +1,126 @@
+-- What a call answers by definition: a text and a status, from the words and what the files hold.
+use Rattle.std.specs.Prelude.{ℕ, ◌^◌, List, ◌++◌, codes, decimal, flat_map, length, map, Option, None, Some}
+use Rattle.mr_ast.specs.declared.program.Program.{Program}
+use Rattle.mr_io.specs.Files.{Contents}
+use Rattle.mr_grammar.specs.Parsing.{parsed}
+use Rattle.mr_sched.specs.declared.schedule.Schedule.{Schedule}
+use Rattle.mr_sched.specs.declared.version.Read.{Read}
+use Rattle.mr_sched.specs.declared.version.Version.{Version}
+use Rattle.mr_start.specs.Runs.{run_of, schedule_fault, steps_of}
+use Rattle.mr_start.specs.Start.{ask_of, pieces}
+use Rattle.mr_wf.specs.Walk.{faults_of}
+use Rattle.mr_report.specs.Report.{line}
+use Rattle.mr_input.specs.declared.refusal.Refusal.TheVariants as refusal
+use Rattle.mr_input.specs.Answer.{Answer, form_or, refused, told}
+use Rattle.mr_input.specs.Inputs.{denoted, schedule_in}
+use Rattle.mr_answer.specs.Answers.{unless_broken}
+use Rattle.mr_answer.specs.Report.{report_status}
+use Rattle.mr_told.specs.declared.rows.Allocation.{Allocation}
+use Rattle.mr_told.specs.declared.step.ToldStep.{ToldStep}
+use Rattle.mr_told.specs.Table.{start_rows, step_rows}
+use Rattle.mr_telling.specs.declared.telling.Between.{Between}
+use Rattle.mr_telling.specs.Told.{if_between, told_steps}
+use Rattle.mr_listing.specs.Races.{races_text}
+use Rattle.mr_listing.specs.Seen.{Seen}
+use Rattle.mr_listing.specs.Steps.{steps_text}
+use Rattle.mr_show.specs.declared.form.Part.{Part}
+use Rattle.mr_show.specs.declared.form.Part.TheVariants.{Races, Steps}
+use Rattle.mr_show.specs.declared.form.Topic.{Topic}
+use Rattle.mr_why.specs.Why.{Entry, entry_of, entry_text}
+use Rattle.mr_show.specs.Form.{Form, Help, Shown, Why}
+use Rattle.mr_show.specs.Gathered.{gathered}
+use Rattle.mr_show.specs.Help.{help_text}
+use Rattle.mr_show.specs.Sentences.{reason_text}
+
+-- ---- what a run tells
+
+-- the steps that are told for a part: for the races all
+abbrev pub between : Part → Between
+between (Steps from to) = record { from = from; to = to }
+between Races = record { from = 0; to = 2 ^ 22 }
+
+abbrev pub part_steps : Part → Program → Schedule → List ToldStep
+part_steps part p w = flat_map (if_between (between part)) (told_steps p w)
+
+-- the allocations of the start, which got these picks
+abbrev pub first_rows : Program → List ℕ → List Allocation
+first_rows p picks = start_rows p (map ask_of (pieces p)) picks
+
+-- THE ALLOCATIONS of a run, in the order in which they are made
+abbrev pub run_rows : Program → Schedule → List Allocation
+run_rows p w = first_rows p w.start ++ flat_map (step_rows p) (told_steps p w)
+
+-- WHAT THE RUN of the program of a text under a schedule tells for a part
+abbrev pub run_seen : Part → List ℕ → Program → Schedule → Seen
+run_seen part text p w =
+    gathered text p (run_of p w) (length w.entries) (run_rows p w) (part_steps part p w)
+    (steps_of p w)
+
+-- ---- what is said of it
+
+-- the text of a part; that of steps ends with the reason of an undefined run
+abbrev pub part_text : Part → Seen → List ℕ
+part_text (Steps from to) s = steps_text s ++ reason_text s.verdict
+part_text Races s = races_text s
+
+-- with the status that the report of the run has
+abbrev pub part_answer : Part → Seen → Answer
+part_answer part s = record { text = part_text part s; status = report_status s.verdict s.races }
+
+-- the same of the run under a schedule whose text is in a version, or the first rule that the schedule breaks, on its
+-- line of that text
+abbrev pub run_answer : Part → List ℕ → Program → Version → Schedule → Answer
+run_answer part text p v w = told (part_answer part) (unless_broken v w (schedule_fault p w) (run_seen part text p w))
+
+abbrev pub read_answer : Part → List ℕ → Program → Read → Answer
+read_answer part text p r = run_answer part text p r.version r.schedule
+
+-- the same of the run under the schedule in a file, or what refuses that
+abbrev pub answer_under : Part → List ℕ → Option (List ℕ) → Program → Answer
+answer_under part text file p = told (read_answer part text p) (schedule_in file)
+
+-- the same, where the program breaks no rule
+abbrev pub program_answer : Part → List ℕ → Option (List ℕ) → Program → Answer
+program_answer part text file p = form_or p (faults_of p) (answer_under part text file p)
+
+-- the same of the program that a text denotes, or the text's first fault
+abbrev pub text_answer : Part → Option (List ℕ) → List ℕ → Answer
+text_answer part file text = told (program_answer part text file) (denoted (parsed text))
+
+-- the same of the text in a file
+abbrev pub file_answer : Part → Option (List ℕ) → Option (List ℕ) → Answer
+file_answer part schedule None = refused refusal.ReadProgram
+file_answer part schedule (Some text) = text_answer part schedule text
+
+-- ---- the answer
+
+-- help
+abbrev pub help_answer : Topic → Answer
+help_answer topic = record { text = help_text topic; status = 0 }
+
+-- what is said of an entry of the table of codes
+abbrev pub said_answer : Entry → Answer
+said_answer entry = record { text = entry_text entry; status = 0 }
+
+-- that a number is no code
+abbrev pub unsaid_answer : ℕ → Answer
+unsaid_answer code = record {
+  text = line (codes "no rule, no fault and no reason has the number " ++ decimal code);
+  status = 1;
+}
+
+-- what is said of a code, or that it is none
+abbrev pub why_answer : ℕ → Option Entry → Answer
+why_answer code None = unsaid_answer code
+why_answer code (Some entry) = said_answer entry
+
+-- what words of no form are told
+abbrev pub usage : Answer
+usage = record { text = line (codes "usage: steps P S [FIRST LAST] | races P S | why CODE | --help"); status = 2 }
+
+-- THE ANSWER to a form over these files; words of no form are told the usage
+abbrev pub answer_of : Contents → Option Form → Answer
+answer_of files None = usage
+answer_of files (Some (Shown part program schedule)) = file_answer part (files schedule) (files program)
+answer_of files (Some (Why code)) = why_answer code (entry_of code)
+answer_of files (Some (Help topic)) = help_answer topic

@@ -1,0 +1,42 @@
+-- What a run tells, as its texts are made of it.
+use Rattle.std.specs.Prelude.{ℕ, List, [], map, Result, Ok, Err}
+use Rattle.mr_ast.specs.declared.program.Program.{Program}
+use Rattle.mr_lex.specs.Reading.{lexed}
+use Rattle.mr_lex.specs.Tokens.{Lexeme}
+use Rattle.mr_lex.specs.declared.token.TextFault.{TextFault}
+use Rattle.mr_event.specs.Footprint.{Footprint}
+use Rattle.mr_event.specs.Predicted.{predicted}
+use Rattle.mr_plan.specs.Runs.{Config}
+use Rattle.mr_thread.specs.Steps.{Own}
+use Rattle.mr_answer.specs.Report.{line_of}
+use Rattle.mr_places.specs.Laid.{Laid, firsts_of}
+use Rattle.mr_told.specs.declared.rows.Allocation.{Allocation}
+use Rattle.mr_told.specs.declared.step.ToldStep.{ToldStep}
+use Rattle.mr_telling.specs.Told.{rests_of}
+use Rattle.mr_listing.specs.Seen.{Seen}
+
+-- the tokens of a text, where it has no fault
+abbrev pub lexemes_in : Result (List Lexeme) TextFault → List Lexeme
+lexemes_in (Ok lexemes) = lexemes
+lexemes_in (Err fault) = []
+
+-- the places of a program among the tokens of its text
+abbrev pub laid_in : Program → Result (List Lexeme) TextFault → Laid
+laid_in p read = record { lexemes = lexemes_in read; firsts = firsts_of 0 p.functions }
+
+-- WHAT A RUN TELLS of a program over its text: where its machine stands behind so many steps; and the allocations, those
+-- steps that are told, and the footprints
+abbrev pub gathered : List ℕ → Program → Config Own → ℕ → List Allocation → List ToldStep → List Footprint → Seen
+gathered text p config count rows steps feet = record {
+  text = text;
+  program = p;
+  laid = laid_in p (lexed text);
+  rows = rows;
+  steps = steps;
+  count = count;
+  feet = feet;
+  lines = map line_of config.output;
+  races = predicted feet;
+  verdict = config.verdict;
+  rests = rests_of config;
+}

@@ -1,0 +1,47 @@
+-- How a call ends, whatever the files and the sink do.
+use Rattle.std.specs.Prelude.{◌≡◌, ℕ, ◌⊎◌, List, [], Option, None, Some, Ok, codes}
+use Rattle.mr_ast.specs.declared.program.Program.{Program}
+use Rattle.mr_io.specs.Files.{Contents}
+use Rattle.mr_wf.specs.Walk.{faults_of}
+use Rattle.mr_input.specs.declared.refusal.Refusal.TheVariants as refusal
+use Rattle.mr_input.specs.Answer.{Answer, refused}
+use Rattle.mr_input.specs.Inputs.{holding, program_in}
+use Rattle.mr_input.specs.Writing.{IsLeft, IsWritten}
+use Rattle.mr_show.specs.Answer.{answer_of, usage}
+use Rattle.mr_show.specs.Form.{Form, Help, Shown, Why}
+
+-- A read failed, which is counted: that of the program, or that of the schedule behind a program that breaks no rule.
+abbrev pub IsUnread : Contents → Form → Answer → Type 0
+IsUnread files (Shown part program schedule) a =
+    (a ≡ refused refusal.ReadProgram)
+    ⊎ ((p : Program) × (program_in (files program) ≡ Ok p) × (faults_of p ≡ []) × (a ≡ refused refusal.ReadSchedule))
+IsUnread files (Why code) a = ⊥
+IsUnread files (Help topic) a = ⊥
+
+-- the answer by definition, or that of a read that failed where the count of faults of the files rose
+abbrev pub IsPossible : Contents → Form → Type 0 → Answer → Type 0
+IsPossible files form rose a = (a ≡ answer_of files (Some form)) ⊎ (rose × IsUnread files form a)
+
+-- HOW A CALL ENDS over files that tell what they hold: a possible answer was written, or memory ran out before anything
+-- was; words of no form are told the usage
+abbrev pub Ends : Contents → Option Form → Type 0 → Type 0 → Option (List ℕ) → Option (List ℕ) → ℕ → Type 0
+Ends files None files_rose out_rose old new status = IsWritten usage out_rose old new status
+Ends files (Some form) files_rose out_rose old new status =
+    IsLeft old new status
+    ⊎ ((a : Answer) × IsPossible files form files_rose a × IsWritten a out_rose old new status)
+
+-- ---- files that don't tell what they hold
+
+-- the same form over two files, named `program` and `schedule`
+abbrev pub over_holding : Form → Form
+over_holding (Shown part program schedule) = Shown part (codes "program") (codes "schedule")
+over_holding (Why code) = Why code
+over_holding (Help topic) = Help topic
+
+-- How a call ends over files that don't tell what they hold: there are texts of the named files of which it ends as
+-- defined.
+abbrev pub EndsOverTexts : Option Form → Type 0 → Type 0 → Option (List ℕ) → Option (List ℕ) → ℕ → Type 0
+EndsOverTexts None files_rose out_rose old new status = IsWritten usage out_rose old new status
+EndsOverTexts (Some form) files_rose out_rose old new status =
+    (program : List ℕ) × (schedule : List ℕ)
+    × Ends (holding program schedule) (Some (over_holding form)) files_rose out_rose old new status

@@ -1,0 +1,98 @@
+//! The answer to a form: what is written, and the exit status, or why there is none.
+ghost use Rattle.std.specs.Prelude.{◌≡◌, ◌+◌, ◌≤◌, None, Some, IfOk};
+ghost use Rattle.mr_io.specs.Counts.{Rose};
+ghost use Rattle.mr_io.specs.Files.{Contents};
+ghost use Rattle.mr_input.specs.Answer.{IsStatus, Tells};
+ghost use Rattle.mr_input.specs.Inputs.{IsUnreadFault};
+ghost use Rattle.mr_why.specs.Why.{entry_in, entry_of};
+ghost use Rattle.mr_show.specs.Answer.{help_answer, said_answer, unsaid_answer, why_answer};
+ghost use Rattle.mr_show.specs.Answering.{IsAnswered, IsAnsweredOverTexts};
+ghost use Rattle.mr_show.specs.Form.{asked};
+
+use crate::form::{Form, Topic};
+use crate::help::help_text;
+use crate::shown::shown_file;
+use mr_input::{Refusal, Written, push_number};
+use mr_io::Files;
+use mr_why::{Why, entry};
+use std::alloc::{AllocError, Global};
+
+/// The answer to a form.
+pub(crate) fn answer<F: Files>(
+    alloc: Global,
+    files: &mut F,
+    form: Form<'_>,
+) -> Result<Written, Refusal>
+    ensures same { F.told files.new ≡ F.told files.old }
+    ensures reads { F.reads files.new ≤ F.reads files.old + 2 }
+    ensures faults { F.faults files.old ≤ F.faults files.new }
+    ensures answer { (contents : Contents) → F.told files.old ≡ Some contents
+        → IsAnswered contents (asked form.entry) (Rose (F.faults files.old) (F.faults files.new)) result }
+    ensures status { IfOk result (λ a. IsStatus a.status) }
+    ensures texts { F.told files.old ≡ None
+        → IsAnsweredOverTexts (asked form.entry) (Rose (F.faults files.old) (F.faults files.new)) result }
+    ensures untold { F.told files.old ≡ None → IsUnreadFault result
+        → Rose (F.faults files.old) (F.faults files.new) }
+{
+    match form {
+        Form::Shown {
+            part,
+            program,
+            schedule,
+        } => shown_file(alloc, files, part, program, schedule),
+        Form::Why { code } => explained(alloc, code),
+        Form::Help { topic } => help(alloc, topic),
+    }
+}
+
+// What is said of a code, or that it is none.
+fn explained(alloc: Global, code: u16) -> Result<Written, Refusal>
+    ensures answer { Tells (why_answer code (entry_of code)) result }
+    ensures status { IfOk result (λ a. IsStatus a.status) }
+    ensures read { ¬ IsUnreadFault result }
+{
+    match entry(code) {
+        Some(found) => said(alloc, &found),
+        None => unsaid(alloc, code),
+    }
+}
+
+// What is said of an entry.
+fn said(alloc: Global, found: &Why) -> Result<Written, Refusal>
+    ensures answer { Tells (said_answer (entry_in found.now)) result }
+    ensures status { IfOk result (λ a. IsStatus a.status) }
+    ensures read { ¬ IsUnreadFault result }
+{
+    let text = mr_why::text(alloc, found)?;
+    Ok(Written { text, status: 0 })
+}
+
+// That a number is no code, with its status.
+fn unsaid(alloc: Global, code: u16) -> Result<Written, Refusal>
+    ensures answer { Tells (unsaid_answer code) result }
+    ensures status { IfOk result (λ a. IsStatus a.status) }
+    ensures read { ¬ IsUnreadFault result }
+{
+    let text = no_code(alloc, code)?;
+    Ok(Written { text, status: 1 })
+}
+
+// That a number is no code.
+fn no_code(alloc: Global, code: u16) -> Result<Vec<u8>, AllocError>
+    ensures { IfOk result (λ text. text.items ≡ (unsaid_answer code).text) }
+{
+    let mut text = Vec::from_slice(alloc, b"no rule, no fault and no reason has the number ")?;
+    push_number(&mut text, u64::from(code))?;
+    text.push(b'\n')?;
+    Ok(text)
+}
+
+// Help with a form, or with all.
+fn help(alloc: Global, topic: Topic) -> Result<Written, Refusal>
+    ensures answer { Tells (help_answer topic) result }
+    ensures status { IfOk result (λ a. IsStatus a.status) }
+    ensures read { ¬ IsUnreadFault result }
+{
+    let text = Vec::from_slice(alloc, help_text(topic))?;
+    Ok(Written { text, status: 0 })
+}

@@ -1,0 +1,92 @@
+//! The text of a part of a run, from what its steps tell.
+ghost use Rattle.std.specs.Prelude.{◌≡◌, ◌++◌, Ok, IfOk};
+ghost use Rattle.mr_grammar.specs.Parsing.{parsed};
+ghost use Rattle.mr_input.specs.Answer.{IsStatus, seen as written_as};
+ghost use Rattle.mr_listing.specs.Seen.{seen};
+ghost use Rattle.mr_show.specs.Answer.{part_answer, part_text};
+ghost use Rattle.mr_listing.specs.Steps.{steps_text};
+ghost use Rattle.mr_show.specs.Gathered.{gathered};
+ghost use Rattle.mr_show.specs.Sentences.{reason_text};
+
+use crate::form::Part;
+use crate::placed::places_of;
+use crate::sentences::push_reason;
+use mr_answer::{lines_of, status_of};
+use mr_input::Written;
+use mr_listing::{Shown, races, steps};
+use mr_run::Clocked;
+use mr_step::Machine;
+use mr_telling::rests;
+use mr_told::{Allocation, Allocations, ToldStep};
+use mr_wf::Checked;
+use std::alloc::{AllocError, Global};
+
+/// The text of a part of the run of the program of a text, with the status of the run. Its machine stands so behind so
+/// many steps, which made these allocations and have these footprints; and some of them tell this.
+pub(crate) fn laid(
+    alloc: Global,
+    part: Part,
+    text: &[u8],
+    p: &Checked,
+    machine: &Machine<'_>,
+    count: usize,
+    kept: &Clocked,
+    rows: Vec<Allocation>,
+    told: &[ToldStep],
+) -> Result<Written, AllocError>
+    requires { parsed text.now ≡ Ok p.now }
+    ensures answer { IfOk result (λ a. written_as a ≡ part_answer part
+        (gathered text.now p.now machine.now.config count rows.items told.now kept.now)) }
+    ensures status { IfOk result (λ a. IsStatus a.status) }
+{
+    let program = p.program();
+    let places = places_of(alloc, text, p)?;
+    let rows = Allocations::new(alloc, rows)?;
+    let lines = lines_of(alloc, machine)?;
+    let rests = rests(alloc, machine)?;
+    let shown = Shown {
+        text,
+        program,
+        places: &places,
+        rows: &rows,
+        steps: told,
+        count,
+        feet: kept.steps(),
+        lines: lines.as_slice(),
+        races: kept.races(),
+        verdict: machine.verdict(),
+        rests: rests.as_slice(),
+    };
+    written(alloc, part, &shown)
+}
+
+// The text of a part of what is shown, with the status of the run.
+fn written(alloc: Global, part: Part, shown: &Shown<'_>) -> Result<Written, AllocError>
+    ensures answer { IfOk result (λ a. written_as a ≡ part_answer part (seen shown.now)) }
+    ensures status { IfOk result (λ a. IsStatus a.status) }
+{
+    let text = text_of(alloc, part, shown)?;
+    Ok(Written {
+        text,
+        status: status_of(shown.verdict, shown.races),
+    })
+}
+
+// The text of the steps that are told, and behind it the reason for which the run is undefined, where it is.
+fn steps_of(alloc: Global, shown: &Shown<'_>) -> Result<Vec<u8>, AllocError>
+    ensures { IfOk result (λ text. text.items ≡ steps_text (seen shown.now) ++ reason_text (seen shown.now).verdict) }
+{
+    let mut text = steps(alloc, shown)?;
+    push_reason(&mut text, shown.verdict)?;
+    Ok(text)
+}
+
+// The text of a part.
+fn text_of(alloc: Global, part: Part, shown: &Shown<'_>) -> Result<Vec<u8>, AllocError>
+    ensures { IfOk result (λ text. text.items ≡ part_text part (seen shown.now)) }
+{
+    match part {
+        Part::Steps { from: _, to: _ } => steps_of(alloc, shown),
+        Part::Races => races(alloc, shown),
+    }
+}

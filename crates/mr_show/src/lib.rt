@@ -1,0 +1,95 @@
+//! The body of `mirace_show`'s top call: a run as people read it.
+//!
+//! - [`mirace_show`]: does what the words ask for: `steps P S [FIRST LAST]`, `races P S`, `why CODE` or `--help`. Over
+//!   files that tell what they hold: what is written is the answer by definition (`specs/Answer.antt`), or a read failed,
+//!   which the files counted, or memory ran out before anything was written. Of a program and a legal schedule of it the
+//!   answer is the text of its run (`mr_listing`): of the machine's steps, each at its place in the program's text, or of
+//!   its races; of a code it is what is said of the rule or the reason (`mr_why`). Over other files there are texts of
+//!   which the same holds.
+//!
+//! Files, refusals and the writing of an answer are those of `mirace` (`mr_input`), and so are the lines of broken rules
+//! and the status of a run (`mr_answer`).
+#![tactic(auto)]
+
+ghost use Rattle.std.specs.Prelude.{◌≡◌, ◌+◌, ◌≤◌, None, Some, map, string_bytes};
+ghost use Rattle.mr_io.specs.Counts.{Rose};
+ghost use Rattle.mr_io.specs.Files.{Contents};
+ghost use Rattle.mr_input.specs.Writing.{IsWritten};
+ghost use Rattle.mr_show.specs.Answer.{usage};
+ghost use Rattle.mr_show.specs.Form.{asked, form_of};
+ghost use Rattle.mr_show.specs.Outcome.{Ends, EndsOverTexts};
+ghost use Rattle.mr_show.specs.Unread.{IsUnreadBecause};
+
+mod answer;
+mod form;
+mod help;
+mod laid;
+mod placed;
+mod sentences;
+mod shown;
+
+use crate::answer::answer;
+use crate::form::{Form, form_of};
+use mr_input::{finish, refuse};
+use mr_io::{Files, Sink};
+use std::alloc::Global;
+
+const USAGE: &[u8] = b"usage: steps P S [FIRST LAST] | races P S | why CODE | --help\n";
+
+/// Does what the words behind the program's name ask for, and answers the exit status: that of the run's report, or that
+/// of what refuses it, as `mirace` answers them; 2 of words without a form.
+pub fn mirace_show<F: Files, O: Sink>(
+    alloc: Global,
+    words: &[String],
+    files: &mut F,
+    out: &mut O,
+) -> u8
+    // What is written and answered, over files that tell what they hold.
+    ensures ends { (contents : Contents) → F.told files.old ≡ Some contents
+        → Ends contents (form_of (map string_bytes words.now)) (Rose (F.faults files.old) (F.faults files.new))
+        (Rose (O.faults out.old) (O.faults out.new)) (O.taken out.old) (O.taken out.new) result }
+
+    // Over files that don't: there are texts of which they are.
+    ensures untold { F.told files.old ≡ None
+        → EndsOverTexts (form_of (map string_bytes words.now)) (Rose (F.faults files.old) (F.faults files.new))
+        (Rose (O.faults out.old) (O.faults out.new)) (O.taken out.old) (O.taken out.new) result }
+
+    // Whatever the files tell.
+    ensures bounded { result ≤ 9 }
+    ensures usage { form_of (map string_bytes words.now) ≡ None
+        → IsWritten usage (Rose (O.faults out.old) (O.faults out.new)) (O.taken out.old) (O.taken out.new) result }
+    ensures no_usage { result ≡ 2 → form_of (map string_bytes words.now) ≡ None }
+    ensures read_fault { result ≡ 6 → IsUnreadBecause (Rose (F.faults files.old) (F.faults files.new))
+        (F.told files.old) (form_of (map string_bytes words.now)) }
+    ensures write_fault { result ≡ 7 → Rose (O.faults out.old) (O.faults out.new) }
+    ensures memory { result ≡ 8 → O.taken out.new ≡ O.taken out.old }
+    ensures same { F.told files.new ≡ F.told files.old }
+    ensures reads { F.reads files.new ≤ F.reads files.old + 2 }
+{
+    match form_of(words) {
+        None => finish(out, USAGE, 2),
+        Some(form) => obeyed(alloc, files, out, form),
+    }
+}
+
+// Does what a form asks for.
+fn obeyed<F: Files, O: Sink>(alloc: Global, files: &mut F, out: &mut O, form: Form<'_>) -> u8
+    ensures ends { (contents : Contents) → F.told files.old ≡ Some contents
+        → Ends contents (Some (asked form.entry)) (Rose (F.faults files.old) (F.faults files.new))
+        (Rose (O.faults out.old) (O.faults out.new)) (O.taken out.old) (O.taken out.new) result }
+    ensures untold { F.told files.old ≡ None
+        → EndsOverTexts (Some (asked form.entry)) (Rose (F.faults files.old) (F.faults files.new))
+        (Rose (O.faults out.old) (O.faults out.new)) (O.taken out.old) (O.taken out.new) result }
+    ensures no_usage { ¬ result ≡ 2 }
+    ensures bounded { result ≤ 9 }
+    ensures read_fault { F.told files.old ≡ None → result ≡ 6 → Rose (F.faults files.old) (F.faults files.new) }
+    ensures write_fault { result ≡ 7 → Rose (O.faults out.old) (O.faults out.new) }
+    ensures memory { result ≡ 8 → O.taken out.new ≡ O.taken out.old }
+    ensures same { F.told files.new ≡ F.told files.old }
+    ensures reads { F.reads files.new ≤ F.reads files.old + 2 }
+{
+    match answer(alloc, files, form) {
+        Ok(written) => finish(out, written.text.as_slice(), written.status),
+        Err(refusal) => refuse(alloc, out, refusal),
+    }
+}

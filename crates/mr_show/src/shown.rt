@@ -1,0 +1,187 @@
+//! A part of the run of the program in one file under the schedule in another.
+ghost use Rattle.std.specs.Prelude.{◌≡◌, ℕ, ◌+◌, ◌^◌, ◌≤◌, List, None, Some, Ok, IfOk, length};
+ghost use Rattle.mr_ast.specs.Shaped.{Shaped};
+ghost use Rattle.mr_io.specs.Counts.{Rose};
+ghost use Rattle.mr_io.specs.Files.{Contents};
+ghost use Rattle.mr_grammar.specs.Parsing.{parsed};
+ghost use Rattle.mr_input.specs.Answer.{IsStatus, Tells, TellsOrUnread};
+ghost use Rattle.mr_input.specs.Inputs.{IsUnreadFault};
+ghost use Rattle.mr_show.specs.Answer.{answer_under, between, first_rows, run_answer};
+ghost use Rattle.mr_show.specs.Answering.{IsOfFile, IsOfProgram, IsOfText};
+
+use crate::form::{ALL, Part};
+use crate::laid::laid;
+use mr_answer::refusal_of;
+use mr_ast::Program;
+use mr_input::{Refusal, Written, answered, form_answer, program_of, read_schedule, read_text};
+use mr_io::Files;
+use mr_run::Clocked;
+use mr_sched::{Schedule, Version};
+use mr_start::start_asks;
+use mr_telling::{Between, tell};
+use mr_told::{Allocation, start_rows};
+use mr_wf::{Checked, WfFault, well_formed};
+use std::alloc::{AllocError, Global};
+
+/// A part of the run of the program in a file under the schedule in another.
+pub(crate) fn shown_file<F: Files>(
+    alloc: Global,
+    files: &mut F,
+    part: Part,
+    program: &str,
+    schedule: &str,
+) -> Result<Written, Refusal>
+    ensures same { F.told files.new ≡ F.told files.old }
+    ensures reads { F.reads files.new ≤ F.reads files.old + 2 }
+    ensures faults { F.faults files.old ≤ F.faults files.new }
+    ensures answer { (contents : Contents) → F.told files.old ≡ Some contents
+        → IsOfFile (Rose (F.faults files.old) (F.faults files.new)) part (contents schedule.now)
+        (contents program.now) result }
+    ensures status { IfOk result (λ a. IsStatus a.status) }
+    ensures texts { F.told files.old ≡ None → (program : List ℕ) × (schedule : List ℕ)
+        × IsOfFile (Rose (F.faults files.old) (F.faults files.new)) part (Some schedule) (Some program) result }
+    ensures untold { F.told files.old ≡ None → IsUnreadFault result
+        → Rose (F.faults files.old) (F.faults files.new) }
+{
+    match read_text(alloc, files, program) {
+        Ok(text) => shown_text(alloc, files, part, text.as_slice(), schedule),
+        Err(refusal) => Err(refusal),
+    }
+}
+
+// The same of the program that a text denotes.
+fn shown_text<F: Files>(
+    alloc: Global,
+    files: &mut F,
+    part: Part,
+    text: &[u8],
+    schedule: &str,
+) -> Result<Written, Refusal>
+    ensures same { F.told files.new ≡ F.told files.old }
+    ensures reads { F.reads files.new ≤ F.reads files.old + 1 }
+    ensures faults { F.faults files.old ≤ F.faults files.new }
+    ensures answer { (contents : Contents) → F.told files.old ≡ Some contents
+        → IsOfText (Rose (F.faults files.old) (F.faults files.new)) part (contents schedule.now) text.now result }
+    ensures status { IfOk result (λ a. IsStatus a.status) }
+    ensures texts { F.told files.old ≡ None → (schedule : List ℕ)
+        × IsOfText (Rose (F.faults files.old) (F.faults files.new)) part (Some schedule) text.now result }
+    ensures untold { F.told files.old ≡ None → IsUnreadFault result
+        → Rose (F.faults files.old) (F.faults files.new) }
+{
+    match program_of(alloc, text) {
+        Ok(p) => shown_program(alloc, files, part, text, p, schedule),
+        Err(refusal) => Err(refusal),
+    }
+}
+
+// The same of a program that breaks no rule, and else the line of the first rule that it breaks.
+#[tactic(auto, using(mr_input::proofs::AnswerLaws::broken_told))]
+fn shown_program<F: Files>(
+    alloc: Global,
+    files: &mut F,
+    part: Part,
+    text: &[u8],
+    p: Program,
+    schedule: &str,
+) -> Result<Written, Refusal>
+    requires shaped { Shaped p }
+    requires parsed { parsed text.now ≡ Ok p }
+    ensures same { F.told files.new ≡ F.told files.old }
+    ensures reads { F.reads files.new ≤ F.reads files.old + 1 }
+    ensures faults { F.faults files.old ≤ F.faults files.new }
+    ensures answer { (contents : Contents) → F.told files.old ≡ Some contents
+        → IsOfProgram (Rose (F.faults files.old) (F.faults files.new)) part text.now (contents schedule.now) p
+        result }
+    ensures status { IfOk result (λ a. IsStatus a.status) }
+    ensures texts { F.told files.old ≡ None → (schedule : List ℕ)
+        × IsOfProgram (Rose (F.faults files.old) (F.faults files.new)) part text.now (Some schedule) p result }
+    ensures untold { F.told files.old ≡ None → IsUnreadFault result
+        → Rose (F.faults files.old) (F.faults files.new) }
+{
+    match well_formed(alloc, p) {
+        Ok(checked) => shown_schedule(alloc, files, part, text, &checked, schedule),
+        Err(WfFault::Form { fault, program }) => form_answer(alloc, &program, fault),
+        Err(WfFault::Memory) => Err(Refusal::Memory),
+    }
+}
+
+// The same of the run of a program under the schedule in a file.
+fn shown_schedule<F: Files>(
+    alloc: Global,
+    files: &mut F,
+    part: Part,
+    text: &[u8],
+    p: &Checked,
+    schedule: &str,
+) -> Result<Written, Refusal>
+    requires { parsed text.now ≡ Ok p.now }
+    ensures same { F.told files.new ≡ F.told files.old }
+    ensures reads { F.reads files.new ≤ F.reads files.old + 1 }
+    ensures faults { F.faults files.old ≤ F.faults files.new }
+    ensures answer { (contents : Contents) → F.told files.old ≡ Some contents
+        → TellsOrUnread (Rose (F.faults files.old) (F.faults files.new))
+        (answer_under part text.now (contents schedule.now) p.now) result }
+    ensures status { IfOk result (λ a. IsStatus a.status) }
+    ensures texts { F.told files.old ≡ None → (schedule : List ℕ)
+        × TellsOrUnread (Rose (F.faults files.old) (F.faults files.new))
+        (answer_under part text.now (Some schedule) p.now) result }
+    ensures untold { F.told files.old ≡ None → IsUnreadFault result
+        → Rose (F.faults files.old) (F.faults files.new) }
+{
+    match read_schedule(alloc, files, schedule) {
+        Ok(read) => shown_run(alloc, part, text, p, read.version, &read.schedule),
+        Err(refusal) => Err(refusal),
+    }
+}
+
+// The steps that are told for a part: for the races all.
+fn between(part: Part) -> Between
+    ensures { result ≡ between part }
+{
+    match part {
+        Part::Steps { from, to } => Between { from, to },
+        Part::Races => Between { from: 0, to: ALL },
+    }
+}
+
+// The allocations of the start of a run, which got these picks.
+fn first_rows(alloc: Global, p: &Checked, picks: &[u64]) -> Result<Vec<Allocation>, AllocError>
+    ensures { IfOk result (λ rows. rows.items ≡ first_rows p.now picks.now) }
+{
+    let asks = start_asks(alloc, p)?;
+    start_rows(alloc, p.program(), asks.as_slice(), picks)
+}
+
+// The same of the run of a program under a schedule whose text is in a version.
+fn shown_run(
+    alloc: Global,
+    part: Part,
+    text: &[u8],
+    p: &Checked,
+    v: Version,
+    w: &Schedule,
+) -> Result<Written, Refusal>
+    requires few { length w.now.entries ≤ 2 ^ 22 }
+    requires parsed { parsed text.now ≡ Ok p.now }
+    ensures answer { Tells (run_answer part text.now p.now v w.now) result }
+    ensures status { IfOk result (λ a. IsStatus a.status) }
+    ensures read { ¬ IsUnreadFault result }
+{
+    let mut rows = first_rows(alloc, p, w.start.as_slice())?;
+    let mut steps = Vec::new(alloc);
+    let mut kept = Clocked::new(alloc);
+    match tell(alloc, p, w, between(part), &mut kept, &mut rows, &mut steps) {
+        Ok(machine) => answered(laid(
+            alloc,
+            part,
+            text,
+            p,
+            &machine,
+            w.entries.len(),
+            &kept,
+            rows,
+            steps.as_slice(),
+        )),
+        Err(fault) => Err(refusal_of(v, w, fault)),
+    }
+}

@@ -1,0 +1,16 @@
+//! The run of a program under a schedule, with what each of its steps tells.
+//!
+//! [`tell`] runs a program as `mr_run` does. It tells which allocations the steps made, and of the entries of a part
+//! ([`Between`]) where its thread stood before it and stands behind it, what it asked for, and how many prints there were
+//! (`specs/Told.antt`); of the others nothing is kept. Proved: exactly so, with the machine behind the last entry and what
+//! is kept of the footprints, or the first rule that the schedule breaks. [`rests`] tells, exactly, how the threads of a
+//! machine stand.
+#![tactic(auto)]
+
+mod resting;
+mod standing;
+mod telling;
+
+pub use mr_run::RunFault;
+pub use resting::rests;
+pub use telling::{Between, tell};

@@ -1,0 +1,3 @@
+mod Examples
+pub mod Growing
+pub mod IndexLaws
