@@ -98,6 +98,21 @@ def tagged_arrays(array, count, tags, depth=1):
     return of_type
 
 
+def sooner(depth):
+    """Arrays of one element in one another, each of which ends before what is around it does."""
+    of_type = b"unit"
+    for level in range(depth):
+        of_type = b"tuple size %d align 1 { 0: array(1, %s) }" % (TEXT - depth + level + 1, of_type)
+    return of_type
+
+
+def tagged(of_type, count):
+    """An enum of so many variants with this type, the last byte of which is a tag of one around it."""
+    variants = b", ".join(b"%d: %s tag { }" % (k, of_type) for k in range(count))
+    of_type = b"enum size 1048576 align 1 disc u32 { %s } known 0" % variants
+    return b"enum size 1048576 align 1 disc u8 { 0: %s tag { 1048575: u8 = 1 } } known 0" % of_type
+
+
 def local(of_type):
     return program(b"", b", x: " + of_type)
 
@@ -158,8 +173,9 @@ EMPTY = b"tuple size 0 align 1 { 0: "
 SMALL = EMPTY + b"unit }"
 # An array of 16 bytes, of which each second one is padding.
 PADDED = b"array(8, tuple size 2 align 1 { 0: u8 })"
-# The same as long as may be.
+# The same as long as may be, at once and in halves.
 LONG = b"array(524288, tuple size 2 align 1 { 0: u8 })"
+HALVES = b"array(2, array(262144, tuple size 2 align 1 { 0: u8 }))"
 # Each form of a text that repeats something, and as often as goes into a text. The first is the plain one.
 WIDE = (
     ("statements", lambda n: program(b"", b", x: u8", blocks_of(b"live x;\n", n))),
@@ -185,6 +201,7 @@ WIDE = (
     ("tags beside the fields of an array's elements", lambda n: local(tagged_elements(n))),
     ("tags beside arrays over one another", lambda n: local(tagged_arrays(LONG, n, 3 * n))),
     ("a tag beside arrays over one another", lambda n: local(tagged_arrays(LONG, n, 1))),
+    ("a tag beside halves of arrays over one another", lambda n: local(tagged_arrays(HALVES, n, 1))),
     ("enums with a tag beside one another", lambda n: local(b"enum size 1048576 align 1 disc u32 { %s } known 0" % listed(
         b"%d: enum size 1048576 align 1 disc u8 { 0: tuple size 1048576 align 1 { } tag { 7: u8 = 1 } } known 0 tag { }", n))),
     ("cases of a tree", lambda n: local(CASES % (TREE % repeated(b"%d => known 0, ", n)))),
@@ -241,6 +258,7 @@ DEEP = (
     ("enums with tags around arrays over one another", lambda n: local(tagged_arrays(LONG, n, 3 * n, 28))),
     ("enums with some tags around arrays over one another", lambda n: local(tagged_arrays(LONG, n, 28 * 64, 28))),
     ("enums with a tag around arrays over one another", lambda n: local(tagged_arrays(LONG, n, 28, 28))),
+    ("a tag around arrays that end sooner and sooner", lambda n: local(tagged(sooner(13), n))),
     ("trees in the first case", lambda n: local(CASES % nested(
         b"branch 0 u32 { 0 => ", TREE % repeated(b"%d => known 0, ", n), b", _ => invalid }"))),
     ("trees in the last case", lambda n: local(CASES % nested(

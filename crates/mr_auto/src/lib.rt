@@ -7,6 +7,8 @@
 //!   machine behind its last entry; what is kept of the steps the caller chooses (`mr_run`: `Record`). Proved: the
 //!   schedule is exactly the defined one, and legal; machine and record are those of the program's run under it; want of
 //!   memory is its only error.
+//! - [`waiting_threads`], [`address`], [`start_picks`], [`make_step`]: for a caller that gives the threads itself: the
+//!   threads that wait for a lock, an address, the picks of the start line, and the step of an entry that breaks no rule.
 //! - [`drawn_schedules_are_legal`], a law: of a well-formed program the drawn schedule is legal, so that it is read back as any other.
 #![tactic(auto)]
 
@@ -16,5 +18,8 @@ mod laws;
 mod picking;
 mod running;
 
+pub use candidates::waiting_threads;
 pub use drawing::{Drawn, draw};
 pub use laws::drawn_schedules_are_legal;
+pub use picking::{address, start_picks};
+pub use running::make_step;

@@ -13,8 +13,8 @@ use mr_sched::{Ask, Chooser, Items};
 use mr_step::Machine;
 use std::alloc::{AllocError, Global};
 
-// An address, where one is found.
-fn address(chooser: &mut Chooser, size: u64, align: u64) -> Option<u64>
+/// An address, where one is found.
+pub fn address(chooser: &mut Chooser, size: u64, align: u64) -> Option<u64>
     ensures { PickAnswer (found chooser.old size align) (behind_address chooser.old size align) result chooser.new }
 {
     if align == 0 {

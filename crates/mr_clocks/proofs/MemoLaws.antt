@@ -1,11 +1,17 @@
 -- Memos beside rows that grow, and beside rows that take links.
-use Rattle.std.proofs.Common.{◌≡◌, ◌≢◌, ℕ, ◌<◌, List, true, length, slice_index, sym, ◌∙◌, ap, subst, arith}
+use Rattle.std.proofs.Common.{◌≡◌, ◌≢◌, ℕ, ◌+◌, ◌<◌, List, Option, None, Some, true, length, slice_index, refl, sym, ◌∙◌, ap, subst, arith}
+use Rattle.std.specs.Prelude.{IfSome}
 use Rattle.std.proofs.lemmas.List.{take_all}
 use Rattle.mr_event.specs.Footprint.{Footprint}
+use Rattle.mr_event.specs.Likeness.{DoTheSame}
+use Rattle.mr_event.proofs.AlikeLaws.{alike_equal}
+use Rattle.mr_clocks.specs.declared.keys.Key.{Key}
+use Rattle.mr_clocks.specs.declared.keys.Key.TheVariants.{Lock, Creation, Spawning, Starts, Joins, Made, Touched, Range, Wakes}
 use Rattle.mr_clocks.specs.declared.rows.Row.{Row}
 use Rattle.mr_clocks.specs.Keys.{asks, notes}
 use Rattle.mr_clocks.specs.Memos.{AreMemos, IsMemo, IsMemoOf, memo_at}
 use Rattle.mr_clocks.specs.Rows.{AreAllAsked, ArePlaces, HaveKeysOf, IsGrown, IsListed, row_at}
+use Rattle.mr_clocks.proofs.Noting.{grown_row}
 
 -- each row of another thread that the step asks is among those of other threads that were found
 pub asked_of : (step : Footprint) (rows same : List Row) (found equal asked : List ℕ) → same ≡ rows → equal ≡ found → ((x : ℕ) → x < length same → (row_at same x).thread ≢ step.thread → asks step (row_at same x).key ≡ true → IsListed equal x → IsListed asked x) → ((x : ℕ) → x < length rows → asks step (row_at rows x).key ≡ true → IsListed found x) → AreAllAsked step rows asked
@@ -13,9 +19,71 @@ asked_of step rows same found equal asked e f others all = λ x lt apart it_asks
     subst (λ (l : List Row). x < length l → (row_at l x).thread ≢ step.thread → asks step (row_at l x).key ≡ true → IsListed equal x → IsListed asked x) e (others x) lt apart it_asks
     (subst (λ (l : List ℕ). IsListed l x) (sym f) (all x lt it_asks))
 
+-- a step with whom another one woke
+abbrev waking_as : Footprint → Footprint → Footprint
+waking_as f g = record {
+  thread = f.thread;
+  accesses = f.accesses;
+  allocated = f.allocated;
+  freed = f.freed;
+  touched = f.touched;
+  event = f.event;
+  ended = f.ended;
+  woken = g.woken;
+}
+
+-- it asks the same keys
+asks_waking : (f g : Footprint) (key : Key) → asks (waking_as f g) key ≡ asks f key
+asks_waking f g (Lock n) = refl
+asks_waking f g Creation = refl
+asks_waking f g Spawning = refl
+asks_waking f g (Starts t) = refl
+asks_waking f g (Joins t) = refl
+asks_waking f g (Made a) = refl
+asks_waking f g (Touched a) = refl
+asks_waking f g (Range r) = refl
+asks_waking f g (Wakes t) = refl
+
+-- steps that do the same ask the same rows
+pub asked_alike : (f g : Footprint) (rows : List Row) (found : List ℕ) → DoTheSame f g → AreAllAsked f rows found → AreAllAsked g rows found
+asked_alike f g rows found h all =
+    subst (λ (s : Footprint). AreAllAsked s rows found)
+    (alike_equal (waking_as f g) g (record {
+      thread = h.thread;
+      event = h.event;
+      ended = h.ended;
+      accesses = h.accesses;
+      touched = h.touched;
+      allocated = h.allocated;
+      freed = h.freed;
+      woken = refl;
+    }))
+    (λ x lt apart it_asks. all x lt apart (sym (asks_waking f g (row_at rows x).key) ∙ it_asks))
+
+-- what holds where there is something, and what follows from it
+pub if_some : {A : Type 0} (P Q : A → Type 0) (o : Option A) → ((v : A) → P v → Q v) → IfSome o P → IfSome o Q
+if_some P Q None f h = tt
+if_some P Q (Some v) f h = f v h
+
 -- rows that grew by none are those of before
-grown_by_none : (old new : List Row) → IsGrown old new → length new ≡ length old → new ≡ old
+pub grown_by_none : (old new : List Row) → IsGrown old new → length new ≡ length old → new ≡ old
 grown_by_none old new g many = sym (take_all (length old) new (omega (arith, many))) ∙ g.same
+
+-- the places of rows are those of rows behind which others came
+places_grown : (old new : List Row) (step : Footprint) (places : List ℕ) → IsGrown old new → ArePlaces step old places → ArePlaces step new places
+places_grown old new step places g p =
+    let longer = g.longer in
+    record {
+      each = λ y lt.
+          let at = p.each y lt in
+          let inside = at.0 in
+          let same = grown_row old new g (slice_index places y) inside in
+          (omega (arith, inside, longer), ap (λ (r : Row). r.thread) same ∙ at.1, ap (λ (r : Row). notes step r.key) same ∙ at.2);
+      all = λ key noted.
+          let t = p.all key noted in
+          let at = p.each t.0 t.1 in
+          (t.0, t.1, ap (λ (r : Row). r.key) (grown_row old new g (slice_index places t.0) at.0) ∙ t.2);
+    }
 
 pub memos_grown : (old new : List Row) (memos : List (Footprint × ℕ × List ℕ × List ℕ)) → IsGrown old new → AreMemos old memos → AreMemos new memos
 memos_grown old new memos g all = λ x lt.
@@ -25,9 +93,10 @@ memos_grown old new memos g all = λ x lt.
     let longer = g.longer in
     record {
       low = omega (arith, low, longer);
-      exact = λ e.
-          let many : length new ≡ length old = omega (arith, e, low, longer) in
-          subst (λ (rows : List Row). IsMemoOf rows memo.0 memo) (sym (grown_by_none old new g many)) (m.exact (omega (arith, e, many)));
+      asked = λ y less apart it_asks.
+          let same = grown_row old new g y (omega (arith, less, low)) in
+          m.asked y less (λ is. apart (ap (λ (r : Row). r.thread) same ∙ is)) (ap (λ (r : Row). asks memo.0 r.key) (sym same) ∙ it_asks);
+      noted = λ some. places_grown old new memo.0 memo.3 g (m.noted some);
     }
 
 -- the places of rows are those of rows that have their keys
@@ -52,26 +121,36 @@ memos_same old new memos keys all = λ x lt.
     let many = keys.many in
     record {
       low = omega (arith, low, many);
-      exact = λ e.
-          let of = m.exact (omega (arith, e, many)) in
-          record {
-            of_step = of.of_step;
-            stamp = e;
-            asked = λ r inside apart it_asks.
-                of.asked r (omega (arith, inside, many)) (λ is. apart (keys.thread r ∙ is)) (ap (asks memo.0) (sym (keys.key r)) ∙ it_asks);
-            noted = places_same old new memo.0 memo.3 keys of.noted;
-          };
+      asked = λ r less apart it_asks. m.asked r less (λ is. apart (keys.thread r ∙ is)) (ap (asks memo.0) (sym (keys.key r)) ∙ it_asks);
+      noted = λ some. places_same old new memo.0 memo.3 keys (m.noted some);
     }
 
--- a memo that is as new as the rows is one of its step
+-- a memo of a step that is as new as the rows is a memo
 pub memo_here : (rows : List Row) (step : Footprint) (memo : Footprint × ℕ × List ℕ × List ℕ) → IsMemoOf rows step memo → IsMemo rows memo
 memo_here rows step memo of =
     let stamp = of.stamp in
+    let own : memo.0 ≡ step = of.of_step in
+    let all : AreAllAsked memo.0 rows memo.2 = subst (λ (f : Footprint). AreAllAsked f rows memo.2) (sym own) of.asked in
     record {
       low = omega (arith, stamp);
-      exact = λ e. subst (λ (f : Footprint). IsMemoOf rows f memo) (sym of.of_step) of;
+      asked = λ x less. all x (omega (arith, less, stamp));
+      noted = λ _. subst (λ (f : Footprint). ArePlaces f rows memo.3) (sym own) of.noted;
+    }
+
+-- a memo that is as new as the rows is one of its step
+pub memo_exact : (rows : List Row) (memo : Footprint × ℕ × List ℕ × List ℕ) → memo.1 ≡ length rows + 1 → IsMemo rows memo → IsMemoOf rows memo.0 memo
+memo_exact rows memo stamp m =
+    record {
+      of_step = refl;
+      stamp = stamp;
+      asked = λ x lt. m.asked x (omega (arith, lt, stamp));
+      noted = m.noted (omega (arith, stamp));
     }
 
 -- a memo without a stamp
 pub memo_none : (rows : List Row) (memo : Footprint × ℕ × List ℕ × List ℕ) → memo.1 ≡ 0 → IsMemo rows memo
-memo_none rows memo none = record { low = omega (arith, none); exact = λ e. absurd (omega (arith, none, e)) }
+memo_none rows memo none = record {
+  low = omega (arith, none);
+  asked = λ x less. absurd (omega (arith, none, less));
+  noted = λ some. absurd (omega (arith, none, some));
+}

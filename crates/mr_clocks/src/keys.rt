@@ -1,9 +1,12 @@
 //! What two steps may have in common: the keys under which a step is noted, and those that a later step asks.
 
-ghost use Rattle.std.specs.Prelude.{◌≡◌, ◌++◌, IfOk, IsTrue, OnOk, true, false};
+ghost use Rattle.std.specs.Prelude.{◌≡◌, ◌++◌, IfOk, IsTrue, OnOk, Some, true, false};
 ghost use Rattle.std.specs.List.{list_any};
 ghost use Rattle.mr_base.specs.Accesses.{conflicts as conflict_of, races as race_of};
-ghost use Rattle.mr_clocks.specs.Keys.{IsWakes, asks, end_asked, end_noted, event_asked, event_noted, key_races, keys_asked, keys_noted, made_keys, range_keys, touched_keys, woken_keys};
+ghost use Rattle.mr_base.specs.Identities.{same_id as is_same_id};
+ghost use Rattle.mr_event.specs.Footprints.{lock_of, same_number, spawns};
+ghost use Rattle.mr_clocks.specs.Keys.{IsWakes, asks as does_ask, creates, end_asked, end_noted, event_asked, event_noted, joins, key_races};
+ghost use Rattle.mr_clocks.specs.Keys.{keys_asked, keys_noted, made_keys, range_keys, spawns_some, touched_keys, woken_keys};
 
 use mr_base::{Access, AllocId, ranges_meet};
 use mr_event::{Event, Footprint, OutOfMemory};
@@ -191,20 +194,93 @@ fn conflicts_with(a: Access, others: &[Access]) -> bool
     others.iter().any(|b| conflict(a, *b))
 }
 
-/// Whether the step may ask the key: where that is a range, exactly if one of its accesses conflicts with it.
-pub(crate) fn may_ask(key: Key, step: &Footprint) -> bool
-    ensures { IsTrue (asks step.now key) → IsTrue result }
+// Whether two allocations are one.
+fn same_id(a: AllocId, b: AllocId) -> bool
+    ensures { result ≡ is_same_id a b }
+{
+    a.thread == b.thread && a.count == b.count
+}
+
+// Whether an allocation is among these.
+fn is_among(a: AllocId, ids: &[AllocId]) -> bool
+    ensures { result ≡ list_any (is_same_id a) ids.now }
+{
+    ids.iter().any(|b| same_id(a, *b))
+}
+
+// Whether a step with an event asks a lock.
+fn asks_lock(lock: u32, event: Event) -> bool
+    ensures { result ≡ same_number (lock_of event) (Some lock) }
+{
+    match event {
+        Event::CreateLock(other) | Event::Acquire(other) | Event::Release(other) => other == lock,
+        Event::Quiet | Event::Spawn(_) | Event::Join(_) => false,
+    }
+}
+
+// Whether an event joins a thread.
+fn asks_start(thread: u32, event: Event) -> bool
+    ensures { result ≡ joins event thread }
+{
+    match event {
+        Event::Join(joined) => joined == thread,
+        _ => false,
+    }
+}
+
+// Whether an event starts a thread.
+fn asks_joins(thread: u32, event: Event) -> bool
+    ensures { result ≡ spawns event thread }
+{
+    match event {
+        Event::Spawn(spawned) => spawned == thread,
+        _ => false,
+    }
+}
+
+// Whether an event makes a lock.
+fn asks_creation(event: Event) -> bool
+    ensures { result ≡ creates event }
+{
+    match event {
+        Event::CreateLock(_) => true,
+        _ => false,
+    }
+}
+
+// Whether an event makes a thread.
+fn asks_spawning(event: Event) -> bool
+    ensures { result ≡ spawns_some event }
+{
+    match event {
+        Event::Spawn(_) => true,
+        _ => false,
+    }
+}
+
+/// Whether the step asks the key.
+pub(crate) fn asks(key: Key, step: &Footprint) -> bool
+    ensures { result ≡ does_ask step.now key }
 {
     match key {
+        Key::Lock(lock) => asks_lock(lock, step.event()),
+        Key::Creation => asks_creation(step.event()),
+        Key::Spawning => asks_spawning(step.event()),
+        Key::Starts(thread) => asks_start(thread, step.event()),
+        Key::Joins(thread) => {
+            asks_joins(thread, step.event()) || (step.ended() && step.thread() == thread)
+        }
+        Key::Made(a) => is_among(a, step.touched()) || is_among(a, step.freed()),
+        Key::Touched(a) => is_among(a, step.freed()),
         Key::Range(a) => conflicts_with(a, step.accesses()),
-        _ => true,
+        Key::Wakes(thread) => step.thread() == thread,
     }
 }
 
 /// Whether an edge to the step may come from an earlier one that is noted under the key: not where the key is a range
 /// that no access conflicts with, and not where one races with it.
 pub(crate) fn may_bind(key: Key, step: &Footprint) -> bool
-    ensures { IsTrue (asks step.now key) → key_races key step.now ≡ false → IsTrue result }
+    ensures { IsTrue (does_ask step.now key) → key_races key step.now ≡ false → IsTrue result }
 {
     match key {
         Key::Range(a) => { conflicts_with(a, step.accesses()) && !races_with(a, step.accesses()) }

@@ -1,18 +1,19 @@
 //! Memos: the rows that earlier steps asked, and those in which they are noted. A step that does the same as one of
-//! them, while there are as many rows, needs no search.
+//! them needs no search: of the rows that came since it looks at each, if they are few.
 
-ghost use Rattle.std.specs.Prelude.{◌≡◌, ◌≢◌, ℕ, ◌<◌, List, IfOk, IsTrue, OnOk, length, vec_len};
+ghost use Rattle.std.specs.Prelude.{◌≡◌, ◌≢◌, ℕ, ◌<◌, ◌≤◌, List, IfOk, IfSome, IsTrue, OnOk, length, vec_len};
+ghost use Rattle.mr_event.specs.Likeness.{DoTheSame};
 ghost use Rattle.mr_clocks.specs.declared.rows.Row.{Row};
-ghost use Rattle.mr_clocks.specs.Keys.{asks};
+ghost use Rattle.mr_clocks.specs.Keys.{asks as does_ask};
 ghost use Rattle.mr_clocks.specs.Marks.{AreMarked};
 ghost use Rattle.mr_clocks.specs.Memos.{AreMemos, IsMemo, IsMemoOf, memo_at};
-ghost use Rattle.mr_clocks.specs.Rows.{IsGrown, IsListed, row_at};
+ghost use Rattle.mr_clocks.specs.Rows.{AreAllAsked, IsGrown, IsListed, row_at};
 
 use crate::index::{Index, places_for, rows_asked};
-use crate::keys::{may_ask, noted_by};
+use crate::keys::{asks, noted_by};
 use crate::rows::Row;
 use mr_base::Access;
-use mr_event::{Footprint, OutOfMemory, same_step};
+use mr_event::{Event, Footprint, OutOfMemory, do_the_same, same_step};
 use std::alloc::Global;
 use std::marker::Model;
 
@@ -20,7 +21,13 @@ use std::marker::Model;
 // these are at most. Behind them stands one memo of the last other step.
 const MEMOS: usize = 1024;
 
-const FEW: usize = 256;
+const FEW: usize = 512;
+
+// How many rows may have come since a memo was made, and how many rows it may list, so that it looks at the newer ones
+// alone. A longer list is made anew, in the order in which rows are found: what a step knows last stands first there.
+const NEAR: usize = 256;
+
+const SHORT: usize = 32;
 
 /// A step, the places of the rows of other threads that it asks, and of those in which it is noted. The stamp is one
 /// more than the number of rows that there were, or 0 where there is no step.
@@ -42,7 +49,9 @@ impl Model for Memo {
 }
 
 impl Memo {
-    ghost use Rattle.std.specs.Prelude.{◌≡◌, IsTrue};
+    ghost use Rattle.std.specs.Prelude.{◌≡◌, ◌<◌, IfOk, IsTrue};
+    ghost use Rattle.mr_event.specs.Likeness.{DoTheSame};
+    ghost use Rattle.mr_clocks.specs.Memos.{IsMemo};
 
     // A memo of no step.
     fn none(alloc: Global) -> Memo
@@ -77,6 +86,44 @@ impl Memo {
     {
         self.stamp == stamp && same_step(&self.step, step)
     }
+
+    // Whether it has a stamp, and its step did the same as another, but for the threads that they woke: then the other
+    // one asks the same rows.
+    fn asks_alike(&self, step: &Footprint, stamp: usize) -> bool
+        ensures step { IsTrue result → DoTheSame self.now.0 step.now }
+        ensures stamp { IsTrue result → self.now.1 ≡ stamp }
+    {
+        self.stamp == stamp && do_the_same(&self.step, step)
+    }
+
+    // Whether it has a stamp of not long ago, and its step did the same as another, but for the threads that they woke.
+    fn is_near(&self, step: &Footprint, many: usize) -> bool
+        ensures { IsTrue result → 0 < self.now.1 }
+    {
+        self.stamp > 0
+            && (self.stamp >= many || many - self.stamp < NEAR)
+            && self.asked.len() <= SHORT
+            && do_the_same(&self.step, step)
+    }
+
+    // Looks at the rows that are newer than it.
+    fn catch_up(&mut self, rows: &[Row]) -> Result<(), OutOfMemory>
+        requires stamp { 0 < self.old.1 }
+        requires memo { IsMemo rows.now self.old }
+        ensures memo { IsMemo rows.now self.new }
+    {
+        add_others(&mut self.asked, rows, self.stamp - 1, &self.step)?;
+        self.stamp = rows.len() + 1;
+        Ok(())
+    }
+
+    // The places of the rows that the step asks, once more.
+    fn asked_copied(&self, alloc: Global) -> Result<Vec<usize>, OutOfMemory>
+        ensures { IfOk result (λ v. v.items ≡ self.now.2) }
+    {
+        let asked = Vec::from_slice(alloc, self.asked.as_slice())?;
+        Ok(asked)
+    }
 }
 
 // A number by which accesses of different ranges mostly differ.
@@ -87,6 +134,20 @@ fn mixed(access: Access) -> usize
     (access.addr % 1024 + access.addr / 1024 % 1024 + kind) as usize
 }
 
+// A number by which events of different kinds differ.
+fn kind_of(event: Event) -> usize
+    ensures { result < 6 }
+{
+    match event {
+        Event::Quiet => 0,
+        Event::CreateLock(_) => 1,
+        Event::Acquire(_) => 2,
+        Event::Release(_) => 3,
+        Event::Spawn(_) => 4,
+        Event::Join(_) => 5,
+    }
+}
+
 // The place of the memo for a step, where it has few rows.
 fn slot_of(step: &Footprint) -> usize
     ensures { result < 1024 }
@@ -95,7 +156,7 @@ fn slot_of(step: &Footprint) -> usize
     let accesses = step.accesses();
     let count = accesses.len();
     if count == 0 {
-        return thread % MEMOS;
+        return (thread + kind_of(step.event()) * 171) % MEMOS;
     }
     let ends = mixed(accesses[0]) + mixed(accesses[count - 1]) * 5;
     (thread + ends + count % MEMOS * 11) % MEMOS
@@ -116,25 +177,42 @@ fn fill(alloc: Global, memos: &mut Vec<Memo>) -> Result<(), OutOfMemory>
     Ok(())
 }
 
-// Appends a place, if a row of another thread is there whose key the step may ask.
+// Appends a place, if a row of another thread is there whose key the step asks.
 fn add_other(
     others: &mut Vec<usize>,
     rows: &[Row],
     x: usize,
     step: &Footprint,
 ) -> Result<(), OutOfMemory>
-    ensures kept { OnOk result ((z : ℕ) → IsListed others.old.items z → IsListed others.new.items z) }
+    ensures kept { (z : ℕ) → IsListed others.old.items z → IsListed others.new.items z }
     ensures here { OnOk result (x < length rows.now → (row_at rows.now x).thread ≢ step.now.thread
-        → IsTrue (asks step.now (row_at rows.now x).key) → IsListed others.new.items x) }
+        → IsTrue (does_ask step.now (row_at rows.now x).key) → IsListed others.new.items x) }
 {
     if x >= rows.len() {
         return Ok(());
     }
     let row = &rows[x];
-    if row.thread == step.thread() || !may_ask(row.key, step) {
+    if row.thread == step.thread() || !asks(row.key, step) {
         return Ok(());
     }
     others.push(x)?;
+    Ok(())
+}
+
+// Appends the places, from a number on, at which there are rows of other threads whose keys the step asks.
+fn add_others(
+    others: &mut Vec<usize>,
+    rows: &[Row],
+    from: usize,
+    step: &Footprint,
+) -> Result<(), OutOfMemory>
+    ensures kept { (z : ℕ) → IsListed others.old.items z → IsListed others.new.items z }
+    ensures here { OnOk result ((x : ℕ) → from ≤ x → x < length rows.now → (row_at rows.now x).thread ≢ step.now.thread
+        → IsTrue (does_ask step.now (row_at rows.now x).key) → IsListed others.new.items x) }
+{
+    for x in from..rows.len() {
+        add_other(others, rows, x, step)?;
+    }
     Ok(())
 }
 
@@ -146,7 +224,7 @@ fn of_others(
     step: &Footprint,
 ) -> Result<Vec<usize>, OutOfMemory>
     ensures { IfOk result (λ v. (x : ℕ) → x < length rows.now → (row_at rows.now x).thread ≢ step.now.thread
-        → IsTrue (asks step.now (row_at rows.now x).key) → IsListed found.now x → IsListed v.items x) }
+        → IsTrue (does_ask step.now (row_at rows.now x).key) → IsListed found.now x → IsListed v.items x) }
 {
     let mut others = Vec::new(alloc);
     for y in 0..found.len() {
@@ -155,23 +233,67 @@ fn of_others(
     Ok(others)
 }
 
-// A memo of a step, whose rows are searched for. Those in which it is noted are made where they are missing.
+// The places of the rows of other threads that a step asks: those that are known, if there are as many rows as then;
+// else they are searched for.
+fn asked_by(
+    alloc: Global,
+    index: &Index,
+    rows: &[Row],
+    step: &Footprint,
+    known: Option<Vec<usize>>,
+    many: usize,
+) -> Result<Vec<usize>, OutOfMemory>
+    requires marked { AreMarked index.now.shelves.items index.now.marks.keys rows.now }
+    requires known { IfSome known (λ v. length rows.now ≡ many → AreAllAsked step.now rows.now v.items) }
+    ensures { IfOk result (λ v. AreAllAsked step.now rows.now v.items) }
+{
+    if rows.len() == many {
+        if let Some(asked) = known {
+            return Ok(asked);
+        }
+    }
+    let found = rows_asked(alloc, index, step)?;
+    let asked = of_others(alloc, rows, found.as_slice(), step)?;
+    Ok(asked)
+}
+
+// The places of the rows that a step asks, where a memo tells them.
+fn known_asked(
+    alloc: Global,
+    memo: &Memo,
+    step: &Footprint,
+    stamp: usize,
+) -> Result<Option<Vec<usize>>, OutOfMemory>
+    ensures { IfOk result (λ o. IfSome o (λ v. DoTheSame memo.now.0 step.now
+        × (memo.now.1 ≡ stamp) × (v.items ≡ memo.now.2))) }
+{
+    if !memo.asks_alike(step, stamp) {
+        return Ok(None);
+    }
+    let asked = memo.asked_copied(alloc)?;
+    Ok(Some(asked))
+}
+
+// A memo of a step. The rows that it asks are searched for where they aren't known, and those in which it is noted are
+// made where they are missing.
 #[inline(never)]
 fn memo_for(
     alloc: Global,
     index: &mut Index,
     rows: &mut Vec<Row>,
     step: &Footprint,
+    known: Option<Vec<usize>>,
 ) -> Result<Memo, OutOfMemory>
-    requires { AreMarked index.old.shelves.items index.old.marks.keys rows.old.items }
+    requires marked { AreMarked index.old.shelves.items index.old.marks.keys rows.old.items }
+    requires known { IfSome known (λ v. AreAllAsked step.now rows.old.items v.items) }
     ensures marked { AreMarked index.new.shelves.items index.new.marks.keys rows.new.items }
     ensures grown { IsGrown rows.old.items rows.new.items }
     ensures memo { IfOk result (λ m. IsMemoOf rows.new.items step.now m) }
 {
+    let many = rows.len();
     let keys = noted_by(alloc, step)?;
     let noted = places_for(alloc, index, rows, keys.as_slice(), step.thread())?;
-    let found = rows_asked(alloc, &*index, step)?;
-    let asked = of_others(alloc, rows.as_slice(), found.as_slice(), step)?;
+    let asked = asked_by(alloc, &*index, rows.as_slice(), step, known, many)?;
     let stamp = rows.len() + 1;
     Ok(Memo {
         step: step.copied()?,
@@ -200,6 +322,57 @@ fn keep_memo(memos: &mut Vec<Memo>, slot: usize, memo: Memo) -> usize
     place
 }
 
+// Lets the memo at a place look at the rows that are newer than it, where its step did what this one did.
+fn catch_up_at(
+    memos: &mut Vec<Memo>,
+    rows: &[Row],
+    step: &Footprint,
+    slot: usize,
+) -> Result<(), OutOfMemory>
+    requires slot { slot < length memos.old.items }
+    requires memos { AreMemos rows.now memos.old.items }
+    ensures memos { AreMemos rows.now memos.new.items }
+    ensures all { vec_len memos.new ≡ vec_len memos.old }
+{
+    let memo = &mut memos[slot];
+    if memo.is_near(step, rows.len()) {
+        memo.catch_up(rows)?;
+    }
+    Ok(())
+}
+
+// The place of a memo of a step that is as new as the rows: of the one at a place, when it has looked at the newer rows,
+// or of a new one.
+#[inline(never)]
+fn look_further(
+    alloc: Global,
+    memos: &mut Vec<Memo>,
+    index: &mut Index,
+    rows: &mut Vec<Row>,
+    step: &Footprint,
+    slot: usize,
+) -> Result<usize, OutOfMemory>
+    requires slot { slot < 1024 }
+    requires all { 1024 < vec_len memos.old }
+    requires marked { AreMarked index.old.shelves.items index.old.marks.keys rows.old.items }
+    requires memos { AreMemos rows.old.items memos.old.items }
+    ensures marked { AreMarked index.new.shelves.items index.new.marks.keys rows.new.items }
+    ensures grown { IsGrown rows.old.items rows.new.items }
+    ensures memos { AreMemos rows.new.items memos.new.items }
+    ensures within { IfOk result (λ x. x < length memos.new.items) }
+    ensures memo { IfOk result (λ x. IsMemoOf rows.new.items step.now (memo_at memos.new.items x)) }
+{
+    catch_up_at(memos, rows.as_slice(), step, slot)?;
+    let kept = &memos[slot];
+    let stamp = rows.len() + 1;
+    if kept.serves(step, stamp) {
+        return Ok(slot);
+    }
+    let known = known_asked(alloc, kept, step, stamp)?;
+    let memo = memo_for(alloc, index, rows, step, known)?;
+    Ok(keep_memo(memos, slot, memo))
+}
+
 /// The place of a memo of a step that is as new as the rows: of one that was there, or of a new one.
 pub(crate) fn look_up(
     alloc: Global,
@@ -222,6 +395,5 @@ pub(crate) fn look_up(
     if kept.serves(step, rows.len() + 1) {
         return Ok(slot);
     }
-    let memo = memo_for(alloc, index, rows, step)?;
-    Ok(keep_memo(memos, slot, memo))
+    look_further(alloc, memos, index, rows, step, slot)
 }

@@ -8,7 +8,7 @@ use std::string::String;
 use std::test::Fail;
 
 /// The cache of a program, and `None` where one of its types breaks a rule.
-pub fn cache_of(alloc: Global, p: &Program) -> Result<Option<Cache>, OutOfMemory> {
+pub fn cache_of<'p>(alloc: Global, p: &'p Program) -> Result<Option<Cache<'p>>, OutOfMemory> {
     let found = find_types(alloc, p)?;
     for t in found.as_slice() {
         if broken_rule(t).is_some() {

@@ -13,7 +13,7 @@ pub struct Env<'a> {
     pub locals: &'a [Option<Pointer>],
     pub functions: &'a [Pointer],
     pub globals: &'a [Pointer],
-    pub cache: &'a Cache,
+    pub cache: &'a Cache<'a>,
 }
 
 impl<'a> Env<'a> {

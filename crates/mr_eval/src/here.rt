@@ -11,7 +11,7 @@ use std::alloc::Global;
 pub struct Here<'p> {
     pub alloc: Global,
     pub memory: &'p Memory,
-    pub cache: &'p Cache,
+    pub cache: &'p Cache<'p>,
     pub locals: &'p [Local],
     pub storage: &'p [Option<Pointer>],
     pub functions: &'p [Pointer],

@@ -41,7 +41,7 @@ pub use dependence::{depends, wakes};
 pub use footprint::{Footprint, Pair};
 pub use latest::Latest;
 pub use laws::{decided, predicted_lists, racing_steps_depend};
-pub use likeness::same_step;
+pub use likeness::{do_the_same, same_step};
 pub use limits::foot_ok;
 pub use lists::Step;
 pub use mr_base::Event;

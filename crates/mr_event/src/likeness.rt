@@ -1,7 +1,7 @@
-//! Whether two footprints are equal.
+//! Whether two footprints are equal, as a whole or but for the threads that they woke.
 
 ghost use Rattle.std.specs.Prelude.{◌≡◌, ◌↔◌, IsTrue};
-ghost use Rattle.mr_event.specs.Likeness.{AreAlike};
+ghost use Rattle.mr_event.specs.Likeness.{AreAlike, DoTheSame};
 ghost use Rattle.mr_event.specs.Shape.{footprint_in};
 
 use crate::footprint::Footprint;
@@ -68,10 +68,9 @@ fn same_threads(a: &[u32], b: &[u32]) -> bool
     true
 }
 
-// Whether each field of the one is that of the other.
-#[inline(never)]
-fn fields_alike(a: &Footprint, b: &Footprint) -> bool
-    ensures { IsTrue result ↔ AreAlike a.now b.now }
+/// Whether each field of the one is that of the other, but for the threads that they woke.
+pub fn do_the_same(a: &Footprint, b: &Footprint) -> bool
+    ensures { IsTrue result ↔ DoTheSame a.now b.now }
 {
     a.thread() == b.thread()
         && a.ended() == b.ended()
@@ -80,7 +79,14 @@ fn fields_alike(a: &Footprint, b: &Footprint) -> bool
         && same_ids(a.touched(), b.touched())
         && same_ids(a.allocated(), b.allocated())
         && same_ids(a.freed(), b.freed())
-        && same_threads(a.woken(), b.woken())
+}
+
+// Whether each field of the one is that of the other.
+#[inline(never)]
+fn fields_alike(a: &Footprint, b: &Footprint) -> bool
+    ensures { IsTrue result ↔ AreAlike a.now b.now }
+{
+    do_the_same(a, b) && same_threads(a.woken(), b.woken())
 }
 
 // Whether the two are equal and have no room of their own.

@@ -12,7 +12,7 @@ pub struct Look<'a> {
     pub program: &'a Checked,
     pub functions: &'a [Pointer],
     pub globals: &'a [Pointer],
-    pub cache: &'a Cache,
+    pub cache: &'a Cache<'a>,
 }
 
 impl<'a> Look<'a> {

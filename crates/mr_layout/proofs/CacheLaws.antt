@@ -19,7 +19,7 @@ use Rattle.mr_layout.specs.TypeOk.{TypeOk}
 use Rattle.mr_layout.specs.Cached.{AreTypesOf, Adds}
 
 abbrev type_in : Entry → Ty
-type_in e = e.ty
+type_in e = e.ty.now
 
 -- ---- types in their order
 
@@ -43,27 +43,27 @@ below_itself t e = let f : Less ≡ Equal = sym e ∙ type_itself t in cc
 -- ---- entries
 
 -- the type of an entry is held
-held_at : (entries : List Entry) (k : ℕ) (d : Entry) (t : Ty) → k < length entries → (get_or entries k d).ty ≡ t → Contains (held_types entries) t
+held_at : (entries : List Entry) (k : ℕ) (d : Entry) (t : Ty) → k < length entries → (get_or entries k d).ty.now ≡ t → Contains (held_types entries) t
 held_at entries k d t inside is =
     let here : k < length (held_types entries) = omega (arith, length-map entries type_in) in
     (k, here, get_or-map type_in entries k d t inside ∙ is)
 
 -- a type that no entry has isn't held
-not_held : (entries : List Entry) (t : Ty) → ((k : ℕ) (d : Entry) → k < length entries → (get_or entries k d).ty ≡ t → ⊥) → ¬ Contains (held_types entries) t
+not_held : (entries : List Entry) (t : Ty) → ((k : ℕ) (d : Entry) → k < length entries → (get_or entries k d).ty.now ≡ t → ⊥) → ¬ Contains (held_types entries) t
 not_held entries t none c =
-    let d : Entry = record { ty = t; layout = layout_of t } in
+    let d : Entry = record { ty = record { ref_ptr = (0, 0); now = t }; layout = layout_of t } in
     let inside : c.0 < length entries = omega (arith, c.1, length-map entries type_in) in
     none c.0 d inside (sym (get_or-map type_in entries c.0 d t inside) ∙ c.2)
 
 -- ---- a search among entries in order
 
-rising_sorted : (entries : List Entry) → AreRising entries → IsSortedBy (λ (a b : Entry). is_lt (ty_cmp a.ty b.ty)) entries
+rising_sorted : (entries : List Entry) → AreRising entries → IsSortedBy (λ (a b : Entry). is_lt (ty_cmp a.ty.now b.ty.now)) entries
 rising_sorted entries rising k d low high =
-    let here : ty_cmp (get_or entries k d).ty (get_or entries (k + 1) d).ty ≡ Less = rising k (k + 1) d (omega arith) high in
-    ap is_lt (ty_total.antisymm (get_or entries (k + 1) d).ty (get_or entries k d).ty ∙ ap ordering_reverse here)
+    let here : ty_cmp (get_or entries k d).ty.now (get_or entries (k + 1) d).ty.now ≡ Less = rising k (k + 1) d (omega arith) high in
+    ap is_lt (ty_total.antisymm (get_or entries (k + 1) d).ty.now (get_or entries k d).ty.now ∙ ap ordering_reverse here)
 
 abbrev found_by : Ty → Entry → Ordering
-found_by t e = ty_cmp e.ty t
+found_by t e = ty_cmp e.ty.now t
 
 rising_answers : (entries : List Entry) (t : Ty) → AreRising entries → IsNonDecreasingBy (λ (e : Entry). ordering_index (found_by t e)) entries
 rising_answers entries t rising = searchable_from_sorted ty_total type_in entries t (rising_sorted entries rising)
@@ -72,10 +72,10 @@ rising_answers entries t rising = searchable_from_sorted ty_total type_in entrie
 pub search_found : (entries : List Entry) (t : Ty) (r : Result ℕ ℕ) → IsSearchInRange r (length entries) → IsBinarySearchResult (found_by t) entries r
     → IfSome (result_ok r) (λ at. slice_get (held_types entries) at ≡ Some t)
 search_found entries t (Ok at) inside equal =
-    let d : Entry = record { ty = t; layout = layout_of t } in
+    let d : Entry = record { ty = record { ref_ptr = (0, 0); now = t }; layout = layout_of t } in
     let within : at < length entries = inside in
     let here : at < length (held_types entries) = omega (arith, length-map entries type_in) in
-    slice_get-get_or (held_types entries) at t here ∙ ap Some (get_or-map type_in entries at d t inside ∙ same_type (get_or entries at d).ty t (equal d))
+    slice_get-get_or (held_types entries) at t here ∙ ap Some (get_or-map type_in entries at d t inside ∙ same_type (get_or entries at d).ty.now t (equal d))
 search_found entries t (Err at) inside parted = tt
 
 -- and where it finds none, none has it
@@ -94,7 +94,7 @@ search_missing entries t (Err at) rising parted =
 
 -- a type that none of those that are held stands above is held where it is the last one's
 pub last_told : (entries : List Entry) (t : Ty) (e : Entry) (b : Bool) → AreRising entries → All (λ held. is_lt (ty_cmp t held) ≡ false) (held_types entries)
-    → slice_get entries (length entries - 1) ≡ Some e → (IsTrue b ↔ (e.ty ≡ t)) → IsTrue b ↔ Contains (held_types entries) t
+    → slice_get entries (length entries - 1) ≡ Some e → (IsTrue b ↔ (e.ty.now ≡ t)) → IsTrue b ↔ Contains (held_types entries) t
 last_told entries t e b rising above last same =
     let end = length entries - 1 in
     let inside : end < length entries = slice_get_within entries end e last in
@@ -102,39 +102,39 @@ last_told entries t e b rising above last same =
       λ yes. held_at entries end e t inside (ap type_in here ∙ same.0 yes),
       λ c.
           let at : c.0 < length entries = omega (arith, c.1, length-map entries type_in) in
-          let is : (get_or entries c.0 e).ty ≡ t = sym (get_or-map type_in entries c.0 e t at) ∙ c.2 in
+          let is : (get_or entries c.0 e).ty.now ≡ t = sym (get_or-map type_in entries c.0 e t at) ∙ c.2 in
           ⊎_elim
           (λ (before : c.0 < end).
-          let low : ty_cmp t e.ty ≡ Less = ap₂ ty_cmp (sym is) (sym (ap type_in here)) ∙ rising c.0 end e before inside in
-          let high : is_lt (ty_cmp t e.ty) ≡ false =
+          let low : ty_cmp t e.ty.now ≡ Less = ap₂ ty_cmp (sym is) (sym (ap type_in here)) ∙ rising c.0 end e before inside in
+          let high : is_lt (ty_cmp t e.ty.now) ≡ false =
           subst (λ (u : Ty). is_lt (ty_cmp t u) ≡ false) (get_or-map type_in entries end e t inside ∙ ap type_in here) (above end t (omega (arith, length-map entries type_in))) in
           absurd (true≢false (sym (ap is_lt low) ∙ high)))
-          (λ (past : end ≤ c.0). let k : c.0 ≡ end = omega arith in same.1 (sym (ap type_in here) ∙ ap (λ (j : ℕ). (get_or entries j e).ty) (sym k) ∙ is))
+          (λ (past : end ≤ c.0). let k : c.0 ≡ end = omega arith in same.1 (sym (ap type_in here) ∙ ap (λ (j : ℕ). (get_or entries j e).ty.now) (sym k) ∙ is))
           (cases_lt c.0 end),
     )
 
 -- and is not held where there is none
 pub none_told : (entries : List Entry) (t : Ty) → slice_get entries (length entries - 1) ≡ None → ¬ Contains (held_types entries) t
 none_told entries t none c =
-    let d : Entry = record { ty = t; layout = layout_of t } in
+    let d : Entry = record { ty = record { ref_ptr = (0, 0); now = t }; layout = layout_of t } in
     let inside : c.0 < length entries = omega (arith, c.1, length-map entries type_in) in
     let some : slice_get entries (length entries - 1) ≡ Some (get_or entries (length entries - 1) d) = slice_get-get_or entries (length entries - 1) d (omega arith) in
     let f : None ≡ Some (get_or entries (length entries - 1) d) = sym none ∙ some in
     cc
 
 -- the order stays
-pub rising_push : (entries : List Entry) (e : Entry) (t : Ty) → AreRising entries → All (λ held. is_lt (ty_cmp t held) ≡ false) (held_types entries) → ¬ Contains (held_types entries) t → e.ty ≡ t
+pub rising_push : (entries : List Entry) (e : Entry) (t : Ty) → AreRising entries → All (λ held. is_lt (ty_cmp t held) ≡ false) (held_types entries) → ¬ Contains (held_types entries) t → e.ty.now ≡ t
     → AreRising (entries ++ e ∷ [])
 rising_push entries e t rising above missing same =
-    all_pairs_push (λ (a b : Entry). IsBelow a.ty b.ty) entries e rising
+    all_pairs_push (λ (a b : Entry). IsBelow a.ty.now b.ty.now) entries e rising
     (λ k d inside.
-    let u = (get_or entries k d).ty in
+    let u = (get_or entries k d).ty.now in
     let not_below : is_lt (ty_cmp t u) ≡ false =
     subst (λ (v : Ty). is_lt (ty_cmp t v) ≡ false) (get_or-map type_in entries k d t inside) (above k t (omega (arith, length-map entries type_in))) in
     subst (λ (v : Ty). ty_cmp u v ≡ Less) (sym same) (below_from t u not_below (λ is. missing (held_at entries k d t inside is))))
 
 -- an entry that is put last adds its type
-pub added : (entries : List Entry) (e : Entry) (t : Ty) → ¬ Contains (held_types entries) t → e.ty ≡ t → Adds (held_types entries) t (held_types (entries ++ e ∷ []))
+pub added : (entries : List Entry) (e : Entry) (t : Ty) → ¬ Contains (held_types entries) t → e.ty.now ≡ t → Adds (held_types entries) t (held_types (entries ++ e ∷ []))
 added entries e t missing same = inr (missing, map_push type_in entries e ∙ ap (λ (u : Ty). held_types entries ++ u ∷ []) same)
 
 -- ---- the types of a list, one after another

@@ -1,6 +1,7 @@
 pub mod AlignLaws
 pub mod Aligned
 pub mod AlikeLaws
+pub mod ArrayRows
 pub mod Below
 pub mod Bounds
 pub mod BrokenLaws
@@ -21,6 +22,7 @@ pub mod TagLaws
 pub mod TreeLaws
 pub mod TreeOk
 pub mod Turns
+pub mod UsedInside
 pub mod UsedLaws
 pub mod WellFormed
 pub mod WrittenLaws

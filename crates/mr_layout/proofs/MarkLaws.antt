@@ -15,9 +15,11 @@ use Rattle.mr_base.specs.Pairs.{not_empty}
 use Rattle.mr_base.proofs.Comparisons.{le_test, lt_test}
 use Rattle.mr_layout.specs.Sizes.{size_of}
 use Rattle.mr_layout.specs.Rules.{is_past, is_chunk_past, is_rising, is_covered, are_covered}
+use Rattle.mr_layout.specs.Tables.{is_used_row}
 use Rattle.mr_layout.specs.Used.{Use, is_in, is_in_part, is_in_chunk, is_in_tag, is_used, is_used_field, is_used_in, is_used_variant}
 use Rattle.mr_layout.specs.Met.{is_some_below, is_run_met, gaps_from}
 use Rattle.mr_layout.specs.Marks.{is_mark, is_marked, is_run_marked, is_field_marked, is_chunk_marked, is_tag_marked, is_variant_marked, are_unmarked}
+use Rattle.mr_layout.proofs.ArrayRows.{used_rows}
 use Rattle.mr_layout.proofs.Below.{some_at, none_below, same_tests}
 use Rattle.mr_layout.proofs.GapLaws.{in_gaps}
 use Rattle.mr_layout.proofs.FoldLaws.{mark_within, marked_never, marked_either, marked_behind, marked_first, marked_lead, marked_run}
@@ -71,10 +73,8 @@ module _ (table : List ℕ) where
   pub marked_tuple : (size align : ℕ) (fields : List (ℕ × Ty)) → is_marked (is_used (ty.Tuple size align fields)) table ≡ is_field_marked fields table
   marked_tuple size align fields = marked_same _ (is_used_field fields) table (used_tuple size align fields) ∙ fields_marked fields table
 
-  pub marked_array : (count : ℕ) (elem : Ty) → is_marked (is_used (ty.Array count elem)) table ≡ is_marked (λ at. is_used elem (at % size_of elem)) (take (count * size_of elem) table)
-  marked_array count elem =
-      marked_same _ (λ at. nat_lt at (count * size_of elem) && is_used elem (at % size_of elem)) table (used_array count elem)
-      ∙ marked_first (λ at. is_used elem (at % size_of elem)) (count * size_of elem) table
+  pub marked_array : (count : ℕ) (elem : Ty) → is_marked (is_used (ty.Array count elem)) table ≡ is_marked (is_used_row count elem) table
+  marked_array count elem = marked_same _ (is_used_row count elem) table (used_array count elem)
 
   pub marked_union : (size align : ℕ) (fields : List (ℕ × Ty)) (chunks : List (ℕ × ℕ)) → is_marked (is_used (ty.Union size align fields chunks)) table ≡ is_chunk_marked chunks table
   marked_union size align fields chunks = marked_same _ (is_in_chunk chunks) table (used_union size align fields chunks) ∙ chunks_marked chunks table
@@ -84,13 +84,20 @@ module _ (table : List ℕ) where
 
 pub ruleset mark_laws = (marked_int, marked_bool, marked_raw, marked_fn_ptr, marked_ref, marked_tuple, marked_array, marked_union, marked_enum)
 
--- what is looked at of an array, by its element
-pub array_marked : (t : Ty) (count : ℕ) (elem part : Ty) (len : ℕ) (table : List ℕ) → t ≡ ty.Array count elem → part ≡ elem → len ≡ size_of part
-    → is_marked (λ at. is_used part (at % len)) (take (count * len) table) ≡ is_marked (is_used t) table
-array_marked t count elem part len table is same size =
-    ap (λ n. is_marked (λ at. is_used part (at % n)) (take (count * n) table)) size
-    ∙ ap (λ e. is_marked (λ at. is_used e (at % size_of e)) (take (count * size_of e) table)) same
-    ∙ sym (marked_array table count elem) ∙ sym (ap (λ u. is_marked (is_used u) table) is)
+-- what is looked at of elements in a row
+pub row_marked : (count len : ℕ) (elem : Ty) (table : List ℕ) → len ≡ size_of elem
+    → is_marked (λ at. is_used elem (at % len)) (take (count * len) table) ≡ is_marked (is_used_row count elem) table
+row_marked count len elem table size =
+    ap (λ n. is_marked (λ at. is_used elem (at % n)) (take (count * n) table)) size
+    ∙ sym (marked_first (λ at. is_used elem (at % size_of elem)) (count * size_of elem) table)
+
+-- arrays in a row are one row
+pub rows_marked : (count each all : ℕ) (elem part : Ty) (table : List ℕ) → elem ≡ ty.Array each part → all ≡ count * each
+    → is_marked (is_used_row all part) table ≡ is_marked (is_used_row count elem) table
+rows_marked count each all elem part table array whole =
+    ap (λ n. is_marked (is_used_row n part) table) whole
+    ∙ marked_same (is_used_row (count * each) part) (is_used_row count (ty.Array each part)) table (used_rows count each part)
+    ∙ sym (ap (λ e. is_marked (is_used_row count e) table) array)
 
 uncovered : (a u i : Bool) → (not a && (not u || i)) ≡ not (a || (u && not i))
 uncovered true u i = refl

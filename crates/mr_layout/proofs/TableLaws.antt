@@ -346,6 +346,28 @@ repeated_once row wide same k l =
     let low : k < length row = omega (arith, ap length same) in
     ap (λ list. slice_index list k) same ∙ ap (slice_index row) (sym (mod-eq_of_lt low))
 
+-- rows of rows
+pub repeated_twice : (row some wide : List ℕ) → 0 < length some → length some % length row ≡ 0 → ((k : ℕ) → k < length some → slice_index some k ≡ slice_index row (k % length row))
+    → ((k : ℕ) → k < length wide → slice_index wide k ≡ slice_index some (k % length some)) → (k : ℕ) → k < length wide → slice_index wide k ≡ slice_index row (k % length row)
+repeated_twice row some wide many whole one two k l =
+    two k l ∙ one (k % length some) (mod_below k (length some) many) ∙ ap (slice_index row) (mod-mod_of_dvd (length row) k (dvd_of_mod-eq-zero (length row) whole))
+
+-- whole rows of whole rows are whole rows
+pub whole_twice : (n m w : ℕ) → n % m ≡ 0 → m % w ≡ 0 → n % w ≡ 0
+whole_twice n m w outer inner = sym (mod-mod_of_dvd w n (dvd_of_mod-eq-zero w inner)) ∙ ap (λ k. k % w) outer ∙ none w
+  where
+    none : (w : ℕ) → 0 % w ≡ 0
+    none w = omega arith
+
+with_true : (b : Bool) → (b && true) ≡ b
+with_true true = refl
+with_true false = refl
+
+-- of rows whose bytes are all marked each byte is marked
+pub full_row : (row : List ℕ) (bytes : ℕ) → 0 < length row → ((k : ℕ) → k < length row → 0 < slice_index row k) → (at : ℕ) → is_first bytes at ≡ is_row_mark row bytes at
+full_row row bytes some full at =
+    sym (ap (λ b. nat_lt at bytes && b) (lt_test 0 (slice_index row (at % length row)) (full (at % length row) (mod_below at (length row) some))) ∙ with_true (nat_lt at bytes))
+
 -- the marks of a row, as far as the table goes
 pub marks_row : (start count bytes : ℕ) (row old new : List ℕ) → bytes ≡ min (count * length row) (length old - start)
     → Marks (is_row_mark row bytes) start old new → Marks (is_row_mark row (count * length row)) start old new

@@ -14,15 +14,15 @@ layout_of t = record { size = size_of t; align = align_of t; inhabited = is_inha
 
 -- the types of some entries
 abbrev pub held_types : List Entry → List Ty
-held_types entries = map (λ (e : Entry). e.ty) entries
+held_types entries = map (λ (e : Entry). e.ty.now) entries
 
 -- each entry has the layout of its type
 abbrev pub AreDefined : List Entry → Type 0
-AreDefined entries = All (λ (e : Entry). e.layout ≡ layout_of e.ty) entries
+AreDefined entries = All (λ (e : Entry). e.layout ≡ layout_of e.ty.now) entries
 
 -- each entry's type stands below the types of those behind it, in the order of types
 abbrev pub AreRising : List Entry → Type 0
-AreRising entries = AllPairs (λ (a b : Entry). ty_cmp a.ty b.ty ≡ Less) entries
+AreRising entries = AllPairs (λ (a b : Entry). ty_cmp a.ty.now b.ty.now ≡ Less) entries
 
 -- these are the layouts of all integer types, each in its place
 abbrev pub AreIntegers : List Layout → Type 0

@@ -25,25 +25,25 @@ pub struct Layout {
     pub inhabited: bool,
 }
 
-// A type and its layout.
-#[derive(Drop)]
-struct Entry {
-    ty: Ty,
+// A type, as it stands in the program, and its layout.
+#[derive(Clone, Copy)]
+struct Entry<'p> {
+    ty: &'p Ty,
     layout: Layout,
 }
 
-/// The layouts of some types, each worked out once.
+/// The layouts of some types of a program, each worked out once. The types are lent, and not copied.
 ///
 /// A contract sees the list of the types, which stand in the order of types. The layout that is kept for each is the one
 /// that is defined for it.
 #[derive(Drop)]
-pub struct Cache {
-    entries: Vec<Entry>,
+pub struct Cache<'p> {
+    entries: Vec<Entry<'p>>,
     /// The layouts of the integer types, whether or not they are held.
     integers: [Layout; 10],
 }
 
-impl Model for Cache {
+impl<'p> Model for Cache<'p> {
     ghost use Rattle.std.specs.Prelude.{List};
     ghost use Rattle.mr_ast.specs.declared.types.Ty.{Ty};
 
@@ -61,9 +61,9 @@ impl Model for Cache {
     ghost invariant = { λ c. AreDefined c.entries.items × AreRising c.entries.items × AreIntegers c.integers };
 }
 
-impl Cache {
+impl<'p> Cache<'p> {
     /// The layouts of the types that are written in a program, whole or as a part of another type. An `Err` is for want of memory.
-    pub fn new(alloc: Global, p: &Program) -> Result<Cache, OutOfMemory>
+    pub fn new(alloc: Global, p: &'p Program) -> Result<Cache<'p>, OutOfMemory>
         requires { All TypeOk (written_types p.now) }
         ensures { IfOk result (λ cache. IsCacheOf cache p.now) }
     {
@@ -74,7 +74,7 @@ impl Cache {
             integers: integer_layouts(),
         };
         for t in found.as_slice() {
-            cache.add(alloc, t)?;
+            cache.add(*t)?;
         }
         Ok(cache)
     }
@@ -103,7 +103,7 @@ impl Cache {
     }
 
     // Puts a type last that isn't held, and that none of those that are held stands above.
-    fn add(&mut self, alloc: Global, t: &Ty) -> Result<(), OutOfMemory>
+    fn add(&mut self, t: &'p Ty) -> Result<(), OutOfMemory>
         requires ok { TypeOk t.now }
         requires last { All (λ held. is_lt (ty_cmp t.now held) ≡ false) self.old }
         ensures { OnOk result (Adds self.old t.now self.new) }
@@ -112,7 +112,7 @@ impl Cache {
             return Ok(());
         }
         let entry = Entry {
-            ty: t.copy(alloc)?,
+            ty: t,
             layout: defined_layout(t),
         };
         self.entries.push(entry)?;
@@ -138,7 +138,7 @@ fn defined_layout(t: &Ty) -> Layout
 }
 
 // Whether a type is held, where none of those that are held stands above it: it can only be the last.
-fn is_last(entries: &[Entry], t: &Ty) -> bool
+fn is_last(entries: &[Entry<'_>], t: &Ty) -> bool
     requires rising { AreRising entries.now }
     requires last { All (λ held. is_lt (ty_cmp t.now held) ≡ false) (held_types entries.now) }
     ensures { IsTrue result ↔ Contains (held_types entries.now) t.now }
@@ -150,7 +150,7 @@ fn is_last(entries: &[Entry], t: &Ty) -> bool
 }
 
 // Where the entry of a type stands.
-fn position(entries: &[Entry], t: &Ty) -> Option<usize>
+fn position(entries: &[Entry<'_>], t: &Ty) -> Option<usize>
     requires { AreRising entries.now }
     ensures found { IfSome result (λ at. slice_get (held_types entries.now) at ≡ Some t.now) }
     ensures missing { IfNone result (¬ Contains (held_types entries.now) t.now) }

@@ -42,6 +42,8 @@
 //! - `proofs/TableLaws.antt`: the bytes that a type uses are marked in a table while its rules are looked at, part by part
 //!   (`src/ok.rt`, `src/tables.rt`), so that enums in one another look at no part again. The tags of a variant bear no mark until its
 //!   type is done: so it is seen whether the type uses a byte of one.
+//! - `proofs/ArrayRows.antt`, `UsedInside`: the elements of arrays in an array are marked as those of one array, and an array of one
+//!   element marks what the element does, which lies inside its size.
 //! - `proofs/MetLaws.antt`, `RunLaws`, `RowLaws`: what ranges in order meet of a type is found by a search among them for each part of the
 //!   type, and of an array by the bytes of one element. `GapLaws` says so of a union's chunks, and `TagLaws` of a variant's tags, where
 //!   memory is wanting for a table.

@@ -4,6 +4,7 @@ ghost use Rattle.std.specs.Prelude.{◌≡◌, ◌<◌, ◌+◌, ◌*◌, ◌^�
 ghost use Rattle.mr_layout.specs.Marks.{is_mark, is_marked, is_field_marked, is_chunk_marked, is_tag_marked, is_variant_marked, are_unmarked};
 ghost use Rattle.mr_layout.specs.Rules.{is_past};
 ghost use Rattle.mr_layout.specs.Met.{is_in_order};
+ghost use Rattle.mr_layout.specs.Tables.{is_used_row};
 ghost use Rattle.mr_layout.specs.Used.{is_in_chunk, is_used};
 
 use crate::alike::field_size;
@@ -37,26 +38,48 @@ fn is_marked(alloc: Global, t: &Ty, table: &[u8]) -> Option<bool>
         Ty::FnPtr => Some(is_run_marked(0, 8, table)),
         Ty::Ref { .. } => Some(is_run_marked(0, 8, table)),
         Ty::Tuple { fields, .. } => is_field_marked(alloc, fields.as_slice(), table),
-        Ty::Array { count, elem } => {
-            let part = elem.get();
-            let Some(len) = size(part) else {
-                return None;
-            };
-            let elems = row(table, *count, len);
-            let bytes = elems.len() as u64;
-            if bytes <= len {
-                return is_marked(alloc, part, elems);
-            }
-            if len == 0 {
-                return None;
-            }
-            match folded(alloc, elems, len) {
-                Ok(one) => is_marked(alloc, part, one.as_slice()),
-                Err(_) => None,
-            }
-        }
+        Ty::Array { count, elem } => is_row_marked(alloc, *count, elem.get(), table),
         Ty::Union { chunks, .. } => Some(is_chunk_marked(chunks.as_slice(), table)),
         Ty::Enum { variants, .. } => is_variant_marked(alloc, variants.as_slice(), table),
+    }
+}
+
+// Whether elements in a row use a marked byte. Those of arrays in an array are looked at as those of one.
+#[cycle(marked)]
+fn is_row_marked(alloc: Global, count: u64, elem: &Ty, table: &[u8]) -> Option<bool>
+    ensures { IfSome result (λ b. b ≡ is_marked (is_used_row count elem.now) table.now) }
+{
+    match elem {
+        Ty::Array {
+            count: each,
+            elem: part,
+        } => match count.checked_mul(*each) {
+            Some(all) => is_row_marked(alloc, all, part.get(), table),
+            None => is_elem_marked(alloc, count, elem, table),
+        },
+        _ => is_elem_marked(alloc, count, elem, table),
+    }
+}
+
+// The same: the row is folded to one element.
+#[cycle(marked)]
+fn is_elem_marked(alloc: Global, count: u64, elem: &Ty, table: &[u8]) -> Option<bool>
+    ensures { IfSome result (λ b. b ≡ is_marked (is_used_row count elem.now) table.now) }
+{
+    let Some(len) = size(elem) else {
+        return None;
+    };
+    let elems = row(table, count, len);
+    let bytes = elems.len() as u64;
+    if bytes <= len {
+        return is_marked(alloc, elem, elems);
+    }
+    if len == 0 {
+        return None;
+    }
+    match folded(alloc, elems, len) {
+        Ok(one) => is_marked(alloc, elem, one.as_slice()),
+        Err(_) => None,
     }
 }
 

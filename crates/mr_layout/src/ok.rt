@@ -1,5 +1,5 @@
 //! The first broken rule of a type.
-ghost use Rattle.std.specs.Prelude.{◌≡◌, ◌≤◌, ◌-◌, ◌^◌, ℕ, true, nat_lt, ◌&&◌, if◌then◌else◌, length, option_map, IfOk, IfSome};
+ghost use Rattle.std.specs.Prelude.{◌≡◌, ◌≤◌, ◌-◌, ◌^◌, ℕ, true, None, nat_lt, ◌&&◌, if◌then◌else◌, length, option_map, IfOk, IfSome};
 ghost use Rattle.mr_ast.specs.FormRules.{code_of};
 ghost use Rattle.mr_layout.specs.Alike.{is_some_tag_used, is_variant_tag_used};
 ghost use Rattle.mr_layout.specs.Rows.{IsRow};
@@ -12,7 +12,7 @@ use crate::enum_rules::enum_rules;
 use crate::rules::{array_rules, ref_rules, tuple_rules, union_rules};
 use crate::sizes::{int_bytes, size};
 use crate::tables::{
-    NOWHERE, are_tags_inside, blank, is_some_tag_mark, mark_chunks, mark_first, mark_over,
+    NOWHERE, Store, are_tags_inside, is_some_tag_mark, mark_chunks, mark_first, mark_over,
     mark_row, own_table, put_tags,
 };
 use mr_ast::{OutOfMemory, Rule, Ty, Variant};
@@ -38,8 +38,9 @@ pub fn first_broken_rule(alloc: Global, t: &Ty) -> Option<Rule>
 fn rule_alone(room: Room, t: &Ty) -> Option<Rule>
     ensures { result ≡ broken_rule t.now }
 {
+    let mut store = Store::new(room);
     let mut table: [u8; 0] = [];
-    match broken(room, t, &mut table, 0) {
+    match broken(&mut store, t, &mut table, 0) {
         Ok(_) => None,
         Err(rule) => Some(rule),
     }
@@ -56,6 +57,17 @@ fn unless(rule: Option<Rule>, told: bool) -> Result<bool, Rule>
     }
 }
 
+// Where the parts of a type begin whose bytes are to be marked: nowhere where a rule is broken, so that parts that lie over
+// one another aren't marked one by one.
+fn place_of(rule: Option<Rule>, start: u64) -> u64
+    ensures { rule ≡ None → result ≡ start }
+{
+    match rule {
+        Some(_) => NOWHERE,
+        None => start,
+    }
+}
+
 fn both(one: bool, other: bool) -> bool
     ensures { result ≡ (one && other) }
 {
@@ -67,6 +79,8 @@ fn both(one: bool, other: bool) -> bool
 enum Row {
     // They have no byte.
     Empty,
+    // There is one.
+    Once,
     // One has as many as are left, or more.
     Long,
     // Each has so many.
@@ -79,6 +93,9 @@ fn row_of(count: u64, elem: Option<u64>, left: u64) -> Row
 {
     if count == 0 {
         return Row::Empty;
+    }
+    if count == 1 {
+        return Row::Once;
     }
     match elem {
         None => Row::Long,
@@ -104,7 +121,7 @@ fn left(bytes: u64, start: u64) -> u64
 // told whether they are: memory may be wanting. What is taken is at most a table of 2^20 bytes for each type around it.
 #[cycle(broken)]
 #[tactic(auto, using(crate::proofs::BrokenLaws::broken_laws))]
-fn broken(room: Room, t: &Ty, table: &mut [u8], start: u64) -> Result<bool, Rule>
+fn broken(store: &mut Store, t: &Ty, table: &mut [u8], start: u64) -> Result<bool, Rule>
     requires small { length table.old ≤ 2 ^ 20 }
     ensures rule { rule_of result ≡ broken_rule t.now }
     ensures long { length table.new ≡ length table.old }
@@ -136,11 +153,13 @@ fn broken(room: Room, t: &Ty, table: &mut [u8], start: u64) -> Result<bool, Rule
             align,
             fields,
         } => {
-            let told = first_broken_field(room, fields.as_slice(), table, start)?;
-            unless(tuple_rules(room, *size, *align, fields.as_slice()), told)
+            let fields = fields.as_slice();
+            let rule = tuple_rules(store.room, *size, *align, fields);
+            let told = first_broken_field(store, fields, table, place_of(rule, start))?;
+            unless(rule, told)
         }
         Ty::Array { count, elem } => {
-            let told = broken_elem(room, *count, elem.get(), table, start)?;
+            let told = broken_elem(store, *count, elem.get(), table, start)?;
             unless(array_rules(*count, elem.get()), told)
         }
         Ty::Union {
@@ -149,12 +168,12 @@ fn broken(room: Room, t: &Ty, table: &mut [u8], start: u64) -> Result<bool, Rule
             fields,
             chunks,
         } => {
-            let told = first_broken_field(room, fields.as_slice(), table, NOWHERE)?;
-            mark_chunks(table, start, chunks.as_slice());
-            unless(
-                union_rules(room, *size, *align, fields.as_slice(), chunks.as_slice()),
-                told,
-            )
+            let fields = fields.as_slice();
+            let chunks = chunks.as_slice();
+            let told = first_broken_field(store, fields, table, NOWHERE)?;
+            let sure = unless(union_rules(store.room, *size, *align, fields, chunks), told)?;
+            mark_chunks(table, start, chunks);
+            Ok(sure)
         }
         Ty::Enum {
             size,
@@ -163,9 +182,17 @@ fn broken(room: Room, t: &Ty, table: &mut [u8], start: u64) -> Result<bool, Rule
             variants,
             tree,
         } => {
-            let used = broken_variants(room, *size, variants.as_slice(), table, start)?;
+            let used = broken_variants(store, *size, variants.as_slice(), table, start)?;
             unless(
-                enum_rules(room, *size, *align, *disc, variants.as_slice(), tree, used),
+                enum_rules(
+                    store.room,
+                    *size,
+                    *align,
+                    *disc,
+                    variants.as_slice(),
+                    tree,
+                    used,
+                ),
                 used.is_some(),
             )
         }
@@ -174,7 +201,7 @@ fn broken(room: Room, t: &Ty, table: &mut [u8], start: u64) -> Result<bool, Rule
 
 #[cycle(broken)]
 fn first_broken_field(
-    room: Room,
+    store: &mut Store,
     fields: &[(u64, Ty)],
     table: &mut [u8],
     start: u64,
@@ -188,16 +215,47 @@ fn first_broken_field(
     let mut told = true;
     for field in fields {
         let at = start.saturating_add(field.0);
-        told = both(broken(room, &field.1, table, at)?, told);
+        told = both(broken(store, &field.1, table, at)?, told);
     }
     Ok(told)
 }
 
-// The first broken rule of an array's element. Where the table has more bytes than one element, a table of its own is
-// taken for it.
+// The first broken rule of an array's element. The elements of arrays in an array are marked as those of one.
 #[cycle(broken)]
+#[tactic(auto, using(crate::proofs::BrokenLaws::broken_laws))]
 fn broken_elem(
-    room: Room,
+    store: &mut Store,
+    count: u64,
+    elem: &Ty,
+    table: &mut [u8],
+    start: u64,
+) -> Result<bool, Rule>
+    requires small { length table.old ≤ 2 ^ 20 }
+    ensures rule { rule_of result ≡ broken_rule elem.now }
+    ensures long { length table.new ≡ length table.old }
+    ensures marks { IfOk result (λ told. told ≡ true
+        → Marks (is_used_row count elem.now) start table.old table.new) }
+{
+    match elem {
+        Ty::Array {
+            count: each,
+            elem: part,
+        } => match count.checked_mul(*each) {
+            Some(all) => {
+                let told = broken_elem(store, all, part.get(), table, start)?;
+                unless(array_rules(*each, part.get()), told)
+            }
+            None => broken_row(store, count, elem, table, start),
+        },
+        _ => broken_row(store, count, elem, table, start),
+    }
+}
+
+// The first broken rule of the type of elements in a row. Where the table has more bytes than one element, a table of its
+// own is taken for it.
+#[cycle(broken)]
+fn broken_row(
+    store: &mut Store,
     count: u64,
     elem: &Ty,
     table: &mut [u8],
@@ -211,16 +269,18 @@ fn broken_elem(
 {
     let bytes = table.len() as u64;
     match row_of(count, size(elem), left(bytes, start)) {
-        Row::Empty => broken(room, elem, table, NOWHERE),
-        Row::Long => broken(room, elem, table, start),
-        Row::Elems(len) => match blank(room, len) {
+        Row::Empty => broken(store, elem, table, NOWHERE),
+        Row::Once => broken(store, elem, table, start),
+        Row::Long => broken(store, elem, table, start),
+        Row::Elems(len) => match store.blank(len) {
             Some(mut one) => {
-                let told = broken(room, elem, one.as_mut_slice(), 0)?;
-                let marked = mark_row(room, table, start, one.as_slice(), count);
+                let told = broken(store, elem, one.as_mut_slice(), 0)?;
+                let marked = mark_row(store.room, table, start, one.as_slice(), count);
+                store.keep(one);
                 Ok(both(marked, told))
             }
             None => {
-                broken(room, elem, table, NOWHERE)?;
+                broken(store, elem, table, NOWHERE)?;
                 Ok(false)
             }
         },
@@ -231,7 +291,7 @@ fn broken_elem(
 // tag is used, where that is known.
 #[cycle(broken)]
 fn broken_variants(
-    room: Room,
+    store: &mut Store,
     size: u64,
     variants: &[Variant],
     table: &mut [u8],
@@ -245,19 +305,20 @@ fn broken_variants(
     ensures used { IfOk result (λ used. IfSome used (λ b. b ≡ is_variant_tag_used variants.now)) }
 {
     let bytes = table.len() as u64;
-    match own_table(room, size, variants, start, bytes) {
+    match own_table(store, size, variants, start, bytes) {
         Some(mut own) => {
-            let used = first_broken_variant(room, variants, own.as_mut_slice(), 0)?;
+            let used = first_broken_variant(store, variants, own.as_mut_slice(), 0)?;
             mark_over(table, start, own.as_slice());
+            store.keep(own);
             Ok(used)
         }
-        None => first_broken_variant(room, variants, table, start),
+        None => first_broken_variant(store, variants, table, start),
     }
 }
 
 #[cycle(broken)]
 fn first_broken_variant(
-    room: Room,
+    store: &mut Store,
     variants: &[Variant],
     table: &mut [u8],
     start: u64,
@@ -271,7 +332,7 @@ fn first_broken_variant(
 {
     let mut used = Some(false);
     for variant in variants {
-        used = either(used, broken_variant(room, variant, table, start)?);
+        used = either(used, broken_variant(store, variant, table, start)?);
     }
     Ok(used)
 }
@@ -290,7 +351,7 @@ fn either(left: Option<bool>, right: Option<bool>) -> Option<bool>
 // that it is seen whether it uses one of them.
 #[cycle(broken)]
 fn broken_variant(
-    room: Room,
+    store: &mut Store,
     variant: &Variant,
     table: &mut [u8],
     start: u64,
@@ -306,11 +367,11 @@ fn broken_variant(
     let tags = variant.tags.as_slice();
     let bytes = table.len() as u64;
     if !are_tags_inside(start, bytes, tags) {
-        broken(room, &variant.ty, table, NOWHERE)?;
+        broken(store, &variant.ty, table, NOWHERE)?;
         return Ok(None);
     }
     put_tags(table, start, tags, 0);
-    let told = broken(room, &variant.ty, table, start)?;
+    let told = broken(store, &variant.ty, table, start)?;
     let used = is_some_tag_mark(table, start, tags);
     put_tags(table, start, tags, 1);
     if !told {

@@ -12,29 +12,77 @@ use crate::sizes::int_bytes;
 use mr_ast::{MAX_SIZE, OutOfMemory, Tag, Variant};
 use std::alloc::Global;
 
-// A shorter row is put into a table several times at once: more bytes at once are faster.
-const WIDE: usize = 256;
+// A shorter row is put into a table many times at once: more bytes at once are faster. It is made so wide in two steps.
+const WIDE: usize = 4096;
+
+const HALFWAY: usize = 64;
+
+// Of so few bytes a row is put into a table as it is.
+const FEW: u64 = 256;
 
 /// Where a part begins whose bytes aren't to be marked: behind each table.
 pub(crate) const NOWHERE: u64 = 0xffff_ffff_ffff_ffff;
 
-// A table of so many bytes without a mark.
-fn unmarked(alloc: Global, len: u64) -> Result<Vec<u8>, OutOfMemory>
-    ensures { IfOk result (λ table. table.items ≡ replicate len 0) }
-{
-    vec![in alloc; 0; len as usize]
+/// Where memory may be taken from, if it may; and tables that were taken and are needed no longer. To give a table back and
+/// to take it again costs more than what is marked in it.
+#[derive(Drop)]
+pub(crate) struct Store {
+    pub(crate) room: Room,
+    spare: Option<Vec<Vec<u8>>>,
 }
 
-/// A table of so many bytes without a mark, where memory is at hand for it.
-pub(crate) fn blank(room: Room, len: u64) -> Option<Vec<u8>>
+impl Store {
+    pub(crate) fn new(room: Room) -> Store {
+        match room {
+            Some(alloc) => Store {
+                room,
+                spare: Some(Vec::new(alloc)),
+            },
+            None => Store { room, spare: None },
+        }
+    }
+
+    // A table that is needed no longer, if there is one.
+    fn spared(&mut self) -> Option<Vec<u8>> {
+        match &mut self.spare {
+            Some(spare) => spare.pop(),
+            None => None,
+        }
+    }
+
+    /// A table of so many bytes without a mark, where memory is at hand for it.
+    pub(crate) fn blank(&mut self, len: u64) -> Option<Vec<u8>>
+        ensures { IfSome result (λ table. table.items ≡ replicate len 0) }
+    {
+        match self.room {
+            Some(alloc) => cleared(alloc, self.spared(), len),
+            None => None,
+        }
+    }
+
+    /// Keeps a table for later.
+    pub(crate) fn keep(&mut self, table: Vec<u8>) {
+        match &mut self.spare {
+            Some(spare) => {
+                let _kept = spare.push(table);
+            }
+            None => drop(table),
+        }
+    }
+}
+
+// A table of so many bytes without a mark, in the place of another one, if there is one.
+fn cleared(alloc: Global, other: Option<Vec<u8>>, len: u64) -> Option<Vec<u8>>
     ensures { IfSome result (λ table. table.items ≡ replicate len 0) }
 {
-    match room {
-        Some(alloc) => match unmarked(alloc, len) {
-            Ok(table) => Some(table),
-            Err(_) => None,
-        },
-        None => None,
+    let mut table = match other {
+        Some(other) => other,
+        None => Vec::new(alloc),
+    };
+    table.clear();
+    match table.resize(len as usize, 0) {
+        Ok(_) => Some(table),
+        Err(_) => None,
     }
 }
 
@@ -175,21 +223,36 @@ fn mark_rows(table: &mut [u8], start: u64, row: &[u8], bytes: u64)
     }
 }
 
-// A row, over and over, until it is wide.
-fn repeated(alloc: Global, row: &[u8]) -> Result<Vec<u8>, OutOfMemory>
+// A row, over and over, until it has so many bytes.
+fn repeated(alloc: Global, row: &[u8], least: usize) -> Result<Vec<u8>, OutOfMemory>
     requires some { 0 < length row.now }
     requires short { length row.now ≤ 2 ^ 20 }
+    requires few { least ≤ 2 ^ 12 }
+    ensures some { IfOk result (λ wide. 0 < length wide.items) }
+    ensures short { IfOk result (λ wide. length wide.items ≤ least + length row.now) }
+    ensures whole { IfOk result (λ wide. length wide.items % length row.now ≡ 0) }
+    ensures same { IfOk result (λ wide. (k : ℕ) → k < length wide.items
+        → slice_index wide.items k ≡ slice_index row.now (k % length row.now)) }
+{
+    let mut wide = Vec::from_slice(alloc, row)?;
+    while wide.len() < least {
+        wide.extend_from_slice(row)?;
+    }
+    Ok(wide)
+}
+
+// A row, over and over, until it is wide.
+fn widened(alloc: Global, row: &[u8]) -> Result<Vec<u8>, OutOfMemory>
+    requires some { 0 < length row.now }
+    requires short { length row.now ≤ 2 ^ 12 }
     ensures some { IfOk result (λ wide. 0 < length wide.items) }
     ensures short { IfOk result (λ wide. length wide.items ≤ 2 ^ 21) }
     ensures whole { IfOk result (λ wide. length wide.items % length row.now ≡ 0) }
     ensures same { IfOk result (λ wide. (k : ℕ) → k < length wide.items
         → slice_index wide.items k ≡ slice_index row.now (k % length row.now)) }
 {
-    let mut wide = Vec::from_slice(alloc, row)?;
-    while wide.len() < WIDE {
-        wide.extend_from_slice(row)?;
-    }
-    Ok(wide)
+    let halfway = repeated(alloc, row, HALFWAY)?;
+    repeated(alloc, halfway.as_slice(), WIDE)
 }
 
 // How many bytes so many rows have, as far as a table goes.
@@ -197,6 +260,17 @@ fn row_bytes(count: u64, len: u64, left: u64) -> u64
     ensures { result ≡ min (count * len) left }
 {
     count.saturating_mul(len).min(left)
+}
+
+// Whether each byte of a row is marked.
+fn is_full(row: &[u8]) -> bool
+    ensures { result ≡ true → (k : ℕ) → k < length row.now → 0 < slice_index row.now k }
+{
+    let mut least: u8 = 1;
+    for byte in row {
+        least = least.min(*byte);
+    }
+    least > 0
 }
 
 /// Marks the bytes that are marked in so many rows, one after another, as far as the table goes. It isn't done where
@@ -211,14 +285,18 @@ pub(crate) fn mark_row(room: Room, table: &mut [u8], start: u64, row: &[u8], cou
         → Marks (is_row_mark row.now (count * length row.now)) start table.old table.new }
 {
     let bytes = row_bytes(count, row.len() as u64, table.len() as u64 - start);
-    if WIDE <= row.len() {
+    if WIDE <= row.len() || bytes <= FEW {
         mark_rows(table, start, row, bytes);
+        return true;
+    }
+    if is_full(row) {
+        mark_first(table, start, bytes);
         return true;
     }
     let Some(alloc) = room else {
         return false;
     };
-    match repeated(alloc, row) {
+    match widened(alloc, row) {
         Ok(wide) => {
             mark_rows(table, start, wide.as_slice(), bytes);
             true
@@ -239,7 +317,7 @@ fn has_tags(variants: &[Variant]) -> bool {
 /// A table of an enum's own: where a variant has tags and the table at hand, which has so many bytes, ends before the enum
 /// does.
 pub(crate) fn own_table(
-    room: Room,
+    store: &mut Store,
     size: u64,
     variants: &[Variant],
     start: u64,
@@ -253,5 +331,5 @@ pub(crate) fn own_table(
     if size > MAX_SIZE || !passes(start, size, end) || !has_tags(variants) {
         return None;
     }
-    blank(room, size)
+    store.blank(size)
 }

@@ -1,3 +1,4 @@
+pub mod AlikeLaws
 pub mod Appended
 mod Examples
 pub mod GroupLaws

@@ -7,7 +7,7 @@ use Rattle.std.proofs.lemmas.List.{length-append, take_all}
 use Rattle.std.proofs.lemmas.List.Elements.{filter-append}
 use Rattle.std.proofs.lemmas.List.Folds.{list_any_at, list_any_more}
 use Rattle.std.proofs.lemmas.Option.{slice_get-get_or}
-use Rattle.std.specs.Prelude.{◌&&◌, ◌||◌, ◌==◌, if◌then◌else◌, flat_map, nat_lt, Option, None, Some, slice_get}
+use Rattle.std.specs.Prelude.{◌&&◌, ◌||◌, ◌==◌, if◌then◌else◌, flat_map, Option, None, Some, slice_get}
 use Rattle.std.specs.List.{Contains, filter, list_any, range_with_len}
 use Rattle.mr_event.specs.declared.footprint.Pair.{Pair}
 use Rattle.mr_told.specs.declared.step.Stand.{Stand}
@@ -60,27 +60,11 @@ any_agrees : {X : Type 0} (p q : X → Bool) → ((x : X) → p x ≡ q x) → (
 any_agrees p q h [] = refl
 any_agrees p q h (x ∷ xs) = ap₂ (λ (a b : Bool). a || b) (h x) (any_agrees p q h xs)
 
-positive : (n : ℕ) → true ≡ nat_lt 0 (suc n)
-positive n = grind (arith, nat_tests)
-
-any_filtered : {X : Type 0} (p : X → Bool) (xs : List X) → list_any p xs ≡ nat_lt 0 (length (filter p xs))
-any_filtered p [] = refl
-any_filtered p (x ∷ xs) = by_test (p x) (any_filtered p xs)
-  where
-    by_test : (b : Bool) → list_any p xs ≡ nat_lt 0 (length (filter p xs))
-        → (b || list_any p xs) ≡ nat_lt 0 (length (cond b (x ∷ filter p xs) (filter p xs)))
-    by_test true later = positive (length (filter p xs))
-    by_test false later = later
-
-one_or_none : (b : Bool) → nat_lt 0 (cond b 1 0) ≡ b
-one_or_none true = refl
-one_or_none false = refl
-
 module _ (s : Seen) where
   abbrev at_step : ℕ → Option Stand
   at_step number = before_of (slice_get s.steps number)
 
-  places_turned : (a b : Pair) → same_places s a b ≡ same_places s b a
+  pub places_turned : (a b : Pair) → same_places s a b ≡ same_places s b a
   places_turned a b =
       ap₂ (λ (x y : Bool). x && y) (stand_turned (at_step a.first) (at_step b.first))
       (stand_turned (at_step a.second) (at_step b.second))
@@ -148,13 +132,6 @@ module _ (s : Seen) where
         ∙ added n p (list_any (same_places s q) (take n s.races)) (same_places s q p) refl refl
         ∙ ap (λ b. cond b 1 0) (sym (list_any_more (same_places s q) s.races n q within))
         ∙ ap (λ k. cond (list_any (same_places s q) (take k s.races)) 1 0) next
-
-    -- one of the first groups is of the places where one of so many races is
-    pub known_before : (n : ℕ) → n ≤ length s.races
-        → list_any (is_in_group s q) (first_groups n) ≡ list_any (same_places s q) (take n s.races)
-    known_before n h =
-        any_filtered (is_in_group s q) (first_groups n) ∙ ap (nat_lt 0) (counted n h)
-        ∙ one_or_none (list_any (same_places s q) (take n s.races))
 
     -- A RACE is of the places of exactly one group
     pub in_one_group : Contains s.races q → length (filter (is_in_group s q) (groups s)) ≡ 1

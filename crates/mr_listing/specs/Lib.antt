@@ -5,6 +5,7 @@ pub mod Partners
 pub mod Races
 pub mod Rests
 pub mod Seen
+pub mod Sorted
 pub mod Spots
 pub mod Steps
 pub mod Words

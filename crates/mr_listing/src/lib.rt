@@ -20,6 +20,7 @@ mod pairs;
 mod partners;
 mod rests;
 mod shown;
+mod sorted;
 mod spots;
 mod words;
 
@@ -29,3 +30,4 @@ pub use pairs::races;
 pub use shown::Shown;
 pub use spots::stand_text;
 pub use std::alloc::AllocError as OutOfMemory;
+pub use words::push_name;

@@ -1,18 +1,16 @@
 //! The races of a run by pairs of places.
-ghost use Rattle.std.specs.Prelude.{◌≡◌, ℕ, ◌≤◌, ◌++◌, All, IfOk, OnOk, Some, codes, count_by, decimal, flat_map};
-ghost use Rattle.std.specs.Prelude.{length, option_copied, slice_get, take};
-ghost use Rattle.std.specs.List.{list_any, range_with_len};
-ghost use Rattle.mr_listing.specs.Races.{before_of, by_count, first_group, group_line, groups, is_at, is_in_group};
-ghost use Rattle.mr_listing.specs.Races.{is_nowhere, numbered_group, often_text, races_text, ranked, same_places};
-ghost use Rattle.mr_listing.specs.Races.{same_stand, times_text};
+ghost use Rattle.std.specs.Prelude.{◌≡◌, ℕ, ◌≤◌, ◌++◌, All, IfOk, OnOk, Some, codes, decimal, flat_map, slice_get};
+ghost use Rattle.mr_listing.specs.Races.{before_of, by_count, first_group, group_line, groups, often_text, races_text};
+ghost use Rattle.mr_listing.specs.Races.{ranked, times_text};
 ghost use Rattle.mr_listing.specs.Seen.{seen};
+ghost use Rattle.mr_listing.specs.Sorted.{AreByPlaces};
 
 use crate::OutOfMemory;
 use crate::shown::Shown;
+use crate::sorted::{Numbered, alike_races, before_of, begins_before, by_places};
 use crate::spots::push_stand;
 use crate::words::{push_count, push_number};
 use mr_event::Pair;
-use mr_told::{Stand, ToldStep};
 use std::alloc::Global;
 
 /// The races at one pair of places.
@@ -22,89 +20,6 @@ pub struct Group {
     pub first: Pair,
     /// How many there are.
     pub count: usize,
-}
-
-// Where the thread of a step stood before it.
-fn before_step(told: Option<&ToldStep>) -> Option<Stand>
-    ensures { result ≡ before_of (option_copied told.entry) }
-{
-    match told {
-        Some(told) => told.before,
-        None => None,
-    }
-}
-
-// The same of the step of this number.
-fn before_of(shown: &Shown<'_>, number: usize) -> Option<Stand>
-    ensures { result ≡ before_of (slice_get (seen shown.now).steps number) }
-{
-    before_step(shown.steps.get(number))
-}
-
-// Whether a thread stands nowhere.
-fn is_nowhere(stand: Option<Stand>) -> bool
-    ensures { result ≡ is_nowhere stand }
-{
-    match stand {
-        None => true,
-        Some(_) => false,
-    }
-}
-
-// Whether a thread stands at this place of the program, whatever its number is.
-fn is_at(a: Stand, b: Option<Stand>) -> bool
-    ensures { result ≡ is_at a b }
-{
-    match b {
-        None => false,
-        Some(b) => a.function == b.function && a.block == b.block && a.at == b.at,
-    }
-}
-
-// Whether two threads stand at one place of the program, or both nowhere.
-fn same_stand(a: Option<Stand>, b: Option<Stand>) -> bool
-    ensures { result ≡ same_stand a b }
-{
-    match a {
-        None => is_nowhere(b),
-        Some(a) => is_at(a, b),
-    }
-}
-
-// Whether two races are of the same two places.
-fn same_places(shown: &Shown<'_>, a: Pair, b: Pair) -> bool
-    ensures { result ≡ same_places (seen shown.now) a b }
-{
-    same_stand(before_of(shown, a.first), before_of(shown, b.first))
-        && same_stand(before_of(shown, a.second), before_of(shown, b.second))
-}
-
-// Whether one of these groups is of the places of a race.
-fn is_known(shown: &Shown<'_>, pair: Pair, groups: &[Group]) -> bool
-    ensures { result ≡ list_any (is_in_group (seen shown.now) pair) groups.now }
-{
-    groups
-        .iter()
-        .any(|group| same_places(shown, group.first, pair))
-}
-
-// Whether a race before that of this number is of the places of a race. Those before it make these groups.
-fn is_among(shown: &Shown<'_>, pair: Pair, number: usize, groups: &[Group]) -> bool
-    requires made { groups.now ≡ flat_map (numbered_group (seen shown.now)) (range_with_len 0 number) }
-    requires within { number ≤ length (seen shown.now).races }
-    ensures { result ≡ list_any (same_places (seen shown.now) pair) (take number (seen shown.now).races) }
-{
-    is_known(shown, pair, groups)
-}
-
-// How many of these races are of the same places.
-fn count_of(shown: &Shown<'_>, pair: Pair, races: &[Pair]) -> usize
-    ensures { result ≡ count_by (same_places (seen shown.now) pair) races.now }
-{
-    races
-        .iter()
-        .filter(|other| same_places(shown, pair, **other))
-        .count()
 }
 
 // Appends a number of times that isn't 1.
@@ -157,49 +72,68 @@ fn race_at(races: &[Pair], number: usize) -> Option<Pair>
     races.get(number).copied()
 }
 
-// Adds the races at the places of the race of this number, if none before it has the same. Those before it make these
-// groups.
+// Adds the races at the places of the race of this number, if none before it has the same.
 fn add_group(
     groups: &mut Vec<Group>,
     shown: &Shown<'_>,
+    sorted: &[Numbered],
     number: usize,
     pair: Pair,
 ) -> Result<(), OutOfMemory>
-    requires made { groups.old.items ≡ flat_map (numbered_group (seen shown.now)) (range_with_len 0 number) }
-    requires within { number ≤ length (seen shown.now).races }
+    requires { AreByPlaces (seen shown.now) sorted.now }
     ensures { OnOk result (groups.new.items
         ≡ groups.old.items ++ first_group (seen shown.now) number (Some pair)) }
 {
-    if is_among(shown, pair, number, groups.as_slice()) {
+    let alike = alike_races(shown, sorted, pair);
+    if begins_before(alike, number) {
         return Ok(());
     }
-    let count = count_of(shown, pair, shown.races);
-    groups.push(Group { first: pair, count })?;
+    groups.push(Group {
+        first: pair,
+        count: alike.len(),
+    })?;
     Ok(())
 }
 
 // The same, if there is such a race.
-fn add_first(groups: &mut Vec<Group>, shown: &Shown<'_>, number: usize) -> Result<(), OutOfMemory>
-    requires made { groups.old.items ≡ flat_map (numbered_group (seen shown.now)) (range_with_len 0 number) }
-    requires within { number ≤ length (seen shown.now).races }
+fn add_first(
+    groups: &mut Vec<Group>,
+    shown: &Shown<'_>,
+    sorted: &[Numbered],
+    number: usize,
+) -> Result<(), OutOfMemory>
+    requires { AreByPlaces (seen shown.now) sorted.now }
     ensures { OnOk result (groups.new.items
         ≡ groups.old.items ++ first_group (seen shown.now) number (slice_get (seen shown.now).races number)) }
 {
     match race_at(shown.races, number) {
-        Some(pair) => add_group(groups, shown, number, pair),
+        Some(pair) => add_group(groups, shown, sorted, number, pair),
         None => Ok(()),
     }
 }
 
-// The races by pairs of places, in the order of the first race of each.
-fn groups_of(alloc: Global, shown: &Shown<'_>) -> Result<Vec<Group>, OutOfMemory>
+// The races by pairs of places, in the order of the first race of each, from the races by their places.
+fn groups_in(
+    alloc: Global,
+    shown: &Shown<'_>,
+    sorted: &[Numbered],
+) -> Result<Vec<Group>, OutOfMemory>
+    requires { AreByPlaces (seen shown.now) sorted.now }
     ensures { IfOk result (λ found. found.items ≡ groups (seen shown.now)) }
 {
     let mut found = Vec::new(alloc);
     for number in 0..shown.races.len() {
-        add_first(&mut found, shown, number)?;
+        add_first(&mut found, shown, sorted, number)?;
     }
     Ok(found)
+}
+
+// The same, from the races.
+fn groups_of(alloc: Global, shown: &Shown<'_>) -> Result<Vec<Group>, OutOfMemory>
+    ensures { IfOk result (λ found. found.items ≡ groups (seen shown.now)) }
+{
+    let sorted = by_places(alloc, shown)?;
+    groups_in(alloc, shown, sorted.as_slice())
 }
 
 // Puts those with most races first, and leaves those with as many in the order in which they stand.

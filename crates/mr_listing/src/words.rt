@@ -95,7 +95,7 @@ fn push_behind(out: &mut Vec<u8>, offset: u64) -> Result<(), OutOfMemory>
 
 // Appends the name of an address in an allocation, so many bytes behind its first one, as it is called where a thread
 // stands.
-pub(crate) fn push_name(
+pub fn push_name(
     out: &mut Vec<u8>,
     p: &Program,
     here: Option<Stand>,

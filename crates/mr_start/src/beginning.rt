@@ -53,11 +53,11 @@ impl<T: Drop> From<AllocFailed<T>> for StartFault {
 /// Where a run begins: memory, the pointers to functions and globals, the layouts of the program's types, and the frame of thread 0 with the
 /// number of allocations that it has made.
 #[derive(Drop)]
-pub struct Start {
+pub struct Start<'p> {
     pub memory: Memory,
     pub functions: Vec<Pointer>,
     pub globals: Vec<Pointer>,
-    pub cache: Cache,
+    pub cache: Cache<'p>,
     pub stack: Stack,
     pub count: u64,
 }
@@ -130,7 +130,12 @@ fn enter_main(
 
 // The start behind the allocations of functions and globals: the main function's frame, and then the bytes of the globals.
 #[tactic(auto, using(mr_wf::proofs::WrittenOk::written_ok))]
-fn started(alloc: Global, p: &Checked, begun: Begun, picks: &[u64]) -> Result<Start, AllocError>
+fn started<'p>(
+    alloc: Global,
+    p: &'p Checked,
+    begun: Begun,
+    picks: &[u64],
+) -> Result<Start<'p>, AllocError>
     requires legal { start_fault p.now picks.now ≡ None }
     requires begun { IsBegun p.now picks.now begun }
     ensures { IfOk result (IsStart p.now picks.now) }
@@ -169,7 +174,7 @@ fn started(alloc: Global, p: &Checked, begun: Begun, picks: &[u64]) -> Result<St
 
 /// The start of a run with these picks: functions and globals get storage, then the main function's return local, and last the bytes of the
 /// globals are stored.
-pub fn begin(alloc: Global, p: &Checked, picks: &[u64]) -> Result<Start, StartFault>
+pub fn begin<'p>(alloc: Global, p: &'p Checked, picks: &[u64]) -> Result<Start<'p>, StartFault>
     ensures { BeginAnswer p.now picks.now result }
 {
     let made = pieces(alloc, p.program())?;

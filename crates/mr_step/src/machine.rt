@@ -76,9 +76,9 @@ impl<'p> Machine<'p> {
     }
 
     // The machine of a start that is made.
-    fn begun(alloc: Global, p: &'p Checked, start: Start) -> Result<Machine<'p>, AllocError>
+    fn begun(alloc: Global, p: &'p Checked, start: Start<'p>) -> Result<Machine<'p>, AllocError>
         requires { (picks : List ℕ) × (start_fault p.now picks ≡ None) × IsStart p.now picks start }
-        ensures { IfOk result (λ m. (picks : List ℕ) → IsStart p.now picks start → m ≡ standing p.now picks) }
+        ensures { IfOk result (λ m. (picks : List ℕ) → IsStart p.now picks start.entry → m ≡ standing p.now picks) }
     {
         let Start {
             memory,

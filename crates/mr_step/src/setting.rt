@@ -10,7 +10,7 @@ pub struct Setting<'p> {
     pub program: &'p Checked,
     pub functions: Vec<Pointer>,
     pub globals: Vec<Pointer>,
-    pub cache: Cache,
+    pub cache: Cache<'p>,
 }
 
 impl<'p> Setting<'p> {

@@ -1,14 +1,17 @@
-use Rattle.std.proofs.Common.{◌≡◌, ℕ, ◌≤◌, Bool, true, false, List, Option, Some, None, length, refl, sym, ap, ◌∙◌, arith}
+use Rattle.std.proofs.Common.{◌≡◌, ℕ, ◌≤◌, Bool, true, false, List, Option, Some, None, length, refl, sym, ap, subst, ◌∙◌, arith}
 use Rattle.std.specs.Prelude.{nat_lt, IfSome, is_some}
 use Rattle.std.proofs.lemmas.Result.{IfOk-weaker}
 use Rattle.mr_ast.specs.declared.types.Tag.{Tag}
 use Rattle.mr_ast.specs.declared.types.Ty.{Ty}
+use Rattle.mr_ast.specs.declared.types.Ty.TheVariants as ty
 use Rattle.mr_ast.specs.declared.types.Variant.{Variant}
 use Rattle.mr_layout.specs.Sizes.{size_of}
 use Rattle.mr_layout.specs.Used.{is_in_chunk, is_used, is_used_field, is_used_in}
-use Rattle.mr_layout.specs.Tables.{is_first, is_used_row, are_tags_inside, is_some_tag_mark}
+use Rattle.mr_layout.specs.Tables.{Marks, is_first, is_used_row, are_tags_inside, is_some_tag_mark}
+use Rattle.mr_layout.proofs.ArrayRows.{used_rows}
 use Rattle.mr_layout.proofs.UsedLaws.{used_int, used_bool, used_raw, used_fn_ptr, used_ref, used_tuple, used_array, used_union, used_enum}
 use Rattle.mr_layout.proofs.TableLaws.{marks_alike, marks_then, marks_nowhere, marks_long, with_tags, tags_seen, variant_marks}
+use Rattle.mr_layout.proofs.UsedInside.{told_once, told_then}
 use Rattle.mr_layout.proofs.ok.+broken.Goals as goal
 
 pub broken-returns-in-Int-clause-marks : goal.broken-returns-in-Int-clause-marks
@@ -41,12 +44,11 @@ broken-returns-in-Ref-clause-marks t c =
 
 pub broken-returns-in_ok-told-in-Tuple-clause-marks : goal.broken-returns-in_ok-told-in-Tuple-clause-marks
 broken-returns-in_ok-told-in-Tuple-clause-marks t c =
-    IfOk-weaker c.unless-in-Tuple.result _ _
-    (λ b h e.
-    marks_alike (is_used_field c.as_slice.result.now) (is_used c.args.t.now) c.args.start c.args.table.now c.first_broken_field.new.table
-    (λ at. ap (λ (fields : List (ℕ × Ty)). is_used_field fields at) c.as_slice.ensures ∙ sym (ap (λ (u : Ty). is_used u at) c.in-Tuple.is ∙ used_tuple _ _ _ at))
-    (c.in_ok-told-in-Tuple.ensures.marks (sym h ∙ e)))
-    c.unless-in-Tuple.ensures.told
+    told_then c.unless-in-Tuple.result c.tuple_rules-rule.result _ _ c.unless-in-Tuple.ensures.rule c.unless-in-Tuple.ensures.told
+    (λ none e.
+    marks_alike (is_used_field c.as_slice-fields.result.now) (is_used c.args.t.now) c.args.start c.args.table.now c.first_broken_field.new.table
+    (λ at. ap (λ (fields : List (ℕ × Ty)). is_used_field fields at) c.as_slice-fields.ensures ∙ sym (ap (λ (u : Ty). is_used u at) c.in-Tuple.is ∙ used_tuple _ _ _ at))
+    (subst (λ at. Marks (is_used_field c.as_slice-fields.result.now) at c.args.table.now c.first_broken_field.new.table) (c.place_of.ensures none) (c.in_ok-told-in-Tuple.ensures.marks e)))
 
 pub broken-returns-in_ok-told-in-Array-clause-marks : goal.broken-returns-in_ok-told-in-Array-clause-marks
 broken-returns-in_ok-told-in-Array-clause-marks t c =
@@ -57,17 +59,15 @@ broken-returns-in_ok-told-in-Array-clause-marks t c =
     (c.in_ok-told-in-Array.ensures.marks (sym h ∙ e)))
     c.unless-in-Array.ensures.told
 
-pub broken-returns-in_ok-told-in-Union-clause-marks : goal.broken-returns-in_ok-told-in-Union-clause-marks
-broken-returns-in_ok-told-in-Union-clause-marks t c =
+pub broken-returns-in_ok-sure-in-Union-clause-marks : goal.broken-returns-in_ok-sure-in-Union-clause-marks
+broken-returns-in_ok-sure-in-Union-clause-marks t c =
     let past : length c.args.table.now ≤ 18446744073709551615 = omega arith in
-    IfOk-weaker c.unless-in-Union.result _ _
-    (λ b h e.
-    marks_then (λ at. false) (is_in_chunk c.as_slice-in-Union-2.result.now) (is_used c.args.t.now) c.args.start c.args.table.now c.first_broken_field-in-Union.new.table c.mark_chunks.new.table
-    (λ at. ap (λ (u : Ty). is_used u at) c.in-Union.is ∙ used_union _ _ _ _ at ∙ sym (ap (λ (chunks : List (ℕ × ℕ)). is_in_chunk chunks at) c.as_slice-in-Union-2.ensures))
-    (marks_nowhere (is_used_field c.as_slice-in-Union.result.now) (λ at. false) 18446744073709551615 c.args.start c.args.table.now c.first_broken_field-in-Union.new.table past (λ at. refl)
-    (c.in_ok-told-in-Union.ensures.marks (sym h ∙ e)))
-    c.mark_chunks.ensures)
-    c.unless-in-Union.ensures.told
+    λ e.
+    marks_then (λ at. false) (is_in_chunk c.as_slice-chunks.result.now) (is_used c.args.t.now) c.args.start c.args.table.now c.first_broken_field-in-Union.new.table c.mark_chunks.new.table
+    (λ at. ap (λ (u : Ty). is_used u at) c.in-Union.is ∙ used_union _ _ _ _ at ∙ sym (ap (λ (chunks : List (ℕ × ℕ)). is_in_chunk chunks at) c.as_slice-chunks.ensures))
+    (marks_nowhere (is_used_field c.as_slice-fields-in-Union.result.now) (λ at. false) 18446744073709551615 c.args.start c.args.table.now c.first_broken_field-in-Union.new.table past (λ at. refl)
+    (c.in_ok-told-in-Union.ensures.marks (sym c.in_ok-sure-in-Union.ensures.told ∙ e)))
+    c.mark_chunks.ensures
 
 -- what is told of an enum, where it is known
 known : (used : Option Bool) (P : Type 0) → IfSome used (λ b. P) → is_some used ≡ true → P
@@ -78,13 +78,28 @@ pub broken-returns-in_ok-used-in-Enum-clause-marks : goal.broken-returns-in_ok-u
 broken-returns-in_ok-used-in-Enum-clause-marks t c =
     IfOk-weaker c.unless-in-Enum.result _ _
     (λ b h e.
-    marks_alike (is_used_in c.as_slice-in-Enum.result.now) (is_used c.args.t.now) c.args.start c.args.table.now c.broken_variants.new.table
-    (λ at. ap (λ (variants : List Variant). is_used_in variants at) c.as_slice-in-Enum.ensures ∙ sym (ap (λ (u : Ty). is_used u at) c.in-Enum.is ∙ used_enum _ _ _ _ _ at))
+    marks_alike (is_used_in c.as_slice.result.now) (is_used c.args.t.now) c.args.start c.args.table.now c.broken_variants.new.table
+    (λ at. ap (λ (variants : List Variant). is_used_in variants at) c.as_slice.ensures ∙ sym (ap (λ (u : Ty). is_used u at) c.in-Enum.is ∙ used_enum _ _ _ _ _ at))
     (known c.in_ok-used-in-Enum.used _ c.in_ok-used-in-Enum.ensures.marks (sym c.is_some.ensures ∙ sym h ∙ e)))
     c.unless-in-Enum.ensures.told
 
-pub broken_elem-returns-in-Long-clause-marks : goal.broken_elem-returns-in-Long-clause-marks
-broken_elem-returns-in-Long-clause-marks t c =
+pub broken_elem-returns-in_ok-told-in-Some-clause-marks : goal.broken_elem-returns-in_ok-told-in-Some-clause-marks
+broken_elem-returns-in_ok-told-in-Some-clause-marks t c =
+    let array = c.in-Array.is ∙ sym (ap (λ (part : Ty). ty.Array c.in-Array.each part) c.get.ensures) in
+    IfOk-weaker c.unless.result _ _
+    (λ b h e.
+    marks_alike (is_used_row c.in-Some.all c.get.result.now) (is_used_row c.args.count c.args.elem.now) c.args.start c.args.table.now c.broken_elem.new.table
+    (λ at. ap (λ n. is_used_row n c.get.result.now at) c.in-Some.ensures.1 ∙ used_rows c.args.count c.in-Array.each c.get.result.now at ∙ sym (ap (λ (u : Ty). is_used_row c.args.count u at) array))
+    (c.in_ok-told-in-Some.ensures.marks (sym h ∙ e)))
+    c.unless.ensures.told
+
+pub broken_row-returns-in-Once-clause-marks : goal.broken_row-returns-in-Once-clause-marks
+broken_row-returns-in-Once-clause-marks t c =
+    told_once c.broken-in-Once.result c.args.count c.args.start c.args.elem.now c.args.table.now c.broken-in-Once.new.table (c.in-Once.ensures (size_of c.args.elem.now) c.size.ensures)
+    c.broken-in-Once.ensures.rule c.broken-in-Once.ensures.marks
+
+pub broken_row-returns-in-Long-clause-marks : goal.broken_row-returns-in-Long-clause-marks
+broken_row-returns-in-Long-clause-marks t c =
     let row = c.in-Long.ensures (size_of c.args.elem.now) c.size.ensures in
     IfOk-weaker c.broken-in-Long.result _ _
     (λ told h e. marks_long c.args.count c.args.start c.args.elem.now c.args.table.now c.broken-in-Long.new.table row.0 (omega (arith, row.1, c.left.ensures)) (h e))

@@ -1,5 +1,15 @@
-use Rattle.std.proofs.Common.{◌∙◌}
+use Rattle.std.proofs.Common.{◌∙◌, refl, sym}
+use Rattle.mr_listing.specs.Seen.{seen}
+use Rattle.mr_listing.proofs.AlikeLaws.{none_added, one_added}
 use Rattle.mr_listing.proofs.pairs.add_group.Goals as goal
 
-pub is_among-requires-clause-made : goal.is_among-requires-clause-made
-is_among-requires-clause-made c = c.as_slice.ensures.value ∙ c.requires.made
+pub returns-then-begins_before : goal.returns-then-begins_before
+returns-then-begins_before c =
+    none_added (seen c.args.shown.now) c.args.pair c.args.number _ c.alike_races-alike.ensures
+    (sym c.begins_before.ensures ∙ c.if-begins_before.true) c.args.groups.now.items
+
+pub returns : goal.returns
+returns c =
+    one_added (seen c.args.shown.now) c.args.pair c.args.number _ c.alike_races-alike.ensures
+    (sym c.begins_before.ensures ∙ c.if-begins_before.false) c.args.groups.now.items _ _ refl
+    c.in_ok-push.ensures.items

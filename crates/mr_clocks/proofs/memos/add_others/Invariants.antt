@@ -1,0 +1,12 @@
+use Rattle.std.proofs.Common.{◌≡◌, ◌≢◌, ℕ, ◌<◌, ◌≤◌, true, length}
+use Rattle.mr_clocks.specs.Keys.{asks}
+use Rattle.mr_clocks.specs.Rows.{IsListed, row_at}
+use Rattle.mr_clocks.proofs.memos.add_others.Given as goal
+
+abbrev pub invariant-loop-x : goal.invariant-loop-x
+invariant-loop-x l =
+    record {
+      kept : (z : ℕ) → IsListed l.initial.others.items z → IsListed l.others.items z;
+      here : (y : ℕ) → l.from ≤ y → y < l.x → y < length l.rows → (row_at l.rows y).thread ≢ l.step.thread
+          → asks l.step (row_at l.rows y).key ≡ true → IsListed l.others.items y;
+    }
