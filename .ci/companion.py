@@ -7,6 +7,8 @@
   next one of the text, and behind a `goto` at the block's first; the prints, the verdict, and the count of the races are those of `mirace run`,
   and each step has the partners that the report lists. The races by pairs of places are made once more from the steps.
   A part of the steps is that part of all.
+- How runs go on, and what orders become (going_on.py).
+- The pictures of the pages, and those of runs beside their listings and their footprints (pictures.py).
 - Long runs, in seconds.
 
     python3 .ci/companion.py [COMPANION [PROGRAM]]
@@ -22,7 +24,9 @@ import time
 
 sys.dont_write_bytecode = True
 import codes  # noqa: E402
+import going_on  # noqa: E402
 import limits  # noqa: E402
+import pictures  # noqa: E402
 
 TOP = os.path.dirname(os.path.dirname(os.path.abspath(__file__)))
 COMPANION = f"{TOP}/crates/mirace_show/out/mirace_show"
@@ -31,13 +35,17 @@ EXAMPLES = f"{TOP}/examples"
 CLASS = f"{EXAMPLES}/class"
 CASES = f"{TOP}/crates/mirace_cases/data"
 STORED = f"{TOP}/crates/mirace_cases/stdout"
-USAGE = b"usage: steps P S [FIRST LAST] | races P S | why CODE | --help\n"
+USAGE = b"usage: steps P S [FIRST LAST] | races P S | picture P S [FIRST LAST] | next P S | fill P O | halt P O | why CODE | --help\n"
 # The most seconds that a long run may take, on a slow machine.
 PATIENCE = 40
 # The line of a step, with its number, its thread, its place, its function, its block and its statement.
 HEAD = re.compile(rb"(\d+)  thread (\d+)  (\d+):(\d+)  (\w+) (\w+)  (.*)")
 # How many runs are compared at the least, and how many of their steps.
 RUNS, STEPS = 800, 8000
+# Of one in so many of them, and of each example, it is compared how they go on; and how many stored schedules are refused at the least.
+FEW, REFUSED = 4, 100
+# As many steps are drawn at most.
+DRAWN = 500
 
 
 class Step:
@@ -93,25 +101,34 @@ def cases(at):
     yield "0, all steps", ["steps", example("exit.mr"), example("exit.sched")], exit_steps, 0
     yield "0, no race", ["races", example("exit.mr"), example("exit.sched")], b"races 0\n", 0
     yield "1, a number that is no code", ["why", "10"], b"no rule, no fault and no reason has the number 10\n", 1
-    for form in ("steps", "races"):
+    for form in ("steps", "races", "picture", "next", "fill", "halt"):
         yield f"3, a text, {form}", [form, example("unknown-name.mr"), "missing"], b"text 4 18 5 UnknownName\n", 3
         yield f"4, a program, {form}", [form, example("ill-formed.mr"), "missing"], b"form main b0 2 32 BlockKind\n", 4
-        yield f"5, a rule, {form}", [form, example("print.mr"), example("print-reused.sched")], b"schedule 3 64 Reused 0 0\n", 5
-        yield f"5, an empty text, {form}", [form, example("print.mr"), "empty"], b"schedule 1 50 BadHeader\n", 5
+        if form in ("steps", "races", "picture"):
+            yield f"5, a rule, {form}", [form, example("print.mr"), example("print-reused.sched")], b"schedule 3 64 Reused 0 0\n", 5
+        if form in ("steps", "races", "picture", "next"):
+            yield f"5, an empty text, {form}", [form, example("print.mr"), "empty"], b"schedule 1 50 BadHeader\n", 5
+        else:
+            yield f"5, a word that is no turn, {form}", [form, example("print.mr"), "words"], b"schedule 2 51 BadLine\n", 5
         yield f"6, no program, {form}", [form, "missing", example("print.sched")], b"read program\n", 6
         yield f"6, a folder, {form}", [form, "folder", example("print.sched")], b"read program\n", 6
         yield f"6, no schedule, {form}", [form, example("print.mr"), "missing"], b"read schedule\n", 6
         yield f"6, a folder for the schedule, {form}", [form, example("print.mr"), "folder"], b"read schedule\n", 6
+    yield "0, an order without turns", ["halt", example("exit.mr"), "empty"], b"", 0
+    yield "1, a turn too many", ["halt", example("exit.mr"), "turns"], b"# line 1 can't go on: 66 AfterStop\n", 1
     yield "10, a word that is no text", ["why", b"\xff"], b"", 10
 
 
 def statuses(judge, at):
+    write(at, "words", b"0\n0*x\n")
+    write(at, "turns", b"0 0\n")
     for what, words, text, status in cases(at):
         wrote, ended = ran(words, at)
         judge(f"companion: status {what}", (wrote, ended) == (text, status), f"{short(wrote)} and {ended}")
     pair = [f"{EXAMPLES}/exit.mr", f"{EXAMPLES}/exit.sched"]
     numbers = [["steps", *pair, *it] for it in (["1"], ["1", "x"], ["01", "2"], ["1", str(1 << 32)], ["-1", "2"], ["1", "2", "3"])]
-    few = [[], ["steps"], ["races", pair[0]], ["why"], ["why", ""], ["why", "066"], ["why", str(1 << 16)], ["why", "66", "67"]]
+    numbers += [["picture", *it[1:]] for it in numbers]
+    few = [[], ["steps"], ["races", pair[0]], ["next"], ["fill", pair[0]], ["halt", *pair, "1"], ["why"], ["why", ""], ["why", "066"], ["why", str(1 << 16)], ["why", "66", "67"]]
     others = [["run", *pair], ["races", *pair, "1", "2"], ["--version"], ["help"], ["--help", "steps"], ["run", "--help"]]
     for words in (*numbers, *few, *others):
         wrote, ended = ran(words, at)
@@ -121,7 +138,8 @@ def statuses(judge, at):
 def helps(judge, at):
     """The text of each help begins with its form, in lines of at most 120 bytes, and names no other."""
     for words, first in (([], b"mirace_show steps P S [FIRST LAST]   "), (["steps"], b"mirace_show steps P S [FIRST LAST]\n"),
-                         (["races"], b"mirace_show races P S\n"), (["why"], b"mirace_show why CODE\n")):
+                         (["races"], b"mirace_show races P S\n"), (["picture"], b"mirace_show picture P S [FIRST LAST]\n"), (["next"], b"mirace_show next P S\n"),
+                         (["fill"], b"mirace_show fill P O | halt P O\n"), (["halt"], b"mirace_show fill P O | halt P O\n"), (["why"], b"mirace_show why CODE\n")):
         wrote, ended = ran([*words, "--help"], at)
         is_well = wrote.startswith(first) and max(map(len, wrote.split(b"\n"))) <= 120 and ended == 0
         judge(f"companion: help with {words}", is_well, f"{short(wrote)} and {ended}")
@@ -142,7 +160,7 @@ def each_code(judge, at):
 def refused_writes(judge, at):
     """Status 7: a pipe that nobody reads, and a full device."""
     pair = [f"{EXAMPLES}/race.mr", f"{EXAMPLES}/race.sched"]
-    for words in (["steps", *pair], ["races", *pair], ["why", "66"], ["--help"], ["walk"], ["races", "missing", "missing"]):
+    for words in (["steps", *pair], ["races", *pair], ["picture", *pair], ["next", *pair], ["fill", pair[0], "turns"], ["why", "66"], ["--help"], ["walk"], ["races", "missing", "missing"]):
         end, begin = os.pipe()
         os.close(end)
         ended = subprocess.run([COMPANION, *words], cwd=at, stdout=begin, timeout=60).returncode
@@ -393,30 +411,63 @@ def a_part(judge, what, words, steps, tail, at):
 
 
 def listing(judge, script, program, schedule, report, status, at):
-    """A run as it is listed, beside its report and its footprints. How many steps it has."""
-    what = f"companion: {os.path.basename(program)} under {os.path.basename(schedule)}"
+    """A run as it is listed, beside its report and its footprints. Its steps, and these."""
+    what = f"companion: {title((program, schedule))}"
     wrote, ended = ran(["steps", program, schedule], at)
     steps, tail = parted(wrote)
     judge(f"{what}: the threads of its steps", [it.thread for it in steps] == threads_of(read(schedule)), short(wrote))
     judge(f"{what}: its steps are numbered", [it.number for it in steps] == list(range(1, len(steps) + 1)))
     source, (trace, _) = Source(read(program)), ran(["trace", program, schedule], at, PROGRAM)
     places(judge, what, source, steps)
-    like_the_footprints(judge, what, source, read(schedule), steps, [script.step_of(it) for it in script.decode(trace).splitlines()])
+    feet = [script.step_of(it) for it in script.decode(trace).splitlines()]
+    like_the_footprints(judge, what, source, read(schedule), steps, feet)
     pairs = like_the_report(judge, what, steps, tail, report, status, ended)
     grouped = ran(["races", program, schedule], at)
     judge(f"{what}: its races by places", grouped == (by_places(steps, pairs), status), short(grouped[0]))
     a_part(judge, what, ["steps", program, schedule], steps, tail, at)
-    return len(steps)
+    a_picture(judge, what, program, schedule, status, steps, feet, pairs, at)
+    return steps, feet
+
+
+def a_picture(judge, what, program, schedule, status, steps, feet, pairs, at):
+    """The picture of a run that is drawn whole."""
+    text, ended = ran(["picture", program, schedule], at)
+    judge(f"{what}: the status of its picture", ended == status, f"{ended}")
+    if len(steps) <= DRAWN:
+        pictures.picture(judge, what, text, steps, feet, pairs)
+
+
+def title(run):
+    return f"{os.path.basename(run[0])} under {os.path.basename(run[1])}"
+
+
+class Kit:
+    """What going_on.py takes from here."""
+    title, read, write, ran = staticmethod(title), staticmethod(read), staticmethod(write), staticmethod(ran)
+    threads_of, picks_of, Doings = staticmethod(threads_of), staticmethod(picks_of), Doings
+
+    @staticmethod
+    def companion():
+        return COMPANION
+
+    @staticmethod
+    def program():
+        return PROGRAM
+
+
+def stored():
+    """The stored runs of a program under a schedule: both, what is written, and the status."""
+    for case in re.split(rb"^\$ ", read(STORED), flags=re.M)[1:]:
+        line, _, rest = case.partition(b"\n")
+        words, (report, _, status) = line.decode().split(), rest.rpartition(b"= ")
+        if words[:1] == ["run"] and len(words) == 3:
+            yield f"{CASES}/{words[1]}", f"{CASES}/{words[2]}", report, int(status)
 
 
 def runs():
     """Each run that mirace_cases stores, of a program under a schedule that can both be used, and those of examples/class:
     the program, the schedule, the report, the status."""
-    for case in re.split(rb"^\$ ", read(STORED), flags=re.M)[1:]:
-        line, _, rest = case.partition(b"\n")
-        words, (report, _, status) = line.decode().split(), rest.rpartition(b"= ")
-        if words[:1] == ["run"] and len(words) == 3 and status.strip() in (b"0", b"1"):
-            yield f"{CASES}/{words[1]}", f"{CASES}/{words[2]}", report, int(status)
+    yield from (it for it in stored() if it[3] in (0, 1))
     names = os.listdir(CLASS)
     for name in sorted(it for it in names if it.endswith(".sched")):
         program = max((it for it in names if it.endswith(".mr") and name.startswith(it[:-3])), key=len)
@@ -424,11 +475,25 @@ def runs():
 
 
 def listings(judge, at):
-    count, steps, script = 0, 0, trace_script()
-    for program, schedule, report, status in runs():
-        steps += listing(judge, script, program, schedule, report, status, at)
+    count, total, script = 0, 0, trace_script()
+    for run in runs():
+        steps, feet = listing(judge, script, *run, at)
+        if count % FEW == 0 or os.path.dirname(run[0]) in (CASES, CLASS):
+            going_on.fronts(judge, Kit, run, steps, feet, at)
+            going_on.orders(judge, Kit, run, count % 3, at)
+        total += len(steps)
         count += 1
-    judge("companion: runs that are listed", count >= RUNS and steps >= STEPS, f"{count} runs, {steps} steps")
+    judge("companion: runs that are listed", count >= RUNS and total >= STEPS, f"{count} runs, {total} steps")
+
+
+def refusals(judge, at):
+    """Each stored run whose schedule is refused, by `next`."""
+    count = 0
+    for program, schedule, report, status in stored():
+        if status == 5:
+            going_on.broken(judge, Kit, program, schedule, report, at)
+            count += 1
+    judge("companion: schedules that are refused", count >= REFUSED, f"{count}")
 
 
 # ---- long runs
@@ -442,11 +507,12 @@ def long_runs(judge, at):
     lines = b"".join(b"%d  thread 0  %s" % (number, place) for number in (entries - 1, entries))
     behind = b"verdict running\nraces 0\nthread 0 can go on; its next step is " + place
     for what, words, wanted in (("its last two steps", ["steps", str(entries - 1), str(entries)], lines + behind),
-                                ("its races", ["races"], b"races 0\n")):
+                                ("its races", ["races"], b"races 0\n"), ("its picture", ["picture"], None)):
         begun = time.monotonic()
         wrote, ended = ran([words[0], "staying.mr", "staying.sched", *words[1:]], at)
         seconds = time.monotonic() - begun
-        judge(f"companion: a run of 2^20 entries: {what}", (wrote, ended) == (wanted, 0), f"{short(wrote)} and {ended}")
+        is_well = (wrote, ended) == (wanted, 0) if wanted is not None else ended == 0 and wrote.count(b'<g class="step">') == DRAWN + 5
+        judge(f"companion: a run of 2^20 entries: {what}", is_well, f"{short(wrote)} and {ended}")
         judge(f"companion: a run of 2^20 entries: {what}: its time", seconds < PATIENCE, f"{seconds:.1f} seconds")
 
 
@@ -458,8 +524,9 @@ def compare(judge, at):
     if os.path.isfile(COMPANION):
         write(at, "empty", b"")
         os.mkdir(f"{at}/folder")
-        for check in (statuses, helps, each_code, refused_writes, want_of_memory, listings, long_runs):
+        for check in (statuses, helps, each_code, refused_writes, want_of_memory, listings, refusals, long_runs):
             check(judge, at)
+        pictures.kept(judge, COMPANION)
 
 
 def main():

@@ -18,6 +18,13 @@ pub struct Ending {
     status: ExitCode,
 }
 
+impl Ending {
+    /// Whether the status is 1.
+    pub fn is_partial(&self) -> bool {
+        self.status == ExitCode::FAILURE
+    }
+}
+
 impl Termination for Ending {
     fn report<R: Eprint>(self, _rt: &R) -> ExitCode
         ensures { result ≡ self.status }

@@ -10,8 +10,8 @@ use crate::words::{push_name, push_number};
 use mr_base::Access;
 use mr_told::{Allocation, Stand};
 
-// What an access is called.
-fn access_word(access: Access) -> &'static str
+/// What an access is called.
+pub fn access_word(access: Access) -> &'static str
     ensures { result.now ≡ access_word access }
 {
     if access.atomic {
@@ -27,8 +27,8 @@ fn access_word(access: Access) -> &'static str
     }
 }
 
-// Appends what an address is called: by the allocation that holds it, or by its number where none does.
-fn push_reached(
+/// Appends what an address is called: by the allocation that holds it, or by its number where none does.
+pub fn push_reached(
     out: &mut Vec<u8>,
     shown: &Shown<'_>,
     here: Option<Stand>,
@@ -61,8 +61,8 @@ fn push_held(
     push_name(out, shown.program, here, offset, row.name)
 }
 
-// Appends how many bytes there are.
-pub(crate) fn push_bytes(out: &mut Vec<u8>, count: u64) -> Result<(), OutOfMemory>
+/// Appends how many bytes there are.
+pub fn push_bytes(out: &mut Vec<u8>, count: u64) -> Result<(), OutOfMemory>
     ensures { OnOk result (out.new.items ≡ out.old.items ++ bytes_text count) }
 {
     push_number(out, count)?;

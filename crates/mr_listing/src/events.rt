@@ -21,8 +21,8 @@ fn push_note(out: &mut Vec<u8>, word: &str, number: u32) -> Result<(), OutOfMemo
     Ok(())
 }
 
-// What an acquire came to: the lock was taken, or the thread waits for it.
-fn acquire_word(status: Option<Status>) -> &'static str
+/// What an acquire came to: the lock was taken, or the thread waits for it.
+pub fn acquire_word(status: Option<Status>) -> &'static str
     ensures { result.now ≡ acquire_text status }
 {
     match status {
@@ -31,8 +31,8 @@ fn acquire_word(status: Option<Status>) -> &'static str
     }
 }
 
-// What a join came to: the thread had ended, or its end is waited for.
-fn join_word(status: Option<Status>) -> &'static str
+/// What a join came to: the thread had ended, or its end is waited for.
+pub fn join_word(status: Option<Status>) -> &'static str
     ensures { result.now ≡ join_text status }
 {
     match status {
@@ -41,8 +41,8 @@ fn join_word(status: Option<Status>) -> &'static str
     }
 }
 
-// What a release came to: a thread that waits got the lock, or it is free.
-fn release_word(woken: &[u32]) -> &'static str
+/// What a release came to: a thread that waits got the lock, or it is free.
+pub fn release_word(woken: &[u32]) -> &'static str
     ensures { result.now ≡ release_text woken.now }
 {
     if woken.is_empty() {

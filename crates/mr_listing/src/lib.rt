@@ -5,6 +5,8 @@
 //!   name, and its partners; and the verdict.
 //! - [`races`]: the listed races by pairs of places, those with most races first, each pair with how many there are.
 //! - [`stand_text`]: where a thread stands, by the statement at which it does.
+//! - [`push_name`], [`push_reached`], [`push_bytes`], [`function_word`], [`access_word`], [`acquire_word`], [`join_word`],
+//!   [`release_word`]: the parts of a line, for other texts.
 //!
 //! `specs/Words.antt`, `specs/Steps.antt` and `specs/Races.antt` say what is written. Proved: exactly that, and want of
 //! memory is the only error. [`races_are_grouped`] is the law that the order of the pairs of places is a permutation of
@@ -24,10 +26,12 @@ mod sorted;
 mod spots;
 mod words;
 
+pub use accesses::{access_word, push_bytes, push_reached};
+pub use events::{acquire_word, join_word, release_word};
 pub use law::races_are_grouped;
 pub use listing::steps;
 pub use pairs::races;
 pub use shown::Shown;
 pub use spots::stand_text;
 pub use std::alloc::AllocError as OutOfMemory;
-pub use words::push_name;
+pub use words::{function_word, push_name};

@@ -26,8 +26,8 @@ pub(crate) fn push_count(out: &mut Vec<u8>, at: usize) -> Result<(), OutOfMemory
     out.extend_from_slice(buffer.format(at as u128 + 1).as_bytes())
 }
 
-// The name of a function.
-pub(crate) fn function_word(p: &Program, function: u32) -> &str
+/// The name of a function.
+pub fn function_word(p: &Program, function: u32) -> &str
     ensures { result.now ≡ function_word p.now function }
 {
     p.function_name(FnName(function))
@@ -93,8 +93,8 @@ fn push_behind(out: &mut Vec<u8>, offset: u64) -> Result<(), OutOfMemory>
     push_number(out, offset)
 }
 
-// Appends the name of an address in an allocation, so many bytes behind its first one, as it is called where a thread
-// stands.
+/// Appends the name of an address in an allocation, so many bytes behind its first one, as it is called where a thread
+/// stands.
 pub fn push_name(
     out: &mut Vec<u8>,
     p: &Program,

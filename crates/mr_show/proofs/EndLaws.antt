@@ -16,20 +16,20 @@ use Rattle.mr_show.specs.Outcome.{Ends, IsPossible}
 module _ (files : Contents) (files_rose out_rose : Type 0) (old new : Option (List ℕ)) (status : ℕ) where
   pub written_ends : (form : Form) (a : Written) → IsAnswered files form files_rose (Ok a)
       → IsWritten (seen a) out_rose old new status → Ends files (Some form) files_rose out_rose old new status
-  written_ends (Shown part program schedule) a (inl tells) written = inr (seen a, inl tells, written)
-  written_ends (Shown part program schedule) a (inr (rose, inl e)) written = absurd (cc)
-  written_ends (Shown part program schedule) a (inr (rose, inr (p, read, unbroken, e))) written = absurd (cc)
+  written_ends (Shown saying program schedule) a (inl tells) written = inr (seen a, inl tells, written)
+  written_ends (Shown saying program schedule) a (inr (rose, inl e)) written = absurd (cc)
+  written_ends (Shown saying program schedule) a (inr (rose, inr (p, read, unbroken, e))) written = absurd (cc)
   written_ends (Why code) a tells written = inr (seen a, inl tells, written)
   written_ends (Help topic) a tells written = inr (seen a, inl tells, written)
 
   -- a refusal that is defined
   is_defined : (form : Form) (r : Refusal) → IsAnswered files form files_rose (Err r)
       → (r ≡ refusal.Memory) ⊎ IsPossible files form files_rose (refused r)
-  is_defined (Shown part program schedule) r (inl tells) =
-      elim (refusal_told (answer_of files (Some (Shown part program schedule))) r tells)
+  is_defined (Shown saying program schedule) r (inl tells) =
+      elim (refusal_told (answer_of files (Some (Shown saying program schedule))) r tells)
       [ inl e ↦ inl e | inr e ↦ inr (inl (sym e)) ]
-  is_defined (Shown part program schedule) r (inr (rose, inl e)) = inr (inr (rose, inl (ap refused (same_refusal e))))
-  is_defined (Shown part program schedule) r (inr (rose, inr (p, read, unbroken, e))) =
+  is_defined (Shown saying program schedule) r (inr (rose, inl e)) = inr (inr (rose, inl (ap refused (same_refusal e))))
+  is_defined (Shown saying program schedule) r (inr (rose, inr (p, read, unbroken, e))) =
       inr (inr (rose, inr (p, read, unbroken, ap refused (same_refusal e))))
   is_defined (Why code) r tells =
       elim (refusal_told (answer_of files (Some (Why code))) r tells) [ inl e ↦ inl e | inr e ↦ inr (inl (sym e)) ]

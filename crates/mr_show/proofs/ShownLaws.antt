@@ -29,8 +29,9 @@ use Rattle.mr_answer.specs.Running.{refusal_by}
 use Rattle.mr_told.specs.declared.rows.Allocation.{Allocation}
 use Rattle.mr_told.specs.declared.step.ToldStep.{ToldStep}
 use Rattle.mr_show.specs.declared.form.Part.{Part}
+use Rattle.mr_show.specs.declared.form.Saying.{Saying}
 use Rattle.mr_show.specs.Answer.{answer_under, file_answer, part_answer, part_steps}
-use Rattle.mr_show.specs.Answer.{program_answer, run_answer, run_rows, run_seen}
+use Rattle.mr_show.specs.Answer.{program_answer, ran_answer, run_rows, run_seen}
 use Rattle.mr_show.specs.Gathered.{gathered, lexemes_in}
 use Rattle.mr_show.specs.Answering.{IsOfFile, IsOfProgram, IsOfText, IsScheduleUnread}
 
@@ -43,11 +44,11 @@ module _ (part : Part) (text : List ℕ) (p : Program) (v : Version) (w : Schedu
       → (result : Result Written Refusal) → IsRun p w m → count ≡ length w.entries → rows ≡ run_rows p w
       → steps ≡ part_steps part p w → feet ≡ steps_of p w
       → Tells (part_answer part (gathered text p m.config count rows steps feet)) result
-      → Tells (run_answer part text p v w) result
+      → Tells (ran_answer part text p v w) result
   told_run m count rows steps feet result run all made tell are tells =
       subst (λ (a : Answer). Tells a result) (whole ∙ sym legal) tells
     where
-      legal : run_answer part text p v w ≡ part_answer part (run_seen part text p w)
+      legal : ran_answer part text p v w ≡ part_answer part (run_seen part text p w)
       legal =
           ap (λ (f : Option PlacedFault). told (part_answer part) (unless_broken v w f (run_seen part text p w)))
           (no_schedule_fault p w run.legal)
@@ -56,7 +57,7 @@ module _ (part : Part) (text : List ℕ) (p : Program) (v : Version) (w : Schedu
       whole = (λ i. part_answer part (gathered text p (run.config i) (all i) (made i) (tell i) (are i)))
 
   -- and the first rule that the schedule breaks, on its line
-  pub told_broken : (f : RunFault) → IsFirstFault p w f → Tells (run_answer part text p v w) (Err (refusal_by v w f))
+  pub told_broken : (f : RunFault) → IsFirstFault p w f → Tells (ran_answer part text p v w) (Err (refusal_by v w f))
   told_broken (Broken place code earlier) h =
       ap (λ (o : Option PlacedFault). told (part_answer part) (unless_broken v w o (run_seen part text p w))) h
   told_broken Memory h = tt
@@ -71,29 +72,29 @@ no_program text f p e is = let bad = sym (fault_parsed text f (OfTokens e)) ∙ 
 pub its_lexemes : (text : List ℕ) (lexemes : List Lexeme) → lexed text ≡ Ok lexemes → lexemes ≡ lexemes_in (lexed text)
 its_lexemes text lexemes e = sym (ap lexemes_in e)
 
-module _ (part : Part) (file : Option (List ℕ)) (rose : Type 0) (result : Result Written Refusal) where
+module _ (saying : Saying) (file : Option (List ℕ)) (rose : Type 0) (result : Result Written Refusal) where
   -- a checked program is answered by its run
   pub of_checked : (text : List ℕ) (p q : Program) → (q ≡ p) × WellFormed p
-      → TellsOrUnread rose (answer_under part text file q) result → IsOfProgram rose part text file p result
+      → TellsOrUnread rose (answer_under saying text file q) result → IsOfProgram rose saying text file p result
   of_checked text p q (same, well) (inl tells) =
       inl (subst (λ (a : Answer). Tells a result)
-      (ap (answer_under part text file) same
-      ∙ sym (ap (λ (faults : List FormFault). form_or p faults (answer_under part text file p)) well.unbroken)) tells)
+      (ap (answer_under saying text file) same
+      ∙ sym (ap (λ (faults : List FormFault). form_or p faults (answer_under saying text file p)) well.unbroken)) tells)
   of_checked text p q (same, well) (inr (rises, is)) = inr (rises, well.unbroken, is)
 
   -- a text that was parsed is answered by its program
-  pub of_text : (text : List ℕ) (p : Program) → parsed text ≡ Ok p → IsOfProgram rose part text file p result
-      → IsOfText rose part file text result
+  pub of_text : (text : List ℕ) (p : Program) → parsed text ≡ Ok p → IsOfProgram rose saying text file p result
+      → IsOfText rose saying file text result
   of_text text p e (inl tells) =
-      inl (subst (λ (r : Result Program TextFault). Tells (told (program_answer part text file) (denoted r)) result)
+      inl (subst (λ (r : Result Program TextFault). Tells (told (program_answer saying text file) (denoted r)) result)
       (sym e) tells)
   of_text text p e (inr (rises, unbroken, is)) = inr (rises, (p, ap denoted e, unbroken, is))
 
   -- a file that was read is answered by its text
   pub of_file : (program : Option (List ℕ)) (text bytes : List ℕ) (later : Type 0) → (later → rose) → program ≡ Some bytes
-      → text ≡ bytes → IsOfText later part file text result → IsOfFile rose part file program result
+      → text ≡ bytes → IsOfText later saying file text result → IsOfFile rose saying file program result
   of_file program text bytes later up there same (inl tells) =
-      inl (subst (λ (f : Option (List ℕ)). Tells (file_answer part file f) result) (ap Some same ∙ sym there) tells)
+      inl (subst (λ (f : Option (List ℕ)). Tells (file_answer saying file f) result) (ap Some same ∙ sym there) tells)
   of_file program text bytes later up there same (inr (rises, unread)) =
       inr (
         up rises,
@@ -101,18 +102,18 @@ module _ (part : Part) (file : Option (List ℕ)) (rose : Type 0) (result : Resu
       )
 
 -- what refuses the text of a program is told
-pub of_refused : (part : Part) (file : Option (List ℕ)) (rose : Type 0) (text : List ℕ) (r : Refusal)
-    → Gives {A = Program} (Err r) (denoted (parsed text)) → IsOfText rose part file text (Err r)
-of_refused part file rose text r h = inl (refused_over (program_answer part text file) (denoted (parsed text)) r h)
+pub of_refused : (saying : Saying) (file : Option (List ℕ)) (rose : Type 0) (text : List ℕ) (r : Refusal)
+    → Gives {A = Program} (Err r) (denoted (parsed text)) → IsOfText rose saying file text (Err r)
+of_refused saying file rose text r h = inl (refused_over (program_answer saying text file) (denoted (parsed text)) r h)
 
 -- what refuses the file of a program is told, or its read failed
-module _ (part : Part) (file : Option (List ℕ)) (rose : Type 0) (r : Refusal) where
+module _ (saying : Saying) (file : Option (List ℕ)) (rose : Type 0) (r : Refusal) where
   told_file : (program : Option (List ℕ)) → Gives {A = Program} (Err r) (program_in program)
-      → Tells (file_answer part file program) (Err r)
-  told_file None h = refused_over (program_answer part [] file) (program_in None) r h
-  told_file (Some text) h = refused_over (program_answer part text file) (denoted (parsed text)) r h
+      → Tells (file_answer saying file program) (Err r)
+  told_file None h = refused_over (program_answer saying [] file) (program_in None) r h
+  told_file (Some text) h = refused_over (program_answer saying text file) (denoted (parsed text)) r h
 
-  pub no_text : (program : Option (List ℕ)) → IsNoText rose program r → IsOfFile rose part file program (Err r)
+  pub no_text : (program : Option (List ℕ)) → IsNoText rose program r → IsOfFile rose saying file program (Err r)
   no_text program (inl h) = inl (told_file program h)
   no_text program (inr (rises, e)) = inr (rises, inl (ap Err (same_refusal e)))
 

@@ -1,15 +1,17 @@
 -- Why a file was not read: what the status 6 of an answer tells.
-use Rattle.std.proofs.Common.{◌≡◌, ℕ, ◌≤◌, ap, arith, refl, subst, sym, ◌∙◌, List, [], ◌∷◌, ◌⊎◌, inl, inr}
-use Rattle.std.specs.Prelude.{None, Some, Option, Result, Ok, Err}
+use Rattle.std.proofs.Common.{◌≡◌, ℕ, ◌≤◌, Bool, true, false, ap, arith, length, refl, subst, sym, ◌∙◌, List, [], ◌∷◌, ◌⊎◌, inl, inr}
+use Rattle.std.specs.Prelude.{◌==◌, if◌then◌else◌, None, Some, Option, Result, Ok, Err}
 use Rattle.mr_ast.specs.declared.program.Program.{Program}
 use Rattle.mr_io.specs.Files.{Contents}
 use Rattle.mr_lex.specs.declared.token.TextFault.{TextFault}
 use Rattle.mr_grammar.specs.Parsing.{parsed}
-use Rattle.mr_sched.specs.Reading.{Fault, schedule_of}
+use Rattle.mr_sched.specs.Reading.{Fault as TextOf, schedule_of}
 use Rattle.mr_sched.specs.declared.schedule.Schedule.{Schedule}
 use Rattle.mr_sched.specs.declared.version.Read.{Read}
 use Rattle.mr_sched.specs.declared.version.Version.{Version}
+use Rattle.mr_plan.specs.Legal.{Fault}
 use Rattle.mr_start.specs.Runs.{PlacedFault, schedule_fault}
+use Rattle.mr_start.specs.Start.{start_fault}
 use Rattle.mr_wf.specs.declared.fault.FormFault.{FormFault}
 use Rattle.mr_wf.specs.Walk.{faults_of}
 use Rattle.mr_input.specs.Answer.{Answer, form_or, told}
@@ -17,10 +19,17 @@ use Rattle.mr_input.specs.Inputs.{AsksForSchedule, denoted, spelled}
 use Rattle.mr_input.proofs.RefusedLaws.{written_status}
 use Rattle.mr_answer.specs.Answers.{unless_broken}
 use Rattle.mr_answer.proofs.StatusLaws.{at_most_one}
+use Rattle.mr_fill.specs.Told.{texts_of}
+use Rattle.mr_fill.specs.declared.told.FilledText.{FilledText}
 use Rattle.mr_listing.specs.Seen.{Seen}
 use Rattle.mr_show.specs.declared.form.Part.{Part}
-use Rattle.mr_show.specs.Answer.{answer_of, answer_under, file_answer, part_answer, program_answer, read_answer, run_seen}
-use Rattle.mr_show.specs.Answer.{usage, why_answer}
+use Rattle.mr_show.specs.declared.form.Saying.{Saying}
+use Rattle.mr_show.specs.declared.form.Saying.TheVariants.{Next, OfOrder, OfRun}
+use Rattle.mr_show.specs.declared.form.Filling.{Filling}
+use Rattle.mr_show.specs.Answer.{answer_of, answer_under, file_answer, next_under, part_answer, program_answer, ran_under}
+use Rattle.mr_show.specs.Answer.{run_seen, usage, why_answer}
+use Rattle.mr_show.specs.Filled.{filled_answer, unless_bad}
+use Rattle.mr_show.specs.Next.{next_from, reached_answer}
 use Rattle.mr_why.specs.Why.{Entry, entry_of}
 use Rattle.mr_show.specs.Form.{Form, Help, Shown, Why}
 use Rattle.mr_show.specs.Outcome.{Ends, IsPossible}
@@ -32,52 +41,84 @@ use Rattle.mr_show.specs.Unread.{IsUnreadBecause, LacksFile}
 abbrev SixIf : Type 0 → ℕ → Type 0
 SixIf lacking status = (status ≤ 5) ⊎ ((status ≡ 6) × lacking)
 
-module _ (part : Part) (text : List ℕ) (p : Program) where
-  module _ (lacking : Type 0) where
-    legal_six : (v : Version) (w : Schedule) (f : Option PlacedFault) (s : Seen)
-        → SixIf lacking (told (part_answer part) (unless_broken v w f s)).status
-    legal_six v w None s = inl (let least = at_most_one s.verdict s.races in omega (arith, least))
-    legal_six v w (Some f) s = inl (omega arith)
+legal_least : (part : Part) (v : Version) (w : Schedule) (f : Option PlacedFault) (s : Seen)
+    → (told (part_answer part) (unless_broken v w f s)).status ≤ 5
+legal_least part v w None s = let least = at_most_one s.verdict s.races in omega (arith, least)
+legal_least part v w (Some f) s = omega arith
 
-    read_six : (r : Result Read Fault) → SixIf lacking (told (read_answer part text p) (spelled r)).status
-    read_six (Ok r) = legal_six r.version r.schedule (schedule_fault p r.schedule) (run_seen part text p r.schedule)
-    read_six (Err f) = inl (omega arith)
+next_least : (text : List ℕ) (p : Program) (v : Version) (w : Schedule) (f : Option Fault)
+    → (next_from text p v w f).status ≤ 5
+next_least text p v w (Some f) = omega arith
+next_least text p v w None = by_fault (schedule_fault p w)
+  where
+    by_fault : (f : Option PlacedFault) → (reached_answer text p w f).status ≤ 5
+    by_fault None = omega arith
+    by_fault (Some f) = omega arith
 
-  under_six : (file : Option (List ℕ)) → SixIf (file ≡ None) (answer_under part text file p).status
-  under_six None = inr (refl, refl)
-  under_six (Some bytes) = read_six (Some bytes ≡ None) (schedule_of bytes)
+order_least : (filling : Filling) (r : Result FilledText TextOf)
+    → (told (filled_answer filling) (unless_bad r)).status ≤ 5
+order_least filling (Ok t) = halt_least (length t.halt == 0)
+  where
+    halt_least : (b : Bool) → (if b then 0 else 1) ≤ 5
+    halt_least true = omega arith
+    halt_least false = omega arith
+order_least filling (Err f) = omega arith
+
+-- a file that is there has a status of at most 5
+module _ (lacking : Type 0) where
+  ran_six : (part : Part) (text : List ℕ) (p : Program) (r : Result Read TextOf)
+      → SixIf lacking (told (ran_under part text p) (spelled r)).status
+  ran_six part text p (Ok r) =
+      inl (legal_least part r.version r.schedule (schedule_fault p r.schedule) (run_seen part text p r.schedule))
+  ran_six part text p (Err f) = inl (omega arith)
+
+  next_six : (text : List ℕ) (p : Program) (r : Result Read TextOf) → SixIf lacking (told (next_under text p) (spelled r)).status
+  next_six text p (Ok r) = inl (next_least text p r.version r.schedule (start_fault p r.schedule.start))
+  next_six text p (Err f) = inl (omega arith)
+
+module _ (saying : Saying) (text : List ℕ) (p : Program) where
+  under_six : (file : Option (List ℕ)) → SixIf (file ≡ None) (answer_under saying text file p).status
+  under_six = by_saying saying
+    where
+      by_saying : (saying : Saying) (file : Option (List ℕ)) → SixIf (file ≡ None) (answer_under saying text file p).status
+      by_saying (OfRun part) None = inr (refl, refl)
+      by_saying (OfRun part) (Some bytes) = ran_six (Some bytes ≡ None) part text p (schedule_of bytes)
+      by_saying Next None = inr (refl, refl)
+      by_saying Next (Some bytes) = next_six (Some bytes ≡ None) text p (schedule_of bytes)
+      by_saying (OfOrder filling) None = inr (refl, refl)
+      by_saying (OfOrder filling) (Some bytes) = inl (order_least filling (texts_of p bytes))
 
   form_six : (file : Option (List ℕ)) (faults : List FormFault) → faults_of p ≡ faults
-      → SixIf ((faults_of p ≡ []) × (file ≡ None)) (form_or p faults (answer_under part text file p)).status
+      → SixIf ((faults_of p ≡ []) × (file ≡ None)) (form_or p faults (answer_under saying text file p)).status
   form_six file [] e = elim (under_six file) [ inl small ↦ inl small | inr six ↦ inr (six.0, (e, six.1)) ]
   form_six file (f ∷ faults) e = inl (omega arith)
 
-text_six : (part : Part) (file : Option (List ℕ)) (text : List ℕ) (r : Result Program TextFault) → parsed text ≡ r
-    → SixIf (AsksForSchedule (Some text) × (file ≡ None)) (told (program_answer part text file) (denoted r)).status
-text_six part file text (Ok p) e =
-    elim (form_six part text p file (faults_of p) refl) [
+text_six : (saying : Saying) (file : Option (List ℕ)) (text : List ℕ) (r : Result Program TextFault) → parsed text ≡ r
+    → SixIf (AsksForSchedule (Some text) × (file ≡ None)) (told (program_answer saying text file) (denoted r)).status
+text_six saying file text (Ok p) e =
+    elim (form_six saying text p file (faults_of p) refl) [
       | inl small ↦ inl small
       | inr six ↦ inr (six.0, ((p, ap denoted e, six.1.0), six.1.1))
     ]
-text_six part file text (Err f) e = inl (omega arith)
+text_six saying file text (Err f) e = inl (omega arith)
 
 why_least : (code : ℕ) (entry : Option Entry) → (why_answer code entry).status ≤ 5
 why_least code None = omega arith
 why_least code (Some entry) = omega arith
 
 module _ (files : Contents) where
-  shown_six : (part : Part) (program schedule : List ℕ) (file : Option (List ℕ)) → files program ≡ file
-      → SixIf (LacksFile files (Some (Shown part program schedule))) (file_answer part (files schedule) file).status
-  shown_six part program schedule None e = inr (refl, inl e)
-  shown_six part program schedule (Some text) e =
-      elim (text_six part (files schedule) text (parsed text) refl) [
+  shown_six : (saying : Saying) (program schedule : List ℕ) (file : Option (List ℕ)) → files program ≡ file
+      → SixIf (LacksFile files (Some (Shown saying program schedule))) (file_answer saying (files schedule) file).status
+  shown_six saying program schedule None e = inr (refl, inl e)
+  shown_six saying program schedule (Some text) e =
+      elim (text_six saying (files schedule) text (parsed text) refl) [
         | inl small ↦ inl small
         | inr six ↦ inr (six.0, inr (subst AsksForSchedule (sym e) six.1.0, six.1.1))
       ]
 
   answer_six : (form : Option Form) → SixIf (LacksFile files form) (answer_of files form).status
   answer_six None = inl (omega arith)
-  answer_six (Some (Shown part program schedule)) = shown_six part program schedule (files program) refl
+  answer_six (Some (Shown saying program schedule)) = shown_six saying program schedule (files program) refl
   answer_six (Some (Why code)) = inl (why_least code (entry_of code))
   answer_six (Some (Help topic)) = inl (omega arith)
 

@@ -20,24 +20,36 @@ use Rattle.mr_told.specs.declared.step.ToldStep.{ToldStep}
 use Rattle.mr_told.specs.Table.{start_rows, step_rows}
 use Rattle.mr_telling.specs.declared.telling.Between.{Between}
 use Rattle.mr_telling.specs.Told.{if_between, told_steps}
+use Rattle.mr_arrows.specs.declared.span.Span.{Span}
 use Rattle.mr_listing.specs.Races.{races_text}
 use Rattle.mr_listing.specs.Seen.{Seen}
 use Rattle.mr_listing.specs.Steps.{steps_text}
+use Rattle.mr_picture.specs.Picture.{picture_text}
 use Rattle.mr_show.specs.declared.form.Part.{Part}
-use Rattle.mr_show.specs.declared.form.Part.TheVariants.{Races, Steps}
+use Rattle.mr_show.specs.declared.form.Part.TheVariants.{Picture, Races, Steps}
+use Rattle.mr_show.specs.declared.form.Saying.{Saying}
+use Rattle.mr_show.specs.declared.form.Saying.TheVariants.{Next, OfOrder, OfRun}
 use Rattle.mr_show.specs.declared.form.Topic.{Topic}
 use Rattle.mr_why.specs.Why.{Entry, entry_of, entry_text}
+use Rattle.mr_show.specs.Filled.{order_answer, order_in}
 use Rattle.mr_show.specs.Form.{Form, Help, Shown, Why}
 use Rattle.mr_show.specs.Gathered.{gathered}
 use Rattle.mr_show.specs.Help.{help_text}
+use Rattle.mr_show.specs.Next.{next_answer}
 use Rattle.mr_show.specs.Sentences.{reason_text}
 
 -- ---- what a run tells
+
+-- the steps that are told for a picture: those that are asked for, or all, since the first race isn't known before
+abbrev pub drawn_between : Option Span → Between
+drawn_between None = record { from = 0; to = 2 ^ 22 }
+drawn_between (Some span) = record { from = span.from; to = span.to }
 
 -- the steps that are told for a part: for the races all
 abbrev pub between : Part → Between
 between (Steps from to) = record { from = from; to = to }
 between Races = record { from = 0; to = 2 ^ 22 }
+between (Picture asked) = drawn_between asked
 
 abbrev pub part_steps : Part → Program → Schedule → List ToldStep
 part_steps part p w = flat_map (if_between (between part)) (told_steps p w)
@@ -62,6 +74,7 @@ run_seen part text p w =
 abbrev pub part_text : Part → Seen → List ℕ
 part_text (Steps from to) s = steps_text s ++ reason_text s.verdict
 part_text Races s = races_text s
+part_text (Picture asked) s = picture_text s asked
 
 -- with the status that the report of the run has
 abbrev pub part_answer : Part → Seen → Answer
@@ -69,28 +82,34 @@ part_answer part s = record { text = part_text part s; status = report_status s.
 
 -- the same of the run under a schedule whose text is in a version, or the first rule that the schedule breaks, on its
 -- line of that text
-abbrev pub run_answer : Part → List ℕ → Program → Version → Schedule → Answer
-run_answer part text p v w = told (part_answer part) (unless_broken v w (schedule_fault p w) (run_seen part text p w))
+abbrev pub ran_answer : Part → List ℕ → Program → Version → Schedule → Answer
+ran_answer part text p v w = told (part_answer part) (unless_broken v w (schedule_fault p w) (run_seen part text p w))
 
-abbrev pub read_answer : Part → List ℕ → Program → Read → Answer
-read_answer part text p r = run_answer part text p r.version r.schedule
+-- WHAT IS SAID of the run of the program of a text under the schedule in a file, or of what the order there becomes; or
+-- what refuses the file
+abbrev pub ran_under : Part → List ℕ → Program → Read → Answer
+ran_under part text p r = ran_answer part text p r.version r.schedule
 
--- the same of the run under the schedule in a file, or what refuses that
-abbrev pub answer_under : Part → List ℕ → Option (List ℕ) → Program → Answer
-answer_under part text file p = told (read_answer part text p) (schedule_in file)
+abbrev pub next_under : List ℕ → Program → Read → Answer
+next_under text p r = next_answer text p r.version r.schedule
+
+abbrev pub answer_under : Saying → List ℕ → Option (List ℕ) → Program → Answer
+answer_under (OfRun part) text file p = told (ran_under part text p) (schedule_in file)
+answer_under Next text file p = told (next_under text p) (schedule_in file)
+answer_under (OfOrder filling) text file p = told (order_answer filling p) (order_in file)
 
 -- the same, where the program breaks no rule
-abbrev pub program_answer : Part → List ℕ → Option (List ℕ) → Program → Answer
-program_answer part text file p = form_or p (faults_of p) (answer_under part text file p)
+abbrev pub program_answer : Saying → List ℕ → Option (List ℕ) → Program → Answer
+program_answer saying text file p = form_or p (faults_of p) (answer_under saying text file p)
 
 -- the same of the program that a text denotes, or the text's first fault
-abbrev pub text_answer : Part → Option (List ℕ) → List ℕ → Answer
-text_answer part file text = told (program_answer part text file) (denoted (parsed text))
+abbrev pub text_answer : Saying → Option (List ℕ) → List ℕ → Answer
+text_answer saying file text = told (program_answer saying text file) (denoted (parsed text))
 
 -- the same of the text in a file
-abbrev pub file_answer : Part → Option (List ℕ) → Option (List ℕ) → Answer
-file_answer part schedule None = refused refusal.ReadProgram
-file_answer part schedule (Some text) = text_answer part schedule text
+abbrev pub file_answer : Saying → Option (List ℕ) → Option (List ℕ) → Answer
+file_answer saying schedule None = refused refusal.ReadProgram
+file_answer saying schedule (Some text) = text_answer saying schedule text
 
 -- ---- the answer
 
@@ -116,11 +135,17 @@ why_answer code (Some entry) = said_answer entry
 
 -- what words of no form are told
 abbrev pub usage : Answer
-usage = record { text = line (codes "usage: steps P S [FIRST LAST] | races P S | why CODE | --help"); status = 2 }
+usage = record {
+  text = line (
+      codes "usage: steps P S [FIRST LAST] | races P S | picture P S [FIRST LAST] | next P S | "
+      ++ codes "fill P O | halt P O | why CODE | --help"
+      );
+  status = 2;
+}
 
 -- THE ANSWER to a form over these files; words of no form are told the usage
 abbrev pub answer_of : Contents → Option Form → Answer
 answer_of files None = usage
-answer_of files (Some (Shown part program schedule)) = file_answer part (files schedule) (files program)
+answer_of files (Some (Shown saying program schedule)) = file_answer saying (files schedule) (files program)
 answer_of files (Some (Why code)) = why_answer code (entry_of code)
 answer_of files (Some (Help topic)) = help_answer topic

@@ -2,16 +2,26 @@
 use Rattle.std.specs.Prelude.{ℕ, List, ◌++◌, codes}
 use Rattle.mr_report.specs.Report.{line}
 use Rattle.mr_show.specs.declared.form.Topic.{Topic}
-use Rattle.mr_show.specs.declared.form.Topic.TheVariants.{Everything, OfRaces, OfSteps, OfWhy}
+use Rattle.mr_show.specs.declared.form.Topic.TheVariants.{Everything, OfFill, OfNext, OfPicture, OfRaces, OfSteps, OfWhy}
 
 -- with each form
 abbrev pub help_text : Topic → List ℕ
 help_text Everything =
     line (codes "mirace_show steps P S [FIRST LAST]   the steps of a run, each at its place in the program's text")
     ++ line (codes "mirace_show races P S                the races of a run by pairs of places")
+    ++ line (codes "mirace_show picture P S [FIRST LAST] a picture of a run, as an SVG document")
+    ++ line (
+    codes "mirace_show next P S                 what each thread would do next, or the "
+    ++ codes "entry that breaks a rule"
+    )
+    ++ line (codes "mirace_show fill P O                 the schedule that an order of threads becomes")
+    ++ line (codes "mirace_show halt P O                 where that order can't go on")
     ++ line (codes "mirace_show why CODE                 what is said of a code of a rule, a fault or a reason")
-    ++ line (codes "P is the file of a program, and S that of a schedule.")
-    ++ line (codes "With --help behind one of the words steps, races and why it tells more.")
+    ++ line (codes "P is the file of a program, S that of a schedule, and O that of an order.")
+    ++ line (
+    codes "With --help behind one of the words steps, races, picture, next, fill, halt "
+    ++ codes "and why it tells more."
+    )
 help_text OfSteps =
     line (codes "mirace_show steps P S [FIRST LAST]")
     ++ line (
@@ -42,6 +52,50 @@ help_text OfRaces =
     codes "which steps race, those with most races first, with how many races there are "
     ++ codes "and the steps of the first."
     )
+help_text OfPicture =
+    line (codes "mirace_show picture P S [FIRST LAST]")
+    ++ line (
+    codes "Runs the program in file P under the schedule in file S, and writes a picture of "
+    ++ codes "the run as an SVG document:"
+    )
+    ++ line (
+    codes "a lane for each thread, its steps from above to below, arrows for what happens "
+    ++ codes "before what, and the races."
+    )
+    ++ line (codes "With FIRST and LAST those steps are drawn, and else those about the first race; 500 at most.")
+help_text OfNext =
+    line (codes "mirace_show next P S")
+    ++ line (
+    codes "Runs the program in file P under the schedule in file S, up to its end or to "
+    ++ codes "the first entry that breaks a"
+    )
+    ++ line (
+    codes "rule. Of such an entry it writes the rule, the picks, and the one by which the "
+    ++ codes "rule is broken. Behind that"
+    )
+    ++ line (
+    codes "stands of each thread where it is, whether it can go on, what its next step "
+    ++ codes "asks for, and what it waits for."
+    )
+help_text OfFill =
+    line (codes "mirace_show fill P O | halt P O")
+    ++ line (
+    codes "Writes the schedule of the program in file P whose steps are of the threads of "
+    ++ codes "the order in file O, with"
+    )
+    ++ line (
+    codes "addresses that are found for it. An order is numbers of threads between blanks "
+    ++ codes "and line ends: T is a turn"
+    )
+    ++ line (
+    codes "of thread T, T*N so many, and in T>W thread W gets the lock that the step gives "
+    ++ codes "up. A # begins a comment."
+    )
+    ++ line (
+    codes "The schedule ends where the order can't go on. Then the status is 1, and "
+    ++ codes "halt with the same files tells the"
+    )
+    ++ line (codes "line of the order and the rule that its turn would break.")
 help_text OfWhy =
     line (codes "mirace_show why CODE")
     ++ line (

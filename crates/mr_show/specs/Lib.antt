@@ -1,8 +1,11 @@
 pub mod Answer
 pub mod Answering
+pub mod Filled
 pub mod Form
 pub mod Gathered
 pub mod Help
+pub mod Next
 pub mod Outcome
+pub mod Reached
 pub mod Sentences
 pub mod Unread

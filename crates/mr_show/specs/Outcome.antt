@@ -12,7 +12,7 @@ use Rattle.mr_show.specs.Form.{Form, Help, Shown, Why}
 
 -- A read failed, which is counted: that of the program, or that of the schedule behind a program that breaks no rule.
 abbrev pub IsUnread : Contents → Form → Answer → Type 0
-IsUnread files (Shown part program schedule) a =
+IsUnread files (Shown saying program schedule) a =
     (a ≡ refused refusal.ReadProgram)
     ⊎ ((p : Program) × (program_in (files program) ≡ Ok p) × (faults_of p ≡ []) × (a ≡ refused refusal.ReadSchedule))
 IsUnread files (Why code) a = ⊥
@@ -34,7 +34,7 @@ Ends files (Some form) files_rose out_rose old new status =
 
 -- the same form over two files, named `program` and `schedule`
 abbrev pub over_holding : Form → Form
-over_holding (Shown part program schedule) = Shown part (codes "program") (codes "schedule")
+over_holding (Shown saying program schedule) = Shown saying (codes "program") (codes "schedule")
 over_holding (Why code) = Why code
 over_holding (Help topic) = Help topic
 

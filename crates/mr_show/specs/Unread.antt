@@ -8,7 +8,7 @@ use Rattle.mr_show.specs.Form.{Form, Help, Shown, Why}
 -- rule.
 abbrev pub LacksFile : Contents → Option Form → Type 0
 LacksFile files None = ⊥
-LacksFile files (Some (Shown part program schedule)) =
+LacksFile files (Some (Shown saying program schedule)) =
     (files program ≡ None) ⊎ (AsksForSchedule (files program) × (files schedule ≡ None))
 LacksFile files (Some (Why code)) = ⊥
 LacksFile files (Some (Help topic)) = ⊥

@@ -36,10 +36,10 @@ pub(crate) fn answer<F: Files>(
 {
     match form {
         Form::Shown {
-            part,
+            saying,
             program,
             schedule,
-        } => shown_file(alloc, files, part, program, schedule),
+        } => shown_file(alloc, files, saying, program, schedule),
         Form::Why { code } => explained(alloc, code),
         Form::Help { topic } => help(alloc, topic),
     }

@@ -7,9 +7,13 @@ use crate::form::Topic;
 const EVERYTHING: &[u8] = b"\
 mirace_show steps P S [FIRST LAST]   the steps of a run, each at its place in the program's text
 mirace_show races P S                the races of a run by pairs of places
+mirace_show picture P S [FIRST LAST] a picture of a run, as an SVG document
+mirace_show next P S                 what each thread would do next, or the entry that breaks a rule
+mirace_show fill P O                 the schedule that an order of threads becomes
+mirace_show halt P O                 where that order can't go on
 mirace_show why CODE                 what is said of a code of a rule, a fault or a reason
-P is the file of a program, and S that of a schedule.
-With --help behind one of the words steps, races and why it tells more.
+P is the file of a program, S that of a schedule, and O that of an order.
+With --help behind one of the words steps, races, picture, next, fill, halt and why it tells more.
 ";
 
 const OF_STEPS: &[u8] = b"\
@@ -28,6 +32,29 @@ Runs the program in file P under the schedule in file S, and writes a line for e
 which steps race, those with most races first, with how many races there are and the steps of the first.
 ";
 
+const OF_PICTURE: &[u8] = b"\
+mirace_show picture P S [FIRST LAST]
+Runs the program in file P under the schedule in file S, and writes a picture of the run as an SVG document:
+a lane for each thread, its steps from above to below, arrows for what happens before what, and the races.
+With FIRST and LAST those steps are drawn, and else those about the first race; 500 at most.
+";
+
+const OF_NEXT: &[u8] = b"\
+mirace_show next P S
+Runs the program in file P under the schedule in file S, up to its end or to the first entry that breaks a
+rule. Of such an entry it writes the rule, the picks, and the one by which the rule is broken. Behind that
+stands of each thread where it is, whether it can go on, what its next step asks for, and what it waits for.
+";
+
+const OF_FILL: &[u8] = b"\
+mirace_show fill P O | halt P O
+Writes the schedule of the program in file P whose steps are of the threads of the order in file O, with
+addresses that are found for it. An order is numbers of threads between blanks and line ends: T is a turn
+of thread T, T*N so many, and in T>W thread W gets the lock that the step gives up. A # begins a comment.
+The schedule ends where the order can't go on. Then the status is 1, and halt with the same files tells the
+line of the order and the rule that its turn would break.
+";
+
 const OF_WHY: &[u8] = b"\
 mirace_show why CODE
 Writes what is said of the rule, the fault or the reason of undefined behaviour that has this number: its
@@ -42,6 +69,9 @@ pub(crate) fn help_text(topic: Topic) -> &'static [u8]
         Topic::Everything => EVERYTHING,
         Topic::OfSteps => OF_STEPS,
         Topic::OfRaces => OF_RACES,
+        Topic::OfPicture => OF_PICTURE,
+        Topic::OfNext => OF_NEXT,
+        Topic::OfFill => OF_FILL,
         Topic::OfWhy => OF_WHY,
     }
 }

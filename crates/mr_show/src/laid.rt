@@ -1,5 +1,6 @@
 //! The text of a part of a run, from what its steps tell.
-ghost use Rattle.std.specs.Prelude.{◌≡◌, ◌++◌, Ok, IfOk};
+ghost use Rattle.std.specs.Prelude.{◌≡◌, ◌<◌, ◌^◌, ◌++◌, Ok, IfOk, length};
+ghost use Rattle.mr_clocks.specs.Tracked.{Tracks};
 ghost use Rattle.mr_grammar.specs.Parsing.{parsed};
 ghost use Rattle.mr_input.specs.Answer.{IsStatus, seen as written_as};
 ghost use Rattle.mr_listing.specs.Seen.{seen};
@@ -12,8 +13,10 @@ use crate::form::Part;
 use crate::placed::places_of;
 use crate::sentences::push_reason;
 use mr_answer::{lines_of, status_of};
+use mr_clocks::Analysis;
 use mr_input::Written;
 use mr_listing::{Shown, races, steps};
+use mr_picture::picture;
 use mr_run::Clocked;
 use mr_step::Machine;
 use mr_telling::rests;
@@ -34,7 +37,9 @@ pub(crate) fn laid(
     rows: Vec<Allocation>,
     told: &[ToldStep],
 ) -> Result<Written, AllocError>
-    requires { parsed text.now ≡ Ok p.now }
+    requires parsed { parsed text.now ≡ Ok p.now }
+    requires count { count < 2 ^ 32 }
+    requires feet { length kept.now < 2 ^ 32 }
     ensures answer { IfOk result (λ a. written_as a ≡ part_answer part
         (gathered text.now p.now machine.now.config count rows.items told.now kept.now)) }
     ensures status { IfOk result (λ a. IsStatus a.status) }
@@ -57,15 +62,23 @@ pub(crate) fn laid(
         verdict: machine.verdict(),
         rests: rests.as_slice(),
     };
-    written(alloc, part, &shown)
+    written(alloc, part, &shown, kept.order())
 }
 
 // The text of a part of what is shown, with the status of the run.
-fn written(alloc: Global, part: Part, shown: &Shown<'_>) -> Result<Written, AllocError>
+fn written(
+    alloc: Global,
+    part: Part,
+    shown: &Shown<'_>,
+    order: &Analysis,
+) -> Result<Written, AllocError>
+    requires count { (seen shown.now).count < 2 ^ 32 }
+    requires feet { length (seen shown.now).feet < 2 ^ 32 }
+    requires tracks { Tracks order.now (seen shown.now).feet }
     ensures answer { IfOk result (λ a. written_as a ≡ part_answer part (seen shown.now)) }
     ensures status { IfOk result (λ a. IsStatus a.status) }
 {
-    let text = text_of(alloc, part, shown)?;
+    let text = text_of(alloc, part, shown, order)?;
     Ok(Written {
         text,
         status: status_of(shown.verdict, shown.races),
@@ -82,11 +95,20 @@ fn steps_of(alloc: Global, shown: &Shown<'_>) -> Result<Vec<u8>, AllocError>
 }
 
 // The text of a part.
-fn text_of(alloc: Global, part: Part, shown: &Shown<'_>) -> Result<Vec<u8>, AllocError>
+fn text_of(
+    alloc: Global,
+    part: Part,
+    shown: &Shown<'_>,
+    order: &Analysis,
+) -> Result<Vec<u8>, AllocError>
+    requires count { (seen shown.now).count < 2 ^ 32 }
+    requires feet { length (seen shown.now).feet < 2 ^ 32 }
+    requires tracks { Tracks order.now (seen shown.now).feet }
     ensures { IfOk result (λ text. text.items ≡ part_text part (seen shown.now)) }
 {
     match part {
         Part::Steps { from: _, to: _ } => steps_of(alloc, shown),
         Part::Races => races(alloc, shown),
+        Part::Picture { asked } => picture(alloc, shown, order, asked),
     }
 }

@@ -1,11 +1,11 @@
 //! The body of `mirace_show`'s top call: a run as people read it.
 //!
-//! - [`mirace_show`]: does what the words ask for: `steps P S [FIRST LAST]`, `races P S`, `why CODE` or `--help`. Over
-//!   files that tell what they hold: what is written is the answer by definition (`specs/Answer.antt`), or a read failed,
-//!   which the files counted, or memory ran out before anything was written. Of a program and a legal schedule of it the
-//!   answer is the text of its run (`mr_listing`): of the machine's steps, each at its place in the program's text, or of
-//!   its races; of a code it is what is said of the rule or the reason (`mr_why`). Over other files there are texts of
-//!   which the same holds.
+//! - [`mirace_show`]: does what the words ask for: `steps P S [FIRST LAST]`, `races P S`, `picture P S [FIRST LAST]`,
+//!   `next P S`, `fill P O`, `halt P O`, `why CODE` or `--help`. Over files that tell what they hold: what is written is
+//!   the answer by definition (`specs/Answer.antt`), or a read failed, which the files counted, or memory ran out before
+//!   anything was written. Of a program and a legal schedule of it the answer is the text of its run (`mr_listing`): of the
+//!   machine's steps, each at its place in the program's text, or of its races; or its picture (`mr_picture`); of a code
+//!   it is what is said of the rule or the reason (`mr_why`). Over other files there are texts of which the same holds.
 //!
 //! Files, refusals and the writing of an answer are those of `mirace` (`mr_input`), and so are the lines of broken rules
 //! and the status of a run (`mr_answer`).
@@ -21,9 +21,11 @@ ghost use Rattle.mr_show.specs.Outcome.{Ends, EndsOverTexts};
 ghost use Rattle.mr_show.specs.Unread.{IsUnreadBecause};
 
 mod answer;
+mod filled;
 mod form;
 mod help;
 mod laid;
+mod next;
 mod placed;
 mod sentences;
 mod shown;
@@ -34,7 +36,10 @@ use mr_input::{finish, refuse};
 use mr_io::{Files, Sink};
 use std::alloc::Global;
 
-const USAGE: &[u8] = b"usage: steps P S [FIRST LAST] | races P S | why CODE | --help\n";
+const USAGE: &[u8] = b"\
+usage: steps P S [FIRST LAST] | races P S | picture P S [FIRST LAST] | next P S | fill P O | halt P O | why CODE \
+| --help
+";
 
 /// Does what the words behind the program's name ask for, and answers the exit status: that of the run's report, or that
 /// of what refuses it, as `mirace` answers them; 2 of words without a form.

@@ -1,17 +1,20 @@
-//! A part of the run of the program in one file under the schedule in another.
+//! What is said of the run of the program in one file under the schedule in another.
 ghost use Rattle.std.specs.Prelude.{◌≡◌, ℕ, ◌+◌, ◌^◌, ◌≤◌, List, None, Some, Ok, IfOk, length};
 ghost use Rattle.mr_ast.specs.Shaped.{Shaped};
 ghost use Rattle.mr_io.specs.Counts.{Rose};
 ghost use Rattle.mr_io.specs.Files.{Contents};
 ghost use Rattle.mr_grammar.specs.Parsing.{parsed};
-ghost use Rattle.mr_input.specs.Answer.{IsStatus, Tells, TellsOrUnread};
-ghost use Rattle.mr_input.specs.Inputs.{IsUnreadFault};
-ghost use Rattle.mr_show.specs.Answer.{answer_under, between, first_rows, run_answer};
+ghost use Rattle.mr_input.specs.Answer.{IsStatus, Tells, TellsOrUnread, told};
+ghost use Rattle.mr_input.specs.Inputs.{IsUnreadFault, schedule_in};
+ghost use Rattle.mr_show.specs.Answer.{answer_under, between, drawn_between, first_rows, next_under, ran_answer, ran_under};
 ghost use Rattle.mr_show.specs.Answering.{IsOfFile, IsOfProgram, IsOfText};
 
-use crate::form::{ALL, Part};
+use crate::filled::filled_file;
+use crate::form::{ALL, Part, Saying};
 use crate::laid::laid;
+use crate::next::next_run;
 use mr_answer::refusal_of;
+use mr_arrows::Span;
 use mr_ast::Program;
 use mr_input::{Refusal, Written, answered, form_answer, program_of, read_schedule, read_text};
 use mr_io::Files;
@@ -23,11 +26,11 @@ use mr_told::{Allocation, start_rows};
 use mr_wf::{Checked, WfFault, well_formed};
 use std::alloc::{AllocError, Global};
 
-/// A part of the run of the program in a file under the schedule in another.
+/// What is said of the run of the program in a file under the schedule in another.
 pub(crate) fn shown_file<F: Files>(
     alloc: Global,
     files: &mut F,
-    part: Part,
+    saying: Saying,
     program: &str,
     schedule: &str,
 ) -> Result<Written, Refusal>
@@ -35,16 +38,16 @@ pub(crate) fn shown_file<F: Files>(
     ensures reads { F.reads files.new ≤ F.reads files.old + 2 }
     ensures faults { F.faults files.old ≤ F.faults files.new }
     ensures answer { (contents : Contents) → F.told files.old ≡ Some contents
-        → IsOfFile (Rose (F.faults files.old) (F.faults files.new)) part (contents schedule.now)
+        → IsOfFile (Rose (F.faults files.old) (F.faults files.new)) saying (contents schedule.now)
         (contents program.now) result }
     ensures status { IfOk result (λ a. IsStatus a.status) }
     ensures texts { F.told files.old ≡ None → (program : List ℕ) × (schedule : List ℕ)
-        × IsOfFile (Rose (F.faults files.old) (F.faults files.new)) part (Some schedule) (Some program) result }
+        × IsOfFile (Rose (F.faults files.old) (F.faults files.new)) saying (Some schedule) (Some program) result }
     ensures untold { F.told files.old ≡ None → IsUnreadFault result
         → Rose (F.faults files.old) (F.faults files.new) }
 {
     match read_text(alloc, files, program) {
-        Ok(text) => shown_text(alloc, files, part, text.as_slice(), schedule),
+        Ok(text) => shown_text(alloc, files, saying, text.as_slice(), schedule),
         Err(refusal) => Err(refusal),
     }
 }
@@ -53,7 +56,7 @@ pub(crate) fn shown_file<F: Files>(
 fn shown_text<F: Files>(
     alloc: Global,
     files: &mut F,
-    part: Part,
+    saying: Saying,
     text: &[u8],
     schedule: &str,
 ) -> Result<Written, Refusal>
@@ -61,15 +64,15 @@ fn shown_text<F: Files>(
     ensures reads { F.reads files.new ≤ F.reads files.old + 1 }
     ensures faults { F.faults files.old ≤ F.faults files.new }
     ensures answer { (contents : Contents) → F.told files.old ≡ Some contents
-        → IsOfText (Rose (F.faults files.old) (F.faults files.new)) part (contents schedule.now) text.now result }
+        → IsOfText (Rose (F.faults files.old) (F.faults files.new)) saying (contents schedule.now) text.now result }
     ensures status { IfOk result (λ a. IsStatus a.status) }
     ensures texts { F.told files.old ≡ None → (schedule : List ℕ)
-        × IsOfText (Rose (F.faults files.old) (F.faults files.new)) part (Some schedule) text.now result }
+        × IsOfText (Rose (F.faults files.old) (F.faults files.new)) saying (Some schedule) text.now result }
     ensures untold { F.told files.old ≡ None → IsUnreadFault result
         → Rose (F.faults files.old) (F.faults files.new) }
 {
     match program_of(alloc, text) {
-        Ok(p) => shown_program(alloc, files, part, text, p, schedule),
+        Ok(p) => shown_program(alloc, files, saying, text, p, schedule),
         Err(refusal) => Err(refusal),
     }
 }
@@ -79,7 +82,7 @@ fn shown_text<F: Files>(
 fn shown_program<F: Files>(
     alloc: Global,
     files: &mut F,
-    part: Part,
+    saying: Saying,
     text: &[u8],
     p: Program,
     schedule: &str,
@@ -90,23 +93,53 @@ fn shown_program<F: Files>(
     ensures reads { F.reads files.new ≤ F.reads files.old + 1 }
     ensures faults { F.faults files.old ≤ F.faults files.new }
     ensures answer { (contents : Contents) → F.told files.old ≡ Some contents
-        → IsOfProgram (Rose (F.faults files.old) (F.faults files.new)) part text.now (contents schedule.now) p
+        → IsOfProgram (Rose (F.faults files.old) (F.faults files.new)) saying text.now (contents schedule.now) p
         result }
     ensures status { IfOk result (λ a. IsStatus a.status) }
     ensures texts { F.told files.old ≡ None → (schedule : List ℕ)
-        × IsOfProgram (Rose (F.faults files.old) (F.faults files.new)) part text.now (Some schedule) p result }
+        × IsOfProgram (Rose (F.faults files.old) (F.faults files.new)) saying text.now (Some schedule) p result }
     ensures untold { F.told files.old ≡ None → IsUnreadFault result
         → Rose (F.faults files.old) (F.faults files.new) }
 {
     match well_formed(alloc, p) {
-        Ok(checked) => shown_schedule(alloc, files, part, text, &checked, schedule),
+        Ok(checked) => shown_schedule(alloc, files, saying, text, &checked, schedule),
         Err(WfFault::Form { fault, program }) => form_answer(alloc, &program, fault),
         Err(WfFault::Memory) => Err(Refusal::Memory),
     }
 }
 
-// The same of the run of a program under the schedule in a file.
+// The same of the run of a program under the schedule in a file, or of what the order there becomes.
 fn shown_schedule<F: Files>(
+    alloc: Global,
+    files: &mut F,
+    saying: Saying,
+    text: &[u8],
+    p: &Checked,
+    schedule: &str,
+) -> Result<Written, Refusal>
+    requires { parsed text.now ≡ Ok p.now }
+    ensures same { F.told files.new ≡ F.told files.old }
+    ensures reads { F.reads files.new ≤ F.reads files.old + 1 }
+    ensures faults { F.faults files.old ≤ F.faults files.new }
+    ensures answer { (contents : Contents) → F.told files.old ≡ Some contents
+        → TellsOrUnread (Rose (F.faults files.old) (F.faults files.new))
+        (answer_under saying text.now (contents schedule.now) p.now) result }
+    ensures status { IfOk result (λ a. IsStatus a.status) }
+    ensures texts { F.told files.old ≡ None → (schedule : List ℕ)
+        × TellsOrUnread (Rose (F.faults files.old) (F.faults files.new))
+        (answer_under saying text.now (Some schedule) p.now) result }
+    ensures untold { F.told files.old ≡ None → IsUnreadFault result
+        → Rose (F.faults files.old) (F.faults files.new) }
+{
+    match saying {
+        Saying::OfRun(part) => ran_file(alloc, files, part, text, p, schedule),
+        Saying::Next => next_file(alloc, files, text, p, schedule),
+        Saying::OfOrder(filling) => filled_file(alloc, files, filling, p, schedule),
+    }
+}
+
+// A part of the run of a program under the schedule in a file.
+fn ran_file<F: Files>(
     alloc: Global,
     files: &mut F,
     part: Part,
@@ -120,17 +153,58 @@ fn shown_schedule<F: Files>(
     ensures faults { F.faults files.old ≤ F.faults files.new }
     ensures answer { (contents : Contents) → F.told files.old ≡ Some contents
         → TellsOrUnread (Rose (F.faults files.old) (F.faults files.new))
-        (answer_under part text.now (contents schedule.now) p.now) result }
+        (told (ran_under part text.now p.now) (schedule_in (contents schedule.now))) result }
     ensures status { IfOk result (λ a. IsStatus a.status) }
     ensures texts { F.told files.old ≡ None → (schedule : List ℕ)
         × TellsOrUnread (Rose (F.faults files.old) (F.faults files.new))
-        (answer_under part text.now (Some schedule) p.now) result }
+        (told (ran_under part text.now p.now) (schedule_in (Some schedule))) result }
     ensures untold { F.told files.old ≡ None → IsUnreadFault result
         → Rose (F.faults files.old) (F.faults files.new) }
 {
     match read_schedule(alloc, files, schedule) {
-        Ok(read) => shown_run(alloc, part, text, p, read.version, &read.schedule),
+        Ok(read) => ran(alloc, part, text, p, read.version, &read.schedule),
         Err(refusal) => Err(refusal),
+    }
+}
+
+// How the run of a program can go on under the schedule in a file.
+fn next_file<F: Files>(
+    alloc: Global,
+    files: &mut F,
+    text: &[u8],
+    p: &Checked,
+    schedule: &str,
+) -> Result<Written, Refusal>
+    requires { parsed text.now ≡ Ok p.now }
+    ensures same { F.told files.new ≡ F.told files.old }
+    ensures reads { F.reads files.new ≤ F.reads files.old + 1 }
+    ensures faults { F.faults files.old ≤ F.faults files.new }
+    ensures answer { (contents : Contents) → F.told files.old ≡ Some contents
+        → TellsOrUnread (Rose (F.faults files.old) (F.faults files.new))
+        (told (next_under text.now p.now) (schedule_in (contents schedule.now))) result }
+    ensures status { IfOk result (λ a. IsStatus a.status) }
+    ensures texts { F.told files.old ≡ None → (schedule : List ℕ)
+        × TellsOrUnread (Rose (F.faults files.old) (F.faults files.new))
+        (told (next_under text.now p.now) (schedule_in (Some schedule))) result }
+    ensures untold { F.told files.old ≡ None → IsUnreadFault result
+        → Rose (F.faults files.old) (F.faults files.new) }
+{
+    match read_schedule(alloc, files, schedule) {
+        Ok(read) => next_run(alloc, text, p, read.version, &read.schedule),
+        Err(refusal) => Err(refusal),
+    }
+}
+
+// The steps that are told for a picture: those that are asked for, or all.
+fn drawn_between(asked: Option<Span>) -> Between
+    ensures { result ≡ drawn_between asked }
+{
+    match asked {
+        None => Between { from: 0, to: ALL },
+        Some(span) => Between {
+            from: span.from,
+            to: span.to,
+        },
     }
 }
 
@@ -141,6 +215,7 @@ fn between(part: Part) -> Between
     match part {
         Part::Steps { from, to } => Between { from, to },
         Part::Races => Between { from: 0, to: ALL },
+        Part::Picture { asked } => drawn_between(asked),
     }
 }
 
@@ -152,8 +227,8 @@ fn first_rows(alloc: Global, p: &Checked, picks: &[u64]) -> Result<Vec<Allocatio
     start_rows(alloc, p.program(), asks.as_slice(), picks)
 }
 
-// The same of the run of a program under a schedule whose text is in a version.
-fn shown_run(
+// The text of a part of the run of a program under a schedule whose text is in a version.
+fn ran(
     alloc: Global,
     part: Part,
     text: &[u8],
@@ -163,7 +238,7 @@ fn shown_run(
 ) -> Result<Written, Refusal>
     requires few { length w.now.entries ≤ 2 ^ 22 }
     requires parsed { parsed text.now ≡ Ok p.now }
-    ensures answer { Tells (run_answer part text.now p.now v w.now) result }
+    ensures answer { Tells (ran_answer part text.now p.now v w.now) result }
     ensures status { IfOk result (λ a. IsStatus a.status) }
     ensures read { ¬ IsUnreadFault result }
 {

@@ -42,6 +42,27 @@ verdict exit
 races 0
 = 0";
 
+// In front of the first statement, which asks for an address; and one that is none.
+const NO_ENTRY: &str = "schedule 1
+start 16 4096
+";
+
+const ADDRESS_0: &str = "schedule 1
+start 16 4096
+0 0
+";
+
+const ASKS: &str = "thread 0 can go on; its next step is 5:3  main start  live x
+        asks for address, size 1, align 1, for local x
+= 0";
+
+const NO_ADDRESS: &str = "entry 1 of thread 0 breaks 63 BadAddress: An address may not be picked.
+        picks 0
+        by the pick 0
+thread 0 can go on; its next step is 5:3  main start  live x
+        asks for address, size 1, align 1, for local x
+= 1";
+
 // Most of a program on one line, a block's head on three, and a statement of 60 bytes and one of 61.
 const ON_A_LINE: &str = "minirust 1 fn main() -> r { let r: unit, x: u8; start
 regular
@@ -119,8 +140,10 @@ races 4
 = 1";
 
 // A program, a schedule, words, and what is written of them, with the status.
-static CASES: [(&str, &str, &str, &str); 4] = [
+static CASES: [(&str, &str, &str, &str); 6] = [
     (LAID, ONE_THREAD, "steps P S", LAID_STEPS),
+    (LAID, NO_ENTRY, "next P S", ASKS),
+    (LAID, ADDRESS_0, "next P S", NO_ADDRESS),
     (ON_A_LINE, ONE_THREAD, "steps P S", SIX_STEPS),
     (STORES, IN_TURN, "races P S", STORES_RACES),
     (STORES, IN_TURN, "steps P S 10 12", STORES_STEPS),

@@ -13,7 +13,9 @@ const SCHEDULE: &str = "schedule 1\nstart 16 4096\n0\n";
 // The machine has stopped before the second entry.
 const TOO_FAR: &str = "schedule 1\nstart 16 4096\n0\n0\n";
 
-const USAGE: &str = "usage: steps P S [FIRST LAST] | races P S | why CODE | --help\n= 2";
+const USAGE: &str =
+    "usage: steps P S [FIRST LAST] | races P S | picture P S [FIRST LAST] | next P S | fill P O \
+    | halt P O | why CODE | --help\n= 2";
 
 const CODE_2: &str = "2 BadNumber
 A number is written in a way that numbers aren't.
@@ -25,6 +27,16 @@ example: do print(u8 042) to b1;
 
 const EXITS: &str =
     "1  thread 0  4:13  main b0  exit\nstep 1 ended the run\nverdict exit\nraces 0\n= 0";
+
+const NO_ENTRY: &str = "schedule 1\nstart 16 4096\n";
+
+const ENTERED: &str = "thread 0 can go on; its next step is 4:13  main b0  exit\n= 0";
+
+const ONE_TOO_MANY: &str =
+    "entry 2 of thread 0 breaks 66 AfterStop: The machine had stopped before this entry.
+        no pick
+the run has ended
+= 1";
 
 const NO_STEP: &str = "step 1 ended the run\nverdict exit\nraces 0\n= 0";
 
@@ -65,8 +77,35 @@ static REFUSED: [(&str, &str, &str, &str); 5] = [
     (EXIT, EXIT, "steps P S", "schedule 1 50 BadHeader\n= 5"),
 ];
 
+// A program, a schedule, words of `next`, and what is written of them, with the status.
+static PROSPECTS: [(&str, &str, &str, &str); 4] = [
+    (EXIT, SCHEDULE, "next P S", "the run has ended\n= 0"),
+    (EXIT, NO_ENTRY, "next P S", ENTERED),
+    (EXIT, TOO_FAR, "next P S", ONE_TOO_MANY),
+    (EXIT, SCHEDULE, "next P Q", "read schedule\n= 6"),
+];
+
+// A program, an order, words of `fill` and `halt`, and what is written of them, with the status.
+static ORDERS: [(&str, &str, &str, &str); 5] = [
+    (
+        EXIT,
+        "0 0\n",
+        "halt P S",
+        "# line 1 can't go on: 66 AfterStop\n= 1",
+    ),
+    (EXIT, "\t0 # once\r\n", "halt P S", "= 0"),
+    (EXIT, "0\n0*x\n", "fill P S", "schedule 2 51 BadLine\n= 5"),
+    (EXIT, "", "fill P Q", "read schedule\n= 6"),
+    (
+        ILL_FORMED,
+        "",
+        "halt P S",
+        "form main b0 0 32 BlockKind\n= 4",
+    ),
+];
+
 // Words of no form.
-static FORMLESS: [&str; 13] = [
+static FORMLESS: [&str; 16] = [
     "",
     "steps",
     "steps P",
@@ -75,8 +114,11 @@ static FORMLESS: [&str; 13] = [
     "steps P S 1 4294967296",
     "steps P S 01 2",
     "races P S 1 2",
+    "picture P S 1",
     "run P S",
     "--helps",
+    "next P",
+    "fill P",
     "why",
     "why 65536",
     "whys 66",
@@ -104,6 +146,24 @@ fn words_are_answered(rt: HostRuntime) -> Result<(), Fail> {
 fn words_are_refused(rt: HostRuntime) -> Result<(), Fail> {
     for (program, schedule, line, wanted) in REFUSED {
         let said = told(rt.alloc(), program, schedule, line)?;
+        assert_eq!(rt; said.as_str(), wanted, "{line}");
+    }
+    Ok(())
+}
+
+#[test]
+fn prospects_are_told(rt: HostRuntime) -> Result<(), Fail> {
+    for (program, schedule, line, wanted) in PROSPECTS {
+        let said = told(rt.alloc(), program, schedule, line)?;
+        assert_eq!(rt; said.as_str(), wanted, "{line}");
+    }
+    Ok(())
+}
+
+#[test]
+fn orders_are_filled(rt: HostRuntime) -> Result<(), Fail> {
+    for (program, order, line, wanted) in ORDERS {
+        let said = told(rt.alloc(), program, order, line)?;
         assert_eq!(rt; said.as_str(), wanted, "{line}");
     }
     Ok(())

@@ -1,9 +1,21 @@
-use Rattle.std.proofs.Common.{◌≡◌, ◌∙◌, ap}
-use Rattle.std.proofs.lemmas.Result.{IfOk-weaker}
+use Rattle.std.proofs.Common.{◌≡◌, ◌<◌, ◌^◌, ◌∙◌, List, length, subst, sym}
+use Rattle.std.specs.Prelude.{IfOk}
+use Rattle.mr_clocks.specs.Tracked.{Tracks}
+use Rattle.mr_event.specs.Footprint.{Footprint}
+use Rattle.mr_input.specs.declared.written.Written.{Written}
+use Rattle.mr_input.specs.Answer.{seen as written_as}
 use Rattle.mr_listing.specs.Seen.{Seen}
 use Rattle.mr_show.specs.Answer.{part_answer}
 use Rattle.mr_show.specs.Gathered.{gathered}
 use Rattle.mr_show.proofs.laid.laid.Goals as goal
+
+pub written-requires-clause-feet : goal.written-requires-clause-feet
+written-requires-clause-feet c =
+    subst (λ (feet : List Footprint). length feet < 2 ^ 32) (sym c.steps.ensures) c.requires.feet
+
+pub written-requires-clause-tracks : goal.written-requires-clause-tracks
+written-requires-clause-tracks c =
+    subst (λ (feet : List Footprint). Tracks c.order.result.now feet) (sym c.steps.ensures) c.order.ensures
 
 pub returns-clause-answer : goal.returns-clause-answer
 returns-clause-answer c =
@@ -38,4 +50,5 @@ returns-clause-answer c =
       verdict = c.verdict.ensures i;
       rests = rests i;
     }) in
-    IfOk-weaker c.written.result _ _ (λ a h. h ∙ ap (part_answer c.args.part) same) c.written.ensures.answer
+    subst (λ (s : Seen). IfOk c.written.result (λ (a : Written). written_as a ≡ part_answer c.args.part s)) same
+    c.written.ensures.answer

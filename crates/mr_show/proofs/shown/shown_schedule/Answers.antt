@@ -1,15 +1,19 @@
-use Rattle.std.proofs.Common.{inl, subst, sym}
-use Rattle.std.specs.Prelude.{Result}
-use Rattle.mr_sched.specs.declared.version.Read.{Read}
-use Rattle.mr_input.specs.declared.refusal.Refusal.{Refusal}
-use Rattle.mr_input.specs.Answer.{Tells, told}
-use Rattle.mr_input.proofs.InputLaws.{was_read}
-use Rattle.mr_show.specs.Answer.{read_answer}
 use Rattle.mr_show.proofs.shown.shown_schedule.Goals as goal
 
-pub returns-in-Ok-clause-texts : goal.returns-in-Ok-clause-texts
-returns-in-Ok-clause-texts g c = λ untold.
-    let texts = c.in-Ok.ensures.texts untold in
-    let T : Result Read Refusal → Type 0 = λ read.
-    Tells (told (read_answer c.args.part c.args.text.now c.args.p.now) read) c.shown_run.result in
-    (texts.0, inl (subst T (sym (was_read c.in-Ok.read _ _ _ texts.1)) c.shown_run.ensures.answer))
+pub returns-in-OfRun-clause-answer : goal.returns-in-OfRun-clause-answer
+returns-in-OfRun-clause-answer g c = λ contents told. rw c.in-OfRun.is (c.ran_file.ensures.answer contents told)
+
+pub returns-in-OfRun-clause-texts : goal.returns-in-OfRun-clause-texts
+returns-in-OfRun-clause-texts g c = λ untold. rw c.in-OfRun.is (c.ran_file.ensures.texts untold)
+
+pub returns-in-Next-clause-answer : goal.returns-in-Next-clause-answer
+returns-in-Next-clause-answer g c = λ contents told. rw c.in-Next.is (c.next_file.ensures.answer contents told)
+
+pub returns-in-Next-clause-texts : goal.returns-in-Next-clause-texts
+returns-in-Next-clause-texts g c = λ untold. rw c.in-Next.is (c.next_file.ensures.texts untold)
+
+pub returns-in-OfOrder-clause-answer : goal.returns-in-OfOrder-clause-answer
+returns-in-OfOrder-clause-answer g c = λ contents told. rw c.in-OfOrder.is (c.filled_file.ensures.answer contents told)
+
+pub returns-in-OfOrder-clause-texts : goal.returns-in-OfOrder-clause-texts
+returns-in-OfOrder-clause-texts g c = λ untold. rw c.in-OfOrder.is (c.filled_file.ensures.texts untold)

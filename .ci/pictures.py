@@ -1,0 +1,200 @@
+"""Pictures of runs, as mirace_show draws them; companion.py runs it.
+
+- docs/pictures has a picture of each example with threads, NAME.svg of examples/NAME.sched, which is what the program writes now.
+- Each of these, and those of stored runs, is a document of XML with the elements and attributes that are known here, and no
+  others. All that it draws lies in its view box, and no two texts overlap, if a byte has at most 8 pixels.
+- Its steps are those of the listing. Its arrows are those that plain.py's edges give: between steps of two threads of which
+  one comes before the other by a chain of edges, where no step lies between. Its races are those of the report, and the
+  witness's column has each drawn step once where there is a race.
+
+    python3 .ci/pictures.py [--write] [COMPANION]      the first check alone; with --write it makes the pictures
+"""
+import os
+import re
+import subprocess
+import sys
+import xml.etree.ElementTree as tree
+
+sys.dont_write_bytecode = True
+import plain  # noqa: E402
+
+TOP = os.path.dirname(os.path.dirname(os.path.abspath(__file__)))
+COMPANION = f"{TOP}/crates/mirace_show/out/mirace_show"
+EXAMPLES, PICTURES = f"{TOP}/examples", f"{TOP}/docs/pictures"
+SPACE = "{http://www.w3.org/2000/svg}"
+# The elements of a document, each with its attributes.
+KNOWN = {"svg": {"width", "height", "viewBox", "role"}, "title": set(), "style": set(), "defs": set(), "rect": {"class", "width", "height"},
+         "marker": {"id", "viewBox", "refX", "refY", "markerWidth", "markerHeight", "orient", "markerUnits", "class"}, "g": {"class"}, "path": {"d", "class"},
+         "text": {"x", "y", "text-anchor"}}
+WAKE, DEPENDENCE = ": it woke or started its thread", ", which depends on it"
+
+
+def read(path):
+    with open(path, "rb") as it:
+        return it.read()
+
+
+def threads_of(schedule):
+    return {line.split(b" ")[0].split(b"*")[0] for line in read(schedule).split(b"\n")[2:-1]}
+
+
+def examples():
+    """The examples with threads: the name of a schedule, its program and itself."""
+    names = sorted(os.listdir(EXAMPLES))
+    for name in (it for it in names if it.endswith(".sched")):
+        program = max((it for it in names if it.endswith(".mr") and name.startswith(it[:-3])), key=len)
+        if len(threads_of(f"{EXAMPLES}/{name}")) > 1:
+            yield name[:-len(".sched")], f"{EXAMPLES}/{program}", f"{EXAMPLES}/{name}"
+
+
+def drawn(program, schedule, companion, *part):
+    ended = subprocess.run([companion, "picture", program, schedule, *part], stdin=subprocess.DEVNULL, stdout=subprocess.PIPE, timeout=120)
+    return ended.stdout, ended.returncode
+
+
+def kept(judge, companion):
+    """The pictures of docs/pictures are what the program draws, and there are no others."""
+    names = set()
+    for name, program, schedule in examples():
+        names.add(f"{name}.svg")
+        path = f"{PICTURES}/{name}.svg"
+        wrote, status = drawn(program, schedule, companion)
+        judge(f"docs/pictures/{name}.svg", os.path.isfile(path) and read(path) == wrote and status in (0, 1), "not what is drawn; --write makes it")
+    there = set(os.listdir(PICTURES)) if os.path.isdir(PICTURES) else set()
+    judge("docs/pictures", there == names, f"{sorted(there ^ names)}")
+
+
+# ---- what a picture has
+
+class Picture:
+    """A picture: its size, its marks by their signs, each with its title, and the boxes of all that it draws."""
+
+    def __init__(self, text):
+        self.root = tree.fromstring(text.decode())
+        self.wide, self.high = int(self.root.get("width")), int(self.root.get("height"))
+        self.marks = [(it.get("class"), it.find(f"{SPACE}title").text or "", it) for it in self.root.findall(f"{SPACE}g")]
+
+    def unknown(self):
+        """Elements and attributes that are not known."""
+        for it in self.root.iter():
+            name = it.tag.removeprefix(SPACE)
+            for attribute in set(it.attrib) - KNOWN.get(name, set()):
+                yield name, attribute
+            if name not in KNOWN or "href" in str(it.attrib):
+                yield name, None
+
+    def titled(self, sign):
+        return [title for it, title, _ in self.marks if it == sign]
+
+    def boxes(self):
+        """The boxes of its texts: left, top, right, bottom, and the text."""
+        for _, _, mark in self.marks:
+            for it in mark.iter(f"{SPACE}text"):
+                wide, x, y = 8 * len(it.text or ""), int(it.get("x")), int(it.get("y"))
+                left = x - wide if it.get("text-anchor") == "end" else x
+                yield left, y - 12, left + wide, y + 3, it.text
+
+    def points(self):
+        """The points of its paths, each with how far round it something is drawn."""
+        for _, _, mark in self.marks:
+            for it in mark.iter(f"{SPACE}path"):
+                path = it.get("d")
+                is_round = re.match(r"M\d+ \d+m", path)
+                for x, y in [re.match(r"M(\d+) (\d+)", path).groups()] if is_round else re.findall(r"(\d+) (\d+)", path):
+                    yield int(x), int(y), 8 if is_round else 0
+
+
+def is_within(picture):
+    boxes = [it[:4] for it in picture.boxes()] + [(x - far, y - far, x + far, y + far) for x, y, far in picture.points()]
+    return [it for it in boxes if not (0 <= it[0] and 0 <= it[1] and it[2] <= picture.wide and it[3] <= picture.high)]
+
+
+def overlaps(picture):
+    """Texts that overlap. Rows are 15 high, so that those with one top suffice, and the ones above them."""
+    boxes = sorted(picture.boxes(), key=lambda it: (it[1], it[0]))
+    for k, one in enumerate(boxes):
+        for other in boxes[k + 1:]:
+            if other[1] >= one[3]:
+                break
+            if other[0] < one[2] and one[0] < other[2]:
+                yield one[4], other[4]
+
+
+# ---- beside the run
+
+def arrows(feet):
+    """The arrows by definition, counted from 1."""
+    before = []
+    for j in range(len(feet)):
+        reached = 0
+        for i in range(j):
+            if plain.is_edge(feet, i, j):
+                reached |= before[i] | 1 << i
+        before.append(reached)
+    for j in range(len(feet)):
+        for i in range(j):
+            between = any(before[j] >> k & 1 and before[k] >> i & 1 for k in range(i + 1, j))
+            if feet[i][0] != feet[j][0] and before[j] >> i & 1 and not between:
+                yield i + 1, j + 1, plain.wakes(feet[i], feet[j][0])
+
+
+def arrows_in(picture):
+    for sign in ("wake", "dependence"):
+        for title in picture.titled(sign):
+            found = re.fullmatch(rf"step (\d+) happens before step (\d+)({WAKE}|{DEPENDENCE})", title)
+            if found:
+                yield int(found.group(1)), int(found.group(2)), sign == "wake" and found.group(3) == WAKE
+
+
+def races_in(picture):
+    for sign in ("first-race", "race"):
+        for title in picture.titled(sign):
+            found = re.fullmatch(r"step (\d+) and step (\d+) race: neither happens before the other", title)
+            if found:
+                yield int(found.group(1)), int(found.group(2))
+
+
+def numbers(titles, form):
+    return [int(re.fullmatch(form, it, re.S).group(1)) for it in titles if re.fullmatch(form, it, re.S)]
+
+
+def picture(judge, what, text, steps, feet, pairs):
+    """A picture of a whole run, beside its listing, its footprints and the races of its report."""
+    it = Picture(text)
+    judge(f"{what}: the elements of its picture", not list(it.unknown()), f"{list(it.unknown())[:3]}")
+    judge(f"{what}: its picture lies in the view box", not is_within(it), f"{is_within(it)[:3]}")
+    judge(f"{what}: no two texts of its picture overlap", not list(overlaps(it)), f"{list(overlaps(it))[:3]}")
+    marks = sorted(numbers(it.titled("step") + it.titled("racing") + it.titled("stop"), r"step (\d+), thread .*"))
+    judge(f"{what}: the steps of its picture", marks == [step.number for step in steps], f"{marks}")
+    wanted = sorted(arrows(feet))
+    judge(f"{what}: the arrows of its picture", sorted(arrows_in(it)) == wanted, f"{sorted(arrows_in(it))}, not {wanted}")
+    judge(f"{what}: the races of its picture", sorted(races_in(it)) == sorted(pairs), f"{sorted(races_in(it))}, not {sorted(pairs)}")
+    column = numbers(it.titled("left-out"), r"the witness leaves out step (\d+)")
+    column += numbers(it.titled("step") + it.titled("racing"), r"step (\d+) is step \d+ of the witness, of those that are drawn")
+    places = list(range(1, len(feet) + 1)) if pairs else []
+    judge(f"{what}: the witness's column of its picture", sorted({*column}) == places, f"{sorted(column)}")
+
+
+def main():
+    words = sys.argv[1:]
+    is_writing = "--write" in words
+    companion = os.path.abspath(next((it for it in words if it != "--write"), COMPANION))
+    results = []
+
+    def tell(what, is_well, why=""):
+        results.append(is_well)
+        if not is_well:
+            print(f"{what}: {why}")
+
+    if is_writing:
+        os.makedirs(PICTURES, exist_ok=True)
+        for name, program, schedule in examples():
+            with open(f"{PICTURES}/{name}.svg", "wb") as it:
+                it.write(drawn(program, schedule, companion)[0])
+    kept(tell, companion)
+    print(f"{sum(results)} passed, {len(results) - sum(results)} failed")
+    return not all(results)
+
+
+if __name__ == "__main__":
+    sys.exit(main())

@@ -1,0 +1,9 @@
+pub mod Appended
+pub mod FilledLaws
+pub mod FilledSoFar
+pub mod Fillings
+pub mod GivenLeft
+pub mod GivenPicks
+pub mod GivenSteps
+pub mod ToldLaws
+pub mod TurnLaws

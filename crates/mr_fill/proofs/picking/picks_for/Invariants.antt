@@ -1,0 +1,11 @@
+use Rattle.std.proofs.Common.{◌≡◌, drop}
+use Rattle.std.specs.Prelude.{Some}
+use Rattle.mr_plan.specs.Machine.{State}
+use Rattle.mr_thread.specs.Steps.{Own}
+use Rattle.mr_fill.proofs.GivenLeft.{GivenSo}
+use Rattle.mr_fill.proofs.picking.picks_for.Given as goal
+
+abbrev pub invariant-loop-ask : goal.invariant-loop-ask
+invariant-loop-ask l =
+    (s : State Own) → l.machine.config.state ≡ Some s
+    → GivenSo s.shared.statuses l.receiver l.initial.chooser l.asks l.picks l.chooser (drop l.ask-index l.asks)

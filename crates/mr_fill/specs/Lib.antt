@@ -1,0 +1,4 @@
+pub mod Filled
+pub mod Filling
+pub mod Told
+pub mod Turning

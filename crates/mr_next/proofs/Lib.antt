@@ -1,0 +1,4 @@
+pub mod CulpritLaws
+pub mod ProspectLaws
+pub mod Finding
+pub mod ReachedLaws

@@ -1,0 +1,11 @@
+use Rattle.std.proofs.Common.{◌≡◌, map, take}
+use Rattle.std.specs.Prelude.{Some}
+use Rattle.mr_plan.specs.Machine.{State}
+use Rattle.mr_thread.specs.Steps.{Own}
+use Rattle.mr_next.specs.Prospects.{want_of}
+use Rattle.mr_next.proofs.prospecting.wants_of.Given as goal
+
+abbrev pub invariant-loop-ask : goal.invariant-loop-ask
+invariant-loop-ask l =
+    (s : State Own) → l.machine.config.state ≡ Some s
+    → l.wants ≡ map (want_of s.shared.statuses) (take l.ask-index l.asks)

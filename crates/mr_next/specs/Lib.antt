@@ -1,0 +1,3 @@
+pub mod Culprits
+pub mod Prospects
+pub mod Reached

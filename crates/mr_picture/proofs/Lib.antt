@@ -1,0 +1,5 @@
+pub mod InsideLaws
+pub mod Marks
+pub mod Room
+pub mod RowLaws
+pub mod SceneLaws

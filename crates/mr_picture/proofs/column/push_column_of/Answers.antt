@@ -1,0 +1,24 @@
+use Rattle.std.proofs.Common.{◌∷◌, []}
+use Rattle.mr_svg.specs.Svg.{mark_text}
+use Rattle.mr_picture.specs.Scene.{scene_in}
+use Rattle.std.specs.Prelude.{length}
+use Rattle.mr_picture.specs.Column.{column_name, column_race, kept_marks, left_marks, rows_marks}
+use Rattle.mr_picture.proofs.Marks.{begun, last_marks, more_mark, more_marks}
+use Rattle.mr_picture.proofs.column.push_column_of.Goals as goal
+
+pub returns : goal.returns
+returns c =
+    let s = scene_in c.args.scene.now in
+    let old = c.args.out.now.items in
+    let kept = c.args.kept.now in
+    let name = column_name s in
+    let race = column_race s c.args.race (length kept) in
+    let rows = rows_marks (kept_marks s c.args.race) 0 kept in
+    last_marks mark_text c.push_each_left.result old _ _ (name ∷ race ∷ rows)
+    (rows_marks (left_marks s) (length kept) c.args.left.now)
+    (more_marks mark_text old _ _ (name ∷ race ∷ []) rows
+    (more_mark mark_text old _ _ (name ∷ []) race
+    (more_mark mark_text old old _ [] name (begun mark_text old) c.in_ok-push_column_name.ensures)
+    c.in_ok-push_column_race.ensures)
+    c.in_ok-push_each_kept.ensures)
+    c.push_each_left.ensures

@@ -1,0 +1,15 @@
+use Rattle.std.specs.Prelude.{◌≡◌, ◌++◌, drop, flat_map}
+use Rattle.mr_svg.specs.Svg.{mark_text}
+use Rattle.mr_picture.specs.Column.{kept_marks, rows_marks}
+use Rattle.mr_picture.specs.Scene.{scene_in}
+use Rattle.mr_picture.proofs.column.push_each_kept.Given as goal
+
+-- the steps from this one on complete the column
+abbrev pub invariant-loop-step : goal.invariant-loop-step
+invariant-loop-step l =
+    let marks = kept_marks (scene_in l.scene) l.race in
+    record {
+      row : l.row ≡ l.step-index;
+      rest : l.out.items ++ flat_map mark_text (rows_marks marks l.row (drop l.step-index l.steps))
+          ≡ l.fn.out.items ++ flat_map mark_text (rows_marks marks 0 l.steps);
+    }

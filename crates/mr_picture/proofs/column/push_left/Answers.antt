@@ -1,0 +1,15 @@
+use Rattle.std.proofs.Common.{◌∷◌, []}
+use Rattle.mr_svg.specs.Svg.{mark_text}
+use Rattle.mr_picture.specs.Column.{left_mark, left_number}
+use Rattle.mr_picture.specs.Scene.{scene_in}
+use Rattle.mr_picture.proofs.Marks.{begun, last_mark, more_mark}
+use Rattle.mr_picture.proofs.column.push_left.Goals as goal
+
+pub returns : goal.returns
+returns c =
+    let s = scene_in c.args.scene.now in
+    let old = c.args.out.now.items in
+    let own = left_mark s c.args.row c.args.step in
+    last_mark mark_text c.push_left_number.result old _ _ (own ∷ []) (left_number s c.args.row c.args.step)
+    (more_mark mark_text old old _ [] own (begun mark_text old) c.in_ok-push_left_mark.ensures)
+    c.push_left_number.ensures

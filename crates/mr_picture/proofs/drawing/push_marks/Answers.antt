@@ -1,0 +1,31 @@
+use Rattle.std.proofs.Common.{◌++◌}
+use Rattle.mr_svg.specs.Svg.{mark_text}
+use Rattle.mr_picture.specs.Scene.{scene_in}
+use Rattle.std.specs.Prelude.{flat_map, map}
+use Rattle.mr_arrows.specs.Arrows.{arrows}
+use Rattle.mr_arrows.specs.Span.{races_in, steps_in}
+use Rattle.mr_picture.specs.Lanes.{lane_marks}
+use Rattle.mr_picture.specs.Links.{arrow_mark, race_mark}
+use Rattle.mr_picture.specs.Picture.{round_marks}
+use Rattle.mr_picture.specs.Steps.{row_marks, step_marks}
+use Rattle.mr_picture.proofs.Marks.{last_marks, more_marks}
+use Rattle.mr_picture.proofs.drawing.push_marks.Goals as goal
+
+pub returns : goal.returns
+returns c =
+    let s = scene_in c.args.scene.now in
+    let old = c.args.out.now.items in
+    let rows = flat_map (row_marks s) (steps_in s.span) in
+    let lanes = flat_map (lane_marks s) s.threads in
+    let links = map (arrow_mark s) (arrows s.seen.feet s.done) in
+    let races = map (race_mark s) (races_in s.done s.near) in
+    let steps = flat_map (step_marks s) s.steps in
+    last_marks mark_text c.push_round.result old _ _ (rows ++ lanes ++ links ++ races ++ steps) (round_marks s)
+    (more_marks mark_text old _ _ (rows ++ lanes ++ links ++ races) steps
+    (more_marks mark_text old _ _ (rows ++ lanes ++ links) races
+    (more_marks mark_text old _ _ (rows ++ lanes) links
+    (more_marks mark_text old _ _ rows lanes c.in_ok-push_rows.ensures c.in_ok-push_lanes.ensures)
+    c.in_ok-push_arrows.ensures)
+    c.in_ok-push_races.ensures)
+    c.in_ok-push_steps.ensures)
+    c.push_round.ensures

@@ -1,0 +1,34 @@
+use Rattle.std.proofs.Common.{◌≡◌, ℕ, ◌+◌, ◌-◌, ◌++◌, List, ◌∙◌, ap, append-nil, arith, sym}
+use Rattle.std.specs.Prelude.{flat_map}
+use Rattle.mr_svg.specs.Svg.{mark_text}
+use Rattle.mr_picture.specs.Ends.{line_marks, tail_mark}
+use Rattle.mr_picture.specs.Scene.{scene_in}
+use Rattle.mr_picture.proofs.RowLaws.{line_taken}
+use Rattle.mr_picture.proofs.ends.push_tail.Goals as goal
+
+pub loop-number-preserved : goal.loop-number-preserved
+loop-number-preserved c =
+    let s = scene_in c.args.scene.now in
+    let now = c.loop-number.out.items in
+    let next = c.push_tail_line.new.out.items in
+    let n = c.loop-number.number in
+    record {
+      within = omega (arith, c.loop-number-test.true);
+      rest =
+          ap (λ (text : List ℕ). next ++ flat_map mark_text (line_marks s (n + 1) (c.tail_count-count.result - (n + 1)) text))
+          c.behind_line-rest.ensures
+          ∙ line_taken s now next n c.tail_count-count.result c.loop-number.rest.now c.loop-number-test.true
+          (c.in_ok-push_tail_line.ensures
+          ∙ ap (λ (line : List ℕ). now ++ mark_text (tail_mark s n line)) c.first_line.ensures)
+          ∙ c.loop-number.invariant.rest;
+    }
+
+pub returns : goal.returns
+returns c =
+    let s = scene_in c.args.scene.now in
+    let out = c.loop-number.out.items in
+    let n = c.loop-number.number in
+    let none : c.tail_count-count.result - n ≡ 0 = omega (arith, c.loop-number.invariant.within, c.loop-number-test.false) in
+    sym (ap (λ (m : ℕ). out ++ flat_map mark_text (line_marks s n m c.loop-number.rest.now)) none ∙ append-nil out)
+    ∙ c.loop-number.invariant.rest
+    ∙ ap (λ (m : ℕ). c.args.out.now.items ++ flat_map mark_text (line_marks s 0 m s.tail)) c.tail_count-count.ensures

@@ -1,0 +1,15 @@
+use Rattle.std.specs.Prelude.{◌≡◌, ◌++◌, ◌-◌, ◌≤◌, flat_map}
+use Rattle.mr_svg.specs.Svg.{mark_text}
+use Rattle.mr_picture.specs.Ends.{line_marks}
+use Rattle.mr_picture.specs.Scene.{scene_in}
+use Rattle.mr_picture.proofs.ends.push_tail.Given as goal
+
+-- the lines from this one on complete the text
+abbrev pub invariant-loop-number : goal.invariant-loop-number
+invariant-loop-number l =
+    let s = scene_in l.scene in
+    record {
+      within : l.number ≤ l.count;
+      rest : l.out.items ++ flat_map mark_text (line_marks s l.number (l.count - l.number) l.rest)
+          ≡ l.fn.out.items ++ flat_map mark_text (line_marks s 0 l.count s.tail);
+    }

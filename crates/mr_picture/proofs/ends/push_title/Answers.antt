@@ -1,0 +1,15 @@
+use Rattle.std.proofs.Common.{◌≡◌, ℕ, List, ◌++◌, subst}
+use Rattle.std.specs.Prelude.{OnOk}
+use Rattle.mr_svg.specs.declared.shape.Shape.TheVariants.{Words}
+use Rattle.mr_svg.specs.declared.shape.Sign.TheVariants as sign
+use Rattle.mr_svg.specs.Svg.{mark_text}
+use Rattle.mr_picture.specs.Steps.{mark_of}
+use Rattle.mr_picture.specs.Texts.{cut_at}
+use Rattle.mr_picture.proofs.ends.push_title.Goals as goal
+
+pub returns : goal.returns
+returns c =
+    subst (λ (text : List ℕ). OnOk c.push_line.result
+    (c.push_line.new.out.items ≡ c.args.out.now.items
+    ++ mark_text (mark_of sign.Title (Words (record { x = 16; y = 30 })) (cut_at 70 text) text)))
+    c.requires c.push_line.ensures

@@ -1,0 +1,22 @@
+use Rattle.std.proofs.Common.{◌≡◌, ℕ, ◌∷◌, [], ◌++◌, ap, subst}
+use Rattle.mr_svg.specs.Svg.{mark_text}
+use Rattle.mr_picture.specs.Lanes.{lane_mark, name_mark}
+use Rattle.mr_picture.specs.Grid.{rows_end}
+use Rattle.std.specs.Prelude.{◌+◌, OnOk}
+use Rattle.mr_picture.specs.Scene.{scene_in}
+use Rattle.mr_picture.proofs.Marks.{begun, last_mark, more_mark}
+use Rattle.mr_picture.proofs.lanes.push_lane_marks.Goals as goal
+
+pub returns : goal.returns
+returns c =
+    let s = scene_in c.args.scene.now in
+    let old = c.args.out.now.items in
+    let lane = lane_mark s c.args.thread in
+    let above = name_mark s 86 c.args.thread in
+    last_mark mark_text c.push_name-2.result old _ _ (lane ∷ above ∷ []) (name_mark s (rows_end s + 18) c.args.thread)
+    (more_mark mark_text old _ _ (lane ∷ []) above
+    (more_mark mark_text old old _ [] lane (begun mark_text old) c.in_ok-push_lane.ensures)
+    c.in_ok-push_name.ensures)
+    (subst (λ (y : ℕ). OnOk c.push_name-2.result
+    (c.push_name-2.new.out.items ≡ c.push_name.new.out.items ++ mark_text (name_mark s y c.args.thread)))
+    (ap (λ n. n + 18) c.rows_end-below.ensures) c.push_name-2.ensures)

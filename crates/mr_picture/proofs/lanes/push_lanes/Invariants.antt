@@ -1,0 +1,11 @@
+use Rattle.std.specs.Prelude.{◌≡◌, ◌++◌, flat_map, take}
+use Rattle.mr_svg.specs.Svg.{mark_text}
+use Rattle.mr_picture.specs.Lanes.{lane_marks}
+use Rattle.mr_picture.specs.Scene.{scene_in}
+use Rattle.mr_picture.proofs.lanes.push_lanes.Given as goal
+
+-- the lanes before this one are drawn
+abbrev pub invariant-loop-thread : goal.invariant-loop-thread
+invariant-loop-thread l =
+    l.out.items ≡ l.fn.out.items
+    ++ flat_map mark_text (flat_map (lane_marks (scene_in l.scene)) (take l.thread-index l.threads))

@@ -1,0 +1,8 @@
+use Rattle.std.specs.Prelude.{◌≡◌, drop}
+use Rattle.mr_picture.specs.Lanes.{first_that, starts}
+use Rattle.mr_picture.proofs.lanes.starting.Given as goal
+
+-- none so far started it
+abbrev pub invariant-loop-step : goal.invariant-loop-step
+invariant-loop-step l =
+    first_that (starts l.thread) l.steps ≡ first_that (starts l.thread) (drop l.step-index l.steps)

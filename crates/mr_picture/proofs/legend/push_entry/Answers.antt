@@ -1,0 +1,15 @@
+use Rattle.std.proofs.Common.{◌∷◌, []}
+use Rattle.mr_svg.specs.Svg.{mark_text}
+use Rattle.mr_picture.specs.Legend.{words_mark}
+use Rattle.mr_picture.specs.Scene.{scene_in}
+use Rattle.mr_picture.specs.Steps.{mark_of}
+use Rattle.mr_picture.proofs.Marks.{begun, last_mark, more_mark}
+use Rattle.mr_picture.proofs.legend.push_entry.Goals as goal
+
+pub returns : goal.returns
+returns c =
+    let old = c.args.out.now.items in
+    let own = mark_of c.args.sign c.args.shape [] c.args.words.now in
+    last_mark mark_text c.push_words.result old _ _ (own ∷ [])
+    (words_mark (scene_in c.args.scene.now) c.args.number c.args.words.now)
+    (more_mark mark_text old old _ [] own (begun mark_text old) c.in_ok-push_mark.ensures) c.push_words.ensures

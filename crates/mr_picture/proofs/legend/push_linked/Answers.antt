@@ -1,0 +1,28 @@
+use Rattle.std.proofs.Common.{◌∷◌, [], ◌∙◌, ap₂, ◌++◌}
+use Rattle.mr_svg.specs.Svg.{mark_text}
+use Rattle.mr_svg.specs.declared.shape.Point.{Point}
+use Rattle.mr_svg.specs.declared.shape.Shape.TheVariants.{Line}
+use Rattle.mr_picture.specs.Legend.{sample, words_mark}
+use Rattle.mr_picture.specs.Scene.{scene_in}
+use Rattle.mr_picture.specs.Steps.{mark_of}
+use Rattle.mr_picture.proofs.Marks.{begun, last_mark, more_mark}
+use Rattle.mr_picture.proofs.legend.push_linked.Goals as goal
+
+pub returns : goal.returns
+returns c =
+    let s = scene_in c.args.scene.now in
+    let old = c.args.out.now.items in
+    let words = c.args.words.now in
+    let line = mark_of c.args.sign (sample s c.args.number) [] words in
+    let one = mark_of c.args.end c.args.one [] words in
+    let other = mark_of c.args.end c.args.other [] words in
+    last_mark mark_text c.push_words.result old _ _ (line ∷ one ∷ other ∷ []) (words_mark s c.args.number words)
+    (more_mark mark_text old _ _ (line ∷ one ∷ []) other
+    (more_mark mark_text old _ _ (line ∷ []) one
+    (more_mark mark_text old old _ [] line (begun mark_text old)
+    (c.in_ok-push_mark.ensures
+    ∙ ap₂ (λ (a b : Point). old ++ mark_text (mark_of c.args.sign (Line a b) [] words)) c.point_at.ensures
+    c.point_at-2.ensures))
+    c.in_ok-push_mark-2.ensures)
+    c.in_ok-push_mark-3.ensures)
+    c.push_words.ensures

@@ -1,0 +1,10 @@
+use Rattle.std.specs.Prelude.{◌≡◌, ◌++◌, flat_map, map, take}
+use Rattle.mr_svg.specs.Svg.{mark_text}
+use Rattle.mr_picture.specs.Links.{race_mark}
+use Rattle.mr_picture.specs.Scene.{scene_in}
+use Rattle.mr_picture.proofs.links.push_each_race.Given as goal
+
+-- the races before this one are drawn
+abbrev pub invariant-loop-race : goal.invariant-loop-race
+invariant-loop-race l =
+    l.out.items ≡ l.fn.out.items ++ flat_map mark_text (map (race_mark (scene_in l.scene)) (take l.race-index l.races))

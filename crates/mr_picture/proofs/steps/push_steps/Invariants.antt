@@ -1,0 +1,11 @@
+use Rattle.std.specs.Prelude.{◌≡◌, ◌++◌, flat_map, take}
+use Rattle.mr_svg.specs.Svg.{mark_text}
+use Rattle.mr_picture.specs.Scene.{scene_in}
+use Rattle.mr_picture.specs.Steps.{step_marks}
+use Rattle.mr_picture.proofs.steps.push_steps.Given as goal
+
+-- the steps before this one are drawn
+abbrev pub invariant-loop-step : goal.invariant-loop-step
+invariant-loop-step l =
+    l.out.items ≡ l.fn.out.items
+    ++ flat_map mark_text (flat_map (step_marks (scene_in l.scene)) (take l.step-index l.steps))

@@ -1,0 +1,62 @@
+-- What is written above the rows and below them.
+use Rattle.std.specs.Prelude.{ℕ, zero, suc, ◌+◌, ◌-◌, ◌==◌, ◌&&◌, not, if◌then◌else◌, List, [], ◌∷◌, ◌++◌, codes, decimal}
+use Rattle.std.specs.Prelude.{drop, length, take}
+use Rattle.std.specs.List.{prefix_len}
+use Rattle.mr_svg.specs.declared.shape.Shape.TheVariants.{Words}
+use Rattle.mr_svg.specs.declared.shape.Sign.TheVariants as sign
+use Rattle.mr_svg.specs.Svg.{Mark}
+use Rattle.mr_picture.specs.Grid.{is_line_end, tail_y}
+use Rattle.mr_picture.specs.Scene.{Scene}
+use Rattle.mr_picture.specs.Steps.{mark_of}
+use Rattle.mr_picture.specs.Texts.{cut_at}
+
+-- ---- above
+
+abbrev pub counted : ℕ → List ℕ → List ℕ → List ℕ
+counted count one many = decimal count ++ (if count == 1 then one else many)
+
+-- how many steps and races there are
+abbrev pub title_text : Scene → List ℕ
+title_text s =
+    codes "a run of " ++ counted s.seen.count (codes " step") (codes " steps") ++ codes ", "
+    ++ counted (length s.seen.races) (codes " race") (codes " races")
+
+-- how many steps are drawn, and how many are left out
+abbrev pub left_text : Scene → List ℕ
+left_text s =
+    codes "drawn: " ++ decimal (s.span.to - s.span.from) ++ codes "; left out: " ++ decimal s.span.from
+    ++ codes " before them and " ++ decimal (s.seen.count - s.span.to) ++ codes " behind"
+
+-- WHICH STEPS ARE DRAWN, and what is left out
+abbrev pub part_text : Scene → List ℕ
+part_text s =
+    if (s.span.from == 0) && (s.span.to == s.seen.count) then codes "all of them are drawn" else left_text s
+
+abbrev pub title_mark : Scene → Mark
+title_mark s = mark_of sign.Title (Words (record { x = 16; y = 30 })) (cut_at 70 (title_text s)) (title_text s)
+
+abbrev pub part_mark : Scene → Mark
+part_mark s = mark_of sign.Note (Words (record { x = 16; y = 54 })) (cut_at 70 (part_text s)) (part_text s)
+
+abbrev pub head_marks : Scene → List Mark
+head_marks s = title_mark s ∷ part_mark s ∷ []
+
+-- ---- below: the text of the run's end, line by line
+
+abbrev pub line_length : List ℕ → ℕ
+line_length text = prefix_len (λ b. not (is_line_end b)) text
+
+-- the first line of a text, and what stands behind it
+abbrev pub first_line : List ℕ → List ℕ
+first_line text = take (line_length text) text
+
+abbrev pub behind_line : List ℕ → List ℕ
+behind_line text = drop (line_length text + 1) text
+
+abbrev pub tail_mark : Scene → ℕ → List ℕ → Mark
+tail_mark s n line = mark_of sign.Text (Words (record { x = 16; y = tail_y s n })) (cut_at 70 line) line
+
+-- the marks of so many lines of a text, from a place on
+abbrev pub line_marks : Scene → ℕ → ℕ → List ℕ → List Mark
+line_marks s n zero text = []
+line_marks s n (suc count) text = tail_mark s n (first_line text) ∷ line_marks s (n + 1) count (behind_line text)

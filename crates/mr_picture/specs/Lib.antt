@@ -1,0 +1,12 @@
+pub mod Column
+pub mod Deeds
+pub mod Ends
+pub mod Grid
+pub mod Inside
+pub mod Lanes
+pub mod Legend
+pub mod Links
+pub mod Picture
+pub mod Scene
+pub mod Steps
+pub mod Texts

@@ -1,0 +1,251 @@
+//! Arrows and races.
+ghost use Rattle.std.specs.Prelude.{◌≡◌, ◌<◌, ◌≤◌, ◌^◌, ◌++◌, All, IfOk, OnOk, flat_map, length, map};
+ghost use Rattle.mr_event.specs.Order.{thread_at as thread_of};
+ghost use Rattle.mr_arrows.specs.Arrows.{arrows};
+ghost use Rattle.mr_arrows.specs.Span.{races_in};
+ghost use Rattle.mr_clocks.specs.Tracked.{Tracks};
+ghost use Rattle.mr_svg.specs.Svg.{mark_text};
+ghost use Rattle.mr_picture.specs.Grid.{place_of};
+ghost use Rattle.mr_picture.specs.Links.{arrow_at, arrow_between, arrow_mark, arrow_reason, arrow_sign, arrow_title, beside};
+ghost use Rattle.mr_picture.specs.Links.{foot_place, is_same_race, is_wake, race_between, race_mark, race_sign, race_title};
+ghost use Rattle.mr_picture.specs.Scene.{IsRace, IsSmall, IsStep, scene_in};
+
+use crate::OutOfMemory;
+use crate::grid::place_of;
+use crate::scene::Scene;
+use crate::texts::{push, push_step_word};
+use mr_arrows::{arrows, races_in, wakes_thread};
+use mr_clocks::{Analysis, thread_at};
+use mr_event::{Footprint, Pair};
+use mr_svg::{Point, Shape, Sign, push_mark};
+use std::alloc::Global;
+
+// So far from one lane, on the side of another one.
+fn beside(far: u64, x: u64, other: u64) -> u64
+    requires far { far < 2 ^ 32 }
+    requires lane { x < 2 ^ 32 }
+    ensures { result ≡ beside far x other }
+{
+    if x < other {
+        x + far
+    } else {
+        x.saturating_sub(far)
+    }
+}
+
+// Where a completed step stands.
+pub(crate) fn foot_place(scene: &Scene<'_>, step: usize) -> Point
+    requires small { IsSmall (scene_in scene.now) }
+    requires step { IsStep (scene_in scene.now) step }
+    ensures { result ≡ foot_place (scene_in scene.now) step }
+{
+    place_of(scene, thread_at(scene.shown.feet, step), step)
+}
+
+// An arrow that goes down so far from a lane, and aslant from so far above its last step.
+fn arrow_at(far: u64, above: u64, a: Point, b: Point) -> Shape
+    requires far { far < 2 ^ 32 }
+    requires lane { b.x < 2 ^ 32 }
+    ensures { result ≡ arrow_at far above a b }
+{
+    let x = beside(far, b.x, a.x);
+    Shape::Curve {
+        from: a,
+        leave: Point { x, y: a.y },
+        come: Point {
+            x,
+            y: b.y.saturating_sub(above),
+        },
+        to: b,
+    }
+}
+
+// The shape of an arrow.
+fn arrow_between(woken: bool, a: Point, b: Point) -> Shape
+    requires { b.x < 2 ^ 32 }
+    ensures { result ≡ arrow_between woken a b }
+{
+    if woken {
+        arrow_at(10, 20, a, b)
+    } else {
+        arrow_at(20, 12, a, b)
+    }
+}
+
+// The shape of a race.
+fn race_between(a: Point, b: Point) -> Shape
+    requires lane { a.x < 2 ^ 32 }
+    requires row { a.y < 2 ^ 48 }
+    ensures { result ≡ race_between a b }
+{
+    let x = beside(16, a.x, b.x);
+    Shape::Curve {
+        from: b,
+        leave: Point { x, y: b.y },
+        come: Point { x, y: a.y + 16 },
+        to: a,
+    }
+}
+
+fn arrow_sign(woken: bool) -> Sign
+    ensures { result ≡ arrow_sign woken }
+{
+    if woken { Sign::Wake } else { Sign::Dependence }
+}
+
+fn arrow_reason(woken: bool) -> &'static str
+    ensures { result.now ≡ arrow_reason woken }
+{
+    if woken {
+        ": it woke or started its thread"
+    } else {
+        ", which depends on it"
+    }
+}
+
+// What is told of an arrow.
+fn arrow_title(alloc: Global, arrow: Pair, woken: bool) -> Result<Vec<u8>, OutOfMemory>
+    ensures { IfOk result (λ text. text.items ≡ arrow_title arrow woken) }
+{
+    let mut out = Vec::new(alloc);
+    push_step_word(&mut out, arrow.first)?;
+    push(&mut out, " happens before ")?;
+    push_step_word(&mut out, arrow.second)?;
+    push(&mut out, arrow_reason(woken))?;
+    Ok(out)
+}
+
+// Appends an arrow.
+fn push_arrow(
+    alloc: Global,
+    out: &mut Vec<u8>,
+    scene: &Scene<'_>,
+    arrow: Pair,
+) -> Result<(), OutOfMemory>
+    requires small { IsSmall (scene_in scene.now) }
+    requires arrow { IsRace (scene_in scene.now) arrow }
+    ensures { OnOk result (out.new.items ≡ out.old.items ++ mark_text (arrow_mark (scene_in scene.now) arrow)) }
+{
+    let woken = wakes_thread(scene.shown.feet, arrow.first, arrow.second);
+    let shape = arrow_between(
+        woken,
+        foot_place(scene, arrow.first),
+        foot_place(scene, arrow.second),
+    );
+    let title = arrow_title(alloc, arrow, woken)?;
+    push_mark(out, arrow_sign(woken), shape, &[], title.as_slice())
+}
+
+// Appends each of these arrows.
+fn push_each_arrow(
+    alloc: Global,
+    out: &mut Vec<u8>,
+    scene: &Scene<'_>,
+    all: &[Pair],
+) -> Result<(), OutOfMemory>
+    requires small { IsSmall (scene_in scene.now) }
+    requires within { All (IsRace (scene_in scene.now)) all.now }
+    ensures { OnOk result (out.new.items
+        ≡ out.old.items ++ flat_map mark_text (map (arrow_mark (scene_in scene.now)) all.now)) }
+{
+    for arrow in all {
+        push_arrow(alloc, out, scene, *arrow)?;
+    }
+    Ok(())
+}
+
+/// Appends the arrows.
+pub(crate) fn push_arrows(
+    alloc: Global,
+    out: &mut Vec<u8>,
+    scene: &Scene<'_>,
+    order: &Analysis,
+) -> Result<(), OutOfMemory>
+    requires small { IsSmall (scene_in scene.now) }
+    requires tracks { Tracks order.now (scene_in scene.now).seen.feet }
+    ensures { OnOk result (out.new.items ≡ out.old.items ++ flat_map mark_text
+        (map (arrow_mark (scene_in scene.now)) (arrows (scene_in scene.now).seen.feet (scene_in scene.now).done))) }
+{
+    let all = arrows(alloc, scene.shown.feet, order, scene.done)?;
+    push_each_arrow(alloc, out, scene, all.as_slice())
+}
+
+// Whether a race is the first listed one.
+fn is_same_race(race: Pair, other: Option<Pair>) -> bool
+    ensures { result ≡ is_same_race race other }
+{
+    match other {
+        None => false,
+        Some(other) => race.first == other.first && race.second == other.second,
+    }
+}
+
+fn race_sign(first: bool) -> Sign
+    ensures { result ≡ race_sign first }
+{
+    if first { Sign::FirstRace } else { Sign::Race }
+}
+
+// What is told of a race.
+fn race_title(alloc: Global, race: Pair) -> Result<Vec<u8>, OutOfMemory>
+    ensures { IfOk result (λ text. text.items ≡ race_title race) }
+{
+    let mut out = Vec::new(alloc);
+    push_step_word(&mut out, race.first)?;
+    push(&mut out, " and ")?;
+    push_step_word(&mut out, race.second)?;
+    push(&mut out, " race: neither happens before the other")?;
+    Ok(out)
+}
+
+// Appends the line of a race.
+fn push_race(
+    alloc: Global,
+    out: &mut Vec<u8>,
+    scene: &Scene<'_>,
+    race: Pair,
+) -> Result<(), OutOfMemory>
+    requires small { IsSmall (scene_in scene.now) }
+    requires race { IsRace (scene_in scene.now) race }
+    ensures { OnOk result (out.new.items ≡ out.old.items ++ mark_text (race_mark (scene_in scene.now) race)) }
+{
+    let shape = race_between(
+        foot_place(scene, race.first),
+        foot_place(scene, race.second),
+    );
+    let sign = race_sign(is_same_race(race, scene.first));
+    let title = race_title(alloc, race)?;
+    push_mark(out, sign, shape, &[], title.as_slice())
+}
+
+// Appends the line of each of these races.
+fn push_each_race(
+    alloc: Global,
+    out: &mut Vec<u8>,
+    scene: &Scene<'_>,
+    races: &[Pair],
+) -> Result<(), OutOfMemory>
+    requires small { IsSmall (scene_in scene.now) }
+    requires within { All (IsRace (scene_in scene.now)) races.now }
+    ensures { OnOk result (out.new.items
+        ≡ out.old.items ++ flat_map mark_text (map (race_mark (scene_in scene.now)) races.now)) }
+{
+    for race in races {
+        push_race(alloc, out, scene, *race)?;
+    }
+    Ok(())
+}
+
+/// Appends the lines of the races both of whose steps are drawn.
+pub(crate) fn push_races(
+    alloc: Global,
+    out: &mut Vec<u8>,
+    scene: &Scene<'_>,
+) -> Result<(), OutOfMemory>
+    requires { IsSmall (scene_in scene.now) }
+    ensures { OnOk result (out.new.items ≡ out.old.items ++ flat_map mark_text
+        (map (race_mark (scene_in scene.now)) (races_in (scene_in scene.now).done (scene_in scene.now).near))) }
+{
+    let races = races_in(alloc, scene.done, scene.near)?;
+    push_each_race(alloc, out, scene, races.as_slice())
+}

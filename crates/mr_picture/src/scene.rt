@@ -1,0 +1,212 @@
+//! What is drawn of a run.
+ghost use Rattle.std.specs.Prelude.{◌≡◌, ◌<◌, ◌^◌, ◌++◌, ◌∷◌, [], IfOk, OnOk, if◌then◌else◌};
+ghost use Rattle.std.specs.List.{filter};
+ghost use Rattle.mr_picture.specs.Scene.{begin_at, chosen, clipped, comes_to, done_in, drawn_of, drawn_steps, is_of};
+ghost use Rattle.mr_picture.specs.Scene.{near_in, race_in, takes_one, threads_of};
+ghost use Rattle.mr_arrows.specs.Span.{holds_race, is_in};
+
+use crate::OutOfMemory;
+use mr_arrows::Span;
+use mr_base::Status;
+use mr_event::Pair;
+use mr_listing::Shown;
+use mr_told::{Stand, ToldStep};
+use std::alloc::Global;
+
+/// What is drawn of a step.
+#[derive(Clone, Copy)]
+pub(crate) struct Drawn {
+    /// The number of its entry, counted from 0.
+    pub number: usize,
+    pub thread: u32,
+    /// Where the thread stood before it.
+    pub before: Option<Stand>,
+    /// Whether the thread can go on behind it, and what it waits for otherwise.
+    pub status: Option<Status>,
+    /// Where the thread stands that it started, if it started one.
+    pub started: Option<Stand>,
+    /// How many prints there were before it.
+    pub prints_before: usize,
+    /// How many prints there are behind it.
+    pub prints_behind: usize,
+}
+
+/// What is drawn of a run.
+#[derive(Clone, Copy)]
+pub(crate) struct Scene<'a> {
+    /// What the run tells.
+    pub shown: &'a Shown<'a>,
+    /// Which steps are drawn.
+    pub span: Span,
+    /// Those of them that completed.
+    pub done: Span,
+    /// What they tell.
+    pub steps: &'a [Drawn],
+    /// Their threads, by rising numbers.
+    pub threads: &'a [u32],
+    /// The listed races whose second step is drawn.
+    pub near: &'a [Pair],
+    /// The first listed race, if both of its steps are drawn.
+    pub first: Option<Pair>,
+    /// The text of the run's end.
+    pub tail: &'a [u8],
+}
+
+// So many steps are drawn at most.
+const MOST: usize = 500;
+
+// The steps from one number up to another, as far as the run has them, and no more than `MOST`.
+fn clipped(count: usize, from: usize, to: usize) -> Span
+    requires { count < 2 ^ 32 }
+    ensures { result ≡ clipped count from to }
+{
+    let from = from.min(count);
+    Span {
+        from,
+        to: to.min(count).min(from + MOST),
+    }
+}
+
+// Where the part of a long run begins that has this first race.
+fn begin_at(race: Option<Pair>) -> usize
+    ensures { result ≡ begin_at race }
+{
+    match race {
+        None => 0,
+        Some(race) => {
+            if race.second < MOST {
+                0
+            } else {
+                race.second - 400
+            }
+        }
+    }
+}
+
+/// The steps that are drawn of so many: those that are asked for, or else those about the first race; 500 at most.
+pub(crate) fn chosen(count: usize, races: &[Pair], asked: Option<Span>) -> Span
+    requires { count < 2 ^ 32 }
+    ensures { result ≡ chosen count races.now asked }
+{
+    match asked {
+        Some(span) => clipped(count, span.from, span.to),
+        None => {
+            if count <= MOST {
+                clipped(count, 0, count)
+            } else {
+                clipped(count, begin_at(races.get(0).copied()), count)
+            }
+        }
+    }
+}
+
+// What is drawn of a step.
+fn drawn_of(told: &ToldStep) -> Drawn
+    ensures { result ≡ drawn_of told.now }
+{
+    Drawn {
+        number: told.number,
+        thread: told.thread,
+        before: told.before,
+        status: told.status,
+        started: told.started,
+        prints_before: told.prints_before,
+        prints_behind: told.prints_behind,
+    }
+}
+
+// Whether a step is drawn.
+fn is_in(span: Span, step: usize) -> bool
+    ensures { result ≡ is_in span step }
+{
+    span.from <= step && step < span.to
+}
+
+/// What the drawn ones of these steps tell.
+pub(crate) fn drawn_steps(
+    alloc: Global,
+    span: Span,
+    steps: &[ToldStep],
+) -> Result<Vec<Drawn>, OutOfMemory>
+    ensures { IfOk result (λ drawn. drawn.items ≡ drawn_steps span steps.now) }
+{
+    let mut drawn = Vec::new(alloc);
+    for told in steps {
+        if is_in(span, told.number) {
+            drawn.push(drawn_of(told))?;
+        }
+    }
+    Ok(drawn)
+}
+
+// Whether a thread takes one of these steps.
+fn takes_one(steps: &[Drawn], thread: u32) -> bool
+    ensures { result ≡ takes_one steps.now thread }
+{
+    steps.iter().any(|step| step.thread == thread)
+}
+
+// Adds a thread that passes a test.
+fn push_if(threads: &mut Vec<u32>, thread: u32, passes: bool) -> Result<(), OutOfMemory>
+    ensures { OnOk result (threads.new.items ≡ threads.old.items ++ (if passes then thread ∷ [] else [])) }
+{
+    if passes {
+        threads.push(thread)?;
+    }
+    Ok(())
+}
+
+/// The threads that take these steps, by rising numbers.
+pub(crate) fn threads_of(alloc: Global, steps: &[Drawn]) -> Result<Vec<u32>, OutOfMemory>
+    ensures { IfOk result (λ threads. threads.items ≡ threads_of steps.now) }
+{
+    let mut threads = Vec::new(alloc);
+    for thread in 0..1024u32 {
+        push_if(&mut threads, thread, takes_one(steps, thread))?;
+    }
+    Ok(threads)
+}
+
+/// The races whose second step is drawn.
+pub(crate) fn near_in(alloc: Global, span: Span, races: &[Pair]) -> Result<Vec<Pair>, OutOfMemory>
+    ensures { IfOk result (λ near. near.items ≡ near_in span races.now) }
+{
+    races
+        .iter()
+        .copied()
+        .filter(|race| is_in(span, race.second))
+        .collect(alloc)
+}
+
+/// Those drawn steps that completed, of so many.
+pub(crate) fn done_in(span: Span, completed: usize) -> Span
+    ensures { result ≡ done_in span completed }
+{
+    Span {
+        from: span.from,
+        to: span.to.min(completed),
+    }
+}
+
+/// Whether both steps of a race are among these.
+pub(crate) fn holds_race(span: Span, race: Pair) -> bool
+    ensures { result ≡ holds_race span race }
+{
+    is_in(span, race.first) && is_in(span, race.second)
+}
+
+/// A race, if both of its steps are among these.
+pub(crate) fn race_in(done: Span, race: Option<Pair>) -> Option<Pair>
+    ensures { result ≡ race_in done race }
+{
+    match race {
+        None => None,
+        Some(race) => {
+            if holds_race(done, race) {
+                Some(race)
+            } else {
+                None
+            }
+        }
+    }
+}

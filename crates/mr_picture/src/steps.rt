@@ -1,0 +1,343 @@
+//! The rows of steps.
+ghost use Rattle.std.specs.Prelude.{◌≡◌, ◌+◌, ◌-◌, ◌<◌, ◌≤◌, ◌^◌, ◌++◌, ◌∷◌, [], IfOk, OnOk, drop, flat_map, decimal, length};
+ghost use Rattle.std.specs.List.{list_any};
+ghost use Rattle.mr_listing.specs.Seen.{seen};
+ghost use Rattle.mr_listing.specs.Spots.{stand_text};
+ghost use Rattle.mr_arrows.specs.Span.{steps_in};
+ghost use Rattle.mr_svg.specs.Svg.{mark_text};
+ghost use Rattle.mr_picture.specs.Deeds.{deeds};
+ghost use Rattle.mr_picture.specs.Scene.{IsSmall, scene_in};
+ghost use Rattle.mr_picture.specs.Steps.{at_step, deeds_line, deeds_mark, is_step_of, number_mark, part_of, part_shape};
+ghost use Rattle.mr_picture.specs.Steps.{part_sign, row_mark, row_marks, stand_mark, step_mark, step_marks, whole_text};
+ghost use Rattle.mr_picture.specs.Texts.{cut, step_word};
+
+use crate::OutOfMemory;
+use crate::deeds::push_deeds;
+use crate::grid::{place_of, row_y, text_x, width};
+use crate::lanes::push_thread_word;
+use crate::scene::{Drawn, Scene, holds_race};
+use crate::texts::{count_text, cut, push, push_step_word};
+use mr_event::Pair;
+use mr_listing::stand_text;
+use mr_svg::{Point, Shape, Sign, push_mark};
+use std::alloc::Global;
+
+/// What a step is in a picture.
+#[derive(Clone, Copy)]
+pub(crate) enum Part {
+    /// It ended the run without completing.
+    Stopped,
+    /// It races.
+    Racing,
+    Plain,
+}
+
+// Whether a step is one of the two steps of a drawn race.
+fn is_step_of(scene: &Scene<'_>, step: usize, race: Pair) -> bool
+    ensures { result ≡ is_step_of (scene_in scene.now) step race }
+{
+    holds_race(scene.done, race) && (race.first == step || race.second == step)
+}
+
+// Whether a step is one of a drawn race.
+fn has_race(scene: &Scene<'_>, step: usize) -> bool
+    ensures { result ≡ list_any (is_step_of (scene_in scene.now) step) (scene_in scene.now).near }
+{
+    scene.near.iter().any(|race| is_step_of(scene, step, *race))
+}
+
+// What a step is.
+fn part_of(scene: &Scene<'_>, step: usize) -> Part
+    ensures { result ≡ part_of (scene_in scene.now) step }
+{
+    if step >= scene.shown.feet.len() {
+        Part::Stopped
+    } else if has_race(scene, step) {
+        Part::Racing
+    } else {
+        Part::Plain
+    }
+}
+
+fn part_sign(part: Part) -> Sign
+    ensures { result ≡ part_sign part }
+{
+    match part {
+        Part::Stopped => Sign::Stop,
+        Part::Racing => Sign::Racing,
+        Part::Plain => Sign::Step,
+    }
+}
+
+fn part_shape(part: Part, at: Point) -> Shape
+    ensures { result ≡ part_shape part at }
+{
+    match part {
+        Part::Stopped => Shape::Square { at },
+        Part::Racing => Shape::Diamond { at },
+        Part::Plain => Shape::Dot { at },
+    }
+}
+
+// What is shown with each mark of a step whose thread stood here.
+fn whole_text(
+    alloc: Global,
+    scene: &Scene<'_>,
+    step: &Drawn,
+    stand: &[u8],
+) -> Result<Vec<u8>, OutOfMemory>
+    requires { stand.now ≡ stand_text (scene_in scene.now).seen step.now.before }
+    ensures { IfOk result (λ text. text.items ≡ whole_text (scene_in scene.now) step.now) }
+{
+    let mut out = Vec::new(alloc);
+    push_step_word(&mut out, step.number)?;
+    push(&mut out, ", ")?;
+    push_thread_word(&mut out, step.thread)?;
+    push(&mut out, "  ")?;
+    out.extend_from_slice(stand)?;
+    push_deeds(&mut out, "\n", scene, step)?;
+    Ok(out)
+}
+
+// What stands behind the first two bytes of a text.
+fn behind_two(text: &[u8]) -> &[u8]
+    ensures { result.now ≡ drop 2 text.now }
+{
+    match text {
+        [_, _, rest @ ..] => rest,
+        _ => &[],
+    }
+}
+
+// What a step did, on one line, as it is drawn.
+fn deeds_line(alloc: Global, scene: &Scene<'_>, step: &Drawn) -> Result<Vec<u8>, OutOfMemory>
+    ensures { IfOk result (λ text. text.items ≡ cut (deeds_line (scene_in scene.now) step.now)) }
+{
+    let mut out = Vec::new(alloc);
+    push_deeds(&mut out, "; ", scene, step)?;
+    cut(alloc, behind_two(out.as_slice()))
+}
+
+// Appends the background of a row.
+fn push_row_mark(
+    alloc: Global,
+    out: &mut Vec<u8>,
+    scene: &Scene<'_>,
+    step: usize,
+) -> Result<(), OutOfMemory>
+    requires small { IsSmall (scene_in scene.now) }
+    requires few { step < 2 ^ 32 }
+    ensures { OnOk result (out.new.items ≡ out.old.items ++ mark_text (row_mark (scene_in scene.now) step)) }
+{
+    let mut title = Vec::new(alloc);
+    push_step_word(&mut title, step)?;
+    let band = Shape::Band {
+        at: Point {
+            x: 0,
+            y: row_y(scene.span.from, step) - 22,
+        },
+        wide: width(scene),
+        high: 44,
+    };
+    push_mark(out, Sign::Row, band, &[], title.as_slice())
+}
+
+// Appends the background of a row, if it is one of those that have it.
+fn push_row(
+    alloc: Global,
+    out: &mut Vec<u8>,
+    scene: &Scene<'_>,
+    step: usize,
+) -> Result<(), OutOfMemory>
+    requires small { IsSmall (scene_in scene.now) }
+    requires few { step < 2 ^ 32 }
+    ensures { OnOk result (out.new.items
+        ≡ out.old.items ++ flat_map mark_text (row_marks (scene_in scene.now) step)) }
+{
+    if step.saturating_sub(scene.span.from) % 2 == 0 {
+        push_row_mark(alloc, out, scene, step)
+    } else {
+        Ok(())
+    }
+}
+
+/// Appends the backgrounds of the rows.
+pub(crate) fn push_rows(
+    alloc: Global,
+    out: &mut Vec<u8>,
+    scene: &Scene<'_>,
+) -> Result<(), OutOfMemory>
+    requires { IsSmall (scene_in scene.now) }
+    ensures { OnOk result (out.new.items ≡ out.old.items
+        ++ flat_map mark_text (flat_map (row_marks (scene_in scene.now)) (steps_in (scene_in scene.now).span))) }
+{
+    for step in scene.span.from..scene.span.to {
+        push_row(alloc, out, scene, step)?;
+    }
+    Ok(())
+}
+
+// Where a step stands in its lane.
+fn at_step(scene: &Scene<'_>, step: &Drawn) -> Point
+    requires small { IsSmall (scene_in scene.now) }
+    requires few { step.now.number < 2 ^ 32 }
+    ensures { result ≡ at_step (scene_in scene.now) step.now }
+{
+    place_of(scene, step.thread, step.number)
+}
+
+// Appends the mark of a step in its lane.
+fn push_step_mark(
+    out: &mut Vec<u8>,
+    scene: &Scene<'_>,
+    step: &Drawn,
+    title: &[u8],
+) -> Result<(), OutOfMemory>
+    requires small { IsSmall (scene_in scene.now) }
+    requires few { step.now.number < 2 ^ 32 }
+    requires title { title.now ≡ whole_text (scene_in scene.now) step.now }
+    ensures { OnOk result (out.new.items ≡ out.old.items ++ mark_text (step_mark (scene_in scene.now) step.now)) }
+{
+    let part = part_of(scene, step.number);
+    let shape = part_shape(part, at_step(scene, step));
+    push_mark(out, part_sign(part), shape, &[], title)
+}
+
+// Appends the number of a step.
+fn push_number_mark(
+    alloc: Global,
+    out: &mut Vec<u8>,
+    scene: &Scene<'_>,
+    step: &Drawn,
+    title: &[u8],
+) -> Result<(), OutOfMemory>
+    requires small { IsSmall (scene_in scene.now) }
+    requires few { step.now.number < 2 ^ 32 }
+    requires title { title.now ≡ whole_text (scene_in scene.now) step.now }
+    ensures { OnOk result (out.new.items ≡ out.old.items ++ mark_text (number_mark (scene_in scene.now) step.now)) }
+{
+    let count = count_text(alloc, step.number)?;
+    let at = Point {
+        x: 62,
+        y: at_step(scene, step).y + 5,
+    };
+    push_mark(
+        out,
+        Sign::Name,
+        Shape::WordsTo { at },
+        count.as_slice(),
+        title,
+    )
+}
+
+// Appends where the thread of a step stood, and the statement.
+fn push_stand_mark(
+    alloc: Global,
+    out: &mut Vec<u8>,
+    scene: &Scene<'_>,
+    step: &Drawn,
+    stand: &[u8],
+    title: &[u8],
+) -> Result<(), OutOfMemory>
+    requires small { IsSmall (scene_in scene.now) }
+    requires few { step.now.number < 2 ^ 32 }
+    requires stand { stand.now ≡ stand_text (scene_in scene.now).seen step.now.before }
+    requires title { title.now ≡ whole_text (scene_in scene.now) step.now }
+    ensures { OnOk result (out.new.items ≡ out.old.items ++ mark_text (stand_mark (scene_in scene.now) step.now)) }
+{
+    let short = cut(alloc, stand)?;
+    let at = Point {
+        x: text_x(scene),
+        y: at_step(scene, step).y - 4,
+    };
+    push_mark(
+        out,
+        Sign::Text,
+        Shape::Words { at },
+        short.as_slice(),
+        title,
+    )
+}
+
+// Appends what a step did.
+fn push_deeds_mark(
+    alloc: Global,
+    out: &mut Vec<u8>,
+    scene: &Scene<'_>,
+    step: &Drawn,
+    title: &[u8],
+) -> Result<(), OutOfMemory>
+    requires small { IsSmall (scene_in scene.now) }
+    requires few { step.now.number < 2 ^ 32 }
+    requires title { title.now ≡ whole_text (scene_in scene.now) step.now }
+    ensures { OnOk result (out.new.items ≡ out.old.items ++ mark_text (deeds_mark (scene_in scene.now) step.now)) }
+{
+    let deeds = deeds_line(alloc, scene, step)?;
+    let at = Point {
+        x: text_x(scene),
+        y: at_step(scene, step).y + 13,
+    };
+    push_mark(
+        out,
+        Sign::Note,
+        Shape::Words { at },
+        deeds.as_slice(),
+        title,
+    )
+}
+
+// Appends the marks of a step, of which this is told.
+fn push_told(
+    alloc: Global,
+    out: &mut Vec<u8>,
+    scene: &Scene<'_>,
+    step: &Drawn,
+    stand: &[u8],
+    title: &[u8],
+) -> Result<(), OutOfMemory>
+    requires small { IsSmall (scene_in scene.now) }
+    requires few { step.now.number < 2 ^ 32 }
+    requires stand { stand.now ≡ stand_text (scene_in scene.now).seen step.now.before }
+    requires title { title.now ≡ whole_text (scene_in scene.now) step.now }
+    ensures { OnOk result (out.new.items
+        ≡ out.old.items ++ flat_map mark_text (step_marks (scene_in scene.now) step.now)) }
+{
+    push_step_mark(out, scene, step, title)?;
+    push_number_mark(alloc, out, scene, step, title)?;
+    push_stand_mark(alloc, out, scene, step, stand, title)?;
+    push_deeds_mark(alloc, out, scene, step, title)
+}
+
+// Appends the marks of a step.
+fn push_step(
+    alloc: Global,
+    out: &mut Vec<u8>,
+    scene: &Scene<'_>,
+    step: &Drawn,
+) -> Result<(), OutOfMemory>
+    requires small { IsSmall (scene_in scene.now) }
+    requires few { step.now.number < 2 ^ 32 }
+    ensures { OnOk result (out.new.items
+        ≡ out.old.items ++ flat_map mark_text (step_marks (scene_in scene.now) step.now)) }
+{
+    let stand = stand_text(alloc, scene.shown, step.before)?;
+    let title = whole_text(alloc, scene, step, stand.as_slice())?;
+    push_told(alloc, out, scene, step, stand.as_slice(), title.as_slice())
+}
+
+/// Appends the marks of each step.
+pub(crate) fn push_steps(
+    alloc: Global,
+    out: &mut Vec<u8>,
+    scene: &Scene<'_>,
+) -> Result<(), OutOfMemory>
+    requires { IsSmall (scene_in scene.now) }
+    ensures { OnOk result (out.new.items ≡ out.old.items
+        ++ flat_map mark_text (flat_map (step_marks (scene_in scene.now)) (scene_in scene.now).steps)) }
+{
+    let steps = scene.steps;
+    for step in steps {
+        push_step(alloc, out, scene, step)?;
+    }
+    Ok(())
+}

@@ -1,0 +1,66 @@
+//! Texts of steps and links.
+ghost use Rattle.std.specs.Prelude.{◌≡◌, ◌+◌, ◌++◌, IfOk, OnOk, decimal};
+ghost use Rattle.mr_picture.specs.Texts.{cut, cut_at, step_word};
+
+use crate::OutOfMemory;
+use itoa::Buffer;
+use std::alloc::Global;
+
+/// Appends a text of our own.
+pub(crate) fn push(out: &mut Vec<u8>, text: &str) -> Result<(), OutOfMemory>
+    ensures { OnOk result (out.new.items ≡ out.old.items ++ text.now) }
+{
+    out.extend_from_slice(text.as_bytes())
+}
+
+/// Appends a number in decimal.
+pub(crate) fn push_number(out: &mut Vec<u8>, number: u64) -> Result<(), OutOfMemory>
+    ensures { OnOk result (out.new.items ≡ out.old.items ++ decimal number) }
+{
+    let mut buffer = Buffer::new();
+    out.extend_from_slice(buffer.format(number).as_bytes())
+}
+
+/// Appends a number that is counted from 1, of something that is counted from 0.
+pub(crate) fn push_count(out: &mut Vec<u8>, at: usize) -> Result<(), OutOfMemory>
+    ensures { OnOk result (out.new.items ≡ out.old.items ++ decimal (at + 1)) }
+{
+    let mut buffer = Buffer::new();
+    out.extend_from_slice(buffer.format(at as u128 + 1).as_bytes())
+}
+
+/// Appends a step, counted from 1.
+pub(crate) fn push_step_word(out: &mut Vec<u8>, step: usize) -> Result<(), OutOfMemory>
+    ensures { OnOk result (out.new.items ≡ out.old.items ++ step_word step) }
+{
+    push(out, "step ")?;
+    push_count(out, step)
+}
+
+/// The number of a step, counted from 1.
+pub(crate) fn count_text(alloc: Global, at: usize) -> Result<Vec<u8>, OutOfMemory>
+    ensures { IfOk result (λ text. text.items ≡ decimal (at + 1)) }
+{
+    let mut out = Vec::new(alloc);
+    push_count(&mut out, at)?;
+    Ok(out)
+}
+
+/// A text as it is drawn: so many of its first bytes, and ` ..` where it has more.
+pub(crate) fn cut_at(alloc: Global, most: usize, text: &[u8]) -> Result<Vec<u8>, OutOfMemory>
+    ensures { IfOk result (λ short. short.items ≡ cut_at most text.now) }
+{
+    if text.len() <= most {
+        return Vec::from_slice(alloc, text);
+    }
+    let mut short = Vec::from_slice(alloc, &text[..most])?;
+    short.extend_from_slice(b" ..")?;
+    Ok(short)
+}
+
+/// A text as it is drawn beside a step.
+pub(crate) fn cut(alloc: Global, text: &[u8]) -> Result<Vec<u8>, OutOfMemory>
+    ensures { IfOk result (λ short. short.items ≡ cut text.now) }
+{
+    cut_at(alloc, 60, text)
+}

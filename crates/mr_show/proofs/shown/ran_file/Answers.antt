@@ -1,0 +1,15 @@
+use Rattle.std.proofs.Common.{inl, subst, sym}
+use Rattle.std.specs.Prelude.{Result}
+use Rattle.mr_sched.specs.declared.version.Read.{Read}
+use Rattle.mr_input.specs.declared.refusal.Refusal.{Refusal}
+use Rattle.mr_input.specs.Answer.{Tells, told}
+use Rattle.mr_input.proofs.InputLaws.{was_read}
+use Rattle.mr_show.specs.Answer.{ran_under}
+use Rattle.mr_show.proofs.shown.ran_file.Goals as goal
+
+pub returns-in-Ok-clause-texts : goal.returns-in-Ok-clause-texts
+returns-in-Ok-clause-texts g c = λ untold.
+    let texts = c.in-Ok.ensures.texts untold in
+    let T : Result Read Refusal → Type 0 = λ read.
+    Tells (told (ran_under c.args.part c.args.text.now c.args.p.now) read) c.ran.result in
+    (texts.0, inl (subst T (sym (was_read c.in-Ok.read _ _ _ texts.1)) c.ran.ensures.answer))

@@ -1,0 +1,84 @@
+//! What is drawn, and what it stands for.
+
+/// A point, from the left and from above.
+#[derive(Clone, Copy)]
+pub struct Point {
+    pub x: u64,
+    pub y: u64,
+}
+
+/// What is drawn.
+#[derive(Clone, Copy)]
+pub enum Shape {
+    /// A rectangle, from its upper left corner.
+    Band {
+        at: Point,
+        wide: u64,
+        high: u64,
+    },
+    Line {
+        from: Point,
+        to: Point,
+    },
+    /// A curve that leaves its first point towards the second one, comes to the third one from there, and goes straight on to
+    /// the last one.
+    Curve {
+        from: Point,
+        leave: Point,
+        come: Point,
+        to: Point,
+    },
+    /// A disc, by its centre.
+    Dot {
+        at: Point,
+    },
+    /// A square that stands on a corner, by its centre.
+    Diamond {
+        at: Point,
+    },
+    /// A square, by its centre.
+    Square {
+        at: Point,
+    },
+    /// Words that begin at a point.
+    Words {
+        at: Point,
+    },
+    /// Words that end at a point.
+    WordsTo {
+        at: Point,
+    },
+}
+
+/// What a mark stands for.
+#[derive(Clone, Copy)]
+pub enum Sign {
+    /// The background of a row.
+    Row,
+    /// A thread.
+    Lane,
+    /// A step.
+    Step,
+    /// A step that races.
+    Racing,
+    /// The step that ended the run without completing.
+    Stop,
+    /// An edge by which a step woke or started a thread.
+    Wake,
+    /// An edge by which a step depends on another one.
+    Dependence,
+    /// A race.
+    Race,
+    /// The first race.
+    FirstRace,
+    /// A step that a witness leaves out.
+    LeftOut,
+    /// A title.
+    Title,
+    /// The name of a thread, or the number of a step.
+    Name,
+    /// A text.
+    Text,
+    /// A text beside another one.
+    Note,
+}
