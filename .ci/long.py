@@ -66,11 +66,23 @@ def locked(threads):
     return with_lock(text)
 
 
+# How many nodes each of the four threads puts into the list.
+NODES = 25_000
+
+
 def listing():
-    """Four threads that put nodes in front of a list, under a lock."""
-    put = "deref(load(n), raw) = load(deref(global h + 0, raw)); deref(global h + 0, raw) = load(n); do release(u32 0) to @"
-    body = ["do allocate(u64 16, u64 8) -> n to @", TAKE, put]
-    text = program("global h align 8 { 0*8 }\n", body, body, 3, locals_=", n: raw")
+    """Four threads that put nodes in front of a list, under a lock; then the first one walks along the list, again and again."""
+    put = "deref(load(n), raw) = load(deref(global h + 0, raw)); deref(global h + 0, raw) = load(n); do release(u32 0) to l3;"
+    count = "i = add(load(i), u64 1); switch load(i) { %d => %s, _ => %s };"
+    build = "l0 regular: do allocate(u64 16, u64 8) -> n to l1;\nl1 regular: do acquire(u32 0) to l2;\n"
+    build += f"l2 regular: {put}\nl3 regular: {count % (NODES, 'e0', 'l0')}\n"
+    begun = WORKER % (", i: u64, n: raw", f"b0 regular: live i; live n; i = u64 0; goto l0;\n{build}e0 regular: return;\n")
+    joins = "".join(f"e{k} regular: do join(u32 {k + 1}) to {f'e{k + 1}' if k < 2 else 'w0'};\n" for k in range(3))
+    walk = "w0 regular: i = u64 0; n = load(deref(global h + 0, raw)); goto w1;\n"
+    walk += f"w1 regular: n = load(deref(load(n), raw)); {count % (4 * NODES, 'w0', 'w1')}\n"
+    starts = "".join(f"s{k} regular: do spawn(fn w, raw 0) -> t to {f's{k + 1}' if k < 2 else 's'};\n" for k in range(3))
+    front = "s regular: live i; live n; i = u64 0; goto l0;\n"
+    text = HEAD + "global h align 8 { 0*8 }\n" + begun + MAIN % (", i: u64, n: raw", starts, front + build + joins + walk)
     return with_lock(text.replace("live t; goto", "live t; deref(global h + 0, raw) = raw 8; goto"))
 
 
@@ -92,7 +104,7 @@ SHAPES = {
     "atomics and own stores in turn": program(GLOBAL, ["x = u32 1; " + ATOMIC], ["x = u32 1; " + ATOMIC], locals_=", x: u32"),
     "an array, written and read under a lock": guarded(True),
     "an array, written and read without": guarded(False),
-    "a list of four threads": listing(),
+    "a list of 100,000 nodes, built by four threads": listing(),
     "64 threads and a lock": locked(64),
     "1,000 threads that load one cell": program(GLOBAL, [LOAD], [LOAD], 999, locals_=", x: u32"),
 }

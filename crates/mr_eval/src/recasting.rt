@@ -126,8 +126,23 @@ fn encode_known(
     }
 }
 
+/// What the bytes of a value are as a value of another type of the same size, where they are one. Nothing is checked.
+#[tactic(auto, using(crate::proofs::RecastLaws::transmute_laws))]
+pub fn recast(alloc: Global, to: &Ty, from: Known<'_>, v: &Val) -> Result<Option<Val>, OutOfMemory>
+    requires ok { TypeOk to.now }
+    requires from_ok { TypeOk (ty_of from) }
+    requires shape { has_shape (ty_of from) v.now ≡ true }
+    requires same { size_of (ty_of from) ≡ size_of to.now }
+    ensures { IfOk result (λ o. o ≡ decoded to.now (encoding_of (ty_of from.entry) v.now)) }
+{
+    let mut piece = Vec::new(alloc);
+    encode_known(alloc, v, from, &mut piece)?;
+    let bytes = piece.as_slice();
+    laid(alloc, to, bytes.len() as u64, 0, bytes)
+}
+
 /// The bytes of a value, taken for another type of the same size.
-#[tactic(auto, using(crate::proofs::RecastLaws::transmute_laws, crate::proofs::ExtendsLaws::extends_laws))]
+#[tactic(auto, using(crate::proofs::ExtendsLaws::extends_laws))]
 pub fn transmuted(
     alloc: Global,
     m: &Memory,
@@ -144,10 +159,7 @@ pub fn transmuted(
         (seen notes.new) }
     ensures kept { Extends (seen notes.old) (seen notes.new) }
 {
-    let mut piece = Vec::new(alloc);
-    encode_known(alloc, v, from, &mut piece)?;
-    let bytes = piece.as_slice();
-    match laid(alloc, to, bytes.len() as u64, 0, bytes)? {
+    match recast(alloc, to, from, v)? {
         Some(v) => referred(alloc, m, notes, to, v),
         None => Err(Halt::Undefined(Reason::TransmuteInvalid)),
     }

@@ -33,9 +33,9 @@ fn number_like(int: IntType, value: Val) -> Option<Num>
     }
 }
 
-// The number of an integer in bytes.
+/// The number of an integer in bytes.
 #[tactic(auto, using(mr_layout::proofs::BrokenLaws::broken_int, mr_layout::proofs::SizeLaws::size_int, mr_value::proofs::DecodeLaws::decode_int))]
-fn number_in(view: &View<'_>, int: IntType) -> Option<Num>
+pub fn number_in(view: &View<'_>, int: IntType) -> Option<Num>
     requires { length (bytes_of_pieces view.now) ≡ int_size int }
     ensures { result ≡ option_map (number_of_bits int) (number_of (bytes_of_pieces view.now)) }
 {

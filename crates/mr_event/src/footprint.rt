@@ -1,8 +1,8 @@
 //! What is kept of a completed step, and a race of two of them.
 
 use crate::OutOfMemory;
-use crate::lists::{Lists, Step};
-use crate::shape::Shape;
+use crate::lists::Step;
+use crate::shape::{Reach, Shape};
 use mr_base::{Access, AllocId, Event};
 use std::alloc::Global;
 use std::marker::Model;
@@ -11,15 +11,16 @@ use std::slice::from_ref;
 
 /// What a completed step read, changed and woke.
 ///
-/// A footprint is kept for each step of a run. One of a step that has no list, or that did nothing to a lock or a thread
-/// and has at most one access, one touched allocation and no other list, takes no memory but its own.
+/// A footprint is kept for each step of a run, and most steps of a run do what an earlier one did: what they did is kept
+/// once, and a footprint has its thread and where to find the rest. One of a step without lists takes no memory but its
+/// own.
 #[derive(Drop)]
 pub struct Footprint {
     alloc: Global,
     shape: Shape,
 }
 
-const _: () = prove!(size_of::<Footprint>() <= 48);
+const _: () = prove!(size_of::<Footprint>() <= 16);
 
 impl Model for Footprint {
     ghost use Rattle.mr_event.specs.Footprint.{Footprint as Contents};
@@ -35,7 +36,7 @@ impl Footprint {
     ghost use Rattle.std.specs.Prelude.{◌≡◌, ◌++◌, ◌∷◌, [], false, IfOk, OnErr, OnOk};
     ghost use Rattle.mr_base.specs.declared.thread.Event.TheVariants.{Quiet};
     ghost use Rattle.mr_event.specs.Lists.{footprint_of};
-    ghost use Rattle.mr_event.specs.Shape.{footprint_in};
+    ghost use Rattle.mr_event.specs.Shape.{footprint_in, plain, single};
 
     /// A step of thread 0 that did nothing.
     pub fn nothing(alloc: Global) -> Footprint
@@ -52,7 +53,7 @@ impl Footprint {
     {
         Footprint {
             alloc,
-            shape: Shape::Bare(0, Event::Quiet, false),
+            shape: Shape::Bare(false, 0, Event::Quiet),
         }
     }
 
@@ -66,60 +67,47 @@ impl Footprint {
         })
     }
 
-    /// Takes the footprint of a step, in the room of lists that there is or its own, which is put away while the step needs
-    /// none.
-    pub(crate) fn refill(
-        &mut self,
-        room: &mut Option<Box<Lists>>,
-        step: &Step<'_>,
-    ) -> Result<(), OutOfMemory>
-        ensures { OnOk result (self.new ≡ footprint_of step.now) }
+    /// Takes the footprint of a step without lists.
+    pub(crate) fn take_bare(&mut self, step: &Step<'_>)
+        ensures { self.new ≡ plain step.now.thread step.now.event step.now.ended [] [] }
     {
-        self.shape.refill(self.alloc, room, step)
+        self.shape.take_bare(step);
     }
 
-    /// A copy. It takes room of its own only where the step needs it.
+    /// Takes the footprint of a step of a thread that made one access, and did nothing else. It asks for memory only where
+    /// others share its room.
+    pub(crate) fn take_single(&mut self, thread: u32, reach: Reach) -> Result<(), OutOfMemory>
+        ensures { OnOk result (self.new ≡ single thread reach) }
+    {
+        self.shape.take_single(self.alloc, thread, reach)
+    }
+
+    /// Takes the footprint of a step with any lists, likewise.
+    pub(crate) fn take_many(&mut self, step: &Step<'_>) -> Result<(), OutOfMemory>
+        ensures { OnOk result (self.new ≡ footprint_of step.now) }
+    {
+        self.shape.take_many(self.alloc, step)
+    }
+
+    /// A copy. It shares the room that this one has.
     pub fn copied(&self) -> Result<Footprint, OutOfMemory>
         ensures { IfOk result (λ f. f ≡ self.now) }
     {
-        Ok(self.with(self.shape.copy(self.alloc)?))
+        Ok(Footprint {
+            alloc: self.alloc,
+            shape: self.shape.copy()?,
+        })
     }
 
-    /// Appends a copy to others. It takes room of its own only where the step needs it.
+    /// Appends a copy to others.
     pub fn push_to(&self, steps: &mut Vec<Footprint>) -> Result<(), OutOfMemory>
         ensures ok { OnOk result (steps.new.items ≡ steps.old.items ++ self.now ∷ []) }
         ensures err { OnErr result (steps.new.items ≡ steps.old.items) }
     {
         steps.reserve(1)?;
-        match &self.shape {
-            Shape::Bare(thread, event, ended) => {
-                steps.push_reserved(self.with(Shape::Bare(*thread, *event, *ended)))
-            }
-            Shape::Accessed(thread, access) => {
-                steps.push_reserved(self.with(Shape::Accessed(*thread, *access)))
-            }
-            Shape::Touched(thread, allocation) => {
-                steps.push_reserved(self.with(Shape::Touched(*thread, *allocation)))
-            }
-            Shape::Both(thread, access, allocation) => {
-                steps.push_reserved(self.with(Shape::Both(*thread, *access, *allocation)))
-            }
-            Shape::Listed(_, _, _, _) => {
-                let copy = self.copied()?;
-                steps.push_reserved(copy)
-            }
-        }
+        let copy = self.copied()?;
+        steps.push_reserved(copy);
         Ok(())
-    }
-
-    // A footprint with the same allocator.
-    fn with(&self, shape: Shape) -> Footprint
-        ensures { result ≡ footprint_in shape }
-    {
-        Footprint {
-            alloc: self.alloc,
-            shape,
-        }
     }
 
     /// Puts a copy of another footprint in its place. After an `Err` it is what it was.
@@ -127,7 +115,7 @@ impl Footprint {
         ensures ok { OnOk result (self.new ≡ other.now) }
         ensures err { OnErr result (self.new ≡ self.old) }
     {
-        self.shape = other.shape.copy(self.alloc)?;
+        self.shape = other.shape.copy()?;
         Ok(())
     }
 
@@ -159,11 +147,8 @@ impl Footprint {
         ensures { result ≡ self.now.thread }
     {
         match &self.shape {
-            Shape::Bare(thread, _, _)
-            | Shape::Accessed(thread, _)
-            | Shape::Touched(thread, _)
-            | Shape::Both(thread, _, _)
-            | Shape::Listed(thread, _, _, _) => *thread,
+            Shape::Bare(_, thread, _) | Shape::Single(thread, _) | Shape::Many(thread, _) =>
+                *thread,
         }
     }
 
@@ -172,8 +157,9 @@ impl Footprint {
         ensures { result ≡ self.now.event }
     {
         match &self.shape {
-            Shape::Bare(_, event, _) | Shape::Listed(_, event, _, _) => *event,
-            _ => Event::Quiet,
+            Shape::Bare(_, _, event) => *event,
+            Shape::Single(_, _) => Event::Quiet,
+            Shape::Many(_, deeds) => deeds.as_ref().event,
         }
     }
 
@@ -182,8 +168,9 @@ impl Footprint {
         ensures { result ≡ self.now.ended }
     {
         match &self.shape {
-            Shape::Bare(_, _, ended) | Shape::Listed(_, _, ended, _) => *ended,
-            _ => false,
+            Shape::Bare(ended, _, _) => *ended,
+            Shape::Single(_, _) => false,
+            Shape::Many(_, deeds) => deeds.as_ref().ended,
         }
     }
 
@@ -192,9 +179,9 @@ impl Footprint {
         ensures { result.now ≡ self.now.accesses }
     {
         match &self.shape {
-            Shape::Accessed(_, access) | Shape::Both(_, access, _) => from_ref(access),
-            Shape::Listed(_, _, _, lists) => lists.accesses.as_slice(),
-            _ => &[],
+            Shape::Bare(_, _, _) => &[],
+            Shape::Single(_, reach) => from_ref(&reach.as_ref().access),
+            Shape::Many(_, deeds) => deeds.as_ref().lists.accesses.as_slice(),
         }
     }
 
@@ -203,7 +190,7 @@ impl Footprint {
         ensures { result.now ≡ self.now.allocated }
     {
         match &self.shape {
-            Shape::Listed(_, _, _, lists) => lists.allocated.as_slice(),
+            Shape::Many(_, deeds) => deeds.as_ref().lists.allocated.as_slice(),
             _ => &[],
         }
     }
@@ -213,7 +200,7 @@ impl Footprint {
         ensures { result.now ≡ self.now.freed }
     {
         match &self.shape {
-            Shape::Listed(_, _, _, lists) => lists.freed.as_slice(),
+            Shape::Many(_, deeds) => deeds.as_ref().lists.freed.as_slice(),
             _ => &[],
         }
     }
@@ -223,9 +210,9 @@ impl Footprint {
         ensures { result.now ≡ self.now.touched }
     {
         match &self.shape {
-            Shape::Touched(_, id) | Shape::Both(_, _, id) => from_ref(id),
-            Shape::Listed(_, _, _, lists) => lists.touched.as_slice(),
-            _ => &[],
+            Shape::Bare(_, _, _) => &[],
+            Shape::Single(_, reach) => from_ref(&reach.as_ref().allocation),
+            Shape::Many(_, deeds) => deeds.as_ref().lists.touched.as_slice(),
         }
     }
 
@@ -234,7 +221,7 @@ impl Footprint {
         ensures { result.now ≡ self.now.woken }
     {
         match &self.shape {
-            Shape::Listed(_, _, _, lists) => lists.woken.as_slice(),
+            Shape::Many(_, deeds) => deeds.as_ref().lists.woken.as_slice(),
             _ => &[],
         }
     }

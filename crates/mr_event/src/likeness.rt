@@ -5,28 +5,28 @@ ghost use Rattle.mr_event.specs.Likeness.{AreAlike, DoTheSame};
 ghost use Rattle.mr_event.specs.Shape.{footprint_in};
 
 use crate::footprint::Footprint;
-use crate::shape::Shape;
+use crate::shape::{Shape, same_reach};
 use mr_base::{Access, AllocId, Event};
 
-fn same_event(a: Event, b: Event) -> bool
+pub(crate) fn same_event(a: Event, b: Event) -> bool
     ensures { IsTrue result ↔ (a ≡ b) }
 {
     a == b
 }
 
-fn same_access(a: Access, b: Access) -> bool
+pub(crate) fn same_access(a: Access, b: Access) -> bool
     ensures { IsTrue result ↔ (a ≡ b) }
 {
     a == b
 }
 
-fn same_id(a: AllocId, b: AllocId) -> bool
+pub(crate) fn same_id(a: AllocId, b: AllocId) -> bool
     ensures { IsTrue result ↔ (a ≡ b) }
 {
     a == b
 }
 
-fn same_accesses(a: &[Access], b: &[Access]) -> bool
+pub(crate) fn same_accesses(a: &[Access], b: &[Access]) -> bool
     ensures { IsTrue result ↔ (a.now ≡ b.now) }
 {
     if a.len() != b.len() {
@@ -40,7 +40,7 @@ fn same_accesses(a: &[Access], b: &[Access]) -> bool
     true
 }
 
-fn same_ids(a: &[AllocId], b: &[AllocId]) -> bool
+pub(crate) fn same_ids(a: &[AllocId], b: &[AllocId]) -> bool
     ensures { IsTrue result ↔ (a.now ≡ b.now) }
 {
     if a.len() != b.len() {
@@ -54,7 +54,7 @@ fn same_ids(a: &[AllocId], b: &[AllocId]) -> bool
     true
 }
 
-fn same_threads(a: &[u32], b: &[u32]) -> bool
+pub(crate) fn same_threads(a: &[u32], b: &[u32]) -> bool
     ensures { IsTrue result ↔ (a.now ≡ b.now) }
 {
     if a.len() != b.len() {
@@ -89,28 +89,22 @@ fn fields_alike(a: &Footprint, b: &Footprint) -> bool
     do_the_same(a, b) && same_threads(a.woken(), b.woken())
 }
 
-// Whether the two are equal and have no room of their own.
+// Whether the two are seen to be equal at once: they have no lists, or one access each.
 fn shapes_alike(a: &Shape, b: &Shape) -> bool
     ensures { IsTrue result → footprint_in a.now ≡ footprint_in b.now }
 {
     match (a, b) {
-        (Shape::Bare(thread, event, ended), Shape::Bare(thread2, event2, ended2)) => {
+        (Shape::Bare(ended, thread, event), Shape::Bare(ended2, thread2, event2)) => {
             thread == thread2 && ended == ended2 && same_event(*event, *event2)
         }
-        (Shape::Accessed(thread, access), Shape::Accessed(thread2, access2)) => {
-            thread == thread2 && same_access(*access, *access2)
-        }
-        (Shape::Touched(thread, id), Shape::Touched(thread2, id2)) => {
-            thread == thread2 && same_id(*id, *id2)
-        }
-        (Shape::Both(thread, access, id), Shape::Both(thread2, access2, id2)) => {
-            thread == thread2 && same_access(*access, *access2) && same_id(*id, *id2)
+        (Shape::Single(thread, reach), Shape::Single(thread2, reach2)) => {
+            thread == thread2 && same_reach(*reach.as_ref(), *reach2.as_ref())
         }
         _ => false,
     }
 }
 
-/// Whether two footprints are equal. Most are kept in one way and take no memory of their own: of these it is soon told.
+/// Whether two footprints are equal. Of most it is soon told.
 #[tactic(auto, using(crate::proofs::AlikeLaws::alike_equal, crate::proofs::AlikeLaws::equal_alike))]
 pub fn same_step(a: &Footprint, b: &Footprint) -> bool
     ensures { IsTrue result ↔ (a.now ≡ b.now) }

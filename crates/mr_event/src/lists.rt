@@ -1,6 +1,6 @@
 //! A step as it is told, and the lists of a step.
 ghost use Rattle.std.specs.Prelude.{◌≡◌, [], IfOk, IsTrue, OnOk};
-ghost use Rattle.mr_event.specs.Lists.{AreListsOf, footprint_of, listed};
+ghost use Rattle.mr_event.specs.Lists.{AreListsOf};
 
 use crate::OutOfMemory;
 use mr_base::{Access, AllocId, Event};
@@ -52,22 +52,6 @@ impl Lists {
         refill(&mut self.freed, step.freed)?;
         refill(&mut self.touched, step.touched)?;
         refill(&mut self.woken, step.woken)
-    }
-
-    /// A step with these lists.
-    pub fn step(&self, thread: u32, event: Event, ended: bool) -> Step<'_>
-        ensures { footprint_of result ≡ listed thread event ended self.now }
-    {
-        Step {
-            thread,
-            event,
-            ended,
-            accesses: self.accesses.as_slice(),
-            allocated: self.allocated.as_slice(),
-            freed: self.freed.as_slice(),
-            touched: self.touched.as_slice(),
-            woken: self.woken.as_slice(),
-        }
     }
 }
 

@@ -575,13 +575,13 @@ all_in s h =
     let links = map (arrow_mark s) (arrows s.seen.feet s.done) in
     let races = map (race_mark s) (races_in s.done s.near) in
     let steps = flat_map (step_marks s) s.steps in
-    All-append (IsIn s) (rows ++ lanes ++ links ++ races ++ steps) (round_marks s)
-    (All-append (IsIn s) (rows ++ lanes ++ links ++ races) steps
-    (All-append (IsIn s) (rows ++ lanes ++ links) races
-    (All-append (IsIn s) (rows ++ lanes) links
+    All-append (IsIn s) (rows ++ lanes ++ races ++ links ++ steps) (round_marks s)
+    (All-append (IsIn s) (rows ++ lanes ++ races ++ links) steps
+    (All-append (IsIn s) (rows ++ lanes ++ races) links
+    (All-append (IsIn s) (rows ++ lanes) races
     (All-append (IsIn s) rows lanes (rows_all s) (lanes_all s h))
-    (arrows_all s h))
     (races_all s h))
+    (arrows_all s h))
     (steps_all s h))
     (round_in s h)
 

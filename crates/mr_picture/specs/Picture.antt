@@ -19,13 +19,13 @@ use Rattle.mr_picture.specs.Steps.{row_marks, step_marks}
 abbrev pub round_marks : Scene → List Mark
 round_marks s = column_marks s s.first ++ head_marks s ++ line_marks s 0 (tail_count s) s.tail ++ legend_marks s
 
--- THE MARKS OF A SCENE: the rows, the lanes, the arrows, the races, the steps, and those round them
+-- THE MARKS OF A SCENE: the rows, the lanes, the races, the arrows, the steps, and those round them
 abbrev pub marks : Scene → List Mark
 marks s =
     flat_map (row_marks s) (steps_in s.span)
     ++ flat_map (lane_marks s) s.threads
-    ++ map (arrow_mark s) (arrows s.seen.feet s.done)
     ++ map (race_mark s) (races_in s.done s.near)
+    ++ map (arrow_mark s) (arrows s.seen.feet s.done)
     ++ flat_map (step_marks s) s.steps
     ++ round_marks s
 

@@ -77,8 +77,8 @@ fn push_marks(
 {
     push_rows(alloc, out, scene)?;
     push_lanes(alloc, out, scene)?;
-    push_arrows(alloc, out, scene, order)?;
     push_races(alloc, out, scene)?;
+    push_arrows(alloc, out, scene, order)?;
     push_steps(alloc, out, scene)?;
     push_round(alloc, out, scene, order, title)
 }

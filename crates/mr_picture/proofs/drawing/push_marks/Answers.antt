@@ -20,12 +20,12 @@ returns c =
     let links = map (arrow_mark s) (arrows s.seen.feet s.done) in
     let races = map (race_mark s) (races_in s.done s.near) in
     let steps = flat_map (step_marks s) s.steps in
-    last_marks mark_text c.push_round.result old _ _ (rows ++ lanes ++ links ++ races ++ steps) (round_marks s)
-    (more_marks mark_text old _ _ (rows ++ lanes ++ links ++ races) steps
-    (more_marks mark_text old _ _ (rows ++ lanes ++ links) races
-    (more_marks mark_text old _ _ (rows ++ lanes) links
+    last_marks mark_text c.push_round.result old _ _ (rows ++ lanes ++ races ++ links ++ steps) (round_marks s)
+    (more_marks mark_text old _ _ (rows ++ lanes ++ races ++ links) steps
+    (more_marks mark_text old _ _ (rows ++ lanes ++ races) links
+    (more_marks mark_text old _ _ (rows ++ lanes) races
     (more_marks mark_text old _ _ rows lanes c.in_ok-push_rows.ensures c.in_ok-push_lanes.ensures)
-    c.in_ok-push_arrows.ensures)
     c.in_ok-push_races.ensures)
+    c.in_ok-push_arrows.ensures)
     c.in_ok-push_steps.ensures)
     c.push_round.ensures
