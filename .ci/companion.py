@@ -7,6 +7,7 @@
   next one of the text, and behind a `goto` at the block's first; the prints, the verdict, and the count of the races are those of `mirace run`,
   and each step has the partners that the report lists. The races by pairs of places are made once more from the steps.
   A part of the steps is that part of all.
+- What an undefined run speaks of, beside its reason and its steps (spoken.py).
 - How runs go on, and what orders become (going_on.py).
 - The pictures of the pages, and those of runs beside their listings and their footprints (pictures.py).
 - Long runs, in seconds.
@@ -27,6 +28,7 @@ import codes  # noqa: E402
 import going_on  # noqa: E402
 import limits  # noqa: E402
 import pictures  # noqa: E402
+import spoken  # noqa: E402
 
 TOP = os.path.dirname(os.path.dirname(os.path.abspath(__file__)))
 COMPANION = f"{TOP}/crates/mirace_show/out/mirace_show"
@@ -40,8 +42,8 @@ USAGE = b"usage: steps P S [FIRST LAST] | races P S | picture P S [FIRST LAST] |
 PATIENCE = 40
 # The line of a step, with its number, its thread, its place, its function, its block and its statement.
 HEAD = re.compile(rb"(\d+)  thread (\d+)  (\d+):(\d+)  (\w+) (\w+)  (.*)")
-# How many runs are compared at the least, and how many of their steps.
-RUNS, STEPS = 800, 8000
+# How many runs are compared at the least, how many of their steps, and how many that speak of an allocation.
+RUNS, STEPS, SPEAKING = 800, 8000, 150
 # Of one in so many of them, and of each example, it is compared how they go on; and how many stored schedules are refused at the least.
 FEW, REFUSED = 4, 100
 # As many steps are drawn at most.
@@ -411,7 +413,7 @@ def a_part(judge, what, words, steps, tail, at):
 
 
 def listing(judge, script, program, schedule, report, status, at):
-    """A run as it is listed, beside its report and its footprints. Its steps, and these."""
+    """A run as it is listed, beside its report and its footprints. Its steps, these, and whether it speaks of an allocation."""
     what = f"companion: {title((program, schedule))}"
     wrote, ended = ran(["steps", program, schedule], at)
     steps, tail = parted(wrote)
@@ -422,11 +424,12 @@ def listing(judge, script, program, schedule, report, status, at):
     feet = [script.step_of(it) for it in script.decode(trace).splitlines()]
     like_the_footprints(judge, what, source, read(schedule), steps, feet)
     pairs = like_the_report(judge, what, steps, tail, report, status, ended)
+    speaks = spoken.compare(judge, what, source, steps, tail)
     grouped = ran(["races", program, schedule], at)
     judge(f"{what}: its races by places", grouped == (by_places(steps, pairs), status), short(grouped[0]))
     a_part(judge, what, ["steps", program, schedule], steps, tail, at)
     a_picture(judge, what, program, schedule, status, steps, feet, pairs, at)
-    return steps, feet
+    return steps, feet, speaks
 
 
 def a_picture(judge, what, program, schedule, status, steps, feet, pairs, at):
@@ -475,15 +478,17 @@ def runs():
 
 
 def listings(judge, at):
-    count, total, script = 0, 0, trace_script()
+    count, total, speaking, script = 0, 0, 0, trace_script()
     for run in runs():
-        steps, feet = listing(judge, script, *run, at)
+        steps, feet, speaks = listing(judge, script, *run, at)
         if count % FEW == 0 or os.path.dirname(run[0]) in (CASES, CLASS):
             going_on.fronts(judge, Kit, run, steps, feet, at)
             going_on.orders(judge, Kit, run, count % 3, at)
         total += len(steps)
+        speaking += speaks
         count += 1
     judge("companion: runs that are listed", count >= RUNS and total >= STEPS, f"{count} runs, {total} steps")
+    judge("companion: runs that speak of an allocation", speaking >= SPEAKING, f"{speaking} runs")
 
 
 def refusals(judge, at):

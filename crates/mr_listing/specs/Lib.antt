@@ -6,6 +6,7 @@ pub mod Races
 pub mod Rests
 pub mod Seen
 pub mod Sorted
+pub mod Spoken
 pub mod Spots
 pub mod Steps
 pub mod Words

@@ -20,7 +20,7 @@ fn same_id(a: AllocId, b: AllocId) -> bool
 }
 
 // Whether a step freed an allocation.
-fn freed_by(id: AllocId, foot: &Footprint) -> bool
+pub(crate) fn freed_by(id: AllocId, foot: &Footprint) -> bool
     ensures { result ≡ freed_by id foot.now }
 {
     foot.freed().iter().any(|freed| same_id(id, *freed))

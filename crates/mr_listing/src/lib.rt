@@ -4,6 +4,7 @@
 //! - [`steps`]: a line for each step that is told, with what it printed, what it did to locks and threads, its accesses by
 //!   name, and its partners; and the verdict.
 //! - [`races`]: the listed races by pairs of places, those with most races first, each pair with how many there are.
+//! - [`push_spoken`]: what an undefined run speaks of: an allocation by its name, and where in it.
 //! - [`stand_text`]: where a thread stands, by the statement at which it does.
 //! - [`push_name`], [`push_reached`], [`push_bytes`], [`function_word`], [`access_word`], [`acquire_word`], [`join_word`],
 //!   [`release_word`]: the parts of a line, for other texts.
@@ -23,6 +24,7 @@ mod partners;
 mod rests;
 mod shown;
 mod sorted;
+mod spoken;
 mod spots;
 mod words;
 
@@ -32,6 +34,7 @@ pub use law::races_are_grouped;
 pub use listing::steps;
 pub use pairs::races;
 pub use shown::Shown;
+pub use spoken::push_spoken;
 pub use spots::stand_text;
 pub use std::alloc::AllocError as OutOfMemory;
 pub use words::{function_word, push_name};

@@ -22,6 +22,8 @@ use Rattle.mr_answer.proofs.StatusLaws.{at_most_one}
 use Rattle.mr_fill.specs.Told.{texts_of}
 use Rattle.mr_fill.specs.declared.told.FilledText.{FilledText}
 use Rattle.mr_listing.specs.Seen.{Seen}
+use Rattle.mr_reached.specs.declared.reached.Reached.{Reached}
+use Rattle.mr_spoken.specs.Spoken.{spoken_of}
 use Rattle.mr_show.specs.declared.form.Part.{Part}
 use Rattle.mr_show.specs.declared.form.Saying.{Saying}
 use Rattle.mr_show.specs.declared.form.Saying.TheVariants.{Next, OfOrder, OfRun}
@@ -41,10 +43,10 @@ use Rattle.mr_show.specs.Unread.{IsUnreadBecause, LacksFile}
 abbrev SixIf : Type 0 → ℕ → Type 0
 SixIf lacking status = (status ≤ 5) ⊎ ((status ≡ 6) × lacking)
 
-legal_least : (part : Part) (v : Version) (w : Schedule) (f : Option PlacedFault) (s : Seen)
-    → (told (part_answer part) (unless_broken v w f s)).status ≤ 5
-legal_least part v w None s = let least = at_most_one s.verdict s.races in omega (arith, least)
-legal_least part v w (Some f) s = omega arith
+legal_least : (part : Part) (spoken : Option Reached) (v : Version) (w : Schedule) (f : Option PlacedFault) (s : Seen)
+    → (told (part_answer part spoken) (unless_broken v w f s)).status ≤ 5
+legal_least part spoken v w None s = let least = at_most_one s.verdict s.races in omega (arith, least)
+legal_least part spoken v w (Some f) s = omega arith
 
 next_least : (text : List ℕ) (p : Program) (v : Version) (w : Schedule) (f : Option Fault)
     → (next_from text p v w f).status ≤ 5
@@ -69,7 +71,7 @@ module _ (lacking : Type 0) where
   ran_six : (part : Part) (text : List ℕ) (p : Program) (r : Result Read TextOf)
       → SixIf lacking (told (ran_under part text p) (spelled r)).status
   ran_six part text p (Ok r) =
-      inl (legal_least part r.version r.schedule (schedule_fault p r.schedule) (run_seen part text p r.schedule))
+      inl (legal_least part (spoken_of p r.schedule) r.version r.schedule (schedule_fault p r.schedule) (run_seen part text p r.schedule))
   ran_six part text p (Err f) = inl (omega arith)
 
   next_six : (text : List ℕ) (p : Program) (r : Result Read TextOf) → SixIf lacking (told (next_under text p) (spelled r)).status

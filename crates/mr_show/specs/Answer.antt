@@ -15,6 +15,8 @@ use Rattle.mr_input.specs.Answer.{Answer, form_or, refused, told}
 use Rattle.mr_input.specs.Inputs.{denoted, schedule_in}
 use Rattle.mr_answer.specs.Answers.{unless_broken}
 use Rattle.mr_answer.specs.Report.{report_status}
+use Rattle.mr_spoken.specs.Spoken.{spoken_of}
+use Rattle.mr_reached.specs.declared.reached.Reached.{Reached}
 use Rattle.mr_told.specs.declared.rows.Allocation.{Allocation}
 use Rattle.mr_told.specs.declared.step.ToldStep.{ToldStep}
 use Rattle.mr_told.specs.Table.{start_rows, step_rows}
@@ -23,6 +25,7 @@ use Rattle.mr_telling.specs.Told.{if_between, told_steps}
 use Rattle.mr_arrows.specs.declared.span.Span.{Span}
 use Rattle.mr_listing.specs.Races.{races_text}
 use Rattle.mr_listing.specs.Seen.{Seen}
+use Rattle.mr_listing.specs.Spoken.{spoken_line}
 use Rattle.mr_listing.specs.Steps.{steps_text}
 use Rattle.mr_picture.specs.Picture.{picture_text}
 use Rattle.mr_show.specs.declared.form.Part.{Part}
@@ -70,20 +73,21 @@ run_seen part text p w =
 
 -- ---- what is said of it
 
--- the text of a part; that of steps ends with the reason of an undefined run
-abbrev pub part_text : Part → Seen → List ℕ
-part_text (Steps from to) s = steps_text s ++ reason_text s.verdict
-part_text Races s = races_text s
-part_text (Picture asked) s = picture_text s asked
+-- the text of a part; that of steps ends with the reason of an undefined run, and with what it speaks of
+abbrev pub part_text : Part → Option Reached → Seen → List ℕ
+part_text (Steps from to) spoken s = steps_text s ++ reason_text s.verdict ++ spoken_line s spoken
+part_text Races spoken s = races_text s
+part_text (Picture asked) spoken s = picture_text s asked
 
 -- with the status that the report of the run has
-abbrev pub part_answer : Part → Seen → Answer
-part_answer part s = record { text = part_text part s; status = report_status s.verdict s.races }
+abbrev pub part_answer : Part → Option Reached → Seen → Answer
+part_answer part spoken s = record { text = part_text part spoken s; status = report_status s.verdict s.races }
 
 -- the same of the run under a schedule whose text is in a version, or the first rule that the schedule breaks, on its
 -- line of that text
 abbrev pub ran_answer : Part → List ℕ → Program → Version → Schedule → Answer
-ran_answer part text p v w = told (part_answer part) (unless_broken v w (schedule_fault p w) (run_seen part text p w))
+ran_answer part text p v w =
+    told (part_answer part (spoken_of p w)) (unless_broken v w (schedule_fault p w) (run_seen part text p w))
 
 -- WHAT IS SAID of the run of the program of a text under the schedule in a file, or of what the order there becomes; or
 -- what refuses the file

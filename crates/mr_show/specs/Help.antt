@@ -37,11 +37,8 @@ help_text OfSteps =
     ++ codes "the steps with which it"
     )
     ++ line (codes "races. At the end stand the verdict, how many races there are, how the threads stand where no step")
-    ++ line (
-    codes "stopped the run, which blocks a leak has left, and for which reason a run is "
-    ++ codes "undefined. With FIRST and"
-    )
-    ++ line (codes "LAST only those steps are written.")
+    ++ line (codes "stopped the run, which blocks a leak has left, for which reason a run is undefined, and of which")
+    ++ line (codes "allocation that reason speaks. With FIRST and LAST only those steps are written.")
 help_text OfRaces =
     line (codes "mirace_show races P S")
     ++ line (

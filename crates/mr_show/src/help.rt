@@ -22,8 +22,8 @@ Runs the program in file P under the schedule in file S, and writes a line for e
 its thread, the line and the column in P, the function, the block and the statement. Below it stand what
 it printed, what it did to locks and threads, what it loaded and stored, and the steps with which it
 races. At the end stand the verdict, how many races there are, how the threads stand where no step
-stopped the run, which blocks a leak has left, and for which reason a run is undefined. With FIRST and
-LAST only those steps are written.
+stopped the run, which blocks a leak has left, for which reason a run is undefined, and of which
+allocation that reason speaks. With FIRST and LAST only those steps are written.
 ";
 
 const OF_RACES: &[u8] = b"\

@@ -1,9 +1,13 @@
 //! The text of a part of a run, from what its steps tell.
-ghost use Rattle.std.specs.Prelude.{◌≡◌, ◌<◌, ◌^◌, ◌++◌, Ok, IfOk, length};
+ghost use Rattle.std.specs.Prelude.{◌≡◌, ◌<◌, ◌≤◌, ◌^◌, ◌++◌, Ok, IfOk, length};
 ghost use Rattle.mr_clocks.specs.Tracked.{Tracks};
 ghost use Rattle.mr_grammar.specs.Parsing.{parsed};
 ghost use Rattle.mr_input.specs.Answer.{IsStatus, seen as written_as};
-ghost use Rattle.mr_listing.specs.Seen.{seen};
+ghost use Rattle.mr_spoken.specs.Spoken.{spoken_of};
+ghost use Rattle.mr_listing.specs.Seen.{Seen, seen};
+ghost use Rattle.mr_listing.specs.Spoken.{spoken_line};
+ghost use Rattle.mr_run.specs.Runs.{IsRun};
+ghost use Rattle.mr_start.specs.Runs.{Legal, run_of};
 ghost use Rattle.mr_show.specs.Answer.{part_answer, part_text};
 ghost use Rattle.mr_listing.specs.Steps.{steps_text};
 ghost use Rattle.mr_show.specs.Gathered.{gathered};
@@ -13,11 +17,15 @@ use crate::form::Part;
 use crate::placed::places_of;
 use crate::sentences::push_reason;
 use mr_answer::{lines_of, status_of};
+use mr_base::Verdict;
 use mr_clocks::Analysis;
 use mr_input::Written;
-use mr_listing::{Shown, races, steps};
+use mr_listing::{Shown, push_spoken, races, steps};
 use mr_picture::picture;
+use mr_reached::Reached;
 use mr_run::Clocked;
+use mr_sched::Schedule;
+use mr_spoken::spoken;
 use mr_step::Machine;
 use mr_telling::rests;
 use mr_told::{Allocation, Allocations, ToldStep};
@@ -31,17 +39,18 @@ pub(crate) fn laid(
     part: Part,
     text: &[u8],
     p: &Checked,
+    w: &Schedule,
     machine: &Machine<'_>,
-    count: usize,
     kept: &Clocked,
     rows: Vec<Allocation>,
     told: &[ToldStep],
 ) -> Result<Written, AllocError>
     requires parsed { parsed text.now ≡ Ok p.now }
-    requires count { count < 2 ^ 32 }
+    requires few { length w.now.entries ≤ 2 ^ 22 }
     requires feet { length kept.now < 2 ^ 32 }
-    ensures answer { IfOk result (λ a. written_as a ≡ part_answer part
-        (gathered text.now p.now machine.now.config count rows.items told.now kept.now)) }
+    requires run { IsRun p.now w.now machine.now }
+    ensures answer { IfOk result (λ a. written_as a ≡ part_answer part (spoken_of p.now w.now)
+        (gathered text.now p.now machine.now.config (length w.now.entries) rows.items told.now kept.now)) }
     ensures status { IfOk result (λ a. IsStatus a.status) }
 {
     let program = p.program();
@@ -55,42 +64,71 @@ pub(crate) fn laid(
         places: &places,
         rows: &rows,
         steps: told,
-        count,
+        count: w.entries.len(),
         feet: kept.steps(),
         lines: lines.as_slice(),
         races: kept.races(),
         verdict: machine.verdict(),
         rests: rests.as_slice(),
     };
-    written(alloc, part, &shown, kept.order())
+    let spoken = part_spoken(alloc, part, p, w, machine.verdict())?;
+    written(alloc, part, spoken, &shown, kept.order())
+}
+
+// What the run of a program under a legal schedule speaks of, which has this verdict, where the text of a part tells it.
+fn part_spoken(
+    alloc: Global,
+    part: Part,
+    p: &Checked,
+    w: &Schedule,
+    verdict: Verdict,
+) -> Result<Option<Reached>, AllocError>
+    requires few { length w.now.entries ≤ 2 ^ 22 }
+    requires legal { Legal p.now w.now }
+    requires verdict { (run_of p.now w.now).verdict ≡ verdict }
+    ensures { IfOk result (λ o. (s : Seen) → part_answer part o s ≡ part_answer part (spoken_of p.now w.now) s) }
+{
+    match part {
+        Part::Steps { from: _, to: _ } => spoken(alloc, p, w, verdict),
+        Part::Races => Ok(None),
+        Part::Picture { asked: _ } => Ok(None),
+    }
 }
 
 // The text of a part of what is shown, with the status of the run.
 fn written(
     alloc: Global,
     part: Part,
+    spoken: Option<Reached>,
     shown: &Shown<'_>,
     order: &Analysis,
 ) -> Result<Written, AllocError>
     requires count { (seen shown.now).count < 2 ^ 32 }
     requires feet { length (seen shown.now).feet < 2 ^ 32 }
     requires tracks { Tracks order.now (seen shown.now).feet }
-    ensures answer { IfOk result (λ a. written_as a ≡ part_answer part (seen shown.now)) }
+    ensures answer { IfOk result (λ a. written_as a ≡ part_answer part spoken (seen shown.now)) }
     ensures status { IfOk result (λ a. IsStatus a.status) }
 {
-    let text = text_of(alloc, part, shown, order)?;
+    let text = text_of(alloc, part, spoken, shown, order)?;
     Ok(Written {
         text,
         status: status_of(shown.verdict, shown.races),
     })
 }
 
-// The text of the steps that are told, and behind it the reason for which the run is undefined, where it is.
-fn steps_of(alloc: Global, shown: &Shown<'_>) -> Result<Vec<u8>, AllocError>
-    ensures { IfOk result (λ text. text.items ≡ steps_text (seen shown.now) ++ reason_text (seen shown.now).verdict) }
+// The text of the steps that are told, and behind it the reason for which the run is undefined, where it is, with what
+// it speaks of.
+fn steps_of(
+    alloc: Global,
+    spoken: Option<Reached>,
+    shown: &Shown<'_>,
+) -> Result<Vec<u8>, AllocError>
+    ensures { IfOk result (λ text. text.items ≡ steps_text (seen shown.now)
+        ++ reason_text (seen shown.now).verdict ++ spoken_line (seen shown.now) spoken) }
 {
     let mut text = steps(alloc, shown)?;
     push_reason(&mut text, shown.verdict)?;
+    push_spoken(&mut text, shown, spoken)?;
     Ok(text)
 }
 
@@ -98,16 +136,17 @@ fn steps_of(alloc: Global, shown: &Shown<'_>) -> Result<Vec<u8>, AllocError>
 fn text_of(
     alloc: Global,
     part: Part,
+    spoken: Option<Reached>,
     shown: &Shown<'_>,
     order: &Analysis,
 ) -> Result<Vec<u8>, AllocError>
     requires count { (seen shown.now).count < 2 ^ 32 }
     requires feet { length (seen shown.now).feet < 2 ^ 32 }
     requires tracks { Tracks order.now (seen shown.now).feet }
-    ensures { IfOk result (λ text. text.items ≡ part_text part (seen shown.now)) }
+    ensures { IfOk result (λ text. text.items ≡ part_text part spoken (seen shown.now)) }
 {
     match part {
-        Part::Steps { from: _, to: _ } => steps_of(alloc, shown),
+        Part::Steps { from: _, to: _ } => steps_of(alloc, spoken, shown),
         Part::Races => races(alloc, shown),
         Part::Picture { asked } => picture(alloc, shown, order, asked),
     }

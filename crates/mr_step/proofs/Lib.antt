@@ -5,5 +5,6 @@ pub mod FirstLaws
 pub mod HandLaws
 pub mod Numbered
 pub mod SoundLaws
+pub mod StackLaws
 pub mod TakenLaws
 pub mod PlaceLaws

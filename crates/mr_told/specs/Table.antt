@@ -4,6 +4,7 @@ use Rattle.std.specs.Prelude.{length}
 use Rattle.std.specs.Prelude.{Option, None, Some, slice_get, option_to_list}
 use Rattle.std.specs.List.{range_with_len}
 use Rattle.mr_ast.specs.declared.program.Program.{Program}
+use Rattle.mr_base.specs.Identities.{same_id}
 use Rattle.mr_base.specs.declared.byte.AllocId.{AllocId}
 use Rattle.mr_sched.specs.declared.schedule.Ask.{Ask}
 use Rattle.mr_sched.specs.declared.schedule.Ask.TheVariants.{Address, Waiter}
@@ -60,3 +61,8 @@ holds addr row = not (nat_lt addr row.start) && nat_lt addr (row.start + row.siz
 abbrev pub found_at : ℕ → List Allocation → Option Allocation
 found_at addr [] = None
 found_at addr (row ∷ rows) = if holds addr row then Some row else found_at addr rows
+
+-- THE ALLOCATION OF AN IDENTITY: of a run there is one at most
+abbrev pub named : AllocId → List Allocation → Option Allocation
+named id [] = None
+named id (row ∷ rows) = if same_id id row.id then Some row else named id rows

@@ -1,8 +1,9 @@
 //! The table of the allocations of a run.
 use crate::OutOfMemory;
 use crate::index::{are_apart, put_in_order, searched, with_bytes};
-use crate::lookup::found_at;
+use crate::lookup::{found_at, named};
 use crate::rows::Allocation;
+use mr_base::AllocId;
 use std::alloc::Global;
 use std::marker::Model;
 
@@ -30,7 +31,7 @@ impl Model for Allocations {
 
 impl Allocations {
     ghost use Rattle.std.specs.Prelude.{◌≡◌, IfOk};
-    ghost use Rattle.mr_told.specs.Table.{found_at};
+    ghost use Rattle.mr_told.specs.Table.{found_at, named};
 
     /// The table of these allocations. An `Err` is for want of memory.
     pub fn new(alloc: Global, rows: Vec<Allocation>) -> Result<Allocations, OutOfMemory>
@@ -47,6 +48,13 @@ impl Allocations {
         ensures { result.now ≡ self.now }
     {
         self.rows.as_slice()
+    }
+
+    /// The allocation of an identity, where it is one of the run.
+    pub fn named(&self, id: AllocId) -> Option<Allocation>
+        ensures { result ≡ named id self.now }
+    {
+        named(id, self.rows.as_slice())
     }
 
     /// The allocation that holds an address, where one does: in the time of a search where none reaches another, and else

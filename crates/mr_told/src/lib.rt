@@ -8,6 +8,8 @@
 //!   name ([`Allocation`], [`Name`]).
 //! - [`Allocations`]: all of a run as a table, which finds the one that holds an address in the time of a search.
 //!
+//! - [`Allocations::named`]: the allocation of an identity.
+//!
 //! `specs/Names.antt` says by which name an allocation goes, `specs/Table.antt` which allocations a run has. Proved: each
 //! call answers exactly what these say, and want of memory is its only error.
 #![tactic(auto)]

@@ -1,4 +1,3 @@
-use Rattle.std.proofs.Common.{ℕ, List, ◌++◌, ◌∙◌}
 use Rattle.std.specs.Prelude.{codes}
 use Rattle.mr_outlook.specs.Texts.{threads_text}
 use Rattle.mr_outlook.proofs.Appended.{last_behind}

@@ -1,4 +1,4 @@
-use Rattle.std.proofs.Common.{ℕ, ◌<◌, ◌^◌, ap, subst, sym, ◌∙◌, ◌++◌, List, length, arith}
+use Rattle.std.proofs.Common.{◌<◌, ◌^◌, ap, subst, sym, ◌∙◌, ◌++◌, List, length, arith, refl}
 use Rattle.std.specs.Prelude.{flat_map}
 use Rattle.mr_event.specs.Footprint.{Footprint}
 use Rattle.mr_run.proofs.StepCount.{steps_within}
@@ -8,6 +8,7 @@ use Rattle.mr_told.specs.Table.{step_rows}
 use Rattle.mr_telling.specs.declared.telling.Between.{Between}
 use Rattle.mr_telling.specs.Told.{if_between, told_steps}
 use Rattle.mr_answer.proofs.RunLaws.{refused_read}
+use Rattle.mr_spoken.specs.Spoken.{spoken_of}
 use Rattle.mr_show.specs.Answer.{first_rows, part_answer}
 use Rattle.mr_show.specs.Gathered.{gathered}
 use Rattle.mr_show.proofs.ShownLaws.{told_broken, told_run}
@@ -17,8 +18,8 @@ pub returns-in-Ok-clause-answer : goal.returns-in-Ok-clause-answer
 returns-in-Ok-clause-answer c =
     let p = c.args.p.now in
     let w = c.args.w.now in
-    told_run c.args.part c.args.text.now p c.args.v w c.in-Ok.machine c.len.result c.tell.new.rows.items
-    c.as_slice-in-Ok.result.now c.tell.new.kept c.answered.result c.in-Ok.ensures.answer c.len.ensures
+    told_run c.args.part c.args.text.now p c.args.v w c.in-Ok.machine (length w.entries) c.tell.new.rows.items
+    c.as_slice-in-Ok.result.now c.tell.new.kept c.answered.result c.in-Ok.ensures.answer refl
     (c.in-Ok.ensures.rows
     ∙ ap (λ (xs : List Allocation). xs ++ flat_map (step_rows p) (told_steps p w))
     (c.in_ok-rows.ensures ∙ ap (first_rows p) c.as_slice.ensures))
@@ -27,11 +28,8 @@ returns-in-Ok-clause-answer c =
     ∙ ap (λ (b : Between). flat_map (if_between b) (told_steps p w)) c.between.ensures)
     c.in-Ok.ensures.kept
     (c.answered.ensures.answer
-    (part_answer c.args.part (gathered c.args.text.now p c.in-Ok.machine.config c.len.result c.tell.new.rows.items c.as_slice-in-Ok.result.now c.tell.new.kept))
+    (part_answer c.args.part (spoken_of p w) (gathered c.args.text.now p c.in-Ok.machine.config (length w.entries) c.tell.new.rows.items c.as_slice-in-Ok.result.now c.tell.new.kept))
     c.laid.ensures.answer)
-
-pub laid-requires-clause-count : goal.laid-requires-clause-count
-laid-requires-clause-count c = omega (arith, c.len.ensures, c.requires.few)
 
 pub laid-requires-clause-feet : goal.laid-requires-clause-feet
 laid-requires-clause-feet c =

@@ -1,0 +1,15 @@
+pub mod BlameLaws
+pub mod DanglingLaws
+pub mod EnvTypes
+pub mod LastLaws
+pub mod Leaving
+pub mod Left
+pub mod LoadLasts
+pub mod MoveLasts
+pub mod NotesApart
+pub mod PartsIn
+pub mod PlaceBlames
+pub mod QuietLaws
+pub mod RowBlames
+pub mod SearchLasts
+pub mod ValueBlames

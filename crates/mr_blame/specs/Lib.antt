@@ -1,0 +1,5 @@
+pub mod Last
+pub mod Laws
+pub mod Reaches
+pub mod Reads
+pub mod Rests

@@ -1,0 +1,72 @@
+-- What an undefined run speaks of, as it is written.
+use Rattle.std.specs.Prelude.{ℕ, suc, ◌+◌, ◌-◌, nat_lt, if◌then◌else◌, List, [], ◌∷◌, ◌++◌, Option, None, Some, codes}
+use Rattle.std.specs.Prelude.{decimal}
+use Rattle.std.specs.Option.{option_and_then}
+use Rattle.mr_base.specs.declared.byte.AllocId.{AllocId}
+use Rattle.mr_event.specs.Footprint.{Footprint}
+use Rattle.mr_told.specs.Table.{named}
+use Rattle.mr_told.specs.declared.names.Name.{Name}
+use Rattle.mr_told.specs.declared.names.Name.TheVariants as name
+use Rattle.mr_reached.specs.declared.reached.Reached.{Reached}
+use Rattle.mr_reached.specs.declared.reached.Reaching.{Reaching}
+use Rattle.mr_reached.specs.declared.reached.Reaching.TheVariants.{Changes, Frees, Loads, Moves, Refers, Stores}
+use Rattle.mr_told.specs.declared.rows.Allocation.{Allocation}
+use Rattle.mr_listing.specs.Accesses.{bytes_text}
+use Rattle.mr_listing.specs.Leaks.{freed_by}
+use Rattle.mr_listing.specs.Seen.{Seen}
+use Rattle.mr_listing.specs.Words.{name_text}
+
+-- what is done with bytes
+abbrev pub doing_word : Reaching → List ℕ
+doing_word Moves = codes "move over "
+doing_word Refers = codes "reference to "
+doing_word Loads = codes "load of "
+doing_word Stores = codes "store of "
+doing_word Changes = codes "atomic change of "
+doing_word Frees = codes "freeing of "
+
+-- where an address lies, counted from the first one of an allocation: `4`, `-8`
+abbrev pub offset_text : ℕ → ℕ → List ℕ
+offset_text start addr =
+    if nat_lt addr start then codes "-" ++ decimal (start - addr) else decimal (addr - start)
+
+-- the number of the first step that freed an allocation, counted on from a number
+abbrev pub freed_from : ℕ → AllocId → List Footprint → Option ℕ
+freed_from k id [] = None
+freed_from k id (foot ∷ feet) = if freed_by id foot then Some k else freed_from (suc k) id feet
+
+-- ` and was freed by step 20`
+abbrev pub freeing_text : ℕ → List ℕ
+freeing_text k = codes " and was freed by step " ++ decimal (k + 1)
+
+abbrev pub freed_text : Option ℕ → List ℕ
+freed_text None = []
+freed_text (Some k) = freeing_text k
+
+-- how many bytes it has: a function has an address, and no bytes
+abbrev pub held_bytes : Allocation → Name → ℕ
+held_bytes row (name.Function i) = 0
+held_bytes row _ = row.size
+
+-- `the block of step 12, which has 8 bytes and was freed by step 20`
+abbrev pub owner_word : Seen → Allocation → List ℕ
+owner_word s row =
+    name_text s.program None 0 row.name ++ codes ", which has " ++ bytes_text (held_bytes row row.name)
+    ++ freed_text (freed_from 0 row.id s.feet)
+
+-- the allocation, and where in it: `: load of 4 bytes at byte 4`
+abbrev pub spoken_text : Seen → Reached → Option Allocation → List ℕ
+spoken_text s r None =
+    codes "no allocation: " ++ doing_word r.doing ++ bytes_text r.len ++ codes " at address " ++ decimal r.pointer.addr
+spoken_text s r (Some row) =
+    owner_word s row ++ codes ": " ++ doing_word r.doing ++ bytes_text r.len ++ codes " at byte "
+    ++ offset_text row.start r.pointer.addr
+
+-- the allocation that a pointer may reach, where it is one of the run
+abbrev pub owner_of : Seen → Reached → Option Allocation
+owner_of s r = option_and_then (λ id. named id s.rows) r.pointer.prov
+
+-- THE LINE OF WHAT AN UNDEFINED RUN SPEAKS OF, where it does
+abbrev pub spoken_line : Seen → Option Reached → List ℕ
+spoken_line s None = []
+spoken_line s (Some r) = codes "it speaks of " ++ spoken_text s r (owner_of s r) ++ codes "\n"

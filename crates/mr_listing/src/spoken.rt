@@ -1,0 +1,160 @@
+//! What an undefined run speaks of: an allocation, by its name.
+ghost use Rattle.std.specs.Prelude.{◌≡◌, ◌++◌, OnOk};
+ghost use Rattle.mr_listing.specs.Accesses.{bytes_text};
+ghost use Rattle.mr_listing.specs.Seen.{seen};
+ghost use Rattle.mr_listing.specs.Spoken.{doing_word, freed_from, freed_text, freeing_text, held_bytes};
+ghost use Rattle.mr_listing.specs.Spoken.{offset_text, owner_of, owner_word, spoken_line, spoken_text};
+
+use crate::OutOfMemory;
+use crate::accesses::push_bytes;
+use crate::leaks::freed_by;
+use crate::shown::Shown;
+use crate::words::{push_count, push_name, push_number};
+use mr_base::AllocId;
+use mr_event::Footprint;
+use mr_reached::{Reached, Reaching};
+use mr_told::{Allocation, Name};
+
+// What is done with bytes.
+fn doing_word(doing: Reaching) -> &'static str
+    ensures { result.now ≡ doing_word doing }
+{
+    match doing {
+        Reaching::Moves => "move over ",
+        Reaching::Refers => "reference to ",
+        Reaching::Loads => "load of ",
+        Reaching::Stores => "store of ",
+        Reaching::Changes => "atomic change of ",
+        Reaching::Frees => "freeing of ",
+    }
+}
+
+// Appends where an address lies, counted from the first one of an allocation.
+fn push_offset(out: &mut Vec<u8>, start: u64, addr: u64) -> Result<(), OutOfMemory>
+    ensures { OnOk result (out.new.items ≡ out.old.items ++ offset_text start addr) }
+{
+    if addr < start {
+        out.push(b'-')?;
+        push_number(out, start - addr)?;
+        Ok(())
+    } else {
+        push_number(out, addr - start)
+    }
+}
+
+// The number of the first step that freed an allocation, counted from 0.
+fn freed_at(id: AllocId, feet: &[Footprint]) -> Option<usize>
+    ensures { result ≡ freed_from 0 id feet.now }
+{
+    for (k, foot) in feet.iter().enumerate() {
+        if freed_by(id, foot) {
+            return Some(k);
+        }
+    }
+    None
+}
+
+// Appends which step freed it.
+fn push_freeing(out: &mut Vec<u8>, k: usize) -> Result<(), OutOfMemory>
+    ensures { OnOk result (out.new.items ≡ out.old.items ++ freeing_text k) }
+{
+    out.extend_from_slice(b" and was freed by step ")?;
+    push_count(out, k)?;
+    Ok(())
+}
+
+// Appends which step freed it, where one did.
+fn push_freed(out: &mut Vec<u8>, freed: Option<usize>) -> Result<(), OutOfMemory>
+    ensures { OnOk result (out.new.items ≡ out.old.items ++ freed_text freed) }
+{
+    match freed {
+        Some(k) => push_freeing(out, k),
+        None => Ok(()),
+    }
+}
+
+// How many bytes an allocation has.
+fn held_bytes(row: &Allocation) -> u64
+    ensures { result ≡ held_bytes row.now row.now.name }
+{
+    match row.name {
+        Name::Function(_) => 0,
+        Name::Global(_) | Name::Local { .. } | Name::Heap(_) => row.size,
+    }
+}
+
+// Appends an allocation: its name, how many bytes it has, and which step freed it.
+fn push_owner(out: &mut Vec<u8>, shown: &Shown<'_>, row: &Allocation) -> Result<(), OutOfMemory>
+    ensures { OnOk result (out.new.items ≡ out.old.items ++ owner_word (seen shown.now) row.now) }
+{
+    push_name(out, shown.program, None, 0, row.name)?;
+    out.extend_from_slice(b", which has ")?;
+    push_bytes(out, held_bytes(row))?;
+    push_freed(out, freed_at(row.id, shown.feet))?;
+    Ok(())
+}
+
+// The allocation that a pointer may reach.
+fn owner_of(shown: &Shown<'_>, reached: Reached) -> Option<Allocation>
+    ensures { result ≡ owner_of (seen shown.now) reached }
+{
+    match reached.pointer.prov {
+        Some(id) => shown.rows.named(id),
+        None => None,
+    }
+}
+
+// Appends what is done with so many bytes.
+fn push_doing(out: &mut Vec<u8>, reached: Reached) -> Result<(), OutOfMemory>
+    ensures { OnOk result (out.new.items ≡ out.old.items ++ (doing_word reached.doing ++ bytes_text reached.len)) }
+{
+    out.extend_from_slice(doing_word(reached.doing).as_bytes())?;
+    push_bytes(out, reached.len)
+}
+
+// Appends an allocation, and where in it; or that there is none, and the address.
+fn push_spoken_text(
+    out: &mut Vec<u8>,
+    shown: &Shown<'_>,
+    reached: Reached,
+    owner: Option<Allocation>,
+) -> Result<(), OutOfMemory>
+    ensures { OnOk result (out.new.items ≡ out.old.items ++ spoken_text (seen shown.now) reached owner) }
+{
+    match owner {
+        None => {
+            out.extend_from_slice(b"no allocation: ")?;
+            push_doing(out, reached)?;
+            out.extend_from_slice(b" at address ")?;
+            push_number(out, reached.pointer.addr)?;
+            Ok(())
+        }
+        Some(row) => {
+            push_owner(out, shown, &row)?;
+            out.extend_from_slice(b": ")?;
+            push_doing(out, reached)?;
+            out.extend_from_slice(b" at byte ")?;
+            push_offset(out, row.start, reached.pointer.addr)?;
+            Ok(())
+        }
+    }
+}
+
+/// Appends the line of what an undefined run speaks of, where it does.
+pub fn push_spoken(
+    out: &mut Vec<u8>,
+    shown: &Shown<'_>,
+    spoken: Option<Reached>,
+) -> Result<(), OutOfMemory>
+    ensures { OnOk result (out.new.items ≡ out.old.items ++ spoken_line (seen shown.now) spoken) }
+{
+    match spoken {
+        None => Ok(()),
+        Some(reached) => {
+            out.extend_from_slice(b"it speaks of ")?;
+            push_spoken_text(out, shown, reached, owner_of(shown, reached))?;
+            out.push(b'\n')?;
+            Ok(())
+        }
+    }
+}

@@ -1,0 +1,5 @@
+pub mod Laws
+pub mod Operations
+pub mod Reaches
+pub mod Spoken
+pub mod Walks
