@@ -1,18 +1,16 @@
--- Texts and the table of their numbers, as a list of texts, and what follows from adding one.
-use Rattle.std.proofs.Common.{◌≡◌, ◌≢◌, ℕ, zero, suc, ◌<◌, Bool, true, false, List, [], ◌∷◌, ◌++◌, length, map, slice_get, None, Some, refl, sym, ap, subst, ◌∙◌, true≢false, arith, ◌⊎◌, inl, inr, String}
-use Rattle.std.proofs.lemmas.Bool.{cond-false, cond-true}
+-- Texts that are held by hash, as a list of texts, and what follows from adding one.
+use Rattle.std.proofs.Common.{◌≡◌, ◌≢◌, ℕ, zero, suc, ◌<◌, Bool, true, false, List, [], ◌∷◌, ◌++◌, length, map, get_or, slice_get, position, Some, refl, sym, ap, subst, ◌∙◌, true≢false, arith, ◌⊎◌, inl, inr, String, if◌then◌else◌}
+use Rattle.std.proofs.lemmas.List.Quantifiers.{position-Some}
+use Rattle.std.proofs.lemmas.Bool.{or_from, or_parts}
 use Rattle.std.proofs.lemmas.List.{map-append}
-use Rattle.std.proofs.lemmas.Map.Text.{btree_map_updates_text}
-use Rattle.std.proofs.lemmas.Option.{none-some, same_Some, slice_get_within}
+use Rattle.std.proofs.lemmas.Option.{none-some, same_Some, slice_get-get_or, slice_get-map, slice_get_within}
 use Rattle.std.proofs.lemmas.Slice.Eq.{bytes_eq-Decides}
-use Rattle.std.specs.BTreeMap as tree
-use Rattle.std.specs.BTreeMap.{BTreeMap, get_by_text, is_at}
-use Rattle.std.specs.Cmp.Lexicographic.{slice_cmp}
-use Rattle.std.specs.Map.{lookup, update}
-use Rattle.std.specs.Ordering.{nat_cmp}
+use Rattle.std.specs.List.{list_any}
+use Rattle.std.specs.Option.{option_map}
 use Rattle.std.specs.Str.{bytes_eq}
-use Rattle.std.specs.String.{string_bytes, string_cmp}
-use Rattle.mr_ast.specs.Names.{Adds, AddsEach, AreNumbers, IsFirst}
+use Rattle.std.specs.String.{string_bytes, string_eq}
+use Rattle.indexmap.specs.IndexSet.{insert_key}
+use Rattle.mr_ast.specs.Names.{Adds, AddsEach, IsFirst}
 
 slice_get_last : {A : Type 0} (xs : List A) (x : A) (n : ℕ) → n ≡ length xs → slice_get (xs ++ x ∷ []) n ≡ Some x
 slice_get_last [] x n last = ap (slice_get (x ∷ [])) last
@@ -30,40 +28,50 @@ push_cases [] x y (suc k) e = absurd (none-some y e)
 push_cases (z ∷ xs) x y zero e = inl e
 push_cases (z ∷ xs) x y (suc k) e = push_cases xs x y k e
 
--- ---- the table of numbers
-
 module _ {Z : Type 0} where
-  -- no text has a number
-  pub numbers_none : (texts : List (List ℕ)) (numbers : BTreeMap (String Z) ℕ) → texts ≡ [] → numbers.entries ≡ [] → AreNumbers texts numbers
-  numbers_none texts numbers no_text none =
-      let nothing : (text : List ℕ) → get_by_text numbers text ≡ None = λ text. ap (lookup (is_at (λ (k : String Z). slice_cmp nat_cmp text (string_bytes k)))) none in
+  -- whether a held text has these bytes
+  abbrev pub is_text : List ℕ → String Z → Bool
+  is_text text held = bytes_eq text (string_bytes held)
+
+  -- where a look-up finds no text, the text is at no position
+  pub missing-list_any : (texts : List (String Z)) (text : List ℕ) → list_any (is_text text) texts ≡ false → (k : ℕ) → slice_get (map string_bytes texts) k ≢ Some text
+  missing-list_any [] text none k h = none-some text h
+  missing-list_any (t ∷ texts) text none zero h =
+      let same : text ≡ string_bytes t = cc in
+      true≢false (sym ((bytes_eq-Decides text (string_bytes t)).1 same) ∙ (or_parts _ _ none).0)
+  missing-list_any (t ∷ texts) text none (suc k) h = missing-list_any texts text (or_parts (is_text text t) _ none).1 k h
+
+  -- and the other way round
+  pub list_any-missing : (texts : List (String Z)) (text : List ℕ) → ((k : ℕ) → slice_get (map string_bytes texts) k ≢ Some text) → list_any (is_text text) texts ≡ false
+  list_any-missing [] text missing = refl
+  list_any-missing (t ∷ texts) text missing = or_from _ _ (here (is_text text t) refl) (list_any-missing texts text (λ k. missing (suc k)))
+    where
+      here : (b : Bool) → is_text text t ≡ b → is_text text t ≡ false
+      here false e = e
+      here true e = absurd (missing 0 (ap Some (sym ((bytes_eq-Decides text (string_bytes t)).0 e))))
+
+  -- the first text that a look-up finds
+  pub IsFirst-position : (texts : List (String Z)) (text : List ℕ) (n : ℕ) → position (is_text text) texts ≡ Some n → IsFirst (map string_bytes texts) text n
+  IsFirst-position [] text n found = absurd (none-some n found)
+  IsFirst-position (t ∷ texts) text n found =
+      let all = t ∷ texts in
+      let p = position-Some (is_text text) all n t found in
+      let same = (bytes_eq-Decides text (string_bytes (get_or all n t))).0 p.1 in
       record {
-        found = λ text n h. absurd (none-some n (sym (nothing text) ∙ h));
-        missing = λ text h k e. none-some text (sym (ap (λ (xs : List (List ℕ)). slice_get xs k) no_text) ∙ e);
+        here = slice_get-map string_bytes all n ∙ ap (option_map string_bytes) (slice_get-get_or all n t p.0) ∙ ap Some (sym same);
+        first = λ k before h.
+            let inside : k < length all = omega (arith, p.0) in
+            let other : Some (string_bytes (get_or all k t)) ≡ Some text = sym (slice_get-map string_bytes all k ∙ ap (option_map string_bytes) (slice_get-get_or all k t inside)) ∙ h in
+            let same_k : text ≡ string_bytes (get_or all k t) = cc in
+            true≢false (sym ((bytes_eq-Decides text (string_bytes (get_or all k t))).1 same_k) ∙ p.2 k before);
       }
 
-  -- a text that is put last has its bytes
-  pub texts_put : (texts new : List (String Z)) (held : String Z) (text : List ℕ) → string_bytes held ≡ text → new ≡ texts ++ held ∷ [] → map string_bytes new ≡ map string_bytes texts ++ text ∷ []
-  texts_put texts new held text is new_is =
-      ap (map string_bytes) new_is ∙ map-append string_bytes texts (held ∷ []) ∙ ap (λ (t : List ℕ). map string_bytes texts ++ t ∷ []) is
-
-  -- what a table gives once a text is put into it
-  pub numbers_put : (old new : BTreeMap (String Z) ℕ) (key : String Z) (text : List ℕ) (n : ℕ) → string_bytes key ≡ text → tree.Updates string_cmp old new key (Some n)
-      → (other : List ℕ) → get_by_text new other ≡ update bytes_eq (get_by_text old) text (Some n) other
-  numbers_put old new key text n is put other =
-      subst (λ (t : List ℕ). get_by_text new other ≡ update bytes_eq (get_by_text old) t (Some n) other) is
-      (btree_map_updates_text (string_bytes key) old new (Some n) put other)
-
-  -- and where none was put
-  pub numbers_stay : (old new : BTreeMap (String Z) ℕ) → new.entries ≡ old.entries → (other : List ℕ) → get_by_text new other ≡ get_by_text old other
-  numbers_stay old new same other = ap (lookup (is_at (λ (k : String Z). slice_cmp nat_cmp other (string_bytes k)))) same
-
-  -- the same texts, and the same numbers
-  pub numbers_same : (old new : List (List ℕ)) (m n : BTreeMap (String Z) ℕ) → AreNumbers old m → new ≡ old → ((other : List ℕ) → get_by_text n other ≡ get_by_text m other) → AreNumbers new n
-  numbers_same old new m n are same stay = record {
-    found = λ text k h. subst (λ (xs : List (List ℕ)). IsFirst xs text k) (sym same) (are.found text k (sym (stay text) ∙ h));
-    missing = λ text h k e. are.missing text (sym (stay text) ∙ h) k (ap (λ (xs : List (List ℕ)). slice_get xs k) (sym same) ∙ e);
-  }
+  -- a new text goes last
+  pub map-insert_key : (texts : List (String Z)) (added : String Z) (text : List ℕ) → string_bytes added ≡ text → ((k : ℕ) → slice_get (map string_bytes texts) k ≢ Some text)
+      → map string_bytes (insert_key string_eq texts added) ≡ map string_bytes texts ++ text ∷ []
+  map-insert_key texts added text same missing =
+      let none : list_any (string_eq added) texts ≡ false = list_any-missing texts (string_bytes added) (subst (λ t. (k : ℕ) → slice_get (map string_bytes texts) k ≢ Some t) (sym same) missing) in
+      ap (λ b. map string_bytes (if b then texts else texts ++ added ∷ [])) none ∙ map-append string_bytes texts (added ∷ []) ∙ ap (λ t. map string_bytes texts ++ t ∷ []) same
 
 -- the number that a text gets is its first position
 pub IsFirst-Adds : (old new : List (List ℕ)) (text : List ℕ) (n : ℕ) → Adds old text new n → IsFirst new text n
@@ -83,36 +91,6 @@ IsFirst-kept old new text held n k (inr (missing, new_is, last)) h =
       here = subst (λ l. slice_get l k ≡ Some held) (sym new_is) (slice_get_before old text k inside ∙ h.here);
       first = λ j before e. h.first j before (sym (slice_get_before old text j (omega (arith, inside))) ∙ subst (λ l. slice_get l j ≡ Some held) new_is e);
     }
-
--- ---- a text more
-
--- a new text has the number of its position
-pub numbers_more : {Z : Type 0} (old new : List (List ℕ)) (m n : BTreeMap (String Z) ℕ) (text : List ℕ) (v : ℕ) → AreNumbers old m → ((k : ℕ) → slice_get old k ≢ Some text) → new ≡ old ++ text ∷ [] → v ≡ length old
-    → ((other : List ℕ) → get_by_text n other ≡ update bytes_eq (get_by_text m) text (Some v) other) → AreNumbers new n
-numbers_more old new m n text v are missing new_is last put = record { found = λ t k h. has t k h (bytes_eq text t) refl; missing = λ t h j e. none t h j e (bytes_eq text t) refl }
-  where
-    added : Adds old text new v
-    added = inr (missing, new_is, last)
-
-    is_new : (t : List ℕ) → bytes_eq text t ≡ true → get_by_text n t ≡ Some v
-    is_new t e = put t ∙ cond-true (bytes_eq text t) (Some v) (get_by_text m t) e
-
-    is_old : (t : List ℕ) → bytes_eq text t ≡ false → get_by_text n t ≡ get_by_text m t
-    is_old t e = put t ∙ cond-false (bytes_eq text t) (Some v) (get_by_text m t) e
-
-    has : (t : List ℕ) (k : ℕ) → get_by_text n t ≡ Some k → (b : Bool) → bytes_eq text t ≡ b → IsFirst new t k
-    has t k h true e =
-        let number : v ≡ k = same_Some v k (sym (is_new t e) ∙ h) in
-        subst (λ (j : ℕ). IsFirst new t j) number
-        (subst (λ (u : List ℕ). IsFirst new u v) ((bytes_eq-Decides text t).0 e) (IsFirst-Adds old new text v added))
-    has t k h false e = IsFirst-kept old new text t v k added (are.found t k (sym (is_old t e) ∙ h))
-
-    none : (t : List ℕ) → get_by_text n t ≡ None → (j : ℕ) → slice_get new j ≡ Some t → (b : Bool) → bytes_eq text t ≡ b → ⊥
-    none t h j e true is = none-some v (sym h ∙ is_new t is)
-    none t h j e false is = elim (push_cases old text t j (subst (λ (xs : List (List ℕ)). slice_get xs j ≡ Some t) new_is e)) [
-      | inl before ↦ are.missing t (sym (is_old t is) ∙ h) j before
-      | inr same ↦ true≢false (sym ((bytes_eq-Decides text t).1 same) ∙ is)
-    ]
 
 -- a text has one first position
 pub IsFirst-unique : (texts : List (List ℕ)) (text : List ℕ) (n m : ℕ) → IsFirst texts text n → IsFirst texts text m → m ≡ n

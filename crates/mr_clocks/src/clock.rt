@@ -84,9 +84,7 @@ impl Clock {
         if !other.times.is_empty() {
             extend_past(&mut self.times, other.times.len() - 1)?;
         }
-        for t in 0..other.times.len() {
-            self.times[t] = self.times[t].max(other.times[t]);
-        }
+        raise_all(self.times.as_mut_slice(), other.times.as_slice());
         Ok(())
     }
 
@@ -97,6 +95,16 @@ impl Clock {
     {
         self.join(other)?;
         self.raise(thread, i + 1)
+    }
+}
+
+// Raises each number to that of the same thread.
+fn raise_all(times: &mut [u32], others: &[u32])
+    requires { length others.now ≤ length times.old }
+    ensures { (t : ℕ) → slice_index times.new t ≡ max (slice_index times.old t) (slice_index others.now t) }
+{
+    for t in 0..others.len() {
+        times[t] = times[t].max(others[t]);
     }
 }
 

@@ -9,7 +9,7 @@ ghost use Rattle.mr_clocks.specs.Tracked.{IsNext, IsPartnerOr};
 
 use crate::analysis::{is_under, lent};
 use crate::clock::Clock;
-use crate::known::{are_known, are_latest_known, is_latest_known};
+use crate::known::{are_known, are_latest_known, is_latest_known, is_place_known};
 use crate::order::{are_rivals, thread_at};
 use crate::rows::{Link, Row, better, follow_place, keep_walk};
 use crate::skips::Skip;
@@ -30,6 +30,21 @@ pub(crate) struct Found {
 struct Walked {
     changed: bool,
     known: bool,
+}
+
+// What is to be followed ahead of a row with a step that the clock doesn't know.
+#[derive(Clone, Copy)]
+enum Ahead {
+    Newest,
+    Falling,
+    Nothing,
+}
+
+// One more than the latest step of a row, or 0, and the row's place.
+#[derive(Clone, Copy, PartialEq, Eq, PartialOrd, Ord)]
+struct Latest {
+    step: usize,
+    x: usize,
 }
 
 // With what the clock of step `j` begins: that of the step before in its thread.
@@ -126,6 +141,257 @@ fn if_new(clock: Clock, changed: bool, next: usize) -> Option<Clock>
     }
 }
 
+// What is to be followed ahead, where there are so many rows.
+fn ahead_of(many: usize) -> Ahead {
+    if many < 2 {
+        Ahead::Nothing
+    } else {
+        Ahead::Newest
+    }
+}
+
+// One more than the latest step of the row at a place, or 0 where there is none.
+fn latest_at(run: &[Footprint], rows: &[Row], links: &[Link], x: usize, j: usize) -> usize
+    requires within { j < length run.now }
+    requires rows { AreRows run.now j rows.now links.now }
+{
+    if x >= rows.len() {
+        return 0;
+    }
+    let row = rows[x];
+    if row.last == 0 {
+        return 0;
+    }
+    links[row.last as usize - 1].step as usize + 1
+}
+
+// Where among some places that of the row stands whose latest step is the newest of those that a clock doesn't know;
+// past them where it knows all.
+fn newest_unknown(
+    run: &[Footprint],
+    clock: &Clock,
+    rows: &[Row],
+    links: &[Link],
+    found: &[usize],
+    j: usize,
+) -> usize
+    requires within { j < length run.now }
+    requires rows { AreRows run.now j rows.now links.now }
+{
+    let mut newest = 0;
+    let mut at = found.len();
+    for y in 0..found.len() {
+        let latest = latest_at(run, rows, links, found[y], j);
+        if latest > newest && !is_latest_known(run, clock, rows, links, found[y], j) {
+            newest = latest;
+            at = y;
+        }
+    }
+    at
+}
+
+// Follows the row with the newest step that the clock doesn't know.
+fn walk_newest(
+    alloc: Global,
+    run: &[Footprint],
+    clocks: &[Clock],
+    numbers: &[u32],
+    rows: &[Row],
+    links: &[Link],
+    skips: &[Skip],
+    found: &[usize],
+    clock: &mut Clock,
+    left: &mut Vec<Skip>,
+    j: usize,
+    next: usize,
+) -> Result<bool, OutOfMemory>
+    requires within { j < length run.now }
+    requires few { length run.now < 2 ^ 32 }
+    requires clocks { AreClocks run.now j clocks.now numbers.now }
+    requires rows { AreRows run.now j rows.now links.now }
+    requires skips { AreSkips run.now j links.now skips.now }
+    requires next { IsNext run.now j next }
+    requires part { IsPart run.now clock.old j }
+    requires left { AreSkips run.now j links.now left.old.items }
+    ensures part { OnOk result (IsPart run.now clock.new j) }
+    ensures kept { OnOk result ((m : ℕ) → IsUnder run.now clock.old m → IsUnder run.now clock.new m) }
+    ensures same { IfOk result (λ changed. IsFalse changed → clock.new ≡ clock.old) }
+    ensures left { OnOk result (AreSkips run.now j links.now left.new.items) }
+{
+    let y = newest_unknown(run, &*clock, rows, links, found, j);
+    if y >= found.len() {
+        return Ok(false);
+    }
+    let walked = walk_place(
+        alloc, run, clocks, numbers, rows, links, skips, found[y], clock, left, j, next,
+    )?;
+    Ok(walked.changed)
+}
+
+// Of some rows those with a step that a clock doesn't know, and from which an edge may lead to step `j`, by rising
+// steps.
+fn unknown_rows(
+    alloc: Global,
+    run: &[Footprint],
+    clock: &Clock,
+    rows: &[Row],
+    links: &[Link],
+    found: &[usize],
+    j: usize,
+) -> Result<Vec<Latest>, OutOfMemory>
+    requires within { j < length run.now }
+    requires rows { AreRows run.now j rows.now links.now }
+{
+    let mut unknown = Vec::new(alloc);
+    for y in 0..found.len() {
+        let x = found[y];
+        if !is_place_known(run, clock, rows, links, x, j) {
+            let step = latest_at(run, rows, links, x, j);
+            unknown.push(Latest { step, x })?;
+        }
+    }
+    unknown.sort_unstable();
+    Ok(unknown)
+}
+
+// Follows the rows with a step that the clock doesn't know, by falling steps.
+fn walk_falling(
+    alloc: Global,
+    run: &[Footprint],
+    clocks: &[Clock],
+    numbers: &[u32],
+    rows: &[Row],
+    links: &[Link],
+    skips: &[Skip],
+    found: &[usize],
+    clock: &mut Clock,
+    left: &mut Vec<Skip>,
+    j: usize,
+    next: usize,
+) -> Result<bool, OutOfMemory>
+    requires within { j < length run.now }
+    requires few { length run.now < 2 ^ 32 }
+    requires clocks { AreClocks run.now j clocks.now numbers.now }
+    requires rows { AreRows run.now j rows.now links.now }
+    requires skips { AreSkips run.now j links.now skips.now }
+    requires next { IsNext run.now j next }
+    requires part { IsPart run.now clock.old j }
+    requires left { AreSkips run.now j links.now left.old.items }
+    ensures part { OnOk result (IsPart run.now clock.new j) }
+    ensures kept { OnOk result ((m : ℕ) → IsUnder run.now clock.old m → IsUnder run.now clock.new m) }
+    ensures same { IfOk result (λ changed. IsFalse changed → clock.new ≡ clock.old) }
+    ensures left { OnOk result (AreSkips run.now j links.now left.new.items) }
+{
+    let unknown = unknown_rows(alloc, run, &*clock, rows, links, found, j)?;
+    let mut changed = false;
+    for k in 0..unknown.len() {
+        let x = unknown[unknown.len() - 1 - k].x;
+        let walked = walk_place(
+            alloc, run, clocks, numbers, rows, links, skips, x, clock, left, j, next,
+        )?;
+        changed = is_either(changed, walked.changed);
+    }
+    Ok(changed)
+}
+
+// Follows other rows before one that the clock doesn't know: at first that with the newest step, and next time all by
+// falling steps. What a newer step knows needs no walk any more, so that a clock joins few others.
+fn walk_ahead(
+    alloc: Global,
+    run: &[Footprint],
+    clocks: &[Clock],
+    numbers: &[u32],
+    rows: &[Row],
+    links: &[Link],
+    skips: &[Skip],
+    found: &[usize],
+    clock: &mut Clock,
+    left: &mut Vec<Skip>,
+    ahead: &mut Ahead,
+    j: usize,
+    next: usize,
+) -> Result<bool, OutOfMemory>
+    requires within { j < length run.now }
+    requires few { length run.now < 2 ^ 32 }
+    requires clocks { AreClocks run.now j clocks.now numbers.now }
+    requires rows { AreRows run.now j rows.now links.now }
+    requires skips { AreSkips run.now j links.now skips.now }
+    requires next { IsNext run.now j next }
+    requires part { IsPart run.now clock.old j }
+    requires left { AreSkips run.now j links.now left.old.items }
+    ensures part { OnOk result (IsPart run.now clock.new j) }
+    ensures kept { OnOk result ((m : ℕ) → IsUnder run.now clock.old m → IsUnder run.now clock.new m) }
+    ensures same { IfOk result (λ changed. IsFalse changed → clock.new ≡ clock.old) }
+    ensures left { OnOk result (AreSkips run.now j links.now left.new.items) }
+{
+    match *ahead {
+        Ahead::Newest => {
+            *ahead = Ahead::Falling;
+            walk_newest(
+                alloc, run, clocks, numbers, rows, links, skips, found, clock, left, j, next,
+            )
+        }
+        Ahead::Falling => {
+            *ahead = Ahead::Nothing;
+            walk_falling(
+                alloc, run, clocks, numbers, rows, links, skips, found, clock, left, j, next,
+            )
+        }
+        Ahead::Nothing => Ok(false),
+    }
+}
+
+// Follows the row at place `x`, after those that are to be followed ahead of it.
+fn walk_next(
+    alloc: Global,
+    run: &[Footprint],
+    clocks: &[Clock],
+    numbers: &[u32],
+    rows: &[Row],
+    links: &[Link],
+    skips: &[Skip],
+    found: &[usize],
+    x: usize,
+    clock: &mut Clock,
+    left: &mut Vec<Skip>,
+    ahead: &mut Ahead,
+    j: usize,
+    next: usize,
+) -> Result<Walked, OutOfMemory>
+    requires within { j < length run.now }
+    requires few { length run.now < 2 ^ 32 }
+    requires clocks { AreClocks run.now j clocks.now numbers.now }
+    requires rows { AreRows run.now j rows.now links.now }
+    requires skips { AreSkips run.now j links.now skips.now }
+    requires next { IsNext run.now j next }
+    requires part { IsPart run.now clock.old j }
+    requires left { AreSkips run.now j links.now left.old.items }
+    ensures part { OnOk result (IsPart run.now clock.new j) }
+    ensures seen { OnOk result (IsPlaceSeen run.now rows.now links.now x clock.new j) }
+    ensures kept { OnOk result ((m : ℕ) → IsUnder run.now clock.old m → IsUnder run.now clock.new m) }
+    ensures same { IfOk result (λ w. IsFalse w.changed → clock.new ≡ clock.old) }
+    ensures left { OnOk result (AreSkips run.now j links.now left.new.items) }
+    ensures known { IfOk result (λ w. IsTrue w.known → IsPlaceKnown rows.now links.now x clock.new) }
+{
+    if is_latest_known(run, &*clock, rows, links, x, j) {
+        return Ok(Walked {
+            changed: false,
+            known: true,
+        });
+    }
+    let before = walk_ahead(
+        alloc, run, clocks, numbers, rows, links, skips, found, clock, left, ahead, j, next,
+    )?;
+    let walked = walk_place(
+        alloc, run, clocks, numbers, rows, links, skips, x, clock, left, j, next,
+    )?;
+    let changed = is_either(before, walked.changed);
+    Ok(Walked {
+        changed,
+        known: walked.known,
+    })
+}
+
 // The clock of step `j`, from those of the steps before it: it follows each step of another thread that an edge leads
 // from.
 #[inline(never)]
@@ -158,10 +424,12 @@ fn walked_clock(
     let mut alone = true;
     let mut left = Vec::new(alloc);
     let next = latest.at(thread_at(run, j)) as usize;
+    let mut ahead = ahead_of(found.len());
     for y in 0..found.len() {
         let x = found[y];
-        let walked = walk_place(
-            alloc, run, clocks, numbers, rows, links, skips, x, &mut clock, &mut left, j, next,
+        let walked = walk_next(
+            alloc, run, clocks, numbers, rows, links, skips, found, x, &mut clock, &mut left,
+            &mut ahead, j, next,
         )?;
         changed = is_either(changed, walked.changed);
         alone = is_both(alone, walked.known);

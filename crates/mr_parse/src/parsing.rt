@@ -17,7 +17,7 @@ ghost use Rattle.mr_parse.specs.Views.{body_of_parts, defined_by};
 use crate::definitions::definitions_in as names_defined;
 use crate::fault::ParseFault;
 use crate::program::{Parts, program};
-use mr_ast::{MAX_OPEN, OutOfMemory, Program};
+use mr_ast::{MAX_OPEN, OutOfMemory, Program, TextKey};
 use mr_lex::{LexFault, Tokens, tokens};
 use mr_reader::Reader;
 use mr_words::{ReadFault, Scope, Tables, UNEXPECTED, fault_at, told};
@@ -57,9 +57,10 @@ fn named(alloc: Global, tokens: &Tokens<'_>, tables: &Tables<'_>) -> Result<Part
     body(alloc, tokens, &scope)
 }
 
-// The tables of the names that the tokens define.
+// The tables of the names that the tokens of a text with this key define.
 fn tables_in<'a>(
     alloc: Global,
+    key: TextKey,
     tokens: &'a Tokens<'a>,
     parts: &Parts,
 ) -> Result<Tables<'a>, OutOfMemory>
@@ -67,17 +68,21 @@ fn tables_in<'a>(
     ensures { IfOk result (λ t. t ≡ definitions_in (words_of tokens.now) (body_of_parts parts.now)) }
 {
     let definitions = names_defined(alloc, tokens, parts)?;
-    Tables::new(alloc, definitions)
+    Tables::new(alloc, key, definitions)
 }
 
 // The same, from a first reading, in which no name is known.
-fn tables_of<'a>(alloc: Global, tokens: &'a Tokens<'a>) -> Result<Tables<'a>, ReadFault>
+fn tables_of<'a>(
+    alloc: Global,
+    key: TextKey,
+    tokens: &'a Tokens<'a>,
+) -> Result<Tables<'a>, ReadFault>
     requires few { length tokens.now ≤ 2 ^ 20 }
     requires ascii { (n : ℕ) → IsAscii (text_at (words_of tokens.now) n) }
     ensures { Gives (λ t. t) result (defined_by (words_of tokens.now)) }
 {
     match body(alloc, tokens, &Scope::unknown(alloc)) {
-        Ok(parts) => match tables_in(alloc, tokens, &parts) {
+        Ok(parts) => match tables_in(alloc, key, tokens, &parts) {
             Ok(tables) => Ok(tables),
             Err(_) => Err(ReadFault::Memory),
         },
@@ -100,12 +105,12 @@ fn program_of(parts: Parts, tables: Tables<'_>) -> Program
 
 // The program of the tokens: its names are found in a first reading, and stand for what they name in a second.
 #[tactic(auto, unfolding(mr_grammar::specs::Parsing::program_in))]
-fn program_in(alloc: Global, tokens: &Tokens<'_>) -> Result<Program, ReadFault>
+fn program_in(alloc: Global, key: TextKey, tokens: &Tokens<'_>) -> Result<Program, ReadFault>
     requires few { length tokens.now ≤ 2 ^ 20 }
     requires ascii { (n : ℕ) → IsAscii (text_at (words_of tokens.now) n) }
     ensures { Gives (λ p. p) result (program_in (words_of tokens.now)) }
 {
-    let tables = tables_of(alloc, tokens)?;
+    let tables = tables_of(alloc, key, tokens)?;
     match named(alloc, tokens, &tables) {
         Ok(parts) => Ok(program_of(parts, tables)),
         Err(fault) => Err(fault),
@@ -116,7 +121,7 @@ fn parsed(alloc: Global, text: &[u8]) -> Result<Program, ParseFault>
     ensures { ParseGives result (parsed text.now) }
 {
     match tokens(alloc, text) {
-        Ok(tokens) => match program_in(alloc, &tokens) {
+        Ok(tokens) => match program_in(alloc, TextKey::of(text), &tokens) {
             Ok(program) => Ok(program),
             Err(ReadFault::At(stop)) => Err(ParseFault::Text(fault_at(text, &tokens, stop))),
             Err(ReadFault::Memory) => Err(ParseFault::Memory),

@@ -1,5 +1,5 @@
 -- A piece of bytes that grows over uninitialised ones behind it.
-use Rattle.std.proofs.Common.{◌≡◌, ◌≢◌, ℕ, ◌+◌, ◌-◌, ◌<◌, ◌≤◌, ◌⊎◌, min, Bool, true, false, cond, List, [], ◌∷◌, ◌++◌, length, map, take, Some, None, refl, sym, ap, ◌∙◌, inl, inr, ⊎_elim, arith, length-append, length-take, nat_cmp}
+use Rattle.std.proofs.Common.{◌≡◌, ◌≢◌, ℕ, ◌+◌, ◌-◌, ◌<◌, ◌≤◌, ◌⊎◌, min, Bool, true, false, cond, List, [], ◌∷◌, ◌++◌, length, take, Some, None, Option, refl, sym, ap, ◌∙◌, inl, inr, ⊎_elim, arith, length-append, length-take, nat_cmp}
 use Rattle.std.specs.BTreeMap.{is_at}
 use Rattle.std.specs.List.Sorted.{IsStrictlySortedBy}
 use Rattle.std.specs.Map.{keys_of}
@@ -7,10 +7,12 @@ use Rattle.std.proofs.lemmas.Bool.{cases_eq, cases_lt, cases_order}
 use Rattle.std.proofs.lemmas.List.{length-map}
 use Rattle.std.proofs.lemmas.Option.{same_Some}
 use Rattle.mr_base.specs.declared.byte.AbstractByte.{AbstractByte}
+use Rattle.mr_base.specs.declared.byte.AbstractByte.TheVariants.{Init}
+use Rattle.mr_base.specs.declared.byte.AllocId.{AllocId}
 use Rattle.mr_runs.specs.declared.mark.Mark.TheVariants as mark
 use Rattle.mr_runs.specs.Exchanged.{IsBegun, IsEnded, IsExchanged, IsPushed}
-use Rattle.mr_runs.specs.Growing.{with_numbers, CanGrow, IsLike}
-use Rattle.mr_runs.specs.Numbers.{number_of}
+use Rattle.mr_runs.specs.Growing.{with_numbers, CanGrow}
+use Rattle.mr_runs.specs.Numbers.{with_provenance}
 use Rattle.mr_runs.specs.Pieces.{SeenPiece, UninitPiece, InitPiece, bytes_of_piece, mark_of, piece_len}
 use Rattle.mr_runs.specs.Placed.{bytes_in, found, total_len, Holds, IsReplaced, IsTiled}
 use Rattle.mr_runs.specs.Windows.{piece_past}
@@ -66,27 +68,27 @@ mark_of-with_numbers : (p : SeenPiece) (numbers : List ℕ) → mark_of (with_nu
 mark_of-with_numbers (UninitPiece len) numbers = refl
 mark_of-with_numbers (InitPiece own provenance) numbers = refl
 
-len-with_numbers : (p : SeenPiece) (bytes : List AbstractByte) → IsLike p bytes → piece_len (with_numbers p (map number_of bytes)) ≡ piece_len p + length bytes
-len-with_numbers (UninitPiece len) bytes like = absurd like
-len-with_numbers (InitPiece own provenance) bytes like = omega (arith, length-append own (map number_of bytes), length-map bytes number_of)
+len-with_numbers : (p : SeenPiece) (numbers : List ℕ) (provenance : Option AllocId) → mark_of p ≡ mark.Init provenance → piece_len (with_numbers p numbers) ≡ piece_len p + length numbers
+len-with_numbers (UninitPiece len) numbers provenance like = absurd (cc)
+len-with_numbers (InitPiece own its) numbers provenance like = length-append own numbers
 
-not_uninit : (p : SeenPiece) (bytes : List AbstractByte) → IsLike p bytes → mark_of p ≡ mark.Uninit → ⊥
-not_uninit (UninitPiece len) bytes like is = like
-not_uninit (InitPiece numbers provenance) bytes like is = cc
+not_uninit : (p : SeenPiece) (provenance : Option AllocId) → mark_of p ≡ mark.Init provenance → mark_of p ≡ mark.Uninit → ⊥
+not_uninit p provenance like is = cc
 
--- a row of the piece, and behind it the bytes
-begun_like : (es : List (ℕ × SeenPiece)) (done : List AbstractByte) (at begin : ℕ) (p : SeenPiece) (bytes : List AbstractByte) → IsLike p bytes → 0 < length bytes
-    → IsBegun es ((begin, p) ∷ []) done → length done ≡ at → IsBegun es ((begin, with_numbers p (map number_of bytes)) ∷ []) (done ++ bytes)
-begun_like es done at begin (UninitPiece len) bytes like some h ends = absurd like
-begun_like es done at begin (InitPiece own provenance) bytes like some h ends =
-    let more = InitPiece (map number_of bytes) provenance in
-    let pushed : IsPushed ((begin, InitPiece own provenance) ∷ []) at (InitPiece (map number_of bytes) provenance) ((begin, InitPiece (own ++ map number_of bytes) provenance) ∷ []) =
-    inl (record { front = []; begin = begin; last = InitPiece own provenance; old_is = refl; same = refl; new_is = refl }) in
-    begun_as es ((begin, InitPiece (own ++ map number_of bytes) provenance) ∷ []) (done ++ bytes_of_piece more) (done ++ bytes)
-    (ap (λ (bs : List AbstractByte). done ++ bs) (sym like))
-    (begun_push es ((begin, InitPiece own provenance) ∷ []) done at more ((begin, InitPiece (own ++ map number_of bytes) provenance) ∷ []) h pushed ends (omega (arith, length-map bytes number_of)))
+-- a row of the piece, and behind it the numbers
+begun_like : (es : List (ℕ × SeenPiece)) (done : List AbstractByte) (at begin : ℕ) (p : SeenPiece) (numbers : List ℕ) (provenance : Option AllocId) → mark_of p ≡ mark.Init provenance → 0 < length numbers
+    → IsBegun es ((begin, p) ∷ []) done → length done ≡ at → IsBegun es ((begin, with_numbers p numbers) ∷ []) (done ++ with_provenance provenance numbers)
+begun_like es done at begin (UninitPiece len) numbers provenance like some h ends = absurd (cc)
+begun_like es done at begin (InitPiece own its) numbers provenance like some h ends =
+    let more = InitPiece numbers its in
+    let same : its ≡ provenance = cc in
+    let pushed : IsPushed ((begin, InitPiece own its) ∷ []) at (InitPiece numbers its) ((begin, InitPiece (own ++ numbers) its) ∷ []) =
+    inl (record { front = []; begin = begin; last = InitPiece own its; old_is = refl; same = refl; new_is = refl }) in
+    begun_as es ((begin, InitPiece (own ++ numbers) its) ∷ []) (done ++ bytes_of_piece more) (done ++ with_provenance provenance numbers)
+    (ap (λ (p : Option AllocId). done ++ with_provenance p numbers) same)
+    (begun_push es ((begin, InitPiece own its) ∷ []) done at more ((begin, InitPiece (own ++ numbers) its) ∷ []) h pushed ends some)
 
-module _ (es : List (ℕ × SeenPiece)) (from begin rest : ℕ) (bytes : List AbstractByte) (t : IsTiled es) (some : 0 < length bytes) (inside : from + length bytes ≤ total_len es) (g : CanGrow es from bytes begin rest) where
+module _ (es : List (ℕ × SeenPiece)) (from begin rest : ℕ) (numbers : List ℕ) (provenance : Option AllocId) (t : IsTiled es) (some : 0 < length numbers) (inside : from + length numbers ≤ total_len es) (g : CanGrow es from (length numbers) provenance begin rest) where
   filled : 0 < piece_len g.piece
   filled =
       let at = g.holds in
@@ -100,107 +102,108 @@ module _ (es : List (ℕ × SeenPiece)) (from begin rest : ℕ) (bytes : List Ab
   front_len : length (take from (bytes_in es)) ≡ from
   front_len = omega (arith, length-take from (bytes_in es), length-bytes_in es)
 
-  grown_row : IsBegun es ((begin, with_numbers g.piece (map number_of bytes)) ∷ []) (take from (bytes_in es) ++ bytes)
-  grown_row = begun_like es (take from (bytes_in es)) from begin g.piece bytes g.like some first_row front_len
+  grown_row : IsBegun es ((begin, with_numbers g.piece numbers) ∷ []) (take from (bytes_in es) ++ with_provenance provenance numbers)
+  grown_row = begun_like es (take from (bytes_in es)) from begin g.piece numbers provenance g.like some first_row front_len
 
-  grown_len : piece_len (with_numbers g.piece (map number_of bytes)) ≡ piece_len g.piece + length bytes
-  grown_len = len-with_numbers g.piece bytes g.like
+  grown_len : piece_len (with_numbers g.piece numbers) ≡ piece_len g.piece + length numbers
+  grown_len = len-with_numbers g.piece numbers provenance g.like
 
-  ended_row : IsEnded es ((begin, with_numbers g.piece (map number_of bytes)) ∷ []) ((begin, with_numbers g.piece (map number_of bytes)) ∷ (from + length bytes, UninitPiece rest) ∷ [])
-      (from + length bytes) (from + (length bytes + rest))
+  ended_row : IsEnded es ((begin, with_numbers g.piece numbers) ∷ []) ((begin, with_numbers g.piece numbers) ∷ (from + length numbers, UninitPiece rest) ∷ [])
+      (from + length numbers) (from + (length numbers + rest))
   ended_row =
       let left : 0 < rest = g.left in
-      ended_within es ((begin, with_numbers g.piece (map number_of bytes)) ∷ []) ((begin, with_numbers g.piece (map number_of bytes)) ∷ (from + length bytes, UninitPiece rest) ∷ [])
-      (from + length bytes) from (from + (length bytes + rest)) (UninitPiece (length bytes + rest)) (UninitPiece rest) t
+      ended_within es ((begin, with_numbers g.piece numbers) ∷ []) ((begin, with_numbers g.piece numbers) ∷ (from + length numbers, UninitPiece rest) ∷ [])
+      (from + length numbers) from (from + (length numbers + rest)) (UninitPiece (length numbers + rest)) (UninitPiece rest) t
       (record { before = g.gap.before; behind = g.gap.behind; is = g.gap.is; from = omega arith; to = omega arith })
       refl (ap UninitPiece cut)
-      (inr (record { apart = λ same. not_uninit g.piece bytes g.like (sym (mark_of-with_numbers g.piece (map number_of bytes)) ∙ same_Some _ _ same); new_is = refl }))
+      (inr (record { apart = λ same. not_uninit g.piece provenance g.like (sym (mark_of-with_numbers g.piece numbers) ∙ same_Some _ _ same); new_is = refl }))
     where
-      cut : rest ≡ min (from + (length bytes + rest) - (from + length bytes)) (length bytes + rest - (from + length bytes - from))
+      cut : rest ≡ min (from + (length numbers + rest) - (from + length numbers)) (length numbers + rest - (from + length numbers - from))
       cut = omega arith
 
   -- the entries that the steps of the code lead to
   module _ (taken grown new : List (ℕ × SeenPiece))
-      (take_is : (q : ℕ) → found q taken ≡ cond (is_at (nat_cmp (from + length bytes)) q) (Some (UninitPiece rest)) (found q es))
-      (grow_is : (q : ℕ) → found q grown ≡ cond (is_at (nat_cmp begin) q) (Some (with_numbers g.piece (map number_of bytes))) (found q taken))
+      (take_is : (q : ℕ) → found q taken ≡ cond (is_at (nat_cmp (from + length numbers)) q) (Some (UninitPiece rest)) (found q es))
+      (grow_is : (q : ℕ) → found q grown ≡ cond (is_at (nat_cmp begin) q) (Some (with_numbers g.piece numbers)) (found q taken))
       (new_is : (q : ℕ) → found q new ≡ cond (is_at (nat_cmp from) q) None (found q grown)) where
     ordered : begin < from
     ordered = omega (arith, g.ends, filled)
 
     -- another position
-    elsewhere : (q : ℕ) → q ≢ begin → q ≢ from → q ≢ from + length bytes → found q new ≡ found q es
+    elsewhere : (q : ℕ) → q ≢ begin → q ≢ from → q ≢ from + length numbers → found q new ≡ found q es
     elsewhere q a b c =
         new_is q ∙ ap (λ t. cond t None (found q grown)) (at_other from q (λ same. b (sym same)))
-        ∙ grow_is q ∙ ap (λ t. cond t (Some (with_numbers g.piece (map number_of bytes))) (found q taken)) (at_other begin q (λ same. a (sym same)))
-        ∙ take_is q ∙ ap (λ t. cond t (Some (UninitPiece rest)) (found q es)) (at_other (from + length bytes) q (λ same. c (sym same)))
+        ∙ grow_is q ∙ ap (λ t. cond t (Some (with_numbers g.piece numbers)) (found q taken)) (at_other begin q (λ same. a (sym same)))
+        ∙ take_is q ∙ ap (λ t. cond t (Some (UninitPiece rest)) (found q es)) (at_other (from + length numbers) q (λ same. c (sym same)))
 
-    at_begin : (q : ℕ) → q ≡ begin → found q new ≡ Some (with_numbers g.piece (map number_of bytes))
+    at_begin : (q : ℕ) → q ≡ begin → found q new ≡ Some (with_numbers g.piece numbers)
     at_begin q here =
         new_is q ∙ ap (λ t. cond t None (found q grown)) (at_other from q (λ same. omega (arith, ordered)))
-        ∙ grow_is q ∙ ap (λ t. cond t (Some (with_numbers g.piece (map number_of bytes))) (found q taken)) (at_same begin q (sym here))
+        ∙ grow_is q ∙ ap (λ t. cond t (Some (with_numbers g.piece numbers)) (found q taken)) (at_same begin q (sym here))
 
     at_from : (q : ℕ) → q ≡ from → found q new ≡ None
     at_from q here = new_is q ∙ ap (λ t. cond t None (found q grown)) (at_same from q (sym here))
 
-    at_rest : (q : ℕ) → q ≡ from + length bytes → found q new ≡ Some (UninitPiece rest)
+    at_rest : (q : ℕ) → q ≡ from + length numbers → found q new ≡ Some (UninitPiece rest)
     at_rest q here =
         new_is q ∙ ap (λ t. cond t None (found q grown)) (at_other from q (λ same. omega arith))
-        ∙ grow_is q ∙ ap (λ t. cond t (Some (with_numbers g.piece (map number_of bytes))) (found q taken)) (at_other begin q (λ same. omega (arith, ordered)))
-        ∙ take_is q ∙ ap (λ t. cond t (Some (UninitPiece rest)) (found q es)) (at_same (from + length bytes) q (sym here))
+        ∙ grow_is q ∙ ap (λ t. cond t (Some (with_numbers g.piece numbers)) (found q taken)) (at_other begin q (λ same. omega (arith, ordered)))
+        ∙ take_is q ∙ ap (λ t. cond t (Some (UninitPiece rest)) (found q es)) (at_same (from + length numbers) q (sym here))
 
     -- nothing else begins in the row, nor began there
-    row_elsewhere : (q : ℕ) → q ≢ begin → q ≢ from + length bytes → found q ((begin, with_numbers g.piece (map number_of bytes)) ∷ (from + length bytes, UninitPiece rest) ∷ []) ≡ None
+    row_elsewhere : (q : ℕ) → q ≢ begin → q ≢ from + length numbers → found q ((begin, with_numbers g.piece numbers) ∷ (from + length numbers, UninitPiece rest) ∷ []) ≡ None
     row_elsewhere q a c =
-        found_later q (begin, with_numbers g.piece (map number_of bytes)) ((from + length bytes, UninitPiece rest) ∷ []) a
-        ∙ found_later q (from + length bytes, UninitPiece rest) [] c
+        found_later q (begin, with_numbers g.piece numbers) ((from + length numbers, UninitPiece rest) ∷ []) a
+        ∙ found_later q (from + length numbers, UninitPiece rest) [] c
 
-    none_there : (q : ℕ) → begin < q → q < from + (length bytes + rest) → q ≢ from → found q es ≡ None
+    none_there : (q : ℕ) → begin < q → q < from + (length numbers + rest) → q ≢ from → found q es ≡ None
     none_there q gt lt other = ⊎_elim
         (λ low. none_within es (from - 1) begin q g.piece t g.holds gt (omega (arith, g.ends)))
-        (λ high. let more : from < q = omega arith in none_within es from from q (UninitPiece (length bytes + rest)) t g.gap more lt)
+        (λ high. let more : from < q = omega arith in none_within es from from q (UninitPiece (length numbers + rest)) t g.gap more lt)
         (cases_lt q from)
 
-    within_row : (q : ℕ) → begin ≤ q → q < from + (length bytes + rest) → (q ≡ begin) ⊎ (q ≡ begin → ⊥) → (q ≡ from) ⊎ (q ≡ from → ⊥) → (q ≡ from + length bytes) ⊎ (q ≡ from + length bytes → ⊥)
-        → found q new ≡ found q ((begin, with_numbers g.piece (map number_of bytes)) ∷ (from + length bytes, UninitPiece rest) ∷ [])
-    within_row q ge lt (inl here) b c = at_begin q here ∙ sym (found_here q (begin, with_numbers g.piece (map number_of bytes)) ((from + length bytes, UninitPiece rest) ∷ []) here)
+    within_row : (q : ℕ) → begin ≤ q → q < from + (length numbers + rest) → (q ≡ begin) ⊎ (q ≡ begin → ⊥) → (q ≡ from) ⊎ (q ≡ from → ⊥) → (q ≡ from + length numbers) ⊎ (q ≡ from + length numbers → ⊥)
+        → found q new ≡ found q ((begin, with_numbers g.piece numbers) ∷ (from + length numbers, UninitPiece rest) ∷ [])
+    within_row q ge lt (inl here) b c = at_begin q here ∙ sym (found_here q (begin, with_numbers g.piece numbers) ((from + length numbers, UninitPiece rest) ∷ []) here)
     within_row q ge lt (inr a) (inl here) c = at_from q here ∙ sym (row_elsewhere q a (λ same. omega arith))
     within_row q ge lt (inr a) (inr b) (inl here) =
         at_rest q here
-        ∙ sym (found_later q (begin, with_numbers g.piece (map number_of bytes)) ((from + length bytes, UninitPiece rest) ∷ []) a ∙ found_here q (from + length bytes, UninitPiece rest) [] here)
+        ∙ sym (found_later q (begin, with_numbers g.piece numbers) ((from + length numbers, UninitPiece rest) ∷ []) a ∙ found_here q (from + length numbers, UninitPiece rest) [] here)
     within_row q ge lt (inr a) (inr b) (inr c) =
         let more : begin < q = omega arith in
         elsewhere q a b c ∙ none_there q more lt b ∙ sym (row_elsewhere q a c)
 
-    exchanged : IsExchanged ((begin, with_numbers g.piece (map number_of bytes)) ∷ (from + length bytes, UninitPiece rest) ∷ []) es new (from + (length bytes + rest))
+    exchanged : IsExchanged ((begin, with_numbers g.piece numbers) ∷ (from + length numbers, UninitPiece rest) ∷ []) es new (from + (length numbers + rest))
     exchanged =
-        let begins : from + (length bytes + rest) - (piece_len (with_numbers g.piece (map number_of bytes)) + (rest + 0)) ≡ begin = omega (arith, grown_len, g.ends) in
+        let begins : from + (length numbers + rest) - (piece_len (with_numbers g.piece numbers) + (rest + 0)) ≡ begin = omega (arith, grown_len, g.ends) in
         record {
           before = λ q lt. elsewhere q (λ same. omega arith) (λ same. omega (arith, ordered)) (λ same. omega (arith, ordered));
-          within = λ q ge lt. within_row q (omega arith) lt (cases_eq q begin) (cases_eq q from) (cases_eq q (from + length bytes));
+          within = λ q ge lt. within_row q (omega arith) lt (cases_eq q begin) (cases_eq q from) (cases_eq q (from + length numbers));
           behind = λ q ge. let left : 0 < rest = g.left in elsewhere q (λ same. omega (arith, ordered)) (λ same. omega arith) (λ same. omega arith);
         }
 
-    pub grown_over : IsStrictlySortedBy nat_cmp (keys_of new) → IsReplaced es new from bytes
+    pub grown_over : IsStrictlySortedBy nat_cmp (keys_of new) → IsReplaced es new from (with_provenance provenance numbers)
     grown_over order =
-        replaced es ((begin, with_numbers g.piece (map number_of bytes)) ∷ []) ((begin, with_numbers g.piece (map number_of bytes)) ∷ (from + length bytes, UninitPiece rest) ∷ [])
-        from (from + length bytes) (from + (length bytes + rest)) bytes t grown_row refl inside ended_row new exchanged order
+        replaced es ((begin, with_numbers g.piece numbers) ∷ []) ((begin, with_numbers g.piece numbers) ∷ (from + length numbers, UninitPiece rest) ∷ [])
+        from (from + length numbers) (from + (length numbers + rest)) (with_provenance provenance numbers) t grown_row
+        (ap (λ n. from + n) (sym (length-map numbers (λ n. Init n provenance)))) inside ended_row new exchanged order
 
   -- the run that grows is still there, where the position for the rest is taken
-  pub found_taken : (taken : List (ℕ × SeenPiece)) → ((q : ℕ) → found q taken ≡ cond (is_at (nat_cmp (from + length bytes)) q) (Some (UninitPiece rest)) (found q es)) → found begin taken ≡ Some g.piece
+  pub found_taken : (taken : List (ℕ × SeenPiece)) → ((q : ℕ) → found q taken ≡ cond (is_at (nat_cmp (from + length numbers)) q) (Some (UninitPiece rest)) (found q es)) → found begin taken ≡ Some g.piece
   found_taken taken take_is =
       take_is begin
-      ∙ ap (λ b. cond b (Some (UninitPiece rest)) (found begin es)) (at_other (from + length bytes) begin (λ same. omega (arith, g.ends, filled)))
+      ∙ ap (λ b. cond b (Some (UninitPiece rest)) (found begin es)) (at_other (from + length numbers) begin (λ same. omega (arith, g.ends, filled)))
       ∙ holds_found es (from - 1) begin g.piece t g.holds
 
   -- the position that was taken for the rest, given back: what is found is what was
-  pub taken_back : (taken new : List (ℕ × SeenPiece)) → ((q : ℕ) → found q taken ≡ cond (is_at (nat_cmp (from + length bytes)) q) (Some (UninitPiece rest)) (found q es))
-      → ((q : ℕ) → found q new ≡ cond (is_at (nat_cmp (from + length bytes)) q) None (found q taken)) → IsStrictlySortedBy nat_cmp (keys_of new) → new ≡ es
-  taken_back taken new take_is new_is order = same_as_placed new es 0 order t.placed t.maximal (λ q. by_test q (is_at (nat_cmp (from + length bytes)) q) refl)
+  pub taken_back : (taken new : List (ℕ × SeenPiece)) → ((q : ℕ) → found q taken ≡ cond (is_at (nat_cmp (from + length numbers)) q) (Some (UninitPiece rest)) (found q es))
+      → ((q : ℕ) → found q new ≡ cond (is_at (nat_cmp (from + length numbers)) q) None (found q taken)) → IsStrictlySortedBy nat_cmp (keys_of new) → new ≡ es
+  taken_back taken new take_is new_is order = same_as_placed new es 0 order t.placed t.maximal (λ q. by_test q (is_at (nat_cmp (from + length numbers)) q) refl)
     where
-      by_test : (q : ℕ) (b : Bool) → is_at (nat_cmp (from + length bytes)) q ≡ b → found q new ≡ found q es
+      by_test : (q : ℕ) (b : Bool) → is_at (nat_cmp (from + length numbers)) q ≡ b → found q new ≡ found q es
       by_test q true at =
           let left : 0 < rest = g.left in
-          let here : from + length bytes ≡ q = same_at (from + length bytes) q at in
+          let here : from + length numbers ≡ q = same_at (from + length numbers) q at in
           new_is q ∙ ap (λ b. cond b None (found q taken)) at
-          ∙ sym (none_within es from from q (UninitPiece (length bytes + rest)) t g.gap (omega arith) (omega arith))
+          ∙ sym (none_within es from from q (UninitPiece (length numbers + rest)) t g.gap (omega arith) (omega arith))
       by_test q false at = new_is q ∙ ap (λ b. cond b None (found q taken)) at ∙ take_is q ∙ ap (λ b. cond b (Some (UninitPiece rest)) (found q es)) at

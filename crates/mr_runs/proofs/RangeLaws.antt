@@ -1,5 +1,5 @@
 -- A range replaced: its length, and one item more.
-use Rattle.std.proofs.Common.{◌≡◌, ℕ, suc, ◌+◌, ◌-◌, ◌<◌, ◌≤◌, List, [], ◌∷◌, ◌++◌, length, map, take, drop, get_or, set, sym, ap, ◌∙◌, arith, append_assoc, length-take, length-append, take_all}
+use Rattle.std.proofs.Common.{◌≡◌, ℕ, zero, suc, ◌+◌, ◌-◌, ◌<◌, ◌≤◌, List, [], ◌∷◌, ◌++◌, length, map, replicate, take, drop, get_or, set, refl, sym, ap, ◌∙◌, arith, append_assoc, length-take, length-append, take_all}
 use Rattle.std.proofs.lemmas.List.{drop-append-le, drop-map, length-map, map-append, take-append-le, take-map}
 use Rattle.std.proofs.Math.Seq.{drop-cons, set-append_seam}
 use Rattle.std.proofs.lemmas.Grind.{common_steps}
@@ -63,3 +63,8 @@ map_replaced {X} {Y} f old from new =
     ∙ ap (λ (xs : List Y). xs ++ map f new ++ map f (drop (from + length new) old)) (sym (take-map f from old))
     ∙ ap (λ (xs : List Y). take from (map f old) ++ map f new ++ xs) (sym (drop-map f (from + length new) old))
     ∙ ap (λ n. take from (map f old) ++ map f new ++ drop (from + n) (map f old)) (sym (length-map new f))
+
+-- a list of one item repeated, mapped
+pub map_repeated : {X Y : Type 0} (f : X → Y) (count : ℕ) (x : X) → map f (replicate count x) ≡ replicate count (f x)
+map_repeated f zero x = refl
+map_repeated {X} {Y} f (suc k) x = ap (λ (ys : List Y). f x ∷ ys) (map_repeated f k x)

@@ -1,13 +1,11 @@
 -- Rows of pieces that are put together from left to right.
-use Rattle.std.proofs.Common.{◌≡◌, ℕ, zero, suc, ◌+◌, ◌-◌, ◌<◌, ◌≤◌, List, [], ◌∷◌, ◌++◌, length, map, replicate, take, drop, get_or, Option, Some, refl, sym, ap, ◌∙◌, subst, inl, inr, ⊎_elim, arith, append_assoc, append-nil, length-append, length-take}
-use Rattle.std.proofs.lemmas.List.{length-map, length-replicate, map-append, replicate-append-replicate, take-append-le, drop-append-le, take_all, take_more, drop_all}
+use Rattle.std.proofs.Common.{◌≡◌, ℕ, ◌+◌, ◌-◌, ◌<◌, ◌≤◌, List, [], ◌∷◌, ◌++◌, length, map, take, drop, get_or, Some, refl, sym, ap, ◌∙◌, subst, inl, inr, ⊎_elim, arith, append_assoc, append-nil, length-append, length-take}
+use Rattle.std.proofs.lemmas.List.{map-append, replicate-append-replicate, take-append-le, drop-append-le, take_all, take_more, drop_all}
 use Rattle.std.specs.Map.{values_of}
 use Rattle.mr_base.specs.declared.byte.AbstractByte.{AbstractByte}
 use Rattle.mr_base.specs.declared.byte.AbstractByte.TheVariants.{Uninit, Init}
 use Rattle.mr_runs.specs.declared.mark.Mark.{Mark}
-use Rattle.mr_runs.specs.Exchanged.{first_mark, last_mark, one_piece, repeated_piece, together, IsBegun, IsEnded, IsPushed}
-use Rattle.mr_base.specs.declared.byte.AllocId.{AllocId}
-use Rattle.mr_runs.specs.Numbers.{number_of, AreOf}
+use Rattle.mr_runs.specs.Exchanged.{first_mark, last_mark, one_piece, together, IsBegun, IsEnded, IsPushed}
 use Rattle.mr_runs.specs.Pieces.{SeenPiece, UninitPiece, InitPiece, bytes_of_piece, mark_of, piece_len, AreMaximal}
 use Rattle.mr_runs.specs.Placed.{bytes_in, total_len, Holds, IsPlaced, IsTiled}
 use Rattle.mr_runs.specs.Windows.{first_piece, piece_past}
@@ -152,27 +150,6 @@ begun_as es row a b e h = let P : List AbstractByte → Type 0 = λ bs. IsBegun 
 pub begun_room : (es row : List (ℕ × SeenPiece)) (bytes : List AbstractByte) (at : ℕ) → IsBegun es row bytes → length bytes ≤ at → total_len row ≤ at
 begun_room es row bytes at h le = omega (arith, begun_ends es row bytes h)
 
-map_repeated : (f : ℕ → AbstractByte) (count n : ℕ) → map f (replicate count n) ≡ replicate count (f n)
-map_repeated f zero n = refl
-map_repeated f (suc k) n = ap (λ (bs : List AbstractByte). f n ∷ bs) (map_repeated f k n)
-
-pub bytes_of-repeated_piece : (count : ℕ) (b : AbstractByte) → bytes_of_piece (repeated_piece count b) ≡ replicate count b
-bytes_of-repeated_piece count Uninit = refl
-bytes_of-repeated_piece count (Init n provenance) = map_repeated (λ m. Init m provenance) count n
-
-pub piece_len-repeated_piece : (count : ℕ) (b : AbstractByte) → piece_len (repeated_piece count b) ≡ count
-piece_len-repeated_piece count Uninit = refl
-piece_len-repeated_piece count (Init n provenance) = length-replicate count n
-
--- so many times the same byte behind a row
-pub begun_filled : (es row new : List (ℕ × SeenPiece)) (from count : ℕ) (b : AbstractByte) → from ≤ total_len es → 0 < count → IsBegun es row (take from (bytes_in es))
-    → IsPushed row from (repeated_piece count b) new → IsBegun es new (take from (bytes_in es) ++ replicate count b)
-begun_filled es row new from count b inside some h pushed =
-    begun_as es new (take from (bytes_in es) ++ bytes_of_piece (repeated_piece count b)) (take from (bytes_in es) ++ replicate count b)
-    (ap (λ (bs : List AbstractByte). take from (bytes_in es) ++ bs) (bytes_of-repeated_piece count b))
-    (begun_push es row (take from (bytes_in es)) from (repeated_piece count b) new h pushed (omega (arith, length-take from (bytes_in es), length-bytes_in es))
-    (subst (λ (n : ℕ). 0 < n) (sym (piece_len-repeated_piece count b)) some))
-
 -- the last piece of a row with a piece behind it
 pub last_of_push : (front : List (ℕ × SeenPiece)) (e : ℕ × SeenPiece) → last_mark (values_of (front ++ e ∷ [])) ≡ Some (mark_of e.1)
 last_of_push front e = ap last_mark (values_of-append front (e ∷ [])) ∙ last_mark-push (values_of front) e.1
@@ -309,11 +286,3 @@ ended_within es old new to begin end p q t h end_is is pushed = record {
         ∙ ap (λ n. drop (to - n) (bytes_of_piece p ++ bytes_in h.behind)) before_len
         ∙ drop-append-le (to - begin) (bytes_of_piece p) (bytes_in h.behind) (omega (arith, length-bytes_of_piece p))
         ∙ ap (λ (bs : List AbstractByte). bs ++ bytes_in h.behind) (sym piece_bytes)
-
--- a row is begun with bytes of one provenance more
-pub begun_numbers : (es row new : List (ℕ × SeenPiece)) (at : ℕ) (bytes : List AbstractByte) (provenance : Option AllocId) → AreOf provenance bytes → 0 < length bytes
-    → IsPushed row at (InitPiece (map number_of bytes) provenance) new
-    → (done : List AbstractByte) → IsBegun es row done → length done ≡ at → IsBegun es new (done ++ bytes)
-begun_numbers es row new at bytes provenance all some pushed done begun ends =
-    begun_as es new (done ++ map (λ n. Init n provenance) (map number_of bytes)) (done ++ bytes) (ap (λ (bs : List AbstractByte). done ++ bs) (sym all))
-    (begun_push es row done at (InitPiece (map number_of bytes) provenance) new begun pushed ends (subst (λ (n : ℕ). 0 < n) (sym (length-map bytes number_of)) some))

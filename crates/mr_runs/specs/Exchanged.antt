@@ -1,6 +1,6 @@
 -- Pieces that are put together in a row, and put in place of others.
 use Rattle.std.specs.Prelude.{◌≡◌, ℕ, ◌+◌, ◌-◌, ◌<◌, ◌≤◌, Bool, false, ◌==◌, List, [], ◌∷◌, ◌++◌, length, drop}
-use Rattle.std.specs.Prelude.{replicate, Option, Some, None, if◌then◌else◌, ◌⊎◌}
+use Rattle.std.specs.Prelude.{Option, Some, None, if◌then◌else◌, ◌⊎◌}
 use Rattle.std.specs.List.{list_any}
 use Rattle.std.specs.Map.{values_of}
 use Rattle.std.specs.BTreeMap.{is_at}
@@ -27,11 +27,6 @@ together (InitPiece numbers provenance) q = InitPiece (numbers ++ numbers_of q) 
 abbrev pub one_piece : AbstractByte → SeenPiece
 one_piece Uninit = UninitPiece 1
 one_piece (Init n provenance) = InitPiece (n ∷ []) provenance
-
--- so many times the same byte, as a piece
-abbrev pub repeated_piece : ℕ → AbstractByte → SeenPiece
-repeated_piece count Uninit = UninitPiece count
-repeated_piece count (Init n provenance) = InitPiece (replicate count n) provenance
 
 -- the mark of the first piece
 abbrev pub first_mark : List SeenPiece → Option Mark

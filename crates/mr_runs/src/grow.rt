@@ -1,44 +1,44 @@
-//! Bytes written behind a run of their provenance, over uninitialised ones: the run grows where it is.
+//! Numbers written behind a run of their provenance, over uninitialised ones: the run grows where it is.
 ghost use Rattle.std.specs.Prelude.{◌≡◌, ℕ, ◌+◌, ◌<◌, ◌≤◌, ◌^◌, false, cond, length, Some, IfNone, IfOk, IfSome, IsTrue, OnErr, OnOk};
 ghost use Rattle.std.specs.BTreeMap.{is_at};
 ghost use Rattle.std.specs.Ordering.{nat_cmp};
 ghost use Rattle.mr_runs.specs.Growing.{with_numbers, CanGrow};
+ghost use Rattle.mr_runs.specs.Numbers.{with_provenance};
 ghost use Rattle.mr_runs.specs.Pieces.{SeenPiece};
 ghost use Rattle.mr_runs.specs.Placed.{found, total_len, IsReplaced, IsTiled};
 
 use crate::OutOfMemory;
 use crate::finding::run_at;
 use crate::mark::{Mark, is_same};
-use crate::run::{Run, numbers_of};
-use mr_base::AbstractByte;
-use std::alloc::Global;
+use crate::run::Run;
+use mr_base::AllocId;
 use std::collections::BTreeMap;
 
-/// Writes bytes behind a run that ends where they begin and has their provenance, if the uninitialised bytes there are more. Answers
+/// Writes numbers behind a run that ends where they begin and has their provenance, if the uninitialised bytes there are more. Answers
 /// whether it did.
 pub(crate) fn write_behind(
-    alloc: Global,
     runs: &mut BTreeMap<u64, Run>,
     from: u64,
-    bytes: &[AbstractByte],
+    numbers: &[u8],
+    provenance: Option<AllocId>,
 ) -> Result<bool, OutOfMemory>
     requires tiled { IsTiled runs.old.entries }
-    requires inside { from + length bytes.now ≤ total_len runs.old.entries }
-    requires some { 0 < length bytes.now }
-    requires fits { from + length bytes.now < 2 ^ 64 }
-    ensures done { IfOk result (λ did. IsTrue did → IsReplaced runs.old.entries runs.new.entries from bytes.now) }
+    requires inside { from + length numbers.now ≤ total_len runs.old.entries }
+    requires some { 0 < length numbers.now }
+    requires fits { from + length numbers.now < 2 ^ 64 }
+    ensures done { IfOk result (λ did. IsTrue did
+        → IsReplaced runs.old.entries runs.new.entries from (with_provenance provenance numbers.now)) }
     ensures not_done { IfOk result (λ did. did ≡ false → runs.new.entries ≡ runs.old.entries) }
-    ensures never { IfOk result
-        (λ did. did ≡ false → (begin : ℕ) (rest : ℕ) → CanGrow runs.old.entries from bytes.now begin rest → ⊥) }
+    ensures never { IfOk result (λ did. did ≡ false → (begin : ℕ) (rest : ℕ)
+        → CanGrow runs.old.entries from (length numbers.now) provenance begin rest → ⊥) }
     ensures err { OnErr result (runs.new.entries ≡ runs.old.entries) }
 {
-    let Some((begin, rest)) = growing(runs, from, bytes) else {
+    let Some((begin, rest)) = growing(runs, from, numbers, provenance) else {
         return Ok(false);
     };
-    let numbers = numbers_of(alloc, bytes)?;
-    let to = from + bytes.len() as u64;
+    let to = from + numbers.len() as u64;
     runs.insert(to, Run::uninit(rest))?;
-    match grow(runs, begin, numbers.as_slice()) {
+    match grow(runs, begin, numbers) {
         Ok(()) => {
             let _ = runs.remove(&from);
             let _ordered = runs.len();
@@ -52,19 +52,25 @@ pub(crate) fn write_behind(
     }
 }
 
-// Where the run begins that can grow by the bytes, and how many uninitialised ones are left behind them.
-fn growing(runs: &BTreeMap<u64, Run>, from: u64, bytes: &[AbstractByte]) -> Option<(u64, u64)>
+// Where the run begins that can grow by the numbers, and how many uninitialised bytes are left behind them.
+fn growing(
+    runs: &BTreeMap<u64, Run>,
+    from: u64,
+    numbers: &[u8],
+    provenance: Option<AllocId>,
+) -> Option<(u64, u64)>
     requires tiled { IsTiled runs.now.entries }
-    requires inside { from + length bytes.now ≤ total_len runs.now.entries }
-    requires some { 0 < length bytes.now }
-    ensures some { IfSome result (λ g. CanGrow runs.now.entries from bytes.now g.0 g.1) }
-    ensures none { IfNone result ((begin : ℕ) (rest : ℕ) → CanGrow runs.now.entries from bytes.now begin rest → ⊥) }
+    requires inside { from + length numbers.now ≤ total_len runs.now.entries }
+    requires some { 0 < length numbers.now }
+    ensures some { IfSome result (λ g. CanGrow runs.now.entries from (length numbers.now) provenance g.0 g.1) }
+    ensures none { IfNone result ((begin : ℕ) (rest : ℕ)
+        → CanGrow runs.now.entries from (length numbers.now) provenance begin rest → ⊥) }
 {
     if from == 0 {
         return None;
     }
     let (gap, behind) = run_at(runs, from);
-    let len = bytes.len() as u64;
+    let len = numbers.len() as u64;
     if gap != from {
         return None;
     }
@@ -75,7 +81,7 @@ fn growing(runs: &BTreeMap<u64, Run>, from: u64, bytes: &[AbstractByte]) -> Opti
         return None;
     }
     let (begin, run) = run_at(runs, from - 1);
-    if !run.is_like(bytes) {
+    if !is_same(run.mark(), Mark::Init(provenance)) {
         return None;
     }
     Some((begin, behind.len() - len))

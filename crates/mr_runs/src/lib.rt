@@ -8,8 +8,9 @@
 //!
 //! The bytes are kept as runs in the order of their positions: so many uninitialised bytes, or the numbers of bytes with one
 //! provenance. No run is empty, and no two neighbours could be one run. A run is found by its position in an ordered map. A
-//! write or a fill makes anew the runs of its range and what stays of the two at its ends. A write into a run of bytes with its
-//! provenance puts the numbers in place, and one right behind such a run, over uninitialised bytes, makes it longer.
+//! write or a fill makes anew the runs of its range and what stays of the two at its ends. Bytes that go into a run of bytes with
+//! their provenance are put in place, and bytes right behind such a run, over uninitialised ones, make it longer, whether they
+//! are written or filled in.
 //!
 //! Proved: contracts see a `Runs` as the list of its bytes and a `View` as the list of its pieces. The pieces of a view
 //! join to exactly the part that was asked for, and there are no fewer pieces of it. A write or a fill replaces just its range

@@ -1,15 +1,17 @@
 //! A range of the bytes replaced: the runs that it meets are put together anew, and then exchanged.
-ghost use Rattle.std.specs.Prelude.{◌≡◌, ℕ, ◌+◌, ◌-◌, ◌<◌, ◌≤◌, ◌^◌, false, length, take, replicate, IfOk, OnErr, OnOk, IsTrue};
+ghost use Rattle.std.specs.Prelude.{◌≡◌, ℕ, ◌+◌, ◌-◌, ◌<◌, ◌≤◌, ◌^◌, false, length, take, IfOk, OnErr, OnOk, IsTrue};
 ghost use Rattle.mr_runs.specs.Exchanged.{IsBegun, IsEnded};
 ghost use Rattle.mr_runs.specs.Numbers.{with_provenance, IsInPlace};
-ghost use Rattle.mr_runs.specs.Pieces.{SeenPiece};
+ghost use Rattle.mr_runs.specs.Pieces.{SeenPiece, bytes_of_piece, piece_len};
 ghost use Rattle.mr_runs.specs.Placed.{bytes_in, total_len, Holds, IsReplaced, IsTiled};
+ghost use Rattle.mr_runs.specs.Seen.{seen_piece};
 
 use crate::OutOfMemory;
 use crate::exchange::exchange;
 use crate::finding::run_at;
-use crate::row::{push, push_bytes, push_repeated};
+use crate::row::{push, push_each};
 use crate::run::Run;
+use crate::views::Piece;
 use mr_base::{AbstractByte, AllocId};
 use std::alloc::Global;
 use std::collections::BTreeMap;
@@ -66,8 +68,8 @@ pub(crate) fn put_in_place(
     true
 }
 
-/// Writes bytes, and makes the runs anew that the range meets.
-pub(crate) fn write_anew(
+/// Writes bytes one by one, and makes the runs anew that the range meets.
+pub(crate) fn write_each(
     alloc: Global,
     runs: &mut BTreeMap<u64, Run>,
     len: u64,
@@ -82,30 +84,30 @@ pub(crate) fn write_anew(
     ensures err { OnErr result (runs.new.entries ≡ runs.old.entries) }
 {
     let mut row = front(alloc, runs, from)?;
-    push_bytes(alloc, &mut row, from, bytes)?;
+    push_each(alloc, &mut row, from, bytes)?;
     let end = close(alloc, &mut row, runs, len, from + bytes.len() as u64)?;
     exchange(runs, row, end)
 }
 
-/// Puts the same byte in place of each of a range.
-pub(crate) fn fill(
+/// Puts the bytes of a piece in place of as many, and makes the runs anew that the range meets.
+pub(crate) fn replace(
     alloc: Global,
     runs: &mut BTreeMap<u64, Run>,
     len: u64,
     from: u64,
-    count: u64,
-    byte: AbstractByte,
+    piece: Piece<'_>,
 ) -> Result<(), OutOfMemory>
     requires tiled { IsTiled runs.old.entries }
     requires whole { total_len runs.old.entries ≡ len }
-    requires inside { from + count ≤ len }
-    requires some { 0 < count }
-    ensures ok { OnOk result (IsReplaced runs.old.entries runs.new.entries from (replicate count byte)) }
+    requires inside { from + piece_len (seen_piece piece) ≤ len }
+    requires some { 0 < piece_len (seen_piece piece) }
+    ensures ok { OnOk result
+        (IsReplaced runs.old.entries runs.new.entries from (bytes_of_piece (seen_piece piece.entry))) }
     ensures err { OnErr result (runs.new.entries ≡ runs.old.entries) }
 {
     let mut row = front(alloc, runs, from)?;
-    push_repeated(alloc, &mut row, from, byte, count)?;
-    let end = close(alloc, &mut row, runs, len, from + count)?;
+    push(alloc, &mut row, from, piece)?;
+    let end = close(alloc, &mut row, runs, len, from + piece.len())?;
     exchange(runs, row, end)
 }
 

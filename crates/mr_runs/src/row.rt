@@ -1,14 +1,14 @@
 //! Runs that are put together in a row, from left to right: neighbours with one mark become one.
 ghost use Rattle.std.specs.Prelude.{◌≡◌, ℕ, ◌+◌, ◌<◌, ◌≤◌, ◌^◌, List, [], ◌∷◌, ◌++◌, length, OnOk};
 ghost use Rattle.mr_base.specs.declared.byte.AbstractByte.{AbstractByte};
-ghost use Rattle.mr_runs.specs.Exchanged.{one_piece, repeated_piece, IsBegun, IsPushed};
+ghost use Rattle.mr_runs.specs.Exchanged.{one_piece, IsBegun, IsPushed};
 ghost use Rattle.mr_runs.specs.Pieces.{SeenPiece, piece_len};
 ghost use Rattle.mr_runs.specs.Placed.{total_len};
 ghost use Rattle.mr_runs.specs.Seen.{seen_piece};
 
 use crate::OutOfMemory;
 use crate::mark::is_same;
-use crate::run::{Run, numbers_of, provenance_of};
+use crate::run::Run;
 use crate::views::Piece;
 use mr_base::AbstractByte;
 use std::alloc::Global;
@@ -50,50 +50,8 @@ fn add(
     Ok(())
 }
 
-/// Puts so many times the same byte behind a row, which ends at `at`.
-pub(crate) fn push_repeated(
-    alloc: Global,
-    row: &mut Vec<(u64, Run)>,
-    at: u64,
-    byte: AbstractByte,
-    count: u64,
-) -> Result<(), OutOfMemory>
-    requires room { total_len row.old.items ≤ at }
-    requires fits { at + count < 2 ^ 64 }
-    ensures { OnOk result (IsPushed row.old.items at (repeated_piece count byte) row.new.items) }
-{
-    match byte {
-        AbstractByte::Uninit => push(alloc, row, at, Piece::Uninit(count)),
-        AbstractByte::Init(number, provenance) => {
-            let numbers = vec![in alloc; number; count as usize]?;
-            push(alloc, row, at, Piece::Bytes(numbers.as_slice(), provenance))
-        }
-    }
-}
-
-/// Puts bytes behind a row, which ends at `at`: all at once where they have one provenance.
-pub(crate) fn push_bytes(
-    alloc: Global,
-    row: &mut Vec<(u64, Run)>,
-    at: u64,
-    bytes: &[AbstractByte],
-) -> Result<(), OutOfMemory>
-    requires room { total_len row.old.items ≤ at }
-    requires fits { at + length bytes.now < 2 ^ 64 }
-    ensures { OnOk result ((es : List (ℕ × SeenPiece)) (done : List AbstractByte)
-        → IsBegun es row.old.items done → length done ≡ at → IsBegun es row.new.items (done ++ bytes.now)) }
-{
-    match provenance_of(bytes) {
-        Some(provenance) => {
-            let numbers = numbers_of(alloc, bytes)?;
-            push(alloc, row, at, Piece::Bytes(numbers.as_slice(), provenance))
-        }
-        None => push_each(alloc, row, at, bytes),
-    }
-}
-
-// Puts bytes behind a row one by one.
-fn push_each(
+/// Puts bytes behind a row one by one.
+pub(crate) fn push_each(
     alloc: Global,
     row: &mut Vec<(u64, Run)>,
     at: u64,

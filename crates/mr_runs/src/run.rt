@@ -3,7 +3,7 @@ ghost use Rattle.std.specs.Prelude.{◌≡◌, ◌↔◌, ◌+◌, ◌<◌, ◌�
 ghost use Rattle.mr_base.specs.declared.byte.AbstractByte.TheVariants.{Init};
 ghost use Rattle.mr_base.specs.declared.byte.AllocId.{AllocId};
 ghost use Rattle.mr_runs.specs.Exchanged.{together};
-ghost use Rattle.mr_runs.specs.Growing.{with_numbers, IsLike};
+ghost use Rattle.mr_runs.specs.Growing.{with_numbers};
 ghost use Rattle.mr_runs.specs.Numbers.{number_of, with_numbers_at, AreOf, IsInPlace, TakesNumbers};
 ghost use Rattle.mr_runs.specs.Pieces.{UninitPiece, bytes_of_piece, mark_of, piece_len};
 ghost use Rattle.mr_runs.specs.Ranges.{with_range_replaced};
@@ -185,16 +185,6 @@ impl Run {
         match &mut self.content {
             Content::Uninit(_) => unreachable!(),
             Content::Bytes(own, _) => replace_numbers(own.as_mut_slice(), at as usize, numbers),
-        }
-    }
-
-    /// Whether the run is of initialised bytes, and all the bytes have their provenance.
-    pub(crate) fn is_like(&self, bytes: &[AbstractByte]) -> bool
-        ensures { IsTrue result ↔ IsLike self.now bytes.now }
-    {
-        match &self.content {
-            Content::Uninit(_) => false,
-            Content::Bytes(_, provenance) => are_all_of(bytes, *provenance),
         }
     }
 

@@ -3,14 +3,14 @@ ghost use Rattle.std.specs.Prelude.{◌≡◌, ◌≤◌, ◌+◌, ◌<◌, ◌+
 ghost use Rattle.mr_base.specs.declared.byte.AbstractByte.TheVariants.{Uninit};
 ghost use Rattle.mr_runs.specs.Numbers.{with_provenance};
 ghost use Rattle.mr_runs.specs.Pieces.{bytes_of_pieces, AreMaximal};
-ghost use Rattle.mr_runs.specs.Placed.{bytes_in, total_len, IsTiled};
+ghost use Rattle.mr_runs.specs.Placed.{bytes_in, total_len, IsReplaced, IsTiled};
 ghost use Rattle.mr_runs.specs.Ranges.{with_range_replaced};
 
 use crate::OutOfMemory;
 use crate::grow::write_behind;
-use crate::replace::{fill, put_in_place, write_anew, write_in_place};
-use crate::run::Run;
-use crate::views::{View, lend};
+use crate::replace::{put_in_place, replace, write_each, write_in_place};
+use crate::run::{Run, numbers_of, provenance_of};
+use crate::views::{Piece, View, lend};
 use mr_base::{AbstractByte, AllocId};
 use std::alloc::Global;
 use std::collections::BTreeMap;
@@ -72,10 +72,20 @@ impl Runs {
         if write_in_place(&mut self.runs, from, bytes) {
             return Ok(());
         }
-        if write_behind(self.alloc, &mut self.runs, from, bytes)? {
-            return Ok(());
+        match provenance_of(bytes) {
+            Some(provenance) => {
+                let numbers = numbers_of(self.alloc, bytes)?;
+                write_alike(
+                    self.alloc,
+                    &mut self.runs,
+                    self.len,
+                    from,
+                    numbers.as_slice(),
+                    provenance,
+                )
+            }
+            None => write_each(self.alloc, &mut self.runs, self.len, from, bytes),
         }
-        write_anew(self.alloc, &mut self.runs, self.len, from, bytes)
     }
 
     /// Puts initialised bytes with these numbers and one provenance in place of just as many bytes from the position `from` on. Where the
@@ -98,8 +108,14 @@ impl Runs {
         if put_in_place(&mut self.runs, from, numbers, provenance) {
             return Ok(());
         }
-        let bytes = bytes_with(self.alloc, numbers, provenance)?;
-        self.write(from, bytes.as_slice())
+        write_alike(
+            self.alloc,
+            &mut self.runs,
+            self.len,
+            from,
+            numbers,
+            provenance,
+        )
     }
 
     /// Puts `byte` in place of each of the `len` bytes from the position `from` on.
@@ -108,10 +124,14 @@ impl Runs {
         ensures ok { OnOk result (self.new ≡ with_range_replaced self.old from (replicate len byte)) }
         ensures err { OnErr result (self.new ≡ self.old) }
     {
-        if len == 0 {
-            return Ok(());
+        let _all = self.len();
+        match byte {
+            AbstractByte::Uninit => self.fill_uninit(from, len),
+            AbstractByte::Init(number, provenance) => {
+                let numbers = vec![in self.alloc; number; len as usize]?;
+                self.write_numbers(from, numbers.as_slice(), provenance)
+            }
         }
-        fill(self.alloc, &mut self.runs, self.len, from, len, byte)
     }
 
     /// Makes the `len` bytes from the position `from` on uninitialised.
@@ -120,7 +140,17 @@ impl Runs {
         ensures ok { OnOk result (self.new ≡ with_range_replaced self.old from (replicate len Uninit)) }
         ensures err { OnErr result (self.new ≡ self.old) }
     {
-        self.fill(from, len, AbstractByte::Uninit)
+        let _all = self.len();
+        if len == 0 {
+            return Ok(());
+        }
+        replace(
+            self.alloc,
+            &mut self.runs,
+            self.len,
+            from,
+            Piece::Uninit(len),
+        )
     }
 
     /// Appends the `len` bytes from the position `from` on to `out`.
@@ -165,17 +195,24 @@ fn uninit_runs(alloc: Global, len: u64) -> Result<BTreeMap<u64, Run>, OutOfMemor
     Ok(runs)
 }
 
-// Initialised bytes with these numbers and one provenance.
-fn bytes_with(
+// Writes numbers with one provenance, behind a run of it or in the place of what stands there.
+fn write_alike(
     alloc: Global,
+    runs: &mut BTreeMap<u64, Run>,
+    len: u64,
+    from: u64,
     numbers: &[u8],
     provenance: Option<AllocId>,
-) -> Result<Vec<AbstractByte>, OutOfMemory>
-    ensures { IfOk result (λ bytes. bytes.items ≡ with_provenance provenance numbers.now) }
+) -> Result<(), OutOfMemory>
+    requires tiled { IsTiled runs.old.entries }
+    requires whole { total_len runs.old.entries ≡ len }
+    requires inside { from + length numbers.now ≤ len }
+    requires some { 0 < length numbers.now }
+    ensures ok { OnOk result (IsReplaced runs.old.entries runs.new.entries from (with_provenance provenance numbers.now)) }
+    ensures err { OnErr result (runs.new.entries ≡ runs.old.entries) }
 {
-    let mut bytes = Vec::new(alloc);
-    for number in numbers {
-        bytes.push(AbstractByte::Init(*number, provenance))?;
+    if write_behind(runs, from, numbers, provenance)? {
+        return Ok(());
     }
-    Ok(bytes)
+    replace(alloc, runs, len, from, Piece::Bytes(numbers, provenance))
 }

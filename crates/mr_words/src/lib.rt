@@ -7,7 +7,7 @@
 //!
 //! - [`int_of()`], [`type_word_of()`] and the like find a word in the tables of `mr_ast/specs/Words.antt`; [`is_name()`] says whether a word may be a name,
 //!   and [`number_of()`] which number it is.
-//! - [`definitions_in()`] gives the names that a text defines, [`Tables`] finds each by a search, and a [`Scope`] gives the number of what a name stands for, or
+//! - [`definitions_in()`] gives the names that a text defines, [`Tables`] finds each by its hash, and a [`Scope`] gives the number of what a name stands for, or
 //!   the code of its fault.
 //! - [`fault_at()`] gives the place of a stop in the text, and [`told()`] tells a bracket too many before a token that doesn't fit.
 #![tactic(auto)]

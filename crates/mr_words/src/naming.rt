@@ -6,7 +6,7 @@ ghost use Rattle.mr_ast.specs.Scope.{each_once, item_names, names_of, with_text}
 ghost use Rattle.mr_words.specs.Naming.{IsSmall, IsSmallFunction, names_in};
 
 use crate::definitions::{Definitions, FunctionNames};
-use mr_ast::{Names, OutOfMemory};
+use mr_ast::{Names, OutOfMemory, TextKey};
 use std::alloc::Global;
 use std::str;
 
@@ -52,12 +52,12 @@ fn add_all(names: &mut Names, texts: &[&[u8]]) -> Result<(), OutOfMemory>
 
 /// Each of the names once, in the order in which they first stand there.
 #[tactic(auto, unfolding(mr_ast::specs::Scope::each_once))]
-pub fn each_once(alloc: Global, texts: &[&[u8]]) -> Result<Names, OutOfMemory>
+pub fn each_once(alloc: Global, key: TextKey, texts: &[&[u8]]) -> Result<Names, OutOfMemory>
     requires few { length texts.now < 2 ^ 32 }
     requires ascii { All IsAscii (map (λ w. w.now) texts.now) }
     ensures { IfOk result (λ names. names ≡ each_once (map (λ w. w.now) texts.now)) }
 {
-    let mut names = Names::new(alloc);
+    let mut names = Names::keyed(alloc, key);
     add_all(&mut names, texts)?;
     Ok(names)
 }
@@ -74,11 +74,15 @@ fn add_function(names: &mut Names, function: &FunctionNames<'_>) -> Result<(), O
 }
 
 /// Each name that is defined once, in the order of the text.
-pub fn names_of(alloc: Global, definitions: &Definitions<'_>) -> Result<Names, OutOfMemory>
+pub fn names_of(
+    alloc: Global,
+    key: TextKey,
+    definitions: &Definitions<'_>,
+) -> Result<Names, OutOfMemory>
     requires { IsSmall definitions.now }
     ensures { IfOk result (λ names. names ≡ names_of definitions.now) }
 {
-    let mut names = each_once(alloc, definitions.globals())?;
+    let mut names = each_once(alloc, key, definitions.globals())?;
     let functions = definitions.functions();
     for function in functions {
         add_function(&mut names, function)?;
@@ -87,11 +91,15 @@ pub fn names_of(alloc: Global, definitions: &Definitions<'_>) -> Result<Names, O
 }
 
 /// Each name of a global or a function once.
-pub fn item_names(alloc: Global, definitions: &Definitions<'_>) -> Result<Names, OutOfMemory>
+pub fn item_names(
+    alloc: Global,
+    key: TextKey,
+    definitions: &Definitions<'_>,
+) -> Result<Names, OutOfMemory>
     requires { IsSmall definitions.now }
     ensures { IfOk result (λ names. names ≡ each_once (item_names definitions.now)) }
 {
-    let mut names = each_once(alloc, definitions.globals())?;
+    let mut names = each_once(alloc, key, definitions.globals())?;
     let functions = definitions.functions();
     for function in functions {
         add(&mut names, function.name())?;

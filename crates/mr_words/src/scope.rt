@@ -13,14 +13,16 @@ ghost use Rattle.mr_words.specs.Numbers.{Numbers};
 use crate::definitions::Definitions;
 use crate::fault::{DOUBLE_NAME, UNKNOWN_NAME};
 use crate::naming::{each_once, item_names, names_of, position, text_of};
-use mr_ast::{FnName, GlobalName, Names, OutOfMemory, Role, Target};
+use mr_ast::{FnName, GlobalName, Names, OutOfMemory, Role, Target, TextKey};
 use std::alloc::Global;
 use std::marker::Model;
 
-/// The names that a text defines, each found by a search: all of them, and those of the globals and functions.
+/// The names that a text defines, each found by its hash: all of them, and those of the globals and functions. The hashes go by
+/// the text's key.
 #[derive(Drop)]
 pub struct Tables<'a> {
     definitions: Definitions<'a>,
+    key: TextKey,
     texts: Names,
     items: Names,
 }
@@ -39,15 +41,20 @@ impl<'a> Model for Tables<'a> {
 }
 
 impl<'a> Tables<'a> {
-    /// The tables of what a text defines.
-    pub fn new(alloc: Global, definitions: Definitions<'a>) -> Result<Tables<'a>, OutOfMemory>
+    /// The tables of what a text with this key defines.
+    pub fn new(
+        alloc: Global,
+        key: TextKey,
+        definitions: Definitions<'a>,
+    ) -> Result<Tables<'a>, OutOfMemory>
         requires { IsSmall definitions }
         ensures { IfOk result (λ t. t ≡ definitions.entry) }
     {
-        let texts = names_of(alloc, &definitions)?;
-        let items = item_names(alloc, &definitions)?;
+        let texts = names_of(alloc, key, &definitions)?;
+        let items = item_names(alloc, key, &definitions)?;
         Ok(Tables {
             definitions,
+            key,
             texts,
             items,
         })
@@ -74,7 +81,7 @@ impl<'a> Tables<'a> {
         ensures { IfOk result (λ names. names ≡ each_once (function_names self.now k).locals) }
     {
         match self.definitions.functions().get(k as usize) {
-            Some(function) => each_once(alloc, function.locals()),
+            Some(function) => each_once(alloc, self.key, function.locals()),
             None => Ok(Names::new(alloc)),
         }
     }
@@ -85,7 +92,7 @@ impl<'a> Tables<'a> {
         ensures { IfOk result (λ names. names ≡ each_once (function_names self.now k).blocks) }
     {
         match self.definitions.functions().get(k as usize) {
-            Some(function) => each_once(alloc, function.blocks()),
+            Some(function) => each_once(alloc, self.key, function.blocks()),
             None => Ok(Names::new(alloc)),
         }
     }

@@ -6,8 +6,8 @@ use Rattle.mr_clocks.proofs.Parts.{made_of, part_ends}
 use Rattle.mr_clocks.proofs.RowLaws.{known_alone, known_stays, next_of, seen_rows}
 use Rattle.mr_clocks.proofs.made.walked_clock.Goals as goal
 
-pub walk_place-requires-clause-next : goal.walk_place-requires-clause-next
-walk_place-requires-clause-next c =
+pub walk_next-requires-clause-next : goal.walk_next-requires-clause-next
+walk_next-requires-clause-next c =
     next_of c.args.run.now c.args.j c.at-next.result c.args.latest.now c.requires.latest (c.at-next.ensures ∙ ap (slice_index c.args.latest.now) c.thread_at.ensures)
 
 pub loop-y-preserved : goal.loop-y-preserved
@@ -17,7 +17,7 @@ loop-y-preserved c =
     let rows = c.args.rows.now in
     let links = c.args.links.now in
     let found = c.args.found.now in
-    let new = c.walk_place.new.clock in
+    let new = c.walk_next.new.clock in
     record {
       part = w.part;
       seen = λ z lt. elim (ℕ_discrete z c.loop-y.y) [

@@ -3,10 +3,10 @@ use Rattle.mr_runs.specs.Placed.{bytes_in}
 use Rattle.mr_runs.proofs.ExchangeLaws.{on_ok_both, ready_row, replaced}
 use Rattle.mr_runs.proofs.PlacedLaws.{length-bytes_in}
 use Rattle.mr_runs.proofs.RowLaws.{begun_room}
-use Rattle.mr_runs.proofs.replace.write_anew.Goals as goal
+use Rattle.mr_runs.proofs.replace.write_each.Goals as goal
 
-pub push_bytes-requires-clause-room : goal.push_bytes-requires-clause-room
-push_bytes-requires-clause-room c =
+pub push_each-requires-clause-room : goal.push_each-requires-clause-room
+push_each-requires-clause-room c =
     let es = c.args.runs.now.entries in
     begun_room es c.in_ok-row.row.items (take c.args.from (bytes_in es)) c.args.from c.in_ok-row.ensures (omega (arith, length-take c.args.from (bytes_in es)))
 
@@ -16,8 +16,8 @@ close-requires-clause-room c =
     let from = c.args.from in
     let bytes = c.args.bytes.now in
     let front_len : length (take from (bytes_in es)) ≡ from = omega (arith, length-take from (bytes_in es), length-bytes_in es, c.requires.inside, c.requires.whole) in
-    let begun = c.in_ok-push_bytes.ensures es (take from (bytes_in es)) c.in_ok-row.ensures front_len in
-    begun_room es c.push_bytes.new.row.items (take from (bytes_in es) ++ bytes) (from + length bytes) begun (omega (arith, front_len, length-append (take from (bytes_in es)) bytes))
+    let begun = c.in_ok-push_each.ensures es (take from (bytes_in es)) c.in_ok-row.ensures front_len in
+    begun_room es c.push_each.new.row.items (take from (bytes_in es) ++ bytes) (from + length bytes) begun (omega (arith, front_len, length-append (take from (bytes_in es)) bytes))
 
 pub exchange-requires-clause-row : goal.exchange-requires-clause-row
 exchange-requires-clause-row c =
@@ -25,8 +25,8 @@ exchange-requires-clause-row c =
     let from = c.args.from in
     let bytes = c.args.bytes.now in
     let front_len : length (take from (bytes_in es)) ≡ from = omega (arith, length-take from (bytes_in es), length-bytes_in es, c.requires.inside, c.requires.whole) in
-    let begun = c.in_ok-push_bytes.ensures es (take from (bytes_in es)) c.in_ok-row.ensures front_len in
-    ready_row es c.push_bytes.new.row.items c.close.new.row.items from (from + length bytes) c.in_ok-end.end bytes c.requires.tiled begun
+    let begun = c.in_ok-push_each.ensures es (take from (bytes_in es)) c.in_ok-row.ensures front_len in
+    ready_row es c.push_each.new.row.items c.close.new.row.items from (from + length bytes) c.in_ok-end.end bytes c.requires.tiled begun
     refl (omega (arith, c.requires.inside, c.requires.whole)) c.in_ok-end.ensures
 
 pub returns-clause-ok : goal.returns-clause-ok
@@ -35,8 +35,8 @@ returns-clause-ok c =
     let from = c.args.from in
     let bytes = c.args.bytes.now in
     let front_len : length (take from (bytes_in es)) ≡ from = omega (arith, length-take from (bytes_in es), length-bytes_in es, c.requires.inside, c.requires.whole) in
-    let begun = c.in_ok-push_bytes.ensures es (take from (bytes_in es)) c.in_ok-row.ensures front_len in
+    let begun = c.in_ok-push_each.ensures es (take from (bytes_in es)) c.in_ok-row.ensures front_len in
     on_ok_both c.exchange.result
-    (λ exchanged order. replaced es c.push_bytes.new.row.items c.close.new.row.items from (from + length bytes) c.in_ok-end.end bytes c.requires.tiled begun
+    (λ exchanged order. replaced es c.push_each.new.row.items c.close.new.row.items from (from + length bytes) c.in_ok-end.end bytes c.requires.tiled begun
     refl (omega (arith, c.requires.inside, c.requires.whole)) c.in_ok-end.ensures c.exchange.new.runs.entries exchanged order)
     c.exchange.ensures.ok c.exchange.ensures.ordered
