@@ -16,9 +16,9 @@ use Rattle.mr_start.specs.Runs.{Legal, run_of, steps_of}
 use Rattle.mr_thread.specs.Steps.{Own}
 use Rattle.mr_wf.specs.Walk.{WellFormed}
 use Rattle.mr_exchange.specs.Witness.{entry_at}
-use Rattle.mr_shuffle.specs.EveryOrder.{ComesToTheSame}
-use Rattle.mr_shuffle.specs.Shuffled.{shuffled, shuffled_order}
-use Rattle.mr_shuffle.proofs.Drawn.{places_length, shuffled_rearranged}
+use Rattle.mr_witness.specs.EveryOrder.{ComesToTheSame}
+use Rattle.mr_witness.specs.Shuffled.{shuffled, shuffled_order}
+use Rattle.mr_witness.proofs.Drawn.{places_length, shuffled_rearranged}
 use Rattle.mr_answer.specs.declared.formats.Format.TheVariants.{Text}
 use Rattle.mr_answer.specs.Answers.{Ran, behind_schedule, ordered_answer, shuffled_answer, told_by, told_in}
 use Rattle.mr_answer.proofs.RunLaws.{told_bare}

@@ -13,7 +13,7 @@ use Rattle.mr_start.specs.Runs.{run_of, schedule_fault, steps_of, PlacedFault}
 use Rattle.mr_run.specs.declared.witnesses.Selection.{Selection}
 use Rattle.mr_run.specs.declared.witnesses.Selection.TheVariants.{Kept, Needed}
 use Rattle.mr_run.specs.Witnesses.{witness_for}
-use Rattle.mr_shuffle.specs.Shuffled.{shuffled}
+use Rattle.mr_witness.specs.Shuffled.{shuffled}
 use Rattle.mr_auto.specs.Drawing.{drawn_schedule}
 use Rattle.mr_gen.specs.Generated.{generated, rounds_of, workers_of}
 use Rattle.mr_report.specs.Report.{brief_text, line, races_text}

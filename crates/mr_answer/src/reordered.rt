@@ -16,9 +16,9 @@ use crate::run::refusal_of;
 use mr_input::{Refusal, Written, answered};
 use mr_run::{Clocked, Nothing, run};
 use mr_sched::{Schedule, Version};
-use mr_shuffle::shuffle;
 use mr_step::Machine;
 use mr_wf::Checked;
+use mr_witness::shuffle;
 use std::alloc::{AllocError, Global};
 
 /// The report of the run of a program under a schedule; where no race is listed, the schedule in an order that is drawn

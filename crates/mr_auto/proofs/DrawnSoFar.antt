@@ -7,7 +7,7 @@ use Rattle.mr_event.specs.Footprint.{Footprint}
 use Rattle.mr_mem.specs.Memory.{leaks}
 use Rattle.mr_sched.specs.declared.chooser.Chooser.{Chooser}
 use Rattle.mr_sched.specs.declared.schedule.Entry.{Entry}
-use Rattle.mr_script.specs.Script.{Broken, Outcome, Refused, Went}
+use Rattle.mr_base.specs.Script.{Broken, Outcome, Refused, Went}
 use Rattle.mr_plan.specs.Machine.{Aborts, Bare, Completed, Exits, Flow, Goes, IllFormedStep, Language, State, Stops, Thread, acted, bare, settled}
 use Rattle.mr_plan.specs.Notes.{Notes}
 use Rattle.mr_plan.specs.Queries.{Shared}

@@ -20,8 +20,8 @@ use Rattle.mr_frame.specs.Frames.{Look}
 use Rattle.mr_thread.specs.Steps.{Own, thread_step}
 use Rattle.mr_thread.proofs.RunSound.{entry_sound}
 use Rattle.mr_thread.specs.SoundState.{IsSoundConfig}
-use Rattle.mr_tells.proofs.Sane.{sound_is_sane}
-use Rattle.mr_tells.proofs.Telling.{thread_step_tells}
+use Rattle.mr_exchange.proofs.Sane.{sound_is_sane}
+use Rattle.mr_exchange.proofs.Telling.{thread_step_tells}
 use Rattle.mr_swap.specs.Meets.{AreNewIn, IsTaken, addresses}
 use Rattle.mr_swap.proofs.BareSteps.{needs_are, taken, whole, whole_run}
 use Rattle.mr_swap.proofs.MeetsLaws.{legal_of_meets, step_only}

@@ -3,4 +3,7 @@ pub mod Comparisons
 pub mod Examples
 pub mod Lists
 pub mod Options
+pub mod ScriptExamples
+pub mod ScriptRuns
+pub mod ScriptSwaps
 pub mod Twins

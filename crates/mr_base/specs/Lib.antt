@@ -3,3 +3,4 @@ pub mod Identities
 pub mod Limits
 pub mod Pairs
 pub mod Reasons
+pub mod Script

@@ -5,9 +5,9 @@ use Rattle.mr_base.specs.declared.reason.Reason.{Reason}
 use Rattle.mr_base.specs.declared.reason.Reason.TheVariants.{DataRace}
 use Rattle.mr_eval.specs.Reads.{ReadQuery, ReadScript}
 use Rattle.mr_mem.specs.Memory.{Memory}
-use Rattle.mr_reached.specs.declared.reached.Reached.{Reached}
-use Rattle.mr_script.specs.Script.{◌>>=◌, Broken, Outcome, Refused, Went, on, run}
-use Rattle.mr_script.proofs.Runs.{run_bind}
+use Rattle.mr_told.specs.declared.reached.Reached.{Reached}
+use Rattle.mr_base.specs.Script.{◌>>=◌, Broken, Outcome, Refused, Went, on, run}
+use Rattle.mr_base.proofs.ScriptRuns.{run_bind}
 use Rattle.mr_blame.specs.Last.{last_asked}
 use Rattle.mr_blame.specs.Reaches.{is_of_memory, read_reached}
 use Rattle.mr_blame.specs.Reads.{IsBlamed, IsRefused, come, last_reached, telling}

@@ -1,7 +1,7 @@
 -- The last query of a run, by the parts of its script.
 use Rattle.std.proofs.Common.{◌≡◌, Option, None, Some, refl, ap, ◌∙◌}
 use Rattle.mr_base.specs.declared.reason.Reason.{Reason}
-use Rattle.mr_script.specs.Script.{◌>>=◌, Ask, Broken, Done, IllFormed, Outcome, Refused, Script, Undefined, Went, on, run}
+use Rattle.mr_base.specs.Script.{◌>>=◌, Ask, Broken, Done, IllFormed, Outcome, Refused, Script, Undefined, Went, on, run}
 use Rattle.mr_blame.specs.Last.{last_asked, last_from, or_this}
 
 -- the first of two, where it is there, and else the other

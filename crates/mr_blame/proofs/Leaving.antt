@@ -3,7 +3,7 @@ use Rattle.std.proofs.Common.{◌≡◌, Option, None, Some, Result, Ok, Err, tr
 use Rattle.std.proofs.lemmas.Bool.{both_ways}
 use Rattle.mr_base.specs.declared.reason.Reason.{Reason}
 use Rattle.mr_base.specs.declared.reason.Reason.TheVariants.{DataRace}
-use Rattle.mr_script.specs.Script.{◌>>=◌, Ask, Broken, Done, IllFormed, Outcome, Refused, Script, Undefined, Went, on, run}
+use Rattle.mr_base.specs.Script.{◌>>=◌, Ask, Broken, Done, IllFormed, Outcome, Refused, Script, Undefined, Went, on, run}
 use Rattle.mr_eval.specs.MemoryQueries.{reading_part}
 use Rattle.mr_eval.specs.Reads.{ReadScript}
 use Rattle.mr_blame.specs.Last.{last_asked, last_from, or_this}

@@ -11,7 +11,7 @@ use Rattle.mr_eval.specs.Evaluation.{Surround, place_script, value_script}
 use Rattle.mr_eval.specs.Reads.{Check, Read, ReadQuery, ReadScript, Refer, Seen, answered, named, reading}
 use Rattle.mr_eval.specs.Typed.{loading}
 use Rattle.mr_mem.specs.Memory.{Memory, checked, read}
-use Rattle.mr_script.specs.Script.{Ask, Broken, Done, IllFormed, Outcome, Refused, Undefined, Went, on, run}
+use Rattle.mr_base.specs.Script.{Ask, Broken, Done, IllFormed, Outcome, Refused, Undefined, Went, on, run}
 use Rattle.mr_value.specs.declared.val.Val.{Val}
 use Rattle.mr_blame.specs.Last.{last_asked, last_from, or_this}
 use Rattle.mr_blame.specs.Reads.{Comes, come, load_come, place_come, telling, value_come}

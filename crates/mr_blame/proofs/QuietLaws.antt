@@ -26,11 +26,11 @@ use Rattle.mr_eval.specs.Evaluation.{as_variant, stored, union_layer, union_of}
 use Rattle.mr_eval.specs.Operators.{arith_like, bits_in, cast_value, integer_like, integer_told, like, operated, or_ill_formed, or_reason, pointer_in, pointer_of_value, right_in, shift_like, unary_bool, unary_in, unary_of}
 use Rattle.mr_eval.specs.Reads.{ReadScript}
 use Rattle.mr_mem.specs.Memory.{Memory}
-use Rattle.mr_script.specs.Script.{◌>>=◌, Ask, Broken, Done, IllFormed, Outcome, Refused, Undefined, Went, on, run}
+use Rattle.mr_base.specs.Script.{◌>>=◌, Ask, Broken, Done, IllFormed, Outcome, Refused, Undefined, Went, on, run}
 use Rattle.mr_value.specs.declared.val.Val.{Val, out-Val}
 use Rattle.mr_value.specs.declared.val.Val.TheOpen.{Val-F}
 use Rattle.mr_wf.specs.Types.{chained, variant_type}
-use Rattle.mr_reached.specs.declared.reached.Reached.{Reached}
+use Rattle.mr_told.specs.declared.reached.Reached.{Reached}
 use Rattle.mr_blame.specs.Reaches.{is_of_memory}
 use Rattle.mr_blame.specs.Reads.{IsBlamed, IsRefused, come, last_reached, telling}
 use Rattle.mr_blame.proofs.BlameLaws.{Stops, blamed_part, come_behind, come_on, refused_part}

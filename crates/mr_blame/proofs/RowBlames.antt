@@ -6,9 +6,9 @@ use Rattle.mr_eval.specs.Answers.{same}
 use Rattle.mr_eval.specs.Evaluation.{Surround, value_script, values_script}
 use Rattle.mr_eval.specs.Reads.{ReadScript}
 use Rattle.mr_mem.specs.Memory.{Memory}
-use Rattle.mr_reached.specs.declared.reached.Reached.{Reached}
-use Rattle.mr_script.specs.Script.{◌>>=◌, Broken, Done, Outcome, Refused, Went, on}
-use Rattle.mr_script.proofs.Runs.{on_same, run_bind}
+use Rattle.mr_told.specs.declared.reached.Reached.{Reached}
+use Rattle.mr_base.specs.Script.{◌>>=◌, Broken, Done, Outcome, Refused, Went, on}
+use Rattle.mr_base.proofs.ScriptRuns.{on_same, run_bind}
 use Rattle.mr_value.specs.declared.val.Val.{Val}
 use Rattle.mr_blame.specs.Reads.{Comes, IsBlamed, IsRefused, come, telling, value_come, value_last, values_come, values_last}
 use Rattle.mr_blame.proofs.BlameLaws.{Stops, blamed_behind, blamed_part, refused_behind, refused_part}

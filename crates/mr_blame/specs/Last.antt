@@ -1,6 +1,6 @@
 -- The last query of a run.
 use Rattle.std.specs.Prelude.{Option, None, Some}
-use Rattle.mr_script.specs.Script.{Ask, Broken, Done, IllFormed, Outcome, Refused, Script, Undefined, Went}
+use Rattle.mr_base.specs.Script.{Ask, Broken, Done, IllFormed, Outcome, Refused, Script, Undefined, Went}
 
 -- the first of two, where it is there
 abbrev pub or_this : {Q : Type 0} → Option Q → Q → Q

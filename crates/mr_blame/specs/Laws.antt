@@ -8,7 +8,7 @@ use Rattle.mr_eval.specs.Evaluated.{placed, valued}
 use Rattle.mr_eval.specs.Evaluation.{Surround, place_script, value_script}
 use Rattle.mr_eval.specs.Reads.{Seen, reading}
 use Rattle.mr_mem.specs.Memory.{Memory}
-use Rattle.mr_script.specs.Script.{Outcome, Refused}
+use Rattle.mr_base.specs.Script.{Outcome, Refused}
 use Rattle.mr_blame.specs.Last.{last_asked}
 use Rattle.mr_blame.specs.Reaches.{is_of_memory}
 

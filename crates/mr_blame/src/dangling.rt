@@ -9,7 +9,7 @@ use crate::parts::reached_by;
 use mr_ast::{Num, Ty, Variant};
 use mr_base::Pointer;
 use mr_mem::Memory;
-use mr_reached::{Reached, Reaching};
+use mr_told::{Reached, Reaching};
 use mr_value::Val;
 
 // What a reference points to, where it points to no live range.

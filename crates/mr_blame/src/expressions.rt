@@ -13,7 +13,7 @@ use crate::search::search_of;
 use mr_ast::{BinaryOp, Place, Ty, Value};
 use mr_eval::Env;
 use mr_mem::Memory;
-use mr_reached::Reached;
+use mr_told::Reached;
 use std::alloc::{AllocError, Global};
 
 /// What the last query of a place reaches that is refused.

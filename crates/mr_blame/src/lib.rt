@@ -1,6 +1,6 @@
 //! Which query refuses the evaluation of an expression.
 //!
-//! An evaluation is a script that asks memory, one query after another (`mr_script`, `mr_eval`). Where it is undefined
+//! An evaluation is a script that asks memory, one query after another (`mr_base`, `mr_eval`). Where it is undefined
 //! because of what memory answers, its run stops at a query: at one that memory refuses, or at a load whose bytes mean
 //! no value. `specs/Last.antt` says which query is the last one that a run asks, `specs/Reaches.antt` which bytes a
 //! query reaches and which reasons speak of them, and `specs/Reads.antt` what evaluation comes to, notes apart.

@@ -16,7 +16,7 @@ use mr_ast::{Place, Ty, Value};
 use mr_base::Pointer;
 use mr_eval::{Env, recast};
 use mr_mem::Memory;
-use mr_reached::{Reached, Reaching};
+use mr_told::{Reached, Reaching};
 use mr_value::{Val, decode};
 use std::alloc::{AllocError, Global};
 

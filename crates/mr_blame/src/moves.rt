@@ -19,7 +19,7 @@ use mr_ast::{BinaryOp, Place, Ty};
 use mr_base::Pointer;
 use mr_eval::Env;
 use mr_layout::Cache;
-use mr_reached::{Reached, Reaching};
+use mr_told::{Reached, Reaching};
 use mr_value::Val;
 use mr_wf::offset;
 

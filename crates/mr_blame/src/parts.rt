@@ -14,7 +14,7 @@ use mr_base::Pointer;
 use mr_eval::{Env, Fault, Notes, load_typed, place, value};
 use mr_frame::place_type;
 use mr_mem::Memory;
-use mr_reached::{Reached, Reaching};
+use mr_told::{Reached, Reaching};
 use mr_value::Val;
 use std::alloc::{AllocError, Global};
 

@@ -15,7 +15,7 @@ use mr_base::Pointer;
 use mr_eval::{Env, behind, number_in};
 use mr_layout::int_bytes;
 use mr_mem::Memory;
-use mr_reached::{Reached, Reaching};
+use mr_told::{Reached, Reaching};
 
 /// What the last query of a search by a tree reaches that is refused.
 pub fn in_search(m: &Memory, tree: &Tree, p: Pointer) -> Option<Reached>

@@ -15,10 +15,9 @@ use crate::clock::Clock;
 use crate::index::Index;
 use crate::made::{clock_of, is_settled, partner_by};
 use crate::memos::{Memo, look_up};
-use crate::order::thread_at;
 use crate::rows::{Link, Row, note_all};
 use crate::skips::{Skip, reserve_table, store_all};
-use mr_event::{Footprint, OutOfMemory};
+use mr_event::{Footprint, OutOfMemory, thread_at};
 use std::alloc::Global;
 
 // How many links there can be, which have numbers of 32 bits.

@@ -42,6 +42,6 @@ mod whole;
 
 pub use analysis::Analysis;
 pub use laws::related_steps_share;
-pub use order::{are_rivals, thread_at};
+pub use order::are_rivals;
 pub use runs::{follows, predicted_by_clocks};
 pub use whole::RunOrder;

@@ -10,10 +10,10 @@ ghost use Rattle.mr_clocks.specs.Tracked.{IsNext, IsPartnerOr};
 use crate::analysis::{is_under, lent};
 use crate::clock::Clock;
 use crate::known::{are_known, are_latest_known, is_latest_known, is_place_known};
-use crate::order::{are_rivals, thread_at};
+use crate::order::are_rivals;
 use crate::rows::{Link, Row, better, follow_place, keep_walk};
 use crate::skips::Skip;
-use mr_event::{Footprint, OutOfMemory};
+use mr_event::{Footprint, OutOfMemory, thread_at};
 use std::alloc::Global;
 
 /// The clock that was made for a step, or none where it keeps that of the step before in its thread; the skips that its

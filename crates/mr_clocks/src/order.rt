@@ -6,50 +6,7 @@ ghost use Rattle.mr_event.specs.Footprints.{depends as is_dependent, wakes as is
 ghost use Rattle.mr_event.specs.Order.{step_at, thread_at, AreRivals, Edge};
 ghost use Rattle.mr_clocks.specs.Tracked.{IsNext};
 
-use mr_event::{Footprint, depends, wakes};
-use mr_track::some_race;
-
-/// The thread of a step.
-#[tactic(auto, using(mr_event::proofs::Read::step_read))]
-pub fn thread_at(run: &[Footprint], i: usize) -> u32
-    requires { i < length run.now }
-    ensures { result ≡ thread_at run.now i }
-{
-    let step = &run[i];
-    step.thread()
-}
-
-#[tactic(auto, using(mr_event::proofs::Read::step_read))]
-fn step_wakes(run: &[Footprint], i: usize, thread: u32) -> bool
-    requires { i < length run.now }
-    ensures { result ≡ is_waking (step_at run.now i) thread }
-{
-    let step = &run[i];
-    wakes(step, thread)
-}
-
-#[tactic(auto, using(mr_event::proofs::Read::step_read))]
-fn step_depends(run: &[Footprint], i: usize, j: usize) -> bool
-    requires first { i < length run.now }
-    requires second { j < length run.now }
-    ensures { result ≡ is_dependent (step_at run.now i) (step_at run.now j) }
-{
-    let first = &run[i];
-    let second = &run[j];
-    depends(first, second)
-}
-
-// Whether some accesses of the two steps race.
-#[tactic(auto, using(mr_event::proofs::Read::step_read))]
-fn step_races(run: &[Footprint], i: usize, j: usize) -> bool
-    requires first { i < length run.now }
-    requires second { j < length run.now }
-    ensures { result ≡ has_race (step_at run.now i).accesses (step_at run.now j).accesses }
-{
-    let first = &run[i];
-    let second = &run[j];
-    some_race(first.accesses(), second.accesses())
-}
+use mr_event::{Footprint, step_depends, step_races, step_wakes, thread_at};
 
 // Whether step `i` woke or created the thread of step `j` and is not before `next`.
 fn is_woken_by(run: &[Footprint], i: usize, j: usize, next: usize) -> bool

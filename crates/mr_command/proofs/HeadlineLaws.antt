@@ -22,10 +22,10 @@ use Rattle.mr_auto.specs.Drawing.{drawn_schedule}
 use Rattle.mr_auto.proofs.LegalRuns.{schedule_legal}
 use Rattle.mr_witness.proofs.Kept.{first_witness}
 use Rattle.mr_order.proofs.First.{first_of_predicted}
-use Rattle.mr_short.proofs.Witness.{witness_of_run}
-use Rattle.mr_shuffle.specs.Shuffled.{shuffled}
-use Rattle.mr_shuffle.proofs.Copied.{shuffled_same}
-use Rattle.mr_shuffle.proofs.Drawn.{shuffled_rearranged}
+use Rattle.mr_witness.proofs.Witness.{witness_of_run}
+use Rattle.mr_witness.specs.Shuffled.{shuffled}
+use Rattle.mr_witness.proofs.Copied.{shuffled_same}
+use Rattle.mr_witness.proofs.Drawn.{shuffled_rearranged}
 use Rattle.mr_event.specs.Footprint.{Footprint}
 use Rattle.mr_event.proofs.Tests.{predicted_is}
 use Rattle.mr_trace.specs.Reading.{races_in as races_read, races_of, trace_of}

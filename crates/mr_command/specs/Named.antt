@@ -21,8 +21,8 @@ use Rattle.mr_command.specs.declared.command.Saying.TheVariants.{Canonical, Draw
 use Rattle.mr_event.specs.declared.footprint.Pair.{Pair}
 use Rattle.mr_event.specs.Predicted.{predicted}
 use Rattle.mr_exchange.specs.Witness.{IsWitness}
-use Rattle.mr_shuffle.specs.EveryOrder.{ComesToTheSame}
-use Rattle.mr_shuffle.specs.Shuffled.{shuffled, shuffled_order}
+use Rattle.mr_witness.specs.EveryOrder.{ComesToTheSame}
+use Rattle.mr_witness.specs.Shuffled.{shuffled, shuffled_order}
 use Rattle.mr_event.specs.Order.{IsPredicted, IsRearrangement}
 use Rattle.mr_run.specs.Witnesses.{witness_by}
 use Rattle.mr_input.specs.Answer.{Answer}

@@ -1,6 +1,5 @@
 //! Lists of accesses that conflict and race.
-use mr_base::Access;
-use mr_track::{Accesses, OutOfMemory, conflicts, races};
+use mr_base::{Access, Accesses, OutOfMemory, conflicts, races};
 use std::alloc::Global;
 use std::test::Fail;
 

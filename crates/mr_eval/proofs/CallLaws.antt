@@ -10,7 +10,7 @@ use Rattle.mr_ast.specs.declared.types.Ty.{Ty}
 use Rattle.mr_base.specs.declared.byte.Pointer.{Pointer}
 use Rattle.mr_layout.specs.TypeOk.{TypeOk}
 use Rattle.mr_mem.specs.Memory.{Memory}
-use Rattle.mr_script.specs.Script.{Broken, Outcome, Refused, Went}
+use Rattle.mr_base.specs.Script.{Broken, Outcome, Refused, Went}
 use Rattle.mr_layout.specs.Sizes.{align_of}
 use Rattle.mr_value.specs.Encode.{encoding_of}
 use Rattle.mr_value.specs.Numbers.{Bytes}

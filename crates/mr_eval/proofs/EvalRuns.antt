@@ -19,8 +19,8 @@ use Rattle.mr_ast.specs.declared.program.LocalName.{LocalName}
 use Rattle.mr_base.specs.declared.byte.Pointer.{Pointer}
 use Rattle.mr_base.specs.declared.reason.Reason.TheVariants.{TransmuteInvalid}
 use Rattle.mr_mem.specs.Memory.{Memory}
-use Rattle.mr_script.specs.Script.{◌>>=◌, Broken, Done, IllFormed, Outcome, Went, on, run}
-use Rattle.mr_script.proofs.Runs.{on_same, run_bind}
+use Rattle.mr_base.specs.Script.{◌>>=◌, Broken, Done, IllFormed, Outcome, Went, on, run}
+use Rattle.mr_base.proofs.ScriptRuns.{on_same, run_bind}
 use Rattle.mr_value.specs.declared.val.Val.{Val}
 use Rattle.mr_value.specs.declared.val.Val.TheVariants as val
 use Rattle.mr_value.specs.Discriminants.{bits_of_number}

@@ -19,7 +19,7 @@ use Rattle.mr_base.specs.declared.byte.Pointer.{Pointer}
 use Rattle.mr_value.specs.declared.val.Val.{Val}
 use Rattle.mr_value.specs.declared.val.Val.TheVariants as val
 use Rattle.mr_value.specs.Discriminants.{bits_of_number}
-use Rattle.mr_script.specs.Script.{Done, ◌>>=◌}
+use Rattle.mr_base.specs.Script.{Done, ◌>>=◌}
 use Rattle.mr_wf.specs.Types.{type_of_place, type_of_value}
 use Rattle.mr_eval.specs.Reads.{ReadScript}
 use Rattle.mr_eval.specs.Moves.{behind, moved}

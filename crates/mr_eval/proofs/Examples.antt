@@ -12,7 +12,7 @@ use Rattle.mr_ast.specs.declared.expr.Place.TheVariants as place
 use Rattle.mr_ast.specs.declared.expr.Value.TheVariants as value
 use Rattle.mr_base.specs.declared.byte.Pointer.{Pointer}
 use Rattle.mr_base.specs.declared.reason.Reason.TheVariants.{TransmuteInvalid}
-use Rattle.mr_script.specs.Script.{Done, IllFormed, ◌>>=◌}
+use Rattle.mr_base.specs.Script.{Done, IllFormed, ◌>>=◌}
 use Rattle.mr_value.specs.declared.val.Val.{Val}
 use Rattle.mr_value.specs.declared.val.Val.TheVariants as val
 use Rattle.mr_value.specs.Encode.{encoding_of}

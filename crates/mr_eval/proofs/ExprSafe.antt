@@ -42,7 +42,7 @@ use Rattle.mr_value.specs.Shape.{has_shape}
 use Rattle.mr_base.proofs.Comparisons.{lt_from, lt_test, eq_from}
 use Rattle.mr_value.proofs.EncodeLength.{length-encoding_of}
 use Rattle.mr_value.proofs.ShapeLaws.{has_bool, has_fn_ptr, has_raw, has_ref, shape_fn_ptr, shape_raw, shape_ref}
-use Rattle.mr_script.specs.Script.{Done, IllFormed, Undefined, ◌>>=◌}
+use Rattle.mr_base.specs.Script.{Done, IllFormed, Undefined, ◌>>=◌}
 use Rattle.mr_wf.specs.Broken.{Surroundings, broken_in_place, broken_in_value}
 use Rattle.mr_wf.specs.Operands.{is_fn_ptr, is_int, is_pointer, is_raw, is_ref, is_ref_layer}
 use Rattle.mr_wf.specs.Types.{chained, compares, discriminant_in, discriminant_type, element_type, field_type, integer_in, integer_of, overflow_type, result_type, tells_overflow, type_of_place, type_of_value, variant_type}

@@ -10,7 +10,7 @@ use Rattle.mr_ast.specs.Integers.{is_fitting}
 use Rattle.mr_layout.specs.TypeOk.{TypeOk}
 use Rattle.mr_layout.proofs.WellFormed.{enum_ok}
 use Rattle.mr_mem.specs.Memory.{Memory}
-use Rattle.mr_script.specs.Script.{Outcome, Went}
+use Rattle.mr_base.specs.Script.{Outcome, Went}
 use Rattle.mr_eval.specs.Evaluated.{found_number}
 use Rattle.mr_eval.specs.Reads.{Seen}
 use Rattle.mr_eval.specs.Sound.{Comes}

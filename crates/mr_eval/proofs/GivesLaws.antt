@@ -2,8 +2,8 @@
 use Rattle.std.proofs.Common.{◌≡◌, ℤ, Result, Ok, Err, ap, ◌∙◌}
 use Rattle.mr_base.specs.declared.byte.Pointer.{Pointer}
 use Rattle.mr_mem.specs.Memory.{Memory}
-use Rattle.mr_script.specs.Script.{Done, Outcome, Went, on, run}
-use Rattle.mr_script.proofs.Runs.{run_bind}
+use Rattle.mr_base.specs.Script.{Done, Outcome, Went, on, run}
+use Rattle.mr_base.proofs.ScriptRuns.{run_bind}
 use Rattle.mr_value.specs.declared.val.Val.TheVariants as val
 use Rattle.mr_eval.specs.Moves.{moved}
 use Rattle.mr_eval.specs.Operators.{moved_pointer}

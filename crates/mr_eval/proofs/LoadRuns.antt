@@ -7,8 +7,8 @@ use Rattle.mr_base.specs.declared.reason.Reason.{Reason}
 use Rattle.mr_base.specs.declared.reason.Reason.TheVariants.{InvalidValue, TransmuteInvalid}
 use Rattle.mr_layout.specs.Sizes.{align_of, size_of}
 use Rattle.mr_mem.specs.Memory.{Memory}
-use Rattle.mr_script.specs.Script.{◌>>=◌, Broken, Done, Outcome, Refused, Went, on, run}
-use Rattle.mr_script.proofs.Runs.{run_bind}
+use Rattle.mr_base.specs.Script.{◌>>=◌, Broken, Done, Outcome, Refused, Went, on, run}
+use Rattle.mr_base.proofs.ScriptRuns.{run_bind}
 use Rattle.mr_value.specs.declared.val.Val.{Val}
 use Rattle.mr_value.specs.Decode.{decoded}
 use Rattle.mr_value.specs.Encode.{encoding_of}

@@ -13,7 +13,7 @@ use Rattle.mr_layout.specs.Sizes.{size_of}
 use Rattle.mr_layout.specs.TypeOk.{TypeOk}
 use Rattle.mr_layout.proofs.WellFormed.{union_ok}
 use Rattle.mr_runs.specs.Ranges.{with_range_replaced}
-use Rattle.mr_script.specs.Script.{Done, ◌>>=◌}
+use Rattle.mr_base.specs.Script.{Done, ◌>>=◌}
 use Rattle.mr_value.specs.declared.val.Val.{Val}
 use Rattle.mr_value.specs.declared.val.Val.TheVariants as val
 use Rattle.mr_value.specs.Decode.{chunks_in, decoded}

@@ -3,7 +3,7 @@ use Rattle.std.proofs.Common.{◌≡◌, ℕ, ◌+◌, ◌<◌, ◌≤◌, List,
 use Rattle.std.proofs.lemmas.List.{drop_all}
 use Rattle.mr_ast.specs.declared.expr.Value.{Value}
 use Rattle.mr_mem.specs.Memory.{Memory}
-use Rattle.mr_script.specs.Script.{Broken, Outcome, Refused, Went, on}
+use Rattle.mr_base.specs.Script.{Broken, Outcome, Refused, Went, on}
 use Rattle.mr_value.specs.declared.val.Val.{Val}
 use Rattle.mr_eval.specs.declared.halt.Halt.{Halt}
 use Rattle.mr_eval.specs.Answers.{Gives, same, value_in}

@@ -13,8 +13,8 @@ use Rattle.mr_value.specs.Numbers.{Bytes}
 use Rattle.mr_value.specs.Shape.{has_shape}
 use Rattle.mr_value.proofs.DecodeShape.{decoded_has_shape}
 use Rattle.mr_base.specs.declared.reason.Reason.TheVariants.{OffsetOverflow}
-use Rattle.mr_script.specs.Script.{Done, Undefined, Ask, ◌>>=◌}
-use Rattle.mr_script.proofs.Runs.{safe_bind}
+use Rattle.mr_base.specs.Script.{Done, Undefined, Ask, ◌>>=◌}
+use Rattle.mr_base.proofs.ScriptRuns.{safe_bind}
 use Rattle.mr_eval.specs.Reads.{Check, ReadScript}
 use Rattle.mr_eval.specs.Moves.{at_address, lower, moved, moved_to}
 use Rattle.mr_eval.specs.Typed.{Targets, loading, meant, or_undefined, referred, referring, targets_of}

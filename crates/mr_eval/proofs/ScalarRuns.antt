@@ -6,7 +6,7 @@ use Rattle.mr_base.specs.declared.reason.Reason.{Reason}
 use Rattle.mr_base.specs.declared.reason.Reason.TheVariants.{InvalidValue}
 use Rattle.mr_layout.specs.Sizes.{align_of, size_of}
 use Rattle.mr_mem.specs.Memory.{Memory, read}
-use Rattle.mr_script.specs.Script.{Outcome, Refused, Went, on}
+use Rattle.mr_base.specs.Script.{Outcome, Refused, Went, on}
 use Rattle.mr_value.specs.declared.val.Val.{Val}
 use Rattle.mr_value.specs.Decode.{decoded}
 use Rattle.mr_value.specs.Numbers.{Bytes}

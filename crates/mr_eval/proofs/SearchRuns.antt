@@ -9,8 +9,8 @@ use Rattle.mr_base.specs.declared.byte.Pointer.{Pointer}
 use Rattle.mr_base.specs.declared.reason.Reason.TheVariants.{InvalidDiscriminant}
 use Rattle.mr_layout.specs.EnumRules.{same_num}
 use Rattle.mr_mem.specs.Memory.{Memory}
-use Rattle.mr_script.specs.Script.{Refused, Went, on, run}
-use Rattle.mr_script.proofs.Runs.{on_same, run_bind}
+use Rattle.mr_base.specs.Script.{Refused, Went, on, run}
+use Rattle.mr_base.proofs.ScriptRuns.{on_same, run_bind}
 use Rattle.mr_eval.specs.Reads.{ReadScript, Seen, reading}
 use Rattle.mr_eval.specs.Moves.{behind}
 use Rattle.mr_eval.specs.Typed.{case_search, numbered, searched}

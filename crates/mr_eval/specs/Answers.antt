@@ -5,7 +5,7 @@ use Rattle.mr_base.specs.declared.access.Access.{Access}
 use Rattle.mr_base.specs.declared.byte.AllocId.{AllocId}
 use Rattle.mr_base.specs.declared.byte.Pointer.{Pointer}
 use Rattle.mr_base.specs.declared.reason.Reason.{Reason}
-use Rattle.mr_script.specs.Script.{Broken, Done, IllFormed, Outcome, Refused, Undefined, Went}
+use Rattle.mr_base.specs.Script.{Broken, Done, IllFormed, Outcome, Refused, Undefined, Went}
 use Rattle.mr_eval.specs.declared.halt.Halt.{Halt}
 use Rattle.mr_eval.specs.declared.halt.Halt.TheVariants as halt
 use Rattle.mr_eval.specs.declared.notes.Notes.{Notes}

@@ -11,7 +11,7 @@ use Rattle.mr_layout.specs.Cached.{IsCacheOf}
 use Rattle.mr_mem.specs.Memory.{Memory}
 use Rattle.mr_mem.specs.declared.fault.Fault.{Fault}
 use Rattle.mr_mem.specs.declared.fault.Fault.TheVariants as fault
-use Rattle.mr_script.specs.Script.{Outcome, Refused, Went}
+use Rattle.mr_base.specs.Script.{Outcome, Refused, Went}
 use Rattle.mr_value.specs.Shape.{has_shape}
 use Rattle.mr_value.specs.declared.val.Val.{Val}
 use Rattle.mr_wf.specs.Broken.{broken_in_place, broken_in_value, surroundings}

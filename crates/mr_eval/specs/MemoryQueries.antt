@@ -7,7 +7,7 @@ use Rattle.mr_base.specs.declared.byte.Kind.{Kind}
 use Rattle.mr_base.specs.declared.reason.Reason.TheVariants.{InvalidValue}
 use Rattle.mr_mem.specs.Memory.{Memory, allocated, freed, written}
 use Rattle.mr_runs.specs.Numbers.{with_provenance}
-use Rattle.mr_script.specs.Script.{Script, Done, Undefined, IllFormed, Ask, Outcome, Refused, Went, on}
+use Rattle.mr_base.specs.Script.{Script, Done, Undefined, IllFormed, Ask, Outcome, Refused, Went, on}
 use Rattle.mr_value.specs.Numbers.{Bytes, little_endian, number_of}
 use Rattle.mr_eval.specs.Reads.{Read, ReadQuery, ReadReply, ReadScript, Seen, accessing, answered, reading, seeing}
 use Rattle.mr_eval.specs.Stores.{storing}

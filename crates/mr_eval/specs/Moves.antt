@@ -3,7 +3,7 @@ use Rattle.std.specs.Prelude.{ℕ, ◌+◌, ◌^◌, ◌%◌, ◌&&◌, if◌the
 use Rattle.std.specs.Ordering.{int_eq}
 use Rattle.mr_base.specs.declared.byte.Pointer.{Pointer}
 use Rattle.mr_base.specs.declared.reason.Reason.TheVariants.{OffsetOverflow}
-use Rattle.mr_script.specs.Script.{Done, Undefined, Ask}
+use Rattle.mr_base.specs.Script.{Done, Undefined, Ask}
 use Rattle.mr_eval.specs.Reads.{Check, ReadScript}
 
 -- the pointer at another address, with its provenance

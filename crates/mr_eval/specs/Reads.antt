@@ -9,7 +9,7 @@ use Rattle.mr_base.specs.declared.byte.Pointer.{Pointer}
 use Rattle.mr_base.specs.declared.reason.Reason.{Reason}
 use Rattle.mr_base.specs.declared.reason.Reason.TheVariants.{DanglingReference}
 use Rattle.mr_mem.specs.Memory.{Memory, checked, read}
-use Rattle.mr_script.specs.Script.{Script, Outcome, Went, Refused}
+use Rattle.mr_base.specs.Script.{Script, Outcome, Went, Refused}
 
 -- a range check; the same of what a reference points to; a load
 pub data ReadQuery : Type 0 where

@@ -20,7 +20,7 @@ use Rattle.mr_value.specs.declared.val.Val.TheOpen.{Val-F}
 use Rattle.mr_value.specs.Decode.{decoded}
 use Rattle.mr_value.specs.Discriminants.{number_of_bits}
 use Rattle.mr_value.specs.Numbers.{Bytes, number_of}
-use Rattle.mr_script.specs.Script.{Done, Undefined, Ask, ◌>>=◌}
+use Rattle.mr_base.specs.Script.{Done, Undefined, Ask, ◌>>=◌}
 use Rattle.mr_eval.specs.Reads.{Read, ReadScript, Refer}
 use Rattle.mr_eval.specs.Moves.{behind}
 

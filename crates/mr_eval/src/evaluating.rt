@@ -1,7 +1,7 @@
 //! The evaluation of places and values, by their cases.
 ghost use Rattle.std.specs.Prelude.{◌≡◌, IfOk, Some, is_some, option_map, slice_get, true};
 ghost use Rattle.mr_ast.specs.declared.types.Ty.{out-Ty};
-ghost use Rattle.mr_script.specs.Script.{run};
+ghost use Rattle.mr_base.specs.Script.{run};
 ghost use Rattle.mr_value.specs.declared.val.Val.{out-Val};
 ghost use Rattle.mr_value.specs.declared.val.Val.TheVariants as val;
 ghost use Rattle.mr_eval.specs.Answers.{Extends, Gives, Says, at_pointer, beside_of, same, surround_of, seen, value_in};

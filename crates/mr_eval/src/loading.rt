@@ -3,7 +3,7 @@ ghost use Rattle.std.specs.Prelude.{◌≡◌, IfOk, IsTrue, OnOk, false, length
 ghost use Rattle.mr_layout.specs.Sizes.{align_of, size_of};
 ghost use Rattle.mr_layout.specs.Layouts.{layout_of};
 ghost use Rattle.mr_layout.specs.TypeOk.{TypeOk};
-ghost use Rattle.mr_script.specs.Script.{Went, on};
+ghost use Rattle.mr_base.specs.Script.{Went, on};
 ghost use Rattle.mr_value.specs.Decode.{is_scalar};
 ghost use Rattle.mr_value.specs.Shape.{has_shape};
 ghost use Rattle.mr_value.specs.declared.val.Val.{out-Val};

@@ -1,6 +1,6 @@
 //! Pointers that are moved.
 ghost use Rattle.std.specs.Prelude.{◌≡◌, ◌<◌, ◌^◌, OnErr, unsigned_abs};
-ghost use Rattle.mr_script.specs.Script.{run};
+ghost use Rattle.mr_base.specs.Script.{run};
 ghost use Rattle.mr_eval.specs.Answers.{Extends, Gives, same, seen};
 ghost use Rattle.mr_eval.specs.Moves.{behind, moved};
 ghost use Rattle.mr_eval.specs.Reads.{reading};

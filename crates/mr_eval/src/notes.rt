@@ -1,6 +1,5 @@
 //! What is noted of accesses and range checks.
-use mr_base::{Access, Pointer};
-use mr_track::{Accesses, AllocIds};
+use mr_base::{Access, Accesses, AllocIds, Pointer};
 use std::alloc::{AllocError, Global};
 
 /// What evaluation notes of what it read: its accesses in order, and the allocations that its range checks touched.

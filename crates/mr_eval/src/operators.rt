@@ -5,7 +5,7 @@ ghost use Rattle.mr_value.specs.declared.val.Val.{out-Val};
 ghost use Rattle.mr_eval.specs.Answers.{Says, same};
 ghost use Rattle.mr_eval.specs.declared.kinds.Operator.TheVariants.{Arith, Comparing, Overflowing, Shifting, Wrapping};
 ghost use Rattle.mr_eval.specs.Operators.{arith_like, cast_layer, like, operated, shift_like, unary_bits, unary_in, with_flag};
-ghost use Rattle.mr_script.specs.Script.{Done};
+ghost use Rattle.mr_base.specs.Script.{Done};
 
 use crate::halt::Halt;
 use crate::kinds::{OverflowOp, exact};

@@ -2,7 +2,7 @@
 ghost use Rattle.std.specs.Prelude.{◌≡◌, ◌*◌, ◌<◌, ◌^◌, IfOk, Some, is_some, length, option_map, slice_get, true};
 ghost use Rattle.mr_layout.specs.TypeOk.{TypeOk};
 ghost use Rattle.mr_value.specs.declared.val.Val.{out-Val};
-ghost use Rattle.mr_script.specs.Script.{run};
+ghost use Rattle.mr_base.specs.Script.{run};
 ghost use Rattle.mr_eval.specs.Reads.{reading};
 ghost use Rattle.mr_eval.specs.Answers.{Extends, Gives, Says, at_pointer, same, seen};
 ghost use Rattle.mr_eval.specs.Evaluated.{in_array, in_field};

@@ -1,7 +1,7 @@
 //! Range checks and loads, each noted.
 ghost use Rattle.std.specs.Prelude.{◌≡◌, [], IfOk, OnErr, false, length};
 ghost use Rattle.mr_runs.specs.Pieces.{bytes_of_pieces};
-ghost use Rattle.mr_script.specs.Script.{Went};
+ghost use Rattle.mr_base.specs.Script.{Went};
 ghost use Rattle.mr_eval.specs.Answers.{Extends, Gives, IsUnnoted, same, seen};
 ghost use Rattle.mr_eval.specs.Reads.{Check, Read, Refer, accessing, reading, seeing, touching};
 

@@ -3,7 +3,7 @@ ghost use Rattle.std.specs.Prelude.{◌≡◌, ◌≤◌, ◌+◌, ◌++◌, IfO
 ghost use Rattle.mr_layout.specs.Sizes.{size_of};
 ghost use Rattle.mr_layout.specs.TypeOk.{TypeOk};
 ghost use Rattle.mr_runs.specs.Ranges.{with_range_replaced};
-ghost use Rattle.mr_script.specs.Script.{run};
+ghost use Rattle.mr_base.specs.Script.{run};
 ghost use Rattle.mr_value.specs.Decode.{decoded};
 ghost use Rattle.mr_value.specs.Encode.{blank, encoding_of};
 ghost use Rattle.mr_value.specs.Shape.{has_shape};

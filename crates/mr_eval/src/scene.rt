@@ -1,8 +1,7 @@
 //! What a step changes: memory, and what it notes of that.
 use crate::notes::Notes;
-use mr_base::{AllocId, Kind, Pointer};
+use mr_base::{AllocId, AllocIds, Kind, Pointer};
 use mr_mem::{Fault, Memory};
-use mr_track::AllocIds;
 use std::alloc::{AllocError, Global};
 
 /// What a step of a thread changes of memory, and what it notes of that.
@@ -25,7 +24,7 @@ impl Scene {
     ghost use Rattle.std.specs.Prelude.{◌≡◌, ◌+◌, ◌<◌, ◌^◌, IfOk, None};
     ghost use Rattle.std.specs.FinMap as fin;
     ghost use Rattle.mr_mem.specs.Memory.{IsAsked, IsPowerOfTwo, pick_fault};
-    ghost use Rattle.mr_script.specs.Script.{Went};
+    ghost use Rattle.mr_base.specs.Script.{Went};
     ghost use Rattle.mr_eval.specs.Environment.{Tells};
     ghost use Rattle.mr_eval.specs.MemoryQueries.{Allocate, Free, memory_answer, next_id};
     ghost use Rattle.mr_eval.specs.Tally.{start_tally};

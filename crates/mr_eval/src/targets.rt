@@ -9,9 +9,8 @@ use crate::halt::Halt;
 use crate::notes::Notes;
 use crate::reads::refer;
 use mr_ast::{Num, Ty, Variant};
-use mr_base::Pointer;
+use mr_base::{OutOfMemory, Pointer};
 use mr_mem::Memory;
-use mr_track::OutOfMemory;
 use mr_value::Val;
 
 // Adds the target of a reference.

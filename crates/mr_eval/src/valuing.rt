@@ -6,7 +6,7 @@ ghost use Rattle.mr_value.specs.Shape.{has_shape};
 ghost use Rattle.mr_ast.specs.declared.types.Ty.TheVariants as types;
 ghost use Rattle.mr_value.specs.declared.val.Val.{out-Val};
 ghost use Rattle.mr_value.specs.declared.val.Val.TheVariants as val;
-ghost use Rattle.mr_script.specs.Script.{Done, run};
+ghost use Rattle.mr_base.specs.Script.{Done, run};
 ghost use Rattle.mr_ast.specs.declared.types.IntType.TheVariants.{I64};
 ghost use Rattle.mr_intops.specs.Numbers.{value_of};
 ghost use Rattle.mr_eval.specs.declared.kinds.Operator.TheVariants.{Moving};

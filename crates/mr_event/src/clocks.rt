@@ -6,7 +6,8 @@ ghost use Rattle.mr_event.specs.Clocks.{AreClocks, AreSlots, Follows, IsBelow, I
 
 use crate::OutOfMemory;
 use crate::footprint::Footprint;
-use crate::order::{edge, thread_at};
+use crate::order::edge;
+use crate::steps::thread_at;
 use std::alloc::Global;
 use std::marker::Model;
 

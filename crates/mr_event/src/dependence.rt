@@ -6,8 +6,7 @@ ghost use Rattle.mr_base.specs.Identities.{same_id as is_same_id};
 ghost use Rattle.mr_event.specs.Footprints.{share_id as have_shared_id, lock_of as lock_in, same_lock as have_same_lock, both_create as are_both_creating, both_spawn as are_both_spawning, joins_of as is_joining, depends as is_dependent, spawns as is_spawning, wakes as is_waking};
 
 use crate::footprint::Footprint;
-use mr_base::{AllocId, Event};
-use mr_track::some_conflict;
+use mr_base::{AllocId, Event, some_conflict};
 
 fn same_id(a: AllocId, b: AllocId) -> bool
     ensures { result ≡ is_same_id a b }

@@ -15,6 +15,7 @@
 //! public calls:
 //!
 //! - [`depends`]: whether a later step of another thread depends on a step, and [`wakes`]: whether it woke or created a thread, exactly.
+//! - [`thread_at`], [`step_wakes`], [`step_depends`], [`step_races`]: the same of the steps of a run by their places.
 //! - [`predicted_plain`]: each step that races with an earlier one unordered by happens-before, with the greatest such
 //!   one, by rising second step; want of memory is its only error. It compares each two steps. Clocks order them, which
 //!   are made only up to the last step that has a rival, an earlier step of another thread with an access that races.
@@ -36,6 +37,7 @@ mod lists;
 mod order;
 mod races;
 mod shape;
+mod steps;
 
 pub use dependence::{depends, wakes};
 pub use footprint::{Footprint, Pair};
@@ -44,7 +46,7 @@ pub use laws::{decided, predicted_lists, racing_steps_depend};
 pub use likeness::{do_the_same, same_step};
 pub use limits::foot_ok;
 pub use lists::Step;
-pub use mr_base::Event;
-pub use mr_track::OutOfMemory;
+pub use mr_base::{Event, OutOfMemory};
 pub use order::follows_plain;
 pub use races::predicted_plain;
+pub use steps::{step_depends, step_races, step_wakes, thread_at};

@@ -1,57 +1,12 @@
 //! What happens before what in a run, by comparing all steps.
 
 ghost use Rattle.std.specs.Prelude.{◌≡◌, ℕ, ◌+◌, ◌<◌, ◌≤◌, ◌↔◌, IsTrue, IfOk, length, slice_index_or, vec_len, false};
-ghost use Rattle.mr_base.specs.Accesses.{some_race as has_race};
-ghost use Rattle.mr_event.specs.Footprints.{depends as is_dependent, wakes as is_waking};
-ghost use Rattle.mr_event.specs.Order.{step_at, thread_at, Sync, Edge, HappensBefore, HasLink};
+ghost use Rattle.mr_event.specs.Order.{thread_at, Sync, Edge, HappensBefore, HasLink};
 
 use crate::OutOfMemory;
-use crate::dependence::{depends, wakes};
 use crate::footprint::Footprint;
-use mr_track::some_race;
+use crate::steps::{step_depends, step_races, step_wakes, thread_at};
 use std::alloc::Global;
-
-// The thread of a step.
-#[tactic(auto, using(crate::proofs::Read::step_read))]
-pub(crate) fn thread_at(run: &[Footprint], i: usize) -> u32
-    requires { i < length run.now }
-    ensures { result ≡ thread_at run.now i }
-{
-    let step = &run[i];
-    step.thread()
-}
-
-#[tactic(auto, using(crate::proofs::Read::step_read))]
-fn step_wakes(run: &[Footprint], i: usize, thread: u32) -> bool
-    requires { i < length run.now }
-    ensures { result ≡ is_waking (step_at run.now i) thread }
-{
-    let step = &run[i];
-    wakes(step, thread)
-}
-
-#[tactic(auto, using(crate::proofs::Read::step_read))]
-fn step_depends(run: &[Footprint], i: usize, j: usize) -> bool
-    requires first { i < length run.now }
-    requires second { j < length run.now }
-    ensures { result ≡ is_dependent (step_at run.now i) (step_at run.now j) }
-{
-    let first = &run[i];
-    let second = &run[j];
-    depends(first, second)
-}
-
-// Whether some accesses of the two steps race.
-#[tactic(auto, using(crate::proofs::Read::step_read))]
-pub(crate) fn step_races(run: &[Footprint], i: usize, j: usize) -> bool
-    requires first { i < length run.now }
-    requires second { j < length run.now }
-    ensures { result ≡ has_race (step_at run.now i).accesses (step_at run.now j).accesses }
-{
-    let first = &run[i];
-    let second = &run[j];
-    some_race(first.accesses(), second.accesses())
-}
 
 // Whether step `i` woke the thread of step `j` and `j` is that thread's first step after `i`.
 fn synced(run: &[Footprint], i: usize, j: usize) -> bool

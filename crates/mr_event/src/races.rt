@@ -8,7 +8,7 @@ ghost use Rattle.mr_event.specs.Predicted.{predicted};
 use crate::OutOfMemory;
 use crate::clocks::{Clock, Slots, extend, is_below, slots_of};
 use crate::footprint::{Footprint, Pair};
-use crate::order::{step_races, thread_at};
+use crate::steps::{step_races, thread_at};
 use std::alloc::Global;
 
 // Whether the steps are of two threads and some of their accesses race.

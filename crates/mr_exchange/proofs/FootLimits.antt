@@ -22,8 +22,8 @@ use Rattle.mr_start.proofs.StartLimits.{start_within}
 use Rattle.mr_start.proofs.StartSound.{start_look, start_sound}
 use Rattle.mr_swap.specs.Limits.{LimitLaw}
 use Rattle.mr_swap.proofs.LimitLaw.{limit_law}
-use Rattle.mr_tells.proofs.Sane.{sound_is_sane}
-use Rattle.mr_tells.proofs.Telling.{thread_step_tells}
+use Rattle.mr_exchange.proofs.Sane.{sound_is_sane}
+use Rattle.mr_exchange.proofs.Telling.{thread_step_tells}
 
 -- AT EACH STATE
 pub limits_of : (look : Look) → LimitLaw (thread_step look)

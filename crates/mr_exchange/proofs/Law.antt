@@ -14,8 +14,8 @@ use Rattle.mr_swap.specs.Swap.{SwapLaw}
 use Rattle.mr_swap.proofs.BareSteps.{taken, whole, whole_run}
 use Rattle.mr_swap.proofs.StepRuns.{statuses_of}
 use Rattle.mr_swap.proofs.SwapLaw.{swap_law}
-use Rattle.mr_tells.proofs.Sane.{sound_is_sane}
-use Rattle.mr_tells.proofs.Telling.{thread_step_tells}
+use Rattle.mr_exchange.proofs.Sane.{sound_is_sane}
+use Rattle.mr_exchange.proofs.Telling.{thread_step_tells}
 use Rattle.mr_exchange.specs.Exchange.{Done, Leads}
 use Rattle.mr_exchange.proofs.Exchanged.{NotesThread, neighbours_in_run}
 

@@ -1,4 +1,14 @@
+pub mod Calls
 pub mod Counted
 pub mod Exchanged
 pub mod FootLimits
+pub mod FrameSteps
+pub mod Intrinsics
 pub mod Law
+pub mod Marks
+pub mod Parts
+pub mod Sane
+pub mod Telling
+pub mod Tells
+pub mod Threads
+pub mod Tracked

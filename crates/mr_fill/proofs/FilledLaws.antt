@@ -22,7 +22,7 @@ use Rattle.mr_fill.specs.Filled.{AreOf, EndsAt}
 use Rattle.mr_fill.specs.Filling.{Filling, behind_entry, entry_at, filled, filled_from, filling, led}
 use Rattle.mr_fill.specs.declared.filling.Filled.{Filled}
 use Rattle.mr_fill.specs.declared.filling.Halt.{Halt}
-use Rattle.mr_thread_order.specs.declared.order.Turn.{Turn}
+use Rattle.mr_fill.specs.declared.order.Turn.{Turn}
 use Rattle.mr_fill.proofs.GivenSteps.{entry_keeps, entry_legal, entry_lies, taken_at}
 
 -- ---- legal

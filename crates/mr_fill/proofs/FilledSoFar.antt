@@ -18,7 +18,7 @@ use Rattle.mr_fill.specs.Filling.{Filling, behind_entry, entry_at, filling, led}
 use Rattle.mr_fill.specs.Turning.{TurnAnswer}
 use Rattle.mr_fill.specs.declared.due.Due.TheVariants.{Broken, Takes}
 use Rattle.mr_fill.specs.declared.filling.Halt.{Halt}
-use Rattle.mr_thread_order.specs.declared.order.Turn.{Turn}
+use Rattle.mr_fill.specs.declared.order.Turn.{Turn}
 use Rattle.mr_fill.proofs.GivenSteps.{entry_keeps, entry_legal, entry_lies, taken_at}
 
 -- these entries in front

@@ -12,7 +12,7 @@ use Rattle.mr_fill.specs.Filled.{AreOf, FilledAfter}
 use Rattle.mr_fill.specs.Filling.{Filling, filled, filled_from, filling}
 use Rattle.mr_fill.specs.declared.filling.Filled.{Filled}
 use Rattle.mr_fill.specs.declared.filling.Halt.{Halt}
-use Rattle.mr_thread_order.specs.declared.order.Turn.{Turn}
+use Rattle.mr_fill.specs.declared.order.Turn.{Turn}
 use Rattle.mr_fill.proofs.FilledLaws.{filled_legal, filled_of}
 
 abbrev pub schedule_with : List ℕ → List Entry → Option Halt → Filled

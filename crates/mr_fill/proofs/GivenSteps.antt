@@ -21,8 +21,8 @@ use Rattle.mr_frame.specs.Frames.{Look}
 use Rattle.mr_thread.specs.Steps.{Own, thread_step}
 use Rattle.mr_thread.proofs.RunSound.{entry_sound}
 use Rattle.mr_thread.specs.SoundState.{IsSoundConfig, SoundState}
-use Rattle.mr_tells.proofs.Sane.{sound_is_sane}
-use Rattle.mr_tells.proofs.Telling.{thread_step_tells}
+use Rattle.mr_exchange.proofs.Sane.{sound_is_sane}
+use Rattle.mr_exchange.proofs.Telling.{thread_step_tells}
 use Rattle.mr_swap.specs.Meets.{AreNewIn, IsTaken, addresses}
 use Rattle.mr_swap.proofs.BareSteps.{needs_are, taken, whole, whole_run}
 use Rattle.mr_swap.proofs.MeetsLaws.{legal_of_meets, step_only}
@@ -32,7 +32,7 @@ use Rattle.mr_auto.specs.Drawing.{Next, Picked}
 use Rattle.mr_auto.specs.Drawn.{EndsBy, LiesBehind}
 use Rattle.mr_auto.proofs.Picks.{ArePicks}
 use Rattle.mr_fill.specs.Filling.{asked_entry, enabled_entry, entry_at, entry_from, entry_in, entry_with, given, is_surplus, missing_code, within_limits}
-use Rattle.mr_thread_order.specs.declared.order.Turn.{Turn}
+use Rattle.mr_fill.specs.declared.order.Turn.{Turn}
 use Rattle.mr_fill.proofs.GivenPicks.{given_are}
 use Rattle.mr_sched.specs.declared.rule.ScheduleRule.TheVariants as rule
 

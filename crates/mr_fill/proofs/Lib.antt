@@ -5,5 +5,8 @@ pub mod Fillings
 pub mod GivenLeft
 pub mod GivenPicks
 pub mod GivenSteps
+pub mod OrderLaws
+pub mod Parts
+pub mod SpelledLaws
 pub mod ToldLaws
 pub mod TurnLaws

@@ -15,7 +15,7 @@ use Rattle.mr_frame.specs.Frames.{Look}
 use Rattle.mr_thread.specs.Steps.{Own, thread_step}
 use Rattle.mr_auto.specs.Drawing.{Next}
 use Rattle.mr_fill.specs.Filling.{asked_entry, enabled_entry, entry_at, entry_from, entry_in, entry_with, given, is_surplus, missing_code, within_limits}
-use Rattle.mr_thread_order.specs.declared.order.Turn.{Turn}
+use Rattle.mr_fill.specs.declared.order.Turn.{Turn}
 
 -- a limit is reached
 pub limit_broken : (o : Option Fault) (next : Result Next ℕ) (code : ℕ) → Some code ≡ option_map (λ (f : Fault). f.code) o → within_limits o next ≡ Err code

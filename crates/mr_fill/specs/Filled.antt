@@ -8,7 +8,7 @@ use Rattle.mr_thread.specs.Steps.{thread_step}
 use Rattle.mr_step.specs.Standing.{Standing}
 use Rattle.mr_fill.specs.Filling.{Filling, filling}
 use Rattle.mr_fill.specs.declared.filling.Halt.{Halt}
-use Rattle.mr_thread_order.specs.declared.order.Turn.{Turn}
+use Rattle.mr_fill.specs.declared.order.Turn.{Turn}
 
 -- The order ends where it can't go on: at its end, or at the turn behind as many turns as there are entries.
 abbrev pub EndsAt : List Turn → List Entry → Option Halt → Type 0

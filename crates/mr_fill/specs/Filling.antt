@@ -24,7 +24,7 @@ use Rattle.mr_start.specs.Start.{look_of, start_config}
 use Rattle.mr_auto.specs.Drawing.{Next, Picked, found, put, start_picked, waiting_in}
 use Rattle.mr_fill.specs.declared.filling.Filled.{Filled}
 use Rattle.mr_fill.specs.declared.filling.Halt.{Halt}
-use Rattle.mr_thread_order.specs.declared.order.Turn.{Turn}
+use Rattle.mr_fill.specs.declared.order.Turn.{Turn}
 
 -- ---- picks
 

@@ -5,10 +5,10 @@ use Rattle.mr_sched.specs.Reading.{Fault}
 use Rattle.mr_sched.specs.Rules.{name_by_code}
 use Rattle.mr_sched.specs.Spelling.{text_of}
 use Rattle.mr_fill.specs.Filling.{filled}
-use Rattle.mr_thread_order.specs.Orders.{order_of}
+use Rattle.mr_fill.specs.Orders.{order_of}
 use Rattle.mr_fill.specs.declared.filling.Filled.{Filled}
 use Rattle.mr_fill.specs.declared.filling.Halt.{Halt}
-use Rattle.mr_thread_order.specs.declared.order.Turn.{Turn}
+use Rattle.mr_fill.specs.declared.order.Turn.{Turn}
 use Rattle.mr_fill.specs.declared.told.FilledText.{FilledText}
 
 -- `# line LINE can't go on: CODE NAME`, which is a comment of an order

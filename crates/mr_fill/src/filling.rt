@@ -5,6 +5,7 @@ ghost use Rattle.mr_auto.specs.Drawn.{BeginsDrawing};
 ghost use Rattle.mr_fill.specs.Filled.{AreOf, FilledAfter};
 ghost use Rattle.mr_fill.specs.Filling.{filled};
 
+use crate::Turn;
 use crate::due::Due;
 use crate::turning::turn_due;
 use mr_auto::{make_step, start_picks};
@@ -12,7 +13,6 @@ use mr_run::Nothing;
 use mr_sched::{Chooser, Entry, Items, Schedule};
 use mr_start::start_asks;
 use mr_step::{Machine, StepFault};
-use mr_thread_order::Turn;
 use mr_wf::Checked;
 use std::alloc::{AllocError, Global};
 

@@ -3,7 +3,7 @@ ghost use Rattle.std.specs.Prelude.{List};
 ghost use Rattle.mr_ast.specs.declared.program.Program.{Program};
 ghost use Rattle.mr_wf.specs.Walk.{WellFormed};
 ghost use Rattle.mr_start.specs.Runs.{Legal};
-ghost use Rattle.mr_thread_order.specs.declared.order.Turn.{Turn};
+ghost use Rattle.mr_fill.specs.declared.order.Turn.{Turn};
 ghost use Rattle.mr_fill.specs.Filling.{filled};
 
 /// A law: the schedule that an order becomes for a well-formed program is legal.

@@ -6,9 +6,9 @@ ghost use Rattle.mr_fill.specs.Filling.{filled};
 ghost use Rattle.mr_fill.specs.Told.{halt_line, halt_text, text_by, texts_of};
 
 use crate::filling::{Halt, fill};
+use crate::{Turn, read_order};
 use itoa::Buffer;
 use mr_sched::{Items, SchedFault, ScheduleRule, print};
-use mr_thread_order::{Turn, read_order};
 use mr_wf::Checked;
 use std::alloc::{AllocError, Global};
 

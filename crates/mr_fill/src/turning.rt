@@ -9,12 +9,12 @@ ghost use Rattle.mr_auto.specs.Answers.{HasState};
 ghost use Rattle.mr_fill.specs.Filling.{asked_entry, enabled_entry, entry_at, entry_in};
 ghost use Rattle.mr_fill.specs.Turning.{TurnAnswer};
 
+use crate::Turn;
 use crate::due::Due;
 use crate::picking::{is_surplus, missing_code, picks_for};
 use mr_base::Verdict;
 use mr_sched::{Ask, Chooser, Entry, ScheduleRule};
 use mr_step::Machine;
-use mr_thread_order::Turn;
 use std::alloc::{AllocError, Global};
 
 // What a turn comes to whose step asks for this.

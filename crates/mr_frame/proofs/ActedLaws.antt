@@ -18,8 +18,8 @@ use Rattle.mr_layout.specs.Sizes.{align_of, size_of}
 use Rattle.mr_mem.specs.Memory.{Memory}
 use Rattle.mr_sched.specs.declared.schedule.Ask.TheVariants.{Address}
 use Rattle.mr_value.specs.declared.val.Val.{out-Val}
-use Rattle.mr_script.specs.Script.{Broken, Done, Outcome, Refused, Went, ◌>>=◌, on, run}
-use Rattle.mr_script.proofs.Runs.{run_bind}
+use Rattle.mr_base.specs.Script.{Broken, Done, Outcome, Refused, Went, ◌>>=◌, on, run}
+use Rattle.mr_base.proofs.ScriptRuns.{run_bind}
 use Rattle.mr_eval.specs.Evaluated.{valued}
 use Rattle.mr_eval.specs.Evaluation.{Surround, value_script}
 use Rattle.mr_eval.specs.MemoryQueries.{Allocate, MemoryScript, memory_answer, reading_part}

@@ -14,7 +14,7 @@ use Rattle.mr_base.specs.declared.reason.Reason.{Reason}
 use Rattle.mr_mem.specs.Memory.{ranges_of}
 use Rattle.mr_value.specs.declared.val.Val.{Val}
 use Rattle.mr_value.specs.Shape.{has_shape}
-use Rattle.mr_script.specs.Script.{Outcome, Refused, Went, on}
+use Rattle.mr_base.specs.Script.{Outcome, Refused, Went, on}
 use Rattle.mr_eval.proofs.ShapeOf.{shapes_length}
 use Rattle.mr_eval.specs.Shapes.{HaveShapes}
 use Rattle.mr_eval.specs.World.{World}

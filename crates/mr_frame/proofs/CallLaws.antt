@@ -27,7 +27,7 @@ use Rattle.mr_wf.specs.Types.{type_of_value}
 use Rattle.mr_wf.proofs.NothingLaws.{both_nothing}
 use Rattle.mr_wf.proofs.TypedLaws.{typed_value}
 use Rattle.mr_wf.proofs.TypedStmts.{typed_call}
-use Rattle.mr_script.specs.Script.{Outcome, Refused, Went, on}
+use Rattle.mr_base.specs.Script.{Outcome, Refused, Went, on}
 use Rattle.mr_eval.specs.Environment.{Tells, env_surround}
 use Rattle.mr_eval.specs.Evaluated.{each_valued, placed}
 use Rattle.mr_eval.specs.Evaluation.{Surround}

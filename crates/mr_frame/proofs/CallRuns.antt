@@ -12,8 +12,8 @@ use Rattle.mr_base.specs.declared.reason.Reason.TheVariants.{SignatureMismatch}
 use Rattle.mr_mem.specs.Memory.{Memory}
 use Rattle.mr_sched.specs.declared.schedule.Ask.{Ask}
 use Rattle.mr_value.specs.declared.val.Val.{Val}
-use Rattle.mr_script.specs.Script.{Broken, Done, Outcome, Refused, Undefined, Went, ◌>>=◌, on, run}
-use Rattle.mr_script.proofs.Runs.{run_bind}
+use Rattle.mr_base.specs.Script.{Broken, Done, Outcome, Refused, Undefined, Went, ◌>>=◌, on, run}
+use Rattle.mr_base.proofs.ScriptRuns.{run_bind}
 use Rattle.mr_eval.specs.Evaluated.{each_valued, placed}
 use Rattle.mr_eval.specs.Evaluation.{Surround, place_script, value_script, values_script}
 use Rattle.mr_eval.specs.MemoryQueries.{MemoryScript, memory_answer}

@@ -34,7 +34,7 @@ use Rattle.mr_wf.proofs.KindLaws.{fn_ptr_is}
 use Rattle.mr_wf.proofs.NothingLaws.{both_nothing}
 use Rattle.mr_wf.proofs.SameTypeLaws.{same_type_equal}
 use Rattle.mr_wf.proofs.TypedStmts.{typed_call}
-use Rattle.mr_script.specs.Script.{Done, Undefined, IllFormed, ◌>>=◌}
+use Rattle.mr_base.specs.Script.{Done, Undefined, IllFormed, ◌>>=◌}
 use Rattle.mr_eval.specs.Evaluation.{Surround, place_script, value_script, values_script}
 use Rattle.mr_eval.specs.Operators.{pointer_in, pointer_of_value}
 use Rattle.mr_eval.specs.Sound.{IsSafe, Stands, any_result, around}

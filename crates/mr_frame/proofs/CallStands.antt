@@ -24,7 +24,7 @@ use Rattle.mr_wf.specs.Blocks.{broken_in_parts}
 use Rattle.mr_wf.specs.Broken.{sizes_of, surroundings}
 use Rattle.mr_wf.specs.Types.{type_of_value}
 use Rattle.mr_wf.proofs.TypedStmts.{typed_call}
-use Rattle.mr_script.specs.Script.{Broken, Outcome, Refused, Went, on, run}
+use Rattle.mr_base.specs.Script.{Broken, Outcome, Refused, Went, on, run}
 use Rattle.mr_eval.specs.Answers.{seen}
 use Rattle.mr_eval.specs.Evaluated.{each_valued, placed}
 use Rattle.mr_eval.specs.Evaluation.{Surround, values_script}

@@ -28,8 +28,8 @@ use Rattle.mr_wf.proofs.ExprWalk.{Judges}
 use Rattle.mr_wf.proofs.NothingLaws.{both_nothing}
 use Rattle.mr_wf.proofs.StmtWalk.{Gives}
 use Rattle.mr_wf.proofs.TypedStmts.{typed_do}
-use Rattle.mr_script.specs.Script.{Done, Outcome, Refused, Went, ◌>>=◌, on, run}
-use Rattle.mr_script.proofs.Runs.{run_bind}
+use Rattle.mr_base.specs.Script.{Done, Outcome, Refused, Went, ◌>>=◌, on, run}
+use Rattle.mr_base.proofs.ScriptRuns.{run_bind}
 use Rattle.mr_eval.specs.Environment.{env_surround}
 use Rattle.mr_eval.specs.Evaluated.{each_valued, placed}
 use Rattle.mr_eval.specs.Evaluation.{Surround, place_script, values_script}

@@ -16,7 +16,7 @@ use Rattle.std.proofs.lemmas.Option.{same_Some}
 use Rattle.std.specs.Option.{option_map}
 use Rattle.std.specs.Prelude.{slice_get, if◌then◌else◌}
 use Rattle.mr_mem.specs.Memory.{Memory}
-use Rattle.mr_script.specs.Script.{Outcome, Refused, Undefined, Went, ◌>>=◌, on, run}
+use Rattle.mr_base.specs.Script.{Outcome, Refused, Undefined, Went, ◌>>=◌, on, run}
 use Rattle.mr_eval.specs.Tally.{seen_of, with_seen}
 use Rattle.mr_eval.specs.Evaluated.{read_typed}
 use Rattle.mr_eval.specs.Evaluation.{stored}

@@ -24,7 +24,7 @@ use Rattle.mr_wf.specs.Broken.{sizes_of, surroundings}
 use Rattle.mr_wf.specs.Operands.{is_raw}
 use Rattle.mr_wf.specs.Walk.{WellFormed}
 use Rattle.mr_wf.proofs.TypedStmts.{typed_unwind}
-use Rattle.mr_script.specs.Script.{Undefined, ◌>>=◌}
+use Rattle.mr_base.specs.Script.{Undefined, ◌>>=◌}
 use Rattle.mr_eval.specs.Evaluation.{Surround, stored, value_script}
 use Rattle.mr_eval.specs.MemoryQueries.{reading_part}
 use Rattle.mr_eval.specs.Operators.{or_ill_formed, pointer_in, pointer_of_value}

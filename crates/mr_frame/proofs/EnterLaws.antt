@@ -27,7 +27,7 @@ use Rattle.mr_value.specs.Encode.{encoding_of}
 use Rattle.mr_value.specs.Numbers.{Bytes}
 use Rattle.mr_value.specs.Shape.{has_shape}
 use Rattle.mr_value.proofs.EncodeLength.{length-encoding_of}
-use Rattle.mr_script.specs.Script.{Outcome, Refused, Went, on}
+use Rattle.mr_base.specs.Script.{Outcome, Refused, Went, on}
 use Rattle.mr_eval.specs.Shapes.{HaveShapes}
 use Rattle.mr_eval.specs.MemoryQueries.{next_id, pointer_to}
 use Rattle.mr_eval.specs.Reads.{accessing, answered, seeing, touching}

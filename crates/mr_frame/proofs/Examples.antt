@@ -7,7 +7,7 @@ use Rattle.mr_ast.specs.declared.types.Num.{Num}
 use Rattle.mr_ast.specs.declared.types.Ty.TheVariants as ty
 use Rattle.mr_base.specs.declared.byte.Pointer.{Pointer}
 use Rattle.mr_base.specs.declared.reason.Reason.TheVariants.{NotAFunction, SignatureMismatch}
-use Rattle.mr_script.specs.Script.{Refused}
+use Rattle.mr_base.specs.Script.{Refused}
 use Rattle.mr_frame.specs.Acting.{nothing_seen}
 use Rattle.mr_frame.specs.Calling.{called, called_with}
 use Rattle.mr_frame.specs.Calls.{callee_of, is_main, same_types, with_each}

@@ -20,7 +20,7 @@ use Rattle.mr_wf.specs.Blocks.{broken_in_parts, broken_in_stmt, is_kept}
 use Rattle.mr_wf.specs.Broken.{sizes_of, surroundings}
 use Rattle.mr_wf.specs.Walk.{WellFormed}
 use Rattle.mr_wf.proofs.TypedStmts.{typed_dead}
-use Rattle.mr_script.specs.Script.{Done, ◌>>=◌}
+use Rattle.mr_base.specs.Script.{Done, ◌>>=◌}
 use Rattle.mr_eval.specs.Evaluation.{Surround}
 use Rattle.mr_eval.specs.MemoryQueries.{reading_part}
 use Rattle.mr_eval.specs.Sound.{IsSafe, Stands, any_result}

@@ -10,7 +10,7 @@ use Rattle.mr_layout.specs.Sizes.{align_of, size_of}
 use Rattle.mr_mem.specs.Memory.{range_fault, ranges_of}
 use Rattle.mr_sched.specs.declared.schedule.Ask.{Ask}
 use Rattle.mr_sched.specs.declared.schedule.Ask.TheVariants.{Address}
-use Rattle.mr_script.specs.Script.{Outcome, Refused, Went, on}
+use Rattle.mr_base.specs.Script.{Outcome, Refused, Went, on}
 use Rattle.mr_eval.specs.Answers.{seen}
 use Rattle.mr_eval.specs.MemoryQueries.{Allocate, memory_answer}
 use Rattle.mr_eval.specs.World.{World, world_of}

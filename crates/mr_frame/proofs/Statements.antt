@@ -3,7 +3,7 @@ use Rattle.std.proofs.Common.{◌≡◌, refl}
 use Rattle.mr_ast.specs.declared.program.LocalName.{LocalName}
 use Rattle.mr_ast.specs.declared.program.Stmt.{Stmt}
 use Rattle.mr_ast.specs.declared.program.Stmt.TheVariants as stmt
-use Rattle.mr_script.specs.Script.{Done, ◌>>=◌}
+use Rattle.mr_base.specs.Script.{Done, ◌>>=◌}
 use Rattle.mr_frame.specs.Changes.{IsChange, change}
 use Rattle.mr_frame.specs.Frames.{Look, Stack, scene_in}
 use Rattle.mr_frame.specs.Sites.{Site}

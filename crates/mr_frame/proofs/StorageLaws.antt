@@ -8,7 +8,7 @@ use Rattle.mr_base.specs.declared.reason.Reason.{Reason}
 use Rattle.mr_mem.specs.Memory.{Memory, freed, pick_fault, range_fault, ranges_of}
 use Rattle.mr_mem.proofs.Identities.{get_there}
 use Rattle.mr_mem.proofs.RangeLaws.{ranges-freed}
-use Rattle.mr_script.specs.Script.{Outcome, Refused, Broken, Went, on}
+use Rattle.mr_base.specs.Script.{Outcome, Refused, Broken, Went, on}
 use Rattle.mr_eval.specs.MemoryQueries.{Allocate, memory_answer, next_id}
 use Rattle.mr_eval.specs.Reads.{answered}
 use Rattle.mr_eval.specs.World.{World, tally_of, world_of}

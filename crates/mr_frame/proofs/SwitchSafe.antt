@@ -24,7 +24,7 @@ use Rattle.mr_wf.specs.Operands.{is_bool, is_bool_layer, is_integer, is_scalar_n
 use Rattle.mr_wf.specs.Types.{integer_in, type_of_value}
 use Rattle.mr_wf.proofs.KindLaws.{bool_is}
 use Rattle.mr_wf.proofs.TypedStmts.{typed_switch}
-use Rattle.mr_script.specs.Script.{Done}
+use Rattle.mr_base.specs.Script.{Done}
 use Rattle.mr_eval.specs.Evaluation.{Surround, value_script}
 use Rattle.mr_eval.specs.Operators.{or_ill_formed}
 use Rattle.mr_eval.specs.Sound.{IsSafe, Stands, any_result, around}

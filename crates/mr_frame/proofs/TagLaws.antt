@@ -10,7 +10,7 @@ use Rattle.mr_value.specs.declared.val.Val.TheVariants as val
 use Rattle.mr_value.specs.Discriminants.{bits_of_number}
 use Rattle.mr_value.specs.Encode.{encoding_of, tag_bytes}
 use Rattle.mr_value.proofs.EncodeLaws.{encode_int}
-use Rattle.mr_script.specs.Script.{Went, on}
+use Rattle.mr_base.specs.Script.{Went, on}
 use Rattle.mr_eval.specs.Moves.{behind}
 use Rattle.mr_eval.specs.Reads.{Seen}
 use Rattle.mr_eval.specs.Stores.{storing}

@@ -4,7 +4,7 @@ use Rattle.std.specs.Prelude.{Err}
 use Rattle.mr_base.specs.declared.reason.Reason.{Reason}
 use Rattle.mr_mem.specs.declared.fault.Fault.{Fault}
 use Rattle.mr_mem.specs.declared.fault.Fault.TheVariants as fault
-use Rattle.mr_script.specs.Script.{Outcome, Refused}
+use Rattle.mr_base.specs.Script.{Outcome, Refused}
 use Rattle.mr_eval.specs.Environment.{Leaves, Tells}
 use Rattle.mr_mem.specs.Memory.{Memory}
 

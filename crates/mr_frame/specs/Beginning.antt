@@ -9,7 +9,7 @@ use Rattle.mr_layout.specs.Sizes.{align_of, size_of}
 use Rattle.mr_layout.specs.TypeOk.{TypeOk}
 use Rattle.mr_mem.specs.Memory.{ranges_of}
 use Rattle.mr_value.specs.declared.val.Val.{Val}
-use Rattle.mr_script.specs.Script.{Outcome, Went, run}
+use Rattle.mr_base.specs.Script.{Outcome, Went, run}
 use Rattle.mr_eval.specs.MemoryQueries.{Allocate, memory_answer}
 use Rattle.mr_eval.specs.Shapes.{HaveShapes}
 use Rattle.mr_eval.specs.World.{World}

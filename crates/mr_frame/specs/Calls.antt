@@ -24,7 +24,7 @@ use Rattle.mr_value.specs.declared.val.Val.{Val}
 use Rattle.mr_wf.specs.SameTypes.{same_type}
 use Rattle.mr_wf.specs.Types.{type_of_place, type_of_value}
 use Rattle.mr_wf.specs.Walk.{begins_regular}
-use Rattle.mr_script.specs.Script.{Done, Undefined, IllFormed, Ask as Asks, ◌>>=◌}
+use Rattle.mr_base.specs.Script.{Done, Undefined, IllFormed, Ask as Asks, ◌>>=◌}
 use Rattle.mr_eval.specs.Evaluation.{Surround, place_script, stored, value_script, values_script}
 use Rattle.mr_eval.specs.MemoryQueries.{Allocate, MemoryScript, reading_part}
 use Rattle.mr_eval.specs.Operators.{or_ill_formed, pointer_of_value}

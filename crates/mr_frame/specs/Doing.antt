@@ -11,7 +11,7 @@ use Rattle.mr_layout.specs.TypeOk.{TypeOk}
 use Rattle.mr_mem.specs.Memory.{Memory}
 use Rattle.mr_value.specs.declared.val.Val.{Val}
 use Rattle.mr_value.specs.Shape.{has_shape}
-use Rattle.mr_script.specs.Script.{Broken, Outcome, Went, on, run}
+use Rattle.mr_base.specs.Script.{Broken, Outcome, Went, on, run}
 use Rattle.mr_wf.specs.Operands.{is_bool, is_fn_ptr, is_integer, is_raw}
 use Rattle.mr_wf.specs.Types.{type_of_place}
 use Rattle.mr_eval.specs.Environment.{PlaceIn}

@@ -18,7 +18,7 @@ use Rattle.mr_value.specs.Encode.{blank, tag_bytes}
 use Rattle.mr_value.specs.Shape.{has_shape}
 use Rattle.mr_wf.specs.Types.{type_of_place}
 use Rattle.mr_sched.specs.declared.schedule.Ask.{Ask}
-use Rattle.mr_script.specs.Script.{Broken, Outcome, Refused, Went, on, run, ◌>>=◌}
+use Rattle.mr_base.specs.Script.{Broken, Outcome, Refused, Went, on, run, ◌>>=◌}
 use Rattle.mr_eval.specs.Evaluation.{Surround}
 use Rattle.mr_eval.specs.Evaluated.{placed, read_typed, valued}
 use Rattle.mr_eval.specs.MemoryQueries.{Allocate, Free, MemoryScript, memory_answer, reading_part}

@@ -6,7 +6,7 @@ use Rattle.mr_base.specs.declared.byte.Pointer.{Pointer}
 use Rattle.mr_mem.specs.Memory.{Memory}
 use Rattle.mr_value.specs.declared.val.Val.{Val}
 use Rattle.mr_ast.specs.declared.program.Function.{Function}
-use Rattle.mr_script.specs.Script.{Outcome, run}
+use Rattle.mr_base.specs.Script.{Outcome, run}
 use Rattle.mr_eval.specs.MemoryQueries.{memory_answer}
 use Rattle.mr_eval.specs.Reads.{Seen, reading}
 use Rattle.mr_eval.specs.World.{World}

@@ -10,7 +10,7 @@ use Rattle.mr_base.specs.declared.byte.Pointer.{Pointer}
 use Rattle.mr_value.specs.declared.val.Val.{Val}
 use Rattle.mr_wf.specs.Intrinsics.{fits_intrinsic}
 use Rattle.mr_wf.specs.Types.{type_of_place, type_of_value}
-use Rattle.mr_script.specs.Script.{Done, IllFormed, ◌>>=◌}
+use Rattle.mr_base.specs.Script.{Done, IllFormed, ◌>>=◌}
 use Rattle.mr_eval.specs.Evaluation.{Surround, place_script, values_script}
 use Rattle.mr_eval.specs.MemoryQueries.{MemoryScript}
 use Rattle.mr_eval.specs.Operators.{or_ill_formed}

@@ -12,7 +12,7 @@ use Rattle.mr_base.specs.declared.byte.Pointer.{Pointer}
 use Rattle.mr_base.specs.declared.reason.Reason.TheVariants.{Unreachable}
 use Rattle.mr_layout.specs.Sizes.{align_of, size_of}
 use Rattle.mr_sched.specs.declared.schedule.Ask.TheVariants.{Address}
-use Rattle.mr_script.specs.Script.{Done, Undefined, IllFormed, Ask as Asks, ◌>>=◌}
+use Rattle.mr_base.specs.Script.{Done, Undefined, IllFormed, Ask as Asks, ◌>>=◌}
 use Rattle.mr_eval.specs.MemoryQueries.{Allocate, MemoryScript, reading_part}
 use Rattle.mr_eval.specs.Reads.{ReadScript}
 use Rattle.mr_plan.specs.Machine.{Plan, CreatesNothing}

@@ -11,7 +11,7 @@ use Rattle.mr_value.specs.declared.val.Val.{Val, out-Val}
 use Rattle.mr_value.specs.declared.val.Val.TheOpen.{Val-F}
 use Rattle.mr_value.specs.Discriminants.{number_of_bits}
 use Rattle.mr_wf.specs.Types.{type_of_value}
-use Rattle.mr_script.specs.Script.{Done, ◌>>=◌}
+use Rattle.mr_base.specs.Script.{Done, ◌>>=◌}
 use Rattle.mr_eval.specs.Reads.{ReadScript}
 use Rattle.mr_eval.specs.Evaluation.{Surround, value_script}
 use Rattle.mr_eval.specs.Operators.{or_ill_formed}

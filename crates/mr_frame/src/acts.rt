@@ -70,7 +70,7 @@ impl Stack {
     ghost use Rattle.mr_ast.specs.declared.program.Function.{Function as FunctionOf};
     ghost use Rattle.mr_frame.specs.Standing.{Holds, IsDue, IsSlot};
     ghost use Rattle.mr_mem.specs.Memory.{Memory as MemoryOf};
-    ghost use Rattle.mr_script.specs.Script.{Went, on};
+    ghost use Rattle.mr_base.specs.Script.{Went, on};
 
     // What a local of the top frame has.
     fn slot(&self, look: &Look<'_>, x: LocalName) -> Slot

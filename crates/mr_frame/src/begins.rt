@@ -2,7 +2,7 @@
 ghost use Rattle.std.specs.Prelude.{◌≡◌, ◌+◌, ◌∷◌, [], IfOk, List, None, OnOk, Some, drop, length, replicate, slice_get, true};
 ghost use Rattle.mr_ast.specs.declared.types.Ty.{Ty as TypeOf};
 ghost use Rattle.mr_layout.specs.TypeOk.{TypeOk};
-ghost use Rattle.mr_script.specs.Script.{Went};
+ghost use Rattle.mr_base.specs.Script.{Went};
 ghost use Rattle.mr_value.specs.Shape.{has_shape};
 ghost use Rattle.mr_eval.specs.Shapes.{HaveShapes};
 ghost use Rattle.mr_eval.specs.Environment.{Tells};

@@ -75,7 +75,7 @@ impl Stack {
     ghost use Rattle.mr_value.specs.Shape.{has_shape};
     ghost use Rattle.mr_frame.specs.Effects.{acted};
     ghost use Rattle.mr_ast.specs.declared.types.Ty.{Ty as TypeOf};
-    ghost use Rattle.mr_script.specs.Script.{on};
+    ghost use Rattle.mr_base.specs.Script.{on};
     ghost use Rattle.mr_frame.specs.Calls.{is_main, local_type};
     ghost use Rattle.mr_frame.specs.Ending.{freed_each, left_by, returned};
     ghost use Rattle.mr_frame.specs.Fits.{AreCalling};

@@ -25,7 +25,7 @@ use Rattle.mr_value.specs.declared.val.Val.TheVariants as val
 use Rattle.mr_value.proofs.ShapeLaws.{has_int}
 use Rattle.mr_value.specs.Encode.{encoding_of}
 use Rattle.mr_value.specs.Numbers.{Bytes, number_of}
-use Rattle.mr_script.specs.Script.{Done, Ask, ◌>>=◌, Outcome, Broken, Went, Refused, on, run}
+use Rattle.mr_base.specs.Script.{Done, Ask, ◌>>=◌, Outcome, Broken, Went, Refused, on, run}
 use Rattle.mr_eval.specs.Answers.{seen}
 use Rattle.mr_eval.specs.Environment.{Leaves, Tells}
 use Rattle.mr_eval.specs.MemoryQueries.{Modify, Write, changing, memory_answer, number_bytes, reading_part, replacing}

@@ -3,7 +3,7 @@ use Rattle.std.proofs.Common.{List, [], ◌∷◌, Option, Some}
 use Rattle.mr_ast.specs.declared.program.Intrinsic.{Intrinsic}
 use Rattle.mr_ast.specs.declared.program.Intrinsic.TheVariants as intrinsic
 use Rattle.mr_ast.specs.declared.types.Ty.{Ty}
-use Rattle.mr_script.specs.Script.{IllFormed}
+use Rattle.mr_base.specs.Script.{IllFormed}
 use Rattle.mr_value.specs.declared.val.Val.{Val}
 use Rattle.mr_intr.specs.Operations.{Operation, acquire, allocate, assume, atomic_load, atomic_store, compare_exchange, create_lock, deallocate, fetch, join, operation, print, release}
 

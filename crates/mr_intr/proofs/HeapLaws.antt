@@ -14,7 +14,7 @@ use Rattle.mr_mem.specs.declared.fault.PickFault.TheVariants.{BadAddress, Reused
 use Rattle.mr_sched.specs.declared.schedule.Ask.TheVariants.{Address}
 use Rattle.mr_value.specs.declared.val.Val.{Val}
 use Rattle.mr_value.specs.declared.val.Val.TheVariants as val
-use Rattle.mr_script.specs.Script.{Done, Undefined, Ask as Asks, ◌>>=◌, Refused, run}
+use Rattle.mr_base.specs.Script.{Done, Undefined, Ask as Asks, ◌>>=◌, Refused, run}
 use Rattle.mr_eval.specs.MemoryQueries.{Allocate, Free}
 use Rattle.mr_eval.specs.declared.scene.Scene.{Scene}
 use Rattle.mr_sync.specs.Tables.{Tables}

@@ -15,7 +15,7 @@ use Rattle.mr_mem.specs.Memory.{ranges_of}
 use Rattle.mr_sched.specs.declared.schedule.Ask.TheVariants.{Waiter}
 use Rattle.mr_value.specs.declared.val.Val.{Val}
 use Rattle.mr_value.specs.declared.val.Val.TheVariants as val
-use Rattle.mr_script.specs.Script.{Done, Ask as Asks, ◌>>=◌, Outcome, Broken, Went, Refused, on, run}
+use Rattle.mr_base.specs.Script.{Done, Ask as Asks, ◌>>=◌, Outcome, Broken, Went, Refused, on, run}
 use Rattle.mr_eval.specs.World.{tally_of}
 use Rattle.mr_eval.specs.declared.scene.Scene.{Scene}
 use Rattle.mr_sync.specs.Tables.{Tables, acquired, any_waits, created, handed, holder_of, holding, joined, names_waiter, on_lock, released, taken_by, waits}

@@ -12,7 +12,7 @@ use Rattle.mr_mem.specs.Memory.{Memory}
 use Rattle.mr_sched.specs.declared.schedule.Ask.TheVariants.{Address, Waiter}
 use Rattle.mr_value.specs.declared.val.Val.{Val}
 use Rattle.mr_value.specs.declared.val.Val.TheVariants as val
-use Rattle.mr_script.specs.Script.{Done, Undefined, IllFormed, Ask as Asks, ◌>>=◌, Outcome, Went, on, run}
+use Rattle.mr_base.specs.Script.{Done, Undefined, IllFormed, Ask as Asks, ◌>>=◌, Outcome, Went, on, run}
 use Rattle.mr_sync.specs.Tables.{Tables, any_waits, holding}
 use Rattle.mr_plan.specs.Machine.{CreatesNothing, Plan}
 use Rattle.mr_plan.specs.Notes.{Notes}

@@ -9,7 +9,7 @@ use Rattle.mr_base.specs.declared.reason.Reason.{Reason}
 use Rattle.mr_base.specs.declared.thread.Event.TheVariants.{Quiet}
 use Rattle.mr_value.specs.declared.val.Val.{Val, out-Val}
 use Rattle.mr_value.specs.declared.val.Val.TheVariants as val
-use Rattle.mr_script.specs.Script.{Done, Ask, ◌>>=◌, Outcome, Went, Refused, on, run}
+use Rattle.mr_base.specs.Script.{Done, Ask, ◌>>=◌, Outcome, Went, Refused, on, run}
 use Rattle.mr_eval.specs.MemoryQueries.{Free, MemoryQuery, MemoryReply, memory_answer}
 use Rattle.mr_mem.specs.declared.fault.Fault.{Fault}
 use Rattle.mr_mem.specs.declared.fault.Fault.TheVariants as fault

@@ -15,7 +15,7 @@ use Rattle.mr_wf.specs.Intrinsics.{fits_intrinsic, gives, gives_nothing, is_atom
 use Rattle.mr_wf.specs.Operands.{is_bool, is_int, is_integer, is_raw, is_scalar_number}
 use Rattle.mr_wf.specs.SameTypes.{same_type}
 use Rattle.mr_wf.proofs.SameTypeLaws.{same_type_equal}
-use Rattle.mr_script.specs.Script.{run}
+use Rattle.mr_base.specs.Script.{run}
 use Rattle.mr_eval.specs.Shapes.{HaveShapes}
 use Rattle.mr_sync.specs.Sound.{IsSoundTables}
 use Rattle.mr_plan.specs.Notes.{Notes, start_notes}

@@ -30,7 +30,7 @@ use Rattle.mr_wf.specs.Operands.{is_bool, is_int, is_integer, is_raw, is_scalar_
 use Rattle.mr_wf.specs.Types.{integer_of, integer_in}
 use Rattle.mr_wf.proofs.KindLaws.{bool_is, integer_is}
 use Rattle.mr_wf.proofs.SameTypeLaws.{same_type_equal}
-use Rattle.mr_script.specs.Script.{Done, Undefined, Ask, ◌>>=◌, run}
+use Rattle.mr_base.specs.Script.{Done, Undefined, Ask, ◌>>=◌, run}
 use Rattle.mr_eval.specs.MemoryQueries.{Allocate, Free, MemoryScript, Modify, Write, reading_part}
 use Rattle.mr_eval.specs.Operators.{or_ill_formed, pointer_in}
 use Rattle.mr_eval.specs.Reads.{Read}

@@ -6,7 +6,7 @@ use Rattle.mr_base.specs.declared.byte.Pointer.{Pointer}
 use Rattle.mr_base.specs.declared.reason.Reason.{Reason}
 use Rattle.mr_base.specs.declared.reason.Reason.TheVariants.{InvalidValue}
 use Rattle.mr_mem.specs.Memory.{Memory, written}
-use Rattle.mr_script.specs.Script.{Outcome, Went, on}
+use Rattle.mr_base.specs.Script.{Outcome, Went, on}
 use Rattle.mr_value.specs.Numbers.{number_of}
 use Rattle.mr_eval.specs.MemoryQueries.{number_bytes}
 use Rattle.mr_eval.specs.Reads.{Read, Seen, accessing, answered, reading, seeing}

@@ -2,7 +2,7 @@
 use Rattle.std.specs.Prelude.{◌≡◌, List, [], ◌∷◌, Option, None, Some, Result, Ok, Err}
 use Rattle.mr_base.specs.declared.reason.Reason.{Reason}
 use Rattle.mr_sched.specs.declared.schedule.Ask.{Ask}
-use Rattle.mr_script.specs.Script.{Outcome, Refused, Went}
+use Rattle.mr_base.specs.Script.{Outcome, Refused, Went}
 use Rattle.mr_plan.specs.Machine.{Creation as Created, CreatesLock, CreatesNothing, CreatesThread, Plan}
 use Rattle.mr_plan.specs.Notes.{Notes}
 use Rattle.mr_plan.specs.Queries.{Shared, StepScript}

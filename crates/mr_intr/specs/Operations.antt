@@ -18,7 +18,7 @@ use Rattle.mr_value.specs.declared.val.Val.TheVariants as val
 use Rattle.mr_value.specs.declared.val.Val.TheOpen.{Val-F}
 use Rattle.mr_value.specs.Encode.{encoding_of}
 use Rattle.mr_value.specs.Numbers.{number_of}
-use Rattle.mr_script.specs.Script.{Done, Undefined, IllFormed, Ask as Asks, ◌>>=◌}
+use Rattle.mr_base.specs.Script.{Done, Undefined, IllFormed, Ask as Asks, ◌>>=◌}
 use Rattle.mr_eval.specs.MemoryQueries.{Allocate, Free, Modify, Write, reading_part}
 use Rattle.mr_eval.specs.Operators.{or_ill_formed, pointer_in}
 use Rattle.mr_eval.specs.Reads.{Read, ReadScript}

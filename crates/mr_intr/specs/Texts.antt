@@ -8,7 +8,7 @@ use Rattle.mr_ast.specs.declared.types.Variant.{Variant}
 use Rattle.mr_value.specs.declared.val.Val.{Val, out-Val}
 use Rattle.mr_value.specs.declared.val.Val.TheOpen.{Val-F}
 use Rattle.mr_value.specs.Discriminants.{number_of_bits}
-use Rattle.mr_script.specs.Script.{Done, IllFormed, ◌>>=◌}
+use Rattle.mr_base.specs.Script.{Done, IllFormed, ◌>>=◌}
 use Rattle.mr_eval.specs.Operators.{or_ill_formed}
 use Rattle.mr_eval.specs.Reads.{ReadScript}
 

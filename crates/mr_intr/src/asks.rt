@@ -5,7 +5,7 @@ ghost use Rattle.mr_ast.specs.declared.types.Ty.{Ty};
 ghost use Rattle.mr_mem.specs.Memory.{Memory};
 ghost use Rattle.mr_plan.specs.Notes.{Notes};
 ghost use Rattle.mr_plan.specs.Queries.{Shared, answer};
-ghost use Rattle.mr_script.specs.Script.{run};
+ghost use Rattle.mr_base.specs.Script.{run};
 ghost use Rattle.mr_sync.specs.Tables.{any_waits, holding};
 ghost use Rattle.mr_intr.specs.Effects.{CanTake, Fits, IsOperation, shared_of};
 ghost use Rattle.mr_intr.specs.Heap.{allocation_fault};

@@ -12,8 +12,7 @@ use crate::shown::Shown;
 use crate::words::{push_count, push_name, push_number};
 use mr_base::AllocId;
 use mr_event::Footprint;
-use mr_reached::{Reached, Reaching};
-use mr_told::{Allocation, Name};
+use mr_told::{Allocation, Name, Reached, Reaching};
 
 // What is done with bytes.
 fn doing_word(doing: Reaching) -> &'static str

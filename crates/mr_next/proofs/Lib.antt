@@ -1,4 +1,5 @@
+pub mod Appended
 pub mod CulpritLaws
-pub mod ProspectLaws
 pub mod Finding
+pub mod ProspectLaws
 pub mod ReachedLaws

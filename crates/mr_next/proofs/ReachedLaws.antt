@@ -21,7 +21,7 @@ use Rattle.mr_auto.proofs.DrawnSoFar.{after_more}
 use Rattle.mr_witness.proofs.Lists.{legal_append}
 use Rattle.mr_next.specs.Culprits.{culprit_of}
 use Rattle.mr_next.specs.Reached.{GoesTo, IsReached, in_front, placed_of}
-use Rattle.mr_outlook.specs.declared.broken.Broken.{Broken}
+use Rattle.mr_next.specs.declared.broken.Broken.{Broken}
 use Rattle.mr_next.specs.declared.reaching.Reached.{Reached}
 
 -- an element at a position within the list

@@ -1,3 +1,5 @@
+pub mod Coming
 pub mod Culprits
 pub mod Prospects
 pub mod Reached
+pub mod Texts

@@ -13,9 +13,9 @@ use Rattle.mr_plan.specs.Queries.{tables_of}
 use Rattle.mr_frame.specs.Frames.{Look}
 use Rattle.mr_thread.specs.Steps.{Own, thread_step}
 use Rattle.mr_auto.specs.Drawing.{waiting_in}
-use Rattle.mr_outlook.specs.declared.prospect.Prospect.{Prospect}
-use Rattle.mr_outlook.specs.declared.prospect.Want.{Want}
-use Rattle.mr_outlook.specs.declared.prospect.Want.TheVariants as want
+use Rattle.mr_next.specs.declared.prospect.Prospect.{Prospect}
+use Rattle.mr_next.specs.declared.prospect.Want.{Want}
+use Rattle.mr_next.specs.declared.prospect.Want.TheVariants as want
 
 -- what a step asks for: an address, or one of the threads that wait for a lock
 abbrev pub want_of : List Status → Ask → Want

@@ -12,7 +12,7 @@ use Rattle.mr_run.specs.Runs.{AreTaken, IsRun}
 use Rattle.mr_run.specs.declared.fault.RunFault.{RunFault}
 use Rattle.mr_run.specs.declared.fault.RunFault.TheVariants as run
 use Rattle.mr_next.specs.Culprits.{culprit_of}
-use Rattle.mr_outlook.specs.declared.broken.Broken.{Broken}
+use Rattle.mr_next.specs.declared.broken.Broken.{Broken}
 use Rattle.mr_next.specs.declared.reaching.Reached.{Reached}
 
 -- the entries in front of a fault; the first has place 3

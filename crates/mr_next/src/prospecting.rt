@@ -9,9 +9,9 @@ ghost use Rattle.mr_thread.specs.Steps.{Own, thread_step};
 ghost use Rattle.std.specs.Option.{option_map};
 ghost use Rattle.mr_next.specs.Prospects.{holder_for, limit_in, prospect_in, prospects_in, want_of, wants_in};
 
+use crate::{Prospect, Want};
 use mr_auto::waiting_threads;
 use mr_base::Status;
-use mr_outlook::{Prospect, Want};
 use mr_sched::{Ask, Items};
 use mr_step::Machine;
 use std::alloc::{AllocError, Global};

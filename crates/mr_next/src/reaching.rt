@@ -2,8 +2,8 @@
 ghost use Rattle.std.specs.Prelude.{◌≡◌, ◌+◌, ◌^◌, ◌<◌, ◌≤◌, IfErr, IfOk, false, length};
 ghost use Rattle.mr_next.specs.Reached.{GoesTo, IsOfStart, IsReached};
 
+use crate::Broken;
 use crate::culprits::culprit;
-use mr_outlook::Broken;
 use mr_run::{Nothing, RunFault, step};
 use mr_sched::{Entry, Schedule};
 use mr_step::{Machine, StepFault};

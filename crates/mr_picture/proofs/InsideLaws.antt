@@ -15,14 +15,14 @@ use Rattle.mr_event.specs.Order.{thread_at}
 use Rattle.mr_told.specs.declared.step.ToldStep.{ToldStep}
 use Rattle.mr_listing.specs.Seen.{Seen}
 use Rattle.mr_listing.specs.Spots.{stand_text}
-use Rattle.mr_arrows.specs.declared.span.Span.{Span}
-use Rattle.mr_arrows.specs.Arrows.{arrows}
-use Rattle.mr_arrows.specs.Span.{holds_race, is_in, races_in, steps_in}
-use Rattle.mr_arrows.specs.Witness.{left_out, witness_steps}
-use Rattle.mr_arrows.proofs.ArrowLaws.{arrow_is}
-use Rattle.mr_arrows.proofs.Members.{from_flat, from_range}
-use Rattle.mr_arrows.proofs.Counts.{rows_few}
-use Rattle.mr_arrows.proofs.Within.{each, from_filter, left_below, witness_below}
+use Rattle.mr_picture.specs.declared.span.Span.{Span}
+use Rattle.mr_picture.specs.Arrows.{arrows}
+use Rattle.mr_picture.specs.Span.{holds_race, is_in, races_in, steps_in}
+use Rattle.mr_picture.specs.Witness.{left_out, witness_steps}
+use Rattle.mr_picture.proofs.ArrowLaws.{arrow_is}
+use Rattle.mr_picture.proofs.Members.{from_flat, from_range}
+use Rattle.mr_picture.proofs.Counts.{rows_few}
+use Rattle.mr_picture.proofs.Within.{each, from_filter, left_below, witness_below}
 use Rattle.mr_svg.specs.declared.shape.Point.{Point}
 use Rattle.mr_svg.specs.declared.shape.Shape.{Shape}
 use Rattle.mr_svg.specs.declared.shape.Shape.TheVariants.{Diamond, Dot, Square, Words}

@@ -1,5 +1,11 @@
+pub mod ArrowLaws
+pub mod Counts
 pub mod InsideLaws
 pub mod Marks
+pub mod Members
 pub mod Room
 pub mod RowLaws
 pub mod SceneLaws
+pub mod Turns
+pub mod Within
+pub mod WitnessLaws

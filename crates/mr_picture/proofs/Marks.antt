@@ -6,7 +6,7 @@ use Rattle.std.proofs.lemmas.List.{take_more}
 use Rattle.std.proofs.lemmas.List.Elements.{filter-append}
 use Rattle.std.specs.Prelude.{OnOk, flat_map}
 use Rattle.std.specs.List.{filter, range_with_len}
-use Rattle.mr_arrows.proofs.Turns.{one_more}
+use Rattle.mr_picture.proofs.Turns.{one_more}
 
 -- one part more
 single : {X Y : Type 0} (f : X → List Y) (x : X) → flat_map f (x ∷ []) ≡ f x

@@ -5,8 +5,8 @@ use Rattle.std.proofs.lemmas.List.{length-append, length-take}
 use Rattle.std.proofs.lemmas.Bool.{and_parts}
 use Rattle.std.proofs.lemmas.Bool.Decides.{nat_tests}
 use Rattle.std.specs.Prelude.{nat_le, nat_lt, codes, if◌then◌else◌}
-use Rattle.mr_arrows.specs.declared.span.Span.{Span}
-use Rattle.mr_arrows.specs.Span.{is_in}
+use Rattle.mr_picture.specs.declared.span.Span.{Span}
+use Rattle.mr_picture.specs.Span.{is_in}
 use Rattle.mr_svg.specs.declared.shape.Point.{Point}
 use Rattle.mr_picture.specs.Inside.{IsPointInside, IsRoundInside, IsShapeInside}
 use Rattle.mr_picture.specs.Links.{arrow_between, beside, race_between}

@@ -4,9 +4,9 @@ use Rattle.std.proofs.lemmas.Bool.{and_parts}
 use Rattle.std.proofs.lemmas.List.Elements.{All-weaker}
 use Rattle.std.proofs.lemmas.Option.{IfSome_then}
 use Rattle.std.specs.Prelude.{slice_get}
-use Rattle.mr_arrows.specs.declared.span.Span.{Span}
-use Rattle.mr_arrows.specs.Span.{holds_race, is_in}
-use Rattle.mr_arrows.proofs.Counts.{numbers_few}
+use Rattle.mr_picture.specs.declared.span.Span.{Span}
+use Rattle.mr_picture.specs.Span.{holds_race, is_in}
+use Rattle.mr_picture.proofs.Counts.{numbers_few}
 use Rattle.mr_listing.specs.Seen.{Seen}
 use Rattle.mr_picture.specs.Scene.{IsRace, IsSmall, done_in, drawn_steps, race_in, scene_of, takes_one}
 use Rattle.mr_picture.proofs.InsideLaws.{race_held, steps_are}

@@ -3,7 +3,7 @@ use Rattle.std.specs.Prelude.{ℕ, ◌+◌, ◌-◌, ◌*◌, ◌==◌, ◌||◌
 use Rattle.std.specs.Prelude.{codes, decimal, length, Option, None, Some}
 use Rattle.mr_event.specs.declared.footprint.Pair.{Pair}
 use Rattle.mr_event.specs.Order.{thread_at}
-use Rattle.mr_arrows.specs.Witness.{left_out, witness_steps}
+use Rattle.mr_picture.specs.Witness.{left_out, witness_steps}
 use Rattle.mr_svg.specs.declared.shape.Point.{Point}
 use Rattle.mr_svg.specs.declared.shape.Shape.{Shape}
 use Rattle.mr_svg.specs.declared.shape.Shape.TheVariants.{Diamond, Dot, Line, Words, WordsTo}

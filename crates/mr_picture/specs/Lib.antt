@@ -1,3 +1,4 @@
+pub mod Arrows
 pub mod Column
 pub mod Deeds
 pub mod Ends
@@ -8,5 +9,7 @@ pub mod Legend
 pub mod Links
 pub mod Picture
 pub mod Scene
+pub mod Span
 pub mod Steps
 pub mod Texts
+pub mod Witness

@@ -1,8 +1,8 @@
 -- The picture of a run.
 use Rattle.std.specs.Prelude.{ℕ, List, [], ◌++◌, flat_map, map, Option}
-use Rattle.mr_arrows.specs.declared.span.Span.{Span}
-use Rattle.mr_arrows.specs.Arrows.{arrows}
-use Rattle.mr_arrows.specs.Span.{races_in, steps_in}
+use Rattle.mr_picture.specs.declared.span.Span.{Span}
+use Rattle.mr_picture.specs.Arrows.{arrows}
+use Rattle.mr_picture.specs.Span.{races_in, steps_in}
 use Rattle.mr_listing.specs.Seen.{Seen}
 use Rattle.mr_listing.specs.Steps.{steps_text}
 use Rattle.mr_svg.specs.Svg.{Mark, document}

@@ -3,7 +3,7 @@ use Rattle.std.specs.Prelude.{ℕ, ◌+◌, ◌-◌, ◌==◌, ◌%◌, ◌&&◌
 use Rattle.std.specs.Prelude.{decimal, drop, length}
 use Rattle.std.specs.List.{list_any}
 use Rattle.mr_event.specs.declared.footprint.Pair.{Pair}
-use Rattle.mr_arrows.specs.Span.{holds_race}
+use Rattle.mr_picture.specs.Span.{holds_race}
 use Rattle.mr_listing.specs.Spots.{stand_text}
 use Rattle.mr_svg.specs.declared.shape.Point.{Point}
 use Rattle.mr_svg.specs.declared.shape.Shape.{Shape}

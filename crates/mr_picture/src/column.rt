@@ -7,13 +7,12 @@ ghost use Rattle.mr_picture.specs.Column.{column_y, is_of_race, kept_mark, kept_
 ghost use Rattle.mr_picture.specs.Column.{kept_title, left_mark, left_marks, left_number, left_title, number_place, rows_marks};
 ghost use Rattle.mr_picture.specs.Scene.{IsRace, IsSmall, IsStep, scene_in};
 
-use crate::OutOfMemory;
 use crate::grid::{column_x, count_below, row_y};
 use crate::scene::Scene;
 use crate::texts::{count_text, push, push_step_word};
-use mr_arrows::{left_out, witness_steps};
-use mr_clocks::{Analysis, thread_at};
-use mr_event::Pair;
+use crate::{OutOfMemory, left_out, witness_steps};
+use mr_clocks::Analysis;
+use mr_event::{Pair, thread_at};
 use mr_svg::{Point, Shape, Sign, push_mark};
 use std::alloc::Global;
 

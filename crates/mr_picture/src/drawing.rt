@@ -7,7 +7,6 @@ ghost use Rattle.mr_picture.specs.Ends.{title_text};
 ghost use Rattle.mr_picture.specs.Picture.{marks, picture_text, round_marks, scene_text, tail_of};
 ghost use Rattle.mr_picture.specs.Scene.{IsSmall, race_in, scene_in, scene_of};
 
-use crate::OutOfMemory;
 use crate::column::push_column;
 use crate::ends::{push_heads, push_tail, title_text};
 use crate::grid::{height, width};
@@ -16,7 +15,7 @@ use crate::legend::push_legend;
 use crate::links::{push_arrows, push_races};
 use crate::scene::{Scene, chosen, done_in, drawn_steps, near_in, race_in, threads_of};
 use crate::steps::{push_rows, push_steps};
-use mr_arrows::Span;
+use crate::{OutOfMemory, Span};
 use mr_clocks::Analysis;
 use mr_event::Pair;
 use mr_listing::{Shown, steps};

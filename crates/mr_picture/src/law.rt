@@ -1,6 +1,6 @@
 //! The law of pictures.
 ghost use Rattle.std.specs.Prelude.{◌≤◌, ◌^◌, All, Option};
-ghost use Rattle.mr_arrows.specs.declared.span.Span.{Span};
+ghost use Rattle.mr_picture.specs.declared.span.Span.{Span};
 ghost use Rattle.mr_listing.specs.Seen.{Seen};
 ghost use Rattle.mr_picture.specs.Grid.{height, width};
 ghost use Rattle.mr_picture.specs.Inside.{IsInside};

@@ -6,11 +6,26 @@
 //!
 //! `specs/Picture.antt` says what is drawn: `Scene` which steps, `Grid` where marks stand, and `Lanes`, `Links`, `Steps`,
 //! `Column`, `Ends` and `Legend` which marks there are. Proved: the document is exactly that, and want of memory is the
-//! only error. The arrows are those of `mr_arrows`, by which laws they are edges and lead wherever one step happens before
+//! only error. By the laws of the arrows they are edges and lead wherever one step happens before
 //! another; the races are the listed ones both of whose steps are drawn; no text can become markup, by the law of
 //! `mr_svg`. [`marks_lie_inside`] is the law that each mark lies inside the picture.
+//!
+//! The order of a part of a run, as it is drawn (Lamport: happens-before, and pictures of it):
+//!
+//! - [`Span`]: the steps of a part. [`races_in`]: those races both of whose steps are in it.
+//! - [`arrows`]: the edges between steps of two threads that neither a lane nor other arrows give.
+//! - [`wakes_thread`]: whether a step woke or started the thread of another one.
+//! - [`witness_steps`], [`left_out`]: the steps of a part in the order of the witness for a race, and those that it leaves
+//!   out.
+//!
+//! `specs/Arrows.antt` and `specs/Witness.antt` say which these are, by happens-before of `mr_event`. Proved: each call
+//! answers exactly that, and want of memory is its only error. Laws: [`arrows_are_edges`], each arrow is an edge between
+//! two steps of the part, and no other path leads from its first step to its second one; [`paths_are_the_order`], of two
+//! steps of a part one happens before the other exactly where a path of lanes and arrows joins them;
+//! [`witness_is_kept`], the steps of the witness are those of its definition.
 #![tactic(auto)]
 
+mod arrows_of;
 mod column;
 mod deeds;
 mod drawing;
@@ -20,10 +35,19 @@ mod lanes;
 mod law;
 mod legend;
 mod links;
+mod order;
+mod order_laws;
 mod scene;
+mod span;
 mod steps;
 mod texts;
+mod witness;
 
+pub use arrows_of::arrows;
 pub use drawing::picture;
 pub use law::marks_lie_inside;
+pub use order::wakes_thread;
+pub use order_laws::{arrows_are_edges, paths_are_the_order, witness_is_kept};
+pub use span::{Span, races_in};
 pub use std::alloc::AllocError as OutOfMemory;
+pub use witness::{left_out, witness_steps};

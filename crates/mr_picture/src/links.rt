@@ -1,8 +1,8 @@
 //! Arrows and races.
 ghost use Rattle.std.specs.Prelude.{◌≡◌, ◌<◌, ◌≤◌, ◌^◌, ◌++◌, All, IfOk, OnOk, flat_map, length, map};
 ghost use Rattle.mr_event.specs.Order.{thread_at as thread_of};
-ghost use Rattle.mr_arrows.specs.Arrows.{arrows};
-ghost use Rattle.mr_arrows.specs.Span.{races_in};
+ghost use Rattle.mr_picture.specs.Arrows.{arrows};
+ghost use Rattle.mr_picture.specs.Span.{races_in};
 ghost use Rattle.mr_clocks.specs.Tracked.{Tracks};
 ghost use Rattle.mr_svg.specs.Svg.{mark_text};
 ghost use Rattle.mr_picture.specs.Grid.{place_of};
@@ -10,13 +10,12 @@ ghost use Rattle.mr_picture.specs.Links.{arrow_at, arrow_between, arrow_mark, ar
 ghost use Rattle.mr_picture.specs.Links.{foot_place, is_same_race, is_wake, race_between, race_mark, race_sign, race_title};
 ghost use Rattle.mr_picture.specs.Scene.{IsRace, IsSmall, IsStep, scene_in};
 
-use crate::OutOfMemory;
 use crate::grid::place_of;
 use crate::scene::Scene;
 use crate::texts::{push, push_step_word};
-use mr_arrows::{arrows, races_in, wakes_thread};
-use mr_clocks::{Analysis, thread_at};
-use mr_event::{Footprint, Pair};
+use crate::{OutOfMemory, arrows, races_in, wakes_thread};
+use mr_clocks::Analysis;
+use mr_event::{Footprint, Pair, thread_at};
 use mr_svg::{Point, Shape, Sign, push_mark};
 use std::alloc::Global;
 

@@ -3,10 +3,9 @@ ghost use Rattle.std.specs.Prelude.{◌≡◌, ◌<◌, ◌^◌, ◌++◌, ◌�
 ghost use Rattle.std.specs.List.{filter};
 ghost use Rattle.mr_picture.specs.Scene.{begin_at, chosen, clipped, comes_to, done_in, drawn_of, drawn_steps, is_of};
 ghost use Rattle.mr_picture.specs.Scene.{near_in, race_in, takes_one, threads_of};
-ghost use Rattle.mr_arrows.specs.Span.{holds_race, is_in};
+ghost use Rattle.mr_picture.specs.Span.{holds_race, is_in};
 
-use crate::OutOfMemory;
-use mr_arrows::Span;
+use crate::{OutOfMemory, Span};
 use mr_base::Status;
 use mr_event::Pair;
 use mr_listing::Shown;

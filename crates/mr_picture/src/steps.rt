@@ -3,7 +3,7 @@ ghost use Rattle.std.specs.Prelude.{◌≡◌, ◌+◌, ◌-◌, ◌<◌, ◌≤
 ghost use Rattle.std.specs.List.{list_any};
 ghost use Rattle.mr_listing.specs.Seen.{seen};
 ghost use Rattle.mr_listing.specs.Spots.{stand_text};
-ghost use Rattle.mr_arrows.specs.Span.{steps_in};
+ghost use Rattle.mr_picture.specs.Span.{steps_in};
 ghost use Rattle.mr_svg.specs.Svg.{mark_text};
 ghost use Rattle.mr_picture.specs.Deeds.{deeds};
 ghost use Rattle.mr_picture.specs.Scene.{IsSmall, scene_in};

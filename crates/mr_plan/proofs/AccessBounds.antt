@@ -4,7 +4,7 @@ use Rattle.std.proofs.lemmas.List.Elements.{All-append, All-cons, All-nil}
 use Rattle.mr_base.specs.declared.access.Access.{Access}
 use Rattle.mr_base.specs.declared.byte.Pointer.{Pointer}
 use Rattle.mr_mem.specs.Memory.{Allocation, Memory, bytes_at}
-use Rattle.mr_script.specs.Script.{Went}
+use Rattle.mr_base.specs.Script.{Went}
 use Rattle.mr_event.specs.FootOk.{IsAccessOk}
 use Rattle.mr_eval.specs.Reads.{Check, Read, Refer, accessing}
 use Rattle.mr_eval.specs.MemoryQueries.{Allocate, Free, MemoryQuery, MemoryReply, Modify, Reading, Write, memory_answer}

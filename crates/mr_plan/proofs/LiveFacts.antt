@@ -6,8 +6,8 @@ use Rattle.std.specs.FinMap as fin
 use Rattle.mr_base.specs.declared.byte.AbstractByte.{AbstractByte}
 use Rattle.mr_base.specs.declared.byte.AllocId.{AllocId}
 use Rattle.mr_base.specs.declared.byte.Pointer.{Pointer}
-use Rattle.mr_script.specs.Script.{Done, Undefined, IllFormed, Ask, Went, run}
-use Rattle.mr_script.proofs.SwapRuns.{goes_on, same_state}
+use Rattle.mr_base.specs.Script.{Done, Undefined, IllFormed, Ask, Went, run}
+use Rattle.mr_base.proofs.ScriptSwaps.{goes_on, same_state}
 use Rattle.mr_base.specs.declared.byte.Kind.{Kind}
 use Rattle.mr_mem.specs.Memory.{Allocation, Memory, allocated, fresh}
 use Rattle.mr_mem.proofs.Identities.{get_here, get_there}

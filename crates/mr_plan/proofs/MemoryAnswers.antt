@@ -6,13 +6,13 @@ use Rattle.mr_base.specs.declared.byte.Kind.{Kind}
 use Rattle.mr_base.specs.declared.byte.Pointer.{Pointer}
 use Rattle.mr_base.specs.declared.reason.Reason.{Reason}
 use Rattle.mr_base.specs.declared.reason.Reason.TheVariants.{DanglingReference}
-use Rattle.mr_script.specs.Script.{Outcome, Went, on}
+use Rattle.mr_base.specs.Script.{Outcome, Went, on}
 use Rattle.mr_mem.specs.Memory.{Memory, checked, freed, read, written}
 use Rattle.mr_eval.specs.Reads.{Check, Read, Refer, Seen, accessing, answered, named, seeing, touching}
 use Rattle.mr_value.specs.Numbers.{number_of}
 use Rattle.mr_eval.specs.MemoryQueries.{Free, Modify, Reading, Write, changing, memory_answer, next_id, number_bytes, replacing}
 use Rattle.mr_eval.specs.Tally.{Tally, seen_of, with_seen}
-use Rattle.mr_script.proofs.SwapRuns.{same_state, same_value}
+use Rattle.mr_base.proofs.ScriptSwaps.{same_state, same_value}
 use Rattle.mr_plan.proofs.WentLaws.{HasResult, has_result}
 
 -- the notes behind a range check, a load, a store, a new allocation and the end of one

@@ -11,7 +11,7 @@ use Rattle.mr_base.specs.declared.byte.Kind.{Kind}
 use Rattle.mr_base.specs.declared.byte.Kind.TheVariants.{Function, Heap, Stack, Static}
 use Rattle.mr_base.specs.declared.byte.AbstractByte.TheVariants.{Uninit}
 use Rattle.mr_base.specs.declared.byte.Pointer.{Pointer}
-use Rattle.mr_script.proofs.SwapRuns.{IsKept}
+use Rattle.mr_base.proofs.ScriptSwaps.{IsKept}
 use Rattle.std.specs.Prelude.{replicate}
 use Rattle.std.proofs.Math.ListN.{length-replicate}
 use Rattle.mr_mem.specs.Memory.{Allocation, Memory, allocated, bytes_at, fresh, held}

@@ -9,8 +9,8 @@ use Rattle.mr_base.specs.declared.byte.AllocId.{AllocId}
 use Rattle.mr_base.specs.declared.byte.Kind.{Kind}
 use Rattle.mr_base.specs.declared.byte.Pointer.{Pointer}
 use Rattle.mr_base.specs.declared.reason.Reason.TheVariants.{DanglingReference}
-use Rattle.mr_script.specs.Script.{Went}
-use Rattle.mr_script.proofs.SwapRuns.{IsLocal}
+use Rattle.mr_base.specs.Script.{Went}
+use Rattle.mr_base.proofs.ScriptSwaps.{IsLocal}
 use Rattle.mr_mem.specs.Memory.{Allocation, Memory, allocated, bytes_at, checked, free_fault, fresh, is_multiple, read, written}
 use Rattle.mr_mem.proofs.Identities.{id_exact, id_total}
 use Rattle.mr_eval.specs.Reads.{Check, Read, Refer, accessing, named, touching}

@@ -1,7 +1,7 @@
 -- Parts of a step that ask memory alone: what they leave of all that is shared, of the notes, and of storage.
 use Rattle.std.proofs.Common.{◌≡◌, ℕ, refl, subst, sym, List}
 use Rattle.mr_mem.specs.Memory.{Memory}
-use Rattle.mr_script.specs.Script.{Outcome, Went, Refused, Broken, on, run}
+use Rattle.mr_base.specs.Script.{Outcome, Went, Refused, Broken, on, run}
 use Rattle.mr_eval.specs.MemoryQueries.{MemoryScript, memory_answer, reading_part}
 use Rattle.mr_eval.specs.Reads.{ReadScript}
 use Rattle.mr_eval.specs.Sound.{Comes, IsSafe}

@@ -1,7 +1,7 @@
 -- What holds of where a run went on, which has a rule.
 use Rattle.std.proofs.Common.{subst, sym}
-use Rattle.mr_script.specs.Script.{Script, ◌>>=◌, Outcome, Went, Refused, Broken, on, run}
-use Rattle.mr_script.proofs.Runs.{run_bind}
+use Rattle.mr_base.specs.Script.{Script, ◌>>=◌, Outcome, Went, Refused, Broken, on, run}
+use Rattle.mr_base.proofs.ScriptRuns.{run_bind}
 
 -- there is a rule, and where it goes on this holds of the result and the state
 abbrev pub After : {A S : Type 0} → (A → S → Type 0) → Outcome A S → Type 0

@@ -2,8 +2,8 @@
 -- does what it does over memory and tally alone.
 use Rattle.std.proofs.Common.{◌≡◌, refl, ap, ◌∙◌}
 use Rattle.mr_mem.specs.Memory.{Memory}
-use Rattle.mr_script.specs.Script.{Done, Undefined, IllFormed, Ask, ◌>>=◌, Outcome, Went, Refused, Broken, on, run}
-use Rattle.mr_script.proofs.Runs.{run_bind}
+use Rattle.mr_base.specs.Script.{Done, Undefined, IllFormed, Ask, ◌>>=◌, Outcome, Went, Refused, Broken, on, run}
+use Rattle.mr_base.proofs.ScriptRuns.{run_bind}
 use Rattle.mr_eval.specs.Reads.{ReadScript, Seen, reading}
 use Rattle.mr_eval.specs.Tally.{Tally, seen_of, with_seen}
 use Rattle.mr_eval.specs.MemoryQueries.{MemoryScript, memory_answer, reading_part}

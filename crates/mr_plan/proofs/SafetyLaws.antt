@@ -3,8 +3,8 @@ use Rattle.std.proofs.Common.{◌≡◌, ℕ, ◌<◌, ◌*◌, ◌^◌, refl, s
 use Rattle.mr_base.specs.declared.byte.Pointer.{Pointer}
 use Rattle.mr_base.specs.declared.reason.Reason.{Reason}
 use Rattle.mr_mem.specs.Memory.{Memory, freed, written}
-use Rattle.mr_script.specs.Script.{Done, Undefined, IllFormed, Ask, ◌>>=◌, Outcome, Went, Refused, Broken, on, run}
-use Rattle.mr_script.proofs.Runs.{safe_bind}
+use Rattle.mr_base.specs.Script.{Done, Undefined, IllFormed, Ask, ◌>>=◌, Outcome, Went, Refused, Broken, on, run}
+use Rattle.mr_base.proofs.ScriptRuns.{safe_bind}
 use Rattle.mr_value.specs.Numbers.{number_of}
 use Rattle.mr_value.proofs.DecodeShape.{number_fits}
 use Rattle.mr_eval.specs.Reads.{Read, ReadQuery, ReadScript, Seen, answered, reading}

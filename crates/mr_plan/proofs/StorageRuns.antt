@@ -13,8 +13,8 @@ use Rattle.mr_base.specs.declared.byte.Kind.TheVariants.{Function, Heap, Stack, 
 use Rattle.mr_base.specs.declared.byte.Pointer.{Pointer}
 use Rattle.mr_mem.specs.Memory.{Allocation, Memory, allocated, fresh, kind_number}
 use Rattle.mr_mem.proofs.Identities.{get_here, get_there}
-use Rattle.mr_script.specs.Script.{Done, Undefined, IllFormed, Ask, ◌>>=◌, Went, run}
-use Rattle.mr_script.proofs.SwapRuns.{goes_on, same_state}
+use Rattle.mr_base.specs.Script.{Done, Undefined, IllFormed, Ask, ◌>>=◌, Went, run}
+use Rattle.mr_base.proofs.ScriptSwaps.{goes_on, same_state}
 use Rattle.mr_eval.specs.MemoryQueries.{Allocate, Free, MemoryQuery, MemoryReply, MemoryScript, Modify, Reading, Write, memory_answer, next_id, pointer_to}
 use Rattle.mr_eval.specs.Tally.{Tally}
 use Rattle.mr_plan.specs.Storage.{AreHeld, IsStorage, Slot}

@@ -4,7 +4,7 @@ use Rattle.std.proofs.lemmas.List.{append_assoc}
 use Rattle.std.proofs.lemmas.List.Elements.{Contains-append_left}
 use Rattle.mr_base.specs.declared.access.Access.{Access}
 use Rattle.mr_base.specs.declared.byte.AllocId.{AllocId}
-use Rattle.mr_script.specs.Script.{Went}
+use Rattle.mr_base.specs.Script.{Went}
 use Rattle.mr_mem.specs.Memory.{Memory}
 use Rattle.mr_eval.specs.Reads.{Check, Read, Refer, seeing}
 use Rattle.mr_base.specs.declared.byte.Pointer.{Pointer}

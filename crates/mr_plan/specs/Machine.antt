@@ -5,7 +5,7 @@ use Rattle.mr_base.specs.declared.reason.Verdict.{Verdict}
 use Rattle.mr_base.specs.declared.reason.Verdict.TheVariants as verdict
 use Rattle.mr_mem.specs.Memory.{leaks}
 use Rattle.mr_sched.specs.declared.schedule.Ask.{Ask}
-use Rattle.mr_script.specs.Script.{◌>>=◌, Outcome, Went, Refused, Broken, run}
+use Rattle.mr_base.specs.Script.{◌>>=◌, Outcome, Went, Refused, Broken, run}
 use Rattle.mr_plan.specs.Notes.{Notes, start_notes}
 use Rattle.mr_plan.specs.Queries.{Shared, StepScript, answer}
 

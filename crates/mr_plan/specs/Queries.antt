@@ -6,7 +6,7 @@ use Rattle.mr_base.specs.declared.thread.Status.{Status}
 use Rattle.mr_base.specs.declared.thread.Event.{Event}
 use Rattle.mr_base.specs.declared.thread.Event.TheVariants.{CreateLock, Acquire, Release, Spawn, Join}
 use Rattle.mr_mem.specs.Memory.{Memory}
-use Rattle.mr_script.specs.Script.{Script, Done, Undefined, IllFormed, Ask, Outcome, Went, Refused, Broken, on}
+use Rattle.mr_base.specs.Script.{Script, Done, Undefined, IllFormed, Ask, Outcome, Went, Refused, Broken, on}
 use Rattle.mr_sync.specs.Tables.{Tables, acquired, any_waits, created, ended, holding, joined, released, spawned, waits}
 use Rattle.mr_eval.specs.MemoryQueries.{MemoryQuery, MemoryReply, MemoryScript, memory_answer}
 use Rattle.mr_eval.specs.Tally.{Tally}

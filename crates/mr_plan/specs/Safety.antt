@@ -1,6 +1,6 @@
 -- When a script that asks memory alone never comes to a state without a rule.
 use Rattle.std.specs.Prelude.{◌<◌, ◌*◌, ◌^◌}
-use Rattle.mr_script.specs.Script.{Safe}
+use Rattle.mr_base.specs.Script.{Safe}
 use Rattle.mr_eval.specs.MemoryQueries.{Allocate, Free, MemoryQuery, MemoryReply, MemoryScript, Modify, Reading, Write}
 use Rattle.mr_eval.specs.Sound.{Good}
 

@@ -37,7 +37,7 @@ use Rattle.mr_value.specs.Encode.{encoding_of}
 use Rattle.mr_value.specs.Numbers.{Bytes, number_of}
 use Rattle.mr_value.specs.Shape.{has_shape}
 use Rattle.mr_ast.proofs.TreeInduction.{AllCases, TreeCases, tree_induction}
-use Rattle.mr_script.specs.Script.{Ask, Done, IllFormed, Undefined, ◌>>=◌}
+use Rattle.mr_base.specs.Script.{Ask, Done, IllFormed, Undefined, ◌>>=◌}
 use Rattle.mr_wf.specs.Types.{chained, type_of_place, type_of_value, variant_type}
 use Rattle.mr_eval.specs.declared.kinds.Operator.{Operator}
 use Rattle.mr_eval.specs.declared.kinds.Operator.TheVariants.{Arith, Comparing, Moving, Overflowing, Shifting, Wrapping}

@@ -6,7 +6,7 @@ use Rattle.mr_base.specs.declared.reason.Reason.TheVariants.{DataRace}
 use Rattle.mr_base.specs.declared.reason.Verdict.{Verdict}
 use Rattle.mr_base.specs.declared.reason.Verdict.TheVariants as verdict
 use Rattle.mr_mem.specs.Memory.{leaks}
-use Rattle.mr_script.specs.Script.{Broken, Outcome, Refused, Went, run, ◌>>=◌}
+use Rattle.mr_base.specs.Script.{Broken, Outcome, Refused, Went, run, ◌>>=◌}
 use Rattle.mr_plan.specs.Machine.{Aborts, Bare, Completed, Exits, Flow, Goes, IllFormedStep, State, Stops, Thread, acted, bare, settle, settled}
 use Rattle.mr_plan.specs.Notes.{Notes, start_notes}
 use Rattle.mr_plan.specs.Queries.{Shared, answer}

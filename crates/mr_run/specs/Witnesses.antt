@@ -4,7 +4,7 @@ use Rattle.mr_event.specs.Footprint.{Footprint}
 use Rattle.mr_event.specs.declared.footprint.Pair.{Pair}
 use Rattle.mr_exchange.specs.Witness.{kept_schedule}
 use Rattle.mr_sched.specs.declared.schedule.Schedule.{Schedule}
-use Rattle.mr_short.specs.Short.{short_schedule}
+use Rattle.mr_witness.specs.Short.{short_schedule}
 use Rattle.mr_run.specs.declared.witnesses.Selection.{Selection}
 use Rattle.mr_run.specs.declared.witnesses.Selection.TheVariants.{Kept, Needed}
 

@@ -6,8 +6,7 @@ ghost use Rattle.mr_run.specs.Witnesses.{witness_by, witness_for};
 
 use mr_event::{Footprint, OutOfMemory, Pair};
 use mr_sched::Schedule;
-use mr_short::short;
-use mr_witness::witness;
+use mr_witness::{short, witness};
 use std::alloc::Global;
 
 /// Which entries of the schedule a witness takes.

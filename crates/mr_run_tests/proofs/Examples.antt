@@ -33,7 +33,7 @@ use Rattle.mr_sched.specs.declared.schedule.Ask.TheVariants.{Address, Waiter}
 use Rattle.mr_sched.specs.declared.schedule.Entry.{Entry}
 use Rattle.mr_event.specs.Footprint.{Footprint}
 use Rattle.mr_event.specs.Footprints as footprints
-use Rattle.mr_script.specs.Script.{Done, Undefined, ◌>>=◌, run as run_script}
+use Rattle.mr_base.specs.Script.{Done, Undefined, ◌>>=◌, run as run_script}
 use Rattle.mr_base.specs.declared.reason.Verdict.{Verdict}
 use Rattle.mr_plan.specs.Machine.{CreatesNothing, settled, thread_of}
 use Rattle.mr_plan.specs.Notes.{start_notes}

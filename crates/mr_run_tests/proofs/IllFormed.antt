@@ -36,7 +36,7 @@ use Rattle.mr_wf.specs.Types.{element_type, integer_in}
 use Rattle.mr_wf.proofs.BrokenInLaws.{broken_in_binary, broken_in_cast, broken_in_index, broken_in_int, broken_in_load}
 use Rattle.mr_wf.proofs.KnownLaws.{int_told, int_untold}
 use Rattle.mr_wf.proofs.TypeLaws.{type_of_deref, type_of_fn, type_of_int, type_of_raw}
-use Rattle.mr_script.specs.Script.{Done, IllFormed, run, ◌>>=◌}
+use Rattle.mr_base.specs.Script.{Done, IllFormed, run, ◌>>=◌}
 use Rattle.mr_plan.specs.Machine.{Bare, settled, thread_of}
 use Rattle.mr_plan.specs.Notes.{start_notes}
 use Rattle.mr_plan.specs.Queries.{answer}

@@ -7,9 +7,7 @@ ghost use Rattle.mr_event.specs.Predicted.{predicted};
 use crate::orders::run_of;
 use mr_event::{Footprint, OutOfMemory, Pair, predicted_plain};
 use mr_sched::{Entry, Items, Schedule};
-use mr_short::short;
-use mr_shuffle::shuffle;
-use mr_witness::witness;
+use mr_witness::{short, shuffle, witness};
 use std::alloc::Global;
 use std::test::Fail;
 

@@ -9,9 +9,9 @@ use Rattle.mr_input.specs.declared.refusal.Refusal.TheVariants as refusal
 use Rattle.mr_input.specs.declared.written.Written.{Written}
 use Rattle.mr_input.specs.Answer.{Tells, refused, told}
 use Rattle.mr_input.proofs.InputLaws.{less, longer}
-use Rattle.mr_thread_order.specs.Orders.{order_of}
+use Rattle.mr_fill.specs.Orders.{order_of}
 use Rattle.mr_fill.specs.Told.{texts_from, texts_of}
-use Rattle.mr_thread_order.specs.declared.order.Turn.{Turn}
+use Rattle.mr_fill.specs.declared.order.Turn.{Turn}
 use Rattle.mr_fill.specs.declared.told.FilledText.{FilledText}
 use Rattle.mr_show.specs.declared.form.Filling.{Filling}
 use Rattle.mr_show.specs.Filled.{filled_answer, order_answer, order_in, unless_bad}

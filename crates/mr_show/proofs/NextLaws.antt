@@ -16,8 +16,8 @@ use Rattle.mr_input.specs.Answer.{Answer, Tells, refused}
 use Rattle.mr_answer.specs.Answers.{line_at}
 use Rattle.mr_answer.specs.Running.{refusal_by}
 use Rattle.mr_next.specs.Reached.{GoesTo, IsCulprit, IsOfStart, placed_of}
-use Rattle.mr_outlook.specs.Texts.{broken_text}
-use Rattle.mr_outlook.specs.declared.broken.Broken.{Broken}
+use Rattle.mr_next.specs.Texts.{broken_text}
+use Rattle.mr_next.specs.declared.broken.Broken.{Broken}
 use Rattle.mr_next.specs.declared.reaching.Reached.{Reached}
 use Rattle.mr_show.specs.Next.{entry_told, fault_told, front_answer, next_answer, next_from, next_status, reached_answer}
 use Rattle.mr_show.specs.Next.{threads_told}

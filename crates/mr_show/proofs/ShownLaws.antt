@@ -30,7 +30,7 @@ use Rattle.mr_told.specs.declared.rows.Allocation.{Allocation}
 use Rattle.mr_told.specs.declared.step.ToldStep.{ToldStep}
 use Rattle.mr_show.specs.declared.form.Part.{Part}
 use Rattle.mr_show.specs.declared.form.Saying.{Saying}
-use Rattle.mr_spoken.specs.Spoken.{spoken_of}
+use Rattle.mr_telling.specs.Spoken.{spoken_of}
 use Rattle.mr_show.specs.Answer.{answer_under, file_answer, part_answer, part_steps}
 use Rattle.mr_show.specs.Answer.{program_answer, ran_answer, run_rows, run_seen}
 use Rattle.mr_show.specs.Gathered.{gathered, lexemes_in}

@@ -1,7 +1,7 @@
 -- The words behind the program's name.
 use Rattle.std.specs.Prelude.{ℕ, ◌-◌, ◌^◌, List, [], ◌∷◌, Option, None, Some, bytes_eq, codes, if◌then◌else◌}
 use Rattle.std.specs.Option.{option_map}
-use Rattle.mr_arrows.specs.declared.span.Span.{Span}
+use Rattle.mr_picture.specs.declared.span.Span.{Span}
 use Rattle.mr_input.specs.Numbers.{number_below}
 use Rattle.mr_show.specs.declared.form.Form.{Form as Words}
 use Rattle.mr_show.specs.declared.form.Form.TheVariants as words

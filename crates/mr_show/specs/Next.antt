@@ -23,10 +23,10 @@ use Rattle.mr_listing.specs.Spots.{stand_text}
 use Rattle.mr_next.specs.Culprits.{culprit_of}
 use Rattle.mr_next.specs.Prospects.{prospects_in}
 use Rattle.mr_next.specs.Reached.{legal_front}
-use Rattle.mr_outlook.specs.Texts.{broken_text, threads_text}
-use Rattle.mr_outlook.specs.declared.broken.Broken.{Broken}
-use Rattle.mr_outlook.specs.declared.prospect.Position.{Position}
-use Rattle.mr_outlook.specs.declared.prospect.Prospect.{Prospect}
+use Rattle.mr_next.specs.Texts.{broken_text, threads_text}
+use Rattle.mr_next.specs.declared.broken.Broken.{Broken}
+use Rattle.mr_next.specs.declared.prospect.Position.{Position}
+use Rattle.mr_next.specs.declared.prospect.Prospect.{Prospect}
 use Rattle.mr_show.specs.Gathered.{laid_in}
 use Rattle.mr_show.specs.Sentences.{sentence_of}
 

@@ -1,8 +1,8 @@
 -- An entry that breaks a rule, as the code tells it.
 use Rattle.std.specs.Prelude.{ℕ, ◌-◌, List, [], Option, None, Some, slice_get}
 use Rattle.mr_sched.specs.declared.schedule.Entry.{Entry}
-use Rattle.mr_outlook.specs.Texts.{broken_text}
-use Rattle.mr_outlook.specs.declared.broken.Broken.{Broken}
+use Rattle.mr_next.specs.Texts.{broken_text}
+use Rattle.mr_next.specs.declared.broken.Broken.{Broken}
 use Rattle.mr_show.specs.Sentences.{sentence_of}
 
 abbrev pub entry_lines : Broken → Option Entry → List ℕ

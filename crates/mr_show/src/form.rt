@@ -4,8 +4,8 @@ ghost use Rattle.std.specs.Option.{option_map};
 ghost use Rattle.mr_input.specs.Numbers.{number_below};
 ghost use Rattle.mr_show.specs.Form.{asked, form_of, help_of, part_of, span_of, spanned, whole_of, why_of, Why};
 
-use mr_arrows::Span;
 use mr_input::number_below;
+use mr_picture::Span;
 
 /// What is shown of a run that was taken to its end.
 #[derive(Clone, Copy)]

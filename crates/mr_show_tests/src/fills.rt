@@ -1,7 +1,6 @@
 //! Which schedule an order becomes.
-use mr_fill::{Filled, fill, push_halt};
+use mr_fill::{Filled, fill, push_halt, read_order};
 use mr_sched::print;
-use mr_thread_order::read_order;
 use mr_wf::{Checked, well_formed};
 use std::alloc::Global;
 use std::test::Fail;

@@ -2,8 +2,7 @@
 ghost use Rattle.std.specs.Prelude.{◌≡◌, ◌≤◌, ◌^◌, IfOk, false, length};
 
 use crate::fills::{ALONE, LOCK, checked};
-use mr_next::{Reached, prospects, reach};
-use mr_outlook::{push_broken, push_prospects};
+use mr_next::{Reached, prospects, push_broken, push_prospects, reach};
 use mr_sched::Schedule;
 use mr_wf::Checked;
 use std::alloc::Global;

@@ -1,6 +1,6 @@
 //! What the text of an order spells.
+use mr_fill::{Turn, read_order};
 use mr_sched::SchedFault;
-use mr_thread_order::{Turn, read_order};
 use std::alloc::Global;
 use std::test::Fail;
 

@@ -15,8 +15,8 @@ use Rattle.mr_layout.specs.Sizes.{align_of, size_of}
 use Rattle.mr_mem.proofs.RangeLaws.{ranges-empty}
 use Rattle.mr_mem.specs.Memory.{Allocation, Memory, Ranges, allocated, range_fault, ranges_of}
 use Rattle.mr_sched.specs.declared.schedule.Ask.TheVariants.{Address}
-use Rattle.mr_script.specs.Script.{Outcome, Went, on}
-use Rattle.mr_script.proofs.SwapRuns.{same_state, same_value}
+use Rattle.mr_base.specs.Script.{Outcome, Went, on}
+use Rattle.mr_base.proofs.ScriptSwaps.{same_state, same_value}
 use Rattle.mr_wf.specs.Walk.{WellFormed}
 use Rattle.mr_eval.specs.MemoryQueries.{pointer_to}
 use Rattle.mr_eval.specs.Tally.{start_tally}

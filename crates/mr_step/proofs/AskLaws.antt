@@ -6,7 +6,7 @@ use Rattle.mr_base.specs.declared.reason.Verdict.TheVariants.{Running}
 use Rattle.mr_plan.specs.Machine.{State, needed, needs, needs_of}
 use Rattle.mr_plan.specs.Notes.{start_notes}
 use Rattle.mr_plan.specs.Queries.{answer}
-use Rattle.mr_script.specs.Script.{run}
+use Rattle.mr_base.specs.Script.{run}
 use Rattle.mr_frame.specs.declared.look.Look.{Look as KeptLook}
 use Rattle.mr_frame.specs.Kept.{look_of}
 use Rattle.mr_thread.specs.Steps.{Own, own_step, thread_step}

@@ -12,7 +12,7 @@ use Rattle.mr_eval.specs.World.{tally_of, world_of}
 use Rattle.mr_eval.specs.declared.scene.Scene.{Scene}
 use Rattle.mr_mem.specs.Memory.{Memory}
 use Rattle.mr_sched.specs.declared.schedule.Entry.{Entry}
-use Rattle.mr_script.specs.Script.{Outcome, Refused}
+use Rattle.mr_base.specs.Script.{Outcome, Refused}
 use Rattle.mr_sync.specs.Tables.{Tables}
 use Rattle.mr_plan.specs.Legal.{Fault}
 use Rattle.mr_plan.specs.Machine.{Aborts, Bare, Completed, Exits, Flow as Ways, Goes, IllFormedStep, Language, State, Stops, Thread, settle, settled, started_threads, thread_of}

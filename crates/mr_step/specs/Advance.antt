@@ -5,7 +5,7 @@ use Rattle.mr_base.specs.declared.reason.Verdict.TheVariants.{Running, Undefined
 use Rattle.mr_eval.specs.declared.scene.Scene.{Scene}
 use Rattle.mr_mem.specs.Memory.{Memory}
 use Rattle.mr_sched.specs.declared.schedule.Entry.{Entry}
-use Rattle.mr_script.specs.Script.{Outcome, Refused}
+use Rattle.mr_base.specs.Script.{Outcome, Refused}
 use Rattle.mr_sync.specs.Tables.{IsEnabled, Tables}
 use Rattle.mr_plan.specs.Legal.{Fault}
 use Rattle.mr_plan.specs.Notes.{Notes, start_notes}

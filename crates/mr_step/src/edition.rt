@@ -3,10 +3,9 @@ ghost use Rattle.std.specs.Prelude.{◌≡◌, ◌++◌, OnOk};
 ghost use Rattle.mr_plan.specs.Notes.{whole_store, whole_stores};
 ghost use Rattle.mr_step.specs.Settling.{completed};
 
-use mr_base::{Access, AllocId};
+use mr_base::{Access, Accesses, AllocId};
 use mr_eval::Scene;
 use mr_mem::Memory;
-use mr_track::Accesses;
 use std::alloc::AllocError;
 
 // A store of all bytes of an allocation, where it has one.

@@ -7,12 +7,11 @@ ghost use Rattle.mr_turn.specs.declared.deed.Deed.{Deed as DeedOf};
 ghost use Rattle.mr_turn.specs.Turning.{is_end as is_ending};
 ghost use Rattle.mr_step.specs.Settling.{foot_by, verdict_in};
 
-use mr_base::{Reason, Verdict};
+use mr_base::{Accesses, Reason, Verdict, some_race};
 use mr_eval::Scene;
 use mr_event::{Latest, Step, wakes};
 use mr_frame::Flow;
 use mr_sync::SyncTable;
-use mr_track::{Accesses, some_race};
 use mr_turn::Deed;
 use std::alloc::{AllocError, Global};
 

@@ -2,9 +2,9 @@
 use Rattle.std.proofs.Common.{◌≡◌, ◌≢◌, ℕ, ◌<◌, refl, sym, ap, ◌∙◌, append-nil, List, [], ◌∷◌, ◌++◌, length, arith, Option, Some, None}
 use Rattle.std.specs.Prelude.{slice_get, slice_set}
 use Rattle.std.proofs.lemmas.List.{length-set, set-append_left, set_comm}
-use Rattle.mr_script.specs.Script.{◌>>=◌, Outcome, Went, Refused, Broken, on, run}
-use Rattle.mr_script.proofs.Runs.{run_bind}
-use Rattle.mr_script.proofs.SwapRuns.{goes_on}
+use Rattle.mr_base.specs.Script.{◌>>=◌, Outcome, Went, Refused, Broken, on, run}
+use Rattle.mr_base.proofs.ScriptRuns.{run_bind}
+use Rattle.mr_base.proofs.ScriptSwaps.{goes_on}
 use Rattle.mr_plan.specs.Machine.{Aborts, Completed, Exits, Flow, Goes, Language, Needs, Plan, State, Thread, acted, bare, needed, needs, needs_of, settle, settled, started_threads, thread_of}
 use Rattle.mr_plan.specs.Notes.{Notes, start_notes}
 use Rattle.mr_plan.specs.Queries.{Shared, StepScript, answer}

@@ -6,7 +6,7 @@ use Rattle.mr_base.specs.declared.reason.Reason.{Reason}
 use Rattle.mr_base.specs.declared.reason.Reason.TheVariants.{NotHolder, UnknownLock}
 use Rattle.mr_base.specs.declared.thread.Event.TheVariants.{Acquire, Join, Release}
 use Rattle.mr_base.specs.declared.thread.Status.TheVariants.{Enabled}
-use Rattle.mr_script.specs.Script.{Outcome, Went, Broken}
+use Rattle.mr_base.specs.Script.{Outcome, Went, Broken}
 use Rattle.mr_sync.specs.Tables.{Tables, any_waits, awaiting, handed, holding, on_lock, trying, waits}
 use Rattle.mr_plan.specs.Notes.{Notes}
 use Rattle.mr_plan.specs.Queries.{Shared, giving, going, note, tables_of, telling, with_tables, woke}

@@ -6,8 +6,8 @@ use Rattle.mr_base.specs.declared.thread.Event.TheVariants.{Acquire, CreateLock,
 use Rattle.mr_base.specs.declared.thread.Status.{Status}
 use Rattle.mr_base.specs.declared.thread.Status.TheVariants.{Enabled, OnJoin, OnLock}
 use Rattle.mr_mem.specs.Memory.{Memory}
-use Rattle.mr_script.specs.Script.{Done, Undefined, IllFormed, Ask, Went, run}
-use Rattle.mr_script.proofs.SwapRuns.{goes_on}
+use Rattle.mr_base.specs.Script.{Done, Undefined, IllFormed, Ask, Went, run}
+use Rattle.mr_base.proofs.ScriptSwaps.{goes_on}
 use Rattle.mr_sync.specs.Tables.{any_waits, handed, joiners, over}
 use Rattle.mr_eval.specs.MemoryQueries.{MemoryQuery, MemoryReply, memory_answer}
 use Rattle.mr_eval.specs.Tally.{Tally}

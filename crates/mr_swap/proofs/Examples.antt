@@ -8,7 +8,7 @@ use Rattle.mr_base.specs.declared.thread.Event.TheVariants.{CreateLock}
 use Rattle.mr_base.specs.declared.thread.Status.TheVariants.{Enabled}
 use Rattle.mr_event.specs.Footprints.{depends, wakes}
 use Rattle.mr_mem.specs.Memory.{Allocation, id_cmp}
-use Rattle.mr_script.specs.Script.{Ask, Done, Went, run}
+use Rattle.mr_base.specs.Script.{Ask, Done, Went, run}
 use Rattle.mr_plan.specs.Machine.{Aborts, Completed, CreatesLock, CreatesNothing, Exits, Flow, Goes, Language, Plan, State, bare, thread_of}
 use Rattle.mr_plan.specs.Notes.{Notes, accesses_in, start_notes}
 use Rattle.mr_plan.specs.Queries.{NewLock, Print, Shared, StepScript, answer, note}

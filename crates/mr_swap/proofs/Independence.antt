@@ -9,7 +9,7 @@ use Rattle.mr_base.specs.declared.thread.Event.TheVariants.{Join, Spawn}
 use Rattle.mr_mem.specs.Memory.{Allocation}
 use Rattle.mr_event.specs.Footprints.{depends, spawns, wakes}
 use Rattle.mr_event.specs.Footprint.{Footprint}
-use Rattle.mr_script.proofs.SwapRuns.{Apart}
+use Rattle.mr_base.proofs.ScriptSwaps.{Apart}
 use Rattle.mr_plan.specs.Notes.{Notes, foot_of}
 use Rattle.mr_plan.specs.Places.{ByteAt, Covers, HeaderOf, StoresAt}
 use Rattle.mr_plan.specs.Queries.{Query, Reply, Shared, answer}

@@ -9,8 +9,8 @@ use Rattle.mr_base.specs.declared.thread.Event.TheVariants.{Acquire, CreateLock,
 use Rattle.mr_base.specs.declared.thread.Status.{Status}
 use Rattle.mr_base.specs.declared.thread.Status.TheVariants.{Enabled, Ended, OnJoin, OnLock}
 use Rattle.mr_mem.specs.Memory.{Memory}
-use Rattle.mr_script.specs.Script.{Went, on}
-use Rattle.mr_script.proofs.SwapRuns.{IsLocal, goes_on}
+use Rattle.mr_base.specs.Script.{Went, on}
+use Rattle.mr_base.proofs.ScriptSwaps.{IsLocal, goes_on}
 use Rattle.mr_sync.specs.Tables.{any_waiting, any_waits, handed, joiners, on_join, on_lock, over, wake}
 use Rattle.mr_eval.specs.MemoryQueries.{MemoryQuery, memory_answer}
 use Rattle.mr_eval.specs.Tally.{Tally}

@@ -7,7 +7,7 @@ use Rattle.mr_base.specs.declared.thread.Event.{Event}
 use Rattle.mr_base.specs.declared.thread.Event.TheVariants.{Acquire, CreateLock, Join, Release, Spawn}
 use Rattle.mr_base.specs.declared.thread.Status.{Status}
 use Rattle.mr_base.specs.declared.thread.Status.TheVariants.{Enabled}
-use Rattle.mr_script.proofs.SwapRuns.{IsGrowing, IsKept}
+use Rattle.mr_base.proofs.ScriptSwaps.{IsGrowing, IsKept}
 use Rattle.mr_plan.specs.Notes.{Notes}
 use Rattle.mr_plan.specs.Queries.{Query, Reply, Shared, answer}
 use Rattle.mr_plan.proofs.ListPlaces.{same_by_places}

@@ -1,7 +1,7 @@
 -- What is known behind a script with which a step begins: of memory, and of the statuses of threads.
 use Rattle.std.proofs.Common.{◌≡◌, ℕ}
 use Rattle.mr_mem.specs.Memory.{Memory}
-use Rattle.mr_script.specs.Script.{Went, run}
+use Rattle.mr_base.specs.Script.{Went, run}
 use Rattle.mr_plan.specs.Notes.{Notes, start_notes}
 use Rattle.mr_plan.specs.Queries.{Shared, StepScript, answer}
 use Rattle.mr_plan.proofs.MemoryFacts.{MemoryFacts, memory_facts, start_facts}

@@ -6,8 +6,8 @@ use Rattle.mr_base.specs.declared.thread.Status.TheVariants.{Enabled}
 use Rattle.mr_event.specs.Footprints.{depends, wakes}
 use Rattle.mr_mem.specs.Memory.{ranges_of}
 use Rattle.mr_sched.specs.declared.schedule.Ask.TheVariants.{Waiter}
-use Rattle.mr_script.specs.Script.{Went, run}
-use Rattle.mr_script.proofs.SwapRuns.{Apart, Follows, Grows, Swapped, follows, frame, grows, swap}
+use Rattle.mr_base.specs.Script.{Went, run}
+use Rattle.mr_base.proofs.ScriptSwaps.{Apart, Follows, Grows, Swapped, follows, frame, grows, swap}
 use Rattle.mr_sync.specs.Tables.{on_lock}
 use Rattle.mr_plan.specs.Legal.{count_of, state_fault}
 use Rattle.mr_plan.specs.Machine.{Completed, Creation, CreatesLock, CreatesNothing, CreatesThread, Goes, Language, Needs, State, Thread, bare, needs}

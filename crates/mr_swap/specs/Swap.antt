@@ -9,7 +9,7 @@ use Rattle.mr_mem.specs.Memory.{Allocation}
 use Rattle.mr_event.specs.Footprints.{depends, wakes}
 use Rattle.mr_sched.specs.declared.schedule.Ask.{Ask}
 use Rattle.mr_sched.specs.declared.schedule.Ask.TheVariants.{Address, Waiter}
-use Rattle.mr_script.specs.Script.{Went, run}
+use Rattle.mr_base.specs.Script.{Went, run}
 use Rattle.mr_plan.specs.Legal.{state_fault}
 use Rattle.mr_plan.specs.Machine.{Completed, Creation, CreatesLock, CreatesNothing, CreatesThread, Flow, Goes}
 use Rattle.mr_plan.specs.Machine.{Language, Plan, State, Thread, bare}

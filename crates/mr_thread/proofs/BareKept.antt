@@ -6,8 +6,8 @@ use Rattle.mr_ast.specs.declared.program.Program.{Program}
 use Rattle.mr_base.specs.declared.thread.Status.{Status}
 use Rattle.mr_base.specs.declared.thread.Status.TheVariants.{Enabled, Ended, OnJoin, OnLock}
 use Rattle.mr_wf.specs.Walk.{WellFormed}
-use Rattle.mr_script.specs.Script.{Outcome, Went, Refused, Broken, on, run}
-use Rattle.mr_script.proofs.Runs.{run_bind}
+use Rattle.mr_base.specs.Script.{Outcome, Went, Refused, Broken, on, run}
+use Rattle.mr_base.proofs.ScriptRuns.{run_bind}
 use Rattle.mr_eval.specs.Tally.{start_tally}
 use Rattle.mr_plan.specs.Legal.{count_of, needs_fault, state_fault, status_fault}
 use Rattle.mr_plan.specs.Machine.{Aborts, Bare, Completed, Exits, Goes, IllFormedStep, Plan, State, Stops, Thread, acted, bare, needs, needed, needs_of, settled}

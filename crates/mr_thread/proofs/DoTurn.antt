@@ -26,7 +26,7 @@ use Rattle.mr_wf.specs.Intrinsics.{fits_intrinsic, gives}
 use Rattle.mr_wf.specs.Operands.{is_fn_ptr, is_raw}
 use Rattle.mr_wf.specs.Walk.{WellFormed}
 use Rattle.mr_wf.proofs.KindLaws.{fn_ptr_is, raw_is}
-use Rattle.mr_script.specs.Script.{Done, Undefined, on, run}
+use Rattle.mr_base.specs.Script.{Done, Undefined, on, run}
 use Rattle.mr_eval.specs.Tally.{start_tally}
 use Rattle.mr_eval.specs.Shapes.{HaveShapes}
 use Rattle.mr_sync.specs.Sound.{IsSoundTables}

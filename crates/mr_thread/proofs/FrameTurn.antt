@@ -9,7 +9,7 @@ use Rattle.mr_ast.specs.declared.program.Program.{Program}
 use Rattle.mr_base.specs.declared.thread.Status.{Status}
 use Rattle.mr_base.specs.declared.thread.Status.TheVariants.{Enabled, Ended, OnJoin, OnLock}
 use Rattle.mr_wf.specs.Walk.{WellFormed}
-use Rattle.mr_script.specs.Script.{Done, Undefined, IllFormed, Ask, Went, Broken, on, run}
+use Rattle.mr_base.specs.Script.{Done, Undefined, IllFormed, Ask, Went, Broken, on, run}
 use Rattle.mr_eval.specs.MemoryQueries.{MemoryScript}
 use Rattle.mr_eval.specs.Reads.{ReadScript}
 use Rattle.mr_eval.specs.Sound.{IsSafe}

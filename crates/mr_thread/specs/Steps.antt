@@ -9,7 +9,7 @@ use Rattle.mr_base.specs.declared.byte.Pointer.{Pointer}
 use Rattle.mr_base.specs.declared.reason.Reason.TheVariants.{NoPayload, NotAFunction, SignatureMismatch}
 use Rattle.mr_value.specs.declared.val.Val.{Val}
 use Rattle.mr_value.specs.declared.val.Val.TheVariants as val
-use Rattle.mr_script.specs.Script.{Done, Undefined, IllFormed, Ask, ◌>>=◌}
+use Rattle.mr_base.specs.Script.{Done, Undefined, IllFormed, Ask, ◌>>=◌}
 use Rattle.mr_eval.specs.MemoryQueries.{MemoryScript, reading_part}
 use Rattle.mr_eval.specs.Reads.{ReadScript}
 use Rattle.mr_plan.specs.Machine as machine

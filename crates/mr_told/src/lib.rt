@@ -7,8 +7,8 @@
 //! - [`start_rows`], [`push_rows`]: the allocations of the start and of a step, each with its identity, its range and its
 //!   name ([`Allocation`], [`Name`]).
 //! - [`Allocations`]: all of a run as a table, which finds the one that holds an address in the time of a search.
-//!
 //! - [`Allocations::named`]: the allocation of an identity.
+//! - [`Reached`], [`Reaching`]: what an undefined step speaks of: bytes from a pointer on, and what it does with them.
 //!
 //! `specs/Names.antt` says by which name an allocation goes, `specs/Table.antt` which allocations a run has. Proved: each
 //! call answers exactly what these say, and want of memory is its only error.
@@ -18,11 +18,13 @@ mod allocations;
 mod index;
 mod lookup;
 mod names;
+mod reached;
 mod rows;
 mod step;
 
 pub use allocations::Allocations;
 pub use names::{Name, made_names};
+pub use reached::{Reached, Reaching};
 pub use rows::{Allocation, push_rows, start_rows};
 pub use std::alloc::AllocError as OutOfMemory;
 pub use step::{Rest, Stand, ToldStep};

@@ -12,7 +12,7 @@ use Rattle.mr_mem.specs.Memory.{Memory}
 use Rattle.mr_sched.specs.declared.schedule.Ask.{Ask}
 use Rattle.mr_sched.specs.declared.schedule.Ask.TheVariants.{Address}
 use Rattle.mr_value.specs.declared.val.Val.{Val}
-use Rattle.mr_script.specs.Script.{Went, Refused, on, run}
+use Rattle.mr_base.specs.Script.{Went, Refused, on, run}
 use Rattle.mr_sync.specs.Tables.{Tables}
 use Rattle.mr_eval.specs.Reads.{Seen}
 use Rattle.mr_plan.specs.Machine.{CreatesThread, needs_of, no_needs}

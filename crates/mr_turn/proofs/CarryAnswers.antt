@@ -3,7 +3,7 @@ use Rattle.std.proofs.Common.{◌≡◌, ℕ, refl, sym, ap, ap₂, ◌∙◌, s
 use Rattle.mr_ast.specs.declared.program.Intrinsic.{Intrinsic}
 use Rattle.mr_base.specs.declared.reason.Reason.{Reason}
 use Rattle.mr_mem.specs.declared.fault.Fault.{Fault as MemoryFault}
-use Rattle.mr_script.specs.Script.{Outcome, Refused, run}
+use Rattle.mr_base.specs.Script.{Outcome, Refused, run}
 use Rattle.mr_sync.specs.Tables.{Tables}
 use Rattle.mr_eval.specs.World.{world_of}
 use Rattle.mr_eval.specs.declared.scene.Scene.{Scene}

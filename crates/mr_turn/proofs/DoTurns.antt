@@ -3,8 +3,8 @@ use Rattle.std.proofs.Common.{◌≡◌, ℕ, refl, sym, ap, ◌∙◌, List, Op
 use Rattle.mr_ast.specs.declared.program.Intrinsic.{Intrinsic}
 use Rattle.mr_ast.specs.declared.program.Intrinsic.TheVariants as intrinsic
 use Rattle.mr_value.specs.declared.val.Val.{Val}
-use Rattle.mr_script.specs.Script.{Done, ◌>>=◌, Outcome, Went, Refused, Broken, on, run}
-use Rattle.mr_script.proofs.Runs.{run_bind}
+use Rattle.mr_base.specs.Script.{Done, ◌>>=◌, Outcome, Went, Refused, Broken, on, run}
+use Rattle.mr_base.proofs.ScriptRuns.{run_bind}
 use Rattle.mr_eval.specs.MemoryQueries.{reading_part}
 use Rattle.mr_eval.specs.Reads.{Seen}
 use Rattle.mr_eval.specs.Tally.{seen_of, with_seen}

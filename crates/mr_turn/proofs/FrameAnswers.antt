@@ -5,7 +5,7 @@ use Rattle.mr_mem.specs.Memory.{Memory, ranges_of}
 use Rattle.mr_mem.specs.declared.fault.Fault.{Fault as MemoryFault}
 use Rattle.mr_mem.specs.declared.fault.Fault.TheVariants as memory_fault
 use Rattle.mr_sched.specs.declared.schedule.Ask.{Ask}
-use Rattle.mr_script.specs.Script.{Outcome, Went, Refused, Broken, run}
+use Rattle.mr_base.specs.Script.{Outcome, Went, Refused, Broken, run}
 use Rattle.mr_sync.specs.Tables.{Tables}
 use Rattle.mr_eval.specs.MemoryQueries.{MemoryScript}
 use Rattle.mr_eval.specs.Reads.{Seen, reading}

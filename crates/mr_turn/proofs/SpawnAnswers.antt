@@ -25,7 +25,7 @@ use Rattle.mr_value.proofs.ShapeLaws.{has_int, shape_fn_ptr}
 use Rattle.mr_wf.specs.Intrinsics.{fits_intrinsic, gives}
 use Rattle.mr_wf.specs.Operands.{is_fn_ptr, is_raw}
 use Rattle.mr_wf.proofs.KindLaws.{fn_ptr_is, raw_is}
-use Rattle.mr_script.specs.Script.{Went, Refused, on, run}
+use Rattle.mr_base.specs.Script.{Went, Refused, on, run}
 use Rattle.mr_sync.specs.Tables.{Tables, spawned}
 use Rattle.mr_eval.specs.Shapes.{HaveShapes}
 use Rattle.mr_eval.specs.World.{tally_of, world_of}

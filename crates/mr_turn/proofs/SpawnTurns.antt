@@ -10,7 +10,7 @@ use Rattle.mr_base.specs.declared.reason.Reason.TheVariants.{NotAFunction, Signa
 use Rattle.mr_base.specs.declared.thread.Event.TheVariants.{Spawn}
 use Rattle.mr_value.specs.declared.val.Val.{Val}
 use Rattle.mr_value.specs.declared.val.Val.TheVariants as val
-use Rattle.mr_script.specs.Script.{Done, Undefined, Ask, ◌>>=◌, Went, Refused, on, run}
+use Rattle.mr_base.specs.Script.{Done, Undefined, Ask, ◌>>=◌, Went, Refused, on, run}
 use Rattle.mr_sync.specs.Tables.{spawned}
 use Rattle.mr_plan.specs.Machine.{CreatesThread, Plan}
 use Rattle.mr_plan.specs.Notes.{Notes}

@@ -1,8 +1,8 @@
 -- A step of a thread stays one of that thread.
 use Rattle.std.proofs.Common.{◌≡◌, ℕ, List, refl, sym, ap, ◌∙◌}
 use Rattle.mr_mem.specs.Memory.{Memory}
-use Rattle.mr_script.specs.Script.{Done, Undefined, IllFormed, Ask, ◌>>=◌, Outcome, Went, Refused, Broken, on, run}
-use Rattle.mr_script.proofs.SwapRuns.{same_state}
+use Rattle.mr_base.specs.Script.{Done, Undefined, IllFormed, Ask, ◌>>=◌, Outcome, Went, Refused, Broken, on, run}
+use Rattle.mr_base.proofs.ScriptSwaps.{same_state}
 use Rattle.mr_eval.specs.MemoryQueries.{MemoryScript, memory_answer, reading_part}
 use Rattle.mr_eval.specs.Tally.{Tally}
 use Rattle.mr_plan.proofs.TallyGrows.{tally_grows}

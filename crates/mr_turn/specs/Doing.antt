@@ -24,7 +24,7 @@ use Rattle.mr_frame.specs.declared.flow.Flow.TheVariants as flow
 use Rattle.mr_turn.specs.declared.deed.Deed.{Deed}
 use Rattle.mr_base.specs.declared.thread.Event.{Event}
 use Rattle.mr_base.specs.declared.thread.Event.TheVariants.{Quiet, Spawn}
-use Rattle.mr_script.specs.Script.{Outcome, Refused, Went, run, ◌>>=◌}
+use Rattle.mr_base.specs.Script.{Outcome, Refused, Went, run, ◌>>=◌}
 use Rattle.mr_eval.specs.World.{World, world_of}
 use Rattle.mr_turn.specs.declared.deed.TurnFault.{TurnFault}
 use Rattle.mr_turn.specs.declared.deed.TurnFault.TheVariants as answer

@@ -8,7 +8,7 @@ use Rattle.mr_mem.specs.Memory.{ranges_of}
 use Rattle.mr_sched.specs.declared.schedule.Ask.{Ask}
 use Rattle.mr_mem.specs.declared.fault.Fault.{Fault as MemoryFault}
 use Rattle.mr_mem.specs.declared.fault.Fault.TheVariants as memory_fault
-use Rattle.mr_script.specs.Script.{Outcome, Refused, Went, run, ◌>>=◌}
+use Rattle.mr_base.specs.Script.{Outcome, Refused, Went, run, ◌>>=◌}
 use Rattle.mr_sync.specs.Tables.{IsEnabled, Tables, ended}
 use Rattle.mr_eval.specs.Tally.{start_tally}
 use Rattle.mr_eval.specs.World.{tally_of}

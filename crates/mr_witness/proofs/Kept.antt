@@ -19,7 +19,7 @@ use Rattle.mr_start.specs.Runs.{Legal, run_of, steps_of}
 use Rattle.mr_start.specs.Start.{look_of, start_config}
 use Rattle.mr_start.proofs.StartSound.{start_look, start_sound}
 use Rattle.mr_swap.specs.Swap.{IsSane, SwapLaw}
-use Rattle.mr_tells.proofs.Sane.{sound_is_sane}
+use Rattle.mr_exchange.proofs.Sane.{sound_is_sane}
 use Rattle.mr_exchange.proofs.Exchanged.{NotesThread}
 use Rattle.mr_exchange.proofs.Law.{law_of, thread_noted}
 use Rattle.mr_exchange.specs.Witness.{IsWitness, kept_schedule, schedule_at}

@@ -1,7 +1,19 @@
+pub mod Boards
 pub mod Chosen
+pub mod Copied
+pub mod Drawn
+pub mod EveryOrder
+mod Examples
+pub mod Fewer
 pub mod Kept
 pub mod Lists
 pub mod Moves
+pub mod Needed
+pub mod OrderMoves
+pub mod OrderReplayed
 pub mod Recorded
+pub mod RecordedPlaces
 pub mod Replayed
+pub mod ShortChosen
 pub mod Shown
+pub mod Witness

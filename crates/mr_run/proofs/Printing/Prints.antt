@@ -6,8 +6,8 @@ use Rattle.std.proofs.lemmas.List.Elements.{All-push}
 use Rattle.mr_base.specs.declared.reason.Reason.{Reason}
 use Rattle.mr_base.specs.declared.thread.Event.{Event}
 use Rattle.mr_base.specs.declared.thread.Event.TheVariants.{Acquire, Join, Release}
-use Rattle.mr_script.specs.Script.{Ask, Broken, Done, IllFormed, Undefined, Went, run, ◌>>=◌}
-use Rattle.mr_script.proofs.SwapRuns.{goes_on}
+use Rattle.mr_base.specs.Script.{Ask, Broken, Done, IllFormed, Undefined, Went, run, ◌>>=◌}
+use Rattle.mr_base.proofs.ScriptSwaps.{goes_on}
 use Rattle.mr_sync.specs.Tables.{Tables, acquired, any_waits, ended, holding, joined, released}
 use Rattle.mr_eval.specs.MemoryQueries.{MemoryScript, memory_answer, reading_part}
 use Rattle.mr_eval.specs.Reads.{ReadScript}

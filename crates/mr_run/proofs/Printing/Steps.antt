@@ -23,7 +23,7 @@ use Rattle.mr_value.specs.declared.val.Val.TheVariants as val
 use Rattle.mr_value.specs.declared.val.Val.TheOpen.{Val-F}
 use Rattle.mr_value.specs.Discriminants.{number_of_bits}
 use Rattle.mr_value.specs.Numbers.{number_of}
-use Rattle.mr_script.specs.Script.{Ask, Done, IllFormed, Undefined, ◌>>=◌}
+use Rattle.mr_base.specs.Script.{Ask, Done, IllFormed, Undefined, ◌>>=◌}
 use Rattle.mr_eval.specs.MemoryQueries.{Allocate, MemoryScript, reading_part}
 use Rattle.mr_eval.specs.Operators.{or_ill_formed, pointer_in}
 use Rattle.mr_eval.specs.Reads.{ReadScript}

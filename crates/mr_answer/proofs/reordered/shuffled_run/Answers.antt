@@ -1,7 +1,7 @@
 use Rattle.std.proofs.Common.{◌≤◌, ◌+◌, ◌∙◌, List, ap, arith, length, subst, sym}
 use Rattle.mr_event.specs.Footprint.{Footprint}
 use Rattle.mr_event.specs.Predicted.{predicted}
-use Rattle.mr_shuffle.specs.Shuffled.{shuffled}
+use Rattle.mr_witness.specs.Shuffled.{shuffled}
 use Rattle.mr_run.proofs.StepCount.{steps_within, steps_without_last}
 use Rattle.mr_answer.specs.declared.formats.Format.TheVariants.{Text}
 use Rattle.mr_input.specs.Answer.{Answer, Tells}

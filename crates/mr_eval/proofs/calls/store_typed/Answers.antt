@@ -2,7 +2,7 @@ use Rattle.std.proofs.Common.{◌++◌, ◌≡◌, ap, subst, sym, take, ◌∙�
 use Rattle.mr_layout.specs.declared.cache.Layout.{Layout}
 use Rattle.mr_mem.specs.Memory.{Memory}
 use Rattle.mr_runs.specs.Numbers.{with_provenance}
-use Rattle.mr_script.specs.Script.{Outcome}
+use Rattle.mr_base.specs.Script.{Outcome}
 use Rattle.mr_value.specs.Encode.{encoding_of}
 use Rattle.mr_value.specs.Numbers.{Bytes}
 use Rattle.mr_eval.specs.Answers.{seen}

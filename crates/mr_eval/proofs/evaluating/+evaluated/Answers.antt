@@ -1,5 +1,5 @@
 use Rattle.std.proofs.Common.{drop, get_or, refl, sym, ap, ap₂, subst, ◌∙◌, arith, ◌≡◌, Some, ◌+◌, true}
-use Rattle.mr_script.specs.Script.{Went}
+use Rattle.mr_base.specs.Script.{Went}
 use Rattle.mr_eval.specs.Answers.{surround_of, seen}
 use Rattle.mr_eval.specs.Evaluated.{each_valued, valued}
 use Rattle.mr_eval.specs.Sound.{SoundPlace, SoundValue}

@@ -1,6 +1,6 @@
 use Rattle.std.proofs.Common.{◌≡◌, Some, None, sym, ◌∙◌, subst}
 use Rattle.mr_base.specs.declared.reason.Reason.TheVariants.{TransmuteInvalid}
-use Rattle.mr_script.specs.Script.{Outcome}
+use Rattle.mr_base.specs.Script.{Outcome}
 use Rattle.mr_value.specs.Decode.{decoded}
 use Rattle.mr_value.specs.Encode.{encoding_of}
 use Rattle.mr_value.specs.declared.val.Val.{Val}

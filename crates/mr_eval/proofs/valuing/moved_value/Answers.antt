@@ -1,6 +1,6 @@
 use Rattle.std.proofs.Common.{rules, Err}
 use Rattle.std.proofs.lemmas.Result.{err_from_is_err_and}
-use Rattle.mr_script.specs.Script.{run}
+use Rattle.mr_base.specs.Script.{run}
 use Rattle.mr_eval.specs.Answers.{Gives, same, seen}
 use Rattle.mr_eval.specs.Moves.{moved}
 use Rattle.mr_eval.specs.Reads.{reading}

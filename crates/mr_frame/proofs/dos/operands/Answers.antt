@@ -1,6 +1,6 @@
 use Rattle.std.proofs.Common.{sym, subst}
 use Rattle.std.specs.Prelude.{option_copied}
-use Rattle.mr_script.specs.Script.{Outcome}
+use Rattle.mr_base.specs.Script.{Outcome}
 use Rattle.mr_eval.specs.Answers.{seen}
 use Rattle.mr_eval.specs.Environment.{env_surround}
 use Rattle.mr_eval.specs.Reads.{Seen}

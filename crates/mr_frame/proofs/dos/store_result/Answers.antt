@@ -1,7 +1,7 @@
 use Rattle.std.proofs.Common.{◌∙◌, sym, subst, Option}
 use Rattle.std.specs.Prelude.{option_copied}
 use Rattle.mr_base.specs.declared.byte.Pointer.{Pointer}
-use Rattle.mr_script.specs.Script.{Outcome}
+use Rattle.mr_base.specs.Script.{Outcome}
 use Rattle.mr_eval.specs.Environment.{Tells}
 use Rattle.mr_eval.specs.World.{World, world_of}
 use Rattle.mr_frame.specs.Doing.{FitsResult, result_stored}

@@ -1,5 +1,5 @@
 use Rattle.std.proofs.Common.{◌≡◌, ◌++◌, drop}
-use Rattle.mr_script.specs.Script.{Went, on}
+use Rattle.mr_base.specs.Script.{Went, on}
 use Rattle.mr_eval.specs.Answers.{Extends, seen}
 use Rattle.mr_eval.specs.Environment.{env_surround}
 use Rattle.mr_eval.specs.Evaluated.{each_valued}

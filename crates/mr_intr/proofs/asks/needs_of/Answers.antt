@@ -1,6 +1,6 @@
 use Rattle.std.proofs.Common.{None, subst, sym}
 use Rattle.mr_ast.specs.declared.program.Intrinsic.{Intrinsic}
-use Rattle.mr_script.specs.Script.{run}
+use Rattle.mr_base.specs.Script.{run}
 use Rattle.mr_plan.specs.Queries.{answer}
 use Rattle.mr_intr.specs.Effects.{Fits, shared_of}
 use Rattle.mr_intr.specs.Needs.{IsPlanned}

@@ -7,7 +7,7 @@ use Rattle.mr_ast.specs.declared.types.Ty.TheVariants as ty
 use Rattle.mr_base.specs.declared.byte.AbstractByte.{AbstractByte}
 use Rattle.mr_layout.specs.Sizes.{align_of}
 use Rattle.mr_layout.specs.TypeOk.{TypeOk}
-use Rattle.mr_script.specs.Script.{Went}
+use Rattle.mr_base.specs.Script.{Went}
 use Rattle.mr_value.specs.declared.val.Val.TheVariants as val
 use Rattle.mr_value.specs.Encode.{encoding_of}
 use Rattle.mr_value.specs.Shape.{has_shape}

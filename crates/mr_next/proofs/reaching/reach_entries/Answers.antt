@@ -4,7 +4,7 @@ use Rattle.mr_start.specs.Runs.{program_fault}
 use Rattle.mr_step.specs.Answers.{fault_of}
 use Rattle.mr_step.specs.Standing.{Standing}
 use Rattle.std.specs.Prelude.{Some}
-use Rattle.mr_outlook.specs.declared.broken.Broken.{Broken}
+use Rattle.mr_next.specs.declared.broken.Broken.{Broken}
 use Rattle.mr_next.specs.Culprits.{culprit_of}
 use Rattle.mr_next.specs.Reached.{IsReached}
 use Rattle.mr_run.proofs.RunLaws.{left_at}

@@ -1,6 +1,6 @@
 use Rattle.std.proofs.Common.{◌≡◌, subst}
 use Rattle.std.specs.Prelude.{IfOk}
-use Rattle.mr_arrows.specs.declared.span.Span.{Span}
+use Rattle.mr_picture.specs.declared.span.Span.{Span}
 use Rattle.mr_listing.specs.Seen.{seen}
 use Rattle.mr_picture.specs.Picture.{scene_text, tail_of}
 use Rattle.mr_picture.specs.Scene.{scene_of}

@@ -2,8 +2,8 @@ use Rattle.std.proofs.Common.{◌++◌}
 use Rattle.mr_svg.specs.Svg.{mark_text}
 use Rattle.mr_picture.specs.Scene.{scene_in}
 use Rattle.std.specs.Prelude.{flat_map, map}
-use Rattle.mr_arrows.specs.Arrows.{arrows}
-use Rattle.mr_arrows.specs.Span.{races_in, steps_in}
+use Rattle.mr_picture.specs.Arrows.{arrows}
+use Rattle.mr_picture.specs.Span.{races_in, steps_in}
 use Rattle.mr_picture.specs.Lanes.{lane_marks}
 use Rattle.mr_picture.specs.Links.{arrow_mark, race_mark}
 use Rattle.mr_picture.specs.Picture.{round_marks}

@@ -1,5 +1,5 @@
 use Rattle.std.proofs.Common.{◌≡◌, ◌∙◌, List, ap, length, subst, sym}
-use Rattle.mr_arrows.specs.declared.span.Span.{Span}
+use Rattle.mr_picture.specs.declared.span.Span.{Span}
 use Rattle.mr_event.specs.declared.footprint.Pair.{Pair}
 use Rattle.mr_listing.specs.Seen.{Seen, seen}
 use Rattle.std.specs.Prelude.{ℕ, IfOk, Option, slice_get}

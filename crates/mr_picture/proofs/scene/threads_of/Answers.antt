@@ -1,7 +1,7 @@
 use Rattle.std.proofs.Common.{◌≡◌, ◌-◌, ◌∙◌, ap, arith}
 use Rattle.std.specs.List.{filter, range_with_len}
 use Rattle.mr_picture.specs.Scene.{takes_one}
-use Rattle.mr_arrows.proofs.Turns.{joins_tested}
+use Rattle.mr_picture.proofs.Turns.{joins_tested}
 use Rattle.mr_picture.proofs.scene.threads_of.Goals as goal
 
 pub loop-thread-preserved : goal.loop-thread-preserved

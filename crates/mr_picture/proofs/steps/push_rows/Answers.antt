@@ -4,7 +4,7 @@ use Rattle.std.specs.List.{range_with_len}
 use Rattle.mr_svg.specs.Svg.{mark_text}
 use Rattle.mr_picture.specs.Scene.{scene_in}
 use Rattle.mr_picture.specs.Steps.{row_marks}
-use Rattle.mr_arrows.proofs.Turns.{all_met}
+use Rattle.mr_picture.proofs.Turns.{all_met}
 use Rattle.mr_picture.proofs.Marks.{row_behind}
 use Rattle.mr_picture.proofs.steps.push_rows.Goals as goal
 

@@ -8,7 +8,7 @@ use Rattle.mr_told.specs.Table.{step_rows}
 use Rattle.mr_telling.specs.declared.telling.Between.{Between}
 use Rattle.mr_telling.specs.Told.{if_between, told_steps}
 use Rattle.mr_answer.proofs.RunLaws.{refused_read}
-use Rattle.mr_spoken.specs.Spoken.{spoken_of}
+use Rattle.mr_telling.specs.Spoken.{spoken_of}
 use Rattle.mr_show.specs.Answer.{first_rows, part_answer}
 use Rattle.mr_show.specs.Gathered.{gathered}
 use Rattle.mr_show.proofs.ShownLaws.{told_broken, told_run}

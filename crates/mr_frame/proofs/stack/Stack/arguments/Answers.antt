@@ -3,7 +3,7 @@ use Rattle.std.specs.Prelude.{All}
 use Rattle.mr_ast.specs.declared.expr.Place.{Place}
 use Rattle.mr_ast.specs.declared.expr.Value.{Value}
 use Rattle.mr_ast.specs.declared.program.Term.{Term}
-use Rattle.mr_script.specs.Script.{Outcome}
+use Rattle.mr_base.specs.Script.{Outcome}
 use Rattle.mr_eval.specs.Answers.{seen}
 use Rattle.mr_eval.specs.Reads.{Seen}
 use Rattle.mr_eval.specs.World.{TellsBy}

@@ -1,6 +1,6 @@
 use Rattle.std.proofs.Common.{◌≡◌, ◌∷◌, sym, ap, ◌∙◌, subst}
 use Rattle.mr_ast.specs.declared.program.Term.{Term}
-use Rattle.mr_script.specs.Script.{Went}
+use Rattle.mr_base.specs.Script.{Went}
 use Rattle.mr_eval.specs.World.{world_of}
 use Rattle.mr_frame.specs.Frames.{Frame, GoesOn, Stack, at_block}
 use Rattle.mr_frame.specs.Kept.{below_of, frame_of, stack_of}

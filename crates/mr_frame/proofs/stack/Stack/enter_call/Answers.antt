@@ -1,7 +1,7 @@
 use Rattle.std.proofs.Common.{◌∷◌, List, Some, sym, ap, ◌∙◌, subst}
 use Rattle.std.specs.Prelude.{slice_get}
 use Rattle.mr_value.specs.declared.val.Val.{Val}
-use Rattle.mr_script.specs.Script.{Outcome, Went, on}
+use Rattle.mr_base.specs.Script.{Outcome, Went, on}
 use Rattle.mr_eval.specs.World.{World, world_of}
 use Rattle.mr_frame.specs.Beginning.{CanBegin}
 use Rattle.mr_frame.specs.Effects.{entered}

@@ -1,7 +1,7 @@
 use Rattle.std.proofs.Common.{◌≡◌, ◌∷◌, sym, ap, ◌∙◌}
 use Rattle.std.specs.Prelude.{option_copied}
 use Rattle.mr_ast.specs.declared.program.BlockName.{BlockName}
-use Rattle.mr_script.specs.Script.{Went}
+use Rattle.mr_base.specs.Script.{Went}
 use Rattle.mr_eval.specs.World.{world_of}
 use Rattle.mr_frame.specs.Doing.{operands_of, result_stored}
 use Rattle.mr_frame.specs.Effects.{finished}

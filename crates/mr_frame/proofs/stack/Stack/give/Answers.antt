@@ -1,6 +1,6 @@
 use Rattle.std.proofs.Common.{[], List, Some, sym, ap, ◌∙◌}
 use Rattle.mr_base.specs.declared.byte.Pointer.{Pointer}
-use Rattle.mr_script.specs.Script.{Went}
+use Rattle.mr_base.specs.Script.{Went}
 use Rattle.mr_eval.specs.World.{world_of}
 use Rattle.mr_frame.specs.Effects.{stored_in}
 use Rattle.mr_frame.specs.Ending.{found_targets, left_by}

@@ -1,7 +1,7 @@
 use Rattle.std.proofs.Common.{sym, ap, ◌∙◌, subst}
 use Rattle.mr_ast.specs.declared.program.Function.{Function}
 use Rattle.mr_ast.specs.declared.program.Term.TheVariants as term
-use Rattle.mr_script.specs.Script.{Outcome, on}
+use Rattle.mr_base.specs.Script.{Outcome, on}
 use Rattle.mr_eval.specs.Answers.{seen}
 use Rattle.mr_eval.specs.World.{TellsBy, World, world_of}
 use Rattle.mr_frame.specs.Frames.{Onward}

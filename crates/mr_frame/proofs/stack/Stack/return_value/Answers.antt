@@ -5,7 +5,7 @@ use Rattle.std.specs.Prelude.{IfOk}
 use Rattle.mr_ast.specs.declared.program.Local.{Local}
 use Rattle.mr_ast.specs.declared.types.Ty.{Ty}
 use Rattle.mr_value.specs.Shape.{has_shape}
-use Rattle.mr_script.specs.Script.{Outcome}
+use Rattle.mr_base.specs.Script.{Outcome}
 use Rattle.mr_ast.specs.declared.program.Term.TheVariants as term
 use Rattle.mr_value.specs.declared.val.Val.{Val}
 use Rattle.mr_eval.specs.Answers.{seen}

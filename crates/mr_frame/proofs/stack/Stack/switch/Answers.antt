@@ -1,6 +1,6 @@
 use Rattle.std.proofs.Common.{◌∷◌, ℕ, refl, sym, ap, ◌∙◌}
 use Rattle.mr_ast.specs.declared.program.Term.TheVariants as term
-use Rattle.mr_script.specs.Script.{Outcome, Went, on}
+use Rattle.mr_base.specs.Script.{Outcome, Went, on}
 use Rattle.mr_eval.specs.Answers.{seen}
 use Rattle.mr_eval.specs.Environment.{env_surround}
 use Rattle.mr_eval.specs.Evaluation.{Surround}

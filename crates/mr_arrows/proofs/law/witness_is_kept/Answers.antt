@@ -1,5 +1,0 @@
-use Rattle.mr_arrows.proofs.WitnessLaws.{each_once, witness_kept}
-use Rattle.mr_arrows.proofs.law.witness_is_kept.Goals as goal
-
-pub returns : goal.returns
-returns c = record { order = witness_kept; each = each_once }

@@ -1,3 +1,0 @@
-pub mod Arrows
-pub mod Span
-pub mod Witness

@@ -1,0 +1,10 @@
+use Rattle.std.proofs.Common.{◌∙◌, arith}
+use Rattle.mr_told.proofs.Growing.{appended_next}
+use Rattle.mr_next.specs.Texts.{numbered_thread}
+use Rattle.mr_next.proofs.texts.push_threads.Goals as goal
+
+pub loop-at-preserved : goal.loop-at-preserved
+loop-at-preserved c =
+    c.in_ok-push_listed.ensures
+    ∙ appended_next (numbered_thread c.args.threads.now) c.args.out.now.items c.loop-at.out.items 0 c.loop-at.at
+    c.loop-at.at (omega arith) c.loop-at.invariant

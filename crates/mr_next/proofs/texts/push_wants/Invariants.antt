@@ -1,0 +1,9 @@
+use Rattle.std.specs.Prelude.{◌≡◌, ◌++◌, flat_map}
+use Rattle.std.specs.List.{range_with_len}
+use Rattle.mr_next.specs.Texts.{numbered_want}
+use Rattle.mr_next.proofs.texts.push_wants.Given as goal
+
+-- what is asked for before this is written
+abbrev pub invariant-loop-at : goal.invariant-loop-at
+invariant-loop-at l =
+    l.out.items ≡ l.fn.out.items ++ flat_map (numbered_want l.p l.here l.names l.wants) (range_with_len 0 l.at)

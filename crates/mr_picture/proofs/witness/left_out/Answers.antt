@@ -1,0 +1,22 @@
+use Rattle.std.proofs.Common.{◌∙◌, ap, arith}
+use Rattle.std.specs.List.{filter, range_with_len}
+use Rattle.mr_picture.specs.Witness.{is_left_out}
+use Rattle.mr_picture.proofs.Turns.{all_met, joins_tested}
+use Rattle.mr_picture.proofs.witness.left_out.Goals as goal
+
+pub loop-step-preserved : goal.loop-step-preserved
+loop-step-preserved c = record {
+  from = omega (arith, c.loop-step.invariant.from);
+  to = omega (arith, c.loop-step-test.true);
+  made =
+      joins_tested (is_left_out c.args.run.now c.args.race) c.loop-step.found.items c.push_if.new.found.items c.args.span.from
+      c.loop-step.step c.is_left_out.result c.loop-step.invariant.from c.is_left_out.ensures c.loop-step.invariant.made
+      c.in_ok-push_if.ensures;
+}
+
+pub returns : goal.returns
+returns c =
+    c.loop-step.invariant.made
+    ∙ ap (λ n. filter (is_left_out c.args.run.now c.args.race) (range_with_len c.args.span.from n))
+    (all_met c.args.span.from c.loop-step.step c.args.span.to c.loop-step.invariant.from c.loop-step-test.false
+    c.loop-step.invariant.to)

@@ -1,0 +1,12 @@
+use Rattle.std.specs.Prelude.{max, ◌≡◌, ◌-◌, ◌≤◌}
+use Rattle.std.specs.List.{filter, range_with_len}
+use Rattle.mr_picture.specs.Witness.{is_left_out}
+use Rattle.mr_picture.proofs.witness.left_out.Given as goal
+
+-- those before this one are there
+abbrev pub invariant-loop-step : goal.invariant-loop-step
+invariant-loop-step l = record {
+  from : l.fn.span.from ≤ l.step;
+  to : l.step ≤ max l.fn.span.from l.fn.span.to;
+  made : l.found.items ≡ filter (is_left_out l.run l.race) (range_with_len l.fn.span.from (l.step - l.fn.span.from));
+}

@@ -1,9 +1,0 @@
-use Rattle.std.proofs.Common.{◌≡◌}
-use Rattle.std.specs.List.{filter}
-use Rattle.mr_event.specs.Order.{places}
-use Rattle.mr_shuffle.specs.Board.{left_of}
-use Rattle.mr_shuffle.specs.Shuffled.{is_ready}
-use Rattle.mr_shuffle.proofs.placing.ready_of.Given as goal
-
-abbrev pub invariant-loop-thread : goal.invariant-loop-thread
-invariant-loop-thread l = l.ready.items ≡ filter (is_ready l.run (left_of l.run l.fronts)) (places l.thread)

@@ -1,5 +1,0 @@
-pub mod Laws
-pub mod Operations
-pub mod Reaches
-pub mod Spoken
-pub mod Walks

@@ -1,3 +1,0 @@
-pub mod OrderLaws
-pub mod Parts
-pub mod SpelledLaws

@@ -1,9 +1,0 @@
-use Rattle.std.proofs.Common.{ℕ, List, subst, sym}
-use Rattle.mr_sched.specs.Reading.{Gives}
-use Rattle.mr_thread_order.specs.Orders.{first_part, on_line, order_from, words_in}
-use Rattle.mr_thread_order.proofs.order.read_line.Goals as goal
-
-pub returns-clause-given : goal.returns-clause-given
-returns-clause-given c =
-    subst (λ (ps : List (List ℕ)). Gives c.read_words.result (order_from c.args.turns (on_line c.args.line (words_in (first_part ps)))))
-    (sym c.cut.ensures.parts) c.read_words.ensures.given

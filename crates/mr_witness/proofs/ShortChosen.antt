@@ -1,0 +1,26 @@
+-- The copies of the marked entries and of the two steps' are the short schedule.
+use Rattle.std.proofs.Common.{◌≡◌, ℕ, sym, ◌∙◌, ap, arith, List, [], ◌∷◌, ◌++◌, map, Bool, false, not, ◌&&◌}
+use Rattle.std.specs.Prelude.{◌==◌, slice_index_or}
+use Rattle.std.specs.List.{filter}
+use Rattle.mr_event.specs.Footprint.{Footprint}
+use Rattle.mr_event.specs.Order.{places}
+use Rattle.mr_order.specs.Trace.{IsFirstPair, short_keeps}
+use Rattle.mr_order.proofs.Lists.{Each-places, Each-weaker, filter-agree}
+use Rattle.mr_sched.specs.declared.schedule.Schedule.{Schedule}
+use Rattle.mr_exchange.specs.Witness.{entry_at}
+use Rattle.mr_witness.proofs.Lists.{map_append}
+use Rattle.mr_witness.specs.Marks.{AreMarks}
+use Rattle.mr_witness.specs.Short.{short_schedule}
+use Rattle.mr_witness.proofs.Needed.{marked_kept}
+
+pub both_copied : (run : List Footprint) (w v : Schedule) (i j : ℕ) (marks : List Bool) → IsFirstPair run i j → AreMarks run j marks
+    → v.entries ≡ map (entry_at w.entries) (filter (λ k. slice_index_or marks k false && not (k == i)) (places j)) ++ entry_at w.entries i ∷ entry_at w.entries j ∷ []
+    → v.start ≡ w.start → v ≡ short_schedule run w i j
+both_copied run w v i j marks pair h is begins =
+    let same : filter (λ k. slice_index_or marks k false && not (k == i)) (places j) ≡ filter (λ k. short_keeps run i j k && not (k == i)) (places j) =
+    filter-agree _ _ (places j) (Each-weaker _ _ (λ k c. ap (λ b. b && not (k == i)) (marked_kept run i j pair marks h k (omega (arith, c.1)))) (places j) (Each-places 0 j)) in
+    λ n. record {
+      start = begins n;
+      entries = (is ∙ ap (λ l. map (entry_at w.entries) l ++ entry_at w.entries i ∷ entry_at w.entries j ∷ []) same
+          ∙ sym (map_append (entry_at w.entries) (filter (λ k. short_keeps run i j k && not (k == i)) (places j)) (i ∷ j ∷ []))) n;
+    }

@@ -1,0 +1,38 @@
+-- The short schedule of the first pair is a witness.
+use Rattle.std.proofs.Common.{◌≡◌, ℕ, refl, sym, ◌∙◌, ap, subst, List, map}
+use Rattle.mr_ast.specs.declared.program.Program.{Program}
+use Rattle.mr_event.specs.Footprint.{Footprint}
+use Rattle.mr_event.specs.Order.{step_at}
+use Rattle.mr_order.specs.Trace.{IsFirstPair}
+use Rattle.mr_order.proofs.Choices.{short_selects}
+use Rattle.mr_sched.specs.declared.schedule.Schedule.{Schedule}
+use Rattle.mr_wf.specs.Walk.{WellFormed}
+use Rattle.mr_start.specs.Runs.{Legal, run_of, steps_of}
+use Rattle.mr_start.specs.Start.{look_of, start_config}
+use Rattle.mr_start.proofs.StartSound.{start_look, start_sound}
+use Rattle.mr_exchange.proofs.Sane.{sound_is_sane}
+use Rattle.mr_exchange.proofs.Law.{law_of, thread_noted}
+use Rattle.mr_exchange.specs.Witness.{IsWitness, schedule_at}
+use Rattle.mr_witness.proofs.Shown.{choice_shows}
+use Rattle.mr_witness.specs.Short.{short_schedule}
+
+-- THE SHORT SCHEDULE IS A WITNESS, of every well-formed program under a legal schedule
+short_is_witness : (p : Program) (w : Schedule) → WellFormed p → Legal p w → (i j : ℕ) → IsFirstPair (steps_of p w) i j → IsWitness p w i j (short_schedule (steps_of p w) w i j)
+unfolding steps_of run_of start_config look_of
+short_is_witness p w well legal i j first =
+    let shows = choice_shows (look_of p w.start) (start_look p well w.start legal.start) well w.entries (law_of (look_of p w.start)) (thread_noted (look_of p w.start)) (sound_is_sane p) _ (start_sound p well w.start legal.start _ refl) legal.entries i j _ first (short_selects (steps_of p w) i j first) in
+    record {
+      front = shows.front;
+      from = ap (schedule_at w) shows.ends;
+      legal = record { start = legal.start; entries = shows.legal };
+      prefix = shows.prefix;
+      steps = shows.steps ∙ ap (map (step_at (steps_of p w))) shows.ends;
+      running = shows.running;
+      race = shows.race;
+    }
+
+-- the same of a run that is the program's
+pub witness_of_run : (p : Program) (w v : Schedule) (run : List Footprint) (i j : ℕ) → WellFormed p → Legal p w → steps_of p w ≡ run → IsFirstPair run i j → v ≡ short_schedule run w i j → IsWitness p w i j v
+witness_of_run p w v run i j well legal same first is =
+    subst (IsWitness p w i j) (sym is)
+    (subst (λ r. IsFirstPair r i j → IsWitness p w i j (short_schedule r w i j)) same (short_is_witness p w well legal i j) first)

@@ -1,0 +1,6 @@
+use Rattle.std.proofs.Common.{◌≡◌, map, take}
+use Rattle.mr_exchange.specs.Witness.{entry_at}
+use Rattle.mr_witness.proofs.shuffling.entries_at.Given as goal
+
+abbrev pub invariant-loop-k : goal.invariant-loop-k
+invariant-loop-k l = l.copies ≡ map (entry_at l.entries) (take l.k-index l.order)
