@@ -5,8 +5,7 @@ ghost use Rattle.mr_event.specs.Order.{HappensBefore, thread_at};
 ghost use Rattle.mr_clocks.specs.Whole.{AreFronts, IsNeeded, IsOrderOf, IsReady, front_of};
 
 use crate::analysis::Analysis;
-use crate::order::thread_at;
-use mr_event::{Footprint, OutOfMemory, follows_plain};
+use mr_event::{Footprint, OutOfMemory, follows_plain, thread_at};
 use std::alloc::Global;
 
 // The times of a clock have 32 bits.
