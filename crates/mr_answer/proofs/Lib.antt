@@ -4,3 +4,4 @@ pub mod ReorderedLaws
 pub mod RunLaws
 pub mod StatusLaws
 pub mod TracedLaws
+pub use Rattle.mr_auto.proofs.LegalRuns as AutoLegalRuns

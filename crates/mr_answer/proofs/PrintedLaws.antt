@@ -4,9 +4,9 @@ use Rattle.std.specs.List.{list_all}
 use Rattle.std.proofs.lemmas.List.Elements.{All-cons, All-head, All-nil, All-tail}
 use Rattle.mr_ast.specs.declared.program.Program.{Program}
 use Rattle.mr_sched.specs.declared.schedule.Schedule.{Schedule}
-use Rattle.mr_plan.specs.Runs.{Config, Printed}
-use Rattle.mr_start.specs.Runs.{run_of}
-use Rattle.mr_thread.specs.Steps.{Own}
+use Rattle.mr_step.specs.PlanRuns.{Config, Printed}
+use Rattle.mr_step.specs.StartRuns.{run_of}
+use Rattle.mr_step.specs.ThreadSteps.{Own}
 use Rattle.mr_report.specs.Json.{ArePrinted, is_printed}
 use Rattle.mr_report.specs.declared.report.Line.{Line}
 use Rattle.mr_run.proofs.Printing.Runs.{AreLines, run_plain}

@@ -9,13 +9,13 @@ use Rattle.mr_event.specs.Footprint.{Footprint}
 use Rattle.mr_event.specs.declared.footprint.Pair.{Pair}
 use Rattle.mr_event.specs.Order.{places}
 use Rattle.mr_event.specs.Predicted.{predicted}
-use Rattle.mr_plan.specs.Runs.{Config}
+use Rattle.mr_step.specs.PlanRuns.{Config}
 use Rattle.mr_sched.specs.declared.schedule.Schedule.{Schedule}
 use Rattle.mr_sched.specs.declared.version.Version.{Version}
-use Rattle.mr_start.specs.Runs.{Legal, run_of, steps_of}
-use Rattle.mr_thread.specs.Steps.{Own}
+use Rattle.mr_step.specs.StartRuns.{Legal, run_of, steps_of}
+use Rattle.mr_step.specs.ThreadSteps.{Own}
 use Rattle.mr_wf.specs.Walk.{WellFormed}
-use Rattle.mr_exchange.specs.Witness.{entry_at}
+use Rattle.mr_step.specs.ExchangeWitness.{entry_at}
 use Rattle.mr_witness.specs.EveryOrder.{ComesToTheSame}
 use Rattle.mr_witness.specs.Shuffled.{shuffled, shuffled_order}
 use Rattle.mr_witness.proofs.Drawn.{places_length, shuffled_rearranged}

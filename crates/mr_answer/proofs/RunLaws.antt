@@ -6,14 +6,14 @@ use Rattle.mr_event.specs.Footprint.{Footprint}
 use Rattle.mr_event.specs.declared.footprint.Pair.{Pair}
 use Rattle.mr_event.specs.Predicted.{predicted}
 use Rattle.mr_gen.specs.Generated.{generated}
-use Rattle.mr_plan.specs.Runs.{Config}
+use Rattle.mr_step.specs.PlanRuns.{Config}
 use Rattle.mr_sched.specs.declared.schedule.Schedule.{Schedule}
 use Rattle.mr_sched.specs.declared.version.Version.{Version}
 use Rattle.mr_sched.specs.declared.version.Version.TheVariants.{One}
-use Rattle.mr_start.specs.Runs.{Legal, PlacedFault, run_of, steps_of}
-use Rattle.mr_start.proofs.RunLaws.{no_schedule_fault}
+use Rattle.mr_step.specs.StartRuns.{Legal, PlacedFault, run_of, steps_of}
+use Rattle.mr_step.proofs.StartRunLaws.{no_schedule_fault}
 use Rattle.mr_step.specs.Standing.{Standing}
-use Rattle.mr_thread.specs.Steps.{Own}
+use Rattle.mr_step.specs.ThreadSteps.{Own}
 use Rattle.mr_auto.specs.Drawing.{drawn_schedule}
 use Rattle.mr_run.specs.declared.fault.RunFault.{RunFault}
 use Rattle.mr_run.specs.declared.fault.RunFault.TheVariants.{Broken, Memory}

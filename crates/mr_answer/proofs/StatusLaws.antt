@@ -7,7 +7,7 @@ use Rattle.mr_sched.specs.declared.schedule.Schedule.{Schedule}
 use Rattle.mr_sched.specs.declared.version.Version.{Version}
 use Rattle.mr_event.specs.declared.footprint.Pair.{Pair}
 use Rattle.mr_event.specs.Predicted.{predicted}
-use Rattle.mr_start.specs.Runs.{run_of, steps_of}
+use Rattle.mr_step.specs.StartRuns.{run_of, steps_of}
 use Rattle.mr_witness.specs.Shuffled.{shuffled}
 use Rattle.mr_answer.specs.declared.formats.Format.{Format}
 use Rattle.mr_answer.specs.declared.formats.Format.TheVariants as format

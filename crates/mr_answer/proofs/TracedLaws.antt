@@ -5,9 +5,9 @@ use Rattle.mr_ast.specs.declared.program.Program.{Program}
 use Rattle.mr_event.specs.Footprint.{Footprint}
 use Rattle.mr_event.specs.FootOk.{IsFootOk}
 use Rattle.mr_sched.specs.declared.schedule.Schedule.{Schedule}
-use Rattle.mr_start.specs.Runs.{Legal, steps_of}
+use Rattle.mr_step.specs.StartRuns.{Legal, steps_of}
 use Rattle.mr_wf.specs.Walk.{WellFormed}
-use Rattle.mr_exchange.proofs.FootLimits.{run_ok}
+use Rattle.mr_step.proofs.ExchangeFootLimits.{run_ok}
 use Rattle.mr_input.specs.declared.written.Written.{Written}
 use Rattle.mr_input.specs.Answer.{answered}
 

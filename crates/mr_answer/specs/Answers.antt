@@ -4,12 +4,12 @@ use Rattle.mr_ast.specs.declared.program.Program.{Program}
 use Rattle.mr_sched.specs.declared.schedule.Schedule.{Schedule}
 use Rattle.mr_sched.specs.declared.version.Version.{Version}
 use Rattle.mr_sched.specs.declared.version.Version.TheVariants.{One}
-use Rattle.mr_plan.specs.Runs.{Config}
-use Rattle.mr_thread.specs.Steps.{Own}
+use Rattle.mr_step.specs.PlanRuns.{Config}
+use Rattle.mr_step.specs.ThreadSteps.{Own}
 use Rattle.mr_event.specs.Footprint.{Footprint}
 use Rattle.mr_event.specs.declared.footprint.Pair.{Pair}
 use Rattle.mr_event.specs.Predicted.{predicted}
-use Rattle.mr_start.specs.Runs.{run_of, schedule_fault, steps_of, PlacedFault}
+use Rattle.mr_step.specs.StartRuns.{run_of, schedule_fault, steps_of, PlacedFault}
 use Rattle.mr_run.specs.declared.witnesses.Selection.{Selection}
 use Rattle.mr_run.specs.declared.witnesses.Selection.TheVariants.{Kept, Needed}
 use Rattle.mr_run.specs.Witnesses.{witness_for}

@@ -8,7 +8,7 @@ use Rattle.mr_report.specs.Json.{json_text}
 use Rattle.mr_report.specs.Report.{report_text}
 use Rattle.mr_sched.specs.declared.schedule.Schedule.{Schedule}
 use Rattle.mr_sched.specs.declared.version.Version.{Version}
-use Rattle.mr_plan.specs.Runs.{Printed}
+use Rattle.mr_step.specs.PlanRuns.{Printed}
 use Rattle.mr_answer.specs.declared.formats.Format.{Format}
 use Rattle.mr_answer.specs.declared.formats.Format.TheVariants.{Footprints, Json, Short, Shuffled, Text}
 

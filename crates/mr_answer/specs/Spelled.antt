@@ -2,7 +2,7 @@
 use Rattle.std.specs.Prelude.{Result, OnOk}
 use Rattle.mr_ast.specs.declared.program.Program.{Program}
 use Rattle.mr_sched.specs.declared.schedule.Schedule.{Schedule}
-use Rattle.mr_start.specs.Runs.{steps_of}
+use Rattle.mr_step.specs.StartRuns.{steps_of}
 use Rattle.mr_trace.specs.Spelling.{IsRun}
 use Rattle.mr_input.specs.declared.written.Written.{Written}
 use Rattle.mr_input.specs.declared.refusal.Refusal.{Refusal}

@@ -3,7 +3,7 @@ ghost use Rattle.std.specs.Prelude.{◌≡◌, ◌≤◌, ◌^◌, [], IfOk, Non
 ghost use Rattle.mr_event.specs.Predicted.{predicted};
 ghost use Rattle.mr_report.specs.Json.{ArePrinted};
 ghost use Rattle.mr_run.specs.Runs.{IsRun};
-ghost use Rattle.mr_start.specs.Runs.{Legal, steps_of};
+ghost use Rattle.mr_step.specs.StartRuns.{Legal, steps_of};
 ghost use Rattle.mr_answer.specs.Answers.{behind_schedule, ordered_answer, run_report, shuffled_answer, told_by};
 ghost use Rattle.mr_input.specs.Answer.{IsStatus, Tells, seen};
 ghost use Rattle.mr_answer.specs.declared.formats.Format.TheVariants.{Shuffled, Text};

@@ -1,6 +1,6 @@
 //! The report of a run: its text, and the exit status.
 ghost use Rattle.std.specs.Prelude.{◌≡◌, ◌≤◌, ◌<◌, IfOk, Some, length, map, option_copied, slice_get};
-ghost use Rattle.mr_plan.specs.Runs.{Printed};
+ghost use Rattle.mr_step.specs.PlanRuns.{Printed};
 ghost use Rattle.mr_answer.specs.Answers.{behind_schedule, selection_of, told_by, told_in};
 ghost use Rattle.mr_input.specs.Answer.{IsStatus, seen};
 ghost use Rattle.mr_answer.specs.Report.{line_of, report_status, verdict_status, written_as};

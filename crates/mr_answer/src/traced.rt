@@ -2,7 +2,7 @@
 ghost use Rattle.std.specs.Prelude.{◌≡◌, ◌+◌, ◌≤◌, ◌^◌, ◌++◌, All, IfOk, OnOk, decimal, flat_map, length};
 ghost use Rattle.mr_event.specs.FootOk.{IsFootOk};
 ghost use Rattle.mr_report.specs.Report.{race_line};
-ghost use Rattle.mr_start.specs.Runs.{steps_of};
+ghost use Rattle.mr_step.specs.StartRuns.{steps_of};
 ghost use Rattle.mr_trace.specs.Spelling.{IsRun};
 ghost use Rattle.mr_input.specs.Answer.{IsStatus, Tells, seen};
 ghost use Rattle.mr_answer.specs.Answers.{listed, races_status, run_report, traced};

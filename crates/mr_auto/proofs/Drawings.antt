@@ -2,14 +2,14 @@
 use Rattle.std.proofs.Common.{◌≡◌, ℕ, ◌+◌, ◌<◌, ◌≤◌, ◌^◌, refl, sym, ap, ap₂, ◌∙◌, subst, arith, List, [], ◌∷◌, map, Some, None}
 use Rattle.mr_ast.specs.declared.program.Program.{Program}
 use Rattle.mr_base.specs.declared.thread.Status.TheVariants.{Enabled}
-use Rattle.mr_plan.specs.Legal.{Fault}
-use Rattle.mr_plan.specs.Runs.{after, feet}
+use Rattle.mr_step.specs.PlanLegal.{Fault}
+use Rattle.mr_step.specs.PlanRuns.{after, feet}
 use Rattle.mr_sched.specs.Chooser.{first_chooser}
 use Rattle.mr_sched.specs.declared.chooser.Chooser.{Chooser}
 use Rattle.mr_sched.specs.declared.schedule.Ask.{Ask}
 use Rattle.mr_sched.specs.declared.schedule.Entry.{Entry}
 use Rattle.mr_sched.specs.declared.schedule.Schedule.{Schedule}
-use Rattle.mr_thread.specs.Steps.{thread_step}
+use Rattle.mr_start.specs.ThreadSteps.{thread_step}
 use Rattle.mr_wf.specs.Walk.{WellFormed}
 use Rattle.mr_run.specs.Runs.{IsRun}
 use Rattle.mr_start.specs.Runs.{Legal, run_of, steps_of}

@@ -8,13 +8,13 @@ use Rattle.mr_mem.specs.Memory.{leaks}
 use Rattle.mr_sched.specs.declared.chooser.Chooser.{Chooser}
 use Rattle.mr_sched.specs.declared.schedule.Entry.{Entry}
 use Rattle.mr_base.specs.Script.{Broken, Outcome, Refused, Went}
-use Rattle.mr_plan.specs.Machine.{Aborts, Bare, Completed, Exits, Flow, Goes, IllFormedStep, Language, State, Stops, Thread, acted, bare, settled}
-use Rattle.mr_plan.specs.Notes.{Notes}
-use Rattle.mr_plan.specs.Queries.{Shared}
-use Rattle.mr_plan.specs.Runs.{Config, after, after_bare, feet, foot_from, has_rule, is_ill_formed, is_running, machine_step, stepped_from}
-use Rattle.mr_plan.proofs.RunLaws.{completed_by_step}
-use Rattle.mr_frame.specs.Frames.{Look}
-use Rattle.mr_thread.specs.Steps.{Own, thread_step}
+use Rattle.mr_step.specs.PlanMachine.{Aborts, Bare, Completed, Exits, Flow, Goes, IllFormedStep, Language, State, Stops, Thread, acted, bare, settled}
+use Rattle.mr_step.specs.PlanNotes.{Notes}
+use Rattle.mr_step.specs.PlanQueries.{Shared}
+use Rattle.mr_step.specs.PlanRuns.{Config, after, after_bare, feet, foot_from, has_rule, is_ill_formed, is_running, machine_step, stepped_from}
+use Rattle.mr_step.proofs.PlanRunLaws.{completed_by_step}
+use Rattle.mr_start.specs.FrameFrames.{Look}
+use Rattle.mr_start.specs.ThreadSteps.{Own, thread_step}
 use Rattle.mr_start.specs.Runs.{program_fault, program_step}
 use Rattle.mr_step.specs.Standing.{Standing}
 use Rattle.mr_run.specs.Runs.{IsMade, foot_by}

@@ -16,14 +16,14 @@ use Rattle.mr_mem.proofs.Identities.{get_here, get_there}
 use Rattle.mr_mem.proofs.RangeLaws.{ranges-allocated, ranges-empty}
 use Rattle.mr_runs.specs.Ranges.{with_range_replaced}
 use Rattle.mr_sched.specs.Chooser.{first_chooser}
-use Rattle.mr_plan.specs.Machine.{State}
-use Rattle.mr_plan.proofs.ElementLaws.{Contains-nil}
-use Rattle.mr_plan.proofs.IdentityCases.{id_cases}
-use Rattle.mr_plan.proofs.MemoryFacts.{Ranged}
-use Rattle.mr_thread.specs.Steps.{Own}
+use Rattle.mr_step.specs.PlanMachine.{State}
+use Rattle.mr_step.proofs.PlanElementLaws.{Contains-nil}
+use Rattle.mr_step.proofs.PlanIdentityCases.{id_cases}
+use Rattle.mr_step.proofs.PlanMemoryFacts.{Ranged}
+use Rattle.mr_start.specs.ThreadSteps.{Own}
 use Rattle.mr_start.specs.Start.{Piece, ask_of, behind_store, filled, global_bytes, look_of, pieces, placed, start_config, start_fault, start_memory, start_placed}
-use Rattle.mr_swap.specs.Meets.{IsTaken, ranges_after}
-use Rattle.mr_swap.proofs.MeetsLaws.{after_only, legal_of_meets, taken_in, taken_of_memory}
+use Rattle.mr_step.specs.SwapMeets.{IsTaken, ranges_after}
+use Rattle.mr_step.proofs.SwapMeetsLaws.{after_only, legal_of_meets, taken_in, taken_of_memory}
 use Rattle.mr_auto.specs.Drawing.{Picked, start_picked}
 use Rattle.mr_auto.specs.Drawn.{EndsBy, LiesBehind}
 use Rattle.mr_auto.proofs.Picks.{ArePicks, picks_are}

@@ -5,12 +5,12 @@ use Rattle.mr_sched.specs.Chooser.{behind_bytes}
 use Rattle.mr_sched.specs.declared.chooser.Chooser.{Chooser}
 use Rattle.mr_sched.specs.declared.schedule.Entry.{Entry}
 use Rattle.mr_wf.specs.Walk.{WellFormed}
-use Rattle.mr_plan.specs.Machine.{State}
-use Rattle.mr_plan.specs.Runs.{Config, after}
-use Rattle.mr_frame.specs.Fits.{IsLook}
-use Rattle.mr_swap.specs.Meets.{IsTaken}
-use Rattle.mr_thread.specs.Steps.{Own, thread_step}
-use Rattle.mr_thread.specs.SoundState.{IsSoundConfig}
+use Rattle.mr_step.specs.PlanMachine.{State}
+use Rattle.mr_step.specs.PlanRuns.{Config, after}
+use Rattle.mr_start.specs.FrameFits.{IsLook}
+use Rattle.mr_step.specs.SwapMeets.{IsTaken}
+use Rattle.mr_start.specs.ThreadSteps.{Own, thread_step}
+use Rattle.mr_start.specs.ThreadSoundState.{IsSoundConfig}
 use Rattle.mr_step.specs.Standing.{Standing}
 use Rattle.mr_auto.specs.Answers.{HasState}
 use Rattle.mr_auto.specs.Drawing.{drawn_entries}

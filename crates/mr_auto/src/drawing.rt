@@ -1,12 +1,12 @@
 //! The run that a schedule is drawn in.
 ghost use Rattle.std.specs.Prelude.{◌≡◌, ℕ, ◌+◌, ◌^◌, ◌<◌, ◌≤◌, [], false, IfOk, OnOk, Some, List};
-ghost use Rattle.mr_plan.specs.Machine.{State};
-ghost use Rattle.mr_plan.specs.Queries.{tables_of};
+ghost use Rattle.mr_step.specs.PlanMachine.{State};
+ghost use Rattle.mr_step.specs.PlanQueries.{tables_of};
 ghost use Rattle.mr_sync.specs.Tables.{IsEnabled};
-ghost use Rattle.mr_plan.specs.Runs.{feet};
+ghost use Rattle.mr_step.specs.PlanRuns.{feet};
 ghost use Rattle.mr_run.specs.Runs.{IsRun};
 ghost use Rattle.mr_start.specs.Runs.{steps_of};
-ghost use Rattle.mr_thread.specs.Steps.{Own, thread_step};
+ghost use Rattle.mr_start.specs.ThreadSteps.{Own, thread_step};
 ghost use Rattle.mr_wf.specs.Walk.{WellFormed};
 ghost use Rattle.mr_auto.specs.Answers.{HasState, NextAnswer};
 ghost use Rattle.mr_auto.specs.Drawing.{drawn_schedule, entry_from, next_at};

@@ -1,8 +1,8 @@
 //! The picks for what is asked.
 ghost use Rattle.std.specs.Prelude.{◌≡◌, [], ◌∷◌, IfOk, Some};
-ghost use Rattle.mr_plan.specs.Machine.{State};
+ghost use Rattle.mr_step.specs.PlanMachine.{State};
 ghost use Rattle.mr_sched.specs.Chooser.{behind_address, behind_draw};
-ghost use Rattle.mr_thread.specs.Steps.{Own};
+ghost use Rattle.mr_start.specs.ThreadSteps.{Own};
 ghost use Rattle.mr_auto.specs.Answers.{AreAddresses, PickAnswer, PicksAnswer};
 ghost use Rattle.mr_auto.specs.Drawing.{behind_pick, found, pick_of, picked};
 ghost use Rattle.mr_base.specs.declared.thread.Status.TheVariants.{Enabled};

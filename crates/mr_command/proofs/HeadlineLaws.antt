@@ -11,21 +11,21 @@ use Rattle.mr_sched.specs.declared.schedule.Schedule.{Schedule}
 use Rattle.mr_sched.specs.declared.version.Version.{Version}
 use Rattle.mr_sched.proofs.TextLaws.{as_read, schedule_again, schedule_fails_at}
 use Rattle.mr_event.specs.Predicted.{predicted}
-use Rattle.mr_start.specs.Runs.{Legal, PlacedFault, run_of, steps_of}
-use Rattle.mr_start.proofs.RunLaws.{no_schedule_fault}
-use Rattle.mr_start.proofs.StartSound.{sound_run}
+use Rattle.mr_run.specs.StartRuns.{Legal, PlacedFault, run_of, steps_of}
+use Rattle.mr_run.proofs.StartRunLaws.{no_schedule_fault}
+use Rattle.mr_run.proofs.StartStartSound.{sound_run}
 use Rattle.mr_wf.specs.declared.fault.FormFault.{FormFault}
 use Rattle.mr_wf.specs.Walk.{WellFormed, faults_of}
 use Rattle.mr_gen.specs.Generated.{generated}
 use Rattle.mr_gen.proofs.GeneratedLaws.{well_formed}
-use Rattle.mr_auto.specs.Drawing.{drawn_schedule}
-use Rattle.mr_auto.proofs.LegalRuns.{schedule_legal}
-use Rattle.mr_witness.proofs.Kept.{first_witness}
+use Rattle.mr_answer.specs.AutoDrawing.{drawn_schedule}
+use Rattle.mr_answer.proofs.AutoLegalRuns.{schedule_legal}
+use Rattle.mr_run.proofs.WitnessKept.{first_witness}
 use Rattle.mr_order.proofs.First.{first_of_predicted}
-use Rattle.mr_witness.proofs.Witness.{witness_of_run}
-use Rattle.mr_witness.specs.Shuffled.{shuffled}
-use Rattle.mr_witness.proofs.Copied.{shuffled_same}
-use Rattle.mr_witness.proofs.Drawn.{shuffled_rearranged}
+use Rattle.mr_run.proofs.WitnessWitness.{witness_of_run}
+use Rattle.mr_run.specs.WitnessShuffled.{shuffled}
+use Rattle.mr_run.proofs.WitnessCopied.{shuffled_same}
+use Rattle.mr_run.proofs.WitnessDrawn.{shuffled_rearranged}
 use Rattle.mr_event.specs.Footprint.{Footprint}
 use Rattle.mr_event.proofs.Tests.{predicted_is}
 use Rattle.mr_trace.specs.Reading.{races_in as races_read, races_of, trace_of}

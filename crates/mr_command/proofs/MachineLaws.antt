@@ -9,7 +9,7 @@ use Rattle.mr_sched.specs.declared.version.Version.{Version}
 use Rattle.mr_event.specs.declared.footprint.Pair.{Pair}
 use Rattle.mr_event.specs.Footprint.{Footprint}
 use Rattle.mr_event.specs.Predicted.{predicted}
-use Rattle.mr_start.specs.Runs.{run_of, steps_of}
+use Rattle.mr_run.specs.StartRuns.{run_of, steps_of}
 use Rattle.mr_run.specs.declared.witnesses.Selection.TheVariants.{Kept}
 use Rattle.mr_run.specs.Witnesses.{witness_for}
 use Rattle.mr_input.specs.Answer.{Answer}

@@ -6,12 +6,12 @@ use Rattle.mr_grammar.specs.Denotes.{Denotes}
 use Rattle.mr_sched.specs.declared.schedule.Schedule.{Schedule}
 use Rattle.mr_sched.specs.declared.version.Version.{Version}
 use Rattle.mr_sched.specs.Versions.{Schedules}
-use Rattle.mr_start.specs.Runs.{IsSoundRun, Legal, run_of, steps_of}
+use Rattle.mr_run.specs.StartRuns.{IsSoundRun, Legal, run_of, steps_of}
 use Rattle.mr_wf.specs.Walk.{faults_of}
 use Rattle.mr_event.specs.declared.footprint.Pair.{Pair}
 use Rattle.mr_event.specs.Footprint.{Footprint}
 use Rattle.mr_event.specs.Order.{IsPredicted}
-use Rattle.mr_exchange.specs.Witness.{IsWitness, kept_schedule}
+use Rattle.mr_run.specs.ExchangeWitness.{IsWitness, kept_schedule}
 use Rattle.mr_report.specs.Report.{report_text}
 use Rattle.mr_input.specs.Answer.{Answer}
 use Rattle.mr_input.specs.Writing.{IsLeft, IsWritten}

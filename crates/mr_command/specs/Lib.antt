@@ -7,3 +7,4 @@ pub mod Outcome
 pub mod Promises
 pub mod Showing
 pub mod Traces
+pub use Rattle.mr_answer.specs.Answers as AnswerAnswers

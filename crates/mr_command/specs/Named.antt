@@ -10,7 +10,7 @@ use Rattle.mr_sched.specs.declared.schedule.Schedule.{Schedule}
 use Rattle.mr_sched.specs.Faults.{FirstFault as FirstScheduleFault}
 use Rattle.mr_sched.specs.declared.version.Version.{Version}
 use Rattle.mr_sched.specs.Versions.{Schedules}
-use Rattle.mr_start.specs.Runs.{Legal, IsSoundRun, PlacedFault, schedule_fault, steps_of}
+use Rattle.mr_run.specs.StartRuns.{Legal, IsSoundRun, PlacedFault, schedule_fault, steps_of}
 use Rattle.mr_wf.specs.declared.fault.FormFault.{FormFault}
 use Rattle.mr_wf.specs.Walk.{FirstBroken, WellFormed}
 use Rattle.mr_answer.specs.declared.formats.Format.{Format}
@@ -20,9 +20,9 @@ use Rattle.mr_command.specs.declared.command.Saying.{Saying}
 use Rattle.mr_command.specs.declared.command.Saying.TheVariants.{Canonical, Drawn}
 use Rattle.mr_event.specs.declared.footprint.Pair.{Pair}
 use Rattle.mr_event.specs.Predicted.{predicted}
-use Rattle.mr_exchange.specs.Witness.{IsWitness}
-use Rattle.mr_witness.specs.EveryOrder.{ComesToTheSame}
-use Rattle.mr_witness.specs.Shuffled.{shuffled, shuffled_order}
+use Rattle.mr_run.specs.ExchangeWitness.{IsWitness}
+use Rattle.mr_run.specs.WitnessEveryOrder.{ComesToTheSame}
+use Rattle.mr_run.specs.WitnessShuffled.{shuffled, shuffled_order}
 use Rattle.mr_event.specs.Order.{IsPredicted, IsRearrangement}
 use Rattle.mr_run.specs.Witnesses.{witness_by}
 use Rattle.mr_input.specs.Answer.{Answer}

@@ -4,7 +4,7 @@ use Rattle.mr_ast.specs.declared.program.Program.{Program}
 use Rattle.mr_io.specs.Files.{Contents}
 use Rattle.mr_sched.specs.declared.schedule.Schedule.{Schedule}
 use Rattle.mr_sched.specs.declared.version.Read.{Read}
-use Rattle.mr_start.specs.Runs.{steps_of}
+use Rattle.mr_run.specs.StartRuns.{steps_of}
 use Rattle.mr_trace.specs.Spelling.{AreBytes, IsRun}
 use Rattle.mr_wf.specs.Walk.{faults_of}
 use Rattle.mr_input.specs.declared.written.Written.{Written}

@@ -25,3 +25,5 @@ pub mod SearchRuns
 pub mod ShapeOf
 pub mod SoundParts
 pub mod TargetLaws
+pub use Rattle.mr_value.proofs.DecodeShape as ValueDecodeShape
+pub use Rattle.mr_value.proofs.EncodeLength as ValueEncodeLength

@@ -14,3 +14,6 @@ pub mod Stores
 pub mod Tally
 pub mod Typed
 pub mod World
+pub use Rattle.mr_value.specs.Numbers as ValueNumbers
+pub use Rattle.mr_wf.specs.Types as WfTypes
+pub use Rattle.mr_wf.specs.Walk as WfWalk

@@ -10,17 +10,17 @@ use Rattle.mr_base.specs.declared.byte.Pointer.{Pointer}
 use Rattle.mr_base.specs.declared.reason.Reason.TheVariants.{MainReturned}
 use Rattle.mr_layout.specs.Sizes.{size_of}
 use Rattle.mr_value.specs.declared.val.Val.{Val}
-use Rattle.mr_wf.specs.Walk.{begins_regular}
+use Rattle.mr_start.specs.WfWalk.{begins_regular}
 use Rattle.mr_base.specs.Script.{Done, Undefined, IllFormed, ◌>>=◌}
-use Rattle.mr_eval.specs.Evaluation.{value_script}
-use Rattle.mr_eval.specs.MemoryQueries.{reading_part}
-use Rattle.mr_eval.specs.Operators.{pointer_of_value}
-use Rattle.mr_plan.proofs.QuietRuns.{reading_quiet}
-use Rattle.mr_frame.specs.Calls.{Targets, allocate_each, behind_first, enter, enter_at, enter_with, free_each, give_result, give_to, is_main, kept_types, leave, local_type, resume, return_from, return_value, storage_asks, store_each, targets_of, unwind, unwind_in, unwind_to}
-use Rattle.mr_frame.specs.Changes.{free_storage, store}
-use Rattle.mr_frame.specs.Frames.{Frame, Look, Stack, scene_in}
-use Rattle.mr_frame.specs.Sites.{Site}
-use Rattle.mr_frame.proofs.QuietChanges.{store_quiet, stores_quiet}
+use Rattle.mr_start.specs.EvalEvaluation.{value_script}
+use Rattle.mr_start.specs.EvalMemoryQueries.{reading_part}
+use Rattle.mr_start.specs.EvalOperators.{pointer_of_value}
+use Rattle.mr_swap.proofs.PlanQuietRuns.{reading_quiet}
+use Rattle.mr_start.specs.FrameCalls.{Targets, allocate_each, behind_first, enter, enter_at, enter_with, free_each, give_result, give_to, is_main, kept_types, leave, local_type, resume, return_from, return_value, storage_asks, store_each, targets_of, unwind, unwind_in, unwind_to}
+use Rattle.mr_start.specs.FrameChanges.{free_storage, store}
+use Rattle.mr_start.specs.FrameFrames.{Frame, Look, Stack, scene_in}
+use Rattle.mr_start.specs.FrameSites.{Site}
+use Rattle.mr_start.proofs.FrameQuietChanges.{store_quiet, stores_quiet}
 use Rattle.mr_swap.specs.Meets.{addresses}
 use Rattle.mr_exchange.proofs.Marks.{NewRanges}
 use Rattle.mr_exchange.proofs.Parts.{Makes, makes_behind, makes_then}

@@ -5,16 +5,16 @@ use Rattle.mr_event.specs.Footprint.{Footprint}
 use Rattle.mr_event.specs.Footprints.{depends, wakes}
 use Rattle.mr_order.specs.Trace.{AreIndependent}
 use Rattle.mr_sched.specs.declared.schedule.Entry.{Entry}
-use Rattle.mr_wf.specs.Walk.{WellFormed}
-use Rattle.mr_plan.specs.Legal.{state_fault}
-use Rattle.mr_plan.specs.Machine.{Completed, State, bare}
-use Rattle.mr_plan.specs.Notes.{Notes}
-use Rattle.mr_plan.specs.Runs.{foot_in}
-use Rattle.mr_frame.specs.Fits.{IsLook}
-use Rattle.mr_frame.specs.Frames.{Look}
-use Rattle.mr_thread.specs.SoundState.{SoundState}
-use Rattle.mr_thread.specs.Steps.{Own, thread_step}
-use Rattle.mr_thread.proofs.BareKept.{SoundBare, bare_sound}
+use Rattle.mr_start.specs.WfWalk.{WellFormed}
+use Rattle.mr_swap.specs.PlanLegal.{state_fault}
+use Rattle.mr_swap.specs.PlanMachine.{Completed, State, bare}
+use Rattle.mr_swap.specs.PlanNotes.{Notes}
+use Rattle.mr_swap.specs.PlanRuns.{foot_in}
+use Rattle.mr_start.specs.FrameFits.{IsLook}
+use Rattle.mr_start.specs.FrameFrames.{Look}
+use Rattle.mr_start.specs.ThreadSoundState.{SoundState}
+use Rattle.mr_start.specs.ThreadSteps.{Own, thread_step}
+use Rattle.mr_start.proofs.ThreadBareKept.{SoundBare, bare_sound}
 use Rattle.mr_swap.specs.Swap.{IsSane, SwapLaw}
 use Rattle.mr_exchange.specs.Exchange.{Done, Leads, done}
 

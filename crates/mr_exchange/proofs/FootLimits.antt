@@ -6,16 +6,16 @@ use Rattle.mr_ast.specs.declared.program.Program.{Program}
 use Rattle.mr_event.specs.FootOk.{IsFootOk}
 use Rattle.mr_sched.specs.declared.schedule.Entry.{Entry}
 use Rattle.mr_sched.specs.declared.schedule.Schedule.{Schedule}
-use Rattle.mr_wf.specs.Walk.{WellFormed}
-use Rattle.mr_plan.specs.Legal.{state_fault}
-use Rattle.mr_plan.specs.Limits.{AreWithin, IsWithin}
-use Rattle.mr_plan.specs.Machine.{Bare, Completed, IllFormedStep, State, Stops, bare}
-use Rattle.mr_plan.specs.Runs.{AreLegal, Config, after_bare, entry_fault, feet, foot_from, foot_in, foot_of_bare, machine_step, stepped_from}
-use Rattle.mr_frame.specs.Fits.{IsLook}
-use Rattle.mr_frame.specs.Frames.{Look}
-use Rattle.mr_thread.specs.SoundState.{IsSoundConfig, SoundState}
-use Rattle.mr_thread.specs.Steps.{Own, thread_step}
-use Rattle.mr_thread.proofs.RunSound.{entry_sound, legal_at}
+use Rattle.mr_start.specs.WfWalk.{WellFormed}
+use Rattle.mr_swap.specs.PlanLegal.{state_fault}
+use Rattle.mr_swap.specs.PlanLimits.{AreWithin, IsWithin}
+use Rattle.mr_swap.specs.PlanMachine.{Bare, Completed, IllFormedStep, State, Stops, bare}
+use Rattle.mr_swap.specs.PlanRuns.{AreLegal, Config, after_bare, entry_fault, feet, foot_from, foot_in, foot_of_bare, machine_step, stepped_from}
+use Rattle.mr_start.specs.FrameFits.{IsLook}
+use Rattle.mr_start.specs.FrameFrames.{Look}
+use Rattle.mr_start.specs.ThreadSoundState.{IsSoundConfig, SoundState}
+use Rattle.mr_start.specs.ThreadSteps.{Own, thread_step}
+use Rattle.mr_start.proofs.ThreadRunSound.{entry_sound, legal_at}
 use Rattle.mr_start.specs.Runs.{Legal, steps_of}
 use Rattle.mr_start.specs.Start.{look_of, start_config}
 use Rattle.mr_start.proofs.StartLimits.{start_within}

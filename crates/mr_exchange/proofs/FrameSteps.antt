@@ -17,21 +17,21 @@ use Rattle.mr_layout.specs.Sizes.{align_of, size_of}
 use Rattle.mr_sched.specs.declared.schedule.Ask.TheVariants.{Address}
 use Rattle.mr_value.specs.declared.val.Val.{Val}
 use Rattle.mr_base.specs.Script.{Done, Undefined, ◌>>=◌}
-use Rattle.mr_eval.specs.Evaluation.{place_script, value_script, values_script}
-use Rattle.mr_eval.specs.MemoryQueries.{MemoryScript, reading_part}
-use Rattle.mr_eval.specs.Operators.{pointer_of_value}
-use Rattle.mr_plan.specs.Machine.{CreatesNothing, Plan}
-use Rattle.mr_plan.proofs.ElementLaws.{Any-one}
-use Rattle.mr_plan.proofs.QuietRuns.{reading_quiet}
-use Rattle.mr_frame.specs.Calls.{both_there, call, call_function, call_number, call_plan, callee_of, calling, enter, given_types, goes_to, kept_types, resume, return_from, same_types, storage_asks, unwind}
-use Rattle.mr_frame.specs.Changes.{change, free_storage}
-use Rattle.mr_frame.specs.Frames.{GoesOn, Look, Onward, Stack, scene_in}
-use Rattle.mr_frame.specs.Sites.{AtDo, AtStatement, AtTerminator, Due, Site, due_of, site_of}
-use Rattle.mr_frame.specs.Steps.{dead, frame_plan, live, live_at, next, plain, plan_at, plan_due, statement, terminator}
-use Rattle.mr_frame.specs.Switches.{switched}
-use Rattle.mr_frame.proofs.QuietChanges.{change_quiet}
-use Rattle.mr_frame.proofs.StorageSteps.{Leads}
-use Rattle.mr_frame.proofs.Statements.{by_kind, changes}
+use Rattle.mr_start.specs.EvalEvaluation.{place_script, value_script, values_script}
+use Rattle.mr_start.specs.EvalMemoryQueries.{MemoryScript, reading_part}
+use Rattle.mr_start.specs.EvalOperators.{pointer_of_value}
+use Rattle.mr_swap.specs.PlanMachine.{CreatesNothing, Plan}
+use Rattle.mr_swap.proofs.PlanElementLaws.{Any-one}
+use Rattle.mr_swap.proofs.PlanQuietRuns.{reading_quiet}
+use Rattle.mr_start.specs.FrameCalls.{both_there, call, call_function, call_number, call_plan, callee_of, calling, enter, given_types, goes_to, kept_types, resume, return_from, same_types, storage_asks, unwind}
+use Rattle.mr_start.specs.FrameChanges.{change, free_storage}
+use Rattle.mr_start.specs.FrameFrames.{GoesOn, Look, Onward, Stack, scene_in}
+use Rattle.mr_start.specs.FrameSites.{AtDo, AtStatement, AtTerminator, Due, Site, due_of, site_of}
+use Rattle.mr_start.specs.FrameSteps.{dead, frame_plan, live, live_at, next, plain, plan_at, plan_due, statement, terminator}
+use Rattle.mr_start.specs.FrameSwitches.{switched}
+use Rattle.mr_start.proofs.FrameQuietChanges.{change_quiet}
+use Rattle.mr_start.proofs.FrameStorageSteps.{Leads}
+use Rattle.mr_start.proofs.FrameStatements.{by_kind, changes}
 use Rattle.mr_swap.specs.Meets.{addresses}
 use Rattle.mr_swap.specs.Swap.{IsWaiter}
 use Rattle.mr_exchange.proofs.Calls.{enters, frees, resumes, returns, unwinds}

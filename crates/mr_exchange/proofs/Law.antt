@@ -4,10 +4,10 @@ use Rattle.std.specs.Prelude.{None}
 use Rattle.mr_ast.specs.declared.program.Program.{Program}
 use Rattle.mr_order.specs.Trace.{AreIndependent}
 use Rattle.mr_sched.specs.declared.schedule.Entry.{Entry}
-use Rattle.mr_wf.specs.Walk.{WellFormed}
-use Rattle.mr_plan.specs.Machine.{State}
-use Rattle.mr_frame.specs.Frames.{Look}
-use Rattle.mr_thread.specs.Steps.{Own, thread_step}
+use Rattle.mr_start.specs.WfWalk.{WellFormed}
+use Rattle.mr_swap.specs.PlanMachine.{State}
+use Rattle.mr_start.specs.FrameFrames.{Look}
+use Rattle.mr_start.specs.ThreadSteps.{Own, thread_step}
 use Rattle.mr_start.specs.Start.{look_of, start_config, start_fault}
 use Rattle.mr_start.proofs.StartSound.{start_look, start_sound}
 use Rattle.mr_swap.specs.Swap.{SwapLaw}

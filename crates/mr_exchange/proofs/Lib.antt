@@ -12,3 +12,8 @@ pub mod Telling
 pub mod Tells
 pub mod Threads
 pub mod Tracked
+pub use Rattle.mr_start.proofs.StartSound as StartStartSound
+pub use Rattle.mr_swap.proofs.BareSteps as SwapBareSteps
+pub use Rattle.mr_swap.proofs.ElementTests as SwapElementTests
+pub use Rattle.mr_swap.proofs.MeetsLaws as SwapMeetsLaws
+pub use Rattle.mr_swap.proofs.StepRuns as SwapStepRuns

@@ -8,11 +8,11 @@ use Rattle.mr_layout.specs.Sizes.{align_of, size_of}
 use Rattle.mr_sched.specs.declared.schedule.Ask.{Ask}
 use Rattle.mr_sched.specs.declared.schedule.Ask.TheVariants.{Address}
 use Rattle.mr_value.specs.declared.val.Val.{Val}
-use Rattle.mr_plan.specs.Machine.{Aborts, CreatesNothing, Creation, Exits, Goes, Plan}
-use Rattle.mr_plan.specs.Queries.{StepScript}
-use Rattle.mr_plan.proofs.ElementLaws.{Any-one, Contains-nil, Contains-one}
-use Rattle.mr_frame.specs.Calls.{storage_asks}
-use Rattle.mr_thread.specs.Steps.{Turn}
+use Rattle.mr_swap.specs.PlanMachine.{Aborts, CreatesNothing, Creation, Exits, Goes, Plan}
+use Rattle.mr_swap.specs.PlanQueries.{StepScript}
+use Rattle.mr_swap.proofs.PlanElementLaws.{Any-one, Contains-nil, Contains-one}
+use Rattle.mr_start.specs.FrameCalls.{storage_asks}
+use Rattle.mr_start.specs.ThreadSteps.{Turn}
 use Rattle.mr_swap.specs.Meets.{addresses}
 use Rattle.mr_swap.specs.Spots.{ActsOn, IsCreation, IsSpawn}
 use Rattle.mr_swap.specs.Swap.{HasOneEvent, IsCreated, IsStarted, IsWaiter}

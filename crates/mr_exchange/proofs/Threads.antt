@@ -11,19 +11,19 @@ use Rattle.mr_base.specs.declared.thread.Event.TheVariants.{Spawn}
 use Rattle.mr_value.specs.declared.val.Val.{Val, out-Val}
 use Rattle.mr_value.specs.declared.val.Val.TheVariants as val
 use Rattle.mr_base.specs.Script.{Done, Undefined}
-use Rattle.mr_eval.specs.MemoryQueries.{MemoryScript}
-use Rattle.mr_plan.specs.Machine.{CreatesNothing, CreatesThread, Creation, Plan}
-use Rattle.mr_plan.proofs.QuietRuns.{IsQuiet}
-use Rattle.mr_frame.specs.Calls.{callee_of, enter, kept_types, same_types, storage_asks}
-use Rattle.mr_frame.specs.Frames.{Aborts, EndsThread, Exits, GoesOn, Look, Onward}
-use Rattle.mr_frame.specs.Operations.{DueDo, Operands, finish, next_do, operands, store_result}
-use Rattle.mr_frame.specs.Steps.{frame_plan}
-use Rattle.mr_frame.proofs.QuietChanges.{store_quiet}
-use Rattle.mr_intr.specs.Operations.{Operation, operation}
+use Rattle.mr_start.specs.EvalMemoryQueries.{MemoryScript}
+use Rattle.mr_swap.specs.PlanMachine.{CreatesNothing, CreatesThread, Creation, Plan}
+use Rattle.mr_swap.proofs.PlanQuietRuns.{IsQuiet}
+use Rattle.mr_start.specs.FrameCalls.{callee_of, enter, kept_types, same_types, storage_asks}
+use Rattle.mr_start.specs.FrameFrames.{Aborts, EndsThread, Exits, GoesOn, Look, Onward}
+use Rattle.mr_start.specs.FrameOperations.{DueDo, Operands, finish, next_do, operands, store_result}
+use Rattle.mr_start.specs.FrameSteps.{frame_plan}
+use Rattle.mr_start.proofs.FrameQuietChanges.{store_quiet}
+use Rattle.mr_start.specs.IntrOperations.{Operation, operation}
 use Rattle.mr_swap.specs.Meets.{addresses}
 use Rattle.mr_swap.specs.Spots.{IsSpawn}
 use Rattle.mr_swap.specs.Swap.{IsStarted}
-use Rattle.mr_thread.specs.Steps.{Own, TurnPlan, do_step, finished, finishing, frame_step, in_step, last_payload, new_thread, onward, operated, own_step, spawn, spawn_function, spawn_number, spawn_types, start, step_due, thread_types}
+use Rattle.mr_start.specs.ThreadSteps.{Own, TurnPlan, do_step, finished, finishing, frame_step, in_step, last_payload, new_thread, onward, operated, own_step, spawn, spawn_function, spawn_number, spawn_types, start, step_due, thread_types}
 use Rattle.mr_exchange.proofs.Calls.{enters}
 use Rattle.mr_exchange.proofs.FrameSteps.{FrameTells, frame_tells}
 use Rattle.mr_exchange.proofs.Intrinsics.{OperationTells, found_then, instant_tells, operation_tells}
@@ -31,7 +31,7 @@ use Rattle.mr_exchange.proofs.Marks.{Marks, NewRanges, marked, unmarked}
 use Rattle.mr_exchange.proofs.Parts.{makes_behind, makes_first, reads_any, reads_then}
 use Rattle.mr_exchange.proofs.Tells.{Any-single, OpTells, PlanTells, Tells, TurnTells, no_waiter, one_event, tells_end, tells_quiet}
 use Rattle.mr_exchange.proofs.Tracked.{Tracks, tracks_then}
-use Rattle.mr_eval.specs.Operators.{pointer_in}
+use Rattle.mr_start.specs.EvalOperators.{pointer_in}
 
 -- the plan of a turn tells what it does
 abbrev pub StepTells : TurnPlan → Type 0

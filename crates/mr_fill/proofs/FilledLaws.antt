@@ -7,10 +7,10 @@ use Rattle.mr_sched.specs.declared.chooser.Chooser.{Chooser}
 use Rattle.mr_sched.specs.declared.schedule.Entry.{Entry}
 use Rattle.mr_wf.specs.Walk.{WellFormed}
 use Rattle.mr_plan.specs.Runs.{AreLegal, Config, machine_step}
-use Rattle.mr_frame.specs.Fits.{IsLook}
-use Rattle.mr_frame.specs.Frames.{Look}
-use Rattle.mr_thread.specs.SoundState.{IsSoundConfig}
-use Rattle.mr_thread.specs.Steps.{Own, thread_step}
+use Rattle.mr_start.specs.FrameFits.{IsLook}
+use Rattle.mr_start.specs.FrameFrames.{Look}
+use Rattle.mr_start.specs.ThreadSoundState.{IsSoundConfig}
+use Rattle.mr_start.specs.ThreadSteps.{Own, thread_step}
 use Rattle.mr_start.specs.Runs.{Legal, program_step}
 use Rattle.mr_start.specs.Start.{look_of, start_config}
 use Rattle.mr_start.proofs.StartSound.{start_look, start_sound}

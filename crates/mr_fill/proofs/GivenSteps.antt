@@ -16,13 +16,13 @@ use Rattle.mr_plan.specs.Machine.{Bare, Completed, Goes, IllFormedStep, Needs, S
 use Rattle.mr_plan.specs.Notes.{Notes}
 use Rattle.mr_plan.specs.Runs.{Config, after_bare, entry_fault, fault_in, is_running, machine_step, stepped_from}
 use Rattle.mr_plan.proofs.ElementLaws.{Contains-nil}
-use Rattle.mr_frame.specs.Fits.{IsLook}
-use Rattle.mr_frame.specs.Frames.{Look}
-use Rattle.mr_thread.specs.Steps.{Own, thread_step}
-use Rattle.mr_thread.proofs.RunSound.{entry_sound}
-use Rattle.mr_thread.specs.SoundState.{IsSoundConfig, SoundState}
-use Rattle.mr_exchange.proofs.Sane.{sound_is_sane}
-use Rattle.mr_exchange.proofs.Telling.{thread_step_tells}
+use Rattle.mr_start.specs.FrameFits.{IsLook}
+use Rattle.mr_start.specs.FrameFrames.{Look}
+use Rattle.mr_start.specs.ThreadSteps.{Own, thread_step}
+use Rattle.mr_start.proofs.ThreadRunSound.{entry_sound}
+use Rattle.mr_start.specs.ThreadSoundState.{IsSoundConfig, SoundState}
+use Rattle.mr_step.proofs.ExchangeSane.{sound_is_sane}
+use Rattle.mr_step.proofs.ExchangeTelling.{thread_step_tells}
 use Rattle.mr_swap.specs.Meets.{AreNewIn, IsTaken, addresses}
 use Rattle.mr_swap.proofs.BareSteps.{needs_are, taken, whole, whole_run}
 use Rattle.mr_swap.proofs.MeetsLaws.{legal_of_meets, step_only}

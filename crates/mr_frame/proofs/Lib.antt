@@ -39,3 +39,18 @@ pub mod TagLaws
 pub mod TermLaws
 pub mod ToldLaws
 pub mod TypeRows
+pub use Rattle.mr_plan.proofs.Headers as PlanHeaders
+pub use Rattle.mr_plan.proofs.IdentityCases as PlanIdentityCases
+pub use Rattle.mr_plan.proofs.LegalLaws as PlanLegalLaws
+pub use Rattle.mr_plan.proofs.MemoryFacts as PlanMemoryFacts
+pub use Rattle.mr_plan.proofs.MemoryParts as PlanMemoryParts
+pub use Rattle.mr_plan.proofs.Outcomes as PlanOutcomes
+pub use Rattle.mr_plan.proofs.Positions as PlanPositions
+pub use Rattle.mr_plan.proofs.RangeChecks as PlanRangeChecks
+pub use Rattle.mr_plan.proofs.ReadingRuns as PlanReadingRuns
+pub use Rattle.mr_plan.proofs.Rooms as PlanRooms
+pub use Rattle.mr_plan.proofs.RunLaws as PlanRunLaws
+pub use Rattle.mr_plan.proofs.StorageRuns as PlanStorageRuns
+pub use Rattle.mr_plan.proofs.StoreLaws as PlanStoreLaws
+pub use Rattle.mr_plan.proofs.TallyGrows as PlanTallyGrows
+pub use Rattle.mr_wf.proofs.KindLaws as WfKindLaws

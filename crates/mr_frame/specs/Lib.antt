@@ -17,3 +17,21 @@ pub mod Steps
 pub mod Storage
 pub mod Switches
 pub mod Tops
+pub use Rattle.mr_eval.specs.MemoryQueries as EvalMemoryQueries
+pub use Rattle.mr_eval.specs.Operators as EvalOperators
+pub use Rattle.mr_eval.specs.Reads as EvalReads
+pub use Rattle.mr_eval.specs.Shapes as EvalShapes
+pub use Rattle.mr_eval.specs.Sound as EvalSound
+pub use Rattle.mr_eval.specs.Tally as EvalTally
+pub use Rattle.mr_mem.specs.Memory as MemMemory
+pub use Rattle.mr_plan.specs.EventFootprint
+pub use Rattle.mr_plan.specs.Legal as PlanLegal
+pub use Rattle.mr_plan.specs.Limits as PlanLimits
+pub use Rattle.mr_plan.specs.Machine as PlanMachine
+pub use Rattle.mr_plan.specs.Notes as PlanNotes
+pub use Rattle.mr_plan.specs.Queries as PlanQueries
+pub use Rattle.mr_plan.specs.Runs as PlanRuns
+pub use Rattle.mr_plan.specs.Storage as PlanStorage
+pub use Rattle.mr_wf.specs.Intrinsics as WfIntrinsics
+pub use Rattle.mr_wf.specs.Operands as WfOperands
+pub use Rattle.mr_wf.specs.Walk as WfWalk

@@ -11,3 +11,4 @@ pub mod OperatedLaws
 pub mod OperationSafe
 pub mod Operates
 pub mod TextLaws
+pub use Rattle.mr_sync.proofs.SoundTables as SyncSoundTables

@@ -13,9 +13,9 @@ use Rattle.mr_sync.specs.Tables.{on_lock}
 use Rattle.mr_plan.specs.Legal.{Fault, address_fault, count_of, creation_fault, else_fault, fault, needs_fault, picks_fault, state_fault, status_fault}
 use Rattle.mr_plan.specs.Machine.{State, needs}
 use Rattle.mr_plan.specs.Runs.{Config, entry_fault, fault_in, is_running}
-use Rattle.mr_frame.specs.Frames.{Look}
-use Rattle.mr_thread.specs.Steps.{Own, thread_step}
-use Rattle.mr_start.specs.Runs.{program_fault}
+use Rattle.mr_step.specs.FrameFrames.{Look}
+use Rattle.mr_step.specs.ThreadSteps.{Own, thread_step}
+use Rattle.mr_step.specs.StartRuns.{program_fault}
 use Rattle.mr_next.specs.Culprits.{is_of_pick, with_picks}
 
 -- there is a fault

@@ -4,8 +4,8 @@ use Rattle.std.specs.List.{range_with_len}
 use Rattle.std.proofs.lemmas.List.{map-append}
 use Rattle.mr_order.proofs.Lists.{range_with_len-parts}
 use Rattle.mr_plan.specs.Machine.{State}
-use Rattle.mr_frame.specs.Frames.{Look}
-use Rattle.mr_thread.specs.Steps.{Own}
+use Rattle.mr_step.specs.FrameFrames.{Look}
+use Rattle.mr_step.specs.ThreadSteps.{Own}
 use Rattle.mr_next.specs.Prospects.{prospect_in, prospects_in}
 
 -- one number more

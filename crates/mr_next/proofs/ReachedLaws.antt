@@ -9,16 +9,16 @@ use Rattle.mr_sched.specs.declared.schedule.Entry.{Entry}
 use Rattle.mr_sched.specs.declared.schedule.Schedule.{Schedule}
 use Rattle.mr_plan.specs.Legal.{Fault}
 use Rattle.mr_plan.specs.Runs.{AreLegal, Config, after}
-use Rattle.mr_frame.specs.Frames.{Look}
-use Rattle.mr_thread.specs.Steps.{Own, thread_step}
-use Rattle.mr_start.specs.Runs.{PlacedFault, at_line, entries_fault, program_fault, program_step, run_of, schedule_fault}
-use Rattle.mr_start.specs.Start.{look_of, start_config}
+use Rattle.mr_step.specs.FrameFrames.{Look}
+use Rattle.mr_step.specs.ThreadSteps.{Own, thread_step}
+use Rattle.mr_step.specs.StartRuns.{PlacedFault, at_line, entries_fault, program_fault, program_step, run_of, schedule_fault}
+use Rattle.mr_step.specs.StartStart.{look_of, start_config}
 use Rattle.mr_step.specs.Answers.{StartAnswer, fault_of}
 use Rattle.mr_step.specs.Standing.{Standing}
 use Rattle.mr_run.specs.Runs.{AreTaken, IsMade, foot_by}
 use Rattle.mr_run.proofs.RunLaws.{IsUnderWay, all_taken, breaks_here, goes_on, sets_out}
 use Rattle.mr_auto.proofs.DrawnSoFar.{after_more}
-use Rattle.mr_witness.proofs.Lists.{legal_append}
+use Rattle.mr_run.proofs.WitnessLists.{legal_append}
 use Rattle.mr_next.specs.Culprits.{culprit_of}
 use Rattle.mr_next.specs.Reached.{GoesTo, IsReached, in_front, placed_of}
 use Rattle.mr_next.specs.declared.broken.Broken.{Broken}

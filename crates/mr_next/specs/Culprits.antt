@@ -5,9 +5,9 @@ use Rattle.std.specs.Option.{option_map_or}
 use Rattle.mr_sched.specs.declared.schedule.Entry.{Entry}
 use Rattle.mr_plan.specs.Legal.{Fault}
 use Rattle.mr_plan.specs.Runs.{Config}
-use Rattle.mr_frame.specs.Frames.{Look}
-use Rattle.mr_thread.specs.Steps.{Own}
-use Rattle.mr_start.specs.Runs.{program_fault}
+use Rattle.mr_step.specs.FrameFrames.{Look}
+use Rattle.mr_step.specs.ThreadSteps.{Own}
+use Rattle.mr_step.specs.StartRuns.{program_fault}
 
 -- the rules that one pick breaks: 63 BadAddress, 64 Reused and 65 NotWaiting
 abbrev pub is_of_pick : ℕ → Bool

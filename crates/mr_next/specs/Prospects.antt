@@ -10,8 +10,8 @@ use Rattle.mr_sync.specs.Tables.{holder_of, is_enabled}
 use Rattle.mr_plan.specs.Legal.{creation_fault}
 use Rattle.mr_plan.specs.Machine.{State, needs}
 use Rattle.mr_plan.specs.Queries.{tables_of}
-use Rattle.mr_frame.specs.Frames.{Look}
-use Rattle.mr_thread.specs.Steps.{Own, thread_step}
+use Rattle.mr_step.specs.FrameFrames.{Look}
+use Rattle.mr_step.specs.ThreadSteps.{Own, thread_step}
 use Rattle.mr_auto.specs.Drawing.{waiting_in}
 use Rattle.mr_next.specs.declared.prospect.Prospect.{Prospect}
 use Rattle.mr_next.specs.declared.prospect.Want.{Want}

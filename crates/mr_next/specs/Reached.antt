@@ -4,8 +4,8 @@ use Rattle.std.specs.Option.{option_map}
 use Rattle.mr_ast.specs.declared.program.Program.{Program}
 use Rattle.mr_sched.specs.declared.schedule.Entry.{Entry}
 use Rattle.mr_sched.specs.declared.schedule.Schedule.{Schedule}
-use Rattle.mr_start.specs.Runs.{PlacedFault, entries_fault, schedule_fault}
-use Rattle.mr_start.specs.Start.{start_fault}
+use Rattle.mr_step.specs.StartRuns.{PlacedFault, entries_fault, schedule_fault}
+use Rattle.mr_step.specs.StartStart.{start_fault}
 use Rattle.mr_step.specs.Answers.{fault_of}
 use Rattle.mr_step.specs.Standing.{Standing}
 use Rattle.mr_run.specs.Runs.{AreTaken, IsRun}

@@ -5,7 +5,7 @@ ghost use Rattle.mr_plan.specs.Legal.{creation_fault};
 ghost use Rattle.mr_plan.specs.Machine.{State, needs};
 ghost use Rattle.mr_plan.specs.Queries.{tables_of};
 ghost use Rattle.mr_sync.specs.Tables.{IsEnabled};
-ghost use Rattle.mr_thread.specs.Steps.{Own, thread_step};
+ghost use Rattle.mr_step.specs.ThreadSteps.{Own, thread_step};
 ghost use Rattle.std.specs.Option.{option_map};
 ghost use Rattle.mr_next.specs.Prospects.{holder_for, limit_in, prospect_in, prospects_in, want_of, wants_in};
 

@@ -9,7 +9,7 @@ use Rattle.mr_base.specs.declared.reason.Reason.TheVariants.{DanglingReference}
 use Rattle.mr_base.specs.Script.{Outcome, Went, on}
 use Rattle.mr_mem.specs.Memory.{Memory, checked, freed, read, written}
 use Rattle.mr_eval.specs.Reads.{Check, Read, Refer, Seen, accessing, answered, named, seeing, touching}
-use Rattle.mr_value.specs.Numbers.{number_of}
+use Rattle.mr_eval.specs.ValueNumbers.{number_of}
 use Rattle.mr_eval.specs.MemoryQueries.{Free, Modify, Reading, Write, changing, memory_answer, next_id, number_bytes, replacing}
 use Rattle.mr_eval.specs.Tally.{Tally, seen_of, with_seen}
 use Rattle.mr_base.proofs.ScriptSwaps.{same_state, same_value}

@@ -27,7 +27,7 @@ use Rattle.mr_plan.proofs.RangeChecks.{Both, GivesToo, Within, accesses_range, a
 use Rattle.mr_plan.proofs.StoreLaws.{byte_inside, put_one, rewritten, rewritten_above, rewritten_below, rewritten_header, rewritten_in, stored_in, written_is}
 use Rattle.mr_plan.proofs.TallyGrows.{grow_seeing, reads_grow}
 use Rattle.mr_plan.proofs.WentLaws.{at_outcome}
-use Rattle.mr_value.proofs.EncodeLength.{length-initialised}
+use Rattle.mr_eval.proofs.ValueEncodeLength.{length-initialised}
 
 abbrev pub MemoryAgrees : Memory → Memory → Tally → Type 0
 MemoryAgrees m m' n = (o : MemoryPlace) → ReadsMemory n o → in_memory m o ≡ in_memory m' o

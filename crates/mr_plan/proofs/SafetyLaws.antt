@@ -5,8 +5,8 @@ use Rattle.mr_base.specs.declared.reason.Reason.{Reason}
 use Rattle.mr_mem.specs.Memory.{Memory, freed, written}
 use Rattle.mr_base.specs.Script.{Done, Undefined, IllFormed, Ask, ◌>>=◌, Outcome, Went, Refused, Broken, on, run}
 use Rattle.mr_base.proofs.ScriptRuns.{safe_bind}
-use Rattle.mr_value.specs.Numbers.{number_of}
-use Rattle.mr_value.proofs.DecodeShape.{number_fits}
+use Rattle.mr_eval.specs.ValueNumbers.{number_of}
+use Rattle.mr_eval.proofs.ValueDecodeShape.{number_fits}
 use Rattle.mr_eval.specs.Reads.{Read, ReadQuery, ReadScript, Seen, answered, reading}
 use Rattle.mr_eval.specs.MemoryQueries.{Allocate, Free, MemoryQuery, MemoryScript, Modify, Reading, Write, changing, memory_answer, modifying, number_bytes, reading_part, replacing}
 use Rattle.mr_eval.specs.Sound.{Comes, Good, IsSafe, any_result}

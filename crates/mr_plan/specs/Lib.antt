@@ -7,3 +7,6 @@ pub mod Queries
 pub mod Runs
 pub mod Safety
 pub mod Storage
+pub use Rattle.mr_eval.specs.MemoryQueries as EvalMemoryQueries
+pub use Rattle.mr_eval.specs.Tally as EvalTally
+pub use Rattle.mr_event.specs.Footprint as EventFootprint

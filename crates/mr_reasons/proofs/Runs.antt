@@ -7,10 +7,10 @@ use Rattle.mr_base.specs.declared.reason.Verdict.{Verdict}
 use Rattle.mr_base.specs.declared.reason.Verdict.TheVariants as verdict
 use Rattle.mr_mem.specs.Memory.{leaks}
 use Rattle.mr_base.specs.Script.{Broken, Outcome, Refused, Went, run, ◌>>=◌}
-use Rattle.mr_plan.specs.Machine.{Aborts, Bare, Completed, Exits, Flow, Goes, IllFormedStep, State, Stops, Thread, acted, bare, settle, settled}
-use Rattle.mr_plan.specs.Notes.{Notes, start_notes}
-use Rattle.mr_plan.specs.Queries.{Shared, answer}
-use Rattle.mr_frame.specs.Frames.{Look}
+use Rattle.mr_thread.specs.PlanMachine.{Aborts, Bare, Completed, Exits, Flow, Goes, IllFormedStep, State, Stops, Thread, acted, bare, settle, settled}
+use Rattle.mr_thread.specs.PlanNotes.{Notes, start_notes}
+use Rattle.mr_thread.specs.PlanQueries.{Shared, answer}
+use Rattle.mr_thread.specs.FrameFrames.{Look}
 use Rattle.mr_thread.specs.Steps.{Own, own_step, thread_step}
 use Rattle.mr_reasons.proofs.Calm.{Anything, CalmOutcome, IsCalm, calm_is_other, run_calm}
 use Rattle.mr_reasons.proofs.Queries.{answer_calm}

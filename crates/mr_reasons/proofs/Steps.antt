@@ -16,20 +16,20 @@ use Rattle.mr_base.specs.Script.{Ask, Done, IllFormed, Undefined, ◌>>=◌}
 use Rattle.mr_eval.specs.MemoryQueries.{Allocate, MemoryScript, reading_part}
 use Rattle.mr_eval.specs.Operators.{or_ill_formed, pointer_in}
 use Rattle.mr_eval.specs.Reads.{ReadScript}
-use Rattle.mr_plan.specs.Machine.{CreatesThread, Plan}
-use Rattle.mr_plan.specs.Queries.{OfMemory, StepScript, memory_part}
-use Rattle.mr_frame.specs.Calls.{callee_of, enter, kept_types, same_types, storage_asks}
-use Rattle.mr_frame.specs.Frames.{Aborts, EndsThread, Exits, GoesOn, Look, Onward}
-use Rattle.mr_frame.specs.Operations.{DueDo, Operands, finish, next_do, operands}
-use Rattle.mr_frame.specs.Steps.{frame_plan}
-use Rattle.mr_intr.specs.Operations.{Operation, acquire, allocate, allocating, assume, assuming, atomic_load, atomic_store, compare_exchange, create_lock, deallocate, exchanged, fetch, fetched, found, instant, is_power_of_two, join, loaded, modify, number_in, operation, print, release, releasing, truth_in, with_pick}
-use Rattle.mr_intr.specs.Texts.{text_of, texts_of}
-use Rattle.mr_intr.proofs.EachOperation.{of_operation}
+use Rattle.mr_thread.specs.PlanMachine.{CreatesThread, Plan}
+use Rattle.mr_thread.specs.PlanQueries.{OfMemory, StepScript, memory_part}
+use Rattle.mr_thread.specs.FrameCalls.{callee_of, enter, kept_types, same_types, storage_asks}
+use Rattle.mr_thread.specs.FrameFrames.{Aborts, EndsThread, Exits, GoesOn, Look, Onward}
+use Rattle.mr_thread.specs.FrameOperations.{DueDo, Operands, finish, next_do, operands}
+use Rattle.mr_thread.specs.FrameSteps.{frame_plan}
+use Rattle.mr_thread.specs.IntrOperations.{Operation, acquire, allocate, allocating, assume, assuming, atomic_load, atomic_store, compare_exchange, create_lock, deallocate, exchanged, fetch, fetched, found, instant, is_power_of_two, join, loaded, modify, number_in, operation, print, release, releasing, truth_in, with_pick}
+use Rattle.mr_thread.specs.IntrTexts.{text_of, texts_of}
+use Rattle.mr_thread.proofs.IntrEachOperation.{of_operation}
 use Rattle.mr_thread.specs.Steps.{Own, Turn, TurnPlan, do_step, finished, finishing, frame_step, in_step, last_payload, new_thread, onward, operated, own_step, spawn, spawn_function, spawn_number, spawn_types, start, step_due, thread_types}
 use Rattle.mr_reasons.proofs.Calm.{Anything, Calms, calms_then, memory_calms, reading_calms}
 use Rattle.mr_reasons.proofs.Expressions.{Reads, found_reads}
 use Rattle.mr_reasons.proofs.Frames.{Acts, PlanActs, enter_acts, finish_acts, frame_plans, operands_read}
-use Rattle.mr_wf.specs.Types.{integer_in}
+use Rattle.mr_eval.specs.WfTypes.{integer_in}
 
 -- a script of a step, or of a part of one
 abbrev Steps : {A : Type 0} → StepScript A → Type 0

@@ -2,7 +2,7 @@
 use Rattle.std.proofs.Common.{◌≡◌, ◌≤◌, arith, sym, ap, ◌∙◌, subst, [], ◌∷◌, length, false, Some, None, Ok, Err}
 use Rattle.mr_event.specs.Footprint.{Footprint}
 use Rattle.mr_sched.specs.declared.schedule.Entry.{Entry}
-use Rattle.mr_start.specs.Runs.{program_step}
+use Rattle.mr_step.specs.StartRuns.{program_step}
 use Rattle.mr_step.specs.declared.fault.StepFault.{StepFault}
 use Rattle.mr_step.specs.declared.fault.StepFault.TheVariants as answer
 use Rattle.mr_step.specs.declared.fault.Turn.{Turn}

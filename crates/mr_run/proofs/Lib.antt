@@ -5,3 +5,10 @@ pub mod Places
 pub mod Printing
 pub mod RunLaws
 pub mod StepCount
+pub use Rattle.mr_step.proofs.StartRunLaws
+pub use Rattle.mr_step.proofs.StartStartSound
+pub use Rattle.mr_witness.proofs.Copied as WitnessCopied
+pub use Rattle.mr_witness.proofs.Drawn as WitnessDrawn
+pub use Rattle.mr_witness.proofs.Kept as WitnessKept
+pub use Rattle.mr_witness.proofs.Lists as WitnessLists
+pub use Rattle.mr_witness.proofs.Witness as WitnessWitness

@@ -9,15 +9,15 @@ use Rattle.mr_event.specs.Footprint.{Footprint}
 use Rattle.mr_event.specs.Order as order
 use Rattle.mr_event.specs.Order.{step_at, thread_at}
 use Rattle.mr_event.specs.Predicted.{greatest_below, happens_before, pair_with, predicted, predicted_below, race_pair}
-use Rattle.mr_exchange.proofs.Law.{thread_noted}
-use Rattle.mr_frame.specs.Frames.{Look}
-use Rattle.mr_plan.specs.Machine.{Bare, Completed, IllFormedStep, State, Stops, bare}
-use Rattle.mr_plan.specs.Runs.{Config, feet, foot_from, foot_of_bare, machine_step}
+use Rattle.mr_step.proofs.ExchangeLaw.{thread_noted}
+use Rattle.mr_step.specs.FrameFrames.{Look}
+use Rattle.mr_step.specs.PlanMachine.{Bare, Completed, IllFormedStep, State, Stops, bare}
+use Rattle.mr_step.specs.PlanRuns.{Config, feet, foot_from, foot_of_bare, machine_step}
 use Rattle.mr_sched.specs.declared.schedule.Entry.{Entry}
 use Rattle.mr_sched.specs.declared.schedule.Schedule.{Schedule}
-use Rattle.mr_start.specs.Runs.{steps_of}
-use Rattle.mr_start.specs.Start.{look_of, start_config}
-use Rattle.mr_thread.specs.Steps.{Own, thread_step}
+use Rattle.mr_step.specs.StartRuns.{steps_of}
+use Rattle.mr_step.specs.StartStart.{look_of, start_config}
+use Rattle.mr_step.specs.ThreadSteps.{Own, thread_step}
 use Rattle.mr_run.specs.Runs.{are_of_first}
 
 -- all steps are of thread 0

@@ -4,12 +4,12 @@ use Rattle.std.specs.Prelude.{Some, None, Option, Err}
 use Rattle.mr_ast.specs.declared.program.Program.{Program}
 use Rattle.mr_sched.specs.declared.schedule.Entry.{Entry}
 use Rattle.mr_sched.specs.declared.schedule.Schedule.{Schedule}
-use Rattle.mr_plan.specs.Legal.{Fault}
-use Rattle.mr_plan.specs.Runs.{Config}
-use Rattle.mr_frame.specs.Frames.{Look}
-use Rattle.mr_thread.specs.Steps.{Own}
-use Rattle.mr_start.specs.Runs.{PlacedFault, at_line, entries_fault, program_fault, program_step, schedule_fault}
-use Rattle.mr_start.specs.Start.{look_of, start_config, start_fault}
+use Rattle.mr_step.specs.PlanLegal.{Fault}
+use Rattle.mr_step.specs.PlanRuns.{Config}
+use Rattle.mr_step.specs.FrameFrames.{Look}
+use Rattle.mr_step.specs.ThreadSteps.{Own}
+use Rattle.mr_step.specs.StartRuns.{PlacedFault, at_line, entries_fault, program_fault, program_step, schedule_fault}
+use Rattle.mr_step.specs.StartStart.{look_of, start_config, start_fault}
 use Rattle.mr_step.specs.Answers.{fault_of}
 use Rattle.mr_step.specs.Standing.{Standing}
 use Rattle.mr_run.specs.declared.fault.RunFault.{RunFault}

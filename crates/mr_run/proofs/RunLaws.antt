@@ -6,13 +6,13 @@ use Rattle.mr_ast.specs.declared.program.Program.{Program}
 use Rattle.mr_event.specs.Footprint.{Footprint}
 use Rattle.mr_sched.specs.declared.schedule.Entry.{Entry}
 use Rattle.mr_sched.specs.declared.schedule.Schedule.{Schedule}
-use Rattle.mr_plan.specs.Legal.{Fault}
-use Rattle.mr_plan.specs.Runs.{AreLegal, Config, after, feet, foot_from}
-use Rattle.mr_plan.proofs.RunLaws.{completed_by_step}
-use Rattle.mr_frame.specs.Frames.{Look}
-use Rattle.mr_thread.specs.Steps.{Own, thread_step}
-use Rattle.mr_start.specs.Runs.{PlacedFault, at_line, entries_fault, program_fault, program_step, run_of, schedule_fault, steps_of}
-use Rattle.mr_start.specs.Start.{look_of, start_config}
+use Rattle.mr_step.specs.PlanLegal.{Fault}
+use Rattle.mr_step.specs.PlanRuns.{AreLegal, Config, after, feet, foot_from}
+use Rattle.mr_step.proofs.PlanRunLaws.{completed_by_step}
+use Rattle.mr_step.specs.FrameFrames.{Look}
+use Rattle.mr_step.specs.ThreadSteps.{Own, thread_step}
+use Rattle.mr_step.specs.StartRuns.{PlacedFault, at_line, entries_fault, program_fault, program_step, run_of, schedule_fault, steps_of}
+use Rattle.mr_step.specs.StartStart.{look_of, start_config}
 use Rattle.mr_step.specs.declared.fault.StepFault.{StepFault}
 use Rattle.mr_step.specs.declared.fault.StepFault.TheVariants as answer
 use Rattle.mr_step.specs.Answers.{StartAnswer, fault_of}

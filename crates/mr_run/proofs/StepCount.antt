@@ -1,14 +1,14 @@
 -- How many steps a run completes.
 use Rattle.std.proofs.Common.{◌≡◌, suc, ◌+◌, ◌≤◌, refl, ap, arith, List, [], ◌∷◌, ◌++◌, length, Option, Some, None}
 use Rattle.mr_ast.specs.declared.program.Program.{Program}
-use Rattle.mr_frame.specs.Frames.{Look}
-use Rattle.mr_plan.specs.Machine.{Bare, Completed, IllFormedStep, State, Stops, bare}
-use Rattle.mr_plan.specs.Runs.{AreLegal, Config, after_bare, feet, foot_from, foot_of_bare, machine_step, stepped_from}
+use Rattle.mr_step.specs.FrameFrames.{Look}
+use Rattle.mr_step.specs.PlanMachine.{Bare, Completed, IllFormedStep, State, Stops, bare}
+use Rattle.mr_step.specs.PlanRuns.{AreLegal, Config, after_bare, feet, foot_from, foot_of_bare, machine_step, stepped_from}
 use Rattle.mr_sched.specs.declared.schedule.Entry.{Entry}
 use Rattle.mr_sched.specs.declared.schedule.Schedule.{Schedule}
-use Rattle.mr_start.specs.Runs.{Legal, steps_of}
-use Rattle.mr_start.specs.Start.{look_of, start_config}
-use Rattle.mr_thread.specs.Steps.{Own, thread_step}
+use Rattle.mr_step.specs.StartRuns.{Legal, steps_of}
+use Rattle.mr_step.specs.StartStart.{look_of, start_config}
+use Rattle.mr_step.specs.ThreadSteps.{Own, thread_step}
 use Rattle.mr_witness.proofs.Lists.{feet_length}
 use Rattle.mr_witness.proofs.Recorded.{none_legal}
 

@@ -6,10 +6,10 @@ use Rattle.mr_ast.specs.declared.program.Program.{Program}
 use Rattle.mr_event.specs.Footprint.{Footprint}
 use Rattle.mr_sched.specs.declared.schedule.Entry.{Entry}
 use Rattle.mr_sched.specs.declared.schedule.Schedule.{Schedule}
-use Rattle.mr_plan.specs.Runs.{AreLegal, after, foot_from, has_rule}
-use Rattle.mr_thread.specs.Steps.{thread_step}
-use Rattle.mr_start.specs.Runs.{Legal, entries_fault, program_fault, program_step, run_of, schedule_fault}
-use Rattle.mr_start.specs.Start.{look_of}
+use Rattle.mr_step.specs.PlanRuns.{AreLegal, after, foot_from, has_rule}
+use Rattle.mr_step.specs.ThreadSteps.{thread_step}
+use Rattle.mr_step.specs.StartRuns.{Legal, entries_fault, program_fault, program_step, run_of, schedule_fault}
+use Rattle.mr_step.specs.StartStart.{look_of}
 use Rattle.mr_step.specs.declared.fault.StepFault.{StepFault}
 use Rattle.mr_step.specs.declared.fault.StepFault.TheVariants as step
 use Rattle.mr_step.specs.Answers.{fault_of}

@@ -2,7 +2,7 @@
 use Rattle.std.specs.Prelude.{ℕ, List, [], ◌∷◌, Option, None, Some}
 use Rattle.mr_event.specs.Footprint.{Footprint}
 use Rattle.mr_event.specs.declared.footprint.Pair.{Pair}
-use Rattle.mr_exchange.specs.Witness.{kept_schedule}
+use Rattle.mr_step.specs.ExchangeWitness.{kept_schedule}
 use Rattle.mr_sched.specs.declared.schedule.Schedule.{Schedule}
 use Rattle.mr_witness.specs.Short.{short_schedule}
 use Rattle.mr_run.specs.declared.witnesses.Selection.{Selection}

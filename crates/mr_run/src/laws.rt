@@ -4,9 +4,9 @@ ghost use Rattle.std.specs.List.{list_all};
 ghost use Rattle.mr_ast.specs.declared.program.Program.{Program};
 ghost use Rattle.mr_event.specs.Predicted.{predicted};
 ghost use Rattle.mr_sched.specs.declared.schedule.Schedule.{Schedule};
-ghost use Rattle.mr_plan.specs.Runs.{Printed};
+ghost use Rattle.mr_step.specs.PlanRuns.{Printed};
 ghost use Rattle.mr_report.specs.Json.{is_printed};
-ghost use Rattle.mr_start.specs.Runs.{Legal, run_of, steps_of};
+ghost use Rattle.mr_step.specs.StartRuns.{Legal, run_of, steps_of};
 ghost use Rattle.mr_run.specs.Runs.{are_of_first};
 
 /// A law: a run of thread 0 alone shows no race, so that who asks for its races needs no footprint.

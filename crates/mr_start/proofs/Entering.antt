@@ -21,9 +21,9 @@ use Rattle.mr_wf.specs.Walk.{WellFormed}
 use Rattle.mr_eval.specs.MemoryQueries.{pointer_to}
 use Rattle.mr_eval.specs.Tally.{start_tally}
 use Rattle.mr_eval.specs.World.{World}
-use Rattle.mr_plan.specs.Legal.{Fault, address_fault, else_fault, fault, picks_fault}
-use Rattle.mr_plan.proofs.LegalLaws.{picks_length}
-use Rattle.mr_plan.proofs.Rooms.{behind as at_last}
+use Rattle.mr_frame.specs.PlanLegal.{Fault, address_fault, else_fault, fault, picks_fault}
+use Rattle.mr_frame.proofs.PlanLegalLaws.{picks_length}
+use Rattle.mr_frame.proofs.PlanRooms.{behind as at_last}
 use Rattle.mr_frame.specs.declared.look.Look.{Look as KeptLook}
 use Rattle.mr_frame.specs.Beginning.{CanAllocate, CanBegin, IsBottom, allocated_each, stored_each}
 use Rattle.mr_frame.specs.Calls.{behind_first, first_frame, kept_types, local_type, all_there, with_each}

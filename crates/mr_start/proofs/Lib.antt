@@ -9,3 +9,10 @@ pub mod StartFacts
 pub mod StartLimits
 pub mod StartSound
 pub mod StartStores
+pub use Rattle.mr_frame.proofs.QuietChanges as FrameQuietChanges
+pub use Rattle.mr_frame.proofs.Statements as FrameStatements
+pub use Rattle.mr_frame.proofs.StorageSteps as FrameStorageSteps
+pub use Rattle.mr_thread.proofs.BareKept as ThreadBareKept
+pub use Rattle.mr_thread.proofs.IntrEachOperation
+pub use Rattle.mr_thread.proofs.RunSound as ThreadRunSound
+pub use Rattle.mr_thread.proofs.ThreadRooms as ThreadThreadRooms

@@ -12,7 +12,7 @@ use Rattle.mr_mem.specs.declared.fault.PickFault.TheVariants.{BadAddress}
 use Rattle.mr_sched.specs.declared.schedule.Ask.{Ask}
 use Rattle.mr_sched.specs.declared.schedule.Ask.TheVariants.{Address, Waiter}
 use Rattle.mr_sync.specs.Tables.{on_lock}
-use Rattle.mr_plan.specs.Legal.{Fault, address_fault, else_fault, fault, picks_fault}
+use Rattle.mr_frame.specs.PlanLegal.{Fault, address_fault, else_fault, fault, picks_fault}
 use Rattle.mr_frame.specs.Standing.{IsUncounted}
 use Rattle.mr_start.specs.Judging.{address_among, least, picked, waiter_fault}
 use Rattle.mr_start.proofs.Overlaps.{AreUncounted, id_of, overlaps, with_ranges}

@@ -16,8 +16,8 @@ use Rattle.mr_mem.proofs.Identities.{get_here, id_exact, id_total}
 use Rattle.mr_runs.specs.Ranges.{with_range_replaced}
 use Rattle.mr_runs.proofs.ListLaws.{take_in_append}
 use Rattle.mr_eval.specs.Moves.{behind}
-use Rattle.mr_plan.proofs.RangeChecks.{Gave, empty, filled, aligned_passes, gave, ranged_within}
-use Rattle.mr_plan.proofs.StoreLaws.{put_one, rewritten, rewritten_size, stored_in, written_is}
+use Rattle.mr_frame.proofs.PlanRangeChecks.{Gave, empty, filled, aligned_passes, gave, ranged_within}
+use Rattle.mr_frame.proofs.PlanStoreLaws.{put_one, rewritten, rewritten_size, stored_in, written_is}
 use Rattle.mr_start.specs.Pieces.{HasRange}
 use Rattle.mr_start.specs.Start.{behind_store, global_bytes, item_bytes}
 use Rattle.mr_wf.specs.Broken.{item_size}

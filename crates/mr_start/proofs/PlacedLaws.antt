@@ -7,8 +7,8 @@ use Rattle.mr_base.specs.declared.thread.Status.TheVariants.{Enabled}
 use Rattle.mr_mem.specs.Memory.{Memory, allocated, pick_fault, range_fault, ranges_of, with_range}
 use Rattle.mr_mem.proofs.RangeLaws.{ranges-allocated, ranges-empty}
 use Rattle.mr_eval.specs.MemoryQueries.{pointer_to}
-use Rattle.mr_plan.specs.Legal.{address_fault, else_fault, picks_fault}
-use Rattle.mr_plan.proofs.LegalLaws.{no_faults}
+use Rattle.mr_frame.specs.PlanLegal.{address_fault, else_fault, picks_fault}
+use Rattle.mr_frame.proofs.PlanLegalLaws.{no_faults}
 use Rattle.mr_start.specs.declared.pieces.Piece.{Piece as Made}
 use Rattle.mr_start.specs.Begin.{fault_over, own_id, piece_of, pieces_fault}
 use Rattle.mr_start.specs.Start.{Piece, ask_of, placed}

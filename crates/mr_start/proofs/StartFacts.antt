@@ -29,9 +29,9 @@ use Rattle.mr_wf.proofs.UnbrokenLaws.{well_formed_keeps}
 use Rattle.mr_start.specs.Begin.{HaveRoom, IsPossible}
 use Rattle.mr_frame.specs.Fits.{FitsFrame}
 use Rattle.mr_frame.specs.Sites.{has_storage}
-use Rattle.mr_plan.proofs.LegalLaws.{no_faults}
-use Rattle.mr_plan.proofs.Positions.{set_here}
-use Rattle.mr_plan.specs.Legal.{address_fault, picks_fault}
+use Rattle.mr_frame.proofs.PlanLegalLaws.{no_faults}
+use Rattle.mr_frame.proofs.PlanPositions.{set_here}
+use Rattle.mr_frame.specs.PlanLegal.{address_fault, picks_fault}
 use Rattle.mr_start.proofs.Overlaps.{id_of}
 use Rattle.mr_start.specs.Start.{Piece, ask_of, function_piece, global_piece, local_piece, look_of, pieces, placed, return_piece, start_fault, start_frame, start_locals, start_placed}
 use Rattle.mr_frame.proofs.AlignPowers.{align_power, type_ok_power}

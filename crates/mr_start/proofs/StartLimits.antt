@@ -13,14 +13,14 @@ use Rattle.mr_ast.specs.declared.program.Global_.{Global_}
 use Rattle.mr_ast.specs.declared.program.Program.{Program}
 use Rattle.mr_mem.specs.Memory.{Allocation, Memory, Ranges, allocated, fresh, id_cmp, is_multiple, range_fault, with_range, written}
 use Rattle.mr_mem.proofs.Identities.{get_here, get_there}
-use Rattle.mr_plan.specs.Legal.{address_fault, picks_fault}
-use Rattle.mr_plan.specs.Limits.{ArePlaced, AreWithin, IsPlaced, IsWithin}
-use Rattle.mr_plan.specs.Machine.{State}
-use Rattle.mr_plan.proofs.IdentityCases.{id_cases}
-use Rattle.mr_plan.proofs.LegalLaws.{no_faults}
-use Rattle.mr_plan.proofs.MemoryFacts.{fresh_fits}
-use Rattle.mr_plan.proofs.RangeChecks.{Gave, aligned_ok, empty, filled as fills, gave, ranged}
-use Rattle.mr_plan.proofs.StoreLaws.{put_one, rewritten, rewritten_size, stored_in, written_is}
+use Rattle.mr_frame.specs.PlanLegal.{address_fault, picks_fault}
+use Rattle.mr_frame.specs.PlanLimits.{ArePlaced, AreWithin, IsPlaced, IsWithin}
+use Rattle.mr_frame.specs.PlanMachine.{State}
+use Rattle.mr_frame.proofs.PlanIdentityCases.{id_cases}
+use Rattle.mr_frame.proofs.PlanLegalLaws.{no_faults}
+use Rattle.mr_frame.proofs.PlanMemoryFacts.{fresh_fits}
+use Rattle.mr_frame.proofs.PlanRangeChecks.{Gave, aligned_ok, empty, filled as fills, gave, ranged}
+use Rattle.mr_frame.proofs.PlanStoreLaws.{put_one, rewritten, rewritten_size, stored_in, written_is}
 use Rattle.mr_thread.specs.Steps.{Own}
 use Rattle.mr_start.specs.Start.{Piece, ask_of, behind_store, filled, global_bytes, look_of, pieces, placed, start_config, start_fault, start_memory, start_placed}
 use Rattle.mr_start.proofs.Overlaps.{id_of}

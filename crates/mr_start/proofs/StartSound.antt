@@ -13,9 +13,9 @@ use Rattle.mr_layout.specs.Sizes.{align_of, size_of}
 use Rattle.mr_wf.specs.Walk.{WellFormed}
 use Rattle.mr_sched.specs.declared.schedule.Schedule.{Schedule}
 use Rattle.mr_sync.proofs.SoundTables.{stay_sound}
-use Rattle.mr_plan.specs.Machine.{State, Thread, thread_of}
-use Rattle.mr_plan.specs.Storage.{AreHeld, IsStorage, Slot}
-use Rattle.mr_plan.proofs.StorageRuns.{set_cases}
+use Rattle.mr_frame.specs.PlanMachine.{State, Thread, thread_of}
+use Rattle.mr_frame.specs.PlanStorage.{AreHeld, IsStorage, Slot}
+use Rattle.mr_frame.proofs.PlanStorageRuns.{set_cases}
 use Rattle.mr_frame.specs.Fits.{IsLook}
 use Rattle.mr_frame.specs.Storage.{slot_of, slots_in, slots_with}
 use Rattle.mr_thread.specs.SoundState.{FitsStatus, IsSoundConfig, SoundState, thread_slots}

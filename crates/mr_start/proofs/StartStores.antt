@@ -23,14 +23,14 @@ use Rattle.mr_value.specs.Numbers.{Bytes}
 use Rattle.mr_value.proofs.EncodeLength.{length-initialised}
 use Rattle.mr_wf.specs.Broken.{item_size, items_size}
 use Rattle.mr_eval.specs.Moves.{behind}
-use Rattle.mr_plan.specs.Legal.{address_fault, picks_fault}
+use Rattle.mr_frame.specs.PlanLegal.{address_fault, picks_fault}
 use Rattle.mr_start.proofs.Overlaps.{id_of}
 use Rattle.mr_start.specs.Start.{CanBeFilled, IsWholeStart, Piece, ask_of, behind_store, filled, function_piece, global_bytes, global_piece, item_bytes, look_of, pieces, placed, pointer_behind, return_piece, start_fault, start_memory, start_placed, target_of}
-use Rattle.mr_plan.proofs.Headers.{Lasting}
-use Rattle.mr_plan.proofs.IdentityCases.{id_cases}
-use Rattle.mr_plan.proofs.RangeChecks.{Within, aligned_passes, ranged, ranged_empty, ranged_within}
-use Rattle.mr_plan.proofs.LegalLaws.{no_faults}
-use Rattle.mr_plan.proofs.StoreLaws.{put_one, rewritten, rewritten_size, stored_in, written_is}
+use Rattle.mr_frame.proofs.PlanHeaders.{Lasting}
+use Rattle.mr_frame.proofs.PlanIdentityCases.{id_cases}
+use Rattle.mr_frame.proofs.PlanRangeChecks.{Within, aligned_passes, ranged, ranged_empty, ranged_within}
+use Rattle.mr_frame.proofs.PlanLegalLaws.{no_faults}
+use Rattle.mr_frame.proofs.PlanStoreLaws.{put_one, rewritten, rewritten_size, stored_in, written_is}
 
 -- all identities are of thread 0, and counted
 abbrev pub AreCounted : Memory → ℕ → Type 0

@@ -11,9 +11,9 @@ use Rattle.mr_base.specs.declared.thread.Status.TheVariants.{Enabled}
 use Rattle.mr_layout.specs.Cached.{IsCacheOf}
 use Rattle.mr_mem.specs.Memory.{IsAsked, IsPowerOfTwo, Memory, ranges_of}
 use Rattle.mr_wf.specs.Broken.{items_size}
-use Rattle.mr_plan.specs.Legal.{Fault, picks_fault}
-use Rattle.mr_plan.specs.Machine.{thread_of}
-use Rattle.mr_plan.specs.Runs.{Config}
+use Rattle.mr_frame.specs.PlanLegal.{Fault, picks_fault}
+use Rattle.mr_frame.specs.PlanMachine.{thread_of}
+use Rattle.mr_frame.specs.PlanRuns.{Config}
 use Rattle.mr_frame.specs.Frames.{Look, Stack}
 use Rattle.mr_frame.specs.Kept.{stack_of}
 use Rattle.mr_thread.specs.Steps.{Own}

@@ -8,7 +8,7 @@ use Rattle.mr_mem.specs.declared.fault.PickFault.TheVariants.{BadAddress}
 use Rattle.mr_sched.specs.declared.schedule.Ask.{Ask}
 use Rattle.mr_sched.specs.declared.schedule.Ask.TheVariants.{Address, Waiter}
 use Rattle.mr_sync.specs.Tables.{on_lock}
-use Rattle.mr_plan.specs.Legal.{Fault, address_fault, fault}
+use Rattle.mr_frame.specs.PlanLegal.{Fault, address_fault, fault}
 use Rattle.mr_start.specs.declared.failure.PickFailure.{PickFailure}
 use Rattle.mr_sched.specs.declared.rule.ScheduleRule.TheVariants as rule
 

@@ -3,3 +3,22 @@ pub mod Judging
 pub mod Pieces
 pub mod Runs
 pub mod Start
+pub use Rattle.mr_eval.specs.Evaluation as EvalEvaluation
+pub use Rattle.mr_eval.specs.MemoryQueries as EvalMemoryQueries
+pub use Rattle.mr_eval.specs.Operators as EvalOperators
+pub use Rattle.mr_eval.specs.Reads as EvalReads
+pub use Rattle.mr_eval.specs.Tally as EvalTally
+pub use Rattle.mr_frame.specs.Calls as FrameCalls
+pub use Rattle.mr_frame.specs.Changes as FrameChanges
+pub use Rattle.mr_frame.specs.Fits as FrameFits
+pub use Rattle.mr_frame.specs.Frames as FrameFrames
+pub use Rattle.mr_frame.specs.Operations as FrameOperations
+pub use Rattle.mr_frame.specs.Sites as FrameSites
+pub use Rattle.mr_frame.specs.Steps as FrameSteps
+pub use Rattle.mr_frame.specs.Switches as FrameSwitches
+pub use Rattle.mr_thread.specs.IntrOperations
+pub use Rattle.mr_thread.specs.IntrTexts
+pub use Rattle.mr_thread.specs.SoundState as ThreadSoundState
+pub use Rattle.mr_thread.specs.Steps as ThreadSteps
+pub use Rattle.mr_wf.specs.Types as WfTypes
+pub use Rattle.mr_wf.specs.Walk as WfWalk

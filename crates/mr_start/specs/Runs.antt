@@ -3,9 +3,9 @@ use Rattle.std.specs.Prelude.{◌≡◌, ℕ, ◌+◌, List, [], ◌∷◌, Opti
 use Rattle.mr_ast.specs.declared.program.Program.{Program}
 use Rattle.mr_sched.specs.declared.schedule.Entry.{Entry}
 use Rattle.mr_sched.specs.declared.schedule.Schedule.{Schedule}
-use Rattle.mr_event.specs.Footprint.{Footprint}
-use Rattle.mr_plan.specs.Legal.{Fault}
-use Rattle.mr_plan.specs.Runs.{AreLegal, Config, NeverIllFormed, after, entry_fault, feet, machine_step}
+use Rattle.mr_frame.specs.EventFootprint.{Footprint}
+use Rattle.mr_frame.specs.PlanLegal.{Fault}
+use Rattle.mr_frame.specs.PlanRuns.{AreLegal, Config, NeverIllFormed, after, entry_fault, feet, machine_step}
 use Rattle.mr_frame.specs.Frames.{Look}
 use Rattle.mr_thread.specs.Steps.{Own, thread_step}
 use Rattle.mr_start.specs.Start.{look_of, start_config, start_fault}

@@ -27,9 +27,9 @@ use Rattle.mr_wf.specs.Broken.{items_size}
 use Rattle.mr_eval.specs.Moves.{behind}
 use Rattle.mr_sched.specs.declared.schedule.Ask.{Ask}
 use Rattle.mr_sched.specs.declared.schedule.Ask.TheVariants.{Address}
-use Rattle.mr_plan.specs.Machine.{thread_of}
-use Rattle.mr_plan.specs.Legal.{Fault, picks_fault}
-use Rattle.mr_plan.specs.Runs.{Config}
+use Rattle.mr_frame.specs.PlanMachine.{thread_of}
+use Rattle.mr_frame.specs.PlanLegal.{Fault, picks_fault}
+use Rattle.mr_frame.specs.PlanRuns.{Config}
 use Rattle.mr_frame.specs.Frames.{Frame, Look}
 use Rattle.mr_thread.specs.Steps.{Own}
 

@@ -2,7 +2,7 @@
 ghost use Rattle.std.specs.Prelude.{◌≡◌, ◌+◌, ◌<◌, ◌^◌, MatchResult, None, Some, length};
 ghost use Rattle.mr_mem.specs.Memory.{first_overlapped, ranges_of};
 ghost use Rattle.mr_frame.specs.Standing.{IsUncounted};
-ghost use Rattle.mr_plan.specs.Legal.{address_fault, picks_fault};
+ghost use Rattle.mr_frame.specs.PlanLegal.{address_fault, picks_fault};
 ghost use Rattle.mr_start.specs.Judging.{address_among, fault_of, least, picked, waiter_fault};
 
 use crate::failure::PickFailure;

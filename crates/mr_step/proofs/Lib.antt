@@ -8,3 +8,26 @@ pub mod SoundLaws
 pub mod StackLaws
 pub mod TakenLaws
 pub mod PlaceLaws
+pub use Rattle.mr_exchange.proofs.FootLimits as ExchangeFootLimits
+pub use Rattle.mr_exchange.proofs.Law as ExchangeLaw
+pub use Rattle.mr_exchange.proofs.Sane as ExchangeSane
+pub use Rattle.mr_exchange.proofs.SwapBareSteps
+pub use Rattle.mr_exchange.proofs.SwapElementTests
+pub use Rattle.mr_exchange.proofs.SwapMeetsLaws
+pub use Rattle.mr_exchange.proofs.SwapStepRuns
+pub use Rattle.mr_exchange.proofs.Telling as ExchangeTelling
+pub use Rattle.mr_frame.proofs.StorageSteps as FrameStorageSteps
+pub use Rattle.mr_plan.proofs.ElementLaws as PlanElementLaws
+pub use Rattle.mr_plan.proofs.IdentityCases as PlanIdentityCases
+pub use Rattle.mr_plan.proofs.MemoryFacts as PlanMemoryFacts
+pub use Rattle.mr_plan.proofs.RunLaws as PlanRunLaws
+pub use Rattle.mr_plan.proofs.WentLaws as PlanWentLaws
+pub use Rattle.mr_start.proofs.RunLaws as StartRunLaws
+pub use Rattle.mr_start.proofs.StartSound as StartStartSound
+pub use Rattle.mr_start.proofs.ThreadRunSound
+pub use Rattle.mr_start.proofs.ThreadThreadRooms
+pub use Rattle.mr_turn.proofs.DoAnswers as TurnDoAnswers
+pub use Rattle.mr_turn.proofs.FrameTurns as TurnFrameTurns
+pub use Rattle.mr_turn.proofs.IntrArguments
+pub use Rattle.mr_turn.proofs.IntrEachOperation
+pub use Rattle.mr_turn.proofs.IntrOperatedLaws

@@ -9,8 +9,8 @@ use Rattle.mr_plan.specs.Machine.{State, Thread}
 use Rattle.mr_plan.specs.Queries.{tables_of}
 use Rattle.mr_frame.specs.Fits.{FitsStack}
 use Rattle.mr_frame.specs.Kept.{stack_of}
-use Rattle.mr_thread.specs.SoundState.{SoundState}
-use Rattle.mr_thread.specs.Steps.{Own}
+use Rattle.mr_start.specs.ThreadSoundState.{SoundState}
+use Rattle.mr_start.specs.ThreadSteps.{Own}
 use Rattle.mr_step.specs.declared.progress.Progress.{Progress}
 use Rattle.mr_step.specs.declared.progress.Thread.{Thread as KeptThread}
 use Rattle.mr_step.specs.Kept.{IsSound, config_of, stack_in, state_of}

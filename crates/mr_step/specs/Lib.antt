@@ -4,3 +4,26 @@ pub mod First
 pub mod Kept
 pub mod Settling
 pub mod Standing
+pub use Rattle.mr_eval.specs.MemoryQueries as EvalMemoryQueries
+pub use Rattle.mr_eval.specs.Operators as EvalOperators
+pub use Rattle.mr_eval.specs.Reads as EvalReads
+pub use Rattle.mr_exchange.specs.SwapMeets
+pub use Rattle.mr_exchange.specs.Witness as ExchangeWitness
+pub use Rattle.mr_frame.specs.Calls as FrameCalls
+pub use Rattle.mr_frame.specs.Frames as FrameFrames
+pub use Rattle.mr_frame.specs.Operations as FrameOperations
+pub use Rattle.mr_frame.specs.Steps as FrameSteps
+pub use Rattle.mr_plan.specs.Legal as PlanLegal
+pub use Rattle.mr_plan.specs.Machine as PlanMachine
+pub use Rattle.mr_plan.specs.Notes as PlanNotes
+pub use Rattle.mr_plan.specs.Queries as PlanQueries
+pub use Rattle.mr_plan.specs.Runs as PlanRuns
+pub use Rattle.mr_start.specs.Runs as StartRuns
+pub use Rattle.mr_start.specs.Start as StartStart
+pub use Rattle.mr_start.specs.ThreadSoundState
+pub use Rattle.mr_start.specs.ThreadSteps
+pub use Rattle.mr_turn.specs.IntrAtomics
+pub use Rattle.mr_turn.specs.IntrEffects
+pub use Rattle.mr_turn.specs.IntrOperations
+pub use Rattle.mr_turn.specs.IntrTexts
+pub use Rattle.mr_turn.specs.Turning as TurnTurning

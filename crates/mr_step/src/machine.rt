@@ -61,7 +61,7 @@ impl<'p> Machine<'p> {
     ghost use Rattle.mr_frame.specs.Fits.{FitsStack};
     ghost use Rattle.mr_frame.specs.Kept.{IsReady, look_of, stack_of};
     ghost use Rattle.mr_plan.specs.Queries.{tables_of};
-    ghost use Rattle.mr_thread.specs.Steps.{Own, thread_step};
+    ghost use Rattle.mr_start.specs.ThreadSteps.{Own, thread_step};
     ghost use Rattle.mr_turn.specs.Asking.{AsksAnswer};
     ghost use Rattle.mr_start.specs.Begin.{IsStart};
     ghost use Rattle.mr_start.specs.Start.{start_fault};

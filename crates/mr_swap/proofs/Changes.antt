@@ -9,8 +9,8 @@ use Rattle.mr_mem.specs.Memory.{Memory}
 use Rattle.mr_base.specs.Script.{Done, Undefined, IllFormed, Ask, Went, run}
 use Rattle.mr_base.proofs.ScriptSwaps.{goes_on}
 use Rattle.mr_sync.specs.Tables.{any_waits, handed, joiners, over}
-use Rattle.mr_eval.specs.MemoryQueries.{MemoryQuery, MemoryReply, memory_answer}
-use Rattle.mr_eval.specs.Tally.{Tally}
+use Rattle.mr_plan.specs.EvalMemoryQueries.{MemoryQuery, MemoryReply, memory_answer}
+use Rattle.mr_plan.specs.EvalTally.{Tally}
 use Rattle.mr_plan.specs.Notes.{Notes}
 use Rattle.mr_plan.specs.Queries.{Await, Finish, NewLock, OfMemory, Print, Query, Reply, Shared, Start, StepScript, TryLock, Unlock, Waiting, answer, blocked, in_shared, note, tables_of, woke}
 use Rattle.mr_plan.proofs.WentLaws.{at_outcome}

@@ -7,7 +7,7 @@ use Rattle.std.proofs.lemmas.Bool.{ne_eqb}
 use Rattle.std.proofs.lemmas.List.Elements.{All-append, All-cons, All-nil, Contains-append_left}
 use Rattle.mr_base.specs.declared.access.Access.{Access}
 use Rattle.mr_base.specs.declared.byte.AllocId.{AllocId}
-use Rattle.mr_eval.specs.Tally.{Tally}
+use Rattle.mr_plan.specs.EvalTally.{Tally}
 use Rattle.mr_event.specs.FootOk.{IsAccessOk}
 use Rattle.mr_event.specs.Footprint.{Footprint}
 use Rattle.mr_mem.specs.Memory.{Allocation, Memory, extent_of}

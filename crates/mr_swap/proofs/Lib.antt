@@ -19,3 +19,7 @@ pub mod Statuses
 pub mod StepGrows
 pub mod StepRuns
 pub mod SwapLaw
+pub use Rattle.mr_plan.proofs.ElementLaws as PlanElementLaws
+pub use Rattle.mr_plan.proofs.MemoryAnswers as PlanMemoryAnswers
+pub use Rattle.mr_plan.proofs.QuietRuns as PlanQuietRuns
+pub use Rattle.mr_plan.proofs.WentLaws as PlanWentLaws

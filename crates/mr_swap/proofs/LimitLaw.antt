@@ -14,7 +14,7 @@ use Rattle.mr_event.specs.FootOk.{IsAccessOk, IsEventOk, IsFootOk}
 use Rattle.mr_mem.specs.Memory.{Allocation, Memory, Ranges, is_multiple, ranges_of}
 use Rattle.mr_sched.specs.declared.schedule.Ask.{Ask}
 use Rattle.mr_sched.specs.declared.schedule.Ask.TheVariants.{Address, Waiter}
-use Rattle.mr_eval.specs.Tally.{Tally}
+use Rattle.mr_plan.specs.EvalTally.{Tally}
 use Rattle.mr_plan.specs.Legal.{count_of, state_fault}
 use Rattle.mr_plan.specs.Limits.{ArePlaced, IsWithin}
 use Rattle.mr_plan.specs.Machine.{Completed, Creation, CreatesLock, CreatesNothing, CreatesThread, Goes, Language, Needs, State, Thread, bare, needs}

@@ -12,8 +12,8 @@ use Rattle.mr_mem.specs.Memory.{Memory}
 use Rattle.mr_base.specs.Script.{Went, on}
 use Rattle.mr_base.proofs.ScriptSwaps.{IsLocal, goes_on}
 use Rattle.mr_sync.specs.Tables.{any_waiting, any_waits, handed, joiners, on_join, on_lock, over, wake}
-use Rattle.mr_eval.specs.MemoryQueries.{MemoryQuery, memory_answer}
-use Rattle.mr_eval.specs.Tally.{Tally}
+use Rattle.mr_plan.specs.EvalMemoryQueries.{MemoryQuery, memory_answer}
+use Rattle.mr_plan.specs.EvalTally.{Tally}
 use Rattle.mr_plan.specs.Notes.{Notes}
 use Rattle.mr_plan.specs.Places.{MemoryPlace}
 use Rattle.mr_plan.specs.Queries.{Await, Finish, NewLock, OfMemory, Print, Query, Reply, Shared, Start, TryLock, Unlock, Waiting, answer, blocked, in_shared, note, tables_of, woke}

@@ -10,7 +10,7 @@ use Rattle.mr_mem.specs.Memory.{Memory, Range, Ranges, first_overlapped, is_bad_
 use Rattle.mr_sched.specs.declared.schedule.Ask.{Ask}
 use Rattle.mr_sched.specs.declared.schedule.Ask.TheVariants.{Address, Waiter}
 use Rattle.mr_sync.specs.Tables.{on_lock}
-use Rattle.mr_eval.specs.Tally.{Tally}
+use Rattle.mr_plan.specs.EvalTally.{Tally}
 use Rattle.mr_plan.specs.Legal.{Fault, address_fault, else_fault, fault, picks_fault}
 use Rattle.mr_plan.proofs.ElementLaws.{Contains-nil}
 use Rattle.mr_plan.proofs.LegalLaws.{no_faults}

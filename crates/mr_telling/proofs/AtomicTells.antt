@@ -38,8 +38,8 @@ use Rattle.mr_plan.proofs.RangeChecks.{aligned_ok, aligned_passes, ranged}
 use Rattle.mr_plan.proofs.ReadingRuns.{memory_run, moved_to}
 use Rattle.mr_plan.proofs.StoreLaws.{stored_in, written_is}
 use Rattle.mr_frame.specs.Operations.{DueDo, Operands}
-use Rattle.mr_intr.specs.Operations.{atomic_load, found, loaded, modify}
-use Rattle.mr_thread.specs.Steps.{Own, Turn}
+use Rattle.mr_step.specs.IntrOperations.{atomic_load, found, loaded, modify}
+use Rattle.mr_step.specs.ThreadSteps.{Own, Turn}
 use Rattle.mr_blame.specs.Last.{last_asked, last_from, or_this}
 use Rattle.mr_blame.specs.Reaches.{reached_by, read_reached}
 use Rattle.mr_blame.specs.Reads.{come, last_reached, load_come, telling}

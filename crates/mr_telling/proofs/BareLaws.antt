@@ -32,9 +32,9 @@ use Rattle.mr_frame.specs.Sites.{AtStatement}
 use Rattle.mr_frame.specs.Standing.{IsDue}
 use Rattle.mr_frame.specs.Storage.{frame_slots, slots_with}
 use Rattle.mr_frame.proofs.StandLaws.{stmt_in}
-use Rattle.mr_thread.specs.SoundState.{IsSoundConfig, SoundState}
-use Rattle.mr_thread.specs.Steps.{Own, thread_step}
-use Rattle.mr_thread.proofs.ThreadRooms.{in_front_of_others, other_slots}
+use Rattle.mr_step.specs.ThreadSoundState.{IsSoundConfig, SoundState}
+use Rattle.mr_step.specs.ThreadSteps.{Own, thread_step}
+use Rattle.mr_step.proofs.ThreadThreadRooms.{in_front_of_others, other_slots}
 use Rattle.mr_sync.specs.Tables.{IsEnabled}
 use Rattle.mr_blame.specs.Reaches.{is_of_memory}
 use Rattle.mr_blame.specs.Reads.{IsBlamed, IsRefused}

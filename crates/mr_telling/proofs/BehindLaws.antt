@@ -8,8 +8,8 @@ use Rattle.mr_sched.specs.declared.schedule.Entry.{Entry}
 use Rattle.mr_plan.specs.Runs.{AreLegal, Config, after, entry_fault, machine_step}
 use Rattle.mr_frame.specs.Fits.{IsLook}
 use Rattle.mr_frame.specs.Frames.{Look}
-use Rattle.mr_thread.specs.SoundState.{IsSoundConfig}
-use Rattle.mr_thread.specs.Steps.{Own, thread_step}
+use Rattle.mr_step.specs.ThreadSoundState.{IsSoundConfig}
+use Rattle.mr_step.specs.ThreadSteps.{Own, thread_step}
 use Rattle.mr_wf.specs.Walk.{WellFormed}
 use Rattle.mr_told.specs.declared.reached.Reached.{Reached}
 use Rattle.mr_blame.specs.Reaches.{is_of_memory}

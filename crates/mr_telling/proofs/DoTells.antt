@@ -33,9 +33,9 @@ use Rattle.mr_plan.specs.Queries.{Await, NewLock, OfMemory, Print, Query, Reply,
 use Rattle.mr_plan.proofs.ReadingRuns.{memory_run, moved_to}
 use Rattle.mr_frame.specs.Frames.{Look}
 use Rattle.mr_frame.specs.Operations.{DueDo, Operands, done_stack, finish, next_do, operands, store_result}
-use Rattle.mr_intr.specs.Operations.{Operation, acquire, allocate, allocating, assume, assuming, atomic_store, create_lock, deallocate, found, instant, is_power_of_two, join, number, number_in, print, release, releasing, truth_in, with_pick}
-use Rattle.mr_intr.specs.Texts.{spaced, text_of, texts_of}
-use Rattle.mr_thread.specs.Steps.{Own, Turn, finished, finishing, last_payload, operated, own_step, step_due, with_stack}
+use Rattle.mr_step.specs.IntrOperations.{Operation, acquire, allocate, allocating, assume, assuming, atomic_store, create_lock, deallocate, found, instant, is_power_of_two, join, number, number_in, print, release, releasing, truth_in, with_pick}
+use Rattle.mr_step.specs.IntrTexts.{spaced, text_of, texts_of}
+use Rattle.mr_step.specs.ThreadSteps.{Own, Turn, finished, finishing, last_payload, operated, own_step, step_due, with_stack}
 use Rattle.mr_blame.specs.Reaches.{is_of_memory, reached_by}
 use Rattle.mr_blame.specs.Reads.{IsBlamed, IsRefused, come, last_reached}
 use Rattle.mr_blame.proofs.QuietLaws.{Quiet, found_quiet, quiet_then}

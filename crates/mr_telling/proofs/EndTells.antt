@@ -49,7 +49,7 @@ use Rattle.mr_frame.proofs.ActedLaws.{plan_is}
 use Rattle.mr_frame.proofs.BeginWhole.{function_typed}
 use Rattle.mr_frame.proofs.IntrinsicLaws.{next_do_is}
 use Rattle.mr_frame.proofs.StorageSteps.{Leads}
-use Rattle.mr_thread.specs.Steps.{Own}
+use Rattle.mr_step.specs.ThreadSteps.{Own}
 use Rattle.std.specs.Prelude.{reverse}
 use Rattle.mr_blame.specs.Reaches.{reached_by}
 use Rattle.mr_blame.specs.Reads.{Comes, IsBlamed, IsRefused, come, last_reached, load_come, load_last, place_come, place_last, value_come, value_last, values_come, values_last, telling}

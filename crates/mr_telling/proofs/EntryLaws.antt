@@ -13,8 +13,8 @@ use Rattle.mr_plan.specs.Queries.{tables_of}
 use Rattle.mr_plan.specs.Runs.{Config, entry_fault, machine_step}
 use Rattle.mr_plan.proofs.LegalLaws.{no_faults}
 use Rattle.mr_frame.specs.Frames.{Look}
-use Rattle.mr_thread.specs.Steps.{Own, thread_step}
-use Rattle.mr_thread.proofs.RunSound.{legal_at}
+use Rattle.mr_step.specs.ThreadSteps.{Own, thread_step}
+use Rattle.mr_step.proofs.ThreadRunSound.{legal_at}
 use Rattle.mr_told.specs.declared.reached.Reached.{Reached}
 use Rattle.mr_blame.specs.Reaches.{is_of_memory}
 use Rattle.mr_telling.specs.Spoken.{spoken_at}

@@ -20,9 +20,9 @@ use Rattle.mr_frame.specs.Effects.{acted}
 use Rattle.mr_frame.specs.Frames.{Aborts, EndsThread, Exits, GoesOn, Look, Onward}
 use Rattle.mr_frame.specs.Operations.{DueDo, next_do}
 use Rattle.mr_frame.specs.Steps.{frame_plan}
-use Rattle.mr_thread.specs.Steps.{Own, Turn, TurnPlan, frame_step, in_step, onward, own_step, step_due}
-use Rattle.mr_turn.specs.Turning.{turned}
-use Rattle.mr_turn.proofs.FrameTurns.{frame_turned}
+use Rattle.mr_step.specs.ThreadSteps.{Own, Turn, TurnPlan, frame_step, in_step, onward, own_step, step_due}
+use Rattle.mr_step.specs.TurnTurning.{turned}
+use Rattle.mr_step.proofs.TurnFrameTurns.{frame_turned}
 use Rattle.mr_blame.specs.Reads.{IsBlamed, IsRefused}
 use Rattle.mr_telling.specs.Reaches.{memory_reached, reached}
 use Rattle.mr_telling.specs.Walks.{IsLawful, over_memory, own_come, own_last}

@@ -30,8 +30,8 @@ use Rattle.mr_frame.specs.Sites.{AtDo, Site}
 use Rattle.mr_frame.specs.Standing.{IsDue}
 use Rattle.mr_frame.proofs.ActedLaws.{site}
 use Rattle.mr_frame.proofs.IntrinsicLaws.{next_do_is}
-use Rattle.mr_thread.specs.Steps.{Own}
-use Rattle.mr_turn.proofs.DoAnswers.{operands_fit}
+use Rattle.mr_step.specs.ThreadSteps.{Own}
+use Rattle.mr_step.proofs.TurnDoAnswers.{operands_fit}
 use Rattle.mr_blame.specs.Reads.{Comes, IsBlamed, IsRefused, come, last_reached, place_come, place_last, values_come, values_last}
 use Rattle.mr_blame.proofs.BlameLaws.{blamed_behind, blamed_part, refused_behind, refused_part}
 use Rattle.mr_blame.proofs.NotesApart.{apart, run_apart}

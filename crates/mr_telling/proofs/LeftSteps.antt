@@ -22,10 +22,10 @@ use Rattle.mr_frame.specs.Calls.{callee_of, enter, kept_types, same_types, stora
 use Rattle.mr_frame.specs.Frames.{Aborts, EndsThread, Exits, GoesOn, Look, Onward}
 use Rattle.mr_frame.specs.Operations.{DueDo, Operands, finish, next_do, operands}
 use Rattle.mr_frame.specs.Steps.{frame_plan}
-use Rattle.mr_intr.specs.Operations.{Operation, allocating, assuming, exchanged, fetch, fetched, found, instant, is_power_of_two, loaded, modify, number_in, operation, releasing, truth_in, with_pick}
-use Rattle.mr_intr.specs.Texts.{text_of, texts_of}
-use Rattle.mr_intr.proofs.EachOperation.{of_operation}
-use Rattle.mr_thread.specs.Steps.{Own, Turn, do_step, finished, finishing, frame_step, last_payload, new_thread, onward, operated, own_step, spawn, spawn_function, spawn_number, spawn_types, start, step_due, thread_types}
+use Rattle.mr_step.specs.IntrOperations.{Operation, allocating, assuming, exchanged, fetch, fetched, found, instant, is_power_of_two, loaded, modify, number_in, operation, releasing, truth_in, with_pick}
+use Rattle.mr_step.specs.IntrTexts.{text_of, texts_of}
+use Rattle.mr_step.proofs.IntrEachOperation.{of_operation}
+use Rattle.mr_step.specs.ThreadSteps.{Own, Turn, do_step, finished, finishing, frame_step, last_payload, new_thread, onward, operated, own_step, spawn, spawn_function, spawn_number, spawn_types, start, step_due, thread_types}
 use Rattle.mr_blame.proofs.Leaving.{Anything, Leaves, leaves_then, reading_leaves}
 use Rattle.mr_blame.proofs.Left.{Reads, found_reads}
 use Rattle.mr_telling.proofs.LeftFrames.{Acts, PlanActs, enter_acts, finish_acts, frame_plans, operands_read}

@@ -35,7 +35,7 @@ use Rattle.mr_frame.proofs.ActedLaws.{site}
 use Rattle.mr_frame.proofs.DoLaws.{do_operands}
 use Rattle.mr_frame.proofs.IntrinsicLaws.{next_do_is}
 use Rattle.mr_frame.proofs.StandLaws.{term_in_block}
-use Rattle.mr_turn.proofs.DoAnswers.{operands_fit}
+use Rattle.mr_step.proofs.TurnDoAnswers.{operands_fit}
 use Rattle.mr_blame.specs.Reads.{Comes, IsBlamed, IsRefused, come, place_come, place_last, values_come, values_last}
 use Rattle.mr_blame.proofs.NotesApart.{apart, run_apart}
 use Rattle.mr_telling.specs.Operations.{operation_reached}

@@ -40,12 +40,12 @@ use Rattle.mr_frame.specs.Operations.{DueDo, Operands, OperandsFit, PlaceFits}
 use Rattle.mr_frame.specs.Sites.{kept_locals}
 use Rattle.mr_frame.proofs.BeginWhole.{function_typed}
 use Rattle.mr_frame.proofs.PlainLaws.{PlainResult, plain_intrinsic}
-use Rattle.mr_intr.specs.Atomics.{IsFetch}
-use Rattle.mr_intr.specs.Effects.{Fits}
-use Rattle.mr_intr.specs.Operations.{Operation, acquire, allocate, assume, atomic_store, create_lock, exchanged, fetch, fetched, found, join, modify, number_in, operation, release}
-use Rattle.mr_intr.proofs.Arguments.{acquire_takes, allocate_takes, assume_takes, atomic_load_takes, atomic_store_takes, create_lock_takes, deallocate_takes, exchange_takes, fetch_takes, join_takes, release_takes}
-use Rattle.mr_intr.proofs.OperatedLaws.{int_number}
-use Rattle.mr_thread.specs.Steps.{Own, Turn, TurnPlan, finishing, new_thread, operated, spawn, spawn_function, spawn_number, spawn_types, start, thread_types}
+use Rattle.mr_step.specs.IntrAtomics.{IsFetch}
+use Rattle.mr_step.specs.IntrEffects.{Fits}
+use Rattle.mr_step.specs.IntrOperations.{Operation, acquire, allocate, assume, atomic_store, create_lock, exchanged, fetch, fetched, found, join, modify, number_in, operation, release}
+use Rattle.mr_step.proofs.IntrArguments.{acquire_takes, allocate_takes, assume_takes, atomic_load_takes, atomic_store_takes, create_lock_takes, deallocate_takes, exchange_takes, fetch_takes, join_takes, release_takes}
+use Rattle.mr_step.proofs.IntrOperatedLaws.{int_number}
+use Rattle.mr_step.specs.ThreadSteps.{Own, Turn, TurnPlan, finishing, new_thread, operated, spawn, spawn_function, spawn_number, spawn_types, start, thread_types}
 use Rattle.mr_telling.specs.Operations.{both_reached, integer_bytes, number_at, operation_reached, pointer_at, read_reached_by}
 use Rattle.mr_telling.specs.Reaches.{reached}
 use Rattle.mr_telling.proofs.AtomicTells.{load_told, modify_told}

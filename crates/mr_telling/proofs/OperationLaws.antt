@@ -22,10 +22,10 @@ use Rattle.mr_eval.specs.Reads.{Seen}
 use Rattle.mr_frame.specs.declared.dos.DoCall.{DoCall}
 use Rattle.mr_frame.specs.Doing.{operands_of}
 use Rattle.mr_frame.specs.Operations.{OperandsFit}
-use Rattle.mr_intr.specs.Atomics.{IsFetch}
-use Rattle.mr_intr.specs.Effects.{Fits}
-use Rattle.mr_intr.proofs.Arguments.{atomic_load_takes, deallocate_takes, exchange_takes, fetch_takes}
-use Rattle.mr_intr.proofs.OperatedLaws.{int_number}
+use Rattle.mr_step.specs.IntrAtomics.{IsFetch}
+use Rattle.mr_step.specs.IntrEffects.{Fits}
+use Rattle.mr_step.proofs.IntrArguments.{atomic_load_takes, deallocate_takes, exchange_takes, fetch_takes}
+use Rattle.mr_step.proofs.IntrOperatedLaws.{int_number}
 use Rattle.mr_blame.specs.Reads.{load_come}
 use Rattle.mr_blame.proofs.NotesApart.{load_stopped, load_went}
 use Rattle.mr_telling.specs.Operations.{number_at, where_loaded}

@@ -17,9 +17,9 @@ use Rattle.mr_plan.specs.Queries.{Query, tables_of}
 use Rattle.mr_plan.specs.Runs.{AreLegal, Config, after, after_bare, entry_fault, fault_in, foot_in, is_running, machine_step, races_with, stepped_from}
 use Rattle.mr_frame.specs.Fits.{IsLook}
 use Rattle.mr_frame.specs.Frames.{Look}
-use Rattle.mr_thread.specs.Steps.{Own, thread_step}
-use Rattle.mr_thread.specs.SoundState.{IsSoundConfig}
-use Rattle.mr_thread.proofs.RunSound.{entry_sound, legal_at}
+use Rattle.mr_step.specs.ThreadSteps.{Own, thread_step}
+use Rattle.mr_step.specs.ThreadSoundState.{IsSoundConfig}
+use Rattle.mr_step.proofs.ThreadRunSound.{entry_sound, legal_at}
 use Rattle.mr_wf.specs.Walk.{WellFormed}
 use Rattle.mr_told.specs.declared.reached.Reached.{Reached}
 use Rattle.mr_blame.specs.Reaches.{is_of_memory}

@@ -12,7 +12,7 @@ use Rattle.mr_sched.specs.declared.schedule.Ask.{Ask}
 use Rattle.mr_step.specs.Standing.{place_in}
 use Rattle.mr_step.proofs.EntryLaws.{enabled_is}
 use Rattle.mr_sync.specs.Tables.{IsEnabled, is_enabled}
-use Rattle.mr_thread.specs.Steps.{Own, thread_step}
+use Rattle.mr_step.specs.ThreadSteps.{Own, thread_step}
 use Rattle.mr_telling.specs.Told.{asks_at, asks_from, stand_from, stand_of, stand_with, status_from, status_of}
 use Rattle.mr_telling.specs.Told.{threads_from}
 

@@ -7,11 +7,11 @@ use Rattle.mr_base.specs.declared.reason.Verdict.TheVariants as verdict
 use Rattle.mr_sched.specs.declared.schedule.Schedule.{Schedule}
 use Rattle.mr_plan.specs.Runs.{AreLegal, after}
 use Rattle.mr_frame.specs.Fits.{IsLook}
-use Rattle.mr_start.specs.Runs.{Legal, run_of}
-use Rattle.mr_start.specs.Start.{look_of, start_config}
-use Rattle.mr_start.proofs.StartSound.{start_look, start_sound}
-use Rattle.mr_thread.specs.SoundState.{IsSoundConfig}
-use Rattle.mr_thread.specs.Steps.{thread_step}
+use Rattle.mr_step.specs.StartRuns.{Legal, run_of}
+use Rattle.mr_step.specs.StartStart.{look_of, start_config}
+use Rattle.mr_step.proofs.StartStartSound.{start_look, start_sound}
+use Rattle.mr_step.specs.ThreadSoundState.{IsSoundConfig}
+use Rattle.mr_step.specs.ThreadSteps.{thread_step}
 use Rattle.mr_step.specs.Answers.{StartAnswer}
 use Rattle.mr_step.specs.Standing.{Standing}
 use Rattle.mr_wf.specs.Walk.{WellFormed}

@@ -16,7 +16,7 @@ use Rattle.mr_base.specs.Script.{Broken, Outcome, Refused, Went, run, ◌>>=◌}
 use Rattle.mr_telling.specs.Laws.{StepRefused}
 use Rattle.mr_telling.specs.Spoken.{last_of}
 use Rattle.mr_telling.proofs.LeftSteps.{whole_steps}
-use Rattle.mr_thread.specs.Steps.{Own, own_step, thread_step}
+use Rattle.mr_step.specs.ThreadSteps.{Own, own_step, thread_step}
 
 -- a step stops with the reason with which its script does
 exit_defined : (s : State Own) (r : Reason) (b : Bool) → ◌≡◌ {A = Bare Own} (Stops (if b then verdict.Leak else verdict.Exit)) (Stops (verdict.Undefined r)) → ⊥

@@ -42,7 +42,7 @@ use Rattle.mr_frame.specs.Switches.{first_case, number_as, switched}
 use Rattle.mr_frame.proofs.ActedLaws.{plan_is, site}
 use Rattle.mr_frame.proofs.IntrinsicLaws.{next_do_is}
 use Rattle.mr_frame.proofs.Statements.{by_kind, changes}
-use Rattle.mr_thread.specs.Steps.{Own}
+use Rattle.mr_step.specs.ThreadSteps.{Own}
 use Rattle.mr_blame.specs.Reads.{IsBlamed, IsRefused, come, last_reached, value_come, value_last}
 use Rattle.mr_blame.proofs.QuietLaws.{Quiet, found_then, part_blamed, part_refused, pointer_quiet}
 use Rattle.mr_telling.specs.Reaches.{memory_reached}

@@ -10,11 +10,11 @@ use Rattle.mr_plan.specs.Machine.{Language}
 use Rattle.mr_plan.specs.Runs.{Config, after, machine_step}
 use Rattle.mr_sched.specs.declared.schedule.Entry.{Entry}
 use Rattle.mr_sched.specs.declared.schedule.Schedule.{Schedule}
-use Rattle.mr_start.specs.Runs.{program_step}
+use Rattle.mr_step.specs.StartRuns.{program_step}
 use Rattle.mr_step.specs.Answers.{StartAnswer}
 use Rattle.mr_step.specs.Standing.{Standing}
 use Rattle.mr_run.specs.Runs.{IsMade}
-use Rattle.mr_thread.specs.Steps.{Own, thread_step}
+use Rattle.mr_step.specs.ThreadSteps.{Own, thread_step}
 use Rattle.mr_told.specs.declared.rows.Allocation.{Allocation}
 use Rattle.mr_told.specs.declared.step.ToldStep.{ToldStep}
 use Rattle.mr_told.specs.Table.{step_rows}

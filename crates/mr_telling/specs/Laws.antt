@@ -7,7 +7,7 @@ use Rattle.mr_frame.specs.Frames.{Look}
 use Rattle.mr_plan.specs.Machine.{State, Stops, bare}
 use Rattle.mr_plan.specs.Queries.{answer}
 use Rattle.mr_telling.specs.Spoken.{last_query}
-use Rattle.mr_thread.specs.Steps.{Own, thread_step}
+use Rattle.mr_step.specs.ThreadSteps.{Own, thread_step}
 
 -- WHERE A STEP IS UNDEFINED for a reason that memory itself gives, its last query is refused for this very reason
 abbrev pub StepRefused : Type 0

@@ -10,7 +10,7 @@ use Rattle.mr_blame.specs.Reaches.{reached_by}
 use Rattle.mr_blame.specs.Reads.{load_come}
 use Rattle.mr_eval.specs.Operators.{pointer_in}
 use Rattle.mr_frame.specs.Operations.{Operands}
-use Rattle.mr_intr.specs.Operations.{number_in}
+use Rattle.mr_step.specs.IntrOperations.{number_in}
 use Rattle.mr_layout.specs.Sizes.{size_of}
 use Rattle.mr_mem.specs.Memory.{Memory}
 use Rattle.mr_told.specs.declared.reached.Reached.{Reached}

@@ -12,8 +12,8 @@ use Rattle.mr_plan.specs.Runs.{Config, after}
 use Rattle.mr_sched.specs.declared.schedule.Entry.{Entry}
 use Rattle.mr_sched.specs.declared.schedule.Schedule.{Schedule}
 use Rattle.mr_base.specs.Script.{◌>>=◌}
-use Rattle.mr_start.specs.Start.{look_of, start_config}
-use Rattle.mr_thread.specs.Steps.{Own, thread_step}
+use Rattle.mr_step.specs.StartStart.{look_of, start_config}
+use Rattle.mr_step.specs.ThreadSteps.{Own, thread_step}
 use Rattle.mr_told.specs.declared.reached.Reached.{Reached}
 use Rattle.mr_blame.specs.Last.{last_asked}
 use Rattle.mr_blame.specs.Reaches.{is_of_memory}

@@ -16,11 +16,11 @@ use Rattle.mr_plan.specs.Runs.{Config, after}
 use Rattle.mr_sched.specs.declared.schedule.Ask.{Ask}
 use Rattle.mr_sched.specs.declared.schedule.Entry.{Entry}
 use Rattle.mr_sched.specs.declared.schedule.Schedule.{Schedule}
-use Rattle.mr_start.specs.Runs.{program_step}
-use Rattle.mr_start.specs.Start.{look_of, start_config}
+use Rattle.mr_step.specs.StartRuns.{program_step}
+use Rattle.mr_step.specs.StartStart.{look_of, start_config}
 use Rattle.mr_step.specs.Standing.{place_in}
 use Rattle.mr_sync.specs.Tables.{is_enabled}
-use Rattle.mr_thread.specs.Steps.{Own, thread_step}
+use Rattle.mr_step.specs.ThreadSteps.{Own, thread_step}
 use Rattle.mr_told.specs.declared.step.Rest.{Rest}
 use Rattle.mr_told.specs.declared.step.Stand.{Stand}
 use Rattle.mr_told.specs.declared.step.ToldStep.{ToldStep}

@@ -31,7 +31,7 @@ use Rattle.mr_told.specs.declared.reached.Reached.{Reached}
 use Rattle.mr_told.specs.declared.reached.Reaching.TheVariants.{Frees, Stores}
 use Rattle.mr_base.specs.Script.{IllFormed, Outcome, run, ◌>>=◌}
 use Rattle.mr_sync.specs.Tables.{Tables}
-use Rattle.mr_thread.specs.Steps.{Own, Turn, own_step, thread_step}
+use Rattle.mr_step.specs.ThreadSteps.{Own, Turn, own_step, thread_step}
 use Rattle.mr_telling.specs.Reaches.{memory_reached, reached}
 use Rattle.mr_telling.specs.Spoken.{last_query}
 

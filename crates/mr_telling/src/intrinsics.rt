@@ -13,7 +13,7 @@ ghost use Rattle.mr_frame.specs.Kept.{look_of, stack_of};
 ghost use Rattle.mr_frame.specs.Operations.{DueDo, OperandsFit, next_do};
 ghost use Rattle.mr_frame.specs.Sites.{AtDo};
 ghost use Rattle.mr_frame.specs.Standing.{IsDue};
-ghost use Rattle.mr_intr.specs.Operations.{number_in};
+ghost use Rattle.mr_step.specs.IntrOperations.{number_in};
 ghost use Rattle.mr_layout.specs.TypeOk.{TypeOk};
 ghost use Rattle.mr_told.specs.declared.reached.Reached.{Reached as ReachedOf};
 ghost use Rattle.mr_told.specs.declared.reached.Reaching.TheVariants.{Frees, Stores};

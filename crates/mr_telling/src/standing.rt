@@ -4,7 +4,7 @@ ghost use Rattle.std.specs.Option.{option_map};
 ghost use Rattle.mr_plan.specs.Machine.{State, needs};
 ghost use Rattle.mr_plan.specs.Queries.{tables_of};
 ghost use Rattle.mr_sync.specs.Tables.{IsEnabled};
-ghost use Rattle.mr_thread.specs.Steps.{Own, thread_step};
+ghost use Rattle.mr_step.specs.ThreadSteps.{Own, thread_step};
 ghost use Rattle.mr_telling.specs.Told.{asks_at, asks_by, stand_of, stand_with, started_by, started_in, status_of};
 
 use mr_base::{Event, Status};

@@ -3,8 +3,8 @@ ghost use Rattle.std.specs.Prelude.{◌≡◌, ◌+◌, ◌++◌, ◌^◌, ◌<�
 ghost use Rattle.std.specs.Prelude.{option_copied};
 ghost use Rattle.mr_event.specs.Footprint.{Footprint as FootprintOf};
 ghost use Rattle.mr_plan.specs.Runs.{feet};
-ghost use Rattle.mr_start.specs.Runs.{steps_of};
-ghost use Rattle.mr_thread.specs.Steps.{thread_step};
+ghost use Rattle.mr_step.specs.StartRuns.{steps_of};
+ghost use Rattle.mr_step.specs.ThreadSteps.{thread_step};
 ghost use Rattle.mr_run.specs.Records.{HasRoom};
 ghost use Rattle.mr_run.specs.Runs.{EntriesAnswer, EntryAnswer, HasPlace, RunAnswer, foot_by, placed};
 ghost use Rattle.mr_told.specs.Table.{step_rows};

@@ -5,19 +5,19 @@ use Rattle.std.specs.Prelude.{slice_get}
 use Rattle.mr_ast.specs.declared.program.Program.{Program}
 use Rattle.mr_base.specs.declared.thread.Status.{Status}
 use Rattle.mr_base.specs.declared.thread.Status.TheVariants.{Enabled, Ended, OnJoin, OnLock}
-use Rattle.mr_wf.specs.Walk.{WellFormed}
+use Rattle.mr_frame.specs.WfWalk.{WellFormed}
 use Rattle.mr_base.specs.Script.{Outcome, Went, Refused, Broken, on, run}
 use Rattle.mr_base.proofs.ScriptRuns.{run_bind}
-use Rattle.mr_eval.specs.Tally.{start_tally}
-use Rattle.mr_plan.specs.Legal.{count_of, needs_fault, state_fault, status_fault}
-use Rattle.mr_plan.specs.Machine.{Aborts, Bare, Completed, Exits, Goes, IllFormedStep, Plan, State, Stops, Thread, acted, bare, needs, needed, needs_of, settled}
-use Rattle.mr_plan.specs.Notes.{Notes, start_notes}
-use Rattle.mr_plan.specs.Queries.{Shared, StepScript, answer}
-use Rattle.mr_plan.specs.Storage.{AreHeld, Slot}
+use Rattle.mr_frame.specs.EvalTally.{start_tally}
+use Rattle.mr_frame.specs.PlanLegal.{count_of, needs_fault, state_fault, status_fault}
+use Rattle.mr_frame.specs.PlanMachine.{Aborts, Bare, Completed, Exits, Goes, IllFormedStep, Plan, State, Stops, Thread, acted, bare, needs, needed, needs_of, settled}
+use Rattle.mr_frame.specs.PlanNotes.{Notes, start_notes}
+use Rattle.mr_frame.specs.PlanQueries.{Shared, StepScript, answer}
+use Rattle.mr_frame.specs.PlanStorage.{AreHeld, Slot}
 use Rattle.mr_frame.specs.Storage.{frame_slots}
-use Rattle.mr_plan.proofs.LegalLaws.{no_faults}
-use Rattle.mr_plan.proofs.MemoryFacts.{MemoryFacts, start_facts}
-use Rattle.mr_plan.proofs.Outcomes.{After}
+use Rattle.mr_frame.proofs.PlanLegalLaws.{no_faults}
+use Rattle.mr_frame.proofs.PlanMemoryFacts.{MemoryFacts, start_facts}
+use Rattle.mr_frame.proofs.PlanOutcomes.{After}
 use Rattle.mr_frame.specs.Fits.{FitsStack, IsLook}
 use Rattle.mr_frame.specs.Frames.{Look}
 use Rattle.mr_frame.specs.Operations.{DueDo, next_do}

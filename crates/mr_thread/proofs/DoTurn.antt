@@ -17,31 +17,31 @@ use Rattle.mr_base.specs.declared.reason.Reason.TheVariants.{SignatureMismatch}
 use Rattle.mr_base.specs.declared.thread.Event.TheVariants.{Spawn}
 use Rattle.mr_base.specs.declared.thread.Status.{Status}
 use Rattle.mr_base.specs.declared.thread.Status.TheVariants.{Enabled}
-use Rattle.mr_mem.specs.Memory.{ranges_of}
+use Rattle.mr_frame.specs.MemMemory.{ranges_of}
 use Rattle.mr_value.specs.declared.val.Val.{Val, out-Val}
 use Rattle.mr_value.specs.declared.val.Val.TheVariants as val
 use Rattle.mr_value.specs.Shape.{has_shape}
 use Rattle.mr_value.proofs.ShapeLaws.{has_int, has_raw, shape_fn_ptr}
-use Rattle.mr_wf.specs.Intrinsics.{fits_intrinsic, gives}
-use Rattle.mr_wf.specs.Operands.{is_fn_ptr, is_raw}
-use Rattle.mr_wf.specs.Walk.{WellFormed}
-use Rattle.mr_wf.proofs.KindLaws.{fn_ptr_is, raw_is}
+use Rattle.mr_frame.specs.WfIntrinsics.{fits_intrinsic, gives}
+use Rattle.mr_frame.specs.WfOperands.{is_fn_ptr, is_raw}
+use Rattle.mr_frame.specs.WfWalk.{WellFormed}
+use Rattle.mr_frame.proofs.WfKindLaws.{fn_ptr_is, raw_is}
 use Rattle.mr_base.specs.Script.{Done, Undefined, on, run}
-use Rattle.mr_eval.specs.Tally.{start_tally}
-use Rattle.mr_eval.specs.Shapes.{HaveShapes}
-use Rattle.mr_sync.specs.Sound.{IsSoundTables}
-use Rattle.mr_sync.specs.Tables.{over, spawned}
-use Rattle.mr_sync.proofs.SoundTables.{stay_sound}
-use Rattle.mr_plan.specs.Legal.{creation_fault, fault, picks_fault}
-use Rattle.mr_plan.specs.Machine.{CreatesThread, Goes}
-use Rattle.mr_plan.specs.Notes.{Notes, start_notes}
-use Rattle.mr_plan.specs.Queries.{Shared, answer, memory_part, note, tables_of, with_tables, woke}
-use Rattle.mr_plan.specs.Storage.{AreHeld, Slot}
-use Rattle.mr_plan.proofs.LegalLaws.{no_faults, picks_length}
-use Rattle.mr_plan.proofs.MemoryFacts.{MemoryFacts}
-use Rattle.mr_plan.proofs.MemoryParts.{Leaves, Left, leaves_then, memory_after, reading_after}
-use Rattle.mr_plan.proofs.Outcomes.{After, after_then}
-use Rattle.mr_plan.proofs.Rooms.{behind, in_front}
+use Rattle.mr_frame.specs.EvalTally.{start_tally}
+use Rattle.mr_frame.specs.EvalShapes.{HaveShapes}
+use Rattle.mr_intr.specs.SyncSound.{IsSoundTables}
+use Rattle.mr_intr.specs.SyncTables.{over, spawned}
+use Rattle.mr_intr.proofs.SyncSoundTables.{stay_sound}
+use Rattle.mr_frame.specs.PlanLegal.{creation_fault, fault, picks_fault}
+use Rattle.mr_frame.specs.PlanMachine.{CreatesThread, Goes}
+use Rattle.mr_frame.specs.PlanNotes.{Notes, start_notes}
+use Rattle.mr_frame.specs.PlanQueries.{Shared, answer, memory_part, note, tables_of, with_tables, woke}
+use Rattle.mr_frame.specs.PlanStorage.{AreHeld, Slot}
+use Rattle.mr_frame.proofs.PlanLegalLaws.{no_faults, picks_length}
+use Rattle.mr_frame.proofs.PlanMemoryFacts.{MemoryFacts}
+use Rattle.mr_frame.proofs.PlanMemoryParts.{Leaves, Left, leaves_then, memory_after, reading_after}
+use Rattle.mr_frame.proofs.PlanOutcomes.{After, after_then}
+use Rattle.mr_frame.proofs.PlanRooms.{behind, in_front}
 use Rattle.mr_frame.specs.Calls.{behind_first, callee_of, enter, kept_types, same_types, storage_asks}
 use Rattle.mr_frame.specs.Fits.{FitsStack, IsLook}
 use Rattle.mr_frame.specs.Frames.{Frame, Look, Stack}
@@ -60,7 +60,7 @@ use Rattle.mr_thread.specs.Steps.{Own, do_step, finished, finishing, last_payloa
 use Rattle.mr_thread.proofs.FrameTurn.{PlanTurns}
 use Rattle.mr_thread.proofs.Turns.{AfterTurn, StartedFits, fits_over, many_started, started_slots}
 use Rattle.mr_base.proofs.Lists.{item_there}
-use Rattle.mr_eval.specs.Operators.{pointer_in}
+use Rattle.mr_frame.specs.EvalOperators.{pointer_in}
 use Rattle.mr_sched.specs.declared.rule.ScheduleRule.TheVariants as rule
 
 value_fits : (t : Option Ty) (v : Option Val) → FitsPlace t v → ValueFits t v

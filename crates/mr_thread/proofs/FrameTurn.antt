@@ -8,32 +8,32 @@ use Rattle.std.specs.Option.{option_map}
 use Rattle.mr_ast.specs.declared.program.Program.{Program}
 use Rattle.mr_base.specs.declared.thread.Status.{Status}
 use Rattle.mr_base.specs.declared.thread.Status.TheVariants.{Enabled, Ended, OnJoin, OnLock}
-use Rattle.mr_wf.specs.Walk.{WellFormed}
+use Rattle.mr_frame.specs.WfWalk.{WellFormed}
 use Rattle.mr_base.specs.Script.{Done, Undefined, IllFormed, Ask, Went, Broken, on, run}
-use Rattle.mr_eval.specs.MemoryQueries.{MemoryScript}
-use Rattle.mr_eval.specs.Reads.{ReadScript}
-use Rattle.mr_eval.specs.Sound.{IsSafe}
-use Rattle.mr_eval.specs.Tally.{start_tally}
-use Rattle.mr_sync.specs.Sound.{IsSoundTables}
-use Rattle.mr_sync.specs.Tables.{ended, over, wake}
-use Rattle.mr_sync.proofs.SoundTables.{stay_sound}
-use Rattle.mr_plan.specs.Legal.{creation_fault, needs_fault, picks_fault}
-use Rattle.mr_plan.specs.Machine.{Goes, Plan}
-use Rattle.mr_plan.specs.Notes.{Notes, start_notes}
-use Rattle.mr_plan.specs.Queries.{Finish, Shared, StepScript, answer, ending, memory_part, tables_of, with_tables}
-use Rattle.mr_plan.specs.Storage.{AreHeld, Slot}
-use Rattle.mr_plan.proofs.LegalLaws.{no_faults, picks_length}
-use Rattle.mr_plan.proofs.MemoryFacts.{MemoryFacts}
-use Rattle.mr_plan.proofs.MemoryParts.{Leaves, Left, leaves_then, memory_after, reading_after}
-use Rattle.mr_plan.proofs.Outcomes.{After, after_then}
-use Rattle.mr_mem.specs.Memory.{ranges_of}
+use Rattle.mr_frame.specs.EvalMemoryQueries.{MemoryScript}
+use Rattle.mr_frame.specs.EvalReads.{ReadScript}
+use Rattle.mr_frame.specs.EvalSound.{IsSafe}
+use Rattle.mr_frame.specs.EvalTally.{start_tally}
+use Rattle.mr_intr.specs.SyncSound.{IsSoundTables}
+use Rattle.mr_intr.specs.SyncTables.{ended, over, wake}
+use Rattle.mr_intr.proofs.SyncSoundTables.{stay_sound}
+use Rattle.mr_frame.specs.PlanLegal.{creation_fault, needs_fault, picks_fault}
+use Rattle.mr_frame.specs.PlanMachine.{Goes, Plan}
+use Rattle.mr_frame.specs.PlanNotes.{Notes, start_notes}
+use Rattle.mr_frame.specs.PlanQueries.{Finish, Shared, StepScript, answer, ending, memory_part, tables_of, with_tables}
+use Rattle.mr_frame.specs.PlanStorage.{AreHeld, Slot}
+use Rattle.mr_frame.proofs.PlanLegalLaws.{no_faults, picks_length}
+use Rattle.mr_frame.proofs.PlanMemoryFacts.{MemoryFacts}
+use Rattle.mr_frame.proofs.PlanMemoryParts.{Leaves, Left, leaves_then, memory_after, reading_after}
+use Rattle.mr_frame.proofs.PlanOutcomes.{After, after_then}
+use Rattle.mr_frame.specs.MemMemory.{ranges_of}
 use Rattle.mr_frame.specs.Fits.{FitsOnward, FitsStack, IsLook, IsSafePlan}
 use Rattle.mr_frame.specs.Frames.{Aborts, EndsThread, Exits, GoesOn, Look, Onward, Stack}
 use Rattle.mr_frame.specs.Operations.{next_do}
 use Rattle.mr_frame.specs.Steps.{frame_plan}
 use Rattle.mr_frame.specs.Storage.{frame_slots, onward_slots}
 use Rattle.mr_frame.proofs.FrameSafe.{frame_safe}
-use Rattle.mr_plan.proofs.Positions.{set_here}
+use Rattle.mr_frame.proofs.PlanPositions.{set_here}
 use Rattle.mr_frame.proofs.StorageSteps.{KeepsSlots, Leads, frame_keeps}
 use Rattle.mr_thread.specs.Steps.{Own, Turn, frame_step, in_step, onward, reads, with_stack}
 use Rattle.mr_thread.proofs.Turns.{AfterTurn, TurnLeaves, fits_over, same_tables}

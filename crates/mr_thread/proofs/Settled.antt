@@ -10,14 +10,14 @@ use Rattle.mr_ast.specs.declared.program.Program.{Program}
 use Rattle.mr_base.specs.declared.byte.AllocId.{AllocId}
 use Rattle.mr_base.specs.declared.thread.Status.{Status}
 use Rattle.mr_base.specs.declared.thread.Status.TheVariants.{Enabled}
-use Rattle.mr_mem.specs.Memory.{Allocation}
-use Rattle.mr_sync.specs.Tables.{over}
-use Rattle.mr_plan.specs.Machine.{State, Thread, started_threads, thread_of}
-use Rattle.mr_plan.specs.Notes.{Notes}
-use Rattle.mr_plan.specs.Queries.{Shared}
-use Rattle.mr_plan.proofs.Rooms.{append_cases, behind, in_front}
-use Rattle.mr_plan.proofs.StorageRuns.{set_cases}
-use Rattle.mr_plan.proofs.Positions.{set_here}
+use Rattle.mr_frame.specs.MemMemory.{Allocation}
+use Rattle.mr_intr.specs.SyncTables.{over}
+use Rattle.mr_frame.specs.PlanMachine.{State, Thread, started_threads, thread_of}
+use Rattle.mr_frame.specs.PlanNotes.{Notes}
+use Rattle.mr_frame.specs.PlanQueries.{Shared}
+use Rattle.mr_frame.proofs.PlanRooms.{append_cases, behind, in_front}
+use Rattle.mr_frame.proofs.PlanStorageRuns.{set_cases}
+use Rattle.mr_frame.proofs.PlanPositions.{set_here}
 use Rattle.mr_thread.specs.SoundState.{FitsStatus, IsCounted, SoundState}
 use Rattle.mr_thread.specs.Steps.{Own}
 use Rattle.mr_thread.proofs.ThreadRooms.{back_in_place, other_slots}

@@ -3,10 +3,10 @@ use Rattle.std.proofs.Common.{◌≡◌, ℕ, zero, suc, refl, sym, ap, ◌∙�
 use Rattle.std.proofs.lemmas.Option.{same_Some}
 use Rattle.std.specs.Prelude.{slice_get, slice_set}
 use Rattle.mr_ast.specs.declared.program.Program.{Program}
-use Rattle.mr_mem.specs.Memory.{Memory}
-use Rattle.mr_plan.specs.Machine.{Thread, started_threads, thread_of}
-use Rattle.mr_plan.specs.Storage.{AreHeld, Slot}
-use Rattle.mr_plan.proofs.Rooms.{change_places}
+use Rattle.mr_frame.specs.MemMemory.{Memory}
+use Rattle.mr_frame.specs.PlanMachine.{Thread, started_threads, thread_of}
+use Rattle.mr_frame.specs.PlanStorage.{AreHeld, Slot}
+use Rattle.mr_frame.proofs.PlanRooms.{change_places}
 use Rattle.mr_frame.specs.Frames.{Frame}
 use Rattle.mr_frame.specs.Storage.{frame_slots, slots_with}
 use Rattle.mr_thread.specs.SoundState.{own_slots, thread_slots}

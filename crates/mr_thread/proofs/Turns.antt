@@ -4,15 +4,15 @@ use Rattle.std.specs.Prelude.{slice_get}
 use Rattle.mr_ast.specs.declared.program.Program.{Program}
 use Rattle.mr_base.specs.declared.thread.Status.{Status}
 use Rattle.mr_base.specs.declared.thread.Status.TheVariants.{Enabled, Ended, OnJoin, OnLock}
-use Rattle.mr_mem.specs.Memory.{Memory}
-use Rattle.mr_sync.specs.Sound.{IsSoundTables}
-use Rattle.mr_sync.specs.Tables.{over}
-use Rattle.mr_plan.specs.Machine.{Aborts, Exits, Flow, Goes}
-use Rattle.mr_plan.specs.Notes.{Notes}
-use Rattle.mr_plan.specs.Queries.{Shared, tables_of}
-use Rattle.mr_plan.specs.Storage.{AreHeld, Slot}
-use Rattle.mr_plan.proofs.MemoryFacts.{MemoryFacts}
-use Rattle.mr_plan.proofs.MemoryParts.{Leaves}
+use Rattle.mr_frame.specs.MemMemory.{Memory}
+use Rattle.mr_intr.specs.SyncSound.{IsSoundTables}
+use Rattle.mr_intr.specs.SyncTables.{over}
+use Rattle.mr_frame.specs.PlanMachine.{Aborts, Exits, Flow, Goes}
+use Rattle.mr_frame.specs.PlanNotes.{Notes}
+use Rattle.mr_frame.specs.PlanQueries.{Shared, tables_of}
+use Rattle.mr_frame.specs.PlanStorage.{AreHeld, Slot}
+use Rattle.mr_frame.proofs.PlanMemoryFacts.{MemoryFacts}
+use Rattle.mr_frame.proofs.PlanMemoryParts.{Leaves}
 use Rattle.mr_frame.specs.Fits.{FitsStack}
 use Rattle.mr_frame.specs.Frames.{Stack}
 use Rattle.mr_frame.specs.Storage.{frame_slots}

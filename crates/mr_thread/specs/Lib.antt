@@ -1,2 +1,17 @@
 pub mod SoundState
 pub mod Steps
+pub use Rattle.mr_frame.specs.Calls as FrameCalls
+pub use Rattle.mr_frame.specs.Changes as FrameChanges
+pub use Rattle.mr_frame.specs.Fits as FrameFits
+pub use Rattle.mr_frame.specs.Frames as FrameFrames
+pub use Rattle.mr_frame.specs.Operations as FrameOperations
+pub use Rattle.mr_frame.specs.PlanLegal
+pub use Rattle.mr_frame.specs.PlanMachine
+pub use Rattle.mr_frame.specs.PlanNotes
+pub use Rattle.mr_frame.specs.PlanQueries
+pub use Rattle.mr_frame.specs.PlanRuns
+pub use Rattle.mr_frame.specs.Sites as FrameSites
+pub use Rattle.mr_frame.specs.Steps as FrameSteps
+pub use Rattle.mr_frame.specs.Switches as FrameSwitches
+pub use Rattle.mr_intr.specs.Operations as IntrOperations
+pub use Rattle.mr_intr.specs.Texts as IntrTexts

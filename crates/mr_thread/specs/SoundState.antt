@@ -5,12 +5,12 @@ use Rattle.mr_ast.specs.declared.program.Program.{Program}
 use Rattle.mr_base.specs.declared.byte.AllocId.{AllocId}
 use Rattle.mr_base.specs.declared.thread.Status.{Status}
 use Rattle.mr_base.specs.declared.thread.Status.TheVariants.{Enabled, Ended, OnJoin, OnLock}
-use Rattle.mr_mem.specs.Memory.{Allocation, Memory}
-use Rattle.mr_sync.specs.Sound.{IsSoundTables}
-use Rattle.mr_plan.specs.Machine.{State, Thread}
-use Rattle.mr_plan.specs.Queries.{tables_of}
-use Rattle.mr_plan.specs.Runs.{Config}
-use Rattle.mr_plan.specs.Storage.{AreHeld, Slot}
+use Rattle.mr_frame.specs.MemMemory.{Allocation, Memory}
+use Rattle.mr_intr.specs.SyncSound.{IsSoundTables}
+use Rattle.mr_frame.specs.PlanMachine.{State, Thread}
+use Rattle.mr_frame.specs.PlanQueries.{tables_of}
+use Rattle.mr_frame.specs.PlanRuns.{Config}
+use Rattle.mr_frame.specs.PlanStorage.{AreHeld, Slot}
 use Rattle.mr_frame.specs.Fits.{FitsStack}
 use Rattle.mr_frame.specs.Frames.{Stack}
 use Rattle.mr_frame.specs.Storage.{frame_slots}

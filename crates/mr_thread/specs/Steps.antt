@@ -10,11 +10,11 @@ use Rattle.mr_base.specs.declared.reason.Reason.TheVariants.{NoPayload, NotAFunc
 use Rattle.mr_value.specs.declared.val.Val.{Val}
 use Rattle.mr_value.specs.declared.val.Val.TheVariants as val
 use Rattle.mr_base.specs.Script.{Done, Undefined, IllFormed, Ask, ◌>>=◌}
-use Rattle.mr_eval.specs.MemoryQueries.{MemoryScript, reading_part}
-use Rattle.mr_eval.specs.Reads.{ReadScript}
-use Rattle.mr_plan.specs.Machine as machine
-use Rattle.mr_plan.specs.Machine.{CreatesThread, Flow, Goes, Language, Plan}
-use Rattle.mr_plan.specs.Queries.{Finish, Start, StepScript, memory_part}
+use Rattle.mr_frame.specs.EvalMemoryQueries.{MemoryScript, reading_part}
+use Rattle.mr_frame.specs.EvalReads.{ReadScript}
+use Rattle.mr_frame.specs.PlanMachine as machine
+use Rattle.mr_frame.specs.PlanMachine.{CreatesThread, Flow, Goes, Language, Plan}
+use Rattle.mr_frame.specs.PlanQueries.{Finish, Start, StepScript, memory_part}
 use Rattle.mr_frame.specs.Calls.{callee_of, enter, kept_types, same_types, storage_asks}
 use Rattle.mr_frame.specs.Frames.{Aborts, EndsThread, Exits, Frame, GoesOn, Look, Onward, Stack}
 use Rattle.mr_frame.specs.Operations.{DueDo, Operands, finish, next_do, operands}

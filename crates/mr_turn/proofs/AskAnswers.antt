@@ -15,10 +15,10 @@ use Rattle.mr_value.specs.declared.val.Val.{Val}
 use Rattle.mr_base.specs.Script.{Went, Refused, on, run}
 use Rattle.mr_sync.specs.Tables.{Tables}
 use Rattle.mr_eval.specs.Reads.{Seen}
-use Rattle.mr_plan.specs.Machine.{CreatesThread, needs_of, no_needs}
-use Rattle.mr_plan.specs.Notes.{Notes, start_notes}
-use Rattle.mr_plan.specs.Queries.{Shared, answer}
-use Rattle.mr_plan.proofs.ReadingRuns.{moved_to}
+use Rattle.mr_frame.specs.PlanMachine.{CreatesThread, needs_of, no_needs}
+use Rattle.mr_frame.specs.PlanNotes.{Notes, start_notes}
+use Rattle.mr_frame.specs.PlanQueries.{Shared, answer}
+use Rattle.mr_frame.proofs.PlanReadingRuns.{moved_to}
 use Rattle.mr_frame.specs.Operations.{DueDo, Operands, OperandsFit, next_do}
 use Rattle.mr_frame.specs.Acting.{nothing_seen}
 use Rattle.mr_frame.specs.Calls.{same_types, storage_asks}
@@ -33,8 +33,8 @@ use Rattle.mr_intr.specs.Effects.{Fits, IsOperation, shared_of}
 use Rattle.mr_intr.specs.Needs.{TellsNeeds, asks_of, creation_of}
 use Rattle.mr_intr.specs.Operations.{Operation, operation}
 use Rattle.mr_intr.specs.declared.need.Needs.{Needs}
-use Rattle.mr_thread.specs.Steps.{Own, last_payload, operated, thread_types}
-use Rattle.mr_plan.specs.Legal.{Fault}
+use Rattle.mr_start.specs.ThreadSteps.{Own, last_payload, operated, thread_types}
+use Rattle.mr_frame.specs.PlanLegal.{Fault}
 use Rattle.mr_turn.specs.Asking.{AsksAnswer, AsksFunction, IsAsked, bare_fault, do_needs, step_needs}
 use Rattle.mr_turn.specs.Doing.{do_planned}
 use Rattle.mr_turn.specs.Turning.{own_of}

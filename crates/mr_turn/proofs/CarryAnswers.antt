@@ -10,10 +10,10 @@ use Rattle.mr_eval.specs.declared.scene.Scene.{Scene}
 use Rattle.mr_ast.specs.declared.types.Ty.{Ty}
 use Rattle.mr_mem.specs.Memory.{Memory}
 use Rattle.mr_value.specs.declared.val.Val.{Val}
-use Rattle.mr_plan.specs.Legal.{needs_fault}
-use Rattle.mr_plan.specs.Machine as Machine
-use Rattle.mr_plan.specs.Notes.{Notes}
-use Rattle.mr_plan.specs.Queries.{Shared, answer}
+use Rattle.mr_frame.specs.PlanLegal.{needs_fault}
+use Rattle.mr_frame.specs.PlanMachine as Machine
+use Rattle.mr_frame.specs.PlanNotes.{Notes}
+use Rattle.mr_frame.specs.PlanQueries.{Shared, answer}
 use Rattle.mr_frame.proofs.DoSafe.{ValueFits}
 use Rattle.mr_frame.proofs.ResultFits.{result_fits}
 use Rattle.mr_frame.specs.Doing.{operands_of}

@@ -28,11 +28,11 @@ use Rattle.mr_eval.specs.World.{TellsBy, World, tally_of, world_of}
 use Rattle.mr_eval.specs.declared.notes.Notes.{Notes as KeptNotes}
 use Rattle.mr_eval.specs.declared.scene.Scene.{Scene}
 use Rattle.mr_eval.specs.Tally.{Tally}
-use Rattle.mr_plan.specs.Legal.{needs_fault}
-use Rattle.mr_plan.specs.Machine.{Goes, Needs, Plan, needs_of}
-use Rattle.mr_plan.specs.Notes.{Notes}
-use Rattle.mr_plan.specs.Queries.{Shared, answer}
-use Rattle.mr_plan.proofs.ReadingRuns.{moved_to}
+use Rattle.mr_frame.specs.PlanLegal.{needs_fault}
+use Rattle.mr_frame.specs.PlanMachine.{Goes, Needs, Plan, needs_of}
+use Rattle.mr_frame.specs.PlanNotes.{Notes}
+use Rattle.mr_frame.specs.PlanQueries.{Shared, answer}
+use Rattle.mr_frame.proofs.PlanReadingRuns.{moved_to}
 use Rattle.mr_frame.specs.declared.dos.DoCall.{DoCall}
 use Rattle.mr_frame.specs.declared.look.Look.{Look as KeptLook}
 use Rattle.mr_frame.specs.declared.stack.Stack.{Stack as KeptStack}
@@ -48,7 +48,7 @@ use Rattle.mr_intr.specs.Operations.{Operation, instant, operation}
 use Rattle.mr_intr.specs.Effects as Effects
 use Rattle.mr_intr.specs.Effects.{IsDone, IsOperation, Prints, operated}
 use Rattle.mr_intr.specs.declared.effect.Effect.{Effect}
-use Rattle.mr_thread.specs.Steps.{Own, Turn, finishing, last_payload, planned as plan_behind, with_stack}
+use Rattle.mr_start.specs.ThreadSteps.{Own, Turn, finishing, last_payload, planned as plan_behind, with_stack}
 use Rattle.mr_turn.specs.declared.deed.Deed.{Deed}
 use Rattle.mr_turn.specs.declared.deed.TurnFault.{TurnFault}
 use Rattle.mr_turn.specs.declared.deed.TurnFault.TheVariants as answer
@@ -134,7 +134,7 @@ module _ (look : KeptLook) (stack : KeptStack) (s : Scene) (x : Tables) (call : 
   abbrev script : Operation
   script = operation d.op o.args o.arg_types o.result_type
 
-  abbrev is_script : Rattle.mr_thread.specs.Steps.operated (look_of look) mine d o d.op ≡ Rattle.mr_thread.specs.Steps.finished mine d o script
+  abbrev is_script : Rattle.mr_start.specs.ThreadSteps.operated (look_of look) mine d o d.op ≡ Rattle.mr_start.specs.ThreadSteps.finished mine d o script
   is_script = by_operation (look_of look) mine d o (begun s x) d.op is
 
   -- the picks break the rule that they break for the operation
@@ -231,8 +231,8 @@ module _ (look : KeptLook) (stack : KeptStack) (s : Scene) (x : Tables) (call : 
   abbrev last : Operation
   last = last_payload (stack_of stack).payloads
 
-  abbrev is_last : Rattle.mr_thread.specs.Steps.operated (look_of look) thread_own d given d.op ≡ Rattle.mr_thread.specs.Steps.finished thread_own d given last
-  is_last = ap (λ (op : Intrinsic). Rattle.mr_thread.specs.Steps.operated (look_of look) thread_own d given op) is
+  abbrev is_last : Rattle.mr_start.specs.ThreadSteps.operated (look_of look) thread_own d given d.op ≡ Rattle.mr_start.specs.ThreadSteps.finished thread_own d given last
+  is_last = ap (λ (op : Intrinsic). Rattle.mr_start.specs.ThreadSteps.operated (look_of look) thread_own d given op) is
 
   no_payload : (payloads : List Pointer) → slice_get payloads 0 ≡ None → last_payload payloads ≡ Undefined NoPayload
   no_payload [] h = refl

@@ -8,16 +8,16 @@ use Rattle.mr_base.proofs.ScriptRuns.{run_bind}
 use Rattle.mr_eval.specs.MemoryQueries.{reading_part}
 use Rattle.mr_eval.specs.Reads.{Seen}
 use Rattle.mr_eval.specs.Tally.{seen_of, with_seen}
-use Rattle.mr_plan.specs.Machine.{Goes, Plan, needs_of}
-use Rattle.mr_plan.specs.Notes.{Notes}
-use Rattle.mr_plan.specs.Queries.{Shared, StepScript, answer}
-use Rattle.mr_plan.proofs.ReadingRuns.{memory_then, moved_to, on_then, reading_run, tallied}
+use Rattle.mr_frame.specs.PlanMachine.{Goes, Plan, needs_of}
+use Rattle.mr_frame.specs.PlanNotes.{Notes}
+use Rattle.mr_frame.specs.PlanQueries.{Shared, StepScript, answer}
+use Rattle.mr_frame.proofs.PlanReadingRuns.{memory_then, moved_to, on_then, reading_run, tallied}
 use Rattle.mr_frame.specs.Effects.{argued, finished as ended}
 use Rattle.mr_frame.specs.Frames.{Look}
 use Rattle.mr_frame.specs.Operations.{DueDo, Operands, finish, next_do, operands}
 use Rattle.mr_intr.specs.Effects.{IsOperation}
 use Rattle.mr_intr.specs.Operations.{Operation, operation}
-use Rattle.mr_thread.specs.Steps.{Own, finished, finishing, operated, own_step, planned as plan_behind, step_due, with_stack}
+use Rattle.mr_start.specs.ThreadSteps.{Own, finished, finishing, operated, own_step, planned as plan_behind, step_due, with_stack}
 use Rattle.mr_turn.specs.Doing.{do_planned, do_turned}
 use Rattle.mr_turn.specs.Turning.{planned, turned}
 

@@ -13,10 +13,10 @@ use Rattle.mr_eval.specs.Tally.{Tally, seen_of, start_tally}
 use Rattle.mr_eval.specs.Answers.{seen}
 use Rattle.mr_eval.specs.World.{TellsBy, tally_of}
 use Rattle.mr_eval.specs.declared.scene.Scene.{Scene}
-use Rattle.mr_plan.specs.Legal.{Fault, needs_fault, picks_fault}
-use Rattle.mr_plan.specs.Machine.{Needs, Plan}
-use Rattle.mr_plan.specs.Notes.{Notes}
-use Rattle.mr_plan.specs.Queries.{Shared}
+use Rattle.mr_frame.specs.PlanLegal.{Fault, needs_fault, picks_fault}
+use Rattle.mr_frame.specs.PlanMachine.{Needs, Plan}
+use Rattle.mr_frame.specs.PlanNotes.{Notes}
+use Rattle.mr_frame.specs.PlanQueries.{Shared}
 use Rattle.mr_frame.specs.Acting.{nothing_seen}
 use Rattle.mr_frame.specs.Effects.{asked, asks_of, planned as frame_planned}
 use Rattle.mr_frame.specs.Frames.{Look, Onward, Stack}
@@ -25,7 +25,7 @@ use Rattle.mr_frame.specs.Operations.{next_do}
 use Rattle.mr_frame.specs.Steps.{frame_plan}
 use Rattle.mr_frame.specs.declared.look.Look.{Look as KeptLook}
 use Rattle.mr_frame.specs.declared.stack.Stack.{Stack as KeptStack}
-use Rattle.mr_thread.specs.Steps.{Turn}
+use Rattle.mr_start.specs.ThreadSteps.{Turn}
 use Rattle.mr_turn.specs.declared.deed.Deed.{Deed}
 use Rattle.mr_turn.specs.declared.deed.TurnFault.{TurnFault}
 use Rattle.mr_turn.specs.declared.deed.TurnFault.TheVariants as answer

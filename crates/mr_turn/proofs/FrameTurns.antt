@@ -11,10 +11,10 @@ use Rattle.mr_eval.specs.Reads.{Seen, reading}
 use Rattle.mr_eval.specs.Tally.{Tally, seen_of, with_seen}
 use Rattle.mr_eval.specs.World.{world_of}
 use Rattle.mr_eval.specs.declared.scene.Scene.{Scene}
-use Rattle.mr_plan.specs.Machine.{CreatesNothing, Plan, needs_of}
-use Rattle.mr_plan.specs.Notes.{Notes}
-use Rattle.mr_plan.specs.Queries.{Shared, answer, memory_part, with_tables}
-use Rattle.mr_plan.proofs.ReadingRuns.{memory_then, moved_to, on_then, reading_run, reading_then, tallied}
+use Rattle.mr_frame.specs.PlanMachine.{CreatesNothing, Plan, needs_of}
+use Rattle.mr_frame.specs.PlanNotes.{Notes}
+use Rattle.mr_frame.specs.PlanQueries.{Shared, answer, memory_part, with_tables}
+use Rattle.mr_frame.proofs.PlanReadingRuns.{memory_then, moved_to, on_then, reading_run, reading_then, tallied}
 use Rattle.mr_frame.specs.declared.flow.Flow.{Flow}
 use Rattle.mr_frame.specs.declared.flow.Flow.TheVariants as flow
 use Rattle.mr_frame.specs.declared.stack.Stack.{Stack as KeptStack}
@@ -23,7 +23,7 @@ use Rattle.mr_frame.specs.Frames.{Look, Onward}
 use Rattle.mr_frame.specs.Kept.{onward_of, stack_of}
 use Rattle.mr_frame.specs.Operations.{DueDo, next_do}
 use Rattle.mr_frame.specs.Steps.{frame_plan}
-use Rattle.mr_thread.specs.Steps.{Own, Turn, in_step, onward, own_step, step_due}
+use Rattle.mr_start.specs.ThreadSteps.{Own, Turn, in_step, onward, own_step, step_due}
 use Rattle.mr_turn.specs.declared.deed.Deed.{Deed}
 use Rattle.mr_turn.specs.Turning.{IsFlow, Turned, begun, is_end, own_of, planned, printed_lines, shared_in, turn_by, turned}
 use Rattle.mr_turn.proofs.PlanAsks.{IsPlain, WentSo, frame_plain, led}

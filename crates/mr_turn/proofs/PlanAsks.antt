@@ -21,8 +21,8 @@ use Rattle.mr_eval.specs.Evaluation.{place_script, value_script, values_script}
 use Rattle.mr_eval.specs.MemoryQueries.{MemoryScript}
 use Rattle.mr_eval.specs.Operators.{pointer_of_value}
 use Rattle.mr_eval.specs.Reads.{ReadScript, Seen, reading}
-use Rattle.mr_plan.specs.Legal.{address_fault, else_fault, picks_fault}
-use Rattle.mr_plan.specs.Machine.{CreatesNothing, Plan}
+use Rattle.mr_frame.specs.PlanLegal.{address_fault, else_fault, picks_fault}
+use Rattle.mr_frame.specs.PlanMachine.{CreatesNothing, Plan}
 use Rattle.mr_frame.specs.Calls.{both_there, call, call_function, call_number, call_plan, callee_of, enter, calling, given_types, kept_types, same_types, storage_asks}
 use Rattle.mr_frame.specs.Frames.{GoesOn, Look, Onward, Stack, scene_in}
 use Rattle.mr_frame.specs.Sites.{AtDo, AtStatement, AtTerminator, Due, Site, due_of, site_of}

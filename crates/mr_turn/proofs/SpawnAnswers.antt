@@ -30,12 +30,12 @@ use Rattle.mr_sync.specs.Tables.{Tables, spawned}
 use Rattle.mr_eval.specs.Shapes.{HaveShapes}
 use Rattle.mr_eval.specs.World.{tally_of, world_of}
 use Rattle.mr_eval.specs.declared.scene.Scene.{Scene}
-use Rattle.mr_plan.specs.Legal.{creation_fault, else_fault, fault, picks_fault}
-use Rattle.mr_plan.specs.Machine.{CreatesThread, Goes}
-use Rattle.mr_plan.specs.Notes.{Notes}
-use Rattle.mr_plan.specs.Queries.{Shared, answer}
-use Rattle.mr_plan.proofs.ReadingRuns.{moved_to}
-use Rattle.mr_plan.proofs.LegalLaws.{no_faults}
+use Rattle.mr_frame.specs.PlanLegal.{creation_fault, else_fault, fault, picks_fault}
+use Rattle.mr_frame.specs.PlanMachine.{CreatesThread, Goes}
+use Rattle.mr_frame.specs.PlanNotes.{Notes}
+use Rattle.mr_frame.specs.PlanQueries.{Shared, answer}
+use Rattle.mr_frame.proofs.PlanReadingRuns.{moved_to}
+use Rattle.mr_frame.proofs.PlanLegalLaws.{no_faults}
 use Rattle.mr_frame.proofs.CallSafe.{equal_types, kept_there, position_below}
 use Rattle.mr_frame.proofs.Frames.{function_keeps}
 use Rattle.mr_frame.proofs.DoSafe.{ValueFits}
@@ -52,7 +52,7 @@ use Rattle.mr_intr.proofs.OperationSafe.{result_is}
 use Rattle.std.proofs.lemmas.Option.{same_Some}
 use Rattle.std.proofs.lemmas.Bool.{and_parts}
 use Rattle.mr_turn.proofs.PlanAsks.{same_statuses}
-use Rattle.mr_thread.specs.Steps.{Own, finishing, new_thread, thread_types, with_stack}
+use Rattle.mr_start.specs.ThreadSteps.{Own, finishing, new_thread, thread_types, with_stack}
 use Rattle.mr_turn.specs.declared.deed.Deed.{Deed}
 use Rattle.mr_turn.specs.Doing.{CanEnd, EndAnswer, IsGiven, IsNewThread, IsStart, SpawnGiven, SpawnsFunction, StandsFor, StartsThread, do_breaks, do_comes_to}
 use Rattle.mr_turn.specs.declared.deed.TurnFault.{TurnFault}

@@ -12,16 +12,16 @@ use Rattle.mr_value.specs.declared.val.Val.{Val}
 use Rattle.mr_value.specs.declared.val.Val.TheVariants as val
 use Rattle.mr_base.specs.Script.{Done, Undefined, Ask, ◌>>=◌, Went, Refused, on, run}
 use Rattle.mr_sync.specs.Tables.{spawned}
-use Rattle.mr_plan.specs.Machine.{CreatesThread, Plan}
-use Rattle.mr_plan.specs.Notes.{Notes}
-use Rattle.mr_plan.specs.Queries.{Shared, Start, StepScript, answer, note, tables_of, with_tables, woke}
-use Rattle.mr_plan.proofs.ReadingRuns.{memory_then, moved_to}
+use Rattle.mr_frame.specs.PlanMachine.{CreatesThread, Plan}
+use Rattle.mr_frame.specs.PlanNotes.{Notes}
+use Rattle.mr_frame.specs.PlanQueries.{Shared, Start, StepScript, answer, note, tables_of, with_tables, woke}
+use Rattle.mr_frame.proofs.PlanReadingRuns.{memory_then, moved_to}
 use Rattle.mr_frame.specs.Calls.{callee_of, enter, kept_types, same_types, storage_asks}
 use Rattle.mr_frame.specs.Effects.{entered}
 use Rattle.mr_frame.specs.Frames.{Look}
 use Rattle.mr_frame.specs.Operations.{DueDo, Operands}
 use Rattle.mr_intr.specs.Operations.{found}
-use Rattle.mr_thread.specs.Steps.{Own, Turn, finishing, new_thread, operated, spawn, spawn_function, spawn_number, spawn_types, start, thread_types}
+use Rattle.mr_start.specs.ThreadSteps.{Own, Turn, finishing, new_thread, operated, spawn, spawn_function, spawn_number, spawn_types, start, thread_types}
 use Rattle.mr_turn.specs.Doing.{do_planned, do_turned}
 use Rattle.mr_eval.specs.Operators.{pointer_in}
 

@@ -5,7 +5,7 @@ use Rattle.mr_base.specs.Script.{Done, Undefined, IllFormed, Ask, ◌>>=◌, Out
 use Rattle.mr_base.proofs.ScriptSwaps.{same_state}
 use Rattle.mr_eval.specs.MemoryQueries.{MemoryScript, memory_answer, reading_part}
 use Rattle.mr_eval.specs.Tally.{Tally}
-use Rattle.mr_plan.proofs.TallyGrows.{tally_grows}
+use Rattle.mr_frame.proofs.PlanTallyGrows.{tally_grows}
 use Rattle.mr_frame.specs.Effects.{acted}
 use Rattle.mr_frame.specs.Frames.{Look, Onward, Stack}
 use Rattle.mr_frame.specs.Steps.{frame_plan}

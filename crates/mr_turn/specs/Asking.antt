@@ -5,10 +5,10 @@ use Rattle.mr_ast.specs.declared.program.Intrinsic.TheVariants as intrinsic
 use Rattle.mr_mem.specs.Memory.{Memory}
 use Rattle.mr_sched.specs.declared.schedule.Ask.{Ask}
 use Rattle.mr_sync.specs.Tables.{Tables}
-use Rattle.mr_plan.specs.Legal.{Fault, creation_fault}
-use Rattle.mr_plan.specs.Machine.{Needs, needs_of}
-use Rattle.mr_plan.specs.Notes.{Notes, start_notes}
-use Rattle.mr_plan.specs.Queries.{Shared}
+use Rattle.mr_frame.specs.PlanLegal.{Fault, creation_fault}
+use Rattle.mr_frame.specs.PlanMachine.{Needs, needs_of}
+use Rattle.mr_frame.specs.PlanNotes.{Notes, start_notes}
+use Rattle.mr_frame.specs.PlanQueries.{Shared}
 use Rattle.mr_frame.specs.Operations.{DueDo, OperandsFit, next_do}
 use Rattle.mr_frame.specs.declared.dos.DoCall.{DoCall}
 use Rattle.mr_frame.specs.declared.look.Look.{Look as KeptLook}

@@ -13,7 +13,7 @@ use Rattle.mr_mem.specs.Memory.{ranges_of}
 use Rattle.mr_value.specs.declared.val.Val.{Val}
 use Rattle.mr_value.specs.declared.val.Val.TheVariants as val
 use Rattle.mr_value.specs.Shape.{has_shape}
-use Rattle.mr_plan.specs.Legal.{Fault, creation_fault, else_fault, picks_fault}
+use Rattle.mr_frame.specs.PlanLegal.{Fault, creation_fault, else_fault, picks_fault}
 use Rattle.mr_frame.specs.Calls.{callee_of, kept_types, same_types, storage_asks}
 use Rattle.mr_wf.specs.Intrinsics.{is_print}
 use Rattle.mr_intr.specs.Effects.{listed}
@@ -30,9 +30,9 @@ use Rattle.mr_turn.specs.declared.deed.TurnFault.{TurnFault}
 use Rattle.mr_turn.specs.declared.deed.TurnFault.TheVariants as answer
 use Rattle.mr_sync.specs.Tables.{IsEnabled, Tables}
 use Rattle.mr_eval.specs.declared.scene.Scene.{Scene}
-use Rattle.mr_plan.specs.Machine.{Plan}
-use Rattle.mr_plan.specs.Notes.{Notes}
-use Rattle.mr_plan.specs.Queries.{Shared, StepScript, answer}
+use Rattle.mr_frame.specs.PlanMachine.{Plan}
+use Rattle.mr_frame.specs.PlanNotes.{Notes}
+use Rattle.mr_frame.specs.PlanQueries.{Shared, StepScript, answer}
 use Rattle.mr_frame.specs.Operations.{DueDo, Operands, OperandsFit, next_do}
 use Rattle.mr_frame.specs.declared.dos.DoCall.{DoCall}
 use Rattle.mr_frame.specs.declared.look.Look.{Look as KeptLook}
@@ -43,7 +43,7 @@ use Rattle.mr_frame.specs.Fits.{FitsStack}
 use Rattle.mr_frame.specs.Frames.{Look, Stack}
 use Rattle.mr_frame.specs.Kept.{IsReady, look_of, stack_of}
 use Rattle.mr_frame.specs.Standing.{IsUncounted}
-use Rattle.mr_thread.specs.Steps.{Own, Turn, operated, thread_types}
+use Rattle.mr_start.specs.ThreadSteps.{Own, Turn, operated, thread_types}
 use Rattle.mr_turn.specs.Turning.{DeedAnswer, Does, IsSame, TurnAnswer, asks_break, begun, own_of, picks_break, shared_in}
 
 -- the plan of an intrinsic that is given this, or why it stops before it has one

@@ -13,10 +13,10 @@ use Rattle.mr_sync.specs.Tables.{IsEnabled, Tables, ended}
 use Rattle.mr_eval.specs.Tally.{start_tally}
 use Rattle.mr_eval.specs.World.{tally_of}
 use Rattle.mr_eval.specs.declared.scene.Scene.{Scene}
-use Rattle.mr_plan.specs.Legal.{Fault, needs_fault, picks_fault}
-use Rattle.mr_plan.specs.Machine.{Aborts, Exits, Goes, Plan, needs_of}
-use Rattle.mr_plan.specs.Notes.{Notes, event_of, start_notes}
-use Rattle.mr_plan.specs.Queries.{Shared, StepScript, answer}
+use Rattle.mr_frame.specs.PlanLegal.{Fault, needs_fault, picks_fault}
+use Rattle.mr_frame.specs.PlanMachine.{Aborts, Exits, Goes, Plan, needs_of}
+use Rattle.mr_frame.specs.PlanNotes.{Notes, event_of, start_notes}
+use Rattle.mr_frame.specs.PlanQueries.{Shared, StepScript, answer}
 use Rattle.mr_frame.specs.declared.flow.Flow.{Flow}
 use Rattle.mr_frame.specs.declared.flow.Flow.TheVariants as flow
 use Rattle.mr_frame.specs.declared.look.Look.{Look as KeptLook}
@@ -25,7 +25,7 @@ use Rattle.mr_frame.specs.Fits.{FitsStack}
 use Rattle.mr_frame.specs.Frames.{Look}
 use Rattle.mr_frame.specs.Kept.{IsReady, look_of, stack_of}
 use Rattle.mr_frame.specs.Standing.{IsUncounted}
-use Rattle.mr_thread.specs.Steps.{Own, Turn, own_step, with_stack}
+use Rattle.mr_start.specs.ThreadSteps.{Own, Turn, own_step, with_stack}
 use Rattle.mr_start.specs.Judging.{fault_of}
 use Rattle.mr_turn.specs.declared.deed.Deed.{Deed}
 use Rattle.mr_turn.specs.declared.deed.TurnFault.{TurnFault}

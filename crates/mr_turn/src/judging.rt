@@ -1,7 +1,7 @@
 //! What is judged before a step does anything.
 ghost use Rattle.std.specs.Prelude.{◌≡◌, ◌+◌, ◌<◌, ◌^◌, Err, None, Option, if◌then◌else◌, length, nat_lt};
 ghost use Rattle.mr_mem.specs.Memory.{Memory};
-ghost use Rattle.mr_plan.specs.Legal.{Fault as FaultOf, creation_fault, else_fault, fault};
+ghost use Rattle.mr_frame.specs.PlanLegal.{Fault as FaultOf, creation_fault, else_fault, fault};
 ghost use Rattle.mr_intr.specs.Effects.{shared_of};
 ghost use Rattle.mr_intr.specs.Needs.{creation_of};
 ghost use Rattle.mr_frame.specs.Standing.{IsUncounted};

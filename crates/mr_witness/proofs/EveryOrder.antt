@@ -19,17 +19,17 @@ use Rattle.mr_order.proofs.First.{none_predicted}
 use Rattle.mr_order.proofs.Rearranged.{none_in_rearranged, none_reported, rearranged_runs}
 use Rattle.mr_sched.specs.declared.schedule.Entry.{Entry}
 use Rattle.mr_sched.specs.declared.schedule.Schedule.{Schedule}
-use Rattle.mr_wf.specs.Walk.{WellFormed}
-use Rattle.mr_plan.specs.Machine.{Language, State}
-use Rattle.mr_plan.specs.Runs.{AreLegal, Config, after, feet, machine_step}
-use Rattle.mr_frame.specs.Fits.{IsLook}
-use Rattle.mr_frame.specs.Frames.{Look}
-use Rattle.mr_thread.specs.SoundState.{SoundState}
-use Rattle.mr_thread.specs.Steps.{Own, thread_step}
-use Rattle.mr_start.specs.Runs.{Legal, run_of, steps_of}
-use Rattle.mr_start.specs.Start.{look_of, start_config}
-use Rattle.mr_start.proofs.StartSound.{start_look, start_sound}
-use Rattle.mr_swap.specs.Swap.{IsSane, SwapLaw}
+use Rattle.mr_reasons.specs.WfWalk.{WellFormed}
+use Rattle.mr_reasons.specs.PlanMachine.{Language, State}
+use Rattle.mr_reasons.specs.PlanRuns.{AreLegal, Config, after, feet, machine_step}
+use Rattle.mr_reasons.specs.FrameFits.{IsLook}
+use Rattle.mr_reasons.specs.FrameFrames.{Look}
+use Rattle.mr_reasons.specs.ThreadSoundState.{SoundState}
+use Rattle.mr_reasons.specs.ThreadSteps.{Own, thread_step}
+use Rattle.mr_exchange.specs.StartRuns.{Legal, run_of, steps_of}
+use Rattle.mr_exchange.specs.StartStart.{look_of, start_config}
+use Rattle.mr_exchange.proofs.StartStartSound.{start_look, start_sound}
+use Rattle.mr_exchange.specs.SwapSwap.{IsSane, SwapLaw}
 use Rattle.mr_exchange.proofs.Sane.{sound_is_sane}
 use Rattle.mr_exchange.specs.Witness.{entry_at}
 use Rattle.mr_exchange.proofs.Exchanged.{NotesThread}

@@ -9,15 +9,15 @@ use Rattle.mr_event.specs.Order.{step_at}
 use Rattle.mr_order.specs.Trace.{Runs}
 use Rattle.mr_sched.specs.declared.schedule.Entry.{Entry}
 use Rattle.mr_sync.specs.Tables.{is_any_enabled}
-use Rattle.mr_wf.specs.Walk.{WellFormed}
-use Rattle.mr_plan.specs.Machine.{Bare, Completed, IllFormedStep, State, Stops, bare}
-use Rattle.mr_plan.specs.Queries.{tables_of}
-use Rattle.mr_plan.specs.Runs.{AreLegal, Config, Printed, after, after_bare, entry_fault, feet, foot_in, foot_of_bare, machine_step, races_with, verdict_after}
-use Rattle.mr_frame.specs.Fits.{IsLook}
-use Rattle.mr_frame.specs.Frames.{Look}
-use Rattle.mr_thread.specs.SoundState.{SoundState}
-use Rattle.mr_thread.specs.Steps.{Own, thread_step}
-use Rattle.mr_swap.specs.Swap.{IsSane, SwapLaw}
+use Rattle.mr_reasons.specs.WfWalk.{WellFormed}
+use Rattle.mr_reasons.specs.PlanMachine.{Bare, Completed, IllFormedStep, State, Stops, bare}
+use Rattle.mr_reasons.specs.PlanQueries.{tables_of}
+use Rattle.mr_reasons.specs.PlanRuns.{AreLegal, Config, Printed, after, after_bare, entry_fault, feet, foot_in, foot_of_bare, machine_step, races_with, verdict_after}
+use Rattle.mr_reasons.specs.FrameFits.{IsLook}
+use Rattle.mr_reasons.specs.FrameFrames.{Look}
+use Rattle.mr_reasons.specs.ThreadSoundState.{SoundState}
+use Rattle.mr_reasons.specs.ThreadSteps.{Own, thread_step}
+use Rattle.mr_exchange.specs.SwapSwap.{IsSane, SwapLaw}
 use Rattle.mr_exchange.proofs.Exchanged.{NotesThread}
 use Rattle.mr_exchange.specs.Witness.{entry_at}
 use Rattle.mr_reasons.proofs.Runs.{never_raced as never_raced_itself}

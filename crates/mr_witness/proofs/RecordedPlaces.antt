@@ -7,15 +7,15 @@ use Rattle.mr_event.specs.Footprint.{Footprint}
 use Rattle.mr_event.specs.Order.{no_step, step_at}
 use Rattle.mr_order.specs.Trace.{Runs}
 use Rattle.mr_sched.specs.declared.schedule.Entry.{Entry}
-use Rattle.mr_wf.specs.Walk.{WellFormed}
-use Rattle.mr_plan.specs.Legal.{state_fault}
-use Rattle.mr_plan.specs.Machine.{Bare, Completed, IllFormedStep, State, Stops, bare}
-use Rattle.mr_plan.specs.Runs.{AreLegal, Printed, after_bare, feet, foot_of_bare, machine_step, printed_by}
-use Rattle.mr_frame.specs.Fits.{IsLook}
-use Rattle.mr_frame.specs.Frames.{Look}
-use Rattle.mr_thread.specs.SoundState.{SoundState}
-use Rattle.mr_thread.specs.Steps.{Own, thread_step}
-use Rattle.mr_swap.specs.Swap.{IsSane, SwapLaw}
+use Rattle.mr_reasons.specs.WfWalk.{WellFormed}
+use Rattle.mr_reasons.specs.PlanLegal.{state_fault}
+use Rattle.mr_reasons.specs.PlanMachine.{Bare, Completed, IllFormedStep, State, Stops, bare}
+use Rattle.mr_reasons.specs.PlanRuns.{AreLegal, Printed, after_bare, feet, foot_of_bare, machine_step, printed_by}
+use Rattle.mr_reasons.specs.FrameFits.{IsLook}
+use Rattle.mr_reasons.specs.FrameFrames.{Look}
+use Rattle.mr_reasons.specs.ThreadSoundState.{SoundState}
+use Rattle.mr_reasons.specs.ThreadSteps.{Own, thread_step}
+use Rattle.mr_exchange.specs.SwapSwap.{IsSane, SwapLaw}
 use Rattle.mr_exchange.proofs.Exchanged.{NotesThread, sound_then}
 use Rattle.mr_exchange.specs.Witness.{entry_at}
 use Rattle.mr_witness.proofs.Recorded.{config, legal_here, none_feet}

@@ -15,17 +15,17 @@ use Rattle.mr_order.specs.Shown.{AreAdjacent, NextIs}
 use Rattle.mr_order.specs.Trace.{IsReported, Runs}
 use Rattle.mr_sched.specs.declared.schedule.Entry.{Entry}
 use Rattle.mr_sync.specs.Tables.{is_any_enabled, is_enabled}
-use Rattle.mr_wf.specs.Walk.{WellFormed}
-use Rattle.mr_plan.specs.Legal.{state_fault, status_fault}
-use Rattle.mr_plan.specs.Machine.{Bare, Language, State, bare}
-use Rattle.mr_plan.specs.Queries.{tables_of}
-use Rattle.mr_plan.specs.Runs.{AreLegal, Config, Printed, after, after_bare, feet, foot_in, foot_of_bare, machine_step, entry_fault, printed_by, races_with, verdict_after}
-use Rattle.mr_plan.proofs.LegalLaws.{no_faults}
-use Rattle.mr_frame.specs.Fits.{IsLook}
-use Rattle.mr_frame.specs.Frames.{Look}
-use Rattle.mr_thread.specs.SoundState.{SoundState}
-use Rattle.mr_thread.specs.Steps.{Own, thread_step}
-use Rattle.mr_swap.specs.Swap.{IsSane, SwapLaw}
+use Rattle.mr_reasons.specs.WfWalk.{WellFormed}
+use Rattle.mr_reasons.specs.PlanLegal.{state_fault, status_fault}
+use Rattle.mr_reasons.specs.PlanMachine.{Bare, Language, State, bare}
+use Rattle.mr_reasons.specs.PlanQueries.{tables_of}
+use Rattle.mr_reasons.specs.PlanRuns.{AreLegal, Config, Printed, after, after_bare, feet, foot_in, foot_of_bare, machine_step, entry_fault, printed_by, races_with, verdict_after}
+use Rattle.mr_reasons.proofs.PlanLegalLaws.{no_faults}
+use Rattle.mr_reasons.specs.FrameFits.{IsLook}
+use Rattle.mr_reasons.specs.FrameFrames.{Look}
+use Rattle.mr_reasons.specs.ThreadSoundState.{SoundState}
+use Rattle.mr_reasons.specs.ThreadSteps.{Own, thread_step}
+use Rattle.mr_exchange.specs.SwapSwap.{IsSane, SwapLaw}
 use Rattle.mr_exchange.proofs.Exchanged.{NotesThread}
 use Rattle.mr_exchange.specs.Witness.{entry_at}
 use Rattle.mr_witness.proofs.Moves.{Kept, Takes, machine}

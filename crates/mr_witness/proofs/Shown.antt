@@ -13,14 +13,14 @@ use Rattle.mr_order.specs.Trace.{IsFirstPair, Runs, Selects}
 use Rattle.mr_order.proofs.Lists.{Each, Each-weaker, filter-agree, range_with_len-parts}
 use Rattle.mr_order.proofs.Witness.{selected_is_shown}
 use Rattle.mr_sched.specs.declared.schedule.Entry.{Entry}
-use Rattle.mr_wf.specs.Walk.{WellFormed}
-use Rattle.mr_plan.specs.Machine.{Bare, Completed, State, bare}
-use Rattle.mr_plan.specs.Runs.{AreLegal, Config, Printed, after, entry_fault, feet, foot_of_bare, machine_step}
-use Rattle.mr_frame.specs.Fits.{IsLook}
-use Rattle.mr_frame.specs.Frames.{Look}
-use Rattle.mr_thread.specs.SoundState.{SoundState}
-use Rattle.mr_thread.specs.Steps.{Own, thread_step}
-use Rattle.mr_swap.specs.Swap.{IsSane, SwapLaw}
+use Rattle.mr_reasons.specs.WfWalk.{WellFormed}
+use Rattle.mr_reasons.specs.PlanMachine.{Bare, Completed, State, bare}
+use Rattle.mr_reasons.specs.PlanRuns.{AreLegal, Config, Printed, after, entry_fault, feet, foot_of_bare, machine_step}
+use Rattle.mr_reasons.specs.FrameFits.{IsLook}
+use Rattle.mr_reasons.specs.FrameFrames.{Look}
+use Rattle.mr_reasons.specs.ThreadSoundState.{SoundState}
+use Rattle.mr_reasons.specs.ThreadSteps.{Own, thread_step}
+use Rattle.mr_exchange.specs.SwapSwap.{IsSane, SwapLaw}
 use Rattle.mr_exchange.proofs.Exchanged.{NotesThread}
 use Rattle.mr_exchange.specs.Witness.{IsPrefix, entries_of, entry_at}
 use Rattle.mr_witness.proofs.Lists.{after_append, feet_append, feet_length, filter_map, legal_append, map_append, map_places}

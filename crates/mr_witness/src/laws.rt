@@ -5,8 +5,8 @@ ghost use Rattle.mr_ast.specs.declared.program.Program.{Program};
 ghost use Rattle.mr_event.specs.declared.footprint.Pair.{Pair};
 ghost use Rattle.mr_event.specs.Predicted.{predicted};
 ghost use Rattle.mr_sched.specs.declared.schedule.Schedule.{Schedule};
-ghost use Rattle.mr_start.specs.Runs.{Legal, steps_of};
-ghost use Rattle.mr_wf.specs.Walk.{WellFormed};
+ghost use Rattle.mr_exchange.specs.StartRuns.{Legal, steps_of};
+ghost use Rattle.mr_reasons.specs.WfWalk.{WellFormed};
 ghost use Rattle.mr_exchange.specs.Witness.{IsWitness, kept_schedule};
 
 /// A law: the kept schedule of the first race of a legal run is a witness for it.

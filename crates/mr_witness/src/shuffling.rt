@@ -4,8 +4,8 @@ ghost use Rattle.std.specs.Prelude.{◌≡◌, ◌+◌, ◌<◌, ◌≤◌, ◌+
 ghost use Rattle.mr_ast.specs.declared.program.Program.{Program};
 ghost use Rattle.mr_event.specs.Order.{IsRearrangement};
 ghost use Rattle.mr_event.specs.Predicted.{predicted};
-ghost use Rattle.mr_start.specs.Runs.{Legal, steps_of};
-ghost use Rattle.mr_wf.specs.Walk.{WellFormed};
+ghost use Rattle.mr_exchange.specs.StartRuns.{Legal, steps_of};
+ghost use Rattle.mr_reasons.specs.WfWalk.{WellFormed};
 ghost use Rattle.mr_exchange.specs.Witness.{entry_at};
 ghost use Rattle.mr_witness.specs.EveryOrder.{ComesToTheSame};
 ghost use Rattle.mr_witness.specs.Shuffled.{shuffled, shuffled_order as drawn_order};

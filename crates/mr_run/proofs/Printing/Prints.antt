@@ -9,12 +9,12 @@ use Rattle.mr_base.specs.declared.thread.Event.TheVariants.{Acquire, Join, Relea
 use Rattle.mr_base.specs.Script.{Ask, Broken, Done, IllFormed, Undefined, Went, run, ◌>>=◌}
 use Rattle.mr_base.proofs.ScriptSwaps.{goes_on}
 use Rattle.mr_sync.specs.Tables.{Tables, acquired, any_waits, ended, holding, joined, released}
-use Rattle.mr_eval.specs.MemoryQueries.{MemoryScript, memory_answer, reading_part}
-use Rattle.mr_eval.specs.Reads.{ReadScript}
-use Rattle.mr_plan.specs.Notes.{Notes}
-use Rattle.mr_plan.specs.Queries.{Await, Finish, NewLock, OfMemory, Print, Query, Reply, Shared, Start, StepScript, TryLock, Unlock, Waiting, answer, blocked, ending, fits, giving, going, in_shared, memory_part, note, tables_of, telling, with_tables, woke}
-use Rattle.mr_plan.proofs.WentLaws.{at_outcome}
-use Rattle.mr_frame.proofs.StorageSteps.{Leads}
+use Rattle.mr_step.specs.EvalMemoryQueries.{MemoryScript, memory_answer, reading_part}
+use Rattle.mr_step.specs.EvalReads.{ReadScript}
+use Rattle.mr_step.specs.PlanNotes.{Notes}
+use Rattle.mr_step.specs.PlanQueries.{Await, Finish, NewLock, OfMemory, Print, Query, Reply, Shared, Start, StepScript, TryLock, Unlock, Waiting, answer, blocked, ending, fits, giving, going, in_shared, memory_part, note, tables_of, telling, with_tables, woke}
+use Rattle.mr_step.proofs.PlanWentLaws.{at_outcome}
+use Rattle.mr_step.proofs.FrameStorageSteps.{Leads}
 use Rattle.mr_report.specs.Json.{is_printed}
 
 -- a text of digits, small letters, `-` and space

@@ -6,14 +6,14 @@ use Rattle.std.proofs.lemmas.List.Elements.{All-append, All-cons, All-head, All-
 use Rattle.mr_ast.specs.declared.program.Program.{Program}
 use Rattle.mr_sched.specs.declared.schedule.Entry.{Entry}
 use Rattle.mr_sched.specs.declared.schedule.Schedule.{Schedule}
-use Rattle.mr_plan.specs.Machine.{Bare, Completed, Goes, IllFormedStep, State, Stops, bare}
-use Rattle.mr_plan.specs.Notes.{Notes, start_notes}
-use Rattle.mr_plan.specs.Runs.{Config, Printed, after, after_bare, machine_step, printed_by, stepped_from}
-use Rattle.mr_frame.specs.Frames.{Look}
-use Rattle.mr_thread.specs.Steps.{Own, thread_step}
-use Rattle.mr_start.specs.Runs.{run_of}
-use Rattle.mr_start.specs.Start.{look_of, start_config}
-use Rattle.mr_swap.proofs.BareSteps.{taken, whole, whole_run}
+use Rattle.mr_step.specs.PlanMachine.{Bare, Completed, Goes, IllFormedStep, State, Stops, bare}
+use Rattle.mr_step.specs.PlanNotes.{Notes, start_notes}
+use Rattle.mr_step.specs.PlanRuns.{Config, Printed, after, after_bare, machine_step, printed_by, stepped_from}
+use Rattle.mr_step.specs.FrameFrames.{Look}
+use Rattle.mr_step.specs.ThreadSteps.{Own, thread_step}
+use Rattle.mr_step.specs.StartRuns.{run_of}
+use Rattle.mr_step.specs.StartStart.{look_of, start_config}
+use Rattle.mr_step.proofs.SwapBareSteps.{taken, whole, whole_run}
 use Rattle.mr_report.specs.Json.{is_printed}
 use Rattle.mr_run.proofs.Printing.Prints.{Anything, IsPlain, run_prints}
 use Rattle.mr_run.proofs.Printing.Steps.{whole_prints}

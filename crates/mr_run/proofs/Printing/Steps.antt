@@ -24,20 +24,20 @@ use Rattle.mr_value.specs.declared.val.Val.TheOpen.{Val-F}
 use Rattle.mr_value.specs.Discriminants.{number_of_bits}
 use Rattle.mr_value.specs.Numbers.{number_of}
 use Rattle.mr_base.specs.Script.{Ask, Done, IllFormed, Undefined, ◌>>=◌}
-use Rattle.mr_eval.specs.MemoryQueries.{Allocate, MemoryScript, reading_part}
-use Rattle.mr_eval.specs.Operators.{or_ill_formed, pointer_in}
-use Rattle.mr_eval.specs.Reads.{ReadScript}
-use Rattle.mr_plan.specs.Machine.{CreatesThread, Plan}
-use Rattle.mr_plan.specs.Queries.{OfMemory, StepScript, memory_part}
-use Rattle.mr_frame.proofs.StorageSteps.{Leads}
-use Rattle.mr_frame.specs.Calls.{callee_of, enter, kept_types, same_types, storage_asks}
-use Rattle.mr_frame.specs.Frames.{Aborts, EndsThread, Exits, GoesOn, Look, Onward}
-use Rattle.mr_frame.specs.Operations.{DueDo, Operands, finish, next_do, operands}
-use Rattle.mr_frame.specs.Steps.{frame_plan}
-use Rattle.mr_intr.specs.Operations.{Operation, acquire, allocate, allocating, assume, assuming, atomic_load, atomic_store, compare_exchange, create_lock, deallocate, exchanged, fetch, fetched, found, instant, is_power_of_two, join, loaded, modify, number_in, operation, print, release, releasing, truth_in, with_pick}
-use Rattle.mr_intr.specs.Texts.{bool_text, number_text, spaced, spaced_behind, text_layer, text_of, texts_of}
-use Rattle.mr_intr.proofs.EachOperation.{of_operation}
-use Rattle.mr_thread.specs.Steps.{Own, Turn, TurnPlan, do_step, finished, finishing, frame_step, in_step, last_payload, new_thread, onward, operated, own_step, spawn, spawn_function, spawn_number, spawn_types, start, step_due, thread_types}
+use Rattle.mr_step.specs.EvalMemoryQueries.{Allocate, MemoryScript, reading_part}
+use Rattle.mr_step.specs.EvalOperators.{or_ill_formed, pointer_in}
+use Rattle.mr_step.specs.EvalReads.{ReadScript}
+use Rattle.mr_step.specs.PlanMachine.{CreatesThread, Plan}
+use Rattle.mr_step.specs.PlanQueries.{OfMemory, StepScript, memory_part}
+use Rattle.mr_step.proofs.FrameStorageSteps.{Leads}
+use Rattle.mr_step.specs.FrameCalls.{callee_of, enter, kept_types, same_types, storage_asks}
+use Rattle.mr_step.specs.FrameFrames.{Aborts, EndsThread, Exits, GoesOn, Look, Onward}
+use Rattle.mr_step.specs.FrameOperations.{DueDo, Operands, finish, next_do, operands}
+use Rattle.mr_step.specs.FrameSteps.{frame_plan}
+use Rattle.mr_step.specs.IntrOperations.{Operation, acquire, allocate, allocating, assume, assuming, atomic_load, atomic_store, compare_exchange, create_lock, deallocate, exchanged, fetch, fetched, found, instant, is_power_of_two, join, loaded, modify, number_in, operation, print, release, releasing, truth_in, with_pick}
+use Rattle.mr_step.specs.IntrTexts.{bool_text, number_text, spaced, spaced_behind, text_layer, text_of, texts_of}
+use Rattle.mr_step.proofs.IntrEachOperation.{of_operation}
+use Rattle.mr_step.specs.ThreadSteps.{Own, Turn, TurnPlan, do_step, finished, finishing, frame_step, in_step, last_payload, new_thread, onward, operated, own_step, spawn, spawn_function, spawn_number, spawn_types, start, step_due, thread_types}
 use Rattle.mr_report.specs.Json.{is_printed}
 use Rattle.mr_report.proofs.PlainLaws.{decimal_passes}
 use Rattle.mr_run.proofs.Printing.Prints.{Anything, IsPlain, Prints, memory_prints, prints_then, reads_print}

@@ -1,5 +1,5 @@
 use Rattle.std.proofs.Common.{[], None, refl, subst, sym}
-use Rattle.mr_start.specs.Runs.{steps_of}
+use Rattle.mr_step.specs.StartRuns.{steps_of}
 use Rattle.mr_run.proofs.OneThread.{none_shown}
 use Rattle.mr_input.specs.Answer.{Answer, Tells}
 use Rattle.mr_answer.specs.Answers.{told_by, told_in}

@@ -1,7 +1,7 @@
 use Rattle.std.proofs.Common.{◌≡◌, ◌≤◌, ◌∙◌, List, arith, length, subst, sym}
 use Rattle.std.specs.Prelude.{IfOk, OnOk}
 use Rattle.mr_event.specs.Footprint.{Footprint}
-use Rattle.mr_start.specs.Runs.{steps_of}
+use Rattle.mr_step.specs.StartRuns.{steps_of}
 use Rattle.mr_trace.specs.Spelling.{IsRun}
 use Rattle.mr_run.proofs.StepCount.{steps_within}
 use Rattle.mr_input.specs.declared.written.Written.{Written}

@@ -1,7 +1,7 @@
 use Rattle.std.proofs.Common.{◌≡◌, ap, sym, subst, ◌∙◌, true, false, length, Some}
 use Rattle.std.specs.Prelude.{◌==◌, slice_get}
 use Rattle.mr_sync.specs.Tables.{is_enabled}
-use Rattle.mr_plan.specs.Runs.{is_running}
+use Rattle.mr_step.specs.PlanRuns.{is_running}
 use Rattle.mr_step.proofs.EntryLaws.{enabled_is}
 use Rattle.mr_auto.specs.Answers.{NextAnswer}
 use Rattle.mr_sched.specs.declared.chooser.Chooser.{Chooser}

@@ -2,7 +2,7 @@ use Rattle.std.proofs.Common.{◌≡◌, ℕ, ◌≤◌, ◌^◌, ap, arith, len
 use Rattle.std.specs.Prelude.{Some}
 use Rattle.mr_sched.specs.declared.schedule.Entry.{Entry}
 use Rattle.mr_run.proofs.RunLaws.{begins}
-use Rattle.mr_start.specs.Start.{start_fault}
+use Rattle.mr_step.specs.StartStart.{start_fault}
 use Rattle.mr_step.specs.Answers.{fault_of}
 use Rattle.mr_next.proofs.ReachedLaws.{goes_to}
 use Rattle.mr_next.proofs.reaching.reach.Goals as goal

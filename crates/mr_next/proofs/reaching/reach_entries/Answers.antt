@@ -1,6 +1,6 @@
 use Rattle.std.proofs.Common.{◌≡◌, [], ap, arith, refl, subst, sym, ◌∙◌}
 use Rattle.std.proofs.lemmas.List.{drop_all}
-use Rattle.mr_start.specs.Runs.{program_fault}
+use Rattle.mr_step.specs.StartRuns.{program_fault}
 use Rattle.mr_step.specs.Answers.{fault_of}
 use Rattle.mr_step.specs.Standing.{Standing}
 use Rattle.std.specs.Prelude.{Some}

@@ -3,7 +3,7 @@ use Rattle.mr_ast.specs.declared.program.Intrinsic.{Intrinsic}
 use Rattle.mr_ast.specs.declared.program.Intrinsic.TheVariants.{FetchAdd, FetchAnd, FetchOr, FetchSub, FetchXor}
 use Rattle.mr_frame.specs.Doing.{operands_of}
 use Rattle.mr_frame.specs.Operations.{OperandsFit}
-use Rattle.mr_intr.specs.Atomics.{IsFetch}
+use Rattle.mr_step.specs.IntrAtomics.{IsFetch}
 use Rattle.mr_telling.proofs.OperationLaws.{exchange_type, fetch_type}
 use Rattle.mr_telling.proofs.intrinsics.in_operation.Goals as goal
 

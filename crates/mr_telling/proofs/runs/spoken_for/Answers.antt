@@ -4,7 +4,7 @@ use Rattle.mr_base.specs.declared.reason.Reason.{Reason}
 use Rattle.mr_base.specs.declared.reason.Verdict.TheVariants as verdict
 use Rattle.mr_sched.specs.declared.schedule.Entry.{Entry}
 use Rattle.mr_plan.specs.Runs.{after}
-use Rattle.mr_thread.specs.Steps.{thread_step}
+use Rattle.mr_step.specs.ThreadSteps.{thread_step}
 use Rattle.mr_step.specs.Answers.{StartAnswer}
 use Rattle.mr_wf.specs.Walk.{WellFormed}
 use Rattle.mr_blame.specs.Reaches.{is_of_memory}

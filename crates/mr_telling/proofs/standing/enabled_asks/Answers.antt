@@ -1,6 +1,6 @@
 use Rattle.std.proofs.Common.{◌∙◌, ◌++◌, ap}
 use Rattle.mr_plan.specs.Machine.{needs}
-use Rattle.mr_thread.specs.Steps.{thread_step}
+use Rattle.mr_step.specs.ThreadSteps.{thread_step}
 use Rattle.mr_telling.proofs.standing.enabled_asks.Goals as goal
 
 pub returns : goal.returns

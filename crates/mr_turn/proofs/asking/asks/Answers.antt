@@ -1,6 +1,6 @@
 use Rattle.std.proofs.Common.{refl, subst, sym}
 use Rattle.std.specs.Prelude.{None, Ok}
-use Rattle.mr_plan.specs.Notes.{start_notes}
+use Rattle.mr_frame.specs.PlanNotes.{start_notes}
 use Rattle.mr_frame.specs.Kept.{look_of, stack_of}
 use Rattle.mr_frame.specs.Operations.{next_do}
 use Rattle.mr_intr.specs.Effects.{shared_of}

@@ -4,13 +4,13 @@ use Rattle.mr_mem.specs.declared.fault.Fault.{Fault}
 use Rattle.mr_base.specs.Script.{Outcome}
 use Rattle.mr_eval.specs.Answers.{seen}
 use Rattle.mr_eval.specs.World.{TellsBy}
-use Rattle.mr_plan.specs.Legal.{Fault as FaultOf}
-use Rattle.mr_plan.specs.Notes.{Notes}
-use Rattle.mr_plan.specs.Queries.{Shared}
+use Rattle.mr_frame.specs.PlanLegal.{Fault as FaultOf}
+use Rattle.mr_frame.specs.PlanNotes.{Notes}
+use Rattle.mr_frame.specs.PlanQueries.{Shared}
 use Rattle.mr_frame.specs.Doing.{operands_of}
 use Rattle.mr_frame.specs.Effects.{argued}
 use Rattle.mr_frame.specs.Kept.{look_of}
-use Rattle.mr_thread.specs.Steps.{Turn}
+use Rattle.mr_start.specs.ThreadSteps.{Turn}
 use Rattle.mr_turn.specs.Turning.{Does, IsSame, StopAnswer, TurnAnswer, begun, comes_to, own_of, planned}
 use Rattle.mr_eval.specs.declared.scene.Scene.{Scene}
 use Rattle.mr_turn.specs.Doing.{do_breaks, do_comes_to}
