@@ -1,14 +1,13 @@
 //! The schedule that an order becomes, and where the order can't go on, as they are told.
-ghost use Rattle.std.specs.Prelude.{◌≡◌, ◌++◌, ◌^◌, ◌≤◌, IfOk, OnOk, decimal, length};
+ghost use Rattle.std.specs.Prelude.{◌≡◌, ◌++◌, ◌^◌, ◌≤◌, IfOk, OnOk, length};
 ghost use Rattle.mr_sched.specs.Reading.{Gives};
-ghost use Rattle.mr_sched.specs.Rules.{name_by_code};
 ghost use Rattle.mr_fill.specs.Filling.{filled};
 ghost use Rattle.mr_fill.specs.Told.{halt_line, halt_text, text_by, texts_of};
 
 use crate::filling::{Halt, fill};
 use crate::{Turn, read_order};
-use itoa::Buffer;
-use mr_sched::{Items, SchedFault, ScheduleRule, print};
+use mr_sched::{Items, SchedFault, print};
+use mr_told::{push_number, rule_name};
 use mr_wf::Checked;
 use std::alloc::{AllocError, Global};
 
@@ -18,24 +17,6 @@ use std::alloc::{AllocError, Global};
 pub struct FilledText {
     pub schedule: Items<u8>,
     pub halt: Items<u8>,
-}
-
-// Appends a number in decimal.
-fn push_number(out: &mut Vec<u8>, number: u64) -> Result<(), AllocError>
-    ensures { OnOk result (out.new.items ≡ out.old.items ++ decimal number) }
-{
-    let mut buffer = Buffer::new();
-    out.extend_from_slice(buffer.format(number).as_bytes())
-}
-
-// The name of a rule of schedules, by its code.
-fn rule_name(code: u8) -> &'static str
-    ensures { result.now ≡ name_by_code code }
-{
-    match ScheduleRule::of_code(code) {
-        Some(rule) => rule.name(),
-        None => "",
-    }
 }
 
 /// Appends where an order can't go on, as a comment of an order. An `Err` is for want of memory.

@@ -12,7 +12,7 @@ use Rattle.mr_listing.specs.Races.{same_stand, times_text}
 use Rattle.mr_listing.specs.Spots.{spot_text, statement_text}
 use Rattle.mr_listing.specs.Partners.{partner_line, partners_at}
 use Rattle.mr_listing.specs.Steps.{stop_text}
-use Rattle.mr_listing.specs.Words.{behind_text}
+use Rattle.mr_told.specs.Words.{behind_text}
 
 -- ---- statements
 

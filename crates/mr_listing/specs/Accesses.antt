@@ -7,7 +7,7 @@ use Rattle.mr_told.specs.declared.step.Stand.{Stand}
 use Rattle.mr_told.specs.declared.rows.Allocation.{Allocation}
 use Rattle.mr_told.specs.Table.{found_at}
 use Rattle.mr_listing.specs.Seen.{Seen}
-use Rattle.mr_listing.specs.Words.{name_text}
+use Rattle.mr_told.specs.Words.{name_text}
 
 -- what an access is called
 abbrev pub access_word : Access → List ℕ

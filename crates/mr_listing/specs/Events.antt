@@ -8,7 +8,7 @@ use Rattle.mr_base.specs.declared.thread.Status.{Status}
 use Rattle.mr_base.specs.declared.thread.Status.TheVariants.{OnJoin, OnLock}
 use Rattle.mr_told.specs.declared.step.Stand.{Stand}
 use Rattle.mr_told.specs.declared.step.ToldStep.{ToldStep}
-use Rattle.mr_listing.specs.Words.{function_word}
+use Rattle.mr_told.specs.Words.{function_word}
 
 -- a word and a number, on a line of a step
 abbrev pub note_line : List ℕ → ℕ → List ℕ

@@ -9,4 +9,3 @@ pub mod Sorted
 pub mod Spoken
 pub mod Spots
 pub mod Steps
-pub mod Words

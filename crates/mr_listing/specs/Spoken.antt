@@ -14,7 +14,7 @@ use Rattle.mr_told.specs.declared.rows.Allocation.{Allocation}
 use Rattle.mr_listing.specs.Accesses.{bytes_text}
 use Rattle.mr_listing.specs.Leaks.{freed_by}
 use Rattle.mr_listing.specs.Seen.{Seen}
-use Rattle.mr_listing.specs.Words.{name_text}
+use Rattle.mr_told.specs.Words.{name_text}
 
 -- what is done with bytes
 abbrev pub doing_word : Reaching → List ℕ

@@ -6,9 +6,8 @@ ghost use Rattle.mr_told.specs.Table.{found_at};
 
 use crate::OutOfMemory;
 use crate::shown::Shown;
-use crate::words::{push_name, push_number};
 use mr_base::Access;
-use mr_told::{Allocation, Stand};
+use mr_told::{Allocation, Stand, push_name, push_number};
 
 /// What an access is called.
 pub fn access_word(access: Access) -> &'static str

@@ -6,9 +6,8 @@ ghost use Rattle.mr_listing.specs.Seen.{seen};
 
 use crate::OutOfMemory;
 use crate::shown::Shown;
-use crate::words::{function_word, push_number};
 use mr_base::{Event, Status};
-use mr_told::{Stand, ToldStep};
+use mr_told::{Stand, ToldStep, function_word, push_number};
 
 // Appends a line with a word and a number.
 fn push_note(out: &mut Vec<u8>, word: &str, number: u32) -> Result<(), OutOfMemory>

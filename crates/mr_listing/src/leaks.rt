@@ -7,10 +7,9 @@ ghost use Rattle.mr_listing.specs.Seen.{seen};
 use crate::OutOfMemory;
 use crate::accesses::push_bytes;
 use crate::shown::Shown;
-use crate::words::{push_count, push_number};
 use mr_base::{AllocId, Verdict};
 use mr_event::Footprint;
-use mr_told::{Allocation, Name};
+use mr_told::{Allocation, Name, push_count, push_number};
 
 // Whether two identities are one.
 fn same_id(a: AllocId, b: AllocId) -> bool

@@ -26,7 +26,6 @@ mod shown;
 mod sorted;
 mod spoken;
 mod spots;
-mod words;
 
 pub use accesses::{access_word, push_bytes, push_reached};
 pub use events::{acquire_word, join_word, release_word};
@@ -37,4 +36,3 @@ pub use shown::Shown;
 pub use spoken::push_spoken;
 pub use spots::stand_text;
 pub use std::alloc::AllocError as OutOfMemory;
-pub use words::{function_word, push_name};

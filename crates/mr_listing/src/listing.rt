@@ -12,10 +12,9 @@ use crate::partners::{Partner, partners_of, push_partners};
 use crate::rests::push_rests;
 use crate::shown::Shown;
 use crate::spots::push_stand;
-use crate::words::{push_count, push_number};
 use mr_event::Footprint;
 use mr_report::{Line, brief};
-use mr_told::ToldStep;
+use mr_told::{ToldStep, push_count, push_number};
 use std::alloc::Global;
 
 // Appends the line of a step: its number, its thread, and where that stood.

@@ -5,8 +5,8 @@ ghost use Rattle.std.specs.List.Sorted.{IsNonDecreasingBy};
 ghost use Rattle.mr_listing.specs.Partners.{ArePartners, both_of, is_of, partner_line, partners, partners_at};
 
 use crate::OutOfMemory;
-use crate::words::push_count;
 use mr_event::Pair;
+use mr_told::push_count;
 use std::alloc::Global;
 
 /// A step that races with another one.

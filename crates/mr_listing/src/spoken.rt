@@ -9,10 +9,9 @@ use crate::OutOfMemory;
 use crate::accesses::push_bytes;
 use crate::leaks::freed_by;
 use crate::shown::Shown;
-use crate::words::{push_count, push_name, push_number};
 use mr_base::AllocId;
 use mr_event::Footprint;
-use mr_told::{Allocation, Name, Reached, Reaching};
+use mr_told::{Allocation, Name, Reached, Reaching, push_count, push_name, push_number};
 
 // What is done with bytes.
 fn doing_word(doing: Reaching) -> &'static str

@@ -11,7 +11,7 @@ use Rattle.mr_sched.specs.Rules.{name_by_code}
 use Rattle.mr_told.specs.declared.names.Name.{Name}
 use Rattle.mr_told.specs.declared.names.Name.TheVariants as name
 use Rattle.mr_told.specs.declared.step.Stand.{Stand}
-use Rattle.mr_listing.specs.Words.{name_text}
+use Rattle.mr_told.specs.Words.{name_text}
 use Rattle.mr_next.specs.Coming.{coming_names}
 use Rattle.mr_next.specs.declared.prospect.Position.{Position}
 use Rattle.mr_next.specs.declared.prospect.Prospect.{Prospect}

@@ -1,6 +1,5 @@
 //! What is said of how a run can go on.
 ghost use Rattle.std.specs.Prelude.{◌≡◌, ◌++◌, ◌==◌, OnOk, Some, codes, decimal, if◌then◌else◌, option_copied, slice_get};
-ghost use Rattle.mr_sched.specs.Rules.{name_by_code};
 ghost use Rattle.mr_next.specs.Texts.{address_text, asked_text, at_text, blank_number, blank_numbers, broken_text};
 ghost use Rattle.mr_next.specs.Texts.{code_text, culprit_text, each_text, earlier_line, earlier_text, entry_text, for_text};
 ghost use Rattle.mr_next.specs.Texts.{head_text, holder_named, holder_text, join_text, limit_line, limit_text, listed_thread};
@@ -14,21 +13,11 @@ use crate::OutOfMemory;
 use crate::broken::Broken;
 use crate::coming::coming_names;
 use crate::prospect::{Position, Prospect, Want};
-use itoa::Buffer;
 use mr_ast::Program;
 use mr_base::{AllocId, Status};
-use mr_listing::push_name;
-use mr_sched::{Entry, ScheduleRule};
-use mr_told::{Name, Stand};
+use mr_sched::Entry;
+use mr_told::{Name, Stand, push_name, push_number, rule_name};
 use std::alloc::Global;
-
-// Appends a number in decimal.
-fn push_number(out: &mut Vec<u8>, number: u64) -> Result<(), OutOfMemory>
-    ensures { OnOk result (out.new.items ≡ out.old.items ++ decimal number) }
-{
-    let mut buffer = Buffer::new();
-    out.extend_from_slice(buffer.format(number).as_bytes())
-}
 
 // Appends a number behind a blank.
 fn push_blank(out: &mut Vec<u8>, number: u64) -> Result<(), OutOfMemory>
@@ -92,16 +81,6 @@ fn push_numbers(out: &mut Vec<u8>, numbers: &[u64]) -> Result<(), OutOfMemory>
         push_blank(out, *number)?;
     }
     Ok(())
-}
-
-// The name of a rule of schedules, by its code.
-fn rule_name(code: u8) -> &'static str
-    ensures { result.now ≡ name_by_code code }
-{
-    match ScheduleRule::of_code(code) {
-        Some(rule) => rule.name(),
-        None => "",
-    }
 }
 
 // Appends what an address is for.

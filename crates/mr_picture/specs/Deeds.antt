@@ -13,7 +13,7 @@ use Rattle.mr_told.specs.Table.{found_at}
 use Rattle.mr_listing.specs.Accesses.{access_word, bytes_text, reached_text}
 use Rattle.mr_listing.specs.Events.{acquire_text, join_text, release_text}
 use Rattle.mr_listing.specs.Seen.{Seen}
-use Rattle.mr_listing.specs.Words.{function_word}
+use Rattle.mr_told.specs.Words.{function_word}
 use Rattle.mr_picture.specs.declared.scene.Drawn.{Drawn}
 use Rattle.mr_picture.specs.Scene.{Scene}
 

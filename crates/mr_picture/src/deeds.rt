@@ -9,7 +9,7 @@ ghost use Rattle.mr_picture.specs.Scene.{scene_in};
 
 use crate::OutOfMemory;
 use crate::scene::{Drawn, Scene};
-use crate::texts::{push, push_count, push_number};
+use crate::texts::push;
 use mr_base::{Access, Event};
 use mr_event::{Footprint, Pair};
 use mr_listing::{
@@ -17,7 +17,7 @@ use mr_listing::{
     release_word,
 };
 use mr_report::Line;
-use mr_told::Stand;
+use mr_told::{Stand, push_count, push_number};
 
 // Appends a word and a number.
 fn push_numbered(out: &mut Vec<u8>, sep: &str, word: &str, number: u32) -> Result<(), OutOfMemory>

@@ -3,7 +3,7 @@ ghost use Rattle.std.specs.Prelude.{◌≡◌, ◌+◌, ◌++◌, IfOk, OnOk, de
 ghost use Rattle.mr_picture.specs.Texts.{cut, cut_at, step_word};
 
 use crate::OutOfMemory;
-use itoa::Buffer;
+use mr_told::push_count;
 use std::alloc::Global;
 
 /// Appends a text of our own.
@@ -11,22 +11,6 @@ pub(crate) fn push(out: &mut Vec<u8>, text: &str) -> Result<(), OutOfMemory>
     ensures { OnOk result (out.new.items ≡ out.old.items ++ text.now) }
 {
     out.extend_from_slice(text.as_bytes())
-}
-
-/// Appends a number in decimal.
-pub(crate) fn push_number(out: &mut Vec<u8>, number: u64) -> Result<(), OutOfMemory>
-    ensures { OnOk result (out.new.items ≡ out.old.items ++ decimal number) }
-{
-    let mut buffer = Buffer::new();
-    out.extend_from_slice(buffer.format(number).as_bytes())
-}
-
-/// Appends a number that is counted from 1, of something that is counted from 0.
-pub(crate) fn push_count(out: &mut Vec<u8>, at: usize) -> Result<(), OutOfMemory>
-    ensures { OnOk result (out.new.items ≡ out.old.items ++ decimal (at + 1)) }
-{
-    let mut buffer = Buffer::new();
-    out.extend_from_slice(buffer.format(at as u128 + 1).as_bytes())
 }
 
 /// Appends a step, counted from 1.

@@ -1,3 +1,4 @@
 pub mod Index
 pub mod Names
 pub mod Table
+pub mod Words

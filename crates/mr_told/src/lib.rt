@@ -10,7 +10,11 @@
 //! - [`Allocations::named`]: the allocation of an identity.
 //! - [`Reached`], [`Reaching`]: what an undefined step speaks of: bytes from a pointer on, and what it does with them.
 //!
-//! `specs/Names.antt` says by which name an allocation goes, `specs/Table.antt` which allocations a run has. Proved: each
+//! - [`push_number`], [`push_count`], [`push_name`]: numbers, and the names of addresses, as they are written. [`function_word`],
+//!   [`block_word`], [`rule_name`]: what functions, blocks and rules are called.
+//!
+//! `specs/Names.antt` says by which name an allocation goes, `specs/Table.antt` which allocations a run has, and
+//! `specs/Words.antt` how names are written. Proved: each
 //! call answers exactly what these say, and want of memory is its only error.
 #![tactic(auto)]
 
@@ -21,6 +25,7 @@ mod names;
 mod reached;
 mod rows;
 mod step;
+mod words;
 
 pub use allocations::Allocations;
 pub use names::{Name, made_names};
@@ -28,3 +33,4 @@ pub use reached::{Reached, Reaching};
 pub use rows::{Allocation, push_rows, start_rows};
 pub use std::alloc::AllocError as OutOfMemory;
 pub use step::{Rest, Stand, ToldStep};
+pub use words::{block_word, function_word, push_count, push_name, push_number, rule_name};

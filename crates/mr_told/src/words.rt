@@ -1,29 +1,42 @@
-//! Numbers and names, as they are written.
+//! Numbers and names, as they are written. Want of memory is the only error of each call.
 ghost use Rattle.std.specs.Prelude.{◌≡◌, ◌+◌, ◌++◌, OnOk, decimal, slice_get};
 ghost use Rattle.mr_ast.specs.Canon.{function_texts, global_texts};
 ghost use Rattle.mr_ast.specs.CanonValues.{text_at};
-ghost use Rattle.mr_listing.specs.Words.{behind_text, block_word, function_word, is_here, local_word, name_text};
-ghost use Rattle.mr_listing.specs.Words.{owner_text};
+ghost use Rattle.mr_sched.specs.Rules.{name_by_code};
+ghost use Rattle.mr_told.specs.Words.{behind_text, block_word, function_word, is_here, local_word, name_text};
+ghost use Rattle.mr_told.specs.Words.{owner_text};
 
 use crate::OutOfMemory;
+use crate::names::Name;
+use crate::step::Stand;
 use itoa::Buffer;
 use mr_ast::{BlockName, FnName, LocalName, Program};
-use mr_told::{Name, Stand};
+use mr_sched::ScheduleRule;
 
-// Appends a number in decimal.
-pub(crate) fn push_number(out: &mut Vec<u8>, number: u64) -> Result<(), OutOfMemory>
+/// Appends a number in decimal.
+pub fn push_number(out: &mut Vec<u8>, number: u64) -> Result<(), OutOfMemory>
     ensures { OnOk result (out.new.items ≡ out.old.items ++ decimal number) }
 {
     let mut buffer = Buffer::new();
     out.extend_from_slice(buffer.format(number).as_bytes())
 }
 
-// Appends a number that is counted from 1, of something that is counted from 0.
-pub(crate) fn push_count(out: &mut Vec<u8>, at: usize) -> Result<(), OutOfMemory>
+/// Appends a number that is counted from 1, of something that is counted from 0.
+pub fn push_count(out: &mut Vec<u8>, at: usize) -> Result<(), OutOfMemory>
     ensures { OnOk result (out.new.items ≡ out.old.items ++ decimal (at + 1)) }
 {
     let mut buffer = Buffer::new();
     out.extend_from_slice(buffer.format(at as u128 + 1).as_bytes())
+}
+
+/// The name of a rule of schedules, by its code.
+pub fn rule_name(code: u8) -> &'static str
+    ensures { result.now ≡ name_by_code code }
+{
+    match ScheduleRule::of_code(code) {
+        Some(rule) => rule.name(),
+        None => "",
+    }
 }
 
 /// The name of a function.
@@ -33,8 +46,8 @@ pub fn function_word(p: &Program, function: u32) -> &str
     p.function_name(FnName(function))
 }
 
-// The name of a block of a function.
-pub(crate) fn block_word(p: &Program, function: u32, block: u32) -> &str
+/// The name of a block of a function.
+pub fn block_word(p: &Program, function: u32, block: u32) -> &str
     ensures { result.now ≡ block_word p.now block (slice_get p.now.functions function) }
 {
     match p.functions.get(function as usize) {
