@@ -5,7 +5,7 @@ use Rattle.mr_base.specs.declared.reason.Reason.{Reason}
 use Rattle.mr_base.specs.declared.reason.Reason.TheVariants.{DataRace}
 use Rattle.mr_eval.specs.Reads.{ReadQuery, ReadScript}
 use Rattle.mr_mem.specs.Memory.{Memory}
-use Rattle.mr_told.specs.declared.reached.Reached.{Reached}
+use Rattle.mr_labels.specs.declared.reached.Reached.{Reached}
 use Rattle.mr_base.specs.Script.{◌>>=◌, Broken, Outcome, Refused, Went, on, run}
 use Rattle.mr_base.proofs.ScriptRuns.{run_bind}
 use Rattle.mr_blame.specs.Last.{last_asked}

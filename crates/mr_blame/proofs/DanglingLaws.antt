@@ -7,7 +7,7 @@ use Rattle.mr_base.specs.declared.reason.Reason.{Reason}
 use Rattle.mr_eval.specs.Typed.{Targets, element_targets, targets_of, targets_of_fields}
 use Rattle.mr_mem.specs.Memory.{Memory, checked}
 use Rattle.mr_value.specs.declared.val.Val.{Val}
-use Rattle.mr_told.specs.declared.reached.Reached.{Reached}
+use Rattle.mr_labels.specs.declared.reached.Reached.{Reached}
 use Rattle.mr_blame.specs.Reads.{first_dangling, if_refused}
 
 -- the first of two, where it is there, and else the other

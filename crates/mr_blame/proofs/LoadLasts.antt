@@ -12,8 +12,8 @@ use Rattle.mr_eval.specs.Reads.{Read, ReadQuery, ReadReply, ReadScript, Refer, a
 use Rattle.mr_eval.specs.Typed.{Targets, loading, meant, or_undefined, referred, referring, targets_of}
 use Rattle.mr_layout.specs.Sizes.{align_of, size_of}
 use Rattle.mr_mem.specs.Memory.{Memory, checked, read}
-use Rattle.mr_told.specs.declared.reached.Reached.{Reached}
-use Rattle.mr_told.specs.declared.reached.Reaching.TheVariants.{Loads, Refers}
+use Rattle.mr_labels.specs.declared.reached.Reached.{Reached}
+use Rattle.mr_labels.specs.declared.reached.Reaching.TheVariants.{Loads, Refers}
 use Rattle.mr_base.specs.Script.{◌>>=◌, Ask, Broken, Done, IllFormed, Outcome, Refused, Undefined, Went, on, run}
 use Rattle.mr_value.specs.declared.val.Val.{Val}
 use Rattle.mr_value.specs.Decode.{decoded}

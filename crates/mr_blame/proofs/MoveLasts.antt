@@ -14,8 +14,8 @@ use Rattle.mr_eval.specs.Operators.{binary_of, index_in, integer_told, kind_of, 
 use Rattle.mr_eval.specs.Reads.{Check, ReadScript}
 use Rattle.mr_eval.specs.declared.kinds.Operator.TheVariants.{Moving}
 use Rattle.mr_intops.specs.Numbers.{value_of}
-use Rattle.mr_told.specs.declared.reached.Reached.{Reached}
-use Rattle.mr_told.specs.declared.reached.Reaching.TheVariants.{Moves}
+use Rattle.mr_labels.specs.declared.reached.Reached.{Reached}
+use Rattle.mr_labels.specs.declared.reached.Reaching.TheVariants.{Moves}
 use Rattle.mr_base.specs.Script.{◌>>=◌, Ask, Done, Undefined}
 use Rattle.mr_value.specs.declared.val.Val.{Val, out-Val}
 use Rattle.mr_value.specs.declared.val.Val.TheVariants as val

@@ -14,7 +14,7 @@ use Rattle.mr_eval.specs.Operators.{pointer_of_value}
 use Rattle.mr_eval.specs.Reads.{ReadScript}
 use Rattle.mr_eval.proofs.EvaluationLaws.{script_deref, script_field, script_index, script_local, script_variant_place}
 use Rattle.mr_mem.specs.Memory.{Memory}
-use Rattle.mr_told.specs.declared.reached.Reached.{Reached}
+use Rattle.mr_labels.specs.declared.reached.Reached.{Reached}
 use Rattle.mr_base.specs.Script.{◌>>=◌}
 use Rattle.mr_value.specs.declared.val.Val.{Val}
 use Rattle.mr_wf.specs.Types.{type_of_place}

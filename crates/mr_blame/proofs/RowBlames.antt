@@ -6,7 +6,7 @@ use Rattle.mr_eval.specs.Answers.{same}
 use Rattle.mr_eval.specs.Evaluation.{Surround, value_script, values_script}
 use Rattle.mr_eval.specs.Reads.{ReadScript}
 use Rattle.mr_mem.specs.Memory.{Memory}
-use Rattle.mr_told.specs.declared.reached.Reached.{Reached}
+use Rattle.mr_labels.specs.declared.reached.Reached.{Reached}
 use Rattle.mr_base.specs.Script.{◌>>=◌, Broken, Done, Outcome, Refused, Went, on}
 use Rattle.mr_base.proofs.ScriptRuns.{on_same, run_bind}
 use Rattle.mr_value.specs.declared.val.Val.{Val}

@@ -22,8 +22,8 @@ use Rattle.mr_eval.specs.Reads.{Read, ReadQuery, ReadScript, answered}
 use Rattle.mr_eval.specs.Typed.{case_search, numbered, or_undefined, searched}
 use Rattle.mr_eval.proofs.DiscSafe.{search_branch, search_invalid, search_known, searches}
 use Rattle.mr_mem.specs.Memory.{Memory, read}
-use Rattle.mr_told.specs.declared.reached.Reached.{Reached}
-use Rattle.mr_told.specs.declared.reached.Reaching.TheVariants.{Loads}
+use Rattle.mr_labels.specs.declared.reached.Reached.{Reached}
+use Rattle.mr_labels.specs.declared.reached.Reaching.TheVariants.{Loads}
 use Rattle.mr_base.specs.Script.{◌>>=◌, Ask, Done, IllFormed, Undefined, Went, on}
 use Rattle.mr_value.specs.Discriminants.{bits_of_number, number_of_bits}
 use Rattle.mr_value.specs.declared.val.Val.{Val}

@@ -20,7 +20,7 @@ use Rattle.mr_eval.specs.Operators.{binary_of, cast_value, or_ill_formed, unary_
 use Rattle.mr_eval.specs.Reads.{ReadScript}
 use Rattle.mr_eval.proofs.EvaluationLaws.{script_addr_of, script_binary, script_cast, script_disc, script_false, script_fn, script_global, script_int, script_load, script_raw, script_transmute, script_true, script_tuple, script_unary, script_union, script_variant}
 use Rattle.mr_mem.specs.Memory.{Memory}
-use Rattle.mr_told.specs.declared.reached.Reached.{Reached}
+use Rattle.mr_labels.specs.declared.reached.Reached.{Reached}
 use Rattle.mr_base.specs.Script.{◌>>=◌, Done}
 use Rattle.mr_value.specs.declared.val.Val.{Val}
 use Rattle.mr_value.specs.declared.val.Val.TheVariants as val

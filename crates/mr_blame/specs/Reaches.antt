@@ -6,9 +6,9 @@ use Rattle.mr_base.specs.declared.reason.Reason.TheVariants.{DanglingReference, 
 use Rattle.mr_base.specs.declared.reason.Reason.TheVariants.{FreeKind, FreeSize, InvalidValue, Misaligned, NoProvenance}
 use Rattle.mr_base.specs.declared.reason.Reason.TheVariants.{OutOfBounds}
 use Rattle.mr_eval.specs.Reads.{Check, Read, ReadQuery, Refer}
-use Rattle.mr_told.specs.declared.reached.Reached.{Reached}
-use Rattle.mr_told.specs.declared.reached.Reaching.{Reaching}
-use Rattle.mr_told.specs.declared.reached.Reaching.TheVariants.{Loads, Moves, Refers}
+use Rattle.mr_labels.specs.declared.reached.Reached.{Reached}
+use Rattle.mr_labels.specs.declared.reached.Reaching.{Reaching}
+use Rattle.mr_labels.specs.declared.reached.Reaching.TheVariants.{Loads, Moves, Refers}
 
 -- so many bytes from a pointer on, with which this is done
 abbrev pub reached_by : Reaching → Pointer → ℕ → Reached

@@ -13,8 +13,8 @@ use Rattle.mr_eval.specs.Reads.{Check, Read, ReadQuery, ReadReply, ReadScript, R
 use Rattle.mr_eval.specs.Typed.{Targets, loading, searched}
 use Rattle.mr_mem.specs.Memory.{Memory, checked, read}
 use Rattle.mr_base.specs.Script.{Outcome, Refused, Went, run}
-use Rattle.mr_told.specs.declared.reached.Reached.{Reached}
-use Rattle.mr_told.specs.declared.reached.Reaching.TheVariants.{Refers}
+use Rattle.mr_labels.specs.declared.reached.Reached.{Reached}
+use Rattle.mr_labels.specs.declared.reached.Reaching.TheVariants.{Refers}
 use Rattle.mr_value.specs.declared.val.Val.{Val}
 use Rattle.mr_blame.specs.Last.{last_asked}
 use Rattle.mr_blame.specs.Reaches.{is_of_memory, reached_by, read_reached}

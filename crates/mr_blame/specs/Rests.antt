@@ -10,7 +10,7 @@ use Rattle.mr_eval.specs.Moves.{moved}
 use Rattle.mr_eval.specs.Operators.{index_of_value, or_ill_formed}
 use Rattle.mr_eval.specs.Reads.{ReadScript}
 use Rattle.mr_mem.specs.Memory.{Memory}
-use Rattle.mr_told.specs.declared.reached.Reached.{Reached}
+use Rattle.mr_labels.specs.declared.reached.Reached.{Reached}
 use Rattle.mr_base.specs.Script.{◌>>=◌}
 use Rattle.mr_value.specs.declared.val.Val.{Val}
 use Rattle.mr_blame.specs.Reads.{IsBlamed, IsRefused, come, last_reached}

@@ -8,8 +8,8 @@ ghost use Rattle.mr_blame.specs.Reads.{first_dangling};
 use crate::parts::reached_by;
 use mr_ast::{Num, Ty, Variant};
 use mr_base::Pointer;
+use mr_labels::{Reached, Reaching};
 use mr_mem::Memory;
-use mr_told::{Reached, Reaching};
 use mr_value::Val;
 
 // What a reference points to, where it points to no live range.

@@ -12,8 +12,8 @@ use crate::parts::{place_part, value_part};
 use crate::search::search_of;
 use mr_ast::{BinaryOp, Place, Ty, Value};
 use mr_eval::Env;
+use mr_labels::Reached;
 use mr_mem::Memory;
-use mr_told::Reached;
 use std::alloc::{AllocError, Global};
 
 /// What the last query of a place reaches that is refused.

@@ -15,8 +15,8 @@ use crate::types::{type_at, type_with};
 use mr_ast::{Place, Ty, Value};
 use mr_base::Pointer;
 use mr_eval::{Env, recast};
+use mr_labels::{Reached, Reaching};
 use mr_mem::Memory;
-use mr_told::{Reached, Reaching};
 use mr_value::{Val, decode};
 use std::alloc::{AllocError, Global};
 

@@ -18,8 +18,8 @@ use crate::types::type_at;
 use mr_ast::{BinaryOp, Place, Ty};
 use mr_base::Pointer;
 use mr_eval::Env;
+use mr_labels::{Reached, Reaching};
 use mr_layout::Cache;
-use mr_told::{Reached, Reaching};
 use mr_value::Val;
 use mr_wf::offset;
 

@@ -13,8 +13,8 @@ use mr_ast::{Place, Ty, Value};
 use mr_base::Pointer;
 use mr_eval::{Env, Fault, Notes, load_typed, place, value};
 use mr_frame::place_type;
+use mr_labels::{Reached, Reaching};
 use mr_mem::Memory;
-use mr_told::{Reached, Reaching};
 use mr_value::Val;
 use std::alloc::{AllocError, Global};
 

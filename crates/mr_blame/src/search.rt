@@ -13,9 +13,9 @@ use crate::types::type_at;
 use mr_ast::{Place, Tree, Ty};
 use mr_base::Pointer;
 use mr_eval::{Env, behind, number_in};
+use mr_labels::{Reached, Reaching};
 use mr_layout::int_bytes;
 use mr_mem::Memory;
-use mr_told::{Reached, Reaching};
 
 /// What the last query of a search by a tree reaches that is refused.
 pub fn in_search(m: &Memory, tree: &Tree, p: Pointer) -> Option<Reached>

@@ -6,8 +6,8 @@ ghost use Rattle.mr_fill.specs.Told.{halt_line, halt_text, text_by, texts_of};
 
 use crate::filling::{Halt, fill};
 use crate::{Turn, read_order};
+use mr_labels::{push_number, rule_name};
 use mr_sched::{Items, SchedFault, print};
-use mr_told::{push_number, rule_name};
 use mr_wf::Checked;
 use std::alloc::{AllocError, Global};
 

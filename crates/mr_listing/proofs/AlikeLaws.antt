@@ -16,7 +16,7 @@ use Rattle.std.specs.Ordering.{is_eq, is_lt, nat_cmp, ordering_index, ordering_r
 use Rattle.std.specs.declared.cmp.Ordering.{Ordering}
 use Rattle.std.specs.declared.cmp.Ordering.TheVariants.{Equal, Greater, Less}
 use Rattle.mr_event.specs.declared.footprint.Pair.{Pair}
-use Rattle.mr_told.specs.declared.step.Stand.{Stand}
+use Rattle.mr_labels.specs.declared.step.Stand.{Stand}
 use Rattle.mr_listing.specs.declared.pairs.Group.{Group}
 use Rattle.mr_listing.specs.declared.sorted.Numbered.{Numbered}
 use Rattle.mr_listing.specs.Races.{before_of, first_group, group_of, same_places, same_stand}

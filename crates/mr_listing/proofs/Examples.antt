@@ -5,14 +5,14 @@ use Rattle.mr_ast.specs.declared.program.Program.{Program}
 use Rattle.mr_base.specs.declared.thread.Event.TheVariants as event
 use Rattle.mr_base.specs.declared.thread.Status.{Status}
 use Rattle.mr_base.specs.declared.thread.Status.TheVariants.{Enabled, OnJoin, OnLock}
-use Rattle.mr_told.specs.declared.step.ToldStep.{ToldStep}
+use Rattle.mr_labels.specs.declared.step.ToldStep.{ToldStep}
 use Rattle.mr_listing.specs.Accesses.{bytes_text}
 use Rattle.mr_listing.specs.Events.{event_text}
 use Rattle.mr_listing.specs.Races.{same_stand, times_text}
 use Rattle.mr_listing.specs.Spots.{spot_text, statement_text}
 use Rattle.mr_listing.specs.Partners.{partner_line, partners_at}
 use Rattle.mr_listing.specs.Steps.{stop_text}
-use Rattle.mr_told.specs.Words.{behind_text}
+use Rattle.mr_labels.specs.Words.{behind_text}
 
 -- ---- statements
 

@@ -10,8 +10,8 @@ use Rattle.std.proofs.lemmas.Option.{slice_get-get_or}
 use Rattle.std.specs.Prelude.{◌&&◌, ◌||◌, ◌==◌, if◌then◌else◌, flat_map, Option, None, Some, slice_get}
 use Rattle.std.specs.List.{Contains, filter, list_any, range_with_len}
 use Rattle.mr_event.specs.declared.footprint.Pair.{Pair}
-use Rattle.mr_told.specs.declared.step.Stand.{Stand}
-use Rattle.mr_told.proofs.Growing.{appended_next}
+use Rattle.mr_labels.specs.declared.step.Stand.{Stand}
+use Rattle.mr_labels.proofs.Growing.{appended_next}
 use Rattle.mr_listing.specs.declared.pairs.Group.{Group}
 use Rattle.mr_listing.specs.Races.{before_of, first_group, group_of, groups, is_in_group, numbered_group, same_places}
 use Rattle.mr_listing.specs.Races.{same_stand}

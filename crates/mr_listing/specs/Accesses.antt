@@ -3,11 +3,11 @@ use Rattle.std.specs.Prelude.{ℕ, ◌-◌, ◌==◌, if◌then◌else◌, List,
 use Rattle.std.specs.Prelude.{Some}
 use Rattle.mr_ast.specs.declared.program.Program.{Program}
 use Rattle.mr_base.specs.declared.access.Access.{Access}
-use Rattle.mr_told.specs.declared.step.Stand.{Stand}
-use Rattle.mr_told.specs.declared.rows.Allocation.{Allocation}
-use Rattle.mr_told.specs.Table.{found_at}
+use Rattle.mr_labels.specs.declared.step.Stand.{Stand}
+use Rattle.mr_labels.specs.declared.rows.Allocation.{Allocation}
+use Rattle.mr_labels.specs.Table.{found_at}
 use Rattle.mr_listing.specs.Seen.{Seen}
-use Rattle.mr_told.specs.Words.{name_text}
+use Rattle.mr_labels.specs.Words.{name_text}
 
 -- what an access is called
 abbrev pub access_word : Access → List ℕ

@@ -6,9 +6,9 @@ use Rattle.mr_base.specs.declared.thread.Event.{Event}
 use Rattle.mr_base.specs.declared.thread.Event.TheVariants as event
 use Rattle.mr_base.specs.declared.thread.Status.{Status}
 use Rattle.mr_base.specs.declared.thread.Status.TheVariants.{OnJoin, OnLock}
-use Rattle.mr_told.specs.declared.step.Stand.{Stand}
-use Rattle.mr_told.specs.declared.step.ToldStep.{ToldStep}
-use Rattle.mr_told.specs.Words.{function_word}
+use Rattle.mr_labels.specs.declared.step.Stand.{Stand}
+use Rattle.mr_labels.specs.declared.step.ToldStep.{ToldStep}
+use Rattle.mr_labels.specs.Words.{function_word}
 
 -- a word and a number, on a line of a step
 abbrev pub note_line : List ℕ → ℕ → List ℕ

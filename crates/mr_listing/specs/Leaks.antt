@@ -6,9 +6,9 @@ use Rattle.mr_base.specs.declared.reason.Verdict.{Verdict}
 use Rattle.mr_base.specs.declared.reason.Verdict.TheVariants.{Leak}
 use Rattle.mr_base.specs.Identities.{same_id}
 use Rattle.mr_event.specs.Footprint.{Footprint}
-use Rattle.mr_told.specs.declared.names.Name.{Name}
-use Rattle.mr_told.specs.declared.names.Name.TheVariants.{Heap}
-use Rattle.mr_told.specs.declared.rows.Allocation.{Allocation}
+use Rattle.mr_labels.specs.declared.names.Name.{Name}
+use Rattle.mr_labels.specs.declared.names.Name.TheVariants.{Heap}
+use Rattle.mr_labels.specs.declared.rows.Allocation.{Allocation}
 use Rattle.mr_listing.specs.Accesses.{bytes_text}
 use Rattle.mr_listing.specs.Seen.{Seen}
 

@@ -4,8 +4,8 @@ use Rattle.std.specs.Prelude.{codes, count_by, decimal, length, take, Option, No
 use Rattle.std.specs.List.{filter, list_any, range_with_len}
 use Rattle.mr_event.specs.declared.footprint.Pair.{Pair}
 use Rattle.mr_report.specs.Report.{count_line}
-use Rattle.mr_told.specs.declared.step.Stand.{Stand}
-use Rattle.mr_told.specs.declared.step.ToldStep.{ToldStep}
+use Rattle.mr_labels.specs.declared.step.Stand.{Stand}
+use Rattle.mr_labels.specs.declared.step.ToldStep.{ToldStep}
 use Rattle.mr_listing.specs.declared.pairs.Group.{Group}
 use Rattle.mr_listing.specs.Seen.{Seen}
 use Rattle.mr_listing.specs.Spots.{stand_text}

@@ -6,8 +6,8 @@ use Rattle.mr_base.specs.declared.reason.Verdict.{Verdict}
 use Rattle.mr_base.specs.declared.reason.Verdict.TheVariants.{Deadlock, Running}
 use Rattle.mr_base.specs.declared.thread.Status.{Status}
 use Rattle.mr_base.specs.declared.thread.Status.TheVariants.{Enabled, Ended, OnJoin, OnLock}
-use Rattle.mr_told.specs.declared.step.Rest.{Rest}
-use Rattle.mr_told.specs.declared.step.Stand.{Stand}
+use Rattle.mr_labels.specs.declared.step.Rest.{Rest}
+use Rattle.mr_labels.specs.declared.step.Stand.{Stand}
 use Rattle.mr_listing.specs.Seen.{Seen}
 use Rattle.mr_listing.specs.Spots.{stand_text}
 

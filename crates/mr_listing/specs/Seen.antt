@@ -6,9 +6,9 @@ use Rattle.mr_event.specs.Footprint.{Footprint}
 use Rattle.mr_event.specs.declared.footprint.Pair.{Pair}
 use Rattle.mr_places.specs.Laid.{Laid}
 use Rattle.mr_report.specs.declared.report.Line.{Line}
-use Rattle.mr_told.specs.declared.rows.Allocation.{Allocation}
-use Rattle.mr_told.specs.declared.step.Rest.{Rest}
-use Rattle.mr_told.specs.declared.step.ToldStep.{ToldStep}
+use Rattle.mr_labels.specs.declared.rows.Allocation.{Allocation}
+use Rattle.mr_labels.specs.declared.step.Rest.{Rest}
+use Rattle.mr_labels.specs.declared.step.ToldStep.{ToldStep}
 use Rattle.mr_listing.specs.declared.shown.Shown.{Shown}
 
 -- a program with its text and the places of its statements there; the allocations of its run; what its steps tell, or

@@ -6,7 +6,7 @@ use Rattle.std.specs.Option.{option_cmp}
 use Rattle.std.specs.Ordering.{nat_cmp, ordering_index, ordering_then}
 use Rattle.std.specs.declared.cmp.Ordering.{Ordering}
 use Rattle.mr_event.specs.declared.footprint.Pair.{Pair}
-use Rattle.mr_told.specs.declared.step.Stand.{Stand}
+use Rattle.mr_labels.specs.declared.step.Stand.{Stand}
 use Rattle.mr_listing.specs.declared.sorted.Numbered.{Numbered}
 use Rattle.mr_listing.specs.Races.{before_of, same_places}
 use Rattle.mr_listing.specs.Seen.{Seen}

@@ -4,17 +4,17 @@ use Rattle.std.specs.Prelude.{decimal}
 use Rattle.std.specs.Option.{option_and_then}
 use Rattle.mr_base.specs.declared.byte.AllocId.{AllocId}
 use Rattle.mr_event.specs.Footprint.{Footprint}
-use Rattle.mr_told.specs.Table.{named}
-use Rattle.mr_told.specs.declared.names.Name.{Name}
-use Rattle.mr_told.specs.declared.names.Name.TheVariants as name
-use Rattle.mr_told.specs.declared.reached.Reached.{Reached}
-use Rattle.mr_told.specs.declared.reached.Reaching.{Reaching}
-use Rattle.mr_told.specs.declared.reached.Reaching.TheVariants.{Changes, Frees, Loads, Moves, Refers, Stores}
-use Rattle.mr_told.specs.declared.rows.Allocation.{Allocation}
+use Rattle.mr_labels.specs.Table.{named}
+use Rattle.mr_labels.specs.declared.names.Name.{Name}
+use Rattle.mr_labels.specs.declared.names.Name.TheVariants as name
+use Rattle.mr_labels.specs.declared.reached.Reached.{Reached}
+use Rattle.mr_labels.specs.declared.reached.Reaching.{Reaching}
+use Rattle.mr_labels.specs.declared.reached.Reaching.TheVariants.{Changes, Frees, Loads, Moves, Refers, Stores}
+use Rattle.mr_labels.specs.declared.rows.Allocation.{Allocation}
 use Rattle.mr_listing.specs.Accesses.{bytes_text}
 use Rattle.mr_listing.specs.Leaks.{freed_by}
 use Rattle.mr_listing.specs.Seen.{Seen}
-use Rattle.mr_told.specs.Words.{name_text}
+use Rattle.mr_labels.specs.Words.{name_text}
 
 -- what is done with bytes
 abbrev pub doing_word : Reaching → List ℕ

@@ -4,9 +4,9 @@ use Rattle.std.specs.Prelude.{drop, take, length, min, Option, None, Some, slice
 use Rattle.std.specs.List.{prefix_len}
 use Rattle.mr_places.specs.declared.places.Spot.{Spot}
 use Rattle.mr_places.specs.Laid.{spot_at}
-use Rattle.mr_told.specs.declared.step.Stand.{Stand}
+use Rattle.mr_labels.specs.declared.step.Stand.{Stand}
 use Rattle.mr_listing.specs.Seen.{Seen}
-use Rattle.mr_told.specs.Words.{block_word, function_word}
+use Rattle.mr_labels.specs.Words.{block_word, function_word}
 
 -- whether a byte isn't the end of a statement, of its line, or of its line's part before a comment: `;`, LF, CR, `#`
 abbrev pub is_inside : ℕ → Bool

@@ -4,7 +4,7 @@ use Rattle.std.specs.Prelude.{codes, decimal, length, slice_range, Option, None,
 use Rattle.mr_event.specs.Footprint.{Footprint}
 use Rattle.mr_report.specs.declared.report.Line.{Line}
 use Rattle.mr_report.specs.Report.{brief_text}
-use Rattle.mr_told.specs.declared.step.ToldStep.{ToldStep}
+use Rattle.mr_labels.specs.declared.step.ToldStep.{ToldStep}
 use Rattle.mr_listing.specs.Accesses.{access_line}
 use Rattle.mr_listing.specs.Events.{end_text, event_text, woken_line}
 use Rattle.mr_listing.specs.Leaks.{leaks_text}

@@ -2,12 +2,12 @@
 ghost use Rattle.std.specs.Prelude.{◌≡◌, ◌++◌, OnOk, flat_map};
 ghost use Rattle.mr_listing.specs.Accesses.{access_line, access_word, bytes_text, held_text, reached_text};
 ghost use Rattle.mr_listing.specs.Seen.{seen};
-ghost use Rattle.mr_told.specs.Table.{found_at};
+ghost use Rattle.mr_labels.specs.Table.{found_at};
 
 use crate::OutOfMemory;
 use crate::shown::Shown;
 use mr_base::Access;
-use mr_told::{Allocation, Stand, push_name, push_number};
+use mr_labels::{Allocation, Stand, push_name, push_number};
 
 /// What an access is called.
 pub fn access_word(access: Access) -> &'static str

@@ -7,7 +7,7 @@ ghost use Rattle.mr_listing.specs.Seen.{seen};
 use crate::OutOfMemory;
 use crate::shown::Shown;
 use mr_base::{Event, Status};
-use mr_told::{Stand, ToldStep, function_word, push_number};
+use mr_labels::{Stand, ToldStep, function_word, push_number};
 
 // Appends a line with a word and a number.
 fn push_note(out: &mut Vec<u8>, word: &str, number: u32) -> Result<(), OutOfMemory>

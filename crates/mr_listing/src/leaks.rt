@@ -9,7 +9,7 @@ use crate::accesses::push_bytes;
 use crate::shown::Shown;
 use mr_base::{AllocId, Verdict};
 use mr_event::Footprint;
-use mr_told::{Allocation, Name, push_count, push_number};
+use mr_labels::{Allocation, Name, push_count, push_number};
 
 // Whether two identities are one.
 fn same_id(a: AllocId, b: AllocId) -> bool

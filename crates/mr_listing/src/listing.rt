@@ -13,8 +13,8 @@ use crate::rests::push_rests;
 use crate::shown::Shown;
 use crate::spots::push_stand;
 use mr_event::Footprint;
+use mr_labels::{ToldStep, push_count, push_number};
 use mr_report::{Line, brief};
-use mr_told::{ToldStep, push_count, push_number};
 use std::alloc::Global;
 
 // Appends the line of a step: its number, its thread, and where that stood.

@@ -10,7 +10,7 @@ use crate::shown::Shown;
 use crate::sorted::{Numbered, alike_races, before_of, begins_before, by_places};
 use crate::spots::push_stand;
 use mr_event::Pair;
-use mr_told::{push_count, push_number};
+use mr_labels::{push_count, push_number};
 use std::alloc::Global;
 
 /// The races at one pair of places.

@@ -6,7 +6,7 @@ ghost use Rattle.mr_listing.specs.Partners.{ArePartners, both_of, is_of, partner
 
 use crate::OutOfMemory;
 use mr_event::Pair;
-use mr_told::push_count;
+use mr_labels::push_count;
 use std::alloc::Global;
 
 /// A step that races with another one.

@@ -9,7 +9,7 @@ use crate::OutOfMemory;
 use crate::shown::Shown;
 use crate::spots::push_stand;
 use mr_base::{Status, Verdict};
-use mr_told::{Rest, Stand, push_number};
+use mr_labels::{Rest, Stand, push_number};
 
 // Appends whether a thread can go on, and what it waits for otherwise.
 fn push_status(out: &mut Vec<u8>, status: Status) -> Result<(), OutOfMemory>

@@ -2,9 +2,9 @@
 use mr_ast::Program;
 use mr_base::Verdict;
 use mr_event::{Footprint, Pair};
+use mr_labels::{Allocations, Rest, ToldStep};
 use mr_places::Places;
 use mr_report::Line;
-use mr_told::{Allocations, Rest, ToldStep};
 
 /// A program with its text, and what its run tells.
 #[derive(Clone, Copy)]

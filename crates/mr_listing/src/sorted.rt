@@ -11,7 +11,7 @@ ghost use Rattle.mr_listing.specs.Sorted.{spot_cmp, stand_cmp, with_numbers};
 use crate::OutOfMemory;
 use crate::shown::Shown;
 use mr_event::Pair;
-use mr_told::{Stand, ToldStep};
+use mr_labels::{Stand, ToldStep};
 use std::alloc::Global;
 use std::cmp::Ordering;
 

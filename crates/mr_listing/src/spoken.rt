@@ -11,7 +11,7 @@ use crate::leaks::freed_by;
 use crate::shown::Shown;
 use mr_base::AllocId;
 use mr_event::Footprint;
-use mr_told::{Allocation, Name, Reached, Reaching, push_count, push_name, push_number};
+use mr_labels::{Allocation, Name, Reached, Reaching, push_count, push_name, push_number};
 
 // What is done with bytes.
 fn doing_word(doing: Reaching) -> &'static str

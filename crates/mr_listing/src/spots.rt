@@ -7,8 +7,8 @@ ghost use Rattle.mr_listing.specs.Spots.{stand_text, statement_text};
 
 use crate::OutOfMemory;
 use crate::shown::Shown;
+use mr_labels::{Stand, block_word, function_word, push_number};
 use mr_places::Spot;
-use mr_told::{Stand, block_word, function_word, push_number};
 use std::alloc::Global;
 
 // So many bytes of a statement are written at most.

@@ -10,10 +10,10 @@ use Rattle.mr_ast.specs.declared.program.Program.{Program}
 use Rattle.mr_ast.specs.declared.program.Stmt.{Stmt}
 use Rattle.mr_ast.specs.declared.program.Term.{Term}
 use Rattle.mr_ast.specs.declared.program.Term.TheVariants as term
-use Rattle.mr_told.specs.declared.names.Name.{Name}
-use Rattle.mr_told.specs.declared.step.Stand.{Stand}
-use Rattle.mr_told.specs.declared.step.ToldStep.{ToldStep}
-use Rattle.mr_told.specs.Names.{made_names}
+use Rattle.mr_labels.specs.declared.names.Name.{Name}
+use Rattle.mr_labels.specs.declared.step.Stand.{Stand}
+use Rattle.mr_labels.specs.declared.step.ToldStep.{ToldStep}
+use Rattle.mr_labels.specs.Names.{made_names}
 
 -- ---- the function that is entered or started
 

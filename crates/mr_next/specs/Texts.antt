@@ -8,10 +8,10 @@ use Rattle.mr_base.specs.declared.thread.Status.{Status}
 use Rattle.mr_base.specs.declared.thread.Status.TheVariants.{Enabled, Ended, OnJoin, OnLock}
 use Rattle.mr_sched.specs.declared.schedule.Entry.{Entry}
 use Rattle.mr_sched.specs.Rules.{name_by_code}
-use Rattle.mr_told.specs.declared.names.Name.{Name}
-use Rattle.mr_told.specs.declared.names.Name.TheVariants as name
-use Rattle.mr_told.specs.declared.step.Stand.{Stand}
-use Rattle.mr_told.specs.Words.{name_text}
+use Rattle.mr_labels.specs.declared.names.Name.{Name}
+use Rattle.mr_labels.specs.declared.names.Name.TheVariants as name
+use Rattle.mr_labels.specs.declared.step.Stand.{Stand}
+use Rattle.mr_labels.specs.Words.{name_text}
 use Rattle.mr_next.specs.Coming.{coming_names}
 use Rattle.mr_next.specs.declared.prospect.Position.{Position}
 use Rattle.mr_next.specs.declared.prospect.Prospect.{Prospect}

@@ -5,8 +5,8 @@ ghost use Rattle.mr_next.specs.Coming.{function_of, function_of_block, named_fir
 
 use crate::OutOfMemory;
 use mr_ast::{Block, Function, Intrinsic, Program, Term, Value};
+use mr_labels::{Name, Stand, ToldStep, made_names};
 use mr_sched::Items;
-use mr_told::{Name, Stand, ToldStep, made_names};
 use std::alloc::Global;
 
 // The function that a value names in the text.

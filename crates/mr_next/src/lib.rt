@@ -15,7 +15,7 @@
 //!   what that asks for, each address with what it is for, where the text tells it: a local of the thread's own function,
 //!   or one that a called or started function keeps, or a block of the heap.
 //! - [`Broken`], [`push_broken`]: the rule that an entry breaks, with its picks, and the one by which it does.
-//! - [`coming_names`]: what the step of a thread would make. Proved: the names of what it makes (`mr_told`), where it enters
+//! - [`coming_names`]: what the step of a thread would make. Proved: the names of what it makes (`mr_labels`), where it enters
 //!   or starts the function that the text names.
 //!
 //! Proved: exactly the texts of `specs/Texts.antt`; want of memory is their only error.

@@ -1,7 +1,7 @@
 //! What a thread would do next.
 use mr_base::Status;
+use mr_labels::Stand;
 use mr_sched::Items;
-use mr_told::Stand;
 
 /// What a step asks for.
 #[derive(Drop)]

@@ -15,8 +15,8 @@ use crate::coming::coming_names;
 use crate::prospect::{Position, Prospect, Want};
 use mr_ast::Program;
 use mr_base::{AllocId, Status};
+use mr_labels::{Name, Stand, push_name, push_number, rule_name};
 use mr_sched::Entry;
-use mr_told::{Name, Stand, push_name, push_number, rule_name};
 use std::alloc::Global;
 
 // Appends a number behind a blank.

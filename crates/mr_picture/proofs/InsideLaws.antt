@@ -12,7 +12,7 @@ use Rattle.std.specs.Prelude.{slice_get}
 use Rattle.std.specs.List.{Contains, filter, range_with_len}
 use Rattle.mr_event.specs.declared.footprint.Pair.{Pair}
 use Rattle.mr_event.specs.Order.{thread_at}
-use Rattle.mr_told.specs.declared.step.ToldStep.{ToldStep}
+use Rattle.mr_labels.specs.declared.step.ToldStep.{ToldStep}
 use Rattle.mr_listing.specs.Seen.{Seen}
 use Rattle.mr_listing.specs.Spots.{stand_text}
 use Rattle.mr_picture.specs.declared.span.Span.{Span}

@@ -8,12 +8,12 @@ use Rattle.mr_base.specs.declared.thread.Event.TheVariants as event
 use Rattle.mr_event.specs.Footprint.{Footprint}
 use Rattle.mr_event.specs.declared.footprint.Pair.{Pair}
 use Rattle.mr_report.specs.declared.report.Line.{Line}
-use Rattle.mr_told.specs.declared.step.Stand.{Stand}
-use Rattle.mr_told.specs.Table.{found_at}
+use Rattle.mr_labels.specs.declared.step.Stand.{Stand}
+use Rattle.mr_labels.specs.Table.{found_at}
 use Rattle.mr_listing.specs.Accesses.{access_word, bytes_text, reached_text}
 use Rattle.mr_listing.specs.Events.{acquire_text, join_text, release_text}
 use Rattle.mr_listing.specs.Seen.{Seen}
-use Rattle.mr_told.specs.Words.{function_word}
+use Rattle.mr_labels.specs.Words.{function_word}
 use Rattle.mr_picture.specs.declared.scene.Drawn.{Drawn}
 use Rattle.mr_picture.specs.Scene.{Scene}
 

@@ -2,7 +2,7 @@
 use Rattle.std.specs.Prelude.{ℕ, ◌+◌, ◌-◌, ◌==◌, ◌&&◌, Bool, false, if◌then◌else◌, List, [], ◌∷◌, ◌++◌, codes}
 use Rattle.std.specs.Prelude.{decimal, Option, None, Some, slice_get}
 use Rattle.mr_event.specs.Footprint.{Footprint}
-use Rattle.mr_told.specs.declared.step.Stand.{Stand}
+use Rattle.mr_labels.specs.declared.step.Stand.{Stand}
 use Rattle.mr_svg.specs.declared.shape.Shape.TheVariants.{Line, Words}
 use Rattle.mr_svg.specs.declared.shape.Sign.TheVariants as sign
 use Rattle.mr_svg.specs.Svg.{Mark}

@@ -5,7 +5,7 @@ use Rattle.std.specs.List.{filter, list_any, range_with_len}
 use Rattle.mr_event.specs.declared.footprint.Pair.{Pair}
 use Rattle.mr_picture.specs.declared.span.Span.{Span}
 use Rattle.mr_picture.specs.Span.{holds_race, is_in}
-use Rattle.mr_told.specs.declared.step.ToldStep.{ToldStep}
+use Rattle.mr_labels.specs.declared.step.ToldStep.{ToldStep}
 use Rattle.mr_listing.specs.Seen.{Seen, seen}
 use Rattle.mr_picture.specs.declared.scene.Drawn.{Drawn}
 use Rattle.mr_picture.specs.declared.scene.Scene.{Scene as Kept}

@@ -12,11 +12,11 @@ use crate::scene::{Drawn, Scene};
 use crate::texts::push;
 use mr_base::{Access, Event};
 use mr_event::{Footprint, Pair};
+use mr_labels::{Stand, function_word, push_count, push_number};
 use mr_listing::{
     Shown, access_word, acquire_word, join_word, push_bytes, push_reached, release_word,
 };
 use mr_report::Line;
-use mr_told::{Stand, function_word, push_count, push_number};
 
 // Appends a word and a number.
 fn push_numbered(out: &mut Vec<u8>, sep: &str, word: &str, number: u32) -> Result<(), OutOfMemory>

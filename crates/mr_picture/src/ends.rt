@@ -13,8 +13,8 @@ use crate::OutOfMemory;
 use crate::grid::{is_line_end, tail_count, tail_y};
 use crate::scene::Scene;
 use crate::texts::{cut_at, push};
+use mr_labels::push_number;
 use mr_svg::{Point, Shape, Sign, push_mark};
-use mr_told::push_number;
 use std::alloc::Global;
 
 // Appends a count, and what is counted.

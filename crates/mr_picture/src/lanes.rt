@@ -11,8 +11,8 @@ use crate::grid::{lane_x, row_y, rows_end};
 use crate::scene::{Drawn, Scene};
 use crate::texts::push;
 use mr_event::Footprint;
+use mr_labels::{Stand, push_number};
 use mr_svg::{Point, Shape, Sign, push_mark};
-use mr_told::{Stand, push_number};
 use std::alloc::Global;
 
 // Whether a thread stands here.

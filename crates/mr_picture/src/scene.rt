@@ -8,8 +8,8 @@ ghost use Rattle.mr_picture.specs.Span.{holds_race, is_in};
 use crate::{OutOfMemory, Span};
 use mr_base::Status;
 use mr_event::Pair;
+use mr_labels::{Stand, ToldStep};
 use mr_listing::Shown;
-use mr_told::{Stand, ToldStep};
 use std::alloc::Global;
 
 /// What is drawn of a step.

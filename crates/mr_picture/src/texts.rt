@@ -3,7 +3,7 @@ ghost use Rattle.std.specs.Prelude.{◌≡◌, ◌+◌, ◌++◌, IfOk, OnOk, de
 ghost use Rattle.mr_picture.specs.Texts.{cut, cut_at, step_word};
 
 use crate::OutOfMemory;
-use mr_told::push_count;
+use mr_labels::push_count;
 use std::alloc::Global;
 
 /// Appends a text of our own.

@@ -26,11 +26,11 @@ use Rattle.mr_input.specs.Inputs.{Gives, IsNoText, denoted, program_in}
 use Rattle.mr_input.proofs.RefusedLaws.{refused_over, same_refusal}
 use Rattle.mr_answer.specs.Answers.{unless_broken}
 use Rattle.mr_answer.specs.Running.{refusal_by}
-use Rattle.mr_told.specs.declared.rows.Allocation.{Allocation}
-use Rattle.mr_told.specs.declared.step.ToldStep.{ToldStep}
+use Rattle.mr_labels.specs.declared.rows.Allocation.{Allocation}
+use Rattle.mr_labels.specs.declared.step.ToldStep.{ToldStep}
 use Rattle.mr_show.specs.declared.form.Part.{Part}
 use Rattle.mr_show.specs.declared.form.Saying.{Saying}
-use Rattle.mr_telling.specs.Spoken.{spoken_of}
+use Rattle.mr_replay.specs.Spoken.{spoken_of}
 use Rattle.mr_show.specs.Answer.{answer_under, file_answer, part_answer, part_steps}
 use Rattle.mr_show.specs.Answer.{program_answer, ran_answer, run_rows, run_seen}
 use Rattle.mr_show.specs.Gathered.{gathered, lexemes_in}

@@ -22,8 +22,8 @@ use Rattle.mr_answer.proofs.StatusLaws.{at_most_one}
 use Rattle.mr_fill.specs.Told.{texts_of}
 use Rattle.mr_fill.specs.declared.told.FilledText.{FilledText}
 use Rattle.mr_listing.specs.Seen.{Seen}
-use Rattle.mr_told.specs.declared.reached.Reached.{Reached}
-use Rattle.mr_telling.specs.Spoken.{spoken_of}
+use Rattle.mr_labels.specs.declared.reached.Reached.{Reached}
+use Rattle.mr_replay.specs.Spoken.{spoken_of}
 use Rattle.mr_show.specs.declared.form.Part.{Part}
 use Rattle.mr_show.specs.declared.form.Saying.{Saying}
 use Rattle.mr_show.specs.declared.form.Saying.TheVariants.{Next, OfOrder, OfRun}

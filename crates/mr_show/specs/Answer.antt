@@ -15,13 +15,13 @@ use Rattle.mr_input.specs.Answer.{Answer, form_or, refused, told}
 use Rattle.mr_input.specs.Inputs.{denoted, schedule_in}
 use Rattle.mr_answer.specs.Answers.{unless_broken}
 use Rattle.mr_answer.specs.Report.{report_status}
-use Rattle.mr_telling.specs.Spoken.{spoken_of}
-use Rattle.mr_told.specs.declared.reached.Reached.{Reached}
-use Rattle.mr_told.specs.declared.rows.Allocation.{Allocation}
-use Rattle.mr_told.specs.declared.step.ToldStep.{ToldStep}
-use Rattle.mr_told.specs.Table.{start_rows, step_rows}
-use Rattle.mr_telling.specs.declared.telling.Between.{Between}
-use Rattle.mr_telling.specs.Told.{if_between, told_steps}
+use Rattle.mr_replay.specs.Spoken.{spoken_of}
+use Rattle.mr_labels.specs.declared.reached.Reached.{Reached}
+use Rattle.mr_labels.specs.declared.rows.Allocation.{Allocation}
+use Rattle.mr_labels.specs.declared.step.ToldStep.{ToldStep}
+use Rattle.mr_labels.specs.Table.{start_rows, step_rows}
+use Rattle.mr_replay.specs.declared.telling.Between.{Between}
+use Rattle.mr_replay.specs.Told.{if_between, told_steps}
 use Rattle.mr_picture.specs.declared.span.Span.{Span}
 use Rattle.mr_listing.specs.Races.{races_text}
 use Rattle.mr_listing.specs.Seen.{Seen}

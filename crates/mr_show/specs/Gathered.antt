@@ -10,9 +10,9 @@ use Rattle.mr_plan.specs.Runs.{Config}
 use Rattle.mr_start.specs.ThreadSteps.{Own}
 use Rattle.mr_answer.specs.Report.{line_of}
 use Rattle.mr_places.specs.Laid.{Laid, firsts_of}
-use Rattle.mr_told.specs.declared.rows.Allocation.{Allocation}
-use Rattle.mr_told.specs.declared.step.ToldStep.{ToldStep}
-use Rattle.mr_telling.specs.Told.{rests_of}
+use Rattle.mr_labels.specs.declared.rows.Allocation.{Allocation}
+use Rattle.mr_labels.specs.declared.step.ToldStep.{ToldStep}
+use Rattle.mr_replay.specs.Told.{rests_of}
 use Rattle.mr_listing.specs.Seen.{Seen}
 
 -- the tokens of a text, where it has no fault

@@ -16,8 +16,8 @@ use Rattle.mr_start.specs.Start.{look_of, start_fault}
 use Rattle.mr_input.specs.declared.refusal.Refusal.TheVariants as refusal
 use Rattle.mr_input.specs.Answer.{Answer, refused}
 use Rattle.mr_answer.specs.Answers.{line_at}
-use Rattle.mr_told.specs.declared.step.Rest.{Rest}
-use Rattle.mr_telling.specs.Told.{rests_of}
+use Rattle.mr_labels.specs.declared.step.Rest.{Rest}
+use Rattle.mr_replay.specs.Told.{rests_of}
 use Rattle.mr_listing.specs.Seen.{Seen}
 use Rattle.mr_listing.specs.Spots.{stand_text}
 use Rattle.mr_next.specs.Culprits.{culprit_of}

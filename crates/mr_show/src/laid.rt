@@ -3,7 +3,7 @@ ghost use Rattle.std.specs.Prelude.{◌≡◌, ◌<◌, ◌≤◌, ◌^◌, ◌+
 ghost use Rattle.mr_clocks.specs.Tracked.{Tracks};
 ghost use Rattle.mr_grammar.specs.Parsing.{parsed};
 ghost use Rattle.mr_input.specs.Answer.{IsStatus, seen as written_as};
-ghost use Rattle.mr_telling.specs.Spoken.{spoken_of};
+ghost use Rattle.mr_replay.specs.Spoken.{spoken_of};
 ghost use Rattle.mr_listing.specs.Seen.{Seen, seen};
 ghost use Rattle.mr_listing.specs.Spoken.{spoken_line};
 ghost use Rattle.mr_run.specs.Runs.{IsRun};
@@ -20,13 +20,13 @@ use mr_answer::{lines_of, status_of};
 use mr_base::Verdict;
 use mr_clocks::Analysis;
 use mr_input::Written;
+use mr_labels::{Allocation, Allocations, Reached, ToldStep};
 use mr_listing::{Shown, push_spoken, races, steps};
 use mr_picture::picture;
+use mr_replay::{rests, spoken};
 use mr_run::Clocked;
 use mr_sched::Schedule;
 use mr_step::Machine;
-use mr_telling::{rests, spoken};
-use mr_told::{Allocation, Allocations, Reached, ToldStep};
 use mr_wf::Checked;
 use std::alloc::{AllocError, Global};
 

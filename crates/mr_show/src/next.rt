@@ -17,12 +17,12 @@ use mr_answer::refusal_of;
 use mr_ast::Program;
 use mr_base::Verdict;
 use mr_input::{Refusal, Written, answered};
+use mr_labels::{Allocations, Rest};
 use mr_listing::{Shown, stand_text};
 use mr_next::{Broken, Position, Prospect, Reached, prospects, push_broken, push_prospects, reach};
+use mr_replay::rests;
 use mr_sched::{Entry, Items, Schedule, Version};
 use mr_step::Machine;
-use mr_telling::rests;
-use mr_told::{Allocations, Rest};
 use mr_wf::Checked;
 use std::alloc::{AllocError, Global};
 

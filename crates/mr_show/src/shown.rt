@@ -17,12 +17,12 @@ use mr_answer::refusal_of;
 use mr_ast::Program;
 use mr_input::{Refusal, Written, answered, form_answer, program_of, read_schedule, read_text};
 use mr_io::Files;
+use mr_labels::{Allocation, start_rows};
 use mr_picture::Span;
+use mr_replay::{Between, tell};
 use mr_run::Clocked;
 use mr_sched::{Schedule, Version};
 use mr_start::start_asks;
-use mr_telling::{Between, tell};
-use mr_told::{Allocation, start_rows};
 use mr_wf::{Checked, WfFault, well_formed};
 use std::alloc::{AllocError, Global};
 

@@ -10,7 +10,7 @@ use Rattle.mr_base.specs.declared.byte.Pointer.{Pointer}
 use Rattle.mr_eval.specs.Answers.{same}
 use Rattle.mr_eval.specs.Environment.{PlaceIn, ShapedAs, ValueIn, env_surround}
 use Rattle.mr_eval.proofs.ExprWeights.{place_weight, value_weight, weight_addr_of, weight_binary, weight_cast, weight_deref, weight_disc, weight_field, weight_in_row, weight_index, weight_load, weight_transmute, weight_tuple, weight_unary, weight_union, weight_variant, weight_variant_place}
-use Rattle.mr_told.specs.declared.reached.Reached.{Reached}
+use Rattle.mr_labels.specs.declared.reached.Reached.{Reached}
 use Rattle.mr_value.specs.declared.val.Val.{Val}
 use Rattle.mr_wf.specs.Types.{type_of_value}
 use Rattle.mr_blame.specs.Reads.{Comes, IsBlamed, IsRefused, place_come, place_last, value_come, value_last}

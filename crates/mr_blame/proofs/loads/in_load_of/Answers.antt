@@ -1,5 +1,5 @@
 use Rattle.std.proofs.Common.{Option, Some, sym, subst, ◌∙◌}
-use Rattle.mr_told.specs.declared.reached.Reached.{Reached}
+use Rattle.mr_labels.specs.declared.reached.Reached.{Reached}
 use Rattle.mr_runs.specs.Pieces.{bytes_of_pieces}
 use Rattle.mr_eval.proofs.ReadLength.{read_sized}
 use Rattle.mr_blame.specs.Reads.{IsBlamed, load_last}

@@ -3,7 +3,7 @@ use Rattle.mr_ast.specs.declared.types.Num.{Num}
 use Rattle.mr_ast.specs.declared.types.Tree.{Tree}
 use Rattle.mr_eval.specs.Typed.{searched}
 use Rattle.mr_layout.specs.EnumRules.{same_num}
-use Rattle.mr_told.specs.declared.reached.Reached.{Reached}
+use Rattle.mr_labels.specs.declared.reached.Reached.{Reached}
 use Rattle.mr_runs.specs.Pieces.{bytes_of_pieces}
 use Rattle.mr_eval.proofs.ReadLength.{read_sized}
 use Rattle.mr_value.proofs.EncodeSteps.{equal_is}

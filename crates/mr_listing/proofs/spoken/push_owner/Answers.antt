@@ -3,7 +3,7 @@ use Rattle.std.specs.Prelude.{◌++◌, None, codes}
 use Rattle.mr_listing.specs.Accesses.{bytes_text}
 use Rattle.mr_listing.specs.Seen.{seen}
 use Rattle.mr_listing.specs.Spoken.{freed_from, freed_text, held_bytes}
-use Rattle.mr_told.specs.Words.{name_text}
+use Rattle.mr_labels.specs.Words.{name_text}
 use Rattle.mr_listing.proofs.Appended.{behind}
 use Rattle.mr_listing.proofs.spoken.push_owner.Goals as goal
 

@@ -1,5 +1,5 @@
 use Rattle.std.proofs.Common.{◌∙◌, arith}
-use Rattle.mr_told.proofs.Growing.{appended_next}
+use Rattle.mr_labels.proofs.Growing.{appended_next}
 use Rattle.mr_next.specs.Texts.{numbered_want}
 use Rattle.mr_next.proofs.texts.push_wants.Goals as goal
 

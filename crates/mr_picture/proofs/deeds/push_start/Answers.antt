@@ -1,6 +1,6 @@
 use Rattle.std.proofs.Common.{◌≡◌, ◌++◌, subst, sym}
 use Rattle.std.specs.Prelude.{OnOk, Option, codes}
-use Rattle.mr_told.specs.declared.step.Stand.{Stand}
+use Rattle.mr_labels.specs.declared.step.Stand.{Stand}
 use Rattle.mr_listing.specs.Seen.{seen}
 use Rattle.mr_listing.proofs.Appended.{last_behind}
 use Rattle.mr_picture.specs.Deeds.{in_text, numbered, start_deed}

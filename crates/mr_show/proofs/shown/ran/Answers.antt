@@ -2,13 +2,13 @@ use Rattle.std.proofs.Common.{◌<◌, ◌^◌, ap, subst, sym, ◌∙◌, ◌++
 use Rattle.std.specs.Prelude.{flat_map}
 use Rattle.mr_event.specs.Footprint.{Footprint}
 use Rattle.mr_run.proofs.StepCount.{steps_within}
-use Rattle.mr_told.specs.declared.rows.Allocation.{Allocation}
-use Rattle.mr_told.specs.declared.step.ToldStep.{ToldStep}
-use Rattle.mr_told.specs.Table.{step_rows}
-use Rattle.mr_telling.specs.declared.telling.Between.{Between}
-use Rattle.mr_telling.specs.Told.{if_between, told_steps}
+use Rattle.mr_labels.specs.declared.rows.Allocation.{Allocation}
+use Rattle.mr_labels.specs.declared.step.ToldStep.{ToldStep}
+use Rattle.mr_labels.specs.Table.{step_rows}
+use Rattle.mr_replay.specs.declared.telling.Between.{Between}
+use Rattle.mr_replay.specs.Told.{if_between, told_steps}
 use Rattle.mr_answer.proofs.RunLaws.{refused_read}
-use Rattle.mr_telling.specs.Spoken.{spoken_of}
+use Rattle.mr_replay.specs.Spoken.{spoken_of}
 use Rattle.mr_show.specs.Answer.{first_rows, part_answer}
 use Rattle.mr_show.specs.Gathered.{gathered}
 use Rattle.mr_show.proofs.ShownLaws.{told_broken, told_run}

@@ -1,0 +1,8 @@
+use Rattle.std.proofs.Common.{◌∙◌}
+use Rattle.mr_labels.specs.Names.{global_name}
+use Rattle.mr_labels.proofs.Growing.{pushed_next}
+use Rattle.mr_labels.proofs.rows.push_globals.Goals as goal
+
+pub loop-i-preserved : goal.loop-i-preserved
+loop-i-preserved c =
+    c.in_ok-push.ensures.items ∙ pushed_next global_name c.args.names.now.items c.loop-i.names.items c.loop-i.i c.loop-i.invariant

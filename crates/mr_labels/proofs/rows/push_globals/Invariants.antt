@@ -1,0 +1,8 @@
+use Rattle.std.specs.Prelude.{◌≡◌, ◌++◌, map}
+use Rattle.std.specs.List.{range_with_len}
+use Rattle.mr_labels.specs.Names.{global_name}
+use Rattle.mr_labels.proofs.rows.push_globals.Given as goal
+
+-- one for each turn was pushed
+abbrev pub invariant-loop-i : goal.invariant-loop-i
+invariant-loop-i l = l.names.items ≡ l.fn.names.items ++ map global_name (range_with_len 0 l.i)

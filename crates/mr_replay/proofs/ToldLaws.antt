@@ -1,0 +1,124 @@
+-- Entries that are taken one after another, and what their steps tell.
+use Rattle.std.proofs.Common.{◌≡◌, ℕ, zero, suc, ◌+◌, ◌<◌, ◌≤◌, ◌∙◌, ap, ap₂, sym, subst, refl, arith, List, [], ◌∷◌, ◌++◌}
+use Rattle.std.proofs.Common.{append-nil, get_or, length, take}
+use Rattle.std.proofs.lemmas.List.{flat_map_more}
+use Rattle.std.proofs.lemmas.Option.{slice_get_read}
+use Rattle.std.specs.Prelude.{Ok, Option, Some, flat_map, slice_get}
+use Rattle.mr_ast.specs.declared.program.Program.{Program}
+use Rattle.mr_frame.specs.Frames.{Look}
+use Rattle.mr_plan.specs.Machine.{Language}
+use Rattle.mr_plan.specs.Runs.{Config, after, machine_step}
+use Rattle.mr_sched.specs.declared.schedule.Entry.{Entry}
+use Rattle.mr_sched.specs.declared.schedule.Schedule.{Schedule}
+use Rattle.mr_step.specs.StartRuns.{program_step}
+use Rattle.mr_step.specs.Answers.{StartAnswer}
+use Rattle.mr_step.specs.Standing.{Standing}
+use Rattle.mr_run.specs.Runs.{IsMade}
+use Rattle.mr_step.specs.ThreadSteps.{Own, thread_step}
+use Rattle.mr_labels.specs.declared.rows.Allocation.{Allocation}
+use Rattle.mr_labels.specs.declared.step.ToldStep.{ToldStep}
+use Rattle.mr_labels.specs.Table.{step_rows}
+use Rattle.mr_labels.proofs.Growing.{appended_next}
+use Rattle.mr_replay.specs.declared.telling.Between.{Between}
+use Rattle.mr_replay.specs.Told.{if_between, told_at, told_first, told_of, told_step, told_steps}
+
+-- one entry more
+after_next : {L : Type 0} (step : Language L) (c : Config L) (es : List Entry) (i : ℕ) (e : Entry) → slice_get es i ≡ Some e
+    → after step c (take (suc i) es) ≡ machine_step step (after step c (take i es)) e
+after_next step c [] zero e h = absurd (cc)
+after_next step c [] (suc i) e h = absurd (cc)
+after_next step c (x ∷ es) zero e h = let same : x ≡ e = cc in ap (machine_step step c) same
+after_next step c (x ∷ es) (suc i) e h = after_next step (machine_step step c x) es i e h
+
+-- what is made of the things of a list, where one more thing joins it
+grown : {X Y : Type 0} (f : X → List Y) (old now next : List Y) (xs more : List X) (x : X) → now ≡ old ++ flat_map f xs
+    → next ≡ now ++ f x → more ≡ xs ++ x ∷ [] → next ≡ old ++ flat_map f more
+grown f old now next xs more x here pushed is =
+    pushed ∙ ap (λ ys. ys ++ f x) here ∙ flat_map_more f old xs x ∙ ap (λ zs. old ++ flat_map f zs) (sym is)
+
+-- What stays true: the machine stands where the entries so far lead, and what they tell is kept.
+pub record IsTelling (p : Program) (part : Between) (first m : Standing) (old_rows rows : List Allocation)
+    (old_steps steps : List ToldStep) (count index : ℕ) (es : List Entry) : Type 0 where
+  pub counted : count ≡ index
+  pub within : index ≤ length es
+  pub here : m.config ≡ after (thread_step first.look) first.config (take index es)
+  pub made : rows ≡ old_rows ++ flat_map (step_rows p) (told_first first.look first.config es index)
+  pub told : steps ≡ old_steps ++ flat_map (if_between part) (told_first first.look first.config es index)
+
+pub starts_telling : (p : Program) (part : Between) (first : Standing) (rows : List Allocation) (steps : List ToldStep)
+    (es : List Entry) → IsTelling p part first first rows rows steps steps 0 0 es
+starts_telling p part first rows steps es = record {
+  counted = refl;
+  within = omega arith;
+  here = refl;
+  made = sym (append-nil rows);
+  told = sym (append-nil steps);
+}
+
+module _ (p : Program) (part : Between) (first m : Standing) (old_rows rows : List Allocation)
+    (old_steps steps : List ToldStep) (count index : ℕ) (es : List Entry)
+    (h : IsTelling p part first m old_rows rows old_steps steps count index es) where
+  -- nothing is left
+  pub all_rows : length es ≤ index
+      → rows ≡ old_rows ++ flat_map (step_rows p) (told_first first.look first.config es (length es))
+  all_rows none =
+      let in_all = h.within in
+      let all : index ≡ length es = omega arith in
+      h.made ∙ ap (λ n. old_rows ++ flat_map (step_rows p) (told_first first.look first.config es n)) all
+
+  pub all_told : length es ≤ index
+      → steps ≡ old_steps ++ flat_map (if_between part) (told_first first.look first.config es (length es))
+  all_told none =
+      let in_all = h.within in
+      let all : index ≡ length es = omega arith in
+      h.told ∙ ap (λ n. old_steps ++ flat_map (if_between part) (told_first first.look first.config es n)) all
+
+  -- the step of an entry is made, and tells this
+  module _ (e : Entry) (more : index < length es) (is : e ≡ get_or es index e) (look : m.look ≡ first.look)
+      (new : Standing) (k : IsMade e m new) where
+    there : slice_get es index ≡ Some e
+    there = slice_get_read es (length es) index e refl more is
+
+    told_here : told_at first.look first.config es index ≡ told_step m.look m.config count e ∷ []
+    told_here =
+        ap₂ (λ (c : Config Own) (o : Option Entry). told_of first.look c index o) (sym h.here) there
+        ∙ ap₂ (λ (l : Look) (n : ℕ). told_step l m.config n e ∷ []) (sym look) (sym h.counted)
+
+    one_more : told_first first.look first.config es (index + 1)
+        ≡ told_first first.look first.config es index ++ told_step m.look m.config count e ∷ []
+    one_more =
+        sym (appended_next (told_at first.look first.config es) [] (told_first first.look first.config es index) 0 index
+        index (omega arith) refl)
+        ∙ ap (λ (xs : List ToldStep). told_first first.look first.config es index ++ xs) told_here
+
+    here_next : new.config ≡ after (thread_step first.look) first.config (take (index + 1) es)
+    here_next =
+        let next : suc index ≡ index + 1 = omega arith in
+        ap (λ (s : Standing). s.config) k.after
+        ∙ ap₂ (λ (l : Look) (c : Config Own). program_step l c e) look h.here
+        ∙ sym (after_next (thread_step first.look) first.config es index e there)
+        ∙ ap (λ n. after (thread_step first.look) first.config (take n es)) next
+
+    pub tells_on : (next_rows : List Allocation) → next_rows ≡ rows ++ step_rows p (told_step m.look m.config count e)
+        → (next_steps : List ToldStep) → next_steps ≡ steps ++ if_between part (told_step m.look m.config count e)
+        → IsTelling p part first new old_rows next_rows old_steps next_steps (count + 1) (index + 1) es
+    tells_on next_rows made next_steps told = record {
+      counted = (let so_far = h.counted in omega arith);
+      within = omega arith;
+      here = here_next;
+      made =
+          grown (step_rows p) old_rows rows next_rows (told_first first.look first.config es index)
+          (told_first first.look first.config es (index + 1)) (told_step m.look m.config count e) h.made made one_more;
+      told =
+          grown (if_between part) old_steps steps next_steps (told_first first.look first.config es index)
+          (told_first first.look first.config es (index + 1)) (told_step m.look m.config count e) h.told told one_more;
+    }
+
+-- what is told of all entries from the start on is what the run tells
+pub told_are : (p : Program) (w : Schedule) (picks : List ℕ) (es : List Entry) → picks ≡ w.start → es ≡ w.entries
+    → (m : Standing) → StartAnswer p picks (Ok m) → told_first m.look m.config es (length es) ≡ told_steps p w
+unfolding told_steps
+told_are p w picks es first all m h =
+    let begun = subst (λ (xs : List ℕ). StartAnswer p xs (Ok m)) first h in
+    ap (λ (xs : List Entry). told_first m.look m.config xs (length xs)) all
+    ∙ ap (λ (s : Standing). told_first s.look s.config w.entries (length w.entries)) begun.1

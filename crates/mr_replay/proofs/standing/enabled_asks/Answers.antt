@@ -1,0 +1,9 @@
+use Rattle.std.proofs.Common.{◌∙◌, ◌++◌, ap}
+use Rattle.mr_plan.specs.Machine.{needs}
+use Rattle.mr_step.specs.ThreadSteps.{thread_step}
+use Rattle.mr_replay.proofs.standing.enabled_asks.Goals as goal
+
+pub returns : goal.returns
+returns c = λ s here.
+    let asked = (needs (thread_step c.args.machine.now.look) s c.args.thread).asks in
+    c.from_vec.ensures ∙ (c.in_ok-asks.ensures.asks s here).0 ∙ ap (λ l. l ++ asked) c.new-asks.ensures.items

@@ -1,8 +1,0 @@
-use Rattle.std.specs.Prelude.{◌≡◌, map}
-use Rattle.std.specs.List.{range_with_len}
-use Rattle.mr_telling.specs.Told.{rest_of}
-use Rattle.mr_telling.proofs.resting.first_rests.Given as goal
-
--- the threads before this one were told
-abbrev pub invariant-loop-thread : goal.invariant-loop-thread
-invariant-loop-thread l = l.rests.items ≡ map (rest_of l.machine.config) (range_with_len 0 l.thread)

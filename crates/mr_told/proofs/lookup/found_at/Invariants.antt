@@ -1,7 +1,0 @@
-use Rattle.std.specs.Prelude.{◌≡◌, drop}
-use Rattle.mr_told.specs.Table.{found_at}
-use Rattle.mr_told.proofs.lookup.found_at.Given as goal
-
--- none so far holds the address
-abbrev pub invariant-loop-row : goal.invariant-loop-row
-invariant-loop-row l = found_at l.addr l.rows ≡ found_at l.addr (drop l.row-index l.rows)

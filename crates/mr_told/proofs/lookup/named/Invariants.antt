@@ -1,7 +1,0 @@
-use Rattle.std.specs.Prelude.{◌≡◌, drop}
-use Rattle.mr_told.specs.Table.{named}
-use Rattle.mr_told.proofs.lookup.named.Given as goal
-
--- none so far has the identity
-abbrev pub invariant-loop-row : goal.invariant-loop-row
-invariant-loop-row l = named l.id l.rows ≡ named l.id (drop l.row-index l.rows)

@@ -1,8 +1,0 @@
-use Rattle.std.specs.Prelude.{◌≡◌, ◌++◌, map}
-use Rattle.std.specs.List.{range_with_len}
-use Rattle.mr_told.specs.Names.{function_name}
-use Rattle.mr_told.proofs.rows.push_functions.Given as goal
-
--- one for each turn was pushed
-abbrev pub invariant-loop-i : goal.invariant-loop-i
-invariant-loop-i l = l.names.items ≡ l.fn.names.items ++ map function_name (range_with_len 0 l.i)
