@@ -3,6 +3,7 @@ release/ has what was built."""
 import os
 import re
 
+import memory
 import speed
 from judging import CASES, CLASS, EXAMPLES, EXERCISES, TOP, judge, read
 
@@ -15,6 +16,29 @@ TASKS, README_LINES = 15, 160
 TOP_CRATES = {"mirace", "mr_command", "mr_answer", "mr_input"}
 MOST_EDITS = 6
 MOST_EDITS_IN_ALL = 130
+# The wrong bodies that must have an edit, each with what it does.
+WRONG_BODIES = (
+    ("witness_is_the_prefix", "A witness keeps each entry before the race but the first step of the pair."),
+    ("witness_drops_too_much", "A witness drops steps too that neither step of the pair follows, which others depend on."),
+    ("only_the_first_pair", "Of the races of a run the first one alone is listed."),
+    ("edge_between_racing_atomics", "Two steps that race have an edge, so that no race is seen across them."),
+    ("earlier_readers_forgotten", "A store is compared with earlier stores of its bytes, and not with earlier loads."),
+    ("woken_threads_ignored", "A step that woke the thread of the next one isn't taken for what orders the two."),
+    ("old_provenance_kept", "A byte that is written over keeps the provenance that it had."),
+    ("first_provenance_wins", "A pointer whose bytes differ in provenance gets that of the first one."),
+    ("padding_is_zero", "The padding of a value is stored as zeros, and not as uninitialised bytes."),
+    ("dead_range_reused", "The range of a freed allocation is given to a later one."),
+    ("leading_zero_taken", "A number that begins with a zero is taken, where it has more digits."),
+    ("rest_unread", "What stands behind the end of a program isn't read, so that it is no fault."),
+    ("unwind_target_skipped", "The block that a call unwinds to is not judged."),
+    ("release_wakes_all", "A release wakes each thread that waits for the lock, and gives the lock to none."),
+    ("always_read_fault", "Each read but the first is told as failed, whatever the files tell."),
+    ("reads_a_decoy", "The file of the program is read in place of the schedule."),
+    ("always_write_fault", "Each write of some bytes is told as failed, whatever the sink takes."),
+    ("every_entry_refused", "The entries of each schedule are refused, whatever they are."),
+)
+# The libraries that the project stands on.
+LIBRARIES = ("indexmap", "smallvec", "itoa", "serde_json", "thiserror")
 
 
 def released():
@@ -95,7 +119,7 @@ def edits():
     counts = {}
     for crate in sorted(os.listdir(f"{TOP}/crates")):
         folder = f"{TOP}/crates/{crate}/must-fail"
-        for name in sorted(os.listdir(folder) if os.path.isdir(folder) else []):
+        for name in listed(folder):
             what, texts, path, old, pairs = f"{crate}: {name}", {}, None, None, 0
             judge(f"{what}: an edit's name", re.fullmatch(r"[a-z][a-z0-9_]*\.edit", name))
             for line in read(f"{folder}/{name}").decode().split("\n"):
@@ -117,3 +141,23 @@ def edits():
     for crate, count in counts.items():
         judge(f"{crate}: the count of its edits", count <= MOST_EDITS * (1 + (crate == "mirace")), f"{count} of them")
     judge("the count of all edits", sum(counts.values()) <= MOST_EDITS_IN_ALL, f"{sum(counts.values())} of them")
+
+
+def wrong_bodies():
+    """Each wrong body that must have a must-fail edit has one, by its name."""
+    found = {name for crate in os.listdir(f"{TOP}/crates") for name in listed(f"{TOP}/crates/{crate}/must-fail")}
+    for name, what in WRONG_BODIES:
+        judge(f"must-fail: {name}", f"{name}.edit" in found, f"there is no edit of this name: {what}")
+
+
+def listed(folder):
+    """The names in a folder, if it is there."""
+    return sorted(os.listdir(folder)) if os.path.isdir(folder) else []
+
+
+def libraries():
+    """Each library that the project stands on is used in the code of a crate that is no test."""
+    lines = {line for _, text in memory.sources() for line in memory.bare(text) if not line.lstrip().startswith("ghost")}
+    for name in LIBRARIES:
+        used = re.compile(rf"(?<![\w:.]){name}::")
+        judge(f"the library {name}", any(used.search(line) for line in lines), "no code of a crate uses it")
