@@ -32,7 +32,7 @@ WRONG_BODIES = (
     ("rest_unread", "What stands behind the end of a program isn't read, so that it is no fault."),
     ("unwind_target_skipped", "The block that a call unwinds to is not judged."),
     ("release_wakes_all", "A release wakes each thread that waits for the lock, and gives the lock to none."),
-    ("always_read_fault", "Each read but the first is told as failed, whatever the files tell."),
+    ("always_read_fault", "Each read is told as failed, whatever the files tell."),
     ("reads_a_decoy", "The file of the program is read in place of the schedule."),
     ("always_write_fault", "Each write of some bytes is told as failed, whatever the sink takes."),
     ("every_entry_refused", "The entries of each schedule are refused, whatever they are."),
