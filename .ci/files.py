@@ -74,7 +74,7 @@ def shown(text):
 
 def count_shown(text, words):
     """How many files a section says that these words stand in."""
-    named = re.escape("`, `".join(words.split("|")))
+    named = r"`,\s+`".join(words.split("|"))
     found = re.search(rf"\b(\d+)(?: files)?\s+\(`{named}`\)", text)
     return int(found.group(1)) if found else None
 
