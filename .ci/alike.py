@@ -1,14 +1,15 @@
 """Names whose hashes are alike in the tables that a text's names are kept in.
 
-A table has groups of twelve places, a power of 2 of them, for nine names each at most. A hash of 64 bits is folded to 32: its low bits
-tell the group in which a name is looked for, its top 8 a tag, and a name is compared with those that have its tag there. So
-names are alike where both agree; the first twelve fill the group, and the next ones stand in the groups behind it.
+A table has groups of twelve places, a power of 2 of them, for nine names each at most. A hash of 64 bits is folded to
+32: its low bits tell the group in which a name is looked for, its top 8 a tag, and a name is compared with those that
+have its tag there. So names are alike where both agree; the first twelve fill the group, and the next ones stand in the
+groups behind it.
 
-The hash is SipHash-1-3. Names that collide under it without a key are searched for. What the program takes in front of each name is
-the SHA-256 digest of the whole text: so only a text can be tried, and `worst_text` tries many ends of one.
+The hash is SipHash-1-3. Names that collide under it without a key are searched for. What the program takes in front of
+each name is the SHA-256 digest of the whole text: so only a text can be tried, and `worst_text` tries many ends of one.
 
-Python's own hash is the same function where it has no seed, and is many times as fast as `siphash`. So this module runs itself
-without a seed, and its hash is compared with `siphash`; where it is another one, `siphash` is taken for less.
+Python's own hash is the same function where it has no seed, and is many times as fast as `siphash`. So this module runs
+itself without a seed, and its hash is compared with `siphash`; where it is another one, `siphash` is taken for less.
 """
 import functools
 import hashlib
@@ -57,7 +58,8 @@ def siphash(text):
 
 def is_python_hash():
     """Whether Python's hash is this one, in a process without a seed."""
-    return os.environ.get("PYTHONHASHSEED") == "0" and all(hash(it) & WORD == siphash(it) for it in (b"name\xff", bytes(range(41))))
+    tried = (b"name\xff", bytes(range(41)))
+    return os.environ.get("PYTHONHASHSEED") == "0" and all(hash(it) & WORD == siphash(it) for it in tried)
 
 
 def groups(names):
@@ -131,7 +133,8 @@ def alike():
 
 
 def worst_text(front, names):
-    """A text that ends in a comment, of those that are tried: the one by which its last name costs most, and that cost."""
+    """A text that ends in a comment, of those that are tried: the one by which its last name costs most, and that
+    cost."""
     told, number = map(int, without_seed(["worst"], b"\n".join((b" ".join(names), front))).split())
     return front + b"%08d\n" % number, told
 

@@ -1,5 +1,5 @@
-"""Calls of the built program: its statuses, its words, files of several pieces and files that are cut, pipes and devices,
-memory that is short, and calls of the host that are refused."""
+"""Calls of the built program: its statuses, its words, files of several pieces and files that are cut, pipes and
+devices, memory that is short, and calls of the host that are refused."""
 import fcntl
 import itertools
 import os
@@ -99,8 +99,8 @@ def long_files(at):
 
 
 def is_text_fault(line, text):
-    """Whether a line tells a fault of a text that ends too soon: a token with which nothing goes on, or an unknown name, at a
-    place that the text has."""
+    """Whether a line tells a fault of a text that ends too soon: a token with which nothing goes on, or an unknown
+    name, at a place that the text has."""
     found = re.fullmatch(rb"text (\d+) (\d+) (4 Unexpected|5 UnknownName)\n", line)
     return bool(found) and (int(found[1]), int(found[2])) <= limits.place(text, len(text))
 
@@ -128,15 +128,17 @@ def in_version_two(schedule):
 
 
 def shorter_report(report, entries):
-    """What a report says of the first entries, where there are more: the most prints that there may be, the verdict, the races."""
+    """What a report says of the first entries, where there are more: the most prints that there may be, the verdict,
+    the races."""
     prints, _, races = report_parts(report)
     kept = [it for it in races.split(b"\n")[1:-1] if int(it.split(b" ")[2]) <= entries]
     return prints, b"running", b"".join(it + b"\n" for it in (b"races %d" % len(kept), *kept))
 
 
 def cut_schedules(at):
-    """A schedule that is cut within a line is none, in both versions, and that line is told. What is cut between two lines is a
-    shorter schedule. It is run as one: it shows the first of the prints, goes on running, and has the races so far."""
+    """A schedule that is cut within a line is none, in both versions, and that line is told. What is cut between two
+    lines is a shorter schedule. It is run as one: it shows the first of the prints, goes on running, and has the races
+    so far."""
     for stem in (f"{EXAMPLES}/unwind", f"{EXAMPLES}/race", f"{CASES}/races/worked-stores"):
         one, report = read(f"{stem}.sched"), run(["run", f"{stem}.mr", f"{stem}.sched"], at)[0]
         shorter = {}
@@ -157,7 +159,8 @@ def cut_schedules(at):
 
 
 def big_programs(at):
-    """The summary of a large program, the same each time; where the number is even, no step of it depends on the order."""
+    """The summary of a large program, the same each time; where the number is even, no step of it depends on the
+    order."""
     text = b"big 0\nworkers 2\nrounds 1\nentries 32\n> 2\nverdict exit\nraces 0\n"
     for _ in range(2):
         expect("a large program", ["big", "0"], at, text, 0)

@@ -1,5 +1,5 @@
-"""What must be done within seconds, and in so much memory: long runs, each limit, texts and runs that are as slow as may be,
-large memory; and a program over `mr_runs` that the compiler refuses."""
+"""What must be done within seconds, and in so much memory: long runs, each limit, texts and runs that are as slow as
+may be, large memory; and a program over `mr_runs` that the compiler refuses."""
 import itertools
 import os
 import resource
@@ -46,7 +46,8 @@ fn main(rt: HostRuntime) -> Result<(), OutOfMemory> {
 
 
 def ordered_steps(at):
-    """The races of 5,000 steps that are ordered by a spawn long before: there are none, which is told within seconds."""
+    """The races of 5,000 steps that are ordered by a spawn long before: there are none, which is told within
+    seconds."""
     front = b"schedule 1\nstart 16 17 4096 64\n0 8192\n0\n0 8200 8208\n1 8216\n1\n"
     write(at, "loading.mr", LOADING)
     write(at, "loading.sched", front + b"0\n1\n" * ((STEPS - 5) // 2))
@@ -75,8 +76,8 @@ def each_limit(at):
 
 
 def hostile_inputs(at):
-    """Texts and runs within the limits that are as slow as may be, each in as much memory as it may take: what they write, and
-    in which time."""
+    """Texts and runs within the limits that are as slow as may be, each in as much memory as it may take: what they
+    write, and in which time."""
     plain = 0
     for case in itertools.chain(hostile.texts(), hostile.runs()):
         text, status, seconds = hostile.ran(case, PROGRAM, at)

@@ -1,10 +1,12 @@
 #!/usr/bin/env python3
-"""Which files a new statement, intrinsic, reason, command or form needs: those that name one of its kind, without tests and pages.
+"""Which files a new statement, intrinsic, reason, command or form needs: those that name one of its kind, without tests
+and pages.
 
     .ci/files.py [--write]
 
-compares the tables of docs/MAINTAINING.md with the sources, as .ci/outputs does. With the word it writes the counts and the rows
-of each table as they must be; what a row says of its files in the last cell is kept where the page has a row of that crate.
+compares the tables of docs/MAINTAINING.md with the sources, as .ci/outputs does. With the word it writes the counts and
+the rows of each table as they must be; what a row says of its files in the last cell is kept where the page has a row
+of that crate.
 """
 import os
 import re
@@ -12,8 +14,8 @@ import sys
 
 TOP = os.path.dirname(os.path.dirname(os.path.abspath(__file__)))
 PAGE = f"{TOP}/docs/MAINTAINING.md"
-# The sections of the page, each with those that are counted: the words that name it, and the crates, where it isn't all of
-# them. The table of a section is that of its first.
+# The sections of the page, each with those that are counted: the words that name it, and the crates, where it isn't all
+# of them. The table of a section is that of its first.
 KINDS = (
     ("A new statement", (("Deinit", ()),)),
     ("A new intrinsic", (("FetchXor", ()), ("AtomicStore", ()), ("CompareExchange", ()), ("Deallocate", ()))),
@@ -87,10 +89,12 @@ def compare(judge):
         judge(f"MAINTAINING: a section: {head}", bool(text))
         for words, crates in counted:
             count, told = len(naming(texts, words, crates)), count_shown(text, words)
-            judge(f"MAINTAINING: {head}: the count of files that name {words}", count == told, f"{told} is told, and {count} have it")
+            what = f"MAINTAINING: {head}: the count of files that name {words}"
+            judge(what, count == told, f"{told} is told, and {count} have it")
         mine = [tuple(cells[:2]) for cells in shown(text)]
         wanted = rows(naming(texts, *counted[0]))
-        judge(f"MAINTAINING: {head}: its table", mine == wanted, f"unlike: {sorted(set(mine) ^ set(wanted))}; .ci/files.py --write tells it")
+        unlike = sorted(set(mine) ^ set(wanted))
+        judge(f"MAINTAINING: {head}: its table", mine == wanted, f".ci/files.py --write tells it; unlike is {unlike}")
 
 
 def write():

@@ -3,10 +3,10 @@
 
     .ci/gauge.py [--write] [PROGRAM]
 
-compares them with the table of docs/MAINTAINING.md, as .ci/outputs does: each may be a tenth more or less. With the word it
-writes that table. The instructions are those that valgrind counts in a run of LONG entries and in one of SHORT, and
-a step takes the difference by so many entries. What is lost of what spares the machine work, as a memo or a skip that
-is never taken, changes no answer; it is seen here.
+compares them with the table of docs/MAINTAINING.md, as .ci/outputs does: each may be a tenth more or less. With the
+word it writes that table. The instructions are those that valgrind counts in a run of LONG entries and in one of SHORT,
+and a step takes the difference by so many entries. What is lost of what spares the machine work, as a memo or a skip
+that is never taken, changes no answer; it is seen here.
 """
 import os
 import re

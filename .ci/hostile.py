@@ -147,10 +147,12 @@ def locals_alike(number):
 
 
 def named_locals(names, count, used=None):
-    """A function with locals of these names, and so many statements that name one after the other, or those that are used."""
+    """A function with locals of these names, and so many statements that name one after the other, or those that are
+    used."""
     used = used or names
     rows = [b"live %s;\n" % used[k % len(used)] for k in range(count)]
-    blocks = b"".join(b"b%d regular:\n%sexit;\n" % (k, b"".join(rows[k:k + 4096])) for k in range(0, max(count, 1), 4096))
+    parts = ((k, b"".join(rows[k:k + 4096])) for k in range(0, max(count, 1), 4096))
+    blocks = b"".join(b"b%d regular:\n%sexit;\n" % it for it in parts)
     return program(b"", b"".join(b", %s: u8" % name for name in names), blocks)
 
 
@@ -380,7 +382,8 @@ AGAIN = (
 
 
 def searched():
-    """The text whose end is searched for, so that its last local costs most to find: 255 locals, and statements that name it."""
+    """The text whose end is searched for, so that its last local costs most to find: 255 locals, and statements that
+    name it."""
     names = [b"n%03d" % k for k in range(255)]
     front = widest(lambda n: named_locals(names, n, names[-1:]) + b"# 12345678\n")[:-9]
     text, cost = worst_text(front, names)

@@ -1,8 +1,9 @@
 """Whether the calls of the host are the plain ones.
 
-A clause says of such a call that it was made, and not with what: another name may be opened, a word dropped, or an empty piece
-handed over, and all is proved. So the bodies of these functions are compared with what they must be, and the host is called
-nowhere else. The check tries itself: put in place of what stands in the sources, each text of WRONG must be refused.
+A clause says of such a call that it was made, and not with what: another name may be opened, a word dropped, or an
+empty piece handed over, and all is proved. So the bodies of these functions are compared with what they must be, and
+the host is called nowhere else. The check tries itself: put in place of what stands in the sources, each text of WRONG
+must be refused.
 """
 import os
 import re
@@ -12,9 +13,12 @@ from judging import judge
 
 # The functions that call the host: the file, the line of what they stand in, the head, and the body.
 BODIES = (
-    ("host.rt", "impl<R: rt::Files> Opener for R {", "fn open(&mut self, name: &str) -> io::Result<R::File>", "fs::open(self, name)"),
-    ("host.rt", "impl<F: Read> Source for F {", "fn give(&mut self, buf: &mut [u8]) -> io::Result<usize>", "self.read(buf)"),
-    ("host.rt", "impl<W: Write> Stream for W {", "fn put(&mut self, bytes: &[u8]) -> io::Result<usize>", "self.write(bytes)"),
+    ("host.rt", "impl<R: rt::Files> Opener for R {", "fn open(&mut self, name: &str) -> io::Result<R::File>",
+     "fs::open(self, name)"),
+    ("host.rt", "impl<F: Read> Source for F {", "fn give(&mut self, buf: &mut [u8]) -> io::Result<usize>",
+     "self.read(buf)"),
+    ("host.rt", "impl<W: Write> Stream for W {", "fn put(&mut self, bytes: &[u8]) -> io::Result<usize>",
+     "self.write(bytes)"),
     ("host.rt", "impl<W: Write> Stream for W {", "fn settle(&mut self) -> io::Result<()>", "self.flush()"),
     ("caller.rt", "impl<R: Env + AllocGlobal> Caller for R {", "fn args(&self) -> io::Result<Args>", "env::args(self)"),
     ("caller.rt", "", "pub fn words_of<C: Caller>(alloc: Global, caller: &C) -> io::Result<Vec<String>>",
@@ -24,8 +28,8 @@ BODIES = (
 )
 # What calls the host, or leads to it, and how often it stands in the sources.
 CALLS = (
-    (r"\bfs::\w+\(", 1), (r"\benv::\w+\(", 1), (r"\.flush\(", 1), (r"\.settle\(", 1), (r"\.args\(\)", 1), (r"\bself\.read\(", 1),
-    (r"\bself\.write\(", 1), (r"\bfn main\(rt: HostRuntime\)", 2))
+    (r"\bfs::\w+\(", 1), (r"\benv::\w+\(", 1), (r"\.flush\(", 1), (r"\.settle\(", 1), (r"\.args\(\)", 1),
+    (r"\bself\.read\(", 1), (r"\bself\.write\(", 1), (r"\bfn main\(rt: HostRuntime\)", 2))
 
 
 def body_of(text, within, head):
@@ -49,7 +53,8 @@ def faults(known):
         found = [it for it in found if it is not None]
         if found != [body]:
             yield f"{name}: the body of `{head}` is {found}, not {body!r}"
-    code = [line for _, text in known for line in memory.bare(text) if line.isascii() and not memory.NO_ANSWER.match(line)]
+    lines = (line for _, text in known for line in memory.bare(text))
+    code = [line for line in lines if line.isascii() and not memory.NO_ANSWER.match(line)]
     for call, count in CALLS:
         found = sum(len(re.findall(call, line)) for line in code)
         if found != count:
@@ -63,11 +68,12 @@ def host_calls():
     judge("the calls of the host", not found, "; ".join(found))
     for name, old, new in WRONG:
         places = [k for k, (path, text) in enumerate(known) if os.path.basename(path) == name and text.count(old) == 1]
-        judge(f"another call of the host in {name}: {new.strip()}: its place", len(places) == 1, f"{len(places)} of them")
+        what = f"another call of the host in {name}: {new.strip()}"
+        judge(f"{what}: its place", len(places) == 1, f"{len(places)} of them")
         if len(places) == 1:
             path, text = known[places[0]]
             changed = [*known[:places[0]], (path, text.replace(old, new)), *known[places[0] + 1:]]
-            judge(f"another call of the host in {name}: {new.strip()}", list(faults(changed)), "it isn't seen")
+            judge(what, list(faults(changed)), "it isn't seen")
 
 
 # Bodies that a proof lets through: the file, what stands there, and what takes its place.
@@ -84,5 +90,6 @@ WRONG = (
     ("host_out.rt", "Ok(n) => flushed(n, out.settle()),", "Ok(n) => flushed(n, out.settle().and(out.settle())),"),
     ("host_out.rt", "Ok(n) => flushed(n, out.settle()),", "Ok(n) => Some(n),"),
     ("host_out.rt", "match out.put(piece) {", "match out.put(&piece[..0]) {"),
-    ("sink.rt", "        done += out.write(&text[done..])?;", "        out.settle();\n        done += out.write(&text[done..])?;"),
+    ("sink.rt", "        done += out.write(&text[done..])?;",
+     "        out.settle();\n        done += out.write(&text[done..])?;"),
 )

@@ -73,7 +73,8 @@ def entries_of(schedule):
 
 
 def stored_runs():
-    """Each run that mirace_cases stores, of a program under a schedule that both can be used: their names, the report, the status."""
+    """Each run that mirace_cases stores, of a program under a schedule that both can be used: their names, the report,
+    the status."""
     for case in re.split(rb"^\$ ", read(STORED), flags=re.M)[1:]:
         line, _, rest = case.partition(b"\n")
         words = line.decode().split()
@@ -83,8 +84,8 @@ def stored_runs():
 
 
 def replay(what, program, report, at):
-    """Whether a witness is printed exactly where a race is listed; and the witness, run as a schedule: its last step races
-    with the one before it, that is its first race, and its witness is itself. True where there is one."""
+    """Whether a witness is printed exactly where a race is listed; and the witness, run as a schedule: its last step
+    races with the one before it, that is its first race, and its witness is itself. True where there is one."""
     front, is_there, witness = report.partition(b"\nwitness ")
     judge(f"{what}: a witness exactly where a race is listed", (b"\nrace " in front) == bool(is_there))
     if not is_there:

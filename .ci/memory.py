@@ -1,11 +1,12 @@
 """Whether an answer for want of memory is given only where a call found no memory.
 
-Such an answer stands in an arm whose left side is want of memory and nothing else, in a conversion from the errors of std, or in
-an arm `Err(_)` of a call that fails for want of memory alone, which is listed (ALLOCATING). An answer that is made by hand is
-listed with all that it depends on (BY_HAND). The status that tells it, 8, stands in the lines that are listed (WRITTEN).
+Such an answer stands in an arm whose left side is want of memory and nothing else, in a conversion from the errors of
+std, or in an arm `Err(_)` of a call that fails for want of memory alone, which is listed (ALLOCATING). An answer that
+is made by hand is listed with all that it depends on (BY_HAND). The status that tells it, 8, stands in the lines that
+are listed (WRITTEN).
 
-The check tries itself: put in place of what stands in the sources, each text of WRONG must be refused. A reservation that is far
-too large isn't seen here, since it is refused by the host.
+The check tries itself: put in place of what stands in the sources, each text of WRONG must be refused. A reservation
+that is far too large isn't seen here, since it is refused by the host.
 """
 import os
 import re
@@ -15,10 +16,11 @@ from judging import TOP, judge, read
 # An answer for want of memory, where it stands for a value: the error of std, or the variant of one of our own types.
 OUT_OF_MEMORY = re.compile(
     r"[(|]\s*(AllocError|OutOfMemory)\s*\)|=>\s*(AllocError|OutOfMemory)\b|^\s*(return )?(AllocError|OutOfMemory);?$"
-    r"|\b(AllocError|OutOfMemory)\.|\b[A-Z]\w*::(Memory|OutOfMemory)\b")
+    r"|\bErr\(Memory\b|\b(AllocError|OutOfMemory)\.|\b[A-Z]\w*::(Memory|OutOfMemory)\b")
 # Lines in which the words stand for no answer; and a line of a clause has other letters than those of code.
 NO_ANSWER = re.compile(r"\s*(pub )?(use|ghost|requires|ensures)\b|\s*#|.*(matches!|[=!]= \w+::Memory)")
-# The left of an arm that is want of memory and nothing else. (A machine that found no memory once says `Failed` from then on.)
+# The left of an arm that is want of memory and nothing else. (A machine that found no memory once says `Failed` from
+# then on.)
 WANT = r"((\w+::)?(Memory|AllocError|OutOfMemory)|StepFault::Failed)"
 WANTED = re.compile(rf"\s*(Err\({WANT}( \| {WANT})*\)|{WANT}( \| {WANT})*)\s*")
 # A conversion from the errors of std.
@@ -26,8 +28,8 @@ CONVERSION = re.compile(r"impl(<[^>]*>)? From<Alloc(Error|Failed)\b")
 # The head of a function, with its name; and of what is done in some cases alone.
 FUNCTION = re.compile(r"\s*(?:pub(?:\([^)]*\))? )?(?:const )?fn (\w+)")
 CONDITION = re.compile(r"\s*(\} )?(if|else|for|while|loop|let)\b")
-# The calls that fail for want of memory alone, of which an arm `Err(_)` is taken: the function, and the line that matches. (The
-# steps and the start among them are those of a run that is legal.)
+# The calls that fail for want of memory alone, of which an arm `Err(_)` is taken: the function, and the line that
+# matches. (The steps and the start among them are those of a run that is legal.)
 ALLOCATING = {
     ("typed", "match types(alloc, e, args) {"),
     ("refuse", "match refusal.text(alloc) {"),
@@ -47,9 +49,9 @@ ALLOCATING = {
     ("tell_step", "match told_before(alloc, machine, entry) {"),
     ("walked", "match sizes_of(alloc, p.globals.as_slice()) {"),
 }
-# The answers that are made by hand: the function, the line, the one that it depends on, and the constant in that. A thread
-# whose count of allocations can't rise gives up, and so does what would number more links or more semicolons than there
-# are numbers.
+# The answers that are made by hand: the function, the line, the one that it depends on, and the constant in that. A
+# thread whose count of allocations can't rise gives up, and so does what would number more links or more semicolons
+# than there are numbers.
 BY_HAND = {
     ("act", "return Err(TurnFault::Memory);", "if thread.count >= MOST_ALLOCATIONS {",
      "const MOST_ALLOCATIONS: u64 = 0x4000_0000_0000_0000;"),
@@ -58,7 +60,8 @@ BY_HAND = {
     ("added", "return Err(AllocError);", "let Some(sum) = n.checked_add(more) else {", ""),
     ("added", "None => Err(AllocError),", "match sum.checked_add(1) {", ""),
 }
-# The status for want of memory, where it is written: the function, and the line. It is looked for where statuses are spoken of.
+# The status for want of memory, where it is written: the function, and the line. It is looked for where statuses are
+# spoken of.
 WRITTEN = {("status", "Refusal::Memory => 8,"), ("wordless", "ErrorKind::OutOfMemory => 8,")}
 EIGHT = re.compile(r"(?<![\w.])8(?![\w.])")
 
@@ -93,7 +96,8 @@ def line_around(lines, at):
 
 
 def arm_of(lines, at):
-    """The number of the line of the arm that a line stands in, where nothing between them is done in some cases alone."""
+    """The number of the line of the arm that a line stands in, where nothing between them is done in some cases
+    alone."""
     for number in (at, *around(lines, at)):
         if "=>" in lines[number]:
             return number
@@ -144,13 +148,15 @@ def sources():
 
 
 def memory_answers():
-    """An answer for want of memory is given only where a call failed: no function gives up because of what it was given."""
+    """An answer for want of memory is given only where a call failed: no function gives up because of what it was
+    given."""
     count, known = 0, list(sources())
     for path, text in known:
         lines = text.split("\n")
         for at, is_well in answers(text):
             count += 1
-            judge(f"{path[len(TOP) + 1:]}:{at + 1}: {lines[at].strip()}: passed on", is_well, "an answer for want of memory is made")
+            where = f"{path[len(TOP) + 1:]}:{at + 1}: {lines[at].strip()}"
+            judge(f"{where}: passed on", is_well, "an answer for want of memory is made")
     judge("answers for want of memory", count > 20, f"{count} of them are found")
     listed(known)
     wrong_answers(known)
@@ -162,7 +168,8 @@ def listed(known):
     stand = lambda function, line: any(
         it.strip() == line and function_of(lines, at) == function for lines in texts for at, it in enumerate(lines))
     for function, line in sorted({*ALLOCATING, *WRITTEN, *(it[:2] for it in BY_HAND)}):
-        judge(f"want of memory: {function}: {line}", stand(function, line), "it is listed in memory.py, and stands nowhere")
+        what = f"want of memory: {function}: {line}"
+        judge(what, stand(function, line), "it is listed in memory.py, and stands nowhere")
 
 
 def wrong_answers(known):
@@ -170,7 +177,7 @@ def wrong_answers(known):
     for name, old, new in WRONG:
         texts = [text for path, text in known if os.path.basename(path) == name and text.count(old) == 1]
         what = f"want of memory that is made in {name}: {new.strip().splitlines()[0].strip()}"
-        judge(f"{what}: its place", len(texts) == 1, f"{len(texts)} files of this name have once what it takes the place of")
+        judge(f"{what}: its place", len(texts) == 1, f"{len(texts)} files of this name have once what stands there")
         if len(texts) == 1:
             changed = texts[0].replace(old, new)
             judge(what, not all(is_well for _, is_well in answers(changed)), "it isn't seen")
@@ -184,21 +191,27 @@ WRONG = (
             code: LONG_TEXT,
         }),""", "Err(FileFault::Long) => Err(Refusal::Memory),"),
     ("input.rt", "Err(FileFault::Long) => Err(broken(1, TOO_LONG)),", "Err(FileFault::Long) => Err(Refusal::Memory),"),
-    ("input.rt", "Err(FileFault::Long) => Err(broken(1, TOO_LONG)),", "Err(FileFault::Long | FileFault::Memory) => Err(Refusal::Memory),"),
+    ("input.rt", "Err(FileFault::Long) => Err(broken(1, TOO_LONG)),",
+     "Err(FileFault::Long | FileFault::Memory) => Err(Refusal::Memory),"),
     ("input.rt", "Err(ParseFault::Text(fault)) => Err(wrong(fault)),", """Err(ParseFault::Text(fault)) => {
             if fault.line >= 65_536 {
                 return Err(Refusal::Memory);
             }
             Err(wrong(fault))
         }"""),
-    ("input.rt", "Err(ParseFault::Text(fault)) => Err(wrong(fault)),", """Err(ParseFault::Text(fault)) if fault.line < 65_536 => Err(wrong(fault)),
+    ("input.rt", "Err(ParseFault::Text(fault)) => Err(wrong(fault)),", """\
+Err(ParseFault::Text(fault)) if fault.line < 65_536 => Err(wrong(fault)),
         Err(ParseFault::Text(_)) => Err(Refusal::Memory),"""),
-    ("input.rt", "Err(ParseFault::Text(fault)) => Err(wrong(fault)),", """Err(ParseFault::Text(fault)) if fault.line < 65_536 => Err(wrong(fault)),
+    ("input.rt", "Err(ParseFault::Text(fault)) => Err(wrong(fault)),", """\
+Err(ParseFault::Text(fault)) if fault.line < 65_536 => Err(wrong(fault)),
         Err(_) => Err(Refusal::Memory),"""),
     ("input.rt", "Err(SchedFault::Bad { line, code }) => Err(broken(line, code)),",
-     "Err(SchedFault::Bad { line, code }) => if line < 65_536 { Err(broken(line, code)) } else { Err(Refusal::Memory) },"),
+     """Err(SchedFault::Bad { line, code }) => {
+            if line < 65_536 { Err(broken(line, code)) } else { Err(Refusal::Memory) }
+        }"""),
     ("input.rt", "Err(SchedFault::Memory) => Err(Refusal::Memory),", "Err(_) => Err(Refusal::Memory),"),
-    ("writing.rt", "Ok(text) => finish(out, text.as_slice(), refusal.status()),", "Ok(text) => finish(out, text.as_slice(), 8),"),
+    ("writing.rt", "Ok(text) => finish(out, text.as_slice(), refusal.status()),",
+     "Ok(text) => finish(out, text.as_slice(), 8),"),
     ("writing.rt", "Ok(text) => finish(out, text.as_slice(), refusal.status()),",
      "Ok(text) => finish(out, text.as_slice(), Refusal::Memory.status()),"),
     ("form.rt", "    let text = form_line(alloc, p, fault)?;\n", """    if fault.place >= 256 {
@@ -206,7 +219,8 @@ WRONG = (
     }
     let text = form_line(alloc, p, fault)?;
 """),
-    ("form.rt", "    let text = form_line(alloc, p, fault)?;\n", "    let text = form_line(alloc, p, fault).or(Err(Refusal::Memory))?;\n"),
+    ("form.rt", "let text = form_line(alloc, p, fault)?;",
+     "let text = form_line(alloc, p, fault).or(Err(Refusal::Memory))?;"),
     ("form.rt", "Ok(Written { text, status: 4 })", "Ok(Written { text, status: 8 })"),
     ("answer.rt", "Err(WfFault::Form { .. }) => unreachable!(),", "Err(WfFault::Form { .. }) => Err(Refusal::Memory),"),
     ("answer.rt", """Ok(checked) => said(alloc, saying, &checked),
@@ -216,12 +230,14 @@ WRONG = (
     ("listed.rt", "Err(TraceFault::Bad { at, code }) => Err(Refusal::Trace { at, code }),",
      """Err(TraceFault::Bad { at, code }) if at < 1_000_000 => Err(Refusal::Trace { at, code }),
         Err(TraceFault::Bad { .. }) => Err(Refusal::Memory),"""),
-    ("traced.rt", "    let mut text = Vec::new(alloc);\n    push_count(&mut text, b\"races \"", """    if races.len() > 3 {
+    ("traced.rt", "    let mut text = Vec::new(alloc);\n    push_count(&mut text, b\"races \"", """\
+    if races.len() > 3 {
         return Err(AllocError);
     }
     let mut text = Vec::new(alloc);
     push_count(&mut text, b"races \""""),
-    ("traced.rt", "    let mut text = Vec::new(alloc);\n    push_count(&mut text, b\"races \"", """    races.get(3).map_or(Ok(()), |_| Err(AllocError))?;
+    ("traced.rt", "    let mut text = Vec::new(alloc);\n    push_count(&mut text, b\"races \"", """\
+    races.get(3).map_or(Ok(()), |_| Err(AllocError))?;
     let mut text = Vec::new(alloc);
     push_count(&mut text, b"races \""""),
     ("decoding.rt", "{\n    whole_trace(alloc, bytes)\n}", """{
@@ -230,7 +246,9 @@ WRONG = (
     }
     whole_trace(alloc, bytes)
 }"""),
-    ("running.rt", "            Ok(()) => place += 1,\n            Err(fault) => return Err(at_place(place, fault)),", """\
+    ("running.rt", """\
+            Ok(()) => place += 1,
+            Err(fault) => return Err(at_place(place, fault)),""", """\
             Ok(()) if place > 1_000_000 => return Err(RunFault::Memory),
             Ok(()) => place += 1,
             Err(fault) => return Err(at_place(place, fault)),"""),

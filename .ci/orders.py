@@ -5,14 +5,16 @@ import time
 from judging import CASES, EXAMPLES, PATIENCE, entries_of, judge, read, replay, report_parts, run, short, stored_runs, write
 from made import PRINTED
 
-# How many other orders are tried of a stored run of several threads. A run of one thread has one order alone, which is tried once.
+# How many other orders are tried of a stored run of several threads. A run of one thread has one order alone, which is
+# tried once.
 ORDERS = 5
 # Programs of examples/ whose schedules are drawn from so many numbers, with at most so many entries.
 DRAWN, NUMBERS, ENTRIES = ("lock", "lost-update", "deadlock", "flag-plain"), 200, 300
 
 
 def drawn(what, name, number, most, at):
-    """The lines of the entries that are drawn for a program, and the report. The schedule, run as a file, has the same report."""
+    """The lines of the entries that are drawn for a program, and the report. The schedule, run as a file, has the same
+    report."""
     wrote, status = run(["auto", name, number, most], at)
     begin = min(it for it in (wrote.find(b"\n> "), wrote.find(b"\nverdict ")) if it >= 0) + 1
     write(at, "drawn.sched", wrote[:begin])
@@ -23,7 +25,8 @@ def drawn(what, name, number, most, at):
 
 
 def drawn_schedules(at):
-    """Where a drawn schedule ends: at so many entries, where the machine stops, and in front of a step that can't be drawn."""
+    """Where a drawn schedule ends: at so many entries, where the machine stops, and in front of a step that can't be
+    drawn."""
     running = b"verdict running\nraces 0\n"
     for most in ("0", "1", "4097"):
         entries, report = drawn(f"{most} entries at most", "printing.mr", "7", most, at)
@@ -79,8 +82,8 @@ def prints_by_thread(program, schedule, at):
 
 
 def put_in_order(what, program, schedule, report, status, number, at):
-    """Another order of a run without a race. It keeps the entries of each thread, and its schedule, run as a file, has the same
-    report: the same verdict, no race, the same status, and of each thread the same prints."""
+    """Another order of a run without a race. It keeps the entries of each thread, and its schedule, run as a file, has
+    the same report: the same verdict, no race, the same status, and of each thread the same prints."""
     recorded = read(schedule)
     wrote, ended = run(["shuffle", program, schedule, str(number)], at)
     begin = min(it for it in (wrote.find(b"\n> "), wrote.find(b"\nverdict "), len(wrote)) if it >= 0) + 1
@@ -100,8 +103,8 @@ def put_in_order(what, program, schedule, report, status, number, at):
 
 
 def made_shorter(what, program, schedule, report, status, at):
-    """The report of `short`: it is the one of the run but for the witness, which has at most as many entries, begins the entries
-    of each thread, and shows the race."""
+    """The report of `short`: it is the one of the run but for the witness, which has at most as many entries, begins
+    the entries of each thread, and shows the race."""
     wrote, ended = run(["short", program, schedule], at)
     front, _, witness = wrote.partition(b"\nwitness ")
     wanted, _, kept = report.partition(b"\nwitness ")

@@ -3,8 +3,8 @@
 A fenced block of a page with no word behind its fence is one of these two:
 
 - a file: its first line is `# file NAME`, and what stands behind that line is written to a file of this name;
-- commands: its first line is `$ ` and a command of `mirace`, `mirace_show` or examples/hunt, a loop over `mirace`, or one of
-  `cd`, `sed` and `cmp`. Below each stands what it writes.
+- commands: its first line is `$ ` and a command of `mirace`, `mirace_show` or examples/hunt, a loop over `mirace`, or
+  one of `cd`, `sed` and `cmp`. Below each stands what it writes.
 
 A block that is neither, as a picture, has a word behind its fence. The commands of a page are run by a shell, in a
 folder of their own. It has the page's files and links to all that stands at the top of the clone, or in the page's

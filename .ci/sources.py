@@ -1,5 +1,5 @@
-"""What reads the sources and the pages alone: edits, examples and their copies, exercises, links, rows of figures; and that
-release/ has what was built."""
+"""What reads the sources and the pages alone: edits, examples and their copies, exercises, links, rows of figures; and
+that release/ has what was built."""
 import os
 import re
 
@@ -19,7 +19,7 @@ MOST_EDITS_IN_ALL = 130
 # The wrong bodies that must have an edit, each with what it does.
 WRONG_BODIES = (
     ("witness_is_the_prefix", "A witness keeps each entry before the race but the first step of the pair."),
-    ("witness_drops_too_much", "A witness drops steps too that neither step of the pair follows, which others depend on."),
+    ("witness_drops_too_much", "A witness drops steps too that are before neither step of the pair."),
     ("only_the_first_pair", "Of the races of a run the first one alone is listed."),
     ("edge_between_racing_atomics", "Two steps that race have an edge, so that no race is seen across them."),
     ("earlier_readers_forgotten", "A store is compared with earlier stores of its bytes, and not with earlier loads."),
@@ -88,6 +88,7 @@ def figures():
 
 
 def lines_of_readme():
+    """README has no more lines than it may have."""
     count = read(f"{TOP}/README.md").count(b"\n")
     judge("the lines of README", count <= README_LINES, f"{count} of them")
 
@@ -115,7 +116,8 @@ def links():
 
 
 def edits():
-    """Each must-fail edit can be made: each old text stands once in its file, behind the pairs before it. And there are so many."""
+    """Each must-fail edit can be made: each old text stands once in its file, behind the pairs before it. And there are
+    so many."""
     counts = {}
     for crate in sorted(os.listdir(f"{TOP}/crates")):
         folder = f"{TOP}/crates/{crate}/must-fail"
@@ -157,7 +159,7 @@ def listed(folder):
 
 def libraries():
     """Each library that the project stands on is used in the code of a crate that is no test."""
-    lines = {line for _, text in memory.sources() for line in memory.bare(text) if not line.lstrip().startswith("ghost")}
+    lines = {it for _, text in memory.sources() for it in memory.bare(text) if not it.lstrip().startswith("ghost")}
     for name in LIBRARIES:
         used = re.compile(rf"(?<![\w:.]){name}::")
         judge(f"the library {name}", any(used.search(line) for line in lines), "no code of a crate uses it")

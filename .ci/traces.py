@@ -1,4 +1,5 @@
-"""What `trace` writes and `offline` reads, beside the script of examples/trace/ and the threads that are recorded there."""
+"""What `trace` writes and `offline` reads, beside the script of examples/trace/ and the threads that are recorded
+there."""
 import importlib.util
 import os
 import re
@@ -54,8 +55,8 @@ def traces_of_runs(at, script):
 
 
 def changed_traces(at, script):
-    """Each byte of three traces with other values, and each part from their fronts: a fault by the script is the same one of
-    `offline`, with status 9; else races are listed. What is cut has always a fault."""
+    """Each byte of three traces with other values, and each part from their fronts: a fault by the script is the same
+    one of `offline`, with status 9; else races are listed. What is cut has always a fault."""
     races = re.compile(rb"races (0|[1-9][0-9]*)\n(race [0-9]+ [0-9]+\n)*")
     for name in ("print", "lock", "races/worked-stores"):
         trace, _ = run(["trace", f"{CASES}/{name}.mr", f"{CASES}/{name}.sched"], at)
@@ -138,7 +139,8 @@ def traces(at):
 
 
 def scripted_traces(at):
-    """The script of examples/trace/ against bytes that are made by hand; and each list of steps comes back as it was."""
+    """The script of examples/trace/ against bytes that are made by hand; and each list of steps comes back as it
+    was."""
     script = trace_script()
     step = b"\0" * 46
     store = b"\1\0\0\0\0\0" + b"\1" + b"\0" * 7 + b"\1" + b"\x10" + b"\0" * 7 + b"\4" + b"\0" * 7 + b"\0" * 32
@@ -166,8 +168,8 @@ def scripted_traces(at):
 
 
 def recorded_threads(at):
-    """The C program of examples/trace/ with threads of the host, several times. In each run the threads race on the counter
-    without a lock, and on nothing else."""
+    """The C program of examples/trace/ with threads of the host, several times. In each run the threads race on the
+    counter without a lock, and on nothing else."""
     if not shutil.which("gcc"):
         print("outputs: there is no gcc: the threads of examples/trace/race.c are left out")
         return
