@@ -8,6 +8,7 @@ tells the processor seconds of each, or of those that have the word in their nam
 plain one takes; a run has its own bounds.
 """
 import collections
+import itertools
 import os
 import re
 import resource
@@ -16,6 +17,7 @@ import sys
 import tempfile
 
 sys.dont_write_bytecode = True
+from alike import alike, worst_text  # noqa: E402
 from limits import RUNNING, TEXT, place, program, repeated  # noqa: E402
 
 EXITED = b"verdict exit\nraces 0\n"
@@ -144,6 +146,29 @@ def locals_alike(number):
     return b"fn f%d() -> r {\nlet r: unit%s;\nb0 regular: exit;\n}\n" % (number, names)
 
 
+def named_locals(names, count, used=None):
+    """A function with locals of these names, and so many statements that name one after the other, or those that are
+    used."""
+    used = used or names
+    rows = [b"live %s;\n" % used[k % len(used)] for k in range(count)]
+    parts = ((k, b"".join(rows[k:k + 4096])) for k in range(0, max(count, 1), 4096))
+    blocks = b"".join(b"b%d regular:\n%sexit;\n" % it for it in parts)
+    return program(b"", b"".join(b", %s: u8" % name for name in names), blocks)
+
+
+def fronted(size):
+    """As many names as a function has locals, with a front of so many bytes in common."""
+    return [b"x" * size + b"%03d" % k for k in range(255)]
+
+
+def alike_blocks(count):
+    """Blocks whose names collide without a key, and so many cases that name one after the other."""
+    names = alike()
+    cases = b"".join(b"%d => %s, " % (k, names[k % len(names)]) for k in range(count))
+    blocks = b"".join(b"%s regular: exit;\n" % name for name in names)
+    return program(blocks=b"b0 regular: switch u32 7 { %s_ => b0 };\n%s" % (cases, blocks))
+
+
 def blocks_in(number):
     """A function with as many blocks as there may be."""
     return b"fn f%d() -> r {\nlet r: unit;\n%s}\n" % (number, repeated(b"b%d regular: exit;\n", 1024))
@@ -218,6 +243,12 @@ WIDE = (
     ("pointers of a global", lambda n: program(b"global g align 8 { %s}\n" % (b"&g + 0 " * min(n, 1 << 17)))),
     ("locals of many functions", lambda n: program(b"".join(map(locals_of, range(min(n, 255)))))),
     ("locals whose names have one hash", lambda n: program(b"".join(map(locals_alike, range(min(n // 80, 255)))))),
+    ("locals whose names collide without a key", lambda n: named_locals(alike()[:255], n)),
+    ("the last local whose name collides without a key", lambda n: named_locals(alike()[:255], n, alike()[254:255])),
+    ("blocks whose names collide without a key", alike_blocks),
+    ("names with 64 bytes in common in front", lambda n: named_locals(fronted(64), n)),
+    ("names with 500 bytes in common in front", lambda n: named_locals(fronted(500), n)),
+    ("names with 1,500 bytes in common in front", lambda n: named_locals(fronted(1500), n)),
     ("blocks of many functions", lambda n: program(b"".join(map(blocks_in, range(min(n, 255)))))),
     ("functions with long names", lambda n: program(b"".join(called(b"x" * n + b"%d" % k) for k in range(255)))),
     ("statements behind many arguments", lambda n: program(of_arguments(blocks_of(b"live x;\n", n)))),
@@ -350,6 +381,16 @@ AGAIN = (
 )
 
 
+def searched():
+    """The text whose end is searched for, so that its last local costs most to find: 255 locals, and statements that
+    name it."""
+    names = [b"n%03d" % k for k in range(255)]
+    front = widest(lambda n: named_locals(names, n, names[-1:]) + b"# 12345678\n")[:-9]
+    text, cost = worst_text(front, names)
+    what = f"searched for against the key of its text: a local that is compared with {cost} names or groups"
+    yield Case(what, ["check", "P"], {"P": text}, None, 0, None, TEXT_ROOM)
+
+
 def faults():
     """A plain text with one fault, which stands at its end."""
     plain = widest(lambda n: program(b"", b", x: u8", blocks_of(b"live x;\n", n)) + b"#" * 40)[:-40]
@@ -365,11 +406,12 @@ def faults():
     yield Case("a long text that breaks the last rule", ["check", "P"], {"P": text}, written, 4, None, TEXT_ROOM)
 
 
-def texts():
-    """The texts that are taken, and those with a fault."""
+def texts(word=""):
+    """The texts that are taken, and those with a fault; of the first those with a word in their name."""
     for kind, table in (("wide", WIDE), ("deep", DEEP), ("again", AGAIN)):
-        for what, made in table:
+        for what, made in (it for it in table if word in f"{kind}: {it[0]}"):
             yield Case(f"{kind}: {what}", ["check", "P"], {"P": widest(made)}, None, 0, None, TEXT_ROOM)
+    yield from searched()
     yield from faults()
 
 
@@ -586,4 +628,4 @@ def measure(cases, path, word):
 
 if __name__ == "__main__":
     path, word = [*sys.argv[1:], PROGRAM, ""][:2] if len(sys.argv) < 2 else [*sys.argv[1:], ""][:2]
-    measure((it for part in (texts, runs) for it in part()), os.path.abspath(path), word)
+    measure(itertools.chain(texts(word), runs()), os.path.abspath(path), word)
