@@ -1,6 +1,6 @@
-//! Runs the cases of standard input, each a line with the words of a command over the files of `data/`, and writes what each comes
-//! to: `$` and the words, what the command writes, and `=` and the status. JSON is read back, and told in lines behind it. The bytes of a
-//! trace are written as numbers.
+//! Runs the cases of standard input, each a line with the words of a command over the files of `data/`, or `mirace_show` and the words
+//! of a form. Of each it writes `$` and the line, what the command or the form writes, and `=` and the status. JSON is read back, and
+//! told in lines behind it. The bytes of a trace are written as numbers.
 #![tactic(auto)]
 
 mod in_numbers;
@@ -10,24 +10,40 @@ use crate::in_numbers::in_numbers;
 use crate::read_back::read_back;
 use mr_command::mirace;
 use mr_io::{HostFiles, HostOut};
+use mr_show::mirace_show;
 use std::io;
 
 fn main(rt: HostRuntime) -> io::Result<()> {
     for line in rt.lines(rt.alloc()) {
         let line = line?;
         println!(rt; "$ {line}")?;
-        let words = words_of(&rt, line.as_str())?;
-        let status = match words.first() {
-            Some(word) if word.as_str() == "json" => read_back(&rt, words.as_slice())?,
-            Some(word) if word.as_str() == "trace" => in_numbers(&rt, words.as_slice())?,
-            _ => written(&rt, words.as_slice()),
+        let status = match line.as_str().strip_prefix("mirace_show ") {
+            Some(form) => shown(&rt, form)?,
+            None => answered(&rt, line.as_str())?,
         };
         println!(rt; "= {status}")?;
     }
     Ok(())
 }
 
-// Writes what a command comes to, and answers the status.
+// Writes what a form of the companion comes to, and answers the status.
+fn shown(rt: &HostRuntime, line: &str) -> io::Result<u8> {
+    let words = words_of(rt, line)?;
+    let mut out = HostOut::new(rt.stdout());
+    let mut files = HostFiles::new(rt);
+    Ok(mirace_show(rt.alloc(), words.as_slice(), &mut files, &mut out))
+}
+
+// The same of a command.
+fn answered(rt: &HostRuntime, line: &str) -> io::Result<u8> {
+    let words = words_of(rt, line)?;
+    match words.first() {
+        Some(word) if word.as_str() == "json" => read_back(rt, words.as_slice()),
+        Some(word) if word.as_str() == "trace" => in_numbers(rt, words.as_slice()),
+        _ => Ok(written(rt, words.as_slice())),
+    }
+}
+
 fn written(rt: &HostRuntime, words: &[String]) -> u8 {
     let mut out = HostOut::new(rt.stdout());
     let mut files = HostFiles::new(rt);
