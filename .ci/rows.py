@@ -1,4 +1,5 @@
-"""Rows of the tables of texts.py, schedules.py, values.py and forms.py: the built programs run over files that are given as texts.
+"""Rows of the tables of texts.py, schedules.py, values.py, memory.py, runs.py and forms.py: the built programs run over files that are
+given as texts.
 
 `.ci/outputs` goes through all of them. By itself it takes the two programs, `python3 .ci/rows.py [PROGRAM COMPANION]`, and tells what
 fails.
@@ -49,10 +50,12 @@ class Bench:
 def compare(judge, programs):
     """All rows of all tables."""
     import forms
+    import memory
+    import runs
     import schedules
     import texts
     import values
-    for tables in (texts, schedules, values, forms):
+    for tables in (texts, schedules, values, memory, runs, forms):
         with tempfile.TemporaryDirectory() as at:
             tables.compare(Bench(judge, at, *programs))
 
