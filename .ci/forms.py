@@ -1,5 +1,5 @@
-"""The forms of the companion, as the built `mirace_show` answers them: rows of a program, a schedule or an order, the words of a form,
-and what is written; rows.py goes through them.
+"""The forms of the companion, as the built `mirace_show` answers them: rows of a program, a schedule or an order, the
+words of a form, and what is written; rows.py goes through them.
 
 - ANSWERED, REFUSED, PROSPECTS, ORDERS, FORMLESS and CODES: words, and what refuses a form.
 - LAID: programs whose texts are laid out in other ways, and races at more than two places.
@@ -32,8 +32,8 @@ start 16 4096
 0
 0
 """
-USAGE = ("usage: steps P S [FIRST LAST] | races P S | picture P S [FIRST LAST] | next P S | fill P O | halt P O | why CODE "
-         "| --help\n")
+USAGE = ("usage: steps P S [FIRST LAST] | races P S | picture P S [FIRST LAST] | next P S | fill P O | halt P O "
+         "| why CODE | --help\n")
 EXITS = """1  thread 0  4:13  main b0  exit
 step 1 ended the run
 verdict exit
@@ -201,7 +201,8 @@ start 16 17 32 33
 0
 0
 """
-STORES_RACES = """5:16  worker again  deref(load(p), u8) = u8 1  /  5:16  worker again  deref(load(p), u8) = u8 1: 3 times, first 4 6
+STORES_RACES = """\
+5:16  worker again  deref(load(p), u8) = u8 1  /  5:16  worker again  deref(load(p), u8) = u8 1: 3 times, first 4 6
 5:16  worker again  deref(load(p), u8) = u8 1  /  11:15  main last  deref(global number + 0, u8) = u8 9: once, 10 12
 races 4
 """
@@ -291,7 +292,8 @@ NEXTS = (
     (ALONE, ALONE_START, """thread 0 can go on; its next step is 5:15  main b0  live x
         asks for address, size 4, align 4, for local x
 """, 0),
-    (ALONE, ALONE_START + "0 65560\n0\n0 65568\n", """thread 0 can go on; its next step is 5:42  main b0  do allocate(u64 16, u64 32) -> p to b1
+    (ALONE, ALONE_START + "0 65560\n0\n0 65568\n", """\
+thread 0 can go on; its next step is 5:42  main b0  do allocate(u64 16, u64 32) -> p to b1
         asks for address, size 16, align 32, for a block of the heap
 """, 0),
     # The state in front of the entry that breaks a rule.
@@ -301,7 +303,8 @@ NEXTS = (
 thread 0 can go on; its next step is 5:15  main b0  live x
         asks for address, size 4, align 4, for local x
 """, 1),
-    (ALONE, ALONE_START + "0 65544\n0\n", """entry 1 of thread 0 breaks 64 Reused: The bytes at this address were those of an earlier allocation, maybe a dead one.
+    (ALONE, ALONE_START + "0 65544\n0\n", """\
+entry 1 of thread 0 breaks 64 Reused: The bytes at this address were those of an earlier allocation, maybe a dead one.
         picks 65544
         by the pick 65544
         the bytes were those of allocation 1 of thread 0
@@ -311,7 +314,8 @@ thread 0 can go on; its next step is 5:15  main b0  live x
     # The start line breaks a rule.
     (ALONE, "schedule 1\nstart 65536 65544\n", "schedule 2 61 MissingPick\n", 5),
     # Two threads wait for the lock that the first one holds.
-    (LOCK, LOCK_START + "1\n2\n0\n", """entry 9 of thread 0 breaks 61 MissingPick: The step asks for more picks than the entry has.
+    (LOCK, LOCK_START + "1\n2\n0\n", """\
+entry 9 of thread 0 breaks 61 MissingPick: The step asks for more picks than the entry has.
         no pick
 thread 0 can go on; its next step is 14:15  main b4  do release(u32 0) to b5
         asks for one of the threads 1, 2, which wait for lock 0
@@ -319,7 +323,8 @@ thread 1 waits for lock 0, which thread 0 has; its next step is 5:15  w b1  do r
 thread 2 waits for lock 0, which thread 0 has; its next step is 5:15  w b1  do release(u32 0) to b2
 """, 1),
     # One thread ended, and one waits for it no more.
-    (LOCK, LOCK_START + "0\n0\n2\n2\n2\n", """thread 0 waits for the end of thread 1; its next step is 16:15  main b6  exit
+    (LOCK, LOCK_START + "0\n0\n2\n2\n2\n", """\
+thread 0 waits for the end of thread 1; its next step is 16:15  main b6  exit
 thread 1 can go on; its next step is 4:15  w b0  do acquire(u32 0) to b1
 thread 2 ended
 """, 0),
@@ -331,7 +336,8 @@ def answered(bench):
     for line, text, status in (*ANSWERED, *CODES):
         bench.expect(line, f"mirace_show {line}", text, status, P=EXIT, S=SCHEDULE)
     for program, other, line, text, status in (*REFUSED, *PROSPECTS, *ORDERS, *LAID_OUT):
-        bench.expect(f"{line} of {program[:40]!r} and {other!r}", f"mirace_show {line}", text, status, P=program, S=other)
+        what = f"{line} of {program[:40]!r} and {other!r}"
+        bench.expect(what, f"mirace_show {line}", text, status, P=program, S=other)
     for line in FORMLESS:
         bench.expect(f"the words {line!r}", f"mirace_show {line}", USAGE, 2, P=EXIT, S=SCHEDULE)
 
@@ -342,8 +348,9 @@ def going_on(bench):
         bench.expect(f"what is next behind {schedule!r}", "mirace_show next P S", text, status, P=program, S=schedule)
     for program, order, entries, halt in FILLED:
         start = ALONE_START if program == ALONE else LOCK_START
-        bench.expect(f"the order {order!r}", "mirace_show fill P O", start + entries, int(halt != ""), P=program, O=order)
-        bench.expect(f"where the order {order!r} ends", "mirace_show halt P O", halt, int(halt != ""), P=program, O=order)
+        files, status = {"P": program, "O": order}, int(halt != "")
+        bench.expect(f"the order {order!r}", "mirace_show fill P O", start + entries, status, **files)
+        bench.expect(f"the order {order!r}: where it ends", "mirace_show halt P O", halt, status, **files)
 
 
 def compare(bench):

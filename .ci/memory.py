@@ -1,13 +1,15 @@
 """Memory, as runs of built programs show it; rows.py goes through the rows.
 
-- STORED: what is done to a block of four bytes, one after another, and its bytes behind that. RANGES: what lies in it, and what doesn't.
-- PICKED: addresses that are picked for a block beside it; ROWS: many allocations in no order, each pick against a walk over all of them.
+- STORED: what is done to a block of four bytes, one after another, and its bytes behind that. RANGES: what lies in
+  it, and what doesn't.
+- PICKED: addresses that are picked for a block beside it; ROWS: many allocations in no order, each pick against a
+  walk over all of them.
 - Changes that are drawn, against a plain list of bytes with their provenances; and a block of 2^40 bytes.
 """
 import random
 
 import limits
-from values import REASONS, report, told
+from values import report, told
 
 UNINITIALISED = "--"
 # A pair of bytes, and so many of a kind.
@@ -38,15 +40,17 @@ RANGES = (
     ("deref(%4, u16) = u16 7;", "OutOfBounds"),
     ("deref(%-2, u32) = u32 7;", "Misaligned"),
 )
-# The address, the size and the alignment of a block beside one of four bytes at 16, and the code of the rule that the pick breaks.
+# The address, the size and the alignment of a block beside one of four bytes at 16, and the code of the rule that the
+# pick breaks.
 PICKED = (
-    (0, 4, 4, "63 BadAddress"), (22, 4, 4, "63 BadAddress"), ((1 << 64) - 4, 5, 4, "63 BadAddress"), ((1 << 64) - 4, 4, 4, ""),
-    (16, 4, 4, "64 Reused 0 4"), (8, 9, 8, "64 Reused 0 4"), (8, 8, 8, ""), (20, 4, 4, ""), (18, 0, 1, ""), (19, 1, 1, "64 Reused 0 4"),
+    (0, 4, 4, "63 BadAddress"), (22, 4, 4, "63 BadAddress"), ((1 << 64) - 4, 5, 4, "63 BadAddress"),
+    ((1 << 64) - 4, 4, 4, ""), (16, 4, 4, "64 Reused 0 4"), (8, 9, 8, "64 Reused 0 4"), (8, 8, 8, ""), (20, 4, 4, ""),
+    (18, 0, 1, ""), (19, 1, 1, "64 Reused 0 4"),
 )
 # The addresses and sizes of allocations. Some overlap earlier ones, and some are empty.
 ROWS = (
-    (40, 8), (16, 8), (44, 2), (48, 16), (24, 0), (100, 1), (90, 10), (89, 1), (101, 9), (30, 10), (24, 6), (64, 25), (63, 1), (110, 30),
-    (8, 8), (2, 6), (44, 0), (20, 90), (140, 7), (139, 2), (150, 50), (147, 3), (300, 4), (201, 1),
+    (40, 8), (16, 8), (44, 2), (48, 16), (24, 0), (100, 1), (90, 10), (89, 1), (101, 9), (30, 10), (24, 6), (64, 25),
+    (63, 1), (110, 30), (8, 8), (2, 6), (44, 0), (20, 90), (140, 7), (139, 2), (150, 50), (147, 3), (300, 4), (201, 1),
 )
 # The addresses of the function, of its returned local and of two others, behind which a block is the allocation 0 4.
 START, LOCALS = "schedule 1\nstart 1048576 1048577\n", "0 1048584\n0 1048592\n"
@@ -54,12 +58,14 @@ BLOCK = "b0 regular: live p; live q; do allocate(u64 4, u64 4) -> p to b1;\n"
 RUNNING = "verdict running\nraces 0\n"
 # Writes a byte at each of 1,000 places that are 2^30 bytes apart, and looks at each of them, and at the bytes beside.
 LARGE = """b0 regular: live p; live i; i = i64 0; do allocate(u64 1099511627776, u64 1) -> p to b1;
-b1 regular: deref(%s, u8) = cast(u8, load(i)); i = add(load(i), i64 1); switch lt(load(i), i64 1000) { 1 => b1, _ => b2 };
+b1 regular: deref(%s, u8) = cast(u8, load(i)); i = add(load(i), i64 1);
+switch lt(load(i), i64 1000) { 1 => b1, _ => b2 };
 b2 regular: i = i64 0; goto b3;
 b3 regular: do assume(eq(load(deref(%s, u8)), cast(u8, load(i)))) to b4;
 b4 regular: i = add(load(i), i64 1); switch lt(load(i), i64 1000) { 1 => b3, _ => b5 };
 b5 regular: do print(load(i)) to b6;
 b6 regular: do print(load(deref(offset(load(p), i64 1), u8))) to b6;"""
+PLACE = "offset(load(p), mul(load(i), i64 1073741824))"
 
 
 def placed(text, at):
@@ -70,10 +76,12 @@ def placed(text, at):
 
 
 def block_of(statements, values):
-    """A program that prints values behind some statements on a block of the heap."""
-    blocks = "".join(f"c{k} regular: {statements if k == 0 else ''}do print({it}) to c{k + 1};\n" for k, it in enumerate(values))
-    exits = f"c{len(values)} regular: {'' if values else statements}do deallocate(load(p), u64 4, u64 4) to end;\nend regular: exit;"
-    return limits.program(local_types=b", p: raw, q: raw", blocks=(BLOCK.replace("b1", "c0") + blocks + exits).encode())
+    """A program that prints values behind some statements on a block of the heap, which it frees at last."""
+    parts = [f"do print({it}) to c{k + 1};" for k, it in enumerate(values)]
+    parts.append(f"do deallocate(load(p), u64 4, u64 4) to c{len(parts) + 1};")
+    parts[0] = statements + parts[0]
+    named = "".join(f"c{k} regular: {it}\n" for k, it in enumerate((*parts, "exit;")))
+    return limits.program(local_types=b", p: raw, q: raw", blocks=(BLOCK.replace("b1", "c0") + named).encode())
 
 
 def reported(bench, what, program, wanted):
@@ -99,12 +107,9 @@ def blocks(bench):
     reported(bench, "1,000 places of 2^40 bytes", program, ["1000", "InvalidValue"])
 
 
-PLACE = "offset(load(p), mul(load(i), i64 1073741824))"
-
-
 def picks(bench):
-    """Each pick beside a block, also where this is freed; and many picks, each against a walk over all that there are: the first of
-    those that it meets is told."""
+    """Each pick beside a block, also where this is freed; and many picks, each against a walk over all that there
+    are: the first of those that it meets is told."""
     for address, size, align, wanted in PICKED:
         for freed in ("", "b1 regular: do deallocate(load(p), u64 4, u64 4) to b2;\n"):
             last = f"b{2 if freed else 1} regular: do allocate(u64 {size}, u64 {align}) -> q to b3;\nb3 regular: exit;"
@@ -126,8 +131,9 @@ def picks(bench):
 def picked(bench, made, row):
     """Whether a pick is lawful behind those that are made: the run tells it."""
     met = [n for n, it in enumerate(made) if set(range(it[0], sum(it))) & set(range(row[0], sum(row)))]
-    chain = "".join(f"b{n} regular: do allocate(u64 {it[1]}, u64 1) -> p to b{n + 1};\n" for n, it in enumerate((*made, row)))
-    program = limits.program(local_types=b", p: raw", blocks=f"{chain}b{len(made) + 1} regular: exit;".replace("b0 regular: ", "b0 regular: live p; ").encode())
+    blocks = [f"do allocate(u64 {it[1]}, u64 1) -> p to b{n + 1};" for n, it in enumerate((*made, row))]
+    named = "\n".join(f"b{n} regular: {it}" for n, it in enumerate(("live p; " + blocks[0], *blocks[1:], "exit;")))
+    program = limits.program(local_types=b", p: raw", blocks=named.encode())
     schedule = START + "0 1048584\n" + "".join(f"0 {it[0]}\n" for it in (*made, row))
     text = f"schedule {4 + len(made)} 64 Reused 0 {3 + met[0]}\n" if met else RUNNING
     bench.expect(f"{row} picked behind {made}", "run P S", text, 5 if met else 0, P=program, S=schedule)
@@ -135,14 +141,15 @@ def picked(bench, made, row):
 
 
 class Plain:
-    """Bytes one by one, each a number with its provenance, or none; and the statements that make them, in a global of 64 bytes that
-    has no provenance of its own."""
+    """Bytes one by one, each a number with its provenance, or none; and the statements that make them, in a global of
+    64 bytes that has no provenance of its own."""
 
     def __init__(self, chance):
         self.chance, self.bytes, self.statements = chance, [None] * 64, []
 
     def change(self):
-        """One change: numbers are stored, bytes are copied as they are, or made uninitialised, or a pointer is stored."""
+        """One change: numbers are stored, bytes are copied as they are, or made uninitialised, or a pointer is
+        stored."""
         at = self.chance.randrange(64)
         count = self.chance.randrange(1, 65 - at)
         kind = self.chance.randrange(4)
@@ -167,14 +174,15 @@ class Plain:
         self.statements.append(f"deref(global t + {at}, array({count}, u8)) = {value};")
 
     def looks(self):
-        """Values, each with what is wanted of it: all bytes that there are, the numbers of a pointer, and at last one thing that
-        has a reason against it: a byte that isn't there, or what a pointer leads to."""
+        """Values, each with what is wanted of it: all bytes that there are, the numbers of a pointer, and at last one
+        thing that has a reason against it: a byte that isn't there, or what a pointer leads to."""
         for at, byte in enumerate(self.bytes):
             if byte:
                 yield f"load(deref(global t + {at}, u8))", str(byte[0])
         pointers = [at for at in range(0, 64, 8) if all(self.bytes[at:at + 8])]
         for at in pointers:
-            yield f"transmute(u64, load(deref(global t + {at}, raw)))", str(int.from_bytes(bytes(it[0] for it in self.bytes[at:at + 8]), "little"))
+            number = int.from_bytes(bytes(it[0] for it in self.bytes[at:at + 8]), "little")
+            yield f"transmute(u64, load(deref(global t + {at}, raw)))", str(number)
         at = self.chance.choice(pointers or [0])
         if pointers:
             owners = {it[1] for it in self.bytes[at:at + 8]}
@@ -192,7 +200,8 @@ def drawn(bench):
         for _ in range(1 + number % 40):
             plain.change()
         values, wanted = zip(*plain.looks())
-        reported(bench, f"bytes of the number {number}", told(values, front, "", " ".join(plain.statements) + " "), list(wanted))
+        program = told(values, front, "", " ".join(plain.statements) + " ")
+        reported(bench, f"bytes of the number {number}", program, list(wanted))
 
 
 def compare(bench):

@@ -1,8 +1,8 @@
-"""Rows of the tables of texts.py, schedules.py, values.py, memory.py, runs.py and forms.py: the built programs run over files that are
-given as texts.
+"""Rows of the tables of texts.py, schedules.py, values.py, memory.py, runs.py and forms.py: the built programs run
+over files that are given as texts.
 
-`.ci/outputs` goes through all of them. By itself it takes the two programs, `python3 .ci/rows.py [PROGRAM COMPANION]`, and tells what
-fails.
+`.ci/outputs` goes through all of them. By itself it takes the two programs, `python3 .ci/rows.py [PROGRAM
+COMPANION]`, and tells what fails.
 """
 import os
 import subprocess
@@ -28,8 +28,8 @@ class Bench:
         self.judge, self.at, self.program, self.companion = judge, at, program, companion
 
     def ran(self, line, **files):
-        """What the words of a line write, and the status, where the files have these texts. `mirace_show` begins those of the
-        companion."""
+        """What the words of a line write, and the status, where the files have these texts. `mirace_show` begins
+        those of the companion."""
         words = line.split()
         is_shown = words[:1] == ["mirace_show"]
         for name, text in files.items():

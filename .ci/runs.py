@@ -1,16 +1,21 @@
-"""Runs of small programs, and races of steps that are made by hand, as the built programs tell them; rows.py goes through the rows.
+"""Runs of small programs, and races of steps that are made by hand, as the built programs tell them; rows.py goes
+through the rows.
 
-- PIECES: the first block of a program, a schedule, and what the run comes to. HALVES: what a run, its trace and its two witnesses
-  show.
-- WITNESSES: programs with a race, the entries of its witness and of the short one. (What other orders are drawn is in `mirace_cases`.)
-- BESIDE and LIMITS: steps in the language of examples/trace: two accesses that race or don't; numbers at their limits, and above.
+- PIECES: the first block of a program, a schedule, and what the run comes to. HALVES: what a run, its trace and its
+  two witnesses show.
+- WITNESSES: programs with a race, the entries of its witness and of the short one. (What other orders are drawn is
+  in `mirace_cases`.)
+- BESIDE and LIMITS: steps in the language of examples/trace: two accesses that race or don't; numbers at their
+  limits, and above.
 """
 import companion
 
-# What stands before and behind the first block: a global that points to its own last four bytes, the main function, and a block
-# that exits.
+# What stands before and behind the first block: a global that points to its own last four bytes, the main function,
+# and a block that exits.
 HEAD = "minirust 1\nglobal g align 8 { &g + 8 7*4 }\nfn main() -> r {\nlet r: unit, x: u32;\nb0 regular: "
 TAIL = "\nb1 regular: exit;\n}\nmain main\n"
+# A start and three steps, of which the first makes a local.
+LIVE = "16 32 64\n0 8192\n0\n0\n"
 PIECES = (
     # A program exits, and takes no entry behind that.
     ("exit;", "16 32 4096\n0\n", "verdict exit"),
@@ -28,16 +33,18 @@ PIECES = (
     # The main function does not return.
     ("return;", "16 32 64\n0\n", "verdict undefined 120 MainReturned"),
     # A print is kept; what is stored is loaded.
-    ("live x; x = u32 7; do print(load(x), true, i8 -5) to b1;", "16 32 64\n0 8192\n0\n0\n", "> 7 true -5\nverdict running"),
-    # A place is the pointer to the storage of its local: its address, and its provenance, through which the 7 is loaded.
+    ("live x; x = u32 7; do print(load(x), true, i8 -5) to b1;", LIVE, "> 7 true -5\nverdict running"),
+    # A place is the pointer to the storage of its local: its address, and its provenance, through which the 7 is
+    # loaded.
     ("live x; x = u32 7; do print(eq(addrof(raw, x), raw 8192), load(deref(addrof(raw, x), u32)), load(x)) to b1;",
-     "16 32 64\n0 8192\n0\n0\n", "> true 7 7\nverdict running"),
+     LIVE, "> true 7 7\nverdict running"),
     # A typed store through a pointer is what the local holds.
-    ("live x; deref(addrof(raw, x), u32) = u32 7; do print(load(x)) to b1;", "16 32 64\n0 8192\n0\n0\n", "> 7\nverdict running"),
+    ("live x; deref(addrof(raw, x), u32) = u32 7; do print(load(x)) to b1;", LIVE, "> 7\nverdict running"),
     # A print without arguments is an empty line.
     ("do print() to b1;", "16 32 64\n0\n", "> \nverdict running"),
     # A global holds a pointer.
-    ("do print(load(deref(load(deref(global g + 0, raw)), u32))) to b1;", "16 32 64\n0\n", "> 117901063\nverdict running"),
+    ("do print(load(deref(load(deref(global g + 0, raw)), u32))) to b1;", "16 32 64\n0\n",
+     "> 117901063\nverdict running"),
     # An address alone gives no access.
     ("do print(load(deref(raw 32, u32))) to b1;", "16 32 64\n0\n", "verdict undefined 104 NoProvenance"),
     # The case of the number is taken.
@@ -67,8 +74,8 @@ b3 regular: exit;
 main main
 """
 HALVES_START, HALVES_SPAWNS = "schedule 1\nstart 16 17 18 4096 32\n", ("0 8192", "0 8200", "0 33 8208", "0 34 8216")
-# The entries behind the spawns, or all of them where one is refused; the prints and the verdict; the races; the threads of the witness
-# and of the short one behind the spawns.
+# The entries behind the spawns, or all of them where one is refused; the prints and the verdict; the races; the
+# threads of the witness and of the short one behind the spawns.
 HALVES_RUNS = (
     # The load races with the second thread's store.
     ("1 1 2 2 0 0 0", "> 513\nverdict exit\n", ((7, 9),), "1 1 2 0", "1 2 0"),
@@ -104,8 +111,8 @@ b2 regular: deref(global g + 0, u8) = u8 %s; exit;
 main main
 """
 BESIDES_START = ("schedule 1\nstart 16 17 18 4096 32", "0 8192", "0 33 8208", "0 34 8216")
-# The threads behind the spawns, and those of the witness, whose last two steps race, and of the short one. What a third thread did
-# beside stands in front of both, and is left out of the short one.
+# The threads behind the spawns, and those of the witness, whose last two steps race, and of the short one. What a
+# third thread did beside stands in front of both, and is left out of the short one.
 WITNESSES = (("2 1 0", "2 1 0", "1 0"), ("2 2 1 1 0", "2 2 1 0", "1 0"), ("1 2 0", "2 1 0", "1 0"))
 # Accesses of two steps that nothing orders, and whether they race.
 BESIDE = (
@@ -146,9 +153,11 @@ LIMITS = (
 def pieces(bench):
     """What each of the small runs comes to."""
     for piece, lines, wanted in PIECES:
-        is_run = "verdict" in wanted
-        text, status = f"{wanted}\nraces 0\n" if is_run else f"{wanted}\n", (1 if "undefined" in wanted else 0) if is_run else 5
-        bench.expect(f"{piece} under {lines!r}", "run P S", text, status, P=HEAD + piece + TAIL, S="schedule 1\nstart " + lines)
+        text, status = f"{wanted}\nraces 0\n", int("undefined" in wanted)
+        if "verdict" not in wanted:
+            text, status = f"{wanted}\n", 5
+        program, schedule = HEAD + piece + TAIL, "schedule 1\nstart " + lines
+        bench.expect(f"{piece} under {lines!r}", "run P S", text, status, P=program, S=schedule)
 
 
 def witness_of(races, start, entries):
@@ -206,7 +215,8 @@ def steps(bench):
         bench.expect(f"a step at its limit: {line}", "offline T", "races 0\n", 0, T=trace)
         wrote, status = bench.ran("offline T", T=trace[:at] + new + trace[at + width:])
         told = [f"trace {place} 71 BadField\n".encode() for place in (at, at + 8)]
-        bench.judge(f"{line}, and {other} in place of {number}", wrote in told and status == 9, f"{wrote} and {status}, at {at}")
+        what = f"{line}, and {other} in place of {number}"
+        bench.judge(what, wrote in told and status == 9, f"{wrote} and {status}, at {at}")
 
 
 def compare(bench):

@@ -1,8 +1,8 @@
-"""The texts of schedules, orders and traces, as the built programs read them: rows of a text, and of what is told of it; rows.py goes
-through them.
+"""The texts of schedules, orders and traces, as the built programs read them: rows of a text, and of what is told of
+it; rows.py goes through them.
 
-- UPGRADED: schedules, and their texts in version 2, which have all that was read: the numbers at the ends of their ranges, in both
-  versions. FAULTS: texts with the line and the code of their first fault.
+- UPGRADED: schedules, and their texts in version 2, which have all that was read: the numbers at the ends of their
+  ranges, in both versions. FAULTS: texts with the line and the code of their first fault.
 - NO_STARTS and NO_ENTRIES: what is no line of either version, at each line that it may stand on.
 - ORDERS: orders with the turns that they have, or their first fault. TRACES: bytes that are no trace.
 """
@@ -14,7 +14,8 @@ NAMES = {50: "BadHeader", 51: "BadLine", 52: "TooLong", 70: "BadMagic", 71: "Bad
 MOST = 1 << 22
 UPGRADED = (
     ("schedule 1\nstart 16 4096\n0\n", "schedule 2\nstart 16 4096\n0\n"),
-    ("schedule 1\nstart\n4294967295 18446744073709551615 0\n", "schedule 2\nstart\n4294967295 18446744073709551615 0\n"),
+    ("schedule 1\nstart\n4294967295 18446744073709551615 0\n",
+     "schedule 2\nstart\n4294967295 18446744073709551615 0\n"),
     ("schedule 1\nstart\n", "schedule 2\nstart\n"),
     ("schedule 2\nstart 16 4096\n0*2\n", "schedule 2\nstart 16 4096\n0*2\n"),
     ("schedule 2\nstart\n4294967295\n0*3\n0 7\n0\n", "schedule 2\nstart\n4294967295\n0*3\n0 7\n0\n"),
@@ -121,8 +122,9 @@ ORDERS = (
     # One turn too many.
     ("0\n0*1048576", "line 2 code 52"),
 )
-# A main thread and two others that go round for ever, and the lines of the first three steps in the schedule that `fill` makes: it takes
-# the addresses from 65,536 on, two for the functions and one for the returned local, and what has no size takes one too.
+# A main thread and two others that go round for ever, and the lines of the first three steps in the schedule that
+# `fill` makes: it takes the addresses from 65,536 on, two for the functions and one for the returned local, and what
+# has no size takes one too.
 THREE = """minirust 1
 fn w(p) -> r {
 let p: raw, r: unit;
@@ -137,16 +139,18 @@ b2 regular: goto b2;
 main main
 """
 START, SPAWNED = b"schedule 1\nstart 65536 65537 65538\n", b"0 65540\n0 65544 65552\n0 65560 65568\n"
-# The steps of a program, the entries of a schedule that has no place for its picks there or goes on behind its end, and the line of the
-# entry that is told in each version.
+# The steps of a program, the entries of a schedule that has no place for its picks there or goes on behind its end,
+# and the line of the entry that is told in each version.
 STEPS = ("live x;", "live y;", "x = u8 1;", "x = u8 2;", "x = u8 3;", "live z;", "x = u8 4;")
 ONE = "schedule 1\nstart 16 4096\n0 8192\n0 8200\n0\n0\n0\n0 8208\n0\n0\n"
 TWO = "schedule 2\nstart 16 4096\n0 8192\n0 8200\n0*3\n0 8208\n0*2\n"
 PLACES = ((0, 3, 3, "62 ExtraPick"), (1, 4, 4, "62 ExtraPick"), (2, 6, 5, "66 AfterStop"), (3, 7, 5, "66 AfterStop"),
           (4, 8, 6, "66 AfterStop"), (5, 8, 6, "62 ExtraPick"), (6, 10, 7, "66 AfterStop"))
+# The commands that read a program and a schedule.
+READING = ("run P S", "json P S", "short P S", "shuffle P S 7", "trace P S")
 STEP = b"MRTR\1\1\0\0\0" + b"\0" * 46
-# Bytes, and the place and the code of their first fault. The last count of accesses is believed only as they come: the first of them
-# has length 0.
+# Bytes, and the place and the code of their first fault. The last count of accesses is believed only as they come:
+# the first of them has length 0.
 TRACES = (
     (b"MRTR", 0, 70),
     (b"MRTR\2\0\0\0\0", 0, 70),
@@ -163,8 +167,8 @@ def refused(line, code):
 
 
 def lines(bench):
-    """Each line that is none, at the first line that it may stand on, with good ones and bad ones behind it, and at the last; and
-    each without an LF behind it."""
+    """Each line that is none, at the first line that it may stand on, with good ones and bad ones behind it, and at
+    the last; and each without an LF behind it."""
     rows = [("", line, behind, 2) for line in NO_STARTS for behind in ("\n0\n1 5\n", "\n\n00\n", "\n")]
     rows += [("start 16\n", line, behind, 3) for line in NO_ENTRIES for behind in ("\n0\n1 5\n", "\n\n00\n")]
     rows += [("start 16\n0\n1 5\n2\n", line, "\n", 6) for line in NO_ENTRIES]
@@ -172,7 +176,8 @@ def lines(bench):
     for before, line, behind, at in rows:
         for version in (1, 2):
             text = f"schedule {version}\n{before}{line}{behind}"
-            bench.expect(f"no line of version {version}: {line!r} behind {before!r}", "upgrade S", refused(at, 51), 5, S=text)
+            what = f"no line of version {version}: {line!r} behind {before!r}"
+            bench.expect(what, "upgrade S", refused(at, 51), 5, S=text)
 
 
 def schedules(bench):
@@ -201,10 +206,11 @@ def places(bench):
 
 
 def filled(turns, threads):
-    """The lines of the schedule that these turns become, where so many threads go round for ever; and the line of the first turn that
-    can't go on: of a thread that isn't there, or with a receiver where none is asked for."""
+    """The lines of the schedule that these turns become, where so many threads go round for ever; and the line of the
+    first turn that can't go on: of a thread that isn't there, or with a receiver where none is asked for."""
     lines = b""
-    for line, thread, receiver in (it.replace(">", ":").split(":") if ">" in it else (*it.split(":"), "") for it in turns.split()):
+    for turn in turns.split():
+        line, thread, receiver = re.fullmatch("([0-9]+):([0-9]+)>?([0-9]*)", turn).groups()
         if int(thread) >= threads or receiver:
             why = "60 NotEnabled" if int(thread) >= threads else "62 ExtraPick"
             return lines, f"# line {line} can't go on: {why}\n".encode()
@@ -217,14 +223,25 @@ def orders(bench):
     for text, wanted in ORDERS:
         if wanted.startswith("line"):
             line, code = map(int, re.findall("[0-9]+", wanted))
-            bench.expect(f"the first fault of the order {text!r}", "mirace_show fill P O", refused(line, code), 5, P=THREE, O=text)
+            what = f"the first fault of the order {text!r}"
+            bench.expect(what, "mirace_show fill P O", refused(line, code), 5, P=THREE, O=text)
             continue
         alone = limits.program(blocks=b"b0 regular: goto b0;")
-        for what, program, front, order, threads in (("one thread", alone, b"schedule 1\nstart 65536 65537\n", text, 1),
+        for kind, program, front, order, threads in (("one thread", alone, b"schedule 1\nstart 65536 65537\n", text, 1),
                                                      ("three threads", THREE, START + SPAWNED, "0*3 " + text, 3)):
             lines, halt = filled(wanted, threads)
-            bench.expect(f"the order {text!r} of {what}", "mirace_show fill P O", front + lines, int(halt != b""), P=program, O=order)
-            bench.expect(f"where the order {text!r} of {what} ends", "mirace_show halt P O", halt, int(halt != b""), P=program, O=order)
+            what, files, status = f"the order {text!r} of {kind}", {"P": program, "O": order}, int(halt != b"")
+            bench.expect(what, "mirace_show fill P O", front + lines, status, **files)
+            bench.expect(f"{what}: where it ends", "mirace_show halt P O", halt, status, **files)
+
+
+def lengths(bench):
+    """A program and a schedule that are a byte too long, by each command that reads one."""
+    text, order = " " * (limits.TEXT + 1), "0" * (limits.SCHEDULE + 1)
+    for line in ("check P", *READING, "auto P 7 1"):
+        bench.expect(f"a program that is too long, by {line}", line, "text 1 1 3 LongText\n", 3, P=text, S=ONE)
+    for line in (*READING, "upgrade S"):
+        bench.expect(f"a schedule that is too long, by {line}", line, refused(1, 52), 5, P=limits.program(), S=order)
 
 
 def traces(bench):
@@ -240,4 +257,5 @@ def compare(bench):
     schedules(bench)
     places(bench)
     orders(bench)
+    lengths(bench)
     traces(bench)

@@ -1,8 +1,10 @@
-"""The texts of programs, as `mirace check` reads them: rows of a text, and of what is told of it; rows.py goes through them.
+"""The texts of programs, as `mirace check` reads them: rows of a text, and of what is told of it; rows.py goes
+through them.
 
-- CONSTRUCTS: pieces of a text that denotes a program, by what stands around them. Whether it keeps the rules is another matter.
-- FAULTS: texts with the line, the column and the code of their first fault. Of most codes there is a row at the first, a middle and
-  the last token.
+- CONSTRUCTS: pieces of a text that denotes a program, by what stands around them. Whether it keeps the rules is
+  another matter.
+- FAULTS: texts with the line, the column and the code of their first fault. Of most codes there is a row at the
+  first, a middle and the last token.
 - REPEATED: what a text repeats so many times, and what is one too many.
 - The canonical text of programs that are written in another way; and of many names.
 """
@@ -13,8 +15,8 @@ import limits
 
 TOP = os.path.dirname(os.path.dirname(os.path.abspath(__file__)))
 STORED = f"{TOP}/crates/mirace_cases/stdout"
-NAMES = {1: "BadByte", 2: "BadNumber", 3: "LongText", 4: "Unexpected", 5: "UnknownName", 6: "DoubleName", 7: "TooDeep", 8: "TooMany",
-         9: "Exposed"}
+NAMES = {1: "BadByte", 2: "BadNumber", 3: "LongText", 4: "Unexpected", 5: "UnknownName", 6: "DoubleName", 7: "TooDeep",
+         8: "TooMany", 9: "Exposed"}
 
 TYPES = (
     "u8", "u16", "u32", "u64", "u128", "i8", "i16", "i32", "i64", "i128", "bool", "raw", "fnptr", "unit", "ref 4 4",
@@ -57,8 +59,8 @@ INTRINSICS = (
 ITEMS = (
     "0", "255", "0*1", "1*1048576", "?", "?*2", "&g + 0", "&f + 18446744073709551615", "1 2 ? 3", "",
 )
-# Whole programs: the one that the guide begins with, one whose names are words of the grammar that aren't kept for it, with a comment
-# and other blanks, one whose names begin with `_`, and one of edition 2.
+# Whole programs: the one that the guide begins with, one whose names are words of the grammar that aren't kept for
+# it, with a comment and other blanks, one whose names begin with `_`, and one of edition 2.
 PROGRAMS = (
     "minirust 1\nglobal g align 8 { 0*8 &main + 4 }\nfn main() -> r {\nlet r: unit, x: u64;\nb0 regular: live x; x "
     "= load(deref(global g + 0, u64)); do print(load(x)) to b1;\nb1 regular: exit;\n}\nmain main\n",
@@ -71,13 +73,13 @@ BACK = "; c cleanup: resume; d catch: goto d; e terminate: abort; } main f"
 # The pieces of a kind, and what stands before and behind each.
 CONSTRUCTS = (
     ("a program", PROGRAMS, "", ""),
-    ("a type", TYPES, "minirust 1 global g align 1 { } fn f() -> r { let r: unit, x: ", "; b regular: live x; exit" + BACK),
+    ("a type", TYPES, FRONT.replace("u8; b regular: ", ""), "; b regular: live x; exit" + BACK),
     ("a value", VALUES, FRONT + "x = ", "; exit" + BACK),
     ("an operator", OPERATORS, FRONT + "x = ", "(u8 1, load(x)); exit" + BACK),
     ("a statement", STATEMENTS, FRONT, "; exit" + BACK),
     ("a terminator", TERMINATORS, FRONT + "live x; ", BACK),
     ("an intrinsic", INTRINSICS, FRONT + "live x; do ", "(u8 1, load(x)) -> x to b" + BACK),
-    ("an item", ITEMS, "minirust 1 global g align 1 { ", " } fn f() -> r { let r: unit, x: u8; b regular: live x; exit" + BACK),
+    ("an item", ITEMS, FRONT.split("}")[0], "}" + FRONT.split("}")[1] + "live x; exit" + BACK),
 )
 # Texts, each with the line, the column and the code of its first fault.
 FAULTS = (
@@ -160,11 +162,12 @@ FAULTS = (
     ("minirust 1 fn f ( ->", 1, 19, 4),
     ("minirust 1 main - 0", 1, 17, 4),
 )
-# What a text repeats: what stands before, what is repeated, what closes it as often, and what stands behind; how often it is repeated,
-# around what stands inside; and the line, the column and the code of the first fault, or none. A bracket too many is told, of any
-# kind, also where no bracket may stand.
+# What a text repeats: what stands before, what is repeated, what closes it as often, and what stands behind; how
+# often it is repeated, around what stands inside; and the line, the column and the code of the first fault, or none.
+# A bracket too many is told, of any kind, also where no bracket may stand.
 BLOCK = ("minirust 1\nfn f() -> r { let r: unit; b regular:\n", "live r;\n", "", "exit; }\nmain f\n")
-BRACKETS = ("minirust 1\nfn f() -> r { let r: unit;\nb regular: do print(", "neg(", ")", ") to c;\nc regular: exit; }\nmain f\n")
+BRACKETS = ("minirust 1\nfn f() -> r { let r: unit;\nb regular: do print(", "neg(", ")",
+            ") to c;\nc regular: exit; }\nmain f\n")
 POSTFIXES = ("minirust 1\nfn f() -> r { let r: unit;\nb regular: mention r\n", ".0 ", "", ";\nexit; }\nmain f\n")
 REPEATED = (
     (BLOCK, 4096, "", None),
@@ -226,8 +229,8 @@ def tight(text):
 
 
 def canonical(bench):
-    """The canonical text of the smallest programs, of one with every construct that is written with few blanks, and of one with
-    many names, each of which is used before it is defined."""
+    """The canonical text of the smallest programs, of one with every construct that is written with few blanks, and
+    of one with many names, each of which is used before it is defined."""
     for text in SMALLEST:
         bench.expect("the smallest program", "check P", text[:10] + "\n" + SMALLEST_LINES, 0, P=text)
     with open(STORED, "rb") as it:

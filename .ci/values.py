@@ -1,4 +1,5 @@
-"""Numbers, types and bytes, as runs of built programs show them: rows of a table of operators or of types; rows.py goes through them.
+"""Numbers, types and bytes, as runs of built programs show them: rows of a table of operators or of types; rows.py
+goes through them.
 
 - WRAPPING, DIVISIONS, BITS, SHIFTS, ORDERS, CASTS and SIGNS: operators at the edges of the types.
 - TYPES, BROKEN and CHUNKED: sizes, alignments, used bytes and broken rules of types.
@@ -56,8 +57,8 @@ BITS = (
     ("i128", -I128 - 1, I128, 0, -1, -1), ("u128", U128, 1, 1, U128, U128 - 1),
     ("i64", -1, -I64 - 1, -I64 - 1, -1, I64),
 )
-# The type and the number to be shifted, the amount's type and number, the results to the left and to the right, and whether the
-# unchecked shifts are defined.
+# The type and the number to be shifted, the amount's type and number, the results to the left and to the right, and
+# whether the unchecked shifts are defined.
 SHIFTS = (
     ("u8", 1, "u8", 9, 2, 0, False), ("u8", 1, "u8", 8, 1, 1, False), ("i8", -128, "u8", 8, -128, -128, False),
     ("i8", -128, "u8", 7, 0, -1, True), ("u8", 200, "i8", -1, 0, 1, False), ("u64", U64, "u8", 63, I64 + 1, 1, True),
@@ -167,8 +168,8 @@ BROKEN = (
      "known 0", 26),
     ("enum size 4 align 1 disc u8 { 0: array(2, tuple size 2 align 1 { 1: u8 }) tag { 1: u16 = 1 } } known 0", 26),
 )
-# The fields and the chunks of a union of 2,048 bytes, behind which many chunks without a byte stand, and whether a used byte lies in no
-# chunk.
+# The fields and the chunks of a union of 2,048 bytes, behind which many chunks without a byte stand, and whether a
+# used byte lies in no chunk.
 CHUNKED = (
     # A used byte of the first, a middle and the last element in no chunk; the padding may be.
     ("0: array(4, tuple size 3 align 1 { 1: u8 })", "1 1, 4 1, 7 1, 10 1", False),
@@ -228,8 +229,8 @@ MAYBE = (
     "} tag { 0: u8 = 1 } } branch 0 u8 { 0 => known 0, 1 => known 1, _ => invalid }")
 # A byte and, behind one of padding, two more.
 BYTE_OR_TWO = "union size 4 align 2 { 0: u8, 2: u16 } chunks { 0 1, 2 2 }"
-# A type and bytes, a word a byte: two digits, and behind `@` the allocation of its provenance, where it has one; what they mean; and the
-# bytes that this is written as.
+# A type and bytes, a word a byte: two digits, and behind `@` the allocation of its provenance, where it has one; what
+# they mean; and the bytes that this is written as.
 MEANT = (
     (PAIR, "01 07 -- 07 02 00 00 00", "tuple of 2", "01 -- -- -- 02 00 00 00"),
     (PAIRS, "01 02 03 04 05 06 07 08", "tuple of 2",
@@ -261,7 +262,8 @@ MEANT = (
      "10@0.0 10@0.0 10@0.0 10@0.0 10@0.0 10@0.0 10@0.0 10@0.0"),
     ("raw", "00@0.0 00@0.0 00@0.0 00@0.0 00@0.0 00@0.0 00@0.0 00@1.7", "0", "00 00 00 00 00 00 00 00"),
 )
-# A type, the bytes of an allocation, or a pointer to its own first one; the offset of a load; and what is loaded, or the reason against it.
+# A type, the bytes of an allocation, or a pointer to its own first one; the offset of a load; and what is loaded, or
+# the reason against it.
 LOADED = (
     # Bytes of several provenances, in three runs.
     ("u32", "01@1.7 02@1.7 03 04@1.7", 0, "67305985"),
@@ -279,13 +281,18 @@ LOADED = (
     ("ref 9 8", "itself", 0, "DanglingReference"),
     ("ref 8 32", "itself", 0, "InvalidValue"),
 )
-RULES = {20: "TypeSize", 21: "TypeAlign", 22: "FieldOutside", 23: "FieldOverlap", 24: "SizeMultiple", 25: "EnumVariant", 26: "EnumTag",
-         27: "EnumTree", 28: "UnionChunk"}
-REASONS = {"Misaligned": 103, "NoProvenance": 104, "OutOfBounds": 106, "InvalidValue": 107, "DanglingReference": 108, "Overflow": 109,
-           "ZeroDivisor": 110, "DivOverflow": 111, "ShiftAmount": 112}
-# Globals, with the addresses that `auto` draws for them, the first ones behind that of the only function: two whose provenance some
-# bytes have, one that takes room, and the one whose bytes are looked at. Its address is a multiple of 16, and of no more.
-GLOBALS = "global a align 8 {{ 0*8 }}\nglobal b align 8 {{ 0*8 }}\nglobal c align 16 {{ 0*16 }}\nglobal t align 16 {{ ?*{} }}\n"
+RULES = {20: "TypeSize", 21: "TypeAlign", 22: "FieldOutside", 23: "FieldOverlap", 24: "SizeMultiple", 25: "EnumVariant",
+         26: "EnumTag", 27: "EnumTree", 28: "UnionChunk"}
+REASONS = {"Misaligned": 103, "NoProvenance": 104, "OutOfBounds": 106, "InvalidValue": 107, "DanglingReference": 108,
+           "Overflow": 109, "ZeroDivisor": 110, "DivOverflow": 111, "ShiftAmount": 112}
+# Globals, with the addresses that `auto` draws for them, the first ones behind that of the only function: two whose
+# provenance some bytes have, one that takes room, and the one whose bytes are looked at. Its address is a multiple of
+# 16, and of no more.
+GLOBALS = """global a align 8 {{ 0*8 }}
+global b align 8 {{ 0*8 }}
+global c align 16 {{ 0*16 }}
+global t align 16 {{ ?*{} }}
+"""
 OWNERS = {"0.0": ("a", 65544), "1.7": ("b", 65552)}
 LOWEST_BYTE = 65584 % 256
 # A type of one byte that keeps it as it is.
@@ -300,13 +307,15 @@ ASKED = """thread 0 can go on; its next step is 4:13  main b0  live x
 
 def told(values, front="", local_types="", before=""):
     """A program that prints values, each on a line, behind some statements."""
-    blocks = "".join(f"c{k} regular: {before if k == 0 else ''}do print({it}) to c{k + 1};\n" for k, it in enumerate(values))
-    exits = f"c{len(values)} regular: {'' if values else before}exit;"
-    return limits.program(front.encode(), local_types.encode(), (blocks + exits).encode())
+    blocks = [f"do print({it}) to c{k + 1};" for k, it in enumerate(values)] + ["exit;"]
+    blocks[0] = before + blocks[0]
+    named = "\n".join(f"c{k} regular: {it}" for k, it in enumerate(blocks))
+    return limits.program(front.encode(), local_types.encode(), named.encode())
 
 
 def report(wanted):
-    """What is written where these texts are printed, of which the last may be the reason against its value; and the status."""
+    """What is written where these texts are printed, of which the last may be the reason against its value; and the
+    status."""
     if wanted and wanted[-1] in REASONS:
         *lines, reason = wanted
         verdict, status = f"undefined {REASONS[reason]} {reason}", 1
@@ -336,7 +345,8 @@ def arithmetic(bench):
         pair = f", o: tuple size {2 * size} align {size} {{ 0: {kind}, {size}: bool }}"
         values = [f"{operator}({numbers})", "load(o.0)", "load(o.1)", f"{operator}_unchecked({numbers})"]
         results = [wanted, wanted, is_over, "Overflow" if is_over else wanted]
-        operated(bench, f"{operator} of {numbers}", values, results, pair, f"live o; o = {operator}_overflow({numbers}); ")
+        before = f"live o; o = {operator}_overflow({numbers}); "
+        operated(bench, f"{operator} of {numbers}", values, results, pair, before)
     for kind, one, other, *wanted in DIVISIONS:
         for operator, result in zip(("div", "rem"), wanted):
             value = f"{operator}({kind} {one}, {kind} {other})"
@@ -361,7 +371,8 @@ def others(bench):
         value = f"cast({target}, {source} {number})"
         operated(bench, value, [value], [wanted])
     for kind, number, negated, flipped in SIGNS:
-        operated(bench, f"signs of {kind} {number}", [f"neg({kind} {number})", f"not({kind} {number})"], [negated, flipped])
+        values = [f"neg({kind} {number})", f"not({kind} {number})"]
+        operated(bench, f"signs of {kind} {number}", values, [negated, flipped])
 
 
 def ruled(bench, what, text, rule):
@@ -373,11 +384,12 @@ def ruled(bench, what, text, rule):
 
 
 def types(bench):
-    """The size and the alignment of a type by the address that its local asks for. A byte carries a part of a value where a union of all
-    other bytes leaves out one that is needed."""
+    """The size and the alignment of a type by the address that its local asks for. A byte carries a part of a value
+    where a union of all other bytes leaves out one that is needed."""
     for text, size, align, used in TYPES:
         program = limits.program(local_types=b", x: " + text.encode(), blocks=b"b0 regular: live x; exit;")
-        bench.expect(f"{text}: size and alignment", "mirace_show next P S", ASKED % (size, align), 0, P=program, S=NO_ENTRY)
+        asked, what = ASKED % (size, align), f"{text}: size and alignment"
+        bench.expect(what, "mirace_show next P S", asked, 0, P=program, S=NO_ENTRY)
         for at, mark in enumerate(used[:size]):
             chunks = f"0 {at}, {at + 1} {size - at - 1}"
             around = f"union size {size} align {align} {{ 0: {text} }} chunks {{ {chunks} }}"
@@ -388,7 +400,9 @@ def types(bench):
     for fields, chunks, is_left_out in CHUNKED:
         text = f"union size 2048 align 1 {{ {fields} }} chunks {{ {chunks}, {empty} }}"
         ruled(bench, f"{fields} in the chunks {chunks}", text, 28 if is_left_out else 0)
-    for text, wanted in (("unit", []), (NEVER, [UNINITIALISED]), (f"array(0, {NEVER})", []), (f"array(1, {NEVER})", [UNINITIALISED])):
+    whether = (("unit", True), (NEVER, False), (f"array(0, {NEVER})", True), (f"array(1, {NEVER})", False))
+    for text, has_value in whether:
+        wanted = [] if has_value else ["InvalidValue"]
         operated(bench, f"whether {text} has a value", [], wanted, f", x: {text}", "live x; validate x; ")
 
 
@@ -433,7 +447,8 @@ def meant(bench, kind, words, value, written):
 
 
 def loaded(bench, kind, words, offset, wanted):
-    """A load from an offset of an allocation: a number, a truth, a pointer that leads to the first byte, or the reason against it."""
+    """A load from an offset of an allocation: a number, a truth, a pointer that leads to the first byte, or the
+    reason against it."""
     what, load = f"{kind} from {offset} of {words}", f"load(deref(global t + {offset}, {kind}))"
     if wanted in REASONS:
         looked_at(bench, what, kind, words, [], [wanted], f"x = {load}; ")

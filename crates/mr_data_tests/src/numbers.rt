@@ -1,5 +1,4 @@
 //! What is made from a number: programs, by their canonical texts, and choices.
-use crate::expect_same;
 use mr_gen::program;
 use mr_parse::parse;
 use mr_print::print;
@@ -8,6 +7,11 @@ use std::alloc::{AllocError, Global};
 use std::process::Abort;
 use std::string::String;
 use std::test::Fail;
+
+// What is told is what is wanted. A failure tells the name of the case.
+fn expect_same(rt: &impl Abort, told: &str, wanted: &str, case: &str) {
+    assert_eq!(rt; told, wanted, "{case}");
+}
 
 // The canonical text of the program of a number.
 fn generated(alloc: Global, number: u64) -> Result<String, AllocError> {

@@ -1,8 +1,8 @@
-//! Bytes that spell the footprints of a run, their faults, and the races that they show.
+//! Bytes that are read as the footprints of a run, and their faults: `decode` tells what `offline` tells, and is
+//! undone by `encode`.
 use mr_event::Pair;
 use mr_trace::{
-    BAD_FIELD, BAD_MAGIC, OutOfMemory, TOO_LONG, TRAILING, TRUNCATED, TraceFault, TraceRule,
-    decode, encode, offline,
+    BAD_FIELD, BAD_MAGIC, OutOfMemory, TRAILING, TRUNCATED, TraceFault, decode, encode, offline,
 };
 use std::alloc::Global;
 use std::test::Fail;
@@ -19,15 +19,6 @@ fn put_store(thread: u8, out: &mut Vec<u8>) -> Result<(), OutOfMemory> {
         1, 0, 0, 0, 0, 0, 0, 0, 1, 16, 0, 0, 0, 0, 0, 0, 0, 4, 0, 0, 0, 0, 0, 0, 0,
     ])?;
     out.extend_from_slice(&[0u8; 32])
-}
-
-#[test]
-fn a_run_without_steps(rt: HostRuntime) -> Result<(), Fail> {
-    let mut out = vec![in rt.alloc(); 9]?;
-    encode(rt.alloc(), &[], &mut out)?;
-    assert_eq!(rt; out.as_slice(), b"\x09MRTR\x01\0\0\0\0".as_slice());
-    assert!(rt; matches!(offline(rt.alloc(), &out[1..]), Ok(pairs) if pairs.is_empty()));
-    Ok(())
 }
 
 // The offset and the code of the fault of bytes, by both ways.
@@ -61,18 +52,6 @@ fn first_faults(rt: HostRuntime) -> Result<(), Fail> {
         bytes[k] = 255;
     }
     assert_eq!(rt; faults(alloc, &bytes), twice(32, BAD_FIELD));
-    Ok(())
-}
-
-#[test]
-fn rules_are_numbered(rt: HostRuntime) -> Result<(), Fail> {
-    let codes = [BAD_MAGIC, BAD_FIELD, TRUNCATED, TRAILING, TOO_LONG];
-    let names = ["BadMagic", "BadField", "Truncated", "Trailing", "TooLong"];
-    for k in 0..5 {
-        let rule = TraceRule::of_code(codes[k]).ok_or("a rule")?;
-        assert_eq!(rt; (rule.code(), rule.name()), (70 + k as u8, names[k]));
-    }
-    assert!(rt; TraceRule::of_code(69).is_none() && TraceRule::of_code(75).is_none());
     Ok(())
 }
 
