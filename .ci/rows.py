@@ -9,6 +9,14 @@ import subprocess
 import sys
 import tempfile
 
+sys.dont_write_bytecode = True
+import forms  # noqa: E402
+import memory  # noqa: E402
+import runs  # noqa: E402
+import schedules  # noqa: E402
+import texts  # noqa: E402
+import values  # noqa: E402
+
 TOP = os.path.dirname(os.path.dirname(os.path.abspath(__file__)))
 PROGRAMS = (f"{TOP}/crates/mirace/out/mirace", f"{TOP}/crates/mirace_show/out/mirace_show")
 
@@ -49,12 +57,6 @@ class Bench:
 
 def compare(judge, programs):
     """All rows of all tables."""
-    import forms
-    import memory
-    import runs
-    import schedules
-    import texts
-    import values
     for tables in (texts, schedules, values, memory, runs, forms):
         with tempfile.TemporaryDirectory() as at:
             tables.compare(Bench(judge, at, *programs))

@@ -33,7 +33,10 @@ fn drawer(alloc: Global, fails: u64) -> Result<Drawer, OutOfMemory> {
 
 // The number that a line begins with, and what stands behind it.
 fn first_number(line: &str) -> (u64, &str) {
-    let (word, rest) = line.split_once(' ').unwrap_or((line, ""));
+    let (word, rest) = match line.split_once(' ') {
+        Some((word, rest)) => (word, rest),
+        None => (line, ""),
+    };
     match u64::from_str_radix(word, 10) {
         Ok(number) => (number, rest),
         Err(_) => (0, rest),
@@ -49,7 +52,7 @@ pub fn in_drawer(rt: &HostRuntime, line: &str) -> io::Result<u8> {
     let (step, line) = first_number(line);
     let words = words_of(rt, line)?;
     let mut files = drawer(rt.alloc(), fails)?;
-    let mut out = Tray::new(rt.alloc(), room as usize, step.max(1) as usize)?;
+    let mut out = Tray::new(rt.alloc(), room as usize, (step as usize).max(1))?;
     let status = mirace(rt.alloc(), words.as_slice(), &mut files, &mut out);
     let text = String::from_utf8_lossy(rt.alloc(), out.taken())?;
     println!(rt; "{:?}", text.as_str())?;
