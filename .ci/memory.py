@@ -7,6 +7,7 @@
 - Changes that are drawn, against a plain list of bytes with their provenances; and a block of 2^40 bytes.
 """
 import random
+import re
 
 import limits
 from values import report, told
@@ -68,11 +69,9 @@ b6 regular: do print(load(deref(offset(load(p), i64 1), u8))) to b6;"""
 PLACE = "offset(load(p), mul(load(i), i64 1073741824))"
 
 
-def placed(text, at):
-    """A statement, where `%N` is the pointer to a place of the block."""
-    for offset in range(-2, 5):
-        text = text.replace(f"%{offset}", f"wrapping_offset({at}, i64 {offset})")
-    return text
+def placed(text):
+    """A statement or a value, where `%N` is the pointer to a place of the block."""
+    return re.sub("%(-?[0-9]+)", r"wrapping_offset(load(p), i64 \1)", text)
 
 
 def block_of(statements, values):
@@ -96,13 +95,13 @@ def blocks(bench):
     """What is stored in a block is there, and what is out of it isn't."""
     done = ""
     for text, wanted in STORED:
-        done += placed(text, "load(p)")
+        done += placed(text)
         for at, word in enumerate(wanted.split()):
             result = "InvalidValue" if word == UNINITIALISED else str(int(word, 16))
-            program = block_of(done, [placed(f"load(deref(%{at}, u8))", "load(p)")])
+            program = block_of(done, [placed(f"load(deref(%{at}, u8))")])
             reported(bench, f"the byte at {at} behind {text or 'nothing'}", program, [result])
     for text, reason in RANGES:
-        reported(bench, text, block_of(placed(text, "load(p)"), []), [reason] if reason else [])
+        reported(bench, text, block_of(placed(text), []), [reason] if reason else [])
     program = limits.program(local_types=b", p: raw, i: i64", blocks=LARGE.replace("%s", PLACE).encode())
     reported(bench, "1,000 places of 2^40 bytes", program, ["1000", "InvalidValue"])
 
@@ -156,7 +155,8 @@ class Plain:
         if kind == 0:
             numbers = [self.chance.randrange(256) for _ in range(count)]
             self.bytes[at:at + count] = [(it, None) for it in numbers]
-            self.store(at, count, f"tuple(array({count}, u8), {', '.join(f'u8 {it}' for it in numbers)})")
+            value = f"tuple(array({count}, u8), {', '.join(f'u8 {it}' for it in numbers)})"
+            self.statements.append(f"deref(global t + {at}, array({count}, u8)) = {value};")
         elif kind == 1:
             self.bytes[at:at + count] = [None] * count
             self.statements.append(f"deinit deref(global t + {at}, array({count}, u8));")
@@ -169,9 +169,6 @@ class Plain:
             at, moved = at // 8 * 8, self.chance.randrange(1 << 20)
             self.bytes[at:at + 8] = [(it, "a") for it in (65544 + moved).to_bytes(8, "little")]
             self.statements.append(f"deref(global t + {at}, raw) = wrapping_offset(global a + 0, i64 {moved});")
-
-    def store(self, at, count, value):
-        self.statements.append(f"deref(global t + {at}, array({count}, u8)) = {value};")
 
     def looks(self):
         """Values, each with what is wanted of it: all bytes that there are, the numbers of a pointer, and at last one

@@ -429,8 +429,8 @@ def meant(bench, kind, words, value, written):
     """What bytes mean at a type, and each byte of what is written of that."""
     what, load = f"{words} as {kind}", f"load(deref(global t + 0, {kind}))"
     if value == "none":
-        return looked_at(bench, what, kind, words, [], [UNINITIALISED], f"x = {load}; ")
-    if kind == "raw":
+        looked_at(bench, what, kind, words, [], [UNINITIALISED], f"x = {load}; ")
+    elif kind == "raw":
         number, _, owner = value.partition("@")
         reason = "OutOfBounds" if owner else "NoProvenance"
         looked_at(bench, what, kind, words, [f"transmute(u64, {load})", f"load(deref({load}, u8))"], [number, reason])
@@ -443,7 +443,6 @@ def meant(bench, kind, words, value, written):
         byte = f"load(deref(wrapping_offset(addrof(raw, x), i64 {at}), u8))"
         number = UNINITIALISED if word == "--" else int(word.partition("@")[0], 16)
         looked_at(bench, f"{what}: the byte at {at} of the copy", kind, words, [byte], [number], f"x = {load}; ")
-    return None
 
 
 def loaded(bench, kind, words, offset, wanted):
