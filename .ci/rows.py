@@ -1,4 +1,4 @@
-"""Rows of the tables of texts.py, schedules.py, values.py, memory.py, runs.py and forms.py: the built programs run
+"""Rows of the tables of texts.py, schedules.py, values.py, blocks.py, runs.py and forms.py: the built programs run
 over files that are given as texts.
 
 `.ci/outputs` goes through all of them. By itself it takes the two programs, `python3 .ci/rows.py [PROGRAM
@@ -10,8 +10,8 @@ import sys
 import tempfile
 
 sys.dont_write_bytecode = True
+import blocks  # noqa: E402
 import forms  # noqa: E402
-import memory  # noqa: E402
 import runs  # noqa: E402
 import schedules  # noqa: E402
 import texts  # noqa: E402
@@ -57,7 +57,7 @@ class Bench:
 
 def compare(judge, programs):
     """All rows of all tables."""
-    for tables in (texts, schedules, values, memory, runs, forms):
+    for tables in (texts, schedules, values, blocks, runs, forms):
         with tempfile.TemporaryDirectory() as at:
             tables.compare(Bench(judge, at, *programs))
 
