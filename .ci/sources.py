@@ -9,7 +9,6 @@ from judging import CASES, CLASS, EXAMPLES, EXERCISES, TOP, judge, read
 
 # The programs that release/ has.
 RELEASED = ("mirace", "mirace_show")
-SHOWN = f"{TOP}/crates/mr_show_cases/data"
 # How many tasks the page of exercises has, and the most lines of README.
 TASKS, README_LINES = 15, 160
 # The most must-fail edits of a crate; the crates of the top call together have twice as many. And those of all crates.
@@ -57,14 +56,15 @@ def same_examples():
         for name in sorted(os.listdir(own)):
             example = f"{EXAMPLES}/{name}"
             judge(f"{name} in examples/ and in data/ of {crate}", os.path.isfile(example) and read(example) == read(f"{own}/{name}"))
-    kept = {it for it in os.listdir(EXAMPLES) if it.endswith((".mr", ".sched"))}
+    kept = {it for it in os.listdir(EXAMPLES) if it.endswith((".mr", ".sched", ".order"))}
     for name in sorted(kept | {it for it in os.listdir(CASES) if os.path.isfile(f"{CASES}/{it}")}):
         both = [f"{EXAMPLES}/{name}", f"{CASES}/{name}"]
-        judge(f"{name} in examples/ and in data/ of mirace_cases", all(map(os.path.isfile, both)) and read(both[0]) == read(both[1]))
-    for name in sorted(set(os.listdir(CLASS)) | set(os.listdir(SHOWN))):
-        here = [f"{at}/{name}" for at in (CLASS, EXAMPLES) if os.path.isfile(f"{at}/{name}")]
-        copied = f"{SHOWN}/{name}"
-        judge(f"{name} in examples/ and in data/ of mr_show_cases", os.path.isfile(copied) and here and read(here[0]) == read(copied))
+        is_same = all(map(os.path.isfile, both)) and read(both[0]) == read(both[1])
+        judge(f"{name} in examples/ and in data/ of mirace_cases", is_same)
+    for name in sorted(set(os.listdir(CLASS)) | set(os.listdir(f"{CASES}/class"))):
+        both = [f"{CLASS}/{name}", f"{CASES}/class/{name}"]
+        is_same = all(map(os.path.isfile, both)) and read(both[0]) == read(both[1])
+        judge(f"{name} in examples/class and in data/class of mirace_cases", is_same)
 
 
 def exercises():

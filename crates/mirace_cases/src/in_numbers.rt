@@ -6,8 +6,8 @@ use std::io;
 // More than any trace here takes.
 const ROOM: usize = 1 << 20;
 
-/// Writes what a command comes to that writes a trace: how many bytes it has, and a line for each 16 of them, two digits a byte; and a
-/// refusal as it is. Answers the status.
+/// Writes what a command comes to that writes a trace: how many bytes it has, and a line for each 16 of them, two
+/// digits a byte; and a refusal as it is. Answers the status.
 pub fn in_numbers(rt: &HostRuntime, words: &[String]) -> io::Result<u8> {
     let mut out = Tray::new(rt.alloc(), ROOM, ROOM)?;
     let mut files = HostFiles::new(rt);

@@ -1,16 +1,40 @@
 //! Runs of bytes and views of them.
 ghost use Rattle.std.specs.Prelude.{◌≡◌, length, OnOk};
 
-use crate::spelled::{SECOND, show};
-use mr_base::AbstractByte;
+use mr_base::{AbstractByte, AllocId};
 use mr_runs::{OutOfMemory, Runs, View};
 use std::alloc::Global;
 use std::string::String;
 use std::test::Fail;
 
+// The allocation of the provenance that bytes have.
+const SECOND: AllocId = AllocId {
+    thread: 1,
+    count: 7,
+};
+
 const FIVE: AbstractByte = AbstractByte::Init(5, Some(SECOND));
 
 const SIX: AbstractByte = AbstractByte::Init(6, Some(SECOND));
+
+// Two hexadecimal digits, and behind `@` the allocation of the provenance, where the byte has one.
+fn show_byte(told: &mut String, byte: AbstractByte) -> Result<(), OutOfMemory> {
+    match byte {
+        AbstractByte::Uninit => write!(told, " --"),
+        AbstractByte::Init(number, None) => write!(told, " {number:02x}"),
+        AbstractByte::Init(number, Some(AllocId { thread, count })) => {
+            write!(told, " {number:02x}@{thread}.{count}")
+        }
+    }
+}
+
+// Appends the words of bytes, each behind a blank.
+fn show(told: &mut String, bytes: &[AbstractByte]) -> Result<(), OutOfMemory> {
+    for byte in bytes {
+        show_byte(told, *byte)?;
+    }
+    Ok(())
+}
 
 // Tells a six, four bytes and the second of them.
 fn tell_copy(alloc: Global, told: &mut String, runs: &Runs) -> Result<(), OutOfMemory>
@@ -101,11 +125,13 @@ const CHANGES: [(Change, &str); 5] = [
     ),
     (
         Change::One(3, AbstractByte::Init(9, None)),
-        " Uninit(2) Bytes([1], Some(AllocId { thread: 1, count: 7 })) Bytes([9], None) Bytes([3], Some(AllocId { thread: 1, count: 7 })) Uninit(3)",
+        " Uninit(2) Bytes([1], Some(AllocId { thread: 1, count: 7 })) Bytes([9], None) Bytes([3], \
+            Some(AllocId { thread: 1, count: 7 })) Uninit(3)",
     ),
     (
         Change::Fill(3),
-        " Uninit(2) Bytes([1], Some(AllocId { thread: 1, count: 7 })) Uninit(1) Bytes([3], Some(AllocId { thread: 1, count: 7 })) Uninit(3)",
+        " Uninit(2) Bytes([1], Some(AllocId { thread: 1, count: 7 })) Uninit(1) Bytes([3], Some(AllocId { \
+            thread: 1, count: 7 })) Uninit(3)",
     ),
     (
         Change::One(3, AbstractByte::Init(2, Some(SECOND))),
@@ -143,28 +169,5 @@ fn runs_are_joined_and_split(rt: HostRuntime) -> Result<(), Fail> {
         tell_pieces(&mut told, &runs.view(0, 8))?;
         assert_eq!(rt; told.as_str(), wanted);
     }
-    Ok(())
-}
-
-// Tells the pieces of so many bytes, of which the two behind the middle are written.
-fn told_of(alloc: Global, len: u64) -> Result<String, OutOfMemory> {
-    let mut told = String::new(alloc);
-    let mut runs = Runs::uninit(alloc, len)?;
-    let all = runs.len();
-    if all >= 4 {
-        runs.write(all / 2, &[FIVE, SIX])?;
-    }
-    tell_pieces(&mut told, &runs.view(0, all))?;
-    Ok(told)
-}
-
-// 2^40 bytes, which take no more memory than three runs.
-#[test]
-fn many_bytes_are_few_runs(rt: HostRuntime) -> Result<(), Fail> {
-    let told = told_of(rt.alloc(), 0x100_0000_0000)?;
-    assert_eq!(rt;
-        told.as_str(),
-        " Uninit(549755813888) Bytes([5, 6], Some(AllocId { thread: 1, count: 7 })) Uninit(549755813886)"
-    );
     Ok(())
 }

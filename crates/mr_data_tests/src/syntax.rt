@@ -1,30 +1,14 @@
-//! Types are compared, put in order and copied.
+//! Types are compared, put in order and copied, and asked for the rule that they break.
 use crate::texts::{program_of, type_of};
-use mr_ast::{OutOfMemory, Program, Tree, Ty, Variant};
+use mr_ast::{OutOfMemory, Program, Ty};
+use mr_layout::type_ok;
 use mr_parse::parse;
 use std::alloc::Global;
 use std::string::String;
 use std::test::Fail;
 
-// Whether a copy of a type, a tree or a variant is another.
+// Whether a copy of a type is another.
 fn is_copied(copy: Result<Ty, OutOfMemory>, other: &Ty) -> Result<bool, OutOfMemory> {
-    match copy {
-        Ok(copy) => Ok(copy.same(other)),
-        Err(fault) => Err(fault),
-    }
-}
-
-fn is_tree_copied(copy: Result<Tree, OutOfMemory>, other: &Tree) -> Result<bool, OutOfMemory> {
-    match copy {
-        Ok(copy) => Ok(copy.same(other)),
-        Err(fault) => Err(fault),
-    }
-}
-
-fn is_variant_copied(
-    copy: Result<Variant, OutOfMemory>,
-    other: &Variant,
-) -> Result<bool, OutOfMemory> {
     match copy {
         Ok(copy) => Ok(copy.same(other)),
         Err(fault) => Err(fault),
@@ -37,53 +21,10 @@ fn compared(alloc: Global, first: &Ty, second: &Ty) -> Result<[bool; 2], OutOfMe
     Ok([first.same(second), copied])
 }
 
-// The same of two trees.
-fn compared_trees(alloc: Global, first: &Tree, second: &Tree) -> Result<[bool; 2], OutOfMemory> {
-    let copied = is_tree_copied(first.copy(alloc), second)?;
-    Ok([first.same(second), copied])
-}
-
-// The same of two variants.
-fn compared_variants(
-    alloc: Global,
-    first: &Variant,
-    second: &Variant,
-) -> Result<[bool; 2], OutOfMemory> {
-    let copied = is_variant_copied(first.copy(alloc), second)?;
-    Ok([first.same(second), copied])
-}
-
-// Tells the same of the trees of two enums, and of their first variants.
-fn tell_parts(
-    alloc: Global,
-    told: &mut String,
-    first: &Ty,
-    second: &Ty,
-) -> Result<(), OutOfMemory> {
-    let Some((variant, tree)) = parts(first) else {
-        return Ok(());
-    };
-    let Some((other_variant, other_tree)) = parts(second) else {
-        return Ok(());
-    };
-    let trees = compared_trees(alloc, tree, other_tree)?;
-    let variants = compared_variants(alloc, variant, other_variant)?;
-    write!(told, " {trees:?} {variants:?}")
-}
-
-// The first variant of an enum, and its tree.
-fn parts(ty: &Ty) -> Option<(&Variant, &Tree)> {
-    match ty {
-        Ty::Enum { variants, tree, .. } => Some((variants.as_slice().get(0)?, tree)),
-        _ => None,
-    }
-}
-
 fn tell(alloc: Global, told: &mut String, first: &Ty, second: &Ty) -> Result<(), OutOfMemory> {
     let types = compared(alloc, first, second)?;
     let order = first.order(second);
-    write!(told, "{types:?} {order:?}")?;
-    tell_parts(alloc, told, first, second)
+    write!(told, "{types:?} {order:?}")
 }
 
 fn tell_in(alloc: Global, told: &mut String, program: &Program) -> Result<(), OutOfMemory> {
@@ -109,16 +50,24 @@ fn told(alloc: Global, first: &str, second: &str) -> Result<String, OutOfMemory>
 
 // Three pairs of an enum and a bool: with another tag, another chunk and another reference than in the first.
 const DEEP: &str =
-    "array(3, tuple size 24 align 8 { 0: enum size 16 align 8 disc i8 { 0: ref 4 4 tag { 8: u8 = 1 }, 1: union size 16 align 8 { 0: u32 } chunks { 0 4 } tag { 8: u8 = 2 } } branch 8 u8 { 1 => known 0, _ => known 1 }, 16: bool })";
+    "array(3, tuple size 24 align 8 { 0: enum size 16 align 8 disc i8 { 0: ref 4 4 tag { 8: u8 = 1 }, 1: \
+        union size 16 align 8 { 0: u32 } chunks { 0 4 } tag { 8: u8 = 2 } } branch 8 u8 { 1 => known 0, _ \
+        => known 1 }, 16: bool })";
 
 const OTHER_TAG: &str =
-    "array(3, tuple size 24 align 8 { 0: enum size 16 align 8 disc i8 { 0: ref 4 4 tag { 8: u8 = 1 }, 1: union size 16 align 8 { 0: u32 } chunks { 0 4 } tag { 8: u8 = 3 } } branch 8 u8 { 1 => known 0, _ => known 1 }, 16: bool })";
+    "array(3, tuple size 24 align 8 { 0: enum size 16 align 8 disc i8 { 0: ref 4 4 tag { 8: u8 = 1 }, 1: \
+        union size 16 align 8 { 0: u32 } chunks { 0 4 } tag { 8: u8 = 3 } } branch 8 u8 { 1 => known 0, _ \
+        => known 1 }, 16: bool })";
 
 const OTHER_CHUNK: &str =
-    "array(3, tuple size 24 align 8 { 0: enum size 16 align 8 disc i8 { 0: ref 4 4 tag { 8: u8 = 1 }, 1: union size 16 align 8 { 0: u32 } chunks { 0 8 } tag { 8: u8 = 2 } } branch 8 u8 { 1 => known 0, _ => known 1 }, 16: bool })";
+    "array(3, tuple size 24 align 8 { 0: enum size 16 align 8 disc i8 { 0: ref 4 4 tag { 8: u8 = 1 }, 1: \
+        union size 16 align 8 { 0: u32 } chunks { 0 8 } tag { 8: u8 = 2 } } branch 8 u8 { 1 => known 0, _ \
+        => known 1 }, 16: bool })";
 
 const OTHER_REF: &str =
-    "array(3, tuple size 24 align 8 { 0: enum size 16 align 8 disc i8 { 0: ref 4 4 never tag { 8: u8 = 1 }, 1: union size 16 align 8 { 0: u32 } chunks { 0 4 } tag { 8: u8 = 2 } } branch 8 u8 { 1 => known 0, _ => known 1 }, 16: bool })";
+    "array(3, tuple size 24 align 8 { 0: enum size 16 align 8 disc i8 { 0: ref 4 4 never tag { 8: u8 = 1 \
+        }, 1: union size 16 align 8 { 0: u32 } chunks { 0 4 } tag { 8: u8 = 2 } } branch 8 u8 { 1 => known \
+        0, _ => known 1 }, 16: bool })";
 
 const SCALARS: &str = "tuple size 32 align 16 { 0: i128, 16: raw, 24: fnptr }";
 
@@ -126,8 +75,8 @@ const LEAF: &str = "enum size 16 align 8 disc i8 { 1: bool tag { 8: u8 = 2 } } k
 
 const OTHER_LEAF: &str = "enum size 16 align 8 disc i8 { 1: bool tag { 8: u8 = 2 } } known 4";
 
-// Two types, whether they are equal, themselves and by a copy, and how the first stands to the second in the order of types; of
-// enums, whether their trees are equal, and their first variants.
+// Two types, whether they are equal, themselves and by a copy, and how the first stands to the second in the order of
+// types.
 static TYPES: [(&str, &str, &str); 15] = [
     (DEEP, DEEP, "[true, true] Equal"),
     (DEEP, OTHER_TAG, "[false, false] Less"),
@@ -146,12 +95,8 @@ static TYPES: [(&str, &str, &str); 15] = [
         "tuple size 2 align 1 { 0: u8, 1: u8 }",
         "[false, false] Less",
     ),
-    (LEAF, LEAF, "[true, true] Equal [true, true] [true, true]"),
-    (
-        LEAF,
-        OTHER_LEAF,
-        "[false, false] Less [false, false] [true, true]",
-    ),
+    (LEAF, LEAF, "[true, true] Equal"),
+    (LEAF, OTHER_LEAF, "[false, false] Less"),
 ];
 
 #[test]
@@ -163,6 +108,35 @@ fn types_are_compared(rt: HostRuntime) -> Result<(), Fail> {
             wanted,
             "{first} {second}"
         );
+    }
+    Ok(())
+}
+
+// The number of the rule that a type breaks.
+fn rule_of(alloc: Global, text: &str) -> Result<Option<u8>, OutOfMemory> {
+    match parse(alloc, text.as_bytes()) {
+        Ok(program) => match type_of(&program, 1) {
+            Some(ty) => type_ok(alloc, ty),
+            None => Ok(Some(0)),
+        },
+        Err(_) => Ok(Some(0)),
+    }
+}
+
+// A type, and the number of the rule that it breaks.
+const RULES: [(&str, Option<u8>); 4] = [
+    ("bool", None),
+    ("array(1048577, bool)", Some(20)),
+    ("ref 8 3", Some(21)),
+    ("tuple size 4 align 2 { 0: u16, 1: u16 }", Some(23)),
+];
+
+#[test]
+fn broken_rules_are_told(rt: HostRuntime) -> Result<(), Fail> {
+    for (ty, wanted) in RULES {
+        let text = program_of(rt.alloc(), &[ty])?;
+        let rule = rule_of(rt.alloc(), text.as_str())?;
+        assert_eq!(rt; rule, wanted, "{ty}");
     }
     Ok(())
 }

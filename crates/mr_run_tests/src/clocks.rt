@@ -1,6 +1,6 @@
-//! Runs that are added to an analysis a step at a time, and a long one.
+//! A run that is added to an analysis a step at a time.
 use mr_base::Access;
-use mr_clocks::{Analysis, predicted_by_clocks};
+use mr_clocks::Analysis;
 use mr_event::{Event, Footprint, OutOfMemory, Step};
 use std::alloc::Global;
 
@@ -41,7 +41,8 @@ fn single(alloc: Global, thread: u32, only: Access) -> Result<Footprint, OutOfMe
     accessing(alloc, thread, &[only])
 }
 
-// The third step follows the first one, though it races with the second. Whoever doesn't look back lets the fourth race with the first.
+// The third step follows the first one, though it races with the second. Whoever doesn't look back lets the fourth
+// race with the first.
 #[test]
 fn the_clock_looks_back(rt: HostRuntime) -> Result<(), OutOfMemory> {
     let alloc = rt.alloc();
@@ -56,19 +57,5 @@ fn the_clock_looks_back(rt: HostRuntime) -> Result<(), OutOfMemory> {
     assert!(rt; analysis.add(&run[..3])? == Some(1));
     assert!(rt; analysis.add(&run)?.is_none());
     assert!(rt; analysis.orders(&run, 0, 3) && !analysis.orders(&run, 1, 3));
-    Ok(())
-}
-
-// Two threads store atomically to one byte in turn. Comparing all steps would take some 10^10 comparisons. (`rt try`, whose checks
-// are slow, doesn't come to the end of it in its time.)
-#[test]
-fn a_long_run_ends(rt: HostRuntime) -> Result<(), OutOfMemory> {
-    let alloc = rt.alloc();
-    let mut run = Vec::new(alloc);
-    for i in 0..262144u32 {
-        run.push(single(alloc, i % 2, access(true, true, 16))?)?;
-    }
-    let pairs = predicted_by_clocks(alloc, &run)?;
-    assert!(rt; pairs.is_empty());
     Ok(())
 }

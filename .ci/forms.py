@@ -1,0 +1,359 @@
+"""The forms of the companion, as the built `mirace_show` answers them: rows of a program, a schedule or an order, the
+words of a form, and what is written; rows.py goes through them.
+
+- ANSWERED, REFUSED, PROSPECTS, ORDERS, FORMLESS and CODES: words, and what refuses a form.
+- LAID: programs whose texts are laid out in other ways, and races at more than two places.
+- NEXTS and FILLED: how a run can go on, and which schedule an order becomes.
+"""
+EXIT = """minirust 1
+fn main() -> r {
+let r: unit;
+b0 regular: exit;
+}
+main main
+"""
+# A block of another kind is jumped to.
+ILL_FORMED = """minirust 1
+fn main() -> r {
+let r: unit;
+b0 regular: goto b1;
+b1 cleanup: exit;
+}
+main main
+"""
+SCHEDULE = """schedule 1
+start 16 4096
+0
+"""
+NO_ENTRY = "schedule 1\nstart 16 4096\n"
+# The machine has stopped before the second entry.
+TOO_FAR = """schedule 1
+start 16 4096
+0
+0
+"""
+USAGE = ("usage: steps P S [FIRST LAST] | races P S | picture P S [FIRST LAST] | next P S | fill P O | halt P O "
+         "| why CODE | --help\n")
+EXITS = """1  thread 0  4:13  main b0  exit
+step 1 ended the run
+verdict exit
+races 0
+"""
+NO_STEP = """step 1 ended the run
+verdict exit
+races 0
+"""
+ENTERED = "thread 0 can go on; its next step is 4:13  main b0  exit\n"
+ONE_TOO_MANY = """entry 2 of thread 0 breaks 66 AfterStop: The machine had stopped before this entry.
+        no pick
+the run has ended
+"""
+CODE_2 = (
+    "2 BadNumber\n"
+    "A number is written in a way that numbers aren't.\n"
+    "usual cause: A zero in front of other digits, as in `07`; a number of 2^128 or more; one of 2^64 or more "
+    "where a size, an offset or an address stands.\n"
+    "what to do: Leave the zeros out. Sizes, offsets and addresses are below 2^64.\n"
+    "example: do print(u8 042) to b1;\n")
+# Words, and what is written of them, with the status, where the program exits at once.
+ANSWERED = (
+    ("steps P S", EXITS, 0),
+    ("steps P S 1 1", EXITS, 0),
+    ("steps P S 0 1", EXITS, 0),
+    ("steps P S 2 9", NO_STEP, 0),
+    ("steps P S 1 0", NO_STEP, 0),
+    ("steps P S 4294967295 4294967295", NO_STEP, 0),
+    ("races P S", "races 0\n", 0),
+    ("steps Q S", "read program\n", 6),
+    ("steps P Q", "read schedule\n", 6),
+)
+# A program, a schedule, words, and the line that refuses them, with the status.
+REFUSED = (
+    ("minirust !\n", SCHEDULE, "races P S", "text 1 10 1 BadByte\n", 3),
+    (ILL_FORMED, SCHEDULE, "races P S", "form main b0 0 32 BlockKind\n", 4),
+    (ILL_FORMED, SCHEDULE, "races P Q", "form main b0 0 32 BlockKind\n", 4),
+    (EXIT, TOO_FAR, "races P S", "schedule 4 66 AfterStop\n", 5),
+    (EXIT, EXIT, "steps P S", "schedule 1 50 BadHeader\n", 5),
+)
+# A program, a schedule, words of `next`, and what is written of them, with the status.
+PROSPECTS = (
+    (EXIT, SCHEDULE, "next P S", "the run has ended\n", 0),
+    (EXIT, NO_ENTRY, "next P S", ENTERED, 0),
+    (EXIT, TOO_FAR, "next P S", ONE_TOO_MANY, 1),
+    (EXIT, SCHEDULE, "next P Q", "read schedule\n", 6),
+)
+# A program, an order, words of `fill` and `halt`, and what is written of them, with the status.
+ORDERS = (
+    (EXIT, "0 0\n", "halt P S", "# line 1 can't go on: 66 AfterStop\n", 1),
+    (EXIT, "\t0 # once\r\n", "halt P S", "", 0),
+    (EXIT, "0\n0*x\n", "fill P S", "schedule 2 51 BadLine\n", 5),
+    (EXIT, "", "fill P Q", "read schedule\n", 6),
+    (ILL_FORMED, "", "halt P S", "form main b0 0 32 BlockKind\n", 4),
+)
+# Words of no form.
+FORMLESS = (
+    "", "steps", "steps P", "steps P S 1", "steps P S 1 x", "steps P S 1 4294967296", "steps P S 01 2", "races P S 1 2",
+    "picture P S 1", "run P S", "--helps", "next P", "fill P", "why", "why 65536", "whys 66",
+)
+# Codes, and what is said of them.
+CODES = (
+    ("why 65535", "no rule, no fault and no reason has the number 65535\n", 1),
+    ("why 2", CODE_2, 0),
+)
+# Tabs, comments, several statements on a line, lines that end with a carriage return, and a long statement.
+LAID = """minirust 1
+fn main() -> r { # the only function
+\tlet r: unit, x: u8;
+\tstart regular: # a comment; it is no end
+\t\tlive x; x = u8 1; # behind two statements
+\t\tx = # seven
+ u8 7;\tx =\r
+\t u8 8;
+   x = add(u8 1, add(u8 2, add(u8 3, add(u8 4, add(u8 5, add(u8 6, u8 7)))))); exit
+;
+}
+main main
+"""
+ONE_THREAD = """schedule 1
+start 16 4096
+0 8192
+0
+0
+0
+0
+0
+"""
+LAID_STEPS = """1  thread 0  5:3  main start  live x
+2  thread 0  5:11  main start  x = u8 1
+        store x, 1 byte
+3  thread 0  6:3  main start  x =  ..
+        store x, 1 byte
+4  thread 0  7:8  main start  x = ..
+        store x, 1 byte
+5  thread 0  9:4  main start  x = add(u8 1, add(u8 2, add(u8 3, add(u8 4, add(u8 5, add(u8 ..
+        store x, 1 byte
+6  thread 0  9:80  main start  exit ..
+step 6 ended the run
+verdict exit
+races 0
+"""
+ADDRESS_0 = """schedule 1
+start 16 4096
+0 0
+"""
+ASKS = """thread 0 can go on; its next step is 5:3  main start  live x
+        asks for address, size 1, align 1, for local x
+"""
+NO_ADDRESS = """entry 1 of thread 0 breaks 63 BadAddress: An address may not be picked.
+        picks 0
+        by the pick 0
+thread 0 can go on; its next step is 5:3  main start  live x
+        asks for address, size 1, align 1, for local x
+"""
+# Most of a program on one line, a block's head on three, and a statement of 60 bytes and one of 61.
+ON_A_LINE = """minirust 1 fn main() -> r { let r: unit, x: u8; start
+regular
+:
+live x; x = u8 1; goto last; last regular: x = add(u8 1,add(u8 2,add(u8 3, add(u8 4, add(u8 5,u8 6)))));
+x = add(u8 1, add(u8 2,add(u8 3, add(u8 4, add(u8 5,u8 6))))); exit; } main main"""
+SIX_STEPS = """1  thread 0  4:1  main start  live x
+2  thread 0  4:9  main start  x = u8 1
+        store x, 1 byte
+3  thread 0  4:19  main start  goto last
+4  thread 0  4:44  main last  x = add(u8 1,add(u8 2,add(u8 3, add(u8 4, add(u8 5,u8 6)))))
+        store x, 1 byte
+5  thread 0  5:1  main last  x = add(u8 1, add(u8 2,add(u8 3, add(u8 4, add(u8 5,u8 6)))) ..
+        store x, 1 byte
+6  thread 0  5:64  main last  exit
+step 6 ended the run
+verdict exit
+races 0
+"""
+# Two threads store again and again, and then main does, where nothing orders them.
+STORES = """minirust 1
+global number align 1 { 0 }
+fn worker(p) -> r {
+let p: raw, r: unit;
+again regular: deref(load(p), u8) = u8 1; goto again;
+}
+fn main() -> r {
+let r: unit, t: u32;
+start regular: live t; do spawn(fn worker, global number + 0) -> t to second;
+second regular: do spawn(fn worker, global number + 0) -> t to last;
+last regular: deref(global number + 0, u8) = u8 9; exit;
+}
+main main
+"""
+# They take turns, and each jumps back behind its store, so that no two stores stand side by side.
+IN_TURN = """schedule 1
+start 16 17 32 33
+0 64
+0 72 80
+0 88 96
+1
+1
+2
+2
+1
+1
+2
+2
+0
+0
+"""
+STORES_RACES = """\
+5:16  worker again  deref(load(p), u8) = u8 1  /  5:16  worker again  deref(load(p), u8) = u8 1: 3 times, first 4 6
+5:16  worker again  deref(load(p), u8) = u8 1  /  11:15  main last  deref(global number + 0, u8) = u8 9: once, 10 12
+races 4
+"""
+STORES_STEPS = """10  thread 2  5:16  worker again  deref(load(p), u8) = u8 1
+        load p, 8 bytes
+        store number, 1 byte
+        races with step 8
+        races with step 12
+11  thread 2  5:43  worker again  goto again
+12  thread 0  11:15  main last  deref(global number + 0, u8) = u8 9
+        store number, 1 byte
+        races with step 10
+step 13 ended the run
+verdict exit
+races 4
+"""
+# A program, a schedule, words, and what is written of them, with the status.
+LAID_OUT = (
+    (LAID, ONE_THREAD, "steps P S", LAID_STEPS, 0),
+    (LAID, NO_ENTRY, "next P S", ASKS, 0),
+    (LAID, ADDRESS_0, "next P S", NO_ADDRESS, 1),
+    (ON_A_LINE, ONE_THREAD, "steps P S", SIX_STEPS, 0),
+    (STORES, IN_TURN, "races P S", STORES_RACES, 1),
+    (STORES, IN_TURN, "steps P S 10 12", STORES_STEPS, 1),
+)
+# One thread with a global, a local, and a block of the heap.
+ALONE = """minirust 1
+global g align 8 { &g + 8 0*4 }
+fn main() -> r {
+  let r: unit, x: u32, p: raw;
+  b0 regular: live x; x = u32 7; live p; do allocate(u64 16, u64 32) -> p to b1;
+  b1 regular: do deallocate(load(p), u64 16, u64 32) to b2;
+  b2 regular: exit;
+}
+main main
+"""
+# Two threads that wait for a lock of the main thread.
+LOCK = """minirust 1
+fn w(p) -> r {
+  let p: raw, r: unit;
+  b0 regular: do acquire(u32 0) to b1;
+  b1 regular: do release(u32 0) to b2;
+  b2 regular: return;
+}
+fn main() -> r {
+  let r: unit, l: u32, t: u32;
+  b0 regular: live l; live t; do create_lock() -> l to b1;
+  b1 regular: do acquire(u32 0) to b2;
+  b2 regular: do spawn(fn w, raw 0) -> t to b3;
+  b3 regular: do spawn(fn w, raw 0) -> t to b4;
+  b4 regular: do release(u32 0) to b5;
+  b5 regular: do join(u32 1) to b6;
+  b6 regular: exit;
+}
+main main
+"""
+# Addresses rise from 65,536 on: those of the functions, of the globals, and of the main function's returned local.
+ALONE_START = "schedule 1\nstart 65536 65544 65556\n"
+LOCK_START = """schedule 1
+start 65536 65537 65538
+0 65540
+0 65544
+0
+0
+0 65548 65552
+0 65560 65568
+"""
+# A program, an order, the entries of the schedule behind its start, and where it can't go on.
+FILLED = (
+    (ALONE, "", "", ""),
+    # The local of four bytes at a multiple of four; the pointer; and the block at a multiple of 32.
+    (ALONE, "0*6", "0 65560\n0\n0 65568\n0 65600\n0\n0\n", ""),
+    # The program ends before the order does.
+    (ALONE, "0*6\n# there is no more\n0", "0 65560\n0\n0 65568\n0 65600\n0\n0\n",
+     "# line 3 can't go on: 66 AfterStop\n"),
+    (ALONE, "0 1", "0 65560\n", "# line 1 can't go on: 60 NotEnabled\n"),
+    # Nobody waits where a lock is named.
+    (ALONE, "0 0>1", "0 65560\n", "# line 1 can't go on: 62 ExtraPick\n"),
+    # The first that waits gets the lock, or the one that is named.
+    (LOCK, "0*6 1 2 0", "1\n2\n0 1\n", ""),
+    (LOCK, "0*6 1 2 0>2 2", "1\n2\n0 2\n2 1\n", ""),
+    (LOCK, "0*6 2 0>1", "2\n", "# line 1 can't go on: 65 NotWaiting\n"),
+    (LOCK, "0*6 1\n1", "1\n", "# line 2 can't go on: 60 NotEnabled\n"),
+)
+# A program, a schedule, what `next` tells, and the status.
+NEXTS = (
+    (ALONE, ALONE_START, """thread 0 can go on; its next step is 5:15  main b0  live x
+        asks for address, size 4, align 4, for local x
+""", 0),
+    (ALONE, ALONE_START + "0 65560\n0\n0 65568\n", """\
+thread 0 can go on; its next step is 5:42  main b0  do allocate(u64 16, u64 32) -> p to b1
+        asks for address, size 16, align 32, for a block of the heap
+""", 0),
+    # The state in front of the entry that breaks a rule.
+    (ALONE, ALONE_START + "0 65561\n0\n", """entry 1 of thread 0 breaks 63 BadAddress: An address may not be picked.
+        picks 65561
+        by the pick 65561
+thread 0 can go on; its next step is 5:15  main b0  live x
+        asks for address, size 4, align 4, for local x
+""", 1),
+    (ALONE, ALONE_START + "0 65544\n0\n", """\
+entry 1 of thread 0 breaks 64 Reused: The bytes at this address were those of an earlier allocation, maybe a dead one.
+        picks 65544
+        by the pick 65544
+        the bytes were those of allocation 1 of thread 0
+thread 0 can go on; its next step is 5:15  main b0  live x
+        asks for address, size 4, align 4, for local x
+""", 1),
+    # The start line breaks a rule.
+    (ALONE, "schedule 1\nstart 65536 65544\n", "schedule 2 61 MissingPick\n", 5),
+    # Two threads wait for the lock that the first one holds.
+    (LOCK, LOCK_START + "1\n2\n0\n", """\
+entry 9 of thread 0 breaks 61 MissingPick: The step asks for more picks than the entry has.
+        no pick
+thread 0 can go on; its next step is 14:15  main b4  do release(u32 0) to b5
+        asks for one of the threads 1, 2, which wait for lock 0
+thread 1 waits for lock 0, which thread 0 has; its next step is 5:15  w b1  do release(u32 0) to b2
+thread 2 waits for lock 0, which thread 0 has; its next step is 5:15  w b1  do release(u32 0) to b2
+""", 1),
+    # One thread ended, and one waits for it no more.
+    (LOCK, LOCK_START + "0\n0\n2\n2\n2\n", """\
+thread 0 waits for the end of thread 1; its next step is 16:15  main b6  exit
+thread 1 can go on; its next step is 4:15  w b0  do acquire(u32 0) to b1
+thread 2 ended
+""", 0),
+)
+
+
+def answered(bench):
+    """What words come to, and what refuses them."""
+    for line, text, status in (*ANSWERED, *CODES):
+        bench.expect(line, f"mirace_show {line}", text, status, P=EXIT, S=SCHEDULE)
+    for program, other, line, text, status in (*REFUSED, *PROSPECTS, *ORDERS, *LAID_OUT):
+        what = f"{line} of {program[:40]!r} and {other!r}"
+        bench.expect(what, f"mirace_show {line}", text, status, P=program, S=other)
+    for line in FORMLESS:
+        bench.expect(f"the words {line!r}", f"mirace_show {line}", USAGE, 2, P=EXIT, S=SCHEDULE)
+
+
+def going_on(bench):
+    """How the threads can go on, and which schedule an order becomes."""
+    for program, schedule, text, status in NEXTS:
+        bench.expect(f"what is next behind {schedule!r}", "mirace_show next P S", text, status, P=program, S=schedule)
+    for program, order, entries, halt in FILLED:
+        start = ALONE_START if program == ALONE else LOCK_START
+        files, status = {"P": program, "O": order}, int(halt != "")
+        bench.expect(f"the order {order!r}", "mirace_show fill P O", start + entries, status, **files)
+        bench.expect(f"the order {order!r}: where it ends", "mirace_show halt P O", halt, status, **files)
+
+
+def compare(bench):
+    """All of them."""
+    answered(bench)
+    going_on(bench)
