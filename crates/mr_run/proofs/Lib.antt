@@ -11,4 +11,4 @@ pub use Rattle.mr_witness.proofs.Copied as WitnessCopied
 pub use Rattle.mr_witness.proofs.Drawn as WitnessDrawn
 pub use Rattle.mr_witness.proofs.Kept as WitnessKept
 pub use Rattle.mr_witness.proofs.Lists as WitnessLists
-pub use Rattle.mr_witness.proofs.Witness as WitnessWitness
+pub use Rattle.mr_witness.proofs.ShortWitness as WitnessShortWitness

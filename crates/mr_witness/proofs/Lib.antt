@@ -16,4 +16,4 @@ pub mod RecordedPlaces
 pub mod Replayed
 pub mod ShortChosen
 pub mod Shown
-pub mod Witness
+pub mod ShortWitness

@@ -4,7 +4,7 @@ use Rattle.mr_witness.proofs.Chosen.{pushed_twice}
 use Rattle.mr_witness.specs.Marks.{AreMarks}
 use Rattle.mr_witness.proofs.ShortChosen.{both_copied}
 use Rattle.mr_witness.proofs.Fewer.{among_kept, no_longer}
-use Rattle.mr_witness.proofs.Witness.{witness_of_run}
+use Rattle.mr_witness.proofs.ShortWitness.{witness_of_run}
 use Rattle.mr_witness.proofs.shortening.short.Goals as goal
 
 pub marks_of-requires : goal.marks_of-requires
