@@ -9,7 +9,7 @@ use Rattle.mr_step.specs.StartRuns.{run_of}
 use Rattle.mr_step.specs.ThreadSteps.{Own}
 use Rattle.mr_report.specs.Json.{ArePrinted, is_printed}
 use Rattle.mr_report.specs.declared.report.Line.{Line}
-use Rattle.mr_run.proofs.Printing.Runs.{AreLines, run_plain}
+use Rattle.mr_answer.proofs.Printing.Runs.{AreLines, run_plain}
 use Rattle.mr_answer.specs.Report.{line_of}
 
 lines_printed : (output : List Printed) → AreLines output → ArePrinted (map line_of output)

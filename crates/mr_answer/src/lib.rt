@@ -13,11 +13,16 @@
 //! - [`lines_of`], [`status_of`], [`refusal_of`]: of a run, what it printed, its status, and why there is no report, with
 //!   the line of the schedule's text.
 //!
+//! A law, [`prints_are_plain`]: what a run prints can be written as JSON. A step asks to print nothing but the texts of integers and
+//! bools with spaces between (`proofs/Printing/Steps.antt`), and no other query adds to what was printed
+//! (`proofs/Printing/Prints.antt`).
+//!
 //! Each answer has a status of at most 1. Want of memory alone is free: nothing is said of when it comes.
 #![tactic(auto)]
 
 mod drawing;
 mod formats;
+mod laws;
 mod reordered;
 mod report;
 mod run;
@@ -25,6 +30,7 @@ mod traced;
 
 pub use drawing::{drawn, summary};
 pub use formats::Format;
+pub use laws::prints_are_plain;
 pub use mr_input::{Refusal, Written};
 pub use report::{lines_of, status_of};
 pub use run::{refusal_of, report_run};

@@ -2,7 +2,6 @@ pub mod Analysed
 pub mod EntryLaws
 pub mod OneThread
 pub mod Places
-pub mod Printing
 pub mod RunLaws
 pub mod StepCount
 pub use Rattle.mr_step.proofs.StartRunLaws

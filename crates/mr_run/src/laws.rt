@@ -1,12 +1,9 @@
 //! Laws of runs.
-ghost use Rattle.std.specs.Prelude.{◌≡◌, ◌+◌, ◌≤◌, [], All, length, true};
-ghost use Rattle.std.specs.List.{list_all};
+ghost use Rattle.std.specs.Prelude.{◌≡◌, ◌+◌, ◌≤◌, [], length, true};
 ghost use Rattle.mr_ast.specs.declared.program.Program.{Program};
 ghost use Rattle.mr_event.specs.Predicted.{predicted};
 ghost use Rattle.mr_sched.specs.declared.schedule.Schedule.{Schedule};
-ghost use Rattle.mr_step.specs.PlanRuns.{Printed};
-ghost use Rattle.mr_report.specs.Json.{is_printed};
-ghost use Rattle.mr_step.specs.StartRuns.{Legal, run_of, steps_of};
+ghost use Rattle.mr_step.specs.StartRuns.{Legal, steps_of};
 ghost use Rattle.mr_run.specs.Runs.{are_of_first};
 
 /// A law: a run of thread 0 alone shows no race, so that who asks for its races needs no footprint.
@@ -19,11 +16,4 @@ pub fn one_thread_shows_no_race()
 pub fn steps_and_entries()
     ensures most { (p : Program) (w : Schedule) → length (steps_of p w) ≤ length w.entries }
     ensures least { (p : Program) (w : Schedule) → Legal p w → length w.entries ≤ length (steps_of p w) + 1 }
-{}
-
-/// A law: the texts that a run prints have digits, small letters, `-` and space alone, whatever the program and the
-/// schedule are. So the JSON of a report can be made of every run (`mr_report`: `json`).
-pub fn prints_are_plain()
-    ensures { (p : Program) (w : Schedule)
-        → All (λ (l : Printed). list_all is_printed l.text ≡ true) (run_of p w).output }
 {}

@@ -16,9 +16,7 @@
 //! - [`is_of_first`]: whether a schedule is of thread 0 alone.
 //!
 //! Laws: [`one_thread_shows_no_race`]; [`steps_and_entries`] (each entry completes one step at most, and each but the
-//! last of a legal schedule does); [`prints_are_plain`] (what a run prints can be written as JSON: a step asks to print
-//! nothing but the texts of integers and bools with spaces between, `proofs/Printing/Steps.antt`, and no other query
-//! adds to what was printed, `proofs/Printing/Prints.antt`).
+//! last of a legal schedule does).
 //!
 //! Not promised: what a machine tells behind a want of memory in [`step`], and when memory runs out.
 #![tactic(auto)]
@@ -35,7 +33,7 @@ pub use alone::is_of_first;
 pub use clocked::Clocked;
 pub use fault::RunFault;
 pub use keeping::{Nothing, Record};
-pub use laws::{one_thread_shows_no_race, prints_are_plain, steps_and_entries};
+pub use laws::{one_thread_shows_no_race, steps_and_entries};
 pub use mr_event::{Footprint, OutOfMemory, Pair};
 pub use running::{run, step};
 pub use witnesses::{Selection, first_witness};

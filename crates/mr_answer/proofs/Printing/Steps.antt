@@ -40,7 +40,7 @@ use Rattle.mr_step.proofs.IntrEachOperation.{of_operation}
 use Rattle.mr_step.specs.ThreadSteps.{Own, Turn, TurnPlan, do_step, finished, finishing, frame_step, in_step, last_payload, new_thread, onward, operated, own_step, spawn, spawn_function, spawn_number, spawn_types, start, step_due, thread_types}
 use Rattle.mr_report.specs.Json.{is_printed}
 use Rattle.mr_report.proofs.PlainLaws.{decimal_passes}
-use Rattle.mr_run.proofs.Printing.Prints.{Anything, IsPlain, Prints, memory_prints, prints_then, reads_print}
+use Rattle.mr_answer.proofs.Printing.Prints.{Anything, IsPlain, Prints, memory_prints, prints_then, reads_print}
 use Rattle.mr_wf.specs.Types.{integer_in}
 
 -- ---- texts

@@ -1,4 +1,4 @@
-use Rattle.mr_run.proofs.Printing.Runs.{run_plain}
+use Rattle.mr_answer.proofs.Printing.Runs.{run_plain}
 use Rattle.mr_run.proofs.laws.prints_are_plain.Goals as goal
 
 pub returns : goal.returns

@@ -15,8 +15,8 @@ use Rattle.mr_step.specs.StartRuns.{run_of}
 use Rattle.mr_step.specs.StartStart.{look_of, start_config}
 use Rattle.mr_step.proofs.SwapBareSteps.{taken, whole, whole_run}
 use Rattle.mr_report.specs.Json.{is_printed}
-use Rattle.mr_run.proofs.Printing.Prints.{Anything, IsPlain, run_prints}
-use Rattle.mr_run.proofs.Printing.Steps.{whole_prints}
+use Rattle.mr_answer.proofs.Printing.Prints.{Anything, IsPlain, run_prints}
+use Rattle.mr_answer.proofs.Printing.Steps.{whole_prints}
 
 -- all lines are of such texts
 abbrev pub AreLines : List Printed → Type 0
