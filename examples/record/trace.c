@@ -1,0 +1,372 @@
+/* The trace and its places. The rows of all threads are put into one order; those on memory that one thread alone used are left out,
+   since they race with nothing and order nothing. What is written goes to NAME.part, which gets its name when it is whole. */
+#include "recorder.h"
+#include <errno.h>
+#include <fcntl.h>
+#include <stdio.h>
+#include <stdlib.h>
+#include <string.h>
+#include <unistd.h>
+
+enum { MOST_STEPS = 1 << 22, MOST_BYTES = 1 << 28, HEAD = 9, NAME = 4096, BUFFER = 1 << 20, MOST_STEP = 1 << 16 };
+
+/* A file that is written, and what is held of it. */
+struct file { int number; char name[NAME], part[NAME]; char *held; size_t used; uint64_t bytes; };
+static struct file trace, places;
+
+static uint64_t first_step, behind_last = UINT64_MAX;
+static uint64_t steps_made, steps_kept, steps_written;
+static int is_full;
+
+static void fail(const struct file *it, const char *what) {
+  tell("record: %s %s: %s\n", it->part, what, strerror(errno));
+  stop("there is no trace");
+}
+
+static void open_file(struct file *it, const char *name, const char *behind) {
+  int length = snprintf(it->name, sizeof it->name, "%s%s", name, behind);
+  if (length >= NAME - 8) stop("MIRACE_TRACE is too long");
+  snprintf(it->part, sizeof it->part, "%.*s.part", NAME - 8, it->name);
+  it->number = open(it->part, O_RDWR | O_CREAT | O_TRUNC | O_CLOEXEC, 0666);
+  if (it->number < 0) fail(it, "can't be opened");
+  if (unlink(it->name) && errno != ENOENT) fail(it, "takes the place of a file that can't be removed");
+  it->held = fresh(BUFFER + MOST_STEP);
+  if (!it->held) stop("there is no memory");
+}
+
+static uint64_t number_of(const char *name, uint64_t otherwise) {
+  const char *given = getenv(name);
+  if (!given) return otherwise;
+  char *end = 0;
+  errno = 0;
+  unsigned long long it = strtoull(given, &end, 10);
+  if (end == given || *end || errno || *given == '-') {
+    tell("record: %s is no number\n", name);
+    stop("there is no trace");
+  }
+  return it;
+}
+
+/* When the program begins: what stood under the names is no trace of this run, and goes. */
+void open_trace(void) {
+  const char *name = getenv("MIRACE_TRACE");
+  char full[NAME];
+  if (!name || !*name) name = "trace.out";
+  if (*name != '/') {
+    if (!getcwd(full, sizeof full) || strlen(full) + strlen(name) + 16 > sizeof full) stop("MIRACE_TRACE is too long");
+    strcat(full, "/");
+    strcat(full, name);
+    name = full;
+  }
+  first_step = number_of("MIRACE_FROM", 0);
+  behind_last = number_of("MIRACE_TO", UINT64_MAX);
+  open_file(&trace, name, "");
+  open_file(&places, name, ".places");
+}
+
+static void flush(struct file *it) {
+  for (size_t done = 0; done < it->used;) {
+    ssize_t n = write(it->number, it->held + done, it->used - done);
+    if (n < 0 && errno == EINTR) continue;
+    if (n <= 0) fail(it, "can't be written");
+    done += (size_t)n;
+  }
+  it->used = 0;
+}
+static void put(struct file *it, uint64_t v, size_t bytes) {
+  for (size_t i = 0; i < bytes; i++) it->held[it->used + i] = (char)(v >> (8 * i));
+  it->used += bytes;
+  it->bytes += bytes;
+}
+static void put_text(struct file *it, const char *text) {
+  for (; *text; text++) {
+    put(it, (unsigned char)*text, 1);
+    if (it->used >= BUFFER) flush(it);
+  }
+}
+static void close_file(struct file *it) {
+  flush(it);
+  if (fsync(it->number) && errno != EINVAL && errno != EROFS) fail(it, "can't be written");
+  if (close(it->number)) fail(it, "can't be written");
+  if (rename(it->part, it->name)) fail(it, "can't be renamed");
+}
+
+/* Who uses each word of eight bytes: one thread, or several; and which threads do so atomically. By pages of the program's. */
+enum { NOBODY = 0, SEVERAL = 0xffff, WORDS = 512 };
+struct page { uint64_t number; uint16_t users[WORDS], atomics[WORDS]; };
+struct atomic_user { uint16_t thread, next; };
+static struct page **pages;
+static size_t page_room, page_count;
+/* lists of atomic users, by links; a list is shared by the words that have it */
+static struct atomic_user lists[UINT16_MAX];
+static uint32_t list_count = 1;
+
+static size_t page_slot(uint64_t number) {
+  size_t i = (size_t)((number * 0x9e3779b97f4a7c15u) >> 32) & (page_room - 1);
+  while (pages[i] && pages[i]->number != number) i = (i + 1) & (page_room - 1);
+  return i;
+}
+static void widen_pages(void) {
+  size_t before = page_room;
+  struct page **old = pages;
+  page_room = before ? 2 * before : 1 << 12;
+  pages = fresh(page_room * sizeof *pages);
+  if (!pages) stop("there is no memory for the trace");
+  for (size_t i = 0; i < before; i++)
+    if (old[i]) pages[page_slot(old[i]->number)] = old[i];
+}
+static struct page *page_of(uint64_t word, int is_made) {
+  static struct page *last;
+  uint64_t number = word / WORDS;
+  if (last && last->number == number) return last;
+  if (!page_room || (is_made && 2 * page_count >= page_room)) widen_pages();
+  size_t i = page_slot(number);
+  if (!pages[i] && is_made) {
+    static struct page *room;
+    static size_t left;
+    if (!left) {
+      left = 256;
+      room = fresh(left * sizeof *room);
+      if (!room) stop("there is no memory for the trace");
+    }
+    pages[i] = room++;
+    left--;
+    pages[i]->number = number;
+    page_count++;
+  }
+  if (pages[i]) last = pages[i];
+  return pages[i];
+}
+
+/* The list that has one thread more. */
+static uint16_t with_user(uint16_t list, uint16_t thread) {
+  for (uint16_t k = list; k; k = lists[k].next)
+    if (lists[k].thread == thread) return list;
+  for (uint32_t k = 1; k < list_count; k++)
+    if (lists[k].thread == thread && lists[k].next == list) return (uint16_t)k;
+  if (list_count == UINT16_MAX) stop("there are more sets of threads on atomic memory than can be told apart");
+  lists[list_count] = (struct atomic_user){thread, list};
+  return (uint16_t)list_count++;
+}
+
+static int is_access(const struct row *it) { return it->kind <= FREED; }
+static int is_atomic(const struct row *it) { return it->kind >= ATOMIC_LOAD && it->kind <= UPDATE; }
+static uint64_t first_word(const struct row *it) { return it->address >> 3; }
+static uint64_t last_word(const struct row *it) { return (it->address + it->length - 1) >> 3; }
+
+/* A free makes no word one that is used: it alone races with nothing. */
+static void use_words(const struct row *it, uint16_t user) {
+  for (uint64_t w = first_word(it); w <= last_word(it); w++) {
+    struct page *page = page_of(w, it->kind != FREED);
+    if (!page) {
+      w |= WORDS - 1;
+      continue;
+    }
+    uint16_t *users = &page->users[w % WORDS], *atomics = &page->atomics[w % WORDS];
+    if (*users == NOBODY && it->kind != FREED) *users = user;
+    if (*users != NOBODY && *users != user) *users = SEVERAL;
+    if (is_atomic(it)) *atomics = with_user(*atomics, (uint16_t)(user - 1));
+  }
+}
+static void mark_words(int is_free) {
+  for (int k = 0; k < atomic_load(&thread_count); k++)
+    for (const struct chunk *c = threads[k] ? threads[k]->first : 0; c; c = c->next)
+      for (size_t i = 0, n = atomic_load(&c->used); i < n; i++)
+        if (is_access(&c->rows[i]) && (c->rows[i].kind == FREED) == is_free) use_words(&c->rows[i], (uint16_t)(k + 1));
+}
+static int is_shared(const struct row *it) {
+  for (uint64_t w = first_word(it); w <= last_word(it); w++) {
+    const struct page *page = page_of(w, 0);
+    if (!page) w |= WORDS - 1;
+    else if (page->users[w % WORDS] == SEVERAL) return 1;
+  }
+  return 0;
+}
+
+/* Threads that use a byte of an access atomically, but its own. */
+static size_t atomic_users(const struct row *it, uint16_t self, uint16_t *found) {
+  size_t count = 0;
+  for (uint64_t w = first_word(it); w <= last_word(it); w++) {
+    const struct page *page = page_of(w, 0);
+    if (!page) w |= WORDS - 1;
+    else
+      for (uint16_t k = page->atomics[w % WORDS]; k; k = lists[k].next) {
+        size_t i = 0;
+        while (i < count && found[i] != lists[k].thread) i++;
+        if (i == count && lists[k].thread != self) found[count++] = lists[k].thread;
+      }
+  }
+  return count;
+}
+
+/* Where an atomic access of a thread stands: apart from those of other threads, which it must not be ordered behind. */
+static uint64_t aside(uint64_t address, uint64_t thread) { return (thread + 1) << 47 | (address & (((uint64_t)1 << 47) - 1)); }
+/* The byte of a cell. */
+static uint64_t cell_at(uint64_t key) { return (uint64_t)1 << 63 | key; }
+
+static void put_access(enum kind kind, uint64_t address, uint64_t length) {
+  put(&trace, kind, 1);
+  put(&trace, address, 8);
+  put(&trace, length, 8);
+}
+static void put_plain(const struct row *it, uint16_t thread) {
+  static uint16_t others[THREADS];
+  enum kind kind = it->kind == LOAD ? LOAD : STORE;
+  size_t count = atomic_users(it, thread, others);
+  put(&trace, 1 + count, 8);
+  put_access(kind, it->address, it->length);
+  for (size_t k = 0; k < count; k++) put_access(kind, aside(it->address, others[k]), it->length);
+}
+/* An ordered step: its access, the cell it puts, and those it stands behind, which are the rows after it. */
+static void put_ordered(const struct row *it, size_t behind, uint16_t thread) {
+  int is_update = it->kind == UPDATE, has_access = is_access(it);
+  put(&trace, (uint64_t)(has_access + is_update) + it->puts + behind, 8);
+  if (has_access) put_access(is_update ? ATOMIC_LOAD : it->kind, aside(it->address, thread), it->length);
+  if (is_update) put_access(ATOMIC_STORE, aside(it->address, thread), it->length);
+  for (size_t k = 1; k <= behind; k++) put_access(ATOMIC_LOAD, cell_at(it[k].address), 1);
+  if (it->puts) put_access(ATOMIC_STORE, cell_at(it->key), 1);
+}
+
+static void put_place(const struct row *it, uint16_t thread) {
+  put(&places, it->at, 8);
+  put(&places, is_access(it) ? it->address : 0, 8);
+  put(&places, thread, 2);
+  put(&places, it->kind, 1);
+  put(&places, it->held, 1);
+  put(&places, it->lock, 2);
+  put(&places, 0, 2);
+  if (places.used >= BUFFER) flush(&places);
+}
+
+/* A step in the form of a trace. */
+static void put_step(const struct row *it, size_t behind, uint16_t thread) {
+  static const uint8_t events[] = {[ACQUIRE] = 2, [RELEASE] = 3, [JOINS] = 5, [ENDS] = 0};
+  int event = it->kind < ACQUIRE || it->kind > JOINS ? 0 : events[it->kind];
+  put(&trace, thread, 4);
+  put(&trace, (uint64_t)event, 1);
+  if (event) put(&trace, it->kind == JOINS ? it->address : it->lock, 4);
+  put(&trace, it->kind == ENDS, 1);
+  if (is_access(it) && !is_atomic(it)) put_plain(it, thread);
+  else put_ordered(it, behind, thread);
+  for (int list = 0; list < 3; list++) put(&trace, 0, 8);
+  put(&trace, it->kind == STARTS, 8);
+  if (it->kind == STARTS) put(&trace, it->address, 4);
+  put_place(it, thread);
+}
+
+/* A step in the order of the run: it is written where it may be. */
+static void next_step(const struct row *it, size_t behind, uint16_t thread) {
+  steps_made++;
+  if (is_access(it) && !is_shared(it)) return;
+  uint64_t number = steps_kept++;
+  if (is_full || number < first_step || number >= behind_last) return;
+  uint64_t most = 64 + 17 * (behind + 3 + THREADS);
+  if (steps_written == MOST_STEPS || trace.bytes + most > MOST_BYTES) {
+    is_full = 1;
+    return;
+  }
+  put_step(it, behind, thread);
+  steps_written++;
+  if (trace.used >= BUFFER) flush(&trace);
+}
+
+/* How far the rows of a thread are put in order. */
+struct reader { const struct chunk *chunk; size_t place; uint16_t thread; };
+static struct reader heap[THREADS];
+static size_t readers;
+
+static const struct row *row_of(const struct reader *it) { return &it->chunk->rows[it->place]; }
+static int has_row(struct reader *it) {
+  while (it->chunk && it->place == atomic_load_explicit(&it->chunk->used, memory_order_relaxed)) {
+    it->chunk = it->chunk->next;
+    it->place = 0;
+  }
+  return it->chunk != 0;
+}
+static void sink(size_t i) {
+  for (;;) {
+    size_t least = i;
+    for (size_t child = 2 * i + 1; child <= 2 * i + 2 && child < readers; child++)
+      if (row_of(&heap[child])->key < row_of(&heap[least])->key) least = child;
+    if (least == i) return;
+    struct reader it = heap[i];
+    heap[i] = heap[least];
+    heap[least] = it;
+    i = least;
+  }
+}
+/* The step at the front of a thread's rows, and the rows of what it stands behind, which are gathered in one place. */
+static void take_step(struct reader *from) {
+  static struct row step[THREADS + 1];
+  size_t behind = 0;
+  step[0] = *row_of(from);
+  from->place++;
+  while (has_row(from) && row_of(from)->kind == BEHIND && behind < THREADS) {
+    step[++behind] = *row_of(from);
+    from->place++;
+  }
+  next_step(step, behind, from->thread);
+}
+static void put_in_order(void) {
+  for (int k = 0; k < atomic_load(&thread_count); k++) {
+    struct reader it = {threads[k] ? threads[k]->first : 0, 0, (uint16_t)k};
+    if (has_row(&it)) heap[readers++] = it;
+  }
+  for (size_t i = readers; i-- > 0;) sink(i);
+  while (readers) {
+    take_step(&heap[0]);
+    if (!has_row(&heap[0])) heap[0] = heap[--readers];
+    sink(0);
+  }
+}
+
+/* The head of the places: where each file of the program lies, and each lock. */
+static void put_maps(void) {
+  char text[4096];
+  int maps = open("/proc/self/maps", O_RDONLY | O_CLOEXEC);
+  for (ssize_t n; maps >= 0 && (n = read(maps, text, sizeof text - 1)) > 0;) {
+    text[n] = 0;
+    put_text(&places, text);
+  }
+  if (maps >= 0) close(maps);
+}
+static void put_lock(const struct object *lock, void *argument) {
+  (void)argument;
+  static const char *const names[] = {[MUTEX] = "mutex", [SPIN] = "spin", [READERS_WRITER] = "rwlock"};
+  char line[128];
+  if (lock->number >= LOCKS) return;
+  snprintf(line, sizeof line, "lock %u %s %llx\n", lock->number, names[lock->kind], (unsigned long long)lock->address);
+  put_text(&places, line);
+}
+
+static void say_all(void) {
+  if (why_cut()) tell("record: %s: what came later isn't recorded\n", why_cut());
+  if (atomic_load(&strangers)) tell("record: threads that pthread_create didn't start are left out\n");
+  if (is_full)
+    tell("record: %llu steps are kept, of which the first %llu from %llu on are written (MIRACE_FROM)\n",
+         (unsigned long long)steps_kept, (unsigned long long)steps_written, (unsigned long long)first_step);
+  if (lock_count() > LOCKS) tell("record: %d locks, of which 4,096 have a number\n", lock_count());
+  tell("record: %llu steps made, %llu of memory that one thread alone used left out, %llu written, %d threads, %d locks\n",
+       (unsigned long long)steps_made, (unsigned long long)(steps_made - steps_kept), (unsigned long long)steps_written,
+       atomic_load(&thread_count), lock_count());
+}
+
+/* Its steps are counted before they are known: the count gets its place at the end. */
+void write_trace(void) {
+  put_text(&trace, "MRTR\1");
+  put(&trace, 0, 4);
+  put_text(&places, "places 1\n");
+  put_maps();
+  each_lock(put_lock, 0);
+  put_text(&places, "steps\n");
+  mark_words(0);
+  mark_words(1);
+  put_in_order();
+  flush(&trace);
+  char count[4];
+  for (int i = 0; i < 4; i++) count[i] = (char)(steps_written >> (8 * i));
+  if (pwrite(trace.number, count, 4, HEAD - 4) != 4) fail(&trace, "can't be written");
+  close_file(&places);
+  close_file(&trace);
+  say_all();
+}
