@@ -1,4 +1,5 @@
-/* Plain accesses: what the compiler calls in front of each, and the functions of the C library that copy and look at memory. */
+/* Plain accesses: what the compiler calls in front of each, and the functions of the C library that copy and look at
+   memory. */
 #include "recorder.h"
 #include <string.h>
 

@@ -1,6 +1,6 @@
-/* Atomic operations, as C11 orders them: an operation that acquires stands behind each one that released and that heads a release
-   sequence with the value that is read. An operation and its row are made while its object is taken, so that the rows of one
-   address stand in the order of the operations. */
+/* Atomic operations, as C11 orders them: an operation that acquires stands behind each one that released and that
+   heads a release sequence with the value that is read. An operation and its row are made while its object is taken,
+   so that the rows of one address stand in the order of the operations. */
 #include "recorder.h"
 
 enum { RELAXED, CONSUME, ACQUIRES, RELEASES, BOTH, IN_ONE_ORDER };
@@ -103,7 +103,8 @@ OPERATIONS(16, uint16_t)
 OPERATIONS(32, uint32_t)
 OPERATIONS(64, uint64_t)
 
-/* A fence that acquires stands behind all that earlier loads of its thread saw; one that releases is handed on by later stores. */
+/* A fence that acquires stands behind all that earlier loads of its thread saw; one that releases is handed on by
+   later stores. */
 void __tsan_atomic_thread_fence(int order) {
   __atomic_thread_fence(5);
   if ((order & 0xff) == RELAXED || !enter()) return;

@@ -33,7 +33,9 @@ int thrd_join(thrd_t t, int *r) {
 _Noreturn void thrd_exit(int r) { pthread_exit((void *)(intptr_t)r); }
 int mtx_lock(mtx_t *m) { return answer(pthread_mutex_lock(mutex(m))); }
 int mtx_trylock(mtx_t *m) { return answer(pthread_mutex_trylock(mutex(m))); }
-int mtx_timedlock(mtx_t *restrict m, const struct timespec *restrict t) { return answer(pthread_mutex_timedlock(mutex(m), t)); }
+int mtx_timedlock(mtx_t *restrict m, const struct timespec *restrict t) {
+  return answer(pthread_mutex_timedlock(mutex(m), t));
+}
 int mtx_unlock(mtx_t *m) { return answer(pthread_mutex_unlock(mutex(m))); }
 int cnd_wait(cnd_t *c, mtx_t *m) { return answer(pthread_cond_wait(condition(c), mutex(m))); }
 int cnd_timedwait(cnd_t *restrict c, mtx_t *restrict m, const struct timespec *restrict t) {

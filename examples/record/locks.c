@@ -1,5 +1,5 @@
-/* Locks of one holder, reader-writer locks, and conditions. A lock is had before its row is made, and its release has its row before
-   it is given back. */
+/* Locks of one holder, reader-writer locks, and conditions. A lock is had before its row is made, and its release has
+   its row before it is given back. */
 #include "recorder.h"
 #include <errno.h>
 #include <time.h>
@@ -131,16 +131,24 @@ static void shared_given(uint64_t at, pthread_rwlock_t *l) {
   leave();
 }
 
-int pthread_rwlock_rdlock(pthread_rwlock_t *l) { return shared_taken(PLACE, l, 0, REAL(pthread_rwlock_rdlock)(l)); }
-int pthread_rwlock_tryrdlock(pthread_rwlock_t *l) { return shared_taken(PLACE, l, 0, REAL(pthread_rwlock_tryrdlock)(l)); }
+int pthread_rwlock_rdlock(pthread_rwlock_t *l) {
+  return shared_taken(PLACE, l, 0, REAL(pthread_rwlock_rdlock)(l));
+}
+int pthread_rwlock_tryrdlock(pthread_rwlock_t *l) {
+  return shared_taken(PLACE, l, 0, REAL(pthread_rwlock_tryrdlock)(l));
+}
 int pthread_rwlock_timedrdlock(pthread_rwlock_t *restrict l, const struct timespec *restrict t) {
   return shared_taken(PLACE, l, 0, REAL(pthread_rwlock_timedrdlock)(l, t));
 }
 int pthread_rwlock_clockrdlock(pthread_rwlock_t *restrict l, clockid_t c, const struct timespec *restrict t) {
   return shared_taken(PLACE, l, 0, REAL(pthread_rwlock_clockrdlock)(l, c, t));
 }
-int pthread_rwlock_wrlock(pthread_rwlock_t *l) { return shared_taken(PLACE, l, 1, REAL(pthread_rwlock_wrlock)(l)); }
-int pthread_rwlock_trywrlock(pthread_rwlock_t *l) { return shared_taken(PLACE, l, 1, REAL(pthread_rwlock_trywrlock)(l)); }
+int pthread_rwlock_wrlock(pthread_rwlock_t *l) {
+  return shared_taken(PLACE, l, 1, REAL(pthread_rwlock_wrlock)(l));
+}
+int pthread_rwlock_trywrlock(pthread_rwlock_t *l) {
+  return shared_taken(PLACE, l, 1, REAL(pthread_rwlock_trywrlock)(l));
+}
 int pthread_rwlock_timedwrlock(pthread_rwlock_t *restrict l, const struct timespec *restrict t) {
   return shared_taken(PLACE, l, 1, REAL(pthread_rwlock_timedwrlock)(l, t));
 }
@@ -160,8 +168,8 @@ int pthread_rwlock_destroy(pthread_rwlock_t *l) {
   return REAL(pthread_rwlock_destroy)(l);
 }
 
-/* A thread that waits gives the mutex up and takes it again, also where it is cancelled while it waits. A signal of a condition
-   orders nothing. */
+/* A thread that waits gives the mutex up and takes it again, also where it is cancelled while it waits. A signal of a
+   condition orders nothing. */
 struct wait { pthread_mutex_t *mutex; uint64_t at; int depth; };
 static void wait_over(void *argument) {
   struct wait *it = argument;

@@ -1,5 +1,5 @@
-/* Memory. No address is used twice: what is freed isn't given back. To free a block is to store to all of it, so that it can race
-   with a use. */
+/* Memory. No address is used twice: what is freed isn't given back. To free a block is to store to all of it, so that
+   it can race with a use. */
 #include "recorder.h"
 #include <dlfcn.h>
 #include <errno.h>

@@ -1,6 +1,6 @@
-/* A window of a program that is recorded: MIRACE_BEGIN() opens it, and MIRACE_END() closes it, as often as one likes. In a program
-   that uses one of them the window is closed at first. Plain accesses are recorded in the window alone. All that orders threads is
-   recorded everywhere. In a program that is built without the recorder both do nothing. */
+/* A window of a program that is recorded: MIRACE_BEGIN() opens it, and MIRACE_END() closes it, as often as one likes.
+   In a program that uses one of them the window is closed at first. Plain accesses are recorded in the window alone.
+   All that orders threads is recorded everywhere. In a program that is built without the recorder both do nothing. */
 #ifndef MIRACE_H
 #define MIRACE_H
 #ifdef __cplusplus

@@ -70,8 +70,8 @@ void find_call(const char *name, void *call) {
   *(void **)call = found;
 }
 
-/* Whether a row may be made here: recording goes on, the thread is known, and it isn't making one. Between enter and leave no
-   handler of a signal runs in this thread. */
+/* Whether a row may be made here: recording goes on, the thread is known, and it isn't making one. Between enter and
+   leave no handler of a signal runs in this thread. */
 int enter(void) {
   if (!atomic_load_explicit(&running, memory_order_relaxed)) return 0;
   struct thread *t = me;
@@ -144,8 +144,8 @@ void record_access(uint64_t at, const volatile void *address, size_t length, enu
   leave();
 }
 
-/* The row of a step that orders threads; nothing where there is no room. Its caller has what makes the order of such steps that of
-   their operations. */
+/* The row of a step that orders threads; nothing where there is no room. Its caller has what makes the order of such
+   steps that of their operations. */
 struct row *ordered_row(uint64_t at, enum kind kind, uint64_t address, uint32_t length) {
   struct row *it = next_row(me);
   if (!it) return 0;

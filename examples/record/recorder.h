@@ -1,12 +1,12 @@
 /* What the files of the recorder share. README of the whole: docs/RECORD.md.
 
-   Each thread writes rows to buffers of its own. A row has a key, and the rows of all threads are put into one order by their keys
-   when the program ends. The clock counts operations that order threads: such a step has the odd key 2n+1 of its tick n, and an
-   access the even key of the clock as it then stood. So an access stands behind what its thread was ordered behind, and in front of
-   what its thread hands on.
+   Each thread writes rows to buffers of its own. A row has a key, and the rows of all threads are put into one order
+   by their keys when the program ends. The clock counts operations that order threads: such a step has the odd key
+   2n+1 of its tick n, and an access the even key of the clock as it then stood. So an access stands behind what its
+   thread was ordered behind, and in front of what its thread hands on.
 
-   A step that others are to stand behind puts its cell: a byte of an address that no other step stores to. Who stands behind it
-   loads that cell. A cell is named by the key of its step. */
+   A step that others are to stand behind puts its cell: a byte of an address that no other step stores to. Who stands
+   behind it loads that cell. A cell is named by the key of its step. */
 #ifndef RECORDER_H
 #define RECORDER_H
 #include <pthread.h>
@@ -16,8 +16,11 @@
 
 enum { THREADS = 1024, LOCKS = 4096, CHUNK_ROWS = 1 << 14 };
 
-/* What a row tells. The first five are accesses; LOAD to ATOMIC_STORE have the number that a trace gives them. */
-enum kind { LOAD, STORE, ATOMIC_LOAD, ATOMIC_STORE, UPDATE, FREED, FENCE, PASS, BEHIND, ACQUIRE, RELEASE, STARTS, JOINS, ENDS };
+/* What a row tells. LOAD to ATOMIC_STORE have the number that a trace gives them. */
+enum kind {
+  LOAD, STORE, ATOMIC_LOAD, ATOMIC_STORE, UPDATE, FREED, /* accesses */
+  FENCE, PASS, BEHIND, ACQUIRE, RELEASE, STARTS, JOINS, ENDS
+};
 
 /* How a row changes which locks its thread has, for the list of places. */
 enum held { NO_LOCK, TAKES, TAKES_TO_READ, GIVES };
@@ -115,6 +118,13 @@ void deliver(void);
 void begin_modules(void);
 void add_module(uint64_t at);
 int is_recorded_code(uint64_t at);
+
+/* users.c */
+int is_access(const struct row *it);
+int is_atomic(const struct row *it);
+void mark_words(void);
+int is_shared(const struct row *it);
+size_t atomic_users(const struct row *it, uint16_t self, uint16_t *found);
 
 /* trace.c */
 void open_trace(void);

@@ -1,5 +1,5 @@
-/* Signals. A handler of the program runs between two rows of its thread, never within one: a signal that comes within is sent again
-   behind it. A signal that ends the program writes the trace first, but SIGKILL. */
+/* Signals. A handler of the program runs between two rows of its thread, never within one: a signal that comes within
+   is sent again behind it. A signal that ends the program writes the trace first, but SIGKILL. */
 #include "recorder.h"
 #include <signal.h>
 #include <string.h>
@@ -11,8 +11,8 @@ enum { SIGNALS = 65 };
 /* What the program asked for, of each signal. */
 static struct sigaction wanted[SIGNALS];
 static siginfo_t held_back[SIGNALS];
-static const int deadly[] = {SIGHUP, SIGINT, SIGQUIT, SIGILL, SIGABRT, SIGBUS, SIGFPE, SIGSEGV, SIGPIPE, SIGALRM, SIGTERM,
-                             SIGUSR1, SIGUSR2};
+static const int deadly[] = {SIGHUP, SIGINT, SIGQUIT, SIGILL, SIGABRT, SIGBUS, SIGFPE, SIGSEGV, SIGPIPE, SIGALRM,
+                             SIGTERM, SIGUSR1, SIGUSR2};
 
 static int is_of_step(int signal) {
   return signal == SIGSEGV || signal == SIGBUS || signal == SIGFPE || signal == SIGILL || signal == SIGTRAP;
@@ -22,6 +22,8 @@ static int is_deadly(int signal) {
     if (deadly[k] == signal) return 1;
   return 0;
 }
+
+static int is_default(const struct sigaction *it) { return !(it->sa_flags & SA_SIGINFO) && it->sa_handler == SIG_DFL; }
 
 static void handler(int signal, siginfo_t *info, void *context) {
   struct thread *t = me;
@@ -50,7 +52,7 @@ static void dies(int signal) {
     me->waiting |= (uint64_t)1 << (signal - 1);
     return;
   }
-  if (wanted[signal].sa_handler == SIG_DFL) tell("record: signal %d ends the program\n", signal);
+  tell("record: signal %d ends the program\n", signal);
   finish();
   struct sigaction plain = {.sa_handler = SIG_DFL};
   REAL(sigaction)(signal, &plain, 0);
@@ -63,16 +65,17 @@ static int watch(int signal) {
 void watch_signals(void) {
   for (size_t k = 0; k < sizeof deadly / sizeof *deadly; k++) {
     struct sigaction now;
-    if (!REAL(sigaction)(deadly[k], 0, &now) && now.sa_handler == SIG_DFL && !(now.sa_flags & SA_SIGINFO)) watch(deadly[k]);
+    if (REAL(sigaction)(deadly[k], 0, &now)) continue;
+    if (is_default(&now)) watch(deadly[k]);
     else wanted[deadly[k]] = now;
   }
 }
 
 /* The program's handler is called by ours; the rest is done as it asks. */
 static int set(int signal, const struct sigaction *asked) {
-  int is_plain = !(asked->sa_flags & SA_SIGINFO);
-  if (is_plain && asked->sa_handler == SIG_DFL && is_deadly(signal)) return watch(signal);
-  if (is_plain && (asked->sa_handler == SIG_DFL || asked->sa_handler == SIG_IGN)) return REAL(sigaction)(signal, asked, 0);
+  int is_ignored = !(asked->sa_flags & SA_SIGINFO) && asked->sa_handler == SIG_IGN;
+  if (is_default(asked) && is_deadly(signal)) return watch(signal);
+  if (is_default(asked) || is_ignored) return REAL(sigaction)(signal, asked, 0);
   struct sigaction it = *asked;
   it.sa_sigaction = handler;
   it.sa_flags |= SA_SIGINFO;

@@ -12,7 +12,8 @@ struct start { void *(*body)(void *); void *argument; struct thread *thread; };
 
 static pthread_key_t last_key;
 
-/* The destructor of thread-specific data that runs in the last round: behind it the thread does nothing that is recorded. */
+/* The destructor of thread-specific data that runs in the last round: behind it the thread does nothing that is
+   recorded. */
 static void ends(void *argument) {
   struct thread *it = argument;
   if (++it->rounds < ROUNDS) {
@@ -60,7 +61,8 @@ static struct start *started(uint64_t at, void *(*f)(void *), void *argument) {
   return it;
 }
 
-int pthread_create(pthread_t *restrict t, const pthread_attr_t *restrict a, void *(*f)(void *), void *restrict argument) {
+int pthread_create(pthread_t *restrict t, const pthread_attr_t *restrict a, void *(*f)(void *),
+                   void *restrict argument) {
   struct start *it = 0;
   if (enter()) {
     leave();

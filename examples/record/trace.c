@@ -1,5 +1,6 @@
-/* The trace and its places. The rows of all threads are put into one order; those on memory that one thread alone used are left out,
-   since they race with nothing and order nothing. What is written goes to NAME.part, which gets its name when it is whole. */
+/* The trace and its places. The rows of all threads are put into one order; those on memory that one thread alone
+   used are left out, since they race with nothing and order nothing. What is written goes to NAME.part, which gets
+   its name when it is whole. */
 #include "recorder.h"
 #include <errno.h>
 #include <fcntl.h>
@@ -91,116 +92,10 @@ static void close_file(struct file *it) {
   if (rename(it->part, it->name)) fail(it, "can't be renamed");
 }
 
-/* Who uses each word of eight bytes: one thread, or several; and which threads do so atomically. By pages of the program's. */
-enum { NOBODY = 0, SEVERAL = 0xffff, WORDS = 512 };
-struct page { uint64_t number; uint16_t users[WORDS], atomics[WORDS]; };
-struct atomic_user { uint16_t thread, next; };
-static struct page **pages;
-static size_t page_room, page_count;
-/* lists of atomic users, by links; a list is shared by the words that have it */
-static struct atomic_user lists[UINT16_MAX];
-static uint32_t list_count = 1;
-
-static size_t page_slot(uint64_t number) {
-  size_t i = (size_t)((number * 0x9e3779b97f4a7c15u) >> 32) & (page_room - 1);
-  while (pages[i] && pages[i]->number != number) i = (i + 1) & (page_room - 1);
-  return i;
-}
-static void widen_pages(void) {
-  size_t before = page_room;
-  struct page **old = pages;
-  page_room = before ? 2 * before : 1 << 12;
-  pages = fresh(page_room * sizeof *pages);
-  if (!pages) stop("there is no memory for the trace");
-  for (size_t i = 0; i < before; i++)
-    if (old[i]) pages[page_slot(old[i]->number)] = old[i];
-}
-static struct page *page_of(uint64_t word, int is_made) {
-  static struct page *last;
-  uint64_t number = word / WORDS;
-  if (last && last->number == number) return last;
-  if (!page_room || (is_made && 2 * page_count >= page_room)) widen_pages();
-  size_t i = page_slot(number);
-  if (!pages[i] && is_made) {
-    static struct page *room;
-    static size_t left;
-    if (!left) {
-      left = 256;
-      room = fresh(left * sizeof *room);
-      if (!room) stop("there is no memory for the trace");
-    }
-    pages[i] = room++;
-    left--;
-    pages[i]->number = number;
-    page_count++;
-  }
-  if (pages[i]) last = pages[i];
-  return pages[i];
-}
-
-/* The list that has one thread more. */
-static uint16_t with_user(uint16_t list, uint16_t thread) {
-  for (uint16_t k = list; k; k = lists[k].next)
-    if (lists[k].thread == thread) return list;
-  for (uint32_t k = 1; k < list_count; k++)
-    if (lists[k].thread == thread && lists[k].next == list) return (uint16_t)k;
-  if (list_count == UINT16_MAX) stop("there are more sets of threads on atomic memory than can be told apart");
-  lists[list_count] = (struct atomic_user){thread, list};
-  return (uint16_t)list_count++;
-}
-
-static int is_access(const struct row *it) { return it->kind <= FREED; }
-static int is_atomic(const struct row *it) { return it->kind >= ATOMIC_LOAD && it->kind <= UPDATE; }
-static uint64_t first_word(const struct row *it) { return it->address >> 3; }
-static uint64_t last_word(const struct row *it) { return (it->address + it->length - 1) >> 3; }
-
-/* A free makes no word one that is used: it alone races with nothing. */
-static void use_words(const struct row *it, uint16_t user) {
-  for (uint64_t w = first_word(it); w <= last_word(it); w++) {
-    struct page *page = page_of(w, it->kind != FREED);
-    if (!page) {
-      w |= WORDS - 1;
-      continue;
-    }
-    uint16_t *users = &page->users[w % WORDS], *atomics = &page->atomics[w % WORDS];
-    if (*users == NOBODY && it->kind != FREED) *users = user;
-    if (*users != NOBODY && *users != user) *users = SEVERAL;
-    if (is_atomic(it)) *atomics = with_user(*atomics, (uint16_t)(user - 1));
-  }
-}
-static void mark_words(int is_free) {
-  for (int k = 0; k < atomic_load(&thread_count); k++)
-    for (const struct chunk *c = threads[k] ? threads[k]->first : 0; c; c = c->next)
-      for (size_t i = 0, n = atomic_load(&c->used); i < n; i++)
-        if (is_access(&c->rows[i]) && (c->rows[i].kind == FREED) == is_free) use_words(&c->rows[i], (uint16_t)(k + 1));
-}
-static int is_shared(const struct row *it) {
-  for (uint64_t w = first_word(it); w <= last_word(it); w++) {
-    const struct page *page = page_of(w, 0);
-    if (!page) w |= WORDS - 1;
-    else if (page->users[w % WORDS] == SEVERAL) return 1;
-  }
-  return 0;
-}
-
-/* Threads that use a byte of an access atomically, but its own. */
-static size_t atomic_users(const struct row *it, uint16_t self, uint16_t *found) {
-  size_t count = 0;
-  for (uint64_t w = first_word(it); w <= last_word(it); w++) {
-    const struct page *page = page_of(w, 0);
-    if (!page) w |= WORDS - 1;
-    else
-      for (uint16_t k = page->atomics[w % WORDS]; k; k = lists[k].next) {
-        size_t i = 0;
-        while (i < count && found[i] != lists[k].thread) i++;
-        if (i == count && lists[k].thread != self) found[count++] = lists[k].thread;
-      }
-  }
-  return count;
-}
-
 /* Where an atomic access of a thread stands: apart from those of other threads, which it must not be ordered behind. */
-static uint64_t aside(uint64_t address, uint64_t thread) { return (thread + 1) << 47 | (address & (((uint64_t)1 << 47) - 1)); }
+static uint64_t aside(uint64_t address, uint64_t thread) {
+  return (thread + 1) << 47 | (address & (((uint64_t)1 << 47) - 1));
+}
 /* The byte of a cell. */
 static uint64_t cell_at(uint64_t key) { return (uint64_t)1 << 63 | key; }
 
@@ -340,15 +235,16 @@ static void put_lock(const struct object *lock, void *argument) {
 }
 
 static void say_all(void) {
+  unsigned long long made = steps_made, kept = steps_kept, written = steps_written;
   if (why_cut()) tell("record: %s: what came later isn't recorded\n", why_cut());
   if (atomic_load(&strangers)) tell("record: threads that pthread_create didn't start are left out\n");
   if (is_full)
-    tell("record: %llu steps are kept, of which the first %llu from %llu on are written (MIRACE_FROM)\n",
-         (unsigned long long)steps_kept, (unsigned long long)steps_written, (unsigned long long)first_step);
+    tell("record: %llu steps are kept, of which the first %llu from %llu on are written (MIRACE_FROM)\n", kept, written,
+         (unsigned long long)first_step);
   if (lock_count() > LOCKS) tell("record: %d locks, of which 4,096 have a number\n", lock_count());
-  tell("record: %llu steps made, %llu of memory that one thread alone used left out, %llu written, %d threads, %d locks\n",
-       (unsigned long long)steps_made, (unsigned long long)(steps_made - steps_kept), (unsigned long long)steps_written,
-       atomic_load(&thread_count), lock_count());
+  tell("record: %llu steps made, %llu of memory that one thread alone used left out, %llu written\n", made, made - kept,
+       written);
+  tell("record: %d threads, %d locks\n", atomic_load(&thread_count), lock_count());
 }
 
 /* Its steps are counted before they are known: the count gets its place at the end. */
@@ -359,8 +255,7 @@ void write_trace(void) {
   put_maps();
   each_lock(put_lock, 0);
   put_text(&places, "steps\n");
-  mark_words(0);
-  mark_words(1);
+  mark_words();
   put_in_order();
   flush(&trace);
   char count[4];

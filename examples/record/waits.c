@@ -25,7 +25,9 @@ static int had(uint64_t at, sem_t *s, int code) {
 }
 int sem_wait(sem_t *s) { return had(PLACE, s, REAL(sem_wait)(s)); }
 int sem_trywait(sem_t *s) { return had(PLACE, s, REAL(sem_trywait)(s)); }
-int sem_timedwait(sem_t *restrict s, const struct timespec *restrict t) { return had(PLACE, s, REAL(sem_timedwait)(s, t)); }
+int sem_timedwait(sem_t *restrict s, const struct timespec *restrict t) {
+  return had(PLACE, s, REAL(sem_timedwait)(s, t));
+}
 int sem_clockwait(sem_t *restrict s, clockid_t c, const struct timespec *restrict t) {
   return had(PLACE, s, REAL(sem_clockwait)(s, c, t));
 }
@@ -57,7 +59,8 @@ int pthread_barrier_destroy(pthread_barrier_t *b) {
   return REAL(pthread_barrier_destroy)(b);
 }
 
-/* Of a barrier two generations can be under way at most: one that threads come to, and one that others have yet to leave. */
+/* Of a barrier two generations can be under way at most: one that threads come to, and one that others have yet to
+   leave. */
 static uint32_t arrives(uint64_t at, pthread_barrier_t *b) {
   if (!enter()) return 0;
   struct object *it = take_object(b, BARRIER);
@@ -110,8 +113,8 @@ int pthread_once(pthread_once_t *o, void (*body)(void)) {
   return code;
 }
 
-/* C++'s static locals. The compiler loads the first byte of a guard atomically in front of these calls, and its library stores there:
-   so the guard hands on as an atomic store does. */
+/* C++'s static locals. The compiler loads the first byte of a guard atomically in front of these calls, and its
+   library stores there: so the guard hands on as an atomic store does. */
 struct guarded;
 int __cxa_guard_acquire(struct guarded *g);
 void __cxa_guard_release(struct guarded *g);

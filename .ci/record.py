@@ -1,0 +1,305 @@
+"""The recorder of examples/record/: it is compiled without a warning; small programs (record_programs.py) are
+recorded, and their races are those that they have by construction, and those of the definition (plain.py); so are
+the twins of examples/beside; and what can go wrong is told, and leaves no trace that is taken for a whole one.
+
+    .ci/record.py [PROGRAM]     checks the recorder alone, with this mirace
+"""
+import importlib.machinery
+import importlib.util
+import os
+import re
+import resource
+import shutil
+import signal
+import subprocess
+import sys
+import tempfile
+import time
+
+sys.dont_write_bytecode = True
+import plain  # noqa: E402
+import record_programs  # noqa: E402
+
+TOP = os.path.dirname(os.path.dirname(os.path.abspath(__file__)))
+HERE = f"{TOP}/examples/record"
+TWINS = f"{TOP}/examples/beside"
+COMPILERS = {"c": "gcc", "cpp": "g++"}
+PATIENCE = 60
+# The most steps of a trace whose races are compared with the definition, which looks at each two of them.
+MOST_STEPS = 1500
+# Twins with another list than their example, by the example's steps: C's order has less in it than the machine's, and
+# to free is a store here, as in edition 2.
+OTHER_RACES = {"spawns": {"4-7"}, "stop": {"4-7"}, "use-after-free": {"6-7"}}
+
+
+def module(name, path):
+    """The module of a file of Python, whatever its name is."""
+    loader = importlib.machinery.SourceFileLoader(name, path)
+    it = importlib.util.module_from_spec(importlib.util.spec_from_loader(name, loader))
+    loader.exec_module(it)
+    return it
+
+
+class Recorded:
+    """A program that was recorded."""
+
+    def __init__(self, at, words=(), limits=None, **variables):
+        self.trace = f"{at}/recorded.trace"
+        for name in (self.trace, f"{self.trace}.part", f"{self.trace}.places"):
+            if os.path.exists(name):
+                os.remove(name)
+        names = {**os.environ, "MIRACE_TRACE": self.trace, **variables}
+        ran = subprocess.run([f"{at}/recorded", *words], cwd=at, env=names, preexec_fn=limits, stdin=subprocess.DEVNULL,
+                             stdout=subprocess.PIPE, stderr=subprocess.PIPE, timeout=PATIENCE)
+        self.output, self.told, self.status = ran.stdout, ran.stderr.decode(), ran.returncode
+        self.is_whole = os.path.exists(self.trace)
+
+
+class Checks:
+    """What the checks share: where they are, the judge, the program, and the scripts that they read."""
+
+    def __init__(self, judge, program, at):
+        self.judge, self.program, self.at = judge, program, at
+        self.races = module("races_script", f"{HERE}/races")
+        self.script = module("trace_script", f"{TOP}/examples/trace/trace.py")
+
+    def build(self, text, language, *flags, name="recorded"):
+        """The program of a text; what the compiler says."""
+        source = f"{self.at}/{name}.{language}"
+        with open(source, "w", encoding="utf-8") as it:
+            it.write(text)
+        return self.build_file(source, COMPILERS[language], *flags, name=name)
+
+    def build_file(self, source, compiler, *flags, name="recorded"):
+        words = [f"{HERE}/record-cc", "-O0", *flags, source, "-o", f"{self.at}/{name}"]
+        made = subprocess.run(words, env={**os.environ, "MIRACE_CC": compiler, "MIRACE_BUILT": f"{self.at}/built"},
+                              stdout=subprocess.PIPE, stderr=subprocess.STDOUT, timeout=PATIENCE)
+        return made.stdout.decode() if made.returncode or b"warning" in made.stdout else ""
+
+    def steps(self, trace):
+        with open(trace, "rb") as it:
+            text = self.script.decode(it.read())
+        return [self.script.step_of(line) for line in text.splitlines()]
+
+    def offline(self, trace):
+        ran = subprocess.run([self.program, "offline", trace], stdout=subprocess.PIPE, timeout=PATIENCE)
+        return ran.stdout
+
+    def lines(self, trace, pairs):
+        """Of each pair the two lines of the source, by rising numbers."""
+        places = self.races.Places(f"{trace}.places")
+        rows = {it: places.row(it) for pair in pairs for it in pair}
+        known = self.races.names(places, {it[0] for it in rows.values()})
+        line = lambda it: int(known.get(rows[it][0], ("?:0", ""))[0].rpartition(":")[2].replace("?", "0"))
+        return {tuple(sorted(map(line, pair))) for pair in pairs}
+
+    def by_definition(self, what, trace):
+        """The list is that of the definition, where a trace is short enough to try."""
+        steps = self.steps(trace)
+        self.judge(f"{what}: a trace that is short", len(steps) <= MOST_STEPS, f"{len(steps)} steps")
+        if len(steps) <= MOST_STEPS:
+            wanted, listed = plain.listed(steps), self.offline(trace)
+            told = f"{listed[:300]} and not {wanted[:300]}"
+            self.judge(f"{what}: its races by their definition", wanted == listed, told)
+
+
+def named(text, pairs, sign):
+    """Pairs of lines as pairs of what marks them."""
+    marks = {k: it[1] for k, line in enumerate(text.split("\n"), 1) if (it := re.search(sign, line))}
+    return {tuple(sorted((marks.get(it, f"line {it}") for it in pair), key=lambda it: (len(it), it))) for pair in pairs}
+
+
+def recorder_itself(checks):
+    """The recorder is compiled by gcc and by clang without a warning, and another tool finds nothing."""
+    files = [f"{HERE}/{it}" for it in sorted(os.listdir(HERE)) if it.endswith(".c")]
+    for compiler in filter(shutil.which, ("gcc", "clang")):
+        words = [compiler, "-std=c11", "-D_GNU_SOURCE", "-O2", "-Wall", "-Wextra", "-fsyntax-only", *files]
+        said = subprocess.run(words, stdout=subprocess.PIPE, stderr=subprocess.STDOUT, timeout=PATIENCE)
+        checks.judge(f"the recorder by {compiler}", not said.returncode and not said.stdout, said.stdout.decode()[:500])
+    if shutil.which("cppcheck"):
+        kinds = "--enable=warning,performance,portability"
+        words = ["cppcheck", "--quiet", "--std=c11", kinds, "--error-exitcode=1", *files]
+        said = subprocess.run(words, stdout=subprocess.PIPE, stderr=subprocess.STDOUT, timeout=PATIENCE)
+        checks.judge("the recorder by cppcheck", not said.returncode and not said.stdout, said.stdout.decode()[:500])
+
+
+def small_programs(checks):
+    """Each program of the table: its races are those that it has, and those of the definition."""
+    for it in record_programs.cases():
+        text = record_programs.source(it)
+        said = checks.build(text, it.language)
+        checks.judge(f"{it.name}: it is compiled", not said, said[:500])
+        if said:
+            continue
+        ran = Recorded(checks.at)
+        is_well = ran.status == 0 and ran.is_whole
+        checks.judge(f"{it.name}: it runs to its end", is_well, f"{ran.status}: {ran.told}{ran.output}")
+        if not ran.is_whole:
+            continue
+        pairs = checks.races.pairs_of(checks.program, ran.trace)
+        found = {"".join(pair) for pair in named(text, checks.lines(ran.trace, pairs), r"//(.)$")}
+        checks.judge(f"{it.name}: its races", found == it.races, f"{sorted(found)} and not {sorted(it.races)}")
+        checks.by_definition(it.name, ran.trace)
+
+
+def twins(checks):
+    """The twins in the order of the recorded run: what is listed of each, beside the list of its example."""
+    for name in sorted(it[:-2] for it in os.listdir(TWINS) if it.endswith(".c")):
+        example = [f"{TOP}/examples/{name}.mr", f"{TOP}/examples/{name}.sched"]
+        report = subprocess.run([checks.program, "run", *example], stdout=subprocess.PIPE, timeout=PATIENCE).stdout
+        wanted = {f"{i}-{j}" for i, j in re.findall(r"^race (\d+) (\d+)$", report.decode(), re.M)}
+        said = checks.build_file(f"{TWINS}/{name}.c", "gcc")
+        ran = Recorded(checks.at, SLOT="40")
+        checks.judge(f"the twin {name} is recorded", not said and ran.is_whole, said or ran.told)
+        pairs = checks.races.pairs_of(checks.program, ran.trace)
+        with open(f"{TWINS}/{name}.c", encoding="utf-8") as it:
+            found = {"-".join(it) for it in named(it.read(), checks.lines(ran.trace, pairs), r"// step (\d+)$")}
+        is_well = (name in OTHER_RACES) == (found != wanted)
+        checks.judge(f"the twin {name}: whether its list is the example's", is_well, f"{sorted(found)}")
+        checks.judge(f"the twin {name}: its races", found == OTHER_RACES.get(name, wanted), f"{sorted(found)}")
+        checks.by_definition(f"the twin {name}", ran.trace)
+
+
+# Two threads that store so often as the first word says; what they store is summed up.
+LONG = record_programs.C + """#include "mirace.h"
+static volatile int cells[1024];
+static void *work(void *argument) {
+  for (long k = *(long *)argument; k > 0; k--) {
+    if (k == 5) MIRACE_BEGIN();
+    cells[k % 1024] = 1; //a
+    if (k == 3) MIRACE_END();
+  }
+  return argument; }
+int main(int count, char **words) {
+  long times = count > 1 ? atol(words[1]) : 0;
+  pthread_t t;
+  pthread_create(&t, 0, work, &times);
+  work(&times);
+  pthread_join(t, 0);
+  if (count > 2) raise(atoi(words[2]));
+  return 0; }
+"""
+THREADS = record_programs.C + """
+static void *work(void *argument) { x++; return argument; }
+int main(void) {
+  for (int k = 0; k < 1100; k++) { pthread_t t; must(!pthread_create(&t, 0, work, 0)); pthread_join(t, 0); }
+  puts("1100 threads");
+  return 0; }
+"""
+PARALLEL = "int main(void) { int sum = 0;\n#pragma omp parallel\nsum++;\nreturn 0; }\n"
+
+
+def without_window(text):
+    return re.sub(r".*(mirace.h|MIRACE_BEGIN|MIRACE_END).*\n", "", text)
+
+
+def windows(checks):
+    """A part of a run is recorded: by numbers of steps, and by what the program says."""
+    said = checks.build(without_window(LONG), "c")
+    checks.judge("a long program is compiled", not said, said)
+    whole, part, rest = Recorded(checks.at, ["100"]), None, None
+    steps = checks.steps(whole.trace)
+    checks.judge("a run without a window", len(steps) > 200, f"{len(steps)} steps")
+    part = Recorded(checks.at, ["100"], MIRACE_FROM="10", MIRACE_TO="30")
+    checks.judge("a window by steps", part.is_whole and len(checks.steps(part.trace)) == 20, part.told)
+    checks.by_definition("a window by steps", part.trace)
+    rest = Recorded(checks.at, ["100"], MIRACE_FROM="x")
+    is_told = rest.status == 70 and not rest.is_whole and "MIRACE_FROM is no number" in rest.told
+    checks.judge("a window by no number", is_told, rest.told)
+    said = checks.build(LONG, "c", f"-I{HERE}")
+    ran = Recorded(checks.at, ["1000"])
+    stores = [it for it in checks.steps(ran.trace) if it[3]]
+    told = f"{said}{len(stores)} steps of {ran.told}"
+    checks.judge("a window that the program opens", not said and 3 <= len(stores) < 1000, told)
+
+
+def many_steps(checks):
+    """More steps than a trace has: the first are written, and it is told; so are buffers that are full, and too
+    many threads."""
+    said = checks.build(without_window(LONG), "c", "-O1")
+    checks.judge("a long program is compiled with -O1", not said, said)
+    begun = time.monotonic()
+    ran = Recorded(checks.at, ["2200000"])
+    spent = time.monotonic() - begun
+    with open(ran.trace, "rb") as it:
+        count = int.from_bytes(it.read(9)[5:], "little")
+    is_told = f"of which the first {count} from 0 on are written" in ran.told
+    checks.judge("more than 2^22 steps", count <= 1 << 22 and count > 4000000 and is_told, f"{count}: {ran.told}")
+    checks.judge("more than 2^22 steps: within seconds", spent < 20, f"{spent:.1f} seconds")
+    begun = time.monotonic()
+    listed = checks.offline(ran.trace)
+    is_well = listed.startswith(b"races ") and time.monotonic() - begun < PATIENCE
+    checks.judge("2^22 steps are read", is_well, f"{listed[:100]}")
+    full = Recorded(checks.at, ["2200000"], MIRACE_ROOM="8")
+    checks.judge("full buffers", full.is_whole and full.status == 0 and "the buffers are full" in full.told, full.told)
+    said = checks.build(THREADS, "c")
+    ran = Recorded(checks.at)
+    is_told = "more than 1,024 threads" in ran.told and ran.output == b"1100 threads\n"
+    checks.judge("more than 1,024 threads", not said and ran.is_whole and is_told, f"{said}{ran.told}{ran.output}")
+    checks.judge("the first 1,024 threads", checks.offline(ran.trace) == b"races 0\n", ran.told)
+
+
+def small_files():
+    signal.signal(signal.SIGXFSZ, signal.SIG_IGN)
+    resource.setrlimit(resource.RLIMIT_FSIZE, (4096, 4096))
+
+
+def small_memory():
+    resource.setrlimit(resource.RLIMIT_AS, (96 << 20, 96 << 20))
+
+
+def faults(checks):
+    """What goes wrong is told, and no trace is there that isn't whole."""
+    said = checks.build(without_window(LONG), "c", "-O1")
+    checks.judge("a program for faults is compiled", not said, said)
+    ran = Recorded(checks.at, ["9"], MIRACE_TRACE=f"{checks.at}/nowhere/a")
+    checks.judge("a name that can't be opened", ran.status == 70 and "can't be opened" in ran.told, ran.told)
+    ran = Recorded(checks.at, ["900"], limits=small_files)
+    checks.judge("a full disk", ran.status == 70 and "can't be written" in ran.told and not ran.is_whole, ran.told)
+    words = [f"{HERE}/races", ran.trace, checks.program]
+    cut = subprocess.run(words, stdout=subprocess.PIPE, stderr=subprocess.PIPE, timeout=PATIENCE)
+    checks.judge("a full disk: there is no list", cut.returncode == 2 and b"isn't whole" in cut.stderr, f"{cut.stderr}")
+    part = checks.offline(f"{ran.trace}.part")
+    checks.judge("a full disk: what is there is refused", part.startswith(b"trace "), f"{part[:100]}")
+    ran = Recorded(checks.at, ["3000000"], limits=small_memory)
+    is_well = "there is no" in ran.told and "memory" in ran.told
+    checks.judge("want of memory", is_well and (ran.is_whole or ran.status == 70), f"{ran.status}: {ran.told}")
+    for number in (signal.SIGKILL, signal.SIGTERM, signal.SIGSEGV, signal.SIGABRT):
+        is_told = number != signal.SIGKILL
+        ran = Recorded(checks.at, ["9", str(int(number))])
+        is_well = ran.is_whole == is_told and (f"signal {int(number)} ends the program" in ran.told) == is_told
+        is_well = is_well and ran.status == -number
+        checks.judge(f"a program that {number.name} ends", is_well, f"{ran.status}: {ran.told}")
+        if is_told:
+            checks.judge(f"{number.name}: its races", b"\nrace " in checks.offline(ran.trace), ran.told)
+    said = checks.build(PARALLEL, "c", "-fopenmp")
+    checks.judge("OpenMP", "OpenMP isn't recorded" in said, said)
+    said = checks.build(PARALLEL, "c", "-static")
+    checks.judge("a static program", "linked statically" in said, said)
+
+
+def compare(judge, program):
+    """All checks of the recorder; where gcc isn't there they are left out, with a line."""
+    if not shutil.which("gcc") or not shutil.which("g++"):
+        print("outputs: there is no gcc or g++: the recorder of examples/record is left out")
+        return
+    with tempfile.TemporaryDirectory() as at:
+        checks = Checks(judge, program, at)
+        for check in (recorder_itself, small_programs, twins, windows, many_steps, faults):
+            check(checks)
+
+
+def main(program):
+    counts = [0, 0]
+
+    def judge(what, is_well, told=""):
+        counts[not is_well] += 1
+        if not is_well:
+            print(f"record: FAILED: {what}: {told}", flush=True)
+    compare(judge, program)
+    print(f"record: {counts[0]} passed, {counts[1]} failed")
+    return counts[1] > 0
+
+
+if __name__ == "__main__":
+    sys.exit(main(os.path.abspath(sys.argv[1]) if len(sys.argv) > 1 else f"{TOP}/crates/mirace/out/mirace"))
