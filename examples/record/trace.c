@@ -1,6 +1,6 @@
-/* The trace and its places. The rows of all threads are put into one order; those on memory that one thread alone
-   used are left out, since they race with nothing and order nothing. What is written goes to NAME.part, which gets
-   its name when it is whole. */
+/* The trace and its places. The rows of all threads are put into one order. Those on memory that one thread alone used,
+   or that nobody stored to, are left out, since they race with nothing and order nothing. What is written goes to
+   NAME.part, which gets its name when it is whole. */
 #include "recorder.h"
 #include <errno.h>
 #include <fcntl.h>
@@ -87,7 +87,6 @@ static void put_text(struct file *it, const char *text) {
 }
 static void close_file(struct file *it) {
   flush(it);
-  if (fsync(it->number) && errno != EINVAL && errno != EROFS) fail(it, "can't be written");
   if (close(it->number)) fail(it, "can't be written");
   if (rename(it->part, it->name)) fail(it, "can't be renamed");
 }
@@ -242,9 +241,8 @@ static void say_all(void) {
     tell("record: %llu steps are kept, of which the first %llu from %llu on are written (MIRACE_FROM)\n", kept, written,
          (unsigned long long)first_step);
   if (lock_count() > LOCKS) tell("record: %d locks, of which 4,096 have a number\n", lock_count());
-  tell("record: %llu steps made, %llu of memory that one thread alone used left out, %llu written\n", made, made - kept,
-       written);
-  tell("record: %d threads, %d locks\n", atomic_load(&thread_count), lock_count());
+  tell("record: %llu steps made, %llu that can't race left out, %llu written; %d threads, %d locks\n", made, made - kept,
+       written, atomic_load(&thread_count), lock_count());
 }
 
 /* Its steps are counted before they are known: the count gets its place at the end. */

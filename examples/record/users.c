@@ -1,17 +1,16 @@
-/* Who uses each word of eight bytes: one thread, or several; and which threads do so atomically. */
+/* Who uses each word of eight bytes: one thread, or several; whether anyone stores there; and which threads use it
+   atomically. By pages of the program's memory. */
 #include "recorder.h"
 
-/* By pages of the program's memory. */
-/* Who uses each word of eight bytes: one thread, or several; and which threads do so atomically. By pages of the
-   program's. */
-enum { NOBODY = 0, SEVERAL = 0xffff, WORDS = 512 };
-struct page { uint64_t number; uint16_t users[WORDS], atomics[WORDS]; };
+enum { NOBODY = 0, SEVERAL = 0xffff, ANYONE = 0xffff, WORDS = 512 };
+struct page { uint64_t number; uint16_t users[WORDS], atomics[WORDS]; uint8_t stored[WORDS]; };
 struct atomic_user { uint16_t thread, next; };
 static struct page **pages;
 static size_t page_room, page_count;
-/* lists of atomic users, by links; a list is shared by the words that have it */
-static struct atomic_user lists[UINT16_MAX];
-static uint32_t list_count = 1;
+/* Lists of atomic users, by links; a list is shared by the words that have it. Where there are too many, a word has
+   ANYONE: it may be named for a thread that doesn't use it atomically, since no step of that thread then meets it. */
+static struct atomic_user lists[ANYONE];
+static uint16_t list_count = 1;
 
 static size_t page_slot(uint64_t number) {
   size_t i = (size_t)((number * 0x9e3779b97f4a7c15u) >> 32) & (page_room - 1);
@@ -52,13 +51,14 @@ static struct page *page_of(uint64_t word, int is_made) {
 
 /* The list that has one thread more. */
 static uint16_t with_user(uint16_t list, uint16_t thread) {
+  if (list == ANYONE) return list;
   for (uint16_t k = list; k; k = lists[k].next)
     if (lists[k].thread == thread) return list;
-  for (uint32_t k = 1; k < list_count; k++)
-    if (lists[k].thread == thread && lists[k].next == list) return (uint16_t)k;
-  if (list_count == UINT16_MAX) stop("there are more sets of threads on atomic memory than can be told apart");
+  for (uint16_t k = 1; k < list_count; k++)
+    if (lists[k].thread == thread && lists[k].next == list) return k;
+  if (list_count == ANYONE) return ANYONE;
   lists[list_count] = (struct atomic_user){thread, list};
-  return (uint16_t)list_count++;
+  return list_count++;
 }
 
 int is_access(const struct row *it) { return it->kind <= FREED; }
@@ -77,6 +77,7 @@ static void use_words(const struct row *it, uint16_t user) {
     uint16_t *users = &page->users[w % WORDS], *atomics = &page->atomics[w % WORDS];
     if (*users == NOBODY && it->kind != FREED) *users = user;
     if (*users != NOBODY && *users != user) *users = SEVERAL;
+    if (it->kind != LOAD && it->kind != ATOMIC_LOAD) page->stored[w % WORDS] = 1;
     if (is_atomic(it)) *atomics = with_user(*atomics, (uint16_t)(user - 1));
   }
 }
@@ -90,23 +91,33 @@ int is_shared(const struct row *it) {
   for (uint64_t w = first_word(it); w <= last_word(it); w++) {
     const struct page *page = page_of(w, 0);
     if (!page) w |= WORDS - 1;
-    else if (page->users[w % WORDS] == SEVERAL) return 1;
+    else if (page->users[w % WORDS] == SEVERAL && page->stored[w % WORDS]) return 1;
   }
   return 0;
 }
 
 /* Threads that use a byte of an access atomically, but its own. */
+static size_t with_list(uint16_t list, uint16_t self, uint16_t *found, size_t count) {
+  for (uint16_t k = list; k; k = lists[k].next) {
+    size_t i = 0;
+    while (i < count && found[i] != lists[k].thread) i++;
+    if (i == count && lists[k].thread != self) found[count++] = lists[k].thread;
+  }
+  return count;
+}
+static size_t all_but(uint16_t self, uint16_t *found) {
+  size_t count = 0;
+  for (uint16_t k = 0; k < atomic_load(&thread_count); k++)
+    if (k != self) found[count++] = k;
+  return count;
+}
 size_t atomic_users(const struct row *it, uint16_t self, uint16_t *found) {
   size_t count = 0;
   for (uint64_t w = first_word(it); w <= last_word(it); w++) {
     const struct page *page = page_of(w, 0);
     if (!page) w |= WORDS - 1;
-    else
-      for (uint16_t k = page->atomics[w % WORDS]; k; k = lists[k].next) {
-        size_t i = 0;
-        while (i < count && found[i] != lists[k].thread) i++;
-        if (i == count && lists[k].thread != self) found[count++] = lists[k].thread;
-      }
+    else if (page->atomics[w % WORDS] == ANYONE) return all_but(self, found);
+    else count = with_list(page->atomics[w % WORDS], self, found, count);
   }
   return count;
 }
