@@ -24,7 +24,7 @@ TOP = os.path.dirname(os.path.dirname(os.path.abspath(__file__)))
 HERE = f"{TOP}/examples/record"
 TWINS = f"{TOP}/examples/beside"
 COMPILERS = {"c": "gcc", "cpp": "g++"}
-PATIENCE = 60
+PATIENCE = 600
 # The most steps of a trace whose races are compared with the definition, which looks at each two of them.
 MOST_STEPS = 1500
 # Twins with another list than their example, by the example's steps: C's order has less in it than the machine's, and
@@ -186,6 +186,27 @@ int main(void) {
   puts("1100 threads");
   return 0; }
 """
+# Four threads add to a number under a lock, while a handler that stores interrupts them again and again.
+STORM = record_programs.C + """#include <sys/time.h>
+static atomic_int count;
+static volatile int cells[64];
+static void on(int signal) { (void)signal; cells[atomic_fetch_add(&count, 1) % 64]++; }
+static void *work(void *argument) {
+  for (int k = 0; k < 2000; k++) { cells[k % 64] = k; pthread_mutex_lock(&m); x++; pthread_mutex_unlock(&m); }
+  return argument; }
+int main(void) {
+  struct sigaction it = {.sa_handler = on, .sa_flags = SA_RESTART};
+  struct itimerval often = {{0, 50}, {0, 50}}, never = {{0, 0}, {0, 0}};
+  pthread_t t[4];
+  sigaction(SIGALRM, &it, 0);
+  setitimer(ITIMER_REAL, &often, 0);
+  while (count < 9) usleep(50);
+  for (int k = 0; k < 4; k++) must(!pthread_create(&t[k], 0, work, 0));
+  for (int k = 0; k < 4; k++) pthread_join(t[k], 0);
+  setitimer(ITIMER_REAL, &never, 0);
+  printf("%d\\n", x);
+  return 0; }
+"""
 PARALLEL = "int main(void) { int sum = 0;\n#pragma omp parallel\nsum++;\nreturn 0; }\n"
 
 
@@ -239,6 +260,35 @@ def many_steps(checks):
     checks.judge("the first 1,024 threads", checks.offline(ran.trace) == b"races 0\n", ran.told)
 
 
+def interrupted(checks):
+    """Handlers of signals that come at any time: nothing is lost, and the trace is one."""
+    said = checks.build(STORM, "c")
+    ran = Recorded(checks.at)
+    is_well = not said and ran.status == 0 and ran.output == b"8000\n" and "didn't start" not in ran.told
+    checks.judge("a storm of signals", is_well, f"{said}{ran.status}: {ran.told}{ran.output}")
+    steps = checks.steps(ran.trace)
+    counts = [sum(step[1][0] == kind for step in steps) for kind in (plain.ACQUIRE, plain.RELEASE, plain.JOIN)]
+    checks.judge("a storm of signals: its locks and joins", counts == [8000, 8000, 4], f"{counts}")
+    checks.judge("a storm of signals: its races", b"\nrace " in checks.offline(ran.trace), ran.told)
+
+
+def first_list(checks):
+    """The list that the page shows is that of its program, by each compiler: clang's stores alone are told."""
+    with open(f"{TOP}/docs/RECORD.md", encoding="utf-8") as it:
+        wanted = re.search(r"^```text\n(.*?)^```", it.read(), re.M | re.S)[1]
+    for compiler in filter(shutil.which, ("gcc", "g++", "clang", "clang++")):
+        language = ["-xc++"] if compiler.endswith("++") else []
+        said = checks.build_file(f"{HERE}/two.c", compiler, *language)
+        ran = Recorded(checks.at)
+        words = [f"{HERE}/races", ran.trace, checks.program]
+        list_of = subprocess.run(words, stdout=subprocess.PIPE, timeout=PATIENCE)
+        text = list_of.stdout.decode()
+        names = {it.split(" in ")[0].strip() for it in text.split("\n") if it.startswith("    ")}
+        is_well = text == wanted if compiler == "gcc" else names == {"two.c:9"}
+        is_well = is_well and list_of.returncode == 1 and ran.output == b"2 2\n"
+        checks.judge(f"two.c by {compiler}", is_well, f"{said}{text}{ran.told}")
+
+
 def small_files():
     signal.signal(signal.SIGXFSZ, signal.SIG_IGN)
     resource.setrlimit(resource.RLIMIT_FSIZE, (4096, 4096))
@@ -285,7 +335,7 @@ def compare(judge, program):
         return
     with tempfile.TemporaryDirectory() as at:
         checks = Checks(judge, program, at)
-        for check in (recorder_itself, small_programs, twins, windows, many_steps, faults):
+        for check in (recorder_itself, first_list, small_programs, twins, windows, many_steps, interrupted, faults):
             check(checks)
 
 

@@ -2,13 +2,15 @@
 #include "recorder.h"
 #include <errno.h>
 #include <limits.h>
+#include <signal.h>
 #include <sys/mman.h>
 #include <time.h>
 #include <unistd.h>
 
 enum { ROUNDS = PTHREAD_DESTRUCTOR_ITERATIONS, MORE_STACK = 1 << 16 };
 
-struct start { void *(*body)(void *); void *argument; struct thread *thread; };
+/* How a thread starts; `signals` are those that it blocks when it is known here. */
+struct start { void *(*body)(void *); void *argument; struct thread *thread; sigset_t signals; };
 
 static pthread_key_t last_key;
 
@@ -24,10 +26,15 @@ static void ends(void *argument) {
     ordered_row(0, ENDS, 0, 0);
     leave();
   }
+  sigset_t all;
+  sigfillset(&all);
+  pthread_sigmask(SIG_BLOCK, &all, 0);
   me = 0;
 }
 __attribute__((constructor(102))) static void make_key(void) {
   if (pthread_key_create(&last_key, ends)) stop("there is no key of thread-specific data");
+  /* main ends as a thread does where it calls pthread_exit */
+  pthread_setspecific(last_key, me);
 }
 
 static void *body(void *argument) {
@@ -36,6 +43,7 @@ static void *body(void *argument) {
   me->handle = pthread_self();
   atomic_store(&me->is_started, 1);
   pthread_setspecific(last_key, me);
+  pthread_sigmask(SIG_SETMASK, &it.signals, 0);
   return it.body(it.argument);
 }
 
@@ -50,12 +58,22 @@ static int with_stack(pthread_attr_t *with) {
   return pthread_attr_setstack(with, stack + page, bytes);
 }
 
+/* No handler of a signal runs in a thread before it is known. */
+static int create(pthread_t *t, const pthread_attr_t *with, struct start *it) {
+  sigset_t all;
+  sigfillset(&all);
+  pthread_sigmask(SIG_SETMASK, &all, &it->signals);
+  int code = REAL(pthread_create)(t, with, body, it);
+  pthread_sigmask(SIG_SETMASK, &it->signals, 0);
+  return code;
+}
+
 /* The step that starts a thread is made before it runs. */
 static struct start *started(uint64_t at, void *(*f)(void *), void *argument) {
   struct start *it = fresh(sizeof *it);
   struct thread *thread = it ? new_thread() : 0;
   if (!thread || !enter()) return 0;
-  *it = (struct start){f, argument, thread};
+  *it = (struct start){.body = f, .argument = argument, .thread = thread};
   ordered_row(at, STARTS, (uint64_t)thread->number, 0);
   leave();
   return it;
@@ -73,14 +91,14 @@ int pthread_create(pthread_t *restrict t, const pthread_attr_t *restrict a, void
   if (a) with = *a;
   else pthread_attr_init(&with);
   int code = with_stack(&with);
-  if (!code) code = REAL(pthread_create)(t, &with, body, it);
+  if (!code) code = create(t, &with, it);
   if (!a) pthread_attr_destroy(&with);
   return code;
 }
 
 static void joined(uint64_t at, pthread_t t) {
   if (!enter()) return;
-  for (int k = atomic_load(&thread_count) - 1; k > 0; k--) {
+  for (int k = atomic_load(&thread_count) - 1; k >= 0; k--) {
     const struct thread *it = __atomic_load_n(&threads[k], __ATOMIC_ACQUIRE);
     if (!it || !atomic_load(&it->is_started) || !pthread_equal(it->handle, t)) continue;
     ordered_row(at, JOINS, (uint64_t)k, 0);
