@@ -12,13 +12,18 @@ static int acquires(int order) {
 static int releases(int order) { return (order & 0xff) >= RELEASES; }
 
 /* What a load reads it stands behind, or a later fence does. */
-static void reads(uint64_t at, uint64_t key, const struct object *it, int order) {
+static void reads_of(uint64_t at, uint64_t key, const struct object *it, int order) {
   if (acquires(order)) {
     stand_behind(at, key, &it->released);
   } else {
     for (uint32_t i = 0; i < it->released.count; i++)
       add_mark(&me->observed, it->released.list[i].thread, it->released.list[i].cell);
   }
+}
+static void reads(uint64_t at, uint64_t key, const struct object *it, int order) {
+  reads_of(at, key, it, order);
+  if (!it->is_mixed) return;
+  for (struct object *other = next_mixed(it, 0); other; other = next_mixed(it, other)) reads_of(at, key, other, order);
 }
 
 /* What is stored is handed on by the operation itself, or by a fence before it. */
@@ -34,6 +39,7 @@ static void stores(uint64_t key, struct object *it, int order) {
 static void atomic_row(uint64_t at, struct object *it, uint32_t size, enum kind kind, int order) {
   struct row *row = ordered_row(at, kind, it->address, size);
   if (!row) return;
+  has_size(it, (uint8_t)size);
   uint64_t key = row->key;
   row->puts = kind != ATOMIC_LOAD && releases(order);
   if (kind != ATOMIC_STORE) reads(at, key, it, order);

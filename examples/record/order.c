@@ -38,8 +38,9 @@ static void *room_for(size_t bytes) {
   return it;
 }
 
+/* What is in one word of eight bytes has one bucket. */
 static size_t bucket_of(uint64_t address) {
-  return (size_t)((address * 0x9e3779b97f4a7c15u) >> 48) % BUCKETS;
+  return (size_t)(((address >> 3) * 0x9e3779b97f4a7c15u) >> 48) % BUCKETS;
 }
 
 static struct object **find(uint64_t address, enum object_kind kind) {
@@ -62,6 +63,25 @@ struct object *take_object(const volatile void *address, enum object_kind kind) 
     *at = made;
   }
   return *at;
+}
+
+static int has_same_bytes(const struct object *one, const struct object *other) {
+  return one != other && one->kind == ATOMIC_OBJECT && other->kind == ATOMIC_OBJECT
+      && one->address < other->address + other->size && other->address < one->address + one->size;
+}
+
+/* The next atomic object in the word of one that is taken that has bytes in common with it; nothing behind the last. */
+struct object *next_mixed(const struct object *object, struct object *after) {
+  struct object *it = after ? after->next : buckets[bucket_of(object->address)].first;
+  while (it && !has_same_bytes(object, it)) it = it->next;
+  return it;
+}
+
+/* An access of so many bytes is made to an object that is taken. */
+void has_size(struct object *object, uint8_t size) {
+  if (object->size >= size) return;
+  object->size = size;
+  for (struct object *it = next_mixed(object, 0); it; it = next_mixed(object, it)) object->is_mixed = it->is_mixed = 1;
 }
 
 void give_object(struct object *object) { unspin(&buckets[bucket_of(object->address)].taken); }

@@ -186,6 +186,7 @@ static void in_child(void) {
   atomic_store(&running, 0);
   atomic_store(&is_finished, 1);
   me = 0;
+  leave_trace();
 }
 
 static void read_room(void) {
@@ -200,7 +201,10 @@ __attribute__((constructor(101))) static void start(void) {
   if (owner) return;
   owner = getpid();
   read_room();
-  open_trace();
+  if (!open_trace()) {
+    atomic_store(&is_finished, 1);
+    return;
+  }
   begin_modules();
   if (__start_mirace_window) atomic_store(&window_open, 0);
   syscall(SYS_membarrier, MEMBARRIER_CMD_REGISTER_PRIVATE_EXPEDITED, 0, 0);

@@ -69,6 +69,7 @@ struct object {
   uint32_t number;               /* of a lock */
   int holder, depth;             /* of a lock: the thread that has it to write, -1 where none has */
   uint32_t members, arrivals;    /* of a barrier */
+  uint8_t size, is_mixed;        /* of what is atomic: its bytes, and whether accesses of other sizes have some of them */
   struct marks released, other;  /* other: of readers; of a barrier's second generation */
 };
 
@@ -97,6 +98,8 @@ void find_call(const char *name, void *call);
 /* order.c */
 struct object *take_object(const volatile void *address, enum object_kind kind);
 void give_object(struct object *object);
+void has_size(struct object *object, uint8_t size);
+struct object *next_mixed(const struct object *object, struct object *after);
 void forget_object(const volatile void *address, enum object_kind kind);
 void hand_on(struct marks *marks, uint64_t cell);
 void add_mark(struct marks *marks, uint32_t thread, uint64_t cell);
@@ -127,6 +130,7 @@ int is_shared(const struct row *it);
 size_t atomic_users(const struct row *it, uint16_t self, uint16_t *found);
 
 /* trace.c */
-void open_trace(void);
+int open_trace(void);
+void leave_trace(void);
 void write_trace(void);
 #endif

@@ -32,6 +32,7 @@ static void ends(void *argument) {
   me = 0;
 }
 __attribute__((constructor(102))) static void make_key(void) {
+  if (!me) return;
   if (pthread_key_create(&last_key, ends)) stop("there is no key of thread-specific data");
   /* main ends as a thread does where it calls pthread_exit */
   pthread_setspecific(last_key, me);

@@ -7,12 +7,23 @@
 #include <stdio.h>
 #include <stdlib.h>
 #include <string.h>
+#include <sys/file.h>
+#include <sys/stat.h>
 #include <unistd.h>
 
-enum { MOST_STEPS = 1 << 22, MOST_BYTES = 1 << 28, HEAD = 9, NAME = 4096, BUFFER = 1 << 20, MOST_STEP = 1 << 16 };
+enum { MOST_STEPS = 1 << 22, MOST_BYTES = 1 << 28, HEAD = 9, MOST_STEP = 1 << 16 };
+enum { NAME = 4096, HIGH = 900, BUFFER = 1 << 20 };
 
-/* A file that is written, and what is held of it. */
-struct file { int number; char name[NAME], part[NAME]; char *held; size_t used; uint64_t bytes; };
+/* A file that is written: its number, which file that was when it was opened, its names, and what is held of it. */
+struct file {
+  int number;
+  dev_t device;
+  ino_t inode;
+  char name[NAME], part[NAME];
+  char *held;
+  size_t used;
+  uint64_t bytes;
+};
 static struct file trace, places;
 
 static uint64_t first_step, behind_last = UINT64_MAX;
@@ -24,15 +35,44 @@ static void fail(const struct file *it, const char *what) {
   stop("there is no trace");
 }
 
-static void open_file(struct file *it, const char *name, const char *behind) {
+static void name_file(struct file *it, const char *name, const char *behind) {
   int length = snprintf(it->name, sizeof it->name, "%s%s", name, behind);
   if (length >= NAME - 8) stop("MIRACE_TRACE is too long");
   snprintf(it->part, sizeof it->part, "%.*s.part", NAME - 8, it->name);
-  it->number = open(it->part, O_RDWR | O_CREAT | O_TRUNC | O_CLOEXEC, 0666);
-  if (it->number < 0) fail(it, "can't be opened");
+}
+
+/* Whether the file is there for this process: not where another one writes it that is still recorded. */
+static int open_file(struct file *it) {
+  struct stat about;
+  if (!lstat(it->name, &about) && !S_ISREG(about.st_mode)) {
+    tell("record: %s is no file\n", it->name);
+    stop("there is no trace");
+  }
+  int number = open(it->part, O_RDWR | O_CREAT | O_CLOEXEC | O_NOFOLLOW, 0666);
+  if (number < 0 || fstat(number, &about)) fail(it, "can't be opened");
+  if (flock(number, LOCK_EX | LOCK_NB)) {
+    close(number);
+    return 0;
+  }
+  /* out of the way of the program's own numbers, where there are so many */
+  it->number = fcntl(number, F_DUPFD_CLOEXEC, HIGH);
+  if (it->number < 0) it->number = number;
+  else close(number);
+  it->device = about.st_dev;
+  it->inode = about.st_ino;
+  if (ftruncate(it->number, 0)) fail(it, "can't be written");
   if (unlink(it->name) && errno != ENOENT) fail(it, "takes the place of a file that can't be removed");
   it->held = fresh(BUFFER + MOST_STEP);
   if (!it->held) stop("there is no memory");
+  return 1;
+}
+
+/* A program may close files that it didn't open, and open others by their numbers: these aren't written. */
+static void must_be_open(const struct file *it) {
+  struct stat about;
+  if (!fstat(it->number, &about) && about.st_dev == it->device && about.st_ino == it->inode) return;
+  tell("record: the program closed %s\n", it->part);
+  stop("there is no trace");
 }
 
 static uint64_t number_of(const char *name, uint64_t otherwise) {
@@ -48,8 +88,9 @@ static uint64_t number_of(const char *name, uint64_t otherwise) {
   return it;
 }
 
-/* When the program begins: what stood under the names is no trace of this run, and goes. */
-void open_trace(void) {
+/* When the program begins: what stood under the names is no trace of this run, and goes. Nothing is recorded where
+   another process writes a trace of this name. */
+int open_trace(void) {
   const char *name = getenv("MIRACE_TRACE");
   char full[NAME];
   if (!name || !*name) name = "trace.out";
@@ -61,8 +102,15 @@ void open_trace(void) {
   }
   first_step = number_of("MIRACE_FROM", 0);
   behind_last = number_of("MIRACE_TO", UINT64_MAX);
-  open_file(&trace, name, "");
-  open_file(&places, name, ".places");
+  name_file(&trace, name, "");
+  name_file(&places, name, ".places");
+  if (open_file(&trace) && open_file(&places)) return 1;
+  tell("record: another process writes %s: this one isn't recorded\n", trace.part);
+  return 0;
+}
+void leave_trace(void) {
+  close(trace.number);
+  close(places.number);
 }
 
 static void flush(struct file *it) {
@@ -241,12 +289,14 @@ static void say_all(void) {
     tell("record: %llu steps are kept, of which the first %llu from %llu on are written (MIRACE_FROM)\n", kept, written,
          (unsigned long long)first_step);
   if (lock_count() > LOCKS) tell("record: %d locks, of which 4,096 have a number\n", lock_count());
-  tell("record: %llu steps made, %llu that can't race left out, %llu written; %d threads, %d locks\n", made, made - kept,
-       written, atomic_load(&thread_count), lock_count());
+  tell("record: %llu steps made, %llu that can't race left out, %llu written; %d threads, %d locks\n", made,
+       made - kept, written, atomic_load(&thread_count), lock_count());
 }
 
 /* Its steps are counted before they are known: the count gets its place at the end. */
 void write_trace(void) {
+  must_be_open(&trace);
+  must_be_open(&places);
   put_text(&trace, "MRTR\1");
   put(&trace, 0, 4);
   put_text(&places, "places 1\n");
