@@ -196,10 +196,11 @@ static void put_step(const struct row *it, size_t behind, uint16_t thread) {
   put_place(it, thread);
 }
 
-/* A step in the order of the run: it is written where it may be. */
+/* A step in the order of the run: it is written where it may be. One that stands behind another thread's is kept whatever
+   it uses. */
 static void next_step(const struct row *it, size_t behind, uint16_t thread) {
   steps_made++;
-  if (is_access(it) && !is_shared(it)) return;
+  if (is_access(it) && !behind && !is_shared(it)) return;
   uint64_t number = steps_kept++;
   if (is_full || number < first_step || number >= behind_last) return;
   uint64_t most = 64 + 17 * (behind + 3 + THREADS);

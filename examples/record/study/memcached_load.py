@@ -9,7 +9,7 @@ import time
 CLIENTS, KEYS = 4, 13
 
 
-def connection(port, seconds=60):
+def connection(port, seconds=600):
     """A connection with a server that may yet have to begin."""
     until = time.monotonic() + seconds
     while True:
