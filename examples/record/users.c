@@ -2,7 +2,7 @@
    atomically. By pages of the program's memory. */
 #include "recorder.h"
 
-enum { NOBODY = 0, SEVERAL = 0xffff, ANYONE = 0xffff, WORDS = 512 };
+enum { NOBODY = 0, SEVERAL = 0xffff, ANYONE = 0xffff, WORDS = 512, RECENT = 256 };
 struct page { uint64_t number; uint16_t users[WORDS], atomics[WORDS]; uint8_t stored[WORDS]; };
 struct atomic_user { uint16_t thread, next; };
 static struct page **pages;
@@ -27,9 +27,10 @@ static void widen_pages(void) {
     if (old[i]) pages[page_slot(old[i]->number)] = old[i];
 }
 static struct page *page_of(uint64_t word, int is_made) {
-  static struct page *last;
+  static struct page *recent[RECENT];
   uint64_t number = word / WORDS;
-  if (last && last->number == number) return last;
+  struct page **last = &recent[number % RECENT];
+  if (*last && (*last)->number == number) return *last;
   if (!page_room || (is_made && 2 * page_count >= page_room)) widen_pages();
   size_t i = page_slot(number);
   if (!pages[i] && is_made) {
@@ -45,7 +46,7 @@ static struct page *page_of(uint64_t word, int is_made) {
     pages[i]->number = number;
     page_count++;
   }
-  if (pages[i]) last = pages[i];
+  if (pages[i]) *last = pages[i];
   return pages[i];
 }
 
