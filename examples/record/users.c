@@ -29,8 +29,8 @@ static void widen_pages(void) {
 static struct page *page_of(uint64_t word, int is_made) {
   static struct page *recent[RECENT];
   uint64_t number = word / WORDS;
-  struct page **last = &recent[number % RECENT];
-  if (*last && (*last)->number == number) return *last;
+  struct page *last = recent[number % RECENT];
+  if (last && last->number == number) return last;
   if (!page_room || (is_made && 2 * page_count >= page_room)) widen_pages();
   size_t i = page_slot(number);
   if (!pages[i] && is_made) {
@@ -46,7 +46,7 @@ static struct page *page_of(uint64_t word, int is_made) {
     pages[i]->number = number;
     page_count++;
   }
-  if (pages[i]) *last = pages[i];
+  if (pages[i]) recent[number % RECENT] = pages[i];
   return pages[i];
 }
 
