@@ -337,6 +337,12 @@ def faults(checks):
     ran = Recorded(checks.at, ["3000000"], limits=small_memory)
     is_well = "there is no" in ran.told and "memory" in ran.told
     checks.judge("want of memory", is_well and (ran.is_whole or ran.status == 70), f"{ran.status}: {ran.told}")
+
+
+def ends(checks):
+    """Programs that signals end, that start themselves, or close all files; and what isn't recorded at all."""
+    said = checks.build(without_window(LONG), "c", "-O1")
+    checks.judge("a program for signals is compiled", not said, said)
     for number in (signal.SIGKILL, signal.SIGTERM, signal.SIGSEGV, signal.SIGABRT):
         is_told = number != signal.SIGKILL
         ran = Recorded(checks.at, ["9", str(int(number))])
@@ -369,7 +375,8 @@ def compare(judge, program):
         return
     with tempfile.TemporaryDirectory() as at:
         checks = Checks(judge, program, at)
-        for check in (recorder_itself, first_list, small_programs, twins, windows, many_steps, interrupted, faults):
+        checked = (recorder_itself, first_list, small_programs, twins, windows, many_steps, interrupted, faults, ends)
+        for check in checked:
             check(checks)
 
 
