@@ -185,6 +185,28 @@ int main(void) {
   puts("1100 threads");
   return 0; }
 """
+# Two threads store under a lock each, of 5,000: of one and of another number.
+LOCKS = record_programs.C + """
+static pthread_mutex_t all[5000];
+static void *work(void *argument) {
+  pthread_mutex_t *it = &all[*(int *)argument];
+  pthread_mutex_lock(it);
+  x++;
+  pthread_mutex_unlock(it);
+  return argument; }
+int main(int count, char **words) {
+  int numbers[2] = {count > 2 ? atoi(words[1]) : 0, count > 2 ? atoi(words[2]) : 0};
+  for (int k = 0; k < 5000; k++) {
+    pthread_mutex_init(&all[k], 0);
+    pthread_mutex_lock(&all[k]);
+    pthread_mutex_unlock(&all[k]);
+  }
+  pthread_t t;
+  must(!pthread_create(&t, 0, work, &numbers[0]));
+  work(&numbers[1]);
+  pthread_join(t, 0);
+  return 0; }
+"""
 # Four threads add to a number under a lock, while a handler that stores interrupts them again and again.
 STORM = record_programs.C + """#include <sys/time.h>
 static atomic_int count;
@@ -309,6 +331,18 @@ def first_list(checks):
         checks.judge(f"two.c by {compiler}", is_well, f"{said}{text}{ran.told}")
 
 
+def many_locks(checks):
+    """More locks than a trace has numbers for: the others order as well."""
+    said = checks.build(LOCKS, "c")
+    checks.judge("many locks are compiled", not said, said)
+    cases = ((["9", "9"], b"races 0\n"), (["4500", "4500"], b"races 0\n"), (["4500", "4501"], b"races 2\n"))
+    for words, wanted in cases:
+        ran = Recorded(checks.at, words)
+        listed = checks.offline(ran.trace)
+        is_well = listed.startswith(wanted) and "5000 locks, of which 4,096 have a number" in ran.told
+        checks.judge(f"the locks {words} of 5,000", is_well, f"{listed[:100]}{ran.told}")
+
+
 def small_files():
     signal.signal(signal.SIGXFSZ, signal.SIG_IGN)
     resource.setrlimit(resource.RLIMIT_FSIZE, (4096, 4096))
@@ -375,7 +409,8 @@ def compare(judge, program):
         return
     with tempfile.TemporaryDirectory() as at:
         checks = Checks(judge, program, at)
-        checked = (recorder_itself, first_list, small_programs, twins, windows, many_steps, interrupted, faults, ends)
+        checked = (recorder_itself, first_list, small_programs, twins, windows, many_steps, many_locks,
+                   interrupted, faults, ends)
         for check in checked:
             check(checks)
 
