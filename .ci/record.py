@@ -22,7 +22,8 @@ import record_programs  # noqa: E402
 TOP = os.path.dirname(os.path.dirname(os.path.abspath(__file__)))
 HERE = f"{TOP}/examples/record"
 TWINS = f"{TOP}/examples/beside"
-COMPILERS = {"c": "gcc", "cpp": "g++"}
+# The compilers of each language, and the one of them that builds all but the small programs.
+COMPILERS = {"gcc": {"c": "gcc", "cpp": "g++"}, "clang": {"c": "clang", "cpp": "clang++"}}
 PATIENCE = 600
 # The most steps of a trace whose races are compared with the definition, which looks at each two of them.
 MOST_STEPS = 1500
@@ -62,12 +63,13 @@ class Checks:
         self.races = module("races_script", f"{HERE}/races")
         self.script = module("trace_script", f"{TOP}/examples/trace/trace.py")
 
-    def build(self, text, language, *flags, name="recorded"):
+    def build(self, text, language, *flags, name="recorded", family="gcc"):
         """The program of a text; what the compiler says."""
         source = f"{self.at}/{name}.{language}"
+        flags = [*flags, "-std=c++17"] if language == "cpp" else flags
         with open(source, "w", encoding="utf-8") as it:
             it.write(text)
-        return self.build_file(source, COMPILERS[language], *flags, name=name)
+        return self.build_file(source, COMPILERS[family][language], *flags, name=name)
 
     def build_file(self, source, compiler, *flags, name="recorded"):
         words = [f"{HERE}/record-cc", "-O0", *flags, source, "-o", f"{self.at}/{name}"]
@@ -122,23 +124,28 @@ def recorder_itself(checks):
         checks.judge("the recorder by cppcheck", not said.returncode and not said.stdout, said.stdout.decode()[:500])
 
 
+def small_program(checks, it, family):
+    """A program of the table: its races are those that it has, and those of the definition."""
+    text, what = record_programs.source(it), f"{it.name}, by {family}"
+    said = checks.build(text, it.language, family=family)
+    checks.judge(f"{what}: it is compiled", not said, said[:500])
+    if said:
+        return
+    ran = Recorded(checks.at)
+    is_well = ran.status == 0 and ran.is_whole
+    checks.judge(f"{what}: it runs to its end", is_well, f"{ran.status}: {ran.told}{ran.output}")
+    if not ran.is_whole:
+        return
+    pairs = checks.races.pairs_of(checks.program, ran.trace)
+    found = {"".join(pair) for pair in named(text, checks.lines(ran.trace, pairs), r"//(.)$")}
+    checks.judge(f"{what}: its races", found == it.races, f"{sorted(found)} and not {sorted(it.races)}")
+    checks.by_definition(what, ran.trace)
+
+
 def small_programs(checks):
-    """Each program of the table: its races are those that it has, and those of the definition."""
-    for it in record_programs.cases():
-        text = record_programs.source(it)
-        said = checks.build(text, it.language)
-        checks.judge(f"{it.name}: it is compiled", not said, said[:500])
-        if said:
-            continue
-        ran = Recorded(checks.at)
-        is_well = ran.status == 0 and ran.is_whole
-        checks.judge(f"{it.name}: it runs to its end", is_well, f"{ran.status}: {ran.told}{ran.output}")
-        if not ran.is_whole:
-            continue
-        pairs = checks.races.pairs_of(checks.program, ran.trace)
-        found = {"".join(pair) for pair in named(text, checks.lines(ran.trace, pairs), r"//(.)$")}
-        checks.judge(f"{it.name}: its races", found == it.races, f"{sorted(found)} and not {sorted(it.races)}")
-        checks.by_definition(it.name, ran.trace)
+    for family in (it for it in COMPILERS if all(map(shutil.which, COMPILERS[it].values()))):
+        for it in record_programs.cases():
+            small_program(checks, it, family)
 
 
 def twin(checks, name, slot):
