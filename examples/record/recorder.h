@@ -69,7 +69,7 @@ struct object {
   uint32_t number;               /* of a lock */
   int holder, depth;             /* of a lock: the thread that has it to write, -1 where none has */
   uint32_t members, arrivals;    /* of a barrier */
-  uint8_t size, is_mixed;        /* of what is atomic: its bytes, and whether accesses of other sizes have some of them */
+  uint8_t size, is_mixed;        /* of what is atomic: its bytes, and whether other sizes have some of them */
   struct marks released, other;  /* other: of readers; of a barrier's second generation */
 };
 

@@ -196,8 +196,8 @@ static void put_step(const struct row *it, size_t behind, uint16_t thread) {
   put_place(it, thread);
 }
 
-/* A step in the order of the run: it is written where it may be. One that stands behind another thread's is kept whatever
-   it uses. */
+/* A step in the order of the run: it is written where it may be. One that stands behind another thread's is kept
+   whatever it uses. */
 static void next_step(const struct row *it, size_t behind, uint16_t thread) {
   steps_made++;
   if (is_access(it) && !behind && !is_shared(it)) return;
