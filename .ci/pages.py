@@ -22,11 +22,13 @@ from judging import EXAMPLES, EXERCISES, PROGRAM, TOP, judge, read, replay, run,
 
 TWINS = f"{EXAMPLES}/beside"
 HUNT = f"{EXAMPLES}/hunt"
+# The most columns of a line of prose, and the most characters of a cell of a table.
+WIDEST_LINE, WIDEST_CELL = 120, 300
 # The pages that show output, each with the folder whose entries its commands find.
 PAGES = (
-    ("README.md", TOP), ("docs/LANGUAGE.md", TOP), ("docs/OWN.md", TOP), ("docs/HUNTING.md", TOP),
-    ("docs/EXERCISES.md", TOP), ("docs/PICTURES.md", TOP), ("docs/BESIDE.md", TOP), ("docs/EDITORS.md", TOP), ("examples/README.md", EXAMPLES),
-    ("examples/exercises/README.md", EXERCISES))
+    ("README.md", TOP), ("docs/GUIDE.md", TOP), ("docs/LANGUAGE.md", TOP), ("docs/OWN.md", TOP), ("docs/HUNTING.md", TOP),
+    ("docs/EXERCISES.md", TOP), ("docs/PICTURES.md", TOP), ("docs/BESIDE.md", TOP), ("docs/EDITORS.md", TOP),
+    ("examples/README.md", EXAMPLES), ("examples/exercises/README.md", EXERCISES))
 
 
 def blocks(name):
@@ -115,6 +117,17 @@ def pages(at):
         judge(f"{name} is there", os.path.isfile(f"{TOP}/{name}"))
         if os.path.isfile(f"{TOP}/{name}"):
             page(name, folder)
+
+
+def widths():
+    """Of the pages that show output: their prose has lines of at most 120 columns, and a cell of a table has at most 300
+    characters."""
+    for name, _ in PAGES:
+        text = re.sub(r"^```.*?^```", "", read(f"{TOP}/{name}").decode(), flags=re.M | re.S)
+        rows = [it for it in text.split("\n") if it.startswith("|")]
+        cells = [it.strip() for row in rows for it in re.split(r"(?<!\\)\|", row) if len(it.strip()) > WIDEST_CELL]
+        lines = [it for it in text.split("\n") if len(it) > WIDEST_LINE and not it.startswith(("|", "!"))]
+        judge(f"{name}: its lines and cells are short", not lines and not cells, "; ".join((lines + cells)[:3]))
 
 
 def hunts(at):
