@@ -3,8 +3,9 @@
 A fenced block of a page with no word behind its fence is one of these two:
 
 - a file: its first line is `# file NAME`, and what stands behind that line is written to a file of this name;
-- commands: its first line is `$ ` and a command of `mirace`, `mirace_show` or examples/hunt, a loop over `mirace`, or
-  one of `cd`, `sed` and `cmp`. Below each stands what it writes.
+- commands: its first line is `$ ` and a command of `mirace` or `mirace_show`, a loop over `mirace`, a script of
+  examples/ (hunt, explore, exercises/mark, trace/trace.py), or one of `cd`, `sed` and `cmp`. Below each stands what it
+  writes.
 
 A block that is neither, as a picture, has a word behind its fence. The commands of a page are run by a shell, in a
 folder of their own. It has the page's files and links to all that stands at the top of the clone, or in the page's
@@ -22,12 +23,16 @@ from judging import EXAMPLES, EXERCISES, PROGRAM, TOP, judge, read, replay, run,
 
 TWINS = f"{EXAMPLES}/beside"
 HUNT = f"{EXAMPLES}/hunt"
+# The commands that a page may have, beside a loop over `mirace` and the script of examples/trace/.
+COMMANDS = (
+    "mirace", "mirace_show", "cd", "sed", "cmp", "examples/hunt", "../hunt", "examples/explore", "../explore",
+    "examples/exercises/mark", "./mark")
 # The most columns of a line of prose, and the most characters of a cell of a table.
 WIDEST_LINE, WIDEST_CELL = 120, 300
 # The pages that show output, each with the folder whose entries its commands find.
 PAGES = (
-    ("README.md", TOP), ("docs/GUIDE.md", TOP), ("docs/LANGUAGE.md", TOP), ("docs/OWN.md", TOP), ("docs/HUNTING.md", TOP),
-    ("docs/EXERCISES.md", TOP), ("docs/PICTURES.md", TOP), ("docs/BESIDE.md", TOP), ("docs/EDITORS.md", TOP),
+    ("README.md", TOP), ("docs/GUIDE.md", TOP), ("docs/LANGUAGE.md", TOP), ("docs/OWN.md", TOP),
+    ("docs/HUNTING.md", TOP), ("docs/RECIPES.md", TOP), ("docs/CLASS.md", TOP), ("docs/EXERCISES.md", TOP), ("docs/PICTURES.md", TOP), ("docs/BESIDE.md", TOP), ("docs/EDITORS.md", TOP),
     ("examples/README.md", EXAMPLES), ("examples/exercises/README.md", EXERCISES))
 
 
@@ -71,8 +76,8 @@ def shown(where, lines, at):
     for command, text in commands(lines):
         words = first_words(command)
         is_loop = words[0] == "for" and "; do mirace " in command
-        is_known = is_loop or words[0] in ("mirace", "mirace_show", "cd", "sed", "cmp", "examples/hunt", "../hunt")
-        judge(f"{where}: {command}: a command of mirace, mirace_show, cd, sed, cmp or hunt, or a loop over mirace", is_known)
+        is_script = words[:2] == ["python3", "examples/trace/trace.py"]
+        judge(f"{where}: {command}: a command that a page may have", is_loop or is_script or words[0] in COMMANDS)
         if words[0] == "cd":
             at = f"{at}/{words[1]}"
             judge(f"{where}: {command}", os.path.isdir(at) and not text, "no such folder, or something is shown behind it")
