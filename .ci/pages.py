@@ -143,6 +143,8 @@ def hunts(at):
     for what, words, text, status in (
             ("no words", [], b"", 2), ("a number that is none", ["print.mr", "0", "x", "10"], b"", 2),
             ("numbers that fall", ["print.mr", "5", "4", "10"], b"", 2),
+            ("an aim that is none", ["print.mr", "0", "9", "10", "fault"], b"", 2),
+            ("no such reason", ["print.mr", "3", "40", "10", "Nothing"], b"numbers 3 to 40: no run shows Nothing\n", 0),
             ("a program that breaks a rule", ["ill-formed.mr", "0", "9", "10"], b"form main b0 2 32 BlockKind\n", 4),
             ("no program", ["missing.mr", "0", "9", "10"], b"read program\n", 6),
             ("nothing to find", ["print.mr", "3", "40", "10"], plain, 0)):
@@ -158,6 +160,31 @@ def hunts(at):
         head = runs[first][re.search(rb"^[>v]", runs[first], re.M).start():].partition(b"witness ")[0]
         wanted = b"number %d\n%sshown by: mirace auto %s %d 300\n" % (first, head, program.encode(), first)
         judge(f"hunt: {name}", (ran.stdout, ran.returncode) == (wanted, 1), f"{short(ran.stdout)}, not {short(wanted)}")
+
+
+def aimed_hunts(at):
+    """The script that hunts, by its aims: it finds the first number whose report shows what is looked for, and with a
+    file of its state it goes on behind that."""
+    how = {"cwd": at, "stdin": subprocess.DEVNULL, "stdout": subprocess.PIPE, "stderr": subprocess.DEVNULL}
+    how |= {"timeout": 60, "env": {**os.environ, "MIRACE": PROGRAM, "JOBS": "3"}}
+    known = "not DeadAllocation"
+    for name, aim, wanted in (
+            ("deadlock", "deadlock", rb"^verdict deadlock$"), ("use-after-free", "undefined", rb"^verdict undefined "),
+            ("use-after-free", "DeadAllocation", rb"^verdict undefined 105 "), ("race", "race", rb"^race [0-9]"),
+            ("lost-update", "prints 1", rb"^> 1$"), ("leak", "leak", rb"^verdict leak$"),
+            ("exit", "running", rb"^verdict running$"), ("use-after-free", known, rb"^verdict (?!exit|undefined)")):
+        program = f"{EXAMPLES}/{name}.mr"
+        reports = {n: run(["auto", program, str(n), "300"], at)[0] for n in range(30)}
+        fits = [n for n, it in reports.items() if re.search(wanted, it, re.M)]
+        for n in fits[:2] + [None] * (len(fits) < 2):
+            ran = subprocess.run([HUNT, program, "0", "29", "300", aim, f"{name} {aim}.state"], **how)
+            is_told = ran.stdout.startswith(b"number %d\n" % n) if n is not None else b" no run shows " in ran.stdout
+            judge(f"hunt: {name}: {aim}: {n}", is_told and ran.returncode == (n is not None), short(ran.stdout))
+    other = subprocess.run([HUNT, f"{EXAMPLES}/leak.mr", "0", "29", "300", "race", "leak leak.state"], **how)
+    judge("hunt: a state of another hunt", (other.stdout, other.returncode) == (b"", 2), short(other.stdout))
+    done = subprocess.run([HUNT, f"{EXAMPLES}/exit.mr", "0", "29", "300", "running", "exit running.state"], **how)
+    told = b"numbers 0 to 29: all are done\n"
+    judge("hunt: a hunt that is done", (done.stdout, done.returncode) == (told, 0), short(done.stdout))
 
 
 def twins(at):
