@@ -32,7 +32,8 @@ WIDEST_LINE, WIDEST_CELL = 120, 300
 # The pages that show output, each with the folder whose entries its commands find.
 PAGES = (
     ("README.md", TOP), ("docs/GUIDE.md", TOP), ("docs/LANGUAGE.md", TOP), ("docs/OWN.md", TOP),
-    ("docs/HUNTING.md", TOP), ("docs/RECIPES.md", TOP), ("docs/CLASS.md", TOP), ("docs/EXERCISES.md", TOP), ("docs/PICTURES.md", TOP), ("docs/BESIDE.md", TOP), ("docs/EDITORS.md", TOP),
+    ("docs/HUNTING.md", TOP), ("docs/RECIPES.md", TOP), ("docs/CLASS.md", TOP), ("docs/COURSE.md", TOP),
+    ("docs/EXERCISES.md", TOP), ("docs/PICTURES.md", TOP), ("docs/BESIDE.md", TOP), ("docs/EDITORS.md", TOP),
     ("examples/README.md", EXAMPLES), ("examples/exercises/README.md", EXERCISES))
 
 
