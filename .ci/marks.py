@@ -10,12 +10,14 @@ SCRIPT = f"{EXERCISES}/mark"
 # A wrong answer for each stored one: what is replaced in it, and by what. Where one name stands, that file is it.
 WRONG = {
     "01-print-solved.mr": ("true", "false"), "01-print-solved.sched": (r"\n0\n$", "\n"),
-    "02-addresses-solved.sched": ("0 32", "0 40"), "03-loop-solved.mr": ("u32 5", "u32 6"), "04-bytes-solved.mr": "04-bytes.mr",
+    "02-addresses-solved.sched": ("0 32", "0 40"), "03-loop-solved.mr": ("u32 5", "u32 6"),
+    "04-bytes-solved.mr": "04-bytes.mr",
     "05-call-solved.mr": ("1 => first, _ => second", "1 => second, _ => first"),
     "05-call-solved.sched": (r"\n0\n$", "\n"), "06-end-solved.mr": "06-end-b.mr", "07-local-solved.mr": "07-local.mr",
     "08-list-solved.mr": "08-list.mr", "09-turns-solved-123.sched": (r"\n0\n$", "\n"),
     "09-turns-solved-213.sched": (r"\n0\n$", "\n"), "10-tickets-solved.sched": ("10-tickets.mr", 0),
-    "11-atomic-solved.mr": "11-twice.mr", "12-lock-solved.mr": ("none regular: do release.u32 0. to end;", "none regular: return;"),
+    "11-atomic-solved.mr": "11-twice.mr",
+    "12-lock-solved.mr": ("none regular: do release.u32 0. to end;", "none regular: return;"),
     "13-forks-solved.mr": "13-forks.mr", "13-forks-solved.sched": ("13-forks.mr", 1),
     "14-witness-solved.sched": "14-witness.sched"}
 

@@ -126,7 +126,7 @@ def pages(at):
 
 
 def widths():
-    """Of the pages that show output: their prose has lines of at most 120 columns, and a cell of a table has at most 300
+    """The pages that show output have lines of prose of at most 120 columns, and cells of tables of at most 300
     characters."""
     for name, _ in PAGES:
         text = re.sub(r"^```.*?^```", "", read(f"{TOP}/{name}").decode(), flags=re.M | re.S)
