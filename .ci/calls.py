@@ -247,9 +247,9 @@ def alone(at):
     judge("a copy of the program", ran.stdout == b"> 42\nverdict exit\nraces 0\n" and ran.returncode == 0, short(ran.stdout))
 
 
-def grammar_of_the_guide(at):
-    """Texts of the guide's grammar, and texts just outside it."""
+def grammar_of_the_page(at):
+    """Texts of the reference's grammar, and texts just outside it."""
     wrong, inside, outside = grammar.tried(PROGRAM)
-    judge("the grammar of the guide", not wrong, "; ".join(wrong[:5]))
+    judge("the grammar of docs/LANGUAGE.md", not wrong, "; ".join(wrong[:5]))
     is_many = min(inside, outside) >= grammar.COUNT
     judge("texts of the grammar, and outside it", is_many, f"{inside} and {outside}")

@@ -3,8 +3,9 @@
 A fenced block of a page with no word behind its fence is one of these two:
 
 - a file: its first line is `# file NAME`, and what stands behind that line is written to a file of this name;
-- commands: its first line is `$ ` and a command of `mirace`, `mirace_show` or examples/hunt, a loop over `mirace`, or
-  one of `cd`, `sed` and `cmp`. Below each stands what it writes.
+- commands: its first line is `$ ` and a command of `mirace` or `mirace_show`, a loop over `mirace`, a script of
+  examples/ (hunt, explore, exercises/mark, trace/trace.py), or one of `cd`, `sed` and `cmp`. Below each stands what it
+  writes.
 
 A block that is neither, as a picture, has a word behind its fence. The commands of a page are run by a shell, in a
 folder of their own. It has the page's files and links to all that stands at the top of the clone, or in the page's
@@ -22,11 +23,18 @@ from judging import EXAMPLES, EXERCISES, PROGRAM, TOP, judge, read, replay, run,
 
 TWINS = f"{EXAMPLES}/beside"
 HUNT = f"{EXAMPLES}/hunt"
+# The commands that a page may have, beside a loop over `mirace` and the script of examples/trace/.
+COMMANDS = (
+    "mirace", "mirace_show", "cd", "sed", "cmp", "examples/hunt", "../hunt", "examples/explore", "../explore",
+    "examples/exercises/mark", "./mark")
+# The most columns of a line of prose, and the most characters of a cell of a table.
+WIDEST_LINE, WIDEST_CELL = 120, 300
 # The pages that show output, each with the folder whose entries its commands find.
 PAGES = (
-    ("README.md", TOP), ("docs/LANGUAGE.md", TOP), ("docs/OWN.md", TOP), ("docs/HUNTING.md", TOP),
-    ("docs/EXERCISES.md", TOP), ("docs/PICTURES.md", TOP), ("docs/BESIDE.md", TOP), ("docs/EDITORS.md", TOP), ("examples/README.md", EXAMPLES),
-    ("examples/exercises/README.md", EXERCISES))
+    ("README.md", TOP), ("docs/GUIDE.md", TOP), ("docs/LANGUAGE.md", TOP), ("docs/OWN.md", TOP),
+    ("docs/HUNTING.md", TOP), ("docs/RECIPES.md", TOP), ("docs/CLASS.md", TOP), ("docs/COURSE.md", TOP),
+    ("docs/EXERCISES.md", TOP), ("docs/PICTURES.md", TOP), ("docs/BESIDE.md", TOP), ("docs/EDITORS.md", TOP),
+    ("examples/README.md", EXAMPLES), ("examples/exercises/README.md", EXERCISES))
 
 
 def blocks(name):
@@ -69,8 +77,8 @@ def shown(where, lines, at):
     for command, text in commands(lines):
         words = first_words(command)
         is_loop = words[0] == "for" and "; do mirace " in command
-        is_known = is_loop or words[0] in ("mirace", "mirace_show", "cd", "sed", "cmp", "examples/hunt", "../hunt")
-        judge(f"{where}: {command}: a command of mirace, mirace_show, cd, sed, cmp or hunt, or a loop over mirace", is_known)
+        is_script = words[:2] == ["python3", "examples/trace/trace.py"]
+        judge(f"{where}: {command}: a command that a page may have", is_loop or is_script or words[0] in COMMANDS)
         if words[0] == "cd":
             at = f"{at}/{words[1]}"
             judge(f"{where}: {command}", os.path.isdir(at) and not text, "no such folder, or something is shown behind it")
@@ -117,6 +125,17 @@ def pages(at):
             page(name, folder)
 
 
+def widths():
+    """The pages that show output have lines of prose of at most 120 columns, and cells of tables of at most 300
+    characters."""
+    for name, _ in PAGES:
+        text = re.sub(r"^```.*?^```", "", read(f"{TOP}/{name}").decode(), flags=re.M | re.S)
+        rows = [it for it in text.split("\n") if it.startswith("|")]
+        cells = [it.strip() for row in rows for it in re.split(r"(?<!\\)\|", row) if len(it.strip()) > WIDEST_CELL]
+        lines = [it for it in text.split("\n") if len(it) > WIDEST_LINE and not it.startswith(("|", "!"))]
+        judge(f"{name}: its lines and cells are short", not lines and not cells, "; ".join((lines + cells)[:3]))
+
+
 def hunts(at):
     """The script that hunts: its statuses, and that it finds the first number."""
     how = {"cwd": at, "stdin": subprocess.DEVNULL, "stdout": subprocess.PIPE, "stderr": subprocess.DEVNULL}
@@ -125,6 +144,8 @@ def hunts(at):
     for what, words, text, status in (
             ("no words", [], b"", 2), ("a number that is none", ["print.mr", "0", "x", "10"], b"", 2),
             ("numbers that fall", ["print.mr", "5", "4", "10"], b"", 2),
+            ("an aim that is none", ["print.mr", "0", "9", "10", "fault"], b"", 2),
+            ("no such reason", ["print.mr", "3", "40", "10", "Nothing"], b"numbers 3 to 40: no run shows Nothing\n", 0),
             ("a program that breaks a rule", ["ill-formed.mr", "0", "9", "10"], b"form main b0 2 32 BlockKind\n", 4),
             ("no program", ["missing.mr", "0", "9", "10"], b"read program\n", 6),
             ("nothing to find", ["print.mr", "3", "40", "10"], plain, 0)):
@@ -140,6 +161,31 @@ def hunts(at):
         head = runs[first][re.search(rb"^[>v]", runs[first], re.M).start():].partition(b"witness ")[0]
         wanted = b"number %d\n%sshown by: mirace auto %s %d 300\n" % (first, head, program.encode(), first)
         judge(f"hunt: {name}", (ran.stdout, ran.returncode) == (wanted, 1), f"{short(ran.stdout)}, not {short(wanted)}")
+
+
+def aimed_hunts(at):
+    """The script that hunts, by its aims: it finds the first number whose report shows what is looked for, and with a
+    file of its state it goes on behind that."""
+    how = {"cwd": at, "stdin": subprocess.DEVNULL, "stdout": subprocess.PIPE, "stderr": subprocess.DEVNULL}
+    how |= {"timeout": 60, "env": {**os.environ, "MIRACE": PROGRAM, "JOBS": "3"}}
+    known = "not DeadAllocation"
+    for name, aim, wanted in (
+            ("deadlock", "deadlock", rb"^verdict deadlock$"), ("use-after-free", "undefined", rb"^verdict undefined "),
+            ("use-after-free", "DeadAllocation", rb"^verdict undefined 105 "), ("race", "race", rb"^race [0-9]"),
+            ("lost-update", "prints 1", rb"^> 1$"), ("leak", "leak", rb"^verdict leak$"),
+            ("exit", "running", rb"^verdict running$"), ("use-after-free", known, rb"^verdict (?!exit|undefined)")):
+        program = f"{EXAMPLES}/{name}.mr"
+        reports = {n: run(["auto", program, str(n), "300"], at)[0] for n in range(30)}
+        fits = [n for n, it in reports.items() if re.search(wanted, it, re.M)]
+        for n in fits[:2] + [None] * (len(fits) < 2):
+            ran = subprocess.run([HUNT, program, "0", "29", "300", aim, f"{name} {aim}.state"], **how)
+            is_told = ran.stdout.startswith(b"number %d\n" % n) if n is not None else b" no run shows " in ran.stdout
+            judge(f"hunt: {name}: {aim}: {n}", is_told and ran.returncode == (n is not None), short(ran.stdout))
+    other = subprocess.run([HUNT, f"{EXAMPLES}/leak.mr", "0", "29", "300", "race", "leak leak.state"], **how)
+    judge("hunt: a state of another hunt", (other.stdout, other.returncode) == (b"", 2), short(other.stdout))
+    done = subprocess.run([HUNT, f"{EXAMPLES}/exit.mr", "0", "29", "300", "running", "exit running.state"], **how)
+    told = b"numbers 0 to 29: all are done\n"
+    judge("hunt: a hunt that is done", (done.stdout, done.returncode) == (told, 0), short(done.stdout))
 
 
 def twins(at):

@@ -10,7 +10,7 @@ from judging import CASES, CLASS, EXAMPLES, EXERCISES, TOP, judge, read
 # The programs that release/ has.
 RELEASED = ("mirace", "mirace_show")
 # How many tasks the page of exercises has, and the most lines of README.
-TASKS, README_LINES = 15, 160
+TASKS, README_LINES = 15, 150
 # The most must-fail edits of a crate; the crates of the top call together have twice as many. And those of all crates.
 TOP_CRATES = {"mirace", "mr_command", "mr_answer", "mr_input"}
 MOST_EDITS = 6
