@@ -21,6 +21,7 @@ from limits import RUNNING, program
 
 TOP = os.path.dirname(os.path.dirname(os.path.abspath(__file__)))
 PROGRAMS = {"mirace": f"{TOP}/crates/mirace/out/mirace", "mirace_show": f"{TOP}/crates/mirace_show/out/mirace_show"}
+PAGE = f"{TOP}/docs/SPEED.md"
 VALGRIND = ("valgrind", "--tool=cachegrind", "--cache-sim=no", "--cachegrind-out-file=/dev/null")
 # How many times what it takes may be where the size doubles: twice, and a tenth of it for each doubling of a search.
 GROWTH = 2.6
@@ -39,9 +40,9 @@ DONE = {
     "one cell": ("store atomically to one cell", {2: TWO, 8: ALL, 64: ALL, 512: ALL, 1000: ALL}),
     "cells of their own": ("store atomically to cells of their own", {2: ("random",), 64: TWO, 1000: TWO}),
     "shared cells": ("store atomically to shared cells in no order", {2: ("random",), 64: TWO, 1000: TWO}),
-    "a lock": ("raise a counter under a lock", {2: TWO, 8: ALL, 64: ALL, 512: ALL, 1000: TWO}),
+    "a lock": ("raise a counter under a lock", {2: TWO, 8: ALL, 64: ALL, 512: TWO, 1000: TWO}),
     "many locks": ("take 4,000 locks in no order", {2: ("random",), 64: ALL}),
-    "loads and a store": ("load one cell, to which one of them stores", {2: ("random",), 512: ALL, 1000: ("rising",)}),
+    "loads and a store": ("load one cell, to which one of them stores", {2: ("random",), 512: TWO, 1000: ("rising",)}),
 }
 # How many steps they have at first; and of a thousand threads under a lock, so that each takes it again.
 STEPS, STEPS_AGAIN = 3 << 10, 3 << 11
@@ -184,7 +185,7 @@ def of_companion():
 
 
 def all_shapes():
-    yield from (Shape("a text of a global of many items", "run P S", turns.items, 50000, end=hostile.EXITED),
+    yield from (Shape("a text of a global of many items", "run P S", turns.items, 250000, end=hostile.EXITED),
                 *of_turns(), *of_memory(), *of_frames(), *of_traces(), *of_companion())
 
 
@@ -259,9 +260,21 @@ def is_counted(shape):
     return shape.counted != "instructions" or shutil.which("valgrind")
 
 
+def compare_page(judge, known):
+    """The table of docs/SPEED.md has shapes alone, each as it stands, and all that are open."""
+    with open(PAGE, encoding="utf-8") as it:
+        rows = re.findall(r"^\| (.*?) \|.*\| (held|open) \|$", it.read(), re.M)
+    wanted = [(what, "open" if what in known and known[what].is_open else "held") for what, _ in rows]
+    judge("SPEED: how slow shapes stand", rows == wanted, f"{sorted({*rows} - {*wanted})} stand otherwise")
+    missing = {what for what, it in known.items() if it.is_open} - {what for what, _ in rows}
+    unknown = {what for what, _ in rows} - {*known}
+    judge("SPEED: the open shapes", not missing and not unknown, f"{missing} not in the table, {unknown} no shapes")
+
+
 def compare(judge, programs=PROGRAMS):
     """Each shape that isn't open takes no more than it may."""
     figures = Figures(programs)
+    compare_page(judge, figures.known)
     if not shutil.which("valgrind"):
         print("outputs: there is no valgrind, so that no instructions of long runs are counted")
     for shape in figures.known.values():
