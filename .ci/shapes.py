@@ -38,7 +38,7 @@ ALL, TWO = (*turns.ORDERS,), ("rising", "random")
 DONE = {
     "locals of their own": ("store to locals of their own", {2: ("random",), 64: ("random",), 1000: TWO}),
     "one cell": ("store atomically to one cell", {2: TWO, 8: ALL, 64: ALL, 512: ALL, 1000: ALL}),
-    "cells of their own": ("store atomically to cells of their own", {2: ("random",), 64: TWO, 1000: TWO}),
+    "cells of their own": ("store atomically to 16 cells of their own", {2: ("random",), 64: TWO, 1000: TWO}),
     "shared cells": ("store atomically to shared cells in no order", {2: ("random",), 64: TWO, 1000: TWO}),
     "a lock": ("raise a counter under a lock", {2: TWO, 8: ALL, 64: ALL, 512: TWO, 1000: TWO}),
     "many locks": ("take 4,000 locks in no order", {2: ("random",), 64: ALL}),
@@ -141,7 +141,7 @@ def leaking(count):
 def at_prints(threads, numbers):
     """So many threads in front of a print of so many numbers."""
     printed = "do print(%s) to b1" % ", ".join(["u8 1"] * numbers)
-    text = "minirust 1\nglobal g align 8 { 0*9000 }\nfn w(p) -> r {\nlet p: raw, r: unit;\nb0 regular: goto b1;\n"
+    text = turns.GLOBAL + "fn w(p) -> r {\nlet p: raw, r: unit;\nb0 regular: goto b1;\n"
     text += f"b1 regular: {printed};\n}}\n" + turns.MAIN % ("b1", 0)
     at = turns.itertools.count(turns.BEHIND, 8)
     entries = turns.begun(at, threads) + [str(k) for k in range(1, threads + 1)]

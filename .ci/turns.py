@@ -4,26 +4,30 @@ import itertools
 
 # How many locks the program of many locks has, and how many bytes a mebibyte.
 LOCKS, MEBIBYTE = 4000, 1 << 20
+# How many bytes are a worker's own, and how many are those of all.
+OWN, BYTES = 128, 128 * 1024
 # Where globals stand, and what follows them.
 AT, BEHIND = MEBIBYTE, 1 << 24
 # What a worker does: how many locks there are; the local that it gives storage to; what its first block does behind
-# that, and in how many steps; its other blocks, and how many steps a turn of it has. Its argument `p` points to a cell
+# that, and in how many steps; its other blocks, and how many steps a turn of it has. Its argument `p` points to cells
 # of its own.
 NEXT_CELL = "i = rem(add(mul(load(i), u64 21), u64 7), u64 1000)"
+NEXT_OF_OWN = f"i = rem(add(load(i), i64 8), i64 {OWN})"
 NEXT_LOCK = f"i = rem(add(mul(load(i), u32 21), u32 7), u32 {LOCKS})"
 CELL = "addrof(raw, deref(global g + 0, array(1000, u64))[load(i)])"
 COUNTER = "deref(global g + 0, u64)"
 WORKERS = {
     "locals of their own": (0, "x: u64", "goto b1", 1, "b1 regular: x = u64 1; goto b1;\n", 2),
     "one cell": (0, "", "goto b1", 1, "b1 regular: do atomic_store(global g + 0, u64 1) to b1;\n", 1),
-    "cells of their own": (0, "", "goto b1", 1, "b1 regular: do atomic_store(load(p), u64 1) to b1;\n", 1),
+    "cells of their own": (0, "i: i64", "i = i64 0; goto b1", 2, f"b1 regular: {NEXT_OF_OWN}; "
+                           "do atomic_store(offset(load(p), load(i)), u64 1) to b1;\n", 2),
     "shared cells": (0, "i: u64", "do fetch_add(global g + 0, u64 1) -> i to b1", 1,
                      f"b1 regular: {NEXT_CELL}; do atomic_store({CELL}, u64 1) to b1;\n", 2),
     "a lock": (1, "", "goto b1", 1, "b1 regular: do acquire(u32 0) to b2;\n"
                f"b2 regular: {COUNTER} = add(load({COUNTER}), u64 1); do release(u32 0) to b1;\n", 3),
     "many locks": (LOCKS, "i: u32", "i = u32 0; goto b1", 2,
                    f"b1 regular: {NEXT_LOCK}; do acquire(load(i)) to b2;\nb2 regular: do release(load(i)) to b1;\n", 3),
-    "loads and a store": (0, "x: u64", "switch eq(load(p), global g + 8) { 1 => b2, _ => b1 }", 1,
+    "loads and a store": (0, "x: u64", f"switch eq(load(p), global g + {OWN}) {{ 1 => b2, _ => b1 }}", 1,
                           "b1 regular: do atomic_load(global g + 0) -> x to b1;\n"
                           "b2 regular: do atomic_store(global g + 0, u64 1) to b2;\n", 1),
 }
@@ -33,10 +37,11 @@ b0 regular: live t; live k; k = i64 0; goto %s;
 c0 regular: do create_lock() -> t to c1;
 c1 regular: k = add(load(k), i64 1); switch lt(load(k), i64 %d) { 1 => c0, _ => c2 };
 c2 regular: k = i64 0; goto b1;
-b1 regular: k = add(load(k), i64 8); do spawn(fn w, offset(global g + 0, load(k))) -> t to b1;
+b1 regular: k = add(load(k), i64 128); do spawn(fn w, offset(global g + 0, load(k))) -> t to b1;
 }
 main main
 """
+GLOBAL = f"minirust 1\nglobal g align 8 {{ 0*{BYTES} }}\n"
 
 
 def rising(threads, count):
@@ -69,7 +74,7 @@ def threaded(work, threads, order):
     live = f"live {local.partition(':')[0]}; " if local else ""
     worker = "fn w(p) -> r {\nlet p: raw, r: unit%s;\nb0 regular: %s%s;\n%s}\n" % (
         f", {local}" if local else "", live, front, blocks)
-    text = "minirust 1\nglobal g align 8 { 0*9000 }\n" + worker + MAIN % ("c0" if locks else "b1", locks)
+    text = GLOBAL + worker + MAIN % ("c0" if locks else "b1", locks)
 
     def made(count):
         at = itertools.count(BEHIND, 8)
@@ -114,9 +119,7 @@ def each_second(statement):
 
 
 # Threads that empty so many bytes of a block of their own, each time eight bytes further on.
-MOVED = """minirust 1
-global g align 8 { 0*9000 }
-fn w(p) -> r {
+MOVED = GLOBAL + """fn w(p) -> r {
 let p: raw, r: unit, q: raw, i: i64;
 b0 regular: live q; live i; i = i64 0; do allocate(u64 2097152, u64 8) -> q to b1;
 b1 regular: deinit deref(offset(load(q), load(i)), array(%d, u8)); i = rem(add(load(i), i64 8), i64 1048576); goto b1;
