@@ -119,9 +119,9 @@ def of_traces():
                 is_open="each store of the one is compared with each of the other")
     single = lambda n: traced(stores(0, 8, 8, 8, n))
     over = lambda n: traced(stores(0, 8, 8, 1 << 40, n))
-    for counted, size in (("instructions", 2000), ("memory", 4000)):
+    for counted, size, more in (("instructions", 2000, 8), ("memory", 4000, 64)):
         one = "one step of many stores, %s" + ("" if counted == "instructions" else ", by memory")
-        yield Shape(one % "none over another", "offline T", single, size * 8, counted, NONE)
+        yield Shape(one % "none over another", "offline T", single, more * size, counted, NONE)
         yield Shape(one % "all over one another", "offline T", over, size, counted, NONE,
                     plain=one % "none over another", most=TIMES,
                     is_open="each store notes each one that it meets, also of its own step")
@@ -243,7 +243,7 @@ class Figures:
 def told(programs, word):
     """A line for each shape with the word in its name."""
     figures = Figures(programs)
-    for shape in figures.known.values():
+    for shape in filter(is_counted, figures.known.values()):
         if word in shape.what:
             growth, times = figures.times(shape)
             first, second = figures.of(shape.what)
@@ -282,7 +282,7 @@ def compare(judge, programs=PROGRAMS):
             continue
         try:
             growth, times = figures.times(shape)
-        except RuntimeError as error:
+        except (RuntimeError, OSError) as error:
             judge(shape.what, False, str(error))
             continue
         judge(f"{shape.what}: twice the size", growth <= shape.growth, f"{growth:.2f} times, not {shape.growth}")
