@@ -125,12 +125,11 @@ def large_memory(at):
 
 def lent_bytes(at):
     """A write while a view lives isn't compiled, and the same program is that doesn't read the view behind it."""
-    for crate, below in (("mr_base", ""), ("mr_runs", " mr_base"), ("lent", " mr_base mr_runs")):
-        with open(f"{at}/crates.txt", "a") as it:
-            it.write(f"{crate}:{below}\n")
+    own = [it for it in read(f"{TOP}/crates.txt").split(b"\n") if it.partition(b":")[0] in (b"mr_base", b"mr_runs")]
+    write(at, "crates.txt", b"\n".join((*own, b"lent: mr_base mr_runs", b"")))
+    for crate in ("mr_base", "mr_runs"):
         for part in ("src", "specs"):
-            if crate != "lent":
-                shutil.copytree(f"{TOP}/crates/{crate}/{part}", f"{at}/crates/{crate}/{part}")
+            shutil.copytree(f"{TOP}/crates/{crate}/{part}", f"{at}/crates/{crate}/{part}")
     os.makedirs(f"{at}/crates/lent/src")
     for name, is_refused in (("view", True), ("runs", False)):
         write(f"{at}/crates/lent/src", "main.rt", (LENT % name).encode())

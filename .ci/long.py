@@ -1,9 +1,12 @@
 #!/usr/bin/env python3
 """The time and the memory of long runs, by the shape of what their steps do to each other.
 
+    .ci/long.py [--counted PROGRAM [COMPANION]] [--shape WORD]
     .ci/long.py PROGRAM .. [--shape WORD] [--times N]
 
-tells, for each program and each shape, the processor seconds and the MiB of `run` at 2^17 and at 2^20 entries, and how
+The first tells of each shape of .ci/shapes.py what it takes, counted and not in seconds: in two sizes, how many times as
+much in the second, and how many times what a plain shape takes. Behind one that exceeds its bound stands OPEN, and why;
+`.ci/outputs` judges the others. The programs are those that are built, where no others are named. The second tells, for each program and each shape, the processor seconds and the MiB of `run` at 2^17 and at 2^20 entries, and how
 many times as long the second takes. Of N runs (one where it isn't given) the least is told. The schedules are those that
 `auto` draws with the first program, so the threads take their turns at random; `alone` is one thread, to compare with.
 """
@@ -142,6 +145,14 @@ def measure(tools, name, text, times):
         print(f"{name:42} {short[0]:8.2f} s {long[0]:8.2f} s {times_as_long:6.1f} {short[1]:6} {long[1]:6} MiB  status {long[2]}  {tool}", flush=True)
 
 
+def tell(programs, word):
+    """What each shape of shapes.py takes, or each with the word in its name."""
+    import shapes
+    known = {name: os.path.abspath(path) for name, path in zip(shapes.PROGRAMS, programs)}
+    for line in shapes.told({**shapes.PROGRAMS, **known}, word):
+        print(line, flush=True)
+
+
 def main():
     words, word, times = list(sys.argv[1:]), "", 1
     while "--shape" in words:
@@ -152,9 +163,9 @@ def main():
         at = words.index("--times")
         times = int(words[at + 1])
         del words[at:at + 2]
+    if words[:1] in ([], ["--counted"]):
+        return tell(words[1:], word)
     tools = [os.path.abspath(it) for it in words]
-    if not tools:
-        sys.exit(__doc__)
     for name, text in SHAPES.items():
         if word in name:
             measure(tools, name, text, times)
