@@ -9,7 +9,7 @@ import time
 
 import hostile
 import limits
-from judging import PATIENCE, PROGRAM, TOP, expect, judge, run, short, timed, write
+from judging import PATIENCE, PROGRAM, TOP, expect, judge, read, run, short, timed, write
 from made import STEPS, STORING
 
 # A thread loads again and again what another stored before it spawned it: each load could race with the store.
