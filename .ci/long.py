@@ -148,8 +148,12 @@ def measure(tools, name, text, times):
 def tell(programs, word):
     """What each shape of shapes.py takes, or each with the word in its name."""
     import shapes
-    known = {name: os.path.abspath(path) for name, path in zip(shapes.PROGRAMS, programs)}
-    for line in shapes.told({**shapes.PROGRAMS, **known}, word):
+    named = {name: os.path.abspath(path) for name, path in zip(shapes.PROGRAMS, programs)}
+    known = {**shapes.PROGRAMS, **named}
+    missing = [path for path in known.values() if not os.path.isfile(path)]
+    if missing:
+        sys.exit(f"long: no program {' and '.join(missing)}")
+    for line in shapes.told(known, word):
         print(line, flush=True)
 
 
