@@ -18,7 +18,8 @@ use Rattle.mr_ast.specs.declared.program.Local.{Local}
 use Rattle.mr_ast.specs.declared.program.Program.{Program}
 use Rattle.mr_ast.specs.Integers.{is_fitting}
 use Rattle.mr_layout.specs.TypeOk.{broken_rule}
-use Rattle.mr_typing.specs.Types.{discriminant_type, element_type, field_type, type_of_place, type_of_value, variant_type}
+use Rattle.mr_typing.specs.Types.{discriminant_type, element_type, field_type, type_of_place, type_of_value}
+use Rattle.mr_typing.specs.Types.{variant_type}
 use Rattle.mr_typing.specs.Operands.{fits_binary, fits_parts, fits_unary, fits_union, fits_variant, is_int, is_pointer}
 use Rattle.mr_typing.specs.Operands.{is_raw, is_ref, is_scalar_number, same_size}
 

@@ -1,5 +1,5 @@
 -- The walk over statements, terminators and blocks, computed: the first broken rule, if there is one.
-use Rattle.std.specs.Prelude.{not, List, Option, None, Some, Result, Ok, Err, is_some}
+use Rattle.std.specs.Prelude.{not, List, Option, None, Some, Result, Ok, is_some}
 use Rattle.mr_ast.specs.declared.rule.Rule.{Rule}
 use Rattle.mr_ast.specs.declared.rule.Rule.TheVariants as form
 use Rattle.mr_ast.specs.declared.types.Ty.{Ty}
