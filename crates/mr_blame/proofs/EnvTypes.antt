@@ -9,8 +9,8 @@ use Rattle.mr_layout.specs.Sizes.{size_of}
 use Rattle.mr_layout.specs.TypeOk.{TypeOk}
 use Rattle.mr_value.specs.Shape.{has_shape}
 use Rattle.mr_value.specs.declared.val.Val.{Val}
-use Rattle.mr_wf.specs.Types.{type_of_place, type_of_value}
-use Rattle.mr_wf.specs.Walk.{WellFormed}
+use Rattle.mr_typing.specs.Types.{type_of_place, type_of_value}
+use Rattle.mr_typing.specs.Walk.{WellFormed}
 use Rattle.mr_eval.specs.Environment.{PlaceIn, ShapedAs, ValueIn, env_surround}
 use Rattle.mr_eval.specs.declared.env.Env.{Env}
 use Rattle.mr_eval.proofs.CallLaws.{env_place, env_value}

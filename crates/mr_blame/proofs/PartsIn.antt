@@ -18,9 +18,9 @@ use Rattle.mr_ast.specs.ShapedTypes.{fits_u64, is_shaped_num, is_shaped_type}
 use Rattle.mr_ast.specs.ShapedValues.{is_shaped_place, is_shaped_value}
 use Rattle.mr_ast.proofs.ShapedLaws.{shaped_addr_of, shaped_binary, shaped_cast, shaped_deref, shaped_disc, shaped_field_place, shaped_index_place, shaped_load, shaped_transmute, shaped_tuple, shaped_unary, shaped_union, shaped_variant, shaped_variant_place}
 use Rattle.std.proofs.lemmas.Bool.{and_parts}
-use Rattle.mr_wf.proofs.NothingLaws.{both_nothing}
-use Rattle.mr_wf.specs.Broken.{broken_in_place, broken_in_value, surroundings}
-use Rattle.mr_wf.proofs.TypedLaws.{typed_addr_of, typed_binary, typed_cast, typed_deref, typed_disc, typed_field, typed_index, typed_load, typed_transmute, typed_tuple, typed_unary, typed_union, typed_variant, typed_variant_place}
+use Rattle.mr_typing.proofs.NothingLaws.{both_nothing}
+use Rattle.mr_typing.specs.Broken.{broken_in_place, broken_in_value, surroundings}
+use Rattle.mr_typing.proofs.TypedLaws.{typed_addr_of, typed_binary, typed_cast, typed_deref, typed_disc, typed_field, typed_index, typed_load, typed_transmute, typed_tuple, typed_unary, typed_union, typed_variant, typed_variant_place}
 use Rattle.mr_eval.specs.Environment.{IsEnvOf, PlaceIn, ValueIn}
 use Rattle.mr_eval.specs.declared.env.Env.{Env}
 

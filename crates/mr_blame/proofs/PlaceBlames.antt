@@ -17,7 +17,7 @@ use Rattle.mr_mem.specs.Memory.{Memory}
 use Rattle.mr_labels.specs.declared.reached.Reached.{Reached}
 use Rattle.mr_base.specs.Script.{◌>>=◌}
 use Rattle.mr_value.specs.declared.val.Val.{Val}
-use Rattle.mr_wf.specs.Types.{type_of_place}
+use Rattle.mr_typing.specs.Types.{type_of_place}
 use Rattle.mr_blame.specs.Rests.{IsLast, element_move, field_move}
 use Rattle.mr_blame.specs.Reads.{Comes, IsBlamed, IsRefused, come, place_come, place_last, value_come, value_last}
 use Rattle.mr_blame.proofs.BlameLaws.{blamed_behind, blamed_part, refused_behind, refused_part}

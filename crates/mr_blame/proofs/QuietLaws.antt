@@ -29,7 +29,7 @@ use Rattle.mr_mem.specs.Memory.{Memory}
 use Rattle.mr_base.specs.Script.{◌>>=◌, Ask, Broken, Done, IllFormed, Outcome, Refused, Undefined, Went, on, run}
 use Rattle.mr_value.specs.declared.val.Val.{Val, out-Val}
 use Rattle.mr_value.specs.declared.val.Val.TheOpen.{Val-F}
-use Rattle.mr_wf.specs.Types.{chained, variant_type}
+use Rattle.mr_typing.specs.Types.{chained, variant_type}
 use Rattle.mr_labels.specs.declared.reached.Reached.{Reached}
 use Rattle.mr_blame.specs.Reaches.{is_of_memory}
 use Rattle.mr_blame.specs.Reads.{IsBlamed, IsRefused, come, last_reached, telling}

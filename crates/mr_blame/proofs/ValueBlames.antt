@@ -24,7 +24,7 @@ use Rattle.mr_labels.specs.declared.reached.Reached.{Reached}
 use Rattle.mr_base.specs.Script.{◌>>=◌, Done}
 use Rattle.mr_value.specs.declared.val.Val.{Val}
 use Rattle.mr_value.specs.declared.val.Val.TheVariants as val
-use Rattle.mr_wf.specs.Types.{type_of_place, type_of_value}
+use Rattle.mr_typing.specs.Types.{type_of_place, type_of_value}
 use Rattle.mr_blame.specs.Rests.{IsLast}
 use Rattle.mr_blame.specs.Reads.{Comes, IsBlamed, IsRefused, come, place_come, place_last, value_come, value_last, values_come, values_last}
 use Rattle.mr_blame.proofs.BlameLaws.{blamed_behind, blamed_part, refused_behind, refused_part}

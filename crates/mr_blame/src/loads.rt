@@ -5,7 +5,7 @@ ghost use Rattle.mr_eval.specs.Environment.{PlaceIn, ShapedAs, ValueIn, env_surr
 ghost use Rattle.mr_eval.specs.Evaluation.{loaded, transmuted};
 ghost use Rattle.mr_layout.specs.Sizes.{align_of, size_of};
 ghost use Rattle.mr_layout.specs.TypeOk.{TypeOk};
-ghost use Rattle.mr_wf.specs.Types.{type_of_place, type_of_value};
+ghost use Rattle.mr_typing.specs.Types.{type_of_place, type_of_value};
 ghost use Rattle.mr_blame.specs.Reads.{IsBlamed, IsRefused, come, load_come, load_last};
 ghost use Rattle.mr_blame.specs.Rests.{IsLast};
 

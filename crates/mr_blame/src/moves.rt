@@ -10,7 +10,7 @@ ghost use Rattle.mr_eval.specs.declared.kinds.Operator.TheVariants.{Moving};
 ghost use Rattle.mr_intops.specs.Numbers.{value_of};
 ghost use Rattle.mr_layout.specs.TypeOk.{TypeOk};
 ghost use Rattle.mr_value.specs.declared.val.Val.{out-Val};
-ghost use Rattle.mr_wf.specs.Types.{type_of_place};
+ghost use Rattle.mr_typing.specs.Types.{type_of_place};
 ghost use Rattle.mr_blame.specs.Rests.{IsLastOver, element_move, field_move};
 
 use crate::parts::reached_by;
@@ -20,8 +20,8 @@ use mr_base::Pointer;
 use mr_eval::Env;
 use mr_labels::{Reached, Reaching};
 use mr_layout::Cache;
+use mr_typing::offset;
 use mr_value::Val;
-use mr_wf::offset;
 
 // The lower of a pointer and the address that it moves to, by a number that tells which way.
 fn lower(p: Pointer, n: i128, addr: u64) -> Pointer

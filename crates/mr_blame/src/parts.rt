@@ -5,7 +5,7 @@ ghost use Rattle.mr_eval.specs.Answers.{same};
 ghost use Rattle.mr_eval.specs.Environment.{PlaceIn, ShapedAs, ValueIn, env_surround};
 ghost use Rattle.mr_layout.specs.Sizes.{size_of};
 ghost use Rattle.mr_layout.specs.TypeOk.{TypeOk};
-ghost use Rattle.mr_wf.specs.Types.{type_of_place};
+ghost use Rattle.mr_typing.specs.Types.{type_of_place};
 ghost use Rattle.mr_blame.specs.Reaches.{reached_by};
 ghost use Rattle.mr_blame.specs.Reads.{Comes, load_come, place_come, value_come, values_come};
 

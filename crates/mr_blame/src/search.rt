@@ -4,7 +4,7 @@ ghost use Rattle.mr_ast.specs.declared.types.Ty.{out-Ty};
 ghost use Rattle.mr_eval.specs.Environment.{PlaceIn, env_surround};
 ghost use Rattle.mr_eval.specs.Evaluation.{discriminant_at};
 ghost use Rattle.mr_eval.specs.Typed.{searched};
-ghost use Rattle.mr_wf.specs.Types.{type_of_place};
+ghost use Rattle.mr_typing.specs.Types.{type_of_place};
 ghost use Rattle.mr_blame.specs.Reads.{IsBlamed, IsRefused, come, search_last};
 ghost use Rattle.mr_blame.specs.Rests.{IsLast, tree_in};
 

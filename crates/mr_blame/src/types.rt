@@ -2,14 +2,14 @@
 ghost use Rattle.std.specs.Prelude.{◌≡◌, Some};
 ghost use Rattle.mr_eval.specs.Environment.{PlaceIn, ValueIn, env_surround};
 ghost use Rattle.mr_layout.specs.TypeOk.{TypeOk};
-ghost use Rattle.mr_wf.specs.Known.{ty_of};
-ghost use Rattle.mr_wf.specs.Types.{type_of_place, type_of_value};
-ghost use Rattle.mr_wf.specs.Walk.{WellFormed};
+ghost use Rattle.mr_typing.specs.Known.{ty_of};
+ghost use Rattle.mr_typing.specs.Types.{type_of_place, type_of_value};
+ghost use Rattle.mr_typing.specs.Walk.{WellFormed};
 
 use mr_ast::{Place, Ty, Value};
 use mr_eval::Env;
 use mr_frame::{place_type, value_type};
-use mr_wf::Known;
+use mr_typing::Known;
 
 /// The type of a place.
 pub fn type_at<'a>(e: &Env<'a>, at: &'a Place) -> &'a Ty

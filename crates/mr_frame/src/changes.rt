@@ -20,8 +20,8 @@ use mr_eval::{
     Env, Fault, Notes, behind, load_typed, place, store_bytes, store_typed, store_uninit, value,
 };
 use mr_mem::Memory;
+use mr_typing::tags;
 use mr_value::{OutOfMemory, Val, bits_of_number, encode};
-use mr_wf::tags;
 use std::alloc::Global;
 
 /// The change that a statement makes to memory.

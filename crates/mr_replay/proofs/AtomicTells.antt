@@ -24,7 +24,7 @@ use Rattle.mr_value.specs.declared.val.Val.TheVariants as val
 use Rattle.mr_value.specs.Numbers.{Bytes, number_of}
 use Rattle.mr_value.proofs.DecodeLaws.{decode_int}
 use Rattle.mr_value.proofs.EncodeLength.{length-little_endian}
-use Rattle.mr_wf.specs.Types.{integer_in}
+use Rattle.mr_typing.specs.Types.{integer_in}
 use Rattle.mr_eval.specs.MemoryQueries.{Modify, changing, number_bytes, reading_part, replacing}
 use Rattle.mr_eval.specs.Operators.{pointer_in}
 use Rattle.mr_eval.specs.Reads.{Read, ReadQuery, ReadScript, Seen, accessing, answered, seeing, touching}

@@ -30,7 +30,7 @@ use Rattle.mr_value.specs.Numbers.{Bytes}
 use Rattle.mr_value.specs.Shape.{has_shape}
 use Rattle.mr_value.specs.declared.val.Val.{Val}
 use Rattle.mr_value.proofs.EncodeLength.{length-encoding_of}
-use Rattle.mr_wf.specs.Walk.{begins_regular}
+use Rattle.mr_typing.specs.Walk.{begins_regular}
 use Rattle.mr_eval.specs.MemoryQueries.{memory_answer, next_id, pointer_to}
 use Rattle.mr_eval.specs.Reads.{accessing, answered, seeing, touching}
 use Rattle.mr_eval.specs.Tally.{Tally, seen_of, with_seen}

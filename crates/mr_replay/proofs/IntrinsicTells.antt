@@ -12,7 +12,7 @@ use Rattle.mr_mem.specs.Memory.{Memory}
 use Rattle.mr_labels.specs.declared.reached.Reached.{Reached}
 use Rattle.mr_base.specs.Script.{◌>>=◌, Done, Refused, Went}
 use Rattle.mr_value.specs.declared.val.Val.{Val}
-use Rattle.mr_wf.specs.Types.{type_of_place, type_of_value}
+use Rattle.mr_typing.specs.Types.{type_of_place, type_of_value}
 use Rattle.mr_eval.specs.Answers.{same}
 use Rattle.mr_eval.specs.Evaluation.{Surround, place_script, values_script}
 use Rattle.mr_eval.specs.Operators.{or_ill_formed}

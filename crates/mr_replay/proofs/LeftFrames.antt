@@ -19,8 +19,8 @@ use Rattle.mr_layout.specs.Sizes.{align_of}
 use Rattle.mr_value.specs.declared.val.Val.{Val}
 use Rattle.mr_value.specs.Encode.{encoding_of}
 use Rattle.mr_value.specs.Shape.{has_shape}
-use Rattle.mr_wf.specs.Types.{type_of_place, type_of_value}
-use Rattle.mr_wf.specs.Walk.{begins_regular}
+use Rattle.mr_typing.specs.Types.{type_of_place, type_of_value}
+use Rattle.mr_typing.specs.Walk.{begins_regular}
 use Rattle.mr_base.specs.Script.{Done, IllFormed, Undefined, ◌>>=◌}
 use Rattle.mr_eval.specs.Evaluation.{Surround, place_script, stored, value_script, values_script}
 use Rattle.mr_eval.specs.MemoryQueries.{MemoryScript, reading_part}

@@ -29,7 +29,7 @@ use Rattle.mr_step.specs.ThreadSteps.{Own, Turn, do_step, finished, finishing, f
 use Rattle.mr_blame.proofs.Leaving.{Anything, Leaves, leaves_then, reading_leaves}
 use Rattle.mr_blame.proofs.Left.{Reads, found_reads}
 use Rattle.mr_replay.proofs.LeftFrames.{Acts, PlanActs, enter_acts, finish_acts, frame_plans, operands_read}
-use Rattle.mr_wf.specs.Types.{integer_in}
+use Rattle.mr_typing.specs.Types.{integer_in}
 
 -- a script that asks memory, as a part of a step
 memory_leaves : {A : Type 0} (P : A → Type 0) (m : MemoryScript A) → Leaves P m → Leaves P (memory_part m)

@@ -22,11 +22,11 @@ use Rattle.mr_base.specs.Script.{◌>>=◌, Done, Refused, Undefined, run}
 use Rattle.mr_value.specs.declared.val.Val.{Val, out-Val}
 use Rattle.mr_value.specs.declared.val.Val.TheVariants as val
 use Rattle.mr_value.proofs.EncodeLength.{length-encoding_of}
-use Rattle.mr_wf.specs.Intrinsics.{fits_intrinsic, gives_nothing, is_atomic}
-use Rattle.mr_wf.specs.Operands.{is_bool, is_fn_ptr, is_raw}
-use Rattle.mr_wf.specs.Types.{integer_in, integer_of}
-use Rattle.mr_wf.specs.Walk.{WellFormed}
-use Rattle.mr_wf.proofs.KindLaws.{bool_is, fn_ptr_is, integer_is, raw_is}
+use Rattle.mr_typing.specs.Intrinsics.{fits_intrinsic, gives_nothing, is_atomic}
+use Rattle.mr_typing.specs.Operands.{is_bool, is_fn_ptr, is_raw}
+use Rattle.mr_typing.specs.Types.{integer_in, integer_of}
+use Rattle.mr_typing.specs.Walk.{WellFormed}
+use Rattle.mr_typing.proofs.KindLaws.{bool_is, fn_ptr_is, integer_is, raw_is}
 use Rattle.mr_eval.specs.Operators.{pointer_in}
 use Rattle.mr_plan.specs.Legal.{creation_fault, needs_fault, picks_fault}
 use Rattle.mr_plan.specs.Machine.{CreatesThread, needs_of}

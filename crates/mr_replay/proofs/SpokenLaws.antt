@@ -20,7 +20,7 @@ use Rattle.mr_frame.specs.Frames.{Look}
 use Rattle.mr_step.specs.ThreadSteps.{Own, thread_step}
 use Rattle.mr_step.specs.ThreadSoundState.{IsSoundConfig}
 use Rattle.mr_step.proofs.ThreadRunSound.{entry_sound, legal_at}
-use Rattle.mr_wf.specs.Walk.{WellFormed}
+use Rattle.mr_typing.specs.Walk.{WellFormed}
 use Rattle.mr_labels.specs.declared.reached.Reached.{Reached}
 use Rattle.mr_blame.specs.Reaches.{is_of_memory}
 use Rattle.mr_replay.specs.Reaches.{reached}

@@ -14,7 +14,7 @@ use Rattle.mr_step.specs.ThreadSoundState.{IsSoundConfig}
 use Rattle.mr_step.specs.ThreadSteps.{thread_step}
 use Rattle.mr_step.specs.Answers.{StartAnswer}
 use Rattle.mr_step.specs.Standing.{Standing}
-use Rattle.mr_wf.specs.Walk.{WellFormed}
+use Rattle.mr_typing.specs.Walk.{WellFormed}
 use Rattle.mr_labels.specs.declared.reached.Reached.{Reached}
 use Rattle.mr_blame.specs.Reaches.{is_of_memory}
 use Rattle.mr_replay.specs.Spoken.{spoken_in, spoken_of}

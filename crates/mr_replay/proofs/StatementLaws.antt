@@ -20,7 +20,7 @@ use Rattle.mr_labels.specs.declared.reached.Reaching.TheVariants.{Stores}
 use Rattle.mr_base.specs.Script.{◌>>=◌, Went}
 use Rattle.mr_value.specs.Encode.{blank}
 use Rattle.mr_value.specs.declared.val.Val.{Val}
-use Rattle.mr_wf.specs.Types.{type_of_place}
+use Rattle.mr_typing.specs.Types.{type_of_place}
 use Rattle.mr_eval.specs.Answers.{same}
 use Rattle.mr_eval.specs.Environment.{PlaceIn, env_surround}
 use Rattle.mr_eval.specs.Evaluation.{Surround, value_script}

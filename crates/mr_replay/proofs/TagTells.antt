@@ -18,7 +18,7 @@ use Rattle.mr_base.specs.Script.{Outcome, Went, on, run}
 use Rattle.mr_value.specs.Encode.{tag_bytes}
 use Rattle.mr_value.specs.Numbers.{Bytes}
 use Rattle.mr_value.proofs.EncodeLength.{length-tag_bytes}
-use Rattle.mr_wf.specs.Types.{type_of_place}
+use Rattle.mr_typing.specs.Types.{type_of_place}
 use Rattle.mr_eval.specs.Evaluation.{Surround}
 use Rattle.mr_eval.specs.MemoryQueries.{memory_answer}
 use Rattle.mr_eval.specs.Moves.{behind}

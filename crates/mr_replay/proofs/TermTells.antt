@@ -18,7 +18,7 @@ use Rattle.mr_mem.specs.Memory.{Memory}
 use Rattle.mr_labels.specs.declared.reached.Reached.{Reached}
 use Rattle.mr_base.specs.Script.{◌>>=◌, Ask, Done, IllFormed, Refused, Went, run}
 use Rattle.mr_value.specs.declared.val.Val.{Val}
-use Rattle.mr_wf.specs.Types.{type_of_value}
+use Rattle.mr_typing.specs.Types.{type_of_value}
 use Rattle.mr_eval.specs.Evaluation.{Surround, value_script}
 use Rattle.mr_eval.specs.MemoryQueries.{Allocate, MemoryScript, memory_answer, reading_part}
 use Rattle.mr_eval.specs.Operators.{or_ill_formed, pointer_of_value}

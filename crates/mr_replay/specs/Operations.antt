@@ -18,7 +18,7 @@ use Rattle.mr_labels.specs.declared.reached.Reaching.{Reaching}
 use Rattle.mr_labels.specs.declared.reached.Reaching.TheVariants.{Changes, Frees, Loads, Stores}
 use Rattle.mr_base.specs.Script.{Outcome, Went}
 use Rattle.mr_value.specs.declared.val.Val.{Val, out-Val}
-use Rattle.mr_wf.specs.Types.{integer_in}
+use Rattle.mr_typing.specs.Types.{integer_in}
 
 -- the pointer and the number that an argument is
 abbrev pub pointer_at : List Val → ℕ → Option Pointer

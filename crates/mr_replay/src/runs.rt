@@ -14,7 +14,7 @@ ghost use Rattle.mr_frame.specs.Kept.{IsReady, look_of, stack_of};
 ghost use Rattle.mr_frame.specs.Storage.{frame_slots};
 ghost use Rattle.mr_step.specs.ThreadSoundState.{IsSoundConfig};
 ghost use Rattle.mr_step.specs.ThreadSteps.{Own, thread_step};
-ghost use Rattle.mr_wf.specs.Walk.{WellFormed};
+ghost use Rattle.mr_typing.specs.Walk.{WellFormed};
 ghost use Rattle.mr_blame.specs.Reaches.{is_of_memory};
 ghost use Rattle.mr_replay.specs.Spoken.{spoken_at, spoken_in, spoken_of};
 ghost use Rattle.mr_replay.specs.Walks.{IsBareLast, IsOverLast, StopsOver, StopsStep};
@@ -29,7 +29,7 @@ use mr_mem::Memory;
 use mr_run::{Nothing, step};
 use mr_sched::{Entry, Schedule};
 use mr_step::Machine;
-use mr_wf::Checked;
+use mr_typing::Checked;
 use std::alloc::{AllocError, Global};
 
 // The last query of what is due, which is refused.

@@ -20,7 +20,7 @@ use mr_frame::place_type;
 use mr_labels::{Reached, Reaching};
 use mr_layout::int_bytes;
 use mr_mem::Memory;
-use mr_wf::tags;
+use mr_typing::tags;
 use std::alloc::{AllocError, Global};
 
 /// The last query of a statement that is refused.

@@ -19,8 +19,8 @@ use mr_frame::{DoCall, Flow, Look, Stack, callee};
 use mr_intr::Creation;
 use mr_sched::Ask;
 use mr_sync::SyncTable;
+use mr_typing::Known;
 use mr_value::Val;
-use mr_wf::Known;
 use sqlite_items::{Boxed, Items};
 use std::alloc::Global;
 

@@ -5,15 +5,16 @@ use Rattle.mr_ast.specs.declared.rule.Rule.{Rule}
 use Rattle.mr_ast.specs.declared.program.BlockName.{BlockName}
 use Rattle.mr_ast.specs.declared.expr.Value.{Value}
 use Rattle.mr_ast.specs.declared.types.Ty.{Ty}
+use Rattle.mr_typing.specs.declared.fault.Item.{Item}
+use Rattle.mr_typing.specs.Broken.{Surroundings}
+use Rattle.mr_typing.specs.Judging.{◌>>=◌, judged_value, judged_values}
+use Rattle.mr_typing.specs.JudgingBlocks.{Judged}
 use Rattle.mr_wf.specs.declared.fault.Broken.{Broken}
 use Rattle.mr_wf.specs.declared.fault.Broken.TheVariants as why
-use Rattle.mr_wf.specs.declared.fault.Item.{Item}
 use Rattle.mr_wf.specs.declared.fault.Stopped.{Stopped}
 use Rattle.mr_wf.specs.declared.fault.Stopped.TheVariants as stopped
-use Rattle.mr_wf.specs.Broken.{Surroundings}
-use Rattle.mr_wf.specs.Judging.{◌>>=◌, judged_value, judged_values}
-use Rattle.mr_wf.specs.JudgingBlocks.{Judged, Walked, ◌then◌, each_walked, placed}
-use Rattle.mr_wf.specs.Known.{Gives, Stops, Walks, placing}
+use Rattle.mr_wf.specs.JudgingPrograms.{Walked, ◌then◌, each_walked, placed}
+use Rattle.mr_wf.specs.Gives.{Gives, Stops, Walks, placing}
 
 -- ---- the types of values
 

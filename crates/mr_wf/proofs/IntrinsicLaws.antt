@@ -1,12 +1,23 @@
--- An intrinsic that takes four arguments or more.
-use Rattle.std.proofs.Common.{◌≡◌, ◌≤◌, List, [], ◌∷◌, length, refl, arith}
-use Rattle.std.specs.Prelude.{◌&&◌, Option}
+-- Atomic integers, and an intrinsic that takes four arguments or more.
+use Rattle.std.proofs.Common.{◌≡◌, ◌≤◌, ℕ, List, [], ◌∷◌, length, Some, refl, ap, ◌∙◌, arith}
+use Rattle.std.specs.Prelude.{◌&&◌, Option, is_some, nat_le}
 use Rattle.std.specs.List.{list_all}
 use Rattle.mr_ast.specs.declared.program.Intrinsic.{Intrinsic}
 use Rattle.mr_ast.specs.declared.program.Intrinsic.TheVariants as intrinsic
+use Rattle.mr_ast.specs.declared.types.IntType.{IntType}
 use Rattle.mr_ast.specs.declared.types.Ty.{Ty}
-use Rattle.mr_wf.specs.Operands.{is_scalar_number}
-use Rattle.mr_wf.specs.Intrinsics.{fits_intrinsic, gives_nothing, is_print}
+use Rattle.mr_ast.specs.Integers.{int_size}
+use Rattle.mr_layout.specs.Sizes.{size_of}
+use Rattle.mr_layout.proofs.SizeLaws.{size_int}
+use Rattle.mr_typing.specs.Operands.{is_scalar_number}
+use Rattle.mr_typing.specs.Intrinsics.{fits_intrinsic, gives_nothing, is_atomic, is_print}
+use Rattle.mr_typing.specs.Types.{integer_of}
+use Rattle.mr_typing.proofs.KindLaws.{integer_is}
+
+pub atomic_told : (t : Ty) (i : IntType) → integer_of t ≡ Some i → is_atomic t ≡ nat_le (int_size i) 8
+atomic_told t i is =
+    ap (λ (o : Option IntType). is_some o && nat_le (size_of t) 8) is
+    ∙ ap (λ (n : ℕ). nat_le n 8) (ap size_of (integer_is t i is) ∙ size_int i)
 
 many : (op : Intrinsic) (a b c d : Ty) (rest : List Ty) (result : Option Ty)
     → fits_intrinsic op (a ∷ b ∷ c ∷ d ∷ rest) result ≡ (is_print op && (list_all is_scalar_number (a ∷ b ∷ c ∷ d ∷ rest) && gives_nothing result))

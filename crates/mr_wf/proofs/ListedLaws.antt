@@ -22,19 +22,19 @@ use Rattle.mr_ast.proofs.NameLaws.{push_cases}
 use Rattle.mr_layout.specs.Alike.{number_twice}
 use Rattle.mr_layout.specs.EnumRules.{is_number_of, same_num}
 use Rattle.mr_layout.proofs.TreeOk.{same_num_equal}
+use Rattle.mr_typing.specs.Types.{chained, element_type, field_type, type_of_place, variant_among, variant_type}
+use Rattle.mr_typing.specs.SameTypes.{same_type}
+use Rattle.mr_typing.specs.Operands.{is_int, is_pointer, match_element}
+use Rattle.mr_typing.specs.Broken.{Surroundings}
+use Rattle.mr_typing.specs.Judging.{◌>>=◌, judged_place, judged_value, judged_values, kept, sound_type, there}
+use Rattle.mr_typing.proofs.JudgedLaws.{judged_deref, judged_field, judged_index, judged_load, judged_local_there, judged_variant_place}
+use Rattle.mr_typing.proofs.SameTypeLaws.{same_num_itself, same_type_equal, same_type_itself}
+use Rattle.mr_typing.proofs.TypeLaws.{type_of_deref, type_of_field, type_of_index, type_of_local, type_of_variant_place}
 use Rattle.mr_wf.specs.declared.listing.Listed.{Listed}
 use Rattle.mr_wf.specs.declared.listing.Origin.{Origin}
 use Rattle.mr_wf.specs.declared.listing.Origin.TheVariants as origin
 use Rattle.mr_wf.specs.declared.listing.Types.{Types}
-use Rattle.mr_wf.specs.Types.{chained, element_type, field_type, type_of_place, variant_among, variant_type}
-use Rattle.mr_wf.specs.SameTypes.{same_type}
-use Rattle.mr_wf.specs.Operands.{is_int, is_pointer, match_element}
-use Rattle.mr_wf.specs.Broken.{Surroundings}
-use Rattle.mr_wf.specs.Judging.{◌>>=◌, judged_place, judged_value, judged_values, kept, sound_type, there}
 use Rattle.mr_wf.specs.Listed.{AlikeSome, AlikeValue, AlikeValues, AreClasses, AreListed, AreTypes, HasType, IsWhole, Lists, around, listed_at, origin_at, type_from}
-use Rattle.mr_wf.proofs.JudgedLaws.{judged_deref, judged_field, judged_index, judged_load, judged_local_there, judged_variant_place}
-use Rattle.mr_wf.proofs.SameTypeLaws.{same_num_itself, same_type_equal, same_type_itself}
-use Rattle.mr_wf.proofs.TypeLaws.{type_of_deref, type_of_field, type_of_index, type_of_local, type_of_variant_place}
 
 -- ---- one more in a list
 

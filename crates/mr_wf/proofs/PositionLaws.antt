@@ -10,16 +10,16 @@ use Rattle.mr_ast.specs.declared.expr.Place.{Place}
 use Rattle.mr_ast.specs.declared.expr.Value.{Value}
 use Rattle.mr_ast.specs.declared.expr.Place.TheVariants as place
 use Rattle.mr_ast.specs.declared.program.LocalName.{LocalName}
+use Rattle.mr_typing.specs.Types.{chained, element_type, field_type, type_of_place, variant_type}
+use Rattle.mr_typing.specs.Operands.{is_int}
+use Rattle.mr_typing.specs.Broken.{Surroundings}
+use Rattle.mr_typing.specs.Judging.{◌>>=◌, judged_place, judged_position, judged_value, kept, there}
+use Rattle.mr_typing.proofs.JudgedLaws.{judged_field, judged_index, judged_local_there, judged_variant_place}
+use Rattle.mr_typing.proofs.TypeLaws.{type_of_field, type_of_index, type_of_local, type_of_variant_place}
 use Rattle.mr_wf.specs.declared.fault.Broken.{Broken}
 use Rattle.mr_wf.specs.declared.fault.Broken.TheVariants as why
-use Rattle.mr_wf.specs.Types.{chained, element_type, field_type, type_of_place, variant_type}
-use Rattle.mr_wf.specs.Operands.{is_int}
-use Rattle.mr_wf.specs.Broken.{Surroundings}
-use Rattle.mr_wf.specs.Judging.{◌>>=◌, judged_place, judged_position, judged_value, kept, there}
-use Rattle.mr_wf.specs.Known.{Gives, GivesWhereTyped, Stops}
-use Rattle.mr_wf.proofs.JudgedLaws.{judged_field, judged_index, judged_local_there, judged_variant_place}
+use Rattle.mr_wf.specs.Gives.{Gives, GivesWhereTyped, Stops}
 use Rattle.mr_wf.proofs.ListedLaws.{judged_typed}
-use Rattle.mr_wf.proofs.TypeLaws.{type_of_field, type_of_index, type_of_local, type_of_variant_place}
 
 abbrev Answer : Type 0
 Answer = Result (Unit {0}) Broken

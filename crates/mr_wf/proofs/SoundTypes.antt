@@ -4,7 +4,7 @@ use Rattle.std.specs.Prelude.{Option, None, Some, Result, Ok, Err}
 use Rattle.mr_ast.specs.declared.rule.Rule.{Rule}
 use Rattle.mr_ast.specs.declared.types.Ty.{Ty}
 use Rattle.mr_layout.specs.TypeOk.{TypeOk, broken_rule}
-use Rattle.mr_wf.specs.Judging.{sound_type}
+use Rattle.mr_typing.specs.Judging.{sound_type}
 
 pub sound_ok : (t : Ty) → sound_type t ≡ Ok tt → TypeOk t
 sound_ok t e = go (broken_rule t) e

@@ -1,9 +1,9 @@
 -- What checking a program answers.
 use Rattle.std.specs.Prelude.{◌≡◌, Result, Ok, Err}
 use Rattle.mr_ast.specs.declared.program.Program.{Program}
+use Rattle.mr_typing.specs.Walk.{FirstBroken, WellFormed}
 use Rattle.mr_wf.specs.declared.fault.WfFault.{WfFault}
 use Rattle.mr_wf.specs.declared.fault.WfFault.TheVariants as fault
-use Rattle.mr_wf.specs.Walk.{FirstBroken, WellFormed}
 
 -- The program as it was, where it breaks no rule; else the first broken rule, and the program as it was; or memory ran
 -- out.

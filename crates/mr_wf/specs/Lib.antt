@@ -1,14 +1,5 @@
-pub mod SameTypes
 pub mod Seen
-pub mod Types
-pub mod Unbroken
-pub mod Operands
-pub mod Broken
-pub mod Intrinsics
-pub mod Blocks
-pub mod Walk
-pub mod Judging
-pub mod JudgingBlocks
-pub mod Known
+pub mod JudgingPrograms
+pub mod Gives
 pub mod Listed
 pub mod Answers

@@ -6,13 +6,13 @@ use Rattle.mr_ast.specs.declared.types.Ty.{Ty}
 use Rattle.mr_ast.specs.declared.expr.Place.{Place}
 use Rattle.mr_ast.specs.declared.expr.Value.{Value}
 use Rattle.mr_ast.specs.declared.program.Local.{Local}
+use Rattle.mr_typing.specs.Types.{chained, element_type, field_type, variant_type}
+use Rattle.mr_typing.specs.Broken.{Surroundings}
+use Rattle.mr_typing.specs.Judging.{judged_place, judged_value}
 use Rattle.mr_wf.specs.declared.listing.Listed.{Listed}
 use Rattle.mr_wf.specs.declared.listing.Origin.{Origin}
 use Rattle.mr_wf.specs.declared.listing.Origin.TheVariants as origin
 use Rattle.mr_wf.specs.declared.listing.Types.{Types}
-use Rattle.mr_wf.specs.Types.{chained, element_type, field_type, variant_type}
-use Rattle.mr_wf.specs.Broken.{Surroundings}
-use Rattle.mr_wf.specs.Judging.{judged_place, judged_value}
 
 -- the type at a position of the list
 abbrev pub listed_at : List Listed → ℕ → Option Ty

@@ -1,17 +1,18 @@
 //! What the list of a function's types tells of its places and values, and else their types.
 ghost use Rattle.std.specs.Prelude.{◌≡◌, Ok, map, IsTrue, option_copied, slice_get};
-ghost use Rattle.mr_wf.specs.Judging.{judged_place, judged_value, judged_values};
-ghost use Rattle.mr_wf.specs.Known.{surroundings_of, ty_of};
+ghost use Rattle.mr_typing.specs.Judging.{judged_place, judged_value, judged_values};
+ghost use Rattle.mr_typing.specs.Known.{ty_of};
+ghost use Rattle.mr_typing.specs.Operands.{match_element};
+ghost use Rattle.mr_typing.specs.SameTypes.{same_type};
+ghost use Rattle.mr_typing.specs.Types.{variant_type};
+ghost use Rattle.mr_wf.specs.Gives.{surroundings_of};
 ghost use Rattle.mr_wf.specs.Listed.{AlikeSome, AlikeValue, AlikeValues, HasType};
-ghost use Rattle.mr_wf.specs.Operands.{match_element};
-ghost use Rattle.mr_wf.specs.SameTypes.{same_type};
-ghost use Rattle.mr_wf.specs.Types.{variant_type};
 
 use crate::judging::Surroundings;
-use crate::known::Known;
+use crate::kinds::has_parts;
 use crate::listed::TypeList;
-use crate::parts::{has_parts, variant};
 use mr_ast::{Num, Place, Ty, Value};
+use mr_typing::{Known, variant};
 
 /// The type of the variant with this number of the enum at a place, whose type is given.
 #[tactic(auto, using(crate::proofs::ListedLaws::variant_told))]

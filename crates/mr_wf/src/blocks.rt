@@ -2,21 +2,22 @@
 ghost use Rattle.std.specs.Prelude.{◌≡◌, ◌==◌, Ok, map};
 ghost use Rattle.std.specs.Option.{option_map};
 ghost use Rattle.std.specs.List.{list_all, list_any};
-ghost use Rattle.mr_wf.specs.Blocks.{are_bool_cases, are_int_cases, call_unwinds_to, fits_switch, goes_to, is_allowed, is_kept, unwinds_to, where_there};
-ghost use Rattle.mr_wf.specs.JudgingBlocks.{judged_call, judged_intrinsic, judged_parts, judged_result, judged_stmt, judged_term};
-ghost use Rattle.mr_wf.specs.Known.{Gives, surroundings_of, ty_of};
+ghost use Rattle.mr_typing.specs.Blocks.{are_bool_cases, are_int_cases, call_unwinds_to, fits_switch, goes_to, is_allowed, is_kept, unwinds_to, where_there};
+ghost use Rattle.mr_typing.specs.JudgingBlocks.{judged_call, judged_intrinsic, judged_parts, judged_result, judged_stmt, judged_term};
+ghost use Rattle.mr_typing.specs.Known.{ty_of};
+ghost use Rattle.mr_wf.specs.Gives.{Gives, surroundings_of};
 
 use crate::alike::{takes, variant_at};
 use crate::fault::Broken;
 use crate::intrinsics::fits_intrinsic;
 use crate::judging::{Surroundings, judged_place, judged_value, judged_values, kept};
-use crate::known::Known;
 use crate::seen::Seen;
 use mr_ast::{
     BlockKind, BlockName, Function, IntType, Intrinsic, LocalName, Num, Place, Rule, Stmt, Term,
     Value,
 };
 use mr_layout::{is_case, is_fitting};
+use mr_typing::Known;
 use std::alloc::Global;
 
 /// Whether a local is one of these.

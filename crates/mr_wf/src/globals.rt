@@ -1,35 +1,16 @@
-//! The rules of globals, and the sizes of their items.
-ghost use Rattle.std.specs.Prelude.{◌≡◌, ◌<◌, ◌^◌, IfOk};
-ghost use Rattle.mr_wf.specs.Broken.{is_in_global, item_size, items_size, sizes_of};
-ghost use Rattle.mr_wf.specs.JudgingBlocks.{judged_global, judged_items};
-ghost use Rattle.mr_wf.specs.Known.{Gives};
-ghost use Rattle.mr_wf.specs.Walk.{is_global_form, is_target};
+//! The rules of globals.
+ghost use Rattle.std.specs.Prelude.{◌≡◌, IfOk};
+ghost use Rattle.mr_typing.specs.Broken.{is_in_global, sizes_of};
+ghost use Rattle.mr_typing.specs.Walk.{is_global_form, is_target};
+ghost use Rattle.mr_wf.specs.JudgingPrograms.{judged_global, judged_items};
+ghost use Rattle.mr_wf.specs.Gives.{Gives};
 
 use crate::fault::Broken;
 use crate::judging::kept;
 use mr_ast::{Global_, GlobalName, Item_, MAX_SIZE, OutOfMemory, Rule, Target};
 use mr_layout::is_align;
+use mr_typing::items_size;
 use std::alloc::Global;
-
-fn item_size(item: &Item_) -> u32
-    ensures { result ≡ item_size item.now }
-{
-    match item {
-        Item_::Byte(_, repeat) | Item_::Uninit(repeat) => *repeat,
-        Item_::Reloc(_, _) => 8,
-    }
-}
-
-/// How many bytes the items of a global take together.
-pub fn items_size(items: &[Item_]) -> u128
-    ensures { result ≡ items_size items.now }
-{
-    let mut size = 0;
-    for item in items {
-        size += u128::from(item_size(item));
-    }
-    size
-}
 
 /// How many bytes each global has.
 pub fn sizes_of(alloc: Global, globals: &[Global_]) -> Result<Vec<u128>, OutOfMemory>

@@ -2,13 +2,13 @@
 ghost use Rattle.std.specs.Prelude.{◌≡◌, ◌≤◌, ◌&&◌, [], ◌∷◌, length, map};
 ghost use Rattle.std.specs.Option.{option_map};
 ghost use Rattle.std.specs.List.{list_all};
-ghost use Rattle.mr_wf.specs.Known.{ty_of};
-ghost use Rattle.mr_wf.specs.Operands.{is_int, is_raw, is_scalar_number};
-ghost use Rattle.mr_wf.specs.Intrinsics.{fits_intrinsic, gives, is_atomic, is_print};
+ghost use Rattle.mr_typing.specs.Known.{ty_of};
+ghost use Rattle.mr_typing.specs.Operands.{is_int, is_raw, is_scalar_number};
+ghost use Rattle.mr_typing.specs.Intrinsics.{fits_intrinsic, gives, is_atomic, is_print};
 
-use crate::known::Known;
 use mr_ast::{IntType, Intrinsic};
 use mr_layout::int_bytes;
+use mr_typing::Known;
 
 // An integer of at most eight bytes.
 fn is_atomic(t: Known<'_>) -> bool

@@ -1,23 +1,21 @@
 //! The types of places and values, or the first rule that is broken in them.
-ghost use Rattle.std.specs.Prelude.{◌≡◌, ◌||◌, map, option_copied, option_map, slice_get};
+ghost use Rattle.std.specs.Prelude.{◌≡◌, ◌||◌, map, option_copied};
 ghost use Rattle.mr_ast.specs.declared.rule.Rule.TheVariants as form;
 ghost use Rattle.mr_ast.specs.declared.expr.Place.TheVariants as place;
 ghost use Rattle.mr_ast.specs.declared.expr.Value.TheVariants as value;
-ghost use Rattle.mr_wf.specs.Judging.{judged_place, judged_position, judged_value, judged_values, kept, sound_type, there};
-ghost use Rattle.mr_wf.specs.Known.{Gives, GivesWhereTyped, element_at, operated, surroundings_of, ty_of};
-ghost use Rattle.mr_wf.specs.Operands.{is_raw, is_ref};
-ghost use Rattle.mr_wf.specs.Types.{discriminant_type, result_type};
+ghost use Rattle.mr_typing.specs.Judging.{judged_place, judged_position, judged_value, judged_values, kept, sound_type, there};
+ghost use Rattle.mr_typing.specs.Known.{ty_of};
+ghost use Rattle.mr_typing.specs.Operands.{is_raw, is_ref};
+ghost use Rattle.mr_typing.specs.Types.{discriminant_type, result_type};
+ghost use Rattle.mr_wf.specs.Gives.{Gives, GivesWhereTyped, element_at, operated, surroundings_of};
 
 use crate::fault::Broken;
 use crate::globals::is_in_global;
-use crate::known::Known;
 use crate::listed::TypeList;
 use crate::operands::{fits_binary, fits_parts, fits_unary, fits_union, fits_variant, same_size};
-use crate::parts::{discriminant, element, field, variant};
-use mr_ast::{
-    BinaryOp, GlobalName, IntType, Local, LocalName, Num, Place, Rule, Ty, UnaryOp, Value,
-};
+use mr_ast::{BinaryOp, GlobalName, IntType, Num, Place, Rule, Ty, UnaryOp, Value};
 use mr_layout::{first_broken_rule, is_fitting};
+use mr_typing::{Known, discriminant, element, field, local_type, variant};
 use std::alloc::Global;
 
 /// What an expression may speak of: the globals of its program, of which the sizes count, and the locals of its
@@ -56,19 +54,9 @@ fn there(rule: Rule, found: Option<&Ty>) -> Result<&Ty, Broken>
     found.ok_or(Broken::Rule(rule))
 }
 
-/// The type of the local of this name.
-pub fn local_type(locals: &[Local], x: LocalName) -> Option<&Ty>
-    ensures { option_copied result ≡ option_map (λ l. l.ty) (slice_get locals.now x.0) }
-{
-    match locals.get(x.0 as usize) {
-        Some(local) => Some(&local.ty),
-        None => None,
-    }
-}
-
 /// The type of a place, or the first rule that is broken in it.
 #[cycle(judged)]
-#[tactic(auto, using(crate::proofs::JudgedLaws::judged_laws))]
+#[tactic(auto, using(mr_typing::proofs::JudgedLaws::judged_laws))]
 pub fn judged_place<'p>(
     alloc: Global,
     at: Surroundings<'p>,
@@ -91,7 +79,7 @@ pub fn judged_place<'p>(
 
 // The target of a pointer.
 #[cycle(judged)]
-#[tactic(auto, using(crate::proofs::JudgedLaws::judged_laws))]
+#[tactic(auto, using(mr_typing::proofs::JudgedLaws::judged_laws))]
 fn judged_target<'p>(
     alloc: Global,
     at: Surroundings<'p>,
@@ -108,7 +96,7 @@ fn judged_target<'p>(
 
 // A field of a whole.
 #[cycle(judged)]
-#[tactic(auto, using(crate::proofs::JudgedLaws::judged_laws))]
+#[tactic(auto, using(mr_typing::proofs::JudgedLaws::judged_laws))]
 fn judged_field<'p>(
     alloc: Global,
     at: Surroundings<'p>,
@@ -122,7 +110,7 @@ fn judged_field<'p>(
 
 // A variant of a whole.
 #[cycle(judged)]
-#[tactic(auto, using(crate::proofs::JudgedLaws::judged_laws, crate::proofs::PositionLaws::part_laws))]
+#[tactic(auto, using(mr_typing::proofs::JudgedLaws::judged_laws, crate::proofs::PositionLaws::part_laws))]
 fn judged_part<'p>(
     alloc: Global,
     at: Surroundings<'p>,
@@ -184,7 +172,7 @@ fn element_at<'p>(t: &'p Ty, index: Known<'p>) -> Result<&'p Ty, Broken>
 
 /// The type of a value, or the first rule that is broken in it.
 #[cycle(judged)]
-#[tactic(auto, using(crate::proofs::JudgedLaws::judged_laws))]
+#[tactic(auto, using(mr_typing::proofs::JudgedLaws::judged_laws))]
 pub fn judged_value<'p>(
     alloc: Global,
     at: Surroundings<'p>,
@@ -217,7 +205,7 @@ pub fn judged_value<'p>(
     }
 }
 
-#[tactic(auto, using(crate::proofs::JudgedLaws::judged_laws))]
+#[tactic(auto, using(mr_typing::proofs::JudgedLaws::judged_laws))]
 fn judged_number<'p>(at: Surroundings<'p>, int: IntType, number: Num) -> Result<Known<'p>, Broken>
     ensures { Gives ty_of result (judged_value (surroundings_of at.entry) (value.Int int number)) }
 {
@@ -226,7 +214,7 @@ fn judged_number<'p>(at: Surroundings<'p>, int: IntType, number: Num) -> Result<
 }
 
 // A pointer into a global.
-#[tactic(auto, using(crate::proofs::JudgedLaws::judged_laws))]
+#[tactic(auto, using(mr_typing::proofs::JudgedLaws::judged_laws))]
 fn judged_pointer<'p>(at: Surroundings<'p>, g: GlobalName, offset: u64) -> Result<Known<'p>, Broken>
     ensures { Gives ty_of result (judged_value (surroundings_of at.entry) (value.Global g offset)) }
 {
@@ -236,7 +224,7 @@ fn judged_pointer<'p>(at: Surroundings<'p>, g: GlobalName, offset: u64) -> Resul
 
 // A value that is loaded from a place.
 #[cycle(judged)]
-#[tactic(auto, using(crate::proofs::JudgedLaws::judged_laws))]
+#[tactic(auto, using(mr_typing::proofs::JudgedLaws::judged_laws))]
 fn judged_load<'p>(
     alloc: Global,
     at: Surroundings<'p>,
@@ -249,7 +237,7 @@ fn judged_load<'p>(
 
 // The discriminant of the enum at a place.
 #[cycle(judged)]
-#[tactic(auto, using(crate::proofs::JudgedLaws::judged_laws))]
+#[tactic(auto, using(mr_typing::proofs::JudgedLaws::judged_laws))]
 fn judged_discriminant<'p>(
     alloc: Global,
     at: Surroundings<'p>,
@@ -272,7 +260,7 @@ fn discriminant_of<'p>(t: &Ty) -> Result<Known<'p>, Broken>
 
 // A cast to an integer.
 #[cycle(judged)]
-#[tactic(auto, using(crate::proofs::JudgedLaws::judged_laws))]
+#[tactic(auto, using(mr_typing::proofs::JudgedLaws::judged_laws))]
 fn judged_cast<'p>(
     alloc: Global,
     at: Surroundings<'p>,
@@ -288,7 +276,7 @@ fn judged_cast<'p>(
 
 // A value of an operator with one operand.
 #[cycle(judged)]
-#[tactic(auto, using(crate::proofs::JudgedLaws::judged_laws))]
+#[tactic(auto, using(mr_typing::proofs::JudgedLaws::judged_laws))]
 fn judged_unary<'p>(
     alloc: Global,
     at: Surroundings<'p>,
@@ -312,7 +300,7 @@ fn operated<'p>(op: BinaryOp, left: Known<'p>, right: Known<'p>) -> Result<Known
 
 // A tuple or an array.
 #[cycle(judged)]
-#[tactic(auto, using(crate::proofs::JudgedLaws::judged_laws))]
+#[tactic(auto, using(mr_typing::proofs::JudgedLaws::judged_laws))]
 fn judged_tuple<'p>(
     alloc: Global,
     at: Surroundings<'p>,
@@ -332,7 +320,7 @@ fn judged_tuple<'p>(
 
 // A union, of which one field is given.
 #[cycle(judged)]
-#[tactic(auto, using(crate::proofs::JudgedLaws::judged_laws))]
+#[tactic(auto, using(mr_typing::proofs::JudgedLaws::judged_laws))]
 fn judged_union<'p>(
     alloc: Global,
     at: Surroundings<'p>,
@@ -350,7 +338,7 @@ fn judged_union<'p>(
 
 // A variant of an enum.
 #[cycle(judged)]
-#[tactic(auto, using(crate::proofs::JudgedLaws::judged_laws))]
+#[tactic(auto, using(mr_typing::proofs::JudgedLaws::judged_laws))]
 fn judged_variant<'p>(
     alloc: Global,
     at: Surroundings<'p>,
@@ -368,7 +356,7 @@ fn judged_variant<'p>(
 
 // The address of a place.
 #[cycle(judged)]
-#[tactic(auto, using(crate::proofs::JudgedLaws::judged_laws))]
+#[tactic(auto, using(mr_typing::proofs::JudgedLaws::judged_laws))]
 fn judged_address<'p>(
     alloc: Global,
     at: Surroundings<'p>,
@@ -385,7 +373,7 @@ fn judged_address<'p>(
 
 // The bytes of a value, taken for another type.
 #[cycle(judged)]
-#[tactic(auto, using(crate::proofs::JudgedLaws::judged_laws, crate::proofs::SoundTypes::sound_ok))]
+#[tactic(auto, using(mr_typing::proofs::JudgedLaws::judged_laws, crate::proofs::SoundTypes::sound_ok))]
 fn judged_transmute<'p>(
     alloc: Global,
     at: Surroundings<'p>,

@@ -5,7 +5,7 @@
 //! at.
 ghost use Rattle.std.specs.Prelude.{◌≡◌, Some, IfSome, IsTrue};
 ghost use Rattle.mr_ast.specs.declared.expr.Place.TheVariants as place;
-ghost use Rattle.mr_wf.specs.Types.{type_of_place};
+ghost use Rattle.mr_typing.specs.Types.{type_of_place};
 ghost use Rattle.mr_wf.specs.Listed.{AreClasses, AreTypes, listed_at, origin_at};
 
 use crate::listing::{Key, Listed, Origin, Types, key_of, listed_at, no_types, types_of};

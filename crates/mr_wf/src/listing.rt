@@ -2,13 +2,14 @@
 ghost use Rattle.std.specs.Prelude.{◌≡◌, false, map, not, Some, IfOk, OnOk, IsTrue, option_copied};
 ghost use Rattle.mr_ast.specs.declared.types.Num.{Num as NumModel};
 ghost use Rattle.mr_layout.specs.Alike.{number_key, variant_key, number_twice};
+ghost use Rattle.mr_typing.specs.Types.{variant_among, variant_type};
 ghost use Rattle.mr_wf.specs.Listed.{AreClasses, AreListed, AreTypes, IsWhole, Lists, listed_at, type_from};
-ghost use Rattle.mr_wf.specs.Types.{variant_among, variant_type};
 
-use crate::parts::{element, field, has_parts};
+use crate::kinds::has_parts;
 use crate::rows::row_of;
 use mr_ast::{Local, Num, OutOfMemory, Ty, Variant};
 use mr_base::{Pair, any_twice};
+use mr_typing::{element, field};
 use std::alloc::Global;
 use std::collections::BTreeMap;
 

@@ -2,32 +2,18 @@
 ghost use Rattle.std.specs.Prelude.{◌≡◌, Ok, map, length, option_copied};
 ghost use Rattle.mr_ast.specs.declared.types.Ty.{out-Ty};
 ghost use Rattle.mr_layout.specs.TypeOk.{TypeOk};
-ghost use Rattle.mr_wf.specs.Judging.{judged_values};
-ghost use Rattle.mr_wf.specs.Known.{surroundings_of, ty_of};
-ghost use Rattle.mr_wf.specs.SameTypes.{same_type};
-ghost use Rattle.mr_wf.specs.Operands.{fit, fits_binary, fits_parts, fits_unary, fits_union, fits_variant, is_type, match_fields, operands_of, same_size};
+ghost use Rattle.mr_typing.specs.Judging.{judged_values};
+ghost use Rattle.mr_typing.specs.Known.{ty_of};
+ghost use Rattle.mr_typing.specs.SameTypes.{same_type};
+ghost use Rattle.mr_typing.specs.Operands.{fit, fits_binary, fits_parts, fits_unary, fits_union, fits_variant, is_type, match_fields, operands_of, same_size};
+ghost use Rattle.mr_wf.specs.Gives.{surroundings_of};
 
 use crate::alike::match_element;
 use crate::judging::Surroundings;
-use crate::known::Known;
-use crate::parts::{field, is_union, variant};
+use crate::kinds::is_union;
 use mr_ast::{BinaryOp, IntType, Num, Ty, UnaryOp, Value};
 use mr_layout::size;
-
-/// What the operands of an operator are.
-#[derive(Clone, Copy)]
-pub enum Operands {
-    /// Two integers of one type.
-    Integers,
-    /// Two integers or two bools of one type.
-    Bitwise,
-    /// Two integers.
-    Shifted,
-    /// Two of a type that is ordered.
-    Compared,
-    /// A raw pointer, and how far it is moved.
-    Moved,
-}
+use mr_typing::{Known, Operands, field, variant};
 
 fn operands_of(op: BinaryOp) -> Operands
     ensures { result ≡ operands_of op }
@@ -129,7 +115,7 @@ pub fn fits_variant(t: &Ty, number: Num, content: Known<'_>) -> bool
 }
 
 /// Whether the two have as many bytes.
-#[tactic(auto, using(crate::proofs::KnownSizes::sized_laws))]
+#[tactic(auto, using(mr_typing::proofs::KnownSizes::sized_laws))]
 pub fn same_size(t: &Ty, u: Known<'_>) -> bool
     requires { TypeOk t.now }
     ensures { result ≡ same_size t.now (ty_of u.entry) }

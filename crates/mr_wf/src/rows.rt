@@ -2,7 +2,7 @@
 //!
 //! The row of a type says what it is made of. A part that has parts itself stands in it as one number, its class: so
 //! equal types have equal rows, and a row is as long as its type is wide, however deep the type is.
-use crate::parts::has_parts;
+use crate::kinds::has_parts;
 use mr_ast::{IntType, Num, OutOfMemory, Tag, Tree, Ty, Variant};
 use std::alloc::Global;
 

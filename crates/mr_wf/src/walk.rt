@@ -2,21 +2,23 @@
 ghost use Rattle.std.specs.Prelude.{◌≡◌, ◌==◌, ◌≤◌, ◌^◌, All, None, Some, length};
 ghost use Rattle.mr_ast.specs.declared.program.Block.{Block};
 ghost use Rattle.mr_ast.specs.Shaped.{Shaped};
-ghost use Rattle.mr_wf.specs.declared.fault.Item.TheVariants.{Function as InFunction};
-ghost use Rattle.mr_wf.specs.Judging.{kept};
-ghost use Rattle.mr_wf.specs.JudgingBlocks.{IsShort, each_walked, judged_term, placed, walked, walked_block, walked_function, walked_global, walked_head, walked_local, walked_stmt, walked_with};
-ghost use Rattle.mr_wf.specs.Known.{Walks, placing, surroundings_of};
+ghost use Rattle.mr_typing.specs.declared.fault.Item.TheVariants.{Function as InFunction};
+ghost use Rattle.mr_typing.specs.Judging.{kept};
+ghost use Rattle.mr_typing.specs.JudgingBlocks.{judged_term};
+ghost use Rattle.mr_typing.specs.Walk.{are_arguments, begins_regular, is_main_form};
+ghost use Rattle.mr_wf.specs.JudgingPrograms.{IsShort, each_walked, placed, walked, walked_block, walked_function, walked_global, walked_head, walked_local, walked_stmt, walked_with};
+ghost use Rattle.mr_wf.specs.Gives.{Walks, placing, surroundings_of};
 ghost use Rattle.mr_wf.specs.Listed.{around};
-ghost use Rattle.mr_wf.specs.Walk.{are_arguments, begins_regular, is_main_form};
 
 use crate::blocks::{is_among, judged_stmt, judged_term};
-use crate::fault::{Broken, FormFault, Item, Stopped};
+use crate::fault::{Broken, Stopped};
 use crate::globals::{judged_global, sizes_of};
 use crate::judging::{Surroundings, kept, sound_type};
 use crate::listed::TypeList;
 use mr_ast::{
     Block, BlockKind, BlockName, Function, Global_, Local, LocalName, Program, Rule, Stmt,
 };
+use mr_typing::{FormFault, Item};
 use std::alloc::Global;
 
 // What is judged at a position.
@@ -263,7 +265,7 @@ fn walked_with(alloc: Global, sizes: &[u128], p: &Program) -> Result<(), Stopped
 }
 
 /// The walk over a program, up to the first broken rule.
-#[tactic(auto, unfolding(crate::specs::JudgingBlocks::walked))]
+#[tactic(auto, unfolding(crate::specs::JudgingPrograms::walked))]
 pub fn walked(alloc: Global, p: &Program) -> Result<(), Stopped>
     requires { Shaped p.now }
     ensures { Walks result (walked p.now) }

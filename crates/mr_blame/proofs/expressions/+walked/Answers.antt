@@ -12,7 +12,7 @@ use Rattle.mr_eval.specs.Environment.{PlaceIn, ShapedAs, ValueIn, env_surround}
 use Rattle.mr_eval.proofs.ExprWeights.{place_weight, value_weight, weight_addr_of, weight_binary, weight_cast, weight_deref, weight_disc, weight_field, weight_in_row, weight_index, weight_load, weight_transmute, weight_tuple, weight_unary, weight_union, weight_variant, weight_variant_place}
 use Rattle.mr_labels.specs.declared.reached.Reached.{Reached}
 use Rattle.mr_value.specs.declared.val.Val.{Val}
-use Rattle.mr_wf.specs.Types.{type_of_value}
+use Rattle.mr_typing.specs.Types.{type_of_value}
 use Rattle.mr_blame.specs.Reads.{Comes, IsBlamed, IsRefused, place_come, place_last, value_come, value_last}
 use Rattle.mr_blame.proofs.PartsIn.{in_addr_of, in_array, in_cast, in_deref, in_disc, in_field, in_index, in_left, in_load, in_right, in_transmute, in_tuple, in_unary, in_union, in_variant, in_variant_place}
 use Rattle.mr_blame.proofs.PlaceBlames.{array_blamed, array_refused, deref_blamed, deref_refused, element_behind, element_last, field_behind, field_blamed, field_last, field_refused, index_blamed, index_refused, local_calm, variant_place_blamed, variant_place_refused}

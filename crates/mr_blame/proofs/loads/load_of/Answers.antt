@@ -2,7 +2,7 @@ use Rattle.std.proofs.Common.{Option}
 use Rattle.std.proofs.lemmas.Result.{IfOk-weaker}
 use Rattle.mr_eval.specs.Environment.{env_surround}
 use Rattle.mr_labels.specs.declared.reached.Reached.{Reached}
-use Rattle.mr_wf.specs.Types.{type_of_place}
+use Rattle.mr_typing.specs.Types.{type_of_place}
 use Rattle.mr_blame.proofs.LoadLasts.{loaded_last, loaded_refused}
 use Rattle.mr_blame.proofs.loads.load_of.Goals as goal
 

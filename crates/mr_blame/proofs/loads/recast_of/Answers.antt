@@ -2,8 +2,8 @@ use Rattle.std.proofs.Common.{Option, refl, sym, subst, ◌∙◌}
 use Rattle.mr_eval.specs.Environment.{env_surround}
 use Rattle.mr_eval.specs.Evaluation.{transmuted}
 use Rattle.mr_labels.specs.declared.reached.Reached.{Reached}
-use Rattle.mr_wf.specs.Known.{ty_of}
-use Rattle.mr_wf.specs.Types.{type_of_value}
+use Rattle.mr_typing.specs.Known.{ty_of}
+use Rattle.mr_typing.specs.Types.{type_of_value}
 use Rattle.mr_blame.specs.Rests.{IsLast}
 use Rattle.mr_blame.proofs.EnvTypes.{recast_sized, shaped_from}
 use Rattle.mr_blame.proofs.LoadLasts.{recast_last, recast_meant}

@@ -6,7 +6,7 @@ use Rattle.mr_ast.specs.declared.types.Ty.{Ty}
 use Rattle.mr_eval.specs.Environment.{env_surround}
 use Rattle.mr_eval.specs.Evaluation.{offset_in}
 use Rattle.mr_eval.specs.Moves.{moved}
-use Rattle.mr_wf.specs.Types.{type_of_place}
+use Rattle.mr_typing.specs.Types.{type_of_place}
 use Rattle.mr_blame.specs.Rests.{IsLastOver}
 use Rattle.mr_blame.proofs.MoveLasts.{field_last}
 use Rattle.mr_blame.proofs.moves.field_move.Goals as goal

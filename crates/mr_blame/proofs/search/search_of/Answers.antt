@@ -1,6 +1,6 @@
 use Rattle.std.proofs.Common.{sym}
 use Rattle.mr_eval.specs.Environment.{env_surround}
-use Rattle.mr_wf.specs.Types.{type_of_place}
+use Rattle.mr_typing.specs.Types.{type_of_place}
 use Rattle.mr_blame.proofs.SearchLasts.{disc_calm, disc_searches}
 use Rattle.mr_blame.proofs.search.search_of.Goals as goal
 

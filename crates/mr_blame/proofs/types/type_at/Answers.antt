@@ -1,6 +1,6 @@
 use Rattle.std.proofs.Common.{List, sym, ap, ◌∙◌}
 use Rattle.mr_ast.specs.declared.program.Local.{Local}
-use Rattle.mr_wf.specs.Types.{type_of_place}
+use Rattle.mr_typing.specs.Types.{type_of_place}
 use Rattle.mr_blame.proofs.EnvTypes.{place_type_ok, place_typed}
 use Rattle.mr_blame.proofs.types.type_at.Goals as goal
 

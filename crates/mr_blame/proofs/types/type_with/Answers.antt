@@ -1,6 +1,6 @@
 use Rattle.std.proofs.Common.{List, sym, ap, ◌∙◌}
 use Rattle.mr_ast.specs.declared.program.Local.{Local}
-use Rattle.mr_wf.specs.Types.{type_of_value}
+use Rattle.mr_typing.specs.Types.{type_of_value}
 use Rattle.mr_blame.proofs.EnvTypes.{value_type_ok, value_typed}
 use Rattle.mr_blame.proofs.types.type_with.Goals as goal
 

@@ -6,7 +6,7 @@ use Rattle.mr_sched.specs.declared.schedule.Entry.{Entry}
 use Rattle.mr_plan.specs.Runs.{after}
 use Rattle.mr_step.specs.ThreadSteps.{thread_step}
 use Rattle.mr_step.specs.Answers.{StartAnswer}
-use Rattle.mr_wf.specs.Walk.{WellFormed}
+use Rattle.mr_typing.specs.Walk.{WellFormed}
 use Rattle.mr_blame.specs.Reaches.{is_of_memory}
 use Rattle.mr_replay.specs.Spoken.{spoken_in}
 use Rattle.mr_replay.proofs.StartLaws.{start_back, start_sounds, start_spoken, start_undefined}

@@ -1,6 +1,6 @@
 use Rattle.std.proofs.Common.{List, ap, sym, ◌∙◌}
 use Rattle.mr_ast.specs.declared.program.Local.{Local}
-use Rattle.mr_wf.specs.Types.{type_of_place}
+use Rattle.mr_typing.specs.Types.{type_of_place}
 use Rattle.mr_replay.proofs.StatementLaws.{validate_ok, validate_typed}
 use Rattle.mr_replay.proofs.statements.in_validated.Goals as goal
 

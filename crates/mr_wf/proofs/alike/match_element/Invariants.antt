@@ -1,7 +1,8 @@
 use Rattle.std.proofs.Common.{◌≡◌, drop, map}
-use Rattle.mr_wf.specs.Known.{surroundings_of, ty_of}
+use Rattle.mr_typing.specs.Known.{ty_of}
+use Rattle.mr_typing.specs.Operands.{match_element}
+use Rattle.mr_wf.specs.Gives.{surroundings_of}
 use Rattle.mr_wf.specs.Listed.{HasType}
-use Rattle.mr_wf.specs.Operands.{match_element}
 use Rattle.mr_wf.proofs.alike.match_element.Given as goal
 
 abbrev pub invariant-loop-i : goal.invariant-loop-i

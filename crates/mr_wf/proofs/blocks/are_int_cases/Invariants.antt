@@ -1,7 +1,7 @@
 use Rattle.std.proofs.Common.{◌≡◌, drop, true}
 use Rattle.mr_ast.specs.declared.types.Num.{Num}
 use Rattle.mr_layout.specs.EnumRules.{is_case}
-use Rattle.mr_wf.specs.Blocks.{are_int_cases}
+use Rattle.mr_typing.specs.Blocks.{are_int_cases}
 use Rattle.mr_wf.specs.Seen.{has}
 use Rattle.mr_wf.proofs.blocks.are_int_cases.Given as goal
 

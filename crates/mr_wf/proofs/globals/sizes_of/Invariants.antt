@@ -1,5 +1,5 @@
 use Rattle.std.proofs.Common.{◌≡◌, take}
-use Rattle.mr_wf.specs.Broken.{sizes_of}
+use Rattle.mr_typing.specs.Broken.{sizes_of}
 use Rattle.mr_wf.proofs.globals.sizes_of.Given as goal
 
 abbrev pub invariant-loop-global : goal.invariant-loop-global

@@ -1,6 +1,7 @@
 use Rattle.std.proofs.Common.{◌≡◌, drop, map}
-use Rattle.mr_wf.specs.Known.{surroundings_of, ty_of}
-use Rattle.mr_wf.specs.Judging.{judged_values}
+use Rattle.mr_typing.specs.Known.{ty_of}
+use Rattle.mr_typing.specs.Judging.{judged_values}
+use Rattle.mr_wf.specs.Gives.{surroundings_of}
 use Rattle.mr_wf.proofs.GivesLaws.{with_types}
 use Rattle.mr_wf.proofs.judging.+judged.Given as goal
 

@@ -1,6 +1,6 @@
 use Rattle.std.proofs.Common.{◌≡◌, drop, map}
-use Rattle.mr_wf.specs.Known.{ty_of}
-use Rattle.mr_wf.specs.Operands.{match_fields}
+use Rattle.mr_typing.specs.Known.{ty_of}
+use Rattle.mr_typing.specs.Operands.{match_fields}
 use Rattle.mr_wf.proofs.operands.match_fields.Given as goal
 
 abbrev pub invariant-loop-field : goal.invariant-loop-field

@@ -1,8 +1,8 @@
 use Rattle.std.proofs.Common.{sym, subst}
 use Rattle.std.specs.Prelude.{None}
-use Rattle.mr_wf.specs.Judging.{kept}
-use Rattle.mr_wf.specs.JudgingBlocks.{placed}
-use Rattle.mr_wf.specs.Known.{Walks}
+use Rattle.mr_typing.specs.Judging.{kept}
+use Rattle.mr_wf.specs.JudgingPrograms.{placed}
+use Rattle.mr_wf.specs.Gives.{Walks}
 use Rattle.mr_wf.proofs.GivesLaws.{placed_walks}
 use Rattle.mr_wf.proofs.walk.kept_at.Goals as goal
 

@@ -1,0 +1,8 @@
+use Rattle.std.proofs.Common.{refl}
+use Rattle.mr_ast.specs.Shaped.{named_in}
+use Rattle.mr_typing.specs.Broken.{surroundings}
+use Rattle.mr_typing.proofs.TypedLaws.{typed_place}
+use Rattle.mr_typing.proofs.laws.place_has_type.Goals as goal
+
+pub returns : goal.returns
+returns c = λ p f x shaped unbroken. typed_place (named_in p f) (surroundings p f) refl x shaped unbroken

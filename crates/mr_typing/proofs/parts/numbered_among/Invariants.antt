@@ -1,0 +1,6 @@
+use Rattle.std.proofs.Common.{◌≡◌, drop}
+use Rattle.mr_typing.specs.Types.{among}
+use Rattle.mr_typing.proofs.parts.numbered_among.Given as goal
+
+abbrev pub invariant-loop-variant : goal.invariant-loop-variant
+invariant-loop-variant l = among (λ v. v) l.variants l.number ≡ among (λ v. v) (drop l.variant-index l.variants) l.number

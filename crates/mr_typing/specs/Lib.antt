@@ -1,0 +1,11 @@
+pub mod SameTypes
+pub mod Types
+pub mod Unbroken
+pub mod Operands
+pub mod Broken
+pub mod Intrinsics
+pub mod Blocks
+pub mod Walk
+pub mod Judging
+pub mod JudgingBlocks
+pub mod Known

@@ -1,8 +1,0 @@
-use Rattle.std.proofs.Common.{refl}
-use Rattle.mr_ast.specs.Shaped.{named_in}
-use Rattle.mr_wf.specs.Broken.{surroundings}
-use Rattle.mr_wf.proofs.TypedLaws.{typed_value}
-use Rattle.mr_wf.proofs.laws.has_type.Goals as goal
-
-pub returns : goal.returns
-returns c = λ p f x shaped unbroken. typed_value (named_in p f) (surroundings p f) refl x shaped unbroken

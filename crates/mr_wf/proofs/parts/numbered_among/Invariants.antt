@@ -1,6 +1,0 @@
-use Rattle.std.proofs.Common.{◌≡◌, drop}
-use Rattle.mr_wf.specs.Types.{among}
-use Rattle.mr_wf.proofs.parts.numbered_among.Given as goal
-
-abbrev pub invariant-loop-variant : goal.invariant-loop-variant
-invariant-loop-variant l = among (λ v. v) l.variants l.number ≡ among (λ v. v) (drop l.variant-index l.variants) l.number
