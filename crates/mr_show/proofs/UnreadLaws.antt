@@ -32,8 +32,13 @@ use Rattle.mr_show.specs.Answer.{answer_of, answer_under, file_answer, next_unde
 use Rattle.mr_show.specs.Answer.{run_seen, usage, why_answer}
 use Rattle.mr_show.specs.Filled.{filled_answer, unless_bad}
 use Rattle.mr_show.specs.Next.{next_from, reached_answer}
+use Rattle.mr_hunt.specs.Aims.{Aim, first_met}
+use Rattle.mr_show.specs.declared.form.Range.{Range}
+use Rattle.mr_show.specs.Gathered.{laid_in}
+use Rattle.mr_show.specs.Hunted.{found_answer, hunt_answer, hunted_file, hunted_program, most_in}
+use Rattle.mr_lex.specs.Reading.{lexed}
 use Rattle.mr_why.specs.Why.{Entry, entry_of}
-use Rattle.mr_show.specs.Form.{Form, Help, Shown, Why}
+use Rattle.mr_show.specs.Form.{Form, Help, Hunted, Shown, Why}
 use Rattle.mr_show.specs.Outcome.{Ends, IsPossible}
 use Rattle.mr_show.specs.Unread.{IsUnreadBecause, LacksFile}
 
@@ -104,6 +109,25 @@ text_six saying file text (Ok p) e =
     ]
 text_six saying file text (Err f) e = inl (omega arith)
 
+module _ (range : Range) (name text : List ℕ) where
+  found_least : (p : Program) (found : Option ℕ) → (found_answer range name text p found).status ≤ 5
+  found_least p None = omega arith
+  found_least p (Some number) = omega arith
+
+  hunt_least : (p : Program) (aim : Option Aim) → (hunt_answer range aim name text p).status ≤ 5
+  hunt_least p None = omega arith
+  hunt_least p (Some aim) =
+      found_least p (first_met aim (laid_in p (lexed text)) p (most_in range) range.from range.to)
+
+  hunted_least : (aim : Option Aim) (r : Result Program TextFault)
+      → (told (hunted_program range aim name text) (denoted r)).status ≤ 5
+  hunted_least aim (Ok p) = by_faults (faults_of p)
+    where
+      by_faults : (faults : List FormFault) → (form_or p faults (hunt_answer range aim name text p)).status ≤ 5
+      by_faults [] = hunt_least p aim
+      by_faults (f ∷ faults) = omega arith
+  hunted_least aim (Err f) = omega arith
+
 why_least : (code : ℕ) (entry : Option Entry) → (why_answer code entry).status ≤ 5
 why_least code None = omega arith
 why_least code (Some entry) = omega arith
@@ -118,9 +142,15 @@ module _ (files : Contents) where
         | inr six ↦ inr (six.0, inr (subst AsksForSchedule (sym e) six.1.0, six.1.1))
       ]
 
+  hunted_six : (range : Range) (aim : Option Aim) (name program : List ℕ) (file : Option (List ℕ)) → files program ≡ file
+      → SixIf (files program ≡ None) (hunted_file range aim name file).status
+  hunted_six range aim name program None e = inr (refl, e)
+  hunted_six range aim name program (Some text) e = inl (hunted_least range name text aim (parsed text))
+
   answer_six : (form : Option Form) → SixIf (LacksFile files form) (answer_of files form).status
   answer_six None = inl (omega arith)
   answer_six (Some (Shown saying program schedule)) = shown_six saying program schedule (files program) refl
+  answer_six (Some (Hunted range aim name program)) = hunted_six range aim name program (files program) refl
   answer_six (Some (Why code)) = inl (why_least code (entry_of code))
   answer_six (Some (Help topic)) = inl (omega arith)
 

@@ -35,9 +35,10 @@ use Rattle.mr_show.specs.declared.form.Saying.TheVariants.{Next, OfOrder, OfRun}
 use Rattle.mr_show.specs.declared.form.Topic.{Topic}
 use Rattle.mr_why.specs.Why.{Entry, entry_of, entry_text}
 use Rattle.mr_show.specs.Filled.{order_answer, order_in}
-use Rattle.mr_show.specs.Form.{Form, Help, Shown, Why}
+use Rattle.mr_show.specs.Form.{Form, Help, Hunted, Shown, Why}
 use Rattle.mr_show.specs.Gathered.{gathered}
 use Rattle.mr_show.specs.Help.{help_text}
+use Rattle.mr_show.specs.Hunted.{hunted_file}
 use Rattle.mr_show.specs.Next.{next_answer}
 use Rattle.mr_show.specs.Sentences.{reason_text}
 
@@ -142,7 +143,7 @@ abbrev pub usage : Answer
 usage = record {
   text = line (
       codes "usage: steps P S [FIRST LAST] | races P S | picture P S [FIRST LAST] | next P S | "
-      ++ codes "fill P O | halt P O | why CODE | --help"
+      ++ codes "fill P O | halt P O | hunt P FROM TO M [AIM] | why CODE | --help"
       );
   status = 2;
 }
@@ -151,5 +152,6 @@ usage = record {
 abbrev pub answer_of : Contents → Option Form → Answer
 answer_of files None = usage
 answer_of files (Some (Shown saying program schedule)) = file_answer saying (files schedule) (files program)
+answer_of files (Some (Hunted range aim name program)) = hunted_file range aim name (files program)
 answer_of files (Some (Why code)) = why_answer code (entry_of code)
 answer_of files (Some (Help topic)) = help_answer topic

@@ -8,10 +8,13 @@ use Rattle.mr_input.specs.declared.refusal.Refusal.TheVariants as refusal
 use Rattle.mr_input.specs.declared.written.Written.{Written}
 use Rattle.mr_input.specs.Answer.{Tells}
 use Rattle.mr_input.specs.Inputs.{holding, program_in}
+use Rattle.mr_hunt.specs.Aims.{Aim}
+use Rattle.mr_show.specs.declared.form.Range.{Range}
 use Rattle.mr_show.specs.declared.form.Saying.{Saying}
 use Rattle.mr_why.specs.Why.{entry_of}
 use Rattle.mr_show.specs.Answer.{help_answer, file_answer, program_answer, text_answer, why_answer}
-use Rattle.mr_show.specs.Form.{Form, Help, Shown, Why}
+use Rattle.mr_show.specs.Form.{Form, Help, Hunted, Shown, Why}
+use Rattle.mr_show.specs.Hunted.{hunted_file}
 use Rattle.mr_show.specs.Outcome.{over_holding}
 
 -- what is said of a program; or, where it breaks no rule, the read of the schedule failed
@@ -36,10 +39,16 @@ IsOfFile rose saying schedule program result =
     Tells (file_answer saying schedule program) result
     ⊎ (rose × ((result ≡ Err refusal.ReadProgram) ⊎ IsScheduleUnread program result))
 
+-- what a hunt tells over a file; or its read failed
+abbrev pub IsHunted : Type 0 → Range → Option Aim → List ℕ → Option (List ℕ) → Result Written Refusal → Type 0
+IsHunted rose range aim name file result =
+    Tells (hunted_file range aim name file) result ⊎ (rose × (result ≡ Err refusal.ReadProgram))
+
 -- how a form is answered
 abbrev pub IsAnswered : Contents → Form → Type 0 → Result Written Refusal → Type 0
 IsAnswered files (Shown saying program schedule) rose result =
     IsOfFile rose saying (files schedule) (files program) result
+IsAnswered files (Hunted range aim name program) rose result = IsHunted rose range aim name (files program) result
 IsAnswered files (Why code) rose result = Tells (why_answer code (entry_of code)) result
 IsAnswered files (Help topic) rose result = Tells (help_answer topic) result
 

@@ -1,23 +1,31 @@
 -- The words behind the program's name.
-use Rattle.std.specs.Prelude.{ℕ, ◌-◌, ◌^◌, List, [], ◌∷◌, Option, None, Some, bytes_eq, codes, if◌then◌else◌}
+use Rattle.std.specs.Prelude.{ℕ, ◌+◌, ◌-◌, ◌^◌, ◌||◌, Bool, false, nat_le, List, [], ◌∷◌, Option, None, Some, bytes_eq, codes}
+use Rattle.std.specs.Prelude.{if◌then◌else◌}
+use Rattle.std.specs.List.{list_any, range_with_len}
 use Rattle.std.specs.Option.{option_map}
 use Rattle.mr_picture.specs.declared.span.Span.{Span}
+use Rattle.mr_hunt.specs.Aims.{Aim, Any, Lines, Named, Prints, Race, Undefined, aim_of}
 use Rattle.mr_input.specs.Numbers.{number_below}
+use Rattle.mr_why.specs.Why.{Entry, entry_of}
 use Rattle.mr_show.specs.declared.form.Form.{Form as Words}
 use Rattle.mr_show.specs.declared.form.Form.TheVariants as words
 use Rattle.mr_show.specs.declared.form.Part.{Part}
 use Rattle.mr_show.specs.declared.form.Part.TheVariants.{Picture, Races, Steps}
+use Rattle.mr_show.specs.declared.form.Range.{Range}
 use Rattle.mr_show.specs.declared.form.Saying.{Saying}
 use Rattle.mr_show.specs.declared.form.Saying.TheVariants.{Next, OfOrder, OfRun}
 use Rattle.mr_show.specs.declared.form.Filling.TheVariants.{Halt, Schedule}
 use Rattle.mr_show.specs.declared.form.Topic.{Topic}
-use Rattle.mr_show.specs.declared.form.Topic.TheVariants.{Everything, OfFill, OfNext, OfPicture, OfRaces, OfSteps, OfWhy}
+use Rattle.mr_show.specs.declared.form.Topic.TheVariants.{Everything, OfFill, OfHunt, OfNext, OfPicture, OfRaces, OfSteps}
+use Rattle.mr_show.specs.declared.form.Topic.TheVariants.{OfWhy}
 
 -- What is asked for: what is said of the run of the program in one file under the schedule in another, which is a part of
 -- it, its steps from one number up to another, its races by pairs of places or a picture of it, or how it can go on; or
--- what the order in another becomes, which is a schedule, or where it can't go on; what is said of a code; or help.
+-- what the order in another becomes, which is a schedule, or where it can't go on; which ends the runs of some numbers
+-- have, or the first of these runs that has what is looked for; what is said of a code; or help.
 pub data Form : Type 0 where
   Shown : (saying : Saying) (program schedule : List ℕ) → Form
+  Hunted : (range : Range) (aim : Option Aim) (name program : List ℕ) → Form
   Why : (code : ℕ) → Form
   Help : (topic : Topic) → Form
 
@@ -30,7 +38,8 @@ help_of word =
     else (if bytes_eq word (codes "next") then Some (Help OfNext)
     else (if bytes_eq word (codes "fill") then Some (Help OfFill)
     else (if bytes_eq word (codes "halt") then Some (Help OfFill)
-    else (if bytes_eq word (codes "why") then Some (Help OfWhy) else None))))))
+    else (if bytes_eq word (codes "hunt") then Some (Help OfHunt)
+    else (if bytes_eq word (codes "why") then Some (Help OfWhy) else None)))))))
 
 -- what is said of a code
 abbrev pub why_of : List ℕ → Option ℕ → Option Form
@@ -68,20 +77,90 @@ abbrev pub part_of : List ℕ → List ℕ → List ℕ → Option Span → Opti
 part_of word program schedule None = None
 part_of word program schedule (Some span) = option_map (shown_of program schedule) (spanned word span)
 
+-- numbers from one to another, and how many entries the schedules have at most that are drawn from them
+abbrev pub range_of : Option ℕ → Option ℕ → Option ℕ → Option Range
+range_of None to most = None
+range_of (Some from) None most = None
+range_of (Some from) (Some to) None = None
+range_of (Some from) (Some to) (Some most) =
+    if nat_le from to then Some (record { from = from; to = to; most = most }) else None
+
+-- a hunt over them
+abbrev pub hunt_of : List ℕ → List ℕ → Option Range → Option Aim → Option Form
+hunt_of word program None aim = None
+hunt_of word program (Some range) aim =
+    if bytes_eq word (codes "hunt") then Some (Hunted range aim program program) else None
+
+-- with an aim
+abbrev pub aimed_of : List ℕ → List ℕ → Option Range → Option Aim → Option Form
+aimed_of word program range None = None
+aimed_of word program range (Some aim) = hunt_of word program range (Some aim)
+
+-- whether this is the name of a code
+abbrev pub is_name_of : List ℕ → Option Entry → Bool
+is_name_of word None = false
+is_name_of word (Some entry) = bytes_eq entry.name word
+
+-- whether this is the name of a reason, which have the codes from 100 to 133
+abbrev pub is_reason : List ℕ → Bool
+is_reason word = list_any (λ code. is_name_of word (entry_of code)) (range_with_len 100 34)
+
+-- whether this is the name of a verdict, or of a reason for which one is undefined
+abbrev pub is_verdict : List ℕ → Bool
+is_verdict word =
+    bytes_eq word (codes "exit") || (bytes_eq word (codes "running") || (bytes_eq word (codes "leak")
+    || (bytes_eq word (codes "abort") || (bytes_eq word (codes "deadlock") || is_reason word))))
+
+-- an aim of one word
+abbrev pub word_aim : List ℕ → Option Aim
+word_aim word =
+    if bytes_eq word (codes "any") then Some Any
+    else (if bytes_eq word (codes "race") then Some Race
+    else (if bytes_eq word (codes "undefined") then Some Undefined
+    else (if is_verdict word then Some (Named word) else None)))
+
+-- `prints TEXT`
+abbrev pub print_aim : List ℕ → List ℕ → Option Aim
+print_aim word text = if bytes_eq word (codes "prints") then Some (Prints text) else None
+
+-- `lines LINE LINE`
+abbrev pub lines_from : Option ℕ → Option ℕ → Option Aim
+lines_from None other = None
+lines_from (Some one) None = None
+lines_from (Some one) (Some other) = Some (Lines one other)
+
+abbrev pub line_aim : List ℕ → Option ℕ → Option ℕ → Option Aim
+line_aim word one other = if bytes_eq word (codes "lines") then lines_from one other else None
+
+-- the range of three words
+abbrev pub word_range : List ℕ → List ℕ → List ℕ → Option Range
+word_range from to most =
+    range_of (number_below (2 ^ 64) from) (number_below (2 ^ 64) to) (number_below (2 ^ 20 + 1) most)
+
 -- `steps P S`, `steps P S FIRST LAST`, `races P S`, `picture P S`, `picture P S FIRST LAST` and `next P S`, where FIRST and
--- LAST are below 2^32; `fill P O` and `halt P O`; `why CODE`, where CODE is below 2^16; `--help`, and that behind `steps`,
--- `races`, `picture`, `next`, `fill`, `halt` or `why`; and no other form
+-- LAST are below 2^32; `fill P O` and `halt P O`; `hunt P FROM TO M`, where FROM is at most TO, both are below 2^64, and M is
+-- at most 2^20, and an aim behind it; `why CODE`, where CODE is below 2^16; `--help`, and that behind `steps`, `races`,
+-- `picture`, `next`, `fill`, `halt`, `hunt` or `why`; and no other form
 abbrev pub form_of : List (List ℕ) → Option Form
 form_of (word ∷ []) = if bytes_eq word (codes "--help") then Some (Help Everything) else None
 form_of (word ∷ option ∷ []) =
     if bytes_eq option (codes "--help") then help_of word else why_of word (number_below (2 ^ 16) option)
 form_of (word ∷ program ∷ schedule ∷ []) = whole_of word program schedule
-form_of (word ∷ program ∷ schedule ∷ first ∷ last ∷ []) =
-    part_of word program schedule (span_of (number_below (2 ^ 32) first) (number_below (2 ^ 32) last))
+form_of (word ∷ program ∷ third ∷ fourth ∷ fifth ∷ []) =
+    if bytes_eq word (codes "hunt") then hunt_of word program (word_range third fourth fifth) None
+    else part_of word program third (span_of (number_below (2 ^ 32) fourth) (number_below (2 ^ 32) fifth))
+form_of (word ∷ program ∷ from ∷ to ∷ most ∷ aim ∷ []) =
+    aimed_of word program (word_range from to most) (word_aim aim)
+form_of (word ∷ program ∷ from ∷ to ∷ most ∷ aim ∷ text ∷ []) =
+    aimed_of word program (word_range from to most) (print_aim aim text)
+form_of (word ∷ program ∷ from ∷ to ∷ most ∷ aim ∷ one ∷ other ∷ []) =
+    aimed_of word program (word_range from to most)
+    (line_aim aim (number_below (2 ^ 32) one) (number_below (2 ^ 32) other))
 form_of _ = None
 
 -- the form that the words ask for
 abbrev pub asked : Words → Form
 asked (words.Shown saying program schedule) = Shown saying program.now schedule.now
+asked (words.Hunted range aim program) = Hunted range (option_map aim_of aim) program.now program.now
 asked (words.Why code) = Why code
 asked (words.Help topic) = Help topic

@@ -2,7 +2,8 @@
 use Rattle.std.specs.Prelude.{ℕ, List, ◌++◌, codes}
 use Rattle.mr_report.specs.Report.{line}
 use Rattle.mr_show.specs.declared.form.Topic.{Topic}
-use Rattle.mr_show.specs.declared.form.Topic.TheVariants.{Everything, OfFill, OfNext, OfPicture, OfRaces, OfSteps, OfWhy}
+use Rattle.mr_show.specs.declared.form.Topic.TheVariants.{Everything, OfFill, OfHunt, OfNext, OfPicture, OfRaces, OfSteps}
+use Rattle.mr_show.specs.declared.form.Topic.TheVariants.{OfWhy}
 
 -- with each form
 abbrev pub help_text : Topic → List ℕ
@@ -16,11 +17,12 @@ help_text Everything =
     )
     ++ line (codes "mirace_show fill P O                 the schedule that an order of threads becomes")
     ++ line (codes "mirace_show halt P O                 where that order can't go on")
+    ++ line (codes "mirace_show hunt P FROM TO M [AIM]   how many drawn runs end in each way, or the first that has AIM")
     ++ line (codes "mirace_show why CODE                 what is said of a code of a rule, a fault or a reason")
     ++ line (codes "P is the file of a program, S that of a schedule, and O that of an order.")
     ++ line (
-    codes "With --help behind one of the words steps, races, picture, next, fill, halt "
-    ++ codes "and why it tells more."
+    codes "With --help behind one of the words steps, races, picture, next, fill, halt, "
+    ++ codes "hunt and why it tells more."
     )
 help_text OfSteps =
     line (codes "mirace_show steps P S [FIRST LAST]")
@@ -93,6 +95,24 @@ help_text OfFill =
     ++ codes "halt with the same files tells the"
     )
     ++ line (codes "line of the order and the rule that its turn would break.")
+help_text OfHunt =
+    line (codes "mirace_show hunt P FROM TO M [AIM]")
+    ++ line (
+    codes "Draws a schedule of at most M entries for the program in file P from each number "
+    ++ codes "from FROM to TO, as mirace"
+    )
+    ++ line (
+    codes "auto does, and runs it. Writes a line for each verdict and for each two places "
+    ++ codes "that race: how many numbers"
+    )
+    ++ line (
+    codes "have it, and the first. With AIM it stops at the first number whose run has it, "
+    ++ codes "with status 1, and tells it."
+    )
+    ++ line (
+    codes "AIM is any, race, undefined, the name of another verdict or of a reason, prints "
+    ++ codes "TEXT, or lines LINE LINE."
+    )
 help_text OfWhy =
     line (codes "mirace_show why CODE")
     ++ line (

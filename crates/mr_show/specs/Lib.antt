@@ -4,6 +4,7 @@ pub mod Filled
 pub mod Form
 pub mod Gathered
 pub mod Help
+pub mod Hunted
 pub mod Next
 pub mod Outcome
 pub mod Reached

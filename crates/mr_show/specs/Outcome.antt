@@ -8,13 +8,14 @@ use Rattle.mr_input.specs.Answer.{Answer, refused}
 use Rattle.mr_input.specs.Inputs.{holding, program_in}
 use Rattle.mr_input.specs.Writing.{IsLeft, IsWritten}
 use Rattle.mr_show.specs.Answer.{answer_of, usage}
-use Rattle.mr_show.specs.Form.{Form, Help, Shown, Why}
+use Rattle.mr_show.specs.Form.{Form, Help, Hunted, Shown, Why}
 
 -- A read failed, which is counted: that of the program, or that of the schedule behind a program that breaks no rule.
 abbrev pub IsUnread : Contents → Form → Answer → Type 0
 IsUnread files (Shown saying program schedule) a =
     (a ≡ refused refusal.ReadProgram)
     ⊎ ((p : Program) × (program_in (files program) ≡ Ok p) × (faults_of p ≡ []) × (a ≡ refused refusal.ReadSchedule))
+IsUnread files (Hunted range aim name program) a = a ≡ refused refusal.ReadProgram
 IsUnread files (Why code) a = ⊥
 IsUnread files (Help topic) a = ⊥
 
@@ -32,9 +33,10 @@ Ends files (Some form) files_rose out_rose old new status =
 
 -- ---- files that don't tell what they hold
 
--- the same form over two files, named `program` and `schedule`
+-- the same form over two files, named `program` and `schedule`; a name that is written stays as it is
 abbrev pub over_holding : Form → Form
 over_holding (Shown saying program schedule) = Shown saying (codes "program") (codes "schedule")
+over_holding (Hunted range aim name program) = Hunted range aim name (codes "program")
 over_holding (Why code) = Why code
 over_holding (Help topic) = Help topic
 

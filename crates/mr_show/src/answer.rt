@@ -11,6 +11,7 @@ ghost use Rattle.mr_show.specs.Form.{asked};
 
 use crate::form::{Form, Topic};
 use crate::help::help_text;
+use crate::hunted::hunted_file;
 use crate::shown::shown_file;
 use mr_input::{Refusal, Written, push_number};
 use mr_io::Files;
@@ -40,6 +41,11 @@ pub(crate) fn answer<F: Files>(
             program,
             schedule,
         } => shown_file(alloc, files, saying, program, schedule),
+        Form::Hunted {
+            range,
+            aim,
+            program,
+        } => hunted_file(alloc, files, range, aim, program),
         Form::Why { code } => explained(alloc, code),
         Form::Help { topic } => help(alloc, topic),
     }

@@ -1,11 +1,16 @@
 //! The forms, and the words that ask for them.
-ghost use Rattle.std.specs.Prelude.{◌≡◌, ◌^◌, map, string_bytes};
+ghost use Rattle.std.specs.Prelude.{◌≡◌, ◌+◌, ◌^◌, if◌then◌else◌, map, string_bytes};
 ghost use Rattle.std.specs.Option.{option_map};
 ghost use Rattle.mr_input.specs.Numbers.{number_below};
-ghost use Rattle.mr_show.specs.Form.{asked, form_of, help_of, part_of, span_of, spanned, whole_of, why_of, Why};
+ghost use Rattle.mr_hunt.specs.Aims.{Named, aim_of};
+ghost use Rattle.mr_show.specs.Form.{Why, aimed_of, asked, form_of, help_of, hunt_of, is_name_of, is_reason, is_verdict};
+ghost use Rattle.mr_show.specs.Form.{line_aim, lines_from, part_of, print_aim, span_of, spanned, whole_of, why_of, word_aim, word_range};
+ghost use Rattle.mr_why.specs.Why.{entry_of};
 
+use mr_hunt::Aim;
 use mr_input::number_below;
 use mr_picture::Span;
+use mr_why::entry;
 
 /// What is shown of a run that was taken to its end.
 #[derive(Clone, Copy)]
@@ -47,7 +52,16 @@ pub enum Topic {
     OfPicture,
     OfNext,
     OfFill,
+    OfHunt,
     OfWhy,
+}
+
+/// Numbers from one to another, and how many entries the schedules have at most that are drawn from them.
+#[derive(Clone, Copy)]
+pub struct Range {
+    pub from: u64,
+    pub to: u64,
+    pub most: u32,
 }
 
 /// What is asked for, with the names of files.
@@ -58,6 +72,12 @@ pub enum Form<'a> {
         saying: Saying,
         program: &'a str,
         schedule: &'a str,
+    },
+    /// Which ends the runs of numbers have; or with an aim the first of them that has it.
+    Hunted {
+        range: Range,
+        aim: Option<Aim<'a>>,
+        program: &'a str,
     },
     /// What is said of a code.
     Why {
@@ -71,7 +91,7 @@ pub enum Form<'a> {
 /// As many entries as a schedule has at most.
 pub(crate) const ALL: usize = 1 << 22;
 
-// `steps --help`, `races --help`, `picture --help`, `next --help`, `fill --help`, `halt --help` and `why --help`.
+// `--help` behind a word.
 fn help_of<'a>(word: &str) -> Option<Form<'a>>
     ensures { option_map asked result ≡ help_of word.now }
 {
@@ -93,6 +113,9 @@ fn help_of<'a>(word: &str) -> Option<Form<'a>>
         }),
         "halt" => Some(Form::Help {
             topic: Topic::OfFill,
+        }),
+        "hunt" => Some(Form::Help {
+            topic: Topic::OfHunt,
         }),
         "why" => Some(Form::Help {
             topic: Topic::OfWhy,
@@ -185,9 +208,154 @@ fn part_of<'a>(
     })
 }
 
+// The numbers from one of these words to another, and the most entries that the third tells.
+fn word_range(from: &str, to: &str, most: &str) -> Option<Range>
+    ensures { result ≡ word_range from.now to.now most.now }
+{
+    let from = number_below(from, 1 << 64)?;
+    let to = number_below(to, 1 << 64)?;
+    let most = number_below(most, (1 << 20) + 1)?;
+    if from <= to {
+        Some(Range {
+            from: from as u64,
+            to: to as u64,
+            most: most as u32,
+        })
+    } else {
+        None
+    }
+}
+
+// `hunt P FROM TO M`, with what is looked for, if anything is.
+fn hunt_of<'a>(
+    word: &str,
+    program: &'a str,
+    range: Option<Range>,
+    aim: Option<Aim<'a>>,
+) -> Option<Form<'a>>
+    ensures { option_map asked result ≡ hunt_of word.now program.now range (option_map aim_of aim.entry) }
+{
+    let range = range?;
+    match word {
+        "hunt" => Some(Form::Hunted {
+            range,
+            aim,
+            program,
+        }),
+        _ => None,
+    }
+}
+
+// `hunt P FROM TO M AIM`.
+fn aimed_of<'a>(
+    word: &str,
+    program: &'a str,
+    range: Option<Range>,
+    aim: Option<Aim<'a>>,
+) -> Option<Form<'a>>
+    ensures { option_map asked result ≡ aimed_of word.now program.now range (option_map aim_of aim.entry) }
+{
+    match aim {
+        Some(_) => hunt_of(word, program, range, aim),
+        None => None,
+    }
+}
+
+// Whether this is the name of a code.
+fn is_name_of(word: &str, code: u16) -> bool
+    ensures { result ≡ is_name_of word.now (entry_of code) }
+{
+    match entry(code) {
+        Some(found) => found.name == word,
+        None => false,
+    }
+}
+
+// Whether this is the name of a reason of undefined behaviour.
+fn is_reason(word: &str) -> bool
+    ensures { result ≡ is_reason word.now }
+{
+    for code in 100..134 {
+        if is_name_of(word, code) {
+            return true;
+        }
+    }
+    false
+}
+
+// Whether this is the name of a verdict, or of a reason for which one is undefined.
+fn is_verdict(word: &str) -> bool
+    ensures { result ≡ is_verdict word.now }
+{
+    match word {
+        "exit" => true,
+        "running" => true,
+        "leak" => true,
+        "abort" => true,
+        "deadlock" => true,
+        _ => is_reason(word),
+    }
+}
+
+// An aim of one word.
+fn word_aim(word: &str) -> Option<Aim<'_>>
+    ensures { option_map aim_of result ≡ word_aim word.now }
+{
+    match word {
+        "any" => Some(Aim::Any),
+        "race" => Some(Aim::Race),
+        "undefined" => Some(Aim::Undefined),
+        _ => named_aim(word),
+    }
+}
+
+// The name of a verdict or of a reason.
+fn named_aim(word: &str) -> Option<Aim<'_>>
+    ensures { option_map aim_of result ≡ (if is_verdict word.now then Some (Named word.now) else None) }
+{
+    if is_verdict(word) {
+        Some(Aim::Named(word))
+    } else {
+        None
+    }
+}
+
+// `prints TEXT`.
+fn print_aim<'a>(word: &str, text: &'a str) -> Option<Aim<'a>>
+    ensures { option_map aim_of result ≡ print_aim word.now text.now }
+{
+    match word {
+        "prints" => Some(Aim::Prints(text)),
+        _ => None,
+    }
+}
+
+// The lines of two words.
+fn lines_of<'a>(one: &str, other: &str) -> Option<Aim<'a>>
+    ensures { option_map aim_of result ≡ lines_from (number_below (2 ^ 32) one.now) (number_below (2 ^ 32) other.now) }
+{
+    let one = number_below(one, 1 << 32)?;
+    let other = number_below(other, 1 << 32)?;
+    Some(Aim::Lines {
+        one: one as u32,
+        other: other as u32,
+    })
+}
+
+// `lines LINE LINE`.
+fn line_aim<'a>(word: &str, one: &str, other: &str) -> Option<Aim<'a>>
+    ensures { option_map aim_of result
+        ≡ line_aim word.now (number_below (2 ^ 32) one.now) (number_below (2 ^ 32) other.now) }
+{
+    match word {
+        "lines" => lines_of(one, other),
+        _ => None,
+    }
+}
+
 /// The form of these words: `steps P S`, `steps P S FIRST LAST`, `races P S`, `picture P S`, `picture P S FIRST LAST`,
-/// `next P S`, `fill P O`, `halt P O`, `why CODE`, `--help`, or one of the words `steps`, `races`, `picture`, `next`,
-/// `fill`, `halt` and `why` with `--help` behind it.
+/// `next P S`, `fill P O`, `halt P O`, `hunt P FROM TO M` and that with an aim, `why CODE`, `--help`, or one of the words
+/// `steps`, `races`, `picture`, `next`, `fill`, `halt`, `hunt` and `why` with `--help` behind it.
 pub fn form_of(words: &[String]) -> Option<Form<'_>>
     ensures { option_map asked result ≡ form_of (map string_bytes words.now) }
 {
@@ -198,12 +366,36 @@ pub fn form_of(words: &[String]) -> Option<Form<'_>>
         2 if words[1].as_str() == "--help" => help_of(words[0].as_str()),
         2 => why_of(words[0].as_str(), words[1].as_str()),
         3 => whole_of(words[0].as_str(), words[1].as_str(), words[2].as_str()),
+        5 if words[0].as_str() == "hunt" => hunt_of(
+            words[0].as_str(),
+            words[1].as_str(),
+            word_range(words[2].as_str(), words[3].as_str(), words[4].as_str()),
+            None,
+        ),
         5 => part_of(
             words[0].as_str(),
             words[1].as_str(),
             words[2].as_str(),
             words[3].as_str(),
             words[4].as_str(),
+        ),
+        6 => aimed_of(
+            words[0].as_str(),
+            words[1].as_str(),
+            word_range(words[2].as_str(), words[3].as_str(), words[4].as_str()),
+            word_aim(words[5].as_str()),
+        ),
+        7 => aimed_of(
+            words[0].as_str(),
+            words[1].as_str(),
+            word_range(words[2].as_str(), words[3].as_str(), words[4].as_str()),
+            print_aim(words[5].as_str(), words[6].as_str()),
+        ),
+        8 => aimed_of(
+            words[0].as_str(),
+            words[1].as_str(),
+            word_range(words[2].as_str(), words[3].as_str(), words[4].as_str()),
+            line_aim(words[5].as_str(), words[6].as_str(), words[7].as_str()),
         ),
         _ => None,
     }

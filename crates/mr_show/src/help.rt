@@ -11,9 +11,10 @@ mirace_show picture P S [FIRST LAST] a picture of a run, as an SVG document
 mirace_show next P S                 what each thread would do next, or the entry that breaks a rule
 mirace_show fill P O                 the schedule that an order of threads becomes
 mirace_show halt P O                 where that order can't go on
+mirace_show hunt P FROM TO M [AIM]   how many drawn runs end in each way, or the first that has AIM
 mirace_show why CODE                 what is said of a code of a rule, a fault or a reason
 P is the file of a program, S that of a schedule, and O that of an order.
-With --help behind one of the words steps, races, picture, next, fill, halt and why it tells more.
+With --help behind one of the words steps, races, picture, next, fill, halt, hunt and why it tells more.
 ";
 
 const OF_STEPS: &[u8] = b"\
@@ -55,6 +56,14 @@ The schedule ends where the order can't go on. Then the status is 1, and halt wi
 line of the order and the rule that its turn would break.
 ";
 
+const OF_HUNT: &[u8] = b"\
+mirace_show hunt P FROM TO M [AIM]
+Draws a schedule of at most M entries for the program in file P from each number from FROM to TO, as mirace
+auto does, and runs it. Writes a line for each verdict and for each two places that race: how many numbers
+have it, and the first. With AIM it stops at the first number whose run has it, with status 1, and tells it.
+AIM is any, race, undefined, the name of another verdict or of a reason, prints TEXT, or lines LINE LINE.
+";
+
 const OF_WHY: &[u8] = b"\
 mirace_show why CODE
 Writes what is said of the rule, the fault or the reason of undefined behaviour that has this number: its
@@ -72,6 +81,7 @@ pub(crate) fn help_text(topic: Topic) -> &'static [u8]
         Topic::OfPicture => OF_PICTURE,
         Topic::OfNext => OF_NEXT,
         Topic::OfFill => OF_FILL,
+        Topic::OfHunt => OF_HUNT,
         Topic::OfWhy => OF_WHY,
     }
 }

@@ -9,3 +9,7 @@ returns-in-Help-clause-texts g c = λ untold. rw c.in-Help.is ([], [], c.help.en
 
 pub returns-in-Why-clause-texts : goal.returns-in-Why-clause-texts
 returns-in-Why-clause-texts g c = λ untold. rw c.in-Why.is ([], [], c.explained.ensures.answer)
+
+pub returns-in-Hunted-clause-texts : goal.returns-in-Hunted-clause-texts
+returns-in-Hunted-clause-texts g c = λ untold.
+    rw c.in-Hunted.is (let texts = c.hunted_file.ensures.texts untold in (texts.0, [], texts.1))

@@ -1,0 +1,4 @@
+pub mod AimLaws
+pub mod EndLaws
+pub mod RunFaults
+pub mod TableLaws

@@ -1,0 +1,37 @@
+-- A legal schedule breaks no rule; and a drawn one is not long.
+use Rattle.std.proofs.Common.{◌≡◌, ℕ, zero, suc, ◌≤◌, ◌^◌, Bool, true, false, arith, length, sym, ◌∙◌, List, []}
+use Rattle.std.specs.Prelude.{Option, None, Some}
+use Rattle.mr_ast.specs.declared.program.Program.{Program}
+use Rattle.mr_sched.specs.declared.chooser.Chooser.{Chooser}
+use Rattle.mr_sched.specs.declared.schedule.Entry.{Entry}
+use Rattle.mr_sched.specs.declared.schedule.Schedule.{Schedule}
+use Rattle.mr_frame.specs.Frames.{Look}
+use Rattle.mr_step.specs.PlanRuns.{Config}
+use Rattle.mr_start.specs.ThreadSteps.{Own}
+use Rattle.mr_start.specs.Runs.{Legal, PlacedFault, program_step, schedule_fault}
+use Rattle.mr_start.proofs.RunLaws.{no_schedule_fault}
+use Rattle.mr_auto.specs.Drawing.{Next, Picked, drawn_entries, drawn_schedule, led, next_at, schedule_from, start_picked}
+
+none_some : {A : Type 0} {x : A} → ◌≡◌ {A = Option A} None (Some x) → ⊥
+none_some e = cc
+
+pub never_broken : (p : Program) (w : Schedule) (f : PlacedFault) → Legal p w → schedule_fault p w ≡ Some f → ⊥
+never_broken p w f legal broken = none_some (sym (no_schedule_fault p w legal) ∙ broken)
+
+entries_few : (look : Look) (most : ℕ) (c : Config Own) (chooser : Chooser)
+    → length (drawn_entries look most c chooser) ≤ most
+entries_few look zero c chooser = omega arith
+entries_few look (suc most) c chooser = go (next_at look c chooser)
+  where
+    go : (o : Option Next) → length (led o (λ next. drawn_entries look most (program_step look c next.entry) next.chooser)) ≤ suc most
+    go None = omega arith
+    go (Some next) =
+        let later = entries_few look most (program_step look c next.entry) next.chooser in omega (arith, later)
+
+schedule_few : (p : Program) (most : ℕ) (o : Option Picked) → length (schedule_from p most o).entries ≤ most
+schedule_few p most None = omega arith
+schedule_few p most (Some picked) = entries_few _ most _ _
+
+pub drawn_few : (p : Program) (number most : ℕ) → length (drawn_schedule p number most).entries ≤ most
+unfolding drawn_schedule
+drawn_few p number most = schedule_few p most (start_picked p number)

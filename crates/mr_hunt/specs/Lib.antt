@@ -1,0 +1,4 @@
+pub mod Aims
+pub mod Ends
+pub mod Table
+pub mod Texts

@@ -1,0 +1,126 @@
+//! The run of a number, and what it shows.
+ghost use Rattle.std.specs.Prelude.{◌≡◌, ◌++◌, ◌≤◌, ◌^◌, IfOk, OnOk, length, map, option_copied, slice_get};
+ghost use Rattle.mr_start.specs.Runs.{Legal, run_of};
+ghost use Rattle.mr_auto.specs.Drawing.{drawn_schedule};
+ghost use Rattle.mr_listing.specs.Races.{before_of};
+ghost use Rattle.mr_hunt.specs.Ends.{ends_of, race_at, run_told};
+
+use crate::ends::End;
+use mr_auto::draw;
+use mr_base::Verdict;
+use mr_event::Pair;
+use mr_labels::{Stand, ToldStep};
+use mr_replay::{Between, tell};
+use mr_run::{Clocked, Nothing, RunFault};
+use mr_sched::Schedule;
+use mr_typing::Checked;
+use std::alloc::{AllocError, Global};
+
+// As many entries as a schedule has at most.
+const ALL: usize = 1 << 22;
+
+/// What the run of a number shows, whose schedule is drawn with at most so many entries.
+pub(crate) fn ends_of(
+    alloc: Global,
+    p: &Checked,
+    most: u32,
+    number: u64,
+) -> Result<Vec<End>, AllocError>
+    requires { most ≤ 2 ^ 20 }
+    ensures { IfOk result (λ ends. ends.items ≡ ends_of p.now most number) }
+{
+    let mut kept = Clocked::new(alloc);
+    let drawn = draw(alloc, p, number, most, &mut kept)?;
+    let mut ends = Vec::new(alloc);
+    ends.push(End::Verdict(drawn.machine.verdict()))?;
+    push_races(alloc, p, &drawn.schedule, kept.races(), &mut ends)?;
+    Ok(ends)
+}
+
+/// The verdict of the run of a number, of whose steps nothing is kept.
+pub(crate) fn verdict_of(
+    alloc: Global,
+    p: &Checked,
+    most: u32,
+    number: u64,
+) -> Result<Verdict, AllocError>
+    requires { most ≤ 2 ^ 20 }
+    ensures { IfOk result (λ verdict. verdict ≡ (run_of p.now (drawn_schedule p.now number most)).verdict) }
+{
+    let mut nothing = Nothing;
+    let drawn = draw(alloc, p, number, most, &mut nothing)?;
+    Ok(drawn.machine.verdict())
+}
+
+// Appends the races of a run by their places. Where there is none, no step is told.
+fn push_races(
+    alloc: Global,
+    p: &Checked,
+    w: &Schedule,
+    races: &[Pair],
+    ends: &mut Vec<End>,
+) -> Result<(), AllocError>
+    requires few { length w.now.entries ≤ 2 ^ 22 }
+    requires legal { Legal p.now w.now }
+    ensures { OnOk result (ends.new.items ≡ ends.old.items ++ map (race_at (run_told p.now w.now)) races.now) }
+{
+    if races.is_empty() {
+        return Ok(());
+    }
+    let steps = told(alloc, p, w)?;
+    push_each(ends, steps.as_slice(), races)
+}
+
+// Appends races by their places, of a run whose steps tell this.
+fn push_each(ends: &mut Vec<End>, steps: &[ToldStep], races: &[Pair]) -> Result<(), AllocError>
+    ensures { OnOk result (ends.new.items ≡ ends.old.items ++ map (race_at steps.now) races.now) }
+{
+    for pair in races {
+        ends.push(race_at(steps, *pair))?;
+    }
+    Ok(())
+}
+
+// A race by its places.
+fn race_at(steps: &[ToldStep], pair: Pair) -> End
+    ensures { result ≡ race_at steps.now pair }
+{
+    End::Race {
+        first: before_of(steps, pair.first),
+        second: before_of(steps, pair.second),
+    }
+}
+
+// Where the thread of a step stood before it.
+fn before_step(told: Option<&ToldStep>) -> Option<Stand>
+    ensures { result ≡ before_of (option_copied told.entry) }
+{
+    match told {
+        Some(told) => told.before,
+        None => None,
+    }
+}
+
+// The same of the step of this number.
+fn before_of(steps: &[ToldStep], number: usize) -> Option<Stand>
+    ensures { result ≡ before_of (slice_get steps.now number) }
+{
+    before_step(steps.get(number))
+}
+
+/// What the steps of the run under a legal schedule tell.
+pub(crate) fn told(alloc: Global, p: &Checked, w: &Schedule) -> Result<Vec<ToldStep>, AllocError>
+    requires few { length w.now.entries ≤ 2 ^ 22 }
+    requires legal { Legal p.now w.now }
+    ensures { IfOk result (λ steps. steps.items ≡ run_told p.now w.now) }
+{
+    let mut nothing = Nothing;
+    let mut rows = Vec::new(alloc);
+    let mut steps = Vec::new(alloc);
+    let whole = Between { from: 0, to: ALL };
+    match tell(alloc, p, w, whole, &mut nothing, &mut rows, &mut steps) {
+        Ok(_) => Ok(steps),
+        Err(RunFault::Broken { .. }) => unreachable!(),
+        Err(RunFault::Memory) => Err(AllocError),
+    }
+}

@@ -1,0 +1,337 @@
+//! The texts of a table, and of the run of one number.
+ghost use Rattle.std.specs.Prelude.{◌≡◌, ℕ, ◌++◌, ◌≤◌, ◌^◌, IfOk, OnOk, codes, decimal, flat_map};
+ghost use Rattle.mr_listing.specs.Races.{races_text};
+ghost use Rattle.mr_listing.specs.Seen.{seen};
+ghost use Rattle.mr_listing.specs.Spots.{stand_text};
+ghost use Rattle.mr_report.specs.Report.{line, verdict_text};
+ghost use Rattle.mr_hunt.specs.Texts.{command_line, end_text, found_text, head_text, line_in, none_text, part_of, row_line};
+ghost use Rattle.mr_hunt.specs.Texts.{seen_with, table_text, times_text};
+
+use crate::ends::End;
+use crate::seeing::told;
+use crate::table::Row;
+use itoa::Buffer;
+use mr_auto::draw;
+use mr_base::{Reason, Verdict};
+use mr_event::Pair;
+use mr_labels::{Allocations, Stand, ToldStep, push_number};
+use mr_listing::{Shown, races, stand_text};
+use mr_places::Places;
+use mr_run::Clocked;
+use mr_typing::Checked;
+use std::alloc::{AllocError, Global};
+
+// ---- pieces
+
+// Appends a number in decimal.
+fn push_wide(out: &mut Vec<u8>, number: u128) -> Result<(), AllocError>
+    ensures { OnOk result (out.new.items ≡ out.old.items ++ decimal number) }
+{
+    let mut buffer = Buffer::new();
+    out.extend_from_slice(buffer.format(number).as_bytes())
+}
+
+// Appends a number of times that isn't 1.
+fn push_many(out: &mut Vec<u8>, count: u128) -> Result<(), AllocError>
+    ensures { OnOk result (out.new.items ≡ out.old.items ++ (decimal count ++ codes " times")) }
+{
+    push_wide(out, count)?;
+    out.extend_from_slice(b" times")
+}
+
+// Appends how many times.
+fn push_times(out: &mut Vec<u8>, count: u128) -> Result<(), AllocError>
+    ensures { OnOk result (out.new.items ≡ out.old.items ++ times_text count) }
+{
+    if count == 1 {
+        out.extend_from_slice(b"once")
+    } else {
+        push_many(out, count)
+    }
+}
+
+// Appends how many numbers there are in a row, and the first of them.
+fn push_head(out: &mut Vec<u8>, row: Row) -> Result<(), AllocError>
+    ensures { OnOk result (out.new.items ≡ out.old.items ++ head_text row) }
+{
+    push_times(out, row.count)?;
+    out.extend_from_slice(b", first ")?;
+    push_number(out, row.first)?;
+    out.extend_from_slice(b": ")
+}
+
+// Appends a reason of undefined behaviour.
+fn push_reason(out: &mut Vec<u8>, reason: Reason) -> Result<(), AllocError>
+    ensures { OnOk result (out.new.items ≡ out.old.items ++ verdict_text (Verdict.Undefined reason)) }
+{
+    out.extend_from_slice(b"undefined ")?;
+    push_number(out, reason.code().into())?;
+    out.push(b' ')?;
+    out.extend_from_slice(reason.name().as_bytes())
+}
+
+// Appends what a verdict is called.
+fn push_verdict(out: &mut Vec<u8>, verdict: Verdict) -> Result<(), AllocError>
+    ensures { OnOk result (out.new.items ≡ out.old.items ++ verdict_text verdict) }
+{
+    match verdict {
+        Verdict::Running => out.extend_from_slice(b"running"),
+        Verdict::Exit => out.extend_from_slice(b"exit"),
+        Verdict::Leak => out.extend_from_slice(b"leak"),
+        Verdict::Abort => out.extend_from_slice(b"abort"),
+        Verdict::Deadlock => out.extend_from_slice(b"deadlock"),
+        Verdict::Undefined(reason) => push_reason(out, reason),
+    }
+}
+
+// Appends `verdict`, and what it is called.
+fn push_named(out: &mut Vec<u8>, verdict: Verdict) -> Result<(), AllocError>
+    ensures { OnOk result (out.new.items ≡ out.old.items ++ (codes "verdict " ++ verdict_text verdict)) }
+{
+    out.extend_from_slice(b"verdict ")?;
+    push_verdict(out, verdict)
+}
+
+// Appends where a thread stands, if it does.
+fn push_stand(
+    alloc: Global,
+    out: &mut Vec<u8>,
+    shown: &Shown<'_>,
+    stand: Option<Stand>,
+) -> Result<(), AllocError>
+    ensures { OnOk result (out.new.items ≡ out.old.items ++ stand_text (seen shown.now) stand) }
+{
+    let text = stand_text(alloc, shown, stand)?;
+    out.extend_from_slice(text.as_slice())
+}
+
+// Appends the places of a race.
+fn push_race(
+    alloc: Global,
+    out: &mut Vec<u8>,
+    shown: &Shown<'_>,
+    first: Option<Stand>,
+    second: Option<Stand>,
+) -> Result<(), AllocError>
+    ensures { OnOk result (out.new.items ≡ out.old.items ++ end_text (seen shown.now) (End.Race first second)) }
+{
+    out.extend_from_slice(b"race ")?;
+    push_stand(alloc, out, shown, first)?;
+    out.extend_from_slice(b"  /  ")?;
+    push_stand(alloc, out, shown, second)
+}
+
+// Appends an end.
+fn push_end(alloc: Global, out: &mut Vec<u8>, shown: &Shown<'_>, end: End) -> Result<(), AllocError>
+    ensures { OnOk result (out.new.items ≡ out.old.items ++ end_text (seen shown.now) end) }
+{
+    match end {
+        End::Verdict(verdict) => push_named(out, verdict),
+        End::Race { first, second } => push_race(alloc, out, shown, first, second),
+    }
+}
+
+// ---- rows
+
+// Appends the line of a row.
+fn push_row(alloc: Global, out: &mut Vec<u8>, shown: &Shown<'_>, row: Row) -> Result<(), AllocError>
+    ensures { OnOk result (out.new.items ≡ out.old.items ++ row_line (seen shown.now) row) }
+{
+    push_head(out, row)?;
+    push_end(alloc, out, shown, row.end)?;
+    out.push(b'\n')?;
+    Ok(())
+}
+
+// In which part of a table an end stands.
+fn part_of(end: End) -> u8
+    ensures { result ≡ part_of end }
+{
+    match end {
+        End::Verdict(_) => 0,
+        End::Race { .. } => 1,
+    }
+}
+
+// Appends the line of a row, where it stands in this part.
+fn push_in(
+    alloc: Global,
+    out: &mut Vec<u8>,
+    shown: &Shown<'_>,
+    part: u8,
+    row: Row,
+) -> Result<(), AllocError>
+    ensures { OnOk result (out.new.items ≡ out.old.items ++ line_in (seen shown.now) part row) }
+{
+    if part_of(row.end) == part {
+        push_row(alloc, out, shown, row)
+    } else {
+        Ok(())
+    }
+}
+
+// Appends the lines of a part.
+fn push_part(
+    alloc: Global,
+    out: &mut Vec<u8>,
+    shown: &Shown<'_>,
+    part: u8,
+    rows: &[Row],
+) -> Result<(), AllocError>
+    ensures { OnOk result (out.new.items ≡ out.old.items ++ flat_map (line_in (seen shown.now) part) rows.now) }
+{
+    for row in rows {
+        push_in(alloc, out, shown, part, *row)?;
+    }
+    Ok(())
+}
+
+// The lines of a table of so many numbers.
+fn lines_of(
+    alloc: Global,
+    shown: &Shown<'_>,
+    count: u128,
+    rows: &[Row],
+) -> Result<Vec<u8>, AllocError>
+    ensures { IfOk result (λ text. text.items ≡ table_text (seen shown.now) count rows.now) }
+{
+    let mut out = Vec::new(alloc);
+    push_part(alloc, &mut out, shown, 0, rows)?;
+    push_part(alloc, &mut out, shown, 1, rows)?;
+    out.extend_from_slice(b"numbers ")?;
+    push_wide(&mut out, count)?;
+    out.push(b'\n')?;
+    Ok(out)
+}
+
+/// The lines of a table of so many numbers, over the text of the program. An `Err` is for want of memory.
+pub fn table_text(
+    alloc: Global,
+    text: &[u8],
+    p: &Checked,
+    places: &Places<'_>,
+    count: u128,
+    rows: &[Row],
+) -> Result<Vec<u8>, AllocError>
+    ensures { IfOk result (λ out. out.items
+        ≡ table_text (seen_with text.now p.now places.now [] []) count rows.now) }
+{
+    let none = Allocations::new(alloc, Vec::new(alloc))?;
+    let shown = Shown {
+        text,
+        program: p.program(),
+        places,
+        rows: &none,
+        steps: &[],
+        count: 0,
+        feet: &[],
+        lines: &[],
+        races: &[],
+        verdict: Verdict::Running,
+        rests: &[],
+    };
+    lines_of(alloc, &shown, count, rows)
+}
+
+// ---- the run of a number
+
+// Races by their places, of a run whose steps tell this.
+fn races_of(
+    alloc: Global,
+    text: &[u8],
+    p: &Checked,
+    places: &Places<'_>,
+    steps: &[ToldStep],
+    pairs: &[Pair],
+) -> Result<Vec<u8>, AllocError>
+    ensures { IfOk result (λ out. out.items
+        ≡ races_text (seen_with text.now p.now places.now steps.now pairs.now)) }
+{
+    let none = Allocations::new(alloc, Vec::new(alloc))?;
+    let shown = Shown {
+        text,
+        program: p.program(),
+        places,
+        rows: &none,
+        steps,
+        count: 0,
+        feet: &[],
+        lines: &[],
+        races: pairs,
+        verdict: Verdict::Running,
+        rests: &[],
+    };
+    races(alloc, &shown)
+}
+
+// The line of a number.
+fn number_line(alloc: Global, number: u64) -> Result<Vec<u8>, AllocError>
+    ensures { IfOk result (λ out. out.items ≡ line (codes "number " ++ decimal number)) }
+{
+    let mut out = Vec::from_slice(alloc, b"number ")?;
+    push_number(&mut out, number)?;
+    out.push(b'\n')?;
+    Ok(out)
+}
+
+// Appends the line of a verdict.
+fn push_verdict_line(out: &mut Vec<u8>, verdict: Verdict) -> Result<(), AllocError>
+    ensures { OnOk result (out.new.items ≡ out.old.items ++ line (codes "verdict " ++ verdict_text verdict)) }
+{
+    push_named(out, verdict)?;
+    out.push(b'\n')?;
+    Ok(())
+}
+
+// The command that shows the run of a number.
+fn command_line(alloc: Global, name: &str, most: u32, number: u64) -> Result<Vec<u8>, AllocError>
+    ensures { IfOk result (λ out. out.items ≡ command_line name.now most number) }
+{
+    let mut out = Vec::from_slice(alloc, b"shown by: mirace auto ")?;
+    out.extend_from_slice(name.as_bytes())?;
+    out.push(b' ')?;
+    push_number(&mut out, number)?;
+    out.push(b' ')?;
+    push_number(&mut out, most.into())?;
+    out.push(b'\n')?;
+    Ok(out)
+}
+
+/// What is told of the run of a number: the number, its verdict, its races by places, and the command that shows it. An
+/// `Err` is for want of memory.
+pub fn found_text(
+    alloc: Global,
+    text: &[u8],
+    p: &Checked,
+    places: &Places<'_>,
+    name: &str,
+    most: u32,
+    number: u64,
+) -> Result<Vec<u8>, AllocError>
+    requires { most ≤ 2 ^ 20 }
+    ensures { IfOk result (λ out. out.items
+        ≡ found_text text.now p.now places.now name.now most number) }
+{
+    let mut kept = Clocked::new(alloc);
+    let drawn = draw(alloc, p, number, most, &mut kept)?;
+    let steps = told(alloc, p, &drawn.schedule)?;
+    let races = races_of(alloc, text, p, places, steps.as_slice(), kept.races())?;
+    let command = command_line(alloc, name, most, number)?;
+    let mut out = number_line(alloc, number)?;
+    push_verdict_line(&mut out, drawn.machine.verdict())?;
+    out.extend_from_slice(races.as_slice())?;
+    out.extend_from_slice(command.as_slice())?;
+    Ok(out)
+}
+
+/// The line that no run has what is looked for.
+pub fn none_text(alloc: Global, from: u64, to: u64) -> Result<Vec<u8>, AllocError>
+    ensures { IfOk result (λ out. out.items ≡ none_text from to) }
+{
+    let mut out = Vec::from_slice(alloc, b"numbers ")?;
+    push_number(&mut out, from)?;
+    out.extend_from_slice(b" to ")?;
+    push_number(&mut out, to)?;
+    out.extend_from_slice(b": no run has it\n")?;
+    Ok(out)
+}
