@@ -33,7 +33,7 @@ start 16 4096
 0
 """
 USAGE = ("usage: steps P S [FIRST LAST] | races P S | picture P S [FIRST LAST] | next P S | fill P O | halt P O "
-         "| why CODE | --help\n")
+         "| hunt P FROM TO M [AIM] | why CODE | --help\n")
 EXITS = """1  thread 0  4:13  main b0  exit
 step 1 ended the run
 verdict exit
@@ -66,6 +66,19 @@ ANSWERED = (
     ("races P S", "races 0\n", 0),
     ("steps Q S", "read program\n", 6),
     ("steps P Q", "read schedule\n", 6),
+    ("hunt P 0 3 1", "4 times, first 0: verdict exit\nnumbers 4\n", 0),
+    ("hunt P 7 8 0", "2 times, first 7: verdict running\nnumbers 2\n", 0),
+    ("hunt P 5 5 1048576", "once, first 5: verdict exit\nnumbers 1\n", 0),
+    (f"hunt P {2 ** 64 - 2} {2 ** 64 - 1} 1", f"2 times, first {2 ** 64 - 2}: verdict exit\nnumbers 2\n", 0),
+    ("hunt P 3 9 1 exit", "number 3\nverdict exit\nraces 0\nshown by: mirace auto P 3 1\n", 1),
+    ("hunt P 3 9 0 any", "number 3\nverdict running\nraces 0\nshown by: mirace auto P 3 0\n", 1),
+    ("hunt P 0 3 1 any", "numbers 0 to 3: no run has it\n", 0),
+    ("hunt P 0 3 1 race", "numbers 0 to 3: no run has it\n", 0),
+    ("hunt P 0 3 1 NotHolder", "numbers 0 to 3: no run has it\n", 0),
+    ("hunt P 0 3 1 lines 4 4294967295", "numbers 0 to 3: no run has it\n", 0),
+    ("hunt P 0 3 1 prints 1", "numbers 0 to 3: no run has it\n", 0),
+    ("hunt Q 0 3 1", "read program\n", 6),
+    ("hunt Q 0 3 1 race", "read program\n", 6),
 )
 # A program, a schedule, words, and the line that refuses them, with the status.
 REFUSED = (
@@ -94,6 +107,9 @@ ORDERS = (
 FORMLESS = (
     "", "steps", "steps P", "steps P S 1", "steps P S 1 x", "steps P S 1 4294967296", "steps P S 01 2", "races P S 1 2",
     "picture P S 1", "run P S", "--helps", "next P", "fill P", "why", "why 65536", "whys 66",
+    "hunt P", "hunt P 0 3", "hunt P 3 2 1", "hunt P 0 3 1048577", "hunt P 0 18446744073709551616 1", "hunt P 00 3 1",
+    "hunt P 0 3 1 Nothing", "hunt P 0 3 1 prints", "hunt P 0 3 1 lines 4", "hunt P 0 3 1 lines 4 4294967296",
+    "hunt P 0 3 1 line 4 4", "hunt P 0 3 1 print 1", "hunts P 0 3 1 race", "hunts P 0 3 1",
 )
 # Codes, and what is said of them.
 CODES = (

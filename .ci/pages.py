@@ -139,13 +139,15 @@ def widths():
 def hunts(at):
     """The script that hunts: its statuses, and that it finds the first number."""
     how = {"cwd": at, "stdin": subprocess.DEVNULL, "stdout": subprocess.PIPE, "stderr": subprocess.DEVNULL}
-    how |= {"timeout": 60, "env": {**os.environ, "MIRACE": PROGRAM}}
+    how |= {"timeout": 60, "env": {**os.environ, "MIRACE": PROGRAM, "MIRACE_SHOW": companion.COMPANION}}
     plain = b"numbers 3 to 40: each run ends with exit and lists no race\n"
     for what, words, text, status in (
             ("no words", [], b"", 2), ("a number that is none", ["print.mr", "0", "x", "10"], b"", 2),
             ("numbers that fall", ["print.mr", "5", "4", "10"], b"", 2),
             ("an aim that is none", ["print.mr", "0", "9", "10", "fault"], b"", 2),
-            ("no such reason", ["print.mr", "3", "40", "10", "Nothing"], b"numbers 3 to 40: no run shows Nothing\n", 0),
+            ("no such reason", ["print.mr", "3", "40", "10", "Nothing"], b"", 2),
+            ("a reason that no run has", ["print.mr", "3", "40", "10", "FreeKind"],
+             b"numbers 3 to 40: no run shows FreeKind\n", 0),
             ("a program that breaks a rule", ["ill-formed.mr", "0", "9", "10"], b"form main b0 2 32 BlockKind\n", 4),
             ("no program", ["missing.mr", "0", "9", "10"], b"read program\n", 6),
             ("nothing to find", ["print.mr", "3", "40", "10"], plain, 0)):
@@ -167,12 +169,14 @@ def aimed_hunts(at):
     """The script that hunts, by its aims: it finds the first number whose report shows what is looked for, and with a
     file of its state it goes on behind that."""
     how = {"cwd": at, "stdin": subprocess.DEVNULL, "stdout": subprocess.PIPE, "stderr": subprocess.DEVNULL}
-    how |= {"timeout": 60, "env": {**os.environ, "MIRACE": PROGRAM, "JOBS": "3"}}
+    how |= {"timeout": 60}
+    how["env"] = {**os.environ, "MIRACE": PROGRAM, "MIRACE_SHOW": companion.COMPANION, "JOBS": "3"}
     known = "not DeadAllocation"
     for name, aim, wanted in (
             ("deadlock", "deadlock", rb"^verdict deadlock$"), ("use-after-free", "undefined", rb"^verdict undefined "),
             ("use-after-free", "DeadAllocation", rb"^verdict undefined 105 "), ("race", "race", rb"^race [0-9]"),
             ("lost-update", "prints 1", rb"^> 1$"), ("leak", "leak", rb"^verdict leak$"),
+            ("race", "lines 7 13", rb"^race [0-9]"), ("race", "lines 7 14", rb"^nothing$"),
             ("exit", "running", rb"^verdict running$"), ("use-after-free", known, rb"^verdict (?!exit|undefined)")):
         program = f"{EXAMPLES}/{name}.mr"
         reports = {n: run(["auto", program, str(n), "300"], at)[0] for n in range(30)}

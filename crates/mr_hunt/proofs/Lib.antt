@@ -1,4 +1,5 @@
 pub mod AimLaws
 pub mod EndLaws
 pub mod RunFaults
+pub mod SeenLaws
 pub mod TableLaws

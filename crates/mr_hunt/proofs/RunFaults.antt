@@ -5,10 +5,11 @@ use Rattle.mr_ast.specs.declared.program.Program.{Program}
 use Rattle.mr_sched.specs.declared.chooser.Chooser.{Chooser}
 use Rattle.mr_sched.specs.declared.schedule.Entry.{Entry}
 use Rattle.mr_sched.specs.declared.schedule.Schedule.{Schedule}
-use Rattle.mr_frame.specs.Frames.{Look}
+use Rattle.mr_start.specs.FrameFrames.{Look}
 use Rattle.mr_step.specs.PlanRuns.{Config}
 use Rattle.mr_start.specs.ThreadSteps.{Own}
 use Rattle.mr_start.specs.Runs.{Legal, PlacedFault, program_step, schedule_fault}
+use Rattle.mr_start.specs.Start.{look_of, start_config}
 use Rattle.mr_start.proofs.RunLaws.{no_schedule_fault}
 use Rattle.mr_auto.specs.Drawing.{Next, Picked, drawn_entries, drawn_schedule, led, next_at, schedule_from, start_picked}
 
@@ -30,7 +31,7 @@ entries_few look (suc most) c chooser = go (next_at look c chooser)
 
 schedule_few : (p : Program) (most : ℕ) (o : Option Picked) → length (schedule_from p most o).entries ≤ most
 schedule_few p most None = omega arith
-schedule_few p most (Some picked) = entries_few _ most _ _
+schedule_few p most (Some r) = entries_few (look_of p r.picks) most (start_config p r.picks) r.chooser
 
 pub drawn_few : (p : Program) (number most : ℕ) → length (drawn_schedule p number most).entries ≤ most
 unfolding drawn_schedule

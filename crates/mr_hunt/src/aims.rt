@@ -256,7 +256,8 @@ pub fn first_met(
 {
     for i in 0..how_many(from, to) {
         let number = number_behind(from, i);
-        if is_met(alloc, p, places, aim, most, number)? {
+        let met = is_met(alloc, p, places, aim, most, number)?;
+        if met {
             return Ok(Some(number));
         }
     }

@@ -169,7 +169,8 @@ pub fn table(
     let mut rows = Vec::new(alloc);
     for i in 0..how_many(from, to) {
         let number = number_behind(from, i);
-        rows = with_number(alloc, p, most, rows.as_slice(), number)?;
+        let more = with_number(alloc, p, most, rows.as_slice(), number)?;
+        rows = more;
     }
     Ok(rows)
 }

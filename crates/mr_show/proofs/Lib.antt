@@ -1,5 +1,6 @@
 pub mod EndLaws
 pub mod FillLaws
+pub mod HuntLaws
 pub mod NextLaws
 pub mod ShownLaws
 pub mod UnreadLaws

@@ -1,0 +1,8 @@
+use Rattle.std.specs.Prelude.{◌≡◌, false, take}
+use Rattle.std.specs.List.{list_any}
+use Rattle.mr_hunt.specs.Aims.{is_between}
+use Rattle.mr_hunt.proofs.aims.any_between.Given as goal
+
+-- none before this one is
+abbrev pub invariant-loop-end : goal.invariant-loop-end
+invariant-loop-end l = list_any (is_between l.places l.one l.other) (take l.end-index l.ends) ≡ false

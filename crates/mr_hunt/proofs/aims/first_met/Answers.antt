@@ -1,0 +1,16 @@
+use Rattle.std.proofs.Common.{arith, ◌∙◌, sym}
+use Rattle.mr_hunt.specs.Aims.{aim_of, is_met}
+use Rattle.mr_hunt.proofs.AimLaws.{first_found, none_next}
+use Rattle.mr_hunt.proofs.aims.first_met.Goals as goal
+
+pub loop-i-init : goal.loop-i-init
+loop-i-init c = λ n low high. absurd (omega (arith, low, high))
+
+pub number_behind-requires : goal.number_behind-requires
+number_behind-requires c = omega (arith, c.loop-i-test.true, c.how_many-i-end.ensures, c.ranges.to)
+
+pub loop-i-preserved : goal.loop-i-preserved
+loop-i-preserved c =
+    none_next (is_met (aim_of c.args.aim) c.args.places.now c.args.p.now c.args.most) c.args.from c.loop-i.i
+    c.number_behind-number.result c.number_behind-number.ensures (sym c.in_ok-met.ensures ∙ c.if-met.false)
+    c.loop-i.invariant

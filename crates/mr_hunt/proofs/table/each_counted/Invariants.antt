@@ -1,0 +1,7 @@
+use Rattle.std.specs.Prelude.{◌≡◌, map, take}
+use Rattle.mr_hunt.specs.Table.{counted}
+use Rattle.mr_hunt.proofs.table.each_counted.Given as goal
+
+-- the rows before this one are counted
+abbrev pub invariant-loop-row : goal.invariant-loop-row
+invariant-loop-row l = l.more.items ≡ map (counted l.ends) (take l.row-index l.rows)

@@ -1,0 +1,7 @@
+use Rattle.std.specs.Prelude.{◌≡◌, false, take}
+use Rattle.mr_hunt.specs.Table.{is_listed}
+use Rattle.mr_hunt.proofs.table.is_listed.Given as goal
+
+-- none before this one is of its kind
+abbrev pub invariant-loop-row : goal.invariant-loop-row
+invariant-loop-row l = is_listed (take l.row-index l.rows) l.end ≡ false

@@ -1,0 +1,7 @@
+use Rattle.std.specs.Prelude.{◌≡◌, take}
+use Rattle.mr_hunt.specs.Table.{once}
+use Rattle.mr_hunt.proofs.table.once.Given as goal
+
+-- of the ends before this one each kind stands there once
+abbrev pub invariant-loop-end : goal.invariant-loop-end
+invariant-loop-end l = l.found.items ≡ once (take l.end-index l.ends)

@@ -1,0 +1,7 @@
+use Rattle.std.specs.Prelude.{◌≡◌, ◌++◌, flat_map, take}
+use Rattle.mr_hunt.specs.Table.{new_row}
+use Rattle.mr_hunt.proofs.table.push_each_new.Given as goal
+
+-- the ends before this one have their rows
+abbrev pub invariant-loop-end : goal.invariant-loop-end
+invariant-loop-end l = l.more.items ≡ l.fn.more.items ++ flat_map (new_row l.rows l.number) (take l.end-index l.ends)

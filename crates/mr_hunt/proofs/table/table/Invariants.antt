@@ -1,0 +1,9 @@
+use Rattle.std.specs.Prelude.{◌≡◌}
+use Rattle.std.specs.List.{range_with_len}
+use Rattle.mr_hunt.specs.Ends.{ends_of}
+use Rattle.mr_hunt.specs.Table.{table_of}
+use Rattle.mr_hunt.proofs.table.table.Given as goal
+
+-- it is the table of the numbers before this one
+abbrev pub invariant-loop-i : goal.invariant-loop-i
+invariant-loop-i l = l.rows.items ≡ table_of (ends_of l.p l.most) (range_with_len l.from l.i)
