@@ -1,6 +1,6 @@
 -- The table of numbers, one number after the other; and what it says.
 use Rattle.std.proofs.Common.{◌≡◌, ℕ, zero, suc, ◌+◌, ◌-◌, ◌<◌, ◌≤◌, ◌^◌, ◌⊎◌, inl, inr, Bool, true, false, cond, arith}
-use Rattle.std.proofs.Common.{List, [], ◌∷◌, ◌++◌, append-nil, get_or, length, map, take, refl, sym, ap, ap₂, ◌∙◌, subst}
+use Rattle.std.proofs.Common.{List, [], ◌∷◌, ◌++◌, append-nil, get_or, length, map, take, refl, sym, ap, ap₂, ◌∙◌, zero-add}
 use Rattle.std.proofs.lemmas.Bool.{cases_lt}
 use Rattle.std.proofs.lemmas.List.{map-append, take_more}
 use Rattle.std.proofs.lemmas.List.Concat.{flat_map-append}
@@ -12,7 +12,7 @@ use Rattle.std.specs.Prelude.{◌||◌, ◌&&◌, not, All, count_by, flat_map, 
 use Rattle.std.specs.List.{filter, list_any, range_with_len, sum_by}
 use Rattle.mr_listing.proofs.PartnerLaws.{filter_twice}
 use Rattle.mr_hunt.specs.declared.ends.End.{End}
-use Rattle.mr_hunt.specs.declared.table.Row.{Row}
+use Rattle.mr_hunt.specs.declared.counting.Row.{Row}
 use Rattle.mr_hunt.specs.Ends.{same_end}
 use Rattle.mr_hunt.specs.Table.{IsRow, IsTable, counted, first_of, has_end, is_listed, is_other, joined, new_row, numbers}
 use Rattle.mr_hunt.specs.Table.{once, row_of, table_of}
@@ -127,7 +127,8 @@ each_in (x ∷ xs) = (
       (each_filter (λ (e : End). list_any (same_end e) xs) (is_other x) (once xs) (each_in xs)),
 )
 
-each_at : (test : End → Bool) (es : List End) → Each test es → All (λ (e : End). test e ≡ true) es
+each_at : (test : End → Bool) (es : List End) → Each test es
+    → (k : ℕ) (d : End) → k < length es → test (get_or es k d) ≡ true
 each_at test [] each k d l = absurd (omega arith)
 each_at test (e ∷ es) each zero d l = each.0
 each_at test (e ∷ es) each (suc k) d l = each_at test es each.1 k d (omega arith)
@@ -155,7 +156,7 @@ none_counted test (m ∷ ms) h = by_test (test m) h
   where
     by_test : (b : Bool) → (b || list_any test ms) ≡ false → cond b 1 0 + count_by test ms ≡ 0
     by_test true e = absurd (cc)
-    by_test false e = none_counted test ms e
+    by_test false e = zero-add (count_by test ms) ∙ none_counted test ms e
 
 first_more : (test : ℕ → Bool) (ns : List ℕ) (n : ℕ)
     → first_of test (ns ++ n ∷ []) ≡ cond (list_any test ns) (first_of test ns) (cond (test n) n 0)
@@ -232,15 +233,12 @@ module _ (ends : ℕ → List End) (ns : List ℕ) (n : ℕ) where
   news [] each = refl
   news (e ∷ es) each =
       by_test (list_any (same_end e) earlier) refl
-      ∙ ap (λ b. cond b [] (fresh ∷ []) ++ flat_map (new_row (table_of ends ns) n) es) (sym (listed e))
+      ∙ ap (λ b. cond b [] (record { end = e; count = 1; first = n } ∷ []) ++ flat_map (new_row (table_of ends ns) n) es) (sym (listed e))
     where
-      fresh : Row
-      fresh = record { end = e; count = 1; first = n }
-
       by_test : (b : Bool) → list_any (same_end e) earlier ≡ b
           → map (row_of ends (ns ++ n ∷ []))
           (cond (not b) (e ∷ filter (is_absent earlier) es) (filter (is_absent earlier) es))
-          ≡ cond b [] (fresh ∷ []) ++ flat_map (new_row (table_of ends ns) n) es
+          ≡ cond b [] (record { end = e; count = 1; first = n } ∷ []) ++ flat_map (new_row (table_of ends ns) n) es
       by_test true is = news es each.1
       by_test false is =
           ap₂ (λ (r : Row) (rs : List Row). r ∷ rs) (row_begun e (sym (any_in_all ends e ns) ∙ is) each.0)

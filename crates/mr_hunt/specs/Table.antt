@@ -3,7 +3,7 @@ use Rattle.std.specs.Prelude.{◌≡◌, ℕ, ◌+◌, ◌-◌, ◌<◌, ◌≤�
 use Rattle.std.specs.Prelude.{List, [], ◌∷◌, ◌++◌, All, count_by, flat_map, map}
 use Rattle.std.specs.List.{filter, list_any, range_with_len}
 use Rattle.mr_hunt.specs.declared.ends.End.{End}
-use Rattle.mr_hunt.specs.declared.table.Row.{Row}
+use Rattle.mr_hunt.specs.declared.counting.Row.{Row}
 use Rattle.mr_hunt.specs.Ends.{same_end}
 
 -- the numbers from one to another

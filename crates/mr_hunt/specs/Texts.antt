@@ -15,7 +15,7 @@ use Rattle.mr_listing.specs.Seen.{Seen}
 use Rattle.mr_listing.specs.Spots.{stand_text}
 use Rattle.mr_hunt.specs.declared.ends.End.{End}
 use Rattle.mr_hunt.specs.declared.ends.End.TheVariants as shown
-use Rattle.mr_hunt.specs.declared.table.Row.{Row}
+use Rattle.mr_hunt.specs.declared.counting.Row.{Row}
 use Rattle.mr_hunt.specs.Ends.{run_told}
 
 -- what texts of places are made of, for a program with its text and its places there: these steps, and these races

@@ -8,9 +8,9 @@ ghost use Rattle.mr_hunt.specs.Ends.{verdict_number};
 ghost use Rattle.mr_hunt.specs.Aims.{Any, IsFirst, Lines, Named, Prints, Race, Undefined, aim_of, first_met, is_between};
 ghost use Rattle.mr_hunt.specs.Aims.{is_met, is_on, is_print, is_print_in, is_undefined, spot_in, verdict_name};
 
+use crate::counting::{how_many, number_behind};
 use crate::ends::{End, verdict_number};
 use crate::seeing::{ends_of, verdict_of};
-use crate::table::{how_many, number_behind};
 use mr_auto::draw;
 use mr_base::Verdict;
 use mr_event::Pair;

@@ -17,12 +17,12 @@
 #![tactic(auto)]
 
 mod aims;
+mod counting;
 mod ends;
 mod seeing;
-mod table;
 mod texts;
 
 pub use aims::{Aim, first_met};
+pub use counting::{Row, how_many, table};
 pub use ends::End;
-pub use table::{Row, how_many, table};
 pub use texts::{found_text, none_text, table_text};

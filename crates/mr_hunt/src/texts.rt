@@ -7,9 +7,9 @@ ghost use Rattle.mr_report.specs.Report.{line, verdict_text};
 ghost use Rattle.mr_hunt.specs.Texts.{command_line, end_text, found_text, head_text, line_in, none_text, part_of, row_line};
 ghost use Rattle.mr_hunt.specs.Texts.{seen_with, table_text, times_text};
 
+use crate::counting::Row;
 use crate::ends::End;
 use crate::seeing::told;
-use crate::table::Row;
 use itoa::Buffer;
 use mr_auto::draw;
 use mr_base::{Reason, Verdict};

@@ -2,7 +2,7 @@ use Rattle.std.specs.Prelude.{◌≡◌}
 use Rattle.std.specs.List.{range_with_len}
 use Rattle.mr_hunt.specs.Ends.{ends_of}
 use Rattle.mr_hunt.specs.Table.{table_of}
-use Rattle.mr_hunt.proofs.table.table.Given as goal
+use Rattle.mr_hunt.proofs.counting.table.Given as goal
 
 -- it is the table of the numbers before this one
 abbrev pub invariant-loop-i : goal.invariant-loop-i

@@ -1,6 +1,6 @@
 use Rattle.std.proofs.Common.{◌∙◌}
 use Rattle.mr_hunt.proofs.TableLaws.{once_more}
-use Rattle.mr_hunt.proofs.table.once.Goals as goal
+use Rattle.mr_hunt.proofs.counting.once.Goals as goal
 
 pub loop-end-preserved : goal.loop-end-preserved
 loop-end-preserved c =

@@ -1,6 +1,6 @@
 use Rattle.std.specs.Prelude.{◌≡◌, take}
 use Rattle.mr_hunt.specs.Table.{once}
-use Rattle.mr_hunt.proofs.table.once.Given as goal
+use Rattle.mr_hunt.proofs.counting.once.Given as goal
 
 -- of the ends before this one each kind stands there once
 abbrev pub invariant-loop-end : goal.invariant-loop-end

@@ -1,11 +1,11 @@
 use Rattle.std.proofs.Common.{◌<◌, ◌≡◌, ◌+◌, ◌-◌, ◌^◌, ◌∙◌, ap, arith, List, subst, sym}
 use Rattle.std.specs.Prelude.{All}
 use Rattle.std.specs.List.{range_with_len}
-use Rattle.mr_hunt.specs.declared.table.Row.{Row}
+use Rattle.mr_hunt.specs.declared.counting.Row.{Row}
 use Rattle.mr_hunt.specs.Ends.{ends_of}
 use Rattle.mr_hunt.specs.Table.{IsTable, joined, table_of}
 use Rattle.mr_hunt.proofs.TableLaws.{few_counted, says, table_next}
-use Rattle.mr_hunt.proofs.table.table.Goals as goal
+use Rattle.mr_hunt.proofs.counting.table.Goals as goal
 
 pub number_behind-requires : goal.number_behind-requires
 number_behind-requires c = omega (arith, c.loop-i-test.true, c.how_many-i-end.ensures, c.ranges.to)

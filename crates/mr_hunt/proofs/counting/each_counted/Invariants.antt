@@ -1,6 +1,6 @@
 use Rattle.std.specs.Prelude.{◌≡◌, map, take}
 use Rattle.mr_hunt.specs.Table.{counted}
-use Rattle.mr_hunt.proofs.table.each_counted.Given as goal
+use Rattle.mr_hunt.proofs.counting.each_counted.Given as goal
 
 -- the rows before this one are counted
 abbrev pub invariant-loop-row : goal.invariant-loop-row

@@ -1,6 +1,6 @@
 use Rattle.std.specs.Prelude.{◌≡◌, ◌++◌, flat_map, take}
 use Rattle.mr_hunt.specs.Table.{new_row}
-use Rattle.mr_hunt.proofs.table.push_each_new.Given as goal
+use Rattle.mr_hunt.proofs.counting.push_each_new.Given as goal
 
 -- the ends before this one have their rows
 abbrev pub invariant-loop-end : goal.invariant-loop-end

@@ -1,6 +1,6 @@
 use Rattle.std.specs.Prelude.{◌≡◌, false, take}
 use Rattle.mr_hunt.specs.Table.{is_listed}
-use Rattle.mr_hunt.proofs.table.is_listed.Given as goal
+use Rattle.mr_hunt.proofs.counting.is_listed.Given as goal
 
 -- none before this one is of its kind
 abbrev pub invariant-loop-row : goal.invariant-loop-row
