@@ -1,5 +1,6 @@
 pub mod AimLaws
 pub mod EndLaws
+mod Examples
 pub mod RunFaults
 pub mod SeenLaws
 pub mod TableLaws
