@@ -1,8 +1,10 @@
-use Rattle.std.proofs.Common.{ℕ, ◌∙◌, ap}
+use Rattle.std.proofs.Common.{◌≡◌, ℕ, ◌∙◌, ap}
 use Rattle.std.proofs.lemmas.Result.{IfOk-weaker}
 use Rattle.std.specs.Prelude.{Option}
+use Rattle.mr_lex.specs.Reading.{lexed}
 use Rattle.mr_hunt.specs.Aims.{aim_of, first_met}
-use Rattle.mr_show.specs.Hunted.{found_answer}
+use Rattle.mr_show.specs.Gathered.{laid_in}
+use Rattle.mr_show.specs.Hunted.{found_answer, most_in}
 use Rattle.mr_show.proofs.hunted.aimed.Goals as goal
 
 pub returns-clause-answer : goal.returns-clause-answer
@@ -10,7 +12,9 @@ returns-clause-answer c =
     let text = c.args.text.now in
     let p = c.args.p.now in
     let range = c.args.range in
-    let found = c.in_ok-found.ensures.first
-    ∙ (λ i. first_met (aim_of c.args.aim) (c.requires i) p (c.most_in.ensures.same i) range.from range.to) in
+    let aim = aim_of c.args.aim in
+    let found : c.in_ok-found.found ≡ first_met aim (laid_in p (lexed text)) p (most_in range) range.from range.to =
+    c.in_ok-found.ensures.first
+    ∙ (λ i. first_met aim (c.requires i) p (c.most_in.ensures.same i) range.from range.to) in
     IfOk-weaker c.found_in.result _ _
     (λ a h. h ∙ ap (λ (o : Option ℕ). found_answer range c.args.name.now text p o) found) c.found_in.ensures.answer

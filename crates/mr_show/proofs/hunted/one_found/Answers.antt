@@ -1,11 +1,18 @@
-use Rattle.std.proofs.Common.{ℕ, List, ◌∙◌, ap}
+use Rattle.std.proofs.Common.{◌≡◌, ℕ, List, ◌∙◌, ap}
+use Rattle.mr_lex.specs.Reading.{lexed}
 use Rattle.mr_input.specs.Answer.{Answer}
 use Rattle.mr_hunt.specs.Texts.{found_text}
+use Rattle.mr_show.specs.Gathered.{laid_in}
+use Rattle.mr_show.specs.Hunted.{most_in}
 use Rattle.mr_show.proofs.hunted.one_found.Goals as goal
 
 pub returns-clause-answer : goal.returns-clause-answer
 returns-clause-answer c =
-    let said : List ℕ → Answer = λ text. record { text = text; status = 1 } in
-    ap said
-    (c.in_ok-text.ensures
-    ∙ (λ i. found_text c.args.text.now c.args.p.now (c.requires i) c.args.name.now (c.most_in.ensures.same i) c.args.number))
+    let said : List ℕ → Answer = λ lines. record { text = lines; status = 1 } in
+    let text = c.args.text.now in
+    let p = c.args.p.now in
+    let name = c.args.name.now in
+    let same : c.in_ok-text.text.items
+    ≡ found_text text p (laid_in p (lexed text)) name (most_in c.args.range) c.args.number =
+    c.in_ok-text.ensures ∙ (λ i. found_text text p (c.requires i) name (c.most_in.ensures.same i) c.args.number) in
+    ap said same
