@@ -1,7 +1,7 @@
 -- The way from a step to a later one leads there by edges.
-use Rattle.std.proofs.Common.{◌≡◌, ◌⊎◌, ⊎_elim, inl, inr, ℕ, zero, suc, ◌+◌, ◌-◌, ◌<◌, ◌≤◌, Bool, true, false, List, [], ◌∷◌, refl, sym, ap, subst, ◌∙◌, arith, rules}
-use Rattle.std.proofs.Common.{Option, Some, None, length}
-use Rattle.std.specs.Prelude.{◌&&◌, ◌||◌, ◌==◌, All, cond, if◌then◌else◌}
+use Rattle.std.proofs.Common.{◌≡◌, ◌⊎◌, ⊎_elim, inl, inr, ℕ, zero, suc, ◌+◌, ◌-◌, ◌<◌, ◌≤◌, Bool, true, false, true≢false, List, [], ◌∷◌, ℕ_discrete, yes, no, refl, sym, ap, subst, ◌∙◌, arith, rules}
+use Rattle.std.proofs.Common.{Option, Some, None}
+use Rattle.std.specs.Prelude.{◌&&◌, ◌||◌, ◌==◌, cond, if◌then◌else◌}
 use Rattle.mr_event.specs.Footprint.{Footprint}
 use Rattle.mr_event.specs.Order.{Edge, HappensBefore, edge, chain}
 use Rattle.mr_event.specs.Predicted.{greatest_below, happens_before, has_edge}
@@ -33,13 +33,12 @@ some_found p (suc n) k lt e = by (p n) refl
     by : (b : Bool) → p n ≡ b → IsFound p (suc n)
     by true here = record { at = n; is = found_here p n here; within = omega arith; passes = here }
     by false here =
-        let below : k < n =
-        ⊎_elim (λ (same : k ≡ n). absurd (let f : true ≡ false = sym e ∙ ap p same ∙ here in cc)) (λ (less : k < n). less) (split k n lt) in
+        let below : k < n = elim (ℕ_discrete k n) [
+          | yes same ↦ absurd (true≢false (sym e ∙ ap p same ∙ here))
+          | no other ↦ omega (arith, lt, other)
+        ] in
         let found = some_found p n k below e in
         record { at = found.at; is = found_below p n here ∙ found.is; within = omega (arith, found.within); passes = found.passes }
-      where
-        split : (k n : ℕ) → k < suc n → (k ≡ n) ⊎ (k < n)
-        split k n lt = grind (arith)
 
 -- ---- a step that leads on
 
@@ -82,7 +81,7 @@ on_leads : (run : List Footprint) (i j k : ℕ) → IsOn run i j k → leads run
 on_leads run i j k h =
     ap (λ b. b && ((k == j) || happens_before run k j)) ((has_edge_is run i k).1 h.from)
     ∙ ⊎_elim (λ (s : k ≡ j). ap (λ b. b || happens_before run k j) (same_test k j s))
-      (λ (b : HappensBefore run k j). right (k == j) (happens_before run k j) ((happens_before_is run k j).1 b)) h.on
+    (λ (b : HappensBefore run k j). right (k == j) (happens_before run k j) ((happens_before_is run k j).1 b)) h.on
   where
     right : (a b : Bool) → b ≡ true → (a || b) ≡ true
     right true b e = refl
@@ -143,21 +142,19 @@ leads_there (suc n) run i j short (inr before) =
 pub way_leads : (run : List Footprint) (i j : ℕ) → HappensBefore run i j → IsWay run i j (way run i j)
 way_leads run i j before = leads_there (j - i) run i j (omega arith) (inr before)
 
+-- a way leads to no earlier step
+reach : (run : List Footprint) (k j : ℕ) (steps : List ℕ) → IsWay run k j steps → k ≤ j
+reach run k j [] same = omega (arith, same)
+reach run k j (m ∷ steps) (f, rest) =
+    let less = Edge-before f in
+    let on = reach run m j steps rest in
+    omega (arith, less, on)
+
 -- where a way leads to a later step, the one happens before it
 pub led_before : (run : List Footprint) (i j : ℕ) (steps : List ℕ) → i < j → IsWay run i j steps → HappensBefore run i j
 led_before run i j [] lt same = absurd (omega (arith, lt, same))
 led_before run i j (k ∷ []) lt (e, same) = edge (subst (Edge run i) same e)
 led_before run i j (k ∷ m ∷ steps) lt (e, f, rest) =
-    chain (edge e) (led_before run k j (m ∷ steps) (up k j (m ∷ steps) (f, rest)) (f, rest))
-  where
-    reach : (k j : ℕ) (steps : List ℕ) → IsWay run k j steps → k ≤ j
-    reach k j [] same = omega (arith, same)
-    reach k j (m ∷ steps) (f, rest) = let less = Edge-before f in let on = reach m j steps rest in omega (arith, less, on)
-
-    up : (k j : ℕ) (steps : List ℕ) → IsWay run k j steps → k < j
-    up k j [] same = absurd (cc)
-    up k j (m ∷ steps) (f, rest) = let less = Edge-before f in let on = reach m j steps rest in omega (arith, less, on)
-
--- the steps of a way that is told are no further than its end
-pub way_within_end : (n : ℕ) (run : List Footprint) (i j : ℕ) → All (λ k. k ≤ j) (way_within n run i j)
-way_within_end n run i j = λ at d inside. search rules
+    let less = Edge-before f in
+    let on = reach run m j steps rest in
+    chain (edge e) (led_before run k j (m ∷ steps) (omega (arith, less, on)) (f, rest))

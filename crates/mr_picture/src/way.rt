@@ -1,5 +1,5 @@
 //! The way from a step of a run to a later one.
-ghost use Rattle.std.specs.Prelude.{◌≡◌, ◌+◌, ◌-◌, ◌<◌, ◌==◌, ◌&&◌, All, IfOk, length, not};
+ghost use Rattle.std.specs.Prelude.{◌≡◌, ◌+◌, ◌-◌, ◌<◌, ◌==◌, ◌&&◌, All, IfOk, IfSome, length, not};
 ghost use Rattle.std.specs.List.{list_any, range_with_len};
 ghost use Rattle.mr_base.specs.Accesses.{some_race};
 ghost use Rattle.mr_event.specs.Footprints.{depends};
@@ -74,12 +74,13 @@ fn next_step(run: &[Footprint], order: &Analysis, i: usize, j: usize) -> Option<
     requires first { i < length run.now }
     requires second { j < length run.now }
     requires tracks { Tracks order.now run.now }
-    ensures { result ≡ next_step run.now i j }
+    ensures is { result ≡ next_step run.now i j }
+    ensures within { IfSome result (λ k. k < length run.now) }
 {
-    let mut left = j;
     if leads(run, order, i, j, j) {
         return Some(j);
     }
+    let mut left = j;
     while left > 0 {
         left -= 1;
         if leads(run, order, i, j, left) {
