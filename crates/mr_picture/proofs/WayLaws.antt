@@ -1,9 +1,12 @@
 -- The way from a step to a later one leads there by edges.
-use Rattle.std.proofs.Common.{◌≡◌, ◌⊎◌, ⊎_elim, inl, inr, ℕ, zero, suc, ◌+◌, ◌-◌, ◌<◌, ◌≤◌, Bool, true, false, true≢false, List, [], ◌∷◌, ℕ_discrete, yes, no, refl, sym, ap, subst, ◌∙◌, arith, rules}
+use Rattle.std.proofs.Common.{◌≡◌, ◌⊎◌, ⊎_elim, inl, inr, ℕ, zero, suc, ◌+◌, ◌-◌, ◌<◌, ◌≤◌, Bool, true, false, true≢false, List, [], ◌∷◌, refl, sym, ap, subst, ◌∙◌, arith}
 use Rattle.std.proofs.Common.{Option, Some, None}
+use native.Mathlib.Decide.{ℕ_discrete}
 use Rattle.std.specs.Prelude.{◌&&◌, ◌||◌, ◌==◌, cond, if◌then◌else◌}
+use Rattle.std.proofs.lemmas.Bool.{and_from, and_parts, eq-eqb, eqb-true, ne_eqb, or_cases, or_left, or_right}
 use Rattle.mr_event.specs.Footprint.{Footprint}
-use Rattle.mr_event.specs.Order.{Edge, HappensBefore, edge, chain}
+use Rattle.mr_event.specs.Order.{Edge, HappensBefore}
+use Rattle.mr_event.specs.Order.HappensBefore.{edge, chain}
 use Rattle.mr_event.specs.Predicted.{greatest_below, happens_before, has_edge}
 use Rattle.mr_event.proofs.Ordered.{Edge-before, HappensBefore-before}
 use Rattle.mr_event.proofs.Tests.{happens_before_is, has_edge_is}
@@ -54,38 +57,19 @@ record IsOn (run : List Footprint) (i j k : ℕ) : Type 0 where
   from : Edge run i k
   on : (k ≡ j) ⊎ HappensBefore run k j
 
-both_true : (a b : Bool) → (a && b) ≡ true → (a ≡ true) × (b ≡ true)
-both_true true true e = (refl, refl)
-both_true true false e = absurd (cc)
-both_true false b e = absurd (cc)
-
-one_true : (a b : Bool) → (a || b) ≡ true → (a ≡ true) ⊎ (b ≡ true)
-one_true true b e = inl refl
-one_true false b e = inr e
-
-same_from : (m n : ℕ) → (m == n) ≡ true → m ≡ n
-same_from m n e = grind (arith, nat_tests)
-
-same_test : (m n : ℕ) → m ≡ n → (m == n) ≡ true
-same_test m n e = grind (arith, nat_tests)
-
 leads_on : (run : List Footprint) (i j k : ℕ) → leads run i j k ≡ true → IsOn run i j k
 leads_on run i j k e =
-    let parts = both_true (has_edge run i k) ((k == j) || happens_before run k j) e in
+    let parts = and_parts (has_edge run i k) ((k == j) || happens_before run k j) e in
     record {
       from = (has_edge_is run i k).0 parts.0;
-      on = ⊎_elim (λ s. inl (same_from k j s)) (λ h. inr ((happens_before_is run k j).0 h)) (one_true (k == j) (happens_before run k j) parts.1);
+      on = ⊎_elim (λ s. inl (eqb-true k j s)) (λ h. inr ((happens_before_is run k j).0 h)) (or_cases (k == j) (happens_before run k j) parts.1);
     }
 
 on_leads : (run : List Footprint) (i j k : ℕ) → IsOn run i j k → leads run i j k ≡ true
 on_leads run i j k h =
-    ap (λ b. b && ((k == j) || happens_before run k j)) ((has_edge_is run i k).1 h.from)
-    ∙ ⊎_elim (λ (s : k ≡ j). ap (λ b. b || happens_before run k j) (same_test k j s))
-    (λ (b : HappensBefore run k j). right (k == j) (happens_before run k j) ((happens_before_is run k j).1 b)) h.on
-  where
-    right : (a b : Bool) → b ≡ true → (a || b) ≡ true
-    right true b e = refl
-    right false b e = e
+    and_from (has_edge run i k) ((k == j) || happens_before run k j) ((has_edge_is run i k).1 h.from)
+    (⊎_elim (λ (s : k ≡ j). or_left (k == j) (happens_before run k j) (eq-eqb k j s))
+    (λ (b : HappensBefore run k j). or_right (k == j) (happens_before run k j) ((happens_before_is run k j).1 b)) h.on)
 
 -- what is found is behind the one and no further than the other
 pub record IsNextStep (run : List Footprint) (i j : ℕ) (found : Option ℕ) : Type 0 where
@@ -110,15 +94,13 @@ on_before run k j on = ⊎_elim (λ (s : k ≡ j). omega (arith, s)) (λ (b : Ha
 -- at its end a way is empty
 pub way_ends : (n : ℕ) (run : List Footprint) (j : ℕ) → way_within n run j j ≡ []
 way_ends zero run j = refl
-way_ends (suc n) run j = ap (λ b. if b then [] else way_over (λ k. way_within n run k j) (next_step run j j)) (same_test j j refl)
+way_ends (suc n) run j = ap (λ b. if b then [] else way_over (λ k. way_within n run k j) (next_step run j j)) (eq-eqb j j refl)
 
 -- before it it goes on over the next step
 pub way_goes : (n : ℕ) (run : List Footprint) (i j k : ℕ) → i < j → next_step run i j ≡ Some k → way_within (suc n) run i j ≡ k ∷ way_within n run k j
 way_goes n run i j k lt e =
-    ap (λ b. if b then [] else way_over (λ m. way_within n run m j) (next_step run i j)) (apart i j lt) ∙ ap (way_over (λ m. way_within n run m j)) e
-  where
-    apart : (i j : ℕ) → i < j → (i == j) ≡ false
-    apart i j lt = grind (arith, nat_tests)
+    ap (λ b. if b then [] else way_over (λ m. way_within n run m j) (next_step run i j)) (ne_eqb i j (λ same. omega (arith, lt, same)))
+    ∙ ap (way_over (λ m. way_within n run m j)) e
 
 -- or ends where there is none
 pub way_stops : (n : ℕ) (run : List Footprint) (i j : ℕ) → next_step run i j ≡ None → way_within n run i j ≡ []
