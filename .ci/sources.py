@@ -1,7 +1,10 @@
 """What reads the sources and the pages alone: edits, examples and their copies, exercises, links, rows of figures; and
 that release/ has what was built."""
+import hashlib
 import os
 import re
+import subprocess
+import tempfile
 
 import memory
 import speed
@@ -40,12 +43,22 @@ WRONG_BODIES = (
 LIBRARIES = ("indexmap", "smallvec", "itoa", "serde_json", "thiserror")
 
 
+def stripped(path):
+    """The bytes of a program without its tables of symbols, where it is there."""
+    with tempfile.TemporaryDirectory() as at:
+        ran = subprocess.run(("strip", "-o", f"{at}/it", path), stderr=subprocess.DEVNULL)
+        return read(f"{at}/it") if ran.returncode == 0 else None
+
+
 def released():
-    """What release/ has is what was built, byte for byte."""
+    """What release/ has is what was built, byte for byte, without tables of symbols; and its sums are those."""
+    sums = ""
     for name in RELEASED:
         built, kept = f"{TOP}/crates/{name}/out/{name}", f"{TOP}/release/{name}"
-        are_there = os.path.isfile(built) and os.access(kept, os.X_OK)
-        judge(f"release/{name}", are_there and read(built) == read(kept), "not what was built: .ci/release takes what was")
+        is_built = os.access(kept, os.X_OK) and stripped(built) == read(kept)
+        judge(f"release/{name}", is_built, "not what was built: .ci/release takes what was")
+        sums += f"{hashlib.sha256(read(kept)).hexdigest()}  {name}\n"
+    judge("release/SHA256SUMS", read(f"{TOP}/release/SHA256SUMS") == sums.encode(), "these aren't the sums: .ci/release")
 
 
 def same_examples():

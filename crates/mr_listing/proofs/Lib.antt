@@ -1,6 +1,7 @@
 pub mod AlikeLaws
 pub mod Appended
 mod Examples
+pub mod FreedLaws
 pub mod GroupLaws
 pub mod OnceLaws
 pub mod PartnerLaws

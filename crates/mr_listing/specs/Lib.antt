@@ -1,5 +1,6 @@
 pub mod Accesses
 pub mod Events
+pub mod Freed
 pub mod Leaks
 pub mod Partners
 pub mod Races

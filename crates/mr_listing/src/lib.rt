@@ -5,7 +5,7 @@
 //!   name, and its partners; and the verdict.
 //! - [`races`]: the listed races by pairs of places, those with most races first, each pair with how many there are.
 //! - [`push_spoken`]: what an undefined run speaks of: an allocation by its name, and where in it.
-//! - [`stand_text`]: where a thread stands, by the statement at which it does.
+//! - [`stand_text`]: where a thread stands, by the statement at which it does; [`before_of`]: where that of a step did.
 //! - [`push_name`], [`push_reached`], [`push_bytes`], [`function_word`], [`access_word`], [`acquire_word`], [`join_word`],
 //!   [`release_word`]: the parts of a line, for other texts.
 //!
@@ -33,6 +33,7 @@ pub use law::races_are_grouped;
 pub use listing::steps;
 pub use pairs::races;
 pub use shown::Shown;
+pub use sorted::before_of;
 pub use spoken::push_spoken;
 pub use spots::stand_text;
 pub use std::alloc::AllocError as OutOfMemory;

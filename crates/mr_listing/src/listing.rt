@@ -145,6 +145,6 @@ pub fn steps(alloc: Global, shown: &Shown<'_>) -> Result<Vec<u8>, OutOfMemory>
     push_stop(&mut out, shown.count, shown.feet.len())?;
     brief(&[], shown.verdict, shown.races, &mut out)?;
     push_rests(&mut out, shown)?;
-    push_leaks(&mut out, shown)?;
+    push_leaks(alloc, &mut out, shown)?;
     Ok(out)
 }

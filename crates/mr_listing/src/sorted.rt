@@ -33,7 +33,7 @@ fn before_step(told: Option<&ToldStep>) -> Option<Stand>
 }
 
 /// The same of the step of this number.
-pub(crate) fn before_of(shown: &Shown<'_>, number: usize) -> Option<Stand>
+pub fn before_of(shown: &Shown<'_>, number: usize) -> Option<Stand>
     ensures { result ≡ before_of (slice_get (seen shown.now).steps number) }
 {
     before_step(shown.steps.get(number))

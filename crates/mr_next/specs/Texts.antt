@@ -1,6 +1,6 @@
 -- What is said of how a run can go on.
-use Rattle.std.specs.Prelude.{ℕ, ◌-◌, ◌^◌, ◌==◌, nat_lt, if◌then◌else◌, List, [], ◌++◌, flat_map, codes, decimal, length}
-use Rattle.std.specs.Prelude.{Option, None, Some, slice_get}
+use Rattle.std.specs.Prelude.{ℕ, ◌-◌, ◌^◌, ◌==◌, nat_le, nat_lt, if◌then◌else◌, List, [], ◌++◌, flat_map, codes, decimal}
+use Rattle.std.specs.Prelude.{length, take, Option, None, Some, slice_get}
 use Rattle.std.specs.List.{range_with_len}
 use Rattle.mr_ast.specs.declared.program.Program.{Program}
 use Rattle.mr_base.specs.declared.byte.AllocId.{AllocId}
@@ -173,9 +173,13 @@ abbrev pub earlier_text : Option AllocId → List ℕ
 earlier_text None = []
 earlier_text (Some id) = earlier_line id
 
--- the picks of an entry
+-- how many picks an entry has, where they aren't all told
+abbrev pub count_of_picks : List ℕ → List ℕ
+count_of_picks picks = if nat_le (length picks) 16 then [] else codes " .. of " ++ decimal (length picks)
+
+-- the first 16 picks of an entry
 abbrev pub picks_line : List ℕ → List ℕ
-picks_line picks = codes "        picks" ++ blank_numbers picks ++ codes "\n"
+picks_line picks = codes "        picks" ++ blank_numbers (take 16 picks) ++ count_of_picks picks ++ codes "\n"
 
 abbrev pub picks_text : List ℕ → List ℕ
 picks_text picks = if length picks == 0 then codes "        no pick\n" else picks_line picks

@@ -1,7 +1,7 @@
 //! What is said of how a run can go on.
-ghost use Rattle.std.specs.Prelude.{◌≡◌, ◌++◌, ◌==◌, OnOk, Some, codes, decimal, if◌then◌else◌, option_copied, slice_get};
+ghost use Rattle.std.specs.Prelude.{◌≡◌, ◌++◌, ◌==◌, OnOk, Some, codes, decimal, if◌then◌else◌, option_copied, slice_get, take};
 ghost use Rattle.mr_next.specs.Texts.{address_text, asked_text, at_text, blank_number, blank_numbers, broken_text};
-ghost use Rattle.mr_next.specs.Texts.{code_text, culprit_text, each_text, earlier_line, earlier_text, entry_text, for_text};
+ghost use Rattle.mr_next.specs.Texts.{code_text, count_of_picks, culprit_text, each_text, earlier_line, earlier_text, entry_text, for_text};
 ghost use Rattle.mr_next.specs.Texts.{head_text, holder_named, holder_text, join_text, limit_line, limit_text, listed_thread};
 ghost use Rattle.mr_next.specs.Texts.{listed_threads, numbered_thread};
 ghost use Rattle.mr_next.specs.Texts.{lock_text, new_thread, numbered_want, pick_line, pick_text, picks_line, picks_text};
@@ -456,12 +456,35 @@ pub fn push_prospects(
     push_each(alloc, out, p, new, positions, prospects)
 }
 
+// The first picks of an entry, which are told.
+fn first_picks(picks: &[u64]) -> &[u64]
+    ensures { result.now ≡ take 16 picks.now }
+{
+    if picks.len() <= 16 {
+        picks
+    } else {
+        &picks[..16]
+    }
+}
+
+// Appends how many picks there are, where they aren't all told.
+fn push_count_of_picks(out: &mut Vec<u8>, picks: &[u64]) -> Result<(), OutOfMemory>
+    ensures { OnOk result (out.new.items ≡ out.old.items ++ count_of_picks picks.now) }
+{
+    if picks.len() <= 16 {
+        return Ok(());
+    }
+    out.extend_from_slice(b" .. of ")?;
+    push_number(out, picks.len() as u64)
+}
+
 // Appends picks of an entry.
 fn push_some_picks(out: &mut Vec<u8>, picks: &[u64]) -> Result<(), OutOfMemory>
     ensures { OnOk result (out.new.items ≡ out.old.items ++ picks_line picks.now) }
 {
     out.extend_from_slice(b"        picks")?;
-    push_numbers(out, picks)?;
+    push_numbers(out, first_picks(picks))?;
+    push_count_of_picks(out, picks)?;
     out.push(b'\n')?;
     Ok(())
 }

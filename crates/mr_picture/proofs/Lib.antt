@@ -7,5 +7,6 @@ pub mod Room
 pub mod RowLaws
 pub mod SceneLaws
 pub mod Turns
+pub mod WayLaws
 pub mod Within
 pub mod WitnessLaws

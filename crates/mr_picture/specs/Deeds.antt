@@ -16,6 +16,7 @@ use Rattle.mr_listing.specs.Seen.{Seen}
 use Rattle.mr_labels.specs.Words.{function_word}
 use Rattle.mr_picture.specs.declared.scene.Drawn.{Drawn}
 use Rattle.mr_picture.specs.Scene.{Scene}
+use Rattle.mr_picture.specs.Texts.{cut_at}
 
 -- a word and a number
 abbrev pub numbered : List ℕ → List ℕ → ℕ → List ℕ
@@ -54,8 +55,9 @@ printed_by lines before behind =
     if nat_lt behind before then []
     else (if nat_lt (length lines) behind then [] else slice_range lines before behind)
 
+-- of a print its first 240 bytes are told: all of it stands in the report, and it may have millions
 abbrev pub print_deed : List ℕ → Line → List ℕ
-print_deed sep line = sep ++ codes "prints > " ++ line.text
+print_deed sep line = sep ++ codes "prints > " ++ cut_at 240 line.text
 
 -- ---- locks and threads
 

@@ -12,4 +12,6 @@ pub mod Scene
 pub mod Span
 pub mod Steps
 pub mod Texts
+pub mod Way
+pub mod WayTexts
 pub mod Witness

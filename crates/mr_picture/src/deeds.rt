@@ -9,7 +9,7 @@ ghost use Rattle.mr_picture.specs.Scene.{scene_in};
 
 use crate::OutOfMemory;
 use crate::scene::{Drawn, Scene};
-use crate::texts::push;
+use crate::texts::{push, push_cut};
 use mr_base::{Access, Event};
 use mr_event::{Footprint, Pair};
 use mr_labels::{Stand, function_word, push_count, push_number};
@@ -86,7 +86,7 @@ fn push_print(out: &mut Vec<u8>, sep: &str, line: &Line) -> Result<(), OutOfMemo
 {
     push(out, sep)?;
     push(out, "prints > ")?;
-    out.extend_from_slice(line.text.as_slice())
+    push_cut(out, 240, line.text.as_slice())
 }
 
 fn push_prints(out: &mut Vec<u8>, sep: &str, lines: &[Line]) -> Result<(), OutOfMemory>

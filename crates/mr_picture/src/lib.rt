@@ -15,6 +15,8 @@
 //! - [`Span`]: the steps of a part. [`races_in`]: those races both of whose steps are in it.
 //! - [`arrows`]: the edges between steps of two threads that neither a lane nor other arrows give.
 //! - [`wakes_thread`]: whether a step woke or started the thread of another one.
+//! - [`order_text`]: the way from a step to a later one by edges of happens-before, each with its reason ([`Because`]), or
+//!   that nothing orders the two.
 //! - [`witness_steps`], [`left_out`]: the steps of a part in the order of the witness for a race, and those that it leaves
 //!   out.
 //!
@@ -22,10 +24,13 @@
 //! answers exactly that, and want of memory is its only error. Laws: [`arrows_are_edges`], each arrow is an edge between
 //! two steps of the part, and no other path leads from its first step to its second one; [`paths_are_the_order`], of two
 //! steps of a part one happens before the other exactly where a path of lanes and arrows joins them;
+//! [`ways_are_the_order`], the way that is told leads by edges from the one to the other, and where there is a way, the
+//! one happens before the other;
 //! [`witness_is_kept`], the steps of the witness are those of its definition.
 #![tactic(auto)]
 
 mod arrows_of;
+mod because;
 mod column;
 mod deeds;
 mod drawing;
@@ -41,13 +46,17 @@ mod scene;
 mod span;
 mod steps;
 mod texts;
+mod way;
+mod way_texts;
 mod witness;
 
 pub use arrows_of::arrows;
+pub use because::Because;
 pub use drawing::picture;
 pub use law::marks_lie_inside;
 pub use order::wakes_thread;
-pub use order_laws::{arrows_are_edges, paths_are_the_order, witness_is_kept};
+pub use order_laws::{arrows_are_edges, paths_are_the_order, ways_are_the_order, witness_is_kept};
 pub use span::{Span, races_in};
 pub use std::alloc::AllocError as OutOfMemory;
+pub use way_texts::order_text;
 pub use witness::{left_out, witness_steps};

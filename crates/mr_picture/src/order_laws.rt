@@ -8,6 +8,7 @@ ghost use Rattle.mr_event.specs.Order.{Edge, HappensBefore, RacePair, thread_at}
 ghost use Rattle.mr_picture.specs.declared.span.Span.{Span};
 ghost use Rattle.mr_picture.specs.Arrows.{Joined, arrows};
 ghost use Rattle.mr_picture.specs.Span.{holds_race, steps_in};
+ghost use Rattle.mr_picture.specs.Way.{IsWay, way};
 ghost use Rattle.mr_picture.specs.Witness.{left_out, witness_steps};
 
 /// A law: each arrow is an edge between two steps of the part, which are of two threads, and no step lies between them.
@@ -27,6 +28,14 @@ pub fn arrows_are_edges()
 pub fn paths_are_the_order()
     ensures { (run : List Footprint) (span : Span) (i j : ℕ) → span.from ≤ i → j < span.to
         → Joined run (arrows run span) i j ↔ HappensBefore run i j }
+{}
+
+/// A law: where a step happens before another, the way that is told leads from the one to the other, each step of it by
+/// an edge from the one before; and where any way leads to a later step, the one happens before it.
+pub fn ways_are_the_order()
+    ensures leads { (run : List Footprint) (i j : ℕ) → HappensBefore run i j → IsWay run i j (way run i j) }
+    ensures before { (run : List Footprint) (i j : ℕ) (steps : List ℕ) → i < j → IsWay run i j steps
+        → HappensBefore run i j }
 {}
 
 /// A law: the steps of a witness that are drawn are those of the witness by definition, in its order; and each step of

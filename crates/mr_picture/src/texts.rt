@@ -30,15 +30,23 @@ pub(crate) fn count_text(alloc: Global, at: usize) -> Result<Vec<u8>, OutOfMemor
     Ok(out)
 }
 
-/// A text as it is drawn: so many of its first bytes, and ` ..` where it has more.
+/// Appends a text as it is drawn: so many of its first bytes, and ` ..` where it has more.
+pub(crate) fn push_cut(out: &mut Vec<u8>, most: usize, text: &[u8]) -> Result<(), OutOfMemory>
+    ensures { OnOk result (out.new.items ≡ out.old.items ++ cut_at most text.now) }
+{
+    if text.len() <= most {
+        return out.extend_from_slice(text);
+    }
+    out.extend_from_slice(&text[..most])?;
+    out.extend_from_slice(b" ..")
+}
+
+/// The same as a text of its own.
 pub(crate) fn cut_at(alloc: Global, most: usize, text: &[u8]) -> Result<Vec<u8>, OutOfMemory>
     ensures { IfOk result (λ short. short.items ≡ cut_at most text.now) }
 {
-    if text.len() <= most {
-        return Vec::from_slice(alloc, text);
-    }
-    let mut short = Vec::from_slice(alloc, &text[..most])?;
-    short.extend_from_slice(b" ..")?;
+    let mut short = Vec::new(alloc);
+    push_cut(&mut short, most, text)?;
     Ok(short)
 }
 

@@ -1,0 +1,14 @@
+use Rattle.std.specs.Prelude.{◌≡◌, ◌≤◌}
+use Rattle.mr_event.specs.Predicted.{greatest_below}
+use Rattle.mr_picture.specs.Way.{leads, next_step}
+use Rattle.mr_picture.proofs.way.next_step.Given as goal
+
+-- no step from this one on leads on
+abbrev pub invariant-loop-left : goal.invariant-loop-left
+invariant-loop-left l = record {
+  rest : greatest_below (leads l.run l.i l.j) l.left ≡ next_step l.run l.i l.j;
+  low : l.left ≤ l.j;
+}
+
+abbrev pub decreases-loop-left : goal.decreases-loop-left
+decreases-loop-left l = l.left
