@@ -28,8 +28,9 @@ use Rattle.mr_listing.specs.Seen.{Seen}
 use Rattle.mr_listing.specs.Spoken.{spoken_line}
 use Rattle.mr_listing.specs.Steps.{steps_text}
 use Rattle.mr_picture.specs.Picture.{picture_text}
+use Rattle.mr_picture.specs.WayTexts.{order_text}
 use Rattle.mr_show.specs.declared.form.Part.{Part}
-use Rattle.mr_show.specs.declared.form.Part.TheVariants.{Picture, Races, Steps}
+use Rattle.mr_show.specs.declared.form.Part.TheVariants.{Order, Picture, Races, Steps}
 use Rattle.mr_show.specs.declared.form.Saying.{Saying}
 use Rattle.mr_show.specs.declared.form.Saying.TheVariants.{Next, OfOrder, OfRun}
 use Rattle.mr_show.specs.declared.form.Topic.{Topic}
@@ -49,10 +50,11 @@ abbrev pub drawn_between : Option Span → Between
 drawn_between None = record { from = 0; to = 2 ^ 22 }
 drawn_between (Some span) = record { from = span.from; to = span.to }
 
--- the steps that are told for a part: for the races all
+-- the steps that are told for a part: for the races and for an order all
 abbrev pub between : Part → Between
 between (Steps from to) = record { from = from; to = to }
 between Races = record { from = 0; to = 2 ^ 22 }
+between (Order first second) = record { from = 0; to = 2 ^ 22 }
 between (Picture asked) = drawn_between asked
 
 abbrev pub part_steps : Part → Program → Schedule → List ToldStep
@@ -78,6 +80,7 @@ run_seen part text p w =
 abbrev pub part_text : Part → Option Reached → Seen → List ℕ
 part_text (Steps from to) spoken s = steps_text s ++ reason_text s.verdict ++ spoken_line s spoken
 part_text Races spoken s = races_text s
+part_text (Order first second) spoken s = order_text s first second
 part_text (Picture asked) spoken s = picture_text s asked
 
 -- with the status that the report of the run has
@@ -142,8 +145,8 @@ why_answer code (Some entry) = said_answer entry
 abbrev pub usage : Answer
 usage = record {
   text = line (
-      codes "usage: steps P S [FIRST LAST] | races P S | picture P S [FIRST LAST] | next P S | "
-      ++ codes "fill P O | halt P O | hunt P FROM TO M [AIM] | why CODE | --help"
+      codes "usage: steps P S [FIRST LAST] | races P S | picture P S [FIRST LAST] | order P S FIRST LAST | "
+      ++ codes "next P S | fill P O | halt P O | hunt P FROM TO M [AIM] | why CODE | --help"
       );
   status = 2;
 }

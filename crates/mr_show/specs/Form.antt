@@ -10,14 +10,14 @@ use Rattle.mr_why.specs.Why.{Entry, entry_of}
 use Rattle.mr_show.specs.declared.form.Form.{Form as Words}
 use Rattle.mr_show.specs.declared.form.Form.TheVariants as words
 use Rattle.mr_show.specs.declared.form.Part.{Part}
-use Rattle.mr_show.specs.declared.form.Part.TheVariants.{Picture, Races, Steps}
+use Rattle.mr_show.specs.declared.form.Part.TheVariants.{Order, Picture, Races, Steps}
 use Rattle.mr_show.specs.declared.form.Range.{Range}
 use Rattle.mr_show.specs.declared.form.Saying.{Saying}
 use Rattle.mr_show.specs.declared.form.Saying.TheVariants.{Next, OfOrder, OfRun}
 use Rattle.mr_show.specs.declared.form.Filling.TheVariants.{Halt, Schedule}
 use Rattle.mr_show.specs.declared.form.Topic.{Topic}
 use Rattle.mr_show.specs.declared.form.Topic.TheVariants.{Everything, OfFill, OfHunt, OfNext, OfPicture, OfRaces, OfSteps}
-use Rattle.mr_show.specs.declared.form.Topic.TheVariants.{OfWhy}
+use Rattle.mr_show.specs.declared.form.Topic.TheVariants.{OfOrdered, OfWhy}
 
 -- What is asked for: what is said of the run of the program in one file under the schedule in another, which is a part of
 -- it, its steps from one number up to another, its races by pairs of places or a picture of it, or how it can go on; or
@@ -39,7 +39,8 @@ help_of word =
     else (if bytes_eq word (codes "fill") then Some (Help OfFill)
     else (if bytes_eq word (codes "halt") then Some (Help OfFill)
     else (if bytes_eq word (codes "hunt") then Some (Help OfHunt)
-    else (if bytes_eq word (codes "why") then Some (Help OfWhy) else None)))))))
+    else (if bytes_eq word (codes "order") then Some (Help OfOrdered)
+    else (if bytes_eq word (codes "why") then Some (Help OfWhy) else None))))))))
 
 -- what is said of a code
 abbrev pub why_of : List ℕ → Option ℕ → Option Form
@@ -66,13 +67,14 @@ span_of (Some first) (Some last) = Some (record { from = first - 1; to = last })
 abbrev pub spanned : List ℕ → Span → Option Part
 spanned word span =
     if bytes_eq word (codes "steps") then Some (Steps span.from span.to)
-    else (if bytes_eq word (codes "picture") then Some (Picture (Some span)) else None)
+    else (if bytes_eq word (codes "order") then Some (Order span.from (span.to - 1))
+    else (if bytes_eq word (codes "picture") then Some (Picture (Some span)) else None))
 
 -- a part of a run
 abbrev pub shown_of : List ℕ → List ℕ → Part → Form
 shown_of program schedule part = Shown (OfRun part) program schedule
 
--- the steps between two numbers, or their picture
+-- the steps between two numbers, their picture, or the order of the two
 abbrev pub part_of : List ℕ → List ℕ → List ℕ → Option Span → Option Form
 part_of word program schedule None = None
 part_of word program schedule (Some span) = option_map (shown_of program schedule) (spanned word span)
@@ -137,10 +139,10 @@ abbrev pub word_range : List ℕ → List ℕ → List ℕ → Option Range
 word_range from to most =
     range_of (number_below (2 ^ 64) from) (number_below (2 ^ 64) to) (number_below (2 ^ 20 + 1) most)
 
--- `steps P S`, `steps P S FIRST LAST`, `races P S`, `picture P S`, `picture P S FIRST LAST` and `next P S`, where FIRST and
--- LAST are below 2^32; `fill P O` and `halt P O`; `hunt P FROM TO M`, where FROM is at most TO, both are below 2^64, and M is
--- at most 2^20, and an aim behind it; `why CODE`, where CODE is below 2^16; `--help`, and that behind `steps`, `races`,
--- `picture`, `next`, `fill`, `halt`, `hunt` or `why`; and no other form
+-- `steps P S`, `steps P S FIRST LAST`, `races P S`, `picture P S`, `picture P S FIRST LAST`, `order P S FIRST LAST` and
+-- `next P S`, where FIRST and LAST are below 2^32; `fill P O` and `halt P O`; `hunt P FROM TO M`, where FROM is at most TO,
+-- both are below 2^64, and M is at most 2^20, and an aim behind it; `why CODE`, where CODE is below 2^16; `--help`, and that
+-- behind `steps`, `races`, `picture`, `order`, `next`, `fill`, `halt`, `hunt` or `why`; and no other form
 abbrev pub form_of : List (List ℕ) → Option Form
 form_of (word ∷ []) = if bytes_eq word (codes "--help") then Some (Help Everything) else None
 form_of (word ∷ option ∷ []) =

@@ -3,7 +3,7 @@ use Rattle.std.specs.Prelude.{ℕ, List, ◌++◌, codes}
 use Rattle.mr_report.specs.Report.{line}
 use Rattle.mr_show.specs.declared.form.Topic.{Topic}
 use Rattle.mr_show.specs.declared.form.Topic.TheVariants.{Everything, OfFill, OfHunt, OfNext, OfPicture, OfRaces, OfSteps}
-use Rattle.mr_show.specs.declared.form.Topic.TheVariants.{OfWhy}
+use Rattle.mr_show.specs.declared.form.Topic.TheVariants.{OfOrdered, OfWhy}
 
 -- with each form
 abbrev pub help_text : Topic → List ℕ
@@ -11,6 +11,7 @@ help_text Everything =
     line (codes "mirace_show steps P S [FIRST LAST]   the steps of a run, each at its place in the program's text")
     ++ line (codes "mirace_show races P S                the races of a run by pairs of places")
     ++ line (codes "mirace_show picture P S [FIRST LAST] a picture of a run, as an SVG document")
+    ++ line (codes "mirace_show order P S FIRST LAST     how two steps of a run are ordered, edge by edge")
     ++ line (
     codes "mirace_show next P S                 what each thread would do next, or the "
     ++ codes "entry that breaks a rule"
@@ -21,7 +22,7 @@ help_text Everything =
     ++ line (codes "mirace_show why CODE                 what is said of a code of a rule, a fault or a reason")
     ++ line (codes "P is the file of a program, S that of a schedule, and O that of an order.")
     ++ line (
-    codes "With --help behind one of the words steps, races, picture, next, fill, halt, "
+    codes "With --help behind one of the words steps, races, picture, order, next, fill, halt, "
     ++ codes "hunt and why it tells more."
     )
 help_text OfSteps =
@@ -113,6 +114,21 @@ help_text OfHunt =
     codes "AIM is any, race, undefined, the name of another verdict or of a reason, prints "
     ++ codes "TEXT, or lines LINE LINE."
     )
+help_text OfOrdered =
+    line (codes "mirace_show order P S FIRST LAST")
+    ++ line (
+    codes "Runs the program in file P under the schedule in file S, and writes the way from "
+    ++ codes "step FIRST to the later"
+    )
+    ++ line (
+    codes "step LAST: step after step, each behind the one before it for the reason that "
+    ++ codes "is told: they are of one"
+    )
+    ++ line (
+    codes "thread, a thread was woken or started, or by a lock, a join, an allocation or "
+    ++ codes "what they load and store. Or"
+    )
+    ++ line (codes "it says that nothing orders the two.")
 help_text OfWhy =
     line (codes "mirace_show why CODE")
     ++ line (

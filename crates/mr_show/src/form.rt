@@ -19,6 +19,8 @@ pub enum Part {
     Steps { from: usize, to: usize },
     /// Its races by pairs of places.
     Races,
+    /// The order of two of its steps, counted from 0.
+    Order { first: usize, second: usize },
     /// A picture of it: of the steps that are asked for, or without any of those about its first race.
     Picture { asked: Option<Span> },
 }
@@ -53,6 +55,7 @@ pub enum Topic {
     OfNext,
     OfFill,
     OfHunt,
+    OfOrdered,
     OfWhy,
 }
 
@@ -116,6 +119,9 @@ fn help_of<'a>(word: &str) -> Option<Form<'a>>
         }),
         "hunt" => Some(Form::Help {
             topic: Topic::OfHunt,
+        }),
+        "order" => Some(Form::Help {
+            topic: Topic::OfOrdered,
         }),
         "why" => Some(Form::Help {
             topic: Topic::OfWhy,
@@ -183,12 +189,16 @@ fn spanned(word: &str, span: Span) -> Option<Part>
             from: span.from,
             to: span.to,
         }),
+        "order" => Some(Part::Order {
+            first: span.from,
+            second: span.to.saturating_sub(1),
+        }),
         "picture" => Some(Part::Picture { asked: Some(span) }),
         _ => None,
     }
 }
 
-// `steps P S FIRST LAST` and `picture P S FIRST LAST`.
+// `steps P S FIRST LAST`, `order P S FIRST LAST` and `picture P S FIRST LAST`.
 fn part_of<'a>(
     word: &str,
     program: &'a str,
@@ -354,8 +364,9 @@ fn line_aim<'a>(word: &str, one: &str, other: &str) -> Option<Aim<'a>>
 }
 
 /// The form of these words: `steps P S`, `steps P S FIRST LAST`, `races P S`, `picture P S`, `picture P S FIRST LAST`,
-/// `next P S`, `fill P O`, `halt P O`, `hunt P FROM TO M` and that with an aim, `why CODE`, `--help`, or one of the words
-/// `steps`, `races`, `picture`, `next`, `fill`, `halt`, `hunt` and `why` with `--help` behind it.
+/// `order P S FIRST LAST`, `next P S`, `fill P O`, `halt P O`, `hunt P FROM TO M` and that with an aim, `why CODE`,
+/// `--help`, or one of the words `steps`, `races`, `picture`, `order`, `next`, `fill`, `halt`, `hunt` and `why` with
+/// `--help` behind it.
 pub fn form_of(words: &[String]) -> Option<Form<'_>>
     ensures { option_map asked result ≡ form_of (map string_bytes words.now) }
 {

@@ -8,13 +8,14 @@ const EVERYTHING: &[u8] = b"\
 mirace_show steps P S [FIRST LAST]   the steps of a run, each at its place in the program's text
 mirace_show races P S                the races of a run by pairs of places
 mirace_show picture P S [FIRST LAST] a picture of a run, as an SVG document
+mirace_show order P S FIRST LAST     how two steps of a run are ordered, edge by edge
 mirace_show next P S                 what each thread would do next, or the entry that breaks a rule
 mirace_show fill P O                 the schedule that an order of threads becomes
 mirace_show halt P O                 where that order can't go on
 mirace_show hunt P FROM TO M [AIM]   how many drawn runs end in each way, or the first that has AIM
 mirace_show why CODE                 what is said of a code of a rule, a fault or a reason
 P is the file of a program, S that of a schedule, and O that of an order.
-With --help behind one of the words steps, races, picture, next, fill, halt, hunt and why it tells more.
+With --help behind one of the words steps, races, picture, order, next, fill, halt, hunt and why it tells more.
 ";
 
 const OF_STEPS: &[u8] = b"\
@@ -64,6 +65,14 @@ have it, and the first. With AIM it stops at the first number whose run has it, 
 AIM is any, race, undefined, the name of another verdict or of a reason, prints TEXT, or lines LINE LINE.
 ";
 
+const OF_ORDERED: &[u8] = b"\
+mirace_show order P S FIRST LAST
+Runs the program in file P under the schedule in file S, and writes the way from step FIRST to the later
+step LAST: step after step, each behind the one before it for the reason that is told: they are of one
+thread, a thread was woken or started, or by a lock, a join, an allocation or what they load and store. Or
+it says that nothing orders the two.
+";
+
 const OF_WHY: &[u8] = b"\
 mirace_show why CODE
 Writes what is said of the rule, the fault or the reason of undefined behaviour that has this number: its
@@ -82,6 +91,7 @@ pub(crate) fn help_text(topic: Topic) -> &'static [u8]
         Topic::OfNext => OF_NEXT,
         Topic::OfFill => OF_FILL,
         Topic::OfHunt => OF_HUNT,
+        Topic::OfOrdered => OF_ORDERED,
         Topic::OfWhy => OF_WHY,
     }
 }

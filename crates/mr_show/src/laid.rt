@@ -22,7 +22,7 @@ use mr_clocks::Analysis;
 use mr_input::Written;
 use mr_labels::{Allocation, Allocations, Reached, ToldStep};
 use mr_listing::{Shown, push_spoken, races, steps};
-use mr_picture::picture;
+use mr_picture::{order_text, picture};
 use mr_replay::{rests, spoken};
 use mr_run::Clocked;
 use mr_sched::Schedule;
@@ -89,6 +89,10 @@ fn part_spoken(
     match part {
         Part::Steps { from: _, to: _ } => spoken(alloc, p, w, verdict),
         Part::Races => Ok(None),
+        Part::Order {
+            first: _,
+            second: _,
+        } => Ok(None),
         Part::Picture { asked: _ } => Ok(None),
     }
 }
@@ -146,6 +150,7 @@ fn text_of(
     match part {
         Part::Steps { from: _, to: _ } => steps_of(alloc, spoken, shown),
         Part::Races => races(alloc, shown),
+        Part::Order { first, second } => order_text(alloc, shown, order, first, second),
         Part::Picture { asked } => picture(alloc, shown, order, asked),
     }
 }
