@@ -29,19 +29,19 @@ record IsFound (p : ℕ → Bool) (n : ℕ) : Type 0 where
   within : at < n
   passes : p at ≡ true
 
+found_step : (p : ℕ → Bool) (n k : ℕ) → k < suc n → p k ≡ true → (k < n → IsFound p n) → (b : Bool) → p n ≡ b → IsFound p (suc n)
+found_step p n k lt e rest true here = record { at = n; is = found_here p n here; within = omega arith; passes = here }
+found_step p n k lt e rest false here =
+    let below : k < n = elim (ℕ_discrete k n) [
+      | yes same ↦ absurd (true≢false (sym e ∙ ap p same ∙ here))
+      | no other ↦ omega (arith, lt, other)
+    ] in
+    let found = rest below in
+    record { at = found.at; is = found_below p n here ∙ found.is; within = omega (arith, found.within); passes = found.passes }
+
 some_found : (p : ℕ → Bool) (n k : ℕ) → k < n → p k ≡ true → IsFound p n
 some_found p zero k lt e = absurd (omega arith)
-some_found p (suc n) k lt e = by (p n) refl
-  where
-    by : (b : Bool) → p n ≡ b → IsFound p (suc n)
-    by true here = record { at = n; is = found_here p n here; within = omega arith; passes = here }
-    by false here =
-        let below : k < n = elim (ℕ_discrete k n) [
-          | yes same ↦ absurd (true≢false (sym e ∙ ap p same ∙ here))
-          | no other ↦ omega (arith, lt, other)
-        ] in
-        let found = some_found p n k below e in
-        record { at = found.at; is = found_below p n here ∙ found.is; within = omega (arith, found.within); passes = found.passes }
+some_found p (suc n) k lt e = found_step p n k lt e (λ less. some_found p n k less e) (p n) refl
 
 -- ---- a step that leads on
 
@@ -97,9 +97,9 @@ way_ends zero run j = refl
 way_ends (suc n) run j = ap (λ b. if b then [] else way_over (λ k. way_within n run k j) (next_step run j j)) (eq-eqb j j refl)
 
 -- before it it goes on over the next step
-pub way_goes : (n : ℕ) (run : List Footprint) (i j k : ℕ) → i < j → next_step run i j ≡ Some k → way_within (suc n) run i j ≡ k ∷ way_within n run k j
-way_goes n run i j k lt e =
-    ap (λ b. if b then [] else way_over (λ m. way_within n run m j) (next_step run i j)) (ne_eqb i j (λ same. omega (arith, lt, same)))
+pub way_goes : (n : ℕ) (run : List Footprint) (i j k : ℕ) → (i ≡ j → ⊥) → next_step run i j ≡ Some k → way_within (suc n) run i j ≡ k ∷ way_within n run k j
+way_goes n run i j k apart e =
+    ap (λ b. if b then [] else way_over (λ m. way_within n run m j) (next_step run i j)) (ne_eqb i j apart)
     ∙ ap (way_over (λ m. way_within n run m j)) e
 
 -- or ends where there is none
@@ -118,7 +118,8 @@ leads_there (suc n) run i j short (inl same) = subst (IsWay run i j) (sym (ap (�
 leads_there (suc n) run i j short (inr before) =
     let next = next_is run i j before in
     let behind : i < next.step = Edge-before next.from in
-    subst (IsWay run i j) (sym (way_goes n run i j next.step (HappensBefore-before before) next.is))
+    let less = HappensBefore-before before in
+    subst (IsWay run i j) (sym (way_goes n run i j next.step (λ same. omega (arith, less, same)) next.is))
     (next.from, leads_there n run next.step j (omega (arith, short, behind)) next.on)
 
 pub way_leads : (run : List Footprint) (i j : ℕ) → HappensBefore run i j → IsWay run i j (way run i j)
@@ -136,7 +137,7 @@ reach run k j (m ∷ steps) (f, rest) =
 pub led_before : (run : List Footprint) (i j : ℕ) (steps : List ℕ) → i < j → IsWay run i j steps → HappensBefore run i j
 led_before run i j [] lt same = absurd (omega (arith, lt, same))
 led_before run i j (k ∷ []) lt (e, same) = edge (subst (Edge run i) same e)
-led_before run i j (k ∷ m ∷ steps) lt (e, f, rest) =
+led_before run i j (k ∷ m ∷ steps) lt (e, (f, rest)) =
     let less = Edge-before f in
     let on = reach run m j steps rest in
     chain (edge e) (led_before run k j (m ∷ steps) (omega (arith, less, on)) (f, rest))

@@ -107,7 +107,9 @@ pub(crate) fn way(
 {
     let mut steps = Vec::new(alloc);
     let mut at = i;
-    for _ in i..j {
+    let mut left = j.saturating_sub(i);
+    while left > 0 {
+        left -= 1;
         if at == j {
             return Ok(steps);
         }
