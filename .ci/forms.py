@@ -32,8 +32,8 @@ start 16 4096
 0
 0
 """
-USAGE = ("usage: steps P S [FIRST LAST] | races P S | picture P S [FIRST LAST] | next P S | fill P O | halt P O "
-         "| hunt P FROM TO M [AIM] | why CODE | --help\n")
+USAGE = ("usage: steps P S [FIRST LAST] | races P S | picture P S [FIRST LAST] | order P S FIRST LAST | next P S "
+         "| fill P O | halt P O | hunt P FROM TO M [AIM] | why CODE | --help\n")
 EXITS = """1  thread 0  4:13  main b0  exit
 step 1 ended the run
 verdict exit
@@ -66,6 +66,10 @@ ANSWERED = (
     ("races P S", "races 0\n", 0),
     ("steps Q S", "read program\n", 6),
     ("steps P Q", "read schedule\n", 6),
+    ("order P S 1 2", "step 1 and step 2: the first must be earlier, and 0 steps were completed\n", 0),
+    ("order P S 2 1", "step 2 and step 1: the first must be earlier, and 0 steps were completed\n", 0),
+    ("order P S 0 0", "step 1 and step 1: the first must be earlier, and 0 steps were completed\n", 0),
+    ("order P S 4294967295 1", "step 4294967295 and step 1: the first must be earlier, and 0 steps were completed\n", 0),
     ("hunt P 0 3 1", "4 times, first 0: verdict exit\nnumbers 4\n", 0),
     ("hunt P 7 8 0", "2 times, first 7: verdict running\nnumbers 2\n", 0),
     ("hunt P 5 5 1048576", "once, first 5: verdict exit\nnumbers 1\n", 0),
@@ -107,6 +111,7 @@ ORDERS = (
 FORMLESS = (
     "", "steps", "steps P", "steps P S 1", "steps P S 1 x", "steps P S 1 4294967296", "steps P S 01 2", "races P S 1 2",
     "picture P S 1", "run P S", "--helps", "next P", "fill P", "why", "why 65536", "whys 66",
+    "order P S", "order P S 1", "order P S 1 4294967296", "order P S 01 2", "order P S 1 2 3", "orders P S 1 2",
     "hunt P", "hunt P 0 3", "hunt P 3 2 1", "hunt P 0 3 1048577", "hunt P 0 18446744073709551616 1", "hunt P 00 3 1",
     "hunt P 0 3 1 Nothing", "hunt P 0 3 1 prints", "hunt P 0 3 1 lines 4", "hunt P 0 3 1 lines 4 4294967296",
     "hunt P 0 3 1 line 4 4", "hunt P 0 3 1 print 1", "hunts P 0 3 1 race", "hunts P 0 3 1",
