@@ -6,8 +6,8 @@ use Rattle.mr_hunt.proofs.aims.first_met.Goals as goal
 pub loop-i-init : goal.loop-i-init
 loop-i-init c = λ n low high. absurd (omega (arith, low, high))
 
-pub number_behind-requires : goal.number_behind-requires
-number_behind-requires c = omega (arith, c.loop-i-test.true, c.how_many-i-end.ensures, c.ranges.to)
+pub number_behind-number-requires : goal.number_behind-number-requires
+number_behind-number-requires c = omega (arith, c.loop-i-test.true, c.how_many-i-end.ensures, c.ranges.to)
 
 pub loop-i-preserved : goal.loop-i-preserved
 loop-i-preserved c =
