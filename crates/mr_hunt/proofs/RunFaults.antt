@@ -22,12 +22,15 @@ never_broken p w f legal broken = none_some (sym (no_schedule_fault p w legal) �
 entries_few : (look : Look) (most : ℕ) (c : Config Own) (chooser : Chooser)
     → length (drawn_entries look most c chooser) ≤ most
 entries_few look zero c chooser = omega arith
-entries_few look (suc most) c chooser = go (next_at look c chooser)
+entries_few look (suc most) c chooser =
+    go (next_at look c chooser)
+    (λ next. entries_few look most (program_step look c next.entry) next.chooser)
   where
-    go : (o : Option Next) → length (led o (λ next. drawn_entries look most (program_step look c next.entry) next.chooser)) ≤ suc most
-    go None = omega arith
-    go (Some next) =
-        let later = entries_few look most (program_step look c next.entry) next.chooser in omega (arith, later)
+    go : (o : Option Next)
+        → ((next : Next) → length (drawn_entries look most (program_step look c next.entry) next.chooser) ≤ most)
+        → length (led o (λ next. drawn_entries look most (program_step look c next.entry) next.chooser)) ≤ suc most
+    go None later = omega arith
+    go (Some next) later = let few = later next in omega (arith, few)
 
 schedule_few : (p : Program) (most : ℕ) (o : Option Picked) → length (schedule_from p most o).entries ≤ most
 schedule_few p most None = omega arith

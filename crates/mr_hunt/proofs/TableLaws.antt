@@ -1,15 +1,15 @@
 -- The table of numbers, one number after the other; and what it says.
 use Rattle.std.proofs.Common.{◌≡◌, ℕ, zero, suc, ◌+◌, ◌-◌, ◌<◌, ◌≤◌, ◌^◌, ◌⊎◌, inl, inr, Bool, true, false, cond, arith}
-use Rattle.std.proofs.Common.{List, [], ◌∷◌, ◌++◌, append-nil, get_or, length, map, take, refl, sym, ap, ap₂, ◌∙◌, zero-add}
+use Rattle.std.proofs.Common.{List, [], ◌∷◌, ◌++◌, append-nil, get_or, length, map, take, refl, sym, ap, ap₂, ◌∙◌}
 use Rattle.std.proofs.lemmas.Bool.{cases_lt}
 use Rattle.std.proofs.lemmas.List.{map-append, take_more}
 use Rattle.std.proofs.lemmas.List.Concat.{flat_map-append}
 use Rattle.std.proofs.lemmas.List.Elements.{All-map, filter-append, filter_agree}
 use Rattle.std.proofs.lemmas.List.Folds.{list_any-append}
 use Rattle.std.proofs.lemmas.List.FromFn.{length-range_with_len}
-use Rattle.std.proofs.lemmas.List.Sums.{count_by-le-length, sum_by-append}
+use Rattle.std.proofs.lemmas.List.Sums.{count_by-le-length}
 use Rattle.std.specs.Prelude.{◌||◌, ◌&&◌, not, All, count_by, flat_map, if◌then◌else◌}
-use Rattle.std.specs.List.{filter, list_any, range_with_len, sum_by}
+use Rattle.std.specs.List.{filter, fold, list_any, range_with_len}
 use Rattle.mr_listing.proofs.PartnerLaws.{filter_twice}
 use Rattle.mr_hunt.specs.declared.ends.End.{End}
 use Rattle.mr_hunt.specs.declared.counting.Row.{Row}
@@ -69,12 +69,12 @@ any_others y e h (z ∷ zs) = by_test (same_end z e) refl (any_others y e h zs)
 -- of the kind of one of some ends is of the kind of one of those that are kept
 pub any_once : (y : End) (xs : List End) → list_any (same_end y) (once xs) ≡ list_any (same_end y) xs
 any_once y [] = refl
-any_once y (e ∷ xs) = by_test (same_end y e) refl
+any_once y (e ∷ xs) = by_test (same_end y e) refl (any_once y xs)
   where
-    by_test : (b : Bool) → same_end y e ≡ b
+    by_test : (b : Bool) → same_end y e ≡ b → list_any (same_end y) (once xs) ≡ list_any (same_end y) xs
         → (b || list_any (same_end y) (filter (is_other e) (once xs))) ≡ (b || list_any (same_end y) xs)
-    by_test true is = refl
-    by_test false is = any_others y e is (once xs) ∙ any_once y xs
+    by_test true is later = refl
+    by_test false is later = any_others y e is (once xs) ∙ later
 
 once_next : (xs : List End) (y : End)
     → once (xs ++ y ∷ []) ≡ once xs ++ (if list_any (same_end y) (once xs) then [] else y ∷ [])
@@ -142,31 +142,42 @@ any_in_all ends e (n ∷ ns) =
     list_any-append (same_end e) (ends n) (flat_map ends ns)
     ∙ ap (λ b. has_end ends e n || b) (any_in_all ends e ns)
 
-count_more : (test : ℕ → Bool) (ns : List ℕ) (n : ℕ) → count_by test (ns ++ n ∷ []) ≡ count_by test ns + cond (test n) 1 0
-count_more test ns n =
-    sum_by-append (λ (m : ℕ). cond (test m) 1 0) ns (n ∷ [])
-    ∙ ap (λ k. count_by test ns + k) (nothing_more (cond (test n) 1 0))
+-- a count, as it goes on
+abbrev tally : (ℕ → Bool) → ℕ → ℕ → ℕ
+tally test count n = count + cond (test n) 1 0
+
+fold_last : (step : ℕ → ℕ → ℕ) (a : ℕ) (ns : List ℕ) (n : ℕ) → fold step a (ns ++ n ∷ []) ≡ step (fold step a ns) n
+fold_last step a [] n = refl
+fold_last step a (m ∷ ms) n = fold_last step (step a m) ms n
+
+count_more : (test : ℕ → Bool) (ns : List ℕ) (n : ℕ)
+    → count_by test (ns ++ n ∷ []) ≡ count_by test ns + cond (test n) 1 0
+count_more test ns n = fold_last (tally test) 0 ns n
+
+no_more : (test : ℕ → Bool) (count : ℕ) (ns : List ℕ) → list_any test ns ≡ false → fold (tally test) count ns ≡ count
+no_more test count [] h = refl
+no_more test count (m ∷ ms) h = by_test (test m) h (λ k. no_more test k ms)
   where
-    nothing_more : (k : ℕ) → k + 0 ≡ k
-    nothing_more k = omega arith
+    by_test : (b : Bool) → (b || list_any test ms) ≡ false
+        → ((k : ℕ) → list_any test ms ≡ false → fold (tally test) k ms ≡ k)
+        → fold (tally test) (count + cond b 1 0) ms ≡ count
+    by_test true e later = absurd (cc)
+    by_test false e later = let same : count + 0 ≡ count = omega arith in later (count + 0) e ∙ same
 
 none_counted : (test : ℕ → Bool) (ns : List ℕ) → list_any test ns ≡ false → count_by test ns ≡ 0
-none_counted test [] h = refl
-none_counted test (m ∷ ms) h = by_test (test m) h
-  where
-    by_test : (b : Bool) → (b || list_any test ms) ≡ false → cond b 1 0 + count_by test ms ≡ 0
-    by_test true e = absurd (cc)
-    by_test false e = zero-add (count_by test ms) ∙ none_counted test ms e
+none_counted test ns h = no_more test 0 ns h
 
 first_more : (test : ℕ → Bool) (ns : List ℕ) (n : ℕ)
     → first_of test (ns ++ n ∷ []) ≡ cond (list_any test ns) (first_of test ns) (cond (test n) n 0)
 first_more test [] n = refl
-first_more test (m ∷ ms) n = by_test (test m)
+first_more test (m ∷ ms) n = by_test (test m) (first_more test ms n)
   where
-    by_test : (b : Bool) → cond b m (first_of test (ms ++ n ∷ []))
+    by_test : (b : Bool)
+        → first_of test (ms ++ n ∷ []) ≡ cond (list_any test ms) (first_of test ms) (cond (test n) n 0)
+        → cond b m (first_of test (ms ++ n ∷ []))
         ≡ cond (b || list_any test ms) (cond b m (first_of test ms)) (cond (test n) n 0)
-    by_test true = refl
-    by_test false = first_more test ms n
+    by_test true later = refl
+    by_test false later = later
 
 -- ---- one number more
 
@@ -232,17 +243,18 @@ module _ (ends : ℕ → List End) (ns : List ℕ) (n : ℕ) where
       → map (row_of ends (ns ++ n ∷ [])) (filter (is_absent earlier) es) ≡ flat_map (new_row (table_of ends ns) n) es
   news [] each = refl
   news (e ∷ es) each =
-      by_test (list_any (same_end e) earlier) refl
-      ∙ ap (λ b. cond b [] (record { end = e; count = 1; first = n } ∷ []) ++ flat_map (new_row (table_of ends ns) n) es) (sym (listed e))
+      by_test (list_any (same_end e) earlier) refl (news es each.1)
+      ∙ ap (λ b. cond b [] (record { end = e; count = 1; first = n } ∷ []) ++ flat_map (new_row (table_of ends ns) n) es)
+      (sym (listed e))
     where
       by_test : (b : Bool) → list_any (same_end e) earlier ≡ b
+          → map (row_of ends (ns ++ n ∷ [])) (filter (is_absent earlier) es) ≡ flat_map (new_row (table_of ends ns) n) es
           → map (row_of ends (ns ++ n ∷ []))
           (cond (not b) (e ∷ filter (is_absent earlier) es) (filter (is_absent earlier) es))
           ≡ cond b [] (record { end = e; count = 1; first = n } ∷ []) ++ flat_map (new_row (table_of ends ns) n) es
-      by_test true is = news es each.1
-      by_test false is =
-          ap₂ (λ (r : Row) (rs : List Row). r ∷ rs) (row_begun e (sym (any_in_all ends e ns) ∙ is) each.0)
-          (news es each.1)
+      by_test true is later = later
+      by_test false is later =
+          ap₂ (λ (r : Row) (rs : List Row). r ∷ rs) (row_begun e (sym (any_in_all ends e ns) ∙ is) each.0) later
 
   pub table_more : joined (table_of ends ns) (ends n) n ≡ table_of ends (ns ++ n ∷ [])
   table_more =
@@ -298,13 +310,15 @@ at_or_behind from n le = elim (cases_lt from n) [ inl less ↦ inr (omega (arith
 first_least : (test : ℕ → Bool) (from k : ℕ) → list_any test (range_with_len from k) ≡ true
     → IsLeast test from (from + k) (first_of test (range_with_len from k))
 first_least test from zero h = absurd (cc)
-first_least test from (suc k) h = by_test (test from) refl h
+first_least test from (suc k) h = by_test (test from) refl h (first_least test (from + 1) k)
   where
     by_test : (b : Bool) → test from ≡ b → (b || list_any test (range_with_len (from + 1) k)) ≡ true
+        → (list_any test (range_with_len (from + 1) k) ≡ true
+        → IsLeast test (from + 1) (from + 1 + k) (first_of test (range_with_len (from + 1) k)))
         → IsLeast test from (from + suc k) (cond b from (first_of test (range_with_len (from + 1) k)))
-    by_test true is some = (omega arith, omega arith, is, λ m le less. absurd (omega (arith, le, less)))
-    by_test false is some =
-        let (le, less, has, least) = first_least test (from + 1) k some in (
+    by_test true is some later = (omega arith, omega arith, is, λ m le less. absurd (omega (arith, le, less)))
+    by_test false is some later =
+        let (le, less, has, least) = later some in (
           omega (arith, le),
           omega (arith, less),
           has,

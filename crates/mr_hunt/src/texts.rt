@@ -1,5 +1,5 @@
 //! The texts of a table, and of the run of one number.
-ghost use Rattle.std.specs.Prelude.{◌≡◌, ℕ, ◌++◌, ◌≤◌, ◌^◌, IfOk, OnOk, codes, decimal, flat_map};
+ghost use Rattle.std.specs.Prelude.{◌≡◌, [], ◌++◌, ◌≤◌, ◌^◌, IfOk, OnOk, codes, decimal, flat_map};
 ghost use Rattle.mr_listing.specs.Races.{races_text};
 ghost use Rattle.mr_listing.specs.Seen.{seen};
 ghost use Rattle.mr_listing.specs.Spots.{stand_text};
@@ -332,6 +332,7 @@ pub fn none_text(alloc: Global, from: u64, to: u64) -> Result<Vec<u8>, AllocErro
     push_number(&mut out, from)?;
     out.extend_from_slice(b" to ")?;
     push_number(&mut out, to)?;
-    out.extend_from_slice(b": no run has it\n")?;
+    out.extend_from_slice(b": no run has it")?;
+    out.push(b'\n')?;
     Ok(out)
 }

@@ -7,8 +7,8 @@ use Rattle.mr_hunt.specs.Table.{IsTable, joined, table_of}
 use Rattle.mr_hunt.proofs.TableLaws.{few_counted, says, table_next}
 use Rattle.mr_hunt.proofs.counting.table.Goals as goal
 
-pub number_behind-requires : goal.number_behind-requires
-number_behind-requires c = omega (arith, c.loop-i-test.true, c.how_many-i-end.ensures, c.ranges.to)
+pub number_behind-number-requires : goal.number_behind-number-requires
+number_behind-number-requires c = omega (arith, c.loop-i-test.true, c.how_many-i-end.ensures, c.ranges.to)
 
 pub with_number-requires-clause-counts : goal.with_number-requires-clause-counts
 with_number-requires-clause-counts c =
