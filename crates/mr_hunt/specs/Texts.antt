@@ -1,6 +1,7 @@
 -- How the ends of many runs are written, and the run of one number.
 use Rattle.std.specs.Prelude.{ℕ, ◌==◌, if◌then◌else◌, List, [], ◌++◌, codes, decimal, flat_map}
 use Rattle.mr_ast.specs.declared.program.Program.{Program}
+use Rattle.mr_base.specs.declared.reason.Verdict.{Verdict}
 use Rattle.mr_base.specs.declared.reason.Verdict.TheVariants.{Running}
 use Rattle.mr_event.specs.Predicted.{predicted}
 use Rattle.mr_event.specs.declared.footprint.Pair.{Pair}
@@ -78,13 +79,17 @@ command_line name most number =
     codes "shown by: mirace auto " ++ name ++ codes " " ++ decimal number ++ codes " " ++ decimal most
     )
 
+-- a number, the verdict of its run, the races of that, and the command that shows it
+abbrev pub told_text : List ℕ → ℕ → ℕ → Verdict → List ℕ → List ℕ
+told_text name most number v races =
+    line (codes "number " ++ decimal number) ++ line (codes "verdict " ++ verdict_text v) ++ races
+    ++ command_line name most number
+
 -- THE RUN OF A NUMBER: the number, the verdict, the races by places, and the command that shows it
 abbrev pub found_text : List ℕ → Program → Laid → List ℕ → ℕ → ℕ → List ℕ
 found_text text p laid name most number =
-    line (codes "number " ++ decimal number)
-    ++ line (codes "verdict " ++ verdict_text (run_of p (drawn_schedule p number most)).verdict)
-    ++ run_races text p laid (drawn_schedule p number most)
-    ++ command_line name most number
+    told_text name most number (run_of p (drawn_schedule p number most)).verdict
+    (run_races text p laid (drawn_schedule p number most))
 
 -- that there is none among the numbers from one to another
 abbrev pub none_text : ℕ → ℕ → List ℕ

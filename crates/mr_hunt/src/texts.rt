@@ -5,7 +5,7 @@ ghost use Rattle.mr_listing.specs.Seen.{seen};
 ghost use Rattle.mr_listing.specs.Spots.{stand_text};
 ghost use Rattle.mr_report.specs.Report.{line, verdict_text};
 ghost use Rattle.mr_hunt.specs.Texts.{command_line, end_text, found_text, head_text, line_in, none_text, part_of, row_line};
-ghost use Rattle.mr_hunt.specs.Texts.{seen_with, table_text, times_text};
+ghost use Rattle.mr_hunt.specs.Texts.{seen_with, table_text, times_text, told_text};
 
 use crate::counting::Row;
 use crate::ends::End;
@@ -292,8 +292,27 @@ fn command_line(alloc: Global, name: &str, most: u32, number: u64) -> Result<Vec
     out.push(b' ')?;
     push_number(&mut out, number)?;
     out.push(b' ')?;
-    push_number(&mut out, most.into())?;
+    push_number(&mut out, u64::from(most))?;
     out.push(b'\n')?;
+    Ok(out)
+}
+
+// What is told of a number, of the verdict of its run and of the races of that.
+fn told_text(
+    alloc: Global,
+    name: &str,
+    most: u32,
+    number: u64,
+    verdict: Verdict,
+    races: &[u8],
+) -> Result<Vec<u8>, AllocError>
+    ensures { IfOk result (λ out. out.items ≡ told_text name.now most number verdict races.now) }
+{
+    let command = command_line(alloc, name, most, number)?;
+    let mut out = number_line(alloc, number)?;
+    push_verdict_line(&mut out, verdict)?;
+    out.extend_from_slice(races)?;
+    out.extend_from_slice(command.as_slice())?;
     Ok(out)
 }
 
@@ -309,19 +328,14 @@ pub fn found_text(
     number: u64,
 ) -> Result<Vec<u8>, AllocError>
     requires { most ≤ 2 ^ 20 }
-    ensures { IfOk result (λ out. out.items
-        ≡ found_text text.now p.now places.now name.now most number) }
+    ensures { IfOk result (λ out. out.items ≡ found_text text.now p.now places.now name.now most number) }
 {
     let mut kept = Clocked::new(alloc);
     let drawn = draw(alloc, p, number, most, &mut kept)?;
     let steps = told(alloc, p, &drawn.schedule)?;
     let races = races_of(alloc, text, p, places, steps.as_slice(), kept.races())?;
-    let command = command_line(alloc, name, most, number)?;
-    let mut out = number_line(alloc, number)?;
-    push_verdict_line(&mut out, drawn.machine.verdict())?;
-    out.extend_from_slice(races.as_slice())?;
-    out.extend_from_slice(command.as_slice())?;
-    Ok(out)
+    let verdict = drawn.machine.verdict();
+    told_text(alloc, name, most, number, verdict, races.as_slice())
 }
 
 /// The line that no run has what is looked for.
