@@ -1,6 +1,7 @@
 pub mod EndLaws
 pub mod FillLaws
 pub mod HuntLaws
+pub mod NameLaws
 pub mod NextLaws
 pub mod ShownLaws
 pub mod UnreadLaws
