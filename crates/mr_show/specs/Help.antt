@@ -111,7 +111,7 @@ help_text OfHunt =
     )
     ++ line (
     codes "AIM is any, race, undefined, the name of another verdict or of a reason, prints "
-    ++ codes "TEXT, or lines LINE LINE."
+    ++ codes "TEXT, or two lines of P."
     )
 help_text OfWhy =
     line (codes "mirace_show why CODE")
