@@ -79,7 +79,7 @@ ANSWERED = (
     ("hunt P 0 3 1 any", "numbers 0 to 3: no run has it\n", 0),
     ("hunt P 0 3 1 race", "numbers 0 to 3: no run has it\n", 0),
     ("hunt P 0 3 1 NotHolder", "numbers 0 to 3: no run has it\n", 0),
-    ("hunt P 0 3 1 lines 4 4294967295", "numbers 0 to 3: no run has it\n", 0),
+    ("hunt P 0 3 1 4 4294967295", "numbers 0 to 3: no run has it\n", 0),
     ("hunt P 0 3 1 prints 1", "numbers 0 to 3: no run has it\n", 0),
     ("hunt Q 0 3 1", "read program\n", 6),
     ("hunt Q 0 3 1 race", "read program\n", 6),
@@ -113,8 +113,8 @@ FORMLESS = (
     "picture P S 1", "run P S", "--helps", "next P", "fill P", "why", "why 65536", "whys 66",
     "order P S", "order P S 1", "order P S 1 4294967296", "order P S 01 2", "order P S 1 2 3", "orders P S 1 2",
     "hunt P", "hunt P 0 3", "hunt P 3 2 1", "hunt P 0 3 1048577", "hunt P 0 18446744073709551616 1", "hunt P 00 3 1",
-    "hunt P 0 3 1 Nothing", "hunt P 0 3 1 prints", "hunt P 0 3 1 lines 4", "hunt P 0 3 1 lines 4 4294967296",
-    "hunt P 0 3 1 line 4 4", "hunt P 0 3 1 print 1", "hunts P 0 3 1 race", "hunts P 0 3 1",
+    "hunt P 0 3 1 Nothing", "hunt P 0 3 1 prints", "hunt P 0 3 1 4", "hunt P 0 3 1 4 4294967296",
+    "hunt P 0 3 1 4 4 4", "hunt P 0 3 1 print 1", "hunts P 0 3 1 race", "hunts P 0 3 1",
 )
 # Codes, and what is said of them.
 CODES = (

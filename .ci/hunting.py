@@ -20,7 +20,7 @@ AIMS = (
     ("use-after-free", "undefined", rb"^verdict undefined "), ("unwind", "abort", rb"^verdict abort$"),
     ("use-after-free", "DeadAllocation", rb"^verdict undefined 105 "), ("lost-update", "prints 1", rb"^> 1$"),
     ("hunting/rare", "any", rb"^race [0-9]"), ("class/bank", "prints 20 60", rb"^> 20 60$"),
-    ("class/bank", "lines {0} {1}", None), ("race", "lines {1} {0}", None))
+    ("class/bank", "{0} {1}", None), ("race", "{1} {0}", None))
 
 
 def shown(words, at):

@@ -121,18 +121,17 @@ word_aim word =
     else (if bytes_eq word (codes "undefined") then Some Undefined
     else (if is_verdict word then Some (Named word) else None)))
 
--- `prints TEXT`
-abbrev pub print_aim : List ℕ → List ℕ → Option Aim
-print_aim word text = if bytes_eq word (codes "prints") then Some (Prints text) else None
-
--- `lines LINE LINE`
+-- two lines
 abbrev pub lines_from : Option ℕ → Option ℕ → Option Aim
 lines_from None other = None
 lines_from (Some one) None = None
 lines_from (Some one) (Some other) = Some (Lines one other)
 
-abbrev pub line_aim : List ℕ → Option ℕ → Option ℕ → Option Aim
-line_aim word one other = if bytes_eq word (codes "lines") then lines_from one other else None
+-- an aim of two words: `prints TEXT`, or two lines
+abbrev pub two_aim : List ℕ → List ℕ → Option Aim
+two_aim word text =
+    if bytes_eq word (codes "prints") then Some (Prints text)
+    else lines_from (number_below (2 ^ 32) word) (number_below (2 ^ 32) text)
 
 -- the range of three words
 abbrev pub word_range : List ℕ → List ℕ → List ℕ → Option Range
@@ -154,10 +153,7 @@ form_of (word ∷ program ∷ third ∷ fourth ∷ fifth ∷ []) =
 form_of (word ∷ program ∷ from ∷ to ∷ most ∷ aim ∷ []) =
     aimed_of word program (word_range from to most) (word_aim aim)
 form_of (word ∷ program ∷ from ∷ to ∷ most ∷ aim ∷ text ∷ []) =
-    aimed_of word program (word_range from to most) (print_aim aim text)
-form_of (word ∷ program ∷ from ∷ to ∷ most ∷ aim ∷ one ∷ other ∷ []) =
-    aimed_of word program (word_range from to most)
-    (line_aim aim (number_below (2 ^ 32) one) (number_below (2 ^ 32) other))
+    aimed_of word program (word_range from to most) (two_aim aim text)
 form_of _ = None
 
 -- the form that the words ask for

@@ -112,7 +112,7 @@ help_text OfHunt =
     )
     ++ line (
     codes "AIM is any, race, undefined, the name of another verdict or of a reason, prints "
-    ++ codes "TEXT, or lines LINE LINE."
+    ++ codes "TEXT, or two lines of P."
     )
 help_text OfOrdered =
     line (codes "mirace_show order P S FIRST LAST")

@@ -4,7 +4,7 @@ ghost use Rattle.std.specs.Option.{option_map};
 ghost use Rattle.mr_input.specs.Numbers.{number_below};
 ghost use Rattle.mr_hunt.specs.Aims.{Named, aim_of};
 ghost use Rattle.mr_show.specs.Form.{Why, aimed_of, asked, form_of, help_of, hunt_of, is_name_of, is_reason, is_verdict};
-ghost use Rattle.mr_show.specs.Form.{line_aim, lines_from, part_of, print_aim, span_of, spanned, whole_of, why_of, word_aim, word_range};
+ghost use Rattle.mr_show.specs.Form.{lines_from, part_of, span_of, spanned, two_aim, whole_of, why_of, word_aim, word_range};
 ghost use Rattle.mr_why.specs.Why.{entry_of};
 
 use mr_hunt::Aim;
@@ -330,16 +330,6 @@ fn named_aim(word: &str) -> Option<Aim<'_>>
     }
 }
 
-// `prints TEXT`.
-fn print_aim<'a>(word: &str, text: &'a str) -> Option<Aim<'a>>
-    ensures { option_map aim_of result ≡ print_aim word.now text.now }
-{
-    match word {
-        "prints" => Some(Aim::Prints(text)),
-        _ => None,
-    }
-}
-
 // The lines of two words.
 fn lines_of<'a>(one: &str, other: &str) -> Option<Aim<'a>>
     ensures { option_map aim_of result ≡ lines_from (number_below (2 ^ 32) one.now) (number_below (2 ^ 32) other.now) }
@@ -352,14 +342,13 @@ fn lines_of<'a>(one: &str, other: &str) -> Option<Aim<'a>>
     })
 }
 
-// `lines LINE LINE`.
-fn line_aim<'a>(word: &str, one: &str, other: &str) -> Option<Aim<'a>>
-    ensures { option_map aim_of result
-        ≡ line_aim word.now (number_below (2 ^ 32) one.now) (number_below (2 ^ 32) other.now) }
+// An aim of two words: `prints TEXT`, or two lines.
+fn two_aim<'a>(word: &str, text: &'a str) -> Option<Aim<'a>>
+    ensures { option_map aim_of result ≡ two_aim word.now text.now }
 {
     match word {
-        "lines" => lines_of(one, other),
-        _ => None,
+        "prints" => Some(Aim::Prints(text)),
+        _ => lines_of(word, text),
     }
 }
 
@@ -400,13 +389,7 @@ pub fn form_of(words: &[String]) -> Option<Form<'_>>
             words[0].as_str(),
             words[1].as_str(),
             word_range(words[2].as_str(), words[3].as_str(), words[4].as_str()),
-            print_aim(words[5].as_str(), words[6].as_str()),
-        ),
-        8 => aimed_of(
-            words[0].as_str(),
-            words[1].as_str(),
-            word_range(words[2].as_str(), words[3].as_str(), words[4].as_str()),
-            line_aim(words[5].as_str(), words[6].as_str(), words[7].as_str()),
+            two_aim(words[5].as_str(), words[6].as_str()),
         ),
         _ => None,
     }

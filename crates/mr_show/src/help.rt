@@ -62,7 +62,7 @@ mirace_show hunt P FROM TO M [AIM]
 Draws a schedule of at most M entries for the program in file P from each number from FROM to TO, as mirace
 auto does, and runs it. Writes a line for each verdict and for each two places that race: how many numbers
 have it, and the first. With AIM it stops at the first number whose run has it, with status 1, and tells it.
-AIM is any, race, undefined, the name of another verdict or of a reason, prints TEXT, or lines LINE LINE.
+AIM is any, race, undefined, the name of another verdict or of a reason, prints TEXT, or two lines of P.
 ";
 
 const OF_ORDERED: &[u8] = b"\
