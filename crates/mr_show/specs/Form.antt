@@ -138,6 +138,17 @@ abbrev pub word_range : List ℕ → List ℕ → List ℕ → Option Range
 word_range from to most =
     range_of (number_below (2 ^ 64) from) (number_below (2 ^ 64) to) (number_below (2 ^ 20 + 1) most)
 
+-- five words and more
+abbrev pub long_form : List ℕ → List ℕ → List ℕ → List ℕ → List ℕ → List (List ℕ) → Option Form
+long_form word program third fourth fifth [] =
+    if bytes_eq word (codes "hunt") then hunt_of word program (word_range third fourth fifth) None
+    else part_of word program third (span_of (number_below (2 ^ 32) fourth) (number_below (2 ^ 32) fifth))
+long_form word program third fourth fifth (aim ∷ []) =
+    aimed_of word program (word_range third fourth fifth) (word_aim aim)
+long_form word program third fourth fifth (aim ∷ text ∷ []) =
+    aimed_of word program (word_range third fourth fifth) (two_aim aim text)
+long_form word program third fourth fifth _ = None
+
 -- `steps P S`, `steps P S FIRST LAST`, `races P S`, `picture P S`, `picture P S FIRST LAST`, `order P S FIRST LAST` and
 -- `next P S`, where FIRST and LAST are below 2^32; `fill P O` and `halt P O`; `hunt P FROM TO M`, where FROM is at most TO,
 -- both are below 2^64, and M is at most 2^20, and an aim behind it; `why CODE`, where CODE is below 2^16; `--help`, and that
@@ -147,13 +158,7 @@ form_of (word ∷ []) = if bytes_eq word (codes "--help") then Some (Help Everyt
 form_of (word ∷ option ∷ []) =
     if bytes_eq option (codes "--help") then help_of word else why_of word (number_below (2 ^ 16) option)
 form_of (word ∷ program ∷ schedule ∷ []) = whole_of word program schedule
-form_of (word ∷ program ∷ third ∷ fourth ∷ fifth ∷ []) =
-    if bytes_eq word (codes "hunt") then hunt_of word program (word_range third fourth fifth) None
-    else part_of word program third (span_of (number_below (2 ^ 32) fourth) (number_below (2 ^ 32) fifth))
-form_of (word ∷ program ∷ from ∷ to ∷ most ∷ aim ∷ []) =
-    aimed_of word program (word_range from to most) (word_aim aim)
-form_of (word ∷ program ∷ from ∷ to ∷ most ∷ aim ∷ text ∷ []) =
-    aimed_of word program (word_range from to most) (two_aim aim text)
+form_of (word ∷ program ∷ third ∷ fourth ∷ fifth ∷ rest) = long_form word program third fourth fifth rest
 form_of _ = None
 
 -- the form that the words ask for

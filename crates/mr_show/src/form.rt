@@ -1,10 +1,10 @@
 //! The forms, and the words that ask for them.
-ghost use Rattle.std.specs.Prelude.{◌≡◌, ◌+◌, ◌^◌, if◌then◌else◌, map, string_bytes};
+ghost use Rattle.std.specs.Prelude.{◌≡◌, [], ◌+◌, ◌^◌, if◌then◌else◌, map, string_bytes};
 ghost use Rattle.std.specs.Option.{option_map};
 ghost use Rattle.mr_input.specs.Numbers.{number_below};
 ghost use Rattle.mr_hunt.specs.Aims.{Named, aim_of};
 ghost use Rattle.mr_show.specs.Form.{Why, aimed_of, asked, form_of, help_of, hunt_of, is_name_of, is_reason, is_verdict};
-ghost use Rattle.mr_show.specs.Form.{lines_from, part_of, span_of, spanned, two_aim, whole_of, why_of, word_aim, word_range};
+ghost use Rattle.mr_show.specs.Form.{lines_from, long_form, part_of, span_of, spanned, two_aim, whole_of, why_of, word_aim, word_range};
 ghost use Rattle.mr_why.specs.Why.{entry_of};
 
 use mr_hunt::Aim;
@@ -352,6 +352,65 @@ fn two_aim<'a>(word: &str, text: &'a str) -> Option<Aim<'a>>
     }
 }
 
+// The form of five words.
+fn five_form<'a>(
+    word: &str,
+    program: &'a str,
+    third: &'a str,
+    fourth: &str,
+    fifth: &str,
+) -> Option<Form<'a>>
+    ensures { option_map asked result ≡ long_form word.now program.now third.now fourth.now fifth.now [] }
+{
+    match word {
+        "hunt" => hunt_of(word, program, word_range(third, fourth, fifth), None),
+        _ => part_of(word, program, third, fourth, fifth),
+    }
+}
+
+// The form of five words and more.
+fn long_form<'a>(
+    word: &str,
+    program: &'a str,
+    third: &'a str,
+    fourth: &str,
+    fifth: &str,
+    rest: &'a [String],
+) -> Option<Form<'a>>
+    ensures { option_map asked result
+        ≡ long_form word.now program.now third.now fourth.now fifth.now (map string_bytes rest.now) }
+{
+    let range = word_range(third, fourth, fifth);
+    match rest {
+        [] => five_form(word, program, third, fourth, fifth),
+        [aim] => aimed_of(word, program, range, word_aim(aim.as_str())),
+        [aim, text] => aimed_of(word, program, range, two_aim(aim.as_str(), text.as_str())),
+        [_, _, _, ..] => None,
+    }
+}
+
+// `--help`.
+fn one_form<'a>(word: &str) -> Option<Form<'a>>
+    ensures { option_map asked result ≡ form_of (word.now ∷ []) }
+{
+    match word {
+        "--help" => Some(Form::Help {
+            topic: Topic::Everything,
+        }),
+        _ => None,
+    }
+}
+
+// `--help` behind a word, or `why CODE`.
+fn two_form<'a>(word: &str, option: &str) -> Option<Form<'a>>
+    ensures { option_map asked result ≡ form_of (word.now ∷ option.now ∷ []) }
+{
+    match option {
+        "--help" => help_of(word),
+        _ => why_of(word, option),
+    }
+}
+
 /// The form of these words: `steps P S`, `steps P S FIRST LAST`, `races P S`, `picture P S`, `picture P S FIRST LAST`,
 /// `order P S FIRST LAST`, `next P S`, `fill P O`, `halt P O`, `hunt P FROM TO M` and that with an aim, `why CODE`,
 /// `--help`, or one of the words `steps`, `races`, `picture`, `order`, `next`, `fill`, `halt`, `hunt` and `why` with
@@ -359,38 +418,21 @@ fn two_aim<'a>(word: &str, text: &'a str) -> Option<Aim<'a>>
 pub fn form_of(words: &[String]) -> Option<Form<'_>>
     ensures { option_map asked result ≡ form_of (map string_bytes words.now) }
 {
-    match words.len() {
-        1 if words[0].as_str() == "--help" => Some(Form::Help {
-            topic: Topic::Everything,
-        }),
-        2 if words[1].as_str() == "--help" => help_of(words[0].as_str()),
-        2 => why_of(words[0].as_str(), words[1].as_str()),
-        3 => whole_of(words[0].as_str(), words[1].as_str(), words[2].as_str()),
-        5 if words[0].as_str() == "hunt" => hunt_of(
-            words[0].as_str(),
-            words[1].as_str(),
-            word_range(words[2].as_str(), words[3].as_str(), words[4].as_str()),
-            None,
+    match words {
+        [] => None,
+        [word] => one_form(word.as_str()),
+        [word, option] => two_form(word.as_str(), option.as_str()),
+        [word, program, schedule] => {
+            whole_of(word.as_str(), program.as_str(), schedule.as_str())
+        }
+        [_, _, _, _] => None,
+        [word, program, third, fourth, fifth, rest @ ..] => long_form(
+            word.as_str(),
+            program.as_str(),
+            third.as_str(),
+            fourth.as_str(),
+            fifth.as_str(),
+            rest,
         ),
-        5 => part_of(
-            words[0].as_str(),
-            words[1].as_str(),
-            words[2].as_str(),
-            words[3].as_str(),
-            words[4].as_str(),
-        ),
-        6 => aimed_of(
-            words[0].as_str(),
-            words[1].as_str(),
-            word_range(words[2].as_str(), words[3].as_str(), words[4].as_str()),
-            word_aim(words[5].as_str()),
-        ),
-        7 => aimed_of(
-            words[0].as_str(),
-            words[1].as_str(),
-            word_range(words[2].as_str(), words[3].as_str(), words[4].as_str()),
-            two_aim(words[5].as_str(), words[6].as_str()),
-        ),
-        _ => None,
     }
 }
