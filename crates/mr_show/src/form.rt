@@ -1,5 +1,5 @@
 //! The forms, and the words that ask for them.
-ghost use Rattle.std.specs.Prelude.{◌≡◌, [], ◌+◌, ◌^◌, if◌then◌else◌, map, string_bytes};
+ghost use Rattle.std.specs.Prelude.{◌≡◌, [], ◌∷◌, ◌+◌, ◌^◌, if◌then◌else◌, map, string_bytes};
 ghost use Rattle.std.specs.Option.{option_map};
 ghost use Rattle.mr_input.specs.Numbers.{number_below};
 ghost use Rattle.mr_hunt.specs.Aims.{Named, aim_of};
