@@ -1,5 +1,6 @@
 pub mod EndLaws
 pub mod FillLaws
+pub mod FormLaws
 pub mod HuntLaws
 pub mod NameLaws
 pub mod NextLaws
