@@ -168,20 +168,16 @@ def of_companion():
     """Forms of the companion."""
     leaks, many, drawn = "a run that leaks many blocks", "`next` of many threads at a print of %s", b"</svg>\n"
     prints, asked = "40 prints of many numbers, by what is written", b"to b1\n"
-    sought = "for each block all footprints are looked through"
     yield Shape(leaks, "run P S", leaking, 2000, end=LEAK, status=1)
-    yield Shape(f"`steps` of {leaks}", "show steps P S 1 1", leaking, 2000, "instructions", last_leaked, 1, leaks,
-                TIMES, is_open=sought)
-    yield Shape(f"`picture` of {leaks}", "show picture P S", leaking, 2000, "instructions", drawn, 1, leaks, TIMES,
-                is_open=sought)
+    yield Shape(f"`steps` of {leaks}", "show steps P S 1 1", leaking, 2000, "instructions", last_leaked, 1, leaks, TIMES)
+    yield Shape(f"`picture` of {leaks}", "show picture P S", leaking, 2000, "instructions", drawn, 1, leaks, TIMES)
     yield Shape(many % "a number", "show next P S", lambda n: at_prints(n, 1), 20, end=asked)
     yield Shape(many % "5,000 numbers", "show next P S", lambda n: at_prints(n, 5000), 20, end=b" ..\n",
                 plain=many % "a number", most=TIMES, is_open="the step of each thread is evaluated")
     yield Shape(prints, "run P S", printing, 4000, "written")
-    yield Shape(f"`picture` of {prints}", "show picture P S", printing, 4000, "written", drawn, 0, prints, GROWTH,
-                is_open="the text of a print stands in the picture four times")
+    yield Shape(f"`picture` of {prints}", "show picture P S", printing, 4000, "written", drawn, 0, prints, GROWTH)
     yield Shape("`next` of a refused entry of many picks, by what is written", "show next P S", picked, 10000,
-                "written", b"main b0  exit\n", 1, growth=1.5, is_open="the entry is written whole")
+                "written", b"main b0  exit\n", 1, growth=1.5)
 
 
 def all_shapes():
