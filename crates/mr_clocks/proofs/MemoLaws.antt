@@ -13,12 +13,6 @@ use Rattle.mr_clocks.specs.Memos.{AreMemos, IsMemo, IsMemoOf, memo_at}
 use Rattle.mr_clocks.specs.Rows.{AreAllAsked, ArePlaces, HaveKeysOf, IsGrown, IsListed, row_at}
 use Rattle.mr_clocks.proofs.Noting.{grown_row}
 
--- each row of another thread that the step asks is among those of other threads that were found
-pub asked_of : (step : Footprint) (rows same : List Row) (found equal asked : List ℕ) → same ≡ rows → equal ≡ found → ((x : ℕ) → x < length same → (row_at same x).thread ≢ step.thread → asks step (row_at same x).key ≡ true → IsListed equal x → IsListed asked x) → ((x : ℕ) → x < length rows → asks step (row_at rows x).key ≡ true → IsListed found x) → AreAllAsked step rows asked
-asked_of step rows same found equal asked e f others all = λ x lt apart it_asks.
-    subst (λ (l : List Row). x < length l → (row_at l x).thread ≢ step.thread → asks step (row_at l x).key ≡ true → IsListed equal x → IsListed asked x) e (others x) lt apart it_asks
-    (subst (λ (l : List ℕ). IsListed l x) (sym f) (all x lt it_asks))
-
 -- a step with whom another one woke
 abbrev waking_as : Footprint → Footprint → Footprint
 waking_as f g = record {

@@ -37,6 +37,7 @@ mod order;
 mod rows;
 mod runs;
 mod skips;
+mod spans;
 mod walks;
 mod whole;
 
