@@ -1,5 +1,5 @@
 -- Memos beside rows that grow, and beside rows that take links.
-use Rattle.std.proofs.Common.{◌≡◌, ◌≢◌, ℕ, ◌+◌, ◌<◌, List, Option, None, Some, true, length, slice_index, refl, sym, ◌∙◌, ap, subst, arith}
+use Rattle.std.proofs.Common.{◌≡◌, ℕ, ◌+◌, List, Option, None, Some, length, slice_index, refl, sym, ◌∙◌, ap, subst, arith}
 use Rattle.std.specs.Prelude.{IfSome}
 use Rattle.std.proofs.lemmas.List.{take_all}
 use Rattle.mr_event.specs.Footprint.{Footprint}
@@ -10,7 +10,7 @@ use Rattle.mr_clocks.specs.declared.keys.Key.TheVariants.{Lock, Creation, Spawni
 use Rattle.mr_clocks.specs.declared.rows.Row.{Row}
 use Rattle.mr_clocks.specs.Keys.{asks, notes}
 use Rattle.mr_clocks.specs.Memos.{AreMemos, IsMemo, IsMemoOf, memo_at}
-use Rattle.mr_clocks.specs.Rows.{AreAllAsked, ArePlaces, HaveKeysOf, IsGrown, IsListed, row_at}
+use Rattle.mr_clocks.specs.Rows.{AreAllAsked, ArePlaces, HaveKeysOf, IsGrown, row_at}
 use Rattle.mr_clocks.proofs.Noting.{grown_row}
 
 -- a step with whom another one woke

@@ -1,13 +1,17 @@
 -- Spans in order: how they are made, which accesses touch them, and which places of a shelf they reach.
 use Rattle.std.proofs.Common.{◌≡◌, ℕ, ◌+◌, ◌-◌, ◌<◌, ◌≤◌, ◌^◌, ◌⊎◌, inl, inr, List, [], ◌∷◌, ◌++◌, Bool, true, false, length, length-append, get_or, max, refl, sym, ◌∙◌, ap, subst, arith}
-use Rattle.std.specs.Prelude.{◌||◌, nat_lt}
+use Rattle.std.specs.Prelude.{cond, ◌||◌, nat_lt}
+use Rattle.std.specs.Ordering.{is_lt, nat_cmp, ord_max}
+use Rattle.std.specs.declared.cmp.Ordering.{Ordering}
+use Rattle.std.specs.declared.cmp.Ordering.TheVariants.{Less, Equal, Greater}
+use Rattle.std.proofs.lemmas.Cmp.{ranked}
 use Rattle.std.specs.List.{Contains, list_any}
 use Rattle.std.specs.List.Sorted.{IsNonDecreasingBy}
 use Rattle.std.proofs.lemmas.Bool.{and_parts}
 use Rattle.std.proofs.lemmas.List.{get_or_append_left, get_or_default, get_or_push}
 use Rattle.std.proofs.lemmas.List.Folds.{Any-from_list_any}
 use Rattle.std.proofs.lemmas.List.Sorted.{IsNonDecreasingBy-push, IsNonDecreasingBy-short}
-use native.Mathlib.Decide.{ℕ_discrete, dec_lt}
+use native.Mathlib.Decide.{ℕ_discrete}
 use Rattle.mr_base.specs.declared.access.Access.{Access}
 use Rattle.mr_base.specs.Accesses.{conflicts, overlaps}
 use Rattle.mr_base.proofs.Comparisons.{below_or, lt_from}
@@ -49,6 +53,15 @@ rival a accesses h =
     }
 
 -- ---- spans that are made to rise
+
+-- the greater of two numbers, as the code finds it
+pub greater : (a b : ℕ) → ord_max nat_cmp a b ≡ max a b
+greater a b = by_order (nat_cmp b a) refl
+  where
+    by_order : (o : Ordering) → o ≡ nat_cmp b a → cond (is_lt o) a b ≡ max a b
+    by_order Less e = let less : b < a = ranked b a Less e in omega arith
+    by_order Equal e = let same : b ≡ a = ranked b a Equal e in omega arith
+    by_order Greater e = let more : a < b = ranked b a Greater e in omega arith
 
 -- spans made of the first i others, up to where these end
 pub record IsRisen (spans all : List Span) (i top : ℕ) : Type 0 where
@@ -203,4 +216,4 @@ reached accesses every spans r width for narrow small loads con =
     let s = for.each b v.among o.other (λ none. v.stored (loads none)) in
     let begins : (span_at spans s.span).first ≤ b.addr = s.begins in
     let ends : last_of b ≤ (span_at spans s.span).last = s.ends in
-    (s.span, s.within, omega (arith, begins, high, narrow), omega (arith, ends, low, small))
+    (s.span, s.within, (omega (arith, begins, high, narrow), omega (arith, ends, low, small)))

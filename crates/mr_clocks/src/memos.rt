@@ -23,11 +23,8 @@ const MEMOS: usize = 1024;
 
 const FEW: usize = 512;
 
-// How many rows may have come since a memo was made, and how many rows it may list, so that it looks at the newer ones
-// alone. A longer list is made anew, in the order in which rows are found: what a step knows last stands first there.
+// How many rows may have come since a memo was made, so that it looks at the newer ones alone.
 const NEAR: usize = 256;
-
-const SHORT: usize = 32;
 
 /// A step, the places of the rows of other threads that it asks, and of those in which it is noted. The stamp is one
 /// more than the number of rows that there were, or 0 where there is no step.
@@ -102,7 +99,7 @@ impl Memo {
     {
         self.stamp > 0
             && (self.stamp >= many || many - self.stamp < NEAR)
-            && self.asked.len() <= SHORT
+            && self.asked.len() <= FEW
             && do_the_same(&self.step, step)
     }
 

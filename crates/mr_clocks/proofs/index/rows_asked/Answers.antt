@@ -3,7 +3,7 @@ use Rattle.std.specs.List.{Contains}
 use Rattle.mr_clocks.specs.declared.keys.Key.{Key}
 use Rattle.mr_clocks.specs.Keys.{asks}
 use Rattle.mr_clocks.specs.Marks.{IsMarked}
-use Rattle.mr_clocks.specs.Rows.{row_at}
+use Rattle.mr_clocks.specs.Rows.{IsAsked, row_at}
 use Rattle.mr_clocks.proofs.KeyLists.{asked_listed, exact_or_range}
 use Rattle.mr_clocks.proofs.index.rows_asked.Goals as goal
 
@@ -13,7 +13,7 @@ returns c = λ x within apart asked.
     let rows = c.args.rows.now in
     let key = (row_at rows x).key in
     let marked = c.requires x within in
-    let is = record { within = within; apart = apart; asked = asked } in
+    let is : IsAsked g rows x = record { within = within; apart = apart; asked = asked } in
     elim (exact_or_range key) [
       | inl exact ↦
           c.in_ok-find_ranges.ensures.kept x

@@ -10,4 +10,4 @@ returns-then-every c =
 pub returns-else-every : goal.returns-else-every
 returns-else-every c =
     let accesses = c.args.step.now.accesses in
-    subst (λ (b : Bool). AreSpansFor accesses b c.as_slice-2.result.now) (sym c.if-every.false) (subst (AreSpansFor accesses false) (sym c.as_slice-2.ensures.value) c.requires.stores)
+    subst (λ (b : Bool). AreSpansFor accesses b c.as_slice-else-every.result.now) (sym c.if-every.false) (subst (AreSpansFor accesses false) (sym c.as_slice-else-every.ensures.value) c.requires.stores)

@@ -3,9 +3,6 @@ use Rattle.mr_clocks.specs.Keys.{asks}
 use Rattle.mr_clocks.proofs.SpanLaws.{overlap, rival}
 use Rattle.mr_clocks.proofs.spans.may_ask_by.Goals as goal
 
-pub touches-requires-in-Range : goal.touches-requires-in-Range
-touches-requires-in-Range c = c.chosen.ensures.rising
-
 pub returns-in-Range : goal.returns-in-Range
 returns-in-Range c = λ asked.
     let step = c.args.step.now in

@@ -6,8 +6,8 @@ use Rattle.mr_clocks.specs.declared.spans.Span.{Span}
 use Rattle.mr_clocks.specs.Spans.{span_of}
 use Rattle.mr_clocks.proofs.spans.spans_for.Goals as goal
 
-pub risen-all-requires : goal.risen-all-requires
-risen-all-requires c =
+pub risen-requires : goal.risen-requires
+risen-requires c =
     subst (λ (l : List Span). IsNonDecreasingBy (λ (s : Span). s.first) l) (sym c.as_slice.ensures.value)
     (IsNonDecreasingBy-from_sort_by_key (λ (s : Span). s.first) _ c.sort_unstable_by_key.ensures.sorted (λ a r q k. search rules))
 
