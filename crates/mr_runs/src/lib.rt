@@ -21,7 +21,9 @@
 mod exchange;
 mod finding;
 mod grow;
+mod kept;
 mod mark;
+mod marks;
 mod replace;
 mod row;
 mod run;

@@ -1,5 +1,5 @@
 use Rattle.mr_runs.proofs.FindLaws.{byte_of_holder}
-use Rattle.mr_runs.proofs.views.byte_of.Goals as goal
+use Rattle.mr_runs.proofs.views.byte_of_runs.Goals as goal
 
 pub returns : goal.returns
 returns c =

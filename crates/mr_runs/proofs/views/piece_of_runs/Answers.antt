@@ -5,7 +5,7 @@ use Rattle.mr_runs.specs.Pieces.{SeenPiece}
 use Rattle.mr_runs.specs.Windows.{first_pieces, pieces_past}
 use Rattle.mr_runs.proofs.FindLaws.{begun_from-holder}
 use Rattle.mr_runs.proofs.ViewLaws.{clipped_entry, none_of, nth_ends, piece_from_holder}
-use Rattle.mr_runs.proofs.views.piece_of.Goals as goal
+use Rattle.mr_runs.proofs.views.piece_of_runs.Goals as goal
 
 pub returns-then-len-eq0 : goal.returns-then-len-eq0
 returns-then-len-eq0 c =
