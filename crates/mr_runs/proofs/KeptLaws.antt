@@ -1,6 +1,6 @@
 -- What is kept, changed step by step.
 use Rattle.std.proofs.Common.{◌≡◌, ℕ, List, length, refl, sym, ap, ◌∙◌, subst}
-use Rattle.std.specs.Prelude.{OnErr, Result, Ok, Err}
+use Rattle.std.specs.Prelude.{OnErr, OnOk, Result, Ok, Err}
 use Rattle.std.specs.BTreeMap.{BTreeMap}
 use Rattle.mr_base.specs.declared.byte.AbstractByte.{AbstractByte}
 use Rattle.mr_runs.specs.declared.kept.Kept.{Kept}
@@ -56,3 +56,9 @@ split_same (Split marks numbers) (Split others more) len s e = record {
 pub on_err_both : {T E P Q R : Type 0} (r : Result T E) → (P → Q → R) → OnErr r P → OnErr r Q → OnErr r R
 on_err_both (Ok x) f p q = tt
 on_err_both (Err e) f p q = f p q
+
+-- whether or not a call succeeded, what is kept is sound
+pub sound_after : {T E : Type 0} (r : Result T E) (old new : Kept) (len from : ℕ) (bytes : List AbstractByte) → OnOk r (IsChanged old new len from bytes) → OnErr r (IsSame old new len) → IsSound new len
+sound_after (Ok x) old new len from bytes changed same = changed.sound
+sound_after (Err e) old new len from bytes changed same = same.sound
+

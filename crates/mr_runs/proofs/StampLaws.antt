@@ -1,5 +1,5 @@
 -- Bytes whose numbers are kept apart from their marks.
-use Rattle.std.proofs.Common.{◌≡◌, ℕ, zero, suc, ◌+◌, ◌-◌, ◌<◌, ◌≤◌, min, List, [], ◌∷◌, ◌++◌, length, map, replicate, take, drop, Option, refl, sym, ap, ◌∙◌, arith, append_assoc, length-append, length-drop, length-take, drop-drop, take-take, take_all}
+use Rattle.std.proofs.Common.{◌≡◌, ℕ, zero, suc, ◌+◌, ◌-◌, ◌<◌, ◌≤◌, min, List, [], ◌∷◌, ◌++◌, length, map, replicate, take, drop, Option, refl, sym, ap, ◌∙◌, subst, arith, append_assoc, length-append, length-drop, length-take, drop-drop, take-take, take_all}
 use Rattle.std.specs.Prelude.{option_map, slice_get}
 use Rattle.std.specs.Map.{values_of}
 use Rattle.std.proofs.lemmas.List.{append-nil, drop-replicate, length-map, length-replicate, length-take-le, replicate-append-replicate, take-append-drop, take-append-le, take-replicate}
@@ -22,6 +22,7 @@ use Rattle.mr_runs.proofs.FindLaws.{holds_bytes, holds_end, holds_start}
 use Rattle.mr_runs.proofs.ListLaws.{drop_in_append, take_in_append}
 use Rattle.mr_runs.proofs.PlacedLaws.{length-bytes_in, length-bytes_of_piece, placed_at}
 use Rattle.mr_runs.proofs.RangeLaws.{length-with_range_replaced}
+use Rattle.mr_runs.proofs.WindowLaws.{first_piece-all, piece_len-past, piece_past-zero}
 
 -- ---- lists of bytes
 
@@ -433,3 +434,14 @@ part_marked len from count mark.Uninit inside = ap UninitPiece (least count (len
 part_marked len from count (mark.Init provenance) inside =
     ap (λ (ns : List ℕ). InitPiece ns provenance)
     (sym (ap (take count) (drop-replicate from len 0) ∙ take-replicate count (len - from) 0 (omega (arith, inside))))
+
+-- the whole of a piece
+pub part_whole : (p part : SeenPiece) (len : ℕ) → len ≡ piece_len p → part ≡ first_piece (piece_past p 0) len → part ≡ p
+part_whole p part len all is =
+    let past = piece_len-past p 0 in
+    is ∙ first_piece-all (piece_past p 0) len (omega (arith, all, past)) ∙ piece_past-zero p
+
+-- marks and numbers, counted by the numbers
+pub stamped_here : (es : List (ℕ × SeenPiece)) (ns : List ℕ) (len : ℕ) → IsStamped es ns len → IsStamped es ns (length ns)
+stamped_here es ns len s = subst (λ (n : ℕ). IsStamped es ns n) (sym s.all) s
+
