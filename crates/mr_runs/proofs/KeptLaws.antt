@@ -8,7 +8,7 @@ use Rattle.mr_runs.specs.declared.kept.Kept.TheVariants.{Whole, Split}
 use Rattle.mr_runs.specs.Pieces.{SeenPiece}
 use Rattle.mr_runs.specs.Placed.{IsReplaced, IsTiled, bytes_in, total_len}
 use Rattle.mr_runs.specs.Ranges.{with_range_replaced}
-use Rattle.mr_runs.specs.Stamped.{IsChanged, IsSame, IsSound, IsStamped, IsStampedAnew, entries_of, stamped}
+use Rattle.mr_runs.specs.Stamped.{IsChanged, IsSame, IsSound, stamped}
 
 pub same_here : (kept : Kept) (len : ℕ) → IsSound kept len → IsSame kept kept len
 same_here kept len s = record { sound = s; bytes_are = refl }
@@ -62,3 +62,7 @@ pub sound_after : {T E : Type 0} (r : Result T E) (old new : Kept) (len from : �
 sound_after (Ok x) old new len from bytes changed same = changed.sound
 sound_after (Err e) old new len from bytes changed same = same.sound
 
+-- what holds anyway
+pub on_err_always : {T E P : Type 0} (r : Result T E) → P → OnErr r P
+on_err_always (Ok x) p = tt
+on_err_always (Err e) p = p

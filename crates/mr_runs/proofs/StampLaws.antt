@@ -141,14 +141,8 @@ pub record IsAlike (ns : List ℕ) (es : List (ℕ × SeenPiece)) (at : ℕ) : T
   pub maximal : AreMaximal (values_of es) → AreMaximal (values_of (stamped ns es))
   pub bytes_are : bytes_in (stamped ns es) ≡ stamp (drop at ns) (bytes_in es)
 
-pub alike : (ns : List ℕ) (es : List (ℕ × SeenPiece)) (at : ℕ) → IsPlaced es at → at + total_len es ≤ length ns → IsAlike ns es at
-alike ns [] at h fits = record {
-  placed = tt;
-  whole = refl;
-  maximal = λ m. tt;
-  bytes_are = sym (stamp-nil (drop at ns));
-}
-alike ns (e ∷ es) at h fits =
+alike_more : (ns : List ℕ) (e : ℕ × SeenPiece) (es : List (ℕ × SeenPiece)) (at : ℕ) → IsPlaced (e ∷ es) at → at + total_len (e ∷ es) ≤ length ns → IsAlike ns es (at + piece_len e.1) → IsAlike ns (e ∷ es) at
+alike_more ns e es at h fits rest =
     record {
       placed = (here, placed_at (stamped ns es) (at + piece_len e.1) (at + piece_len own) (omega (arith, len)) rest.placed);
       whole = let more = rest.whole in omega (arith, len, more);
@@ -172,15 +166,23 @@ alike ns (e ∷ es) at h fits =
     len : piece_len own ≡ piece_len e.1
     len = piece_len-stamped (drop e.0 ns) e.1 low
 
-    rest : IsAlike ns es (at + piece_len e.1)
-    rest = alike ns es (at + piece_len e.1) h.1 (omega (arith, fits))
-
     behind : drop (at + piece_len e.1) ns ≡ drop (length (bytes_of_piece e.1)) (drop at ns)
     behind = ap (λ n. drop (at + n) ns) (sym (length-bytes_of_piece e.1)) ∙ sym (drop-drop (length (bytes_of_piece e.1)) at ns)
 
     apart : (fs : List (ℕ × SeenPiece)) → IsApartFrom e.1 (values_of fs) → IsApartFrom own (values_of (stamped ns fs))
     apart [] a = tt
     apart (f ∷ fs) a = λ same. a (sym (mark_of-stamped (drop e.0 ns) e.1) ∙ same ∙ mark_of-stamped (drop f.0 ns) f.1)
+
+pub alike : (ns : List ℕ) (es : List (ℕ × SeenPiece)) (at : ℕ) → IsPlaced es at → at + total_len es ≤ length ns → IsAlike ns es at
+alike ns [] at h fits = record {
+  placed = tt;
+  whole = refl;
+  maximal = λ m. tt;
+  bytes_are = sym (stamp-nil (drop at ns));
+}
+alike ns (e ∷ es) at h fits =
+    let here : e.0 ≡ at = h.0 in
+    alike_more ns e es at h fits (alike ns es (at + piece_len e.1) h.1 (omega (arith, fits)))
 
 alike_all : (es : List (ℕ × SeenPiece)) (ns : List ℕ) (len : ℕ) → IsStamped es ns len → IsAlike ns es 0
 alike_all es ns len s =
@@ -213,6 +215,10 @@ holds_stamped es ns len at begin p s h =
       from = h.from;
       to = omega (arith, to, piece_len-stamped (drop begin ns) p (omega (arith, end, whole, all, length-drop begin ns)));
     }
+
+pub holds_behind : (es : List (ℕ × SeenPiece)) (ns : List ℕ) (len at begin : ℕ) (p : SeenPiece) (s : IsStamped es ns len) (h : Holds es at begin p) → (holds_stamped es ns len at begin p s h).behind ≡ stamped ns h.behind
+unfolding holds_stamped
+holds_behind es ns len at begin p s h = refl
 
 pub slice_get-stamped : (ns : List ℕ) (es : List (ℕ × SeenPiece)) (n : ℕ) → slice_get (stamped ns es) n ≡ option_map (stamped_entry ns) (slice_get es n)
 slice_get-stamped ns [] n = refl
@@ -282,7 +288,7 @@ put_anew es new ns after len from p s inside replaced is =
         ∙ ap (stamp ns) b
         ∙ uninit_replaced ns (bytes_in es) from k lens (omega (arith, fits, lens, all))
     by_kind (InitPiece own provenance) fits b a =
-        let zeros : length own ≡ length (map (λ n. Init n provenance) (replicate (length own) 0)) = omega (arith, length-map (replicate (length own) 0) (λ n. Init n provenance), length-replicate (length own) 0) in
+        let zeros : length own ≡ length (map (λ n. Init n provenance) (replicate (length own) 0)) = omega (arith, length-map (replicate (length own) 0) (λ n. Init n provenance), length-replicate {A = ℕ} (length own) 0) in
         ap (λ (ms : List ℕ). stamp ms (bytes_in new)) a
         ∙ ap (stamp (with_range_replaced ns from own)) b
         ∙ stamp_replaced ns own (bytes_in es) (map (λ n. Init n provenance) (replicate (length own) 0)) from lens zeros (omega (arith, fits, lens, all, zeros))
@@ -326,13 +332,16 @@ pub record IsCopied (es marks : List (ℕ × SeenPiece)) (numbers : List ℕ) (l
   pub sound : IsStamped marks numbers len
   pub bytes_are : bytes_in (stamped numbers marks) ≡ take at (bytes_in es) ++ replicate (len - at) Uninit
 
+all_left : (n : ℕ) → n ≡ n - 0
+all_left n = omega arith
+
 pub copied_none : (es marks : List (ℕ × SeenPiece)) (numbers : List ℕ) (len : ℕ) → IsTiled marks → total_len marks ≡ len → length numbers ≡ len → bytes_in marks ≡ replicate len Uninit
     → IsCopied es marks numbers len 0
 copied_none es marks numbers len tiled whole all is =
-    let s = record { tiled = tiled; whole = whole; all = all } in
+    let s : IsStamped marks numbers len = record { tiled = tiled; whole = whole; all = all } in
     record {
       sound = s;
-      bytes_are = stamped_bytes marks numbers len s ∙ ap (stamp numbers) is ∙ stamp_uninit numbers len;
+      bytes_are = stamped_bytes marks numbers len s ∙ ap (stamp numbers) is ∙ stamp_uninit numbers len ∙ ap (λ n. replicate n Uninit) (all_left len);
     }
 
 pub copied_more : (es marks new : List (ℕ × SeenPiece)) (numbers after : List ℕ) (len at begin : ℕ) (p : SeenPiece) → IsTiled es → total_len es ≡ len → Holds es at begin p
@@ -444,4 +453,3 @@ part_whole p part len all is =
 -- marks and numbers, counted by the numbers
 pub stamped_here : (es : List (ℕ × SeenPiece)) (ns : List ℕ) (len : ℕ) → IsStamped es ns len → IsStamped es ns (length ns)
 stamped_here es ns len s = subst (λ (n : ℕ). IsStamped es ns n) (sym s.all) s
-

@@ -15,8 +15,8 @@ use Rattle.mr_runs.specs.Placed.{bytes_in, total_len, Holds, IsPlaced, IsTiled}
 use Rattle.mr_runs.specs.Stamped.{IsStamped, entries_of, stamped, stamped_entry, stamped_piece}
 use Rattle.mr_runs.specs.Windows.{clipped_piece, first_piece, first_pieces, piece_past, pieces_past}
 use Rattle.mr_runs.proofs.FindLaws.{holds_start, placed_rest, tiled_as}
-use Rattle.mr_runs.proofs.PlacedLaws.{length-bytes_in, total_len-append, values_of-append}
-use Rattle.mr_runs.proofs.StampLaws.{holds_stamped, slice_get-stamped, sound_length, sound_tiled, stamped_tiled}
+use Rattle.mr_runs.proofs.PlacedLaws.{total_len-append, values_of-append}
+use Rattle.mr_runs.proofs.StampLaws.{holds_behind, holds_stamped, slice_get-stamped, sound_length, sound_tiled, stamped_tiled}
 use Rattle.mr_runs.proofs.WindowLaws.{bytes_of_pieces-first, bytes_of_pieces-past, maximal_first, maximal_past, piece_len-past, piece_past-zero}
 use Rattle.mr_base.proofs.Lists.{slice_get-drop, slice_get-take}
 
@@ -216,7 +216,20 @@ pub stamped_piece_from : (es : List (ℕ × SeenPiece)) (ns : List ℕ) (all fro
     ≡ clipped_entry (option_map (stamped_entry ns) (slice_get ((first, p) ∷ h.behind) n)) from (from + len)
 stamped_piece_from es ns all from len n first p s h some =
     piece_from_holder (stamped ns es) from len n first (stamped_piece (drop first ns) p) (stamped_tiled es ns all s) (holds_stamped es ns all from first p s h) some
+    ∙ ap (λ (xs : List (ℕ × SeenPiece)). clipped_entry (slice_get ((first, stamped_piece (drop first ns) p) ∷ xs) n) from (from + len)) (holds_behind es ns all from first p s h)
     ∙ ap (λ o. clipped_entry o from (from + len)) (slice_get-stamped ns ((first, p) ∷ h.behind) n)
+
+lower : (m n : ℕ) → m ≤ n → m ≡ min m n
+lower m n h = omega (arith, h)
+
+upper : (m n : ℕ) → n ≤ m → n ≡ min m n
+upper m n h = omega (arith, h)
+
+take_of_take : (a b : ℕ) (xs : List ℕ) → take a (take b xs) ≡ take (min a b) xs
+take_of_take a b xs = ⊎_elim
+    (λ less. take-take a b xs (omega arith) ∙ ap (λ k. take k xs) (lower a b (omega arith)))
+    (λ more. take_all a (take b xs) (omega (arith, length-take b xs)) ∙ ap (λ k. take k xs) (upper a b more))
+    (cases_lt a b)
 
 -- what a window has of a piece that takes its numbers from a list
 pub clipped_stamped : (ns own : List ℕ) (provenance : Option AllocId) (begin from to : ℕ) → begin < to → from ≤ to → from < begin + length own → begin + length own ≤ length ns
@@ -238,18 +251,6 @@ clipped_stamped ns own provenance begin from to lt le inside all =
     numbers : take (to - begin - (from - begin)) (drop (from - begin) (take (length own) (drop begin ns)))
         ≡ take (min (to - begin - (from - begin)) (length own - (from - begin))) (drop (begin + (from - begin)) ns)
     numbers = ap (take (to - begin - (from - begin))) rest ∙ take_of_take (to - begin - (from - begin)) (length own - (from - begin)) (drop (begin + (from - begin)) ns)
-
-    take_of_take : (a b : ℕ) (xs : List ℕ) → take a (take b xs) ≡ take (min a b) xs
-    take_of_take a b xs = ⊎_elim
-        (λ less. take-take a b xs (omega arith) ∙ ap (λ k. take k xs) (lower a b (omega arith)))
-        (λ more. take_all a (take b xs) (omega (arith, length-take b xs)) ∙ ap (λ k. take k xs) (upper a b more))
-        (cases_lt a b)
-      where
-        lower : (m n : ℕ) → m ≤ n → m ≡ min m n
-        lower m n h = omega (arith, h)
-
-        upper : (m n : ℕ) → n ≤ m → n ≡ min m n
-        upper m n h = omega (arith, h)
 
 pub clipped_none : (p : SeenPiece) (begin from to : ℕ) → to ≤ begin → clipped_piece p begin from to ≡ None
 clipped_none p begin from to le = clipped_behind (begin, p) from to le

@@ -1,6 +1,6 @@
 //! What is kept of the bytes of an allocation: runs with their numbers, until a change would copy much. From then on the
 //! marks stand apart, and a change costs what it changes and the search for it.
-ghost use Rattle.std.specs.Prelude.{◌≡◌, ℕ, ◌+◌, ◌<◌, ◌≤◌, false, length, replicate, IfOk, IsTrue, OnErr, OnOk};
+ghost use Rattle.std.specs.Prelude.{◌≡◌, ℕ, ◌+◌, ◌<◌, ◌≤◌, ◌^◌, false, length, replicate, IfOk, IsTrue, OnErr, OnOk};
 ghost use Rattle.mr_base.specs.declared.byte.AbstractByte.TheVariants.{Uninit};
 ghost use Rattle.mr_runs.specs.Pieces.{bytes_of_piece, piece_len};
 ghost use Rattle.mr_runs.specs.Placed.{bytes_in, total_len, IsReplaced, IsTiled};

@@ -1,8 +1,21 @@
-use Rattle.std.proofs.Common.{ℕ, List, subst, arith}
+use Rattle.std.proofs.Common.{ℕ, List, [], refl, sym, subst, arith}
+use Rattle.std.proofs.lemmas.List.{append-nil}
 use Rattle.mr_runs.specs.Exchanged.{IsSettled}
 use Rattle.mr_runs.specs.Pieces.{SeenPiece}
 use Rattle.mr_runs.proofs.ExchangeLaws.{next_below, next_taken, settled_step}
 use Rattle.mr_runs.proofs.exchange.settle.Goals as goal
+
+pub loop-at-init : goal.loop-at-init
+loop-at-init g c =
+    let fits = c.requires.row.fits in
+    record {
+      put = [];
+      is = sym (append-nil c.args.row.items);
+      last_is = omega (arith, fits);
+      before = λ q lt. refl;
+      within = λ q low high. absurd (omega (arith, low, high));
+      behind = λ q le. refl;
+    }
 
 pub overflow_add-at : goal.overflow_add-at
 overflow_add-at g c =

@@ -1,10 +1,10 @@
-use Rattle.std.proofs.Common.{◌≡◌, ◌∙◌, ◌+◌, ◌-◌, ◌<◌, ◌≤◌, ℕ, List, length, replicate, refl, sym, ap, subst, arith}
+use Rattle.std.proofs.Common.{◌≡◌, ◌∙◌, ◌+◌, ℕ, length, sym, ap, subst, arith}
 use Rattle.std.proofs.lemmas.List.{length-replicate}
 use Rattle.mr_runs.specs.Pieces.{SeenPiece, bytes_of_piece, piece_len}
 use Rattle.mr_runs.specs.Seen.{seen_piece}
 use Rattle.mr_runs.specs.Stamped.{IsStampedAnew}
 use Rattle.mr_runs.proofs.FindLaws.{holds_end}
-use Rattle.mr_runs.proofs.StampLaws.{copied_all, copied_more, copied_none, part_whole}
+use Rattle.mr_runs.proofs.StampLaws.{IsCopied, copied_all, copied_more, copied_none, part_whole}
 use Rattle.mr_runs.proofs.kept.apart_of.Goals as goal
 
 pub loop-at-init : goal.loop-at-init
@@ -39,7 +39,7 @@ put_apart-requires-clause-some c =
 pub overflow_add-at : goal.overflow_add-at
 overflow_add-at c =
     let end = holds_end c.args.runs.now.entries c.loop-at.at c.run_at-begin.result.0 c.run_at-begin.result.1.now c.requires.tiled c.run_at-begin.ensures in
-    omega (arith, end, c.requires.whole, c.len-2.ensures)
+    omega (arith, end, c.requires.whole, c.len-in-loop-at.ensures)
 
 pub loop-at-preserved : goal.loop-at-preserved
 loop-at-preserved c =
@@ -47,9 +47,10 @@ loop-at-preserved c =
     let begin = c.run_at-begin.result.0 in
     let p = c.run_at-begin.result.1.now in
     let is : seen_piece c.part-piece.result ≡ p = part_whole p (seen_piece c.part-piece.result) c.len.result c.len.ensures c.part-piece.ensures in
-    let anew = subst (λ (q : SeenPiece). IsStampedAnew c.loop-at.marks.entries c.put_apart.new.marks.entries c.loop-at.numbers.items c.put_apart.new.numbers.items c.args.len begin (bytes_of_piece q)) is c.in_ok-put_apart.ensures in
-    copied_more es c.loop-at.marks.entries c.put_apart.new.marks.entries c.loop-at.numbers.items c.put_apart.new.numbers.items c.args.len c.loop-at.at begin p
-    c.requires.tiled c.requires.whole c.run_at-begin.ensures c.loop-at.invariant anew
+    let anew = subst (λ (q : SeenPiece). IsStampedAnew c.loop-at.marks.entries c.put_apart.new.marks.entries c.loop-at.numbers.items c.put_apart.new.numbers.items c.args.len begin (bytes_of_piece q)) is c.in_ok-put_apart.ensures.ok in
+    subst (λ (n : ℕ). IsCopied es c.put_apart.new.marks.entries c.put_apart.new.numbers.items c.args.len (begin + n)) (sym c.len-in-loop-at.ensures)
+    (copied_more es c.loop-at.marks.entries c.put_apart.new.marks.entries c.loop-at.numbers.items c.put_apart.new.numbers.items c.args.len c.loop-at.at begin p
+    c.requires.tiled c.requires.whole c.run_at-begin.ensures c.loop-at.invariant anew)
 
 pub returns-clause-sound : goal.returns-clause-sound
 returns-clause-sound c = c.loop-at.invariant.sound

@@ -1,15 +1,15 @@
-use Rattle.std.proofs.Common.{◌≡◌, ◌∙◌, ◌+◌, ◌<◌, ◌≤◌, ℕ, List, false, true, length, map, refl, sym, ap, subst, arith}
+use Rattle.std.proofs.Common.{sym, subst, arith}
 use Rattle.mr_runs.specs.declared.kept.Kept.{Kept}
-use Rattle.mr_runs.specs.declared.kept.Kept.TheVariants.{Whole, Split}
+use Rattle.mr_runs.specs.declared.kept.Kept.TheVariants.{Whole}
 use Rattle.mr_runs.specs.Stamped.{IsChanged, IsSame, IsSound}
 use Rattle.mr_runs.proofs.KeptLaws.{same_here, whole_changed, whole_same}
 use Rattle.mr_runs.proofs.kept.bytes_in_place.Goals as goal
 
-pub write_in_place-requires-in-Whole-clause-tiled : goal.write_in_place-requires-in-Whole-clause-tiled
-write_in_place-requires-in-Whole-clause-tiled c = (subst (λ (k : Kept). IsSound k c.args.len) c.in-Whole.is c.requires.sound).0
+pub write_in_place-requires-clause-tiled : goal.write_in_place-requires-clause-tiled
+write_in_place-requires-clause-tiled c = (subst (λ (k : Kept). IsSound k c.args.len) c.in-Whole.is c.requires.sound).0
 
-pub write_in_place-requires-in-Whole-clause-inside : goal.write_in_place-requires-in-Whole-clause-inside
-write_in_place-requires-in-Whole-clause-inside c = let whole = (subst (λ (k : Kept). IsSound k c.args.len) c.in-Whole.is c.requires.sound).1 in omega (arith, whole, c.requires.inside)
+pub write_in_place-requires-clause-inside : goal.write_in_place-requires-clause-inside
+write_in_place-requires-clause-inside c = let whole = (subst (λ (k : Kept). IsSound k c.args.len) c.in-Whole.is c.requires.sound).1 in omega (arith, whole, c.requires.inside)
 
 pub returns-in-Whole-clause-done : goal.returns-in-Whole-clause-done
 returns-in-Whole-clause-done c = λ yes.

@@ -1,4 +1,4 @@
-use Rattle.std.proofs.Common.{◌≡◌, ◌∙◌, ◌+◌, ◌<◌, ◌≤◌, ℕ, List, false, true, length, map, refl, sym, ap, subst, arith}
+use Rattle.std.proofs.Common.{◌≡◌, ◌∙◌, ◌+◌, ◌≤◌, ℕ, List, length, map, ap, arith}
 use Rattle.std.proofs.lemmas.List.{length-map, with_items_is}
 use Rattle.mr_runs.specs.Numbers.{number_of}
 use Rattle.mr_runs.specs.Ranges.{with_range_replaced}
@@ -20,4 +20,4 @@ returns-clause-ok c =
     let fits : c.args.from + length (map number_of bytes) ≤ length ns = omega (arith, all, c.requires.inside, length-map bytes number_of) in
     let len : length c.put_numbers.new.numbers ≡ c.args.numbers.now.len = omega (arith, ap length new, length-with_range_replaced ns c.args.from (map number_of bytes) fits, c.args.numbers.now.ok.0) in
     let is = with_items_is c.args.numbers.now c.put_numbers.new.numbers len ∙ new in
-    mixed_anew es c.set_marks.new.marks.entries ns _ c.args.len c.args.from bytes c.requires.sound c.requires.inside c.in_ok-set_marks.ensures is
+    mixed_anew es c.set_marks.new.marks.entries ns _ c.args.len c.args.from bytes c.requires.sound c.requires.inside c.in_ok-set_marks.ensures.ok is

@@ -1,16 +1,16 @@
-use Rattle.std.proofs.Common.{◌≡◌, ◌∙◌, ◌+◌, ◌<◌, ◌≤◌, ℕ, List, false, true, length, map, refl, sym, ap, subst, arith}
+use Rattle.std.proofs.Common.{sym, subst}
 use Rattle.std.proofs.lemmas.Result.{IfOk-weaker, on_err_weaker}
 use Rattle.mr_runs.specs.declared.kept.Kept.{Kept}
-use Rattle.mr_runs.specs.declared.kept.Kept.TheVariants.{Whole, Split}
+use Rattle.mr_runs.specs.declared.kept.Kept.TheVariants.{Whole}
 use Rattle.mr_runs.specs.Stamped.{IsChanged, IsSame, IsSound}
-use Rattle.mr_runs.proofs.KeptLaws.{same_here, whole_changed, whole_same}
+use Rattle.mr_runs.proofs.KeptLaws.{whole_changed, whole_same}
 use Rattle.mr_runs.proofs.kept.mixed_if_whole.Goals as goal
 
-pub mixed_whole-requires-in-Whole-clause-tiled : goal.mixed_whole-requires-in-Whole-clause-tiled
-mixed_whole-requires-in-Whole-clause-tiled c = (subst (λ (k : Kept). IsSound k c.args.len) c.in-Whole.is c.requires.sound).0
+pub mixed_whole-requires-clause-tiled : goal.mixed_whole-requires-clause-tiled
+mixed_whole-requires-clause-tiled c = (subst (λ (k : Kept). IsSound k c.args.len) c.in-Whole.is c.requires.sound).0
 
-pub mixed_whole-requires-in-Whole-clause-whole : goal.mixed_whole-requires-in-Whole-clause-whole
-mixed_whole-requires-in-Whole-clause-whole c = (subst (λ (k : Kept). IsSound k c.args.len) c.in-Whole.is c.requires.sound).1
+pub mixed_whole-requires-clause-whole : goal.mixed_whole-requires-clause-whole
+mixed_whole-requires-clause-whole c = (subst (λ (k : Kept). IsSound k c.args.len) c.in-Whole.is c.requires.sound).1
 
 pub returns-in-Whole-clause-done : goal.returns-in-Whole-clause-done
 returns-in-Whole-clause-done c =

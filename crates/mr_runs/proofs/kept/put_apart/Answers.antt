@@ -1,12 +1,11 @@
-use Rattle.std.proofs.Common.{◌≡◌, ◌∙◌, ◌+◌, ◌<◌, ◌≤◌, ℕ, List, false, true, length, map, refl, sym, ap, subst, arith}
+use Rattle.std.proofs.Common.{◌≡◌, ◌∙◌, ◌+◌, ◌≤◌, ℕ, List, length, ap, subst, arith}
 use Rattle.std.proofs.lemmas.List.{with_items_is}
 use Rattle.mr_runs.specs.Contents.{marked_piece}
 use Rattle.mr_runs.specs.Exchanged.{numbers_of}
-use Rattle.mr_runs.specs.Pieces.{SeenPiece, bytes_of_piece, mark_of, piece_len}
+use Rattle.mr_runs.specs.Pieces.{bytes_of_piece, mark_of, piece_len}
 use Rattle.mr_runs.specs.Placed.{IsReplaced}
 use Rattle.mr_runs.specs.Ranges.{with_range_replaced}
 use Rattle.mr_runs.specs.Seen.{seen_piece}
-use Rattle.mr_runs.specs.Stamped.{IsStampedAnew}
 use Rattle.mr_runs.proofs.StampLaws.{numbers_within, put_anew}
 use Rattle.mr_runs.proofs.RangeLaws.{length-with_range_replaced}
 use Rattle.mr_runs.proofs.kept.put_apart.Goals as goal
@@ -31,5 +30,5 @@ returns-clause-ok c =
     let is = with_items_is c.args.numbers.now c.replace_numbers.new.numbers len ∙ new in
     let marks : IsReplaced es c.set_mark.new.marks.entries c.args.from (bytes_of_piece (marked_piece (piece_len p) (mark_of p))) =
     subst (λ m. IsReplaced es c.set_mark.new.marks.entries c.args.from (bytes_of_piece (marked_piece (piece_len p) m))) c.mark.ensures
-    (subst (λ n. IsReplaced es c.set_mark.new.marks.entries c.args.from (bytes_of_piece (marked_piece n c.mark.result))) c.len.ensures c.in_ok-set_mark.ensures) in
+    (subst (λ n. IsReplaced es c.set_mark.new.marks.entries c.args.from (bytes_of_piece (marked_piece n c.mark.result))) c.len.ensures c.in_ok-set_mark.ensures.ok) in
     put_anew es c.set_mark.new.marks.entries ns _ c.args.len c.args.from p c.requires.sound c.requires.inside marks is

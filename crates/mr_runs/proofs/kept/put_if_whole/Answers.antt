@@ -1,18 +1,18 @@
-use Rattle.std.proofs.Common.{◌≡◌, ◌∙◌, ◌+◌, ◌<◌, ◌≤◌, ℕ, List, false, true, length, map, refl, sym, ap, subst, arith}
+use Rattle.std.proofs.Common.{sym, subst}
 use Rattle.std.proofs.lemmas.Result.{IfOk-weaker, on_err_weaker}
 use Rattle.mr_runs.specs.declared.kept.Kept.{Kept}
-use Rattle.mr_runs.specs.declared.kept.Kept.TheVariants.{Whole, Split}
-use Rattle.mr_runs.specs.Pieces.{bytes_of_piece, piece_len}
+use Rattle.mr_runs.specs.declared.kept.Kept.TheVariants.{Whole}
+use Rattle.mr_runs.specs.Pieces.{bytes_of_piece}
 use Rattle.mr_runs.specs.Seen.{seen_piece}
 use Rattle.mr_runs.specs.Stamped.{IsChanged, IsSame, IsSound}
-use Rattle.mr_runs.proofs.KeptLaws.{same_here, whole_changed, whole_same}
+use Rattle.mr_runs.proofs.KeptLaws.{whole_changed, whole_same}
 use Rattle.mr_runs.proofs.kept.put_if_whole.Goals as goal
 
-pub put_whole-requires-in-Whole-clause-tiled : goal.put_whole-requires-in-Whole-clause-tiled
-put_whole-requires-in-Whole-clause-tiled c = (subst (λ (k : Kept). IsSound k c.args.len) c.in-Whole.is c.requires.sound).0
+pub put_whole-requires-clause-tiled : goal.put_whole-requires-clause-tiled
+put_whole-requires-clause-tiled c = (subst (λ (k : Kept). IsSound k c.args.len) c.in-Whole.is c.requires.sound).0
 
-pub put_whole-requires-in-Whole-clause-whole : goal.put_whole-requires-in-Whole-clause-whole
-put_whole-requires-in-Whole-clause-whole c = (subst (λ (k : Kept). IsSound k c.args.len) c.in-Whole.is c.requires.sound).1
+pub put_whole-requires-clause-whole : goal.put_whole-requires-clause-whole
+put_whole-requires-clause-whole c = (subst (λ (k : Kept). IsSound k c.args.len) c.in-Whole.is c.requires.sound).1
 
 pub returns-in-Whole-clause-done : goal.returns-in-Whole-clause-done
 returns-in-Whole-clause-done c =

@@ -1,16 +1,15 @@
-use Rattle.std.proofs.Common.{◌≡◌, ◌∙◌, ◌+◌, ◌<◌, ◌≤◌, ℕ, List, false, true, length, map, refl, sym, ap, subst, arith}
+use Rattle.std.proofs.Common.{◌∙◌, sym, ap, subst}
 use Rattle.mr_runs.specs.declared.kept.Kept.{Kept}
-use Rattle.mr_runs.specs.declared.kept.Kept.TheVariants.{Whole, Split}
 use Rattle.mr_runs.specs.Stamped.{IsSame, IsSound, entries_of}
 use Rattle.mr_runs.specs.Placed.{bytes_in}
 use Rattle.mr_runs.proofs.KeptLaws.{same_here}
 use Rattle.mr_runs.proofs.kept.set_apart.Goals as goal
 
-pub apart_of-apart-requires-in-Whole-clause-tiled : goal.apart_of-apart-requires-in-Whole-clause-tiled
-apart_of-apart-requires-in-Whole-clause-tiled c = (subst (λ (k : Kept). IsSound k c.args.len) c.in-Whole.is c.requires).0
+pub apart_of-requires-clause-tiled : goal.apart_of-requires-clause-tiled
+apart_of-requires-clause-tiled c = (subst (λ (k : Kept). IsSound k c.args.len) c.in-Whole.is c.requires).0
 
-pub apart_of-apart-requires-in-Whole-clause-whole : goal.apart_of-apart-requires-in-Whole-clause-whole
-apart_of-apart-requires-in-Whole-clause-whole c = (subst (λ (k : Kept). IsSound k c.args.len) c.in-Whole.is c.requires).1
+pub apart_of-requires-clause-whole : goal.apart_of-requires-clause-whole
+apart_of-requires-clause-whole c = (subst (λ (k : Kept). IsSound k c.args.len) c.in-Whole.is c.requires).1
 
 pub returns-in_ok-apart-in-Whole-clause-same : goal.returns-in_ok-apart-in-Whole-clause-same
 returns-in_ok-apart-in-Whole-clause-same c = record {
@@ -19,7 +18,7 @@ returns-in_ok-apart-in-Whole-clause-same c = record {
 }
 
 pub returns-in_err-apart-in-Whole-clause-same : goal.returns-in_err-apart-in-Whole-clause-same
-returns-in_err-apart-in-Whole-clause-same c = same_here c.args.kept.now c.args.len c.requires
+returns-in_err-apart-in-Whole-clause-same c = subst (λ (k : Kept). IsSame c.args.kept.now k c.args.len) c.in-Whole.is (same_here c.args.kept.now c.args.len c.requires)
 
 pub returns-in-Split-clause-same : goal.returns-in-Split-clause-same
 returns-in-Split-clause-same c = same_here c.args.kept.now c.args.len c.requires

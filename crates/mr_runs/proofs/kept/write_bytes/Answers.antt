@@ -1,42 +1,42 @@
-use Rattle.std.proofs.Common.{◌≡◌, ◌∙◌, ◌+◌, ◌<◌, ◌≤◌, ℕ, List, length, map, sym, ap, subst, arith}
+use Rattle.std.proofs.Common.{◌≡◌, ◌∙◌, List, length, sym, ap, subst, arith}
 use Rattle.std.proofs.lemmas.List.{length-map}
 use Rattle.std.proofs.lemmas.Result.{on_err_weaker, on_ok_weaker}
 use Rattle.mr_base.specs.declared.byte.AbstractByte.{AbstractByte}
 use Rattle.mr_runs.specs.Numbers.{number_of, with_provenance}
 use Rattle.mr_runs.specs.Stamped.{IsChanged}
-use Rattle.mr_runs.proofs.KeptLaws.{changed_behind, same_trans}
+use Rattle.mr_runs.proofs.KeptLaws.{changed_behind, on_err_always, same_trans}
 use Rattle.mr_runs.proofs.kept.write_bytes.Goals as goal
 
-pub put_piece-requires-in-Some-clause-sound : goal.put_piece-requires-in-Some-clause-sound
-put_piece-requires-in-Some-clause-sound c = (c.bytes_in_place.ensures.not_done c.if-bytes_in_place.false).sound
+pub put_piece-requires-clause-sound : goal.put_piece-requires-clause-sound
+put_piece-requires-clause-sound c = (c.bytes_in_place.ensures.not_done c.if-bytes_in_place.false).sound
 
-pub put_piece-requires-in-Some-clause-inside : goal.put_piece-requires-in-Some-clause-inside
-put_piece-requires-in-Some-clause-inside c =
+pub put_piece-requires-clause-inside : goal.put_piece-requires-clause-inside
+put_piece-requires-clause-inside c =
     omega (arith, c.requires.inside, ap length (c.as_slice.ensures.value ∙ c.in_ok-numbers-in-Some.ensures), length-map c.args.bytes.now number_of)
 
-pub put_piece-requires-in-Some-clause-some : goal.put_piece-requires-in-Some-clause-some
-put_piece-requires-in-Some-clause-some c =
+pub put_piece-requires-clause-some : goal.put_piece-requires-clause-some
+put_piece-requires-clause-some c =
     omega (arith, c.requires.some, ap length (c.as_slice.ensures.value ∙ c.in_ok-numbers-in-Some.ensures), length-map c.args.bytes.now number_of)
 
-pub put_mixed-requires-in-None-clause-sound : goal.put_mixed-requires-in-None-clause-sound
-put_mixed-requires-in-None-clause-sound c = (c.bytes_in_place.ensures.not_done c.if-bytes_in_place.false).sound
+pub put_mixed-requires-clause-sound : goal.put_mixed-requires-clause-sound
+put_mixed-requires-clause-sound c = (c.bytes_in_place.ensures.not_done c.if-bytes_in_place.false).sound
 
 pub returns-in_err-numbers-in-Some-clause-err : goal.returns-in_err-numbers-in-Some-clause-err
-returns-in_err-numbers-in-Some-clause-err c = c.bytes_in_place.ensures.not_done c.if-bytes_in_place.false
+returns-in_err-numbers-in-Some-clause-err c = on_err_always c.from_residual.result (c.bytes_in_place.ensures.not_done c.if-bytes_in_place.false)
 
-pub returns-in-Some-clause-ok : goal.returns-in-Some-clause-ok
-returns-in-Some-clause-ok c =
+pub returns-in_ok-numbers-in-Some-clause-ok : goal.returns-in_ok-numbers-in-Some-clause-ok
+returns-in_ok-numbers-in-Some-clause-ok c =
     let bytes = c.args.bytes.now in
     let before = c.bytes_in_place.ensures.not_done c.if-bytes_in_place.false in
     let same : with_provenance c.in-Some.provenance c.as_slice.result.now ≡ bytes =
-    ap (with_provenance c.in-Some.provenance) (c.as_slice.ensures.value ∙ c.in_ok-numbers-in-Some.ensures) ∙ sym c.in-Some.ensures.1 in
+    ap (with_provenance c.in-Some.provenance) (c.as_slice.ensures.value ∙ c.in_ok-numbers-in-Some.ensures) ∙ sym c.in-Some.ensures.some.1 in
     on_ok_weaker c.put_piece.result
     (λ changed. changed_behind c.args.kept.now c.bytes_in_place.new.kept c.put_piece.new.kept c.args.len c.args.from bytes before
     (subst (λ (bs : List AbstractByte). IsChanged c.bytes_in_place.new.kept c.put_piece.new.kept c.args.len c.args.from bs) same changed))
     c.put_piece.ensures.ok
 
-pub returns-in-Some-clause-err : goal.returns-in-Some-clause-err
-returns-in-Some-clause-err c =
+pub returns-in_ok-numbers-in-Some-clause-err : goal.returns-in_ok-numbers-in-Some-clause-err
+returns-in_ok-numbers-in-Some-clause-err c =
     let before = c.bytes_in_place.ensures.not_done c.if-bytes_in_place.false in
     on_err_weaker c.put_piece.result (λ same. same_trans c.args.kept.now c.bytes_in_place.new.kept c.put_piece.new.kept c.args.len before same) c.put_piece.ensures.err
 

@@ -1,4 +1,4 @@
-use Rattle.std.proofs.Common.{◌≡◌, ◌∙◌, ◌+◌, ◌-◌, ◌≤◌, sym, ap, arith}
+use Rattle.std.proofs.Common.{◌≡◌, ◌∙◌, ◌+◌, ◌-◌, sym, ap, arith}
 use Rattle.mr_runs.specs.Contents.{marked_piece}
 use Rattle.mr_runs.specs.Pieces.{SeenPiece, piece_len}
 use Rattle.mr_runs.specs.Windows.{first_piece, piece_past}
@@ -17,8 +17,8 @@ overflow_add-end c =
     let whole : piece_len p ≡ c.told-count.result.0 = ap piece_len c.told-count.ensures ∙ piece_len-marked c.told-count.result.0 c.told-count.result.1 in
     omega (arith, end, whole, c.requires.whole)
 
-pub overflow_sub : goal.overflow_sub
-overflow_sub c =
+pub overflow_sub-end : goal.overflow_sub-end
+overflow_sub-end c =
     let p = c.run_at-begin.result.1.now in
     let high = c.run_at-begin.ensures.to in
     let whole : piece_len p ≡ c.told-count.result.0 = ap piece_len c.told-count.ensures ∙ piece_len-marked c.told-count.result.0 c.told-count.result.1 in

@@ -1,5 +1,4 @@
-use Rattle.std.proofs.Common.{◌≡◌, ◌∙◌, ℕ, ◌+◌, ◌-◌, ◌≤◌, List, [], ◌∷◌, ◌++◌, take, sym, ap, subst, arith}
-use Rattle.mr_runs.specs.Contents.{marked_piece}
+use Rattle.std.proofs.Common.{◌≡◌, ◌∙◌, ℕ, ◌-◌, List, [], ◌∷◌, ◌++◌, take, sym, ap, subst, arith}
 use Rattle.mr_runs.specs.Exchanged.{IsBegun}
 use Rattle.mr_runs.specs.Pieces.{SeenPiece, piece_len}
 use Rattle.mr_runs.specs.Placed.{bytes_in}

@@ -1,9 +1,8 @@
-use Rattle.std.proofs.Common.{◌≡◌, ◌∙◌, ℕ, ◌+◌, ◌≤◌, List, [], ◌∷◌, ◌++◌, Some, sym, ap, inl, inr, refl, arith}
+use Rattle.std.proofs.Common.{◌≡◌, ◌∙◌, ℕ, List, [], ◌∷◌, ◌++◌, Some, sym, ap, inl, inr, arith}
 use Rattle.std.specs.Map.{values_of}
 use Rattle.std.proofs.lemmas.Bool.{both_ways}
 use Rattle.std.proofs.lemmas.Option.{same_Some}
 use Rattle.std.proofs.lemmas.Result.{on_ok_weaker}
-use Rattle.mr_runs.specs.declared.mark.Mark.{Mark}
 use Rattle.mr_runs.specs.Contents.{marked_piece}
 use Rattle.mr_runs.specs.Exchanged.{last_mark, together}
 use Rattle.mr_runs.specs.Pieces.{SeenPiece, mark_of, piece_len}
@@ -13,8 +12,8 @@ use Rattle.mr_runs.proofs.RowLaws.{last_of_push}
 use Rattle.mr_runs.proofs.StampLaws.{mark_of-marked, piece_len-marked, together_marked}
 use Rattle.mr_runs.proofs.marks.push_mark.Goals as goal
 
-pub overflow_add : goal.overflow_add
-overflow_add c =
+pub overflow_add-before : goal.overflow_add-before
+overflow_add-before c =
     let room = c.requires.room in
     let fits = c.requires.fits in
     let whole : piece_len c.in-Some.run' ≡ c.told-before.result.0 = ap piece_len c.told-before.ensures ∙ piece_len-marked c.told-before.result.0 c.told-before.result.1 in

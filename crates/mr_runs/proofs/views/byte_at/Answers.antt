@@ -1,14 +1,13 @@
-use Rattle.std.proofs.Common.{◌∙◌, List, Option, Some, ap, subst}
+use Rattle.std.proofs.Common.{◌∙◌, ap, subst}
 use Rattle.std.specs.Prelude.{option_copied, slice_get}
-use Rattle.mr_runs.specs.declared.kept.Kept.{Kept}
 use Rattle.mr_runs.specs.Lent.{lent_pieces, IsLent}
 use Rattle.mr_runs.specs.Pieces.{bytes_of_pieces}
 use Rattle.mr_runs.specs.Stamped.{entries_of}
 use Rattle.mr_runs.proofs.ViewLaws.{lent_byte, window_byte}
 use Rattle.mr_runs.proofs.views.byte_at.Goals as goal
 
-pub byte_of-requires-in-Some : goal.byte_of-requires-in-Some
-byte_of-requires-in-Some c =
+pub byte_of-requires : goal.byte_of-requires
+byte_of-requires c =
     lent_byte c.in-Some.kept.now c.args.from c.args.len c.args.at c.requires.inside
     (subst (λ o. IsLent (option_copied o) c.args.from c.args.len) c.in-Some.is c.requires.lent)
 

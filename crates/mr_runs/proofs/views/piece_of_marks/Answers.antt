@@ -1,15 +1,15 @@
-use Rattle.std.proofs.Common.{◌≡◌, ◌∙◌, ◌+◌, ◌-◌, ◌<◌, ◌≤◌, ℕ, List, Some, ◌∷◌, drop, length, sym, ap, arith}
+use Rattle.std.proofs.Common.{◌∙◌, ◌+◌, ℕ, List, length, sym, ap, arith}
 use Rattle.std.specs.Prelude.{option_map, slice_get}
 use Rattle.std.specs.Map.{values_of}
-use Rattle.mr_runs.specs.Pieces.{SeenPiece, piece_len}
+use Rattle.mr_runs.specs.Pieces.{SeenPiece}
 use Rattle.mr_runs.specs.Stamped.{stamped, stamped_entry}
 use Rattle.mr_runs.specs.Windows.{first_pieces, pieces_past}
 use Rattle.mr_runs.proofs.FindLaws.{begun_from-holder, holds_end}
 use Rattle.mr_runs.proofs.ViewLaws.{clipped_entry, none_of, nth_ends, nth_within, stamped_piece_from}
 use Rattle.mr_runs.proofs.views.piece_of_marks.Goals as goal
 
-pub run_at-requires-clause-inside : goal.run_at-requires-clause-inside
-run_at-requires-clause-inside c = let whole = c.requires.sound.whole in omega (arith, c.requires.inside, whole)
+pub run_at-first-requires-clause-inside : goal.run_at-first-requires-clause-inside
+run_at-first-requires-clause-inside c = let whole = c.requires.sound.whole in omega (arith, c.requires.inside, whole)
 
 pub returns-then-len-eq0 : goal.returns-then-len-eq0
 returns-then-len-eq0 c =

@@ -5,7 +5,7 @@ use Rattle.mr_runs.specs.Numbers.{with_numbers_at, TakesNumbers}
 use Rattle.mr_runs.specs.Pieces.{SeenPiece, InitPiece}
 use Rattle.mr_runs.specs.Ranges.{with_range_replaced}
 use Rattle.mr_runs.proofs.RangeLaws.{length-with_range_replaced}
-use Rattle.mr_runs.proofs.run.Run+VecU8.put_numbers.Goals as goal
+use Rattle.mr_runs.proofs.run.Run+Vec+u8.put_numbers.Goals as goal
 
 pub returns : goal.returns
 returns c =

@@ -5,7 +5,7 @@ use Rattle.mr_runs.specs.Numbers.{number_of, IsInPlace}
 use Rattle.mr_runs.specs.Pieces.{SeenPiece, InitPiece, bytes_of_piece}
 use Rattle.mr_runs.specs.Ranges.{with_range_replaced}
 use Rattle.mr_runs.proofs.InPlaceLaws.{bytes_put, len_put}
-use Rattle.mr_runs.proofs.run.Run+VecU8.put.Goals as goal
+use Rattle.mr_runs.proofs.run.Run+Vec+u8.put.Goals as goal
 
 pub returns-clause-bytes_are : goal.returns-clause-bytes_are
 returns-clause-bytes_are c =
