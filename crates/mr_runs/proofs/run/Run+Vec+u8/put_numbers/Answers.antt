@@ -5,7 +5,7 @@ use Rattle.mr_runs.specs.Numbers.{with_numbers_at, TakesNumbers}
 use Rattle.mr_runs.specs.Pieces.{SeenPiece, InitPiece}
 use Rattle.mr_runs.specs.Ranges.{with_range_replaced}
 use Rattle.mr_runs.proofs.RangeLaws.{length-with_range_replaced}
-use Rattle.mr_runs.proofs.run.Run.put_numbers.Goals as goal
+use Rattle.mr_runs.proofs.run.Run+Vec+u8.put_numbers.Goals as goal
 
 pub returns : goal.returns
 returns c =
@@ -13,7 +13,7 @@ returns c =
     let numbers = c.args.numbers.now in
     let own = c.in-Bytes.own.items in
     let its = c.in-Bytes.field-1 in
-    let piece : InitPiece own its ≡ c.args.self.now = sym (ap piece_of_content c.in-Bytes.is) ∙ c.self.view_is in
+    let piece : InitPiece own its ≡ c.args.self.now = sym (ap (piece_of_content (λ v. v.items)) c.in-Bytes.is) ∙ c.self.view_is in
     let P : SeenPiece → Type 0 = λ p. TakesNumbers p at (length numbers) c.requires.0 in
     let inside : TakesNumbers (InitPiece own its) at (length numbers) c.requires.0 = subst P (sym piece) c.requires.1 in
     let new : c.replace_numbers.new.numbers ≡ with_range_replaced own at numbers =

@@ -5,7 +5,7 @@ use Rattle.mr_runs.specs.Numbers.{number_of, IsInPlace}
 use Rattle.mr_runs.specs.Pieces.{SeenPiece, InitPiece, bytes_of_piece}
 use Rattle.mr_runs.specs.Ranges.{with_range_replaced}
 use Rattle.mr_runs.proofs.InPlaceLaws.{bytes_put, len_put}
-use Rattle.mr_runs.proofs.run.Run.put.Goals as goal
+use Rattle.mr_runs.proofs.run.Run+Vec+u8.put.Goals as goal
 
 pub returns-clause-bytes_are : goal.returns-clause-bytes_are
 returns-clause-bytes_are c =
@@ -13,7 +13,7 @@ returns-clause-bytes_are c =
     let bytes = c.args.bytes.now in
     let numbers = c.in-Bytes.numbers.items in
     let provenance = c.in-Bytes.field-1 in
-    let piece : InitPiece numbers provenance ≡ c.args.self.now = sym (ap piece_of_content c.in-Bytes.is) ∙ c.self.view_is in
+    let piece : InitPiece numbers provenance ≡ c.args.self.now = sym (ap (piece_of_content (λ v. v.items)) c.in-Bytes.is) ∙ c.self.view_is in
     let P : SeenPiece → Type 0 = λ p. IsInPlace p at bytes in
     let inside : IsInPlace (InitPiece numbers provenance) at bytes = subst P (sym piece) c.requires in
     let new : c.put_numbers.new.numbers ≡ with_range_replaced numbers at (map number_of bytes) =
