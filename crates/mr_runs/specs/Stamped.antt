@@ -73,6 +73,7 @@ pub record IsChanged (old new : Kept) (len from : ℕ) (bytes : List AbstractByt
   pub bytes_are : bytes_in (entries_of new) ≡ with_range_replaced (bytes_in (entries_of old)) from bytes
 
 -- the same of pieces and their numbers
-pub record IsStampedAnew (old new : List (ℕ × SeenPiece)) (before after : List ℕ) (len from : ℕ) (bytes : List AbstractByte) : Type 0 where
+pub record IsStampedAnew (old new : List (ℕ × SeenPiece)) (before after : List ℕ) (len from : ℕ)
+    (bytes : List AbstractByte) : Type 0 where
   pub sound : IsStamped new after len
   pub bytes_are : bytes_in (stamped after new) ≡ with_range_replaced (bytes_in (stamped before old)) from bytes

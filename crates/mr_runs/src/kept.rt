@@ -393,7 +393,8 @@ fn mixed_apart(
     requires sound { IsStamped marks.old.entries numbers.old.items len }
     requires inside { from + length bytes.now ≤ len }
     requires some { 0 < length bytes.now }
-    ensures ok { OnOk result (IsStampedAnew marks.old.entries marks.new.entries numbers.old.items numbers.new.items len from bytes.now) }
+    ensures ok { OnOk result
+        (IsStampedAnew marks.old.entries marks.new.entries numbers.old.items numbers.new.items len from bytes.now) }
     ensures err_marks { OnErr result (marks.new.entries ≡ marks.old.entries) }
     ensures err_numbers { OnErr result (numbers.new.items ≡ numbers.old.items) }
 {
