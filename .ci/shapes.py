@@ -62,9 +62,6 @@ def of_turns():
                             turns.threaded(work, threads, order), size, plain=plain, most=TIMES + threads // 10)
 
 
-COPIED = "each makes a copy of the bytes of the run that it cuts"
-
-
 def of_memory():
     """Bytes that are made uninitialised."""
     middle = "one byte in the middle of %s emptied and stored, again and again"
@@ -72,10 +69,9 @@ def of_memory():
     moved = "16 threads that empty %s bytes of their own, 8 further on each time"
     yield Shape(middle % 64, "run P S", turns.emptied(64), STEPS)
     yield Shape(middle % f"{turns.MEBIBYTE:,}", "run P S", turns.emptied(turns.MEBIBYTE), 384, plain=middle % 64,
-                most=TIMES, is_open=COPIED)
+                most=TIMES)
     yield Shape(second % "stored", "run P S", turns.each_second("%s = u8 1"), STEPS)
-    yield Shape(second % "emptied", "run P S", turns.each_second("deinit %s"), 768, plain=second % "stored", most=TIMES,
-                is_open=COPIED)
+    yield Shape(second % "emptied", "run P S", turns.each_second("deinit %s"), 768, plain=second % "stored", most=TIMES)
     yield Shape(moved % 8, "run P S", turns.moved(8), 3 << 13)
     yield Shape(moved % f"{turns.MEBIBYTE:,}", "run P S", turns.moved(turns.MEBIBYTE), 3 << 13, plain=moved % 8,
                 most=TIMES, is_open="each meets all the ranges before it that lie over its own")
@@ -115,16 +111,14 @@ def of_traces():
     two = "two steps of many stores, %s"
     yield Shape(two % "those of one behind those of the other", "offline T", apart, 16000, end=NONE)
     yield Shape(two % "those of one between those of the other", "offline T", mixed, 2000, end=NONE,
-                plain=two % "those of one behind those of the other", most=TIMES,
-                is_open="each store of the one is compared with each of the other")
+                plain=two % "those of one behind those of the other", most=TIMES)
     single = lambda n: traced(stores(0, 8, 8, 8, n))
     over = lambda n: traced(stores(0, 8, 8, 1 << 40, n))
     for counted, size, more in (("instructions", 2000, 8), ("memory", 4000, 64)):
         one = "one step of many stores, %s" + ("" if counted == "instructions" else ", by memory")
         yield Shape(one % "none over another", "offline T", single, more * size, counted, NONE)
         yield Shape(one % "all over one another", "offline T", over, size, counted, NONE,
-                    plain=one % "none over another", most=TIMES,
-                    is_open="each store notes each one that it meets, also of its own step")
+                    plain=one % "none over another", most=TIMES)
 
 
 def leaking(count):

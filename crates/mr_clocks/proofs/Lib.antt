@@ -11,4 +11,5 @@ pub mod Noting
 pub mod Parts
 pub mod RowLaws
 pub mod SkipLaws
+pub mod SpanLaws
 pub mod Wholes

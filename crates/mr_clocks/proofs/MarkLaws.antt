@@ -1,5 +1,5 @@
 -- Marks in their order, and the rows that are found by them.
-use Rattle.std.proofs.Common.{◌≡◌, ℕ, ◌+◌, ◌-◌, ◌<◌, ◌≤◌, ◌^◌, List, [], ◌∷◌, ◌++◌, Bool, true, false, cond, map, length, length-append, get_or, min, take, refl, sym, ◌∙◌, ap, subst, arith}
+use Rattle.std.proofs.Common.{◌≡◌, ℕ, zero, suc, ◌⊎◌, inl, inr, ◌+◌, ◌-◌, ◌<◌, ◌≤◌, ◌^◌, List, [], ◌∷◌, ◌++◌, Bool, true, false, cond, map, length, length-append, get_or, min, take, refl, sym, ◌∙◌, ap, subst, arith}
 use Rattle.std.proofs.lemmas.Bool.{and_parts, both_ways}
 use Rattle.std.proofs.lemmas.List.{get_or-append-add, get_or-map, get_or-take, get_or_append_left, get_or_default, get_or_push, get_or_read, length-map, take-append-le, take-take, take_all}
 use Rattle.std.proofs.lemmas.Map.Lookups.{CmpEqualImpliesEq, exact_unsigned}
@@ -105,14 +105,34 @@ found_between marks first last m low high has =
     let c = Contains-from_any {eq = eq_by_cmp mark_cmp} (λ x y t. tells_apart {R = mark_cmp} mark_exact x y t) m (marks_between marks first last) still in
     (c.0, omega (arith, length-map (marks_between marks first last) (λ (m : Mark). m.row), c.1), get_or-map (λ (m : Mark). m.row) (marks_between marks first last) c.0 m 0 c.1 ∙ ap (λ (q : Mark). q.row) c.2)
 
--- what the search of a part of a shelf finds
-pub collected : (marks : List Mark) (shelf low high : ℕ) (first last : Mark) (old new : List ℕ) → first ≡ mark_of shelf low 0 0 → last ≡ mark_of shelf high (2 ^ 32 - 1) (2 ^ 64 - 1) → new ≡ old ++ rows_of (marks_between marks first last) → (p t x : ℕ) → low ≤ p → p ≤ high → t < 2 ^ 32 → x < 2 ^ 64 → has_mark marks (mark_of shelf p t x) ≡ true → IsListed new x
-collected marks shelf low high first last old new is_first is_last e p t x from to narrow small has =
+-- what the search of a part of a shelf comes to
+pub collected : (marks : List Mark) (shelf low high : ℕ) (first last : Mark) → first ≡ mark_of shelf low 0 0 → last ≡ mark_of shelf high (2 ^ 32 - 1) (2 ^ 64 - 1) → (p t x : ℕ) → low ≤ p → p ≤ high → t < 2 ^ 32 → x < 2 ^ 64 → has_mark marks (mark_of shelf p t x) ≡ true → IsListed (rows_of (marks_between marks first last)) x
+collected marks shelf low high first last is_first is_last p t x from to narrow small has =
     let m = mark_of shelf p t x in
     let at_first : is_gt (mark_cmp first m) ≡ false = ap (λ (q : Mark). is_gt (mark_cmp q m)) is_first ∙ low_mark (mark_of shelf low 0 0) m refl from (omega arith) (omega arith) in
     let at_last : is_gt (mark_cmp m last) ≡ false = ap (λ (q : Mark). is_gt (mark_cmp m q)) is_last ∙ low_mark m (mark_of shelf high (2 ^ 32 - 1) (2 ^ 64 - 1)) refl to (omega (arith, narrow)) (omega (arith, small)) in
-    subst (λ (l : List ℕ). IsListed l x) (sym e)
-    (listed_right old (rows_of (marks_between marks first last)) x (found_between marks first last m at_first at_last has))
+    found_between marks first last m at_first at_last has
+
+-- a number that stands in a list stands first there, or behind
+pub listed_parts : (y : ℕ) (ys : List ℕ) (x : ℕ) → IsListed (y ∷ ys) x → (x ≡ y) ⊎ IsListed ys x
+listed_parts y ys x (zero, lt, is) = inl (sym is)
+listed_parts y ys x (suc k, lt, is) = inr (k, omega (arith, lt), is)
+
+-- what is wanted of the marks that are left, when one more was looked at
+pub wanted_more : (P : ℕ → Type 0) (m : Mark) (rest all : List Mark) (old new : List ℕ) → all ≡ m ∷ rest
+    → ((x : ℕ) → IsListed old x → IsListed new x) → (P m.row → IsListed new m.row)
+    → (x : ℕ) → P x → IsListed old x ⊎ IsListed (rows_of all) x → IsListed new x ⊎ IsListed (rows_of rest) x
+wanted_more P m rest all old new is kept here x wanted (inl known) = inl (kept x known)
+wanted_more P m rest all old new is kept here x wanted (inr left) =
+    elim (listed_parts m.row (rows_of rest) x (subst (λ (l : List Mark). IsListed (rows_of l) x) is left)) [
+      | inl same ↦ inl (subst (λ (q : ℕ). IsListed new q) (sym same) (here (subst P same wanted)))
+      | inr later ↦ inr later
+    ]
+
+-- where no marks are left, all that is wanted is there
+pub wanted_all : (rest : List Mark) (new : List ℕ) (x : ℕ) → rest ≡ [] → IsListed new x ⊎ IsListed (rows_of rest) x → IsListed new x
+wanted_all rest new x none (inl known) = known
+wanted_all rest new x none (inr left) = let t = subst (λ (l : List Mark). IsListed (rows_of l) x) none left in absurd (omega (arith, t.1))
 
 -- ---- ranges
 
@@ -276,10 +296,10 @@ marks_kept old new m updates q e = updates q ∙ kept_by (is_at (mark_cmp m) q) 
 -- ---- the search, shelf by shelf
 
 -- the ranges of a shelf
-pub shelf_found : (shelves : List Shelf) (marks : List Mark) (a : Access) (s low high : ℕ) (shelf : Shelf) (new : List ℕ) → shelf ≡ shelf_at shelves s → low ≡ a.addr - shelf.width → high ≡ min (a.addr + a.len) (2 ^ 64 - 1)
-    → ((p t x : ℕ) → low ≤ p → p ≤ high → t < 2 ^ 32 → x < 2 ^ 64 → has_mark marks (mark_of s p t x) ≡ true → IsListed new x)
-    → (r : Access) (t x : ℕ) → conflicts r a ≡ true → IsOnShelf shelves r s → t < 2 ^ 32 → x < 2 ^ 64 → has_mark marks (mark_of s r.addr t x) ≡ true → IsListed new x
-shelf_found shelves marks a s low high shelf new is is_low is_high here r t x con on narrow small has =
+pub shelf_found : (shelves : List Shelf) (marks : List Mark) (a : Access) (s low high : ℕ) (shelf : Shelf) (P : ℕ → Type 0) → shelf ≡ shelf_at shelves s → low ≡ a.addr - shelf.width → high ≡ min (a.addr + a.len) (2 ^ 64 - 1)
+    → ((p t x : ℕ) → low ≤ p → p ≤ high → t < 2 ^ 32 → x < 2 ^ 64 → has_mark marks (mark_of s p t x) ≡ true → P x)
+    → (r : Access) (t x : ℕ) → conflicts r a ≡ true → IsOnShelf shelves r s → t < 2 ^ 32 → x < 2 ^ 64 → has_mark marks (mark_of s r.addr t x) ≡ true → P x
+shelf_found shelves marks a s low high shelf P is is_low is_high here r t x con on narrow small has =
     let width = ap (λ (q : Shelf). q.width) is in
     let le = on.narrow in
     let part = begins_inside r a shelf.width con (omega (arith, le, width)) in
@@ -289,17 +309,17 @@ shelf_found shelves marks a s low high shelf new is is_low is_high here r t x co
     here r.addr t x (omega (arith, is_low, from)) (omega (arith, is_high, to, addr)) narrow small has
 
 -- no range of a shelf of loads conflicts with a load
-pub none_found : (shelves : List Shelf) (marks : List Mark) (a : Access) (s : ℕ) (shelf : Shelf) (new : List ℕ) → shelf ≡ shelf_at shelves s → a.store ≡ false → shelf.stores ≡ false → (r : Access) (t x : ℕ) → conflicts r a ≡ true → IsOnShelf shelves r s → t < 2 ^ 32 → x < 2 ^ 64 → has_mark marks (mark_of s r.addr t x) ≡ true → IsListed new x
-none_found shelves marks a s shelf new is load loads r t x con on narrow small has =
+pub none_found : (shelves : List Shelf) (marks : List Mark) (a : Access) (s : ℕ) (shelf : Shelf) (P : ℕ → Type 0) → shelf ≡ shelf_at shelves s → a.store ≡ false → shelf.stores ≡ false → (r : Access) (t x : ℕ) → conflicts r a ≡ true → IsOnShelf shelves r s → t < 2 ^ 32 → x < 2 ^ 64 → has_mark marks (mark_of s r.addr t x) ≡ true → P x
+none_found shelves marks a s shelf P is load loads r t x con on narrow small has =
     absurd (both_ways (conflicts r a) (loads_apart r a (on.stored (sym (ap (λ (q : Shelf). q.stores) is) ∙ loads)) load) con)
 
 -- the ranges of one more shelf
-pub range_more : (shelves : List Shelf) (marks : List Mark) (a : Access) (s : ℕ) (found new : List ℕ)
-    → ((r : Access) (t x : ℕ) → conflicts r a ≡ true → IsOnShelf shelves r s → t < 2 ^ 32 → x < 2 ^ 64 → has_mark marks (mark_of s r.addr t x) ≡ true → IsListed new x)
-    → ((x : ℕ) → IsListed found x → IsListed new x)
-    → ((z : ℕ) (r : Access) (t x : ℕ) → z < s → conflicts r a ≡ true → IsOnShelf shelves r z → t < 2 ^ 32 → x < 2 ^ 64 → has_mark marks (mark_of z r.addr t x) ≡ true → IsListed found x)
-    → (z : ℕ) (r : Access) (t x : ℕ) → z < s + 1 → conflicts r a ≡ true → IsOnShelf shelves r z → t < 2 ^ 32 → x < 2 ^ 64 → has_mark marks (mark_of z r.addr t x) ≡ true → IsListed new x
-range_more shelves marks a s found new here kept old z r t x lt con on narrow small has =
+pub range_more : (shelves : List Shelf) (marks : List Mark) (C : Access → Type 0) (s : ℕ) (P Q : ℕ → Type 0)
+    → ((r : Access) (t x : ℕ) → C r → IsOnShelf shelves r s → t < 2 ^ 32 → x < 2 ^ 64 → has_mark marks (mark_of s r.addr t x) ≡ true → Q x)
+    → ((x : ℕ) → P x → Q x)
+    → ((z : ℕ) (r : Access) (t x : ℕ) → z < s → C r → IsOnShelf shelves r z → t < 2 ^ 32 → x < 2 ^ 64 → has_mark marks (mark_of z r.addr t x) ≡ true → P x)
+    → (z : ℕ) (r : Access) (t x : ℕ) → z < s + 1 → C r → IsOnShelf shelves r z → t < 2 ^ 32 → x < 2 ^ 64 → has_mark marks (mark_of z r.addr t x) ≡ true → Q x
+range_more shelves marks C s P Q here kept old z r t x lt con on narrow small has =
     elim (ℕ_discrete z s) [
       | no ne ↦ kept x (old z r t x (omega (arith, lt, ne)) con on narrow small has)
       | yes is ↦
@@ -308,10 +328,10 @@ range_more shelves marks a s found new here kept old z r t x lt con on narrow sm
     ]
 
 -- all ranges that conflict
-pub range_all : (shelves : List Shelf) (marks : List Mark) (a : Access) (s : ℕ) (found : List ℕ) → length shelves ≤ s
-    → ((z : ℕ) (r : Access) (t x : ℕ) → z < s → conflicts r a ≡ true → IsOnShelf shelves r z → t < 2 ^ 32 → x < 2 ^ 64 → has_mark marks (mark_of z r.addr t x) ≡ true → IsListed found x)
-    → (r : Access) (x : ℕ) → conflicts r a ≡ true → IsMarked shelves marks (Range r) x → IsListed found x
-range_all shelves marks a s found long all r x con m =
+pub range_all : (shelves : List Shelf) (marks : List Mark) (C : Access → Type 0) (s : ℕ) (P : ℕ → Type 0) → length shelves ≤ s
+    → ((z : ℕ) (r : Access) (t x : ℕ) → z < s → C r → IsOnShelf shelves r z → t < 2 ^ 32 → x < 2 ^ 64 → has_mark marks (mark_of z r.addr t x) ≡ true → P x)
+    → (r : Access) (x : ℕ) → C r → IsMarked shelves marks (Range r) x → P x
+range_all shelves marks C s P long all r x con m =
     let inside = m.belongs.within in
     all m.shelf r m.thread x (omega (arith, inside, long)) con m.belongs m.narrow m.small m.marked
 
@@ -331,10 +351,10 @@ exact_mark shelves marks key x exact m = ap (λ (q : ℕ). has_mark marks (mark_
     exact_shelf (Wakes t) s exact b = b
 
 -- the rows of a key that is no range
-pub key_found : (shelves : List Shelf) (marks : List Mark) (key : Key) (shelf place : ℕ) (new : List ℕ) → shelf ≡ shelf_of key → place ≡ place_of key
-    → ((p t x : ℕ) → place ≤ p → p ≤ place → t < 2 ^ 32 → x < 2 ^ 64 → has_mark marks (mark_of shelf p t x) ≡ true → IsListed new x)
-    → IsExact key → (x : ℕ) → IsMarked shelves marks key x → IsListed new x
-key_found shelves marks key shelf place new is_shelf is_place here exact x m =
+pub key_found : (shelves : List Shelf) (marks : List Mark) (key : Key) (shelf place : ℕ) (P : ℕ → Type 0) → shelf ≡ shelf_of key → place ≡ place_of key
+    → ((p t x : ℕ) → place ≤ p → p ≤ place → t < 2 ^ 32 → x < 2 ^ 64 → has_mark marks (mark_of shelf p t x) ≡ true → P x)
+    → IsExact key → (x : ℕ) → IsMarked shelves marks key x → P x
+key_found shelves marks key shelf place P is_shelf is_place here exact x m =
     here (place_of key) m.thread x (omega (arith, is_place)) (omega (arith, is_place)) m.narrow m.small
     (ap (λ (q : ℕ). has_mark marks (mark_of q (place_of key) m.thread x)) is_shelf ∙ exact_mark shelves marks key x exact m)
 
@@ -343,12 +363,12 @@ pub any_default : (P : Key → Type 0) (keys : List Key) (i : ℕ) (d e : Key) �
 any_default P keys i d e lt h = subst P (get_or_default keys i e d lt) h
 
 -- the rows of one more key
-pub keys_more : (shelves : List Shelf) (marks : List Mark) (keys : List Key) (i : ℕ) (found new : List ℕ)
-    → ((d : Key) → IsExact (get_or keys i d) → (x : ℕ) → IsMarked shelves marks (get_or keys i d) x → IsListed new x)
-    → ((x : ℕ) → IsListed found x → IsListed new x)
-    → ((d : Key) (z x : ℕ) → z < i → IsExact (get_or keys z d) → IsMarked shelves marks (get_or keys z d) x → IsListed found x)
-    → (d : Key) (z x : ℕ) → z < i + 1 → IsExact (get_or keys z d) → IsMarked shelves marks (get_or keys z d) x → IsListed new x
-keys_more shelves marks keys i found new here kept old d z x lt exact m =
+pub keys_more : (shelves : List Shelf) (marks : List Mark) (keys : List Key) (i : ℕ) (P Q : ℕ → Type 0)
+    → ((d : Key) → IsExact (get_or keys i d) → (x : ℕ) → IsMarked shelves marks (get_or keys i d) x → Q x)
+    → ((x : ℕ) → P x → Q x)
+    → ((d : Key) (z x : ℕ) → z < i → IsExact (get_or keys z d) → IsMarked shelves marks (get_or keys z d) x → P x)
+    → (d : Key) (z x : ℕ) → z < i + 1 → IsExact (get_or keys z d) → IsMarked shelves marks (get_or keys z d) x → Q x
+keys_more shelves marks keys i P Q here kept old d z x lt exact m =
     elim (ℕ_discrete z i) [
       | no ne ↦ kept x (old d z x (omega (arith, lt, ne)) exact m)
       | yes is ↦
@@ -356,9 +376,9 @@ keys_more shelves marks keys i found new here kept old d z x lt exact m =
     ]
 
 -- the rows of all keys
-pub keys_all : (shelves : List Shelf) (marks : List Mark) (keys : List Key) (i : ℕ) (found : List ℕ) → length keys ≤ i
-    → ((d : Key) (z x : ℕ) → z < i → IsExact (get_or keys z d) → IsMarked shelves marks (get_or keys z d) x → IsListed found x)
-    → (key : Key) (x : ℕ) → IsExact key → Contains keys key → IsMarked shelves marks key x → IsListed found x
-keys_all shelves marks keys i found long all key x exact c m =
+pub keys_all : (shelves : List Shelf) (marks : List Mark) (keys : List Key) (i : ℕ) (P : ℕ → Type 0) → length keys ≤ i
+    → ((d : Key) (z x : ℕ) → z < i → IsExact (get_or keys z d) → IsMarked shelves marks (get_or keys z d) x → P x)
+    → (key : Key) (x : ℕ) → IsExact key → Contains keys key → IsMarked shelves marks key x → P x
+keys_all shelves marks keys i P long all key x exact c m =
     let inside = c.1 in
     all key c.0 x (omega (arith, inside, long)) (subst (λ (k : Key). IsExact k) (sym c.2) exact) (subst (λ (k : Key). IsMarked shelves marks k x) (sym c.2) m)

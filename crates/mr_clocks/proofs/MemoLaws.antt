@@ -1,5 +1,5 @@
 -- Memos beside rows that grow, and beside rows that take links.
-use Rattle.std.proofs.Common.{◌≡◌, ◌≢◌, ℕ, ◌+◌, ◌<◌, List, Option, None, Some, true, length, slice_index, refl, sym, ◌∙◌, ap, subst, arith}
+use Rattle.std.proofs.Common.{◌≡◌, ℕ, ◌+◌, List, Option, None, Some, length, slice_index, refl, sym, ◌∙◌, ap, subst, arith}
 use Rattle.std.specs.Prelude.{IfSome}
 use Rattle.std.proofs.lemmas.List.{take_all}
 use Rattle.mr_event.specs.Footprint.{Footprint}
@@ -10,14 +10,8 @@ use Rattle.mr_clocks.specs.declared.keys.Key.TheVariants.{Lock, Creation, Spawni
 use Rattle.mr_clocks.specs.declared.rows.Row.{Row}
 use Rattle.mr_clocks.specs.Keys.{asks, notes}
 use Rattle.mr_clocks.specs.Memos.{AreMemos, IsMemo, IsMemoOf, memo_at}
-use Rattle.mr_clocks.specs.Rows.{AreAllAsked, ArePlaces, HaveKeysOf, IsGrown, IsListed, row_at}
+use Rattle.mr_clocks.specs.Rows.{AreAllAsked, ArePlaces, HaveKeysOf, IsGrown, row_at}
 use Rattle.mr_clocks.proofs.Noting.{grown_row}
-
--- each row of another thread that the step asks is among those of other threads that were found
-pub asked_of : (step : Footprint) (rows same : List Row) (found equal asked : List ℕ) → same ≡ rows → equal ≡ found → ((x : ℕ) → x < length same → (row_at same x).thread ≢ step.thread → asks step (row_at same x).key ≡ true → IsListed equal x → IsListed asked x) → ((x : ℕ) → x < length rows → asks step (row_at rows x).key ≡ true → IsListed found x) → AreAllAsked step rows asked
-asked_of step rows same found equal asked e f others all = λ x lt apart it_asks.
-    subst (λ (l : List Row). x < length l → (row_at l x).thread ≢ step.thread → asks step (row_at l x).key ≡ true → IsListed equal x → IsListed asked x) e (others x) lt apart it_asks
-    (subst (λ (l : List ℕ). IsListed l x) (sym f) (all x lt it_asks))
 
 -- a step with whom another one woke
 abbrev waking_as : Footprint → Footprint → Footprint

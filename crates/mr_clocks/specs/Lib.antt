@@ -4,5 +4,6 @@ pub mod Marks
 pub mod Memos
 pub mod Rows
 pub mod Skips
+pub mod Spans
 pub mod Tracked
 pub mod Whole

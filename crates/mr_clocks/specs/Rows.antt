@@ -135,6 +135,12 @@ AreLonger old new = (more : List Link) × (new ≡ old ++ more)
 abbrev pub IsListed : List ℕ → ℕ → Type 0
 IsListed xs x = (y : ℕ) × (y < length xs) × (slice_index xs y ≡ x)
 
+-- the row at a place is of another thread, and the step asks its key
+pub record IsAsked (step : Footprint) (rows : List Row) (x : ℕ) : Type 0 where
+  pub within : x < length rows
+  pub apart : (row_at rows x).thread ≢ step.thread
+  pub asked : IsTrue (asks step (row_at rows x).key)
+
 -- the list has the place of each row of another thread whose key the step asks
 abbrev pub AreAllAsked : Footprint → List Row → List ℕ → Type 0
 AreAllAsked step rows found =

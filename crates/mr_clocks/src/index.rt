@@ -1,18 +1,20 @@
 //! Where the rows of the keys are found: marks in shelves, by their places. (FastTrack: shadow memory.)
 
-ghost use Rattle.std.specs.Prelude.{◌≡◌, ℕ, ◌+◌, ◌<◌, ◌≤◌, ◌^◌, IfOk, IfSome, IsFalse, IsTrue, OnOk, false, length, slice_index, slice_index_or, vec_len};
+ghost use Rattle.std.specs.Prelude.{◌≡◌, ℕ, ◌+◌, ◌-◌, ◌<◌, ◌≤◌, ◌^◌, IfOk, IfSome, IsFalse, IsTrue, OnOk, false, length, slice_index, slice_index_or, vec_len};
 ghost use Rattle.std.specs.List.{Contains, list_any};
 ghost use Rattle.mr_base.specs.Accesses.{conflicts};
 ghost use Rattle.mr_base.specs.declared.access.Access.{Access};
 ghost use Rattle.mr_clocks.specs.declared.keys.Key.{Key};
 ghost use Rattle.mr_clocks.specs.declared.keys.Key.TheVariants.{Range};
 ghost use Rattle.mr_clocks.specs.declared.index.Mark.{Mark};
-ghost use Rattle.mr_clocks.specs.Keys.{IsExact, asks};
+ghost use Rattle.mr_clocks.specs.Keys.{IsExact};
 ghost use Rattle.mr_clocks.specs.Marks.{AreKept, AreMarked, IsMarked, IsOnShelf, IsShelfOf, has_mark, mark_of, place_of, shelf_at, shelf_of};
-ghost use Rattle.mr_clocks.specs.Rows.{IsGrown, IsListed, IsRowFor};
+ghost use Rattle.mr_clocks.specs.Rows.{AreAllAsked, IsAsked, IsGrown, IsListed, IsRowFor};
+ghost use Rattle.mr_clocks.specs.Spans.{AreSpansOf, IsReached, span_at};
 
 use crate::keys::{Key, asked_by, same_key};
 use crate::rows::Row;
+use crate::spans::{Span, Spans, chosen, may_ask, spans_of};
 use mr_base::Access;
 use mr_event::{Footprint, OutOfMemory};
 use std::alloc::Global;
@@ -147,18 +149,46 @@ fn use_shelf(shelves: &mut Vec<Shelf>, key: Key) -> Result<u64, OutOfMemory>
     }
 }
 
-// Appends the rows that are marked in a shelf, from one place to another.
+/// Appends a place, if the row there is of another thread and the step may ask its key.
+pub(crate) fn add_asked(
+    found: &mut Vec<usize>,
+    rows: &[Row],
+    x: usize,
+    step: &Footprint,
+    spans: Option<&Spans>,
+) -> Result<(), OutOfMemory>
+    requires { IfSome spans (λ s. AreSpansOf step.now.accesses s.now) }
+    ensures kept { (z : ℕ) → IsListed found.old.items z → IsListed found.new.items z }
+    ensures here { OnOk result (IsAsked step.now rows.now x → IsListed found.new.items x) }
+{
+    if x >= rows.len() {
+        return Ok(());
+    }
+    let row = rows[x];
+    if row.thread == step.thread() || !may_ask(row.key, step, spans) {
+        return Ok(());
+    }
+    found.push(x)?;
+    Ok(())
+}
+
+// Appends the rows that are marked in a shelf, from one place to another, and that the step may ask.
 fn collect(
     marks: &BTreeSet<Mark>,
+    rows: &[Row],
     shelf: u64,
     low: u64,
     high: u64,
+    step: &Footprint,
+    spans: Option<&Spans>,
     found: &mut Vec<usize>,
 ) -> Result<(), OutOfMemory>
-    requires { low ≤ high }
+    requires order { low ≤ high }
+    requires spans { IfSome spans (λ s. AreSpansOf step.now.accesses s.now) }
     ensures kept { OnOk result ((x : ℕ) → IsListed found.old.items x → IsListed found.new.items x) }
     ensures all { OnOk result ((p t x : ℕ) → low ≤ p → p ≤ high → t < 2 ^ 32 → x < 2 ^ 64
-        → IsTrue (has_mark marks.now.keys (mark_of shelf p t x)) → IsListed found.new.items x) }
+        → IsTrue (has_mark marks.now.keys (mark_of shelf p t x)) → IsAsked step.now rows.now x
+        → IsListed found.new.items x) }
 {
     let first = Mark {
         shelf,
@@ -173,7 +203,7 @@ fn collect(
         row: usize::MAX,
     };
     for mark in marks.range(first..=last) {
-        found.push(mark.row)?;
+        add_asked(found, rows, mark.row, step, spans)?;
     }
     Ok(())
 }
@@ -186,18 +216,21 @@ fn may_conflict(shelf: Shelf, access: Access) -> bool
     shelf.stores || access.store
 }
 
-// Appends the rows of the ranges on a shelf that conflict with an access, and maybe others.
+// Appends the rows of the ranges on a shelf that conflict with an access, if the step may ask them, and maybe others.
 fn collect_shelf(
     index: &Index,
+    rows: &[Row],
     s: usize,
     access: Access,
+    step: &Footprint,
     found: &mut Vec<usize>,
 ) -> Result<(), OutOfMemory>
     requires { s < length index.now.shelves.items }
     ensures kept { OnOk result ((x : ℕ) → IsListed found.old.items x → IsListed found.new.items x) }
     ensures all { OnOk result ((r : Access) (t x : ℕ) → IsTrue (conflicts r access)
         → IsOnShelf index.now.shelves.items r s → t < 2 ^ 32 → x < 2 ^ 64
-        → IsTrue (has_mark index.now.marks.keys (mark_of s r.addr t x)) → IsListed found.new.items x) }
+        → IsTrue (has_mark index.now.marks.keys (mark_of s r.addr t x)) → IsAsked step.now rows.now x
+        → IsListed found.new.items x) }
 {
     let shelf = index.shelves[s];
     if !may_conflict(shelf, access) {
@@ -205,74 +238,222 @@ fn collect_shelf(
     }
     let low = access.addr.saturating_sub(shelf.width);
     let high = access.addr.saturating_add(access.len);
-    collect(&index.marks, s as u64, low, high, found)?;
+    collect(&index.marks, rows, s as u64, low, high, step, None, found)?;
     Ok(())
 }
 
-// Appends the rows of the ranges that conflict with an access, and maybe others.
-fn collect_range(index: &Index, access: Access, found: &mut Vec<usize>) -> Result<(), OutOfMemory>
+// Appends the rows of the ranges that conflict with an access, if the step may ask them, and maybe others.
+fn collect_range(
+    index: &Index,
+    rows: &[Row],
+    access: Access,
+    step: &Footprint,
+    found: &mut Vec<usize>,
+) -> Result<(), OutOfMemory>
     ensures kept { OnOk result ((x : ℕ) → IsListed found.old.items x → IsListed found.new.items x) }
     ensures all { OnOk result ((r : Access) (x : ℕ) → IsTrue (conflicts r access)
-        → IsMarked index.now.shelves.items index.now.marks.keys (Range r) x → IsListed found.new.items x) }
+        → IsMarked index.now.shelves.items index.now.marks.keys (Range r) x → IsAsked step.now rows.now x
+        → IsListed found.new.items x) }
 {
     for s in 0..index.shelves.len() {
-        collect_shelf(index, s, access, found)?;
+        collect_shelf(index, rows, s, access, step, found)?;
     }
     Ok(())
 }
 
-// Appends the rows of the ranges that conflict with some of the accesses.
+// Appends the rows of the ranges that the step asks, access by access.
 fn collect_ranges(
     index: &Index,
+    rows: &[Row],
     accesses: &[Access],
+    step: &Footprint,
     found: &mut Vec<usize>,
 ) -> Result<(), OutOfMemory>
     ensures kept { OnOk result ((x : ℕ) → IsListed found.old.items x → IsListed found.new.items x) }
     ensures all { OnOk result ((r : Access) (x : ℕ) → IsTrue (list_any (conflicts r) accesses.now)
-        → IsMarked index.now.shelves.items index.now.marks.keys (Range r) x → IsListed found.new.items x) }
-{
-    for i in 0..accesses.len() {
-        collect_range(index, accesses[i], found)?;
-    }
-    Ok(())
-}
-
-// Appends the rows of a key that is no range.
-fn collect_key(index: &Index, key: Key, found: &mut Vec<usize>) -> Result<(), OutOfMemory>
-    ensures kept { OnOk result ((x : ℕ) → IsListed found.old.items x → IsListed found.new.items x) }
-    ensures all { OnOk result (IsExact key → (x : ℕ) → IsMarked index.now.shelves.items index.now.marks.keys key x
+        → IsMarked index.now.shelves.items index.now.marks.keys (Range r) x → IsAsked step.now rows.now x
         → IsListed found.new.items x) }
 {
-    let place = key_place(key);
-    collect(&index.marks, exact_shelf(key), place, place, found)?;
-    Ok(())
-}
-
-// Appends the rows of keys that are no ranges.
-fn collect_keys(index: &Index, keys: &[Key], found: &mut Vec<usize>) -> Result<(), OutOfMemory>
-    ensures kept { OnOk result ((x : ℕ) → IsListed found.old.items x → IsListed found.new.items x) }
-    ensures all { OnOk result ((key : Key) (x : ℕ) → IsExact key → Contains keys.now key
-        → IsMarked index.now.shelves.items index.now.marks.keys key x → IsListed found.new.items x) }
-{
-    for i in 0..keys.len() {
-        collect_key(index, keys[i], found)?;
+    for i in 0..accesses.len() {
+        collect_range(index, rows, accesses[i], step, found)?;
     }
     Ok(())
 }
 
-/// The rows of the keys that a step asks, and maybe others.
+// The place behind those that the span before this one reaches.
+fn place_behind(list: &[Span], i: usize) -> u64
+    requires { i < length list.now }
+    ensures { (p : ℕ) → p < result → (0 < i) × (p ≤ (span_at list.now (i - 1)).last) }
+{
+    if i == 0 {
+        return 0;
+    }
+    list[i - 1].last.saturating_add(1)
+}
+
+// Appends the rows of a shelf at the places that a span reaches, if the span before it doesn't reach them and the step
+// may ask the rows.
+fn sweep_span(
+    index: &Index,
+    rows: &[Row],
+    s: usize,
+    width: u64,
+    list: &[Span],
+    i: usize,
+    step: &Footprint,
+    spans: &Spans,
+    found: &mut Vec<usize>,
+) -> Result<(), OutOfMemory>
+    requires inside { i < length list.now }
+    requires spans { AreSpansOf step.now.accesses spans.now }
+    ensures kept { OnOk result ((x : ℕ) → IsListed found.old.items x → IsListed found.new.items x) }
+    ensures all { OnOk result ((p : ℕ) → IsReached list.now width i p
+        → (0 < i → (span_at list.now (i - 1)).last < p) → (t x : ℕ) → t < 2 ^ 32 → x < 2 ^ 64
+        → IsTrue (has_mark index.now.marks.keys (mark_of s p t x)) → IsAsked step.now rows.now x
+        → IsListed found.new.items x) }
+{
+    let span = list[i];
+    let low = span.first.saturating_sub(width).max(place_behind(list, i));
+    if low > span.last {
+        return Ok(());
+    }
+    collect(
+        &index.marks,
+        rows,
+        s as u64,
+        low,
+        span.last,
+        step,
+        Some(spans),
+        found,
+    )?;
+    Ok(())
+}
+
+// Appends the rows of the ranges on a shelf that the step asks, by one pass over the places that its spans reach.
+fn sweep_shelf(
+    index: &Index,
+    rows: &[Row],
+    s: usize,
+    step: &Footprint,
+    spans: &Spans,
+    found: &mut Vec<usize>,
+) -> Result<(), OutOfMemory>
+    requires inside { s < length index.now.shelves.items }
+    requires spans { AreSpansOf step.now.accesses spans.now }
+    ensures kept { OnOk result ((x : ℕ) → IsListed found.old.items x → IsListed found.new.items x) }
+    ensures all { OnOk result ((r : Access) (t x : ℕ) → IsTrue (list_any (conflicts r) step.now.accesses)
+        → IsOnShelf index.now.shelves.items r s → t < 2 ^ 32 → x < 2 ^ 64
+        → IsTrue (has_mark index.now.marks.keys (mark_of s r.addr t x)) → IsAsked step.now rows.now x
+        → IsListed found.new.items x) }
+{
+    let shelf = index.shelves[s];
+    let list = chosen(step, spans, shelf.stores);
+    for i in 0..list.len() {
+        sweep_span(index, rows, s, shelf.width, list, i, step, spans, found)?;
+    }
+    Ok(())
+}
+
+// Appends the rows of the ranges that the step asks, shelf by shelf.
+fn sweep(
+    index: &Index,
+    rows: &[Row],
+    step: &Footprint,
+    spans: &Spans,
+    found: &mut Vec<usize>,
+) -> Result<(), OutOfMemory>
+    requires { AreSpansOf step.now.accesses spans.now }
+    ensures kept { OnOk result ((x : ℕ) → IsListed found.old.items x → IsListed found.new.items x) }
+    ensures all { OnOk result ((r : Access) (x : ℕ) → IsTrue (list_any (conflicts r) step.now.accesses)
+        → IsMarked index.now.shelves.items index.now.marks.keys (Range r) x → IsAsked step.now rows.now x
+        → IsListed found.new.items x) }
+{
+    for s in 0..index.shelves.len() {
+        sweep_shelf(index, rows, s, step, spans, found)?;
+    }
+    Ok(())
+}
+
+// Appends the rows of the ranges that the step asks.
+fn find_ranges(
+    alloc: Global,
+    index: &Index,
+    rows: &[Row],
+    step: &Footprint,
+    found: &mut Vec<usize>,
+) -> Result<(), OutOfMemory>
+    ensures kept { OnOk result ((x : ℕ) → IsListed found.old.items x → IsListed found.new.items x) }
+    ensures all { OnOk result ((r : Access) (x : ℕ) → IsTrue (list_any (conflicts r) step.now.accesses)
+        → IsMarked index.now.shelves.items index.now.marks.keys (Range r) x → IsAsked step.now rows.now x
+        → IsListed found.new.items x) }
+{
+    let accesses = step.accesses();
+    match spans_of(alloc, accesses)? {
+        Some(spans) => sweep(index, rows, step, &spans, found),
+        None => collect_ranges(index, rows, accesses, step, found),
+    }
+}
+
+// Appends the rows of a key that is no range, if the step may ask them.
+fn collect_key(
+    index: &Index,
+    rows: &[Row],
+    key: Key,
+    step: &Footprint,
+    found: &mut Vec<usize>,
+) -> Result<(), OutOfMemory>
+    ensures kept { OnOk result ((x : ℕ) → IsListed found.old.items x → IsListed found.new.items x) }
+    ensures all { OnOk result (IsExact key → (x : ℕ) → IsMarked index.now.shelves.items index.now.marks.keys key x
+        → IsAsked step.now rows.now x → IsListed found.new.items x) }
+{
+    let place = key_place(key);
+    collect(
+        &index.marks,
+        rows,
+        exact_shelf(key),
+        place,
+        place,
+        step,
+        None,
+        found,
+    )?;
+    Ok(())
+}
+
+// Appends the rows of keys that are no ranges, if the step may ask them.
+fn collect_keys(
+    index: &Index,
+    rows: &[Row],
+    keys: &[Key],
+    step: &Footprint,
+    found: &mut Vec<usize>,
+) -> Result<(), OutOfMemory>
+    ensures kept { OnOk result ((x : ℕ) → IsListed found.old.items x → IsListed found.new.items x) }
+    ensures all { OnOk result ((key : Key) (x : ℕ) → IsExact key → Contains keys.now key
+        → IsMarked index.now.shelves.items index.now.marks.keys key x → IsAsked step.now rows.now x
+        → IsListed found.new.items x) }
+{
+    for i in 0..keys.len() {
+        collect_key(index, rows, keys[i], step, found)?;
+    }
+    Ok(())
+}
+
+/// The places of all rows of other threads that the step asks, and maybe of others.
 pub(crate) fn rows_asked(
     alloc: Global,
     index: &Index,
+    rows: &[Row],
     step: &Footprint,
 ) -> Result<Vec<usize>, OutOfMemory>
-    ensures { IfOk result (λ v. (key : Key) (x : ℕ) → IsTrue (asks step.now key)
-        → IsMarked index.now.shelves.items index.now.marks.keys key x → IsListed v.items x) }
+    requires { AreMarked index.now.shelves.items index.now.marks.keys rows.now }
+    ensures { IfOk result (λ v. AreAllAsked step.now rows.now v.items) }
 {
     let mut found = Vec::new(alloc);
     let keys = asked_by(alloc, step)?;
-    collect_keys(index, keys.as_slice(), &mut found)?;
-    collect_ranges(index, step.accesses(), &mut found)?;
+    collect_keys(index, rows, keys.as_slice(), step, &mut found)?;
+    find_ranges(alloc, index, rows, step, &mut found)?;
     Ok(found)
 }
 

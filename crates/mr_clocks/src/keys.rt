@@ -277,13 +277,13 @@ pub(crate) fn asks(key: Key, step: &Footprint) -> bool
     }
 }
 
-/// Whether an edge to the step may come from an earlier one that is noted under the key: not where the key is a range
-/// that no access conflicts with, and not where one races with it.
+/// Whether an edge to the step may come from an earlier one that is noted under the key, which the step asks: not where
+/// the key is a range with which one of its accesses races.
 pub(crate) fn may_bind(key: Key, step: &Footprint) -> bool
     ensures { IsTrue (does_ask step.now key) → key_races key step.now ≡ false → IsTrue result }
 {
     match key {
-        Key::Range(a) => { conflicts_with(a, step.accesses()) && !races_with(a, step.accesses()) }
+        Key::Range(a) => !races_with(a, step.accesses()),
         _ => true,
     }
 }

@@ -6,9 +6,9 @@
 //!   the steps that are noted under the key.
 //!
 //! Definitions: `specs/Clocks.antt` says what the clock of a step is, `Keys` under which keys a step is noted and which
-//! it asks, `Rows` and `Marks` how the steps of a key are kept and found, `Memos` what of this is kept for steps that
-//! do the same, `Skips` how steps that race are passed, and `Tracked` what an analysis tracks; happens-before and the
-//! races are those of `mr_event`. Proved of the public calls:
+//! it asks, `Rows` and `Marks` how the steps of a key are kept and found, `Spans` how a step with many accesses finds
+//! them, `Memos` what of this is kept for steps that do the same, `Skips` how steps that race are passed, and `Tracked`
+//! what an analysis tracks; happens-before and the races are those of `mr_event`. Proved of the public calls:
 //!
 //! - [`Analysis::new`] tracks the empty list.
 //! - [`Analysis::add`], on an analysis that tracks a run without its last step, gives the greatest partner of that
@@ -37,6 +37,7 @@ mod order;
 mod rows;
 mod runs;
 mod skips;
+mod spans;
 mod walks;
 mod whole;
 

@@ -9,8 +9,8 @@ ghost use Rattle.mr_clocks.specs.Marks.{AreMarked};
 ghost use Rattle.mr_clocks.specs.Memos.{AreMemos, IsMemo, IsMemoOf, memo_at};
 ghost use Rattle.mr_clocks.specs.Rows.{AreAllAsked, IsGrown, IsListed, row_at};
 
-use crate::index::{Index, places_for, rows_asked};
-use crate::keys::{asks, noted_by};
+use crate::index::{Index, add_asked, places_for, rows_asked};
+use crate::keys::noted_by;
 use crate::rows::Row;
 use mr_base::Access;
 use mr_event::{Event, Footprint, OutOfMemory, do_the_same, same_step};
@@ -23,11 +23,8 @@ const MEMOS: usize = 1024;
 
 const FEW: usize = 512;
 
-// How many rows may have come since a memo was made, and how many rows it may list, so that it looks at the newer ones
-// alone. A longer list is made anew, in the order in which rows are found: what a step knows last stands first there.
+// How many rows may have come since a memo was made, so that it looks at the newer ones alone.
 const NEAR: usize = 256;
-
-const SHORT: usize = 32;
 
 /// A step, the places of the rows of other threads that it asks, and of those in which it is noted. The stamp is one
 /// more than the number of rows that there were, or 0 where there is no step.
@@ -102,7 +99,7 @@ impl Memo {
     {
         self.stamp > 0
             && (self.stamp >= many || many - self.stamp < NEAR)
-            && self.asked.len() <= SHORT
+            && self.asked.len() <= FEW
             && do_the_same(&self.step, step)
     }
 
@@ -177,28 +174,6 @@ fn fill(alloc: Global, memos: &mut Vec<Memo>) -> Result<(), OutOfMemory>
     Ok(())
 }
 
-// Appends a place, if a row of another thread is there whose key the step asks.
-fn add_other(
-    others: &mut Vec<usize>,
-    rows: &[Row],
-    x: usize,
-    step: &Footprint,
-) -> Result<(), OutOfMemory>
-    ensures kept { (z : ℕ) → IsListed others.old.items z → IsListed others.new.items z }
-    ensures here { OnOk result (x < length rows.now → (row_at rows.now x).thread ≢ step.now.thread
-        → IsTrue (does_ask step.now (row_at rows.now x).key) → IsListed others.new.items x) }
-{
-    if x >= rows.len() {
-        return Ok(());
-    }
-    let row = &rows[x];
-    if row.thread == step.thread() || !asks(row.key, step) {
-        return Ok(());
-    }
-    others.push(x)?;
-    Ok(())
-}
-
 // Appends the places, from a number on, at which there are rows of other threads whose keys the step asks.
 fn add_others(
     others: &mut Vec<usize>,
@@ -211,26 +186,9 @@ fn add_others(
         → IsTrue (does_ask step.now (row_at rows.now x).key) → IsListed others.new.items x) }
 {
     for x in from..rows.len() {
-        add_other(others, rows, x, step)?;
+        add_asked(others, rows, x, step, None)?;
     }
     Ok(())
-}
-
-// Those places at which there are rows of other threads whose keys the step asks.
-fn of_others(
-    alloc: Global,
-    rows: &[Row],
-    found: &[usize],
-    step: &Footprint,
-) -> Result<Vec<usize>, OutOfMemory>
-    ensures { IfOk result (λ v. (x : ℕ) → x < length rows.now → (row_at rows.now x).thread ≢ step.now.thread
-        → IsTrue (does_ask step.now (row_at rows.now x).key) → IsListed found.now x → IsListed v.items x) }
-{
-    let mut others = Vec::new(alloc);
-    for y in 0..found.len() {
-        add_other(&mut others, rows, found[y], step)?;
-    }
-    Ok(others)
 }
 
 // The places of the rows of other threads that a step asks: those that are known, if there are as many rows as then;
@@ -252,9 +210,7 @@ fn asked_by(
             return Ok(asked);
         }
     }
-    let found = rows_asked(alloc, index, step)?;
-    let asked = of_others(alloc, rows, found.as_slice(), step)?;
-    Ok(asked)
+    rows_asked(alloc, index, rows, step)
 }
 
 // The places of the rows that a step asks, where a memo tells them.

@@ -1,9 +1,11 @@
 pub mod Contents
 pub mod Exchanged
 pub mod Growing
+pub mod Lent
 pub mod Numbers
 pub mod Pieces
 pub mod Placed
 pub mod Ranges
 pub mod Seen
+pub mod Stamped
 pub mod Windows

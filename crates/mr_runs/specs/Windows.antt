@@ -1,10 +1,7 @@
 -- A window of pieces: some bytes from a position on, in pieces.
-use Rattle.std.specs.Prelude.{◌≡◌, ℕ, zero, suc, ◌+◌, ◌-◌, ◌<◌, ◌≤◌, ◌^◌, min, nat_lt, if◌then◌else◌, List, [], ◌∷◌}
+use Rattle.std.specs.Prelude.{ℕ, zero, suc, ◌-◌, min, nat_lt, if◌then◌else◌, List, [], ◌∷◌}
 use Rattle.std.specs.Prelude.{take, drop, Option, Some, None}
-use Rattle.std.specs.Map.{values_of}
-use Rattle.std.specs.BTreeMap.{BTreeMap}
 use Rattle.mr_runs.specs.Pieces.{SeenPiece, UninitPiece, InitPiece, piece_len}
-use Rattle.mr_runs.specs.Placed.{IsTiled, total_len}
 
 -- a piece without its first n bytes
 abbrev pub piece_past : SeenPiece → ℕ → SeenPiece
@@ -27,16 +24,6 @@ abbrev pub first_pieces : List SeenPiece → ℕ → List SeenPiece
 first_pieces [] n = []
 first_pieces (p ∷ pieces) zero = []
 first_pieces (p ∷ pieces) (suc n) = first_piece p (suc n) ∷ first_pieces pieces (suc n - piece_len p)
-
--- the pieces of a window on runs; without runs there is none
-abbrev pub lent_pieces : Option (BTreeMap ℕ SeenPiece) → ℕ → ℕ → List SeenPiece
-lent_pieces None from len = []
-lent_pieces (Some runs) from len = first_pieces (pieces_past (values_of runs.entries) from) len
-
--- the window lies within the runs; without runs it is empty
-abbrev pub IsLent : Option (BTreeMap ℕ SeenPiece) → ℕ → ℕ → Type 0
-IsLent None from len = (len ≡ 0) × (from + len < 2 ^ 64)
-IsLent (Some runs) from len = IsTiled runs.entries × (from + len ≤ total_len runs.entries) × (from + len < 2 ^ 64)
 
 -- what a window from `from` up to `to` has of a piece that begins at `begin` and ends behind `from`
 abbrev pub clipped_piece : SeenPiece → ℕ → ℕ → ℕ → Option SeenPiece

@@ -10,13 +10,13 @@ ghost use Rattle.mr_runs.specs.Placed.{found, IsTiled};
 
 use crate::OutOfMemory;
 use crate::finding::first_begin;
-use crate::run::Run;
+use crate::run::{Numbers, Run};
 use std::collections::BTreeMap;
 
 /// Puts the runs of a row, which ends at `end`, in place of all that begin where it reaches.
-pub(crate) fn exchange(
-    runs: &mut BTreeMap<u64, Run>,
-    row: Vec<(u64, Run)>,
+pub(crate) fn exchange<N: Numbers>(
+    runs: &mut BTreeMap<u64, Run<N>>,
+    row: Vec<(u64, Run<N>)>,
     end: u64,
 ) -> Result<(), OutOfMemory>
     requires tiled { IsTiled runs.old.entries }
@@ -32,7 +32,10 @@ pub(crate) fn exchange(
 }
 
 // Takes the positions of all runs of a row.
-fn stake_all(runs: &mut BTreeMap<u64, Run>, row: &[(u64, Run)]) -> Result<(), OutOfMemory>
+fn stake_all<N: Numbers>(
+    runs: &mut BTreeMap<u64, Run<N>>,
+    row: &[(u64, Run<N>)],
+) -> Result<(), OutOfMemory>
     requires { IsTiled runs.old.entries }
     ensures ok { OnOk result ((q : ℕ) → found q runs.new.entries
         ≡ cond (begins q row.now) (staked (found q runs.old.entries)) (found q runs.old.entries)) }
@@ -52,7 +55,7 @@ fn stake_all(runs: &mut BTreeMap<u64, Run>, row: &[(u64, Run)]) -> Result<(), Ou
 }
 
 // Takes a position: where no run begins, an empty one is put.
-fn stake(runs: &mut BTreeMap<u64, Run>, at: u64) -> Result<(), OutOfMemory>
+fn stake<N: Numbers>(runs: &mut BTreeMap<u64, Run<N>>, at: u64) -> Result<(), OutOfMemory>
     ensures ok { OnOk result ((q : ℕ) → found q runs.new.entries
         ≡ cond (is_at (nat_cmp at) q) (staked (found q runs.old.entries)) (found q runs.old.entries)) }
     ensures err { OnErr result (runs.new.entries ≡ runs.old.entries) }
@@ -65,7 +68,7 @@ fn stake(runs: &mut BTreeMap<u64, Run>, at: u64) -> Result<(), OutOfMemory>
 }
 
 // Gives the positions of a row back.
-fn unstake_all(runs: &mut BTreeMap<u64, Run>, row: &[(u64, Run)])
+fn unstake_all<N: Numbers>(runs: &mut BTreeMap<u64, Run<N>>, row: &[(u64, Run<N>)])
     ensures { (q : ℕ) → found q runs.new.entries
         ≡ cond (begins q row.now) (unstaked (found q runs.old.entries)) (found q runs.old.entries) }
 {
@@ -75,7 +78,7 @@ fn unstake_all(runs: &mut BTreeMap<u64, Run>, row: &[(u64, Run)])
 }
 
 // Gives a position back: takes an empty run away.
-fn unstake(runs: &mut BTreeMap<u64, Run>, at: u64)
+fn unstake<N: Numbers>(runs: &mut BTreeMap<u64, Run<N>>, at: u64)
     ensures { (q : ℕ) → found q runs.new.entries
         ≡ cond (is_at (nat_cmp at) q) (unstaked (found q runs.old.entries)) (found q runs.old.entries) }
 {
@@ -86,7 +89,7 @@ fn unstake(runs: &mut BTreeMap<u64, Run>, at: u64)
 }
 
 // Whether an empty run is at the position.
-fn is_staked(runs: &BTreeMap<u64, Run>, at: u64) -> bool
+fn is_staked<N: Numbers>(runs: &BTreeMap<u64, Run<N>>, at: u64) -> bool
     ensures { result ≡ is_stake (found at runs.now.entries) }
 {
     match runs.get(&at) {
@@ -96,7 +99,7 @@ fn is_staked(runs: &BTreeMap<u64, Run>, at: u64) -> bool
 }
 
 // Puts the runs of a row, whose positions are taken, from right to left, and takes away all others where it reaches.
-fn settle(runs: &mut BTreeMap<u64, Run>, row: Vec<(u64, Run)>, end: u64)
+fn settle<N: Numbers>(runs: &mut BTreeMap<u64, Run<N>>, row: Vec<(u64, Run<N>)>, end: u64)
     requires row { IsRow row.items end }
     requires taken { (q : ℕ) → begins q row.items ≡ true → IsSome (found q runs.old.entries) }
     ensures { IsExchanged row.items runs.old.entries runs.new.entries end }
@@ -111,7 +114,7 @@ fn settle(runs: &mut BTreeMap<u64, Run>, row: Vec<(u64, Run)>, end: u64)
 }
 
 // Takes away the runs that begin from `from` up to `to`.
-fn clear(runs: &mut BTreeMap<u64, Run>, from: u64, to: u64)
+fn clear<N: Numbers>(runs: &mut BTreeMap<u64, Run<N>>, from: u64, to: u64)
     requires { from ≤ to }
     ensures before { (q : ℕ) → q < from → found q runs.new.entries ≡ found q runs.old.entries }
     ensures within { (q : ℕ) → from ≤ q → q < to → found q runs.new.entries ≡ None }
@@ -123,7 +126,7 @@ fn clear(runs: &mut BTreeMap<u64, Run>, from: u64, to: u64)
 }
 
 // Puts a run at a position that is taken.
-fn put(runs: &mut BTreeMap<u64, Run>, at: u64, run: Run)
+fn put<N: Numbers>(runs: &mut BTreeMap<u64, Run<N>>, at: u64, run: Run<N>)
     requires { IsSome (found at runs.old.entries) }
     ensures { (q : ℕ) → found q runs.new.entries ≡ cond (is_at (nat_cmp at) q) (Some run) (found q runs.old.entries) }
 {

@@ -2,11 +2,11 @@
 ghost use Rattle.std.specs.Prelude.{◌≡◌, ℕ, ◌<◌, ◌≤◌, None, IfNone, IfSome, IsSome, option_map, slice_get};
 ghost use Rattle.mr_runs.specs.Placed.{begun_from, found, total_len, Holds, IsTiled};
 
-use crate::run::Run;
+use crate::run::{Numbers, Run};
 use std::collections::BTreeMap;
 
 /// The run that holds a position, and where it begins. Most positions are in the last run.
-pub(crate) fn run_at(runs: &BTreeMap<u64, Run>, at: u64) -> (u64, &Run)
+pub(crate) fn run_at<N: Numbers>(runs: &BTreeMap<u64, Run<N>>, at: u64) -> (u64, &Run<N>)
     requires tiled { IsTiled runs.now.entries }
     requires inside { at < total_len runs.now.entries }
     ensures { Holds runs.now.entries at result.0 result.1.now }
@@ -23,7 +23,11 @@ pub(crate) fn run_at(runs: &BTreeMap<u64, Run>, at: u64) -> (u64, &Run)
 }
 
 /// The first position from `from` up to `to` at which a run begins.
-pub(crate) fn first_begin(runs: &BTreeMap<u64, Run>, from: u64, to: u64) -> Option<u64>
+pub(crate) fn first_begin<N: Numbers>(
+    runs: &BTreeMap<u64, Run<N>>,
+    from: u64,
+    to: u64,
+) -> Option<u64>
     requires { from ≤ to }
     ensures some { IfSome result (λ at. (from ≤ at) × (at < to) × IsSome (found at runs.now.entries)) }
     ensures none { IfNone result ((q : ℕ) → from ≤ q → q < to → found q runs.now.entries ≡ None) }
@@ -35,7 +39,11 @@ pub(crate) fn first_begin(runs: &BTreeMap<u64, Run>, from: u64, to: u64) -> Opti
 }
 
 /// The run with the number `n`, counted from the one that begins at `first`, and where it begins.
-pub(crate) fn nth_from(runs: &BTreeMap<u64, Run>, first: u64, n: usize) -> Option<(u64, &Run)>
+pub(crate) fn nth_from<N: Numbers>(
+    runs: &BTreeMap<u64, Run<N>>,
+    first: u64,
+    n: usize,
+) -> Option<(u64, &Run<N>)>
     ensures { option_map (λ e. (e.0, e.1.now)) result ≡ slice_get (begun_from first runs.now.entries) n }
 {
     let mut left = n;

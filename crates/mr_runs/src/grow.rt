@@ -17,7 +17,7 @@ use std::collections::BTreeMap;
 /// Writes numbers behind a run that ends where they begin and has their provenance, if the uninitialised bytes there are more. Answers
 /// whether it did.
 pub(crate) fn write_behind(
-    runs: &mut BTreeMap<u64, Run>,
+    runs: &mut BTreeMap<u64, Run<Vec<u8>>>,
     from: u64,
     numbers: &[u8],
     provenance: Option<AllocId>,
@@ -54,7 +54,7 @@ pub(crate) fn write_behind(
 
 // Where the run begins that can grow by the numbers, and how many uninitialised bytes are left behind them.
 fn growing(
-    runs: &BTreeMap<u64, Run>,
+    runs: &BTreeMap<u64, Run<Vec<u8>>>,
     from: u64,
     numbers: &[u8],
     provenance: Option<AllocId>,
@@ -88,7 +88,11 @@ fn growing(
 }
 
 // Puts numbers behind those of the run that begins at the position.
-fn grow(runs: &mut BTreeMap<u64, Run>, begin: u64, numbers: &[u8]) -> Result<(), OutOfMemory>
+fn grow(
+    runs: &mut BTreeMap<u64, Run<Vec<u8>>>,
+    begin: u64,
+    numbers: &[u8],
+) -> Result<(), OutOfMemory>
     ensures ok { OnOk result ((p : SeenPiece) → found begin runs.old.entries ≡ Some p → (q : ℕ)
         → found q runs.new.entries
         ≡ cond (is_at (nat_cmp begin) q) (Some (with_numbers p numbers.now)) (found q runs.old.entries)) }

@@ -10,7 +10,9 @@
 //! provenance. No run is empty, and no two neighbours could be one run. A run is found by its position in an ordered map. A
 //! write or a fill makes anew the runs of its range and what stays of the two at its ends. Bytes that go into a run of bytes with
 //! their provenance are put in place, and bytes right behind such a run, over uninitialised ones, make it longer, whether they
-//! are written or filled in.
+//! are written or filled in. Where a change would copy many bytes of a run that it leaves as they are, the marks are set apart
+//! first, for good: from then on each byte has a place of its own for its number, the runs keep no numbers, and a change costs
+//! what it changes and the search for it.
 //!
 //! Proved: contracts see a `Runs` as the list of its bytes and a `View` as the list of its pieces. The pieces of a view
 //! join to exactly the part that was asked for, and there are no fewer pieces of it. A write or a fill replaces just its range
@@ -21,7 +23,9 @@
 mod exchange;
 mod finding;
 mod grow;
+mod kept;
 mod mark;
+mod marks;
 mod replace;
 mod row;
 mod run;

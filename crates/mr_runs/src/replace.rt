@@ -19,7 +19,7 @@ use std::collections::BTreeMap;
 /// Writes bytes into a run of bytes with their provenance, where the range lies in one: their numbers are put in place.
 /// Answers whether it did.
 pub(crate) fn write_in_place(
-    runs: &mut BTreeMap<u64, Run>,
+    runs: &mut BTreeMap<u64, Run<Vec<u8>>>,
     from: u64,
     bytes: &[AbstractByte],
 ) -> bool
@@ -45,7 +45,7 @@ pub(crate) fn write_in_place(
 /// Writes numbers into a run of bytes with their provenance, where the range lies in one: they are put in place. Answers whether it
 /// did.
 pub(crate) fn put_in_place(
-    runs: &mut BTreeMap<u64, Run>,
+    runs: &mut BTreeMap<u64, Run<Vec<u8>>>,
     from: u64,
     numbers: &[u8],
     provenance: Option<AllocId>,
@@ -71,7 +71,7 @@ pub(crate) fn put_in_place(
 /// Writes bytes one by one, and makes the runs anew that the range meets.
 pub(crate) fn write_each(
     alloc: Global,
-    runs: &mut BTreeMap<u64, Run>,
+    runs: &mut BTreeMap<u64, Run<Vec<u8>>>,
     len: u64,
     from: u64,
     bytes: &[AbstractByte],
@@ -92,7 +92,7 @@ pub(crate) fn write_each(
 /// Puts the bytes of a piece in place of as many, and makes the runs anew that the range meets.
 pub(crate) fn replace(
     alloc: Global,
-    runs: &mut BTreeMap<u64, Run>,
+    runs: &mut BTreeMap<u64, Run<Vec<u8>>>,
     len: u64,
     from: u64,
     piece: Piece<'_>,
@@ -114,9 +114,9 @@ pub(crate) fn replace(
 // A row that begins with what stands before `from` of the run that goes on or ends there.
 fn front(
     alloc: Global,
-    runs: &BTreeMap<u64, Run>,
+    runs: &BTreeMap<u64, Run<Vec<u8>>>,
     from: u64,
-) -> Result<Vec<(u64, Run)>, OutOfMemory>
+) -> Result<Vec<(u64, Run<Vec<u8>>)>, OutOfMemory>
     requires tiled { IsTiled runs.now.entries }
     requires inside { from ≤ total_len runs.now.entries }
     ensures { IfOk result (λ row. IsBegun runs.now.entries row.items (take from (bytes_in runs.now.entries))) }
@@ -134,8 +134,8 @@ fn front(
 // Puts what stands from `to` on of the run there behind a row that ends there, and answers where the row then ends.
 fn close(
     alloc: Global,
-    row: &mut Vec<(u64, Run)>,
-    runs: &BTreeMap<u64, Run>,
+    row: &mut Vec<(u64, Run<Vec<u8>>)>,
+    runs: &BTreeMap<u64, Run<Vec<u8>>>,
     len: u64,
     to: u64,
 ) -> Result<u64, OutOfMemory>

@@ -16,7 +16,7 @@ use std::alloc::Global;
 /// Puts a piece behind a row, which ends at `at`.
 pub(crate) fn push(
     alloc: Global,
-    row: &mut Vec<(u64, Run)>,
+    row: &mut Vec<(u64, Run<Vec<u8>>)>,
     at: u64,
     piece: Piece<'_>,
 ) -> Result<(), OutOfMemory>
@@ -39,7 +39,7 @@ pub(crate) fn push(
 // Puts a piece behind a row as a run of its own.
 fn add(
     alloc: Global,
-    row: &mut Vec<(u64, Run)>,
+    row: &mut Vec<(u64, Run<Vec<u8>>)>,
     at: u64,
     piece: Piece<'_>,
 ) -> Result<(), OutOfMemory>
@@ -53,7 +53,7 @@ fn add(
 /// Puts bytes behind a row one by one.
 pub(crate) fn push_each(
     alloc: Global,
-    row: &mut Vec<(u64, Run)>,
+    row: &mut Vec<(u64, Run<Vec<u8>>)>,
     at: u64,
     bytes: &[AbstractByte],
 ) -> Result<(), OutOfMemory>
@@ -71,7 +71,7 @@ pub(crate) fn push_each(
 // Puts a byte behind a row.
 fn push_byte(
     alloc: Global,
-    row: &mut Vec<(u64, Run)>,
+    row: &mut Vec<(u64, Run<Vec<u8>>)>,
     at: u64,
     byte: AbstractByte,
 ) -> Result<(), OutOfMemory>

@@ -3,6 +3,7 @@ ghost use Rattle.std.specs.Prelude.{◌≡◌, ◌↔◌, ◌+◌, ◌<◌, ◌�
 ghost use Rattle.mr_base.specs.declared.byte.AbstractByte.TheVariants.{Init};
 ghost use Rattle.mr_base.specs.declared.byte.AllocId.{AllocId};
 ghost use Rattle.mr_runs.specs.Exchanged.{together};
+ghost use Rattle.mr_runs.specs.Contents.{marked_piece};
 ghost use Rattle.mr_runs.specs.Growing.{with_numbers};
 ghost use Rattle.mr_runs.specs.Numbers.{number_of, with_numbers_at, AreOf, IsInPlace, TakesNumbers};
 ghost use Rattle.mr_runs.specs.Pieces.{UninitPiece, bytes_of_piece, mark_of, piece_len};
@@ -17,32 +18,68 @@ use mr_base::{AbstractByte, AllocId};
 use std::alloc::Global;
 use std::marker::Model;
 
+/// How a run keeps the numbers of its bytes: itself, or apart from it, and then it has zeros in their place.
+pub(crate) trait Numbers: Drop {
+    ghost use Rattle.std.specs.Prelude.{List, ℕ, ◌≡◌, length};
+
+    /// The numbers, as the run has them.
+    ghost listed: { Self → List ℕ };
+
+    /// How many there are.
+    fn count(&self) -> u64
+        ensures { result ≡ length (listed self.now) };
+}
+
+impl Numbers for Vec<u8> {
+    ghost listed = { λ v. v.items };
+
+    fn count(&self) -> u64 {
+        self.len() as u64
+    }
+}
+
+/// So many numbers, which are kept apart.
+#[derive(Drop)]
+pub(crate) struct Apart {
+    count: u64,
+}
+
+impl Numbers for Apart {
+    ghost use Rattle.std.specs.Prelude.{replicate};
+
+    ghost listed = { λ a. replicate a.count 0 };
+
+    fn count(&self) -> u64 {
+        self.count
+    }
+}
+
 /// What a run keeps.
 #[derive(Drop)]
-enum Content {
+enum Content<N> {
     Uninit(u64),
-    Bytes(Vec<u8>, Option<AllocId>),
+    Bytes(N, Option<AllocId>),
 }
 
 /// So many uninitialised bytes, or the numbers of initialised ones with their provenance. Contracts see its piece.
 #[derive(Drop)]
-pub(crate) struct Run {
-    content: Content,
+pub(crate) struct Run<N: Numbers> {
+    content: Content<N>,
 }
 
-impl Model for Run {
+impl<N: Numbers> Model for Run<N> {
     ghost use Rattle.mr_runs.specs.Pieces.{SeenPiece};
 
     ghost Value = { SeenPiece };
 
     ghost use Rattle.mr_runs.specs.Contents.{piece_of_content};
 
-    ghost view = { λ r. piece_of_content r.content };
+    ghost view = { λ r. piece_of_content N.listed r.content };
 }
 
-impl Run {
+impl<N: Numbers> Run<N> {
     /// So many uninitialised bytes.
-    pub(crate) fn uninit(len: u64) -> Run
+    pub(crate) fn uninit(len: u64) -> Run<N>
         ensures { result ≡ UninitPiece len }
     {
         Run {
@@ -50,8 +87,53 @@ impl Run {
         }
     }
 
+    /// How many bytes there are.
+    pub(crate) fn len(&self) -> u64
+        ensures { result ≡ piece_len self.now }
+    {
+        match &self.content {
+            Content::Uninit(len) => *len,
+            Content::Bytes(numbers, _) => numbers.count(),
+        }
+    }
+
+    /// What the bytes have in common.
+    pub(crate) fn mark(&self) -> Mark
+        ensures { result ≡ mark_of self.now }
+    {
+        match &self.content {
+            Content::Uninit(_) => Mark::Uninit,
+            Content::Bytes(_, provenance) => Mark::Init(*provenance),
+        }
+    }
+}
+
+impl Run<Apart> {
+    /// So many bytes with a mark.
+    pub(crate) fn marked(len: u64, mark: Mark) -> Run<Apart>
+        ensures { result ≡ marked_piece len mark }
+    {
+        let content = match mark {
+            Mark::Uninit => Content::Uninit(len),
+            Mark::Init(provenance) => Content::Bytes(Apart { count: len }, provenance),
+        };
+        Run { content }
+    }
+
+    /// How many bytes there are, and what they have in common. It keeps nothing else.
+    pub(crate) fn told(&self) -> (u64, Mark)
+        ensures { self.now ≡ marked_piece result.0 result.1 }
+    {
+        match &self.content {
+            Content::Uninit(len) => (*len, Mark::Uninit),
+            Content::Bytes(numbers, provenance) => (numbers.count, Mark::Init(*provenance)),
+        }
+    }
+}
+
+impl Run<Vec<u8>> {
     /// The bytes of a piece.
-    pub(crate) fn of(alloc: Global, piece: Piece<'_>) -> Result<Run, OutOfMemory>
+    pub(crate) fn of(alloc: Global, piece: Piece<'_>) -> Result<Run<Vec<u8>>, OutOfMemory>
         ensures { IfOk result (λ run. run ≡ seen_piece piece.entry) }
     {
         match piece {
@@ -67,7 +149,7 @@ impl Run {
     }
 
     /// The run with the bytes of a piece behind its own; the piece has its mark.
-    pub(crate) fn with(self, piece: Piece<'_>) -> Result<Run, OutOfMemory>
+    pub(crate) fn with(self, piece: Piece<'_>) -> Result<Run<Vec<u8>>, OutOfMemory>
         requires { piece_len self + piece_len (seen_piece piece) < 2 ^ 64 }
         ensures { IfOk result (λ run. run ≡ together self (seen_piece piece.entry)) }
     {
@@ -80,26 +162,6 @@ impl Run {
                     content: Content::Bytes(numbers, provenance),
                 })
             }
-        }
-    }
-
-    /// How many bytes there are.
-    pub(crate) fn len(&self) -> u64
-        ensures { result ≡ piece_len self.now }
-    {
-        match &self.content {
-            Content::Uninit(len) => *len,
-            Content::Bytes(numbers, _) => numbers.len() as u64,
-        }
-    }
-
-    /// What the bytes have in common.
-    pub(crate) fn mark(&self) -> Mark
-        ensures { result ≡ mark_of self.now }
-    {
-        match &self.content {
-            Content::Uninit(_) => Mark::Uninit,
-            Content::Bytes(_, provenance) => Mark::Init(*provenance),
         }
     }
 
@@ -228,8 +290,8 @@ pub(crate) fn provenance_of(bytes: &[AbstractByte]) -> Option<Option<AllocId>>
     }
 }
 
-// A part of a slice.
-fn slice_of(numbers: &[u8], from: usize, len: usize) -> &[u8]
+/// A part of a slice.
+pub(crate) fn slice_of(numbers: &[u8], from: usize, len: usize) -> &[u8]
     requires { from + len ≤ length numbers.now }
     ensures { result.now ≡ take len (drop from numbers.now) }
 {
@@ -268,8 +330,8 @@ fn number(byte: AbstractByte) -> u8
     }
 }
 
-// Puts the numbers of bytes in place of as many numbers.
-fn put_numbers(numbers: &mut [u8], at: usize, bytes: &[AbstractByte])
+/// Puts the numbers of bytes in place of as many numbers.
+pub(crate) fn put_numbers(numbers: &mut [u8], at: usize, bytes: &[AbstractByte])
     requires { at + length bytes.now ≤ length numbers.old }
     ensures { numbers.new ≡ with_range_replaced numbers.old at (map number_of bytes.now) }
 {
@@ -278,8 +340,8 @@ fn put_numbers(numbers: &mut [u8], at: usize, bytes: &[AbstractByte])
     }
 }
 
-// Puts numbers in place of as many others.
-fn replace_numbers(numbers: &mut [u8], at: usize, others: &[u8])
+/// Puts numbers in place of as many others.
+pub(crate) fn replace_numbers(numbers: &mut [u8], at: usize, others: &[u8])
     requires { at + length others.now ≤ length numbers.old }
     ensures { numbers.new ≡ with_range_replaced numbers.old at others.now }
 {

@@ -3,26 +3,23 @@ ghost use Rattle.std.specs.Prelude.{◌≡◌, ◌≤◌, ◌+◌, ◌<◌, ◌+
 ghost use Rattle.mr_base.specs.declared.byte.AbstractByte.TheVariants.{Uninit};
 ghost use Rattle.mr_runs.specs.Numbers.{with_provenance};
 ghost use Rattle.mr_runs.specs.Pieces.{bytes_of_pieces, AreMaximal};
-ghost use Rattle.mr_runs.specs.Placed.{bytes_in, total_len, IsReplaced, IsTiled};
 ghost use Rattle.mr_runs.specs.Ranges.{with_range_replaced};
 
 use crate::OutOfMemory;
-use crate::grow::write_behind;
-use crate::replace::{put_in_place, replace, write_each, write_in_place};
-use crate::run::{Run, numbers_of, provenance_of};
+use crate::kept::{Kept, put_piece, uninit_runs, write_bytes};
 use crate::views::{Piece, View, lend};
 use mr_base::{AbstractByte, AllocId};
 use std::alloc::Global;
-use std::collections::BTreeMap;
 use std::marker::Model;
 
 /// A list of abstract bytes, as an allocation holds them. (MiniRust, memory: abstract bytes.)
 ///
 /// Positions and lengths are in bytes. The only error of its calls is want of memory, and then nothing has changed. The bytes
-/// are kept in runs, each under the position where it begins.
+/// are kept in runs, each under the position where it begins, until a change would copy many that it leaves as they are:
+/// from then on each byte has a place for its number, and the runs have none.
 #[derive(Drop)]
 pub struct Runs {
-    runs: BTreeMap<u64, Run>,
+    kept: Kept,
     len: u64,
     alloc: Global,
 }
@@ -33,11 +30,12 @@ impl Model for Runs {
 
     ghost Value = { List AbstractByte };
 
-    ghost use Rattle.mr_runs.specs.Placed.{bytes_in, total_len, IsTiled};
+    ghost use Rattle.mr_runs.specs.Placed.{bytes_in};
+    ghost use Rattle.mr_runs.specs.Stamped.{entries_of, IsSound};
 
-    ghost view = { λ r. bytes_in r.runs.entries };
+    ghost view = { λ r. bytes_in (entries_of r.kept) };
 
-    ghost invariant = { λ r. IsTiled r.runs.entries × (total_len r.runs.entries ≡ r.len) };
+    ghost invariant = { λ r. IsSound r.kept r.len };
 }
 
 impl Runs {
@@ -46,7 +44,11 @@ impl Runs {
         ensures { IfOk result (λ runs. runs ≡ replicate len Uninit) }
     {
         let runs = uninit_runs(alloc, len)?;
-        Ok(Runs { runs, len, alloc })
+        Ok(Runs {
+            kept: Kept::Whole(runs),
+            len,
+            alloc,
+        })
     }
 
     /// The `len` bytes from the position `from` on, lent in as few pieces as can be. This takes no memory.
@@ -56,7 +58,7 @@ impl Runs {
         ensures maximal { AreMaximal result }
     {
         let _all = self.len();
-        lend(&self.runs, from, len)
+        lend(&self.kept, from, len)
     }
 
     /// Puts `bytes` in place of just as many bytes from the position `from` on.
@@ -69,23 +71,7 @@ impl Runs {
         if bytes.is_empty() {
             return Ok(());
         }
-        if write_in_place(&mut self.runs, from, bytes) {
-            return Ok(());
-        }
-        match provenance_of(bytes) {
-            Some(provenance) => {
-                let numbers = numbers_of(self.alloc, bytes)?;
-                write_alike(
-                    self.alloc,
-                    &mut self.runs,
-                    self.len,
-                    from,
-                    numbers.as_slice(),
-                    provenance,
-                )
-            }
-            None => write_each(self.alloc, &mut self.runs, self.len, from, bytes),
-        }
+        write_bytes(self.alloc, &mut self.kept, self.len, from, bytes)
     }
 
     /// Puts initialised bytes with these numbers and one provenance in place of just as many bytes from the position `from` on. Where the
@@ -105,16 +91,12 @@ impl Runs {
         if numbers.is_empty() {
             return Ok(());
         }
-        if put_in_place(&mut self.runs, from, numbers, provenance) {
-            return Ok(());
-        }
-        write_alike(
+        put_piece(
             self.alloc,
-            &mut self.runs,
+            &mut self.kept,
             self.len,
             from,
-            numbers,
-            provenance,
+            Piece::Bytes(numbers, provenance),
         )
     }
 
@@ -144,9 +126,9 @@ impl Runs {
         if len == 0 {
             return Ok(());
         }
-        replace(
+        put_piece(
             self.alloc,
-            &mut self.runs,
+            &mut self.kept,
             self.len,
             from,
             Piece::Uninit(len),
@@ -179,40 +161,4 @@ impl Runs {
     {
         self.len
     }
-}
-
-// The runs of so many uninitialised bytes: one, or none.
-fn uninit_runs(alloc: Global, len: u64) -> Result<BTreeMap<u64, Run>, OutOfMemory>
-    ensures tiled { IfOk result (λ runs. IsTiled runs.entries) }
-    ensures whole { IfOk result (λ runs. total_len runs.entries ≡ len) }
-    ensures bytes { IfOk result (λ runs. bytes_in runs.entries ≡ replicate len Uninit) }
-{
-    let mut runs = BTreeMap::new(alloc);
-    if len == 0 {
-        return Ok(runs);
-    }
-    runs.insert(0, Run::uninit(len))?;
-    Ok(runs)
-}
-
-// Writes numbers with one provenance, behind a run of it or in the place of what stands there.
-fn write_alike(
-    alloc: Global,
-    runs: &mut BTreeMap<u64, Run>,
-    len: u64,
-    from: u64,
-    numbers: &[u8],
-    provenance: Option<AllocId>,
-) -> Result<(), OutOfMemory>
-    requires tiled { IsTiled runs.old.entries }
-    requires whole { total_len runs.old.entries ≡ len }
-    requires inside { from + length numbers.now ≤ len }
-    requires some { 0 < length numbers.now }
-    ensures ok { OnOk result (IsReplaced runs.old.entries runs.new.entries from (with_provenance provenance numbers.now)) }
-    ensures err { OnErr result (runs.new.entries ≡ runs.old.entries) }
-{
-    if write_behind(runs, from, numbers, provenance)? {
-        return Ok(());
-    }
-    replace(alloc, runs, len, from, Piece::Bytes(numbers, provenance))
 }

@@ -2,7 +2,7 @@ use Rattle.std.proofs.Common.{ℕ, ◌<◌, get_or}
 use Rattle.mr_clocks.specs.declared.keys.Key.{Key}
 use Rattle.mr_clocks.specs.Keys.{IsExact}
 use Rattle.mr_clocks.specs.Marks.{IsMarked}
-use Rattle.mr_clocks.specs.Rows.{IsListed}
+use Rattle.mr_clocks.specs.Rows.{IsAsked, IsListed}
 use Rattle.mr_clocks.proofs.index.collect_keys.Given as goal
 
 abbrev pub invariant-loop-i : goal.invariant-loop-i
@@ -11,5 +11,6 @@ invariant-loop-i l =
       kept : (x : ℕ) → IsListed l.initial.found.items x → IsListed l.found.items x;
       all :
           (d : Key) (z x : ℕ) → z < l.i → IsExact (get_or l.keys z d)
-          → IsMarked l.index.shelves.items l.index.marks.keys (get_or l.keys z d) x → IsListed l.found.items x;
+          → IsMarked l.index.shelves.items l.index.marks.keys (get_or l.keys z d) x → IsAsked l.step l.rows x
+          → IsListed l.found.items x;
     }

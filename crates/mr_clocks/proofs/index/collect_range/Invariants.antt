@@ -2,7 +2,7 @@ use Rattle.std.proofs.Common.{◌≡◌, ℕ, ◌<◌, ◌^◌, true}
 use Rattle.mr_base.specs.declared.access.Access.{Access}
 use Rattle.mr_base.specs.Accesses.{conflicts}
 use Rattle.mr_clocks.specs.Marks.{IsOnShelf, has_mark, mark_of}
-use Rattle.mr_clocks.specs.Rows.{IsListed}
+use Rattle.mr_clocks.specs.Rows.{IsAsked, IsListed}
 use Rattle.mr_clocks.proofs.index.collect_range.Given as goal
 
 abbrev pub invariant-loop-s : goal.invariant-loop-s
@@ -11,5 +11,5 @@ invariant-loop-s l =
       kept : (x : ℕ) → IsListed l.initial.found.items x → IsListed l.found.items x;
       all :
           (z : ℕ) (r : Access) (t x : ℕ) → z < l.s → conflicts r l.access ≡ true → IsOnShelf l.index.shelves.items r z → t < 2 ^ 32 → x < 2 ^ 64
-          → has_mark l.index.marks.keys (mark_of z r.addr t x) ≡ true → IsListed l.found.items x;
+          → has_mark l.index.marks.keys (mark_of z r.addr t x) ≡ true → IsAsked l.step l.rows x → IsListed l.found.items x;
     }

@@ -3,7 +3,7 @@ use Rattle.mr_base.specs.declared.access.Access.{Access}
 use Rattle.mr_base.specs.Accesses.{conflicts}
 use Rattle.mr_clocks.specs.declared.keys.Key.TheVariants.{Range}
 use Rattle.mr_clocks.specs.Marks.{IsMarked}
-use Rattle.mr_clocks.specs.Rows.{IsListed}
+use Rattle.mr_clocks.specs.Rows.{IsAsked, IsListed}
 use Rattle.mr_clocks.proofs.index.collect_ranges.Given as goal
 
 abbrev pub invariant-loop-i : goal.invariant-loop-i
@@ -12,5 +12,5 @@ invariant-loop-i l =
       kept : (x : ℕ) → IsListed l.initial.found.items x → IsListed l.found.items x;
       all :
           (d : Access) (z : ℕ) (r : Access) (x : ℕ) → z < l.i → conflicts r (get_or l.accesses z d) ≡ true
-          → IsMarked l.index.shelves.items l.index.marks.keys (Range r) x → IsListed l.found.items x;
+          → IsMarked l.index.shelves.items l.index.marks.keys (Range r) x → IsAsked l.step l.rows x → IsListed l.found.items x;
     }

@@ -3,7 +3,7 @@ use Rattle.mr_runs.specs.Placed.{found}
 use Rattle.mr_runs.proofs.exchange.clear.Given as goal
 
 abbrev pub invariant-loop-at : goal.invariant-loop-at
-invariant-loop-at l = ((q : ℕ) → q < l.from → found q l.runs.entries ≡ found q l.initial.runs.entries) × ((q : ℕ) → l.to ≤ q → found q l.runs.entries ≡ found q l.initial.runs.entries)
+invariant-loop-at g l = ((q : ℕ) → q < l.from → found q l.runs.entries ≡ found q l.initial.runs.entries) × ((q : ℕ) → l.to ≤ q → found q l.runs.entries ≡ found q l.initial.runs.entries)
 
 abbrev pub decreases-loop-at : goal.decreases-loop-at
-decreases-loop-at l = btree_map_len l.runs
+decreases-loop-at g l = btree_map_len l.runs

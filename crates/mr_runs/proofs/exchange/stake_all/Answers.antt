@@ -5,7 +5,7 @@ use Rattle.mr_runs.proofs.PlacedLaws.{same_as_placed}
 use Rattle.mr_runs.proofs.exchange.stake_all.Goals as goal
 
 pub returns-in-Err-clause-err : goal.returns-in-Err-clause-err
-returns-in-Err-clause-err c =
+returns-in-Err-clause-err g c =
     let old = c.args.runs.now.entries in
     let now = c.stake.new.runs.entries in
     let new = c.unstake_all.new.runs.entries in

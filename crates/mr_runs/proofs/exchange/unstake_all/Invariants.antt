@@ -4,4 +4,4 @@ use Rattle.mr_runs.specs.Placed.{found}
 use Rattle.mr_runs.proofs.exchange.unstake_all.Given as goal
 
 abbrev pub invariant-loop-at : goal.invariant-loop-at
-invariant-loop-at l = (q : ℕ) → found q l.runs.entries ≡ cond (begins q (take l.at-index l.row)) (unstaked (found q l.initial.runs.entries)) (found q l.initial.runs.entries)
+invariant-loop-at g l = (q : ℕ) → found q l.runs.entries ≡ cond (begins q (take l.at-index l.row)) (unstaked (found q l.initial.runs.entries)) (found q l.initial.runs.entries)

@@ -1,53 +1,45 @@
-use Rattle.std.proofs.Common.{◌∙◌, ◌+◌, ℕ, List, sym, ap, arith}
+use Rattle.std.proofs.Common.{◌∙◌, ℕ, List, length, Some, sym, ap, subst, arith}
 use Rattle.std.specs.Prelude.{slice_get}
+use Rattle.mr_runs.specs.declared.kept.Kept.{Kept}
+use Rattle.mr_runs.specs.Lent.{lent_pieces}
+use Rattle.mr_runs.specs.Stamped.{IsSound, IsStamped, stamped}
 use Rattle.std.specs.Map.{values_of}
-use Rattle.mr_runs.specs.Pieces.{SeenPiece}
 use Rattle.mr_runs.specs.Windows.{first_pieces, pieces_past}
-use Rattle.mr_runs.proofs.FindLaws.{begun_from-holder}
-use Rattle.mr_runs.proofs.ViewLaws.{clipped_entry, none_of, nth_ends, piece_from_holder}
+use Rattle.mr_runs.proofs.StampLaws.{stamped_here}
 use Rattle.mr_runs.proofs.views.piece_of.Goals as goal
 
-pub returns-then-len-eq0 : goal.returns-then-len-eq0
-returns-then-len-eq0 c =
-    sym (ap (λ (ps : List SeenPiece). slice_get ps c.args.n) (none_of (pieces_past (values_of c.args.runs.now.entries) c.args.from) c.args.len c.if-len-eq0.true))
+pub piece_of_runs-requires-clause-tiled : goal.piece_of_runs-requires-clause-tiled
+piece_of_runs-requires-clause-tiled c = (subst (λ (k : Kept). IsSound k c.requires.0) c.in-Whole.is c.requires.1).0
 
-pub returns-then-n-eq0 : goal.returns-then-n-eq0
-returns-then-n-eq0 c =
-    let es = c.args.runs.now.entries in
-    let from = c.args.from in
-    let first = c.run_at-first.result.0 in
-    let p = c.run_at-first.result.1.now in
-    let h = c.run_at-first.ensures in
-    c.clipped.ensures
-    ∙ sym (ap (λ (k : ℕ). slice_get (first_pieces (pieces_past (values_of es) from) c.args.len) k) c.if-n-eq0.true
-    ∙ piece_from_holder es from c.args.len 0 first p c.requires.tiled h (omega arith))
+pub piece_of_runs-requires-clause-inside : goal.piece_of_runs-requires-clause-inside
+piece_of_runs-requires-clause-inside c =
+    let whole = (subst (λ (k : Kept). IsSound k c.requires.0) c.in-Whole.is c.requires.1).1 in
+    let inside = c.requires.2 in
+    omega (arith, whole, inside)
 
-pub clipped-requires-in-Some-clause-inside : goal.clipped-requires-in-Some-clause-inside
-clipped-requires-in-Some-clause-inside c =
-    let es = c.args.runs.now.entries in
-    let first = c.run_at-first.result.0 in
-    let p = c.run_at-first.result.1.now in
-    let h = c.run_at-first.ensures in
-    nth_ends es c.args.from first p c.args.n (c.in-Some.begin, c.in-Some.run'.now) c.requires.tiled h
-    (ap (λ (xs : List (ℕ × SeenPiece)). slice_get xs c.args.n) (sym (begun_from-holder es c.args.from first p c.requires.tiled h)) ∙ sym c.in-Some.ensures)
+pub piece_of_runs-requires-clause-fits : goal.piece_of_runs-requires-clause-fits
+piece_of_runs-requires-clause-fits c = c.requires.3
 
-pub returns-in-Some : goal.returns-in-Some
-returns-in-Some c =
-    let es = c.args.runs.now.entries in
-    let from = c.args.from in
-    let first = c.run_at-first.result.0 in
-    let p = c.run_at-first.result.1.now in
-    let h = c.run_at-first.ensures in
-    c.clipped-in-Some.ensures
-    ∙ ap (λ o. clipped_entry o from (from + c.args.len)) (c.in-Some.ensures ∙ ap (λ (xs : List (ℕ × SeenPiece)). slice_get xs c.args.n) (begun_from-holder es from first p c.requires.tiled h))
-    ∙ sym (piece_from_holder es from c.args.len c.args.n first p c.requires.tiled h (omega arith))
+pub returns-in-Whole : goal.returns-in-Whole
+returns-in-Whole c = c.piece_of_runs.ensures ∙ ap (λ (k : Kept). slice_get (lent_pieces (Some k) c.args.from c.args.len) c.args.n) (sym c.in-Whole.is)
 
-pub returns-in-None : goal.returns-in-None
-returns-in-None c =
-    let es = c.args.runs.now.entries in
-    let from = c.args.from in
-    let first = c.run_at-first.result.0 in
-    let p = c.run_at-first.result.1.now in
-    let h = c.run_at-first.ensures in
-    ap (λ o. clipped_entry o from (from + c.args.len)) (c.in-None.ensures ∙ ap (λ (xs : List (ℕ × SeenPiece)). slice_get xs c.args.n) (begun_from-holder es from first p c.requires.tiled h))
-    ∙ sym (piece_from_holder es from c.args.len c.args.n first p c.requires.tiled h (omega arith))
+pub piece_of_marks-requires-clause-sound : goal.piece_of_marks-requires-clause-sound
+piece_of_marks-requires-clause-sound c =
+    let es = c.in-Split.marks.entries in
+    let s = subst (λ (k : Kept). IsSound k c.requires.0) c.in-Split.is c.requires.1 in
+    subst (λ (ns : List ℕ). IsStamped es ns (length ns)) (sym c.as_slice.ensures.value) (stamped_here es c.in-Split.numbers.items c.requires.0 s)
+
+pub piece_of_marks-requires-clause-inside : goal.piece_of_marks-requires-clause-inside
+piece_of_marks-requires-clause-inside c =
+    let all = (subst (λ (k : Kept). IsSound k c.requires.0) c.in-Split.is c.requires.1).all in
+    let inside = c.requires.2 in
+    omega (arith, all, inside, ap length c.as_slice.ensures.value)
+
+pub piece_of_marks-requires-clause-fits : goal.piece_of_marks-requires-clause-fits
+piece_of_marks-requires-clause-fits c = c.requires.3
+
+pub returns-in-Split : goal.returns-in-Split
+returns-in-Split c =
+    c.piece_of_marks.ensures
+    ∙ ap (λ (ns : List ℕ). slice_get (first_pieces (pieces_past (values_of (stamped ns c.in-Split.marks.entries)) c.args.from) c.args.len) c.args.n) c.as_slice.ensures.value
+    ∙ ap (λ (k : Kept). slice_get (lent_pieces (Some k) c.args.from c.args.len) c.args.n) (sym c.in-Split.is)

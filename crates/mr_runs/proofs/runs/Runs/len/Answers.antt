@@ -1,6 +1,6 @@
-use Rattle.std.proofs.Common.{length, ap, arith}
-use Rattle.mr_runs.proofs.PlacedLaws.{length-bytes_in}
+use Rattle.std.proofs.Common.{◌∙◌, length, sym, ap}
+use Rattle.mr_runs.proofs.StampLaws.{sound_length}
 use Rattle.mr_runs.proofs.runs.Runs.len.Goals as goal
 
 pub returns : goal.returns
-returns c = omega (arith, c.self.invariant.1, ap length c.self.view_is, length-bytes_in c.self.inside.runs.entries)
+returns c = sym (sound_length c.self.inside.kept c.self.inside.len c.self.invariant) ∙ ap length c.self.view_is

@@ -1,23 +1,22 @@
-use Rattle.std.proofs.Common.{◌∙◌, length, ap, arith}
-use Rattle.std.proofs.lemmas.List.{length-map}
-use Rattle.mr_runs.specs.Numbers.{number_of}
-use Rattle.mr_runs.proofs.PlacedLaws.{length-bytes_in}
+use Rattle.std.proofs.Common.{◌∙◌, List, length, ap, arith}
+use Rattle.std.proofs.lemmas.Result.{on_err_weaker, on_ok_weaker}
+use Rattle.mr_base.specs.declared.byte.AbstractByte.{AbstractByte}
+use Rattle.mr_runs.specs.Ranges.{with_range_replaced}
+use Rattle.mr_runs.proofs.KeptLaws.{sound_after}
+use Rattle.mr_runs.proofs.StampLaws.{sound_length}
 use Rattle.mr_runs.proofs.runs.Runs.write.Goals as goal
 
-pub write_in_place-requires-clause-inside : goal.write_in_place-requires-clause-inside
-write_in_place-requires-clause-inside c = omega (arith, c.requires, c.self.invariant.1, ap length c.self.view_is, length-bytes_in c.self.inside.runs.entries)
+pub write_bytes-requires-clause-inside : goal.write_bytes-requires-clause-inside
+write_bytes-requires-clause-inside c = let all = sound_length c.self.inside.kept c.self.inside.len c.self.invariant in omega (arith, all, c.requires, ap length c.self.view_is)
 
-pub write_alike-requires-clause-inside : goal.write_alike-requires-clause-inside
-write_alike-requires-clause-inside c =
-    omega (
-      arith,
-      c.requires,
-      c.self.invariant.1,
-      ap length c.self.view_is,
-      length-bytes_in c.self.inside.runs.entries,
-      ap length (c.as_slice.ensures.value ∙ c.in_ok-numbers-in-Some.ensures),
-      length-map c.args.bytes.now number_of,
-    )
+pub invariant_of-self : goal.invariant_of-self
+invariant_of-self c = sound_after c.write_bytes.result c.self.inside.kept c.write_bytes.new.kept c.self.inside.len c.args.from c.args.bytes.now c.write_bytes.ensures.ok c.write_bytes.ensures.err
 
-pub write_each-requires-clause-inside : goal.write_each-requires-clause-inside
-write_each-requires-clause-inside c = omega (arith, c.requires, c.self.invariant.1, ap length c.self.view_is, length-bytes_in c.self.inside.runs.entries)
+pub returns-clause-ok : goal.returns-clause-ok
+returns-clause-ok c =
+    on_ok_weaker c.write_bytes.result
+    (λ changed. changed.bytes_are ∙ ap (λ (bs : List AbstractByte). with_range_replaced bs c.args.from c.args.bytes.now) c.self.view_is)
+    c.write_bytes.ensures.ok
+
+pub returns-clause-err : goal.returns-clause-err
+returns-clause-err c = on_err_weaker c.write_bytes.result (λ same. same.bytes_are ∙ c.self.view_is) c.write_bytes.ensures.err

@@ -6,5 +6,5 @@ use Rattle.mr_runs.proofs.views.View.len.Goals as goal
 
 pub returns : goal.returns
 returns c =
-    lent_len (option_copied c.self.inside.runs) c.self.inside.from c.self.inside.len c.self.invariant
+    lent_len (option_copied c.self.inside.kept) c.self.inside.from c.self.inside.len c.self.invariant
     ∙ ap (λ (ps : List SeenPiece). length (bytes_of_pieces ps)) c.self.view_is

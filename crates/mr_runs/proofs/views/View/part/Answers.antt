@@ -10,5 +10,5 @@ window-requires-clause-inside c =
       arith,
       c.requires,
       ap (λ (ps : List SeenPiece). length (bytes_of_pieces ps)) c.self.view_is,
-      lent_len (option_copied c.self.inside.runs) c.self.inside.from c.self.inside.len c.self.invariant,
+      lent_len (option_copied c.self.inside.kept) c.self.inside.from c.self.inside.len c.self.invariant,
     )

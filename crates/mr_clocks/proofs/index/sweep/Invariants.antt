@@ -1,0 +1,16 @@
+use Rattle.std.proofs.Common.{◌≡◌, ℕ, ◌<◌, ◌^◌, true}
+use Rattle.std.specs.List.{list_any}
+use Rattle.mr_base.specs.declared.access.Access.{Access}
+use Rattle.mr_base.specs.Accesses.{conflicts}
+use Rattle.mr_clocks.specs.Marks.{IsOnShelf, has_mark, mark_of}
+use Rattle.mr_clocks.specs.Rows.{IsAsked, IsListed}
+use Rattle.mr_clocks.proofs.index.sweep.Given as goal
+
+abbrev pub invariant-loop-s : goal.invariant-loop-s
+invariant-loop-s l =
+    record {
+      kept : (x : ℕ) → IsListed l.initial.found.items x → IsListed l.found.items x;
+      all :
+          (z : ℕ) (r : Access) (t x : ℕ) → z < l.s → list_any (conflicts r) l.step.accesses ≡ true → IsOnShelf l.index.shelves.items r z
+          → t < 2 ^ 32 → x < 2 ^ 64 → has_mark l.index.marks.keys (mark_of z r.addr t x) ≡ true → IsAsked l.step l.rows x → IsListed l.found.items x;
+    }

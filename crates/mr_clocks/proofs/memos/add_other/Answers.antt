@@ -1,9 +1,0 @@
-use Rattle.std.proofs.Common.{◌∷◌, []}
-use Rattle.mr_clocks.proofs.MarkLaws.{listed_kept, listed_push}
-use Rattle.mr_clocks.proofs.memos.add_other.Goals as goal
-
-pub returns-clause-kept : goal.returns-clause-kept
-returns-clause-kept c = λ z t. listed_kept c.args.others.now.items c.push.new.self.items (c.args.x ∷ []) z c.in_ok-push.ensures.items t
-
-pub returns-clause-here : goal.returns-clause-here
-returns-clause-here c = λ _ _ _. listed_push c.args.others.now.items c.push.new.self.items c.args.x c.in_ok-push.ensures.items

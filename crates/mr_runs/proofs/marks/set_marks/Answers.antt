@@ -1,0 +1,45 @@
+use Rattle.std.proofs.Common.{◌≡◌, ◌+◌, ◌++◌, length, map, take, sym, ap, arith, length-append, length-take}
+use Rattle.std.proofs.lemmas.List.{length-map}
+use Rattle.mr_runs.specs.Placed.{bytes_in}
+use Rattle.mr_runs.specs.Stamped.{without_number}
+use Rattle.mr_runs.proofs.ExchangeLaws.{on_ok_both, ready_row, replaced}
+use Rattle.mr_runs.proofs.PlacedLaws.{length-bytes_in}
+use Rattle.mr_runs.proofs.RowLaws.{begun_room}
+use Rattle.mr_runs.proofs.marks.set_marks.Goals as goal
+
+pub push_marks-requires-clause-room : goal.push_marks-requires-clause-room
+push_marks-requires-clause-room c =
+    let es = c.args.marks.now.entries in
+    begun_room es c.in_ok-row.row.items (take c.args.from (bytes_in es)) c.args.from c.in_ok-row.ensures (omega (arith, length-take c.args.from (bytes_in es)))
+
+pub close_at-requires-clause-room : goal.close_at-requires-clause-room
+close_at-requires-clause-room c =
+    let es = c.args.marks.now.entries in
+    let from = c.args.from in
+    let bytes = map without_number c.args.bytes.now in
+    let many = length-map c.args.bytes.now without_number in
+    let front_len : length (take from (bytes_in es)) ≡ from = omega (arith, length-take from (bytes_in es), length-bytes_in es, c.requires.inside, c.requires.whole) in
+    let begun = c.in_ok-push_marks.ensures es (take from (bytes_in es)) c.in_ok-row.ensures front_len in
+    begun_room es c.push_marks.new.row.items (take from (bytes_in es) ++ bytes) (from + length c.args.bytes.now) begun (omega (arith, front_len, many, length-append (take from (bytes_in es)) bytes))
+
+pub exchange-requires-clause-row : goal.exchange-requires-clause-row
+exchange-requires-clause-row c =
+    let es = c.args.marks.now.entries in
+    let from = c.args.from in
+    let bytes = map without_number c.args.bytes.now in
+    let front_len : length (take from (bytes_in es)) ≡ from = omega (arith, length-take from (bytes_in es), length-bytes_in es, c.requires.inside, c.requires.whole) in
+    let begun = c.in_ok-push_marks.ensures es (take from (bytes_in es)) c.in_ok-row.ensures front_len in
+    ready_row es c.push_marks.new.row.items c.close_at.new.row.items from (from + length c.args.bytes.now) c.in_ok-end.end bytes c.requires.tiled begun
+    (ap (λ n. from + n) (sym (length-map c.args.bytes.now without_number))) (omega (arith, c.requires.inside, c.requires.whole)) c.in_ok-end.ensures
+
+pub returns-clause-ok : goal.returns-clause-ok
+returns-clause-ok c =
+    let es = c.args.marks.now.entries in
+    let from = c.args.from in
+    let bytes = map without_number c.args.bytes.now in
+    let front_len : length (take from (bytes_in es)) ≡ from = omega (arith, length-take from (bytes_in es), length-bytes_in es, c.requires.inside, c.requires.whole) in
+    let begun = c.in_ok-push_marks.ensures es (take from (bytes_in es)) c.in_ok-row.ensures front_len in
+    on_ok_both c.exchange.result
+    (λ exchanged order. replaced es c.push_marks.new.row.items c.close_at.new.row.items from (from + length c.args.bytes.now) c.in_ok-end.end bytes c.requires.tiled begun
+    (ap (λ n. from + n) (sym (length-map c.args.bytes.now without_number))) (omega (arith, c.requires.inside, c.requires.whole)) c.in_ok-end.ensures c.exchange.new.runs.entries exchanged order)
+    c.exchange.ensures.ok c.exchange.ensures.ordered
