@@ -13,8 +13,8 @@ CRATE = f"{TOP}/crates/mr_why"
 FIELDS = ("what", "cause", "next", "example")
 LABELS = {"cause": "Usual cause", "next": "What to do", "example": "Example"}
 # The files that number and name rules, faults and reasons, and those with the numbers that are constants.
-NAMED = ("mr_lex/src/rule.rt", "mr_ast/src/rule.rt", "mr_sched/src/rule.rt", "mr_trace/src/rule.rt", "mr_base/src/reason.rt")
-NUMBERS = ("mr_lex/src/lib.rt", "mr_sched/src/fault.rt", "mr_trace/src/fault.rt")
+NAMED = ("mr_lex/src/rule.rt", "mr_ast/src/rule.rt", "mr_sched/src/rule.rt", "mr_base/src/trace_rule.rt", "mr_base/src/reason.rt")
+NUMBERS = ("mr_lex/src/lib.rt", "mr_sched/src/fault.rt", "mr_base/src/trace_rule.rt")
 HEAD = """# Codes
 
 Each code that `mirace` tells: its name, what it says, what usually causes it, what to do next, and the smallest
@@ -38,7 +38,7 @@ PARTS = (
     Part(9, "Texts of programs", "`text LINE COLUMN CODE NAME`, with status 3.", "texts", "the rules of texts", "mr_lex", "TextRule", "rule.TextRule"),
     Part(47, "Programs", "`form ITEM BLOCK PLACE CODE NAME`, with status 4.", "programs", "the rules of programs", "mr_ast", "Rule", "rule.Rule"),
     Part(68, "Schedules", "`schedule LINE CODE NAME`, with status 5.", "schedules", "the rules of schedules", "mr_sched", "ScheduleRule", "rule.ScheduleRule"),
-    Part(74, "Traces", "`trace OFFSET CODE NAME`, with status 9.", "traces", "the faults of traces", "mr_trace", "TraceRule", "rule.TraceRule"),
+    Part(74, "Traces", "`trace OFFSET CODE NAME`, with status 9.", "traces", "the faults of traces", "mr_base", "TraceRule", "trace_rule.TraceRule"),
     Part(255, "Undefined behaviour", "`verdict undefined CODE NAME`, in a report.", "reasons", "the reasons of undefined behaviour", "mr_base", "Reason", "reason.Reason"))
 
 

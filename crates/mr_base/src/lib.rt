@@ -7,6 +7,7 @@
 //!   and of threads. Contracts see each as a list; what appends changes nothing where memory runs out.
 //! - [`Status`] and [`Event`]: whether a thread can go on, and what a step did to locks and threads.
 //! - [`Reason`] and [`Verdict`]: why a step is undefined behaviour, and what a run came to.
+//! - [`TraceRule`]: what is wrong with bytes that are no trace, by its number and its name (`specs/TraceRules.antt`).
 //! - [`MAX_THREADS`] and [`MAX_LOCKS`]: how many threads and locks a run may have.
 //!
 //! Public calls: [`Reason::code`] and [`Reason::name`], [`ranges_meet`], [`any_twice`], [`is_among`] and
@@ -37,6 +38,7 @@ mod limits;
 mod pairs;
 mod reason;
 mod thread;
+mod trace_rule;
 
 pub use access::Access;
 pub use accesses::Accesses;
@@ -48,3 +50,4 @@ pub use pairs::{Pair, any_meeting, any_twice, is_among, ranges_meet};
 pub use reason::{Reason, Verdict, codes_differ};
 pub use std::alloc::AllocError as OutOfMemory;
 pub use thread::{Event, Status};
+pub use trace_rule::{BAD_FIELD, BAD_MAGIC, TOO_LONG, TRAILING, TRUNCATED, TraceRule};

@@ -19,7 +19,7 @@ use Rattle.mr_typing.specs.declared.fault.FormFault.{FormFault}
 use Rattle.mr_typing.specs.Walk.{WellFormed, faults_of}
 use Rattle.mr_event.specs.Footprint.{Footprint}
 use Rattle.mr_event.specs.Predicted.{predicted}
-use Rattle.mr_trace.specs.declared.fault.TheConstants.{TOO_LONG}
+use Rattle.mr_base.specs.declared.trace_rule.TheConstants.{TOO_LONG}
 use Rattle.mr_trace.specs.Faults.{too_long}
 use Rattle.mr_trace.specs.Reading.{Place, races_in as races_read, trace_of}
 use Rattle.mr_trace.proofs.TraceLaws.{fault_is, trace_is}

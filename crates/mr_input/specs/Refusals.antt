@@ -4,8 +4,8 @@ use Rattle.mr_base.specs.declared.byte.AllocId.{AllocId}
 use Rattle.mr_report.specs.Report.{line}
 use Rattle.mr_lex.specs.Rules as text
 use Rattle.mr_sched.specs.Rules as schedule
-use Rattle.mr_trace.specs.declared.rule.TraceRule.{TraceRule}
-use Rattle.mr_trace.specs.Rules as trace
+use Rattle.mr_base.specs.declared.trace_rule.TraceRule.{TraceRule}
+use Rattle.mr_base.specs.TraceRules as trace
 use Rattle.mr_input.specs.declared.refusal.Refusal.{Refusal}
 use Rattle.mr_input.specs.declared.refusal.Refusal.TheVariants as refusal
 

@@ -5,10 +5,9 @@ ghost use Rattle.mr_sched.specs.Rules.{name_by_code as schedule_name_of};
 ghost use Rattle.mr_input.specs.Refusals.{earlier_text, refusal_text, text_line, trace_name};
 
 use itoa::Buffer;
-use mr_base::AllocId;
+use mr_base::{AllocId, TraceRule};
 use mr_lex::TextRule;
 use mr_sched::ScheduleRule;
-use mr_trace::TraceRule;
 use std::alloc::{AllocError, AllocFailed, Global};
 
 /// Why there is no report, and no canonical text.

@@ -93,9 +93,19 @@ impl<'p> Cache<'p> {
         requires { TypeOk t.now }
         ensures { result ≡ layout_of t.now }
     {
-        if let Ty::Int(int) = t {
-            return self.integers[row_of(*int)];
+        match t {
+            Ty::Int(int) => self.integers[row_of(*int)],
+            Ty::Bool | Ty::Raw | Ty::FnPtr | Ty::Ref { .. } => defined_layout(t),
+            Ty::Tuple { .. } | Ty::Array { .. } | Ty::Union { .. } | Ty::Enum { .. } =>
+                self.held_layout(t),
         }
+    }
+
+    // The same where the type isn't told at once.
+    fn held_layout(&self, t: &Ty) -> Layout
+        requires { TypeOk t.now }
+        ensures { result ≡ layout_of t.now }
+    {
         match self.get(t) {
             Some(layout) => *layout,
             None => defined_layout(t),

@@ -11,7 +11,7 @@
 //!   code ([`TraceFault`]), unless memory runs out. `specs/Faults.antt` says which fault is the first. The time is that of
 //!   one walk over the bytes, and the memory that of the footprints.
 //! - [`offline`]: the predicted races of that run, or the same fault.
-//! - [`TraceRule::code`], [`TraceRule::name`] and [`TraceRule::of_code`]: the number and the name of each fault.
+//! - [`TraceRule`], of `mr_base`: the number and the name of each fault.
 //!
 //! Laws: [`limits`] (a run keeps its limits exactly where each of its numbers may stand where it does), [`one_spelling`] (a run has
 //! one spelling, and none begins another), [`one_answer`] (each list of bytes has a run or a fault, never both, and one of them
@@ -26,15 +26,12 @@ mod lists;
 mod numbers;
 mod parts;
 mod replay;
-mod rule;
 
 pub use decoding::decode;
 pub use encoding::encode;
-pub use fault::{
-    BAD_FIELD, BAD_MAGIC, MAX_BYTES, MAX_STEPS, TOO_LONG, TRAILING, TRUNCATED, TraceFault,
-};
+pub use fault::{MAX_BYTES, MAX_STEPS, TraceFault};
 pub use laws::{limits, one_answer, one_spelling, reads_back};
+pub use mr_base::{BAD_FIELD, BAD_MAGIC, TOO_LONG, TRAILING, TRUNCATED, TraceRule};
 pub use mr_event::{Footprint, Pair};
 pub use replay::offline;
-pub use rule::TraceRule;
 pub use std::alloc::AllocError as OutOfMemory;

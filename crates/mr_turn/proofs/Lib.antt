@@ -5,6 +5,7 @@ pub mod DoTurns
 pub mod FrameAnswers
 pub mod FrameTurns
 pub mod PlanAsks
+pub mod QuietNeeds
 pub mod SpawnAnswers
 pub mod SpawnTurns
 pub mod ThreadTypes

@@ -1,6 +1,7 @@
 -- What the next step of a thread asks for, and how the code tells it.
-use Rattle.std.specs.Prelude.{◌≡◌, ℕ, List, ◌++◌, Option, None, Some, Result, Ok, Err}
+use Rattle.std.specs.Prelude.{◌≡◌, ℕ, Bool, true, false, List, ◌++◌, Option, None, Some, Result, Ok, Err}
 use Rattle.std.specs.Option.{option_map}
+use Rattle.mr_ast.specs.declared.program.Intrinsic.{Intrinsic}
 use Rattle.mr_ast.specs.declared.program.Intrinsic.TheVariants as intrinsic
 use Rattle.mr_mem.specs.Memory.{Memory}
 use Rattle.mr_sched.specs.declared.schedule.Ask.{Ask}
@@ -31,6 +32,14 @@ pub record AsksFunction (look : KeptLook) (stack : KeptStack) (call : DoCall) (d
   pub is : d.op ≡ intrinsic.Spawn
   pub given_to : SpawnGiven (operands_of call)
   pub at : StandsFor look given_to.callee number
+
+-- whether an intrinsic may ask for a pick or create something, by what it is given
+abbrev pub may_ask : Intrinsic → Bool
+may_ask intrinsic.Allocate = true
+may_ask intrinsic.Release = true
+may_ask intrinsic.CreateLock = true
+may_ask intrinsic.Spawn = true
+may_ask _ = false
 
 -- what the next step of a thread needs
 abbrev pub step_needs : KeptLook → KeptStack → Memory → Tables → ℕ → ℕ → Needs

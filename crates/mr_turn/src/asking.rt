@@ -6,7 +6,7 @@ ghost use Rattle.mr_frame.specs.Kept.{IsReady, look_of, stack_of};
 ghost use Rattle.mr_frame.specs.Operations.{DueDo, next_do};
 ghost use Rattle.mr_intr.specs.Effects.{IsOperation};
 ghost use Rattle.mr_intr.specs.Needs.{asks_of};
-ghost use Rattle.mr_turn.specs.Asking.{AsksDo, AsksFunction, AsksStep, IsAsked};
+ghost use Rattle.mr_turn.specs.Asking.{AsksDo, AsksFunction, AsksStep, IsAsked, may_ask};
 
 use crate::judging::over_limit;
 use crate::spawning::{begins_thread, callee_in, function_of};
@@ -118,7 +118,17 @@ fn given_asks(
     }
 }
 
-// An intrinsic: what it is given comes first.
+// Whether an intrinsic may ask for a pick or create something.
+fn may_ask(op: Intrinsic) -> bool
+    ensures { result ≡ may_ask op }
+{
+    match op {
+        Intrinsic::Allocate | Intrinsic::Release | Intrinsic::CreateLock | Intrinsic::Spawn => true,
+        _ => false,
+    }
+}
+
+// An intrinsic: what it is given comes first, where it may ask for something by that.
 fn do_asks(
     alloc: Global,
     look: &Look<'_>,
@@ -134,6 +144,9 @@ fn do_asks(
     requires due { (d : DueDo) × (next_do (look_of look.now) (stack_of stack.now) ≡ Some d) × (d.op ≡ op) }
     ensures { AsksStep look.now stack.now m.now sync.now thread out.old.items out.new.items result }
 {
+    if !may_ask(op) {
+        return Ok(None);
+    }
     let mut notes = Notes::new(alloc);
     match stack.arguments(alloc, look, m, &mut notes) {
         Err(Fault::Memory) => Err(AllocError),

@@ -7,8 +7,8 @@ use Rattle.mr_ast.specs.declared.rule.Rule.{Rule}
 use Rattle.mr_ast.specs.declared.rule.Rule.TheVariants as program
 use Rattle.mr_sched.specs.declared.rule.ScheduleRule.{ScheduleRule}
 use Rattle.mr_sched.specs.declared.rule.ScheduleRule.TheVariants as schedule
-use Rattle.mr_trace.specs.declared.rule.TraceRule.{TraceRule}
-use Rattle.mr_trace.specs.declared.rule.TraceRule.TheVariants as trace
+use Rattle.mr_base.specs.declared.trace_rule.TraceRule.{TraceRule}
+use Rattle.mr_base.specs.declared.trace_rule.TraceRule.TheVariants as trace
 use Rattle.mr_base.specs.declared.reason.Reason.{Reason}
 use Rattle.mr_base.specs.declared.reason.Reason.TheVariants as reason
 use Rattle.mr_why.specs.declared.subject.Subject.{Subject}

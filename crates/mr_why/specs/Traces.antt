@@ -1,7 +1,7 @@
 -- What is said of the faults of traces. This file is made of docs/CODES.md by .ci/codes.py.
 use Rattle.std.specs.Prelude.{◌++◌, codes}
-use Rattle.mr_trace.specs.declared.rule.TraceRule.{TraceRule}
-use Rattle.mr_trace.specs.declared.rule.TraceRule.TheVariants as it
+use Rattle.mr_base.specs.declared.trace_rule.TraceRule.{TraceRule}
+use Rattle.mr_base.specs.declared.trace_rule.TraceRule.TheVariants as it
 use Rattle.mr_why.specs.Words.{Words}
 
 abbrev pub said_of_trace : TraceRule → Words

@@ -8,7 +8,7 @@ use Rattle.mr_base.specs.declared.reason.Reason.{Reason}
 use Rattle.mr_base.specs.declared.reason.Reason.TheVariants as reason
 use Rattle.mr_lex.specs.Rules as text
 use Rattle.mr_sched.specs.Rules as schedule
-use Rattle.mr_trace.specs.Rules as trace
+use Rattle.mr_base.specs.TraceRules as trace
 use Rattle.mr_why.specs.declared.subject.Subject.{Subject}
 use Rattle.mr_why.specs.declared.subject.Subject.TheVariants as subject
 use Rattle.mr_why.specs.declared.said.Why.{Why}

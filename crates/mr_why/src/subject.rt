@@ -11,10 +11,9 @@ use crate::schedules::said_of_schedule;
 use crate::texts::said_of_text;
 use crate::traces::said_of_trace;
 use mr_ast::Rule;
-use mr_base::Reason;
+use mr_base::{Reason, TraceRule};
 use mr_lex::TextRule;
 use mr_sched::ScheduleRule;
-use mr_trace::TraceRule;
 
 /// What a code is of.
 #[derive(Clone, Copy)]

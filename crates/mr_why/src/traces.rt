@@ -4,7 +4,7 @@ ghost use Rattle.mr_why.specs.Words.{words_of};
 ghost use Rattle.mr_why.specs.Traces.{said_of_trace};
 
 use crate::said::Said;
-use mr_trace::TraceRule;
+use mr_base::TraceRule;
 
 /// What is said of one of the faults of traces.
 pub(crate) fn said_of_trace(it: TraceRule) -> Said

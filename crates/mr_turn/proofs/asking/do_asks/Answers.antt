@@ -1,4 +1,4 @@
-use Rattle.std.proofs.Common.{◌≡◌, [], refl, subst, sym}
+use Rattle.std.proofs.Common.{◌≡◌, ◌∙◌, [], ap, false, refl, subst, sym}
 use Rattle.std.specs.Prelude.{Err, None, Ok}
 use Rattle.mr_mem.specs.declared.fault.Fault.{Fault}
 use Rattle.mr_mem.specs.declared.fault.Fault.TheVariants as fault
@@ -9,9 +9,10 @@ use Rattle.mr_frame.specs.Doing.{operands_of}
 use Rattle.mr_frame.specs.Effects.{argued}
 use Rattle.mr_frame.specs.Kept.{look_of}
 use Rattle.mr_intr.specs.Effects.{shared_of}
-use Rattle.mr_turn.specs.Asking.{AsksAnswer}
+use Rattle.mr_turn.specs.Asking.{AsksAnswer, may_ask}
 use Rattle.mr_turn.proofs.AskAnswers.{behind, given_needs, none_asked, stopped_needs}
 use Rattle.mr_turn.proofs.DoAnswers.{operands_fit}
+use Rattle.mr_turn.proofs.QuietNeeds.{quiet_needs}
 use Rattle.mr_turn.proofs.asking.do_asks.Goals as goal
 
 pub given_asks-requires : goal.given_asks-requires
@@ -41,6 +42,17 @@ returns-in-Err-Undefined c = λ count.
     let given = subst (λ (f : Fault). TellsBy operands_of (Err f) (argued m (look_of look) d (seen c.new-notes.result)) (seen c.arguments.new.notes)) c.in-Err-Undefined.field-0-is (c.in-Err-Undefined.ensures.given d due) in
     let fresh = subst (λ v. TellsBy operands_of (Err (fault.Undefined r)) (argued m (look_of look) d v) (seen c.arguments.new.notes)) c.new-notes.ensures given in
     subst (λ n. AsksAnswer {E = Unit {0}} (shared_of m x) n c.args.out.now.items c.args.out.now.items (Ok None)) (sym (stopped_needs look stack m x thread count d due r fresh)) (none_asked (shared_of m x) c.args.out.now.items)
+
+pub returns-in-if : goal.returns-in-if
+returns-in-if c = λ count.
+    let look = c.args.look.now in
+    let m = c.args.m.now in
+    let x = c.args.sync.now in
+    let (d, due, is) = c.requires.due in
+    let quiet : may_ask d.op ≡ false = ap may_ask is ∙ sym c.may_ask.ensures ∙ c.if-may_ask.false in
+    subst (λ n. AsksAnswer {E = Unit {0}} (shared_of m x) n c.args.out.now.items c.args.out.now.items (Ok None))
+    (sym (quiet_needs look c.requires.ready c.args.stack.now c.requires.fits m x c.args.thread count d due quiet))
+    (none_asked (shared_of m x) c.args.out.now.items)
 
 pub returns : goal.returns
 returns c = λ count.

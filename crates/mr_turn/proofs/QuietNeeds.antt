@@ -1,0 +1,77 @@
+-- An intrinsic that asks for nothing, whatever it is given.
+use Rattle.std.proofs.Common.{◌≡◌, ◌≢◌, ℕ, refl, sym, ap, ◌∙◌, subst, List, [], false, true, Some, None, Bool}
+use Rattle.mr_ast.specs.declared.program.Intrinsic.{Intrinsic}
+use Rattle.mr_ast.specs.declared.program.Intrinsic.TheVariants as intrinsic
+use Rattle.mr_mem.specs.Memory.{Memory}
+use Rattle.mr_base.specs.Script.{Outcome, Went, Refused, Broken, on}
+use Rattle.mr_sync.specs.Tables.{Tables}
+use Rattle.mr_eval.specs.Reads.{Seen}
+use Rattle.mr_frame.specs.PlanMachine.{needs_of, no_needs}
+use Rattle.mr_frame.specs.PlanNotes.{Notes}
+use Rattle.mr_frame.specs.PlanQueries.{Shared}
+use Rattle.mr_frame.specs.Operations.{DueDo, Operands, OperandsFit, next_do}
+use Rattle.mr_frame.specs.Acting.{nothing_seen}
+use Rattle.mr_frame.specs.Effects.{argued}
+use Rattle.mr_frame.specs.Fits.{FitsStack}
+use Rattle.mr_frame.specs.Frames.{Look}
+use Rattle.mr_frame.specs.Kept.{IsReady, look_of, stack_of}
+use Rattle.mr_frame.specs.declared.look.Look.{Look as KeptLook}
+use Rattle.mr_frame.specs.declared.stack.Stack.{Stack as KeptStack}
+use Rattle.mr_intr.specs.Effects.{Fits, IsOperation, shared_of}
+use Rattle.mr_intr.specs.Needs.{TellsNeeds}
+use Rattle.mr_intr.specs.declared.need.Creation.TheVariants.{Nothing}
+use Rattle.mr_intr.proofs.NeedLaws.{needs_nothing}
+use Rattle.mr_start.specs.ThreadSteps.{Own}
+use Rattle.mr_turn.specs.Asking.{may_ask, step_needs}
+use Rattle.mr_turn.specs.Doing.{do_planned}
+use Rattle.mr_turn.specs.Turning.{own_of}
+use Rattle.mr_turn.proofs.AskAnswers.{behind, payload_needs, told_needs, world}
+use Rattle.mr_turn.proofs.DoAnswers.{operands_fit}
+use Rattle.mr_turn.proofs.DoTurns.{argued_planned}
+
+-- what is no allocation, no release, no new lock and no start asks for nothing, once it was given what fits it
+quiet_given : (look : Look) (own : Own) (d : DueDo) (o : Operands) (w : Shared × Notes) → may_ask d.op ≡ false → OperandsFit d.op o
+    → needs_of (do_planned look own d o w) ≡ no_needs
+quiet_given look own d o w quiet fit = by d.op refl quiet
+  where
+    operation : (op : Intrinsic) → d.op ≡ op → IsOperation op → op ≢ intrinsic.Allocate → op ≢ intrinsic.Release → op ≢ intrinsic.CreateLock
+        → needs_of (do_planned look own d o w) ≡ no_needs
+    operation op is kind a r l =
+        let fits : Fits op o.args o.arg_types o.result_type =
+        subst (λ (x : Intrinsic). Fits x o.args o.arg_types o.result_type) is (record { fitting = fit.fits; shapes = fit.shapes }) in
+        told_needs look own d o w op is kind (record { creates = Nothing; ask = None })
+        (needs_nothing op o.args o.arg_types o.result_type w (record { creates = Nothing; ask = None }) refl kind a r l fits)
+
+    by : (op : Intrinsic) → d.op ≡ op → may_ask op ≡ false → needs_of (do_planned look own d o w) ≡ no_needs
+    by intrinsic.Allocate is e = absurd (cc)
+    by intrinsic.Release is e = absurd (cc)
+    by intrinsic.CreateLock is e = absurd (cc)
+    by intrinsic.Spawn is e = absurd (cc)
+    by intrinsic.Payload is e = payload_needs look own d o w is
+    by intrinsic.Assume is e = operation intrinsic.Assume is tt (λ f. cc) (λ f. cc) (λ f. cc)
+    by intrinsic.Print is e = operation intrinsic.Print is tt (λ f. cc) (λ f. cc) (λ f. cc)
+    by intrinsic.Deallocate is e = operation intrinsic.Deallocate is tt (λ f. cc) (λ f. cc) (λ f. cc)
+    by intrinsic.Join is e = operation intrinsic.Join is tt (λ f. cc) (λ f. cc) (λ f. cc)
+    by intrinsic.Acquire is e = operation intrinsic.Acquire is tt (λ f. cc) (λ f. cc) (λ f. cc)
+    by intrinsic.AtomicStore is e = operation intrinsic.AtomicStore is tt (λ f. cc) (λ f. cc) (λ f. cc)
+    by intrinsic.AtomicLoad is e = operation intrinsic.AtomicLoad is tt (λ f. cc) (λ f. cc) (λ f. cc)
+    by intrinsic.CompareExchange is e = operation intrinsic.CompareExchange is tt (λ f. cc) (λ f. cc) (λ f. cc)
+    by intrinsic.FetchAdd is e = operation intrinsic.FetchAdd is tt (λ f. cc) (λ f. cc) (λ f. cc)
+    by intrinsic.FetchSub is e = operation intrinsic.FetchSub is tt (λ f. cc) (λ f. cc) (λ f. cc)
+    by intrinsic.FetchAnd is e = operation intrinsic.FetchAnd is tt (λ f. cc) (λ f. cc) (λ f. cc)
+    by intrinsic.FetchOr is e = operation intrinsic.FetchOr is tt (λ f. cc) (λ f. cc) (λ f. cc)
+    by intrinsic.FetchXor is e = operation intrinsic.FetchXor is tt (λ f. cc) (λ f. cc) (λ f. cc)
+
+-- so its step asks for nothing, also where it stops before that
+pub quiet_needs : (look : KeptLook) → IsReady look → (stack : KeptStack) → FitsStack look.program.now (stack_of stack)
+    → (m : Memory) (x : Tables) (thread count : ℕ) (d : DueDo) → next_do (look_of look) (stack_of stack) ≡ Some d
+    → may_ask d.op ≡ false → step_needs look stack m x thread count ≡ no_needs
+quiet_needs look ready stack fits m x thread count d due quiet =
+    ap needs_of (argued_planned (look_of look) (own_of thread stack) d due (world look stack m x thread count d due))
+    ∙ by (argued m (look_of look) d nothing_seen) refl
+  where
+    by : (o : Outcome Operands Seen) → argued m (look_of look) d nothing_seen ≡ o
+        → needs_of (on o (λ q u. do_planned (look_of look) (own_of thread stack) d q (shared_of m x, behind look stack m x thread count d due u))) ≡ no_needs
+    by (Went q u) e = quiet_given (look_of look) (own_of thread stack) d q _ quiet (operands_fit look ready stack fits d due m nothing_seen u q e)
+    by (Refused r) e = refl
+    by Broken e = refl
