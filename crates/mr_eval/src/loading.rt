@@ -7,14 +7,13 @@ ghost use Rattle.mr_base.specs.Script.{Went, on};
 ghost use Rattle.mr_value.specs.Decode.{is_scalar};
 ghost use Rattle.mr_value.specs.Shape.{has_shape};
 ghost use Rattle.mr_value.specs.declared.val.Val.{out-Val};
-ghost use Rattle.mr_eval.specs.Answers.{Extends, Gives, outcome_of, same, seen, value_in};
+ghost use Rattle.mr_eval.specs.Answers.{Extends, Gives, Reasons, outcome_of, same, seen, value_in};
 ghost use Rattle.mr_wf.specs.Known.{ty_of};
-ghost use Rattle.mr_base.specs.declared.reason.Reason.TheVariants.{InvalidValue};
 ghost use Rattle.mr_runs.specs.Pieces.{bytes_of_pieces};
 ghost use Rattle.mr_eval.specs.Evaluated.{meant_by, read_typed, referred_to};
 ghost use Rattle.mr_eval.specs.Noted.{listed, noted_load, noted_targets};
 ghost use Rattle.mr_eval.specs.Reads.{Seen, accessing, seeing, touching};
-ghost use Rattle.mr_eval.specs.Typed.{pointed, targets_of};
+ghost use Rattle.mr_eval.specs.Typed.{meaningless, pointed, targets_of};
 
 use crate::halt::Halt;
 use crate::notes::Notes;
@@ -23,7 +22,7 @@ use crate::reads::lend;
 use crate::targets::{add_targets, refer_all};
 use crate::valuing::{Valued, typed};
 use mr_ast::Ty;
-use mr_base::{Pointer, Reason};
+use mr_base::{Pointer, Reaching, Reason, Stop};
 use mr_layout::{Cache, Layout};
 use mr_mem::Memory;
 use mr_runs::View;
@@ -66,7 +65,12 @@ pub fn read_typed(
     let view = lend(m, notes, p, size, align)?;
     match decode(alloc, &view, t)? {
         Some(v) => referred(alloc, m, notes, t, v),
-        None => Err(Halt::Undefined(Reason::InvalidValue)),
+        None => Err(Halt::Undefined(Stop::over(
+            Reason::InvalidValue,
+            Reaching::Loads,
+            p,
+            size,
+        ))),
     }
 }
 
@@ -110,7 +114,7 @@ fn target_of(t: &Ty, v: &Val) -> Option<(Pointer, u64)>
 
 // The reference check of what a value points to, if it points to anything.
 #[tactic(auto, unfolding(crate::specs::Evaluated::referred_to))]
-fn check_target(m: &Memory, target: Option<(Pointer, u64)>) -> Result<(), Reason>
+fn check_target(m: &Memory, target: Option<(Pointer, u64)>) -> Result<(), Stop>
     ensures { (s : Seen)
         → referred_to m.now (listed target) s ≡ outcome_of result (λ _. noted_targets (listed target) s) }
 {
@@ -118,27 +122,33 @@ fn check_target(m: &Memory, target: Option<(Pointer, u64)>) -> Result<(), Reason
         None => Ok(()),
         Some((p, len)) => match m.check(p, len) {
             Ok(_) => Ok(()),
-            Err(_) => Err(Reason::DanglingReference),
+            Err(_) => Err(Stop::over(
+                Reason::DanglingReference,
+                Reaching::Refers,
+                p,
+                len,
+            )),
         },
     }
 }
 
-// The value that is lent, whose reference, where it is one, points to a live range.
+// The value that is lent from a pointer on, whose reference, where it is one, points to a live range.
 #[tactic(auto, using(crate::proofs::LoadRuns::meant_none))]
-fn scalar_in(m: &Memory, view: &View<'_>, t: &Ty) -> Result<Val, Reason>
+fn scalar_in(m: &Memory, view: &View<'_>, p: Pointer, t: &Ty, size: u64) -> Result<Val, Stop>
     requires scalar { IsTrue (is_scalar t.now) }
     requires ok { TypeOk t.now }
+    requires size { size ≡ size_of t.now }
     requires sized { length (bytes_of_pieces view.now) ≡ size_of t.now }
-    ensures given { (s : Seen) → meant_by m.now InvalidValue t.now (bytes_of_pieces view.now) s
+    ensures given { (s : Seen) → meant_by m.now (meaningless t.now p) t.now (bytes_of_pieces view.now) s
         ≡ outcome_of result (λ v. noted_targets (targets_of t.now v) s) }
     ensures shape { IfOk result (λ v. has_shape t.now v ≡ true) }
 {
     let Some(v) = decode_scalar(view, t) else {
-        return Err(Reason::InvalidValue);
+        return Err(Stop::over(Reason::InvalidValue, Reaching::Loads, p, size));
     };
     match check_target(m, target_of(t, &v)) {
         Ok(()) => Ok(v),
-        Err(reason) => Err(reason),
+        Err(stop) => Err(stop),
     }
 }
 
@@ -148,15 +158,18 @@ fn scalar_in(m: &Memory, view: &View<'_>, t: &Ty) -> Result<Val, Reason>
 pub fn load_scalar(m: &Memory, c: &Cache, p: Pointer, t: &Ty) -> Result<Val, Reason>
     requires scalar { IsTrue (is_scalar t.now) }
     requires ok { TypeOk t.now }
-    ensures given { (s : Seen) → read_typed m.now t.now p s ≡ outcome_of result (λ v. noted_load t.now p v s) }
+    ensures given { (s : Seen) → Reasons result (λ v. noted_load t.now p v s) (read_typed m.now t.now p s) }
     ensures shape { IfOk result (λ v. has_shape t.now v ≡ true) }
 {
-    load_sized(m, p, t, c.layout(t))
+    match load_sized(m, p, t, c.layout(t)) {
+        Ok(v) => Ok(v),
+        Err(stop) => Err(stop.reason),
+    }
 }
 
 // The load of an integer, a bool or a pointer, whose type has this layout.
 #[tactic(auto, using(crate::proofs::ScalarRuns::scalar_laws, crate::proofs::ReadLength::read_sized))]
-fn load_sized(m: &Memory, p: Pointer, t: &Ty, layout: Layout) -> Result<Val, Reason>
+fn load_sized(m: &Memory, p: Pointer, t: &Ty, layout: Layout) -> Result<Val, Stop>
     requires scalar { IsTrue (is_scalar t.now) }
     requires ok { TypeOk t.now }
     requires layout { layout ≡ layout_of t.now }
@@ -164,8 +177,8 @@ fn load_sized(m: &Memory, p: Pointer, t: &Ty, layout: Layout) -> Result<Val, Rea
     ensures shape { IfOk result (λ v. has_shape t.now v ≡ true) }
 {
     match m.load(p, layout.size, layout.align) {
-        Ok(view) => scalar_in(m, &view, t),
-        Err(reason) => Err(reason),
+        Ok(view) => scalar_in(m, &view, p, t, layout.size),
+        Err(reason) => Err(Stop::over(reason, Reaching::Loads, p, layout.size)),
     }
 }
 
@@ -211,6 +224,6 @@ pub fn noted_scalar<'p>(
             note_load(notes, p.at, layout.size, target_of(p.ty, &v))?;
             Ok(typed(v, Known::Written(p.ty)))
         }
-        Err(reason) => Err(Halt::Undefined(reason)),
+        Err(stop) => Err(Halt::Undefined(stop)),
     }
 }

@@ -1,7 +1,8 @@
 //! What a step changes: memory, and what it notes of that.
+use crate::fault::Fault;
 use crate::notes::Notes;
-use mr_base::{AllocId, AllocIds, Kind, Pointer};
-use mr_mem::{Fault, Memory};
+use mr_base::{AllocId, AllocIds, Kind, Pointer, Reaching, Stop};
+use mr_mem::Memory;
 use std::alloc::{AllocError, Global};
 
 /// What a step of a thread changes of memory, and what it notes of that.
@@ -97,7 +98,12 @@ impl Scene {
                 self.freed.push(id)?;
                 Ok(())
             }
-            Err(reason) => Err(Fault::Undefined(reason)),
+            Err(reason) => Err(Fault::Undefined(Stop::over(
+                reason,
+                Reaching::Frees,
+                p,
+                size,
+            ))),
         }
     }
 }

@@ -3,6 +3,7 @@
 use Rattle.std.specs.Prelude.{ℕ, List, [], ◌∷◌, ◌++◌, slice_set, Option, None, Some, slice_get, if◌then◌else◌}
 use Rattle.mr_base.specs.declared.reason.Verdict.{Verdict}
 use Rattle.mr_base.specs.declared.reason.Verdict.TheVariants as verdict
+use Rattle.mr_base.specs.declared.stop.Reached.{Reached}
 use Rattle.mr_mem.specs.Memory.{leaks}
 use Rattle.mr_sched.specs.declared.schedule.Ask.{Ask}
 use Rattle.mr_base.specs.Script.{◌>>=◌, Outcome, Went, Refused, Broken, run}
@@ -71,7 +72,7 @@ settle s t Aborts w = Stops verdict.Abort
 -- the same of an outcome, which may be that the program is undefined or that there is no rule
 abbrev pub settled : {L : Type 0} → State L → ℕ → Outcome (Flow L) (Shared × Notes) → Bare L
 settled s t (Went f w) = settle s t f w
-settled s t (Refused r) = Stops (verdict.Undefined r)
+settled s t (Refused stop) = Stops (verdict.Undefined stop.reason)
 settled s t Broken = IllFormedStep
 
 -- the step of a thread with these picks
@@ -83,6 +84,24 @@ acted step s t picks (Some th) =
 -- ONE BARE STEP of thread t with these picks, in a language whose steps are these scripts
 abbrev pub bare : {L : Type 0} → Language L → State L → ℕ → List ℕ → Bare L
 bare step s t picks = acted step s t picks (slice_get s.threads t)
+
+-- ---- which bytes a step speaks of that is undefined
+
+-- those of a refusal, where it speaks of any
+abbrev pub about : {A S : Type 0} → Outcome A S → Option Reached
+about (Went x s) = None
+about (Refused stop) = stop.about
+about Broken = None
+
+-- those of the step of a thread with these picks
+abbrev pub about_acted : {L : Type 0} → Language L → State L → ℕ → List ℕ → Option (Thread L) → Option Reached
+about_acted step s t picks None = None
+about_acted step s t picks (Some th) =
+    about (run answer (step.next th.own >>= λ plan. plan.go picks) (s.shared, start_notes t th.count))
+
+-- THE BYTES THAT A BARE STEP of thread t with these picks SPEAKS OF
+abbrev pub about_bare : {L : Type 0} → Language L → State L → ℕ → List ℕ → Option Reached
+about_bare step s t picks = about_acted step s t picks (slice_get s.threads t)
 
 -- ---- what the next step of a thread asks for
 
