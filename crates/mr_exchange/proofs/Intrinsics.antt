@@ -1,6 +1,7 @@
 -- Each intrinsic makes the allocation that it asked for, notes one event at most, and asks for a waiter only of a lock that it looked at.
 use Rattle.std.proofs.Common.{ℕ, refl, arith, List, [], ◌∷◌, Bool, true, false, Option, Some, None, ◌-◌, ◌^◌}
 use Rattle.std.specs.Prelude.{if◌then◌else◌, nat_lt}
+use Rattle.mr_base.specs.Stops.{plainly}
 use Rattle.mr_ast.specs.declared.program.Intrinsic.{Intrinsic}
 use Rattle.mr_ast.specs.declared.types.Ty.{Ty, out-Ty}
 use Rattle.mr_base.specs.declared.byte.Kind.TheVariants.{Heap}
@@ -66,7 +67,7 @@ allocating_tells size align = by_tests (nat_lt (2 ^ 63 - 1) size) (is_power_of_t
     at_address (a ∷ []) = λ p. tells_quiet ((a, size) ∷ [])
     at_address (a ∷ b ∷ picks) = tt
 
-    by_tests : (large power : Bool) → OperationTells (if large then Undefined SizeTooLarge else (if power then Done (with_pick (Address size align) (λ a. Ask (OfMemory (Allocate Heap size align a)) (λ p. Done (Some (val.Ptr p))))) else Undefined BadAlign))
+    by_tests : (large power : Bool) → OperationTells (if large then Undefined (plainly SizeTooLarge) else (if power then Done (with_pick (Address size align) (λ a. Ask (OfMemory (Allocate Heap size align a)) (λ p. Done (Some (val.Ptr p))))) else Undefined (plainly BadAlign)))
     by_tests true power = tt
     by_tests false true = record { looks = λ l w. absurd (Any-one (IsWaiter l) (Address size align) w); acts = at_address }
     by_tests false false = tt

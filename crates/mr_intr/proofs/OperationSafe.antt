@@ -3,6 +3,7 @@ use Rattle.std.proofs.Common.{◌≡◌, ℕ, ◌<◌, ◌*◌, ◌^◌, refl, s
 use Rattle.std.specs.Prelude.{◌||◌, slice_get, if◌then◌else◌, is_some, nat_lt, ◌-◌, ◌++◌}
 use Rattle.std.specs.List.{list_all}
 use Rattle.std.proofs.lemmas.Bool.{and_parts}
+use Rattle.mr_base.specs.Stops.{plainly}
 use Rattle.mr_ast.specs.Integers.{int_size}
 use Rattle.mr_ast.specs.declared.types.IntType.{IntType}
 use Rattle.mr_ast.specs.declared.types.IntType.TheVariants.{U64}
@@ -152,7 +153,7 @@ module _ (s : Shared) (t c : ℕ) (sound : IsSoundTables (tables_of s)) (enabled
           memory_does result (Ask (Allocate Heap size align a) (λ p. Done (Some (val.Ptr p)))) (λ p good. subst (λ r. FitsPlace r (Some (val.Ptr p))) (sym raw) (val.Ptr p, refl, has_raw p)) (rooms, entails_same rooms, tt, λ p. entails_same rooms)
       with_pick_safe size align (a ∷ b ∷ picks) e = absurd (omega arith)
 
-      by_tests : (size align : ℕ) (large power : Bool) → Planned result (if large then Undefined SizeTooLarge else (if power then Done (with_pick (Address size align) (λ a. Ask (OfMemory (Allocate Heap size align a)) (λ p. Done (Some (val.Ptr p))))) else Undefined BadAlign))
+      by_tests : (size align : ℕ) (large power : Bool) → Planned result (if large then Undefined (plainly SizeTooLarge) else (if power then Done (with_pick (Address size align) (λ a. Ask (OfMemory (Allocate Heap size align a)) (λ p. Done (Some (val.Ptr p))))) else Undefined (plainly BadAlign)))
       by_tests size align true power = tt
       by_tests size align false true =
           λ picks legal.

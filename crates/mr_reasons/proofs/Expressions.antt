@@ -2,6 +2,7 @@
 use Rattle.std.proofs.Common.{◌≡◌, ℕ, ◌*◌, ◌^◌, refl, sym, subst, List, [], ◌∷◌, Bool, true, false, ◌&&◌, Option, Some, None, Result, Ok, Err}
 use Rattle.std.specs.Prelude.{◌==◌, ℤ, pos, negsuc, if◌then◌else◌, int_div, int_le, int_lt, int_rem, is_some, nat_lt, slice_get, unsigned_abs, ◌+ℤ◌}
 use Rattle.std.specs.Ordering.{int_eq}
+use Rattle.mr_base.specs.Stops.{plainly}
 use Rattle.mr_ast.specs.Integers.{bits_of, fits, least_of}
 use Rattle.mr_ast.specs.declared.expr.BinaryOp.{BinaryOp}
 use Rattle.mr_ast.specs.declared.expr.Place.{Place}
@@ -78,7 +79,7 @@ reason_reads (Err r) h = h
 moved_reads : (p : Pointer) (n : ℤ) → Reads (moved p n)
 moved_reads p n = by (int_eq n (pos 0)) (int_le (pos 0) (pos p.addr +ℤ n) && int_lt (pos p.addr +ℤ n) (pos (2 ^ 64)))
   where
-    by : (none within : Bool) → Reads {A = Pointer} (if none then Done p else (if within then Ask (Check (lower p n (pos p.addr +ℤ n)) (unsigned_abs n)) (λ _. Done (at_address p (unsigned_abs (pos p.addr +ℤ n)))) else Undefined OffsetOverflow))
+    by : (none within : Bool) → Reads {A = Pointer} (if none then Done p else (if within then Ask (Check (lower p n (pos p.addr +ℤ n)) (unsigned_abs n)) (λ _. Done (at_address p (unsigned_abs (pos p.addr +ℤ n)))) else Undefined (plainly OffsetOverflow)))
     by true within = tt
     by false true = λ x. tt
     by false false = refl
@@ -104,7 +105,7 @@ stored_reads (Some (Some p)) = tt
 element_reads : (p : Pointer) (i : ℕ) (e : ℕ × ℕ) → Reads (element_at p i e)
 element_reads p i e = by (nat_lt i e.0)
   where
-    by : (b : Bool) → Reads {A = Pointer} (if b then moved p (pos (i * e.1)) else Undefined IndexOutOfRange)
+    by : (b : Bool) → Reads {A = Pointer} (if b then moved p (pos (i * e.1)) else Undefined (plainly IndexOutOfRange))
     by true = moved_reads p (pos (i * e.1))
     by false = refl
 

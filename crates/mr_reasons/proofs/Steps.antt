@@ -1,6 +1,7 @@
 -- No step of a thread is refused with a data race.
 use Rattle.std.proofs.Common.{◌≡◌, ℕ, refl, List, [], ◌∷◌, ◌-◌, ◌^◌, Bool, true, false, Option, Some, None}
 use Rattle.std.specs.Prelude.{if◌then◌else◌, nat_lt, slice_get}
+use Rattle.mr_base.specs.Stops.{plainly}
 use Rattle.mr_ast.specs.declared.program.Function.{Function}
 use Rattle.mr_ast.specs.declared.program.Intrinsic.{Intrinsic}
 use Rattle.mr_ast.specs.declared.program.Intrinsic.TheVariants as intrinsic
@@ -88,7 +89,7 @@ allocating_operates size align = by (nat_lt (2 ^ 63 - 1) size) (is_power_of_two 
     at_address (a ∷ []) = λ p. tt
     at_address (a ∷ b ∷ picks) = tt
 
-    by : (large power : Bool) → Operates (if large then Undefined SizeTooLarge else (if power then Done (with_pick (Address size align) (at_pick size align)) else Undefined BadAlign))
+    by : (large power : Bool) → Operates (if large then Undefined (plainly SizeTooLarge) else (if power then Done (with_pick (Address size align) (at_pick size align)) else Undefined (plainly BadAlign)))
     by true power = refl
     by false true = at_address
     by false false = refl
@@ -164,7 +165,7 @@ module _ (own : Own) (d : DueDo) (o : Operands) where
   types_plans number fn argument None = tt
   types_plans number fn argument (Some types) = by (same_types thread_types types)
     where
-      by : (b : Bool) → Plans (if b then Done (record { creates = CreatesThread; asks = storage_asks types; go = start own d o number fn argument }) else Undefined SignatureMismatch)
+      by : (b : Bool) → Plans (if b then Done (record { creates = CreatesThread; asks = storage_asks types; go = start own d o number fn argument }) else Undefined (plainly SignatureMismatch))
       by true = start_steps number fn argument
       by false = refl
 
