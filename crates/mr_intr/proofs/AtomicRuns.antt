@@ -1,7 +1,7 @@
 -- What atomic accesses come to, by the loads and stores that the code makes.
 use Rattle.std.proofs.Common.{◌≡◌, ℕ, ◌*◌, ◌^◌, ◌<◌, refl, subst, sym, ap, ◌∙◌, List, [], ◌∷◌, Option, Some, None, Bool, true, Result, Ok, Err}
-use Rattle.mr_eval.specs.Typed.{meaningless}
-use Rattle.mr_base.specs.Stops.{reached_by}
+use Rattle.mr_base.specs.declared.reason.Reason.TheVariants.{InvalidValue}
+use Rattle.mr_base.specs.Stops.{over, reached_by}
 use Rattle.mr_base.specs.declared.stop.Reaching.TheVariants.{Changes, Loads}
 use Rattle.mr_base.specs.declared.stop.Stop.{Stop}
 use Rattle.mr_base.proofs.Comparisons.{eq_test, lt_test}
@@ -181,15 +181,15 @@ module _ (types : List Ty) (picks : List ℕ) (p : Pointer) (int : IntType) wher
     operated_load : operated intrinsic.AtomicLoad (val.Ptr p ∷ []) types (Some (ty.Int int)) picks (begun s x) ≡ read_in (number_read s.memory Loads p (int_size int) (seen s.notes))
     unfolding operated
     operated_load =
-        (λ i. run answer (found (ptr_pointer p i) >>= λ at. memory_part (reading_part (Ask (Read true at (size_int int i) (align_int int i)) (λ bytes. loaded (number_of bytes))))) (begun s x))
+        (λ i. run answer (found (ptr_pointer p i) >>= λ at. memory_part (reading_part (Ask (Read true at (size_int int i) (align_int int i)) (λ bytes. loaded (over (reached_by Loads at (size_int int i)) InvalidValue) (number_of bytes))))) (begun s x))
         ∙ by_read (lending s.memory Loads true p (int_size int) (int_size int) (seen s.notes))
       where
-        by_number : (o : Option ℕ) (l : Seen) → run answer (memory_part (reading_part (loaded (meaningless (ty.Int int) p) o))) (record (begun s x).0 { memory = s.memory }, record (begun s x).1 { tally = with_seen (tally_of s) l }) ≡ read_in (answered (reached_by Loads p (int_size int)) (numbered o) (λ n. Went n l))
+        by_number : (o : Option ℕ) (l : Seen) → run answer (memory_part (reading_part (loaded (over (reached_by Loads p (int_size int)) InvalidValue) o))) (record (begun s x).0 { memory = s.memory }, record (begun s x).1 { tally = with_seen (tally_of s) l }) ≡ read_in (answered (reached_by Loads p (int_size int)) (numbered o) (λ n. Went n l))
         by_number None l = refl
         by_number (Some n) l = refl
 
         by_read : (o : Outcome Bytes Seen)
-            → on (on (on o (λ bytes l. Went bytes (s.memory, with_seen (tally_of s) l))) (in_shared (begun s x))) (λ bytes u. run answer (memory_part (reading_part (loaded (number_of bytes)))) u)
+            → on (on (on o (λ bytes l. Went bytes (s.memory, with_seen (tally_of s) l))) (in_shared (begun s x))) (λ bytes u. run answer (memory_part (reading_part (loaded (over (reached_by Loads p (int_size int)) InvalidValue) (number_of bytes)))) u)
             ≡ read_in (on o (λ bytes l. answered (reached_by Loads p (int_size int)) (numbered (number_of bytes)) (λ n. Went n l)))
         by_read (Went bytes l) = by_number (number_of bytes) l
         by_read (Refused r) = refl

@@ -1,6 +1,7 @@
 -- No step of a thread is refused with a data race.
 use Rattle.std.proofs.Common.{◌≡◌, ℕ, refl, List, [], ◌∷◌, ◌-◌, ◌^◌, Bool, true, false, Option, Some, None}
 use Rattle.std.specs.Prelude.{if◌then◌else◌, nat_lt, slice_get}
+use Rattle.mr_eval.specs.Typed.{meaningless}
 use Rattle.mr_base.specs.Stops.{plainly}
 use Rattle.mr_ast.specs.declared.program.Function.{Function}
 use Rattle.mr_ast.specs.declared.program.Intrinsic.{Intrinsic}
@@ -100,9 +101,9 @@ releasing_steps l true (u ∷ []) = λ x. tt
 releasing_steps l true (u ∷ v ∷ picks) = tt
 releasing_steps l false picks = λ x. tt
 
-loaded_steps : (o : Option ℕ) → Steps (memory_part (reading_part (loaded o)))
-loaded_steps None = refl
-loaded_steps (Some n) = tt
+loaded_steps : (t : Ty) (p : Pointer) (o : Option ℕ) → Steps (memory_part (reading_part (loaded (meaningless t p) o)))
+loaded_steps t p None = refl
+loaded_steps t p (Some n) = tt
 
 modify_steps : (at : Val) (t : Ty) (change : ℕ → Option ℕ) → Steps (modify at t change)
 modify_steps at t change = found_then Anything (pointer_in (out-Val at)) _ (λ p n. tt)
@@ -124,7 +125,7 @@ operation_operates = of_operation Operates (record {
   acquires = λ lock. instantly _ (found_then Anything (number_in (out-Val lock)) _ (λ l x. tt));
   releases = λ lock. found_then PlanSteps (number_in (out-Val lock)) _ (λ l waits. releasing_steps l waits);
   stores = λ at t v. instantly _ (found_then Anything (pointer_in (out-Val at)) _ (λ p x. tt));
-  loads = λ at t. instantly _ (found_then Anything (pointer_in (out-Val at)) _ (λ p bytes. loaded_steps (number_of bytes)));
+  loads = λ at t. instantly _ (found_then Anything (pointer_in (out-Val at)) _ (λ p bytes. loaded_steps t p (number_of bytes)));
   exchanges = λ at t old new. instantly _ (found_then Anything (number_in (out-Val old)) _
       (λ a. found_then Anything (number_in (out-Val new)) _ (λ b. modify_steps at t (exchanged a b))));
   fetches = fetch_operates;

@@ -7,6 +7,8 @@ use Rattle.std.proofs.lemmas.Bool.{and_from}
 use Rattle.std.proofs.lemmas.Bool.Decides.{nat_tests}
 use Rattle.std.proofs.lemmas.List.Elements.{All-cons, All-head, All-nil, All-tail}
 use Rattle.std.proofs.lemmas.List.Folds.{list_all-append}
+use Rattle.mr_eval.specs.Typed.{meaningless}
+use Rattle.mr_base.specs.declared.stop.Stop.{Stop}
 use Rattle.mr_ast.specs.declared.program.Function.{Function}
 use Rattle.mr_ast.specs.declared.program.Intrinsic.{Intrinsic}
 use Rattle.mr_ast.specs.declared.program.Intrinsic.TheVariants as intrinsic
@@ -177,11 +179,11 @@ atomic_store_prints : (at : Val) (t : Ty) (v : Val) → OperationPrints (atomic_
 atomic_store_prints at t v = instant_prints _ (found_prints Anything (pointer_in (out-Val at)) _ (λ p. (tt, λ x. tt)))
 
 atomic_load_prints : (at : Val) (t : Ty) → OperationPrints (atomic_load at t)
-atomic_load_prints at t = instant_prints _ (found_prints Anything (pointer_in (out-Val at)) _ (λ p. (tt, λ bytes. by_number (number_of bytes))))
+atomic_load_prints at t = instant_prints _ (found_prints Anything (pointer_in (out-Val at)) _ (λ p. (tt, λ bytes. by_number (meaningless t p) (number_of bytes))))
   where
-    by_number : (o : Option ℕ) → InstantPrints (memory_part (reading_part (loaded o)))
-    by_number None = tt
-    by_number (Some n) = tt
+    by_number : (stop : Stop) (o : Option ℕ) → InstantPrints (memory_part (reading_part (loaded stop o)))
+    by_number stop None = tt
+    by_number stop (Some n) = tt
 
 modify_prints : (at : Val) (t : Ty) (change : ℕ → Option ℕ) → InstantPrints (modify at t change)
 modify_prints at t change = found_prints Anything (pointer_in (out-Val at)) _ (λ p. (tt, λ n. tt))
