@@ -43,10 +43,11 @@ pub record State (L : Type 0) : Type 0 where
   pub shared : Shared
   pub threads : List (Thread L)
 
--- what a bare step comes to: it completes, with notes and a state; or it stops with a verdict; or it has no rule
+-- what a bare step comes to: it completes, with notes and a state; or it stops with a verdict, and may speak of bytes;
+-- or it has no rule
 pub data Bare (L : Type 0) : Type 0 where
   Completed : Notes → State L → Bare L
-  Stops : Verdict → Bare L
+  Stops : Verdict → Option Reached → Bare L
   IllFormedStep : Bare L
 
 -- a thread with its own state that made so many allocations
@@ -66,13 +67,13 @@ settle s t (Goes own started) w =
       shared = w.0;
       threads = slice_set s.threads t (thread_of own w.1.tally.count) ++ started_threads started;
     })
-settle s t Exits w = Stops (if leaks w.0.memory then verdict.Leak else verdict.Exit)
-settle s t Aborts w = Stops verdict.Abort
+settle s t Exits w = Stops (if leaks w.0.memory then verdict.Leak else verdict.Exit) None
+settle s t Aborts w = Stops verdict.Abort None
 
 -- the same of an outcome, which may be that the program is undefined or that there is no rule
 abbrev pub settled : {L : Type 0} → State L → ℕ → Outcome (Flow L) (Shared × Notes) → Bare L
 settled s t (Went f w) = settle s t f w
-settled s t (Refused stop) = Stops (verdict.Undefined stop.reason)
+settled s t (Refused stop) = Stops (verdict.Undefined stop.reason) stop.about
 settled s t Broken = IllFormedStep
 
 -- the step of a thread with these picks
@@ -84,24 +85,6 @@ acted step s t picks (Some th) =
 -- ONE BARE STEP of thread t with these picks, in a language whose steps are these scripts
 abbrev pub bare : {L : Type 0} → Language L → State L → ℕ → List ℕ → Bare L
 bare step s t picks = acted step s t picks (slice_get s.threads t)
-
--- ---- which bytes a step speaks of that is undefined
-
--- those of a refusal, where it speaks of any
-abbrev pub about : {A S : Type 0} → Outcome A S → Option Reached
-about (Went x s) = None
-about (Refused stop) = stop.about
-about Broken = None
-
--- those of the step of a thread with these picks
-abbrev pub about_acted : {L : Type 0} → Language L → State L → ℕ → List ℕ → Option (Thread L) → Option Reached
-about_acted step s t picks None = None
-about_acted step s t picks (Some th) =
-    about (run answer (step.next th.own >>= λ plan. plan.go picks) (s.shared, start_notes t th.count))
-
--- THE BYTES THAT A BARE STEP of thread t with these picks SPEAKS OF
-abbrev pub about_bare : {L : Type 0} → Language L → State L → ℕ → List ℕ → Option Reached
-about_bare step s t picks = about_acted step s t picks (slice_get s.threads t)
 
 -- ---- what the next step of a thread asks for
 

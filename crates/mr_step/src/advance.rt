@@ -60,8 +60,8 @@ fn without(p: &mut Progress, fault: TurnFault) -> Result<(), StepFault>
     ensures { WithoutAnswer fault p.old p.new result }
 {
     match fault {
-        TurnFault::Undefined(reason) => {
-            p.stop(Verdict::Undefined(reason));
+        TurnFault::Undefined(stop) => {
+            p.stop(Verdict::Undefined(stop.reason), stop.about);
             Ok(())
         }
         TurnFault::Broken(failure) => Err(refused(failure)),

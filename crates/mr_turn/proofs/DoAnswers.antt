@@ -9,7 +9,6 @@ use Rattle.mr_ast.specs.declared.program.Intrinsic.{Intrinsic}
 use Rattle.mr_ast.specs.declared.program.Intrinsic.TheVariants as intrinsic
 use Rattle.mr_ast.specs.declared.types.Ty.{Ty}
 use Rattle.mr_base.specs.declared.byte.Pointer.{Pointer}
-use Rattle.mr_base.specs.declared.reason.Reason.{Reason}
 use Rattle.mr_base.specs.declared.reason.Reason.TheVariants.{NoPayload}
 use Rattle.mr_eval.specs.declared.fault.Fault.{Fault as MemoryFault}
 use Rattle.mr_eval.specs.declared.fault.Fault.TheVariants as memory_fault
