@@ -9,7 +9,6 @@ ghost use Rattle.mr_eval.specs.Stores.{stored_typed};
 
 use crate::env::Env;
 use crate::evaluating::{placed, valued};
-use crate::fault::Fault;
 use crate::halt::Halt;
 use crate::here::Here;
 use crate::loading::is_scalar;
@@ -19,7 +18,7 @@ use crate::stores::{store_bytes, store_scalar};
 use crate::valuing;
 use mr_ast::{Place, Ty, Value};
 use mr_base::Pointer;
-use mr_mem::Memory;
+use mr_mem::{Fault, Memory};
 use mr_value::{Val, encode, encode_scalar};
 use std::alloc::Global;
 
@@ -29,7 +28,7 @@ fn fault_of(h: Halt) -> Fault
     ensures { result ≡ fault_of h }
 {
     match h {
-        Halt::Undefined(stop) => Fault::Undefined(stop),
+        Halt::Undefined(reason) => Fault::Undefined(reason),
         Halt::IllFormed => unreachable!(),
         Halt::Memory => Fault::Memory,
     }

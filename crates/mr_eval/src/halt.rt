@@ -1,12 +1,12 @@
 //! Why an evaluation stops.
-use mr_base::Stop;
+use mr_base::Reason;
 use std::alloc::{AllocError, AllocFailed};
 
 /// Why an evaluation stops.
 #[derive(Clone, Copy, Debug, PartialEq, Eq)]
 pub enum Halt {
     /// It is undefined behaviour.
-    Undefined(Stop),
+    Undefined(Reason),
     /// There is no rule. No expression of a well-formed program comes to this.
     IllFormed,
     /// Memory ran out.

@@ -23,7 +23,6 @@
 mod calls;
 mod env;
 mod evaluating;
-mod fault;
 mod halt;
 mod here;
 mod kinds;
@@ -44,9 +43,9 @@ mod valuing;
 
 pub use calls::{load_typed, place, store_typed, value};
 pub use env::Env;
-pub use fault::Fault;
 pub use loading::load_scalar;
 pub use moving::behind;
+pub use mr_mem::Fault;
 pub use notes::Notes;
 pub use recasting::recast;
 pub use scalars::{Scalar, scalar_of};

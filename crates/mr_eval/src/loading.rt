@@ -7,13 +7,14 @@ ghost use Rattle.mr_base.specs.Script.{Went, on};
 ghost use Rattle.mr_value.specs.Decode.{is_scalar};
 ghost use Rattle.mr_value.specs.Shape.{has_shape};
 ghost use Rattle.mr_value.specs.declared.val.Val.{out-Val};
-ghost use Rattle.mr_eval.specs.Answers.{Extends, Gives, Reasons, outcome_of, same, seen, value_in};
+ghost use Rattle.mr_eval.specs.Answers.{Extends, Gives, outcome_of, same, seen, value_in};
 ghost use Rattle.mr_wf.specs.Known.{ty_of};
+ghost use Rattle.mr_base.specs.declared.reason.Reason.TheVariants.{InvalidValue};
 ghost use Rattle.mr_runs.specs.Pieces.{bytes_of_pieces};
 ghost use Rattle.mr_eval.specs.Evaluated.{meant_by, read_typed, referred_to};
 ghost use Rattle.mr_eval.specs.Noted.{listed, noted_load, noted_targets};
 ghost use Rattle.mr_eval.specs.Reads.{Seen, accessing, seeing, touching};
-ghost use Rattle.mr_eval.specs.Typed.{meaningless, pointed, targets_of};
+ghost use Rattle.mr_eval.specs.Typed.{pointed, targets_of};
 
 use crate::halt::Halt;
 use crate::notes::Notes;
@@ -22,7 +23,7 @@ use crate::reads::lend;
 use crate::targets::{add_targets, refer_all};
 use crate::valuing::{Valued, typed};
 use mr_ast::Ty;
-use mr_base::{Pointer, Reaching, Reason, Stop};
+use mr_base::{Pointer, Reaching, Reason};
 use mr_layout::{Cache, Layout};
 use mr_mem::Memory;
 use mr_runs::View;
@@ -65,12 +66,10 @@ pub fn read_typed(
     let view = lend(m, notes, p, size, align)?;
     match decode(alloc, &view, t)? {
         Some(v) => referred(alloc, m, notes, t, v),
-        None => Err(Halt::Undefined(Stop::over(
-            Reason::InvalidValue,
-            Reaching::Loads,
-            p,
-            size,
-        ))),
+        None => {
+            notes.refused(Reaching::Loads, p, size);
+            Err(Halt::Undefined(Reason::InvalidValue))
+        }
     }
 }
 
@@ -114,7 +113,7 @@ fn target_of(t: &Ty, v: &Val) -> Option<(Pointer, u64)>
 
 // The reference check of what a value points to, if it points to anything.
 #[tactic(auto, unfolding(crate::specs::Evaluated::referred_to))]
-fn check_target(m: &Memory, target: Option<(Pointer, u64)>) -> Result<(), Stop>
+fn check_target(m: &Memory, target: Option<(Pointer, u64)>) -> Result<(), Reason>
     ensures { (s : Seen)
         → referred_to m.now (listed target) s ≡ outcome_of result (λ _. noted_targets (listed target) s) }
 {
@@ -122,33 +121,27 @@ fn check_target(m: &Memory, target: Option<(Pointer, u64)>) -> Result<(), Stop>
         None => Ok(()),
         Some((p, len)) => match m.check(p, len) {
             Ok(_) => Ok(()),
-            Err(_) => Err(Stop::over(
-                Reason::DanglingReference,
-                Reaching::Refers,
-                p,
-                len,
-            )),
+            Err(_) => Err(Reason::DanglingReference),
         },
     }
 }
 
-// The value that is lent from a pointer on, whose reference, where it is one, points to a live range.
+// The value that is lent, whose reference, where it is one, points to a live range.
 #[tactic(auto, using(crate::proofs::LoadRuns::meant_none))]
-fn scalar_in(m: &Memory, view: &View<'_>, p: Pointer, t: &Ty, size: u64) -> Result<Val, Stop>
+fn scalar_in(m: &Memory, view: &View<'_>, t: &Ty) -> Result<Val, Reason>
     requires scalar { IsTrue (is_scalar t.now) }
     requires ok { TypeOk t.now }
-    requires size { size ≡ size_of t.now }
     requires sized { length (bytes_of_pieces view.now) ≡ size_of t.now }
-    ensures given { (s : Seen) → meant_by m.now (meaningless t.now p) t.now (bytes_of_pieces view.now) s
+    ensures given { (s : Seen) → meant_by m.now (plainly InvalidValue) t.now (bytes_of_pieces view.now) s
         ≡ outcome_of result (λ v. noted_targets (targets_of t.now v) s) }
     ensures shape { IfOk result (λ v. has_shape t.now v ≡ true) }
 {
     let Some(v) = decode_scalar(view, t) else {
-        return Err(Stop::over(Reason::InvalidValue, Reaching::Loads, p, size));
+        return Err(Reason::InvalidValue);
     };
     match check_target(m, target_of(t, &v)) {
         Ok(()) => Ok(v),
-        Err(stop) => Err(stop),
+        Err(reason) => Err(reason),
     }
 }
 
@@ -158,18 +151,15 @@ fn scalar_in(m: &Memory, view: &View<'_>, p: Pointer, t: &Ty, size: u64) -> Resu
 pub fn load_scalar(m: &Memory, c: &Cache, p: Pointer, t: &Ty) -> Result<Val, Reason>
     requires scalar { IsTrue (is_scalar t.now) }
     requires ok { TypeOk t.now }
-    ensures given { (s : Seen) → Reasons result (λ v. noted_load t.now p v s) (read_typed m.now t.now p s) }
+    ensures given { (s : Seen) → read_typed m.now t.now p s ≡ outcome_of result (λ v. noted_load t.now p v s) }
     ensures shape { IfOk result (λ v. has_shape t.now v ≡ true) }
 {
-    match load_sized(m, p, t, c.layout(t)) {
-        Ok(v) => Ok(v),
-        Err(stop) => Err(stop.reason),
-    }
+    load_sized(m, p, t, c.layout(t))
 }
 
 // The load of an integer, a bool or a pointer, whose type has this layout.
 #[tactic(auto, using(crate::proofs::ScalarRuns::scalar_laws, crate::proofs::ReadLength::read_sized))]
-fn load_sized(m: &Memory, p: Pointer, t: &Ty, layout: Layout) -> Result<Val, Stop>
+fn load_sized(m: &Memory, p: Pointer, t: &Ty, layout: Layout) -> Result<Val, Reason>
     requires scalar { IsTrue (is_scalar t.now) }
     requires ok { TypeOk t.now }
     requires layout { layout ≡ layout_of t.now }
@@ -177,8 +167,8 @@ fn load_sized(m: &Memory, p: Pointer, t: &Ty, layout: Layout) -> Result<Val, Sto
     ensures shape { IfOk result (λ v. has_shape t.now v ≡ true) }
 {
     match m.load(p, layout.size, layout.align) {
-        Ok(view) => scalar_in(m, &view, p, t, layout.size),
-        Err(reason) => Err(Stop::over(reason, Reaching::Loads, p, layout.size)),
+        Ok(view) => scalar_in(m, &view, t),
+        Err(reason) => Err(reason),
     }
 }
 
@@ -200,6 +190,21 @@ fn note_load(
         notes.touch(p, len)?;
     }
     Ok(())
+}
+
+// Notes the bytes for which a load is refused: those of the reference in the value, where there is one, else its own.
+#[cold]
+#[inline(never)]
+fn note_refused(m: &Memory, notes: &mut Notes, p: Pointer, t: &Ty, layout: Layout) {
+    if let Ok(view) = m.load(p, layout.size, layout.align) {
+        if let Some(v) = decode_scalar(&view, t) {
+            if let Some((q, len)) = target_of(t, &v) {
+                notes.refused(Reaching::Refers, q, len);
+                return;
+            }
+        }
+    }
+    notes.refused(Reaching::Loads, p, layout.size);
 }
 
 /// The load of an integer, a bool or a pointer, noted, as a value of its type.
@@ -224,6 +229,9 @@ pub fn noted_scalar<'p>(
             note_load(notes, p.at, layout.size, target_of(p.ty, &v))?;
             Ok(typed(v, Known::Written(p.ty)))
         }
-        Err(stop) => Err(Halt::Undefined(stop)),
+        Err(reason) => {
+            note_refused(m, notes, p.at, p.ty, layout);
+            Err(Halt::Undefined(reason))
+        }
     }
 }

@@ -8,7 +8,7 @@ ghost use Rattle.mr_eval.specs.Reads.{reading};
 use crate::halt::Halt;
 use crate::notes::Notes;
 use crate::reads::look;
-use mr_base::{Pointer, Reason, Stop};
+use mr_base::{Pointer, Reason};
 use mr_mem::Memory;
 
 /// So many bytes behind a pointer, around the end of the address space.
@@ -38,6 +38,6 @@ pub fn moved(m: &Memory, notes: &mut Notes, p: Pointer, n: i128) -> Result<Point
             look(m, notes, lower, n.unsigned_abs() as u64)?;
             Ok(to)
         }
-        Err(_) => Err(Halt::Undefined(Stop::plain(Reason::OffsetOverflow))),
+        Err(_) => Err(Halt::Undefined(Reason::OffsetOverflow)),
     }
 }

@@ -12,7 +12,6 @@ use crate::kinds::{OverflowOp, exact};
 use crate::moving::behind;
 use crate::operands::{left_in, pointer_in, right_in};
 use mr_ast::{IntType, UnaryOp};
-use mr_base::Stop;
 use mr_intops::{ArithOp, CmpOp, ShiftOp};
 use mr_value::{Items, Val};
 use std::alloc::Global;
@@ -36,7 +35,7 @@ fn arith_bits(op: ArithOp, int: IntType, x: u128, y: u128, a: &Val) -> Result<Va
 {
     match mr_intops::arith(op, int, x, y) {
         Ok(bits) => like(a, bits),
-        Err(reason) => Err(Halt::Undefined(Stop::plain(reason))),
+        Err(reason) => Err(Halt::Undefined(reason)),
     }
 }
 
@@ -61,7 +60,7 @@ fn shift_bits(op: ShiftOp, int: IntType, x: u128, by: IntType, y: u128) -> Resul
 {
     match mr_intops::shift(op, int, x, by, y) {
         Ok(bits) => Ok(Val::Int(bits)),
-        Err(reason) => Err(Halt::Undefined(Stop::plain(reason))),
+        Err(reason) => Err(Halt::Undefined(reason)),
     }
 }
 

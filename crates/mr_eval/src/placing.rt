@@ -15,7 +15,7 @@ use crate::moving::moved;
 use crate::notes::Notes;
 use crate::operands::pointer_in;
 use mr_ast::{Local, LocalName, Num, Ty};
-use mr_base::{Pointer, Reason, Stop};
+use mr_base::{Pointer, Reason};
 use mr_layout::Cache;
 use mr_mem::Memory;
 use mr_value::Val;
@@ -39,7 +39,7 @@ pub fn local<'p>(
 {
     match (storage.get(x.0 as usize), mr_wf::local_type(locals, x)) {
         (Some(Some(at)), Some(ty)) => Ok(Placed { at: *at, ty }),
-        (Some(None), _) => Err(Halt::Undefined(Stop::plain(Reason::DeadLocal))),
+        (Some(None), _) => Err(Halt::Undefined(Reason::DeadLocal)),
         _ => Err(Halt::IllFormed),
     }
 }
@@ -138,7 +138,7 @@ fn element_of(
     if index < elements.0 {
         moved(m, notes, at, i128::from(index * elements.1))
     } else {
-        Err(Halt::Undefined(Stop::plain(Reason::IndexOutOfRange)))
+        Err(Halt::Undefined(Reason::IndexOutOfRange))
     }
 }
 

@@ -17,7 +17,7 @@ use crate::halt::Halt;
 use crate::loading::referred;
 use crate::notes::Notes;
 use mr_ast::{IntType, Items, Ty};
-use mr_base::{AbstractByte, Reason, Stop};
+use mr_base::{AbstractByte, Reason};
 use mr_layout::int_bytes;
 use mr_mem::Memory;
 use mr_runs::Runs;
@@ -161,6 +161,6 @@ pub fn transmuted(
 {
     match recast(alloc, to, from, v)? {
         Some(v) => referred(alloc, m, notes, to, v),
-        None => Err(Halt::Undefined(Stop::plain(Reason::TransmuteInvalid))),
+        None => Err(Halt::Undefined(Reason::TransmuteInvalid)),
     }
 }

@@ -1,8 +1,7 @@
 //! What a step changes: memory, and what it notes of that.
-use crate::fault::Fault;
 use crate::notes::Notes;
-use mr_base::{AllocId, AllocIds, Kind, Pointer, Reaching, Stop};
-use mr_mem::Memory;
+use mr_base::{AllocId, AllocIds, Kind, Pointer, Reaching};
+use mr_mem::{Fault, Memory};
 use std::alloc::{AllocError, Global};
 
 /// What a step of a thread changes of memory, and what it notes of that.
@@ -98,12 +97,10 @@ impl Scene {
                 self.freed.push(id)?;
                 Ok(())
             }
-            Err(reason) => Err(Fault::Undefined(Stop::over(
-                reason,
-                Reaching::Frees,
-                p,
-                size,
-            ))),
+            Err(reason) => {
+                self.notes.refused(Reaching::Frees, p, size);
+                Err(Fault::Undefined(reason))
+            }
         }
     }
 }

@@ -15,7 +15,7 @@ use crate::moving::behind;
 use crate::notes::Notes;
 use crate::reads::lend;
 use mr_ast::{IntType, Num, Tree, Ty};
-use mr_base::{Pointer, Reason, Stop};
+use mr_base::{Pointer, Reason};
 use mr_layout::int_bytes;
 use mr_mem::Memory;
 use mr_runs::View;
@@ -54,7 +54,7 @@ fn read_number(m: &Memory, notes: &mut Notes, int: IntType, p: Pointer) -> Resul
     let view = lend(m, notes, p, int_bytes(int), 1)?;
     match number_in(&view, int) {
         Some(number) => Ok(number),
-        None => Err(Halt::Undefined(Stop::plain(Reason::InvalidDiscriminant))),
+        None => Err(Halt::Undefined(Reason::InvalidDiscriminant)),
     }
 }
 
@@ -66,7 +66,7 @@ pub fn found_number(m: &Memory, notes: &mut Notes, tree: &Tree, p: Pointer) -> R
 {
     match tree {
         Tree::Known(number) => Ok(*number),
-        Tree::Invalid => Err(Halt::Undefined(Stop::plain(Reason::InvalidDiscriminant))),
+        Tree::Invalid => Err(Halt::Undefined(Reason::InvalidDiscriminant)),
         Tree::Branch(at, int, cases, rest) => {
             let number = read_number(m, notes, *int, behind(p, *at))?;
             for case in cases.as_slice() {

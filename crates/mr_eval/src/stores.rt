@@ -7,10 +7,9 @@ ghost use Rattle.mr_eval.specs.Environment.{Leaves};
 ghost use Rattle.mr_eval.specs.Reads.{accessing, seeing, touching};
 ghost use Rattle.mr_eval.specs.Stores.{storing};
 
-use crate::fault::Fault;
 use crate::notes::Notes;
 use mr_base::{AbstractByte, Pointer, Reaching};
-use mr_mem::Memory;
+use mr_mem::{Fault, Memory};
 use mr_value::ScalarBytes;
 use std::alloc::AllocError;
 
@@ -44,7 +43,10 @@ pub fn store_bytes(
     note_store(notes, atomic, p, bytes.len() as u64)?;
     match m.store(p, bytes, align) {
         Ok(()) => Ok(()),
-        Err(fault) => Err(Fault::over(fault, Reaching::Stores, p, bytes.len() as u64)),
+        Err(fault) => {
+            notes.refused(Reaching::Stores, p, bytes.len() as u64);
+            Err(fault)
+        }
     }
 }
 
@@ -71,12 +73,10 @@ pub fn store_scalar(
     note_store(notes, false, p, numbers.len() as u64)?;
     match m.store_numbers(p, numbers, bytes.provenance, align) {
         Ok(()) => Ok(()),
-        Err(fault) => Err(Fault::over(
-            fault,
-            Reaching::Stores,
-            p,
-            numbers.len() as u64,
-        )),
+        Err(fault) => {
+            notes.refused(Reaching::Stores, p, numbers.len() as u64);
+            Err(fault)
+        }
     }
 }
 
@@ -98,6 +98,9 @@ pub fn store_uninit(
     note_store(notes, false, p, len)?;
     match m.deinit(p, len, align) {
         Ok(()) => Ok(()),
-        Err(fault) => Err(Fault::over(fault, Reaching::Stores, p, len)),
+        Err(fault) => {
+            notes.refused(Reaching::Stores, p, len);
+            Err(fault)
+        }
     }
 }

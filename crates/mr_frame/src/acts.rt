@@ -17,7 +17,7 @@ use crate::storage::{release, renew};
 use crate::switches::switch;
 use crate::types::{byte_align, byte_size};
 use mr_ast::{BlockName, Function, LocalName, Num, Place, Stmt, Term, Ty, Value};
-use mr_base::{Reason, Stop};
+use mr_base::Reason;
 use mr_eval::{Fault, Notes, Scene};
 use mr_layout::Cache;
 use mr_mem::Memory;
@@ -269,7 +269,7 @@ impl Stack {
             Term::Switch(on, cases, other) => {
                 self.switch(alloc, look, s, on, cases.as_slice(), *other)
             }
-            Term::Unreachable => Err(Fault::Undefined(Stop::plain(Reason::Unreachable))),
+            Term::Unreachable => Err(Fault::Undefined(Reason::Unreachable)),
             Term::Call(callee, args, place, _, _) => {
                 let args = args.as_slice();
                 self.call(alloc, look, s, callee, args, place, picks)

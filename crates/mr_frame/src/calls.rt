@@ -12,7 +12,7 @@ use crate::fitting::is_fitting;
 use crate::frame::function_at;
 use crate::values::{pointer, values};
 use mr_ast::{FnName, Place, Value};
-use mr_base::{Pointer, Reason, Stop};
+use mr_base::{Pointer, Reason};
 use mr_eval::{Env, Fault, Notes, place};
 use mr_mem::Memory;
 use mr_value::Val;
@@ -83,10 +83,10 @@ fn called<'a>(
         (env_surround e.now) to.now args.now) place row.items (callee_of e.now.functions.now function) s) s }
 {
     let Some(function) = callee(e.functions, function) else {
-        return Err(Fault::Undefined(Stop::plain(Reason::NotAFunction)));
+        return Err(Fault::Undefined(Reason::NotAFunction));
     };
     if !is_fitting(e, args, to, function_at(e.program.program(), function.0)) {
-        return Err(Fault::Undefined(Stop::plain(Reason::SignatureMismatch)));
+        return Err(Fault::Undefined(Reason::SignatureMismatch));
     }
     Ok(Prepared {
         place,

@@ -16,7 +16,7 @@ use crate::storage::release;
 use crate::types::{byte_align, byte_size};
 use crate::values::pointer;
 use mr_ast::{BlockName, Function, Local, Term, Ty, Value};
-use mr_base::{Pointer, Reason, Stop};
+use mr_base::{Pointer, Reason};
 use mr_eval::{Fault, Scene, load_typed};
 use mr_layout::Cache;
 use mr_value::Val;
@@ -132,7 +132,7 @@ impl Stack {
             return Ok(Flow::Ended);
         }
         let Some(block) = targets_of_call(look, &self.top).next else {
-            return Err(Fault::Undefined(Stop::plain(Reason::NoReturnBlock)));
+            return Err(Fault::Undefined(Reason::NoReturnBlock));
         };
         let Some(place) = self.top.call else {
             unreachable!()
@@ -167,7 +167,7 @@ impl Stack {
             (acted (look_of look.now) s.old.thread (stack_of self.old) picks (world_of s.old)) (world_of s.new) }
     {
         if self.is_main(s.thread) {
-            return Err(Fault::Undefined(Stop::plain(Reason::MainReturned)));
+            return Err(Fault::Undefined(Reason::MainReturned));
         }
         let f = look.function(self.top.function);
         match self.return_value(alloc, look, s, f) {
@@ -210,10 +210,10 @@ impl Stack {
             (acted (look_of look.now) s.old.thread (stack_of self.old) picks (world_of s.old)) (world_of s.new) }
     {
         let Some(caller) = self.below.last() else {
-            return Err(Fault::Undefined(Stop::plain(Reason::UnwoundThread)));
+            return Err(Fault::Undefined(Reason::UnwoundThread));
         };
         let Some(block) = targets_of_call(look, caller).unwind else {
-            return Err(Fault::Undefined(Stop::plain(Reason::NoUnwindBlock)));
+            return Err(Fault::Undefined(Reason::NoUnwindBlock));
         };
         let f = look.function(self.top.function);
         match free_each(

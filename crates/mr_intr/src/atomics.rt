@@ -17,7 +17,7 @@ ghost use Rattle.mr_intr.specs.Operations.{exchanged, fetched};
 use crate::args::{bits_at, integer_of, pointer_at};
 use crate::effect::Effect;
 use mr_ast::{IntType, Intrinsic, Ty};
-use mr_base::{Pointer, Reaching, Reason, Stop};
+use mr_base::{Pointer, Reaching, Reason};
 use mr_eval::{Fault, Notes, Scene, store_bytes};
 use mr_intops::{ArithOp, arith};
 use mr_layout::{align, int_bytes};
@@ -39,7 +39,7 @@ fn number_in(view: &View<'_>, int: IntType) -> Result<u128, Reason>
     }
 }
 
-// The atomic load of an integer, with which this is done.
+// The atomic load of an integer.
 fn load_number(
     m: &Memory,
     notes: &mut Notes,
@@ -52,13 +52,19 @@ fn load_number(
 {
     let size = int_bytes(int);
     match m.load(p, size, size) {
-        Err(reason) => Err(Fault::Undefined(Stop::over(reason, doing, p, size))),
+        Err(reason) => {
+            notes.refused(doing, p, size);
+            Err(Fault::Undefined(reason))
+        }
         Ok(view) => {
             notes.touch(p, size)?;
             notes.access(false, true, p, size)?;
             match number_in(&view, int) {
                 Ok(n) => Ok(n),
-                Err(reason) => Err(Fault::Undefined(Stop::over(reason, doing, p, size))),
+                Err(reason) => {
+                    notes.refused(doing, p, size);
+                    Err(Fault::Undefined(reason))
+                }
             }
         }
     }
@@ -83,7 +89,10 @@ fn store_number(
     notes.access(true, true, p, size)?;
     match m.store(p, bytes.as_slice(), size) {
         Ok(()) => Ok(()),
-        Err(fault) => Err(Fault::over(fault, Reaching::Changes, p, size)),
+        Err(fault) => {
+            notes.refused(Reaching::Changes, p, size);
+            Err(fault)
+        }
     }
 }
 

@@ -9,7 +9,7 @@ ghost use Rattle.mr_intr.specs.Heap.{allocation_fault};
 
 use crate::args::{pointer_at, size_at};
 use crate::effect::Effect;
-use mr_base::{Kind, Reason, Stop};
+use mr_base::{Kind, Reason};
 use mr_eval::{Fault, Scene};
 use mr_value::Val;
 
@@ -40,7 +40,7 @@ pub fn allocate(args: &[Val], s: &mut Scene, picks: &[u64]) -> Result<Effect, Fa
     let size = size_at(args, 0);
     let align = size_at(args, 1);
     match allocation_fault(size, align) {
-        Some(reason) => Err(Fault::Undefined(Stop::plain(reason))),
+        Some(reason) => Err(Fault::Undefined(reason)),
         None => {
             let p = s.allocate(Kind::Heap, size, align, picks[0])?;
             Ok(Effect::quiet(Some(Val::Ptr(p))))

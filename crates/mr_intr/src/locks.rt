@@ -12,7 +12,7 @@ ghost use Rattle.mr_intr.specs.Effects.{AreLawful, CanTake, ChangesTables, Fits,
 
 use crate::args::number_at;
 use crate::effect::Effect;
-use mr_base::{Event, Stop};
+use mr_base::Event;
 use mr_eval::Fault;
 use mr_sync::SyncTable;
 use mr_value::Val;
@@ -28,7 +28,7 @@ pub fn join(args: &[Val], thread: u32, sync: &mut SyncTable) -> Result<Effect, F
     let target = number_at(args, 0);
     match sync.join(thread, target) {
         Ok(_) => Ok(Effect::noted(Event::Join(target))),
-        Err(reason) => Err(Fault::Undefined(Stop::plain(reason))),
+        Err(reason) => Err(Fault::Undefined(reason)),
     }
 }
 
@@ -59,7 +59,7 @@ pub fn acquire(args: &[Val], thread: u32, sync: &mut SyncTable) -> Result<Effect
     let lock = number_at(args, 0);
     match sync.acquire(thread, lock) {
         Ok(_) => Ok(Effect::noted(Event::Acquire(lock))),
-        Err(reason) => Err(Fault::Undefined(Stop::plain(reason))),
+        Err(reason) => Err(Fault::Undefined(reason)),
     }
 }
 
@@ -101,6 +101,6 @@ pub fn release(
             event: Event::Release(lock),
             woken: to,
         }),
-        Err(reason) => Err(Fault::Undefined(Stop::plain(reason))),
+        Err(reason) => Err(Fault::Undefined(reason)),
     }
 }

@@ -16,7 +16,7 @@ use crate::args::truth_at;
 use crate::effect::Effect;
 use itoa::Buffer;
 use mr_ast::{Num, Ty};
-use mr_base::{Reason, Stop};
+use mr_base::Reason;
 use mr_eval::{Fault, Scalar, scalar_of};
 use mr_value::Val;
 use mr_wf::Known;
@@ -32,7 +32,7 @@ pub fn assume(args: &[Val]) -> Result<Effect, Fault>
     if truth_at(args, 0) {
         Ok(Effect::quiet(None))
     } else {
-        Err(Fault::Undefined(Stop::plain(Reason::AssumeFalse)))
+        Err(Fault::Undefined(Reason::AssumeFalse))
     }
 }
 

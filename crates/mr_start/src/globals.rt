@@ -11,8 +11,8 @@ ghost use Rattle.mr_start.specs.Start.{behind_store, filled, global_bytes, item_
 
 use mr_ast::{Global_, Item_, Target, Ty};
 use mr_base::{AbstractByte, Pointer};
-use mr_eval::behind;
-use mr_mem::{Fault, Memory};
+use mr_eval::{Fault, behind};
+use mr_mem::Memory;
 use mr_value::{Val, encode};
 use mr_wf::items_size;
 use std::alloc::{AllocError, Global};

@@ -1,5 +1,5 @@
 //! What a turn did, or why there is none.
-use mr_base::{Event, Stop};
+use mr_base::{Event, Reason};
 use mr_eval::Fault;
 use mr_frame::{Flow, Stack};
 use mr_start::PickFailure;
@@ -26,8 +26,8 @@ pub struct Deed {
 pub enum TurnFault {
     /// Its picks break a rule.
     Broken(PickFailure),
-    /// The step itself stops.
-    Undefined(Stop),
+    /// The step itself stops for this reason.
+    Undefined(Reason),
     /// Memory ran out.
     Memory,
 }
@@ -62,7 +62,7 @@ impl From<Fault> for TurnFault {
 
     fn from(fault: Fault) -> Self {
         match fault {
-            Fault::Undefined(stop) => TurnFault::Undefined(stop),
+            Fault::Undefined(reason) => TurnFault::Undefined(reason),
             Fault::Memory => TurnFault::Memory,
         }
     }

@@ -7,7 +7,7 @@ ghost use Rattle.mr_turn.specs.Doing.{CanAsk, CanEnd, EndsDo, IsDeed, IsGiven, I
 ghost use Rattle.mr_turn.specs.Turning.{BeginsTurn, JudgeAnswer, TakesTurn};
 
 use crate::deed::{Deed, TurnFault};
-use crate::judging::{judged, met, stopped, stopped_for};
+use crate::judging::{judged, met, stopped};
 use crate::spawning::spawn;
 use mr_ast::Intrinsic;
 use mr_base::{Event, Reason};
@@ -34,7 +34,7 @@ pub fn do_turn(
 {
     match stack.arguments(alloc, look, &s.memory, &mut s.notes) {
         Err(Fault::Memory) => Err(TurnFault::Memory),
-        Err(Fault::Undefined(stop)) => Err(stopped(stop, picks)),
+        Err(Fault::Undefined(reason)) => Err(stopped(reason, picks)),
         Ok(call) => act(alloc, look, stack, s, sync, op, &call, picks),
     }
 }
@@ -74,7 +74,7 @@ fn payload(
     ensures { TakesDoTurn look.now stack.old s.old sync.now call.now picks.now result stack.new s.new sync.now }
 {
     match stack.payload() {
-        None => Err(stopped_for(Reason::NoPayload, picks)),
+        None => Err(stopped(Reason::NoPayload, picks)),
         Some(last) => match judged(s, sync, &[], picks) {
             Err(fault) => Err(fault),
             Ok(()) => end(alloc, look, stack, s, call, &Val::Ptr(last)),
@@ -133,7 +133,7 @@ fn operation(
     ensures { TakesDoTurn look.now stack.old s.old sync.old call.now picks.now result stack.new s.new sync.new }
 {
     match needs_of(op, call.args.as_slice(), sync, s.thread) {
-        Err(reason) => Err(stopped_for(reason, picks)),
+        Err(reason) => Err(stopped(reason, picks)),
         Ok(needs) => match meets(s, sync, needs, picks) {
             Err(fault) => Err(fault),
             Ok(()) => carry_out(alloc, look, stack, s, sync, op, call, picks),

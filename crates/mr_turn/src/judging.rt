@@ -1,6 +1,5 @@
 //! What is judged before a step does anything.
 ghost use Rattle.std.specs.Prelude.{◌≡◌, ◌+◌, ◌<◌, ◌^◌, Err, None, Option, if◌then◌else◌, length, nat_lt};
-ghost use Rattle.mr_base.specs.Stops.{plainly};
 ghost use Rattle.mr_mem.specs.Memory.{Memory};
 ghost use Rattle.mr_frame.specs.PlanLegal.{Fault as FaultOf, creation_fault, else_fault, fault};
 ghost use Rattle.mr_intr.specs.Effects.{shared_of};
@@ -10,7 +9,7 @@ ghost use Rattle.mr_turn.specs.Asking.{bare_fault};
 ghost use Rattle.mr_turn.specs.Turning.{JudgeAnswer, StopAnswer, asks_break, shared_in};
 
 use crate::deed::TurnFault;
-use mr_base::{MAX_LOCKS, MAX_THREADS, Reason, Stop};
+use mr_base::{MAX_LOCKS, MAX_THREADS, Reason};
 use mr_eval::Scene;
 use mr_intr::Creation;
 use mr_sched::{Ask, ScheduleRule};
@@ -94,19 +93,12 @@ pub fn met(
 }
 
 /// A step that stops before it needs a pick.
-pub fn stopped(stop: Stop, picks: &[u64]) -> TurnFault
-    ensures { StopAnswer result stop picks.now }
+pub fn stopped(reason: Reason, picks: &[u64]) -> TurnFault
+    ensures { StopAnswer result reason picks.now }
 {
     if picks.is_empty() {
-        TurnFault::Undefined(stop)
+        TurnFault::Undefined(reason)
     } else {
         TurnFault::Broken(PickFailure::of(ScheduleRule::ExtraPick))
     }
-}
-
-/// The same, for a reason that speaks of no bytes.
-pub fn stopped_for(reason: Reason, picks: &[u64]) -> TurnFault
-    ensures { StopAnswer result (plainly reason) picks.now }
-{
-    stopped(Stop::plain(reason), picks)
 }

@@ -11,7 +11,7 @@ ghost use Rattle.mr_start.specs.ThreadSteps.{thread_types};
 ghost use Rattle.mr_turn.specs.Doing.{CanEnd, EndsDo, IsGiven, IsNewThread, SpawnsFunction, StartsThread, TakesDoStep, TakesDoTurn};
 
 use crate::deed::{Deed, TurnFault};
-use crate::judging::{met, stopped_for};
+use crate::judging::{met, stopped};
 use mr_ast::{FnName, Function, LocalName, Ty};
 use mr_base::{Event, Pointer, Reason};
 use mr_eval::Scene;
@@ -83,7 +83,7 @@ pub fn spawn(
     ensures { TakesDoTurn look.now stack.old s.old sync.old call.now picks.now result stack.new s.new sync.new }
 {
     match callee(look.functions, callee_in(call.args.as_slice())) {
-        None => Err(stopped_for(Reason::NotAFunction, picks)),
+        None => Err(stopped(Reason::NotAFunction, picks)),
         Some(f) => spawn_function(alloc, look, stack, s, sync, call, f, picks),
     }
 }
@@ -103,7 +103,7 @@ fn spawn_function(
     ensures { TakesDoTurn look.now stack.old s.old sync.old call.now picks.now result stack.new s.new sync.new }
 {
     if !begins_thread(alloc, function_of(look, f)) {
-        return Err(stopped_for(Reason::SignatureMismatch, picks));
+        return Err(stopped(Reason::SignatureMismatch, picks));
     }
     let asks = [
         Ask::Address { size: 0, align: 1 },
