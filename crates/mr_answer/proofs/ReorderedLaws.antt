@@ -14,7 +14,7 @@ use Rattle.mr_sched.specs.declared.schedule.Schedule.{Schedule}
 use Rattle.mr_sched.specs.declared.version.Version.{Version}
 use Rattle.mr_step.specs.StartRuns.{Legal, run_of, steps_of}
 use Rattle.mr_step.specs.ThreadSteps.{Own}
-use Rattle.mr_wf.specs.Walk.{WellFormed}
+use Rattle.mr_typing.specs.Walk.{WellFormed}
 use Rattle.mr_step.specs.ExchangeWitness.{entry_at}
 use Rattle.mr_witness.specs.EveryOrder.{ComesToTheSame}
 use Rattle.mr_witness.specs.Shuffled.{shuffled, shuffled_order}

@@ -20,7 +20,7 @@ use mr_report::brief;
 use mr_run::Clocked;
 use mr_sched::Version;
 use mr_step::Machine;
-use mr_wf::Checked;
+use mr_typing::Checked;
 use std::alloc::{AllocError, Global};
 
 // As many entries as the schedule of a generated program may have.

@@ -17,7 +17,7 @@ use mr_input::{Refusal, Written, answered};
 use mr_run::{Clocked, Nothing, run};
 use mr_sched::{Schedule, Version};
 use mr_step::Machine;
-use mr_wf::Checked;
+use mr_typing::Checked;
 use mr_witness::shuffle;
 use std::alloc::{AllocError, Global};
 

@@ -14,7 +14,7 @@ use crate::traced::report_footprints;
 use mr_input::{Refusal, Written, answered};
 use mr_run::{Clocked, Nothing, RunFault, is_of_first, run};
 use mr_sched::{Schedule, Version, line_of};
-use mr_wf::Checked;
+use mr_typing::Checked;
 use std::alloc::Global;
 
 /// The report of the run of a program under a schedule whose text is in a version.

@@ -17,7 +17,7 @@ use mr_input::{Refusal, Written, answered};
 use mr_run::run;
 use mr_sched::{Schedule, Version};
 use mr_trace::{Pair, encode};
-use mr_wf::Checked;
+use mr_typing::Checked;
 use std::alloc::{AllocError, Global};
 
 /// The footprints of the completed steps of the run of a program under a schedule, as bytes.

@@ -1,7 +1,7 @@
 -- The schedule that is drawn for a well-formed program is legal.
 use Rattle.std.proofs.Common.{◌≡◌, ℕ, sym, subst, Some}
 use Rattle.mr_ast.specs.declared.program.Program.{Program}
-use Rattle.mr_wf.specs.Walk.{WellFormed}
+use Rattle.mr_typing.specs.Walk.{WellFormed}
 use Rattle.mr_start.specs.Runs.{Legal}
 use Rattle.mr_start.specs.Start.{look_of, start_config}
 use Rattle.mr_start.proofs.StartSound.{start_look, start_sound}

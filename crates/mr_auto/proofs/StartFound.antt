@@ -17,10 +17,10 @@ use Rattle.mr_layout.specs.TypeOk.{TypeOk}
 use Rattle.mr_layout.proofs.Bounds.{type_ok_small}
 use Rattle.mr_sched.specs.Chooser.{address_from, aligned_from, behind_address, behind_bytes, first_chooser, has_address}
 use Rattle.mr_sched.specs.declared.chooser.Chooser.{Chooser}
-use Rattle.mr_wf.specs.Broken.{items_size}
-use Rattle.mr_wf.specs.Unbroken.{UnbrokenFunction, UnbrokenGlobal}
-use Rattle.mr_wf.specs.Walk.{WellFormed}
-use Rattle.mr_wf.proofs.UnbrokenLaws.{well_formed_keeps}
+use Rattle.mr_typing.specs.Broken.{items_size}
+use Rattle.mr_typing.specs.Unbroken.{UnbrokenFunction, UnbrokenGlobal}
+use Rattle.mr_typing.specs.Walk.{WellFormed}
+use Rattle.mr_typing.proofs.UnbrokenLaws.{well_formed_keeps}
 use Rattle.mr_layout.proofs.Aligned.{type_ok_aligned}
 use Rattle.mr_start.specs.Start.{Piece, ask_of, function_piece, global_piece, pieces, return_piece}
 use Rattle.mr_start.proofs.StartFacts.{has_main, pieces_length, return_is}

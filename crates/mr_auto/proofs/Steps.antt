@@ -9,7 +9,7 @@ use Rattle.mr_sched.specs.declared.chooser.Chooser.{Chooser}
 use Rattle.mr_sched.specs.declared.schedule.Ask.{Ask}
 use Rattle.mr_sched.specs.declared.schedule.Entry.{Entry}
 use Rattle.mr_sync.specs.Tables.{is_enabled}
-use Rattle.mr_wf.specs.Walk.{WellFormed}
+use Rattle.mr_typing.specs.Walk.{WellFormed}
 use Rattle.mr_step.specs.PlanLegal.{Fault, count_of, creation_fault, else_fault, fault, needs_fault, picks_fault, state_fault, status_fault}
 use Rattle.mr_step.specs.PlanMachine.{Bare, Completed, Goes, IllFormedStep, State, Stops, bare, needs}
 use Rattle.mr_step.specs.PlanNotes.{Notes}

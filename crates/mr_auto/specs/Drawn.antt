@@ -4,7 +4,7 @@ use Rattle.mr_mem.specs.Memory.{ranges_of}
 use Rattle.mr_sched.specs.Chooser.{behind_bytes}
 use Rattle.mr_sched.specs.declared.chooser.Chooser.{Chooser}
 use Rattle.mr_sched.specs.declared.schedule.Entry.{Entry}
-use Rattle.mr_wf.specs.Walk.{WellFormed}
+use Rattle.mr_typing.specs.Walk.{WellFormed}
 use Rattle.mr_step.specs.PlanMachine.{State}
 use Rattle.mr_step.specs.PlanRuns.{Config, after}
 use Rattle.mr_start.specs.FrameFits.{IsLook}

@@ -7,7 +7,7 @@ ghost use Rattle.mr_step.specs.PlanRuns.{feet};
 ghost use Rattle.mr_run.specs.Runs.{IsRun};
 ghost use Rattle.mr_start.specs.Runs.{steps_of};
 ghost use Rattle.mr_start.specs.ThreadSteps.{Own, thread_step};
-ghost use Rattle.mr_wf.specs.Walk.{WellFormed};
+ghost use Rattle.mr_typing.specs.Walk.{WellFormed};
 ghost use Rattle.mr_auto.specs.Answers.{HasState, NextAnswer};
 ghost use Rattle.mr_auto.specs.Drawing.{drawn_schedule, entry_from, next_at};
 ghost use Rattle.mr_auto.specs.Drawn.{BeginsDrawing, DrawnAfter, drawn_from_here};
@@ -20,7 +20,7 @@ use mr_run::Record;
 use mr_sched::{Chooser, Entry, Items, Schedule};
 use mr_start::start_asks;
 use mr_step::{Machine, StepFault};
-use mr_wf::Checked;
+use mr_typing::Checked;
 use std::alloc::{AllocError, Global};
 
 /// A schedule that was drawn, and the machine behind its last entry.

@@ -1,7 +1,7 @@
 //! Laws of drawn schedules.
 ghost use Rattle.std.specs.Prelude.{ℕ};
 ghost use Rattle.mr_ast.specs.declared.program.Program.{Program};
-ghost use Rattle.mr_wf.specs.Walk.{WellFormed};
+ghost use Rattle.mr_typing.specs.Walk.{WellFormed};
 ghost use Rattle.mr_start.specs.Runs.{Legal};
 ghost use Rattle.mr_auto.specs.Drawing.{drawn_schedule};
 

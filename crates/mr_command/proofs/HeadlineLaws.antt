@@ -14,8 +14,8 @@ use Rattle.mr_event.specs.Predicted.{predicted}
 use Rattle.mr_run.specs.StartRuns.{Legal, PlacedFault, run_of, steps_of}
 use Rattle.mr_run.proofs.StartRunLaws.{no_schedule_fault}
 use Rattle.mr_run.proofs.StartStartSound.{sound_run}
-use Rattle.mr_wf.specs.declared.fault.FormFault.{FormFault}
-use Rattle.mr_wf.specs.Walk.{WellFormed, faults_of}
+use Rattle.mr_typing.specs.declared.fault.FormFault.{FormFault}
+use Rattle.mr_typing.specs.Walk.{WellFormed, faults_of}
 use Rattle.mr_gen.specs.Generated.{generated}
 use Rattle.mr_gen.proofs.GeneratedLaws.{well_formed}
 use Rattle.mr_answer.specs.AutoDrawing.{drawn_schedule}

@@ -15,8 +15,8 @@ use Rattle.mr_sched.specs.Reading.{Fault, schedule_of}
 use Rattle.mr_sched.proofs.TextLaws.{schedule_failed, schedule_read}
 use Rattle.mr_run.specs.StartRuns.{PlacedFault, schedule_fault}
 use Rattle.mr_run.proofs.StartRunLaws.{legal_schedule}
-use Rattle.mr_wf.specs.declared.fault.FormFault.{FormFault}
-use Rattle.mr_wf.specs.Walk.{WellFormed, faults_of}
+use Rattle.mr_typing.specs.declared.fault.FormFault.{FormFault}
+use Rattle.mr_typing.specs.Walk.{WellFormed, faults_of}
 use Rattle.mr_event.specs.Footprint.{Footprint}
 use Rattle.mr_event.specs.Predicted.{predicted}
 use Rattle.mr_trace.specs.declared.fault.TheConstants.{TOO_LONG}

@@ -12,8 +12,8 @@ use Rattle.mr_sched.specs.Reading.{Fault, schedule_of}
 use Rattle.mr_event.specs.declared.footprint.Pair.{Pair}
 use Rattle.mr_event.specs.Predicted.{predicted}
 use Rattle.mr_run.specs.StartRuns.{PlacedFault, schedule_fault}
-use Rattle.mr_wf.specs.declared.fault.FormFault.{FormFault}
-use Rattle.mr_wf.specs.Walk.{faults_of}
+use Rattle.mr_typing.specs.declared.fault.FormFault.{FormFault}
+use Rattle.mr_typing.specs.Walk.{faults_of}
 use Rattle.mr_answer.specs.AutoDrawing.{drawn_schedule}
 use Rattle.mr_gen.specs.Generated.{generated}
 use Rattle.mr_trace.specs.Reading.{Place, races_of}

@@ -3,7 +3,7 @@ use Rattle.std.proofs.Common.{◌≡◌, ℕ, ap, ◌∙◌, sym, subst, List, [
 use Rattle.std.specs.Prelude.{Some, Option, Result, Ok, Err}
 use Rattle.mr_ast.specs.declared.program.Program.{Program}
 use Rattle.mr_sched.specs.declared.version.Read.{Read}
-use Rattle.mr_wf.specs.Walk.{WellFormed}
+use Rattle.mr_typing.specs.Walk.{WellFormed}
 use Rattle.mr_input.specs.declared.written.Written.{Written}
 use Rattle.mr_answer.specs.declared.formats.Format.{Format}
 use Rattle.mr_input.specs.declared.refusal.Refusal.{Refusal}

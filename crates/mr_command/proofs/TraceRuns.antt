@@ -9,7 +9,7 @@ use Rattle.mr_sched.specs.declared.version.Version.{Version}
 use Rattle.mr_sched.proofs.TextLaws.{schedule_again}
 use Rattle.mr_run.specs.StartRuns.{steps_of}
 use Rattle.mr_trace.specs.Spelling.{AreBytes, Traces, spelling}
-use Rattle.mr_wf.specs.Walk.{WellFormed, faults_of}
+use Rattle.mr_typing.specs.Walk.{WellFormed, faults_of}
 use Rattle.mr_input.specs.declared.written.Written.{Written}
 use Rattle.mr_input.specs.declared.refusal.Refusal.{Refusal}
 use Rattle.mr_input.specs.declared.refusal.Refusal.TheVariants as refusal

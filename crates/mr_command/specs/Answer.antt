@@ -7,7 +7,7 @@ use Rattle.mr_sched.specs.declared.schedule.Schedule.{Schedule}
 use Rattle.mr_sched.specs.declared.version.Read.{Read}
 use Rattle.mr_sched.specs.declared.version.Version.TheVariants.{Two}
 use Rattle.mr_event.specs.declared.footprint.Pair.{Pair}
-use Rattle.mr_wf.specs.Walk.{faults_of}
+use Rattle.mr_typing.specs.Walk.{faults_of}
 use Rattle.mr_answer.specs.AutoDrawing.{drawn_schedule}
 use Rattle.mr_report.specs.Report.{line}
 use Rattle.mr_trace.specs.Reading.{Place, races_of}

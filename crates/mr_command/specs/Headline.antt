@@ -7,7 +7,7 @@ use Rattle.mr_sched.specs.declared.schedule.Schedule.{Schedule}
 use Rattle.mr_sched.specs.declared.version.Version.{Version}
 use Rattle.mr_sched.specs.Versions.{Schedules}
 use Rattle.mr_run.specs.StartRuns.{IsSoundRun, Legal, run_of, steps_of}
-use Rattle.mr_wf.specs.Walk.{faults_of}
+use Rattle.mr_typing.specs.Walk.{faults_of}
 use Rattle.mr_event.specs.declared.footprint.Pair.{Pair}
 use Rattle.mr_event.specs.Footprint.{Footprint}
 use Rattle.mr_event.specs.Order.{IsPredicted}

@@ -11,8 +11,8 @@ use Rattle.mr_sched.specs.Faults.{FirstFault as FirstScheduleFault}
 use Rattle.mr_sched.specs.declared.version.Version.{Version}
 use Rattle.mr_sched.specs.Versions.{Schedules}
 use Rattle.mr_run.specs.StartRuns.{Legal, IsSoundRun, PlacedFault, schedule_fault, steps_of}
-use Rattle.mr_wf.specs.declared.fault.FormFault.{FormFault}
-use Rattle.mr_wf.specs.Walk.{FirstBroken, WellFormed}
+use Rattle.mr_typing.specs.declared.fault.FormFault.{FormFault}
+use Rattle.mr_typing.specs.Walk.{FirstBroken, WellFormed}
 use Rattle.mr_answer.specs.declared.formats.Format.{Format}
 use Rattle.mr_answer.specs.declared.formats.Format.TheVariants.{Footprints, Json, Short, Shuffled, Text}
 use Rattle.mr_command.specs.Command.{Command, NamesProgram, NamesSchedule, OfProgram, Offline, Run, Upgrade}

@@ -9,7 +9,7 @@ use Rattle.mr_sched.specs.declared.schedule.Schedule.{Schedule}
 use Rattle.mr_sched.specs.declared.version.Version.{Version}
 use Rattle.mr_run.specs.StartRuns.{PlacedFault, steps_of}
 use Rattle.mr_trace.specs.Spelling.{Traces, spelling}
-use Rattle.mr_wf.specs.declared.fault.FormFault.{FormFault}
+use Rattle.mr_typing.specs.declared.fault.FormFault.{FormFault}
 use Rattle.mr_answer.specs.AutoDrawing.{drawn_schedule}
 use Rattle.mr_answer.specs.declared.formats.Format.{Format}
 use Rattle.mr_answer.specs.declared.formats.Format.TheVariants.{Footprints}

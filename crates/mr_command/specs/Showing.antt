@@ -6,7 +6,7 @@ use Rattle.mr_sched.specs.declared.schedule.Schedule.{Schedule}
 use Rattle.mr_sched.specs.declared.version.Read.{Read}
 use Rattle.mr_run.specs.StartRuns.{steps_of}
 use Rattle.mr_trace.specs.Spelling.{AreBytes, IsRun}
-use Rattle.mr_wf.specs.Walk.{faults_of}
+use Rattle.mr_typing.specs.Walk.{faults_of}
 use Rattle.mr_input.specs.declared.written.Written.{Written}
 use Rattle.mr_input.specs.declared.refusal.Refusal.{Refusal}
 use Rattle.mr_input.specs.declared.refusal.Refusal.TheVariants as refusal

@@ -5,7 +5,7 @@ ghost use Rattle.mr_io.specs.Files.{Contents};
 ghost use Rattle.mr_ast.specs.declared.program.Program.{Program as AstProgram};
 ghost use Rattle.mr_ast.specs.Shaped.{Shaped};
 ghost use Rattle.mr_sched.specs.declared.version.Read.{Read as Spelled};
-ghost use Rattle.mr_wf.specs.Walk.{faults_of};
+ghost use Rattle.mr_typing.specs.Walk.{faults_of};
 ghost use Rattle.mr_input.specs.Answer.{IsStatus, Tells, TellsOrUnread};
 ghost use Rattle.mr_input.specs.Inputs.{program_in, schedule_in, AsksForSchedule, IsUnreadFault};
 ghost use Rattle.mr_answer.specs.Answers.{big_answer};

@@ -16,10 +16,10 @@ use Rattle.mr_value.specs.Encode.{encoding_of}
 use Rattle.mr_value.specs.Numbers.{Bytes}
 use Rattle.mr_value.specs.Shape.{has_shape}
 use Rattle.mr_value.specs.declared.val.Val.{Val}
-use Rattle.mr_wf.specs.Broken.{broken_in_place, broken_in_value, sizes_of}
-use Rattle.mr_wf.specs.Unbroken.{UnbrokenFunction}
-use Rattle.mr_wf.specs.Walk.{WellFormed}
-use Rattle.mr_wf.proofs.UnbrokenLaws.{well_formed_keeps}
+use Rattle.mr_typing.specs.Broken.{broken_in_place, broken_in_value, sizes_of}
+use Rattle.mr_typing.specs.Unbroken.{UnbrokenFunction}
+use Rattle.mr_typing.specs.Walk.{WellFormed}
+use Rattle.mr_typing.proofs.UnbrokenLaws.{well_formed_keeps}
 use Rattle.mr_eval.specs.declared.env.Env.{Env}
 use Rattle.mr_eval.specs.declared.halt.Halt.{Halt}
 use Rattle.mr_eval.specs.declared.halt.Halt.TheVariants as halt

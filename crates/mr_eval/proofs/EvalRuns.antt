@@ -27,7 +27,7 @@ use Rattle.mr_value.specs.declared.val.Val.TheVariants as val
 use Rattle.mr_value.specs.Discriminants.{bits_of_number}
 use Rattle.mr_value.specs.Encode.{encoding_of}
 use Rattle.mr_value.specs.Shape.{has_shape}
-use Rattle.mr_wf.specs.Types.{chained, type_of_place, type_of_value, variant_type}
+use Rattle.mr_typing.specs.Types.{chained, type_of_place, type_of_value, variant_type}
 use Rattle.mr_eval.specs.Reads.{ReadScript, Seen, reading}
 use Rattle.mr_eval.specs.Moves.{behind, moved}
 use Rattle.mr_eval.specs.Typed.{meant, searched}

@@ -20,7 +20,7 @@ use Rattle.mr_value.specs.declared.val.Val.{Val}
 use Rattle.mr_value.specs.declared.val.Val.TheVariants as val
 use Rattle.mr_value.specs.Discriminants.{bits_of_number}
 use Rattle.mr_base.specs.Script.{Done, ◌>>=◌}
-use Rattle.mr_wf.specs.Types.{type_of_place, type_of_value}
+use Rattle.mr_typing.specs.Types.{type_of_place, type_of_value}
 use Rattle.mr_eval.specs.Reads.{ReadScript}
 use Rattle.mr_eval.specs.Moves.{behind, moved}
 use Rattle.mr_eval.specs.Operators.{binary_of, cast_value, index_of_value, or_ill_formed, pointer_of_value, unary_of}

@@ -18,8 +18,8 @@ use Rattle.mr_value.specs.declared.val.Val.{Val}
 use Rattle.mr_value.specs.declared.val.Val.TheVariants as val
 use Rattle.mr_value.specs.Encode.{encoding_of}
 use Rattle.mr_value.proofs.ShapeLaws.{has_int}
-use Rattle.mr_wf.specs.Types.{type_of_place, type_of_value, variant_in}
-use Rattle.mr_wf.proofs.TypeLaws.{type_of_int, type_of_local}
+use Rattle.mr_typing.specs.Types.{type_of_place, type_of_value, variant_in}
+use Rattle.mr_typing.proofs.TypeLaws.{type_of_int, type_of_local}
 use Rattle.mr_eval.specs.Evaluation.{Surround, as_variant, bare, place_script, transmuted, value_script}
 use Rattle.mr_eval.specs.Reads.{ReadScript}
 use Rattle.mr_eval.specs.Typed.{meant}

@@ -44,16 +44,16 @@ use Rattle.mr_base.proofs.Comparisons.{lt_from, lt_test, eq_from}
 use Rattle.mr_value.proofs.EncodeLength.{length-encoding_of}
 use Rattle.mr_value.proofs.ShapeLaws.{has_bool, has_fn_ptr, has_raw, has_ref, shape_fn_ptr, shape_raw, shape_ref}
 use Rattle.mr_base.specs.Script.{Done, IllFormed, Undefined, ◌>>=◌}
-use Rattle.mr_wf.specs.Broken.{Surroundings, broken_in_place, broken_in_value}
-use Rattle.mr_wf.specs.Operands.{is_fn_ptr, is_int, is_pointer, is_raw, is_ref, is_ref_layer}
-use Rattle.mr_wf.specs.Types.{chained, compares, discriminant_in, discriminant_type, element_type, field_type, integer_in, integer_of, overflow_type, result_type, tells_overflow, type_of_place, type_of_value, variant_type}
-use Rattle.mr_wf.proofs.ExprWalk.{Judges, result_there}
-use Rattle.mr_wf.proofs.KindLaws.{fn_ptr_is, raw_is}
-use Rattle.mr_wf.proofs.NothingLaws.{both_nothing}
+use Rattle.mr_typing.specs.Broken.{Surroundings, broken_in_place, broken_in_value}
+use Rattle.mr_typing.specs.Operands.{is_fn_ptr, is_int, is_pointer, is_raw, is_ref, is_ref_layer}
+use Rattle.mr_typing.specs.Types.{chained, compares, discriminant_in, discriminant_type, element_type, field_type, integer_in, integer_of, overflow_type, result_type, tells_overflow, type_of_place, type_of_value, variant_type}
+use Rattle.mr_typing.proofs.ExprWalk.{Judges, result_there}
+use Rattle.mr_typing.proofs.KindLaws.{fn_ptr_is, raw_is}
+use Rattle.mr_typing.proofs.NothingLaws.{both_nothing}
 use Rattle.mr_ast.proofs.OrderHeads.{type_made}
-use Rattle.mr_wf.proofs.SameTypeLaws.{same_type_equal}
-use Rattle.mr_wf.proofs.TypeLaws.{type_of_addr_of, type_of_binary, type_of_cast, type_of_deref, type_of_disc, type_of_false, type_of_field, type_of_fn, type_of_global, type_of_index, type_of_int, type_of_load, type_of_local, type_of_raw, type_of_transmute, type_of_true, type_of_tuple, type_of_unary, type_of_union, type_of_variant, type_of_variant_place}
-use Rattle.mr_wf.proofs.TypedLaws.{TypedPlace, typed_addr_of, typed_binary, typed_cast, typed_deref, typed_disc, typed_field, typed_index, typed_int, typed_load, typed_transmute, typed_tuple, typed_unary, typed_union, typed_variant, typed_variant_place}
+use Rattle.mr_typing.proofs.SameTypeLaws.{same_type_equal}
+use Rattle.mr_typing.proofs.TypeLaws.{type_of_addr_of, type_of_binary, type_of_cast, type_of_deref, type_of_disc, type_of_false, type_of_field, type_of_fn, type_of_global, type_of_index, type_of_int, type_of_load, type_of_local, type_of_raw, type_of_transmute, type_of_true, type_of_tuple, type_of_unary, type_of_union, type_of_variant, type_of_variant_place}
+use Rattle.mr_typing.proofs.TypedLaws.{TypedPlace, typed_addr_of, typed_binary, typed_cast, typed_deref, typed_disc, typed_field, typed_index, typed_int, typed_load, typed_transmute, typed_tuple, typed_unary, typed_union, typed_variant, typed_variant_place}
 use Rattle.mr_eval.specs.Moves.{behind, moved}
 use Rattle.mr_eval.specs.Typed.{meant}
 use Rattle.mr_eval.specs.Operators.{binary_of, cast_value, index_in, index_of_value, or_ill_formed, pointer_in, pointer_of_value, unary_of}

@@ -34,11 +34,11 @@ use Rattle.mr_value.specs.Shape.{has_shape}
 use Rattle.mr_base.proofs.Comparisons.{lt_from, lt_test}
 use Rattle.mr_value.proofs.ShapeLaws.{has_bool, has_int, has_raw, has_tuple, shape_bool, shape_int, shape_raw}
 use Rattle.mr_base.specs.Script.{Done, ◌>>=◌}
-use Rattle.mr_wf.specs.SameTypes.{same_type}
-use Rattle.mr_wf.specs.Operands.{fits_binary, fits_unary, is_bool, is_int, is_integer, is_raw, is_scalar_number}
-use Rattle.mr_wf.specs.Types.{integer_in, integer_of, overflow_type, result_type}
-use Rattle.mr_wf.proofs.KindLaws.{bool_is, integer_is, raw_is}
-use Rattle.mr_wf.proofs.SameTypeLaws.{same_type_equal}
+use Rattle.mr_typing.specs.SameTypes.{same_type}
+use Rattle.mr_typing.specs.Operands.{fits_binary, fits_unary, is_bool, is_int, is_integer, is_raw, is_scalar_number}
+use Rattle.mr_typing.specs.Types.{integer_in, integer_of, overflow_type, result_type}
+use Rattle.mr_typing.proofs.KindLaws.{bool_is, integer_is, raw_is}
+use Rattle.mr_typing.proofs.SameTypeLaws.{same_type_equal}
 use Rattle.mr_eval.specs.Reads.{ReadScript}
 use Rattle.mr_eval.specs.Moves.{behind, moved}
 use Rattle.mr_eval.specs.declared.kinds.Operator.{Operator}

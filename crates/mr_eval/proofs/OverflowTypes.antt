@@ -9,7 +9,7 @@ use Rattle.mr_layout.specs.Rules.{tuple_rules}
 use Rattle.mr_layout.specs.TypeOk.{TypeOk}
 use Rattle.mr_layout.proofs.BrokenLaws.{broken_bool, broken_int, broken_tuple}
 use Rattle.mr_layout.proofs.SizeLaws.{size_laws}
-use Rattle.mr_wf.specs.Types.{overflow_type}
+use Rattle.mr_typing.specs.Types.{overflow_type}
 
 rules_kept : (i : IntType) → tuple_rules (2 * int_size i) (int_size i) ((0, ty.Int i) ∷ (int_size i, ty.Bool) ∷ []) ≡ None
 unfolding tuple_rules ones

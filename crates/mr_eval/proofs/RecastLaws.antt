@@ -22,7 +22,7 @@ use Rattle.mr_value.specs.Numbers.{Bytes}
 use Rattle.mr_value.specs.Shape.{has_shape}
 use Rattle.mr_value.proofs.DecodeLaws.{decode_union}
 use Rattle.mr_value.proofs.EncodeLength.{length-encoding_of}
-use Rattle.mr_wf.specs.Types.{field_in, field_type}
+use Rattle.mr_typing.specs.Types.{field_in, field_type}
 use Rattle.mr_eval.specs.Answers.{FieldShaped}
 use Rattle.mr_eval.specs.Evaluation.{union_layer, union_of}
 use Rattle.mr_eval.specs.Operators.{or_ill_formed}

@@ -10,7 +10,7 @@ use Rattle.mr_base.specs.declared.reason.Reason.{Reason}
 use Rattle.mr_base.specs.declared.reason.Reason.TheVariants.{DanglingReference}
 use Rattle.mr_mem.specs.Memory.{Memory, checked, read}
 use Rattle.mr_base.specs.Script.{Done, Undefined, IllFormed, Ask, Outcome, Went, on, run}
-use Rattle.mr_wf.specs.Broken.{broken_in_place, broken_in_value}
+use Rattle.mr_typing.specs.Broken.{broken_in_place, broken_in_value}
 use Rattle.mr_eval.specs.Reads.{Check, Read, ReadQuery, ReadReply, ReadScript, Refer, Seen, accessing, answered, named, reading, seeing, touching}
 use Rattle.mr_eval.specs.Evaluated.{placed, valued}
 use Rattle.mr_eval.specs.Evaluation.{Surround, place_script, value_script}

@@ -13,9 +13,9 @@ use Rattle.mr_value.specs.declared.val.Val.TheVariants as val
 use Rattle.mr_value.specs.Discriminants.{number_of_bits}
 use Rattle.mr_value.specs.Shape.{has_shape}
 use Rattle.mr_value.proofs.ShapeLaws.{shape_bool, shape_int}
-use Rattle.mr_wf.specs.Operands.{is_bool, is_scalar_number}
-use Rattle.mr_wf.specs.Types.{integer_of}
-use Rattle.mr_wf.proofs.KindLaws.{bool_is, integer_is}
+use Rattle.mr_typing.specs.Operands.{is_bool, is_scalar_number}
+use Rattle.mr_typing.specs.Types.{integer_of}
+use Rattle.mr_typing.proofs.KindLaws.{bool_is, integer_is}
 use Rattle.mr_eval.specs.declared.scalars.Scalar.TheVariants.{Number, Truth}
 use Rattle.mr_eval.specs.Scalars.{scalar_as, scalar_layer}
 use Rattle.mr_eval.proofs.NumberLaws.{int_fits}

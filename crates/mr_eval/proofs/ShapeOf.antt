@@ -34,11 +34,11 @@ use Rattle.mr_base.proofs.Comparisons.{eq_test}
 use Rattle.mr_value.proofs.DecodeShape.{length-chunks_in}
 use Rattle.mr_value.proofs.EncodeLength.{length-encoding_of}
 use Rattle.mr_value.proofs.ShapeLaws.{has_array, has_enum, has_int, has_tuple, has_union}
-use Rattle.mr_wf.specs.SameTypes.{same_type}
-use Rattle.mr_wf.specs.Operands.{fits_parts, fits_parts_layer, fits_union, fits_variant, is_type, is_union_layer, match_element, match_fields}
-use Rattle.mr_wf.specs.Types.{field_in, variant_among, variant_in}
+use Rattle.mr_typing.specs.SameTypes.{same_type}
+use Rattle.mr_typing.specs.Operands.{fits_parts, fits_parts_layer, fits_union, fits_variant, is_type, is_union_layer, match_element, match_fields}
+use Rattle.mr_typing.specs.Types.{field_in, variant_among, variant_in}
 use Rattle.mr_ast.proofs.OrderHeads.{type_made}
-use Rattle.mr_wf.proofs.SameTypeLaws.{same_type_equal}
+use Rattle.mr_typing.proofs.SameTypeLaws.{same_type_equal}
 use Rattle.mr_eval.specs.Shapes.{HaveShapes}
 use Rattle.mr_eval.specs.Evaluation.{union_layer}
 

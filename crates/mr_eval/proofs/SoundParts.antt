@@ -24,14 +24,14 @@ use Rattle.mr_mem.specs.Memory.{Memory}
 use Rattle.mr_base.specs.Script.{Went}
 use Rattle.mr_value.specs.Shape.{has_shape}
 use Rattle.mr_value.specs.declared.val.Val.{Val}
-use Rattle.mr_wf.specs.Operands.{is_type, is_union_layer, same_size}
-use Rattle.mr_wf.specs.Types.{field_type, result_type, type_of_place, type_of_value, variant_type}
-use Rattle.mr_wf.proofs.ExprWalk.{result_there}
-use Rattle.mr_wf.proofs.SameTypeLaws.{same_type_equal}
+use Rattle.mr_typing.specs.Operands.{is_type, is_union_layer, same_size}
+use Rattle.mr_typing.specs.Types.{field_type, result_type, type_of_place, type_of_value, variant_type}
+use Rattle.mr_typing.proofs.ExprWalk.{result_there}
+use Rattle.mr_typing.proofs.SameTypeLaws.{same_type_equal}
 use Rattle.mr_eval.proofs.ExprSafe.{place_safe, value_safe}
-use Rattle.mr_wf.proofs.NothingLaws.{both_nothing}
-use Rattle.mr_wf.specs.Broken.{broken_in_place, broken_in_value}
-use Rattle.mr_wf.proofs.TypedLaws.{typed_addr_of, typed_binary, typed_cast, typed_deref, typed_disc, typed_field, typed_index, typed_int, typed_load, typed_transmute, typed_tuple, typed_unary, typed_union, typed_variant, typed_variant_place}
+use Rattle.mr_typing.proofs.NothingLaws.{both_nothing}
+use Rattle.mr_typing.specs.Broken.{broken_in_place, broken_in_value}
+use Rattle.mr_typing.proofs.TypedLaws.{typed_addr_of, typed_binary, typed_cast, typed_deref, typed_disc, typed_field, typed_index, typed_int, typed_load, typed_transmute, typed_tuple, typed_unary, typed_union, typed_variant, typed_variant_place}
 use Rattle.mr_eval.specs.Answers.{FieldShaped}
 use Rattle.mr_eval.specs.Evaluated.{valued}
 use Rattle.mr_eval.specs.Evaluation.{Surround}

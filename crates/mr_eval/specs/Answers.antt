@@ -15,7 +15,7 @@ use Rattle.mr_eval.specs.declared.placing.Placed.{Placed}
 use Rattle.mr_eval.specs.declared.valuing.Valued.{Valued}
 use Rattle.mr_value.specs.declared.val.Val.{Val}
 use Rattle.mr_value.specs.Shape.{has_shape}
-use Rattle.mr_wf.specs.Types.{field_type}
+use Rattle.mr_typing.specs.Types.{field_type}
 use Rattle.mr_eval.specs.Evaluation.{Surround}
 use Rattle.mr_eval.specs.Reads.{ReadScript, Seen}
 

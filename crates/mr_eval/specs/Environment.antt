@@ -18,8 +18,8 @@ use Rattle.mr_base.specs.Stops.{over}
 use Rattle.mr_base.specs.Script.{Outcome, Refused, Went}
 use Rattle.mr_value.specs.Shape.{has_shape}
 use Rattle.mr_value.specs.declared.val.Val.{Val}
-use Rattle.mr_wf.specs.Broken.{broken_in_place, broken_in_value, surroundings}
-use Rattle.mr_wf.specs.Types.{type_of_value}
+use Rattle.mr_typing.specs.Broken.{broken_in_place, broken_in_value, surroundings}
+use Rattle.mr_typing.specs.Types.{type_of_value}
 use Rattle.mr_eval.specs.Evaluation.{Surround}
 use Rattle.mr_eval.specs.declared.env.Env.{Env}
 use Rattle.mr_eval.specs.declared.halt.Halt.{Halt}

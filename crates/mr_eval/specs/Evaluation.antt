@@ -24,7 +24,7 @@ use Rattle.mr_value.specs.Numbers.{Bytes}
 use Rattle.mr_value.specs.Shape.{has_shape}
 use Rattle.mr_base.specs.Stops.{plainly}
 use Rattle.mr_base.specs.Script.{Done, Undefined, IllFormed, ◌>>=◌}
-use Rattle.mr_wf.specs.Types.{chained, field_offset, type_of_place, type_of_value, variant_type}
+use Rattle.mr_typing.specs.Types.{chained, field_offset, type_of_place, type_of_value, variant_type}
 use Rattle.mr_eval.specs.Reads.{ReadScript}
 use Rattle.mr_eval.specs.Moves.{behind, moved}
 use Rattle.mr_eval.specs.Typed.{loading, meant, searched}

@@ -15,5 +15,5 @@ pub mod Tally
 pub mod Typed
 pub mod World
 pub use Rattle.mr_value.specs.Numbers as ValueNumbers
-pub use Rattle.mr_wf.specs.Types as WfTypes
-pub use Rattle.mr_wf.specs.Walk as WfWalk
+pub use Rattle.mr_typing.specs.Types as TypingTypes
+pub use Rattle.mr_typing.specs.Walk as TypingWalk

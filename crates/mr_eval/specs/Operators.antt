@@ -27,8 +27,8 @@ use Rattle.mr_value.specs.declared.val.Val.TheOpen.{Val-F}
 use Rattle.mr_value.specs.declared.val.Val.TheVariants as val
 use Rattle.mr_base.specs.Stops.{plainly}
 use Rattle.mr_base.specs.Script.{Done, Undefined, IllFormed, ◌>>=◌}
-use Rattle.mr_wf.specs.SameTypes.{same_int}
-use Rattle.mr_wf.specs.Types.{integer_of}
+use Rattle.mr_typing.specs.SameTypes.{same_int}
+use Rattle.mr_typing.specs.Types.{integer_of}
 use Rattle.mr_eval.specs.declared.kinds.OverflowOp.{OverflowOp}
 use Rattle.mr_eval.specs.declared.kinds.OverflowOp.TheVariants as overflow
 use Rattle.mr_eval.specs.declared.kinds.Operator.{Operator}

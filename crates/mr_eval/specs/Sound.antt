@@ -7,7 +7,7 @@ use Rattle.mr_ast.specs.declared.expr.Value.{Value}
 use Rattle.mr_ast.specs.declared.program.Local.{Local}
 use Rattle.mr_layout.specs.TypeOk.{TypeOk}
 use Rattle.mr_base.specs.Script.{Broken, Outcome, Refused, Safe, Went}
-use Rattle.mr_wf.specs.Broken.{Surroundings, broken_in_place, broken_in_value}
+use Rattle.mr_typing.specs.Broken.{Surroundings, broken_in_place, broken_in_value}
 use Rattle.mr_eval.specs.Reads.{Check, Read, ReadQuery, ReadReply, ReadScript, Refer}
 use Rattle.mr_eval.specs.Evaluation.{Surround}
 

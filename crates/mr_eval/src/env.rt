@@ -2,7 +2,7 @@
 use mr_ast::{FnName, Local};
 use mr_base::Pointer;
 use mr_layout::Cache;
-use mr_wf::Checked;
+use mr_typing::Checked;
 
 /// Where an expression of a function is evaluated: the program, the storage of each local of the function, a pointer to each function
 /// and to each global, and the layouts of the program's types.
@@ -18,7 +18,7 @@ pub struct Env<'a> {
 
 impl<'a> Env<'a> {
     ghost use Rattle.std.specs.Prelude.{◌≡◌};
-    ghost use Rattle.mr_wf.specs.Walk.{WellFormed};
+    ghost use Rattle.mr_typing.specs.Walk.{WellFormed};
     ghost use Rattle.mr_eval.specs.Environment.{env_surround};
 
     /// The locals of the function.

@@ -8,8 +8,8 @@ ghost use Rattle.mr_eval.specs.Answers.{Extends, Gives, Says, at_pointer, beside
 ghost use Rattle.mr_eval.specs.Evaluated.{each_valued, placed, valued};
 ghost use Rattle.mr_eval.specs.Evaluation.{bare};
 ghost use Rattle.mr_eval.specs.Sound.{SoundPlace, SoundValue, SoundValues};
-ghost use Rattle.mr_wf.specs.Known.{ty_of};
-ghost use Rattle.mr_wf.specs.Types.{result_type, type_of_place, type_of_value};
+ghost use Rattle.mr_typing.specs.Known.{ty_of};
+ghost use Rattle.mr_typing.specs.Types.{result_type, type_of_place, type_of_value};
 
 use crate::halt::Halt;
 use crate::here::Here;
@@ -23,11 +23,11 @@ use crate::valuing::{
 use mr_ast::{BinaryOp, IntType, Items, Num, Place, Ty, UnaryOp, Value};
 use mr_base::Pointer;
 use mr_value::{Val, bits_of_number};
-use mr_wf::Known;
+use mr_typing::Known;
 
 /// Where a place is, and its type.
 #[cycle(evaluated)]
-#[tactic(auto, using(crate::proofs::EvalRuns::eval_laws, crate::proofs::SoundParts::sound_laws, crate::proofs::SoundParts::type_facts, crate::proofs::SoundParts::int_fits, mr_wf::proofs::TypeLaws::type_laws, crate::proofs::ExtendsLaws::extends_laws))]
+#[tactic(auto, using(crate::proofs::EvalRuns::eval_laws, crate::proofs::SoundParts::sound_laws, crate::proofs::SoundParts::type_facts, crate::proofs::SoundParts::int_fits, mr_typing::proofs::TypeLaws::type_laws, crate::proofs::ExtendsLaws::extends_laws))]
 pub fn placed<'p>(here: &Here<'p>, notes: &mut Notes, place: &'p Place) -> Result<Placed<'p>, Halt>
     requires { SoundPlace (surround_of here.now) place.now }
     ensures given { Gives at_pointer result
@@ -55,7 +55,7 @@ pub fn placed<'p>(here: &Here<'p>, notes: &mut Notes, place: &'p Place) -> Resul
 
 // The element of an array at the position that a value tells.
 #[cycle(evaluated)]
-#[tactic(auto, using(crate::proofs::EvalRuns::eval_laws, crate::proofs::SoundParts::sound_laws, crate::proofs::SoundParts::type_facts, crate::proofs::SoundParts::int_fits, mr_wf::proofs::TypeLaws::type_laws, crate::proofs::ExtendsLaws::extends_laws))]
+#[tactic(auto, using(crate::proofs::EvalRuns::eval_laws, crate::proofs::SoundParts::sound_laws, crate::proofs::SoundParts::type_facts, crate::proofs::SoundParts::int_fits, mr_typing::proofs::TypeLaws::type_laws, crate::proofs::ExtendsLaws::extends_laws))]
 fn indexed_place<'p>(
     here: &Here<'p>,
     notes: &mut Notes,
@@ -90,7 +90,7 @@ fn bare(addr: u64) -> Pointer
 
 /// What a value is, and its type.
 #[cycle(evaluated)]
-#[tactic(auto, using(crate::proofs::EvalRuns::eval_laws, crate::proofs::SoundParts::sound_laws, crate::proofs::SoundParts::type_facts, crate::proofs::SoundParts::int_fits, mr_wf::proofs::TypeLaws::type_laws, crate::proofs::ExtendsLaws::extends_laws))]
+#[tactic(auto, using(crate::proofs::EvalRuns::eval_laws, crate::proofs::SoundParts::sound_laws, crate::proofs::SoundParts::type_facts, crate::proofs::SoundParts::int_fits, mr_typing::proofs::TypeLaws::type_laws, crate::proofs::ExtendsLaws::extends_laws))]
 pub fn valued<'p>(here: &Here<'p>, notes: &mut Notes, value: &'p Value) -> Result<Valued<'p>, Halt>
     requires { SoundValue (surround_of here.now) value.now }
     ensures given { Gives value_in result (valued here.now.memory.now (surround_of here.now) value.now (seen notes.old))
@@ -141,7 +141,7 @@ pub fn valued<'p>(here: &Here<'p>, notes: &mut Notes, value: &'p Value) -> Resul
 
 // A value as another integer type.
 #[cycle(evaluated)]
-#[tactic(auto, using(crate::proofs::EvalRuns::eval_laws, crate::proofs::SoundParts::sound_laws, crate::proofs::SoundParts::type_facts, crate::proofs::SoundParts::int_fits, mr_wf::proofs::TypeLaws::type_laws, crate::proofs::ExtendsLaws::extends_laws))]
+#[tactic(auto, using(crate::proofs::EvalRuns::eval_laws, crate::proofs::SoundParts::sound_laws, crate::proofs::SoundParts::type_facts, crate::proofs::SoundParts::int_fits, mr_typing::proofs::TypeLaws::type_laws, crate::proofs::ExtendsLaws::extends_laws))]
 fn cast_expression<'p>(
     here: &Here<'p>,
     notes: &mut Notes,
@@ -160,7 +160,7 @@ fn cast_expression<'p>(
 
 // An operator with one operand.
 #[cycle(evaluated)]
-#[tactic(auto, using(crate::proofs::EvalRuns::eval_laws, crate::proofs::SoundParts::sound_laws, crate::proofs::SoundParts::type_facts, crate::proofs::SoundParts::int_fits, mr_wf::proofs::TypeLaws::type_laws, crate::proofs::ExtendsLaws::extends_laws))]
+#[tactic(auto, using(crate::proofs::EvalRuns::eval_laws, crate::proofs::SoundParts::sound_laws, crate::proofs::SoundParts::type_facts, crate::proofs::SoundParts::int_fits, mr_typing::proofs::TypeLaws::type_laws, crate::proofs::ExtendsLaws::extends_laws))]
 fn unary_expression<'p>(
     here: &Here<'p>,
     notes: &mut Notes,
@@ -179,7 +179,7 @@ fn unary_expression<'p>(
 
 // The values of a row as one.
 #[cycle(evaluated)]
-#[tactic(auto, using(crate::proofs::EvalRuns::eval_laws, crate::proofs::SoundParts::sound_laws, crate::proofs::SoundParts::type_facts, crate::proofs::SoundParts::int_fits, mr_wf::proofs::TypeLaws::type_laws, crate::proofs::ExtendsLaws::extends_laws))]
+#[tactic(auto, using(crate::proofs::EvalRuns::eval_laws, crate::proofs::SoundParts::sound_laws, crate::proofs::SoundParts::type_facts, crate::proofs::SoundParts::int_fits, mr_typing::proofs::TypeLaws::type_laws, crate::proofs::ExtendsLaws::extends_laws))]
 fn tuple_expression<'p>(
     here: &Here<'p>,
     notes: &mut Notes,
@@ -199,7 +199,7 @@ fn tuple_expression<'p>(
 
 // A variant of an enum.
 #[cycle(evaluated)]
-#[tactic(auto, using(crate::proofs::EvalRuns::eval_laws, crate::proofs::SoundParts::sound_laws, crate::proofs::SoundParts::type_facts, crate::proofs::SoundParts::int_fits, mr_wf::proofs::TypeLaws::type_laws, crate::proofs::ExtendsLaws::extends_laws))]
+#[tactic(auto, using(crate::proofs::EvalRuns::eval_laws, crate::proofs::SoundParts::sound_laws, crate::proofs::SoundParts::type_facts, crate::proofs::SoundParts::int_fits, mr_typing::proofs::TypeLaws::type_laws, crate::proofs::ExtendsLaws::extends_laws))]
 fn variant_expression<'p>(
     here: &Here<'p>,
     notes: &mut Notes,
@@ -220,7 +220,7 @@ fn variant_expression<'p>(
 
 // A union of which a field is written.
 #[cycle(evaluated)]
-#[tactic(auto, using(crate::proofs::EvalRuns::eval_laws, crate::proofs::SoundParts::sound_laws, crate::proofs::SoundParts::type_facts, crate::proofs::SoundParts::int_fits, mr_wf::proofs::TypeLaws::type_laws, crate::proofs::ExtendsLaws::extends_laws))]
+#[tactic(auto, using(crate::proofs::EvalRuns::eval_laws, crate::proofs::SoundParts::sound_laws, crate::proofs::SoundParts::type_facts, crate::proofs::SoundParts::int_fits, mr_typing::proofs::TypeLaws::type_laws, crate::proofs::ExtendsLaws::extends_laws))]
 fn union_expression<'p>(
     here: &Here<'p>,
     notes: &mut Notes,
@@ -241,7 +241,7 @@ fn union_expression<'p>(
 
 // A value of another type of the same bytes.
 #[cycle(evaluated)]
-#[tactic(auto, using(crate::proofs::EvalRuns::eval_laws, crate::proofs::SoundParts::sound_laws, crate::proofs::SoundParts::type_facts, crate::proofs::SoundParts::int_fits, mr_wf::proofs::TypeLaws::type_laws, crate::proofs::ExtendsLaws::extends_laws))]
+#[tactic(auto, using(crate::proofs::EvalRuns::eval_laws, crate::proofs::SoundParts::sound_laws, crate::proofs::SoundParts::type_facts, crate::proofs::SoundParts::int_fits, mr_typing::proofs::TypeLaws::type_laws, crate::proofs::ExtendsLaws::extends_laws))]
 fn transmute_expression<'p>(
     here: &Here<'p>,
     notes: &mut Notes,
@@ -261,7 +261,7 @@ fn transmute_expression<'p>(
 
 // An operator with two operands, from left to right.
 #[cycle(evaluated)]
-#[tactic(auto, using(crate::proofs::EvalRuns::eval_laws, crate::proofs::SoundParts::sound_laws, crate::proofs::SoundParts::type_facts, crate::proofs::SoundParts::int_fits, mr_wf::proofs::TypeLaws::type_laws, crate::proofs::ExtendsLaws::extends_laws))]
+#[tactic(auto, using(crate::proofs::EvalRuns::eval_laws, crate::proofs::SoundParts::sound_laws, crate::proofs::SoundParts::type_facts, crate::proofs::SoundParts::int_fits, mr_typing::proofs::TypeLaws::type_laws, crate::proofs::ExtendsLaws::extends_laws))]
 fn binary_expression<'p>(
     here: &Here<'p>,
     notes: &mut Notes,

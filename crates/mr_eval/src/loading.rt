@@ -8,7 +8,7 @@ ghost use Rattle.mr_value.specs.Decode.{is_scalar};
 ghost use Rattle.mr_value.specs.Shape.{has_shape};
 ghost use Rattle.mr_value.specs.declared.val.Val.{out-Val};
 ghost use Rattle.mr_eval.specs.Answers.{Extends, Gives, outcome_of, same, seen, value_in};
-ghost use Rattle.mr_wf.specs.Known.{ty_of};
+ghost use Rattle.mr_typing.specs.Known.{ty_of};
 ghost use Rattle.mr_base.specs.declared.reason.Reason.TheVariants.{InvalidValue};
 ghost use Rattle.mr_runs.specs.Pieces.{bytes_of_pieces};
 ghost use Rattle.mr_eval.specs.Evaluated.{meant_by, read_typed, referred_to};
@@ -28,7 +28,7 @@ use mr_layout::{Cache, Layout};
 use mr_mem::Memory;
 use mr_runs::View;
 use mr_value::{Val, decode, decode_scalar};
-use mr_wf::Known;
+use mr_typing::Known;
 use std::alloc::{AllocError, Global};
 
 /// The reference check of a value, which is given back.

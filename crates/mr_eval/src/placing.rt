@@ -8,7 +8,7 @@ ghost use Rattle.mr_eval.specs.Answers.{Extends, Gives, Says, at_pointer, same, 
 ghost use Rattle.mr_eval.specs.Evaluated.{in_array, in_field};
 ghost use Rattle.mr_eval.specs.Evaluation.{element_at, elements_in, stored};
 ghost use Rattle.mr_eval.specs.Operators.{index_in, pointer_of_value};
-ghost use Rattle.mr_wf.specs.Types.{element_type, field_type, variant_type};
+ghost use Rattle.mr_typing.specs.Types.{element_type, field_type, variant_type};
 
 use crate::halt::Halt;
 use crate::moving::moved;
@@ -37,7 +37,7 @@ pub fn local<'p>(
     ensures given { Says at_pointer result (stored (slice_get storage.now x.0)) }
     ensures ty { IfOk result (λ p. option_map (λ l. l.ty) (slice_get locals.now x.0) ≡ Some p.ty.now) }
 {
-    match (storage.get(x.0 as usize), mr_wf::local_type(locals, x)) {
+    match (storage.get(x.0 as usize), mr_typing::local_type(locals, x)) {
         (Some(Some(at)), Some(ty)) => Ok(Placed { at: *at, ty }),
         (Some(None), _) => Err(Halt::Undefined(Reason::DeadLocal)),
         _ => Err(Halt::IllFormed),
@@ -86,8 +86,8 @@ pub fn field<'p>(
     ensures kept { Extends (seen notes.old) (seen notes.new) }
 {
     match (
-        mr_wf::offset(whole.ty, number),
-        mr_wf::field(whole.ty, number),
+        mr_typing::offset(whole.ty, number),
+        mr_typing::field(whole.ty, number),
     ) {
         (Some(offset), Some(ty)) => {
             let at = moved(m, notes, whole.at, i128::from(offset))?;
@@ -103,7 +103,7 @@ pub fn variant<'p>(whole: Placed<'p>, number: Num) -> Placed<'p>
     ensures at { result.at ≡ whole.entry.at }
     ensures ty { variant_type whole.entry.ty.now number ≡ Some result.ty.now }
 {
-    match mr_wf::variant(whole.ty, number) {
+    match mr_typing::variant(whole.ty, number) {
         Some(ty) => Placed { at: whole.at, ty },
         None => unreachable!(),
     }
@@ -160,7 +160,7 @@ pub fn element<'p>(
     match (
         index_of(index),
         elements(c, array.ty),
-        mr_wf::element(array.ty),
+        mr_typing::element(array.ty),
     ) {
         (Some(i), Some(all), Some(ty)) => {
             let at = element_of(m, notes, array.at, i, all)?;

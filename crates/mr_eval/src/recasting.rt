@@ -7,8 +7,8 @@ ghost use Rattle.mr_base.specs.Script.{run};
 ghost use Rattle.mr_value.specs.Decode.{decoded};
 ghost use Rattle.mr_value.specs.Encode.{blank, encoding_of};
 ghost use Rattle.mr_value.specs.Shape.{has_shape};
-ghost use Rattle.mr_wf.specs.Known.{ty_of};
-ghost use Rattle.mr_wf.specs.Types.{overflow_type};
+ghost use Rattle.mr_typing.specs.Known.{ty_of};
+ghost use Rattle.mr_typing.specs.Types.{overflow_type};
 ghost use Rattle.mr_eval.specs.Answers.{Extends, FieldShaped, Gives, Says, same, seen};
 ghost use Rattle.mr_eval.specs.Evaluated.{transmuted_to};
 ghost use Rattle.mr_eval.specs.Evaluation.{union_of};
@@ -22,7 +22,7 @@ use mr_layout::int_bytes;
 use mr_mem::Memory;
 use mr_runs::Runs;
 use mr_value::{OutOfMemory, Val, decode, encode};
-use mr_wf::Known;
+use mr_typing::Known;
 use std::alloc::Global;
 
 // What is meant at a type of this size by bytes among which a piece lies at an offset, where the others are uninitialised.

@@ -1,13 +1,13 @@
 //! Integers and bools, as numbers or truths.
 ghost use Rattle.std.specs.Prelude.{◌≡◌, Some, true};
 ghost use Rattle.mr_value.specs.Shape.{has_shape};
-ghost use Rattle.mr_wf.specs.Known.{ty_of};
-ghost use Rattle.mr_wf.specs.Operands.{is_scalar_number};
+ghost use Rattle.mr_typing.specs.Known.{ty_of};
+ghost use Rattle.mr_typing.specs.Operands.{is_scalar_number};
 ghost use Rattle.mr_eval.specs.Scalars.{scalar_as};
 
 use mr_ast::Num;
 use mr_value::{Val, bits_in, number_of_bits, truth_in};
-use mr_wf::Known;
+use mr_typing::Known;
 
 /// An integer or a bool.
 #[derive(Clone, Copy, Debug, PartialEq, Eq)]

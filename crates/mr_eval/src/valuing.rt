@@ -14,9 +14,9 @@ ghost use Rattle.mr_eval.specs.Answers.{Extends, FieldShaped, Gives, Says, same,
 ghost use Rattle.mr_eval.specs.Evaluated.{disc_at, read_typed, transmuted_to};
 ghost use Rattle.mr_eval.specs.Operators.{cast_layer, kind_of, moved_pointer, operated, unary_in};
 ghost use Rattle.mr_eval.specs.Reads.{reading};
-ghost use Rattle.mr_wf.specs.Known.{ty_of};
+ghost use Rattle.mr_typing.specs.Known.{ty_of};
 ghost use Rattle.mr_eval.specs.Evaluation.{union_of};
-ghost use Rattle.mr_wf.specs.Types.{discriminant_type, integer_of, result_type};
+ghost use Rattle.mr_typing.specs.Types.{discriminant_type, integer_of, result_type};
 
 use crate::halt::Halt;
 use crate::here::Here;
@@ -34,7 +34,7 @@ use mr_base::Pointer;
 use mr_layout::Cache;
 use mr_mem::Memory;
 use mr_value::{Val, bits_of_number};
-use mr_wf::Known;
+use mr_typing::Known;
 use std::alloc::Global;
 
 /// A value that was evaluated, and its type.

@@ -11,7 +11,7 @@ use Rattle.mr_base.specs.declared.byte.Pointer.{Pointer}
 use Rattle.mr_base.specs.declared.reason.Reason.TheVariants.{MainReturned}
 use Rattle.mr_layout.specs.Sizes.{size_of}
 use Rattle.mr_value.specs.declared.val.Val.{Val}
-use Rattle.mr_start.specs.WfWalk.{begins_regular}
+use Rattle.mr_start.specs.TypingWalk.{begins_regular}
 use Rattle.mr_base.specs.Script.{Done, Undefined, IllFormed, ◌>>=◌}
 use Rattle.mr_start.specs.EvalEvaluation.{value_script}
 use Rattle.mr_start.specs.EvalMemoryQueries.{reading_part}

@@ -3,7 +3,7 @@ use Rattle.std.proofs.Common.{◌≡◌, ℕ, suc, ◌+◌, refl, sym, ◌∙◌
 use Rattle.mr_ast.specs.declared.program.Program.{Program}
 use Rattle.mr_sched.specs.declared.schedule.Entry.{Entry}
 use Rattle.mr_sched.specs.declared.schedule.Schedule.{Schedule}
-use Rattle.mr_start.specs.WfWalk.{WellFormed}
+use Rattle.mr_start.specs.TypingWalk.{WellFormed}
 use Rattle.mr_swap.specs.PlanMachine.{Bare, Completed, IllFormedStep, State, Stops, bare}
 use Rattle.mr_swap.specs.PlanRuns.{AreLegal, Config, after_bare, entry_fault, feet, foot_from, foot_of_bare, has_rule, is_ill_formed, machine_step, stepped_from}
 use Rattle.mr_start.specs.FrameFits.{IsLook}

@@ -5,7 +5,7 @@ use Rattle.mr_event.specs.Footprint.{Footprint}
 use Rattle.mr_event.specs.Footprints.{depends, wakes}
 use Rattle.mr_order.specs.Trace.{AreIndependent}
 use Rattle.mr_sched.specs.declared.schedule.Entry.{Entry}
-use Rattle.mr_start.specs.WfWalk.{WellFormed}
+use Rattle.mr_start.specs.TypingWalk.{WellFormed}
 use Rattle.mr_swap.specs.PlanLegal.{state_fault}
 use Rattle.mr_swap.specs.PlanMachine.{Completed, State, bare}
 use Rattle.mr_swap.specs.PlanNotes.{Notes}

@@ -6,7 +6,7 @@ use Rattle.mr_ast.specs.declared.program.Program.{Program}
 use Rattle.mr_event.specs.FootOk.{IsFootOk}
 use Rattle.mr_sched.specs.declared.schedule.Entry.{Entry}
 use Rattle.mr_sched.specs.declared.schedule.Schedule.{Schedule}
-use Rattle.mr_start.specs.WfWalk.{WellFormed}
+use Rattle.mr_start.specs.TypingWalk.{WellFormed}
 use Rattle.mr_swap.specs.PlanLegal.{state_fault}
 use Rattle.mr_swap.specs.PlanLimits.{AreWithin, IsWithin}
 use Rattle.mr_swap.specs.PlanMachine.{Bare, Completed, IllFormedStep, State, Stops, bare}

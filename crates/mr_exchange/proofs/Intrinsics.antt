@@ -28,7 +28,7 @@ use Rattle.mr_exchange.proofs.Marks.{Marks, marked, unmarked}
 use Rattle.mr_exchange.proofs.Parts.{reads_any}
 use Rattle.mr_exchange.proofs.Tells.{Any-nil, Any-single, OpTells, PlanTells, one_event, tells_one, tells_quiet, tells_same}
 use Rattle.mr_exchange.proofs.Tracked.{Tracks}
-use Rattle.mr_start.specs.WfTypes.{integer_in}
+use Rattle.mr_start.specs.TypingTypes.{integer_in}
 use Rattle.mr_start.specs.EvalOperators.{pointer_in}
 
 -- the operation tells what it does

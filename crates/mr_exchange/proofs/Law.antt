@@ -4,7 +4,7 @@ use Rattle.std.specs.Prelude.{None}
 use Rattle.mr_ast.specs.declared.program.Program.{Program}
 use Rattle.mr_order.specs.Trace.{AreIndependent}
 use Rattle.mr_sched.specs.declared.schedule.Entry.{Entry}
-use Rattle.mr_start.specs.WfWalk.{WellFormed}
+use Rattle.mr_start.specs.TypingWalk.{WellFormed}
 use Rattle.mr_swap.specs.PlanMachine.{State}
 use Rattle.mr_start.specs.FrameFrames.{Look}
 use Rattle.mr_start.specs.ThreadSteps.{Own, thread_step}

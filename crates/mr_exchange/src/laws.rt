@@ -6,7 +6,7 @@ ghost use Rattle.mr_event.specs.FootOk.{IsFootOk};
 ghost use Rattle.mr_order.specs.Trace.{AreIndependent};
 ghost use Rattle.mr_sched.specs.declared.schedule.Entry.{Entry};
 ghost use Rattle.mr_sched.specs.declared.schedule.Schedule.{Schedule};
-ghost use Rattle.mr_start.specs.WfWalk.{WellFormed};
+ghost use Rattle.mr_start.specs.TypingWalk.{WellFormed};
 ghost use Rattle.mr_swap.specs.PlanMachine.{State};
 ghost use Rattle.mr_start.specs.FrameFrames.{Look};
 ghost use Rattle.mr_start.specs.ThreadSoundState.{SoundState};

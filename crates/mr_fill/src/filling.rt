@@ -13,7 +13,7 @@ use mr_run::Nothing;
 use mr_sched::{Chooser, Entry, Items, Schedule};
 use mr_start::start_asks;
 use mr_step::{Machine, StepFault};
-use mr_wf::Checked;
+use mr_typing::Checked;
 use std::alloc::{AllocError, Global};
 
 /// Where an order can't go on: the line of its turn, and the rule that the turn would break.

@@ -1,7 +1,7 @@
 //! A law of orders, and no code.
 ghost use Rattle.std.specs.Prelude.{List};
 ghost use Rattle.mr_ast.specs.declared.program.Program.{Program};
-ghost use Rattle.mr_wf.specs.Walk.{WellFormed};
+ghost use Rattle.mr_typing.specs.Walk.{WellFormed};
 ghost use Rattle.mr_start.specs.Runs.{Legal};
 ghost use Rattle.mr_fill.specs.declared.order.Turn.{Turn};
 ghost use Rattle.mr_fill.specs.Filling.{filled};

@@ -8,7 +8,7 @@ use crate::filling::{Halt, fill};
 use crate::{Turn, read_order};
 use mr_labels::{push_number, rule_name};
 use mr_sched::{Items, SchedFault, print};
-use mr_wf::Checked;
+use mr_typing::Checked;
 use std::alloc::{AllocError, Global};
 
 /// The texts of a schedule that an order became: the schedule's, and where the order can't go on, which is empty where all

@@ -16,7 +16,7 @@ use Rattle.mr_mem.proofs.Identities.{get_there}
 use Rattle.mr_mem.proofs.RangeLaws.{ranges-allocated}
 use Rattle.mr_value.specs.declared.val.Val.{Val}
 use Rattle.mr_base.specs.Script.{Broken, Done, IllFormed, Outcome, Refused, Went, on, run}
-use Rattle.mr_wf.specs.Walk.{begins_regular}
+use Rattle.mr_typing.specs.Walk.{begins_regular}
 use Rattle.mr_eval.specs.MemoryQueries.{Allocate, memory_answer, next_id}
 use Rattle.mr_eval.specs.World.{World}
 use Rattle.mr_plan.specs.Legal.{address_fault, else_fault, picks_fault}

@@ -8,7 +8,7 @@ use Rattle.mr_ast.specs.declared.program.Program.{Program}
 use Rattle.mr_ast.specs.declared.types.Ty.{Ty}
 use Rattle.mr_base.specs.declared.byte.Pointer.{Pointer}
 use Rattle.mr_value.specs.declared.val.Val.{Val}
-use Rattle.mr_wf.specs.Walk.{WellFormed}
+use Rattle.mr_typing.specs.Walk.{WellFormed}
 use Rattle.mr_base.specs.Script.{Outcome, Refused, Went, on}
 use Rattle.mr_eval.specs.World.{World}
 use Rattle.mr_frame.specs.declared.look.Look.{Look as KeptLook}

@@ -22,12 +22,12 @@ use Rattle.mr_mem.specs.Memory.{Memory}
 use Rattle.mr_eval.specs.declared.fault.Fault.{Fault}
 use Rattle.mr_eval.specs.declared.fault.Fault.TheVariants as fault
 use Rattle.mr_value.specs.declared.val.Val.{Val}
-use Rattle.mr_wf.specs.Broken.{broken_in_value, surroundings}
-use Rattle.mr_wf.specs.Operands.{is_fn_ptr, is_raw}
-use Rattle.mr_wf.specs.Types.{type_of_value}
-use Rattle.mr_wf.proofs.NothingLaws.{both_nothing}
-use Rattle.mr_wf.proofs.TypedLaws.{typed_value}
-use Rattle.mr_wf.proofs.TypedStmts.{typed_call}
+use Rattle.mr_typing.specs.Broken.{broken_in_value, surroundings}
+use Rattle.mr_typing.specs.Operands.{is_fn_ptr, is_raw}
+use Rattle.mr_typing.specs.Types.{type_of_value}
+use Rattle.mr_typing.proofs.NothingLaws.{both_nothing}
+use Rattle.mr_typing.proofs.TypedLaws.{typed_value}
+use Rattle.mr_typing.proofs.TypedStmts.{typed_call}
 use Rattle.mr_base.specs.Script.{Outcome, Refused, Went, on}
 use Rattle.mr_eval.specs.Environment.{Tells, env_surround}
 use Rattle.mr_eval.specs.Evaluated.{each_valued, placed}

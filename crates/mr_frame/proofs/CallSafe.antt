@@ -24,17 +24,17 @@ use Rattle.mr_value.specs.declared.val.Val.{Val, out-Val}
 use Rattle.mr_value.specs.declared.val.Val.TheOpen.{Val-F}
 use Rattle.mr_value.specs.declared.val.Val.TheVariants as val
 use Rattle.mr_value.proofs.ShapeLaws.{shape_fn_ptr}
-use Rattle.mr_wf.specs.Blocks.{broken_in_parts}
-use Rattle.mr_wf.specs.Broken.{broken_in_value, sizes_of, surroundings}
-use Rattle.mr_wf.specs.Operands.{is_fn_ptr}
-use Rattle.mr_wf.specs.SameTypes.{same_type}
-use Rattle.mr_wf.specs.Types.{type_of_place, type_of_value}
-use Rattle.mr_wf.specs.Walk.{WellFormed, begins_regular}
-use Rattle.mr_wf.proofs.ExprWalk.{Judges}
-use Rattle.mr_wf.proofs.KindLaws.{fn_ptr_is}
-use Rattle.mr_wf.proofs.NothingLaws.{both_nothing}
-use Rattle.mr_wf.proofs.SameTypeLaws.{same_type_equal}
-use Rattle.mr_wf.proofs.TypedStmts.{typed_call}
+use Rattle.mr_typing.specs.Blocks.{broken_in_parts}
+use Rattle.mr_typing.specs.Broken.{broken_in_value, sizes_of, surroundings}
+use Rattle.mr_typing.specs.Operands.{is_fn_ptr}
+use Rattle.mr_typing.specs.SameTypes.{same_type}
+use Rattle.mr_typing.specs.Types.{type_of_place, type_of_value}
+use Rattle.mr_typing.specs.Walk.{WellFormed, begins_regular}
+use Rattle.mr_typing.proofs.ExprWalk.{Judges}
+use Rattle.mr_typing.proofs.KindLaws.{fn_ptr_is}
+use Rattle.mr_typing.proofs.NothingLaws.{both_nothing}
+use Rattle.mr_typing.proofs.SameTypeLaws.{same_type_equal}
+use Rattle.mr_typing.proofs.TypedStmts.{typed_call}
 use Rattle.mr_base.specs.Script.{Done, Undefined, IllFormed, ◌>>=◌}
 use Rattle.mr_eval.specs.Evaluation.{Surround, place_script, value_script, values_script}
 use Rattle.mr_eval.specs.Operators.{pointer_in, pointer_of_value}

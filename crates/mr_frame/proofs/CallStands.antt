@@ -21,10 +21,10 @@ use Rattle.mr_base.specs.declared.reason.Reason.TheVariants.{SignatureMismatch}
 use Rattle.mr_mem.specs.Memory.{Memory, ranges_of}
 use Rattle.mr_sched.specs.declared.schedule.Ask.{Ask}
 use Rattle.mr_value.specs.declared.val.Val.{Val}
-use Rattle.mr_wf.specs.Blocks.{broken_in_parts}
-use Rattle.mr_wf.specs.Broken.{sizes_of, surroundings}
-use Rattle.mr_wf.specs.Types.{type_of_value}
-use Rattle.mr_wf.proofs.TypedStmts.{typed_call}
+use Rattle.mr_typing.specs.Blocks.{broken_in_parts}
+use Rattle.mr_typing.specs.Broken.{sizes_of, surroundings}
+use Rattle.mr_typing.specs.Types.{type_of_value}
+use Rattle.mr_typing.proofs.TypedStmts.{typed_call}
 use Rattle.mr_base.specs.Script.{Broken, Outcome, Refused, Went, on, run}
 use Rattle.mr_eval.specs.Answers.{seen}
 use Rattle.mr_eval.specs.Evaluated.{each_valued, placed}

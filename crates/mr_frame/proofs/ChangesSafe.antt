@@ -23,10 +23,10 @@ use Rattle.mr_layout.specs.TypeOk.{TypeOk}
 use Rattle.mr_value.specs.declared.val.Val.{Val}
 use Rattle.mr_value.specs.Encode.{blank, encoding_of, tag_bytes}
 use Rattle.mr_value.specs.Shape.{has_shape}
-use Rattle.mr_wf.specs.Blocks.{broken_in_stmt}
-use Rattle.mr_wf.specs.Broken.{broken_in_place, broken_in_value}
-use Rattle.mr_wf.specs.Types.{tags_among, tags_layer, type_of_place, type_of_value, variant_among, variant_in, variant_type}
-use Rattle.mr_wf.proofs.TypedStmts.{typed_assign, typed_disc_stmt}
+use Rattle.mr_typing.specs.Blocks.{broken_in_stmt}
+use Rattle.mr_typing.specs.Broken.{broken_in_place, broken_in_value}
+use Rattle.mr_typing.specs.Types.{tags_among, tags_layer, type_of_place, type_of_value, variant_among, variant_in, variant_type}
+use Rattle.mr_typing.proofs.TypedStmts.{typed_assign, typed_disc_stmt}
 use Rattle.mr_base.specs.Script.{IllFormed, ◌>>=◌}
 use Rattle.mr_eval.specs.MemoryQueries.{reading_part}
 use Rattle.mr_eval.specs.Evaluation.{Surround, place_script, value_script}

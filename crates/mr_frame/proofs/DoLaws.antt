@@ -21,13 +21,13 @@ use Rattle.mr_ast.specs.declared.types.Ty.{Ty}
 use Rattle.mr_base.specs.declared.byte.Pointer.{Pointer}
 use Rattle.mr_mem.specs.Memory.{Memory}
 use Rattle.mr_value.specs.declared.val.Val.{Val}
-use Rattle.mr_wf.specs.Blocks.{broken_in_result}
-use Rattle.mr_wf.specs.Broken.{broken_in_value, surroundings}
-use Rattle.mr_wf.specs.Types.{type_of_place, type_of_value}
-use Rattle.mr_wf.proofs.ExprWalk.{Judges}
-use Rattle.mr_wf.proofs.NothingLaws.{both_nothing}
-use Rattle.mr_wf.proofs.StmtWalk.{Gives}
-use Rattle.mr_wf.proofs.TypedStmts.{typed_do}
+use Rattle.mr_typing.specs.Blocks.{broken_in_result}
+use Rattle.mr_typing.specs.Broken.{broken_in_value, surroundings}
+use Rattle.mr_typing.specs.Types.{type_of_place, type_of_value}
+use Rattle.mr_typing.proofs.ExprWalk.{Judges}
+use Rattle.mr_typing.proofs.NothingLaws.{both_nothing}
+use Rattle.mr_typing.proofs.StmtWalk.{Gives}
+use Rattle.mr_typing.proofs.TypedStmts.{typed_do}
 use Rattle.mr_base.specs.Script.{Done, Outcome, Refused, Went, ◌>>=◌, on, run}
 use Rattle.mr_base.proofs.ScriptRuns.{run_bind}
 use Rattle.mr_eval.specs.Environment.{env_surround}

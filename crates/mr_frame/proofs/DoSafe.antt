@@ -16,13 +16,13 @@ use Rattle.mr_ast.specs.declared.types.Ty.{Ty}
 use Rattle.mr_base.specs.declared.byte.Pointer.{Pointer}
 use Rattle.mr_value.specs.declared.val.Val.{Val}
 use Rattle.mr_value.specs.Shape.{has_shape}
-use Rattle.mr_wf.specs.Blocks.{broken_in_parts, broken_in_result}
-use Rattle.mr_wf.specs.Broken.{sizes_of, surroundings}
-use Rattle.mr_wf.specs.Intrinsics.{fits_intrinsic}
-use Rattle.mr_wf.specs.Types.{type_of_place, type_of_value}
-use Rattle.mr_wf.specs.Walk.{WellFormed}
-use Rattle.mr_wf.proofs.StmtWalk.{Gives}
-use Rattle.mr_wf.proofs.TypedStmts.{TypedDo, typed_do}
+use Rattle.mr_typing.specs.Blocks.{broken_in_parts, broken_in_result}
+use Rattle.mr_typing.specs.Broken.{sizes_of, surroundings}
+use Rattle.mr_typing.specs.Intrinsics.{fits_intrinsic}
+use Rattle.mr_typing.specs.Types.{type_of_place, type_of_value}
+use Rattle.mr_typing.specs.Walk.{WellFormed}
+use Rattle.mr_typing.proofs.StmtWalk.{Gives}
+use Rattle.mr_typing.proofs.TypedStmts.{TypedDo, typed_do}
 use Rattle.mr_eval.specs.Evaluation.{Surround, place_script, values_script}
 use Rattle.mr_eval.specs.Operators.{or_ill_formed}
 use Rattle.mr_eval.specs.Sound.{IsSafe, any_result}

@@ -20,11 +20,11 @@ use Rattle.mr_base.specs.declared.reason.Reason.TheVariants.{MainReturned}
 use Rattle.mr_layout.specs.TypeOk.{TypeOk}
 use Rattle.mr_value.specs.declared.val.Val.{Val, out-Val}
 use Rattle.mr_value.specs.Shape.{has_shape}
-use Rattle.mr_wf.specs.Blocks.{broken_in_parts}
-use Rattle.mr_wf.specs.Broken.{sizes_of, surroundings}
-use Rattle.mr_wf.specs.Operands.{is_raw}
-use Rattle.mr_wf.specs.Walk.{WellFormed}
-use Rattle.mr_wf.proofs.TypedStmts.{typed_unwind}
+use Rattle.mr_typing.specs.Blocks.{broken_in_parts}
+use Rattle.mr_typing.specs.Broken.{sizes_of, surroundings}
+use Rattle.mr_typing.specs.Operands.{is_raw}
+use Rattle.mr_typing.specs.Walk.{WellFormed}
+use Rattle.mr_typing.proofs.TypedStmts.{typed_unwind}
 use Rattle.mr_base.specs.Script.{Undefined, ◌>>=◌}
 use Rattle.mr_eval.specs.Evaluation.{Surround, stored, value_script}
 use Rattle.mr_eval.specs.MemoryQueries.{reading_part}

@@ -12,8 +12,8 @@ use Rattle.mr_ast.specs.declared.program.Function.{Function}
 use Rattle.mr_ast.specs.declared.program.Local.{Local}
 use Rattle.mr_ast.specs.declared.program.LocalName.{LocalName}
 use Rattle.mr_ast.specs.declared.types.Ty.{Ty}
-use Rattle.mr_wf.specs.SameTypes.{same_type}
-use Rattle.mr_wf.specs.Types.{type_of_value}
+use Rattle.mr_typing.specs.SameTypes.{same_type}
+use Rattle.mr_typing.specs.Types.{type_of_value}
 use Rattle.mr_eval.specs.Environment.{env_surround}
 use Rattle.mr_eval.specs.Evaluation.{Surround}
 use Rattle.mr_eval.specs.declared.env.Env.{Env}

@@ -16,10 +16,10 @@ use Rattle.mr_ast.specs.declared.program.Term.TheVariants as term
 use Rattle.mr_ast.specs.declared.types.Num.{Num}
 use Rattle.mr_ast.specs.declared.types.Ty.{Ty}
 use Rattle.mr_base.specs.declared.byte.Pointer.{Pointer}
-use Rattle.mr_wf.specs.Blocks.{broken_in_parts, broken_in_stmt, is_kept}
-use Rattle.mr_wf.specs.Broken.{sizes_of, surroundings}
-use Rattle.mr_wf.specs.Walk.{WellFormed}
-use Rattle.mr_wf.proofs.TypedStmts.{typed_dead}
+use Rattle.mr_typing.specs.Blocks.{broken_in_parts, broken_in_stmt, is_kept}
+use Rattle.mr_typing.specs.Broken.{sizes_of, surroundings}
+use Rattle.mr_typing.specs.Walk.{WellFormed}
+use Rattle.mr_typing.proofs.TypedStmts.{typed_dead}
 use Rattle.mr_base.specs.Script.{Done, ◌>>=◌}
 use Rattle.mr_eval.specs.Evaluation.{Surround}
 use Rattle.mr_eval.specs.MemoryQueries.{reading_part}

@@ -16,12 +16,12 @@ use Rattle.mr_ast.specs.declared.program.LocalName.{LocalName}
 use Rattle.mr_ast.specs.declared.program.Program.{Program}
 use Rattle.mr_ast.specs.declared.program.Stmt.{Stmt}
 use Rattle.mr_base.specs.declared.byte.Pointer.{Pointer}
-use Rattle.mr_wf.specs.Blocks.{broken_in_stmt, is_allowed, is_kept}
-use Rattle.mr_wf.specs.Broken.{of_type, rule, surroundings}
+use Rattle.mr_typing.specs.Blocks.{broken_in_stmt, is_allowed, is_kept}
+use Rattle.mr_typing.specs.Broken.{of_type, rule, surroundings}
 use Rattle.mr_layout.specs.TypeOk.{TypeOk}
-use Rattle.mr_wf.specs.Unbroken.{UnbrokenBlock, UnbrokenFunction}
-use Rattle.mr_wf.specs.Walk.{WellFormed, are_arguments, begins_regular}
-use Rattle.mr_wf.proofs.UnbrokenLaws.{well_formed_keeps}
+use Rattle.mr_typing.specs.Unbroken.{UnbrokenBlock, UnbrokenFunction}
+use Rattle.mr_typing.specs.Walk.{WellFormed, are_arguments, begins_regular}
+use Rattle.mr_typing.proofs.UnbrokenLaws.{well_formed_keeps}
 use Rattle.mr_eval.specs.Sound.{Stands}
 use Rattle.mr_frame.specs.Calls.{goes_to, local_type}
 use Rattle.mr_frame.specs.Fits.{AreCalling, FitsFrame, FitsOnward, IsLook}
@@ -30,7 +30,7 @@ use Rattle.mr_frame.specs.Sites.{AtStatement, Site, broken_at, broken_in_head, d
 use Rattle.mr_frame.proofs.Places.{all_apart, all_stay, none_behind}
 use Rattle.mr_base.proofs.Comparisons.{eq_test}
 use Rattle.mr_base.proofs.Lists.{item_there, all_at}
-use Rattle.mr_wf.proofs.NothingLaws.{type_nothing}
+use Rattle.mr_typing.proofs.NothingLaws.{type_nothing}
 
 -- ---- what a function of a well-formed program keeps
 

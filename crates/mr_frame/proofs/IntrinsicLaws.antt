@@ -15,7 +15,7 @@ use Rattle.mr_ast.specs.declared.program.Stmt.{Stmt}
 use Rattle.mr_ast.specs.declared.program.Term.{Term}
 use Rattle.mr_ast.specs.declared.program.Term.TheVariants as term
 use Rattle.mr_base.specs.declared.byte.Pointer.{Pointer}
-use Rattle.mr_wf.specs.Walk.{WellFormed}
+use Rattle.mr_typing.specs.Walk.{WellFormed}
 use Rattle.mr_frame.specs.declared.frame.Next.{Next}
 use Rattle.mr_frame.specs.declared.frame.Next.TheVariants as next
 use Rattle.mr_frame.specs.declared.look.Look.{Look as KeptLook}

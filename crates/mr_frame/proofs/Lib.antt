@@ -53,4 +53,4 @@ pub use Rattle.mr_plan.proofs.RunLaws as PlanRunLaws
 pub use Rattle.mr_plan.proofs.StorageRuns as PlanStorageRuns
 pub use Rattle.mr_plan.proofs.StoreLaws as PlanStoreLaws
 pub use Rattle.mr_plan.proofs.TallyGrows as PlanTallyGrows
-pub use Rattle.mr_wf.proofs.KindLaws as WfKindLaws
+pub use Rattle.mr_typing.proofs.KindLaws as TypingKindLaws

@@ -12,12 +12,12 @@ use Rattle.mr_ast.specs.declared.types.Ty.TheVariants as ty
 use Rattle.mr_layout.specs.Sizes.{size_of}
 use Rattle.mr_layout.specs.TypeOk.{TypeOk}
 use Rattle.mr_layout.proofs.BrokenLaws.{broken_bool, broken_fn_ptr, broken_int, broken_raw}
-use Rattle.mr_wf.specs.Intrinsics.{fits_intrinsic, gives, gives_nothing, is_atomic}
-use Rattle.mr_wf.specs.Operands.{is_bool, is_fn_ptr, is_int, is_integer, is_raw, is_raw_layer, is_scalar_number}
-use Rattle.mr_wf.specs.SameTypes.{same_type}
-use Rattle.mr_wf.specs.Types.{integer_in, integer_of}
-use Rattle.mr_wf.proofs.KindLaws.{bool_is, fn_ptr_is, integer_is, raw_is, same_with_int}
-use Rattle.mr_wf.proofs.SameTypeLaws.{same_type_equal}
+use Rattle.mr_typing.specs.Intrinsics.{fits_intrinsic, gives, gives_nothing, is_atomic}
+use Rattle.mr_typing.specs.Operands.{is_bool, is_fn_ptr, is_int, is_integer, is_raw, is_raw_layer, is_scalar_number}
+use Rattle.mr_typing.specs.SameTypes.{same_type}
+use Rattle.mr_typing.specs.Types.{integer_in, integer_of}
+use Rattle.mr_typing.proofs.KindLaws.{bool_is, fn_ptr_is, integer_is, raw_is, same_with_int}
+use Rattle.mr_typing.proofs.SameTypeLaws.{same_type_equal}
 use Rattle.mr_frame.specs.Doing.{is_plain}
 
 pub plain_int : (t : Ty) (i : IntType) → integer_of t ≡ Some i → ty.Int i ≡ t

@@ -11,8 +11,8 @@ use Rattle.mr_value.specs.declared.val.Val.TheVariants as val
 use Rattle.mr_value.specs.Shape.{has_shape}
 use Rattle.mr_value.proofs.ShapeLaws.{shape_fn_ptr, shape_raw}
 use Rattle.mr_base.specs.Script.{Outcome, Went, on}
-use Rattle.mr_wf.specs.Operands.{is_fn_ptr, is_raw}
-use Rattle.mr_wf.proofs.KindLaws.{fn_ptr_is, raw_is}
+use Rattle.mr_typing.specs.Operands.{is_fn_ptr, is_raw}
+use Rattle.mr_typing.proofs.KindLaws.{fn_ptr_is, raw_is}
 use Rattle.mr_eval.specs.Environment.{ShapedAs, env_surround}
 use Rattle.mr_eval.specs.Evaluated.{valued}
 use Rattle.mr_eval.specs.Evaluation.{Surround}

@@ -12,8 +12,8 @@ use Rattle.mr_ast.specs.declared.program.Stmt.TheVariants as stmt
 use Rattle.mr_ast.specs.declared.program.Term.{Term}
 use Rattle.mr_ast.specs.declared.program.Term.TheVariants as term
 use Rattle.mr_layout.specs.TypeOk.{TypeOk}
-use Rattle.mr_wf.specs.Blocks.{broken_in_parts, broken_in_stmt, is_allowed}
-use Rattle.mr_wf.specs.Broken.{surroundings}
+use Rattle.mr_typing.specs.Blocks.{broken_in_parts, broken_in_stmt, is_allowed}
+use Rattle.mr_typing.specs.Broken.{surroundings}
 use Rattle.mr_eval.specs.declared.env.Env.{Env}
 use Rattle.mr_frame.specs.declared.look.Look.{Look as KeptLook}
 use Rattle.mr_frame.specs.declared.stack.Stack.{Stack as KeptStack}

@@ -21,7 +21,7 @@ use Rattle.mr_ast.specs.declared.types.Ty.{Ty}
 use Rattle.mr_base.specs.declared.byte.Pointer.{Pointer}
 use Rattle.mr_base.specs.declared.reason.Reason.TheVariants.{MainReturned, SignatureMismatch}
 use Rattle.mr_value.specs.declared.val.Val.{Val}
-use Rattle.mr_wf.specs.Walk.{WellFormed, begins_regular}
+use Rattle.mr_typing.specs.Walk.{WellFormed, begins_regular}
 use Rattle.mr_base.specs.Script.{Done, Undefined, IllFormed, Ask as Asks, ◌>>=◌}
 use Rattle.mr_eval.specs.Evaluation.{place_script, value_script, values_script}
 use Rattle.mr_eval.specs.MemoryQueries.{MemoryScript, reading_part}

@@ -7,7 +7,7 @@ use Rattle.mr_mem.specs.Memory.{Memory}
 use Rattle.mr_value.specs.declared.val.Val.{Val}
 use Rattle.mr_base.specs.Script.{Broken, Done, Outcome, Refused, Went, ◌>>=◌, on, run}
 use Rattle.mr_base.proofs.ScriptRuns.{run_bind}
-use Rattle.mr_wf.specs.Types.{type_of_value}
+use Rattle.mr_typing.specs.Types.{type_of_value}
 use Rattle.mr_eval.specs.Evaluated.{valued}
 use Rattle.mr_eval.specs.Evaluation.{Surround, value_script}
 use Rattle.mr_eval.specs.Operators.{or_ill_formed}

@@ -19,11 +19,11 @@ use Rattle.mr_ast.specs.declared.types.Variant.{Variant}
 use Rattle.mr_layout.specs.EnumRules.{same_num}
 use Rattle.mr_value.specs.declared.val.Val.{Val, out-Val}
 use Rattle.mr_value.specs.declared.val.Val.TheOpen.{Val-F}
-use Rattle.mr_wf.specs.Blocks.{broken_in_parts, fits_switch, fits_switch_layer}
-use Rattle.mr_wf.specs.Operands.{is_bool, is_bool_layer, is_integer, is_scalar_number}
-use Rattle.mr_wf.specs.Types.{integer_in, type_of_value}
-use Rattle.mr_wf.proofs.KindLaws.{bool_is}
-use Rattle.mr_wf.proofs.TypedStmts.{typed_switch}
+use Rattle.mr_typing.specs.Blocks.{broken_in_parts, fits_switch, fits_switch_layer}
+use Rattle.mr_typing.specs.Operands.{is_bool, is_bool_layer, is_integer, is_scalar_number}
+use Rattle.mr_typing.specs.Types.{integer_in, type_of_value}
+use Rattle.mr_typing.proofs.KindLaws.{bool_is}
+use Rattle.mr_typing.proofs.TypedStmts.{typed_switch}
 use Rattle.mr_base.specs.Script.{Done}
 use Rattle.mr_eval.specs.Evaluation.{Surround, value_script}
 use Rattle.mr_eval.specs.Operators.{or_ill_formed}

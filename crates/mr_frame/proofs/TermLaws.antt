@@ -11,10 +11,10 @@ use Rattle.mr_ast.specs.declared.expr.Value.{Value}
 use Rattle.mr_ast.specs.declared.program.BlockName.{BlockName}
 use Rattle.mr_ast.specs.declared.program.Function.{Function}
 use Rattle.mr_ast.specs.declared.program.Term.TheVariants as term
-use Rattle.mr_wf.specs.Broken.{broken_in_value, surroundings}
-use Rattle.mr_wf.specs.Operands.{is_fn_ptr, is_raw, is_scalar_number}
-use Rattle.mr_wf.specs.Types.{type_of_value}
-use Rattle.mr_wf.proofs.TypedStmts.{typed_switch, typed_unwind}
+use Rattle.mr_typing.specs.Broken.{broken_in_value, surroundings}
+use Rattle.mr_typing.specs.Operands.{is_fn_ptr, is_raw, is_scalar_number}
+use Rattle.mr_typing.specs.Types.{type_of_value}
+use Rattle.mr_typing.proofs.TypedStmts.{typed_switch, typed_unwind}
 use Rattle.mr_eval.specs.declared.env.Env.{Env}
 use Rattle.mr_frame.specs.Inside.{InProgram, TermIn, ValueAt, is_address}
 use Rattle.mr_frame.proofs.InsideLaws.{scene_locals}

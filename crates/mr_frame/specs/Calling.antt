@@ -15,7 +15,7 @@ use Rattle.mr_eval.specs.declared.fault.Fault.{Fault}
 use Rattle.mr_eval.specs.declared.fault.Fault.TheVariants as fault
 use Rattle.mr_value.specs.declared.val.Val.{Val}
 use Rattle.mr_base.specs.Script.{Broken, Outcome, Refused, Went, on}
-use Rattle.mr_wf.specs.Types.{type_of_value}
+use Rattle.mr_typing.specs.Types.{type_of_value}
 use Rattle.mr_eval.specs.Environment.{PlaceIn, ValueIn, env_surround}
 use Rattle.mr_eval.specs.Evaluated.{each_valued, placed}
 use Rattle.mr_eval.specs.Evaluation.{Surround}

@@ -22,9 +22,9 @@ use Rattle.mr_layout.specs.Sizes.{align_of, size_of}
 use Rattle.mr_sched.specs.declared.schedule.Ask.{Ask}
 use Rattle.mr_sched.specs.declared.schedule.Ask.TheVariants.{Address}
 use Rattle.mr_value.specs.declared.val.Val.{Val}
-use Rattle.mr_wf.specs.SameTypes.{same_type}
-use Rattle.mr_wf.specs.Types.{type_of_place, type_of_value}
-use Rattle.mr_wf.specs.Walk.{begins_regular}
+use Rattle.mr_typing.specs.SameTypes.{same_type}
+use Rattle.mr_typing.specs.Types.{type_of_place, type_of_value}
+use Rattle.mr_typing.specs.Walk.{begins_regular}
 use Rattle.mr_base.specs.Script.{Done, Undefined, IllFormed, Ask as Asks, ◌>>=◌}
 use Rattle.mr_eval.specs.Evaluation.{Surround, place_script, stored, value_script, values_script}
 use Rattle.mr_eval.specs.MemoryQueries.{Allocate, MemoryScript, reading_part}

@@ -14,7 +14,7 @@ use Rattle.mr_value.specs.declared.val.Val.{Val}
 use Rattle.mr_value.specs.Encode.{blank, encoding_of, tag_bytes}
 use Rattle.mr_value.specs.Numbers.{Bytes}
 use Rattle.mr_value.specs.Shape.{has_shape}
-use Rattle.mr_wf.specs.Types.{tags_layer, type_of_place}
+use Rattle.mr_typing.specs.Types.{tags_layer, type_of_place}
 use Rattle.mr_base.specs.Script.{Done, IllFormed, Ask, ◌>>=◌}
 use Rattle.mr_eval.specs.Evaluation.{Surround, place_script, value_script}
 use Rattle.mr_eval.specs.MemoryQueries.{Free, MemoryScript, Write, reading_part}

@@ -12,8 +12,8 @@ use Rattle.mr_mem.specs.Memory.{Memory}
 use Rattle.mr_value.specs.declared.val.Val.{Val}
 use Rattle.mr_value.specs.Shape.{has_shape}
 use Rattle.mr_base.specs.Script.{Broken, Outcome, Went, on, run}
-use Rattle.mr_wf.specs.Operands.{is_bool, is_fn_ptr, is_integer, is_raw}
-use Rattle.mr_wf.specs.Types.{type_of_place}
+use Rattle.mr_typing.specs.Operands.{is_bool, is_fn_ptr, is_integer, is_raw}
+use Rattle.mr_typing.specs.Types.{type_of_place}
 use Rattle.mr_eval.specs.Environment.{PlaceIn}
 use Rattle.mr_eval.specs.Evaluated.{each_valued, placed}
 use Rattle.mr_eval.specs.Evaluation.{Surround}

@@ -16,7 +16,7 @@ use Rattle.mr_mem.specs.Memory.{Memory}
 use Rattle.mr_value.specs.declared.val.Val.{Val, out-Val}
 use Rattle.mr_value.specs.Encode.{blank, tag_bytes}
 use Rattle.mr_value.specs.Shape.{has_shape}
-use Rattle.mr_wf.specs.Types.{type_of_place}
+use Rattle.mr_typing.specs.Types.{type_of_place}
 use Rattle.mr_sched.specs.declared.schedule.Ask.{Ask}
 use Rattle.mr_base.specs.Script.{Broken, Outcome, Refused, Went, on, run, ◌>>=◌}
 use Rattle.mr_eval.specs.Evaluation.{Surround}

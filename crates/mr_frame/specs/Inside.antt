@@ -8,11 +8,11 @@ use Rattle.mr_ast.specs.declared.program.Stmt.{Stmt}
 use Rattle.mr_ast.specs.declared.program.Term.{Term}
 use Rattle.mr_ast.specs.declared.types.Ty.{Ty}
 use Rattle.mr_layout.specs.TypeOk.{TypeOk}
-use Rattle.mr_wf.specs.Blocks.{broken_in_parts, broken_in_stmt}
-use Rattle.mr_wf.specs.Broken.{surroundings}
-use Rattle.mr_wf.specs.Operands.{is_fn_ptr, is_raw}
-use Rattle.mr_wf.specs.Types.{type_of_place, type_of_value}
-use Rattle.mr_wf.specs.Walk.{WellFormed}
+use Rattle.mr_typing.specs.Blocks.{broken_in_parts, broken_in_stmt}
+use Rattle.mr_typing.specs.Broken.{surroundings}
+use Rattle.mr_typing.specs.Operands.{is_fn_ptr, is_raw}
+use Rattle.mr_typing.specs.Types.{type_of_place, type_of_value}
+use Rattle.mr_typing.specs.Walk.{WellFormed}
 use Rattle.mr_eval.specs.Environment.{IsEnvOf, ValueIn, env_surround}
 use Rattle.mr_eval.specs.declared.env.Env.{Env}
 

@@ -1,7 +1,7 @@
 -- What the code keeps of frames and stacks, without where it lies.
 use Rattle.std.specs.Prelude.{◌≡◌, List, [], ◌∷◌, length, map, reverse}
 use Rattle.mr_layout.specs.Cached.{IsCacheOf}
-use Rattle.mr_wf.specs.Walk.{WellFormed}
+use Rattle.mr_typing.specs.Walk.{WellFormed}
 use Rattle.mr_frame.specs.declared.flow.Flow.{Flow}
 use Rattle.mr_frame.specs.declared.flow.Flow.TheVariants as flow
 use Rattle.mr_frame.specs.declared.frame.Frame.{Frame as KeptFrame}

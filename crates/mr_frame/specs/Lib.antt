@@ -32,6 +32,6 @@ pub use Rattle.mr_plan.specs.Notes as PlanNotes
 pub use Rattle.mr_plan.specs.Queries as PlanQueries
 pub use Rattle.mr_plan.specs.Runs as PlanRuns
 pub use Rattle.mr_plan.specs.Storage as PlanStorage
-pub use Rattle.mr_wf.specs.Intrinsics as WfIntrinsics
-pub use Rattle.mr_wf.specs.Operands as WfOperands
-pub use Rattle.mr_wf.specs.Walk as WfWalk
+pub use Rattle.mr_typing.specs.Intrinsics as TypingIntrinsics
+pub use Rattle.mr_typing.specs.Operands as TypingOperands
+pub use Rattle.mr_typing.specs.Walk as TypingWalk

@@ -8,8 +8,8 @@ use Rattle.mr_ast.specs.declared.program.Intrinsic.{Intrinsic}
 use Rattle.mr_ast.specs.declared.types.Ty.{Ty}
 use Rattle.mr_base.specs.declared.byte.Pointer.{Pointer}
 use Rattle.mr_value.specs.declared.val.Val.{Val}
-use Rattle.mr_wf.specs.Intrinsics.{fits_intrinsic}
-use Rattle.mr_wf.specs.Types.{type_of_place, type_of_value}
+use Rattle.mr_typing.specs.Intrinsics.{fits_intrinsic}
+use Rattle.mr_typing.specs.Types.{type_of_place, type_of_value}
 use Rattle.mr_base.specs.Script.{Done, IllFormed, ◌>>=◌}
 use Rattle.mr_eval.specs.Evaluation.{Surround, place_script, values_script}
 use Rattle.mr_eval.specs.MemoryQueries.{MemoryScript}

@@ -18,9 +18,9 @@ use Rattle.mr_ast.specs.declared.program.Stmt.{Stmt}
 use Rattle.mr_ast.specs.declared.program.Term.{Term}
 use Rattle.mr_ast.specs.declared.program.Term.TheVariants as term
 use Rattle.mr_base.specs.declared.byte.Pointer.{Pointer}
-use Rattle.mr_wf.specs.Blocks.{broken_in_stmt, broken_in_term, is_allowed}
-use Rattle.mr_wf.specs.Broken.{Rules, of_type, rule, surroundings}
-use Rattle.mr_wf.specs.Walk.{are_arguments, begins_regular}
+use Rattle.mr_typing.specs.Blocks.{broken_in_stmt, broken_in_term, is_allowed}
+use Rattle.mr_typing.specs.Broken.{Rules, of_type, rule, surroundings}
+use Rattle.mr_typing.specs.Walk.{are_arguments, begins_regular}
 use Rattle.mr_frame.specs.Frames.{Frame, Look, Stack}
 
 -- a thread's top frame, with its function and its block, and the frames below

@@ -10,7 +10,7 @@ use Rattle.mr_layout.specs.EnumRules.{same_num}
 use Rattle.mr_value.specs.declared.val.Val.{Val, out-Val}
 use Rattle.mr_value.specs.declared.val.Val.TheOpen.{Val-F}
 use Rattle.mr_value.specs.Discriminants.{number_of_bits}
-use Rattle.mr_wf.specs.Types.{type_of_value}
+use Rattle.mr_typing.specs.Types.{type_of_value}
 use Rattle.mr_base.specs.Script.{Done, ◌>>=◌}
 use Rattle.mr_eval.specs.Reads.{ReadScript}
 use Rattle.mr_eval.specs.Evaluation.{Surround, value_script}

@@ -21,7 +21,7 @@ use mr_eval::{
 };
 use mr_mem::Memory;
 use mr_value::{OutOfMemory, Val, bits_of_number, encode};
-use mr_wf::tags;
+use mr_typing::tags;
 use std::alloc::Global;
 
 /// The change that a statement makes to memory.

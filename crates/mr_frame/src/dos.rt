@@ -3,7 +3,7 @@ ghost use Rattle.std.specs.Prelude.{◌≡◌, All, IfOk, Some, option_copied, t
 ghost use Rattle.mr_eval.specs.Answers.{Extends, seen};
 ghost use Rattle.mr_eval.specs.Environment.{Tells, env_surround};
 ghost use Rattle.mr_eval.specs.World.{TellsBy, world_of};
-ghost use Rattle.mr_wf.specs.Known.{ty_of};
+ghost use Rattle.mr_typing.specs.Known.{ty_of};
 ghost use Rattle.mr_frame.specs.Calling.{arg_types};
 ghost use Rattle.mr_frame.specs.Doing.{FitsResult, PlainIn, ResultIn, given_operands, is_plain, operands_of, operation_in, result_placed, result_stored, result_typed, with_types};
 ghost use Rattle.mr_eval.specs.Reads.{Seen};
@@ -19,7 +19,7 @@ use mr_base::Pointer;
 use mr_eval::{Env, Fault, Notes, Scene, place};
 use mr_mem::Memory;
 use mr_value::Val;
-use mr_wf::{Checked, Known};
+use mr_typing::{Checked, Known};
 use std::alloc::{AllocError, Global};
 
 /// What an intrinsic is given: the place for its result and the type of this, and the arguments with their types.

@@ -9,7 +9,7 @@ use crate::frame::local_at;
 use crate::types::{type_at, type_with};
 use mr_ast::{Function, LocalName, Place, Value};
 use mr_eval::Env;
-use mr_wf::Known;
+use mr_typing::Known;
 
 /// Whether the types of the place for the result and of the arguments are those of the function's return local and arguments.
 pub fn is_fitting<'a>(e: &Env<'a>, args: &'a [Value], to: &'a Place, function: &'a Function) -> bool

@@ -4,7 +4,7 @@ use mr_ast::{FnName, Function};
 use mr_base::Pointer;
 use mr_eval::Env;
 use mr_layout::Cache;
-use mr_wf::Checked;
+use mr_typing::Checked;
 
 /// What each step looks up: the program, the pointers to its functions and globals, and the layouts of its types.
 #[derive(Clone, Copy)]

@@ -2,7 +2,7 @@
 ghost use Rattle.std.specs.Prelude.{◌≡◌};
 ghost use Rattle.mr_eval.specs.Answers.{seen};
 ghost use Rattle.mr_eval.specs.Environment.{Tells, env_surround};
-ghost use Rattle.mr_wf.specs.Operands.{is_scalar_number};
+ghost use Rattle.mr_typing.specs.Operands.{is_scalar_number};
 ghost use Rattle.mr_frame.specs.Effects.{chosen};
 ghost use Rattle.mr_frame.specs.Inside.{ValueAt};
 ghost use Rattle.mr_frame.specs.Switches.{first_case};

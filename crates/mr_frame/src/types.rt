@@ -5,17 +5,17 @@ ghost use Rattle.mr_eval.specs.Environment.{env_surround};
 ghost use Rattle.mr_layout.specs.Sizes.{align_of, size_of};
 ghost use Rattle.mr_layout.specs.TypeOk.{TypeOk};
 ghost use Rattle.mr_mem.specs.Memory.{IsPowerOfTwo};
-ghost use Rattle.mr_wf.specs.Known.{ty_of};
-ghost use Rattle.mr_wf.specs.Types.{type_of_place, type_of_value};
+ghost use Rattle.mr_typing.specs.Known.{ty_of};
+ghost use Rattle.mr_typing.specs.Types.{type_of_place, type_of_value};
 ghost use Rattle.mr_frame.specs.Inside.{TypeAt};
 
 use mr_ast::{Local, Place, Ty, Value};
 use mr_eval::Env;
 use mr_layout::Cache;
-use mr_wf::{Known, discriminant, element, field, local_type, variant};
+use mr_typing::{Known, discriminant, element, field, local_type, variant};
 
 /// The type of a place in a function with these locals.
-#[tactic(auto, using(mr_wf::proofs::TypeLaws::type_laws))]
+#[tactic(auto, using(mr_typing::proofs::TypeLaws::type_laws))]
 pub fn place_type<'p>(locals: &'p [Local], place: &'p Place) -> Option<&'p Ty>
     ensures { option_copied result ≡ type_of_place locals.now place.now }
 {
@@ -29,7 +29,7 @@ pub fn place_type<'p>(locals: &'p [Local], place: &'p Place) -> Option<&'p Ty>
 }
 
 // The type of the discriminant of a place.
-#[tactic(auto, using(mr_wf::proofs::TypeLaws::type_laws))]
+#[tactic(auto, using(mr_typing::proofs::TypeLaws::type_laws))]
 fn discriminant_type<'p>(locals: &'p [Local], place: &'p Place) -> Option<Known<'p>>
     ensures { option_map ty_of result ≡ type_of_value locals.now (Value.Disc place.now) }
 {
@@ -38,7 +38,7 @@ fn discriminant_type<'p>(locals: &'p [Local], place: &'p Place) -> Option<Known<
 }
 
 /// The type of a value in a function with these locals.
-#[tactic(auto, using(mr_wf::proofs::TypeLaws::type_laws))]
+#[tactic(auto, using(mr_typing::proofs::TypeLaws::type_laws))]
 pub fn value_type<'p>(locals: &'p [Local], value: &'p Value) -> Option<Known<'p>>
     ensures { option_map ty_of result ≡ type_of_value locals.now value.now }
 {

@@ -8,7 +8,7 @@ use Rattle.std.proofs.lemmas.Option.{slice_get-get_or}
 use Rattle.mr_ast.specs.declared.program.Block.{Block}
 use Rattle.mr_ast.specs.declared.program.BlockKind.TheVariants.{Regular}
 use Rattle.mr_ast.specs.declared.program.Function.{Function}
-use Rattle.mr_wf.specs.Blocks.{goes_to, same_kind}
+use Rattle.mr_typing.specs.Blocks.{goes_to, same_kind}
 use Rattle.mr_gen.specs.Generated.{exit_block, join_block, lock_block, main_blocks, print_block, spawn_block}
 
 -- what holds of each number in a row

@@ -13,14 +13,14 @@ use Rattle.mr_ast.specs.declared.program.Local.{Local}
 use Rattle.mr_ast.specs.declared.program.Program.{Program}
 use Rattle.mr_ast.specs.declared.program.Stmt.{Stmt}
 use Rattle.mr_layout.specs.TypeOk.{TypeOk}
-use Rattle.mr_wf.specs.declared.fault.FormFault.{FormFault}
-use Rattle.mr_wf.specs.declared.fault.Item.{Item}
-use Rattle.mr_wf.specs.declared.fault.Item.TheVariants.{Static, Function as InFunction}
-use Rattle.mr_wf.specs.Blocks.{broken_in_stmt}
-use Rattle.mr_wf.specs.Unbroken.{UnbrokenBlock, UnbrokenFunction, UnbrokenGlobal, UnbrokenProgram}
-use Rattle.mr_wf.specs.Broken.{Rules, rule, sizes_of, surroundings}
-use Rattle.mr_wf.specs.Walk.{at_position, each_at, faults_in_block, faults_in_function, faults_in_global, faults_in_local, faults_in_stmt, faults_of, is_target}
-use Rattle.mr_wf.proofs.NothingLaws.{type_nothing}
+use Rattle.mr_typing.specs.declared.fault.FormFault.{FormFault}
+use Rattle.mr_typing.specs.declared.fault.Item.{Item}
+use Rattle.mr_typing.specs.declared.fault.Item.TheVariants.{Static, Function as InFunction}
+use Rattle.mr_typing.specs.Blocks.{broken_in_stmt}
+use Rattle.mr_typing.specs.Unbroken.{UnbrokenBlock, UnbrokenFunction, UnbrokenGlobal, UnbrokenProgram}
+use Rattle.mr_typing.specs.Broken.{Rules, rule, sizes_of, surroundings}
+use Rattle.mr_typing.specs.Walk.{at_position, each_at, faults_in_block, faults_in_function, faults_in_global, faults_in_local, faults_in_stmt, faults_of, is_target}
+use Rattle.mr_typing.proofs.NothingLaws.{type_nothing}
 
 -- ---- lists of nothing
 

@@ -17,10 +17,10 @@ use Rattle.mr_ast.specs.declared.program.Stmt.TheVariants as stmt
 use Rattle.mr_layout.specs.Rules.{tuple_rules}
 use Rattle.mr_layout.specs.TypeOk.{TypeOk}
 use Rattle.mr_layout.proofs.BrokenLaws.{broken_int, broken_raw, broken_tuple}
-use Rattle.mr_wf.specs.Unbroken.{UnbrokenBlock, UnbrokenFunction, UnbrokenGlobal, UnbrokenProgram}
-use Rattle.mr_wf.specs.Blocks.{broken_in_stmt, goes_to}
-use Rattle.mr_wf.specs.Broken.{Surroundings, sizes_of, surroundings}
-use Rattle.mr_wf.specs.Walk.{is_target}
+use Rattle.mr_typing.specs.Unbroken.{UnbrokenBlock, UnbrokenFunction, UnbrokenGlobal, UnbrokenProgram}
+use Rattle.mr_typing.specs.Blocks.{broken_in_stmt, goes_to}
+use Rattle.mr_typing.specs.Broken.{Surroundings, sizes_of, surroundings}
+use Rattle.mr_typing.specs.Walk.{is_target}
 use Rattle.mr_gen.specs.Generated.{advance_block, begin_block, count_block, counter, counter_global, enter_block, exit_block, finish_block, handle, increment, join_block, last_stmts, local, lock_block, main_blocks, main_function, main_locals, print_block, program_with, round, spawn_block, test_block, u32_value, u64_value, unit, worker_blocks, worker_function, worker_locals}
 use Rattle.mr_gen.proofs.MainBlocks.{All-main_blocks, all_regular, goes_regular, length-main_blocks}
 use Rattle.mr_gen.proofs.UnbrokenParts.{SoundPlace, acquire_fits, join_fits, print_fits, release_fits, sound_counter, sound_int, sound_load, sound_local, unbroken_action, unbroken_assign, unbroken_increment, unbroken_lock, unbroken_spawn, unbroken_test}

@@ -1,6 +1,6 @@
 //! The program of a number.
 ghost use Rattle.std.specs.Prelude.{◌≡◌, ℕ, ◌∷◌, ◌++◌, [], IfOk, OnOk};
-ghost use Rattle.mr_wf.specs.Walk.{WellFormed};
+ghost use Rattle.mr_typing.specs.Walk.{WellFormed};
 ghost use Rattle.mr_gen.specs.Generated.{counter_global, generated, is_resetting, main_function, rounds_of, worker_function, workers_of};
 
 use crate::lists::one_item;

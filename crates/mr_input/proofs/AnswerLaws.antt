@@ -2,8 +2,8 @@
 use Rattle.std.proofs.Common.{◌≡◌, ap, ◌∙◌, sym, subst, List, [], ◌∷◌}
 use Rattle.std.specs.Prelude.{Some, Result, slice_get}
 use Rattle.mr_ast.specs.declared.program.Program.{Program}
-use Rattle.mr_wf.specs.declared.fault.FormFault.{FormFault}
-use Rattle.mr_wf.specs.Walk.{FirstBroken, WellFormed, faults_of}
+use Rattle.mr_typing.specs.declared.fault.FormFault.{FormFault}
+use Rattle.mr_typing.specs.Walk.{FirstBroken, WellFormed, faults_of}
 use Rattle.mr_input.specs.declared.written.Written.{Written}
 use Rattle.mr_input.specs.declared.refusal.Refusal.{Refusal}
 use Rattle.mr_input.specs.Answer.{Answer, form_answer, form_or, Tells}

@@ -5,7 +5,7 @@ use Rattle.mr_ast.specs.declared.program.BlockKind.TheVariants.{Regular}
 use Rattle.mr_ast.specs.declared.program.Function.{Function}
 use Rattle.mr_ast.specs.declared.program.Program.{Program}
 use Rattle.mr_ast.specs.declared.program.Term.TheVariants.{Exit}
-use Rattle.mr_wf.specs.declared.fault.Item.TheVariants.{Function as InFunction}
+use Rattle.mr_typing.specs.declared.fault.Item.TheVariants.{Function as InFunction}
 use Rattle.mr_report.specs.Report.{line}
 use Rattle.mr_input.specs.declared.refusal.Refusal.TheVariants.{Schedule, Text, Trace}
 use Rattle.mr_input.specs.Form.{form_line}

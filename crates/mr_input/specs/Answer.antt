@@ -1,7 +1,7 @@
 -- An answer: a text and a status; and when the result of a function tells it.
 use Rattle.std.specs.Prelude.{ℕ, List, [], ◌∷◌, Result, Ok, Err, ◌≡◌, ◌≤◌, ◌⊎◌}
 use Rattle.mr_ast.specs.declared.program.Program.{Program}
-use Rattle.mr_wf.specs.declared.fault.FormFault.{FormFault}
+use Rattle.mr_typing.specs.declared.fault.FormFault.{FormFault}
 use Rattle.mr_input.specs.declared.refusal.Refusal.{Refusal}
 use Rattle.mr_input.specs.declared.refusal.Refusal.TheVariants as refusal
 use Rattle.mr_input.specs.Form.{form_line}

@@ -6,9 +6,9 @@ use Rattle.mr_ast.specs.declared.program.Program.{Program}
 use Rattle.mr_ast.specs.Canon.{block_texts, function_texts, global_texts}
 use Rattle.mr_ast.specs.CanonValues.{text_at}
 use Rattle.mr_ast.specs.FormRules.{name_by_code}
-use Rattle.mr_wf.specs.declared.fault.FormFault.{FormFault}
-use Rattle.mr_wf.specs.declared.fault.Item.{Item}
-use Rattle.mr_wf.specs.declared.fault.Item.TheVariants.{Static, Function as InFunction}
+use Rattle.mr_typing.specs.declared.fault.FormFault.{FormFault}
+use Rattle.mr_typing.specs.declared.fault.Item.{Item}
+use Rattle.mr_typing.specs.declared.fault.Item.TheVariants.{Static, Function as InFunction}
 use Rattle.mr_report.specs.Report.{line}
 
 -- the name of the global or function at this position

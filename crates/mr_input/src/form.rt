@@ -8,7 +8,7 @@ ghost use Rattle.mr_input.specs.Inputs.{IsUnreadFault};
 use crate::refusal::{Refusal, push_number};
 use crate::written::Written;
 use mr_ast::{BlockName, FnName, GlobalName, Program, Rule};
-use mr_wf::{FormFault, Item};
+use mr_typing::{FormFault, Item};
 use std::alloc::{AllocError, Global};
 
 /// The line of a rule that a program breaks, and its status.

@@ -17,12 +17,12 @@ use Rattle.mr_value.specs.declared.val.Val.{Val}
 use Rattle.mr_value.specs.declared.val.Val.TheVariants as val
 use Rattle.mr_value.specs.Shape.{has_shape}
 use Rattle.mr_value.proofs.ShapeLaws.{shape_int, shape_raw}
-use Rattle.mr_wf.specs.Intrinsics.{fits_intrinsic, gives, gives_nothing, is_atomic}
-use Rattle.mr_wf.specs.Operands.{is_bool, is_int, is_integer, is_raw}
-use Rattle.mr_wf.specs.SameTypes.{same_type}
-use Rattle.mr_wf.specs.Types.{integer_of}
-use Rattle.mr_wf.proofs.KindLaws.{integer_is, raw_is}
-use Rattle.mr_wf.proofs.SameTypeLaws.{same_type_equal}
+use Rattle.mr_typing.specs.Intrinsics.{fits_intrinsic, gives, gives_nothing, is_atomic}
+use Rattle.mr_typing.specs.Operands.{is_bool, is_int, is_integer, is_raw}
+use Rattle.mr_typing.specs.SameTypes.{same_type}
+use Rattle.mr_typing.specs.Types.{integer_of}
+use Rattle.mr_typing.proofs.KindLaws.{integer_is, raw_is}
+use Rattle.mr_typing.proofs.SameTypeLaws.{same_type_equal}
 use Rattle.mr_eval.specs.Shapes.{HaveShapes}
 use Rattle.mr_intr.specs.Atomics.{IsFetch}
 use Rattle.mr_intr.specs.Effects.{Fits}

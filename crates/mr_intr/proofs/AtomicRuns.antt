@@ -48,7 +48,7 @@ use Rattle.mr_intr.specs.declared.effect.Effect.{Effect}
 use Rattle.mr_intr.proofs.Arguments.{TakesStore, atomic_load_takes, exchange_takes, fetch_takes, one_read, three_read, two_read}
 use Rattle.mr_intr.proofs.AtomicLaws.{same_bits}
 use Rattle.mr_intr.proofs.OperatedLaws.{asked, int_number, ptr_pointer, quiet}
-use Rattle.mr_wf.specs.Types.{integer_in}
+use Rattle.mr_typing.specs.Types.{integer_in}
 
 -- ---- faults that are handed on
 

@@ -20,7 +20,7 @@ use Rattle.mr_value.specs.declared.val.Val.{Val, out-Val}
 use Rattle.mr_value.specs.declared.val.Val.TheVariants as val
 use Rattle.mr_value.specs.Shape.{has_shape}
 use Rattle.mr_value.proofs.ShapeLaws.{has_int}
-use Rattle.mr_wf.specs.Operands.{is_int}
+use Rattle.mr_typing.specs.Operands.{is_int}
 use Rattle.mr_base.specs.Script.{Went, Broken, on, run}
 use Rattle.mr_sync.specs.Sound.{IsSoundTables}
 use Rattle.mr_sync.specs.Tables.{Tables, acquired, any_waits, awaiting, created, handed, holding, joined, names_waiter, on_lock, over, released, trying, waits}

@@ -11,10 +11,10 @@ use Rattle.mr_ast.specs.declared.types.Ty.TheVariants as ty
 use Rattle.mr_base.specs.declared.thread.Status.TheVariants.{Enabled}
 use Rattle.mr_layout.specs.Sizes.{size_of}
 use Rattle.mr_value.specs.declared.val.Val.{Val}
-use Rattle.mr_wf.specs.Intrinsics.{fits_intrinsic, gives, gives_nothing, is_atomic}
-use Rattle.mr_wf.specs.Operands.{is_bool, is_int, is_integer, is_raw, is_scalar_number}
-use Rattle.mr_wf.specs.SameTypes.{same_type}
-use Rattle.mr_wf.proofs.SameTypeLaws.{same_type_equal}
+use Rattle.mr_typing.specs.Intrinsics.{fits_intrinsic, gives, gives_nothing, is_atomic}
+use Rattle.mr_typing.specs.Operands.{is_bool, is_int, is_integer, is_raw, is_scalar_number}
+use Rattle.mr_typing.specs.SameTypes.{same_type}
+use Rattle.mr_typing.proofs.SameTypeLaws.{same_type_equal}
 use Rattle.mr_base.specs.Script.{run}
 use Rattle.mr_eval.specs.Shapes.{HaveShapes}
 use Rattle.mr_sync.specs.Sound.{IsSoundTables}

@@ -28,11 +28,11 @@ use Rattle.mr_value.specs.Numbers.{number_of}
 use Rattle.mr_value.specs.Shape.{has_shape}
 use Rattle.mr_value.proofs.DecodeShape.{number_fits}
 use Rattle.mr_value.proofs.ShapeLaws.{has_int, has_raw, shape_int}
-use Rattle.mr_wf.specs.Intrinsics.{gives, gives_nothing}
-use Rattle.mr_wf.specs.Operands.{is_bool, is_int, is_integer, is_raw, is_scalar_number}
-use Rattle.mr_wf.specs.Types.{integer_of, integer_in}
-use Rattle.mr_wf.proofs.KindLaws.{bool_is, integer_is}
-use Rattle.mr_wf.proofs.SameTypeLaws.{same_type_equal}
+use Rattle.mr_typing.specs.Intrinsics.{gives, gives_nothing}
+use Rattle.mr_typing.specs.Operands.{is_bool, is_int, is_integer, is_raw, is_scalar_number}
+use Rattle.mr_typing.specs.Types.{integer_of, integer_in}
+use Rattle.mr_typing.proofs.KindLaws.{bool_is, integer_is}
+use Rattle.mr_typing.proofs.SameTypeLaws.{same_type_equal}
 use Rattle.mr_base.specs.Script.{Done, Undefined, Ask, ◌>>=◌, run}
 use Rattle.mr_eval.specs.MemoryQueries.{Allocate, Free, MemoryScript, Modify, Write, reading_part}
 use Rattle.mr_eval.specs.Operators.{or_ill_formed, pointer_in}

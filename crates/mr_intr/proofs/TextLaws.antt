@@ -14,9 +14,9 @@ use Rattle.mr_value.specs.declared.val.Val.{Val, out-Val}
 use Rattle.mr_value.specs.declared.val.Val.TheOpen.{Val-F}
 use Rattle.mr_value.specs.Discriminants.{number_of_bits}
 use Rattle.mr_value.specs.Shape.{has_shape}
-use Rattle.mr_wf.specs.Intrinsics.{gives_nothing}
-use Rattle.mr_wf.specs.Operands.{is_scalar_number}
-use Rattle.mr_wf.specs.Types.{integer_of}
+use Rattle.mr_typing.specs.Intrinsics.{gives_nothing}
+use Rattle.mr_typing.specs.Operands.{is_scalar_number}
+use Rattle.mr_typing.specs.Types.{integer_of}
 use Rattle.mr_base.specs.Script.{Ask, Done, ◌>>=◌, run}
 use Rattle.mr_eval.proofs.ScalarLaws.{bool_value, int_value, scalar_bool, scalar_int}
 use Rattle.mr_eval.proofs.ShapeOf.{shapes_length}

@@ -11,7 +11,7 @@ use Rattle.mr_eval.specs.declared.fault.Fault.{Fault}
 use Rattle.mr_eval.specs.declared.fault.Fault.TheVariants as fault
 use Rattle.mr_value.specs.declared.val.Val.{Val}
 use Rattle.mr_value.specs.Shape.{has_shape}
-use Rattle.mr_wf.specs.Intrinsics.{fits_intrinsic}
+use Rattle.mr_typing.specs.Intrinsics.{fits_intrinsic}
 use Rattle.mr_base.specs.Script.{Outcome, Refused, Went, run, ◌>>=◌}
 use Rattle.mr_eval.specs.World.{tally_of}
 use Rattle.mr_eval.specs.declared.scene.Scene.{Scene}

@@ -28,7 +28,7 @@ use Rattle.mr_eval.specs.Typed.{meaningless}
 use Rattle.mr_plan.specs.Machine.{CreatesLock, CreatesNothing, Plan}
 use Rattle.mr_plan.specs.Queries.{Await, NewLock, OfMemory, Print, StepScript, TryLock, Unlock, Waiting, memory_part}
 use Rattle.mr_intr.specs.Texts.{spaced, texts_of}
-use Rattle.mr_wf.specs.Types.{integer_in}
+use Rattle.mr_typing.specs.Types.{integer_in}
 
 -- what an intrinsic comes to: a value, where it gives one
 abbrev pub Result : Type 0

@@ -6,7 +6,7 @@ ghost use Rattle.mr_eval.specs.declared.scene.Scene.{Scene};
 ghost use Rattle.mr_eval.specs.Shapes.{HaveShapes};
 ghost use Rattle.mr_sync.specs.Tables.{Tables};
 ghost use Rattle.mr_value.specs.Shape.{has_shape};
-ghost use Rattle.mr_wf.specs.Operands.{is_scalar_number};
+ghost use Rattle.mr_typing.specs.Operands.{is_scalar_number};
 ghost use Rattle.std.specs.List.{list_all};
 ghost use Rattle.mr_intr.specs.Effects.{Does, CanTake, Fits, begun, operated, FitsPlace};
 ghost use Rattle.mr_intr.specs.Printed.{text_in, texts_in};
@@ -19,7 +19,7 @@ use mr_ast::{Num, Ty};
 use mr_base::Reason;
 use mr_eval::{Fault, Scalar, scalar_of};
 use mr_value::Val;
-use mr_wf::Known;
+use mr_typing::Known;
 use std::alloc::AllocError;
 
 /// Nothing, where the argument is true.

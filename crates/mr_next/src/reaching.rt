@@ -7,7 +7,7 @@ use crate::culprits::culprit;
 use mr_run::{Nothing, RunFault, step};
 use mr_sched::{Entry, Schedule};
 use mr_step::{Machine, StepFault};
-use mr_wf::Checked;
+use mr_typing::Checked;
 use std::alloc::{AllocError, Global};
 
 /// Where a schedule leads: to its end, or up to the first entry that breaks a rule.

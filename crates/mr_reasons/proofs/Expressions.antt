@@ -41,7 +41,7 @@ use Rattle.mr_value.specs.Numbers.{Bytes, number_of}
 use Rattle.mr_value.specs.Shape.{has_shape}
 use Rattle.mr_ast.proofs.TreeInduction.{AllCases, TreeCases, tree_induction}
 use Rattle.mr_base.specs.Script.{Ask, Done, IllFormed, Undefined, ◌>>=◌}
-use Rattle.mr_eval.specs.WfTypes.{chained, type_of_place, type_of_value, variant_type}
+use Rattle.mr_eval.specs.TypingTypes.{chained, type_of_place, type_of_value, variant_type}
 use Rattle.mr_eval.specs.declared.kinds.Operator.{Operator}
 use Rattle.mr_eval.specs.declared.kinds.Operator.TheVariants.{Arith, Comparing, Moving, Overflowing, Shifting, Wrapping}
 use Rattle.mr_eval.specs.Evaluation.{Surround, as_variant, discriminant_at, discriminant_layer, element_at, elements_in, loaded, offset_in, place_script, stored, transmuted, union_layer, union_of, value_script, values_script}

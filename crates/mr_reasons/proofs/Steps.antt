@@ -31,7 +31,7 @@ use Rattle.mr_thread.specs.Steps.{Own, Turn, TurnPlan, do_step, finished, finish
 use Rattle.mr_reasons.proofs.Calm.{Anything, Calms, calms_then, memory_calms, reading_calms}
 use Rattle.mr_reasons.proofs.Expressions.{Reads, found_reads}
 use Rattle.mr_reasons.proofs.Frames.{Acts, PlanActs, enter_acts, finish_acts, frame_plans, operands_read}
-use Rattle.mr_eval.specs.WfTypes.{integer_in}
+use Rattle.mr_eval.specs.TypingTypes.{integer_in}
 
 -- a script of a step, or of a part of one
 abbrev Steps : {A : Type 0} → StepScript A → Type 0

@@ -1,4 +1,4 @@
-pub use Rattle.mr_eval.specs.WfWalk
+pub use Rattle.mr_eval.specs.TypingWalk
 pub use Rattle.mr_thread.specs.FrameFits
 pub use Rattle.mr_thread.specs.FrameFrames
 pub use Rattle.mr_thread.specs.PlanLegal

@@ -19,7 +19,7 @@ use mr_labels::{Allocation, Stand, ToldStep, push_rows};
 use mr_run::{Record, RunFault, step};
 use mr_sched::{Ask, Entry, Items, Schedule};
 use mr_step::{Machine, StepFault};
-use mr_wf::Checked;
+use mr_typing::Checked;
 use std::alloc::{AllocError, Global};
 
 // The fault of a start or a step, at its place.

@@ -11,7 +11,7 @@ use crate::fault::{RunFault, at_place};
 use crate::keeping::Record;
 use mr_sched::{Entry, Schedule};
 use mr_step::{Machine, StepFault};
-use mr_wf::Checked;
+use mr_typing::Checked;
 use std::alloc::Global;
 
 /// The run of a program under a schedule: the machine behind its last entry, and in `kept` what is kept of its steps;

@@ -44,7 +44,7 @@ use Rattle.mr_frame.specs.Operations as operations
 use Rattle.mr_frame.specs.Operations.{do_at}
 use Rattle.std.specs.Prelude.{◌++◌, if◌then◌else◌}
 use Rattle.mr_ast.specs.declared.rule.Rule.{Rule}
-use Rattle.mr_wf.specs.Broken.{Rules}
+use Rattle.mr_typing.specs.Broken.{Rules}
 use Rattle.mr_frame.specs.Sites.{Site, none_broken, site_of}
 use Rattle.mr_frame.specs.Steps.{FramePlan, plan_at}
 use Rattle.mr_frame.specs.Sites as sites

@@ -27,15 +27,15 @@ use Rattle.mr_ast.specs.declared.program.Stmt.{Stmt}
 use Rattle.mr_ast.specs.declared.program.Stmt.TheVariants as stmt
 use Rattle.mr_ast.specs.declared.program.Term.{Term}
 use Rattle.mr_ast.specs.declared.program.Term.TheVariants as term
-use Rattle.mr_wf.specs.Blocks.{broken_in_parts, fits_switch_layer}
-use Rattle.mr_wf.specs.Broken.{Rules, Surroundings, broken_in_place, broken_in_value, rule, surroundings, where_all_typed, where_both_typed, where_typed}
-use Rattle.mr_wf.specs.Intrinsics.{fits_intrinsic, gives_nothing}
-use Rattle.mr_wf.specs.Operands.{fits_binary, is_bool_layer, is_fn_ptr, is_fn_ptr_layer, is_int, is_integer, is_raw, is_raw_layer, is_scalar_number}
-use Rattle.mr_wf.specs.SameTypes.{same_type}
-use Rattle.mr_wf.specs.Types.{element_type, integer_in}
-use Rattle.mr_wf.proofs.BrokenInLaws.{broken_in_binary, broken_in_cast, broken_in_index, broken_in_int, broken_in_load}
-use Rattle.mr_wf.proofs.KnownLaws.{int_told, int_untold}
-use Rattle.mr_wf.proofs.TypeLaws.{type_of_deref, type_of_fn, type_of_int, type_of_raw}
+use Rattle.mr_typing.specs.Blocks.{broken_in_parts, fits_switch_layer}
+use Rattle.mr_typing.specs.Broken.{Rules, Surroundings, broken_in_place, broken_in_value, rule, surroundings, where_all_typed, where_both_typed, where_typed}
+use Rattle.mr_typing.specs.Intrinsics.{fits_intrinsic, gives_nothing}
+use Rattle.mr_typing.specs.Operands.{fits_binary, is_bool_layer, is_fn_ptr, is_fn_ptr_layer, is_int, is_integer, is_raw, is_raw_layer, is_scalar_number}
+use Rattle.mr_typing.specs.SameTypes.{same_type}
+use Rattle.mr_typing.specs.Types.{element_type, integer_in}
+use Rattle.mr_typing.proofs.BrokenInLaws.{broken_in_binary, broken_in_cast, broken_in_index, broken_in_int, broken_in_load}
+use Rattle.mr_typing.proofs.KnownLaws.{int_told, int_untold}
+use Rattle.mr_typing.proofs.TypeLaws.{type_of_deref, type_of_fn, type_of_int, type_of_raw}
 use Rattle.mr_base.specs.Script.{Done, IllFormed, run, ◌>>=◌}
 use Rattle.mr_plan.specs.Machine.{Bare, settled, thread_of}
 use Rattle.mr_plan.specs.Notes.{start_notes}

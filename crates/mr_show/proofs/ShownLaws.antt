@@ -8,8 +8,8 @@ use Rattle.mr_lex.specs.declared.token.TextFault.{TextFault}
 use Rattle.mr_grammar.specs.Faults.{OfTokens}
 use Rattle.mr_grammar.specs.Parsing.{parsed}
 use Rattle.mr_grammar.proofs.ParsingLaws.{fault_parsed}
-use Rattle.mr_wf.specs.declared.fault.FormFault.{FormFault}
-use Rattle.mr_wf.specs.Walk.{WellFormed}
+use Rattle.mr_typing.specs.declared.fault.FormFault.{FormFault}
+use Rattle.mr_typing.specs.Walk.{WellFormed}
 use Rattle.mr_event.specs.Footprint.{Footprint}
 use Rattle.mr_sched.specs.declared.schedule.Schedule.{Schedule}
 use Rattle.mr_sched.specs.declared.version.Version.{Version}

@@ -12,8 +12,8 @@ use Rattle.mr_sched.specs.declared.version.Version.{Version}
 use Rattle.mr_plan.specs.Legal.{Fault}
 use Rattle.mr_start.specs.Runs.{PlacedFault, schedule_fault}
 use Rattle.mr_start.specs.Start.{start_fault}
-use Rattle.mr_wf.specs.declared.fault.FormFault.{FormFault}
-use Rattle.mr_wf.specs.Walk.{faults_of}
+use Rattle.mr_typing.specs.declared.fault.FormFault.{FormFault}
+use Rattle.mr_typing.specs.Walk.{faults_of}
 use Rattle.mr_input.specs.Answer.{Answer, form_or, told}
 use Rattle.mr_input.specs.Inputs.{AsksForSchedule, denoted, spelled}
 use Rattle.mr_input.proofs.RefusedLaws.{written_status}

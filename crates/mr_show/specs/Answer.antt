@@ -8,7 +8,7 @@ use Rattle.mr_sched.specs.declared.version.Read.{Read}
 use Rattle.mr_sched.specs.declared.version.Version.{Version}
 use Rattle.mr_start.specs.Runs.{run_of, schedule_fault, steps_of}
 use Rattle.mr_start.specs.Start.{ask_of, pieces}
-use Rattle.mr_wf.specs.Walk.{faults_of}
+use Rattle.mr_typing.specs.Walk.{faults_of}
 use Rattle.mr_report.specs.Report.{line}
 use Rattle.mr_input.specs.declared.refusal.Refusal.TheVariants as refusal
 use Rattle.mr_input.specs.Answer.{Answer, form_or, refused, told}

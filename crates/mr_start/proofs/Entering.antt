@@ -17,7 +17,7 @@ use Rattle.mr_mem.specs.Memory.{Allocation, Memory, Ranges, allocated, range_fau
 use Rattle.mr_sched.specs.declared.schedule.Ask.TheVariants.{Address}
 use Rattle.mr_base.specs.Script.{Outcome, Went, on}
 use Rattle.mr_base.proofs.ScriptSwaps.{same_state, same_value}
-use Rattle.mr_wf.specs.Walk.{WellFormed}
+use Rattle.mr_typing.specs.Walk.{WellFormed}
 use Rattle.mr_eval.specs.MemoryQueries.{pointer_to}
 use Rattle.mr_eval.specs.Tally.{start_tally}
 use Rattle.mr_eval.specs.World.{World}

@@ -20,7 +20,7 @@ use Rattle.mr_frame.proofs.PlanRangeChecks.{Gave, empty, filled, aligned_passes,
 use Rattle.mr_frame.proofs.PlanStoreLaws.{put_one, rewritten, rewritten_size, stored_in, written_is}
 use Rattle.mr_start.specs.Pieces.{HasRange}
 use Rattle.mr_start.specs.Start.{behind_store, global_bytes, item_bytes}
-use Rattle.mr_wf.specs.Broken.{item_size}
+use Rattle.mr_typing.specs.Broken.{item_size}
 use Rattle.mr_start.proofs.StartStores.{length_item}
 
 -- ---- lists

@@ -22,10 +22,10 @@ use Rattle.mr_layout.specs.Rules.{is_align}
 use Rattle.mr_layout.specs.TypeOk.{TypeOk}
 use Rattle.mr_layout.proofs.Bounds.{type_ok_small}
 use Rattle.mr_mem.specs.Memory.{Memory, Ranges, allocated, range_fault, with_range}
-use Rattle.mr_wf.specs.Broken.{items_size}
-use Rattle.mr_wf.specs.Unbroken.{UnbrokenFunction, UnbrokenGlobal}
-use Rattle.mr_wf.specs.Walk.{WellFormed}
-use Rattle.mr_wf.proofs.UnbrokenLaws.{well_formed_keeps}
+use Rattle.mr_typing.specs.Broken.{items_size}
+use Rattle.mr_typing.specs.Unbroken.{UnbrokenFunction, UnbrokenGlobal}
+use Rattle.mr_typing.specs.Walk.{WellFormed}
+use Rattle.mr_typing.proofs.UnbrokenLaws.{well_formed_keeps}
 use Rattle.mr_start.specs.Begin.{HaveRoom, IsPossible}
 use Rattle.mr_frame.specs.Fits.{FitsFrame}
 use Rattle.mr_frame.specs.Sites.{has_storage}

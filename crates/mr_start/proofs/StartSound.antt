@@ -10,7 +10,7 @@ use Rattle.mr_ast.specs.declared.program.Local.{Local}
 use Rattle.mr_ast.specs.declared.program.Program.{Program}
 use Rattle.mr_mem.specs.Memory.{Memory}
 use Rattle.mr_layout.specs.Sizes.{align_of, size_of}
-use Rattle.mr_wf.specs.Walk.{WellFormed}
+use Rattle.mr_typing.specs.Walk.{WellFormed}
 use Rattle.mr_sched.specs.declared.schedule.Schedule.{Schedule}
 use Rattle.mr_sync.proofs.SoundTables.{stay_sound}
 use Rattle.mr_frame.specs.PlanMachine.{State, Thread, thread_of}

@@ -21,7 +21,7 @@ use Rattle.mr_mem.specs.declared.fault.PickFault.TheVariants.{BadAddress, Reused
 use Rattle.mr_mem.proofs.Identities.{get_here, get_there}
 use Rattle.mr_value.specs.Numbers.{Bytes}
 use Rattle.mr_value.proofs.EncodeLength.{length-initialised}
-use Rattle.mr_wf.specs.Broken.{item_size, items_size}
+use Rattle.mr_typing.specs.Broken.{item_size, items_size}
 use Rattle.mr_eval.specs.Moves.{behind}
 use Rattle.mr_frame.specs.PlanLegal.{address_fault, picks_fault}
 use Rattle.mr_start.proofs.Overlaps.{id_of}

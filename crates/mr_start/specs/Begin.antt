@@ -10,7 +10,7 @@ use Rattle.mr_base.specs.declared.reason.Verdict.TheVariants.{Running}
 use Rattle.mr_base.specs.declared.thread.Status.TheVariants.{Enabled}
 use Rattle.mr_layout.specs.Cached.{IsCacheOf}
 use Rattle.mr_mem.specs.Memory.{IsAsked, IsPowerOfTwo, Memory, ranges_of}
-use Rattle.mr_wf.specs.Broken.{items_size}
+use Rattle.mr_typing.specs.Broken.{items_size}
 use Rattle.mr_frame.specs.PlanLegal.{Fault, picks_fault}
 use Rattle.mr_frame.specs.PlanMachine.{thread_of}
 use Rattle.mr_frame.specs.PlanRuns.{Config}

@@ -20,5 +20,5 @@ pub use Rattle.mr_thread.specs.IntrOperations
 pub use Rattle.mr_thread.specs.IntrTexts
 pub use Rattle.mr_thread.specs.SoundState as ThreadSoundState
 pub use Rattle.mr_thread.specs.Steps as ThreadSteps
-pub use Rattle.mr_wf.specs.Types as WfTypes
-pub use Rattle.mr_wf.specs.Walk as WfWalk
+pub use Rattle.mr_typing.specs.Types as TypingTypes
+pub use Rattle.mr_typing.specs.Walk as TypingWalk

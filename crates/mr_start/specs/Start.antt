@@ -23,7 +23,7 @@ use Rattle.mr_layout.specs.Sizes.{size_of, align_of}
 use Rattle.mr_mem.specs.Memory.{Memory, allocated, written}
 use Rattle.mr_value.specs.Encode.{blank}
 use Rattle.mr_value.specs.Numbers.{Bytes, pointer_bytes}
-use Rattle.mr_wf.specs.Broken.{items_size}
+use Rattle.mr_typing.specs.Broken.{items_size}
 use Rattle.mr_eval.specs.Moves.{behind}
 use Rattle.mr_sched.specs.declared.schedule.Ask.{Ask}
 use Rattle.mr_sched.specs.declared.schedule.Ask.TheVariants.{Address}

@@ -16,7 +16,7 @@ use mr_layout::Cache;
 use mr_mem::Memory;
 use mr_sched::Ask;
 use mr_sync::SyncTable;
-use mr_wf::Checked;
+use mr_typing::Checked;
 use std::alloc::{AllocError, AllocFailed, Global};
 
 /// Why a start is refused.
@@ -129,7 +129,7 @@ fn enter_main(
 }
 
 // The start behind the allocations of functions and globals: the main function's frame, and then the bytes of the globals.
-#[tactic(auto, using(mr_wf::proofs::WrittenOk::written_ok))]
+#[tactic(auto, using(mr_typing::proofs::WrittenOk::written_ok))]
 fn started<'p>(
     alloc: Global,
     p: &'p Checked,

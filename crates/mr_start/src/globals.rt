@@ -5,7 +5,7 @@ ghost use Rattle.mr_eval.specs.Moves.{behind};
 ghost use Rattle.mr_value.specs.Numbers.{pointer_bytes};
 ghost use Rattle.mr_mem.specs.Memory.{Memory as MemoryOf, is_multiple, written};
 ghost use Rattle.mr_mem.specs.Stored.{IsStored};
-ghost use Rattle.mr_wf.specs.Broken.{item_size, items_size};
+ghost use Rattle.mr_typing.specs.Broken.{item_size, items_size};
 ghost use Rattle.mr_start.specs.Pieces.{HasRange};
 ghost use Rattle.mr_start.specs.Start.{behind_store, filled, global_bytes, item_bytes, target_of};
 
@@ -14,7 +14,7 @@ use mr_base::{AbstractByte, Pointer};
 use mr_eval::{Fault, behind};
 use mr_mem::Memory;
 use mr_value::{Val, encode};
-use mr_wf::items_size;
+use mr_typing::items_size;
 use std::alloc::{AllocError, Global};
 
 // Appends a byte, so often.

@@ -2,8 +2,8 @@
 ghost use Rattle.std.specs.Prelude.{◌≡◌, ◌<◌, ◌≤◌, ◌^◌, ◌++◌, ◌∷◌, [], IfOk, OnOk, length, map, slice_get, Some};
 ghost use Rattle.mr_ast.specs.declared.program.Function.{Function};
 ghost use Rattle.mr_layout.specs.TypeOk.{TypeOk};
-ghost use Rattle.mr_wf.specs.Broken.{items_size};
-ghost use Rattle.mr_wf.specs.Walk.{WellFormed};
+ghost use Rattle.mr_typing.specs.Broken.{items_size};
+ghost use Rattle.mr_typing.specs.Walk.{WellFormed};
 ghost use Rattle.mr_start.specs.Begin.{HaveRoom, piece_of};
 ghost use Rattle.mr_start.specs.Start.{function_piece, global_piece, local_piece, pieces};
 
@@ -11,7 +11,7 @@ use crate::types::byte_size;
 use mr_ast::{FnName, Function, Global_, Local, LocalName, Program};
 use mr_base::Kind;
 use mr_layout::align;
-use mr_wf::items_size;
+use mr_typing::items_size;
 use std::alloc::{AllocError, Global};
 
 /// One allocation of the start.

@@ -1,7 +1,7 @@
 -- What a start keeps.
 use Rattle.std.proofs.Common.{◌≡◌, ℕ, sym, ap, ◌∙◌, subst, List, length, None}
 use Rattle.mr_ast.specs.declared.program.Program.{Program}
-use Rattle.mr_wf.specs.Walk.{WellFormed}
+use Rattle.mr_typing.specs.Walk.{WellFormed}
 use Rattle.mr_plan.specs.Limits.{AreWithin}
 use Rattle.mr_plan.specs.Runs.{Config}
 use Rattle.mr_frame.specs.Frames.{Look}

@@ -2,7 +2,7 @@
 use Rattle.std.specs.Prelude.{◌≡◌, ℕ, suc, Bool, false, List, [], ◌∷◌, length, map, Option, None, Some, if◌then◌else◌}
 use Rattle.mr_ast.specs.declared.program.Program.{Program}
 use Rattle.mr_layout.specs.Cached.{IsCacheOf}
-use Rattle.mr_wf.specs.Walk.{WellFormed}
+use Rattle.mr_typing.specs.Walk.{WellFormed}
 use Rattle.mr_plan.specs.Limits.{AreWithin}
 use Rattle.mr_plan.specs.Machine.{State, Thread, thread_of}
 use Rattle.mr_plan.specs.Runs.{Config, Printed, printed_by}

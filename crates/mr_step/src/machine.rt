@@ -12,7 +12,7 @@ use mr_frame::{At, Look, Stack};
 use mr_mem::Memory;
 use mr_sched::{Ask, Entry};
 use mr_start::{Start, begin};
-use mr_wf::Checked;
+use mr_typing::Checked;
 use std::alloc::{AllocError, Global};
 use std::marker::Model;
 

@@ -2,7 +2,7 @@
 use mr_base::Pointer;
 use mr_frame::Look;
 use mr_layout::Cache;
-use mr_wf::Checked;
+use mr_typing::Checked;
 
 /// What each step looks up: the program, the pointers to its functions and globals, and the layouts of its types.
 #[derive(Drop)]

@@ -5,7 +5,7 @@ use Rattle.std.specs.Prelude.{slice_get}
 use Rattle.mr_ast.specs.declared.program.Program.{Program}
 use Rattle.mr_base.specs.declared.thread.Status.{Status}
 use Rattle.mr_base.specs.declared.thread.Status.TheVariants.{Enabled, Ended, OnJoin, OnLock}
-use Rattle.mr_frame.specs.WfWalk.{WellFormed}
+use Rattle.mr_frame.specs.TypingWalk.{WellFormed}
 use Rattle.mr_base.specs.Script.{Outcome, Went, Refused, Broken, on, run}
 use Rattle.mr_base.proofs.ScriptRuns.{run_bind}
 use Rattle.mr_frame.specs.EvalTally.{start_tally}

@@ -23,10 +23,10 @@ use Rattle.mr_value.specs.declared.val.Val.{Val, out-Val}
 use Rattle.mr_value.specs.declared.val.Val.TheVariants as val
 use Rattle.mr_value.specs.Shape.{has_shape}
 use Rattle.mr_value.proofs.ShapeLaws.{has_int, has_raw, shape_fn_ptr}
-use Rattle.mr_frame.specs.WfIntrinsics.{fits_intrinsic, gives}
-use Rattle.mr_frame.specs.WfOperands.{is_fn_ptr, is_raw}
-use Rattle.mr_frame.specs.WfWalk.{WellFormed}
-use Rattle.mr_frame.proofs.WfKindLaws.{fn_ptr_is, raw_is}
+use Rattle.mr_frame.specs.TypingIntrinsics.{fits_intrinsic, gives}
+use Rattle.mr_frame.specs.TypingOperands.{is_fn_ptr, is_raw}
+use Rattle.mr_frame.specs.TypingWalk.{WellFormed}
+use Rattle.mr_frame.proofs.TypingKindLaws.{fn_ptr_is, raw_is}
 use Rattle.mr_base.specs.Script.{Done, Undefined, on, run}
 use Rattle.mr_frame.specs.EvalTally.{start_tally}
 use Rattle.mr_frame.specs.EvalShapes.{HaveShapes}

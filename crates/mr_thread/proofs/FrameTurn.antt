@@ -8,7 +8,7 @@ use Rattle.std.specs.Option.{option_map}
 use Rattle.mr_ast.specs.declared.program.Program.{Program}
 use Rattle.mr_base.specs.declared.thread.Status.{Status}
 use Rattle.mr_base.specs.declared.thread.Status.TheVariants.{Enabled, Ended, OnJoin, OnLock}
-use Rattle.mr_frame.specs.WfWalk.{WellFormed}
+use Rattle.mr_frame.specs.TypingWalk.{WellFormed}
 use Rattle.mr_base.specs.Script.{Done, Undefined, IllFormed, Ask, Went, Broken, on, run}
 use Rattle.mr_frame.specs.EvalMemoryQueries.{MemoryScript}
 use Rattle.mr_frame.specs.EvalReads.{ReadScript}

@@ -4,7 +4,7 @@ use Rattle.std.proofs.lemmas.Option.{same_Some}
 use Rattle.std.specs.Prelude.{if◌then◌else◌}
 use Rattle.mr_ast.specs.declared.program.Program.{Program}
 use Rattle.mr_sched.specs.declared.schedule.Entry.{Entry}
-use Rattle.mr_frame.specs.WfWalk.{WellFormed}
+use Rattle.mr_frame.specs.TypingWalk.{WellFormed}
 use Rattle.mr_frame.specs.PlanLegal.{Fault, fault, state_fault}
 use Rattle.mr_frame.specs.PlanMachine.{Bare, Completed, IllFormedStep, Language, State, Stops, bare}
 use Rattle.mr_frame.specs.PlanRuns.{AreLegal, Config, NeverIllFormed, after_bare, entry_fault, fault_in, has_rule, is_ill_formed, is_running, machine_step, stepped_from}

@@ -20,7 +20,7 @@ use Rattle.mr_value.proofs.ShapeLaws.{has_raw}
 use Rattle.mr_frame.proofs.DoSafe.{ValueFits, do_stands, operands_safe}
 use Rattle.mr_frame.specs.Operations.{DueDo, Operands, OperandsFit, next_do, operands}
 use Rattle.mr_intr.proofs.OperationSafe.{result_is}
-use Rattle.mr_wf.specs.Intrinsics.{fits_intrinsic, is_print}
+use Rattle.mr_typing.specs.Intrinsics.{fits_intrinsic, is_print}
 use Rattle.mr_base.specs.Script.{Done, Undefined, ◌>>=◌, Outcome, Went, Refused, on, run}
 use Rattle.mr_base.proofs.ScriptRuns.{run_bind}
 use Rattle.mr_sync.specs.Tables.{Tables}

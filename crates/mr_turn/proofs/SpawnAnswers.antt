@@ -22,9 +22,9 @@ use Rattle.mr_value.specs.declared.val.Val.{Val, out-Val}
 use Rattle.mr_value.specs.declared.val.Val.TheVariants as val
 use Rattle.mr_value.specs.Shape.{has_shape}
 use Rattle.mr_value.proofs.ShapeLaws.{has_int, shape_fn_ptr}
-use Rattle.mr_wf.specs.Intrinsics.{fits_intrinsic, gives}
-use Rattle.mr_wf.specs.Operands.{is_fn_ptr, is_raw}
-use Rattle.mr_wf.proofs.KindLaws.{fn_ptr_is, raw_is}
+use Rattle.mr_typing.specs.Intrinsics.{fits_intrinsic, gives}
+use Rattle.mr_typing.specs.Operands.{is_fn_ptr, is_raw}
+use Rattle.mr_typing.proofs.KindLaws.{fn_ptr_is, raw_is}
 use Rattle.mr_base.specs.Script.{Went, Refused, on, run}
 use Rattle.mr_sync.specs.Tables.{Tables, spawned}
 use Rattle.mr_eval.specs.Shapes.{HaveShapes}

@@ -7,7 +7,7 @@ use Rattle.std.specs.Option.{option_map}
 use Rattle.mr_ast.specs.declared.program.Function.{Function}
 use Rattle.mr_ast.specs.declared.types.Ty.{Ty}
 use Rattle.mr_ast.specs.declared.types.Ty.TheVariants as ty
-use Rattle.mr_wf.specs.SameTypes.{same_type}
+use Rattle.mr_typing.specs.SameTypes.{same_type}
 use Rattle.mr_frame.specs.Calls.{all_there, both_there, kept_types, local_type, same_types}
 use Rattle.mr_start.specs.ThreadSteps.{thread_types, unit}
 

@@ -15,7 +15,7 @@ use Rattle.mr_value.specs.declared.val.Val.TheVariants as val
 use Rattle.mr_value.specs.Shape.{has_shape}
 use Rattle.mr_frame.specs.PlanLegal.{Fault, creation_fault, else_fault, picks_fault}
 use Rattle.mr_frame.specs.Calls.{callee_of, kept_types, same_types, storage_asks}
-use Rattle.mr_wf.specs.Intrinsics.{is_print}
+use Rattle.mr_typing.specs.Intrinsics.{is_print}
 use Rattle.mr_intr.specs.Effects.{listed}
 use Rattle.mr_intr.specs.Needs.{asks_of, creation_of}
 use Rattle.mr_intr.specs.declared.need.Needs.{Needs}

@@ -20,7 +20,7 @@ use mr_intr::Creation;
 use mr_sched::Ask;
 use mr_sync::SyncTable;
 use mr_value::Val;
-use mr_wf::Known;
+use mr_typing::Known;
 use sqlite_items::{Boxed, Items};
 use std::alloc::Global;
 

@@ -19,7 +19,7 @@ use Rattle.mr_order.proofs.First.{none_predicted}
 use Rattle.mr_order.proofs.Rearranged.{none_in_rearranged, none_reported, rearranged_runs}
 use Rattle.mr_sched.specs.declared.schedule.Entry.{Entry}
 use Rattle.mr_sched.specs.declared.schedule.Schedule.{Schedule}
-use Rattle.mr_reasons.specs.WfWalk.{WellFormed}
+use Rattle.mr_reasons.specs.TypingWalk.{WellFormed}
 use Rattle.mr_reasons.specs.PlanMachine.{Language, State}
 use Rattle.mr_reasons.specs.PlanRuns.{AreLegal, Config, after, feet, machine_step}
 use Rattle.mr_reasons.specs.FrameFits.{IsLook}

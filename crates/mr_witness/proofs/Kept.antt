@@ -11,7 +11,7 @@ use Rattle.mr_order.specs.Trace.{IsFirstPair}
 use Rattle.mr_order.proofs.Choices.{kept_selects}
 use Rattle.mr_order.proofs.First.{first_of_predicted}
 use Rattle.mr_sched.specs.declared.schedule.Schedule.{Schedule}
-use Rattle.mr_reasons.specs.WfWalk.{WellFormed}
+use Rattle.mr_reasons.specs.TypingWalk.{WellFormed}
 use Rattle.mr_reasons.specs.PlanMachine.{State}
 use Rattle.mr_reasons.specs.ThreadSoundState.{SoundState}
 use Rattle.mr_reasons.specs.ThreadSteps.{Own, thread_step}

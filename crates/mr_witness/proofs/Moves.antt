@@ -8,7 +8,7 @@ use Rattle.mr_event.specs.Order.{step_at, thread_at}
 use Rattle.mr_order.specs.Trace.{AreIndependent, Machine, Runs}
 use Rattle.mr_order.proofs.Lists.{Each}
 use Rattle.mr_sched.specs.declared.schedule.Entry.{Entry}
-use Rattle.mr_reasons.specs.WfWalk.{WellFormed}
+use Rattle.mr_reasons.specs.TypingWalk.{WellFormed}
 use Rattle.mr_reasons.specs.PlanLegal.{state_fault}
 use Rattle.mr_reasons.specs.PlanMachine.{Completed, Language, State, bare}
 use Rattle.mr_reasons.specs.PlanNotes.{Notes}

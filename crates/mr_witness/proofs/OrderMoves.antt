@@ -10,7 +10,7 @@ use Rattle.mr_event.specs.Footprints.{depends, wakes}
 use Rattle.mr_event.specs.Order.{step_at, thread_at}
 use Rattle.mr_order.specs.Trace.{AreIndependent, Machine}
 use Rattle.mr_sched.specs.declared.schedule.Entry.{Entry}
-use Rattle.mr_reasons.specs.WfWalk.{WellFormed}
+use Rattle.mr_reasons.specs.TypingWalk.{WellFormed}
 use Rattle.mr_reasons.specs.PlanLegal.{state_fault}
 use Rattle.mr_reasons.specs.PlanMachine.{Completed, State, bare}
 use Rattle.mr_reasons.specs.PlanRuns.{Printed, foot_in, printed_by}

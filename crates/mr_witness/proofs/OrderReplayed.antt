@@ -9,7 +9,7 @@ use Rattle.mr_event.specs.Order.{step_at}
 use Rattle.mr_order.specs.Trace.{Runs}
 use Rattle.mr_sched.specs.declared.schedule.Entry.{Entry}
 use Rattle.mr_sync.specs.Tables.{is_any_enabled}
-use Rattle.mr_reasons.specs.WfWalk.{WellFormed}
+use Rattle.mr_reasons.specs.TypingWalk.{WellFormed}
 use Rattle.mr_reasons.specs.PlanMachine.{Bare, Completed, IllFormedStep, State, Stops, bare}
 use Rattle.mr_reasons.specs.PlanQueries.{tables_of}
 use Rattle.mr_reasons.specs.PlanRuns.{AreLegal, Config, Printed, after, after_bare, entry_fault, feet, foot_in, foot_of_bare, machine_step, races_with, verdict_after}

@@ -7,7 +7,7 @@ use Rattle.mr_event.specs.Footprint.{Footprint}
 use Rattle.mr_event.specs.Order.{no_step, step_at}
 use Rattle.mr_order.specs.Trace.{Runs}
 use Rattle.mr_sched.specs.declared.schedule.Entry.{Entry}
-use Rattle.mr_reasons.specs.WfWalk.{WellFormed}
+use Rattle.mr_reasons.specs.TypingWalk.{WellFormed}
 use Rattle.mr_reasons.specs.PlanLegal.{fault, state_fault}
 use Rattle.mr_reasons.specs.PlanMachine.{Bare, Completed, IllFormedStep, Language, State, Stops, bare}
 use Rattle.mr_reasons.specs.PlanRuns.{AreLegal, Config, Printed, after_bare, entry_fault, fault_in, feet, foot_of_bare, is_running, machine_step}

@@ -7,7 +7,7 @@ use Rattle.mr_event.specs.Footprint.{Footprint}
 use Rattle.mr_event.specs.Order.{no_step, step_at}
 use Rattle.mr_order.specs.Trace.{Runs}
 use Rattle.mr_sched.specs.declared.schedule.Entry.{Entry}
-use Rattle.mr_reasons.specs.WfWalk.{WellFormed}
+use Rattle.mr_reasons.specs.TypingWalk.{WellFormed}
 use Rattle.mr_reasons.specs.PlanLegal.{state_fault}
 use Rattle.mr_reasons.specs.PlanMachine.{Bare, Completed, IllFormedStep, State, Stops, bare}
 use Rattle.mr_reasons.specs.PlanRuns.{AreLegal, Printed, after_bare, feet, foot_of_bare, machine_step, printed_by}

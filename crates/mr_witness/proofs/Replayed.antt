@@ -15,7 +15,7 @@ use Rattle.mr_order.specs.Shown.{AreAdjacent, NextIs}
 use Rattle.mr_order.specs.Trace.{IsReported, Runs}
 use Rattle.mr_sched.specs.declared.schedule.Entry.{Entry}
 use Rattle.mr_sync.specs.Tables.{is_any_enabled, is_enabled}
-use Rattle.mr_reasons.specs.WfWalk.{WellFormed}
+use Rattle.mr_reasons.specs.TypingWalk.{WellFormed}
 use Rattle.mr_reasons.specs.PlanLegal.{state_fault, status_fault}
 use Rattle.mr_reasons.specs.PlanMachine.{Bare, Language, State, bare}
 use Rattle.mr_reasons.specs.PlanQueries.{tables_of}

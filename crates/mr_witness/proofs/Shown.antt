@@ -13,7 +13,7 @@ use Rattle.mr_order.specs.Trace.{IsFirstPair, Runs, Selects}
 use Rattle.mr_order.proofs.Lists.{Each, Each-weaker, filter-agree, range_with_len-parts}
 use Rattle.mr_order.proofs.Witness.{selected_is_shown}
 use Rattle.mr_sched.specs.declared.schedule.Entry.{Entry}
-use Rattle.mr_reasons.specs.WfWalk.{WellFormed}
+use Rattle.mr_reasons.specs.TypingWalk.{WellFormed}
 use Rattle.mr_reasons.specs.PlanMachine.{Bare, Completed, State, bare}
 use Rattle.mr_reasons.specs.PlanRuns.{AreLegal, Config, Printed, after, entry_fault, feet, foot_of_bare, machine_step}
 use Rattle.mr_reasons.specs.FrameFits.{IsLook}

@@ -6,7 +6,7 @@ use Rattle.mr_event.specs.Order.{step_at}
 use Rattle.mr_order.specs.Trace.{IsFirstPair}
 use Rattle.mr_order.proofs.Choices.{short_selects}
 use Rattle.mr_sched.specs.declared.schedule.Schedule.{Schedule}
-use Rattle.mr_reasons.specs.WfWalk.{WellFormed}
+use Rattle.mr_reasons.specs.TypingWalk.{WellFormed}
 use Rattle.mr_exchange.specs.StartRuns.{Legal, run_of, steps_of}
 use Rattle.mr_exchange.specs.StartStart.{look_of, start_config}
 use Rattle.mr_exchange.proofs.StartStartSound.{start_look, start_sound}

@@ -44,7 +44,7 @@ use Rattle.mr_step.specs.ThreadSteps.{Own, Turn, TurnPlan, do_step, finished, fi
 use Rattle.mr_report.specs.Json.{is_printed}
 use Rattle.mr_report.proofs.PlainLaws.{decimal_passes}
 use Rattle.mr_run.proofs.Printing.Prints.{Anything, IsPlain, Prints, memory_prints, prints_then, reads_print}
-use Rattle.mr_wf.specs.Types.{integer_in}
+use Rattle.mr_typing.specs.Types.{integer_in}
 
 -- ---- texts
 

@@ -3,9 +3,9 @@ use Rattle.mr_base.specs.Script.{Went}
 use Rattle.mr_eval.specs.Answers.{surround_of, seen}
 use Rattle.mr_eval.specs.Evaluated.{each_valued, valued}
 use Rattle.mr_eval.specs.Sound.{SoundPlace, SoundValue}
-use Rattle.mr_wf.specs.Known.{ty_of}
+use Rattle.mr_typing.specs.Known.{ty_of}
 use Rattle.std.specs.Option.{is_some}
-use Rattle.mr_wf.specs.Types.{result_type, type_of_place}
+use Rattle.mr_typing.specs.Types.{result_type, type_of_place}
 use Rattle.mr_ast.specs.declared.expr.Place.{Place}
 use Rattle.mr_ast.specs.declared.expr.Value.{Value}
 use Rattle.mr_ast.specs.declared.expr.Place.TheVariants as place

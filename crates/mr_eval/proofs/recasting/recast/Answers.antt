@@ -4,7 +4,7 @@ use Rattle.mr_value.specs.Decode.{decoded}
 use Rattle.mr_value.specs.Encode.{encoding_of}
 use Rattle.mr_value.specs.Numbers.{Bytes}
 use Rattle.mr_value.specs.declared.val.Val.{Val}
-use Rattle.mr_wf.specs.Known.{ty_of}
+use Rattle.mr_typing.specs.Known.{ty_of}
 use Rattle.mr_eval.proofs.RecastLaws.{replaced_whole, transmute_sized}
 use Rattle.mr_eval.proofs.recasting.recast.Goals as goal
 

@@ -8,7 +8,7 @@ use Rattle.mr_mem.specs.Memory.{Memory}
 use Rattle.mr_value.specs.declared.val.Val.{Val}
 use Rattle.mr_value.specs.Shape.{has_shape}
 use Rattle.mr_base.specs.Script.{Broken, Outcome, Went, on}
-use Rattle.mr_wf.specs.Types.{type_of_place}
+use Rattle.mr_typing.specs.Types.{type_of_place}
 use Rattle.mr_eval.specs.Answers.{seen}
 use Rattle.mr_eval.specs.Environment.{Leaves, env_surround}
 use Rattle.mr_eval.specs.Evaluated.{placed, valued}
