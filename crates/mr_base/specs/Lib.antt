@@ -4,3 +4,4 @@ pub mod Limits
 pub mod Pairs
 pub mod Reasons
 pub mod Script
+pub mod Stops

@@ -7,6 +7,8 @@
 //!   and of threads. Contracts see each as a list; what appends changes nothing where memory runs out.
 //! - [`Status`] and [`Event`]: whether a thread can go on, and what a step did to locks and threads.
 //! - [`Reason`] and [`Verdict`]: why a step is undefined behaviour, and what a run came to.
+//! - [`Stop`]: why a step stops, and the bytes that it speaks of ([`Reached`], [`Reaching`]), where it speaks of any. [`Stop::plain`]
+//!   and [`Stop::over`] make one.
 //! - [`MAX_THREADS`] and [`MAX_LOCKS`]: how many threads and locks a run may have.
 //!
 //! Public calls: [`Reason::code`] and [`Reason::name`], [`ranges_meet`], [`any_twice`], [`is_among`] and
@@ -36,6 +38,7 @@ mod id_lists;
 mod limits;
 mod pairs;
 mod reason;
+mod stop;
 mod thread;
 
 pub use access::Access;
@@ -47,4 +50,5 @@ pub use limits::{MAX_LOCKS, MAX_THREADS};
 pub use pairs::{Pair, any_meeting, any_twice, is_among, ranges_meet};
 pub use reason::{Reason, Verdict, codes_differ};
 pub use std::alloc::AllocError as OutOfMemory;
+pub use stop::{Reached, Reaching, Stop};
 pub use thread::{Event, Status};

@@ -24,6 +24,7 @@ pub mod ScalarRuns
 pub mod SearchRuns
 pub mod ShapeOf
 pub mod SoundParts
+pub mod StoreLaws
 pub mod TargetLaws
 pub use Rattle.mr_value.proofs.DecodeShape as ValueDecodeShape
 pub use Rattle.mr_value.proofs.EncodeLength as ValueEncodeLength

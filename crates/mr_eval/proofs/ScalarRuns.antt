@@ -1,5 +1,9 @@
 -- What the load of an integer, a bool or a pointer comes to, whatever was noted before.
 use Rattle.std.proofs.Common.{◌≡◌, false, Some, Result, Ok, Err, sym, ap, ◌∙◌}
+use Rattle.mr_eval.specs.Typed.{meaningless}
+use Rattle.mr_base.specs.declared.stop.Reaching.TheVariants.{Loads}
+use Rattle.mr_base.specs.Stops.{over, reached_by}
+use Rattle.mr_base.specs.declared.stop.Stop.{Stop}
 use Rattle.mr_ast.specs.declared.types.Ty.{Ty}
 use Rattle.mr_base.specs.declared.byte.Pointer.{Pointer}
 use Rattle.mr_base.specs.declared.reason.Reason.{Reason}
@@ -23,30 +27,30 @@ lent_seen t p s = seeing (accessing false false p (size_of t)) (touching p (size
 
 -- what the load comes to when memory answers this
 read_as : (m : Memory) (t : Ty) (p : Pointer) (s : Seen) (answer : Result Bytes Reason) → read m p (size_of t) (align_of t) ≡ answer
-    → read_typed m t p s ≡ on (answered answer (λ (bytes : Bytes). Went bytes (lent_seen t p s))) (λ bytes z. meant_by m InvalidValue t bytes z)
+    → read_typed m t p s ≡ on (answered (reached_by Loads p (size_of t)) answer (λ (bytes : Bytes). Went bytes (lent_seen t p s))) (λ bytes z. meant_by m (meaningless t p) t bytes z)
 read_as m t p s answer e =
     read_run m t p s
-    ∙ ap (λ (a : Result Bytes Reason). on (answered a (λ (bytes : Bytes). Went bytes (lent_seen t p s))) (λ bytes z. meant_by m InvalidValue t bytes z)) e
+    ∙ ap (λ (a : Result Bytes Reason). on (answered (reached_by Loads p (size_of t)) a (λ (bytes : Bytes). Went bytes (lent_seen t p s))) (λ bytes z. meant_by m (meaningless t p) t bytes z)) e
 
 -- a range that is refused
-pub scalar_refused : (m : Memory) (t : Ty) (p : Pointer) (s : Seen) (r : Reason) → read m p (size_of t) (align_of t) ≡ Err r → read_typed m t p s ≡ Refused r
+pub scalar_refused : (m : Memory) (t : Ty) (p : Pointer) (s : Seen) (r : Reason) → read m p (size_of t) (align_of t) ≡ Err r → read_typed m t p s ≡ Refused (over (reached_by Loads p (size_of t)) r)
 scalar_refused m t p s r e = read_as m t p s (Err r) e
 
 -- bytes of which it is known what they mean
-pub scalar_lent : (m : Memory) (t : Ty) (p : Pointer) (s : Seen) (bytes : Bytes) (answer : Result Val Reason) → read m p (size_of t) (align_of t) ≡ Ok bytes
-    → ((z : Seen) → meant_by m InvalidValue t bytes z ≡ outcome_of answer (λ v. noted_targets (targets_of t v) z))
+pub scalar_lent : (m : Memory) (t : Ty) (p : Pointer) (s : Seen) (bytes : Bytes) (answer : Result Val Stop) → read m p (size_of t) (align_of t) ≡ Ok bytes
+    → ((z : Seen) → meant_by m (meaningless t p) t bytes z ≡ outcome_of answer (λ v. noted_targets (targets_of t v) z))
     → read_typed m t p s ≡ outcome_of answer (λ v. noted_load t p v s)
 scalar_lent m t p s bytes answer lent meant = read_as m t p s (Ok bytes) lent ∙ meant (lent_seen t p s)
 
 pub ruleset scalar_laws = (scalar_refused, scalar_lent)
 
 -- a value whose reference check comes to this
-pub scalar_checked : (m : Memory) (t : Ty) (bytes : Bytes) (v : Val) (targets : Targets) (checks : Result (Unit {0}) Reason) (s : Seen)
+pub scalar_checked : (m : Memory) (t : Ty) (bytes : Bytes) (v : Val) (targets : Targets) (checks : Result (Unit {0}) Stop) (stop : Stop) (s : Seen)
     → decoded t bytes ≡ Some v → targets ≡ targets_of t v
     → ((z : Seen) → referred_to m targets z ≡ outcome_of checks (λ _. noted_targets targets z))
-    → meant_by m InvalidValue t bytes s ≡ on (outcome_of checks (λ _. noted_targets (targets_of t v) s)) (λ u z. Went v z)
-scalar_checked m t bytes v targets checks s is listed checked =
-    meant_some m InvalidValue t bytes v s is
+    → meant_by m stop t bytes s ≡ on (outcome_of checks (λ _. noted_targets (targets_of t v) s)) (λ u z. Went v z)
+scalar_checked m t bytes v targets checks stop s is listed checked =
+    meant_some m stop t bytes v s is
     ∙ ap (λ (o : Outcome (Unit {0}) Seen). on o (λ u z. Went v z))
     (ap (λ (ts : Targets). referred_to m ts s) (sym listed) ∙ checked s
     ∙ ap (λ (ts : Targets). outcome_of checks (λ _. noted_targets ts s)) listed)

@@ -5,6 +5,7 @@ use Rattle.mr_base.specs.declared.access.Access.{Access}
 use Rattle.mr_base.specs.declared.byte.AllocId.{AllocId}
 use Rattle.mr_base.specs.declared.byte.Pointer.{Pointer}
 use Rattle.mr_base.specs.declared.reason.Reason.{Reason}
+use Rattle.mr_base.specs.declared.stop.Stop.{Stop}
 use Rattle.mr_base.specs.Script.{Broken, Done, IllFormed, Outcome, Refused, Undefined, Went}
 use Rattle.mr_eval.specs.declared.halt.Halt.{Halt}
 use Rattle.mr_eval.specs.declared.halt.Halt.TheVariants as halt
@@ -51,9 +52,14 @@ abbrev pub value_in : Valued → Val
 value_in v = v.value
 
 -- what a call returned that notes nothing, as what a run comes to that notes as much as this
-abbrev pub outcome_of : {X S : Type 0} → Result X Reason → (X → S) → Outcome X S
+abbrev pub outcome_of : {X S : Type 0} → Result X Stop → (X → S) → Outcome X S
 outcome_of (Ok x) note = Went x (note x)
 outcome_of (Err r) note = Refused r
+
+-- the same of a call that tells the reason of the stop, and not what it speaks of
+abbrev pub Reasons : {X S : Type 0} → Result X Reason → (X → S) → Outcome X S → Type 0
+Reasons (Ok x) note o = o ≡ Went x (note x)
+Reasons (Err r) note o = (stop : Stop) × (stop.reason ≡ r) × (o ≡ Refused stop)
 
 -- the surround of an evaluation
 abbrev pub surround_of : Here → Surround

@@ -9,8 +9,12 @@ use Rattle.mr_ast.specs.declared.program.Local.{Local}
 use Rattle.mr_ast.specs.declared.types.Ty.{Ty}
 use Rattle.mr_layout.specs.Cached.{IsCacheOf}
 use Rattle.mr_mem.specs.Memory.{Memory}
-use Rattle.mr_mem.specs.declared.fault.Fault.{Fault}
-use Rattle.mr_mem.specs.declared.fault.Fault.TheVariants as fault
+use Rattle.mr_eval.specs.declared.fault.Fault.{Fault}
+use Rattle.mr_eval.specs.declared.fault.Fault.TheVariants as fault
+use Rattle.mr_mem.specs.declared.fault.Fault.{Fault as MemoryFault}
+use Rattle.mr_mem.specs.declared.fault.Fault.TheVariants as memory_fault
+use Rattle.mr_base.specs.declared.stop.Reached.{Reached}
+use Rattle.mr_base.specs.Stops.{over}
 use Rattle.mr_base.specs.Script.{Outcome, Refused, Went}
 use Rattle.mr_value.specs.Shape.{has_shape}
 use Rattle.mr_value.specs.declared.val.Val.{Val}
@@ -88,3 +92,8 @@ abbrev pub fault_of : Halt → Fault
 fault_of (halt.Undefined r) = fault.Undefined r
 fault_of halt.IllFormed = fault.Memory
 fault_of halt.Memory = fault.Memory
+
+-- what memory stops with, of bytes that were reached
+abbrev pub over_fault : Reached → MemoryFault → Fault
+over_fault bytes (memory_fault.Undefined r) = fault.Undefined (over bytes r)
+over_fault bytes memory_fault.Memory = fault.Memory

@@ -1,8 +1,8 @@
 -- What a step changes of memory, and what it notes of that, as the code's scene keeps it.
 use Rattle.std.specs.Prelude.{◌≡◌, Result, Ok, Err}
 use Rattle.mr_mem.specs.Memory.{Memory}
-use Rattle.mr_mem.specs.declared.fault.Fault.{Fault}
-use Rattle.mr_mem.specs.declared.fault.Fault.TheVariants as fault
+use Rattle.mr_eval.specs.declared.fault.Fault.{Fault}
+use Rattle.mr_eval.specs.declared.fault.Fault.TheVariants as fault
 use Rattle.mr_base.specs.Script.{Outcome, Refused, Went}
 use Rattle.mr_eval.specs.declared.scene.Scene.{Scene}
 use Rattle.mr_eval.specs.Tally.{Tally}

@@ -23,7 +23,7 @@ use crate::reads::lend;
 use crate::targets::{add_targets, refer_all};
 use crate::valuing::{Valued, typed};
 use mr_ast::Ty;
-use mr_base::{Pointer, Reason};
+use mr_base::{Pointer, Reaching, Reason};
 use mr_layout::{Cache, Layout};
 use mr_mem::Memory;
 use mr_runs::View;
@@ -66,7 +66,10 @@ pub fn read_typed(
     let view = lend(m, notes, p, size, align)?;
     match decode(alloc, &view, t)? {
         Some(v) => referred(alloc, m, notes, t, v),
-        None => Err(Halt::Undefined(Reason::InvalidValue)),
+        None => {
+            notes.refused(Reaching::Loads, p, size);
+            Err(Halt::Undefined(Reason::InvalidValue))
+        }
     }
 }
 
@@ -129,7 +132,7 @@ fn scalar_in(m: &Memory, view: &View<'_>, t: &Ty) -> Result<Val, Reason>
     requires scalar { IsTrue (is_scalar t.now) }
     requires ok { TypeOk t.now }
     requires sized { length (bytes_of_pieces view.now) ≡ size_of t.now }
-    ensures given { (s : Seen) → meant_by m.now InvalidValue t.now (bytes_of_pieces view.now) s
+    ensures given { (s : Seen) → meant_by m.now (plainly InvalidValue) t.now (bytes_of_pieces view.now) s
         ≡ outcome_of result (λ v. noted_targets (targets_of t.now v) s) }
     ensures shape { IfOk result (λ v. has_shape t.now v ≡ true) }
 {
@@ -189,6 +192,21 @@ fn note_load(
     Ok(())
 }
 
+// Notes the bytes for which a load is refused: those of the reference in the value, where there is one, else its own.
+#[cold]
+#[inline(never)]
+fn note_refused(m: &Memory, notes: &mut Notes, p: Pointer, t: &Ty, layout: Layout) {
+    if let Ok(view) = m.load(p, layout.size, layout.align) {
+        if let Some(v) = decode_scalar(&view, t) {
+            if let Some((q, len)) = target_of(t, &v) {
+                notes.refused(Reaching::Refers, q, len);
+                return;
+            }
+        }
+    }
+    notes.refused(Reaching::Loads, p, layout.size);
+}
+
 /// The load of an integer, a bool or a pointer, noted, as a value of its type.
 #[tactic(auto, using(crate::proofs::ExtendsLaws::extends_laws))]
 pub fn noted_scalar<'p>(
@@ -211,6 +229,9 @@ pub fn noted_scalar<'p>(
             note_load(notes, p.at, layout.size, target_of(p.ty, &v))?;
             Ok(typed(v, Known::Written(p.ty)))
         }
-        Err(reason) => Err(Halt::Undefined(reason)),
+        Err(reason) => {
+            note_refused(m, notes, p.at, p.ty, layout);
+            Err(Halt::Undefined(reason))
+        }
     }
 }

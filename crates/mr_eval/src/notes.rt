@@ -1,5 +1,5 @@
 //! What is noted of accesses and range checks.
-use mr_base::{Access, Accesses, AllocIds, Pointer};
+use mr_base::{Access, Accesses, AllocIds, Pointer, Reached, Reaching};
 use std::alloc::{AllocError, Global};
 
 /// What evaluation notes of what it read: its accesses in order, and the allocations that its range checks touched.
@@ -7,6 +7,8 @@ use std::alloc::{AllocError, Global};
 pub struct Notes {
     pub accesses: Accesses,
     pub touched: AllocIds,
+    /// The bytes that memory refused last.
+    pub about: Option<Reached>,
 }
 
 impl Notes {
@@ -21,6 +23,7 @@ impl Notes {
         Notes {
             accesses: Accesses::new(alloc),
             touched: AllocIds::new(alloc),
+            about: None,
         }
     }
 
@@ -30,6 +33,17 @@ impl Notes {
     {
         self.accesses.clear();
         self.touched.clear();
+    }
+
+    /// Notes the bytes that memory refuses.
+    #[cold]
+    #[inline(never)]
+    pub fn refused(&mut self, doing: Reaching, pointer: Pointer, len: u64) {
+        self.about = Some(Reached {
+            doing,
+            pointer,
+            len,
+        });
     }
 
     /// Notes what a range check of this pointer and length touches.

@@ -7,7 +7,7 @@ ghost use Rattle.mr_eval.specs.Reads.{Check, Read, Refer, accessing, reading, se
 
 use crate::halt::Halt;
 use crate::notes::Notes;
-use mr_base::{Access, Pointer, Reason};
+use mr_base::{Access, Pointer, Reaching, Reason};
 use mr_mem::Memory;
 use mr_runs::View;
 
@@ -20,7 +20,10 @@ pub fn look(m: &Memory, notes: &mut Notes, p: Pointer, len: u64) -> Result<(), H
 {
     match m.check(p, len) {
         Ok(_) => Ok(notes.touch(p, len)?),
-        Err(reason) => Err(Halt::Undefined(reason)),
+        Err(reason) => {
+            notes.refused(Reaching::Moves, p, len);
+            Err(Halt::Undefined(reason))
+        }
     }
 }
 
@@ -33,7 +36,10 @@ pub fn refer(m: &Memory, notes: &mut Notes, p: Pointer, len: u64) -> Result<(), 
 {
     match m.check(p, len) {
         Ok(_) => Ok(notes.touch(p, len)?),
-        Err(_) => Err(Halt::Undefined(Reason::DanglingReference)),
+        Err(_) => {
+            notes.refused(Reaching::Refers, p, len);
+            Err(Halt::Undefined(Reason::DanglingReference))
+        }
     }
 }
 
@@ -58,6 +64,9 @@ pub fn lend<'m>(
             notes.access(false, false, p, len)?;
             Ok(view)
         }
-        Err(reason) => Err(Halt::Undefined(reason)),
+        Err(reason) => {
+            notes.refused(Reaching::Loads, p, len);
+            Err(Halt::Undefined(reason))
+        }
     }
 }

@@ -1,6 +1,6 @@
 //! What a step changes: memory, and what it notes of that.
 use crate::notes::Notes;
-use mr_base::{AllocId, AllocIds, Kind, Pointer};
+use mr_base::{AllocId, AllocIds, Kind, Pointer, Reaching};
 use mr_mem::{Fault, Memory};
 use std::alloc::{AllocError, Global};
 
@@ -97,7 +97,10 @@ impl Scene {
                 self.freed.push(id)?;
                 Ok(())
             }
-            Err(reason) => Err(Fault::Undefined(reason)),
+            Err(reason) => {
+                self.notes.refused(Reaching::Frees, p, size);
+                Err(Fault::Undefined(reason))
+            }
         }
     }
 }

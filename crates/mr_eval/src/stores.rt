@@ -8,7 +8,7 @@ ghost use Rattle.mr_eval.specs.Reads.{accessing, seeing, touching};
 ghost use Rattle.mr_eval.specs.Stores.{storing};
 
 use crate::notes::Notes;
-use mr_base::{AbstractByte, Pointer};
+use mr_base::{AbstractByte, Pointer, Reaching};
 use mr_mem::{Fault, Memory};
 use mr_value::ScalarBytes;
 use std::alloc::AllocError;
@@ -41,7 +41,13 @@ pub fn store_bytes(
     ensures err { OnErr result (m.new ≡ m.old) }
 {
     note_store(notes, atomic, p, bytes.len() as u64)?;
-    m.store(p, bytes, align)
+    match m.store(p, bytes, align) {
+        Ok(()) => Ok(()),
+        Err(fault) => {
+            notes.refused(Reaching::Stores, p, bytes.len() as u64);
+            Err(fault)
+        }
+    }
 }
 
 /// The store of the bytes of an integer, a bool or a pointer, not atomic: 103 before the range check.
@@ -65,7 +71,13 @@ pub fn store_scalar(
 {
     let numbers = bytes.numbers();
     note_store(notes, false, p, numbers.len() as u64)?;
-    m.store_numbers(p, numbers, bytes.provenance, align)
+    match m.store_numbers(p, numbers, bytes.provenance, align) {
+        Ok(()) => Ok(()),
+        Err(fault) => {
+            notes.refused(Reaching::Stores, p, numbers.len() as u64);
+            Err(fault)
+        }
+    }
 }
 
 /// Makes bytes uninitialised, which is noted as a store of so many bytes.
@@ -84,5 +96,11 @@ pub fn store_uninit(
     ensures err { OnErr result (m.new ≡ m.old) }
 {
     note_store(notes, false, p, len)?;
-    m.deinit(p, len, align)
+    match m.deinit(p, len, align) {
+        Ok(()) => Ok(()),
+        Err(fault) => {
+            notes.refused(Reaching::Stores, p, len);
+            Err(fault)
+        }
+    }
 }

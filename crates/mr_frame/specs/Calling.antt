@@ -1,6 +1,7 @@
 -- What a call comes to before it needs a pick, and what the code of calls answers.
 use Rattle.std.specs.Prelude.{◌≡◌, ℕ, ◌<◌, All, if◌then◌else◌, List, length, map, Option, None, Some, slice_get, Result}
 use Rattle.std.specs.Prelude.{Ok, Err}
+use Rattle.mr_base.specs.Stops.{plainly}
 use Rattle.mr_ast.specs.declared.expr.Place.{Place}
 use Rattle.mr_ast.specs.declared.expr.Value.{Value}
 use Rattle.mr_ast.specs.declared.program.Function.{Function}
@@ -10,8 +11,8 @@ use Rattle.mr_ast.specs.declared.types.Ty.{Ty}
 use Rattle.mr_base.specs.declared.byte.Pointer.{Pointer}
 use Rattle.mr_base.specs.declared.reason.Reason.TheVariants.{NotAFunction, SignatureMismatch}
 use Rattle.mr_mem.specs.Memory.{Memory}
-use Rattle.mr_mem.specs.declared.fault.Fault.{Fault}
-use Rattle.mr_mem.specs.declared.fault.Fault.TheVariants as fault
+use Rattle.mr_eval.specs.declared.fault.Fault.{Fault}
+use Rattle.mr_eval.specs.declared.fault.Fault.TheVariants as fault
 use Rattle.mr_value.specs.declared.val.Val.{Val}
 use Rattle.mr_base.specs.Script.{Broken, Outcome, Refused, Went, on}
 use Rattle.mr_typing.specs.Types.{type_of_value}
@@ -41,7 +42,7 @@ called_with place args number fn None seen = Broken
 called_with place args number fn (Some types) seen =
     if same_types types.0 types.1
     then Went (record { place = place; number = number; function = fn; types = types.1; args = args }) seen
-    else Refused SignatureMismatch
+    else Refused (plainly SignatureMismatch)
 
 abbrev pub called_function : Option (List Ty) → Pointer → List Val → ℕ → Option Function → Seen → Outcome Prepared Seen
 called_function given place args number None seen = Broken
@@ -50,7 +51,7 @@ called_function given place args number (Some fn) seen =
 
 -- 117 where the pointer stands for no function
 abbrev pub called : Look → Option (List Ty) → Pointer → List Val → Option ℕ → Seen → Outcome Prepared Seen
-called look given place args None seen = Refused NotAFunction
+called look given place args None seen = Refused (plainly NotAFunction)
 called look given place args (Some number) seen =
     called_function given place args number (slice_get look.program.functions number) seen
 

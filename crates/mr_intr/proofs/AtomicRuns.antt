@@ -1,5 +1,9 @@
 -- What atomic accesses come to, by the loads and stores that the code makes.
 use Rattle.std.proofs.Common.{◌≡◌, ℕ, ◌*◌, ◌^◌, ◌<◌, refl, subst, sym, ap, ◌∙◌, List, [], ◌∷◌, Option, Some, None, Bool, true, Result, Ok, Err}
+use Rattle.mr_base.specs.declared.reason.Reason.TheVariants.{InvalidValue}
+use Rattle.mr_base.specs.Stops.{over, reached_by}
+use Rattle.mr_base.specs.declared.stop.Reaching.TheVariants.{Changes, Loads}
+use Rattle.mr_base.specs.declared.stop.Stop.{Stop}
 use Rattle.mr_base.proofs.Comparisons.{eq_test, lt_test}
 use Rattle.std.specs.Prelude.{if◌then◌else◌, slice_get}
 use Rattle.std.proofs.lemmas.Option.{same_Some}
@@ -18,8 +22,8 @@ use Rattle.mr_layout.proofs.AlignLaws.{align_int}
 use Rattle.mr_layout.proofs.SizeLaws.{size_int}
 use Rattle.mr_mem.specs.Memory.{Memory, written}
 use Rattle.mr_mem.specs.Stored.{IsStored}
-use Rattle.mr_mem.specs.declared.fault.Fault.{Fault}
-use Rattle.mr_mem.specs.declared.fault.Fault.TheVariants as fault
+use Rattle.mr_eval.specs.declared.fault.Fault.{Fault}
+use Rattle.mr_eval.specs.declared.fault.Fault.TheVariants as fault
 use Rattle.mr_value.specs.declared.val.Val.{Val}
 use Rattle.mr_value.specs.declared.val.Val.TheVariants as val
 use Rattle.mr_value.proofs.ShapeLaws.{has_int}
@@ -57,8 +61,8 @@ handed_on (Err e) f o s is h = subst (λ g. Tells (Err g) o s) (sym is) h
 pub stored_leaves : (r : Result (Unit {0}) Fault) (m new : Memory) (p : Pointer) (size n : ℕ) (old last : Seen) → IsStored (written m p (number_bytes size n) size) new r
     → last ≡ seeing (accessing true true p size) [] old → Leaves r (number_written m p size n old) new last
 stored_leaves (Ok u) m new p size n old last h e =
-    ap (λ (w : Result Memory Reason). answered w (λ after. Went after (seeing (accessing true true p size) [] old))) h ∙ ap (λ s. Went new s) (sym e)
-stored_leaves (Err (fault.Undefined r)) m new p size n old last h e = ap (λ (w : Result Memory Reason). answered w (λ after. Went after (seeing (accessing true true p size) [] old))) h
+    ap (λ (w : Result Memory Reason). answered (reached_by Changes p size) w (λ after. Went after (seeing (accessing true true p size) [] old))) h ∙ ap (λ s. Went new s) (sym e)
+stored_leaves (Err (fault.Undefined r)) m new p size n old last h e = ap (λ (w : Result Memory Reason). answered (reached_by Changes p size) w (λ after. Went after (seeing (accessing true true p size) [] old))) h
 stored_leaves (Err fault.Memory) m new p size n old last h e = tt
 
 -- ---- a read and a change in one
@@ -67,26 +71,26 @@ module _ (m : Memory) (n : Tally) (p : Pointer) (size : ℕ) (change : ℕ → O
   abbrev behind : ℕ → Seen → Outcome ℕ World
   behind k s = on (replacing m p size k (change k) s) (λ x v. Went x (v.0, with_seen n v.1))
 
-  modify_run : memory_answer (Modify p size change) (m, n) ≡ on (number_read m p size (seen_of n)) behind
-  modify_run = by_read (reading m (Read true p size size) (seen_of n))
+  modify_run : memory_answer (Modify p size change) (m, n) ≡ on (number_read m Changes p size (seen_of n)) behind
+  modify_run = by_read (lending m Changes true p size size (seen_of n))
     where
-      by_number : (o : Option ℕ) (s : Seen) → on (changing m p size change o s) (λ x v. Went x (v.0, with_seen n v.1)) ≡ on (answered (numbered o) (λ k. Went k s)) behind
+      by_number : (o : Option ℕ) (s : Seen) → on (changing m p size change o s) (λ x v. Went x (v.0, with_seen n v.1)) ≡ on (answered (reached_by Changes p size) (numbered o) (λ k. Went k s)) behind
       by_number None s = refl
       by_number (Some k) s = refl
 
-      by_read : (o : Outcome Bytes Seen) → on (on o (λ bytes s. changing m p size change (number_of bytes) s)) (λ x v. Went x (v.0, with_seen n v.1)) ≡ on (on o (λ bytes s. answered (numbered (number_of bytes)) (λ k. Went k s))) behind
+      by_read : (o : Outcome Bytes Seen) → on (on o (λ bytes s. changing m p size change (number_of bytes) s)) (λ x v. Went x (v.0, with_seen n v.1)) ≡ on (on o (λ bytes s. answered (reached_by Changes p size) (numbered (number_of bytes)) (λ k. Went k s))) behind
       by_read (Went bytes s) = by_number (number_of bytes) s
       by_read (Refused r) = refl
       by_read Broken = refl
 
-  pub modify_refused : (r : Reason) → number_read m p size (seen_of n) ≡ Refused r → memory_answer (Modify p size change) (m, n) ≡ Refused r
+  pub modify_refused : (r : Stop) → number_read m Changes p size (seen_of n) ≡ Refused r → memory_answer (Modify p size change) (m, n) ≡ Refused r
   modify_refused r h = modify_run ∙ ap (λ (o : Outcome ℕ Seen). on o behind) h
 
-  pub modify_fault : (f : Fault) (s : Seen) (w : World) → Tells {X = ℕ} (Err f) (number_read m p size (seen_of n)) s → Tells {X = ℕ} (Err f) (memory_answer (Modify p size change) (m, n)) w
+  pub modify_fault : (f : Fault) (s : Seen) (w : World) → Tells {X = ℕ} (Err f) (number_read m Changes p size (seen_of n)) s → Tells {X = ℕ} (Err f) (memory_answer (Modify p size change) (m, n)) w
   modify_fault (fault.Undefined r) s w h = modify_refused r h
   modify_fault fault.Memory s w h = tt
 
-  module _ (k : ℕ) (s : Seen) (went : number_read m p size (seen_of n) ≡ Went k s) where
+  module _ (k : ℕ) (s : Seen) (went : number_read m Changes p size (seen_of n) ≡ Went k s) where
     went_on : memory_answer (Modify p size change) (m, n) ≡ behind k s
     went_on = modify_run ∙ ap (λ (o : Outcome ℕ Seen). on o behind) went
 
@@ -103,8 +107,8 @@ module _ (m : Memory) (n : Tally) (p : Pointer) (size : ℕ) (change : ℕ → O
           ∙ ap (λ (o : Option ℕ). on (replacing m p size k o s) (λ x v. Went x (v.0, with_seen n v.1))) some
           ∙ by_write (written m p (number_bytes size new) size)
         where
-          by_write : (r : Result Memory Reason) → on (answered r (λ after. Went k (after, noted))) (λ (x : ℕ) (v : Memory × Seen). Went x (v.0, with_seen n v.1))
-              ≡ on (answered r (λ after. Went after noted)) stored
+          by_write : (r : Result Memory Reason) → on (answered (reached_by Changes p size) r (λ after. Went k (after, noted))) (λ (x : ℕ) (v : Memory × Seen). Went x (v.0, with_seen n v.1))
+              ≡ on (answered (reached_by Changes p size) r (λ after. Went after noted)) stored
           by_write (Ok after) = refl
           by_write (Err r) = refl
 
@@ -174,24 +178,24 @@ module _ (types : List Ty) (picks : List ℕ) (p : Pointer) (int : IntType) wher
     abbrev read_in : Outcome ℕ Seen → Outcome (Option Val) (Shared × Notes)
     read_in o = on o (λ n l. Went (Some (val.Int n)) (record (begun s x).0 { memory = s.memory }, record (begun s x).1 { tally = with_seen (tally_of s) l }))
 
-    operated_load : operated intrinsic.AtomicLoad (val.Ptr p ∷ []) types (Some (ty.Int int)) picks (begun s x) ≡ read_in (number_read s.memory p (int_size int) (seen s.notes))
+    operated_load : operated intrinsic.AtomicLoad (val.Ptr p ∷ []) types (Some (ty.Int int)) picks (begun s x) ≡ read_in (number_read s.memory Loads p (int_size int) (seen s.notes))
     unfolding operated
     operated_load =
-        (λ i. run answer (found (ptr_pointer p i) >>= λ at. memory_part (reading_part (Ask (Read true at (size_int int i) (align_int int i)) (λ bytes. loaded (number_of bytes))))) (begun s x))
-        ∙ by_read (reading s.memory (Read true p (int_size int) (int_size int)) (seen s.notes))
+        (λ i. run answer (found (ptr_pointer p i) >>= λ at. memory_part (reading_part (Ask (Read true at (size_int int i) (align_int int i)) (λ bytes. loaded (over (reached_by Loads at (size_int int i)) InvalidValue) (number_of bytes))))) (begun s x))
+        ∙ by_read (lending s.memory Loads true p (int_size int) (int_size int) (seen s.notes))
       where
-        by_number : (o : Option ℕ) (l : Seen) → run answer (memory_part (reading_part (loaded o))) (record (begun s x).0 { memory = s.memory }, record (begun s x).1 { tally = with_seen (tally_of s) l }) ≡ read_in (answered (numbered o) (λ n. Went n l))
+        by_number : (o : Option ℕ) (l : Seen) → run answer (memory_part (reading_part (loaded (over (reached_by Loads p (int_size int)) InvalidValue) o))) (record (begun s x).0 { memory = s.memory }, record (begun s x).1 { tally = with_seen (tally_of s) l }) ≡ read_in (answered (reached_by Loads p (int_size int)) (numbered o) (λ n. Went n l))
         by_number None l = refl
         by_number (Some n) l = refl
 
         by_read : (o : Outcome Bytes Seen)
-            → on (on (on o (λ bytes l. Went bytes (s.memory, with_seen (tally_of s) l))) (in_shared (begun s x))) (λ bytes u. run answer (memory_part (reading_part (loaded (number_of bytes)))) u)
-            ≡ read_in (on o (λ bytes l. answered (numbered (number_of bytes)) (λ n. Went n l)))
+            → on (on (on o (λ bytes l. Went bytes (s.memory, with_seen (tally_of s) l))) (in_shared (begun s x))) (λ bytes u. run answer (memory_part (reading_part (loaded (over (reached_by Loads p (int_size int)) InvalidValue) (number_of bytes)))) u)
+            ≡ read_in (on o (λ bytes l. answered (reached_by Loads p (int_size int)) (numbered (number_of bytes)) (λ n. Went n l)))
         by_read (Went bytes l) = by_number (number_of bytes) l
         by_read (Refused r) = refl
         by_read Broken = refl
 
-    pub load_went : (n : ℕ) (new : Scene) (out : List ℕ) → world_of new ≡ (s.memory, with_seen (tally_of s) (seen new.notes)) → number_read s.memory p (int_size int) (seen s.notes) ≡ Went n (seen new.notes)
+    pub load_went : (n : ℕ) (new : Scene) (out : List ℕ) → world_of new ≡ (s.memory, with_seen (tally_of s) (seen new.notes)) → number_read s.memory Loads p (int_size int) (seen s.notes) ≡ Went n (seen new.notes)
         → IsDone intrinsic.AtomicLoad (quiet (Some (val.Int n))) (operated intrinsic.AtomicLoad (val.Ptr p ∷ []) types (Some (ty.Int int)) picks (begun s x)) new x out out
     load_went n new out is h = record {
       notes = notes_in new;
@@ -203,7 +207,7 @@ module _ (types : List Ty) (picks : List ℕ) (p : Pointer) (int : IntType) wher
       printed = (refl, refl);
     }
 
-    pub load_fault : (f : Fault) (new : Scene) (out : List ℕ) (l : Seen) → Tells {X = ℕ} (Err f) (number_read s.memory p (int_size int) (seen s.notes)) l
+    pub load_fault : (f : Fault) (new : Scene) (out : List ℕ) (l : Seen) → Tells {X = ℕ} (Err f) (number_read s.memory Loads p (int_size int) (seen s.notes)) l
         → Does intrinsic.AtomicLoad (Err f) (operated intrinsic.AtomicLoad (val.Ptr p ∷ []) types (Some (ty.Int int)) picks (begun s x)) new x out out
     load_fault (fault.Undefined r) new out l h = (operated_load ∙ ap read_in h, refl)
     load_fault fault.Memory new out l h = tt

@@ -2,6 +2,8 @@
 use Rattle.std.proofs.Common.{◌≡◌, ℕ, ◌<◌, refl, subst, sym, ap, ◌∙◌, arith, List, [], ◌∷◌, length, Option, Some, None, Bool, true, false, Result, Ok, Err, not, ◌==◌}
 use Rattle.std.proofs.lemmas.Option.{same_Some, slice_get_within}
 use Rattle.std.specs.Prelude.{slice_get, if◌then◌else◌}
+use Rattle.mr_base.specs.Stops.{plainly}
+use Rattle.mr_base.specs.declared.stop.Stop.{Stop}
 use Rattle.mr_ast.specs.declared.program.Intrinsic.{Intrinsic}
 use Rattle.mr_ast.specs.declared.program.Intrinsic.TheVariants as intrinsic
 use Rattle.mr_ast.specs.declared.types.Ty.{Ty}
@@ -63,7 +65,7 @@ module _ (types : List Ty) (place : Option Ty) (picks : List ℕ) (s : Scene) (x
   join_went out u b new h =
       going_done intrinsic.Join out (refl, refl) s x (Join u) _ b new (operated_join u ∙ ap (gone intrinsic.Join out (refl, refl) s x (Join u)) h)
 
-  pub join_refused : (u : ℕ) (r : Reason) → joined thread u x ≡ Err r → operated intrinsic.Join (val.Int u ∷ []) types place picks (begun s x) ≡ Refused r
+  pub join_refused : (u : ℕ) (r : Reason) → joined thread u x ≡ Err r → operated intrinsic.Join (val.Int u ∷ []) types place picks (begun s x) ≡ Refused (plainly r)
   join_refused u r h = operated_join u ∙ ap (gone intrinsic.Join [] (refl, refl) s x (Join u)) h
 
   pub acquire_went : (out : List ℕ) (l : ℕ) (b : Bool) (new : Tables) → acquired thread l x ≡ Ok (b, new)
@@ -71,7 +73,7 @@ module _ (types : List Ty) (place : Option Ty) (picks : List ℕ) (s : Scene) (x
   acquire_went out l b new h =
       going_done intrinsic.Acquire out (refl, refl) s x (Acquire l) _ b new (operated_acquire l ∙ ap (gone intrinsic.Acquire out (refl, refl) s x (Acquire l)) h)
 
-  pub acquire_refused : (l : ℕ) (r : Reason) → acquired thread l x ≡ Err r → operated intrinsic.Acquire (val.Int l ∷ []) types place picks (begun s x) ≡ Refused r
+  pub acquire_refused : (l : ℕ) (r : Reason) → acquired thread l x ≡ Err r → operated intrinsic.Acquire (val.Int l ∷ []) types place picks (begun s x) ≡ Refused (plainly r)
   acquire_refused l r h = operated_acquire l ∙ ap (gone intrinsic.Acquire [] (refl, refl) s x (Acquire l)) h
 
 -- ---- a new lock
@@ -133,7 +135,7 @@ module _ (types : List Ty) (place : Option Ty) (picks : List ℕ) (s : Scene) (x
       (λ i. run answer (found (int_number l i) >>= λ n. Asks (Waiting n) Done >>= λ waits. Done (releasing n waits)) (begun s x))
       ∙ released_is (λ b. Done (releasing l b))
 
-  pub release_refused : (to : Option ℕ) (r : Reason) → released thread l to x ≡ Err r → operated intrinsic.Release (val.Int l ∷ []) types place picks (begun s x) ≡ Refused r
+  pub release_refused : (to : Option ℕ) (r : Reason) → released thread l to x ≡ Err r → operated intrinsic.Release (val.Int l ∷ []) types place picks (begun s x) ≡ Refused (plainly r)
   release_refused to r h =
       operated_release ∙ ap (told (λ b. (releasing l b).go picks)) (holding_err thread (slice_get x.holders l) (handed l to x) (any_waits l x) r h)
 

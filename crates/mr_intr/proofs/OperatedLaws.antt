@@ -1,18 +1,18 @@
 -- What an intrinsic comes to on arguments that are known, and what the code that asks memory alone leaves.
 use Rattle.std.proofs.Common.{◌≡◌, ℕ, refl, subst, sym, ap, List, [], ◌∷◌, Option, Some, None, Bool, Err}
+use Rattle.mr_base.specs.declared.stop.Stop.{Stop}
 use Rattle.mr_ast.specs.declared.program.Intrinsic.{Intrinsic}
 use Rattle.mr_ast.specs.declared.program.Intrinsic.TheVariants as intrinsic
 use Rattle.mr_ast.specs.declared.types.Ty.{Ty}
 use Rattle.mr_base.specs.declared.byte.Kind.TheVariants.{Heap}
 use Rattle.mr_base.specs.declared.byte.Pointer.{Pointer}
-use Rattle.mr_base.specs.declared.reason.Reason.{Reason}
 use Rattle.mr_base.specs.declared.thread.Event.TheVariants.{Quiet}
 use Rattle.mr_value.specs.declared.val.Val.{Val, out-Val}
 use Rattle.mr_value.specs.declared.val.Val.TheVariants as val
 use Rattle.mr_base.specs.Script.{Done, Ask, ◌>>=◌, Outcome, Went, Refused, on, run}
 use Rattle.mr_eval.specs.MemoryQueries.{Free, MemoryQuery, MemoryReply, memory_answer}
-use Rattle.mr_mem.specs.declared.fault.Fault.{Fault}
-use Rattle.mr_mem.specs.declared.fault.Fault.TheVariants as fault
+use Rattle.mr_eval.specs.declared.fault.Fault.{Fault}
+use Rattle.mr_eval.specs.declared.fault.Fault.TheVariants as fault
 use Rattle.mr_eval.specs.Environment.{Tells}
 use Rattle.mr_eval.specs.World.{World, world_of}
 use Rattle.mr_eval.specs.declared.scene.Scene.{Scene}
@@ -51,7 +51,7 @@ module _ (op : Intrinsic) (q : MemoryQuery) (give : MemoryReply q → Option Val
   pub memory_went : (new : Scene) (out : List ℕ) (y : MemoryReply q) → memory_answer q (world_of s) ≡ Went y (world_of new) → Prints op [] out out → IsDone op (quiet (give y)) (asked q give (begun s x)) new x out out
   memory_went new out y h prints = record { notes = notes_in new; went = ap comes h; tally = refl; event = refl; going = refl; woken = refl; printed = prints }
 
-  pub memory_refused : (r : Reason) → memory_answer q (world_of s) ≡ Refused r → asked q give (begun s x) ≡ Refused r
+  pub memory_refused : (r : Stop) → memory_answer q (world_of s) ≡ Refused r → asked q give (begun s x) ≡ Refused r
   memory_refused r h = ap comes h
 
   -- what the code returned of it

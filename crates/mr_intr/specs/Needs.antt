@@ -2,6 +2,7 @@
 use Rattle.std.specs.Prelude.{◌≡◌, List, [], ◌∷◌, Option, None, Some, Result, Ok, Err}
 use Rattle.mr_base.specs.declared.reason.Reason.{Reason}
 use Rattle.mr_sched.specs.declared.schedule.Ask.{Ask}
+use Rattle.mr_base.specs.Stops.{plainly}
 use Rattle.mr_base.specs.Script.{Outcome, Refused, Went}
 use Rattle.mr_plan.specs.Machine.{Creation as Created, CreatesLock, CreatesNothing, CreatesThread, Plan}
 use Rattle.mr_plan.specs.Notes.{Notes}
@@ -33,4 +34,4 @@ pub record IsPlanned (n : Needs) (o : Outcome (Plan (StepScript Given)) (Shared 
 -- what the code told is what the run comes to: a plan, or the reason for which none is made
 abbrev pub TellsNeeds : Result Needs Reason → Outcome (Plan (StepScript Given)) (Shared × Notes) → Type 0
 TellsNeeds (Ok n) o = IsPlanned n o
-TellsNeeds (Err r) o = o ≡ Refused r
+TellsNeeds (Err r) o = o ≡ Refused (plainly r)

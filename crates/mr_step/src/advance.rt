@@ -11,7 +11,7 @@ ghost use Rattle.mr_step.specs.Kept.{config_of};
 use crate::fault::{StepFault, broken, refused};
 use crate::progress::{Progress, Thread};
 use crate::settle::settle;
-use mr_base::Verdict;
+use mr_base::{Reached, Reason, Verdict};
 use mr_eval::Scene;
 use mr_frame::Look;
 use mr_sched::{Entry, ScheduleRule};
@@ -55,13 +55,31 @@ fn act(
     turn(alloc, look, &mut thread.stack, scene, sync, picks)
 }
 
+// What a step speaks of that stops for a reason, where memory refused these bytes last.
+fn spoken(reason: Reason, about: Option<Reached>) -> Option<Reached> {
+    match reason {
+        Reason::Misaligned
+        | Reason::NoProvenance
+        | Reason::DeadAllocation
+        | Reason::OutOfBounds
+        | Reason::InvalidValue
+        | Reason::DanglingReference
+        | Reason::FreeAddress
+        | Reason::FreeKind
+        | Reason::FreeSize
+        | Reason::FreeAlign => about,
+        _ => None,
+    }
+}
+
 // The step of a thread that has no turn.
 fn without(p: &mut Progress, fault: TurnFault) -> Result<(), StepFault>
     ensures { WithoutAnswer fault p.old p.new result }
 {
     match fault {
         TurnFault::Undefined(reason) => {
-            p.stop(Verdict::Undefined(reason));
+            let about = spoken(reason, p.scene.notes.about);
+            p.stop(Verdict::Undefined(reason), about);
             Ok(())
         }
         TurnFault::Broken(failure) => Err(refused(failure)),

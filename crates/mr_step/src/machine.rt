@@ -6,7 +6,7 @@ use crate::fault::{StepFault, Turn, unmade};
 use crate::first::first;
 use crate::progress::{Progress, line_at, place_at};
 use crate::setting::Setting;
-use mr_base::{Status, Verdict};
+use mr_base::{Reached, Status, Verdict};
 use mr_event::Footprint;
 use mr_frame::{At, Look, Stack};
 use mr_mem::Memory;
@@ -171,6 +171,13 @@ impl<'p> Machine<'p> {
         ensures { result ≡ self.now.config.verdict }
     {
         self.progress.verdict
+    }
+
+    /// The bytes that the last step speaks of, where it was undefined and speaks of any.
+    pub fn about(&self) -> Option<Reached>
+        ensures { result ≡ self.now.config.about }
+    {
+        self.progress.about
     }
 
     /// How many steps were completed.

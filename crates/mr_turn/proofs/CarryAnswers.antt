@@ -1,8 +1,9 @@
 -- What the code of an operation whose needs are met finds and answers.
 use Rattle.std.proofs.Common.{◌≡◌, ℕ, refl, sym, ap, ap₂, ◌∙◌, subst, arith, List, [], length, Option, Some, None, Result, Ok, Err}
+use Rattle.mr_base.specs.declared.stop.Stop.{Stop}
 use Rattle.mr_ast.specs.declared.program.Intrinsic.{Intrinsic}
 use Rattle.mr_base.specs.declared.reason.Reason.{Reason}
-use Rattle.mr_mem.specs.declared.fault.Fault.{Fault as MemoryFault}
+use Rattle.mr_eval.specs.declared.fault.Fault.{Fault as MemoryFault}
 use Rattle.mr_base.specs.Script.{Outcome, Refused, run}
 use Rattle.mr_sync.specs.Tables.{Tables}
 use Rattle.mr_eval.specs.World.{world_of}
@@ -76,10 +77,10 @@ module _ (look : KeptLook) (stack : KeptStack) (s : Scene) (x : Tables) (call : 
       ∙ ap₂ (λ creates asks. needs_fault (shared_in s x) s.thread s.count (record { creates = creates; asks = asks }) picks) h.creates h.asks
 
   -- it stops before it acts
-  pub carry_stops : (r : Reason) → run answer script (begun s x) ≡ Refused r → do_planned (look_of look) (own_of s.thread stack) d o (begun s x) ≡ Refused r
+  pub carry_stops : (r : Stop) → run answer script (begun s x) ≡ Refused r → do_planned (look_of look) (own_of s.thread stack) d o (begun s x) ≡ Refused r
   carry_stops r h = operation_stops look stack s x call d mine picks r (ap (λ (y : Intrinsic). run answer (operation y o.args o.arg_types o.result_type) (begun s x)) is ∙ h)
 
-  pub carry_comes : (r : Reason) → run answer script (begun s x) ≡ Refused r → do_comes_to look stack s x call d picks ≡ Refused r
+  pub carry_comes : (r : Stop) → run answer script (begun s x) ≡ Refused r → do_comes_to look stack s x call d picks ≡ Refused r
   carry_comes r h = operation_comes look stack s x call d mine picks r (ap (λ (y : Intrinsic). run answer (operation y o.args o.arg_types o.result_type) (begun s x)) is ∙ h)
 
   -- what the code reads of what is given

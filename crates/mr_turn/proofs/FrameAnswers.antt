@@ -1,9 +1,9 @@
 -- What the code of a frame's turn answers, by its parts.
 use Rattle.std.proofs.Common.{◌≡◌, ℕ, refl, sym, ap, ◌∙◌, subst, List, [], Option, None, Result, Ok, Err}
-use Rattle.mr_base.specs.declared.reason.Reason.{Reason}
+use Rattle.mr_base.specs.declared.stop.Stop.{Stop}
 use Rattle.mr_mem.specs.Memory.{Memory, ranges_of}
-use Rattle.mr_mem.specs.declared.fault.Fault.{Fault as MemoryFault}
-use Rattle.mr_mem.specs.declared.fault.Fault.TheVariants as memory_fault
+use Rattle.mr_eval.specs.declared.fault.Fault.{Fault as MemoryFault}
+use Rattle.mr_eval.specs.declared.fault.Fault.TheVariants as memory_fault
 use Rattle.mr_sched.specs.declared.schedule.Ask.{Ask}
 use Rattle.mr_base.specs.Script.{Outcome, Went, Refused, Broken, run}
 use Rattle.mr_sync.specs.Tables.{Tables}
@@ -59,7 +59,7 @@ judged_broken answer.Memory fault o W same h k = absurd h
 
 -- memory that refuses
 pub stopped_deed : (f : MemoryFault) (o : Outcome Turn (Shared × Notes)) (W : Deed → Type 0)
-    → ((r : Reason) → f ≡ memory_fault.Undefined r → o ≡ Refused r) → DeedAnswer (Err (fault_from f)) o W
+    → ((r : Stop) → f ≡ memory_fault.Undefined r → o ≡ Refused r) → DeedAnswer (Err (fault_from f)) o W
 stopped_deed (memory_fault.Undefined r) o W h = h r refl
 stopped_deed memory_fault.Memory o W h = tt
 
@@ -96,5 +96,5 @@ module _ (look : KeptLook) (stack : KeptStack) (s : Scene) (x : Tables) (picks :
       ap (λ (t : Tally). picks_fault [] (ranges_of s.memory) s.thread s.count (asked s.memory (look_of look) s.thread (stack_of stack) (seen_of t)) picks) fresh ∙ lawful_picks h
 
 -- a refusal of memory, by its reason
-pub refused_by : {X Y S : Type 0} (view : X → Y) (f : MemoryFault) (o : Outcome Y S) (v : S) → TellsBy view (Err f) o v → (r : Reason) → f ≡ memory_fault.Undefined r → o ≡ Refused r
+pub refused_by : {X Y S : Type 0} (view : X → Y) (f : MemoryFault) (o : Outcome Y S) (v : S) → TellsBy view (Err f) o v → (r : Stop) → f ≡ memory_fault.Undefined r → o ≡ Refused r
 refused_by view f o v h r e = subst (λ g. TellsBy view (Err g) o v) e h

@@ -2,6 +2,7 @@
 use Rattle.std.proofs.Common.{◌≡◌, ℕ, ◌<◌, ◌^◌, refl, sym, ap, ap₂, ◌∙◌, subst, arith, List, [], ◌∷◌, length, drop, take, Bool, true, false, Option, Some, None, Result}
 use Rattle.std.specs.Prelude.{◌-◌, ◌&&◌, nat_lt, slice_get, if◌then◌else◌}
 use Rattle.std.specs.Option.{option_map}
+use Rattle.mr_base.specs.declared.stop.Stop.{Stop}
 use Rattle.mr_ast.specs.declared.program.Function.{Function}
 use Rattle.mr_ast.specs.declared.program.Intrinsic.{Intrinsic}
 use Rattle.mr_ast.specs.declared.program.Intrinsic.TheVariants as intrinsic
@@ -10,7 +11,6 @@ use Rattle.mr_ast.specs.declared.types.Ty.{Ty}
 use Rattle.mr_ast.specs.declared.types.Ty.TheVariants as ty
 use Rattle.mr_base.proofs.Comparisons.{lt_from, lt_test}
 use Rattle.mr_base.specs.declared.byte.Pointer.{Pointer}
-use Rattle.mr_base.specs.declared.reason.Reason.{Reason}
 use Rattle.mr_base.specs.declared.thread.Event.TheVariants.{Spawn}
 use Rattle.mr_frame.specs.declared.flow.Flow.TheVariants as flow
 use Rattle.mr_layout.proofs.AlignLaws.{align_raw, align_tuple}
@@ -160,7 +160,7 @@ module _ (look : KeptLook) (stack : KeptStack) (s : Scene) (x : Tables) (call : 
           ∙ finishing_run own d o (Some (val.Int (length x.statuses))) (Some (new_thread (length x.statuses) bottom.frame)) (behind s' new)
           ∙ ap (λ k. on (ended (stack_of stack) d o (Some (val.Int (length x.statuses))) (world_of s')) (λ j z. Went (Goes (with_stack own j) (Some (record { thread = length x.statuses; stack = k }))) (moved_to (behind s' new) z))) (sym bottom.is)
 
-      pub start_refused : (r : Reason) → ended (stack_of stack) d o (Some (val.Int (length x.statuses))) (world_of s') ≡ Refused r → do_comes_to look stack s x call d picks ≡ Refused r
+      pub start_refused : (r : Stop) → ended (stack_of stack) d o (Some (val.Int (length x.statuses))) (world_of s') ≡ Refused r → do_comes_to look stack s x call d picks ≡ Refused r
       start_refused r e = starts ∙ ap (λ p. on p (λ k z. Went (Goes (with_stack own k) (Some (own_of (length x.statuses) new))) (moved_to (behind s' new) z))) e
 
       -- THE THREAD is started

@@ -1,6 +1,6 @@
 use Rattle.std.proofs.Common.{refl, subst, subst₂, sym}
 use Rattle.std.specs.Prelude.{Err, Option}
-use Rattle.mr_mem.specs.declared.fault.Fault.{Fault}
+use Rattle.mr_eval.specs.declared.fault.Fault.{Fault}
 use Rattle.mr_base.specs.Script.{Outcome}
 use Rattle.mr_eval.specs.Answers.{seen}
 use Rattle.mr_eval.specs.World.{TellsBy}
@@ -47,12 +47,12 @@ returns-in-Err-Undefined c =
     let x = c.args.sync.now in
     let picks = c.args.picks.now in
     let (d, due, is) = c.requires.due in
-    let r = c.in-Err-Undefined.reason in
+    let r = c.in-Err-Undefined.stop in
     let given = subst (λ (f : Fault). TellsBy operands_of (Err f) (argued s.memory (look_of look) d (seen s.notes)) (seen c.arguments.new.notes)) c.in-Err-Undefined.field-0-is (c.in-Err-Undefined.ensures.given d due) in
     let o = comes_to look stack s x picks in
     let later = record s { notes = c.arguments.new.notes } in
     stopped_turn c.stopped.result r picks s x (planned (look_of look) (own_of s.thread stack) (begun s x)) o (Does stack s x o stack later x) (IsSame stack s x stack later x)
-    (subst (λ q. StopAnswer c.stopped.result q picks) c.in-Err-Undefined.reason-is c.stopped.ensures) (stopped_planned look stack s x d due picks r given) (stopped_comes look stack s x d due picks r given)
+    (subst (λ q. StopAnswer c.stopped.result q picks) c.in-Err-Undefined.stop-is c.stopped.ensures) (stopped_planned look stack s x d due picks r given) (stopped_comes look stack s x d due picks r given)
     (record { stack = refl; memory = refl; tables = refl })
 
 pub returns-in-Ok : goal.returns-in-Ok

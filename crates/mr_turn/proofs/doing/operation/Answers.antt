@@ -1,5 +1,6 @@
 use Rattle.std.proofs.Common.{◌∙◌, refl, subst, sym}
 use Rattle.std.specs.Prelude.{Err, Ok}
+use Rattle.mr_base.specs.Stops.{plainly}
 use Rattle.mr_frame.specs.Doing.{operands_of}
 use Rattle.mr_frame.specs.Kept.{look_of}
 use Rattle.mr_turn.specs.Doing.{do_breaks, do_comes_to, do_planned}
@@ -32,8 +33,8 @@ returns-in-Err c = λ d due.
     let g = given_for look stack s x call c.args.op c.requires.given d due in
     let o = do_comes_to look stack s x call d picks in
     let stops = told_needs look stack s x call d g.0 c.args.op g.1 c.requires.kind picks c.as_slice.result.now c.as_slice.ensures.value (Err c.in-Err.reason) c.in-Err.ensures in
-    stopped_turn c.stopped.result c.in-Err.reason picks s x (do_planned (look_of look) (own_of s.thread stack) d (operands_of call) (begun s x)) o (Does stack s x o stack s x) (IsSame stack s x stack s x)
-    c.stopped.ensures (carry_stops look stack s x call d g.0 c.args.op g.1 c.requires.kind picks c.in-Err.reason stops) (carry_comes look stack s x call d g.0 c.args.op g.1 c.requires.kind picks c.in-Err.reason stops)
+    stopped_turn c.stopped_for.result (plainly c.in-Err.reason) picks s x (do_planned (look_of look) (own_of s.thread stack) d (operands_of call) (begun s x)) o (Does stack s x o stack s x) (IsSame stack s x stack s x)
+    c.stopped_for.ensures (carry_stops look stack s x call d g.0 c.args.op g.1 c.requires.kind picks (plainly c.in-Err.reason) stops) (carry_comes look stack s x call d g.0 c.args.op g.1 c.requires.kind picks (plainly c.in-Err.reason) stops)
     (record { stack = refl; memory = refl; tables = refl })
 
 pub returns-in-Err-meets : goal.returns-in-Err-meets

@@ -1,5 +1,6 @@
 use Rattle.std.proofs.Common.{◌∙◌, [], Some, length, refl, subst, sym}
 use Rattle.std.specs.Prelude.{Err}
+use Rattle.mr_base.specs.Stops.{plainly}
 use Rattle.mr_ast.specs.declared.program.Intrinsic.TheVariants as intrinsic
 use Rattle.mr_base.specs.declared.reason.Reason.TheVariants.{NoPayload}
 use Rattle.mr_value.specs.declared.val.Val.TheVariants as val
@@ -24,8 +25,8 @@ returns-in-None c = λ d due.
     let picks = c.args.picks.now in
     let g = given_for look stack s x call intrinsic.Payload c.requires d due in
     let o = do_comes_to look stack s x call d picks in
-    stopped_turn c.stopped.result NoPayload picks s x (do_planned (look_of look) (own_of s.thread stack) d (operands_of call) (begun s x)) o (Does stack s x o stack s x) (IsSame stack s x stack s x)
-    c.stopped.ensures (payload_stops look stack s x call d g.1 picks (sym c.in-None.ensures)) (payload_comes look stack s x call d g.1 picks (sym c.in-None.ensures))
+    stopped_turn c.stopped_for.result (plainly NoPayload) picks s x (do_planned (look_of look) (own_of s.thread stack) d (operands_of call) (begun s x)) o (Does stack s x o stack s x) (IsSame stack s x stack s x)
+    c.stopped_for.ensures (payload_stops look stack s x call d g.1 picks (sym c.in-None.ensures)) (payload_comes look stack s x call d g.1 picks (sym c.in-None.ensures))
     (record { stack = refl; memory = refl; tables = refl })
 
 pub returns-in-Err : goal.returns-in-Err

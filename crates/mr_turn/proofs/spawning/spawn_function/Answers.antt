@@ -1,5 +1,6 @@
 use Rattle.std.proofs.Common.{◌∙◌, refl, subst, sym}
 use Rattle.std.specs.Prelude.{Err}
+use Rattle.mr_base.specs.Stops.{plainly}
 use Rattle.mr_base.specs.declared.reason.Reason.TheVariants.{SignatureMismatch}
 use Rattle.mr_frame.specs.Doing.{operands_of}
 use Rattle.mr_frame.specs.Kept.{look_of}
@@ -24,8 +25,8 @@ returns-then-not-begins_thread c = λ d due.
     let own = own_of s.thread stack in
     let g = h.given_to in
     let other = sym (found_start look stack s x call d c.args.f.0 h c.function_of.result.now c.function_of.ensures _ c.if-not-begins_thread.ensures) in
-    stopped_turn c.stopped.result SignatureMismatch picks s x (do_planned (look_of look) own d (operands_of call) (begun s x)) o (Does stack s x o stack s x) (IsSame stack s x stack s x)
-    c.stopped.ensures
+    stopped_turn c.stopped_for.result (plainly SignatureMismatch) picks s x (do_planned (look_of look) own d (operands_of call) (begun s x)) o (Does stack s x o stack s x) (IsSame stack s x stack s x)
+    c.stopped_for.ensures
     (other_planned (look_of look) own d (operands_of call) h.is g.callee g.argument g.args (begun s x) c.args.f.0 h.called h.function h.there h.types h.typed other)
     (other_turned (look_of look) own d (operands_of call) h.is g.callee g.argument g.args (begun s x) c.args.f.0 h.called h.function h.there h.types h.typed picks other)
     (record { stack = refl; memory = refl; tables = refl })
