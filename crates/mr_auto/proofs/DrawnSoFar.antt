@@ -1,7 +1,7 @@
 -- Drawing one entry more.
 use Rattle.std.proofs.Common.{◌≡◌, ℕ, suc, ◌+◌, ◌-◌, ◌<◌, ◌≤◌, refl, sym, ap, ◌∙◌, subst, arith, List, [], ◌∷◌, ◌++◌, length, length-append, append-nil, append_assoc, Bool, true, false, not, Option, Some, None}
 use Rattle.std.specs.Prelude.{slice_get, if◌then◌else◌}
-use Rattle.mr_base.specs.declared.stop.Reached.{Reached}
+use Rattle.mr_base.specs.declared.reached.Reached.{Reached}
 use Rattle.mr_base.specs.declared.reason.Verdict.{Verdict}
 use Rattle.mr_base.specs.declared.reason.Verdict.TheVariants as verdict
 use Rattle.mr_event.specs.Footprint.{Footprint}

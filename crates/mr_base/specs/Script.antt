@@ -1,5 +1,5 @@
 -- Scripts: what a step asks of a state that it shares, one query after another, and what it does with each answer.
-use Rattle.mr_base.specs.declared.stop.Stop.{Stop}
+use Rattle.mr_base.specs.Stops.{Stop}
 
 -- A script with queries Q, of which q is answered by an R q, and the result A.
 pub data Script (Q : Type 0) (R : Q → Type 0) (A : Type 0) : Type 0 where

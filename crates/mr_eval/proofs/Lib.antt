@@ -12,10 +12,12 @@ pub mod LoadRuns
 pub mod NumberLaws
 pub mod OperatorsSafe
 pub mod OverflowTypes
+pub mod OwnReasons
 pub mod PartTypes
 pub mod ReadLength
 pub mod RecastLaws
 pub mod ReferRuns
+pub mod RefusedLaws
 pub mod RowRuns
 pub mod SafeLaws
 pub mod SafeRuns
@@ -24,7 +26,6 @@ pub mod ScalarRuns
 pub mod SearchRuns
 pub mod ShapeOf
 pub mod SoundParts
-pub mod StoreLaws
 pub mod TargetLaws
 pub use Rattle.mr_value.proofs.DecodeShape as ValueDecodeShape
 pub use Rattle.mr_value.proofs.EncodeLength as ValueEncodeLength

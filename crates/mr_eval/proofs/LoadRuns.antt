@@ -2,8 +2,9 @@
 use Rattle.std.proofs.Common.{◌≡◌, ℕ, Bool, true, false, Option, None, Some, refl, sym, ap, ap₂, ◌∙◌}
 use Rattle.std.specs.Prelude.{if◌then◌else◌}
 use Rattle.mr_eval.specs.Typed.{meaningless}
-use Rattle.mr_base.specs.Stops.{plainly}
-use Rattle.mr_base.specs.declared.stop.Stop.{Stop}
+use Rattle.mr_base.specs.declared.reached.Reached.{Reached}
+use Rattle.mr_base.specs.declared.reached.Reaching.TheVariants.{Loads}
+use Rattle.mr_base.specs.Stops.{Stop, over, plainly, reached_by, stop_with}
 use Rattle.mr_ast.specs.declared.types.Ty.{Ty}
 use Rattle.mr_base.specs.declared.byte.Pointer.{Pointer}
 use Rattle.mr_base.specs.declared.reason.Reason.{Reason}
@@ -52,5 +53,17 @@ read_found m t p size align old bytes new v sized aligned lent is =
     ∙ ap (λ (o : Outcome Bytes Seen). on o (λ found s. meant_by m (meaningless t p) t found s))
     (sym (ap₂ (λ (n a : ℕ). reading m (Read false p n a) old) sized aligned) ∙ lent)
     ∙ meant_some m (meaningless t p) t bytes v new is
+
+-- bytes that mean none, which were noted
+pub read_meaningless : (m : Memory) (t : Ty) (p : Pointer) (size align : ℕ) (old : Seen) (bytes : Bytes) (new : Seen) (last : Option Reached)
+    → size ≡ size_of t → align ≡ align_of t → reading m (Read false p size align) old ≡ Went bytes new → decoded t bytes ≡ None
+    → last ≡ Some (reached_by Loads p size) → read_typed m t p old ≡ Refused (stop_with last InvalidValue)
+read_meaningless m t p size align old bytes new last sized aligned lent none noted =
+    read_run m t p old
+    ∙ ap (λ (o : Outcome Bytes Seen). on o (λ found s. meant_by m (meaningless t p) t found s))
+    (sym (ap₂ (λ (n a : ℕ). reading m (Read false p n a) old) sized aligned) ∙ lent)
+    ∙ meant_none m (meaningless t p) t bytes new none
+    ∙ ap (λ (n : ℕ). Refused (over (reached_by Loads p n) InvalidValue)) (sym sized)
+    ∙ ap (λ (o : Option Reached). Refused (stop_with o InvalidValue)) (sym noted)
 
 pub ruleset load_laws = (read_run, meant_none, meant_some)

@@ -1,7 +1,7 @@
 -- A script that is never ill-formed comes to no state without a rule over any memory.
 use Rattle.std.proofs.Common.{◌≡◌, ℕ, List, [], Result, Ok, Err, true, false, length}
-use Rattle.mr_base.specs.declared.stop.Reaching.TheVariants.{Loads, Moves, Refers}
-use Rattle.mr_base.specs.declared.stop.Reached.{Reached}
+use Rattle.mr_base.specs.declared.reached.Reaching.TheVariants.{Loads, Moves, Refers}
+use Rattle.mr_base.specs.declared.reached.Reached.{Reached}
 use Rattle.mr_base.specs.Stops.{reached_by}
 use Rattle.mr_ast.specs.ShapedValues.{Named, is_shaped_place, is_shaped_value}
 use Rattle.mr_ast.specs.declared.expr.Place.{Place}

@@ -21,7 +21,7 @@ use Rattle.mr_value.specs.Discriminants.{bits_of_number}
 use Rattle.mr_value.specs.Encode.{encoding_of}
 use Rattle.mr_value.specs.Shape.{has_shape}
 use Rattle.mr_typing.specs.Types.{chained, variant_type}
-use Rattle.mr_base.specs.declared.stop.Stop.{Stop}
+use Rattle.mr_base.specs.Stops.{Stop}
 use Rattle.mr_base.specs.Stops.{plainly}
 use Rattle.mr_base.specs.Script.{Broken, Outcome, Went, ◌>>=◌, on, run}
 use Rattle.mr_eval.specs.Reads.{Seen, reading}

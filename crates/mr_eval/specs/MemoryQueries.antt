@@ -5,7 +5,7 @@ use Rattle.mr_base.specs.declared.byte.Pointer.{Pointer}
 use Rattle.mr_base.specs.declared.byte.AbstractByte.{AbstractByte}
 use Rattle.mr_base.specs.declared.byte.Kind.{Kind}
 use Rattle.mr_base.specs.declared.reason.Reason.TheVariants.{InvalidValue}
-use Rattle.mr_base.specs.declared.stop.Reaching.TheVariants.{Changes, Frees}
+use Rattle.mr_base.specs.declared.reached.Reaching.TheVariants.{Changes, Frees}
 use Rattle.mr_mem.specs.Memory.{Memory, allocated, freed, written}
 use Rattle.mr_runs.specs.Numbers.{with_provenance}
 use Rattle.mr_base.specs.Stops.{over, reached_by}

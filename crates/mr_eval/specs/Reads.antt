@@ -8,9 +8,9 @@ use Rattle.mr_base.specs.declared.byte.AllocId.{AllocId}
 use Rattle.mr_base.specs.declared.byte.Pointer.{Pointer}
 use Rattle.mr_base.specs.declared.reason.Reason.{Reason}
 use Rattle.mr_base.specs.declared.reason.Reason.TheVariants.{DanglingReference}
-use Rattle.mr_base.specs.declared.stop.Reached.{Reached}
-use Rattle.mr_base.specs.declared.stop.Reaching.{Reaching}
-use Rattle.mr_base.specs.declared.stop.Reaching.TheVariants.{Loads, Moves, Refers}
+use Rattle.mr_base.specs.declared.reached.Reached.{Reached}
+use Rattle.mr_base.specs.declared.reached.Reaching.{Reaching}
+use Rattle.mr_base.specs.declared.reached.Reaching.TheVariants.{Loads, Moves, Refers}
 use Rattle.mr_mem.specs.Memory.{Memory, checked, read}
 use Rattle.mr_base.specs.Script.{Script, Outcome, Went, Refused}
 use Rattle.mr_base.specs.Stops.{over, reached_by}

@@ -5,7 +5,7 @@ use Rattle.mr_base.specs.declared.byte.AbstractByte.{AbstractByte}
 use Rattle.mr_base.specs.declared.byte.Pointer.{Pointer}
 use Rattle.mr_layout.specs.Sizes.{align_of}
 use Rattle.mr_mem.specs.Memory.{Memory, written}
-use Rattle.mr_base.specs.declared.stop.Reaching.TheVariants.{Stores}
+use Rattle.mr_base.specs.declared.reached.Reaching.TheVariants.{Stores}
 use Rattle.mr_base.specs.Script.{Outcome, Went}
 use Rattle.mr_base.specs.Stops.{reached_by}
 use Rattle.mr_value.specs.declared.val.Val.{Val}

@@ -19,8 +19,8 @@ use Rattle.mr_value.specs.declared.val.Val.TheOpen.{Val-F}
 use Rattle.mr_value.specs.Decode.{decoded}
 use Rattle.mr_value.specs.Discriminants.{number_of_bits}
 use Rattle.mr_value.specs.Numbers.{Bytes, number_of}
-use Rattle.mr_base.specs.declared.stop.Reaching.TheVariants.{Loads}
-use Rattle.mr_base.specs.declared.stop.Stop.{Stop}
+use Rattle.mr_base.specs.declared.reached.Reaching.TheVariants.{Loads}
+use Rattle.mr_base.specs.Stops.{Stop}
 use Rattle.mr_base.specs.Stops.{over, plainly, reached_by}
 use Rattle.mr_base.specs.Script.{Done, Undefined, Ask, ◌>>=◌}
 use Rattle.mr_eval.specs.Reads.{Read, ReadScript, Refer}

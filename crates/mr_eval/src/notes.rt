@@ -2,17 +2,19 @@
 use mr_base::{Access, Accesses, AllocIds, Pointer, Reached, Reaching};
 use std::alloc::{AllocError, Global};
 
-/// What evaluation notes of what it read: its accesses in order, and the allocations that its range checks touched.
+/// What evaluation notes of what it read: its accesses in order, and the allocations that its range checks touched. Beside
+/// these the bytes that were refused last, by which a stop is told; they stay where the others are forgotten.
 #[derive(Drop)]
 pub struct Notes {
     pub accesses: Accesses,
     pub touched: AllocIds,
-    /// The bytes that memory refused last.
-    pub about: Option<Reached>,
+    /// The bytes that were refused last.
+    pub refused: Option<Reached>,
 }
 
 impl Notes {
-    ghost use Rattle.std.specs.Prelude.{◌≡◌, [], OnOk};
+    ghost use Rattle.std.specs.Prelude.{◌≡◌, [], OnOk, Some};
+    ghost use Rattle.mr_base.specs.Stops.{reached_by};
     ghost use Rattle.mr_eval.specs.Answers.{Extends, seen};
     ghost use Rattle.mr_eval.specs.Reads.{accessing, seeing, touching};
 
@@ -23,7 +25,7 @@ impl Notes {
         Notes {
             accesses: Accesses::new(alloc),
             touched: AllocIds::new(alloc),
-            about: None,
+            refused: None,
         }
     }
 
@@ -35,11 +37,14 @@ impl Notes {
         self.touched.clear();
     }
 
-    /// Notes the bytes that memory refuses.
+    /// Notes the bytes that are refused.
     #[cold]
     #[inline(never)]
-    pub fn refused(&mut self, doing: Reaching, pointer: Pointer, len: u64) {
-        self.about = Some(Reached {
+    pub fn refuse(&mut self, doing: Reaching, pointer: Pointer, len: u64)
+        ensures last { self.new.refused ≡ Some (reached_by doing pointer len) }
+        ensures kept { seen self.new ≡ seen self.old }
+    {
+        self.refused = Some(Reached {
             doing,
             pointer,
             len,

@@ -14,14 +14,15 @@ use mr_runs::View;
 /// A range check.
 #[tactic(auto, using(crate::proofs::ExtendsLaws::extends_laws))]
 pub fn look(m: &Memory, notes: &mut Notes, p: Pointer, len: u64) -> Result<(), Halt>
-    ensures given { Gives same result (reading m.now (Check p len) (seen notes.old)) (seen notes.new) }
+    ensures given { Gives same result (reading m.now (Check p len) (seen notes.old))
+        (seen notes.new) notes.new.refused }
     ensures kept { Extends (seen notes.old) (seen notes.new) }
     ensures refused { IsUnnoted result (seen notes.old) (seen notes.new) }
 {
     match m.check(p, len) {
         Ok(_) => Ok(notes.touch(p, len)?),
         Err(reason) => {
-            notes.refused(Reaching::Moves, p, len);
+            notes.refuse(Reaching::Moves, p, len);
             Err(Halt::Undefined(reason))
         }
     }
@@ -30,14 +31,15 @@ pub fn look(m: &Memory, notes: &mut Notes, p: Pointer, len: u64) -> Result<(), H
 /// The range check of what a reference points to.
 #[tactic(auto, using(crate::proofs::ExtendsLaws::extends_laws))]
 pub fn refer(m: &Memory, notes: &mut Notes, p: Pointer, len: u64) -> Result<(), Halt>
-    ensures given { Gives same result (reading m.now (Refer p len) (seen notes.old)) (seen notes.new) }
+    ensures given { Gives same result (reading m.now (Refer p len) (seen notes.old))
+        (seen notes.new) notes.new.refused }
     ensures kept { Extends (seen notes.old) (seen notes.new) }
     ensures refused { IsUnnoted result (seen notes.old) (seen notes.new) }
 {
     match m.check(p, len) {
         Ok(_) => Ok(notes.touch(p, len)?),
         Err(_) => {
-            notes.refused(Reaching::Refers, p, len);
+            notes.refuse(Reaching::Refers, p, len);
             Err(Halt::Undefined(Reason::DanglingReference))
         }
     }
@@ -53,7 +55,7 @@ pub fn lend<'m>(
     align: u64,
 ) -> Result<View<'m>, Halt>
     ensures given { Gives bytes_of_pieces result (reading m.now (Read false p len align) (seen notes.old))
-        (seen notes.new) }
+        (seen notes.new) notes.new.refused }
     ensures sized { IfOk result (λ v. length (bytes_of_pieces v) ≡ len) }
     ensures kept { Extends (seen notes.old) (seen notes.new) }
     ensures refused { IsUnnoted result (seen notes.old) (seen notes.new) }
@@ -65,7 +67,7 @@ pub fn lend<'m>(
             Ok(view)
         }
         Err(reason) => {
-            notes.refused(Reaching::Loads, p, len);
+            notes.refuse(Reaching::Loads, p, len);
             Err(Halt::Undefined(reason))
         }
     }

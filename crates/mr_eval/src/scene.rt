@@ -90,7 +90,8 @@ impl Scene {
 
     /// Ends the allocation that a pointer begins, with these size and alignment in bytes.
     pub fn free(&mut self, p: Pointer, kind: Kind, size: u64, align: u64) -> Result<(), Fault>
-        ensures { Tells result (memory_answer (Free p kind size align) (world_of self.old)) (world_of self.new) }
+        ensures { Tells result (memory_answer (Free p kind size align) (world_of self.old))
+            (world_of self.new) self.new.notes.refused }
     {
         match self.memory.deallocate(p, kind, size, align) {
             Ok(id) => {
@@ -98,7 +99,7 @@ impl Scene {
                 Ok(())
             }
             Err(reason) => {
-                self.notes.refused(Reaching::Frees, p, size);
+                self.notes.refuse(Reaching::Frees, p, size);
                 Err(Fault::Undefined(reason))
             }
         }

@@ -27,7 +27,7 @@ fn note_store(notes: &mut Notes, atomic: bool, p: Pointer, len: u64) -> Result<(
 /// The store of bytes, atomic or not: 103 before the range check.
 ///
 /// After `Err` memory is as before, and the notes begin with what they held.
-#[tactic(auto, using(crate::proofs::ExtendsLaws::extends_laws))]
+#[tactic(auto, using(crate::proofs::ExtendsLaws::extends_laws, crate::proofs::RefusedLaws::store_refused))]
 pub fn store_bytes(
     m: &mut Memory,
     notes: &mut Notes,
@@ -36,7 +36,8 @@ pub fn store_bytes(
     bytes: &[AbstractByte],
     align: u64,
 ) -> Result<(), Fault>
-    ensures given { Leaves result (storing m.old atomic p bytes.now align (seen notes.old)) m.new (seen notes.new) }
+    ensures given { Leaves result (storing m.old atomic p bytes.now align (seen notes.old)) m.new
+        (seen notes.new) notes.new.refused }
     ensures kept { Extends (seen notes.old) (seen notes.new) }
     ensures err { OnErr result (m.new ≡ m.old) }
 {
@@ -44,7 +45,7 @@ pub fn store_bytes(
     match m.store(p, bytes, align) {
         Ok(()) => Ok(()),
         Err(fault) => {
-            notes.refused(Reaching::Stores, p, bytes.len() as u64);
+            notes.refuse(Reaching::Stores, p, bytes.len() as u64);
             Err(fault)
         }
     }
@@ -53,7 +54,7 @@ pub fn store_bytes(
 /// The store of the bytes of an integer, a bool or a pointer, not atomic: 103 before the range check.
 ///
 /// After `Err` memory is as before, and the notes begin with what they held.
-#[tactic(auto, using(crate::proofs::ExtendsLaws::extends_laws))]
+#[tactic(auto, using(crate::proofs::ExtendsLaws::extends_laws, crate::proofs::RefusedLaws::store_refused))]
 pub fn store_scalar(
     m: &mut Memory,
     notes: &mut Notes,
@@ -65,7 +66,7 @@ pub fn store_scalar(
     ensures given { Leaves result
         (storing m.old false p (with_provenance bytes.now.provenance (take bytes.now.count bytes.now.all)) align
         (seen notes.old))
-        m.new (seen notes.new) }
+        m.new (seen notes.new) notes.new.refused }
     ensures kept { Extends (seen notes.old) (seen notes.new) }
     ensures err { OnErr result (m.new ≡ m.old) }
 {
@@ -74,7 +75,7 @@ pub fn store_scalar(
     match m.store_numbers(p, numbers, bytes.provenance, align) {
         Ok(()) => Ok(()),
         Err(fault) => {
-            notes.refused(Reaching::Stores, p, numbers.len() as u64);
+            notes.refuse(Reaching::Stores, p, numbers.len() as u64);
             Err(fault)
         }
     }
@@ -83,7 +84,7 @@ pub fn store_scalar(
 /// Makes bytes uninitialised, which is noted as a store of so many bytes.
 ///
 /// After `Err` memory is as before, and the notes begin with what they held.
-#[tactic(auto, using(crate::proofs::ExtendsLaws::extends_laws))]
+#[tactic(auto, using(crate::proofs::ExtendsLaws::extends_laws, crate::proofs::RefusedLaws::store_refused))]
 pub fn store_uninit(
     m: &mut Memory,
     notes: &mut Notes,
@@ -91,7 +92,8 @@ pub fn store_uninit(
     len: u64,
     align: u64,
 ) -> Result<(), Fault>
-    ensures given { Leaves result (storing m.old false p (blank len) align (seen notes.old)) m.new (seen notes.new) }
+    ensures given { Leaves result (storing m.old false p (blank len) align (seen notes.old)) m.new
+        (seen notes.new) notes.new.refused }
     ensures kept { Extends (seen notes.old) (seen notes.new) }
     ensures err { OnErr result (m.new ≡ m.old) }
 {
@@ -99,7 +101,7 @@ pub fn store_uninit(
     match m.deinit(p, len, align) {
         Ok(()) => Ok(()),
         Err(fault) => {
-            notes.refused(Reaching::Stores, p, len);
+            notes.refuse(Reaching::Stores, p, len);
             Err(fault)
         }
     }

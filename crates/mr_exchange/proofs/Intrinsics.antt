@@ -2,7 +2,7 @@
 use Rattle.std.proofs.Common.{ℕ, refl, arith, List, [], ◌∷◌, Bool, true, false, Option, Some, None, ◌-◌, ◌^◌}
 use Rattle.std.specs.Prelude.{if◌then◌else◌, nat_lt}
 use Rattle.mr_eval.specs.Typed.{meaningless}
-use Rattle.mr_base.specs.declared.stop.Stop.{Stop}
+use Rattle.mr_base.specs.Stops.{Stop}
 use Rattle.mr_base.specs.Stops.{plainly}
 use Rattle.mr_ast.specs.declared.program.Intrinsic.{Intrinsic}
 use Rattle.mr_ast.specs.declared.types.Ty.{Ty, out-Ty}

@@ -5,7 +5,7 @@ use Rattle.std.proofs.lemmas.List.{drop_all, length-map}
 use Rattle.std.proofs.lemmas.Option.{same_Some}
 use Rattle.std.specs.Option.{option_map}
 use Rattle.std.specs.Prelude.{All, slice_get}
-use Rattle.mr_base.specs.declared.stop.Stop.{Stop}
+use Rattle.mr_base.specs.Stops.{Stop}
 use Rattle.mr_ast.specs.declared.program.Function.{Function}
 use Rattle.mr_ast.specs.declared.program.Local.{Local}
 use Rattle.mr_ast.specs.declared.program.LocalName.{LocalName}

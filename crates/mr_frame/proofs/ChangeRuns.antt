@@ -1,8 +1,8 @@
 -- What the script of a statement comes to: a change of memory, noted.
 use Rattle.std.proofs.Common.{◌≡◌, ℕ, refl, ap, ◌∙◌, List, [], ◌∷◌, Option, None, Some, Bool, true, false}
 use Rattle.std.specs.Prelude.{Result, Ok, Err, if◌then◌else◌}
-use Rattle.mr_eval.specs.declared.fault.Fault.{Fault}
-use Rattle.mr_eval.specs.declared.fault.Fault.TheVariants as fault
+use Rattle.mr_mem.specs.declared.fault.Fault.{Fault}
+use Rattle.mr_mem.specs.declared.fault.Fault.TheVariants as fault
 use Rattle.mr_eval.specs.Environment.{Leaves, Tells}
 use Rattle.mr_ast.specs.declared.types.Num.{Num}
 use Rattle.mr_ast.specs.declared.types.Tag.{Tag}

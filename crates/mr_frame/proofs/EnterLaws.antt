@@ -8,8 +8,8 @@ use Rattle.std.specs.Option.{option_map}
 use Rattle.std.specs.Prelude.{All, Result, map, not, ◌==◌, ◌||◌, ◌^◌, nat_lt, slice_get}
 use Rattle.std.specs.FinMap as fin
 use Rattle.mr_base.specs.Stops.{reached_by}
-use Rattle.mr_base.specs.declared.stop.Reaching.TheVariants.{Stores}
-use Rattle.mr_base.specs.declared.stop.Stop.{Stop}
+use Rattle.mr_base.specs.declared.reached.Reaching.TheVariants.{Stores}
+use Rattle.mr_base.specs.Stops.{Stop}
 use Rattle.mr_ast.specs.declared.program.Function.{Function}
 use Rattle.mr_ast.specs.declared.program.Local.{Local}
 use Rattle.mr_ast.specs.declared.program.LocalName.{LocalName}

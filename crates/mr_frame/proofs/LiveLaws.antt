@@ -1,7 +1,7 @@
 -- Storage of a local that is given up or renewed.
 use Rattle.std.proofs.Common.{◌≡◌, ℕ, refl, sym, ap, ◌∙◌, arith, List, [], ◌∷◌, length, None, Some}
 use Rattle.std.specs.Prelude.{slice_index_or}
-use Rattle.mr_base.specs.declared.stop.Stop.{Stop}
+use Rattle.mr_base.specs.Stops.{Stop}
 use Rattle.mr_ast.specs.declared.program.LocalName.{LocalName}
 use Rattle.mr_ast.specs.declared.program.Stmt.TheVariants as stmt
 use Rattle.mr_base.specs.declared.byte.Kind.TheVariants.{Stack as OnStack}

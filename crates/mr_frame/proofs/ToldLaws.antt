@@ -1,9 +1,9 @@
 -- Where a part stops, the whole stops.
 use Rattle.std.proofs.Common.{◌≡◌}
 use Rattle.std.specs.Prelude.{Err}
-use Rattle.mr_base.specs.declared.stop.Stop.{Stop}
-use Rattle.mr_eval.specs.declared.fault.Fault.{Fault}
-use Rattle.mr_eval.specs.declared.fault.Fault.TheVariants as fault
+use Rattle.mr_base.specs.Stops.{Stop}
+use Rattle.mr_mem.specs.declared.fault.Fault.{Fault}
+use Rattle.mr_mem.specs.declared.fault.Fault.TheVariants as fault
 use Rattle.mr_base.specs.Script.{Outcome, Refused}
 use Rattle.mr_eval.specs.Environment.{Leaves, Tells}
 use Rattle.mr_mem.specs.Memory.{Memory}

@@ -59,7 +59,8 @@ pub fn prepare<'a>(
 ) -> Result<Prepared, Fault>
     requires { CallIn e.now written.now args.now to.now }
     ensures given { Prepares e.now.program.now result
-        (prepared m.now (look_in e.now) (env_surround e.now) written.now args.now to.now (seen n.old)) (seen n.new) }
+        (prepared m.now (look_in e.now) (env_surround e.now) written.now args.now to.now (seen n.old))
+        (seen n.new) n.new.refused }
     ensures kept { Extends (seen n.old) (seen n.new) }
 {
     let at = place(alloc, e, m, n, to)?;

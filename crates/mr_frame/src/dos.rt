@@ -80,7 +80,7 @@ fn result_place(
 ) -> Result<Option<Pointer>, Fault>
     requires { ResultIn e.now (option_copied at) }
     ensures given { Tells result (result_placed m.now (env_surround e.now) (option_copied at.entry) (seen n.old))
-        (seen n.new) }
+        (seen n.new) n.new.refused }
     ensures kept { Extends (seen n.old) (seen n.new) }
 {
     match at {
@@ -102,7 +102,8 @@ fn operands<'a>(
     requires args { All (PlainIn e.now) args.now }
     requires place { ResultIn e.now (option_copied place) }
     ensures given { TellsBy operands_of result
-        (given_operands m.now (env_surround e.now) args.now (option_copied place.entry) (seen n.old)) (seen n.new) }
+        (given_operands m.now (env_surround e.now) args.now (option_copied place.entry) (seen n.old))
+        (seen n.new) n.new.refused }
     ensures kept { Extends (seen n.old) (seen n.new) }
 {
     let at = result_place(alloc, e, m, n, place)?;
@@ -145,7 +146,7 @@ fn store_result(
 ) -> Result<(), Fault>
     requires { FitsResult call.now.result call.now.result_type (option_copied value) }
     ensures { Tells result (result_stored call.now.result call.now.result_type
-        (option_copied value.entry) (world_of s.old)) (world_of s.new) }
+        (option_copied value.entry) (world_of s.old)) (world_of s.new) s.new.notes.refused }
 {
     match (call.result, &call.result_type, value) {
         (Some(p), Some(t), Some(v)) => store(alloc, e, s, p, t, v),
@@ -220,7 +221,8 @@ impl Stack {
         requires fits { FitsStack look.now.program.now (stack_of self.now) }
         requires due { (d : DueDo) × (next_do (look_of look.now) (stack_of self.now) ≡ Some d) }
         ensures given { (d : DueDo) → next_do (look_of look.now) (stack_of self.now) ≡ Some d
-            → TellsBy operands_of result (argued m.now (look_of look.now) d (seen notes.old)) (seen notes.new) }
+            → TellsBy operands_of result (argued m.now (look_of look.now) d (seen notes.old))
+            (seen notes.new) notes.new.refused }
         ensures kept { Extends (seen notes.old) (seen notes.new) }
     {
         let Term::Do(_, args, place, _) = self.due_do(look) else {
@@ -247,7 +249,7 @@ impl Stack {
         requires result { FitsResult call.now.result call.now.result_type (option_copied value) }
         ensures { (d : DueDo) → next_do (look_of look.now) (stack_of self.old) ≡ Some d
             → TellsBy (λ u. stack_of self.new) result (finished (stack_of self.old) d
-            (operands_of call.now) (option_copied value.entry) (world_of s.old)) (world_of s.new) }
+            (operands_of call.now) (option_copied value.entry) (world_of s.old)) (world_of s.new) s.new.notes.refused }
     {
         let Term::Do(_, _, _, next) = self.due_do(look) else {
             unreachable!()

@@ -2,8 +2,8 @@
 use Rattle.std.proofs.Common.{◌≡◌, ℕ, ◌*◌, ◌^◌, ◌<◌, refl, subst, sym, ap, ◌∙◌, List, [], ◌∷◌, Option, Some, None, Bool, true, Result, Ok, Err}
 use Rattle.mr_base.specs.declared.reason.Reason.TheVariants.{InvalidValue}
 use Rattle.mr_base.specs.Stops.{over, reached_by}
-use Rattle.mr_base.specs.declared.stop.Reaching.TheVariants.{Changes, Loads}
-use Rattle.mr_base.specs.declared.stop.Stop.{Stop}
+use Rattle.mr_base.specs.declared.reached.Reaching.TheVariants.{Changes, Loads}
+use Rattle.mr_base.specs.Stops.{Stop}
 use Rattle.mr_base.proofs.Comparisons.{eq_test, lt_test}
 use Rattle.std.specs.Prelude.{if◌then◌else◌, slice_get}
 use Rattle.std.proofs.lemmas.Option.{same_Some}
@@ -22,8 +22,8 @@ use Rattle.mr_layout.proofs.AlignLaws.{align_int}
 use Rattle.mr_layout.proofs.SizeLaws.{size_int}
 use Rattle.mr_mem.specs.Memory.{Memory, written}
 use Rattle.mr_mem.specs.Stored.{IsStored}
-use Rattle.mr_eval.specs.declared.fault.Fault.{Fault}
-use Rattle.mr_eval.specs.declared.fault.Fault.TheVariants as fault
+use Rattle.mr_mem.specs.declared.fault.Fault.{Fault}
+use Rattle.mr_mem.specs.declared.fault.Fault.TheVariants as fault
 use Rattle.mr_value.specs.declared.val.Val.{Val}
 use Rattle.mr_value.specs.declared.val.Val.TheVariants as val
 use Rattle.mr_value.proofs.ShapeLaws.{has_int}

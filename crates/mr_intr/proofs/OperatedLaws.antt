@@ -1,6 +1,6 @@
 -- What an intrinsic comes to on arguments that are known, and what the code that asks memory alone leaves.
 use Rattle.std.proofs.Common.{◌≡◌, ℕ, refl, subst, sym, ap, List, [], ◌∷◌, Option, Some, None, Bool, Err}
-use Rattle.mr_base.specs.declared.stop.Stop.{Stop}
+use Rattle.mr_base.specs.Stops.{Stop}
 use Rattle.mr_ast.specs.declared.program.Intrinsic.{Intrinsic}
 use Rattle.mr_ast.specs.declared.program.Intrinsic.TheVariants as intrinsic
 use Rattle.mr_ast.specs.declared.types.Ty.{Ty}
@@ -11,8 +11,8 @@ use Rattle.mr_value.specs.declared.val.Val.{Val, out-Val}
 use Rattle.mr_value.specs.declared.val.Val.TheVariants as val
 use Rattle.mr_base.specs.Script.{Done, Ask, ◌>>=◌, Outcome, Went, Refused, on, run}
 use Rattle.mr_eval.specs.MemoryQueries.{Free, MemoryQuery, MemoryReply, memory_answer}
-use Rattle.mr_eval.specs.declared.fault.Fault.{Fault}
-use Rattle.mr_eval.specs.declared.fault.Fault.TheVariants as fault
+use Rattle.mr_mem.specs.declared.fault.Fault.{Fault}
+use Rattle.mr_mem.specs.declared.fault.Fault.TheVariants as fault
 use Rattle.mr_eval.specs.Environment.{Tells}
 use Rattle.mr_eval.specs.World.{World, world_of}
 use Rattle.mr_eval.specs.declared.scene.Scene.{Scene}

@@ -3,7 +3,7 @@ use Rattle.std.proofs.Common.{◌≡◌, ℕ, ◌<◌, ◌*◌, ◌^◌, refl, s
 use Rattle.std.specs.Prelude.{◌||◌, slice_get, if◌then◌else◌, is_some, nat_lt, ◌-◌, ◌++◌}
 use Rattle.std.specs.List.{list_all}
 use Rattle.std.proofs.lemmas.Bool.{and_parts}
-use Rattle.mr_base.specs.declared.stop.Stop.{Stop}
+use Rattle.mr_base.specs.Stops.{Stop}
 use Rattle.mr_eval.specs.Typed.{meaningless}
 use Rattle.mr_base.specs.Stops.{plainly}
 use Rattle.mr_ast.specs.Integers.{int_size}

@@ -5,8 +5,8 @@ use Rattle.mr_ast.specs.declared.program.Intrinsic.TheVariants as intrinsic
 use Rattle.mr_base.specs.declared.byte.Pointer.{Pointer}
 use Rattle.mr_base.specs.declared.reason.Reason.{Reason}
 use Rattle.mr_base.specs.declared.reason.Reason.TheVariants.{InvalidValue}
-use Rattle.mr_base.specs.declared.stop.Reaching.{Reaching}
-use Rattle.mr_base.specs.declared.stop.Reaching.TheVariants.{Changes}
+use Rattle.mr_base.specs.declared.reached.Reaching.{Reaching}
+use Rattle.mr_base.specs.declared.reached.Reaching.TheVariants.{Changes}
 use Rattle.mr_base.specs.Stops.{reached_by}
 use Rattle.mr_mem.specs.Memory.{Memory, written}
 use Rattle.mr_base.specs.Script.{Outcome, Went, on}

@@ -7,8 +7,8 @@ use Rattle.mr_ast.specs.declared.program.Intrinsic.TheVariants as intrinsic
 use Rattle.mr_ast.specs.declared.types.Ty.{Ty}
 use Rattle.mr_base.specs.declared.byte.AllocId.{AllocId}
 use Rattle.mr_mem.specs.Memory.{Memory}
-use Rattle.mr_eval.specs.declared.fault.Fault.{Fault}
-use Rattle.mr_eval.specs.declared.fault.Fault.TheVariants as fault
+use Rattle.mr_mem.specs.declared.fault.Fault.{Fault}
+use Rattle.mr_mem.specs.declared.fault.Fault.TheVariants as fault
 use Rattle.mr_value.specs.declared.val.Val.{Val}
 use Rattle.mr_value.specs.Shape.{has_shape}
 use Rattle.mr_typing.specs.Intrinsics.{fits_intrinsic}

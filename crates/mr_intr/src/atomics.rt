@@ -47,13 +47,14 @@ fn load_number(
     p: Pointer,
     int: IntType,
 ) -> Result<u128, Fault>
-    ensures told { Tells result (number_read m.now doing p (int_size int) (seen notes.old)) (seen notes.new) }
+    ensures told { Tells result (number_read m.now doing p (int_size int) (seen notes.old))
+        (seen notes.new) notes.new.refused }
     ensures small { IfOk result (λ n. n < 2 ^ (8 * int_size int)) }
 {
     let size = int_bytes(int);
     match m.load(p, size, size) {
         Err(reason) => {
-            notes.refused(doing, p, size);
+            notes.refuse(doing, p, size);
             Err(Fault::Undefined(reason))
         }
         Ok(view) => {
@@ -62,7 +63,7 @@ fn load_number(
             match number_in(&view, int) {
                 Ok(n) => Ok(n),
                 Err(reason) => {
-                    notes.refused(doing, p, size);
+                    notes.refuse(doing, p, size);
                     Err(Fault::Undefined(reason))
                 }
             }
@@ -81,7 +82,8 @@ fn store_number(
     n: u128,
 ) -> Result<(), Fault>
     requires { n < 2 ^ (8 * int_size int) }
-    ensures { Leaves result (number_written m.old p (int_size int) n (seen notes.old)) m.new (seen notes.new) }
+    ensures { Leaves result (number_written m.old p (int_size int) n (seen notes.old)) m.new
+        (seen notes.new) notes.new.refused }
 {
     let size = int_bytes(int);
     let mut bytes = Vec::new(alloc);
@@ -90,7 +92,7 @@ fn store_number(
     match m.store(p, bytes.as_slice(), size) {
         Ok(()) => Ok(()),
         Err(fault) => {
-            notes.refused(Reaching::Changes, p, size);
+            notes.refuse(Reaching::Changes, p, size);
             Err(fault)
         }
     }
@@ -107,7 +109,7 @@ fn exchange(
 ) -> Result<u128, Fault>
     requires { new < 2 ^ (8 * int_size int) }
     ensures told { Tells result (memory_answer (Modify p (int_size int) (exchanged expected new)) (world_of s.old))
-        (world_of s.new) }
+        (world_of s.new) s.new.notes.refused }
     ensures small { IfOk result (λ n. n < 2 ^ (8 * int_size int)) }
 {
     let found = load_number(&s.memory, &mut s.notes, Reaching::Changes, p, int)?;
@@ -160,7 +162,7 @@ fn replace(
     requires op { IsFetch op }
     requires by { by < 2 ^ (8 * int_size int) }
     ensures told { Tells result (memory_answer (Modify p (int_size int) (fetched op int by)) (world_of s.old))
-        (world_of s.new) }
+        (world_of s.new) s.new.notes.refused }
     ensures small { IfOk result (λ n. n < 2 ^ (8 * int_size int)) }
 {
     let found = load_number(&s.memory, &mut s.notes, Reaching::Changes, p, int)?;

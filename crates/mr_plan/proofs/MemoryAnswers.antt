@@ -6,8 +6,8 @@ use Rattle.mr_base.specs.declared.byte.Kind.{Kind}
 use Rattle.mr_base.specs.declared.byte.Pointer.{Pointer}
 use Rattle.mr_base.specs.declared.reason.Reason.{Reason}
 use Rattle.mr_base.specs.declared.reason.Reason.TheVariants.{DanglingReference}
-use Rattle.mr_base.specs.declared.stop.Reaching.{Reaching}
-use Rattle.mr_base.specs.declared.stop.Reaching.TheVariants.{Changes, Frees, Loads, Moves, Refers, Stores}
+use Rattle.mr_base.specs.declared.reached.Reaching.{Reaching}
+use Rattle.mr_base.specs.declared.reached.Reaching.TheVariants.{Changes, Frees, Loads, Moves, Refers, Stores}
 use Rattle.mr_base.specs.Script.{Outcome, Went, on}
 use Rattle.mr_base.specs.Stops.{reached_by}
 use Rattle.mr_mem.specs.Memory.{Memory, checked, freed, read, written}

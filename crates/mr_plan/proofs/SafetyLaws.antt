@@ -1,10 +1,10 @@
 -- Scripts over memory that are never ill-formed, by their parts, and their runs.
 use Rattle.std.proofs.Common.{◌≡◌, ℕ, ◌<◌, ◌*◌, ◌^◌, refl, subst, Result, Ok, Err, Option, None, Some, Bool, true, false, List, length}
-use Rattle.mr_base.specs.declared.stop.Reached.{Reached}
+use Rattle.mr_base.specs.declared.reached.Reached.{Reached}
 use Rattle.mr_base.specs.declared.byte.Pointer.{Pointer}
 use Rattle.mr_base.specs.declared.reason.Reason.{Reason}
-use Rattle.mr_base.specs.declared.stop.Reaching.{Reaching}
-use Rattle.mr_base.specs.declared.stop.Reaching.TheVariants.{Changes}
+use Rattle.mr_base.specs.declared.reached.Reaching.{Reaching}
+use Rattle.mr_base.specs.declared.reached.Reaching.TheVariants.{Changes}
 use Rattle.mr_base.specs.declared.byte.AbstractByte.{AbstractByte}
 use Rattle.mr_base.specs.Stops.{reached_by}
 use Rattle.mr_mem.specs.Memory.{Memory, freed, read, written}

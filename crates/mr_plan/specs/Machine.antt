@@ -3,7 +3,7 @@
 use Rattle.std.specs.Prelude.{ℕ, List, [], ◌∷◌, ◌++◌, slice_set, Option, None, Some, slice_get, if◌then◌else◌}
 use Rattle.mr_base.specs.declared.reason.Verdict.{Verdict}
 use Rattle.mr_base.specs.declared.reason.Verdict.TheVariants as verdict
-use Rattle.mr_base.specs.declared.stop.Reached.{Reached}
+use Rattle.mr_base.specs.declared.reached.Reached.{Reached}
 use Rattle.mr_mem.specs.Memory.{leaks}
 use Rattle.mr_sched.specs.declared.schedule.Ask.{Ask}
 use Rattle.mr_base.specs.Script.{◌>>=◌, Outcome, Went, Refused, Broken, run}

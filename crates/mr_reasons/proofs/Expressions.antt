@@ -3,7 +3,7 @@ use Rattle.std.proofs.Common.{◌≡◌, ℕ, ◌*◌, ◌^◌, refl, sym, subst
 use Rattle.std.specs.Prelude.{◌==◌, ℤ, pos, negsuc, if◌then◌else◌, int_div, int_le, int_lt, int_rem, is_some, nat_lt, slice_get, unsigned_abs, ◌+ℤ◌}
 use Rattle.std.specs.Ordering.{int_eq}
 use Rattle.mr_eval.specs.Typed.{meaningless}
-use Rattle.mr_base.specs.declared.stop.Stop.{Stop}
+use Rattle.mr_base.specs.Stops.{Stop}
 use Rattle.mr_base.specs.Stops.{plainly}
 use Rattle.mr_ast.specs.Integers.{bits_of, fits, least_of}
 use Rattle.mr_ast.specs.declared.expr.BinaryOp.{BinaryOp}

@@ -1,7 +1,7 @@
 -- What an undefined run speaks of.
 use Rattle.std.specs.Prelude.{Option}
 use Rattle.mr_ast.specs.declared.program.Program.{Program}
-use Rattle.mr_base.specs.declared.stop.Reached.{Reached}
+use Rattle.mr_base.specs.declared.reached.Reached.{Reached}
 use Rattle.mr_sched.specs.declared.schedule.Schedule.{Schedule}
 use Rattle.mr_step.specs.StartRuns.{run_of}
 

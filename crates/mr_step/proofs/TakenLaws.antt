@@ -4,8 +4,8 @@ use Rattle.std.proofs.lemmas.Option.{same_Some, slice_get_within}
 use Rattle.std.proofs.Math.ListN.{length-set}
 use Rattle.std.specs.Prelude.{slice_get, slice_set}
 use Rattle.std.specs.Option.{option_map}
-use Rattle.mr_base.specs.declared.stop.Stop.{Stop}
-use Rattle.mr_base.specs.declared.stop.Reached.{Reached}
+use Rattle.mr_base.specs.Stops.{Stop}
+use Rattle.mr_base.specs.declared.reached.Reached.{Reached}
 use Rattle.mr_base.specs.declared.reason.Verdict.{Verdict}
 use Rattle.mr_base.specs.declared.reason.Verdict.TheVariants as verdict
 use Rattle.mr_eval.specs.Tally.{start_tally}

@@ -1,6 +1,6 @@
 -- How an entry is answered, and the turn of its thread.
 use Rattle.std.specs.Prelude.{◌≡◌, ℕ, ◌<◌, ◌^◌, true, false, List, length, Option, None, Some, Result, Ok, Err}
-use Rattle.mr_base.specs.declared.stop.Stop.{Stop}
+use Rattle.mr_base.specs.Stops.{Stop}
 use Rattle.mr_base.specs.declared.reason.Verdict.TheVariants.{Running, Undefined}
 use Rattle.mr_eval.specs.declared.scene.Scene.{Scene}
 use Rattle.mr_mem.specs.Memory.{Memory}

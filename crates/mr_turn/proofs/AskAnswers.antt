@@ -3,7 +3,7 @@ use Rattle.std.proofs.Common.{◌≡◌, ℕ, refl, sym, ap, ap₂, ◌∙◌, s
 use Rattle.std.specs.Option.{option_map}
 use Rattle.std.proofs.lemmas.List.{append-nil}
 use Rattle.std.proofs.lemmas.Option.{same_Some}
-use Rattle.mr_base.specs.declared.stop.Stop.{Stop}
+use Rattle.mr_base.specs.Stops.{Stop}
 use Rattle.mr_ast.specs.declared.program.Intrinsic.{Intrinsic}
 use Rattle.mr_ast.specs.declared.program.Intrinsic.TheVariants as intrinsic
 use Rattle.mr_ast.specs.declared.types.Ty.{Ty}

@@ -1,9 +1,9 @@
 -- What the code of an operation whose needs are met finds and answers.
 use Rattle.std.proofs.Common.{◌≡◌, ℕ, refl, sym, ap, ap₂, ◌∙◌, subst, arith, List, [], length, Option, Some, None, Result, Ok, Err}
-use Rattle.mr_base.specs.declared.stop.Stop.{Stop}
+use Rattle.mr_base.specs.Stops.{Stop}
 use Rattle.mr_ast.specs.declared.program.Intrinsic.{Intrinsic}
 use Rattle.mr_base.specs.declared.reason.Reason.{Reason}
-use Rattle.mr_eval.specs.declared.fault.Fault.{Fault as MemoryFault}
+use Rattle.mr_mem.specs.declared.fault.Fault.{Fault as MemoryFault}
 use Rattle.mr_base.specs.Script.{Outcome, Refused, run}
 use Rattle.mr_sync.specs.Tables.{Tables}
 use Rattle.mr_eval.specs.World.{world_of}

@@ -1,9 +1,9 @@
 -- What the code of a frame's turn answers, by its parts.
 use Rattle.std.proofs.Common.{◌≡◌, ℕ, refl, sym, ap, ◌∙◌, subst, List, [], Option, None, Result, Ok, Err}
-use Rattle.mr_base.specs.declared.stop.Stop.{Stop}
+use Rattle.mr_base.specs.Stops.{Stop}
 use Rattle.mr_mem.specs.Memory.{Memory, ranges_of}
-use Rattle.mr_eval.specs.declared.fault.Fault.{Fault as MemoryFault}
-use Rattle.mr_eval.specs.declared.fault.Fault.TheVariants as memory_fault
+use Rattle.mr_mem.specs.declared.fault.Fault.{Fault as MemoryFault}
+use Rattle.mr_mem.specs.declared.fault.Fault.TheVariants as memory_fault
 use Rattle.mr_sched.specs.declared.schedule.Ask.{Ask}
 use Rattle.mr_base.specs.Script.{Outcome, Went, Refused, Broken, run}
 use Rattle.mr_sync.specs.Tables.{Tables}

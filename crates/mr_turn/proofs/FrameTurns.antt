@@ -1,7 +1,7 @@
 -- The turn of a thread whose next step is no intrinsic: what it needs, and what it comes to, by what the frame's step comes to.
 use Rattle.std.proofs.Common.{◌≡◌, ℕ, refl, sym, ap, ap₂, ◌∙◌, List, [], Option, None, true, false}
 use Rattle.std.specs.Option.{option_map}
-use Rattle.mr_base.specs.declared.stop.Stop.{Stop}
+use Rattle.mr_base.specs.Stops.{Stop}
 use Rattle.mr_mem.specs.Memory.{Memory}
 use Rattle.mr_base.specs.Script.{Done, ◌>>=◌, Outcome, Went, Refused, Broken, on, run}
 use Rattle.mr_base.proofs.ScriptRuns.{run_bind}

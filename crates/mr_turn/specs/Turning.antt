@@ -2,12 +2,12 @@
 use Rattle.std.specs.Prelude.{◌≡◌, ℕ, ◌<◌, ◌^◌, Bool, true, false, List, [], ◌∷◌, length, Option, None, Some, Result}
 use Rattle.std.specs.Prelude.{Ok, Err}
 use Rattle.std.specs.Option.{option_map}
-use Rattle.mr_base.specs.declared.stop.Stop.{Stop}
+use Rattle.mr_base.specs.Stops.{Stop}
 use Rattle.mr_base.specs.declared.thread.Event.TheVariants.{Quiet}
 use Rattle.mr_mem.specs.Memory.{ranges_of}
 use Rattle.mr_sched.specs.declared.schedule.Ask.{Ask}
-use Rattle.mr_eval.specs.declared.fault.Fault.{Fault as MemoryFault}
-use Rattle.mr_eval.specs.declared.fault.Fault.TheVariants as memory_fault
+use Rattle.mr_mem.specs.declared.fault.Fault.{Fault as MemoryFault}
+use Rattle.mr_mem.specs.declared.fault.Fault.TheVariants as memory_fault
 use Rattle.mr_base.specs.Script.{Outcome, Refused, Went, run, ◌>>=◌}
 use Rattle.mr_sync.specs.Tables.{IsEnabled, Tables, ended}
 use Rattle.mr_eval.specs.Tally.{start_tally}

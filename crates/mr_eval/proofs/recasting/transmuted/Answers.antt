@@ -15,7 +15,7 @@ pub returns-in-Some-clause-given : goal.returns-in-Some-clause-given
 returns-in-Some-clause-given c =
     let new = encoding_of (ty_of c.args.from) c.args.v.now in
     let found : decoded c.args.to.now new ≡ Some c.in-Some.v = sym c.in_ok-v.ensures ∙ c.in-Some.is in
-    subst (λ (o : Outcome Val _). Gives same c.referred.result o (seen c.referred.new.notes))
+    subst (λ (o : Outcome Val _). Gives same c.referred.result o (seen c.referred.new.notes) c.referred.new.notes.refused)
     (sym (transmuted_run c.args.m.now c.args.to.now (ty_of c.args.from) c.args.v.now (seen c.args.notes.now) c.requires.shape
     ∙ meant_some c.args.m.now (plainly TransmuteInvalid) c.args.to.now new c.in-Some.v (seen c.args.notes.now) found)) c.referred.ensures.given
 

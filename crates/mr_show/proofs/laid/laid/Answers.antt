@@ -7,7 +7,7 @@ use Rattle.mr_start.specs.ThreadSteps.{Own}
 use Rattle.mr_input.specs.declared.written.Written.{Written}
 use Rattle.mr_input.specs.Answer.{Answer, seen as written_as}
 use Rattle.mr_listing.specs.Seen.{Seen}
-use Rattle.mr_base.specs.declared.stop.Reached.{Reached}
+use Rattle.mr_base.specs.declared.reached.Reached.{Reached}
 use Rattle.mr_show.specs.Answer.{part_answer}
 use Rattle.mr_show.specs.Gathered.{gathered}
 use Rattle.mr_show.proofs.laid.laid.Goals as goal

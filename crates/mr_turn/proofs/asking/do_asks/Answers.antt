@@ -1,7 +1,7 @@
 use Rattle.std.proofs.Common.{◌≡◌, [], refl, subst, sym}
 use Rattle.std.specs.Prelude.{Err, None, Ok}
-use Rattle.mr_eval.specs.declared.fault.Fault.{Fault}
-use Rattle.mr_eval.specs.declared.fault.Fault.TheVariants as fault
+use Rattle.mr_mem.specs.declared.fault.Fault.{Fault}
+use Rattle.mr_mem.specs.declared.fault.Fault.TheVariants as fault
 use Rattle.mr_base.specs.Script.{Went}
 use Rattle.mr_eval.specs.Answers.{seen}
 use Rattle.mr_eval.specs.World.{TellsBy}

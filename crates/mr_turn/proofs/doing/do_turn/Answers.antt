@@ -1,6 +1,6 @@
 use Rattle.std.proofs.Common.{refl, subst, subst₂, sym}
 use Rattle.std.specs.Prelude.{Err, Option}
-use Rattle.mr_eval.specs.declared.fault.Fault.{Fault}
+use Rattle.mr_mem.specs.declared.fault.Fault.{Fault}
 use Rattle.mr_base.specs.Script.{Outcome}
 use Rattle.mr_eval.specs.Answers.{seen}
 use Rattle.mr_eval.specs.World.{TellsBy}
