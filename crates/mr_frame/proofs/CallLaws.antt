@@ -5,8 +5,8 @@ use Rattle.std.specs.List.{flat_map, list_all}
 use Rattle.std.specs.Option.{option_map}
 use Rattle.std.specs.Prelude.{Err, slice_get, ◌&&◌, ◌||◌, if◌then◌else◌}
 use Rattle.std.proofs.lemmas.Bool.{and_parts}
-use Rattle.mr_base.specs.Stops.{Stop}
-use Rattle.mr_base.specs.Stops.{plainly}
+use Rattle.mr_base.specs.Stops.{Stop, plainly, stop_with}
+use Rattle.mr_base.specs.declared.reached.Reached.{Reached}
 use Rattle.mr_ast.specs.Shaped.{is_optional_block, named_in}
 use Rattle.mr_ast.specs.ShapedValues.{Named, is_shaped_place, is_shaped_value}
 use Rattle.mr_ast.specs.declared.expr.Place.{Place}
@@ -134,9 +134,10 @@ module _ (look : Look) (given : Option (List Ty)) (place : Pointer) (vs : List V
 -- ---- a call that is prepared
 
 -- where a call cannot be prepared, what is behind it stops too
-pub prepared_stop : {B T : Type 0} (p : Program) (f : Fault) (o : Outcome Prepared Seen) (whole : Outcome B T) (v : Seen) (t : T) → Prepares p (Err f) o v → ((r : Stop) → o ≡ Refused r → whole ≡ Refused r) → Tells {X = B} (Err f) whole t
-prepared_stop p (fault.Undefined r) o whole v t h k = k r h
-prepared_stop p fault.Memory o whole v t h k = tt
+pub prepared_stop : {B T : Type 0} (p : Program) (f : Fault) (o : Outcome Prepared Seen) (whole : Outcome B T) (v : Seen) (t : T) (refused : Option Reached) → Prepares p (Err f) o v refused
+    → ((r : Stop) → o ≡ Refused r → whole ≡ Refused r) → Tells {X = B} (Err f) whole t refused
+prepared_stop p (fault.Undefined r) o whole v t refused h k = k (stop_with refused r) h
+prepared_stop p fault.Memory o whole v t refused h k = tt
 
 module _ (m : Memory) (look : Look) (s : Surround) (callee : Value) (args : List Value) (to : Place) (s0 : Seen) where
   abbrev pub last : Pointer → Pointer → List Val → Seen → Outcome Prepared Seen

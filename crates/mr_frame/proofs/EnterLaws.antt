@@ -250,7 +250,7 @@ value_stored t p v w ok lies shape =
     let seen = seeing (accessing true false p (length ys)) (touching p (length ys)) (seen_of w.1) in
     record {
       world = (stored.new, with_seen w.1 seen);
-      is = store_tells (Ok tt) t p v w stored.new seen shape (ap (λ (r : Result Memory Reason). answered (reached_by Stores p (length (encoding_of t v))) r (λ new. Went new seen)) stored.is);
+      is = store_tells (Ok tt) t p v w stored.new seen None shape (ap (λ (r : Result Memory Reason). answered (reached_by Stores p (length (encoding_of t v))) r (λ new. Went new seen)) stored.is);
       still = stored.still;
     }
 

@@ -1,5 +1,6 @@
 //! Intrinsics, as far as they are steps of a frame: what they are given, and how they end.
-ghost use Rattle.std.specs.Prelude.{◌≡◌, All, IfOk, Some, option_copied, true};
+ghost use Rattle.std.specs.Prelude.{◌≡◌, All, IfOk, Option, Some, option_copied, true};
+ghost use Rattle.mr_base.specs.declared.reached.Reached.{Reached};
 ghost use Rattle.mr_eval.specs.Answers.{Extends, seen};
 ghost use Rattle.mr_eval.specs.Environment.{Tells, env_surround};
 ghost use Rattle.mr_eval.specs.World.{TellsBy, world_of};
@@ -122,8 +123,9 @@ fn typed<'a>(
 ) -> Result<DoCall, Fault>
     requires args { All (PlainIn e.now) args.now }
     requires place { ResultIn e.now (option_copied place) }
-    ensures { (s : Seen) → TellsBy operands_of result (with_types at row.items
-        (result_typed (env_surround e.now) (option_copied place.entry)) (arg_types (env_surround e.now) args.now) s) s }
+    ensures { (s : Seen) (refused : Option Reached) → TellsBy operands_of result (with_types at row.items
+        (result_typed (env_surround e.now) (option_copied place.entry)) (arg_types (env_surround e.now) args.now) s)
+        s refused }
 {
     match types(alloc, e, args) {
         Ok(arg_types) => Ok(DoCall {

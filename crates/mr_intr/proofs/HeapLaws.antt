@@ -52,6 +52,14 @@ module _ (size align : ℕ) where
       by_cases false true h = absurd (cc)
       by_cases false false h = cc
 
+  pub allocation_unplanned : (w : Shared × Notes) (r : Reason) → allocation_fault size align ≡ Some r → run answer (allocating size align) w ≡ Refused (plainly r)
+  allocation_unplanned w r e = by_cases (nat_lt (2 ^ 63 - 1) size) (is_power_of_two align) e
+    where
+      by_cases : (large power : Bool) → fault_by large power ≡ Some r → run answer (by_tests large power) w ≡ Refused (plainly r)
+      by_cases true power h = cc
+      by_cases false true h = absurd (cc)
+      by_cases false false h = cc
+
   pub record IsAllowed : Type 0 where
     pub small : size < 2 ^ 63
     pub power : IsPowerOfTwo align

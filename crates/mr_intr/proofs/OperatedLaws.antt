@@ -1,6 +1,6 @@
 -- What an intrinsic comes to on arguments that are known, and what the code that asks memory alone leaves.
 use Rattle.std.proofs.Common.{◌≡◌, ℕ, refl, subst, sym, ap, List, [], ◌∷◌, Option, Some, None, Bool, Err}
-use Rattle.mr_base.specs.Stops.{Stop}
+use Rattle.mr_base.specs.Stops.{Stop, stop_with}
 use Rattle.mr_ast.specs.declared.program.Intrinsic.{Intrinsic}
 use Rattle.mr_ast.specs.declared.program.Intrinsic.TheVariants as intrinsic
 use Rattle.mr_ast.specs.declared.types.Ty.{Ty}
@@ -55,8 +55,8 @@ module _ (op : Intrinsic) (q : MemoryQuery) (give : MemoryReply q → Option Val
   memory_refused r h = ap comes h
 
   -- what the code returned of it
-  pub memory_fault : (new : Scene) (out : List ℕ) (f : Fault) → Tells {X = MemoryReply q} (Err f) (memory_answer q (world_of s)) (world_of new) → Does op (Err f) (asked q give (begun s x)) new x out out
-  memory_fault new out (fault.Undefined r) h = (memory_refused r h, refl)
+  pub memory_fault : (new : Scene) (out : List ℕ) (f : Fault) → Tells {X = MemoryReply q} (Err f) (memory_answer q (world_of s)) (world_of new) new.notes.refused → Does op (Err f) (asked q give (begun s x)) new x out out
+  memory_fault new out (fault.Undefined r) h = (memory_refused (stop_with new.notes.refused r) h, refl)
   memory_fault new out fault.Memory h = tt
 
 -- the same effect, or fault, of the same run

@@ -19,7 +19,7 @@ pub returns-in-Err-clause-given : goal.returns-in-Err-clause-given
 returns-in-Err-clause-given c =
     let m = c.args.m.now in
     let s = env_surround c.args.e.now in
-    told_stop c.in-Err.fault (valued m s c.arg-item.result (seen c.loop-arg.n)) (each_valued m s c.args.args.now (seen c.args.n.now)) (seen c.value.new.n) (seen c.value.new.n) c.in-Err.ensures.given
+    told_stop c.in-Err.fault (valued m s c.arg-item.result (seen c.loop-arg.n)) (each_valued m s c.args.args.now (seen c.args.n.now)) (seen c.value.new.n) (seen c.value.new.n) c.value.new.n.refused c.in-Err.ensures.given
     (λ r e. row_stop m s c.args.args.now c.loop-arg.arg-index c.loop-arg.row.items (seen c.args.n.now) (seen c.loop-arg.n) c.loop-arg.invariant.all c.arg-item.result (halt.Undefined r) (seen c.value.new.n) c.loop-arg-test.true c.arg-item.is e)
 
 pub returns-in-Err-clause-kept : goal.returns-in-Err-clause-kept
