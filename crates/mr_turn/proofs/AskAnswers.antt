@@ -110,7 +110,7 @@ module _ (look : Look) (own : Own) (d : DueDo) (o : Operands) (w : Shared × Not
 
     -- or nothing, where it stops
     pub told_none : (r : Reason) → TellsNeeds (Err r) (run answer script w) → needs_of (do_planned look own d o w) ≡ no_needs
-    told_none r h = needs_are ∙ ap needs_of h
+    told_none r h = needs_are ∙ ap needs_of h.0
 
 -- ---- the start of a thread
 

@@ -3,8 +3,9 @@ use Rattle.std.proofs.Common.{◌≡◌, ℕ, refl, subst, sym, ap, ap₂, ◌�
 use Rattle.std.specs.Prelude.{if◌then◌else◌, slice_get}
 use Rattle.std.proofs.lemmas.Option.{same_Some}
 use Rattle.std.specs.Option.{option_map}
-use Rattle.mr_base.specs.Stops.{Stop}
-use Rattle.mr_base.specs.Stops.{plainly}
+use Rattle.mr_base.specs.Stops.{Stop, plainly, stop_with}
+use Rattle.mr_base.specs.declared.reached.Reached.{Reached}
+use Rattle.mr_base.specs.declared.reason.Reason.{Reason}
 use Rattle.mr_ast.specs.declared.program.Intrinsic.{Intrinsic}
 use Rattle.mr_ast.specs.declared.program.Intrinsic.TheVariants as intrinsic
 use Rattle.mr_ast.specs.declared.types.Ty.{Ty}
@@ -58,12 +59,12 @@ use Rattle.mr_turn.specs.Turning.{DeedAnswer, StopAnswer, TurnAnswer, Turned, as
 use Rattle.mr_turn.proofs.DoTurns.{argued_planned, argued_turned, by_operation, finishing_run, operation_needs, operation_turned, plan_is}
 
 -- a step that stops before it has a plan needs no pick, and may have none
-pub stopped_turn : {A : Type 0} (f : TurnFault) (r : Stop) (picks : List ℕ) (s : Scene) (x : Tables) (plans : Outcome (Plan A) (Shared × Notes)) (o : Outcome Turn (Shared × Notes)) (W : Deed → Type 0) (same : Type 0)
-    → StopAnswer f r picks → plans ≡ Refused r → o ≡ Refused r → same → TurnAnswer (Err f) (picks_break (begun s x) plans picks) o W same
-stopped_turn (answer.Broken e) r picks s x plans o W same h p k here = (ap (λ q. picks_break (begun s x) q picks) p ∙ h s x, here)
-stopped_turn (answer.Undefined q) r picks s x plans o W same h p k here =
-    (ap (λ q. picks_break (begun s x) q picks) p ∙ ap (λ ps. asks_break s x [] ps) h.1, k ∙ ap (λ z. Refused z) (sym h.0))
-stopped_turn answer.Memory r picks s x plans o W same h p k here = absurd h
+pub stopped_turn : {A : Type 0} (f : TurnFault) (r : Reason) (picks : List ℕ) (s : Scene) (x : Tables) (plans : Outcome (Plan A) (Shared × Notes)) (o : Outcome Turn (Shared × Notes)) (last : Option Reached) (W : Deed → Type 0) (same : Type 0)
+    → StopAnswer f r picks → plans ≡ Refused (stop_with last r) → o ≡ Refused (stop_with last r) → same → TurnAnswer (Err f) (picks_break (begun s x) plans picks) o last W same
+stopped_turn (answer.Broken e) r picks s x plans o last W same h p k here = (ap (λ q. picks_break (begun s x) q picks) p ∙ h s x, here)
+stopped_turn (answer.Undefined q) r picks s x plans o last W same h p k here =
+    (ap (λ q. picks_break (begun s x) q picks) p ∙ ap (λ ps. asks_break s x [] ps) h.1, k ∙ ap (λ z. Refused (stop_with last z)) (sym h.0))
+stopped_turn answer.Memory r picks s x plans o last W same h p k here = absurd h
 
 -- the intrinsic that is due is one
 pub given_for : (look : KeptLook) (stack : KeptStack) (s : Scene) (x : Tables) (call : DoCall) (op : Intrinsic) → (e : DueDo) × IsGiven look stack s x call e × (e.op ≡ op)
@@ -195,21 +196,21 @@ module _ (look : KeptLook) (stack : KeptStack) (s : Scene) (x : Tables) (call : 
 -- ---- the end of an intrinsic
 
 -- a stack that can't store the result
-pub ended_refused : (f : MemoryFault) (o : Outcome Stack World) (k : Stack) (w : World) (IsSo : Deed → Type 0) → TellsBy {X = Unit {0}} (λ u. k) (Err f) o w → EndAnswer (Err (fault_from f)) o k w IsSo
-ended_refused (memory_fault.Undefined r) o k w IsSo h = h
-ended_refused memory_fault.Memory o k w IsSo h = tt
+pub ended_refused : (f : MemoryFault) (o : Outcome Stack World) (k : Stack) (w : World) (last : Option Reached) (IsSo : Deed → Type 0) → TellsBy {X = Unit {0}} (λ u. k) (Err f) o w last → EndAnswer (Err (fault_from f)) o k w last IsSo
+ended_refused (memory_fault.Undefined r) o k w last IsSo h = h
+ended_refused memory_fault.Memory o k w last IsSo h = tt
 
 -- what is found out of a deed by its end
-pub end_is_deed : (r : Result Deed TurnFault) (inner : Outcome Stack World) (k : Stack) (w : World) (IsSo W : Deed → Type 0) (o : Outcome Turn (Shared × Notes))
-    → EndAnswer r inner k w IsSo → ((d : Deed) → inner ≡ Went k w → IsSo d → W d) → ((q : Stop) → inner ≡ Refused q → o ≡ Refused q) → DeedAnswer r o W
-end_is_deed (Ok d) inner k w IsSo W o h goes stops = goes d h.0 h.1
-end_is_deed (Err (answer.Broken e)) inner k w IsSo W o h goes stops = absurd h
-end_is_deed (Err (answer.Undefined q)) inner k w IsSo W o h goes stops = stops q h
-end_is_deed (Err answer.Memory) inner k w IsSo W o h goes stops = tt
+pub end_is_deed : (r : Result Deed TurnFault) (inner : Outcome Stack World) (k : Stack) (w : World) (last : Option Reached) (IsSo W : Deed → Type 0) (o : Outcome Turn (Shared × Notes))
+    → EndAnswer r inner k w last IsSo → ((d : Deed) → inner ≡ Went k w → IsSo d → W d) → ((q : Stop) → inner ≡ Refused q → o ≡ Refused q) → DeedAnswer r o last W
+end_is_deed (Ok d) inner k w last IsSo W o h goes stops = goes d h.0 h.1
+end_is_deed (Err (answer.Broken e)) inner k w last IsSo W o h goes stops = absurd h
+end_is_deed (Err (answer.Undefined q)) inner k w last IsSo W o h goes stops = stops (stop_with last q) h
+end_is_deed (Err answer.Memory) inner k w last IsSo W o h goes stops = tt
 
 -- an operation that stops
 pub operated_refused : (f : MemoryFault) (op : Intrinsic) (inner : Outcome (Option Val) (Shared × Notes)) (s : Scene) (x : Tables) (old new : List ℕ) → Effects.Does op (Err f) inner s x old new
-    → (r : Stop) → f ≡ memory_fault.Undefined r → inner ≡ Refused r
+    → (r : Reason) → f ≡ memory_fault.Undefined r → inner ≡ Refused (stop_with s.notes.refused r)
 operated_refused f op inner s x old new h r e = (subst (λ (g : MemoryFault). Effects.Does op (Err g) inner s x old new) e h).0
 
 -- ---- payload

@@ -286,13 +286,13 @@ module _ (look : KeptLook) (stack : KeptStack) (s : Scene) (x : Tables) (call : 
 
     pub started : (s' : Scene) (new : KeptStack) → IsBottom (entered number (slice_get look.program.now.functions number) (take (length xs - 1) (drop 1 xs)) picks (world_of s)) (stack_of new) (world_of s')
         → (x' : Tables) → x' ≡ (spawned x).1 → (r : Result Deed TurnFault) (stack' : KeptStack) (s'' : Scene)
-        → EndAnswer r (ended (stack_of stack) d (operands_of call) (Some (val.Int m)) (world_of s')) (stack_of stack') (world_of s'') (IsNewThread new m)
-        → DeedAnswer r (do_comes_to look stack s x call d picks) (Does stack s x (do_comes_to look stack s x call d picks) stack' s'' x')
+        → EndAnswer r (ended (stack_of stack) d (operands_of call) (Some (val.Int m)) (world_of s')) (stack_of stack') (world_of s'') s''.notes.refused (IsNewThread new m)
+        → DeedAnswer r (do_comes_to look stack s x call d picks) s''.notes.refused (Does stack s x (do_comes_to look stack s x call d picks) stack' s'' x')
     started s' new bottom x' tables r stack' s'' e =
         let bottom_of : IsBottom (entered number (slice_get look.program.now.functions number) (h.given_to.argument ∷ []) picks (world_of s)) (stack_of new) (world_of s') =
         subst (λ vs. IsBottom (entered number (slice_get look.program.now.functions number) vs picks (world_of s)) (stack_of new) (world_of s')) (behind_callee (operands_of call) h.given_to xs are) bottom in
-        end_is_deed r (ended (stack_of stack) d (operands_of call) (Some (val.Int (length x.statuses))) (world_of s')) (stack_of stack') (world_of s'') (IsNewThread new (length x.statuses))
+        end_is_deed r (ended (stack_of stack) d (operands_of call) (Some (val.Int (length x.statuses))) (world_of s')) (stack_of stack') (world_of s'') s''.notes.refused (IsNewThread new (length x.statuses))
         (Does stack s x (do_comes_to look stack s x call d picks) stack' s'' x') (do_comes_to look stack s x call d picks)
-        (subst (λ n. EndAnswer r (ended (stack_of stack) d (operands_of call) (Some (val.Int n)) (world_of s')) (stack_of stack') (world_of s'') (IsNewThread new n)) count e)
+        (subst (λ n. EndAnswer r (ended (stack_of stack) d (operands_of call) (Some (val.Int n)) (world_of s')) (stack_of stack') (world_of s'') s''.notes.refused (IsNewThread new n)) count e)
         (λ deed went n. start_done look stack s x call d number picks h s' new bottom_of stack' s'' x' deed went tables n.flow n.event n.woken n.started n.text)
         (λ q went. start_refused look stack s x call d number picks h s' new bottom_of q went)

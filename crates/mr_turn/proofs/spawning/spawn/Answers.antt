@@ -1,5 +1,4 @@
 use Rattle.std.proofs.Common.{refl}
-use Rattle.mr_base.specs.Stops.{plainly}
 use Rattle.mr_base.specs.declared.reason.Reason.TheVariants.{NotAFunction}
 use Rattle.mr_ast.specs.declared.program.Intrinsic.TheVariants as intrinsic
 use Rattle.mr_frame.specs.Doing.{operands_of}
@@ -41,8 +40,8 @@ returns-in-None c = λ d due.
     let own = own_of s.thread stack in
     let to = spawn_given_for d g.1 (operands_of call) g.0.operands in
     let none = no_callee look (operands_of call) to c.as_slice.result.now c.as_slice.ensures.value c.callee_in.result c.callee_in.ensures c.in-None.ensures in
-    stopped_turn c.stopped_for.result (plainly NotAFunction) picks s x (do_planned (look_of look) own d (operands_of call) (begun s x)) o (Does stack s x o stack s x) (IsSame stack s x stack s x)
-    c.stopped_for.ensures
+    stopped_turn c.stopped.result NotAFunction picks s x (do_planned (look_of look) own d (operands_of call) (begun s x)) o s.notes.refused (Does stack s x o stack s x) (IsSame stack s x stack s x)
+    c.stopped.ensures
     (none_planned (look_of look) own d (operands_of call) g.1 to.callee to.argument to.args (begun s x) none)
     (none_turned (look_of look) own d (operands_of call) g.1 to.callee to.argument to.args (begun s x) picks none)
     (record { stack = refl; memory = refl; tables = refl })
