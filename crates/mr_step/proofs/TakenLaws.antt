@@ -4,7 +4,7 @@ use Rattle.std.proofs.lemmas.Option.{same_Some, slice_get_within}
 use Rattle.std.proofs.Math.ListN.{length-set}
 use Rattle.std.specs.Prelude.{slice_get, slice_set}
 use Rattle.std.specs.Option.{option_map}
-use Rattle.mr_base.specs.Stops.{Stop}
+use Rattle.mr_base.specs.Stops.{Stop, stop_with}
 use Rattle.mr_base.specs.declared.reached.Reached.{Reached}
 use Rattle.mr_base.specs.declared.reason.Verdict.{Verdict}
 use Rattle.mr_base.specs.declared.reason.Verdict.TheVariants as verdict
@@ -167,8 +167,8 @@ module _ (look : KeptLook) (e : Entry) (p : Progress) (due : IsDue look e.thread
   untaken (turn.Undefined r) new left x h mid q threads same result w =
       subst (AdvanceAnswer l e (config_of p) (config_of q)) (sym w.0)
       (subst (λ (y : Config Own). Advances l e (config_of p) y)
-      (sym (ap config_of (w.1 ∙ ap (λ (y : Progress). record y { gone = true; verdict = verdict.Undefined r.reason; about = r.about }) same)))
-      (halts r h.legal h.refused))
+      (sym (ap config_of (w.1 ∙ ap (λ (y : Progress). record y { gone = true; verdict = verdict.Undefined r; about = (stop_with y.scene.notes.refused r).about }) same)))
+      (halts (stop_with left.notes.refused r) h.legal h.refused))
   untaken (turn.Broken failure) new left x h mid q threads same result w =
       subst (AdvanceAnswer l e (config_of p) (config_of q)) (sym w.0)
       (subst (λ (y : Progress). Stays l e (config_of p) (config_of y) (fault_of failure.code failure.earlier)) (sym w.1)

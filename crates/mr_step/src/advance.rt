@@ -1,5 +1,6 @@
 //! One entry of a schedule: its rules, and then its step.
 ghost use Rattle.std.specs.Prelude.{◌≡◌, ◌<◌, ◌^◌, None, Some};
+ghost use Rattle.mr_base.specs.Stops.{stop_with};
 ghost use Rattle.mr_frame.specs.Kept.{IsReady, look_of};
 ghost use Rattle.mr_eval.specs.Tally.{start_tally};
 ghost use Rattle.mr_eval.specs.World.{tally_of};
@@ -55,21 +56,11 @@ fn act(
     turn(alloc, look, &mut thread.stack, scene, sync, picks)
 }
 
-// What a step speaks of that stops for a reason, where memory refused these bytes last.
-fn spoken(reason: Reason, about: Option<Reached>) -> Option<Reached> {
-    match reason {
-        Reason::Misaligned
-        | Reason::NoProvenance
-        | Reason::DeadAllocation
-        | Reason::OutOfBounds
-        | Reason::InvalidValue
-        | Reason::DanglingReference
-        | Reason::FreeAddress
-        | Reason::FreeKind
-        | Reason::FreeSize
-        | Reason::FreeAlign => about,
-        _ => None,
-    }
+// What a step speaks of that stops for a reason, where these bytes were refused last.
+fn spoken(reason: Reason, refused: Option<Reached>) -> Option<Reached>
+    ensures { result ≡ (stop_with refused reason).about }
+{
+    if reason.speaks() { refused } else { None }
 }
 
 // The step of a thread that has no turn.
@@ -78,7 +69,7 @@ fn without(p: &mut Progress, fault: TurnFault) -> Result<(), StepFault>
 {
     match fault {
         TurnFault::Undefined(reason) => {
-            let about = spoken(reason, p.scene.notes.about);
+            let about = spoken(reason, p.scene.notes.refused);
             p.stop(Verdict::Undefined(reason), about);
             Ok(())
         }
