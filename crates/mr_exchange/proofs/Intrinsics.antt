@@ -1,7 +1,7 @@
 -- Each intrinsic makes the allocation that it asked for, notes one event at most, and asks for a waiter only of a lock that it looked at.
 use Rattle.std.proofs.Common.{ℕ, refl, arith, List, [], ◌∷◌, Bool, true, false, Option, Some, None, ◌-◌, ◌^◌}
 use Rattle.std.specs.Prelude.{if◌then◌else◌, nat_lt}
-use Rattle.mr_eval.specs.Typed.{meaningless}
+use Rattle.mr_start.specs.EvalTyped.{meaningless}
 use Rattle.mr_base.specs.Stops.{Stop}
 use Rattle.mr_base.specs.Stops.{plainly}
 use Rattle.mr_ast.specs.declared.program.Intrinsic.{Intrinsic}

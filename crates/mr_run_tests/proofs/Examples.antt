@@ -267,7 +267,7 @@ verdict_of step = (after_bare (thread_step returning_look) (start_config returni
     }) 0
     (run_script answer (step >>= λ plan. plan.go []) (record { memory = start_memory returning (16 ∷ 32 ∷ []); statuses = Enabled ∷ []; holders = [] }, start_notes 0 2)))).verdict
 
-main_returned : (run returning (own [] ∷ [])).verdict ≡ verdict.Undefined (plainly reason.MainReturned)
+main_returned : (run returning (own [] ∷ [])).verdict ≡ verdict.Undefined reason.MainReturned
 unfolding run_of machine_step start_config returning
 main_returned = ap verdict_of returning_step
 
