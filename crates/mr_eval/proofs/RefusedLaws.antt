@@ -4,6 +4,7 @@ use Rattle.std.specs.Prelude.{if◌then◌else◌}
 use Rattle.mr_base.specs.Script.{Outcome, Refused}
 use Rattle.mr_base.specs.Stops.{Stop, over, plainly, reached_by, speaks, stop_with}
 use Rattle.mr_base.specs.declared.byte.AbstractByte.{AbstractByte}
+use Rattle.mr_base.specs.declared.byte.AllocId.{AllocId}
 use Rattle.mr_base.specs.declared.byte.Kind.{Kind}
 use Rattle.mr_base.specs.declared.byte.Pointer.{Pointer}
 use Rattle.mr_base.specs.declared.reached.Reached.{Reached}
@@ -52,7 +53,7 @@ module _ (m : Memory) (p : Pointer) (len : ℕ) (s : Seen) (last : Option Reache
   pub refer_refused : (r : Reason) → checked m p len ≡ Err r → last ≡ Some (reached_by Refers p len) → reading m (Refer p len) s ≡ Refused (stop_with last DanglingReference)
   refer_refused r is noted =
       answer_refused (reached_by Refers p len) (named DanglingReference (checked m p len)) _ (named_speaks (checked m p len)) last noted DanglingReference
-      (ap (λ (w : Result (Option _) Reason). named DanglingReference w) is)
+      (ap (λ (w : Result (Option AllocId) Reason). named DanglingReference w) is)
 
   pub read_refused : (atomic : Bool) (align : ℕ) (r : Reason) → read m p len align ≡ Err r → last ≡ Some (reached_by Loads p len)
       → reading m (Read atomic p len align) s ≡ Refused (stop_with last r)
