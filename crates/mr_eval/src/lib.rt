@@ -16,6 +16,9 @@
 //! - [`behind`]: a pointer so many bytes behind another, around the end of the address space. [`recast`]: what the bytes of a value are
 //!   as a value of another type. [`number_in`]: the number of an integer in bytes.
 //!
+//! Where one is refused, its script stops with the reason and with the bytes that it speaks of (`specs/Stops.antt` of `mr_base`).
+//! The call tells the reason, and [`Notes`] have the bytes that were refused last.
+//!
 //! None of them comes to a state without a rule: an expression of a well-formed program never does (`proofs/ExprSafe.antt`), so a
 //! refusal is undefined behaviour of the program, or want of memory.
 #![tactic(auto)]
