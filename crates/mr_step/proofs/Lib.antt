@@ -5,7 +5,6 @@ pub mod FirstLaws
 pub mod HandLaws
 pub mod Numbered
 pub mod SoundLaws
-pub mod StackLaws
 pub mod TakenLaws
 pub mod PlaceLaws
 pub use Rattle.mr_exchange.proofs.FootLimits as ExchangeFootLimits
