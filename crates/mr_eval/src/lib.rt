@@ -14,7 +14,6 @@
 //! - [`store_typed`]: the store of a value of a type's shape. A refused one changes no memory. [`store_bytes`] and [`store_uninit`] do
 //!   the same with bytes and with uninitialised ones.
 //! - [`behind`]: a pointer so many bytes behind another, around the end of the address space.
-//!   [`number_in`]: the number of an integer in bytes.
 //!
 //! Where one is refused, its script stops with the reason and with the bytes that it speaks of (`specs/Stops.antt` of `mr_base`).
 //! The call tells the reason, and [`Notes`] have the bytes that were refused last.
@@ -52,5 +51,4 @@ pub use mr_mem::Fault;
 pub use notes::Notes;
 pub use scalars::{Scalar, scalar_of};
 pub use scene::Scene;
-pub use search::number_in;
 pub use stores::{store_bytes, store_uninit};
