@@ -1,5 +1,5 @@
 -- What memory refuses stops with the bytes that it was asked for.
-use Rattle.std.proofs.Common.{◌≡◌, ℕ, Bool, false, true, sym, subst, ap, ◌∙◌, List, length, Option, Some, None, Result, Ok, Err}
+use Rattle.std.proofs.Common.{◌≡◌, ℕ, Bool, false, true, refl, sym, subst, ap, ◌∙◌, List, length, Option, Some, None, Result, Ok, Err}
 use Rattle.std.specs.Prelude.{if◌then◌else◌}
 use Rattle.mr_base.specs.Script.{Outcome, Refused}
 use Rattle.mr_base.specs.Stops.{Stop, over, plainly, reached_by, speaks, stop_with}

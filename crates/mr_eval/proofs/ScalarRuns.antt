@@ -1,24 +1,25 @@
 -- What the load of an integer, a bool or a pointer comes to, whatever was noted before.
-use Rattle.std.proofs.Common.{◌≡◌, false, Option, None, Some, Result, Ok, Err, sym, subst, ap, ◌∙◌}
+use Rattle.std.proofs.Common.{◌≡◌, ℕ, [], false, Option, None, Some, Result, Ok, Err, sym, subst, ap, ◌∙◌}
 use Rattle.mr_eval.specs.Typed.{meaningless}
 use Rattle.mr_base.specs.declared.reached.Reached.{Reached}
-use Rattle.mr_base.specs.declared.reached.Reaching.TheVariants.{Loads}
+use Rattle.mr_base.specs.declared.reached.Reaching.TheVariants.{Loads, Refers}
 use Rattle.mr_base.specs.Stops.{Stop, reached_by}
 use Rattle.mr_ast.specs.declared.types.Ty.{Ty}
+use Rattle.mr_base.specs.declared.byte.AllocId.{AllocId}
 use Rattle.mr_base.specs.declared.byte.Pointer.{Pointer}
 use Rattle.mr_base.specs.declared.reason.Reason.{Reason}
-use Rattle.mr_base.specs.declared.reason.Reason.TheVariants.{InvalidValue}
+use Rattle.mr_base.specs.declared.reason.Reason.TheVariants.{DanglingReference, InvalidValue}
 use Rattle.mr_layout.specs.Sizes.{align_of, size_of}
-use Rattle.mr_mem.specs.Memory.{Memory, read}
-use Rattle.mr_base.specs.Script.{Outcome, Refused, Went, on}
+use Rattle.mr_mem.specs.Memory.{Memory, checked, read}
+use Rattle.mr_base.specs.Script.{Outcome, Refused, Went, on, run}
 use Rattle.mr_value.specs.declared.val.Val.{Val}
 use Rattle.mr_value.specs.Decode.{decoded}
 use Rattle.mr_value.specs.Numbers.{Bytes}
 use Rattle.mr_eval.specs.Answers.{Reasons}
 use Rattle.mr_eval.specs.Evaluated.{meant_by, read_typed, referred_to}
-use Rattle.mr_eval.specs.Noted.{noted_load, noted_targets}
-use Rattle.mr_eval.specs.Reads.{Seen, accessing, answered, seeing, touching}
-use Rattle.mr_eval.specs.Typed.{Targets, targets_of}
+use Rattle.mr_eval.specs.Noted.{listed, noted_load, noted_targets}
+use Rattle.mr_eval.specs.Reads.{Seen, accessing, answered, named, reading, seeing, touching}
+use Rattle.mr_eval.specs.Typed.{Targets, referring, targets_of}
 use Rattle.mr_eval.proofs.LoadRuns.{meant_none, meant_some, read_run}
 
 -- what is noted of the bytes
@@ -52,20 +53,30 @@ pub scalar_meaningless : (m : Memory) (t : Ty) (p : Pointer) (bytes : Bytes) (s 
 scalar_meaningless m t p bytes s none = (Some (reached_by Loads p (size_of t)), meant_none m (meaningless t p) t bytes s none)
 
 -- a value, whose reference check passes or is refused
-module _ (m : Memory) (t : Ty) (bytes : Bytes) (v : Val) (targets : Targets) (stop : Stop) (s : Seen) (is : decoded t bytes ≡ Some v) (listed : targets ≡ targets_of t v) where
+module _ (m : Memory) (t : Ty) (bytes : Bytes) (v : Val) (targets : Targets) (stop : Stop) (s : Seen) (is : decoded t bytes ≡ Some v) (are : targets ≡ targets_of t v) where
   checked_is : meant_by m stop t bytes s ≡ on (referred_to m targets s) (λ u z. Went v z)
   checked_is =
       meant_some m stop t bytes v s is
-      ∙ ap (λ (ts : Targets). on (referred_to m ts s) (λ u z. Went v z)) (sym listed)
+      ∙ ap (λ (ts : Targets). on (referred_to m ts s) (λ u z. Went v z)) (sym are)
 
   pub scalar_passed : ((z : Seen) → referred_to m targets z ≡ Went tt (noted_targets targets z)) → meant_by m stop t bytes s ≡ Went v (noted_targets (targets_of t v) s)
   scalar_passed passes =
       checked_is
       ∙ ap (λ (o : Outcome (Unit {0}) Seen). on o (λ u z. Went v z)) (passes s)
-      ∙ ap (λ (ts : Targets). Went v (noted_targets ts s)) listed
+      ∙ ap (λ (ts : Targets). Went v (noted_targets ts s)) are
 
   pub scalar_dangling : (r : Reason) → ((z : Seen) → (about : Option Reached) × (referred_to m targets z ≡ Refused (record { reason = r; about = about })))
       → (about : Option Reached) × (meant_by m stop t bytes s ≡ Refused (record { reason = r; about = about }))
   scalar_dangling r stops =
       let o = stops s in
       (o.0, checked_is ∙ ap (λ (out : Outcome (Unit {0}) Seen). on out (λ u z. Went v z)) o.1)
+
+-- one reference that points to no live range
+pub target_dangling : (m : Memory) (target : Option (Pointer × ℕ)) (p : Pointer) (len : ℕ) (r : Reason) (s : Seen) → target ≡ Some (p, len) → checked m p len ≡ Err r
+    → (about : Option Reached) × (referred_to m (listed target) s ≡ Refused (record { reason = DanglingReference; about = about }))
+unfolding referred_to
+target_dangling m target p len r s is refused = (
+  Some (reached_by Refers p len),
+  ap (λ (o : Option (Pointer × ℕ)). run (reading m) (referring (listed o)) s) is
+      ∙ ap (λ (w : Result (Option AllocId) Reason). on (answered (reached_by Refers p len) (named DanglingReference w) (λ _. Went tt (seeing [] (touching p len) s))) (λ (u : Unit {0}) z. Went tt z)) refused,
+)
