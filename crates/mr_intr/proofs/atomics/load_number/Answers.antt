@@ -18,3 +18,10 @@ returns-in-Err-clause-told c =
     number_refused c.args.m.now c.args.doing c.args.p (int_size c.args.int) (seen c.args.notes.now) c.refuse.new.self.refused
     (c.refuse.ensures.last ∙ ap (λ (n : ℕ). Some (reached_by c.args.doing c.args.p n)) sized) c.in-Err.reason
     (ap (λ (n : ℕ). read c.args.m.now c.args.p n n) (sym sized) ∙ sym c.in-Err.ensures.lent)
+
+pub returns-in-Err-number_in-clause-told : goal.returns-in-Err-number_in-clause-told
+returns-in-Err-number_in-clause-told c =
+    let sized = c.int_bytes-size.ensures in
+    number_missing c.args.m.now c.args.doing c.args.p (int_size c.args.int) (seen c.args.notes.now) c.refuse-in-Err-number_in.new.self.refused
+    (c.refuse-in-Err-number_in.ensures.last ∙ ap (λ (n : ℕ). Some (reached_by c.args.doing c.args.p n)) sized) (bytes_of_pieces c.in-Ok.view) c.in-Err-number_in.reason
+    (ap (λ (n : ℕ). read c.args.m.now c.args.p n n) (sym sized) ∙ sym c.in-Ok.ensures.lent) (sym c.in-Err-number_in.ensures.told)

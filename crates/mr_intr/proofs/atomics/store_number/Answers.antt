@@ -1,4 +1,4 @@
-use Rattle.std.proofs.Common.{◌++◌, ◌≡◌, ℕ, List, [], Some, Err, true, ap, subst, sym, ◌∙◌}
+use Rattle.std.proofs.Common.{◌++◌, ◌≡◌, ℕ, List, [], Some, Ok, Err, true, ap, subst, sym, ◌∙◌}
 use Rattle.mr_base.specs.Stops.{reached_by}
 use Rattle.mr_base.specs.declared.reached.Reaching.TheVariants.{Changes}
 use Rattle.mr_ast.specs.Integers.{int_size}
@@ -24,7 +24,8 @@ pub returns-in-Ok : goal.returns-in-Ok
 returns-in-Ok c =
     let bytes : c.as_slice.result.now ≡ number_bytes (int_size c.args.int) c.args.n =
     c.as_slice.ensures.value ∙ c.in_ok-encode.ensures.ok ∙ ap (λ (xs : List AbstractByte). xs ++ encoding_of (ty.Int c.args.int) (val.Int c.args.n)) c.new-bytes.ensures.items ∙ int_bytes_are c.args.int c.args.n in
-    let put = (λ i. written c.args.m.now c.args.p (sym bytes i) (sym c.int_bytes-size.ensures i)) ∙ c.in-Ok.ensures.stored in
+    let put : written c.args.m.now c.args.p (number_bytes (int_size c.args.int) c.args.n) (int_size c.args.int) ≡ Ok c.store.new.self =
+    (λ i. written c.args.m.now c.args.p (sym bytes i) (sym c.int_bytes-size.ensures i)) ∙ c.in-Ok.ensures.stored in
     let noted = c.in_ok-access.ensures.noted ∙ ap (λ (k : ℕ). seeing (accessing true true c.args.p k) [] (seen c.args.notes.now)) c.int_bytes-size.ensures in
     stored_went c.args.m.now c.store.new.self c.args.p (int_size c.args.int) c.args.n (seen c.args.notes.now) (seen c.access.new.self) put noted
 
