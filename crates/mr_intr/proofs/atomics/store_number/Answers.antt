@@ -29,8 +29,8 @@ returns-in-Ok c =
     let noted = c.in_ok-access.ensures.noted ∙ ap (λ (k : ℕ). seeing (accessing true true c.args.p k) [] (seen c.args.notes.now)) c.int_bytes-size.ensures in
     stored_went c.args.m.now c.store.new.self c.args.p (int_size c.args.int) c.args.n (seen c.args.notes.now) (seen c.access.new.self) put noted
 
-pub returns-in-Err : goal.returns-in-Err
-returns-in-Err c =
+pub returns : goal.returns
+returns c =
     let bytes : c.as_slice.result.now ≡ number_bytes (int_size c.args.int) c.args.n =
     c.as_slice.ensures.value ∙ c.in_ok-encode.ensures.ok ∙ ap (λ (xs : List AbstractByte). xs ++ encoding_of (ty.Int c.args.int) (val.Int c.args.n)) c.new-bytes.ensures.items ∙ int_bytes_are c.args.int c.args.n in
     let P : List AbstractByte → ℕ → Type 0 = λ b k. IsStored (written c.args.m.now c.args.p b k) c.store.new.self (Err c.in-Err.fault) in
