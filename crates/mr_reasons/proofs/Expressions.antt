@@ -126,7 +126,7 @@ transmuted_reads : (to : Ty) (from : Option Ty) (v : Val) → Reads (transmuted 
 transmuted_reads to None v = tt
 transmuted_reads to (Some from) v = by (has_shape from v)
   where
-    by : (b : Bool) → Reads {A = Val} (if b then meant TransmuteInvalid to (encoding_of from v) else IllFormed)
+    by : (b : Bool) → Reads {A = Val} (if b then meant (plainly TransmuteInvalid) to (encoding_of from v) else IllFormed)
     by true = meant_reads (plainly TransmuteInvalid) to (encoding_of from v) refl
     by false = tt
 
