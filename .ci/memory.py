@@ -41,8 +41,6 @@ ALLOCATING = {
     ("object", "match serde_json::to_vec(alloc, &told) {"),
     ("step", "Some(foot) => match kept.keep(foot) {"),
     ("wanted", "match Vec::from_slice(alloc, wanted_bytes(filling, text)) {"),
-    ("go_each", "match step(machine, entry, &mut Nothing) {"),
-    ("spoken_for", "match Machine::start(alloc, p, w.start.as_slice()) {"),
     ("push_told", "match steps.push(told) {"),
     ("joined", "match push_rows(alloc, rows, p, &told) {"),
     ("tell_behind", "match behind(alloc, machine, number, thread, told) {"),

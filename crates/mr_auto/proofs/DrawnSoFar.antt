@@ -1,6 +1,7 @@
 -- Drawing one entry more.
 use Rattle.std.proofs.Common.{◌≡◌, ℕ, suc, ◌+◌, ◌-◌, ◌<◌, ◌≤◌, refl, sym, ap, ◌∙◌, subst, arith, List, [], ◌∷◌, ◌++◌, length, length-append, append-nil, append_assoc, Bool, true, false, not, Option, Some, None}
 use Rattle.std.specs.Prelude.{slice_get, if◌then◌else◌}
+use Rattle.mr_base.specs.declared.reached.Reached.{Reached}
 use Rattle.mr_base.specs.declared.reason.Verdict.{Verdict}
 use Rattle.mr_base.specs.declared.reason.Verdict.TheVariants as verdict
 use Rattle.mr_event.specs.Footprint.{Footprint}
@@ -33,28 +34,28 @@ exit_stops false = refl
 -- the verdict of a step that stops, else this one
 abbrev stop_of : Bare Own → Verdict → Verdict
 stop_of (Completed n s) other = other
-stop_of (Stops v) other = v
+stop_of (Stops v about) other = v
 stop_of IllFormedStep other = other
 
-runs_alike : (b : Bare Own) (v : Verdict) → b ≡ Stops v → is_running (stop_of b v) ≡ is_running v
-runs_alike b v h = ap (λ (x : Bare Own). is_running (stop_of x v)) h
+runs_alike : (b : Bare Own) (v : Verdict) (about : Option Reached) → b ≡ Stops v about → is_running (stop_of b v) ≡ is_running v
+runs_alike b v about h = ap (λ (x : Bare Own). is_running (stop_of x v)) h
 
-settled_stops : (s : State Own) (t : ℕ) (o : Outcome (Flow Own) (Shared × Notes)) (v : Verdict) → settled s t o ≡ Stops v → is_running v ≡ false
-settled_stops s t (Went (Goes own started) w) v h = absurd (cc)
-settled_stops s t (Went Exits w) v h = sym (runs_alike (settled s t (Went Exits w)) v h) ∙ exit_stops (leaks w.0.memory)
-settled_stops s t (Went Aborts w) v h = sym (runs_alike (settled s t (Went Aborts w)) v h)
-settled_stops s t (Refused r) v h = sym (runs_alike (settled s t (Refused r)) v h)
-settled_stops s t Broken v h = absurd (cc)
+settled_stops : (s : State Own) (t : ℕ) (o : Outcome (Flow Own) (Shared × Notes)) (v : Verdict) (about : Option Reached) → settled s t o ≡ Stops v about → is_running v ≡ false
+settled_stops s t (Went (Goes own started) w) v about h = absurd (cc)
+settled_stops s t (Went Exits w) v about h = sym (runs_alike (settled s t (Went Exits w)) v about h) ∙ exit_stops (leaks w.0.memory)
+settled_stops s t (Went Aborts w) v about h = sym (runs_alike (settled s t (Went Aborts w)) v about h)
+settled_stops s t (Refused r) v about h = sym (runs_alike (settled s t (Refused r)) v about h)
+settled_stops s t Broken v about h = absurd (cc)
 
-acted_stops : (step : Language Own) (s : State Own) (t : ℕ) (picks : List ℕ) (o : Option (Thread Own)) (v : Verdict) → acted step s t picks o ≡ Stops v → is_running v ≡ false
-acted_stops step s t picks None v h = absurd (cc)
-acted_stops step s t picks (Some th) v h = settled_stops s t _ v h
+acted_stops : (step : Language Own) (s : State Own) (t : ℕ) (picks : List ℕ) (o : Option (Thread Own)) (v : Verdict) (about : Option Reached) → acted step s t picks o ≡ Stops v about → is_running v ≡ false
+acted_stops step s t picks None v about h = absurd (cc)
+acted_stops step s t picks (Some th) v about h = settled_stops s t _ v about h
 
 module _ (look : Look) (c : Config Own) (e : Entry) (s : State Own) (there : c.state ≡ Some s) (rule : has_rule (thread_step look) e.thread e.picks c.state ≡ true) where
   by_bare : (b : Bare Own) → bare (thread_step look) s e.thread e.picks ≡ b → not (is_ill_formed b) ≡ true → HasState (after_bare (thread_step look) c b)
   by_bare (Completed n s') is k running = (s', refl)
-  by_bare (Stops v) is k running =
-      let stops = acted_stops (thread_step look) s e.thread e.picks (slice_get s.threads e.thread) v is in
+  by_bare (Stops v about) is k running =
+      let stops = acted_stops (thread_step look) s e.thread e.picks (slice_get s.threads e.thread) v about is in
       let runs : is_running v ≡ true = running in
       absurd (cc)
   by_bare IllFormedStep is k running = absurd (cc)

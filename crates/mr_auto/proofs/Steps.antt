@@ -144,7 +144,7 @@ module _ (look : Look) (is : IsLook look) (well : WellFormed look.program) (c : 
   by_bare (Completed n s') e x h q k =
       taken_behind look s chooser next d.drawn lies.positive (lies.behind s d.there) look.program (sound s d.there) n s' e q
       (subst (λ (y : State Own). IsTaken (ranges_of y.shared.memory) q) (sym (same_Some s' x h)) k)
-  by_bare (Stops v) e x h q k = absurd (cc)
+  by_bare (Stops v about) e x h q k = absurd (cc)
   by_bare IllFormedStep e x h q k = absurd (cc)
 
   lies_here : LiesBehind (machine_step (thread_step look) c entry) d.drawn.picks.chooser

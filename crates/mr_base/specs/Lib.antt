@@ -4,4 +4,5 @@ pub mod Limits
 pub mod Pairs
 pub mod Reasons
 pub mod Script
+pub mod Stops
 pub mod TraceRules

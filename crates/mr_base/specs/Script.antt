@@ -1,10 +1,10 @@
 -- Scripts: what a step asks of a state that it shares, one query after another, and what it does with each answer.
-use Rattle.mr_base.specs.declared.reason.Reason.{Reason}
+use Rattle.mr_base.specs.Stops.{Stop}
 
 -- A script with queries Q, of which q is answered by an R q, and the result A.
 pub data Script (Q : Type 0) (R : Q → Type 0) (A : Type 0) : Type 0 where
   Done : A → Script Q R A
-  Undefined : Reason → Script Q R A
+  Undefined : Stop → Script Q R A
   IllFormed : Script Q R A
   Ask : (q : Q) → (R q → Script Q R A) → Script Q R A
 
@@ -19,7 +19,7 @@ Ask q k >>= f = Ask q (λ x. k x >>= f)
 -- What a run comes to: a result and the state after it, or a stop.
 pub data Outcome (A S : Type 0) : Type 0 where
   Went : A → S → Outcome A S
-  Refused : Reason → Outcome A S
+  Refused : Stop → Outcome A S
   Broken : Outcome A S
 
 -- the run goes on where it went

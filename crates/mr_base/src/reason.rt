@@ -1,6 +1,7 @@
 //! Why a step is undefined behaviour, and what a run came to.
 ghost use Rattle.std.specs.Prelude.{◌≡◌};
 ghost use Rattle.mr_base.specs.Reasons.{code_of, name_of};
+ghost use Rattle.mr_base.specs.Stops.{speaks};
 
 /// Why a step is undefined behaviour. (MiniRust, lang and mem.)
 #[derive(Clone, Copy, Debug, PartialEq, Eq)]
@@ -96,6 +97,25 @@ impl Reason {
             Reason::UnknownThread => 131,
             Reason::UnknownLock => 132,
             Reason::NotHolder => 133,
+        }
+    }
+
+    /// Whether the reason speaks of bytes: memory gives it, or says of bytes that they mean no value.
+    pub fn speaks(self) -> bool
+        ensures { result ≡ speaks self }
+    {
+        match self {
+            Reason::Misaligned
+            | Reason::NoProvenance
+            | Reason::DeadAllocation
+            | Reason::OutOfBounds
+            | Reason::InvalidValue
+            | Reason::DanglingReference
+            | Reason::FreeAddress
+            | Reason::FreeKind
+            | Reason::FreeSize
+            | Reason::FreeAlign => true,
+            _ => false,
         }
     }
 

@@ -1,5 +1,5 @@
 -- The public calls: what stands in a function of a well-formed program is sound there, and no call comes to a state without a rule.
-use Rattle.std.proofs.Common.{◌≡◌, ℕ, List, [], Err, true, All, length, false, sym, ap, ap₂, subst, ◌∙◌}
+use Rattle.std.proofs.Common.{◌≡◌, ℕ, List, [], Option, Err, true, All, length, false, sym, ap, ap₂, subst, ◌∙◌}
 use Rattle.std.proofs.lemmas.Option.{get_or_from_slice_get, slice_get_within}
 use Rattle.mr_ast.specs.Shaped.{named_in}
 use Rattle.mr_ast.specs.declared.expr.Place.{Place}
@@ -8,6 +8,7 @@ use Rattle.mr_ast.specs.declared.program.Function.{Function}
 use Rattle.mr_ast.specs.declared.program.Local.{Local}
 use Rattle.mr_ast.specs.declared.types.Ty.{Ty}
 use Rattle.mr_base.specs.declared.byte.Pointer.{Pointer}
+use Rattle.mr_base.specs.declared.reached.Reached.{Reached}
 use Rattle.mr_layout.specs.TypeOk.{TypeOk}
 use Rattle.mr_mem.specs.Memory.{Memory}
 use Rattle.mr_base.specs.Script.{Broken, Outcome, Refused, Went}
@@ -41,10 +42,10 @@ abbrev pub with_locals : Surround → List Local → Surround
 with_locals s ls = record s { locals = ls }
 
 -- a stop of a run that is never without a rule
-pub ruled : {X Y S : Type 0} (view : X → Y) (h : Halt) (o : Outcome Y S) (s : S) (P : Y → Type 0) → Gives view (Err h) o s → Comes P o → IsRuled h
-ruled view (halt.Undefined r) o s P given comes = tt
-ruled view halt.IllFormed o s P given comes = subst (Comes P) given comes
-ruled view halt.Memory o s P given comes = tt
+pub ruled : {X Y S : Type 0} (view : X → Y) (h : Halt) (o : Outcome Y S) (s : S) (refused : Option Reached) (P : Y → Type 0) → Gives view (Err h) o s refused → Comes P o → IsRuled h
+ruled view (halt.Undefined r) o s refused P given comes = tt
+ruled view halt.IllFormed o s refused P given comes = subst (Comes P) given comes
+ruled view halt.Memory o s refused P given comes = tt
 
 module _ (e : Env) (well : WellFormed e.program.now) where
   -- the locals of the function are those of the surround, and their types break no rule

@@ -3,6 +3,7 @@ use Rattle.std.proofs.Common.{◌≡◌, ℕ, List, [], ◌∷◌, Some, Bool, t
 use Rattle.std.specs.Prelude.{not, ◌&&◌, ◌||◌, ◌==◌, nat_le, if◌then◌else◌}
 use Rattle.std.proofs.lemmas.Option.{same_Some}
 use Rattle.std.proofs.lemmas.Bool.{and_parts}
+use Rattle.mr_base.specs.Stops.{plainly}
 use Rattle.mr_ast.specs.declared.types.IntType.{IntType}
 use Rattle.mr_ast.specs.declared.types.Num.{Num}
 use Rattle.mr_ast.specs.declared.types.Tree.{Tree, roll-Tree}
@@ -45,7 +46,7 @@ search_roll d = fold-roll-Tree Search search_step d
 pub search_known : (n : Num) (p : Pointer) → searched (tree.Known n) p ≡ Done n
 search_known n p = ap (λ (t : Tree). searched t p) (sym (tree.rolls-Known n)) ∙ ap (λ (f : Search). f p) (search_roll (Tree-F.Known n))
 
-pub search_invalid : (p : Pointer) → searched tree.Invalid p ≡ Undefined InvalidDiscriminant
+pub search_invalid : (p : Pointer) → searched tree.Invalid p ≡ Undefined (plainly InvalidDiscriminant)
 search_invalid p = ap (λ (t : Tree). searched t p) (sym tree.rolls-Invalid) ∙ ap (λ (f : Search). f p) (search_roll Tree-F.Invalid)
 
 abbrev pub searches : List (Num × Tree) → List (Num × Search)
@@ -60,7 +61,7 @@ search_branch at int cases rest p =
 
 numbered_safe : (int : IntType) (p : Pointer) → IsSafe any_result (numbered int p)
 numbered_safe int p = λ bytes sized.
-    safe_then any_result any_result (or_undefined InvalidDiscriminant (number_of bytes)) (λ bits. Done (number_of_bits int bits)) (safe_option any_result InvalidDiscriminant (number_of bytes) (λ bits e. tt)) (λ bits u. tt)
+    safe_then any_result any_result (or_undefined (plainly InvalidDiscriminant) (number_of bytes)) (λ bits. Done (number_of_bits int bits)) (safe_option any_result (plainly InvalidDiscriminant) (number_of bytes) (λ bits e. tt)) (λ bits u. tt)
 
 -- the number of a variant fits
 number_fits : (size align : ℕ) (disc : IntType) (variants : List Variant) (n : Num) → are_variants size align disc variants ≡ true → is_number_of n variants ≡ true → is_fitting disc n ≡ true

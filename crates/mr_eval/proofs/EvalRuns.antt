@@ -2,6 +2,7 @@
 use Rattle.std.proofs.Common.{◌≡◌, ℕ, ◌+◌, ◌<◌, length, drop, get_or, List, [], ◌∷◌, Option, None, Some, pos, true, false, refl, ap, ◌∙◌}
 use Rattle.std.proofs.lemmas.List.{drop_more}
 use Rattle.std.specs.Prelude.{Bool, is_some, if◌then◌else◌, slice_get}
+use Rattle.mr_base.specs.Stops.{plainly}
 use Rattle.mr_ast.specs.declared.types.IntType.{IntType}
 use Rattle.mr_ast.specs.declared.types.Num.{Num}
 use Rattle.mr_ast.specs.declared.types.Ty.{Ty, out-Ty}
@@ -183,8 +184,8 @@ module _ (m : Memory) where
   transmute_is to None v seen = refl
   transmute_is to (Some from) v seen = by_shape (has_shape from v)
     where
-      by_shape : (b : Bool) → run (reading m) (if b then meant TransmuteInvalid to (encoding_of from v) else IllFormed) seen
-          ≡ (if b then run (reading m) (meant TransmuteInvalid to (encoding_of from v)) seen else Broken)
+      by_shape : (b : Bool) → run (reading m) (if b then meant (plainly TransmuteInvalid) to (encoding_of from v) else IllFormed) seen
+          ≡ (if b then run (reading m) (meant (plainly TransmuteInvalid) to (encoding_of from v)) seen else Broken)
       by_shape true = refl
       by_shape false = refl
 

@@ -1,6 +1,7 @@
 -- Evaluations for which there is no rule, computed.
 use Rattle.std.proofs.Common.{◌≡◌, ℕ, Bool, false, [], ◌∷◌, Option, Some, ap, ◌∙◌}
 use Rattle.std.specs.Prelude.{is_some, if◌then◌else◌}
+use Rattle.mr_base.specs.Stops.{plainly}
 use Rattle.mr_ast.specs.declared.types.IntType.TheVariants.{U8, U16}
 use Rattle.mr_ast.specs.declared.types.Num.{Num}
 use Rattle.mr_ast.specs.declared.types.Ty.{Ty}
@@ -45,7 +46,7 @@ wide_byte =
     script_transmute surround (ty.Int U16) (value.Int U8 (number 300))
     ∙ ap (λ (v : ReadScript Val). v >>= transmuted (ty.Int U16) (type_of_value (surround.locals) (value.Int U8 (number 300)))) (script_int surround U8 (number 300))
     ∙ ap (λ (o : Option Ty). transmuted (ty.Int U16) o (val.Int 300)) (type_of_int (surround.locals) U8 (number 300))
-    ∙ ap (λ (b : Bool). if b then meant TransmuteInvalid (ty.Int U16) (encoding_of (ty.Int U8) (val.Int 300)) else IllFormed) (has_int U8 300)
+    ∙ ap (λ (b : Bool). if b then meant (plainly TransmuteInvalid) (ty.Int U16) (encoding_of (ty.Int U8) (val.Int 300)) else IllFormed) (has_int U8 300)
 
 -- a bool has no variants
 no_variant : place_script surround (place.Variant flag (number 0)) ≡ IllFormed

@@ -5,6 +5,7 @@ use Rattle.std.specs.Option.{option_map}
 use Rattle.std.specs.List.{list_all, flat_map}
 use Rattle.std.proofs.lemmas.Option.{same_Some}
 use Rattle.std.proofs.lemmas.Bool.{and_parts}
+use Rattle.mr_base.specs.Stops.{plainly}
 use Rattle.mr_ast.specs.Integers.{bits_of}
 use Rattle.mr_ast.specs.declared.types.IntType.{IntType}
 use Rattle.mr_ast.specs.declared.types.IntType.TheVariants.{U64}
@@ -257,7 +258,7 @@ module _ (named : Named) (sizes : List ℕ) (s : Surround) (stands : Stands name
           subst (λ (w : Val-F Val). IsSafe any_result (or_ill_formed (index_in w) >>= (λ n. or_ill_formed (elements_in (type_of_place s.locals p)) >>= element_at a n))) (sym x.layer)
           (subst (λ (b : Bool). IsSafe any_result (or_ill_formed (if b then Some x.bits else None) >>= (λ n. or_ill_formed (elements_in (type_of_place s.locals p)) >>= element_at a n))) (sym (lt_test x.bits (2 ^ 64) small))
           (subst (λ (o : Option (ℕ × ℕ)). IsSafe any_result (or_ill_formed o >>= element_at a x.bits)) (sym (ap elements_in is ∙ found))
-          (safe_if any_result (nat_lt x.bits e.0) (moved a (pos (x.bits * e.1))) (Undefined IndexOutOfRange) (moved_safe a (pos (x.bits * e.1))) tt)))
+          (safe_if any_result (nat_lt x.bits e.0) (moved a (pos (x.bits * e.1))) (Undefined (plainly IndexOutOfRange)) (moved_safe a (pos (x.bits * e.1))) tt)))
 
   -- ---- values
 
@@ -396,8 +397,8 @@ module _ (named : Named) (sizes : List ℕ) (s : Surround) (stands : Stands name
         ok = typed.0;
         safe = subst (IsSafe (Shaped t)) (sym (script_transmute s t v)) (safe_then (Shaped u) (Shaped t) (value_script s v) (transmuted t (type_of_value s.locals v)) (value_at v u typed.1.is g) (λ x h.
             subst (λ (o : Option Ty). IsSafe (Shaped t) (transmuted t o x)) (sym typed.1.is)
-            (subst (λ (b : Bool). IsSafe (Shaped t) (if b then meant TransmuteInvalid t (encoding_of u x) else IllFormed)) (sym h)
-            (meant_safe TransmuteInvalid t (encoding_of u x) typed.0 (length-encoding_of u ok_u x h ∙ sym (eq_from (size_of t) (size_of u) typed.1.fits))))));
+            (subst (λ (b : Bool). IsSafe (Shaped t) (if b then meant (plainly TransmuteInvalid) t (encoding_of u x) else IllFormed)) (sym h)
+            (meant_safe (plainly TransmuteInvalid) t (encoding_of u x) typed.0 (length-encoding_of u ok_u x h ∙ sym (eq_from (size_of t) (size_of u) typed.1.fits))))));
       }
 
   unary_value_safe : (o : UnaryOp) (v : Value) → ValueSafe v → ValueSafe (value.Unary o v)

@@ -12,10 +12,12 @@ pub mod LoadRuns
 pub mod NumberLaws
 pub mod OperatorsSafe
 pub mod OverflowTypes
+pub mod OwnReasons
 pub mod PartTypes
 pub mod ReadLength
 pub mod RecastLaws
 pub mod ReferRuns
+pub mod RefusedLaws
 pub mod RowRuns
 pub mod SafeLaws
 pub mod SafeRuns

@@ -1,7 +1,8 @@
 -- What reference checks in a row come to.
-use Rattle.std.proofs.Common.{◌≡◌, ℕ, ◌+◌, ◌<◌, ◌≤◌, [], ◌∷◌, Err, length, drop, get_or, refl, ap, ◌∙◌}
+use Rattle.std.proofs.Common.{◌≡◌, ℕ, ◌+◌, ◌<◌, ◌≤◌, [], ◌∷◌, Option, Err, length, drop, get_or, refl, ap, ◌∙◌}
 use Rattle.std.proofs.lemmas.List.{drop_all, drop_more}
 use Rattle.mr_base.specs.declared.byte.Pointer.{Pointer}
+use Rattle.mr_base.specs.declared.reached.Reached.{Reached}
 use Rattle.mr_mem.specs.Memory.{Memory}
 use Rattle.mr_base.specs.Script.{Outcome, Went, on}
 use Rattle.mr_eval.specs.declared.halt.Halt.{Halt}
@@ -40,7 +41,7 @@ module _ (m : Memory) (targets : Targets) (i : ℕ) (old last : Seen) (so_far : 
       next_is d lt ∙ ap (λ (o : Outcome (Unit {0}) Seen). on o (λ w s. referred_to m (drop (i + 1) targets) s)) went
 
   -- one stops them all
-  pub referred_stop : (d : Pointer × ℕ) (e : Halt) (s : Seen) → i < length targets
-      → Gives (same {X = Unit {0}}) (Err e) (reading m (Refer (get_or targets i d).0 (get_or targets i d).1) last) s → Gives (same {X = Unit {0}}) (Err e) (referred_to m targets old) s
-  referred_stop d e s lt stops =
-      gives_stop same same e (reading m (Refer (get_or targets i d).0 (get_or targets i d).1) last) (referred_to m targets old) _ s s (next_is d lt) stops
+  pub referred_stop : (d : Pointer × ℕ) (e : Halt) (s : Seen) (refused : Option Reached) → i < length targets
+      → Gives (same {X = Unit {0}}) (Err e) (reading m (Refer (get_or targets i d).0 (get_or targets i d).1) last) s refused → Gives (same {X = Unit {0}}) (Err e) (referred_to m targets old) s refused
+  referred_stop d e s refused lt stops =
+      gives_stop same same e (reading m (Refer (get_or targets i d).0 (get_or targets i d).1) last) (referred_to m targets old) _ s s refused (next_is d lt) stops

@@ -1,7 +1,8 @@
 -- The evaluation of values in a row, one after the other.
-use Rattle.std.proofs.Common.{◌≡◌, ℕ, ◌+◌, ◌<◌, ◌≤◌, List, [], ◌∷◌, ◌++◌, Err, length, drop, get_or, refl, sym, ap, ◌∙◌, append-nil, append_assoc}
+use Rattle.std.proofs.Common.{◌≡◌, ℕ, ◌+◌, ◌<◌, ◌≤◌, List, [], ◌∷◌, ◌++◌, Option, Err, length, drop, get_or, refl, sym, ap, ◌∙◌, append-nil, append_assoc}
 use Rattle.std.proofs.lemmas.List.{drop_all}
 use Rattle.mr_ast.specs.declared.expr.Value.{Value}
+use Rattle.mr_base.specs.declared.reached.Reached.{Reached}
 use Rattle.mr_mem.specs.Memory.{Memory}
 use Rattle.mr_base.specs.Script.{Broken, Outcome, Refused, Went, on}
 use Rattle.mr_value.specs.declared.val.Val.{Val}
@@ -46,8 +47,8 @@ module _ (m : Memory) (s : Surround) (vs : List Value) (i : ℕ) (row : List Val
       ∙ one_more row x (each_valued m s (drop (i + 1) vs) next)
 
   -- one stops them all
-  pub row_stop : (item : Value) (e : Halt) (t : Seen) → i < length vs → item ≡ get_or vs i item → Gives value_in (Err e) (valued m s item last) t
-      → Gives (same {X = List Val}) (Err e) (each_valued m s vs old) t
-  row_stop item e t lt is stops =
-      gives_stop same same e (each_valued m s (drop i vs) last) (each_valued m s vs old) (λ xs u. Went (row ++ xs) u) t t so_far
-      (gives_stop value_in same e (valued m s item last) (each_valued m s (drop i vs) last) _ t t (next_is item lt is) stops)
+  pub row_stop : (item : Value) (e : Halt) (t : Seen) (refused : Option Reached) → i < length vs → item ≡ get_or vs i item → Gives value_in (Err e) (valued m s item last) t refused
+      → Gives (same {X = List Val}) (Err e) (each_valued m s vs old) t refused
+  row_stop item e t refused lt is stops =
+      gives_stop same same e (each_valued m s (drop i vs) last) (each_valued m s vs old) (λ xs u. Went (row ++ xs) u) t t refused so_far
+      (gives_stop value_in same e (valued m s item last) (each_valued m s (drop i vs) last) _ t t refused (next_is item lt is) stops)

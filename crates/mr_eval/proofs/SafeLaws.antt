@@ -2,6 +2,8 @@
 use Rattle.std.proofs.Common.{◌≡◌, [], ◌∷◌, Option, None, Some, Result, Ok, Err, Bool, true, false, length, refl, sym, subst}
 use Rattle.std.specs.Prelude.{◌^◌, ◌&&◌, ℤ, pos, ◌+ℤ◌, int_le, int_lt, unsigned_abs, if◌then◌else◌}
 use Rattle.std.specs.Ordering.{int_eq}
+use Rattle.mr_base.specs.Stops.{plainly}
+use Rattle.mr_base.specs.Stops.{Stop}
 use Rattle.mr_ast.specs.declared.types.Ty.{Ty}
 use Rattle.mr_base.specs.declared.byte.Pointer.{Pointer}
 use Rattle.mr_base.specs.declared.reason.Reason.{Reason}
@@ -33,7 +35,7 @@ safe_if P false m n h k = k
 pub safe_found : {A : Type 0} (P : A → Type 0) (o : Option A) (x : A) → o ≡ Some x → P x → IsSafe P (or_ill_formed o)
 safe_found P o x e h = subst (λ (u : Option _). IsSafe P (or_ill_formed u)) (sym e) h
 
-pub safe_option : {A : Type 0} (P : A → Type 0) (r : Reason) (o : Option A) → ((x : A) → o ≡ Some x → P x) → IsSafe P (or_undefined r o)
+pub safe_option : {A : Type 0} (P : A → Type 0) (r : Stop) (o : Option A) → ((x : A) → o ≡ Some x → P x) → IsSafe P (or_undefined r o)
 safe_option P r None h = tt
 safe_option P r (Some x) h = h x refl
 
@@ -46,7 +48,7 @@ safe_result P (Err e) h = tt
 moved_to_safe : (p : Pointer) (n to : ℤ) → IsSafe any_result (moved_to p n to)
 moved_to_safe p n to = by_test (int_le (pos 0) to && int_lt to (pos (2 ^ 64)))
   where
-    by_test : (b : Bool) → IsSafe any_result (if b then Ask (Check (lower p n to) (unsigned_abs n)) (λ _. Done (at_address p (unsigned_abs to))) else Undefined OffsetOverflow)
+    by_test : (b : Bool) → IsSafe any_result (if b then Ask (Check (lower p n to) (unsigned_abs n)) (λ _. Done (at_address p (unsigned_abs to))) else Undefined (plainly OffsetOverflow))
     by_test true = λ u g. tt
     by_test false = tt
 
@@ -62,7 +64,7 @@ referring_safe (t ∷ targets) = λ u g. referring_safe targets
 pub referred_safe : (P : Val → Type 0) (t : Ty) (v : Val) → P v → IsSafe P (referred t v)
 referred_safe P t v h = safe_then any_result P (referring (targets_of t v)) _ (referring_safe (targets_of t v)) (λ u k. h)
 
-pub meant_safe : (r : Reason) (t : Ty) (bytes : Bytes) → TypeOk t → length bytes ≡ size_of t → IsSafe (λ v. has_shape t v ≡ true) (meant r t bytes)
+pub meant_safe : (r : Stop) (t : Ty) (bytes : Bytes) → TypeOk t → length bytes ≡ size_of t → IsSafe (λ v. has_shape t v ≡ true) (meant r t bytes)
 meant_safe r t bytes ok sized =
     safe_then (λ v. has_shape t v ≡ true) (λ v. has_shape t v ≡ true) (or_undefined r (decoded t bytes)) (referred t)
     (safe_option (λ v. has_shape t v ≡ true) r (decoded t bytes) (λ v e. decoded_has_shape t ok bytes sized v e))

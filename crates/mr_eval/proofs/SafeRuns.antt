@@ -1,5 +1,8 @@
 -- A script that is never ill-formed comes to no state without a rule over any memory.
 use Rattle.std.proofs.Common.{◌≡◌, ℕ, List, [], Result, Ok, Err, true, false, length}
+use Rattle.mr_base.specs.declared.reached.Reaching.TheVariants.{Loads, Moves, Refers}
+use Rattle.mr_base.specs.declared.reached.Reached.{Reached}
+use Rattle.mr_base.specs.Stops.{reached_by}
 use Rattle.mr_ast.specs.ShapedValues.{Named, is_shaped_place, is_shaped_value}
 use Rattle.mr_ast.specs.declared.expr.Place.{Place}
 use Rattle.mr_ast.specs.declared.expr.Value.{Value}
@@ -19,10 +22,10 @@ use Rattle.mr_eval.proofs.ReadLength.{IsWhere, read_length}
 -- ---- runs
 
 module _ {A : Type 0} (P : A → Type 0) (m : Memory) where
-  answered_then : {X Y : Type 0} (r : Result X Reason) (good : X → Type 0) → IsWhere good r → (f : X → Y) (after : Seen) (next : Y → Seen → Outcome A Seen) → ((x : X) → good x → Comes P (next (f x) after))
-      → Comes P (on (answered r (λ x. Went (f x) after)) next)
-  answered_then (Ok x) good h f after next k = k x h
-  answered_then (Err e) good h f after next k = tt
+  answered_then : {X Y : Type 0} (bytes : Reached) (r : Result X Reason) (good : X → Type 0) → IsWhere good r → (f : X → Y) (after : Seen) (next : Y → Seen → Outcome A Seen) → ((x : X) → good x → Comes P (next (f x) after))
+      → Comes P (on (answered bytes r (λ x. Went (f x) after)) next)
+  answered_then bytes (Ok x) good h f after next k = k x h
+  answered_then bytes (Err e) good h f after next k = tt
 
   anything : {X : Type 0} (r : Result X Reason) → IsWhere any_result r
   anything (Ok x) = tt
@@ -32,14 +35,14 @@ module _ {A : Type 0} (P : A → Type 0) (m : Memory) where
   query_comes : (q : ReadQuery) (seen : Seen) (next : ReadReply q → Seen → Outcome A Seen) → ((x : ReadReply q) (s : Seen) → Good q x → Comes P (next x s)) → Comes P (on (reading m q seen) next)
   query_comes (Check p len) seen next k =
       let after = seeing [] (touching p len) seen in
-      answered_then (checked m p len) any_result (anything (checked m p len)) (λ x. tt) after next (λ x g. k tt after tt)
+      answered_then (reached_by Moves p len) (checked m p len) any_result (anything (checked m p len)) (λ x. tt) after next (λ x g. k tt after tt)
   query_comes (Refer p len) seen next k =
       let after = seeing [] (touching p len) seen in
       let r = named DanglingReference (checked m p len) in
-      answered_then r any_result (anything r) (λ x. tt) after next (λ x g. k tt after tt)
+      answered_then (reached_by Refers p len) r any_result (anything r) (λ x. tt) after next (λ x g. k tt after tt)
   query_comes (Read atomic p len align) seen next k =
       let after = seeing (accessing false atomic p len) (touching p len) seen in
-      answered_then (read m p len align) (λ bytes. length bytes ≡ len) (read_length m p len align) (λ bytes. bytes) after next (λ bytes sized. k bytes after sized)
+      answered_then (reached_by Loads p len) (read m p len align) (λ bytes. length bytes ≡ len) (read_length m p len align) (λ bytes. bytes) after next (λ bytes sized. k bytes after sized)
 
   pub safe_comes : (script : ReadScript A) → IsSafe P script → (seen : Seen) → Comes P (run (reading m) script seen)
   safe_comes (Done x) h seen = h

@@ -1,6 +1,7 @@
 -- What the search for a discriminant comes to, by the kind of tree.
 use Rattle.std.proofs.Common.{◌≡◌, ℕ, List, [], ◌∷◌, Bool, true, false, refl, ap, ◌∙◌}
 use Rattle.std.specs.Prelude.{if◌then◌else◌}
+use Rattle.mr_base.specs.Stops.{plainly}
 use Rattle.mr_ast.specs.declared.types.IntType.{IntType}
 use Rattle.mr_ast.specs.declared.types.Num.{Num}
 use Rattle.mr_ast.specs.declared.types.Tree.{Tree}
@@ -21,7 +22,7 @@ pub found_known : (m : Memory) (n : Num) (p : Pointer) (seen : Seen) → found_n
 unfolding found_number
 found_known m n p seen = ap (λ (s : ReadScript Num). run (reading m) s seen) (search_known n p)
 
-pub found_invalid : (m : Memory) (p : Pointer) (seen : Seen) → found_number m tree.Invalid p seen ≡ Refused InvalidDiscriminant
+pub found_invalid : (m : Memory) (p : Pointer) (seen : Seen) → found_number m tree.Invalid p seen ≡ Refused (plainly InvalidDiscriminant)
 unfolding found_number
 found_invalid m p seen = ap (λ (s : ReadScript Num). run (reading m) s seen) (search_invalid p)
 

@@ -1,10 +1,12 @@
 -- What the code's answers stand for.
-use Rattle.std.specs.Prelude.{◌≡◌, ℕ, true, List, ◌++◌, Some, Result, Ok, Err}
+use Rattle.std.specs.Prelude.{◌≡◌, ℕ, true, false, List, ◌++◌, Option, Some, Result, Ok, Err}
 use Rattle.mr_ast.specs.declared.types.Ty.{Ty}
 use Rattle.mr_base.specs.declared.access.Access.{Access}
 use Rattle.mr_base.specs.declared.byte.AllocId.{AllocId}
 use Rattle.mr_base.specs.declared.byte.Pointer.{Pointer}
 use Rattle.mr_base.specs.declared.reason.Reason.{Reason}
+use Rattle.mr_base.specs.declared.reached.Reached.{Reached}
+use Rattle.mr_base.specs.Stops.{plainly, speaks, stop_with}
 use Rattle.mr_base.specs.Script.{Broken, Done, IllFormed, Outcome, Refused, Undefined, Went}
 use Rattle.mr_eval.specs.declared.halt.Halt.{Halt}
 use Rattle.mr_eval.specs.declared.halt.Halt.TheVariants as halt
@@ -28,17 +30,18 @@ pub record Extends (old new : Seen) : Type 0 where
   pub touched : List AllocId
   pub is : new ≡ record { accesses = old.accesses ++ accesses; touched = old.touched ++ touched }
 
--- What a function returned, seen by view, and the notes that it left are what the run comes to, unless memory ran out.
-abbrev pub Gives : {X Y S : Type 0} → (X → Y) → Result X Halt → Outcome Y S → S → Type 0
-Gives view (Ok x) o s = o ≡ Went (view x) s
-Gives view (Err (halt.Undefined r)) o s = o ≡ Refused r
-Gives view (Err halt.IllFormed) o s = o ≡ Broken
-Gives view (Err halt.Memory) o s = Unit {0}
+-- What a function returned, seen by view, and the notes that it left are what the run comes to, unless memory ran out. A
+-- stop speaks of the bytes that were refused last, where its reason speaks of bytes.
+abbrev pub Gives : {X Y S : Type 0} → (X → Y) → Result X Halt → Outcome Y S → S → Option Reached → Type 0
+Gives view (Ok x) o s last = o ≡ Went (view x) s
+Gives view (Err (halt.Undefined r)) o s last = o ≡ Refused (stop_with last r)
+Gives view (Err halt.IllFormed) o s last = o ≡ Broken
+Gives view (Err halt.Memory) o s last = Unit {0}
 
--- what a function returned is what a script that asks nothing comes to
+-- what a function returned is what a script that asks nothing comes to; it stops for no reason that speaks of bytes
 abbrev pub Says : {X Y : Type 0} → (X → Y) → Result X Halt → ReadScript Y → Type 0
 Says view (Ok x) m = m ≡ Done (view x)
-Says view (Err (halt.Undefined r)) m = m ≡ Undefined r
+Says view (Err (halt.Undefined r)) m = (m ≡ Undefined (plainly r)) × (speaks r ≡ false)
 Says view (Err halt.IllFormed) m = m ≡ IllFormed
 Says view (Err halt.Memory) m = Unit {0}
 
@@ -50,10 +53,11 @@ at_pointer p = p.at
 abbrev pub value_in : Valued → Val
 value_in v = v.value
 
--- what a call returned that notes nothing, as what a run comes to that notes as much as this
-abbrev pub outcome_of : {X S : Type 0} → Result X Reason → (X → S) → Outcome X S
-outcome_of (Ok x) note = Went x (note x)
-outcome_of (Err r) note = Refused r
+-- What a call returned that notes nothing is what a run comes to that notes as much as this. It tells the reason of a
+-- stop, and not what it speaks of.
+abbrev pub Reasons : {X S : Type 0} → Result X Reason → (X → S) → Outcome X S → Type 0
+Reasons (Ok x) note o = o ≡ Went x (note x)
+Reasons (Err r) note o = (about : Option Reached) × (o ≡ Refused (record { reason = r; about = about }))
 
 -- the surround of an evaluation
 abbrev pub surround_of : Here → Surround

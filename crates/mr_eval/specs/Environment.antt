@@ -11,6 +11,8 @@ use Rattle.mr_layout.specs.Cached.{IsCacheOf}
 use Rattle.mr_mem.specs.Memory.{Memory}
 use Rattle.mr_mem.specs.declared.fault.Fault.{Fault}
 use Rattle.mr_mem.specs.declared.fault.Fault.TheVariants as fault
+use Rattle.mr_base.specs.declared.reached.Reached.{Reached}
+use Rattle.mr_base.specs.Stops.{stop_with}
 use Rattle.mr_base.specs.Script.{Outcome, Refused, Went}
 use Rattle.mr_value.specs.Shape.{has_shape}
 use Rattle.mr_value.specs.declared.val.Val.{Val}
@@ -66,17 +68,18 @@ pub record ShapedAs (s : Surround) (v : Value) (x : Val) : Type 0 where
 
 -- ---- answers
 
--- What a call returned and left of the state is what the run comes to, unless memory ran out.
-abbrev pub Tells : {X S : Type 0} → Result X Fault → Outcome X S → S → Type 0
-Tells (Ok x) o s = o ≡ Went x s
-Tells (Err (fault.Undefined r)) o s = o ≡ Refused r
-Tells (Err fault.Memory) o s = Unit {0}
+-- What a call returned and left of the state is what the run comes to, unless memory ran out. A stop speaks of the bytes
+-- that were refused last, where its reason speaks of bytes.
+abbrev pub Tells : {X S : Type 0} → Result X Fault → Outcome X S → S → Option Reached → Type 0
+Tells (Ok x) o s last = o ≡ Went x s
+Tells (Err (fault.Undefined r)) o s last = o ≡ Refused (stop_with last r)
+Tells (Err fault.Memory) o s last = Unit {0}
 
 -- the same of a call that changes memory and returns nothing
-abbrev pub Leaves : {S : Type 0} → Result (Unit {0}) Fault → Outcome Memory S → Memory → S → Type 0
-Leaves (Ok x) o m s = o ≡ Went m s
-Leaves (Err (fault.Undefined r)) o m s = o ≡ Refused r
-Leaves (Err fault.Memory) o m s = Unit {0}
+abbrev pub Leaves : {S : Type 0} → Result (Unit {0}) Fault → Outcome Memory S → Memory → S → Option Reached → Type 0
+Leaves (Ok x) o m s last = o ≡ Went m s
+Leaves (Err (fault.Undefined r)) o m s last = o ≡ Refused (stop_with last r)
+Leaves (Err fault.Memory) o m s last = Unit {0}
 
 -- a stop that has a rule
 abbrev pub IsRuled : Halt → Type 0

@@ -11,7 +11,6 @@ use Rattle.mr_ast.specs.declared.types.Variant.{Variant}
 use Rattle.mr_ast.specs.declared.expr.Place.{Place}
 use Rattle.mr_ast.specs.declared.expr.Value.{Value}
 use Rattle.mr_base.specs.declared.byte.Pointer.{Pointer}
-use Rattle.mr_base.specs.declared.reason.Reason.{Reason}
 use Rattle.mr_base.specs.declared.reason.Reason.TheVariants.{TransmuteInvalid}
 use Rattle.mr_layout.specs.EnumRules.{same_num}
 use Rattle.mr_value.specs.Numbers.{Bytes}
@@ -22,6 +21,8 @@ use Rattle.mr_value.specs.Discriminants.{bits_of_number}
 use Rattle.mr_value.specs.Encode.{encoding_of}
 use Rattle.mr_value.specs.Shape.{has_shape}
 use Rattle.mr_typing.specs.Types.{chained, variant_type}
+use Rattle.mr_base.specs.Stops.{Stop}
+use Rattle.mr_base.specs.Stops.{plainly}
 use Rattle.mr_base.specs.Script.{Broken, Outcome, Went, ◌>>=◌, on, run}
 use Rattle.mr_eval.specs.Reads.{Seen, reading}
 use Rattle.mr_eval.specs.Typed.{Targets, loading, meant, numbered, referring, searched}
@@ -59,7 +60,7 @@ unfoldable pub referred_to : Memory → Targets → Seen → Outcome (Unit {0}) 
 referred_to m targets seen = run (reading m) (referring targets) seen
 
 -- the value that bytes mean at a type, whose references point into allocations
-unfoldable pub meant_by : Memory → Reason → Ty → Bytes → Seen → Outcome Val Seen
+unfoldable pub meant_by : Memory → Stop → Ty → Bytes → Seen → Outcome Val Seen
 meant_by m r t bytes seen = run (reading m) (meant r t bytes) seen
 
 -- ---- the levels of expressions
@@ -100,4 +101,4 @@ disc_at m (Some t) p seen = disc_layer m (out-Ty t) p seen
 abbrev pub transmuted_to : Memory → Ty → Option Ty → Val → Seen → Outcome Val Seen
 transmuted_to m to None v seen = Broken
 transmuted_to m to (Some from) v seen =
-    if has_shape from v then meant_by m TransmuteInvalid to (encoding_of from v) seen else Broken
+    if has_shape from v then meant_by m (plainly TransmuteInvalid) to (encoding_of from v) seen else Broken

@@ -22,6 +22,7 @@ use Rattle.mr_value.specs.Discriminants.{bits_of_number}
 use Rattle.mr_value.specs.Encode.{blank, encoding_of}
 use Rattle.mr_value.specs.Numbers.{Bytes}
 use Rattle.mr_value.specs.Shape.{has_shape}
+use Rattle.mr_base.specs.Stops.{plainly}
 use Rattle.mr_base.specs.Script.{Done, Undefined, IllFormed, ◌>>=◌}
 use Rattle.mr_typing.specs.Types.{chained, field_offset, type_of_place, type_of_value, variant_type}
 use Rattle.mr_eval.specs.Reads.{ReadScript}
@@ -41,7 +42,7 @@ pub record Surround : Type 0 where
 -- the storage of a local
 abbrev pub stored : Option (Option Pointer) → ReadScript Pointer
 stored None = IllFormed
-stored (Some None) = Undefined DeadLocal
+stored (Some None) = Undefined (plainly DeadLocal)
 stored (Some (Some p)) = Done p
 
 -- where the field of this number begins
@@ -61,7 +62,8 @@ elements_in (Some t) = elements (out-Ty t)
 
 -- the element at a position
 abbrev pub element_at : Pointer → ℕ → ℕ × ℕ → ReadScript Pointer
-element_at p i e = if nat_lt i e.0 then moved p (pos (i * e.1)) else Undefined IndexOutOfRange
+element_at p i e =
+    if nat_lt i e.0 then moved p (pos (i * e.1)) else Undefined (plainly IndexOutOfRange)
 
 -- a place as a variant of its type, which must have it
 abbrev pub as_variant : Option Ty → Num → Pointer → ReadScript Pointer
@@ -129,7 +131,7 @@ loaded (Some t) p = loading t p
 -- the bytes of a value, whose type's shape it must have, taken for another type
 abbrev pub transmuted : Ty → Option Ty → Val → ReadScript Val
 transmuted to None v = IllFormed
-transmuted to (Some from) v = if has_shape from v then meant TransmuteInvalid to (encoding_of from v) else IllFormed
+transmuted to (Some from) v = if has_shape from v then meant (plainly TransmuteInvalid) to (encoding_of from v) else IllFormed
 
 -- a pointer without provenance
 abbrev pub bare : ℕ → Pointer

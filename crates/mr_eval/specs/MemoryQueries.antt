@@ -5,11 +5,13 @@ use Rattle.mr_base.specs.declared.byte.Pointer.{Pointer}
 use Rattle.mr_base.specs.declared.byte.AbstractByte.{AbstractByte}
 use Rattle.mr_base.specs.declared.byte.Kind.{Kind}
 use Rattle.mr_base.specs.declared.reason.Reason.TheVariants.{InvalidValue}
+use Rattle.mr_base.specs.declared.reached.Reaching.TheVariants.{Changes, Frees}
 use Rattle.mr_mem.specs.Memory.{Memory, allocated, freed, written}
 use Rattle.mr_runs.specs.Numbers.{with_provenance}
+use Rattle.mr_base.specs.Stops.{over, reached_by}
 use Rattle.mr_base.specs.Script.{Script, Done, Undefined, IllFormed, Ask, Outcome, Refused, Went, on}
 use Rattle.mr_value.specs.Numbers.{Bytes, little_endian, number_of}
-use Rattle.mr_eval.specs.Reads.{Read, ReadQuery, ReadReply, ReadScript, Seen, accessing, answered, reading, seeing}
+use Rattle.mr_eval.specs.Reads.{ReadQuery, ReadReply, ReadScript, Seen, accessing, answered, lending, reading, seeing}
 use Rattle.mr_eval.specs.Stores.{storing}
 use Rattle.mr_eval.specs.Tally.{Tally, seen_of, with_seen}
 
@@ -57,18 +59,18 @@ number_bytes size n = with_provenance None (little_endian size n)
 abbrev pub replacing : Memory → Pointer → ℕ → ℕ → Option ℕ → Seen → Outcome ℕ (Memory × Seen)
 replacing m p size old None s = Went old (m, s)
 replacing m p size old (Some new) s =
-    answered (written m p (number_bytes size new) size)
+    answered (reached_by Changes p size) (written m p (number_bytes size new) size)
     (λ after. Went old (after, seeing (accessing true true p size) [] s))
 
 -- of the bytes that were read: the number that they are, and the change of it
 abbrev pub changing : Memory → Pointer → ℕ → (ℕ → Option ℕ) → Option ℕ → Seen → Outcome ℕ (Memory × Seen)
-changing m p size change None s = Refused InvalidValue
+changing m p size change None s = Refused (over (reached_by Changes p size) InvalidValue)
 changing m p size change (Some n) s = replacing m p size n (change n) s
 
 -- the read and change of an integer: one range check, an atomic load, and an atomic store where there is a new number
 abbrev pub modifying : Memory → Pointer → ℕ → (ℕ → Option ℕ) → Seen → Outcome ℕ (Memory × Seen)
 modifying m p size change s =
-    on (reading m (Read true p size size) s) (λ bytes s'. changing m p size change (number_of bytes) s')
+    on (lending m Changes true p size size s) (λ bytes s'. changing m p size change (number_of bytes) s')
 
 -- what memory answers, and what stands in it and in the tally afterwards
 abbrev pub memory_answer : (q : MemoryQuery) → Memory × Tally → Outcome (MemoryReply q) (Memory × Tally)
@@ -87,4 +89,5 @@ memory_answer (Allocate kind size align addr) w =
       },
     )
 memory_answer (Free p kind size align) w =
-    answered (freed w.0 p kind size align) (λ f. Went tt (f.1, record w.1 { freed = w.1.freed ++ f.0 ∷ [] }))
+    answered (reached_by Frees p size) (freed w.0 p kind size align)
+    (λ f. Went tt (f.1, record w.1 { freed = w.1.freed ++ f.0 ∷ [] }))

@@ -3,6 +3,7 @@ use Rattle.std.specs.Prelude.{ℕ, ◌+◌, ◌^◌, ◌%◌, ◌&&◌, if◌the
 use Rattle.std.specs.Ordering.{int_eq}
 use Rattle.mr_base.specs.declared.byte.Pointer.{Pointer}
 use Rattle.mr_base.specs.declared.reason.Reason.TheVariants.{OffsetOverflow}
+use Rattle.mr_base.specs.Stops.{plainly}
 use Rattle.mr_base.specs.Script.{Done, Undefined, Ask}
 use Rattle.mr_eval.specs.Reads.{Check, ReadScript}
 
@@ -23,7 +24,7 @@ abbrev pub moved_to : Pointer → ℤ → ℤ → ReadScript Pointer
 moved_to p n to =
     if int_le (pos 0) to && int_lt to (pos (2 ^ 64))
     then Ask (Check (lower p n to) (unsigned_abs n)) (λ _. Done (at_address p (unsigned_abs to)))
-    else Undefined OffsetOverflow
+    else Undefined (plainly OffsetOverflow)
 
 -- A pointer moved in bounds: the bytes between the two addresses lie in its allocation.
 abbrev pub moved : Pointer → ℤ → ReadScript Pointer

@@ -25,6 +25,7 @@ use Rattle.mr_intops.specs.Shift.{shift_of}
 use Rattle.mr_value.specs.declared.val.Val.{Val, out-Val}
 use Rattle.mr_value.specs.declared.val.Val.TheOpen.{Val-F}
 use Rattle.mr_value.specs.declared.val.Val.TheVariants as val
+use Rattle.mr_base.specs.Stops.{plainly}
 use Rattle.mr_base.specs.Script.{Done, Undefined, IllFormed, ◌>>=◌}
 use Rattle.mr_typing.specs.SameTypes.{same_int}
 use Rattle.mr_typing.specs.Types.{integer_of}
@@ -121,7 +122,7 @@ kind_of binary.WrappingOffset = Wrapping
 -- the result, or the program is undefined for the reason
 abbrev pub or_reason : {A : Type 0} → Result A Reason → ReadScript A
 or_reason (Ok x) = Done x
-or_reason (Err r) = Undefined r
+or_reason (Err r) = Undefined (plainly r)
 
 -- bits as a value of the operand's kind: bools are and-ed, or-ed and xor-ed as 0 and 1
 abbrev pub like : Val-F Val → ℕ → ReadScript Val

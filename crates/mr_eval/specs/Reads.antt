@@ -8,8 +8,12 @@ use Rattle.mr_base.specs.declared.byte.AllocId.{AllocId}
 use Rattle.mr_base.specs.declared.byte.Pointer.{Pointer}
 use Rattle.mr_base.specs.declared.reason.Reason.{Reason}
 use Rattle.mr_base.specs.declared.reason.Reason.TheVariants.{DanglingReference}
+use Rattle.mr_base.specs.declared.reached.Reached.{Reached}
+use Rattle.mr_base.specs.declared.reached.Reaching.{Reaching}
+use Rattle.mr_base.specs.declared.reached.Reaching.TheVariants.{Loads, Moves, Refers}
 use Rattle.mr_mem.specs.Memory.{Memory, checked, read}
 use Rattle.mr_base.specs.Script.{Script, Outcome, Went, Refused}
+use Rattle.mr_base.specs.Stops.{over, reached_by}
 
 -- a range check; the same of what a reference points to; a load
 pub data ReadQuery : Type 0 where
@@ -53,20 +57,28 @@ seeing accesses touched s = record { accesses = s.accesses ++ accesses; touched 
 
 -- ---- what memory answers
 
--- what goes on behind an answer of memory, or its reason
-abbrev pub answered : {X A S : Type 0} → Result X Reason → (X → Outcome A S) → Outcome A S
-answered (Ok x) f = f x
-answered (Err r) f = Refused r
+-- what goes on behind an answer of memory, or its reason, which speaks of the bytes that were reached
+abbrev pub answered : {X A S : Type 0} → Reached → Result X Reason → (X → Outcome A S) → Outcome A S
+answered bytes (Ok x) f = f x
+answered bytes (Err r) f = Refused (over bytes r)
 
 -- one reason for all
 abbrev pub named : {X : Type 0} → Reason → Result X Reason → Result X Reason
 named r (Ok x) = Ok x
 named r (Err cause) = Err r
 
+-- a range check, of bytes with which this is done
+abbrev pub looking : Reaching → Pointer → ℕ → Result (Option AllocId) Reason → Seen → Outcome (Unit {0}) Seen
+looking doing p len found s = answered (reached_by doing p len) found (λ _. Went tt (seeing [] (touching p len) s))
+
+-- the bytes of a load, with which this is done
+abbrev pub lending : Memory → Reaching → Bool → Pointer → ℕ → ℕ → Seen → Outcome (List AbstractByte) Seen
+lending m doing atomic p len align s =
+    answered (reached_by doing p len) (read m p len align)
+    (λ bytes. Went bytes (seeing (accessing false atomic p len) (touching p len) s))
+
 -- what a memory answers, and what is noted then
 abbrev pub reading : Memory → (q : ReadQuery) → Seen → Outcome (ReadReply q) Seen
-reading m (Check p len) s = answered (checked m p len) (λ _. Went tt (seeing [] (touching p len) s))
-reading m (Refer p len) s =
-    answered (named DanglingReference (checked m p len)) (λ _. Went tt (seeing [] (touching p len) s))
-reading m (Read atomic p len align) s =
-    answered (read m p len align) (λ bytes. Went bytes (seeing (accessing false atomic p len) (touching p len) s))
+reading m (Check p len) s = looking Moves p len (checked m p len) s
+reading m (Refer p len) s = looking Refers p len (named DanglingReference (checked m p len)) s
+reading m (Read atomic p len align) s = lending m Loads atomic p len align s

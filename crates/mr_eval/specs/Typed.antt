@@ -10,7 +10,6 @@ use Rattle.mr_ast.specs.declared.types.Ty.TheOpen.{Ty-F}
 use Rattle.mr_ast.specs.declared.types.Ty.TheFolds.{para-Ty}
 use Rattle.mr_ast.specs.declared.types.Variant.{Variant}
 use Rattle.mr_base.specs.declared.byte.Pointer.{Pointer}
-use Rattle.mr_base.specs.declared.reason.Reason.{Reason}
 use Rattle.mr_base.specs.declared.reason.Reason.TheVariants.{InvalidDiscriminant, InvalidValue}
 use Rattle.mr_layout.specs.Sizes.{align_of, size_of}
 use Rattle.mr_ast.specs.Integers.{int_size}
@@ -20,6 +19,9 @@ use Rattle.mr_value.specs.declared.val.Val.TheOpen.{Val-F}
 use Rattle.mr_value.specs.Decode.{decoded}
 use Rattle.mr_value.specs.Discriminants.{number_of_bits}
 use Rattle.mr_value.specs.Numbers.{Bytes, number_of}
+use Rattle.mr_base.specs.declared.reached.Reaching.TheVariants.{Loads}
+use Rattle.mr_base.specs.Stops.{Stop}
+use Rattle.mr_base.specs.Stops.{over, plainly, reached_by}
 use Rattle.mr_base.specs.Script.{Done, Undefined, Ask, ◌>>=◌}
 use Rattle.mr_eval.specs.Reads.{Read, ReadScript, Refer}
 use Rattle.mr_eval.specs.Moves.{behind}
@@ -95,7 +97,7 @@ referring (t ∷ targets) = Ask (Refer t.0 t.1) (λ _. referring targets)
 -- ---- loads
 
 -- a value that must be there
-abbrev pub or_undefined : {A : Type 0} → Reason → Option A → ReadScript A
+abbrev pub or_undefined : {A : Type 0} → Stop → Option A → ReadScript A
 or_undefined r None = Undefined r
 or_undefined r (Some x) = Done x
 
@@ -105,15 +107,19 @@ referred t v = do
   _ ← referring (targets_of t v)
   Done v
 
--- the value that bytes mean, for the reason where they mean none
-abbrev pub meant : Reason → Ty → Bytes → ReadScript Val
+-- the value that bytes mean, or this stop where they mean none
+abbrev pub meant : Stop → Ty → Bytes → ReadScript Val
 meant r t bytes = do
   v ← or_undefined r (decoded t bytes)
   referred t v
 
+-- the stop for bytes that were loaded and mean no value of the type
+abbrev pub meaningless : Ty → Pointer → Stop
+meaningless t p = over (reached_by Loads p (size_of t)) InvalidValue
+
 -- the load of a value
 unfoldable pub loading : Ty → Pointer → ReadScript Val
-loading t p = Ask (Read false p (size_of t) (align_of t)) (meant InvalidValue t)
+loading t p = Ask (Read false p (size_of t) (align_of t)) (meant (meaningless t p) t)
 
 -- ---- discriminants
 
@@ -130,13 +136,13 @@ case_search n (c ∷ cases) rest = if same_num c.0 n then c.1 else case_search n
 abbrev pub numbered : IntType → Pointer → ReadScript Num
 numbered int p =
     Ask (Read false p (int_size int) 1) (λ bytes. do
-      bits ← or_undefined InvalidDiscriminant (number_of bytes)
+      bits ← or_undefined (plainly InvalidDiscriminant) (number_of bytes)
       Done (number_of_bits int bits))
 
 -- one level of a tree, each branch being a load of its integer
 abbrev pub search_step : Tree-F Search → Search
 search_step (Tree-F.Known n) p = Done n
-search_step Tree-F.Invalid p = Undefined InvalidDiscriminant
+search_step Tree-F.Invalid p = Undefined (plainly InvalidDiscriminant)
 search_step (Tree-F.Branch at int cases rest) p = do
   n ← numbered int (behind p at)
   case_search n cases rest p

@@ -1,9 +1,11 @@
 -- What a step changes of memory, and what it notes of that, as the code's scene keeps it.
-use Rattle.std.specs.Prelude.{◌≡◌, Result, Ok, Err}
+use Rattle.std.specs.Prelude.{◌≡◌, Option, Result, Ok, Err}
 use Rattle.mr_mem.specs.Memory.{Memory}
 use Rattle.mr_mem.specs.declared.fault.Fault.{Fault}
 use Rattle.mr_mem.specs.declared.fault.Fault.TheVariants as fault
+use Rattle.mr_base.specs.declared.reached.Reached.{Reached}
 use Rattle.mr_base.specs.Script.{Outcome, Refused, Went}
+use Rattle.mr_base.specs.Stops.{stop_with}
 use Rattle.mr_eval.specs.declared.scene.Scene.{Scene}
 use Rattle.mr_eval.specs.Tally.{Tally}
 
@@ -27,8 +29,9 @@ tally_of s = record {
 abbrev pub world_of : Scene → World
 world_of s = (s.memory, tally_of s)
 
--- What a call returned, seen by view, and left of the state is what the run comes to, unless memory ran out.
-abbrev pub TellsBy : {X Y S : Type 0} → (X → Y) → Result X Fault → Outcome Y S → S → Type 0
-TellsBy view (Ok x) o s = o ≡ Went (view x) s
-TellsBy view (Err (fault.Undefined r)) o s = o ≡ Refused r
-TellsBy view (Err fault.Memory) o s = Unit {0}
+-- What a call returned, seen by view, and left of the state is what the run comes to, unless memory ran out. A stop speaks
+-- of the bytes that were refused last, where its reason speaks of bytes.
+abbrev pub TellsBy : {X Y S : Type 0} → (X → Y) → Result X Fault → Outcome Y S → S → Option Reached → Type 0
+TellsBy view (Ok x) o s last = o ≡ Went (view x) s
+TellsBy view (Err (fault.Undefined r)) o s last = o ≡ Refused (stop_with last r)
+TellsBy view (Err fault.Memory) o s last = Unit {0}

@@ -45,7 +45,7 @@ pub fn place(
     p: &Place,
 ) -> Result<Pointer, Fault>
     requires { PlaceIn e.now p.now }
-    ensures given { Tells result (placed m.now (env_surround e.now) p.now (seen n.old)) (seen n.new) }
+    ensures given { Tells result (placed m.now (env_surround e.now) p.now (seen n.old)) (seen n.new) n.new.refused }
     ensures kept { Extends (seen n.old) (seen n.new) }
 {
     let here = Here {
@@ -68,7 +68,7 @@ pub fn place(
 /// The value stands in the function of the environment. After `Err` the notes begin with what they held.
 pub fn value(alloc: Global, e: &Env<'_>, m: &Memory, n: &mut Notes, v: &Value) -> Result<Val, Fault>
     requires { ValueIn e.now v.now }
-    ensures given { Tells result (valued m.now (env_surround e.now) v.now (seen n.old)) (seen n.new) }
+    ensures given { Tells result (valued m.now (env_surround e.now) v.now (seen n.old)) (seen n.new) n.new.refused }
     ensures kept { Extends (seen n.old) (seen n.new) }
     ensures shape { IfOk result (ShapedAs (env_surround e.now) v.now) }
 {
@@ -100,7 +100,7 @@ pub fn load_typed(
     t: &Ty,
 ) -> Result<Val, Fault>
     requires { TypeOk t.now }
-    ensures given { Tells result (read_typed m.now t.now p (seen n.old)) (seen n.new) }
+    ensures given { Tells result (read_typed m.now t.now p (seen n.old)) (seen n.new) n.new.refused }
     ensures kept { Extends (seen n.old) (seen n.new) }
     ensures shape { IfOk result (λ v. has_shape t.now v ≡ true) }
 {
@@ -125,7 +125,7 @@ pub fn store_typed(
 ) -> Result<(), Fault>
     requires ok { TypeOk t.now }
     requires shape { has_shape t.now v.now ≡ true }
-    ensures given { Leaves result (stored_typed m.old t.now p v.now (seen n.old)) m.new (seen n.new) }
+    ensures given { Leaves result (stored_typed m.old t.now p v.now (seen n.old)) m.new (seen n.new) n.new.refused }
     ensures kept { Extends (seen n.old) (seen n.new) }
     ensures err { OnErr result (m.new ≡ m.old) }
 {

@@ -31,7 +31,8 @@ use mr_value::{Val, bits_of_number};
 pub fn placed<'p>(here: &Here<'p>, notes: &mut Notes, place: &'p Place) -> Result<Placed<'p>, Halt>
     requires { SoundPlace (surround_of here.now) place.now }
     ensures given { Gives at_pointer result
-        (placed here.now.memory.now (surround_of here.now) place.now (seen notes.old)) (seen notes.new) }
+        (placed here.now.memory.now (surround_of here.now) place.now (seen notes.old))
+        (seen notes.new) notes.new.refused }
     ensures ty { IfOk result (λ p. type_of_place here.now.locals.now place.now ≡ Some p.ty.now) }
     ensures kept { Extends (seen notes.old) (seen notes.new) }
 {
@@ -64,7 +65,7 @@ fn indexed_place<'p>(
 ) -> Result<Placed<'p>, Halt>
     requires { SoundPlace (surround_of here.now) (Place.Index array.now index.now) }
     ensures given { Gives at_pointer result (placed here.now.memory.now (surround_of here.now)
-        (Place.Index array.now index.now) (seen notes.old)) (seen notes.new) }
+        (Place.Index array.now index.now) (seen notes.old)) (seen notes.new) notes.new.refused }
     ensures ty { IfOk result
         (λ p. type_of_place here.now.locals.now (Place.Index array.now index.now) ≡ Some p.ty.now) }
     ensures kept { Extends (seen notes.old) (seen notes.new) }
@@ -94,7 +95,7 @@ fn bare(addr: u64) -> Pointer
 pub fn valued<'p>(here: &Here<'p>, notes: &mut Notes, value: &'p Value) -> Result<Valued<'p>, Halt>
     requires { SoundValue (surround_of here.now) value.now }
     ensures given { Gives value_in result (valued here.now.memory.now (surround_of here.now) value.now (seen notes.old))
-        (seen notes.new) }
+        (seen notes.new) notes.new.refused }
     ensures ty { IfOk result (λ v. type_of_value here.now.locals.now value.now ≡ Some (ty_of v.ty)) }
     ensures kept { Extends (seen notes.old) (seen notes.new) }
 {
@@ -150,7 +151,7 @@ fn cast_expression<'p>(
 ) -> Result<Valued<'p>, Halt>
     requires { SoundValue (surround_of here.now) (Value.Cast int operand.now) }
     ensures given { Gives value_in result (valued here.now.memory.now (surround_of here.now)
-        (Value.Cast int operand.now) (seen notes.old)) (seen notes.new) }
+        (Value.Cast int operand.now) (seen notes.old)) (seen notes.new) notes.new.refused }
     ensures ty { IfOk result (λ v. type_of_value here.now.locals.now (Value.Cast int operand.now) ≡ Some (ty_of v.ty)) }
     ensures kept { Extends (seen notes.old) (seen notes.new) }
 {
@@ -169,7 +170,7 @@ fn unary_expression<'p>(
 ) -> Result<Valued<'p>, Halt>
     requires { SoundValue (surround_of here.now) (Value.Unary op operand.now) }
     ensures given { Gives value_in result (valued here.now.memory.now (surround_of here.now)
-        (Value.Unary op operand.now) (seen notes.old)) (seen notes.new) }
+        (Value.Unary op operand.now) (seen notes.old)) (seen notes.new) notes.new.refused }
     ensures ty { IfOk result (λ v. type_of_value here.now.locals.now (Value.Unary op operand.now) ≡ Some (ty_of v.ty)) }
     ensures kept { Extends (seen notes.old) (seen notes.new) }
 {
@@ -188,7 +189,7 @@ fn tuple_expression<'p>(
 ) -> Result<Valued<'p>, Halt>
     requires { SoundValue (surround_of here.now) (Value.Tuple ty.now values.now) }
     ensures given { Gives value_in result (valued here.now.memory.now (surround_of here.now)
-        (Value.Tuple ty.now values.now) (seen notes.old)) (seen notes.new) }
+        (Value.Tuple ty.now values.now) (seen notes.old)) (seen notes.new) notes.new.refused }
     ensures ty { IfOk result
         (λ v. type_of_value here.now.locals.now (Value.Tuple ty.now values.now) ≡ Some (ty_of v.ty)) }
     ensures kept { Extends (seen notes.old) (seen notes.new) }
@@ -209,7 +210,7 @@ fn variant_expression<'p>(
 ) -> Result<Valued<'p>, Halt>
     requires { SoundValue (surround_of here.now) (Value.Variant ty.now number content.now) }
     ensures given { Gives value_in result (valued here.now.memory.now (surround_of here.now)
-        (Value.Variant ty.now number content.now) (seen notes.old)) (seen notes.new) }
+        (Value.Variant ty.now number content.now) (seen notes.old)) (seen notes.new) notes.new.refused }
     ensures ty { IfOk result
         (λ v. type_of_value here.now.locals.now (Value.Variant ty.now number content.now) ≡ Some (ty_of v.ty)) }
     ensures kept { Extends (seen notes.old) (seen notes.new) }
@@ -230,7 +231,7 @@ fn union_expression<'p>(
 ) -> Result<Valued<'p>, Halt>
     requires { SoundValue (surround_of here.now) (Value.Union ty.now number content.now) }
     ensures given { Gives value_in result (valued here.now.memory.now (surround_of here.now)
-        (Value.Union ty.now number content.now) (seen notes.old)) (seen notes.new) }
+        (Value.Union ty.now number content.now) (seen notes.old)) (seen notes.new) notes.new.refused }
     ensures ty { IfOk result
         (λ v. type_of_value here.now.locals.now (Value.Union ty.now number content.now) ≡ Some (ty_of v.ty)) }
     ensures kept { Extends (seen notes.old) (seen notes.new) }
@@ -250,7 +251,7 @@ fn transmute_expression<'p>(
 ) -> Result<Valued<'p>, Halt>
     requires { SoundValue (surround_of here.now) (Value.Transmute ty.now operand.now) }
     ensures given { Gives value_in result (valued here.now.memory.now (surround_of here.now)
-        (Value.Transmute ty.now operand.now) (seen notes.old)) (seen notes.new) }
+        (Value.Transmute ty.now operand.now) (seen notes.old)) (seen notes.new) notes.new.refused }
     ensures ty { IfOk result
         (λ v. type_of_value here.now.locals.now (Value.Transmute ty.now operand.now) ≡ Some (ty_of v.ty)) }
     ensures kept { Extends (seen notes.old) (seen notes.new) }
@@ -271,7 +272,7 @@ fn binary_expression<'p>(
 ) -> Result<Valued<'p>, Halt>
     requires { SoundValue (surround_of here.now) (Value.Binary op left.now right.now) }
     ensures given { Gives value_in result (valued here.now.memory.now (surround_of here.now)
-        (Value.Binary op left.now right.now) (seen notes.old)) (seen notes.new) }
+        (Value.Binary op left.now right.now) (seen notes.old)) (seen notes.new) notes.new.refused }
     ensures ty { IfOk result
         (λ v. type_of_value here.now.locals.now (Value.Binary op left.now right.now) ≡ Some (ty_of v.ty)) }
     ensures kept { Extends (seen notes.old) (seen notes.new) }
@@ -302,7 +303,8 @@ fn each_valued<'p>(
 ) -> Result<Items<Val>, Halt>
     requires { SoundValues (surround_of here.now) values.now }
     ensures given { Gives same result
-        (each_valued here.now.memory.now (surround_of here.now) values.now (seen notes.old)) (seen notes.new) }
+        (each_valued here.now.memory.now (surround_of here.now) values.now (seen notes.old))
+        (seen notes.new) notes.new.refused }
     ensures kept { Extends (seen notes.old) (seen notes.new) }
 {
     let mut row = Items::new(here.alloc);

@@ -13,8 +13,10 @@
 //!   notes for these types (`specs/Noted.antt`).
 //! - [`store_typed`]: the store of a value of a type's shape. A refused one changes no memory. [`store_bytes`] and [`store_uninit`] do
 //!   the same with bytes and with uninitialised ones.
-//! - [`behind`]: a pointer so many bytes behind another, around the end of the address space. [`recast`]: what the bytes of a value are
-//!   as a value of another type. [`number_in`]: the number of an integer in bytes.
+//! - [`behind`]: a pointer so many bytes behind another, around the end of the address space.
+//!
+//! Where one is refused, its script stops with the reason and with the bytes that it speaks of (`specs/Stops.antt` of `mr_base`).
+//! The call tells the reason, and [`Notes`] have the bytes that were refused last.
 //!
 //! None of them comes to a state without a rule: an expression of a well-formed program never does (`proofs/ExprSafe.antt`), so a
 //! refusal is undefined behaviour of the program, or want of memory.
@@ -47,8 +49,6 @@ pub use loading::load_scalar;
 pub use moving::behind;
 pub use mr_mem::Fault;
 pub use notes::Notes;
-pub use recasting::recast;
 pub use scalars::{Scalar, scalar_of};
 pub use scene::Scene;
-pub use search::number_in;
 pub use stores::{store_bytes, store_uninit};

@@ -7,14 +7,14 @@ ghost use Rattle.mr_base.specs.Script.{Went, on};
 ghost use Rattle.mr_value.specs.Decode.{is_scalar};
 ghost use Rattle.mr_value.specs.Shape.{has_shape};
 ghost use Rattle.mr_value.specs.declared.val.Val.{out-Val};
-ghost use Rattle.mr_eval.specs.Answers.{Extends, Gives, outcome_of, same, seen, value_in};
+ghost use Rattle.mr_eval.specs.Answers.{Extends, Gives, Reasons, same, seen, value_in};
 ghost use Rattle.mr_typing.specs.Known.{ty_of};
-ghost use Rattle.mr_base.specs.declared.reason.Reason.TheVariants.{InvalidValue};
+ghost use Rattle.mr_base.specs.declared.byte.Pointer.{Pointer as PointerOf};
 ghost use Rattle.mr_runs.specs.Pieces.{bytes_of_pieces};
 ghost use Rattle.mr_eval.specs.Evaluated.{meant_by, read_typed, referred_to};
 ghost use Rattle.mr_eval.specs.Noted.{listed, noted_load, noted_targets};
 ghost use Rattle.mr_eval.specs.Reads.{Seen, accessing, seeing, touching};
-ghost use Rattle.mr_eval.specs.Typed.{pointed, targets_of};
+ghost use Rattle.mr_eval.specs.Typed.{meaningless, pointed, targets_of};
 
 use crate::halt::Halt;
 use crate::notes::Notes;
@@ -23,7 +23,7 @@ use crate::reads::lend;
 use crate::targets::{add_targets, refer_all};
 use crate::valuing::{Valued, typed};
 use mr_ast::Ty;
-use mr_base::{Pointer, Reason};
+use mr_base::{Pointer, Reaching, Reason};
 use mr_layout::{Cache, Layout};
 use mr_mem::Memory;
 use mr_runs::View;
@@ -35,7 +35,7 @@ use std::alloc::{AllocError, Global};
 #[tactic(auto, using(crate::proofs::ExtendsLaws::extends_laws))]
 pub fn referred(alloc: Global, m: &Memory, notes: &mut Notes, t: &Ty, v: Val) -> Result<Val, Halt>
     ensures given { Gives same result (on (referred_to m.now (targets_of t.now v) (seen notes.old)) (λ u s. Went v s))
-        (seen notes.new) }
+        (seen notes.new) notes.new.refused }
     ensures kept { Extends (seen notes.old) (seen notes.new) }
     ensures same { IfOk result (λ w. w ≡ v) }
 {
@@ -59,14 +59,17 @@ pub fn read_typed(
     requires ok { TypeOk t.now }
     requires size { size ≡ size_of t.now }
     requires align { align ≡ align_of t.now }
-    ensures given { Gives same result (read_typed m.now t.now p (seen notes.old)) (seen notes.new) }
+    ensures given { Gives same result (read_typed m.now t.now p (seen notes.old)) (seen notes.new) notes.new.refused }
     ensures kept { Extends (seen notes.old) (seen notes.new) }
     ensures shape { IfOk result (λ v. has_shape t.now v ≡ true) }
 {
     let view = lend(m, notes, p, size, align)?;
     match decode(alloc, &view, t)? {
         Some(v) => referred(alloc, m, notes, t, v),
-        None => Err(Halt::Undefined(Reason::InvalidValue)),
+        None => {
+            notes.refuse(Reaching::Loads, p, size);
+            Err(Halt::Undefined(Reason::InvalidValue))
+        }
     }
 }
 
@@ -112,7 +115,7 @@ fn target_of(t: &Ty, v: &Val) -> Option<(Pointer, u64)>
 #[tactic(auto, unfolding(crate::specs::Evaluated::referred_to))]
 fn check_target(m: &Memory, target: Option<(Pointer, u64)>) -> Result<(), Reason>
     ensures { (s : Seen)
-        → referred_to m.now (listed target) s ≡ outcome_of result (λ _. noted_targets (listed target) s) }
+        → Reasons result (λ _. noted_targets (listed target) s) (referred_to m.now (listed target) s) }
 {
     match target {
         None => Ok(()),
@@ -124,13 +127,13 @@ fn check_target(m: &Memory, target: Option<(Pointer, u64)>) -> Result<(), Reason
 }
 
 // The value that is lent, whose reference, where it is one, points to a live range.
-#[tactic(auto, using(crate::proofs::LoadRuns::meant_none))]
+#[tactic(auto, using(crate::proofs::ScalarRuns::scalar_meaningless))]
 fn scalar_in(m: &Memory, view: &View<'_>, t: &Ty) -> Result<Val, Reason>
     requires scalar { IsTrue (is_scalar t.now) }
     requires ok { TypeOk t.now }
     requires sized { length (bytes_of_pieces view.now) ≡ size_of t.now }
-    ensures given { (s : Seen) → meant_by m.now InvalidValue t.now (bytes_of_pieces view.now) s
-        ≡ outcome_of result (λ v. noted_targets (targets_of t.now v) s) }
+    ensures given { (p : PointerOf) (s : Seen) → Reasons result (λ v. noted_targets (targets_of t.now v) s)
+        (meant_by m.now (meaningless t.now p) t.now (bytes_of_pieces view.now) s) }
     ensures shape { IfOk result (λ v. has_shape t.now v ≡ true) }
 {
     let Some(v) = decode_scalar(view, t) else {
@@ -148,7 +151,7 @@ fn scalar_in(m: &Memory, view: &View<'_>, t: &Ty) -> Result<Val, Reason>
 pub fn load_scalar(m: &Memory, c: &Cache, p: Pointer, t: &Ty) -> Result<Val, Reason>
     requires scalar { IsTrue (is_scalar t.now) }
     requires ok { TypeOk t.now }
-    ensures given { (s : Seen) → read_typed m.now t.now p s ≡ outcome_of result (λ v. noted_load t.now p v s) }
+    ensures given { (s : Seen) → Reasons result (λ v. noted_load t.now p v s) (read_typed m.now t.now p s) }
     ensures shape { IfOk result (λ v. has_shape t.now v ≡ true) }
 {
     load_sized(m, p, t, c.layout(t))
@@ -160,7 +163,7 @@ fn load_sized(m: &Memory, p: Pointer, t: &Ty, layout: Layout) -> Result<Val, Rea
     requires scalar { IsTrue (is_scalar t.now) }
     requires ok { TypeOk t.now }
     requires layout { layout ≡ layout_of t.now }
-    ensures given { (s : Seen) → read_typed m.now t.now p s ≡ outcome_of result (λ v. noted_load t.now p v s) }
+    ensures given { (s : Seen) → Reasons result (λ v. noted_load t.now p v s) (read_typed m.now t.now p s) }
     ensures shape { IfOk result (λ v. has_shape t.now v ≡ true) }
 {
     match m.load(p, layout.size, layout.align) {
@@ -189,9 +192,34 @@ fn note_load(
     Ok(())
 }
 
+// A load that is refused, done once more as a load of any type, so that what is refused is noted.
+#[cold]
+#[inline(never)]
+fn refused_scalar<'p>(
+    alloc: Global,
+    m: &Memory,
+    notes: &mut Notes,
+    p: Placed<'p>,
+    layout: Layout,
+) -> Result<Valued<'p>, Halt>
+    requires ok { TypeOk p.ty.now }
+    requires layout { layout ≡ layout_of p.ty.now }
+    ensures given { Gives value_in result (read_typed m.now p.entry.ty.now p.entry.at (seen notes.old))
+        (seen notes.new) notes.new.refused }
+    ensures ty { IfOk result (λ v. ty_of v.ty ≡ p.entry.ty.now) }
+    ensures kept { Extends (seen notes.old) (seen notes.new) }
+    ensures shape { IfOk result (λ v. has_shape p.entry.ty.now v.value ≡ true) }
+{
+    match read_typed(alloc, m, notes, p.at, p.ty, layout.size, layout.align) {
+        Ok(v) => Ok(typed(v, Known::Written(p.ty))),
+        Err(halt) => Err(halt),
+    }
+}
+
 /// The load of an integer, a bool or a pointer, noted, as a value of its type.
 #[tactic(auto, using(crate::proofs::ExtendsLaws::extends_laws))]
 pub fn noted_scalar<'p>(
+    alloc: Global,
     m: &Memory,
     c: &Cache,
     notes: &mut Notes,
@@ -200,7 +228,7 @@ pub fn noted_scalar<'p>(
     requires scalar { IsTrue (is_scalar p.ty.now) }
     requires ok { TypeOk p.ty.now }
     ensures given { Gives value_in result (read_typed m.now p.entry.ty.now p.entry.at (seen notes.old))
-        (seen notes.new) }
+        (seen notes.new) notes.new.refused }
     ensures ty { IfOk result (λ v. ty_of v.ty ≡ p.entry.ty.now) }
     ensures kept { Extends (seen notes.old) (seen notes.new) }
     ensures shape { IfOk result (λ v. has_shape p.entry.ty.now v.value ≡ true) }
@@ -211,6 +239,6 @@ pub fn noted_scalar<'p>(
             note_load(notes, p.at, layout.size, target_of(p.ty, &v))?;
             Ok(typed(v, Known::Written(p.ty)))
         }
-        Err(reason) => Err(Halt::Undefined(reason)),
+        Err(_) => refused_scalar(alloc, m, notes, p, layout),
     }
 }

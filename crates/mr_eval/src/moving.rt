@@ -25,7 +25,8 @@ pub fn behind(p: Pointer, n: u64) -> Pointer
 #[tactic(auto, using(crate::proofs::ExtendsLaws::extends_laws))]
 pub fn moved(m: &Memory, notes: &mut Notes, p: Pointer, n: i128) -> Result<Pointer, Halt>
     requires { unsigned_abs n < 2 ^ 65 }
-    ensures given { Gives same result (run (reading m.now) (moved p n) (seen notes.old)) (seen notes.new) }
+    ensures given { Gives same result (run (reading m.now) (moved p n) (seen notes.old))
+        (seen notes.new) notes.new.refused }
     ensures kept { Extends (seen notes.old) (seen notes.new) }
 {
     if n == 0 {

@@ -1,16 +1,20 @@
 //! What is noted of accesses and range checks.
-use mr_base::{Access, Accesses, AllocIds, Pointer};
+use mr_base::{Access, Accesses, AllocIds, Pointer, Reached, Reaching};
 use std::alloc::{AllocError, Global};
 
-/// What evaluation notes of what it read: its accesses in order, and the allocations that its range checks touched.
+/// What evaluation notes of what it read: its accesses in order, and the allocations that its range checks touched. Beside
+/// these the bytes that were refused last, by which a stop is told; they stay where the others are forgotten.
 #[derive(Drop)]
 pub struct Notes {
     pub accesses: Accesses,
     pub touched: AllocIds,
+    /// The bytes that were refused last.
+    pub refused: Option<Reached>,
 }
 
 impl Notes {
-    ghost use Rattle.std.specs.Prelude.{◌≡◌, [], OnOk};
+    ghost use Rattle.std.specs.Prelude.{◌≡◌, [], OnOk, Some};
+    ghost use Rattle.mr_base.specs.Stops.{reached_by};
     ghost use Rattle.mr_eval.specs.Answers.{Extends, seen};
     ghost use Rattle.mr_eval.specs.Reads.{accessing, seeing, touching};
 
@@ -21,6 +25,7 @@ impl Notes {
         Notes {
             accesses: Accesses::new(alloc),
             touched: AllocIds::new(alloc),
+            refused: None,
         }
     }
 
@@ -30,6 +35,20 @@ impl Notes {
     {
         self.accesses.clear();
         self.touched.clear();
+    }
+
+    /// Notes the bytes that are refused.
+    #[cold]
+    #[inline(never)]
+    pub fn refuse(&mut self, doing: Reaching, pointer: Pointer, len: u64)
+        ensures last { self.new.refused ≡ Some (reached_by doing pointer len) }
+        ensures kept { seen self.new ≡ seen self.old }
+    {
+        self.refused = Some(Reached {
+            doing,
+            pointer,
+            len,
+        });
     }
 
     /// Notes what a range check of this pointer and length touches.

@@ -81,7 +81,8 @@ pub fn field<'p>(
     number: u64,
 ) -> Result<Placed<'p>, Halt>
     ensures given { Gives at_pointer result
-        (in_field m.now (Some whole.entry.ty.now) number whole.entry.at (seen notes.old)) (seen notes.new) }
+        (in_field m.now (Some whole.entry.ty.now) number whole.entry.at (seen notes.old))
+        (seen notes.new) notes.new.refused }
     ensures ty { IfOk result (λ p. field_type whole.entry.ty.now number ≡ Some p.ty.now) }
     ensures kept { Extends (seen notes.old) (seen notes.new) }
 {
@@ -132,7 +133,7 @@ fn element_of(
 ) -> Result<Pointer, Halt>
     requires { elements.0 * elements.1 < 2 ^ 63 }
     ensures given { Gives same result (run (reading m.now) (element_at at index elements) (seen notes.old))
-        (seen notes.new) }
+        (seen notes.new) notes.new.refused }
     ensures kept { Extends (seen notes.old) (seen notes.new) }
 {
     if index < elements.0 {
@@ -153,7 +154,8 @@ pub fn element<'p>(
 ) -> Result<Placed<'p>, Halt>
     requires { TypeOk array.ty.now }
     ensures given { Gives at_pointer result
-        (in_array m.now (Some array.entry.ty.now) index.now array.entry.at (seen notes.old)) (seen notes.new) }
+        (in_array m.now (Some array.entry.ty.now) index.now array.entry.at (seen notes.old))
+        (seen notes.new) notes.new.refused }
     ensures ty { IfOk result (λ p. element_type array.entry.ty.now ≡ Some p.ty.now) }
     ensures kept { Extends (seen notes.old) (seen notes.new) }
 {
@@ -180,7 +182,8 @@ pub fn element_by<'p>(
 ) -> Result<Placed<'p>, Halt>
     requires { TypeOk array.ty.now }
     ensures given { Gives at_pointer result
-        (in_array m.now (Some array.entry.ty.now) index array.entry.at (seen notes.old)) (seen notes.new) }
+        (in_array m.now (Some array.entry.ty.now) index array.entry.at (seen notes.old))
+        (seen notes.new) notes.new.refused }
     ensures ty { IfOk result (λ p. element_type array.entry.ty.now ≡ Some p.ty.now) }
     ensures kept { Extends (seen notes.old) (seen notes.new) }
 {

@@ -156,7 +156,7 @@ pub fn transmuted(
     requires shape { has_shape (ty_of from) v.now ≡ true }
     requires same { size_of (ty_of from) ≡ size_of to.now }
     ensures given { Gives same result (transmuted_to m.now to.now (Some (ty_of from.entry)) v.now (seen notes.old))
-        (seen notes.new) }
+        (seen notes.new) notes.new.refused }
     ensures kept { Extends (seen notes.old) (seen notes.new) }
 {
     match recast(alloc, to, from, v)? {

@@ -1,6 +1,6 @@
 //! What a step changes: memory, and what it notes of that.
 use crate::notes::Notes;
-use mr_base::{AllocId, AllocIds, Kind, Pointer};
+use mr_base::{AllocId, AllocIds, Kind, Pointer, Reaching};
 use mr_mem::{Fault, Memory};
 use std::alloc::{AllocError, Global};
 
@@ -90,14 +90,18 @@ impl Scene {
 
     /// Ends the allocation that a pointer begins, with these size and alignment in bytes.
     pub fn free(&mut self, p: Pointer, kind: Kind, size: u64, align: u64) -> Result<(), Fault>
-        ensures { Tells result (memory_answer (Free p kind size align) (world_of self.old)) (world_of self.new) }
+        ensures { Tells result (memory_answer (Free p kind size align) (world_of self.old))
+            (world_of self.new) self.new.notes.refused }
     {
         match self.memory.deallocate(p, kind, size, align) {
             Ok(id) => {
                 self.freed.push(id)?;
                 Ok(())
             }
-            Err(reason) => Err(Fault::Undefined(reason)),
+            Err(reason) => {
+                self.notes.refuse(Reaching::Frees, p, size);
+                Err(Fault::Undefined(reason))
+            }
         }
     }
 }

@@ -48,7 +48,7 @@ pub fn number_in(view: &View<'_>, int: IntType) -> Option<Num>
 // The number of an integer in memory, wherever it is aligned.
 #[tactic(auto, unfolding(crate::specs::Evaluated::read_number), using(crate::proofs::ExtendsLaws::extends_laws))]
 fn read_number(m: &Memory, notes: &mut Notes, int: IntType, p: Pointer) -> Result<Num, Halt>
-    ensures given { Gives same result (read_number m.now int p (seen notes.old)) (seen notes.new) }
+    ensures given { Gives same result (read_number m.now int p (seen notes.old)) (seen notes.new) notes.new.refused }
     ensures kept { Extends (seen notes.old) (seen notes.new) }
 {
     let view = lend(m, notes, p, int_bytes(int), 1)?;
@@ -61,7 +61,8 @@ fn read_number(m: &Memory, notes: &mut Notes, int: IntType, p: Pointer) -> Resul
 /// The discriminant that a tree finds in memory.
 #[tactic(auto, using(crate::proofs::SearchRuns::found_laws, crate::proofs::ExtendsLaws::extends_laws))]
 pub fn found_number(m: &Memory, notes: &mut Notes, tree: &Tree, p: Pointer) -> Result<Num, Halt>
-    ensures given { Gives same result (found_number m.now tree.now p (seen notes.old)) (seen notes.new) }
+    ensures given { Gives same result (found_number m.now tree.now p (seen notes.old))
+        (seen notes.new) notes.new.refused }
     ensures kept { Extends (seen notes.old) (seen notes.new) }
 {
     match tree {

@@ -8,7 +8,7 @@ ghost use Rattle.mr_eval.specs.Reads.{accessing, seeing, touching};
 ghost use Rattle.mr_eval.specs.Stores.{storing};
 
 use crate::notes::Notes;
-use mr_base::{AbstractByte, Pointer};
+use mr_base::{AbstractByte, Pointer, Reaching};
 use mr_mem::{Fault, Memory};
 use mr_value::ScalarBytes;
 use std::alloc::AllocError;
@@ -27,7 +27,7 @@ fn note_store(notes: &mut Notes, atomic: bool, p: Pointer, len: u64) -> Result<(
 /// The store of bytes, atomic or not: 103 before the range check.
 ///
 /// After `Err` memory is as before, and the notes begin with what they held.
-#[tactic(auto, using(crate::proofs::ExtendsLaws::extends_laws))]
+#[tactic(auto, using(crate::proofs::ExtendsLaws::extends_laws, crate::proofs::RefusedLaws::store_refused))]
 pub fn store_bytes(
     m: &mut Memory,
     notes: &mut Notes,
@@ -36,18 +36,25 @@ pub fn store_bytes(
     bytes: &[AbstractByte],
     align: u64,
 ) -> Result<(), Fault>
-    ensures given { Leaves result (storing m.old atomic p bytes.now align (seen notes.old)) m.new (seen notes.new) }
+    ensures given { Leaves result (storing m.old atomic p bytes.now align (seen notes.old)) m.new
+        (seen notes.new) notes.new.refused }
     ensures kept { Extends (seen notes.old) (seen notes.new) }
     ensures err { OnErr result (m.new ≡ m.old) }
 {
     note_store(notes, atomic, p, bytes.len() as u64)?;
-    m.store(p, bytes, align)
+    match m.store(p, bytes, align) {
+        Ok(()) => Ok(()),
+        Err(fault) => {
+            notes.refuse(Reaching::Stores, p, bytes.len() as u64);
+            Err(fault)
+        }
+    }
 }
 
 /// The store of the bytes of an integer, a bool or a pointer, not atomic: 103 before the range check.
 ///
 /// After `Err` memory is as before, and the notes begin with what they held.
-#[tactic(auto, using(crate::proofs::ExtendsLaws::extends_laws))]
+#[tactic(auto, using(crate::proofs::ExtendsLaws::extends_laws, crate::proofs::RefusedLaws::store_refused))]
 pub fn store_scalar(
     m: &mut Memory,
     notes: &mut Notes,
@@ -59,19 +66,25 @@ pub fn store_scalar(
     ensures given { Leaves result
         (storing m.old false p (with_provenance bytes.now.provenance (take bytes.now.count bytes.now.all)) align
         (seen notes.old))
-        m.new (seen notes.new) }
+        m.new (seen notes.new) notes.new.refused }
     ensures kept { Extends (seen notes.old) (seen notes.new) }
     ensures err { OnErr result (m.new ≡ m.old) }
 {
     let numbers = bytes.numbers();
     note_store(notes, false, p, numbers.len() as u64)?;
-    m.store_numbers(p, numbers, bytes.provenance, align)
+    match m.store_numbers(p, numbers, bytes.provenance, align) {
+        Ok(()) => Ok(()),
+        Err(fault) => {
+            notes.refuse(Reaching::Stores, p, numbers.len() as u64);
+            Err(fault)
+        }
+    }
 }
 
 /// Makes bytes uninitialised, which is noted as a store of so many bytes.
 ///
 /// After `Err` memory is as before, and the notes begin with what they held.
-#[tactic(auto, using(crate::proofs::ExtendsLaws::extends_laws))]
+#[tactic(auto, using(crate::proofs::ExtendsLaws::extends_laws, crate::proofs::RefusedLaws::store_refused))]
 pub fn store_uninit(
     m: &mut Memory,
     notes: &mut Notes,
@@ -79,10 +92,17 @@ pub fn store_uninit(
     len: u64,
     align: u64,
 ) -> Result<(), Fault>
-    ensures given { Leaves result (storing m.old false p (blank len) align (seen notes.old)) m.new (seen notes.new) }
+    ensures given { Leaves result (storing m.old false p (blank len) align (seen notes.old)) m.new
+        (seen notes.new) notes.new.refused }
     ensures kept { Extends (seen notes.old) (seen notes.new) }
     ensures err { OnErr result (m.new ≡ m.old) }
 {
     note_store(notes, false, p, len)?;
-    m.deinit(p, len, align)
+    match m.deinit(p, len, align) {
+        Ok(()) => Ok(()),
+        Err(fault) => {
+            notes.refuse(Reaching::Stores, p, len);
+            Err(fault)
+        }
+    }
 }

@@ -134,7 +134,8 @@ fn add_variant(
 /// The reference check of these targets, in order.
 #[tactic(auto, using(crate::proofs::ExtendsLaws::extends_laws))]
 pub fn refer_all(m: &Memory, notes: &mut Notes, targets: &[(Pointer, u64)]) -> Result<(), Halt>
-    ensures given { Gives same result (referred_to m.now targets.now (seen notes.old)) (seen notes.new) }
+    ensures given { Gives same result (referred_to m.now targets.now (seen notes.old))
+        (seen notes.new) notes.new.refused }
     ensures kept { Extends (seen notes.old) (seen notes.new) }
 {
     for target in targets {

@@ -69,14 +69,15 @@ pub fn load(
     p: Placed<'_>,
 ) -> Result<Val, Halt>
     requires { TypeOk p.ty.now }
-    ensures given { Gives same result (read_typed m.now p.entry.ty.now p.entry.at (seen notes.old)) (seen notes.new) }
+    ensures given { Gives same result (read_typed m.now p.entry.ty.now p.entry.at (seen notes.old))
+        (seen notes.new) notes.new.refused }
     ensures kept { Extends (seen notes.old) (seen notes.new) }
     ensures shape { IfOk result (λ v. has_shape p.entry.ty.now v ≡ true) }
 {
     if !is_scalar(p.ty) {
         return load_parts(alloc, c, m, notes, p);
     }
-    match noted_scalar(m, c, notes, p) {
+    match noted_scalar(alloc, m, c, notes, p) {
         Ok(v) => Ok(v.value),
         Err(halt) => Err(halt),
     }
@@ -91,7 +92,8 @@ fn load_parts(
     p: Placed<'_>,
 ) -> Result<Val, Halt>
     requires { TypeOk p.ty.now }
-    ensures given { Gives same result (read_typed m.now p.entry.ty.now p.entry.at (seen notes.old)) (seen notes.new) }
+    ensures given { Gives same result (read_typed m.now p.entry.ty.now p.entry.at (seen notes.old))
+        (seen notes.new) notes.new.refused }
     ensures kept { Extends (seen notes.old) (seen notes.new) }
     ensures shape { IfOk result (λ v. has_shape p.entry.ty.now v ≡ true) }
 {
@@ -107,12 +109,12 @@ pub fn loaded_value<'p>(
 ) -> Result<Valued<'p>, Halt>
     requires { TypeOk p.ty.now }
     ensures given { Gives value_in result (read_typed here.now.memory.now p.entry.ty.now p.entry.at (seen notes.old))
-        (seen notes.new) }
+        (seen notes.new) notes.new.refused }
     ensures ty { IfOk result (λ v. ty_of v.ty ≡ p.entry.ty.now) }
     ensures kept { Extends (seen notes.old) (seen notes.new) }
 {
     if is_scalar(p.ty) {
-        return noted_scalar(here.memory, here.cache, notes, p);
+        return noted_scalar(here.alloc, here.memory, here.cache, notes, p);
     }
     match load_parts(here.alloc, here.cache, here.memory, notes, p) {
         Ok(value) => Ok(typed(value, Known::Written(p.ty))),
@@ -125,7 +127,7 @@ pub fn loaded_value<'p>(
 pub fn discriminant<'p>(m: &Memory, notes: &mut Notes, p: Placed<'_>) -> Result<Valued<'p>, Halt>
     requires { TypeOk p.ty.now }
     ensures given { Gives value_in result (disc_at m.now (Some p.entry.ty.now) p.entry.at (seen notes.old))
-        (seen notes.new) }
+        (seen notes.new) notes.new.refused }
     ensures ty { IfOk result (λ v. discriminant_type p.entry.ty.now ≡ Some (ty_of v.ty)) }
     ensures kept { Extends (seen notes.old) (seen notes.new) }
 {
@@ -157,7 +159,8 @@ fn signed(bits: u64) -> i128
 #[tactic(auto, using(crate::proofs::GivesLaws::moved_stop))]
 fn moved_value(m: &Memory, notes: &mut Notes, p: Pointer, n: i128) -> Result<Val, Halt>
     requires { unsigned_abs n < 2 ^ 65 }
-    ensures given { Gives same result (run (reading m.now) (moved_pointer p n) (seen notes.old)) (seen notes.new) }
+    ensures given { Gives same result (run (reading m.now) (moved_pointer p n) (seen notes.old))
+        (seen notes.new) notes.new.refused }
     ensures kept { Extends (seen notes.old) (seen notes.new) }
 {
     let to = moved(m, notes, p, n)?;
@@ -168,7 +171,8 @@ fn moved_value(m: &Memory, notes: &mut Notes, p: Pointer, n: i128) -> Result<Val
 #[tactic(auto, using(crate::proofs::ExtendsLaws::extends_laws))]
 fn moved_by(m: &Memory, notes: &mut Notes, a: &Val, b: &Val) -> Result<Val, Halt>
     ensures given { Gives same result (run (reading m.now)
-        (operated Moving None None (out-Val a.now) (out-Val b.now)) (seen notes.old)) (seen notes.new) }
+        (operated Moving None None (out-Val a.now) (out-Val b.now)) (seen notes.old))
+        (seen notes.new) notes.new.refused }
     ensures kept { Extends (seen notes.old) (seen notes.new) }
 {
     match (pointer_in(a), right_in(IntType::I64, b)) {
@@ -178,7 +182,7 @@ fn moved_by(m: &Memory, notes: &mut Notes, a: &Val, b: &Val) -> Result<Val, Halt
 }
 
 // An operator with two operands, which are read as these integers.
-#[tactic(auto, using(crate::proofs::ExtendsLaws::extends_laws))]
+#[tactic(auto, using(crate::proofs::ExtendsLaws::extends_laws, crate::proofs::GivesLaws::says_gives))]
 fn binary(
     alloc: Global,
     m: &Memory,
@@ -189,7 +193,8 @@ fn binary(
     b: &Val,
 ) -> Result<Val, Halt>
     ensures given { Gives same result (run (reading m.now)
-        (operated (kind_of op) told.0 told.1 (out-Val a.now) (out-Val b.now)) (seen notes.old)) (seen notes.new) }
+        (operated (kind_of op) told.0 told.1 (out-Val a.now) (out-Val b.now)) (seen notes.old))
+        (seen notes.new) notes.new.refused }
     ensures kept { Extends (seen notes.old) (seen notes.new) }
 {
     let (left, right) = told;
@@ -269,7 +274,7 @@ pub fn transmuted_value<'p>(
     requires shape { has_shape (ty_of v.ty) v.value ≡ true }
     requires same { size_of (ty_of v.ty) ≡ size_of to.now }
     ensures given { Gives value_in result (transmuted_to here.now.memory.now to.entry.now
-        (Some (ty_of v.entry.ty)) v.entry.value (seen notes.old)) (seen notes.new) }
+        (Some (ty_of v.entry.ty)) v.entry.value (seen notes.old)) (seen notes.new) notes.new.refused }
     ensures ty { IfOk result (λ w. ty_of w.ty ≡ to.entry.now) }
     ensures kept { Extends (seen notes.old) (seen notes.new) }
 {
@@ -304,7 +309,7 @@ pub fn binary_value<'p>(
         (operated (kind_of op) (integer_of (ty_of a.entry.ty)) (integer_of (ty_of b.entry.ty))
         (out-Val a.entry.value) (out-Val b.entry.value))
         (seen notes.old))
-        (seen notes.new) }
+        (seen notes.new) notes.new.refused }
     ensures ty { IfOk result (λ w. result_type op (ty_of a.entry.ty) ≡ Some (ty_of w.ty)) }
     ensures kept { Extends (seen notes.old) (seen notes.new) }
 {

@@ -1,6 +1,7 @@
 -- The allocations of calls and returns: a call makes those that it asked for, and the end of a function makes none.
 use Rattle.std.proofs.Common.{◌≡◌, ℕ, refl, sym, subst, List, [], ◌∷◌, ◌++◌, append-nil, append_assoc, Bool, true, false, Option, Some, None}
 use Rattle.std.specs.Prelude.{if◌then◌else◌}
+use Rattle.mr_base.specs.Stops.{plainly}
 use Rattle.mr_ast.specs.declared.expr.Value.{Value}
 use Rattle.mr_ast.specs.declared.program.BlockName.{BlockName}
 use Rattle.mr_ast.specs.declared.program.Function.{Function}
@@ -91,7 +92,7 @@ module _ (rs : NewRanges) where
   pub returns : (look : Look) (thread : ℕ) (s : Stack) (site : Site) → Makes rs rs (return_from look thread s site)
   returns look thread s site = by_test (is_main thread site.below)
     where
-      by_test : (b : Bool) → Makes rs rs (if b then Undefined MainReturned else (reading_part (return_value site.function site.frame) >>= λ v. free_each site.function.locals site.frame.locals >>= λ u. leave look s (local_type site.function site.function.ret) v site.below))
+      by_test : (b : Bool) → Makes rs rs (if b then Undefined (plainly MainReturned) else (reading_part (return_value site.function site.frame) >>= λ v. free_each site.function.locals site.frame.locals >>= λ u. leave look s (local_type site.function site.function.ret) v site.below))
       by_test true = tt
       by_test false =
           makes_behind rs rs (reading_part (return_value site.function site.frame)) _ (reading_quiet (return_value site.function site.frame))

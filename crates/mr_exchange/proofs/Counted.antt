@@ -32,7 +32,7 @@ module _ (look : Look) (is : IsLook look) (well : WellFormed look.program) where
     where
       by_bare : (b : Bare Own) → not (is_ill_formed b) ≡ true → Counted (length (foot_of_bare (thread_step look) b ++ [])) 1 (is_stop b ≡ true)
       by_bare (Completed n s') r = inl (refl, λ k. absurd (cc))
-      by_bare (Stops v) r = inr (refl, refl)
+      by_bare (Stops v about) r = inr (refl, refl)
       by_bare IllFormedStep r = absurd (cc)
 
   -- an entry before another one that is legal behind it: its step completes
@@ -43,7 +43,7 @@ module _ (look : Look) (is : IsLook look) (well : WellFormed look.program) where
     where
       by_bare : (b : Bare Own) → not (is_ill_formed b) ≡ true → entry_fault (thread_step look) (after_bare (thread_step look) c b) f ≡ None → length (foot_of_bare (thread_step look) b) ≡ 1
       by_bare (Completed n s) r k = refl
-      by_bare (Stops v) r k = absurd (no_state (legal_at look (after_bare (thread_step look) c (Stops v)) f k).is)
+      by_bare (Stops v about) r k = absurd (no_state (legal_at look (after_bare (thread_step look) c (Stops v about)) f k).is)
       by_bare IllFormedStep r k = absurd (cc)
 
       by_state : (o : Option (State Own)) → c.state ≡ o → has_rule (thread_step look) e.thread e.picks o ≡ true → entry_fault (thread_step look) (stepped_from (thread_step look) c e.thread e.picks o) f ≡ None

@@ -44,7 +44,7 @@ module _ (look : Look) (is : IsLook look) (well : WellFormed look.program) where
       by_bare (Completed n s') e =
           let l = limits_of look s s' t picks n (sound_is_sane look.program s sound) within legal e in
           (All-cons IsFootOk (foot_in (thread_step look) n s') [] l.0 (All-nil IsFootOk), λ x k. subst (λ (y : State Own). IsWithin y) (same_Some s' x k) l.1)
-      by_bare (Stops v) e = (All-nil IsFootOk, λ x k. absurd (no_state k))
+      by_bare (Stops v about) e = (All-nil IsFootOk, λ x k. absurd (no_state k))
       by_bare IllFormedStep e = (All-nil IsFootOk, λ x k. absurd (no_state k))
 
   -- a legal entry

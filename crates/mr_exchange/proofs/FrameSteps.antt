@@ -1,6 +1,7 @@
 -- The step of a frame makes the allocations that it asked for, and asks for no waiter.
 use Rattle.std.proofs.Common.{◌≡◌, ℕ, refl, List, [], ◌∷◌, Bool, true, false, Option, Some, None, Any, sym, subst}
 use Rattle.std.specs.Prelude.{if◌then◌else◌, slice_get}
+use Rattle.mr_base.specs.Stops.{plainly}
 use Rattle.mr_ast.specs.declared.expr.Place.{Place}
 use Rattle.mr_ast.specs.declared.expr.Value.{Value}
 use Rattle.mr_ast.specs.declared.program.BlockName.{BlockName}
@@ -98,7 +99,7 @@ module _ (look : Look) (s : Stack) (site : Site) where
           let after : NewRanges = addresses (storage_asks kept) picks in
           makes_then [] after after (enter number (Some fn) vs picks) _ (enters [] number fn kept typed vs picks) (λ new. refl)
 
-      by_test : (b : Bool) → Leads FrameTells (if b then Done (record { creates = CreatesNothing; asks = storage_asks kept; go = λ picks. enter number (Some fn) vs picks >>= λ new. Done (GoesOn (calling s site place new)) }) else Undefined SignatureMismatch)
+      by_test : (b : Bool) → Leads FrameTells (if b then Done (record { creates = CreatesNothing; asks = storage_asks kept; go = λ picks. enter number (Some fn) vs picks >>= λ new. Done (GoesOn (calling s site place new)) }) else Undefined (plainly SignatureMismatch))
       by_test true = record { nothing = refl; none_waits = λ l w. no_waiter l kept w; makes = goes }
       by_test false = tt
 

@@ -1,6 +1,9 @@
 -- Each intrinsic makes the allocation that it asked for, notes one event at most, and asks for a waiter only of a lock that it looked at.
 use Rattle.std.proofs.Common.{ℕ, refl, arith, List, [], ◌∷◌, Bool, true, false, Option, Some, None, ◌-◌, ◌^◌}
 use Rattle.std.specs.Prelude.{if◌then◌else◌, nat_lt}
+use Rattle.mr_start.specs.EvalTyped.{meaningless}
+use Rattle.mr_base.specs.Stops.{Stop}
+use Rattle.mr_base.specs.Stops.{plainly}
 use Rattle.mr_ast.specs.declared.program.Intrinsic.{Intrinsic}
 use Rattle.mr_ast.specs.declared.types.Ty.{Ty, out-Ty}
 use Rattle.mr_base.specs.declared.byte.Kind.TheVariants.{Heap}
@@ -66,7 +69,7 @@ allocating_tells size align = by_tests (nat_lt (2 ^ 63 - 1) size) (is_power_of_t
     at_address (a ∷ []) = λ p. tells_quiet ((a, size) ∷ [])
     at_address (a ∷ b ∷ picks) = tt
 
-    by_tests : (large power : Bool) → OperationTells (if large then Undefined SizeTooLarge else (if power then Done (with_pick (Address size align) (λ a. Ask (OfMemory (Allocate Heap size align a)) (λ p. Done (Some (val.Ptr p))))) else Undefined BadAlign))
+    by_tests : (large power : Bool) → OperationTells (if large then Undefined (plainly SizeTooLarge) else (if power then Done (with_pick (Address size align) (λ a. Ask (OfMemory (Allocate Heap size align a)) (λ p. Done (Some (val.Ptr p))))) else Undefined (plainly BadAlign)))
     by_tests true power = tt
     by_tests false true = record { looks = λ l w. absurd (Any-one (IsWaiter l) (Address size align) w); acts = at_address }
     by_tests false false = tt
@@ -116,11 +119,11 @@ atomic_store_tells : (at : Val) (t : Ty) (v : Val) → OperationTells (atomic_st
 atomic_store_tells at t v = instant_tells _ (found_then (OpTells CreatesNothing []) unmarked (pointer_in (out-Val at)) _ (λ p x. tells_quiet []))
 
 atomic_load_tells : (at : Val) (t : Ty) → OperationTells (atomic_load at t)
-atomic_load_tells at t = instant_tells _ (found_then (OpTells CreatesNothing []) unmarked (pointer_in (out-Val at)) _ (λ p bytes. by_number (number_of bytes)))
+atomic_load_tells at t = instant_tells _ (found_then (OpTells CreatesNothing []) unmarked (pointer_in (out-Val at)) _ (λ p bytes. by_number (meaningless t p) (number_of bytes)))
   where
-    by_number : (o : Option ℕ) → InstantTells (memory_part (reading_part (loaded o)))
-    by_number None = tt
-    by_number (Some n) = tells_quiet []
+    by_number : (stop : Stop) (o : Option ℕ) → InstantTells (memory_part (reading_part (loaded stop o)))
+    by_number stop None = tt
+    by_number stop (Some n) = tells_quiet []
 
 modify_tells : (at : Val) (t : Ty) (change : ℕ → Option ℕ) → InstantTells (modify at t change)
 modify_tells at t change = found_then (OpTells CreatesNothing []) unmarked (pointer_in (out-Val at)) _ (λ p n. tells_quiet [])

@@ -1,6 +1,7 @@
 -- The step of a thread tells what it does.
 use Rattle.std.proofs.Common.{◌≡◌, ℕ, refl, sym, subst, arith, List, [], ◌∷◌, Bool, true, false, Option, Some, None}
 use Rattle.std.specs.Prelude.{if◌then◌else◌, slice_get}
+use Rattle.mr_base.specs.Stops.{plainly}
 use Rattle.mr_ast.specs.declared.program.Function.{Function}
 use Rattle.mr_ast.specs.declared.program.Intrinsic.{Intrinsic}
 use Rattle.mr_ast.specs.declared.program.Intrinsic.TheVariants as intrinsic
@@ -112,7 +113,7 @@ module _ (own : Own) (d : DueDo) (o : Operands) where
   typed_tells number fn argument None typed = tt
   typed_tells number fn argument (Some types) typed = by_test (same_types thread_types types)
     where
-      by_test : (b : Bool) → StepTells (if b then Done (record { creates = CreatesThread; asks = storage_asks types; go = start own d o number fn argument }) else Undefined SignatureMismatch)
+      by_test : (b : Bool) → StepTells (if b then Done (record { creates = CreatesThread; asks = storage_asks types; go = start own d o number fn argument }) else Undefined (plainly SignatureMismatch))
       by_test true = record { looks = λ l w. absurd (no_waiter l types w); acts = start_tells number fn argument types typed }
       by_test false = tt
 

@@ -11,7 +11,7 @@ use Rattle.mr_start.specs.Start.{look_of, start_config}
 -- a bare step stops: by exit, abort or undefined behaviour
 abbrev pub is_stop : {L : Type 0} → Bare L → Bool
 is_stop (Completed n s) = false
-is_stop (Stops v) = true
+is_stop (Stops v about) = true
 is_stop IllFormedStep = false
 
 -- the step of an entry itself stops, in a state

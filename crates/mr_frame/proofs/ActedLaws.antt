@@ -1,6 +1,7 @@
 -- What the next step of a thread comes to, by what is due.
 use Rattle.std.proofs.Common.{◌≡◌, ℕ, refl, sym, ap, ◌∙◌, List, [], ◌∷◌, Option, None, Some}
 use Rattle.std.specs.Prelude.{slice_get}
+use Rattle.mr_base.specs.Stops.{plainly}
 use Rattle.mr_ast.specs.declared.expr.Value.{Value}
 use Rattle.mr_ast.specs.declared.program.BlockName.{BlockName}
 use Rattle.mr_ast.specs.declared.program.Function.{Function}
@@ -176,7 +177,7 @@ module _ (look : KeptLook) (ready : IsReady look) (f : Frame) (below : List Fram
   pub acted_abort : StandsAt look.program.now f below (AtTerminator term.Abort) → (t : ℕ) (picks : List ℕ) (w : World) → acted lk t stack picks w ≡ Went Aborts w
   acted_abort h t picks w = acted_is (AtTerminator term.Abort) h t picks w
 
-  pub acted_unreachable : StandsAt look.program.now f below (AtTerminator term.Unreachable) → (t : ℕ) (picks : List ℕ) (w : World) → acted lk t stack picks w ≡ Refused Unreachable
+  pub acted_unreachable : StandsAt look.program.now f below (AtTerminator term.Unreachable) → (t : ℕ) (picks : List ℕ) (w : World) → acted lk t stack picks w ≡ Refused (plainly Unreachable)
   acted_unreachable h t picks w = acted_is (AtTerminator term.Unreachable) h t picks w
 
   pub acted_switch : (value : Value) (cases : List (Num × BlockName)) (other : BlockName) (h : StandsAt look.program.now f below (AtTerminator (term.Switch value cases other))) → (t : ℕ) (picks : List ℕ) (w : World)

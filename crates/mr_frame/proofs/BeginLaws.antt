@@ -2,12 +2,12 @@
 use Rattle.std.proofs.Common.{◌≡◌, ℕ, ◌+◌, refl, ap, ◌∙◌, subst, arith, true, List, [], ◌∷◌, ◌++◌, Option, None, Some}
 use Rattle.std.specs.Prelude.{if◌then◌else◌}
 use Rattle.std.specs.FinMap as fin
+use Rattle.mr_base.specs.Stops.{Stop}
 use Rattle.mr_ast.specs.declared.program.Function.{Function}
 use Rattle.mr_ast.specs.declared.types.Ty.{Ty}
 use Rattle.mr_base.specs.declared.byte.AllocId.{AllocId}
 use Rattle.mr_base.specs.declared.byte.Kind.TheVariants.{Stack as OnStack}
 use Rattle.mr_base.specs.declared.byte.Pointer.{Pointer}
-use Rattle.mr_base.specs.declared.reason.Reason.{Reason}
 use Rattle.mr_layout.specs.Sizes.{align_of, size_of}
 use Rattle.mr_mem.specs.Memory.{allocated, fresh, pick_fault, range_fault, ranges_of, with_range}
 use Rattle.mr_mem.specs.declared.fault.PickFault.{PickFault}
@@ -104,7 +104,7 @@ next_stored t types p ps v vs w u e =
     memory_bind (store t p v) (λ _. store_each types ps vs) w
     ∙ ap (λ (o : Outcome (Unit {0}) World). on o (λ _ x. run memory_answer (store_each types ps vs) x)) e
 
-pub stop_stored : (t : Ty) (types : List Ty) (p : Pointer) (ps : List Pointer) (v : Val) (vs : List Val) (w : World) (r : Reason) → stored_in t p v w ≡ Refused r → stored_each (t ∷ types) (p ∷ ps) (v ∷ vs) w ≡ Refused r
+pub stop_stored : (t : Ty) (types : List Ty) (p : Pointer) (ps : List Pointer) (v : Val) (vs : List Val) (w : World) (r : Stop) → stored_in t p v w ≡ Refused r → stored_each (t ∷ types) (p ∷ ps) (v ∷ vs) w ≡ Refused r
 unfolding stored_each stored_in
 stop_stored t types p ps v vs w r e =
     memory_bind (store t p v) (λ _. store_each types ps vs) w

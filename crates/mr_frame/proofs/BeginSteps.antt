@@ -5,12 +5,12 @@ use Rattle.std.proofs.lemmas.List.{drop_all, length-map}
 use Rattle.std.proofs.lemmas.Option.{same_Some}
 use Rattle.std.specs.Option.{option_map}
 use Rattle.std.specs.Prelude.{All, slice_get}
+use Rattle.mr_base.specs.Stops.{Stop}
 use Rattle.mr_ast.specs.declared.program.Function.{Function}
 use Rattle.mr_ast.specs.declared.program.Local.{Local}
 use Rattle.mr_ast.specs.declared.program.LocalName.{LocalName}
 use Rattle.mr_ast.specs.declared.types.Ty.{Ty}
 use Rattle.mr_base.specs.declared.byte.Pointer.{Pointer}
-use Rattle.mr_base.specs.declared.reason.Reason.{Reason}
 use Rattle.mr_mem.specs.Memory.{ranges_of}
 use Rattle.mr_value.specs.declared.val.Val.{Val}
 use Rattle.mr_value.specs.Shape.{has_shape}
@@ -206,7 +206,7 @@ module _ (fn : Function) (x : LocalName) (names : List LocalName) (p : Pointer) 
         ∙ next_stored l.ty stored_row.rest p ps v vs w u e;
   }
 
-  pub storing_stops : (r : Reason) → stored_in l.ty p v w ≡ Refused r → (all : List Ty) → written_types fn fn.args ≡ Some all → stored_each all first_ps first_vs first ≡ Refused r
+  pub storing_stops : (r : Stop) → stored_in l.ty p v w ≡ Refused r → (all : List Ty) → written_types fn fn.args ≡ Some all → stored_each all first_ps first_vs first ≡ Refused r
   storing_stops r e all k =
       h.so_far all k
       ∙ ap (λ (ts : List Ty). stored_each ts (p ∷ ps) (v ∷ vs) w) stored_row.is

@@ -2,11 +2,11 @@
 use Rattle.std.proofs.Common.{◌≡◌, ℕ, ◌+◌, refl, sym, ap, ◌∙◌, arith, List, [], ◌∷◌, length, drop, Option, None, Some}
 use Rattle.std.proofs.lemmas.Option.{same_Some}
 use Rattle.std.specs.Prelude.{replicate, slice_get}
+use Rattle.mr_base.specs.Stops.{Stop}
 use Rattle.mr_ast.specs.declared.program.Function.{Function}
 use Rattle.mr_ast.specs.declared.program.Program.{Program}
 use Rattle.mr_ast.specs.declared.types.Ty.{Ty}
 use Rattle.mr_base.specs.declared.byte.Pointer.{Pointer}
-use Rattle.mr_base.specs.declared.reason.Reason.{Reason}
 use Rattle.mr_value.specs.declared.val.Val.{Val}
 use Rattle.mr_typing.specs.Walk.{WellFormed}
 use Rattle.mr_base.specs.Script.{Outcome, Refused, Went, on}
@@ -68,7 +68,7 @@ module _ (look : KeptLook) (number : ℕ) (vs : List Val) (picks : List ℕ) (w 
         ∙ ap (λ (o : Outcome (List Pointer) World). on o (λ qs x. on (stored_each (behind_first can.types) (behind_first qs) vs x) (λ _ v. Went (first_frame number fn qs) v))) (allocated can.types typed)
         ∙ ap (λ (qs : List Pointer). on (stored_each (behind_first can.types) qs vs u) (λ _ v. Went (first_frame number fn ps) v)) (first_dropped ps)
 
-    pub begins_stop : (r : Reason) → stored_each (behind_first can.types) (drop 1 ps) vs u ≡ Refused r → entered number (slice_get look.program.now.functions number) vs picks w ≡ Refused r
+    pub begins_stop : (r : Stop) → stored_each (behind_first can.types) (drop 1 ps) vs u ≡ Refused r → entered number (slice_get look.program.now.functions number) vs picks w ≡ Refused r
     begins_stop r stop = behind_storage ∙ ap (λ (o : Outcome (Unit {0}) World). on o (λ _ v. Went (first_frame number fn ps) v)) stop
 
     pub begins_went : (v : World) (locals : List (Option Pointer)) → stored_each (behind_first can.types) (drop 1 ps) vs u ≡ Went tt v

@@ -5,6 +5,8 @@ use Rattle.std.specs.List.{flat_map, list_all}
 use Rattle.std.specs.Option.{option_map}
 use Rattle.std.specs.Prelude.{Err, slice_get, ◌&&◌, ◌||◌, if◌then◌else◌}
 use Rattle.std.proofs.lemmas.Bool.{and_parts}
+use Rattle.mr_base.specs.Stops.{Stop, plainly, stop_with}
+use Rattle.mr_base.specs.declared.reached.Reached.{Reached}
 use Rattle.mr_ast.specs.Shaped.{is_optional_block, named_in}
 use Rattle.mr_ast.specs.ShapedValues.{Named, is_shaped_place, is_shaped_value}
 use Rattle.mr_ast.specs.declared.expr.Place.{Place}
@@ -15,7 +17,6 @@ use Rattle.mr_ast.specs.declared.program.Program.{Program}
 use Rattle.mr_ast.specs.declared.program.Term.TheVariants as term
 use Rattle.mr_ast.specs.declared.types.Ty.{Ty}
 use Rattle.mr_base.specs.declared.byte.Pointer.{Pointer}
-use Rattle.mr_base.specs.declared.reason.Reason.{Reason}
 use Rattle.mr_base.specs.declared.reason.Reason.TheVariants.{SignatureMismatch}
 use Rattle.mr_mem.specs.Memory.{Memory}
 use Rattle.mr_mem.specs.declared.fault.Fault.{Fault}
@@ -118,24 +119,25 @@ callee_below e f h p n is =
 
 module _ (look : Look) (given : Option (List Ty)) (place : Pointer) (vs : List Val) (seen : Seen) where
   module _ (o : Option ℕ) (number : ℕ) (is : o ≡ Some number) (fn : Function) (there : slice_get look.program.functions number ≡ Some fn) (ts us : List Ty) (typed : given ≡ Some ts) (kept : kept_types fn ≡ Some us) where
-    called_by : called look given place vs o seen ≡ (if same_types ts us then Went (record { place = place; number = number; function = fn; types = us; args = vs }) seen else Refused SignatureMismatch)
+    called_by : called look given place vs o seen ≡ (if same_types ts us then Went (record { place = place; number = number; function = fn; types = us; args = vs }) seen else Refused (plainly SignatureMismatch))
     called_by =
         ap (λ p. called look given place vs p seen) is
         ∙ ap (λ (p : Option Function). called_function given place vs number p seen) there
         ∙ (λ i. called_with place vs number fn (both_there (typed i) (kept i)) seen)
 
-    pub called_other : same_types ts us ≡ false → called look given place vs o seen ≡ Refused SignatureMismatch
-    called_other e = called_by ∙ ap (λ b. if b then Went (record { place = place; number = number; function = fn; types = us; args = vs }) seen else Refused SignatureMismatch) e
+    pub called_other : same_types ts us ≡ false → called look given place vs o seen ≡ Refused (plainly SignatureMismatch)
+    called_other e = called_by ∙ ap (λ b. if b then Went (record { place = place; number = number; function = fn; types = us; args = vs }) seen else Refused (plainly SignatureMismatch)) e
 
     pub called_fits : same_types ts us ≡ true → called look given place vs o seen ≡ Went (record { place = place; number = number; function = fn; types = us; args = vs }) seen
-    called_fits e = called_by ∙ ap (λ b. if b then Went (record { place = place; number = number; function = fn; types = us; args = vs }) seen else Refused SignatureMismatch) e
+    called_fits e = called_by ∙ ap (λ b. if b then Went (record { place = place; number = number; function = fn; types = us; args = vs }) seen else Refused (plainly SignatureMismatch)) e
 
 -- ---- a call that is prepared
 
 -- where a call cannot be prepared, what is behind it stops too
-pub prepared_stop : {B T : Type 0} (p : Program) (f : Fault) (o : Outcome Prepared Seen) (whole : Outcome B T) (v : Seen) (t : T) → Prepares p (Err f) o v → ((r : Reason) → o ≡ Refused r → whole ≡ Refused r) → Tells {X = B} (Err f) whole t
-prepared_stop p (fault.Undefined r) o whole v t h k = k r h
-prepared_stop p fault.Memory o whole v t h k = tt
+pub prepared_stop : {B T : Type 0} (p : Program) (f : Fault) (o : Outcome Prepared Seen) (whole : Outcome B T) (v : Seen) (t : T) (refused : Option Reached) → Prepares p (Err f) o v refused
+    → ((r : Stop) → o ≡ Refused r → whole ≡ Refused r) → Tells {X = B} (Err f) whole t refused
+prepared_stop p (fault.Undefined r) o whole v t refused h k = k (stop_with refused r) h
+prepared_stop p fault.Memory o whole v t refused h k = tt
 
 module _ (m : Memory) (look : Look) (s : Surround) (callee : Value) (args : List Value) (to : Place) (s0 : Seen) where
   abbrev pub last : Pointer → Pointer → List Val → Seen → Outcome Prepared Seen

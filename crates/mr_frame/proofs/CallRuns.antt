@@ -1,6 +1,7 @@
 -- What a call comes to: first what it finds out, and then the callee's frame.
 use Rattle.std.proofs.Common.{◌≡◌, ℕ, refl, sym, ap, ◌∙◌, Bool, true, false, List, [], Option, None, Some}
 use Rattle.std.specs.Prelude.{slice_get, if◌then◌else◌}
+use Rattle.mr_base.specs.Stops.{plainly}
 use Rattle.mr_ast.specs.declared.expr.Place.{Place}
 use Rattle.mr_ast.specs.declared.expr.Value.{Value}
 use Rattle.mr_ast.specs.declared.program.BlockName.{BlockName}
@@ -50,8 +51,8 @@ module _ (look : Look) (s : Stack) (at : Site) where
   plan_run m p vs n fn None seen = refl
   plan_run m p vs n fn (Some types) seen = by_test (same_types types.0 types.1)
     where
-      by_test : (b : Bool) → run (reading m) (if b then Done (prepared_plan (record { place = p; number = n; function = fn; types = types.1; args = vs })) else Undefined SignatureMismatch) seen
-          ≡ on (if b then Went (record { place = p; number = n; function = fn; types = types.1; args = vs }) seen else Refused SignatureMismatch) planned_call
+      by_test : (b : Bool) → run (reading m) (if b then Done (prepared_plan (record { place = p; number = n; function = fn; types = types.1; args = vs })) else Undefined (plainly SignatureMismatch)) seen
+          ≡ on (if b then Went (record { place = p; number = n; function = fn; types = types.1; args = vs }) seen else Refused (plainly SignatureMismatch)) planned_call
       by_test true = refl
       by_test false = refl
 

@@ -6,6 +6,7 @@ use Rattle.std.specs.Prelude.{slice_get, ◌&&◌, if◌then◌else◌, replicat
 use Rattle.std.specs.Option.{option_map}
 use Rattle.std.specs.List.{flat_map, list_all}
 use Rattle.std.proofs.lemmas.Bool.{and_parts}
+use Rattle.mr_base.specs.Stops.{plainly}
 use Rattle.mr_ast.specs.Shaped.{is_optional_block, is_shaped_term, named_in}
 use Rattle.mr_ast.specs.ShapedValues.{Named, is_shaped_place, is_shaped_value}
 use Rattle.mr_ast.specs.declared.expr.Place.{Place}
@@ -266,7 +267,7 @@ module _ (look : Look) (is : IsLook look) (well : WellFormed look.program) (s : 
               (λ new first. onward_call q called kept new first (typed ∙ ap (λ u. Some u) (heads equal) ∙ sym k.ret_is))
 
           by_test : (k : KeptTypes called) (kept : Keeps p called) (b : Bool) → same_types (t ∷ types) (k.ret ∷ k.args) ≡ b
-              → IsSafe (IsSafePlan p) (if b then Done (record { creates = CreatesNothing; asks = storage_asks (k.ret ∷ k.args); go = λ picks. enter number (Some called) vs picks >>= λ new. Done (GoesOn (calling s site q new)) }) else Undefined SignatureMismatch)
+              → IsSafe (IsSafePlan p) (if b then Done (record { creates = CreatesNothing; asks = storage_asks (k.ret ∷ k.args); go = λ picks. enter number (Some called) vs picks >>= λ new. Done (GoesOn (calling s site q new)) }) else Undefined (plainly SignatureMismatch))
           by_test k kept true same = λ picks e. goes k kept same picks e
           by_test k kept false same = tt
 

@@ -5,6 +5,8 @@ use Rattle.std.specs.List.{list_all}
 use Rattle.std.specs.Option.{option_map}
 use Rattle.std.specs.Prelude.{slice_get, ◌&&◌, if◌then◌else◌}
 use Rattle.std.proofs.lemmas.Bool.{and_parts}
+use Rattle.mr_base.specs.Stops.{Stop}
+use Rattle.mr_base.specs.Stops.{plainly}
 use Rattle.mr_ast.specs.Shaped.{is_optional_block, is_shaped_term, named_in}
 use Rattle.mr_ast.specs.ShapedValues.{Named, is_shaped_place, is_shaped_value}
 use Rattle.mr_ast.specs.declared.expr.Place.{Place}
@@ -15,7 +17,6 @@ use Rattle.mr_ast.specs.declared.program.Term.{Term}
 use Rattle.mr_ast.specs.declared.program.Term.TheVariants as term
 use Rattle.mr_ast.specs.declared.types.Ty.{Ty}
 use Rattle.mr_base.specs.declared.byte.Pointer.{Pointer}
-use Rattle.mr_base.specs.declared.reason.Reason.{Reason}
 use Rattle.mr_base.specs.declared.reason.Reason.TheVariants.{SignatureMismatch}
 use Rattle.mr_mem.specs.Memory.{Memory, ranges_of}
 use Rattle.mr_sched.specs.declared.schedule.Ask.{Ask}
@@ -88,7 +89,7 @@ module _ (look : Look) (p : Pointer) (vs : List Val) (t : Ty) (types : List Ty) 
   with_shapes n fn None = tt
   with_shapes n fn (Some us) = by_test (same_types (t ∷ types) us) refl
     where
-      by_test : (b : Bool) → same_types (t ∷ types) us ≡ b → IfWent AreShaped (if b then Went (record { place = p; number = n; function = fn; types = us; args = vs }) seen else Refused SignatureMismatch)
+      by_test : (b : Bool) → same_types (t ∷ types) us ≡ b → IfWent AreShaped (if b then Went (record { place = p; number = n; function = fn; types = us; args = vs }) seen else Refused (plainly SignatureMismatch))
       by_test true e = subst (λ (ts : List Ty). HaveShapes (behind_first ts) vs) (equal_types (t ∷ types) us e) shapes
       by_test false e = tt
 
@@ -173,11 +174,11 @@ module _ (look : KeptLook) (s : KeptStack) (callee : Value) (args : List Value) 
     pub asked_prepared : (pr : Prepared) (last : Seen) → prepared m lk scene callee args to s0 ≡ Went pr last → asked m lk t (stack_of s) s0 ≡ storage_asks pr.types
     asked_prepared pr last e = asked_by m t s0 ∙ ap (λ (o : Outcome Prepared Seen). prepared_asks look h.due.ready (frame_of s.top) (under s) (stack_of s).payloads callee args to h.next h.unwind h.due.stands o) e
 
-    pub asked_nothing : (r : Reason) → prepared m lk scene callee args to s0 ≡ Refused r → asked m lk t (stack_of s) s0 ≡ []
+    pub asked_nothing : (r : Stop) → prepared m lk scene callee args to s0 ≡ Refused r → asked m lk t (stack_of s) s0 ≡ []
     asked_nothing r e = asked_by m t s0 ∙ ap (λ (o : Outcome Prepared Seen). prepared_asks look h.due.ready (frame_of s.top) (under s) (stack_of s).payloads callee args to h.next h.unwind h.due.stands o) e
 
   -- the refusal of one that is not
-  pub call_stops : (t : ℕ) (picks : List ℕ) (w : World) (r : Reason) → prepared w.0 lk scene callee args to (seen_of w.1) ≡ Refused r → acted lk t (stack_of s) picks w ≡ Refused r
+  pub call_stops : (t : ℕ) (picks : List ℕ) (w : World) (r : Stop) → prepared w.0 lk scene callee args to (seen_of w.1) ≡ Refused r → acted lk t (stack_of s) picks w ≡ Refused r
   call_stops t picks w r e =
       acted_call look h.due.ready (frame_of s.top) (under s) (stack_of s).payloads callee args to h.next h.unwind h.due.stands t picks w
       ∙ ap (λ (o : Outcome Prepared Seen). on o (λ q l. on (entered q.number (Some q.function) q.args picks (w.0, with_seen w.1 l)) (λ f v. Went (GoesOn (record (stack_of s) { frames = f ∷ record (frame_of s.top) { call = Some q.place } ∷ under s })) v))) e

@@ -3,6 +3,7 @@ use Rattle.std.proofs.Common.{◌≡◌, ℕ, refl, ap, ◌∙◌, List, [], ◌
 use Rattle.std.specs.Prelude.{Result, Ok, Err, if◌then◌else◌}
 use Rattle.mr_mem.specs.declared.fault.Fault.{Fault}
 use Rattle.mr_mem.specs.declared.fault.Fault.TheVariants as fault
+use Rattle.mr_base.specs.declared.reached.Reached.{Reached}
 use Rattle.mr_eval.specs.Environment.{Leaves, Tells}
 use Rattle.mr_ast.specs.declared.types.Num.{Num}
 use Rattle.mr_ast.specs.declared.types.Tag.{Tag}
@@ -150,14 +151,15 @@ makes_change s (stmt.Dead x) kind = absurd kind
 
 -- ---- a store over memory and tally
 
-pub store_tells : (r : Result (Unit {0}) Fault) (t : Ty) (p : Pointer) (v : Val) (w : World) (m : Memory) (s : Seen) → has_shape t v ≡ true → Leaves r (stored_typed w.0 t p v (seen_of w.1)) m s → Tells r (stored_in t p v w) (m, with_seen w.1 s)
+pub store_tells : (r : Result (Unit {0}) Fault) (t : Ty) (p : Pointer) (v : Val) (w : World) (m : Memory) (s : Seen) (refused : Option Reached) → has_shape t v ≡ true
+    → Leaves r (stored_typed w.0 t p v (seen_of w.1)) m s refused → Tells r (stored_in t p v w) (m, with_seen w.1 s) refused
 unfolding stored_in
-store_tells r t p v w m s shape h = by_result r h
+store_tells r t p v w m s refused shape h = by_result r h
   where
     is : run memory_answer (store t p v) w ≡ on (stored_typed w.0 t p v (seen_of w.1)) (left w)
     is = makes_store t p v w ∙ ap (λ (b : Bool). on (if b then stored_typed w.0 t p v (seen_of w.1) else Broken) (left w)) shape
 
-    by_result : (q : Result (Unit {0}) Fault) → Leaves q (stored_typed w.0 t p v (seen_of w.1)) m s → Tells q (run memory_answer (store t p v) w) (m, with_seen w.1 s)
+    by_result : (q : Result (Unit {0}) Fault) → Leaves q (stored_typed w.0 t p v (seen_of w.1)) m s refused → Tells q (run memory_answer (store t p v) w) (m, with_seen w.1 s) refused
     by_result (Ok u) e = is ∙ ap (λ (o : Left). on o (left w)) e
     by_result (Err (fault.Undefined q)) e = is ∙ ap (λ (o : Left). on o (left w)) e
     by_result (Err fault.Memory) e = tt

@@ -8,6 +8,7 @@ use Rattle.std.specs.List.{flat_map, list_all}
 use Rattle.std.specs.Option.{option_map}
 use Rattle.std.specs.Prelude.{All, ◌&&◌}
 use Rattle.std.proofs.lemmas.Bool.{and_parts}
+use Rattle.mr_base.specs.Stops.{Stop}
 use Rattle.mr_ast.specs.Shaped.{is_block, is_optional_place, named_in}
 use Rattle.mr_ast.specs.ShapedValues.{is_shaped_value}
 use Rattle.mr_ast.specs.declared.expr.Place.{Place}
@@ -18,7 +19,6 @@ use Rattle.mr_ast.specs.declared.program.Intrinsic.{Intrinsic}
 use Rattle.mr_ast.specs.declared.program.Term.TheVariants as term
 use Rattle.mr_ast.specs.declared.types.Ty.{Ty}
 use Rattle.mr_base.specs.declared.byte.Pointer.{Pointer}
-use Rattle.mr_base.specs.declared.reason.Reason.{Reason}
 use Rattle.mr_mem.specs.Memory.{Memory}
 use Rattle.mr_value.specs.declared.val.Val.{Val}
 use Rattle.mr_typing.specs.Blocks.{broken_in_result}
@@ -206,7 +206,7 @@ pub finished_is : (s : Stack) (d : DueDo) (o : Operands) (v : Option Val) (w : W
 unfolding finished result_stored
 finished_is s d o v w = memory_bind (store_result o.result o.result_type v) (λ _. Done (done_stack s d)) w
 
-pub finished_stop : (s : Stack) (d : DueDo) (o : Operands) (v : Option Val) (w : World) (r : Reason) → result_stored o.result o.result_type v w ≡ Refused r → finished s d o v w ≡ Refused r
+pub finished_stop : (s : Stack) (d : DueDo) (o : Operands) (v : Option Val) (w : World) (r : Stop) → result_stored o.result o.result_type v w ≡ Refused r → finished s d o v w ≡ Refused r
 finished_stop s d o v w r e = finished_is s d o v w ∙ ap (λ (x : Outcome (Unit {0}) World). on x (λ _ u. Went (done_stack s d) u)) e
 
 pub finished_went : (s : Stack) (d : DueDo) (o : Operands) (v : Option Val) (w u : World) → result_stored o.result o.result_type v w ≡ Went tt u → finished s d o v w ≡ Went (done_stack s d) u

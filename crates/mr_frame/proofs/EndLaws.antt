@@ -2,13 +2,14 @@
 use Rattle.std.proofs.Common.{◌≡◌, ℕ, suc, ◌+◌, ◌<◌, ◌≤◌, refl, sym, ap, ◌∙◌, subst, Bool, true, false, List, [], ◌∷◌, length, drop, get_or, Option, None, Some, add-one}
 use Rattle.std.proofs.Math.Seq.{drop-cons}
 use Rattle.std.proofs.lemmas.List.{drop_all}
+use Rattle.mr_base.specs.Stops.{Stop}
+use Rattle.mr_base.specs.Stops.{plainly}
 use Rattle.mr_ast.specs.declared.program.BlockName.{BlockName}
 use Rattle.mr_ast.specs.declared.program.Function.{Function}
 use Rattle.mr_ast.specs.declared.program.Local.{Local}
 use Rattle.mr_ast.specs.declared.program.Term.TheVariants as term
 use Rattle.mr_ast.specs.declared.types.Ty.{Ty}
 use Rattle.mr_base.specs.declared.byte.Pointer.{Pointer}
-use Rattle.mr_base.specs.declared.reason.Reason.{Reason}
 use Rattle.mr_base.specs.declared.reason.Reason.TheVariants.{MainReturned, NoReturnBlock, NoUnwindBlock, UnwoundThread}
 use Rattle.mr_layout.specs.Sizes.{align_of, size_of}
 use Rattle.mr_value.specs.declared.val.Val.{Val}
@@ -50,7 +51,7 @@ module _ (l : Local) (ls : List Local) (storage : Option Pointer) (rest : List (
   pub next_freed : (u : World) → unstored storage (size_of l.ty) (align_of l.ty) w ≡ Went tt u → freed_each (l ∷ ls) (storage ∷ rest) w ≡ freed_each ls rest u
   next_freed u e = freed_on ∙ ap (λ (o : Outcome (Unit {0}) World). on o (λ _ x. freed_each ls rest x)) e
 
-  pub stop_freed : (r : Reason) → unstored storage (size_of l.ty) (align_of l.ty) w ≡ Refused r → freed_each (l ∷ ls) (storage ∷ rest) w ≡ Refused r
+  pub stop_freed : (r : Stop) → unstored storage (size_of l.ty) (align_of l.ty) w ≡ Refused r → freed_each (l ∷ ls) (storage ∷ rest) w ≡ Refused r
   stop_freed r e = freed_on ∙ ap (λ (o : Outcome (Unit {0}) World). on o (λ _ x. freed_each ls rest x)) e
 
 pub none_freed : (w : World) → freed_each [] [] w ≡ Went tt w
@@ -67,7 +68,7 @@ module _ (ls : List Local) (st : List (Option Pointer)) (k : ℕ) (dl : Local) (
       ∙ next_freed (get_or ls k dl) (drop (suc k) ls) (get_or st k ds) (drop (suc k) st) w u e
       ∙ ap (λ n. freed_each (drop n ls) (drop n st) u) (sym (add-one k))
 
-  pub freed_stop : (r : Reason) → unstored (get_or st k ds) (size_of (get_or ls k dl).ty) (align_of (get_or ls k dl).ty) w ≡ Refused r → freed_each (drop k ls) (drop k st) w ≡ Refused r
+  pub freed_stop : (r : Stop) → unstored (get_or st k ds) (size_of (get_or ls k dl).ty) (align_of (get_or ls k dl).ty) w ≡ Refused r → freed_each (drop k ls) (drop k st) w ≡ Refused r
   freed_stop r e = cut ∙ stop_freed (get_or ls k dl) (drop (suc k) ls) (get_or st k ds) (drop (suc k) st) w r e
 
 -- what the code found of the local there
@@ -93,7 +94,7 @@ module _ (look : Look) (s : Stack) (t : Ty) (v : Val) (caller : Frame) (rest : L
       ap (λ (o : Option Targets). run memory_answer (give_to s caller rest (Some t) v o) w) (targets_there look (Some t) caller c)
       ∙ ap (λ (o : Option Pointer). run memory_answer (give_result s caller rest (Some t) v c.next o) w) c.keeps
 
-  pub left_nowhere : c.next ≡ None → left_by look s (Some t) v (caller ∷ rest) w ≡ Refused NoReturnBlock
+  pub left_nowhere : c.next ≡ None → left_by look s (Some t) v (caller ∷ rest) w ≡ Refused (plainly NoReturnBlock)
   left_nowhere e = left_to ∙ ap (λ (o : Option BlockName). run memory_answer (give_result s caller rest (Some t) v o (Some c.kept_place)) w) e
 
   pub left_at : (b : BlockName) → c.next ≡ Some b → left_by look s (Some t) v (caller ∷ rest) w ≡ on (stored_in t c.kept_place v w) (λ _ u. Went (GoesOn (with_top s rest (at_block caller b.0))) u)
@@ -119,7 +120,7 @@ module _ (look : Look) (s : Stack) (below : List Frame) (t : Ty) (v : Val) (w : 
     over : left_by look s (Some t) v below w ≡ left_by look s (Some t) v (caller ∷ rest) w
     over = ap (λ (bs : List Frame). left_by look s (Some t) v bs w) is
 
-    pub gives_nowhere : found.next ≡ None → left_by look s (Some t) v below w ≡ Refused NoReturnBlock
+    pub gives_nowhere : found.next ≡ None → left_by look s (Some t) v below w ≡ Refused (plainly NoReturnBlock)
     gives_nowhere k = over ∙ left_nowhere look s t v caller rest w call (next_is ∙ k)
 
     module _ (b : BlockName) (k : found.next ≡ Some b) (place : Pointer) (kept : caller.call ≡ Some place) where
@@ -129,7 +130,7 @@ module _ (look : Look) (s : Stack) (below : List Frame) (t : Ty) (v : Val) (w : 
           ∙ left_at look s t v caller rest w call b (next_is ∙ k)
           ∙ ap (λ (p : Pointer). on (stored_in t p v w) (λ _ u. Went (GoesOn (with_top s rest (at_block caller b.0))) u)) (same_Some call.kept_place place (sym call.keeps ∙ kept))
 
-      pub gives_stop : (r : Reason) → stored_in t place v w ≡ Refused r → left_by look s (Some t) v below w ≡ Refused r
+      pub gives_stop : (r : Stop) → stored_in t place v w ≡ Refused r → left_by look s (Some t) v below w ≡ Refused r
       gives_stop r stop = gives_by ∙ ap (λ (o : Outcome (Unit {0}) World). on o (λ _ u. Went (GoesOn (with_top s rest (at_block caller b.0))) u)) stop
 
       pub gives_at : (u : World) (f : Frame) (payloads : List Pointer) → stored_in t place v w ≡ Went tt u → f ≡ at_block caller b.0 → payloads ≡ s.payloads
@@ -150,7 +151,7 @@ module _ (look : KeptLook) (ready : IsReady look) (f : Frame) (payloads : List P
   abbrev lk : Look
   lk = look_of look
 
-  pub resumed_bottom : (below : List Frame) → StandsAt look.program.now f below (AtTerminator term.Resume) → below ≡ [] → acted lk t (record { frames = f ∷ below; payloads = payloads }) picks w ≡ Refused UnwoundThread
+  pub resumed_bottom : (below : List Frame) → StandsAt look.program.now f below (AtTerminator term.Resume) → below ≡ [] → acted lk t (record { frames = f ∷ below; payloads = payloads }) picks w ≡ Refused (plainly UnwoundThread)
   resumed_bottom below h e =
       acted_is look ready f below payloads (AtTerminator term.Resume) h t picks w
       ∙ ap (λ (under : List Frame). run memory_answer (resume lk (stack look ready f below payloads) (site look ready f below payloads (AtTerminator term.Resume) h) under) w) e
@@ -168,7 +169,7 @@ module _ (look : KeptLook) (ready : IsReady look) (f : Frame) (payloads : List P
         ∙ ap (λ (under : List Frame). run memory_answer (resume lk whole here under) w) is
         ∙ ap (λ (o : Option Targets). run memory_answer (unwind_in whole here caller rest o) w) (targets_there lk result caller c)
 
-    pub resumed_nowhere : c.unwind ≡ None → acted lk t whole picks w ≡ Refused NoUnwindBlock
+    pub resumed_nowhere : c.unwind ≡ None → acted lk t whole picks w ≡ Refused (plainly NoUnwindBlock)
     resumed_nowhere e = resumed_to ∙ ap (λ (o : Option BlockName). run memory_answer (unwind_to whole here caller rest o) w) e
 
     pub resumed_at : (b : BlockName) → c.unwind ≡ Some b → acted lk t whole picks w ≡ on (freed_each h.fits.function.locals f.locals w) (λ _ u. Went (GoesOn (with_top whole rest (at_block caller b.0))) u)
@@ -193,14 +194,14 @@ module _ (look : KeptLook) (ready : IsReady look) (f : Frame) (payloads : List P
     unwind_is : under.unwind ≡ found.unwind
     unwind_is = ap (λ (x : Targets). x.unwind) (same_Some _ found (sym (targets_there (look_of look) result caller under) ∙ e))
 
-    pub resumes_nowhere : found.unwind ≡ None → acted (look_of look) t (record { frames = f ∷ below; payloads = payloads }) picks w ≡ Refused NoUnwindBlock
+    pub resumes_nowhere : found.unwind ≡ None → acted (look_of look) t (record { frames = f ∷ below; payloads = payloads }) picks w ≡ Refused (plainly NoUnwindBlock)
     resumes_nowhere k = resumed_nowhere look ready f payloads picks t w below h caller rest is result under (unwind_is ∙ k)
 
     module _ (b : BlockName) (k : found.unwind ≡ Some b) where
       resumes_by : acted (look_of look) t (record { frames = f ∷ below; payloads = payloads }) picks w ≡ on (freed_each h.fits.function.locals f.locals w) (λ _ u. Went (GoesOn (record { frames = at_block caller b.0 ∷ rest; payloads = payloads })) u)
       resumes_by = resumed_at look ready f payloads picks t w below h caller rest is result under b (unwind_is ∙ k)
 
-      pub resumes_stop : (r : Reason) → freed_each h.fits.function.locals f.locals w ≡ Refused r → acted (look_of look) t (record { frames = f ∷ below; payloads = payloads }) picks w ≡ Refused r
+      pub resumes_stop : (r : Stop) → freed_each h.fits.function.locals f.locals w ≡ Refused r → acted (look_of look) t (record { frames = f ∷ below; payloads = payloads }) picks w ≡ Refused r
       resumes_stop r stop = resumes_by ∙ ap (λ (o : Outcome (Unit {0}) World). on o (λ _ u. Went (GoesOn (record { frames = at_block caller b.0 ∷ rest; payloads = payloads })) u)) stop
 
       pub resumes_at : (u : World) (g : Frame) (others : List Frame) (left : List Pointer) → freed_each h.fits.function.locals f.locals w ≡ Went tt u → g ≡ at_block caller b.0 → others ≡ rest → left ≡ payloads
@@ -219,20 +220,20 @@ module _ (look : KeptLook) (ready : IsReady look) (f : Frame) (below : List Fram
   abbrev goes_on : MemoryScript Onward
   goes_on = reading_part (return_value h.fits.function f) >>= λ v. free_each h.fits.function.locals f.locals >>= λ _. leave (look_of look) whole_stack (local_type h.fits.function h.fits.function.ret) v below
 
-  pub returned_main : is_main t below ≡ true → acted (look_of look) t whole_stack picks w ≡ Refused MainReturned
-  returned_main e = acted_return look ready f below payloads h t picks w ∙ ap (λ (b : Bool). run memory_answer (if b then Undefined MainReturned else goes_on) w) e
+  pub returned_main : is_main t below ≡ true → acted (look_of look) t whole_stack picks w ≡ Refused (plainly MainReturned)
+  returned_main e = acted_return look ready f below payloads h t picks w ∙ ap (λ (b : Bool). run memory_answer (if b then Undefined (plainly MainReturned) else goes_on) w) e
 
   pub returned_other : is_main t below ≡ false → acted (look_of look) t whole_stack picks w
       ≡ on (returned w.0 h.fits.function f (seen_of w.1)) (λ v s. on (freed_each h.fits.function.locals f.locals (w.0, with_seen w.1 s)) (λ u v'. left_by (look_of look) whole_stack (local_type h.fits.function h.fits.function.ret) v below v'))
   returned_other e =
       acted_return look ready f below payloads h t picks w
-      ∙ ap (λ (b : Bool). run memory_answer (if b then Undefined MainReturned else goes_on) w) e
+      ∙ ap (λ (b : Bool). run memory_answer (if b then Undefined (plainly MainReturned) else goes_on) w) e
       ∙ return_run look ready f below payloads h.fits.function w
 
   abbrev behind_load : Val → Seen → Outcome Onward World
   behind_load v s = on (freed_each h.fits.function.locals f.locals (w.0, with_seen w.1 s)) (λ u v'. left_by (look_of look) whole_stack (local_type h.fits.function h.fits.function.ret) v below v')
 
-  pub returned_stop : is_main t below ≡ false → (r : Reason) → returned w.0 h.fits.function f (seen_of w.1) ≡ Refused r → acted (look_of look) t whole_stack picks w ≡ Refused r
+  pub returned_stop : is_main t below ≡ false → (r : Stop) → returned w.0 h.fits.function f (seen_of w.1) ≡ Refused r → acted (look_of look) t whole_stack picks w ≡ Refused r
   returned_stop e r stop = returned_other e ∙ ap (λ (o : Outcome Val Seen). on o behind_load) stop
 
   pub returned_at : is_main t below ≡ false → (fn : Function) → h.fits.function ≡ fn → (v : Val) (s : Seen) → returned w.0 fn f (seen_of w.1) ≡ Went v s

@@ -5,6 +5,7 @@ use Rattle.std.specs.Prelude.{slice_get, ◌&&◌, if◌then◌else◌}
 use Rattle.std.specs.Option.{option_map}
 use Rattle.std.specs.List.{list_all}
 use Rattle.std.proofs.lemmas.Bool.{and_parts}
+use Rattle.mr_base.specs.Stops.{plainly}
 use Rattle.mr_ast.specs.Shaped.{is_block, is_optional_block, is_shaped_term, named_in}
 use Rattle.mr_ast.specs.ShapedValues.{is_shaped_place, is_shaped_value}
 use Rattle.mr_ast.specs.declared.expr.Value.{Value}
@@ -149,7 +150,7 @@ module _ (look : Look) (is : IsLook look) (well : WellFormed look.program) (s : 
           read_then (Shaped ret_ty) (FitsOnward p) (return_value fn f) _ value_there
           (λ v shape. change_then any_result (FitsOnward p) (free_each fn.locals f.locals) _ (free_each_safe fn.locals f.locals fits.locals) (λ u k. leave_safe below calling v shape))
 
-      by_test : (b : Bool) → IsSafeChange (FitsOnward p) (if b then Undefined MainReturned else (reading_part (return_value fn f) >>= λ v. free_each fn.locals f.locals >>= λ _. leave look s (local_type fn fn.ret) v below))
+      by_test : (b : Bool) → IsSafeChange (FitsOnward p) (if b then Undefined (plainly MainReturned) else (reading_part (return_value fn f) >>= λ v. free_each fn.locals f.locals >>= λ _. leave look s (local_type fn fn.ret) v below))
       by_test true = tt
       by_test false = goes
 

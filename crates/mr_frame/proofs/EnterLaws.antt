@@ -7,6 +7,9 @@ use Rattle.std.proofs.lemmas.Option.{same_Some}
 use Rattle.std.specs.Option.{option_map}
 use Rattle.std.specs.Prelude.{All, Result, map, not, ◌==◌, ◌||◌, ◌^◌, nat_lt, slice_get}
 use Rattle.std.specs.FinMap as fin
+use Rattle.mr_base.specs.Stops.{reached_by}
+use Rattle.mr_base.specs.declared.reached.Reaching.TheVariants.{Stores}
+use Rattle.mr_base.specs.Stops.{Stop}
 use Rattle.mr_ast.specs.declared.program.Function.{Function}
 use Rattle.mr_ast.specs.declared.program.Local.{Local}
 use Rattle.mr_ast.specs.declared.program.LocalName.{LocalName}
@@ -247,7 +250,7 @@ value_stored t p v w ok lies shape =
     let seen = seeing (accessing true false p (length ys)) (touching p (length ys)) (seen_of w.1) in
     record {
       world = (stored.new, with_seen w.1 seen);
-      is = store_tells (Ok tt) t p v w stored.new seen shape (ap (λ (r : Result Memory Reason). answered r (λ new. Went new seen)) stored.is);
+      is = store_tells (Ok tt) t p v w stored.new seen None shape (ap (λ (r : Result Memory Reason). answered (reached_by Stores p (length (encoding_of t v))) r (λ new. Went new seen)) stored.is);
       still = stored.still;
     }
 
@@ -312,5 +315,5 @@ module _ (look : KeptLook) (number : ℕ) (vs : List Val) (picks : List ℕ) (w 
             ∙ ap (λ (o : Outcome (Unit {0}) World). on o (λ _ x. Went f x)) last.is,
       )
 
-  pub not_refused : (r : Reason) → entered number (slice_get look.program.now.functions number) vs picks w ≡ Refused r → ⊥
+  pub not_refused : (r : Stop) → entered number (slice_get look.program.now.functions number) vs picks w ≡ Refused r → ⊥
   not_refused r e = let both = sym e ∙ enters.2 in cc

@@ -1,5 +1,6 @@
 -- Small calls and frames, and what the definitions say of them, computed.
 use Rattle.std.proofs.Common.{◌≡◌, ℕ, true, false, List, [], ◌∷◌, Some, None, refl}
+use Rattle.mr_base.specs.Stops.{plainly}
 use Rattle.mr_ast.specs.declared.program.BlockName.{BlockName}
 use Rattle.mr_ast.specs.declared.program.Function.{Function}
 use Rattle.mr_ast.specs.declared.program.LocalName.{LocalName}
@@ -41,7 +42,7 @@ provenance_alone = refl
 abbrev nowhere : Pointer
 nowhere = record { addr = 0; prov = None }
 
-not_a_function : (look : Look) → called look None nowhere [] None nothing_seen ≡ Refused NotAFunction
+not_a_function : (look : Look) → called look None nowhere [] None nothing_seen ≡ Refused (plainly NotAFunction)
 not_a_function look = refl
 
 -- ---- types
@@ -53,7 +54,7 @@ one_more_argument : same_types [] (ty.Bool ∷ []) ≡ false
 one_more_argument = refl
 
 -- a call with an argument too few is 118
-too_few_arguments : (fn : Function) → called_with nowhere [] 0 fn (Some ([], ty.Bool ∷ [])) nothing_seen ≡ Refused SignatureMismatch
+too_few_arguments : (fn : Function) → called_with nowhere [] 0 fn (Some ([], ty.Bool ∷ [])) nothing_seen ≡ Refused (plainly SignatureMismatch)
 too_few_arguments fn = refl
 
 -- ---- frames

@@ -1,11 +1,11 @@
 -- Storage of a local that is given up or renewed.
 use Rattle.std.proofs.Common.{◌≡◌, ℕ, refl, sym, ap, ◌∙◌, arith, List, [], ◌∷◌, length, None, Some}
 use Rattle.std.specs.Prelude.{slice_index_or}
+use Rattle.mr_base.specs.Stops.{Stop}
 use Rattle.mr_ast.specs.declared.program.LocalName.{LocalName}
 use Rattle.mr_ast.specs.declared.program.Stmt.TheVariants as stmt
 use Rattle.mr_base.specs.declared.byte.Kind.TheVariants.{Stack as OnStack}
 use Rattle.mr_base.specs.declared.byte.Pointer.{Pointer}
-use Rattle.mr_base.specs.declared.reason.Reason.{Reason}
 use Rattle.mr_layout.specs.Sizes.{align_of, size_of}
 use Rattle.mr_mem.specs.Memory.{range_fault, ranges_of}
 use Rattle.mr_sched.specs.declared.schedule.Ask.{Ask}
@@ -87,7 +87,7 @@ module _ (look : KeptLook) (s : KeptStack) (x : LocalName) (slot : Slot) where
             ∙ ap (λ (o : Outcome Pointer World). on o (λ q w'. Went (behind q) w')) made
             ∙ ap (λ (f : Frame). Went (GoesOn (record { frames = f ∷ below_of s; payloads = (stack_of s).payloads })) u) (sym is_g)
 
-        pub live_stops : (r : Reason) → renewed slot a (world_of scene) ≡ Refused r → acted (look_of look) scene.thread (stack_of s) picks (world_of scene) ≡ Refused r
+        pub live_stops : (r : Stop) → renewed slot a (world_of scene) ≡ Refused r → acted (look_of look) scene.thread (stack_of s) picks (world_of scene) ≡ Refused r
         live_stops r stop = live_by ∙ ap (λ (o : Outcome Pointer World). on o (λ q v. Went (behind q) v)) stop
 
   module _ (h : IsDue look s (AtStatement (stmt.Dead x))) (is : IsSlot h.stands.fits.function (frame_of s.top) x slot) (t : ℕ) (picks : List ℕ) (w : World) where
@@ -104,5 +104,5 @@ module _ (look : KeptLook) (s : KeptStack) (x : LocalName) (slot : Slot) where
         ∙ ap (λ (o : Outcome (Unit {0}) World). on o (λ _ v. Went (GoesOn (record { frames = behind_stmt (with_storage (frame_of s.top) x.0 None) ∷ below_of s; payloads = (stack_of s).payloads })) v)) gone
         ∙ ap (λ (f : Frame). Went (GoesOn (record { frames = f ∷ below_of s; payloads = (stack_of s).payloads })) v) (sym is_g)
 
-    pub dead_stops : (r : Reason) → unstored slot.storage slot.size slot.align w ≡ Refused r → acted (look_of look) t (stack_of s) picks w ≡ Refused r
+    pub dead_stops : (r : Stop) → unstored slot.storage slot.size slot.align w ≡ Refused r → acted (look_of look) t (stack_of s) picks w ≡ Refused r
     dead_stops r stop = dead_by ∙ ap (λ (o : Outcome (Unit {0}) World). on o (λ _ v. Went (GoesOn (record { frames = behind_stmt (with_storage (frame_of s.top) x.0 None) ∷ below_of s; payloads = (stack_of s).payloads })) v)) stop

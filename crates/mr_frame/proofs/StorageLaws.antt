@@ -1,6 +1,8 @@
 -- What is left behind a free of a local's storage, and new storage for it.
 use Rattle.std.proofs.Common.{◌≡◌, ◌≢◌, ℕ, refl, sym, ap, ◌∙◌, subst, [], ◌∷◌, ◌++◌, Option, None, Some, Result, Ok, Err}
 use Rattle.std.specs.FinMap as fin
+use Rattle.mr_base.specs.Stops.{reached_by}
+use Rattle.mr_base.specs.declared.reached.Reaching.TheVariants.{Frees}
 use Rattle.mr_base.specs.declared.byte.AllocId.{AllocId}
 use Rattle.mr_base.specs.declared.byte.Kind.TheVariants.{Stack as OnStack}
 use Rattle.mr_base.specs.declared.byte.Pointer.{Pointer}
@@ -42,7 +44,7 @@ abbrev went_freed : World → AllocId × Memory → Outcome (Unit {0}) World
 went_freed w f = Went tt (f.1, record w.1 { freed = w.1.freed ++ f.0 ∷ [] })
 
 leaves_freed : (w v : World) (p : Pointer) (size align : ℕ) (r : Result (AllocId × Memory) Reason) → freed w.0 p OnStack size align ≡ r
-    → answered r (went_freed w) ≡ Went tt v → Leaves w v
+    → answered (reached_by Frees p size) r (went_freed w) ≡ Went tt v → Leaves w v
 leaves_freed w v p size align (Ok r) e h =
     subst (Leaves w) (ap (world_in w) h)
     (record { ranges = ranges-freed w.0 r.1 p OnStack size align r.0 e; none = still_none w.0 p size align r e; thread = refl; count = refl })

@@ -5,6 +5,7 @@ use Rattle.std.proofs.lemmas.Option.{same_Some, slice_get_within}
 use Rattle.std.proofs.Math.ListN.{length-set}
 use Rattle.std.specs.Option.{option_map}
 use Rattle.std.specs.Prelude.{slice_get, slice_set, replicate, if◌then◌else◌}
+use Rattle.mr_base.specs.Stops.{plainly}
 use Rattle.mr_ast.specs.declared.expr.Place.{Place}
 use Rattle.mr_ast.specs.declared.expr.Value.{Value}
 use Rattle.mr_ast.specs.declared.program.Block.{Block}
@@ -289,7 +290,7 @@ module _ (look : Look) (s : Stack) (others : List Slot) (f : Frame) (below : Lis
           (enter_keeps p (slots f.locals) number called there vs picks)
           (λ new. entails_same (slots_with (slice_get p.functions new.function) new.locals ++ slots f.locals))
 
-      by_test : (b : Bool) → Leads (KeepsSlots p others (slots f.locals)) (if b then Done (record { creates = CreatesNothing; asks = storage_asks types.1; go = λ picks. enter number (Some called) vs picks >>= λ new. Done (GoesOn (calling s site place new)) }) else Undefined SignatureMismatch)
+      by_test : (b : Bool) → Leads (KeepsSlots p others (slots f.locals)) (if b then Done (record { creates = CreatesNothing; asks = storage_asks types.1; go = λ picks. enter number (Some called) vs picks >>= λ new. Done (GoesOn (calling s site place new)) }) else Undefined (plainly SignatureMismatch))
       by_test true = goes
       by_test false = tt
 
@@ -333,7 +334,7 @@ module _ (look : Look) (s : Stack) (others : List Slot) (f : Frame) (below : Lis
   returns : (thread : ℕ) → Keeps target (slots f.locals) (return_from look thread s site)
   returns thread = by_test (is_main thread below)
     where
-      by_test : (b : Bool) → Keeps target (slots f.locals) (if b then Undefined MainReturned else (reading_part (return_value fn f) >>= λ v. free_each fn.locals f.locals >>= λ u. leave look s (local_type fn fn.ret) v below))
+      by_test : (b : Bool) → Keeps target (slots f.locals) (if b then Undefined (plainly MainReturned) else (reading_part (return_value fn f) >>= λ v. free_each fn.locals f.locals >>= λ u. leave look s (local_type fn fn.ret) v below))
       by_test true = tt
       by_test false =
           quiet_first target (slots f.locals) (reading_part (return_value fn f)) _ (reading_quiet (return_value fn f))

@@ -1,6 +1,8 @@
 -- What a call comes to before it needs a pick, and what the code of calls answers.
 use Rattle.std.specs.Prelude.{◌≡◌, ℕ, ◌<◌, All, if◌then◌else◌, List, length, map, Option, None, Some, slice_get, Result}
 use Rattle.std.specs.Prelude.{Ok, Err}
+use Rattle.mr_base.specs.Stops.{plainly, stop_with}
+use Rattle.mr_base.specs.declared.reached.Reached.{Reached}
 use Rattle.mr_ast.specs.declared.expr.Place.{Place}
 use Rattle.mr_ast.specs.declared.expr.Value.{Value}
 use Rattle.mr_ast.specs.declared.program.Function.{Function}
@@ -41,7 +43,7 @@ called_with place args number fn None seen = Broken
 called_with place args number fn (Some types) seen =
     if same_types types.0 types.1
     then Went (record { place = place; number = number; function = fn; types = types.1; args = args }) seen
-    else Refused SignatureMismatch
+    else Refused (plainly SignatureMismatch)
 
 abbrev pub called_function : Option (List Ty) → Pointer → List Val → ℕ → Option Function → Seen → Outcome Prepared Seen
 called_function given place args number None seen = Broken
@@ -50,7 +52,7 @@ called_function given place args number (Some fn) seen =
 
 -- 117 where the pointer stands for no function
 abbrev pub called : Look → Option (List Ty) → Pointer → List Val → Option ℕ → Seen → Outcome Prepared Seen
-called look given place args None seen = Refused NotAFunction
+called look given place args None seen = Refused (plainly NotAFunction)
 called look given place args (Some number) seen =
     called_function given place args number (slice_get look.program.functions number) seen
 
@@ -83,10 +85,12 @@ pub record IsPrepared (p : Program) (kept : KeptPrepared) (o : Outcome Prepared 
         args = kept.args.items;
       }) s
 
-abbrev pub Prepares : Program → Result KeptPrepared Fault → Outcome Prepared Seen → Seen → Type 0
-Prepares p (Ok kept) o s = IsPrepared p kept o s
-Prepares p (Err (fault.Undefined r)) o s = o ≡ Refused r
-Prepares p (Err fault.Memory) o s = Unit {0}
+-- what the code prepared is what the run comes to, unless memory ran out; a stop speaks of the bytes that were refused
+-- last, where its reason speaks of bytes
+abbrev pub Prepares : Program → Result KeptPrepared Fault → Outcome Prepared Seen → Seen → Option Reached → Type 0
+Prepares p (Ok kept) o s last = IsPrepared p kept o s
+Prepares p (Err (fault.Undefined r)) o s last = o ≡ Refused (stop_with last r)
+Prepares p (Err fault.Memory) o s last = Unit {0}
 
 -- ---- what stands in the function of an environment
 

@@ -2,6 +2,7 @@
 use Rattle.std.specs.Prelude.{ℕ, Bool, true, false, ◌==◌, ◌&&◌, if◌then◌else◌, List, [], ◌∷◌, length, map, replicate}
 use Rattle.std.specs.Prelude.{slice_set, slice_get, suc, Option, None, Some}
 use Rattle.std.specs.Option.{option_map}
+use Rattle.mr_base.specs.Stops.{plainly}
 use Rattle.mr_ast.specs.declared.expr.Place.{Place}
 use Rattle.mr_ast.specs.declared.expr.Value.{Value}
 use Rattle.mr_ast.specs.declared.program.Block.{Block}
@@ -165,7 +166,7 @@ call_plan s site place number fn vs (Some types) =
       asks = storage_asks types.1;
       go = λ picks. enter number (Some fn) vs picks >>= λ new. Done (GoesOn (calling s site place new));
     })
-    else Undefined SignatureMismatch
+    else Undefined (plainly SignatureMismatch)
 
 -- the call of the function of this number, which is to be there
 abbrev pub call_function : Look → Stack → Site → Option (List Ty) → Pointer → List Val → ℕ → Option Function
@@ -177,7 +178,7 @@ call_function look s site given place vs number (Some fn) =
 -- the call of a function of the program; what has no number is none
 abbrev pub call_number : Look → Stack → Site → Option (List Ty) → Pointer → List Val → Option ℕ
     → ReadScript (Plan (MemoryScript Onward))
-call_number look s site given place vs None = Undefined NotAFunction
+call_number look s site given place vs None = Undefined (plainly NotAFunction)
 call_number look s site given place vs (Some number) =
     call_function look s site given place vs number (slice_get look.program.functions number)
 
@@ -235,7 +236,7 @@ return_value fn f = do
 -- the caller goes on at a block with the result in the place that it kept
 abbrev pub give_result : Stack → Frame → List Frame → Option Ty → Val → Option BlockName → Option Pointer
     → MemoryScript Onward
-give_result s caller below t v None place = Undefined NoReturnBlock
+give_result s caller below t v None place = Undefined (plainly NoReturnBlock)
 give_result s caller below (Some t) v (Some b) (Some place) =
     store t place v >>= λ _. Done (GoesOn (with_top s below (at_block caller b.0)))
 give_result s caller below _ v (Some b) _ = IllFormed
@@ -258,7 +259,7 @@ is_main thread (f ∷ below) = false
 -- `return`: 120 in thread 0's bottom frame; else the result is loaded, the storage goes, and the caller has the result
 abbrev pub return_from : Look → ℕ → Stack → Site → MemoryScript Onward
 return_from look thread s site =
-    if is_main thread site.below then Undefined MainReturned
+    if is_main thread site.below then Undefined (plainly MainReturned)
     else do
       v ← reading_part (return_value site.function site.frame)
       _ ← free_each site.function.locals site.frame.locals
@@ -268,7 +269,7 @@ return_from look thread s site =
 
 -- the storage of the locals goes, and the caller goes on at the block to which its call unwinds
 abbrev pub unwind_to : Stack → Site → Frame → List Frame → Option BlockName → MemoryScript Onward
-unwind_to s site caller below None = Undefined NoUnwindBlock
+unwind_to s site caller below None = Undefined (plainly NoUnwindBlock)
 unwind_to s site caller below (Some b) =
     free_each site.function.locals site.frame.locals >>= λ _. Done (GoesOn (with_top s below (at_block caller b.0)))
 
@@ -279,7 +280,7 @@ unwind_in s site caller below (Some targets) = unwind_to s site caller below tar
 
 -- `resume`: 122 in a bottom frame, 121 where the caller's call doesn't unwind
 abbrev pub resume : Look → Stack → Site → List Frame → MemoryScript Onward
-resume look s site [] = Undefined UnwoundThread
+resume look s site [] = Undefined (plainly UnwoundThread)
 resume look s site (caller ∷ below) = unwind_in s site caller below (targets_of look caller)
 
 -- to the start of a block

@@ -1,6 +1,7 @@
 -- The next step of a frame, other than an intrinsic: what it asks for, and what it does. (MiniRust, lang: statements
 -- and terminators.)
 use Rattle.std.specs.Prelude.{ℕ, List, [], ◌∷◌, Option, None, Some, slice_get}
+use Rattle.mr_base.specs.Stops.{plainly}
 use Rattle.mr_ast.specs.declared.program.Local.{Local}
 use Rattle.mr_ast.specs.declared.program.Stmt.{Stmt}
 use Rattle.mr_ast.specs.declared.program.Stmt.TheVariants as stmt
@@ -78,7 +79,7 @@ terminator look thread s site (term.Switch value cases other) =
     plain
     (reading_part (switched (scene_in look site.function site.frame) value cases other)
     >>= λ b. Done (goes_to s site b))
-terminator look thread s site term.Unreachable = plain (Undefined Unreachable)
+terminator look thread s site term.Unreachable = plain (Undefined (plainly Unreachable))
 terminator look thread s site (term.Call callee args place next unwind) = call look s site callee args place
 terminator look thread s site term.Return = plain (return_from look thread s site)
 terminator look thread s site (term.Unwind value b) = plain (unwind look s site value b.0)

@@ -1,6 +1,5 @@
 -- Where frames stand.
 use Rattle.std.specs.Prelude.{List, [], ◌∷◌, Option, None, Some}
-use Rattle.mr_base.specs.declared.byte.Pointer.{Pointer}
 use Rattle.mr_frame.specs.declared.stack.At.{At}
 use Rattle.mr_frame.specs.Frames.{Frame}
 
@@ -12,8 +11,3 @@ at_of f = record { function = f.function; block = f.block; at = f.at }
 abbrev pub top_at : List Frame → Option At
 top_at [] = None
 top_at (f ∷ fs) = Some (at_of f)
-
--- the place that the first of these frames keeps for a result, where it keeps one
-abbrev pub kept_place : List Frame → Option Pointer
-kept_place [] = None
-kept_place (f ∷ fs) = f.call

@@ -97,7 +97,8 @@ impl Stack {
         requires due { IsDue look.now self.old (AtStatement (stmt.Live x)) }
         requires lawful { AreLawful (look_of look.now) (stack_of self.old) picks.now s.old }
         ensures { TellsBy (λ flow. onward_of flow (stack_of self.new)) result
-            (acted (look_of look.now) s.old.thread (stack_of self.old) picks.now (world_of s.old)) (world_of s.new) }
+            (acted (look_of look.now) s.old.thread (stack_of self.old) picks.now (world_of s.old))
+            (world_of s.new) s.new.notes.refused }
     {
         let slot = self.slot(look, x);
         match renew(s, slot, picks[0]) {
@@ -114,7 +115,8 @@ impl Stack {
     fn dead(&mut self, look: &Look<'_>, s: &mut Scene, x: LocalName) -> Result<Flow, Fault>
         requires { IsDue look.now self.old (AtStatement (stmt.Dead x)) }
         ensures { (picks : List ℕ) → TellsBy (λ flow. onward_of flow (stack_of self.new)) result
-            (acted (look_of look.now) s.old.thread (stack_of self.old) picks (world_of s.old)) (world_of s.new) }
+            (acted (look_of look.now) s.old.thread (stack_of self.old) picks (world_of s.old))
+            (world_of s.new) s.new.notes.refused }
     {
         let slot = self.slot(look, x);
         match release(s, slot.storage, slot.size, slot.align) {
@@ -138,7 +140,8 @@ impl Stack {
         requires due { IsDue look.now self.old (AtStatement stmt.now) }
         requires kind { IsChange stmt.now }
         ensures { (picks : List ℕ) → TellsBy (λ flow. onward_of flow (stack_of self.new)) result
-            (acted (look_of look.now) s.old.thread (stack_of self.old) picks (world_of s.old)) (world_of s.new) }
+            (acted (look_of look.now) s.old.thread (stack_of self.old) picks (world_of s.old))
+            (world_of s.new) s.new.notes.refused }
     {
         let env = look.env(&self.top);
         match change(alloc, &env, &mut s.memory, &mut s.notes, stmt) {
@@ -162,7 +165,8 @@ impl Stack {
     ) -> Result<Flow, Fault>
         requires { IsDue look.now self.old (AtTerminator (term.Switch on.now cases.now other)) }
         ensures { (picks : List ℕ) → TellsBy (λ flow. onward_of flow (stack_of self.new)) result
-            (acted (look_of look.now) s.old.thread (stack_of self.old) picks (world_of s.old)) (world_of s.new) }
+            (acted (look_of look.now) s.old.thread (stack_of self.old) picks (world_of s.old))
+            (world_of s.new) s.new.notes.refused }
     {
         let env = look.env(&self.top);
         match switch(alloc, &env, &s.memory, &mut s.notes, on, cases, other) {
@@ -188,7 +192,8 @@ impl Stack {
         requires due { IsDueCall look.now self.old callee.now args.now place.now }
         requires lawful { AreLawful (look_of look.now) (stack_of self.old) picks.now s.old }
         ensures { TellsBy (λ flow. onward_of flow (stack_of self.new)) result
-            (acted (look_of look.now) s.old.thread (stack_of self.old) picks.now (world_of s.old)) (world_of s.new) }
+            (acted (look_of look.now) s.old.thread (stack_of self.old) picks.now (world_of s.old))
+            (world_of s.new) s.new.notes.refused }
     {
         match self.prepared(alloc, look, &s.memory, &mut s.notes, callee, args, place) {
             Err(fault) => Err(fault),
@@ -210,7 +215,8 @@ impl Stack {
         requires { IsDueCall look.now self.now callee.now args.now place.now }
         ensures { (fn : FunctionOf) → slice_get look.now.program.now.functions self.now.top.function ≡ Some fn
             → Prepares look.now.program.now result (prepared m.now (look_of look.now) (scene_in (look_of look.now) fn
-            (frame_of self.now.top)) callee.now args.now place.now (seen notes.old)) (seen notes.new) }
+            (frame_of self.now.top)) callee.now args.now place.now (seen notes.old))
+            (seen notes.new) notes.new.refused }
     {
         let env = look.env(&self.top);
         prepare(alloc, &env, m, notes, callee, args, place)
@@ -233,7 +239,7 @@ impl Stack {
             (record (stack_of self.old) {
               frames = f ∷ record
                   (frame_of self.old.top) { call = Some prepared.now.place } ∷ below_of self.old;
-            })) w)) (world_of s.new) }
+            })) w)) (world_of s.new) s.new.notes.refused }
     {
         let args = prepared.args.as_slice();
         match begin(alloc, look, s, prepared.function, args, picks) {
@@ -259,7 +265,8 @@ impl Stack {
         requires other { NoDo t.now }
         requires lawful { AreLawful (look_of look.now) (stack_of self.old) picks.now s.old }
         ensures { TellsBy (λ flow. onward_of flow (stack_of self.new)) result
-            (acted (look_of look.now) s.old.thread (stack_of self.old) picks.now (world_of s.old)) (world_of s.new) }
+            (acted (look_of look.now) s.old.thread (stack_of self.old) picks.now (world_of s.old))
+            (world_of s.new) s.new.notes.refused }
     {
         match t {
             Term::Goto(b) => {
@@ -303,7 +310,8 @@ impl Stack {
         requires other { next_do (look_of look.now) (stack_of self.old) ≡ None }
         requires lawful { AreLawful (look_of look.now) (stack_of self.old) picks.now s.old }
         ensures { TellsBy (λ flow. onward_of flow (stack_of self.new)) result
-            (acted (look_of look.now) s.old.thread (stack_of self.old) picks.now (world_of s.old)) (world_of s.new) }
+            (acted (look_of look.now) s.old.thread (stack_of self.old) picks.now (world_of s.old))
+            (world_of s.new) s.new.notes.refused }
     {
         match self.due(look) {
             Next::Statement(Stmt::Live(x)) => self.live(look, s, *x, picks),

@@ -35,7 +35,7 @@ pub fn store(
 ) -> Result<(), Fault>
     requires ok { TypeOk t.now }
     requires shape { has_shape t.now v.now ≡ true }
-    ensures { Tells result (stored_in t.now p v.now (world_of s.old)) (world_of s.new) }
+    ensures { Tells result (stored_in t.now p v.now (world_of s.old)) (world_of s.new) s.new.notes.refused }
 {
     store_typed(alloc, e, &mut s.memory, &mut s.notes, p, t, v)
 }
@@ -94,7 +94,8 @@ fn store_each(
         → HaveShapes types args.now }
     requires pointers { length pointers.now ≡ length function.now.args + 1 }
     ensures { (types : List TypeOf) → written_types function.now function.now.args ≡ Some types
-        → Tells result (stored_each types (drop 1 pointers.now) args.now (world_of s.old)) (world_of s.new) }
+        → Tells result (stored_each types (drop 1 pointers.now) args.now (world_of s.old))
+        (world_of s.new) s.new.notes.refused }
 {
     let names = function.args.as_slice();
     for (k, v) in args.iter().enumerate() {
@@ -138,7 +139,7 @@ pub fn begin(
 ) -> Result<Frame, Fault>
     requires { CanBegin look.now f.0 args.now picks.now (world_of s.old) }
     ensures { TellsBy frame_of result (entered f.0 (slice_get look.now.program.now.functions f.0) args.now picks.now
-        (world_of s.old)) (world_of s.new) }
+        (world_of s.old)) (world_of s.new) s.new.notes.refused }
 {
     let function = look.function(f.0);
     let mut pointers = Vec::new(alloc);

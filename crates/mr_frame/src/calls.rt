@@ -1,5 +1,6 @@
 //! Calls: the place for the result, the callee and the arguments.
-ghost use Rattle.std.specs.Prelude.{◌≡◌, ◌≤◌, ◌<◌, ◌^◌, length, option_map, slice_get, Some};
+ghost use Rattle.std.specs.Prelude.{◌≡◌, ◌≤◌, ◌<◌, ◌^◌, Option, length, option_map, slice_get, Some};
+ghost use Rattle.mr_base.specs.declared.reached.Reached.{Reached};
 ghost use Rattle.mr_eval.specs.Answers.{Extends, seen};
 ghost use Rattle.mr_eval.specs.Environment.{env_surround};
 ghost use Rattle.mr_eval.specs.Reads.{Seen};
@@ -59,7 +60,8 @@ pub fn prepare<'a>(
 ) -> Result<Prepared, Fault>
     requires { CallIn e.now written.now args.now to.now }
     ensures given { Prepares e.now.program.now result
-        (prepared m.now (look_in e.now) (env_surround e.now) written.now args.now to.now (seen n.old)) (seen n.new) }
+        (prepared m.now (look_in e.now) (env_surround e.now) written.now args.now to.now (seen n.old))
+        (seen n.new) n.new.refused }
     ensures kept { Extends (seen n.old) (seen n.new) }
 {
     let at = place(alloc, e, m, n, to)?;
@@ -79,8 +81,9 @@ fn called<'a>(
 ) -> Result<Prepared, Fault>
     requires inside { (f : Function) × InProgram f e.now }
     requires call { GivenIn e.now args.now to.now }
-    ensures { (s : Seen) → Prepares e.now.program.now result (called (look_in e.now) (given_types
-        (env_surround e.now) to.now args.now) place row.items (callee_of e.now.functions.now function) s) s }
+    ensures { (s : Seen) (refused : Option Reached) → Prepares e.now.program.now result (called (look_in e.now)
+        (given_types (env_surround e.now) to.now args.now) place row.items (callee_of e.now.functions.now function) s)
+        s refused }
 {
     let Some(function) = callee(e.functions, function) else {
         return Err(Fault::Undefined(Reason::NotAFunction));

@@ -34,7 +34,7 @@ pub fn change(
 ) -> Result<(), Fault>
     requires inside { StmtIn e.now s.now }
     requires kind { IsChange s.now }
-    ensures { Leaves result (changed m.old (env_surround e.now) s.now (seen n.old)) m.new (seen n.new) }
+    ensures { Leaves result (changed m.old (env_surround e.now) s.now (seen n.old)) m.new (seen n.new) n.new.refused }
 {
     match s {
         Stmt::Assign(to, from) => assign(alloc, e, m, n, to, from),
@@ -57,7 +57,8 @@ fn assign<'a>(
     from: &'a Value,
 ) -> Result<(), Fault>
     requires { StmtIn e.now (stmt.Assign to.now from.now) }
-    ensures { Leaves result (assigned m.old (env_surround e.now) to.now from.now (seen n.old)) m.new (seen n.new) }
+    ensures { Leaves result (assigned m.old (env_surround e.now) to.now from.now (seen n.old)) m.new
+        (seen n.new) n.new.refused }
 {
     let p = place(alloc, e, m, n, to)?;
     let v = value(alloc, e, m, n, from)?;
@@ -74,7 +75,8 @@ fn mention(
     at: &Place,
 ) -> Result<(), Fault>
     requires { StmtIn e.now (stmt.Mention at.now) }
-    ensures { Leaves result (mentioned m.old (env_surround e.now) at.now (seen n.old)) m.new (seen n.new) }
+    ensures { Leaves result (mentioned m.old (env_surround e.now) at.now (seen n.old)) m.new
+        (seen n.new) n.new.refused }
 {
     place(alloc, e, m, n, at)?;
     Ok(())
@@ -90,7 +92,8 @@ fn validate<'a>(
     at: &'a Place,
 ) -> Result<(), Fault>
     requires { StmtIn e.now (stmt.Validate at.now) }
-    ensures { Leaves result (validated m.old (env_surround e.now) at.now (seen n.old)) m.new (seen n.new) }
+    ensures { Leaves result (validated m.old (env_surround e.now) at.now (seen n.old)) m.new
+        (seen n.new) n.new.refused }
 {
     let p = place(alloc, e, m, n, at)?;
     let t = type_at(e, at);
@@ -108,7 +111,7 @@ fn deinit<'a>(
     at: &'a Place,
 ) -> Result<(), Fault>
     requires { StmtIn e.now (stmt.Deinit at.now) }
-    ensures { Leaves result (deinited m.old (env_surround e.now) at.now (seen n.old)) m.new (seen n.new) }
+    ensures { Leaves result (deinited m.old (env_surround e.now) at.now (seen n.old)) m.new (seen n.new) n.new.refused }
 {
     let p = place(alloc, e, m, n, at)?;
     let t = type_at(e, at);
@@ -126,7 +129,8 @@ fn set_discriminant<'a>(
     number: Num,
 ) -> Result<(), Fault>
     requires { StmtIn e.now (stmt.Disc at.now number) }
-    ensures { Leaves result (discriminated m.old (env_surround e.now) at.now number (seen n.old)) m.new (seen n.new) }
+    ensures { Leaves result (discriminated m.old (env_surround e.now) at.now number (seen n.old)) m.new
+        (seen n.new) n.new.refused }
 {
     let p = place(alloc, e, m, n, at)?;
     match tags(type_at(e, at), number) {
@@ -144,7 +148,7 @@ fn write_tags(
     tags: &[Tag],
 ) -> Result<(), Fault>
     requires { (size : ℕ) × (t : Ty) × (are_tags size t tags.now ≡ true) }
-    ensures { Leaves result (tagged m.old p tags.now (seen n.old)) m.new (seen n.new) }
+    ensures { Leaves result (tagged m.old p tags.now (seen n.old)) m.new (seen n.new) n.new.refused }
 {
     for tag in tags {
         write_tag(alloc, m, n, p, tag)?;
@@ -173,7 +177,7 @@ fn write_tag(
 ) -> Result<(), Fault>
     requires { is_fitting tag.now.int tag.now.number ≡ true }
     ensures { Leaves result (storing m.old false (behind p tag.now.at) (tag_bytes tag.now) 1 (seen n.old)) m.new
-        (seen n.new) }
+        (seen n.new) n.new.refused }
 {
     let mut bytes = Vec::new(alloc);
     encode_tag(alloc, tag, &mut bytes)?;

@@ -1,5 +1,6 @@
 //! Intrinsics, as far as they are steps of a frame: what they are given, and how they end.
-ghost use Rattle.std.specs.Prelude.{◌≡◌, All, IfOk, Some, option_copied, true};
+ghost use Rattle.std.specs.Prelude.{◌≡◌, All, IfOk, Option, Some, option_copied, true};
+ghost use Rattle.mr_base.specs.declared.reached.Reached.{Reached};
 ghost use Rattle.mr_eval.specs.Answers.{Extends, seen};
 ghost use Rattle.mr_eval.specs.Environment.{Tells, env_surround};
 ghost use Rattle.mr_eval.specs.World.{TellsBy, world_of};
@@ -80,7 +81,7 @@ fn result_place(
 ) -> Result<Option<Pointer>, Fault>
     requires { ResultIn e.now (option_copied at) }
     ensures given { Tells result (result_placed m.now (env_surround e.now) (option_copied at.entry) (seen n.old))
-        (seen n.new) }
+        (seen n.new) n.new.refused }
     ensures kept { Extends (seen n.old) (seen n.new) }
 {
     match at {
@@ -102,7 +103,8 @@ fn operands<'a>(
     requires args { All (PlainIn e.now) args.now }
     requires place { ResultIn e.now (option_copied place) }
     ensures given { TellsBy operands_of result
-        (given_operands m.now (env_surround e.now) args.now (option_copied place.entry) (seen n.old)) (seen n.new) }
+        (given_operands m.now (env_surround e.now) args.now (option_copied place.entry) (seen n.old))
+        (seen n.new) n.new.refused }
     ensures kept { Extends (seen n.old) (seen n.new) }
 {
     let at = result_place(alloc, e, m, n, place)?;
@@ -121,8 +123,9 @@ fn typed<'a>(
 ) -> Result<DoCall, Fault>
     requires args { All (PlainIn e.now) args.now }
     requires place { ResultIn e.now (option_copied place) }
-    ensures { (s : Seen) → TellsBy operands_of result (with_types at row.items
-        (result_typed (env_surround e.now) (option_copied place.entry)) (arg_types (env_surround e.now) args.now) s) s }
+    ensures { (s : Seen) (refused : Option Reached) → TellsBy operands_of result (with_types at row.items
+        (result_typed (env_surround e.now) (option_copied place.entry)) (arg_types (env_surround e.now) args.now) s)
+        s refused }
 {
     match types(alloc, e, args) {
         Ok(arg_types) => Ok(DoCall {
@@ -145,7 +148,7 @@ fn store_result(
 ) -> Result<(), Fault>
     requires { FitsResult call.now.result call.now.result_type (option_copied value) }
     ensures { Tells result (result_stored call.now.result call.now.result_type
-        (option_copied value.entry) (world_of s.old)) (world_of s.new) }
+        (option_copied value.entry) (world_of s.old)) (world_of s.new) s.new.notes.refused }
 {
     match (call.result, &call.result_type, value) {
         (Some(p), Some(t), Some(v)) => store(alloc, e, s, p, t, v),
@@ -220,7 +223,8 @@ impl Stack {
         requires fits { FitsStack look.now.program.now (stack_of self.now) }
         requires due { (d : DueDo) × (next_do (look_of look.now) (stack_of self.now) ≡ Some d) }
         ensures given { (d : DueDo) → next_do (look_of look.now) (stack_of self.now) ≡ Some d
-            → TellsBy operands_of result (argued m.now (look_of look.now) d (seen notes.old)) (seen notes.new) }
+            → TellsBy operands_of result (argued m.now (look_of look.now) d (seen notes.old))
+            (seen notes.new) notes.new.refused }
         ensures kept { Extends (seen notes.old) (seen notes.new) }
     {
         let Term::Do(_, args, place, _) = self.due_do(look) else {
@@ -247,7 +251,7 @@ impl Stack {
         requires result { FitsResult call.now.result call.now.result_type (option_copied value) }
         ensures { (d : DueDo) → next_do (look_of look.now) (stack_of self.old) ≡ Some d
             → TellsBy (λ u. stack_of self.new) result (finished (stack_of self.old) d
-            (operands_of call.now) (option_copied value.entry) (world_of s.old)) (world_of s.new) }
+            (operands_of call.now) (option_copied value.entry) (world_of s.old)) (world_of s.new) s.new.notes.refused }
     {
         let Term::Do(_, _, _, next) = self.due_do(look) else {
             unreachable!()

@@ -31,7 +31,7 @@ fn free_each(
 ) -> Result<(), Fault>
     requires types { All (λ l. TypeOk l.ty) locals.now }
     requires len { length locals.now ≡ length storage.now }
-    ensures { Tells result (freed_each locals.now storage.now (world_of s.old)) (world_of s.new) }
+    ensures { Tells result (freed_each locals.now storage.now (world_of s.old)) (world_of s.new) s.new.notes.refused }
 {
     for (k, local) in locals.iter().enumerate() {
         let t = &local.ty;
@@ -94,7 +94,7 @@ impl Stack {
         requires due { IsDue look.now self.now (AtTerminator term.Return) }
         requires function { slice_get look.now.program.now.functions self.now.top.function ≡ Some f.now }
         ensures given { Tells result (returned s.old.memory f.now (frame_of self.now.top) (seen s.old.notes))
-            (seen s.new.notes) }
+            (seen s.new.notes) s.new.notes.refused }
         ensures shape { (t : TypeOf) → local_type f.now f.now.ret ≡ Some t → IfOk result (λ v. has_shape t v ≡ true) }
         ensures rest { s.new ≡ record s.old { notes = s.new.notes } }
     {
@@ -126,7 +126,8 @@ impl Stack {
         requires ok { TypeOk t.now }
         requires shape { has_shape t.now v.now ≡ true }
         ensures { TellsBy (λ flow. onward_of flow (stack_of self.new)) result (left_by (look_of look.now)
-            (stack_of self.old) (Some t.now) v.now (below_of self.old) (world_of s.old)) (world_of s.new) }
+            (stack_of self.old) (Some t.now) v.now (below_of self.old) (world_of s.old))
+            (world_of s.new) s.new.notes.refused }
     {
         if !self.pop() {
             return Ok(Flow::Ended);
@@ -164,7 +165,8 @@ impl Stack {
     ) -> Result<Flow, Fault>
         requires { IsDue look.now self.old (AtTerminator term.Return) }
         ensures { (picks : List ℕ) → TellsBy (λ flow. onward_of flow (stack_of self.new)) result
-            (acted (look_of look.now) s.old.thread (stack_of self.old) picks (world_of s.old)) (world_of s.new) }
+            (acted (look_of look.now) s.old.thread (stack_of self.old) picks (world_of s.old))
+            (world_of s.new) s.new.notes.refused }
     {
         if self.is_main(s.thread) {
             return Err(Fault::Undefined(Reason::MainReturned));
@@ -190,7 +192,8 @@ impl Stack {
         requires shape { (t : TypeOf) → local_type f.now f.now.ret ≡ Some t → has_shape t v.now ≡ true }
         ensures { TellsBy (λ flow. onward_of flow (stack_of self.new)) result
             (on (freed_each f.now.locals self.old.top.locals.items (world_of s.old)) (λ u w. left_by (look_of look.now)
-            (stack_of self.old) (local_type f.now f.now.ret) v.now (below_of self.old) w)) (world_of s.new) }
+            (stack_of self.old) (local_type f.now f.now.ret) v.now (below_of self.old) w))
+            (world_of s.new) s.new.notes.refused }
     {
         match free_each(
             look.cache,
@@ -207,7 +210,8 @@ impl Stack {
     pub(crate) fn resume(&mut self, look: &Look<'_>, s: &mut Scene) -> Result<Flow, Fault>
         requires { IsDue look.now self.old (AtTerminator term.Resume) }
         ensures { (picks : List ℕ) → TellsBy (λ flow. onward_of flow (stack_of self.new)) result
-            (acted (look_of look.now) s.old.thread (stack_of self.old) picks (world_of s.old)) (world_of s.new) }
+            (acted (look_of look.now) s.old.thread (stack_of self.old) picks (world_of s.old))
+            (world_of s.new) s.new.notes.refused }
     {
         let Some(caller) = self.below.last() else {
             return Err(Fault::Undefined(Reason::UnwoundThread));
@@ -242,7 +246,8 @@ impl Stack {
     ) -> Result<Flow, Fault>
         requires { IsDue look.now self.old (AtTerminator (term.Unwind payload.now block)) }
         ensures { (picks : List ℕ) → TellsBy (λ flow. onward_of flow (stack_of self.new)) result
-            (acted (look_of look.now) s.old.thread (stack_of self.old) picks (world_of s.old)) (world_of s.new) }
+            (acted (look_of look.now) s.old.thread (stack_of self.old) picks (world_of s.old))
+            (world_of s.new) s.new.notes.refused }
     {
         let env = look.env(&self.top);
         match pointer(alloc, &env, &s.memory, &mut s.notes, payload) {

@@ -16,10 +16,8 @@
 //!   the thread goes on ([`Flow`]).
 //! - [`Stack::intrinsic`]: the intrinsic that is due, if one is. [`Stack::arguments`]: what it is given, as a [`DoCall`].
 //!   [`Stack::finish`]: its end, with a value or none.
-//! - [`Stack::payload`]: the last payload. [`Stack::due`]: the statement or the terminator that is due ([`Next`]).
-//!   [`Stack::env`]: where its expressions are evaluated. [`Stack::result_place`]: where the caller keeps the result.
+//! - [`Stack::payload`]: the last payload.
 //! - [`callee`]: the function that a pointer stands for: the one of its address and provenance.
-//! - [`place_type`], [`value_type`]: the types of places and values in a function with some locals.
 //!
 //! What the code of these needs and answers is in `specs/Kept.antt`, `specs/Standing.antt` and `specs/Inside.antt`, and by part in
 //! `specs/Acting.antt`, `specs/Beginning.antt`, `specs/Calling.antt`, `specs/Doing.antt` and `specs/Ending.antt`. Of the definitions
@@ -48,7 +46,5 @@ mod values;
 pub use calls::callee;
 pub use dos::DoCall;
 pub use flow::Flow;
-pub use frame::Next;
 pub use look::Look;
 pub use stack::{At, Stack};
-pub use types::{place_type, value_type};

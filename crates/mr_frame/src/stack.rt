@@ -2,7 +2,6 @@
 use crate::frame::{Frame, Next, next_of};
 use crate::look::Look;
 use mr_base::Pointer;
-use mr_eval::Env;
 use std::alloc::{AllocError, Global};
 use std::mem::replace;
 
@@ -35,13 +34,7 @@ impl Stack {
     }
 
     ghost use Rattle.std.specs.Prelude.{◌≡◌, ◌∷◌, [], IsFalse, IsTrue, OnOk, Some, slice_get};
-    ghost use Rattle.mr_ast.specs.declared.program.Function.{Function as FunctionOf};
-    ghost use Rattle.mr_eval.specs.Environment.{env_surround};
-    ghost use Rattle.mr_frame.specs.Calling.{look_in};
-    ghost use Rattle.mr_frame.specs.Fits.{FitsFrame};
-    ghost use Rattle.mr_frame.specs.Frames.{scene_in};
-    ghost use Rattle.mr_frame.specs.Inside.{InProgram};
-    ghost use Rattle.mr_frame.specs.Tops.{kept_place, top_at};
+    ghost use Rattle.mr_frame.specs.Tops.{top_at};
     ghost use Rattle.mr_frame.specs.Calls.{behind_first};
     ghost use Rattle.mr_frame.specs.Fits.{FitsStack};
     ghost use Rattle.mr_frame.specs.Kept.{IsReady, below_of, frame_of, look_of, stack_of};
@@ -102,30 +95,8 @@ impl Stack {
         self.payloads.pop();
     }
 
-    /// Where the expressions of the top frame are evaluated.
-    pub fn env<'e>(&'e self, look: &'e Look<'_>) -> Env<'e>
-        requires { IsReady look.now }
-        ensures scene { (fn : FunctionOf) → slice_get look.now.program.now.functions self.now.top.function ≡ Some fn
-            → env_surround result ≡ scene_in (look_of look.now) fn (frame_of self.now.top) }
-        ensures inside { (h : FitsFrame look.now.program.now (frame_of self.now.top)) → InProgram h.function result }
-        ensures program { result.program.now ≡ look.now.program.now }
-        ensures look { look_in result ≡ look_of look.now }
-    {
-        look.env(&self.top)
-    }
-
-    /// The place that the caller keeps for the result of the top frame, where there is a caller that does.
-    pub fn result_place(&self) -> Option<Pointer>
-        ensures { result ≡ kept_place (below_of self.now) }
-    {
-        match self.below.last() {
-            Some(caller) => caller.call,
-            None => None,
-        }
-    }
-
-    /// What is due at the top frame.
-    pub fn due<'a>(&self, look: &Look<'a>) -> Next<'a>
+    // What is due at the top frame.
+    pub(crate) fn due<'a>(&self, look: &Look<'a>) -> Next<'a>
         requires ready { IsReady look.now }
         requires fits { FitsStack look.now.program.now (stack_of self.now) }
         ensures { IsDue look.now self.now (due_in result) }

@@ -10,7 +10,7 @@ use mr_eval::{Fault, Scene};
 
 /// Frees the storage of a local, where there is some. Size and alignment are in bytes.
 pub fn release(s: &mut Scene, storage: Option<Pointer>, size: u64, align: u64) -> Result<(), Fault>
-    ensures { Tells result (unstored storage size align (world_of s.old)) (world_of s.new) }
+    ensures { Tells result (unstored storage size align (world_of s.old)) (world_of s.new) s.new.notes.refused }
 {
     match storage {
         None => Ok(()),
@@ -22,7 +22,7 @@ pub fn release(s: &mut Scene, storage: Option<Pointer>, size: u64, align: u64) -
 #[tactic(auto, using(crate::proofs::StorageLaws::storage_laws))]
 pub fn renew(s: &mut Scene, slot: Slot, addr: u64) -> Result<Pointer, Fault>
     requires { CanRenew slot addr s.old }
-    ensures { Tells result (renewed slot addr (world_of s.old)) (world_of s.new) }
+    ensures { Tells result (renewed slot addr (world_of s.old)) (world_of s.new) s.new.notes.refused }
 {
     match release(s, slot.storage, slot.size, slot.align) {
         Err(fault) => Err(fault),

@@ -25,7 +25,8 @@ pub fn switch<'a>(
     other: BlockName,
 ) -> Result<u32, Fault>
     requires { ValueAt e.now on.now is_scalar_number }
-    ensures { Tells result (chosen m.now (env_surround e.now) on.now cases.now other (seen n.old)) (seen n.new) }
+    ensures { Tells result (chosen m.now (env_surround e.now) on.now cases.now other (seen n.old))
+        (seen n.new) n.new.refused }
 {
     let v = value(alloc, e, m, n, on)?;
     let number = scalar_of(type_with(e, on), &v).number();

@@ -26,7 +26,7 @@ pub fn values(
 ) -> Result<Vec<Val>, Fault>
     requires { All (ValueIn e.now) args.now }
     ensures given { TellsBy (λ vs. vs.items) result (each_valued m.now (env_surround e.now) args.now (seen n.old))
-        (seen n.new) }
+        (seen n.new) n.new.refused }
     ensures kept { Extends (seen n.old) (seen n.new) }
 {
     let mut row = Vec::new(alloc);
@@ -60,7 +60,7 @@ pub fn pointer(
     v: &Value,
 ) -> Result<Pointer, Fault>
     requires { ValueAt e.now v.now is_address }
-    ensures given { Tells result (pointed m.now (env_surround e.now) v.now (seen n.old)) (seen n.new) }
+    ensures given { Tells result (pointed m.now (env_surround e.now) v.now (seen n.old)) (seen n.new) n.new.refused }
     ensures kept { Extends (seen n.old) (seen n.new) }
 {
     let v = value(alloc, e, m, n, v)?;

@@ -1,5 +1,10 @@
 -- What atomic accesses come to, by the loads and stores that the code makes.
-use Rattle.std.proofs.Common.{◌≡◌, ℕ, ◌*◌, ◌^◌, ◌<◌, refl, subst, sym, ap, ◌∙◌, List, [], ◌∷◌, Option, Some, None, Bool, true, Result, Ok, Err}
+use Rattle.std.proofs.Common.{◌≡◌, ℕ, ◌*◌, ◌^◌, ◌<◌, refl, subst, sym, ap, ◌∙◌, List, [], ◌∷◌, Option, Some, None, Bool, true, false, Result, Ok, Err}
+use Rattle.mr_base.specs.declared.reason.Reason.TheVariants.{InvalidValue}
+use Rattle.mr_base.specs.Stops.{Stop, over, reached_by, stop_with}
+use Rattle.mr_base.specs.declared.reached.Reached.{Reached}
+use Rattle.mr_base.specs.declared.reached.Reaching.{Reaching}
+use Rattle.mr_base.specs.declared.reached.Reaching.TheVariants.{Changes, Loads}
 use Rattle.mr_base.proofs.Comparisons.{eq_test, lt_test}
 use Rattle.std.specs.Prelude.{if◌then◌else◌, slice_get}
 use Rattle.std.proofs.lemmas.Option.{same_Some}
@@ -16,7 +21,9 @@ use Rattle.mr_base.specs.declared.reason.Reason.{Reason}
 use Rattle.mr_layout.specs.Sizes.{align_of}
 use Rattle.mr_layout.proofs.AlignLaws.{align_int}
 use Rattle.mr_layout.proofs.SizeLaws.{size_int}
-use Rattle.mr_mem.specs.Memory.{Memory, written}
+use Rattle.mr_mem.specs.Memory.{Memory, read, written}
+use Rattle.mr_mem.proofs.SpeakingLaws.{SpeakResult, read_speaks, written_speaks}
+use Rattle.mr_eval.proofs.RefusedLaws.{answer_refused, refused_leaves}
 use Rattle.mr_mem.specs.Stored.{IsStored}
 use Rattle.mr_mem.specs.declared.fault.Fault.{Fault}
 use Rattle.mr_mem.specs.declared.fault.Fault.TheVariants as fault
@@ -29,7 +36,7 @@ use Rattle.mr_base.specs.Script.{Done, Ask, ◌>>=◌, Outcome, Broken, Went, Re
 use Rattle.mr_eval.specs.Answers.{seen}
 use Rattle.mr_eval.specs.Environment.{Leaves, Tells}
 use Rattle.mr_eval.specs.MemoryQueries.{Modify, Write, changing, memory_answer, number_bytes, reading_part, replacing}
-use Rattle.mr_eval.specs.Reads.{Read, Seen, accessing, answered, reading, seeing}
+use Rattle.mr_eval.specs.Reads.{Read, Seen, accessing, answered, lending, seeing, touching}
 use Rattle.mr_eval.specs.Stores.{storing}
 use Rattle.mr_eval.specs.Tally.{Tally, seen_of, with_seen}
 use Rattle.mr_eval.specs.World.{World, tally_of, world_of}
@@ -48,18 +55,40 @@ use Rattle.mr_typing.specs.Types.{integer_in}
 
 -- ---- faults that are handed on
 
-pub handed_on : {X S : Type 0} (r : Result X Fault) (f : Fault) (o : Outcome X S) (s : S) → IsErrAnd r (λ e. e ≡ f) → Tells {X = X} (Err f) o s → Tells r o s
-handed_on (Ok x) f o s is h = absurd is
-handed_on (Err e) f o s is h = subst (λ g. Tells (Err g) o s) (sym is) h
+pub handed_on : {X S : Type 0} (r : Result X Fault) (f : Fault) (o : Outcome X S) (s : S) (refused : Option Reached) → IsErrAnd r (λ e. e ≡ f) → Tells {X = X} (Err f) o s refused → Tells r o s refused
+handed_on (Ok x) f o s refused is h = absurd is
+handed_on (Err e) f o s refused is h = subst (λ g. Tells (Err g) o s refused) (sym is) h
+
+-- ---- a read of a number that is refused
+
+module _ (m : Memory) (doing : Reaching) (p : Pointer) (size : ℕ) (s : Seen) (last : Option Reached) (noted : last ≡ Some (reached_by doing p size)) where
+  abbrev read_then : Outcome Bytes Seen → Outcome ℕ Seen
+  read_then o = on o (λ bytes z. answered (reached_by doing p size) (numbered (number_of bytes)) (λ n. Went n z))
+
+  pub number_refused : (r : Reason) → read m p size size ≡ Err r → number_read m doing p size s ≡ Refused (stop_with last r)
+  number_refused r is = ap read_then (answer_refused (reached_by doing p size) (read m p size size) _ (read_speaks m p size size) last noted r is)
+
+  numbered_speaks : (o : Option ℕ) → SpeakResult (numbered o)
+  numbered_speaks None = refl
+  numbered_speaks (Some n) = tt
+
+  -- bytes that are lent, and are no number
+  pub number_missing : (bytes : Bytes) (r : Reason) → read m p size size ≡ Ok bytes → numbered (number_of bytes) ≡ Err r → number_read m doing p size s ≡ Refused (stop_with last r)
+  number_missing bytes r lent is =
+      ap (λ (w : Result Bytes Reason). read_then (answered (reached_by doing p size) w (λ all. Went all (seeing (accessing false true p size) (touching p size) s)))) lent
+      ∙ answer_refused (reached_by doing p size) (numbered (number_of bytes)) _ (numbered_speaks (number_of bytes)) last noted r is
 
 -- ---- a store of a number
 
-pub stored_leaves : (r : Result (Unit {0}) Fault) (m new : Memory) (p : Pointer) (size n : ℕ) (old last : Seen) → IsStored (written m p (number_bytes size n) size) new r
-    → last ≡ seeing (accessing true true p size) [] old → Leaves r (number_written m p size n old) new last
-stored_leaves (Ok u) m new p size n old last h e =
-    ap (λ (w : Result Memory Reason). answered w (λ after. Went after (seeing (accessing true true p size) [] old))) h ∙ ap (λ s. Went new s) (sym e)
-stored_leaves (Err (fault.Undefined r)) m new p size n old last h e = ap (λ (w : Result Memory Reason). answered w (λ after. Went after (seeing (accessing true true p size) [] old))) h
-stored_leaves (Err fault.Memory) m new p size n old last h e = tt
+pub stored_went : (m new : Memory) (p : Pointer) (size n : ℕ) (old s : Seen) → written m p (number_bytes size n) size ≡ Ok new
+    → s ≡ seeing (accessing true true p size) [] old → number_written m p size n old ≡ Went new s
+stored_went m new p size n old s h e =
+    ap (λ (w : Result Memory Reason). answered (reached_by Changes p size) w (λ after. Went after (seeing (accessing true true p size) [] old))) h ∙ ap (λ z. Went new z) (sym e)
+
+pub stored_refused : (m new : Memory) (p : Pointer) (size n : ℕ) (old s : Seen) (f : Fault) (last : Option Reached) → IsStored (written m p (number_bytes size n) size) new (Err f)
+    → last ≡ Some (reached_by Changes p size) → Leaves (Err f) (number_written m p size n old) new s last
+stored_refused m new p size n old s f last h noted =
+    refused_leaves (reached_by Changes p size) f (written m p (number_bytes size n) size) new _ s last (written_speaks m p (number_bytes size n) size) h noted
 
 -- ---- a read and a change in one
 
@@ -67,26 +96,26 @@ module _ (m : Memory) (n : Tally) (p : Pointer) (size : ℕ) (change : ℕ → O
   abbrev behind : ℕ → Seen → Outcome ℕ World
   behind k s = on (replacing m p size k (change k) s) (λ x v. Went x (v.0, with_seen n v.1))
 
-  modify_run : memory_answer (Modify p size change) (m, n) ≡ on (number_read m p size (seen_of n)) behind
-  modify_run = by_read (reading m (Read true p size size) (seen_of n))
+  modify_run : memory_answer (Modify p size change) (m, n) ≡ on (number_read m Changes p size (seen_of n)) behind
+  modify_run = by_read (lending m Changes true p size size (seen_of n))
     where
-      by_number : (o : Option ℕ) (s : Seen) → on (changing m p size change o s) (λ x v. Went x (v.0, with_seen n v.1)) ≡ on (answered (numbered o) (λ k. Went k s)) behind
+      by_number : (o : Option ℕ) (s : Seen) → on (changing m p size change o s) (λ x v. Went x (v.0, with_seen n v.1)) ≡ on (answered (reached_by Changes p size) (numbered o) (λ k. Went k s)) behind
       by_number None s = refl
       by_number (Some k) s = refl
 
-      by_read : (o : Outcome Bytes Seen) → on (on o (λ bytes s. changing m p size change (number_of bytes) s)) (λ x v. Went x (v.0, with_seen n v.1)) ≡ on (on o (λ bytes s. answered (numbered (number_of bytes)) (λ k. Went k s))) behind
+      by_read : (o : Outcome Bytes Seen) → on (on o (λ bytes s. changing m p size change (number_of bytes) s)) (λ x v. Went x (v.0, with_seen n v.1)) ≡ on (on o (λ bytes s. answered (reached_by Changes p size) (numbered (number_of bytes)) (λ k. Went k s))) behind
       by_read (Went bytes s) = by_number (number_of bytes) s
       by_read (Refused r) = refl
       by_read Broken = refl
 
-  pub modify_refused : (r : Reason) → number_read m p size (seen_of n) ≡ Refused r → memory_answer (Modify p size change) (m, n) ≡ Refused r
+  pub modify_refused : (r : Stop) → number_read m Changes p size (seen_of n) ≡ Refused r → memory_answer (Modify p size change) (m, n) ≡ Refused r
   modify_refused r h = modify_run ∙ ap (λ (o : Outcome ℕ Seen). on o behind) h
 
-  pub modify_fault : (f : Fault) (s : Seen) (w : World) → Tells {X = ℕ} (Err f) (number_read m p size (seen_of n)) s → Tells {X = ℕ} (Err f) (memory_answer (Modify p size change) (m, n)) w
-  modify_fault (fault.Undefined r) s w h = modify_refused r h
-  modify_fault fault.Memory s w h = tt
+  pub modify_fault : (f : Fault) (s : Seen) (w : World) (refused : Option Reached) → Tells {X = ℕ} (Err f) (number_read m Changes p size (seen_of n)) s refused → Tells {X = ℕ} (Err f) (memory_answer (Modify p size change) (m, n)) w refused
+  modify_fault (fault.Undefined r) s w refused h = modify_refused (stop_with refused r) h
+  modify_fault fault.Memory s w refused h = tt
 
-  module _ (k : ℕ) (s : Seen) (went : number_read m p size (seen_of n) ≡ Went k s) where
+  module _ (k : ℕ) (s : Seen) (went : number_read m Changes p size (seen_of n) ≡ Went k s) where
     went_on : memory_answer (Modify p size change) (m, n) ≡ behind k s
     went_on = modify_run ∙ ap (λ (o : Outcome ℕ Seen). on o behind) went
 
@@ -103,17 +132,17 @@ module _ (m : Memory) (n : Tally) (p : Pointer) (size : ℕ) (change : ℕ → O
           ∙ ap (λ (o : Option ℕ). on (replacing m p size k o s) (λ x v. Went x (v.0, with_seen n v.1))) some
           ∙ by_write (written m p (number_bytes size new) size)
         where
-          by_write : (r : Result Memory Reason) → on (answered r (λ after. Went k (after, noted))) (λ (x : ℕ) (v : Memory × Seen). Went x (v.0, with_seen n v.1))
-              ≡ on (answered r (λ after. Went after noted)) stored
+          by_write : (r : Result Memory Reason) → on (answered (reached_by Changes p size) r (λ after. Went k (after, noted))) (λ (x : ℕ) (v : Memory × Seen). Went x (v.0, with_seen n v.1))
+              ≡ on (answered (reached_by Changes p size) r (λ after. Went after noted)) stored
           by_write (Ok after) = refl
           by_write (Err r) = refl
 
       pub modify_stored : (after : Memory) (last : Seen) → number_written m p size new s ≡ Went after last → memory_answer (Modify p size change) (m, n) ≡ Went k (after, with_seen n last)
       modify_stored after last h = replaced ∙ ap (λ (o : Outcome Memory Seen). on o stored) h
 
-      pub modify_unstored : (f : Fault) (after : Memory) (last : Seen) (w : World) → Leaves (Err f) (number_written m p size new s) after last → Tells {X = ℕ} (Err f) (memory_answer (Modify p size change) (m, n)) w
-      modify_unstored (fault.Undefined r) after last w h = replaced ∙ ap (λ (o : Outcome Memory Seen). on o stored) h
-      modify_unstored fault.Memory after last w h = tt
+      pub modify_unstored : (f : Fault) (after : Memory) (last : Seen) (w : World) (refused : Option Reached) → Leaves (Err f) (number_written m p size new s) after last refused → Tells {X = ℕ} (Err f) (memory_answer (Modify p size change) (m, n)) w refused
+      modify_unstored (fault.Undefined r) after last w refused h = replaced ∙ ap (λ (o : Outcome Memory Seen). on o stored) h
+      modify_unstored fault.Memory after last w refused h = tt
 
 -- a change that is made where a number is expected
 pub exchange_made : (expected new k : ℕ) → k ≡ expected → exchanged expected new k ≡ Some new
@@ -125,10 +154,10 @@ pub write_went : (s : Scene) (after : Memory) (last : Seen) (p : Pointer) (bytes
     → memory_answer (Write true p bytes align) (world_of s) ≡ Went tt (after, with_seen (tally_of s) last)
 write_went s after last p bytes align h = ap (λ (o : Outcome Memory Seen). on o (λ m l. Went tt (m, with_seen (tally_of s) l))) h
 
-pub write_fault : (s : Scene) (f : Fault) (after : Memory) (last : Seen) (p : Pointer) (bytes : List AbstractByte) (align : ℕ) (w : World) → Leaves (Err f) (storing s.memory true p bytes align (seen s.notes)) after last
-    → Tells {X = Unit {0}} (Err f) (memory_answer (Write true p bytes align) (world_of s)) w
-write_fault s (fault.Undefined r) after last p bytes align w h = ap (λ (o : Outcome Memory Seen). on o (λ m l. Went tt (m, with_seen (tally_of s) l))) h
-write_fault s fault.Memory after last p bytes align w h = tt
+pub write_fault : (s : Scene) (f : Fault) (after : Memory) (last : Seen) (p : Pointer) (bytes : List AbstractByte) (align : ℕ) (w : World) (refused : Option Reached)
+    → Leaves (Err f) (storing s.memory true p bytes align (seen s.notes)) after last refused → Tells {X = Unit {0}} (Err f) (memory_answer (Write true p bytes align) (world_of s)) w refused
+write_fault s (fault.Undefined r) after last p bytes align w refused h = ap (λ (o : Outcome Memory Seen). on o (λ m l. Went tt (m, with_seen (tally_of s) l))) h
+write_fault s fault.Memory after last p bytes align w refused h = tt
 
 -- ---- by intrinsic
 
@@ -174,24 +203,24 @@ module _ (types : List Ty) (picks : List ℕ) (p : Pointer) (int : IntType) wher
     abbrev read_in : Outcome ℕ Seen → Outcome (Option Val) (Shared × Notes)
     read_in o = on o (λ n l. Went (Some (val.Int n)) (record (begun s x).0 { memory = s.memory }, record (begun s x).1 { tally = with_seen (tally_of s) l }))
 
-    operated_load : operated intrinsic.AtomicLoad (val.Ptr p ∷ []) types (Some (ty.Int int)) picks (begun s x) ≡ read_in (number_read s.memory p (int_size int) (seen s.notes))
+    operated_load : operated intrinsic.AtomicLoad (val.Ptr p ∷ []) types (Some (ty.Int int)) picks (begun s x) ≡ read_in (number_read s.memory Loads p (int_size int) (seen s.notes))
     unfolding operated
     operated_load =
-        (λ i. run answer (found (ptr_pointer p i) >>= λ at. memory_part (reading_part (Ask (Read true at (size_int int i) (align_int int i)) (λ bytes. loaded (number_of bytes))))) (begun s x))
-        ∙ by_read (reading s.memory (Read true p (int_size int) (int_size int)) (seen s.notes))
+        (λ i. run answer (found (ptr_pointer p i) >>= λ at. memory_part (reading_part (Ask (Read true at (size_int int i) (align_int int i)) (λ bytes. loaded (over (reached_by Loads at (size_int int i)) InvalidValue) (number_of bytes))))) (begun s x))
+        ∙ by_read (lending s.memory Loads true p (int_size int) (int_size int) (seen s.notes))
       where
-        by_number : (o : Option ℕ) (l : Seen) → run answer (memory_part (reading_part (loaded o))) (record (begun s x).0 { memory = s.memory }, record (begun s x).1 { tally = with_seen (tally_of s) l }) ≡ read_in (answered (numbered o) (λ n. Went n l))
+        by_number : (o : Option ℕ) (l : Seen) → run answer (memory_part (reading_part (loaded (over (reached_by Loads p (int_size int)) InvalidValue) o))) (record (begun s x).0 { memory = s.memory }, record (begun s x).1 { tally = with_seen (tally_of s) l }) ≡ read_in (answered (reached_by Loads p (int_size int)) (numbered o) (λ n. Went n l))
         by_number None l = refl
         by_number (Some n) l = refl
 
         by_read : (o : Outcome Bytes Seen)
-            → on (on (on o (λ bytes l. Went bytes (s.memory, with_seen (tally_of s) l))) (in_shared (begun s x))) (λ bytes u. run answer (memory_part (reading_part (loaded (number_of bytes)))) u)
-            ≡ read_in (on o (λ bytes l. answered (numbered (number_of bytes)) (λ n. Went n l)))
+            → on (on (on o (λ bytes l. Went bytes (s.memory, with_seen (tally_of s) l))) (in_shared (begun s x))) (λ bytes u. run answer (memory_part (reading_part (loaded (over (reached_by Loads p (int_size int)) InvalidValue) (number_of bytes)))) u)
+            ≡ read_in (on o (λ bytes l. answered (reached_by Loads p (int_size int)) (numbered (number_of bytes)) (λ n. Went n l)))
         by_read (Went bytes l) = by_number (number_of bytes) l
         by_read (Refused r) = refl
         by_read Broken = refl
 
-    pub load_went : (n : ℕ) (new : Scene) (out : List ℕ) → world_of new ≡ (s.memory, with_seen (tally_of s) (seen new.notes)) → number_read s.memory p (int_size int) (seen s.notes) ≡ Went n (seen new.notes)
+    pub load_went : (n : ℕ) (new : Scene) (out : List ℕ) → world_of new ≡ (s.memory, with_seen (tally_of s) (seen new.notes)) → number_read s.memory Loads p (int_size int) (seen s.notes) ≡ Went n (seen new.notes)
         → IsDone intrinsic.AtomicLoad (quiet (Some (val.Int n))) (operated intrinsic.AtomicLoad (val.Ptr p ∷ []) types (Some (ty.Int int)) picks (begun s x)) new x out out
     load_went n new out is h = record {
       notes = notes_in new;
@@ -203,7 +232,7 @@ module _ (types : List Ty) (picks : List ℕ) (p : Pointer) (int : IntType) wher
       printed = (refl, refl);
     }
 
-    pub load_fault : (f : Fault) (new : Scene) (out : List ℕ) (l : Seen) → Tells {X = ℕ} (Err f) (number_read s.memory p (int_size int) (seen s.notes)) l
+    pub load_fault : (f : Fault) (new : Scene) (out : List ℕ) (l : Seen) → Tells {X = ℕ} (Err f) (number_read s.memory Loads p (int_size int) (seen s.notes)) l new.notes.refused
         → Does intrinsic.AtomicLoad (Err f) (operated intrinsic.AtomicLoad (val.Ptr p ∷ []) types (Some (ty.Int int)) picks (begun s x)) new x out out
     load_fault (fault.Undefined r) new out l h = (operated_load ∙ ap read_in h, refl)
     load_fault fault.Memory new out l h = tt

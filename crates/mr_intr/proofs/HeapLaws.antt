@@ -2,6 +2,7 @@
 use Rattle.std.proofs.Common.{◌≡◌, ℕ, ◌<◌, ◌+◌, ◌-◌, ◌^◌, refl, subst, ap, ◌∙◌, arith, List, [], ◌∷◌, get_or, Option, Some, None, Bool, true, false}
 use Rattle.std.specs.Prelude.{if◌then◌else◌, nat_lt, slice_get}
 use Rattle.std.proofs.lemmas.Bool.Decides.{nat_tests}
+use Rattle.mr_base.specs.Stops.{plainly}
 use Rattle.mr_ast.specs.declared.program.Intrinsic.TheVariants as intrinsic
 use Rattle.mr_ast.specs.declared.types.Ty.{Ty}
 use Rattle.mr_base.specs.declared.byte.Kind.TheVariants.{Heap}
@@ -36,17 +37,25 @@ use Rattle.mr_mem.proofs.Powers.{one_bit_power}
 module _ (size align : ℕ) where
   abbrev by_tests : Bool → Bool → Operation
   by_tests large power =
-      if large then Undefined SizeTooLarge
-      else (if power then Done (with_pick (Address size align) (λ a. Asks (OfMemory (Allocate Heap size align a)) (λ p. Done (Some (val.Ptr p))))) else Undefined BadAlign)
+      if large then Undefined (plainly SizeTooLarge)
+      else (if power then Done (with_pick (Address size align) (λ a. Asks (OfMemory (Allocate Heap size align a)) (λ p. Done (Some (val.Ptr p))))) else Undefined (plainly BadAlign))
 
   abbrev fault_by : Bool → Bool → Option Reason
   fault_by large power = if large then Some SizeTooLarge else (if power then None else Some BadAlign)
 
   pub allocation_refused : (picks : List ℕ) (w : Shared × Notes) (r : Reason) → allocation_fault size align ≡ Some r
-      → run answer (allocating size align >>= λ plan. plan.go picks) w ≡ Refused r
+      → run answer (allocating size align >>= λ plan. plan.go picks) w ≡ Refused (plainly r)
   allocation_refused picks w r e = by_cases (nat_lt (2 ^ 63 - 1) size) (is_power_of_two align) e
     where
-      by_cases : (large power : Bool) → fault_by large power ≡ Some r → run answer (by_tests large power >>= λ plan. plan.go picks) w ≡ Refused r
+      by_cases : (large power : Bool) → fault_by large power ≡ Some r → run answer (by_tests large power >>= λ plan. plan.go picks) w ≡ Refused (plainly r)
+      by_cases true power h = cc
+      by_cases false true h = absurd (cc)
+      by_cases false false h = cc
+
+  pub allocation_unplanned : (w : Shared × Notes) (r : Reason) → allocation_fault size align ≡ Some r → run answer (allocating size align) w ≡ Refused (plainly r)
+  allocation_unplanned w r e = by_cases (nat_lt (2 ^ 63 - 1) size) (is_power_of_two align) e
+    where
+      by_cases : (large power : Bool) → fault_by large power ≡ Some r → run answer (by_tests large power) w ≡ Refused (plainly r)
       by_cases true power h = cc
       by_cases false true h = absurd (cc)
       by_cases false false h = cc

@@ -9,6 +9,7 @@ pub mod LockSafe
 pub mod NeedLaws
 pub mod OperatedLaws
 pub mod OperationSafe
+pub mod OwnReasons
 pub mod Operates
 pub mod TextLaws
 pub use Rattle.mr_sync.proofs.SoundTables as SyncSoundTables

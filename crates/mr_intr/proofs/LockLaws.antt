@@ -2,6 +2,7 @@
 use Rattle.std.proofs.Common.{◌≡◌, ℕ, ◌<◌, refl, subst, sym, ap, ◌∙◌, arith, List, [], ◌∷◌, length, Option, Some, None, Bool, true, false, Result, Ok, Err, not, ◌==◌}
 use Rattle.std.proofs.lemmas.Option.{same_Some, slice_get_within}
 use Rattle.std.specs.Prelude.{slice_get, if◌then◌else◌}
+use Rattle.mr_base.specs.Stops.{stop_with}
 use Rattle.mr_ast.specs.declared.program.Intrinsic.{Intrinsic}
 use Rattle.mr_ast.specs.declared.program.Intrinsic.TheVariants as intrinsic
 use Rattle.mr_ast.specs.declared.types.Ty.{Ty}
@@ -30,6 +31,8 @@ use Rattle.mr_intr.specs.Operations.{found, operation, releasing, unlocking}
 use Rattle.mr_intr.specs.declared.effect.Effect.{Effect}
 use Rattle.mr_intr.proofs.Arguments.{acquire_takes, join_takes, one_read, release_takes}
 use Rattle.mr_intr.proofs.OperatedLaws.{int_number}
+use Rattle.mr_intr.proofs.OwnReasons.{acquire_own, join_own, release_own}
+use Rattle.mr_eval.proofs.RefusedLaws.{stop_plainly}
 
 -- something done to a lock or a thread
 abbrev pub noted : Event → Effect
@@ -63,16 +66,16 @@ module _ (types : List Ty) (place : Option Ty) (picks : List ℕ) (s : Scene) (x
   join_went out u b new h =
       going_done intrinsic.Join out (refl, refl) s x (Join u) _ b new (operated_join u ∙ ap (gone intrinsic.Join out (refl, refl) s x (Join u)) h)
 
-  pub join_refused : (u : ℕ) (r : Reason) → joined thread u x ≡ Err r → operated intrinsic.Join (val.Int u ∷ []) types place picks (begun s x) ≡ Refused r
-  join_refused u r h = operated_join u ∙ ap (gone intrinsic.Join [] (refl, refl) s x (Join u)) h
+  pub join_refused : (u : ℕ) (r : Reason) → joined thread u x ≡ Err r → operated intrinsic.Join (val.Int u ∷ []) types place picks (begun s x) ≡ Refused (stop_with s.notes.refused r)
+  join_refused u r h = operated_join u ∙ ap (gone intrinsic.Join [] (refl, refl) s x (Join u)) h ∙ ap Refused (stop_plainly s.notes.refused r (join_own thread u x r h))
 
   pub acquire_went : (out : List ℕ) (l : ℕ) (b : Bool) (new : Tables) → acquired thread l x ≡ Ok (b, new)
       → IsDone intrinsic.Acquire (noted (Acquire l)) (operated intrinsic.Acquire (val.Int l ∷ []) types place picks (begun s x)) s new out out
   acquire_went out l b new h =
       going_done intrinsic.Acquire out (refl, refl) s x (Acquire l) _ b new (operated_acquire l ∙ ap (gone intrinsic.Acquire out (refl, refl) s x (Acquire l)) h)
 
-  pub acquire_refused : (l : ℕ) (r : Reason) → acquired thread l x ≡ Err r → operated intrinsic.Acquire (val.Int l ∷ []) types place picks (begun s x) ≡ Refused r
-  acquire_refused l r h = operated_acquire l ∙ ap (gone intrinsic.Acquire [] (refl, refl) s x (Acquire l)) h
+  pub acquire_refused : (l : ℕ) (r : Reason) → acquired thread l x ≡ Err r → operated intrinsic.Acquire (val.Int l ∷ []) types place picks (begun s x) ≡ Refused (stop_with s.notes.refused r)
+  acquire_refused l r h = operated_acquire l ∙ ap (gone intrinsic.Acquire [] (refl, refl) s x (Acquire l)) h ∙ ap Refused (stop_plainly s.notes.refused r (acquire_own thread l x r h))
 
 -- ---- a new lock
 
@@ -133,9 +136,10 @@ module _ (types : List Ty) (place : Option Ty) (picks : List ℕ) (s : Scene) (x
       (λ i. run answer (found (int_number l i) >>= λ n. Asks (Waiting n) Done >>= λ waits. Done (releasing n waits)) (begun s x))
       ∙ released_is (λ b. Done (releasing l b))
 
-  pub release_refused : (to : Option ℕ) (r : Reason) → released thread l to x ≡ Err r → operated intrinsic.Release (val.Int l ∷ []) types place picks (begun s x) ≡ Refused r
+  pub release_refused : (to : Option ℕ) (r : Reason) → released thread l to x ≡ Err r → operated intrinsic.Release (val.Int l ∷ []) types place picks (begun s x) ≡ Refused (stop_with s.notes.refused r)
   release_refused to r h =
       operated_release ∙ ap (told (λ b. (releasing l b).go picks)) (holding_err thread (slice_get x.holders l) (handed l to x) (any_waits l x) r h)
+      ∙ ap Refused (stop_plainly s.notes.refused r (release_own thread l to x r h))
 
   -- what the picks are, by who holds the lock and whether a thread waits for it
   pub lawful_picks : AreLawful intrinsic.Release (val.Int l ∷ []) types place picks s x → ReleasesTo thread l x picks

@@ -1,5 +1,5 @@
 -- What an intrinsic needs before it acts.
-use Rattle.std.proofs.Common.{◌≡◌, ◌≢◌, ℕ, refl, subst, sym, ap, ◌∙◌, List, [], ◌∷◌, Option, Some, None, Bool, true, false, Result, Ok}
+use Rattle.std.proofs.Common.{◌≡◌, ◌≢◌, ℕ, refl, subst, sym, ap, ◌∙◌, List, [], ◌∷◌, Option, Some, None, Bool, true, false, Result, Ok, Err}
 use Rattle.std.specs.Prelude.{slice_get}
 use Rattle.mr_ast.specs.declared.program.Intrinsic.{Intrinsic}
 use Rattle.mr_ast.specs.declared.program.Intrinsic.TheVariants as intrinsic
@@ -12,7 +12,8 @@ use Rattle.mr_mem.specs.Memory.{Memory}
 use Rattle.mr_sched.specs.declared.schedule.Ask.TheVariants.{Address, Waiter}
 use Rattle.mr_value.specs.declared.val.Val.{Val}
 use Rattle.mr_value.specs.declared.val.Val.TheVariants as val
-use Rattle.mr_base.specs.Script.{Done, Undefined, IllFormed, Ask as Asks, ◌>>=◌, Outcome, Went, on, run}
+use Rattle.mr_base.specs.Script.{Done, Undefined, IllFormed, Ask as Asks, ◌>>=◌, Outcome, Refused, Went, on, run}
+use Rattle.mr_base.specs.Stops.{plainly, speaks}
 use Rattle.mr_sync.specs.Tables.{Tables, any_waits, holding}
 use Rattle.mr_plan.specs.Machine.{CreatesNothing, Plan}
 use Rattle.mr_plan.specs.Notes.{Notes}
@@ -25,9 +26,10 @@ use Rattle.mr_intr.specs.Operations.{Operation, found, operation, releasing}
 use Rattle.mr_intr.specs.declared.need.Creation.TheVariants.{Lock, Nothing}
 use Rattle.mr_intr.specs.declared.need.Needs.{Needs}
 use Rattle.mr_intr.proofs.Arguments.{acquire_takes, assume_takes, atomic_load_takes, atomic_store_takes, create_lock_takes, deallocate_takes, exchange_takes, fetch_takes, join_takes}
-use Rattle.mr_intr.proofs.HeapLaws.{allocation_allowed, allocation_planned}
+use Rattle.mr_intr.proofs.HeapLaws.{allocation_allowed, allocation_planned, allocation_unplanned}
 use Rattle.mr_intr.proofs.LockLaws.{release_read}
 use Rattle.mr_intr.proofs.OperatedLaws.{int_number}
+use Rattle.mr_intr.proofs.OwnReasons.{allocation_own, hold_own}
 
 -- ---- an address
 
@@ -38,6 +40,15 @@ allocation_asks args size align can first second types place w needs is none =
     let allowed = allocation_allowed size align none in
     subst (λ (n : Needs). IsPlanned n (run answer (operation intrinsic.Allocate args types place) w)) (sym is)
     (record { plan = _; left = w; went = ap (λ (o : Operation). run answer o w) (allocation_planned args size align can first second types place ∙ allowed.is); creates = refl; asks = refl })
+
+-- a size or an alignment for which there can be none
+pub allocation_stops : (args : List Val) (size align : ℕ) (can : CanTake intrinsic.Allocate args) → slice_get args 0 ≡ Some (val.Int size) → slice_get args 1 ≡ Some (val.Int align)
+    → (types : List Ty) (place : Option Ty) (w : Shared × Notes) (r : Reason) → allocation_fault size align ≡ Some r
+    → (run answer (operation intrinsic.Allocate args types place) w ≡ Refused (plainly r)) × (speaks r ≡ false)
+allocation_stops args size align can first second types place w r is = (
+  ap (λ (o : Operation). run answer o w) (allocation_planned args size align can first second types place) ∙ allocation_unplanned size align w r is,
+  allocation_own size align r is,
+)
 
 -- ---- a waiter
 
@@ -62,6 +73,11 @@ module _ (args : List Val) (can : CanTake intrinsic.Release args) (l : ℕ) (rea
   release_asks_nothing needs is h =
       subst (λ (k : Needs). IsPlanned k (run answer (operation intrinsic.Release args types place) (shared_of m x, n))) (sym is)
       (record { plan = _; left = _; went = released_plan ∙ ap asked h; creates = refl; asks = refl })
+
+  -- a lock that the thread doesn't hold
+  pub release_stops : (r : Reason) → holding thread (slice_get x.holders l) (any_waits l x) ≡ Err r
+      → (run answer (operation intrinsic.Release args types place) (shared_of m x, n) ≡ Refused (plainly r)) × (speaks r ≡ false)
+  release_stops r h = (released_plan ∙ ap asked h, hold_own thread (slice_get x.holders l) (any_waits l x) r h)
 
 -- ---- nothing
 

@@ -1,11 +1,11 @@
 -- What an intrinsic comes to on arguments that are known, and what the code that asks memory alone leaves.
 use Rattle.std.proofs.Common.{◌≡◌, ℕ, refl, subst, sym, ap, List, [], ◌∷◌, Option, Some, None, Bool, Err}
+use Rattle.mr_base.specs.Stops.{Stop, stop_with}
 use Rattle.mr_ast.specs.declared.program.Intrinsic.{Intrinsic}
 use Rattle.mr_ast.specs.declared.program.Intrinsic.TheVariants as intrinsic
 use Rattle.mr_ast.specs.declared.types.Ty.{Ty}
 use Rattle.mr_base.specs.declared.byte.Kind.TheVariants.{Heap}
 use Rattle.mr_base.specs.declared.byte.Pointer.{Pointer}
-use Rattle.mr_base.specs.declared.reason.Reason.{Reason}
 use Rattle.mr_base.specs.declared.thread.Event.TheVariants.{Quiet}
 use Rattle.mr_value.specs.declared.val.Val.{Val, out-Val}
 use Rattle.mr_value.specs.declared.val.Val.TheVariants as val
@@ -51,12 +51,12 @@ module _ (op : Intrinsic) (q : MemoryQuery) (give : MemoryReply q → Option Val
   pub memory_went : (new : Scene) (out : List ℕ) (y : MemoryReply q) → memory_answer q (world_of s) ≡ Went y (world_of new) → Prints op [] out out → IsDone op (quiet (give y)) (asked q give (begun s x)) new x out out
   memory_went new out y h prints = record { notes = notes_in new; went = ap comes h; tally = refl; event = refl; going = refl; woken = refl; printed = prints }
 
-  pub memory_refused : (r : Reason) → memory_answer q (world_of s) ≡ Refused r → asked q give (begun s x) ≡ Refused r
+  pub memory_refused : (r : Stop) → memory_answer q (world_of s) ≡ Refused r → asked q give (begun s x) ≡ Refused r
   memory_refused r h = ap comes h
 
   -- what the code returned of it
-  pub memory_fault : (new : Scene) (out : List ℕ) (f : Fault) → Tells {X = MemoryReply q} (Err f) (memory_answer q (world_of s)) (world_of new) → Does op (Err f) (asked q give (begun s x)) new x out out
-  memory_fault new out (fault.Undefined r) h = (memory_refused r h, refl)
+  pub memory_fault : (new : Scene) (out : List ℕ) (f : Fault) → Tells {X = MemoryReply q} (Err f) (memory_answer q (world_of s)) (world_of new) new.notes.refused → Does op (Err f) (asked q give (begun s x)) new x out out
+  memory_fault new out (fault.Undefined r) h = (memory_refused (stop_with new.notes.refused r) h, refl)
   memory_fault new out fault.Memory h = tt
 
 -- the same effect, or fault, of the same run

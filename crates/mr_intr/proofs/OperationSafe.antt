@@ -3,6 +3,9 @@ use Rattle.std.proofs.Common.{◌≡◌, ℕ, ◌<◌, ◌*◌, ◌^◌, refl, s
 use Rattle.std.specs.Prelude.{◌||◌, slice_get, if◌then◌else◌, is_some, nat_lt, ◌-◌, ◌++◌}
 use Rattle.std.specs.List.{list_all}
 use Rattle.std.proofs.lemmas.Bool.{and_parts}
+use Rattle.mr_base.specs.Stops.{Stop}
+use Rattle.mr_eval.specs.Typed.{meaningless}
+use Rattle.mr_base.specs.Stops.{plainly}
 use Rattle.mr_ast.specs.Integers.{int_size}
 use Rattle.mr_ast.specs.declared.types.IntType.{IntType}
 use Rattle.mr_ast.specs.declared.types.IntType.TheVariants.{U64}
@@ -152,7 +155,7 @@ module _ (s : Shared) (t c : ℕ) (sound : IsSoundTables (tables_of s)) (enabled
           memory_does result (Ask (Allocate Heap size align a) (λ p. Done (Some (val.Ptr p)))) (λ p good. subst (λ r. FitsPlace r (Some (val.Ptr p))) (sym raw) (val.Ptr p, refl, has_raw p)) (rooms, entails_same rooms, tt, λ p. entails_same rooms)
       with_pick_safe size align (a ∷ b ∷ picks) e = absurd (omega arith)
 
-      by_tests : (size align : ℕ) (large power : Bool) → Planned result (if large then Undefined SizeTooLarge else (if power then Done (with_pick (Address size align) (λ a. Ask (OfMemory (Allocate Heap size align a)) (λ p. Done (Some (val.Ptr p))))) else Undefined BadAlign))
+      by_tests : (size align : ℕ) (large power : Bool) → Planned result (if large then Undefined (plainly SizeTooLarge) else (if power then Done (with_pick (Address size align) (λ a. Ask (OfMemory (Allocate Heap size align a)) (λ p. Done (Some (val.Ptr p))))) else Undefined (plainly BadAlign)))
       by_tests size align true power = tt
       by_tests size align false true =
           λ picks legal.
@@ -183,13 +186,13 @@ module _ (s : Shared) (t c : ℕ) (sound : IsSoundTables (tables_of s)) (enabled
       let p = raw_there a x is_a shape_a in
       λ picks legal.
       found_then (AfterDone (Some b)) (pointer_in (out-Val x)) p.0 _ p.1
-      (memory_does (Some b) (reading_part (Ask (Read true p.0 (size_of b) (align_of b)) (λ bytes. loaded (number_of bytes))))
-      (reading_safe (FitsPlace (Some b)) (Ask (Read true p.0 (size_of b) (align_of b)) (λ bytes. loaded (number_of bytes))) (λ bytes good. by_number bytes good (number_of bytes) refl))
-      (quiet_keeps rooms (reading_part (Ask (Read true p.0 (size_of b) (align_of b)) (λ bytes. loaded (number_of bytes)))) (reading_quiet (Ask (Read true p.0 (size_of b) (align_of b)) (λ bytes. loaded (number_of bytes))))))
+      (memory_does (Some b) (reading_part (Ask (Read true p.0 (size_of b) (align_of b)) (λ bytes. loaded (meaningless b p.0) (number_of bytes))))
+      (reading_safe (FitsPlace (Some b)) (Ask (Read true p.0 (size_of b) (align_of b)) (λ bytes. loaded (meaningless b p.0) (number_of bytes))) (λ bytes good. by_number (meaningless b p.0) bytes good (number_of bytes) refl))
+      (quiet_keeps rooms (reading_part (Ask (Read true p.0 (size_of b) (align_of b)) (λ bytes. loaded (meaningless b p.0) (number_of bytes)))) (reading_quiet (Ask (Read true p.0 (size_of b) (align_of b)) (λ bytes. loaded (meaningless b p.0) (number_of bytes))))))
     where
-      by_number : (bytes : List AbstractByte) → length bytes ≡ size_of b → (o : Option ℕ) → number_of bytes ≡ o → IsSafe (FitsPlace (Some b)) (loaded o)
-      by_number bytes good None e = tt
-      by_number bytes good (Some n) e = (val.Int n, refl, fits_int b n int (subst (λ k. n < 2 ^ (8 * k)) good (number_fits bytes n e)))
+      by_number : (stop : Stop) (bytes : List AbstractByte) → length bytes ≡ size_of b → (o : Option ℕ) → number_of bytes ≡ o → IsSafe (FitsPlace (Some b)) (loaded stop o)
+      by_number stop bytes good None e = tt
+      by_number stop bytes good (Some n) e = (val.Int n, refl, fits_int b n int (subst (λ k. n < 2 ^ (8 * k)) good (number_fits bytes n e)))
 
   -- a read and a change in one
   modify_safe : (a b : Ty) (x : Val) (change : ℕ → Option ℕ) → is_raw a ≡ true → has_shape a x ≡ true → is_integer b ≡ true → After (AfterDone (Some b)) (run answer (modify x b change) v)

@@ -13,6 +13,7 @@ use Rattle.mr_value.specs.declared.val.Val.{Val}
 use Rattle.mr_value.specs.Shape.{has_shape}
 use Rattle.mr_typing.specs.Intrinsics.{fits_intrinsic}
 use Rattle.mr_base.specs.Script.{Outcome, Refused, Went, run, ◌>>=◌}
+use Rattle.mr_base.specs.Stops.{stop_with}
 use Rattle.mr_eval.specs.World.{tally_of}
 use Rattle.mr_eval.specs.declared.scene.Scene.{Scene}
 use Rattle.mr_eval.specs.Shapes.{HaveShapes}
@@ -115,12 +116,12 @@ pub record IsDone (op : Intrinsic) (e : Effect) (o : Outcome (Option Val) (Share
   pub woken : notes.woken ≡ listed e.woken
   pub printed : Prints op notes.printed old new
 
--- What the code returned and left is what the run comes to, unless memory ran out. A refusal appends nothing to the
--- output.
+-- What the code returned and left is what the run comes to, unless memory ran out. A stop speaks of the bytes that were
+-- refused last, where its reason speaks of bytes; it appends nothing to the output.
 abbrev pub Does : Intrinsic → Result Effect Fault → Outcome (Option Val) (Shared × Notes) → Scene → Tables → List ℕ
     → List ℕ → Type 0
 Does op (Ok e) o s x old new = IsDone op e o s x old new
-Does op (Err (fault.Undefined r)) o s x old new = (o ≡ Refused r) × (new ≡ old)
+Does op (Err (fault.Undefined r)) o s x old new = (o ≡ Refused (stop_with s.notes.refused r)) × (new ≡ old)
 Does op (Err fault.Memory) o s x old new = Unit {0}
 
 -- a value of the shape of the place's type exactly where there is a place

@@ -1,7 +1,8 @@
 -- What the code tells of what an intrinsic needs before it acts.
-use Rattle.std.specs.Prelude.{◌≡◌, List, [], ◌∷◌, Option, None, Some, Result, Ok, Err}
+use Rattle.std.specs.Prelude.{◌≡◌, false, List, [], ◌∷◌, Option, None, Some, Result, Ok, Err}
 use Rattle.mr_base.specs.declared.reason.Reason.{Reason}
 use Rattle.mr_sched.specs.declared.schedule.Ask.{Ask}
+use Rattle.mr_base.specs.Stops.{plainly, speaks}
 use Rattle.mr_base.specs.Script.{Outcome, Refused, Went}
 use Rattle.mr_plan.specs.Machine.{Creation as Created, CreatesLock, CreatesNothing, CreatesThread, Plan}
 use Rattle.mr_plan.specs.Notes.{Notes}
@@ -30,7 +31,7 @@ pub record IsPlanned (n : Needs) (o : Outcome (Plan (StepScript Given)) (Shared 
   pub creates : plan.creates ≡ creation_of n.creates
   pub asks : plan.asks ≡ asks_of n.ask
 
--- what the code told is what the run comes to: a plan, or the reason for which none is made
+-- what the code told is what the run comes to: a plan, or the reason for which none is made, which speaks of no bytes
 abbrev pub TellsNeeds : Result Needs Reason → Outcome (Plan (StepScript Given)) (Shared × Notes) → Type 0
 TellsNeeds (Ok n) o = IsPlanned n o
-TellsNeeds (Err r) o = o ≡ Refused r
+TellsNeeds (Err r) o = (o ≡ Refused (plainly r)) × (speaks r ≡ false)

@@ -2,13 +2,15 @@
 -- stand with the step of a thread. (MiniRust, lang: intrinsics.)
 use Rattle.std.specs.Prelude.{ℕ, ◌-◌, ◌^◌, Bool, true, false, if◌then◌else◌, ◌==◌, nat_lt, List, [], ◌∷◌, Option, None}
 use Rattle.std.specs.Prelude.{Some, count_ones, bit_and, bit_or, bit_xor, ◌+ℤ◌, ◌-ℤ◌}
+use Rattle.mr_base.specs.Stops.{plainly}
 use Rattle.mr_ast.specs.declared.program.Intrinsic.{Intrinsic}
 use Rattle.mr_ast.specs.declared.program.Intrinsic.TheVariants as intrinsic
 use Rattle.mr_ast.specs.declared.types.IntType.{IntType}
 use Rattle.mr_ast.specs.declared.types.Ty.{Ty, out-Ty}
 use Rattle.mr_base.specs.declared.byte.Kind.TheVariants.{Heap}
 use Rattle.mr_base.specs.declared.byte.Pointer.{Pointer}
-use Rattle.mr_base.specs.declared.reason.Reason.TheVariants.{AssumeFalse, BadAlign, InvalidValue, SizeTooLarge}
+use Rattle.mr_base.specs.declared.reason.Reason.TheVariants.{AssumeFalse, BadAlign, SizeTooLarge}
+use Rattle.mr_base.specs.Stops.{Stop}
 use Rattle.mr_intops.specs.Numbers.{bits_for, value_of}
 use Rattle.mr_layout.specs.Sizes.{align_of, size_of}
 use Rattle.mr_sched.specs.declared.schedule.Ask.{Ask}
@@ -22,6 +24,7 @@ use Rattle.mr_base.specs.Script.{Done, Undefined, IllFormed, Ask as Asks, ◌>>=
 use Rattle.mr_eval.specs.MemoryQueries.{Allocate, Free, Modify, Write, reading_part}
 use Rattle.mr_eval.specs.Operators.{or_ill_formed, pointer_in}
 use Rattle.mr_eval.specs.Reads.{Read, ReadScript}
+use Rattle.mr_eval.specs.Typed.{meaningless}
 use Rattle.mr_plan.specs.Machine.{CreatesLock, CreatesNothing, Plan}
 use Rattle.mr_plan.specs.Queries.{Await, NewLock, OfMemory, Print, StepScript, TryLock, Unlock, Waiting, memory_part}
 use Rattle.mr_intr.specs.Texts.{spaced, texts_of}
@@ -75,7 +78,7 @@ pointer v = found (pointer_in (out-Val v))
 
 -- `assume`: 124 where it is false
 abbrev pub assuming : Bool → StepScript Result
-assuming b = if b then Done None else Undefined AssumeFalse
+assuming b = if b then Done None else Undefined (plainly AssumeFalse)
 
 -- it does nothing where the argument is true, and else the program is undefined
 abbrev pub assume : Val → Operation
@@ -95,11 +98,11 @@ is_power_of_two n = count_ones n == 1
 -- `allocate`: 125 above 2^63 - 1, 126 where the alignment is no power of two; then an address
 abbrev pub allocating : ℕ → ℕ → Operation
 allocating size align =
-    if nat_lt (2 ^ 63 - 1) size then Undefined SizeTooLarge
+    if nat_lt (2 ^ 63 - 1) size then Undefined (plainly SizeTooLarge)
     else (if is_power_of_two align
     then Done
     (with_pick (Address size align) (λ a. Asks (OfMemory (Allocate Heap size align a)) (λ p. Done (Some (val.Ptr p)))))
-    else Undefined BadAlign)
+    else Undefined (plainly BadAlign))
 
 -- an allocation on the heap of a size and an alignment, at an address that is picked
 abbrev pub allocate : Val → Val → Operation
@@ -154,18 +157,18 @@ abbrev pub atomic_store : Val → Ty → Val → Operation
 atomic_store at t v =
     instant (pointer at >>= λ p. Asks (OfMemory (Write true p (encoding_of t v) (align_of t))) (λ _. Done None))
 
--- the number that bytes are: 107 where they are none
-abbrev pub loaded : Option ℕ → ReadScript Result
-loaded None = Undefined InvalidValue
-loaded (Some n) = Done (Some (val.Int n))
+-- the number that bytes are, or this stop where they are none
+abbrev pub loaded : Stop → Option ℕ → ReadScript Result
+loaded stop None = Undefined stop
+loaded stop (Some n) = Done (Some (val.Int n))
 
--- `atomic_load`, of an integer type
+-- `atomic_load`, of an integer type: 107 where the bytes are no number
 abbrev pub atomic_load : Val → Ty → Operation
 atomic_load at t =
     instant
     (pointer at
     >>= λ p. memory_part
-    (reading_part (Asks (Read true p (size_of t) (align_of t)) (λ bytes. loaded (number_of bytes)))))
+    (reading_part (Asks (Read true p (size_of t) (align_of t)) (λ bytes. loaded (meaningless t p) (number_of bytes)))))
 
 -- a read and a change in one; what was read is given
 abbrev pub modify : Val → Ty → (ℕ → Option ℕ) → StepScript Result

@@ -17,7 +17,7 @@ ghost use Rattle.mr_intr.specs.Operations.{exchanged, fetched};
 use crate::args::{bits_at, integer_of, pointer_at};
 use crate::effect::Effect;
 use mr_ast::{IntType, Intrinsic, Ty};
-use mr_base::{Pointer, Reason};
+use mr_base::{Pointer, Reaching, Reason};
 use mr_eval::{Fault, Notes, Scene, store_bytes};
 use mr_intops::{ArithOp, arith};
 use mr_layout::{align, int_bytes};
@@ -40,19 +40,32 @@ fn number_in(view: &View<'_>, int: IntType) -> Result<u128, Reason>
 }
 
 // The atomic load of an integer.
-fn load_number(m: &Memory, notes: &mut Notes, p: Pointer, int: IntType) -> Result<u128, Fault>
-    ensures told { Tells result (number_read m.now p (int_size int) (seen notes.old)) (seen notes.new) }
+fn load_number(
+    m: &Memory,
+    notes: &mut Notes,
+    doing: Reaching,
+    p: Pointer,
+    int: IntType,
+) -> Result<u128, Fault>
+    ensures told { Tells result (number_read m.now doing p (int_size int) (seen notes.old))
+        (seen notes.new) notes.new.refused }
     ensures small { IfOk result (λ n. n < 2 ^ (8 * int_size int)) }
 {
     let size = int_bytes(int);
     match m.load(p, size, size) {
-        Err(reason) => Err(Fault::Undefined(reason)),
+        Err(reason) => {
+            notes.refuse(doing, p, size);
+            Err(Fault::Undefined(reason))
+        }
         Ok(view) => {
             notes.touch(p, size)?;
             notes.access(false, true, p, size)?;
             match number_in(&view, int) {
                 Ok(n) => Ok(n),
-                Err(reason) => Err(Fault::Undefined(reason)),
+                Err(reason) => {
+                    notes.refuse(doing, p, size);
+                    Err(Fault::Undefined(reason))
+                }
             }
         }
     }
@@ -69,13 +82,20 @@ fn store_number(
     n: u128,
 ) -> Result<(), Fault>
     requires { n < 2 ^ (8 * int_size int) }
-    ensures { Leaves result (number_written m.old p (int_size int) n (seen notes.old)) m.new (seen notes.new) }
+    ensures { Leaves result (number_written m.old p (int_size int) n (seen notes.old)) m.new
+        (seen notes.new) notes.new.refused }
 {
     let size = int_bytes(int);
     let mut bytes = Vec::new(alloc);
     encode(alloc, &Val::Int(n), &Ty::Int(int), &mut bytes)?;
     notes.access(true, true, p, size)?;
-    m.store(p, bytes.as_slice(), size)
+    match m.store(p, bytes.as_slice(), size) {
+        Ok(()) => Ok(()),
+        Err(fault) => {
+            notes.refuse(Reaching::Changes, p, size);
+            Err(fault)
+        }
+    }
 }
 
 // The number at a place, which another one replaces where it is the one that was expected.
@@ -89,10 +109,10 @@ fn exchange(
 ) -> Result<u128, Fault>
     requires { new < 2 ^ (8 * int_size int) }
     ensures told { Tells result (memory_answer (Modify p (int_size int) (exchanged expected new)) (world_of s.old))
-        (world_of s.new) }
+        (world_of s.new) s.new.notes.refused }
     ensures small { IfOk result (λ n. n < 2 ^ (8 * int_size int)) }
 {
-    let found = load_number(&s.memory, &mut s.notes, p, int)?;
+    let found = load_number(&s.memory, &mut s.notes, Reaching::Changes, p, int)?;
     if found == expected {
         store_number(alloc, &mut s.memory, &mut s.notes, p, int, new)?;
     }
@@ -142,10 +162,10 @@ fn replace(
     requires op { IsFetch op }
     requires by { by < 2 ^ (8 * int_size int) }
     ensures told { Tells result (memory_answer (Modify p (int_size int) (fetched op int by)) (world_of s.old))
-        (world_of s.new) }
+        (world_of s.new) s.new.notes.refused }
     ensures small { IfOk result (λ n. n < 2 ^ (8 * int_size int)) }
 {
-    let found = load_number(&s.memory, &mut s.notes, p, int)?;
+    let found = load_number(&s.memory, &mut s.notes, Reaching::Changes, p, int)?;
     let new = fetched(op, int, by, found);
     store_number(alloc, &mut s.memory, &mut s.notes, p, int, new)?;
     Ok(found)
@@ -161,6 +181,7 @@ pub fn atomic_load(args: &[Val], place: Option<&Ty>, s: &mut Scene) -> Result<Ef
     let n = load_number(
         &s.memory,
         &mut s.notes,
+        Reaching::Loads,
         pointer_at(args, 0),
         integer_of(place),
     )?;

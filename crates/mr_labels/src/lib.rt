@@ -22,14 +22,13 @@ mod allocations;
 mod index;
 mod lookup;
 mod names;
-mod reached;
 mod rows;
 mod step;
 mod words;
 
 pub use allocations::Allocations;
+pub use mr_base::{Reached, Reaching};
 pub use names::{Name, made_names};
-pub use reached::{Reached, Reaching};
 pub use rows::{Allocation, push_rows, start_rows};
 pub use std::alloc::AllocError as OutOfMemory;
 pub use step::{Rest, Stand, ToldStep};

@@ -7,9 +7,9 @@ use Rattle.mr_event.specs.Footprint.{Footprint}
 use Rattle.mr_labels.specs.Table.{named}
 use Rattle.mr_labels.specs.declared.names.Name.{Name}
 use Rattle.mr_labels.specs.declared.names.Name.TheVariants as name
-use Rattle.mr_labels.specs.declared.reached.Reached.{Reached}
-use Rattle.mr_labels.specs.declared.reached.Reaching.{Reaching}
-use Rattle.mr_labels.specs.declared.reached.Reaching.TheVariants.{Changes, Frees, Loads, Moves, Refers, Stores}
+use Rattle.mr_base.specs.declared.reached.Reached.{Reached}
+use Rattle.mr_base.specs.declared.reached.Reaching.{Reaching}
+use Rattle.mr_base.specs.declared.reached.Reaching.TheVariants.{Changes, Frees, Loads, Moves, Refers, Stores}
 use Rattle.mr_labels.specs.declared.rows.Allocation.{Allocation}
 use Rattle.mr_listing.specs.Accesses.{bytes_text}
 use Rattle.mr_listing.specs.Leaks.{freed_by}

@@ -6,7 +6,10 @@ use Rattle.mr_base.specs.declared.byte.Kind.{Kind}
 use Rattle.mr_base.specs.declared.byte.Pointer.{Pointer}
 use Rattle.mr_base.specs.declared.reason.Reason.{Reason}
 use Rattle.mr_base.specs.declared.reason.Reason.TheVariants.{DanglingReference}
+use Rattle.mr_base.specs.declared.reached.Reaching.{Reaching}
+use Rattle.mr_base.specs.declared.reached.Reaching.TheVariants.{Changes, Frees, Loads, Moves, Refers, Stores}
 use Rattle.mr_base.specs.Script.{Outcome, Went, on}
+use Rattle.mr_base.specs.Stops.{reached_by}
 use Rattle.mr_mem.specs.Memory.{Memory, checked, freed, read, written}
 use Rattle.mr_eval.specs.Reads.{Check, Read, Refer, Seen, accessing, answered, named, seeing, touching}
 use Rattle.mr_eval.specs.ValueNumbers.{number_of}
@@ -36,24 +39,24 @@ abbrev pub with_freed : AllocId → Tally → Tally
 with_freed id n = record n { freed = n.freed ++ id ∷ [] }
 
 -- what a range check, a load, a store and the end of an allocation come to
-abbrev pub checks : {X : Type 0} → Pointer → ℕ → Memory → Tally → Result X Reason → Outcome (Unit {0}) (Memory × Tally)
-checks p len m n r = on (answered r (λ _. Went tt (seeing [] (touching p len) (seen_of n)))) (λ y s. Went y (m, with_seen n s))
+abbrev pub checks : {X : Type 0} → Reaching → Pointer → ℕ → Memory → Tally → Result X Reason → Outcome (Unit {0}) (Memory × Tally)
+checks doing p len m n r = on (answered (reached_by doing p len) r (λ _. Went tt (seeing [] (touching p len) (seen_of n)))) (λ y s. Went y (m, with_seen n s))
 
 abbrev pub loads : Bool → Pointer → ℕ → Memory → Tally → Result (List AbstractByte) Reason → Outcome (List AbstractByte) (Memory × Tally)
-loads atomic p len m n r = on (answered r (λ bytes. Went bytes (seeing (accessing false atomic p len) (touching p len) (seen_of n)))) (λ y s. Went y (m, with_seen n s))
+loads atomic p len m n r = on (answered (reached_by Loads p len) r (λ bytes. Went bytes (seeing (accessing false atomic p len) (touching p len) (seen_of n)))) (λ y s. Went y (m, with_seen n s))
 
 abbrev pub stores : Bool → Pointer → List AbstractByte → Tally → Result Memory Reason → Outcome (Unit {0}) (Memory × Tally)
-stores atomic p ys n r = on (answered r (λ new. Went new (seeing (accessing true atomic p (length ys)) (touching p (length ys)) (seen_of n)))) (λ v s. Went tt (v, with_seen n s))
+stores atomic p ys n r = on (answered (reached_by Stores p (length ys)) r (λ new. Went new (seeing (accessing true atomic p (length ys)) (touching p (length ys)) (seen_of n)))) (λ v s. Went tt (v, with_seen n s))
 
-abbrev pub ends : Tally → Result (AllocId × Memory) Reason → Outcome (Unit {0}) (Memory × Tally)
-ends n r = answered r (λ f. Went tt (f.1, with_freed f.0 n))
+abbrev pub ends : Pointer → ℕ → Tally → Result (AllocId × Memory) Reason → Outcome (Unit {0}) (Memory × Tally)
+ends p size n r = answered (reached_by Frees p size) r (λ f. Went tt (f.1, with_freed f.0 n))
 
 module _ (p : Pointer) (len : ℕ) (m t : Memory) (n n' : Tally) where
-  pub check_went : (x : Unit {0}) → memory_answer (Reading (Check p len)) (m, n) ≡ Went x (t, n') → HasResult (checked m p len) (checks p len m n) x (t, n')
-  check_went x h = has_result (checked m p len) (checks p len m n) x (t, n') (λ e k. cc) h
+  pub check_went : (x : Unit {0}) → memory_answer (Reading (Check p len)) (m, n) ≡ Went x (t, n') → HasResult (checked m p len) (checks Moves p len m n) x (t, n')
+  check_went x h = has_result (checked m p len) (checks Moves p len m n) x (t, n') (λ e k. cc) h
 
-  pub refer_went : (x : Unit {0}) → memory_answer (Reading (Refer p len)) (m, n) ≡ Went x (t, n') → HasResult (checked m p len) (λ r. checks p len m n (named DanglingReference r)) x (t, n')
-  refer_went x h = has_result (checked m p len) (λ r. checks p len m n (named DanglingReference r)) x (t, n') (λ e k. cc) h
+  pub refer_went : (x : Unit {0}) → memory_answer (Reading (Refer p len)) (m, n) ≡ Went x (t, n') → HasResult (checked m p len) (λ r. checks Refers p len m n (named DanglingReference r)) x (t, n')
+  refer_went x h = has_result (checked m p len) (λ r. checks Refers p len m n (named DanglingReference r)) x (t, n') (λ e k. cc) h
 
 pub load_went : (atomic : Bool) (p : Pointer) (len align : ℕ) (m t : Memory) (n n' : Tally) (x : List AbstractByte)
     → memory_answer (Reading (Read atomic p len align)) (m, n) ≡ Went x (t, n') → HasResult (read m p len align) (loads atomic p len m n) x (t, n')
@@ -64,8 +67,8 @@ pub store_went : (atomic : Bool) (p : Pointer) (ys : List AbstractByte) (align :
 store_went atomic p ys align m t n n' x h = has_result (written m p ys align) (stores atomic p ys n) x (t, n') (λ e k. cc) h
 
 pub free_went : (p : Pointer) (kind : Kind) (size align : ℕ) (m t : Memory) (n n' : Tally) (x : Unit {0})
-    → memory_answer (Free p kind size align) (m, n) ≡ Went x (t, n') → HasResult (freed m p kind size align) (ends n) x (t, n')
-free_went p kind size align m t n n' x h = has_result (freed m p kind size align) (ends n) x (t, n') (λ e k. cc) h
+    → memory_answer (Free p kind size align) (m, n) ≡ Went x (t, n') → HasResult (freed m p kind size align) (ends p size n) x (t, n')
+free_went p kind size align m t n n' x h = has_result (freed m p kind size align) (ends p size n) x (t, n') (λ e k. cc) h
 
 -- ---- modifications
 
@@ -89,7 +92,7 @@ module _ (p : Pointer) (size : ℕ) (m : Memory) (n : Tally) where
   placing o = on o (λ x v. Went x (v.0, with_seen n v.1))
 
   written_went : (old k : ℕ) (r : Result Memory Reason) (x : ℕ) (t : Memory) (n' : Tally)
-      → placing (answered r (λ after. Went old (after, seeing (accessing true true p size) [] loaded))) ≡ Went x (t, n')
+      → placing (answered (reached_by Changes p size) r (λ after. Went old (after, seeing (accessing true true p size) [] loaded))) ≡ Went x (t, n')
       → (old ≡ x) × (r ≡ Ok t) × (with_change p size (with_load true p size n) ≡ n')
   written_went old k (Ok after) x t n' h = (same_value h, ap (λ w. Ok w.0) (same_state h), ap (λ w. w.1) (same_state h))
   written_went old k (Err r) x t n' h = absurd (cc)
@@ -110,7 +113,7 @@ module _ (p : Pointer) (size : ℕ) (m : Memory) (n : Tally) where
         record { bytes = bytes; is_read = r; is_number = e ∙ ap (λ k. Some k) w.0; replaces = subst (λ k. Replaces p size m n (change k) t n') w.0 w.1 }
 
     read_went : (r : Result (List AbstractByte) Reason) (x : ℕ) (t : Memory) (n' : Tally) → read m p size size ≡ r
-        → placing (on (answered r (λ bytes. Went bytes loaded)) (λ bytes s. changing m p size change (number_of bytes) s)) ≡ Went x (t, n') → Modifies p size change m n x t n'
+        → placing (on (answered (reached_by Changes p size) r (λ bytes. Went bytes loaded)) (λ bytes s. changing m p size change (number_of bytes) s)) ≡ Went x (t, n') → Modifies p size change m n x t n'
     read_went (Ok bytes) x t n' e h = changed_went bytes (number_of bytes) x t n' e refl h
     read_went (Err r) x t n' e h = absurd (cc)
 
@@ -123,11 +126,11 @@ module _ (p : Pointer) (size : ℕ) (m : Memory) (n : Tally) where
         ap (λ o. placing (replacing m p size x o loaded)) none ∙ ap (λ v. Went x (v, with_load true p size n)) same ∙ ap (λ k. Went x (t, k)) noted
     replaces_goes x new t n' (changes k some wrote noted) =
         ap (λ o. placing (replacing m p size x o loaded)) some
-        ∙ ap (λ r. placing (answered r (λ after. Went x (after, seeing (accessing true true p size) [] loaded)))) wrote
+        ∙ ap (λ r. placing (answered (reached_by Changes p size) r (λ after. Went x (after, seeing (accessing true true p size) [] loaded)))) wrote
         ∙ ap (λ k. Went x (t, k)) noted
 
     pub modify_goes : (x : ℕ) (t : Memory) (n' : Tally) → Modifies p size change m n x t n' → memory_answer (Modify p size change) (m, n) ≡ Went x (t, n')
     modify_goes x t n' w =
-        ap (λ r. placing (on (answered r (λ bytes. Went bytes loaded)) (λ bytes s. changing m p size change (number_of bytes) s))) w.is_read
+        ap (λ r. placing (on (answered (reached_by Changes p size) r (λ bytes. Went bytes loaded)) (λ bytes s. changing m p size change (number_of bytes) s))) w.is_read
         ∙ ap (λ o. placing (changing m p size change o loaded)) w.is_number
         ∙ replaces_goes x (change x) t n' w.replaces

@@ -4,6 +4,7 @@ use Rattle.std.proofs.Common.{◌≡◌, ℕ, ◌+◌, ◌-◌, ◌<◌, ◌≤�
 use Rattle.std.proofs.lemmas.Bool.{cases_lt}
 use Rattle.std.proofs.lemmas.List.Elements.{Contains-append_left, Contains-append_right, Contains-push}
 use Rattle.std.specs.FinMap as fin
+use Rattle.mr_base.specs.declared.reached.Reaching.TheVariants.{Moves, Refers}
 use Rattle.mr_base.specs.declared.byte.AbstractByte.{AbstractByte}
 use Rattle.mr_base.specs.declared.byte.AllocId.{AllocId}
 use Rattle.mr_base.specs.declared.byte.Kind.{Kind}
@@ -69,7 +70,7 @@ module _ (p : Pointer) (len : ℕ) where
       at_outcome a.goes (λ y w. MemoryAgrees m m' w.1 → FollowsIn (Reading (Check p len)) m m' w.0 n w.1 y)
       (λ agrees.
       let g = passes_too m m' n a.result a.is agrees in
-      record { after = m'; goes = ap (checks p len m' n) g.gives; moves = λ o. inl (refl, refl) })
+      record { after = m'; goes = ap (checks Moves p len m' n) g.gives; moves = λ o. inl (refl, refl) })
       agree
 
   refer_local : IsLocalQuery (Reading (Refer p len))
@@ -78,7 +79,7 @@ module _ (p : Pointer) (len : ℕ) where
       at_outcome a.goes (λ y w. MemoryAgrees m m' w.1 → FollowsIn (Reading (Refer p len)) m m' w.0 n w.1 y)
       (λ agrees.
       let g = passes_too m m' n a.result a.is agrees in
-      record { after = m'; goes = ap (λ r. checks p len m' n (named DanglingReference r)) g.gives; moves = λ o. inl (refl, refl) })
+      record { after = m'; goes = ap (λ r. checks Refers p len m' n (named DanglingReference r)) g.gives; moves = λ o. inl (refl, refl) })
       agree
 
 module _ (atomic : Bool) (p : Pointer) (len align : ℕ) where
@@ -260,7 +261,7 @@ module _ (p : Pointer) (kind : Kind) (size align : ℕ) where
       let l = like_one a (fin.get m' id) (ap header_of (sym there) ∙ agrees (HeaderOf id) (inr has)) in
       record {
         after = fin.insert m' id (dead l.other);
-        goes = ap (ends n) (frees_too m' p kind size align id l.other prov l.is (sym (free_fault_like a l.other p.addr kind size align l.like) ∙ allowed));
+        goes = ap (ends p size n) (frees_too m' p kind size align id l.other prov l.is (sym (free_fault_like a l.other p.addr kind size align l.like) ∙ allowed));
         moves = insert_moves m m' id (dead a) (dead l.other) (with_freed id n)
             (inr (like_header (dead a) (dead l.other) (dead_like a l.other l.like), inr has))
             (λ k. inl (ap (λ o. byte_at o k) (sym there), ap (λ o. byte_at o k) (sym l.is)));
@@ -270,7 +271,7 @@ module _ (p : Pointer) (kind : Kind) (size align : ℕ) where
   free_local m m' t n n' x h agree =
       let a = free_went p kind size align m t n n' x h in
       let f = frees m p kind size align a.result a.is in
-      at_outcome (ap (λ r. ends n (Ok r)) f.is ∙ a.goes) (λ y w. MemoryAgrees m m' w.1 → FollowsIn (Free p kind size align) m m' w.0 n w.1 y)
+      at_outcome (ap (λ r. ends p size n (Ok r)) f.is ∙ a.goes) (λ y w. MemoryAgrees m m' w.1 → FollowsIn (Free p kind size align) m m' w.0 n w.1 y)
       (free_follows m m' n f.id f.alloc f.prov f.there f.allowed)
       agree
 

@@ -9,7 +9,7 @@ use Rattle.mr_plan.specs.Runs.{Config, after_bare, stepped_from, machine_step}
 
 completed_bare : {L : Type 0} (step : Language L) (c : Config L) (b : Bare L) → (after_bare step c b).completed ≤ c.completed + 1
 completed_bare step c (Completed n s) = omega arith
-completed_bare step c (Stops v) = omega arith
+completed_bare step c (Stops v about) = omega arith
 completed_bare step c IllFormedStep = omega arith
 
 completed_from : {L : Type 0} (step : Language L) (c : Config L) (t : ℕ) (picks : List ℕ) (s : Option (State L))

@@ -3,6 +3,7 @@
 use Rattle.std.specs.Prelude.{ℕ, List, [], ◌∷◌, ◌++◌, slice_set, Option, None, Some, slice_get, if◌then◌else◌}
 use Rattle.mr_base.specs.declared.reason.Verdict.{Verdict}
 use Rattle.mr_base.specs.declared.reason.Verdict.TheVariants as verdict
+use Rattle.mr_base.specs.declared.reached.Reached.{Reached}
 use Rattle.mr_mem.specs.Memory.{leaks}
 use Rattle.mr_sched.specs.declared.schedule.Ask.{Ask}
 use Rattle.mr_base.specs.Script.{◌>>=◌, Outcome, Went, Refused, Broken, run}
@@ -42,10 +43,11 @@ pub record State (L : Type 0) : Type 0 where
   pub shared : Shared
   pub threads : List (Thread L)
 
--- what a bare step comes to: it completes, with notes and a state; or it stops with a verdict; or it has no rule
+-- what a bare step comes to: it completes, with notes and a state; or it stops with a verdict, and may speak of bytes;
+-- or it has no rule
 pub data Bare (L : Type 0) : Type 0 where
   Completed : Notes → State L → Bare L
-  Stops : Verdict → Bare L
+  Stops : Verdict → Option Reached → Bare L
   IllFormedStep : Bare L
 
 -- a thread with its own state that made so many allocations
@@ -65,13 +67,13 @@ settle s t (Goes own started) w =
       shared = w.0;
       threads = slice_set s.threads t (thread_of own w.1.tally.count) ++ started_threads started;
     })
-settle s t Exits w = Stops (if leaks w.0.memory then verdict.Leak else verdict.Exit)
-settle s t Aborts w = Stops verdict.Abort
+settle s t Exits w = Stops (if leaks w.0.memory then verdict.Leak else verdict.Exit) None
+settle s t Aborts w = Stops verdict.Abort None
 
 -- the same of an outcome, which may be that the program is undefined or that there is no rule
 abbrev pub settled : {L : Type 0} → State L → ℕ → Outcome (Flow L) (Shared × Notes) → Bare L
 settled s t (Went f w) = settle s t f w
-settled s t (Refused r) = Stops (verdict.Undefined r)
+settled s t (Refused stop) = Stops (verdict.Undefined stop.reason) stop.about
 settled s t Broken = IllFormedStep
 
 -- the step of a thread with these picks

@@ -6,6 +6,7 @@ use Rattle.mr_base.specs.declared.thread.Status.{Status}
 use Rattle.mr_base.specs.declared.thread.Event.{Event}
 use Rattle.mr_base.specs.declared.thread.Event.TheVariants.{CreateLock, Acquire, Release, Spawn, Join}
 use Rattle.mr_mem.specs.Memory.{Memory}
+use Rattle.mr_base.specs.Stops.{plainly}
 use Rattle.mr_base.specs.Script.{Script, Done, Undefined, IllFormed, Ask, Outcome, Went, Refused, Broken, on}
 use Rattle.mr_sync.specs.Tables.{Tables, acquired, any_waits, created, ended, holding, joined, released, spawned, waits}
 use Rattle.mr_eval.specs.MemoryQueries.{MemoryQuery, MemoryReply, MemoryScript, memory_answer}
@@ -78,12 +79,12 @@ woke (Some u) n = record n { woken = n.woken ++ u ∷ [] }
 
 -- a call that may block the thread is noted in either case
 abbrev pub going : Event → Result (Bool × Tables) Reason → Shared → Notes → Outcome Bool (Shared × Notes)
-going e (Err r) s n = Refused r
+going e (Err r) s n = Refused (plainly r)
 going e (Ok p) s n = Went p.0 (with_tables s p.1, if p.0 then note e n else blocked e n)
 
 -- what only looks at the tables
 abbrev pub telling : Event → Result Bool Reason → Shared → Notes → Outcome Bool (Shared × Notes)
-telling e (Err r) s n = Refused r
+telling e (Err r) s n = Refused (plainly r)
 telling e (Ok b) s n = Went b (s, note e n)
 
 -- a waiter is named exactly where a thread waits, and none where none does
@@ -93,7 +94,7 @@ fits l (Some u) s = waits l u s
 
 -- a lock given back; a waiter that is named is woken
 abbrev pub giving : ℕ → Option ℕ → Result Tables Reason → Shared → Notes → Outcome (Unit {0}) (Shared × Notes)
-giving l to (Err r) s n = Refused r
+giving l to (Err r) s n = Refused (plainly r)
 giving l to (Ok x) s n =
     if fits l to (tables_of s) then Went tt (with_tables s x, woke to (note (Release l) n)) else Broken
 

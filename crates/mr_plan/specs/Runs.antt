@@ -3,6 +3,7 @@ use Rattle.std.specs.Prelude.{◌≡◌, ℕ, ◌+◌, Bool, true, false, not, �
 use Rattle.std.specs.Prelude.{Some, if◌then◌else◌}
 use Rattle.mr_base.specs.Accesses.{some_race}
 use Rattle.mr_base.specs.declared.reason.Reason.TheVariants.{DataRace}
+use Rattle.mr_base.specs.declared.reached.Reached.{Reached}
 use Rattle.mr_base.specs.declared.reason.Verdict.{Verdict}
 use Rattle.mr_base.specs.declared.reason.Verdict.TheVariants as verdict
 use Rattle.mr_event.specs.Footprint.{Footprint}
@@ -20,13 +21,15 @@ pub record Printed : Type 0 where
   pub thread : ℕ
   pub text : List ℕ
 
--- Where a machine stands: its state, gone once a step itself stopped; prints; last footprint; completed steps; verdict.
+-- Where a machine stands: its state, gone once a step itself stopped; prints; last footprint; completed steps; verdict;
+-- and the bytes that a step speaks of which is undefined.
 pub record Config (L : Type 0) : Type 0 where
   pub state : Option (State L)
   pub output : List Printed
   pub last : Option Footprint
   pub completed : ℕ
   pub verdict : Verdict
+  pub about : Option Reached
 
 -- a text that a thread printed
 abbrev pub printed_by : ℕ → List ℕ → Printed
@@ -56,8 +59,9 @@ after_bare step c (Completed n s) = record {
   last = Some (foot_in step n s);
   completed = c.completed + 1;
   verdict = verdict_after c.last (foot_in step n s) s;
+  about = c.about;
 }
-after_bare step c (Stops v) = record c { state = None; verdict = v }
+after_bare step c (Stops v about) = record c { state = None; verdict = v; about = about }
 after_bare step c IllFormedStep = record c { state = None }
 
 -- the same behind the step of an entry, from a state; without a state nothing changes

@@ -2,6 +2,9 @@
 use Rattle.std.proofs.Common.{◌≡◌, ℕ, ◌*◌, ◌^◌, refl, sym, subst, List, [], ◌∷◌, Bool, true, false, ◌&&◌, Option, Some, None, Result, Ok, Err}
 use Rattle.std.specs.Prelude.{◌==◌, ℤ, pos, negsuc, if◌then◌else◌, int_div, int_le, int_lt, int_rem, is_some, nat_lt, slice_get, unsigned_abs, ◌+ℤ◌}
 use Rattle.std.specs.Ordering.{int_eq}
+use Rattle.mr_eval.specs.Typed.{meaningless}
+use Rattle.mr_base.specs.Stops.{Stop}
+use Rattle.mr_base.specs.Stops.{plainly}
 use Rattle.mr_ast.specs.Integers.{bits_of, fits, least_of}
 use Rattle.mr_ast.specs.declared.expr.BinaryOp.{BinaryOp}
 use Rattle.mr_ast.specs.declared.expr.Place.{Place}
@@ -67,7 +70,7 @@ found_then : {A B : Type 0} (o : Option A) (f : A → ReadScript B) → ((a : A)
 found_then None f k = tt
 found_then (Some x) f k = k x
 
-undefined_reads : {A : Type 0} (r : Reason) (o : Option A) → IsCalm r → Reads (or_undefined r o)
+undefined_reads : {A : Type 0} (r : Stop) (o : Option A) → IsCalm r.reason → Reads (or_undefined r o)
 undefined_reads r None h = h
 undefined_reads r (Some x) h = tt
 
@@ -78,7 +81,7 @@ reason_reads (Err r) h = h
 moved_reads : (p : Pointer) (n : ℤ) → Reads (moved p n)
 moved_reads p n = by (int_eq n (pos 0)) (int_le (pos 0) (pos p.addr +ℤ n) && int_lt (pos p.addr +ℤ n) (pos (2 ^ 64)))
   where
-    by : (none within : Bool) → Reads {A = Pointer} (if none then Done p else (if within then Ask (Check (lower p n (pos p.addr +ℤ n)) (unsigned_abs n)) (λ _. Done (at_address p (unsigned_abs (pos p.addr +ℤ n)))) else Undefined OffsetOverflow))
+    by : (none within : Bool) → Reads {A = Pointer} (if none then Done p else (if within then Ask (Check (lower p n (pos p.addr +ℤ n)) (unsigned_abs n)) (λ _. Done (at_address p (unsigned_abs (pos p.addr +ℤ n)))) else Undefined (plainly OffsetOverflow)))
     by true within = tt
     by false true = λ x. tt
     by false false = refl
@@ -87,14 +90,14 @@ referring_reads : (ts : Targets) → Reads (referring ts)
 referring_reads [] = tt
 referring_reads (t ∷ ts) = λ x. referring_reads ts
 
-meant_reads : (r : Reason) (t : Ty) (bytes : Bytes) → IsCalm r → Reads (meant r t bytes)
+meant_reads : (r : Stop) (t : Ty) (bytes : Bytes) → IsCalm r.reason → Reads (meant r t bytes)
 meant_reads r t bytes h =
     reads_then (or_undefined r (decoded t bytes)) (referred t) (undefined_reads r (decoded t bytes) h)
     (λ v. reads_then (referring (targets_of t v)) (λ _. Done v) (referring_reads (targets_of t v)) (λ x. tt))
 
 pub loading_reads : (t : Ty) (p : Pointer) → Reads (loading t p)
 unfolding loading
-loading_reads t p = λ bytes. meant_reads InvalidValue t bytes refl
+loading_reads t p = λ bytes. meant_reads (meaningless t p) t bytes refl
 
 pub stored_reads : (o : Option (Option Pointer)) → Reads (stored o)
 stored_reads None = tt
@@ -104,7 +107,7 @@ stored_reads (Some (Some p)) = tt
 element_reads : (p : Pointer) (i : ℕ) (e : ℕ × ℕ) → Reads (element_at p i e)
 element_reads p i e = by (nat_lt i e.0)
   where
-    by : (b : Bool) → Reads {A = Pointer} (if b then moved p (pos (i * e.1)) else Undefined IndexOutOfRange)
+    by : (b : Bool) → Reads {A = Pointer} (if b then moved p (pos (i * e.1)) else Undefined (plainly IndexOutOfRange))
     by true = moved_reads p (pos (i * e.1))
     by false = refl
 
@@ -123,8 +126,8 @@ transmuted_reads : (to : Ty) (from : Option Ty) (v : Val) → Reads (transmuted 
 transmuted_reads to None v = tt
 transmuted_reads to (Some from) v = by (has_shape from v)
   where
-    by : (b : Bool) → Reads {A = Val} (if b then meant TransmuteInvalid to (encoding_of from v) else IllFormed)
-    by true = meant_reads TransmuteInvalid to (encoding_of from v) refl
+    by : (b : Bool) → Reads {A = Val} (if b then meant (plainly TransmuteInvalid) to (encoding_of from v) else IllFormed)
+    by true = meant_reads (plainly TransmuteInvalid) to (encoding_of from v) refl
     by false = tt
 
 -- ---- discriminants
@@ -141,7 +144,7 @@ case_reads n (c ∷ cases) rest p h k = by (case_reads n cases rest p h.1 k) (sa
     by later false = later
 
 numbered_reads : (int : IntType) (p : Pointer) → Reads (numbered int p)
-numbered_reads int p = λ bytes. reads_then (or_undefined InvalidDiscriminant (number_of bytes)) _ (undefined_reads InvalidDiscriminant (number_of bytes) refl) (λ n. tt)
+numbered_reads int p = λ bytes. reads_then (or_undefined (plainly InvalidDiscriminant) (number_of bytes)) _ (undefined_reads (plainly InvalidDiscriminant) (number_of bytes) refl) (λ n. tt)
 
 search_reads : (t : Tree) (p : Pointer) → Reads (searched t p)
 search_reads = tree_induction SearchReads (record {

@@ -1,6 +1,7 @@
 -- No step itself stops with a data race.
 use Rattle.std.proofs.Common.{◌≡◌, ◌≢◌, ℕ, refl, sym, subst, List, Bool, true, false, Option, Some, None}
 use Rattle.std.specs.Prelude.{if◌then◌else◌, slice_get}
+use Rattle.mr_base.specs.declared.reached.Reached.{Reached}
 use Rattle.mr_base.specs.declared.reason.Reason.{Reason}
 use Rattle.mr_base.specs.declared.reason.Reason.TheVariants.{DataRace}
 use Rattle.mr_base.specs.declared.reason.Verdict.{Verdict}
@@ -22,7 +23,7 @@ CalmVerdict _ = Unit {0}
 
 abbrev CalmBare : Bare Own → Type 0
 CalmBare (Completed n s) = Unit {0}
-CalmBare (Stops v) = CalmVerdict v
+CalmBare (Stops v about) = CalmVerdict v
 CalmBare IllFormedStep = Unit {0}
 
 exit_calm : (s : Shared) → CalmVerdict (if leaks s.memory then verdict.Leak else verdict.Exit)
@@ -52,5 +53,5 @@ bare_calm look s t picks = by (slice_get s.threads t)
         (run_calm answer answer_calm Anything (own_step look th.own >>= λ plan. plan.go picks) (s.shared, start_notes t th.count) (whole_steps look th.own picks))
 
 -- NO STEP ITSELF STOPS WITH A DATA RACE
-pub never_raced : (look : Look) (s : State Own) (t : ℕ) (picks : List ℕ) → bare (thread_step look) s t picks ≢ Stops (verdict.Undefined DataRace)
-never_raced look s t picks e = calm_is_other DataRace (subst CalmBare e (bare_calm look s t picks)) refl
+pub never_raced : (look : Look) (s : State Own) (t : ℕ) (picks : List ℕ) (about : Option Reached) → bare (thread_step look) s t picks ≢ Stops (verdict.Undefined DataRace) about
+never_raced look s t picks about e = calm_is_other DataRace (subst CalmBare e (bare_calm look s t picks)) refl

@@ -1,6 +1,8 @@
 -- No step of a thread is refused with a data race.
 use Rattle.std.proofs.Common.{◌≡◌, ℕ, refl, List, [], ◌∷◌, ◌-◌, ◌^◌, Bool, true, false, Option, Some, None}
 use Rattle.std.specs.Prelude.{if◌then◌else◌, nat_lt, slice_get}
+use Rattle.mr_eval.specs.Typed.{meaningless}
+use Rattle.mr_base.specs.Stops.{plainly}
 use Rattle.mr_ast.specs.declared.program.Function.{Function}
 use Rattle.mr_ast.specs.declared.program.Intrinsic.{Intrinsic}
 use Rattle.mr_ast.specs.declared.program.Intrinsic.TheVariants as intrinsic
@@ -88,7 +90,7 @@ allocating_operates size align = by (nat_lt (2 ^ 63 - 1) size) (is_power_of_two 
     at_address (a ∷ []) = λ p. tt
     at_address (a ∷ b ∷ picks) = tt
 
-    by : (large power : Bool) → Operates (if large then Undefined SizeTooLarge else (if power then Done (with_pick (Address size align) (at_pick size align)) else Undefined BadAlign))
+    by : (large power : Bool) → Operates (if large then Undefined (plainly SizeTooLarge) else (if power then Done (with_pick (Address size align) (at_pick size align)) else Undefined (plainly BadAlign)))
     by true power = refl
     by false true = at_address
     by false false = refl
@@ -99,9 +101,9 @@ releasing_steps l true (u ∷ []) = λ x. tt
 releasing_steps l true (u ∷ v ∷ picks) = tt
 releasing_steps l false picks = λ x. tt
 
-loaded_steps : (o : Option ℕ) → Steps (memory_part (reading_part (loaded o)))
-loaded_steps None = refl
-loaded_steps (Some n) = tt
+loaded_steps : (t : Ty) (p : Pointer) (o : Option ℕ) → Steps (memory_part (reading_part (loaded (meaningless t p) o)))
+loaded_steps t p None = refl
+loaded_steps t p (Some n) = tt
 
 modify_steps : (at : Val) (t : Ty) (change : ℕ → Option ℕ) → Steps (modify at t change)
 modify_steps at t change = found_then Anything (pointer_in (out-Val at)) _ (λ p n. tt)
@@ -123,7 +125,7 @@ operation_operates = of_operation Operates (record {
   acquires = λ lock. instantly _ (found_then Anything (number_in (out-Val lock)) _ (λ l x. tt));
   releases = λ lock. found_then PlanSteps (number_in (out-Val lock)) _ (λ l waits. releasing_steps l waits);
   stores = λ at t v. instantly _ (found_then Anything (pointer_in (out-Val at)) _ (λ p x. tt));
-  loads = λ at t. instantly _ (found_then Anything (pointer_in (out-Val at)) _ (λ p bytes. loaded_steps (number_of bytes)));
+  loads = λ at t. instantly _ (found_then Anything (pointer_in (out-Val at)) _ (λ p bytes. loaded_steps t p (number_of bytes)));
   exchanges = λ at t old new. instantly _ (found_then Anything (number_in (out-Val old)) _
       (λ a. found_then Anything (number_in (out-Val new)) _ (λ b. modify_steps at t (exchanged a b))));
   fetches = fetch_operates;
@@ -164,7 +166,7 @@ module _ (own : Own) (d : DueDo) (o : Operands) where
   types_plans number fn argument None = tt
   types_plans number fn argument (Some types) = by (same_types thread_types types)
     where
-      by : (b : Bool) → Plans (if b then Done (record { creates = CreatesThread; asks = storage_asks types; go = start own d o number fn argument }) else Undefined SignatureMismatch)
+      by : (b : Bool) → Plans (if b then Done (record { creates = CreatesThread; asks = storage_asks types; go = start own d o number fn argument }) else Undefined (plainly SignatureMismatch))
       by true = start_steps number fn argument
       by false = refl
 

@@ -80,7 +80,7 @@ alone_append (f ∷ fs) gs h k =
 alone_bare : (look : Look) (s : State Own) (t : ℕ) (picks : List ℕ) → t ≡ 0 → (b : Bare Own) → bare (thread_step look) s t picks ≡ b → are_alone (foot_of_bare (thread_step look) b) ≡ true
 alone_bare look s t picks first (Completed n u) is =
     ap (λ (b : Bool). b && true) (same_is n.tally.thread 0 (thread_noted look s u t picks n is ∙ first))
-alone_bare look s t picks first (Stops v) is = refl
+alone_bare look s t picks first (Stops v about) is = refl
 alone_bare look s t picks first IllFormedStep is = refl
 
 alone_from : (look : Look) (t : ℕ) (picks : List ℕ) → t ≡ 0 → (o : Option (State Own)) → are_alone (foot_from (thread_step look) t picks o) ≡ true

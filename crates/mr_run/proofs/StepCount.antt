@@ -25,7 +25,7 @@ Counts look es = (c : Config Own) → AreLegal (thread_step look) c es → lengt
 count_bare : (look : Look) (c : Config Own) (es : List Entry) → Counts look es → (b : Bare Own) → AreLegal (thread_step look) (after_bare (thread_step look) c b) es
     → suc (length es) ≤ length (foot_of_bare (thread_step look) b ++ feet (thread_step look) (after_bare (thread_step look) c b) es) + 1
 count_bare look c es counts (Completed n s) legal = let rest = counts (after_bare (thread_step look) c (Completed n s)) legal in omega (arith, rest)
-count_bare look c es counts (Stops v) legal = let none = ap length (none_legal (thread_step look) (after_bare (thread_step look) c (Stops v)) es refl legal) in omega (arith, none)
+count_bare look c es counts (Stops v about) legal = let none = ap length (none_legal (thread_step look) (after_bare (thread_step look) c (Stops v about)) es refl legal) in omega (arith, none)
 count_bare look c es counts IllFormedStep legal = let none = ap length (none_legal (thread_step look) (after_bare (thread_step look) c IllFormedStep) es refl legal) in omega (arith, none)
 
 count_state : (look : Look) (c : Config Own) (e : Entry) (es : List Entry) → Counts look es → AreLegal (thread_step look) c (e ∷ es) → (o : Option (State Own)) → c.state ≡ o

@@ -1,6 +1,7 @@
 -- Picks, races and short runs, and what the definitions say of them, computed.
 use Rattle.std.proofs.Common.{◌≡◌, ℕ, suc, true, false, List, [], ◌∷◌, length, replicate, Option, Some, None, codes, refl, ap, ◌∙◌}
 use Rattle.std.specs.Fmt.{digits}
+use Rattle.mr_base.specs.Stops.{plainly}
 use Rattle.mr_base.specs.Accesses.{some_race}
 use Rattle.mr_base.specs.declared.access.Access.{Access}
 use Rattle.mr_base.specs.declared.byte.AbstractByte.{AbstractByte}
@@ -250,7 +251,7 @@ unfolding look_of returning sites.site_of
 returning_site =
     ap (λ (o : Option Rule). if none_broken ((((elim o as (λ _. Rules) [ Some broken ↦ broken ∷ [] | None ↦ [] ] ++ []) ++ []) ++ []) ++ []) then Some returning_here else None) unit_ok
 
-returning_step : own_step returning_look returning_main ≡ Done (record { creates = CreatesNothing; asks = []; go = λ picks. Undefined reason.MainReturned })
+returning_step : own_step returning_look returning_main ≡ Done (record { creates = CreatesNothing; asks = []; go = λ picks. Undefined (plainly reason.MainReturned) })
 unfolding own_step operations.next_do steps.frame_plan sites.due_of
 returning_step =
     ap (λ o. step_due returning_look returning_main (do_at o)) returning_site

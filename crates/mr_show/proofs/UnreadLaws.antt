@@ -22,7 +22,7 @@ use Rattle.mr_answer.proofs.StatusLaws.{at_most_one}
 use Rattle.mr_fill.specs.Told.{texts_of}
 use Rattle.mr_fill.specs.declared.told.FilledText.{FilledText}
 use Rattle.mr_listing.specs.Seen.{Seen}
-use Rattle.mr_labels.specs.declared.reached.Reached.{Reached}
+use Rattle.mr_base.specs.declared.reached.Reached.{Reached}
 use Rattle.mr_replay.specs.Spoken.{spoken_of}
 use Rattle.mr_show.specs.declared.form.Part.{Part}
 use Rattle.mr_show.specs.declared.form.Saying.{Saying}

@@ -16,7 +16,7 @@ use Rattle.mr_input.specs.Inputs.{denoted, schedule_in}
 use Rattle.mr_answer.specs.Answers.{unless_broken}
 use Rattle.mr_answer.specs.Report.{report_status}
 use Rattle.mr_replay.specs.Spoken.{spoken_of}
-use Rattle.mr_labels.specs.declared.reached.Reached.{Reached}
+use Rattle.mr_base.specs.declared.reached.Reached.{Reached}
 use Rattle.mr_labels.specs.declared.rows.Allocation.{Allocation}
 use Rattle.mr_labels.specs.declared.step.ToldStep.{ToldStep}
 use Rattle.mr_labels.specs.Table.{start_rows, step_rows}

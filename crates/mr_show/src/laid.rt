@@ -4,10 +4,9 @@ ghost use Rattle.mr_clocks.specs.Tracked.{Tracks};
 ghost use Rattle.mr_grammar.specs.Parsing.{parsed};
 ghost use Rattle.mr_input.specs.Answer.{IsStatus, seen as written_as};
 ghost use Rattle.mr_replay.specs.Spoken.{spoken_of};
-ghost use Rattle.mr_listing.specs.Seen.{Seen, seen};
+ghost use Rattle.mr_listing.specs.Seen.{seen};
 ghost use Rattle.mr_listing.specs.Spoken.{spoken_line};
 ghost use Rattle.mr_run.specs.Runs.{IsRun};
-ghost use Rattle.mr_start.specs.Runs.{Legal, run_of};
 ghost use Rattle.mr_show.specs.Answer.{part_answer, part_text};
 ghost use Rattle.mr_listing.specs.Steps.{steps_text};
 ghost use Rattle.mr_show.specs.Gathered.{gathered};
@@ -17,13 +16,12 @@ use crate::form::Part;
 use crate::placed::places_of;
 use crate::sentences::push_reason;
 use mr_answer::{lines_of, status_of};
-use mr_base::Verdict;
 use mr_clocks::Analysis;
 use mr_input::Written;
 use mr_labels::{Allocation, Allocations, Reached, ToldStep};
 use mr_listing::{Shown, push_spoken, races, steps};
 use mr_picture::{order_text, picture};
-use mr_replay::{rests, spoken};
+use mr_replay::rests;
 use mr_run::Clocked;
 use mr_sched::Schedule;
 use mr_step::Machine;
@@ -69,32 +67,7 @@ pub(crate) fn laid(
         verdict: machine.verdict(),
         rests: rests.as_slice(),
     };
-    let spoken = part_spoken(alloc, part, p, w, machine.verdict())?;
-    written(alloc, part, spoken, &shown, kept.order())
-}
-
-// What the run of a program under a legal schedule speaks of, which has this verdict, where the text of a part tells it.
-fn part_spoken(
-    alloc: Global,
-    part: Part,
-    p: &Checked,
-    w: &Schedule,
-    verdict: Verdict,
-) -> Result<Option<Reached>, AllocError>
-    requires few { length w.now.entries ≤ 2 ^ 22 }
-    requires legal { Legal p.now w.now }
-    requires verdict { (run_of p.now w.now).verdict ≡ verdict }
-    ensures { IfOk result (λ o. (s : Seen) → part_answer part o s ≡ part_answer part (spoken_of p.now w.now) s) }
-{
-    match part {
-        Part::Steps { from: _, to: _ } => spoken(alloc, p, w, verdict),
-        Part::Races => Ok(None),
-        Part::Order {
-            first: _,
-            second: _,
-        } => Ok(None),
-        Part::Picture { asked: _ } => Ok(None),
-    }
+    written(alloc, part, machine.about(), &shown, kept.order())
 }
 
 // The text of a part of what is shown, with the status of the run.

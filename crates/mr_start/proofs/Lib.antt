@@ -15,4 +15,3 @@ pub use Rattle.mr_frame.proofs.StorageSteps as FrameStorageSteps
 pub use Rattle.mr_thread.proofs.BareKept as ThreadBareKept
 pub use Rattle.mr_thread.proofs.IntrEachOperation
 pub use Rattle.mr_thread.proofs.RunSound as ThreadRunSound
-pub use Rattle.mr_thread.proofs.ThreadRooms as ThreadThreadRooms

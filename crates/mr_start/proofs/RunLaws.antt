@@ -16,7 +16,7 @@ use Rattle.mr_start.specs.Start.{look_of, start_config, start_fault}
 
 foot_bare : {L : Type 0} (step : Language L) (c : Config L) (b : Bare L) → (after_bare step c b).completed ≡ c.completed + length (foot_of_bare step b)
 foot_bare step c (Completed n s) = refl
-foot_bare step c (Stops v) = omega arith
+foot_bare step c (Stops v about) = omega arith
 foot_bare step c IllFormedStep = omega arith
 
 foot_step : {L : Type 0} (step : Language L) (c : Config L) (t : ℕ) (picks : List ℕ) (s : Option (State L))

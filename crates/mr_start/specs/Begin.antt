@@ -96,6 +96,7 @@ standing m stack count = record {
   last = None;
   completed = 0;
   verdict = Running;
+  about = None;
 }
 
 -- what each step of it looks up

@@ -8,6 +8,7 @@ pub use Rattle.mr_eval.specs.MemoryQueries as EvalMemoryQueries
 pub use Rattle.mr_eval.specs.Operators as EvalOperators
 pub use Rattle.mr_eval.specs.Reads as EvalReads
 pub use Rattle.mr_eval.specs.Tally as EvalTally
+pub use Rattle.mr_eval.specs.Typed as EvalTyped
 pub use Rattle.mr_frame.specs.Calls as FrameCalls
 pub use Rattle.mr_frame.specs.Changes as FrameChanges
 pub use Rattle.mr_frame.specs.Fits as FrameFits

@@ -189,4 +189,5 @@ start_config p picks =
       last = None;
       completed = 0;
       verdict = verdict.Running;
+      about = None;
     }

@@ -45,6 +45,7 @@ pub record IsBehind (edition : ℕ) (p : Progress) (t : ℕ) (s : Scene) (d : De
   pub last : q.last ≡ Some f
   pub completed : q.completed ≡ p.completed + 1
   pub verdict : q.verdict ≡ verdict_in p.last f p.sync
+  pub about : q.about ≡ p.about
 
 module _ (p : Progress) (t : ℕ) (s : Scene) (d : Deed) (stack : KeptStack) (n : Notes) (tells : Tells s d n) where
   -- the threads behind the step
@@ -110,4 +111,5 @@ module _ (p : Progress) (t : ℕ) (s : Scene) (d : Deed) (stack : KeptStack) (n 
         last = (b.last ∙ ap Some told) i;
         completed = b.completed i;
         verdict = (b.verdict ∙ ap (λ x. verdict_in p.last x p.sync) told) i;
+        about = b.about i;
       }

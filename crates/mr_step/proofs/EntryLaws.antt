@@ -113,7 +113,7 @@ printed_behind look c e = in_state c.state
   where
     behind_bare : (b : Bare Own) → ((after_bare (thread_step look) c b).completed ≡ c.completed → ⊥) → take (length c.output) (after_bare (thread_step look) c b).output ≡ c.output
     behind_bare (Completed n s) more = take-append_seam c.output (map (printed_by n.tally.thread) n.printed)
-    behind_bare (Stops v) more = absurd (more refl)
+    behind_bare (Stops v about) more = absurd (more refl)
     behind_bare IllFormedStep more = absurd (more refl)
 
     in_state : (o : Option (State Own)) → ((stepped_from (thread_step look) c e.thread e.picks o).completed ≡ c.completed → ⊥) → take (length c.output) (stepped_from (thread_step look) c e.thread e.picks o).output ≡ c.output
@@ -127,7 +127,7 @@ pub data Left (c : Config Own) (feet : List Footprint) (c' : Config Own) : Type 
 
 left_bare : (look : Look) (c : Config Own) (b : Bare Own) → Left c (foot_of_bare (thread_step look) b) (after_bare (thread_step look) c b)
 left_bare look c (Completed n s) = made (foot_in (thread_step look) n s) refl refl refl
-left_bare look c (Stops v) = none refl refl
+left_bare look c (Stops v about) = none refl refl
 left_bare look c IllFormedStep = none refl refl
 
 pub left_by : (look : Look) (c : Config Own) (e : Entry) → Left c (foot_from (thread_step look) e.thread e.picks c.state) (machine_step (thread_step look) c e)

@@ -5,7 +5,6 @@ pub mod FirstLaws
 pub mod HandLaws
 pub mod Numbered
 pub mod SoundLaws
-pub mod StackLaws
 pub mod TakenLaws
 pub mod PlaceLaws
 pub use Rattle.mr_exchange.proofs.FootLimits as ExchangeFootLimits
@@ -24,10 +23,4 @@ pub use Rattle.mr_plan.proofs.RunLaws as PlanRunLaws
 pub use Rattle.mr_plan.proofs.WentLaws as PlanWentLaws
 pub use Rattle.mr_start.proofs.RunLaws as StartRunLaws
 pub use Rattle.mr_start.proofs.StartSound as StartStartSound
-pub use Rattle.mr_start.proofs.ThreadRunSound
-pub use Rattle.mr_start.proofs.ThreadThreadRooms
-pub use Rattle.mr_turn.proofs.DoAnswers as TurnDoAnswers
-pub use Rattle.mr_turn.proofs.FrameTurns as TurnFrameTurns
-pub use Rattle.mr_turn.proofs.IntrArguments
 pub use Rattle.mr_turn.proofs.IntrEachOperation
-pub use Rattle.mr_turn.proofs.IntrOperatedLaws

@@ -4,7 +4,8 @@ use Rattle.std.proofs.lemmas.Option.{same_Some, slice_get_within}
 use Rattle.std.proofs.Math.ListN.{length-set}
 use Rattle.std.specs.Prelude.{slice_get, slice_set}
 use Rattle.std.specs.Option.{option_map}
-use Rattle.mr_base.specs.declared.reason.Reason.{Reason}
+use Rattle.mr_base.specs.Stops.{Stop, stop_with}
+use Rattle.mr_base.specs.declared.reached.Reached.{Reached}
 use Rattle.mr_base.specs.declared.reason.Verdict.{Verdict}
 use Rattle.mr_base.specs.declared.reason.Verdict.TheVariants as verdict
 use Rattle.mr_eval.specs.Tally.{start_tally}
@@ -45,7 +46,7 @@ use Rattle.mr_plan.proofs.Positions.{set_here}
 -- a bare step leads on from no state
 bare_leads : {L : Type 0} (step : Language L) (c : Config L) (o : Option (State L)) (b : Bare L) → after_bare step (record c { state = o }) b ≡ after_bare step c b
 bare_leads step c o (Completed n s) = refl
-bare_leads step c o (Stops v) = refl
+bare_leads step c o (Stops v about) = refl
 bare_leads step c o IllFormedStep = refl
 
 -- what stood in the place of the thread before doesn't matter
@@ -71,8 +72,8 @@ set_same (y ∷ xs) zero x h = ap (λ z. z ∷ xs) (sym (same_Some y x h))
 set_same (y ∷ xs) (suc i) x h = ap (λ zs. y ∷ zs) (set_same xs i x h)
 
 -- where a step leads that itself stops
-pub stops_leads : (look : Look) (p : Progress) (v : Verdict) → LeadsTo look (Stops v) (config_of p) (config_of (record p { gone = true; verdict = v }))
-stops_leads look p v = refl
+pub stops_leads : (look : Look) (p : Progress) (v : Verdict) (about : Option Reached) → LeadsTo look (Stops v about) (config_of p) (config_of (record p { gone = true; verdict = v; about = about }))
+stops_leads look p v about = refl
 
 -- the scene of a step that begins
 module _ (m : Memory) (t n : ℕ) (s : Scene) (world : world_of s ≡ (m, start_tally t n)) where
@@ -135,9 +136,9 @@ module _ (look : KeptLook) (e : Entry) (p : Progress) (due : IsDue look e.thread
   }
 
   -- the turn stops for a reason
-  pub halts : (r : Reason) → act_fault l t e.picks th p.scene.memory p.sync ≡ None → outcome ≡ Refused r
-      → Advances l e (config_of p) (config_of (record p { gone = true; verdict = verdict.Undefined r }))
-  halts r legal is = leads_on (Stops (verdict.Undefined r)) (record p { gone = true; verdict = verdict.Undefined r }) legal (ap (settled s t) is) (stops_leads l p (verdict.Undefined r))
+  pub halts : (r : Stop) → act_fault l t e.picks th p.scene.memory p.sync ≡ None → outcome ≡ Refused r
+      → Advances l e (config_of p) (config_of (record p { gone = true; verdict = verdict.Undefined r.reason; about = r.about }))
+  halts r legal is = leads_on (Stops (verdict.Undefined r.reason) r.about) (record p { gone = true; verdict = verdict.Undefined r.reason; about = r.about }) legal (ap (settled s t) is) (stops_leads l p (verdict.Undefined r.reason) r.about)
 
   -- the picks break a rule, and nothing changed
   pub stays : (fault : Fault) (new : KeptThread) (left : Scene) (x : Tables) → Keeps l t e.picks th new p.scene.memory left.memory p.sync x fault
@@ -166,8 +167,8 @@ module _ (look : KeptLook) (e : Entry) (p : Progress) (due : IsDue look e.thread
   untaken (turn.Undefined r) new left x h mid q threads same result w =
       subst (AdvanceAnswer l e (config_of p) (config_of q)) (sym w.0)
       (subst (λ (y : Config Own). Advances l e (config_of p) y)
-      (sym (ap config_of (w.1 ∙ ap (λ (y : Progress). record y { gone = true; verdict = verdict.Undefined r }) same)))
-      (halts r h.legal h.refused))
+      (sym (ap config_of (w.1 ∙ ap (λ (y : Progress). record y { gone = true; verdict = verdict.Undefined r; about = (stop_with y.scene.notes.refused r).about }) same)))
+      (halts (stop_with left.notes.refused r) h.legal h.refused))
   untaken (turn.Broken failure) new left x h mid q threads same result w =
       subst (AdvanceAnswer l e (config_of p) (config_of q)) (sym w.0)
       (subst (λ (y : Progress). Stays l e (config_of p) (config_of y) (fault_of failure.code failure.earlier)) (sym w.1)

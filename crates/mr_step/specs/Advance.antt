@@ -1,6 +1,6 @@
 -- How an entry is answered, and the turn of its thread.
 use Rattle.std.specs.Prelude.{◌≡◌, ℕ, ◌<◌, ◌^◌, true, false, List, length, Option, None, Some, Result, Ok, Err}
-use Rattle.mr_base.specs.declared.reason.Reason.{Reason}
+use Rattle.mr_base.specs.Stops.{Stop, stop_with}
 use Rattle.mr_base.specs.declared.reason.Verdict.TheVariants.{Running, Undefined}
 use Rattle.mr_eval.specs.declared.scene.Scene.{Scene}
 use Rattle.mr_mem.specs.Memory.{Memory}
@@ -65,9 +65,9 @@ pub record Keeps (look : Look) (t : ℕ) (picks : List ℕ) (old new : KeptThrea
   pub memory : n ≡ m
   pub tables : y ≡ x
 
--- the step itself stops for this reason
+-- the step itself stops with this
 pub record Halts (look : Look) (t : ℕ) (picks : List ℕ) (old : KeptThread) (m : Memory) (x : Tables)
-    (r : Reason) : Type 0 where
+    (r : Stop) : Type 0 where
   pub legal : act_fault look t picks old m x ≡ None
   pub refused : act_outcome look t picks old m x ≡ Refused r
 
@@ -77,13 +77,16 @@ abbrev pub ActAnswer : Look → ℕ → List ℕ → KeptThread → KeptThread �
 ActAnswer look t picks old new m s x y (Ok d) = Acts look t picks old new m x y s d
 ActAnswer look t picks old new m s x y (Err (turn.Broken e)) =
     Keeps look t picks old new m s.memory x y (fault_of e.code e.earlier)
-ActAnswer look t picks old new m s x y (Err (turn.Undefined r)) = Halts look t picks old m x r
+ActAnswer look t picks old new m s x y (Err (turn.Undefined r)) =
+    Halts look t picks old m x (stop_with s.notes.refused r)
 ActAnswer look t picks old new m s x y (Err turn.Memory) = Unit {0}
 
--- a step without a turn stops, or its picks break a rule, or memory ran out
+-- a step without a turn stops, and speaks of the bytes that were refused last where its reason speaks of bytes; or its
+-- picks break a rule, or memory ran out
 abbrev pub WithoutAnswer : TurnFault → Progress → Progress → Result (Unit {0}) StepFault → Type 0
 WithoutAnswer (turn.Undefined r) old new result =
-    (result ≡ Ok tt) × (new ≡ record old { gone = true; verdict = Undefined r })
+    (result ≡ Ok tt)
+    × (new ≡ record old { gone = true; verdict = Undefined r; about = (stop_with old.scene.notes.refused r).about })
 WithoutAnswer (turn.Broken e) old new result = (result ≡ Err (answer.BadEntry e.code e.earlier)) × (new ≡ old)
 WithoutAnswer turn.Memory old new result = (result ≡ Err answer.Memory) × (new ≡ old)
 

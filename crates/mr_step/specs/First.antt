@@ -24,6 +24,7 @@ first_config m s count = record {
   last = None;
   completed = 0;
   verdict = Running;
+  about = None;
 }
 
 -- why there is no machine

@@ -53,6 +53,7 @@ config_of p = record {
   last = p.last;
   completed = p.completed;
   verdict = p.verdict;
+  about = p.about;
 }
 
 -- what steps look up, without where it is kept

@@ -7,6 +7,7 @@ pub mod Standing
 pub use Rattle.mr_eval.specs.MemoryQueries as EvalMemoryQueries
 pub use Rattle.mr_eval.specs.Operators as EvalOperators
 pub use Rattle.mr_eval.specs.Reads as EvalReads
+pub use Rattle.mr_eval.specs.Typed as EvalTyped
 pub use Rattle.mr_exchange.specs.SwapMeets
 pub use Rattle.mr_exchange.specs.Witness as ExchangeWitness
 pub use Rattle.mr_frame.specs.Calls as FrameCalls
@@ -20,10 +21,6 @@ pub use Rattle.mr_plan.specs.Queries as PlanQueries
 pub use Rattle.mr_plan.specs.Runs as PlanRuns
 pub use Rattle.mr_start.specs.Runs as StartRuns
 pub use Rattle.mr_start.specs.Start as StartStart
-pub use Rattle.mr_start.specs.ThreadSoundState
 pub use Rattle.mr_start.specs.ThreadSteps
-pub use Rattle.mr_turn.specs.IntrAtomics
-pub use Rattle.mr_turn.specs.IntrEffects
 pub use Rattle.mr_turn.specs.IntrOperations
 pub use Rattle.mr_turn.specs.IntrTexts
-pub use Rattle.mr_turn.specs.Turning as TurnTurning

@@ -1,5 +1,6 @@
 //! One entry of a schedule: its rules, and then its step.
 ghost use Rattle.std.specs.Prelude.{◌≡◌, ◌<◌, ◌^◌, None, Some};
+ghost use Rattle.mr_base.specs.Stops.{stop_with};
 ghost use Rattle.mr_frame.specs.Kept.{IsReady, look_of};
 ghost use Rattle.mr_eval.specs.Tally.{start_tally};
 ghost use Rattle.mr_eval.specs.World.{tally_of};
@@ -11,7 +12,7 @@ ghost use Rattle.mr_step.specs.Kept.{config_of};
 use crate::fault::{StepFault, broken, refused};
 use crate::progress::{Progress, Thread};
 use crate::settle::settle;
-use mr_base::Verdict;
+use mr_base::{Reached, Reason, Verdict};
 use mr_eval::Scene;
 use mr_frame::Look;
 use mr_sched::{Entry, ScheduleRule};
@@ -55,13 +56,21 @@ fn act(
     turn(alloc, look, &mut thread.stack, scene, sync, picks)
 }
 
+// What a step speaks of that stops for a reason, where these bytes were refused last.
+fn spoken(reason: Reason, refused: Option<Reached>) -> Option<Reached>
+    ensures { result ≡ (stop_with refused reason).about }
+{
+    if reason.speaks() { refused } else { None }
+}
+
 // The step of a thread that has no turn.
 fn without(p: &mut Progress, fault: TurnFault) -> Result<(), StepFault>
     ensures { WithoutAnswer fault p.old p.new result }
 {
     match fault {
         TurnFault::Undefined(reason) => {
-            p.stop(Verdict::Undefined(reason));
+            let about = spoken(reason, p.scene.notes.refused);
+            p.stop(Verdict::Undefined(reason), about);
             Ok(())
         }
         TurnFault::Broken(failure) => Err(refused(failure)),

@@ -35,5 +35,6 @@ pub fn first(
         last: None,
         completed: 0,
         verdict: Verdict::Running,
+        about: None,
     })
 }

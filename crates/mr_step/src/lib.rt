@@ -5,10 +5,9 @@
 //! what contracts see of a machine, `specs/Answers.antt` how its calls answer, and `specs/Kept.antt` how it keeps what it stands for.
 //!
 //! Public calls: [`Machine::start`], [`Machine::step`], [`Machine::go`], and what a machine tells of where it stands:
-//! [`Machine::verdict`], [`Machine::completed`], [`Machine::last`], [`Machine::lines`] and [`Machine::line`], [`Machine::threads`],
+//! [`Machine::verdict`], [`Machine::about`], [`Machine::completed`], [`Machine::last`], [`Machine::lines`] and [`Machine::line`], [`Machine::threads`],
 //! [`Machine::enabled`], [`Machine::waiting`], [`Machine::place`], [`Machine::status`], [`Machine::holder`] and
-//! [`Machine::asks`]. It lends what its steps look up ([`Machine::look`]), its memory ([`Machine::memory`]) and the frames of
-//! an enabled thread ([`Machine::stack`]).
+//! [`Machine::asks`].
 //!
 //! Proved: a start and a step lead exactly where the definitions say, or tell the first rule that is broken; a refused entry
 //! changes nothing; a completed step hands out its footprint, by [`Machine::go`] none; for want of memory the machine fails,

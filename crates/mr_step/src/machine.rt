@@ -6,10 +6,9 @@ use crate::fault::{StepFault, Turn, unmade};
 use crate::first::first;
 use crate::progress::{Progress, line_at, place_at};
 use crate::setting::Setting;
-use mr_base::{Status, Verdict};
+use mr_base::{Reached, Status, Verdict};
 use mr_event::Footprint;
-use mr_frame::{At, Look, Stack};
-use mr_mem::Memory;
+use mr_frame::At;
 use mr_sched::{Ask, Entry};
 use mr_start::{Start, begin};
 use mr_typing::Checked;
@@ -57,9 +56,7 @@ impl<'p> Machine<'p> {
     ghost use Rattle.std.specs.Prelude.{◌≡◌, ℕ, ◌<◌, ◌^◌, IfOk, List, None, OnErr, Some, false, length, option_copied, slice_get};
     ghost use Rattle.std.specs.Option.{option_map};
     ghost use Rattle.mr_sync.specs.Tables.{IsEnabled, holder_of, is_enabled, waits};
-    ghost use Rattle.mr_plan.specs.Machine.{State, Thread, needs};
-    ghost use Rattle.mr_frame.specs.Fits.{FitsStack};
-    ghost use Rattle.mr_frame.specs.Kept.{IsReady, look_of, stack_of};
+    ghost use Rattle.mr_plan.specs.Machine.{State, needs};
     ghost use Rattle.mr_plan.specs.Queries.{tables_of};
     ghost use Rattle.mr_start.specs.ThreadSteps.{Own, thread_step};
     ghost use Rattle.mr_turn.specs.Asking.{AsksAnswer};
@@ -173,6 +170,13 @@ impl<'p> Machine<'p> {
         self.progress.verdict
     }
 
+    /// The bytes that the last step speaks of, where it was undefined and speaks of any.
+    pub fn about(&self) -> Option<Reached>
+        ensures { result ≡ self.now.config.about }
+    {
+        self.progress.about
+    }
+
     /// How many steps were completed.
     pub fn completed(&self) -> u64
         ensures { result ≡ self.now.config.completed }
@@ -270,32 +274,6 @@ impl<'p> Machine<'p> {
         } else {
             self.progress.sync.holder(lock)
         }
-    }
-
-    /// What its steps look up.
-    pub fn look(&self) -> Look<'_>
-        ensures ready { IsReady result }
-        ensures is { look_of result ≡ self.now.look }
-    {
-        self.setting.look()
-    }
-
-    /// The memory that its threads share, unless a step itself stopped.
-    pub fn memory(&self) -> &Memory
-        ensures { (s : State Own) → self.now.config.state ≡ Some s → result.now ≡ s.shared.memory }
-    {
-        &self.progress.scene.memory
-    }
-
-    /// The frames of an enabled thread.
-    pub fn stack(&self, t: u32) -> &Stack
-        requires working { self.now.failed ≡ false }
-        requires enabled { (s : State Own) × (self.now.config.state ≡ Some s) × IsEnabled t (tables_of s.shared) }
-        ensures is { (s : State Own) (th : Thread Own) → self.now.config.state ≡ Some s → slice_get s.threads t ≡ Some th
-            → stack_of result.now ≡ th.own.stack }
-        ensures fits { FitsStack self.now.look.program (stack_of result.now) }
-    {
-        &self.progress.threads[t as usize].stack
     }
 
     /// Appends to `out` what picks the next step of an enabled thread of a running machine asks for. The answer is 67 or 68 where the step

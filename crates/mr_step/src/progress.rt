@@ -5,7 +5,7 @@ ghost use Rattle.std.specs.Prelude.{map};
 ghost use Rattle.mr_step.specs.Kept.{kept_place, printed_of};
 ghost use Rattle.mr_step.specs.Standing.{seen_line};
 
-use mr_base::Verdict;
+use mr_base::{Reached, Verdict};
 use mr_eval::Scene;
 use mr_event::Latest;
 use mr_frame::{At, Stack};
@@ -41,6 +41,8 @@ pub struct Progress {
     pub last: Option<Latest>,
     pub completed: u64,
     pub verdict: Verdict,
+    /// The bytes that the last step speaks of, where it was undefined and speaks of any.
+    pub about: Option<Reached>,
 }
 
 impl Progress {
@@ -49,12 +51,13 @@ impl Progress {
     ghost use Rattle.mr_step.specs.Answers.{IsTakenBack};
     ghost use Rattle.mr_step.specs.Kept.{config_of};
 
-    /// A step itself stops.
-    pub fn stop(&mut self, verdict: Verdict)
-        ensures { self.new ≡ record self.old { gone = true; verdict = verdict } }
+    /// A step itself stops, and speaks of these bytes.
+    pub fn stop(&mut self, verdict: Verdict, about: Option<Reached>)
+        ensures { self.new ≡ record self.old { gone = true; verdict = verdict; about = about } }
     {
         self.gone = true;
         self.verdict = verdict;
+        self.about = about;
     }
 
     /// The last step, which completed, is told no more, nor what it printed behind so many prints.

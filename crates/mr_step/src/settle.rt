@@ -112,9 +112,9 @@ pub fn settle(
         Flow::Went | Flow::Ended => complete(alloc, look, p, thread, deed)?,
         Flow::Exit => {
             let verdict = end_of(&p.scene);
-            p.stop(verdict);
+            p.stop(verdict, None);
         }
-        Flow::Abort => p.stop(Verdict::Abort),
+        Flow::Abort => p.stop(Verdict::Abort, None),
     }
     Ok(())
 }

@@ -34,7 +34,7 @@ use Rattle.mr_base.proofs.Lists.{item_there}
 -- what a bare step comes to: a state that keeps it all, or a verdict
 abbrev pub SoundBare : Program → Bare Own → Type 0
 SoundBare p (Completed n s) = SoundState p s
-SoundBare p (Stops v) = Unit {0}
+SoundBare p (Stops v about) = Unit {0}
 SoundBare p IllFormedStep = ⊥
 
 -- a thread that is enabled

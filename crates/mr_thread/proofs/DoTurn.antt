@@ -4,6 +4,7 @@ use Rattle.std.proofs.lemmas.List.{length-append}
 use Rattle.std.proofs.lemmas.Option.{slice_get_within}
 use Rattle.std.specs.Prelude.{◌&&◌, slice_get, if◌then◌else◌, nat_lt}
 use Rattle.std.proofs.lemmas.Bool.{and_parts}
+use Rattle.mr_base.specs.Stops.{plainly}
 use Rattle.mr_ast.specs.declared.program.Function.{Function}
 use Rattle.mr_ast.specs.declared.program.Intrinsic.{Intrinsic}
 use Rattle.mr_ast.specs.declared.program.Intrinsic.TheVariants as intrinsic
@@ -212,7 +213,7 @@ module _ (look : Look) (is : IsLook look) (well : WellFormed look.program) (s : 
       typed_spawn (Some types) e = by_test (same_types thread_types types) refl
         where
           by_test : (b : Bool) → same_types thread_types types ≡ b
-              → After (PlanTurns p s t c others) (run answer (if b then Done (record { creates = CreatesThread; asks = storage_asks types; go = start own d o number fn argument }) else Undefined SignatureMismatch) v)
+              → After (PlanTurns p s t c others) (run answer (if b then Done (record { creates = CreatesThread; asks = storage_asks types; go = start own d o number fn argument }) else Undefined (plainly SignatureMismatch)) v)
           by_test true same = starts types e (sym (equal_types thread_types types same))
           by_test false same = tt
 

@@ -35,12 +35,12 @@ legal_at look c e h = by_verdict (is_running c.verdict) h
 
 rule_there : (p : Program) (b : Bare Own) → SoundBare p b → not (is_ill_formed b) ≡ true
 rule_there p (Completed n s) h = refl
-rule_there p (Stops v) h = refl
+rule_there p (Stops v about) h = refl
 rule_there p IllFormedStep h = absurd h
 
 sound_behind : (p : Program) (step : Language Own) (c : Config Own) (b : Bare Own) → SoundBare p b → IsSoundConfig p (after_bare step c b)
 sound_behind p step c (Completed n s) h = λ x e. subst (SoundState p) (same_Some s x e) h
-sound_behind p step c (Stops v) h = λ x e. absurd (by_none e)
+sound_behind p step c (Stops v about) h = λ x e. absurd (by_none e)
   where
     by_none : {x : State Own} → None ≡ Some x → ⊥
     by_none e = cc

@@ -1,5 +1,6 @@
 -- The step of a thread: its frame's next statement or terminator, or an intrinsic. (MiniRust, lang: the machine.)
 use Rattle.std.specs.Prelude.{ℕ, List, [], ◌∷◌, Option, None, Some, slice_get, if◌then◌else◌}
+use Rattle.mr_base.specs.Stops.{plainly}
 use Rattle.mr_ast.specs.declared.program.Function.{Function}
 use Rattle.mr_ast.specs.declared.program.Intrinsic.{Intrinsic}
 use Rattle.mr_ast.specs.declared.program.Intrinsic.TheVariants as intrinsic
@@ -72,7 +73,7 @@ finishing own d o v started = memory_part (finish own.stack d o v) >>= λ s. Don
 
 -- `payload`: the last one, which stays
 abbrev pub last_payload : List Pointer → Operation
-last_payload [] = Undefined NoPayload
+last_payload [] = Undefined (plainly NoPayload)
 last_payload (p ∷ payloads) = instant (Done (Some (val.Ptr p)))
 
 -- the types of the return local and of the argument of a thread's function
@@ -100,7 +101,7 @@ spawn_types own d o number fn argument None = IllFormed
 spawn_types own d o number fn argument (Some types) =
     if same_types thread_types types
     then Done (record { creates = CreatesThread; asks = storage_asks types; go = start own d o number fn argument })
-    else Undefined SignatureMismatch
+    else Undefined (plainly SignatureMismatch)
 
 -- a thread is started with the function of this number, which is to be there
 abbrev pub spawn_function : Own → DueDo → Operands → ℕ → Val → Option Function → TurnPlan
@@ -109,7 +110,7 @@ spawn_function own d o number argument (Some fn) = spawn_types own d o number fn
 
 -- the same of a function of the program; what has no number is none
 abbrev pub spawn_number : Look → Own → DueDo → Operands → Val → Option ℕ → TurnPlan
-spawn_number look own d o argument None = Undefined NotAFunction
+spawn_number look own d o argument None = Undefined (plainly NotAFunction)
 spawn_number look own d o argument (Some number) =
     spawn_function own d o number argument (slice_get look.program.functions number)
 

@@ -3,6 +3,7 @@ use Rattle.std.proofs.Common.{◌≡◌, ℕ, refl, sym, ap, ap₂, ◌∙◌, s
 use Rattle.std.specs.Option.{option_map}
 use Rattle.std.proofs.lemmas.List.{append-nil}
 use Rattle.std.proofs.lemmas.Option.{same_Some}
+use Rattle.mr_base.specs.Stops.{Stop}
 use Rattle.mr_ast.specs.declared.program.Intrinsic.{Intrinsic}
 use Rattle.mr_ast.specs.declared.program.Intrinsic.TheVariants as intrinsic
 use Rattle.mr_ast.specs.declared.types.Ty.{Ty}
@@ -81,7 +82,7 @@ operands_told is_op op is o fit given e r thread x h m n here =
 
 module _ (look : Look) (own : Own) (d : DueDo) (o : Operands) (w : Shared × Notes) where
   -- a step that stops before it has a plan needs nothing
-  pub stops_needs : (r : Reason) → do_planned look own d o w ≡ Refused r → needs_of (do_planned look own d o w) ≡ no_needs
+  pub stops_needs : (r : Stop) → do_planned look own d o w ≡ Refused r → needs_of (do_planned look own d o w) ≡ no_needs
   stops_needs r e = ap needs_of e
 
   -- neither does the look at a payload
@@ -109,7 +110,7 @@ module _ (look : Look) (own : Own) (d : DueDo) (o : Operands) (w : Shared × Not
 
     -- or nothing, where it stops
     pub told_none : (r : Reason) → TellsNeeds (Err r) (run answer script w) → needs_of (do_planned look own d o w) ≡ no_needs
-    told_none r h = needs_are ∙ ap needs_of h
+    told_none r h = needs_are ∙ ap needs_of h.0
 
 -- ---- the start of a thread
 
@@ -150,7 +151,7 @@ module _ (look : KeptLook) (stack : KeptStack) (m : Memory) (x : Tables) (thread
       ∙ ap (λ o. on o (λ q u. do_planned (look_of look) (own_of thread stack) d q (shared_of m x, behind u))) given)
 
   -- its evaluation stopped
-  pub stopped_needs : (r : Reason) → argued m (look_of look) d nothing_seen ≡ Refused r → step_needs look stack m x thread count ≡ no_needs
+  pub stopped_needs : (r : Stop) → argued m (look_of look) d nothing_seen ≡ Refused r → step_needs look stack m x thread count ≡ no_needs
   stopped_needs r given =
       ap needs_of
       (argued_planned (look_of look) (own_of thread stack) d due world

@@ -1,5 +1,6 @@
 -- What the code of an operation whose needs are met finds and answers.
 use Rattle.std.proofs.Common.{◌≡◌, ℕ, refl, sym, ap, ap₂, ◌∙◌, subst, arith, List, [], length, Option, Some, None, Result, Ok, Err}
+use Rattle.mr_base.specs.Stops.{Stop, stop_with}
 use Rattle.mr_ast.specs.declared.program.Intrinsic.{Intrinsic}
 use Rattle.mr_base.specs.declared.reason.Reason.{Reason}
 use Rattle.mr_mem.specs.declared.fault.Fault.{Fault as MemoryFault}
@@ -76,10 +77,10 @@ module _ (look : KeptLook) (stack : KeptStack) (s : Scene) (x : Tables) (call : 
       ∙ ap₂ (λ creates asks. needs_fault (shared_in s x) s.thread s.count (record { creates = creates; asks = asks }) picks) h.creates h.asks
 
   -- it stops before it acts
-  pub carry_stops : (r : Reason) → run answer script (begun s x) ≡ Refused r → do_planned (look_of look) (own_of s.thread stack) d o (begun s x) ≡ Refused r
+  pub carry_stops : (r : Stop) → run answer script (begun s x) ≡ Refused r → do_planned (look_of look) (own_of s.thread stack) d o (begun s x) ≡ Refused r
   carry_stops r h = operation_stops look stack s x call d mine picks r (ap (λ (y : Intrinsic). run answer (operation y o.args o.arg_types o.result_type) (begun s x)) is ∙ h)
 
-  pub carry_comes : (r : Reason) → run answer script (begun s x) ≡ Refused r → do_comes_to look stack s x call d picks ≡ Refused r
+  pub carry_comes : (r : Stop) → run answer script (begun s x) ≡ Refused r → do_comes_to look stack s x call d picks ≡ Refused r
   carry_comes r h = operation_comes look stack s x call d mine picks r (ap (λ (y : Intrinsic). run answer (operation y o.args o.arg_types o.result_type) (begun s x)) is ∙ h)
 
   -- what the code reads of what is given
@@ -104,10 +105,11 @@ module _ (look : KeptLook) (stack : KeptStack) (s : Scene) (x : Tables) (call : 
   same_inner = ap (λ (y : Intrinsic). operated y o.args o.arg_types o.result_type picks (begun s x)) is
 
   -- it stops
-  pub carry_refused : (f : MemoryFault) (s' : Scene) (x' : Tables) (old new : List ℕ) (W : Deed → Type 0) → Effects.Does op (Err f) inner s' x' old new → DeedAnswer (Err (fault_from f)) (do_comes_to look stack s x call d picks) W
+  pub carry_refused : (f : MemoryFault) (s' : Scene) (x' : Tables) (old new : List ℕ) (W : Deed → Type 0) → Effects.Does op (Err f) inner s' x' old new
+      → DeedAnswer (Err (fault_from f)) (do_comes_to look stack s x call d picks) s'.notes.refused W
   carry_refused f s' x' old new W h =
-      stopped_deed f (do_comes_to look stack s x call d picks) W
-      (λ r e. operation_refused look stack s x call d mine picks r (same_inner ∙ operated_refused f op inner s' x' old new h r e))
+      stopped_deed f (do_comes_to look stack s x call d picks) s'.notes.refused W
+      (λ r e. operation_refused look stack s x call d mine picks (stop_with s'.notes.refused r) (same_inner ∙ operated_refused f op inner s' x' old new h r e))
 
   module _ (e : Effect) (s' : Scene) (x' : Tables) (text : List ℕ) (done : Effects.Does op (Ok e) inner s' x' [] text) where
     abbrev mine_done : Effects.IsDone d.op e (operated d.op o.args o.arg_types o.result_type picks (begun s x)) s' x' [] text
@@ -128,10 +130,10 @@ module _ (look : KeptLook) (stack : KeptStack) (s : Scene) (x : Tables) (call : 
         value_fits (Some t) v h = h
 
     -- and ends
-    pub carried : (r : Result Deed TurnFault) (stack' : KeptStack) (s'' : Scene) → EndAnswer r (finished (stack_of stack) d o e.value (world_of s')) (stack_of stack') (world_of s'') (IsTold op e text)
-        → DeedAnswer r (do_comes_to look stack s x call d picks) (Does stack s x (do_comes_to look stack s x call d picks) stack' s'' x')
+    pub carried : (r : Result Deed TurnFault) (stack' : KeptStack) (s'' : Scene) → EndAnswer r (finished (stack_of stack) d o e.value (world_of s')) (stack_of stack') (world_of s'') s''.notes.refused (IsTold op e text)
+        → DeedAnswer r (do_comes_to look stack s x call d picks) s''.notes.refused (Does stack s x (do_comes_to look stack s x call d picks) stack' s'' x')
     carried r stack' s'' h =
-        end_is_deed r (finished (stack_of stack) d o e.value (world_of s')) (stack_of stack') (world_of s'') (IsTold op e text)
+        end_is_deed r (finished (stack_of stack) d o e.value (world_of s')) (stack_of stack') (world_of s'') s''.notes.refused (IsTold op e text)
         (Does stack s x (do_comes_to look stack s x call d picks) stack' s'' x') (do_comes_to look stack s x call d picks) h
         (λ deed went told. operation_done look stack s x call d mine picks e s' x' text mine_done (length x.statuses) stack' s'' deed went (subst (λ (y : Intrinsic). IsTold y e text deed) (sym is) told))
         (λ q went. end_refused look stack s x call d mine picks e s' x' text mine_done q went)

@@ -3,11 +3,13 @@ use Rattle.std.proofs.Common.{◌≡◌, ℕ, refl, subst, sym, ap, ap₂, ◌�
 use Rattle.std.specs.Prelude.{if◌then◌else◌, slice_get}
 use Rattle.std.proofs.lemmas.Option.{same_Some}
 use Rattle.std.specs.Option.{option_map}
+use Rattle.mr_base.specs.Stops.{Stop, plainly, stop_with}
+use Rattle.mr_base.specs.declared.reached.Reached.{Reached}
+use Rattle.mr_base.specs.declared.reason.Reason.{Reason}
 use Rattle.mr_ast.specs.declared.program.Intrinsic.{Intrinsic}
 use Rattle.mr_ast.specs.declared.program.Intrinsic.TheVariants as intrinsic
 use Rattle.mr_ast.specs.declared.types.Ty.{Ty}
 use Rattle.mr_base.specs.declared.byte.Pointer.{Pointer}
-use Rattle.mr_base.specs.declared.reason.Reason.{Reason}
 use Rattle.mr_base.specs.declared.reason.Reason.TheVariants.{NoPayload}
 use Rattle.mr_mem.specs.declared.fault.Fault.{Fault as MemoryFault}
 use Rattle.mr_mem.specs.declared.fault.Fault.TheVariants as memory_fault
@@ -57,12 +59,12 @@ use Rattle.mr_turn.specs.Turning.{DeedAnswer, StopAnswer, TurnAnswer, Turned, as
 use Rattle.mr_turn.proofs.DoTurns.{argued_planned, argued_turned, by_operation, finishing_run, operation_needs, operation_turned, plan_is}
 
 -- a step that stops before it has a plan needs no pick, and may have none
-pub stopped_turn : {A : Type 0} (f : TurnFault) (r : Reason) (picks : List ℕ) (s : Scene) (x : Tables) (plans : Outcome (Plan A) (Shared × Notes)) (o : Outcome Turn (Shared × Notes)) (W : Deed → Type 0) (same : Type 0)
-    → StopAnswer f r picks → plans ≡ Refused r → o ≡ Refused r → same → TurnAnswer (Err f) (picks_break (begun s x) plans picks) o W same
-stopped_turn (answer.Broken e) r picks s x plans o W same h p k here = (ap (λ q. picks_break (begun s x) q picks) p ∙ h s x, here)
-stopped_turn (answer.Undefined q) r picks s x plans o W same h p k here =
-    (ap (λ q. picks_break (begun s x) q picks) p ∙ ap (λ ps. asks_break s x [] ps) h.1, k ∙ ap (λ z. Refused z) (sym h.0))
-stopped_turn answer.Memory r picks s x plans o W same h p k here = absurd h
+pub stopped_turn : {A : Type 0} (f : TurnFault) (r : Reason) (picks : List ℕ) (s : Scene) (x : Tables) (plans : Outcome (Plan A) (Shared × Notes)) (o : Outcome Turn (Shared × Notes)) (last : Option Reached) (W : Deed → Type 0) (same : Type 0)
+    → StopAnswer f r picks → plans ≡ Refused (stop_with last r) → o ≡ Refused (stop_with last r) → same → TurnAnswer (Err f) (picks_break (begun s x) plans picks) o last W same
+stopped_turn (answer.Broken e) r picks s x plans o last W same h p k here = (ap (λ q. picks_break (begun s x) q picks) p ∙ h s x, here)
+stopped_turn (answer.Undefined q) r picks s x plans o last W same h p k here =
+    (ap (λ q. picks_break (begun s x) q picks) p ∙ ap (λ ps. asks_break s x [] ps) h.1, k ∙ ap (λ z. Refused (stop_with last z)) (sym h.0))
+stopped_turn answer.Memory r picks s x plans o last W same h p k here = absurd h
 
 -- the intrinsic that is due is one
 pub given_for : (look : KeptLook) (stack : KeptStack) (s : Scene) (x : Tables) (call : DoCall) (op : Intrinsic) → (e : DueDo) × IsGiven look stack s x call e × (e.op ≡ op)
@@ -92,7 +94,7 @@ module _ (look : KeptLook) (stack : KeptStack) (s : Scene) (x : Tables) (d : Due
         ∙ ap (λ o. on o (λ q v. do_turned (look_of look) own d q picks (moved_to (begun s x) (s.memory, record (tally_of s) { accesses = v.accesses; touched = v.touched })))) given
 
   -- its evaluation stopped
-  module _ (r : Reason) (given : argued s.memory (look_of look) d (seen s.notes) ≡ Refused r) where
+  module _ (r : Stop) (given : argued s.memory (look_of look) d (seen s.notes) ≡ Refused r) where
     pub stopped_planned : planned (look_of look) own (begun s x) ≡ Refused r
     stopped_planned =
         argued_planned (look_of look) own d due (begun s x)
@@ -146,21 +148,21 @@ module _ (look : KeptLook) (stack : KeptStack) (s : Scene) (x : Tables) (call : 
   comes = operation_turned (look_of look) mine d o (begun s x) script is_script picks
 
   -- it stops before it has a plan
-  pub operation_stops : (r : Reason) → run answer script (begun s x) ≡ Refused r → do_planned (look_of look) mine d o (begun s x) ≡ Refused r
+  pub operation_stops : (r : Stop) → run answer script (begun s x) ≡ Refused r → do_planned (look_of look) mine d o (begun s x) ≡ Refused r
   unfolding do_planned
   operation_stops r e =
       plan_is (look_of look) mine d o (begun s x) script is_script
       ∙ ap (λ p. on p (λ plan v. Went (plan_behind plan (λ y. finishing mine d o y None)) v)) e
 
   -- the operation itself stops
-  pub operation_refused : (r : Reason) → operated d.op o.args o.arg_types o.result_type picks (begun s x) ≡ Refused r → do_comes_to look stack s x call d picks ≡ Refused r
+  pub operation_refused : (r : Stop) → operated d.op o.args o.arg_types o.result_type picks (begun s x) ≡ Refused r → do_comes_to look stack s x call d picks ≡ Refused r
   operation_refused r e = comes ∙ ap (λ p. on p (λ v u. run answer (finishing mine d o v None) u)) e
 
-  unfolding_refused : (r : Reason) → run answer script (begun s x) ≡ Refused r → operated d.op o.args o.arg_types o.result_type picks (begun s x) ≡ Refused r
+  unfolding_refused : (r : Stop) → run answer script (begun s x) ≡ Refused r → operated d.op o.args o.arg_types o.result_type picks (begun s x) ≡ Refused r
   unfolding operated
   unfolding_refused r e = run_bind answer script (λ plan. plan.go picks) (begun s x) ∙ ap (λ p. on p (λ plan v. run answer (plan.go picks) v)) e
 
-  pub operation_comes : (r : Reason) → run answer script (begun s x) ≡ Refused r → do_comes_to look stack s x call d picks ≡ Refused r
+  pub operation_comes : (r : Stop) → run answer script (begun s x) ≡ Refused r → do_comes_to look stack s x call d picks ≡ Refused r
   operation_comes r e = operation_refused r (unfolding_refused r e)
 
   -- it goes on, and then ends
@@ -174,7 +176,7 @@ module _ (look : KeptLook) (stack : KeptStack) (s : Scene) (x : Tables) (call : 
         ∙ finishing_run mine d o e.value None behind
         ∙ ap (λ (t : Tally). on (ended (stack_of stack) d o e.value (s'.memory, t)) (λ k z. Went (Goes (with_stack mine k) None) (moved_to behind z))) done.tally
 
-    pub end_refused : (r : Reason) → ended (stack_of stack) d o e.value (world_of s') ≡ Refused r → do_comes_to look stack s x call d picks ≡ Refused r
+    pub end_refused : (r : Stop) → ended (stack_of stack) d o e.value (world_of s') ≡ Refused r → do_comes_to look stack s x call d picks ≡ Refused r
     end_refused r h = ends ∙ ap (λ p. on p (λ k z. Went (Goes (with_stack mine k) None) (moved_to behind z))) h
 
     pub operation_done : (threads : ℕ) (stack' : KeptStack) (s'' : Scene) (deed : Deed) → ended (stack_of stack) d o e.value (world_of s') ≡ Went (stack_of stack') (world_of s'') → IsTold d.op e text deed
@@ -194,21 +196,21 @@ module _ (look : KeptLook) (stack : KeptStack) (s : Scene) (x : Tables) (call : 
 -- ---- the end of an intrinsic
 
 -- a stack that can't store the result
-pub ended_refused : (f : MemoryFault) (o : Outcome Stack World) (k : Stack) (w : World) (IsSo : Deed → Type 0) → TellsBy {X = Unit {0}} (λ u. k) (Err f) o w → EndAnswer (Err (fault_from f)) o k w IsSo
-ended_refused (memory_fault.Undefined r) o k w IsSo h = h
-ended_refused memory_fault.Memory o k w IsSo h = tt
+pub ended_refused : (f : MemoryFault) (o : Outcome Stack World) (k : Stack) (w : World) (last : Option Reached) (IsSo : Deed → Type 0) → TellsBy {X = Unit {0}} (λ u. k) (Err f) o w last → EndAnswer (Err (fault_from f)) o k w last IsSo
+ended_refused (memory_fault.Undefined r) o k w last IsSo h = h
+ended_refused memory_fault.Memory o k w last IsSo h = tt
 
 -- what is found out of a deed by its end
-pub end_is_deed : (r : Result Deed TurnFault) (inner : Outcome Stack World) (k : Stack) (w : World) (IsSo W : Deed → Type 0) (o : Outcome Turn (Shared × Notes))
-    → EndAnswer r inner k w IsSo → ((d : Deed) → inner ≡ Went k w → IsSo d → W d) → ((q : Reason) → inner ≡ Refused q → o ≡ Refused q) → DeedAnswer r o W
-end_is_deed (Ok d) inner k w IsSo W o h goes stops = goes d h.0 h.1
-end_is_deed (Err (answer.Broken e)) inner k w IsSo W o h goes stops = absurd h
-end_is_deed (Err (answer.Undefined q)) inner k w IsSo W o h goes stops = stops q h
-end_is_deed (Err answer.Memory) inner k w IsSo W o h goes stops = tt
+pub end_is_deed : (r : Result Deed TurnFault) (inner : Outcome Stack World) (k : Stack) (w : World) (last : Option Reached) (IsSo W : Deed → Type 0) (o : Outcome Turn (Shared × Notes))
+    → EndAnswer r inner k w last IsSo → ((d : Deed) → inner ≡ Went k w → IsSo d → W d) → ((q : Stop) → inner ≡ Refused q → o ≡ Refused q) → DeedAnswer r o last W
+end_is_deed (Ok d) inner k w last IsSo W o h goes stops = goes d h.0 h.1
+end_is_deed (Err (answer.Broken e)) inner k w last IsSo W o h goes stops = absurd h
+end_is_deed (Err (answer.Undefined q)) inner k w last IsSo W o h goes stops = stops (stop_with last q) h
+end_is_deed (Err answer.Memory) inner k w last IsSo W o h goes stops = tt
 
 -- an operation that stops
 pub operated_refused : (f : MemoryFault) (op : Intrinsic) (inner : Outcome (Option Val) (Shared × Notes)) (s : Scene) (x : Tables) (old new : List ℕ) → Effects.Does op (Err f) inner s x old new
-    → (r : Reason) → f ≡ memory_fault.Undefined r → inner ≡ Refused r
+    → (r : Reason) → f ≡ memory_fault.Undefined r → inner ≡ Refused (stop_with s.notes.refused r)
 operated_refused f op inner s x old new h r e = (subst (λ (g : MemoryFault). Effects.Does op (Err g) inner s x old new) e h).0
 
 -- ---- payload
@@ -234,7 +236,7 @@ module _ (look : KeptLook) (stack : KeptStack) (s : Scene) (x : Tables) (call : 
   abbrev is_last : Rattle.mr_start.specs.ThreadSteps.operated (look_of look) thread_own d given d.op ≡ Rattle.mr_start.specs.ThreadSteps.finished thread_own d given last
   is_last = ap (λ (op : Intrinsic). Rattle.mr_start.specs.ThreadSteps.operated (look_of look) thread_own d given op) is
 
-  no_payload : (payloads : List Pointer) → slice_get payloads 0 ≡ None → last_payload payloads ≡ Undefined NoPayload
+  no_payload : (payloads : List Pointer) → slice_get payloads 0 ≡ None → last_payload payloads ≡ Undefined (plainly NoPayload)
   no_payload [] h = refl
   no_payload (p ∷ payloads) h = absurd (cc)
 
@@ -243,13 +245,13 @@ module _ (look : KeptLook) (stack : KeptStack) (s : Scene) (x : Tables) (call : 
   a_payload (q ∷ payloads) p h = ap (λ (u : Pointer). instant (Done (Some (val.Ptr u)))) (same_Some q p h)
 
   -- none is there
-  pub payload_stops : slice_get (stack_of stack).payloads 0 ≡ None → do_planned (look_of look) thread_own d given (begun s x) ≡ Refused NoPayload
+  pub payload_stops : slice_get (stack_of stack).payloads 0 ≡ None → do_planned (look_of look) thread_own d given (begun s x) ≡ Refused (plainly NoPayload)
   unfolding do_planned
   payload_stops h =
       plan_is (look_of look) thread_own d given (begun s x) last is_last
       ∙ ap (λ (t : Operation). on (run answer t (begun s x)) (λ plan v. Went (plan_behind plan (λ y. finishing thread_own d given y None)) v)) (no_payload (stack_of stack).payloads h)
 
-  pub payload_comes : slice_get (stack_of stack).payloads 0 ≡ None → do_comes_to look stack s x call d picks ≡ Refused NoPayload
+  pub payload_comes : slice_get (stack_of stack).payloads 0 ≡ None → do_comes_to look stack s x call d picks ≡ Refused (plainly NoPayload)
   payload_comes h =
       operation_turned (look_of look) thread_own d given (begun s x) last is_last picks
       ∙ ap (λ (t : Operation). on (run answer (t >>= λ plan. plan.go picks) (begun s x)) (λ v u. run answer (finishing thread_own d given v None) u)) (no_payload (stack_of stack).payloads h)
@@ -267,7 +269,7 @@ module _ (look : KeptLook) (stack : KeptStack) (s : Scene) (x : Tables) (call : 
         ∙ ap (λ (t : Operation). on (run answer (t >>= λ plan. plan.go picks) (begun s x)) (λ v u. run answer (finishing thread_own d given v None) u)) (a_payload (stack_of stack).payloads p here)
         ∙ finishing_run thread_own d given (Some (val.Ptr p)) None (begun s x)
 
-    pub payload_refused : (r : Reason) → ended (stack_of stack) d given (Some (val.Ptr p)) (world_of s) ≡ Refused r → do_comes_to look stack s x call d picks ≡ Refused r
+    pub payload_refused : (r : Stop) → ended (stack_of stack) d given (Some (val.Ptr p)) (world_of s) ≡ Refused r → do_comes_to look stack s x call d picks ≡ Refused r
     payload_refused r h = told_payload ∙ ap (λ q. on q (λ k z. Went (Goes (with_stack thread_own k) None) (moved_to (begun s x) z))) h
 
     pub payload_done : (threads : ℕ) (stack' : KeptStack) (s' : Scene) (deed : Deed) → ended (stack_of stack) d given (Some (val.Ptr p)) (world_of s) ≡ Went (stack_of stack') (world_of s') → IsNoted deed

@@ -1,5 +1,7 @@
 -- What the code of a frame's turn answers, by its parts.
 use Rattle.std.proofs.Common.{◌≡◌, ℕ, refl, sym, ap, ◌∙◌, subst, List, [], Option, None, Result, Ok, Err}
+use Rattle.mr_base.specs.Stops.{stop_with}
+use Rattle.mr_base.specs.declared.reached.Reached.{Reached}
 use Rattle.mr_base.specs.declared.reason.Reason.{Reason}
 use Rattle.mr_mem.specs.Memory.{Memory, ranges_of}
 use Rattle.mr_mem.specs.declared.fault.Fault.{Fault as MemoryFault}
@@ -36,32 +38,33 @@ use Rattle.mr_turn.proofs.PlanAsks.{AreAddresses, IsPlain, WentSo, frame_plain, 
 -- ---- answers
 
 -- the deed of a step whose picks break no rule
-pub deed_is_turn : (r : Result Deed TurnFault) (fault : Option Fault) (o : Outcome Turn (Shared × Notes)) (W : Deed → Type 0) (same : Type 0)
-    → fault ≡ None → DeedAnswer r o W → TurnAnswer r fault o W same
-deed_is_turn (Ok d) fault o W same e h = (e, h)
-deed_is_turn (Err (answer.Broken f)) fault o W same e h = absurd h
-deed_is_turn (Err (answer.Undefined r)) fault o W same e h = (e, h)
-deed_is_turn (Err answer.Memory) fault o W same e h = tt
+pub deed_is_turn : (r : Result Deed TurnFault) (fault : Option Fault) (o : Outcome Turn (Shared × Notes)) (last : Option Reached) (W : Deed → Type 0) (same : Type 0)
+    → fault ≡ None → DeedAnswer r o last W → TurnAnswer r fault o last W same
+deed_is_turn (Ok d) fault o last W same e h = (e, h)
+deed_is_turn (Err (answer.Broken f)) fault o last W same e h = absurd h
+deed_is_turn (Err (answer.Undefined r)) fault o last W same e h = (e, h)
+deed_is_turn (Err answer.Memory) fault o last W same e h = tt
 
 -- what else follows where an entry is refused
-pub turn_same : (r : Result Deed TurnFault) (fault : Option Fault) (o : Outcome Turn (Shared × Notes)) (W : Deed → Type 0) (A B : Type 0) → (A → B) → TurnAnswer r fault o W A → TurnAnswer r fault o W B
-turn_same (Ok d) fault o W A B f h = h
-turn_same (Err (answer.Broken e)) fault o W A B f h = (h.0, f h.1)
-turn_same (Err (answer.Undefined r)) fault o W A B f h = h
-turn_same (Err answer.Memory) fault o W A B f h = tt
+pub turn_same : (r : Result Deed TurnFault) (fault : Option Fault) (o : Outcome Turn (Shared × Notes)) (last : Option Reached) (W : Deed → Type 0) (A B : Type 0) → (A → B)
+    → TurnAnswer r fault o last W A → TurnAnswer r fault o last W B
+turn_same (Ok d) fault o last W A B f h = h
+turn_same (Err (answer.Broken e)) fault o last W A B f h = (h.0, f h.1)
+turn_same (Err (answer.Undefined r)) fault o last W A B f h = h
+turn_same (Err answer.Memory) fault o last W A B f h = tt
 
 -- picks that break a rule
-pub judged_broken : (f : TurnFault) (fault : Option Fault) (o : Outcome Turn (Shared × Notes)) (W : Deed → Type 0) (same : Type 0)
-    → JudgeAnswer (Err f) fault → same → TurnAnswer (Err f) fault o W same
-judged_broken (answer.Broken e) fault o W same h k = (h, k)
-judged_broken (answer.Undefined r) fault o W same h k = absurd h
-judged_broken answer.Memory fault o W same h k = absurd h
+pub judged_broken : (f : TurnFault) (fault : Option Fault) (o : Outcome Turn (Shared × Notes)) (last : Option Reached) (W : Deed → Type 0) (same : Type 0)
+    → JudgeAnswer (Err f) fault → same → TurnAnswer (Err f) fault o last W same
+judged_broken (answer.Broken e) fault o last W same h k = (h, k)
+judged_broken (answer.Undefined r) fault o last W same h k = absurd h
+judged_broken answer.Memory fault o last W same h k = absurd h
 
 -- memory that refuses
-pub stopped_deed : (f : MemoryFault) (o : Outcome Turn (Shared × Notes)) (W : Deed → Type 0)
-    → ((r : Reason) → f ≡ memory_fault.Undefined r → o ≡ Refused r) → DeedAnswer (Err (fault_from f)) o W
-stopped_deed (memory_fault.Undefined r) o W h = h r refl
-stopped_deed memory_fault.Memory o W h = tt
+pub stopped_deed : (f : MemoryFault) (o : Outcome Turn (Shared × Notes)) (last : Option Reached) (W : Deed → Type 0)
+    → ((r : Reason) → f ≡ memory_fault.Undefined r → o ≡ Refused (stop_with last r)) → DeedAnswer (Err (fault_from f)) o last W
+stopped_deed (memory_fault.Undefined r) o last W h = h r refl
+stopped_deed memory_fault.Memory o last W h = tt
 
 -- ---- what a frame's step asks
 
@@ -96,5 +99,5 @@ module _ (look : KeptLook) (stack : KeptStack) (s : Scene) (x : Tables) (picks :
       ap (λ (t : Tally). picks_fault [] (ranges_of s.memory) s.thread s.count (asked s.memory (look_of look) s.thread (stack_of stack) (seen_of t)) picks) fresh ∙ lawful_picks h
 
 -- a refusal of memory, by its reason
-pub refused_by : {X Y S : Type 0} (view : X → Y) (f : MemoryFault) (o : Outcome Y S) (v : S) → TellsBy view (Err f) o v → (r : Reason) → f ≡ memory_fault.Undefined r → o ≡ Refused r
-refused_by view f o v h r e = subst (λ g. TellsBy view (Err g) o v) e h
+pub refused_by : {X Y S : Type 0} (view : X → Y) (f : MemoryFault) (o : Outcome Y S) (v : S) (last : Option Reached) → TellsBy view (Err f) o v last → (r : Reason) → f ≡ memory_fault.Undefined r → o ≡ Refused (stop_with last r)
+refused_by view f o v last h r e = subst (λ g. TellsBy view (Err g) o v last) e h

@@ -1,7 +1,7 @@
 -- The turn of a thread whose next step is no intrinsic: what it needs, and what it comes to, by what the frame's step comes to.
 use Rattle.std.proofs.Common.{◌≡◌, ℕ, refl, sym, ap, ap₂, ◌∙◌, List, [], Option, None, true, false}
 use Rattle.std.specs.Option.{option_map}
-use Rattle.mr_base.specs.declared.reason.Reason.{Reason}
+use Rattle.mr_base.specs.Stops.{Stop}
 use Rattle.mr_mem.specs.Memory.{Memory}
 use Rattle.mr_base.specs.Script.{Done, ◌>>=◌, Outcome, Went, Refused, Broken, on, run}
 use Rattle.mr_base.proofs.ScriptRuns.{run_bind}
@@ -134,7 +134,7 @@ module _ (look : Look) (thread threads : ℕ) (stack stack' : KeptStack) (s s' :
       by_flow flow.Ended goes is = ends same goes is
 
 -- a step that itself stops
-pub flow_refused : (look : Look) (thread : ℕ) (stack : KeptStack) (s : Scene) (x : Tables) (picks : List ℕ) (r : Reason) → next_do look (stack_of stack) ≡ None
+pub flow_refused : (look : Look) (thread : ℕ) (stack : KeptStack) (s : Scene) (x : Tables) (picks : List ℕ) (r : Stop) → next_do look (stack_of stack) ≡ None
     → acted look thread (stack_of stack) picks (world_of s) ≡ Refused r → turned look (own_of thread stack) picks (begun s x) ≡ Refused r
 flow_refused look thread stack s x picks r none acts =
     frame_turned look (own_of thread stack) none (begun s x) picks ∙ ap (λ o. on o (λ y v. run answer (onward (own_of thread stack) y) (moved_to (begun s x) v))) acts

@@ -10,6 +10,4 @@ pub mod SpawnAnswers
 pub mod SpawnTurns
 pub mod ThreadTypes
 pub mod Threads
-pub use Rattle.mr_intr.proofs.Arguments as IntrArguments
 pub use Rattle.mr_intr.proofs.EachOperation as IntrEachOperation
-pub use Rattle.mr_intr.proofs.OperatedLaws as IntrOperatedLaws

@@ -1,6 +1,7 @@
 -- The plan of a frame's step creates nothing and asks for addresses alone.
 use Rattle.std.proofs.Common.{◌≡◌, ℕ, ◌+◌, refl, ap, List, [], ◌∷◌, Bool, true, false, Option, Some, None, sym, subst}
 use Rattle.std.specs.Prelude.{slice_get, if◌then◌else◌}
+use Rattle.mr_base.specs.Stops.{plainly}
 use Rattle.mr_ast.specs.declared.expr.Place.{Place}
 use Rattle.mr_ast.specs.declared.expr.Value.{Value}
 use Rattle.mr_ast.specs.declared.program.Function.{Function}
@@ -78,7 +79,7 @@ module _ (look : Look) (s : Stack) (site : Site) where
   plan_plain place number fn vs None = tt
   plan_plain place number fn vs (Some types) = by_test (same_types types.0 types.1)
     where
-      by_test : (b : Bool) → Leads IsPlain (if b then Done (record { creates = CreatesNothing; asks = storage_asks types.1; go = λ picks. enter number (Some fn) vs picks >>= λ new. Done (GoesOn (calling s site place new)) }) else Undefined SignatureMismatch)
+      by_test : (b : Bool) → Leads IsPlain (if b then Done (record { creates = CreatesNothing; asks = storage_asks types.1; go = λ picks. enter number (Some fn) vs picks >>= λ new. Done (GoesOn (calling s site place new)) }) else Undefined (plainly SignatureMismatch))
       by_test true = record { creates = refl; asks = storage_addresses types.1 }
       by_test false = tt
 

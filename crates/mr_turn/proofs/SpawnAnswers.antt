@@ -2,6 +2,7 @@
 use Rattle.std.proofs.Common.{◌≡◌, ℕ, ◌<◌, ◌^◌, refl, sym, ap, ap₂, ◌∙◌, subst, arith, List, [], ◌∷◌, length, drop, take, Bool, true, false, Option, Some, None, Result}
 use Rattle.std.specs.Prelude.{◌-◌, ◌&&◌, nat_lt, slice_get, if◌then◌else◌}
 use Rattle.std.specs.Option.{option_map}
+use Rattle.mr_base.specs.Stops.{Stop}
 use Rattle.mr_ast.specs.declared.program.Function.{Function}
 use Rattle.mr_ast.specs.declared.program.Intrinsic.{Intrinsic}
 use Rattle.mr_ast.specs.declared.program.Intrinsic.TheVariants as intrinsic
@@ -10,7 +11,6 @@ use Rattle.mr_ast.specs.declared.types.Ty.{Ty}
 use Rattle.mr_ast.specs.declared.types.Ty.TheVariants as ty
 use Rattle.mr_base.proofs.Comparisons.{lt_from, lt_test}
 use Rattle.mr_base.specs.declared.byte.Pointer.{Pointer}
-use Rattle.mr_base.specs.declared.reason.Reason.{Reason}
 use Rattle.mr_base.specs.declared.thread.Event.TheVariants.{Spawn}
 use Rattle.mr_frame.specs.declared.flow.Flow.TheVariants as flow
 use Rattle.mr_layout.proofs.AlignLaws.{align_raw, align_tuple}
@@ -160,7 +160,7 @@ module _ (look : KeptLook) (stack : KeptStack) (s : Scene) (x : Tables) (call : 
           ∙ finishing_run own d o (Some (val.Int (length x.statuses))) (Some (new_thread (length x.statuses) bottom.frame)) (behind s' new)
           ∙ ap (λ k. on (ended (stack_of stack) d o (Some (val.Int (length x.statuses))) (world_of s')) (λ j z. Went (Goes (with_stack own j) (Some (record { thread = length x.statuses; stack = k }))) (moved_to (behind s' new) z))) (sym bottom.is)
 
-      pub start_refused : (r : Reason) → ended (stack_of stack) d o (Some (val.Int (length x.statuses))) (world_of s') ≡ Refused r → do_comes_to look stack s x call d picks ≡ Refused r
+      pub start_refused : (r : Stop) → ended (stack_of stack) d o (Some (val.Int (length x.statuses))) (world_of s') ≡ Refused r → do_comes_to look stack s x call d picks ≡ Refused r
       start_refused r e = starts ∙ ap (λ p. on p (λ k z. Went (Goes (with_stack own k) (Some (own_of (length x.statuses) new))) (moved_to (behind s' new) z))) e
 
       -- THE THREAD is started
@@ -286,13 +286,13 @@ module _ (look : KeptLook) (stack : KeptStack) (s : Scene) (x : Tables) (call : 
 
     pub started : (s' : Scene) (new : KeptStack) → IsBottom (entered number (slice_get look.program.now.functions number) (take (length xs - 1) (drop 1 xs)) picks (world_of s)) (stack_of new) (world_of s')
         → (x' : Tables) → x' ≡ (spawned x).1 → (r : Result Deed TurnFault) (stack' : KeptStack) (s'' : Scene)
-        → EndAnswer r (ended (stack_of stack) d (operands_of call) (Some (val.Int m)) (world_of s')) (stack_of stack') (world_of s'') (IsNewThread new m)
-        → DeedAnswer r (do_comes_to look stack s x call d picks) (Does stack s x (do_comes_to look stack s x call d picks) stack' s'' x')
+        → EndAnswer r (ended (stack_of stack) d (operands_of call) (Some (val.Int m)) (world_of s')) (stack_of stack') (world_of s'') s''.notes.refused (IsNewThread new m)
+        → DeedAnswer r (do_comes_to look stack s x call d picks) s''.notes.refused (Does stack s x (do_comes_to look stack s x call d picks) stack' s'' x')
     started s' new bottom x' tables r stack' s'' e =
         let bottom_of : IsBottom (entered number (slice_get look.program.now.functions number) (h.given_to.argument ∷ []) picks (world_of s)) (stack_of new) (world_of s') =
         subst (λ vs. IsBottom (entered number (slice_get look.program.now.functions number) vs picks (world_of s)) (stack_of new) (world_of s')) (behind_callee (operands_of call) h.given_to xs are) bottom in
-        end_is_deed r (ended (stack_of stack) d (operands_of call) (Some (val.Int (length x.statuses))) (world_of s')) (stack_of stack') (world_of s'') (IsNewThread new (length x.statuses))
+        end_is_deed r (ended (stack_of stack) d (operands_of call) (Some (val.Int (length x.statuses))) (world_of s')) (stack_of stack') (world_of s'') s''.notes.refused (IsNewThread new (length x.statuses))
         (Does stack s x (do_comes_to look stack s x call d picks) stack' s'' x') (do_comes_to look stack s x call d picks)
-        (subst (λ n. EndAnswer r (ended (stack_of stack) d (operands_of call) (Some (val.Int n)) (world_of s')) (stack_of stack') (world_of s'') (IsNewThread new n)) count e)
+        (subst (λ n. EndAnswer r (ended (stack_of stack) d (operands_of call) (Some (val.Int n)) (world_of s')) (stack_of stack') (world_of s'') s''.notes.refused (IsNewThread new n)) count e)
         (λ deed went n. start_done look stack s x call d number picks h s' new bottom_of stack' s'' x' deed went tables n.flow n.event n.woken n.started n.text)
         (λ q went. start_refused look stack s x call d number picks h s' new bottom_of q went)

@@ -1,6 +1,7 @@
 -- The turn of a thread that starts another one, by the function that it calls and the frame with which that begins.
 use Rattle.std.proofs.Common.{◌≡◌, ℕ, ap, ◌∙◌, List, [], ◌∷◌, length, Some, None, Bool, true, false}
 use Rattle.std.specs.Prelude.{slice_get, if◌then◌else◌}
+use Rattle.mr_base.specs.Stops.{plainly}
 use Rattle.mr_ast.specs.declared.program.Function.{Function}
 use Rattle.mr_ast.specs.declared.program.Intrinsic.{Intrinsic}
 use Rattle.mr_ast.specs.declared.program.Intrinsic.TheVariants as intrinsic
@@ -33,11 +34,11 @@ module _ (look : Look) (own : Own) (d : DueDo) (o : Operands) (is : d.op ≡ int
       ∙ ap (λ p. found p >>= λ q. spawn_number look own d o argument (callee_of look.functions q)) (ap pointer_in (val.outs-Ptr c))
 
   -- a pointer to no function
-  pub none_planned : callee_of look.functions c ≡ None → do_planned look own d o w ≡ Refused NotAFunction
+  pub none_planned : callee_of look.functions c ≡ None → do_planned look own d o w ≡ Refused (plainly NotAFunction)
   unfolding do_planned
   none_planned e = ap (λ script. run answer script w) (script_is ∙ ap (spawn_number look own d o argument) e)
 
-  pub none_turned : (picks : List ℕ) → callee_of look.functions c ≡ None → do_turned look own d o picks w ≡ Refused NotAFunction
+  pub none_turned : (picks : List ℕ) → callee_of look.functions c ≡ None → do_turned look own d o picks w ≡ Refused (plainly NotAFunction)
   unfolding do_turned
   none_turned picks e = ap (λ script. run answer (script >>= λ plan. plan.go picks) w) (script_is ∙ ap (spawn_number look own d o argument) e)
 
@@ -52,15 +53,15 @@ module _ (look : Look) (own : Own) (d : DueDo) (o : Operands) (is : d.op ≡ int
     abbrev starts : Plan (StepScript Turn)
     starts = record { creates = CreatesThread; asks = storage_asks types; go = start own d o number fn argument }
 
-    tested : (b : Bool) → same_types thread_types types ≡ b → operated look own d o d.op ≡ (if b then Done starts else Undefined SignatureMismatch)
-    tested b e = typed_is ∙ ap (λ (x : Bool). if x then Done starts else Undefined SignatureMismatch) e
+    tested : (b : Bool) → same_types thread_types types ≡ b → operated look own d o d.op ≡ (if b then Done starts else Undefined (plainly SignatureMismatch))
+    tested b e = typed_is ∙ ap (λ (x : Bool). if x then Done starts else Undefined (plainly SignatureMismatch)) e
 
     -- a function of other types
-    pub other_planned : same_types thread_types types ≡ false → do_planned look own d o w ≡ Refused SignatureMismatch
+    pub other_planned : same_types thread_types types ≡ false → do_planned look own d o w ≡ Refused (plainly SignatureMismatch)
     unfolding do_planned
     other_planned e = ap (λ script. run answer script w) (tested false e)
 
-    pub other_turned : (picks : List ℕ) → same_types thread_types types ≡ false → do_turned look own d o picks w ≡ Refused SignatureMismatch
+    pub other_turned : (picks : List ℕ) → same_types thread_types types ≡ false → do_turned look own d o picks w ≡ Refused (plainly SignatureMismatch)
     unfolding do_turned
     other_turned picks e = ap (λ script. run answer (script >>= λ plan. plan.go picks) w) (tested false e)
 

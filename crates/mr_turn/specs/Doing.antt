@@ -25,6 +25,8 @@ use Rattle.mr_turn.specs.declared.deed.Deed.{Deed}
 use Rattle.mr_base.specs.declared.thread.Event.{Event}
 use Rattle.mr_base.specs.declared.thread.Event.TheVariants.{Quiet, Spawn}
 use Rattle.mr_base.specs.Script.{Outcome, Refused, Went, run, ◌>>=◌}
+use Rattle.mr_base.specs.Stops.{stop_with}
+use Rattle.mr_base.specs.declared.reached.Reached.{Reached}
 use Rattle.mr_eval.specs.World.{World, world_of}
 use Rattle.mr_turn.specs.declared.deed.TurnFault.{TurnFault}
 use Rattle.mr_turn.specs.declared.deed.TurnFault.TheVariants as answer
@@ -93,12 +95,14 @@ pub record CanEnd (look : KeptLook) (stack : KeptStack) (call : DoCall) (v : Opt
   pub is : next_do (look_of look) (stack_of stack) ≡ Some due
   pub result : FitsResult call.result call.result_type v
 
--- The deed of an intrinsic that ended, or the reason for which the store of its result stops.
-abbrev pub EndAnswer : Result Deed TurnFault → Outcome Stack World → Stack → World → (Deed → Type 0) → Type 0
-EndAnswer (Ok d) o k w IsSo = (o ≡ Went k w) × IsSo d
-EndAnswer (Err (answer.Broken e)) o k w IsSo = ⊥
-EndAnswer (Err (answer.Undefined r)) o k w IsSo = o ≡ Refused r
-EndAnswer (Err answer.Memory) o k w IsSo = Unit {0}
+-- The deed of an intrinsic that ended, or the reason for which the store of its result stops, where these bytes were
+-- refused last.
+abbrev pub EndAnswer : Result Deed TurnFault → Outcome Stack World → Stack → World → Option Reached → (Deed → Type 0)
+    → Type 0
+EndAnswer (Ok d) o k w last IsSo = (o ≡ Went k w) × IsSo d
+EndAnswer (Err (answer.Broken e)) o k w last IsSo = ⊥
+EndAnswer (Err (answer.Undefined r)) o k w last IsSo = o ≡ Refused (stop_with last r)
+EndAnswer (Err answer.Memory) o k w last IsSo = Unit {0}
 
 -- the thread goes on, and nothing else was done
 pub record IsNoted (d : Deed) : Type 0 where
@@ -184,14 +188,15 @@ abbrev pub TakesDoTurn : KeptLook → KeptStack → Scene → Tables → DoCall 
 TakesDoTurn look stack s x call picks told stack' s' x' =
     (d : DueDo) → next_do (look_of look) (stack_of stack) ≡ Some d
     → TurnAnswer told (do_breaks look stack s x call d picks) (do_comes_to look stack s x call d picks)
-    (Does stack s x (do_comes_to look stack s x call d picks) stack' s' x') (IsSame stack s x stack' s' x')
+    s'.notes.refused (Does stack s x (do_comes_to look stack s x call d picks) stack' s' x')
+    (IsSame stack s x stack' s' x')
 
 -- the same of one whose picks were judged
 abbrev pub TakesDoStep : KeptLook → KeptStack → Scene → Tables → DoCall → List ℕ → Result Deed TurnFault
     → KeptStack → Scene → Tables → Type 0
 TakesDoStep look stack s x call picks told stack' s' x' =
     (d : DueDo) → next_do (look_of look) (stack_of stack) ≡ Some d
-    → DeedAnswer told (do_comes_to look stack s x call d picks)
+    → DeedAnswer told (do_comes_to look stack s x call d picks) s'.notes.refused
     (Does stack s x (do_comes_to look stack s x call d picks) stack' s' x')
 
 -- how the end of such an intrinsic with this result is answered, whose deed is so
@@ -200,4 +205,4 @@ abbrev pub EndsDo : KeptLook → KeptStack → Scene → DoCall → Option Val �
 EndsDo look stack s call value told stack' s' IsSo =
     (d : DueDo) → next_do (look_of look) (stack_of stack) ≡ Some d
     → EndAnswer told (finished (stack_of stack) d (operands_of call) value (world_of s))
-    (stack_of stack') (world_of s') IsSo
+    (stack_of stack') (world_of s') s'.notes.refused IsSo

@@ -1,7 +1,5 @@
 pub mod Asking
 pub mod Doing
 pub mod Turning
-pub use Rattle.mr_intr.specs.Atomics as IntrAtomics
-pub use Rattle.mr_intr.specs.Effects as IntrEffects
 pub use Rattle.mr_intr.specs.Operations as IntrOperations
 pub use Rattle.mr_intr.specs.Texts as IntrTexts

@@ -2,6 +2,8 @@
 use Rattle.std.specs.Prelude.{◌≡◌, ℕ, ◌<◌, ◌^◌, Bool, true, false, List, [], ◌∷◌, length, Option, None, Some, Result}
 use Rattle.std.specs.Prelude.{Ok, Err}
 use Rattle.std.specs.Option.{option_map}
+use Rattle.mr_base.specs.Stops.{stop_with}
+use Rattle.mr_base.specs.declared.reached.Reached.{Reached}
 use Rattle.mr_base.specs.declared.reason.Reason.{Reason}
 use Rattle.mr_base.specs.declared.thread.Event.TheVariants.{Quiet}
 use Rattle.mr_mem.specs.Memory.{ranges_of}
@@ -115,13 +117,13 @@ pub record IsSame (k : KeptStack) (s : Scene) (x : Tables) (k' : KeptStack) (s' 
   pub tables : x' ≡ x
 
 -- The deed of a step whose picks break no rule, or the rule that they break, or the reason for which the step itself
--- stops.
-abbrev pub TurnAnswer : Result Deed TurnFault → Option Fault → Outcome Turn (Shared × Notes) → (Deed → Type 0) → Type 0
-    → Type 0
-TurnAnswer (Ok d) fault o Went' same = (fault ≡ None) × Went' d
-TurnAnswer (Err (answer.Broken e)) fault o Went' same = (fault ≡ Some (fault_of e)) × same
-TurnAnswer (Err (answer.Undefined r)) fault o Went' same = (fault ≡ None) × (o ≡ Refused r)
-TurnAnswer (Err answer.Memory) fault o Went' same = Unit {0}
+-- stops. A stop speaks of the bytes that were refused last, where its reason speaks of bytes.
+abbrev pub TurnAnswer : Result Deed TurnFault → Option Fault → Outcome Turn (Shared × Notes) → Option Reached
+    → (Deed → Type 0) → Type 0 → Type 0
+TurnAnswer (Ok d) fault o last Went' same = (fault ≡ None) × Went' d
+TurnAnswer (Err (answer.Broken e)) fault o last Went' same = (fault ≡ Some (fault_of e)) × same
+TurnAnswer (Err (answer.Undefined r)) fault o last Went' same = (fault ≡ None) × (o ≡ Refused (stop_with last r))
+TurnAnswer (Err answer.Memory) fault o last Went' same = Unit {0}
 
 -- An enabled thread with a stack that fits the program begins its step; it has made fewer than 2^62 allocations, none
 -- of them with its count or a greater one.
@@ -157,12 +159,13 @@ StopAnswer (answer.Broken e) r picks = (s : Scene) (x : Tables) → asks_break s
 StopAnswer (answer.Undefined q) r picks = (q ≡ r) × (picks ≡ [])
 StopAnswer answer.Memory r picks = ⊥
 
--- the deed of a step whose picks were judged, or the reason for which it stops
-abbrev pub DeedAnswer : Result Deed TurnFault → Outcome Turn (Shared × Notes) → (Deed → Type 0) → Type 0
-DeedAnswer (Ok d) o Went' = Went' d
-DeedAnswer (Err (answer.Broken e)) o Went' = ⊥
-DeedAnswer (Err (answer.Undefined r)) o Went' = o ≡ Refused r
-DeedAnswer (Err answer.Memory) o Went' = Unit {0}
+-- the deed of a step whose picks were judged, or the reason for which it stops, where these bytes were refused last
+abbrev pub DeedAnswer : Result Deed TurnFault → Outcome Turn (Shared × Notes) → Option Reached → (Deed → Type 0)
+    → Type 0
+DeedAnswer (Ok d) o last Went' = Went' d
+DeedAnswer (Err (answer.Broken e)) o last Went' = ⊥
+DeedAnswer (Err (answer.Undefined r)) o last Went' = o ≡ Refused (stop_with last r)
+DeedAnswer (Err answer.Memory) o last Went' = Unit {0}
 
 -- ---- of a thread with this stack, scene and tables
 
@@ -183,11 +186,12 @@ Does stack s x o stack' s' x' d = Turned (own_of s.thread stack) (length x.statu
 abbrev pub TakesTurn : KeptLook → KeptStack → Scene → Tables → List ℕ → Result Deed TurnFault
     → KeptStack → Scene → Tables → Type 0
 TakesTurn look stack s x picks told stack' s' x' =
-    TurnAnswer told (breaks look stack s x picks) (comes_to look stack s x picks)
+    TurnAnswer told (breaks look stack s x picks) (comes_to look stack s x picks) s'.notes.refused
     (Does stack s x (comes_to look stack s x picks) stack' s' x') (IsSame stack s x stack' s' x')
 
 -- the same of a turn whose picks were judged
 abbrev pub TakesStep : KeptLook → KeptStack → Scene → Tables → List ℕ → Result Deed TurnFault
     → KeptStack → Scene → Tables → Type 0
 TakesStep look stack s x picks told stack' s' x' =
-    DeedAnswer told (comes_to look stack s x picks) (Does stack s x (comes_to look stack s x picks) stack' s' x')
+    DeedAnswer told (comes_to look stack s x picks) s'.notes.refused
+    (Does stack s x (comes_to look stack s x picks) stack' s' x')

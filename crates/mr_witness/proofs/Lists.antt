@@ -51,7 +51,7 @@ feet_append step c (x ∷ xs) ys =
 
 one_foot : {L : Type 0} (step : Language L) (b : Bare L) → length (foot_of_bare step b) ≤ 1
 one_foot step (Completed n s) = omega arith
-one_foot step (Stops v) = omega arith
+one_foot step (Stops v about) = omega arith
 one_foot step IllFormedStep = omega arith
 
 one_foot_from : {L : Type 0} (step : Language L) (t : ℕ) (picks : List ℕ) (s : Option (State L)) → length (foot_from step t picks s) ≤ 1

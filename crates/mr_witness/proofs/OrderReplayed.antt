@@ -138,8 +138,8 @@ module _ (look : Look) (s : State Own) (v : Verdict) (completed : ℕ) (out1 out
   stopped_alike : (es : List Entry) (b : Bare Own) → AreLegal (thread_step look) (after_bare (thread_step look) one b) es → foot_of_bare (thread_step look) b ++ feet (thread_step look) (after_bare (thread_step look) one b) es ≡ []
       → AreLegal (thread_step look) (after_bare (thread_step look) two b) es × (foot_of_bare (thread_step look) b ++ feet (thread_step look) (after_bare (thread_step look) two b) es ≡ []) × StandAlike (after (thread_step look) (after_bare (thread_step look) two b) es) (after (thread_step look) (after_bare (thread_step look) one b) es)
   stopped_alike es (Completed n t) legal none = absurd (let l = ap length none in omega (arith, l))
-  stopped_alike es (Stops w) legal none =
-      subst (StopAlike (after_bare (thread_step look) one (Stops w)) (after_bare (thread_step look) two (Stops w))) (sym (none_legal (thread_step look) (after_bare (thread_step look) one (Stops w)) es refl legal))
+  stopped_alike es (Stops w about) legal none =
+      subst (StopAlike (after_bare (thread_step look) one (Stops w about)) (after_bare (thread_step look) two (Stops w about))) (sym (none_legal (thread_step look) (after_bare (thread_step look) one (Stops w about)) es refl legal))
       (tt, refl, record { state = refl; prints = same; completed = refl; verdict = refl })
   stopped_alike es IllFormedStep legal none =
       subst (StopAlike (after_bare (thread_step look) one IllFormedStep) (after_bare (thread_step look) two IllFormedStep)) (sym (none_legal (thread_step look) (after_bare (thread_step look) one IllFormedStep) es refl legal))
@@ -164,9 +164,9 @@ module _ (look : Look) (s : State Own) (v : Verdict) (completed : ℕ) (out : Li
 
   stopped_calm : (e : Entry) (es : List Entry) (b : Bare Own) → bare (thread_step look) s e.thread e.picks ≡ b → AreLegal (thread_step look) (after_bare (thread_step look) stand b) es → foot_of_bare (thread_step look) b ++ feet (thread_step look) (after_bare (thread_step look) stand b) es ≡ [] → IsNever (after_bare (thread_step look) stand b) es
   stopped_calm e es (Completed n t) is legal none = absurd (let l = ap length none in omega (arith, l))
-  stopped_calm e es (Stops w) is legal none =
-      subst (IsNever (after_bare (thread_step look) stand (Stops w))) (sym (none_legal (thread_step look) (after_bare (thread_step look) stand (Stops w)) es refl legal))
-      (λ h. never_raced_itself look s e.thread e.picks (is ∙ ap Stops h))
+  stopped_calm e es (Stops w about) is legal none =
+      subst (IsNever (after_bare (thread_step look) stand (Stops w about))) (sym (none_legal (thread_step look) (after_bare (thread_step look) stand (Stops w about)) es refl legal))
+      (λ h. never_raced_itself look s e.thread e.picks about (is ∙ ap (λ v. Stops v about) h))
   stopped_calm e es IllFormedStep is legal none =
       subst (IsNever (after_bare (thread_step look) stand IllFormedStep)) (sym (none_legal (thread_step look) (after_bare (thread_step look) stand IllFormedStep) es refl legal)) calm
 

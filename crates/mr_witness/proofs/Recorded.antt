@@ -23,7 +23,7 @@ use Rattle.mr_sched.specs.declared.rule.ScheduleRule.TheVariants as rule
 
 -- a machine that has a state
 abbrev pub config : {L : Type 0} → State L → List Printed → Option Footprint → ℕ → Verdict → Config L
-config s output last completed v = record { state = Some s; output = output; last = last; completed = completed; verdict = v }
+config s output last completed v = record { state = Some s; output = output; last = last; completed = completed; verdict = v; about = None }
 
 -- an entry that breaks no rule finds a running machine, and breaks none of its state's
 pub legal_here : {L : Type 0} (step : Language L) (s : State L) (output : List Printed) (last : Option Footprint) (completed : ℕ) (v : Verdict) (e : Entry) → entry_fault step (config s output last completed v) e ≡ None → state_fault step s e.thread e.picks ≡ None
@@ -78,8 +78,8 @@ module _ (look : Look) (is : IsLook look) (well : WellFormed look.program) (es :
         foot = steps 0 (omega arith) ∙ ap (step_at run) (add-zero k);
       } in
       (behind.0, ((s', sound'), taken, behind.1))
-  recorded_step s sound output last completed v k e rest n here lawful later (Stops w) is_bare legal steps le =
-      absurd (let none = none_feet (thread_step look) (after_bare (thread_step look) (config s output last completed v) (Stops w)) rest refl legal in let l = ap length none in omega (arith, l))
+  recorded_step s sound output last completed v k e rest n here lawful later (Stops w about) is_bare legal steps le =
+      absurd (let none = none_feet (thread_step look) (after_bare (thread_step look) (config s output last completed v) (Stops w about)) rest refl legal in let l = ap length none in omega (arith, l))
   recorded_step s sound output last completed v k e rest n here lawful later IllFormedStep is_bare legal steps le =
       absurd (let none = none_feet (thread_step look) (after_bare (thread_step look) (config s output last completed v) IllFormedStep) rest refl legal in let l = ap length none in omega (arith, l))
 

@@ -55,8 +55,8 @@ module _ (look : Look) (is : IsLook look) (well : WellFormed look.program) (es :
         output = refl;
       } in
       (behind.0, (record { state = s'; sound = sound'; output = output ++ map (printed_by nt.tally.thread) nt.printed }, goes, behind.1))
-  recorded_step s sound output last completed v k e rest n here lawful later (Stops w) is_bare legal steps le =
-      absurd (let none = none_feet (thread_step look) (after_bare (thread_step look) (config s output last completed v) (Stops w)) rest refl legal in let l = ap length none in omega (arith, l))
+  recorded_step s sound output last completed v k e rest n here lawful later (Stops w about) is_bare legal steps le =
+      absurd (let none = none_feet (thread_step look) (after_bare (thread_step look) (config s output last completed v) (Stops w about)) rest refl legal in let l = ap length none in omega (arith, l))
   recorded_step s sound output last completed v k e rest n here lawful later IllFormedStep is_bare legal steps le =
       absurd (let none = none_feet (thread_step look) (after_bare (thread_step look) (config s output last completed v) IllFormedStep) rest refl legal in let l = ap length none in omega (arith, l))
 

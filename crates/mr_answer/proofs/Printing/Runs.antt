@@ -39,7 +39,7 @@ step_lines look c e lines = by_state c.state refl
     by_bare : (s : State Own) (b : Bare Own) → bare (thread_step look) s e.thread e.picks ≡ b → AreLines (after_bare (thread_step look) c b).output
     by_bare s (Completed n s') is =
         All-append (λ (l : Printed). list_all is_printed l.text ≡ true) c.output (map (printed_by n.tally.thread) n.printed) lines (lines_of n.tally.thread n.printed (bare_plain look s s' e.thread e.picks n is))
-    by_bare s (Stops v) is = lines
+    by_bare s (Stops v about) is = lines
     by_bare s IllFormedStep is = lines
 
     by_state : (o : Option (State Own)) → c.state ≡ o → AreLines (stepped_from (thread_step look) c e.thread e.picks o).output

@@ -7,6 +7,9 @@ use Rattle.std.proofs.lemmas.Bool.{and_from}
 use Rattle.std.proofs.lemmas.Bool.Decides.{nat_tests}
 use Rattle.std.proofs.lemmas.List.Elements.{All-cons, All-head, All-nil, All-tail}
 use Rattle.std.proofs.lemmas.List.Folds.{list_all-append}
+use Rattle.mr_base.specs.Stops.{plainly}
+use Rattle.mr_step.specs.EvalTyped.{meaningless}
+use Rattle.mr_base.specs.Stops.{Stop}
 use Rattle.mr_ast.specs.declared.program.Function.{Function}
 use Rattle.mr_ast.specs.declared.program.Intrinsic.{Intrinsic}
 use Rattle.mr_ast.specs.declared.program.Intrinsic.TheVariants as intrinsic
@@ -141,7 +144,7 @@ allocating_prints size align = by_tests (nat_lt (2 ^ 63 - 1) size) (is_power_of_
     at_address (a ∷ []) = (tt, λ p. tt)
     at_address (a ∷ b ∷ picks) = tt
 
-    by_tests : (large power : Bool) → OperationPrints (if large then Undefined SizeTooLarge else (if power then Done (with_pick (Address size align) (at_pick size align)) else Undefined BadAlign))
+    by_tests : (large power : Bool) → OperationPrints (if large then Undefined (plainly SizeTooLarge) else (if power then Done (with_pick (Address size align) (at_pick size align)) else Undefined (plainly BadAlign)))
     by_tests true power = tt
     by_tests false true = at_address
     by_tests false false = tt
@@ -177,11 +180,11 @@ atomic_store_prints : (at : Val) (t : Ty) (v : Val) → OperationPrints (atomic_
 atomic_store_prints at t v = instant_prints _ (found_prints Anything (pointer_in (out-Val at)) _ (λ p. (tt, λ x. tt)))
 
 atomic_load_prints : (at : Val) (t : Ty) → OperationPrints (atomic_load at t)
-atomic_load_prints at t = instant_prints _ (found_prints Anything (pointer_in (out-Val at)) _ (λ p. (tt, λ bytes. by_number (number_of bytes))))
+atomic_load_prints at t = instant_prints _ (found_prints Anything (pointer_in (out-Val at)) _ (λ p. (tt, λ bytes. by_number (meaningless t p) (number_of bytes))))
   where
-    by_number : (o : Option ℕ) → InstantPrints (memory_part (reading_part (loaded o)))
-    by_number None = tt
-    by_number (Some n) = tt
+    by_number : (stop : Stop) (o : Option ℕ) → InstantPrints (memory_part (reading_part (loaded stop o)))
+    by_number stop None = tt
+    by_number stop (Some n) = tt
 
 modify_prints : (at : Val) (t : Ty) (change : ℕ → Option ℕ) → InstantPrints (modify at t change)
 modify_prints at t change = found_prints Anything (pointer_in (out-Val at)) _ (λ p. (tt, λ n. tt))
@@ -252,7 +255,7 @@ module _ (own : Own) (d : DueDo) (o : Operands) where
   typed_prints number fn argument None = tt
   typed_prints number fn argument (Some types) = by_test (same_types thread_types types)
     where
-      by_test : (b : Bool) → StepPrints (if b then Done (record { creates = CreatesThread; asks = storage_asks types; go = start own d o number fn argument }) else Undefined SignatureMismatch)
+      by_test : (b : Bool) → StepPrints (if b then Done (record { creates = CreatesThread; asks = storage_asks types; go = start own d o number fn argument }) else Undefined (plainly SignatureMismatch))
       by_test true = start_prints number fn argument
       by_test false = tt
 

@@ -18,7 +18,7 @@ fault_of-requires c =
     let s : Surround = with_locals (env_surround c.args.e.now) c.function_locals.result.now in
     let sound = subst (λ (ls : List Local). SoundValue (with_locals (env_surround c.args.e.now) ls) c.args.v.now) (sym c.function_locals.ensures.locals)
     (env_value c.args.e.now c.function_locals.ensures.well_formed c.args.v.now c.requires) in
-    ruled value_in c.in-Err.h (valued c.args.m.now s c.args.v.now (seen c.args.n.now)) (seen c.valued.new.notes) (ShapedAs s c.args.v.now) c.in-Err.ensures.given
+    ruled value_in c.in-Err.h (valued c.args.m.now s c.args.v.now (seen c.args.n.now)) (seen c.valued.new.notes) c.valued.new.notes.refused (ShapedAs s c.args.v.now) c.in-Err.ensures.given
     (value_ruled c.args.m.now s c.args.v.now (seen c.args.n.now) sound)
 
 pub returns-in-Ok-clause-shape : goal.returns-in-Ok-clause-shape

@@ -151,7 +151,7 @@ pub each_valued-returns-in_err-v-clause-given : goal.each_valued-returns-in_err-
 each_valued-returns-in_err-v-clause-given t c =
     let p = err_from_is_err_and c.from_residual.result c.from_residual.ensures.1 in
     rw (p.1, p.2) (row_stop c.args.here.now.memory.now (surround_of c.args.here.now) c.args.values.now c.loop-value.value-index c.loop-value.row (seen c.args.notes.now) (seen c.loop-value.notes)
-    c.loop-value.invariant.all c.value-item.result c.in_err-v.field-0.0 (seen c.valued.new.notes) c.loop-value-test.true c.value-item.is c.in_err-v.ensures.given)
+    c.loop-value.invariant.all c.value-item.result c.in_err-v.field-0.0 (seen c.valued.new.notes) c.valued.new.notes.refused c.loop-value-test.true c.value-item.is c.in_err-v.ensures.given)
 
 pub each_valued-loop-value-preserved : goal.each_valued-loop-value-preserved
 each_valued-loop-value-preserved t c =

@@ -1,5 +1,6 @@
 use Rattle.std.proofs.Common.{◌≡◌, Some, None, sym, ◌∙◌, subst}
 use Rattle.mr_base.specs.declared.reason.Reason.TheVariants.{TransmuteInvalid}
+use Rattle.mr_base.specs.Stops.{plainly}
 use Rattle.mr_base.specs.Script.{Outcome}
 use Rattle.mr_value.specs.Decode.{decoded}
 use Rattle.mr_value.specs.Encode.{encoding_of}
@@ -14,9 +15,9 @@ pub returns-in-Some-clause-given : goal.returns-in-Some-clause-given
 returns-in-Some-clause-given c =
     let new = encoding_of (ty_of c.args.from) c.args.v.now in
     let found : decoded c.args.to.now new ≡ Some c.in-Some.v = sym c.in_ok-v.ensures ∙ c.in-Some.is in
-    subst (λ (o : Outcome Val _). Gives same c.referred.result o (seen c.referred.new.notes))
+    subst (λ (o : Outcome Val _). Gives same c.referred.result o (seen c.referred.new.notes) c.referred.new.notes.refused)
     (sym (transmuted_run c.args.m.now c.args.to.now (ty_of c.args.from) c.args.v.now (seen c.args.notes.now) c.requires.shape
-    ∙ meant_some c.args.m.now TransmuteInvalid c.args.to.now new c.in-Some.v (seen c.args.notes.now) found)) c.referred.ensures.given
+    ∙ meant_some c.args.m.now (plainly TransmuteInvalid) c.args.to.now new c.in-Some.v (seen c.args.notes.now) found)) c.referred.ensures.given
 
 -- src/recasting.rt:128:1
 pub returns-in-None-clause-given : goal.returns-in-None-clause-given
@@ -24,4 +25,4 @@ returns-in-None-clause-given c =
     let new = encoding_of (ty_of c.args.from) c.args.v.now in
     let found : decoded c.args.to.now new ≡ None = sym c.in_ok-v.ensures ∙ c.in-None.is in
     transmuted_run c.args.m.now c.args.to.now (ty_of c.args.from) c.args.v.now (seen c.args.notes.now) c.requires.shape
-    ∙ meant_none c.args.m.now TransmuteInvalid c.args.to.now new (seen c.args.notes.now) found
+    ∙ meant_none c.args.m.now (plainly TransmuteInvalid) c.args.to.now new (seen c.args.notes.now) found

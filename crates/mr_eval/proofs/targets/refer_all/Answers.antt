@@ -9,7 +9,7 @@ pub returns-in_err-refer-clause-given : goal.returns-in_err-refer-clause-given
 returns-in_err-refer-clause-given c =
     let p = err_from_is_err_and c.from_residual.result c.from_residual.ensures.1 in
     rw (p.1, p.2) (referred_stop c.args.m.now c.args.targets.now c.loop-target.target-index (seen c.args.notes.now) (seen c.loop-target.notes) c.loop-target.invariant.all
-    _ c.in_err-refer.field-0.0 (seen c.refer.new.notes) c.loop-target-test.true c.in_err-refer.ensures.given)
+    _ c.in_err-refer.field-0.0 (seen c.refer.new.notes) c.refer.new.notes.refused c.loop-target-test.true c.in_err-refer.ensures.given)
 
 pub loop-target-preserved : goal.loop-target-preserved
 loop-target-preserved c = record {

@@ -14,5 +14,5 @@ returns-in_err-to-clause-given c =
     let new = seen c.moved.new.notes in
     let halt = c.in_err-to.field-0.0 in
     let p = err_from_is_err_and c.from_residual.result c.from_residual.ensures.1 in
-    let stop : Gives same (Err halt) (run (reading m) (moved c.args.p c.args.n) old) new = search rules in
-    rw (p.1, p.2) (moved_stop m c.args.p c.args.n halt old new stop)
+    let stop : Gives same (Err halt) (run (reading m) (moved c.args.p c.args.n) old) new c.moved.new.notes.refused = search rules in
+    rw (p.1, p.2) (moved_stop m c.args.p c.args.n halt old new c.moved.new.notes.refused stop)

@@ -33,7 +33,7 @@ returns-in-Err c =
     let fn = c.function-function.result.now in
     let types = behind_first c.requires.types in
     let typed = args_typed look number vs picks w c.requires fn c.function-function.ensures in
-    told_stop c.in-Err.fault (stored_each types (drop 1 c.as_slice.result.now) vs u) (entered number (slice_get look.program.now.functions number) vs picks w) (world_of c.store_each.new.s) (world_of c.store_each.new.s)
+    told_stop c.in-Err.fault (stored_each types (drop 1 c.as_slice.result.now) vs u) (entered number (slice_get look.program.now.functions number) vs picks w) (world_of c.store_each.new.s) (world_of c.store_each.new.s) c.store_each.new.s.notes.refused
     (c.in-Err.ensures types typed)
     (λ r e. begins_stop look number vs picks w c.requires fn c.function-function.ensures c.allocate_each.new.out.items u c.in_ok-allocate_each.ensures r
     (ap (λ (ps : List Pointer). stored_each types (drop 1 ps) vs u) (sym c.as_slice.ensures.value) ∙ e))

@@ -61,7 +61,7 @@ returns-in-Err c =
     let w = world_of c.loop-k.s in
     let t = c.local_at.result.now.ty in
     let cut = storing_cut fn xs k no_name ps nowhere vs c.index-args-k.result (world_of c.args.s.now) w c.loop-k-test.true c.loop-k.invariant in
-    λ types e. told_stop c.in-Err.fault (stored_in t (get_or ps (k + 1) nowhere) c.index-args-k.result w) (stored_each types (drop 1 ps) vs (world_of c.args.s.now)) (world_of c.store.new.s) (world_of c.store.new.s) c.in-Err.ensures
+    λ types e. told_stop c.in-Err.fault (stored_in t (get_or ps (k + 1) nowhere) c.index-args-k.result w) (stored_each types (drop 1 ps) vs (world_of c.args.s.now)) (world_of c.store.new.s) (world_of c.store.new.s) c.store.new.s.notes.refused c.in-Err.ensures
     (λ r stop. storing_stops fn (get_or xs k no_name) _ (get_or ps (k + 1) nowhere) _ _ (get_or vs k c.index-args-k.result) _ _ _ w cut c.local_at.result.now c.local_at.ensures r
     (ap (λ (v : Val). stored_in t (get_or ps (k + 1) nowhere) v w) (sym c.index-args-k.is) ∙ stop) types e)
 

@@ -26,7 +26,7 @@ returns-then-not-is_fitting c =
     let there = ap (λ (p : Program). slice_get p.functions number) (sym c.program.ensures.same) ∙ c.function_at.ensures in
     let given = given_known e c.args.args.now c.args.to.now c.requires.call in
     let kept = kept_known fn (has_locals e c.requires.inside.0 c.requires.inside.1 number fn there) in
-    λ s. called_other (look_in e) (given_types (env_surround e) c.args.to.now c.args.args.now) c.args.place c.args.row.items s (callee_of e.functions.now c.args.function) number (sym c.in-Some.ensures) fn there
+    λ s refused. called_other (look_in e) (given_types (env_surround e) c.args.to.now c.args.args.now) c.args.place c.args.row.items s (callee_of e.functions.now c.args.function) number (sym c.in-Some.ensures) fn there
     given.0 kept.0 given.1 kept.1 (sym (c.is_fitting.ensures given.0 kept.0 given.1 kept.1) ∙ c.if-not-is_fitting.true)
 
 pub returns : goal.returns
@@ -37,7 +37,7 @@ returns c =
     let there = ap (λ (p : Program). slice_get p.functions number) (sym c.program.ensures.same) ∙ c.function_at.ensures in
     let given = given_known e c.args.args.now c.args.to.now c.requires.call in
     let kept = kept_known fn (has_locals e c.requires.inside.0 c.requires.inside.1 number fn there) in
-    λ s. record {
+    λ s refused. record {
       function = fn;
       types = kept.0;
       there = there;

@@ -44,5 +44,5 @@ returns c =
     let shape = assign_shape e c.args.to.now c.args.«from».now c.type_at.result.now c.in_ok-v.v c.requires c.type_at.ensures c.in_ok-v.ensures.shape in
     let is = assign_went c.args.m.now (env_surround e) c.args.to.now c.args.«from».now (seen c.args.n.now) (seen c.place.new.n) (seen c.value.new.n) c.in_ok-p.p c.in_ok-v.v c.type_at.result.now
     c.in_ok-p.ensures.given c.in_ok-v.ensures.given c.type_at.ensures.is shape in
-    let P : Outcome Memory Seen → Type 0 = λ o. Leaves c.store_typed.result o c.store_typed.new.m (seen c.store_typed.new.n) in
+    let P : Outcome Memory Seen → Type 0 = λ o. Leaves c.store_typed.result o c.store_typed.new.m (seen c.store_typed.new.n) c.store_typed.new.n.refused in
     subst P (sym is) c.store_typed.ensures.given

@@ -12,7 +12,7 @@ pub returns-in-Some-Some-Some : goal.returns-in-Some-Some-Some
 returns-in-Some-Some-Some c =
     let here = c.in-Some-Some-Some in
     let w = world_of c.args.s.now in
-    let P : Outcome (Unit {0}) World → Type 0 = λ o. Tells c.store.result o (world_of c.store.new.s) in
+    let P : Outcome (Unit {0}) World → Type 0 = λ o. Tells c.store.result o (world_of c.store.new.s) c.store.new.s.notes.refused in
     subst P (sym ((λ i. result_stored (here.is-0 i) (here.is-1 i) (option_copied (here.is-2 i)) w) ∙ stored_some here.p here.t here.v.now w)) c.store.ensures
 
 pub returns-in_default-3 : goal.returns-in_default-3

@@ -27,7 +27,7 @@ returns-in-Err c =
     let d = c.index-locals-k.result in
     let w = world_of c.loop-k.s in
     let same = c.requires.len in
-    told_stop c.in-Err.fault (unstored (get_or st k None) c.byte_size.result c.byte_align.result w) (freed_each ls st (world_of c.args.s.now)) (world_of c.release.new.s) (world_of c.release.new.s) c.in-Err.ensures
+    told_stop c.in-Err.fault (unstored (get_or st k None) c.byte_size.result c.byte_align.result w) (freed_each ls st (world_of c.args.s.now)) (world_of c.release.new.s) (world_of c.release.new.s) c.release.new.s.notes.refused c.in-Err.ensures
     (λ r e. c.loop-k.invariant
     ∙ freed_stop ls st k d None c.loop-k-test.true (omega (arith, same, c.loop-k-test.true)) w r
     (found_freed ls st k d w c.byte_size.result c.byte_align.result c.index-locals-k.is c.byte_size.ensures c.byte_align.ensures.is ∙ e))

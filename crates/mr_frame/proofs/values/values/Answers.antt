@@ -1,11 +1,10 @@
 use Rattle.std.proofs.Common.{◌+◌, refl, ap, sym, ◌∙◌, drop, arith}
 use Rattle.mr_eval.specs.Answers.{seen}
 use Rattle.mr_eval.specs.Environment.{env_surround}
-use Rattle.mr_eval.specs.Evaluated.{each_valued, valued}
-use Rattle.mr_eval.specs.declared.halt.Halt.TheVariants as halt
+use Rattle.mr_eval.specs.Evaluated.{each_valued}
 use Rattle.mr_eval.proofs.ExtendsLaws.{extends_same, extends_then}
-use Rattle.mr_eval.proofs.RowRuns.{behind_row, row_end, row_next, row_stop}
-use Rattle.mr_frame.proofs.ToldLaws.{told_stop}
+use Rattle.mr_eval.proofs.RowRuns.{behind_row, row_end, row_next}
+use Rattle.mr_frame.proofs.ToldLaws.{row_told}
 use Rattle.mr_plan.proofs.SafetyLaws.{on_itself}
 use Rattle.mr_frame.proofs.values.values.Goals as goal
 
@@ -19,8 +18,8 @@ pub returns-in-Err-clause-given : goal.returns-in-Err-clause-given
 returns-in-Err-clause-given c =
     let m = c.args.m.now in
     let s = env_surround c.args.e.now in
-    told_stop c.in-Err.fault (valued m s c.arg-item.result (seen c.loop-arg.n)) (each_valued m s c.args.args.now (seen c.args.n.now)) (seen c.value.new.n) (seen c.value.new.n) c.in-Err.ensures.given
-    (λ r e. row_stop m s c.args.args.now c.loop-arg.arg-index c.loop-arg.row.items (seen c.args.n.now) (seen c.loop-arg.n) c.loop-arg.invariant.all c.arg-item.result (halt.Undefined r) (seen c.value.new.n) c.loop-arg-test.true c.arg-item.is e)
+    row_told m s c.args.args.now c.loop-arg.arg-index c.loop-arg.row.items (seen c.args.n.now) (seen c.loop-arg.n) c.loop-arg.invariant.all c.arg-item.result c.in-Err.fault (seen c.value.new.n)
+    c.value.new.n.refused c.loop-arg-test.true c.arg-item.is c.in-Err.ensures.given
 
 pub returns-in-Err-clause-kept : goal.returns-in-Err-clause-kept
 returns-in-Err-clause-kept c = extends_then (seen c.args.n.now) (seen c.loop-arg.n) (seen c.value.new.n) c.loop-arg.invariant.kept c.in-Err.ensures.kept

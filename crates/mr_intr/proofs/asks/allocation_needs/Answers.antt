@@ -2,7 +2,7 @@ use Rattle.std.proofs.Common.{List, ap, sym, ◌∙◌}
 use Rattle.std.specs.Prelude.{slice_get}
 use Rattle.mr_value.specs.declared.val.Val.{Val}
 use Rattle.mr_intr.proofs.Arguments.{allocate_takes}
-use Rattle.mr_intr.proofs.NeedLaws.{allocation_asks}
+use Rattle.mr_intr.proofs.NeedLaws.{allocation_asks, allocation_stops}
 use Rattle.mr_intr.proofs.asks.allocation_needs.Goals as goal
 
 pub size_at-size-requires : goal.size_at-size-requires
@@ -20,3 +20,9 @@ returns-in-None c =
     λ types place w.
     allocation_asks c.args.args.now c.size_at-size.result c.size_at-align.result c.requires c.size_at-size.ensures c.size_at-align.ensures types place w c.asking.result c.asking.ensures
     (sym c.allocation_fault.ensures ∙ c.in-None.is)
+
+pub returns-in-Some : goal.returns-in-Some
+returns-in-Some c =
+    λ types place w.
+    allocation_stops c.args.args.now c.size_at-size.result c.size_at-align.result c.requires c.size_at-size.ensures c.size_at-align.ensures types place w c.in-Some.reason
+    (sym c.allocation_fault.ensures ∙ c.in-Some.is)

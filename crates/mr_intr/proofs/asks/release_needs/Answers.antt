@@ -1,8 +1,9 @@
 use Rattle.std.proofs.Common.{List, Bool, Ok, ap, sym, ◌∙◌}
+use Rattle.std.proofs.lemmas.Result.{err_from_is_err_and}
 use Rattle.std.specs.Prelude.{slice_get}
 use Rattle.mr_value.specs.declared.val.Val.{Val}
 use Rattle.mr_intr.proofs.Arguments.{release_takes}
-use Rattle.mr_intr.proofs.NeedLaws.{release_asks, release_asks_nothing}
+use Rattle.mr_intr.proofs.NeedLaws.{release_asks, release_asks_nothing, release_stops}
 use Rattle.mr_intr.proofs.asks.release_needs.Goals as goal
 
 pub number_at-lock-requires : goal.number_at-lock-requires
@@ -21,3 +22,10 @@ returns-else-branch c =
     λ types place m n same.
     release_asks_nothing c.args.args.now c.requires c.number_at-lock.result c.number_at-lock.ensures types place m n c.args.sync.now c.args.thread same c.asking-else-branch.result c.asking-else-branch.ensures
     (sym c.in_ok-waits_for_held.ensures ∙ ap (λ (b : Bool). Ok b) c.if-branch.false)
+
+pub returns-in_err-waits_for_held : goal.returns-in_err-waits_for_held
+returns-in_err-waits_for_held c =
+    λ types place m n same.
+    let p = err_from_is_err_and c.from_residual.result c.from_residual.ensures.1 in
+    rw (p.1, p.2) (release_stops c.args.args.now c.requires c.number_at-lock.result c.number_at-lock.ensures types place m n c.args.sync.now c.args.thread same
+    c.in_err-waits_for_held.field-0.0 (sym c.in_err-waits_for_held.ensures))

@@ -81,10 +81,10 @@ returns-in_err-store_bytes-clause-done c =
     let bytes : c.as_slice.result.now ≡ written =
     c.as_slice.ensures.value ∙ c.in_ok-encode.ensures.ok ∙ ap (λ (xs : List AbstractByte). xs ++ encoding_of c.index-types-1.result c.index-args-1.result) c.new-bytes.ensures.items ∙ (λ i. encoding_of (t i) (v i)) in
     let align : c.align.result ≡ align_of (ty.Int takes.int) = c.align.ensures ∙ ap align_of t in
-    let P : List AbstractByte → ℕ → Type 0 = λ b a. Leaves (Err f) (storing s.memory true p b a (seen s.notes)) c.store_bytes.new.m (seen c.store_bytes.new.notes) in
+    let P : List AbstractByte → ℕ → Type 0 = λ b a. Leaves (Err f) (storing s.memory true p b a (seen s.notes)) c.store_bytes.new.m (seen c.store_bytes.new.notes) c.store_bytes.new.notes.refused in
     let stored : P written (align_of (ty.Int takes.int)) = subst (P written) align (subst (λ b. P b c.align.result) bytes c.in_err-store_bytes.ensures.given) in
     let run = store_read c.args.args.now types place picks (begun s x) p c.pointer_at-p.ensures takes in
     let q = Write true p written (align_of (ty.Int takes.int)) in
     does_handed intrinsic.AtomicStore c.from_residual-in_err-store_bytes.result f _ new x out c.from_residual-in_err-store_bytes.ensures.1
     (fault_as intrinsic.AtomicStore new x out out _ _ run f
-    (memory_fault intrinsic.AtomicStore q (λ u. None) s x new out f (write_fault s f c.store_bytes.new.m (seen c.store_bytes.new.notes) p written (align_of (ty.Int takes.int)) (world_of new) stored)))
+    (memory_fault intrinsic.AtomicStore q (λ u. None) s x new out f (write_fault s f c.store_bytes.new.m (seen c.store_bytes.new.notes) p written (align_of (ty.Int takes.int)) (world_of new) c.store_bytes.new.notes.refused stored)))

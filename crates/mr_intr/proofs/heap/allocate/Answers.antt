@@ -11,6 +11,9 @@ use Rattle.mr_intr.specs.declared.effect.Effect.{Effect}
 use Rattle.mr_intr.proofs.Arguments.{allocate_takes}
 use Rattle.mr_intr.proofs.HeapLaws.{allocated, allocation_allowed, allocation_asked, allocation_picks, allocation_refused, first}
 use Rattle.mr_intr.proofs.OperatedLaws.{done_as, memory_went}
+use Rattle.mr_base.specs.Script.{Refused}
+use Rattle.mr_eval.proofs.RefusedLaws.{stop_plainly}
+use Rattle.mr_intr.proofs.OwnReasons.{allocation_own}
 use Rattle.mr_intr.proofs.heap.allocate.Goals as goal
 
 pub size_at-size-requires : goal.size_at-size-requires
@@ -30,7 +33,8 @@ pub returns-in-Some-clause-done : goal.returns-in-Some-clause-done
 returns-in-Some-clause-done c =
     λ types place x out. (
       allocated c.args.args.now types place c.args.picks.now (begun c.args.s.now x) c.size_at-size.result c.size_at-align.result c.requires.fits c.size_at-size.ensures c.size_at-align.ensures
-          ∙ allocation_refused c.size_at-size.result c.size_at-align.result c.args.picks.now (begun c.args.s.now x) c.in-Some.reason (sym c.allocation_fault.ensures ∙ c.in-Some.is),
+          ∙ allocation_refused c.size_at-size.result c.size_at-align.result c.args.picks.now (begun c.args.s.now x) c.in-Some.reason (sym c.allocation_fault.ensures ∙ c.in-Some.is)
+          ∙ ap Refused (stop_plainly c.args.s.now.notes.refused c.in-Some.reason (allocation_own c.size_at-size.result c.size_at-align.result c.in-Some.reason (sym c.allocation_fault.ensures ∙ c.in-Some.is))),
       refl,
     )
 

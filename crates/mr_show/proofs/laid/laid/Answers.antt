@@ -7,7 +7,7 @@ use Rattle.mr_start.specs.ThreadSteps.{Own}
 use Rattle.mr_input.specs.declared.written.Written.{Written}
 use Rattle.mr_input.specs.Answer.{Answer, seen as written_as}
 use Rattle.mr_listing.specs.Seen.{Seen}
-use Rattle.mr_labels.specs.declared.reached.Reached.{Reached}
+use Rattle.mr_base.specs.declared.reached.Reached.{Reached}
 use Rattle.mr_show.specs.Answer.{part_answer}
 use Rattle.mr_show.specs.Gathered.{gathered}
 use Rattle.mr_show.proofs.laid.laid.Goals as goal
@@ -22,10 +22,6 @@ written-requires-clause-feet c =
 pub written-requires-clause-tracks : goal.written-requires-clause-tracks
 written-requires-clause-tracks c =
     subst (λ (feet : List Footprint). Tracks c.order.result.now feet) (sym c.steps.ensures) c.order.ensures
-
-pub part_spoken-requires-clause-verdict : goal.part_spoken-requires-clause-verdict
-part_spoken-requires-clause-verdict c =
-    sym (c.verdict-2.ensures ∙ ap (λ (x : Config Own). x.verdict) c.requires.run.config)
 
 pub returns-clause-answer : goal.returns-clause-answer
 returns-clause-answer c =
@@ -63,8 +59,9 @@ returns-clause-answer c =
       rests = rests i;
     }) in
     let part = c.args.part in
-    let spoken : Option Reached = c.in_ok-spoken.spoken in
+    let spoken : Option Reached = c.about.result in
     let laid : IfOk c.written.result (λ (a : Written). written_as a ≡ part_answer part spoken there) =
     subst (λ (s : Seen). IfOk c.written.result (λ (a : Written). written_as a ≡ part_answer part spoken s)) same
     c.written.ensures.answer in
-    subst (λ (x : Answer). IfOk c.written.result (λ (a : Written). written_as a ≡ x)) (c.in_ok-spoken.ensures there) laid
+    subst (λ (x : Option Reached). IfOk c.written.result (λ (a : Written). written_as a ≡ part_answer part x there))
+    (c.about.ensures ∙ ap (λ (x : Config Own). x.about) c.requires.run.config) laid

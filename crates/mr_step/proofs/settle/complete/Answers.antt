@@ -36,6 +36,7 @@ returns-clause-ok c = λ th n here tells.
       last = c.keep_last.new.last;
       completed = p.completed + 1;
       verdict = c.verdict_behind-verdict.result;
+      about = p.about;
     } in
     let behind : IsBehind edition p t s d th.stack foot q = record {
       foot = refl;
@@ -49,5 +50,6 @@ returns-clause-ok c = λ th n here tells.
       last = c.in_ok-keep_last.ensures ∙ ap (λ (x : Scene). Some (foot_by x d)) whole;
       completed = refl;
       verdict = c.verdict_behind-verdict.ensures d ∙ ap (λ o. verdict_in o (foot_by c.complete_accesses.new.scene d) p.sync) c.as_ref.ensures.value ∙ ap (λ (x : Scene). verdict_in p.last (foot_by x d) p.sync) whole;
+      about = refl;
     } in
     leads p t s d th.stack n tells (look_of c.args.look.now) c.requires.flow c.requires.at.there q foot behind

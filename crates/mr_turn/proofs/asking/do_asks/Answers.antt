@@ -3,6 +3,7 @@ use Rattle.std.specs.Prelude.{Err, None, Ok}
 use Rattle.mr_mem.specs.declared.fault.Fault.{Fault}
 use Rattle.mr_mem.specs.declared.fault.Fault.TheVariants as fault
 use Rattle.mr_base.specs.Script.{Went}
+use Rattle.mr_base.specs.Stops.{stop_with}
 use Rattle.mr_eval.specs.Answers.{seen}
 use Rattle.mr_eval.specs.World.{TellsBy}
 use Rattle.mr_frame.specs.Doing.{operands_of}
@@ -39,9 +40,9 @@ returns-in-Err-Undefined c = λ count.
     let thread = c.args.thread in
     let (d, due, is) = c.requires.due in
     let r = c.in-Err-Undefined.field-0-0 in
-    let given = subst (λ (f : Fault). TellsBy operands_of (Err f) (argued m (look_of look) d (seen c.new-notes.result)) (seen c.arguments.new.notes)) c.in-Err-Undefined.field-0-is (c.in-Err-Undefined.ensures.given d due) in
-    let fresh = subst (λ v. TellsBy operands_of (Err (fault.Undefined r)) (argued m (look_of look) d v) (seen c.arguments.new.notes)) c.new-notes.ensures given in
-    subst (λ n. AsksAnswer {E = Unit {0}} (shared_of m x) n c.args.out.now.items c.args.out.now.items (Ok None)) (sym (stopped_needs look stack m x thread count d due r fresh)) (none_asked (shared_of m x) c.args.out.now.items)
+    let given = subst (λ (f : Fault). TellsBy operands_of (Err f) (argued m (look_of look) d (seen c.new-notes.result)) (seen c.arguments.new.notes) c.arguments.new.notes.refused) c.in-Err-Undefined.field-0-is (c.in-Err-Undefined.ensures.given d due) in
+    let fresh = subst (λ v. TellsBy operands_of (Err (fault.Undefined r)) (argued m (look_of look) d v) (seen c.arguments.new.notes) c.arguments.new.notes.refused) c.new-notes.ensures given in
+    subst (λ n. AsksAnswer {E = Unit {0}} (shared_of m x) n c.args.out.now.items c.args.out.now.items (Ok None)) (sym (stopped_needs look stack m x thread count d due (stop_with c.arguments.new.notes.refused r) fresh)) (none_asked (shared_of m x) c.args.out.now.items)
 
 pub returns-in-if : goal.returns-in-if
 returns-in-if c = λ count.

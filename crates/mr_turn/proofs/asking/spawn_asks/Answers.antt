@@ -1,5 +1,6 @@
 use Rattle.std.proofs.Common.{subst, sym}
 use Rattle.std.specs.Prelude.{None, Ok}
+use Rattle.mr_base.specs.Stops.{plainly}
 use Rattle.mr_base.specs.declared.reason.Reason.TheVariants.{NotAFunction}
 use Rattle.mr_ast.specs.declared.program.Intrinsic.TheVariants as intrinsic
 use Rattle.mr_frame.specs.Doing.{operands_of}
@@ -45,5 +46,5 @@ returns-in-None c = λ d due m n here.
     let to = spawn_given_for d is (operands_of call) g.operands in
     let none = no_callee look (operands_of call) to c.as_slice.result.now c.as_slice.ensures.value c.callee_in.result c.callee_in.ensures c.in-None.ensures in
     subst (λ k. AsksAnswer {E = Unit {0}} (shared_of m x) k c.args.out.now.items c.args.out.now.items (Ok None))
-    (sym (stops_needs (look_of look) own d (operands_of call) (shared_of m x, n) NotAFunction (none_planned (look_of look) own d (operands_of call) is to.callee to.argument to.args (shared_of m x, n) none)))
+    (sym (stops_needs (look_of look) own d (operands_of call) (shared_of m x, n) (plainly NotAFunction) (none_planned (look_of look) own d (operands_of call) is to.callee to.argument to.args (shared_of m x, n) none)))
     (none_asked (shared_of m x) c.args.out.now.items)

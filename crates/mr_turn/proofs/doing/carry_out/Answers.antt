@@ -41,7 +41,7 @@ returns-in-Err c = λ d due.
     let h = carried_for look stack s x call c.args.op picks c.requires.given d due in
     let o = do_comes_to look stack s x call d picks in
     let W = Does stack s x o stack c.operate.new.s c.operate.new.sync in
-    subst (λ (f : TurnFault). DeedAnswer (Err f) (do_comes_to look stack s x call d picks) (Does stack s x (do_comes_to look stack s x call d picks) stack c.operate.new.s c.operate.new.sync)) (sym c.from.ensures)
+    subst (λ (f : TurnFault). DeedAnswer (Err f) (do_comes_to look stack s x call d picks) c.operate.new.s.notes.refused (Does stack s x (do_comes_to look stack s x call d picks) stack c.operate.new.s c.operate.new.sync)) (sym c.from.ensures)
     (carry_refused look stack s x call d h.0 c.args.op h.1 c.requires.kind picks c.in-Err.fault c.operate.new.s c.operate.new.sync [] c.operate.new.output.items (Does stack s x (do_comes_to look stack s x call d picks) stack c.operate.new.s c.operate.new.sync)
     (carry_done look stack s x call d h.0 c.args.op h.1 c.requires.kind picks c.as_slice-args.result.now c.as_slice-args.ensures.value c.as_slice-types.result.now c.as_slice-types.ensures.value _ c.as_ref-place.ensures.value (Err c.in-Err.fault) c.operate.new.s c.operate.new.sync c.new-text.result.items c.new-text.ensures.items c.operate.new.output.items c.in-Err.ensures.done))
 

@@ -2,6 +2,7 @@ use Rattle.std.proofs.Common.{refl, subst, subst₂, sym}
 use Rattle.std.specs.Prelude.{Err, Option}
 use Rattle.mr_mem.specs.declared.fault.Fault.{Fault}
 use Rattle.mr_base.specs.Script.{Outcome}
+use Rattle.mr_base.specs.Stops.{stop_with}
 use Rattle.mr_eval.specs.Answers.{seen}
 use Rattle.mr_eval.specs.World.{TellsBy}
 use Rattle.mr_frame.specs.PlanLegal.{Fault as FaultOf}
@@ -48,11 +49,13 @@ returns-in-Err-Undefined c =
     let picks = c.args.picks.now in
     let (d, due, is) = c.requires.due in
     let r = c.in-Err-Undefined.reason in
-    let given = subst (λ (f : Fault). TellsBy operands_of (Err f) (argued s.memory (look_of look) d (seen s.notes)) (seen c.arguments.new.notes)) c.in-Err-Undefined.field-0-is (c.in-Err-Undefined.ensures.given d due) in
+    let last = c.arguments.new.notes.refused in
+    let given = subst (λ (f : Fault). TellsBy operands_of (Err f) (argued s.memory (look_of look) d (seen s.notes)) (seen c.arguments.new.notes) last) c.in-Err-Undefined.field-0-is (c.in-Err-Undefined.ensures.given d due) in
     let o = comes_to look stack s x picks in
     let later = record s { notes = c.arguments.new.notes } in
-    stopped_turn c.stopped.result r picks s x (planned (look_of look) (own_of s.thread stack) (begun s x)) o (Does stack s x o stack later x) (IsSame stack s x stack later x)
-    (subst (λ q. StopAnswer c.stopped.result q picks) c.in-Err-Undefined.reason-is c.stopped.ensures) (stopped_planned look stack s x d due picks r given) (stopped_comes look stack s x d due picks r given)
+    stopped_turn c.stopped.result r picks s x (planned (look_of look) (own_of s.thread stack) (begun s x)) o last (Does stack s x o stack later x) (IsSame stack s x stack later x)
+    (subst (λ q. StopAnswer c.stopped.result q picks) c.in-Err-Undefined.reason-is c.stopped.ensures) (stopped_planned look stack s x d due picks (stop_with last r) given)
+    (stopped_comes look stack s x d due picks (stop_with last r) given)
     (record { stack = refl; memory = refl; tables = refl })
 
 pub returns-in-Ok : goal.returns-in-Ok
@@ -67,7 +70,7 @@ returns-in-Ok c =
     let later : Scene = record s { notes = c.arguments.new.notes } in
     let b = do_breaks look stack later x c.in-Ok.call d picks in
     let o = do_comes_to look stack later x c.in-Ok.call d picks in
-    subst₂ (λ (b : Option FaultOf) (o : Outcome Turn (Shared × Notes)). TurnAnswer c.act.result b o (Does stack s x o c.act.new.stack c.act.new.s c.act.new.sync) (IsSame stack s x c.act.new.stack c.act.new.s c.act.new.sync))
+    subst₂ (λ (b : Option FaultOf) (o : Outcome Turn (Shared × Notes)). TurnAnswer c.act.result b o c.act.new.s.notes.refused (Does stack s x o c.act.new.stack c.act.new.s c.act.new.sync) (IsSame stack s x c.act.new.stack c.act.new.s c.act.new.sync))
     (sym (given_breaks look stack s x d due picks c.arguments.new.notes c.in-Ok.call given)) (sym (given_comes look stack s x d due picks c.arguments.new.notes c.in-Ok.call given))
-    (turn_same c.act.result b o (Does stack s x o c.act.new.stack c.act.new.s c.act.new.sync) (IsSame stack later x c.act.new.stack c.act.new.s c.act.new.sync) (IsSame stack s x c.act.new.stack c.act.new.s c.act.new.sync)
+    (turn_same c.act.result b o c.act.new.s.notes.refused (Does stack s x o c.act.new.stack c.act.new.s c.act.new.sync) (IsSame stack later x c.act.new.stack c.act.new.s c.act.new.sync) (IsSame stack s x c.act.new.stack c.act.new.s c.act.new.sync)
     (λ same. record { stack = same.stack; memory = same.memory; tables = same.tables }) (c.act.ensures d due))

@@ -15,6 +15,6 @@ returns-in-Err c = λ d due.
     let o = finished (stack_of c.args.stack.now) d (operands_of c.args.call.now) c.args.effect.value (world_of c.args.s.now) in
     let k = stack_of c.finish.new.self in
     let w = world_of c.finish.new.s in
-    subst (λ (f : TurnFault). EndAnswer (Err f) o k w (IsTold c.args.op c.args.effect c.args.text.items)) (sym c.from.ensures)
-    (ended_refused c.in-Err.fault o k w (IsTold c.args.op c.args.effect c.args.text.items)
-    (subst (λ v. TellsBy {X = Unit {0}} {Y = Stack} (λ u. k) (Err c.in-Err.fault) (finished (stack_of c.args.stack.now) d (operands_of c.args.call.now) v (world_of c.args.s.now)) w) c.as_ref.ensures.value (c.in-Err.ensures d due)))
+    subst (λ (f : TurnFault). EndAnswer (Err f) o k w c.finish.new.s.notes.refused (IsTold c.args.op c.args.effect c.args.text.items)) (sym c.from.ensures)
+    (ended_refused c.in-Err.fault o k w c.finish.new.s.notes.refused (IsTold c.args.op c.args.effect c.args.text.items)
+    (subst (λ v. TellsBy {X = Unit {0}} {Y = Stack} (λ u. k) (Err c.in-Err.fault) (finished (stack_of c.args.stack.now) d (operands_of c.args.call.now) v (world_of c.args.s.now)) w c.finish.new.s.notes.refused) c.as_ref.ensures.value (c.in-Err.ensures d due)))

@@ -1,5 +1,8 @@
-use Rattle.std.proofs.Common.{◌∙◌, refl, subst, sym}
+use Rattle.std.proofs.Common.{◌∙◌, ap, refl, subst, sym}
 use Rattle.std.specs.Prelude.{Err, Ok}
+use Rattle.mr_base.specs.Script.{Refused}
+use Rattle.mr_base.specs.Stops.{stop_with}
+use Rattle.mr_eval.proofs.RefusedLaws.{stop_plainly}
 use Rattle.mr_frame.specs.Doing.{operands_of}
 use Rattle.mr_frame.specs.Kept.{look_of}
 use Rattle.mr_turn.specs.Doing.{do_breaks, do_comes_to, do_planned}
@@ -31,9 +34,10 @@ returns-in-Err c = λ d due.
     let picks = c.args.picks.now in
     let g = given_for look stack s x call c.args.op c.requires.given d due in
     let o = do_comes_to look stack s x call d picks in
-    let stops = told_needs look stack s x call d g.0 c.args.op g.1 c.requires.kind picks c.as_slice.result.now c.as_slice.ensures.value (Err c.in-Err.reason) c.in-Err.ensures in
-    stopped_turn c.stopped.result c.in-Err.reason picks s x (do_planned (look_of look) (own_of s.thread stack) d (operands_of call) (begun s x)) o (Does stack s x o stack s x) (IsSame stack s x stack s x)
-    c.stopped.ensures (carry_stops look stack s x call d g.0 c.args.op g.1 c.requires.kind picks c.in-Err.reason stops) (carry_comes look stack s x call d g.0 c.args.op g.1 c.requires.kind picks c.in-Err.reason stops)
+    let told = told_needs look stack s x call d g.0 c.args.op g.1 c.requires.kind picks c.as_slice.result.now c.as_slice.ensures.value (Err c.in-Err.reason) c.in-Err.ensures in
+    let stops = told.0 ∙ ap Refused (stop_plainly s.notes.refused c.in-Err.reason told.1) in
+    stopped_turn c.stopped.result c.in-Err.reason picks s x (do_planned (look_of look) (own_of s.thread stack) d (operands_of call) (begun s x)) o s.notes.refused (Does stack s x o stack s x) (IsSame stack s x stack s x)
+    c.stopped.ensures (carry_stops look stack s x call d g.0 c.args.op g.1 c.requires.kind picks (stop_with s.notes.refused c.in-Err.reason) stops) (carry_comes look stack s x call d g.0 c.args.op g.1 c.requires.kind picks (stop_with s.notes.refused c.in-Err.reason) stops)
     (record { stack = refl; memory = refl; tables = refl })
 
 pub returns-in-Err-meets : goal.returns-in-Err-meets
@@ -47,7 +51,7 @@ returns-in-Err-meets c = λ d due.
     let g = given_for look stack s x call c.args.op c.requires.given d due in
     let o = do_comes_to look stack s x call d picks in
     let needs = told_needs look stack s x call d g.0 c.args.op g.1 c.requires.kind picks c.as_slice.result.now c.as_slice.ensures.value (Ok c.in-Ok.needs) c.in-Ok.ensures in
-    judged_broken c.in-Err-meets.fault (do_breaks look stack s x call d picks) o (Does stack s x o stack s x) (IsSame stack s x stack s x)
+    judged_broken c.in-Err-meets.fault (do_breaks look stack s x call d picks) o s.notes.refused (Does stack s x o stack s x) (IsSame stack s x stack s x)
     (subst (JudgeAnswer (Err c.in-Err-meets.fault)) (sym (carry_needs look stack s x call d g.0 c.args.op g.1 c.requires.kind picks c.in-Ok.needs needs)) c.in-Err-meets.ensures)
     (record { stack = refl; memory = refl; tables = refl })
 
@@ -62,6 +66,6 @@ returns-in-Ok-meets c = λ d due.
     let g = given_for look stack s x call c.args.op c.requires.given d due in
     let o = do_comes_to look stack s x call d picks in
     let needs = told_needs look stack s x call d g.0 c.args.op g.1 c.requires.kind picks c.as_slice.result.now c.as_slice.ensures.value (Ok c.in-Ok.needs) c.in-Ok.ensures in
-    deed_is_turn c.carry_out.result (do_breaks look stack s x call d picks) o (Does stack s x o c.carry_out.new.stack c.carry_out.new.s c.carry_out.new.sync) (IsSame stack s x c.carry_out.new.stack c.carry_out.new.s c.carry_out.new.sync)
+    deed_is_turn c.carry_out.result (do_breaks look stack s x call d picks) o c.carry_out.new.s.notes.refused (Does stack s x o c.carry_out.new.stack c.carry_out.new.s c.carry_out.new.sync) (IsSame stack s x c.carry_out.new.stack c.carry_out.new.s c.carry_out.new.sync)
     (carry_needs look stack s x call d g.0 c.args.op g.1 c.requires.kind picks c.in-Ok.needs needs ∙ c.in-Ok-meets.ensures)
     (c.carry_out.ensures d due)

@@ -24,7 +24,7 @@ returns-in-None c = λ d due.
     let picks = c.args.picks.now in
     let g = given_for look stack s x call intrinsic.Payload c.requires d due in
     let o = do_comes_to look stack s x call d picks in
-    stopped_turn c.stopped.result NoPayload picks s x (do_planned (look_of look) (own_of s.thread stack) d (operands_of call) (begun s x)) o (Does stack s x o stack s x) (IsSame stack s x stack s x)
+    stopped_turn c.stopped.result NoPayload picks s x (do_planned (look_of look) (own_of s.thread stack) d (operands_of call) (begun s x)) o s.notes.refused (Does stack s x o stack s x) (IsSame stack s x stack s x)
     c.stopped.ensures (payload_stops look stack s x call d g.1 picks (sym c.in-None.ensures)) (payload_comes look stack s x call d g.1 picks (sym c.in-None.ensures))
     (record { stack = refl; memory = refl; tables = refl })
 
@@ -38,8 +38,8 @@ returns-in-Err c = λ d due.
     let picks = c.args.picks.now in
     let g = given_for look stack s x call intrinsic.Payload c.requires d due in
     let o = do_comes_to look stack s x call d picks in
-    subst (λ f. TurnAnswer (Err c.in-Err.fault) f o (Does stack s x o stack s x) (IsSame stack s x stack s x)) (sym (payload_breaks look stack s x call d g.1 picks c.in-Some.last (sym c.in-Some.ensures)))
-    (judged_broken c.in-Err.fault (asks_break s x [] picks) o (Does stack s x o stack s x) (IsSame stack s x stack s x) c.in-Err.ensures (record { stack = refl; memory = refl; tables = refl }))
+    subst (λ f. TurnAnswer (Err c.in-Err.fault) f o s.notes.refused (Does stack s x o stack s x) (IsSame stack s x stack s x)) (sym (payload_breaks look stack s x call d g.1 picks c.in-Some.last (sym c.in-Some.ensures)))
+    (judged_broken c.in-Err.fault (asks_break s x [] picks) o s.notes.refused (Does stack s x o stack s x) (IsSame stack s x stack s x) c.in-Err.ensures (record { stack = refl; memory = refl; tables = refl }))
 
 pub end-requires : goal.end-requires
 end-requires c =
@@ -70,9 +70,9 @@ returns-in-Ok c = λ d due.
     let p = c.in-Some.last in
     let here = sym c.in-Some.ensures in
     let k = stack_of c.end.new.stack in
-    deed_is_turn c.end.result (do_breaks look stack s x call d picks) o (Does stack s x o c.end.new.stack c.end.new.s x) (IsSame stack s x c.end.new.stack c.end.new.s x)
+    deed_is_turn c.end.result (do_breaks look stack s x call d picks) o c.end.new.s.notes.refused (Does stack s x o c.end.new.stack c.end.new.s x) (IsSame stack s x c.end.new.stack c.end.new.s x)
     (payload_breaks look stack s x call d g.1 picks p here ∙ c.in-Ok.ensures)
-    (end_is_deed c.end.result (finished (stack_of stack) d (operands_of call) (Some (val.Ptr p)) (world_of s)) k (world_of c.end.new.s) IsNoted (Does stack s x o c.end.new.stack c.end.new.s x) o
+    (end_is_deed c.end.result (finished (stack_of stack) d (operands_of call) (Some (val.Ptr p)) (world_of s)) k (world_of c.end.new.s) c.end.new.s.notes.refused IsNoted (Does stack s x o c.end.new.stack c.end.new.s x) o
     (c.end.ensures d due)
     (λ deed went noted. payload_done look stack s x call d g.1 picks p here (length x.statuses) c.end.new.stack c.end.new.s deed went noted)
     (λ r h. payload_refused look stack s x call d g.1 picks p here r h))

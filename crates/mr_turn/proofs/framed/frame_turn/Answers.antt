@@ -18,7 +18,7 @@ returns-in-Err c =
     let asked_is = c.as_slice.ensures.value ∙ c.in_ok-asks.ensures.ok s.thread ∙ ap (λ l. l ++ asked s.memory (look_of look) s.thread (stack_of stack) nothing_seen) c.new-asks.ensures.items in
     let fault_is : asks_break s x c.as_slice.result.now picks ≡ breaks look stack s x picks =
     ap (λ a. asks_break s x a picks) asked_is ∙ sym (frame_breaks look stack s x picks c.requires.other c.requires.begins.begins) in
-    judged_broken c.in-Err.fault (breaks look stack s x picks) o (Does stack s x o stack s x) (IsSame stack s x stack s x)
+    judged_broken c.in-Err.fault (breaks look stack s x picks) o s.notes.refused (Does stack s x o stack s x) (IsSame stack s x stack s x)
     (subst (JudgeAnswer (Err c.in-Err.fault)) fault_is c.in-Err.ensures)
     (record { stack = refl; memory = refl; tables = refl })
 
@@ -45,6 +45,6 @@ returns c =
     let picks = c.args.picks.now in
     let o = comes_to look stack s x picks in
     let asked_is = c.as_slice.ensures.value ∙ c.in_ok-asks.ensures.ok s.thread ∙ ap (λ l. l ++ asked s.memory (look_of look) s.thread (stack_of stack) nothing_seen) c.new-asks.ensures.items in
-    deed_is_turn c.take.result (breaks look stack s x picks) o (Does stack s x o c.take.new.stack c.take.new.s c.take.new.sync) (IsSame stack s x c.take.new.stack c.take.new.s c.take.new.sync)
+    deed_is_turn c.take.result (breaks look stack s x picks) o c.take.new.s.notes.refused (Does stack s x o c.take.new.stack c.take.new.s c.take.new.sync) (IsSame stack s x c.take.new.stack c.take.new.s c.take.new.sync)
     (frame_breaks look stack s x picks c.requires.other c.requires.begins.begins ∙ sym (ap (λ a. asks_break s x a picks) asked_is) ∙ c.in-Ok.ensures)
     c.take.ensures

@@ -1,5 +1,6 @@
 use Rattle.std.proofs.Common.{length, subst, sym}
 use Rattle.std.specs.Prelude.{Err}
+use Rattle.mr_base.specs.Stops.{stop_with}
 use Rattle.mr_eval.specs.World.{world_of}
 use Rattle.mr_frame.specs.Effects.{acted}
 use Rattle.mr_frame.specs.Kept.{look_of, onward_of, stack_of}
@@ -19,10 +20,10 @@ returns-in-Err c =
     let picks = c.args.picks.now in
     let o = comes_to look stack s x picks in
     let inner = acted (look_of look) s.thread (stack_of stack) picks (world_of s) in
-    subst (λ (f : TurnFault). DeedAnswer (Err f) o (Does stack s x o c.act.new.self c.act.new.s x)) (sym c.from.ensures)
-    (stopped_deed c.in-Err.fault o (Does stack s x o c.act.new.self c.act.new.s x)
-    (λ r e. flow_refused (look_of look) s.thread stack s x picks r c.requires.other
-    (refused_by (λ flow. onward_of flow (stack_of c.act.new.self)) c.in-Err.fault inner (world_of c.act.new.s) c.in-Err.ensures r e)))
+    subst (λ (f : TurnFault). DeedAnswer (Err f) o c.act.new.s.notes.refused (Does stack s x o c.act.new.self c.act.new.s x)) (sym c.from.ensures)
+    (stopped_deed c.in-Err.fault o c.act.new.s.notes.refused (Does stack s x o c.act.new.self c.act.new.s x)
+    (λ r e. flow_refused (look_of look) s.thread stack s x picks (stop_with c.act.new.s.notes.refused r) c.requires.other
+    (refused_by (λ flow. onward_of flow (stack_of c.act.new.self)) c.in-Err.fault inner (world_of c.act.new.s) c.act.new.s.notes.refused c.in-Err.ensures r e)))
 
 pub returns-in_ok-deed_of-in-Ok : goal.returns-in_ok-deed_of-in-Ok
 returns-in_ok-deed_of-in-Ok c =

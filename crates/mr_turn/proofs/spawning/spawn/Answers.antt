@@ -40,7 +40,7 @@ returns-in-None c = λ d due.
     let own = own_of s.thread stack in
     let to = spawn_given_for d g.1 (operands_of call) g.0.operands in
     let none = no_callee look (operands_of call) to c.as_slice.result.now c.as_slice.ensures.value c.callee_in.result c.callee_in.ensures c.in-None.ensures in
-    stopped_turn c.stopped.result NotAFunction picks s x (do_planned (look_of look) own d (operands_of call) (begun s x)) o (Does stack s x o stack s x) (IsSame stack s x stack s x)
+    stopped_turn c.stopped.result NotAFunction picks s x (do_planned (look_of look) own d (operands_of call) (begun s x)) o s.notes.refused (Does stack s x o stack s x) (IsSame stack s x stack s x)
     c.stopped.ensures
     (none_planned (look_of look) own d (operands_of call) g.1 to.callee to.argument to.args (begun s x) none)
     (none_turned (look_of look) own d (operands_of call) g.1 to.callee to.argument to.args (begun s x) picks none)

@@ -24,7 +24,7 @@ returns-then-not-begins_thread c = λ d due.
     let own = own_of s.thread stack in
     let g = h.given_to in
     let other = sym (found_start look stack s x call d c.args.f.0 h c.function_of.result.now c.function_of.ensures _ c.if-not-begins_thread.ensures) in
-    stopped_turn c.stopped.result SignatureMismatch picks s x (do_planned (look_of look) own d (operands_of call) (begun s x)) o (Does stack s x o stack s x) (IsSame stack s x stack s x)
+    stopped_turn c.stopped.result SignatureMismatch picks s x (do_planned (look_of look) own d (operands_of call) (begun s x)) o s.notes.refused (Does stack s x o stack s x) (IsSame stack s x stack s x)
     c.stopped.ensures
     (other_planned (look_of look) own d (operands_of call) h.is g.callee g.argument g.args (begun s x) c.args.f.0 h.called h.function h.there h.types h.typed other)
     (other_turned (look_of look) own d (operands_of call) h.is g.callee g.argument g.args (begun s x) c.args.f.0 h.called h.function h.there h.types h.typed picks other)
@@ -53,7 +53,7 @@ returns-in-Err c = λ d due.
     let h = spawns_for look stack s x call c.args.f.0 c.requires d due in
     let o = do_comes_to look stack s x call d picks in
     let same = sym (found_start look stack s x call d c.args.f.0 h c.function_of.result.now c.function_of.ensures _ c.if-not-begins_thread.ensures) in
-    judged_broken c.in-Err.fault (do_breaks look stack s x call d picks) o (Does stack s x o stack s x) (IsSame stack s x stack s x)
+    judged_broken c.in-Err.fault (do_breaks look stack s x call d picks) o s.notes.refused (Does stack s x o stack s x) (IsSame stack s x stack s x)
     (subst (JudgeAnswer (Err c.in-Err.fault))
     (sym (start_breaks look stack s x call d c.args.f.0 picks h.is h.given_to (record { called = h.called; function = h.function; there = h.there; types = h.types; typed = h.typed; same = same })))
     c.in-Err.ensures)
@@ -70,6 +70,6 @@ returns-in-Ok c = λ d due.
     let h = spawns_for look stack s x call c.args.f.0 c.requires d due in
     let o = do_comes_to look stack s x call d picks in
     let same = sym (found_start look stack s x call d c.args.f.0 h c.function_of.result.now c.function_of.ensures _ c.if-not-begins_thread.ensures) in
-    deed_is_turn c.start.result (do_breaks look stack s x call d picks) o (Does stack s x o c.start.new.stack c.start.new.s c.start.new.sync) (IsSame stack s x c.start.new.stack c.start.new.s c.start.new.sync)
+    deed_is_turn c.start.result (do_breaks look stack s x call d picks) o c.start.new.s.notes.refused (Does stack s x o c.start.new.stack c.start.new.s c.start.new.sync) (IsSame stack s x c.start.new.stack c.start.new.s c.start.new.sync)
     (start_breaks look stack s x call d c.args.f.0 picks h.is h.given_to (record { called = h.called; function = h.function; there = h.there; types = h.types; typed = h.typed; same = same }) ∙ c.in-Ok.ensures)
     (c.start.ensures d due)

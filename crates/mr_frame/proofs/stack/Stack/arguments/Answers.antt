@@ -46,7 +46,7 @@ returns-clause-given c =
     let fits = due.stands.fits in
     let m = c.args.m.now in
     let before = seen c.args.notes.now in
-    let P : Outcome Operands Seen → Type 0 = λ o. TellsBy operands_of c.operands.result o (seen c.operands.new.n) in
+    let P : Outcome Operands Seen → Type 0 = λ o. TellsBy operands_of c.operands.result o (seen c.operands.new.n) c.operands.new.n.refused in
     λ d is.
     let same = same_do d.op here.field-0 d.args here.args d.place here.place d.next here.field-3 (sym (c.due_do.ensures.is d is) ∙ here.is) in
     let site = site_due look c.requires.ready (frame_of s.top) (below_of s) (stack_of s).payloads d is t due.stands in

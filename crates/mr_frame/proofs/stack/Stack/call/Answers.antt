@@ -22,7 +22,7 @@ returns-in-Err c =
     let h = c.requires.due in
     let fits = h.due.stands.fits in
     prepared_stop {B = Onward} look.program.now c.in-Err.fault (prepared w.0 (look_of look) (scene look s callee args to h) callee args to (seen_of w.1)) (acted (look_of look) c.args.s.now.thread (stack_of s) c.args.picks.now w)
-    (seen c.prepared.new.notes) (w.0, with_seen w.1 (seen c.prepared.new.notes)) (c.in-Err.ensures fits.function fits.is)
+    (seen c.prepared.new.notes) (w.0, with_seen w.1 (seen c.prepared.new.notes)) c.prepared.new.notes.refused (c.in-Err.ensures fits.function fits.is)
     (λ r e. call_stops look s callee args to h c.args.s.now.thread c.args.picks.now w r e)
 
 pub enter_call-requires : goal.enter_call-requires
@@ -45,5 +45,5 @@ returns-in-Ok c =
     let kept = c.in-Ok.prepared in
     let is = c.in-Ok.ensures fits.function fits.is in
     let pr : Prepared = record { place = kept.place; number = kept.function.0; function = is.function; types = is.types; args = kept.args.items } in
-    let Q : Outcome Onward World → Type 0 = λ o. TellsBy (λ flow. onward_of flow (stack_of c.enter_call.new.self)) c.enter_call.result o (world_of c.enter_call.new.s) in
+    let Q : Outcome Onward World → Type 0 = λ o. TellsBy (λ flow. onward_of flow (stack_of c.enter_call.new.self)) c.enter_call.result o (world_of c.enter_call.new.s) c.enter_call.new.s.notes.refused in
     subst Q (sym (call_goes look s c.args.callee.now c.args.args.now c.args.place.now h c.args.s.now.thread c.args.picks.now w pr (seen c.prepared.new.notes) is.is is.there)) c.enter_call.ensures

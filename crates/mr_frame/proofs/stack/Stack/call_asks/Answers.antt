@@ -13,6 +13,7 @@ use Rattle.mr_frame.specs.Kept.{look_of}
 use Rattle.mr_frame.proofs.BeginWhole.{function_typed}
 use Rattle.mr_frame.proofs.CallStands.{asked_nothing, asked_prepared, scene}
 use Rattle.mr_frame.proofs.StandLaws.{at_below}
+use Rattle.mr_base.specs.Stops.{stop_with}
 use Rattle.mr_frame.proofs.stack.Stack.call_asks.Goals as goal
 
 pub function-requires : goal.function-requires
@@ -35,10 +36,10 @@ returns-in-Err-Undefined-clause-ok c =
     let here = c.in-Err-Undefined in
     let fits = c.requires.due.stands.fits in
     let at = scene look s callee args to c.requires in
-    let P : Fault → Type 0 = λ f. Prepares look.program.now (Err f) (prepared m (look_of look) at callee args to (seen c.new-notes.result)) (seen c.prepared.new.notes) in
+    let P : Fault → Type 0 = λ f. Prepares look.program.now (Err f) (prepared m (look_of look) at callee args to (seen c.new-notes.result)) (seen c.prepared.new.notes) c.prepared.new.notes.refused in
     let refused = subst P here.field-0-is (here.ensures fits.function fits.is) in
     let none = ap (λ (q : Seen). prepared m (look_of look) at callee args to q) (sym c.new-notes.ensures) ∙ refused in
-    λ thread. sym (ap (λ (asks : List Ask). c.args.out.now.items ++ asks) (asked_nothing look s callee args to c.requires m thread nothing_seen here.field-0-0 none) ∙ append-nil c.args.out.now.items)
+    λ thread. sym (ap (λ (asks : List Ask). c.args.out.now.items ++ asks) (asked_nothing look s callee args to c.requires m thread nothing_seen (stop_with c.prepared.new.notes.refused here.field-0-0) none) ∙ append-nil c.args.out.now.items)
 
 -- what a list came to where something was appended
 in_ok : {X E : Type 0} (r : Result X E) (new long old : List Ask) → new ≡ (if is_ok r then long else old) → OnOk r (new ≡ long)

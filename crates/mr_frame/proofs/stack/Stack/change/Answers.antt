@@ -28,7 +28,7 @@ returns-in-Err c =
     let fits = c.requires.due.stands.fits in
     let scene = c.env-env.ensures.scene fits.function fits.is in
     λ picks. left_stop c.in-Err.fault (changed w.0 (env_surround c.env-env.result) c.args.stmt.now (seen_of w.1)) (acted (look_of c.args.look.now) c.args.s.now.thread (stack_of s) picks w)
-    c.change.new.m (seen c.change.new.n) (c.change.new.m, with_seen w.1 (seen c.change.new.n)) c.in-Err.ensures
+    c.change.new.m (seen c.change.new.n) (c.change.new.m, with_seen w.1 (seen c.change.new.n)) c.change.new.n.refused c.in-Err.ensures
     (λ r e. acted_change c.args.look.now c.requires.due.ready (frame_of s.top) (below_of s) (stack_of s).payloads c.args.stmt.now c.requires.kind c.requires.due.stands c.args.s.now.thread picks w
     ∙ ap (λ (o : Left). on o (λ m l. Went (GoesOn (record { frames = behind_stmt (frame_of s.top) ∷ below_of s; payloads = (stack_of s).payloads })) (m, with_seen w.1 l)))
     (ap (λ (a : Surround). changed w.0 a c.args.stmt.now (seen_of w.1)) (sym scene) ∙ e))

@@ -28,7 +28,7 @@ returns-in-Err c =
     let w = world_of c.args.s.now in
     let fits = c.requires.stands.fits in
     let is = c.slot-slot.ensures fits.function fits.is in
-    λ picks. told_stop c.in-Err.fault (unstored slot.storage slot.size slot.align w) (acted (look_of c.args.look.now) c.args.s.now.thread (stack_of s) picks w) (world_of c.release.new.s) (world_of c.release.new.s) c.in-Err.ensures
+    λ picks. told_stop c.in-Err.fault (unstored slot.storage slot.size slot.align w) (acted (look_of c.args.look.now) c.args.s.now.thread (stack_of s) picks w) (world_of c.release.new.s) (world_of c.release.new.s) c.release.new.s.notes.refused c.in-Err.ensures
     (λ r e. dead_stops c.args.look.now s c.args.x slot c.requires is c.args.s.now.thread picks w r e)
 
 pub returns-in-Ok : goal.returns-in-Ok

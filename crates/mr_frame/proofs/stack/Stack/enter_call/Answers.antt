@@ -23,7 +23,7 @@ returns-in-Err c =
     let s = c.args.self.now in
     let place = c.args.prepared.now.place in
     let over : Frame → World → Outcome Onward World = λ f u. Went (GoesOn (record (stack_of s) { frames = f ∷ record (frame_of s.top) { call = Some place } ∷ below_of s })) u in
-    told_stop {A = Frame} {B = Onward} c.in-Err.fault (entered number fn c.as_slice-args.result.now picks w) (on (entered number fn c.args.prepared.now.args.items picks w) over) (world_of c.begin.new.s) (world_of c.begin.new.s) c.in-Err.ensures
+    told_stop {A = Frame} {B = Onward} c.in-Err.fault (entered number fn c.as_slice-args.result.now picks w) (on (entered number fn c.args.prepared.now.args.items picks w) over) (world_of c.begin.new.s) (world_of c.begin.new.s) c.begin.new.s.notes.refused c.in-Err.ensures
     (λ r e. ap (λ (vs : List Val). on (entered number fn vs picks w) over) (sym c.as_slice-args.ensures.value) ∙ ap (λ (o : Outcome Frame World). on o over) e)
 
 pub returns-in_ok-push-in-Ok : goal.returns-in_ok-push-in-Ok

@@ -20,7 +20,7 @@ returns-in-Err c =
     let v = option_copied c.args.value in
     let w = world_of c.args.s.now in
     let s = stack_of c.args.self.now in
-    λ d is. told_stop c.in-Err.fault (result_stored call.result call.result_type v w) (finished s d (operands_of call) v w) (world_of c.store_result.new.s) (world_of c.store_result.new.s) c.in-Err.ensures
+    λ d is. told_stop c.in-Err.fault (result_stored call.result call.result_type v w) (finished s d (operands_of call) v w) (world_of c.store_result.new.s) (world_of c.store_result.new.s) c.store_result.new.s.notes.refused c.in-Err.ensures
     (λ r e. finished_stop s d (operands_of call) v w r e)
 
 pub returns-in-Ok : goal.returns-in-Ok

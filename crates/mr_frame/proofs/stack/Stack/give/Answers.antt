@@ -36,7 +36,7 @@ returns-in-Err c =
     let new = c.pop.new.self in
     let w = world_of c.args.s.now in
     told_stop c.in-Err.fault (stored_in c.args.t.now c.in-Some-call.place c.args.v.now w) (left_by (look_of c.args.look.now) (stack_of c.args.self.now) (Some c.args.t.now) c.args.v.now (below_of c.args.self.now) w)
-    (world_of c.store.new.s) (world_of c.store.new.s) c.in-Err.ensures
+    (world_of c.store.new.s) (world_of c.store.new.s) c.store.new.s.notes.refused c.in-Err.ensures
     (λ r e. gives_stop (look_of c.args.look.now) (stack_of c.args.self.now) (below_of c.args.self.now) c.args.t.now c.args.v.now w (frame_of new.top) (below_of new)
     (tails (c.pop.ensures.some c.if-not-pop.false)) c.requires.calling (found_targets c.targets_of_call.result) c.targets_of_call.ensures c.in-Some.block c.in-Some.is c.in-Some-call.place c.in-Some-call.is r e)
 

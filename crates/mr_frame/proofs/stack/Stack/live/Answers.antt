@@ -46,7 +46,7 @@ returns-in-Err c =
     let picks = c.args.picks.now in
     let a = slice_index_or picks 0 0 in
     let one = only_pick picks (live_one_pick c.args.look.now s c.args.x slot c.requires.due is c.args.s.now picks c.requires.lawful) in
-    told_stop c.in-Err.fault (renewed slot a w) (acted (look_of c.args.look.now) c.args.s.now.thread (stack_of s) picks w) (world_of c.renew.new.s) (world_of c.renew.new.s) c.in-Err.ensures
+    told_stop c.in-Err.fault (renewed slot a w) (acted (look_of c.args.look.now) c.args.s.now.thread (stack_of s) picks w) (world_of c.renew.new.s) (world_of c.renew.new.s) c.renew.new.s.notes.refused c.in-Err.ensures
     (λ r e. live_stops c.args.look.now s c.args.x slot c.requires.due is c.args.s.now picks c.requires.lawful a one r e)
 
 pub returns-in-Ok : goal.returns-in-Ok

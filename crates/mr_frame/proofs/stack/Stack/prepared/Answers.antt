@@ -14,5 +14,5 @@ prepare-requires c =
 pub returns : goal.returns
 returns c =
     let env = c.env-env.ensures in
-    let P : Program × Look × Surround → Type 0 = λ z. Prepares z.0 c.prepare.result (prepared c.args.m.now z.1 z.2 c.args.callee.now c.args.args.now c.args.place.now (seen c.args.notes.now)) (seen c.prepare.new.n) in
+    let P : Program × Look × Surround → Type 0 = λ z. Prepares z.0 c.prepare.result (prepared c.args.m.now z.1 z.2 c.args.callee.now c.args.args.now c.args.place.now (seen c.args.notes.now)) (seen c.prepare.new.n) c.prepare.new.n.refused in
     λ fn is. subst P (λ i. (env.program i, env.look i, env.scene fn is i)) c.prepare.ensures.given

@@ -50,7 +50,7 @@ returns-in-Err c =
     let last = last_below s c.in-Some.caller.now (ap (λ xs. slice_get xs (length xs - 1)) (sym c.deref.ensures.value) ∙ sym c.in-Some.ensures.value) in
     let same = top_is c.args.look.now s (AtTerminator term.Resume) c.requires c.function-f.result.now c.function-f.ensures in
     λ picks. told_stop c.in-Err.fault (freed_each c.as_slice.result.now c.as_slice-2.result.now w) (acted (look_of c.args.look.now) c.args.s.now.thread (stack_of s) picks w)
-    (world_of c.free_each.new.s) (world_of c.free_each.new.s) c.in-Err.ensures
+    (world_of c.free_each.new.s) (world_of c.free_each.new.s) c.free_each.new.s.notes.refused c.in-Err.ensures
     (λ r e. resumes_stop c.args.look.now c.requires.ready (frame_of s.top) (stack_of s).payloads picks c.args.s.now.thread w (below_of s) c.requires.stands (frame_of c.in-Some.caller.now) last.0 last.1
     (found_targets c.targets_of_call.result) c.targets_of_call.ensures c.in-Some-unwind.block c.in-Some-unwind.is r
     ((λ i. freed_each ((same i).locals) s.top.locals.items w) ∙ sym (λ i. freed_each (c.as_slice.ensures i) (c.as_slice-2.ensures.value i) w) ∙ e))

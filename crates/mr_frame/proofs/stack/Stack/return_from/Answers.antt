@@ -35,7 +35,7 @@ returns-in-Err c =
     let fits = c.requires.stands.fits in
     let same = top_is c.args.look.now s (AtTerminator term.Return) c.requires c.function-f.result.now c.function-f.ensures in
     λ picks. told_stop c.in-Err.fault (returned w.0 c.function-f.result.now (frame_of s.top) (seen_of w.1)) (acted (look_of c.args.look.now) c.args.s.now.thread (stack_of s) picks w)
-    (seen c.return_value.new.s.notes) (world_of c.return_value.new.s) c.in-Err.ensures.given
+    (seen c.return_value.new.s.notes) (world_of c.return_value.new.s) c.return_value.new.s.notes.refused c.in-Err.ensures.given
     (λ r e. returned_stop c.args.look.now c.requires.ready (frame_of s.top) (below_of s) (stack_of s).payloads c.requires.stands c.args.s.now.thread picks w (sym c.is_main.ensures ∙ c.if-is_main.false) r
     (ap (λ (f : Function). returned w.0 f (frame_of s.top) (seen_of w.1)) same ∙ e))
 
@@ -46,7 +46,7 @@ returns-in-Ok c =
     let fn = c.function-f.result.now in
     let lk = look_of c.args.look.now in
     let same = top_is c.args.look.now s (AtTerminator term.Return) c.requires fn c.function-f.ensures in
-    let Q : Outcome Onward World → Type 0 = λ o. TellsBy (λ flow. onward_of flow (stack_of c.leave.new.self)) c.leave.result o (world_of c.leave.new.s) in
+    let Q : Outcome Onward World → Type 0 = λ o. TellsBy (λ flow. onward_of flow (stack_of c.leave.new.self)) c.leave.result o (world_of c.leave.new.s) c.leave.new.s.notes.refused in
     λ picks. subst Q
     (sym (returned_at c.args.look.now c.requires.ready (frame_of s.top) (below_of s) (stack_of s).payloads c.requires.stands c.args.s.now.thread picks w (sym c.is_main.ensures ∙ c.if-is_main.false)
     fn same c.in-Ok.v (seen c.return_value.new.s.notes) c.in-Ok.ensures.given

@@ -22,7 +22,7 @@ load_typed-requires c = ret_ok c.args.look.now c.args.self.now (AtTerminator ter
 
 pub returns-clause-given : goal.returns-clause-given
 returns-clause-given c =
-    let P : Outcome Val Seen → Type 0 = λ o. Tells c.load_typed.result o (seen c.load_typed.new.n) in
+    let P : Outcome Val Seen → Type 0 = λ o. Tells c.load_typed.result o (seen c.load_typed.new.n) c.load_typed.new.n.refused in
     subst P (sym (returned_is c.args.s.now.memory c.args.f.now (frame_of c.args.self.now.top) (seen c.args.s.now.notes) c.in-Some.p c.local_at.result.now c.in-Some.ensures c.local_at.ensures)) c.load_typed.ensures.given
 
 pub returns-clause-shape : goal.returns-clause-shape

@@ -30,7 +30,7 @@ returns-in-Err c =
     let fits = c.requires.stands.fits in
     let scene = c.env-env.ensures.scene fits.function fits.is in
     λ picks. told_stop c.in-Err.fault (chosen w.0 (env_surround c.env-env.result) c.args.on.now c.args.cases.now c.args.other (seen_of w.1)) (acted (look_of c.args.look.now) c.args.s.now.thread (stack_of s) picks w)
-    (seen c.switch.new.n) (w.0, with_seen w.1 (seen c.switch.new.n)) c.in-Err.ensures
+    (seen c.switch.new.n) (w.0, with_seen w.1 (seen c.switch.new.n)) c.switch.new.n.refused c.in-Err.ensures
     (λ r e. acted_switch c.args.look.now c.requires.ready (frame_of s.top) (below_of s) (stack_of s).payloads c.args.on.now c.args.cases.now c.args.other c.requires.stands c.args.s.now.thread picks w
     ∙ ap (λ (o : Outcome ℕ Seen). on o (λ b l. Went (GoesOn (record { frames = at_block (frame_of s.top) b ∷ below_of s; payloads = (stack_of s).payloads })) (w.0, with_seen w.1 l)))
     (ap (λ (a : Surround). chosen w.0 a c.args.on.now c.args.cases.now c.args.other (seen_of w.1)) (sym scene) ∙ e))

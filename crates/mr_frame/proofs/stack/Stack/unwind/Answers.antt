@@ -32,7 +32,7 @@ returns-in-Err c =
     let fits = c.requires.stands.fits in
     let scene = c.env-env.ensures.scene fits.function fits.is in
     λ picks. told_stop c.in-Err.fault (pointed w.0 (env_surround c.env-env.result) c.args.payload.now (seen_of w.1)) (acted (look_of c.args.look.now) c.args.s.now.thread (stack_of s) picks w)
-    (seen c.pointer.new.n) (w.0, with_seen w.1 (seen c.pointer.new.n)) c.in-Err.ensures.given
+    (seen c.pointer.new.n) (w.0, with_seen w.1 (seen c.pointer.new.n)) c.pointer.new.n.refused c.in-Err.ensures.given
     (λ r e. acted_unwind c.args.look.now c.requires.ready (frame_of s.top) (below_of s) (stack_of s).payloads c.args.payload.now c.args.block c.requires.stands c.args.s.now.thread picks w
     ∙ ap (λ (o : Outcome Pointer Seen). on o (λ p l. Went (GoesOn (record { frames = at_block (frame_of s.top) c.args.block.0 ∷ below_of s; payloads = p ∷ (stack_of s).payloads })) (w.0, with_seen w.1 l)))
     (ap (λ (a : Surround). pointed w.0 a c.args.payload.now (seen_of w.1)) (sym scene) ∙ e))

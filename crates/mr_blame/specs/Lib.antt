@@ -1,5 +1,0 @@
-pub mod Last
-pub mod Laws
-pub mod Reaches
-pub mod Reads
-pub mod Rests
