@@ -78,7 +78,8 @@ def names():
         text, crate = read(f"{TOP}/crates/{name}"), name.split("/")[0]
         words = dict(re.findall(r'(?:\w+)::(\w+) => "(\w+)"', text))
         for variant, code in re.findall(r"(?:\w+)::(\w+) => (\w+),", text):
-            found[int(numbers.get((crate, code), code))] = words[variant]
+            if code.isdigit() or (crate, code) in numbers:
+                found[int(numbers.get((crate, code), code))] = words[variant]
     return found
 
 
