@@ -1,5 +1,5 @@
 -- An intrinsic that asks for nothing, whatever it is given.
-use Rattle.std.proofs.Common.{◌≡◌, ◌≢◌, ℕ, refl, sym, ap, ◌∙◌, subst, List, [], false, true, Some, None, Bool}
+use Rattle.std.proofs.Common.{◌≡◌, ◌≢◌, ℕ, refl, sym, ap, ◌∙◌, subst, List, [], false, true, true≢false, Some, None, Bool}
 use Rattle.mr_ast.specs.declared.program.Intrinsic.{Intrinsic}
 use Rattle.mr_ast.specs.declared.program.Intrinsic.TheVariants as intrinsic
 use Rattle.mr_mem.specs.Memory.{Memory}
@@ -43,24 +43,11 @@ quiet_given look own d o w quiet fit = by d.op refl quiet
         (needs_nothing op o.args o.arg_types o.result_type w (record { creates = Nothing; ask = None }) refl kind a r l fits)
 
     by : (op : Intrinsic) → d.op ≡ op → may_ask op ≡ false → needs_of (do_planned look own d o w) ≡ no_needs
-    by intrinsic.Allocate is e = absurd (cc)
-    by intrinsic.Release is e = absurd (cc)
-    by intrinsic.CreateLock is e = absurd (cc)
-    by intrinsic.Spawn is e = absurd (cc)
+    by intrinsic.Spawn is e = absurd (true≢false e)
     by intrinsic.Payload is e = payload_needs look own d o w is
-    by intrinsic.Assume is e = operation intrinsic.Assume is tt (λ f. cc) (λ f. cc) (λ f. cc)
-    by intrinsic.Print is e = operation intrinsic.Print is tt (λ f. cc) (λ f. cc) (λ f. cc)
-    by intrinsic.Deallocate is e = operation intrinsic.Deallocate is tt (λ f. cc) (λ f. cc) (λ f. cc)
-    by intrinsic.Join is e = operation intrinsic.Join is tt (λ f. cc) (λ f. cc) (λ f. cc)
-    by intrinsic.Acquire is e = operation intrinsic.Acquire is tt (λ f. cc) (λ f. cc) (λ f. cc)
-    by intrinsic.AtomicStore is e = operation intrinsic.AtomicStore is tt (λ f. cc) (λ f. cc) (λ f. cc)
-    by intrinsic.AtomicLoad is e = operation intrinsic.AtomicLoad is tt (λ f. cc) (λ f. cc) (λ f. cc)
-    by intrinsic.CompareExchange is e = operation intrinsic.CompareExchange is tt (λ f. cc) (λ f. cc) (λ f. cc)
-    by intrinsic.FetchAdd is e = operation intrinsic.FetchAdd is tt (λ f. cc) (λ f. cc) (λ f. cc)
-    by intrinsic.FetchSub is e = operation intrinsic.FetchSub is tt (λ f. cc) (λ f. cc) (λ f. cc)
-    by intrinsic.FetchAnd is e = operation intrinsic.FetchAnd is tt (λ f. cc) (λ f. cc) (λ f. cc)
-    by intrinsic.FetchOr is e = operation intrinsic.FetchOr is tt (λ f. cc) (λ f. cc) (λ f. cc)
-    by intrinsic.FetchXor is e = operation intrinsic.FetchXor is tt (λ f. cc) (λ f. cc) (λ f. cc)
+    by op is e =
+        operation op is tt (λ f. true≢false (sym (ap may_ask f) ∙ e)) (λ f. true≢false (sym (ap may_ask f) ∙ e))
+        (λ f. true≢false (sym (ap may_ask f) ∙ e))
 
 -- so its step asks for nothing, also where it stops before that
 pub quiet_needs : (look : KeptLook) → IsReady look → (stack : KeptStack) → FitsStack look.program.now (stack_of stack)
