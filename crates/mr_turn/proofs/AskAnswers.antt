@@ -136,7 +136,7 @@ module _ (look : KeptLook) (stack : KeptStack) (call : DoCall) (d : DueDo) (numb
 -- ---- what the intrinsic is given
 
 module _ (look : KeptLook) (stack : KeptStack) (m : Memory) (x : Tables) (thread count : ℕ) (d : DueDo) (due : next_do (look_of look) (stack_of stack) ≡ Some d) where
-  abbrev world : Shared × Notes
+  abbrev pub world : Shared × Notes
   world = (shared_of m x, start_notes thread count)
 
   abbrev pub behind : Seen → Notes

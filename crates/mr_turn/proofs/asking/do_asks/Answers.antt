@@ -44,13 +44,13 @@ returns-in-Err-Undefined c = λ count.
     let fresh = subst (λ v. TellsBy operands_of (Err (fault.Undefined r)) (argued m (look_of look) d v) (seen c.arguments.new.notes) c.arguments.new.notes.refused) c.new-notes.ensures given in
     subst (λ n. AsksAnswer {E = Unit {0}} (shared_of m x) n c.args.out.now.items c.args.out.now.items (Ok None)) (sym (stopped_needs look stack m x thread count d due (stop_with c.arguments.new.notes.refused r) fresh)) (none_asked (shared_of m x) c.args.out.now.items)
 
-pub returns-in-if : goal.returns-in-if
-returns-in-if c = λ count.
+pub returns-then-not-may_ask : goal.returns-then-not-may_ask
+returns-then-not-may_ask c = λ count.
     let look = c.args.look.now in
     let m = c.args.m.now in
     let x = c.args.sync.now in
     let (d, due, is) = c.requires.due in
-    let quiet : may_ask d.op ≡ false = ap may_ask is ∙ sym c.may_ask.ensures ∙ c.if-may_ask.false in
+    let quiet : may_ask d.op ≡ false = ap may_ask is ∙ sym c.may_ask.ensures ∙ c.if-not-may_ask.true in
     subst (λ n. AsksAnswer {E = Unit {0}} (shared_of m x) n c.args.out.now.items c.args.out.now.items (Ok None))
     (sym (quiet_needs look c.requires.ready c.args.stack.now c.requires.fits m x c.args.thread count d due quiet))
     (none_asked (shared_of m x) c.args.out.now.items)
