@@ -14,7 +14,6 @@ use Rattle.mr_event.specs.declared.footprint.Pair.{Pair}
 use Rattle.mr_event.specs.Order.{thread_at}
 use Rattle.mr_labels.specs.declared.step.ToldStep.{ToldStep}
 use Rattle.mr_listing.specs.Seen.{Seen}
-use Rattle.mr_listing.specs.Spots.{stand_text}
 use Rattle.mr_picture.specs.declared.span.Span.{Span}
 use Rattle.mr_picture.specs.Arrows.{arrows}
 use Rattle.mr_picture.specs.Span.{holds_race, is_in, races_in, steps_in}
@@ -45,10 +44,10 @@ use Rattle.mr_picture.specs.Lanes.{short_name}
 use Rattle.mr_picture.specs.Legend.{arrow_entry, entry, left_end, legend_marks, link_entries, linked, middle, race_entry}
 use Rattle.mr_picture.specs.Legend.{right_end, sample, step_entries, words_mark}
 use Rattle.mr_picture.specs.Links.{arrow_mark, foot_place, is_wake, race_mark}
-use Rattle.mr_picture.specs.Picture.{asked_scene, marks, round_marks, tail_of}
-use Rattle.mr_picture.specs.Scene.{Scene, begin_at, chosen, clipped, done_in, drawn_of, drawn_steps, is_drawn, race_in}
-use Rattle.mr_picture.specs.Scene.{scene_of, takes_one}
-use Rattle.mr_picture.specs.Steps.{deeds_line, deeds_mark, mark_of, number_mark, part_of, part_shape, row_mark, row_marks}
+use Rattle.mr_picture.specs.Drawn.{asked_scene, drawn_of, drawn_steps, is_drawn, sketch_of}
+use Rattle.mr_picture.specs.Picture.{marks, round_marks}
+use Rattle.mr_picture.specs.Scene.{Scene, Sketch, begin_at, chosen, clipped, done_in, race_in, scene_of, takes_one}
+use Rattle.mr_picture.specs.Steps.{did_line, did_mark, mark_of, number_mark, part_of, part_shape, row_mark, row_marks}
 use Rattle.mr_picture.specs.Steps.{stand_mark, step_mark, step_marks}
 use Rattle.mr_picture.specs.Texts.{cut, cut_at}
 use Rattle.mr_picture.proofs.Room.{IsPlace, arrow_inside, cut_short, in_part, race_inside, round_inside}
@@ -83,21 +82,22 @@ race_held done (Some race) = by (holds_race done race) refl
     by true e = e
     by false e = tt
 
-pub steps_are : (span : Span) (steps : List ToldStep)
-    → All (λ d. (span.from ≤ d.number) × (d.number < span.to)) (drawn_steps span steps)
-steps_are span steps =
-    All-map (λ d. (span.from ≤ d.number) × (d.number < span.to)) drawn_of (filter (is_drawn span) steps)
+pub steps_are : (s : Seen) (span : Span) (steps : List ToldStep)
+    → All (λ d. (span.from ≤ d.number) × (d.number < span.to)) (drawn_steps s span steps)
+steps_are s span steps =
+    All-map (λ d. (span.from ≤ d.number) × (d.number < span.to)) (drawn_of s) (filter (is_drawn span) steps)
     (All-weaker (λ t. is_drawn span t ≡ true) (λ t. (span.from ≤ t.number) × (t.number < span.to))
     (λ t e. in_part span t.number e) (filter (is_drawn span) steps) (filter_passes (is_drawn span) steps))
 
-laid_of : (s : Seen) (span : Span) (tail : List ℕ) → span.to ≤ 2 ^ 22 → IsLaid (scene_of s span tail)
-laid_of s span tail few = record {
+laid_of : (s : Sketch) (span : Span) (steps : List Drawn) → span.to ≤ 2 ^ 22
+    → All (λ d. (span.from ≤ d.number) × (d.number < span.to)) steps → IsLaid (scene_of s span steps)
+laid_of s span steps few within = record {
   few = few;
   front = refl;
   back = omega arith;
-  steps = steps_are span s.steps;
+  steps = within;
   threads =
-      All-filter (takes_one (drawn_steps span s.steps)) (λ t. t < 1024) (range_with_len 0 1024) (numbers_below 1024);
+      All-filter (takes_one steps) (λ t. t < 1024) (range_with_len 0 1024) (numbers_below 1024);
   first = race_held (done_in span (length s.feet)) (slice_get s.races 0);
 }
 
@@ -190,18 +190,18 @@ rows_in s step low high = by ((step - s.span.from) % 2 == 0)
     by false = All-nil (IsIn s)
 
 -- a row at which a lane ends
-row_or_below : (s : Scene) (y : ℕ) (o : Option Drawn) → y ≤ rows_end s
-    → IfSome o (λ d. (s.span.from ≤ d.number) × (d.number < s.span.to)) → row_or s.span.from y o ≤ rows_end s
+row_or_below : (s : Scene) (y : ℕ) (o : Option ℕ) → y ≤ rows_end s
+    → IfSome o (λ n. (s.span.from ≤ n) × (n < s.span.to)) → row_or s.span.from y o ≤ rows_end s
 row_or_below s y None le h = le
-row_or_below s y (Some d) le h = let below = row_below s d.number h.0 h.1 in omega (arith, below)
+row_or_below s y (Some n) le h = let below = row_below s n h.0 h.1 in omega (arith, below)
 
-found_in : (P : Drawn → Type 0) (test : Drawn → Bool) (steps : List Drawn) → All P steps
+found_in : (P : ℕ → Type 0) (test : Drawn → Bool) (steps : List Drawn) → All (λ d. P d.number) steps
     → IfSome (first_that test steps) P
 found_in P test [] h = tt
-found_in P test (d ∷ ds) h = by (test d) (found_in P test ds (All-tail P d ds h))
+found_in P test (d ∷ ds) h = by (test d) (found_in P test ds (All-tail (λ d. P d.number) d ds h))
   where
-    by : (b : Bool) → IfSome (first_that test ds) P → IfSome (if b then Some d else first_that test ds) P
-    by true later = All-head P d ds h
+    by : (b : Bool) → IfSome (first_that test ds) P → IfSome (if b then Some d.number else first_that test ds) P
+    by true later = All-head (λ d. P d.number) d ds h
     by false later = later
 
 lane_in : (s : Scene) (thread : ℕ) → IsLaid s → IsIn s (lane_mark s thread)
@@ -210,9 +210,9 @@ lane_in s thread h =
     let fits = wide_enough s in
     let deep = high_enough s in
     let start = row_or_below s 98 (first_that (starts thread) s.steps) (omega arith)
-    (found_in (λ d. (s.span.from ≤ d.number) × (d.number < s.span.to)) (starts thread) s.steps h.steps) in
-    let end = row_or_below s (rows_end s) (first_that (ends s.seen.feet thread) s.steps) (omega arith)
-    (found_in (λ d. (s.span.from ≤ d.number) × (d.number < s.span.to)) (ends s.seen.feet thread) s.steps h.steps) in (
+    (found_in (λ n. (s.span.from ≤ n) × (n < s.span.to)) (starts thread) s.steps h.steps) in
+    let end = row_or_below s (rows_end s) (first_that (ends s.sketch.feet thread) s.steps) (omega arith)
+    (found_in (λ n. (s.span.from ≤ n) × (n < s.span.to)) (ends s.sketch.feet thread) s.steps h.steps) in (
       record { across = omega (arith, right, fits); down = omega (arith, start, deep) },
       record { across = omega (arith, right, fits); down = omega (arith, end, deep) },
     )
@@ -239,15 +239,15 @@ lanes_in s thread h lt =
 
 -- ---- arrows and races
 
-arrow_in : (s : Scene) (arrow : Pair) → IsLaid s → Contains (arrows s.seen.feet s.done) arrow → IsIn s (arrow_mark s arrow)
+arrow_in : (s : Scene) (arrow : Pair) → IsLaid s → Contains (arrows s.sketch.feet s.done) arrow → IsIn s (arrow_mark s arrow)
 arrow_in s arrow h there =
-    let is = arrow_is s.seen.feet s.done arrow there in
-    let first = at_place s (thread_at s.seen.feet arrow.first) arrow.first
+    let is = arrow_is s.sketch.feet s.done arrow there in
+    let first = at_place s (thread_at s.sketch.feet arrow.first) arrow.first
     (omega (arith, h.front, is.low)) (omega (arith, h.back, is.rising, is.high)) in
-    let second = at_place s (thread_at s.seen.feet arrow.second) arrow.second
+    let second = at_place s (thread_at s.sketch.feet arrow.second) arrow.second
     (omega (arith, h.front, is.low, is.rising)) (omega (arith, h.back, is.high)) in
     arrow_inside (width s) (height s) (text_x s) (rows_end s) (wide_enough s) (high_enough s)
-    (is_wake s.seen.feet arrow) (foot_place s arrow.first) (foot_place s arrow.second) first second
+    (is_wake s.sketch.feet arrow) (foot_place s arrow.first) (foot_place s arrow.second) first second
 
 -- a race of the part has both steps there
 both_in : (s : Scene) (race : Pair) → IsLaid s → holds_race s.done race ≡ true
@@ -265,8 +265,8 @@ race_in_picture s race h e =
     let both = both_in s race h e in
     race_inside (width s) (height s) (text_x s) (rows_end s) (wide_enough s) (high_enough s)
     (foot_place s race.first) (foot_place s race.second)
-    (at_place s (thread_at s.seen.feet race.first) race.first both.0.0 both.0.1)
-    (at_place s (thread_at s.seen.feet race.second) race.second both.1.0 both.1.1)
+    (at_place s (thread_at s.sketch.feet race.first) race.first both.0.0 both.0.1)
+    (at_place s (thread_at s.sketch.feet race.second) race.second both.1.0 both.1.1)
 
 -- ---- steps
 
@@ -296,15 +296,15 @@ step_in s d h is =
     let fits = wide_enough s in
     let deep = high_enough s in
     let digits = few_digits d.number (omega (arith, is.1, h.few)) in
-    all_four (IsIn s) (step_mark s d) (number_mark s d) (stand_mark s d) (deeds_mark s d)
+    all_four (IsIn s) (step_mark s d) (number_mark s d) (stand_mark s d) (did_mark s d)
     (part_in s (part_of s d.number) (place_of s d.thread d.number) at) (
       omega (arith, digits),
       omega (arith, fits),
       record { above = omega (arith, above); below = omega (arith, below, deep) },
     )
-    (text_in s (row_y s.span.from d.number - 4) (stand_text s.seen d.before) (omega (arith, above))
+    (text_in s (row_y s.span.from d.number - 4) d.stand (omega (arith, above))
     (omega (arith, below, deep)))
-    (text_in s (row_y s.span.from d.number + 13) (deeds_line s d) (omega (arith, above)) (omega (arith, below, deep)))
+    (text_in s (row_y s.span.from d.number + 13) (did_line s d) (omega (arith, above)) (omega (arith, below, deep)))
 
 -- ---- the column
 
@@ -352,15 +352,15 @@ kept_in s race e row step lt few =
     (number_in s race row step e lt few)
   where
     own : (b : Bool)
-        → IsShapeInside (width s) (height s) [] (kept_shape b (column_place s (thread_at s.seen.feet step) row))
-    own true = column_round s race (thread_at s.seen.feet step) row e lt
-    own false = column_round s race (thread_at s.seen.feet step) row e lt
+        → IsShapeInside (width s) (height s) [] (kept_shape b (column_place s (thread_at s.sketch.feet step) row))
+    own true = column_round s race (thread_at s.sketch.feet step) row e lt
+    own false = column_round s race (thread_at s.sketch.feet step) row e lt
 
 left_in : (s : Scene) (race : Pair) → s.first ≡ Some race → (row step : ℕ) → row < (s.span.to - s.span.from) + 2
     → step < 2 ^ 22 → All (IsIn s) (left_marks s row step)
 left_in s race e row step lt few =
     all_two (IsIn s) (left_mark s row step) (left_number s row step)
-    (column_round s race (thread_at s.seen.feet step) row e lt) (number_in s race row step e lt few)
+    (column_round s race (thread_at s.sketch.feet step) row e lt) (number_in s race row step e lt few)
 
 column_of_in : (s : Scene) (race : Pair) (kept left : List ℕ) → s.first ≡ Some race
     → length kept + length left ≤ (s.span.to - s.span.from) + 2 → All (λ k. k < 2 ^ 22) kept
@@ -375,8 +375,8 @@ column_of_in s race kept left e few hk hl =
     (All-cons (IsIn s) (column_name s) (column_race s race (length kept) ∷ own)
     (omega (arith, fits), record { above = omega arith; below = omega (arith, deep) })
     (All-cons (IsIn s) (column_race s race (length kept)) own (
-      ends_in (thread_at s.seen.feet race.first) (length kept - 2) (omega (arith, few)),
-      ends_in (thread_at s.seen.feet race.second) (length kept - 1) (omega (arith, few)),
+      ends_in (thread_at s.sketch.feet race.first) (length kept - 2) (omega (arith, few)),
+      ends_in (thread_at s.sketch.feet race.second) (length kept - 1) (omega (arith, few)),
     )
     (rows_inside (IsIn s) (λ k. k < 2 ^ 22) (kept_marks s race) rows (kept_in s race e) 0 kept (omega (arith, few)) hk)))
     (rows_inside (IsIn s) (λ k. k < 2 ^ 22) (left_marks s) rows (left_in s race e) (length kept) left few hl)
@@ -394,23 +394,23 @@ column_in s (Some race) h e held =
     let both = both_in s race h held in
     let few = h.few in
     let back = h.back in
-    column_of_in s race (witness_steps s.seen.feet race s.span.from) (left_out s.seen.feet race s.done) e
+    column_of_in s race (witness_steps s.sketch.feet race s.span.from) (left_out s.sketch.feet race s.done) e
     (rows_fit both.1.0 (second_done race held))
-    (witness_below s.seen.feet race s.span.from (2 ^ 22) (omega (arith, both.0.1, few)) (omega (arith, both.1.1, few)))
-    (left_below s.seen.feet race s.done (2 ^ 22) (omega (arith, back, few)))
+    (witness_below s.sketch.feet race s.span.from (2 ^ 22) (omega (arith, both.0.1, few)) (omega (arith, both.1.1, few)))
+    (left_below s.sketch.feet race s.done (2 ^ 22) (omega (arith, back, few)))
   where
     second_done : (race : Pair) → holds_race s.done race ≡ true → (s.done.from ≤ race.second) × (race.second < s.done.to)
     second_done race held =
         in_part s.done race.second (and_parts (is_in s.done race.first) (is_in s.done race.second) held).1
 
     rows_fit : s.span.from ≤ race.second → (s.done.from ≤ race.second) × (race.second < s.done.to)
-        → length (witness_steps s.seen.feet race s.span.from) + length (left_out s.seen.feet race s.done)
+        → length (witness_steps s.sketch.feet race s.span.from) + length (left_out s.sketch.feet race s.done)
         ≤ (s.span.to - s.span.from) + 2
     rows_fit low within =
-        let all = rows_few s.seen.feet race s.done within.0 within.1 in
+        let all = rows_few s.sketch.feet race s.done within.0 within.1 in
         let front = h.front in
         let back = h.back in
-        let same = ap (λ (from : ℕ). length (witness_steps s.seen.feet race from)) front in
+        let same = ap (λ (from : ℕ). length (witness_steps s.sketch.feet race from)) front in
         omega (arith, all, front, back, same)
 
 -- ---- what is written above and below
@@ -554,8 +554,8 @@ lanes_all s h =
     all_flat (IsIn s) (lane_marks s) s.threads (λ t there.
     lanes_in s t h (All-contains (λ n. n < 1024) s.threads t h.threads there))
 
-arrows_all : (s : Scene) → IsLaid s → All (IsIn s) (map (arrow_mark s) (arrows s.seen.feet s.done))
-arrows_all s h = all_mapped (IsIn s) (arrow_mark s) (arrows s.seen.feet s.done) (λ a there. arrow_in s a h there)
+arrows_all : (s : Scene) → IsLaid s → All (IsIn s) (map (arrow_mark s) (arrows s.sketch.feet s.done))
+arrows_all s h = all_mapped (IsIn s) (arrow_mark s) (arrows s.sketch.feet s.done) (λ a there. arrow_in s a h there)
 
 races_all : (s : Scene) → IsLaid s → All (IsIn s) (map (race_mark s) (races_in s.done s.near))
 races_all s h =
@@ -572,7 +572,7 @@ all_in : (s : Scene) → IsLaid s → All (IsIn s) (marks s)
 all_in s h =
     let rows = flat_map (row_marks s) (steps_in s.span) in
     let lanes = flat_map (lane_marks s) s.threads in
-    let links = map (arrow_mark s) (arrows s.seen.feet s.done) in
+    let links = map (arrow_mark s) (arrows s.sketch.feet s.done) in
     let races = map (race_mark s) (races_in s.done s.near) in
     let steps = flat_map (step_marks s) s.steps in
     All-append (IsIn s) (rows ++ lanes ++ races ++ links ++ steps) (round_marks s)
@@ -585,8 +585,16 @@ all_in s h =
     (steps_all s h))
     (round_in s h)
 
--- THE LAW
-pub marks_inside : (s : Seen) (asked : Option Span) → s.count ≤ 2 ^ 22 → All (IsIn (asked_scene s asked)) (marks (asked_scene s asked))
-marks_inside s asked few =
+-- THE LAW, of any run of which these steps are drawn
+pub marks_inside : (s : Sketch) (span : Span) (steps : List Drawn) → span.to ≤ 2 ^ 22
+    → All (λ d. (span.from ≤ d.number) × (d.number < span.to)) steps
+    → All (IsIn (scene_of s span steps)) (marks (scene_of s span steps))
+marks_inside s span steps few within = all_in (scene_of s span steps) (laid_of s span steps few within)
+
+-- and of the run of a program
+pub asked_inside : (s : Seen) (asked : Option Span) → s.count ≤ 2 ^ 22
+    → All (IsIn (asked_scene s asked)) (marks (asked_scene s asked))
+asked_inside s asked few =
+    let span = chosen s.count s.races asked in
     let to = chosen_to s.count s.races asked in
-    all_in (asked_scene s asked) (laid_of s (chosen s.count s.races asked) (tail_of s) (omega (arith, to, few)))
+    marks_inside (sketch_of s) span (drawn_steps s span s.steps) (omega (arith, to, few)) (steps_are s span s.steps)

@@ -50,7 +50,7 @@ kept_shape false at = Dot at
 abbrev pub kept_mark : Scene → Pair → ℕ → ℕ → Mark
 kept_mark s race row step =
     let races = is_of_race race step in
-    mark_of (kept_sign races) (kept_shape races (column_place s (thread_at s.seen.feet step) row)) []
+    mark_of (kept_sign races) (kept_shape races (column_place s (thread_at s.sketch.feet step) row)) []
     (kept_title step row)
 
 abbrev pub kept_number : Scene → ℕ → ℕ → Mark
@@ -67,7 +67,7 @@ left_title step = codes "the witness leaves out " ++ step_word step
 
 abbrev pub left_mark : Scene → ℕ → ℕ → Mark
 left_mark s row step =
-    mark_of sign.LeftOut (Dot (column_place s (thread_at s.seen.feet step) row)) [] (left_title step)
+    mark_of sign.LeftOut (Dot (column_place s (thread_at s.sketch.feet step) row)) [] (left_title step)
 
 abbrev pub left_number : Scene → ℕ → ℕ → Mark
 left_number s row step =
@@ -98,8 +98,8 @@ column_name s =
 -- the line between its last two steps
 abbrev pub column_line : Scene → Pair → ℕ → Shape
 column_line s race count =
-    Line (column_place s (thread_at s.seen.feet race.first) (count - 2))
-    (column_place s (thread_at s.seen.feet race.second) (count - 1))
+    Line (column_place s (thread_at s.sketch.feet race.first) (count - 2))
+    (column_place s (thread_at s.sketch.feet race.second) (count - 1))
 
 -- that they race
 abbrev pub column_race : Scene → Pair → ℕ → Mark
@@ -116,4 +116,4 @@ column_of s race kept left =
 abbrev pub column_marks : Scene → Option Pair → List Mark
 column_marks s None = []
 column_marks s (Some race) =
-    column_of s race (witness_steps s.seen.feet race s.span.from) (left_out s.seen.feet race s.done)
+    column_of s race (witness_steps s.sketch.feet race s.span.from) (left_out s.sketch.feet race s.done)

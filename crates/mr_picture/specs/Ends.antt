@@ -18,19 +18,19 @@ counted count one many = decimal count ++ (if count == 1 then one else many)
 -- how many steps and races there are
 abbrev pub title_text : Scene → List ℕ
 title_text s =
-    codes "a run of " ++ counted s.seen.count (codes " step") (codes " steps") ++ codes ", "
-    ++ counted (length s.seen.races) (codes " race") (codes " races")
+    codes "a run of " ++ counted s.sketch.count (codes " step") (codes " steps") ++ codes ", "
+    ++ counted (length s.sketch.races) (codes " race") (codes " races")
 
 -- how many steps are drawn, and how many are left out
 abbrev pub left_text : Scene → List ℕ
 left_text s =
     codes "drawn: " ++ decimal (s.span.to - s.span.from) ++ codes "; left out: " ++ decimal s.span.from
-    ++ codes " before them and " ++ decimal (s.seen.count - s.span.to) ++ codes " behind"
+    ++ codes " before them and " ++ decimal (s.sketch.count - s.span.to) ++ codes " behind"
 
 -- WHICH STEPS ARE DRAWN, and what is left out
 abbrev pub part_text : Scene → List ℕ
 part_text s =
-    if (s.span.from == 0) && (s.span.to == s.seen.count) then codes "all of them are drawn" else left_text s
+    if (s.span.from == 0) && (s.span.to == s.sketch.count) then codes "all of them are drawn" else left_text s
 
 abbrev pub title_mark : Scene → Mark
 title_mark s = mark_of sign.Title (Words (record { x = 16; y = 30 })) (cut_at 70 (title_text s)) (title_text s)

@@ -42,7 +42,7 @@ is_line_end b = b == 10
 
 -- how many lines of the run's end are drawn
 abbrev pub tail_count : Scene → ℕ
-tail_count s = min (count_by is_line_end s.tail) 40
+tail_count s = min (count_by is_line_end s.sketch.tail) 40
 
 -- a line of the run's end
 abbrev pub tail_y : Scene → ℕ → ℕ

@@ -2,7 +2,6 @@
 use Rattle.std.specs.Prelude.{ℕ, ◌+◌, ◌-◌, ◌==◌, ◌&&◌, Bool, false, if◌then◌else◌, List, [], ◌∷◌, ◌++◌, codes}
 use Rattle.std.specs.Prelude.{decimal, Option, None, Some, slice_get}
 use Rattle.mr_event.specs.Footprint.{Footprint}
-use Rattle.mr_labels.specs.declared.step.Stand.{Stand}
 use Rattle.mr_svg.specs.declared.shape.Shape.TheVariants.{Line, Words}
 use Rattle.mr_svg.specs.declared.shape.Sign.TheVariants as sign
 use Rattle.mr_svg.specs.Svg.{Mark}
@@ -10,18 +9,18 @@ use Rattle.mr_picture.specs.declared.scene.Drawn.{Drawn}
 use Rattle.mr_picture.specs.Grid.{lane_x, row_y, rows_end}
 use Rattle.mr_picture.specs.Scene.{Scene}
 
--- the first of these steps that passes a test
-abbrev pub first_that : (Drawn → Bool) → List Drawn → Option Drawn
+-- the number of the first of these steps that passes a test
+abbrev pub first_that : (Drawn → Bool) → List Drawn → Option ℕ
 first_that test [] = None
-first_that test (step ∷ steps) = if test step then Some step else first_that test steps
+first_that test (step ∷ steps) = if test step then Some step.number else first_that test steps
 
 -- whether a step started a thread
-abbrev pub is_of_thread : ℕ → Option Stand → Bool
-is_of_thread thread None = false
-is_of_thread thread (Some stand) = stand.thread == thread
+abbrev pub is_thread : ℕ → Option ℕ → Bool
+is_thread thread None = false
+is_thread thread (Some started) = started == thread
 
 abbrev pub starts : ℕ → Drawn → Bool
-starts thread step = is_of_thread thread step.started
+starts thread step = is_thread thread step.started
 
 -- whether a step ended its thread, which is this one
 abbrev pub has_ended : Option Footprint → Bool
@@ -32,15 +31,15 @@ abbrev pub ends : List Footprint → ℕ → Drawn → Bool
 ends feet thread step = (step.thread == thread) && has_ended (slice_get feet step.number)
 
 -- the row of a step, or this one where there is none
-abbrev pub row_or : ℕ → ℕ → Option Drawn → ℕ
+abbrev pub row_or : ℕ → ℕ → Option ℕ → ℕ
 row_or from y None = y
-row_or from y (Some step) = row_y from step.number
+row_or from y (Some step) = row_y from step
 
 abbrev pub lane_start : Scene → ℕ → ℕ
 lane_start s thread = row_or s.span.from 98 (first_that (starts thread) s.steps)
 
 abbrev pub lane_end : Scene → ℕ → ℕ
-lane_end s thread = row_or s.span.from (rows_end s) (first_that (ends s.seen.feet thread) s.steps)
+lane_end s thread = row_or s.span.from (rows_end s) (first_that (ends s.sketch.feet thread) s.steps)
 
 abbrev pub thread_word : ℕ → List ℕ
 thread_word thread = codes "thread " ++ decimal thread

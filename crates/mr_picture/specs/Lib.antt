@@ -1,12 +1,14 @@
 pub mod Arrows
 pub mod Column
 pub mod Deeds
+pub mod Drawn
 pub mod Ends
 pub mod Grid
 pub mod Inside
 pub mod Lanes
 pub mod Legend
 pub mod Links
+pub mod Partners
 pub mod Picture
 pub mod Scene
 pub mod Span

@@ -21,7 +21,7 @@ beside far x other = if nat_lt x other then x + far else x - far
 
 -- where a completed step stands
 abbrev pub foot_place : Scene → ℕ → Point
-foot_place s step = place_of s (thread_at s.seen.feet step) step
+foot_place s step = place_of s (thread_at s.sketch.feet step) step
 
 -- ---- arrows
 
@@ -55,7 +55,7 @@ arrow_title arrow woken =
 -- AN ARROW
 abbrev pub arrow_mark : Scene → Pair → Mark
 arrow_mark s arrow =
-    let woken = is_wake s.seen.feet arrow in
+    let woken = is_wake s.sketch.feet arrow in
     record {
       sign = arrow_sign woken;
       shape = arrow_between woken (foot_place s arrow.first) (foot_place s arrow.second);

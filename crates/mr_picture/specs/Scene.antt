@@ -5,10 +5,10 @@ use Rattle.std.specs.List.{filter, list_any, range_with_len}
 use Rattle.mr_event.specs.declared.footprint.Pair.{Pair}
 use Rattle.mr_picture.specs.declared.span.Span.{Span}
 use Rattle.mr_picture.specs.Span.{holds_race, is_in}
-use Rattle.mr_labels.specs.declared.step.ToldStep.{ToldStep}
-use Rattle.mr_listing.specs.Seen.{Seen, seen}
+use Rattle.mr_event.specs.Footprint.{Footprint}
 use Rattle.mr_picture.specs.declared.scene.Drawn.{Drawn}
 use Rattle.mr_picture.specs.declared.scene.Scene.{Scene as Kept}
+use Rattle.mr_picture.specs.declared.scene.Sketch.{Sketch as KeptSketch}
 
 -- ---- which steps
 
@@ -30,26 +30,7 @@ abbrev pub chosen : ℕ → List Pair → Option Span → Span
 chosen count races None = clipped count (if nat_le count 500 then 0 else begin_at (slice_get races 0)) count
 chosen count races (Some span) = clipped count span.from span.to
 
--- ---- what they tell
-
--- what is drawn of a step
-abbrev pub drawn_of : ToldStep → Drawn
-drawn_of told = record {
-  number = told.number;
-  thread = told.thread;
-  before = told.before;
-  status = told.status;
-  started = told.started;
-  prints_before = told.prints_before;
-  prints_behind = told.prints_behind;
-}
-
--- whether a step is drawn
-abbrev pub is_drawn : Span → ToldStep → Bool
-is_drawn span told = is_in span told.number
-
-abbrev pub drawn_steps : Span → List ToldStep → List Drawn
-drawn_steps span steps = map drawn_of (filter (is_drawn span) steps)
+-- ---- their threads and races
 
 -- whether a step is one of a thread
 abbrev pub is_of : ℕ → Drawn → Bool
@@ -82,52 +63,60 @@ race_in done (Some race) = if holds_race done race then Some race else None
 
 -- ---- the scene
 
--- what the run tells; which steps are drawn, and which of them completed; what these tell; their threads; the listed races
--- whose second step is drawn; the first listed race, if it is drawn; and the text of the run's end
+-- a run as it is drawn: how many steps it has, the footprints of those that completed, the races that it shows, and the
+-- text of its end
+pub record Sketch : Type 0 where
+  pub count : ℕ
+  pub feet : List Footprint
+  pub races : List Pair
+  pub tail : List ℕ
+
+-- as it is kept
+abbrev pub sketch_in : KeptSketch → Sketch
+sketch_in k = record { count = k.count; feet = k.feet.now; races = k.races.now; tail = k.tail.now }
+
+-- the run; which steps are drawn, and which of them completed; what is drawn of each; their threads; the listed races
+-- whose second step is drawn; and the first listed race, if it is drawn
 pub record Scene : Type 0 where
-  pub seen : Seen
+  pub sketch : Sketch
   pub span : Span
   pub done : Span
   pub steps : List Drawn
   pub threads : List ℕ
   pub near : List Pair
   pub first : Option Pair
-  pub tail : List ℕ
 
 -- as it is kept
 abbrev pub scene_in : Kept → Scene
 scene_in k = record {
-  seen = seen k.shown.now;
+  sketch = sketch_in k.sketch;
   span = k.span;
   done = k.done;
   steps = k.steps.now;
   threads = k.threads.now;
   near = k.near.now;
   first = k.first;
-  tail = k.tail.now;
 }
 
--- THE SCENE of these steps of a run that ends with this text
-abbrev pub scene_of : Seen → Span → List ℕ → Scene
-scene_of s span tail =
-    let steps = drawn_steps span s.steps in
+-- THE SCENE of these steps of a run, of which this is drawn
+abbrev pub scene_of : Sketch → Span → List Drawn → Scene
+scene_of s span steps =
     let done = done_in span (length s.feet) in
     record {
-      seen = s;
+      sketch = s;
       span = span;
       done = done;
       steps = steps;
       threads = threads_of steps;
       near = near_in span s.races;
       first = race_in done (slice_get s.races 0);
-      tail = tail;
     }
 
 -- ---- its size
 
 -- a step of a run that completed
 abbrev pub IsStep : Scene → ℕ → Type 0
-IsStep s step = step < length s.seen.feet
+IsStep s step = step < length s.sketch.feet
 
 abbrev pub IsRace : Scene → Pair → Type 0
 IsRace s race = IsStep s race.first × IsStep s race.second
@@ -136,7 +125,7 @@ IsRace s race = IsStep s race.first × IsStep s race.second
 pub record IsSmall (s : Scene) : Type 0 where
   pub threads : length s.threads ≤ 1024
   pub to : s.span.to < 2 ^ 32
-  pub feet : length s.seen.feet < 2 ^ 32
-  pub done : s.done.to ≤ length s.seen.feet
+  pub feet : length s.sketch.feet < 2 ^ 32
+  pub done : s.done.to ≤ length s.sketch.feet
   pub steps : All (λ step. step.number < 2 ^ 32) s.steps
   pub first : IfSome s.first (IsRace s)

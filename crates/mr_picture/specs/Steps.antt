@@ -1,10 +1,9 @@
 -- The rows of steps.
 use Rattle.std.specs.Prelude.{ℕ, ◌+◌, ◌-◌, ◌==◌, ◌%◌, ◌&&◌, ◌||◌, Bool, not, nat_lt, if◌then◌else◌, List, [], ◌∷◌, ◌++◌, codes}
-use Rattle.std.specs.Prelude.{decimal, drop, length}
+use Rattle.std.specs.Prelude.{decimal, drop, flat_map, length}
 use Rattle.std.specs.List.{list_any}
 use Rattle.mr_event.specs.declared.footprint.Pair.{Pair}
 use Rattle.mr_picture.specs.Span.{holds_race}
-use Rattle.mr_listing.specs.Spots.{stand_text}
 use Rattle.mr_svg.specs.declared.shape.Point.{Point}
 use Rattle.mr_svg.specs.declared.shape.Shape.{Shape}
 use Rattle.mr_svg.specs.declared.shape.Shape.TheVariants.{Band, Diamond, Dot, Square, Words, WordsTo}
@@ -14,24 +13,31 @@ use Rattle.mr_svg.specs.Svg.{Mark}
 use Rattle.mr_picture.specs.declared.scene.Drawn.{Drawn}
 use Rattle.mr_picture.specs.declared.steps.Part.{Part}
 use Rattle.mr_picture.specs.declared.steps.Part.TheVariants as part
-use Rattle.mr_picture.specs.Deeds.{deeds}
 use Rattle.mr_picture.specs.Grid.{place_of, row_y, text_x, width}
 use Rattle.mr_picture.specs.Lanes.{thread_word}
+use Rattle.mr_picture.specs.Partners.{partners}
 use Rattle.mr_picture.specs.Scene.{Scene}
 use Rattle.mr_picture.specs.Texts.{cut, step_word}
 
 -- ---- what is told of a step
 
--- `step N, thread T  LINE:COLUMN  FUNCTION BLOCK  STATEMENT`, and below it all that it did: what is shown with each mark
--- of the step
+-- with which steps it races, and what it did: each part behind a line feed
+abbrev pub did_text : Scene → Drawn → List ℕ
+did_text s step = partners s.near step.number ++ step.did
+
+-- `step N, thread T  WHERE`, where a statement is told as `LINE:COLUMN  FUNCTION BLOCK  STATEMENT`; and below it all that
+-- it did: what is shown with each mark of the step
 abbrev pub whole_text : Scene → Drawn → List ℕ
 whole_text s step =
-    step_word step.number ++ codes ", " ++ thread_word step.thread ++ codes "  " ++ stand_text s.seen step.before
-    ++ deeds (codes "\n") s step
+    step_word step.number ++ codes ", " ++ thread_word step.thread ++ codes "  " ++ step.stand ++ did_text s step
+
+-- on one line `; ` stands for a line feed
+abbrev pub joined : ℕ → List ℕ
+joined b = if b == 10 then codes "; " else b ∷ []
 
 -- what it did, on one line
-abbrev pub deeds_line : Scene → Drawn → List ℕ
-deeds_line s step = drop 2 (deeds (codes "; ") s step)
+abbrev pub did_line : Scene → Drawn → List ℕ
+did_line s step = drop 2 (flat_map joined (did_text s step))
 
 -- ---- its sign
 
@@ -42,7 +48,7 @@ is_step_of s step race = holds_race s.done race && (race.first == step || race.s
 -- a step that ended the run without completing, one that races, or another one
 abbrev pub part_of : Scene → ℕ → Part
 part_of s step =
-    if not (nat_lt step (length s.seen.feet)) then part.Stopped
+    if not (nat_lt step (length s.sketch.feet)) then part.Stopped
     else (if list_any (is_step_of s step) s.near then part.Racing else part.Plain)
 
 abbrev pub part_sign : Part → Sign
@@ -91,15 +97,15 @@ number_mark s step =
 -- where its thread stood, and the statement
 abbrev pub stand_mark : Scene → Drawn → Mark
 stand_mark s step =
-    mark_of sign.Text (Words (record { x = text_x s; y = (at_step s step).y - 4 })) (cut (stand_text s.seen step.before))
+    mark_of sign.Text (Words (record { x = text_x s; y = (at_step s step).y - 4 })) (cut step.stand)
     (whole_text s step)
 
--- what it did
-abbrev pub deeds_mark : Scene → Drawn → Mark
-deeds_mark s step =
-    mark_of sign.Note (Words (record { x = text_x s; y = (at_step s step).y + 13 })) (cut (deeds_line s step))
+-- with which steps it races, and what it did
+abbrev pub did_mark : Scene → Drawn → Mark
+did_mark s step =
+    mark_of sign.Note (Words (record { x = text_x s; y = (at_step s step).y + 13 })) (cut (did_line s step))
     (whole_text s step)
 
 -- THE MARKS OF A STEP
 abbrev pub step_marks : Scene → Drawn → List Mark
-step_marks s step = step_mark s step ∷ number_mark s step ∷ stand_mark s step ∷ deeds_mark s step ∷ []
+step_marks s step = step_mark s step ∷ number_mark s step ∷ stand_mark s step ∷ did_mark s step ∷ []

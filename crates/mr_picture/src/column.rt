@@ -99,7 +99,7 @@ fn push_kept_mark(
         ≡ out.old.items ++ mark_text (kept_mark (scene_in scene.now) race row step)) }
 {
     let races = is_of_race(race, step);
-    let at = column_place(scene, thread_at(scene.shown.feet, step), row);
+    let at = column_place(scene, thread_at(scene.sketch.feet, step), row);
     push_mark(out, kept_sign(races), kept_shape(races, at), &[], title)
 }
 
@@ -174,7 +174,7 @@ fn push_left_mark(
     ensures { OnOk result (out.new.items
         ≡ out.old.items ++ mark_text (left_mark (scene_in scene.now) row step)) }
 {
-    let at = column_place(scene, thread_at(scene.shown.feet, step), row);
+    let at = column_place(scene, thread_at(scene.sketch.feet, step), row);
     push_mark(out, Sign::LeftOut, Shape::Dot { at }, &[], title)
 }
 
@@ -292,7 +292,7 @@ fn column_line(scene: &Scene<'_>, race: Pair, count: usize) -> Shape
     requires count { count < 2 ^ 40 }
     ensures { result ≡ column_line (scene_in scene.now) race count }
 {
-    let feet = scene.shown.feet;
+    let feet = scene.sketch.feet;
     let first = thread_at(feet, race.first);
     let second = thread_at(feet, race.second);
     Shape::Line {
@@ -354,14 +354,14 @@ pub(crate) fn push_column(
     order: &Analysis,
 ) -> Result<(), OutOfMemory>
     requires small { IsSmall (scene_in scene.now) }
-    requires tracks { Tracks order.now (scene_in scene.now).seen.feet }
+    requires tracks { Tracks order.now (scene_in scene.now).sketch.feet }
     ensures { OnOk result (out.new.items ≡ out.old.items
         ++ flat_map mark_text (column_marks (scene_in scene.now) (scene_in scene.now).first)) }
 {
     let Some(race) = scene.first else {
         return Ok(());
     };
-    let feet = scene.shown.feet;
+    let feet = scene.sketch.feet;
     let kept = witness_steps(alloc, feet, order, race, scene.span.from)?;
     let left = left_out(alloc, feet, order, race, scene.done)?;
     push_column_of(alloc, out, scene, race, kept.as_slice(), left.as_slice())

@@ -1,46 +1,28 @@
 //! The picture of a run.
-ghost use Rattle.std.specs.Prelude.{◌≡◌, ◌<◌, ◌^◌, ◌++◌, IfOk, OnOk, flat_map, length, slice_get};
+ghost use Rattle.std.specs.Prelude.{◌≡◌, ◌<◌, ◌^◌, ◌++◌, All, IfOk, OnOk, flat_map, length, slice_get};
 ghost use Rattle.mr_clocks.specs.Tracked.{Tracks};
 ghost use Rattle.mr_listing.specs.Seen.{seen};
 ghost use Rattle.mr_svg.specs.Svg.{mark_text};
+ghost use Rattle.mr_picture.specs.Drawn.{span_scene};
 ghost use Rattle.mr_picture.specs.Ends.{title_text};
-ghost use Rattle.mr_picture.specs.Picture.{marks, picture_text, round_marks, scene_text, tail_of};
-ghost use Rattle.mr_picture.specs.Scene.{IsSmall, race_in, scene_in, scene_of};
+ghost use Rattle.mr_picture.specs.Picture.{marks, picture_text, round_marks, scene_text};
+ghost use Rattle.mr_picture.specs.Scene.{IsSmall, race_in, scene_in, scene_of, sketch_in};
 
 use crate::column::push_column;
+use crate::drawn::{drawn_steps, tail_of};
 use crate::ends::{push_heads, push_tail, title_text};
 use crate::grid::{height, width};
 use crate::lanes::push_lanes;
 use crate::legend::push_legend;
 use crate::links::{push_arrows, push_races};
-use crate::scene::{Scene, chosen, done_in, drawn_steps, near_in, race_in, threads_of};
+use crate::scene::{Drawn, Scene, Sketch, chosen, done_in, near_in, race_in, threads_of};
 use crate::steps::{push_rows, push_steps};
 use crate::{OutOfMemory, Span};
 use mr_clocks::Analysis;
 use mr_event::Pair;
-use mr_listing::{Shown, steps};
+use mr_listing::Shown;
 use mr_svg::{push_foot, push_head};
 use std::alloc::Global;
-
-// What is told of a run behind its steps.
-fn tail_of(alloc: Global, shown: &Shown<'_>) -> Result<Vec<u8>, OutOfMemory>
-    ensures { IfOk result (λ text. text.items ≡ tail_of (seen shown.now)) }
-{
-    let end = Shown {
-        text: shown.text,
-        program: shown.program,
-        places: shown.places,
-        rows: shown.rows,
-        steps: &[],
-        count: shown.count,
-        feet: shown.feet,
-        lines: shown.lines,
-        races: shown.races,
-        verdict: shown.verdict,
-        rests: shown.rests,
-    };
-    steps(alloc, &end)
-}
 
 // Appends the marks behind the texts of steps: the witness's column, what is written above and below, and the legend.
 fn push_round(
@@ -51,7 +33,7 @@ fn push_round(
     title: &[u8],
 ) -> Result<(), OutOfMemory>
     requires small { IsSmall (scene_in scene.now) }
-    requires tracks { Tracks order.now (scene_in scene.now).seen.feet }
+    requires tracks { Tracks order.now (scene_in scene.now).sketch.feet }
     requires title { title.now ≡ title_text (scene_in scene.now) }
     ensures { OnOk result (out.new.items ≡ out.old.items ++ flat_map mark_text (round_marks (scene_in scene.now))) }
 {
@@ -70,7 +52,7 @@ fn push_marks(
     title: &[u8],
 ) -> Result<(), OutOfMemory>
     requires small { IsSmall (scene_in scene.now) }
-    requires tracks { Tracks order.now (scene_in scene.now).seen.feet }
+    requires tracks { Tracks order.now (scene_in scene.now).sketch.feet }
     requires title { title.now ≡ title_text (scene_in scene.now) }
     ensures { OnOk result (out.new.items ≡ out.old.items ++ flat_map mark_text (marks (scene_in scene.now))) }
 {
@@ -85,7 +67,7 @@ fn push_marks(
 // The document of a scene.
 fn scene_text(alloc: Global, scene: &Scene<'_>, order: &Analysis) -> Result<Vec<u8>, OutOfMemory>
     requires small { IsSmall (scene_in scene.now) }
-    requires tracks { Tracks order.now (scene_in scene.now).seen.feet }
+    requires tracks { Tracks order.now (scene_in scene.now).sketch.feet }
     ensures { IfOk result (λ text. text.items ≡ scene_text (scene_in scene.now)) }
 {
     let title = title_text(alloc, scene)?;
@@ -97,13 +79,43 @@ fn scene_text(alloc: Global, scene: &Scene<'_>, order: &Analysis) -> Result<Vec<
 }
 
 // The first listed race, if both of its steps are among these.
-fn first_race(shown: &Shown<'_>, done: Span) -> Option<Pair>
-    ensures { result ≡ race_in done (slice_get (seen shown.now).races 0) }
+fn first_race(races: &[Pair], done: Span) -> Option<Pair>
+    ensures { result ≡ race_in done (slice_get races.now 0) }
 {
-    race_in(done, shown.races.get(0).copied())
+    race_in(done, races.get(0).copied())
 }
 
-// The document of these steps of a run.
+/// The picture of these steps of a run, of which this is drawn: `chosen` tells which steps a picture has. An `Err` is for
+/// want of memory.
+pub fn drawing(
+    alloc: Global,
+    sketch: &Sketch<'_>,
+    order: &Analysis,
+    span: Span,
+    steps: &[Drawn],
+) -> Result<Vec<u8>, OutOfMemory>
+    requires to { span.to < 2 ^ 32 }
+    requires feet { length (sketch_in sketch.now).feet < 2 ^ 32 }
+    requires within { All (λ step. step.number < 2 ^ 32) steps.now }
+    requires tracks { Tracks order.now (sketch_in sketch.now).feet }
+    ensures { IfOk result (λ text. text.items ≡ scene_text (scene_of (sketch_in sketch.now) span steps.now)) }
+{
+    let threads = threads_of(alloc, steps)?;
+    let near = near_in(alloc, span, sketch.races)?;
+    let done = done_in(span, sketch.feet.len());
+    let scene = Scene {
+        sketch,
+        span,
+        done,
+        steps,
+        threads: threads.as_slice(),
+        near: near.as_slice(),
+        first: first_race(sketch.races, done),
+    };
+    scene_text(alloc, &scene, order)
+}
+
+// The picture of these steps of the run of a program.
 fn span_text(
     alloc: Global,
     shown: &Shown<'_>,
@@ -113,29 +125,21 @@ fn span_text(
     requires count { span.to < 2 ^ 32 }
     requires feet { length (seen shown.now).feet < 2 ^ 32 }
     requires tracks { Tracks order.now (seen shown.now).feet }
-    ensures { IfOk result (λ text. text.items
-        ≡ scene_text (scene_of (seen shown.now) span (tail_of (seen shown.now)))) }
+    ensures { IfOk result (λ text. text.items ≡ scene_text (span_scene (seen shown.now) span)) }
 {
-    let drawn = drawn_steps(alloc, span, shown.steps)?;
-    let threads = threads_of(alloc, drawn.as_slice())?;
-    let near = near_in(alloc, span, shown.races)?;
+    let steps = drawn_steps(alloc, shown, span, shown.steps)?;
     let tail = tail_of(alloc, shown)?;
-    let done = done_in(span, shown.feet.len());
-    let scene = Scene {
-        shown,
-        span,
-        done,
-        steps: drawn.as_slice(),
-        threads: threads.as_slice(),
-        near: near.as_slice(),
-        first: first_race(shown, done),
+    let sketch = Sketch {
+        count: shown.count,
+        feet: shown.feet,
+        races: shown.races,
         tail: tail.as_slice(),
     };
-    scene_text(alloc, &scene, order)
+    drawing(alloc, &sketch, order, span, steps.as_slice())
 }
 
-/// The picture of a run, of the steps that are asked for or, without any, of those about the first race. An `Err` is for
-/// want of memory.
+/// The picture of the run of a program, of the steps that are asked for or, without any, of those about the first race. An
+/// `Err` is for want of memory.
 pub fn picture(
     alloc: Global,
     shown: &Shown<'_>,

@@ -35,9 +35,9 @@ pub(crate) fn title_text(alloc: Global, scene: &Scene<'_>) -> Result<Vec<u8>, Ou
 {
     let mut out = Vec::new(alloc);
     push(&mut out, "a run of ")?;
-    push_counted(&mut out, scene.shown.count, " step", " steps")?;
+    push_counted(&mut out, scene.sketch.count, " step", " steps")?;
     push(&mut out, ", ")?;
-    push_counted(&mut out, scene.shown.races.len(), " race", " races")?;
+    push_counted(&mut out, scene.sketch.races.len(), " race", " races")?;
     Ok(out)
 }
 
@@ -51,7 +51,7 @@ fn push_left_out(out: &mut Vec<u8>, scene: &Scene<'_>) -> Result<(), OutOfMemory
     push(out, "; left out: ")?;
     push_number(out, span.from as u64)?;
     push(out, " before them and ")?;
-    push_number(out, scene.shown.count.saturating_sub(span.to) as u64)?;
+    push_number(out, scene.sketch.count.saturating_sub(span.to) as u64)?;
     push(out, " behind")
 }
 
@@ -60,7 +60,7 @@ fn part_text(alloc: Global, scene: &Scene<'_>) -> Result<Vec<u8>, OutOfMemory>
     ensures { IfOk result (λ text. text.items ≡ part_text (scene_in scene.now)) }
 {
     let mut out = Vec::new(alloc);
-    if scene.span.from == 0 && scene.span.to == scene.shown.count {
+    if scene.span.from == 0 && scene.span.to == scene.sketch.count {
         push(&mut out, "all of them are drawn")?;
     } else {
         push_left_out(&mut out, scene)?;
@@ -169,10 +169,10 @@ pub(crate) fn push_tail(
 ) -> Result<(), OutOfMemory>
     requires { IsSmall (scene_in scene.now) }
     ensures { OnOk result (out.new.items ≡ out.old.items ++ flat_map mark_text
-        (line_marks (scene_in scene.now) 0 (tail_count (scene_in scene.now)) (scene_in scene.now).tail)) }
+        (line_marks (scene_in scene.now) 0 (tail_count (scene_in scene.now)) (scene_in scene.now).sketch.tail)) }
 {
     let count = tail_count(scene);
-    let mut rest = scene.tail;
+    let mut rest = scene.sketch.tail;
     for number in 0..count {
         push_tail_line(alloc, out, scene, number, first_line(rest))?;
         rest = behind_line(rest);

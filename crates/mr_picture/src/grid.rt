@@ -98,7 +98,12 @@ pub(crate) fn is_line_end(byte: u8) -> bool
 pub(crate) fn tail_count(scene: &Scene<'_>) -> u64
     ensures { result ≡ tail_count (scene_in scene.now) }
 {
-    let lines = scene.tail.iter().filter(|byte| is_line_end(**byte)).count();
+    let lines = scene
+        .sketch
+        .tail
+        .iter()
+        .filter(|byte| is_line_end(**byte))
+        .count();
     lines.min(40) as u64
 }
 

@@ -1,39 +1,38 @@
 //! The lanes of threads.
 ghost use Rattle.std.specs.Prelude.{◌≡◌, ◌<◌, ◌≤◌, ◌^◌, ◌++◌, All, IfOk, IfSome, OnOk, flat_map, option_copied, slice_get};
 ghost use Rattle.mr_svg.specs.Svg.{mark_text};
-ghost use Rattle.mr_picture.specs.Lanes.{ends, first_that, has_ended, is_of_thread, lane_end, lane_mark, lane_marks};
+ghost use Rattle.mr_picture.specs.Lanes.{ends, first_that, has_ended, is_thread, lane_end, lane_mark, lane_marks};
 ghost use Rattle.mr_picture.specs.Lanes.{lane_start, name_mark, row_or, short_name, starts, thread_word};
 ghost use Rattle.mr_picture.specs.Scene.{IsSmall, scene_in};
 
 use crate::OutOfMemory;
-use crate::deeds::foot_at;
 use crate::grid::{lane_x, row_y, rows_end};
-use crate::scene::{Drawn, Scene};
+use crate::scene::{Drawn, Scene, foot_at};
 use crate::texts::push;
 use mr_event::Footprint;
-use mr_labels::{Stand, push_number};
+use mr_labels::push_number;
 use mr_svg::{Point, Shape, Sign, push_mark};
 use std::alloc::Global;
 
-// Whether a thread stands here.
-fn is_of_thread(thread: u32, stand: Option<Stand>) -> bool
-    ensures { result ≡ is_of_thread thread stand }
+// Whether the thread that was started is this one.
+fn is_thread(thread: u32, started: Option<u32>) -> bool
+    ensures { result ≡ is_thread thread started }
 {
-    match stand {
+    match started {
         None => false,
-        Some(stand) => stand.thread == thread,
+        Some(started) => started == thread,
     }
 }
 
-// The first of these steps that started a thread.
-fn starting(steps: &[Drawn], thread: u32) -> Option<Drawn>
+// The number of the first of these steps that started a thread.
+fn starting(steps: &[Drawn], thread: u32) -> Option<usize>
     requires { All (λ d. d.number < 2 ^ 32) steps.now }
     ensures first { result ≡ first_that (starts thread) steps.now }
-    ensures few { IfSome result (λ d. d.number < 2 ^ 32) }
+    ensures few { IfSome result (λ number. number < 2 ^ 32) }
 {
     for step in steps {
-        if is_of_thread(thread, step.started) {
-            return Some(*step);
+        if is_thread(thread, step.started) {
+            return Some(step.number);
         }
     }
     None
@@ -56,28 +55,28 @@ fn is_end(feet: &[Footprint], thread: u32, step: &Drawn) -> bool
     step.thread == thread && has_ended(foot_at(feet, step.number))
 }
 
-// The first of these steps that ended a thread.
-fn ending(feet: &[Footprint], steps: &[Drawn], thread: u32) -> Option<Drawn>
+// The number of the first of these steps that ended a thread.
+fn ending(feet: &[Footprint], steps: &[Drawn], thread: u32) -> Option<usize>
     requires { All (λ d. d.number < 2 ^ 32) steps.now }
     ensures first { result ≡ first_that (ends feet.now thread) steps.now }
-    ensures few { IfSome result (λ d. d.number < 2 ^ 32) }
+    ensures few { IfSome result (λ number. number < 2 ^ 32) }
 {
     for step in steps {
         if is_end(feet, thread, step) {
-            return Some(*step);
+            return Some(step.number);
         }
     }
     None
 }
 
 // The row of a step, or this one where there is none.
-fn row_or(from: usize, y: u64, step: Option<Drawn>) -> u64
-    requires { IfSome step (λ d. d.number < 2 ^ 32) }
+fn row_or(from: usize, y: u64, step: Option<usize>) -> u64
+    requires { IfSome step (λ number. number < 2 ^ 32) }
     ensures { result ≡ row_or from y step }
 {
     match step {
         None => y,
-        Some(step) => row_y(from, step.number),
+        Some(step) => row_y(from, step),
     }
 }
 
@@ -114,7 +113,7 @@ fn push_lane(
     let end = row_or(
         scene.span.from,
         rows_end(scene),
-        ending(scene.shown.feet, scene.steps, thread),
+        ending(scene.sketch.feet, scene.steps, thread),
     );
     let lane = Shape::Line {
         from: Point { x, y: start },

@@ -1,11 +1,13 @@
 //! A picture of a run, as an SVG document: a lane for each thread, its steps from above to below, arrows for what happens
 //! before what, and the races.
 //!
-//! - [`picture`]: the picture of a run, of the steps that are asked for, or else of those about its first race; it draws
-//!   500 steps at most, and says what it leaves out.
+//! - [`picture`]: the picture of the run of a program, of the steps that are asked for, or else of those about its first
+//!   race; it draws 500 steps at most, and says what it leaves out.
+//! - [`drawing`]: the same of any run ([`Sketch`]) and of what is drawn of its steps ([`Drawn`]), as of a trace.
+//!   [`chosen`]: which steps a picture has. [`push_numbered`], [`push_ended`], [`push_woken`]: parts of what a step did.
 //!
 //! `specs/Picture.antt` says what is drawn: `Scene` which steps, `Grid` where marks stand, and `Lanes`, `Links`, `Steps`,
-//! `Column`, `Ends` and `Legend` which marks there are. Proved: the document is exactly that, and want of memory is the
+//! `Column`, `Ends` and `Legend` which marks there are; `Drawn` and `Deeds` what is told of the steps of a program. Proved: the document is exactly that, and want of memory is the
 //! only error. By the laws of the arrows they are edges and lead wherever one step happens before
 //! another; the races are the listed ones both of whose steps are drawn; no text can become markup, by the law of
 //! `mr_svg`. [`marks_lie_inside`] is the law that each mark lies inside the picture.
@@ -34,6 +36,7 @@ mod because;
 mod column;
 mod deeds;
 mod drawing;
+mod drawn;
 mod ends;
 mod grid;
 mod lanes;
@@ -42,6 +45,7 @@ mod legend;
 mod links;
 mod order;
 mod order_laws;
+mod partners;
 mod scene;
 mod span;
 mod steps;
@@ -52,10 +56,12 @@ mod witness;
 
 pub use arrows_of::arrows;
 pub use because::Because;
-pub use drawing::picture;
+pub use deeds::{push_ended, push_numbered, push_woken};
+pub use drawing::{drawing, picture};
 pub use law::marks_lie_inside;
 pub use order::wakes_thread;
 pub use order_laws::{arrows_are_edges, paths_are_the_order, ways_are_the_order, witness_is_kept};
+pub use scene::{Drawn, Sketch, chosen};
 pub use span::{Span, races_in};
 pub use std::alloc::AllocError as OutOfMemory;
 pub use way_texts::order_text;

@@ -38,7 +38,7 @@ pub(crate) fn foot_place(scene: &Scene<'_>, step: usize) -> Point
     requires step { IsStep (scene_in scene.now) step }
     ensures { result ≡ foot_place (scene_in scene.now) step }
 {
-    place_of(scene, thread_at(scene.shown.feet, step), step)
+    place_of(scene, thread_at(scene.sketch.feet, step), step)
 }
 
 // An arrow that goes down so far from a lane, and aslant from so far above its last step.
@@ -125,7 +125,7 @@ fn push_arrow(
     requires arrow { IsRace (scene_in scene.now) arrow }
     ensures { OnOk result (out.new.items ≡ out.old.items ++ mark_text (arrow_mark (scene_in scene.now) arrow)) }
 {
-    let woken = wakes_thread(scene.shown.feet, arrow.first, arrow.second);
+    let woken = wakes_thread(scene.sketch.feet, arrow.first, arrow.second);
     let shape = arrow_between(
         woken,
         foot_place(scene, arrow.first),
@@ -161,11 +161,11 @@ pub(crate) fn push_arrows(
     order: &Analysis,
 ) -> Result<(), OutOfMemory>
     requires small { IsSmall (scene_in scene.now) }
-    requires tracks { Tracks order.now (scene_in scene.now).seen.feet }
+    requires tracks { Tracks order.now (scene_in scene.now).sketch.feet }
     ensures { OnOk result (out.new.items ≡ out.old.items ++ flat_map mark_text
-        (map (arrow_mark (scene_in scene.now)) (arrows (scene_in scene.now).seen.feet (scene_in scene.now).done))) }
+        (map (arrow_mark (scene_in scene.now)) (arrows (scene_in scene.now).sketch.feet (scene_in scene.now).done))) }
 {
-    let all = arrows(alloc, scene.shown.feet, order, scene.done)?;
+    let all = arrows(alloc, scene.sketch.feet, order, scene.done)?;
     push_each_arrow(alloc, out, scene, all.as_slice())
 }
 

@@ -1,45 +1,50 @@
 //! What is drawn of a run.
-ghost use Rattle.std.specs.Prelude.{◌≡◌, ◌<◌, ◌^◌, ◌++◌, ◌∷◌, [], IfOk, OnOk, if◌then◌else◌};
+ghost use Rattle.std.specs.Prelude.{◌≡◌, ◌<◌, ◌^◌, ◌++◌, ◌∷◌, [], IfOk, OnOk, if◌then◌else◌, option_copied, slice_get};
 ghost use Rattle.std.specs.List.{filter};
-ghost use Rattle.mr_picture.specs.Scene.{begin_at, chosen, clipped, comes_to, done_in, drawn_of, drawn_steps, is_of};
-ghost use Rattle.mr_picture.specs.Scene.{near_in, race_in, takes_one, threads_of};
+ghost use Rattle.mr_picture.specs.Scene.{begin_at, chosen, clipped, comes_to, done_in, is_of, near_in};
+ghost use Rattle.mr_picture.specs.Scene.{race_in, takes_one, threads_of};
 ghost use Rattle.mr_picture.specs.Span.{holds_race, is_in};
 
 use crate::{OutOfMemory, Span};
-use mr_base::Status;
-use mr_event::Pair;
-use mr_labels::{Stand, ToldStep};
-use mr_listing::Shown;
+use mr_event::{Footprint, Pair};
+use mr_sched::Items;
 use std::alloc::Global;
 
-/// What is drawn of a step.
+/// A run as it is drawn.
 #[derive(Clone, Copy)]
-pub(crate) struct Drawn {
-    /// The number of its entry, counted from 0.
+pub struct Sketch<'a> {
+    /// How many steps it has.
+    pub count: usize,
+    /// The footprints of those that completed.
+    pub feet: &'a [Footprint],
+    /// The races that it shows.
+    pub races: &'a [Pair],
+    /// The text of its end.
+    pub tail: &'a [u8],
+}
+
+/// What is drawn of a step.
+#[derive(Drop)]
+pub struct Drawn {
+    /// Its number, counted from 0.
     pub number: usize,
     pub thread: u32,
-    /// Where the thread stood before it.
-    pub before: Option<Stand>,
-    /// Whether the thread can go on behind it, and what it waits for otherwise.
-    pub status: Option<Status>,
-    /// Where the thread stands that it started, if it started one.
-    pub started: Option<Stand>,
-    /// How many prints there were before it.
-    pub prints_before: usize,
-    /// How many prints there are behind it.
-    pub prints_behind: usize,
+    /// The thread that it started, if it started one.
+    pub started: Option<u32>,
+    /// Where its thread stood before it, on one line.
+    pub stand: Items<u8>,
+    /// What it did, each part behind a line feed.
+    pub did: Items<u8>,
 }
 
 /// What is drawn of a run.
 #[derive(Clone, Copy)]
 pub(crate) struct Scene<'a> {
-    /// What the run tells.
-    pub shown: &'a Shown<'a>,
+    pub sketch: &'a Sketch<'a>,
     /// Which steps are drawn.
     pub span: Span,
     /// Those of them that completed.
     pub done: Span,
-    /// What they tell.
     pub steps: &'a [Drawn],
     /// Their threads, by rising numbers.
     pub threads: &'a [u32],
@@ -47,8 +52,6 @@ pub(crate) struct Scene<'a> {
     pub near: &'a [Pair],
     /// The first listed race, if both of its steps are drawn.
     pub first: Option<Pair>,
-    /// The text of the run's end.
-    pub tail: &'a [u8],
 }
 
 // So many steps are drawn at most.
@@ -83,7 +86,7 @@ fn begin_at(race: Option<Pair>) -> usize
 }
 
 /// The steps that are drawn of so many: those that are asked for, or else those about the first race; 500 at most.
-pub(crate) fn chosen(count: usize, races: &[Pair], asked: Option<Span>) -> Span
+pub fn chosen(count: usize, races: &[Pair], asked: Option<Span>) -> Span
     requires { count < 2 ^ 32 }
     ensures { result ≡ chosen count races.now asked }
 {
@@ -99,43 +102,11 @@ pub(crate) fn chosen(count: usize, races: &[Pair], asked: Option<Span>) -> Span
     }
 }
 
-// What is drawn of a step.
-fn drawn_of(told: &ToldStep) -> Drawn
-    ensures { result ≡ drawn_of told.now }
-{
-    Drawn {
-        number: told.number,
-        thread: told.thread,
-        before: told.before,
-        status: told.status,
-        started: told.started,
-        prints_before: told.prints_before,
-        prints_behind: told.prints_behind,
-    }
-}
-
-// Whether a step is drawn.
-fn is_in(span: Span, step: usize) -> bool
+/// Whether a step is drawn.
+pub(crate) fn is_in(span: Span, step: usize) -> bool
     ensures { result ≡ is_in span step }
 {
     span.from <= step && step < span.to
-}
-
-/// What the drawn ones of these steps tell.
-pub(crate) fn drawn_steps(
-    alloc: Global,
-    span: Span,
-    steps: &[ToldStep],
-) -> Result<Vec<Drawn>, OutOfMemory>
-    ensures { IfOk result (λ drawn. drawn.items ≡ drawn_steps span steps.now) }
-{
-    let mut drawn = Vec::new(alloc);
-    for told in steps {
-        if is_in(span, told.number) {
-            drawn.push(drawn_of(told))?;
-        }
-    }
-    Ok(drawn)
 }
 
 // Whether a thread takes one of these steps.
@@ -185,6 +156,13 @@ pub(crate) fn done_in(span: Span, completed: usize) -> Span
         from: span.from,
         to: span.to.min(completed),
     }
+}
+
+/// The footprint of the step of this number, if it completed.
+pub(crate) fn foot_at(feet: &[Footprint], number: usize) -> Option<&Footprint>
+    ensures { option_copied result ≡ slice_get feet.now number }
+{
+    feet.get(number)
 }
 
 /// Whether both steps of a race are among these.

@@ -1,24 +1,21 @@
 //! The rows of steps.
 ghost use Rattle.std.specs.Prelude.{◌≡◌, ◌+◌, ◌-◌, ◌<◌, ◌≤◌, ◌^◌, ◌++◌, ◌∷◌, [], IfOk, OnOk, drop, flat_map, decimal, length};
 ghost use Rattle.std.specs.List.{list_any};
-ghost use Rattle.mr_listing.specs.Seen.{seen};
-ghost use Rattle.mr_listing.specs.Spots.{stand_text};
 ghost use Rattle.mr_picture.specs.Span.{steps_in};
 ghost use Rattle.mr_svg.specs.Svg.{mark_text};
-ghost use Rattle.mr_picture.specs.Deeds.{deeds};
 ghost use Rattle.mr_picture.specs.Scene.{IsSmall, scene_in};
-ghost use Rattle.mr_picture.specs.Steps.{at_step, deeds_line, deeds_mark, is_step_of, number_mark, part_of, part_shape};
-ghost use Rattle.mr_picture.specs.Steps.{part_sign, row_mark, row_marks, stand_mark, step_mark, step_marks, whole_text};
+ghost use Rattle.mr_picture.specs.Steps.{at_step, did_line, did_mark, did_text, is_step_of, joined, number_mark, part_of};
+ghost use Rattle.mr_picture.specs.Steps.{part_shape, part_sign, row_mark, row_marks, stand_mark, step_mark, step_marks};
+ghost use Rattle.mr_picture.specs.Steps.{whole_text};
 ghost use Rattle.mr_picture.specs.Texts.{cut, step_word};
 
 use crate::OutOfMemory;
-use crate::deeds::push_deeds;
 use crate::grid::{place_of, row_y, text_x, width};
 use crate::lanes::push_thread_word;
+use crate::partners::push_partners;
 use crate::scene::{Drawn, Scene, holds_race};
 use crate::texts::{count_text, cut, push, push_step_word};
 use mr_event::Pair;
-use mr_listing::stand_text;
 use mr_svg::{Point, Shape, Sign, push_mark};
 use std::alloc::Global;
 
@@ -50,7 +47,7 @@ fn has_race(scene: &Scene<'_>, step: usize) -> bool
 fn part_of(scene: &Scene<'_>, step: usize) -> Part
     ensures { result ≡ part_of (scene_in scene.now) step }
 {
-    if step >= scene.shown.feet.len() {
+    if step >= scene.sketch.feet.len() {
         Part::Stopped
     } else if has_race(scene, step) {
         Part::Racing
@@ -79,14 +76,24 @@ fn part_shape(part: Part, at: Point) -> Shape
     }
 }
 
-// What is shown with each mark of a step whose thread stood here.
+// With which steps a step races, and what it did.
+fn did_text(alloc: Global, scene: &Scene<'_>, step: &Drawn) -> Result<Vec<u8>, OutOfMemory>
+    ensures { IfOk result (λ text. text.items ≡ did_text (scene_in scene.now) step.now) }
+{
+    let mut out = Vec::new(alloc);
+    push_partners(&mut out, scene.near, step.number)?;
+    out.extend_from_slice(step.did.as_slice())?;
+    Ok(out)
+}
+
+// What is shown with each mark of a step, which did this.
 fn whole_text(
     alloc: Global,
     scene: &Scene<'_>,
     step: &Drawn,
-    stand: &[u8],
+    did: &[u8],
 ) -> Result<Vec<u8>, OutOfMemory>
-    requires { stand.now ≡ stand_text (scene_in scene.now).seen step.now.before }
+    requires { did.now ≡ did_text (scene_in scene.now) step.now }
     ensures { IfOk result (λ text. text.items ≡ whole_text (scene_in scene.now) step.now) }
 {
     let mut out = Vec::new(alloc);
@@ -94,8 +101,30 @@ fn whole_text(
     push(&mut out, ", ")?;
     push_thread_word(&mut out, step.thread)?;
     push(&mut out, "  ")?;
-    out.extend_from_slice(stand)?;
-    push_deeds(&mut out, "\n", scene, step)?;
+    out.extend_from_slice(step.stand.as_slice())?;
+    out.extend_from_slice(did)?;
+    Ok(out)
+}
+
+// Appends a byte; on one line `; ` stands for a line feed.
+fn push_joined(out: &mut Vec<u8>, byte: u8) -> Result<(), OutOfMemory>
+    ensures { OnOk result (out.new.items ≡ out.old.items ++ joined byte) }
+{
+    if byte == b'\n' {
+        push(out, "; ")
+    } else {
+        out.push(byte)
+    }
+}
+
+// A text on one line.
+fn on_one_line(alloc: Global, text: &[u8]) -> Result<Vec<u8>, OutOfMemory>
+    ensures { IfOk result (λ line. line.items ≡ flat_map joined text.now) }
+{
+    let mut out = Vec::new(alloc);
+    for byte in text {
+        push_joined(&mut out, *byte)?;
+    }
     Ok(out)
 }
 
@@ -110,12 +139,17 @@ fn behind_two(text: &[u8]) -> &[u8]
 }
 
 // What a step did, on one line, as it is drawn.
-fn deeds_line(alloc: Global, scene: &Scene<'_>, step: &Drawn) -> Result<Vec<u8>, OutOfMemory>
-    ensures { IfOk result (λ text. text.items ≡ cut (deeds_line (scene_in scene.now) step.now)) }
+fn did_line(
+    alloc: Global,
+    scene: &Scene<'_>,
+    step: &Drawn,
+    did: &[u8],
+) -> Result<Vec<u8>, OutOfMemory>
+    requires { did.now ≡ did_text (scene_in scene.now) step.now }
+    ensures { IfOk result (λ text. text.items ≡ cut (did_line (scene_in scene.now) step.now)) }
 {
-    let mut out = Vec::new(alloc);
-    push_deeds(&mut out, "; ", scene, step)?;
-    cut(alloc, behind_two(out.as_slice()))
+    let line = on_one_line(alloc, did)?;
+    cut(alloc, behind_two(line.as_slice()))
 }
 
 // Appends the background of a row.
@@ -236,16 +270,14 @@ fn push_stand_mark(
     out: &mut Vec<u8>,
     scene: &Scene<'_>,
     step: &Drawn,
-    stand: &[u8],
     title: &[u8],
 ) -> Result<(), OutOfMemory>
     requires small { IsSmall (scene_in scene.now) }
     requires few { step.now.number < 2 ^ 32 }
-    requires stand { stand.now ≡ stand_text (scene_in scene.now).seen step.now.before }
     requires title { title.now ≡ whole_text (scene_in scene.now) step.now }
     ensures { OnOk result (out.new.items ≡ out.old.items ++ mark_text (stand_mark (scene_in scene.now) step.now)) }
 {
-    let short = cut(alloc, stand)?;
+    let short = cut(alloc, step.stand.as_slice())?;
     let at = Point {
         x: text_x(scene),
         y: at_step(scene, step).y - 4,
@@ -259,31 +291,27 @@ fn push_stand_mark(
     )
 }
 
-// Appends what a step did.
-fn push_deeds_mark(
+// Appends with which steps a step races, and what it did.
+fn push_did_mark(
     alloc: Global,
     out: &mut Vec<u8>,
     scene: &Scene<'_>,
     step: &Drawn,
+    did: &[u8],
     title: &[u8],
 ) -> Result<(), OutOfMemory>
     requires small { IsSmall (scene_in scene.now) }
     requires few { step.now.number < 2 ^ 32 }
+    requires did { did.now ≡ did_text (scene_in scene.now) step.now }
     requires title { title.now ≡ whole_text (scene_in scene.now) step.now }
-    ensures { OnOk result (out.new.items ≡ out.old.items ++ mark_text (deeds_mark (scene_in scene.now) step.now)) }
+    ensures { OnOk result (out.new.items ≡ out.old.items ++ mark_text (did_mark (scene_in scene.now) step.now)) }
 {
-    let deeds = deeds_line(alloc, scene, step)?;
+    let line = did_line(alloc, scene, step, did)?;
     let at = Point {
         x: text_x(scene),
         y: at_step(scene, step).y + 13,
     };
-    push_mark(
-        out,
-        Sign::Note,
-        Shape::Words { at },
-        deeds.as_slice(),
-        title,
-    )
+    push_mark(out, Sign::Note, Shape::Words { at }, line.as_slice(), title)
 }
 
 // Appends the marks of a step, of which this is told.
@@ -292,20 +320,20 @@ fn push_told(
     out: &mut Vec<u8>,
     scene: &Scene<'_>,
     step: &Drawn,
-    stand: &[u8],
+    did: &[u8],
     title: &[u8],
 ) -> Result<(), OutOfMemory>
     requires small { IsSmall (scene_in scene.now) }
     requires few { step.now.number < 2 ^ 32 }
-    requires stand { stand.now ≡ stand_text (scene_in scene.now).seen step.now.before }
+    requires did { did.now ≡ did_text (scene_in scene.now) step.now }
     requires title { title.now ≡ whole_text (scene_in scene.now) step.now }
     ensures { OnOk result (out.new.items
         ≡ out.old.items ++ flat_map mark_text (step_marks (scene_in scene.now) step.now)) }
 {
     push_step_mark(out, scene, step, title)?;
     push_number_mark(alloc, out, scene, step, title)?;
-    push_stand_mark(alloc, out, scene, step, stand, title)?;
-    push_deeds_mark(alloc, out, scene, step, title)
+    push_stand_mark(alloc, out, scene, step, title)?;
+    push_did_mark(alloc, out, scene, step, did, title)
 }
 
 // Appends the marks of a step.
@@ -320,9 +348,9 @@ fn push_step(
     ensures { OnOk result (out.new.items
         ≡ out.old.items ++ flat_map mark_text (step_marks (scene_in scene.now) step.now)) }
 {
-    let stand = stand_text(alloc, scene.shown, step.before)?;
-    let title = whole_text(alloc, scene, step, stand.as_slice())?;
-    push_told(alloc, out, scene, step, stand.as_slice(), title.as_slice())
+    let did = did_text(alloc, scene, step)?;
+    let title = whole_text(alloc, scene, step, did.as_slice())?;
+    push_told(alloc, out, scene, step, did.as_slice(), title.as_slice())
 }
 
 /// Appends the marks of each step.

@@ -6,4 +6,4 @@ use Rattle.mr_picture.proofs.deeds.push_accesses.Given as goal
 -- the accesses before this one are told
 abbrev pub invariant-loop-access : goal.invariant-loop-access
 invariant-loop-access l =
-    l.out.items ≡ l.fn.out.items ++ flat_map (access_deed l.sep (seen l.shown) l.here) (take l.access-index l.accesses)
+    l.out.items ≡ l.fn.out.items ++ flat_map (access_deed (seen l.shown) l.here) (take l.access-index l.accesses)

@@ -4,4 +4,4 @@ use Rattle.mr_picture.proofs.deeds.push_prints.Given as goal
 
 -- the prints before this one are told
 abbrev pub invariant-loop-line : goal.invariant-loop-line
-invariant-loop-line l = l.out.items ≡ l.fn.out.items ++ flat_map (print_deed l.sep) (take l.line-index l.lines)
+invariant-loop-line l = l.out.items ≡ l.fn.out.items ++ flat_map print_deed (take l.line-index l.lines)

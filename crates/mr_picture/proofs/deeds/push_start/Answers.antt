@@ -10,8 +10,8 @@ pub returns-in-Some : goal.returns-in-Some
 returns-in-Some c =
     subst (λ (o : Option Stand). OnOk c.push_in.result
     (c.push_in.new.out.items
-    ≡ c.args.out.now.items ++ start_deed c.args.sep.now (seen c.args.shown.now) c.args.thread o))
+    ≡ c.args.out.now.items ++ start_deed (seen c.args.shown.now) c.args.thread o))
     (sym c.in-Some.is)
     (last_behind c.push_in.result c.args.out.now.items
-    (numbered c.args.sep.now (codes "starts thread ") c.args.thread)
+    (numbered (codes "starts thread ") c.args.thread)
     (in_text (seen c.args.shown.now) c.in-Some.stand.function) _ _ c.in_ok-push_numbered.ensures c.push_in.ensures)

@@ -2,12 +2,12 @@ use Rattle.std.proofs.Common.{◌≡◌, subst}
 use Rattle.std.specs.Prelude.{IfOk}
 use Rattle.mr_picture.specs.declared.span.Span.{Span}
 use Rattle.mr_listing.specs.Seen.{seen}
-use Rattle.mr_picture.specs.Picture.{scene_text, tail_of}
-use Rattle.mr_picture.specs.Scene.{scene_of}
+use Rattle.mr_picture.specs.Drawn.{span_scene}
+use Rattle.mr_picture.specs.Picture.{scene_text}
 use Rattle.mr_picture.proofs.drawing.picture.Goals as goal
 
 pub returns : goal.returns
 returns c =
     let s = seen c.args.shown.now in
-    subst (λ (span : Span). IfOk c.span_text.result (λ text. text.items ≡ scene_text (scene_of s span (tail_of s))))
+    subst (λ (span : Span). IfOk c.span_text.result (λ text. text.items ≡ scene_text (span_scene s span)))
     c.chosen.ensures c.span_text.ensures

@@ -17,7 +17,7 @@ returns c =
     let old = c.args.out.now.items in
     let rows = flat_map (row_marks s) (steps_in s.span) in
     let lanes = flat_map (lane_marks s) s.threads in
-    let links = map (arrow_mark s) (arrows s.seen.feet s.done) in
+    let links = map (arrow_mark s) (arrows s.sketch.feet s.done) in
     let races = map (race_mark s) (races_in s.done s.near) in
     let steps = flat_map (step_marks s) s.steps in
     last_marks mark_text c.push_round.result old _ _ (rows ++ lanes ++ races ++ links ++ steps) (round_marks s)

@@ -9,4 +9,4 @@ pub push_each_arrow-requires-clause-within : goal.push_each_arrow-requires-claus
 push_each_arrow-requires-clause-within c =
     let s = scene_in c.args.scene.now in
     subst (λ (ps : List Pair). All (IsRace s) ps) (sym (c.as_slice.ensures.value ∙ c.in_ok-all.ensures))
-    (arrows_within s.seen.feet s.done c.requires.small.done)
+    (arrows_within s.sketch.feet s.done c.requires.small.done)

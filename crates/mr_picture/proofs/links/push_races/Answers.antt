@@ -9,4 +9,4 @@ pub push_each_race-requires-clause-within : goal.push_each_race-requires-clause-
 push_each_race-requires-clause-within c =
     let s = scene_in c.args.scene.now in
     subst (λ (ps : List Pair). All (IsRace s) ps) (sym (c.as_slice.ensures.value ∙ c.in_ok-races.ensures))
-    (races_within s.seen.feet s.done s.near c.requires.done)
+    (races_within s.sketch.feet s.done s.near c.requires.done)

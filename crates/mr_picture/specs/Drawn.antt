@@ -1,0 +1,52 @@
+-- What is drawn of the run of a program.
+use Rattle.std.specs.Prelude.{ℕ, Bool, List, [], map, Option, None, Some}
+use Rattle.std.specs.List.{filter}
+use Rattle.mr_labels.specs.declared.step.Stand.{Stand}
+use Rattle.mr_labels.specs.declared.step.ToldStep.{ToldStep}
+use Rattle.mr_listing.specs.Seen.{Seen}
+use Rattle.mr_listing.specs.Spots.{stand_text}
+use Rattle.mr_listing.specs.Steps.{steps_text}
+use Rattle.mr_picture.specs.declared.scene.Drawn.{Drawn}
+use Rattle.mr_picture.specs.declared.span.Span.{Span}
+use Rattle.mr_picture.specs.Deeds.{deeds}
+use Rattle.mr_picture.specs.Scene.{Scene, Sketch, chosen, scene_of}
+use Rattle.mr_picture.specs.Span.{is_in}
+
+-- what is told of a run behind its steps
+abbrev pub tail_of : Seen → List ℕ
+tail_of s = steps_text (record s { steps = [] })
+
+-- a run as it is drawn
+abbrev pub sketch_of : Seen → Sketch
+sketch_of s = record { count = s.count; feet = s.feet; races = s.races; tail = tail_of s }
+
+-- the thread that stands there
+abbrev pub thread_of : Option Stand → Option ℕ
+thread_of None = None
+thread_of (Some stand) = Some stand.thread
+
+-- what is drawn of a step
+abbrev pub drawn_of : Seen → ToldStep → Drawn
+drawn_of s told = record {
+  number = told.number;
+  thread = told.thread;
+  started = thread_of told.started;
+  stand = stand_text s told.before;
+  did = deeds s told;
+}
+
+-- whether a step is drawn
+abbrev pub is_drawn : Span → ToldStep → Bool
+is_drawn span told = is_in span told.number
+
+-- what is drawn of those of these steps that are
+abbrev pub drawn_steps : Seen → Span → List ToldStep → List Drawn
+drawn_steps s span steps = map (drawn_of s) (filter (is_drawn span) steps)
+
+-- these steps of a run
+abbrev pub span_scene : Seen → Span → Scene
+span_scene s span = scene_of (sketch_of s) span (drawn_steps s span s.steps)
+
+-- THE SCENE of those steps of a run that are asked for or, without any, of those about the first race
+abbrev pub asked_scene : Seen → Option Span → Scene
+asked_scene s asked = span_scene s (chosen s.count s.races asked)

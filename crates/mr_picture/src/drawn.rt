@@ -1,0 +1,77 @@
+//! What is drawn of the run of a program.
+ghost use Rattle.std.specs.Prelude.{◌≡◌, IfOk};
+ghost use Rattle.mr_listing.specs.Seen.{seen};
+ghost use Rattle.mr_picture.specs.Drawn.{drawn_of, drawn_steps, tail_of, thread_of};
+
+use crate::deeds::push_deeds;
+use crate::scene::{Drawn, is_in};
+use crate::{OutOfMemory, Span};
+use mr_labels::{Stand, ToldStep};
+use mr_listing::{Shown, stand_text, steps};
+use mr_sched::Items;
+use std::alloc::Global;
+
+/// What is told of a run behind its steps.
+pub(crate) fn tail_of(alloc: Global, shown: &Shown<'_>) -> Result<Vec<u8>, OutOfMemory>
+    ensures { IfOk result (λ text. text.items ≡ tail_of (seen shown.now)) }
+{
+    let end = Shown {
+        text: shown.text,
+        program: shown.program,
+        places: shown.places,
+        rows: shown.rows,
+        steps: &[],
+        count: shown.count,
+        feet: shown.feet,
+        lines: shown.lines,
+        races: shown.races,
+        verdict: shown.verdict,
+        rests: shown.rests,
+    };
+    steps(alloc, &end)
+}
+
+// The thread that stands there.
+fn thread_of(stand: Option<Stand>) -> Option<u32>
+    ensures { result ≡ thread_of stand }
+{
+    match stand {
+        None => None,
+        Some(stand) => Some(stand.thread),
+    }
+}
+
+// What is drawn of a step.
+fn drawn_of(alloc: Global, shown: &Shown<'_>, told: &ToldStep) -> Result<Drawn, OutOfMemory>
+    ensures { IfOk result (λ drawn. drawn ≡ drawn_of (seen shown.now) told.now) }
+{
+    let stand = stand_text(alloc, shown, told.before)?;
+    let mut did = Vec::new(alloc);
+    push_deeds(&mut did, shown, told)?;
+    Ok(Drawn {
+        number: told.number,
+        thread: told.thread,
+        started: thread_of(told.started),
+        stand: Items::from_vec(stand),
+        did: Items::from_vec(did),
+    })
+}
+
+/// What is drawn of those of these steps that are.
+pub(crate) fn drawn_steps(
+    alloc: Global,
+    shown: &Shown<'_>,
+    span: Span,
+    steps: &[ToldStep],
+) -> Result<Vec<Drawn>, OutOfMemory>
+    ensures { IfOk result (λ drawn. drawn.items ≡ drawn_steps (seen shown.now) span steps.now) }
+{
+    let mut drawn = Vec::new(alloc);
+    for told in steps {
+        if is_in(span, told.number) {
+            let step = drawn_of(alloc, shown, told)?;
+            drawn.push(step)?;
+        }
+    }
+    Ok(drawn)
+}
