@@ -1,0 +1,4 @@
+pub mod CountLaws
+mod Examples
+pub mod GroupLaws
+pub mod Lines
