@@ -154,3 +154,16 @@ module _ (s : Seen) where
               ap (λ q. is_eq (both_cmp q (both_of s p))) (sym (first_is (both_of s p) s.races g here.1))
               ∙ ap is_eq (tied_itself both_total (both_of s p)),
             )
+
+-- ---- how many a group has
+
+-- none has more races than there are
+pub few_groups : (s : Seen) (gs : List Group) → AreGroups s gs → All (λ (g : Group). g.count ≤ length s.races) gs
+few_groups s gs are k d l =
+    let g = get_or gs k d in
+    few_of (group_at s (both_of s g.first) s.races) g (are.right k d l) (few_so_far s (both_of s g.first) s.races)
+  where
+    few_of : (o : Option Group) (g : Group) → o ≡ Some g → IfSome o (λ (g : Group). g.count ≤ length s.races)
+        → g.count ≤ length s.races
+    few_of None g is few = absurd (none-some g is)
+    few_of (Some h) g is few = subst (λ (g : Group). g.count ≤ length s.races) (same_Some h g is) few

@@ -1,0 +1,21 @@
+use Rattle.std.proofs.Common.{List, ◌++◌, ◌∙◌, ap, length}
+use Rattle.std.specs.Prelude.{flat_map}
+use Rattle.mr_report.specs.Report.{count_line}
+use Rattle.mr_listing.specs.declared.pairs.Group.{Group}
+use Rattle.mr_traced.specs.Races.{group_text}
+use Rattle.mr_traced.specs.Seen.{seen}
+use Rattle.mr_traced.proofs.GroupLaws.{few_groups}
+use Rattle.mr_traced.proofs.pairing.races_text.Goals as goal
+
+pub returns : goal.returns
+returns c =
+    let s = seen c.args.shown.now in
+    let groups = c.in_ok-groups.groups.items in
+    let ranked = c.in_ok-rank_by_count.ensures (length s.races) (few_groups s groups c.in_ok-groups.ensures) in (
+      groups,
+      c.in_ok-groups.ensures,
+      c.in_ok-push_races_count.ensures
+          ∙ ap (λ xs. xs ++ count_line s.races)
+          (c.in_ok-push_each_group.ensures
+          ∙ ap (λ (gs : List Group). flat_map (group_text s) gs) (c.as_slice.ensures.value ∙ ranked)),
+    )
