@@ -2,7 +2,7 @@
 use Rattle.std.proofs.Common.{◌≡◌, ℕ, suc, arith, Contains, option_map, ◌+◌, ◌<◌, ◌≤◌, Bool, true, false, cond, List, [], ◌∷◌, ◌++◌, length, get_or, take, map, refl, sym, ap, ap₂}
 use Rattle.std.proofs.Common.{◌∙◌, subst}
 use Rattle.std.proofs.lemmas.List.{take_more}
-use Rattle.std.proofs.lemmas.List.Elements.{All-map}
+use Rattle.std.proofs.lemmas.List.Elements.{All-map, Contains-get_or}
 use Rattle.std.proofs.lemmas.Simd.{map-map}
 use Rattle.std.proofs.lemmas.Map.Entries.{place_from_lookup}
 use Rattle.std.proofs.lemmas.Option.{get_or_from_slice_get, none-some, same_Some, slice_get-map, slice_get_within}
@@ -54,24 +54,22 @@ maps_agree f g [] h = refl
 maps_agree f g (x ∷ xs) h = ap₂ (λ y ys. y ∷ ys) (h 0 x (omega arith)) (maps_agree f g xs (λ k d l. h (suc k) d (omega arith)))
 
 module _ (s : Seen) where
+  -- places that are the same have the same groups
+  same_group : (q here : Both) (rs : List Pair) (p : Pair) (r : Ordering) → both_cmp here q ≡ r
+      → cond (is_eq r) (Some (raised (group_at s q rs) p)) (group_at s q rs)
+      ≡ cond (is_eq r) (Some (raised (group_at s here rs) p)) (group_at s q rs)
+  same_group q here rs p Less e = refl
+  same_group q here rs p Equal e = ap (λ x. Some (raised (group_at s x rs) p)) (sym (both_exact here q e))
+  same_group q here rs p Greater e = refl
+
   -- ONE RACE MORE, counted under its places
   pub one_more : (q : Both) (rs : List Pair) (p : Pair)
       → group_at s q (rs ++ p ∷ [])
       ≡ cond (is_eq (both_cmp (both_of s p) q)) (Some (raised (group_at s (both_of s p) rs) p)) (group_at s q rs)
   one_more q rs p =
       grouped_more (is_at s q) rs p
-      ∙ ap (λ b. cond b (Some (raised (group_at s q rs) p)) (group_at s q rs)) ((eq_by_cmp_equiv both_total).symm q here)
-      ∙ by (both_cmp here q) refl
-    where
-      abbrev here : Both
-      here = both_of s p
-
-      by : (r : Ordering) → both_cmp here q ≡ r
-          → cond (is_eq r) (Some (raised (group_at s q rs) p)) (group_at s q rs)
-          ≡ cond (is_eq r) (Some (raised (group_at s here rs) p)) (group_at s q rs)
-      by Less e = refl
-      by Equal e = ap (λ x. Some (raised (group_at s x rs) p)) (sym (both_exact here q e))
-      by Greater e = refl
+      ∙ ap (λ b. cond b (Some (raised (group_at s q rs) p)) (group_at s q rs)) ((eq_by_cmp_equiv both_total).symm q (both_of s p))
+      ∙ same_group q (both_of s p) rs p (both_cmp (both_of s p) q) refl
 
   -- the same of the next of a list
   pub next_counted : (old new : Both → Option Group) (rs : List Pair) (i : ℕ) (p : Pair) (here : Both) → i < length rs
@@ -103,14 +101,13 @@ module _ (s : Seen) where
 
   -- a race is in the group of its places
   has_group : (rs : List Pair) (p : Pair) → Contains rs p → (g : Group) × (group_at s (both_of s p) rs ≡ Some g)
-  has_group rs p inside = by (find t rs) refl
+  has_group rs p inside = by (find (is_at s (both_of s p)) rs) refl
     where
-      abbrev t : Pair → Bool
-      t = is_at s (both_of s p)
-
-      by : (o : Option Pair) → find t rs ≡ o → (g : Group) × (grouped t rs o ≡ Some g)
-      by None found = absurd (not_missed t rs p inside (ap is_eq (tied_itself both_total (both_of s p))) found)
-      by (Some x) found = (group x (count_by t rs), refl)
+      by : (o : Option Pair) → find (is_at s (both_of s p)) rs ≡ o
+          → (g : Group) × (grouped (is_at s (both_of s p)) rs o ≡ Some g)
+      by None found =
+          absurd (not_missed (is_at s (both_of s p)) rs p inside (ap is_eq (tied_itself both_total (both_of s p))) found)
+      by (Some x) found = (group x (count_by (is_at s (both_of s p)) rs), refl)
 
   module _ (m : BTreeMap Both Group) (gs : List Group) (counted : (q : Both) → get both_cmp m q ≡ group_at s q s.races)
       (found : All (λ (e : Both × Group). get both_cmp m e.0 ≡ Some e.1) m.entries) (order : IsOrdered both_cmp m)
@@ -138,7 +135,7 @@ module _ (s : Seen) where
           ∙ sym (map-map (λ (g : Group). both_of s g.first) (λ (e : Both × Group). e.1) m.entries)
           ∙ ap (map (λ (g : Group). both_of s g.first)) (sym values))
           order;
-      whole = λ i d l. of_one (get_or s.races i d) (i, l, refl);
+      whole = λ i d l. of_one (get_or s.races i d) (Contains-get_or s.races i d l);
     }
       where
         of_one : (p : Pair) → Contains s.races p → Any (λ (g : Group). is_at s (both_of s g.first) p ≡ true) gs
@@ -148,11 +145,13 @@ module _ (s : Seen) where
             let place = place_from_lookup (λ k. is_eq (both_cmp (both_of s p) k)) m.entries g (counted (both_of s p) ∙ here.1) in
             let there : slice_get gs place.0 ≡ Some g =
             ap (λ (xs : List Group). slice_get xs place.0) values ∙ slice_get-map (λ (e : Both × Group). e.1) m.entries place.0
-            ∙ ap (option_map (λ (e : Both × Group). e.1)) place.2.0 in
-            (
-              place.0, g, slice_get_within gs place.0 g there, get_or_from_slice_get gs place.0 g g there,
+            ∙ ap (option_map (λ (e : Both × Group). e.1)) place.2 in (
+              place.0,
+              g,
+              slice_get_within gs place.0 g there,
+              get_or_from_slice_get gs place.0 g g there,
               ap (λ q. is_eq (both_cmp q (both_of s p))) (sym (first_is (both_of s p) s.races g here.1))
-              ∙ ap is_eq (tied_itself both_total (both_of s p)),
+                  ∙ ap is_eq (tied_itself both_total (both_of s p)),
             )
 
 -- ---- how many a group has

@@ -219,7 +219,7 @@ fn lines_of(alloc: Global, text: &[u8]) -> Result<Vec<&[u8]>, OutOfMemory>
 
 /// The names and the sites that a text says, or its first fault.
 #[tactic(auto, unfolding(crate::specs::Places::named_of))]
-pub fn read_places(alloc: Global, text: &[u8]) -> Result<Places<'_>, Untold>
+pub(crate) fn read_places(alloc: Global, text: &[u8]) -> Result<Places<'_>, Untold>
     ensures { Answers named result (named_of text.now) }
 {
     if text.len() > MAX_BYTES {

@@ -27,7 +27,6 @@ mod pairing;
 mod refusal;
 mod telling;
 
-pub use form::{Places, Site, read_places};
 pub use refusal::{PlacesFault, Untold, fault_line};
 pub use std::alloc::AllocError as OutOfMemory;
 pub use telling::{Told, is_trace, races, steps};
