@@ -13,13 +13,14 @@ use Rattle.std.specs.List.{Any, find}
 use Rattle.std.specs.List.Sorted.{IsStrictlySortedBy}
 use Rattle.std.specs.Map.{keys_of, values_of}
 use Rattle.std.specs.Ordering.{is_eq, nat_cmp, ordering_then}
-use Rattle.std.specs.Prelude.{All, count_by, IfSome, Option, None, Some, slice_get}
+use Rattle.std.specs.Prelude.{◌&&◌, All, count_by, IfSome, Option, None, Some, slice_get}
 use Rattle.std.specs.declared.cmp.Ordering.{Ordering}
 use Rattle.std.specs.declared.cmp.Ordering.TheVariants.{Equal, Greater, Less}
 use Rattle.mr_event.specs.declared.footprint.Pair.{Pair}
 use Rattle.mr_listing.specs.declared.pairs.Group.{Group}
 use Rattle.mr_traced.specs.declared.count.Both.{Both}
-use Rattle.mr_traced.specs.Groups.{AreGroups, both_cmp, both_of, group_at, grouped, is_at, raised}
+use Rattle.mr_listing.proofs.AlikeLaws.{eq_numbers, eq_then}
+use Rattle.mr_traced.specs.Groups.{AreGroups, both_cmp, both_of, group_at, grouped, is_at, raised, same_both}
 use Rattle.mr_traced.specs.Seen.{Seen}
 use Rattle.mr_traced.proofs.CountLaws.{few_grouped, found_passes, group, grouped_more, not_missed}
 
@@ -40,6 +41,15 @@ both_exact x y e =
     let a : x.first ≡ y.first = fin.nat_cmp-IsAntisymmetric x.first y.first t.0 in
     let b : x.second ≡ y.second = fin.nat_cmp-IsAntisymmetric x.second y.second t.1 in
     λ i. record { first = a i; second = b i }
+
+-- they tie where their numbers are the same
+eq_both : (a b : Both) → is_eq (both_cmp a b) ≡ same_both a b
+eq_both a b =
+    eq_then (nat_cmp a.first b.first) (nat_cmp a.second b.second)
+    ∙ ap₂ (λ (x y : Bool). x && y) (eq_numbers a.first b.first) (eq_numbers a.second b.second)
+
+both_itself : (b : Both) → same_both b b ≡ true
+both_itself b = sym (eq_both b b) ∙ ap is_eq (tied_itself both_total b)
 
 is_equal : (r : Ordering) → is_eq r ≡ true → r ≡ Equal
 is_equal Less e = cc
@@ -68,7 +78,7 @@ module _ (s : Seen) where
       ≡ cond (is_eq (both_cmp (both_of s p) q)) (Some (raised (group_at s (both_of s p) rs) p)) (group_at s q rs)
   one_more q rs p =
       grouped_more (is_at s q) rs p
-      ∙ ap (λ b. cond b (Some (raised (group_at s q rs) p)) (group_at s q rs)) ((eq_by_cmp_equiv both_total).symm q (both_of s p))
+      ∙ ap (λ b. cond b (Some (raised (group_at s q rs) p)) (group_at s q rs)) (sym (eq_both q (both_of s p)) ∙ (eq_by_cmp_equiv both_total).symm q (both_of s p))
       ∙ same_group q (both_of s p) rs p (both_cmp (both_of s p) q) refl
 
   -- the same of the next of a list
@@ -96,7 +106,7 @@ module _ (s : Seen) where
       by None found is = absurd (none-some g is)
       by (Some x) found is =
           let passes : is_at s q x ≡ true = found_passes (is_at s q) rs x found in
-          both_exact q (both_of s x) (is_equal (both_cmp q (both_of s x)) passes)
+          both_exact q (both_of s x) (is_equal (both_cmp q (both_of s x)) (eq_both q (both_of s x) ∙ passes))
           ∙ ap (λ (g : Group). both_of s g.first) (same_Some (group x (count_by (is_at s q) rs)) g is)
 
   -- a race is in the group of its places
@@ -106,7 +116,7 @@ module _ (s : Seen) where
       by : (o : Option Pair) → find (is_at s (both_of s p)) rs ≡ o
           → (g : Group) × (grouped (is_at s (both_of s p)) rs o ≡ Some g)
       by None found =
-          absurd (not_missed (is_at s (both_of s p)) rs p inside (ap is_eq (tied_itself both_total (both_of s p))) found)
+          absurd (not_missed (is_at s (both_of s p)) rs p inside (both_itself (both_of s p)) found)
       by (Some x) found = (group x (count_by (is_at s (both_of s p)) rs), refl)
 
   module _ (m : BTreeMap Both Group) (gs : List Group) (counted : (q : Both) → get both_cmp m q ≡ group_at s q s.races)
@@ -150,8 +160,7 @@ module _ (s : Seen) where
               g,
               slice_get_within gs place.0 g there,
               get_or_from_slice_get gs place.0 g g there,
-              ap (λ q. is_eq (both_cmp q (both_of s p))) (sym (first_is (both_of s p) s.races g here.1))
-                  ∙ ap is_eq (tied_itself both_total (both_of s p)),
+              ap (λ q. same_both q (both_of s p)) (sym (first_is (both_of s p) s.races g here.1)) ∙ both_itself (both_of s p),
             )
 
 -- ---- how many a group has

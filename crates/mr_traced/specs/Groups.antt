@@ -1,8 +1,8 @@
 -- The races of a trace by pairs of places.
-use Rattle.std.specs.Prelude.{◌≡◌, ℕ, ◌+◌, Bool, true, List, map, All, count_by, Option, None, Some, slice_get}
+use Rattle.std.specs.Prelude.{◌≡◌, ℕ, ◌+◌, ◌==◌, ◌&&◌, Bool, true, List, map, All, count_by, Option, None, Some, slice_get}
 use Rattle.std.specs.List.{Any, find}
 use Rattle.std.specs.List.Sorted.{IsStrictlySortedBy}
-use Rattle.std.specs.Ordering.{is_eq, nat_cmp, ordering_then}
+use Rattle.std.specs.Ordering.{nat_cmp, ordering_then}
 use Rattle.std.specs.declared.cmp.Ordering.{Ordering}
 use Rattle.mr_event.specs.declared.footprint.Pair.{Pair}
 use Rattle.mr_listing.specs.declared.pairs.Group.{Group}
@@ -20,13 +20,17 @@ abbrev pub both_of : Seen → Pair → Both
 both_of s pair =
     record { first = place_in (slice_get s.sites pair.first); second = place_in (slice_get s.sites pair.second) }
 
--- how two places lie to two others: by the numbers of the first ones, then by those of the second ones
-abbrev pub both_cmp : Both → Both → Ordering
-both_cmp a b = ordering_then (nat_cmp a.first b.first) (nat_cmp a.second b.second)
+-- whether they are the same
+abbrev pub same_both : Both → Both → Bool
+same_both a b = (a.first == b.first) && (a.second == b.second)
 
 -- whether a race is of two places
 abbrev pub is_at : Seen → Both → Pair → Bool
-is_at s both pair = is_eq (both_cmp both (both_of s pair))
+is_at s both pair = same_both both (both_of s pair)
+
+-- how two places lie to two others: by the numbers of the first ones, then by those of the second ones
+abbrev pub both_cmp : Both → Both → Ordering
+both_cmp a b = ordering_then (nat_cmp a.first b.first) (nat_cmp a.second b.second)
 
 -- the races that pass a test, of which this is the first: it, and how many there are
 abbrev pub grouped : (Pair → Bool) → List Pair → Option Pair → Option Group
