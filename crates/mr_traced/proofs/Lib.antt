@@ -1,3 +1,4 @@
+pub mod Chains
 pub mod CountLaws
 mod Examples
 pub mod GroupLaws

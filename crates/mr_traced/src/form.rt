@@ -6,7 +6,9 @@ ghost use Rattle.mr_traced.specs.Places.{at_place, is_wrong, lines_named, name_i
 ghost use Rattle.mr_traced.specs.Places.{number_in, site_in, site_list, site_of, unless_wrong, with_variable};
 
 use crate::OutOfMemory;
+use crate::kept::Shown;
 use crate::refusal::{PlacesFault, Untold};
+use mr_event::{Footprint, Pair};
 use mr_trace::MAX_BYTES;
 use mr_words::number_of;
 use std::alloc::Global;
@@ -23,6 +25,39 @@ pub struct Site {
 pub struct Places<'a> {
     pub names: Vec<&'a [u8]>,
     pub sites: Vec<Site>,
+}
+
+impl<'a> Places<'a> {
+    ghost use Rattle.std.specs.Prelude.{◌≡◌};
+    ghost use Rattle.mr_traced.specs.Places.{named, no_names};
+    ghost use Rattle.mr_traced.specs.Seen.{seen};
+
+    /// No names, and no sites.
+    pub(crate) fn none(alloc: Global) -> Places<'a>
+        ensures { named result ≡ no_names }
+    {
+        Places {
+            names: Vec::new(alloc),
+            sites: Vec::new(alloc),
+        }
+    }
+
+    /// A run with its races, at these places.
+    pub(crate) fn shown<'b>(&'b self, run: &'b [Footprint], races: &'b [Pair]) -> Shown<'b>
+        ensures { seen result ≡ record {
+          run = run.now;
+          races = races.now;
+          names = (named self.now).names;
+          sites = (named self.now).sites;
+        } }
+    {
+        Shown {
+            run,
+            races,
+            names: self.names.as_slice(),
+            sites: self.sites.as_slice(),
+        }
+    }
 }
 
 // The name that a line declares.

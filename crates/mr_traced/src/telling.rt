@@ -1,5 +1,5 @@
 //! What is told of the bytes of a trace, and of its places.
-ghost use Rattle.std.specs.Prelude.{◌≡◌, ◌×◌, ℕ, List, IfOk, Ok, Unit, bytes_eq, codes, length, map, option_copied, take};
+ghost use Rattle.std.specs.Prelude.{◌≡◌, ◌×◌, ℕ, List, IfOk, Ok, Unit, bytes_eq, codes, length, option_copied, take};
 ghost use Rattle.mr_event.specs.Footprint.{Footprint};
 ghost use Rattle.mr_event.specs.Predicted.{predicted};
 ghost use Rattle.mr_trace.specs.Reading.{trace_of};
@@ -12,12 +12,11 @@ ghost use Rattle.mr_traced.specs.Steps.{IsStepsText};
 
 use crate::OutOfMemory;
 use crate::body::steps_text;
-use crate::form::{Places, Site, read_places};
-use crate::kept::Shown;
+use crate::form::{Places, read_places};
 use crate::pairing::races_text;
 use crate::refusal::{PlacesFault, Untold};
 use mr_clocks::predicted_by_clocks;
-use mr_event::{Footprint, Pair};
+use mr_event::Footprint;
 use mr_trace::{TraceFault, decode};
 use std::alloc::Global;
 
@@ -114,12 +113,7 @@ fn races_of(alloc: Global, run: &[Footprint], places: &Places<'_>) -> Result<Tol
         × (told.races ≡ length (predicted run.now))) }
 {
     let races = predicted_by_clocks(alloc, run)?;
-    let shown = Shown {
-        run,
-        races: races.as_slice(),
-        names: places.names.as_slice(),
-        sites: places.sites.as_slice(),
-    };
+    let shown = places.shown(run, races.as_slice());
     let text = races_text(alloc, &shown)?;
     Ok(Told {
         text,
@@ -140,9 +134,7 @@ fn steps_placed(
     let run = run_of(alloc, trace)?;
     let places = read_places(alloc, places)?;
     fits(&places, run.as_slice())?;
-    let names = places.names.as_slice();
-    let sites = places.sites.as_slice();
-    Ok(steps_of(alloc, run.as_slice(), names, sites, from, to)?)
+    Ok(steps_of(alloc, run.as_slice(), &places, from, to)?)
 }
 
 #[tactic(auto, unfolding(crate::specs::Seen::seen_bare))]
@@ -150,29 +142,23 @@ fn steps_bare(alloc: Global, trace: &[u8], from: usize, to: usize) -> Result<Tol
     ensures { Tells (IsStepsText from to) result (seen_bare (run_in (trace_of trace.now))) }
 {
     let run = run_of(alloc, trace)?;
-    Ok(steps_of(alloc, run.as_slice(), &[], &[], from, to)?)
+    let places = Places::none(alloc);
+    Ok(steps_of(alloc, run.as_slice(), &places, from, to)?)
 }
 
-// The steps of a run with these names and sites.
+// The steps of a run at these places.
 fn steps_of(
     alloc: Global,
     run: &[Footprint],
-    names: &[&[u8]],
-    sites: &[Site],
+    places: &Places<'_>,
     from: usize,
     to: usize,
 ) -> Result<Told, OutOfMemory>
-    ensures { IfOk result (λ told. IsStepsText from to
-        (seen_of run.now (record { names = map (λ n. n.now) names.now; sites = sites.now })) told.text.items
+    ensures { IfOk result (λ told. IsStepsText from to (seen_of run.now (named places.now)) told.text.items
         × (told.races ≡ length (predicted run.now))) }
 {
     let races = predicted_by_clocks(alloc, run)?;
-    let shown = Shown {
-        run,
-        races: races.as_slice(),
-        names,
-        sites,
-    };
+    let shown = places.shown(run, races.as_slice());
     let text = steps_text(alloc, &shown, from, to)?;
     Ok(Told {
         text,
