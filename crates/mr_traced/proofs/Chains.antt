@@ -35,9 +35,11 @@ told_bare IsText told r run there named e at none it =
     let all = subst (λ n. IsTold IsText told n run) none (subst (IsTold IsText told named) at it) in
     (seen_of run no_names, ap seen_bare e, all.0, all.1)
 
+-- a run with some races, at these places
+abbrev pub with_races : List Footprint → Named → List Pair → Seen
+with_races run named races = record { run = run; races = races; names = named.names; sites = named.sites }
+
 -- a run with its races is what is told of it
-pub seen_with : (s : Seen) (run : List Footprint) (races : List Pair) (named : Named)
-    → s ≡ record { run = run; races = races; names = named.names; sites = named.sites } → races ≡ predicted run
-    → s ≡ seen_of run named
-seen_with s run races named is listed =
-    is ∙ ap (λ (ps : List Pair). record { run = run; races = ps; names = named.names; sites = named.sites }) listed
+pub seen_with : (s : Seen) (run : List Footprint) (races : List Pair) (named : Named) → s ≡ with_races run named races
+    → races ≡ predicted run → s ≡ seen_of run named
+seen_with s run races named is listed = is ∙ ap (with_races run named) listed
