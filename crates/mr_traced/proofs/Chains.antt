@@ -1,5 +1,5 @@
 -- What is told of what files say, step by step.
-use Rattle.std.proofs.Common.{◌≡◌, ◌×◌, ℕ, List, length, Result, Ok, ap₂, subst, ◌∙◌, ap}
+use Rattle.std.proofs.Common.{◌≡◌, ℕ, List, length, Result, Ok, ap₂, subst, ◌∙◌, ap}
 use Rattle.mr_event.specs.Footprint.{Footprint}
 use Rattle.mr_event.specs.Predicted.{predicted}
 use Rattle.mr_event.specs.declared.footprint.Pair.{Pair}

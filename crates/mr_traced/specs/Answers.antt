@@ -1,5 +1,5 @@
 -- What the calls answer, against what is defined.
-use Rattle.std.specs.Prelude.{◌≡◌, ◌×◌, ℕ, List, length, Result, Ok, Err}
+use Rattle.std.specs.Prelude.{◌≡◌, ℕ, List, length, Result, Ok, Err}
 use Rattle.mr_traced.specs.declared.refusal.Untold.{Untold}
 use Rattle.mr_traced.specs.declared.refusal.Untold.TheVariants as untold
 use Rattle.mr_traced.specs.declared.telling.Told.{Told}

@@ -1,5 +1,5 @@
 //! What is told of the bytes of a trace, and of its places.
-ghost use Rattle.std.specs.Prelude.{◌≡◌, ◌×◌, ℕ, List, IfOk, Ok, Unit, bytes_eq, codes, length, option_copied, take};
+ghost use Rattle.std.specs.Prelude.{◌≡◌, ℕ, List, IfOk, Ok, bytes_eq, codes, length, option_copied, take};
 ghost use Rattle.mr_event.specs.Footprint.{Footprint};
 ghost use Rattle.mr_event.specs.Predicted.{predicted};
 ghost use Rattle.mr_trace.specs.Reading.{trace_of};
