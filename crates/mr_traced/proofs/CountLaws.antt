@@ -20,31 +20,33 @@ group first count = record { first = first; count = count }
 -- what is found passes
 pub found_passes : (t : Pair → Bool) (rs : List Pair) (x : Pair) → find t rs ≡ Some x → t x ≡ true
 found_passes t [] x e = absurd (none-some x e)
-found_passes t (y ∷ rs) x e = by (t y) refl e
+found_passes t (y ∷ rs) x e = by (t y) refl e (found_passes t rs x)
   where
-    by : (b : Bool) → t y ≡ b → cond b (Some y) (find t rs) ≡ Some x → t x ≡ true
-    by true is found = ap t (sym (same_Some y x found)) ∙ is
-    by false is found = found_passes t rs x found
+    by : (b : Bool) → t y ≡ b → cond b (Some y) (find t rs) ≡ Some x → (find t rs ≡ Some x → t x ≡ true) → t x ≡ true
+    by true is found later = ap t (sym (same_Some y x found)) ∙ is
+    by false is found later = later found
 
 -- where none is found none passes
 none_kept : (t : Pair → Bool) (rs : List Pair) → find t rs ≡ None → filter t rs ≡ []
 none_kept t [] e = refl
-none_kept t (y ∷ rs) e = by (t y) e
+none_kept t (y ∷ rs) e = by (t y) e (none_kept t rs)
   where
-    by : (b : Bool) → cond b (Some y) (find t rs) ≡ None → cond b (y ∷ filter t rs) (filter t rs) ≡ []
-    by true found = absurd (none-some y (sym found))
-    by false found = none_kept t rs found
+    by : (b : Bool) → cond b (Some y) (find t rs) ≡ None → (find t rs ≡ None → filter t rs ≡ [])
+        → cond b (y ∷ filter t rs) (filter t rs) ≡ []
+    by true found later = absurd (none-some y (sym found))
+    by false found later = later found
 
 none_counted : (t : Pair → Bool) (rs : List Pair) → find t rs ≡ None → count_by t rs ≡ 0
 none_counted t rs e = sym (length-filter t rs) ∙ ap length (none_kept t rs e)
 
 all_fail : (t : Pair → Bool) (rs : List Pair) → find t rs ≡ None → All (λ x. t x ≡ false) rs
 all_fail t [] e = All-nil (λ x. t x ≡ false)
-all_fail t (y ∷ rs) e = by (t y) refl e
+all_fail t (y ∷ rs) e = by (t y) refl e (all_fail t rs)
   where
-    by : (b : Bool) → t y ≡ b → cond b (Some y) (find t rs) ≡ None → All (λ x. t x ≡ false) (y ∷ rs)
-    by true is found = absurd (none-some y (sym found))
-    by false is found = All-cons (λ x. t x ≡ false) y rs is (all_fail t rs found)
+    by : (b : Bool) → t y ≡ b → cond b (Some y) (find t rs) ≡ None → (find t rs ≡ None → All (λ x. t x ≡ false) rs)
+        → All (λ x. t x ≡ false) (y ∷ rs)
+    by true is found later = absurd (none-some y (sym found))
+    by false is found later = All-cons (λ x. t x ≡ false) y rs is (later found)
 
 -- one that is there and passes is found, or another one
 pub not_missed : (t : Pair → Bool) (rs : List Pair) (p : Pair) → Contains rs p → t p ≡ true → find t rs ≢ None

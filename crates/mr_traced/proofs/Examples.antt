@@ -7,7 +7,7 @@ use Rattle.mr_traced.specs.declared.form.Site.{Site}
 use Rattle.mr_traced.specs.declared.refusal.PlacesFault.TheVariants as fault
 use Rattle.mr_traced.specs.declared.refusal.Untold.TheVariants as untold
 use Rattle.mr_traced.specs.Groups.{group_at}
-use Rattle.mr_traced.specs.Names.{shown_byte, site_text}
+use Rattle.mr_traced.specs.Names.{site_text}
 use Rattle.mr_traced.specs.Places.{named_of}
 use Rattle.mr_traced.specs.Seen.{Seen}
 

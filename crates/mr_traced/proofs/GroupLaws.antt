@@ -1,5 +1,5 @@
 -- The groups that the code counts are those of the definition.
-use Rattle.std.proofs.Common.{◌≡◌, ℕ, suc, arith, Contains, option_map, ◌+◌, ◌<◌, ◌≤◌, Bool, true, false, cond, List, [], ◌∷◌, ◌++◌, length, get_or, take, map, refl, sym, ap, ap₂}
+use Rattle.std.proofs.Common.{◌≡◌, ℕ, suc, arith, Contains, option_map, ◌+◌, ◌<◌, ◌≤◌, Bool, true, cond, List, [], ◌∷◌, ◌++◌, length, get_or, take, map, refl, sym, ap, ap₂}
 use Rattle.std.proofs.Common.{◌∙◌, subst}
 use Rattle.std.proofs.lemmas.List.{take_more}
 use Rattle.std.proofs.lemmas.List.Elements.{All-map, Contains-get_or}
@@ -11,7 +11,7 @@ use Rattle.std.specs.Cmp.{IsTotalOrder, eq_by_cmp_equiv, nat_cmp_total, on_total
 use Rattle.std.specs.FinMap as fin
 use Rattle.std.specs.List.{Any, find}
 use Rattle.std.specs.List.Sorted.{IsStrictlySortedBy}
-use Rattle.std.specs.Map.{keys_of, values_of}
+use Rattle.std.specs.Map.{values_of}
 use Rattle.std.specs.Ordering.{is_eq, nat_cmp, ordering_then}
 use Rattle.std.specs.Prelude.{◌&&◌, All, count_by, IfSome, Option, None, Some, slice_get}
 use Rattle.std.specs.declared.cmp.Ordering.{Ordering}
@@ -82,17 +82,17 @@ module _ (s : Seen) where
       ∙ same_group q (both_of s p) rs p (both_cmp (both_of s p) q) refl
 
   -- the same of the next of a list
-  pub next_counted : (old new : Both → Option Group) (rs : List Pair) (i : ℕ) (p : Pair) (here : Both) → i < length rs
-      → p ≡ get_or rs i p → here ≡ both_of s p → ((q : Both) → old q ≡ group_at s q (take i rs))
-      → ((q : Both) → new q ≡ cond (is_eq (both_cmp here q)) (Some (raised (old here) p)) (old q))
+  pub next_counted : (old new : Both → Option Group) (rs : List Pair) (i : ℕ) (d : Pair) (here : Both) → i < length rs
+      → here ≡ both_of s (get_or rs i d) → ((q : Both) → old q ≡ group_at s q (take i rs))
+      → ((q : Both) → new q ≡ cond (is_eq (both_cmp here q)) (Some (raised (old here) (get_or rs i d))) (old q))
       → (q : Both) → new q ≡ group_at s q (take (i + 1) rs)
-  next_counted old new rs i p here inside is at before now q =
+  next_counted old new rs i d here inside at before now q =
+      let p = get_or rs i d in
       now q
       ∙ ap₂ (λ (g h : Option Group). cond (is_eq (both_cmp here q)) (Some (raised g p)) h) (before here) (before q)
       ∙ ap (λ (b : Both). cond (is_eq (both_cmp b q)) (Some (raised (group_at s b (take i rs)) p)) (group_at s q (take i rs))) at
       ∙ sym (one_more q (take i rs) p)
-      ∙ ap (λ (x : Pair). group_at s q (take i rs ++ x ∷ [])) is
-      ∙ ap (group_at s q) (sym (take_more rs i p inside))
+      ∙ ap (group_at s q) (sym (take_more rs i d inside))
 
   -- what is counted so far is no more than there is
   pub few_so_far : (q : Both) (rs : List Pair) → IfSome (group_at s q rs) (λ g. g.count ≤ length rs)

@@ -2,4 +2,4 @@ pub mod Chains
 pub mod CountLaws
 mod Examples
 pub mod GroupLaws
-pub mod Lines
+pub mod Made

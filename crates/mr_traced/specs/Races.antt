@@ -11,9 +11,13 @@ use Rattle.mr_traced.specs.Names.{place_text}
 use Rattle.mr_traced.specs.Seen.{Seen}
 use Rattle.mr_traced.specs.Steps.{access_line, head_line}
 
--- how many accesses are left of so many, of which 8 are told
+-- how many accesses are left
+abbrev pub left_text : ℕ → List ℕ
+left_text left = codes "        and " ++ decimal left ++ codes " more\n"
+
+-- the same of so many, of which 8 are told
 abbrev pub more_text : ℕ → List ℕ
-more_text count = if nat_lt 8 count then codes "        and " ++ decimal (count - 8) ++ codes " more\n" else []
+more_text count = if nat_lt 8 count then left_text (count - 8) else []
 
 -- the first accesses of a step
 abbrev pub few_text : List Access → List ℕ

@@ -2,7 +2,8 @@
 ghost use Rattle.std.specs.Prelude.{◌≡◌, ◌++◌, IfOk, OnOk, flat_map, option_copied};
 ghost use Rattle.mr_listing.specs.Races.{by_count};
 ghost use Rattle.mr_traced.specs.Groups.{AreGroups};
-ghost use Rattle.mr_traced.specs.Races.{IsRacesText, few_text, group_text, more_text, side_foot, side_text};
+ghost use Rattle.mr_traced.specs.Races.{IsRacesText, few_text, group_text, left_text, more_text, side_foot};
+ghost use Rattle.mr_traced.specs.Races.{side_text};
 ghost use Rattle.mr_traced.specs.Seen.{seen};
 
 use crate::OutOfMemory;
@@ -20,15 +21,24 @@ use std::alloc::Global;
 const MOST: usize = 8;
 
 // Appends how many accesses are left.
+fn push_left(out: &mut Vec<u8>, left: usize) -> Result<(), OutOfMemory>
+    ensures { OnOk result (out.new.items ≡ out.old.items ++ left_text left) }
+{
+    out.extend_from_slice(b"        and ")?;
+    push_number(out, left as u64)?;
+    out.extend_from_slice(b" more\n")?;
+    Ok(())
+}
+
+// The same of so many, if some are.
 fn push_more(out: &mut Vec<u8>, count: usize) -> Result<(), OutOfMemory>
     ensures { OnOk result (out.new.items ≡ out.old.items ++ more_text count) }
 {
-    if count <= MOST {
-        return Ok(());
+    if count > MOST {
+        push_left(out, count - MOST)
+    } else {
+        Ok(())
     }
-    out.extend_from_slice(b"        and ")?;
-    push_number(out, (count - MOST) as u64)?;
-    out.extend_from_slice(b" more\n")
 }
 
 // Appends the first accesses of a step.

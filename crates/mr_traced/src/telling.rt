@@ -113,11 +113,12 @@ fn races_of(alloc: Global, run: &[Footprint], places: &Places<'_>) -> Result<Tol
         × (told.races ≡ length (predicted run.now))) }
 {
     let races = predicted_by_clocks(alloc, run)?;
-    let shown = places.shown(run, races.as_slice());
+    let listed = races.as_slice();
+    let shown = places.shown(run, listed);
     let text = races_text(alloc, &shown)?;
     Ok(Told {
         text,
-        races: races.len(),
+        races: listed.len(),
     })
 }
 
@@ -158,10 +159,11 @@ fn steps_of(
         × (told.races ≡ length (predicted run.now))) }
 {
     let races = predicted_by_clocks(alloc, run)?;
-    let shown = places.shown(run, races.as_slice());
+    let listed = races.as_slice();
+    let shown = places.shown(run, listed);
     let text = steps_text(alloc, &shown, from, to)?;
     Ok(Told {
         text,
-        races: races.len(),
+        races: listed.len(),
     })
 }

@@ -1,4 +1,4 @@
-use Rattle.std.proofs.Common.{List, ◌++◌, ◌∙◌, ap, length}
+use Rattle.std.proofs.Common.{List, ℕ, ◌++◌, ◌∙◌, ap, ap₂, length}
 use Rattle.std.specs.Prelude.{flat_map}
 use Rattle.mr_report.specs.Report.{count_line}
 use Rattle.mr_listing.specs.declared.pairs.Group.{Group}
@@ -17,5 +17,6 @@ returns c =
       c.in_ok-push_races_count.ensures
           ∙ ap (λ xs. xs ++ count_line s.races)
           (c.in_ok-push_each_group.ensures
-          ∙ ap (λ (gs : List Group). flat_map (group_text s) gs) (c.as_slice.ensures.value ∙ ranked)),
+          ∙ ap₂ (λ (xs : List ℕ) (gs : List Group). xs ++ flat_map (group_text s) gs) c.new-out.ensures.items
+          (c.as_slice.ensures.value ∙ ranked)),
     )

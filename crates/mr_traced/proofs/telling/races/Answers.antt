@@ -1,4 +1,4 @@
-use Rattle.std.proofs.Common.{List, Result, ap, subst}
+use Rattle.std.proofs.Common.{List, Result, subst}
 use Rattle.mr_event.specs.Footprint.{Footprint}
 use Rattle.mr_trace.specs.Reading.{Place}
 use Rattle.mr_trace.proofs.TraceLaws.{trace_again}

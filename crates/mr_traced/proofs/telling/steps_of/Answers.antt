@@ -9,7 +9,7 @@ pub returns : goal.returns
 returns c = (
   subst (λ (s : Seen). IsStepsText c.args.from c.args.to s c.in_ok-text.text.items)
       (seen_with _ c.args.run.now _ (named c.args.places.now) c.shown-shown.ensures
-      (c.as_slice.ensures.value ∙ c.in_ok-races.ensures))
+      (c.as_slice-listed.ensures.value ∙ c.in_ok-races.ensures))
       c.in_ok-text.ensures,
-  c.len.ensures.value ∙ ap length c.in_ok-races.ensures,
+  ap length (c.as_slice-listed.ensures.value ∙ c.in_ok-races.ensures),
 )
