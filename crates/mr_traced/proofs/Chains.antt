@@ -14,9 +14,11 @@ abbrev pub IsTold : (Seen → List ℕ → Type 0) → Told → Named → List F
 IsTold IsText told named run = IsText (seen_of run named) told.text.items × (told.races ≡ length (predicted run))
 
 -- of a trace and a file of places
-pub told_is : (IsText : Seen → List ℕ → Type 0) (told : Told) (r : Result (List Footprint) Untold) (n : Result Named Untold)
+pub told_is : (IsText : Seen → List ℕ → Type 0) (told : Told) (r : Result (List Footprint) Untold)
+    (n : Result Named Untold)
     (run here there : List Footprint) (named : Named) → r ≡ Ok run → n ≡ Ok named → here ≡ run → there ≡ run
-    → fitting here named ≡ Ok (seen_of here named) → IsTold IsText told named there → Tells IsText (Ok told) (seen_in r n)
+    → fitting here named ≡ Ok (seen_of here named) → IsTold IsText told named there
+    → Tells IsText (Ok told) (seen_in r n)
 unfolding seen_in
 told_is IsText told r n run here there named e f at at_last fits it =
     let all = subst (IsTold IsText told named) at_last it in (

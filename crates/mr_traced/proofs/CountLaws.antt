@@ -1,5 +1,6 @@
 -- The races that pass a test, with one race more.
-use Rattle.std.proofs.Common.{◌≡◌, ◌≢◌, ℕ, ◌+◌, ◌≤◌, Bool, true, false, cond, arith, true≢false, List, [], ◌∷◌, ◌++◌, length}
+use Rattle.std.proofs.Common.{◌≡◌, ◌≢◌, ℕ, ◌+◌, ◌≤◌, Bool, true, false, cond, arith, true≢false, List, [], ◌∷◌, ◌++◌}
+use Rattle.std.proofs.Common.{length}
 use Rattle.std.proofs.Common.{refl, sym, ap, ap₂, ◌∙◌}
 use Rattle.std.proofs.lemmas.List.{length-append}
 use Rattle.std.proofs.lemmas.List.Elements.{All-cons, All-contains, All-nil, filter-append}
@@ -54,7 +55,8 @@ not_missed t rs p inside passes e =
     true≢false (sym passes ∙ All-contains (λ x. t x ≡ false) rs p (all_fail t rs e) inside)
 
 -- one race more is counted where it passes
-counted_more : (t : Pair → Bool) (rs : List Pair) (p : Pair) (b : Bool) → t p ≡ b → count_by t (rs ++ p ∷ []) ≡ count_by t rs + cond b 1 0
+counted_more : (t : Pair → Bool) (rs : List Pair) (p : Pair) (b : Bool) → t p ≡ b
+    → count_by t (rs ++ p ∷ []) ≡ count_by t rs + cond b 1 0
 counted_more t rs p b is =
     sym (length-filter t (rs ++ p ∷ [])) ∙ ap length (filter-append t rs (p ∷ []))
     ∙ length-append (filter t rs) (filter t (p ∷ []))
@@ -84,6 +86,7 @@ grouped_more t rs p =
         ap (λ n. Some (group x n)) (counted_more t rs p false fails ∙ same)
 
 -- there are no more than races
-pub few_grouped : (t : Pair → Bool) (rs : List Pair) (o : Option Pair) → IfSome (grouped t rs o) (λ g. g.count ≤ length rs)
+pub few_grouped : (t : Pair → Bool) (rs : List Pair) (o : Option Pair)
+    → IfSome (grouped t rs o) (λ g. g.count ≤ length rs)
 few_grouped t rs None = tt
 few_grouped t rs (Some x) = count_by-le-length t rs

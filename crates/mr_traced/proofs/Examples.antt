@@ -15,7 +15,8 @@ abbrev line : List ℕ → List ℕ
 line text = text ++ 10 ∷ []
 
 abbrev file : List ℕ
-file = line (codes "places 2") ++ line (codes "name a.c:9 in work") ++ line (codes "0") ++ line (codes "name n") ++ line (codes "0 1")
+file = line (codes "places 2") ++ line (codes "name a.c:9 in work") ++ line (codes "0") ++ line (codes "name n")
+    ++ line (codes "0 1")
 
 -- two names and two steps; the second one uses a variable
 file_read : named_of file
@@ -31,7 +32,8 @@ no_header : named_of (line (codes "places 1")) ≡ Err (untold.Places fault.Head
 unfolding named_of
 no_header = refl
 
-two_blanks : named_of (line (codes "places 2") ++ line (codes "0") ++ line (codes "0  1")) ≡ Err (untold.Places (fault.Line 3))
+two_blanks : named_of (line (codes "places 2") ++ line (codes "0") ++ line (codes "0  1"))
+    ≡ Err (untold.Places (fault.Line 3))
 unfolding named_of is_number
 two_blanks = refl
 
@@ -52,10 +54,12 @@ three = record {
 }
 
 -- the first two are of one pair of places, the third of another one
-both_places : group_at three (record { first = 0; second = 0 }) three.races ≡ Some (record { first = race 0 1; count = 2 })
+both_places : group_at three (record { first = 0; second = 0 }) three.races
+    ≡ Some (record { first = race 0 1; count = 2 })
 both_places = refl
 
-other_places : group_at three (record { first = 0; second = 1 }) three.races ≡ Some (record { first = race 0 3; count = 1 })
+other_places : group_at three (record { first = 0; second = 1 }) three.races
+    ≡ Some (record { first = race 0 3; count = 1 })
 other_places = refl
 
 no_places : group_at three (record { first = 1; second = 0 }) three.races ≡ None

@@ -1,5 +1,6 @@
 -- The groups that the code counts are those of the definition.
-use Rattle.std.proofs.Common.{◌≡◌, ℕ, suc, arith, Contains, option_map, ◌+◌, ◌<◌, ◌≤◌, Bool, true, cond, List, [], ◌∷◌, ◌++◌, length, get_or, take, map, refl, sym, ap, ap₂}
+use Rattle.std.proofs.Common.{◌≡◌, ℕ, suc, arith, Contains, option_map, ◌+◌, ◌<◌, ◌≤◌, Bool, true, cond, List, []}
+use Rattle.std.proofs.Common.{◌∷◌, ◌++◌, length, get_or, take, map, refl, sym, ap, ap₂}
 use Rattle.std.proofs.Common.{◌∙◌, subst}
 use Rattle.std.proofs.lemmas.List.{take_more}
 use Rattle.std.proofs.lemmas.List.Elements.{All-map, Contains-get_or}
@@ -27,7 +28,8 @@ use Rattle.mr_traced.proofs.CountLaws.{few_grouped, found_passes, group, grouped
 -- ---- the order of places
 
 pub both_total : IsTotalOrder both_cmp
-both_total = then_total (on_total (λ (b : Both). b.first) nat_cmp_total) (on_total (λ (b : Both). b.second) nat_cmp_total)
+both_total =
+    then_total (on_total (λ (b : Both). b.first) nat_cmp_total) (on_total (λ (b : Both). b.second) nat_cmp_total)
 
 then_equal : (a b : Ordering) → ordering_then a b ≡ Equal → (a ≡ Equal) × (b ≡ Equal)
 then_equal Less b e = cc
@@ -61,7 +63,8 @@ is_equal Greater e = cc
 -- two maps of a list whose elements they take to the same
 maps_agree : {X Y : Type 0} (f g : X → Y) (xs : List X) → All (λ x. f x ≡ g x) xs → map f xs ≡ map g xs
 maps_agree f g [] h = refl
-maps_agree f g (x ∷ xs) h = ap₂ (λ y ys. y ∷ ys) (h 0 x (omega arith)) (maps_agree f g xs (λ k d l. h (suc k) d (omega arith)))
+maps_agree f g (x ∷ xs) h =
+    ap₂ (λ y ys. y ∷ ys) (h 0 x (omega arith)) (maps_agree f g xs (λ k d l. h (suc k) d (omega arith)))
 
 module _ (s : Seen) where
   -- places that are the same have the same groups
@@ -78,7 +81,8 @@ module _ (s : Seen) where
       ≡ cond (is_eq (both_cmp (both_of s p) q)) (Some (raised (group_at s (both_of s p) rs) p)) (group_at s q rs)
   one_more q rs p =
       grouped_more (is_at s q) rs p
-      ∙ ap (λ b. cond b (Some (raised (group_at s q rs) p)) (group_at s q rs)) (sym (eq_both q (both_of s p)) ∙ (eq_by_cmp_equiv both_total).symm q (both_of s p))
+      ∙ ap (λ b. cond b (Some (raised (group_at s q rs) p)) (group_at s q rs))
+      (sym (eq_both q (both_of s p)) ∙ (eq_by_cmp_equiv both_total).symm q (both_of s p))
       ∙ same_group q (both_of s p) rs p (both_cmp (both_of s p) q) refl
 
   -- the same of the next of a list
@@ -90,7 +94,9 @@ module _ (s : Seen) where
       let p = get_or rs i d in
       now q
       ∙ ap₂ (λ (g h : Option Group). cond (is_eq (both_cmp here q)) (Some (raised g p)) h) (before here) (before q)
-      ∙ ap (λ (b : Both). cond (is_eq (both_cmp b q)) (Some (raised (group_at s b (take i rs)) p)) (group_at s q (take i rs))) at
+      ∙ ap
+      (λ (b : Both). cond (is_eq (both_cmp b q)) (Some (raised (group_at s b (take i rs)) p)) (group_at s q (take i rs)))
+      at
       ∙ sym (one_more q (take i rs) p)
       ∙ ap (group_at s q) (sym (take_more rs i d inside))
 
@@ -139,7 +145,8 @@ module _ (s : Seen) where
     pub are_groups : AreGroups s gs
     are_groups = record {
       right = subst (All (λ (g : Group). group_at s (both_of s g.first) s.races ≡ Some g)) (sym values)
-          (All-map (λ (g : Group). group_at s (both_of s g.first) s.races ≡ Some g) (λ (e : Both × Group). e.1) m.entries entries_right);
+          (All-map (λ (g : Group). group_at s (both_of s g.first) s.races ≡ Some g)
+          (λ (e : Both × Group). e.1) m.entries entries_right);
       rising = subst (IsStrictlySortedBy both_cmp)
           (maps_agree (λ (e : Both × Group). e.0) (λ (e : Both × Group). both_of s e.1.first) m.entries keys_are
           ∙ sym (map-map (λ (g : Group). both_of s g.first) (λ (e : Both × Group). e.1) m.entries)
@@ -152,15 +159,18 @@ module _ (s : Seen) where
         of_one p inside =
             let here = has_group s.races p inside in
             let g = here.0 in
-            let place = place_from_lookup (λ k. is_eq (both_cmp (both_of s p) k)) m.entries g (counted (both_of s p) ∙ here.1) in
+            let place =
+            place_from_lookup (λ k. is_eq (both_cmp (both_of s p) k)) m.entries g (counted (both_of s p) ∙ here.1) in
             let there : slice_get gs place.0 ≡ Some g =
-            ap (λ (xs : List Group). slice_get xs place.0) values ∙ slice_get-map (λ (e : Both × Group). e.1) m.entries place.0
+            ap (λ (xs : List Group). slice_get xs place.0) values
+            ∙ slice_get-map (λ (e : Both × Group). e.1) m.entries place.0
             ∙ ap (option_map (λ (e : Both × Group). e.1)) place.2 in (
               place.0,
               g,
               slice_get_within gs place.0 g there,
               get_or_from_slice_get gs place.0 g g there,
-              ap (λ q. same_both q (both_of s p)) (sym (first_is (both_of s p) s.races g here.1)) ∙ both_itself (both_of s p),
+              ap (λ q. same_both q (both_of s p)) (sym (first_is (both_of s p) s.races g here.1))
+                  ∙ both_itself (both_of s p),
             )
 
 -- ---- how many a group has

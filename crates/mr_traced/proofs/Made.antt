@@ -13,9 +13,11 @@ next_made f now next xs i d inside here more =
     ∙ ap (flat_map f) (sym (take_more xs i d inside))
 
 -- the first that passes a test, where each is seen by a view
-first_seen : {X Y : Type 0} (p : Y → Bool) (v : X → Y) (xs : List X) → position_or_len p (map v xs) ≡ position_or_len (λ x. p (v x)) xs
+first_seen : {X Y : Type 0} (p : Y → Bool) (v : X → Y) (xs : List X)
+    → position_or_len p (map v xs) ≡ position_or_len (λ x. p (v x)) xs
 first_seen p v [] = refl
 first_seen p v (x ∷ xs) = ap (λ n. cond (not (p (v x))) (1 + n) 0) (first_seen p v xs)
 
-pub position_seen : {X Y : Type 0} (p : Y → Bool) (v : X → Y) (xs : List X) → position p (map v xs) ≡ position (λ x. p (v x)) xs
+pub position_seen : {X Y : Type 0} (p : Y → Bool) (v : X → Y) (xs : List X)
+    → position p (map v xs) ≡ position (λ x. p (v x)) xs
 position_seen p v xs = ap₂ (λ (n m : ℕ). cond (nat_lt n m) (Some n) None) (first_seen p v xs) (length-map xs v)

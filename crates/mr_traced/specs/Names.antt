@@ -1,5 +1,6 @@
 -- Names of places and variables, as they are written.
-use Rattle.std.specs.Prelude.{ℕ, ◌&&◌, nat_le, if◌then◌else◌, List, [], ◌++◌, codes, decimal, map, Option, None, Some, slice_get}
+use Rattle.std.specs.Prelude.{ℕ, ◌&&◌, nat_le, if◌then◌else◌, List, [], ◌++◌, codes, decimal, map, Option, None, Some}
+use Rattle.std.specs.Prelude.{slice_get}
 use Rattle.mr_traced.specs.declared.form.Site.{Site}
 use Rattle.mr_traced.specs.Seen.{Seen}
 

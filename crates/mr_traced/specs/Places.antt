@@ -1,5 +1,6 @@
 -- Files of places: the names that they declare, and where each step of a trace is.
-use Rattle.std.specs.Prelude.{ℕ, ◌+◌, ◌^◌, Bool, false, not, ◌==◌, nat_lt, if◌then◌else◌, List, [], ◌∷◌, length, take, drop}
+use Rattle.std.specs.Prelude.{ℕ, ◌+◌, ◌^◌, Bool, false, not, ◌==◌, nat_lt, if◌then◌else◌, List, [], ◌∷◌, length, take}
+use Rattle.std.specs.Prelude.{drop}
 use Rattle.std.specs.Prelude.{bytes_eq, codes, flat_map, map, position, Option, None, Some, Result, Ok, Err}
 use Rattle.std.specs.List.{slice_split}
 use Rattle.mr_ast.specs.Words.{is_number, value_of}
@@ -10,8 +11,8 @@ use Rattle.mr_traced.specs.declared.refusal.PlacesFault.TheVariants as fault
 use Rattle.mr_traced.specs.declared.refusal.Untold.{Untold}
 use Rattle.mr_traced.specs.declared.refusal.Untold.TheVariants as untold
 
--- what a file says: its names in order, and the site of each step, which is the number of the name of its place, and maybe
--- that of the variable that it uses
+-- what a file says: its names in order, and the site of each step, which is the number of the name of its place, and
+-- maybe that of the variable that it uses
 pub record Named : Type 0 where
   pub names : List (List ℕ)
   pub sites : List Site

@@ -1,5 +1,6 @@
 -- The races of a trace by pairs of places, as they are written.
-use Rattle.std.specs.Prelude.{◌≡◌, ℕ, ◌-◌, nat_lt, if◌then◌else◌, List, [], ◌++◌, codes, decimal, flat_map, length, take}
+use Rattle.std.specs.Prelude.{◌≡◌, ℕ, ◌-◌, nat_lt, if◌then◌else◌, List, [], ◌++◌, codes, decimal, flat_map, length}
+use Rattle.std.specs.Prelude.{take}
 use Rattle.std.specs.Prelude.{Option, None, Some, slice_get}
 use Rattle.mr_base.specs.declared.access.Access.{Access}
 use Rattle.mr_event.specs.Footprint.{Footprint}

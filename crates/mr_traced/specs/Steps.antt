@@ -1,5 +1,6 @@
 -- The steps of a trace, as they are written.
-use Rattle.std.specs.Prelude.{◌≡◌, ℕ, ◌+◌, ◌-◌, min, List, [], ◌++◌, codes, decimal, flat_map, length, Option, None, Some, slice_get}
+use Rattle.std.specs.Prelude.{◌≡◌, ℕ, ◌+◌, ◌-◌, min, List, [], ◌++◌, codes, decimal, flat_map, length, Option, None}
+use Rattle.std.specs.Prelude.{Some, slice_get}
 use Rattle.std.specs.List.{range_with_len}
 use Rattle.mr_base.specs.declared.access.Access.{Access}
 use Rattle.mr_base.specs.declared.thread.Event.{Event}

@@ -63,7 +63,8 @@ fn raised(known: Option<Group>, pair: Pair) -> Group
 fn count_one(groups: &mut BTreeMap<Both, Group>, both: Both, pair: Pair) -> Result<(), OutOfMemory>
     requires { IfSome (get both_cmp groups.old both) (λ g. g.count < 2 ^ 63) }
     ensures { OnOk result ((q : Both) → get both_cmp groups.new q
-        ≡ cond (is_eq (both_cmp both q)) (Some (raised (get both_cmp groups.old both) pair)) (get both_cmp groups.old q)) }
+        ≡ cond (is_eq (both_cmp both q)) (Some (raised (get both_cmp groups.old both) pair))
+        (get both_cmp groups.old q)) }
 {
     let group = raised(groups.get(&both).copied(), pair);
     groups.insert(both, group)?;
