@@ -37,7 +37,7 @@ then_equal Equal b e = (refl, e)
 then_equal Greater b e = cc
 
 -- places that compare alike are the same
-both_exact : (x y : Both) → both_cmp x y ≡ Equal → x ≡ y
+pub both_exact : (x y : Both) → both_cmp x y ≡ Equal → x ≡ y
 both_exact x y e =
     let t = then_equal (nat_cmp x.first y.first) (nat_cmp x.second y.second) e in
     let a : x.first ≡ y.first = fin.nat_cmp-IsAntisymmetric x.first y.first t.0 in
@@ -45,7 +45,7 @@ both_exact x y e =
     λ i. record { first = a i; second = b i }
 
 -- they tie where their numbers are the same
-eq_both : (a b : Both) → is_eq (both_cmp a b) ≡ same_both a b
+pub eq_both : (a b : Both) → is_eq (both_cmp a b) ≡ same_both a b
 eq_both a b =
     eq_then (nat_cmp a.first b.first) (nat_cmp a.second b.second)
     ∙ ap₂ (λ (x y : Bool). x && y) (eq_numbers a.first b.first) (eq_numbers a.second b.second)
@@ -53,7 +53,7 @@ eq_both a b =
 both_itself : (b : Both) → same_both b b ≡ true
 both_itself b = sym (eq_both b b) ∙ ap is_eq (tied_itself both_total b)
 
-is_equal : (r : Ordering) → is_eq r ≡ true → r ≡ Equal
+pub is_equal : (r : Ordering) → is_eq r ≡ true → r ≡ Equal
 is_equal Less e = cc
 is_equal Equal e = refl
 is_equal Greater e = cc

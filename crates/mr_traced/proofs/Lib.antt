@@ -3,3 +3,4 @@ pub mod CountLaws
 mod Examples
 pub mod GroupLaws
 pub mod Made
+pub mod OneGroup

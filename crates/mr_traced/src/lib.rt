@@ -15,19 +15,21 @@
 //! Proved: a text is exactly that of `specs/Races.antt` or `specs/Steps.antt`, of the run that the bytes of the trace
 //! spell (`mr_trace`), with the races that [`mr_trace::offline`] lists; each fault is the first, exactly; and want of
 //! memory is the only other error. `specs/Names.antt` says what is written of a name that has bytes which aren't
-//! printable.
+//! printable. [`each_race_is_in_one_group`] is the law that no race is told twice, and none left out.
 #![tactic(auto)]
 
 mod body;
 mod count;
 mod form;
 mod kept;
+mod law;
 mod lines;
 mod naming;
 mod pairing;
 mod refusal;
 mod telling;
 
+pub use law::each_race_is_in_one_group;
 pub use refusal::{PlacesFault, Untold, fault_line};
 pub use std::alloc::AllocError as OutOfMemory;
 pub use telling::{Told, is_trace, races, steps};
