@@ -1,6 +1,7 @@
 -- The races of a trace by pairs of places.
 use Rattle.std.specs.Prelude.{◌≡◌, ℕ, ◌+◌, ◌==◌, ◌&&◌, Bool, true, List, map, All, count_by, Option, None, Some}
 use Rattle.std.specs.Prelude.{slice_get}
+use Rattle.std.specs.FinMap as fin
 use Rattle.std.specs.List.{Any, find}
 use Rattle.std.specs.List.Sorted.{IsStrictlySortedBy}
 use Rattle.std.specs.Ordering.{nat_cmp, ordering_then}
@@ -47,7 +48,28 @@ abbrev pub raised : Option Group → Pair → Group
 raised None pair = record { first = pair; count = 1 }
 raised (Some group) pair = record { first = group.first; count = group.count + 1 }
 
--- THE RACES BY PAIRS OF PLACES
+-- ---- all groups
+
+abbrev pub first_or : Pair → Option Pair → Pair
+first_or pair None = pair
+first_or pair (Some first) = first
+
+-- the races at the places of a race
+abbrev pub group_of : Seen → Pair → Group
+group_of s pair = record {
+  first = first_or pair (find (is_at s (both_of s pair)) s.races);
+  count = count_by (is_at s (both_of s pair)) s.races;
+}
+
+-- the places of a race, with the races there
+abbrev pub placed : Seen → Pair → Both × Group
+placed s pair = (both_of s pair, group_of s pair)
+
+-- THE RACES BY PAIRS OF PLACES: the groups of the places of all races, each once, by rising numbers of places
+abbrev pub groups : Seen → List Group
+groups s = fin.values (fin.from_entries {R = both_cmp} (map (placed s) s.races))
+
+-- WHAT THEY ARE
 pub record AreGroups (s : Seen) (groups : List Group) : Type 0 where
   -- each has the first race of its places, and how many there are
   pub right : All (λ g. group_at s (both_of s g.first) s.races ≡ Some g) groups

@@ -7,7 +7,7 @@ use Rattle.mr_event.specs.Footprint.{Footprint}
 use Rattle.mr_report.specs.Report.{count_line}
 use Rattle.mr_listing.specs.declared.pairs.Group.{Group}
 use Rattle.mr_listing.specs.Races.{by_count, times_text}
-use Rattle.mr_traced.specs.Groups.{AreGroups}
+use Rattle.mr_traced.specs.Groups.{AreGroups, groups}
 use Rattle.mr_traced.specs.Names.{place_text}
 use Rattle.mr_traced.specs.Seen.{Seen}
 use Rattle.mr_traced.specs.Steps.{access_line, head_line}
@@ -41,9 +41,9 @@ group_text s g =
 
 -- those with most races first, and of those with as many the one with the lower numbers of places; and how many races
 -- there are
-abbrev pub races_text : Seen → List Group → List ℕ
-races_text s groups = flat_map (group_text s) (by_count (length s.races) groups) ++ count_line s.races
+abbrev pub races_text : Seen → List ℕ
+races_text s = flat_map (group_text s) (by_count (length s.races) (groups s)) ++ count_line s.races
 
 -- THE RACES BY PAIRS OF PLACES, as they are written
 abbrev pub IsRacesText : Seen → List ℕ → Type 0
-IsRacesText s text = (groups : List Group) × AreGroups s groups × (text ≡ races_text s groups)
+IsRacesText s text = AreGroups s (groups s) × (text ≡ races_text s)

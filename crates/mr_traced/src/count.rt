@@ -3,7 +3,8 @@ ghost use Rattle.std.specs.Prelude.{◌≡◌, ◌<◌, ◌^◌, All, IfOk, IfSo
 ghost use Rattle.std.specs.BTreeMap.{IsOrdered, get};
 ghost use Rattle.std.specs.Map.{values_of};
 ghost use Rattle.std.specs.Ordering.{is_eq};
-ghost use Rattle.mr_traced.specs.Groups.{AreGroups, both_cmp, both_of, group_at, place_in, raised};
+ghost use Rattle.mr_traced.specs.Groups.{AreGroups, both_cmp, both_of, group_at, groups as groups_of};
+ghost use Rattle.mr_traced.specs.Groups.{place_in, raised};
 ghost use Rattle.mr_traced.specs.Seen.{seen};
 
 use crate::OutOfMemory;
@@ -98,7 +99,8 @@ fn groups_in(alloc: Global, groups: &BTreeMap<Both, Group>) -> Result<Vec<Group>
 
 /// The races by pairs of places. An `Err` is for want of memory.
 pub(crate) fn groups_of(alloc: Global, shown: &Shown<'_>) -> Result<Vec<Group>, OutOfMemory>
-    ensures { IfOk result (λ groups. AreGroups (seen shown.now) groups.items) }
+    ensures are { IfOk result (λ groups. AreGroups (seen shown.now) groups.items) }
+    ensures groups { IfOk result (λ groups. groups.items ≡ groups_of (seen shown.now)) }
 {
     let counts = counted(alloc, shown)?;
     let groups = groups_in(alloc, &counts)?;
