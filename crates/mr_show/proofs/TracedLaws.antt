@@ -1,7 +1,7 @@
 -- What is said of a file that may hold a trace.
-use Rattle.std.proofs.Common.{◌≡◌, ℕ, ◌<◌, ◌^◌, ◌∙◌, ap, ap₂, Bool, true, false, length, List, refl, subst, sym, ◌⊎◌, inl, inr, arith}
+use Rattle.std.proofs.Common.{◌≡◌, ℕ, ◌<◌, ◌≤◌, ◌^◌, ◌∙◌, ap, ap₂, Bool, true, false, length, List, refl, subst, sym, ◌⊎◌, inl, inr, arith}
 use Rattle.std.proofs.lemmas.Bool.Decides.{nat_tests}
-use Rattle.std.specs.Prelude.{◌&&◌, nat_le, bytes_eq, codes, take, if◌then◌else◌, Err, Ok, Option, None, Some, Result}
+use Rattle.std.specs.Prelude.{◌&&◌, nat_le, nat_lt, bytes_eq, codes, take, if◌then◌else◌, Err, Ok, Option, None, Some, Result}
 use Rattle.mr_trace.specs.Reading.{trace_of, Place}
 use Rattle.mr_event.specs.Footprint.{Footprint}
 use Rattle.mr_picture.specs.declared.span.Span.{Span}
@@ -31,19 +31,19 @@ use Rattle.mr_show.specs.Traced.{telling_of, telling_text, text_placed}
 -- with another word for its text
 pub told_as : (IsText other : Seen → List ℕ → Type 0) → ((s : Seen) (text : List ℕ) → IsText s text → other s text)
     → (told : Result Told Untold) (defined : Result Seen Untold) → AreTold IsText told defined → AreTold other told defined
-told_as IsText other as (Ok told) defined (s, is, text, races) = (s, is, as s told.text.items text, races)
-told_as IsText other as (Err untold.Memory) defined h = h
-told_as IsText other as (Err (untold.Trace at code)) defined h = h
-told_as IsText other as (Err (untold.Places fault)) defined h = h
+told_as IsText other up (Ok told) defined (s, is, text, races) = (s, is, up s told.text.items text, races)
+told_as IsText other up (Err untold.Memory) defined h = h
+told_as IsText other up (Err (untold.Trace at code)) defined h = h
+told_as IsText other up (Err (untold.Places fault)) defined h = h
 
-abbrev pub said_with : List ℕ → ℕ → Answer
-said_with text races = record { text = text; status = status_of races }
+abbrev pub answer_with : List ℕ → ℕ → Answer
+answer_with text status = record { text = text; status = status }
 
 -- the text and its status are those that are defined
 pub told_so : (what : Telling) (told : Told) (defined : Result Seen Untold) → AreTold (IsTextOf what) (Ok told) defined
-    → said_with told.text.items told.races ≡ seen_answer what defined
+    → answer_with told.text.items (status_of told.races) ≡ seen_answer what defined
 told_so what told defined (s, is, text, races) =
-    ap₂ said_with text races
+    ap₂ (λ (t : List ℕ) (n : ℕ). answer_with t (status_of n)) text races
     ∙ sym (ap (seen_answer what) is)
 
 -- ---- traces that are too long
@@ -64,6 +64,9 @@ pub long_bare : (span : Span) (file : Option (List ℕ)) (bytes : List ℕ) → 
 long_bare span file bytes there h = ap (bare_answer span) there ∙ long_seen span bytes h
 
 -- places that are
+at_least : (m n : ℕ) → n ≤ m → nat_lt m n ≡ false
+at_least m n h = grind (arith, nat_tests)
+
 long_text : (what : Telling) (trace text : List ℕ) → 2 ^ 28 < length text → text_placed what trace text ≡ places_answer TooLong
 long_text what trace text h =
     ap (λ b. if b then places_answer TooLong else seen_answer what (seen_in (run_in (trace_of trace)) (named_of text)))
@@ -72,6 +75,12 @@ long_text what trace text h =
 pub long_places : (what : Telling) (trace : List ℕ) (file : Option (List ℕ)) (text : List ℕ) → file ≡ Some text
     → 2 ^ 28 < length text → placed_answer what trace file ≡ places_answer TooLong
 long_places what trace file text there h = ap (placed_answer what trace) there ∙ long_text what trace text h
+
+pub short_text : (what : Telling) (trace text : List ℕ) → length text ≤ 2 ^ 28
+    → seen_answer what (seen_in (run_in (trace_of trace)) (named_of text)) ≡ text_placed what trace text
+short_text what trace text h =
+    sym (ap (λ b. if b then places_answer TooLong else seen_answer what (seen_in (run_in (trace_of trace)) (named_of text)))
+    (at_least (2 ^ 28) (length text) h))
 
 -- and bytes that are no trace, since they are
 no_less : (m n : ℕ) → m < n → nat_le n m ≡ false

@@ -1,5 +1,5 @@
 -- What a call answers by definition: a text and a status, from the words and what the files hold.
-use Rattle.std.specs.Prelude.{ℕ, ◌^◌, List, ◌++◌, codes, decimal, flat_map, length, map, Option, None, Some}
+use Rattle.std.specs.Prelude.{ℕ, ◌^◌, List, ◌++◌, codes, decimal, flat_map, length, map, Option, None, Some, if◌then◌else◌}
 use Rattle.mr_ast.specs.declared.program.Program.{Program}
 use Rattle.mr_io.specs.Files.{Contents}
 use Rattle.mr_grammar.specs.Parsing.{parsed}

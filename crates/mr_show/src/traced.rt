@@ -219,7 +219,7 @@ fn status_of(races: usize) -> u8
 
 // What was told of a trace, with its status, or why nothing was.
 fn said(alloc: Global, told: Result<Told, Untold>) -> Result<Written, Refusal>
-    ensures answer { (what : What) (defined : Result Seen WhyUntold) → AreTold (IsTextOf what) told.entry defined
+    ensures answer { (what : What) (defined : Result Seen WhyUntold) → AreTold (IsTextOf what) told defined
         → Tells (seen_answer what defined) result }
     ensures status { IfOk result (λ a. IsShownStatus a.status) }
     ensures read { ¬ IsUnreadFault result }

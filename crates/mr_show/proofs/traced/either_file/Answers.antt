@@ -9,7 +9,7 @@ returns-in-Ok-clause-answer g c = λ contents told.
     let (bytes, there, limit, is) = c.in-Ok.ensures.whole contents told in
     of_bytes c.args.saying (contents c.args.second.now) c.args.what c.requires _ (contents c.args.first.now)
     c.as_slice.result.now _ c.either_bytes.result
-    (rose_in_all (g.F.Files.faults c.args.files.now) (g.F.Files.faults c.read.new.files)
+    (rose_in_all (g.F.Files.faults c.args.files.now) (g.F.Files.faults c.read.new.self)
     (g.F.Files.faults c.either_bytes.new.files) c.in-Ok.ensures.faults)
     (there ∙ ap Some (sym (c.as_slice.ensures.value ∙ is ∙ ap (λ (xs : List ℕ). xs ++ bytes) c.new-bytes.ensures.items)))
     (c.either_bytes.ensures.answer contents (c.in-Ok.ensures.contents ∙ told))
@@ -21,7 +21,7 @@ returns-in-Ok-clause-texts g c = λ untold.
       under.0,
       of_bytes c.args.saying (Some under.0) c.args.what c.requires _ (Some c.as_slice.result.now) c.as_slice.result.now _
           c.either_bytes.result
-          (rose_in_all (g.F.Files.faults c.args.files.now) (g.F.Files.faults c.read.new.files)
+          (rose_in_all (g.F.Files.faults c.args.files.now) (g.F.Files.faults c.read.new.self)
           (g.F.Files.faults c.either_bytes.new.files) c.in-Ok.ensures.faults)
           refl under.1,
     )
