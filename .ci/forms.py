@@ -32,8 +32,8 @@ start 16 4096
 0
 0
 """
-USAGE = ("usage: steps P S [FIRST LAST] | races P S | picture P S [FIRST LAST] | order P S FIRST LAST | next P S "
-         "| fill P O | halt P O | hunt P FROM TO M [AIM] | why CODE | --help\n")
+USAGE = ("usage: steps P S [FIRST LAST] | races P S | picture P S [FIRST LAST] | order P S FIRST LAST | "
+         "races T PLACES | steps T PLACES [FIRST LAST] | steps T FIRST LAST | next P S | fill P O | halt P O | hunt P FROM TO M [AIM] | why CODE | --help\n")
 EXITS = """1  thread 0  4:13  main b0  exit
 step 1 ended the run
 verdict exit

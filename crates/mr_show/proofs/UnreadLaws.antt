@@ -155,7 +155,7 @@ module _ (what : Telling) where
   traced_never : (seen : Result TraceSeen Untold) → (seen_answer what seen).status ≡ 6 → ⊥
   traced_never (Ok s) six = races_least (length s.races == 0) six
     where
-      races_least : (b : Bool) → (if b then 0 else 1) ≡ 6 → ⊥
+      races_least : (b : Bool) → SixOnly ⊥ (if b then 0 else 1)
       races_least true e = absurd (omega (arith, e))
       races_least false e = absurd (omega (arith, e))
   traced_never (Err (untold.Trace at code)) six = absurd (omega (arith, six))
