@@ -125,7 +125,8 @@ class Checks:
         told = {(one, other): int(count or 1) for one, other, count in re.findall(GROUP, ran.stdout, re.M)}
         is_well = told == dict(wanted) and ran.stdout.endswith(listed.split(b"\n")[0] + b"\n")
         is_well = is_well and ran.returncode == bool(wanted)
-        self.judge(f"{what}: its races by the companion", is_well, f"{ran.returncode}: {ran.stdout[:500]} and not {wanted}")
+        said = f"{ran.returncode}: {ran.stdout[:500]} and not {wanted}"
+        self.judge(f"{what}: its races by the companion", is_well, said)
 
 
 def named(text, pairs, sign):

@@ -144,25 +144,29 @@ abbrev pub word_range : List ℕ → List ℕ → List ℕ → Option Range
 word_range from to most =
     range_of (number_below (2 ^ 64) from) (number_below (2 ^ 64) to) (number_below (2 ^ 20 + 1) most)
 
+-- the forms of other than four words
+abbrev pub other_form : List (List ℕ) → Option Form
+other_form (word ∷ []) = if bytes_eq word (codes "--help") then Some (Help Everything) else None
+other_form (word ∷ option ∷ []) =
+    if bytes_eq option (codes "--help") then help_of word else why_of word (number_below (2 ^ 16) option)
+other_form (word ∷ program ∷ schedule ∷ []) = whole_of word program schedule
+other_form (word ∷ program ∷ third ∷ fourth ∷ fifth ∷ []) =
+    if bytes_eq word (codes "hunt") then hunt_of word program (word_range third fourth fifth) None
+    else part_of word program third (span_of (number_below (2 ^ 32) fourth) (number_below (2 ^ 32) fifth))
+other_form (word ∷ program ∷ from ∷ to ∷ most ∷ aim ∷ []) =
+    aimed_of word program (word_range from to most) (word_aim aim)
+other_form (word ∷ program ∷ from ∷ to ∷ most ∷ aim ∷ text ∷ []) =
+    aimed_of word program (word_range from to most) (two_aim aim text)
+other_form _ = None
+
 -- `steps P S`, `steps P S FIRST LAST`, `races P S`, `picture P S`, `picture P S FIRST LAST`, `order P S FIRST LAST`,
 -- `next P S` and `steps T FIRST LAST`, where FIRST and LAST are below 2^32; `fill P O` and `halt P O`; `hunt P FROM TO M`, where FROM is at most TO,
 -- both are below 2^64, and M is at most 2^20, and an aim behind it; `why CODE`, where CODE is below 2^16; `--help`, and that
 -- behind `steps`, `races`, `picture`, `order`, `next`, `fill`, `halt`, `hunt` or `why`; and no other form
 abbrev pub form_of : List (List ℕ) → Option Form
-form_of (word ∷ []) = if bytes_eq word (codes "--help") then Some (Help Everything) else None
-form_of (word ∷ option ∷ []) =
-    if bytes_eq option (codes "--help") then help_of word else why_of word (number_below (2 ^ 16) option)
-form_of (word ∷ program ∷ schedule ∷ []) = whole_of word program schedule
 form_of (word ∷ trace ∷ first ∷ last ∷ []) =
     bare_of word trace (span_of (number_below (2 ^ 32) first) (number_below (2 ^ 32) last))
-form_of (word ∷ program ∷ third ∷ fourth ∷ fifth ∷ []) =
-    if bytes_eq word (codes "hunt") then hunt_of word program (word_range third fourth fifth) None
-    else part_of word program third (span_of (number_below (2 ^ 32) fourth) (number_below (2 ^ 32) fifth))
-form_of (word ∷ program ∷ from ∷ to ∷ most ∷ aim ∷ []) =
-    aimed_of word program (word_range from to most) (word_aim aim)
-form_of (word ∷ program ∷ from ∷ to ∷ most ∷ aim ∷ text ∷ []) =
-    aimed_of word program (word_range from to most) (two_aim aim text)
-form_of _ = None
+form_of words = other_form words
 
 -- the form that the words ask for
 abbrev pub asked : Words → Form

@@ -10,9 +10,6 @@ abbrev pub help_text : Topic → List ℕ
 help_text Everything =
     line (codes "mirace_show steps P S [FIRST LAST]   the steps of a run, each at its place in the program's text")
     ++ line (codes "mirace_show races P S                the races of a run by pairs of places")
-    ++ line (codes "mirace_show races T PLACES           the races of a trace by pairs of places")
-    ++ line (codes "mirace_show steps T PLACES [FIRST LAST] the steps of a trace, each at its place")
-    ++ line (codes "mirace_show steps T FIRST LAST       the same, without places")
     ++ line (codes "mirace_show picture P S [FIRST LAST] a picture of a run, as an SVG document")
     ++ line (codes "mirace_show order P S FIRST LAST     how two steps of a run are ordered, edge by edge")
     ++ line (
@@ -23,10 +20,7 @@ help_text Everything =
     ++ line (codes "mirace_show halt P O                 where that order can't go on")
     ++ line (codes "mirace_show hunt P FROM TO M [AIM]   how many drawn runs end in each way, or the first that has AIM")
     ++ line (codes "mirace_show why CODE                 what is said of a code of a rule, a fault or a reason")
-    ++ line (
-    codes "P is the file of a program, S that of a schedule, O that of an order, T that of a "
-    ++ codes "trace, and PLACES that of places."
-    )
+    ++ line (codes "P is the file of a program, S that of a schedule, and O that of an order.")
     ++ line (
     codes "With --help behind one of the words steps, races, picture, order, next, fill, halt, "
     ++ codes "hunt and why it tells more."
@@ -48,10 +42,6 @@ help_text OfSteps =
     ++ line (codes "races. At the end stand the verdict, how many races there are, how the threads stand where no step")
     ++ line (codes "stopped the run, which blocks a leak has left, for which reason a run is undefined, and of which")
     ++ line (codes "allocation that reason speaks. With FIRST and LAST only those steps are written.")
-    ++ line (
-    codes "Of a trace, steps T PLACES [FIRST LAST] and steps T FIRST LAST write each step "
-    ++ codes "with its thread and accesses."
-    )
 help_text OfRaces =
     line (codes "mirace_show races P S")
     ++ line (
@@ -61,10 +51,6 @@ help_text OfRaces =
     ++ line (
     codes "which steps race, those with most races first, with how many races there are "
     ++ codes "and the steps of the first."
-    )
-    ++ line (
-    codes "Of a trace, races T PLACES writes the same for each two places that file PLACES "
-    ++ codes "names, with the two steps."
     )
 help_text OfPicture =
     line (codes "mirace_show picture P S [FIRST LAST]")

@@ -1,10 +1,10 @@
 //! The forms, and the words that ask for them.
-ghost use Rattle.std.specs.Prelude.{◌≡◌, ◌+◌, ◌^◌, ◌∷◌, [], if◌then◌else◌, map, string_bytes};
+ghost use Rattle.std.specs.Prelude.{◌≡◌, ◌+◌, ◌^◌, if◌then◌else◌, map, string_bytes};
 ghost use Rattle.std.specs.Option.{option_map};
 ghost use Rattle.mr_input.specs.Numbers.{number_below};
 ghost use Rattle.mr_hunt.specs.Aims.{Named, aim_of};
 ghost use Rattle.mr_show.specs.Form.{Why, aimed_of, asked, bare_of, form_of, help_of, hunt_of, is_name_of, is_reason, is_verdict};
-ghost use Rattle.mr_show.specs.Form.{lines_from, part_of, span_of, spanned, two_aim, whole_of, why_of, word_aim, word_range};
+ghost use Rattle.mr_show.specs.Form.{lines_from, other_form, part_of, span_of, spanned, two_aim, whole_of, why_of, word_aim, word_range};
 ghost use Rattle.mr_why.specs.Why.{entry_of};
 
 use mr_hunt::Aim;
@@ -378,63 +378,24 @@ fn two_aim<'a>(word: &str, text: &'a str) -> Option<Aim<'a>>
     }
 }
 
-// `--help`.
-fn alone_of<'a>(word: &str) -> Option<Form<'a>>
-    ensures { option_map asked result ≡ form_of (word.now ∷ []) }
-{
-    match word {
-        "--help" => Some(Form::Help {
-            topic: Topic::Everything,
-        }),
-        _ => None,
-    }
-}
-
-// A word with `--help` behind it, or `why CODE`.
-fn two_of<'a>(word: &str, option: &str) -> Option<Form<'a>>
-    ensures { option_map asked result ≡ form_of (word.now ∷ option.now ∷ []) }
-{
-    match option {
-        "--help" => help_of(word),
-        _ => why_of(word, option),
-    }
-}
-
-// `hunt P FROM TO M`, or what is shown of some steps.
-fn five_of<'a>(
-    word: &str,
-    program: &'a str,
-    third: &'a str,
-    fourth: &str,
-    fifth: &str,
-) -> Option<Form<'a>>
-    ensures { option_map asked result
-        ≡ form_of (word.now ∷ program.now ∷ third.now ∷ fourth.now ∷ fifth.now ∷ []) }
-{
-    match word {
-        "hunt" => hunt_of(word, program, word_range(third, fourth, fifth), None),
-        _ => part_of(word, program, third, fourth, fifth),
-    }
-}
-
-/// The form of these words: `steps P S`, `steps P S FIRST LAST`, `races P S`, `picture P S`, `picture P S FIRST LAST`,
-/// `order P S FIRST LAST`, `steps T FIRST LAST`, `next P S`, `fill P O`, `halt P O`, `hunt P FROM TO M` and that with an aim,
-/// `why CODE`, `--help`, or one of the words `steps`, `races`, `picture`, `order`, `next`, `fill`, `halt`, `hunt` and `why` with
-/// `--help` behind it.
-pub fn form_of(words: &[String]) -> Option<Form<'_>>
-    ensures { option_map asked result ≡ form_of (map string_bytes words.now) }
+// The forms of other than four words.
+fn other_form(words: &[String]) -> Option<Form<'_>>
+    ensures { option_map asked result ≡ other_form (map string_bytes words.now) }
 {
     match words.len() {
-        1 => alone_of(words[0].as_str()),
-        2 => two_of(words[0].as_str(), words[1].as_str()),
+        1 if words[0].as_str() == "--help" => Some(Form::Help {
+            topic: Topic::Everything,
+        }),
+        2 if words[1].as_str() == "--help" => help_of(words[0].as_str()),
+        2 => why_of(words[0].as_str(), words[1].as_str()),
         3 => whole_of(words[0].as_str(), words[1].as_str(), words[2].as_str()),
-        4 => bare_of(
+        5 if words[0].as_str() == "hunt" => hunt_of(
             words[0].as_str(),
             words[1].as_str(),
-            words[2].as_str(),
-            words[3].as_str(),
+            word_range(words[2].as_str(), words[3].as_str(), words[4].as_str()),
+            None,
         ),
-        5 => five_of(
+        5 => part_of(
             words[0].as_str(),
             words[1].as_str(),
             words[2].as_str(),
@@ -454,5 +415,23 @@ pub fn form_of(words: &[String]) -> Option<Form<'_>>
             two_aim(words[5].as_str(), words[6].as_str()),
         ),
         _ => None,
+    }
+}
+
+/// The form of these words: `steps P S`, `steps P S FIRST LAST`, `races P S`, `picture P S`, `picture P S FIRST LAST`,
+/// `order P S FIRST LAST`, `steps T FIRST LAST`, `next P S`, `fill P O`, `halt P O`, `hunt P FROM TO M` and that with an aim,
+/// `why CODE`, `--help`, or one of the words `steps`, `races`, `picture`, `order`, `next`, `fill`, `halt`, `hunt` and `why` with
+/// `--help` behind it.
+pub fn form_of(words: &[String]) -> Option<Form<'_>>
+    ensures { option_map asked result ≡ form_of (map string_bytes words.now) }
+{
+    match words.len() {
+        4 => bare_of(
+            words[0].as_str(),
+            words[1].as_str(),
+            words[2].as_str(),
+            words[3].as_str(),
+        ),
+        _ => other_form(words),
     }
 }

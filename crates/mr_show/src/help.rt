@@ -7,9 +7,6 @@ use crate::form::Topic;
 const EVERYTHING: &[u8] = b"\
 mirace_show steps P S [FIRST LAST]   the steps of a run, each at its place in the program's text
 mirace_show races P S                the races of a run by pairs of places
-mirace_show races T PLACES           the races of a trace by pairs of places
-mirace_show steps T PLACES [FIRST LAST] the steps of a trace, each at its place
-mirace_show steps T FIRST LAST       the same, without places
 mirace_show picture P S [FIRST LAST] a picture of a run, as an SVG document
 mirace_show order P S FIRST LAST     how two steps of a run are ordered, edge by edge
 mirace_show next P S                 what each thread would do next, or the entry that breaks a rule
@@ -17,7 +14,7 @@ mirace_show fill P O                 the schedule that an order of threads becom
 mirace_show halt P O                 where that order can't go on
 mirace_show hunt P FROM TO M [AIM]   how many drawn runs end in each way, or the first that has AIM
 mirace_show why CODE                 what is said of a code of a rule, a fault or a reason
-P is the file of a program, S that of a schedule, O that of an order, T that of a trace, and PLACES that of places.
+P is the file of a program, S that of a schedule, and O that of an order.
 With --help behind one of the words steps, races, picture, order, next, fill, halt, hunt and why it tells more.
 ";
 
@@ -29,14 +26,12 @@ it printed, what it did to locks and threads, what it loaded and stored, and the
 races. At the end stand the verdict, how many races there are, how the threads stand where no step
 stopped the run, which blocks a leak has left, for which reason a run is undefined, and of which
 allocation that reason speaks. With FIRST and LAST only those steps are written.
-Of a trace, steps T PLACES [FIRST LAST] and steps T FIRST LAST write each step with its thread and accesses.
 ";
 
 const OF_RACES: &[u8] = b"\
 mirace_show races P S
 Runs the program in file P under the schedule in file S, and writes a line for each two places of P at
 which steps race, those with most races first, with how many races there are and the steps of the first.
-Of a trace, races T PLACES writes the same for each two places that file PLACES names, with the two steps.
 ";
 
 const OF_PICTURE: &[u8] = b"\
