@@ -14,6 +14,7 @@ import signal
 import subprocess
 import sys
 import tempfile
+from collections import Counter
 
 sys.dont_write_bytecode = True
 import plain  # noqa: E402
@@ -22,11 +23,14 @@ import record_programs  # noqa: E402
 TOP = os.path.dirname(os.path.dirname(os.path.abspath(__file__)))
 HERE = f"{TOP}/examples/record"
 TWINS = f"{TOP}/examples/beside"
+COMPANION = f"{TOP}/crates/mirace_show/out/mirace_show"
 # The compilers of each language, and the one of them that builds all but the small programs.
 COMPILERS = {"gcc": {"c": "gcc", "cpp": "g++"}, "clang": {"c": "clang", "cpp": "clang++"}}
 PATIENCE = 600
 # The most steps of a trace whose races are compared with the definition, which looks at each two of them.
 MOST_STEPS = 1500
+# The line of the races at two places, as the companion writes it.
+GROUP = rb"^(\S.*)  /  (.*): (?:once|(\d+) times), .*$"
 # Twins with another list than their example, by the example's steps: C's order has less in it than the machine's, and
 # to free is a store here, as in edition 2.
 OTHER_RACES = {"spawns": {"4-7"}, "stop": {"4-7"}, "use-after-free": {"6-7"}}
@@ -102,6 +106,27 @@ class Checks:
             wanted, listed = plain.listed(steps), self.offline(trace)
             told = f"{listed[:300]} and not {wanted[:300]}"
             self.judge(f"{what}: its races by their definition", wanted == listed, told)
+        self.by_places(what, trace)
+
+    def by_places(self, what, trace):
+        """The companion tells the same races by pairs of the names of their places, each with how many there are."""
+        named = f"{self.at}/recorded.names"
+        with open(named, "wb") as it:
+            subprocess.run([f"{HERE}/names", trace], stdout=it, timeout=PATIENCE)
+        with open(named, "rb") as it:
+            lines = it.read().split(b"\n")[1:-1]
+        names = [line[5:] for line in lines if line.startswith(b"name ")]
+        sites = [names[int(line.split(b" ")[0])] for line in lines if not line.startswith(b"name ")]
+        listed = self.offline(trace)
+        wanted = Counter()
+        for first, second in re.findall(rb"^race (\d+) (\d+)$", listed, re.M):
+            wanted[sites[int(first) - 1], sites[int(second) - 1]] += 1
+        ran = subprocess.run([COMPANION, "races", trace, named], stdout=subprocess.PIPE, timeout=PATIENCE)
+        told = {(one, other): int(count or 1) for one, other, count in re.findall(GROUP, ran.stdout, re.M)}
+        is_well = told == dict(wanted) and ran.stdout.endswith(listed.split(b"\n")[0] + b"\n")
+        is_well = is_well and ran.returncode == bool(wanted)
+        said = f"{ran.returncode}: {ran.stdout[:500]} and not {wanted}"
+        self.judge(f"{what}: its races by the companion", is_well, said)
 
 
 def named(text, pairs, sign):
