@@ -1,7 +1,9 @@
 -- What is said of a file that may hold a trace.
-use Rattle.std.proofs.Common.{◌≡◌, ℕ, ◌<◌, ◌≤◌, ◌^◌, ◌∙◌, ap, ap₂, Bool, true, false, length, List, refl, subst, sym, ◌⊎◌, inl, inr, arith}
+use Rattle.std.proofs.Common.{◌≡◌, ℕ, ◌<◌, ◌≤◌, ◌^◌, ◌∙◌, ap, ap₂, Bool, true, false, length, List, refl, subst, sym}
+use Rattle.std.proofs.Common.{◌⊎◌, inl, inr, arith}
 use Rattle.std.proofs.lemmas.Bool.Decides.{nat_tests}
-use Rattle.std.specs.Prelude.{◌&&◌, nat_le, nat_lt, bytes_eq, codes, take, if◌then◌else◌, Err, Ok, Option, None, Some, Result}
+use Rattle.std.specs.Prelude.{◌&&◌, nat_le, nat_lt, bytes_eq, codes, take, if◌then◌else◌, Err, Ok, Option, None, Some}
+use Rattle.std.specs.Prelude.{Result}
 use Rattle.mr_trace.specs.Reading.{trace_of, Place}
 use Rattle.mr_event.specs.Footprint.{Footprint}
 use Rattle.mr_picture.specs.declared.span.Span.{Span}
@@ -23,14 +25,16 @@ use Rattle.mr_show.specs.declared.form.Telling.TheVariants as telling
 use Rattle.mr_show.specs.Answer.{bytes_answer, file_answer, program_answer, shown_answer, text_answer}
 use Rattle.mr_show.specs.Answering.{IsBare, IsOfBytes, IsOfFile, IsOfFiles, IsOfText}
 use Rattle.mr_show.specs.Second.{HoldsTrace}
-use Rattle.mr_show.specs.Traced.{IsTextOf, bare_answer, holds_trace, placed_answer, places_answer, seen_answer, status_of}
+use Rattle.mr_show.specs.Traced.{IsTextOf, bare_answer, holds_trace, placed_answer, places_answer, seen_answer}
+use Rattle.mr_show.specs.Traced.{status_of}
 use Rattle.mr_show.specs.Traced.{telling_of, telling_text, text_placed}
 
 -- ---- what is told of a trace
 
 -- with another word for its text
 pub told_as : (IsText other : Seen → List ℕ → Type 0) → ((s : Seen) (text : List ℕ) → IsText s text → other s text)
-    → (told : Result Told Untold) (defined : Result Seen Untold) → AreTold IsText told defined → AreTold other told defined
+    → (told : Result Told Untold) (defined : Result Seen Untold) → AreTold IsText told defined
+    → AreTold other told defined
 told_as IsText other up (Ok told) defined (s, is, text, races) = (s, is, up s told.text.items text, races)
 told_as IsText other up (Err untold.Memory) defined h = h
 told_as IsText other up (Err (untold.Trace at code)) defined h = h
@@ -67,7 +71,8 @@ long_bare span file bytes there h = ap (bare_answer span) there ∙ long_seen sp
 at_least : (m n : ℕ) → n ≤ m → nat_lt m n ≡ false
 at_least m n h = grind (arith, nat_tests)
 
-long_text : (what : Telling) (trace text : List ℕ) → 2 ^ 28 < length text → text_placed what trace text ≡ places_answer TooLong
+long_text : (what : Telling) (trace text : List ℕ) → 2 ^ 28 < length text
+    → text_placed what trace text ≡ places_answer TooLong
 long_text what trace text h =
     ap (λ b. if b then places_answer TooLong else seen_answer what (seen_in (run_in (trace_of trace)) (named_of text)))
     (less (2 ^ 28) (length text) h)
@@ -79,8 +84,10 @@ long_places what trace file text there h = ap (placed_answer what trace) there �
 pub short_text : (what : Telling) (trace text : List ℕ) → length text ≤ 2 ^ 28
     → seen_answer what (seen_in (run_in (trace_of trace)) (named_of text)) ≡ text_placed what trace text
 short_text what trace text h =
-    sym (ap (λ b. if b then places_answer TooLong else seen_answer what (seen_in (run_in (trace_of trace)) (named_of text)))
-    (at_least (2 ^ 28) (length text) h))
+    sym (
+    ap (λ b. if b then places_answer TooLong else seen_answer what (seen_in (run_in (trace_of trace)) (named_of text)))
+    (at_least (2 ^ 28) (length text) h)
+    )
 
 -- and bytes that are no trace, since they are
 no_less : (m n : ℕ) → m < n → nat_le n m ≡ false
@@ -95,7 +102,8 @@ module _ (what : Telling) (saying : Saying) (second : Option (List ℕ)) (bytes 
   of_a_trace : holds_trace bytes ≡ true → bytes_answer (Some what) saying second bytes ≡ placed_answer what bytes second
   of_a_trace e = ap (λ b. if b then placed_answer what bytes second else text_answer saying second bytes) e
 
-  of_no_trace : holds_trace bytes ≡ false → bytes_answer (Some what) saying second bytes ≡ text_answer saying second bytes
+  of_no_trace : holds_trace bytes ≡ false
+      → bytes_answer (Some what) saying second bytes ≡ text_answer saying second bytes
   of_no_trace e = ap (λ b. if b then placed_answer what bytes second else text_answer saying second bytes) e
 
   module _ (rose : Type 0) (result : Result Written Refusal) where
@@ -117,16 +125,19 @@ module _ (what : Telling) (saying : Saying) (second : Option (List ℕ)) (bytes 
 -- ---- what is said of two files
 
 module _ (saying : Saying) (second : Option (List ℕ)) where
-  as_file : (first : Option (List ℕ)) → telling_of saying ≡ None → file_answer saying second first ≡ shown_answer saying second first
+  as_file : (first : Option (List ℕ)) → telling_of saying ≡ None
+      → file_answer saying second first ≡ shown_answer saying second first
   as_file None e = refl
   as_file (Some bytes) e = sym (ap (λ (w : Option Telling). bytes_answer w saying second bytes) e)
 
   -- a saying of which a trace tells nothing is answered by the run
-  pub of_program : (rose : Type 0) (first : Option (List ℕ)) (result : Result Written Refusal) → telling_of saying ≡ None
+  pub of_program : (rose : Type 0) (first : Option (List ℕ)) (result : Result Written Refusal)
+      → telling_of saying ≡ None
       → IsOfFile rose saying second first result → IsOfFiles rose saying second first result
   of_program rose first result e (inl tells) = inl (subst (λ (a : Answer). Tells a result) (as_file first e) tells)
   of_program rose first result e (inr (rises, inl is)) = inr (rises, inl is)
-  of_program rose first result e (inr (rises, inr (p, read, unbroken, is))) = inr (rises, inr (inl (p, read, unbroken), is))
+  of_program rose first result e (inr (rises, inr (p, read, unbroken, is))) =
+      inr (rises, inr (inl (p, read, unbroken), is))
 
   module _ (what : Telling) (e : telling_of saying ≡ Some what) where
     as_bytes : (bytes : List ℕ) → bytes_answer (Some what) saying second bytes ≡ shown_answer saying second (Some bytes)
@@ -141,11 +152,13 @@ module _ (saying : Saying) (second : Option (List ℕ)) where
         inr (up rises, inr (inr (subst (λ (w : Option Telling). HoldsTrace w (Some bytes)) (sym e) holds), is))
 
     -- bytes that were read are those of the file
-    pub of_bytes : (rose : Type 0) (first : Option (List ℕ)) (bytes : List ℕ) (later : Type 0) (result : Result Written Refusal)
+    pub of_bytes : (rose : Type 0) (first : Option (List ℕ)) (bytes : List ℕ) (later : Type 0)
+        (result : Result Written Refusal)
         → (later → rose) → first ≡ Some bytes → IsOfBytes later what saying second bytes result
         → IsOfFiles rose saying second first result
     of_bytes rose first bytes later result up there h =
-        subst (λ (f : Option (List ℕ)). IsOfFiles rose saying second f result) (sym there) (of_some rose bytes later result up h)
+        subst (λ (f : Option (List ℕ)). IsOfFiles rose saying second f result) (sym there)
+        (of_some rose bytes later result up h)
 
     -- and bytes that are too many are a text that is too long
     pub long_first : (first : Option (List ℕ)) (bytes : List ℕ) → first ≡ Some bytes → 2 ^ 28 < length bytes

@@ -1,5 +1,6 @@
 -- Why a file was not read: what the status 6 of an answer tells.
-use Rattle.std.proofs.Common.{◌≡◌, ℕ, ◌≤◌, ◌^◌, Bool, true, false, ap, arith, length, refl, subst, sym, ◌∙◌, List, [], ◌∷◌, ◌⊎◌, inl, inr}
+use Rattle.std.proofs.Common.{◌≡◌, ℕ, ◌≤◌, ◌^◌, Bool, true, false, ap, arith, length, refl, subst, sym, ◌∙◌, List, []}
+use Rattle.std.proofs.Common.{◌∷◌, ◌⊎◌, inl, inr}
 use Rattle.std.specs.Prelude.{◌==◌, nat_lt, if◌then◌else◌, None, Some, Option, Result, Ok, Err}
 use Rattle.mr_ast.specs.declared.program.Program.{Program}
 use Rattle.mr_io.specs.Files.{Contents}
@@ -28,7 +29,8 @@ use Rattle.mr_show.specs.declared.form.Part.{Part}
 use Rattle.mr_show.specs.declared.form.Saying.{Saying}
 use Rattle.mr_show.specs.declared.form.Saying.TheVariants.{Next, OfOrder, OfRun}
 use Rattle.mr_show.specs.declared.form.Filling.{Filling}
-use Rattle.mr_show.specs.Answer.{answer_of, answer_under, bytes_answer, next_under, part_answer, program_answer, ran_under}
+use Rattle.mr_show.specs.Answer.{answer_of, answer_under, bytes_answer, next_under, part_answer, program_answer}
+use Rattle.mr_show.specs.Answer.{ran_under}
 use Rattle.mr_show.specs.Answer.{run_seen, shown_answer, text_answer, usage, why_answer}
 use Rattle.mr_show.specs.Filled.{filled_answer, unless_bad}
 use Rattle.mr_show.specs.Next.{next_from, reached_answer}
@@ -167,8 +169,9 @@ module _ (what : Telling) where
   placed_only bytes (Some text) six = absurd (by_length (nat_lt (2 ^ 28) (length text)) six)
     where
       by_length : (b : Bool)
-          → (if b then places_answer TooLong else seen_answer what (seen_in (run_in (trace_of bytes)) (named_of text))).status ≡ 6
-          → ⊥
+          → SixOnly ⊥
+          (if b then places_answer TooLong
+          else seen_answer what (seen_in (run_in (trace_of bytes)) (named_of text))).status
       by_length true e = absurd (omega (arith, e))
       by_length false e = traced_never (seen_in (run_in (trace_of bytes)) (named_of text)) e
 
@@ -179,12 +182,14 @@ bare_only span (Some bytes) six =
 
 module _ (saying : Saying) (second : Option (List ℕ)) (bytes : List ℕ) where
   text_only : (what : Option Telling)
-      → SixOnly ((AsksForSchedule (Some bytes) ⊎ HoldsTrace what (Some bytes)) × (second ≡ None)) (text_answer saying second bytes).status
+      → SixOnly ((AsksForSchedule (Some bytes) ⊎ HoldsTrace what (Some bytes)) × (second ≡ None))
+      (text_answer saying second bytes).status
   text_only what six =
       let h = only_if _ _ (text_six saying second bytes (parsed bytes) refl) six in (inl h.0, h.1)
 
   bytes_only : (what : Option Telling)
-      → SixOnly ((AsksForSchedule (Some bytes) ⊎ HoldsTrace what (Some bytes)) × (second ≡ None)) (bytes_answer what saying second bytes).status
+      → SixOnly ((AsksForSchedule (Some bytes) ⊎ HoldsTrace what (Some bytes)) × (second ≡ None))
+      (bytes_answer what saying second bytes).status
   bytes_only None six = text_only None six
   bytes_only (Some what) six = by_kind (holds_trace bytes) refl six
     where
@@ -196,7 +201,8 @@ module _ (saying : Saying) (second : Option (List ℕ)) (bytes : List ℕ) where
 
 module _ (files : Contents) where
   shown_only : (saying : Saying) (program schedule : List ℕ) (file : Option (List ℕ)) → files program ≡ file
-      → SixOnly (LacksFile files (Some (Shown saying program schedule))) (shown_answer saying (files schedule) file).status
+      → SixOnly (LacksFile files (Some (Shown saying program schedule)))
+      (shown_answer saying (files schedule) file).status
   shown_only saying program schedule None e six = inl e
   shown_only saying program schedule (Some bytes) e six =
       let h = bytes_only saying (files schedule) bytes (telling_of saying) six in

@@ -1,5 +1,6 @@
 -- What a call answers by definition: a text and a status, from the words and what the files hold.
-use Rattle.std.specs.Prelude.{ℕ, ◌^◌, List, ◌++◌, codes, decimal, flat_map, length, map, Option, None, Some, if◌then◌else◌}
+use Rattle.std.specs.Prelude.{ℕ, ◌^◌, List, ◌++◌, codes, decimal, flat_map, length, map, Option, None, Some}
+use Rattle.std.specs.Prelude.{if◌then◌else◌}
 use Rattle.mr_ast.specs.declared.program.Program.{Program}
 use Rattle.mr_io.specs.Files.{Contents}
 use Rattle.mr_grammar.specs.Parsing.{parsed}
@@ -161,7 +162,8 @@ abbrev pub usage : Answer
 usage = record {
   text = line (
       codes "usage: steps P S [FIRST LAST] | races P S | picture P S [FIRST LAST] | order P S FIRST LAST | "
-      ++ codes "races T PLACES | steps T PLACES [FIRST LAST] | steps T FIRST LAST | next P S | fill P O | halt P O | hunt P FROM TO M [AIM] | why CODE | --help"
+      ++ codes "races T PLACES | steps T PLACES [FIRST LAST] | steps T FIRST LAST | next P S | fill P O | halt P O | "
+      ++ codes "hunt P FROM TO M [AIM] | why CODE | --help"
       );
   status = 2;
 }

@@ -14,7 +14,8 @@ use Rattle.mr_show.specs.declared.form.Range.{Range}
 use Rattle.mr_show.specs.declared.form.Saying.{Saying}
 use Rattle.mr_show.specs.declared.form.Telling.{Telling}
 use Rattle.mr_why.specs.Why.{entry_of}
-use Rattle.mr_show.specs.Answer.{bytes_answer, help_answer, file_answer, program_answer, shown_answer, text_answer, why_answer}
+use Rattle.mr_show.specs.Answer.{bytes_answer, help_answer, file_answer, program_answer, shown_answer, text_answer}
+use Rattle.mr_show.specs.Answer.{why_answer}
 use Rattle.mr_show.specs.Form.{Bare, Form, Help, Hunted, Shown, Why}
 use Rattle.mr_show.specs.Hunted.{hunted_file}
 use Rattle.mr_show.specs.Outcome.{over_holding}

@@ -9,8 +9,8 @@ use Rattle.mr_show.specs.Answer.{answer_of, usage}
 use Rattle.mr_show.specs.Form.{Bare, Form, Help, Hunted, Shown, Why}
 use Rattle.mr_show.specs.Second.{AsksForSecond}
 
--- A read failed, which is counted: that of the first file, or that of the second behind a program that breaks no rule or a
--- trace.
+-- A read failed, which is counted: that of the first file, or that of the second behind a program that breaks no rule
+-- or a trace.
 abbrev pub IsUnread : Contents → Form → Answer → Type 0
 IsUnread files (Shown saying program schedule) a =
     (a ≡ refused refusal.ReadProgram)

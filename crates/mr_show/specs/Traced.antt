@@ -1,5 +1,6 @@
 -- What is told of a trace, and which files are traces.
-use Rattle.std.specs.Prelude.{◌≡◌, ℕ, ◌^◌, ◌==◌, ◌&&◌, nat_le, nat_lt, Bool, if◌then◌else◌, List, bytes_eq, codes, length, take}
+use Rattle.std.specs.Prelude.{◌≡◌, ℕ, ◌^◌, ◌==◌, ◌&&◌, nat_le, nat_lt, Bool, if◌then◌else◌, List, bytes_eq, codes}
+use Rattle.std.specs.Prelude.{length, take}
 use Rattle.std.specs.Prelude.{Option, None, Some, Result, Ok, Err}
 use Rattle.mr_trace.specs.Reading.{trace_of}
 use Rattle.mr_input.specs.declared.refusal.Refusal.TheVariants as refusal

@@ -3,8 +3,9 @@ ghost use Rattle.std.specs.Prelude.{◌≡◌, [], ◌∷◌, ◌+◌, ◌^◌, 
 ghost use Rattle.std.specs.Option.{option_map};
 ghost use Rattle.mr_input.specs.Numbers.{number_below};
 ghost use Rattle.mr_hunt.specs.Aims.{Named, aim_of};
-ghost use Rattle.mr_show.specs.Form.{Why, aimed_of, asked, bare_of, form_of, help_of, hunt_of, is_name_of, is_reason, is_verdict};
-ghost use Rattle.mr_show.specs.Form.{lines_from, long_form, part_of, span_of, spanned, two_aim, whole_of, why_of, word_aim, word_range};
+ghost use Rattle.mr_show.specs.Form.{Why, aimed_of, asked, bare_of, form_of, help_of, hunt_of, is_name_of};
+ghost use Rattle.mr_show.specs.Form.{is_reason, is_verdict, lines_from, long_form, part_of, span_of, spanned};
+ghost use Rattle.mr_show.specs.Form.{two_aim, whole_of, why_of, word_aim, word_range};
 ghost use Rattle.mr_why.specs.Why.{entry_of};
 
 use mr_hunt::Aim;
@@ -437,10 +438,10 @@ fn two_form<'a>(word: &str, option: &str) -> Option<Form<'a>>
     }
 }
 
-/// The form of these words: `steps P S`, `steps P S FIRST LAST`, `races P S`, `picture P S`, `picture P S FIRST LAST`,
-/// `order P S FIRST LAST`, `next P S`, `steps T FIRST LAST`, `fill P O`, `halt P O`, `hunt P FROM TO M` and that with an
-/// aim, `why CODE`, `--help`, or one of the words `steps`, `races`, `picture`, `order`, `next`, `fill`, `halt`, `hunt` and
-/// `why` with `--help` behind it.
+/// The form of these words: `steps P S`, `steps P S FIRST LAST`, `races P S`, `picture P S`,
+/// `picture P S FIRST LAST`, `order P S FIRST LAST`, `next P S`, `steps T FIRST LAST`, `fill P O`, `halt P O`,
+/// `hunt P FROM TO M` and that with an aim, `why CODE`, `--help`, or one of the words `steps`, `races`, `picture`,
+/// `order`, `next`, `fill`, `halt`, `hunt` and `why` with `--help` behind it.
 pub fn form_of(words: &[String]) -> Option<Form<'_>>
     ensures { option_map asked result ≡ form_of (map string_bytes words.now) }
 {

@@ -10,8 +10,8 @@ ghost use Rattle.mr_traced.specs.declared.refusal.Untold.{Untold as WhyUntold};
 ghost use Rattle.mr_show.specs.declared.form.Telling.{Telling as What};
 ghost use Rattle.mr_show.specs.Answer.{bytes_answer};
 ghost use Rattle.mr_show.specs.Answering.{IsBare, IsOfBytes, IsOfFiles, IsShownStatus};
-ghost use Rattle.mr_show.specs.Traced.{IsTextOf, holds_trace, placed_answer, places_answer, seen_answer, status_of, telling_of};
-ghost use Rattle.mr_show.specs.Traced.{text_placed};
+ghost use Rattle.mr_show.specs.Traced.{IsTextOf, holds_trace, placed_answer, places_answer, seen_answer};
+ghost use Rattle.mr_show.specs.Traced.{status_of, telling_of, text_placed};
 
 use crate::form::{Part, Saying, Telling};
 use crate::shown::{shown_file, shown_text};

@@ -1,8 +1,8 @@
 //! A trace as people read it: its races by pairs of places, and its steps.
 //!
-//! A trace has the accesses of steps, and no names. They stand in a file of their own, which this crate reads. Its first
-//! line is `places 2`; a line `name NAME` declares the next name, counted from 0; a line `P`, or `P V`, says of the
-//! next step the number of the name of its place, and of the variable that it uses. An empty line says nothing.
+//! A trace has the accesses of steps, and no names. They stand in a file of their own, which this crate reads. Its
+//! first line is `places 2`; a line `name NAME` declares the next name, counted from 0; a line `P`, or `P V`, says of
+//! the next step the number of the name of its place, and of the variable that it uses. An empty line says nothing.
 //!
 //! - [`races`]: the races of a trace by pairs of places, those with most races first: how many there are, the first of
 //!   them, and what its two steps did.

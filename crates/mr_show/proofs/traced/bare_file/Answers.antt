@@ -12,7 +12,8 @@ use Rattle.mr_show.proofs.traced.bare_file.Goals as goal
 pub returns-in-Ok-clause-answer : goal.returns-in-Ok-clause-answer
 returns-in-Ok-clause-answer g c = λ contents told.
     let (bytes, there, limit, is) = c.in-Ok.ensures.whole contents told in
-    let file = there ∙ ap Some (sym (c.as_slice.ensures.value ∙ is ∙ ap (λ (xs : List ℕ). xs ++ bytes) c.new-bytes.ensures.items)) in
+    let made = c.as_slice.ensures.value ∙ is ∙ ap (λ (xs : List ℕ). xs ++ bytes) c.new-bytes.ensures.items in
+    let file = there ∙ ap Some (sym made) in
     inl (subst (λ (f : Option (List ℕ)). Tells (bare_answer c.args.span f) c.said.result) (sym file)
     (c.said.ensures.answer (Steps c.args.span.from c.args.span.to) (seen_bare (run_in (trace_of c.as_slice.result.now)))
     c.steps.ensures.exact))

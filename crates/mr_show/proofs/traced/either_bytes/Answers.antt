@@ -31,4 +31,5 @@ returns-else-holds_trace-clause-texts g c = λ untold.
     )
 
 pub returns-else-holds_trace-clause-status : goal.returns-else-holds_trace-clause-status
-returns-else-holds_trace-clause-status g c = IfOk-weaker c.shown_text.result _ _ (λ a h. inl h) c.shown_text.ensures.status
+returns-else-holds_trace-clause-status g c =
+    IfOk-weaker c.shown_text.result _ _ (λ a h. inl h) c.shown_text.ensures.status
