@@ -1,6 +1,7 @@
 """The recorder of examples/record/: it is compiled without a warning; small programs (record_programs.py) are
 recorded, and their races are those that they have by construction, and those of the definition (plain.py); so are
-the twins of examples/beside; and what can go wrong is told, and leaves no trace that is taken for a whole one.
+the twins of examples/beside; what the companion tells of their traces is what told.py makes of them; and what can go
+wrong is told, and leaves no trace that is taken for a whole one.
 
     .ci/record.py [PROGRAM]     checks the recorder alone, with this mirace
 """
@@ -19,6 +20,7 @@ from collections import Counter
 sys.dont_write_bytecode = True
 import plain  # noqa: E402
 import record_programs  # noqa: E402
+import told  # noqa: E402
 
 TOP = os.path.dirname(os.path.dirname(os.path.abspath(__file__)))
 HERE = f"{TOP}/examples/record"
@@ -29,8 +31,6 @@ COMPILERS = {"gcc": {"c": "gcc", "cpp": "g++"}, "clang": {"c": "clang", "cpp": "
 PATIENCE = 600
 # The most steps of a trace whose races are compared with the definition, which looks at each two of them.
 MOST_STEPS = 1500
-# The line of the races at two places, as the companion writes it.
-GROUP = rb"^(\S.*)  /  (.*): (?:once|(\d+) times), .*$"
 # Twins with another list than their example, by the example's steps: C's order has less in it than the machine's, and
 # to free is a store here, as in edition 2.
 OTHER_RACES = {"spawns": {"4-7"}, "stop": {"4-7"}, "use-after-free": {"6-7"}}
@@ -106,27 +106,33 @@ class Checks:
             wanted, listed = plain.listed(steps), self.offline(trace)
             told = f"{listed[:300]} and not {wanted[:300]}"
             self.judge(f"{what}: its races by their definition", wanted == listed, told)
-        self.by_places(what, trace)
+        self.by_companion(what, trace, steps)
 
-    def by_places(self, what, trace):
-        """The companion tells the same races by pairs of the names of their places, each with how many there are."""
-        named = f"{self.at}/recorded.names"
-        with open(named, "wb") as it:
-            subprocess.run([f"{HERE}/names", trace], stdout=it, timeout=PATIENCE)
-        with open(named, "rb") as it:
-            lines = it.read().split(b"\n")[1:-1]
-        names = [line[5:] for line in lines if line.startswith(b"name ")]
-        sites = [names[int(line.split(b" ")[0])] for line in lines if not line.startswith(b"name ")]
-        listed = self.offline(trace)
-        wanted = Counter()
-        for first, second in re.findall(rb"^race (\d+) (\d+)$", listed, re.M):
-            wanted[sites[int(first) - 1], sites[int(second) - 1]] += 1
-        ran = subprocess.run([COMPANION, "races", trace, named], stdout=subprocess.PIPE, timeout=PATIENCE)
-        told = {(one, other): int(count or 1) for one, other, count in re.findall(GROUP, ran.stdout, re.M)}
-        is_well = told == dict(wanted) and ran.stdout.endswith(listed.split(b"\n")[0] + b"\n")
-        is_well = is_well and ran.returncode == bool(wanted)
-        said = f"{ran.returncode}: {ran.stdout[:500]} and not {wanted}"
-        self.judge(f"{what}: its races by the companion", is_well, said)
+    def by_companion(self, what, trace, steps):
+        """What the companion tells of the trace is what told.py makes of it, at the places of `names`; and its pairs of
+        places have as many races as the list of `races` says."""
+        places = f"{self.at}/recorded.names"
+        named = subprocess.run([f"{HERE}/names", trace], stdout=subprocess.PIPE, timeout=PATIENCE).stdout
+        with open(places, "wb") as it:
+            it.write(named)
+        races = told.races_in(self.offline(trace))
+        wanted = told.Told(steps, races, named)
+        for word, text in (("races", wanted.races_text()), ("steps", wanted.steps_text())):
+            ran = subprocess.run([COMPANION, word, trace, places], stdout=subprocess.PIPE, timeout=PATIENCE)
+            is_well = (ran.stdout, ran.returncode) == (text, int(bool(races)))
+            said = f"{ran.returncode}: {ran.stdout[:500]} and not {text[:500]}"
+            self.judge(f"{what}: its {word} by the companion", is_well, said)
+        place = lambda k: wanted.names[wanted.sites[k][0]].decode().partition(" in ")[0]
+        by_names = Counter(tuple(sorted(map(place, pair))) for pair in races)
+        by_list = self.counted(trace, [(one + 1, other + 1) for one, other in races]) if races else Counter()
+        self.judge(f"{what}: its races by `names` and by `races`", by_names == by_list, f"{by_names} and {by_list}")
+
+    def counted(self, trace, pairs):
+        """How many pairs of steps the list of `races` has of each two places."""
+        lines = list(self.races.listed(self.races.Places(f"{trace}.places"), pairs))
+        place = lambda line: re.split(r" in |: ", line.strip())[0]
+        heads = zip(lines[::3], lines[1::3], lines[2::3])
+        return Counter({tuple(sorted((place(one), place(other)))): int(head.split()[0]) for head, one, other in heads})
 
 
 def named(text, pairs, sign):
