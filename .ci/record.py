@@ -76,7 +76,7 @@ class Checks:
         return self.build_file(source, COMPILERS[family][language], *flags, name=name)
 
     def build_file(self, source, compiler, *flags, name="recorded"):
-        words = [f"{HERE}/record-cc", "-O0", *flags, source, "-o", f"{self.at}/{name}"]
+        words = [f"{HERE}/record-cc", "-O0", "-mcx16", *flags, source, "-o", f"{self.at}/{name}"]
         made = subprocess.run(words, env={**os.environ, "MIRACE_CC": compiler, "MIRACE_BUILT": f"{self.at}/built"},
                               stdout=subprocess.PIPE, stderr=subprocess.STDOUT, timeout=PATIENCE)
         return made.stdout.decode() if made.returncode or b"warning" in made.stdout else ""
