@@ -37,7 +37,7 @@ EXAMPLES = f"{TOP}/examples"
 CLASS = f"{EXAMPLES}/class"
 CASES = f"{TOP}/crates/mirace_cases/data"
 STORED = f"{TOP}/crates/mirace_cases/stdout"
-USAGE = b"usage: steps P S [FIRST LAST] | races P S | picture P S [FIRST LAST] | order P S FIRST LAST | next P S | fill P O | halt P O | hunt P FROM TO M [AIM] | why CODE | --help\n"
+USAGE = b"usage: steps P S [FIRST LAST] | races P S | picture P S [FIRST LAST] | order P S FIRST LAST | races T PLACES | steps T PLACES [FIRST LAST] | steps T FIRST LAST | next P S | fill P O | halt P O | hunt P FROM TO M [AIM] | why CODE | --help\n"
 # The most seconds that a long run may take, on a slow machine.
 PATIENCE = 40
 # The line of a step, with its number, its thread, its place, its function, its block and its statement.

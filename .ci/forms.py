@@ -1,7 +1,7 @@
 """The forms of the companion, as the built `mirace_show` answers them: rows of a program, a schedule or an order, the
 words of a form, and what is written; rows.py goes through them.
 
-- ANSWERED, REFUSED, PROSPECTS, ORDERS, FORMLESS and CODES: words, and what refuses a form.
+- ANSWERED, REFUSED, TRACED, PROSPECTS, ORDERS, FORMLESS and CODES: words, and what refuses a form.
 - LAID: programs whose texts are laid out in other ways, and races at more than two places.
 - NEXTS and FILLED: how a run can go on, and which schedule an order becomes.
 """
@@ -32,8 +32,9 @@ start 16 4096
 0
 0
 """
-USAGE = ("usage: steps P S [FIRST LAST] | races P S | picture P S [FIRST LAST] | order P S FIRST LAST | next P S "
-         "| fill P O | halt P O | hunt P FROM TO M [AIM] | why CODE | --help\n")
+USAGE = ("usage: steps P S [FIRST LAST] | races P S | picture P S [FIRST LAST] | order P S FIRST LAST | "
+         "races T PLACES | steps T PLACES [FIRST LAST] | steps T FIRST LAST | next P S | fill P O | halt P O | "
+         "hunt P FROM TO M [AIM] | why CODE | --help\n")
 EXITS = """1  thread 0  4:13  main b0  exit
 step 1 ended the run
 verdict exit
@@ -92,6 +93,24 @@ REFUSED = (
     (EXIT, TOO_FAR, "races P S", "schedule 4 66 AfterStop\n", 5),
     (EXIT, EXIT, "steps P S", "schedule 1 50 BadHeader\n", 5),
 )
+# A trace without steps.
+NO_TRACED = "MRTR\1\0\0\0\0"
+# A trace, places, words of forms over them, and what is written, with the status.
+TRACED = (
+    (NO_TRACED, "places 2\n", "races P S", "races 0\n", 0),
+    (NO_TRACED, "places 2\nname a\n\n", "steps P S", "races 0\n", 0),
+    (NO_TRACED, "places 2\n", "steps P S 1 4294967295", "races 0\n", 0),
+    (NO_TRACED, "", "steps P 0 4294967295", "races 0\n", 0),
+    (NO_TRACED, "places 2\n0\n", "steps P S", "places 1 steps, and the trace has 0\n", 9),
+    (NO_TRACED, "places 1\n", "races P S", "places 1 it isn't `places 2`\n", 9),
+    (NO_TRACED, "places 2\n-\n", "races P S", "places 2 neither a name nor a step\n", 9),
+    (NO_TRACED[:-1], "places 1\n", "races P S", "trace 8 72 Truncated\n", 9),
+    ("MRTR", "", "steps P S", "trace 0 70 BadMagic\n", 9),
+    ("MRTR", "", "races P Q", "read schedule\n", 6),
+    ("MRT", "", "races P Q", "text 1 1 4 Unexpected\n", 3),
+    (EXIT, "", "steps P 1 2", "trace 0 70 BadMagic\n", 9),
+    (EXIT, "", "steps Q 1 2", "read trace\n", 6),
+)
 # A program, a schedule, words of `next`, and what is written of them, with the status.
 PROSPECTS = (
     (EXIT, SCHEDULE, "next P S", "the run has ended\n", 0),
@@ -110,6 +129,7 @@ ORDERS = (
 # Words of no form.
 FORMLESS = (
     "", "steps", "steps P", "steps P S 1", "steps P S 1 x", "steps P S 1 4294967296", "steps P S 01 2", "races P S 1 2",
+    "races P 1 2", "steps P 1 4294967296",
     "picture P S 1", "run P S", "--helps", "next P", "fill P", "why", "why 65536", "whys 66",
     "order P S", "order P S 1", "order P S 1 4294967296", "order P S 01 2", "order P S 1 2 3", "orders P S 1 2",
     "hunt P", "hunt P 0 3", "hunt P 3 2 1", "hunt P 0 3 1048577", "hunt P 0 18446744073709551616 1", "hunt P 00 3 1",
@@ -356,7 +376,7 @@ def answered(bench):
     """What words come to, and what refuses them."""
     for line, text, status in (*ANSWERED, *CODES):
         bench.expect(line, f"mirace_show {line}", text, status, P=EXIT, S=SCHEDULE)
-    for program, other, line, text, status in (*REFUSED, *PROSPECTS, *ORDERS, *LAID_OUT):
+    for program, other, line, text, status in (*REFUSED, *TRACED, *PROSPECTS, *ORDERS, *LAID_OUT):
         what = f"{line} of {program[:40]!r} and {other!r}"
         bench.expect(what, f"mirace_show {line}", text, status, P=program, S=other)
     for line in FORMLESS:

@@ -1,6 +1,7 @@
 """The recorder of examples/record/: it is compiled without a warning; small programs (record_programs.py) are
 recorded, and their races are those that they have by construction, and those of the definition (plain.py); so are
-the twins of examples/beside; and what can go wrong is told, and leaves no trace that is taken for a whole one.
+the twins of examples/beside; what the companion tells of their traces is what told.py makes of them; and what can go
+wrong is told, and leaves no trace that is taken for a whole one.
 
     .ci/record.py [PROGRAM]     checks the recorder alone, with this mirace
 """
@@ -14,14 +15,17 @@ import signal
 import subprocess
 import sys
 import tempfile
+from collections import Counter
 
 sys.dont_write_bytecode = True
 import plain  # noqa: E402
 import record_programs  # noqa: E402
+import told  # noqa: E402
 
 TOP = os.path.dirname(os.path.dirname(os.path.abspath(__file__)))
 HERE = f"{TOP}/examples/record"
 TWINS = f"{TOP}/examples/beside"
+COMPANION = f"{TOP}/crates/mirace_show/out/mirace_show"
 # The compilers of each language, and the one of them that builds all but the small programs.
 COMPILERS = {"gcc": {"c": "gcc", "cpp": "g++"}, "clang": {"c": "clang", "cpp": "clang++"}}
 PATIENCE = 600
@@ -72,7 +76,7 @@ class Checks:
         return self.build_file(source, COMPILERS[family][language], *flags, name=name)
 
     def build_file(self, source, compiler, *flags, name="recorded"):
-        words = [f"{HERE}/record-cc", "-O0", *flags, source, "-o", f"{self.at}/{name}"]
+        words = [f"{HERE}/record-cc", "-O0", "-mcx16", *flags, source, "-o", f"{self.at}/{name}"]
         made = subprocess.run(words, env={**os.environ, "MIRACE_CC": compiler, "MIRACE_BUILT": f"{self.at}/built"},
                               stdout=subprocess.PIPE, stderr=subprocess.STDOUT, timeout=PATIENCE)
         return made.stdout.decode() if made.returncode or b"warning" in made.stdout else ""
@@ -102,6 +106,33 @@ class Checks:
             wanted, listed = plain.listed(steps), self.offline(trace)
             told = f"{listed[:300]} and not {wanted[:300]}"
             self.judge(f"{what}: its races by their definition", wanted == listed, told)
+        self.by_companion(what, trace, steps)
+
+    def by_companion(self, what, trace, steps):
+        """What the companion tells of the trace is what told.py makes of it, at the places of `names`; and its pairs of
+        places have as many races as the list of `races` says."""
+        places = f"{self.at}/recorded.names"
+        named = subprocess.run([f"{HERE}/names", trace], stdout=subprocess.PIPE, timeout=PATIENCE).stdout
+        with open(places, "wb") as it:
+            it.write(named)
+        races = told.races_in(self.offline(trace))
+        wanted = told.Told(steps, races, named)
+        for word, text in (("races", wanted.races_text()), ("steps", wanted.steps_text())):
+            ran = subprocess.run([COMPANION, word, trace, places], stdout=subprocess.PIPE, timeout=PATIENCE)
+            is_well = (ran.stdout, ran.returncode) == (text, int(bool(races)))
+            said = f"{ran.returncode}: {ran.stdout[:500]} and not {text[:500]}"
+            self.judge(f"{what}: its {word} by the companion", is_well, said)
+        place = lambda k: wanted.names[wanted.sites[k][0]].decode().partition(" in ")[0]
+        by_names = Counter(tuple(sorted(map(place, pair))) for pair in races)
+        by_list = self.counted(trace, [(one + 1, other + 1) for one, other in races]) if races else Counter()
+        self.judge(f"{what}: its races by `names` and by `races`", by_names == by_list, f"{by_names} and {by_list}")
+
+    def counted(self, trace, pairs):
+        """How many pairs of steps the list of `races` has of each two places."""
+        lines = list(self.races.listed(self.races.Places(f"{trace}.places"), pairs))
+        place = lambda line: re.split(r" in |: ", line.strip())[0]
+        heads = zip(lines[::3], lines[1::3], lines[2::3])
+        return Counter({tuple(sorted((place(one), place(other)))): int(head.split()[0]) for head, one, other in heads})
 
 
 def named(text, pairs, sign):

@@ -1,7 +1,8 @@
 """What `trace` writes and `offline` reads, beside the script of examples/trace/ and the threads that are recorded
-there."""
+there; and what the companion tells of traces, beside told.py."""
 import importlib.util
 import os
+import random
 import re
 import resource
 import shutil
@@ -9,7 +10,9 @@ import subprocess
 import sys
 import time
 
+import companion
 import plain
+import told
 from judging import CASES, EXAMPLES, PATIENCE, expect, judge, report_parts, run, short, stored_runs, write
 from made import NO_STEPS, STORING
 
@@ -136,6 +139,63 @@ def traces(at):
     claimed_traces(at)
     long_trace(at)
     long_traces(at)
+
+
+def drawn_places(draw, steps):
+    """A file of places of so many steps, in any order: names of any bytes, and numbers, some of which no name has."""
+    byte = [it for it in range(256) if it != ord("\n")]
+    lines = [b"name " + bytes(draw.choices(byte, k=draw.randrange(6))) for _ in range(5)]
+    numbers = lambda: draw.choices(range(7), k=draw.choice((1, 2)))
+    lines += [b" ".join(b"%d" % it for it in numbers()) for _ in range(steps)]
+    lines += [b""] * draw.randrange(3)
+    draw.shuffle(lines)
+    return b"\n".join([b"places 2", *lines])
+
+
+def expect_told(what, words, at, text, status):
+    """The companion writes this text, and ends with this status."""
+    wrote, ended = companion.ran(words.split(), at)
+    judge(f"{what}: {words}", (wrote, ended) == (text, status), f"{short(text)} and {status}, not {short(wrote)} and {ended}")
+
+
+def changed_places(at, script):
+    """Each byte of a file of places with other values, and each part from its front: its fault, or what is told."""
+    steps = "thread 0: spawn 1; wakes 1\nthread 0: store 16 4\nthread 1: load 16 8; atomic store 64 1; ends\n"
+    write(at, "few.trace", script.encode(steps))
+    steps, races = [script.step_of(line) for line in steps.splitlines()], [(1, 2)]
+    text, faults, count = b"places 2\nname a b\nname c\n\n0\n1 0\n4294967295 10\n", 0, 0
+    changed = [text[:k] + it + text[k + 1:] for k in range(len(text)) for it in (b" ", b"\n", b"0", b"9", b"x", b"\xe9")]
+    for other in [*changed, *(text[:k] for k in range(len(text) + 1)), text * 2, text + b"0"]:
+        try:
+            wanted = told.Told(steps, races, other).races_text(), 1
+        except told.NoPlaces as fault:
+            wanted, faults = (fault.args[0], 9), faults + 1
+        write(at, "few.places", other)
+        expect_told(f"places {other!r}", "races few.trace few.places", at, *wanted)
+        count += 1
+    judge("changed places with and without a fault", 0 < faults < count, f"{faults} of {count}")
+
+
+def told_traces(at):
+    """The companion tells the trace of each stored run as told.py does, at places that are drawn, and refuses files of
+    places as it does."""
+    script, draw, count = trace_script(), random.Random(5), 0
+    for program, schedule, report, _ in stored_runs():
+        what = f"{program[len(CASES) + 1:]} under {schedule[len(CASES) + 1:]}"
+        trace, _ = run(["trace", program, schedule], at)
+        steps = [script.step_of(line) for line in script.decode(trace).splitlines()]
+        races, places = told.races_in(report_parts(report)[2]), drawn_places(draw, len(steps))
+        named, bare, status = told.Told(steps, races, places), told.Told(steps, races), int(bool(races))
+        first, last = draw.randrange(len(steps) + 2), draw.randrange(len(steps) + 2)
+        write(at, "run.trace", trace)
+        write(at, "run.places", places)
+        expect_told(what, "races run.trace run.places", at, named.races_text(), status)
+        expect_told(what, "steps run.trace run.places", at, named.steps_text(), status)
+        expect_told(what, f"steps run.trace run.places {first} {last}", at, named.steps_text(first, last), status)
+        expect_told(what, f"steps run.trace {first} {last}", at, bare.steps_text(first, last), status)
+        count += 1
+    judge("traces that are told", count > 800, f"{count} of them")
+    changed_places(at, script)
 
 
 def scripted_traces(at):

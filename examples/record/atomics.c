@@ -66,11 +66,14 @@ static void atomic_row(uint64_t at, struct object *it, uint32_t size, enum kind 
     return r; \
   }
 
+#define EXCHANGED(B, T) \
+  static int exchanged##B(volatile T *a, T *c, T v) { return __atomic_compare_exchange_n(a, c, v, 0, 5, 5); }
+
 #define EXCHANGES(B, T) \
   static int exchanges##B(uint64_t at, volatile T *a, T *c, T v, int order, int failing) { \
-    if (!enter()) return __atomic_compare_exchange_n(a, c, v, 0, 5, 5); \
+    if (!enter()) return exchanged##B(a, c, v); \
     struct object *it = take_object(a, ATOMIC_OBJECT); \
-    int is_done = __atomic_compare_exchange_n(a, c, v, 0, 5, 5); \
+    int is_done = exchanged##B(a, c, v); \
     atomic_row(at, it, B / 8, is_done ? UPDATE : ATOMIC_LOAD, is_done ? order : failing); \
     give_object(it); \
     leave(); \
@@ -102,12 +105,64 @@ static void atomic_row(uint64_t at, struct object *it, uint32_t size, enum kind 
     return r; \
   } \
   FETCH(B, T, fetch_add) FETCH(B, T, fetch_sub) FETCH(B, T, fetch_and) FETCH(B, T, fetch_or) FETCH(B, T, fetch_xor) \
-  FETCH(B, T, fetch_nand) EXCHANGES(B, T)
+  FETCH(B, T, fetch_nand) EXCHANGED(B, T) EXCHANGES(B, T)
 
 OPERATIONS(8, uint8_t)
 OPERATIONS(16, uint16_t)
 OPERATIONS(32, uint32_t)
 OPERATIONS(64, uint64_t)
+
+/* Of 16 bytes the processor has one operation, which compares and stores: the others are made of it, loads too. */
+typedef unsigned __int128 uint128_t;
+enum change { SAME, NEW, ADD, SUB, AND, OR, XOR, NAND };
+
+static uint128_t changed(uint128_t r, uint128_t v, enum change how) {
+  switch (how) {
+    case SAME: return r;
+    case NEW: return v;
+    case ADD: return r + v;
+    case SUB: return r - v;
+    case AND: return r & v;
+    case OR: return r | v;
+    case XOR: return r ^ v;
+    default: return ~(r & v);
+  }
+}
+
+static int exchanged128(volatile uint128_t *a, uint128_t *c, uint128_t v) {
+  uint128_t wanted = *c;
+  *c = __sync_val_compare_and_swap(a, wanted, v);
+  return *c == wanted;
+}
+EXCHANGES(128, uint128_t)
+
+static uint128_t change(volatile uint128_t *a, uint128_t v, enum change how) {
+  uint128_t r = 0;
+  while (!exchanged128(a, &r, changed(r, v, how))) continue;
+  return r;
+}
+static uint128_t changes(uint64_t at, volatile uint128_t *a, uint128_t v, enum change how, enum kind kind, int order) {
+  if (!enter()) return change(a, v, how);
+  struct object *it = take_object(a, ATOMIC_OBJECT);
+  uint128_t r = change(a, v, how);
+  atomic_row(at, it, 16, kind, order);
+  give_object(it);
+  leave();
+  return r;
+}
+
+#define UPDATES(NAME, HOW) \
+  uint128_t __tsan_atomic128_##NAME(volatile uint128_t *a, uint128_t v, int order) { \
+    return changes(PLACE, a, v, HOW, UPDATE, order); \
+  }
+UPDATES(exchange, NEW) UPDATES(fetch_add, ADD) UPDATES(fetch_sub, SUB) UPDATES(fetch_and, AND) UPDATES(fetch_or, OR)
+UPDATES(fetch_xor, XOR) UPDATES(fetch_nand, NAND)
+uint128_t __tsan_atomic128_load(const volatile uint128_t *a, int order) {
+  return changes(PLACE, (volatile uint128_t *)(uintptr_t)a, 0, SAME, ATOMIC_LOAD, order);
+}
+void __tsan_atomic128_store(volatile uint128_t *a, uint128_t v, int order) {
+  changes(PLACE, a, v, NEW, ATOMIC_STORE, order);
+}
 
 /* A fence that acquires stands behind all that earlier loads of its thread saw; one that releases is handed on by
    later stores. */

@@ -38,9 +38,9 @@ static void *room_for(size_t bytes) {
   return it;
 }
 
-/* What is in one word of eight bytes has one bucket. */
+/* What is in one word of 16 bytes has one bucket. */
 static size_t bucket_of(uint64_t address) {
-  return (size_t)(((address >> 3) * 0x9e3779b97f4a7c15u) >> 48) % BUCKETS;
+  return (size_t)(((address >> 4) * 0x9e3779b97f4a7c15u) >> 48) % BUCKETS;
 }
 
 static struct object **find(uint64_t address, enum object_kind kind) {

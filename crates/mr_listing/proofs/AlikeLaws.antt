@@ -37,12 +37,12 @@ stand_total : IsTotalOrder stand_cmp
 stand_total = options_total spot_total
 
 -- two orders that tie, and numbers that do
-eq_then : (r q : Ordering) → is_eq (ordering_then r q) ≡ (is_eq r && is_eq q)
+pub eq_then : (r q : Ordering) → is_eq (ordering_then r q) ≡ (is_eq r && is_eq q)
 eq_then Less q = refl
 eq_then Equal q = refl
 eq_then Greater q = refl
 
-eq_numbers : (a b : ℕ) → is_eq (nat_cmp a b) ≡ (a == b)
+pub eq_numbers : (a b : ℕ) → is_eq (nat_cmp a b) ≡ (a == b)
 eq_numbers a b = grind (arith, nat_tests)
 
 all_three : (a b d : Bool) → ((a && b) && d) ≡ (a && (b && d))

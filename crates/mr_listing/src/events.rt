@@ -9,8 +9,8 @@ use crate::shown::Shown;
 use mr_base::{Event, Status};
 use mr_labels::{Stand, ToldStep, function_word, push_number};
 
-// Appends a line with a word and a number.
-fn push_note(out: &mut Vec<u8>, word: &str, number: u32) -> Result<(), OutOfMemory>
+/// Appends a line with a word and a number.
+pub fn push_note(out: &mut Vec<u8>, word: &str, number: u32) -> Result<(), OutOfMemory>
     ensures { OnOk result (out.new.items ≡ out.old.items ++ note_line word.now number) }
 {
     out.extend_from_slice(b"        ")?;
@@ -106,7 +106,7 @@ pub(crate) fn push_event(
 }
 
 /// Appends that the thread ended, where it did.
-pub(crate) fn push_end(out: &mut Vec<u8>, ended: bool) -> Result<(), OutOfMemory>
+pub fn push_end(out: &mut Vec<u8>, ended: bool) -> Result<(), OutOfMemory>
     ensures { OnOk result (out.new.items ≡ out.old.items ++ end_text ended) }
 {
     if ended {
@@ -117,7 +117,7 @@ pub(crate) fn push_end(out: &mut Vec<u8>, ended: bool) -> Result<(), OutOfMemory
 }
 
 /// Appends a line for each thread that a step woke.
-pub(crate) fn push_woken(out: &mut Vec<u8>, woken: &[u32]) -> Result<(), OutOfMemory>
+pub fn push_woken(out: &mut Vec<u8>, woken: &[u32]) -> Result<(), OutOfMemory>
     ensures { OnOk result (out.new.items ≡ out.old.items ++ flat_map woken_line woken.now) }
 {
     for thread in woken {

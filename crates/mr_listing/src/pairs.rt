@@ -42,8 +42,8 @@ fn push_often(out: &mut Vec<u8>, count: usize) -> Result<(), OutOfMemory>
     }
 }
 
-// Appends how many races there are, and the steps of the first.
-fn push_times(out: &mut Vec<u8>, group: Group) -> Result<(), OutOfMemory>
+/// Appends how many races there are, and the steps of the first.
+pub fn push_times(out: &mut Vec<u8>, group: Group) -> Result<(), OutOfMemory>
     ensures { OnOk result (out.new.items ≡ out.old.items ++ times_text group) }
 {
     push_often(out, group.count)?;
@@ -136,8 +136,9 @@ fn groups_of(alloc: Global, shown: &Shown<'_>) -> Result<Vec<Group>, OutOfMemory
     groups_in(alloc, shown, sorted.as_slice())
 }
 
-// Puts those with most races first, and leaves those with as many in the order in which they stand.
-fn rank_by_count(groups: &mut Vec<Group>) -> Result<(), OutOfMemory>
+/// Puts those with most races first, and leaves those with as many in the order in which they stand. An `Err` is for want of
+/// memory.
+pub fn rank_by_count(groups: &mut Vec<Group>) -> Result<(), OutOfMemory>
     ensures { OnOk result ((most : ℕ) → All (λ g. g.count ≤ most) groups.old.items
         → groups.new.items ≡ by_count most groups.old.items) }
 {

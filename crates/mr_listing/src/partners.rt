@@ -43,7 +43,7 @@ fn both(alloc: Global, races: &[Pair]) -> Result<Vec<Partner>, OutOfMemory>
 }
 
 /// The partners of the steps of races, by rising steps. An `Err` is for want of memory.
-pub(crate) fn partners_of(alloc: Global, races: &[Pair]) -> Result<Vec<Partner>, OutOfMemory>
+pub fn partners_of(alloc: Global, races: &[Pair]) -> Result<Vec<Partner>, OutOfMemory>
     ensures { IfOk result (λ sorted. ArePartners races.now sorted.items) }
 {
     let mut all = both(alloc, races)?;
@@ -105,7 +105,7 @@ fn push_block(out: &mut Vec<u8>, block: &[Partner]) -> Result<(), OutOfMemory>
 }
 
 /// Appends the partners of a step, which are found among those of these races.
-pub(crate) fn push_partners(
+pub fn push_partners(
     out: &mut Vec<u8>,
     races: &[Pair],
     sorted: &[Partner],

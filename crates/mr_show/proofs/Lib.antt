@@ -5,4 +5,5 @@ pub mod HuntLaws
 pub mod NameLaws
 pub mod NextLaws
 pub mod ShownLaws
+pub mod TracedLaws
 pub mod UnreadLaws

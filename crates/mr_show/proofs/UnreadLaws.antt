@@ -1,6 +1,7 @@
 -- Why a file was not read: what the status 6 of an answer tells.
-use Rattle.std.proofs.Common.{◌≡◌, ℕ, ◌≤◌, Bool, true, false, ap, arith, length, refl, subst, sym, ◌∙◌, List, [], ◌∷◌, ◌⊎◌, inl, inr}
-use Rattle.std.specs.Prelude.{◌==◌, if◌then◌else◌, None, Some, Option, Result, Ok, Err}
+use Rattle.std.proofs.Common.{◌≡◌, ℕ, ◌≤◌, ◌^◌, Bool, true, false, ap, arith, length, refl, subst, sym, ◌∙◌, List, []}
+use Rattle.std.proofs.Common.{◌∷◌, ◌⊎◌, inl, inr}
+use Rattle.std.specs.Prelude.{◌==◌, nat_lt, if◌then◌else◌, None, Some, Option, Result, Ok, Err}
 use Rattle.mr_ast.specs.declared.program.Program.{Program}
 use Rattle.mr_io.specs.Files.{Contents}
 use Rattle.mr_lex.specs.declared.token.TextFault.{TextFault}
@@ -28,8 +29,9 @@ use Rattle.mr_show.specs.declared.form.Part.{Part}
 use Rattle.mr_show.specs.declared.form.Saying.{Saying}
 use Rattle.mr_show.specs.declared.form.Saying.TheVariants.{Next, OfOrder, OfRun}
 use Rattle.mr_show.specs.declared.form.Filling.{Filling}
-use Rattle.mr_show.specs.Answer.{answer_of, answer_under, file_answer, next_under, part_answer, program_answer, ran_under}
-use Rattle.mr_show.specs.Answer.{run_seen, usage, why_answer}
+use Rattle.mr_show.specs.Answer.{answer_of, answer_under, bytes_answer, next_under, part_answer, program_answer}
+use Rattle.mr_show.specs.Answer.{ran_under}
+use Rattle.mr_show.specs.Answer.{run_seen, shown_answer, text_answer, usage, why_answer}
 use Rattle.mr_show.specs.Filled.{filled_answer, unless_bad}
 use Rattle.mr_show.specs.Next.{next_from, reached_answer}
 use Rattle.mr_hunt.specs.Aims.{Aim, first_met}
@@ -37,9 +39,20 @@ use Rattle.mr_show.specs.declared.form.Range.{Range}
 use Rattle.mr_show.specs.Gathered.{laid_in}
 use Rattle.mr_show.specs.Hunted.{found_answer, hunt_answer, hunted_file, hunted_program, most_in}
 use Rattle.mr_lex.specs.Reading.{lexed}
+use Rattle.mr_trace.specs.Reading.{trace_of}
+use Rattle.mr_traced.specs.declared.refusal.PlacesFault.TheVariants.{TooLong}
+use Rattle.mr_traced.specs.declared.refusal.Untold.{Untold}
+use Rattle.mr_traced.specs.declared.refusal.Untold.TheVariants as untold
+use Rattle.mr_traced.specs.Places.{named_of}
+use Rattle.mr_traced.specs.Seen.{Seen as TraceSeen, run_in, seen_bare, seen_in}
+use Rattle.mr_picture.specs.declared.span.Span.{Span}
+use Rattle.mr_show.specs.declared.form.Telling.{Telling}
+use Rattle.mr_show.specs.declared.form.Telling.TheVariants.{Steps}
 use Rattle.mr_why.specs.Why.{Entry, entry_of}
-use Rattle.mr_show.specs.Form.{Form, Help, Hunted, Shown, Why}
+use Rattle.mr_show.specs.Form.{Bare, Form, Help, Hunted, Shown, Why}
 use Rattle.mr_show.specs.Outcome.{Ends, IsPossible}
+use Rattle.mr_show.specs.Second.{AsksForSecond, HoldsTrace}
+use Rattle.mr_show.specs.Traced.{bare_answer, holds_trace, placed_answer, places_answer, seen_answer, telling_of}
 use Rattle.mr_show.specs.Unread.{IsUnreadBecause, LacksFile}
 
 -- ---- the status of an answer
@@ -132,35 +145,83 @@ why_least : (code : ℕ) (entry : Option Entry) → (why_answer code entry).stat
 why_least code None = omega arith
 why_least code (Some entry) = omega arith
 
+-- 6 only where something holds
+abbrev SixOnly : Type 0 → ℕ → Type 0
+SixOnly lacking status = status ≡ 6 → lacking
+
+only_if : (lacking : Type 0) (status : ℕ) → SixIf lacking status → SixOnly lacking status
+only_if lacking status (inl small) six = absurd (omega (arith, six, small))
+only_if lacking status (inr h) six = h.1
+
+module _ (what : Telling) where
+  traced_never : (seen : Result TraceSeen Untold) → (seen_answer what seen).status ≡ 6 → ⊥
+  traced_never (Ok s) six = races_least (length s.races == 0) six
+    where
+      races_least : (b : Bool) → SixOnly ⊥ (if b then 0 else 1)
+      races_least true e = absurd (omega (arith, e))
+      races_least false e = absurd (omega (arith, e))
+  traced_never (Err (untold.Trace at code)) six = absurd (omega (arith, six))
+  traced_never (Err (untold.Places fault)) six = absurd (omega (arith, six))
+  traced_never (Err untold.Memory) six = absurd (omega (arith, six))
+
+  placed_only : (bytes : List ℕ) (file : Option (List ℕ)) → SixOnly (file ≡ None) (placed_answer what bytes file).status
+  placed_only bytes None six = refl
+  placed_only bytes (Some text) six = absurd (by_length (nat_lt (2 ^ 28) (length text)) six)
+    where
+      by_length : (b : Bool)
+          → SixOnly ⊥
+          (if b then places_answer TooLong
+          else seen_answer what (seen_in (run_in (trace_of bytes)) (named_of text))).status
+      by_length true e = absurd (omega (arith, e))
+      by_length false e = traced_never (seen_in (run_in (trace_of bytes)) (named_of text)) e
+
+bare_only : (span : Span) (file : Option (List ℕ)) → SixOnly (file ≡ None) (bare_answer span file).status
+bare_only span None six = refl
+bare_only span (Some bytes) six =
+    absurd (traced_never (Steps span.from span.to) (seen_bare (run_in (trace_of bytes))) six)
+
+module _ (saying : Saying) (second : Option (List ℕ)) (bytes : List ℕ) where
+  text_only : (what : Option Telling)
+      → SixOnly ((AsksForSchedule (Some bytes) ⊎ HoldsTrace what (Some bytes)) × (second ≡ None))
+      (text_answer saying second bytes).status
+  text_only what six =
+      let h = only_if _ _ (text_six saying second bytes (parsed bytes) refl) six in (inl h.0, h.1)
+
+  bytes_only : (what : Option Telling)
+      → SixOnly ((AsksForSchedule (Some bytes) ⊎ HoldsTrace what (Some bytes)) × (second ≡ None))
+      (bytes_answer what saying second bytes).status
+  bytes_only None six = text_only None six
+  bytes_only (Some what) six = by_kind (holds_trace bytes) refl six
+    where
+      by_kind : (b : Bool) → holds_trace bytes ≡ b
+          → SixOnly ((AsksForSchedule (Some bytes) ⊎ HoldsTrace (Some what) (Some bytes)) × (second ≡ None))
+          (if b then placed_answer what bytes second else text_answer saying second bytes).status
+      by_kind true e s = (inr e, placed_only what bytes second s)
+      by_kind false e s = text_only (Some what) s
+
 module _ (files : Contents) where
-  shown_six : (saying : Saying) (program schedule : List ℕ) (file : Option (List ℕ)) → files program ≡ file
-      → SixIf (LacksFile files (Some (Shown saying program schedule))) (file_answer saying (files schedule) file).status
-  shown_six saying program schedule None e = inr (refl, inl e)
-  shown_six saying program schedule (Some text) e =
-      elim (text_six saying (files schedule) text (parsed text) refl) [
-        | inl small ↦ inl small
-        | inr six ↦ inr (six.0, inr (subst AsksForSchedule (sym e) six.1.0, six.1.1))
-      ]
+  shown_only : (saying : Saying) (program schedule : List ℕ) (file : Option (List ℕ)) → files program ≡ file
+      → SixOnly (LacksFile files (Some (Shown saying program schedule)))
+      (shown_answer saying (files schedule) file).status
+  shown_only saying program schedule None e six = inl e
+  shown_only saying program schedule (Some bytes) e six =
+      let h = bytes_only saying (files schedule) bytes (telling_of saying) six in
+      inr (subst (AsksForSecond saying) (sym e) h.0, h.1)
 
   hunted_six : (range : Range) (aim : Option Aim) (name program : List ℕ) (file : Option (List ℕ)) → files program ≡ file
       → SixIf (files program ≡ None) (hunted_file range aim name file).status
   hunted_six range aim name program None e = inr (refl, e)
   hunted_six range aim name program (Some text) e = inl (hunted_least range name text aim (parsed text))
 
-  answer_six : (form : Option Form) → SixIf (LacksFile files form) (answer_of files form).status
-  answer_six None = inl (omega arith)
-  answer_six (Some (Shown saying program schedule)) = shown_six saying program schedule (files program) refl
-  answer_six (Some (Hunted range aim name program)) = hunted_six range aim name program (files program) refl
-  answer_six (Some (Why code)) = inl (why_least code (entry_of code))
-  answer_six (Some (Help topic)) = inl (omega arith)
-
   -- 6 is answered only where a file isn't there
   lacks : (form : Option Form) → (answer_of files form).status ≡ 6 → LacksFile files form
-  lacks form s = go (answer_six form)
-    where
-      go : SixIf (LacksFile files form) (answer_of files form).status → LacksFile files form
-      go (inl small) = absurd (omega (arith, s, small))
-      go (inr (six, lacking)) = lacking
+  lacks None six = absurd (omega (arith, six))
+  lacks (Some (Shown saying program schedule)) six = shown_only saying program schedule (files program) refl six
+  lacks (Some (Hunted range aim name program)) six =
+      only_if _ _ (hunted_six range aim name program (files program) refl) six
+  lacks (Some (Bare span trace)) six = bare_only span (files trace) six
+  lacks (Some (Why code)) six = let least = why_least code (entry_of code) in absurd (omega (arith, least, six))
+  lacks (Some (Help topic)) six = absurd (omega (arith, six))
 
 -- ---- how a call ended
 

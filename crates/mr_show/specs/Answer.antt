@@ -1,5 +1,6 @@
 -- What a call answers by definition: a text and a status, from the words and what the files hold.
 use Rattle.std.specs.Prelude.{ℕ, ◌^◌, List, ◌++◌, codes, decimal, flat_map, length, map, Option, None, Some}
+use Rattle.std.specs.Prelude.{if◌then◌else◌}
 use Rattle.mr_ast.specs.declared.program.Program.{Program}
 use Rattle.mr_io.specs.Files.{Contents}
 use Rattle.mr_grammar.specs.Parsing.{parsed}
@@ -33,15 +34,17 @@ use Rattle.mr_show.specs.declared.form.Part.{Part}
 use Rattle.mr_show.specs.declared.form.Part.TheVariants.{Order, Picture, Races, Steps}
 use Rattle.mr_show.specs.declared.form.Saying.{Saying}
 use Rattle.mr_show.specs.declared.form.Saying.TheVariants.{Next, OfOrder, OfRun}
+use Rattle.mr_show.specs.declared.form.Telling.{Telling}
 use Rattle.mr_show.specs.declared.form.Topic.{Topic}
 use Rattle.mr_why.specs.Why.{Entry, entry_of, entry_text}
 use Rattle.mr_show.specs.Filled.{order_answer, order_in}
-use Rattle.mr_show.specs.Form.{Form, Help, Hunted, Shown, Why}
+use Rattle.mr_show.specs.Form.{Bare, Form, Help, Hunted, Shown, Why}
 use Rattle.mr_show.specs.Gathered.{gathered}
 use Rattle.mr_show.specs.Help.{help_text}
 use Rattle.mr_show.specs.Hunted.{hunted_file}
 use Rattle.mr_show.specs.Next.{next_answer}
 use Rattle.mr_show.specs.Sentences.{reason_text}
+use Rattle.mr_show.specs.Traced.{bare_answer, holds_trace, placed_answer, telling_of}
 
 -- ---- what a run tells
 
@@ -119,6 +122,19 @@ abbrev pub file_answer : Saying → Option (List ℕ) → Option (List ℕ) → 
 file_answer saying schedule None = refused refusal.ReadProgram
 file_answer saying schedule (Some text) = text_answer saying schedule text
 
+-- ---- a file that may hold a trace
+
+-- the same of the bytes of a file, which are a trace or the text of a program, where a trace may tell something
+abbrev pub bytes_answer : Option Telling → Saying → Option (List ℕ) → List ℕ → Answer
+bytes_answer None saying second bytes = text_answer saying second bytes
+bytes_answer (Some what) saying second bytes =
+    if holds_trace bytes then placed_answer what bytes second else text_answer saying second bytes
+
+-- WHAT IS SAID OF TWO FILES: of the run of a program under a schedule, or of a trace at its places
+abbrev pub shown_answer : Saying → Option (List ℕ) → Option (List ℕ) → Answer
+shown_answer saying second None = refused refusal.ReadProgram
+shown_answer saying second (Some bytes) = bytes_answer (telling_of saying) saying second bytes
+
 -- ---- the answer
 
 -- help
@@ -146,7 +162,8 @@ abbrev pub usage : Answer
 usage = record {
   text = line (
       codes "usage: steps P S [FIRST LAST] | races P S | picture P S [FIRST LAST] | order P S FIRST LAST | "
-      ++ codes "next P S | fill P O | halt P O | hunt P FROM TO M [AIM] | why CODE | --help"
+      ++ codes "races T PLACES | steps T PLACES [FIRST LAST] | steps T FIRST LAST | next P S | fill P O | halt P O | "
+      ++ codes "hunt P FROM TO M [AIM] | why CODE | --help"
       );
   status = 2;
 }
@@ -154,7 +171,8 @@ usage = record {
 -- THE ANSWER to a form over these files; words of no form are told the usage
 abbrev pub answer_of : Contents → Option Form → Answer
 answer_of files None = usage
-answer_of files (Some (Shown saying program schedule)) = file_answer saying (files schedule) (files program)
+answer_of files (Some (Shown saying program schedule)) = shown_answer saying (files schedule) (files program)
 answer_of files (Some (Hunted range aim name program)) = hunted_file range aim name (files program)
+answer_of files (Some (Bare span trace)) = bare_answer span (files trace)
 answer_of files (Some (Why code)) = why_answer code (entry_of code)
 answer_of files (Some (Help topic)) = help_answer topic

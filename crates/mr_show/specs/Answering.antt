@@ -6,16 +6,21 @@ use Rattle.mr_typing.specs.Walk.{faults_of}
 use Rattle.mr_input.specs.declared.refusal.Refusal.{Refusal}
 use Rattle.mr_input.specs.declared.refusal.Refusal.TheVariants as refusal
 use Rattle.mr_input.specs.declared.written.Written.{Written}
-use Rattle.mr_input.specs.Answer.{Tells}
+use Rattle.mr_input.specs.Answer.{IsStatus, Tells}
 use Rattle.mr_input.specs.Inputs.{holding, program_in}
 use Rattle.mr_hunt.specs.Aims.{Aim}
+use Rattle.mr_picture.specs.declared.span.Span.{Span}
 use Rattle.mr_show.specs.declared.form.Range.{Range}
 use Rattle.mr_show.specs.declared.form.Saying.{Saying}
+use Rattle.mr_show.specs.declared.form.Telling.{Telling}
 use Rattle.mr_why.specs.Why.{entry_of}
-use Rattle.mr_show.specs.Answer.{help_answer, file_answer, program_answer, text_answer, why_answer}
-use Rattle.mr_show.specs.Form.{Form, Help, Hunted, Shown, Why}
+use Rattle.mr_show.specs.Answer.{bytes_answer, help_answer, file_answer, program_answer, shown_answer, text_answer}
+use Rattle.mr_show.specs.Answer.{why_answer}
+use Rattle.mr_show.specs.Form.{Bare, Form, Help, Hunted, Shown, Why}
 use Rattle.mr_show.specs.Hunted.{hunted_file}
 use Rattle.mr_show.specs.Outcome.{over_holding}
+use Rattle.mr_show.specs.Second.{AsksForSecond, HoldsTrace}
+use Rattle.mr_show.specs.Traced.{bare_answer}
 
 -- what is said of a program; or, where it breaks no rule, the read of the schedule failed
 abbrev pub IsOfProgram : Type 0 → Saying → List ℕ → Option (List ℕ) → Program → Result Written Refusal → Type 0
@@ -39,16 +44,41 @@ IsOfFile rose saying schedule program result =
     Tells (file_answer saying schedule program) result
     ⊎ (rose × ((result ≡ Err refusal.ReadProgram) ⊎ IsScheduleUnread program result))
 
+-- the read of the second file failed, behind bytes that are a trace, or the text of a program that breaks no rule
+abbrev pub IsSecondUnread : Telling → List ℕ → Result Written Refusal → Type 0
+IsSecondUnread what bytes result =
+    IsScheduleUnread (Some bytes) result ⊎ (HoldsTrace (Some what) (Some bytes) × (result ≡ Err refusal.ReadSchedule))
+
+-- what is said of bytes, which are a trace or the text of a program; or the read of the second file failed
+abbrev pub IsOfBytes : Type 0 → Telling → Saying → Option (List ℕ) → List ℕ → Result Written Refusal → Type 0
+IsOfBytes rose what saying second bytes result =
+    Tells (bytes_answer (Some what) saying second bytes) result ⊎ (rose × IsSecondUnread what bytes result)
+
+-- what is said of two files, or a read failed: that of the first, or that of the second, where that is read
+abbrev pub IsOfFiles : Type 0 → Saying → Option (List ℕ) → Option (List ℕ) → Result Written Refusal → Type 0
+IsOfFiles rose saying second first result =
+    Tells (shown_answer saying second first) result
+    ⊎ (rose × ((result ≡ Err refusal.ReadProgram) ⊎ (AsksForSecond saying first × (result ≡ Err refusal.ReadSchedule))))
+
+-- the steps of the trace in a file; or its read failed
+abbrev pub IsBare : Type 0 → Span → Option (List ℕ) → Result Written Refusal → Type 0
+IsBare rose span file result = Tells (bare_answer span file) result ⊎ (rose × (result ≡ Err refusal.ReadTrace))
+
 -- what a hunt tells over a file; or its read failed
 abbrev pub IsHunted : Type 0 → Range → Option Aim → List ℕ → Option (List ℕ) → Result Written Refusal → Type 0
 IsHunted rose range aim name file result =
     Tells (hunted_file range aim name file) result ⊎ (rose × (result ≡ Err refusal.ReadProgram))
 
+-- the status of an answer, or that of a fault of places
+abbrev pub IsShownStatus : ℕ → Type 0
+IsShownStatus status = IsStatus status ⊎ (status ≡ 9)
+
 -- how a form is answered
 abbrev pub IsAnswered : Contents → Form → Type 0 → Result Written Refusal → Type 0
 IsAnswered files (Shown saying program schedule) rose result =
-    IsOfFile rose saying (files schedule) (files program) result
+    IsOfFiles rose saying (files schedule) (files program) result
 IsAnswered files (Hunted range aim name program) rose result = IsHunted rose range aim name (files program) result
+IsAnswered files (Bare span trace) rose result = IsBare rose span (files trace) result
 IsAnswered files (Why code) rose result = Tells (why_answer code (entry_of code)) result
 IsAnswered files (Help topic) rose result = Tells (help_answer topic) result
 

@@ -1,5 +1,6 @@
 -- The words behind the program's name.
-use Rattle.std.specs.Prelude.{ℕ, ◌+◌, ◌-◌, ◌^◌, ◌||◌, Bool, false, nat_le, List, [], ◌∷◌, Option, None, Some, bytes_eq, codes}
+use Rattle.std.specs.Prelude.{ℕ, ◌+◌, ◌-◌, ◌^◌, ◌||◌, Bool, false, nat_le, List, [], ◌∷◌, Option, None, Some, bytes_eq}
+use Rattle.std.specs.Prelude.{codes}
 use Rattle.std.specs.Prelude.{if◌then◌else◌}
 use Rattle.std.specs.List.{list_any, range_with_len}
 use Rattle.std.specs.Option.{option_map}
@@ -16,16 +17,19 @@ use Rattle.mr_show.specs.declared.form.Saying.{Saying}
 use Rattle.mr_show.specs.declared.form.Saying.TheVariants.{Next, OfOrder, OfRun}
 use Rattle.mr_show.specs.declared.form.Filling.TheVariants.{Halt, Schedule}
 use Rattle.mr_show.specs.declared.form.Topic.{Topic}
-use Rattle.mr_show.specs.declared.form.Topic.TheVariants.{Everything, OfFill, OfHunt, OfNext, OfPicture, OfRaces, OfSteps}
+use Rattle.mr_show.specs.declared.form.Topic.TheVariants.{Everything, OfFill, OfHunt, OfNext, OfPicture, OfRaces}
+use Rattle.mr_show.specs.declared.form.Topic.TheVariants.{OfSteps}
 use Rattle.mr_show.specs.declared.form.Topic.TheVariants.{OfOrdered, OfWhy}
 
--- What is asked for: what is said of the run of the program in one file under the schedule in another, which is a part of
--- it, its steps from one number up to another, its races by pairs of places or a picture of it, or how it can go on; or
--- what the order in another becomes, which is a schedule, or where it can't go on; which ends the runs of some numbers
--- have, or the first of these runs that has what is looked for; what is said of a code; or help.
+-- What is asked for: what is said of the run of the program in one file under the schedule in another, which is a part
+-- of it, its steps from one number up to another, its races by pairs of places or a picture of it, or how it can go on;
+-- or what the order in another becomes, which is a schedule, or where it can't go on; which ends the runs of some
+-- numbers have, or the first of these runs that has what is looked for; the steps of a trace; what is said of a code;
+-- or help.
 pub data Form : Type 0 where
   Shown : (saying : Saying) (program schedule : List ℕ) → Form
   Hunted : (range : Range) (aim : Option Aim) (name program : List ℕ) → Form
+  Bare : (span : Span) (trace : List ℕ) → Form
   Why : (code : ℕ) → Form
   Help : (topic : Topic) → Form
 
@@ -78,6 +82,11 @@ shown_of program schedule part = Shown (OfRun part) program schedule
 abbrev pub part_of : List ℕ → List ℕ → List ℕ → Option Span → Option Form
 part_of word program schedule None = None
 part_of word program schedule (Some span) = option_map (shown_of program schedule) (spanned word span)
+
+-- the steps of a trace between two numbers
+abbrev pub bare_of : List ℕ → List ℕ → Option Span → Option Form
+bare_of word trace None = None
+bare_of word trace (Some span) = if bytes_eq word (codes "steps") then Some (Bare span trace) else None
 
 -- numbers from one to another, and how many entries the schedules have at most that are drawn from them
 abbrev pub range_of : Option ℕ → Option ℕ → Option ℕ → Option Range
@@ -149,15 +158,18 @@ long_form word program third fourth fifth (aim ∷ text ∷ []) =
     aimed_of word program (word_range third fourth fifth) (two_aim aim text)
 long_form word program third fourth fifth _ = None
 
--- `steps P S`, `steps P S FIRST LAST`, `races P S`, `picture P S`, `picture P S FIRST LAST`, `order P S FIRST LAST` and
--- `next P S`, where FIRST and LAST are below 2^32; `fill P O` and `halt P O`; `hunt P FROM TO M`, where FROM is at most TO,
--- both are below 2^64, and M is at most 2^20, and an aim behind it; `why CODE`, where CODE is below 2^16; `--help`, and that
--- behind `steps`, `races`, `picture`, `order`, `next`, `fill`, `halt`, `hunt` or `why`; and no other form
+-- `steps P S`, `steps P S FIRST LAST`, `races P S`, `picture P S`, `picture P S FIRST LAST`, `order P S FIRST LAST`,
+-- `next P S` and `steps T FIRST LAST`, where FIRST and LAST are below 2^32; `fill P O` and `halt P O`;
+-- `hunt P FROM TO M`, where FROM is at most TO, both are below 2^64, and M is at most 2^20, and an aim behind it;
+-- `why CODE`, where CODE is below 2^16; `--help`, and that behind `steps`, `races`, `picture`, `order`, `next`, `fill`,
+-- `halt`, `hunt` or `why`; and no other form
 abbrev pub form_of : List (List ℕ) → Option Form
 form_of (word ∷ []) = if bytes_eq word (codes "--help") then Some (Help Everything) else None
 form_of (word ∷ option ∷ []) =
     if bytes_eq option (codes "--help") then help_of word else why_of word (number_below (2 ^ 16) option)
 form_of (word ∷ program ∷ schedule ∷ []) = whole_of word program schedule
+form_of (word ∷ trace ∷ first ∷ last ∷ []) =
+    bare_of word trace (span_of (number_below (2 ^ 32) first) (number_below (2 ^ 32) last))
 form_of (word ∷ program ∷ third ∷ fourth ∷ fifth ∷ rest) = long_form word program third fourth fifth rest
 form_of _ = None
 
@@ -165,5 +177,6 @@ form_of _ = None
 abbrev pub asked : Words → Form
 asked (words.Shown saying program schedule) = Shown saying program.now schedule.now
 asked (words.Hunted range aim program) = Hunted range (option_map aim_of aim) program.now program.now
+asked (words.Bare span trace) = Bare span trace.now
 asked (words.Why code) = Why code
 asked (words.Help topic) = Help topic

@@ -2,8 +2,8 @@
 use Rattle.std.specs.Prelude.{ℕ, List, ◌++◌, codes}
 use Rattle.mr_report.specs.Report.{line}
 use Rattle.mr_show.specs.declared.form.Topic.{Topic}
-use Rattle.mr_show.specs.declared.form.Topic.TheVariants.{Everything, OfFill, OfHunt, OfNext, OfPicture, OfRaces, OfSteps}
-use Rattle.mr_show.specs.declared.form.Topic.TheVariants.{OfOrdered, OfWhy}
+use Rattle.mr_show.specs.declared.form.Topic.TheVariants.{Everything, OfFill, OfHunt, OfNext, OfOrdered, OfPicture}
+use Rattle.mr_show.specs.declared.form.Topic.TheVariants.{OfRaces, OfSteps, OfWhy}
 
 -- with each form
 abbrev pub help_text : Topic → List ℕ
@@ -12,15 +12,28 @@ help_text Everything =
     ++ line (codes "mirace_show races P S                the races of a run by pairs of places")
     ++ line (codes "mirace_show picture P S [FIRST LAST] a picture of a run, as an SVG document")
     ++ line (codes "mirace_show order P S FIRST LAST     how two steps of a run are ordered, edge by edge")
+    ++ line (codes "mirace_show races T PLACES           the races of a trace by pairs of places")
+    ++ line (
+    codes "mirace_show steps T PLACES           the steps of a trace, each at its place; "
+    ++ codes "FIRST LAST may stand behind it"
+    )
+    ++ line (codes "mirace_show steps T FIRST LAST       steps of a trace, without places")
     ++ line (
     codes "mirace_show next P S                 what each thread would do next, or the "
     ++ codes "entry that breaks a rule"
     )
     ++ line (codes "mirace_show fill P O                 the schedule that an order of threads becomes")
     ++ line (codes "mirace_show halt P O                 where that order can't go on")
-    ++ line (codes "mirace_show hunt P FROM TO M [AIM]   how many drawn runs end in each way, or the first that has AIM")
+    ++ line (
+    codes "mirace_show hunt P FROM TO M [AIM]   how many drawn runs end in each way, or the "
+    ++ codes "first that has AIM"
+    )
     ++ line (codes "mirace_show why CODE                 what is said of a code of a rule, a fault or a reason")
-    ++ line (codes "P is the file of a program, S that of a schedule, and O that of an order.")
+    ++ line (
+    codes "P is the file of a program, S that of a schedule, O that of an order, T that of "
+    ++ codes "a trace, and PLACES that"
+    )
+    ++ line (codes "of the places of its steps.")
     ++ line (
     codes "With --help behind one of the words steps, races, picture, order, next, fill, halt, "
     ++ codes "hunt and why it tells more."
@@ -42,6 +55,19 @@ help_text OfSteps =
     ++ line (codes "races. At the end stand the verdict, how many races there are, how the threads stand where no step")
     ++ line (codes "stopped the run, which blocks a leak has left, for which reason a run is undefined, and of which")
     ++ line (codes "allocation that reason speaks. With FIRST and LAST only those steps are written.")
+    ++ line (codes "mirace_show steps T PLACES [FIRST LAST] | steps T FIRST LAST")
+    ++ line (
+    codes "Writes a line for each step of the trace in file T, which begins with MRTR: its "
+    ++ codes "number, its thread, and the"
+    )
+    ++ line (
+    codes "place and the variable that file PLACES tells of it. Below it stand what it did "
+    ++ codes "to locks and threads, what"
+    )
+    ++ line (
+    codes "it loaded and stored, and the steps with which it races. At the end stands how "
+    ++ codes "many races there are."
+    )
 help_text OfRaces =
     line (codes "mirace_show races P S")
     ++ line (
@@ -51,6 +77,15 @@ help_text OfRaces =
     ++ line (
     codes "which steps race, those with most races first, with how many races there are "
     ++ codes "and the steps of the first."
+    )
+    ++ line (codes "mirace_show races T PLACES")
+    ++ line (
+    codes "Writes the same of the trace in file T, which begins with MRTR, by the places "
+    ++ codes "that file PLACES tells of its"
+    )
+    ++ line (
+    codes "steps. Below each two places stand the two steps of the first race, with what "
+    ++ codes "they loaded and stored."
     )
 help_text OfPicture =
     line (codes "mirace_show picture P S [FIRST LAST]")

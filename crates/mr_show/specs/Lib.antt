@@ -8,5 +8,7 @@ pub mod Hunted
 pub mod Next
 pub mod Outcome
 pub mod Reached
+pub mod Second
 pub mod Sentences
+pub mod Traced
 pub mod Unread

@@ -1,21 +1,22 @@
 -- How a call ends, whatever the files and the sink do.
-use Rattle.std.specs.Prelude.{◌≡◌, ℕ, ◌⊎◌, List, [], Option, None, Some, Ok, codes}
-use Rattle.mr_ast.specs.declared.program.Program.{Program}
+use Rattle.std.specs.Prelude.{◌≡◌, ℕ, ◌⊎◌, List, Option, None, Some, codes}
 use Rattle.mr_io.specs.Files.{Contents}
-use Rattle.mr_typing.specs.Walk.{faults_of}
 use Rattle.mr_input.specs.declared.refusal.Refusal.TheVariants as refusal
 use Rattle.mr_input.specs.Answer.{Answer, refused}
-use Rattle.mr_input.specs.Inputs.{holding, program_in}
+use Rattle.mr_input.specs.Inputs.{holding}
 use Rattle.mr_input.specs.Writing.{IsLeft, IsWritten}
 use Rattle.mr_show.specs.Answer.{answer_of, usage}
-use Rattle.mr_show.specs.Form.{Form, Help, Hunted, Shown, Why}
+use Rattle.mr_show.specs.Form.{Bare, Form, Help, Hunted, Shown, Why}
+use Rattle.mr_show.specs.Second.{AsksForSecond}
 
--- A read failed, which is counted: that of the program, or that of the schedule behind a program that breaks no rule.
+-- A read failed, which is counted: that of the first file, or that of the second behind a program that breaks no rule
+-- or a trace.
 abbrev pub IsUnread : Contents → Form → Answer → Type 0
 IsUnread files (Shown saying program schedule) a =
     (a ≡ refused refusal.ReadProgram)
-    ⊎ ((p : Program) × (program_in (files program) ≡ Ok p) × (faults_of p ≡ []) × (a ≡ refused refusal.ReadSchedule))
+    ⊎ (AsksForSecond saying (files program) × (a ≡ refused refusal.ReadSchedule))
 IsUnread files (Hunted range aim name program) a = a ≡ refused refusal.ReadProgram
+IsUnread files (Bare span trace) a = a ≡ refused refusal.ReadTrace
 IsUnread files (Why code) a = ⊥
 IsUnread files (Help topic) a = ⊥
 
@@ -37,6 +38,7 @@ Ends files (Some form) files_rose out_rose old new status =
 abbrev pub over_holding : Form → Form
 over_holding (Shown saying program schedule) = Shown saying (codes "program") (codes "schedule")
 over_holding (Hunted range aim name program) = Hunted range aim name (codes "program")
+over_holding (Bare span trace) = Bare span (codes "program")
 over_holding (Why code) = Why code
 over_holding (Help topic) = Help topic
 

@@ -1,16 +1,16 @@
 -- Why a file was not read.
 use Rattle.std.specs.Prelude.{◌≡◌, ◌⊎◌, Option, None, Some}
 use Rattle.mr_io.specs.Files.{Contents}
-use Rattle.mr_input.specs.Inputs.{AsksForSchedule}
-use Rattle.mr_show.specs.Form.{Form, Help, Hunted, Shown, Why}
+use Rattle.mr_show.specs.Form.{Bare, Form, Help, Hunted, Shown, Why}
+use Rattle.mr_show.specs.Second.{AsksForSecond}
 
--- A file that the form names isn't there: that of the program, or that of the schedule, behind a program that breaks no
--- rule.
+-- A file that the form names isn't there: the first, or the second, behind a program that breaks no rule or a trace.
 abbrev pub LacksFile : Contents → Option Form → Type 0
 LacksFile files None = ⊥
 LacksFile files (Some (Shown saying program schedule)) =
-    (files program ≡ None) ⊎ (AsksForSchedule (files program) × (files schedule ≡ None))
+    (files program ≡ None) ⊎ (AsksForSecond saying (files program) × (files schedule ≡ None))
 LacksFile files (Some (Hunted range aim name program)) = files program ≡ None
+LacksFile files (Some (Bare span trace)) = files trace ≡ None
 LacksFile files (Some (Why code)) = ⊥
 LacksFile files (Some (Help topic)) = ⊥
 

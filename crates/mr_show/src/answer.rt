@@ -6,13 +6,13 @@ ghost use Rattle.mr_input.specs.Answer.{IsStatus, Tells};
 ghost use Rattle.mr_input.specs.Inputs.{IsUnreadFault};
 ghost use Rattle.mr_why.specs.Why.{entry_in, entry_of};
 ghost use Rattle.mr_show.specs.Answer.{help_answer, said_answer, unsaid_answer, why_answer};
-ghost use Rattle.mr_show.specs.Answering.{IsAnswered, IsAnsweredOverTexts};
+ghost use Rattle.mr_show.specs.Answering.{IsAnswered, IsAnsweredOverTexts, IsShownStatus};
 ghost use Rattle.mr_show.specs.Form.{asked};
 
 use crate::form::{Form, Topic};
 use crate::help::help_text;
 use crate::hunted::hunted_file;
-use crate::shown::shown_file;
+use crate::traced::{bare_file, shown_files};
 use mr_input::{Refusal, Written, push_number};
 use mr_io::Files;
 use mr_why::{Why, entry};
@@ -29,7 +29,7 @@ pub(crate) fn answer<F: Files>(
     ensures faults { F.faults files.old ≤ F.faults files.new }
     ensures answer { (contents : Contents) → F.told files.old ≡ Some contents
         → IsAnswered contents (asked form.entry) (Rose (F.faults files.old) (F.faults files.new)) result }
-    ensures status { IfOk result (λ a. IsStatus a.status) }
+    ensures status { IfOk result (λ a. IsShownStatus a.status) }
     ensures texts { F.told files.old ≡ None
         → IsAnsweredOverTexts (asked form.entry) (Rose (F.faults files.old) (F.faults files.new)) result }
     ensures untold { F.told files.old ≡ None → IsUnreadFault result
@@ -40,12 +40,13 @@ pub(crate) fn answer<F: Files>(
             saying,
             program,
             schedule,
-        } => shown_file(alloc, files, saying, program, schedule),
+        } => shown_files(alloc, files, saying, program, schedule),
         Form::Hunted {
             range,
             aim,
             program,
         } => hunted_file(alloc, files, range, aim, program),
+        Form::Bare { span, trace } => bare_file(alloc, files, span, trace),
         Form::Why { code } => explained(alloc, code),
         Form::Help { topic } => help(alloc, topic),
     }

@@ -3,8 +3,9 @@ ghost use Rattle.std.specs.Prelude.{◌≡◌, [], ◌∷◌, ◌+◌, ◌^◌, 
 ghost use Rattle.std.specs.Option.{option_map};
 ghost use Rattle.mr_input.specs.Numbers.{number_below};
 ghost use Rattle.mr_hunt.specs.Aims.{Named, aim_of};
-ghost use Rattle.mr_show.specs.Form.{Why, aimed_of, asked, form_of, help_of, hunt_of, is_name_of, is_reason, is_verdict};
-ghost use Rattle.mr_show.specs.Form.{lines_from, long_form, part_of, span_of, spanned, two_aim, whole_of, why_of, word_aim, word_range};
+ghost use Rattle.mr_show.specs.Form.{Why, aimed_of, asked, bare_of, form_of, help_of, hunt_of, is_name_of};
+ghost use Rattle.mr_show.specs.Form.{is_reason, is_verdict, lines_from, long_form, part_of, span_of, spanned};
+ghost use Rattle.mr_show.specs.Form.{two_aim, whole_of, why_of, word_aim, word_range};
 ghost use Rattle.mr_why.specs.Why.{entry_of};
 
 use mr_hunt::Aim;
@@ -45,6 +46,15 @@ pub enum Saying {
     OfOrder(Filling),
 }
 
+/// What is told of a trace.
+#[derive(Clone, Copy)]
+pub enum Telling {
+    /// Its races by pairs of places.
+    Races,
+    /// Its steps from one number up to another, counted from 0, the last one left out.
+    Steps { from: usize, to: usize },
+}
+
 /// What help is asked for: with all forms, or with one.
 #[derive(Clone, Copy)]
 pub enum Topic {
@@ -81,6 +91,11 @@ pub enum Form<'a> {
         range: Range,
         aim: Option<Aim<'a>>,
         program: &'a str,
+    },
+    /// The steps of a trace, without places.
+    Bare {
+        span: Span,
+        trace: &'a str,
     },
     /// What is said of a code.
     Why {
@@ -216,6 +231,18 @@ fn part_of<'a>(
         program,
         schedule,
     })
+}
+
+// `steps T FIRST LAST`.
+fn bare_of<'a>(word: &str, trace: &'a str, first: &str, last: &str) -> Option<Form<'a>>
+    ensures { option_map asked result ≡ bare_of word.now trace.now
+        (span_of (number_below (2 ^ 32) first.now) (number_below (2 ^ 32) last.now)) }
+{
+    let span = span_of(first, last)?;
+    match word {
+        "steps" => Some(Form::Bare { span, trace }),
+        _ => None,
+    }
 }
 
 // The numbers from one of these words to another, and the most entries that the third tells.
@@ -411,10 +438,10 @@ fn two_form<'a>(word: &str, option: &str) -> Option<Form<'a>>
     }
 }
 
-/// The form of these words: `steps P S`, `steps P S FIRST LAST`, `races P S`, `picture P S`, `picture P S FIRST LAST`,
-/// `order P S FIRST LAST`, `next P S`, `fill P O`, `halt P O`, `hunt P FROM TO M` and that with an aim, `why CODE`,
-/// `--help`, or one of the words `steps`, `races`, `picture`, `order`, `next`, `fill`, `halt`, `hunt` and `why` with
-/// `--help` behind it.
+/// The form of these words: `steps P S`, `steps P S FIRST LAST`, `races P S`, `picture P S`,
+/// `picture P S FIRST LAST`, `order P S FIRST LAST`, `next P S`, `steps T FIRST LAST`, `fill P O`, `halt P O`,
+/// `hunt P FROM TO M` and that with an aim, `why CODE`, `--help`, or one of the words `steps`, `races`, `picture`,
+/// `order`, `next`, `fill`, `halt`, `hunt` and `why` with `--help` behind it.
 pub fn form_of(words: &[String]) -> Option<Form<'_>>
     ensures { option_map asked result ≡ form_of (map string_bytes words.now) }
 {
@@ -425,7 +452,9 @@ pub fn form_of(words: &[String]) -> Option<Form<'_>>
         [word, program, schedule] => {
             whole_of(word.as_str(), program.as_str(), schedule.as_str())
         }
-        [_, _, _, _] => None,
+        [word, trace, first, last] => {
+            bare_of(word.as_str(), trace.as_str(), first.as_str(), last.as_str())
+        }
         [word, program, third, fourth, fifth, rest @ ..] => long_form(
             word.as_str(),
             program.as_str(),

@@ -9,12 +9,16 @@ mirace_show steps P S [FIRST LAST]   the steps of a run, each at its place in th
 mirace_show races P S                the races of a run by pairs of places
 mirace_show picture P S [FIRST LAST] a picture of a run, as an SVG document
 mirace_show order P S FIRST LAST     how two steps of a run are ordered, edge by edge
+mirace_show races T PLACES           the races of a trace by pairs of places
+mirace_show steps T PLACES           the steps of a trace, each at its place; FIRST LAST may stand behind it
+mirace_show steps T FIRST LAST       steps of a trace, without places
 mirace_show next P S                 what each thread would do next, or the entry that breaks a rule
 mirace_show fill P O                 the schedule that an order of threads becomes
 mirace_show halt P O                 where that order can't go on
 mirace_show hunt P FROM TO M [AIM]   how many drawn runs end in each way, or the first that has AIM
 mirace_show why CODE                 what is said of a code of a rule, a fault or a reason
-P is the file of a program, S that of a schedule, and O that of an order.
+P is the file of a program, S that of a schedule, O that of an order, T that of a trace, and PLACES that
+of the places of its steps.
 With --help behind one of the words steps, races, picture, order, next, fill, halt, hunt and why it tells more.
 ";
 
@@ -26,12 +30,19 @@ it printed, what it did to locks and threads, what it loaded and stored, and the
 races. At the end stand the verdict, how many races there are, how the threads stand where no step
 stopped the run, which blocks a leak has left, for which reason a run is undefined, and of which
 allocation that reason speaks. With FIRST and LAST only those steps are written.
+mirace_show steps T PLACES [FIRST LAST] | steps T FIRST LAST
+Writes a line for each step of the trace in file T, which begins with MRTR: its number, its thread, and the
+place and the variable that file PLACES tells of it. Below it stand what it did to locks and threads, what
+it loaded and stored, and the steps with which it races. At the end stands how many races there are.
 ";
 
 const OF_RACES: &[u8] = b"\
 mirace_show races P S
 Runs the program in file P under the schedule in file S, and writes a line for each two places of P at
 which steps race, those with most races first, with how many races there are and the steps of the first.
+mirace_show races T PLACES
+Writes the same of the trace in file T, which begins with MRTR, by the places that file PLACES tells of its
+steps. Below each two places stand the two steps of the first race, with what they loaded and stored.
 ";
 
 const OF_PICTURE: &[u8] = b"\

@@ -52,8 +52,8 @@ pub(crate) fn shown_file<F: Files>(
     }
 }
 
-// The same of the program that a text denotes.
-fn shown_text<F: Files>(
+/// The same of the program that a text denotes.
+pub(crate) fn shown_text<F: Files>(
     alloc: Global,
     files: &mut F,
     saying: Saying,

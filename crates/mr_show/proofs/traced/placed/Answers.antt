@@ -1,0 +1,27 @@
+use Rattle.std.proofs.Common.{subst}
+use Rattle.mr_input.specs.Answer.{Answer, Tells}
+use Rattle.mr_trace.specs.Reading.{trace_of}
+use Rattle.mr_traced.specs.Places.{named_of}
+use Rattle.mr_traced.specs.Races.{IsRacesText}
+use Rattle.mr_traced.specs.Seen.{run_in, seen_in}
+use Rattle.mr_show.specs.declared.form.Telling.TheVariants.{Races, Steps}
+use Rattle.mr_show.specs.Traced.{IsTextOf}
+use Rattle.mr_show.proofs.TracedLaws.{short_text, told_as}
+use Rattle.mr_show.proofs.traced.placed.Goals as goal
+
+pub returns-in-Races-clause-answer : goal.returns-in-Races-clause-answer
+returns-in-Races-clause-answer c =
+    rw c.in-Races.is
+    (subst (λ (a : Answer). Tells a c.said.result)
+    (short_text Races c.args.trace.now c.args.places.now c.if-places-gt-MAX_BYTES.false)
+    (c.said.ensures.answer Races (seen_in (run_in (trace_of c.args.trace.now)) (named_of c.args.places.now))
+    (told_as IsRacesText (IsTextOf Races) (λ s text h. h.1) c.races.result
+    (seen_in (run_in (trace_of c.args.trace.now)) (named_of c.args.places.now)) c.races.ensures.exact)))
+
+pub returns-in-Steps-clause-answer : goal.returns-in-Steps-clause-answer
+returns-in-Steps-clause-answer c =
+    rw c.in-Steps.is
+    (subst (λ (a : Answer). Tells a c.said-in-Steps.result)
+    (short_text (Steps c.in-Steps.from c.in-Steps.to) c.args.trace.now c.args.places.now c.if-places-gt-MAX_BYTES.false)
+    (c.said-in-Steps.ensures.answer (Steps c.in-Steps.from c.in-Steps.to)
+    (seen_in (run_in (trace_of c.args.trace.now)) (named_of c.args.places.now)) c.steps.ensures.exact))

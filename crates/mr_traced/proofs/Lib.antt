@@ -1,0 +1,7 @@
+pub mod Chains
+pub mod CountLaws
+mod Examples
+pub mod GroupLaws
+pub mod Made
+pub mod MapLaws
+pub mod OneGroup

@@ -1,0 +1,11 @@
+use Rattle.std.proofs.Common.{◌≡◌, take}
+use Rattle.std.specs.BTreeMap.{get}
+use Rattle.mr_traced.specs.declared.count.Both.{Both}
+use Rattle.mr_traced.specs.Groups.{both_cmp, group_at}
+use Rattle.mr_traced.specs.Seen.{seen}
+use Rattle.mr_traced.proofs.count.counted.Given as goal
+
+-- the races before this one are counted
+abbrev pub invariant-loop-pair : goal.invariant-loop-pair
+invariant-loop-pair l =
+    (q : Both) → get both_cmp l.groups q ≡ group_at (seen l.shown) q (take l.pair-index (seen l.shown).races)

@@ -1,0 +1,9 @@
+use Rattle.std.specs.Prelude.{◌≡◌, ◌++◌, flat_map, take}
+use Rattle.mr_traced.specs.Races.{group_text}
+use Rattle.mr_traced.specs.Seen.{seen}
+use Rattle.mr_traced.proofs.pairing.push_each_group.Given as goal
+
+-- the groups before this one are written
+abbrev pub invariant-loop-group : goal.invariant-loop-group
+invariant-loop-group l =
+    l.out.items ≡ l.fn.out.items ++ flat_map (group_text (seen l.shown)) (take l.group-index l.groups)
