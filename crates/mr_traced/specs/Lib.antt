@@ -1,4 +1,5 @@
 pub mod Answers
+pub mod Drawn
 pub mod Faults
 pub mod Groups
 pub mod Names

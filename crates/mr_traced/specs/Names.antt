@@ -27,6 +27,11 @@ abbrev pub variable_text : Seen → Option ℕ → List ℕ
 variable_text s None = []
 variable_text s (Some variable) = codes "  " ++ name_text s variable
 
+-- a site by itself
+abbrev pub spot_text : Seen → Option Site → List ℕ
+spot_text s None = []
+spot_text s (Some site) = name_text s site.place ++ variable_text s site.variable
+
 -- a site behind a step: its place, and the variable
 abbrev pub site_text : Seen → Option Site → List ℕ
 site_text s None = []

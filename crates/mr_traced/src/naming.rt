@@ -1,6 +1,7 @@
 //! Names of places and variables, as they are written.
 ghost use Rattle.std.specs.Prelude.{◌≡◌, ◌++◌, OnOk, map, option_copied, slice_get};
-ghost use Rattle.mr_traced.specs.Names.{name_text, place_text, shown_byte, shown_name, site_text, variable_text};
+ghost use Rattle.mr_traced.specs.Names.{name_text, place_text, shown_byte, shown_name, site_text, spot_text};
+ghost use Rattle.mr_traced.specs.Names.{variable_text};
 ghost use Rattle.mr_traced.specs.Seen.{seen};
 
 use crate::OutOfMemory;
@@ -87,6 +88,23 @@ fn push_variable(
         Some(variable) => {
             out.extend_from_slice(b"  ")?;
             push_name_of(out, shown, variable)
+        }
+        None => Ok(()),
+    }
+}
+
+/// Appends a site by itself: its place, and the variable.
+pub(crate) fn push_spot_of(
+    out: &mut Vec<u8>,
+    shown: &Shown<'_>,
+    site: Option<Site>,
+) -> Result<(), OutOfMemory>
+    ensures { OnOk result (out.new.items ≡ out.old.items ++ spot_text (seen shown.now) site) }
+{
+    match site {
+        Some(site) => {
+            push_name_of(out, shown, site.place)?;
+            push_variable(out, shown, site.variable)
         }
         None => Ok(()),
     }

@@ -1,10 +1,11 @@
 //! What is told of the bytes of a trace, and of its places.
-ghost use Rattle.std.specs.Prelude.{◌≡◌, ℕ, List, IfOk, Ok, bytes_eq, codes, length, option_copied, take};
+ghost use Rattle.std.specs.Prelude.{◌≡◌, ◌<◌, ◌≤◌, ◌^◌, ℕ, List, IfOk, Ok, bytes_eq, codes, length, option_copied, take};
 ghost use Rattle.mr_event.specs.Footprint.{Footprint};
 ghost use Rattle.mr_event.specs.Predicted.{predicted};
 ghost use Rattle.mr_trace.specs.Reading.{trace_of};
 ghost use Rattle.mr_trace.specs.Spelling.{Traces};
 ghost use Rattle.mr_traced.specs.Answers.{Answers, Tells};
+ghost use Rattle.mr_traced.specs.Drawn.{IsPictureText};
 ghost use Rattle.mr_traced.specs.Places.{named, named_of};
 ghost use Rattle.mr_traced.specs.Races.{IsRacesText};
 ghost use Rattle.mr_traced.specs.Seen.{fitting, run_in, seen_bare, seen_in, seen_maybe, seen_of};
@@ -12,11 +13,13 @@ ghost use Rattle.mr_traced.specs.Steps.{IsStepsText};
 
 use crate::OutOfMemory;
 use crate::body::steps_text;
+use crate::drawn::picture_text;
 use crate::form::{Places, read_places};
 use crate::pairing::races_text;
 use crate::refusal::{PlacesFault, Untold};
 use mr_clocks::predicted_by_clocks;
 use mr_event::Footprint;
+use mr_picture::Span;
 use mr_trace::{TraceFault, decode};
 use std::alloc::Global;
 
@@ -71,9 +74,32 @@ pub fn steps(
     }
 }
 
+/// A picture of steps of a trace, of those that are asked for or, without any, of those about its first race; or why
+/// there is none. A `Span` has the numbers from one up to another, counted from 0, the last one left out.
+pub fn picture(
+    alloc: Global,
+    trace: &[u8],
+    places: Option<&[u8]>,
+    asked: Option<Span>,
+) -> Result<Told, Untold>
+    // What the bytes give, computed.
+    ensures exact { Tells (IsPictureText asked) result
+        (seen_maybe (run_in (trace_of trace.now)) (option_copied places.entry)) }
+
+    // Of bytes that spell a run it is that run.
+    ensures spelled { (run : List Footprint) → Traces trace.now run
+        → Tells (IsPictureText asked) result (seen_maybe (Ok run) (option_copied places.entry)) }
+{
+    match places {
+        Some(text) => picture_placed(alloc, trace, text, asked),
+        None => picture_bare(alloc, trace, asked),
+    }
+}
+
 // The run of a trace.
 fn run_of(alloc: Global, trace: &[u8]) -> Result<Vec<Footprint>, Untold>
-    ensures { Answers (λ v. v.items) result (run_in (trace_of trace.now)) }
+    ensures run { Answers (λ v. v.items) result (run_in (trace_of trace.now)) }
+    ensures few { IfOk result (λ v. length v.items ≤ 2 ^ 22) }
 {
     match decode(alloc, trace) {
         Ok(run) => Ok(run),
@@ -162,6 +188,51 @@ fn steps_of(
     let listed = races.as_slice();
     let shown = places.shown(run, listed);
     let text = steps_text(alloc, &shown, from, to)?;
+    Ok(Told {
+        text,
+        races: listed.len(),
+    })
+}
+
+#[tactic(auto, unfolding(crate::specs::Seen::seen_in))]
+fn picture_placed(
+    alloc: Global,
+    trace: &[u8],
+    places: &[u8],
+    asked: Option<Span>,
+) -> Result<Told, Untold>
+    ensures { Tells (IsPictureText asked) result (seen_in (run_in (trace_of trace.now)) (named_of places.now)) }
+{
+    let run = run_of(alloc, trace)?;
+    let places = read_places(alloc, places)?;
+    fits(&places, run.as_slice())?;
+    Ok(picture_of(alloc, run.as_slice(), &places, asked)?)
+}
+
+#[tactic(auto, unfolding(crate::specs::Seen::seen_bare))]
+fn picture_bare(alloc: Global, trace: &[u8], asked: Option<Span>) -> Result<Told, Untold>
+    ensures { Tells (IsPictureText asked) result (seen_bare (run_in (trace_of trace.now))) }
+{
+    let run = run_of(alloc, trace)?;
+    let places = Places::none(alloc);
+    Ok(picture_of(alloc, run.as_slice(), &places, asked)?)
+}
+
+// The picture of a run at these places.
+fn picture_of(
+    alloc: Global,
+    run: &[Footprint],
+    places: &Places<'_>,
+    asked: Option<Span>,
+) -> Result<Told, OutOfMemory>
+    requires { length run.now < 2 ^ 32 }
+    ensures { IfOk result (λ told. IsPictureText asked (seen_of run.now (named places.now)) told.text.items
+        × (told.races ≡ length (predicted run.now))) }
+{
+    let races = predicted_by_clocks(alloc, run)?;
+    let listed = races.as_slice();
+    let shown = places.shown(run, listed);
+    let text = picture_text(alloc, &shown, asked)?;
     Ok(Told {
         text,
         races: listed.len(),

@@ -9,5 +9,5 @@ pub returns : goal.returns
 returns c =
     told_bare (IsStepsText c.args.from c.args.to) c.in_ok-steps_of.field-0 (run_in (trace_of c.args.trace.now))
     c.in_ok-run.run'.items
-    c.as_slice.result.now (named c.none-places.result) c.in_ok-run.ensures c.as_slice.ensures.value
+    c.as_slice.result.now (named c.none-places.result) c.in_ok-run.ensures.run c.as_slice.ensures.value
     c.none-places.ensures c.in_ok-steps_of.ensures

@@ -10,5 +10,5 @@ returns c =
     told_is (IsStepsText c.args.from c.args.to) c.in_ok-steps_of.field-0 (run_in (trace_of c.args.trace.now))
     (named_of c.args.places.now)
     c.in_ok-run.run'.items c.as_slice.result.now c.as_slice-2.result.now (named c.in_ok-places.places)
-    c.in_ok-run.ensures c.in_ok-places.ensures c.as_slice.ensures.value c.as_slice-2.ensures.value
+    c.in_ok-run.ensures.run c.in_ok-places.ensures c.as_slice.ensures.value c.as_slice-2.ensures.value
     c.in_ok-fits.ensures c.in_ok-steps_of.ensures
