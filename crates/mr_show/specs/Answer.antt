@@ -162,8 +162,8 @@ abbrev pub usage : Answer
 usage = record {
   text = line (
       codes "usage: steps P S [FIRST LAST] | races P S | picture P S [FIRST LAST] | order P S FIRST LAST | "
-      ++ codes "races T PLACES | steps T PLACES [FIRST LAST] | steps T FIRST LAST | next P S | fill P O | halt P O | "
-      ++ codes "hunt P FROM TO M [AIM] | why CODE | --help"
+      ++ codes "races T PLACES | steps T PLACES [FIRST LAST] | steps T FIRST LAST | picture T PLACES [FIRST LAST] | "
+      ++ codes "next P S | fill P O | halt P O | hunt P FROM TO M [AIM] | why CODE | --help"
       );
   status = 2;
 }

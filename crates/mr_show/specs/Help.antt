@@ -18,6 +18,7 @@ help_text Everything =
     ++ codes "FIRST LAST may stand behind it"
     )
     ++ line (codes "mirace_show steps T FIRST LAST       steps of a trace, without places")
+    ++ line (codes "mirace_show picture T PLACES         a picture of a trace; FIRST LAST may stand behind it")
     ++ line (
     codes "mirace_show next P S                 what each thread would do next, or the "
     ++ codes "entry that breaks a rule"
@@ -98,6 +99,11 @@ help_text OfPicture =
     ++ codes "before what, and the races."
     )
     ++ line (codes "With FIRST and LAST those steps are drawn, and else those about the first race; 500 at most.")
+    ++ line (codes "mirace_show picture T PLACES [FIRST LAST]")
+    ++ line (
+    codes "Draws the same of the trace in file T, which begins with MRTR, each step at the "
+    ++ codes "place that file PLACES tells."
+    )
 help_text OfNext =
     line (codes "mirace_show next P S")
     ++ line (

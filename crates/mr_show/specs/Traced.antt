@@ -10,12 +10,13 @@ use Rattle.mr_traced.specs.declared.refusal.PlacesFault.{PlacesFault}
 use Rattle.mr_traced.specs.declared.refusal.PlacesFault.TheVariants.{TooLong}
 use Rattle.mr_traced.specs.declared.refusal.Untold.{Untold}
 use Rattle.mr_traced.specs.declared.refusal.Untold.TheVariants as untold
+use Rattle.mr_traced.specs.Drawn.{picture_text}
 use Rattle.mr_traced.specs.Faults.{fault_line}
 use Rattle.mr_traced.specs.Places.{named_of}
 use Rattle.mr_traced.specs.Races.{races_text}
 use Rattle.mr_traced.specs.Seen.{Seen, run_in, seen_bare, seen_in}
 use Rattle.mr_traced.specs.Steps.{steps_text}
-use Rattle.mr_show.specs.declared.form.Part.TheVariants.{Races, Steps}
+use Rattle.mr_show.specs.declared.form.Part.TheVariants.{Picture, Races, Steps}
 use Rattle.mr_show.specs.declared.form.Saying.{Saying}
 use Rattle.mr_show.specs.declared.form.Saying.TheVariants.{OfRun}
 use Rattle.mr_show.specs.declared.form.Telling.{Telling}
@@ -25,10 +26,12 @@ use Rattle.mr_show.specs.declared.form.Telling.TheVariants as telling
 abbrev pub holds_trace : List ℕ → Bool
 holds_trace bytes = nat_le (length bytes) (2 ^ 28) && bytes_eq (take 4 bytes) (codes "MRTR")
 
--- what is told of a trace whose file stands where that of a program would: its races, or its steps, and nothing else
+-- what is told of a trace whose file stands where that of a program would: its races, its steps, or a
+-- picture of it, and nothing else
 abbrev pub telling_of : Saying → Option Telling
 telling_of (OfRun Races) = Some telling.Races
 telling_of (OfRun (Steps from to)) = Some (telling.Steps from to)
+telling_of (OfRun (Picture asked)) = Some (telling.Picture asked)
 telling_of _ = None
 
 -- ---- what is told
@@ -36,6 +39,7 @@ telling_of _ = None
 abbrev pub telling_text : Telling → Seen → List ℕ
 telling_text telling.Races s = races_text s
 telling_text (telling.Steps from to) s = steps_text from to s
+telling_text (telling.Picture asked) s = picture_text asked s
 
 abbrev pub IsTextOf : Telling → Seen → List ℕ → Type 0
 IsTextOf what s text = text ≡ telling_text what s

@@ -53,6 +53,8 @@ pub enum Telling {
     Races,
     /// Its steps from one number up to another, counted from 0, the last one left out.
     Steps { from: usize, to: usize },
+    /// A picture of it: of the steps that are asked for, or without any of those about its first race.
+    Picture { asked: Option<Span> },
 }
 
 /// What help is asked for: with all forms, or with one.

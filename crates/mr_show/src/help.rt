@@ -12,6 +12,7 @@ mirace_show order P S FIRST LAST     how two steps of a run are ordered, edge by
 mirace_show races T PLACES           the races of a trace by pairs of places
 mirace_show steps T PLACES           the steps of a trace, each at its place; FIRST LAST may stand behind it
 mirace_show steps T FIRST LAST       steps of a trace, without places
+mirace_show picture T PLACES         a picture of a trace; FIRST LAST may stand behind it
 mirace_show next P S                 what each thread would do next, or the entry that breaks a rule
 mirace_show fill P O                 the schedule that an order of threads becomes
 mirace_show halt P O                 where that order can't go on
@@ -50,6 +51,8 @@ mirace_show picture P S [FIRST LAST]
 Runs the program in file P under the schedule in file S, and writes a picture of the run as an SVG document:
 a lane for each thread, its steps from above to below, arrows for what happens before what, and the races.
 With FIRST and LAST those steps are drawn, and else those about the first race; 500 at most.
+mirace_show picture T PLACES [FIRST LAST]
+Draws the same of the trace in file T, which begins with MRTR, each step at the place that file PLACES tells.
 ";
 
 const OF_NEXT: &[u8] = b"\

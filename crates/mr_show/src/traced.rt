@@ -20,7 +20,7 @@ use mr_io::{FileFault, Files};
 use mr_lex::LONG_TEXT;
 use mr_picture::Span;
 use mr_trace::{MAX_BYTES, TOO_LONG};
-use mr_traced::{PlacesFault, Told, Untold, fault_line, is_trace, races, steps};
+use mr_traced::{PlacesFault, Told, Untold, fault_line, is_trace, picture, races, steps};
 use std::alloc::Global;
 
 // What is told of a trace whose file stands where that of a program would, if anything is.
@@ -30,6 +30,7 @@ fn telling_of(saying: Saying) -> Option<Telling>
     match saying {
         Saying::OfRun(Part::Races) => Some(Telling::Races),
         Saying::OfRun(Part::Steps { from, to }) => Some(Telling::Steps { from, to }),
+        Saying::OfRun(Part::Picture { asked }) => Some(Telling::Picture { asked }),
         _ => None,
     }
 }
@@ -173,6 +174,7 @@ fn placed(alloc: Global, what: Telling, trace: &[u8], places: &[u8]) -> Result<W
     match what {
         Telling::Races => said(alloc, races(alloc, trace, places)),
         Telling::Steps { from, to } => said(alloc, steps(alloc, trace, Some(places), from, to)),
+        Telling::Picture { asked } => said(alloc, picture(alloc, trace, Some(places), asked)),
     }
 }
 

@@ -4,7 +4,7 @@ use Rattle.mr_trace.specs.Reading.{trace_of}
 use Rattle.mr_traced.specs.Places.{named_of}
 use Rattle.mr_traced.specs.Races.{IsRacesText}
 use Rattle.mr_traced.specs.Seen.{run_in, seen_in}
-use Rattle.mr_show.specs.declared.form.Telling.TheVariants.{Races, Steps}
+use Rattle.mr_show.specs.declared.form.Telling.TheVariants.{Picture, Races, Steps}
 use Rattle.mr_show.specs.Traced.{IsTextOf}
 use Rattle.mr_show.proofs.TracedLaws.{short_text, told_as}
 use Rattle.mr_show.proofs.traced.placed.Goals as goal
@@ -25,3 +25,11 @@ returns-in-Steps-clause-answer c =
     (short_text (Steps c.in-Steps.from c.in-Steps.to) c.args.trace.now c.args.places.now c.if-places-gt-MAX_BYTES.false)
     (c.said-in-Steps.ensures.answer (Steps c.in-Steps.from c.in-Steps.to)
     (seen_in (run_in (trace_of c.args.trace.now)) (named_of c.args.places.now)) c.steps.ensures.exact))
+
+pub returns-in-Picture-clause-answer : goal.returns-in-Picture-clause-answer
+returns-in-Picture-clause-answer c =
+    rw c.in-Picture.is
+    (subst (λ (a : Answer). Tells a c.said-in-Picture.result)
+    (short_text (Picture c.in-Picture.asked) c.args.trace.now c.args.places.now c.if-places-gt-MAX_BYTES.false)
+    (c.said-in-Picture.ensures.answer (Picture c.in-Picture.asked)
+    (seen_in (run_in (trace_of c.args.trace.now)) (named_of c.args.places.now)) c.picture.ensures.exact))
