@@ -1,4 +1,5 @@
 pub mod ArrowLaws
+pub mod ClearLaws
 pub mod Counts
 pub mod InsideLaws
 pub mod Marks

@@ -8,8 +8,9 @@ use Rattle.std.specs.Prelude.{nat_le, nat_lt, codes, if◌then◌else◌}
 use Rattle.mr_picture.specs.declared.span.Span.{Span}
 use Rattle.mr_picture.specs.Span.{is_in}
 use Rattle.mr_svg.specs.declared.shape.Point.{Point}
+use Rattle.mr_svg.specs.declared.shape.Shape.TheVariants.{Bend}
 use Rattle.mr_picture.specs.Inside.{IsPointInside, IsRoundInside, IsShapeInside}
-use Rattle.mr_picture.specs.Links.{arrow_between, beside, race_between}
+use Rattle.mr_picture.specs.Links.{arrow_between, beside, corner_of, race_between}
 use Rattle.mr_picture.specs.Texts.{cut_at}
 
 -- so far from a lane is no further right than that
@@ -58,25 +59,35 @@ module _ (wide high text end : ℕ) (fits : text + 520 ≤ wide) (deep : end + 2
     below = omega (arith, deep, h.below);
   }
 
-  pub arrow_inside : (woken : Bool) (a b : Point) → IsPlace a → IsPlace b
-      → IsShapeInside wide high [] (arrow_between woken a b)
-  arrow_inside true a b ha hb = (
-    point_inside a ha,
-    record { across = omega (arith, fits, hb.right, beside_le 10 b.x a.x); down = omega (arith, deep, ha.below) },
-    record { across = omega (arith, fits, hb.right, beside_le 10 b.x a.x); down = omega (arith, deep, hb.below) },
-    point_inside b hb,
-  )
-  arrow_inside false a b ha hb = (
-    point_inside a ha,
-    record { across = omega (arith, fits, hb.right, beside_le 20 b.x a.x); down = omega (arith, deep, ha.below) },
-    record { across = omega (arith, fits, hb.right, beside_le 20 b.x a.x); down = omega (arith, deep, hb.below) },
-    point_inside b hb,
+  -- a way with a corner that has room
+  bend_inside : (from at come to : Point) → IsPointInside wide high from → at.x + 10 ≤ wide → at.y + 10 ≤ high
+      → IsPointInside wide high come → IsPointInside wide high to
+      → IsShapeInside wide high [] (Bend from (corner_of from at to) come to)
+  bend_inside from at come to begins across down comes ends = (
+    begins,
+    record { across = omega (arith, across, beside_le 10 at.x from.x); down = omega (arith, down) },
+    record { across = omega (arith, across); down = omega (arith, down) },
+    record { across = omega (arith, across); down = omega (arith, down, beside_le 10 at.y to.y) },
+    comes,
+    ends,
   )
 
+  pub arrow_inside : (woken : Bool) (a b : Point) → IsPlace a → IsPlace b
+      → IsShapeInside wide high [] (arrow_between woken a b)
+  arrow_inside true a b ha hb =
+      bend_inside a (record { x = beside 10 b.x a.x; y = a.y }) (record { x = beside 10 b.x a.x; y = b.y - 20 }) b
+      (point_inside a ha) (omega (arith, fits, hb.right, beside_le 10 b.x a.x)) (omega (arith, deep, ha.below))
+      (record { across = omega (arith, fits, hb.right, beside_le 10 b.x a.x); down = omega (arith, deep, hb.below) })
+      (point_inside b hb)
+  arrow_inside false a b ha hb =
+      bend_inside a (record { x = beside 20 b.x a.x; y = a.y }) (record { x = beside 20 b.x a.x; y = b.y - 12 }) b
+      (point_inside a ha) (omega (arith, fits, hb.right, beside_le 20 b.x a.x)) (omega (arith, deep, ha.below))
+      (record { across = omega (arith, fits, hb.right, beside_le 20 b.x a.x); down = omega (arith, deep, hb.below) })
+      (point_inside b hb)
+
   pub race_inside : (a b : Point) → IsPlace a → IsPlace b → IsShapeInside wide high [] (race_between a b)
-  race_inside a b ha hb = (
-    point_inside b hb,
-    record { across = omega (arith, fits, ha.right, beside_le 16 a.x b.x); down = omega (arith, deep, hb.below) },
-    record { across = omega (arith, fits, ha.right, beside_le 16 a.x b.x); down = omega (arith, deep, ha.below) },
-    point_inside a ha,
-  )
+  race_inside a b ha hb =
+      bend_inside b (record { x = beside 16 a.x b.x; y = b.y }) (record { x = beside 16 a.x b.x; y = a.y + 16 }) a
+      (point_inside b hb) (omega (arith, fits, ha.right, beside_le 16 a.x b.x)) (omega (arith, deep, hb.below))
+      (record { across = omega (arith, fits, ha.right, beside_le 16 a.x b.x); down = omega (arith, deep, ha.below) })
+      (point_inside a ha)

@@ -2,7 +2,7 @@
 use Rattle.std.specs.Prelude.{ℕ, ◌+◌, ◌*◌, ◌≤◌, List, length}
 use Rattle.mr_svg.specs.declared.shape.Point.{Point}
 use Rattle.mr_svg.specs.declared.shape.Shape.{Shape}
-use Rattle.mr_svg.specs.declared.shape.Shape.TheVariants.{Band, Line, Curve, Dot, Diamond, Square, Words, WordsTo}
+use Rattle.mr_svg.specs.declared.shape.Shape.TheVariants.{Band, Line, Bend, Dot, Diamond, Square, Words, WordsTo}
 use Rattle.mr_svg.specs.Svg.{Mark}
 
 -- a point lies inside a picture that is so wide and so high
@@ -22,14 +22,14 @@ pub record IsLineInside (high y : ℕ) : Type 0 where
   pub above : 16 ≤ y
   pub below : y + 8 ≤ high
 
--- A SHAPE LIES INSIDE: each of its points does; of words, each byte of which is at most 8 wide, all of them. A curve lies
--- within its four points
+-- A SHAPE LIES INSIDE: each of its points does; of words, each byte of which is at most 8 wide, all of them. A way
+-- with a corner lies within its six points
 abbrev pub IsShapeInside : ℕ → ℕ → List ℕ → Shape → Type 0
 IsShapeInside wide high words (Band at across down) = (at.x + across ≤ wide) × (at.y + down ≤ high)
 IsShapeInside wide high words (Line from to) = IsPointInside wide high from × IsPointInside wide high to
-IsShapeInside wide high words (Curve from leave come to) =
-    IsPointInside wide high from × IsPointInside wide high leave × IsPointInside wide high come
-    × IsPointInside wide high to
+IsShapeInside wide high words (Bend from corner come to) =
+    IsPointInside wide high from × IsPointInside wide high corner.before × IsPointInside wide high corner.at
+    × IsPointInside wide high corner.behind × IsPointInside wide high come × IsPointInside wide high to
 IsShapeInside wide high words (Dot at) = IsRoundInside wide high at
 IsShapeInside wide high words (Diamond at) = IsRoundInside wide high at
 IsShapeInside wide high words (Square at) = IsRoundInside wide high at

@@ -1,4 +1,5 @@
 pub mod Arrows
+pub mod Clear
 pub mod Column
 pub mod Deeds
 pub mod Drawn

@@ -5,9 +5,10 @@ use Rattle.mr_event.specs.declared.footprint.Pair.{Pair}
 use Rattle.mr_event.specs.Footprint.{Footprint}
 use Rattle.mr_event.specs.Footprints.{wakes}
 use Rattle.mr_event.specs.Order.{step_at, thread_at}
+use Rattle.mr_svg.specs.declared.shape.Corner.{Corner}
 use Rattle.mr_svg.specs.declared.shape.Point.{Point}
 use Rattle.mr_svg.specs.declared.shape.Shape.{Shape}
-use Rattle.mr_svg.specs.declared.shape.Shape.TheVariants.{Curve}
+use Rattle.mr_svg.specs.declared.shape.Shape.TheVariants.{Bend}
 use Rattle.mr_svg.specs.declared.shape.Sign.{Sign}
 use Rattle.mr_svg.specs.declared.shape.Sign.TheVariants as sign
 use Rattle.mr_svg.specs.Svg.{Mark}
@@ -15,9 +16,17 @@ use Rattle.mr_picture.specs.Grid.{place_of}
 use Rattle.mr_picture.specs.Scene.{Scene}
 use Rattle.mr_picture.specs.Texts.{step_word}
 
--- so far from one lane, on the side of another one
+-- so far from one number, on the side of another one
 abbrev pub beside : ℕ → ℕ → ℕ → ℕ
 beside far x other = if nat_lt x other then x + far else x - far
+
+-- a corner that is cut by 10, of a way that comes from one point and goes on to another one
+abbrev pub corner_of : Point → Point → Point → Corner
+corner_of from at to = record {
+  before = record { x = beside 10 at.x from.x; y = at.y };
+  at = at;
+  behind = record { x = at.x; y = beside 10 at.y to.y };
+}
 
 -- where a completed step stands
 abbrev pub foot_place : Scene → ℕ → Point
@@ -29,7 +38,8 @@ foot_place s step = place_of s (thread_at s.sketch.feet step) step
 -- aslant to that
 abbrev pub arrow_at : ℕ → ℕ → Point → Point → Shape
 arrow_at far above a b =
-    Curve a (record { x = beside far b.x a.x; y = a.y }) (record { x = beside far b.x a.x; y = b.y - above }) b
+    let x = beside far b.x a.x in
+    Bend a (corner_of a (record { x = x; y = a.y }) b) (record { x = x; y = b.y - above }) b
 
 -- the two kinds come from other sides, so that one of each can come to one step
 abbrev pub arrow_between : Bool → Point → Point → Shape
@@ -69,7 +79,8 @@ arrow_mark s arrow =
 -- there
 abbrev pub race_between : Point → Point → Shape
 race_between a b =
-    Curve b (record { x = beside 16 a.x b.x; y = b.y }) (record { x = beside 16 a.x b.x; y = a.y + 16 }) a
+    let x = beside 16 a.x b.x in
+    Bend b (corner_of b (record { x = x; y = b.y }) a) (record { x = x; y = a.y + 16 }) a
 
 abbrev pub race_shape : Scene → Pair → Shape
 race_shape s race = race_between (foot_place s race.first) (foot_place s race.second)

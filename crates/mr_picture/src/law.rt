@@ -1,13 +1,20 @@
-//! The law of pictures.
-ghost use Rattle.std.specs.Prelude.{◌<◌, ◌≤◌, ◌^◌, ◌×◌, All, List, Option};
+//! The laws of pictures.
+ghost use Rattle.std.specs.Prelude.{◌≡◌, ◌<◌, ◌≤◌, ◌^◌, All, List, Option, length};
+ghost use Rattle.std.specs.List.{Contains};
+ghost use Rattle.mr_event.specs.declared.footprint.Pair.{Pair};
 ghost use Rattle.mr_picture.specs.declared.scene.Drawn.{Drawn};
 ghost use Rattle.mr_picture.specs.declared.span.Span.{Span};
 ghost use Rattle.mr_listing.specs.Seen.{Seen};
+ghost use Rattle.mr_picture.specs.Arrows.{arrows};
+ghost use Rattle.mr_picture.specs.Clear.{IsClearOf};
 ghost use Rattle.mr_picture.specs.Drawn.{asked_scene};
 ghost use Rattle.mr_picture.specs.Grid.{height, width};
 ghost use Rattle.mr_picture.specs.Inside.{IsInside};
 ghost use Rattle.mr_picture.specs.Picture.{marks};
-ghost use Rattle.mr_picture.specs.Scene.{Sketch, scene_of};
+ghost use Rattle.mr_picture.specs.Links.{arrow_mark, race_mark};
+ghost use Rattle.mr_picture.specs.Scene.{Sketch, done_in, near_in, scene_of};
+ghost use Rattle.mr_picture.specs.Span.{races_in};
+ghost use Rattle.mr_picture.specs.Steps.{at_step};
 
 /// A law: each mark of the picture of a run lies inside it. A run has no more than 2^22 steps.
 pub fn marks_lie_inside()
@@ -19,4 +26,16 @@ pub fn marks_lie_inside()
     // Of the run of a program.
     ensures program { (s : Seen) (asked : Option Span) → s.count ≤ 2 ^ 22
         → All (IsInside (width (asked_scene s asked)) (height (asked_scene s asked))) (marks (asked_scene s asked)) }
+{}
+
+/// A law: no arrow and no line of a race comes near the mark of a drawn step that isn't one of its two.
+pub fn links_keep_clear()
+    ensures arrows { (s : Sketch) (span : Span) (steps : List Drawn) (step : Drawn) → span.from ≤ step.number
+        → (arrow : Pair) → Contains (arrows s.feet (done_in span (length s.feet))) arrow
+        → ¬ step.number ≡ arrow.first → ¬ step.number ≡ arrow.second
+        → IsClearOf (at_step (scene_of s span steps) step) (arrow_mark (scene_of s span steps) arrow).shape }
+    ensures races { (s : Sketch) (span : Span) (steps : List Drawn) (step : Drawn) → span.from ≤ step.number
+        → (race : Pair) → Contains (races_in (done_in span (length s.feet)) (near_in span s.races)) race
+        → ¬ step.number ≡ race.first → ¬ step.number ≡ race.second
+        → IsClearOf (at_step (scene_of s span steps) step) (race_mark (scene_of s span steps) race).shape }
 {}

@@ -10,7 +10,8 @@
 //! `Column`, `Ends` and `Legend` which marks there are; `Drawn` and `Deeds` what is told of the steps of a program. Proved: the document is exactly that, and want of memory is the
 //! only error. By the laws of the arrows they are edges and lead wherever one step happens before
 //! another; the races are the listed ones both of whose steps are drawn; no text can become markup, by the law of
-//! `mr_svg`. [`marks_lie_inside`] is the law that each mark lies inside the picture.
+//! `mr_svg`. [`marks_lie_inside`] is the law that each mark lies inside the picture, and
+//! [`links_keep_clear`] that no arrow and no line of a race comes near the mark of another step.
 //!
 //! The order of a part of a run, as it is drawn (Lamport: happens-before, and pictures of it):
 //!
@@ -58,7 +59,7 @@ pub use arrows_of::arrows;
 pub use because::Because;
 pub use deeds::{push_ended, push_numbered, push_woken};
 pub use drawing::{drawing, picture};
-pub use law::marks_lie_inside;
+pub use law::{links_keep_clear, marks_lie_inside};
 pub use order::wakes_thread;
 pub use order_laws::{arrows_are_edges, paths_are_the_order, ways_are_the_order, witness_is_kept};
 pub use scene::{Drawn, Sketch, chosen};

@@ -6,7 +6,7 @@ ghost use Rattle.mr_picture.specs.Span.{races_in};
 ghost use Rattle.mr_clocks.specs.Tracked.{Tracks};
 ghost use Rattle.mr_svg.specs.Svg.{mark_text};
 ghost use Rattle.mr_picture.specs.Grid.{place_of};
-ghost use Rattle.mr_picture.specs.Links.{arrow_at, arrow_between, arrow_mark, arrow_reason, arrow_sign, arrow_title, beside};
+ghost use Rattle.mr_picture.specs.Links.{arrow_at, arrow_between, arrow_mark, arrow_reason, arrow_sign, arrow_title, beside, corner_of};
 ghost use Rattle.mr_picture.specs.Links.{foot_place, is_same_race, is_wake, race_between, race_mark, race_sign, race_title};
 ghost use Rattle.mr_picture.specs.Scene.{IsRace, IsSmall, IsStep, scene_in};
 
@@ -16,19 +16,38 @@ use crate::texts::{push, push_step_word};
 use crate::{OutOfMemory, arrows, races_in, wakes_thread};
 use mr_clocks::Analysis;
 use mr_event::{Footprint, Pair, thread_at};
-use mr_svg::{Point, Shape, Sign, push_mark};
+use mr_svg::{Corner, Point, Shape, Sign, push_mark};
 use std::alloc::Global;
 
-// So far from one lane, on the side of another one.
+// So far from one number, on the side of another one.
 fn beside(far: u64, x: u64, other: u64) -> u64
     requires far { far < 2 ^ 32 }
-    requires lane { x < 2 ^ 32 }
+    requires small { x < 2 ^ 49 }
     ensures { result ≡ beside far x other }
 {
     if x < other {
         x + far
     } else {
         x.saturating_sub(far)
+    }
+}
+
+// A corner that is cut by 10, of a way that comes from one point and goes on to another one.
+fn corner_of(from: Point, at: Point, to: Point) -> Corner
+    requires across { at.x < 2 ^ 49 }
+    requires down { at.y < 2 ^ 49 }
+    ensures { result ≡ corner_of from at to }
+{
+    Corner {
+        before: Point {
+            x: beside(10, at.x, from.x),
+            y: at.y,
+        },
+        at,
+        behind: Point {
+            x: at.x,
+            y: beside(10, at.y, to.y),
+        },
     }
 }
 
@@ -45,12 +64,13 @@ pub(crate) fn foot_place(scene: &Scene<'_>, step: usize) -> Point
 fn arrow_at(far: u64, above: u64, a: Point, b: Point) -> Shape
     requires far { far < 2 ^ 32 }
     requires lane { b.x < 2 ^ 32 }
+    requires row { a.y < 2 ^ 48 }
     ensures { result ≡ arrow_at far above a b }
 {
     let x = beside(far, b.x, a.x);
-    Shape::Curve {
+    Shape::Bend {
         from: a,
-        leave: Point { x, y: a.y },
+        corner: corner_of(a, Point { x, y: a.y }, b),
         come: Point {
             x,
             y: b.y.saturating_sub(above),
@@ -61,7 +81,8 @@ fn arrow_at(far: u64, above: u64, a: Point, b: Point) -> Shape
 
 // The shape of an arrow.
 fn arrow_between(woken: bool, a: Point, b: Point) -> Shape
-    requires { b.x < 2 ^ 32 }
+    requires lane { b.x < 2 ^ 32 }
+    requires row { a.y < 2 ^ 48 }
     ensures { result ≡ arrow_between woken a b }
 {
     if woken {
@@ -75,12 +96,13 @@ fn arrow_between(woken: bool, a: Point, b: Point) -> Shape
 fn race_between(a: Point, b: Point) -> Shape
     requires lane { a.x < 2 ^ 32 }
     requires row { a.y < 2 ^ 48 }
+    requires end { b.y < 2 ^ 48 }
     ensures { result ≡ race_between a b }
 {
     let x = beside(16, a.x, b.x);
-    Shape::Curve {
+    Shape::Bend {
         from: b,
-        leave: Point { x, y: b.y },
+        corner: corner_of(b, Point { x, y: b.y }, a),
         come: Point { x, y: a.y + 16 },
         to: a,
     }

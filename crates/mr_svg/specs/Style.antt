@@ -9,41 +9,44 @@ line text = text ++ 10 ∷ []
 abbrev pub style_text : List ℕ
 style_text =
     line (codes "<style>")
-    ++ line (
-    codes "svg{color-scheme:light dark;--paper:#fff;--ink:#16181b;--note:#4d545c;--lane:#8a929b;-"
-    ++ codes "-row:#f2f4f6;"
-    )
-    ++ line (codes "--wake:#1a7f37;--dependence:#0b57a4;--race:#c11a20;--left:#6b727a}")
-    ++ line (
-    codes "@media (prefers-color-scheme:dark){svg{--paper:#14171b;--ink:#f0f2f4;--note:#b3bac2;--"
-    ++ codes "lane:#7c858f;--row:#1f242a;"
-    )
-    ++ line (codes "--wake:#63d47f;--dependence:#79b8ff;--race:#ff7a72;--left:#98a1ab}}")
-    ++ line (
-    codes "text{font:13px ui-monospace,Menlo,Consolas,DejaVu Sans "
-    ++ codes "Mono,monospace;fill:var(--ink);white-space:pre}"
-    )
-    ++ line (codes "path{fill:none;stroke:var(--ink);stroke-width:1.5}")
-    ++ line (codes ".paper{fill:var(--paper);stroke:none}")
-    ++ line (codes ".row path{fill:var(--row);stroke:none}")
-    ++ line (codes ".lane path{stroke:var(--lane);stroke-width:2}")
-    ++ line (codes ".step path{fill:var(--ink);stroke:var(--paper)}")
-    ++ line (codes ".racing path{fill:var(--race);stroke:var(--paper)}")
-    ++ line (codes ".stop path{fill:var(--paper);stroke-width:2.5}")
-    ++ line (
-    codes ".wake path{stroke:var(--wake);stroke-width:2;stroke-dasharray:2 "
-    ++ codes "3;marker-end:url(#wakes)}"
-    )
-    ++ line (codes ".dependence path{stroke:var(--dependence);stroke-width:2;marker-end:url(#depends)}")
-    ++ line (codes ".race path{stroke:var(--race);stroke-width:2;stroke-dasharray:8 4}")
-    ++ line (codes ".first-race path{stroke:var(--race);stroke-width:4;stroke-dasharray:8 4}")
-    ++ line (codes ".left-out path{fill:var(--paper);stroke:var(--left);stroke-dasharray:2 2}")
-    ++ line (codes ".left-out text{fill:var(--left)}")
+    ++ line (codes "text{font:13px ui-monospace,Menlo,Consolas,DejaVu Sans Mono,monospace;white-space:pre;fill:#16181b}")
+    ++ line (codes "path{fill:none;stroke-width:1.5;stroke:#16181b}")
+    ++ line (codes ".paper{stroke:none;fill:#fff}")
+    ++ line (codes ".row path{stroke:none;fill:#f2f4f6}")
+    ++ line (codes ".lane path{stroke-width:2;stroke:#8a929b}")
+    ++ line (codes ".step path{fill:#16181b;stroke:#fff}")
+    ++ line (codes ".racing path{fill:#c11a20;stroke:#fff}")
+    ++ line (codes ".stop path{stroke-width:2.5;fill:#fff}")
+    ++ line (codes ".wake path{stroke-width:2;stroke-dasharray:2 3;marker-end:url(#wakes);stroke:#1a7f37}")
+    ++ line (codes ".dependence path{stroke-width:2;marker-end:url(#depends);stroke:#0b57a4}")
+    ++ line (codes ".race path{stroke-width:2;stroke-dasharray:8 4;stroke:#c11a20}")
+    ++ line (codes ".first-race path{stroke-width:4;stroke-dasharray:8 4;stroke:#c11a20}")
+    ++ line (codes ".left-out path{stroke-dasharray:2 2;fill:#fff;stroke:#6b727a}")
+    ++ line (codes ".left-out text{fill:#6b727a}")
     ++ line (codes ".title text{font-weight:bold}")
     ++ line (codes ".name text{font-weight:bold}")
-    ++ line (codes ".note text{fill:var(--note)}")
-    ++ line (codes "#wakes path{fill:none;stroke:var(--wake);stroke-dasharray:none;marker-end:none}")
-    ++ line (codes "#depends path{fill:var(--dependence);stroke:none;marker-end:none}")
+    ++ line (codes ".note text{fill:#4d545c}")
+    ++ line (codes "#wakes path{fill:none;stroke-dasharray:none;marker-end:none;stroke:#1a7f37}")
+    ++ line (codes "#depends path{stroke:none;marker-end:none;fill:#0b57a4}")
+    ++ line (codes "@media (prefers-color-scheme:dark){")
+    ++ line (codes "text{fill:#f0f2f4}")
+    ++ line (codes "path{stroke:#f0f2f4}")
+    ++ line (codes ".paper{fill:#14171b}")
+    ++ line (codes ".row path{fill:#1f242a}")
+    ++ line (codes ".lane path{stroke:#7c858f}")
+    ++ line (codes ".step path{fill:#f0f2f4;stroke:#14171b}")
+    ++ line (codes ".racing path{fill:#ff7a72;stroke:#14171b}")
+    ++ line (codes ".stop path{fill:#14171b}")
+    ++ line (codes ".wake path{stroke:#63d47f}")
+    ++ line (codes ".dependence path{stroke:#79b8ff}")
+    ++ line (codes ".race path{stroke:#ff7a72}")
+    ++ line (codes ".first-race path{stroke:#ff7a72}")
+    ++ line (codes ".left-out path{fill:#14171b;stroke:#98a1ab}")
+    ++ line (codes ".left-out text{fill:#98a1ab}")
+    ++ line (codes ".note text{fill:#b3bac2}")
+    ++ line (codes "#wakes path{stroke:#63d47f}")
+    ++ line (codes "#depends path{fill:#79b8ff}")
+    ++ line (codes "}")
     ++ line (codes "</style>")
     ++ line (codes "<defs>")
     ++ line (

@@ -1,8 +1,9 @@
 -- Marks as SVG text.
 use Rattle.std.specs.Prelude.{ℕ, List, [], ◌++◌, codes, decimal, flat_map}
+use Rattle.mr_svg.specs.declared.shape.Corner.{Corner}
 use Rattle.mr_svg.specs.declared.shape.Point.{Point}
 use Rattle.mr_svg.specs.declared.shape.Shape.{Shape}
-use Rattle.mr_svg.specs.declared.shape.Shape.TheVariants.{Band, Line, Curve, Dot, Diamond, Square, Words, WordsTo}
+use Rattle.mr_svg.specs.declared.shape.Shape.TheVariants.{Band, Line, Bend, Dot, Diamond, Square, Words, WordsTo}
 use Rattle.mr_svg.specs.declared.shape.Sign.{Sign}
 use Rattle.mr_svg.specs.declared.shape.Sign.TheVariants as sign
 use Rattle.mr_svg.specs.Escape.{escaped}
@@ -45,11 +46,15 @@ band_text at wide high =
 abbrev pub line_text : Point → Point → List ℕ
 line_text from to = codes "<path d=\"M" ++ point_text from ++ codes "L" ++ point_text to ++ codes "\"/>"
 
--- a curve that leaves its first point towards the second one, comes to the third one from there, and goes straight on to the
--- last one
-abbrev pub curve_text : Point → Point → Point → Point → List ℕ
-curve_text from leave come to =
-    codes "<path d=\"M" ++ point_text from ++ codes "Q" ++ point_text leave ++ codes " " ++ point_text come ++ codes "L"
+-- a corner: straight to where it begins, and round it to where it ends
+abbrev pub corner_text : Corner → List ℕ
+corner_text c =
+    codes "L" ++ point_text c.before ++ codes "Q" ++ point_text c.at ++ codes " " ++ point_text c.behind
+
+-- a way that goes straight to a corner, round that, and straight on by one more point
+abbrev pub bend_text : Point → Corner → Point → Point → List ℕ
+bend_text from corner come to =
+    codes "<path d=\"M" ++ point_text from ++ corner_text corner ++ codes "L" ++ point_text come ++ codes "L"
     ++ point_text to ++ codes "\"/>"
 
 -- an outline round a point, which is told by how far each of its corners lies from the one before
@@ -66,7 +71,7 @@ words_text anchor at words =
 abbrev pub shape_text : Shape → List ℕ → List ℕ
 shape_text (Band at wide high) words = band_text at wide high
 shape_text (Line from to) words = line_text from to
-shape_text (Curve from leave come to) words = curve_text from leave come to
+shape_text (Bend from corner come to) words = bend_text from corner come to
 shape_text (Dot at) words = outline_text at (codes "m-6 0a6 6 0 1 0 12 0a6 6 0 1 0-12 0z")
 shape_text (Diamond at) words = outline_text at (codes "m-8 0l8-8l8 8l-8 8z")
 shape_text (Square at) words = outline_text at (codes "m-6-6h12v12h-12z")
@@ -90,7 +95,8 @@ size_text wide high =
 -- its opening, with its title
 abbrev pub opening_text : ℕ → ℕ → List ℕ → List ℕ
 opening_text wide high title =
-    codes "<svg xmlns=\"http://www.w3.org/2000/svg\"" ++ size_text wide high ++ codes " role=\"img\">\n<title>"
+    codes "<svg xmlns=\"http://www.w3.org/2000/svg\"" ++ size_text wide high
+    ++ codes " xml:space=\"preserve\" role=\"img\">\n<title>"
     ++ escaped title ++ codes "</title>\n"
 
 -- what stands before the marks

@@ -10,29 +10,44 @@ use crate::mark::{push, push_number};
 // How each sign is drawn, in a light and a dark scheme, and the heads of arrows.
 const STYLE: &str = "\
 <style>
-svg{color-scheme:light dark;--paper:#fff;--ink:#16181b;--note:#4d545c;--lane:#8a929b;--row:#f2f4f6;
---wake:#1a7f37;--dependence:#0b57a4;--race:#c11a20;--left:#6b727a}
-@media (prefers-color-scheme:dark){svg{--paper:#14171b;--ink:#f0f2f4;--note:#b3bac2;--lane:#7c858f;--row:#1f242a;
---wake:#63d47f;--dependence:#79b8ff;--race:#ff7a72;--left:#98a1ab}}
-text{font:13px ui-monospace,Menlo,Consolas,DejaVu Sans Mono,monospace;fill:var(--ink);white-space:pre}
-path{fill:none;stroke:var(--ink);stroke-width:1.5}
-.paper{fill:var(--paper);stroke:none}
-.row path{fill:var(--row);stroke:none}
-.lane path{stroke:var(--lane);stroke-width:2}
-.step path{fill:var(--ink);stroke:var(--paper)}
-.racing path{fill:var(--race);stroke:var(--paper)}
-.stop path{fill:var(--paper);stroke-width:2.5}
-.wake path{stroke:var(--wake);stroke-width:2;stroke-dasharray:2 3;marker-end:url(#wakes)}
-.dependence path{stroke:var(--dependence);stroke-width:2;marker-end:url(#depends)}
-.race path{stroke:var(--race);stroke-width:2;stroke-dasharray:8 4}
-.first-race path{stroke:var(--race);stroke-width:4;stroke-dasharray:8 4}
-.left-out path{fill:var(--paper);stroke:var(--left);stroke-dasharray:2 2}
-.left-out text{fill:var(--left)}
+text{font:13px ui-monospace,Menlo,Consolas,DejaVu Sans Mono,monospace;white-space:pre;fill:#16181b}
+path{fill:none;stroke-width:1.5;stroke:#16181b}
+.paper{stroke:none;fill:#fff}
+.row path{stroke:none;fill:#f2f4f6}
+.lane path{stroke-width:2;stroke:#8a929b}
+.step path{fill:#16181b;stroke:#fff}
+.racing path{fill:#c11a20;stroke:#fff}
+.stop path{stroke-width:2.5;fill:#fff}
+.wake path{stroke-width:2;stroke-dasharray:2 3;marker-end:url(#wakes);stroke:#1a7f37}
+.dependence path{stroke-width:2;marker-end:url(#depends);stroke:#0b57a4}
+.race path{stroke-width:2;stroke-dasharray:8 4;stroke:#c11a20}
+.first-race path{stroke-width:4;stroke-dasharray:8 4;stroke:#c11a20}
+.left-out path{stroke-dasharray:2 2;fill:#fff;stroke:#6b727a}
+.left-out text{fill:#6b727a}
 .title text{font-weight:bold}
 .name text{font-weight:bold}
-.note text{fill:var(--note)}
-#wakes path{fill:none;stroke:var(--wake);stroke-dasharray:none;marker-end:none}
-#depends path{fill:var(--dependence);stroke:none;marker-end:none}
+.note text{fill:#4d545c}
+#wakes path{fill:none;stroke-dasharray:none;marker-end:none;stroke:#1a7f37}
+#depends path{stroke:none;marker-end:none;fill:#0b57a4}
+@media (prefers-color-scheme:dark){
+text{fill:#f0f2f4}
+path{stroke:#f0f2f4}
+.paper{fill:#14171b}
+.row path{fill:#1f242a}
+.lane path{stroke:#7c858f}
+.step path{fill:#f0f2f4;stroke:#14171b}
+.racing path{fill:#ff7a72;stroke:#14171b}
+.stop path{fill:#14171b}
+.wake path{stroke:#63d47f}
+.dependence path{stroke:#79b8ff}
+.race path{stroke:#ff7a72}
+.first-race path{stroke:#ff7a72}
+.left-out path{fill:#14171b;stroke:#98a1ab}
+.left-out text{fill:#98a1ab}
+.note text{fill:#b3bac2}
+#wakes path{stroke:#63d47f}
+#depends path{fill:#79b8ff}
+}
 </style>
 <defs>
 <marker id=\"wakes\" viewBox=\"0 0 10 10\" refX=\"18\" refY=\"5\" markerWidth=\"9\" markerHeight=\"9\" \
@@ -70,7 +85,7 @@ fn push_opening(out: &mut Vec<u8>, wide: u64, high: u64, title: &[u8]) -> Result
 {
     push(out, "<svg xmlns=\"http://www.w3.org/2000/svg\"")?;
     push_size(out, wide, high)?;
-    push(out, " role=\"img\">\n<title>")?;
+    push(out, " xml:space=\"preserve\" role=\"img\">\n<title>")?;
     push_escaped(out, title)?;
     push(out, "</title>\n")
 }

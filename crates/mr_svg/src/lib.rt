@@ -1,6 +1,6 @@
 //! Marks of a picture, as SVG text. (W3C: SVG 1.1; XML 1.0.)
 //!
-//! - [`Shape`]: what is drawn, on a grid of whole numbers: lines, curves, dots and words. [`Sign`]: what it stands for.
+//! - [`Shape`]: what is drawn, on a grid of whole numbers: lines, ways with a corner, dots and words. [`Sign`]: what it stands for.
 //! - [`push_mark`]: appends a mark: its shape, its words, and the title that is shown with it.
 //! - [`push_head`] and [`push_foot`]: what stands before the marks of a document, and behind them.
 //!
@@ -18,5 +18,5 @@ mod shape;
 pub use document::{push_foot, push_head};
 pub use law::escaped_reads_back;
 pub use mark::push_mark;
-pub use shape::{Point, Shape, Sign};
+pub use shape::{Corner, Point, Shape, Sign};
 pub use std::alloc::AllocError as OutOfMemory;

@@ -1,11 +1,11 @@
 //! Marks.
 ghost use Rattle.std.specs.Prelude.{◌≡◌, ◌++◌, OnOk, decimal};
-ghost use Rattle.mr_svg.specs.Svg.{band_text, curve_text, line_text, mark_text, outline_text, point_text};
+ghost use Rattle.mr_svg.specs.Svg.{band_text, bend_text, corner_text, line_text, mark_text, outline_text, point_text};
 ghost use Rattle.mr_svg.specs.Svg.{shape_text, sign_word, words_text};
 
 use crate::OutOfMemory;
 use crate::escape::push_escaped;
-use crate::shape::{Point, Shape, Sign};
+use crate::shape::{Corner, Point, Shape, Sign};
 use itoa::Buffer;
 
 // What the style of a document calls a sign.
@@ -80,21 +80,32 @@ fn push_line(out: &mut Vec<u8>, from: Point, to: Point) -> Result<(), OutOfMemor
     push(out, "\"/>")
 }
 
-// Appends a curve with a straight end.
-fn push_curve(
+// Appends a corner.
+fn push_corner(out: &mut Vec<u8>, corner: Corner) -> Result<(), OutOfMemory>
+    ensures { OnOk result (out.new.items ≡ out.old.items ++ corner_text corner) }
+{
+    push(out, "L")?;
+    push_point(out, corner.before)?;
+    push(out, "Q")?;
+    push_point(out, corner.at)?;
+    push(out, " ")?;
+    push_point(out, corner.behind)
+}
+
+// Appends a way with a corner.
+fn push_bend(
     out: &mut Vec<u8>,
     from: Point,
-    leave: Point,
+    corner: Corner,
     come: Point,
     to: Point,
 ) -> Result<(), OutOfMemory>
-    ensures { OnOk result (out.new.items ≡ out.old.items ++ curve_text from leave come to) }
+    ensures { OnOk result (out.new.items ≡ out.old.items ++ bend_text from corner come to) }
 {
     push(out, "<path d=\"M")?;
     push_point(out, from)?;
-    push(out, "Q")?;
-    push_point(out, leave)?;
-    push(out, " ")?;
+    push_corner(out, corner)?;
+    push(out, "L")?;
     push_point(out, come)?;
     push(out, "L")?;
     push_point(out, to)?;
@@ -133,12 +144,12 @@ fn push_shape(out: &mut Vec<u8>, shape: Shape, words: &[u8]) -> Result<(), OutOf
     match shape {
         Shape::Band { at, wide, high } => push_band(out, at, wide, high),
         Shape::Line { from, to } => push_line(out, from, to),
-        Shape::Curve {
+        Shape::Bend {
             from,
-            leave,
+            corner,
             come,
             to,
-        } => push_curve(out, from, leave, come, to),
+        } => push_bend(out, from, corner, come, to),
         Shape::Dot { at } => push_outline(out, at, "m-6 0a6 6 0 1 0 12 0a6 6 0 1 0-12 0z"),
         Shape::Diamond { at } => push_outline(out, at, "m-8 0l8-8l8 8l-8 8z"),
         Shape::Square { at } => push_outline(out, at, "m-6-6h12v12h-12z"),

@@ -7,6 +7,14 @@ pub struct Point {
     pub y: u64,
 }
 
+/// A corner that is cut: where the way leaves its first part, the corner itself, and where the next part begins.
+#[derive(Clone, Copy)]
+pub struct Corner {
+    pub before: Point,
+    pub at: Point,
+    pub behind: Point,
+}
+
 /// What is drawn.
 #[derive(Clone, Copy)]
 pub enum Shape {
@@ -20,11 +28,10 @@ pub enum Shape {
         from: Point,
         to: Point,
     },
-    /// A curve that leaves its first point towards the second one, comes to the third one from there, and goes straight on to
-    /// the last one.
-    Curve {
+    /// A way that goes straight to a corner, round that, and straight on by one more point.
+    Bend {
         from: Point,
-        leave: Point,
+        corner: Corner,
         come: Point,
         to: Point,
     },
