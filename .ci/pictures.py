@@ -2,7 +2,9 @@
 
 - docs/pictures has a picture of each example with threads, NAME.svg of examples/NAME.sched, which is what the program writes now.
 - Each of these, and those of stored runs, is a document of XML with the elements and attributes that are known here, and no
-  others. All that it draws lies in its view box, and no two texts overlap, if a byte has at most 8 pixels.
+  others. All that it draws lies in its view box, and no two texts overlap, if a byte has at most 8 pixels. No link comes
+  within 8 of the mark of a step that isn't one of its two. Where rsvg-convert and xmllint are there, they read those of
+  docs/pictures without a complaint.
 - Its steps are those of the listing. Its arrows are those that plain.py's edges give: between steps of two threads of which
   one comes before the other by a chain of edges, where no step lies between. Its races are those of the report, and the
   witness's column has each drawn step once where there is a race.
@@ -11,6 +13,7 @@
 """
 import os
 import re
+import shutil
 import subprocess
 import sys
 import xml.etree.ElementTree as tree
@@ -23,7 +26,7 @@ COMPANION = f"{TOP}/crates/mirace_show/out/mirace_show"
 EXAMPLES, PICTURES = f"{TOP}/examples", f"{TOP}/docs/pictures"
 SPACE = "{http://www.w3.org/2000/svg}"
 # The elements of a document, each with its attributes.
-KNOWN = {"svg": {"width", "height", "viewBox", "role"}, "title": set(), "style": set(), "defs": set(), "rect": {"class", "width", "height"},
+KNOWN = {"svg": {"width", "height", "viewBox", "role", "{http://www.w3.org/XML/1998/namespace}space"}, "title": set(), "style": set(), "defs": set(), "rect": {"class", "width", "height"},
          "marker": {"id", "viewBox", "refX", "refY", "markerWidth", "markerHeight", "orient", "markerUnits", "class"}, "g": {"class"}, "path": {"d", "class"},
          "text": {"x", "y", "text-anchor"}}
 WAKE, DEPENDENCE = ": it woke or started its thread", ", which depends on it"
@@ -60,6 +63,10 @@ def kept(judge, companion):
         path = f"{PICTURES}/{name}.svg"
         wrote, status = drawn(program, schedule, companion)
         judge(f"docs/pictures/{name}.svg", os.path.isfile(path) and read(path) == wrote and status in (0, 1), "not what is drawn; --write makes it")
+        for reader in (["xmllint", "--noout"], ["rsvg-convert", "-o", "/dev/null"]):
+            if shutil.which(reader[0]):
+                ended = subprocess.run([*reader, path], stdin=subprocess.DEVNULL, capture_output=True, timeout=120)
+                judge(f"{reader[0]} {name}.svg", ended.returncode == 0 and not ended.stderr, f"{ended.stderr[:200]}")
     there = set(os.listdir(PICTURES)) if os.path.isdir(PICTURES) else set()
     judge("docs/pictures", there == names, f"{sorted(there ^ names)}")
 
@@ -102,6 +109,41 @@ class Picture:
                 is_round = re.match(r"M\d+ \d+m", path)
                 for x, y in [re.match(r"M(\d+) (\d+)", path).groups()] if is_round else re.findall(r"(\d+) (\d+)", path):
                     yield int(x), int(y), 8 if is_round else 0
+
+
+    def places(self):
+        """Where the marks of steps stand in their lanes, by their numbers."""
+        for sign in ("step", "racing", "stop"):
+            for it, title, mark in self.marks:
+                number = re.match(r"step (\d+), thread ", title) if it == sign else None
+                if number:
+                    x, y = re.match(r"M(\d+) (\d+)m", next(mark.iter(f"{SPACE}path")).get("d")).groups()
+                    yield int(number.group(1)), (int(x), int(y))
+
+    def links(self):
+        """The arrows and the lines of races: their two steps, and the points of their ways; a corner as it is, uncut."""
+        for it, title, mark in self.marks:
+            ends = re.match(r"step (\d+) (?:happens before|and) step (\d+)", title)
+            if it in ("wake", "dependence", "race", "first-race") and ends:
+                path = next(mark.iter(f"{SPACE}path")).get("d")
+                yield [int(k) for k in ends.groups()], [(int(x), int(y)) for x, y in re.findall(r"(\d+) (\d+)", path)]
+
+
+def distance(at, a, b):
+    """How far a point is from the straight way between two others."""
+    dx, dy = b[0] - a[0], b[1] - a[1]
+    along = dx * dx + dy * dy
+    t = min(1, max(0, ((at[0] - a[0]) * dx + (at[1] - a[1]) * dy) / along)) if along else 0
+    return ((at[0] - a[0] - t * dx) ** 2 + (at[1] - a[1] - t * dy) ** 2) ** 0.5
+
+
+def too_near(picture):
+    """Links that come within 8 of the mark of a step that isn't one of their two."""
+    places = dict(picture.places())
+    for ends, way in picture.links():
+        for number, at in places.items():
+            if number not in ends and any(distance(at, a, b) <= 8 for a, b in zip(way, way[1:])):
+                yield *ends, number
 
 
 def is_within(picture):
@@ -164,6 +206,7 @@ def picture(judge, what, text, steps, feet, pairs):
     judge(f"{what}: the elements of its picture", not list(it.unknown()), f"{list(it.unknown())[:3]}")
     judge(f"{what}: its picture lies in the view box", not is_within(it), f"{is_within(it)[:3]}")
     judge(f"{what}: no two texts of its picture overlap", not list(overlaps(it)), f"{list(overlaps(it))[:3]}")
+    judge(f"{what}: no link of its picture comes near a foreign mark", not list(too_near(it)), f"{list(too_near(it))[:3]}")
     marks = sorted(numbers(it.titled("step") + it.titled("racing") + it.titled("stop"), r"step (\d+), thread .*"))
     judge(f"{what}: the steps of its picture", marks == [step.number for step in steps], f"{marks}")
     wanted = sorted(arrows(feet))
