@@ -118,7 +118,10 @@ def pieces(text, width):
 
 def definition(part, table):
     """The file of specs/: what is said of each, by cases."""
-    lines = [part.stem() + "use Rattle.std.specs.Prelude.{◌++◌, codes}"]
+    reasons = part.module == "reasons"
+    lines = [part.stem() + f"use Rattle.std.specs.Prelude.{{{'ℕ, ◌==◌, List, [], ◌∷◌, Option, ' if reasons else ''}◌++◌, codes}}"]
+    if reasons:
+        lines.append("use Rattle.std.specs.List.{find}\nuse Rattle.mr_base.specs.Reasons.{code_of}")
     lines.append(f"use Rattle.{part.crate}.specs.declared.{part.path}.{{{part.kind}}}")
     lines.append(f"use Rattle.{part.crate}.specs.declared.{part.path}.TheVariants as it")
     lines.append(f"use Rattle.mr_why.specs.Words.{{Words}}\n\nabbrev pub {part.function} : {part.kind} → Words")
@@ -128,7 +131,23 @@ def definition(part, table):
             parts = [f'codes "{piece}"' for piece in pieces(entry[field], 96)]
             lines.append(f"  {field} =" + (f" {parts[0]};" if len(parts) == 1 else "\n      " + "\n      ++ ".join(parts) + ";"))
         lines.append("}")
-    return "\n".join(lines) + "\n"
+    return "\n".join(lines) + "\n" + (by_number(part, table) if reasons else "")
+
+
+def by_number(part, table):
+    """What stands behind it for reasons: all of them, and the one of a number, where there is one."""
+    rows = [" ∷ ".join(f"it.{entry['name']}" for entry in table[k:k + 4]) + " ∷" for k in range(0, len(table), 4)]
+    listed = "\n    ".join(rows) + " []"
+    return (f"\n-- all of them, by their numbers\nabbrev pub reasons : List {part.kind}\nreasons =\n    {listed}\n\n"
+            f"-- the one of a number, where there is one\nabbrev pub reason_of : ℕ → Option {part.kind}\n"
+            "reason_of code = find (λ r. code_of r == code) reasons\n")
+
+
+def code_by_number(part, table):
+    """The same by an arm for each."""
+    arms = "".join(f"        {entry['code']} => Some({part.kind}::{entry['name']}),\n" for entry in table)
+    return (f"\n/// The reason of a number, where there is one.\npub(crate) fn reason_of(code: u16) -> Option<{part.kind}>\n"
+            f"    ensures {{ result ≡ reason_of code }}\n{{\n    match code {{\n{arms}        _ => None,\n    }}\n}}\n")
 
 
 def literal(text):
@@ -157,7 +176,7 @@ def code_by_field(part, table):
     lines = [f"//! What is said of {part.what}. This file is made of docs/CODES.md by .ci/codes.py."]
     lines.append("ghost use Rattle.std.specs.Prelude.{◌≡◌};")
     lines.append("ghost use Rattle.mr_why.specs.Words.{words_of};")
-    lines.append(f"ghost use Rattle.mr_why.specs.{part.module.capitalize()}.{{{part.function}}};\n")
+    lines.append(f"ghost use Rattle.mr_why.specs.{part.module.capitalize()}.{{reason_of, {part.function}}};\n")
     lines.append(f"use crate::said::Said;\nuse {part.crate}::{part.kind};\n")
     for field in FIELDS:
         lines.append(f"// {LABELS.get(field, 'What it says')}.\nfn {field}_of(it: {part.kind}) -> &'static str")
@@ -169,7 +188,7 @@ def code_by_field(part, table):
     lines.append(f"pub(crate) fn {part.function}(it: {part.kind}) -> Said")
     lines.append(f"    ensures {{ words_of result ≡ {part.function} it }}\n{{\n    Said {{")
     lines += [f"        {field}: {field}_of(it)," for field in FIELDS]
-    return "\n".join(lines) + "\n    }\n}\n"
+    return "\n".join(lines) + "\n    }\n}\n" + code_by_number(part, table)
 
 
 def law(table):

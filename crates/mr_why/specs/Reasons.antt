@@ -1,5 +1,7 @@
 -- What is said of the reasons of undefined behaviour. This file is made of docs/CODES.md by .ci/codes.py.
-use Rattle.std.specs.Prelude.{◌++◌, codes}
+use Rattle.std.specs.Prelude.{ℕ, ◌==◌, List, [], ◌∷◌, Option, ◌++◌, codes}
+use Rattle.std.specs.List.{find}
+use Rattle.mr_base.specs.Reasons.{code_of}
 use Rattle.mr_base.specs.declared.reason.Reason.{Reason}
 use Rattle.mr_base.specs.declared.reason.Reason.TheVariants as it
 use Rattle.mr_why.specs.Words.{Words}
@@ -213,3 +215,20 @@ said_of_reason it.NotHolder = record {
   next = codes "Acquire first, release once.";
   example = codes "do release(u32 0) to b1; of a lock that nobody has";
 }
+
+-- all of them, by their numbers
+abbrev pub reasons : List Reason
+reasons =
+    it.DataRace ∷ it.Unreachable ∷ it.DeadLocal ∷ it.Misaligned ∷
+    it.NoProvenance ∷ it.DeadAllocation ∷ it.OutOfBounds ∷ it.InvalidValue ∷
+    it.DanglingReference ∷ it.Overflow ∷ it.ZeroDivisor ∷ it.DivOverflow ∷
+    it.ShiftAmount ∷ it.OffsetOverflow ∷ it.IndexOutOfRange ∷ it.InvalidDiscriminant ∷
+    it.TransmuteInvalid ∷ it.NotAFunction ∷ it.SignatureMismatch ∷ it.NoReturnBlock ∷
+    it.MainReturned ∷ it.NoUnwindBlock ∷ it.UnwoundThread ∷ it.NoPayload ∷
+    it.AssumeFalse ∷ it.SizeTooLarge ∷ it.BadAlign ∷ it.FreeAddress ∷
+    it.FreeKind ∷ it.FreeSize ∷ it.FreeAlign ∷ it.UnknownThread ∷
+    it.UnknownLock ∷ it.NotHolder ∷ []
+
+-- the one of a number, where there is one
+abbrev pub reason_of : ℕ → Option Reason
+reason_of code = find (λ r. code_of r == code) reasons

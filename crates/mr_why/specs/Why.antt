@@ -1,11 +1,9 @@
 -- The entry of a code, and how it is written.
-use Rattle.std.specs.Prelude.{ℕ, ◌==◌, nat_lt, if◌then◌else◌, List, [], ◌∷◌, ◌++◌, codes, decimal, Option}
-use Rattle.std.specs.List.{find}
+use Rattle.std.specs.Prelude.{ℕ, nat_lt, if◌then◌else◌, List, ◌++◌, codes, decimal, Option}
 use Rattle.std.specs.Option.{option_map}
 use Rattle.mr_ast.specs.FormRules as form
 use Rattle.mr_base.specs.Reasons.{code_of, name_of}
 use Rattle.mr_base.specs.declared.reason.Reason.{Reason}
-use Rattle.mr_base.specs.declared.reason.Reason.TheVariants as reason
 use Rattle.mr_lex.specs.Rules as text
 use Rattle.mr_sched.specs.Rules as schedule
 use Rattle.mr_base.specs.TraceRules as trace
@@ -13,7 +11,7 @@ use Rattle.mr_why.specs.declared.subject.Subject.{Subject}
 use Rattle.mr_why.specs.declared.subject.Subject.TheVariants as subject
 use Rattle.mr_why.specs.declared.said.Why.{Why}
 use Rattle.mr_why.specs.Programs.{said_of_program}
-use Rattle.mr_why.specs.Reasons.{said_of_reason}
+use Rattle.mr_why.specs.Reasons.{reason_of, said_of_reason}
 use Rattle.mr_why.specs.Schedules.{said_of_schedule}
 use Rattle.mr_why.specs.Texts.{said_of_text}
 use Rattle.mr_why.specs.Traces.{said_of_trace}
@@ -28,22 +26,6 @@ number_of (subject.Form rule) = form.code_of rule
 number_of (subject.Schedule rule) = schedule.code_of rule
 number_of (subject.Trace rule) = trace.code_of rule
 number_of (subject.Undefined why) = code_of why
-
--- all reasons of undefined behaviour, by their numbers
-abbrev pub reasons : List Reason
-reasons =
-    reason.DataRace ∷ reason.Unreachable ∷ reason.DeadLocal ∷ reason.Misaligned ∷ reason.NoProvenance ∷
-    reason.DeadAllocation ∷ reason.OutOfBounds ∷ reason.InvalidValue ∷ reason.DanglingReference ∷
-    reason.Overflow ∷ reason.ZeroDivisor ∷ reason.DivOverflow ∷ reason.ShiftAmount ∷ reason.OffsetOverflow ∷
-    reason.IndexOutOfRange ∷ reason.InvalidDiscriminant ∷ reason.TransmuteInvalid ∷ reason.NotAFunction ∷
-    reason.SignatureMismatch ∷ reason.NoReturnBlock ∷ reason.MainReturned ∷ reason.NoUnwindBlock ∷
-    reason.UnwoundThread ∷ reason.NoPayload ∷ reason.AssumeFalse ∷ reason.SizeTooLarge ∷ reason.BadAlign ∷
-    reason.FreeAddress ∷ reason.FreeKind ∷ reason.FreeSize ∷ reason.FreeAlign ∷ reason.UnknownThread ∷
-    reason.UnknownLock ∷ reason.NotHolder ∷ []
-
--- the reason of a number, where there is one
-abbrev pub reason_of : ℕ → Option Reason
-reason_of code = find (λ r. code_of r == code) reasons
 
 -- the rule of a number of each kind, and the reason
 abbrev pub text_of : ℕ → Option Subject

@@ -1,7 +1,7 @@
 //! What is said of the reasons of undefined behaviour. This file is made of docs/CODES.md by .ci/codes.py.
 ghost use Rattle.std.specs.Prelude.{◌≡◌};
 ghost use Rattle.mr_why.specs.Words.{words_of};
-ghost use Rattle.mr_why.specs.Reasons.{said_of_reason};
+ghost use Rattle.mr_why.specs.Reasons.{reason_of, said_of_reason};
 
 use crate::said::Said;
 use mr_base::Reason;
@@ -203,5 +203,48 @@ pub(crate) fn said_of_reason(it: Reason) -> Said
         cause: cause_of(it),
         next: next_of(it),
         example: example_of(it),
+    }
+}
+
+/// The reason of a number, where there is one.
+pub(crate) fn reason_of(code: u16) -> Option<Reason>
+    ensures { result ≡ reason_of code }
+{
+    match code {
+        100 => Some(Reason::DataRace),
+        101 => Some(Reason::Unreachable),
+        102 => Some(Reason::DeadLocal),
+        103 => Some(Reason::Misaligned),
+        104 => Some(Reason::NoProvenance),
+        105 => Some(Reason::DeadAllocation),
+        106 => Some(Reason::OutOfBounds),
+        107 => Some(Reason::InvalidValue),
+        108 => Some(Reason::DanglingReference),
+        109 => Some(Reason::Overflow),
+        110 => Some(Reason::ZeroDivisor),
+        111 => Some(Reason::DivOverflow),
+        112 => Some(Reason::ShiftAmount),
+        113 => Some(Reason::OffsetOverflow),
+        114 => Some(Reason::IndexOutOfRange),
+        115 => Some(Reason::InvalidDiscriminant),
+        116 => Some(Reason::TransmuteInvalid),
+        117 => Some(Reason::NotAFunction),
+        118 => Some(Reason::SignatureMismatch),
+        119 => Some(Reason::NoReturnBlock),
+        120 => Some(Reason::MainReturned),
+        121 => Some(Reason::NoUnwindBlock),
+        122 => Some(Reason::UnwoundThread),
+        123 => Some(Reason::NoPayload),
+        124 => Some(Reason::AssumeFalse),
+        125 => Some(Reason::SizeTooLarge),
+        126 => Some(Reason::BadAlign),
+        127 => Some(Reason::FreeAddress),
+        128 => Some(Reason::FreeKind),
+        129 => Some(Reason::FreeSize),
+        130 => Some(Reason::FreeAlign),
+        131 => Some(Reason::UnknownThread),
+        132 => Some(Reason::UnknownLock),
+        133 => Some(Reason::NotHolder),
+        _ => None,
     }
 }

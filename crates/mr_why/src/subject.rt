@@ -5,7 +5,7 @@ ghost use Rattle.mr_why.specs.Why.{undefined_of};
 ghost use Rattle.mr_why.specs.Words.{words_of};
 
 use crate::programs::said_of_program;
-use crate::reasons::said_of_reason;
+use crate::reasons::{reason_of, said_of_reason};
 use crate::said::Said;
 use crate::schedules::said_of_schedule;
 use crate::texts::said_of_text;
@@ -77,49 +77,6 @@ fn undefined_of(code: u16) -> Option<Subject>
     match reason_of(code) {
         Some(reason) => Some(Subject::Undefined(reason)),
         None => None,
-    }
-}
-
-// The reason of a number.
-fn reason_of(code: u16) -> Option<Reason>
-    ensures { result ≡ reason_of code }
-{
-    match code {
-        100 => Some(Reason::DataRace),
-        101 => Some(Reason::Unreachable),
-        102 => Some(Reason::DeadLocal),
-        103 => Some(Reason::Misaligned),
-        104 => Some(Reason::NoProvenance),
-        105 => Some(Reason::DeadAllocation),
-        106 => Some(Reason::OutOfBounds),
-        107 => Some(Reason::InvalidValue),
-        108 => Some(Reason::DanglingReference),
-        109 => Some(Reason::Overflow),
-        110 => Some(Reason::ZeroDivisor),
-        111 => Some(Reason::DivOverflow),
-        112 => Some(Reason::ShiftAmount),
-        113 => Some(Reason::OffsetOverflow),
-        114 => Some(Reason::IndexOutOfRange),
-        115 => Some(Reason::InvalidDiscriminant),
-        116 => Some(Reason::TransmuteInvalid),
-        117 => Some(Reason::NotAFunction),
-        118 => Some(Reason::SignatureMismatch),
-        119 => Some(Reason::NoReturnBlock),
-        120 => Some(Reason::MainReturned),
-        121 => Some(Reason::NoUnwindBlock),
-        122 => Some(Reason::UnwoundThread),
-        123 => Some(Reason::NoPayload),
-        124 => Some(Reason::AssumeFalse),
-        125 => Some(Reason::SizeTooLarge),
-        126 => Some(Reason::BadAlign),
-        127 => Some(Reason::FreeAddress),
-        128 => Some(Reason::FreeKind),
-        129 => Some(Reason::FreeSize),
-        130 => Some(Reason::FreeAlign),
-        131 => Some(Reason::UnknownThread),
-        132 => Some(Reason::UnknownLock),
-        133 => Some(Reason::NotHolder),
-        _ => None,
     }
 }
 
