@@ -19,8 +19,8 @@ module _ (files : Contents) (files_rose out_rose : Type 0) (old new : Option (Li
   written_ends (Shown saying program schedule) a (inl tells) written = inr (seen a, inl tells, written)
   written_ends (Shown saying program schedule) a (inr (rose, inl e)) written = absurd (cc)
   written_ends (Shown saying program schedule) a (inr (rose, inr (asks, e))) written = absurd (cc)
-  written_ends (Hunted range aim name program) a (inl tells) written = inr (seen a, inl tells, written)
-  written_ends (Hunted range aim name program) a (inr (rose, e)) written = absurd (cc)
+  written_ends (Hunted range seek name program) a (inl tells) written = inr (seen a, inl tells, written)
+  written_ends (Hunted range seek name program) a (inr (rose, e)) written = absurd (cc)
   written_ends (Bare span trace) a (inl tells) written = inr (seen a, inl tells, written)
   written_ends (Bare span trace) a (inr (rose, e)) written = absurd (cc)
   written_ends (Why code) a tells written = inr (seen a, inl tells, written)
@@ -35,10 +35,10 @@ module _ (files : Contents) (files_rose out_rose : Type 0) (old new : Option (Li
   is_defined (Shown saying program schedule) r (inr (rose, inl e)) = inr (inr (rose, inl (ap refused (same_refusal e))))
   is_defined (Shown saying program schedule) r (inr (rose, inr (asks, e))) =
       inr (inr (rose, inr (asks, ap refused (same_refusal e))))
-  is_defined (Hunted range aim name program) r (inl tells) =
-      elim (refusal_told (answer_of files (Some (Hunted range aim name program))) r tells)
+  is_defined (Hunted range seek name program) r (inl tells) =
+      elim (refusal_told (answer_of files (Some (Hunted range seek name program))) r tells)
       [ inl e ↦ inl e | inr e ↦ inr (inl (sym e)) ]
-  is_defined (Hunted range aim name program) r (inr (rose, e)) = inr (inr (rose, ap refused (same_refusal e)))
+  is_defined (Hunted range seek name program) r (inr (rose, e)) = inr (inr (rose, ap refused (same_refusal e)))
   is_defined (Bare span trace) r (inl tells) =
       elim (refusal_told (answer_of files (Some (Bare span trace))) r tells)
       [ inl e ↦ inl e | inr e ↦ inr (inl (sym e)) ]

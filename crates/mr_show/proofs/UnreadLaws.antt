@@ -34,7 +34,8 @@ use Rattle.mr_show.specs.Answer.{ran_under}
 use Rattle.mr_show.specs.Answer.{run_seen, shown_answer, text_answer, usage, why_answer}
 use Rattle.mr_show.specs.Filled.{filled_answer, unless_bad}
 use Rattle.mr_show.specs.Next.{next_from, reached_answer}
-use Rattle.mr_hunt.specs.Aims.{Aim, first_met}
+use Rattle.mr_hunt.specs.Aims.{first_met}
+use Rattle.mr_show.specs.Seek.{Ends, First, Schedule, Seek}
 use Rattle.mr_show.specs.declared.form.Range.{Range}
 use Rattle.mr_show.specs.Gathered.{laid_in}
 use Rattle.mr_show.specs.Hunted.{found_answer, hunt_answer, hunted_file, hunted_program, most_in}
@@ -127,19 +128,20 @@ module _ (range : Range) (name text : List ℕ) where
   found_least p None = omega arith
   found_least p (Some number) = omega arith
 
-  hunt_least : (p : Program) (aim : Option Aim) → (hunt_answer range aim name text p).status ≤ 5
-  hunt_least p None = omega arith
-  hunt_least p (Some aim) =
+  hunt_least : (p : Program) (seek : Seek) → (hunt_answer range seek name text p).status ≤ 5
+  hunt_least p Ends = omega arith
+  hunt_least p Schedule = omega arith
+  hunt_least p (First aim) =
       found_least p (first_met aim (laid_in p (lexed text)) p (most_in range) range.from range.to)
 
-  hunted_least : (aim : Option Aim) (r : Result Program TextFault)
-      → (told (hunted_program range aim name text) (denoted r)).status ≤ 5
-  hunted_least aim (Ok p) = by_faults (faults_of p)
+  hunted_least : (seek : Seek) (r : Result Program TextFault)
+      → (told (hunted_program range seek name text) (denoted r)).status ≤ 5
+  hunted_least seek (Ok p) = by_faults (faults_of p)
     where
-      by_faults : (faults : List FormFault) → (form_or p faults (hunt_answer range aim name text p)).status ≤ 5
-      by_faults [] = hunt_least p aim
+      by_faults : (faults : List FormFault) → (form_or p faults (hunt_answer range seek name text p)).status ≤ 5
+      by_faults [] = hunt_least p seek
       by_faults (f ∷ faults) = omega arith
-  hunted_least aim (Err f) = omega arith
+  hunted_least seek (Err f) = omega arith
 
 why_least : (code : ℕ) (entry : Option Entry) → (why_answer code entry).status ≤ 5
 why_least code None = omega arith
@@ -208,17 +210,17 @@ module _ (files : Contents) where
       let h = bytes_only saying (files schedule) bytes (telling_of saying) six in
       inr (subst (AsksForSecond saying) (sym e) h.0, h.1)
 
-  hunted_six : (range : Range) (aim : Option Aim) (name program : List ℕ) (file : Option (List ℕ)) → files program ≡ file
-      → SixIf (files program ≡ None) (hunted_file range aim name file).status
-  hunted_six range aim name program None e = inr (refl, e)
-  hunted_six range aim name program (Some text) e = inl (hunted_least range name text aim (parsed text))
+  hunted_six : (range : Range) (seek : Seek) (name program : List ℕ) (file : Option (List ℕ)) → files program ≡ file
+      → SixIf (files program ≡ None) (hunted_file range seek name file).status
+  hunted_six range seek name program None e = inr (refl, e)
+  hunted_six range seek name program (Some text) e = inl (hunted_least range name text seek (parsed text))
 
   -- 6 is answered only where a file isn't there
   lacks : (form : Option Form) → (answer_of files form).status ≡ 6 → LacksFile files form
   lacks None six = absurd (omega (arith, six))
   lacks (Some (Shown saying program schedule)) six = shown_only saying program schedule (files program) refl six
-  lacks (Some (Hunted range aim name program)) six =
-      only_if _ _ (hunted_six range aim name program (files program) refl) six
+  lacks (Some (Hunted range seek name program)) six =
+      only_if _ _ (hunted_six range seek name program (files program) refl) six
   lacks (Some (Bare span trace)) six = bare_only span (files trace) six
   lacks (Some (Why code)) six = let least = why_least code (entry_of code) in absurd (omega (arith, least, six))
   lacks (Some (Help topic)) six = absurd (omega (arith, six))

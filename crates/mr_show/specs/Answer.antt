@@ -163,7 +163,7 @@ usage = record {
   text = line (
       codes "usage: steps P S [FIRST LAST] | races P S | picture P S [FIRST LAST] | order P S FIRST LAST | "
       ++ codes "races T PLACES | steps T PLACES [FIRST LAST] | steps T FIRST LAST | picture T PLACES [FIRST LAST] | "
-      ++ codes "next P S | fill P O | halt P O | hunt P FROM TO M [AIM] | why CODE | --help"
+      ++ codes "next P S | fill P O | halt P O | hunt P FROM TO M [AIM] | draw P N M | why CODE | --help"
       );
   status = 2;
 }
@@ -172,7 +172,7 @@ usage = record {
 abbrev pub answer_of : Contents → Option Form → Answer
 answer_of files None = usage
 answer_of files (Some (Shown saying program schedule)) = shown_answer saying (files schedule) (files program)
-answer_of files (Some (Hunted range aim name program)) = hunted_file range aim name (files program)
+answer_of files (Some (Hunted range seek name program)) = hunted_file range seek name (files program)
 answer_of files (Some (Bare span trace)) = bare_answer span (files trace)
 answer_of files (Some (Why code)) = why_answer code (entry_of code)
 answer_of files (Some (Help topic)) = help_answer topic

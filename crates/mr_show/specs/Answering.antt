@@ -8,7 +8,7 @@ use Rattle.mr_input.specs.declared.refusal.Refusal.TheVariants as refusal
 use Rattle.mr_input.specs.declared.written.Written.{Written}
 use Rattle.mr_input.specs.Answer.{IsStatus, Tells}
 use Rattle.mr_input.specs.Inputs.{holding, program_in}
-use Rattle.mr_hunt.specs.Aims.{Aim}
+use Rattle.mr_show.specs.Seek.{Seek}
 use Rattle.mr_picture.specs.declared.span.Span.{Span}
 use Rattle.mr_show.specs.declared.form.Range.{Range}
 use Rattle.mr_show.specs.declared.form.Saying.{Saying}
@@ -65,9 +65,9 @@ abbrev pub IsBare : Type 0 → Span → Option (List ℕ) → Result Written Ref
 IsBare rose span file result = Tells (bare_answer span file) result ⊎ (rose × (result ≡ Err refusal.ReadTrace))
 
 -- what a hunt tells over a file; or its read failed
-abbrev pub IsHunted : Type 0 → Range → Option Aim → List ℕ → Option (List ℕ) → Result Written Refusal → Type 0
-IsHunted rose range aim name file result =
-    Tells (hunted_file range aim name file) result ⊎ (rose × (result ≡ Err refusal.ReadProgram))
+abbrev pub IsHunted : Type 0 → Range → Seek → List ℕ → Option (List ℕ) → Result Written Refusal → Type 0
+IsHunted rose range seek name file result =
+    Tells (hunted_file range seek name file) result ⊎ (rose × (result ≡ Err refusal.ReadProgram))
 
 -- the status of an answer, or that of a fault of places
 abbrev pub IsShownStatus : ℕ → Type 0
@@ -77,7 +77,7 @@ IsShownStatus status = IsStatus status ⊎ (status ≡ 9)
 abbrev pub IsAnswered : Contents → Form → Type 0 → Result Written Refusal → Type 0
 IsAnswered files (Shown saying program schedule) rose result =
     IsOfFiles rose saying (files schedule) (files program) result
-IsAnswered files (Hunted range aim name program) rose result = IsHunted rose range aim name (files program) result
+IsAnswered files (Hunted range seek name program) rose result = IsHunted rose range seek name (files program) result
 IsAnswered files (Bare span trace) rose result = IsBare rose span (files trace) result
 IsAnswered files (Why code) rose result = Tells (why_answer code (entry_of code)) result
 IsAnswered files (Help topic) rose result = Tells (help_answer topic) result

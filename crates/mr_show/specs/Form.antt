@@ -5,7 +5,7 @@ use Rattle.std.specs.Prelude.{if◌then◌else◌}
 use Rattle.std.specs.List.{list_any, range_with_len}
 use Rattle.std.specs.Option.{option_map}
 use Rattle.mr_picture.specs.declared.span.Span.{Span}
-use Rattle.mr_hunt.specs.Aims.{Aim, Any, Lines, Named, Prints, Race, Undefined, aim_of}
+use Rattle.mr_hunt.specs.Aims.{Aim, Any, Lines, Named, Prints, Race, Undefined}
 use Rattle.mr_input.specs.Numbers.{number_below}
 use Rattle.mr_why.specs.Why.{Entry, entry_of}
 use Rattle.mr_show.specs.declared.form.Form.{Form as Words}
@@ -13,6 +13,7 @@ use Rattle.mr_show.specs.declared.form.Form.TheVariants as words
 use Rattle.mr_show.specs.declared.form.Part.{Part}
 use Rattle.mr_show.specs.declared.form.Part.TheVariants.{Order, Picture, Races, Steps}
 use Rattle.mr_show.specs.declared.form.Range.{Range}
+use Rattle.mr_show.specs.Seek.{Schedule, Seek, seek_of, seeking}
 use Rattle.mr_show.specs.declared.form.Saying.{Saying}
 use Rattle.mr_show.specs.declared.form.Saying.TheVariants.{Next, OfOrder, OfRun}
 use Rattle.mr_show.specs.declared.form.Filling.TheVariants.{Halt, Schedule}
@@ -24,11 +25,11 @@ use Rattle.mr_show.specs.declared.form.Topic.TheVariants.{OfOrdered, OfWhy}
 -- What is asked for: what is said of the run of the program in one file under the schedule in another, which is a part
 -- of it, its steps from one number up to another, its races by pairs of places or a picture of it, or how it can go on;
 -- or what the order in another becomes, which is a schedule, or where it can't go on; which ends the runs of some
--- numbers have, or the first of these runs that has what is looked for; the steps of a trace; what is said of a code;
--- or help.
+-- numbers have, or the first of these runs that has what is looked for, or the schedule of a number; the steps of a
+-- trace; what is said of a code; or help.
 pub data Form : Type 0 where
   Shown : (saying : Saying) (program schedule : List ℕ) → Form
-  Hunted : (range : Range) (aim : Option Aim) (name program : List ℕ) → Form
+  Hunted : (range : Range) (seek : Seek) (name program : List ℕ) → Form
   Bare : (span : Span) (trace : List ℕ) → Form
   Why : (code : ℕ) → Form
   Help : (topic : Topic) → Form
@@ -43,8 +44,9 @@ help_of word =
     else (if bytes_eq word (codes "fill") then Some (Help OfFill)
     else (if bytes_eq word (codes "halt") then Some (Help OfFill)
     else (if bytes_eq word (codes "hunt") then Some (Help OfHunt)
+    else (if bytes_eq word (codes "draw") then Some (Help OfHunt)
     else (if bytes_eq word (codes "order") then Some (Help OfOrdered)
-    else (if bytes_eq word (codes "why") then Some (Help OfWhy) else None))))))))
+    else (if bytes_eq word (codes "why") then Some (Help OfWhy) else None)))))))))
 
 -- what is said of a code
 abbrev pub why_of : List ℕ → Option ℕ → Option Form
@@ -100,7 +102,12 @@ range_of (Some from) (Some to) (Some most) =
 abbrev pub hunt_of : List ℕ → List ℕ → Option Range → Option Aim → Option Form
 hunt_of word program None aim = None
 hunt_of word program (Some range) aim =
-    if bytes_eq word (codes "hunt") then Some (Hunted range aim program program) else None
+    if bytes_eq word (codes "hunt") then Some (Hunted range (seeking aim) program program) else None
+
+-- the schedule of a number
+abbrev pub drawn_of : List ℕ → Option Range → Option Form
+drawn_of program None = None
+drawn_of program (Some range) = Some (Hunted range Schedule program program)
 
 -- with an aim
 abbrev pub aimed_of : List ℕ → List ℕ → Option Range → Option Aim → Option Form
@@ -147,6 +154,12 @@ abbrev pub word_range : List ℕ → List ℕ → List ℕ → Option Range
 word_range from to most =
     range_of (number_below (2 ^ 64) from) (number_below (2 ^ 64) to) (number_below (2 ^ 20 + 1) most)
 
+-- four words
+abbrev pub four_form : List ℕ → List ℕ → List ℕ → List ℕ → Option Form
+four_form word file third fourth =
+    if bytes_eq word (codes "draw") then drawn_of file (word_range third third fourth)
+    else bare_of word file (span_of (number_below (2 ^ 32) third) (number_below (2 ^ 32) fourth))
+
 -- five words and more
 abbrev pub long_form : List ℕ → List ℕ → List ℕ → List ℕ → List ℕ → List (List ℕ) → Option Form
 long_form word program third fourth fifth [] =
@@ -161,22 +174,21 @@ long_form word program third fourth fifth _ = None
 -- `steps P S`, `steps P S FIRST LAST`, `races P S`, `picture P S`, `picture P S FIRST LAST`, `order P S FIRST LAST`,
 -- `next P S` and `steps T FIRST LAST`, where FIRST and LAST are below 2^32; `fill P O` and `halt P O`;
 -- `hunt P FROM TO M`, where FROM is at most TO, both are below 2^64, and M is at most 2^20, and an aim behind it;
--- `why CODE`, where CODE is below 2^16; `--help`, and that behind `steps`, `races`, `picture`, `order`, `next`, `fill`,
--- `halt`, `hunt` or `why`; and no other form
+-- `draw P N M`, with such numbers; `why CODE`, where CODE is below 2^16; `--help`, and that behind `steps`, `races`,
+-- `picture`, `order`, `next`, `fill`, `halt`, `hunt`, `draw` or `why`; and no other form
 abbrev pub form_of : List (List ℕ) → Option Form
 form_of (word ∷ []) = if bytes_eq word (codes "--help") then Some (Help Everything) else None
 form_of (word ∷ option ∷ []) =
     if bytes_eq option (codes "--help") then help_of word else why_of word (number_below (2 ^ 16) option)
 form_of (word ∷ program ∷ schedule ∷ []) = whole_of word program schedule
-form_of (word ∷ trace ∷ first ∷ last ∷ []) =
-    bare_of word trace (span_of (number_below (2 ^ 32) first) (number_below (2 ^ 32) last))
+form_of (word ∷ file ∷ third ∷ fourth ∷ []) = four_form word file third fourth
 form_of (word ∷ program ∷ third ∷ fourth ∷ fifth ∷ rest) = long_form word program third fourth fifth rest
 form_of _ = None
 
 -- the form that the words ask for
 abbrev pub asked : Words → Form
 asked (words.Shown saying program schedule) = Shown saying program.now schedule.now
-asked (words.Hunted range aim program) = Hunted range (option_map aim_of aim) program.now program.now
+asked (words.Hunted range seek program) = Hunted range (seek_of seek) program.now program.now
 asked (words.Bare span trace) = Bare span trace.now
 asked (words.Why code) = Why code
 asked (words.Help topic) = Help topic

@@ -29,6 +29,7 @@ help_text Everything =
     codes "mirace_show hunt P FROM TO M [AIM]   how many drawn runs end in each way, or the "
     ++ codes "first that has AIM"
     )
+    ++ line (codes "mirace_show draw P N M               the schedule of at most M entries that is drawn from number N")
     ++ line (codes "mirace_show why CODE                 what is said of a code of a rule, a fault or a reason")
     ++ line (
     codes "P is the file of a program, S that of a schedule, O that of an order, T that of "
@@ -37,8 +38,9 @@ help_text Everything =
     ++ line (codes "of the places of its steps.")
     ++ line (
     codes "With --help behind one of the words steps, races, picture, order, next, fill, halt, "
-    ++ codes "hunt and why it tells more."
+    ++ codes "hunt, draw and why it"
     )
+    ++ line (codes "tells more.")
 help_text OfSteps =
     line (codes "mirace_show steps P S [FIRST LAST]")
     ++ line (
@@ -155,6 +157,8 @@ help_text OfHunt =
     codes "AIM is any, race, undefined, the name of another verdict or of a reason, prints "
     ++ codes "TEXT, or two lines of P."
     )
+    ++ line (codes "mirace_show draw P N M")
+    ++ line (codes "Writes the schedule that is drawn from number N alone, with at most M entries.")
 help_text OfOrdered =
     line (codes "mirace_show order P S FIRST LAST")
     ++ line (

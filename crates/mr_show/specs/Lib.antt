@@ -9,6 +9,7 @@ pub mod Next
 pub mod Outcome
 pub mod Reached
 pub mod Second
+pub mod Seek
 pub mod Sentences
 pub mod Traced
 pub mod Unread

@@ -15,7 +15,7 @@ abbrev pub IsUnread : Contents → Form → Answer → Type 0
 IsUnread files (Shown saying program schedule) a =
     (a ≡ refused refusal.ReadProgram)
     ⊎ (AsksForSecond saying (files program) × (a ≡ refused refusal.ReadSchedule))
-IsUnread files (Hunted range aim name program) a = a ≡ refused refusal.ReadProgram
+IsUnread files (Hunted range seek name program) a = a ≡ refused refusal.ReadProgram
 IsUnread files (Bare span trace) a = a ≡ refused refusal.ReadTrace
 IsUnread files (Why code) a = ⊥
 IsUnread files (Help topic) a = ⊥
@@ -37,7 +37,7 @@ Ends files (Some form) files_rose out_rose old new status =
 -- the same form over two files, named `program` and `schedule`; a name that is written stays as it is
 abbrev pub over_holding : Form → Form
 over_holding (Shown saying program schedule) = Shown saying (codes "program") (codes "schedule")
-over_holding (Hunted range aim name program) = Hunted range aim name (codes "program")
+over_holding (Hunted range seek name program) = Hunted range seek name (codes "program")
 over_holding (Bare span trace) = Bare span (codes "program")
 over_holding (Why code) = Why code
 over_holding (Help topic) = Help topic

@@ -9,7 +9,7 @@ abbrev pub LacksFile : Contents → Option Form → Type 0
 LacksFile files None = ⊥
 LacksFile files (Some (Shown saying program schedule)) =
     (files program ≡ None) ⊎ (AsksForSecond saying (files program) × (files schedule ≡ None))
-LacksFile files (Some (Hunted range aim name program)) = files program ≡ None
+LacksFile files (Some (Hunted range seek name program)) = files program ≡ None
 LacksFile files (Some (Bare span trace)) = files trace ≡ None
 LacksFile files (Some (Why code)) = ⊥
 LacksFile files (Some (Help topic)) = ⊥

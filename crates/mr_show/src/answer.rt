@@ -43,9 +43,9 @@ pub(crate) fn answer<F: Files>(
         } => shown_files(alloc, files, saying, program, schedule),
         Form::Hunted {
             range,
-            aim,
+            seek,
             program,
-        } => hunted_file(alloc, files, range, aim, program),
+        } => hunted_file(alloc, files, range, seek, program),
         Form::Bare { span, trace } => bare_file(alloc, files, span, trace),
         Form::Why { code } => explained(alloc, code),
         Form::Help { topic } => help(alloc, topic),

@@ -3,9 +3,10 @@ ghost use Rattle.std.specs.Prelude.{◌≡◌, [], ◌∷◌, ◌+◌, ◌^◌, 
 ghost use Rattle.std.specs.Option.{option_map};
 ghost use Rattle.mr_input.specs.Numbers.{number_below};
 ghost use Rattle.mr_hunt.specs.Aims.{Named, aim_of};
-ghost use Rattle.mr_show.specs.Form.{Why, aimed_of, asked, bare_of, form_of, help_of, hunt_of, is_name_of};
+ghost use Rattle.mr_show.specs.Form.{Why, aimed_of, asked, bare_of, drawn_of, form_of, four_form, help_of, hunt_of, is_name_of};
 ghost use Rattle.mr_show.specs.Form.{is_reason, is_verdict, lines_from, long_form, part_of, span_of, spanned};
 ghost use Rattle.mr_show.specs.Form.{two_aim, whole_of, why_of, word_aim, word_range};
+ghost use Rattle.mr_show.specs.Seek.{seek_of, seeking};
 ghost use Rattle.mr_why.specs.Why.{entry_of};
 
 use mr_hunt::Aim;
@@ -79,6 +80,17 @@ pub struct Range {
     pub most: u32,
 }
 
+/// What is looked for among the runs of numbers.
+#[derive(Clone, Copy)]
+pub enum Seek<'a> {
+    /// All kinds of ends.
+    Ends,
+    /// The first run that has what is aimed at.
+    First(Aim<'a>),
+    /// The schedule itself, of the first number.
+    Schedule,
+}
+
 /// What is asked for, with the names of files.
 #[derive(Clone, Copy)]
 pub enum Form<'a> {
@@ -88,10 +100,10 @@ pub enum Form<'a> {
         program: &'a str,
         schedule: &'a str,
     },
-    /// Which ends the runs of numbers have; or with an aim the first of them that has it.
+    /// What the runs of numbers tell.
     Hunted {
         range: Range,
-        aim: Option<Aim<'a>>,
+        seek: Seek<'a>,
         program: &'a str,
     },
     /// The steps of a trace, without places.
@@ -135,6 +147,9 @@ fn help_of<'a>(word: &str) -> Option<Form<'a>>
             topic: Topic::OfFill,
         }),
         "hunt" => Some(Form::Help {
+            topic: Topic::OfHunt,
+        }),
+        "draw" => Some(Form::Help {
             topic: Topic::OfHunt,
         }),
         "order" => Some(Form::Help {
@@ -265,6 +280,16 @@ fn word_range(from: &str, to: &str, most: &str) -> Option<Range>
     }
 }
 
+// What is looked for, with an aim or without.
+fn seeking(aim: Option<Aim<'_>>) -> Seek<'_>
+    ensures { seek_of result ≡ seeking (option_map aim_of aim.entry) }
+{
+    match aim {
+        None => Seek::Ends,
+        Some(aim) => Seek::First(aim),
+    }
+}
+
 // `hunt P FROM TO M`, with what is looked for, if anything is.
 fn hunt_of<'a>(
     word: &str,
@@ -278,11 +303,23 @@ fn hunt_of<'a>(
     match word {
         "hunt" => Some(Form::Hunted {
             range,
-            aim,
+            seek: seeking(aim),
             program,
         }),
         _ => None,
     }
+}
+
+// `draw P N M`.
+fn drawn_of(program: &str, range: Option<Range>) -> Option<Form<'_>>
+    ensures { option_map asked result ≡ drawn_of program.now range }
+{
+    let range = range?;
+    Some(Form::Hunted {
+        range,
+        seek: Seek::Schedule,
+        program,
+    })
 }
 
 // `hunt P FROM TO M AIM`.
@@ -397,6 +434,16 @@ fn five_form<'a>(
     }
 }
 
+// `draw P N M` and `steps T FIRST LAST`.
+fn four_form<'a>(word: &str, file: &'a str, third: &str, fourth: &str) -> Option<Form<'a>>
+    ensures { option_map asked result ≡ four_form word.now file.now third.now fourth.now }
+{
+    match word {
+        "draw" => drawn_of(file, word_range(third, third, fourth)),
+        _ => bare_of(word, file, third, fourth),
+    }
+}
+
 // The form of five words and more.
 fn long_form<'a>(
     word: &str,
@@ -442,8 +489,8 @@ fn two_form<'a>(word: &str, option: &str) -> Option<Form<'a>>
 
 /// The form of these words: `steps P S`, `steps P S FIRST LAST`, `races P S`, `picture P S`,
 /// `picture P S FIRST LAST`, `order P S FIRST LAST`, `next P S`, `steps T FIRST LAST`, `fill P O`, `halt P O`,
-/// `hunt P FROM TO M` and that with an aim, `why CODE`, `--help`, or one of the words `steps`, `races`, `picture`,
-/// `order`, `next`, `fill`, `halt`, `hunt` and `why` with `--help` behind it.
+/// `hunt P FROM TO M` and that with an aim, `draw P N M`, `why CODE`, `--help`, or one of the words `steps`, `races`,
+/// `picture`, `order`, `next`, `fill`, `halt`, `hunt`, `draw` and `why` with `--help` behind it.
 pub fn form_of(words: &[String]) -> Option<Form<'_>>
     ensures { option_map asked result ≡ form_of (map string_bytes words.now) }
 {
@@ -454,8 +501,13 @@ pub fn form_of(words: &[String]) -> Option<Form<'_>>
         [word, program, schedule] => {
             whole_of(word.as_str(), program.as_str(), schedule.as_str())
         }
-        [word, trace, first, last] => {
-            bare_of(word.as_str(), trace.as_str(), first.as_str(), last.as_str())
+        [word, file, third, fourth] => {
+            four_form(
+                word.as_str(),
+                file.as_str(),
+                third.as_str(),
+                fourth.as_str(),
+            )
         }
         [word, program, third, fourth, fifth, rest @ ..] => long_form(
             word.as_str(),

@@ -17,10 +17,12 @@ mirace_show next P S                 what each thread would do next, or the entr
 mirace_show fill P O                 the schedule that an order of threads becomes
 mirace_show halt P O                 where that order can't go on
 mirace_show hunt P FROM TO M [AIM]   how many drawn runs end in each way, or the first that has AIM
+mirace_show draw P N M               the schedule of at most M entries that is drawn from number N
 mirace_show why CODE                 what is said of a code of a rule, a fault or a reason
 P is the file of a program, S that of a schedule, O that of an order, T that of a trace, and PLACES that
 of the places of its steps.
-With --help behind one of the words steps, races, picture, order, next, fill, halt, hunt and why it tells more.
+With --help behind one of the words steps, races, picture, order, next, fill, halt, hunt, draw and why it
+tells more.
 ";
 
 const OF_STEPS: &[u8] = b"\
@@ -77,6 +79,8 @@ Draws a schedule of at most M entries for the program in file P from each number
 auto does, and runs it. Writes a line for each verdict and for each two places that race: how many numbers
 have it, and the first. With AIM it stops at the first number whose run has it, with status 1, and tells it.
 AIM is any, race, undefined, the name of another verdict or of a reason, prints TEXT, or two lines of P.
+mirace_show draw P N M
+Writes the schedule that is drawn from number N alone, with at most M entries.
 ";
 
 const OF_ORDERED: &[u8] = b"\

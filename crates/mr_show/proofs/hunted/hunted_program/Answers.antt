@@ -1,7 +1,6 @@
 use Rattle.std.proofs.Common.{ap, sym, ◌∙◌}
-use Rattle.std.specs.Option.{option_map}
 use Rattle.std.specs.Prelude.{Ok}
-use Rattle.mr_hunt.specs.Aims.{aim_of}
+use Rattle.mr_show.specs.Seek.{seek_of}
 use Rattle.mr_show.specs.Hunted.{hunt_answer}
 use Rattle.mr_show.proofs.HuntLaws.{hunt_checked}
 use Rattle.mr_show.proofs.hunted.hunted_program.Goals as goal
@@ -11,8 +10,8 @@ hunted-requires c = c.requires.parsed ∙ ap Ok (sym c.in-Ok.ensures.0)
 
 pub returns-in-Ok-clause-answer : goal.returns-in-Ok-clause-answer
 returns-in-Ok-clause-answer c =
-    let aim = option_map aim_of c.args.aim in
+    let seek = seek_of c.args.seek in
     let name = c.args.name.now in
     let text = c.args.text.now in
-    hunt_checked c.args.range aim name text c.args.p c.in-Ok.checked c.answered.result c.in-Ok.ensures
-    (c.answered.ensures.answer (hunt_answer c.args.range aim name text c.in-Ok.checked) c.hunted.ensures.answer)
+    hunt_checked c.args.range seek name text c.args.p c.in-Ok.checked c.answered.result c.in-Ok.ensures
+    (c.answered.ensures.answer (hunt_answer c.args.range seek name text c.in-Ok.checked) c.hunted.ensures.answer)
