@@ -37,7 +37,7 @@ EXAMPLES = f"{TOP}/examples"
 CLASS = f"{EXAMPLES}/class"
 CASES = f"{TOP}/crates/mirace_cases/data"
 STORED = f"{TOP}/crates/mirace_cases/stdout"
-USAGE = b"usage: steps P S [FIRST LAST] | races P S | picture P S [FIRST LAST] | order P S FIRST LAST | races T PLACES | steps T PLACES [FIRST LAST] | steps T FIRST LAST | next P S | fill P O | halt P O | hunt P FROM TO M [AIM] | why CODE | --help\n"
+USAGE = b"usage: steps P S [FIRST LAST] | races P S | picture P S [FIRST LAST] | order P S FIRST LAST | races T PLACES | steps T PLACES [FIRST LAST] | steps T FIRST LAST | picture T PLACES [FIRST LAST] | next P S | fill P O | halt P O | hunt P FROM TO M [AIM] | draw P N M | why CODE | --help\n"
 # The most seconds that a long run may take, on a slow machine.
 PATIENCE = 40
 # The line of a step, with its number, its thread, its place, its function, its block and its statement.
@@ -141,7 +141,7 @@ def helps(judge, at):
     """The text of each help begins with its form, in lines of at most 120 bytes, and names no other."""
     for words, first in (([], b"mirace_show steps P S [FIRST LAST]   "), (["steps"], b"mirace_show steps P S [FIRST LAST]\n"),
                          (["races"], b"mirace_show races P S\n"), (["picture"], b"mirace_show picture P S [FIRST LAST]\n"), (["next"], b"mirace_show next P S\n"),
-                         (["fill"], b"mirace_show fill P O | halt P O\n"), (["halt"], b"mirace_show fill P O | halt P O\n"), (["hunt"], b"mirace_show hunt P FROM TO M [AIM]\n"), (["order"], b"mirace_show order P S FIRST LAST\n"),
+                         (["fill"], b"mirace_show fill P O | halt P O\n"), (["halt"], b"mirace_show fill P O | halt P O\n"), (["hunt"], b"mirace_show hunt P FROM TO M [AIM]\n"), (["draw"], b"mirace_show hunt P FROM TO M [AIM]\n"), (["order"], b"mirace_show order P S FIRST LAST\n"),
                          (["why"], b"mirace_show why CODE\n")):
         wrote, ended = ran([*words, "--help"], at)
         is_well = wrote.startswith(first) and max(map(len, wrote.split(b"\n"))) <= 120 and ended == 0

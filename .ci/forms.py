@@ -33,8 +33,8 @@ start 16 4096
 0
 """
 USAGE = ("usage: steps P S [FIRST LAST] | races P S | picture P S [FIRST LAST] | order P S FIRST LAST | "
-         "races T PLACES | steps T PLACES [FIRST LAST] | steps T FIRST LAST | next P S | fill P O | halt P O | "
-         "hunt P FROM TO M [AIM] | why CODE | --help\n")
+         "races T PLACES | steps T PLACES [FIRST LAST] | steps T FIRST LAST | picture T PLACES [FIRST LAST] | "
+         "next P S | fill P O | halt P O | hunt P FROM TO M [AIM] | draw P N M | why CODE | --help\n")
 EXITS = """1  thread 0  4:13  main b0  exit
 step 1 ended the run
 verdict exit
@@ -82,6 +82,10 @@ ANSWERED = (
     ("hunt P 0 3 1 NotHolder", "numbers 0 to 3: no run has it\n", 0),
     ("hunt P 0 3 1 4 4294967295", "numbers 0 to 3: no run has it\n", 0),
     ("hunt P 0 3 1 prints 1", "numbers 0 to 3: no run has it\n", 0),
+    ("draw P 3 1", "schedule 1\nstart 65536 65552\n0\n", 0),
+    ("draw P 3 0", "schedule 1\nstart 65536 65552\n", 0),
+    (f"draw P {2 ** 64 - 1} 1048576", "schedule 1\nstart 65536 65552\n0\n", 0),
+    ("draw Q 3 1", "read program\n", 6),
     ("hunt Q 0 3 1", "read program\n", 6),
     ("hunt Q 0 3 1 race", "read program\n", 6),
 )
@@ -90,6 +94,7 @@ REFUSED = (
     ("minirust !\n", SCHEDULE, "races P S", "text 1 10 1 BadByte\n", 3),
     (ILL_FORMED, SCHEDULE, "races P S", "form main b0 0 32 BlockKind\n", 4),
     (ILL_FORMED, SCHEDULE, "races P Q", "form main b0 0 32 BlockKind\n", 4),
+    (ILL_FORMED, SCHEDULE, "draw P 0 1", "form main b0 0 32 BlockKind\n", 4),
     (EXIT, TOO_FAR, "races P S", "schedule 4 66 AfterStop\n", 5),
     (EXIT, EXIT, "steps P S", "schedule 1 50 BadHeader\n", 5),
 )
@@ -107,6 +112,9 @@ TRACED = (
     (NO_TRACED[:-1], "places 1\n", "races P S", "trace 8 72 Truncated\n", 9),
     ("MRTR", "", "steps P S", "trace 0 70 BadMagic\n", 9),
     ("MRTR", "", "races P Q", "read schedule\n", 6),
+    ("MRTR", "", "picture P Q", "read schedule\n", 6),
+    (NO_TRACED[:-1], "places 2\n", "picture P S 1 2", "trace 8 72 Truncated\n", 9),
+    (NO_TRACED, "places 2\n0\n", "picture P S", "places 1 steps, and the trace has 0\n", 9),
     ("MRT", "", "races P Q", "text 1 1 4 Unexpected\n", 3),
     (EXIT, "", "steps P 1 2", "trace 0 70 BadMagic\n", 9),
     (EXIT, "", "steps Q 1 2", "read trace\n", 6),
@@ -134,6 +142,7 @@ FORMLESS = (
     "order P S", "order P S 1", "order P S 1 4294967296", "order P S 01 2", "order P S 1 2 3", "orders P S 1 2",
     "hunt P", "hunt P 0 3", "hunt P 3 2 1", "hunt P 0 3 1048577", "hunt P 0 18446744073709551616 1", "hunt P 00 3 1",
     "hunt P 0 3 1 Nothing", "hunt P 0 3 1 prints", "hunt P 0 3 1 4", "hunt P 0 3 1 4 4294967296",
+    "draw P", "draw P 1", "draw P 1 1048577", "draw P 18446744073709551616 1", "draw P 1 2 3", "draws P 1 2",
     "hunt P 0 3 1 4 4 4", "hunt P 0 3 1 print 1", "hunts P 0 3 1 race", "hunts P 0 3 1",
 )
 # Codes, and what is said of them.
