@@ -138,7 +138,7 @@ ORDERS = (
 FORMLESS = (
     "", "steps", "steps P", "steps P S 1", "steps P S 1 x", "steps P S 1 4294967296", "steps P S 01 2", "races P S 1 2",
     "races P 1 2", "steps P 1 4294967296",
-    "picture P S 1", "run P S", "--helps", "next P", "fill P", "why", "why 65536", "whys 66",
+    "picture P S 1", "run P S", "--helps", "next P", "fill P", "why", "why 65536", "why Nothing", "why badnumber", "whys 66",
     "order P S", "order P S 1", "order P S 1 4294967296", "order P S 01 2", "order P S 1 2 3", "orders P S 1 2",
     "hunt P", "hunt P 0 3", "hunt P 3 2 1", "hunt P 0 3 1048577", "hunt P 0 18446744073709551616 1", "hunt P 00 3 1",
     "hunt P 0 3 1 Nothing", "hunt P 0 3 1 prints", "hunt P 0 3 1 4", "hunt P 0 3 1 4 4294967296",
@@ -149,6 +149,7 @@ FORMLESS = (
 CODES = (
     ("why 65535", "no rule, no fault and no reason has the number 65535\n", 1),
     ("why 2", CODE_2, 0),
+    ("why BadNumber", CODE_2, 0),
 )
 # Tabs, comments, several statements on a line, lines that end with a carriage return, and a long statement.
 LAID = """minirust 1

@@ -1,8 +1,8 @@
--- Whether a number of a range passes a test.
-use Rattle.std.proofs.Common.{◌≡◌, ℕ, zero, suc, ◌+◌, ◌<◌, ◌≤◌, ◌⊎◌, inl, inr, Bool, true, false, arith, refl, sym, ap, ap₂, ◌∙◌}
+-- Whether a number of a range passes a test, and the first that does.
+use Rattle.std.proofs.Common.{◌≡◌, ℕ, zero, suc, ◌+◌, ◌-◌, ◌<◌, ◌≤◌, ◌⊎◌, inl, inr, Bool, true, false, arith, refl, sym, ap, ap₂, ◌∙◌}
 use Rattle.std.proofs.lemmas.Bool.{cases_lt}
-use Rattle.std.specs.Prelude.{◌||◌}
-use Rattle.std.specs.List.{list_any, range_with_len}
+use Rattle.std.specs.Prelude.{◌||◌, Some}
+use Rattle.std.specs.List.{find, list_any, range_with_len}
 
 at_or_behind : (from n : ℕ) → from ≤ n → (n ≡ from) ⊎ (from + 1 ≤ n)
 at_or_behind from n le = elim (cases_lt from n) [ inl less ↦ inr (omega (arith, less)) | inr more ↦ inl (omega (arith, le, more)) ]
@@ -20,6 +20,12 @@ module _ (test : ℕ → Bool) where
         | inr behind ↦ or_later (test from) (list_any test (range_with_len (from + 1) k))
             (one_passes (from + 1) k n behind (omega (arith, high)) has)
       ]
+
+  -- the first of the numbers from one on that passes is this one, where it does
+  pub find_here : (at n : ℕ) → at < n → test at ≡ true → find test (range_with_len at (n - at)) ≡ Some at
+  find_here at n less has =
+      let one : n - at ≡ suc (n - (at + 1)) = omega (arith, less) in
+      ap (λ (m : ℕ). find test (range_with_len at m)) one ∙ rw has refl
 
   -- none of the numbers from one up to another passes
   abbrev pub NonePasses : ℕ → ℕ → Type 0

@@ -2,7 +2,7 @@
 use Rattle.std.specs.Prelude.{ℕ, ◌+◌, ◌-◌, ◌^◌, ◌||◌, Bool, false, nat_le, List, [], ◌∷◌, Option, None, Some, bytes_eq}
 use Rattle.std.specs.Prelude.{codes}
 use Rattle.std.specs.Prelude.{if◌then◌else◌}
-use Rattle.std.specs.List.{list_any, range_with_len}
+use Rattle.std.specs.List.{find, list_any, range_with_len}
 use Rattle.std.specs.Option.{option_map}
 use Rattle.mr_picture.specs.declared.span.Span.{Span}
 use Rattle.mr_hunt.specs.Aims.{Aim, Any, Lines, Named, Prints, Race, Undefined}
@@ -13,7 +13,7 @@ use Rattle.mr_show.specs.declared.form.Form.TheVariants as words
 use Rattle.mr_show.specs.declared.form.Part.{Part}
 use Rattle.mr_show.specs.declared.form.Part.TheVariants.{Order, Picture, Races, Steps}
 use Rattle.mr_show.specs.declared.form.Range.{Range}
-use Rattle.mr_show.specs.Seek.{Schedule, Seek, seek_of, seeking}
+use Rattle.mr_show.specs.Seek.{Drawn, Seek, seek_of, seeking}
 use Rattle.mr_show.specs.declared.form.Saying.{Saying}
 use Rattle.mr_show.specs.declared.form.Saying.TheVariants.{Next, OfOrder, OfRun}
 use Rattle.mr_show.specs.declared.form.Filling.TheVariants.{Halt, Schedule}
@@ -47,6 +47,23 @@ help_of word =
     else (if bytes_eq word (codes "draw") then Some (Help OfHunt)
     else (if bytes_eq word (codes "order") then Some (Help OfOrdered)
     else (if bytes_eq word (codes "why") then Some (Help OfWhy) else None)))))))))
+
+-- whether this is the name of a code
+abbrev pub is_name_of : List ℕ → Option Entry → Bool
+is_name_of word None = false
+is_name_of word (Some entry) = bytes_eq entry.name word
+
+-- the first code of this name; they are below 134
+abbrev pub code_named : List ℕ → Option ℕ
+code_named word = find (λ code. is_name_of word (entry_of code)) (range_with_len 0 134)
+
+-- the code that a word is, by its number or by its name
+abbrev pub code_or : Option ℕ → List ℕ → Option ℕ
+code_or (Some code) word = Some code
+code_or None word = code_named word
+
+abbrev pub code_by : List ℕ → Option ℕ
+code_by word = code_or (number_below (2 ^ 16) word) word
 
 -- what is said of a code
 abbrev pub why_of : List ℕ → Option ℕ → Option Form
@@ -107,17 +124,12 @@ hunt_of word program (Some range) aim =
 -- the schedule of a number
 abbrev pub drawn_of : List ℕ → Option Range → Option Form
 drawn_of program None = None
-drawn_of program (Some range) = Some (Hunted range Schedule program program)
+drawn_of program (Some range) = Some (Hunted range Drawn program program)
 
 -- with an aim
 abbrev pub aimed_of : List ℕ → List ℕ → Option Range → Option Aim → Option Form
 aimed_of word program range None = None
 aimed_of word program range (Some aim) = hunt_of word program range (Some aim)
-
--- whether this is the name of a code
-abbrev pub is_name_of : List ℕ → Option Entry → Bool
-is_name_of word None = false
-is_name_of word (Some entry) = bytes_eq entry.name word
 
 -- whether this is the name of a reason, which have the codes from 100 to 133
 abbrev pub is_reason : List ℕ → Bool
@@ -174,12 +186,12 @@ long_form word program third fourth fifth _ = None
 -- `steps P S`, `steps P S FIRST LAST`, `races P S`, `picture P S`, `picture P S FIRST LAST`, `order P S FIRST LAST`,
 -- `next P S` and `steps T FIRST LAST`, where FIRST and LAST are below 2^32; `fill P O` and `halt P O`;
 -- `hunt P FROM TO M`, where FROM is at most TO, both are below 2^64, and M is at most 2^20, and an aim behind it;
--- `draw P N M`, with such numbers; `why CODE`, where CODE is below 2^16; `--help`, and that behind `steps`, `races`,
+-- `draw P N M`, with such numbers; `why CODE`, where CODE is below 2^16 or the name of a code; `--help`, and that behind `steps`, `races`,
 -- `picture`, `order`, `next`, `fill`, `halt`, `hunt`, `draw` or `why`; and no other form
 abbrev pub form_of : List (List ℕ) → Option Form
 form_of (word ∷ []) = if bytes_eq word (codes "--help") then Some (Help Everything) else None
 form_of (word ∷ option ∷ []) =
-    if bytes_eq option (codes "--help") then help_of word else why_of word (number_below (2 ^ 16) option)
+    if bytes_eq option (codes "--help") then help_of word else why_of word (code_by option)
 form_of (word ∷ program ∷ schedule ∷ []) = whole_of word program schedule
 form_of (word ∷ file ∷ third ∷ fourth ∷ []) = four_form word file third fourth
 form_of (word ∷ program ∷ third ∷ fourth ∷ fifth ∷ rest) = long_form word program third fourth fifth rest

@@ -178,6 +178,9 @@ help_text OfWhy =
     line (codes "mirace_show why CODE")
     ++ line (
     codes "Writes what is said of the rule, the fault or the reason of undefined behaviour "
-    ++ codes "that has this number: its"
+    ++ codes "that has this number, or is"
     )
-    ++ line (codes "name, a sentence, what usually causes it, what to do next, and the smallest example.")
+    ++ line (
+    codes "the first with this name: its name, a sentence, what usually causes it, what to "
+    ++ codes "do next, and the smallest example."
+    )

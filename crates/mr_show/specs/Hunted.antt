@@ -15,7 +15,7 @@ use Rattle.mr_input.specs.Inputs.{denoted}
 use Rattle.mr_show.specs.declared.form.Range.{Range}
 use Rattle.mr_sched.specs.Spelling.{text_of}
 use Rattle.mr_show.specs.Gathered.{laid_in}
-use Rattle.mr_show.specs.Seek.{Ends, First, Schedule, Seek}
+use Rattle.mr_show.specs.Seek.{Drawn, Ends, First, Seek}
 
 -- so many entries a drawn schedule has at most; words ask for no more than 2^20
 abbrev pub most_in : Range → ℕ
@@ -49,7 +49,7 @@ abbrev pub hunt_answer : Range → Seek → List ℕ → List ℕ → Program �
 hunt_answer range Ends name text p = table_answer range text p
 hunt_answer range (First aim) name text p =
     found_answer range name text p (first_met aim (laid_in p (lexed text)) p (most_in range) range.from range.to)
-hunt_answer range Schedule name text p = drawn_answer range p
+hunt_answer range Drawn name text p = drawn_answer range p
 
 -- the same, where the program breaks no rule
 abbrev pub hunted_program : Range → Seek → List ℕ → List ℕ → Program → Answer

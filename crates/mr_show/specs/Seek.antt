@@ -8,13 +8,13 @@ use Rattle.mr_show.specs.declared.form.Seek.TheVariants as words
 pub data Seek : Type 0 where
   Ends : Seek
   First : (aim : Aim) → Seek
-  Schedule : Seek
+  Drawn : Seek
 
 -- as it is asked for
 abbrev pub seek_of : Words → Seek
 seek_of words.Ends = Ends
 seek_of (words.First aim) = First (aim_of aim)
-seek_of words.Schedule = Schedule
+seek_of words.Drawn = Drawn
 
 -- with an aim, or without
 abbrev pub seeking : Option Aim → Seek

@@ -3,7 +3,8 @@ ghost use Rattle.std.specs.Prelude.{◌≡◌, [], ◌∷◌, ◌+◌, ◌^◌, 
 ghost use Rattle.std.specs.Option.{option_map};
 ghost use Rattle.mr_input.specs.Numbers.{number_below};
 ghost use Rattle.mr_hunt.specs.Aims.{Named, aim_of};
-ghost use Rattle.mr_show.specs.Form.{Why, aimed_of, asked, bare_of, drawn_of, form_of, four_form, help_of, hunt_of, is_name_of};
+ghost use Rattle.mr_show.specs.Form.{Why, aimed_of, asked, bare_of, code_by, code_named, drawn_of, form_of, four_form, help_of};
+ghost use Rattle.mr_show.specs.Form.{hunt_of, is_name_of};
 ghost use Rattle.mr_show.specs.Form.{is_reason, is_verdict, lines_from, long_form, part_of, span_of, spanned};
 ghost use Rattle.mr_show.specs.Form.{two_aim, whole_of, why_of, word_aim, word_range};
 ghost use Rattle.mr_show.specs.Seek.{seek_of, seeking};
@@ -88,7 +89,7 @@ pub enum Seek<'a> {
     /// The first run that has what is aimed at.
     First(Aim<'a>),
     /// The schedule itself, of the first number.
-    Schedule,
+    Drawn,
 }
 
 /// What is asked for, with the names of files.
@@ -162,17 +163,39 @@ fn help_of<'a>(word: &str) -> Option<Form<'a>>
     }
 }
 
+// The first code of this name.
+fn code_named(word: &str) -> Option<u16>
+    ensures { result ≡ code_named word.now }
+{
+    for code in 0..134 {
+        if is_name_of(word, code) {
+            return Some(code);
+        }
+    }
+    None
+}
+
+// The code that a word is, by its number or by its name.
+fn code_by(word: &str) -> Option<u16>
+    ensures { result ≡ code_by word.now }
+{
+    match number_below(word, 1 << 16) {
+        Some(code) => Some(code as u16),
+        None => code_named(word),
+    }
+}
+
 // What is said of the code that a word is.
 fn code_of<'a>(word: &str) -> Option<Form<'a>>
-    ensures { option_map asked result ≡ option_map Why (number_below (2 ^ 16) word.now) }
+    ensures { option_map asked result ≡ option_map Why (code_by word.now) }
 {
-    let code = number_below(word, 1 << 16)?;
-    Some(Form::Why { code: code as u16 })
+    let code = code_by(word)?;
+    Some(Form::Why { code })
 }
 
 // `why CODE`.
 fn why_of<'a>(word: &str, code: &str) -> Option<Form<'a>>
-    ensures { option_map asked result ≡ why_of word.now (number_below (2 ^ 16) code.now) }
+    ensures { option_map asked result ≡ why_of word.now (code_by code.now) }
 {
     match word {
         "why" => code_of(code),
@@ -317,7 +340,7 @@ fn drawn_of(program: &str, range: Option<Range>) -> Option<Form<'_>>
     let range = range?;
     Some(Form::Hunted {
         range,
-        seek: Seek::Schedule,
+        seek: Seek::Drawn,
         program,
     })
 }

@@ -93,8 +93,8 @@ it says that nothing orders the two.
 
 const OF_WHY: &[u8] = b"\
 mirace_show why CODE
-Writes what is said of the rule, the fault or the reason of undefined behaviour that has this number: its
-name, a sentence, what usually causes it, what to do next, and the smallest example.
+Writes what is said of the rule, the fault or the reason of undefined behaviour that has this number, or is
+the first with this name: its name, a sentence, what usually causes it, what to do next, and the smallest example.
 ";
 
 /// The text of help with a form, or with all.

@@ -112,9 +112,10 @@ fn hunted(
     ensures status { IfOk result (λ a. IsStatus a.status) }
 {
     let places = places_of(alloc, text, p)?;
-    match aim {
-        None => table_in(alloc, range, text, p, &places),
-        Some(aim) => aimed(alloc, range, seek, name, text, p, &places),
+    match seek {
+        Seek::Ends => table_in(alloc, range, text, p, &places),
+        Seek::First(aim) => aimed(alloc, range, aim, name, text, p, &places),
+        Seek::Drawn => drawn_in(alloc, range, p),
     }
 }
 
