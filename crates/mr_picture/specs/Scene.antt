@@ -1,5 +1,5 @@
 -- What is drawn of a run.
-use Rattle.std.specs.Prelude.{ℕ, ◌+◌, ◌-◌, ◌<◌, ◌≤◌, ◌^◌, ◌==◌, Bool, nat_le, nat_lt, if◌then◌else◌, min, List, map, length}
+use Rattle.std.specs.Prelude.{ℕ, ◌+◌, ◌-◌, ◌<◌, ◌≤◌, ◌^◌, ◌==◌, Bool, nat_le, nat_lt, if◌then◌else◌, max, min, List, map, length}
 use Rattle.std.specs.Prelude.{All, IfSome, Option, None, Some, slice_get}
 use Rattle.std.specs.List.{filter, list_any, range_with_len}
 use Rattle.mr_event.specs.declared.footprint.Pair.{Pair}
@@ -12,11 +12,11 @@ use Rattle.mr_picture.specs.declared.scene.Sketch.{Sketch as KeptSketch}
 
 -- ---- which steps
 
--- the steps from one number up to another, as far as the run has them, and no more than 500
+-- the steps from one number up to another, as far as the run has them, and no more than 500; none where the other is less
 abbrev pub clipped : ℕ → ℕ → ℕ → Span
 clipped count from to = record {
   from = min from count;
-  to = min (min to count) (min from count + 500);
+  to = max (min from count) (min (min to count) (min from count + 500));
 }
 
 -- where the part of a long run begins that has this first race: with the run, or 400 steps before the race's second step,

@@ -57,7 +57,8 @@ pub(crate) struct Scene<'a> {
 // So many steps are drawn at most.
 const MOST: usize = 500;
 
-// The steps from one number up to another, as far as the run has them, and no more than `MOST`.
+// The steps from one number up to another, as far as the run has them, and no more than `MOST`; none where the other is
+// less.
 fn clipped(count: usize, from: usize, to: usize) -> Span
     requires { count < 2 ^ 32 }
     ensures { result ≡ clipped count from to }
@@ -65,7 +66,7 @@ fn clipped(count: usize, from: usize, to: usize) -> Span
     let from = from.min(count);
     Span {
         from,
-        to: to.min(count).min(from + MOST),
+        to: to.min(count).min(from + MOST).max(from),
     }
 }
 
