@@ -1,5 +1,5 @@
-"""What the companion tells of a trace: the texts of `mirace_show races T PLACES` and `steps T PLACES FIRST LAST` by
-their definition, made of the steps of the trace, as `step_of` of examples/trace/trace.py gives them, of its races, and
+"""What the companion tells of a trace: the texts of `mirace_show races T PLACES` and `steps T PLACES FIRST LAST`, and
+what a picture of it tells of a step, by their definition, made of the steps of the trace, as `step_of` of examples/trace/trace.py gives them, of its races, and
 of a file of places. Nothing here is shared with the program. traces.py and record.py compare with it.
 """
 import re
@@ -78,6 +78,16 @@ class Told:
         for pair in self.races:
             if k in pair:
                 yield INDENT + b"races with step %d\n" % (sum(pair) - k + 1)
+
+    def title(self, k, span):
+        """What is shown with the mark of step k of a picture of these steps: the races whose second step is drawn come
+        first, those before whose first."""
+        _, *lines = [it.strip().decode() for it in self.step(k)]
+        near = [pair for pair in self.races if pair[1] in span]
+        partners = [one for one, other in near if other == k] + [other for one, other in near if one == k]
+        did = [f"races with step {it + 1}" for it in partners] + [it for it in lines if not it.startswith("races with step ")]
+        site = "  ".join(self.name(it).decode() for it in self.sites[k])
+        return "\n".join([f"step {k + 1}, thread {self.steps[k][0]}  {site}", *did])
 
     def side(self, k):
         """The lines of a step of a race: some of its accesses are left out where it has many."""

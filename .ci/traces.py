@@ -11,6 +11,7 @@ import sys
 import time
 
 import companion
+import pictures
 import plain
 import told
 from judging import CASES, EXAMPLES, PATIENCE, expect, judge, report_parts, run, short, stored_runs, write
@@ -158,6 +159,20 @@ def expect_told(what, words, at, text, status):
     judge(f"{what}: {words}", (wrote, ended) == (text, status), f"{short(text)} and {status}, not {short(wrote)} and {ended}")
 
 
+def drawn_trace(what, named, at, first, last, status):
+    """A picture of these steps of a trace, counted from 1: each with what told.py tells of it; all lies in its view box,
+    no two texts overlap, and no link comes near a foreign mark."""
+    words = f"picture run.trace run.places {first} {last}"
+    wrote, ended = companion.ran(words.split(), at)
+    picture, begin = pictures.Picture(wrote), min(max(first - 1, 0), len(named.steps))
+    span = range(begin, min(max(last, begin), len(named.steps), begin + 500))
+    titles = [it for it in picture.titled("step") + picture.titled("racing") if ", thread " in it.partition("\n")[0]]
+    wanted = sorted(named.title(k, span) for k in span)
+    judge(f"{what}: {words}", ended == status and sorted(set(titles)) == wanted, f"{sorted(titles)[:2]}, not {wanted[:2]}")
+    wrong = [*picture.unknown(), *pictures.is_within(picture), *pictures.overlaps(picture), *pictures.too_near(picture)]
+    judge(f"{what}: {words}: its marks", not wrong, f"{wrong[:3]}")
+
+
 def changed_places(at, script):
     """Each byte of a file of places with other values, and each part from its front: its fault, or what is told."""
     steps = "thread 0: spawn 1; wakes 1\nthread 0: store 16 4\nthread 1: load 16 8; atomic store 64 1; ends\n"
@@ -193,6 +208,7 @@ def told_traces(at):
         expect_told(what, "steps run.trace run.places", at, named.steps_text(), status)
         expect_told(what, f"steps run.trace run.places {first} {last}", at, named.steps_text(first, last), status)
         expect_told(what, f"steps run.trace {first} {last}", at, bare.steps_text(first, last), status)
+        drawn_trace(what, named, at, first, last, status)
         count += 1
     judge("traces that are told", count > 800, f"{count} of them")
     changed_places(at, script)
