@@ -48,6 +48,8 @@ RUNS, STEPS, SPEAKING = 800, 8000, 150
 FEW, REFUSED = 4, 100
 # As many steps are drawn at most.
 DRAWN = 500
+# The second of two steps that race, without a place.
+ONE_RACE = b"2  thread 0\n        load address 19, 1 byte\n        races with step 1\nraces 1\n"
 
 
 class Step:
@@ -116,6 +118,18 @@ def cases(at):
         yield f"6, a folder, {form}", [form, "folder", example("print.sched")], b"read program\n", 6
         yield f"6, no schedule, {form}", [form, example("print.mr"), "missing"], b"read schedule\n", 6
         yield f"6, a folder for the schedule, {form}", [form, example("print.mr"), "folder"], b"read schedule\n", 6
+    traced = lambda what, words, text, status: (f"{status}, {what}", words, text, status)
+    yield traced("a trace", ["races", "none.trace", "none.places"], b"races 0\n", 0)
+    yield traced("a trace with a race", ["steps", "one.trace", "2", "2"], ONE_RACE, 1)
+    yield traced("a text above 2^20 bytes", ["races", "above.mr", "missing"], b"text 1 1 3 LongText\n", 3)
+    yield traced("a file above 2^28 bytes, in place of a program", ["steps", "long", "missing"], b"text 1 1 3 LongText\n", 3)
+    yield traced("no places", ["races", "none.trace", "missing"], b"read schedule\n", 6)
+    yield traced("a folder for a trace", ["steps", "folder", "1", "2"], b"read trace\n", 6)
+    yield traced("a folder for the places", ["steps", "none.trace", "folder"], b"read schedule\n", 6)
+    yield traced("a file above 2^28 bytes, as a trace", ["steps", "long", "1", "2"], b"trace 0 74 TooLong\n", 9)
+    yield traced("places above 2^28 bytes", ["races", "cut.trace", "long"], b"places 1 the file is too long\n", 9)
+    yield traced("places of one step", ["steps", "none.trace", "one.places"], b"places 1 steps, and the trace has 0\n", 9)
+    yield traced("a trace that is cut", ["races", "cut.trace", "none.places"], b"trace 8 72 Truncated\n", 9)
     yield "0, an order without turns", ["halt", example("exit.mr"), "empty"], b"", 0
     yield "1, a turn too many", ["halt", example("exit.mr"), "turns"], b"# line 1 can't go on: 66 AfterStop\n", 1
     yield "10, a word that is no text", ["why", b"\xff"], b"", 10
@@ -124,6 +138,14 @@ def cases(at):
 def statuses(judge, at):
     write(at, "words", b"0\n0*x\n")
     write(at, "turns", b"0 0\n")
+    write(at, "none.trace", b"MRTR\1\0\0\0\0")
+    write(at, "cut.trace", b"MRTR\1\0\0\0")
+    write(at, "one.trace", trace_script().encode("thread 1: store 16 4\nthread 0: load 19 1\n"))
+    write(at, "none.places", b"places 2\n")
+    write(at, "one.places", b"places 2\nname a\n0")
+    write(at, "above.mr", b" " * ((1 << 20) + 1))
+    write(at, "long", b"MRTR\1")
+    os.truncate(f"{at}/long", (1 << 28) + 1)
     for what, words, text, status in cases(at):
         wrote, ended = ran(words, at)
         judge(f"companion: status {what}", (wrote, ended) == (text, status), f"{short(wrote)} and {ended}")

@@ -121,6 +121,30 @@ def of_traces():
                     plain=one % "none over another", most=TIMES)
 
 
+def placed(*steps):
+    """A trace, and a file of places in which each step has a place of its own."""
+    names = b"".join(b"name place %d\n" % k for k in range(len(steps)))
+    return {**traced(*steps), "PLACES": b"places 2\n" + names + b"".join(b"%d\n" % k for k in range(len(steps)))}
+
+
+def of_told_traces():
+    """Traces with many races, as the companion tells them: each step races with the one before it; and many race with one
+    of many stores."""
+    chain = lambda n: placed(*(a_step(k % 2, [(1, 64, 8)]) for k in range(n)))
+    star = lambda n: placed(stores(0, 64, 8, 8, n), *(a_step(1, [(0, 64 + 8 * k, 8)]) for k in range(n)))
+    ends = (("each step of which races with the one before it", chain, 4000, lambda n: b"race %d %d\n" % (n - 1, n),
+             lambda n: b"races %d\n" % (n - 1)),
+            ("of a step of many stores that races with many", star, 2000, lambda n: b"race 1 %d\n" % (n + 1),
+             lambda n: b"races %d\n" % n))
+    for what, made, size, listed, counted in ends:
+        plain = f"a trace {what}"
+        yield Shape(plain, "offline T", made, size, end=listed, status=1)
+        for word in ("races", "steps"):
+            of_it = f"`{word}` of {plain}"
+            yield Shape(of_it, f"show {word} T PLACES", made, size, "instructions", counted, 1, plain, TIMES)
+            yield Shape(f"{of_it}, by what is written", f"show {word} T PLACES", made, size, "written", counted, 1)
+
+
 def leaking(count):
     """A run that leaks so many blocks."""
     blocks = "b0 regular: live p; live n; n = u32 0; goto b1;\nb1 regular: do allocate(u64 8, u64 8) -> p to b2;\n"
@@ -176,7 +200,7 @@ def of_companion():
 
 def all_shapes():
     yield from (Shape("a text of a global of many items", "run P S", turns.items, 250000, end=hostile.EXITED),
-                *of_turns(), *of_memory(), *of_frames(), *of_traces(), *of_companion())
+                *of_turns(), *of_memory(), *of_frames(), *of_traces(), *of_told_traces(), *of_companion())
 
 
 # Runs a command, and tells as an error the most memory that was resident. It is small itself, and never held the files.

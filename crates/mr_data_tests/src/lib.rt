@@ -1,7 +1,7 @@
 //! The tests of the layers below the machine, of what no command of the programs shows: how runs of bytes are kept,
 //! which layouts a cache holds, how types, verdicts and identities are compared, the programs that are made from a
-//! number, what traces are read as, and what is told of them; and files, sinks and words of the command line, those of
-//! the host among them. It has no code of its own.
+//! number, what traces are read as; and files, sinks and words of the command line, those of the host among them. It
+//! has no code of its own.
 #![tactic(auto)]
 
 #[cfg(test)]
@@ -20,8 +20,6 @@ mod sinks;
 mod syntax;
 #[cfg(test)]
 mod texts;
-#[cfg(test)]
-mod told;
 #[cfg(test)]
 mod traces;
 #[cfg(test)]

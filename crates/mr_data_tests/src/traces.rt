@@ -12,8 +12,8 @@ const STEP: [u8; 55] = [
     0, 0, 0, 0, 0, 0, 0, 0, 0, 0, 0, 0, 0, 0, 0, 0, 0, 0, 0, 0, 0, 0, 0, 0, 0,
 ];
 
-/// A step with a store of four bytes at 16.
-pub(crate) fn put_store(thread: u8, out: &mut Vec<u8>) -> Result<(), OutOfMemory> {
+// A step with a store of four bytes at 16.
+fn put_store(thread: u8, out: &mut Vec<u8>) -> Result<(), OutOfMemory> {
     out.extend_from_slice(&[thread, 0, 0, 0, 0, 0])?;
     out.extend_from_slice(&[
         1, 0, 0, 0, 0, 0, 0, 0, 1, 16, 0, 0, 0, 0, 0, 0, 0, 4, 0, 0, 0, 0, 0, 0, 0,

@@ -1,5 +1,5 @@
 -- The entry of a code, and how it is written.
-use Rattle.std.specs.Prelude.{ℕ, nat_lt, if◌then◌else◌, List, ◌++◌, codes, decimal, Option}
+use Rattle.std.specs.Prelude.{ℕ, nat_lt, if◌then◌else◌, List, [], ◌++◌, codes, decimal, Option}
 use Rattle.std.specs.Option.{option_map}
 use Rattle.mr_ast.specs.FormRules as form
 use Rattle.mr_base.specs.Reasons.{code_of, name_of}

@@ -1,6 +1,7 @@
 //! The rules and reasons that have codes.
 ghost use Rattle.std.specs.Prelude.{◌≡◌};
-ghost use Rattle.mr_why.specs.Why.{form_of, name_by, reason_of, said_of, schedule_of, subject_of, text_of, trace_of};
+ghost use Rattle.mr_why.specs.Why.{form_of, name_by, said_of, schedule_of, subject_of, text_of, trace_of};
+ghost use Rattle.mr_why.specs.Reasons.{reason_of};
 ghost use Rattle.mr_why.specs.Why.{undefined_of};
 ghost use Rattle.mr_why.specs.Words.{words_of};
 

@@ -10,7 +10,7 @@ returns c =
     let old = c.args.out.now.items in
     let tag = codes "<svg xmlns=\"http://www.w3.org/2000/svg\"" in
     let size = size_text c.args.wide c.args.high in
-    let open_title = codes " role=\"img\">\n<title>" in
+    let open_title = codes " xml:space=\"preserve\" role=\"img\">\n<title>" in
     let title = escaped c.args.title.now in
     let close_title = codes "</title>\n" in
     last_behind c.push-3.result old (tag ++ size ++ open_title ++ title) close_title _ _
