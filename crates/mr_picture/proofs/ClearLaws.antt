@@ -109,11 +109,11 @@ race_clear at a b m n is stands first last =
 
 -- steps of other numbers stand in other rows
 other_row : (from k n : ℕ) → from ≤ k → from ≤ n → ¬ n ≡ k → IsOtherRow (row_y from n) (row_y from k)
-other_row from k n hk hn no =
+other_row from k n hk hn unlike =
     elim (cases_lt n k) [
       | inl less ↦ inl (omega (arith, hk, hn, less))
       | inr more ↦ elim (eq-or-lt_of_le more) [
-        | inl same ↦ absurd (no (sym same))
+        | inl same ↦ absurd (unlike (sym same))
         | inr less ↦ inr (omega (arith, hk, hn, less))
       ]
     ]

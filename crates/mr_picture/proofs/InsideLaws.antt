@@ -536,11 +536,11 @@ links_told s =
 round_in : (s : Scene) → IsLaid s → All (IsIn s) (round_marks s)
 round_in s h =
     let column = column_marks s s.first in
-    let tail = line_marks s 0 (tail_count s) s.tail in
+    let tail = line_marks s 0 (tail_count s) s.sketch.tail in
     All-append (IsIn s) (column ++ head_marks s ++ tail) (legend_marks s)
     (All-append (IsIn s) (column ++ head_marks s) tail
     (All-append (IsIn s) column (head_marks s) (column_in s s.first h refl h.first) (heads_in s))
-    (tail_in s 0 (tail_count s) s.tail (omega arith)))
+    (tail_in s 0 (tail_count s) s.sketch.tail (omega arith)))
     (All-append (IsIn s) (step_entries s) (link_entries s) (steps_told s) (links_told s))
 
 rows_all : (s : Scene) → All (IsIn s) (flat_map (row_marks s) (steps_in s.span))

@@ -11,7 +11,7 @@ abbrev pub is_first : ℕ → Pair → Bool
 is_first step race = race.first == step
 
 -- with which step another one races, counted from 1
-abbrev pub partner_text : ℕ → List ℕ
+unfoldable pub partner_text : ℕ → List ℕ
 partner_text step = codes "\nraces with step " ++ decimal (step + 1)
 
 abbrev pub first_text : Pair → List ℕ

@@ -89,7 +89,7 @@ pub record Scene : Type 0 where
 -- as it is kept
 abbrev pub scene_in : Kept → Scene
 scene_in k = record {
-  sketch = sketch_in k.sketch;
+  sketch = sketch_in k.sketch.now;
   span = k.span;
   done = k.done;
   steps = k.steps.now;

@@ -87,7 +87,7 @@ fn first_race(races: &[Pair], done: Span) -> Option<Pair>
 
 /// The picture of these steps of a run, of which this is drawn: `chosen` tells which steps a picture has. An `Err` is for
 /// want of memory.
-pub fn drawing(
+pub fn sketched(
     alloc: Global,
     sketch: &Sketch<'_>,
     order: &Analysis,
@@ -135,7 +135,7 @@ fn span_text(
         races: shown.races,
         tail: tail.as_slice(),
     };
-    drawing(alloc, &sketch, order, span, steps.as_slice())
+    sketched(alloc, &sketch, order, span, steps.as_slice())
 }
 
 /// The picture of the run of a program, of the steps that are asked for or, without any, of those about the first race. An

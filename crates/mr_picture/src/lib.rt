@@ -3,7 +3,7 @@
 //!
 //! - [`picture`]: the picture of the run of a program, of the steps that are asked for, or else of those about its first
 //!   race; it draws 500 steps at most, and says what it leaves out.
-//! - [`drawing`]: the same of any run ([`Sketch`]) and of what is drawn of its steps ([`Drawn`]), as of a trace.
+//! - [`sketched`]: the same of any run ([`Sketch`]) and of what is drawn of its steps ([`Drawn`]), as of a trace.
 //!   [`chosen`]: which steps a picture has. [`push_numbered`], [`push_ended`], [`push_woken`]: parts of what a step did.
 //!
 //! `specs/Picture.antt` says what is drawn: `Scene` which steps, `Grid` where marks stand, and `Lanes`, `Links`, `Steps`,
@@ -58,7 +58,7 @@ mod witness;
 pub use arrows_of::arrows;
 pub use because::Because;
 pub use deeds::{push_ended, push_numbered, push_woken};
-pub use drawing::{drawing, picture};
+pub use drawing::{picture, sketched};
 pub use law::{links_keep_clear, marks_lie_inside};
 pub use order::wakes_thread;
 pub use order_laws::{arrows_are_edges, paths_are_the_order, ways_are_the_order, witness_is_kept};

@@ -113,7 +113,8 @@ fn push_joined(out: &mut Vec<u8>, byte: u8) -> Result<(), OutOfMemory>
     if byte == b'\n' {
         push(out, "; ")
     } else {
-        out.push(byte)
+        out.push(byte)?;
+        Ok(())
     }
 }
 

@@ -15,7 +15,7 @@ use mr_clocks::Analysis;
 use mr_event::{Footprint, Pair, thread_at};
 use mr_labels::push_number;
 use mr_listing::{access_word, push_bytes};
-use mr_picture::{Drawn, Sketch, Span, chosen, drawing, push_ended, push_numbered, push_woken};
+use mr_picture::{Drawn, Sketch, Span, chosen, push_ended, push_numbered, push_woken, sketched};
 use mr_sched::Items;
 use std::alloc::Global;
 
@@ -161,7 +161,7 @@ fn span_text(alloc: Global, shown: &Shown<'_>, span: Span) -> Result<Vec<u8>, Ou
         races: shown.races,
         tail: tail.as_slice(),
     };
-    drawing(alloc, &sketch, &order, span, steps.as_slice())
+    sketched(alloc, &sketch, &order, span, steps.as_slice())
 }
 
 /// The picture of a trace, of the steps that are asked for or, without any, of those about the first race. An `Err` is for

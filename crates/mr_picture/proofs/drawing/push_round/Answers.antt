@@ -13,7 +13,7 @@ returns c =
     let s = scene_in c.args.scene.now in
     let old = c.args.out.now.items in
     let column = column_marks s s.first in
-    let tail = line_marks s 0 (tail_count s) s.tail in
+    let tail = line_marks s 0 (tail_count s) s.sketch.tail in
     last_marks mark_text c.push_legend.result old _ _ (column ++ head_marks s ++ tail) (legend_marks s)
     (more_marks mark_text old _ _ (column ++ head_marks s) tail
     (more_marks mark_text old _ _ column (head_marks s) c.in_ok-push_column.ensures c.in_ok-push_heads.ensures)

@@ -31,4 +31,4 @@ returns c =
     let none : c.tail_count-count.result - n ≡ 0 = omega (arith, c.loop-number.invariant.within, c.loop-number-test.false) in
     sym (ap (λ (m : ℕ). out ++ flat_map mark_text (line_marks s n m c.loop-number.rest.now)) none ∙ append-nil out)
     ∙ c.loop-number.invariant.rest
-    ∙ ap (λ (m : ℕ). c.args.out.now.items ++ flat_map mark_text (line_marks s 0 m s.tail)) c.tail_count-count.ensures
+    ∙ ap (λ (m : ℕ). c.args.out.now.items ++ flat_map mark_text (line_marks s 0 m s.sketch.tail)) c.tail_count-count.ensures

@@ -11,5 +11,5 @@ invariant-loop-number l =
     record {
       within : l.number ≤ l.count;
       rest : l.out.items ++ flat_map mark_text (line_marks s l.number (l.count - l.number) l.rest)
-          ≡ l.fn.out.items ++ flat_map mark_text (line_marks s 0 l.count s.tail);
+          ≡ l.fn.out.items ++ flat_map mark_text (line_marks s 0 l.count s.sketch.tail);
     }

@@ -6,7 +6,7 @@ use Rattle.mr_picture.specs.declared.span.Span.{Span}
 use Rattle.mr_picture.specs.Picture.{scene_text}
 use Rattle.mr_picture.specs.Scene.{IsSmall, Scene, Sketch, done_in, near_in, race_in, scene_of, sketch_in, threads_of}
 use Rattle.mr_picture.proofs.SceneLaws.{small_of}
-use Rattle.mr_picture.proofs.drawing.drawing.Goals as goal
+use Rattle.mr_picture.proofs.drawing.sketched.Goals as goal
 
 -- a scene by its parts
 scene_is : (s : Sketch) (span done : Span) (steps : List Drawn) (threads : List ℕ) (near : List Pair)
