@@ -1,5 +1,6 @@
 pub mod Chains
 pub mod CountLaws
+pub mod DrawnLaws
 mod Examples
 pub mod GroupLaws
 pub mod Made

@@ -56,7 +56,7 @@ fn push_event(out: &mut Vec<u8>, event: Event) -> Result<(), OutOfMemory>
 fn push_access(out: &mut Vec<u8>, access: Access) -> Result<(), OutOfMemory>
     ensures { OnOk result (out.new.items ≡ out.old.items ++ access_deed access) }
 {
-    out.push(b'\n')?;
+    out.extend_from_slice(b"\n")?;
     out.extend_from_slice(access_word(access).as_bytes())?;
     out.extend_from_slice(b"address ")?;
     push_number(out, access.addr)?;

@@ -18,7 +18,7 @@ loop-number-preserved c =
       from = omega (arith, c.loop-number.invariant.from);
       to = omega (arith, c.loop-number-test.true);
       made =
-          c.in_ok-push.ensures
+          c.in_ok-push.ensures.items
           ∙ ap (λ d. c.loop-number.drawn.items ++ d ∷ []) c.in_ok-step.ensures
           ∙ ap (λ xs. xs ++ drawn_step s number ∷ []) c.loop-number.invariant.made
           ∙ sym (map-range_with_len_more (drawn_step s) from (number - from) number (omega (arith, c.loop-number.invariant.from)))
