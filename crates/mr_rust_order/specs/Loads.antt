@@ -1,0 +1,52 @@
+-- Which atomic stores an atomic load reads, by the rows alone.
+use Rattle.std.specs.Prelude.{◌≡◌, ℕ, ◌+◌, ◌<◌, ◌≤◌, List, length, slice_index, Bool, not, ◌&&◌, ◌||◌, ◌==◌, IsTrue}
+use Rattle.mr_base.specs.Accesses.{conflicts}
+use Rattle.mr_base.specs.declared.access.Access.{Access}
+use Rattle.mr_event.specs.Footprint.{Footprint}
+use Rattle.mr_rust_order.specs.declared.rows.Row.{Row}
+use Rattle.mr_rust_order.specs.Marks.{IsListed}
+use Rattle.mr_rust_order.specs.Order.{Makes, has_byte, is_atomic_load, is_atomic_store, is_plain_store, is_store}
+use Rattle.mr_rust_order.specs.Rows.{row_at}
+
+-- the access stores to the byte: in any way, or not atomically
+abbrev pub counts : Bool → Access → ℕ → Bool
+counts every a byte = a.store && (every || not a.atomic) && has_byte a byte
+
+-- the row has an atomic store to the byte, of the step right before a number
+abbrev pub takes : Row → ℕ → ℕ → Bool
+takes row byte latest = is_atomic_store row.range byte && (row.last + 1 == latest)
+
+-- each row that conflicts with an access is listed
+abbrev pub AreMet : List Row → Access → List ℕ → Type 0
+AreMet rows access found = (x : ℕ) → x < length rows → IsTrue (conflicts (row_at rows x).range access) → IsListed found x
+
+-- each row that stores to the byte is listed
+abbrev pub AreFoundAt : List Row → ℕ → List ℕ → Type 0
+AreFoundAt rows byte found = (x : ℕ) → x < length rows → IsTrue (is_store (row_at rows x).range byte) → IsListed found x
+
+-- The row has an atomic store to the byte; no row that stores to it has a later step, and none that does so in another
+-- way one that is as late.
+pub record IsLatestStore (rows : List Row) (byte x : ℕ) : Type 0 where
+  pub within : x < length rows
+  pub store : IsTrue (is_atomic_store (row_at rows x).range byte)
+  pub latest : (y : ℕ) → y < length rows → IsTrue (is_store (row_at rows y).range byte) → (row_at rows y).last ≤ (row_at rows x).last
+  pub atomic : (y : ℕ) → y < length rows → IsTrue (is_plain_store (row_at rows y).range byte) → (row_at rows y).last < (row_at rows x).last
+
+-- a number below that of a thread in the clock of a row that is taken
+pub record IsLoadedBy (rows : List Row) (byte latest t n : ℕ) : Type 0 where
+  pub row : ℕ
+  pub within : row < length rows
+  pub taken : IsTrue (takes (row_at rows row) byte latest)
+  pub below : n < slice_index (row_at rows row).clock t
+
+-- a number below that of a thread in the clock of the latest store to the byte
+pub record IsLoadedAt (rows : List Row) (byte t n : ℕ) : Type 0 where
+  pub row : ℕ
+  pub latest : IsLatestStore rows byte row
+  pub below : n < slice_index (row_at rows row).clock t
+
+-- the same for some byte that a step loads atomically
+pub record IsLoaded (rows : List Row) (f : Footprint) (t n : ℕ) : Type 0 where
+  pub byte : ℕ
+  pub load : Makes is_atomic_load f byte
+  pub at : IsLoadedAt rows byte t n

@@ -1,0 +1,140 @@
+//! Clocks that steps send to threads, to locks and to the joiners of threads, and that later steps receive.
+
+ghost use Rattle.std.specs.Prelude.{◌≡◌, ℕ, ◌+◌, ◌<◌, ◌^◌, ◌==◌, OnOk, length};
+ghost use Rattle.std.specs.List.{list_any};
+ghost use Rattle.mr_base.specs.declared.thread.Event.{Event};
+ghost use Rattle.mr_event.specs.Footprints.{spawns};
+ghost use Rattle.mr_rust_order.specs.Clocks.{IsJoin};
+ghost use Rattle.mr_rust_order.specs.Channels.{AreSent, clock_at, to_joiners, to_lock, to_thread, told_by};
+ghost use Rattle.mr_rust_order.specs.Order.{releases};
+
+use crate::clock::Clock;
+use mr_event::{Event, Footprint, OutOfMemory};
+use std::alloc::Global;
+
+/// Raises a clock to that of a channel.
+pub(crate) fn receive(clocks: &[Clock], x: u32, clock: &mut Clock) -> Result<(), OutOfMemory>
+    ensures { OnOk result (IsJoin clock.old (clock_at clocks.now x) clock.new) }
+{
+    let x = x as usize;
+    if x >= clocks.len() {
+        return Ok(());
+    }
+    clock.join(&clocks[x])
+}
+
+/// Raises a clock to that of the lock that a step acquires, or of the thread that it joins.
+pub(crate) fn receive_event(
+    event: Event,
+    locks: &[Clock],
+    ended: &[Clock],
+    clock: &mut Clock,
+) -> Result<(), OutOfMemory>
+    ensures { OnOk result (IsJoin clock.old (told_by event locks.now ended.now) clock.new) }
+{
+    match event {
+        Event::Acquire(lock) => receive(locks, lock, clock),
+        Event::Join(thread) => receive(ended, thread, clock),
+        _ => Ok(()),
+    }
+}
+
+// Appends empty clocks until there is one at `last`.
+fn extend_past(alloc: Global, clocks: &mut Vec<Clock>, last: usize) -> Result<(), OutOfMemory>
+    requires { last + 1 < 2 ^ 64 }
+    ensures long { OnOk result (last < length clocks.new.items) }
+    ensures same { OnOk result ((y : ℕ) → clock_at clocks.new.items y ≡ clock_at clocks.old.items y) }
+{
+    for k in clocks.len()..last + 1 {
+        clocks.push(Clock::new(alloc))?;
+    }
+    Ok(())
+}
+
+/// Raises the clock of a channel to another one.
+pub(crate) fn send(
+    alloc: Global,
+    clocks: &mut Vec<Clock>,
+    x: u32,
+    clock: &Clock,
+) -> Result<(), OutOfMemory>
+    ensures { OnOk result (AreSent clocks.old.items clock.now (λ y. x == y) clocks.new.items) }
+{
+    extend_past(alloc, clocks, x as usize)?;
+    let channel = &mut clocks[x as usize];
+    channel.join(clock)
+}
+
+// Raises the clocks of the threads that a step woke.
+fn send_woken(
+    alloc: Global,
+    threads: &mut Vec<Clock>,
+    woken: &[u32],
+    clock: &Clock,
+) -> Result<(), OutOfMemory>
+    ensures { OnOk result (AreSent threads.old.items clock.now (λ y. list_any (λ t. t == y) woken.now) threads.new.items) }
+{
+    for i in 0..woken.len() {
+        send(alloc, threads, woken[i], clock)?;
+    }
+    Ok(())
+}
+
+// Raises the clock of the thread that a step spawned.
+fn send_spawned(
+    alloc: Global,
+    threads: &mut Vec<Clock>,
+    event: Event,
+    clock: &Clock,
+) -> Result<(), OutOfMemory>
+    ensures { OnOk result (AreSent threads.old.items clock.now (spawns event) threads.new.items) }
+{
+    match event {
+        Event::Spawn(thread) => send(alloc, threads, thread, clock),
+        _ => Ok(()),
+    }
+}
+
+/// Raises the clocks of a step's thread, and of the threads that it woke or spawned.
+pub(crate) fn send_threads(
+    alloc: Global,
+    threads: &mut Vec<Clock>,
+    step: &Footprint,
+    clock: &Clock,
+) -> Result<(), OutOfMemory>
+    ensures { OnOk result (AreSent threads.old.items clock.now (to_thread step.now) threads.new.items) }
+{
+    send(alloc, threads, step.thread(), clock)?;
+    send_woken(alloc, threads, step.woken(), clock)?;
+    send_spawned(alloc, threads, step.event(), clock)
+}
+
+/// Raises the clock of the lock that a step releases.
+pub(crate) fn send_lock(
+    alloc: Global,
+    locks: &mut Vec<Clock>,
+    step: &Footprint,
+    clock: &Clock,
+) -> Result<(), OutOfMemory>
+    ensures { OnOk result (AreSent locks.old.items clock.now (to_lock step.now) locks.new.items) }
+{
+    match step.event() {
+        Event::Release(lock) => send(alloc, locks, lock, clock),
+        _ => Ok(()),
+    }
+}
+
+/// Raises the clock that the joiners of a step's thread receive, where the step ended it.
+pub(crate) fn send_ended(
+    alloc: Global,
+    ended: &mut Vec<Clock>,
+    step: &Footprint,
+    clock: &Clock,
+) -> Result<(), OutOfMemory>
+    ensures { OnOk result (AreSent ended.old.items clock.now (to_joiners step.now) ended.new.items) }
+{
+    if !step.ended() {
+        return Ok(());
+    }
+    send(alloc, ended, step.thread(), clock)
+}
