@@ -1,13 +1,16 @@
 -- Tests of accesses, and accesses of two lists that race.
-use Rattle.std.proofs.Common.{◌≡◌, ℕ, ◌+◌, ◌<◌, ◌≤◌, List, Bool, true, false, not, refl, sym, ap, ◌∙◌, inl, inr, arith}
+use Rattle.std.proofs.Common.{◌≡◌, ℕ, ◌+◌, ◌<◌, ◌≤◌, ◌⊎◌, List, [], ◌∷◌, ◌++◌, length, take, get_or, Bool, true, false, not, refl, sym, ap, ◌∙◌, subst, inl, inr, arith}
+use native.Mathlib.Decide.{dec_lt}
 use Rattle.std.specs.Prelude.{◌&&◌, ◌||◌, ◌==◌, nat_le, nat_lt}
 use Rattle.std.specs.List.{Contains, list_any}
 use Rattle.std.proofs.lemmas.Bool.{and_from, and_parts, cases_lt, le-leb, le-ltb, leb-true, lt-leb, lt-ltb, ltb-true, or_left}
+use Rattle.std.proofs.lemmas.List.{get_or_append_left, get_or_push, length_push, take_more}
+use Rattle.std.proofs.lemmas.List.Elements.{Contains-append_left, Contains-push}
 use Rattle.std.proofs.lemmas.List.Folds.{Any-from_list_any, list_any_at}
 use Rattle.mr_base.specs.declared.access.Access.{Access}
 use Rattle.mr_base.specs.Accesses.{conflicts, overlaps, races, some_race}
 use Rattle.mr_rust_order.specs.Loads.{counts}
-use Rattle.mr_rust_order.specs.Order.{has_byte, is_atomic_store, is_plain_store, is_store}
+use Rattle.mr_rust_order.specs.Order.{has_byte, is_atomic_load, is_atomic_store, is_plain_store, is_store}
 
 -- two lists have accesses that race
 pub race_found : (xs ys : List Access) → some_race xs ys ≡ true → (a : Access) × Contains xs a × ((b : Access) × Contains ys b × (races a b ≡ true))
@@ -86,3 +89,52 @@ same_byte a byte b next low high first end = ap (λ (t : Bool). t && nat_lt b (a
       | inl lt ↦ let le = end lt in lt-ltb b (a.addr + a.len) (omega (arith, le, high)) ∙ sym (lt-ltb byte (a.addr + a.len) lt)
       | inr le ↦ le-ltb b (a.addr + a.len) (omega (arith, le, low)) ∙ sym (le-ltb byte (a.addr + a.len) le)
     ]
+
+-- ---- elements of a list that has one more
+
+pub contains_cases : (xs : List Access) (r a : Access) → Contains (xs ++ r ∷ []) a → Contains xs a ⊎ (r ≡ a)
+contains_cases xs r a (k, lt, e) =
+    elim (dec_lt k (length xs)) [
+      | yes low ↦ inl (k, low, sym (get_or_append_left xs (r ∷ []) a k low) ∙ e)
+      | no over ↦
+          let long = length_push xs r in
+          let at : length xs ≡ k = omega (arith, lt, over, long) in
+          inr (sym (get_or_push xs r a k at) ∙ e)
+    ]
+
+-- what holds by some of the first accesses, and one more of them
+pub some_more : (P : Access → Type 0) (accesses : List Access) (y : ℕ) (d : Access) → y < length accesses → (a : Access) × Contains (take (y + 1) accesses) a × P a
+    → ((a : Access) × Contains (take y accesses) a × P a) ⊎ P (get_or accesses y d)
+some_more P accesses y d lt s =
+    elim (contains_cases (take y accesses) (get_or accesses y d) s.0 (subst (λ (l : List Access). Contains l s.0) (take_more accesses y d lt) s.1)) [
+      | inl c ↦ inl (s.0, c, s.2)
+      | inr e ↦ inr (subst P (sym e) s.2)
+    ]
+
+pub some_wider : (P : Access → Type 0) (accesses : List Access) (y : ℕ) (d : Access) → y < length accesses → (a : Access) × Contains (take y accesses) a × P a
+    → (a : Access) × Contains (take (y + 1) accesses) a × P a
+some_wider P accesses y d lt s =
+    (s.0, subst (λ (l : List Access). Contains l s.0) (sym (take_more accesses y d lt)) (Contains-append_left (take y accesses) (get_or accesses y d ∷ []) s.0 s.1), s.2)
+
+pub some_last : (P : Access → Type 0) (accesses : List Access) (y : ℕ) (d : Access) → y < length accesses → P (get_or accesses y d) → (a : Access) × Contains (take (y + 1) accesses) a × P a
+some_last P accesses y d lt p =
+    (get_or accesses y d, subst (λ (l : List Access). Contains l (get_or accesses y d)) (sym (take_more accesses y d lt)) (Contains-push (take y accesses) (get_or accesses y d)), p)
+
+-- ---- atomic loads
+
+no_load : (s t h : Bool) → (s || not t) ≡ true → (not s && t && h) ≡ true → ⊥
+no_load true t h e f = absurd (cc)
+no_load false true h e f = absurd (cc)
+no_load false false h e f = absurd (cc)
+
+pub not_loaded : (a : Access) (byte : ℕ) → (a.store || not a.atomic) ≡ true → is_atomic_load a byte ≡ true → ⊥
+not_loaded a byte e f = no_load a.store a.atomic (has_byte a byte) e f
+
+just_byte : (s t h : Bool) → (s || not t) ≡ false → (not s && t && h) ≡ h
+just_byte true t h e = absurd (cc)
+just_byte false true h e = refl
+just_byte false false h e = absurd (cc)
+
+-- what an atomic load loads is each of its bytes
+pub loaded_byte : (a : Access) (byte : ℕ) → (a.store || not a.atomic) ≡ false → is_atomic_load a byte ≡ has_byte a byte
+loaded_byte a byte e = just_byte a.store a.atomic (has_byte a byte) e

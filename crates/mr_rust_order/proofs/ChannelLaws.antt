@@ -12,9 +12,9 @@ use Rattle.mr_base.specs.declared.thread.Event.TheVariants.{Quiet, CreateLock, A
 use Rattle.mr_event.specs.Footprint.{Footprint}
 use Rattle.mr_event.specs.Footprints.{wakes, spawns}
 use Rattle.mr_event.specs.Order.{step_at, thread_at}
-use Rattle.mr_rust_order.specs.Channels.{AreChannels, AreSent, IsSent, clock_at, to_joiners, to_lock, to_thread, told_by}
+use Rattle.mr_rust_order.specs.Channels.{AreChannels, AreOthersKept, AreSent, IsSent, IsThreadClock, clock_at, to_joiners, to_lock, to_thread, told_by}
 use Rattle.mr_rust_order.specs.Clocks.{IsClockBehind, IsJoin, IsRaised, IsUnder, Reaches}
-use Rattle.mr_rust_order.specs.Order.{Edge, HappensBefore, IsReadBy}
+use Rattle.mr_rust_order.specs.Order.{Edge, HappensBefore, IsReadBy, releases}
 use Rattle.mr_rust_order.specs.Order.Edge.{in_thread, started, handed_over, joined, stored}
 use Rattle.mr_rust_order.proofs.ClockLaws.{join_cases, join_one, join_other, under_raised}
 use Rattle.mr_rust_order.proofs.OrderLaws.{reach_edge}
@@ -70,14 +70,39 @@ sent_more old mid new clock woken i lt one two =
     sent_same old new clock (λ y. list_any (λ t. t == y) (take i woken) || (get_or woken i 0 == y)) (λ y. list_any (λ t. t == y) (take (i + 1) woken))
     (λ y. sym (list_any_more (λ t. t == y) woken i 0 lt)) (sent_both old mid new clock (λ y. list_any (λ t. t == y) (take i woken)) (λ y. get_or woken i 0 == y) one two)
 
--- to its thread, to those that it woke, and to the one that it spawned
-pub sent_threads : (old one two three : List (List ℕ)) (clock : List ℕ) (f : Footprint) → AreSent old clock (λ y. f.thread == y) one
-    → AreSent one clock (λ y. list_any (λ t. t == y) f.woken) two → AreSent two clock (spawns f.event) three → AreSent old clock (to_thread f) three
+-- to the threads that a step woke, and to the one that it spawned
+pub sent_threads : (old mid new : List (List ℕ)) (clock : List ℕ) (f : Footprint) → AreSent old clock (λ y. list_any (λ t. t == y) f.woken) mid
+    → AreSent mid clock (spawns f.event) new → AreSent old clock (wakes f) new
 unfolding wakes
-sent_threads old one two three clock f a b c =
-    sent_same old three clock (λ y. (f.thread == y) || (list_any (λ t. t == y) f.woken || spawns f.event y)) (to_thread f) (λ y. refl)
-    (sent_both old one three clock (λ y. f.thread == y) (λ y. list_any (λ t. t == y) f.woken || spawns f.event y) a
-    (sent_both one two three clock (λ y. list_any (λ t. t == y) f.woken) (spawns f.event) b c))
+sent_threads old mid new clock f one two =
+    sent_same old new clock (λ y. list_any (λ t. t == y) f.woken || spawns f.event y) (wakes f) (λ y. refl)
+    (sent_both old mid new clock (λ y. list_any (λ t. t == y) f.woken) (spawns f.event) one two)
+
+-- and to its own thread, whose clock was taken out, raised and put back
+pub sent_own : (old out sent new : List (List ℕ)) (clock : List ℕ) (f : Footprint) → AreOthersKept old f.thread out → AreSent out clock (wakes f) sent
+    → AreOthersKept sent f.thread new → clock_at new f.thread ≡ clock → IsRaised (clock_at old f.thread) clock → AreSent old clock (to_thread f) new
+sent_own old out sent new clock f taken woken put is raised = λ y t.
+    elim (ℕ_discrete y f.thread) [
+      | yes at ↦
+          let here : slice_index (clock_at new y) t ≡ slice_index clock t = ap (λ (x : ℕ). slice_index (clock_at new x) t) at ∙ ap (λ (l : List ℕ). slice_index l t) is in
+          let was : slice_index (clock_at old y) t ≡ slice_index (clock_at old f.thread) t = ap (λ (x : ℕ). slice_index (clock_at old x) t) at in
+          let up : slice_index (clock_at old f.thread) t ≤ slice_index clock t = raised t in
+          let test : (f.thread == y) ≡ true = eq-eqb f.thread y (sym at) in
+          let most : slice_index (clock_at new y) t ≡ max (slice_index (clock_at old y) t) (slice_index clock t) = omega (arith, here, was, up) in
+          most ∙ sym (ap (λ (b : Bool). cond (b || wakes f y) (max (slice_index (clock_at old y) t) (slice_index clock t)) (slice_index (clock_at old y) t)) test)
+      | no ne ↦
+          let test : (f.thread == y) ≡ false = ne_eqb f.thread y (λ e. ne (sym e)) in
+          ap (λ (l : List ℕ). slice_index l t) (put y ne) ∙ woken y t
+          ∙ ap (λ (l : List ℕ). cond (wakes f y) (max (slice_index l t) (slice_index clock t)) (slice_index l t)) (taken y ne)
+          ∙ sym (ap (λ (b : Bool). cond (b || wakes f y) (max (slice_index (clock_at old y) t) (slice_index clock t)) (slice_index (clock_at old y) t)) test)
+    ]
+
+-- a clock that is put in the place of a channel
+pub kept_set : (old mid new : List (List ℕ)) (x : ℕ) (clock : List ℕ) → ((y : ℕ) → clock_at mid y ≡ clock_at old y) → new ≡ set mid x clock → AreOthersKept old x new
+kept_set old mid new x clock same put = λ y ne. ap (λ (l : List (List ℕ)). clock_at l y) put ∙ get_or-set_other mid x y clock [] ne ∙ same y
+
+pub put_here : (mid new : List (List ℕ)) (x : ℕ) (clock : List ℕ) → x < length mid → new ≡ set mid x clock → clock_at new x ≡ clock
+put_here mid new x clock lt put = ap (λ (l : List (List ℕ)). clock_at l x) put ∙ get_or-set_same mid x clock [] lt
 
 -- ---- channels of one more step
 
@@ -166,22 +191,77 @@ told_before run j locks ended l d (Join thread) is k u =
     reach_edge run k s.step j s.reached (joined s.within both.0 (is ∙ ap (λ (t : ℕ). Join t) (sym of)))
 
 -- what reaches a step that has an edge to j lies under a clock that is raised to what j receives
-pub received : (run : List Footprint) (j s k : ℕ) (threads locks ended : List (List ℕ)) (clock : List ℕ)
-    → AreChannels run j to_thread threads → AreChannels run j to_lock locks → AreChannels run j to_joiners ended
-    → IsRaised (clock_at threads (thread_at run j)) clock → IsRaised (told_by (step_at run j).event locks ended) clock
+pub received : (run : List Footprint) (j s k : ℕ) (own : List ℕ) (locks ended : List (List ℕ)) (clock : List ℕ)
+    → IsThreadClock run j own → AreChannels run j to_lock locks → AreChannels run j to_joiners ended
+    → IsRaised own clock → IsRaised (told_by (step_at run j).event locks ended) clock
     → ((byte : ℕ) → IsReadBy run s j byte → IsUnder run clock k)
     → Reaches run k s → Edge run s j → IsUnder run clock k
-received run j s k threads locks ended clock t l d by_thread by_event loaded reach (in_thread lt same) =
-    under_raised run (clock_at threads (thread_at run j)) clock k by_thread
-    (t.all (thread_at run j) k (record { step = s; within = lt; sent = or_left _ _ (eq-eqb (thread_at run s) (thread_at run j) same); reached = reach }))
-received run j s k threads locks ended clock t l d by_thread by_event loaded reach (started lt woken) =
-    under_raised run (clock_at threads (thread_at run j)) clock k by_thread
-    (t.all (thread_at run j) k (record { step = s; within = lt; sent = or_right (thread_at run s == thread_at run j) _ woken; reached = reach }))
-received run j s k threads locks ended clock t l d by_thread by_event loaded reach (handed_over lock lt released acquired) =
+received run j s k own locks ended clock t l d by_thread by_event loaded reach (in_thread lt same) =
+    under_raised run own clock k by_thread
+    (t.all k (record { step = s; within = lt; sent = or_left _ _ (eq-eqb (thread_at run s) (thread_at run j) same); reached = reach }))
+received run j s k own locks ended clock t l d by_thread by_event loaded reach (started lt woken) =
+    under_raised run own clock k by_thread
+    (t.all k (record { step = s; within = lt; sent = or_right (thread_at run s == thread_at run j) _ woken; reached = reach }))
+received run j s k own locks ended clock t l d by_thread by_event loaded reach (handed_over lock lt released acquired) =
     under_raised run (told_by (step_at run j).event locks ended) clock k by_event
     (subst (λ (e : Event). IsUnder run (told_by e locks ended) k) (sym acquired) (l.all lock k (record { step = s; within = lt; sent = released; reached = reach })))
-received run j s k threads locks ended clock t l d by_thread by_event loaded reach (joined lt over joins) =
+received run j s k own locks ended clock t l d by_thread by_event loaded reach (joined lt over joins) =
     under_raised run (told_by (step_at run j).event locks ended) clock k by_event
     (subst (λ (e : Event). IsUnder run (told_by e locks ended) k) (sym joins)
     (d.all (thread_at run s) k (record { step = s; within = lt; sent = and_from _ _ over (eq-eqb (thread_at run s) (thread_at run s) refl); reached = reach })))
-received run j s k threads locks ended clock t l d by_thread by_event loaded reach (stored byte r) = loaded byte r
+received run j s k own locks ended clock t l d by_thread by_event loaded reach (stored byte r) = loaded byte r
+
+-- the clock of a step's thread, and one that is joined with it
+pub thread_clock : (run : List Footprint) (j t : ℕ) (threads : List (List ℕ)) (clock : List ℕ) → AreChannels run j to_thread threads → t ≡ thread_at run j → clock ≡ clock_at threads t → IsThreadClock run j clock
+thread_clock run j t threads clock c at is =
+    let same : clock ≡ clock_at threads (thread_at run j) = is ∙ ap (clock_at threads) at in
+    subst (IsThreadClock run j) (sym same) (record { only = c.only (thread_at run j); all = c.all (thread_at run j) })
+
+pub thread_joined : (run : List Footprint) (j t : ℕ) (threads : List (List ℕ)) (none clock : List ℕ) → AreChannels run j to_thread threads → t ≡ thread_at run j → none ≡ [] → IsJoin none (clock_at threads t) clock
+    → IsThreadClock run j clock
+thread_joined run j t threads none clock c at empty join =
+    record {
+      only = λ k under. known.only k (from k (join_cases none (clock_at threads t) clock (thread_at run k) k join under));
+      all = λ k s. under_raised run (clock_at threads t) clock k (join_other none (clock_at threads t) clock join) (known.all k s);
+    }
+  where
+    known : IsThreadClock run j (clock_at threads t)
+    known = thread_clock run j t threads (clock_at threads t) c at refl
+
+    from : (k : ℕ) → (k < slice_index none (thread_at run k)) ⊎ (k < slice_index (clock_at threads t) (thread_at run k)) → IsUnder run (clock_at threads t) k
+    from k (inl under) = absurd (let zero : slice_index none (thread_at run k) ≡ 0 = ap (λ (l : List ℕ). slice_index l (thread_at run k)) empty in omega (arith, zero, under))
+    from k (inr under) = under
+
+-- ---- by the kind of an event
+
+-- what an event of no lock and no join tells, and to which channels an event of another kind sends nothing
+pub told_none : (locks ended : List (List ℕ)) (clock : List ℕ) (e : Event) → ((lock : ℕ) → e ≡ Acquire lock → ⊥) → ((thread : ℕ) → e ≡ Join thread → ⊥) → IsJoin clock (told_by e locks ended) clock
+told_none locks ended clock Quiet a j = λ t. omega arith
+told_none locks ended clock (CreateLock n) a j = λ t. omega arith
+told_none locks ended clock (Acquire n) a j = absurd (a n refl)
+told_none locks ended clock (Release n) a j = λ t. omega arith
+told_none locks ended clock (Spawn n) a j = λ t. omega arith
+told_none locks ended clock (Join n) a j = absurd (j n refl)
+
+pub spawned_none : (old : List (List ℕ)) (clock : List ℕ) (e : Event) → ((thread : ℕ) → e ≡ Spawn thread → ⊥) → AreSent old clock (spawns e) old
+spawned_none old clock Quiet s = λ x t. refl
+spawned_none old clock (CreateLock n) s = λ x t. refl
+spawned_none old clock (Acquire n) s = λ x t. refl
+spawned_none old clock (Release n) s = λ x t. refl
+spawned_none old clock (Spawn n) s = absurd (s n refl)
+spawned_none old clock (Join n) s = λ x t. refl
+
+pub released_none : (old : List (List ℕ)) (clock : List ℕ) (e : Event) → ((lock : ℕ) → e ≡ Release lock → ⊥) → AreSent old clock (releases e) old
+released_none old clock Quiet r = λ x t. refl
+released_none old clock (CreateLock n) r = λ x t. refl
+released_none old clock (Acquire n) r = λ x t. refl
+released_none old clock (Release n) r = absurd (r n refl)
+released_none old clock (Spawn n) r = λ x t. refl
+released_none old clock (Join n) r = λ x t. refl
+
+-- to those that join a thread, where a step ended it or didn't
+pub ended_sent : (old new : List (List ℕ)) (clock : List ℕ) (f : Footprint) → f.ended ≡ true → AreSent old clock (λ y. f.thread == y) new → AreSent old clock (to_joiners f) new
+ended_sent old new clock f over sent = sent_same old new clock (λ y. f.thread == y) (to_joiners f) (λ y. sym (ap (λ (b : Bool). b && (f.thread == y)) over)) sent
+
+pub ended_none : (old : List (List ℕ)) (clock : List ℕ) (f : Footprint) → f.ended ≡ false → AreSent old clock (to_joiners f) old
+ended_none old clock f still = sent_same old old clock (λ _. false) (to_joiners f) (λ y. sym (ap (λ (b : Bool). b && (f.thread == y)) still)) (sent_none old clock)

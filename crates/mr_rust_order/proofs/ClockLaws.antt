@@ -31,6 +31,15 @@ raised_on one two three a b = λ t. let p = a t in let q = b t in omega (arith, 
 pub under_raised : (run : List Footprint) (one two : List ℕ) (k : ℕ) → IsRaised one two → IsUnder run one k → IsUnder run two k
 under_raised run one two k a u = let p = a (thread_at run k) in omega (arith, p, u)
 
+-- a clock in which one number is raised
+pub raise_raised : (old new : List ℕ) (t n : ℕ) → slice_index new t ≡ max (slice_index old t) n → ((u : ℕ) → u ≢ t → slice_index new u ≡ slice_index old u) → IsRaised old new
+raise_raised old new t n own others = λ u. elim (ℕ_discrete u t) [
+  | no ne ↦ let same = others u ne in omega (arith, same)
+  | yes same ↦
+      let is : slice_index new u ≡ max (slice_index old u) n = ap (slice_index new) same ∙ own ∙ ap (λ (v : ℕ). max (slice_index old v) n) (sym same) in
+      omega (arith, is)
+]
+
 -- the clock before a step, with the step itself
 pub clock_behind : (run : List Footprint) (old new : List ℕ) (j t : ℕ) → t ≡ thread_at run j → IsClockBefore run old j
     → slice_index new t ≡ max (slice_index old t) (j + 1) → ((u : ℕ) → u ≢ t → slice_index new u ≡ slice_index old u) → IsClockBehind run new j
@@ -45,22 +54,14 @@ clock_behind run old new j t at c own others =
               | no over ↦ reach_in_thread run k j (omega (arith, is, under, over)) (same ∙ at)
             ]
       ];
-      all = all;
+      all = known;
     }
   where
     own_at : (k : ℕ) → thread_at run k ≡ t → slice_index new (thread_at run k) ≡ max (slice_index old (thread_at run k)) (j + 1)
     own_at k same = ap (slice_index new) same ∙ own ∙ ap (λ (u : ℕ). max (slice_index old u) (j + 1)) (sym same)
 
-    raised : IsRaised old new
-    raised u = elim (ℕ_discrete u t) [
-      | no ne ↦ let same = others u ne in omega (arith, same)
-      | yes same ↦
-          let is : slice_index new u ≡ max (slice_index old u) (j + 1) = ap (slice_index new) same ∙ own ∙ ap (λ (v : ℕ). max (slice_index old v) (j + 1)) (sym same) in
-          omega (arith, is)
-    ]
-
-    all : (k : ℕ) → Reaches run k j → IsUnder run new k
-    all k (inl is) =
+    known : (k : ℕ) → Reaches run k j → IsUnder run new k
+    known k (inl is) =
         let here : slice_index new (thread_at run k) ≡ max (slice_index old (thread_at run k)) (j + 1) = own_at k (ap (thread_at run) is ∙ sym at) in
         omega (arith, here, is)
-    all k (inr h) = under_raised run old new k raised (c.all k h)
+    known k (inr h) = under_raised run old new k (raise_raised old new t (j + 1) own others) (c.all k h)

@@ -1,6 +1,7 @@
 pub mod AccessLaws
 pub mod ChannelLaws
 pub mod ClockLaws
+pub mod Examples
 pub mod LoadLaws
 pub mod MarkLaws
 pub mod OneList
@@ -8,3 +9,4 @@ pub mod OrderLaws
 pub mod PartnerLaws
 pub mod RowLaws
 pub mod StepLaws
+pub mod TopLaws

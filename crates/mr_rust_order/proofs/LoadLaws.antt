@@ -1,7 +1,7 @@
 -- The latest stores to a byte, by the rows and in the run.
-use Rattle.std.proofs.Common.{◌≡◌, ◌≢◌, ℕ, ◌+◌, ◌<◌, ◌≤◌, List, length, slice_index, Bool, true, false, not, IsTrue, sym, ap, ◌∙◌, subst, arith}
+use Rattle.std.proofs.Common.{◌≡◌, ◌≢◌, ℕ, ◌+◌, ◌<◌, ◌≤◌, List, length, take, get_or, Bool, true, false, not, IsTrue, sym, ap, ◌∙◌, subst, inl, inr, ◌⊎◌, arith}
 use native.Mathlib.Decide.{ℕ_discrete, dec_lt}
-use Rattle.std.specs.Prelude.{◌&&◌, ◌==◌}
+use Rattle.std.specs.Prelude.{◌&&◌, ◌||◌, ◌==◌}
 use Rattle.std.specs.List.{Contains}
 use Rattle.std.proofs.lemmas.Bool.{and_from, and_parts, eq-eqb}
 use Rattle.mr_base.proofs.Comparisons.{eq_from}
@@ -10,11 +10,12 @@ use Rattle.mr_base.specs.Accesses.{conflicts}
 use Rattle.mr_event.specs.Footprint.{Footprint}
 use Rattle.mr_event.specs.Order.{step_at}
 use Rattle.mr_rust_order.specs.declared.rows.Row.{Row}
-use Rattle.mr_rust_order.specs.Loads.{AreFoundAt, AreMet, IsLatestStore, IsLoadedAt, IsLoadedBy, counts, takes}
+use Rattle.mr_rust_order.specs.Loads.{AreFoundAt, AreJoined, AreMet, IsLatestStore, IsReadOf, counts, takes}
 use Rattle.mr_rust_order.specs.Marks.{IsListed}
 use Rattle.mr_rust_order.specs.Order.{IsReadBy, Makes, has_byte, is_atomic_load, is_atomic_store, is_plain_store, is_store}
-use Rattle.mr_rust_order.specs.Rows.{AreRows, AreShort, IsRow, row_at}
-use Rattle.mr_rust_order.proofs.AccessLaws.{atomic_is_store, counted_is_store, plain_is_store, store_conflicts, store_is_counted}
+use Rattle.mr_rust_order.specs.Rows.{AreRows, IsRow, IsTop, Passes, row_at}
+use Rattle.mr_rust_order.proofs.AccessLaws.{atomic_is_store, byte_from, byte_to, counted_is_store, loaded_byte, not_loaded, plain_is_store, some_last, some_more, some_wider, store_conflicts, store_is_counted}
+use Rattle.mr_rust_order.proofs.TopLaws.{joined_more, joined_none, joined_same, top_least}
 
 -- ---- in the run
 
@@ -83,44 +84,47 @@ source_loaded run i j rows byte r s =
 pub found_at : (rows : List Row) (access : Access) (found : List ℕ) (byte : ℕ) → AreMet rows access found → has_byte access byte ≡ true → AreFoundAt rows byte found
 found_at rows access found byte met has = λ x lt stores. met x lt (store_conflicts (row_at rows x).range access byte stores has)
 
--- each row that counts has a step below a number, and no lesser number is above them all
-abbrev pub IsAbove : List Row → ℕ → Bool → ℕ → Type 0
-IsAbove rows byte every n = (x : ℕ) → x < length rows → IsTrue (counts every (row_at rows x).range byte) → (row_at rows x).last < n
+-- the rows that count have a store to the byte
+pub passes_is_store : (rows : List Row) (every : Bool) (byte x : ℕ) → Passes rows (λ r. counts every r.range byte) x → is_store (row_at rows x).range byte ≡ true
+passes_is_store rows every byte x p = counted_is_store every (row_at rows x).range byte p.passed
 
-abbrev pub IsLeast : List Row → ℕ → Bool → ℕ → Type 0
-IsLeast rows byte every n = (m : ℕ) → IsAbove rows byte every m → n ≤ m
+pub taken_is_store : (rows : List Row) (byte latest x : ℕ) → Passes rows (λ r. takes r byte latest) x → is_store (row_at rows x).range byte ≡ true
+taken_is_store rows byte latest x p =
+    atomic_is_store (row_at rows x).range byte (and_parts (is_atomic_store (row_at rows x).range byte) ((row_at rows x).last + 1 == latest) p.passed).0
 
 -- where a plain store is as late as any, there is no latest store that is atomic
-pub none_latest : (rows : List Row) (byte latest plain x : ℕ) → IsAbove rows byte true latest → IsLeast rows byte false plain → latest ≤ plain → IsLatestStore rows byte x → ⊥
-none_latest rows byte latest plain x above least le l =
-    let low = above x l.within (store_is_counted (row_at rows x).range byte (atomic_is_store (row_at rows x).range byte l.store)) in
-    let high = least (row_at rows x).last (λ y lt counted. l.atomic y lt counted) in
+pub none_latest : (rows : List Row) (byte latest plain x : ℕ) → IsTop rows (Passes rows (λ r. counts true r.range byte)) latest → IsTop rows (Passes rows (λ r. counts false r.range byte)) plain
+    → latest ≤ plain → IsLatestStore rows byte x → ⊥
+none_latest rows byte latest plain x all some le l =
+    let stores = store_is_counted (row_at rows x).range byte (atomic_is_store (row_at rows x).range byte l.store) in
+    let low = all.above x (record { within = l.within; passed = stores }) in
+    let high = top_least rows (Passes rows (λ r. counts false r.range byte)) plain (row_at rows x).last some (λ y p. l.atomic y p.within p.passed) in
     omega (arith, low, high, le)
 
-pub taken_latest : (rows : List Row) (byte latest plain t n : ℕ) → IsAbove rows byte true latest → IsAbove rows byte false plain → plain < latest
-    → IsLoadedBy rows byte latest t n → IsLoadedAt rows byte t n
-taken_latest rows byte latest plain t n above all lt b =
-    let both = and_parts (is_atomic_store (row_at rows b.row).range byte) ((row_at rows b.row).last + 1 == latest) b.taken in
-    let at : (row_at rows b.row).last + 1 ≡ latest = eq_from ((row_at rows b.row).last + 1) latest both.1 in
+-- else a row is taken exactly where it has the latest store
+pub taken_latest : (rows : List Row) (byte latest plain x : ℕ) → IsTop rows (Passes rows (λ r. counts true r.range byte)) latest → IsTop rows (Passes rows (λ r. counts false r.range byte)) plain
+    → plain < latest → Passes rows (λ r. takes r byte latest) x → IsLatestStore rows byte x
+taken_latest rows byte latest plain x all some lt p =
+    let both = and_parts (is_atomic_store (row_at rows x).range byte) ((row_at rows x).last + 1 == latest) p.passed in
+    let at : (row_at rows x).last + 1 ≡ latest = eq_from ((row_at rows x).last + 1) latest both.1 in
     record {
-      row = b.row;
-      latest = record {
-        within = b.within;
-        store = both.0;
-        latest = λ y inside stores. let low = above y inside (store_is_counted (row_at rows y).range byte stores) in omega (arith, low, at);
-        atomic = λ y inside stores. let low = all y inside stores in omega (arith, low, at, lt);
-      };
-      below = b.below;
+      within = p.within;
+      store = both.0;
+      latest = λ y inside stores. let low = all.above y (record { within = inside; passed = store_is_counted (row_at rows y).range byte stores }) in omega (arith, low, at);
+      atomic = λ y inside stores. let low = some.above y (record { within = inside; passed = stores }) in omega (arith, low, at, lt);
     }
 
-pub latest_taken : (rows : List Row) (byte latest x : ℕ) → IsAbove rows byte true latest → IsLeast rows byte true latest → IsLatestStore rows byte x → takes (row_at rows x) byte latest ≡ true
-latest_taken rows byte latest x above least l =
-    let low = above x l.within (store_is_counted (row_at rows x).range byte (atomic_is_store (row_at rows x).range byte l.store)) in
-    let high = least ((row_at rows x).last + 1) (λ y lt counted. let le = l.latest y lt (counted_is_store true (row_at rows y).range byte counted) in omega (arith, le)) in
-    and_from (is_atomic_store (row_at rows x).range byte) ((row_at rows x).last + 1 == latest) l.store (eq-eqb ((row_at rows x).last + 1) latest (omega (arith, low, high)))
-
-pub taken_is_store : (row : Row) (byte latest : ℕ) → takes row byte latest ≡ true → is_store row.range byte ≡ true
-taken_is_store row byte latest h = atomic_is_store row.range byte (and_parts (is_atomic_store row.range byte) (row.last + 1 == latest) h).0
+pub latest_taken : (rows : List Row) (byte latest x : ℕ) → IsTop rows (Passes rows (λ r. counts true r.range byte)) latest → IsLatestStore rows byte x → Passes rows (λ r. takes r byte latest) x
+latest_taken rows byte latest x all l =
+    let stores = store_is_counted (row_at rows x).range byte (atomic_is_store (row_at rows x).range byte l.store) in
+    let low = all.above x (record { within = l.within; passed = stores }) in
+    let high =
+    top_least rows (Passes rows (λ r. counts true r.range byte)) latest ((row_at rows x).last + 1) all
+    (λ y p. let le = l.latest y p.within (passes_is_store rows true byte y p) in omega (arith, le)) in
+    record {
+      within = l.within;
+      passed = and_from (is_atomic_store (row_at rows x).range byte) ((row_at rows x).last + 1 == latest) l.store (eq-eqb ((row_at rows x).last + 1) latest (omega (arith, low, high)));
+    }
 
 -- up to the next border the latest store to a byte is the same
 pub latest_moved : (rows : List Row) (found : List ℕ) (access : Access) (byte b x : ℕ) → AreMet rows access found → has_byte access byte ≡ true → has_byte access b ≡ true
@@ -140,13 +144,63 @@ latest_moved rows found access byte b x met here there same l =
           l.atomic y lt (ap (λ (t : Bool). (row_at rows y).range.store && not (row_at rows y).range.atomic && t) at ∙ plain);
     }
 
--- what holds of each of the first places of a list of rows, and of one more
-pub places_more : (P : ℕ → Type 0) (found : List ℕ) (z : ℕ) → ((y : ℕ) → y < z → P (slice_index found y)) → P (slice_index found z) → (y : ℕ) → y < z + 1 → P (slice_index found y)
-places_more P found z old here y lt = elim (ℕ_discrete y z) [
-  | yes is ↦ subst (λ (k : ℕ). P (slice_index found k)) (sym is) here
-  | no ne ↦ old y (omega (arith, lt, ne))
-]
+-- the latest store to one of the bytes from the begin of an access up to another
+abbrev pub IsLatestBelow : List Row → Access → ℕ → ℕ → Type 0
+IsLatestBelow rows access byte x = (b : ℕ) × (access.addr ≤ b) × (b < byte) × IsLatestStore rows b x
 
--- and of all that are listed
-pub places_all : (P : ℕ → Type 0) (found : List ℕ) (z x : ℕ) → length found ≤ z → ((y : ℕ) → y < z → P (slice_index found y)) → IsListed found x → P x
-places_all P found z x long all l = let lt = l.1 in subst P l.2 (all l.0 (omega (arith, lt, long)))
+-- the bytes up to the next border are those before, and those that are like one byte
+pub bytes_more : (rows : List Row) (found : List ℕ) (access : Access) (byte next : ℕ) (a b c : List ℕ) → AreMet rows access found → access.addr ≤ byte → byte < next → next ≤ access.addr + access.len
+    → ((d x : ℕ) → x < length rows → IsListed found x → byte ≤ d → d < next → has_byte (row_at rows x).range d ≡ has_byte (row_at rows x).range byte)
+    → AreJoined rows (IsLatestBelow rows access byte) a b → AreJoined rows (IsLatestStore rows byte) b c → AreJoined rows (IsLatestBelow rows access next) a c
+bytes_more rows found access byte next a b c met low lt high same j k =
+    joined_more rows (IsLatestBelow rows access byte) (IsLatestStore rows byte) (IsLatestBelow rows access next) a b c
+    (λ x l. let less = l.2 in (l.0, l.1, omega (arith, less, lt), l.3)) (λ x l. (byte, low, lt, l)) cases j k
+  where
+    cases : (x : ℕ) → IsLatestBelow rows access next x → IsLatestBelow rows access byte x ⊎ IsLatestStore rows byte x
+    cases x l =
+        let begin = l.1 in
+        let end = l.2 in
+        elim (dec_lt l.0 byte) [
+          | yes less ↦ inl (l.0, begin, less, l.3)
+          | no over ↦
+              inr
+              (latest_moved rows found access byte l.0 x met (byte_to access byte low (omega (arith, lt, high))) (byte_to access l.0 begin (omega (arith, end, high)))
+              (λ y inside listed. same l.0 y inside listed (omega (arith, over)) end) l.3)
+        ]
+
+-- no byte lies before the first one, and all bytes lie before the end
+pub bytes_none : (rows : List Row) (access : Access) (byte : ℕ) (clock : List ℕ) → byte ≤ access.addr → AreJoined rows (IsLatestBelow rows access byte) clock clock
+bytes_none rows access byte clock le = joined_none rows (IsLatestBelow rows access byte) clock (λ x l. let low = l.1 in let high = l.2 in omega (arith, low, high, le))
+
+pub bytes_all : (rows : List Row) (access : Access) (byte : ℕ) (a b : List ℕ) → access.addr + access.len ≤ byte → byte ≤ access.addr + access.len → AreJoined rows (IsLatestBelow rows access byte) a b
+    → AreJoined rows (λ x. (d : ℕ) × IsTrue (has_byte access d) × IsLatestStore rows d x) a b
+bytes_all rows access byte a b long short j =
+    joined_same rows (IsLatestBelow rows access byte) (λ x. (d : ℕ) × IsTrue (has_byte access d) × IsLatestStore rows d x) a b
+    (λ x l. let high = l.2 in (l.0, byte_to access l.0 l.1 (omega (arith, high, short)), l.3))
+    (λ x l. let t = byte_from access l.0 l.1 in let high = t.1 in (l.0, t.0, omega (arith, high, long), l.2)) j
+
+-- ---- by one access after another
+
+-- an access that is no atomic load reads nothing, and an atomic load reads by its bytes
+pub access_none : (rows : List Row) (access : Access) (clock : List ℕ) → (access.store || not access.atomic) ≡ true
+    → AreJoined rows (λ x. (b : ℕ) × IsTrue (is_atomic_load access b) × IsLatestStore rows b x) clock clock
+access_none rows access clock e = joined_none rows (λ x. (b : ℕ) × IsTrue (is_atomic_load access b) × IsLatestStore rows b x) clock (λ x r. not_loaded access r.0 e r.1)
+
+pub access_read : (rows : List Row) (access : Access) (a b : List ℕ) → (access.store || not access.atomic) ≡ false
+    → AreJoined rows (λ x. (d : ℕ) × IsTrue (has_byte access d) × IsLatestStore rows d x) a b
+    → AreJoined rows (λ x. (d : ℕ) × IsTrue (is_atomic_load access d) × IsLatestStore rows d x) a b
+access_read rows access a b e j =
+    joined_same rows (λ x. (d : ℕ) × IsTrue (has_byte access d) × IsLatestStore rows d x) (λ x. (d : ℕ) × IsTrue (is_atomic_load access d) × IsLatestStore rows d x) a b
+    (λ x r. (r.0, loaded_byte access r.0 e ∙ r.1, r.2)) (λ x r. (r.0, sym (loaded_byte access r.0 e) ∙ r.1, r.2)) j
+
+pub reads_none : (rows : List Row) (accesses : List Access) (clock : List ℕ) → AreJoined rows (IsReadOf rows (take 0 accesses)) clock clock
+reads_none rows accesses clock = joined_none rows (IsReadOf rows (take 0 accesses)) clock (λ x r. let lt = r.1.1 in omega (arith, lt))
+
+pub reads_more : (rows : List Row) (accesses : List Access) (y : ℕ) (d : Access) (a b c : List ℕ) → y < length accesses → AreJoined rows (IsReadOf rows (take y accesses)) a b
+    → AreJoined rows (λ x. (e : ℕ) × IsTrue (is_atomic_load (get_or accesses y d) e) × IsLatestStore rows e x) b c → AreJoined rows (IsReadOf rows (take (y + 1) accesses)) a c
+reads_more rows accesses y d a b c lt j k =
+    joined_more rows (IsReadOf rows (take y accesses)) (λ x. by x (get_or accesses y d)) (IsReadOf rows (take (y + 1) accesses)) a b c
+    (λ x r. some_wider (by x) accesses y d lt r) (λ x r. some_last (by x) accesses y d lt r) (λ x r. some_more (by x) accesses y d lt r) j k
+  where
+    by : ℕ → Access → Type 0
+    by x q = (e : ℕ) × IsTrue (is_atomic_load q e) × IsLatestStore rows e x

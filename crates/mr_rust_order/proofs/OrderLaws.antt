@@ -33,9 +33,9 @@ reach_behind run i m k p (inl same) = inr (subst (λ (x : ℕ). HappensBefore ru
 reach_behind run i m k p (inr q) = inr (chain p q)
 
 -- the last edge of a chain
-pub last_edge : {run : List Footprint} {i j : ℕ} → HappensBefore run i j → (k : ℕ) × Reaches run i k × Edge run k j
-last_edge (edge {i = m} e) = (m, inl refl, e)
-last_edge {run} (chain {i = m} {j = n} p q) = let t = last_edge q in (t.0, reach_behind run m n t.0 p t.1, t.2)
+pub last_edge : (run : List Footprint) {i j : ℕ} → HappensBefore run i j → (k : ℕ) × Reaches run i k × Edge run k j
+last_edge run (edge {i = m} e) = (m, inl refl, e)
+last_edge run (chain {i = m} {j = n} p q) = let t = last_edge run q in (t.0, reach_behind run m n t.0 p t.1, t.2)
 
 -- a step of a thread is a later one, or happens before it
 pub reach_in_thread : (run : List Footprint) (k s : ℕ) → k ≤ s → thread_at run k ≡ thread_at run s → Reaches run k s

@@ -11,26 +11,17 @@ use Rattle.mr_rust_order.specs.declared.index.Mark.{Mark}
 use Rattle.mr_rust_order.specs.declared.index.Shelf.{Shelf}
 use Rattle.mr_rust_order.specs.declared.rows.Row.{Row}
 use Rattle.mr_rust_order.specs.Clocks.{IsClockBehind}
-use Rattle.mr_rust_order.specs.Marks.{AreMarked, IsMarked}
+use Rattle.mr_rust_order.specs.Marks.{AreMarked, IsMarked, IsPlaceFor}
 use Rattle.mr_rust_order.specs.Rows.{AreNoted, AreRows, IsHeld, IsOldOrPut, IsPut, IsRow, IsRowFor, is_release, no_row, row_at}
+use Rattle.mr_rust_order.proofs.AccessLaws.{contains_cases}
 
 pub row_read : (rows : List Row) (x : ℕ) (row : Row) → x < length rows → row ≡ get_or rows x row → row ≡ row_at rows x
 row_read rows x row lt e = get_or_read rows x row lt e no_row
 
--- the one element of a list, and the elements of one that has one more
+-- the one element of a list
 single : (r a : Access) → Contains (r ∷ []) a → r ≡ a
 single r a (zero, lt, e) = e
 single r a (suc k, lt, e) = absurd (omega (arith, lt))
-
-contains_cases : (xs : List Access) (r a : Access) → Contains (xs ++ r ∷ []) a → Contains xs a ⊎ (r ≡ a)
-contains_cases xs r a (k, lt, e) =
-    elim (dec_lt k (length xs)) [
-      | yes low ↦ inl (k, low, sym (get_or_append_left xs (r ∷ []) a k low) ∙ e)
-      | no over ↦
-          let long = length_push xs r in
-          let at : length xs ≡ k = omega (arith, lt, over, long) in
-          inr (sym (get_or_push xs r a k at) ∙ e)
-    ]
 
 row_for_same : (old new : List Row) (x : ℕ) → x < length new → row_at new x ≡ row_at old x → IsRowFor new x (row_at old x).range (row_at old x).thread
 row_for_same old new x lt same = record { within = lt; of_range = ap (λ (r : Row). r.range) same; of_thread = ap (λ (r : Row). r.thread) same }
@@ -113,6 +104,33 @@ marked_noted shelves marks old new accesses thread j clock all n more = λ x lt.
       | yes low ↦ subst (λ (r : Access). IsMarked shelves marks r x) (sym (n.kept x low).of_range) (all x low)
       | no over ↦ more x (omega (arith, over)) lt
     ]
+
+-- a row at the place for its range and thread: both the rows and their marks
+pub put_set : (shelves : List Shelf) (marks : List Mark) (old : List Row) (range : Access) (thread j x : ℕ) (clock : List ℕ) (row : Row) → IsPut (range ∷ []) thread j clock row → row.range ≡ range
+    → IsPlaceFor shelves marks old range thread x → x < length old → AreMarked shelves marks old
+    → AreNoted old (range ∷ []) thread j clock (set old x row) × AreMarked shelves marks (set old x row)
+put_set shelves marks old range thread j x clock row put is (inr t) lt all = absurd (let at = t.0 in omega (arith, at, lt))
+put_set shelves marks old range thread j x clock row put is (inl f) lt all =
+    let n = noted_set old (set old x row) range thread j clock row x put is f refl in
+    let long = length-set old x row in
+    (n, marked_noted shelves marks old (set old x row) (range ∷ []) thread j clock all n (λ y high low. absurd (omega (arith, high, low, long))))
+
+pub put_push : (shelves : List Shelf) (marks : List Mark) (old new : List Row) (range : Access) (thread j x : ℕ) (clock : List ℕ) (row : Row) → IsPut (range ∷ []) thread j clock row → row.range ≡ range
+    → IsPlaceFor shelves marks old range thread x → length old ≤ x → new ≡ old ++ row ∷ [] → AreMarked shelves marks old
+    → AreNoted old (range ∷ []) thread j clock new × AreMarked shelves marks new
+put_push shelves marks old new range thread j x clock row put is (inl f) past e all = absurd (let lt = f.within in omega (arith, lt, past))
+put_push shelves marks old new range thread j x clock row put is (inr t) past e all =
+    let n = noted_push old new range thread j clock row put is e in
+    let long = length_push old row in
+    let grown = ap length e in
+    let at = t.0 in (
+      n,
+      marked_noted shelves marks old new (range ∷ []) thread j clock all n
+          (λ y high low.
+          let here : y ≡ length old = omega (arith, high, low, long, grown) in
+          let same : row_at new y ≡ row = ap (λ (l : List Row). row_at l y) e ∙ get_or_push old row no_row y (sym here) in
+          subst (λ (r : Access). IsMarked shelves marks r y) (sym (ap (λ (w : Row). w.range) same ∙ is)) (subst (IsMarked shelves marks range) (at ∙ sym here) t.1)),
+    )
 
 -- ---- one access after another
 

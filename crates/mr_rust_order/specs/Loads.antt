@@ -1,11 +1,12 @@
 -- Which atomic stores an atomic load reads, by the rows alone.
-use Rattle.std.specs.Prelude.{◌≡◌, ℕ, ◌+◌, ◌<◌, ◌≤◌, List, length, slice_index, Bool, not, ◌&&◌, ◌||◌, ◌==◌, IsTrue}
+use Rattle.std.specs.Prelude.{◌≡◌, ℕ, ◌+◌, ◌<◌, ◌≤◌, ◌⊎◌, List, length, slice_index, Bool, not, ◌&&◌, ◌||◌, ◌==◌, IsTrue}
+use Rattle.std.specs.List.{Contains}
 use Rattle.mr_base.specs.Accesses.{conflicts}
 use Rattle.mr_base.specs.declared.access.Access.{Access}
-use Rattle.mr_event.specs.Footprint.{Footprint}
 use Rattle.mr_rust_order.specs.declared.rows.Row.{Row}
+use Rattle.mr_rust_order.specs.Clocks.{IsRaised}
 use Rattle.mr_rust_order.specs.Marks.{IsListed}
-use Rattle.mr_rust_order.specs.Order.{Makes, has_byte, is_atomic_load, is_atomic_store, is_plain_store, is_store}
+use Rattle.mr_rust_order.specs.Order.{has_byte, is_atomic_load, is_atomic_store, is_plain_store, is_store}
 use Rattle.mr_rust_order.specs.Rows.{row_at}
 
 -- the access stores to the byte: in any way, or not atomically
@@ -32,21 +33,14 @@ pub record IsLatestStore (rows : List Row) (byte x : ℕ) : Type 0 where
   pub latest : (y : ℕ) → y < length rows → IsTrue (is_store (row_at rows y).range byte) → (row_at rows y).last ≤ (row_at rows x).last
   pub atomic : (y : ℕ) → y < length rows → IsTrue (is_plain_store (row_at rows y).range byte) → (row_at rows y).last < (row_at rows x).last
 
--- a number below that of a thread in the clock of a row that is taken
-pub record IsLoadedBy (rows : List Row) (byte latest t n : ℕ) : Type 0 where
-  pub row : ℕ
-  pub within : row < length rows
-  pub taken : IsTrue (takes (row_at rows row) byte latest)
-  pub below : n < slice_index (row_at rows row).clock t
+-- the row has the latest store to some byte that is loaded atomically by one of the accesses
+abbrev pub IsReadOf : List Row → List Access → ℕ → Type 0
+IsReadOf rows accesses x =
+    (a : Access) × Contains accesses a × ((byte : ℕ) × IsTrue (is_atomic_load a byte) × IsLatestStore rows byte x)
 
--- a number below that of a thread in the clock of the latest store to the byte
-pub record IsLoadedAt (rows : List Row) (byte t n : ℕ) : Type 0 where
-  pub row : ℕ
-  pub latest : IsLatestStore rows byte row
-  pub below : n < slice_index (row_at rows row).clock t
-
--- the same for some byte that a step loads atomically
-pub record IsLoaded (rows : List Row) (f : Footprint) (t n : ℕ) : Type 0 where
-  pub byte : ℕ
-  pub load : Makes is_atomic_load f byte
-  pub at : IsLoadedAt rows byte t n
+-- a clock is raised to those of the rows with P, and to no others
+pub record AreJoined (rows : List Row) (P : ℕ → Type 0) (old new : List ℕ) : Type 0 where
+  pub raised : IsRaised old new
+  pub only : (t n : ℕ) → n < slice_index new t
+      → (n < slice_index old t) ⊎ ((x : ℕ) × P x × (n < slice_index (row_at rows x).clock t))
+  pub all : (x : ℕ) → P x → IsRaised (row_at rows x).clock new

@@ -67,3 +67,19 @@ pub record AreNoted (old : List Row) (accesses : List Access) (thread j : ℕ) (
   pub kept : (x : ℕ) → x < length old → IsRowFor new x (row_at old x).range (row_at old x).thread
   pub here : (a : Access) → Contains accesses a
       → (x : ℕ) × IsRowFor new x a thread × ((row_at new x).last ≡ j)
+
+-- the row at a place passes a test
+pub record Passes (rows : List Row) (test : Row → Bool) (x : ℕ) : Type 0 where
+  pub within : x < length rows
+  pub passed : IsTrue (test (row_at rows x))
+
+-- a number is one more than the greatest step of the rows with P, or 0
+pub record IsTop (rows : List Row) (P : ℕ → Type 0) (n : ℕ) : Type 0 where
+  pub above : (x : ℕ) → P x → (row_at rows x).last < n
+  pub reached : (i : ℕ) → n ≡ i + 1 → (x : ℕ) × P x × ((row_at rows x).last ≡ i)
+
+-- a number is raised above the step of the row at a place, if that passes the test
+pub record IsTopWith (rows : List Row) (test : Row → Bool) (x old new : ℕ) : Type 0 where
+  pub grown : old ≤ new
+  pub here : Passes rows test x → (row_at rows x).last < new
+  pub only : (new ≡ old) ⊎ (Passes rows test x × (new ≡ (row_at rows x).last + 1))

@@ -1,16 +1,17 @@
 //! The races of a run by Rust's order, a step at a time.
 
-ghost use Rattle.std.specs.Prelude.{◌≡◌, ◌<◌, ◌^◌, ◌↔◌, IfOk, IsTrue, length};
+ghost use Rattle.std.specs.Prelude.{◌≡◌, ◌<◌, OnOk, length};
 ghost use Rattle.mr_event.specs.Order.{step_at};
-ghost use Rattle.mr_rust_order.specs.Channels.{AreChannels, to_joiners, to_lock, to_thread};
-ghost use Rattle.mr_rust_order.specs.Clocks.{IsClockBefore};
+ghost use Rattle.mr_rust_order.specs.Channels.{AreChannels, IsThreadClock, to_joiners, to_lock};
+ghost use Rattle.mr_rust_order.specs.Clocks.{IsClockBefore, IsRaised};
 ghost use Rattle.mr_rust_order.specs.Marks.{AreMarked};
-ghost use Rattle.mr_rust_order.specs.Order.{HappensBefore};
 ghost use Rattle.mr_rust_order.specs.Rows.{AreRows};
 
-use crate::channels::{receive, receive_event, send_ended, send_lock, send_threads};
+use crate::channels::{
+    put_back, receive, receive_event, send_ended, send_lock, send_threads, take_out,
+};
 use crate::clock::Clock;
-use crate::index::{Index, Shelf};
+use crate::index::Index;
 use crate::loads::read_all;
 use crate::partners::partner_of;
 use crate::rows::{Row, note_all};
@@ -27,31 +28,29 @@ pub(crate) fn step_of(run: &[Footprint], j: usize) -> &Footprint
     &run[j]
 }
 
-// The clock before step `j`, by what is known of those before it.
-fn clock_before(
-    alloc: Global,
+// Raises the clock of a step's thread to the clock before the step, by what is known of those before it.
+fn receive_all(
     run: &[Footprint],
     j: usize,
-    threads: &[Clock],
     locks: &[Clock],
     ended: &[Clock],
     index: &Index,
     rows: &[Row],
-) -> Result<Clock, OutOfMemory>
+    found: &mut Vec<usize>,
+    clock: &mut Clock,
+) -> Result<(), OutOfMemory>
     requires within { j < length run.now }
-    requires threads { AreChannels run.now j to_thread threads.now }
+    requires own { IsThreadClock run.now j clock.old }
     requires locks { AreChannels run.now j to_lock locks.now }
     requires ended { AreChannels run.now j to_joiners ended.now }
     requires rows { AreRows run.now j rows.now }
     requires marked { AreMarked index.now.shelves.items index.now.marks.keys rows.now }
-    ensures { IfOk result (λ c. IsClockBefore run.now c j) }
+    ensures before { OnOk result (IsClockBefore run.now clock.new j) }
+    ensures raised { OnOk result (IsRaised clock.old clock.new) }
 {
     let step = step_of(run, j);
-    let mut clock = Clock::new(alloc);
-    receive(threads, step.thread(), &mut clock)?;
-    receive_event(step.event(), locks, ended, &mut clock)?;
-    read_all(alloc, index, rows, step, &mut clock)?;
-    Ok(clock)
+    receive_event(step.event(), locks, ended, clock)?;
+    read_all(index, rows, step, found, clock)
 }
 
 /// What is known of the steps of a run so far: the clocks that they sent, and their rows.
@@ -63,6 +62,7 @@ pub struct Analysis {
     ended: Vec<Clock>,
     index: Index,
     rows: Vec<Row>,
+    found: Vec<usize>,
 }
 
 impl Analysis {
@@ -85,6 +85,7 @@ impl Analysis {
                 marks: BTreeSet::new(alloc),
             },
             rows: Vec::new(alloc),
+            found: Vec::new(alloc),
         }
     }
 
@@ -98,22 +99,31 @@ impl Analysis {
     {
         let alloc = self.alloc;
         let step = step_of(run, j);
-        let mut clock = clock_before(
-            alloc,
+        let thread = step.thread();
+        let mut clock = take_out(alloc, &mut self.threads, thread)?;
+        receive_all(
             run,
             j,
-            self.threads.as_slice(),
             self.locks.as_slice(),
             self.ended.as_slice(),
             &self.index,
             self.rows.as_slice(),
+            &mut self.found,
+            &mut clock,
         )?;
-        let race = partner_of(alloc, &self.index, self.rows.as_slice(), step, &clock)?;
-        clock.raise(step.thread(), j + 1)?;
+        let race = partner_of(
+            &self.index,
+            self.rows.as_slice(),
+            step,
+            &clock,
+            &mut self.found,
+        )?;
+        clock.raise(thread, j + 1)?;
         send_threads(alloc, &mut self.threads, step, &clock)?;
         send_lock(alloc, &mut self.locks, step, &clock)?;
         send_ended(alloc, &mut self.ended, step, &clock)?;
         note_all(alloc, &mut self.index, &mut self.rows, step, j, &clock)?;
+        put_back(alloc, &mut self.threads, thread, clock)?;
         Ok(race)
     }
 
@@ -124,15 +134,18 @@ impl Analysis {
         requires tracks { Tracks run.now j self.now }
         ensures { IfOk result (λ b. IsTrue b ↔ HappensBefore run.now i j) }
     {
-        let clock = clock_before(
-            self.alloc,
+        let mut clock = Clock::new(self.alloc);
+        receive(self.threads.as_slice(), thread_at(run, j), &mut clock)?;
+        let mut found = Vec::new(self.alloc);
+        receive_all(
             run,
             j,
-            self.threads.as_slice(),
             self.locks.as_slice(),
             self.ended.as_slice(),
             &self.index,
             self.rows.as_slice(),
+            &mut found,
+            &mut clock,
         )?;
         Ok(i < clock.at(thread_at(run, i)))
     }

@@ -1,16 +1,23 @@
 //! Clocks that steps send to threads, to locks and to the joiners of threads, and that later steps receive.
 
-ghost use Rattle.std.specs.Prelude.{◌≡◌, ℕ, ◌+◌, ◌<◌, ◌^◌, ◌==◌, OnOk, length};
+ghost use Rattle.std.specs.Prelude.{◌≡◌, ℕ, ◌+◌, ◌<◌, ◌^◌, ◌==◌, IfOk, OnOk, length};
 ghost use Rattle.std.specs.List.{list_any};
-ghost use Rattle.mr_base.specs.declared.thread.Event.{Event};
-ghost use Rattle.mr_event.specs.Footprints.{spawns};
+ghost use Rattle.mr_event.specs.Footprints.{spawns, wakes};
 ghost use Rattle.mr_rust_order.specs.Clocks.{IsJoin};
-ghost use Rattle.mr_rust_order.specs.Channels.{AreSent, clock_at, to_joiners, to_lock, to_thread, told_by};
-ghost use Rattle.mr_rust_order.specs.Order.{releases};
+ghost use Rattle.mr_rust_order.specs.Channels.{AreOthersKept, AreSent, clock_at, to_joiners, to_lock, told_by};
 
 use crate::clock::Clock;
 use mr_event::{Event, Footprint, OutOfMemory};
 use std::alloc::Global;
+use std::mem::replace;
+
+// The clock of a channel that has one.
+fn lent(clocks: &[Clock], x: usize) -> &Clock
+    requires { x < length clocks.now }
+    ensures { result.now ≡ clock_at clocks.now x }
+{
+    &clocks[x]
+}
 
 /// Raises a clock to that of a channel.
 pub(crate) fn receive(clocks: &[Clock], x: u32, clock: &mut Clock) -> Result<(), OutOfMemory>
@@ -20,7 +27,7 @@ pub(crate) fn receive(clocks: &[Clock], x: u32, clock: &mut Clock) -> Result<(),
     if x >= clocks.len() {
         return Ok(());
     }
-    clock.join(&clocks[x])
+    clock.join(lent(clocks, x))
 }
 
 /// Raises a clock to that of the lock that a step acquires, or of the thread that it joins.
@@ -95,18 +102,41 @@ fn send_spawned(
     }
 }
 
-/// Raises the clocks of a step's thread, and of the threads that it woke or spawned.
+/// Raises the clocks of the threads that a step woke or spawned.
 pub(crate) fn send_threads(
     alloc: Global,
     threads: &mut Vec<Clock>,
     step: &Footprint,
     clock: &Clock,
 ) -> Result<(), OutOfMemory>
-    ensures { OnOk result (AreSent threads.old.items clock.now (to_thread step.now) threads.new.items) }
+    ensures { OnOk result (AreSent threads.old.items clock.now (wakes step.now) threads.new.items) }
 {
-    send(alloc, threads, step.thread(), clock)?;
     send_woken(alloc, threads, step.woken(), clock)?;
     send_spawned(alloc, threads, step.event(), clock)
+}
+
+/// Takes the clock of a channel out, and leaves an empty one.
+pub(crate) fn take_out(alloc: Global, clocks: &mut Vec<Clock>, x: u32) -> Result<Clock, OutOfMemory>
+    ensures clock { IfOk result (λ c. c ≡ clock_at clocks.old.items x) }
+    ensures others { OnOk result (AreOthersKept clocks.old.items x clocks.new.items) }
+{
+    extend_past(alloc, clocks, x as usize)?;
+    Ok(replace(&mut clocks[x as usize], Clock::new(alloc)))
+}
+
+/// Puts the clock of a channel back.
+pub(crate) fn put_back(
+    alloc: Global,
+    clocks: &mut Vec<Clock>,
+    x: u32,
+    clock: Clock,
+) -> Result<(), OutOfMemory>
+    ensures clock { OnOk result (clock_at clocks.new.items x ≡ clock) }
+    ensures others { OnOk result (AreOthersKept clocks.old.items x clocks.new.items) }
+{
+    extend_past(alloc, clocks, x as usize)?;
+    clocks[x as usize] = clock;
+    Ok(())
 }
 
 /// Raises the clock of the lock that a step releases.

@@ -11,7 +11,6 @@ ghost use Rattle.mr_rust_order.specs.Rows.{IsRowFor, row_at as is_row_at};
 use crate::rows::{Row, row_at};
 use mr_base::Access;
 use mr_event::OutOfMemory;
-use std::alloc::Global;
 use std::collections::BTreeSet;
 
 /// A row of a thread, marked on a shelf at the address where its range begins.
@@ -165,20 +164,20 @@ fn collect_shelf(
     Ok(())
 }
 
-/// The places of the rows whose ranges conflict with an access, and maybe others.
-pub(crate) fn rows_met(
-    alloc: Global,
+/// Finds the places of the rows whose ranges conflict with an access, and maybe others.
+pub(crate) fn find_rows(
     index: &Index,
     access: Access,
-) -> Result<Vec<usize>, OutOfMemory>
-    ensures { IfOk result (λ v. (r : Access) (x : ℕ) → IsTrue (conflicts r access)
-        → IsMarked index.now.shelves.items index.now.marks.keys r x → IsListed v.items x) }
+    found: &mut Vec<usize>,
+) -> Result<(), OutOfMemory>
+    ensures { OnOk result ((r : Access) (x : ℕ) → IsTrue (conflicts r access)
+        → IsMarked index.now.shelves.items index.now.marks.keys r x → IsListed found.new.items x) }
 {
-    let mut found = Vec::new(alloc);
+    found.clear();
     for s in 0..index.shelves.len() {
-        collect_shelf(index, s, access, &mut found)?;
+        collect_shelf(index, s, access, found)?;
     }
-    Ok(found)
+    Ok(())
 }
 
 // Whether there is a row of a range and a thread at a place.

@@ -1,19 +1,16 @@
 //! Which atomic stores an atomic load reads, byte by byte, by the rows. (C++20, [intro.races].)
 
-ghost use Rattle.std.specs.Prelude.{◌≡◌, ℕ, ◌+◌, ◌<◌, ◌≤◌, ◌⊎◌, ◌^◌, IsTrue, OnOk, length, slice_index};
-ghost use Rattle.mr_base.specs.declared.access.Access.{Access};
-ghost use Rattle.mr_rust_order.specs.Clocks.{IsRaised};
-ghost use Rattle.mr_rust_order.specs.Loads.{AreFoundAt, AreMet, IsLatestStore, IsLoaded, IsLoadedAt, IsLoadedBy, counts as does_count, takes as does_take};
+ghost use Rattle.std.specs.Prelude.{◌≡◌, ℕ, ◌+◌, ◌<◌, ◌≤◌, ◌^◌, IsTrue, OnOk, length};
+ghost use Rattle.mr_rust_order.specs.Loads.{AreFoundAt, AreJoined, AreMet, IsLatestStore, IsReadOf, counts as does_count, takes as does_take};
 ghost use Rattle.mr_rust_order.specs.Marks.{AreMarked, IsListed};
-ghost use Rattle.mr_rust_order.specs.Order.{Makes, has_byte as has_the_byte, is_atomic_load as loads_atomically};
-ghost use Rattle.mr_rust_order.specs.Rows.{AreShort, row_at as is_row_at};
+ghost use Rattle.mr_rust_order.specs.Order.{has_byte as has_the_byte, is_atomic_load as loads_atomically};
+ghost use Rattle.mr_rust_order.specs.Rows.{AreShort, IsTop, IsTopWith, Passes, row_at as is_row_at};
 
 use crate::clock::Clock;
-use crate::index::{Index, rows_met};
+use crate::index::{Index, find_rows};
 use crate::rows::{Row, row_at};
 use mr_base::Access;
 use mr_event::{Footprint, OutOfMemory};
-use std::alloc::Global;
 
 // Whether the byte at an address is one of those of an access.
 fn has_byte(access: Access, byte: u128) -> bool
@@ -32,11 +29,7 @@ fn counts(access: Access, byte: u128, every: bool) -> bool
 // The greater one of a number and the one behind the step of a row, if the row's access counts.
 fn later(rows: &[Row], x: usize, byte: u128, every: bool, latest: usize) -> usize
     requires { AreShort rows.now }
-    ensures grown { latest ≤ result }
-    ensures here { x < length rows.now → IsTrue (does_count every (is_row_at rows.now x).range byte)
-        → (is_row_at rows.now x).last < result }
-    ensures least { (n : ℕ) → latest ≤ n → (x < length rows.now
-        → IsTrue (does_count every (is_row_at rows.now x).range byte) → (is_row_at rows.now x).last < n) → result ≤ n }
+    ensures { IsTopWith rows.now (λ r. does_count every r.range byte) x latest result }
 {
     if x >= rows.len() {
         return latest;
@@ -52,10 +45,7 @@ fn later(rows: &[Row], x: usize, byte: u128, every: bool, latest: usize) -> usiz
 fn latest_at(rows: &[Row], found: &[usize], byte: u128, every: bool) -> usize
     requires short { AreShort rows.now }
     requires found { AreFoundAt rows.now byte found.now }
-    ensures bound { (x : ℕ) → x < length rows.now → IsTrue (does_count every (is_row_at rows.now x).range byte)
-        → (is_row_at rows.now x).last < result }
-    ensures least { (n : ℕ) → ((x : ℕ) → x < length rows.now
-        → IsTrue (does_count every (is_row_at rows.now x).range byte) → (is_row_at rows.now x).last < n) → result ≤ n }
+    ensures { IsTop rows.now (Passes rows.now (λ r. does_count every r.range byte)) result }
 {
     let mut latest = 0;
     for z in 0..found.len() {
@@ -82,11 +72,8 @@ fn take(
     clock: &mut Clock,
 ) -> Result<(), OutOfMemory>
     requires { AreShort rows.now }
-    ensures raised { OnOk result (IsRaised clock.old clock.new) }
-    ensures only { OnOk result ((t n : ℕ) → n < slice_index clock.new t
-        → (n < slice_index clock.old t) ⊎ IsLoadedBy rows.now byte latest t n) }
-    ensures here { OnOk result (x < length rows.now → IsTrue (does_take (is_row_at rows.now x) byte latest)
-        → IsRaised (is_row_at rows.now x).clock clock.new) }
+    ensures { OnOk result
+        (AreJoined rows.now (λ y. (y ≡ x) × Passes rows.now (λ r. does_take r byte latest) y) clock.old clock.new) }
 {
     if x >= rows.len() {
         return Ok(());
@@ -108,11 +95,7 @@ fn take_all(
 ) -> Result<(), OutOfMemory>
     requires short { AreShort rows.now }
     requires found { AreFoundAt rows.now byte found.now }
-    ensures raised { OnOk result (IsRaised clock.old clock.new) }
-    ensures only { OnOk result ((t n : ℕ) → n < slice_index clock.new t
-        → (n < slice_index clock.old t) ⊎ IsLoadedBy rows.now byte latest t n) }
-    ensures all { OnOk result ((x : ℕ) → x < length rows.now
-        → IsTrue (does_take (is_row_at rows.now x) byte latest) → IsRaised (is_row_at rows.now x).clock clock.new) }
+    ensures { OnOk result (AreJoined rows.now (Passes rows.now (λ r. does_take r byte latest)) clock.old clock.new) }
 {
     for z in 0..found.len() {
         take(rows, found[z], byte, latest, clock)?;
@@ -124,14 +107,11 @@ fn take_all(
 fn read_at(rows: &[Row], found: &[usize], byte: u128, clock: &mut Clock) -> Result<(), OutOfMemory>
     requires short { AreShort rows.now }
     requires found { AreFoundAt rows.now byte found.now }
-    ensures raised { OnOk result (IsRaised clock.old clock.new) }
-    ensures only { OnOk result ((t n : ℕ) → n < slice_index clock.new t
-        → (n < slice_index clock.old t) ⊎ IsLoadedAt rows.now byte t n) }
-    ensures all { OnOk result ((x : ℕ) → IsLatestStore rows.now byte x
-        → IsRaised (is_row_at rows.now x).clock clock.new) }
+    ensures { OnOk result (AreJoined rows.now (IsLatestStore rows.now byte) clock.old clock.new) }
 {
     let latest = latest_at(rows, found, byte, true);
-    if latest_at(rows, found, byte, false) >= latest {
+    let plain = latest_at(rows, found, byte, false);
+    if plain >= latest {
         return Ok(());
     }
     take_all(rows, found, byte, latest, clock)
@@ -162,9 +142,9 @@ fn row_border(rows: &[Row], x: usize, byte: u128, next: u128) -> u128
     if x >= rows.len() {
         return next;
     }
-    let range = row_at(rows, x).range;
-    let first = u128::from(range.addr);
-    let end = first + u128::from(range.len);
+    let row = row_at(rows, x);
+    let first = u128::from(row.range.addr);
+    let end = first + u128::from(row.range.len);
     nearer(first, byte, nearer(end, byte, next))
 }
 
@@ -192,11 +172,8 @@ fn read_bytes(
 ) -> Result<(), OutOfMemory>
     requires short { AreShort rows.now }
     requires found { AreMet rows.now access found.now }
-    ensures raised { OnOk result (IsRaised clock.old clock.new) }
-    ensures only { OnOk result ((t n : ℕ) → n < slice_index clock.new t
-        → (n < slice_index clock.old t) ⊎ ((b : ℕ) × IsTrue (has_the_byte access b) × IsLoadedAt rows.now b t n)) }
-    ensures all { OnOk result ((b x : ℕ) → IsTrue (has_the_byte access b) → IsLatestStore rows.now b x
-        → IsRaised (is_row_at rows.now x).clock clock.new) }
+    ensures { OnOk result (AreJoined rows.now
+        (λ x. (b : ℕ) × IsTrue (has_the_byte access b) × IsLatestStore rows.now b x) clock.old clock.new) }
 {
     let end = u128::from(access.addr) + u128::from(access.len);
     let mut byte = u128::from(access.addr);
@@ -209,46 +186,39 @@ fn read_bytes(
 
 // The same of an access of a step, if it is an atomic load.
 fn read_access(
-    alloc: Global,
     index: &Index,
     rows: &[Row],
     access: Access,
+    found: &mut Vec<usize>,
     clock: &mut Clock,
 ) -> Result<(), OutOfMemory>
     requires short { AreShort rows.now }
     requires marked { AreMarked index.now.shelves.items index.now.marks.keys rows.now }
-    ensures raised { OnOk result (IsRaised clock.old clock.new) }
-    ensures only { OnOk result ((t n : ℕ) → n < slice_index clock.new t
-        → (n < slice_index clock.old t) ⊎ ((b : ℕ) × IsTrue (loads_atomically access b) × IsLoadedAt rows.now b t n)) }
-    ensures all { OnOk result ((b x : ℕ) → IsTrue (loads_atomically access b) → IsLatestStore rows.now b x
-        → IsRaised (is_row_at rows.now x).clock clock.new) }
+    ensures { OnOk result (AreJoined rows.now
+        (λ x. (b : ℕ) × IsTrue (loads_atomically access b) × IsLatestStore rows.now b x) clock.old clock.new) }
 {
     if access.store || !access.atomic {
         return Ok(());
     }
-    let found = rows_met(alloc, index, access)?;
+    find_rows(index, access, found)?;
     read_bytes(rows, found.as_slice(), access, clock)
 }
 
 /// Raises a clock to those of the steps whose atomic stores a step reads.
 pub(crate) fn read_all(
-    alloc: Global,
     index: &Index,
     rows: &[Row],
     step: &Footprint,
+    found: &mut Vec<usize>,
     clock: &mut Clock,
 ) -> Result<(), OutOfMemory>
     requires short { AreShort rows.now }
     requires marked { AreMarked index.now.shelves.items index.now.marks.keys rows.now }
-    ensures raised { OnOk result (IsRaised clock.old clock.new) }
-    ensures only { OnOk result ((t n : ℕ) → n < slice_index clock.new t
-        → (n < slice_index clock.old t) ⊎ IsLoaded rows.now step.now t n) }
-    ensures all { OnOk result ((b x : ℕ) → Makes loads_atomically step.now b → IsLatestStore rows.now b x
-        → IsRaised (is_row_at rows.now x).clock clock.new) }
+    ensures { OnOk result (AreJoined rows.now (IsReadOf rows.now step.now.accesses) clock.old clock.new) }
 {
     let accesses = step.accesses();
     for y in 0..accesses.len() {
-        read_access(alloc, index, rows, accesses[y], clock)?;
+        read_access(index, rows, accesses[y], found, clock)?;
     }
     Ok(())
 }

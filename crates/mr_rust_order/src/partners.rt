@@ -1,20 +1,17 @@
 //! The latest earlier step that races with a step and isn't known to its clock, by the rows.
 
-ghost use Rattle.std.specs.Prelude.{◌≡◌, ℕ, ◌+◌, ◌<◌, ◌≤◌, ◌⊎◌, IfOk, IsTrue, MatchOption, length};
-ghost use Rattle.std.specs.List.{Contains};
+ghost use Rattle.std.specs.Prelude.{◌≡◌, ℕ, ◌<◌, IfOk, MatchOption};
 ghost use Rattle.mr_base.specs.Accesses.{races as do_race};
-ghost use Rattle.mr_base.specs.declared.access.Access.{Access};
 ghost use Rattle.mr_rust_order.specs.Loads.{AreMet};
 ghost use Rattle.mr_rust_order.specs.Marks.{AreMarked};
-ghost use Rattle.mr_rust_order.specs.Partners.{HasNoPartner, IsGreatestPartner, IsPartner, IsPartnerOr, is_partner as is_a_partner};
-ghost use Rattle.mr_rust_order.specs.Rows.{AreShort, row_at as is_row_at};
+ghost use Rattle.mr_rust_order.specs.Partners.{HasNoPartner, IsGreatestPartner, IsPartnerBy, is_partner as is_a_partner};
+ghost use Rattle.mr_rust_order.specs.Rows.{AreShort, IsTop, IsTopWith, Passes};
 
 use crate::clock::Clock;
-use crate::index::{Index, rows_met};
+use crate::index::{Index, find_rows};
 use crate::rows::{Row, row_at};
 use mr_base::{Access, ranges_meet};
 use mr_event::{Footprint, OutOfMemory};
-use std::alloc::Global;
 
 // Whether two accesses have a byte in common, one of them stores, and not both are atomic.
 fn race(a: Access, b: Access) -> bool
@@ -25,7 +22,7 @@ fn race(a: Access, b: Access) -> bool
 
 // Whether a row's access races with one of a step of another thread, whose clock doesn't know the row's step.
 fn is_partner(row: &Row, thread: u32, access: Access, clock: &Clock) -> bool
-    ensures { result ≡ is_a_partner row.now thread access clock.now }
+    ensures { result ≡ is_a_partner thread access clock.now row.now }
 {
     row.thread != thread && race(row.range, access) && clock.at(row.thread) <= row.last
 }
@@ -33,12 +30,7 @@ fn is_partner(row: &Row, thread: u32, access: Access, clock: &Clock) -> bool
 // The greater one of a number and the one behind the step of a row, if the row is a partner.
 fn better(rows: &[Row], x: usize, thread: u32, access: Access, clock: &Clock, best: usize) -> usize
     requires { AreShort rows.now }
-    ensures grown { best ≤ result }
-    ensures here { x < length rows.now → IsTrue (is_a_partner (is_row_at rows.now x) thread access clock.now)
-        → (is_row_at rows.now x).last < result }
-    ensures only { (result ≡ best) ⊎ ((x < length rows.now)
-        × IsTrue (is_a_partner (is_row_at rows.now x) thread access clock.now)
-        × (result ≡ (is_row_at rows.now x).last + 1)) }
+    ensures { IsTopWith rows.now (is_a_partner thread access clock.now) x best result }
 {
     if x >= rows.len() {
         return best;
@@ -50,51 +42,36 @@ fn better(rows: &[Row], x: usize, thread: u32, access: Access, clock: &Clock, be
     best.max(row.last + 1)
 }
 
-// The greater one of a number and those behind the steps of the rows that are partners of a step by one of its accesses.
-fn best_of(
-    rows: &[Row],
-    found: &[usize],
-    step: &Footprint,
-    access: Access,
-    clock: &Clock,
-    best: usize,
-) -> usize
+// One more than the greatest step of the rows that are partners of a step by one of its accesses, or 0.
+fn best_by(rows: &[Row], found: &[usize], thread: u32, access: Access, clock: &Clock) -> usize
     requires short { AreShort rows.now }
-    requires made { Contains step.now.accesses access }
     requires found { AreMet rows.now access found.now }
-    requires partner { IsPartnerOr rows.now step.now clock.now best }
-    ensures partner { IsPartnerOr rows.now step.now clock.now result }
-    ensures grown { best ≤ result }
-    ensures all { (x : ℕ) → x < length rows.now
-        → IsTrue (is_a_partner (is_row_at rows.now x) step.now.thread access clock.now)
-        → (is_row_at rows.now x).last < result }
+    ensures { IsTop rows.now (Passes rows.now (is_a_partner thread access clock.now)) result }
 {
-    let mut best = best;
+    let mut best = 0;
     for z in 0..found.len() {
-        best = better(rows, found[z], step.thread(), access, clock, best);
+        best = better(rows, found[z], thread, access, clock, best);
     }
     best
 }
 
-// One more than the greatest step of the rows that are partners of a step, or 0.
-fn best_partner(
-    alloc: Global,
+// The same by all of its accesses.
+fn best_of(
     index: &Index,
     rows: &[Row],
     step: &Footprint,
     clock: &Clock,
+    found: &mut Vec<usize>,
 ) -> Result<usize, OutOfMemory>
     requires short { AreShort rows.now }
     requires marked { AreMarked index.now.shelves.items index.now.marks.keys rows.now }
-    ensures partner { IfOk result (λ best. IsPartnerOr rows.now step.now clock.now best) }
-    ensures all { IfOk result (λ best. (x : ℕ) → IsPartner rows.now step.now clock.now x
-        → (is_row_at rows.now x).last < best) }
+    ensures { IfOk result (λ n. IsTop rows.now (IsPartnerBy rows.now step.now.accesses step.now.thread clock.now) n) }
 {
     let accesses = step.accesses();
     let mut best = 0;
     for y in 0..accesses.len() {
-        let found = rows_met(alloc, index, accesses[y])?;
-        best = best_of(rows, found.as_slice(), step, accesses[y], clock, best);
+        find_rows(index, accesses[y], found)?;
+        best = best.max(best_by(rows, found.as_slice(), step.thread(), accesses[y], clock));
     }
     Ok(best)
 }
@@ -102,18 +79,18 @@ fn best_partner(
 /// The greatest step of the rows that are partners of a step, whose clock is known: of another thread, with an access that
 /// races, and not under the clock.
 pub(crate) fn partner_of(
-    alloc: Global,
     index: &Index,
     rows: &[Row],
     step: &Footprint,
     clock: &Clock,
+    found: &mut Vec<usize>,
 ) -> Result<Option<usize>, OutOfMemory>
     requires short { AreShort rows.now }
     requires marked { AreMarked index.now.shelves.items index.now.marks.keys rows.now }
     ensures { IfOk result (λ o. MatchOption o (HasNoPartner rows.now step.now clock.now)
         (λ i. IsGreatestPartner rows.now step.now clock.now i)) }
 {
-    let best = best_partner(alloc, index, rows, step, clock)?;
+    let best = best_of(index, rows, step, clock, found)?;
     if best == 0 {
         return Ok(None);
     }

@@ -62,11 +62,12 @@ fn note(
     ensures noted { OnOk result (AreNoted rows.old.items (range ∷ []) thread j clock.now rows.new.items) }
 {
     let x = place_for(index, rows.as_slice(), range, thread)?;
+    let kept = kept_clock(alloc, range, clock)?;
     let row = Row {
         range,
         thread,
         last: j,
-        clock: kept_clock(alloc, range, clock)?,
+        clock: kept,
     };
     if x < rows.len() {
         rows[x] = row;

@@ -3,7 +3,7 @@ use Rattle.mr_base.specs.declared.access.Access.{Access}
 use Rattle.mr_base.specs.Accesses.{conflicts}
 use Rattle.mr_rust_order.specs.Marks.{IsListed}
 use Rattle.mr_rust_order.proofs.MarkLaws.{range_all, range_more}
-use Rattle.mr_rust_order.proofs.index.rows_met.Goals as goal
+use Rattle.mr_rust_order.proofs.index.find_rows.Goals as goal
 
 pub loop-s-init : goal.loop-s-init
 loop-s-init c = λ z r t x lt. absurd (omega (arith, lt))

@@ -2,7 +2,7 @@ use Rattle.std.proofs.Common.{◌≡◌, ℕ, ◌<◌, ◌^◌, true}
 use Rattle.mr_base.specs.declared.access.Access.{Access}
 use Rattle.mr_base.specs.Accesses.{conflicts}
 use Rattle.mr_rust_order.specs.Marks.{IsListed, IsOnShelf, has_mark, mark_of}
-use Rattle.mr_rust_order.proofs.index.rows_met.Given as goal
+use Rattle.mr_rust_order.proofs.index.find_rows.Given as goal
 
 abbrev pub invariant-loop-s : goal.invariant-loop-s
 invariant-loop-s l =
