@@ -4,7 +4,7 @@ use native.Mathlib.Decide.{ℕ_discrete, dec_lt}
 use Rattle.std.specs.Prelude.{◌||◌, ◌&&◌, ◌==◌}
 use Rattle.std.specs.List.{list_any}
 use Rattle.std.proofs.lemmas.Bool.{and_parts, and_from, eq-eqb, ne_eqb, or_cases, or_left, or_right}
-use Rattle.std.proofs.lemmas.List.{get_or_default, get_or_past, get_or-set_other, get_or-set_same, take_all}
+use Rattle.std.proofs.lemmas.List.{get_or_append_left, get_or_past, get_or_push, get_or-set_other, get_or-set_same, length_push}
 use Rattle.std.proofs.lemmas.List.Folds.{list_any_more}
 use Rattle.mr_base.proofs.Comparisons.{eq_from}
 use Rattle.mr_base.specs.declared.thread.Event.{Event}
@@ -79,19 +79,19 @@ sent_threads old mid new clock f one two =
     (sent_both old mid new clock (λ y. list_any (λ t. t == y) f.woken) (spawns f.event) one two)
 
 -- and to its own thread, whose clock was taken out, raised and put back
-pub sent_own : (old out sent new : List (List ℕ)) (clock : List ℕ) (f : Footprint) → AreOthersKept old f.thread out → AreSent out clock (wakes f) sent
-    → AreOthersKept sent f.thread new → clock_at new f.thread ≡ clock → IsRaised (clock_at old f.thread) clock → AreSent old clock (to_thread f) new
-sent_own old out sent new clock f taken woken put is raised = λ y t.
-    elim (ℕ_discrete y f.thread) [
+pub sent_own : (old out sent new : List (List ℕ)) (clock : List ℕ) (f : Footprint) (x : ℕ) → x ≡ f.thread → AreOthersKept old x out → AreSent out clock (wakes f) sent
+    → AreOthersKept sent x new → clock_at new x ≡ clock → IsRaised (clock_at old x) clock → AreSent old clock (to_thread f) new
+sent_own old out sent new clock f x of taken woken put is raised = λ y t.
+    elim (ℕ_discrete y x) [
       | yes at ↦
-          let here : slice_index (clock_at new y) t ≡ slice_index clock t = ap (λ (x : ℕ). slice_index (clock_at new x) t) at ∙ ap (λ (l : List ℕ). slice_index l t) is in
-          let was : slice_index (clock_at old y) t ≡ slice_index (clock_at old f.thread) t = ap (λ (x : ℕ). slice_index (clock_at old x) t) at in
-          let up : slice_index (clock_at old f.thread) t ≤ slice_index clock t = raised t in
-          let test : (f.thread == y) ≡ true = eq-eqb f.thread y (sym at) in
+          let here : slice_index (clock_at new y) t ≡ slice_index clock t = ap (λ (z : ℕ). slice_index (clock_at new z) t) at ∙ ap (λ (l : List ℕ). slice_index l t) is in
+          let was : slice_index (clock_at old y) t ≡ slice_index (clock_at old x) t = ap (λ (z : ℕ). slice_index (clock_at old z) t) at in
+          let up : slice_index (clock_at old x) t ≤ slice_index clock t = raised t in
+          let test : (f.thread == y) ≡ true = eq-eqb f.thread y (sym of ∙ sym at) in
           let most : slice_index (clock_at new y) t ≡ max (slice_index (clock_at old y) t) (slice_index clock t) = omega (arith, here, was, up) in
           most ∙ sym (ap (λ (b : Bool). cond (b || wakes f y) (max (slice_index (clock_at old y) t) (slice_index clock t)) (slice_index (clock_at old y) t)) test)
       | no ne ↦
-          let test : (f.thread == y) ≡ false = ne_eqb f.thread y (λ e. ne (sym e)) in
+          let test : (f.thread == y) ≡ false = ne_eqb f.thread y (λ e. ne (sym e ∙ sym of)) in
           ap (λ (l : List ℕ). slice_index l t) (put y ne) ∙ woken y t
           ∙ ap (λ (l : List ℕ). cond (wakes f y) (max (slice_index l t) (slice_index clock t)) (slice_index l t)) (taken y ne)
           ∙ sym (ap (λ (b : Bool). cond (b || wakes f y) (max (slice_index (clock_at old y) t) (slice_index clock t)) (slice_index (clock_at old y) t)) test)
@@ -265,3 +265,18 @@ ended_sent old new clock f over sent = sent_same old new clock (λ y. f.thread =
 
 pub ended_none : (old : List (List ℕ)) (clock : List ℕ) (f : Footprint) → f.ended ≡ false → AreSent old clock (to_joiners f) old
 ended_none old clock f still = sent_same old old clock (λ _. false) (to_joiners f) (λ y. sym (ap (λ (b : Bool). b && (f.thread == y)) still)) (sent_none old clock)
+
+-- an empty clock that is put behind the others changes none
+pub pushed_same : (old new : List (List ℕ)) (clock : List ℕ) (y : ℕ) → clock ≡ [] → new ≡ old ++ clock ∷ [] → clock_at new y ≡ clock_at old y
+pushed_same old new clock y none e =
+    elim (dec_lt y (length old)) [
+      | yes lt ↦ ap (λ (l : List (List ℕ)). clock_at l y) e ∙ get_or_append_left old (clock ∷ []) [] y lt
+      | no over ↦
+          let past : length old ≤ y = omega (arith, over) in
+          elim (ℕ_discrete y (length old)) [
+            | yes at ↦ ap (λ (l : List (List ℕ)). clock_at l y) e ∙ get_or_push old clock [] y (sym at) ∙ none ∙ sym (get_or_past old y [] past)
+            | no ne ↦
+                let long = length_push old clock in
+                ap (λ (l : List (List ℕ)). clock_at l y) e ∙ get_or_past (old ++ clock ∷ []) y [] (omega (arith, past, ne, long)) ∙ sym (get_or_past old y [] past)
+          ]
+    ]

@@ -10,7 +10,7 @@ use Rattle.mr_base.specs.Accesses.{conflicts}
 use Rattle.mr_event.specs.Footprint.{Footprint}
 use Rattle.mr_event.specs.Order.{step_at}
 use Rattle.mr_rust_order.specs.declared.rows.Row.{Row}
-use Rattle.mr_rust_order.specs.Loads.{AreFoundAt, AreJoined, AreMet, IsLatestStore, IsReadOf, counts, takes}
+use Rattle.mr_rust_order.specs.Loads.{AreFoundAt, AreJoined, AreMet, IsLatestStore, IsLoadedBy, IsReadOf, counts, takes}
 use Rattle.mr_rust_order.specs.Marks.{IsListed}
 use Rattle.mr_rust_order.specs.Order.{IsReadBy, Makes, has_byte, is_atomic_load, is_atomic_store, is_plain_store, is_store}
 use Rattle.mr_rust_order.specs.Rows.{AreRows, IsRow, IsTop, Passes, row_at}
@@ -183,24 +183,21 @@ bytes_all rows access byte a b long short j =
 
 -- an access that is no atomic load reads nothing, and an atomic load reads by its bytes
 pub access_none : (rows : List Row) (access : Access) (clock : List ℕ) → (access.store || not access.atomic) ≡ true
-    → AreJoined rows (λ x. (b : ℕ) × IsTrue (is_atomic_load access b) × IsLatestStore rows b x) clock clock
-access_none rows access clock e = joined_none rows (λ x. (b : ℕ) × IsTrue (is_atomic_load access b) × IsLatestStore rows b x) clock (λ x r. not_loaded access r.0 e r.1)
+    → AreJoined rows (λ x. IsLoadedBy rows x access) clock clock
+access_none rows access clock e = joined_none rows (λ x. IsLoadedBy rows x access) clock (λ x r. not_loaded access r.0 e r.1)
 
 pub access_read : (rows : List Row) (access : Access) (a b : List ℕ) → (access.store || not access.atomic) ≡ false
     → AreJoined rows (λ x. (d : ℕ) × IsTrue (has_byte access d) × IsLatestStore rows d x) a b
-    → AreJoined rows (λ x. (d : ℕ) × IsTrue (is_atomic_load access d) × IsLatestStore rows d x) a b
+    → AreJoined rows (λ x. IsLoadedBy rows x access) a b
 access_read rows access a b e j =
-    joined_same rows (λ x. (d : ℕ) × IsTrue (has_byte access d) × IsLatestStore rows d x) (λ x. (d : ℕ) × IsTrue (is_atomic_load access d) × IsLatestStore rows d x) a b
+    joined_same rows (λ x. (d : ℕ) × IsTrue (has_byte access d) × IsLatestStore rows d x) (λ x. IsLoadedBy rows x access) a b
     (λ x r. (r.0, loaded_byte access r.0 e ∙ r.1, r.2)) (λ x r. (r.0, sym (loaded_byte access r.0 e) ∙ r.1, r.2)) j
 
 pub reads_none : (rows : List Row) (accesses : List Access) (clock : List ℕ) → AreJoined rows (IsReadOf rows (take 0 accesses)) clock clock
 reads_none rows accesses clock = joined_none rows (IsReadOf rows (take 0 accesses)) clock (λ x r. let lt = r.1.1 in omega (arith, lt))
 
 pub reads_more : (rows : List Row) (accesses : List Access) (y : ℕ) (d : Access) (a b c : List ℕ) → y < length accesses → AreJoined rows (IsReadOf rows (take y accesses)) a b
-    → AreJoined rows (λ x. (e : ℕ) × IsTrue (is_atomic_load (get_or accesses y d) e) × IsLatestStore rows e x) b c → AreJoined rows (IsReadOf rows (take (y + 1) accesses)) a c
+    → AreJoined rows (λ x. IsLoadedBy rows x (get_or accesses y d)) b c → AreJoined rows (IsReadOf rows (take (y + 1) accesses)) a c
 reads_more rows accesses y d a b c lt j k =
-    joined_more rows (IsReadOf rows (take y accesses)) (λ x. by x (get_or accesses y d)) (IsReadOf rows (take (y + 1) accesses)) a b c
-    (λ x r. some_wider (by x) accesses y d lt r) (λ x r. some_last (by x) accesses y d lt r) (λ x r. some_more (by x) accesses y d lt r) j k
-  where
-    by : ℕ → Access → Type 0
-    by x q = (e : ℕ) × IsTrue (is_atomic_load q e) × IsLatestStore rows e x
+    joined_more rows (IsReadOf rows (take y accesses)) (λ x. IsLoadedBy rows x (get_or accesses y d)) (IsReadOf rows (take (y + 1) accesses)) a b c
+    (λ x r. some_wider (IsLoadedBy rows x) accesses y d lt r) (λ x r. some_last (IsLoadedBy rows x) accesses y d lt r) (λ x r. some_more (IsLoadedBy rows x) accesses y d lt r) j k

@@ -33,10 +33,13 @@ pub record IsLatestStore (rows : List Row) (byte x : ℕ) : Type 0 where
   pub latest : (y : ℕ) → y < length rows → IsTrue (is_store (row_at rows y).range byte) → (row_at rows y).last ≤ (row_at rows x).last
   pub atomic : (y : ℕ) → y < length rows → IsTrue (is_plain_store (row_at rows y).range byte) → (row_at rows y).last < (row_at rows x).last
 
--- the row has the latest store to some byte that is loaded atomically by one of the accesses
+-- the row has the latest store to some byte that an access loads atomically
+abbrev pub IsLoadedBy : List Row → ℕ → Access → Type 0
+IsLoadedBy rows x a = (byte : ℕ) × IsTrue (is_atomic_load a byte) × IsLatestStore rows byte x
+
+-- the same of one of some accesses
 abbrev pub IsReadOf : List Row → List Access → ℕ → Type 0
-IsReadOf rows accesses x =
-    (a : Access) × Contains accesses a × ((byte : ℕ) × IsTrue (is_atomic_load a byte) × IsLatestStore rows byte x)
+IsReadOf rows accesses x = (a : Access) × Contains accesses a × IsLoadedBy rows x a
 
 -- a clock is raised to those of the rows with P, and to no others
 pub record AreJoined (rows : List Row) (P : ℕ → Type 0) (old new : List ℕ) : Type 0 where

@@ -121,7 +121,8 @@ pub(crate) fn take_out(alloc: Global, clocks: &mut Vec<Clock>, x: u32) -> Result
     ensures others { OnOk result (AreOthersKept clocks.old.items x clocks.new.items) }
 {
     extend_past(alloc, clocks, x as usize)?;
-    Ok(replace(&mut clocks[x as usize], Clock::new(alloc)))
+    let channel = &mut clocks[x as usize];
+    Ok(replace(channel, Clock::new(alloc)))
 }
 
 /// Puts the clock of a channel back.

@@ -1,9 +1,9 @@
 //! Which atomic stores an atomic load reads, byte by byte, by the rows. (C++20, [intro.races].)
 
 ghost use Rattle.std.specs.Prelude.{◌≡◌, ℕ, ◌+◌, ◌<◌, ◌≤◌, ◌^◌, IsTrue, OnOk, length};
-ghost use Rattle.mr_rust_order.specs.Loads.{AreFoundAt, AreJoined, AreMet, IsLatestStore, IsReadOf, counts as does_count, takes as does_take};
+ghost use Rattle.mr_rust_order.specs.Loads.{AreFoundAt, AreJoined, AreMet, IsLatestStore, IsLoadedBy, IsReadOf, counts as does_count, takes as does_take};
 ghost use Rattle.mr_rust_order.specs.Marks.{AreMarked, IsListed};
-ghost use Rattle.mr_rust_order.specs.Order.{has_byte as has_the_byte, is_atomic_load as loads_atomically};
+ghost use Rattle.mr_rust_order.specs.Order.{has_byte as has_the_byte};
 ghost use Rattle.mr_rust_order.specs.Rows.{AreShort, IsTop, IsTopWith, Passes, row_at as is_row_at};
 
 use crate::clock::Clock;
@@ -194,8 +194,7 @@ fn read_access(
 ) -> Result<(), OutOfMemory>
     requires short { AreShort rows.now }
     requires marked { AreMarked index.now.shelves.items index.now.marks.keys rows.now }
-    ensures { OnOk result (AreJoined rows.now
-        (λ x. (b : ℕ) × IsTrue (loads_atomically access b) × IsLatestStore rows.now b x) clock.old clock.new) }
+    ensures { OnOk result (AreJoined rows.now (λ x. IsLoadedBy rows.now x access) clock.old clock.new) }
 {
     if access.store || !access.atomic {
         return Ok(());
