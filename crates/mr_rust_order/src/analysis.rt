@@ -19,9 +19,9 @@ use mr_event::{Footprint, OutOfMemory, thread_at};
 use std::alloc::Global;
 use std::collections::BTreeSet;
 
-/// The step at a place.
+// The step at a place.
 #[tactic(auto, using(mr_event::proofs::Read::step_read))]
-pub(crate) fn step_of(run: &[Footprint], j: usize) -> &Footprint
+fn step_of(run: &[Footprint], j: usize) -> &Footprint
     requires { j < length run.now }
     ensures { result.now ≡ step_at run.now j }
 {
