@@ -3,13 +3,13 @@ use Rattle.std.proofs.Common.{◌≡◌, ℕ, ◌+◌, ◌<◌, ◌≤◌, ◌�
 use native.Mathlib.Decide.{dec_lt}
 use Rattle.std.specs.Prelude.{◌&&◌, ◌||◌, ◌==◌, nat_le, nat_lt}
 use Rattle.std.specs.List.{Contains, list_any}
-use Rattle.std.proofs.lemmas.Bool.{and_from, and_parts, cases_lt, le-leb, le-ltb, leb-true, lt-leb, lt-ltb, ltb-true, or_left}
+use Rattle.std.proofs.lemmas.Bool.{and_from, and_parts, both_ways, cases_lt, le-leb, le-ltb, leb-true, lt-leb, lt-ltb, ltb-true, or_left}
 use Rattle.std.proofs.lemmas.List.{get_or_append_left, get_or_push, length_push, take_more}
 use Rattle.std.proofs.lemmas.List.Elements.{Contains-append_left, Contains-push}
 use Rattle.std.proofs.lemmas.List.Folds.{Any-from_list_any, list_any_at}
 use Rattle.mr_base.specs.declared.access.Access.{Access}
 use Rattle.mr_base.specs.Accesses.{conflicts, overlaps, races, some_race}
-use Rattle.mr_rust_order.specs.Loads.{counts}
+use Rattle.mr_rust_order.specs.Loads.{counts, is_load}
 use Rattle.mr_rust_order.specs.Order.{has_byte, is_atomic_load, is_atomic_store, is_plain_store, is_store}
 
 -- two lists have accesses that race
@@ -122,19 +122,9 @@ some_last P accesses y d lt p =
 
 -- ---- atomic loads
 
-no_load : (s t h : Bool) → (s || not t) ≡ true → (not s && t && h) ≡ true → ⊥
-no_load true t h e f = absurd (cc)
-no_load false true h e f = absurd (cc)
-no_load false false h e f = absurd (cc)
-
-pub not_loaded : (a : Access) (byte : ℕ) → (a.store || not a.atomic) ≡ true → is_atomic_load a byte ≡ true → ⊥
-not_loaded a byte e f = no_load a.store a.atomic (has_byte a byte) e f
-
-just_byte : (s t h : Bool) → (s || not t) ≡ false → (not s && t && h) ≡ h
-just_byte true t h e = absurd (cc)
-just_byte false true h e = refl
-just_byte false false h e = absurd (cc)
+pub not_loaded : (a : Access) (byte : ℕ) → is_load a ≡ false → is_atomic_load a byte ≡ true → ⊥
+not_loaded a byte e f = both_ways (is_load a) e (and_parts (is_load a) (has_byte a byte) f).0
 
 -- what an atomic load loads is each of its bytes
-pub loaded_byte : (a : Access) (byte : ℕ) → (a.store || not a.atomic) ≡ false → is_atomic_load a byte ≡ has_byte a byte
-loaded_byte a byte e = just_byte a.store a.atomic (has_byte a byte) e
+pub loaded_byte : (a : Access) (byte : ℕ) → is_load a ≡ true → is_atomic_load a byte ≡ has_byte a byte
+loaded_byte a byte e = ap (λ (t : Bool). t && has_byte a byte) e

@@ -10,7 +10,7 @@ use Rattle.mr_base.specs.Accesses.{conflicts}
 use Rattle.mr_event.specs.Footprint.{Footprint}
 use Rattle.mr_event.specs.Order.{step_at}
 use Rattle.mr_rust_order.specs.declared.rows.Row.{Row}
-use Rattle.mr_rust_order.specs.Loads.{AreFoundAt, AreJoined, AreMet, IsLatestStore, IsLoadedBy, IsReadOf, counts, takes}
+use Rattle.mr_rust_order.specs.Loads.{AreFoundAt, AreJoined, AreMet, IsLatestStore, IsLoadedBy, IsReadOf, counts, is_load, takes}
 use Rattle.mr_rust_order.specs.Marks.{IsListed}
 use Rattle.mr_rust_order.specs.Order.{IsReadBy, Makes, has_byte, is_atomic_load, is_atomic_store, is_plain_store, is_store}
 use Rattle.mr_rust_order.specs.Rows.{AreRows, IsRow, IsTop, Passes, row_at}
@@ -182,11 +182,11 @@ bytes_all rows access byte a b long short j =
 -- ---- by one access after another
 
 -- an access that is no atomic load reads nothing, and an atomic load reads by its bytes
-pub access_none : (rows : List Row) (access : Access) (clock : List ℕ) → (access.store || not access.atomic) ≡ true
+pub access_none : (rows : List Row) (access : Access) (clock : List ℕ) → is_load access ≡ false
     → AreJoined rows (λ x. IsLoadedBy rows x access) clock clock
 access_none rows access clock e = joined_none rows (λ x. IsLoadedBy rows x access) clock (λ x r. not_loaded access r.0 e r.1)
 
-pub access_read : (rows : List Row) (access : Access) (a b : List ℕ) → (access.store || not access.atomic) ≡ false
+pub access_read : (rows : List Row) (access : Access) (a b : List ℕ) → is_load access ≡ true
     → AreJoined rows (λ x. (d : ℕ) × IsTrue (has_byte access d) × IsLatestStore rows d x) a b
     → AreJoined rows (λ x. IsLoadedBy rows x access) a b
 access_read rows access a b e j =

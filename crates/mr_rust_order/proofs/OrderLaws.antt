@@ -50,6 +50,6 @@ before_from run i s j (inl same) h = subst (λ (m : ℕ). HappensBefore run m j)
 before_from run i s j (inr p) h = chain p h
 
 -- a release sequence passes its order on
-pub sequence_before : (run : List Footprint) (byte other i u j : ℕ) → IsInSequence run byte i u → IsReadBy run u j other → HappensBefore run i j
-sequence_before run byte other i u j first r = edge (stored other r)
-sequence_before run byte other i u j (update {u = m} {v = n} s r) q = chain (sequence_before run byte byte i m n s r) (edge (stored other q))
+pub sequence_before : (run : List Footprint) (byte i other u j : ℕ) → IsInSequence run byte i u → IsReadBy run u j other → HappensBefore run i j
+sequence_before run byte i other u j first r = edge (stored other r)
+sequence_before run byte i other u j (update {u = m} {v = n} s r) q = chain (sequence_before run byte i byte m n s r) (edge (stored other q))

@@ -135,7 +135,7 @@ put_push shelves marks old new range thread j x clock row put is (inr t) past e 
 -- ---- one access after another
 
 put_wider : (xs ys : List Access) (thread j : ℕ) (clock : List ℕ) (row : Row) → ((a : Access) → Contains xs a → Contains ys a) → IsPut xs thread j clock row → IsPut ys thread j clock row
-put_wider xs ys thread j clock row wider p = record { made = wider row.range p.made; of_thread = p.of_thread; last = p.last; clock = p.clock }
+put_wider xs ys thread j clock row wider p = record { made = wider row.range p.made; of_thread = p.of_thread; last = p.last; kept = p.kept }
 
 pub noted_none : (old : List Row) (thread j : ℕ) (clock : List ℕ) → AreNoted old [] thread j clock old
 noted_none old thread j clock =
@@ -200,7 +200,7 @@ row_put run j clock row behind p =
       thread = ap (thread_at run) p.last ∙ sym p.of_thread;
       made = subst (λ (i : ℕ). Contains (step_at run i).accesses row.range) (sym p.last) p.made;
       clock = λ release.
-          subst (λ (i : ℕ). IsClockBehind run row.clock i) (sym p.last) (subst (λ (l : List ℕ). IsClockBehind run l j) (sym (p.clock release)) behind);
+          subst (λ (i : ℕ). IsClockBehind run row.clock i) (sym p.last) (subst (λ (l : List ℕ). IsClockBehind run l j) (sym (p.kept release)) behind);
     }
 
 row_later : (run : List Footprint) (j : ℕ) (row : Row) → IsRow run j row → IsRow run (j + 1) row

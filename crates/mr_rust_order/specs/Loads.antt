@@ -17,6 +17,10 @@ counts every a byte = a.store && (every || not a.atomic) && has_byte a byte
 abbrev pub takes : Row → ℕ → ℕ → Bool
 takes row byte latest = is_atomic_store row.range byte && (row.last + 1 == latest)
 
+-- whether an access is an atomic load
+abbrev pub is_load : Access → Bool
+is_load a = not a.store && a.atomic
+
 -- each row that conflicts with an access is listed
 abbrev pub AreMet : List Row → Access → List ℕ → Type 0
 AreMet rows access found = (x : ℕ) → x < length rows → IsTrue (conflicts (row_at rows x).range access) → IsListed found x

@@ -52,7 +52,7 @@ pub record IsPut (accesses : List Access) (thread j : ℕ) (clock : List ℕ) (r
   pub made : Contains accesses row.range
   pub of_thread : row.thread ≡ thread
   pub last : row.last ≡ j
-  pub clock : IsTrue (is_release row.range) → row.clock ≡ clock
+  pub kept : IsTrue (is_release row.range) → row.clock ≡ clock
 
 -- a row is as it was, or it is put in
 abbrev pub IsOldOrPut : List Row → List Access → ℕ → ℕ → List ℕ → ℕ → Row → Type 0

@@ -8,7 +8,7 @@ ghost use Rattle.mr_rust_order.specs.Order.{AreRaces, HappensBefore, IsInSequenc
 /// A step of a release sequence passes its order on: who reads it comes behind the step that begins the sequence. No step
 /// happens before an earlier one or itself.
 pub fn sequences_pass_on()
-    ensures passed { (run : List Footprint) (byte other i u j : ℕ) → IsInSequence run byte i u → IsReadBy run u j other
+    ensures passed { (run : List Footprint) (byte i other u j : ℕ) → IsInSequence run byte i u → IsReadBy run u j other
         → HappensBefore run i j }
     ensures forward { (run : List Footprint) (i j : ℕ) → HappensBefore run i j → i < j }
 {}

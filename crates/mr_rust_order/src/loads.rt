@@ -1,7 +1,7 @@
 //! Which atomic stores an atomic load reads, byte by byte, by the rows. (C++20, [intro.races].)
 
 ghost use Rattle.std.specs.Prelude.{◌≡◌, ℕ, ◌+◌, ◌<◌, ◌≤◌, ◌^◌, IsTrue, OnOk, length};
-ghost use Rattle.mr_rust_order.specs.Loads.{AreFoundAt, AreJoined, AreMet, IsLatestStore, IsLoadedBy, IsReadOf, counts as does_count, takes as does_take};
+ghost use Rattle.mr_rust_order.specs.Loads.{AreFoundAt, AreJoined, AreMet, IsLatestStore, IsLoadedBy, IsReadOf, is_load as is_a_load, counts as does_count, takes as does_take};
 ghost use Rattle.mr_rust_order.specs.Marks.{AreMarked, IsListed};
 ghost use Rattle.mr_rust_order.specs.Order.{has_byte as has_the_byte};
 ghost use Rattle.mr_rust_order.specs.Rows.{AreShort, IsTop, IsTopWith, Passes, row_at as is_row_at};
@@ -184,6 +184,13 @@ fn read_bytes(
     Ok(())
 }
 
+// Whether an access is an atomic load.
+fn is_load(access: Access) -> bool
+    ensures { result ≡ is_a_load access }
+{
+    !access.store && access.atomic
+}
+
 // The same of an access of a step, if it is an atomic load.
 fn read_access(
     index: &Index,
@@ -196,7 +203,7 @@ fn read_access(
     requires marked { AreMarked index.now.shelves.items index.now.marks.keys rows.now }
     ensures { OnOk result (AreJoined rows.now (λ x. IsLoadedBy rows.now x access) clock.old clock.new) }
 {
-    if access.store || !access.atomic {
+    if !is_load(access) {
         return Ok(());
     }
     find_rows(index, access, found)?;

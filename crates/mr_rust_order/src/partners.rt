@@ -68,7 +68,7 @@ fn best_of(
     ensures { IfOk result (λ n. IsTop rows.now (IsPartnerBy rows.now step.now.accesses step.now.thread clock.now) n) }
 {
     let accesses = step.accesses();
-    let mut best = 0;
+    let mut best: usize = 0;
     for y in 0..accesses.len() {
         find_rows(index, accesses[y], found)?;
         best = best.max(best_by(rows, found.as_slice(), step.thread(), accesses[y], clock));

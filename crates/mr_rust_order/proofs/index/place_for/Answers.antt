@@ -1,4 +1,4 @@
-use Rattle.std.proofs.Common.{List, inl, inr, subst, sym}
+use Rattle.std.proofs.Common.{List, inl, inr, refl, subst, sym}
 use Rattle.mr_rust_order.specs.declared.index.Shelf.{Shelf}
 use Rattle.mr_rust_order.specs.Marks.{AreKept}
 use Rattle.mr_rust_order.proofs.MarkLaws.{all_kept}
@@ -19,4 +19,4 @@ returns-clause-marked c =
     (subst (λ (l : List Shelf). AreKept c.args.index.now.shelves.items l) (sym e.shelves) c.in_ok-shelf.ensures.kept) e.kept c.requires
 
 pub returns-clause-place : goal.returns-clause-place
-returns-clause-place c = inr (c.len-row.ensures, c.in_ok-mark_row.ensures.marked)
+returns-clause-place c = inr (refl, c.in_ok-mark_row.ensures.marked)

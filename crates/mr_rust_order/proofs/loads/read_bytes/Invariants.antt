@@ -6,9 +6,9 @@ use Rattle.mr_rust_order.proofs.loads.read_bytes.Given as goal
 abbrev pub invariant-loop-byte : goal.invariant-loop-byte
 invariant-loop-byte l =
     record {
-      low : l.access.addr ≤ l.byte;
-      high : l.byte ≤ l.access.addr + l.access.len;
-      joined : AreJoined l.rows (IsLatestBelow l.rows l.access l.byte) l.initial.clock l.clock;
+      low : l.fn.access.addr ≤ l.byte;
+      high : l.byte ≤ l.fn.access.addr + l.fn.access.len;
+      joined : AreJoined l.rows (IsLatestBelow l.rows l.fn.access l.byte) l.initial.clock l.clock;
     }
 
 abbrev pub decreases-loop-byte : goal.decreases-loop-byte

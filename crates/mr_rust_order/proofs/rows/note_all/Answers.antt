@@ -1,4 +1,4 @@
-use Rattle.std.proofs.Common.{List, ℕ, [], ◌∷◌, false, ◌∙◌, sym, subst, arith}
+use Rattle.std.proofs.Common.{List, ℕ, [], ◌∷◌, false, get_or, take, ◌∙◌, sym, subst, arith}
 use Rattle.std.proofs.lemmas.List.{take_all, take_more}
 use Rattle.mr_base.specs.declared.access.Access.{Access}
 use Rattle.mr_rust_order.specs.Rows.{AreNoted}
@@ -17,11 +17,11 @@ loop-y-preserved c =
     let new = c.note.new.rows.items in
     let thread = c.args.step.now.thread in
     let clock = c.args.clock.now in
-    let here = subst (λ (t : ℕ). AreNoted mid (_ ∷ []) t c.args.j clock new) c.thread.ensures c.in_ok-note.ensures.noted in
+    let here = subst (λ (t : ℕ). AreNoted mid (get_or accesses c.loop-y.y none ∷ []) t c.args.j clock new) c.thread.ensures c.in_ok-note.ensures.noted in
     record {
       marked = c.in_ok-note.ensures.marked;
       noted = subst (λ (l : List Access). AreNoted old l thread c.args.j clock new) (sym (take_more accesses c.loop-y.y none c.loop-y-test.true))
-          (noted_more old mid new _ _ thread c.args.j clock c.loop-y.invariant.noted here);
+          (noted_more old mid new (take c.loop-y.y accesses) (get_or accesses c.loop-y.y none) thread c.args.j clock c.loop-y.invariant.noted here);
     }
 
 pub returns-clause-noted : goal.returns-clause-noted

@@ -44,7 +44,7 @@ returns-clause-tracks c =
     raised_on (clock_at old.threads.items t) before clock (subst (λ (l : List ℕ). IsRaised l before) c.in_ok-clock.ensures.clock c.in_ok-receive_all.ensures.raised)
     (raise_raised before clock t (j + 1) raise.own raise.others) in
     let to_threads =
-    sent_own old.threads.items c.take_out-clock.new.clocks.items c.send_threads.new.threads.items threads clock f t c.thread-thread.ensures c.in_ok-clock.ensures.others c.in_ok-send_threads.ensures
+    sent_own old.threads.items c.take_out.new.clocks.items c.send_threads.new.threads.items threads clock f t c.thread-thread.ensures c.in_ok-clock.ensures.others c.in_ok-send_threads.ensures
     c.in_ok-put_back.ensures.others c.in_ok-put_back.ensures.clock raised in
     let locks = c.send_lock.new.locks.items in
     let ended = c.send_ended.new.ended.items in
