@@ -164,7 +164,8 @@ pub(crate) fn send_ended(
 ) -> Result<(), OutOfMemory>
     ensures { OnOk result (AreSent ended.old.items clock.now (to_joiners step.now) ended.new.items) }
 {
-    if !step.ended() {
+    let is_over = step.ended();
+    if !is_over {
         return Ok(());
     }
     send(alloc, ended, step.thread(), clock)
