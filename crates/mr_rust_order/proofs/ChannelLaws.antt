@@ -1,5 +1,5 @@
 -- Channels to which a step sends its clock, and the clock that a step receives.
-use Rattle.std.proofs.Common.{◌≡◌, ◌≢◌, ℕ, zero, suc, ◌+◌, ◌<◌, ◌≤◌, max, List, [], ◌∷◌, ◌++◌, length, take, get_or, set, slice_index, Bool, true, false, cond, IsTrue, refl, sym, ap, ◌∙◌, subst, inl, inr, ◌⊎◌, arith}
+use Rattle.std.proofs.Common.{◌≡◌, ℕ, ◌+◌, ◌<◌, ◌≤◌, max, List, [], ◌∷◌, ◌++◌, length, take, get_or, set, slice_index, Bool, true, false, cond, refl, sym, ap, ◌∙◌, subst, inl, inr, ◌⊎◌, arith}
 use native.Mathlib.Decide.{ℕ_discrete, dec_lt}
 use Rattle.std.specs.Prelude.{◌||◌, ◌&&◌, ◌==◌}
 use Rattle.std.specs.List.{list_any}
@@ -16,7 +16,7 @@ use Rattle.mr_rust_order.specs.Channels.{AreChannels, AreOthersKept, AreSent, Is
 use Rattle.mr_rust_order.specs.Clocks.{IsClockBehind, IsJoin, IsRaised, IsUnder, Reaches}
 use Rattle.mr_rust_order.specs.Order.{Edge, HappensBefore, IsReadBy, releases}
 use Rattle.mr_rust_order.specs.Order.Edge.{in_thread, started, handed_over, joined, stored}
-use Rattle.mr_rust_order.proofs.ClockLaws.{join_cases, join_one, join_other, under_raised}
+use Rattle.mr_rust_order.proofs.ClockLaws.{join_cases, join_other, under_raised}
 use Rattle.mr_rust_order.proofs.OrderLaws.{reach_edge}
 
 -- ---- a clock that is sent

@@ -1,12 +1,11 @@
 -- The latest stores to a byte, by the rows and in the run.
 use Rattle.std.proofs.Common.{◌≡◌, ◌≢◌, ℕ, ◌+◌, ◌<◌, ◌≤◌, List, length, take, get_or, Bool, true, false, not, IsTrue, sym, ap, ◌∙◌, subst, inl, inr, ◌⊎◌, arith}
-use native.Mathlib.Decide.{ℕ_discrete, dec_lt}
-use Rattle.std.specs.Prelude.{◌&&◌, ◌||◌, ◌==◌}
+use native.Mathlib.Decide.{dec_lt}
+use Rattle.std.specs.Prelude.{◌&&◌, ◌==◌}
 use Rattle.std.specs.List.{Contains}
 use Rattle.std.proofs.lemmas.Bool.{and_from, and_parts, eq-eqb}
 use Rattle.mr_base.proofs.Comparisons.{eq_from}
 use Rattle.mr_base.specs.declared.access.Access.{Access}
-use Rattle.mr_base.specs.Accesses.{conflicts}
 use Rattle.mr_event.specs.Footprint.{Footprint}
 use Rattle.mr_event.specs.Order.{step_at}
 use Rattle.mr_rust_order.specs.declared.rows.Row.{Row}

@@ -1,5 +1,5 @@
 -- What happens-before is: it goes forward, has a last edge, and is closed along a thread.
-use Rattle.std.proofs.Common.{◌≡◌, ℕ, ◌<◌, ◌≤◌, List, refl, sym, subst, inl, inr, ◌⊎◌, arith}
+use Rattle.std.proofs.Common.{◌≡◌, ℕ, ◌<◌, ◌≤◌, List, refl, sym, subst, inl, inr, arith}
 use native.Mathlib.Decide.{ℕ_discrete}
 use Rattle.mr_event.specs.Footprint.{Footprint}
 use Rattle.mr_event.specs.Order.{thread_at}

@@ -1,8 +1,7 @@
 -- The partners by the rows are the races of the run.
-use Rattle.std.proofs.Common.{◌≡◌, ◌≢◌, ℕ, zero, suc, ◌+◌, ◌-◌, ◌<◌, ◌≤◌, max, List, length, take, get_or, slice_index, Option, Some, None, true, false, not, refl, sym, ap, ◌∙◌, subst, inl, inr, ◌⊎◌, arith}
+use Rattle.std.proofs.Common.{◌≡◌, ℕ, ◌+◌, ◌<◌, ◌≤◌, max, List, length, take, get_or, slice_index, Option, Some, None, true, not, sym, ap, ◌∙◌, subst, arith}
 use native.Mathlib.Decide.{dec_lt}
 use Rattle.std.specs.Prelude.{MatchOption, ◌&&◌, ◌==◌, nat_le}
-use Rattle.std.specs.List.{Contains}
 use Rattle.std.proofs.lemmas.Bool.{and_from, and_parts, eqb-false, leb-true, le-leb, ne_eqb, not-true, not_from_false}
 use Rattle.mr_base.specs.declared.access.Access.{Access}
 use Rattle.mr_base.specs.Accesses.{conflicts, races}

@@ -1,5 +1,5 @@
 -- Rows that are put in, one access after another, and the rows of one more step.
-use Rattle.std.proofs.Common.{◌≡◌, ◌≢◌, ℕ, zero, suc, ◌+◌, ◌<◌, ◌≤◌, List, [], ◌∷◌, ◌++◌, length, length-append, get_or, set, IsTrue, refl, sym, ap, ◌∙◌, subst, inl, inr, ◌⊎◌, arith}
+use Rattle.std.proofs.Common.{◌≡◌, ◌≢◌, ℕ, zero, suc, ◌+◌, ◌<◌, ◌≤◌, List, [], ◌∷◌, ◌++◌, length, get_or, set, refl, sym, ap, ◌∙◌, subst, inl, inr, ◌⊎◌, arith}
 use native.Mathlib.Decide.{ℕ_discrete, dec_lt}
 use Rattle.std.specs.List.{Contains}
 use Rattle.std.proofs.lemmas.List.{get_or_append_left, get_or_push, get_or_read, get_or-set_other, get_or-set_same, length-set, length_push}
@@ -12,7 +12,7 @@ use Rattle.mr_rust_order.specs.declared.index.Shelf.{Shelf}
 use Rattle.mr_rust_order.specs.declared.rows.Row.{Row}
 use Rattle.mr_rust_order.specs.Clocks.{IsClockBehind}
 use Rattle.mr_rust_order.specs.Marks.{AreMarked, IsMarked, IsPlaceFor}
-use Rattle.mr_rust_order.specs.Rows.{AreNoted, AreRows, IsHeld, IsOldOrPut, IsPut, IsRow, IsRowFor, is_release, no_row, row_at}
+use Rattle.mr_rust_order.specs.Rows.{AreNoted, AreRows, IsOldOrPut, IsPut, IsRow, IsRowFor, no_row, row_at}
 use Rattle.mr_rust_order.proofs.AccessLaws.{contains_cases}
 
 pub row_read : (rows : List Row) (x : ℕ) (row : Row) → x < length rows → row ≡ get_or rows x row → row ≡ row_at rows x

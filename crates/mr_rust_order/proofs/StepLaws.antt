@@ -1,7 +1,6 @@
 -- The clock before a step, by what it receives and loads; and the lists of races, one more step at a time.
-use Rattle.std.proofs.Common.{◌≡◌, ℕ, ◌+◌, ◌^◌, ◌<◌, ◌≤◌, List, [], ◌∷◌, ◌++◌, length, slice_index, IsTrue, refl, sym, ap, ◌∙◌, subst, inl, inr, ◌⊎◌, arith}
+use Rattle.std.proofs.Common.{◌≡◌, ℕ, ◌+◌, ◌^◌, ◌<◌, List, [], ◌∷◌, ◌++◌, length, slice_index, sym, ap, subst, inl, inr, ◌⊎◌, arith}
 use native.Mathlib.Decide.{dec_lt}
-use Rattle.std.specs.Prelude.{◌&&◌}
 use Rattle.std.proofs.lemmas.Bool.{and_parts}
 use Rattle.std.proofs.lemmas.List.Elements.{All-push, All-weaker}
 use Rattle.std.proofs.lemmas.List.Quantifiers.{all_pairs_push, Any-push}
@@ -13,7 +12,7 @@ use Rattle.mr_rust_order.specs.declared.rows.Row.{Row}
 use Rattle.mr_rust_order.specs.Channels.{AreChannels, IsThreadClock, to_joiners, to_lock, told_by}
 use Rattle.mr_rust_order.specs.Clocks.{IsClockBefore, IsClockBehind, IsJoin, IsRaised, IsUnder, Reaches}
 use Rattle.mr_rust_order.specs.Loads.{AreJoined, IsLatestStore, IsReadOf}
-use Rattle.mr_rust_order.specs.Order.{AreRacesBelow, Edge, HappensBefore, HasNoRace, IsGreatestRace, IsRace, IsReadBy, Makes, has_byte, is_atomic_load}
+use Rattle.mr_rust_order.specs.Order.{AreRacesBelow, Edge, HappensBefore, HasNoRace, IsGreatestRace, IsRace, Makes, has_byte, is_atomic_load}
 use Rattle.mr_rust_order.specs.Order.Edge.{stored}
 use Rattle.mr_rust_order.specs.Rows.{AreRows, AreShort, is_release, row_at}
 use Rattle.mr_rust_order.proofs.ChannelLaws.{received, thread_before, told_before}

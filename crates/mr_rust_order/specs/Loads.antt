@@ -1,5 +1,5 @@
 -- Which atomic stores an atomic load reads, by the rows alone.
-use Rattle.std.specs.Prelude.{◌≡◌, ℕ, ◌+◌, ◌<◌, ◌≤◌, ◌⊎◌, List, length, slice_index, Bool, not, ◌&&◌, ◌||◌, ◌==◌, IsTrue}
+use Rattle.std.specs.Prelude.{ℕ, ◌+◌, ◌<◌, ◌≤◌, ◌⊎◌, List, length, slice_index, Bool, not, ◌&&◌, ◌||◌, ◌==◌, IsTrue}
 use Rattle.std.specs.List.{Contains}
 use Rattle.mr_base.specs.Accesses.{conflicts}
 use Rattle.mr_base.specs.declared.access.Access.{Access}

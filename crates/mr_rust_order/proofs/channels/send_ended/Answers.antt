@@ -1,6 +1,5 @@
-use Rattle.std.proofs.Common.{ℕ, OnOk, sym, ◌∙◌, subst}
+use Rattle.std.proofs.Common.{ℕ, sym, ◌∙◌, subst}
 use Rattle.std.specs.Prelude.{◌==◌}
-use Rattle.std.proofs.lemmas.Bool.{not-true, not-false}
 use Rattle.std.proofs.lemmas.Result.{on_ok_weaker}
 use Rattle.mr_rust_order.specs.Channels.{AreSent}
 use Rattle.mr_rust_order.proofs.ChannelLaws.{ended_none, ended_sent}

@@ -1,4 +1,4 @@
-use Rattle.std.proofs.Common.{OnOk, ℕ, sym, ap, ◌∙◌, subst}
+use Rattle.std.proofs.Common.{OnOk, ◌∙◌, subst}
 use Rattle.mr_base.specs.declared.thread.Event.{Event}
 use Rattle.mr_rust_order.specs.Channels.{AreSent}
 use Rattle.mr_rust_order.specs.Order.{releases}

@@ -1,6 +1,6 @@
-use Rattle.std.proofs.Common.{List, ℕ, inl, inr, arith}
+use Rattle.std.proofs.Common.{arith}
 use Rattle.std.proofs.lemmas.Result.{on_ok_weaker}
-use Rattle.mr_rust_order.specs.Loads.{AreJoined, IsLatestStore, takes}
+use Rattle.mr_rust_order.specs.Loads.{IsLatestStore, takes}
 use Rattle.mr_rust_order.specs.Rows.{Passes}
 use Rattle.mr_rust_order.specs.declared.rows.Row.{Row}
 use Rattle.mr_rust_order.proofs.LoadLaws.{latest_taken, none_latest, taken_latest}

@@ -1,4 +1,3 @@
-use Rattle.std.proofs.Common.{sym, subst}
 use Rattle.mr_rust_order.proofs.StepLaws.{races_more, races_none, races_same}
 use Rattle.mr_rust_order.proofs.runs.races.Goals as goal
 use Rattle.mr_rust_order.proofs.runs.races.Goals.{in-Some+in_ok-push, in_default}
