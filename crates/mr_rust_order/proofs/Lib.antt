@@ -1,0 +1,12 @@
+pub mod AccessLaws
+pub mod ChannelLaws
+pub mod ClockLaws
+pub mod Examples
+pub mod LoadLaws
+pub mod MarkLaws
+pub mod OneList
+pub mod OrderLaws
+pub mod PartnerLaws
+pub mod RowLaws
+pub mod StepLaws
+pub mod TopLaws

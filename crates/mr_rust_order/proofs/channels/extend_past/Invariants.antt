@@ -1,0 +1,10 @@
+use Rattle.std.proofs.Common.{◌≡◌, ℕ, length}
+use Rattle.mr_rust_order.specs.Channels.{clock_at}
+use Rattle.mr_rust_order.proofs.channels.extend_past.Given as goal
+
+abbrev pub invariant-loop-k : goal.invariant-loop-k
+invariant-loop-k l =
+    record {
+      long : length l.clocks.items ≡ l.k;
+      same : (y : ℕ) → clock_at l.clocks.items y ≡ clock_at l.initial.clocks.items y;
+    }

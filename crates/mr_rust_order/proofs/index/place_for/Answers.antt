@@ -1,0 +1,22 @@
+use Rattle.std.proofs.Common.{List, inl, inr, refl, subst, sym}
+use Rattle.mr_rust_order.specs.declared.index.Shelf.{Shelf}
+use Rattle.mr_rust_order.specs.Marks.{AreKept}
+use Rattle.mr_rust_order.proofs.MarkLaws.{all_kept}
+use Rattle.mr_rust_order.proofs.index.place_for.Goals as goal
+
+pub returns-in-Some-clause-marked : goal.returns-in-Some-clause-marked
+returns-in-Some-clause-marked c =
+    let marks = c.args.index.now.marks.keys in
+    all_kept c.args.index.now.shelves.items c.use_shelf.new.shelves.items marks marks c.args.rows.now c.in_ok-shelf.ensures.kept (λ m h. h) c.requires
+
+pub returns-in-Some-clause-place : goal.returns-in-Some-clause-place
+returns-in-Some-clause-place c = inl c.in-Some.ensures
+
+pub returns-clause-marked : goal.returns-clause-marked
+returns-clause-marked c =
+    let e = c.in_ok-mark_row.ensures in
+    all_kept c.args.index.now.shelves.items c.mark_row.new.index.shelves.items c.args.index.now.marks.keys c.mark_row.new.index.marks.keys c.args.rows.now
+    (subst (λ (l : List Shelf). AreKept c.args.index.now.shelves.items l) (sym e.shelves) c.in_ok-shelf.ensures.kept) e.kept c.requires
+
+pub returns-clause-place : goal.returns-clause-place
+returns-clause-place c = inr (refl, c.in_ok-mark_row.ensures.marked)

@@ -1,0 +1,19 @@
+use Rattle.std.proofs.Common.{List, false, ◌∙◌, subst, arith}
+use Rattle.std.proofs.lemmas.List.{take_all}
+use Rattle.mr_base.specs.declared.access.Access.{Access}
+use Rattle.mr_rust_order.specs.Loads.{AreJoined, IsReadOf}
+use Rattle.mr_rust_order.proofs.LoadLaws.{reads_more, reads_none}
+use Rattle.mr_rust_order.proofs.loads.read_all.Goals as goal
+
+pub loop-y-init : goal.loop-y-init
+loop-y-init c = reads_none c.args.rows.now c.accesses-accesses.result.now c.args.clock.now
+
+pub loop-y-preserved : goal.loop-y-preserved
+loop-y-preserved c =
+    let none : Access = record { store = false; atomic = false; addr = 0; len = 0 } in
+    reads_more c.args.rows.now c.accesses-accesses.result.now c.loop-y.y none c.args.clock.now c.loop-y.clock c.read_access.new.clock c.loop-y-test.true c.loop-y.invariant c.in_ok-read_access.ensures
+
+pub returns : goal.returns
+returns c =
+    subst (λ (l : List Access). AreJoined c.args.rows.now (IsReadOf c.args.rows.now l) c.args.clock.now c.loop-y.clock)
+    (take_all c.loop-y.y c.accesses-accesses.result.now (omega arith) ∙ c.accesses-accesses.ensures) c.loop-y.invariant

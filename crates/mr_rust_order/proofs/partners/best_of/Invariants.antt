@@ -1,0 +1,7 @@
+use Rattle.std.proofs.Common.{take}
+use Rattle.mr_rust_order.specs.Partners.{IsPartnerBy}
+use Rattle.mr_rust_order.specs.Rows.{IsTop}
+use Rattle.mr_rust_order.proofs.partners.best_of.Given as goal
+
+abbrev pub invariant-loop-y : goal.invariant-loop-y
+invariant-loop-y l = IsTop l.rows (IsPartnerBy l.rows (take l.y l.accesses) l.step.thread l.clock) l.best

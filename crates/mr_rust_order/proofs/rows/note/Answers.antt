@@ -1,0 +1,32 @@
+use Rattle.std.proofs.Common.{List, [], ◌∷◌, refl, sym, subst, arith}
+use Rattle.mr_rust_order.specs.declared.rows.Row.{Row}
+use Rattle.mr_rust_order.specs.Marks.{AreMarked, IsPlaceFor}
+use Rattle.mr_rust_order.specs.Rows.{IsPut}
+use Rattle.mr_rust_order.proofs.RowLaws.{put_push, put_set}
+use Rattle.mr_rust_order.proofs.rows.note.Goals as goal
+
+pub place_for-requires : goal.place_for-requires
+place_for-requires c = subst (AreMarked c.args.index.now.shelves.items c.args.index.now.marks.keys) (sym c.as_slice.ensures.value) c.requires
+
+pub returns-then-x-len : goal.returns-then-x-len
+returns-then-x-len c =
+    let shelves = c.place_for.new.index.shelves.items in
+    let marks = c.place_for.new.index.marks.keys in
+    let row : Row = record { range = c.args.range; thread = c.args.thread; last = c.args.j; clock = c.in_ok-kept.kept } in
+    let put : IsPut (c.args.range ∷ []) c.args.thread c.args.j c.args.clock.now row = record { made = (0, omega arith, refl); of_thread = refl; last = refl; kept = c.in_ok-kept.ensures } in
+    let place = subst (λ (l : List Row). IsPlaceFor shelves marks l c.args.range c.args.thread c.in_ok-x.x) c.as_slice.ensures.value c.in_ok-x.ensures.place in
+    let marked = subst (AreMarked shelves marks) c.as_slice.ensures.value c.in_ok-x.ensures.marked in
+    let both = put_set shelves marks c.args.rows.now.items c.args.range c.args.thread c.args.j c.in_ok-x.x c.args.clock.now row put refl place (omega arith) marked in
+    record { marked = both.1; noted = both.0 }
+
+pub returns : goal.returns
+returns c =
+    let shelves = c.place_for.new.index.shelves.items in
+    let marks = c.place_for.new.index.marks.keys in
+    let row : Row = record { range = c.args.range; thread = c.args.thread; last = c.args.j; clock = c.in_ok-kept.kept } in
+    let put : IsPut (c.args.range ∷ []) c.args.thread c.args.j c.args.clock.now row = record { made = (0, omega arith, refl); of_thread = refl; last = refl; kept = c.in_ok-kept.ensures } in
+    let place = subst (λ (l : List Row). IsPlaceFor shelves marks l c.args.range c.args.thread c.in_ok-x.x) c.as_slice.ensures.value c.in_ok-x.ensures.place in
+    let marked = subst (AreMarked shelves marks) c.as_slice.ensures.value c.in_ok-x.ensures.marked in
+    let both =
+    put_push shelves marks c.args.rows.now.items c.push.new.self.items c.args.range c.args.thread c.args.j c.in_ok-x.x c.args.clock.now row put refl place (omega arith) c.in_ok-push.ensures.items marked in
+    record { marked = both.1; noted = both.0 }
