@@ -35,7 +35,7 @@ use Rattle.mr_show.specs.Answer.{run_seen, shown_answer, text_answer, usage, why
 use Rattle.mr_show.specs.Filled.{filled_answer, unless_bad}
 use Rattle.mr_show.specs.Next.{next_from, reached_answer}
 use Rattle.mr_hunt.specs.Aims.{first_met}
-use Rattle.mr_show.specs.Seek.{Drawn, Ends, First, Seek}
+use Rattle.mr_show.specs.Seek.{Drawn, First, Seek, Ends as AllEnds}
 use Rattle.mr_show.specs.declared.form.Range.{Range}
 use Rattle.mr_show.specs.Gathered.{laid_in}
 use Rattle.mr_show.specs.Hunted.{found_answer, hunt_answer, hunted_file, hunted_program, most_in}
@@ -129,7 +129,7 @@ module _ (range : Range) (name text : List ℕ) where
   found_least p (Some number) = omega arith
 
   hunt_least : (p : Program) (seek : Seek) → (hunt_answer range seek name text p).status ≤ 5
-  hunt_least p Ends = omega arith
+  hunt_least p AllEnds = omega arith
   hunt_least p Drawn = omega arith
   hunt_least p (First aim) =
       found_least p (first_met aim (laid_in p (lexed text)) p (most_in range) range.from range.to)

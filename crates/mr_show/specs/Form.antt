@@ -54,7 +54,7 @@ is_name_of word None = false
 is_name_of word (Some entry) = bytes_eq entry.name word
 
 -- the first code of this name; they are below 134
-abbrev pub code_named : List ℕ → Option ℕ
+unfoldable pub code_named : List ℕ → Option ℕ
 code_named word = find (λ code. is_name_of word (entry_of code)) (range_with_len 0 134)
 
 -- the code that a word is, by its number or by its name

@@ -2,7 +2,7 @@ use Rattle.std.proofs.Common.{◌≡◌, ℕ, ◌-◌, ◌∙◌, ap, arith, sym
 use Rattle.std.specs.List.{find, range_with_len}
 use Rattle.mr_next.proofs.Finding.{find_behind}
 use Rattle.mr_why.specs.Why.{entry_of}
-use Rattle.mr_show.specs.Form.{is_name_of}
+use Rattle.mr_show.specs.Form.{code_named, is_name_of}
 use Rattle.mr_show.proofs.NameLaws.{find_here}
 use Rattle.mr_show.proofs.form.code_named.Goals as goal
 
@@ -13,6 +13,7 @@ loop-code-preserved c =
     (omega (arith, c.loop-code-test.true)) (sym c.is_name_of.ensures ∙ c.if-is_name_of.false)
 
 pub returns-then-is_name_of : goal.returns-then-is_name_of
+unfolding code_named
 returns-then-is_name_of c =
     sym (
     c.loop-code.invariant
@@ -21,6 +22,7 @@ returns-then-is_name_of c =
     )
 
 pub returns : goal.returns
+unfolding code_named
 returns c =
     let none : 134 - c.loop-code.code ≡ 0 = omega (arith, c.loop-code-test.false) in
     sym (
