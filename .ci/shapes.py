@@ -128,21 +128,17 @@ def placed(*steps):
 
 
 def of_told_traces():
-    """Traces with many races, as the companion tells them: each step races with the one before it; and many race with one
-    of many stores."""
+    """Traces with many races, as the companion tells them: each step races with the one before it; and many race with
+    one of many stores, of which few are written each time."""
     chain = lambda n: placed(*(a_step(k % 2, [(1, 64, 8)]) for k in range(n)))
     star = lambda n: placed(stores(0, 64, 8, 8, n), *(a_step(1, [(0, 64 + 8 * k, 8)]) for k in range(n)))
-    ends = (("each step of which races with the one before it", chain, 4000, lambda n: b"race %d %d\n" % (n - 1, n),
-             lambda n: b"races %d\n" % (n - 1)),
-            ("of a step of many stores that races with many", star, 2000, lambda n: b"race 1 %d\n" % (n + 1),
-             lambda n: b"races %d\n" % n))
-    for what, made, size, listed, counted in ends:
-        plain = f"a trace {what}"
-        yield Shape(plain, "offline T", made, size, end=listed, status=1)
-        for word in ("races", "steps"):
-            of_it = f"`{word}` of {plain}"
-            yield Shape(of_it, f"show {word} T PLACES", made, size, "instructions", counted, 1, plain, TIMES)
-            yield Shape(f"{of_it}, by what is written", f"show {word} T PLACES", made, size, "written", counted, 1)
+    plain, last = "a trace each step of which races with the one before it", lambda n: b"race %d %d\n" % (n - 1, n)
+    yield Shape(plain, "offline T", chain, 4000, end=last, status=1)
+    for word in ("races", "steps"):
+        words, count = f"show {word} T PLACES", lambda n: b"races %d\n" % n
+        yield Shape(f"`{word}` of {plain}", words, chain, 4000, "instructions", lambda n: count(n - 1), 1, plain, TIMES)
+        many = f"`{word}` of a trace of a step of many stores that races with many, by what is written"
+        yield Shape(many, words, star, 2000, "written", count, 1)
 
 
 def leaking(count):
