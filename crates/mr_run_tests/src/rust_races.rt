@@ -2,7 +2,7 @@
 
 use crate::orders::run_of;
 use mr_event::OutOfMemory;
-use mr_rust_order::{Analysis, races};
+use mr_rust_order::races;
 use std::alloc::Global;
 use std::test::Fail;
 
@@ -91,23 +91,5 @@ fn first_wrong(alloc: Global) -> Result<Option<usize>, OutOfMemory> {
 #[test]
 fn races_by_rusts_order(rt: HostRuntime) -> Result<(), Fail> {
     assert_eq!(rt; first_wrong(rt.alloc())?, None);
-    Ok(())
-}
-
-#[test]
-fn a_seen_flag_orders(rt: HostRuntime) -> Result<(), Fail> {
-    let alloc = rt.alloc();
-    let run = run_of(
-        alloc,
-        "1 store 64; 1 atomic-store 80; 2 atomic-load 80; 2 load 64",
-    )?;
-    let run = run.as_slice();
-    assert_eq!(rt; run.len(), 4);
-    let mut analysis = Analysis::new(alloc);
-    assert!(rt; analysis.add(run, 0)?.is_none());
-    assert!(rt; analysis.add(run, 1)?.is_none());
-    assert!(rt; analysis.add(run, 2)?.is_none());
-    assert!(rt; analysis.orders(run, 0, 3)?);
-    assert!(rt; !analysis.orders(run, 3, 3)?);
     Ok(())
 }
