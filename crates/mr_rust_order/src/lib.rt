@@ -23,7 +23,8 @@
 //! (`specs/Rows.antt`). An atomic load looks up the rows that it meets, and finds for each byte the latest store
 //! (`specs/Loads.antt`). A step races with some step of a thread exactly where it races with the latest one of a row that
 //! its clock doesn't know (`specs/Partners.antt`). Rows are found by marks on shelves (`specs/Marks.antt`), so a step
-//! takes the time of the rows that its accesses meet, and a logarithm of all rows.
+//! takes the time of the rows that its accesses meet, and a logarithm of all rows. What was found is kept for late
+//! accesses (`specs/Memos.antt`): one that is made again needs no search, unless a row came since.
 #![tactic(auto)]
 
 mod analysis;
@@ -32,6 +33,7 @@ mod clock;
 mod index;
 mod laws;
 mod loads;
+mod memos;
 mod partners;
 mod rows;
 mod runs;
