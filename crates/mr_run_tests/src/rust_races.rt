@@ -103,7 +103,7 @@ fn a_seen_flag_orders(rt: HostRuntime) -> Result<(), Fail> {
     )?;
     let run = run.as_slice();
     assert_eq!(rt; run.len(), 4);
-    let mut analysis = Analysis::new(alloc);
+    let mut analysis = Analysis::new(alloc)?;
     assert!(rt; analysis.add(run, 0)?.is_none());
     assert!(rt; analysis.add(run, 1)?.is_none());
     assert!(rt; analysis.add(run, 2)?.is_none());
