@@ -123,8 +123,8 @@ fn step(alloc: Global, text: &str) -> Result<Footprint, OutOfMemory> {
     said.footprint(alloc)
 }
 
-/// The run of a text.
-pub(crate) fn run_of(alloc: Global, text: &str) -> Result<Vec<Footprint>, OutOfMemory> {
+// The run of a text.
+fn run_of(alloc: Global, text: &str) -> Result<Vec<Footprint>, OutOfMemory> {
     let mut run = Vec::new(alloc);
     for line in text.split(';') {
         let foot = step(alloc, line.trim())?;
