@@ -96,8 +96,8 @@ impl Analysis {
         })
     }
 
-    /// Adds step `j` of a run, all of whose earlier steps are known, and gives the greatest earlier step that has a race
-    /// with it. After an `Err` it is to be let go.
+    /// Adds step `j` of a run, all of whose earlier steps are known, and gives the greatest earlier step that has a
+    /// race with it. After an `Err` it is to be let go.
     pub fn add(&mut self, run: &[Footprint], j: usize) -> Result<Option<usize>, OutOfMemory>
         requires within { j < length run.now }
         requires tracks { Tracks run.now j self.old }

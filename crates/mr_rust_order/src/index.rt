@@ -30,8 +30,8 @@ pub struct Shelf {
     pub stores: bool,
 }
 
-/// The shelves, and the marks of the rows. The marks of a shelf have its place for a number. And places of late rows, each
-/// to be looked at before it is believed.
+/// The shelves, and the marks of the rows. The marks of a shelf have its place for a number. And places of late rows,
+/// each to be looked at before it is believed.
 #[derive(Drop)]
 pub struct Index {
     pub shelves: Vec<Shelf>,

@@ -90,7 +90,8 @@ pub(crate) fn rows_met(
     requires memos { AreMemos rows.now memos.old.items }
     ensures memos { OnOk result (AreMemos rows.now memos.new.items) }
     ensures within { IfOk result (λ s. s < length memos.new.items) }
-    ensures met { IfOk result (λ s. (d : Memo) → AreMet rows.now access (slice_index_or memos.new.items s d).found.items) }
+    ensures met { IfOk result
+        (λ s. (d : Memo) → AreMet rows.now access (slice_index_or memos.new.items s d).found.items) }
 {
     let slot = spread(access.addr, u64::from(access.store));
     let memo = &mut memos[slot];

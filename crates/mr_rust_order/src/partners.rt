@@ -69,7 +69,8 @@ fn best_of(
     requires marked { AreMarked index.now.shelves.items index.now.marks.keys rows.now }
     requires memos { AreMemos rows.now memos.old.items }
     ensures memos { OnOk result (AreMemos rows.now memos.new.items) }
-    ensures top { IfOk result (λ n. IsTop rows.now (IsPartnerBy rows.now step.now.accesses step.now.thread clock.now) n) }
+    ensures top { IfOk result
+        (λ n. IsTop rows.now (IsPartnerBy rows.now step.now.accesses step.now.thread clock.now) n) }
 {
     let accesses = step.accesses();
     let mut best: usize = 0;
@@ -87,8 +88,8 @@ fn best_of(
     Ok(best)
 }
 
-/// The greatest step of the rows that are partners of a step, whose clock is known: of another thread, with an access that
-/// races, and not under the clock.
+/// The greatest step of the rows that are partners of a step, whose clock is known: of another thread, with an access
+/// that races, and not under the clock.
 pub(crate) fn partner_of(
     index: &Index,
     rows: &[Row],
