@@ -4,6 +4,7 @@ pub mod ClockLaws
 pub mod Examples
 pub mod LoadLaws
 pub mod MarkLaws
+pub mod MemoLaws
 pub mod OneList
 pub mod OrderLaws
 pub mod PartnerLaws

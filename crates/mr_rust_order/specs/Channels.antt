@@ -1,5 +1,5 @@
--- Channels: clocks that steps send to threads, to locks and to those that join a thread. A later step of the thread, that
--- acquires the lock or that joins the thread, receives them.
+-- Channels: clocks that steps send to threads, to locks and to those that join a thread. A later step of the thread,
+-- that acquires the lock or that joins the thread, receives them.
 use Rattle.std.specs.Prelude.{◌≡◌, ◌≢◌, ℕ, ◌<◌, max, List, [], Bool, cond, ◌&&◌, ◌||◌, ◌==◌, IsTrue, slice_index, slice_index_or}
 use Rattle.mr_base.specs.declared.thread.Event.{Event}
 use Rattle.mr_base.specs.declared.thread.Event.TheVariants.{Acquire, Join}

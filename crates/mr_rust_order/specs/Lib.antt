@@ -2,6 +2,7 @@ pub mod Channels
 pub mod Clocks
 pub mod Loads
 pub mod Marks
+pub mod Memos
 pub mod Order
 pub mod Partners
 pub mod Rows

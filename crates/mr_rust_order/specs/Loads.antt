@@ -23,7 +23,8 @@ is_load a = not a.store && a.atomic
 
 -- each row that conflicts with an access is listed
 abbrev pub AreMet : List Row → Access → List ℕ → Type 0
-AreMet rows access found = (x : ℕ) → x < length rows → IsTrue (conflicts (row_at rows x).range access) → IsListed found x
+AreMet rows access found =
+    (x : ℕ) → x < length rows → IsTrue (conflicts (row_at rows x).range access) → IsListed found x
 
 -- each row that stores to the byte is listed
 abbrev pub AreFoundAt : List Row → ℕ → List ℕ → Type 0

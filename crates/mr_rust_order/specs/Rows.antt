@@ -10,7 +10,8 @@ use Rattle.mr_rust_order.specs.Clocks.{IsClockBehind}
 
 -- what stands past the end of the rows
 abbrev pub no_row : Row
-no_row = record { range = record { store = false; atomic = false; addr = 0; len = 0 }; thread = 0; last = 0; clock = [] }
+no_row =
+    record { range = record { store = false; atomic = false; addr = 0; len = 0 }; thread = 0; last = 0; clock = [] }
 
 abbrev pub row_at : List Row → ℕ → Row
 row_at rows x = slice_index_or rows x no_row

@@ -12,7 +12,7 @@ use std::alloc::Global;
 pub fn races(alloc: Global, run: &[Footprint]) -> Result<Vec<Pair>, OutOfMemory>
     ensures { IfOk result (λ v. AreRaces run.now v.items) }
 {
-    let mut analysis = Analysis::new(alloc);
+    let mut analysis = Analysis::new(alloc)?;
     let mut pairs = Vec::new(alloc);
     for j in 0..run.len() {
         if let Some(first) = analysis.add(run, j)? {
