@@ -10,4 +10,5 @@ pub mod OrderLaws
 pub mod PartnerLaws
 pub mod RowLaws
 pub mod StepLaws
+pub mod TestLaws
 pub mod TopLaws

@@ -2,7 +2,8 @@
 -- memory model for atomic accesses, and reference, behavior considered undefined; C++20, [intro.races]. Every atomic
 -- access is sequentially consistent.) A run is the list of the footprints of its steps; a step is named by its place in
 -- the run, counted from 0.
-use Rattle.std.specs.Prelude.{◌≡◌, ◌≢◌, ℕ, ◌+◌, ◌<◌, List, length, Bool, false, not, ◌&&◌, ◌==◌, nat_le, nat_lt, IsTrue, All, Any, AllPairs}
+use Rattle.std.specs.Prelude.{◌≡◌, ◌≢◌, ℕ, ◌+◌, ◌<◌, List, length, Bool, false, not, ◌&&◌, ◌==◌, nat_le, nat_lt}
+use Rattle.std.specs.Prelude.{IsTrue, All, Any, AllPairs}
 use Rattle.std.specs.List.{Contains}
 use Rattle.mr_base.specs.Accesses.{some_race}
 use Rattle.mr_base.specs.declared.access.Access.{Access}

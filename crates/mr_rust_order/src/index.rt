@@ -5,7 +5,8 @@ ghost use Rattle.std.specs.Prelude.{◌≡◌, ℕ, ◌<◌, ◌≤◌, ◌^◌,
 ghost use Rattle.mr_base.specs.Accesses.{conflicts};
 ghost use Rattle.mr_base.specs.declared.access.Access.{Access};
 ghost use Rattle.mr_rust_order.specs.declared.index.Mark.{Mark};
-ghost use Rattle.mr_rust_order.specs.Marks.{AreKept, AreMarked, IsListed, IsMarked, IsOnShelf, IsPlaceFor, has_mark, mark_of, shelf_at};
+ghost use Rattle.mr_rust_order.specs.Marks.{AreKept, AreMarked, IsListed, IsMarked, IsOnShelf, IsPlaceFor};
+ghost use Rattle.mr_rust_order.specs.Marks.{has_mark, mark_of, shelf_at};
 ghost use Rattle.mr_rust_order.specs.Rows.{IsRowFor, row_at as is_row_at};
 
 use crate::memos::spread;

@@ -9,13 +9,16 @@
 //! doesn't come before the later one.
 //!
 //! - [`races`]: the races of a run: each step that has one, with the greatest earlier step of such a pair, by rising
-//!   second step. Proved: the list is exactly that of `specs/Order.antt`; want of memory is the only error.
+//!   second step. Proved: the list is exactly that of `specs/Order.antt`, which `specs/Tests.antt` has as a value; want
+//!   of memory is the only error.
 //! - [`Analysis`]: the same a step at a time. [`Analysis::new`] knows no step; [`Analysis::add`], which knows the steps
 //!   before a step, gives the greatest earlier one that has a race with it, and then knows it too;
 //!   [`Analysis::orders`] answers whether a step happens before the next one.
+//! - [`first_gap`]: the first link of a way over steps that isn't in Rust's order (`specs/Gaps.antt`).
 //!
-//! Laws: [`sequences_pass_on`] (a step of a release sequence passes its order on; the order goes forward), [`one_list`]
-//! (a run has one list of races).
+//! Laws: [`sequences_pass_on`] (a step of a release sequence passes its order on; the order goes forward), [`decided`]
+//! (the tests decide the order and its races), [`one_list`] (the list that is defined is that of the races of a run,
+//! and no other list is).
 //!
 //! How it goes: a step sends the clock behind it to its thread, to the threads that it woke or started, to a lock
 //! that it releases, and to those that join its thread where it ends that (`specs/Channels.antt`). For each range,
@@ -30,6 +33,7 @@
 mod analysis;
 mod channels;
 mod clock;
+mod gaps;
 mod index;
 mod laws;
 mod loads;
@@ -39,5 +43,6 @@ mod rows;
 mod runs;
 
 pub use analysis::Analysis;
-pub use laws::{one_list, sequences_pass_on};
+pub use gaps::first_gap;
+pub use laws::{decided, one_list, sequences_pass_on};
 pub use runs::races;

@@ -1,7 +1,8 @@
 //! Which atomic stores an atomic load reads, byte by byte, by the rows. (C++20, [intro.races].)
 
 ghost use Rattle.std.specs.Prelude.{◌≡◌, ℕ, ◌+◌, ◌<◌, ◌≤◌, ◌^◌, IsTrue, OnOk, length};
-ghost use Rattle.mr_rust_order.specs.Loads.{AreFoundAt, AreJoined, AreMet, IsLatestStore, IsLoadedBy, IsReadOf, is_load as is_a_load, counts as does_count, takes as does_take};
+ghost use Rattle.mr_rust_order.specs.Loads.{AreFoundAt, AreJoined, AreMet, IsLatestStore, IsLoadedBy, IsReadOf};
+ghost use Rattle.mr_rust_order.specs.Loads.{counts as does_count, is_load as is_a_load, takes as does_take};
 ghost use Rattle.mr_rust_order.specs.Marks.{AreMarked, IsListed};
 ghost use Rattle.mr_rust_order.specs.Memos.{AreMemos};
 ghost use Rattle.mr_rust_order.specs.Order.{has_byte as has_the_byte};

@@ -5,7 +5,8 @@ ghost use Rattle.mr_base.specs.Accesses.{races as do_race};
 ghost use Rattle.mr_rust_order.specs.Loads.{AreMet};
 ghost use Rattle.mr_rust_order.specs.Marks.{AreMarked};
 ghost use Rattle.mr_rust_order.specs.Memos.{AreMemos};
-ghost use Rattle.mr_rust_order.specs.Partners.{HasNoPartner, IsGreatestPartner, IsPartnerBy, is_partner as is_a_partner};
+ghost use Rattle.mr_rust_order.specs.Partners.{HasNoPartner, IsGreatestPartner, IsPartnerBy};
+ghost use Rattle.mr_rust_order.specs.Partners.{is_partner as is_a_partner};
 ghost use Rattle.mr_rust_order.specs.Rows.{AreShort, IsTop, IsTopWith, Passes};
 
 use crate::clock::Clock;
