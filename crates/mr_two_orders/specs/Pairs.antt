@@ -1,0 +1,29 @@
+-- With which step a list of races has a step.
+use Rattle.std.specs.Prelude.{ℕ, ◌<◌, ◌==◌, if◌then◌else◌, Bool, List, AllPairs, IfSome, Option, None, Some}
+use Rattle.std.specs.List.{find}
+use Rattle.std.specs.Option.{option_map}
+use Rattle.mr_event.specs.declared.footprint.Pair.{Pair}
+
+-- the second steps of a list of races rise, so each is there once
+abbrev pub IsRising : List Pair → Type 0
+IsRising pairs = AllPairs (λ p q. p.second < q.second) pairs
+
+-- whether the second step of a race is this one
+abbrev pub is_of : ℕ → Pair → Bool
+is_of step pair = pair.second == step
+
+abbrev pub first_step : Pair → ℕ
+first_step pair = pair.first
+
+-- THE STEP with which a list has a step, if it has it
+abbrev pub partner : List Pair → ℕ → Option ℕ
+partner pairs step = option_map first_step (find (is_of step) pairs)
+
+-- the first step of a race, where the second is this one
+abbrev pub first_of : ℕ → Option Pair → Option ℕ
+first_of step None = None
+first_of step (Some pair) = if pair.second == step then Some pair.first else None
+
+-- a list has the second step of a race with no step behind the first one, and not with the first one either
+abbrev pub IsUnlisted : List Pair → Pair → Type 0
+IsUnlisted pairs pair = IfSome (partner pairs pair.second) (λ other. other < pair.first)
