@@ -1,3 +1,4 @@
+pub mod Bare
 pub mod Pairs
 pub mod Standing
 pub mod Texts

@@ -1,5 +1,5 @@
 -- With which step a list of races has a step.
-use Rattle.std.specs.Prelude.{ℕ, ◌<◌, ◌==◌, if◌then◌else◌, Bool, List, AllPairs, IfSome, Option, None, Some}
+use Rattle.std.specs.Prelude.{ℕ, ◌<◌, ◌==◌, if◌then◌else◌, Bool, false, List, [], ◌∷◌, AllPairs, IfSome, Option, None, Some}
 use Rattle.std.specs.List.{find}
 use Rattle.std.specs.Option.{option_map}
 use Rattle.mr_event.specs.declared.footprint.Pair.{Pair}
@@ -23,6 +23,20 @@ partner pairs step = option_map first_step (find (is_of step) pairs)
 abbrev pub first_of : ℕ → Option Pair → Option ℕ
 first_of step None = None
 first_of step (Some pair) = if pair.second == step then Some pair.first else None
+
+-- whether it is this step
+abbrev pub is_step : ℕ → Option ℕ → Bool
+is_step step None = false
+is_step step (Some other) = other == step
+
+-- whether a list has a race
+abbrev pub has : List Pair → Pair → Bool
+has pairs pair = is_step pair.first (partner pairs pair.second)
+
+-- the first list, or the other where that is empty
+abbrev pub either : List Pair → List Pair → List Pair
+either [] others = others
+either (pair ∷ pairs) others = pair ∷ pairs
 
 -- a list has the second step of a race with no step behind the first one, and not with the first one either
 abbrev pub IsUnlisted : List Pair → Pair → Type 0

@@ -3,6 +3,8 @@
 //!
 //! - [`two_orders`]: the text for the run of a program. Proved: it is exactly that of `specs/Texts.antt`, by the races that
 //!   are defined for the two orders (`mr_rust_order`, `mr_event`); want of memory is the only error.
+//! - [`bare_orders`]: the same for any run and two lists, race by race (`specs/Bare.antt`). [`either`]: which of the two
+//!   lists has races.
 //! - [`push_head`], [`push_rust_line`], [`push_machine_line`]: its first line, and the lines below a group of one list, for
 //!   other texts. `specs/Standing.antt` says what these are.
 //!
@@ -11,13 +13,16 @@
 //! of exactly one group that is told.
 #![tactic(auto)]
 
+mod bare;
 mod law;
 mod partner;
 mod reason;
 mod standing;
 mod text;
 
+pub use bare::bare_orders;
 pub use law::{each_race_is_told, lines_are_true};
+pub use partner::either;
 pub use standing::{push_head, push_machine_line, push_rust_line};
 pub use std::alloc::AllocError as OutOfMemory;
 pub use text::two_orders;

@@ -1,6 +1,6 @@
 //! With which step a list of races has a step.
 ghost use Rattle.std.specs.Prelude.{◌≡◌, nat_lt, slice_get};
-ghost use Rattle.mr_two_orders.specs.Pairs.{IsRising, first_of, partner};
+ghost use Rattle.mr_two_orders.specs.Pairs.{IsRising, either, first_of, has, is_step, partner};
 
 use mr_event::Pair;
 
@@ -38,4 +38,32 @@ pub(crate) fn partner(pairs: &[Pair], step: usize) -> Option<usize>
         { pair.second < step },
     );
     first_of(step, pair_at(pairs, place))
+}
+
+// Whether it is this step.
+fn is_step(step: usize, other: Option<usize>) -> bool
+    ensures { result ≡ is_step step other }
+{
+    match other {
+        None => false,
+        Some(other) => other == step,
+    }
+}
+
+/// Whether a list has a race.
+pub(crate) fn has(pairs: &[Pair], pair: Pair) -> bool
+    requires { IsRising pairs.now }
+    ensures { result ≡ has pairs.now pair }
+{
+    is_step(pair.first, partner(pairs, pair.second))
+}
+
+/// The first list, or the other where that is empty.
+pub fn either<'a>(pairs: &'a [Pair], others: &'a [Pair]) -> &'a [Pair]
+    ensures { result.now ≡ either pairs.now others.now }
+{
+    match pairs {
+        [] => others,
+        [_, ..] => pairs,
+    }
 }

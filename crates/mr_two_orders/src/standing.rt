@@ -24,8 +24,8 @@ fn push_both(out: &mut Vec<u8>, rust: usize, machine: usize) -> Result<(), OutOf
     push(out, " by the machine's")
 }
 
-// Appends that Rust's list alone has, and why.
-fn push_rust_alone(
+/// Appends that Rust's list alone has a race, and why.
+pub(crate) fn push_rust_alone(
     alloc: Global,
     out: &mut Vec<u8>,
     run: &[Footprint],
@@ -96,8 +96,8 @@ pub fn push_machine_line(out: &mut Vec<u8>, rust: &[Pair], pair: Pair) -> Result
     push(out, "\n")
 }
 
-// Appends how many races there are.
-fn push_races_word(out: &mut Vec<u8>, races: usize) -> Result<(), OutOfMemory>
+/// Appends how many races there are.
+pub(crate) fn push_races_word(out: &mut Vec<u8>, races: usize) -> Result<(), OutOfMemory>
     ensures { OnOk result (out.new.items ≡ out.old.items ++ races_word races) }
 {
     if races == 1 {
