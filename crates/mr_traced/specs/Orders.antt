@@ -1,7 +1,7 @@
 -- The races of a trace by two orders, as they are written: by pairs of places, those of Rust's list first; or, without
 -- places, race by race.
-use Rattle.std.specs.Prelude.{◌≡◌, ℕ, ◌==◌, if◌then◌else◌, Bool, true, false, List, [], ◌∷◌, ◌++◌, count_by, drop, flat_map}
-use Rattle.std.specs.Prelude.{length, take}
+use Rattle.std.specs.Prelude.{◌≡◌, ℕ, ◌==◌, if◌then◌else◌, Bool, true, false, List, [], ◌∷◌, ◌++◌, count_by, drop}
+use Rattle.std.specs.Prelude.{flat_map, length, take}
 use Rattle.mr_rust_order.specs.Tests.{rust_races}
 use Rattle.mr_listing.specs.declared.pairs.Group.{Group}
 use Rattle.mr_listing.specs.Races.{by_count}

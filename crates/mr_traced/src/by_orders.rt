@@ -6,8 +6,8 @@ ghost use Rattle.mr_event.specs.Predicted.{predicted};
 ghost use Rattle.mr_rust_order.specs.Tests.{rust_races};
 ghost use Rattle.mr_two_orders.specs.Pairs.{IsRising};
 ghost use Rattle.mr_traced.specs.Groups.{AreCounts, both_cmp};
-ghost use Rattle.mr_traced.specs.Orders.{by_rust, groups_text, in_order, machine_text, orders_text, placed_text, rust_text};
-ghost use Rattle.mr_traced.specs.Orders.{rust_texts};
+ghost use Rattle.mr_traced.specs.Orders.{by_rust, groups_text, in_order, machine_text, orders_text, placed_text};
+ghost use Rattle.mr_traced.specs.Orders.{rust_text, rust_texts};
 ghost use Rattle.mr_traced.specs.Seen.{seen};
 
 use crate::OutOfMemory;

@@ -15,9 +15,9 @@
 //!   that of the places ([`PlacesFault`]), or want of memory. [`fault_line`]: the line of a fault of places.
 //! - [`is_trace`]: whether bytes begin as a trace does, which no program's text can.
 //!
-//! Proved: a text is exactly that of `specs/Races.antt`, `specs/Steps.antt`, `specs/Drawn.antt` or `specs/Orders.antt`, of
-//! the run that the bytes of the trace spell (`mr_trace`), with the races that [`mr_trace::offline`] lists; each fault is the first, exactly; and want of
-//! memory is the only other error. `specs/Names.antt` says what is written of a name that has bytes which aren't
+//! Proved: a text is exactly that of `specs/Races.antt`, `specs/Steps.antt`, `specs/Drawn.antt` or `specs/Orders.antt`,
+//! of the run that the bytes of the trace spell (`mr_trace`), with the races that [`mr_trace::offline`] lists; each fault
+//! is the first, exactly; and want of memory is the only other error. `specs/Names.antt` says what is written of a name that has bytes which aren't
 //! printable. [`each_race_is_in_one_group`] is the law that no race is told twice, and none left out.
 #![tactic(auto)]
 

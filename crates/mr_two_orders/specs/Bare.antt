@@ -1,6 +1,6 @@
 -- The races of a run without places by two orders, as they are written: race by race, those of Rust's list first.
-use Rattle.std.specs.Prelude.{if◌then◌else◌, ℕ, Bool, true, false, List, [], ◌++◌, codes, decimal, drop, flat_map, length}
-use Rattle.std.specs.Prelude.{Option, None, Some, slice_get, take}
+use Rattle.std.specs.Prelude.{if◌then◌else◌, ℕ, Bool, true, false, List, [], ◌++◌, codes, decimal, drop, flat_map}
+use Rattle.std.specs.Prelude.{length, Option, None, Some, slice_get, take}
 use Rattle.mr_event.specs.Footprint.{Footprint}
 use Rattle.mr_event.specs.declared.footprint.Pair.{Pair}
 use Rattle.mr_picture.specs.Texts.{step_word}
@@ -38,8 +38,8 @@ abbrev pub bare_head : ℕ → ℕ → List ℕ
 bare_head rust machine =
     codes "Rust's order: " ++ races_word rust ++ codes "; the machine's: " ++ races_word machine ++ codes "\n"
 
--- THE RACES OF A RUN BY TWO ORDERS, without places; of the first eight of Rust's list it is told why the machine's hasn't
--- them
+-- THE RACES OF A RUN BY TWO ORDERS, without places; of the first eight of Rust's list it is told why the machine's
+-- hasn't them
 abbrev pub bare_orders : List Footprint → List Pair → List Pair → List ℕ
 bare_orders run rust machine =
     bare_head (length rust) (length machine) ++ flat_map (bare_rust true run machine) (take 8 rust)

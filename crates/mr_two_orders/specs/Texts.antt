@@ -1,6 +1,6 @@
 -- The races of a run by two orders, as they are written: by pairs of places, those of Rust's list first.
-use Rattle.std.specs.Prelude.{ℕ, ◌==◌, if◌then◌else◌, Bool, true, false, List, [], ◌++◌, count_by, drop, flat_map, length}
-use Rattle.std.specs.Prelude.{take}
+use Rattle.std.specs.Prelude.{ℕ, ◌==◌, if◌then◌else◌, Bool, true, false, List, [], ◌++◌, count_by, drop, flat_map}
+use Rattle.std.specs.Prelude.{length, take}
 use Rattle.std.specs.List.{filter}
 use Rattle.mr_rust_order.specs.Tests.{rust_races}
 use Rattle.mr_listing.specs.declared.pairs.Group.{Group}

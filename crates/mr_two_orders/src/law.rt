@@ -14,9 +14,9 @@ ghost use Rattle.mr_picture.specs.Way.{way};
 ghost use Rattle.mr_two_orders.specs.Pairs.{IsUnlisted};
 ghost use Rattle.mr_two_orders.specs.Texts.{told_groups};
 
-/// A law: a race of Rust's order that the machine's list has neither itself nor with a later first step is in order by the
-/// machine's, and the other way round. Where the machine has two steps in order and Rust hasn't, some link of the machine's
-/// way is none of Rust's order: it is the one that is told, and is an edge of the machine's order.
+/// A law: a race of Rust's order that the machine's list has neither itself nor with a later first step is in order by
+/// the machine's, and the other way round. Where the machine has two steps in order and Rust hasn't, some link of the
+/// machine's way is none of Rust's order: it is the one that is told, and is an edge of the machine's order.
 pub fn lines_are_true()
     ensures machine { (run : List Footprint) (pair : Pair) → Contains (rust_races run) pair
         → IsUnlisted (predicted run) pair → HappensBefore run pair.first pair.second }

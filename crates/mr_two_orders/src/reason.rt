@@ -2,8 +2,8 @@
 ghost use Rattle.std.specs.Prelude.{◌≡◌, ◌++◌, ◌<◌, IfSome, OnOk, codes, length};
 ghost use Rattle.mr_clocks.specs.Tracked.{Tracks};
 ghost use Rattle.mr_two_orders.specs.Pairs.{IsRising, partner};
-ghost use Rattle.mr_two_orders.specs.Standing.{before_text, gap_text, in_machine, in_rust, link_text, lists_text, machine_why};
-ghost use Rattle.mr_two_orders.specs.Standing.{reason_text, rust_why, since_text};
+ghost use Rattle.mr_two_orders.specs.Standing.{before_text, gap_text, in_machine, in_rust, link_text, lists_text};
+ghost use Rattle.mr_two_orders.specs.Standing.{machine_why, reason_text, rust_why, since_text};
 
 use crate::OutOfMemory;
 use crate::partner::partner;

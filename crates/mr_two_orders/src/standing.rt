@@ -2,8 +2,8 @@
 ghost use Rattle.std.specs.Prelude.{◌≡◌, ◌++◌, OnOk};
 ghost use Rattle.mr_clocks.specs.Tracked.{Tracks};
 ghost use Rattle.mr_two_orders.specs.Pairs.{IsRising};
-ghost use Rattle.mr_two_orders.specs.Standing.{both_text, count_text, head_line, machine_line, places_word, races_word, rust_alone};
-ghost use Rattle.mr_two_orders.specs.Standing.{rust_line, standing};
+ghost use Rattle.mr_two_orders.specs.Standing.{both_text, count_text, head_line, machine_line, places_word};
+ghost use Rattle.mr_two_orders.specs.Standing.{races_word, rust_alone, rust_line, standing};
 
 use crate::OutOfMemory;
 use crate::reason::{push, push_machine_why, push_rust_why};
