@@ -1,0 +1,5 @@
+pub mod CaretLaws
+pub mod LineLaws
+pub mod Pushed
+pub mod RuleLaws
+pub mod WordLaws

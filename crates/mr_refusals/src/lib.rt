@@ -24,6 +24,7 @@ mod lines;
 mod schedules;
 mod spots;
 mod texts;
+mod words;
 
 pub use checking::{check_program, check_schedule};
 pub use heads::Source;
