@@ -39,12 +39,14 @@ feeds_next text at left new within some is =
 feeds_more : (n : ℕ) (text : List ℕ) → behind_feeds (suc n) text ≡ behind_feeds 1 (behind_feeds n text)
 feeds_more zero text = refl
 feeds_more (suc n) [] = refl
-feeds_more (suc n) (b ∷ bs) = go (b == 10)
+feeds_more (suc n) (b ∷ bs) = go (b == 10) (feeds_more n bs) (feeds_more (suc n) bs)
   where
-    go : (feed : Bool) → (if feed then behind_feeds (suc n) bs else behind_feeds (suc (suc n)) bs)
+    go : (feed : Bool) → behind_feeds (suc n) bs ≡ behind_feeds 1 (behind_feeds n bs)
+        → behind_feeds (suc (suc n)) bs ≡ behind_feeds 1 (behind_feeds (suc n) bs)
+        → (if feed then behind_feeds (suc n) bs else behind_feeds (suc (suc n)) bs)
         ≡ behind_feeds 1 (if feed then behind_feeds n bs else behind_feeds (suc n) bs)
-    go true = feeds_more n bs
-    go false = feeds_more (suc n) bs
+    go true here later = here
+    go false here later = later
 
 -- ---- the first line of a text
 
@@ -53,12 +55,14 @@ line_grows : (xs : List ℕ) (n : ℕ) → n < length xs → n ≤ prefix_len is
     → n + 1 ≤ prefix_len is_inline xs
 line_grows [] n within le inline = absurd (omega (arith, within))
 line_grows (x ∷ xs) zero within le inline = rw inline (omega arith)
-line_grows (x ∷ xs) (suc n) within le inline = go (is_inline x) le
+line_grows (x ∷ xs) (suc n) within le inline =
+    go (is_inline x) (λ h. line_grows xs n (omega (arith, within)) h inline) le
   where
-    go : (b : Bool) → suc n ≤ (if b then 1 + prefix_len is_inline xs else 0)
+    go : (b : Bool) → (n ≤ prefix_len is_inline xs → n + 1 ≤ prefix_len is_inline xs)
+        → suc n ≤ (if b then 1 + prefix_len is_inline xs else 0)
         → suc n + 1 ≤ (if b then 1 + prefix_len is_inline xs else 0)
-    go true le = let more = line_grows xs n (omega (arith, within)) (omega (arith, le)) inline in omega (arith, more)
-    go false le = absurd (omega (arith, le))
+    go true more le = let rest = more (omega (arith, le)) in omega (arith, rest)
+    go false more le = absurd (omega (arith, le))
 
 -- and ends at one that does
 line_ends : (xs : List ℕ) (n : ℕ) → n < length xs → n ≤ prefix_len is_inline xs → is_inline (get_or xs n 0) ≡ false
@@ -69,14 +73,16 @@ line_ends (x ∷ xs) zero within le feed = go (x == 10) feed
     go : (b : Bool) → not b ≡ false → (if b then behind_feeds 0 xs else behind_feeds 1 xs) ≡ drop 1 (x ∷ xs)
     go true e = refl
     go false e = absurd (cc)
-line_ends (x ∷ xs) (suc n) within le feed = go (x == 10) le
+line_ends (x ∷ xs) (suc n) within le feed =
+    go (x == 10) (λ h. line_ends xs n (omega (arith, within)) h feed) le
   where
-    go : (b : Bool) → suc n ≤ (if not b then 1 + prefix_len is_inline xs else 0)
+    go : (b : Bool) → (n ≤ prefix_len is_inline xs → behind_feeds 1 xs ≡ drop (n + 1) xs)
+        → suc n ≤ (if not b then 1 + prefix_len is_inline xs else 0)
         → (if b then behind_feeds 0 xs else behind_feeds 1 xs) ≡ drop (suc n + 1) (x ∷ xs)
-    go true le = absurd (omega (arith, le))
-    go false le =
+    go true more le = absurd (omega (arith, le))
+    go false more le =
         let one : suc (n + 1) ≡ suc n + 1 = omega arith in
-        line_ends xs n (omega (arith, within)) (omega (arith, le)) feed ∙ ap (λ k. drop k (x ∷ xs)) one
+        more (omega (arith, le)) ∙ ap (λ k. drop k (x ∷ xs)) one
 
 -- what stands at a position of the first line
 line_byte : (xs : List ℕ) (n : ℕ) → n ≤ prefix_len is_inline xs
@@ -89,14 +95,16 @@ line_byte (x ∷ xs) zero le = go (is_inline x)
         let more : 1 + prefix_len is_inline xs ≡ suc (prefix_len is_inline xs) = omega arith in
         ap (λ k. slice_get (take k (x ∷ xs)) 0) more
     go false = refl
-line_byte (x ∷ xs) (suc n) le = go (is_inline x) le
+line_byte (x ∷ xs) (suc n) le = go (is_inline x) (line_byte xs n) le
   where
-    go : (b : Bool) → suc n ≤ (if b then 1 + prefix_len is_inline xs else 0)
+    go : (b : Bool)
+        → (n ≤ prefix_len is_inline xs → slice_get (take (prefix_len is_inline xs) xs) n ≡ inline_byte (slice_get xs n))
+        → suc n ≤ (if b then 1 + prefix_len is_inline xs else 0)
         → slice_get (take (if b then 1 + prefix_len is_inline xs else 0) (x ∷ xs)) (suc n) ≡ inline_byte (slice_get xs n)
-    go true le =
+    go true rest le =
         let more : 1 + prefix_len is_inline xs ≡ suc (prefix_len is_inline xs) = omega arith in
-        ap (λ k. slice_get (take k (x ∷ xs)) (suc n)) more ∙ line_byte xs n (omega (arith, le))
-    go false le = absurd (omega (arith, le))
+        ap (λ k. slice_get (take k (x ∷ xs)) (suc n)) more ∙ rest (omega (arith, le))
+    go false rest le = absurd (omega (arith, le))
 
 -- ---- the line of a place
 
