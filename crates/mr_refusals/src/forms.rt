@@ -26,7 +26,8 @@ fn push_block(
         out.extend_from_slice(b", block ")?;
         out.extend_from_slice(block_word(p, function, name.0).as_bytes())?;
     }
-    out.extend_from_slice(b"\n")
+    out.push(b'\n')?;
+    Ok(())
 }
 
 // Appends in which global a rule is broken.
@@ -36,7 +37,8 @@ fn push_global(out: &mut Vec<u8>, p: &Program, global: u32) -> Result<(), OutOfM
 {
     out.extend_from_slice(b"in global ")?;
     out.extend_from_slice(p.global_name(GlobalName(global)).as_bytes())?;
-    out.extend_from_slice(b"\n")
+    out.push(b'\n')?;
+    Ok(())
 }
 
 // Appends in which function and block a rule is broken.

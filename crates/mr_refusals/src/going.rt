@@ -163,5 +163,6 @@ pub(crate) fn push_may_stand(
     push_number(alloc, out, front, line)?;
     push_words(alloc, out, front, line, &FIXED_WORDS)?;
     push_end(alloc, out, front)?;
-    out.extend_from_slice(b"\n")
+    out.push(b'\n')?;
+    Ok(())
 }

@@ -33,7 +33,8 @@ fn push_said(out: &mut Vec<u8>, code: u8, name: &str, what: &str) -> Result<(), 
     out.push(b' ')?;
     out.extend_from_slice(name.as_bytes())?;
     out.extend_from_slice(b": ")?;
-    out.extend_from_slice(what.as_bytes())
+    out.extend_from_slice(what.as_bytes())?;
+    Ok(())
 }
 
 // The same of an entry, if there is one.
@@ -109,7 +110,8 @@ pub(crate) fn push_bare(out: &mut Vec<u8>, file: &str, code: u8) -> Result<(), O
     out.extend_from_slice(file.as_bytes())?;
     out.extend_from_slice(b": ")?;
     push_code(out, code)?;
-    out.extend_from_slice(b"\n")
+    out.push(b'\n')?;
+    Ok(())
 }
 
 /// Appends a line of a file, with the caret under its first byte.

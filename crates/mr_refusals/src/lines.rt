@@ -123,5 +123,6 @@ pub(crate) fn push_lines(out: &mut Vec<u8>, line: &[u8], before: usize) -> Resul
     push_shown(out, part_from(line, from))?;
     out.extend_from_slice(b"\n    ")?;
     push_blanks(out, before - from)?;
-    out.extend_from_slice(b"^\n")
+    out.extend_from_slice(b"^\n")?;
+    Ok(())
 }

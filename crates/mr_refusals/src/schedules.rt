@@ -49,5 +49,6 @@ pub(crate) fn push_legal(out: &mut Vec<u8>, file: &str, count: usize) -> Result<
     out.extend_from_slice(file.as_bytes())?;
     out.extend_from_slice(b": legal, ")?;
     push_number(out, count as u64)?;
-    out.extend_from_slice(b" entries\n")
+    out.extend_from_slice(b" entries\n")?;
+    Ok(())
 }

@@ -87,7 +87,8 @@ fn push_word(out: &mut Vec<u8>, code: u8, word: &[u8]) -> Result<(), OutOfMemory
 {
     push_lead(out, code)?;
     out.extend_from_slice(front(word, WIDTH))?;
-    out.extend_from_slice(b"`\n")
+    out.extend_from_slice(b"`\n")?;
+    Ok(())
 }
 
 // Appends what stands at a fault, a token or the end, and what may.
@@ -119,7 +120,8 @@ fn push_bad(out: &mut Vec<u8>, byte: u8) -> Result<(), OutOfMemory>
 {
     out.extend_from_slice(b"the byte is ")?;
     push_number(out, u64::from(byte))?;
-    out.extend_from_slice(b"\n")
+    out.push(b'\n')?;
+    Ok(())
 }
 
 // The same, if it is there and is what is wrong.
