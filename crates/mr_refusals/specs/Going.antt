@@ -1,6 +1,7 @@
 -- What may stand at a place of a text: each word with which, written there, the text goes on.
 use Rattle.std.specs.Prelude.{◌≡◌, ℕ, ◌==◌, ◌&&◌, ◌||◌, nat_lt, Bool, true, if◌then◌else◌, List, [], ◌∷◌, ◌++◌, codes}
 use Rattle.std.specs.Prelude.{flat_map, Option, None, Some, Result, Ok, Err}
+use Rattle.std.specs.List.{filter}
 use Rattle.mr_ast.specs.declared.program.Program.{Program}
 use Rattle.mr_ast.specs.Words.{Texts}
 use Rattle.mr_lex.specs.declared.token.TextFault.{TextFault}
@@ -89,9 +90,13 @@ if_going front line word told = if goes front line word then told else []
 abbrev pub word_told : List ℕ → ℕ → List ℕ → List ℕ
 word_told front line word = if_going front line word (codes " " ++ word)
 
--- those of a list that go
+-- THOSE OF SOME WORDS THAT GO, and no other
+abbrev pub going_words : List ℕ → ℕ → Texts → Texts
+going_words front line words = filter (goes front line) words
+
+-- each behind a blank
 abbrev pub words_told : List ℕ → ℕ → Texts → List ℕ
-words_told front line words = flat_map (word_told front line) words
+words_told front line words = flat_map (λ word. codes " " ++ word) (going_words front line words)
 
 -- a name; and where none goes, the words that may be names
 abbrev pub named_told : List ℕ → ℕ → List ℕ
