@@ -1,8 +1,9 @@
 -- Texts that a loop makes, a byte or a word after the other.
 use Rattle.std.proofs.Common.{◌≡◌, ℕ, zero, suc, ◌+◌, ◌<◌, Bool, List, [], ◌∷◌, ◌++◌, length, get_or, take, drop, map, refl, sym, ap, ◌∙◌}
-use Rattle.std.proofs.Common.{append_assoc}
-use Rattle.std.specs.Prelude.{cond, Option, None, Some, slice_get, replicate}
+use Rattle.std.proofs.Common.{append_assoc, arith}
+use Rattle.std.specs.Prelude.{cond, if◌then◌else◌, Option, None, Some, slice_get, replicate}
 use Rattle.std.specs.List.{find}
+use Rattle.mr_refusals.specs.Spots.{last_of}
 use Rattle.std.proofs.lemmas.List.{map-append, replicate_more, take_more}
 
 -- a byte more is shown
@@ -23,3 +24,13 @@ pub found_from : {X : Type 0} (test : X → Bool) (xs : List X) (i : ℕ) (x : X
 found_from test [] i x at = absurd (cc)
 found_from test (y ∷ xs) zero x at = let same : y ≡ x = cc in ap (λ z. find test (z ∷ xs)) same
 found_from test (y ∷ xs) (suc i) x at = found_from test xs i x at
+
+-- a position within the list has an element
+pub there : {X : Type 0} (xs : List X) (i : ℕ) → i < length xs → slice_get xs i ≡ None → ⊥
+there [] i lt none = omega (arith, lt)
+there (x ∷ xs) zero lt none = cc
+there (x ∷ xs) (suc i) lt none = there xs i (omega (arith, lt)) none
+
+-- one number more of which the last that passes is wanted
+pub last_next : (test : ℕ → Bool) (n : ℕ) → last_of test (n + 1) ≡ (if test n then Some n else last_of test n)
+last_next test n = let one : n + 1 ≡ suc n = omega arith in ap (last_of test) one

@@ -13,6 +13,16 @@ use mr_places::Spot;
 use mr_typing::{FormFault, Item};
 use std::alloc::Global;
 
+// Appends in which block a rule is broken.
+fn push_named_block(out: &mut Vec<u8>, name: &str) -> Result<(), OutOfMemory>
+    ensures { OnOk result (out.new.items ≡ out.old.items ++ (codes ", block " ++ name.now ++ codes "\n")) }
+{
+    out.extend_from_slice(b", block ")?;
+    out.extend_from_slice(name.as_bytes())?;
+    out.push(b'\n')?;
+    Ok(())
+}
+
 // Appends in which block of a function a rule is broken, if in one.
 fn push_block(
     out: &mut Vec<u8>,
@@ -22,12 +32,10 @@ fn push_block(
 ) -> Result<(), OutOfMemory>
     ensures { OnOk result (out.new.items ≡ out.old.items ++ block_told p.now function block) }
 {
-    if let Some(name) = block {
-        out.extend_from_slice(b", block ")?;
-        out.extend_from_slice(block_word(p, function, name.0).as_bytes())?;
+    match block {
+        Some(name) => push_named_block(out, block_word(p, function, name.0)),
+        None => out.extend_from_slice(b"\n"),
     }
-    out.push(b'\n')?;
-    Ok(())
 }
 
 // Appends in which global a rule is broken.

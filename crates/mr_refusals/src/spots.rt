@@ -1,6 +1,6 @@
 //! Where what a broken rule is told of begins in the text: its statement or terminator; outside blocks the local, the
 //! function or the global.
-ghost use Rattle.std.specs.Prelude.{◌≡◌, ◌+◌, ◌^◌, ◌<◌, IfOk, length, slice_get};
+ghost use Rattle.std.specs.Prelude.{◌≡◌, ◌+◌, ◌^◌, ◌<◌, IfOk, Some, if◌then◌else◌, length, slice_get};
 ghost use Rattle.mr_labels.specs.Words.{local_word};
 ghost use Rattle.mr_lex.specs.Reading.{lexed};
 ghost use Rattle.mr_refusals.specs.Spots.{function_spot, global_spot, head_spot, is_before, is_head, is_of_type};
@@ -71,6 +71,13 @@ fn is_head(tokens: &Tokens<'_>, first: &[u8], second: &[u8], byte: usize, at: us
     is_pair(&*tokens, first, second, at) && is_before(&*tokens, byte, at + 4)
 }
 
+// The number of a token, where it passes, and else the one before.
+fn later(found: Option<usize>, at: usize, passes: bool) -> Option<usize>
+    ensures { result ≡ (if passes then Some at else found) }
+{
+    if passes { Some(at) } else { found }
+}
+
 // The last token at which two words stand, with three more in front of a byte.
 fn last_head(tokens: &Tokens<'_>, first: &[u8], second: &[u8], byte: usize) -> Option<usize>
     requires { length tokens.now + 4 < 2 ^ 64 }
@@ -78,9 +85,7 @@ fn last_head(tokens: &Tokens<'_>, first: &[u8], second: &[u8], byte: usize) -> O
 {
     let mut found = None;
     for at in 0..tokens.len() {
-        if is_head(&*tokens, first, second, byte, at) {
-            found = Some(at);
-        }
+        found = later(found, at, is_head(&*tokens, first, second, byte, at));
     }
     found
 }

@@ -33,10 +33,11 @@ fn token_at<'a>(tokens: &Tokens<'a>, line: u32, col: u32) -> Option<Token<'a>>
     ensures { option_map lexeme_of result ≡ find (begins_at line col) tokens.now }
 {
     for i in 0..tokens.len() {
-        if let Some(token) = tokens.get(i) {
-            if begins_at(&token, line, col) {
-                return Some(token);
-            }
+        let Some(token) = tokens.get(i) else {
+            return None;
+        };
+        if begins_at(&token, line, col) {
+            return Some(token);
         }
     }
     None
