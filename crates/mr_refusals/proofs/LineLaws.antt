@@ -1,12 +1,12 @@
 -- What stands behind line feeds, and where a place lies on its line.
 use Rattle.std.proofs.Common.{◌≡◌, ℕ, zero, suc, ◌+◌, ◌-◌, ◌==◌, ◌<◌, ◌≤◌, Bool, true, false, not, if◌then◌else◌, List, []}
 use Rattle.std.proofs.Common.{◌∷◌, length, get_or, drop, take, refl, sym, ap, ◌∙◌, arith, subst}
-use Rattle.std.specs.Prelude.{Option, None, Some, slice_get}
-use Rattle.std.specs.List.{prefix_len}
-use Rattle.std.proofs.lemmas.List.{drop_more, drop-drop, get_or-drop, length-drop}
+use Rattle.std.specs.Prelude.{IsTrue, Option, None, Some, slice_get}
+use Rattle.std.specs.List.{AllByRecursion, prefix_len}
+use Rattle.std.proofs.lemmas.List.{drop_all, drop_more, drop-drop, get_or-drop, length-drop}
 use Rattle.mr_lex.specs.Bytes.{is_inline}
 use Rattle.mr_lex.specs.Places.{column_of, line_of}
-use Rattle.mr_lex.proofs.PlaceLaws.{column_of-feed, column_of-inline, column_of-le, line_of-feed, line_of-inline}
+use Rattle.mr_lex.proofs.PlaceLaws.{StaysInLine, column_of-feed, column_of-le, line_of-feed, stays_in_line}
 use Rattle.mr_refusals.specs.Lines.{behind_feeds, inline_byte, line_at}
 use Rattle.mr_refusals.proofs.CaretLaws.{get_drop}
 
@@ -34,6 +34,12 @@ pub feeds_next : (text : List ℕ) (at left new : ℕ) → at < length text → 
 feeds_next text at left new within some is =
     ap (λ k. behind_feeds k (drop (at + 1) text)) is ∙ feeds_step (get_or text at 0) (drop (at + 1) text) left some
     ∙ ap (behind_feeds left) (sym (drop_more text at 0 within))
+
+-- at the end of a text nothing stands behind those that are left
+pub feeds_end : (text : List ℕ) (at left end : ℕ) (all : List ℕ) → length text ≤ at → length text ≤ end
+    → behind_feeds left (drop at text) ≡ all → drop end text ≡ all
+feeds_end text at left end all past done is =
+    drop_all end text done ∙ sym (feeds_none left) ∙ ap (behind_feeds left) (sym (drop_all at text past)) ∙ is
 
 -- one line feed more
 feeds_more : (n : ℕ) (text : List ℕ) → behind_feeds (suc n) text ≡ behind_feeds 1 (behind_feeds n text)
@@ -117,6 +123,12 @@ record OnLine (text : List ℕ) (at : ℕ) : Type 0 where
   begins : drop (start_of text at) text ≡ behind_feeds (line_of text at - 1) text
   reaches : column_of text at - 1 ≤ prefix_len is_inline (drop (start_of text at) text)
 
+-- behind a byte in the line
+stays : (text : List ℕ) (at : ℕ) → at < length text → is_inline (get_or text at 0) ≡ true → StaysInLine text at 1
+stays text at lt inline =
+    stays_in_line text at 1 (omega arith)
+    (subst (λ bytes. AllByRecursion (λ b. IsTrue (is_inline b)) (take 1 bytes)) (sym (drop_more text at 0 lt)) (inline, tt))
+
 module _ (text : List ℕ) (at : ℕ) (lt : at < length text) (h : OnLine text at) where
   within : column_of text at - 1 < length (drop (start_of text at) text)
   within = omega (arith, lt, column_of-le text at, length-drop (start_of text at) text)
@@ -128,12 +140,13 @@ module _ (text : List ℕ) (at : ℕ) (lt : at < length text) (h : OnLine text a
 
   line_stays : is_inline (get_or text at 0) ≡ true → OnLine text (at + 1)
   line_stays inline =
-      let col = column_of-inline text at lt inline in
+      let stay = stays text at lt inline in
+      let col = stay.col in
       let same : start_of text (at + 1) ≡ start_of text at = omega (arith, col, column_of-le text at) in
       record {
         begins =
             ap (λ k. drop k text) same ∙ h.begins
-            ∙ ap (λ n. behind_feeds (n - 1) text) (sym (line_of-inline text at lt inline));
+            ∙ ap (λ n. behind_feeds (n - 1) text) (sym stay.line);
         reaches =
             let grown = line_grows (drop (start_of text at) text) (column_of text at - 1) within h.reaches (ap is_inline byte_is ∙ inline) in
             subst (λ k. column_of text (at + 1) - 1 ≤ prefix_len is_inline (drop k text)) (sym same) (omega (arith, grown, col));

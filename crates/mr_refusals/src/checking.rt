@@ -36,7 +36,7 @@ pub(crate) enum Reading {
 
 // What is told of the first fault of a text.
 fn text_written(alloc: Global, source: Source<'_>, fault: TextFault) -> Result<Written, OutOfMemory>
-    ensures answer { IfOk result (λ w. seen w ≡ text_answer source.name.now source.text.now fault) }
+    ensures answer { IfOk result (λ w. seen w ≡ text_answer source.entry.name.now source.entry.text.now fault) }
     ensures status { IfOk result (λ w. IsStatus w.status) }
 {
     let mut text = Vec::new(alloc);
@@ -51,7 +51,7 @@ fn form_written(
     p: &Program,
     fault: FormFault,
 ) -> Result<Written, OutOfMemory>
-    ensures answer { IfOk result (λ w. seen w ≡ form_answer source.name.now source.text.now p.now fault) }
+    ensures answer { IfOk result (λ w. seen w ≡ form_answer source.entry.name.now source.entry.text.now p.now fault) }
     ensures status { IfOk result (λ w. IsStatus w.status) }
 {
     let mut text = Vec::new(alloc);
@@ -63,7 +63,7 @@ fn form_written(
 fn read_program(alloc: Global, source: Source<'_>, p: Program) -> Result<Reading, OutOfMemory>
     requires shaped { Shaped p }
     requires parsed { parsed source.text.now ≡ Ok p }
-    ensures { IfOk result (IsReading source.name.now source.text.now) }
+    ensures { IfOk result (IsReading source.entry.name.now source.entry.text.now) }
 {
     match well_formed(alloc, p) {
         Ok(checked) => Ok(Reading::Well(checked)),
@@ -77,7 +77,7 @@ fn read_program(alloc: Global, source: Source<'_>, p: Program) -> Result<Reading
 
 // The program of a text, where it breaks no rule, and else what is told of the text.
 fn read_text(alloc: Global, source: Source<'_>) -> Result<Reading, OutOfMemory>
-    ensures { IfOk result (IsReading source.name.now source.text.now) }
+    ensures { IfOk result (IsReading source.entry.name.now source.entry.text.now) }
 {
     match parse(alloc, source.text) {
         Ok(p) => read_program(alloc, source, p),
@@ -102,7 +102,7 @@ fn well_written(alloc: Global, file: &str) -> Result<Written, OutOfMemory>
 /// What is said of a program by its text: its first fault, or the first rule that the program breaks, or that it breaks
 /// none. An `Err` is for want of memory.
 pub fn check_program(alloc: Global, program: Source<'_>) -> Result<Written, OutOfMemory>
-    ensures answer { IfOk result (λ w. seen w ≡ program_answer program.name.now program.text.now) }
+    ensures answer { IfOk result (λ w. seen w ≡ program_answer program.entry.name.now program.entry.text.now) }
     ensures status { IfOk result (λ w. IsStatus w.status) }
 {
     match read_text(alloc, program)? {
@@ -118,7 +118,7 @@ fn line_written(
     line: u32,
     code: u8,
 ) -> Result<Written, OutOfMemory>
-    ensures answer { IfOk result (λ w. seen w ≡ line_answer source.name.now source.text.now line code) }
+    ensures answer { IfOk result (λ w. seen w ≡ line_answer source.entry.name.now source.entry.text.now line code) }
     ensures status { IfOk result (λ w. IsStatus w.status) }
 {
     let mut text = Vec::new(alloc);
@@ -136,7 +136,7 @@ fn entries_written(
 ) -> Result<Written, OutOfMemory>
     requires { length w.now.entries ≤ 2 ^ 22 }
     ensures answer { IfOk result (λ x. (p : Program) → GoesTo p w.now reached.now
-        → seen x ≡ entries_answer source.name.now source.text.now p v w.now (schedule_fault p w.now)) }
+        → seen x ≡ entries_answer source.entry.name.now source.entry.text.now p v w.now (schedule_fault p w.now)) }
     ensures status { IfOk result (λ x. IsStatus x.status) }
 {
     let mut text = Vec::new(alloc);
@@ -162,7 +162,7 @@ fn run_written(
 ) -> Result<Written, OutOfMemory>
     requires { length w.now.entries ≤ 2 ^ 22 }
     ensures answer { IfOk result (λ x. seen x
-        ≡ start_answer source.name.now source.text.now p.now v w.now (start_fault p.now w.now.start)) }
+        ≡ start_answer source.entry.name.now source.entry.text.now p.now v w.now (start_fault p.now w.now.start)) }
     ensures status { IfOk result (λ x. IsStatus x.status) }
 {
     match reach(alloc, p, w) {
@@ -175,7 +175,7 @@ fn run_written(
 // What is said of a schedule of a program that breaks no rule.
 fn schedule_written(alloc: Global, source: Source<'_>, p: &Checked) -> Result<Written, OutOfMemory>
     ensures answer { IfOk result (λ w. seen w
-        ≡ spelled_answer source.name.now source.text.now p.now (schedule_of source.text.now)) }
+        ≡ spelled_answer source.entry.name.now source.entry.text.now p.now (schedule_of source.entry.text.now)) }
     ensures status { IfOk result (λ w. IsStatus w.status) }
 {
     match read_version(alloc, source.text) {
@@ -192,8 +192,8 @@ pub fn check_schedule(
     program: Source<'_>,
     schedule: Source<'_>,
 ) -> Result<Written, OutOfMemory>
-    ensures answer { IfOk result (λ w. seen w ≡ schedule_answer program.name.now program.text.now
-        schedule.name.now schedule.text.now) }
+    ensures answer { IfOk result (λ w. seen w ≡ schedule_answer program.entry.name.now program.entry.text.now
+        schedule.entry.name.now schedule.entry.text.now) }
     ensures status { IfOk result (λ w. IsStatus w.status) }
 {
     match read_text(alloc, program)? {

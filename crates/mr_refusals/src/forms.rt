@@ -86,7 +86,7 @@ fn push_spot(
     spot: Option<Spot>,
 ) -> Result<(), OutOfMemory>
     ensures { OnOk result (out.new.items
-        ≡ out.old.items ++ spot_told source.name.now source.text.now code spot) }
+        ≡ out.old.items ++ spot_told source.entry.name.now source.entry.text.now code spot) }
 {
     match spot {
         Some(spot) => {
@@ -109,7 +109,7 @@ pub(crate) fn push_form_fault(
     fault: FormFault,
 ) -> Result<(), OutOfMemory>
     ensures { OnOk result (out.new.items
-        ≡ out.old.items ++ form_told source.name.now source.text.now p.now fault) }
+        ≡ out.old.items ++ form_told source.entry.name.now source.entry.text.now p.now fault) }
 {
     let spot = spot_of(alloc, source.text, p, fault)?;
     push_spot(out, source, fault.code, spot)?;

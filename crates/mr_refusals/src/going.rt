@@ -1,7 +1,7 @@
 //! What may stand at a place of a text.
 ghost use Rattle.std.specs.Prelude.{◌≡◌, ◌++◌, IfOk, OnOk, codes, map};
 ghost use Rattle.mr_grammar.specs.Parsing.{parsed};
-ghost use Rattle.mr_refusals.specs.Going.{a_number, end_told, fault_in, goes, if_going, is_of_names, is_past, is_whole};
+ghost use Rattle.mr_refusals.specs.Going.{a_number, end_told, fault_in, fixed_words, goes, if_going, keywords, is_of_names, is_past, is_whole};
 ghost use Rattle.mr_refusals.specs.Going.{may_go, may_stand, named_told, tried, word_told, words_told};
 
 use crate::OutOfMemory;
@@ -115,6 +115,25 @@ fn push_words(
     Ok(())
 }
 
+// Appends the words that go and may be names.
+fn push_keywords(
+    alloc: Global,
+    out: &mut Vec<u8>,
+    front: &[u8],
+    line: u64,
+) -> Result<(), OutOfMemory>
+    ensures { OnOk result (out.new.items ≡ out.old.items ++ words_told front.now line keywords) }
+{
+    push_words(alloc, out, front, line, &KEYWORDS)
+}
+
+// Appends the words that go and may be no names, and the signs.
+fn push_fixed(alloc: Global, out: &mut Vec<u8>, front: &[u8], line: u64) -> Result<(), OutOfMemory>
+    ensures { OnOk result (out.new.items ≡ out.old.items ++ words_told front.now line fixed_words) }
+{
+    push_words(alloc, out, front, line, &FIXED_WORDS)
+}
+
 // Appends that a name goes; or, where none does, the words that go and may be names.
 fn push_named(alloc: Global, out: &mut Vec<u8>, front: &[u8], line: u64) -> Result<(), OutOfMemory>
     ensures { OnOk result (out.new.items ≡ out.old.items ++ named_told front.now line) }
@@ -122,7 +141,7 @@ fn push_named(alloc: Global, out: &mut Vec<u8>, front: &[u8], line: u64) -> Resu
     if goes(alloc, front, line, A_NAME)? {
         out.extend_from_slice(b" NAME")
     } else {
-        push_words(alloc, out, front, line, &KEYWORDS)
+        push_keywords(alloc, out, front, line)
     }
 }
 
@@ -161,7 +180,7 @@ pub(crate) fn push_may_stand(
     out.extend_from_slice(b"here may stand:")?;
     push_named(alloc, out, front, line)?;
     push_number(alloc, out, front, line)?;
-    push_words(alloc, out, front, line, &FIXED_WORDS)?;
+    push_fixed(alloc, out, front, line)?;
     push_end(alloc, out, front)?;
     out.push(b'\n')?;
     Ok(())

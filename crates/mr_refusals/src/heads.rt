@@ -94,7 +94,7 @@ pub(crate) fn push_fault(
     code: u8,
 ) -> Result<(), OutOfMemory>
     ensures { OnOk result (out.new.items
-        ≡ out.old.items ++ marked_text source.name.now source.text.now mark.line mark.col code) }
+        ≡ out.old.items ++ marked_text source.entry.name.now source.entry.text.now mark.line mark.col code) }
 {
     push_place(out, source.name, mark)?;
     out.extend_from_slice(b": ")?;
@@ -120,7 +120,7 @@ pub(crate) fn push_file_line(
     source: Source<'_>,
     line: u32,
 ) -> Result<(), OutOfMemory>
-    ensures { OnOk result (out.new.items ≡ out.old.items ++ line_told source.name.now source.text.now line) }
+    ensures { OnOk result (out.new.items ≡ out.old.items ++ line_told source.entry.name.now source.entry.text.now line) }
 {
     let mark = Mark { line, col: 1 };
     push_place(out, source.name, mark)?;

@@ -79,6 +79,17 @@ fn cut_from(before: usize) -> usize
     if before < 90 { 0 } else { before - 60 }
 }
 
+/// The first bytes of a text.
+pub(crate) fn front(text: &[u8], count: usize) -> &[u8]
+    ensures { result.now ≡ take count text.now }
+{
+    if count < text.len() {
+        &text[..count]
+    } else {
+        text
+    }
+}
+
 // As many bytes as are shown at most, from one on.
 fn part_from(line: &[u8], from: usize) -> &[u8]
     ensures { result.now ≡ take 120 (drop from line.now) }
@@ -86,12 +97,7 @@ fn part_from(line: &[u8], from: usize) -> &[u8]
     if from >= line.len() {
         return &line[line.len()..];
     }
-    let rest = &line[from..];
-    if rest.len() <= WIDTH {
-        rest
-    } else {
-        &rest[..WIDTH]
-    }
+    front(&line[from..], WIDTH)
 }
 
 // Appends bytes as they are shown.

@@ -17,7 +17,7 @@ fn push_entry(
     broken: &Broken,
 ) -> Result<(), OutOfMemory>
     ensures { OnOk result (out.new.items
-        ≡ out.old.items ++ entry_told source.name.now source.text.now line entry.now broken.now) }
+        ≡ out.old.items ++ entry_told source.entry.name.now source.entry.text.now line entry.now broken.now) }
 {
     push_file_line(out, source, line)?;
     push_broken(out, sentence_of(broken.code), entry, broken)
@@ -32,7 +32,7 @@ pub(crate) fn push_rule(
     broken: &Broken,
 ) -> Result<(), OutOfMemory>
     requires { length w.now.entries ≤ 2 ^ 22 }
-    ensures { OnOk result (out.new.items ≡ out.old.items ++ broken_told source.name.now source.text.now v
+    ensures { OnOk result (out.new.items ≡ out.old.items ++ broken_told source.entry.name.now source.entry.text.now v
         w.now.entries broken.now (slice_get w.now.entries (broken.now.place - 3))) }
 {
     let at = broken.place.saturating_sub(3) as usize;

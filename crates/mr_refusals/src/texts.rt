@@ -1,18 +1,18 @@
 //! The first fault of a program's text, as it is told.
-ghost use Rattle.std.specs.Prelude.{◌≡◌, ◌++◌, ◌-◌, OnOk, codes, decimal, if◌then◌else◌, option_copied, slice_get, take};
+ghost use Rattle.std.specs.Prelude.{◌≡◌, ◌++◌, ◌-◌, ◌+◌, None, OnOk, Some, codes, decimal, if◌then◌else◌, option_copied, slice_get};
 ghost use Rattle.std.specs.List.{find};
 ghost use Rattle.std.specs.Option.{option_map};
 ghost use Rattle.mr_lex.specs.Tokens.{lexeme_of};
 ghost use Rattle.mr_refusals.specs.Texts.{begins_at, byte_told, going_told, standing_told, text_told, token_told};
 ghost use Rattle.mr_refusals.specs.Texts.{word_line};
 ghost use Rattle.mr_lex.specs.Reading.{lexed};
-ghost use Rattle.mr_refusals.specs.Going.{is_of_names};
+ghost use Rattle.mr_refusals.specs.Going.{is_of_names, may_stand};
 ghost use Rattle.mr_refusals.specs.Lines.{line_at};
 
 use crate::OutOfMemory;
 use crate::going::{is_of_names, push_may_stand};
 use crate::heads::{Mark, Source, push_fault};
-use crate::lines::line_at;
+use crate::lines::{front, line_at};
 use mr_labels::push_number;
 use mr_lex::{BAD_BYTE, LexFault, TextFault, Token, Tokens, tokens};
 use mr_words::UNEXPECTED;
@@ -43,18 +43,19 @@ fn token_at<'a>(tokens: &Tokens<'a>, line: u32, col: u32) -> Option<Token<'a>>
     None
 }
 
-// The first bytes of a text.
-fn front(text: &[u8], count: usize) -> &[u8]
-    ensures { result.now ≡ take count text.now }
+// Appends what may stand at a fault, behind the text in front of it.
+fn push_behind(
+    alloc: Global,
+    out: &mut Vec<u8>,
+    fault: TextFault,
+    front: &[u8],
+) -> Result<(), OutOfMemory>
+    ensures { OnOk result (out.new.items ≡ out.old.items ++ may_stand front.now (fault.line + 1)) }
 {
-    if count < text.len() {
-        &text[..count]
-    } else {
-        text
-    }
+    push_may_stand(alloc, out, front, u64::from(fault.line) + 1)
 }
 
-// Appends what may stand at a fault, for a token that doesn't fit, behind the text in front of it.
+// The same for a token that doesn't fit.
 fn push_going(
     alloc: Global,
     out: &mut Vec<u8>,
@@ -64,7 +65,7 @@ fn push_going(
     ensures { OnOk result (out.new.items ≡ out.old.items ++ going_told fault front.now) }
 {
     if fault.code == UNEXPECTED {
-        push_may_stand(alloc, out, front, u64::from(fault.line) + 1)
+        push_behind(alloc, out, fault, front)
     } else {
         Ok(())
     }
@@ -92,6 +93,34 @@ fn push_word(out: &mut Vec<u8>, code: u8, word: &[u8]) -> Result<(), OutOfMemory
     Ok(())
 }
 
+// Appends the token that stands at a fault, and what may.
+fn push_found(
+    alloc: Global,
+    out: &mut Vec<u8>,
+    text: &[u8],
+    fault: TextFault,
+    token: Token<'_>,
+) -> Result<(), OutOfMemory>
+    ensures { OnOk result (out.new.items
+        ≡ out.old.items ++ token_told text.now fault (Some (lexeme_of token.entry))) }
+{
+    push_word(out, fault.code, token.text)?;
+    push_going(alloc, out, fault, front(text, token.at))
+}
+
+// Appends that the text ends at a fault, and what may stand there.
+fn push_text_end(
+    alloc: Global,
+    out: &mut Vec<u8>,
+    text: &[u8],
+    fault: TextFault,
+) -> Result<(), OutOfMemory>
+    ensures { OnOk result (out.new.items ≡ out.old.items ++ token_told text.now fault None) }
+{
+    out.extend_from_slice(b"the text ends here\n")?;
+    push_going(alloc, out, fault, text)
+}
+
 // Appends what stands at a fault, a token or the end, and what may.
 fn push_token(
     alloc: Global,
@@ -101,17 +130,11 @@ fn push_token(
     token: Option<Token<'_>>,
 ) -> Result<(), OutOfMemory>
     ensures { OnOk result (out.new.items
-        ≡ out.old.items ++ token_told text.now fault (option_map lexeme_of token)) }
+        ≡ out.old.items ++ token_told text.now fault (option_map lexeme_of token.entry)) }
 {
     match token {
-        Some(token) => {
-            push_word(out, fault.code, token.text)?;
-            push_going(alloc, out, fault, front(text, token.at))
-        }
-        None => {
-            out.extend_from_slice(b"the text ends here\n")?;
-            push_going(alloc, out, fault, text)
-        }
+        Some(token) => push_found(alloc, out, text, fault, token),
+        None => push_text_end(alloc, out, text, fault),
     }
 }
 
@@ -177,7 +200,7 @@ pub(crate) fn push_text_fault(
     fault: TextFault,
 ) -> Result<(), OutOfMemory>
     ensures { OnOk result (out.new.items
-        ≡ out.old.items ++ text_told source.name.now source.text.now fault) }
+        ≡ out.old.items ++ text_told source.entry.name.now source.entry.text.now fault) }
 {
     let mark = Mark {
         line: fault.line,

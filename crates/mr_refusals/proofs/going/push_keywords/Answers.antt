@@ -1,0 +1,4 @@
+use Rattle.mr_refusals.proofs.going.push_keywords.Goals as goal
+
+pub returns : goal.returns
+returns c = c.push_words.ensures
