@@ -1,4 +1,0 @@
-use Rattle.mr_refusals.proofs.going.push_keywords.Goals as goal
-
-pub returns : goal.returns
-returns c = c.push_words.ensures
