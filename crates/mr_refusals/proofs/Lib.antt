@@ -1,4 +1,4 @@
 pub mod CaretLaws
+pub mod FoundLaws
 pub mod LineLaws
-pub mod Pushed
 pub mod WordLaws

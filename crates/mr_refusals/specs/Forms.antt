@@ -1,5 +1,5 @@
 -- The first rule that a program breaks, as it is told.
-use Rattle.std.specs.Prelude.{ℕ, List, [], ◌++◌, codes, Option, None, Some, slice_get}
+use Rattle.std.specs.Prelude.{ℕ, List, ◌++◌, codes, Option, None, Some, slice_get}
 use Rattle.mr_ast.specs.declared.program.BlockName.{BlockName}
 use Rattle.mr_ast.specs.declared.program.Program.{Program}
 use Rattle.mr_ast.specs.Canon.{global_texts}

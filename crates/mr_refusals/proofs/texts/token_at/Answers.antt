@@ -2,7 +2,7 @@ use Rattle.std.proofs.Common.{◌∙◌, ap, sym}
 use Rattle.std.specs.Option.{option_map}
 use Rattle.mr_lex.specs.Tokens.{lexeme_of}
 use Rattle.mr_refusals.specs.Texts.{begins_at}
-use Rattle.mr_refusals.proofs.Pushed.{found_here, not_here}
+use Rattle.mr_refusals.proofs.FoundLaws.{found_here, not_here}
 use Rattle.mr_refusals.proofs.texts.token_at.Goals as goal
 
 pub loop-i-preserved : goal.loop-i-preserved
