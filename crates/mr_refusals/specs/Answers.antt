@@ -87,4 +87,5 @@ IsStatus status = (status ≡ 0) ⊎ ((3 ≤ status) × (status ≤ 5))
 -- a program that breaks no rule, or what refuses it, whatever would be said of it
 abbrev pub IsReading : List ℕ → List ℕ → Reading → Type 0
 IsReading file text (reading.Well p) = (parsed text ≡ Ok p) × (faults_of p ≡ [])
-IsReading file text (reading.Refused w) = ((say : Program → Answer) → seen w ≡ answer_by say file text) × IsStatus w.status
+IsReading file text (reading.Refused w) =
+    ((say : Program → Answer) → seen w ≡ answer_by say file text) × IsStatus w.status

@@ -1,7 +1,7 @@
 -- Where what a program's broken rule is told of begins in the text: its statement or terminator; outside blocks the
 -- local, the function or the global.
-use Rattle.std.specs.Prelude.{ℕ, zero, suc, ◌+◌, ◌&&◌, nat_le, nat_lt, Bool, false, if◌then◌else◌, List, [], codes, bytes_eq}
-use Rattle.std.specs.Prelude.{length, Option, None, Some, slice_get, Result, Ok, Err}
+use Rattle.std.specs.Prelude.{ℕ, zero, suc, ◌+◌, ◌&&◌, nat_le, nat_lt, Bool, false, if◌then◌else◌, List, [], codes}
+use Rattle.std.specs.Prelude.{bytes_eq, length, Option, None, Some, slice_get, Result, Ok, Err}
 use Rattle.std.specs.Option.{option_map, option_map_or}
 use Rattle.mr_ast.specs.declared.program.BlockName.{BlockName}
 use Rattle.mr_ast.specs.declared.program.Program.{Program}

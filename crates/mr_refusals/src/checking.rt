@@ -8,8 +8,8 @@ ghost use Rattle.mr_start.specs.Runs.{schedule_fault};
 ghost use Rattle.mr_start.specs.Start.{start_fault};
 ghost use Rattle.mr_input.specs.Answer.{seen};
 ghost use Rattle.mr_next.specs.Reached.{GoesTo};
-ghost use Rattle.mr_refusals.specs.Answers.{IsReading, IsStatus, entries_answer, form_answer, line_answer, program_answer};
-ghost use Rattle.mr_refusals.specs.Answers.{schedule_answer, spelled_answer, start_answer, text_answer, well_formed};
+ghost use Rattle.mr_refusals.specs.Answers.{IsReading, IsStatus, entries_answer, form_answer, line_answer};
+ghost use Rattle.mr_refusals.specs.Answers.{program_answer, schedule_answer, spelled_answer, start_answer, text_answer, well_formed};
 
 use crate::OutOfMemory;
 use crate::forms::push_form_fault;
@@ -185,8 +185,8 @@ fn schedule_written(alloc: Global, source: Source<'_>, p: &Checked) -> Result<Wr
     }
 }
 
-/// What is said of a schedule of a program, by their texts: what refuses the program; or the first fault of the schedule's
-/// text, or the first rule that it breaks, or that it is legal. An `Err` is for want of memory.
+/// What is said of a schedule of a program, by their texts: what refuses the program; or the first fault of the
+/// schedule's text, or the first rule that it breaks, or that it is legal. An `Err` is for want of memory.
 pub fn check_schedule(
     alloc: Global,
     program: Source<'_>,

@@ -1,8 +1,8 @@
 //! What may stand at a place of a text.
 ghost use Rattle.std.specs.Prelude.{◌≡◌, ◌++◌, IfOk, OnOk, codes, map};
 ghost use Rattle.mr_grammar.specs.Parsing.{parsed};
-ghost use Rattle.mr_refusals.specs.Going.{a_number, end_told, fault_in, fixed_words, goes, if_going, keywords, is_of_names, is_past, is_whole};
-ghost use Rattle.mr_refusals.specs.Going.{may_go, may_stand, named_told, tried, word_told, words_told};
+ghost use Rattle.mr_refusals.specs.Going.{a_number, end_told, fault_in, fixed_words, goes, if_going, is_of_names};
+ghost use Rattle.mr_refusals.specs.Going.{is_past, is_whole, keywords, may_go, may_stand, named_told, tried, word_told, words_told};
 
 use crate::OutOfMemory;
 use crate::words::{FIXED_WORDS, KEYWORDS};

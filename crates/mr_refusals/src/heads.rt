@@ -120,7 +120,8 @@ pub(crate) fn push_file_line(
     source: Source<'_>,
     line: u32,
 ) -> Result<(), OutOfMemory>
-    ensures { OnOk result (out.new.items ≡ out.old.items ++ line_told source.entry.name.now source.entry.text.now line) }
+    ensures { OnOk result (out.new.items
+        ≡ out.old.items ++ line_told source.entry.name.now source.entry.text.now line) }
 {
     let mark = Mark { line, col: 1 };
     push_place(out, source.name, mark)?;

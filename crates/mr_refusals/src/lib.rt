@@ -2,12 +2,12 @@
 //!
 //! - [`check_program`]: what is said of a program by its text: the first fault of the text, or the first rule that the
 //!   program breaks, or that it is well-formed.
-//! - [`check_schedule`]: the same, and of a schedule of that program: the first fault of its text, or the first rule that
-//!   it breaks, or that it is legal.
+//! - [`check_schedule`]: the same, and of a schedule of that program: the first fault of its text, or the first rule
+//!   that it breaks, or that it is legal.
 //!
-//! A fault is told with the file, the line and the column, what its code says, the line itself, and a caret. Of a text it
-//! is told too what stands there, and for a token that doesn't fit each word of the language that does. Of a schedule the
-//! entry is told, its thread and its picks.
+//! A fault is told with the file, the line and the column, what its code says, the line itself, and a caret. Of a text
+//! it is told too what stands there, and for a token that doesn't fit each word of the language that does. Of a schedule
+//! the entry is told, its thread and its picks.
 //!
 //! Proved: exactly what `specs/Answers.antt` defines over the bytes of the files alone: the fault is the first by the
 //! definitions of texts, programs and schedules, and each line is that of the text. Want of memory is the only error.

@@ -2,7 +2,7 @@
 ghost use Rattle.std.specs.Prelude.{◌≡◌, ◌++◌, ◌-◌, ◌==◌, ◌≤◌, OnOk, drop, if◌then◌else◌, length, map, replicate, take};
 ghost use Rattle.std.specs.List.{prefix_len};
 ghost use Rattle.mr_lex.specs.Bytes.{is_inline};
-ghost use Rattle.mr_refusals.specs.Lines.{behind_feeds, cut_from, line_at, shown_byte, shown_lines, shown_part};
+ghost use Rattle.mr_refusals.specs.Lines.{behind_feeds, cut_from, line_at, shown_byte, shown_lines};
 
 use crate::OutOfMemory;
 

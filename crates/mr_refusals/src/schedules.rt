@@ -1,5 +1,5 @@
 //! The first rule that a schedule breaks, as it is told.
-ghost use Rattle.std.specs.Prelude.{◌≡◌, ◌++◌, ◌-◌, ◌^◌, ◌≤◌, OnOk, length, option_copied, slice_get};
+ghost use Rattle.std.specs.Prelude.{◌≡◌, ◌++◌, ◌-◌, ◌^◌, ◌≤◌, OnOk, length, slice_get};
 ghost use Rattle.mr_refusals.specs.Schedules.{broken_told, entry_told, legal_line};
 
 use crate::OutOfMemory;

@@ -1,5 +1,5 @@
 //! The first fault of a program's text, as it is told.
-ghost use Rattle.std.specs.Prelude.{◌≡◌, ◌++◌, ◌-◌, ◌+◌, None, OnOk, Some, codes, decimal, if◌then◌else◌, option_copied, slice_get};
+ghost use Rattle.std.specs.Prelude.{◌≡◌, ◌++◌, ◌+◌, ◌-◌, None, OnOk, Some, codes, decimal, if◌then◌else◌, slice_get};
 ghost use Rattle.std.specs.List.{find};
 ghost use Rattle.std.specs.Option.{option_map};
 ghost use Rattle.mr_lex.specs.Tokens.{lexeme_of};
