@@ -50,11 +50,12 @@ use Rattle.mr_picture.specs.declared.span.Span.{Span}
 use Rattle.mr_show.specs.declared.form.Telling.{Telling}
 use Rattle.mr_show.specs.declared.form.Telling.TheVariants.{Steps}
 use Rattle.mr_why.specs.Why.{Entry, entry_of}
-use Rattle.mr_show.specs.Form.{Bare, Form, Help, Hunted, Shown, Why}
+use Rattle.mr_show.specs.Form.{Bare, CheckedProgram, CheckedSchedule, Form, Help, Hunted, Shown, Why}
 use Rattle.mr_show.specs.Outcome.{Ends, IsPossible}
 use Rattle.mr_show.specs.Second.{AsksForSecond, HoldsTrace}
 use Rattle.mr_show.specs.Traced.{bare_answer, holds_trace, placed_answer, places_answer, seen_answer, telling_of}
 use Rattle.mr_show.specs.Unread.{IsUnreadBecause, LacksFile}
+use Rattle.mr_show.proofs.CheckedLaws.{checked_six, files_six}
 
 -- ---- the status of an answer
 
@@ -222,6 +223,9 @@ module _ (files : Contents) where
   lacks (Some (Hunted range seek name program)) six =
       only_if _ _ (hunted_six range seek name program (files program) refl) six
   lacks (Some (Bare span trace)) six = bare_only span (files trace) six
+  lacks (Some (CheckedProgram name program)) six = checked_six name (files program) six
+  lacks (Some (CheckedSchedule name title program schedule)) six =
+      files_six name title (files program) (files schedule) six
   lacks (Some (Why code)) six = let least = why_least code (entry_of code) in absurd (omega (arith, least, six))
   lacks (Some (Help topic)) six = absurd (omega (arith, six))
 
