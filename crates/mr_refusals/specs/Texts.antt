@@ -1,6 +1,6 @@
 -- The first fault of a program's text, as it is told.
-use Rattle.std.specs.Prelude.{ℕ, ◌+◌, ◌-◌, ◌==◌, ◌&&◌, Bool, if◌then◌else◌, List, [], ◌++◌, codes, decimal, take}
-use Rattle.std.specs.Prelude.{Option, None, Some, slice_get, Result, Ok, Err}
+use Rattle.std.specs.Prelude.{ℕ, ◌+◌, ◌-◌, ◌^◌, ◌==◌, ◌&&◌, nat_le, Bool, if◌then◌else◌, List, [], ◌++◌, codes, decimal}
+use Rattle.std.specs.Prelude.{length, take, Option, None, Some, slice_get, Result, Ok, Err}
 use Rattle.std.specs.List.{find}
 use Rattle.mr_lex.specs.Reading.{lexed}
 use Rattle.mr_lex.specs.Tokens.{Lexeme}
@@ -13,9 +13,14 @@ use Rattle.mr_refusals.specs.Lines.{line_at}
 abbrev pub begins_at : ℕ → ℕ → Lexeme → Bool
 begins_at line col l = (l.line == line) && (l.col == col)
 
--- what may stand there, for a token that doesn't fit: behind the text in front of it
+-- whether it is told what may stand there: for a token that doesn't fit, with no more than 2^16 bytes in front of it,
+-- since all of them are read anew with each word
+abbrev pub is_tried : ℕ → List ℕ → Bool
+is_tried code front = (code == 4) && nat_le (length front) (2 ^ 16)
+
+-- what may, behind the text in front of it
 abbrev pub going_told : TextFault → List ℕ → List ℕ
-going_told f front = if f.code == 4 then may_stand front (f.line + 1) else []
+going_told f front = if is_tried f.code front then may_stand front (f.line + 1) else []
 
 -- a word that stands there, of which 60 bytes are told: a name that is unknown or stands twice, or another
 abbrev pub word_line : ℕ → List ℕ → List ℕ

@@ -9,7 +9,8 @@ ghost use Rattle.mr_start.specs.Start.{start_fault};
 ghost use Rattle.mr_input.specs.Answer.{seen};
 ghost use Rattle.mr_next.specs.Reached.{GoesTo};
 ghost use Rattle.mr_refusals.specs.Answers.{IsReading, IsStatus, entries_answer, form_answer, line_answer};
-ghost use Rattle.mr_refusals.specs.Answers.{program_answer, schedule_answer, spelled_answer, start_answer, text_answer, well_formed};
+ghost use Rattle.mr_refusals.specs.Answers.{program_answer, schedule_answer, spelled_answer, start_answer};
+ghost use Rattle.mr_refusals.specs.Answers.{text_answer, well_formed};
 
 use crate::OutOfMemory;
 use crate::forms::push_form_fault;

@@ -6,8 +6,8 @@
 //!   that it breaks, or that it is legal.
 //!
 //! A fault is told with the file, the line and the column, what its code says, the line itself, and a caret. Of a text
-//! it is told too what stands there, and for a token that doesn't fit each word of the language that does. Of a schedule
-//! the entry is told, its thread and its picks.
+//! it is told too what stands there; for a token that doesn't fit, with at most 2^16 bytes in front of it, also each
+//! word of the language that does. Of a schedule the entry is told, its thread and its picks.
 //!
 //! Proved: exactly what `specs/Answers.antt` defines over the bytes of the files alone: the fault is the first by the
 //! definitions of texts, programs and schedules, and each line is that of the text. Want of memory is the only error.

@@ -3,8 +3,8 @@ ghost use Rattle.std.specs.Prelude.{◌≡◌, ◌++◌, ◌+◌, ◌-◌, None,
 ghost use Rattle.std.specs.List.{find};
 ghost use Rattle.std.specs.Option.{option_map};
 ghost use Rattle.mr_lex.specs.Tokens.{lexeme_of};
-ghost use Rattle.mr_refusals.specs.Texts.{begins_at, byte_told, going_told, standing_told, text_told, token_told};
-ghost use Rattle.mr_refusals.specs.Texts.{word_line};
+ghost use Rattle.mr_refusals.specs.Texts.{begins_at, byte_told, going_told, is_tried, standing_told, text_told};
+ghost use Rattle.mr_refusals.specs.Texts.{token_told, word_line};
 ghost use Rattle.mr_lex.specs.Reading.{lexed};
 ghost use Rattle.mr_refusals.specs.Going.{is_of_names, may_stand};
 ghost use Rattle.mr_refusals.specs.Lines.{line_at};
@@ -20,6 +20,9 @@ use std::alloc::{AllocError, Global};
 
 // So many bytes of a word are told at most.
 const WIDTH: usize = 60;
+
+// With so many bytes in front of a fault at most it is told what may stand there: all are read anew with each word.
+const MOST_IN_FRONT: usize = 1 << 16;
 
 // Whether a token begins at a line and a column.
 fn begins_at(token: &Token<'_>, line: u32, col: u32) -> bool
@@ -55,7 +58,14 @@ fn push_behind(
     push_may_stand(alloc, out, front, u64::from(fault.line) + 1)
 }
 
-// The same for a token that doesn't fit.
+// Whether it is told what may stand at a fault: for a token that doesn't fit, not too far behind.
+fn is_tried(code: u8, front: &[u8]) -> bool
+    ensures { result ≡ is_tried code front.now }
+{
+    code == UNEXPECTED && front.len() <= MOST_IN_FRONT
+}
+
+// The same where it is told.
 fn push_going(
     alloc: Global,
     out: &mut Vec<u8>,
@@ -64,7 +74,7 @@ fn push_going(
 ) -> Result<(), OutOfMemory>
     ensures { OnOk result (out.new.items ≡ out.old.items ++ going_told fault front.now) }
 {
-    if fault.code == UNEXPECTED {
+    if is_tried(fault.code, front) {
         push_behind(alloc, out, fault, front)
     } else {
         Ok(())
