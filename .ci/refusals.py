@@ -303,6 +303,16 @@ def right(kit):
     kit.judge("refusals: a wrong program beside a schedule", (beside, ended) == (alone, 3), f"{beside[:200]} and {ended}")
 
 
+def far(kit):
+    """Behind more than 2^16 bytes it is told what stands there, and not what may."""
+    for size, may in ((1 << 16, [b"minirust"]), ((1 << 16) + 1, [])):
+        text = b"\n" * size + b"x"
+        (wrote, ended), _ = kit.of_text(text)
+        told, what = Told(wrote), f"refusals: {size} bytes in front"
+        if same_place(kit, what, text, told, 4, size):
+            kit.judge(f"{what}: what may stand", (told.word, told.may, ended) == (b"x", may, 3), f"{told.rest} and {ended}")
+
+
 def mended(kit):
     """A newcomer's text, from wrong to right by the messages alone."""
     text = SLIPPED
@@ -325,7 +335,7 @@ def mended(kit):
 def compare(judge, companion, program, at):
     """All rows."""
     kit = Kit(judge, companion, program, at)
-    for part in (texts, words_that_go, forms, schedules, right, mended):
+    for part in (texts, words_that_go, forms, schedules, right, far, mended):
         part(kit)
 
 
