@@ -26,10 +26,12 @@ pub cut_le : (before : ℕ) → cut_from before ≤ before
 cut_le before = grind (arith, nat_tests)
 
 pub over_caret : (line : List ℕ) (before : ℕ)
-    → slice_get (shown_part line (cut_from before)) (before - cut_from before) ≡ option_map shown_byte (slice_get line before)
+    → slice_get (shown_part line (cut_from before)) (before - cut_from before)
+    ≡ option_map shown_byte (slice_get line before)
 over_caret line before =
     let from = cut_from before in
     let here : from + (before - from) ≡ before = omega (arith, cut_le before) in
     slice_get-map shown_byte (take 120 (drop from line)) (before - from)
     ∙ ap (option_map shown_byte)
-    (get_take (drop from line) 120 (before - from) (cut_near before) ∙ get_drop line from (before - from) ∙ ap (slice_get line) here)
+    (get_take (drop from line) 120 (before - from) (cut_near before) ∙ get_drop line from (before - from)
+    ∙ ap (slice_get line) here)

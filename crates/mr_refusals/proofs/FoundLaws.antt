@@ -19,7 +19,7 @@ not_here test xs i x found at fails all =
     ∙ sym (found_from test xs i x at) ∙ all
 
 -- and one that does is found
-pub found_here : {X : Type 0} (test : X → Bool) (xs : List X) (i : ℕ) (x : X) (found : Option X) → slice_get xs i ≡ Some x
-    → test x ≡ true → find test (drop i xs) ≡ found → Some x ≡ found
+pub found_here : {X : Type 0} (test : X → Bool) (xs : List X) (i : ℕ) (x : X) (found : Option X)
+    → slice_get xs i ≡ Some x → test x ≡ true → find test (drop i xs) ≡ found → Some x ≡ found
 found_here test xs i x found at passes all =
     sym (ap (λ b. cond b (Some x) (find test (drop (suc i) xs))) passes) ∙ sym (found_from test xs i x at) ∙ all

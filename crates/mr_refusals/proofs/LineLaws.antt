@@ -96,7 +96,8 @@ line_byte : (xs : List ℕ) (n : ℕ) → n ≤ prefix_len is_inline xs
 line_byte [] n le = refl
 line_byte (x ∷ xs) zero le = go (is_inline x)
   where
-    go : (b : Bool) → slice_get (take (if b then 1 + prefix_len is_inline xs else 0) (x ∷ xs)) 0 ≡ (if b then Some x else None)
+    go : (b : Bool)
+        → slice_get (take (if b then 1 + prefix_len is_inline xs else 0) (x ∷ xs)) 0 ≡ (if b then Some x else None)
     go true =
         let more : 1 + prefix_len is_inline xs ≡ suc (prefix_len is_inline xs) = omega arith in
         ap (λ k. slice_get (take k (x ∷ xs)) 0) more
@@ -106,7 +107,8 @@ line_byte (x ∷ xs) (suc n) le = go (is_inline x) (line_byte xs n) le
     go : (b : Bool)
         → (n ≤ prefix_len is_inline xs → slice_get (take (prefix_len is_inline xs) xs) n ≡ inline_byte (slice_get xs n))
         → suc n ≤ (if b then 1 + prefix_len is_inline xs else 0)
-        → slice_get (take (if b then 1 + prefix_len is_inline xs else 0) (x ∷ xs)) (suc n) ≡ inline_byte (slice_get xs n)
+        → slice_get (take (if b then 1 + prefix_len is_inline xs else 0) (x ∷ xs)) (suc n)
+        ≡ inline_byte (slice_get xs n)
     go true rest le =
         let more : 1 + prefix_len is_inline xs ≡ suc (prefix_len is_inline xs) = omega arith in
         ap (λ k. slice_get (take k (x ∷ xs)) (suc n)) more ∙ rest (omega (arith, le))
@@ -127,7 +129,8 @@ record OnLine (text : List ℕ) (at : ℕ) : Type 0 where
 stays : (text : List ℕ) (at : ℕ) → at < length text → is_inline (get_or text at 0) ≡ true → StaysInLine text at 1
 stays text at lt inline =
     stays_in_line text at 1 (omega arith)
-    (subst (λ bytes. AllByRecursion (λ b. IsTrue (is_inline b)) (take 1 bytes)) (sym (drop_more text at 0 lt)) (inline, tt))
+    (subst (λ bytes. AllByRecursion (λ b. IsTrue (is_inline b)) (take 1 bytes)) (sym (drop_more text at 0 lt))
+    (inline, tt))
 
 module _ (text : List ℕ) (at : ℕ) (lt : at < length text) (h : OnLine text at) where
   within : column_of text at - 1 < length (drop (start_of text at) text)
@@ -148,19 +151,24 @@ module _ (text : List ℕ) (at : ℕ) (lt : at < length text) (h : OnLine text a
             ap (λ k. drop k text) same ∙ h.begins
             ∙ ap (λ n. behind_feeds (n - 1) text) (sym stay.line);
         reaches =
-            let grown = line_grows (drop (start_of text at) text) (column_of text at - 1) within h.reaches (ap is_inline byte_is ∙ inline) in
-            subst (λ k. column_of text (at + 1) - 1 ≤ prefix_len is_inline (drop k text)) (sym same) (omega (arith, grown, col));
+            let grown =
+            line_grows (drop (start_of text at) text) (column_of text at - 1) within h.reaches
+            (ap is_inline byte_is ∙ inline) in
+            subst (λ k. column_of text (at + 1) - 1 ≤ prefix_len is_inline (drop k text)) (sym same)
+            (omega (arith, grown, col));
       }
 
   line_feeds : is_inline (get_or text at 0) ≡ false → OnLine text (at + 1)
   line_feeds feed =
       let col = column_of-feed text at lt feed in
-      let next : start_of text at + (column_of text at - 1 + 1) ≡ start_of text (at + 1) = omega (arith, col, column_of-le text at) in
+      let next : start_of text at + (column_of text at - 1 + 1) ≡ start_of text (at + 1) =
+      omega (arith, col, column_of-le text at) in
       let line : line_of text (at + 1) - 1 ≡ suc (line_of text at - 1) = omega (arith, line_of-feed text at lt feed) in
       record {
         begins =
             ap (λ k. drop k text) (sym next) ∙ sym (drop-drop (column_of text at - 1 + 1) (start_of text at) text)
-            ∙ sym (line_ends (drop (start_of text at) text) (column_of text at - 1) within h.reaches (ap is_inline byte_is ∙ feed))
+            ∙ sym (line_ends (drop (start_of text at) text) (column_of text at - 1) within h.reaches
+            (ap is_inline byte_is ∙ feed))
             ∙ ap (behind_feeds 1) h.begins ∙ sym (feeds_more (line_of text at - 1) text)
             ∙ ap (λ n. behind_feeds n text) (sym line);
         reaches = omega (arith, col);

@@ -28,6 +28,7 @@ going_told front line (word ∷ words) = go (goes front line word) (going_told f
   where
     go : (b : Bool) → flat_map (word_told front line) words ≡ words_told front line words
         → (if b then codes " " ++ word else []) ++ flat_map (word_told front line) words
-        ≡ flat_map (λ w. codes " " ++ w) (if b then word ∷ going_words front line words else going_words front line words)
+        ≡ flat_map (λ w. codes " " ++ w)
+        (if b then word ∷ going_words front line words else going_words front line words)
     go true rest = ap (λ xs. (codes " " ++ word) ++ xs) rest
     go false rest = rest

@@ -12,7 +12,8 @@ returns c =
     let colon = codes ": " in
     let code = code_text c.args.code in
     let end : List ℕ = 10 ∷ [] in
-    last_behind c.push_marked_line.result old (place ++ colon ++ code ++ end) (lines_text c.args.source.text.now m.line m.col) _ _
+    let lines = lines_text c.args.source.text.now m.line m.col in
+    last_behind c.push_marked_line.result old (place ++ colon ++ code ++ end) lines _ _
     (behind old (place ++ colon ++ code) end _ _
     (behind old (place ++ colon) code _ _
     (behind old place colon _ _
