@@ -91,10 +91,12 @@ module _ (lacking : Type 0) where
   ran_six : (part : Part) (text : List ℕ) (p : Program) (r : Result Read TextOf)
       → SixIf lacking (told (ran_under part text p) (spelled r)).status
   ran_six part text p (Ok r) =
-      inl (legal_least part (spoken_of p r.schedule) r.version r.schedule (schedule_fault p r.schedule) (run_seen part text p r.schedule))
+      inl (legal_least part (spoken_of p r.schedule) r.version r.schedule (schedule_fault p r.schedule)
+      (run_seen part text p r.schedule))
   ran_six part text p (Err f) = inl (omega arith)
 
-  next_six : (text : List ℕ) (p : Program) (r : Result Read TextOf) → SixIf lacking (told (next_under text p) (spelled r)).status
+  next_six : (text : List ℕ) (p : Program) (r : Result Read TextOf)
+      → SixIf lacking (told (next_under text p) (spelled r)).status
   next_six text p (Ok r) = inl (next_least text p r.version r.schedule (start_fault p r.schedule.start))
   next_six text p (Err f) = inl (omega arith)
 
@@ -102,7 +104,8 @@ module _ (saying : Saying) (text : List ℕ) (p : Program) where
   under_six : (file : Option (List ℕ)) → SixIf (file ≡ None) (answer_under saying text file p).status
   under_six = by_saying saying
     where
-      by_saying : (saying : Saying) (file : Option (List ℕ)) → SixIf (file ≡ None) (answer_under saying text file p).status
+      by_saying : (saying : Saying) (file : Option (List ℕ))
+          → SixIf (file ≡ None) (answer_under saying text file p).status
       by_saying (OfRun part) None = inr (refl, refl)
       by_saying (OfRun part) (Some bytes) = ran_six (Some bytes ≡ None) part text p (schedule_of bytes)
       by_saying Next None = inr (refl, refl)
