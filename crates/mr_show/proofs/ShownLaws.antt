@@ -97,7 +97,8 @@ module _ (saying : Saying) (file : Option (List ℕ)) (rose : Type 0) (result : 
 
   -- a file that was read is answered by its text
   pub of_file : (program : Option (List ℕ)) (text bytes : List ℕ) (later : Type 0) → (later → rose)
-      → program ≡ Some bytes → text ≡ bytes → IsOfText later saying file text result → IsOfFile rose saying file program result
+      → program ≡ Some bytes → text ≡ bytes → IsOfText later saying file text result
+      → IsOfFile rose saying file program result
   of_file program text bytes later up there same (inl tells) =
       inl (subst (λ (f : Option (List ℕ)). Tells (file_answer saying file f) result) (ap Some same ∙ sym there) tells)
   of_file program text bytes later up there same (inr (rises, unread)) =
