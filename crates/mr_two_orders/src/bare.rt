@@ -31,12 +31,19 @@ fn push_thread(out: &mut Vec<u8>, foot: Option<&Footprint>) -> Result<(), OutOfM
     }
 }
 
+// The footprint of a step.
+fn foot_at(run: &[Footprint], step: usize) -> Option<&Footprint>
+    ensures { option_copied result ≡ slice_get run.now step }
+{
+    run.get(step)
+}
+
 // Appends a step, with its thread.
 fn push_step(out: &mut Vec<u8>, run: &[Footprint], step: usize) -> Result<(), OutOfMemory>
     ensures { OnOk result (out.new.items ≡ out.old.items ++ step_text run.now step) }
 {
     push_step_word(out, step)?;
-    push_thread(out, run.get(step))
+    push_thread(out, foot_at(run, step))
 }
 
 // Appends the two steps of a race.

@@ -100,7 +100,8 @@ fn push_machine_group(
     requires sorted { AreByPlaces (seen rust.now) sorted.now }
     ensures { OnOk result (out.new.items ≡ out.old.items ++ machine_text (seen shown.now) group) }
 {
-    if count_at(rust, sorted, group.first) > 0 {
+    let count = count_at(rust, sorted, group.first);
+    if count > 0 {
         return Ok(());
     }
     push_group(out, shown, group)?;
