@@ -38,6 +38,7 @@ mod rows;
 mod runs;
 mod skips;
 mod spans;
+mod wakers;
 mod walks;
 mod whole;
 

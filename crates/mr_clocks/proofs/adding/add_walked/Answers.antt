@@ -5,6 +5,7 @@ use Rattle.mr_clocks.specs.Rows.{AreAllAsked}
 use Rattle.mr_clocks.proofs.Kept.{clocks_same, latest_low, latest_more, made_same, rows_same}
 use Rattle.mr_clocks.proofs.Noting.{keys_same}
 use Rattle.mr_clocks.proofs.SkipLaws.{skips_same}
+use Rattle.mr_clocks.proofs.WakerLaws.{extended_none, wakers_extended}
 use Rattle.mr_clocks.proofs.adding.add_walked.Goals as goal
 
 pub clock_of-requires-clause-clocks : goal.clock_of-requires-clause-clocks
@@ -57,6 +58,11 @@ enter-requires-clause-clocks c =
     clocks_same c.args.run.now c.args.j c.args.clocks.now.items c.prepare.new.clocks.items c.args.numbers.now.items c.prepare.new.numbers.items
     c.in_ok-prepare.ensures.clocks c.in_ok-prepare.ensures.numbers c.requires.clocks
 
+pub enter-requires-clause-wakers : goal.enter-requires-clause-wakers
+enter-requires-clause-wakers c =
+    wakers_extended c.args.run.now c.args.j c.args.j c.args.wakers.now.heads.items c.prepare.new.wakers.heads.items c.args.wakers.now.links.items c.prepare.new.wakers.links.items
+    c.in_ok-prepare.ensures.heads c.in_ok-prepare.ensures.wakings c.requires.wakers
+
 pub enter-requires-clause-rows : goal.enter-requires-clause-rows
 enter-requires-clause-rows c =
     rows_same c.args.run.now c.args.j c.args.rows.now.items c.args.rows.now.items c.args.links.now.items c.prepare.new.links.items
@@ -95,3 +101,6 @@ returns-in_err-here-clause-keys c = keys_same c.args.rows.now.items
 
 pub returns-in_err-prepare-clause-keys : goal.returns-in_err-prepare-clause-keys
 returns-in_err-prepare-clause-keys c = keys_same c.args.rows.now.items
+
+pub returns-in_err-here-clause-err_heads : goal.returns-in_err-here-clause-err_heads
+returns-in_err-here-clause-err_heads c = extended_none c.args.wakers.now.heads.items c.args.wakers.now.heads.items refl
