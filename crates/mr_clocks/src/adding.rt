@@ -107,8 +107,8 @@ fn numbered(clocks: &mut Vec<Clock>, numbers: &[u32], next: u32, made: Option<Cl
     }
 }
 
-// Keeps the clock of step `j` and the skips that its walks leave, and notes the step in the rows at some places, and for
-// the threads that it woke. The memory for it is there.
+// Keeps the clock of step `j` and the skips that its walks leave, and notes the step in the rows at some places, and
+// for the threads that it woke. The memory for it is there.
 #[inline(always)]
 fn enter(
     alloc: Global,

@@ -83,8 +83,8 @@ impl Memo {
         self.stamp == stamp && same_step(&self.step, step)
     }
 
-    // Whether it has a stamp, and its step did the same as another, but for the threads that they woke: then the two ask
-    // the same rows, and are noted in the same ones.
+    // Whether it has a stamp, and its step did the same as another, but for the threads that they woke: then the two
+    // ask the same rows, and are noted in the same ones.
     fn is_alike(&self, step: &Footprint, stamp: usize) -> bool
         ensures step { IsTrue result → DoTheSame self.now.0 step.now }
         ensures stamp { IsTrue result → self.now.1 ≡ stamp }

@@ -1,5 +1,5 @@
-//! For each thread the steps that woke or created it. (Lamport: happens-before.) Such a step happens before the next one
-//! of the thread. A thread has mostly one of them since the step before, so that they are found at once.
+//! For each thread the steps that woke or created it. (Lamport: happens-before.) Such a step happens before the next
+//! one of the thread. A thread has mostly one of them since the step before, so that they are found at once.
 
 ghost use Rattle.std.specs.Prelude.{◌≡◌, ◌≢◌, ℕ, ◌+◌, ◌<◌, ◌≤◌, ◌^◌, IfOk, IsFalse, IsTrue, OnOk, length, slice_index, vec_capacity, vec_len};
 ghost use Rattle.mr_event.specs.Footprints.{spawns};
