@@ -175,8 +175,11 @@ fn is_first(links: &[Link], at: u32, j: usize) -> bool
     if at == 0 {
         return false;
     }
-    let link = links[at as usize - 1];
-    link.step as usize == j
+    let i = links[at as usize - 1].step as usize;
+    if i == j {
+        return true;
+    }
+    false
 }
 
 // Notes that step `j` woke or created a thread.

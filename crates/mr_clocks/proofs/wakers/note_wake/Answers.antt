@@ -30,8 +30,8 @@ returns-clause-wakers c =
     let links = c.args.wakers.now.links.items in
     let other : (k : ℕ) → slice_index heads c.args.thread ≡ k + 1 → step_of links k ≢ c.args.j =
     subst (λ (l : List Link). (k : ℕ) → slice_index heads c.args.thread ≡ k + 1 → step_of l k ≢ c.args.j) c.as_slice.ensures.value (c.is_first.ensures.other c.if-is_first.false) in
-    let written = ap (set heads c.args.thread) (omega (arith, c.len.ensures, c.push_reserved.ensures.len, c.args.wakers.now.links.ok.0)) in
-    wakers_more c.args.run.now c.args.j c.args.thread heads _ links c.push_reserved.new.self.items c.requires.wakers c.requires.reached other c.push_reserved.ensures.items written
+    let count : c.len.result ≡ length links + 1 = omega (arith, c.len.ensures, c.push_reserved.ensures.len, c.args.wakers.now.links.ok.0) in
+    wakers_more c.args.run.now c.args.j c.args.thread heads (set heads c.args.thread c.len.result) links c.push_reserved.new.self.items c.requires.wakers c.requires.reached other c.push_reserved.ensures.items (ap (set heads c.args.thread) count)
 
 pub returns-clause-own : goal.returns-clause-own
 returns-clause-own c =
@@ -39,8 +39,8 @@ returns-clause-own c =
     let links = c.args.wakers.now.links.items in
     let other : (k : ℕ) → slice_index heads c.args.thread ≡ k + 1 → step_of links k ≢ c.args.j =
     subst (λ (l : List Link). (k : ℕ) → slice_index heads c.args.thread ≡ k + 1 → step_of l k ≢ c.args.j) c.as_slice.ensures.value (c.is_first.ensures.other c.if-is_first.false) in
-    let written = ap (set heads c.args.thread) (omega (arith, c.len.ensures, c.push_reserved.ensures.len, c.args.wakers.now.links.ok.0)) in
-    wake_own c.args.run.now c.args.j c.args.thread heads _ links c.push_reserved.new.self.items c.requires.wakers c.requires.reached other c.push_reserved.ensures.items written
+    let count : c.len.result ≡ length links + 1 = omega (arith, c.len.ensures, c.push_reserved.ensures.len, c.args.wakers.now.links.ok.0) in
+    wake_own c.args.run.now c.args.j c.args.thread heads (set heads c.args.thread c.len.result) links c.push_reserved.new.self.items c.requires.wakers c.requires.reached other c.push_reserved.ensures.items (ap (set heads c.args.thread) count)
 
 pub returns-clause-kept : goal.returns-clause-kept
 returns-clause-kept c = λ t k.
@@ -48,5 +48,5 @@ returns-clause-kept c = λ t k.
     let links = c.args.wakers.now.links.items in
     let other : (k : ℕ) → slice_index heads c.args.thread ≡ k + 1 → step_of links k ≢ c.args.j =
     subst (λ (l : List Link). (k : ℕ) → slice_index heads c.args.thread ≡ k + 1 → step_of l k ≢ c.args.j) c.as_slice.ensures.value (c.is_first.ensures.other c.if-is_first.false) in
-    let written = ap (set heads c.args.thread) (omega (arith, c.len.ensures, c.push_reserved.ensures.len, c.args.wakers.now.links.ok.0)) in
-    wake_kept c.args.run.now c.args.j c.args.thread heads _ links c.push_reserved.new.self.items c.requires.wakers c.requires.reached other c.push_reserved.ensures.items written t c.args.j k
+    let count : c.len.result ≡ length links + 1 = omega (arith, c.len.ensures, c.push_reserved.ensures.len, c.args.wakers.now.links.ok.0) in
+    wake_kept c.args.run.now c.args.j c.args.thread heads (set heads c.args.thread c.len.result) links c.push_reserved.new.self.items c.requires.wakers c.requires.reached other c.push_reserved.ensures.items (ap (set heads c.args.thread) count) t c.args.j k
