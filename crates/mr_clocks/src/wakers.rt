@@ -1,11 +1,11 @@
 //! For each thread the steps that woke or created it. (Lamport: happens-before.) Such a step happens before the next
 //! one of the thread. A thread has mostly one of them since the step before, so that they are found at once.
 
-ghost use Rattle.std.specs.Prelude.{◌≡◌, ◌≢◌, ℕ, ◌+◌, ◌<◌, ◌≤◌, ◌^◌, IfOk, IsFalse, IsTrue, OnOk, length, slice_index, vec_capacity, vec_len};
+ghost use Rattle.std.specs.Prelude.{◌≡◌, ◌≢◌, ℕ, ◌+◌, ◌-◌, ◌<◌, ◌≤◌, ◌^◌, IfOk, IsFalse, IsTrue, OnOk, length, slice_index, vec_capacity, vec_len};
 ghost use Rattle.mr_event.specs.Footprints.{spawns};
 ghost use Rattle.mr_event.specs.Order.{step_at, thread_at, Sync};
 ghost use Rattle.mr_clocks.specs.Clocks.{AreClocks, IsPart, IsUnder};
-ghost use Rattle.mr_clocks.specs.Rows.{IsKept, step_of};
+ghost use Rattle.mr_clocks.specs.Rows.{IsKept, link_at, step_of};
 ghost use Rattle.mr_clocks.specs.Tracked.{IsNext};
 ghost use Rattle.mr_clocks.specs.Wakers.{AreExtended, AreSyncsUnder, AreWakers, HasRoom, IsUnwoken};
 
@@ -33,6 +33,15 @@ fn head(wakers: &Wakers, thread: u32) -> u32
     }
 }
 
+// The link that stands before a number.
+fn link_before(wakers: &Wakers, at: u32) -> Link
+    requires some { 0 < at }
+    requires low { at ≤ length wakers.now.links.items }
+    ensures { result ≡ link_at wakers.now.links.items (at - 1) }
+{
+    wakers.links[at as usize - 1]
+}
+
 /// Whether a step woke or created the thread of step `j` and is not before the step before in it, which is before
 /// `next`.
 pub(crate) fn is_woken(run: &[Footprint], wakers: &Wakers, j: usize, next: usize) -> bool
@@ -45,7 +54,7 @@ pub(crate) fn is_woken(run: &[Footprint], wakers: &Wakers, j: usize, next: usize
     if at == 0 {
         return false;
     }
-    let i = wakers.links[at as usize - 1].step as usize;
+    let i = link_before(wakers, at).step as usize;
     if i < next {
         return false;
     }
@@ -112,7 +121,7 @@ pub(crate) fn follow_wakers(
     let mut at = head(wakers, thread_at(run, j));
     let mut changed = false;
     while at > 0 {
-        let link = wakers.links[at as usize - 1];
+        let link = link_before(wakers, at);
         let i = link.step as usize;
         if i < next {
             return Ok(changed);
@@ -197,7 +206,7 @@ fn note_wake(run: &[Footprint], wakers: &mut Wakers, thread: u32, j: usize)
     ensures one { vec_len wakers.new.links ≤ vec_len wakers.old.links + 1 }
     ensures room { vec_capacity wakers.new.links ≡ vec_capacity wakers.old.links }
 {
-    let before = wakers.heads[thread as usize];
+    let before = head(&*wakers, thread);
     if is_first(wakers.links.as_slice(), before, j) {
         return;
     }

@@ -7,8 +7,8 @@ use Rattle.mr_clocks.proofs.RowLaws.{known_alone, known_stays, next_of, seen_row
 use Rattle.mr_clocks.proofs.SkipLaws.{skips_none}
 use Rattle.mr_clocks.proofs.made.walked_clock.Goals as goal
 
-pub follow_wakers-changed-requires-clause-next : goal.follow_wakers-changed-requires-clause-next
-follow_wakers-changed-requires-clause-next c =
+pub follow_wakers-requires-clause-next : goal.follow_wakers-requires-clause-next
+follow_wakers-requires-clause-next c =
     next_of c.args.run.now c.args.j c.at-next.result c.args.latest.now c.requires.latest (c.at-next.ensures ∙ ap (slice_index c.args.latest.now) c.thread_at.ensures)
 
 pub loop-y-init : goal.loop-y-init

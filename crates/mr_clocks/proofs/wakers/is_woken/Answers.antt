@@ -1,7 +1,15 @@
 use Rattle.std.proofs.Common.{◌≡◌, ◌-◌, ◌∙◌, ap, arith, slice_index}
+use Rattle.mr_event.specs.Order.{thread_at}
+use Rattle.mr_clocks.specs.declared.rows.Link.{Link}
 use Rattle.mr_clocks.specs.Rows.{step_of}
 use Rattle.mr_clocks.proofs.WakerLaws.{unwoken_by}
 use Rattle.mr_clocks.proofs.wakers.is_woken.Goals as goal
+
+pub link_before-i-requires-clause-low : goal.link_before-i-requires-clause-low
+link_before-i-requires-clause-low c =
+    let is = c.head-at.ensures ∙ ap (slice_index c.args.wakers.now.heads.items) c.thread_at.ensures in
+    let low = c.requires.wakers.low (thread_at c.args.run.now c.args.j) in
+    omega (arith, is, low)
 
 pub returns-then-at-eq0 : goal.returns-then-at-eq0
 returns-then-at-eq0 c = λ _.
@@ -15,4 +23,4 @@ returns-then-i-next c = λ _.
     let links = c.args.wakers.now.links.items in
     unwoken_by c.args.run.now c.args.j c.args.next c.head-at.result heads links c.requires.wakers c.requires.next
     (c.head-at.ensures ∙ ap (slice_index heads) c.thread_at.ensures)
-    (λ b e. let same : b ≡ c.head-at.result - 1 = omega (arith, e) in let is = ap (step_of links) same in omega (arith, is, c.if-i-next.true))
+    (λ b e. let same : b ≡ c.head-at.result - 1 = omega (arith, e) in let is = ap (step_of links) same in let step = ap (λ (l : Link). l.step) c.link_before-i.ensures in omega (arith, is, step, c.if-i-next.true))
