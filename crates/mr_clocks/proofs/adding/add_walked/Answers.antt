@@ -5,7 +5,7 @@ use Rattle.mr_clocks.specs.Rows.{AreAllAsked}
 use Rattle.mr_clocks.proofs.Kept.{clocks_same, latest_low, latest_more, made_same, rows_same}
 use Rattle.mr_clocks.proofs.Noting.{keys_same}
 use Rattle.mr_clocks.proofs.SkipLaws.{skips_same}
-use Rattle.mr_clocks.proofs.WakerLaws.{extended_none, wakers_extended}
+use Rattle.mr_clocks.proofs.WakerLaws.{wakers_extended}
 use Rattle.mr_clocks.proofs.adding.add_walked.Goals as goal
 
 pub clock_of-requires-clause-clocks : goal.clock_of-requires-clause-clocks
@@ -101,6 +101,3 @@ returns-in_err-here-clause-keys c = keys_same c.args.rows.now.items
 
 pub returns-in_err-prepare-clause-keys : goal.returns-in_err-prepare-clause-keys
 returns-in_err-prepare-clause-keys c = keys_same c.args.rows.now.items
-
-pub returns-in_err-here-clause-err_heads : goal.returns-in_err-here-clause-err_heads
-returns-in_err-here-clause-err_heads c = extended_none c.args.wakers.now.heads.items c.args.wakers.now.heads.items refl
