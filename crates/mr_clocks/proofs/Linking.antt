@@ -1,10 +1,10 @@
 -- One more link behind others.
-use Rattle.std.proofs.Common.{◌≡◌, ◌≢◌, ℕ, ◌+◌, ◌<◌, ◌≤◌, List, [], ◌∷◌, ◌++◌, length, refl, sym, ◌∙◌, ap, subst, arith}
+use Rattle.std.proofs.Common.{◌≡◌, ℕ, ◌+◌, ◌<◌, ◌≤◌, List, [], ◌∷◌, ◌++◌, length, refl, sym, ◌∙◌, ap, subst, arith}
 use Rattle.std.proofs.lemmas.List.{get_or_append_left, get_or_push, length_push}
 use native.Mathlib.Decide.{ℕ_discrete}
 use Rattle.mr_clocks.specs.declared.rows.Link.{Link}
 use Rattle.mr_clocks.specs.Rows.{AreLinks, IsIn, IsKept, link_at, no_link, step_of}
-use Rattle.mr_clocks.proofs.Chains.{in_behind, in_here, in_less, in_low, in_more}
+use Rattle.mr_clocks.proofs.Chains.{in_behind, in_here, in_low, in_more}
 
 -- a link that keeps a later step than those behind it
 module _ (links links' : List Link) (j before : ℕ) (a : AreLinks links) (low : before ≤ length links) (falls : (b : ℕ) → before ≡ b + 1 → step_of links b < j) (linked : links' ≡ links ++ (record { step = j; before = before }) ∷ []) where
