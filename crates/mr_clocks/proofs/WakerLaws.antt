@@ -1,19 +1,22 @@
 -- The links of the steps that woke or created each thread.
 use Rattle.std.proofs.Common.{◌≡◌, ◌≢◌, ℕ, suc, ◌+◌, ◌-◌, ◌<◌, ◌≤◌, ◌⊎◌, inl, inr, List, [], ◌∷◌, ◌++◌, true, length, length-take, set, take, slice_index, refl, sym, ◌∙◌, ap, subst, arith}
-use Rattle.std.specs.Prelude.{◌==◌}
+use Rattle.std.specs.Prelude.{not, ◌==◌}
 use Rattle.std.specs.List.{list_any}
-use Rattle.std.proofs.lemmas.Bool.{eq-eqb, eqb-true, false≢true, or_cases, or_left, or_right}
+use Rattle.std.proofs.lemmas.Bool.{and_parts, both_ways, eq-eqb, eqb-true, false≢true, not_from_true, or_cases, or_left, or_right}
 use Rattle.std.proofs.lemmas.List.{ext_get_or, get_or-set_other, get_or-set_same, get_or-take}
 use Rattle.std.proofs.lemmas.List.Folds.{list_any_at}
 use native.Mathlib.Decide.{ℕ_discrete}
+use Rattle.mr_base.specs.declared.thread.Event.{Event}
+use Rattle.mr_base.specs.declared.thread.Event.TheVariants.{Quiet, CreateLock, Acquire, Release, Spawn, Join}
 use Rattle.mr_event.specs.Footprint.{Footprint}
 use Rattle.mr_event.specs.Footprints.{spawns, wakes}
 use Rattle.mr_event.specs.Order.{no_step, step_at, thread_at, Sync}
 use Rattle.mr_clocks.specs.declared.rows.Link.{Link}
 use Rattle.mr_clocks.specs.Clocks.{IsUnder}
+use Rattle.mr_clocks.specs.Keys.{spawns_some}
 use Rattle.mr_clocks.specs.Rows.{AreLinks, IsIn, IsKept, link_at, step_of}
 use Rattle.mr_clocks.specs.Tracked.{IsNext}
-use Rattle.mr_clocks.specs.Wakers.{AreExtended, AreSyncsUnder, AreWakers, IsUnwoken}
+use Rattle.mr_clocks.specs.Wakers.{AreExtended, AreSyncsUnder, AreWakers, IsUnwoken, wakes_nobody}
 use Rattle.mr_clocks.proofs.Chains.{in_cases, in_low, in_most}
 use Rattle.mr_clocks.proofs.Edges.{sync_next}
 use Rattle.mr_clocks.proofs.Linking.{chained_more, kept_behind, kept_last, kept_longer, link_new, link_old, more_links}
@@ -26,6 +29,14 @@ woken_at t (s ∷ ts) h = elim (or_cases (s == t) (list_any (λ q. q == t) ts) h
   | inl e ↦ (0, omega arith, eqb-true s t e)
   | inr e ↦ let r = woken_at t ts e in (suc r.0, (let lt = r.1 in omega (arith, lt)), r.2)
 ]
+
+spawned_some : (e : Event) (t : ℕ) → spawns e t ≡ true → spawns_some e ≡ true
+spawned_some (Spawn s) t h = refl
+spawned_some Quiet t h = absurd (false≢true h)
+spawned_some (CreateLock x) t h = absurd (false≢true h)
+spawned_some (Acquire x) t h = absurd (false≢true h)
+spawned_some (Release x) t h = absurd (false≢true h)
+spawned_some (Join x) t h = absurd (false≢true h)
 
 module _ (f : Footprint) where
   wakes_cases : (t : ℕ) → wakes f t ≡ true → (list_any (λ s. s == t) f.woken ≡ true) ⊎ (spawns f.event t ≡ true)
@@ -48,6 +59,13 @@ module _ (f : Footprint) where
     | inl e ↦ let r = woken_at t f.woken e in subst P r.2 (woken r.0 r.1)
     | inr e ↦ spawned t e
   ]
+
+  -- a step that wakes nobody wakes no thread
+  pub wakes_none : wakes_nobody f ≡ true → (t : ℕ) → wakes f t ≡ true → ⊥
+  wakes_none nobody =
+      let parts = and_parts (not (spawns_some f.event)) (length f.woken == 0) nobody in
+      wakes_each (λ _. ⊥) (λ y lt. absurd (let none = eqb-true (length f.woken) 0 parts.1 in omega (arith, lt, none)))
+      (λ t h. both_ways (not (spawns_some f.event)) (not_from_true (spawns_some f.event) (spawned_some f.event t h)) parts.0)
 
 -- ---- a step more
 

@@ -1,6 +1,7 @@
 -- The rows of a run. A row keeps, for a key and a thread, the steps of the thread that are noted under the key, the
 -- latest first, as links of which each leads to the one before it.
-use Rattle.std.specs.Prelude.{◌≡◌, ◌≢◌, ℕ, suc, ◌+◌, ◌<◌, ◌≤◌, ◌⊎◌, List, [], ◌∷◌, ◌++◌, length, take, slice_index, slice_index_or, IsTrue, true, false}
+use Rattle.std.specs.Prelude.{◌≡◌, ◌≢◌, ℕ, suc, ◌+◌, ◌<◌, ◌≤◌, ◌⊎◌, List, [], ◌∷◌, ◌++◌, length, take, slice_index}
+use Rattle.std.specs.Prelude.{slice_index_or, IsTrue, true, false}
 use Rattle.mr_event.specs.Footprint.{Footprint}
 use Rattle.mr_event.specs.Order.{step_at, thread_at, Edge, RacePair}
 use Rattle.mr_clocks.specs.declared.keys.Key.{Key}

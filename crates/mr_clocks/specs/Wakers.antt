@@ -1,12 +1,14 @@
 -- The steps that woke or created each thread. Such a step happens before the thread's next one. They stand in links of
 -- the thread, the latest first, of which each leads to the one before it.
-use Rattle.std.specs.Prelude.{◌≡◌, ◌≢◌, ℕ, ◌+◌, ◌<◌, ◌≤◌, ◌^◌, List, length, slice_index, vec_capacity, vec_len, IsTrue}
+use Rattle.std.specs.Prelude.{◌≡◌, ◌≢◌, ℕ, ◌+◌, ◌<◌, ◌≤◌, ◌^◌, Bool, not, ◌&&◌, ◌==◌, List, length, slice_index}
+use Rattle.std.specs.Prelude.{IsFalse, IsTrue, vec_capacity, vec_len}
 use Rattle.mr_event.specs.Footprint.{Footprint}
 use Rattle.mr_event.specs.Footprints.{wakes}
 use Rattle.mr_event.specs.Order.{step_at, thread_at, Sync}
 use Rattle.mr_clocks.specs.declared.rows.Link.{Link}
 use Rattle.mr_clocks.specs.declared.wakers.Wakers.{Wakers}
 use Rattle.mr_clocks.specs.Clocks.{IsUnder}
+use Rattle.mr_clocks.specs.Keys.{spawns_some}
 use Rattle.mr_clocks.specs.Rows.{AreLinks, IsKept, step_of}
 
 -- For each thread the number at which its links begin, one more than the place of the first, or 0. The links keep steps
@@ -27,6 +29,14 @@ pub record HasRoom (step : Footprint) (wakers : Wakers) : Type 0 where
   pub reached : (t : ℕ) → IsTrue (wakes step t) → t < length wakers.heads.items
   pub room : vec_len wakers.links + (length step.woken + 1) ≤ vec_capacity wakers.links
   pub small : vec_len wakers.links + (length step.woken + 1) < 2 ^ 32
+
+-- whether a step woke and created no thread
+abbrev pub wakes_nobody : Footprint → Bool
+wakes_nobody step = not (spawns_some step.event) && (length step.woken == 0)
+
+-- whom a step woke or created can be noted: there is room, or it is nobody
+pub record CanNote (step : Footprint) (wakers : Wakers) : Type 0 where
+  pub room : IsFalse (wakes_nobody step) → HasRoom step wakers
 
 -- each step of another thread with which j is synchronised lies under the clock
 abbrev pub AreSyncsUnder : List Footprint → List ℕ → ℕ → Type 0

@@ -10,7 +10,7 @@ ghost use Rattle.mr_clocks.specs.Marks.{AreMarked};
 ghost use Rattle.mr_clocks.specs.Memos.{AreMemos, IsMemoOf, memo_at};
 ghost use Rattle.mr_clocks.specs.Rows.{AreAllAsked, ArePlaces, AreRows, HaveKeysOf, IsGrown};
 ghost use Rattle.mr_clocks.specs.Skips.{AreSkips};
-ghost use Rattle.mr_clocks.specs.Wakers.{AreExtended, AreWakers, HasRoom};
+ghost use Rattle.mr_clocks.specs.Wakers.{AreExtended, AreWakers, CanNote};
 
 use crate::clock::Clock;
 use crate::index::Index;
@@ -18,7 +18,7 @@ use crate::made::{clock_of, is_settled, partner_by};
 use crate::memos::{Memo, look_up};
 use crate::rows::{Link, Row, note_all, reserve_links};
 use crate::skips::{Skip, reserve_table, store_all};
-use crate::wakers::{Wakers, make_room, note_wakes};
+use crate::wakers::{Wakers, enter_wakes, prepare_wakes};
 use mr_event::{Footprint, OutOfMemory, thread_at};
 use std::alloc::Global;
 
@@ -77,13 +77,13 @@ fn prepare(
     ensures table { OnOk result (0 < more → vec_len skips.new < 8192 → 8192 ≤ vec_capacity skips.new) }
     ensures room { OnOk result (vec_len links.new + noted ≤ vec_capacity links.new) }
     ensures small { OnOk result (vec_len links.new + noted < 2 ^ 32) }
-    ensures woken { OnOk result (HasRoom (step_at run.now j) wakers.new) }
+    ensures woken { OnOk result (CanNote (step_at run.now j) wakers.new) }
 {
     reserve_links(links, noted)?;
     reserve_table(skips, more)?;
     clocks.reserve(1)?;
     numbers.reserve(1)?;
-    make_room(run, wakers, j)?;
+    prepare_wakes(run, wakers, j)?;
     latest.raise(thread_at(run, j), j as u32 + 1)?;
     Ok(())
 }
@@ -139,7 +139,7 @@ fn enter(
     requires one_number { vec_len numbers.old < vec_capacity numbers.old }
     requires room { vec_len links.old + length places.now ≤ vec_capacity links.old }
     requires small { vec_len links.old + length places.now < 2 ^ 32 }
-    requires woken { HasRoom (step_at run.now j) wakers.old }
+    requires woken { CanNote (step_at run.now j) wakers.old }
     requires table { 0 < vec_len left → vec_len skips.old < 8192 → 8192 ≤ vec_capacity skips.old }
     ensures clocks { AreClocks run.now (j + 1) clocks.new.items numbers.new.items }
     ensures wakers { AreWakers run.now (j + 1) (j + 1) wakers.new.heads.items wakers.new.links.items }
@@ -149,7 +149,7 @@ fn enter(
 {
     let number = numbered(clocks, numbers.as_slice(), next, made);
     numbers.push_reserved(number);
-    note_wakes(run, wakers, j);
+    enter_wakes(run, wakers, j);
     note_all(run, rows, links, places, j);
     store_all(alloc, skips, left);
 }

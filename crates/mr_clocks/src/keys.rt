@@ -235,8 +235,8 @@ fn asks_creation(event: Event) -> bool
     }
 }
 
-// Whether an event makes a thread.
-fn asks_spawning(event: Event) -> bool
+/// Whether an event makes a thread.
+pub(crate) fn asks_spawning(event: Event) -> bool
     ensures { result ≡ spawns_some event }
 {
     match event {

@@ -247,8 +247,8 @@ fn catch_up_at(
     Ok(())
 }
 
-// The place of a memo of a step that is as new as the rows: of the one at a place, when it has looked at the newer rows,
-// or of a new one.
+// The place of a memo of a step that is as new as the rows: of the one at a place, when it has looked at the newer
+// rows, or of a new one.
 #[inline(never)]
 fn look_further(
     alloc: Global,

@@ -1,16 +1,19 @@
 //! For each thread the steps that woke or created it. (Lamport: happens-before.) Such a step happens before the next
 //! one of the thread. A thread has mostly one of them since the step before, so that they are found at once.
 
-ghost use Rattle.std.specs.Prelude.{◌≡◌, ◌≢◌, ℕ, ◌+◌, ◌-◌, ◌<◌, ◌≤◌, ◌^◌, IfOk, IsFalse, IsTrue, OnOk, length, slice_index, vec_capacity, vec_len};
+ghost use Rattle.std.specs.Prelude.{◌≡◌, ◌≢◌, ℕ, ◌+◌, ◌-◌, ◌<◌, ◌≤◌, ◌^◌, IfOk, IsFalse, IsTrue, OnOk, length};
+ghost use Rattle.std.specs.Prelude.{slice_index, vec_capacity, vec_len};
 ghost use Rattle.mr_event.specs.Footprints.{spawns};
 ghost use Rattle.mr_event.specs.Order.{step_at, thread_at, Sync};
 ghost use Rattle.mr_clocks.specs.Clocks.{AreClocks, IsPart, IsUnder};
 ghost use Rattle.mr_clocks.specs.Rows.{IsKept, link_at, step_of};
 ghost use Rattle.mr_clocks.specs.Tracked.{IsNext};
-ghost use Rattle.mr_clocks.specs.Wakers.{AreExtended, AreSyncsUnder, AreWakers, HasRoom, IsUnwoken};
+ghost use Rattle.mr_clocks.specs.Wakers.{AreExtended, AreSyncsUnder, AreWakers, CanNote, HasRoom, IsUnwoken};
+ghost use Rattle.mr_clocks.specs.Wakers.{wakes_nobody as does_wake_nobody};
 
 use crate::analysis::{is_under, lent};
 use crate::clock::{Clock, extend_past};
+use crate::keys::asks_spawning;
 use crate::made::is_either;
 use crate::order::edge;
 use crate::rows::{Link, reserve_links};
@@ -159,19 +162,45 @@ fn extend_by(heads: &mut Vec<u32>, event: Event) -> Result<(), OutOfMemory>
     }
 }
 
-/// Takes the room for the threads that step `j` wakes or creates: a number for each, and as many links.
+// Takes the room for the threads that step `j` wakes or creates: a number for each, and as many links.
+#[inline(never)]
 #[tactic(auto, using(mr_event::proofs::Read::step_read))]
-pub(crate) fn make_room(run: &[Footprint], wakers: &mut Wakers, j: usize) -> Result<(), OutOfMemory>
+fn make_room(run: &[Footprint], wakers: &mut Wakers, j: usize) -> Result<(), OutOfMemory>
     requires { j < length run.now }
     ensures heads { AreExtended wakers.old.heads.items wakers.new.heads.items }
     ensures links { wakers.new.links.items ≡ wakers.old.links.items }
-    ensures room { OnOk result (HasRoom (step_at run.now j) wakers.new) }
+    ensures room { OnOk result (CanNote (step_at run.now j) wakers.new) }
 {
     let step = &run[j];
     reserve_links(&mut wakers.links, step.woken().len() + 1)?;
     extend_to(&mut wakers.heads, step.woken())?;
     extend_by(&mut wakers.heads, step.event())?;
     Ok(())
+}
+
+// Whether a step woke and created no thread.
+fn wakes_nobody(step: &Footprint) -> bool
+    ensures { result ≡ does_wake_nobody step.now }
+{
+    !asks_spawning(step.event()) && step.woken().is_empty()
+}
+
+/// Takes the room that it needs to note whom step `j` woke or created, which is mostly nobody.
+pub(crate) fn prepare_wakes(
+    run: &[Footprint],
+    wakers: &mut Wakers,
+    j: usize,
+) -> Result<(), OutOfMemory>
+    requires { j < length run.now }
+    ensures heads { AreExtended wakers.old.heads.items wakers.new.heads.items }
+    ensures links { wakers.new.links.items ≡ wakers.old.links.items }
+    ensures room { OnOk result (CanNote (step_at run.now j) wakers.new) }
+{
+    let step = &run[j];
+    if wakes_nobody(step) {
+        return Ok(());
+    }
+    make_room(run, wakers, j)
 }
 
 // Whether the first link from a number on keeps step `j`.
@@ -256,9 +285,10 @@ fn note_spawned(run: &[Footprint], wakers: &mut Wakers, event: Event, j: usize)
     }
 }
 
-/// Notes which threads step `j` woke or created. The room for them is there.
+// Notes which threads step `j` woke or created.
+#[inline(never)]
 #[tactic(auto, using(mr_event::proofs::Read::step_read))]
-pub(crate) fn note_wakes(run: &[Footprint], wakers: &mut Wakers, j: usize)
+fn note_wakes(run: &[Footprint], wakers: &mut Wakers, j: usize)
     requires within { j < length run.now }
     requires few { length run.now < 2 ^ 32 }
     requires wakers { AreWakers run.now j j wakers.old.heads.items wakers.old.links.items }
@@ -268,4 +298,19 @@ pub(crate) fn note_wakes(run: &[Footprint], wakers: &mut Wakers, j: usize)
     let step = &run[j];
     note_woken(run, wakers, step.woken(), j);
     note_spawned(run, wakers, step.event(), j);
+}
+
+/// Notes which threads step `j` woke or created, if any. The room for them is there.
+pub(crate) fn enter_wakes(run: &[Footprint], wakers: &mut Wakers, j: usize)
+    requires within { j < length run.now }
+    requires few { length run.now < 2 ^ 32 }
+    requires wakers { AreWakers run.now j j wakers.old.heads.items wakers.old.links.items }
+    requires room { CanNote (step_at run.now j) wakers.old }
+    ensures { AreWakers run.now (j + 1) (j + 1) wakers.new.heads.items wakers.new.links.items }
+{
+    let step = &run[j];
+    if wakes_nobody(step) {
+        return;
+    }
+    note_wakes(run, wakers, j);
 }

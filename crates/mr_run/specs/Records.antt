@@ -10,7 +10,6 @@ abbrev pub HasRoom : (List Footprint → Type 0) → Type 0
 HasRoom keeps = (steps : List Footprint) × keeps steps × (length steps + 1 < 2 ^ 32)
 
 -- the clocks are those of the steps, and the pairs are the races that the steps show
-pub record AreAnalysed (steps : List Footprint)
-    (order : Seen) (pairs : List Pair) : Type 0 where
+pub record AreAnalysed (steps : List Footprint) (order : Seen) (pairs : List Pair) : Type 0 where
   pub tracks : Tracks order steps
   pub races : pairs ≡ predicted steps

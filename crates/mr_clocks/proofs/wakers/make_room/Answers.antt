@@ -31,11 +31,13 @@ returns-clause-room c =
     let room = c.in_ok-reserve_links.ensures.room in
     let small = c.in_ok-reserve_links.ensures.small in
     record {
-      reached = wakes_each f (λ t. t < length new)
-          (λ y lt.
-          let less = subst (λ (l : List ℕ). y < length l → slice_index l y < length c.extend_to.new.heads.items) woken (c.in_ok-extend_to.ensures.reached y) lt in
-          omega (arith, less, longer))
-          (λ t h. c.in_ok-extend_by.ensures.reached t (ap (λ (e : Event). spawns e t) event ∙ h));
-      room = omega (arith, room, many);
-      small = omega (arith, small, many);
+      room = λ _. record {
+        reached = wakes_each f (λ t. t < length new)
+            (λ y lt.
+            let less = subst (λ (l : List ℕ). y < length l → slice_index l y < length c.extend_to.new.heads.items) woken (c.in_ok-extend_to.ensures.reached y) lt in
+            omega (arith, less, longer))
+            (λ t h. c.in_ok-extend_by.ensures.reached t (ap (λ (e : Event). spawns e t) event ∙ h));
+        room = omega (arith, room, many);
+        small = omega (arith, small, many);
+      };
     }
