@@ -68,7 +68,7 @@ pub long_bare : (span : Span) (file : Option (List ℕ)) (bytes : List ℕ) → 
 long_bare span file bytes there h = ap (bare_answer span) there ∙ long_seen span bytes h
 
 -- places that are
-at_least : (m n : ℕ) → n ≤ m → nat_lt m n ≡ false
+pub at_least : (m n : ℕ) → n ≤ m → nat_lt m n ≡ false
 at_least m n h = grind (arith, nat_tests)
 
 long_text : (what : Telling) (trace text : List ℕ) → 2 ^ 28 < length text

@@ -50,11 +50,12 @@ use Rattle.mr_picture.specs.declared.span.Span.{Span}
 use Rattle.mr_show.specs.declared.form.Telling.{Telling}
 use Rattle.mr_show.specs.declared.form.Telling.TheVariants.{Steps}
 use Rattle.mr_why.specs.Why.{Entry, entry_of}
-use Rattle.mr_show.specs.Form.{Bare, Form, Help, Hunted, Shown, Why}
+use Rattle.mr_show.specs.Form.{Bare, CheckedProgram, CheckedSchedule, Form, Help, Hunted, Shown, Why}
 use Rattle.mr_show.specs.Outcome.{Ends, IsPossible}
 use Rattle.mr_show.specs.Second.{AsksForSecond, HoldsTrace}
 use Rattle.mr_show.specs.Traced.{bare_answer, holds_trace, placed_answer, places_answer, seen_answer, telling_of}
 use Rattle.mr_show.specs.Unread.{IsUnreadBecause, LacksFile}
+use Rattle.mr_show.proofs.CheckedLaws.{checked_six, files_six}
 
 -- ---- the status of an answer
 
@@ -90,10 +91,12 @@ module _ (lacking : Type 0) where
   ran_six : (part : Part) (text : List ℕ) (p : Program) (r : Result Read TextOf)
       → SixIf lacking (told (ran_under part text p) (spelled r)).status
   ran_six part text p (Ok r) =
-      inl (legal_least part (spoken_of p r.schedule) r.version r.schedule (schedule_fault p r.schedule) (run_seen part text p r.schedule))
+      inl (legal_least part (spoken_of p r.schedule) r.version r.schedule (schedule_fault p r.schedule)
+      (run_seen part text p r.schedule))
   ran_six part text p (Err f) = inl (omega arith)
 
-  next_six : (text : List ℕ) (p : Program) (r : Result Read TextOf) → SixIf lacking (told (next_under text p) (spelled r)).status
+  next_six : (text : List ℕ) (p : Program) (r : Result Read TextOf)
+      → SixIf lacking (told (next_under text p) (spelled r)).status
   next_six text p (Ok r) = inl (next_least text p r.version r.schedule (start_fault p r.schedule.start))
   next_six text p (Err f) = inl (omega arith)
 
@@ -101,7 +104,8 @@ module _ (saying : Saying) (text : List ℕ) (p : Program) where
   under_six : (file : Option (List ℕ)) → SixIf (file ≡ None) (answer_under saying text file p).status
   under_six = by_saying saying
     where
-      by_saying : (saying : Saying) (file : Option (List ℕ)) → SixIf (file ≡ None) (answer_under saying text file p).status
+      by_saying : (saying : Saying) (file : Option (List ℕ))
+          → SixIf (file ≡ None) (answer_under saying text file p).status
       by_saying (OfRun part) None = inr (refl, refl)
       by_saying (OfRun part) (Some bytes) = ran_six (Some bytes ≡ None) part text p (schedule_of bytes)
       by_saying Next None = inr (refl, refl)
@@ -222,6 +226,9 @@ module _ (files : Contents) where
   lacks (Some (Hunted range seek name program)) six =
       only_if _ _ (hunted_six range seek name program (files program) refl) six
   lacks (Some (Bare span trace)) six = bare_only span (files trace) six
+  lacks (Some (CheckedProgram name program)) six = checked_six name (files program) six
+  lacks (Some (CheckedSchedule name title program schedule)) six =
+      files_six name title (files program) (files schedule) six
   lacks (Some (Why code)) six = let least = why_least code (entry_of code) in absurd (omega (arith, least, six))
   lacks (Some (Help topic)) six = absurd (omega (arith, six))
 

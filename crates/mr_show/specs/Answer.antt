@@ -38,7 +38,8 @@ use Rattle.mr_show.specs.declared.form.Telling.{Telling}
 use Rattle.mr_show.specs.declared.form.Topic.{Topic}
 use Rattle.mr_why.specs.Why.{Entry, entry_of, entry_text}
 use Rattle.mr_show.specs.Filled.{order_answer, order_in}
-use Rattle.mr_show.specs.Form.{Bare, Form, Help, Hunted, Shown, Why}
+use Rattle.mr_show.specs.Checked.{checked_file, checked_files}
+use Rattle.mr_show.specs.Form.{Bare, CheckedProgram, CheckedSchedule, Form, Help, Hunted, Shown, Why}
 use Rattle.mr_show.specs.Gathered.{gathered}
 use Rattle.mr_show.specs.Help.{help_text}
 use Rattle.mr_show.specs.Hunted.{hunted_file}
@@ -163,7 +164,7 @@ usage = record {
   text = line (
       codes "usage: steps P S [FIRST LAST] | races P S | picture P S [FIRST LAST] | order P S FIRST LAST | "
       ++ codes "races T PLACES | steps T PLACES [FIRST LAST] | steps T FIRST LAST | picture T PLACES [FIRST LAST] | "
-      ++ codes "next P S | fill P O | halt P O | hunt P FROM TO M [AIM] | draw P N M | why CODE | --help"
+      ++ codes "next P S | check P [S] | fill P O | halt P O | hunt P FROM TO M [AIM] | draw P N M | why CODE | --help"
       );
   status = 2;
 }
@@ -174,5 +175,8 @@ answer_of files None = usage
 answer_of files (Some (Shown saying program schedule)) = shown_answer saying (files schedule) (files program)
 answer_of files (Some (Hunted range seek name program)) = hunted_file range seek name (files program)
 answer_of files (Some (Bare span trace)) = bare_answer span (files trace)
+answer_of files (Some (CheckedProgram name program)) = checked_file name (files program)
+answer_of files (Some (CheckedSchedule name schedule_name program schedule)) =
+    checked_files name schedule_name (files program) (files schedule)
 answer_of files (Some (Why code)) = why_answer code (entry_of code)
 answer_of files (Some (Help topic)) = help_answer topic

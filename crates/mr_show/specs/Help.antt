@@ -2,8 +2,8 @@
 use Rattle.std.specs.Prelude.{ℕ, List, ◌++◌, codes}
 use Rattle.mr_report.specs.Report.{line}
 use Rattle.mr_show.specs.declared.form.Topic.{Topic}
-use Rattle.mr_show.specs.declared.form.Topic.TheVariants.{Everything, OfFill, OfHunt, OfNext, OfOrdered, OfPicture}
-use Rattle.mr_show.specs.declared.form.Topic.TheVariants.{OfRaces, OfSteps, OfWhy}
+use Rattle.mr_show.specs.declared.form.Topic.TheVariants.{Everything, OfCheck, OfFill, OfHunt, OfNext, OfOrdered}
+use Rattle.mr_show.specs.declared.form.Topic.TheVariants.{OfPicture, OfRaces, OfSteps, OfWhy}
 
 -- with each form
 abbrev pub help_text : Topic → List ℕ
@@ -23,6 +23,10 @@ help_text Everything =
     codes "mirace_show next P S                 what each thread would do next, or the "
     ++ codes "entry that breaks a rule"
     )
+    ++ line (
+    codes "mirace_show check P [S]              the first fault of a program, or of a "
+    ++ codes "schedule of it, at its line"
+    )
     ++ line (codes "mirace_show fill P O                 the schedule that an order of threads becomes")
     ++ line (codes "mirace_show halt P O                 where that order can't go on")
     ++ line (
@@ -37,10 +41,10 @@ help_text Everything =
     )
     ++ line (codes "of the places of its steps.")
     ++ line (
-    codes "With --help behind one of the words steps, races, picture, order, next, fill, halt, "
-    ++ codes "hunt, draw and why it"
+    codes "With --help behind one of the words steps, races, picture, order, next, check, fill, "
+    ++ codes "halt, hunt, draw and"
     )
-    ++ line (codes "tells more.")
+    ++ line (codes "why it tells more.")
 help_text OfSteps =
     line (codes "mirace_show steps P S [FIRST LAST]")
     ++ line (
@@ -120,6 +124,25 @@ help_text OfNext =
     codes "stands of each thread where it is, whether it can go on, what its next step "
     ++ codes "asks for, and what it waits for."
     )
+help_text OfCheck =
+    line (codes "mirace_show check P [S]")
+    ++ line (
+    codes "Tells the first fault of the program in file P, or the first rule that it breaks: "
+    ++ codes "the file, the line and the"
+    )
+    ++ line (
+    codes "column, what the code says, and the line itself with a caret. Of a text it tells "
+    ++ codes "what stands there, and where"
+    )
+    ++ line (
+    codes "that doesn't fit, each word that may stand there; of a rule the function and the "
+    ++ codes "block. Of a program that"
+    )
+    ++ line (
+    codes "breaks no rule it says so, or with S tells the same of the schedule in file S: of "
+    ++ codes "an entry its thread and its"
+    )
+    ++ line (codes "picks, and how many entries there are where it breaks no rule.")
 help_text OfFill =
     line (codes "mirace_show fill P O | halt P O")
     ++ line (

@@ -14,6 +14,7 @@ mirace_show steps T PLACES           the steps of a trace, each at its place; FI
 mirace_show steps T FIRST LAST       steps of a trace, without places
 mirace_show picture T PLACES         a picture of a trace; FIRST LAST may stand behind it
 mirace_show next P S                 what each thread would do next, or the entry that breaks a rule
+mirace_show check P [S]              the first fault of a program, or of a schedule of it, at its line
 mirace_show fill P O                 the schedule that an order of threads becomes
 mirace_show halt P O                 where that order can't go on
 mirace_show hunt P FROM TO M [AIM]   how many drawn runs end in each way, or the first that has AIM
@@ -21,8 +22,8 @@ mirace_show draw P N M               the schedule of at most M entries that is d
 mirace_show why CODE                 what is said of a code of a rule, a fault or a reason
 P is the file of a program, S that of a schedule, O that of an order, T that of a trace, and PLACES that
 of the places of its steps.
-With --help behind one of the words steps, races, picture, order, next, fill, halt, hunt, draw and why it
-tells more.
+With --help behind one of the words steps, races, picture, order, next, check, fill, halt, hunt, draw and
+why it tells more.
 ";
 
 const OF_STEPS: &[u8] = b"\
@@ -62,6 +63,15 @@ mirace_show next P S
 Runs the program in file P under the schedule in file S, up to its end or to the first entry that breaks a
 rule. Of such an entry it writes the rule, the picks, and the one by which the rule is broken. Behind that
 stands of each thread where it is, whether it can go on, what its next step asks for, and what it waits for.
+";
+
+const OF_CHECK: &[u8] = b"\
+mirace_show check P [S]
+Tells the first fault of the program in file P, or the first rule that it breaks: the file, the line and the
+column, what the code says, and the line itself with a caret. Of a text it tells what stands there, and where
+that doesn't fit, each word that may stand there; of a rule the function and the block. Of a program that
+breaks no rule it says so, or with S tells the same of the schedule in file S: of an entry its thread and its
+picks, and how many entries there are where it breaks no rule.
 ";
 
 const OF_FILL: &[u8] = b"\
@@ -110,6 +120,7 @@ pub(crate) fn help_text(topic: Topic) -> &'static [u8]
         Topic::OfFill => OF_FILL,
         Topic::OfHunt => OF_HUNT,
         Topic::OfOrdered => OF_ORDERED,
+        Topic::OfCheck => OF_CHECK,
         Topic::OfWhy => OF_WHY,
     }
 }

@@ -6,7 +6,8 @@ ghost use Rattle.mr_io.specs.Files.{Contents};
 ghost use Rattle.mr_grammar.specs.Parsing.{parsed};
 ghost use Rattle.mr_input.specs.Answer.{IsStatus, Tells, TellsOrUnread, told};
 ghost use Rattle.mr_input.specs.Inputs.{IsUnreadFault, schedule_in};
-ghost use Rattle.mr_show.specs.Answer.{answer_under, between, drawn_between, first_rows, next_under, ran_answer, ran_under};
+ghost use Rattle.mr_show.specs.Answer.{answer_under, between, drawn_between, first_rows, next_under, ran_answer};
+ghost use Rattle.mr_show.specs.Answer.{ran_under};
 ghost use Rattle.mr_show.specs.Answering.{IsOfFile, IsOfProgram, IsOfText};
 
 use crate::filled::filled_file;

@@ -25,5 +25,8 @@ returns-in-OfHunt c = rw c.in-OfHunt.is refl
 pub returns-in-OfOrdered : goal.returns-in-OfOrdered
 returns-in-OfOrdered c = rw c.in-OfOrdered.is refl
 
+pub returns-in-OfCheck : goal.returns-in-OfCheck
+returns-in-OfCheck c = rw c.in-OfCheck.is refl
+
 pub returns-in-OfWhy : goal.returns-in-OfWhy
 returns-in-OfWhy c = rw c.in-OfWhy.is refl
