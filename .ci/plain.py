@@ -69,19 +69,32 @@ def is_edge(steps, i, j):
     return one[0] == other[0] or synchronised(steps, i, j) or (depends(other, one) and not some(race, one, other))
 
 
-def races(steps):
-    """Pairs of places, counted from 0: each step that has a partner, with its greatest one."""
-    before, pairs = [], []
-    for j, step in enumerate(steps):
+def order(steps):
+    """For each step the set of those before it, as bits."""
+    before = []
+    for j in range(len(steps)):
         reached = 0
         for i in range(j):
             if is_edge(steps, i, j):
                 reached |= before[i] | 1 << i
         before.append(reached)
+    return before
+
+
+def races_by(steps, before):
+    """Pairs of places, counted from 0: each step that races with an earlier one which isn't before it, with the greatest
+    of these."""
+    pairs = []
+    for j, step in enumerate(steps):
         partners = (i for i in reversed(range(j))
-                    if steps[i][0] != step[0] and some(race, steps[i], step) and not reached >> i & 1)
+                    if steps[i][0] != step[0] and some(race, steps[i], step) and not before[j] >> i & 1)
         pairs += [(i, j) for i in [next(partners, None)] if i is not None]
     return pairs
+
+
+def races(steps):
+    """The races of a run: each step that has a partner, with its greatest one."""
+    return races_by(steps, order(steps))
 
 
 def listed(steps):

@@ -1,0 +1,240 @@
+"""The form `rust` of the companion: the races of a run or of a trace by Rust's order beside those by the machine's, by
+their definitions (rust_order.py and plain.py). Nothing here is shared with the program.
+
+- Each stored run of mirace_cases, each example and each program of a class: what is told of the run, of its trace at
+  places that are drawn, and of the trace alone.
+- 10,000 lists of steps that are drawn, with many atomic accesses, locks, wakes, starts and joins.
+- What the page on both orders says: which examples have a race by Rust's order alone.
+"""
+import os
+import random
+import re
+
+import companion
+import ordered
+import plain
+import rust_order
+import told
+from judging import CASES, CLASS, EXAMPLES, judge, run, short, stored_runs, write
+from traces import drawn_places, trace_script
+
+INDENT = b" " * 8
+# Of so many pairs of places, at most, it is told why one order alone has them.
+MOST = 8
+# How many lists are drawn.
+LISTS = 10000
+# Examples whose runs have a race by Rust's order alone, the same races by both, and none by either.
+ALONE = ("stop", "spawns", "class/hidden")
+BOTH = ("race", "flag-plain", "lost-update", "race-half-atomic", "short", "use-while-freed")
+NEITHER = ("flag", "lock", "atomic", "race-lock", "race-atomic", "deadlock")
+
+
+def many(count, word, words):
+    return b"%d %s" % (count, word if count == 1 else words)
+
+
+def head(races, places):
+    """How many races a list has, at how many pairs of places."""
+    return b"%s at %s" % (many(races, b"race", b"races"), many(places, b"pair of places", b"pairs of places"))
+
+
+class Both:
+    """The steps of a run or a trace, where each stands, and its two lists. `key` of a step is its place, by which pairs
+    stand in order; `name` of a place is what is written of it; `side` of a step is what is told of it below."""
+
+    def __init__(self, steps, key, name, side=lambda k: ()):
+        self.steps, self.key, self.name, self.side = steps, key, name, side
+        self.by_rust, self.by_machine = rust_order.order(steps), plain.order(steps)
+        self.rust, self.machine = plain.races_by(steps, self.by_rust), plain.races_by(steps, self.by_machine)
+
+    def at_places(self, pairs):
+        """The pairs at each two places, in their order."""
+        found = {}
+        for pair in pairs:
+            found.setdefault(tuple(map(self.key, pair)), []).append(pair)
+        return found
+
+    def way(self, i, j):
+        """The links from one step to another by the greatest steps that lead on, by the machine's order."""
+        while i != j:
+            leads = (k for k in range(j, i, -1)
+                     if plain.is_edge(self.steps, i, k) and (k == j or self.by_machine[j] >> k & 1))
+            k = next(leads)
+            yield i, k
+            i = k
+
+    def since(self, i, j):
+        """The first link of that way that Rust's order hasn't, with its reason."""
+        one, other = next((a, b) for a, b in self.way(i, j) if not self.by_rust[b] >> a & 1)
+        return b", since step %d comes before step %d: %s" % (
+            one + 1, other + 1, ordered.reason(self.steps, one, other))
+
+    def alone(self, pair, listed, before, words, since):
+        """Why the other list hasn't a pair: the other order has the two one behind the other, or it lists the second
+        with a later step."""
+        i, j = pair
+        if before[j] >> i & 1:
+            return words[0] % (i + 1, j + 1) + (since(i, j) if since else b"")
+        return words[1] % (j + 1, next(one for one, other in listed if other == j) + 1)
+
+    def verdict(self, rust, machine, is_told):
+        """In which lists the races at two places are."""
+        if rust and machine:
+            return b"both: %d by Rust's order, %d by the machine's" % (len(rust), len(machine))
+        if rust:
+            words = (b"Rust's order alone: in the machine's step %d comes before step %d",
+                     b"Rust's order alone: the machine's lists step %d with step %d")
+            return self.alone(rust[0], self.machine, self.by_machine, words, self.since if is_told else None)
+        words = (b"the machine's order alone: in Rust's step %d comes before step %d",
+                 b"the machine's order alone: Rust's lists step %d with step %d")
+        return self.alone(machine[0], self.rust, self.by_rust, words, None)
+
+    def text(self):
+        """What is written."""
+        rust, machine = self.at_places(self.rust), self.at_places(self.machine)
+        lines = [b"Rust's order: %s; the machine's: %s\n" % (
+            head(len(self.rust), len(rust)), head(len(self.machine), len(machine)))]
+        for number, both in enumerate(sorted({*rust, *machine})):
+            one, other = rust.get(both, []), machine.get(both, [])
+            pairs = one or other
+            often = b"once, " if len(pairs) == 1 else b"%d times, first " % len(pairs)
+            i, j = pairs[0]
+            lines.append(b"%s  /  %s: %s%d %d\n" % (*map(self.name, both), often, i + 1, j + 1))
+            lines += [line for k in pairs[0] for line in self.side(k)]
+            lines.append(INDENT + self.verdict(one, other, number < MOST) + b"\n")
+        return b"".join(lines)
+
+    def has_race(self):
+        return bool(self.rust or self.machine)
+
+
+def of_trace(steps, places=None):
+    """A trace at the places of a text; alone, where each step is a place of its own."""
+    if places is None:
+        return Both(steps, lambda k: k, lambda k: b"step %d, thread %d" % (k + 1, steps[k][0]))
+    it = told.Told(steps, [], places)
+    return Both(steps, lambda k: it.sites[k][0], it.name, it.side)
+
+
+def of_run(steps, listing):
+    """A run, whose steps are told by `mirace_show steps` at their places."""
+    told_steps, _ = companion.parted(listing)
+    spots = {(it.row, it.column): it.place() for it in told_steps}
+    return Both(steps, lambda k: (told_steps[k].row, told_steps[k].column), spots.get)
+
+
+def expect(what, words, both, at, otherwise=0):
+    """The companion writes this, with status 1 where there is a race in either list."""
+    wanted = both.text(), 1 if both.has_race() else otherwise
+    wrote = companion.ran(words, at)
+    judge(f"{what}: {words[0]} of {len(words) - 1} files", wrote == wanted,
+          f"{short(wanted[0])} and {wanted[1]}, not {short(wrote[0])} and {wrote[1]}")
+
+
+def each_run():
+    """The stored runs, and those of the examples and of the class."""
+    for program, schedule, _, _ in stored_runs():
+        yield f"{program[len(CASES) + 1:]} under {schedule[len(CASES) + 1:]}", program, schedule
+    for folder in (EXAMPLES, CLASS, f"{EXAMPLES}/recipes"):
+        programs = [it[:-3] for it in os.listdir(folder) if it.endswith(".mr")]
+        for schedule in sorted(it for it in os.listdir(folder) if it.endswith(".sched")):
+            fits = [it for it in programs if schedule.startswith(it)]
+            if fits:
+                yield schedule, f"{folder}/{max(fits, key=len)}.mr", f"{folder}/{schedule}"
+
+
+def both_orders_of_runs(at):
+    """What the companion tells of runs by Rust's order beside the machine's, against both definitions."""
+    script, draw, counts = trace_script(), random.Random(9), {"runs": 0, "alone": 0}
+    for what, program, schedule in each_run():
+        trace, status = run(["trace", program, schedule], at)
+        if status:
+            continue
+        steps = [script.step_of(line) for line in script.decode(trace).splitlines()]
+        listing, ended = companion.ran(["steps", program, schedule], at)
+        both = of_run(steps, listing)
+        expect(what, ["rust", program, schedule], both, at, ended)
+        if len({it[0] for it in steps}) > 1:
+            write(at, "run.trace", trace)
+            write(at, "run.places", places := drawn_places(draw, len(steps)))
+            expect(what, ["rust", "run.trace", "run.places"], of_trace(steps, places), at)
+            expect(what, ["rust", "run.trace"], of_trace(steps), at)
+        counts["runs"] += 1
+        counts["alone"] += both.rust != both.machine
+    judge("both orders of runs", counts["runs"] > 800 and counts["alone"] > 5, f"{counts}")
+
+
+def lists_of(name, at):
+    """Both lists of an example, by the heads that the companion writes."""
+    pair = [f"{EXAMPLES}/{name}.mr", f"{EXAMPLES}/{name}.sched"]
+    wrote, status = companion.ran(["rust", *pair], at)
+    found = re.match(rb"Rust's order: (\d+) races? at .*; the machine's: (\d+) races? at ", wrote)
+    return (*map(int, found.groups()), status) if found else (short(wrote), status)
+
+
+def orders_of_examples(at):
+    """Which examples have a race by Rust's order alone, by both, or by neither."""
+    for names, is_right in ((ALONE, lambda rust, machine, status: rust and not machine and status),
+                            (BOTH, lambda rust, machine, status: rust == machine > 0 and status),
+                            (NEITHER, lambda rust, machine, status: rust == machine == 0)):
+        for name in names:
+            found = lists_of(name, at)
+            judge(f"both orders of {name}", len(found) == 3 and is_right(*found), f"{found}")
+
+
+# ---- lists that are drawn
+
+def drawn_accesses(draw, width):
+    """Some accesses of a few bytes, most of them atomic; some are updates, which load and store."""
+    for _ in range(draw.choice((0, 1, 1, 1, 2, 3))):
+        kind, address = draw.choice((0, 1, 1, 2, 2, 2, 3, 3, 3)), draw.randrange(width)
+        length = draw.choice((1, 1, 1, 2, 4, 8))
+        yield kind, address, length
+        if kind == 2 and draw.random() < .3:
+            yield 3, address, length
+
+
+def drawn_event(draw, threads):
+    """What a step does to a lock or to a thread."""
+    kind = draw.choice((plain.QUIET,) * 5 + (plain.ACQUIRE, plain.RELEASE) * 2 + (plain.CREATE, plain.SPAWN, plain.JOIN))
+    if kind == plain.QUIET:
+        return kind, None
+    return kind, draw.randrange(threads if kind in (plain.SPAWN, plain.JOIN) else 2)
+
+
+def drawn_allocations(draw, threads):
+    """The allocations that a step made, freed and used; mostly none."""
+    one = lambda: [(draw.randrange(threads), draw.randrange(2))] if draw.random() < .05 else []
+    return one(), one(), one()
+
+
+def drawn_steps(draw):
+    """A list of steps of some threads, most of which use the same few bytes."""
+    threads, width, wakes = draw.randrange(2, 5), draw.choice((1, 2, 4, 12)), draw.choice((0, .1, .3))
+    steps = []
+    for _ in range(draw.randrange(2, 15)):
+        woken = sorted(draw.sample(range(threads), draw.randrange(1, threads))) if draw.random() < wakes else []
+        steps.append((draw.randrange(threads), drawn_event(draw, threads), draw.random() < .1,
+                      [*drawn_accesses(draw, width)], drawn_allocations(draw, threads), woken))
+    return steps
+
+
+def trace_of(script, steps):
+    """The bytes of a trace."""
+    body = b"".join(script.bytes_of((it[0], it[1], it[2], it[3], it[4], it[5])) for it in steps)
+    return script.MAGIC + len(steps).to_bytes(4, "little") + body
+
+
+def both_orders_of_drawn_steps(at):
+    """Lists of steps that are drawn: both lists of each, against both definitions."""
+    script, draw, counts = trace_script(), random.Random(61), {"rust": 0, "machine": 0, "differ": 0}
+    for number in range(LISTS):
+        steps = drawn_steps(draw)
+        both = of_trace(steps)
+        write(at, "drawn.trace", trace_of(script, steps))
+        expect(f"drawn steps, {number}", ["rust", "drawn.trace"], both, at)
+        counts["rust"] += bool(both.rust)
+        counts["machine"] += bool(both.machine)
+        counts["differ"] += both.rust != both.machine
+    judge("drawn steps: with races and without, and with lists that differ",
+          LISTS // 4 < counts["rust"] < LISTS * 9 // 10 and counts["differ"] > LISTS // 50, f"{counts}")
