@@ -99,5 +99,9 @@ def races(steps):
 
 def listed(steps):
     """The lines of a report that tell them."""
-    pairs = races(steps)
+    return told(races(steps))
+
+
+def told(pairs):
+    """The lines of a report that tell these races."""
     return b"races %d\n" % len(pairs) + b"".join(b"race %d %d\n" % (i + 1, j + 1) for i, j in pairs)

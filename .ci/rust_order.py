@@ -13,7 +13,7 @@ import importlib.util
 import os
 import sys
 
-from plain import ACQUIRE, JOIN, RELEASE, races_by, wakes
+from plain import ACQUIRE, JOIN, RELEASE, races_by, told, wakes
 
 TRACES = os.path.join(os.path.dirname(os.path.abspath(__file__)), "..", "examples", "trace")
 
@@ -86,8 +86,7 @@ def races(steps):
 
 def listed(steps):
     """The lines of a report that tell them."""
-    pairs = races(steps)
-    return b"races %d\n" % len(pairs) + b"".join(b"race %d %d\n" % (i + 1, j + 1) for i, j in pairs)
+    return told(races(steps))
 
 
 def steps_of(path):

@@ -4,7 +4,7 @@ their definitions (rust_order.py and plain.py). Nothing here is shared with the 
 - Each stored run of mirace_cases, each example and each program of a class: what is told of the run, of its trace at
   places that are drawn, and of the trace alone.
 - 10,000 lists of steps that are drawn, with many atomic accesses, locks, wakes, starts and joins.
-- What the page on both orders says: which examples have a race by Rust's order alone.
+- What docs/BESIDE.md says of the examples: their races by each order, and that ThreadSanitizer reports those by Rust's.
 """
 import os
 import random
@@ -15,7 +15,7 @@ import ordered
 import plain
 import rust_order
 import told
-from judging import CASES, CLASS, EXAMPLES, judge, run, short, stored_runs, write
+from judging import CASES, CLASS, EXAMPLES, TOP, judge, read, run, short, stored_runs, write
 from traces import drawn_places, trace_script
 
 INDENT = b" " * 8
@@ -23,10 +23,11 @@ INDENT = b" " * 8
 MOST = 8
 # How many lists are drawn.
 LISTS = 10000
-# Examples whose runs have a race by Rust's order alone, the same races by both, and none by either.
-ALONE = ("stop", "spawns", "class/hidden")
-BOTH = ("race", "flag-plain", "lost-update", "race-half-atomic", "short", "use-while-freed")
-NEITHER = ("flag", "lock", "atomic", "race-lock", "race-atomic", "deadlock")
+# The page with a row of each example and its twin: its races, those by Rust's order, and what ThreadSanitizer reports.
+BESIDE = f"{TOP}/docs/BESIDE.md"
+ROW = re.compile(r"^\| `([a-z-]+)` \| ([^|]*) \| ([^|]*) \| ([^|]*) \|.* of \d+ \|$", re.M)
+# Examples without a race by Rust's order, of whose twins one is reported: to free is no access in edition 1.
+FREEING = {"use-after-free"}
 
 
 def many(count, word, words):
@@ -38,21 +39,13 @@ def head(races, places):
     return b"%s at %s" % (many(races, b"race", b"races"), many(places, b"pair of places", b"pairs of places"))
 
 
-class Both:
-    """The steps of a run or a trace, where each stands, and its two lists. `key` of a step is its place, by which pairs
-    stand in order; `name` of a place is what is written of it; `side` of a step is what is told of it below."""
+class Orders:
+    """Both orders of the steps of a run or a trace, and the list by each."""
 
-    def __init__(self, steps, key, name, side=lambda k: ()):
-        self.steps, self.key, self.name, self.side = steps, key, name, side
+    def __init__(self, steps):
+        self.steps = steps
         self.by_rust, self.by_machine = rust_order.order(steps), plain.order(steps)
         self.rust, self.machine = plain.races_by(steps, self.by_rust), plain.races_by(steps, self.by_machine)
-
-    def at_places(self, pairs):
-        """The pairs at each two places, in their order."""
-        found = {}
-        for pair in pairs:
-            found.setdefault(tuple(map(self.key, pair)), []).append(pair)
-        return found
 
     def way(self, i, j):
         """The links from one step to another by the greatest steps that lead on, by the machine's order."""
@@ -69,6 +62,21 @@ class Both:
         return b", since step %d comes before step %d: %s" % (
             one + 1, other + 1, ordered.reason(self.steps, one, other))
 
+
+class Both:
+    """What is told of both orders, by where the steps stand. `key` of a step is its place, by which pairs stand in order;
+    `name` of a place is what is written of it; `side` of a step is what is told of it below."""
+
+    def __init__(self, orders, key, name, side=lambda k: ()):
+        self.orders, self.key, self.name, self.side = orders, key, name, side
+
+    def at_places(self, pairs):
+        """The pairs at each two places, in their order."""
+        found = {}
+        for pair in pairs:
+            found.setdefault(tuple(map(self.key, pair)), []).append(pair)
+        return found
+
     def alone(self, pair, listed, before, words, since):
         """Why the other list hasn't a pair: the other order has the two one behind the other, or it lists the second
         with a later step."""
@@ -84,16 +92,17 @@ class Both:
         if rust:
             words = (b"Rust's order alone: in the machine's step %d comes before step %d",
                      b"Rust's order alone: the machine's lists step %d with step %d")
-            return self.alone(rust[0], self.machine, self.by_machine, words, self.since if is_told else None)
+            since = self.orders.since if is_told else None
+            return self.alone(rust[0], self.orders.machine, self.orders.by_machine, words, since)
         words = (b"the machine's order alone: in Rust's step %d comes before step %d",
                  b"the machine's order alone: Rust's lists step %d with step %d")
-        return self.alone(machine[0], self.rust, self.by_rust, words, None)
+        return self.alone(machine[0], self.orders.rust, self.orders.by_rust, words, None)
 
     def text(self):
         """What is written."""
-        rust, machine = self.at_places(self.rust), self.at_places(self.machine)
+        rust, machine = self.at_places(self.orders.rust), self.at_places(self.orders.machine)
         lines = [b"Rust's order: %s; the machine's: %s\n" % (
-            head(len(self.rust), len(rust)), head(len(self.machine), len(machine)))]
+            head(len(self.orders.rust), len(rust)), head(len(self.orders.machine), len(machine)))]
         for number, both in enumerate(sorted({*rust, *machine})):
             one, other = rust.get(both, []), machine.get(both, [])
             pairs = one or other
@@ -105,22 +114,22 @@ class Both:
         return b"".join(lines)
 
     def has_race(self):
-        return bool(self.rust or self.machine)
+        return bool(self.orders.rust or self.orders.machine)
 
 
-def of_trace(steps, places=None):
+def of_trace(orders, places=None):
     """A trace at the places of a text; alone, where each step is a place of its own."""
     if places is None:
-        return Both(steps, lambda k: k, lambda k: b"step %d, thread %d" % (k + 1, steps[k][0]))
-    it = told.Told(steps, [], places)
-    return Both(steps, lambda k: it.sites[k][0], it.name, it.side)
+        return Both(orders, lambda k: k, lambda k: b"step %d, thread %d" % (k + 1, orders.steps[k][0]))
+    it = told.Told(orders.steps, [], places)
+    return Both(orders, lambda k: it.sites[k][0], it.name, it.side)
 
 
-def of_run(steps, listing):
+def of_run(orders, listing):
     """A run, whose steps are told by `mirace_show steps` at their places."""
     told_steps, _ = companion.parted(listing)
     spots = {(it.row, it.column): it.place() for it in told_steps}
-    return Both(steps, lambda k: (told_steps[k].row, told_steps[k].column), spots.get)
+    return Both(orders, lambda k: (told_steps[k].row, told_steps[k].column), spots.get)
 
 
 def expect(what, words, both, at, otherwise=0):
@@ -143,6 +152,11 @@ def each_run():
                 yield schedule, f"{folder}/{max(fits, key=len)}.mr", f"{folder}/{schedule}"
 
 
+def orders_in(script, trace):
+    """The orders of a trace."""
+    return Orders([script.step_of(line) for line in script.decode(trace).splitlines()])
+
+
 def both_orders_of_runs(at):
     """What the companion tells of runs by Rust's order beside the machine's, against both definitions."""
     script, draw, counts = trace_script(), random.Random(9), {"runs": 0, "alone": 0}
@@ -150,36 +164,43 @@ def both_orders_of_runs(at):
         trace, status = run(["trace", program, schedule], at)
         if status:
             continue
-        steps = [script.step_of(line) for line in script.decode(trace).splitlines()]
+        orders = orders_in(script, trace)
         listing, ended = companion.ran(["steps", program, schedule], at)
-        both = of_run(steps, listing)
-        expect(what, ["rust", program, schedule], both, at, ended)
-        if len({it[0] for it in steps}) > 1:
+        expect(what, ["rust", program, schedule], of_run(orders, listing), at, ended)
+        if len({it[0] for it in orders.steps}) > 1:
+            places = drawn_places(draw, len(orders.steps))
             write(at, "run.trace", trace)
-            write(at, "run.places", places := drawn_places(draw, len(steps)))
-            expect(what, ["rust", "run.trace", "run.places"], of_trace(steps, places), at)
-            expect(what, ["rust", "run.trace"], of_trace(steps), at)
+            write(at, "run.places", places)
+            expect(what, ["rust", "run.trace", "run.places"], of_trace(orders, places), at)
+            expect(what, ["rust", "run.trace"], of_trace(orders), at)
         counts["runs"] += 1
-        counts["alone"] += both.rust != both.machine
+        counts["alone"] += orders.rust != orders.machine
     judge("both orders of runs", counts["runs"] > 800 and counts["alone"] > 5, f"{counts}")
 
 
-def lists_of(name, at):
-    """Both lists of an example, by the heads that the companion writes."""
-    pair = [f"{EXAMPLES}/{name}.mr", f"{EXAMPLES}/{name}.sched"]
-    wrote, status = companion.ran(["rust", *pair], at)
-    found = re.match(rb"Rust's order: (\d+) races? at .*; the machine's: (\d+) races? at ", wrote)
-    return (*map(int, found.groups()), status) if found else (short(wrote), status)
+def pairs_in(cell):
+    """The pairs of steps of a cell, counted from 0."""
+    return sorted((int(i) - 1, int(j) - 1) for i, j in re.findall(r"(\d+) and (\d+)", cell))
+
+
+def reported():
+    """Of which twins ThreadSanitizer reports a race."""
+    return {name: bool(pairs_in(cell)) for name, _, _, cell in ROW.findall(read(BESIDE).decode())}
 
 
 def orders_of_examples(at):
-    """Which examples have a race by Rust's order alone, by both, or by neither."""
-    for names, is_right in ((ALONE, lambda rust, machine, status: rust and not machine and status),
-                            (BOTH, lambda rust, machine, status: rust == machine > 0 and status),
-                            (NEITHER, lambda rust, machine, status: rust == machine == 0)):
-        for name in names:
-            found = lists_of(name, at)
-            judge(f"both orders of {name}", len(found) == 3 and is_right(*found), f"{found}")
+    """The races of each example by both orders are those of docs/BESIDE.md, and where it has one by Rust's order,
+    ThreadSanitizer reports one."""
+    script, rows = trace_script(), ROW.findall(read(BESIDE).decode())
+    names = sorted(it[:-2] for it in os.listdir(f"{EXAMPLES}/beside") if it.endswith(".c"))
+    judge("BESIDE: a row of each example", sorted(it[0] for it in rows) == names, f"{rows}")
+    for name, machine, rust, said in rows:
+        trace, _ = run(["trace", f"{EXAMPLES}/{name}.mr", f"{EXAMPLES}/{name}.sched"], at)
+        orders = orders_in(script, trace)
+        is_well = (pairs_in(machine), pairs_in(rust)) == (sorted(orders.machine), sorted(orders.rust))
+        judge(f"BESIDE: the races of {name}", is_well, f"{orders.machine} and {orders.rust}")
+        is_well = bool(pairs_in(said)) == (bool(orders.rust) or name in FREEING)
+        judge(f"BESIDE: whether a race of {name} is reported", is_well, said)
 
 
 # ---- lists that are drawn
@@ -221,20 +242,18 @@ def drawn_steps(draw):
 
 def trace_of(script, steps):
     """The bytes of a trace."""
-    body = b"".join(script.bytes_of((it[0], it[1], it[2], it[3], it[4], it[5])) for it in steps)
-    return script.MAGIC + len(steps).to_bytes(4, "little") + body
+    return script.MAGIC + len(steps).to_bytes(4, "little") + b"".join(map(script.bytes_of, steps))
 
 
-def both_orders_of_drawn_steps(at):
+def both_orders_of_steps(at):
     """Lists of steps that are drawn: both lists of each, against both definitions."""
     script, draw, counts = trace_script(), random.Random(61), {"rust": 0, "machine": 0, "differ": 0}
     for number in range(LISTS):
-        steps = drawn_steps(draw)
-        both = of_trace(steps)
-        write(at, "drawn.trace", trace_of(script, steps))
-        expect(f"drawn steps, {number}", ["rust", "drawn.trace"], both, at)
-        counts["rust"] += bool(both.rust)
-        counts["machine"] += bool(both.machine)
-        counts["differ"] += both.rust != both.machine
+        orders = Orders(drawn_steps(draw))
+        write(at, "drawn.trace", trace_of(script, orders.steps))
+        expect(f"drawn steps, {number}", ["rust", "drawn.trace"], of_trace(orders), at)
+        counts["rust"] += bool(orders.rust)
+        counts["machine"] += bool(orders.machine)
+        counts["differ"] += orders.rust != orders.machine
     judge("drawn steps: with races and without, and with lists that differ",
           LISTS // 4 < counts["rust"] < LISTS * 9 // 10 and counts["differ"] > LISTS // 50, f"{counts}")
