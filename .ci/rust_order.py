@@ -4,9 +4,9 @@ chains of it, and of each step the greatest earlier one that races with it unord
 
     python3 .ci/rust_order.py TRACE ..
 
-tells them of each trace, as `mirace offline` tells those by the machine's order, each behind the trace's name. A step is
-what `step_of` of examples/trace/trace.py gives, as in plain.py. Nothing here is shared with the program, whose list is made
-by clocks.
+tells them of each trace, as `mirace offline` tells those by the machine's order, each behind the trace's name. A step
+is what `step_of` of examples/trace/trace.py gives, as in plain.py. Nothing here is shared with the program, whose list
+is made by clocks.
 """
 import bisect
 import importlib.util

@@ -4,9 +4,11 @@ pub mod ClockLaws
 pub mod Examples
 pub mod LoadLaws
 pub mod MarkLaws
+pub mod MemoLaws
 pub mod OneList
 pub mod OrderLaws
 pub mod PartnerLaws
 pub mod RowLaws
 pub mod StepLaws
+pub mod TestLaws
 pub mod TopLaws
