@@ -7,7 +7,7 @@ use Rattle.mr_base.specs.Reasons.{name_of}
 use Rattle.mr_base.specs.declared.reason.Verdict.{Verdict}
 use Rattle.mr_base.specs.declared.reason.Verdict.TheVariants as verdict
 use Rattle.mr_event.specs.Predicted.{predicted}
-use Rattle.mr_rust_order.specs.Races.{rust_races}
+use Rattle.mr_rust_order.specs.Tests.{rust_races}
 use Rattle.mr_sched.specs.declared.schedule.Schedule.{Schedule}
 use Rattle.mr_step.specs.PlanRuns.{Printed}
 use Rattle.mr_start.specs.Runs.{run_of, steps_of}

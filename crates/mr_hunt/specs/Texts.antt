@@ -6,7 +6,7 @@ use Rattle.mr_base.specs.declared.reason.Verdict.TheVariants.{Running}
 use Rattle.mr_event.specs.Footprint.{Footprint}
 use Rattle.mr_event.specs.Predicted.{predicted}
 use Rattle.mr_event.specs.declared.footprint.Pair.{Pair}
-use Rattle.mr_rust_order.specs.Races.{rust_races}
+use Rattle.mr_rust_order.specs.Tests.{rust_races}
 use Rattle.mr_sched.specs.declared.schedule.Schedule.{Schedule}
 use Rattle.mr_start.specs.Runs.{run_of, steps_of}
 use Rattle.mr_auto.specs.Drawing.{drawn_schedule}

@@ -3,7 +3,7 @@ ghost use Rattle.std.specs.Prelude.{◌≡◌, [], ◌++◌, ◌≤◌, ◌^◌,
 ghost use Rattle.mr_listing.specs.Seen.{seen};
 ghost use Rattle.mr_listing.specs.Spots.{stand_text};
 ghost use Rattle.mr_report.specs.Report.{line, verdict_text};
-ghost use Rattle.mr_rust_order.specs.Races.{rust_races};
+ghost use Rattle.mr_rust_order.specs.Tests.{rust_races};
 ghost use Rattle.mr_hunt.specs.Aims.{aim_of};
 ghost use Rattle.mr_hunt.specs.Texts.{asks_rust, both_races, by_places, command_line, end_text, found_text, head_text};
 ghost use Rattle.mr_hunt.specs.Texts.{line_in, none_text, part_of, row_line, rust_part, seen_with, table_text};

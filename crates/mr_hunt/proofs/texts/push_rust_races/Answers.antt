@@ -10,4 +10,4 @@ returns c =
     c.in_ok-extend_from_slice-2.ensures.items
     ∙ ap₂ join (c.in_ok-push.ensures.items ∙ ap (λ xs. xs ++ 10 ∷ []) c.in_ok-extend_from_slice.ensures.items)
     (c.as_slice-2.ensures.value ∙ c.in_ok-told.ensures
-    ∙ ap (λ (races : List Pair). by races) (c.as_slice.ensures.value ∙ c.in_ok-found.ensures))
+    ∙ ap (λ (races : List Pair). by races) (c.as_slice.ensures.value ∙ c.in_ok-found.ensures.listed))
