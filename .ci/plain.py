@@ -47,15 +47,19 @@ def joins(step, other):
     return kind == JOIN and (spawned_by(other, number) or (other[2] and other[0] == number))
 
 
+def shares(later, earlier):
+    """The later step uses or frees an allocation that the earlier one made, or frees one that it used."""
+    (made, _, touched), (_, freed, used) = earlier[4], later[4]
+    return any(it in used or it in freed for it in made) or any(it in freed for it in touched)
+
+
 def depends(later, earlier):
-    made, touched = set(earlier[4][0]), set(earlier[4][2])
     return (
         (lock_of(earlier) is not None and lock_of(earlier) == lock_of(later))
         or earlier[1][0] == later[1][0] == CREATE
         or earlier[1][0] == later[1][0] == SPAWN
         or joins(later, earlier) or joins(earlier, later)
-        or bool(made & (set(later[4][2]) | set(later[4][1]))) or bool(touched & set(later[4][1]))
-        or some(conflict, earlier, later))
+        or shares(later, earlier) or some(conflict, earlier, later))
 
 
 def synchronised(steps, i, j):
