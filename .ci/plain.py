@@ -86,8 +86,8 @@ def order(steps):
 
 
 def races_by(steps, before):
-    """Pairs of places, counted from 0: each step that races with an earlier one which isn't before it, with the greatest
-    of these."""
+    """Pairs of places, counted from 0: each step that races with an earlier one which isn't before it, with the
+    greatest of these."""
     pairs = []
     for j, step in enumerate(steps):
         partners = (i for i in reversed(range(j))

@@ -114,8 +114,8 @@ class Checks:
             self.by_companion(what, trace, orders)
 
     def by_companion(self, what, trace, orders):
-        """What the companion tells of the trace is what told.py and two_orders.py make of it, at the places of `names`; and
-        its pairs of places have as many races as the list of `races` says."""
+        """What the companion tells of the trace is what told.py and two_orders.py make of it, at the places of `names`;
+        and its pairs of places have as many races as the list of `races` says."""
         places = f"{self.at}/recorded.names"
         named = subprocess.run([f"{HERE}/names", trace], stdout=subprocess.PIPE, timeout=PATIENCE).stdout
         with open(places, "wb") as it:
@@ -204,9 +204,9 @@ def by_rust(checks, name):
 
 
 def twins(checks):
-    """The twins in the order of the recorded run: what is listed of each, beside the list of its example by Rust's order,
-    and whether ThreadSanitizer reports a race of it. On a machine with much else to do a time table isn't always kept: a
-    longer one is tried then."""
+    """The twins in the order of the recorded run: what is listed of each, beside the list of its example by Rust's
+    order, and whether ThreadSanitizer reports a race of it. On a machine with much else to do a time table isn't always
+    kept: a longer one is tried then."""
     reported = two_orders.reported()
     for name in sorted(it[:-2] for it in os.listdir(TWINS) if it.endswith(".c")):
         example_has = by_rust(checks, name)

@@ -39,6 +39,11 @@ def head(races, places):
     return b"%s at %s" % (many(races, b"race", b"races"), many(places, b"pair of places", b"pairs of places"))
 
 
+def often(pairs):
+    """How many pairs there are, in front of the first."""
+    return b"once, " if len(pairs) == 1 else b"%d times, first " % len(pairs)
+
+
 class Orders:
     """Both orders of the steps of a run or a trace, and the list by each."""
 
@@ -64,8 +69,8 @@ class Orders:
 
 
 class Both:
-    """What is told of both orders, by where the steps stand. `key` of a step is its place, by which pairs stand in order;
-    `name` of a place is what is written of it; `side` of a step is what is told of it below."""
+    """What is told of both orders, by where the steps stand. `key` of a step is its place, by which pairs stand in
+    order; `name` of a place is what is written of it; `side` of a step is what is told of it below."""
 
     def __init__(self, orders, key, name, side=lambda k: ()):
         self.orders, self.key, self.name, self.side = orders, key, name, side
@@ -106,9 +111,8 @@ class Both:
         for number, both in enumerate(sorted({*rust, *machine})):
             one, other = rust.get(both, []), machine.get(both, [])
             pairs = one or other
-            often = b"once, " if len(pairs) == 1 else b"%d times, first " % len(pairs)
             i, j = pairs[0]
-            lines.append(b"%s  /  %s: %s%d %d\n" % (*map(self.name, both), often, i + 1, j + 1))
+            lines.append(b"%s  /  %s: %s%d %d\n" % (*map(self.name, both), often(pairs), i + 1, j + 1))
             lines += [line for k in pairs[0] for line in self.side(k)]
             lines.append(INDENT + self.verdict(one, other, number < MOST) + b"\n")
         return b"".join(lines)
@@ -217,7 +221,8 @@ def drawn_accesses(draw, width):
 
 def drawn_event(draw, threads):
     """What a step does to a lock or to a thread."""
-    kind = draw.choice((plain.QUIET,) * 5 + (plain.ACQUIRE, plain.RELEASE) * 2 + (plain.CREATE, plain.SPAWN, plain.JOIN))
+    often_drawn = (plain.QUIET,) * 5 + (plain.ACQUIRE, plain.RELEASE) * 2
+    kind = draw.choice((*often_drawn, plain.CREATE, plain.SPAWN, plain.JOIN))
     if kind == plain.QUIET:
         return kind, None
     return kind, draw.randrange(threads if kind in (plain.SPAWN, plain.JOIN) else 2)
