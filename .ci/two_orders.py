@@ -5,17 +5,22 @@ their definitions (rust_order.py and plain.py). Nothing here is shared with the 
   places that are drawn, and of the trace alone.
 - 10,000 lists of steps that are drawn, with many atomic accesses, locks, wakes, starts and joins.
 - What docs/BESIDE.md says of the examples: their races by each order, and that ThreadSanitizer reports those by Rust's.
+- What the form takes of the shapes of long.py, beside `run`, in instructions.
 """
 import os
 import random
 import re
+import shutil
+import subprocess
 
 import companion
+import long
 import ordered
 import plain
 import rust_order
+import shapes
 import told
-from judging import CASES, CLASS, EXAMPLES, TOP, judge, read, run, short, stored_runs, write
+from judging import CASES, CLASS, EXAMPLES, PROGRAM, TOP, judge, read, run, short, stored_runs, write
 from traces import drawn_places, trace_script
 
 INDENT = b" " * 8
@@ -23,6 +28,8 @@ INDENT = b" " * 8
 MOST = 8
 # How many lists are drawn.
 LISTS = 10000
+# How many entries the runs have that are counted, and how many times what `run` takes the form may take.
+ENTRIES, TIMES = 1 << 12, 1.5
 # The page with a row of each example and its twin: its races, those by Rust's order, and what ThreadSanitizer reports.
 BESIDE = f"{TOP}/docs/BESIDE.md"
 ROW = re.compile(r"^\| `([a-z-]+)` \| ([^|]*) \| ([^|]*) \| ([^|]*) \|.* of \d+ \|$", re.M)
@@ -262,3 +269,24 @@ def both_orders_of_steps(at):
         counts["differ"] += orders.rust != orders.machine
     judge("drawn steps: with races and without, and with lists that differ",
           LISTS // 4 < counts["rust"] < LISTS * 9 // 10 and counts["differ"] > LISTS // 50, f"{counts}")
+
+
+# ---- what it takes
+
+def instructions(words, at):
+    """How many instructions a command takes."""
+    ran = subprocess.run([*shapes.VALGRIND, *words], cwd=at, stdout=subprocess.DEVNULL, stderr=subprocess.PIPE)
+    return int(re.search(rb"I +refs: +([\d,]+)", ran.stderr).group(1).replace(b",", b""))
+
+
+def both_orders_counted(at):
+    """The instructions of `rust P S` are at most half more than those of `run P S`, for each shape of long.py."""
+    if not shutil.which("valgrind"):
+        print("outputs: there is no valgrind, so that no instructions of both orders are counted")
+        return
+    for name, text in long.SHAPES.items():
+        write(at, "P", text.encode())
+        write(at, "S", long.drawn(PROGRAM, at, ENTRIES))
+        plain_run, both = (instructions([*words, "P", "S"], at) for words in
+                           ((PROGRAM, "run"), (companion.COMPANION, "rust")))
+        judge(f"both orders: {name}", both <= TIMES * plain_run, f"{both:,} instructions, beside {plain_run:,} of `run`")
