@@ -22,8 +22,8 @@ use Rattle.mr_hunt.specs.declared.ends.End.TheVariants as shown
 use Rattle.mr_hunt.specs.Ends.{run_ends, verdict_number}
 use Rattle.mr_hunt.specs.Table.{numbers}
 
--- a race, or another verdict than `exit`; a race; a race by Rust's order; a verdict `undefined`; the verdict of a name, or
--- `undefined` for the reason of a name; a race between the statements at two lines; a line of output
+-- a race, or another verdict than `exit`; a race; a race by Rust's order; a verdict `undefined`; the verdict of a name,
+-- or `undefined` for the reason of a name; a race between the statements at two lines; a line of output
 pub data Aim : Type 0 where
   Any : Aim
   Race : Aim

@@ -6,18 +6,18 @@ ghost use Rattle.mr_step.specs.Standing.{seen_line};
 ghost use Rattle.mr_places.specs.Laid.{Laid};
 ghost use Rattle.mr_hunt.specs.Ends.{verdict_number};
 ghost use Rattle.mr_hunt.specs.Aims.{Any, IsFirst, Lines, Named, Prints, Race, RustRace, Undefined, aim_of, first_met};
-ghost use Rattle.mr_hunt.specs.Aims.{is_between, is_met, is_on, is_print, is_print_in, is_undefined, spot_in, verdict_name};
+ghost use Rattle.mr_hunt.specs.Aims.{is_between, is_met, is_on, is_print, is_print_in, is_undefined, spot_in};
+ghost use Rattle.mr_hunt.specs.Aims.{verdict_name};
 
 use crate::counting::{how_many, number_behind};
 use crate::ends::{End, verdict_number};
-use crate::seeing::{ends_of, verdict_of};
+use crate::seeing::{by_rust, ends_of, verdict_of};
 use mr_auto::draw;
 use mr_base::Verdict;
 use mr_event::{Footprint, Pair};
 use mr_labels::Stand;
 use mr_places::{Places, Spot};
 use mr_run::{Clocked, Nothing};
-use mr_rust_order::races;
 use mr_step::Machine;
 use mr_typing::Checked;
 use std::alloc::{AllocError, Global};
@@ -173,7 +173,7 @@ fn has_rust_race(alloc: Global, p: &Checked, most: u32, number: u64) -> Result<b
 {
     let mut steps: Vec<Footprint> = Vec::new(alloc);
     draw(alloc, p, number, most, &mut steps)?;
-    let found = races(alloc, steps.as_slice())?;
+    let found = by_rust(alloc, steps.as_slice())?;
     Ok(!found.as_slice().is_empty())
 }
 

@@ -12,7 +12,7 @@ ghost use Rattle.mr_hunt.specs.Texts.{times_text, told_text};
 use crate::aims::Aim;
 use crate::counting::Row;
 use crate::ends::End;
-use crate::seeing::told;
+use crate::seeing::{by_rust, told};
 use itoa::Buffer;
 use mr_auto::draw;
 use mr_base::{Reason, Verdict};
@@ -290,11 +290,11 @@ fn push_rust_races(
     ensures { OnOk result (out.new.items ≡ out.old.items ++ (line (codes "by Rust's order:")
         ++ by_places text.now p.now places.now steps.now (rust_races run.now))) }
 {
-    let found = mr_rust_order::races(alloc, run)?;
-    let told = races_of(alloc, text, p, places, steps, found.as_slice())?;
+    let found = by_rust(alloc, run)?;
+    let lines = races_of(alloc, text, p, places, steps, found.as_slice())?;
     out.extend_from_slice(b"by Rust's order:")?;
     out.push(b'\n')?;
-    out.extend_from_slice(told.as_slice())?;
+    out.extend_from_slice(lines.as_slice())?;
     Ok(())
 }
 

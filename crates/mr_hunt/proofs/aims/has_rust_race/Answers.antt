@@ -15,5 +15,5 @@ returns c = λ laid.
     c.as_slice.ensures.value ∙ c.in_ok-draw.ensures.kept
     ∙ ap (λ (w : Schedule). steps_of p w) c.in_ok-draw.ensures.schedule in
     let listed =
-    c.as_slice-2.ensures.value ∙ c.in_ok-found.ensures.listed ∙ ap (λ (run : List Footprint). rust_races run) steps in
+    c.as_slice-2.ensures.value ∙ c.in_ok-found.ensures ∙ ap (λ (run : List Footprint). rust_races run) steps in
     ap not (c.is_empty.ensures ∙ ap (λ (rs : List Pair). length rs == 0) listed)

@@ -9,5 +9,5 @@ returns c =
     let by = by_places c.args.text.now c.args.p.now c.args.places.now c.args.steps.now in
     c.in_ok-extend_from_slice-2.ensures.items
     ∙ ap₂ join (c.in_ok-push.ensures.items ∙ ap (λ xs. xs ++ 10 ∷ []) c.in_ok-extend_from_slice.ensures.items)
-    (c.as_slice-2.ensures.value ∙ c.in_ok-told.ensures
-    ∙ ap (λ (races : List Pair). by races) (c.as_slice.ensures.value ∙ c.in_ok-found.ensures.listed))
+    (c.as_slice-2.ensures.value ∙ c.in_ok-lines.ensures
+    ∙ ap (λ (races : List Pair). by races) (c.as_slice.ensures.value ∙ c.in_ok-found.ensures))
