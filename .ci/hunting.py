@@ -126,7 +126,7 @@ def told_by_rust(program, number, report, both, at):
     races, _ = shown(["races", program, "drawn.sched"], at)
     places = {tuple(map(both.name, it)): pairs for it, pairs in both.at_places(both.orders.rust).items()}
     lines = [b"%s  /  %s: %s%d %d\n" % (*it, two_orders.often(pairs), pairs[0][0] + 1, pairs[0][1] + 1)
-             for it, pairs in sorted(places.items(), key=lambda it: -len(it[1]))]
+             for it, pairs in places.items()]
     return b"".join((
         b"number %d\n" % number, re.search(rb"^verdict .*\n", report, re.M)[0], races, b"by Rust's order:\n", *lines,
         b"races %d\n" % len(both.orders.rust), b"shown by: mirace auto %s %d 1000\n" % (program.encode(), number)))

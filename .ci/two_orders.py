@@ -24,7 +24,7 @@ from judging import CASES, CLASS, EXAMPLES, PROGRAM, TOP, judge, read, run, shor
 from traces import drawn_places, trace_script
 
 INDENT = b" " * 8
-# Of so many pairs of places, at most, it is told why one order alone has them.
+# Of so many groups of Rust's list it is told why the machine's hasn't theirs.
 MOST = 8
 # How many lists are drawn.
 LISTS = 10000
@@ -76,53 +76,66 @@ class Orders:
 
 
 class Both:
-    """What is told of both orders, by where the steps stand. `key` of a step is its place, by which pairs stand in
-    order; `name` of a place is what is written of it; `side` of a step is what is told of it below."""
+    """What is told of both orders, by where the steps stand. `key` of a step is its place; `name` of a place is what is
+    written of it; `side` of a step is what is told of it below. Of the places with as many races those of lower keys
+    come first, or where `is_by_race` says so those with the first race."""
 
-    def __init__(self, orders, key, name, side=lambda k: ()):
-        self.orders, self.key, self.name, self.side = orders, key, name, side
+    def __init__(self, orders, key, name, side=lambda k: (), is_by_race=False):
+        self.orders, self.key, self.name, self.side, self.is_by_race = orders, key, name, side, is_by_race
 
     def at_places(self, pairs):
-        """The pairs at each two places, in their order."""
+        """The pairs at each two places, those with most first."""
         found = {}
         for pair in pairs:
             found.setdefault(tuple(map(self.key, pair)), []).append(pair)
-        return found
+        rank = lambda both: (-len(found[both]), *(() if self.is_by_race else both))
+        return {both: found[both] for both in sorted(found, key=rank)}
 
-    def alone(self, pair, listed, before, words, since):
-        """Why the other list hasn't a pair: the other order has the two one behind the other, or it lists the second
-        with a later step."""
+    def alone(self, pair, listed, words, since):
+        """Why the other list hasn't a pair: it has the second step with a later one, or the other order has the two one
+        behind the other."""
         i, j = pair
-        if before[j] >> i & 1:
-            return words[0] % (i + 1, j + 1) + (since(i, j) if since else b"")
-        return words[1] % (j + 1, next(one for one, other in listed if other == j) + 1)
+        others = [one for one, other in listed if other == j and one > i]
+        if others:
+            return words[1] % (j + 1, others[0] + 1)
+        return words[0] % (i + 1, j + 1) + since(i, j)
 
-    def verdict(self, rust, machine, is_told):
-        """In which lists the races at two places are."""
-        if rust and machine:
-            return b"both: %d by Rust's order, %d by the machine's" % (len(rust), len(machine))
-        if rust:
-            words = (b"Rust's order alone: in the machine's step %d comes before step %d",
-                     b"Rust's order alone: the machine's lists step %d with step %d")
-            since = self.orders.since if is_told else None
-            return self.alone(rust[0], self.orders.machine, self.orders.by_machine, words, since)
+    def rust_alone(self, pair, is_told):
+        """Why the machine's list hasn't a race of Rust's."""
+        words = (b"Rust's order alone: in the machine's step %d comes before step %d",
+                 b"Rust's order alone: the machine's lists step %d with step %d")
+        return self.alone(pair, self.orders.machine, words, self.orders.since if is_told else lambda i, j: b"")
+
+    def machine_alone(self, pair):
+        """Why Rust's list hasn't a race of the machine's."""
         words = (b"the machine's order alone: in Rust's step %d comes before step %d",
                  b"the machine's order alone: Rust's lists step %d with step %d")
-        return self.alone(machine[0], self.orders.rust, self.orders.by_rust, words, None)
+        return self.alone(pair, self.orders.rust, words, lambda i, j: b"")
+
+    def group(self, both, pairs, why):
+        """The lines of the races at two places."""
+        (i, j), sides = pairs[0], (line for k in pairs[0] for line in self.side(k))
+        head = b"%s  /  %s: %s%d %d\n" % (*map(self.name, both), often(pairs), i + 1, j + 1)
+        return b"".join((head, *sides, INDENT, why, b"\n"))
+
+    def groups(self):
+        """The groups of Rust's list, and those of the machine's where Rust's has none."""
+        rust, machine = self.at_places(self.orders.rust), self.at_places(self.orders.machine)
+        yield b"Rust's order: %s; the machine's: %s\n" % (
+            head(len(self.orders.rust), len(rust)), head(len(self.orders.machine), len(machine)))
+        for number, (both, pairs) in enumerate(rust.items()):
+            if both in machine:
+                why = b"both: %d by Rust's order, %d by the machine's" % (len(pairs), len(machine[both]))
+            else:
+                why = self.rust_alone(pairs[0], number < MOST)
+            yield self.group(both, pairs, why)
+        for both, pairs in machine.items():
+            if both not in rust:
+                yield self.group(both, pairs, self.machine_alone(pairs[0]))
 
     def text(self):
         """What is written."""
-        rust, machine = self.at_places(self.orders.rust), self.at_places(self.orders.machine)
-        lines = [b"Rust's order: %s; the machine's: %s\n" % (
-            head(len(self.orders.rust), len(rust)), head(len(self.orders.machine), len(machine)))]
-        for number, both in enumerate(sorted({*rust, *machine})):
-            one, other = rust.get(both, []), machine.get(both, [])
-            pairs = one or other
-            i, j = pairs[0]
-            lines.append(b"%s  /  %s: %s%d %d\n" % (*map(self.name, both), often(pairs), i + 1, j + 1))
-            lines += [line for k in pairs[0] for line in self.side(k)]
-            lines.append(INDENT + self.verdict(one, other, number < MOST) + b"\n")
-        return b"".join(lines)
+        return b"".join(self.groups())
 
     def has_race(self):
         return bool(self.orders.rust or self.orders.machine)
@@ -140,7 +153,7 @@ def of_run(orders, listing):
     """A run, whose steps are told by `mirace_show steps` at their places."""
     told_steps, _ = companion.parted(listing)
     spots = {(it.row, it.column): it.place() for it in told_steps}
-    return Both(orders, lambda k: (told_steps[k].row, told_steps[k].column), spots.get)
+    return Both(orders, lambda k: (told_steps[k].row, told_steps[k].column), spots.get, is_by_race=True)
 
 
 def expect(what, words, both, at, otherwise=0):
