@@ -16,7 +16,6 @@
 //! The order of a part of a run, as it is drawn (Lamport: happens-before, and pictures of it):
 //!
 //! - [`Span`]: the steps of a part. [`races_in`]: those races both of whose steps are in it.
-//! - [`arrows`]: the edges between steps of two threads that neither a lane nor other arrows give.
 //! - [`wakes_thread`]: whether a step woke or started the thread of another one.
 //! - [`order_text`]: the way from a step to a later one by edges of happens-before, each with its reason ([`Because`]), or
 //!   that nothing orders the two.
@@ -55,7 +54,6 @@ mod way;
 mod way_texts;
 mod witness;
 
-pub use arrows_of::arrows;
 pub use because::Because;
 pub use deeds::{push_ended, push_numbered, push_woken};
 pub use drawing::{picture, sketched};
