@@ -17,11 +17,7 @@ use mr_rust_order::Analysis as RustOrder;
 use std::alloc::Global;
 
 // Rust's order of the first so many steps of a run.
-fn rusts_order(
-    alloc: Global,
-    run: &[Footprint],
-    count: usize,
-) -> Result<RustOrder, OutOfMemory>
+fn rusts_order(alloc: Global, run: &[Footprint], count: usize) -> Result<RustOrder, OutOfMemory>
     requires { count ≤ length run.now }
     ensures { IfOk result (λ rust. RustTracks run.now count rust) }
 {

@@ -132,12 +132,7 @@ fn arrow_reason(woken: bool, rusts: bool) -> &'static str
 }
 
 // What is told of an arrow.
-fn arrow_title(
-    alloc: Global,
-    arrow: Pair,
-    woken: bool,
-    rusts: bool,
-) -> Result<Vec<u8>, OutOfMemory>
+fn arrow_title(alloc: Global, arrow: Pair, woken: bool, rusts: bool) -> Result<Vec<u8>, OutOfMemory>
     ensures { IfOk result (λ text. text.items ≡ arrow_title arrow woken rusts) }
 {
     let mut out = Vec::new(alloc);

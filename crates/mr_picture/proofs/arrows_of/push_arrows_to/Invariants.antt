@@ -14,7 +14,7 @@ invariant-loop-first l =
       from : s.done.from ≤ l.first;
       to : l.first ≤ max s.done.from l.second;
       drawn :
-        l.out.items
-        ≡ l.fn.out.items ++ flat_map mark_text
-        (map (arrow_mark s) (flat_map (arrow_from s.sketch.feet l.second) (range_with_len s.done.from (l.first - s.done.from))));
+          l.out.items
+          ≡ l.fn.out.items ++ flat_map mark_text
+          (map (arrow_mark s) (flat_map (arrow_from s.sketch.feet l.second) (range_with_len s.done.from (l.first - s.done.from))));
     }

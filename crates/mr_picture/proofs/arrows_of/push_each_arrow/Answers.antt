@@ -25,7 +25,7 @@ pub returns : goal.returns
 returns c =
     let s = scene_in c.args.scene.now in
     let met : c.loop-second.second - s.done.from ≡ s.done.to - s.done.from =
-        omega (arith, c.loop-second-test.false, c.loop-second.invariant.to) in
+    omega (arith, c.loop-second-test.false, c.loop-second.invariant.to) in
     c.loop-second.invariant.drawn
     ∙ ap
     (λ n. c.args.out.now.items

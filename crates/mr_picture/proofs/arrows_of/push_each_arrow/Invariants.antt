@@ -16,7 +16,7 @@ invariant-loop-second l =
       to : l.second ≤ s.done.to;
       rust : Tracks s.sketch.feet l.second l.rust;
       drawn :
-        l.out.items
-        ≡ l.fn.out.items ++ flat_map mark_text
-        (map (arrow_mark s) (flat_map (arrows_to s.sketch.feet s.done.from) (range_with_len s.done.from (l.second - s.done.from))));
+          l.out.items
+          ≡ l.fn.out.items ++ flat_map mark_text
+          (map (arrow_mark s) (flat_map (arrows_to s.sketch.feet s.done.from) (range_with_len s.done.from (l.second - s.done.from))));
     }
