@@ -4,7 +4,7 @@ use Rattle.mr_event.specs.declared.footprint.Pair.{Pair}
 use Rattle.mr_rust_order.specs.Order.{HappensBefore}
 use Rattle.mr_rust_order.specs.Order.Edge.{started}
 use Rattle.mr_rust_order.specs.Order.HappensBefore.{edge}
-use Rattle.mr_rust_order.proofs.ListedLaws.{rust_before_is}
+use Rattle.mr_rust_order.proofs.TestLaws.{happens_before_is}
 use Rattle.mr_svg.specs.declared.shape.Sign.TheVariants as sign
 use Rattle.mr_picture.specs.Links.{arrow_mark, arrow_sign, is_rusts, is_wake}
 use Rattle.mr_picture.specs.Scene.{Scene}
@@ -21,4 +21,4 @@ pub whose : (s : Scene) (arrow : Pair) → arrow.first < arrow.second
 whose s arrow rising =
     let feet = s.sketch.feet in
     told (is_wake feet arrow) (is_rusts feet arrow) (HappensBefore feet arrow.first arrow.second)
-    (λ e. edge (started rising e)) (rust_before_is feet arrow.first arrow.second)
+    (λ e. edge (started rising e)) (happens_before_is feet arrow.first arrow.second)

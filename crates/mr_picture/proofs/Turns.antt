@@ -1,9 +1,9 @@
 -- What loops over numbers keep.
 use Rattle.std.proofs.Common.{◌≡◌, ℕ, zero, suc, ◌+◌, ◌-◌, ◌<◌, ◌≤◌, Bool, true, false, IsTrue, ◌↔◌, List, [], ◌∷◌, ◌++◌}
-use Rattle.std.proofs.Common.{refl, sym, ap, ◌∙◌, append_assoc, append-nil, arith, Result, Ok, Err}
+use Rattle.std.proofs.Common.{refl, sym, ap, ◌∙◌, append_assoc, append-nil, arith}
 use Rattle.std.proofs.lemmas.List.Elements.{filter-append}
 use Rattle.std.proofs.lemmas.List.Folds.{list_any-append}
-use Rattle.std.specs.Prelude.{◌||◌, IfOk, flat_map, if◌then◌else◌, max}
+use Rattle.std.specs.Prelude.{◌||◌, flat_map, if◌then◌else◌, max}
 use Rattle.std.specs.List.{filter, list_any, range_with_len}
 use Rattle.mr_event.proofs.Tests.{any_range_at}
 
@@ -73,12 +73,6 @@ alike true true P f g = refl
 alike false false P f g = refl
 alike true false P f g = sym (g.1 (f.0 refl))
 alike false true P f g = f.1 (g.0 refl)
-
--- the same where the memory may be used up
-pub alike_where_ok : {E : Type 0} (r : Result Bool E) (c : Bool) (P : Type 0) → IfOk r (λ b. IsTrue b ↔ P)
-    → IsTrue c ↔ P → IfOk r (λ b. b ≡ c)
-alike_where_ok (Ok b) c P h is = alike b c P h is
-alike_where_ok (Err e) c P h is = tt
 
 -- a loop that has come to its end has met all numbers
 pub all_met : (a k b : ℕ) → a ≤ k → b ≤ k → k ≤ max a b → k - a ≡ b - a

@@ -5,7 +5,7 @@ use Rattle.mr_event.specs.declared.footprint.Pair.{Pair}
 use Rattle.mr_event.specs.Footprint.{Footprint}
 use Rattle.mr_event.specs.Footprints.{wakes}
 use Rattle.mr_event.specs.Order.{step_at, thread_at}
-use Rattle.mr_rust_order.specs.Listed.{rust_before}
+use Rattle.mr_rust_order.specs.Tests.{happens_before as rust_before}
 use Rattle.mr_svg.specs.declared.shape.Corner.{Corner}
 use Rattle.mr_svg.specs.declared.shape.Point.{Point}
 use Rattle.mr_svg.specs.declared.shape.Shape.{Shape}

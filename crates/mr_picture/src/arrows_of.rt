@@ -21,7 +21,7 @@ fn rusts_order(alloc: Global, run: &[Footprint], count: usize) -> Result<RustOrd
     requires { count ≤ length run.now }
     ensures { IfOk result (λ rust. RustTracks run.now count rust) }
 {
-    let mut rust = RustOrder::new(alloc);
+    let mut rust = RustOrder::new(alloc)?;
     for step in 0..count {
         rust.add(run, step)?;
     }

@@ -144,13 +144,15 @@ fn arrow_title(alloc: Global, arrow: Pair, woken: bool, rusts: bool) -> Result<V
 }
 
 // Whether Rust's order has an arrow too.
+#[tactic(auto, using(mr_rust_order::proofs::TestLaws::before_is))]
 fn is_rusts(run: &[Footprint], rust: &RustOrder, arrow: Pair) -> Result<bool, OutOfMemory>
     requires first { arrow.first < length run.now }
     requires second { arrow.second < length run.now }
     requires rust { RustTracks run.now arrow.second rust.now }
     ensures { IfOk result (λ is. is ≡ is_rusts run.now arrow) }
 {
-    rust.orders(run, arrow.first, arrow.second)
+    let rusts = rust.orders(run, arrow.first, arrow.second)?;
+    Ok(rusts)
 }
 
 /// Appends an arrow.
