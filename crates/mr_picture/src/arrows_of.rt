@@ -108,9 +108,9 @@ pub(crate) fn push_arrows(
     ensures { OnOk result (out.new.items ≡ out.old.items ++ flat_map mark_text
         (map (arrow_mark (scene_in scene.now)) (arrows (scene_in scene.now).sketch.feet (scene_in scene.now).done))) }
 {
-    if scene.done.from <= scene.done.to {
-        let mut rust = rusts_order(alloc, scene.sketch.feet, scene.done.from)?;
-        push_each_arrow(alloc, out, scene, order, &mut rust)?;
+    if scene.done.to < scene.done.from {
+        return Ok(());
     }
-    Ok(())
+    let mut rust = rusts_order(alloc, scene.sketch.feet, scene.done.from)?;
+    push_each_arrow(alloc, out, scene, order, &mut rust)
 }
