@@ -10,6 +10,7 @@
 - What an undefined run speaks of, beside its reason and its steps (spoken.py).
 - How runs go on, and what orders become (going_on.py).
 - The pictures of the pages, and those of runs beside their listings and their footprints (pictures.py).
+- What `check` tells of texts, programs and schedules with faults, by rows (refusals.py).
 - Long runs, in seconds.
 
     python3 .ci/companion.py [COMPANION [PROGRAM]]
@@ -29,6 +30,7 @@ import going_on  # noqa: E402
 import limits  # noqa: E402
 import pictures  # noqa: E402
 import spoken  # noqa: E402
+from refusals import compare as compare_refusals  # noqa: E402
 
 TOP = os.path.dirname(os.path.dirname(os.path.abspath(__file__)))
 COMPANION = f"{TOP}/crates/mirace_show/out/mirace_show"
@@ -37,7 +39,7 @@ EXAMPLES = f"{TOP}/examples"
 CLASS = f"{EXAMPLES}/class"
 CASES = f"{TOP}/crates/mirace_cases/data"
 STORED = f"{TOP}/crates/mirace_cases/stdout"
-USAGE = b"usage: steps P S [FIRST LAST] | races P S | picture P S [FIRST LAST] | order P S FIRST LAST | races T PLACES | steps T PLACES [FIRST LAST] | steps T FIRST LAST | picture T PLACES [FIRST LAST] | next P S | fill P O | halt P O | hunt P FROM TO M [AIM] | draw P N M | why CODE | --help\n"
+USAGE = b"usage: steps P S [FIRST LAST] | races P S | picture P S [FIRST LAST] | order P S FIRST LAST | races T PLACES | steps T PLACES [FIRST LAST] | steps T FIRST LAST | picture T PLACES [FIRST LAST] | next P S | check P [S] | fill P O | halt P O | hunt P FROM TO M [AIM] | draw P N M | why CODE | --help\n"
 # The most seconds that a long run may take, on a slow machine.
 PATIENCE = 40
 # The line of a step, with its number, its thread, its place, its function, its block and its statement.
@@ -118,6 +120,17 @@ def cases(at):
         yield f"6, a folder, {form}", [form, "folder", example("print.sched")], b"read program\n", 6
         yield f"6, no schedule, {form}", [form, example("print.mr"), "missing"], b"read schedule\n", 6
         yield f"6, a folder for the schedule, {form}", [form, example("print.mr"), "folder"], b"read schedule\n", 6
+    yield "0, a right program", ["check", "one.mr"], b"one.mr: well-formed\n", 0
+    yield "0, a right schedule", ["check", "one.mr", "one.sched"], b"one.sched: legal, 1 entries\n", 0
+    yield "6, no program to check", ["check", "missing"], b"read program\n", 6
+    yield "6, no program to check beside a schedule", ["check", "missing", "missing"], b"read program\n", 6
+    yield "6, a folder to check", ["check", "folder", "one.sched"], b"read program\n", 6
+    yield "6, no schedule to check", ["check", "one.mr", "missing"], b"read schedule\n", 6
+    yield "6, no schedule beside a wrong program", ["check", example("unknown-name.mr"), "missing"], b"read schedule\n", 6
+    yield "6, a folder for a schedule to check", ["check", "one.mr", "folder"], b"read schedule\n", 6
+    yield "3, a text above 2^20 bytes to check", ["check", "above.mr"], b"text 1 1 3 LongText\n", 3
+    yield "3, the same beside a schedule", ["check", "above.mr", "missing"], b"text 1 1 3 LongText\n", 3
+    yield "5, a schedule above 2^26 bytes to check", ["check", "one.mr", "long"], b"schedule 1 52 TooLong\n", 5
     traced = lambda what, words, text, status: (f"{status}, {what}", words, text, status)
     yield traced("a trace", ["races", "none.trace", "none.places"], b"races 0\n", 0)
     yield traced("a trace with a race", ["steps", "one.trace", "2", "2"], ONE_RACE, 1)
@@ -136,6 +149,9 @@ def cases(at):
 
 
 def statuses(judge, at):
+    with open(f"{EXAMPLES}/exit.mr", "rb") as program, open(f"{EXAMPLES}/exit.sched", "rb") as schedule:
+        write(at, "one.mr", program.read())
+        write(at, "one.sched", schedule.read())
     write(at, "words", b"0\n0*x\n")
     write(at, "turns", b"0 0\n")
     write(at, "none.trace", b"MRTR\1\0\0\0\0")
@@ -152,7 +168,7 @@ def statuses(judge, at):
     pair = [f"{EXAMPLES}/exit.mr", f"{EXAMPLES}/exit.sched"]
     numbers = [["steps", *pair, *it] for it in (["1"], ["1", "x"], ["01", "2"], ["1", str(1 << 32)], ["-1", "2"], ["1", "2", "3"])]
     numbers += [["picture", *it[1:]] for it in numbers]
-    few = [[], ["steps"], ["races", pair[0]], ["next"], ["fill", pair[0]], ["halt", *pair, "1"], ["why"], ["why", ""], ["why", "066"], ["why", str(1 << 16)], ["why", "66", "67"]]
+    few = [[], ["steps"], ["races", pair[0]], ["next"], ["check"], ["check", *pair, "1"], ["fill", pair[0]], ["halt", *pair, "1"], ["why"], ["why", ""], ["why", "066"], ["why", str(1 << 16)], ["why", "66", "67"]]
     others = [["run", *pair], ["races", *pair, "1", "2"], ["--version"], ["help"], ["--help", "steps"], ["run", "--help"]]
     for words in (*numbers, *few, *others):
         wrote, ended = ran(words, at)
@@ -162,7 +178,7 @@ def statuses(judge, at):
 def helps(judge, at):
     """The text of each help begins with its form, in lines of at most 120 bytes, and names no other."""
     for words, first in (([], b"mirace_show steps P S [FIRST LAST]   "), (["steps"], b"mirace_show steps P S [FIRST LAST]\n"),
-                         (["races"], b"mirace_show races P S\n"), (["picture"], b"mirace_show picture P S [FIRST LAST]\n"), (["next"], b"mirace_show next P S\n"),
+                         (["races"], b"mirace_show races P S\n"), (["picture"], b"mirace_show picture P S [FIRST LAST]\n"), (["next"], b"mirace_show next P S\n"), (["check"], b"mirace_show check P [S]\n"),
                          (["fill"], b"mirace_show fill P O | halt P O\n"), (["halt"], b"mirace_show fill P O | halt P O\n"), (["hunt"], b"mirace_show hunt P FROM TO M [AIM]\n"), (["draw"], b"mirace_show hunt P FROM TO M [AIM]\n"), (["order"], b"mirace_show order P S FIRST LAST\n"),
                          (["why"], b"mirace_show why CODE\n")):
         wrote, ended = ran([*words, "--help"], at)
@@ -185,7 +201,7 @@ def each_code(judge, at):
 def refused_writes(judge, at):
     """Status 7: a pipe that nobody reads, and a full device."""
     pair = [f"{EXAMPLES}/race.mr", f"{EXAMPLES}/race.sched"]
-    for words in (["steps", *pair], ["races", *pair], ["picture", *pair], ["next", *pair], ["fill", pair[0], "turns"], ["why", "66"], ["--help"], ["walk"], ["races", "missing", "missing"]):
+    for words in (["steps", *pair], ["races", *pair], ["picture", *pair], ["next", *pair], ["check", *pair], ["fill", pair[0], "turns"], ["why", "66"], ["--help"], ["walk"], ["races", "missing", "missing"]):
         end, begin = os.pipe()
         os.close(end)
         ended = subprocess.run([COMPANION, *words], cwd=at, stdout=begin, timeout=60).returncode
@@ -514,7 +530,7 @@ def listings(judge, at):
     judge("companion: runs that speak of an allocation", speaking >= SPEAKING, f"{speaking} runs")
 
 
-def refusals(judge, at):
+def refused_schedules(judge, at):
     """Each stored run whose schedule is refused, by `next`."""
     count = 0
     for program, schedule, report, status in stored():
@@ -522,6 +538,12 @@ def refusals(judge, at):
             going_on.broken(judge, Kit, program, schedule, report, at)
             count += 1
     judge("companion: schedules that are refused", count >= REFUSED, f"{count}")
+
+
+def checks(judge, at):
+    """What `check` tells, by rows."""
+    os.mkdir(f"{at}/checked")
+    compare_refusals(judge, COMPANION, PROGRAM, f"{at}/checked")
 
 
 # ---- long runs
@@ -552,7 +574,7 @@ def compare(judge, at):
     if os.path.isfile(COMPANION):
         write(at, "empty", b"")
         os.mkdir(f"{at}/folder")
-        for check in (statuses, helps, each_code, refused_writes, want_of_memory, listings, refusals, long_runs):
+        for check in (statuses, helps, each_code, refused_writes, want_of_memory, listings, refused_schedules, checks, long_runs):
             check(judge, at)
         pictures.kept(judge, COMPANION)
 

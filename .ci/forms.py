@@ -34,7 +34,7 @@ start 16 4096
 """
 USAGE = ("usage: steps P S [FIRST LAST] | races P S | picture P S [FIRST LAST] | order P S FIRST LAST | "
          "races T PLACES | steps T PLACES [FIRST LAST] | steps T FIRST LAST | picture T PLACES [FIRST LAST] | "
-         "next P S | fill P O | halt P O | hunt P FROM TO M [AIM] | draw P N M | why CODE | --help\n")
+         "next P S | check P [S] | fill P O | halt P O | hunt P FROM TO M [AIM] | draw P N M | why CODE | --help\n")
 EXITS = """1  thread 0  4:13  main b0  exit
 step 1 ended the run
 verdict exit
@@ -57,6 +57,38 @@ CODE_2 = (
     "where a size, an offset or an address stands.\n"
     "what to do: Leave the zeros out. Sizes, offsets and addresses are below 2^64.\n"
     "example: do print(u8 042) to b1;\n")
+# What `check` tells of a byte, of an empty text, of a block of another kind, of a program in place of a schedule, and of
+# an entry and an address that lack.
+BAD_BYTE = """P:1:10: 1 BadByte: The text has a byte that begins no token.
+    minirust !
+             ^
+the byte is 33
+"""
+EMPTY = """P:1:1: 4 Unexpected: Here stands a token with which no program can go on.
+    
+    ^
+the text ends here
+here may stand: minirust
+"""
+BLOCK_KIND = """P:4:13: 32 BlockKind: A block ends in a way that its kind doesn't have, or leads to a block of the wrong kind.
+    b0 regular: goto b1;
+                ^
+in function main, block b0
+"""
+BAD_HEADER = """S:1:1: 50 BadHeader: The first line is no header of a schedule.
+    minirust 1
+    ^
+"""
+AFTER_STOP = """S:4:1
+    0
+    ^
+entry 2 of thread 0 breaks 66 AfterStop: The machine had stopped before this entry.
+        no pick
+"""
+MISSING_PICK = """S:2:1: 61 MissingPick: The step asks for more picks than the entry has.
+    start 16
+    ^
+"""
 # Words, and what is written of them, with the status, where the program exits at once.
 ANSWERED = (
     ("steps P S", EXITS, 0),
@@ -93,8 +125,14 @@ ANSWERED = (
     ("draw Q 3 1", "read program\n", 6),
     ("hunt Q 0 3 1", "read program\n", 6),
     ("hunt Q 0 3 1 race", "read program\n", 6),
+    ("check P", "P: well-formed\n", 0),
+    ("check P S", "S: legal, 1 entries\n", 0),
+    ("check Q", "read program\n", 6),
+    ("check Q Q", "read program\n", 6),
+    ("check P Q", "read schedule\n", 6),
 )
-# A program, a schedule, words, and the line that refuses them, with the status.
+ONE_ADDRESS = "schedule 1\nstart 16\n0\n"
+# A program, a schedule, words, and what refuses them, with the status.
 REFUSED = (
     ("minirust !\n", SCHEDULE, "races P S", "text 1 10 1 BadByte\n", 3),
     (ILL_FORMED, SCHEDULE, "races P S", "form main b0 0 32 BlockKind\n", 4),
@@ -104,6 +142,15 @@ REFUSED = (
     (EXIT, TOO_FAR, "races P S", "schedule 4 66 AfterStop\n", 5),
     (EXIT, TOO_FAR, "rust P S", "schedule 4 66 AfterStop\n", 5),
     (EXIT, EXIT, "steps P S", "schedule 1 50 BadHeader\n", 5),
+    ("minirust !\n", SCHEDULE, "check P", BAD_BYTE, 3),
+    ("minirust !\n", SCHEDULE, "check P S", BAD_BYTE, 3),
+    ("minirust !\n", SCHEDULE, "check P Q", "read schedule\n", 6),
+    ("", SCHEDULE, "check P", EMPTY, 3),
+    (ILL_FORMED, SCHEDULE, "check P", BLOCK_KIND, 4),
+    (ILL_FORMED, EXIT, "check P S", BLOCK_KIND, 4),
+    (EXIT, EXIT, "check P S", BAD_HEADER, 5),
+    (EXIT, TOO_FAR, "check P S", AFTER_STOP, 5),
+    (EXIT, ONE_ADDRESS, "check P S", MISSING_PICK, 5),
 )
 # A trace without steps.
 NO_TRACED = "MRTR\1\0\0\0\0"
@@ -154,6 +201,7 @@ FORMLESS = (
     "races P 1 2", "steps P 1 4294967296",
     "rust", "rust P S 1", "rust P S 1 2", "rusts P S", "hunt P 0 3 1 rusty", "hunt P 0 3 1 rust 1",
     "picture P S 1", "run P S", "--helps", "next P", "fill P", "why", "why 65536", "why Nothing", "why badnumber", "whys 66",
+    "check", "check P S 1", "check P S 1 2", "checks P", "checks P S", "Check P",
     "order P S", "order P S 1", "order P S 1 4294967296", "order P S 01 2", "order P S 1 2 3", "orders P S 1 2",
     "hunt P", "hunt P 0 3", "hunt P 3 2 1", "hunt P 0 3 1048577", "hunt P 0 18446744073709551616 1", "hunt P 00 3 1",
     "hunt P 0 3 1 Nothing", "hunt P 0 3 1 prints", "hunt P 0 3 1 4", "hunt P 0 3 1 4 4294967296",

@@ -19,7 +19,7 @@
 //! - [`arrows`]: the edges between steps of two threads that neither a lane nor other arrows give.
 //! - [`wakes_thread`]: whether a step woke or started the thread of another one.
 //! - [`order_text`]: the way from a step to a later one by edges of happens-before, each with its reason ([`Because`]), or
-//!   that nothing orders the two.
+//!   that nothing orders the two. [`way_to`], [`because_of`], [`because_word`] and [`push_step_word`] are parts of it.
 //! - [`witness_steps`], [`left_out`]: the steps of a part in the order of the witness for a race, and those that it leaves
 //!   out.
 //!
@@ -56,7 +56,7 @@ mod way_texts;
 mod witness;
 
 pub use arrows_of::arrows;
-pub use because::Because;
+pub use because::{Because, because_of, because_word};
 pub use deeds::{push_ended, push_numbered, push_woken};
 pub use drawing::{picture, sketched};
 pub use law::{links_keep_clear, marks_lie_inside};
@@ -65,5 +65,7 @@ pub use order_laws::{arrows_are_edges, paths_are_the_order, ways_are_the_order, 
 pub use scene::{Drawn, Sketch, chosen};
 pub use span::{Span, races_in};
 pub use std::alloc::AllocError as OutOfMemory;
+pub use texts::push_step_word;
+pub use way::way_to;
 pub use way_texts::order_text;
 pub use witness::{left_out, witness_steps};

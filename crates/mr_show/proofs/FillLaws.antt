@@ -22,7 +22,8 @@ module _ (filling : Filling) (p : Program) where
       → Gives {A = FilledText} (Ok t) (texts_of p text) → Tells (filled_answer filling t) result
       → Tells (order_answer filling p text) result
   filled_told text t result gives tells =
-      subst (λ (r : Result FilledText Fault). Tells (told (filled_answer filling) (unless_bad r)) result) (sym gives) tells
+      subst (λ (r : Result FilledText Fault). Tells (told (filled_answer filling) (unless_bad r)) result) (sym gives)
+      tells
 
   -- and so is the first fault of its text
   pub bad_told : (text : List ℕ) (line code : ℕ) → Gives {A = FilledText} (Err (Bad line code)) (texts_of p text)

@@ -43,7 +43,8 @@ module _ (range : Range) (seek : Seek) (name : List ℕ) where
       → file ≡ Some bytes → text ≡ bytes → Tells (hunted_text range seek name text) result
       → IsHunted rose range seek name file result
   hunt_read rose file text bytes result there same tells =
-      inl (subst (λ (f : Option (List ℕ)). Tells (hunted_file range seek name f) result) (ap Some same ∙ sym there) tells)
+      inl (subst (λ (f : Option (List ℕ)). Tells (hunted_file range seek name f) result) (ap Some same ∙ sym there)
+      tells)
 
   -- what refuses the file is told, or its read failed
   hunt_untold : (file : Option (List ℕ)) (r : Refusal) → Gives {A = Program} (Err r) (program_in file)

@@ -1,3 +1,4 @@
+pub mod CheckedLaws
 pub mod EndLaws
 pub mod FillLaws
 pub mod FormLaws

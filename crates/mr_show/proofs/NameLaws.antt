@@ -1,18 +1,21 @@
 -- Whether a number of a range passes a test, and the first that does.
-use Rattle.std.proofs.Common.{◌≡◌, ℕ, zero, suc, ◌+◌, ◌-◌, ◌<◌, ◌≤◌, ◌⊎◌, inl, inr, Bool, true, false, arith, refl, sym, ap, ap₂, ◌∙◌}
+use Rattle.std.proofs.Common.{◌≡◌, ℕ, zero, suc, ◌+◌, ◌-◌, ◌<◌, ◌≤◌, ◌⊎◌, inl, inr, Bool, true, false, arith, refl, sym}
+use Rattle.std.proofs.Common.{ap, ap₂, ◌∙◌}
 use Rattle.std.proofs.lemmas.Bool.{cases_lt}
 use Rattle.std.specs.Prelude.{◌||◌, Some}
 use Rattle.std.specs.List.{find, list_any, range_with_len}
 
 at_or_behind : (from n : ℕ) → from ≤ n → (n ≡ from) ⊎ (from + 1 ≤ n)
-at_or_behind from n le = elim (cases_lt from n) [ inl less ↦ inr (omega (arith, less)) | inr more ↦ inl (omega (arith, le, more)) ]
+at_or_behind from n le =
+    elim (cases_lt from n) [ inl less ↦ inr (omega (arith, less)) | inr more ↦ inl (omega (arith, le, more)) ]
 
 or_later : (a b : Bool) → b ≡ true → (a || b) ≡ true
 or_later true b e = refl
 or_later false b e = e
 
 module _ (test : ℕ → Bool) where
-  pub one_passes : (from k n : ℕ) → from ≤ n → n < from + k → test n ≡ true → list_any test (range_with_len from k) ≡ true
+  pub one_passes : (from k n : ℕ) → from ≤ n → n < from + k → test n ≡ true
+      → list_any test (range_with_len from k) ≡ true
   one_passes from zero n low high has = absurd (omega (arith, low, high))
   one_passes from (suc k) n low high has =
       elim (at_or_behind from n low) [

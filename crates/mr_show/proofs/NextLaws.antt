@@ -19,7 +19,8 @@ use Rattle.mr_next.specs.Reached.{GoesTo, IsCulprit, IsOfStart, placed_of}
 use Rattle.mr_next.specs.Texts.{broken_text}
 use Rattle.mr_next.specs.declared.broken.Broken.{Broken}
 use Rattle.mr_next.specs.declared.reaching.Reached.{Reached}
-use Rattle.mr_show.specs.Next.{entry_told, fault_told, front_answer, next_answer, next_from, next_status, reached_answer}
+use Rattle.mr_show.specs.Next.{entry_told, fault_told, front_answer, next_answer, next_from, next_status}
+use Rattle.mr_show.specs.Next.{reached_answer}
 use Rattle.mr_show.specs.Next.{threads_told}
 use Rattle.mr_show.specs.Reached.{broken_told, entry_lines, status_by}
 use Rattle.mr_show.specs.Sentences.{sentence_of}

@@ -51,16 +51,20 @@ module _ (part : Part) (text : List ℕ) (p : Program) (v : Version) (w : Schedu
     where
       legal : ran_answer part text p v w ≡ part_answer part (spoken_of p w) (run_seen part text p w)
       legal =
-          ap (λ (f : Option PlacedFault). told (part_answer part (spoken_of p w)) (unless_broken v w f (run_seen part text p w)))
+          ap (λ (f : Option PlacedFault).
+          told (part_answer part (spoken_of p w)) (unless_broken v w f (run_seen part text p w)))
           (no_schedule_fault p w run.legal)
 
-      whole : part_answer part (spoken_of p w) (gathered text p m.config count rows steps feet) ≡ part_answer part (spoken_of p w) (run_seen part text p w)
-      whole = (λ i. part_answer part (spoken_of p w) (gathered text p (run.config i) (all i) (made i) (tell i) (are i)))
+      whole : part_answer part (spoken_of p w) (gathered text p m.config count rows steps feet)
+          ≡ part_answer part (spoken_of p w) (run_seen part text p w)
+      whole =
+          (λ i. part_answer part (spoken_of p w) (gathered text p (run.config i) (all i) (made i) (tell i) (are i)))
 
   -- and the first rule that the schedule breaks, on its line
   pub told_broken : (f : RunFault) → IsFirstFault p w f → Tells (ran_answer part text p v w) (Err (refusal_by v w f))
   told_broken (Broken place code earlier) h =
-      ap (λ (o : Option PlacedFault). told (part_answer part (spoken_of p w)) (unless_broken v w o (run_seen part text p w))) h
+      ap (λ (o : Option PlacedFault).
+      told (part_answer part (spoken_of p w)) (unless_broken v w o (run_seen part text p w))) h
   told_broken Memory h = tt
 
 -- ---- the text
@@ -92,8 +96,9 @@ module _ (saying : Saying) (file : Option (List ℕ)) (rose : Type 0) (result : 
   of_text text p e (inr (rises, unbroken, is)) = inr (rises, (p, ap denoted e, unbroken, is))
 
   -- a file that was read is answered by its text
-  pub of_file : (program : Option (List ℕ)) (text bytes : List ℕ) (later : Type 0) → (later → rose) → program ≡ Some bytes
-      → text ≡ bytes → IsOfText later saying file text result → IsOfFile rose saying file program result
+  pub of_file : (program : Option (List ℕ)) (text bytes : List ℕ) (later : Type 0) → (later → rose)
+      → program ≡ Some bytes → text ≡ bytes → IsOfText later saying file text result
+      → IsOfFile rose saying file program result
   of_file program text bytes later up there same (inl tells) =
       inl (subst (λ (f : Option (List ℕ)). Tells (file_answer saying file f) result) (ap Some same ∙ sym there) tells)
   of_file program text bytes later up there same (inr (rises, unread)) =

@@ -9,14 +9,16 @@ use Rattle.mr_input.specs.declared.written.Written.{Written}
 use Rattle.mr_input.specs.Answer.{IsStatus, Tells}
 use Rattle.mr_input.specs.Inputs.{holding, program_in}
 use Rattle.mr_show.specs.Seek.{Seek}
-use Rattle.mr_picture.specs.declared.span.Span.{Span}
+use Rattle.mr_show.specs.declared.form.Alone.{Alone}
 use Rattle.mr_show.specs.declared.form.Range.{Range}
 use Rattle.mr_show.specs.declared.form.Saying.{Saying}
 use Rattle.mr_show.specs.declared.form.Telling.{Telling}
 use Rattle.mr_why.specs.Why.{entry_of}
 use Rattle.mr_show.specs.Answer.{bytes_answer, help_answer, file_answer, program_answer, shown_answer, text_answer}
 use Rattle.mr_show.specs.Answer.{why_answer}
-use Rattle.mr_show.specs.Form.{Bare, Form, Help, Hunted, Shown, Why}
+use Rattle.mr_refusals.specs.Answers.{IsStatus as IsCheckedStatus}
+use Rattle.mr_show.specs.Checked.{checked_file, checked_files}
+use Rattle.mr_show.specs.Form.{Bare, CheckedProgram, CheckedSchedule, Form, Help, Hunted, Shown, Why}
 use Rattle.mr_show.specs.Hunted.{hunted_file}
 use Rattle.mr_show.specs.Outcome.{over_holding}
 use Rattle.mr_show.specs.Second.{AsksForSecond, HoldsTrace}
@@ -60,25 +62,40 @@ IsOfFiles rose saying second first result =
     Tells (shown_answer saying second first) result
     ⊎ (rose × ((result ≡ Err refusal.ReadProgram) ⊎ (AsksForSecond saying first × (result ≡ Err refusal.ReadSchedule))))
 
--- the steps of the trace in a file; or its read failed
-abbrev pub IsBare : Type 0 → Span → Option (List ℕ) → Result Written Refusal → Type 0
-IsBare rose span file result = Tells (bare_answer span file) result ⊎ (rose × (result ≡ Err refusal.ReadTrace))
+-- what is told of the trace in a file; or its read failed
+abbrev pub IsBare : Type 0 → Alone → Option (List ℕ) → Result Written Refusal → Type 0
+IsBare rose alone file result = Tells (bare_answer alone file) result ⊎ (rose × (result ≡ Err refusal.ReadTrace))
 
 -- what a hunt tells over a file; or its read failed
 abbrev pub IsHunted : Type 0 → Range → Seek → List ℕ → Option (List ℕ) → Result Written Refusal → Type 0
 IsHunted rose range seek name file result =
     Tells (hunted_file range seek name file) result ⊎ (rose × (result ≡ Err refusal.ReadProgram))
 
--- the status of an answer, or that of a fault of places
+-- what is said of the program in a file by itself; or its read failed
+abbrev pub IsChecked : Type 0 → List ℕ → Option (List ℕ) → Result Written Refusal → Type 0
+IsChecked rose name file result =
+    Tells (checked_file name file) result ⊎ (rose × (result ≡ Err refusal.ReadProgram))
+
+-- what is said of a schedule in one file of the program in another; or the read of one of them failed
+abbrev pub IsCheckedUnder : Type 0
+    → List ℕ → List ℕ → Option (List ℕ) → Option (List ℕ) → Result Written Refusal → Type 0
+IsCheckedUnder rose name schedule_name program schedule result =
+    Tells (checked_files name schedule_name program schedule) result
+    ⊎ (rose × ((result ≡ Err refusal.ReadProgram) ⊎ (result ≡ Err refusal.ReadSchedule)))
+
+-- the status of an answer, that of a fault of places, or that of what refuses a program or a schedule
 abbrev pub IsShownStatus : ℕ → Type 0
-IsShownStatus status = IsStatus status ⊎ (status ≡ 9)
+IsShownStatus status = IsStatus status ⊎ ((status ≡ 9) ⊎ IsCheckedStatus status)
 
 -- how a form is answered
 abbrev pub IsAnswered : Contents → Form → Type 0 → Result Written Refusal → Type 0
 IsAnswered files (Shown saying program schedule) rose result =
     IsOfFiles rose saying (files schedule) (files program) result
 IsAnswered files (Hunted range seek name program) rose result = IsHunted rose range seek name (files program) result
-IsAnswered files (Bare span trace) rose result = IsBare rose span (files trace) result
+IsAnswered files (Bare alone trace) rose result = IsBare rose alone (files trace) result
+IsAnswered files (CheckedProgram name program) rose result = IsChecked rose name (files program) result
+IsAnswered files (CheckedSchedule name schedule_name program schedule) rose result =
+    IsCheckedUnder rose name schedule_name (files program) (files schedule) result
 IsAnswered files (Why code) rose result = Tells (why_answer code (entry_of code)) result
 IsAnswered files (Help topic) rose result = Tells (help_answer topic) result
 

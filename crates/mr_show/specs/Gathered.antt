@@ -24,8 +24,8 @@ lexemes_in (Err fault) = []
 abbrev pub laid_in : Program → Result (List Lexeme) TextFault → Laid
 laid_in p read = record { lexemes = lexemes_in read; firsts = firsts_of 0 p.functions }
 
--- WHAT A RUN TELLS of a program over its text: where its machine stands behind so many steps; and the allocations, those
--- steps that are told, and the footprints
+-- WHAT A RUN TELLS of a program over its text: where its machine stands behind so many steps; and the allocations,
+-- those steps that are told, and the footprints
 abbrev pub gathered : List ℕ → Program → Config Own → ℕ → List Allocation → List ToldStep → List Footprint → Seen
 gathered text p config count rows steps feet = record {
   text = text;

@@ -2,8 +2,8 @@
 use Rattle.std.specs.Prelude.{ℕ, List, ◌++◌, codes}
 use Rattle.mr_report.specs.Report.{line}
 use Rattle.mr_show.specs.declared.form.Topic.{Topic}
-use Rattle.mr_show.specs.declared.form.Topic.TheVariants.{Everything, OfFill, OfHunt, OfNext, OfOrdered, OfPicture}
-use Rattle.mr_show.specs.declared.form.Topic.TheVariants.{OfRaces, OfSteps, OfWhy}
+use Rattle.mr_show.specs.declared.form.Topic.TheVariants.{Everything, OfCheck, OfFill, OfHunt, OfNext, OfOrdered}
+use Rattle.mr_show.specs.declared.form.Topic.TheVariants.{OfPicture, OfRaces, OfRust, OfSteps, OfWhy}
 
 -- with each form
 abbrev pub help_text : Topic → List ℕ
@@ -12,7 +12,12 @@ help_text Everything =
     ++ line (codes "mirace_show races P S                the races of a run by pairs of places")
     ++ line (codes "mirace_show picture P S [FIRST LAST] a picture of a run, as an SVG document")
     ++ line (codes "mirace_show order P S FIRST LAST     how two steps of a run are ordered, edge by edge")
+    ++ line (
+    codes "mirace_show rust P S                 the races of a run by Rust's own order "
+    ++ codes "beside those by the machine's"
+    )
     ++ line (codes "mirace_show races T PLACES           the races of a trace by pairs of places")
+    ++ line (codes "mirace_show rust T [PLACES]          the same of a trace; without PLACES race by race")
     ++ line (
     codes "mirace_show steps T PLACES           the steps of a trace, each at its place; "
     ++ codes "FIRST LAST may stand behind it"
@@ -22,6 +27,10 @@ help_text Everything =
     ++ line (
     codes "mirace_show next P S                 what each thread would do next, or the "
     ++ codes "entry that breaks a rule"
+    )
+    ++ line (
+    codes "mirace_show check P [S]              the first fault of a program, or of a "
+    ++ codes "schedule of it, at its line"
     )
     ++ line (codes "mirace_show fill P O                 the schedule that an order of threads becomes")
     ++ line (codes "mirace_show halt P O                 where that order can't go on")
@@ -37,10 +46,10 @@ help_text Everything =
     )
     ++ line (codes "of the places of its steps.")
     ++ line (
-    codes "With --help behind one of the words steps, races, picture, order, next, fill, halt, "
-    ++ codes "hunt, draw and why it"
+    codes "With --help behind one of the words steps, races, rust, picture, order, next, check, "
+    ++ codes "fill, halt, hunt,"
     )
-    ++ line (codes "tells more.")
+    ++ line (codes "draw and why it tells more.")
 help_text OfSteps =
     line (codes "mirace_show steps P S [FIRST LAST]")
     ++ line (
@@ -90,6 +99,30 @@ help_text OfRaces =
     codes "steps. Below each two places stand the two steps of the first race, with what "
     ++ codes "they loaded and stored."
     )
+help_text OfRust =
+    line (codes "mirace_show rust P S")
+    ++ line (
+    codes "Runs the program in file P under the schedule in file S, and writes a line for "
+    ++ codes "each two places of P at"
+    )
+    ++ line (
+    codes "which steps race by Rust's own order or by the machine's: those of Rust's list "
+    ++ codes "first. Below it stands which"
+    )
+    ++ line (
+    codes "list has races there, and where one has none why: in which order the two steps "
+    ++ codes "are, and by which other"
+    )
+    ++ line (codes "two, or with which later step that list has the second one.")
+    ++ line (codes "mirace_show rust T [PLACES]")
+    ++ line (
+    codes "Writes the same of the trace in file T, which begins with MRTR, by the places "
+    ++ codes "that file PLACES tells of its"
+    )
+    ++ line (
+    codes "steps, with the two steps of the first race; and without PLACES each race by its "
+    ++ codes "steps and threads."
+    )
 help_text OfPicture =
     line (codes "mirace_show picture P S [FIRST LAST]")
     ++ line (
@@ -120,6 +153,25 @@ help_text OfNext =
     codes "stands of each thread where it is, whether it can go on, what its next step "
     ++ codes "asks for, and what it waits for."
     )
+help_text OfCheck =
+    line (codes "mirace_show check P [S]")
+    ++ line (
+    codes "Tells the first fault of the program in file P, or the first rule that it breaks: "
+    ++ codes "the file, the line and the"
+    )
+    ++ line (
+    codes "column, what the code says, and the line itself with a caret. Of a text it tells "
+    ++ codes "what stands there, and where"
+    )
+    ++ line (
+    codes "that doesn't fit, each word that may stand there; of a rule the function and the "
+    ++ codes "block. Of a program that"
+    )
+    ++ line (
+    codes "breaks no rule it says so, or with S tells the same of the schedule in file S: of "
+    ++ codes "an entry its thread and its"
+    )
+    ++ line (codes "picks, and how many entries there are where it breaks no rule.")
 help_text OfFill =
     line (codes "mirace_show fill P O | halt P O")
     ++ line (

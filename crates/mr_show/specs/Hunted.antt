@@ -43,8 +43,8 @@ found_answer range aim name text p (Some number) = record {
 abbrev pub drawn_answer : Range → Program → Answer
 drawn_answer range p = record { text = text_of (drawn_schedule p range.from (most_in range)); status = 0 }
 
--- WHAT A HUNT TELLS of the program of a text, whose file has a name: the table, or with an aim the first number whose run
--- has it, or the schedule of a number
+-- WHAT A HUNT TELLS of the program of a text, whose file has a name: the table, or with an aim the first number whose
+-- run has it, or the schedule of a number
 abbrev pub hunt_answer : Range → Seek → List ℕ → List ℕ → Program → Answer
 hunt_answer range Ends name text p = table_answer range text p
 hunt_answer range (First aim) name text p =

@@ -1,5 +1,6 @@
 pub mod Answer
 pub mod Answering
+pub mod Checked
 pub mod Filled
 pub mod Form
 pub mod Gathered

@@ -6,17 +6,20 @@ use Rattle.mr_input.specs.Answer.{Answer, refused}
 use Rattle.mr_input.specs.Inputs.{holding}
 use Rattle.mr_input.specs.Writing.{IsLeft, IsWritten}
 use Rattle.mr_show.specs.Answer.{answer_of, usage}
-use Rattle.mr_show.specs.Form.{Bare, Form, Help, Hunted, Shown, Why}
+use Rattle.mr_show.specs.Form.{Bare, CheckedProgram, CheckedSchedule, Form, Help, Hunted, Shown, Why}
 use Rattle.mr_show.specs.Second.{AsksForSecond}
 
--- A read failed, which is counted: that of the first file, or that of the second behind a program that breaks no rule
--- or a trace.
+-- A read failed, which is counted: that of the first file, or that of the second, behind a program that breaks no rule
+-- or a trace; where the two are checked, behind any program.
 abbrev pub IsUnread : Contents → Form → Answer → Type 0
 IsUnread files (Shown saying program schedule) a =
     (a ≡ refused refusal.ReadProgram)
     ⊎ (AsksForSecond saying (files program) × (a ≡ refused refusal.ReadSchedule))
 IsUnread files (Hunted range seek name program) a = a ≡ refused refusal.ReadProgram
-IsUnread files (Bare span trace) a = a ≡ refused refusal.ReadTrace
+IsUnread files (Bare alone trace) a = a ≡ refused refusal.ReadTrace
+IsUnread files (CheckedProgram name program) a = a ≡ refused refusal.ReadProgram
+IsUnread files (CheckedSchedule name schedule_name program schedule) a =
+    (a ≡ refused refusal.ReadProgram) ⊎ (a ≡ refused refusal.ReadSchedule)
 IsUnread files (Why code) a = ⊥
 IsUnread files (Help topic) a = ⊥
 
@@ -38,7 +41,10 @@ Ends files (Some form) files_rose out_rose old new status =
 abbrev pub over_holding : Form → Form
 over_holding (Shown saying program schedule) = Shown saying (codes "program") (codes "schedule")
 over_holding (Hunted range seek name program) = Hunted range seek name (codes "program")
-over_holding (Bare span trace) = Bare span (codes "program")
+over_holding (Bare alone trace) = Bare alone (codes "program")
+over_holding (CheckedProgram name program) = CheckedProgram name (codes "program")
+over_holding (CheckedSchedule name schedule_name program schedule) =
+    CheckedSchedule name schedule_name (codes "program") (codes "schedule")
 over_holding (Why code) = Why code
 over_holding (Help topic) = Help topic
 

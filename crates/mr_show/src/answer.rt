@@ -9,6 +9,7 @@ ghost use Rattle.mr_show.specs.Answer.{help_answer, said_answer, unsaid_answer, 
 ghost use Rattle.mr_show.specs.Answering.{IsAnswered, IsAnsweredOverTexts, IsShownStatus};
 ghost use Rattle.mr_show.specs.Form.{asked};
 
+use crate::checked::{checked_file, checked_files};
 use crate::form::{Form, Topic};
 use crate::help::help_text;
 use crate::hunted::hunted_file;
@@ -46,7 +47,11 @@ pub(crate) fn answer<F: Files>(
             seek,
             program,
         } => hunted_file(alloc, files, range, seek, program),
-        Form::Bare { span, trace } => bare_file(alloc, files, span, trace),
+        Form::Bare { alone, trace } => bare_file(alloc, files, alone, trace),
+        Form::CheckedProgram { program } => checked_file(alloc, files, program),
+        Form::CheckedSchedule { program, schedule } => {
+            checked_files(alloc, files, program, schedule)
+        }
         Form::Why { code } => explained(alloc, code),
         Form::Help { topic } => help(alloc, topic),
     }

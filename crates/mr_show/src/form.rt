@@ -3,10 +3,10 @@ ghost use Rattle.std.specs.Prelude.{◌≡◌, [], ◌∷◌, ◌+◌, ◌^◌, 
 ghost use Rattle.std.specs.Option.{option_map};
 ghost use Rattle.mr_input.specs.Numbers.{number_below};
 ghost use Rattle.mr_hunt.specs.Aims.{Named, aim_of};
-ghost use Rattle.mr_show.specs.Form.{Why, aimed_of, asked, bare_of, code_by, code_named, drawn_of, form_of, four_form, help_of};
-ghost use Rattle.mr_show.specs.Form.{hunt_of, is_name_of};
-ghost use Rattle.mr_show.specs.Form.{is_reason, is_verdict, lines_from, long_form, part_of, span_of, spanned};
-ghost use Rattle.mr_show.specs.Form.{two_aim, whole_of, why_of, word_aim, word_range};
+ghost use Rattle.mr_show.specs.Form.{Why, aimed_of, asked, bare_of, code_by, code_named, drawn_of, form_of, four_form};
+ghost use Rattle.mr_show.specs.Form.{help_of, hunt_of, is_name_of, is_reason, is_verdict, lines_from, long_form};
+ghost use Rattle.mr_show.specs.Form.{part_of, span_of, spanned, three_form, two_aim, two_of, whole_of, word_aim};
+ghost use Rattle.mr_show.specs.Form.{word_range};
 ghost use Rattle.mr_show.specs.Seek.{seek_of, seeking};
 ghost use Rattle.mr_why.specs.Why.{entry_of};
 
@@ -22,6 +22,8 @@ pub enum Part {
     Steps { from: usize, to: usize },
     /// Its races by pairs of places.
     Races,
+    /// Its races by two orders, Rust's and the machine's.
+    TwoOrders,
     /// The order of two of its steps, counted from 0.
     Order { first: usize, second: usize },
     /// A picture of it: of the steps that are asked for, or without any of those about its first race.
@@ -53,10 +55,21 @@ pub enum Saying {
 pub enum Telling {
     /// Its races by pairs of places.
     Races,
+    /// Its races by two orders, Rust's and the machine's.
+    TwoOrders,
     /// Its steps from one number up to another, counted from 0, the last one left out.
     Steps { from: usize, to: usize },
     /// A picture of it: of the steps that are asked for, or without any of those about its first race.
     Picture { asked: Option<Span> },
+}
+
+/// What is told of a trace without places.
+#[derive(Clone, Copy)]
+pub enum Alone {
+    /// These of its steps.
+    Steps(Span),
+    /// Its races by two orders.
+    TwoOrders,
 }
 
 /// What help is asked for: with all forms, or with one.
@@ -65,11 +78,13 @@ pub enum Topic {
     Everything,
     OfSteps,
     OfRaces,
+    OfRust,
     OfPicture,
     OfNext,
     OfFill,
     OfHunt,
     OfOrdered,
+    OfCheck,
     OfWhy,
 }
 
@@ -107,10 +122,19 @@ pub enum Form<'a> {
         seek: Seek<'a>,
         program: &'a str,
     },
-    /// The steps of a trace, without places.
+    /// What is told of a trace without places.
     Bare {
-        span: Span,
+        alone: Alone,
         trace: &'a str,
+    },
+    /// What is said of a program by itself.
+    CheckedProgram {
+        program: &'a str,
+    },
+    /// What is said of a program and a schedule of it.
+    CheckedSchedule {
+        program: &'a str,
+        schedule: &'a str,
     },
     /// What is said of a code.
     Why {
@@ -135,11 +159,17 @@ fn help_of<'a>(word: &str) -> Option<Form<'a>>
         "races" => Some(Form::Help {
             topic: Topic::OfRaces,
         }),
+        "rust" => Some(Form::Help {
+            topic: Topic::OfRust,
+        }),
         "picture" => Some(Form::Help {
             topic: Topic::OfPicture,
         }),
         "next" => Some(Form::Help {
             topic: Topic::OfNext,
+        }),
+        "check" => Some(Form::Help {
+            topic: Topic::OfCheck,
         }),
         "fill" => Some(Form::Help {
             topic: Topic::OfFill,
@@ -193,23 +223,29 @@ fn code_of<'a>(word: &str) -> Option<Form<'a>>
     Some(Form::Why { code })
 }
 
-// `why CODE`.
-fn why_of<'a>(word: &str, code: &str) -> Option<Form<'a>>
-    ensures { option_map asked result ≡ why_of word.now (code_by code.now) }
+// `why CODE`, `check P` and `rust T`.
+fn two_of<'a>(word: &str, second: &'a str) -> Option<Form<'a>>
+    ensures { option_map asked result ≡ two_of word.now second.now }
 {
     match word {
-        "why" => code_of(code),
+        "why" => code_of(second),
+        "check" => Some(Form::CheckedProgram { program: second }),
+        "rust" => Some(Form::Bare {
+            alone: Alone::TwoOrders,
+            trace: second,
+        }),
         _ => None,
     }
 }
 
-// `steps P S`, `races P S`, `picture P S`, `next P S`, `fill P O` and `halt P O`.
+// `steps P S`, `races P S`, `rust P S`, `picture P S`, `next P S`, `fill P O` and `halt P O`.
 fn whole_of<'a>(word: &str, program: &'a str, schedule: &'a str) -> Option<Form<'a>>
     ensures { option_map asked result ≡ whole_of word.now program.now schedule.now }
 {
     let saying = match word {
         "steps" => Saying::OfRun(Part::Steps { from: 0, to: ALL }),
         "races" => Saying::OfRun(Part::Races),
+        "rust" => Saying::OfRun(Part::TwoOrders),
         "picture" => Saying::OfRun(Part::Picture { asked: None }),
         "next" => Saying::Next,
         "fill" => Saying::OfOrder(Filling::Schedule),
@@ -221,6 +257,16 @@ fn whole_of<'a>(word: &str, program: &'a str, schedule: &'a str) -> Option<Form<
         program,
         schedule,
     })
+}
+
+// `check P S`, and the forms of `whole_of`.
+fn three_form<'a>(word: &str, program: &'a str, schedule: &'a str) -> Option<Form<'a>>
+    ensures { option_map asked result ≡ three_form word.now program.now schedule.now }
+{
+    match word {
+        "check" => Some(Form::CheckedSchedule { program, schedule }),
+        _ => whole_of(word, program, schedule),
+    }
 }
 
 // The steps from one of these numbers to the other, counted from 1; the last one is shown too.
@@ -280,7 +326,10 @@ fn bare_of<'a>(word: &str, trace: &'a str, first: &str, last: &str) -> Option<Fo
 {
     let span = span_of(first, last)?;
     match word {
-        "steps" => Some(Form::Bare { span, trace }),
+        "steps" => Some(Form::Bare {
+            alone: Alone::Steps(span),
+            trace,
+        }),
         _ => None,
     }
 }
@@ -501,20 +550,21 @@ fn one_form<'a>(word: &str) -> Option<Form<'a>>
     }
 }
 
-// `--help` behind a word, or `why CODE`.
-fn two_form<'a>(word: &str, option: &str) -> Option<Form<'a>>
+// `--help` behind a word, or `why CODE`, `check P` or `rust T`.
+fn two_form<'a>(word: &str, option: &'a str) -> Option<Form<'a>>
     ensures { option_map asked result ≡ form_of (word.now ∷ option.now ∷ []) }
 {
     match option {
         "--help" => help_of(word),
-        _ => why_of(word, option),
+        _ => two_of(word, option),
     }
 }
 
-/// The form of these words: `steps P S`, `steps P S FIRST LAST`, `races P S`, `picture P S`,
-/// `picture P S FIRST LAST`, `order P S FIRST LAST`, `next P S`, `steps T FIRST LAST`, `fill P O`, `halt P O`,
-/// `hunt P FROM TO M` and that with an aim, `draw P N M`, `why CODE`, `--help`, or one of the words `steps`, `races`,
-/// `picture`, `order`, `next`, `fill`, `halt`, `hunt`, `draw` and `why` with `--help` behind it.
+/// The form of these words: `steps P S`, `steps P S FIRST LAST`, `races P S`, `rust P S`, `picture P S`,
+/// `picture P S FIRST LAST`, `order P S FIRST LAST`, `next P S`, `steps T FIRST LAST`, `rust T`, `check P`, `check P S`,
+/// `fill P O`, `halt P O`, `hunt P FROM TO M` and that with an aim, `draw P N M`, `why CODE`, `--help`, or one of the
+/// words `steps`, `races`, `rust`, `picture`, `order`, `next`, `check`, `fill`, `halt`, `hunt`, `draw` and `why` with
+/// `--help` behind it.
 pub fn form_of(words: &[String]) -> Option<Form<'_>>
     ensures { option_map asked result ≡ form_of (map string_bytes words.now) }
 {
@@ -523,7 +573,7 @@ pub fn form_of(words: &[String]) -> Option<Form<'_>>
         [word] => one_form(word.as_str()),
         [word, option] => two_form(word.as_str(), option.as_str()),
         [word, program, schedule] => {
-            whole_of(word.as_str(), program.as_str(), schedule.as_str())
+            three_form(word.as_str(), program.as_str(), schedule.as_str())
         }
         [word, file, third, fourth] => {
             four_form(

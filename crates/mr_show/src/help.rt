@@ -9,11 +9,14 @@ mirace_show steps P S [FIRST LAST]   the steps of a run, each at its place in th
 mirace_show races P S                the races of a run by pairs of places
 mirace_show picture P S [FIRST LAST] a picture of a run, as an SVG document
 mirace_show order P S FIRST LAST     how two steps of a run are ordered, edge by edge
+mirace_show rust P S                 the races of a run by Rust's own order beside those by the machine's
 mirace_show races T PLACES           the races of a trace by pairs of places
+mirace_show rust T [PLACES]          the same of a trace; without PLACES race by race
 mirace_show steps T PLACES           the steps of a trace, each at its place; FIRST LAST may stand behind it
 mirace_show steps T FIRST LAST       steps of a trace, without places
 mirace_show picture T PLACES         a picture of a trace; FIRST LAST may stand behind it
 mirace_show next P S                 what each thread would do next, or the entry that breaks a rule
+mirace_show check P [S]              the first fault of a program, or of a schedule of it, at its line
 mirace_show fill P O                 the schedule that an order of threads becomes
 mirace_show halt P O                 where that order can't go on
 mirace_show hunt P FROM TO M [AIM]   how many drawn runs end in each way, or the first that has AIM
@@ -21,8 +24,8 @@ mirace_show draw P N M               the schedule of at most M entries that is d
 mirace_show why CODE                 what is said of a code of a rule, a fault or a reason
 P is the file of a program, S that of a schedule, O that of an order, T that of a trace, and PLACES that
 of the places of its steps.
-With --help behind one of the words steps, races, picture, order, next, fill, halt, hunt, draw and why it
-tells more.
+With --help behind one of the words steps, races, rust, picture, order, next, check, fill, halt, hunt,
+draw and why it tells more.
 ";
 
 const OF_STEPS: &[u8] = b"\
@@ -48,6 +51,17 @@ Writes the same of the trace in file T, which begins with MRTR, by the places th
 steps. Below each two places stand the two steps of the first race, with what they loaded and stored.
 ";
 
+const OF_RUST: &[u8] = b"\
+mirace_show rust P S
+Runs the program in file P under the schedule in file S, and writes a line for each two places of P at
+which steps race by Rust's own order or by the machine's: those of Rust's list first. Below it stands which
+list has races there, and where one has none why: in which order the two steps are, and by which other
+two, or with which later step that list has the second one.
+mirace_show rust T [PLACES]
+Writes the same of the trace in file T, which begins with MRTR, by the places that file PLACES tells of its
+steps, with the two steps of the first race; and without PLACES each race by its steps and threads.
+";
+
 const OF_PICTURE: &[u8] = b"\
 mirace_show picture P S [FIRST LAST]
 Runs the program in file P under the schedule in file S, and writes a picture of the run as an SVG document:
@@ -62,6 +76,15 @@ mirace_show next P S
 Runs the program in file P under the schedule in file S, up to its end or to the first entry that breaks a
 rule. Of such an entry it writes the rule, the picks, and the one by which the rule is broken. Behind that
 stands of each thread where it is, whether it can go on, what its next step asks for, and what it waits for.
+";
+
+const OF_CHECK: &[u8] = b"\
+mirace_show check P [S]
+Tells the first fault of the program in file P, or the first rule that it breaks: the file, the line and the
+column, what the code says, and the line itself with a caret. Of a text it tells what stands there, and where
+that doesn't fit, each word that may stand there; of a rule the function and the block. Of a program that
+breaks no rule it says so, or with S tells the same of the schedule in file S: of an entry its thread and its
+picks, and how many entries there are where it breaks no rule.
 ";
 
 const OF_FILL: &[u8] = b"\
@@ -106,11 +129,13 @@ pub(crate) fn help_text(topic: Topic) -> &'static [u8]
         Topic::Everything => EVERYTHING,
         Topic::OfSteps => OF_STEPS,
         Topic::OfRaces => OF_RACES,
+        Topic::OfRust => OF_RUST,
         Topic::OfPicture => OF_PICTURE,
         Topic::OfNext => OF_NEXT,
         Topic::OfFill => OF_FILL,
         Topic::OfHunt => OF_HUNT,
         Topic::OfOrdered => OF_ORDERED,
+        Topic::OfCheck => OF_CHECK,
         Topic::OfWhy => OF_WHY,
     }
 }

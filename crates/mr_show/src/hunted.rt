@@ -1,5 +1,5 @@
-//! Which ends the runs of numbers have, for the program in a file; or the first of these runs that has what is looked for;
-//! or the schedule that is drawn from a number.
+//! Which ends the runs of numbers have, for the program in a file; or the first of these runs that has what is looked
+//! for; or the schedule that is drawn from a number.
 ghost use Rattle.std.specs.Prelude.{◌≡◌, ℕ, ◌+◌, ◌^◌, ◌≤◌, List, None, Some, Ok, IfOk, Option};
 ghost use Rattle.mr_ast.specs.Shaped.{Shaped};
 ghost use Rattle.mr_ast.specs.declared.program.Program.{Program as ProgramOf};

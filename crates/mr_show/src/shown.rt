@@ -6,7 +6,8 @@ ghost use Rattle.mr_io.specs.Files.{Contents};
 ghost use Rattle.mr_grammar.specs.Parsing.{parsed};
 ghost use Rattle.mr_input.specs.Answer.{IsStatus, Tells, TellsOrUnread, told};
 ghost use Rattle.mr_input.specs.Inputs.{IsUnreadFault, schedule_in};
-ghost use Rattle.mr_show.specs.Answer.{answer_under, between, drawn_between, first_rows, next_under, ran_answer, ran_under};
+ghost use Rattle.mr_show.specs.Answer.{answer_under, between, drawn_between, first_rows, next_under, ran_answer};
+ghost use Rattle.mr_show.specs.Answer.{ran_under};
 ghost use Rattle.mr_show.specs.Answering.{IsOfFile, IsOfProgram, IsOfText};
 
 use crate::filled::filled_file;
@@ -214,7 +215,7 @@ fn between(part: Part) -> Between
 {
     match part {
         Part::Steps { from, to } => Between { from, to },
-        Part::Races | Part::Order { .. } => Between { from: 0, to: ALL },
+        Part::Races | Part::TwoOrders | Part::Order { .. } => Between { from: 0, to: ALL },
         Part::Picture { asked } => drawn_between(asked),
     }
 }

@@ -4,6 +4,14 @@ use Rattle.mr_show.proofs.answer.answer.Goals as goal
 pub returns-in-Shown-clause-texts : goal.returns-in-Shown-clause-texts
 returns-in-Shown-clause-texts g c = λ untold. rw c.in-Shown.is (c.shown_files.ensures.texts untold)
 
+pub returns-in-CheckedProgram-clause-texts : goal.returns-in-CheckedProgram-clause-texts
+returns-in-CheckedProgram-clause-texts g c = λ untold.
+    rw c.in-CheckedProgram.is (let texts = c.checked_file.ensures.texts untold in (texts.0, [], texts.1))
+
+pub returns-in-CheckedSchedule-clause-texts : goal.returns-in-CheckedSchedule-clause-texts
+returns-in-CheckedSchedule-clause-texts g c = λ untold.
+    rw c.in-CheckedSchedule.is (c.checked_files.ensures.texts untold)
+
 pub returns-in-Help-clause-texts : goal.returns-in-Help-clause-texts
 returns-in-Help-clause-texts g c = λ untold. rw c.in-Help.is ([], [], c.help.ensures.answer)
 

@@ -8,9 +8,10 @@ use Rattle.mr_show.proofs.filled.filled_file.Goals as goal
 pub returns-in-Ok-clause-answer : goal.returns-in-Ok-clause-answer
 returns-in-Ok-clause-answer g c = λ contents told_them.
     let (bytes, there, limit, is) = c.in-Ok.ensures.whole contents told_them in
-    let file = there ∙ ap Some (sym (c.as_slice.ensures.value ∙ is ∙ ap (λ (xs : List ℕ). xs ++ bytes) c.new-text.ensures.items)) in
-    inl (subst (λ (f : Option (List ℕ)). Tells (told (order_answer c.args.filling c.args.p.now) (order_in f)) c.filled.result)
-    (sym file) c.filled.ensures.answer)
+    let made = c.as_slice.ensures.value ∙ is ∙ ap (λ (xs : List ℕ). xs ++ bytes) c.new-text.ensures.items in
+    inl (subst (λ (f : Option (List ℕ)).
+    Tells (told (order_answer c.args.filling c.args.p.now) (order_in f)) c.filled.result)
+    (sym (there ∙ ap Some (sym made))) c.filled.ensures.answer)
 
 pub returns-in-Ok-clause-texts : goal.returns-in-Ok-clause-texts
 returns-in-Ok-clause-texts g c = λ untold. (c.as_slice.result.now, inl c.filled.ensures.answer)

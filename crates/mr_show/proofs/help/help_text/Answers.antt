@@ -10,6 +10,9 @@ returns-in-OfSteps c = rw c.in-OfSteps.is refl
 pub returns-in-OfRaces : goal.returns-in-OfRaces
 returns-in-OfRaces c = rw c.in-OfRaces.is refl
 
+pub returns-in-OfRust : goal.returns-in-OfRust
+returns-in-OfRust c = rw c.in-OfRust.is refl
+
 pub returns-in-OfPicture : goal.returns-in-OfPicture
 returns-in-OfPicture c = rw c.in-OfPicture.is refl
 
@@ -24,6 +27,9 @@ returns-in-OfHunt c = rw c.in-OfHunt.is refl
 
 pub returns-in-OfOrdered : goal.returns-in-OfOrdered
 returns-in-OfOrdered c = rw c.in-OfOrdered.is refl
+
+pub returns-in-OfCheck : goal.returns-in-OfCheck
+returns-in-OfCheck c = rw c.in-OfCheck.is refl
 
 pub returns-in-OfWhy : goal.returns-in-OfWhy
 returns-in-OfWhy c = rw c.in-OfWhy.is refl

@@ -18,7 +18,8 @@ returns-clause-answer c =
     ap₂ said
     (c.in_ok-push_threads.ensures
     ∙ ap (λ (xs : List ℕ). xs ++ threads_told text p r.machine.look r.machine.config)
-    (c.in_ok-push_fault.ensures ∙ ap (λ (xs : List ℕ). xs ++ broken_told c.as_slice.result.now r.broken) c.new-out.ensures.items
+    (c.in_ok-push_fault.ensures
+    ∙ ap (λ (xs : List ℕ). xs ++ broken_told c.as_slice.result.now r.broken) c.new-out.ensures.items
     ∙ ap (λ (es : List Entry). broken_told es r.broken) c.as_slice.ensures))
     c.status_by.ensures.status
     ∙ reached_so text p c.args.w.now r c.requires.goes

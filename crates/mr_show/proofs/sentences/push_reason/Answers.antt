@@ -8,5 +8,6 @@ pub returns-in-Undefined : goal.returns-in-Undefined
 returns-in-Undefined c =
     rw c.in-Undefined.is
     (on_ok_weaker c.push_line.result
-    (λ h. h ∙ ap (λ (xs : List ℕ). c.args.out.now.items ++ line xs) (c.sentence_of.ensures ∙ ap sentence_of c.code.ensures))
+    (λ h. h
+    ∙ ap (λ (xs : List ℕ). c.args.out.now.items ++ line xs) (c.sentence_of.ensures ∙ ap sentence_of c.code.ensures))
     c.push_line.ensures)

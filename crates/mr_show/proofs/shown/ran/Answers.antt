@@ -24,17 +24,21 @@ returns-in-Ok-clause-answer c =
     ∙ ap (λ (xs : List Allocation). xs ++ flat_map (step_rows p) (told_steps p w))
     (c.in_ok-rows.ensures ∙ ap (first_rows p) c.as_slice.ensures))
     (c.as_slice-in-Ok.ensures.value ∙ c.in-Ok.ensures.told
-    ∙ ap (λ (xs : List ToldStep). xs ++ flat_map (if_between c.between.result) (told_steps p w)) c.new-steps.ensures.items
+    ∙ ap (λ (xs : List ToldStep). xs ++ flat_map (if_between c.between.result) (told_steps p w))
+    c.new-steps.ensures.items
     ∙ ap (λ (b : Between). flat_map (if_between b) (told_steps p w)) c.between.ensures)
     c.in-Ok.ensures.kept
     (c.answered.ensures.answer
-    (part_answer c.args.part (spoken_of p w) (gathered c.args.text.now p c.in-Ok.machine.config (length w.entries) c.tell.new.rows.items c.as_slice-in-Ok.result.now c.tell.new.kept))
+    (part_answer c.args.part (spoken_of p w)
+    (gathered c.args.text.now p c.in-Ok.machine.config (length w.entries) c.tell.new.rows.items
+    c.as_slice-in-Ok.result.now c.tell.new.kept))
     c.laid.ensures.answer)
 
 pub laid-requires-clause-feet : goal.laid-requires-clause-feet
 laid-requires-clause-feet c =
     let few = steps_within c.args.p.now c.args.w.now in
-    subst (λ (feet : List Footprint). length feet < 2 ^ 32) (sym c.in-Ok.ensures.kept) (omega (arith, few, c.requires.few))
+    subst (λ (feet : List Footprint). length feet < 2 ^ 32) (sym c.in-Ok.ensures.kept)
+    (omega (arith, few, c.requires.few))
 
 pub refusal_of-requires-clause-there : goal.refusal_of-requires-clause-there
 refusal_of-requires-clause-there c = c.in-Err.ensures.place

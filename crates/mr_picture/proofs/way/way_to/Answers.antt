@@ -3,7 +3,7 @@ use Rattle.std.specs.Prelude.{All}
 use Rattle.std.proofs.lemmas.List.Elements.{All-push}
 use Rattle.mr_picture.specs.Way.{way_within}
 use Rattle.mr_picture.proofs.WayLaws.{way_goes}
-use Rattle.mr_picture.proofs.way.way.Goals as goal
+use Rattle.mr_picture.proofs.way.way_to.Goals as goal
 
 pub loop-left-preserved : goal.loop-left-preserved
 loop-left-preserved c =

@@ -1,6 +1,6 @@
 use Rattle.std.specs.Prelude.{◌≡◌, ◌++◌, ◌<◌, All, length}
 use Rattle.mr_picture.specs.Way.{way, way_within}
-use Rattle.mr_picture.proofs.way.way.Given as goal
+use Rattle.mr_picture.proofs.way.way_to.Given as goal
 
 -- the way goes on from here as it does, within the steps that are left
 abbrev pub invariant-loop-left : goal.invariant-loop-left

@@ -1,0 +1,4 @@
+pub mod CaretLaws
+pub mod FoundLaws
+pub mod LineLaws
+pub mod WordLaws

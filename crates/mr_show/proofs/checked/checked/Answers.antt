@@ -1,0 +1,5 @@
+use Rattle.std.proofs.Common.{inr}
+use Rattle.mr_show.proofs.checked.checked.Goals as goal
+
+pub returns-clause-status : goal.returns-clause-status
+returns-clause-status c = inr (inr c.in_ok-written.ensures.status)
