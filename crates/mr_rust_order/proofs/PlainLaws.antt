@@ -140,12 +140,12 @@ module _ (run : List Footprint) (h : IsPlain run) where
   conflict_of_rust : (i j : ℕ) (b : Bool) → syncs run i j ≡ b → i < j → thread_at run i ≢ thread_at run j
       → some_conflict (step_at run i).accesses (step_at run j).accesses ≡ true → ¬ Races run i j
       → HappensBefore run i j
-  conflict_of_rust i j true is lt apart conflict no =
+  conflict_of_rust i j true is lt apart conflict quiet =
       let s = (syncs_is run i j).0 is in
       edge (started s.before s.woken)
-  conflict_of_rust i j false is lt apart conflict no =
+  conflict_of_rust i j false is lt apart conflict quiet =
       absurd
-      (no record {
+      (quiet record {
         apart = apart;
         race = plain_races run i j h conflict;
         unsynced = λ s. both_ways (syncs run i j) is ((syncs_is run i j).1 s);
@@ -154,13 +154,13 @@ module _ (run : List Footprint) (h : IsPlain run) where
   edge_of_rust : (i j : ℕ) → MachineEdge run i j → HappensBefore run i j
   edge_of_rust i j (machine_thread lt same) = edge (in_thread lt same)
   edge_of_rust i j (woken s) = edge (started s.before s.woken)
-  edge_of_rust i j (dependent lt d no) =
+  edge_of_rust i j (dependent lt d quiet) =
       elim (ℕ_discrete (thread_at run i) (thread_at run j)) [
         | yes same ↦ edge (in_thread lt same)
         | no apart ↦
             elim (depends_cases (step_at run i) (step_at run j) d) [
               | inl deeds ↦ h.deeds i j lt apart deeds
-              | inr conflict ↦ conflict_of_rust i j (syncs run i j) refl lt apart conflict no
+              | inr conflict ↦ conflict_of_rust i j (syncs run i j) refl lt apart conflict quiet
             ]
       ]
 
