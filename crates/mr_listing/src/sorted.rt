@@ -153,12 +153,12 @@ pub(crate) fn alike_races<'a>(
 }
 
 /// How many races are of the places of a race.
-#[tactic(auto, using(crate::proofs::AlikeLaws::count_alike))]
 pub fn count_at(shown: &Shown<'_>, sorted: &[Numbered], pair: Pair) -> usize
     requires { AreByPlaces (seen shown.now) sorted.now }
     ensures { result ≡ count_by (same_places (seen shown.now) pair) (seen shown.now).races }
 {
-    alike_races(shown, sorted, pair).len()
+    let alike = alike_races(shown, sorted, pair);
+    alike.len()
 }
 
 /// Whether there is a first of these races, and it has a lower number.
