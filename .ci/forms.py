@@ -32,8 +32,9 @@ start 16 4096
 0
 0
 """
-USAGE = ("usage: steps P S [FIRST LAST] | races P S | picture P S [FIRST LAST] | order P S FIRST LAST | "
-         "races T PLACES | steps T PLACES [FIRST LAST] | steps T FIRST LAST | picture T PLACES [FIRST LAST] | "
+USAGE = ("usage: steps P S [FIRST LAST] | races P S | rust P S | picture P S [FIRST LAST] | order P S FIRST LAST | "
+         "races T PLACES | rust T [PLACES] | steps T PLACES [FIRST LAST] | steps T FIRST LAST | "
+         "picture T PLACES [FIRST LAST] | "
          "next P S | check P [S] | fill P O | halt P O | hunt P FROM TO M [AIM] | draw P N M | why CODE | --help\n")
 EXITS = """1  thread 0  4:13  main b0  exit
 step 1 ended the run

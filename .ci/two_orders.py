@@ -144,7 +144,8 @@ class Both:
 def of_trace(orders, places=None):
     """A trace at the places of a text; alone, where each step is a place of its own."""
     if places is None:
-        return Both(orders, lambda k: k, lambda k: b"step %d, thread %d" % (k + 1, orders.steps[k][0]))
+        name = lambda k: b"step %d, thread %d" % (k + 1, orders.steps[k][0])
+        return Both(orders, lambda k: k, name, is_by_race=True)
     it = told.Told(orders.steps, [], places)
     return Both(orders, lambda k: it.sites[k][0], it.name, it.side)
 
