@@ -41,7 +41,7 @@ def races(count):
     return b"1 race" if count == 1 else b"%d races" % count
 
 
-def at(places):
+def in_places(places):
     return b" at 1 pair of places" if places == 1 else b" at %d pairs of places" % places
 
 
@@ -121,7 +121,7 @@ class Both:
         """The groups of Rust's list, and those of the machine's where Rust's has none."""
         rust, machine = self.at_places(self.orders.rust), self.at_places(self.orders.machine)
         yield b"Rust's order: %s; the machine's: %s\n" % (
-            races(len(self.orders.rust)) + at(len(rust)), races(len(self.orders.machine)) + at(len(machine)))
+            races(len(self.orders.rust)) + in_places(len(rust)), races(len(self.orders.machine)) + in_places(len(machine)))
         for number, (both, pairs) in enumerate(rust.items()):
             if both in machine:
                 why = b"both: %d by Rust's order, %d by the machine's" % (len(pairs), len(machine[both]))
