@@ -48,7 +48,6 @@ fn move_to(
 
 // Whether one step happens before another, by an analysis of the first steps, which then is one of those before the
 // second.
-#[tactic(auto, using(crate::proofs::TestLaws::before_is))]
 fn is_before(
     alloc: Global,
     analysis: &mut Analysis,

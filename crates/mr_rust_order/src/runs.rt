@@ -10,7 +10,6 @@ use std::alloc::Global;
 
 /// The races of a run by Rust's order: each step that has a race with an earlier one, with the greatest such step, by
 /// rising second step.
-#[tactic(auto, using(crate::proofs::TestLaws::races_only))]
 pub fn races(alloc: Global, run: &[Footprint]) -> Result<Vec<Pair>, OutOfMemory>
     ensures races { IfOk result (λ v. AreRaces run.now v.items) }
     ensures listed { IfOk result (λ v. v.items ≡ rust_races run.now) }

@@ -1,3 +1,4 @@
+use Rattle.std.proofs.Common.{rules}
 use Rattle.mr_rust_order.proofs.gaps.first_gap.Goals as goal
 
 pub loop-step-init : goal.loop-step-init

@@ -1,4 +1,7 @@
+use Rattle.std.proofs.Common.{◌≡◌, ℕ, arith, length, subst}
+use Rattle.mr_rust_order.specs.Order.{AreRacesBelow}
 use Rattle.mr_rust_order.proofs.StepLaws.{races_more, races_none, races_same}
+use Rattle.mr_rust_order.proofs.TestLaws.{races_only}
 use Rattle.mr_rust_order.proofs.runs.races.Goals as goal
 use Rattle.mr_rust_order.proofs.runs.races.Goals.{in-Some+in_ok-push, in_default}
 
@@ -14,3 +17,10 @@ loop-j-preserved c =
         | in_default w ↦ rw w.pairs-is (races_same _ _ _ c.loop-j.invariant.found (rw w.in_default.is at c.in_ok-first.ensures.race))
       ];
     }
+
+pub returns-clause-listed : goal.returns-clause-listed
+returns-clause-listed c =
+    let run = c.args.run.now in
+    let pairs = c.loop-j.pairs.items in
+    let end : c.loop-j.j ≡ length run = omega arith in
+    races_only run pairs (subst (λ (n : ℕ). AreRacesBelow run n pairs) end c.loop-j.invariant.found)
