@@ -37,13 +37,12 @@ ROW = re.compile(r"^\| `([a-z-]+)` \| ([^|]*) \| ([^|]*) \| ([^|]*) \|.* of \d+ 
 FREEING = {"use-after-free"}
 
 
-def many(count, word, words):
-    return b"%d %s" % (count, word if count == 1 else words)
+def races(count):
+    return b"1 race" if count == 1 else b"%d races" % count
 
 
-def head(races, places):
-    """How many races a list has, at how many pairs of places."""
-    return b"%s at %s" % (many(races, b"race", b"races"), many(places, b"pair of places", b"pairs of places"))
+def in_places(places):
+    return b" at 1 pair of places" if places == 1 else b" at %d pairs of places" % places
 
 
 def often(pairs):
@@ -122,7 +121,7 @@ class Both:
         """The groups of Rust's list, and those of the machine's where Rust's has none."""
         rust, machine = self.at_places(self.orders.rust), self.at_places(self.orders.machine)
         yield b"Rust's order: %s; the machine's: %s\n" % (
-            head(len(self.orders.rust), len(rust)), head(len(self.orders.machine), len(machine)))
+            races(len(self.orders.rust)) + in_places(len(rust)), races(len(self.orders.machine)) + in_places(len(machine)))
         for number, (both, pairs) in enumerate(rust.items()):
             if both in machine:
                 why = b"both: %d by Rust's order, %d by the machine's" % (len(pairs), len(machine[both]))
@@ -137,14 +136,30 @@ class Both:
         """What is written."""
         return b"".join(self.groups())
 
-    def has_race(self):
-        return bool(self.orders.rust or self.orders.machine)
+
+class Bare(Both):
+    """What is told of both orders of a trace without places: race by race."""
+
+    def __init__(self, orders):
+        super().__init__(orders, None, lambda k: b"step %d, thread %d" % (k + 1, orders.steps[k][0]))
+
+    def race(self, pair, why):
+        return b"%s  /  %s\n%s%s\n" % (*map(self.name, pair), INDENT, why)
+
+    def groups(self):
+        rust, machine = self.orders.rust, self.orders.machine
+        yield b"Rust's order: %s; the machine's: %s\n" % (races(len(rust)), races(len(machine)))
+        for number, pair in enumerate(rust):
+            yield self.race(pair, b"both" if pair in machine else self.rust_alone(pair, number < MOST))
+        for pair in machine:
+            if pair not in rust:
+                yield self.race(pair, self.machine_alone(pair))
 
 
 def of_trace(orders, places=None):
-    """A trace at the places of a text; alone, where each step is a place of its own."""
+    """A trace at the places of a text, or alone."""
     if places is None:
-        return Both(orders, lambda k: k, lambda k: b"step %d, thread %d" % (k + 1, orders.steps[k][0]))
+        return Bare(orders)
     it = told.Told(orders.steps, [], places)
     return Both(orders, lambda k: it.sites[k][0], it.name, it.side)
 
@@ -158,7 +173,7 @@ def of_run(orders, listing):
 
 def expect(what, words, both, at, otherwise=0):
     """The companion writes this, with status 1 where there is a race in either list."""
-    wanted = both.text(), 1 if both.has_race() else otherwise
+    wanted = both.text(), 1 if both.orders.rust or both.orders.machine else otherwise
     wrote = companion.ran(words, at)
     judge(f"{what}: {words[0]} of {len(words) - 1} files", wrote == wanted,
           f"{short(wanted[0])} and {wanted[1]}, not {short(wrote[0])} and {wrote[1]}")
