@@ -1,5 +1,6 @@
 -- Whose order an arrow is of.
-use Rattle.std.proofs.Common.{◌≡◌, ◌<◌, ◌↔◌, Bool, true, false, IsTrue, false≢true, refl}
+use Rattle.std.proofs.Common.{◌≡◌, ◌<◌, ◌↔◌, Bool, true, false, IsTrue, refl}
+use Rattle.std.proofs.lemmas.Bool.{false≢true}
 use Rattle.mr_event.specs.declared.footprint.Pair.{Pair}
 use Rattle.mr_rust_order.specs.Order.{HappensBefore}
 use Rattle.mr_rust_order.specs.Order.Edge.{started}

@@ -144,7 +144,6 @@ fn arrow_title(alloc: Global, arrow: Pair, woken: bool, rusts: bool) -> Result<V
 }
 
 // Whether Rust's order has an arrow too.
-#[tactic(auto, using(mr_rust_order::proofs::TestLaws::before_is))]
 fn is_rusts(run: &[Footprint], rust: &RustOrder, arrow: Pair) -> Result<bool, OutOfMemory>
     requires first { arrow.first < length run.now }
     requires second { arrow.second < length run.now }
