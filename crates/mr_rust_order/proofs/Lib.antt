@@ -8,6 +8,7 @@ pub mod MemoLaws
 pub mod OneList
 pub mod OrderLaws
 pub mod PartnerLaws
+pub mod PlainLaws
 pub mod RowLaws
 pub mod StepLaws
 pub mod TestLaws

@@ -6,6 +6,7 @@ pub mod Marks
 pub mod Memos
 pub mod Order
 pub mod Partners
+pub mod Plain
 pub mod Rows
 pub mod Tests
 pub mod Tracked

@@ -3,6 +3,9 @@
 ghost use Rattle.std.specs.Prelude.{◌≡◌, ℕ, ◌<◌, ◌↔◌, IsTrue, List};
 ghost use Rattle.mr_event.specs.Footprint.{Footprint};
 ghost use Rattle.mr_event.specs.declared.footprint.Pair.{Pair};
+ghost use Rattle.mr_event.specs.Order.{HappensBefore as MachineBefore};
+ghost use Rattle.mr_event.specs.Predicted.{predicted};
+ghost use Rattle.mr_rust_order.specs.Plain.{IsPlain};
 ghost use Rattle.mr_rust_order.specs.Order.{AreRaces, Edge, HappensBefore, IsInSequence, IsRace, IsReadBy};
 ghost use Rattle.mr_rust_order.specs.Tests.{happens_before, has_edge, has_race, rust_races};
 
@@ -26,4 +29,10 @@ pub fn one_list()
     ensures list { (run : List Footprint) → AreRaces run (rust_races run) }
     ensures only { (run : List Footprint) (pairs others : List Pair) → AreRaces run pairs → AreRaces run others
         → pairs ≡ others }
+{}
+
+/// In a run of plain accesses Rust's order is the machine's, and the races are those that the machine's order lists.
+pub fn plain_runs_agree()
+    ensures order { (run : List Footprint) → IsPlain run → (i j : ℕ) → MachineBefore run i j ↔ HappensBefore run i j }
+    ensures races { (run : List Footprint) → IsPlain run → AreRaces run (predicted run) }
 {}

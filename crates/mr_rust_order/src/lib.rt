@@ -18,7 +18,8 @@
 //!
 //! Laws: [`sequences_pass_on`] (a step of a release sequence passes its order on; the order goes forward), [`decided`]
 //! (the tests decide the order and its races), [`one_list`] (the list that is defined is that of the races of a run,
-//! and no other list is).
+//! and no other list is), [`plain_runs_agree`] (where no access is atomic, and what else depends on an earlier step comes
+//! behind it by Rust's order, both orders are one and list the same races: `specs/Plain.antt`).
 //!
 //! How it goes: a step sends the clock behind it to its thread, to the threads that it woke or started, to a lock
 //! that it releases, and to those that join its thread where it ends that (`specs/Channels.antt`). For each range,
@@ -44,5 +45,5 @@ mod runs;
 
 pub use analysis::Analysis;
 pub use gaps::first_gap;
-pub use laws::{decided, one_list, sequences_pass_on};
+pub use laws::{decided, one_list, plain_runs_agree, sequences_pass_on};
 pub use runs::races;

@@ -35,7 +35,7 @@ use Rattle.mr_show.specs.Answer.{ran_under, rust_of}
 use Rattle.mr_show.specs.Answer.{run_seen, shown_answer, text_answer, usage, why_answer}
 use Rattle.mr_show.specs.Filled.{filled_answer, unless_bad}
 use Rattle.mr_show.specs.Next.{next_from, reached_answer}
-use Rattle.mr_hunt.specs.Aims.{first_met}
+use Rattle.mr_hunt.specs.Aims.{Aim, first_met}
 use Rattle.mr_show.specs.Seek.{Drawn, First, Seek, Ends as AllEnds}
 use Rattle.mr_show.specs.declared.form.Range.{Range}
 use Rattle.mr_show.specs.Gathered.{laid_in}
@@ -130,15 +130,15 @@ text_six saying file text (Ok p) e =
 text_six saying file text (Err f) e = inl (omega arith)
 
 module _ (range : Range) (name text : List ℕ) where
-  found_least : (p : Program) (found : Option ℕ) → (found_answer range name text p found).status ≤ 5
-  found_least p None = omega arith
-  found_least p (Some number) = omega arith
+  found_least : (aim : Aim) (p : Program) (found : Option ℕ) → (found_answer range aim name text p found).status ≤ 5
+  found_least aim p None = omega arith
+  found_least aim p (Some number) = omega arith
 
   hunt_least : (p : Program) (seek : Seek) → (hunt_answer range seek name text p).status ≤ 5
   hunt_least p AllEnds = omega arith
   hunt_least p Drawn = omega arith
   hunt_least p (First aim) =
-      found_least p (first_met aim (laid_in p (lexed text)) p (most_in range) range.from range.to)
+      found_least aim p (first_met aim (laid_in p (lexed text)) p (most_in range) range.from range.to)
 
   hunted_least : (seek : Seek) (r : Result Program TextFault)
       → (told (hunted_program range seek name text) (denoted r)).status ≤ 5

@@ -5,7 +5,7 @@ use Rattle.std.specs.Prelude.{if◌then◌else◌}
 use Rattle.std.specs.List.{find, list_any, range_with_len}
 use Rattle.std.specs.Option.{option_map}
 use Rattle.mr_picture.specs.declared.span.Span.{Span}
-use Rattle.mr_hunt.specs.Aims.{Aim, Any, Lines, Named, Prints, Race, Undefined}
+use Rattle.mr_hunt.specs.Aims.{Aim, Any, Lines, Named, Prints, Race, RustRace, Undefined}
 use Rattle.mr_input.specs.Numbers.{number_below}
 use Rattle.mr_why.specs.Why.{Entry, entry_of}
 use Rattle.mr_show.specs.declared.form.Form.{Form as Words}
@@ -162,8 +162,9 @@ abbrev pub word_aim : List ℕ → Option Aim
 word_aim word =
     if bytes_eq word (codes "any") then Some Any
     else (if bytes_eq word (codes "race") then Some Race
+    else (if bytes_eq word (codes "rust") then Some RustRace
     else (if bytes_eq word (codes "undefined") then Some Undefined
-    else (if is_verdict word then Some (Named word) else None)))
+    else (if is_verdict word then Some (Named word) else None))))
 
 -- two lines
 abbrev pub lines_from : Option ℕ → Option ℕ → Option Aim

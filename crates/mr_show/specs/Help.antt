@@ -206,9 +206,10 @@ help_text OfHunt =
     ++ codes "with status 1, and tells it."
     )
     ++ line (
-    codes "AIM is any, race, undefined, the name of another verdict or of a reason, prints "
-    ++ codes "TEXT, or two lines of P."
+    codes "AIM is any, race, rust for a race by Rust's own order, undefined, the name of "
+    ++ codes "another verdict or of a reason,"
     )
+    ++ line (codes "prints TEXT, or two lines of P.")
     ++ line (codes "mirace_show draw P N M")
     ++ line (codes "Writes the schedule that is drawn from number N alone, with at most M entries.")
 help_text OfOrdered =

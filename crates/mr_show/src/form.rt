@@ -452,6 +452,7 @@ fn word_aim(word: &str) -> Option<Aim<'_>>
     match word {
         "any" => Some(Aim::Any),
         "race" => Some(Aim::Race),
+        "rust" => Some(Aim::RustRace),
         "undefined" => Some(Aim::Undefined),
         _ => named_aim(word),
     }

@@ -101,7 +101,8 @@ mirace_show hunt P FROM TO M [AIM]
 Draws a schedule of at most M entries for the program in file P from each number from FROM to TO, as mirace
 auto does, and runs it. Writes a line for each verdict and for each two places that race: how many numbers
 have it, and the first. With AIM it stops at the first number whose run has it, with status 1, and tells it.
-AIM is any, race, undefined, the name of another verdict or of a reason, prints TEXT, or two lines of P.
+AIM is any, race, rust for a race by Rust's own order, undefined, the name of another verdict or of a reason,
+prints TEXT, or two lines of P.
 mirace_show draw P N M
 Writes the schedule that is drawn from number N alone, with at most M entries.
 ";
