@@ -1,8 +1,8 @@
-use Rattle.std.proofs.Common.{◌≡◌, ◌∙◌, ◌++◌, ◌<◌, ◌-◌, List, [], ◌∷◌, ℕ, suc, append_assoc, ap, arith, length, subst, sym}
+use Rattle.std.proofs.Common.{◌≡◌, ◌∙◌, ◌++◌, ◌<◌, ◌-◌, List, [], ◌∷◌, ℕ, suc, append-nil, append_assoc, ap, arith, length, subst, sym}
 use Rattle.std.specs.Prelude.{All}
 use Rattle.std.proofs.lemmas.List.Elements.{All-push}
 use Rattle.mr_picture.specs.Way.{way_within}
-use Rattle.mr_picture.proofs.WayLaws.{way_goes}
+use Rattle.mr_picture.proofs.WayLaws.{way_ends, way_goes}
 use Rattle.mr_picture.proofs.way.way_to.Goals as goal
 
 pub loop-left-preserved : goal.loop-left-preserved
@@ -27,3 +27,13 @@ loop-left-preserved c =
           (All-push (λ k. k < length run) steps next c.loop-left.invariant.within c.in-Some.ensures.within);
       here = c.in-Some.ensures.within;
     }
+
+pub returns-then-at-j-clause-way : goal.returns-then-at-j-clause-way
+returns-then-at-j-clause-way c =
+    let run = c.args.run.now in
+    let j = c.args.j in
+    let left = c.loop-left.left in
+    let steps = c.loop-left.steps.items in
+    sym (append-nil steps)
+    ∙ ap (λ xs. steps ++ xs) (sym (ap (λ k. way_within left run k j) c.if-at-j.true ∙ way_ends left run j))
+    ∙ c.loop-left.invariant.on
