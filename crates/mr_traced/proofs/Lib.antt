@@ -1,3 +1,4 @@
+pub mod AloneLaws
 pub mod Chains
 pub mod CountLaws
 pub mod DrawnLaws

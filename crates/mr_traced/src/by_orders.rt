@@ -127,7 +127,8 @@ fn push_machine_group(
     requires counts { AreCounts (seen rust.now) (get both_cmp counts.now) }
     ensures { OnOk result (out.new.items ≡ out.old.items ++ machine_text (seen shown.now) group) }
 {
-    if count_at(rust, counts, group.first) > 0 {
+    let count = count_at(rust, counts, group.first);
+    if count > 0 {
         return Ok(());
     }
     push_group(out, shown, group)?;
