@@ -39,7 +39,7 @@ EXAMPLES = f"{TOP}/examples"
 CLASS = f"{EXAMPLES}/class"
 CASES = f"{TOP}/crates/mirace_cases/data"
 STORED = f"{TOP}/crates/mirace_cases/stdout"
-USAGE = b"usage: steps P S [FIRST LAST] | races P S | picture P S [FIRST LAST] | order P S FIRST LAST | races T PLACES | steps T PLACES [FIRST LAST] | steps T FIRST LAST | picture T PLACES [FIRST LAST] | next P S | check P [S] | fill P O | halt P O | hunt P FROM TO M [AIM] | draw P N M | why CODE | --help\n"
+USAGE = b"usage: steps P S [FIRST LAST] | races P S | rust P S | picture P S [FIRST LAST] | order P S FIRST LAST | races T PLACES | rust T [PLACES] | steps T PLACES [FIRST LAST] | steps T FIRST LAST | picture T PLACES [FIRST LAST] | next P S | check P [S] | fill P O | halt P O | hunt P FROM TO M [AIM] | draw P N M | why CODE | --help\n"
 # The most seconds that a long run may take, on a slow machine.
 PATIENCE = 40
 # The line of a step, with its number, its thread, its place, its function, its block and its statement.
@@ -107,12 +107,12 @@ def cases(at):
     yield "0, all steps", ["steps", example("exit.mr"), example("exit.sched")], exit_steps, 0
     yield "0, no race", ["races", example("exit.mr"), example("exit.sched")], b"races 0\n", 0
     yield "1, a number that is no code", ["why", "10"], b"no rule, no fault and no reason has the number 10\n", 1
-    for form in ("steps", "races", "picture", "next", "fill", "halt"):
+    for form in ("steps", "races", "rust", "picture", "next", "fill", "halt"):
         yield f"3, a text, {form}", [form, example("unknown-name.mr"), "missing"], b"text 4 18 5 UnknownName\n", 3
         yield f"4, a program, {form}", [form, example("ill-formed.mr"), "missing"], b"form main b0 2 32 BlockKind\n", 4
-        if form in ("steps", "races", "picture"):
+        if form in ("steps", "races", "rust", "picture"):
             yield f"5, a rule, {form}", [form, example("print.mr"), example("print-reused.sched")], b"schedule 3 64 Reused 0 0\n", 5
-        if form in ("steps", "races", "picture", "next"):
+        if form in ("steps", "races", "rust", "picture", "next"):
             yield f"5, an empty text, {form}", [form, example("print.mr"), "empty"], b"schedule 1 50 BadHeader\n", 5
         else:
             yield f"5, a word that is no turn, {form}", [form, example("print.mr"), "words"], b"schedule 2 51 BadLine\n", 5
@@ -133,11 +133,13 @@ def cases(at):
     yield "5, a schedule above 2^26 bytes to check", ["check", "one.mr", "long"], b"schedule 1 52 TooLong\n", 5
     traced = lambda what, words, text, status: (f"{status}, {what}", words, text, status)
     yield traced("a trace", ["races", "none.trace", "none.places"], b"races 0\n", 0)
+    yield traced("a trace by two orders", ["rust", "none.trace"], b"Rust's order: 0 races; the machine's: 0 races\n", 0)
     yield traced("a trace with a race", ["steps", "one.trace", "2", "2"], ONE_RACE, 1)
     yield traced("a text above 2^20 bytes", ["races", "above.mr", "missing"], b"text 1 1 3 LongText\n", 3)
     yield traced("a file above 2^28 bytes, in place of a program", ["steps", "long", "missing"], b"text 1 1 3 LongText\n", 3)
     yield traced("no places", ["races", "none.trace", "missing"], b"read schedule\n", 6)
     yield traced("a folder for a trace", ["steps", "folder", "1", "2"], b"read trace\n", 6)
+    yield traced("a folder for a trace, by two orders", ["rust", "folder"], b"read trace\n", 6)
     yield traced("a folder for the places", ["steps", "none.trace", "folder"], b"read schedule\n", 6)
     yield traced("a file above 2^28 bytes, as a trace", ["steps", "long", "1", "2"], b"trace 0 74 TooLong\n", 9)
     yield traced("places above 2^28 bytes", ["races", "cut.trace", "long"], b"places 1 the file is too long\n", 9)
@@ -169,7 +171,7 @@ def statuses(judge, at):
     numbers = [["steps", *pair, *it] for it in (["1"], ["1", "x"], ["01", "2"], ["1", str(1 << 32)], ["-1", "2"], ["1", "2", "3"])]
     numbers += [["picture", *it[1:]] for it in numbers]
     few = [[], ["steps"], ["races", pair[0]], ["next"], ["check"], ["check", *pair, "1"], ["fill", pair[0]], ["halt", *pair, "1"], ["why"], ["why", ""], ["why", "066"], ["why", str(1 << 16)], ["why", "66", "67"]]
-    others = [["run", *pair], ["races", *pair, "1", "2"], ["--version"], ["help"], ["--help", "steps"], ["run", "--help"]]
+    others = [["run", *pair], ["races", *pair, "1", "2"], ["rust", *pair, "1", "2"], ["rust"], ["--version"], ["help"], ["--help", "steps"], ["run", "--help"]]
     for words in (*numbers, *few, *others):
         wrote, ended = ran(words, at)
         judge(f"companion: status 2, the words {words}", (wrote, ended) == (USAGE, 2), f"{short(wrote)} and {ended}")
@@ -178,7 +180,7 @@ def statuses(judge, at):
 def helps(judge, at):
     """The text of each help begins with its form, in lines of at most 120 bytes, and names no other."""
     for words, first in (([], b"mirace_show steps P S [FIRST LAST]   "), (["steps"], b"mirace_show steps P S [FIRST LAST]\n"),
-                         (["races"], b"mirace_show races P S\n"), (["picture"], b"mirace_show picture P S [FIRST LAST]\n"), (["next"], b"mirace_show next P S\n"), (["check"], b"mirace_show check P [S]\n"),
+                         (["races"], b"mirace_show races P S\n"), (["rust"], b"mirace_show rust P S\n"), (["picture"], b"mirace_show picture P S [FIRST LAST]\n"), (["next"], b"mirace_show next P S\n"), (["check"], b"mirace_show check P [S]\n"),
                          (["fill"], b"mirace_show fill P O | halt P O\n"), (["halt"], b"mirace_show fill P O | halt P O\n"), (["hunt"], b"mirace_show hunt P FROM TO M [AIM]\n"), (["draw"], b"mirace_show hunt P FROM TO M [AIM]\n"), (["order"], b"mirace_show order P S FIRST LAST\n"),
                          (["why"], b"mirace_show why CODE\n")):
         wrote, ended = ran([*words, "--help"], at)
@@ -201,7 +203,7 @@ def each_code(judge, at):
 def refused_writes(judge, at):
     """Status 7: a pipe that nobody reads, and a full device."""
     pair = [f"{EXAMPLES}/race.mr", f"{EXAMPLES}/race.sched"]
-    for words in (["steps", *pair], ["races", *pair], ["picture", *pair], ["next", *pair], ["check", *pair], ["fill", pair[0], "turns"], ["why", "66"], ["--help"], ["walk"], ["races", "missing", "missing"]):
+    for words in (["steps", *pair], ["races", *pair], ["rust", *pair], ["picture", *pair], ["next", *pair], ["check", *pair], ["fill", pair[0], "turns"], ["why", "66"], ["--help"], ["walk"], ["races", "missing", "missing"]):
         end, begin = os.pipe()
         os.close(end)
         ended = subprocess.run([COMPANION, *words], cwd=at, stdout=begin, timeout=60).returncode

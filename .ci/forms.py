@@ -32,8 +32,9 @@ start 16 4096
 0
 0
 """
-USAGE = ("usage: steps P S [FIRST LAST] | races P S | picture P S [FIRST LAST] | order P S FIRST LAST | "
-         "races T PLACES | steps T PLACES [FIRST LAST] | steps T FIRST LAST | picture T PLACES [FIRST LAST] | "
+USAGE = ("usage: steps P S [FIRST LAST] | races P S | rust P S | picture P S [FIRST LAST] | "
+         "order P S FIRST LAST | races T PLACES | rust T [PLACES] | steps T PLACES [FIRST LAST] | "
+         "steps T FIRST LAST | picture T PLACES [FIRST LAST] | "
          "next P S | check P [S] | fill P O | halt P O | hunt P FROM TO M [AIM] | draw P N M | why CODE | --help\n")
 EXITS = """1  thread 0  4:13  main b0  exit
 step 1 ended the run
@@ -49,6 +50,7 @@ ONE_TOO_MANY = """entry 2 of thread 0 breaks 66 AfterStop: The machine had stopp
         no pick
 the run has ended
 """
+NO_RUST = "Rust's order: 0 races at 0 pairs of places; the machine's: 0 races at 0 pairs of places\n"
 CODE_2 = (
     "2 BadNumber\n"
     "A number is written in a way that numbers aren't.\n"
@@ -97,6 +99,9 @@ ANSWERED = (
     ("steps P S 1 0", NO_STEP, 0),
     ("steps P S 4294967295 4294967295", NO_STEP, 0),
     ("races P S", "races 0\n", 0),
+    ("rust P S", NO_RUST, 0),
+    ("rust Q S", "read program\n", 6),
+    ("rust P Q", "read schedule\n", 6),
     ("steps Q S", "read program\n", 6),
     ("steps P Q", "read schedule\n", 6),
     ("order P S 1 2", "step 1 and step 2: the first must be earlier, and 0 steps were completed\n", 0),
@@ -111,6 +116,7 @@ ANSWERED = (
     ("hunt P 3 9 0 any", "number 3\nverdict running\nraces 0\nshown by: mirace auto P 3 0\n", 1),
     ("hunt P 0 3 1 any", "numbers 0 to 3: no run has it\n", 0),
     ("hunt P 0 3 1 race", "numbers 0 to 3: no run has it\n", 0),
+    ("hunt P 0 3 1 rust", "numbers 0 to 3: no run has it\n", 0),
     ("hunt P 0 3 1 NotHolder", "numbers 0 to 3: no run has it\n", 0),
     ("hunt P 0 3 1 4 4294967295", "numbers 0 to 3: no run has it\n", 0),
     ("hunt P 0 3 1 prints 1", "numbers 0 to 3: no run has it\n", 0),
@@ -133,7 +139,9 @@ REFUSED = (
     (ILL_FORMED, SCHEDULE, "races P S", "form main b0 0 32 BlockKind\n", 4),
     (ILL_FORMED, SCHEDULE, "races P Q", "form main b0 0 32 BlockKind\n", 4),
     (ILL_FORMED, SCHEDULE, "draw P 0 1", "form main b0 0 32 BlockKind\n", 4),
+    (ILL_FORMED, SCHEDULE, "rust P Q", "form main b0 0 32 BlockKind\n", 4),
     (EXIT, TOO_FAR, "races P S", "schedule 4 66 AfterStop\n", 5),
+    (EXIT, TOO_FAR, "rust P S", "schedule 4 66 AfterStop\n", 5),
     (EXIT, EXIT, "steps P S", "schedule 1 50 BadHeader\n", 5),
     ("minirust !\n", SCHEDULE, "check P", BAD_BYTE, 3),
     ("minirust !\n", SCHEDULE, "check P S", BAD_BYTE, 3),
@@ -162,6 +170,13 @@ TRACED = (
     ("MRTR", "", "picture P Q", "read schedule\n", 6),
     (NO_TRACED[:-1], "places 2\n", "picture P S 1 2", "trace 8 72 Truncated\n", 9),
     (NO_TRACED, "places 2\n0\n", "picture P S", "places 1 steps, and the trace has 0\n", 9),
+    (NO_TRACED, "places 2\n", "rust P S", NO_RUST, 0),
+    (NO_TRACED, "places 2\n0\n", "rust P S", "places 1 steps, and the trace has 0\n", 9),
+    ("MRTR", "", "rust P Q", "read schedule\n", 6),
+    (NO_TRACED, "", "rust P", NO_RUST, 0),
+    (NO_TRACED[:-1], "", "rust P", "trace 8 72 Truncated\n", 9),
+    (EXIT, "", "rust P", "trace 0 70 BadMagic\n", 9),
+    (EXIT, "", "rust Q", "read trace\n", 6),
     ("MRT", "", "races P Q", "text 1 1 4 Unexpected\n", 3),
     (EXIT, "", "steps P 1 2", "trace 0 70 BadMagic\n", 9),
     (EXIT, "", "steps Q 1 2", "read trace\n", 6),
@@ -185,6 +200,7 @@ ORDERS = (
 FORMLESS = (
     "", "steps", "steps P", "steps P S 1", "steps P S 1 x", "steps P S 1 4294967296", "steps P S 01 2", "races P S 1 2",
     "races P 1 2", "steps P 1 4294967296",
+    "rust", "rust P S 1", "rust P S 1 2", "rusts P S", "hunt P 0 3 1 rusty", "hunt P 0 3 1 rust 1",
     "picture P S 1", "run P S", "--helps", "next P", "fill P", "why", "why 65536", "why Nothing", "why badnumber", "whys 66",
     "check", "check P S 1", "check P S 1 2", "checks P", "checks P S", "Check P",
     "order P S", "order P S 1", "order P S 1 4294967296", "order P S 01 2", "order P S 1 2 3", "orders P S 1 2",

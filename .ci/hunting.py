@@ -2,13 +2,16 @@
 
 Of five examples the table of 200 numbers must be the one that is made here from their reports, and from what
 `mirace_show races` tells of each drawn schedule that shows a race. And the number that is found for an aim must be the
-least one whose report has it."""
+least one whose report has it; for the aim `rust`, the least one whose run has a race by the definition of Rust's order,
+which are told too."""
 import collections
 import re
 import subprocess
 
 import companion
+import two_orders
 from judging import EXAMPLES, judge, run, short, write
+from traces import trace_script
 
 # The examples, with how many entries their schedules have at most; aims, with what a report or a list of races by
 # places has of them.
@@ -21,6 +24,8 @@ AIMS = (
     ("use-after-free", "DeadAllocation", rb"^verdict undefined 105 "), ("lost-update", "prints 1", rb"^> 1$"),
     ("hunting/rare", "any", rb"^race [0-9]"), ("class/bank", "prints 20 60", rb"^> 20 60$"),
     ("class/bank", "{0} {1}", None), ("race", "{1} {0}", None))
+# Programs with a race by Rust's order, and without: of so many numbers.
+RUST, NUMBERS = ("stop", "spawns", "class/hidden", "exercises/15-hidden", "hunting/rare", "flag", "lock"), 100
 
 
 def shown(words, at):
@@ -105,3 +110,39 @@ def numbers_of_aims(at):
         else:
             is_well = (wrote, status) == (b"numbers 0 to 99: no run has it\n", 0)
         judge(f"hunt for an aim: {name}: {aim}: {fits[:1]}", is_well, short(wrote))
+
+
+def rust_of(script, program, number, at):
+    """The report of a number, and what is told of its run by both orders."""
+    report, _ = run(["auto", program, str(number), "1000"], at)
+    write(at, "drawn.sched", re.split(rb"^(?=[>v])", report, maxsplit=1, flags=re.M)[0])
+    trace, _ = run(["trace", program, "drawn.sched"], at)
+    listing, _ = shown(["steps", program, "drawn.sched"], at)
+    return report, two_orders.of_run(two_orders.orders_in(script, trace), listing)
+
+
+def told_by_rust(program, number, report, both, at):
+    """What is told of the run of a number whose races by Rust's order were looked for."""
+    races, _ = shown(["races", program, "drawn.sched"], at)
+    places = {tuple(map(both.name, it)): pairs for it, pairs in both.at_places(both.orders.rust).items()}
+    lines = [b"%s  /  %s: %s%d %d\n" % (*it, two_orders.often(pairs), pairs[0][0] + 1, pairs[0][1] + 1)
+             for it, pairs in places.items()]
+    return b"".join((
+        b"number %d\n" % number, re.search(rb"^verdict .*\n", report, re.M)[0], races, b"by Rust's order:\n", *lines,
+        b"races %d\n" % len(both.orders.rust), b"shown by: mirace auto %s %d 1000\n" % (program.encode(), number)))
+
+
+def numbers_by_rusts_order(at):
+    """The number that the companion finds for the aim `rust`, from each tenth number on, and what it tells of it."""
+    script = trace_script()
+    for name in RUST:
+        program, wanted = f"{EXAMPLES}/{name}.mr", (b"", 0)
+        for number in reversed(range(NUMBERS)):
+            report, both = rust_of(script, program, number, at)
+            if both.orders.rust:
+                wanted = told_by_rust(program, number, report, both, at), 1
+            if number % 10 == 0:
+                none = b"numbers %d to %d: no run has it\n" % (number, NUMBERS - 1)
+                found = shown(["hunt", program, str(number), str(NUMBERS - 1), "1000", "rust"], at)
+                judge(f"hunt by Rust's order: {name}, from {number} on", found == (wanted if wanted[1] else (none, 0)),
+                      f"{short(found[0])} and {found[1]}, not {short(wanted[0])}")

@@ -177,6 +177,7 @@ def aimed_hunts(at):
             ("use-after-free", "DeadAllocation", rb"^verdict undefined 105 "), ("race", "race", rb"^race [0-9]"),
             ("lost-update", "prints 1", rb"^> 1$"), ("leak", "leak", rb"^verdict leak$"),
             ("race", "lines 7 13", rb"^race [0-9]"), ("race", "lines 7 14", rb"^nothing$"),
+            ("race", "rust", rb"^race [0-9]"), ("flag", "rust", rb"^nothing$"),
             ("exit", "running", rb"^verdict running$"), ("use-after-free", known, rb"^verdict (?!exit|undefined)")):
         program = f"{EXAMPLES}/{name}.mr"
         reports = {n: run(["auto", program, str(n), "300"], at)[0] for n in range(30)}

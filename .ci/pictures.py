@@ -20,6 +20,7 @@ import xml.etree.ElementTree as tree
 
 sys.dont_write_bytecode = True
 import plain  # noqa: E402
+import rust_order  # noqa: E402
 
 TOP = os.path.dirname(os.path.dirname(os.path.abspath(__file__)))
 COMPANION = f"{TOP}/crates/mirace_show/out/mirace_show"
@@ -29,7 +30,9 @@ SPACE = "{http://www.w3.org/2000/svg}"
 KNOWN = {"svg": {"width", "height", "viewBox", "role", "{http://www.w3.org/XML/1998/namespace}space"}, "title": set(), "style": set(), "defs": set(), "rect": {"class", "width", "height"},
          "marker": {"id", "viewBox", "refX", "refY", "markerWidth", "markerHeight", "orient", "markerUnits", "class"}, "g": {"class"}, "path": {"d", "class"},
          "text": {"x", "y", "text-anchor"}}
-WAKE, DEPENDENCE = ": it woke or started its thread", ", which depends on it"
+# The arrows by their signs, each with what its title says of it.
+ARROWS = {"wake": ": it woke or started its thread", "dependence": ", which depends on it",
+          "machine-order": ", which depends on it; Rust's order has no such arrow"}
 
 
 def read(path):
@@ -124,7 +127,7 @@ class Picture:
         """The arrows and the lines of races: their two steps, and the points of their ways; a corner as it is, uncut."""
         for it, title, mark in self.marks:
             ends = re.match(r"step (\d+) (?:happens before|and) step (\d+)", title)
-            if it in ("wake", "dependence", "race", "first-race") and ends:
+            if it in (*ARROWS, "race", "first-race") and ends:
                 path = next(mark.iter(f"{SPACE}path")).get("d")
                 yield [int(k) for k in ends.groups()], [(int(x), int(y)) for x, y in re.findall(r"(\d+) (\d+)", path)]
 
@@ -165,8 +168,8 @@ def overlaps(picture):
 # ---- beside the run
 
 def arrows(feet):
-    """The arrows by definition, counted from 1."""
-    before = []
+    """The arrows by definition, counted from 1, each with its sign."""
+    before, rusts = [], rust_order.order(feet)
     for j in range(len(feet)):
         reached = 0
         for i in range(j):
@@ -177,15 +180,16 @@ def arrows(feet):
         for i in range(j):
             between = any(before[j] >> k & 1 and before[k] >> i & 1 for k in range(i + 1, j))
             if feet[i][0] != feet[j][0] and before[j] >> i & 1 and not between:
-                yield i + 1, j + 1, plain.wakes(feet[i], feet[j][0])
+                sign = "dependence" if rusts[j] >> i & 1 else "machine-order"
+                yield i + 1, j + 1, "wake" if plain.wakes(feet[i], feet[j][0]) else sign
 
 
 def arrows_in(picture):
-    for sign in ("wake", "dependence"):
+    for sign, why in ARROWS.items():
         for title in picture.titled(sign):
-            found = re.fullmatch(rf"step (\d+) happens before step (\d+)({WAKE}|{DEPENDENCE})", title)
+            found = re.fullmatch(rf"step (\d+) happens before step (\d+){why}", title)
             if found:
-                yield int(found.group(1)), int(found.group(2)), sign == "wake" and found.group(3) == WAKE
+                yield int(found.group(1)), int(found.group(2)), sign
 
 
 def races_in(picture):

@@ -47,15 +47,19 @@ def joins(step, other):
     return kind == JOIN and (spawned_by(other, number) or (other[2] and other[0] == number))
 
 
+def shares(later, earlier):
+    """The later step uses or frees an allocation that the earlier one made, or frees one that it used."""
+    (made, _, touched), (_, freed, used) = earlier[4], later[4]
+    return any(it in used or it in freed for it in made) or any(it in freed for it in touched)
+
+
 def depends(later, earlier):
-    made, touched = set(earlier[4][0]), set(earlier[4][2])
     return (
         (lock_of(earlier) is not None and lock_of(earlier) == lock_of(later))
         or earlier[1][0] == later[1][0] == CREATE
         or earlier[1][0] == later[1][0] == SPAWN
         or joins(later, earlier) or joins(earlier, later)
-        or bool(made & (set(later[4][2]) | set(later[4][1]))) or bool(touched & set(later[4][1]))
-        or some(conflict, earlier, later))
+        or shares(later, earlier) or some(conflict, earlier, later))
 
 
 def synchronised(steps, i, j):
@@ -69,22 +73,39 @@ def is_edge(steps, i, j):
     return one[0] == other[0] or synchronised(steps, i, j) or (depends(other, one) and not some(race, one, other))
 
 
-def races(steps):
-    """Pairs of places, counted from 0: each step that has a partner, with its greatest one."""
-    before, pairs = [], []
-    for j, step in enumerate(steps):
+def order(steps):
+    """For each step the set of those before it, as bits."""
+    before = []
+    for j in range(len(steps)):
         reached = 0
         for i in range(j):
             if is_edge(steps, i, j):
                 reached |= before[i] | 1 << i
         before.append(reached)
+    return before
+
+
+def races_by(steps, before):
+    """Pairs of places, counted from 0: each step that races with an earlier one which isn't before it, with the
+    greatest of these."""
+    pairs = []
+    for j, step in enumerate(steps):
         partners = (i for i in reversed(range(j))
-                    if steps[i][0] != step[0] and some(race, steps[i], step) and not reached >> i & 1)
+                    if steps[i][0] != step[0] and some(race, steps[i], step) and not before[j] >> i & 1)
         pairs += [(i, j) for i in [next(partners, None)] if i is not None]
     return pairs
 
 
+def races(steps):
+    """The races of a run: each step that has a partner, with its greatest one."""
+    return races_by(steps, order(steps))
+
+
 def listed(steps):
     """The lines of a report that tell them."""
-    pairs = races(steps)
+    return told(races(steps))
+
+
+def told(pairs):
+    """The lines of a report that tell these races."""
     return b"races %d\n" % len(pairs) + b"".join(b"race %d %d\n" % (i + 1, j + 1) for i, j in pairs)

@@ -1,7 +1,8 @@
 """The recorder of examples/record/: it is compiled without a warning; small programs (record_programs.py) are
 recorded, and their races are those that they have by construction, and those of the definition (plain.py); so are
-the twins of examples/beside; what the companion tells of their traces is what told.py makes of them; and what can go
-wrong is told, and leaves no trace that is taken for a whole one.
+the twins of examples/beside, beside what ThreadSanitizer reports of them by docs/BESIDE.md; what the companion tells of
+their traces is what told.py and two_orders.py make of them, and the races by Rust's order are those by the machine's;
+and what can go wrong is told, and leaves no trace that is taken for a whole one.
 
     .ci/record.py [PROGRAM]     checks the recorder alone, with this mirace
 """
@@ -20,7 +21,9 @@ from collections import Counter
 sys.dont_write_bytecode = True
 import plain  # noqa: E402
 import record_programs  # noqa: E402
+import rust_order  # noqa: E402
 import told  # noqa: E402
+import two_orders  # noqa: E402
 
 TOP = os.path.dirname(os.path.dirname(os.path.abspath(__file__)))
 HERE = f"{TOP}/examples/record"
@@ -31,9 +34,9 @@ COMPILERS = {"gcc": {"c": "gcc", "cpp": "g++"}, "clang": {"c": "clang", "cpp": "
 PATIENCE = 600
 # The most steps of a trace whose races are compared with the definition, which looks at each two of them.
 MOST_STEPS = 1500
-# Twins with another list than their example, by the example's steps: C's order has less in it than the machine's, and
-# to free is a store here, as in edition 2.
-OTHER_RACES = {"spawns": {"4-7"}, "stop": {"4-7"}, "use-after-free": {"6-7"}}
+# Twins with another list than their example by Rust's order, by the example's steps: to free is a store here, as in
+# edition 2.
+OTHER_RACES = {"use-after-free": {"6-7"}}
 
 
 def module(name, path):
@@ -103,21 +106,23 @@ class Checks:
         steps = self.steps(trace)
         self.judge(f"{what}: a trace that is short", len(steps) <= MOST_STEPS, f"{len(steps)} steps")
         if len(steps) <= MOST_STEPS:
-            wanted, listed = plain.listed(steps), self.offline(trace)
+            orders = two_orders.Orders(steps)
+            wanted, listed = plain.told(orders.machine), self.offline(trace)
             told = f"{listed[:300]} and not {wanted[:300]}"
             self.judge(f"{what}: its races by their definition", wanted == listed, told)
-        self.by_companion(what, trace, steps)
+            self.judge(f"{what}: its races by Rust's order", orders.rust == orders.machine, f"{orders.rust[:9]}")
+            self.by_companion(what, trace, orders)
 
-    def by_companion(self, what, trace, steps):
-        """What the companion tells of the trace is what told.py makes of it, at the places of `names`; and its pairs of
-        places have as many races as the list of `races` says."""
+    def by_companion(self, what, trace, orders):
+        """What the companion tells of the trace is what told.py and two_orders.py make of it, at the places of `names`;
+        and its pairs of places have as many races as the list of `races` says."""
         places = f"{self.at}/recorded.names"
         named = subprocess.run([f"{HERE}/names", trace], stdout=subprocess.PIPE, timeout=PATIENCE).stdout
         with open(places, "wb") as it:
             it.write(named)
         races = told.races_in(self.offline(trace))
-        wanted = told.Told(steps, races, named)
-        for word, text in (("races", wanted.races_text()), ("steps", wanted.steps_text())):
+        wanted, both = told.Told(orders.steps, races, named), two_orders.of_trace(orders, named)
+        for word, text in (("races", wanted.races_text()), ("steps", wanted.steps_text()), ("rust", both.text())):
             ran = subprocess.run([COMPANION, word, trace, places], stdout=subprocess.PIPE, timeout=PATIENCE)
             is_well = (ran.stdout, ran.returncode) == (text, int(bool(races)))
             said = f"{ran.returncode}: {ran.stdout[:500]} and not {text[:500]}"
@@ -190,13 +195,21 @@ def twin(checks, name, slot):
     return found
 
 
+def by_rust(checks, name):
+    """The races of an example by Rust's order."""
+    words = [checks.program, "trace", f"{TOP}/examples/{name}.mr", f"{TOP}/examples/{name}.sched"]
+    trace = subprocess.run(words, stdout=subprocess.PIPE, timeout=PATIENCE).stdout
+    steps = [checks.script.step_of(line) for line in checks.script.decode(trace).splitlines()]
+    return {f"{i + 1}-{j + 1}" for i, j in rust_order.races(steps)}
+
+
 def twins(checks):
-    """The twins in the order of the recorded run: what is listed of each, beside the list of its example. On a machine
-    with much else to do a time table isn't always kept: a longer one is tried then."""
+    """The twins in the order of the recorded run: what is listed of each, beside the list of its example by Rust's
+    order, and whether ThreadSanitizer reports a race of it. On a machine with much else to do a time table isn't always
+    kept: a longer one is tried then."""
+    reported = two_orders.reported()
     for name in sorted(it[:-2] for it in os.listdir(TWINS) if it.endswith(".c")):
-        example = [f"{TOP}/examples/{name}.mr", f"{TOP}/examples/{name}.sched"]
-        report = subprocess.run([checks.program, "run", *example], stdout=subprocess.PIPE, timeout=PATIENCE).stdout
-        example_has = {f"{i}-{j}" for i, j in re.findall(r"^race (\d+) (\d+)$", report.decode(), re.M)}
+        example_has = by_rust(checks, name)
         said = checks.build_file(f"{TWINS}/{name}.c", "gcc")
         checks.judge(f"the twin {name} is compiled", not said, said)
         wanted, found = OTHER_RACES.get(name, example_has), None
@@ -205,6 +218,8 @@ def twins(checks):
         checks.judge(f"the twin {name}: its races", found == wanted, f"{sorted(found)} and not {sorted(wanted)}")
         is_well = (name in OTHER_RACES) == (found != example_has)
         checks.judge(f"the twin {name}: whether its list is the example's", is_well, f"{sorted(found)}")
+        checks.judge(f"the twin {name}: whether ThreadSanitizer reports a race", bool(found) == reported.get(name),
+                     f"{sorted(found)}, and {reported.get(name)}")
 
 
 # Two threads that store so often as the first word says; what they store is summed up.

@@ -4,16 +4,16 @@ chains of it, and of each step the greatest earlier one that races with it unord
 
     python3 .ci/rust_order.py TRACE ..
 
-tells them of each trace, as `mirace offline` tells those by the machine's order, each behind the trace's name. A step is
-what `step_of` of examples/trace/trace.py gives, as in plain.py. Nothing here is shared with the program, whose list is made
-by clocks.
+tells them of each trace, as `mirace offline` tells those by the machine's order, each behind the trace's name. A step
+is what `step_of` of examples/trace/trace.py gives, as in plain.py. Nothing here is shared with the program, whose list
+is made by clocks.
 """
 import bisect
 import importlib.util
 import os
 import sys
 
-from plain import ACQUIRE, JOIN, RELEASE, race, some, wakes
+from plain import ACQUIRE, JOIN, RELEASE, races_by, told, wakes
 
 TRACES = os.path.join(os.path.dirname(os.path.abspath(__file__)), "..", "examples", "trace")
 
@@ -81,18 +81,12 @@ def order(steps):
 
 def races(steps):
     """Pairs of places, counted from 0: each step that has a race with an earlier one, with the greatest such step."""
-    before, pairs = order(steps), []
-    for j, step in enumerate(steps):
-        partners = (i for i in reversed(range(j))
-                    if steps[i][0] != step[0] and some(race, steps[i], step) and not before[j] >> i & 1)
-        pairs += [(i, j) for i in [next(partners, None)] if i is not None]
-    return pairs
+    return races_by(steps, order(steps))
 
 
 def listed(steps):
     """The lines of a report that tell them."""
-    pairs = races(steps)
-    return b"races %d\n" % len(pairs) + b"".join(b"race %d %d\n" % (i + 1, j + 1) for i, j in pairs)
+    return told(races(steps))
 
 
 def steps_of(path):

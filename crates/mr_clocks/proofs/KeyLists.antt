@@ -14,11 +14,11 @@ use Rattle.mr_base.specs.declared.thread.Event.TheVariants.{Quiet, CreateLock, A
 use Rattle.mr_base.specs.Accesses.{races, some_race}
 use Rattle.mr_event.specs.Footprint.{Footprint}
 use Rattle.mr_base.specs.Identities.{same_id}
-use Rattle.mr_event.specs.Footprints.{lock_of, same_number, spawns, wakes}
+use Rattle.mr_event.specs.Footprints.{lock_of, same_number, spawns}
 use Rattle.mr_clocks.specs.declared.keys.Key.{Key}
 use Rattle.mr_clocks.specs.declared.keys.Key.TheVariants.{Lock, Creation, Spawning, Starts, Joins, Made, Touched, Range, Wakes}
 use Rattle.mr_clocks.specs.declared.rows.Row.{Row}
-use Rattle.mr_clocks.specs.Keys.{IsExact, asks, creates, end_asked, end_noted, event_asked, event_noted, joins, keys_asked, keys_noted, made_keys, notes, range_keys, same_access, same_bool, spawns_some, starts, touched_keys, woken_keys}
+use Rattle.mr_clocks.specs.Keys.{IsExact, asks, creates, end_asked, end_noted, event_asked, event_noted, has_row, joins, keys_asked, keys_noted, made_keys, range_keys, same_access, same_bool, spawns_some, starts, touched_keys}
 use Rattle.mr_clocks.specs.Rows.{ArePlaces, IsRowFor}
 use Rattle.mr_clocks.proofs.KeyLaws.{same_access_refl, same_id_refl}
 
@@ -34,15 +34,22 @@ mapped_more f old keys new xs i d lt is pushed =
 pub mapped_all : {A B : Type 0} (f : A → B) (old keys : List B) (xs : List A) (i : ℕ) → length xs ≤ i → keys ≡ old ++ map f (take i xs) → keys ≡ old ++ map f xs
 mapped_all f old keys xs i le is = is ∙ ap (λ l. old ++ map f l) (take_all i xs le)
 
--- six parts, appended one after the other
+-- five parts, appended one after the other
+pub five_parts : (a b c d e k0 k1 k2 k3 k4 k5 : List Key) → k0 ≡ [] → k1 ≡ k0 ++ a → k2 ≡ k1 ++ b → k3 ≡ k2 ++ c → k4 ≡ k3 ++ d → k5 ≡ k4 ++ e → k5 ≡ a ++ (b ++ (c ++ (d ++ e)))
+five_parts a b c d e k0 k1 k2 k3 k4 k5 e0 e1 e2 e3 e4 e5 =
+    e5
+    ∙ ap (λ (l : List Key). l ++ e) (e4 ∙ ap (λ (l : List Key). l ++ d) (e3 ∙ ap (λ (l : List Key). l ++ c) (e2 ∙ ap (λ (l : List Key). l ++ b) (e1 ∙ ap (λ (l : List Key). l ++ a) e0))))
+    ∙ append_assoc ((a ++ b) ++ c) d e
+    ∙ append_assoc (a ++ b) c (d ++ e)
+    ∙ append_assoc a b (c ++ (d ++ e))
+
+-- and one more
 pub six_parts : (a b c d e f k0 k1 k2 k3 k4 k5 k6 : List Key) → k0 ≡ [] → k1 ≡ k0 ++ a → k2 ≡ k1 ++ b → k3 ≡ k2 ++ c → k4 ≡ k3 ++ d → k5 ≡ k4 ++ e → k6 ≡ k5 ++ f → k6 ≡ a ++ (b ++ (c ++ (d ++ (e ++ f))))
 six_parts a b c d e f k0 k1 k2 k3 k4 k5 k6 e0 e1 e2 e3 e4 e5 e6 =
     e6
-    ∙ ap (λ (l : List Key). l ++ f) (e5 ∙ ap (λ (l : List Key). l ++ e) (e4 ∙ ap (λ (l : List Key). l ++ d) (e3 ∙ ap (λ (l : List Key). l ++ c) (e2 ∙ ap (λ (l : List Key). l ++ b) (e1 ∙ ap (λ (l : List Key). l ++ a) e0)))))
-    ∙ append_assoc (((a ++ b) ++ c) ++ d) e f
-    ∙ append_assoc ((a ++ b) ++ c) d (e ++ f)
-    ∙ append_assoc (a ++ b) c (d ++ (e ++ f))
-    ∙ append_assoc a b (c ++ (d ++ (e ++ f)))
+    ∙ ap (λ (l : List Key). l ++ f) (five_parts a b c d e k0 k1 k2 k3 k4 k5 e0 e1 e2 e3 e4 e5)
+    ∙ append_assoc a (b ++ (c ++ (d ++ e))) f
+    ∙ ap (λ (l : List Key). a ++ l) (append_assoc b (c ++ (d ++ e)) f ∙ ap (λ (l : List Key). b ++ l) (append_assoc c (d ++ e) f ∙ ap (λ (l : List Key). c ++ l) (append_assoc d e f)))
 
 -- ---- tests that hold of equal things alone
 
@@ -75,14 +82,6 @@ any_mapped : {X : Type 0} (eq : X → X → Bool) (make : X → Key) → ((x y :
 any_mapped eq make exact x xs h =
     let c = Contains-from_any exact x xs h in
     (c.0, omega (arith, length-map xs make, c.1), get_or-map make xs c.0 x (make x) c.1 ∙ ap make c.2)
-
-woken_mapped : (thread : ℕ) (ts : List ℕ) → list_any (λ t. t == thread) ts ≡ true → Contains (woken_keys ts) (Wakes thread)
-woken_mapped thread [] h = absurd (false≢true h)
-woken_mapped thread (t ∷ ts) h =
-    elim (or_cases (t == thread) (list_any (λ t. t == thread) ts) h) [
-      | inl e ↦ (0, omega arith, ap Wakes (eqb-true t thread e))
-      | inr e ↦ Contains-append_right (Wakes t ∷ []) (woken_keys ts) (Wakes thread) (woken_mapped thread ts e)
-    ]
 
 -- ---- the keys of an event
 
@@ -150,9 +149,9 @@ join_asked (Acquire l) t h = absurd (false≢true h)
 join_asked (Release l) t h = absurd (false≢true h)
 join_asked (Spawn s) t h = absurd (false≢true h)
 
--- of a spawned thread: the second and the third key under which the step is noted, and the second that it asks
-spawn_noted : (e : Event) (t : ℕ) → spawns e t ≡ true → Contains (event_noted e) (Starts t) × Contains (event_noted e) (Wakes t)
-spawn_noted (Spawn s) t h = ((1, omega arith, ap Starts (eqb-true s t h)), (2, omega arith, ap Wakes (eqb-true s t h)))
+-- of a spawned thread: the second key in whose rows the step is noted, and the second that it asks
+spawn_noted : (e : Event) (t : ℕ) → spawns e t ≡ true → Contains (event_noted e) (Starts t)
+spawn_noted (Spawn s) t h = (1, omega arith, ap Starts (eqb-true s t h))
 spawn_noted Quiet t h = absurd (false≢true h)
 spawn_noted (CreateLock l) t h = absurd (false≢true h)
 spawn_noted (Acquire l) t h = absurd (false≢true h)
@@ -175,17 +174,14 @@ ended_asked : (b : Bool) (s t : ℕ) → b ≡ true → (s == t) ≡ true → Co
 ended_asked true s t e h = (0, omega arith, ap Joins (eqb-true s t h))
 ended_asked false s t e h = absurd (false≢true e)
 
--- ---- each key under which a step is noted stands in the list
+-- ---- each key in whose rows a step is noted stands in the list
 
 module _ (f : Footprint) where
   abbrev behind_made : List Key
   behind_made = touched_keys f.touched ++ range_keys f.accesses
 
-  abbrev behind_woken : List Key
-  behind_woken = made_keys f.allocated ++ behind_made
-
   abbrev behind_end : List Key
-  behind_end = woken_keys f.woken ++ behind_woken
+  behind_end = made_keys f.allocated ++ behind_made
 
   abbrev behind_event : List Key
   behind_event = end_noted f.ended f.thread ++ behind_end
@@ -199,50 +195,32 @@ module _ (f : Footprint) where
   past_end : (k : Key) → Contains behind_end k → Contains (keys_noted f) k
   past_end k c = past_event k (Contains-append_right (end_noted f.ended f.thread) behind_end k c)
 
-  past_woken : (k : Key) → Contains behind_woken k → Contains (keys_noted f) k
-  past_woken k c = past_end k (Contains-append_right (woken_keys f.woken) behind_woken k c)
-
   past_made : (k : Key) → Contains behind_made k → Contains (keys_noted f) k
-  past_made k c = past_woken k (Contains-append_right (made_keys f.allocated) behind_made k c)
+  past_made k c = past_end k (Contains-append_right (made_keys f.allocated) behind_made k c)
 
   starts_listed : (t : ℕ) → starts f t ≡ true → Contains (keys_noted f) (Starts t)
   starts_listed t h = elim (or_cases (spawns f.event t) (f.ended && (f.thread == t)) h) [
-    | inl e ↦ in_event (Starts t) (spawn_noted f.event t e).0
+    | inl e ↦ in_event (Starts t) (spawn_noted f.event t e)
     | inr e ↦
         let p = and_parts f.ended (f.thread == t) e in
         past_event (Starts t) (Contains-append_left (end_noted f.ended f.thread) behind_end (Starts t) (ended_noted f.ended f.thread t p.0 p.1))
   ]
 
-  wakes_listed : (t : ℕ) → wakes f t ≡ true → Contains (keys_noted f) (Wakes t)
-  unfolding wakes
-  wakes_listed t h = elim (or_cases (list_any (λ s. s == t) f.woken) (spawns f.event t) h) [
-    | inl e ↦ past_end (Wakes t) (Contains-append_left (woken_keys f.woken) behind_woken (Wakes t) (woken_mapped t f.woken e))
-    | inr e ↦ in_event (Wakes t) (spawn_noted f.event t e).1
-  ]
-
-  pub noted_listed : (k : Key) → notes f k ≡ true → Contains (keys_noted f) k
+  pub noted_listed : (k : Key) → has_row f k ≡ true → Contains (keys_noted f) k
   noted_listed (Lock n) h = in_event (Lock n) (lock_noted f.event n h)
   noted_listed Creation h = in_event Creation (creation_noted f.event h)
   noted_listed Spawning h = in_event Spawning (spawning_noted f.event h)
   noted_listed (Starts t) h = starts_listed t h
   noted_listed (Joins t) h = in_event (Joins t) (join_noted f.event t h)
-  noted_listed (Made a) h = past_woken (Made a) (Contains-append_left (made_keys f.allocated) behind_made (Made a) (any_mapped same_id Made id_exact a f.allocated h))
+  noted_listed (Made a) h = past_end (Made a) (Contains-append_left (made_keys f.allocated) behind_made (Made a) (any_mapped same_id Made id_exact a f.allocated h))
   noted_listed (Touched a) h = past_made (Touched a) (Contains-append_left (touched_keys f.touched) (range_keys f.accesses) (Touched a) (any_mapped same_id Touched id_exact a f.touched h))
   noted_listed (Range r) h = past_made (Range r) (Contains-append_right (touched_keys f.touched) (range_keys f.accesses) (Range r) (any_mapped same_access Range access_exact r f.accesses h))
-  noted_listed (Wakes t) h = wakes_listed t h
+  noted_listed (Wakes t) h = absurd (false≢true h)
 
-  -- ---- and each key of the list is one under which the step is noted
+  -- ---- and each key of the list is one in whose rows the step is noted
 
   abbrev Notes : Key → Type 0
-  Notes k = notes f k ≡ true
-
-  wakes_spawned : (t : ℕ) → spawns f.event t ≡ true → wakes f t ≡ true
-  unfolding wakes
-  wakes_spawned t h = or_right (list_any (λ s. s == t) f.woken) (spawns f.event t) h
-
-  wakes_woken : (t : ℕ) → list_any (λ s. s == t) f.woken ≡ true → wakes f t ≡ true
-  unfolding wakes
-  wakes_woken t h = or_left (list_any (λ s. s == t) f.woken) (spawns f.event t) h
+  Notes k = has_row f k ≡ true
 
   event_each : (e : Event) → f.event ≡ e → All Notes (event_noted e)
   event_each Quiet is = All-nil Notes
@@ -253,9 +231,8 @@ module _ (f : Footprint) where
   event_each (Release l) is = All-cons Notes (Lock l) [] (ap (λ d. same_number (lock_of d) (Some l)) is ∙ eq-eqb l l refl) (All-nil Notes)
   event_each (Spawn t) is =
       let here : spawns f.event t ≡ true = ap (λ d. spawns d t) is ∙ eq-eqb t t refl in
-      All-cons Notes Spawning (Starts t ∷ Wakes t ∷ []) (ap spawns_some is)
-      (All-cons Notes (Starts t) (Wakes t ∷ []) (or_left (spawns f.event t) (f.ended && (f.thread == t)) here)
-      (All-cons Notes (Wakes t) [] (wakes_spawned t here) (All-nil Notes)))
+      All-cons Notes Spawning (Starts t ∷ []) (ap spawns_some is)
+      (All-cons Notes (Starts t) [] (or_left (spawns f.event t) (f.ended && (f.thread == t)) here) (All-nil Notes))
   event_each (Join t) is = All-cons Notes (Joins t) [] (ap (λ d. joins d t) is ∙ eq-eqb t t refl) (All-nil Notes)
 
   end_each : (b : Bool) → f.ended ≡ b → All Notes (end_noted b f.thread)
@@ -266,10 +243,9 @@ module _ (f : Footprint) where
   each_noted =
       All-append Notes (event_noted f.event) behind_event (event_each f.event refl)
       (All-append Notes (end_noted f.ended f.thread) behind_end (end_each f.ended refl)
-      (All-append Notes (woken_keys f.woken) behind_woken (All-map Notes Wakes f.woken (λ k d lt. wakes_woken (get_or f.woken k d) (list_any_at (λ s. s == get_or f.woken k d) f.woken k d lt (eq-eqb (get_or f.woken k d) (get_or f.woken k d) refl))))
       (All-append Notes (made_keys f.allocated) behind_made (All-map Notes Made f.allocated (λ k d lt. list_any_at (same_id (get_or f.allocated k d)) f.allocated k d lt (same_id_refl (get_or f.allocated k d))))
       (All-append Notes (touched_keys f.touched) (range_keys f.accesses) (All-map Notes Touched f.touched (λ k d lt. list_any_at (same_id (get_or f.touched k d)) f.touched k d lt (same_id_refl (get_or f.touched k d))))
-      (All-map Notes Range f.accesses (λ k d lt. list_any_at (same_access (get_or f.accesses k d)) f.accesses k d lt (same_access_refl (get_or f.accesses k d))))))))
+      (All-map Notes Range f.accesses (λ k d lt. list_any_at (same_access (get_or f.accesses k d)) f.accesses k d lt (same_access_refl (get_or f.accesses k d)))))))
 
 -- ---- each key that a step asks, but a range, stands in the list
 
@@ -353,7 +329,7 @@ places_from step rows places keys thread are of many each =
     record {
       each = λ y lt.
           let r = each y Creation (omega (arith, lt, many)) in
-          (r.within, r.of_thread ∙ of, ap (notes step) (r.of_key ∙ ap (λ (l : List Key). get_or l y Creation) are) ∙ each_noted step y Creation (let long = ap length are in omega (arith, lt, many, long)));
+          (r.within, r.of_thread ∙ of, ap (has_row step) (r.of_key ∙ ap (λ (l : List Key). get_or l y Creation) are) ∙ each_noted step y Creation (let long = ap length are in omega (arith, lt, many, long)));
       all = λ key noted.
           let c = noted_listed step key noted in
           let long = ap length are in

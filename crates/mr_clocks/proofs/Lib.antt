@@ -4,6 +4,7 @@ pub mod Edges
 pub mod Kept
 pub mod KeyLaws
 pub mod KeyLists
+pub mod Linking
 pub mod Longer
 pub mod MarkLaws
 pub mod MemoLaws
@@ -12,4 +13,5 @@ pub mod Parts
 pub mod RowLaws
 pub mod SkipLaws
 pub mod SpanLaws
+pub mod WakerLaws
 pub mod Wholes

@@ -1,14 +1,12 @@
 -- Memos beside rows that grow, and beside rows that take links.
-use Rattle.std.proofs.Common.{◌≡◌, ℕ, ◌+◌, List, Option, None, Some, length, slice_index, refl, sym, ◌∙◌, ap, subst, arith}
-use Rattle.std.specs.Prelude.{IfSome}
-use Rattle.std.proofs.lemmas.List.{take_all}
+use Rattle.std.proofs.Common.{◌≡◌, ℕ, ◌+◌, List, length, slice_index, refl, sym, ◌∙◌, ap, subst, arith}
 use Rattle.mr_event.specs.Footprint.{Footprint}
 use Rattle.mr_event.specs.Likeness.{DoTheSame}
 use Rattle.mr_event.proofs.AlikeLaws.{alike_equal}
 use Rattle.mr_clocks.specs.declared.keys.Key.{Key}
 use Rattle.mr_clocks.specs.declared.keys.Key.TheVariants.{Lock, Creation, Spawning, Starts, Joins, Made, Touched, Range, Wakes}
 use Rattle.mr_clocks.specs.declared.rows.Row.{Row}
-use Rattle.mr_clocks.specs.Keys.{asks, notes}
+use Rattle.mr_clocks.specs.Keys.{asks, has_row}
 use Rattle.mr_clocks.specs.Memos.{AreMemos, IsMemo, IsMemoOf, memo_at}
 use Rattle.mr_clocks.specs.Rows.{AreAllAsked, ArePlaces, HaveKeysOf, IsGrown, row_at}
 use Rattle.mr_clocks.proofs.Noting.{grown_row}
@@ -38,30 +36,52 @@ asks_waking f g (Touched a) = refl
 asks_waking f g (Range r) = refl
 asks_waking f g (Wakes t) = refl
 
+-- and is noted in rows of the same keys
+has_row_waking : (f g : Footprint) (key : Key) → has_row (waking_as f g) key ≡ has_row f key
+has_row_waking f g (Lock n) = refl
+has_row_waking f g Creation = refl
+has_row_waking f g Spawning = refl
+has_row_waking f g (Starts t) = refl
+has_row_waking f g (Joins t) = refl
+has_row_waking f g (Made a) = refl
+has_row_waking f g (Touched a) = refl
+has_row_waking f g (Range r) = refl
+has_row_waking f g (Wakes t) = refl
+
+-- it is a step that did the same, and woke those
+waking_alike : (f g : Footprint) → DoTheSame f g → waking_as f g ≡ g
+waking_alike f g h = alike_equal (waking_as f g) g (record {
+  thread = h.thread;
+  event = h.event;
+  ended = h.ended;
+  accesses = h.accesses;
+  touched = h.touched;
+  allocated = h.allocated;
+  freed = h.freed;
+  woken = refl;
+})
+
 -- steps that do the same ask the same rows
-pub asked_alike : (f g : Footprint) (rows : List Row) (found : List ℕ) → DoTheSame f g → AreAllAsked f rows found → AreAllAsked g rows found
+asked_alike : (f g : Footprint) (rows : List Row) (found : List ℕ) → DoTheSame f g → AreAllAsked f rows found → AreAllAsked g rows found
 asked_alike f g rows found h all =
-    subst (λ (s : Footprint). AreAllAsked s rows found)
-    (alike_equal (waking_as f g) g (record {
-      thread = h.thread;
-      event = h.event;
-      ended = h.ended;
-      accesses = h.accesses;
-      touched = h.touched;
-      allocated = h.allocated;
-      freed = h.freed;
-      woken = refl;
-    }))
+    subst (λ (s : Footprint). AreAllAsked s rows found) (waking_alike f g h)
     (λ x lt apart it_asks. all x lt apart (sym (asks_waking f g (row_at rows x).key) ∙ it_asks))
 
--- what holds where there is something, and what follows from it
-pub if_some : {A : Type 0} (P Q : A → Type 0) (o : Option A) → ((v : A) → P v → Q v) → IfSome o P → IfSome o Q
-if_some P Q None f h = tt
-if_some P Q (Some v) f h = f v h
+-- and are noted in the same ones
+places_alike : (f g : Footprint) (rows : List Row) (places : List ℕ) → DoTheSame f g → ArePlaces f rows places → ArePlaces g rows places
+places_alike f g rows places h p =
+    subst (λ (s : Footprint). ArePlaces s rows places) (waking_alike f g h) (record {
+      each = λ y lt. let at = p.each y lt in (at.0, at.1, has_row_waking f g (row_at rows (slice_index places y)).key ∙ at.2);
+      all = λ key noted. p.all key (sym (has_row_waking f g key) ∙ noted);
+    })
 
--- rows that grew by none are those of before
-pub grown_by_none : (old new : List Row) → IsGrown old new → length new ≡ length old → new ≡ old
-grown_by_none old new g many = sym (take_all (length old) new (omega (arith, many))) ∙ g.same
+-- so a memo of the one is one of the other
+pub memo_alike : (f g : Footprint) (rows : List Row) (memo : Footprint × ℕ × List ℕ × List ℕ) → DoTheSame f g → IsMemoOf rows f memo → IsMemoOf rows g memo
+memo_alike f g rows memo h of = record {
+  stamp = of.stamp;
+  asked = asked_alike f g rows memo.2 h of.asked;
+  noted = places_alike f g rows memo.3 h of.noted;
+}
 
 -- the places of rows are those of rows behind which others came
 places_grown : (old new : List Row) (step : Footprint) (places : List ℕ) → IsGrown old new → ArePlaces step old places → ArePlaces step new places
@@ -72,7 +92,7 @@ places_grown old new step places g p =
           let at = p.each y lt in
           let inside = at.0 in
           let same = grown_row old new g (slice_index places y) inside in
-          (omega (arith, inside, longer), ap (λ (r : Row). r.thread) same ∙ at.1, ap (λ (r : Row). notes step r.key) same ∙ at.2);
+          (omega (arith, inside, longer), ap (λ (r : Row). r.thread) same ∙ at.1, ap (λ (r : Row). has_row step r.key) same ∙ at.2);
       all = λ key noted.
           let t = p.all key noted in
           let at = p.each t.0 t.1 in
@@ -101,7 +121,7 @@ places_same old new step places keys p =
       each = λ y lt.
           let at = p.each y lt in
           let inside = at.0 in
-          (omega (arith, inside, many), keys.thread (slice_index places y) ∙ at.1, ap (notes step) (keys.key (slice_index places y)) ∙ at.2);
+          (omega (arith, inside, many), keys.thread (slice_index places y) ∙ at.1, ap (has_row step) (keys.key (slice_index places y)) ∙ at.2);
       all = λ key noted.
           let t = p.all key noted in
           (t.0, t.1, keys.key (slice_index places t.0) ∙ t.2);
@@ -119,11 +139,10 @@ memos_same old new memos keys all = λ x lt.
       noted = λ some. places_same old new memo.0 memo.3 keys (m.noted some);
     }
 
--- a memo of a step that is as new as the rows is a memo
-pub memo_here : (rows : List Row) (step : Footprint) (memo : Footprint × ℕ × List ℕ × List ℕ) → IsMemoOf rows step memo → IsMemo rows memo
-memo_here rows step memo of =
+-- a memo of its own step that is as new as the rows is a memo
+pub memo_here : (rows : List Row) (step : Footprint) (memo : Footprint × ℕ × List ℕ × List ℕ) → memo.0 ≡ step → IsMemoOf rows step memo → IsMemo rows memo
+memo_here rows step memo own of =
     let stamp = of.stamp in
-    let own : memo.0 ≡ step = of.of_step in
     let all : AreAllAsked memo.0 rows memo.2 = subst (λ (f : Footprint). AreAllAsked f rows memo.2) (sym own) of.asked in
     record {
       low = omega (arith, stamp);
@@ -135,7 +154,6 @@ memo_here rows step memo of =
 pub memo_exact : (rows : List Row) (memo : Footprint × ℕ × List ℕ × List ℕ) → memo.1 ≡ length rows + 1 → IsMemo rows memo → IsMemoOf rows memo.0 memo
 memo_exact rows memo stamp m =
     record {
-      of_step = refl;
       stamp = stamp;
       asked = λ x lt. m.asked x (omega (arith, lt, stamp));
       noted = m.noted (omega (arith, stamp));

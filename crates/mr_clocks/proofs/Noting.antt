@@ -7,7 +7,7 @@ use Rattle.mr_event.specs.Order.{step_at, thread_at}
 use Rattle.mr_clocks.specs.declared.keys.Key.{Key}
 use Rattle.mr_clocks.specs.declared.rows.Row.{Row}
 use Rattle.mr_clocks.specs.declared.rows.Link.{Link}
-use Rattle.mr_clocks.specs.Keys.{notes}
+use Rattle.mr_clocks.specs.Keys.{has_row}
 use Rattle.mr_clocks.specs.Rows.{AreLinks, AreLonger, ArePartly, ArePlaces, AreRows, HaveKeysOf, IsBelow, IsGrown, IsHeld, IsIn, IsKept, IsNoted, IsOfRow, IsRow, IsRowFor, link_at, no_link, no_row, row_at, step_of}
 use Rattle.mr_clocks.proofs.Chains.{in_behind, in_cases, in_here, in_less, in_low, in_more, in_none}
 
@@ -24,7 +24,7 @@ partly_start run j rows links a =
     }
 
 -- one row, in which a step is noted
-module _ (run : List Footprint) (j x : ℕ) (rows rows' : List Row) (links links' : List Link) (p : ArePartly run j rows links) (inside : x < length rows) (thread : (row_at rows x).thread ≡ thread_at run j) (noted : notes (step_at run j) (row_at rows x).key ≡ true) (n : IsNoted rows links x j rows' links') where
+module _ (run : List Footprint) (j x : ℕ) (rows rows' : List Row) (links links' : List Link) (p : ArePartly run j rows links) (inside : x < length rows) (thread : (row_at rows x).thread ≡ thread_at run j) (noted : has_row (step_at run j) (row_at rows x).key ≡ true) (n : IsNoted rows links x j rows' links') where
   link_new : link_at links' (length links) ≡ (record { step = j; before = n.before })
   link_new = ap (λ (l : List Link). link_at l (length links)) n.linked ∙ get_or_push links (record { step = j; before = n.before }) no_link (length links) refl
 
@@ -115,7 +115,7 @@ module _ (run : List Footprint) (j x : ℕ) (rows rows' : List Row) (links links
       record {
         within = let less = s.within in omega (arith, is, less);
         thread = ap (thread_at run) is ∙ s.thread ∙ sym thread_new;
-        noted = ap (λ (q : ℕ). notes (step_at run q) (row_at rows' x).key) is ∙ ap (notes (step_at run (step_of links k))) key_new ∙ s.noted;
+        noted = ap (λ (q : ℕ). has_row (step_at run q) (row_at rows' x).key) is ∙ ap (has_row (step_at run (step_of links k))) key_new ∙ s.noted;
       }
 
   new_of : (k : ℕ) → k ≡ length links → IsOfRow run (j + 1) (row_at rows' x) (step_of links' k)
@@ -124,7 +124,7 @@ module _ (run : List Footprint) (j x : ℕ) (rows rows' : List Row) (links links
       record {
         within = omega (arith, is);
         thread = ap (thread_at run) is ∙ sym thread ∙ sym thread_new;
-        noted = ap (λ (q : ℕ). notes (step_at run q) (row_at rows' x).key) is ∙ ap (notes (step_at run j)) key_new ∙ noted;
+        noted = ap (λ (q : ℕ). has_row (step_at run q) (row_at rows' x).key) is ∙ ap (has_row (step_at run j)) key_new ∙ noted;
       }
 
   -- what is behind the new link in the row
@@ -262,11 +262,11 @@ partly_ends run j first rows links places p at keys kept =
       each = p.each;
       held = λ i key lt noted. elim (ℕ_discrete i j) [
         | no ne ↦ p.held i key (omega (arith, lt, ne)) noted
-        | yes e ↦ subst (λ (q : ℕ). IsHeld run rows links q key) (sym e) (own key (ap (λ (q : ℕ). notes (step_at run q) key) (sym e) ∙ noted))
+        | yes e ↦ subst (λ (q : ℕ). IsHeld run rows links q key) (sym e) (own key (ap (λ (q : ℕ). has_row (step_at run q) key) (sym e) ∙ noted))
       ];
     }
   where
-    own : (key : Key) → notes (step_at run j) key ≡ true → IsHeld run rows links j key
+    own : (key : Key) → has_row (step_at run j) key ≡ true → IsHeld run rows links j key
     own key noted =
         let t = at.all key noted in
         let place = at.each t.0 t.1 in
@@ -363,7 +363,7 @@ noted_more run j y first rows rows' links links' places p at keys lt n kept =
     let place = at.each y lt in
     let inside : x < length rows = (let low = place.0 in let many = keys.many in omega (arith, low, many)) in
     let thread : (row_at rows x).thread ≡ thread_at run j = keys.thread x ∙ place.1 in
-    let noted : notes (step_at run j) (row_at rows x).key ≡ true = ap (notes (step_at run j)) (keys.key x) ∙ place.2 in (
+    let noted : has_row (step_at run j) (row_at rows x).key ≡ true = ap (has_row (step_at run j)) (keys.key x) ∙ place.2 in (
       partly_more run j x rows rows' links links' p inside thread noted n,
       keys_trans first rows rows' keys (keys_still run j x rows rows' links links' p inside thread noted n),
       λ z low. elim (ℕ_discrete z y) [

@@ -2,10 +2,11 @@
 use Rattle.std.proofs.Common.{◌≡◌, ◌≢◌, ℕ, ◌+◌, ◌-◌, ◌<◌, ◌≤◌, inl, inr, List, true, false, length, take, slice_index, refl, sym, ◌∙◌, ap, subst, arith}
 use native.Mathlib.Decide.{ℕ_discrete}
 use Rattle.std.specs.List.{list_any}
-use Rattle.std.proofs.lemmas.Bool.{and_parts, both_ways, cases_Bool, eq-eqb}
+use Rattle.std.proofs.lemmas.Bool.{and_parts, both_ways, cases_Bool}
 use Rattle.std.proofs.lemmas.List.{get_or-take}
 use Rattle.mr_base.specs.Accesses.{conflicts, races, some_race}
 use Rattle.mr_event.specs.Footprint.{Footprint}
+use Rattle.mr_event.specs.Footprints.{depends}
 use Rattle.mr_event.specs.Order.{no_step, step_at, thread_at, Edge, HappensBefore, HasNoPartner, RacePair}
 use Rattle.mr_event.specs.Order.Edge.{in_thread, woken}
 use Rattle.mr_event.specs.Order.HappensBefore.{edge, chain}
@@ -15,12 +16,13 @@ use Rattle.mr_clocks.specs.declared.keys.Key.TheVariants.{Lock, Creation, Spawni
 use Rattle.mr_clocks.specs.declared.rows.Row.{Row}
 use Rattle.mr_clocks.specs.declared.rows.Link.{Link}
 use Rattle.mr_clocks.specs.Clocks.{AreLatest, AreUnder, IsClockOf, IsUnder}
-use Rattle.mr_clocks.specs.Keys.{Counts, asks, key_races, notes}
+use Rattle.mr_clocks.specs.Keys.{Counts, asks, has_row, key_races}
 use Rattle.mr_clocks.specs.Tracked.{IsNext}
+use Rattle.mr_clocks.specs.Wakers.{AreSyncsUnder}
 use Rattle.mr_clocks.specs.Rows.{AreAllAsked, ArePlacesKnown, AreRows, IsPlaceBeyond, IsPlaceKnown, IsPlaceSeen, row_at, step_of}
 use Rattle.mr_clocks.proofs.Chains.{in_here, in_low, in_most}
-use Rattle.mr_clocks.proofs.Edges.{edge_back}
-use Rattle.mr_clocks.proofs.KeyLaws.{depends_share, race_shares}
+use Rattle.mr_clocks.proofs.Edges.{edge_back, sync_of}
+use Rattle.mr_clocks.proofs.KeyLaws.{depends_row, race_shares}
 use Rattle.mr_clocks.proofs.KeyLists.{race_from_range}
 
 -- where a step is a partner of j, each later step of its thread that races with j is one
@@ -39,7 +41,7 @@ partner_up run m e j thread le lt race r =
 -- ---- all rows that a step asks
 
 -- a key of a step that doesn't race with g names no range that races with g
-no_race_key : (key : Key) (f g : Footprint) → notes f key ≡ true → some_race f.accesses g.accesses ≡ false → key_races key g ≡ false
+no_race_key : (key : Key) (f g : Footprint) → has_row f key ≡ true → some_race f.accesses g.accesses ≡ false → key_races key g ≡ false
 no_race_key (Range r) f g h none =
     elim (cases_Bool (list_any (races r) g.accesses)) [
       | inl e ↦ absurd (both_ways _ none (race_from_range f g r h e))
@@ -54,32 +56,31 @@ no_race_key (Made a) f g h none = refl
 no_race_key (Touched a) f g h none = refl
 no_race_key (Wakes t) f g h none = refl
 
--- where an edge leads from a step of another thread, the two have a key in common that names no range that races
-shared_key : (run : List Footprint) (m j next : ℕ) → IsNext run j next → thread_at run m ≢ thread_at run j → Edge run m j → (key : Key) × (notes (step_at run m) key ≡ true) × (asks (step_at run j) key ≡ true) × (key_races key (step_at run j) ≡ false) × Counts key (step_at run m) (step_at run j)
-shared_key run m j next n apart e =
-    elim (edge_back run m j next n apart e) [
-      | inl w ↦ (Wakes (thread_at run j), w.1, eq-eqb (thread_at run j) (thread_at run j) refl, refl, inl tt)
-      | inr d ↦
-          let s = depends_share (step_at run m) (step_at run j) d.0 in
-          (s.0, s.1, s.2, no_race_key s.0 (step_at run m) (step_at run j) s.1 d.1, inr d.1)
-    ]
+-- of two steps of which the later one depends on the earlier one, and doesn't race with it: they have a key in common
+-- that names no range that races, in whose rows the earlier one is noted
+shared_key : (f g : Footprint) → depends f g ≡ true → some_race f.accesses g.accesses ≡ false → (key : Key) × (has_row f key ≡ true) × (asks g key ≡ true) × (key_races key g ≡ false) × Counts key f g
+shared_key f g d none = let s = depends_row f g d in (s.0, s.1, s.2, no_race_key s.0 f g s.1 none, inr none)
 
--- each step with an edge to j lies under the clock, where that holds of the rows that j asks
-pub seen_rows : (run : List Footprint) (rows : List Row) (links : List Link) (found clock : List ℕ) (j next : ℕ) → AreRows run j rows links → AreAllAsked (step_at run j) rows found → IsNext run j next → ((y : ℕ) → y < length found → IsPlaceSeen run rows links (slice_index found y) clock j) → AreUnder run clock 0 j
-seen_rows run rows links found clock j next a asked n seen = λ m low e apart.
-    let t = shared_key run m j next n apart e in
-    let h = a.held m t.0 (Edge-before e) t.1 in
-    let it_asks = ap (asks (step_at run j)) h.of_key ∙ t.2 in
-    let other : (row_at rows h.row).thread ≢ thread_at run j = λ same. apart (sym h.of_thread ∙ same) in
-    let f = asked h.row h.within other it_asks in
-    let here = subst (λ (x : ℕ). IsPlaceSeen run rows links x clock j) f.2 (seen f.0 f.1) in
-    let k = h.kept in
-    let counts : Counts (row_at rows h.row).key (step_at run m) (step_at run j) =
-    subst (λ (q : Key). Counts q (step_at run m) (step_at run j)) (sym h.of_key) t.4 in
-    let under = here h.within other it_asks (ap (λ (q : Key). key_races q (step_at run j)) h.of_key ∙ t.3) k.link k.inside
-    (subst (λ (q : ℕ). Edge run q j) (sym k.is) e)
-    (subst (λ (q : ℕ). Counts (row_at rows h.row).key (step_at run q) (step_at run j)) (sym k.is) counts) in
-    subst (λ (q : ℕ). IsUnder run clock q) k.is under
+-- each step with an edge to j lies under the clock, where that holds of those that woke its thread, and of the rows that
+-- j asks
+pub seen_rows : (run : List Footprint) (rows : List Row) (links : List Link) (found clock : List ℕ) (j next : ℕ) → AreRows run j rows links → AreAllAsked (step_at run j) rows found → IsNext run j next → AreSyncsUnder run clock j → ((y : ℕ) → y < length found → IsPlaceSeen run rows links (slice_index found y) clock j) → AreUnder run clock 0 j
+seen_rows run rows links found clock j next a asked n syncs seen = λ m low e apart. elim (edge_back run m j next n apart e) [
+  | inl w ↦ syncs m (sync_of run m j next n (Edge-before e) w.0 w.1) apart
+  | inr d ↦
+      let t = shared_key (step_at run m) (step_at run j) d.0 d.1 in
+      let h = a.held m t.0 (Edge-before e) t.1 in
+      let it_asks = ap (asks (step_at run j)) h.of_key ∙ t.2 in
+      let other : (row_at rows h.row).thread ≢ thread_at run j = λ same. apart (sym h.of_thread ∙ same) in
+      let f = asked h.row h.within other it_asks in
+      let here = subst (λ (x : ℕ). IsPlaceSeen run rows links x clock j) f.2 (seen f.0 f.1) in
+      let k = h.kept in
+      let counts : Counts (row_at rows h.row).key (step_at run m) (step_at run j) =
+      subst (λ (q : Key). Counts q (step_at run m) (step_at run j)) (sym h.of_key) t.4 in
+      let under = here h.within other it_asks (ap (λ (q : Key). key_races q (step_at run j)) h.of_key ∙ t.3) k.link k.inside
+      (subst (λ (q : ℕ). Edge run q j) (sym k.is) e)
+      (subst (λ (q : ℕ). Counts (row_at rows h.row).key (step_at run q) (step_at run j)) (sym k.is) counts) in
+      subst (λ (q : ℕ). IsUnder run clock q) k.is under
+]
 
 -- each step of a row is known to a clock that knows the latest one
 pub known_place : (run : List Footprint) (rows : List Row) (links : List Link) (x j : ℕ) (clock : List ℕ) → AreRows run j rows links → IsPlaceKnown rows links x clock → IsPlaceSeen run rows links x clock j
@@ -124,7 +125,7 @@ greatest_rows run rows links found j best a asked beyond m r =
     let most = in_most links a.chained top k.link row.last some each.last k.inside in
     let kept = k.is in
     let le : m ≤ step_of links top = omega (arith, most, kept) in
-    let race = race_from_range (step_at run (step_of links top)) (step_at run j) t.0 (ap (notes (step_at run (step_of links top))) (sym h.of_key) ∙ of.noted) t.2 in
+    let race = race_from_range (step_at run (step_of links top)) (step_at run j) t.0 (ap (has_row (step_at run (step_of links top))) (sym h.of_key) ∙ of.noted) t.2 in
     let pair = partner_up run m (step_of links top) j (of.thread ∙ h.of_thread) le of.within race r in
     let less = subst (λ (x : ℕ). IsPlaceBeyond run rows links x j best) f.2 (beyond f.0 f.1) top h.within (ap (λ (q : Key). key_races q (step_at run j)) h.of_key ∙ t.2) some pair in
     omega (arith, le, less)
@@ -161,11 +162,11 @@ rows_longer run n rows links a =
                 record {
                   within = s.within;
                   thread = ap (λ (f : Footprint). f.thread) (sym (same (step_of links k) s.within)) ∙ s.thread;
-                  noted = ap (λ (f : Footprint). notes f (row_at rows x).key) (sym (same (step_of links k) s.within)) ∙ s.noted;
+                  noted = ap (λ (f : Footprint). has_row f (row_at rows x).key) (sym (same (step_of links k) s.within)) ∙ s.noted;
                 };
           };
       held = λ i key lt noted.
-          let h = a.held i key lt (ap (λ (f : Footprint). notes f key) (same i lt) ∙ noted) in
+          let h = a.held i key lt (ap (λ (f : Footprint). has_row f key) (same i lt) ∙ noted) in
           record {
             row = h.row;
             within = h.within;

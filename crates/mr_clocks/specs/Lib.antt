@@ -6,4 +6,5 @@ pub mod Rows
 pub mod Skips
 pub mod Spans
 pub mod Tracked
+pub mod Wakers
 pub mod Whole

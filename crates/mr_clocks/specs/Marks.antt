@@ -8,7 +8,8 @@ use Rattle.std.specs.Ordering.{nat_cmp, ordering_then}
 use Rattle.std.specs.declared.cmp.Ordering.{Ordering}
 use Rattle.mr_base.specs.declared.access.Access.{Access}
 use Rattle.mr_clocks.specs.declared.keys.Key.{Key}
-use Rattle.mr_clocks.specs.declared.keys.Key.TheVariants.{Lock, Creation, Spawning, Starts, Joins, Made, Touched, Range, Wakes}
+use Rattle.mr_clocks.specs.declared.keys.Key.TheVariants.{Lock, Creation, Spawning, Starts, Joins, Made, Touched}
+use Rattle.mr_clocks.specs.declared.keys.Key.TheVariants.{Range, Wakes}
 use Rattle.mr_clocks.specs.declared.index.Mark.{Mark}
 use Rattle.mr_clocks.specs.declared.index.Shelf.{Shelf}
 use Rattle.mr_clocks.specs.declared.rows.Row.{Row}

@@ -1,6 +1,7 @@
--- Memos: what was found for earlier steps, so that a step that does the same needs no search. A memo has a step, a
--- stamp, the places of all rows of other threads that the step asks, and of those in which it is noted. The stamp is one
--- more than the number of rows that there were, which keep their keys and threads, or 0 where there is no step.
+-- Memos: what was found for earlier steps, so that a step that does the same needs no search, whomever it woke. A memo
+-- has a step, a stamp, the places of all rows of other threads that the step asks, and of those in which it is noted.
+-- The stamp is one more than the number of rows that there were, which keep their keys and threads, or 0 where there is
+-- no step.
 use Rattle.std.specs.Prelude.{◌≡◌, ◌≢◌, ℕ, ◌+◌, ◌<◌, ◌≤◌, List, [], length, slice_index_or, IsTrue}
 use Rattle.mr_event.specs.Footprint.{Footprint}
 use Rattle.mr_event.specs.Order.{no_step}
@@ -15,9 +16,8 @@ no_memo = (no_step, 0, [], [])
 abbrev pub memo_at : List (Footprint × ℕ × List ℕ × List ℕ) → ℕ → Footprint × ℕ × List ℕ × List ℕ
 memo_at memos x = slice_index_or memos x no_memo
 
--- a memo of a step that is as new as the rows
+-- a memo tells all rows that a step asks, and those in which it is noted
 pub record IsMemoOf (rows : List Row) (step : Footprint) (memo : Footprint × ℕ × List ℕ × List ℕ) : Type 0 where
-  pub of_step : memo.0 ≡ step
   pub stamp : memo.1 ≡ length rows + 1
   pub asked : AreAllAsked step rows memo.2
   pub noted : ArePlaces step rows memo.3

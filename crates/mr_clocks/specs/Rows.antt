@@ -1,6 +1,7 @@
 -- The rows of a run. A row keeps, for a key and a thread, the steps of the thread that are noted under the key, the
 -- latest first, as links of which each leads to the one before it.
-use Rattle.std.specs.Prelude.{◌≡◌, ◌≢◌, ℕ, suc, ◌+◌, ◌<◌, ◌≤◌, ◌⊎◌, List, [], ◌∷◌, ◌++◌, length, take, slice_index, slice_index_or, IsTrue, true, false}
+use Rattle.std.specs.Prelude.{◌≡◌, ◌≢◌, ℕ, suc, ◌+◌, ◌<◌, ◌≤◌, ◌⊎◌, List, [], ◌∷◌, ◌++◌, length, take, slice_index}
+use Rattle.std.specs.Prelude.{slice_index_or, IsTrue, true, false}
 use Rattle.mr_event.specs.Footprint.{Footprint}
 use Rattle.mr_event.specs.Order.{step_at, thread_at, Edge, RacePair}
 use Rattle.mr_clocks.specs.declared.keys.Key.{Key}
@@ -8,7 +9,7 @@ use Rattle.mr_clocks.specs.declared.keys.Key.TheVariants.{Lock}
 use Rattle.mr_clocks.specs.declared.rows.Row.{Row}
 use Rattle.mr_clocks.specs.declared.rows.Link.{Link}
 use Rattle.mr_clocks.specs.Clocks.{IsUnder}
-use Rattle.mr_clocks.specs.Keys.{Counts, asks, key_races, notes}
+use Rattle.mr_clocks.specs.Keys.{Counts, asks, has_row, key_races}
 
 -- what stands past the end of the links, and of the rows
 abbrev pub no_link : Link
@@ -38,11 +39,11 @@ pub record AreLinks (links : List Link) : Type 0 where
   pub low : (k : ℕ) → k < length links → (link_at links k).before ≤ k
   pub falling : (k b : ℕ) → k < length links → (link_at links k).before ≡ b + 1 → step_of links b < step_of links k
 
--- step s is one of the first n, of the row's thread, and noted under its key
+-- step s is one of the first n, of the row's thread, and noted in rows of its key
 pub record IsOfRow (run : List Footprint) (n : ℕ) (row : Row) (s : ℕ) : Type 0 where
   pub within : s < n
   pub thread : thread_at run s ≡ row.thread
-  pub noted : IsTrue (notes (step_at run s) row.key)
+  pub noted : IsTrue (has_row (step_at run s) row.key)
 
 -- every step of the row is such a step
 pub record IsRow (run : List Footprint) (n : ℕ) (links : List Link) (row : Row) : Type 0 where
@@ -67,7 +68,7 @@ pub record IsHeld (run : List Footprint) (rows : List Row) (links : List Link) (
 pub record AreRows (run : List Footprint) (n : ℕ) (rows : List Row) (links : List Link) : Type 0 where
   pub chained : AreLinks links
   pub each : (x : ℕ) → x < length rows → IsRow run n links (row_at rows x)
-  pub held : (i : ℕ) (key : Key) → i < n → IsTrue (notes (step_at run i) key) → IsHeld run rows links i key
+  pub held : (i : ℕ) (key : Key) → i < n → IsTrue (has_row (step_at run i) key) → IsHeld run rows links i key
 
 -- the old rows, and behind them some without a step
 pub record IsGrown (old new : List Row) : Type 0 where
@@ -153,9 +154,9 @@ pub record ArePlaces (step : Footprint) (rows : List Row) (places : List ℕ) : 
       (y : ℕ) → y < length places
       → (slice_index places y < length rows)
       × ((row_at rows (slice_index places y)).thread ≡ step.thread)
-      × IsTrue (notes step (row_at rows (slice_index places y)).key)
+      × IsTrue (has_row step (row_at rows (slice_index places y)).key)
   pub all :
-      (key : Key) → IsTrue (notes step key)
+      (key : Key) → IsTrue (has_row step key)
       → (y : ℕ) × (y < length places) × ((row_at rows (slice_index places y)).key ≡ key)
 
 -- as many rows, of the same keys and threads
@@ -168,4 +169,4 @@ pub record HaveKeysOf (old new : List Row) : Type 0 where
 pub record ArePartly (run : List Footprint) (j : ℕ) (rows : List Row) (links : List Link) : Type 0 where
   pub chained : AreLinks links
   pub each : (x : ℕ) → x < length rows → IsRow run (j + 1) links (row_at rows x)
-  pub held : (i : ℕ) (key : Key) → i < j → IsTrue (notes (step_at run i) key) → IsHeld run rows links i key
+  pub held : (i : ℕ) (key : Key) → i < j → IsTrue (has_row (step_at run i) key) → IsHeld run rows links i key

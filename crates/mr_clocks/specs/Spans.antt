@@ -1,5 +1,6 @@
 -- The addresses of accesses as spans in order, by which a step that has many finds the rows that it asks.
-use Rattle.std.specs.Prelude.{◌≡◌, ℕ, ◌+◌, ◌-◌, ◌<◌, ◌≤◌, ◌^◌, min, List, length, slice_index_or, Bool, true, false, IsTrue}
+use Rattle.std.specs.Prelude.{◌≡◌, ℕ, ◌+◌, ◌-◌, ◌<◌, ◌≤◌, ◌^◌, min, List, length, slice_index_or, Bool, true, false}
+use Rattle.std.specs.Prelude.{IsTrue}
 use Rattle.std.specs.List.{Contains}
 use Rattle.std.specs.List.Sorted.{IsNonDecreasingBy}
 use Rattle.mr_base.specs.declared.access.Access.{Access}
@@ -44,7 +45,7 @@ pub record AreSpansOf (accesses : List Access) (spans : Spans) : Type 0 where
   pub all : AreSpansFor accesses true spans.all.items
   pub stores : AreSpansFor accesses false spans.stores.items
 
--- A place of a shelf is reached by a span: a range that begins there and isn't longer than the shelf's width may have an
--- address in the span.
+-- A place of a shelf is reached by a span: a range that begins there and isn't longer than the shelf's width may have
+-- an address in the span.
 abbrev pub IsReached : List Span → ℕ → ℕ → ℕ → Type 0
 IsReached spans width k place = ((span_at spans k).first - width ≤ place) × (place ≤ (span_at spans k).last)

@@ -10,18 +10,17 @@ ghost use Rattle.mr_clocks.specs.Marks.{AreMarked};
 ghost use Rattle.mr_clocks.specs.Memos.{AreMemos, IsMemoOf, memo_at};
 ghost use Rattle.mr_clocks.specs.Rows.{AreAllAsked, ArePlaces, AreRows, HaveKeysOf, IsGrown};
 ghost use Rattle.mr_clocks.specs.Skips.{AreSkips};
+ghost use Rattle.mr_clocks.specs.Wakers.{AreExtended, AreWakers, CanNote};
 
 use crate::clock::Clock;
 use crate::index::Index;
 use crate::made::{clock_of, is_settled, partner_by};
 use crate::memos::{Memo, look_up};
-use crate::rows::{Link, Row, note_all};
+use crate::rows::{Link, Row, note_all, reserve_links};
 use crate::skips::{Skip, reserve_table, store_all};
+use crate::wakers::{Wakers, enter_wakes, prepare_wakes};
 use mr_event::{Footprint, OutOfMemory, thread_at};
 use std::alloc::Global;
-
-// How many links there can be, which have numbers of 32 bits.
-const MOST_LINKS: usize = 4_294_967_295;
 
 // The place of a memo of step `j`.
 #[tactic(auto, using(mr_event::proofs::Read::step_read))]
@@ -46,18 +45,6 @@ fn memo_of(
     look_up(alloc, memos, index, rows, step)
 }
 
-// Room for some more links.
-fn reserve_links(links: &mut Vec<Link>, more: usize) -> Result<(), OutOfMemory>
-    ensures same { links.new.items ≡ links.old.items }
-    ensures room { OnOk result (vec_len links.new + more ≤ vec_capacity links.new) }
-    ensures small { OnOk result (vec_len links.new + more < 2 ^ 32) }
-{
-    if links.len() > MOST_LINKS || more > MOST_LINKS - links.len() {
-        return Err(OutOfMemory);
-    }
-    links.reserve(more)
-}
-
 // Takes the memory that keeping step `j` needs, with some more skips and with a link for each row in which it is noted.
 #[inline(always)]
 fn prepare(
@@ -65,6 +52,7 @@ fn prepare(
     clocks: &mut Vec<Clock>,
     numbers: &mut Vec<u32>,
     latest: &mut Clock,
+    wakers: &mut Wakers,
     links: &mut Vec<Link>,
     skips: &mut Vec<Skip>,
     more: usize,
@@ -77,6 +65,8 @@ fn prepare(
     ensures numbers { numbers.new.items ≡ numbers.old.items }
     ensures links { links.new.items ≡ links.old.items }
     ensures skips { skips.new.items ≡ skips.old.items }
+    ensures heads { AreExtended wakers.old.heads.items wakers.new.heads.items }
+    ensures wakings { wakers.new.links.items ≡ wakers.old.links.items }
     ensures err { OnErr result (latest.new ≡ latest.old) }
     ensures own { OnOk result
         (slice_index latest.new (thread_at run.now j) ≡ max (slice_index latest.old (thread_at run.now j)) (j + 1)) }
@@ -87,11 +77,13 @@ fn prepare(
     ensures table { OnOk result (0 < more → vec_len skips.new < 8192 → 8192 ≤ vec_capacity skips.new) }
     ensures room { OnOk result (vec_len links.new + noted ≤ vec_capacity links.new) }
     ensures small { OnOk result (vec_len links.new + noted < 2 ^ 32) }
+    ensures woken { OnOk result (CanNote (step_at run.now j) wakers.new) }
 {
     reserve_links(links, noted)?;
     reserve_table(skips, more)?;
     clocks.reserve(1)?;
     numbers.reserve(1)?;
+    prepare_wakes(run, wakers, j)?;
     latest.raise(thread_at(run, j), j as u32 + 1)?;
     Ok(())
 }
@@ -115,14 +107,15 @@ fn numbered(clocks: &mut Vec<Clock>, numbers: &[u32], next: u32, made: Option<Cl
     }
 }
 
-// Keeps the clock of step `j` and the skips that its walks leave, and notes the step in the rows at some places. The
-// memory for it is there.
+// Keeps the clock of step `j` and the skips that its walks leave, and notes the step in the rows at some places, and
+// for the threads that it woke. The memory for it is there.
 #[inline(always)]
 fn enter(
     alloc: Global,
     run: &[Footprint],
     clocks: &mut Vec<Clock>,
     numbers: &mut Vec<u32>,
+    wakers: &mut Wakers,
     rows: &mut Vec<Row>,
     links: &mut Vec<Link>,
     skips: &mut Vec<Skip>,
@@ -135,6 +128,7 @@ fn enter(
     requires within { j < length run.now }
     requires few { length run.now < 2 ^ 32 }
     requires clocks { AreClocks run.now j clocks.old.items numbers.old.items }
+    requires wakers { AreWakers run.now j j wakers.old.heads.items wakers.old.links.items }
     requires rows { AreRows run.now j rows.old.items links.old.items }
     requires skips { AreSkips run.now j links.old.items skips.old.items }
     requires places { ArePlaces (step_at run.now j) rows.old.items places.now }
@@ -145,14 +139,17 @@ fn enter(
     requires one_number { vec_len numbers.old < vec_capacity numbers.old }
     requires room { vec_len links.old + length places.now ≤ vec_capacity links.old }
     requires small { vec_len links.old + length places.now < 2 ^ 32 }
+    requires woken { CanNote (step_at run.now j) wakers.old }
     requires table { 0 < vec_len left → vec_len skips.old < 8192 → 8192 ≤ vec_capacity skips.old }
     ensures clocks { AreClocks run.now (j + 1) clocks.new.items numbers.new.items }
+    ensures wakers { AreWakers run.now (j + 1) (j + 1) wakers.new.heads.items wakers.new.links.items }
     ensures rows { AreRows run.now (j + 1) rows.new.items links.new.items }
     ensures keys { HaveKeysOf rows.old.items rows.new.items }
     ensures skips { AreSkips run.now (j + 1) links.new.items skips.new.items }
 {
     let number = numbered(clocks, numbers.as_slice(), next, made);
     numbers.push_reserved(number);
+    enter_wakes(run, wakers, j);
     note_all(run, rows, links, places, j);
     store_all(alloc, skips, left);
 }
@@ -165,6 +162,7 @@ fn add_walked(
     clocks: &mut Vec<Clock>,
     numbers: &mut Vec<u32>,
     latest: &mut Clock,
+    wakers: &mut Wakers,
     rows: &mut Vec<Row>,
     links: &mut Vec<Link>,
     skips: &mut Vec<Skip>,
@@ -176,6 +174,7 @@ fn add_walked(
     requires few { length run.now < 2 ^ 32 }
     requires clocks { AreClocks run.now j clocks.old.items numbers.old.items }
     requires latest { AreLatest run.now j latest.old }
+    requires wakers { AreWakers run.now j j wakers.old.heads.items wakers.old.links.items }
     requires rows { AreRows run.now j rows.old.items links.old.items }
     requires skips { AreSkips run.now j links.old.items skips.old.items }
     requires found { AreAllAsked (step_at run.now j) rows.old.items found.now }
@@ -184,12 +183,15 @@ fn add_walked(
         (λ o. MatchOption o (HasNoPartner run.now j) (λ i. IsGreatestPartner run.now i j)) }
     ensures clocks { OnOk result (AreClocks run.now (j + 1) clocks.new.items numbers.new.items) }
     ensures latest { OnOk result (AreLatest run.now (j + 1) latest.new) }
+    ensures wakers { OnOk result (AreWakers run.now (j + 1) (j + 1) wakers.new.heads.items wakers.new.links.items) }
     ensures rows { OnOk result (AreRows run.now (j + 1) rows.new.items links.new.items) }
     ensures skips { OnOk result (AreSkips run.now (j + 1) links.new.items skips.new.items) }
     ensures keys { HaveKeysOf rows.old.items rows.new.items }
     ensures err_clocks { OnErr result (clocks.new.items ≡ clocks.old.items) }
     ensures err_numbers { OnErr result (numbers.new.items ≡ numbers.old.items) }
     ensures err_latest { OnErr result (latest.new ≡ latest.old) }
+    ensures err_heads { OnErr result (AreExtended wakers.old.heads.items wakers.new.heads.items) }
+    ensures err_wakings { OnErr result (wakers.new.links.items ≡ wakers.old.links.items) }
     ensures err_rows { OnErr result (rows.new.items ≡ rows.old.items) }
     ensures err_links { OnErr result (links.new.items ≡ links.old.items) }
     ensures err_skips { OnErr result (skips.new.items ≡ skips.old.items) }
@@ -201,6 +203,7 @@ fn add_walked(
         clocks.as_slice(),
         numbers.as_slice(),
         &*latest,
+        &*wakers,
         rows.as_slice(),
         links.as_slice(),
         skips.as_slice(),
@@ -220,9 +223,12 @@ fn add_walked(
         j,
     );
     let (more, noted) = (here.skips.len(), places.len());
-    prepare(run, clocks, numbers, latest, links, skips, more, noted, j)?;
+    prepare(
+        run, clocks, numbers, latest, wakers, links, skips, more, noted, j,
+    )?;
     enter(
-        alloc, run, clocks, numbers, rows, links, skips, next, places, j, here.clock, here.skips,
+        alloc, run, clocks, numbers, wakers, rows, links, skips, next, places, j, here.clock,
+        here.skips,
     );
     Ok(partner)
 }
@@ -234,6 +240,7 @@ fn add_settled(
     clocks: &mut Vec<Clock>,
     numbers: &mut Vec<u32>,
     latest: &mut Clock,
+    wakers: &mut Wakers,
     rows: &mut Vec<Row>,
     links: &mut Vec<Link>,
     skips: &mut Vec<Skip>,
@@ -244,6 +251,7 @@ fn add_settled(
     requires few { length run.now < 2 ^ 32 }
     requires clocks { AreClocks run.now j clocks.old.items numbers.old.items }
     requires latest { AreLatest run.now j latest.old }
+    requires wakers { AreWakers run.now j j wakers.old.heads.items wakers.old.links.items }
     requires rows { AreRows run.now j rows.old.items links.old.items }
     requires skips { AreSkips run.now j links.old.items skips.old.items }
     requires places { ArePlaces (step_at run.now j) rows.old.items places.now }
@@ -251,12 +259,15 @@ fn add_settled(
         (slice_index latest.old (thread_at run.now j)) j }
     ensures clocks { OnOk result (AreClocks run.now (j + 1) clocks.new.items numbers.new.items) }
     ensures latest { OnOk result (AreLatest run.now (j + 1) latest.new) }
+    ensures wakers { OnOk result (AreWakers run.now (j + 1) (j + 1) wakers.new.heads.items wakers.new.links.items) }
     ensures rows { OnOk result (AreRows run.now (j + 1) rows.new.items links.new.items) }
     ensures skips { OnOk result (AreSkips run.now (j + 1) links.new.items skips.new.items) }
     ensures keys { HaveKeysOf rows.old.items rows.new.items }
     ensures err_clocks { OnErr result (clocks.new.items ≡ clocks.old.items) }
     ensures err_numbers { OnErr result (numbers.new.items ≡ numbers.old.items) }
     ensures err_latest { OnErr result (latest.new ≡ latest.old) }
+    ensures err_heads { OnErr result (AreExtended wakers.old.heads.items wakers.new.heads.items) }
+    ensures err_wakings { OnErr result (wakers.new.links.items ≡ wakers.old.links.items) }
     ensures err_rows { OnErr result (rows.new.items ≡ rows.old.items) }
     ensures err_links { OnErr result (links.new.items ≡ links.old.items) }
     ensures err_skips { OnErr result (skips.new.items ≡ skips.old.items) }
@@ -267,6 +278,7 @@ fn add_settled(
         clocks,
         numbers,
         latest,
+        wakers,
         links,
         skips,
         0,
@@ -275,7 +287,7 @@ fn add_settled(
     )?;
     let left = Vec::new(alloc);
     enter(
-        alloc, run, clocks, numbers, rows, links, skips, next, places, j, None, left,
+        alloc, run, clocks, numbers, wakers, rows, links, skips, next, places, j, None, left,
     );
     Ok(())
 }
@@ -288,6 +300,7 @@ fn add_step(
     clocks: &mut Vec<Clock>,
     numbers: &mut Vec<u32>,
     latest: &mut Clock,
+    wakers: &mut Wakers,
     rows: &mut Vec<Row>,
     links: &mut Vec<Link>,
     skips: &mut Vec<Skip>,
@@ -299,6 +312,7 @@ fn add_step(
     requires few { length run.now < 2 ^ 32 }
     requires clocks { AreClocks run.now j clocks.old.items numbers.old.items }
     requires latest { AreLatest run.now j latest.old }
+    requires wakers { AreWakers run.now j j wakers.old.heads.items wakers.old.links.items }
     requires rows { AreRows run.now j rows.old.items links.old.items }
     requires skips { AreSkips run.now j links.old.items skips.old.items }
     requires found { AreAllAsked (step_at run.now j) rows.old.items found.now }
@@ -307,12 +321,15 @@ fn add_step(
         (λ o. MatchOption o (HasNoPartner run.now j) (λ i. IsGreatestPartner run.now i j)) }
     ensures clocks { OnOk result (AreClocks run.now (j + 1) clocks.new.items numbers.new.items) }
     ensures latest { OnOk result (AreLatest run.now (j + 1) latest.new) }
+    ensures wakers { OnOk result (AreWakers run.now (j + 1) (j + 1) wakers.new.heads.items wakers.new.links.items) }
     ensures rows { OnOk result (AreRows run.now (j + 1) rows.new.items links.new.items) }
     ensures skips { OnOk result (AreSkips run.now (j + 1) links.new.items skips.new.items) }
     ensures keys { HaveKeysOf rows.old.items rows.new.items }
     ensures err_clocks { OnErr result (clocks.new.items ≡ clocks.old.items) }
     ensures err_numbers { OnErr result (numbers.new.items ≡ numbers.old.items) }
     ensures err_latest { OnErr result (latest.new ≡ latest.old) }
+    ensures err_heads { OnErr result (AreExtended wakers.old.heads.items wakers.new.heads.items) }
+    ensures err_wakings { OnErr result (wakers.new.links.items ≡ wakers.old.links.items) }
     ensures err_rows { OnErr result (rows.new.items ≡ rows.old.items) }
     ensures err_links { OnErr result (links.new.items ≡ links.old.items) }
     ensures err_skips { OnErr result (skips.new.items ≡ skips.old.items) }
@@ -322,6 +339,7 @@ fn add_step(
         clocks.as_slice(),
         numbers.as_slice(),
         &*latest,
+        &*wakers,
         rows.as_slice(),
         links.as_slice(),
         found,
@@ -329,11 +347,11 @@ fn add_step(
     );
     if !is_settled {
         return add_walked(
-            alloc, run, clocks, numbers, latest, rows, links, skips, found, places, j,
+            alloc, run, clocks, numbers, latest, wakers, rows, links, skips, found, places, j,
         );
     }
     add_settled(
-        alloc, run, clocks, numbers, latest, rows, links, skips, places, j,
+        alloc, run, clocks, numbers, latest, wakers, rows, links, skips, places, j,
     )?;
     Ok(None)
 }
@@ -347,6 +365,7 @@ pub(crate) fn add_last(
     clocks: &mut Vec<Clock>,
     numbers: &mut Vec<u32>,
     latest: &mut Clock,
+    wakers: &mut Wakers,
     memos: &mut Vec<Memo>,
     index: &mut Index,
     rows: &mut Vec<Row>,
@@ -358,6 +377,7 @@ pub(crate) fn add_last(
     requires few { length run.now < 2 ^ 32 }
     requires clocks { AreClocks run.now j clocks.old.items numbers.old.items }
     requires latest { AreLatest run.now j latest.old }
+    requires wakers { AreWakers run.now j j wakers.old.heads.items wakers.old.links.items }
     requires rows { AreRows run.now j rows.old.items links.old.items }
     requires skips { AreSkips run.now j links.old.items skips.old.items }
     requires marked { AreMarked index.old.shelves.items index.old.marks.keys rows.old.items }
@@ -366,6 +386,7 @@ pub(crate) fn add_last(
         (λ o. MatchOption o (HasNoPartner run.now j) (λ i. IsGreatestPartner run.now i j)) }
     ensures clocks { OnOk result (AreClocks run.now (j + 1) clocks.new.items numbers.new.items) }
     ensures latest { OnOk result (AreLatest run.now (j + 1) latest.new) }
+    ensures wakers { OnOk result (AreWakers run.now (j + 1) (j + 1) wakers.new.heads.items wakers.new.links.items) }
     ensures rows { OnOk result (AreRows run.now (j + 1) rows.new.items links.new.items) }
     ensures skips { OnOk result (AreSkips run.now (j + 1) links.new.items skips.new.items) }
     ensures marked { AreMarked index.new.shelves.items index.new.marks.keys rows.new.items }
@@ -373,6 +394,8 @@ pub(crate) fn add_last(
     ensures err_clocks { OnErr result (clocks.new.items ≡ clocks.old.items) }
     ensures err_numbers { OnErr result (numbers.new.items ≡ numbers.old.items) }
     ensures err_latest { OnErr result (latest.new ≡ latest.old) }
+    ensures err_heads { OnErr result (AreExtended wakers.old.heads.items wakers.new.heads.items) }
+    ensures err_wakings { OnErr result (wakers.new.links.items ≡ wakers.old.links.items) }
     ensures err_rows { OnErr result (IsGrown rows.old.items rows.new.items) }
     ensures err_links { OnErr result (links.new.items ≡ links.old.items) }
     ensures err_skips { OnErr result (skips.new.items ≡ skips.old.items) }
@@ -385,6 +408,7 @@ pub(crate) fn add_last(
         clocks,
         numbers,
         latest,
+        wakers,
         rows,
         links,
         skips,

@@ -11,6 +11,7 @@ use crate::index::Index;
 use crate::memos::Memo;
 use crate::rows::{Link, Row};
 use crate::skips::Skip;
+use crate::wakers::Wakers;
 use crate::whole::front_at;
 use mr_event::{Footprint, OutOfMemory, thread_at};
 use std::alloc::Global;
@@ -81,13 +82,15 @@ fn marks_under(alloc: Global, run: &[Footprint], clock: &Clock) -> Result<Vec<bo
     Ok(marks)
 }
 
-/// The clocks of the steps of a run so far, for each thread its latest step, and the rows of the steps.
+/// The clocks of the steps of a run so far, for each thread its latest step and those that woke it, and the rows of the
+/// steps.
 #[derive(Drop)]
 pub struct Analysis {
     alloc: Global,
     clocks: Vec<Clock>,
     numbers: Vec<u32>,
     latest: Clock,
+    wakers: Wakers,
     memos: Vec<Memo>,
     index: Index,
     rows: Vec<Row>,
@@ -96,16 +99,22 @@ pub struct Analysis {
 }
 
 impl Model for Analysis {
-    ghost use Rattle.std.specs.Prelude.{List, ℕ};
-    ghost use Rattle.mr_base.specs.declared.access.Access.{Access};
-    ghost use Rattle.mr_clocks.specs.declared.rows.Row.{Row};
-    ghost use Rattle.mr_clocks.specs.declared.rows.Link.{Link};
     ghost use Rattle.mr_clocks.specs.Marks.{AreMarked};
     ghost use Rattle.mr_clocks.specs.Memos.{AreMemos};
+    ghost use Rattle.mr_clocks.specs.Tracked.{Seen};
 
-    ghost Value = { List (List ℕ) × List ℕ × List ℕ × List Row × List Link × List (ℕ × ℕ × List Access) };
+    ghost Value = { Seen };
 
-    ghost view = { λ a. (a.clocks.items, a.numbers.items, a.latest, a.rows.items, a.links.items, a.skips.items) };
+    ghost view = { λ a. (
+      a.clocks.items,
+      a.numbers.items,
+      a.latest,
+      a.rows.items,
+      a.links.items,
+      a.skips.items,
+      a.wakers.heads.items,
+      a.wakers.links.items,
+    ) };
 
     // Each row is found by its key, and the memos are not newer than the rows.
     ghost invariant = { λ a. AreMarked a.index.shelves.items a.index.marks.keys a.rows.items
@@ -127,6 +136,10 @@ impl Analysis {
             clocks: Vec::new(alloc),
             numbers: Vec::new(alloc),
             latest: Clock::new(alloc),
+            wakers: Wakers {
+                heads: Vec::new(alloc),
+                links: Vec::new(alloc),
+            },
             memos: Vec::new(alloc),
             index: Index {
                 shelves: Vec::new(alloc),
@@ -150,12 +163,14 @@ impl Analysis {
     {
         let j = run.len() - 1;
         let count = self.rows.len();
+        let reached = self.wakers.heads.len();
         match add_last(
             self.alloc,
             run,
             &mut self.clocks,
             &mut self.numbers,
             &mut self.latest,
+            &mut self.wakers,
             &mut self.memos,
             &mut self.index,
             &mut self.rows,
@@ -166,6 +181,7 @@ impl Analysis {
             Ok(partner) => Ok(partner),
             Err(fault) => {
                 self.rows.truncate(count);
+                self.wakers.heads.truncate(reached);
                 self.memos.clear();
                 Err(fault)
             }

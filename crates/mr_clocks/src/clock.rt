@@ -108,8 +108,8 @@ fn raise_all(times: &mut [u32], others: &[u32])
     }
 }
 
-// Appends zeros until there is a number at `last`.
-fn extend_past(times: &mut Vec<u32>, last: usize) -> Result<(), OutOfMemory>
+/// Appends zeros until there is a number at `last`.
+pub(crate) fn extend_past(times: &mut Vec<u32>, last: usize) -> Result<(), OutOfMemory>
     requires { last + 1 < 2 ^ 64 }
     ensures long { OnOk result (last < length times.new.items) }
     ensures grown { OnOk result (length times.old.items ≤ length times.new.items) }

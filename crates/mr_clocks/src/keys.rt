@@ -6,7 +6,7 @@ ghost use Rattle.mr_base.specs.Accesses.{conflicts as conflict_of, races as race
 ghost use Rattle.mr_base.specs.Identities.{same_id as is_same_id};
 ghost use Rattle.mr_event.specs.Footprints.{lock_of, same_number, spawns};
 ghost use Rattle.mr_clocks.specs.Keys.{IsWakes, asks as does_ask, creates, end_asked, end_noted, event_asked, event_noted, joins, key_races};
-ghost use Rattle.mr_clocks.specs.Keys.{keys_asked, keys_noted, made_keys, range_keys, spawns_some, touched_keys, woken_keys};
+ghost use Rattle.mr_clocks.specs.Keys.{keys_asked, keys_noted, made_keys, range_keys, spawns_some, touched_keys};
 
 use mr_base::{Access, AllocId, ranges_meet};
 use mr_event::{Event, Footprint, OutOfMemory};
@@ -76,17 +76,7 @@ fn add_touched(keys: &mut Vec<Key>, ids: &[AllocId]) -> Result<(), OutOfMemory>
     Ok(())
 }
 
-// Appends the keys of threads that were woken.
-fn add_woken(keys: &mut Vec<Key>, threads: &[u32]) -> Result<(), OutOfMemory>
-    ensures { OnOk result (keys.new.items ≡ keys.old.items ++ woken_keys threads.now) }
-{
-    for i in 0..threads.len() {
-        keys.push(Key::Wakes(threads[i]))?;
-    }
-    Ok(())
-}
-
-// Appends the keys under which a step with an event is noted.
+// Appends the keys in whose rows a step with an event is noted.
 fn add_event_noted(keys: &mut Vec<Key>, event: Event) -> Result<(), OutOfMemory>
     ensures { OnOk result (keys.new.items ≡ keys.old.items ++ event_noted event) }
 {
@@ -95,9 +85,7 @@ fn add_event_noted(keys: &mut Vec<Key>, event: Event) -> Result<(), OutOfMemory>
         Event::CreateLock(lock) => keys.extend_from_slice(&[Key::Lock(lock), Key::Creation]),
         Event::Acquire(lock) => keys.extend_from_slice(&[Key::Lock(lock)]),
         Event::Release(lock) => keys.extend_from_slice(&[Key::Lock(lock)]),
-        Event::Spawn(thread) => {
-            keys.extend_from_slice(&[Key::Spawning, Key::Starts(thread), Key::Wakes(thread)])
-        }
+        Event::Spawn(thread) => { keys.extend_from_slice(&[Key::Spawning, Key::Starts(thread)]) }
         Event::Join(thread) => keys.extend_from_slice(&[Key::Joins(thread)]),
     }
 }
@@ -116,7 +104,7 @@ fn add_event_asked(keys: &mut Vec<Key>, event: Event) -> Result<(), OutOfMemory>
     }
 }
 
-// Appends the key under which a step that ended its thread is noted.
+// Appends the key in whose row a step that ended its thread is noted.
 fn add_end_noted(keys: &mut Vec<Key>, ended: bool, thread: u32) -> Result<(), OutOfMemory>
     ensures { OnOk result (keys.new.items ≡ keys.old.items ++ end_noted ended thread) }
 {
@@ -138,14 +126,13 @@ fn add_end_asked(keys: &mut Vec<Key>, ended: bool, thread: u32) -> Result<(), Ou
     }
 }
 
-/// The keys under which a step is noted.
+/// The keys in whose rows a step is noted: those under which it is noted but the ones of woken threads.
 pub(crate) fn noted_by(alloc: Global, step: &Footprint) -> Result<Vec<Key>, OutOfMemory>
     ensures { IfOk result (λ v. v.items ≡ keys_noted step.now) }
 {
     let mut keys = Vec::new(alloc);
     add_event_noted(&mut keys, step.event())?;
     add_end_noted(&mut keys, step.ended(), step.thread())?;
-    add_woken(&mut keys, step.woken())?;
     add_made(&mut keys, step.allocated())?;
     add_touched(&mut keys, step.touched())?;
     add_ranges(&mut keys, step.accesses())?;
@@ -248,8 +235,8 @@ fn asks_creation(event: Event) -> bool
     }
 }
 
-// Whether an event makes a thread.
-fn asks_spawning(event: Event) -> bool
+/// Whether an event makes a thread.
+pub(crate) fn asks_spawning(event: Event) -> bool
     ensures { result ≡ spawns_some event }
 {
     match event {

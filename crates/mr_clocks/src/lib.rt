@@ -2,13 +2,14 @@
 //! FastTrack: races.)
 //!
 //! - [`Analysis`]: what is known of a run. Contracts see it as its clocks, for each step the number of its clock, for
-//!   each thread its latest step, the rows of the steps with their links, and skips: a row has for a key and a thread
-//!   the steps that are noted under the key.
+//!   each thread its latest step, the rows of the steps with their links, skips, and for each thread the steps that
+//!   woke it: a row has for a key and a thread the steps that are noted under the key.
 //!
 //! Definitions: `specs/Clocks.antt` says what the clock of a step is, `Keys` under which keys a step is noted and which
 //! it asks, `Rows` and `Marks` how the steps of a key are kept and found, `Spans` how a step with many accesses finds
-//! them, `Memos` what of this is kept for steps that do the same, `Skips` how steps that race are passed, and `Tracked`
-//! what an analysis tracks; happens-before and the races are those of `mr_event`. Proved of the public calls:
+//! them, `Memos` what of this is kept for steps that do the same, `Skips` how steps that race are passed, `Wakers` how
+//! the steps that woke a thread are kept, and `Tracked` what an analysis tracks; happens-before and the races are those
+//! of `mr_event`. Proved of the public calls:
 //!
 //! - [`Analysis::new`] tracks the empty list.
 //! - [`Analysis::add`], on an analysis that tracks a run without its last step, gives the greatest partner of that
@@ -38,6 +39,7 @@ mod rows;
 mod runs;
 mod skips;
 mod spans;
+mod wakers;
 mod walks;
 mod whole;
 

@@ -6,6 +6,7 @@ ghost use Rattle.mr_clocks.specs.Clocks.{AreClocks, AreLatest, IsClockOf, IsMade
 ghost use Rattle.mr_clocks.specs.Rows.{AreAllAsked, AreRows, IsPlaceKnown, IsPlaceSeen};
 ghost use Rattle.mr_clocks.specs.Skips.{AreSkips};
 ghost use Rattle.mr_clocks.specs.Tracked.{IsNext, IsPartnerOr};
+ghost use Rattle.mr_clocks.specs.Wakers.{AreWakers};
 
 use crate::analysis::{is_under, lent};
 use crate::clock::Clock;
@@ -13,6 +14,7 @@ use crate::known::{are_known, are_latest_known, is_latest_known, is_place_known}
 use crate::order::are_rivals;
 use crate::rows::{Link, Row, better, follow_place, keep_walk};
 use crate::skips::Skip;
+use crate::wakers::{Wakers, follow_wakers, is_woken};
 use mr_event::{Footprint, OutOfMemory, thread_at};
 use std::alloc::Global;
 
@@ -71,7 +73,8 @@ fn base(
     Ok(clock)
 }
 
-fn is_either(one: bool, other: bool) -> bool
+/// Whether one of the two holds.
+pub(crate) fn is_either(one: bool, other: bool) -> bool
     ensures one { IsFalse result → one ≡ false }
     ensures other { IsFalse result → other ≡ false }
 {
@@ -393,7 +396,7 @@ fn walk_next(
 }
 
 // The clock of step `j`, from those of the steps before it: it follows each step of another thread that an edge leads
-// from.
+// from, at first those that woke or created j's thread.
 #[inline(never)]
 fn walked_clock(
     alloc: Global,
@@ -401,6 +404,7 @@ fn walked_clock(
     clocks: &[Clock],
     numbers: &[u32],
     latest: &Clock,
+    wakers: &Wakers,
     rows: &[Row],
     links: &[Link],
     skips: &[Skip],
@@ -411,6 +415,7 @@ fn walked_clock(
     requires few { length run.now < 2 ^ 32 }
     requires clocks { AreClocks run.now j clocks.now numbers.now }
     requires latest { AreLatest run.now j latest.now }
+    requires wakers { AreWakers run.now j j wakers.now.heads.items wakers.now.links.items }
     requires rows { AreRows run.now j rows.now links.now }
     requires skips { AreSkips run.now j links.now skips.now }
     requires found { AreAllAsked (step_at run.now j) rows.now found.now }
@@ -420,10 +425,10 @@ fn walked_clock(
     ensures alone { IfOk result (λ f. IsTrue f.alone → HasNoPartner run.now j) }
 {
     let mut clock = base(alloc, run, clocks, numbers, latest, j)?;
-    let mut changed = false;
+    let next = latest.at(thread_at(run, j)) as usize;
+    let mut changed = follow_wakers(run, clocks, numbers, wakers, &mut clock, j, next)?;
     let mut alone = true;
     let mut left = Vec::new(alloc);
-    let next = latest.at(thread_at(run, j)) as usize;
     let mut ahead = ahead_of(found.len());
     for y in 0..found.len() {
         let x = found[y];
@@ -448,6 +453,7 @@ fn keeps_clock(
     clocks: &[Clock],
     numbers: &[u32],
     latest: &Clock,
+    wakers: &Wakers,
     rows: &[Row],
     links: &[Link],
     found: &[usize],
@@ -456,6 +462,7 @@ fn keeps_clock(
     requires within { j < length run.now }
     requires clocks { AreClocks run.now j clocks.now numbers.now }
     requires latest { AreLatest run.now j latest.now }
+    requires wakers { AreWakers run.now j j wakers.now.heads.items wakers.now.links.items }
     requires rows { AreRows run.now j rows.now links.now }
     requires found { AreAllAsked (step_at run.now j) rows.now found.now }
     ensures { IsTrue result
@@ -465,17 +472,21 @@ fn keeps_clock(
     if next == 0 {
         return false;
     }
+    if is_woken(run, wakers, j, next as usize) {
+        return false;
+    }
     let clock = lent(clocks, numbers, next as usize - 1);
     are_known(run, clock, rows, links, found, j)
 }
 
-/// Whether the clock of the step before in j's thread knows the latest step of each row that `j` asks. Then `j` keeps it,
-/// and has no partner.
+/// Whether the clock of the step before in j's thread knows the latest step of each row that `j` asks, and no step woke
+/// the thread since. Then `j` keeps it, and has no partner.
 pub(crate) fn is_settled(
     run: &[Footprint],
     clocks: &[Clock],
     numbers: &[u32],
     latest: &Clock,
+    wakers: &Wakers,
     rows: &[Row],
     links: &[Link],
     found: &[usize],
@@ -484,6 +495,7 @@ pub(crate) fn is_settled(
     requires within { j < length run.now }
     requires clocks { AreClocks run.now j clocks.now numbers.now }
     requires latest { AreLatest run.now j latest.now }
+    requires wakers { AreWakers run.now j j wakers.now.heads.items wakers.now.links.items }
     requires rows { AreRows run.now j rows.now links.now }
     requires found { AreAllAsked (step_at run.now j) rows.now found.now }
     ensures keeps { IsTrue result
@@ -492,6 +504,9 @@ pub(crate) fn is_settled(
 {
     let next = latest.at(thread_at(run, j));
     if next == 0 {
+        return false;
+    }
+    if is_woken(run, wakers, j, next as usize) {
         return false;
     }
     let clock = lent(clocks, numbers, next as usize - 1);
@@ -505,6 +520,7 @@ pub(crate) fn clock_of(
     clocks: &[Clock],
     numbers: &[u32],
     latest: &Clock,
+    wakers: &Wakers,
     rows: &[Row],
     links: &[Link],
     skips: &[Skip],
@@ -515,6 +531,7 @@ pub(crate) fn clock_of(
     requires few { length run.now < 2 ^ 32 }
     requires clocks { AreClocks run.now j clocks.now numbers.now }
     requires latest { AreLatest run.now j latest.now }
+    requires wakers { AreWakers run.now j j wakers.now.heads.items wakers.now.links.items }
     requires rows { AreRows run.now j rows.now links.now }
     requires skips { AreSkips run.now j links.now skips.now }
     requires found { AreAllAsked (step_at run.now j) rows.now found.now }
@@ -523,7 +540,7 @@ pub(crate) fn clock_of(
     ensures skips { IfOk result (λ f. AreSkips run.now j links.now f.skips.items) }
     ensures alone { IfOk result (λ f. IsTrue f.alone → HasNoPartner run.now j) }
 {
-    if keeps_clock(run, clocks, numbers, latest, rows, links, found, j) {
+    if keeps_clock(run, clocks, numbers, latest, wakers, rows, links, found, j) {
         return Ok(Found {
             clock: None,
             skips: Vec::new(alloc),
@@ -531,7 +548,7 @@ pub(crate) fn clock_of(
         });
     }
     walked_clock(
-        alloc, run, clocks, numbers, latest, rows, links, skips, found, j,
+        alloc, run, clocks, numbers, latest, wakers, rows, links, skips, found, j,
     )
 }
 

@@ -1,13 +1,12 @@
 //! Memos: the rows that earlier steps asked, and those in which they are noted. A step that does the same as one of
 //! them needs no search: of the rows that came since it looks at each, if they are few.
 
-ghost use Rattle.std.specs.Prelude.{◌≡◌, ◌≢◌, ℕ, ◌<◌, ◌≤◌, List, IfOk, IfSome, IsTrue, OnOk, length, vec_len};
-ghost use Rattle.mr_event.specs.Likeness.{DoTheSame};
+ghost use Rattle.std.specs.Prelude.{◌≡◌, ◌≢◌, ℕ, ◌<◌, ◌≤◌, List, IfOk, IsTrue, OnOk, length, vec_len};
 ghost use Rattle.mr_clocks.specs.declared.rows.Row.{Row};
 ghost use Rattle.mr_clocks.specs.Keys.{asks as does_ask};
 ghost use Rattle.mr_clocks.specs.Marks.{AreMarked};
 ghost use Rattle.mr_clocks.specs.Memos.{AreMemos, IsMemo, IsMemoOf, memo_at};
-ghost use Rattle.mr_clocks.specs.Rows.{AreAllAsked, IsGrown, IsListed, row_at};
+ghost use Rattle.mr_clocks.specs.Rows.{IsGrown, IsListed, row_at};
 
 use crate::index::{Index, add_asked, places_for, rows_asked};
 use crate::keys::noted_by;
@@ -46,7 +45,7 @@ impl Model for Memo {
 }
 
 impl Memo {
-    ghost use Rattle.std.specs.Prelude.{◌≡◌, ◌<◌, IfOk, IsTrue};
+    ghost use Rattle.std.specs.Prelude.{◌≡◌, ◌<◌, IsTrue};
     ghost use Rattle.mr_event.specs.Likeness.{DoTheSame};
     ghost use Rattle.mr_clocks.specs.Memos.{IsMemo};
 
@@ -84,9 +83,9 @@ impl Memo {
         self.stamp == stamp && same_step(&self.step, step)
     }
 
-    // Whether it has a stamp, and its step did the same as another, but for the threads that they woke: then the other
-    // one asks the same rows.
-    fn asks_alike(&self, step: &Footprint, stamp: usize) -> bool
+    // Whether it has a stamp, and its step did the same as another, but for the threads that they woke: then the two
+    // ask the same rows, and are noted in the same ones.
+    fn is_alike(&self, step: &Footprint, stamp: usize) -> bool
         ensures step { IsTrue result → DoTheSame self.now.0 step.now }
         ensures stamp { IsTrue result → self.now.1 ≡ stamp }
     {
@@ -112,14 +111,6 @@ impl Memo {
         add_others(&mut self.asked, rows, self.stamp - 1, &self.step)?;
         self.stamp = rows.len() + 1;
         Ok(())
-    }
-
-    // The places of the rows that the step asks, once more.
-    fn asked_copied(&self, alloc: Global) -> Result<Vec<usize>, OutOfMemory>
-        ensures { IfOk result (λ v. v.items ≡ self.now.2) }
-    {
-        let asked = Vec::from_slice(alloc, self.asked.as_slice())?;
-        Ok(asked)
     }
 }
 
@@ -191,65 +182,24 @@ fn add_others(
     Ok(())
 }
 
-// The places of the rows of other threads that a step asks: those that are known, if there are as many rows as then;
-// else they are searched for.
-fn asked_by(
-    alloc: Global,
-    index: &Index,
-    rows: &[Row],
-    step: &Footprint,
-    known: Option<Vec<usize>>,
-    many: usize,
-) -> Result<Vec<usize>, OutOfMemory>
-    requires marked { AreMarked index.now.shelves.items index.now.marks.keys rows.now }
-    requires known { IfSome known (λ v. length rows.now ≡ many → AreAllAsked step.now rows.now v.items) }
-    ensures { IfOk result (λ v. AreAllAsked step.now rows.now v.items) }
-{
-    if rows.len() == many {
-        if let Some(asked) = known {
-            return Ok(asked);
-        }
-    }
-    rows_asked(alloc, index, rows, step)
-}
-
-// The places of the rows that a step asks, where a memo tells them.
-fn known_asked(
-    alloc: Global,
-    memo: &Memo,
-    step: &Footprint,
-    stamp: usize,
-) -> Result<Option<Vec<usize>>, OutOfMemory>
-    ensures { IfOk result (λ o. IfSome o (λ v. DoTheSame memo.now.0 step.now
-        × (memo.now.1 ≡ stamp) × (v.items ≡ memo.now.2))) }
-{
-    if !memo.asks_alike(step, stamp) {
-        return Ok(None);
-    }
-    let asked = memo.asked_copied(alloc)?;
-    Ok(Some(asked))
-}
-
-// A memo of a step. The rows that it asks are searched for where they aren't known, and those in which it is noted are
-// made where they are missing.
+// A memo of a step. The rows that it asks are searched for, and those in which it is noted are made where they are
+// missing.
 #[inline(never)]
 fn memo_for(
     alloc: Global,
     index: &mut Index,
     rows: &mut Vec<Row>,
     step: &Footprint,
-    known: Option<Vec<usize>>,
 ) -> Result<Memo, OutOfMemory>
-    requires marked { AreMarked index.old.shelves.items index.old.marks.keys rows.old.items }
-    requires known { IfSome known (λ v. AreAllAsked step.now rows.old.items v.items) }
+    requires { AreMarked index.old.shelves.items index.old.marks.keys rows.old.items }
     ensures marked { AreMarked index.new.shelves.items index.new.marks.keys rows.new.items }
     ensures grown { IsGrown rows.old.items rows.new.items }
+    ensures step { IfOk result (λ m. m.0 ≡ step.now) }
     ensures memo { IfOk result (λ m. IsMemoOf rows.new.items step.now m) }
 {
-    let many = rows.len();
     let keys = noted_by(alloc, step)?;
     let noted = places_for(alloc, index, rows, keys.as_slice(), step.thread())?;
-    let asked = asked_by(alloc, &*index, rows.as_slice(), step, known, many)?;
+    let asked = rows_asked(alloc, &*index, rows.as_slice(), step)?;
     let stamp = rows.len() + 1;
     Ok(Memo {
         step: step.copied()?,
@@ -297,8 +247,8 @@ fn catch_up_at(
     Ok(())
 }
 
-// The place of a memo of a step that is as new as the rows: of the one at a place, when it has looked at the newer rows,
-// or of a new one.
+// The place of a memo of a step that is as new as the rows: of the one at a place, when it has looked at the newer
+// rows, or of a new one.
 #[inline(never)]
 fn look_further(
     alloc: Global,
@@ -320,12 +270,10 @@ fn look_further(
 {
     catch_up_at(memos, rows.as_slice(), step, slot)?;
     let kept = &memos[slot];
-    let stamp = rows.len() + 1;
-    if kept.serves(step, stamp) {
+    if kept.is_alike(step, rows.len() + 1) {
         return Ok(slot);
     }
-    let known = known_asked(alloc, kept, step, stamp)?;
-    let memo = memo_for(alloc, index, rows, step, known)?;
+    let memo = memo_for(alloc, index, rows, step)?;
     Ok(keep_memo(memos, slot, memo))
 }
 

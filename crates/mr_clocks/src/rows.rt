@@ -21,6 +21,9 @@ use crate::walks::{Walk, no_walk, pass};
 use mr_event::{Footprint, OutOfMemory};
 use std::alloc::Global;
 
+// How many links there can be, which have numbers of 32 bits.
+const MOST_LINKS: usize = 4_294_967_295;
+
 /// The row of a key and a thread. `last` is one more than the place of its latest link, or 0.
 #[derive(Clone, Copy, Debug, PartialEq, Eq)]
 pub struct Row {
@@ -34,6 +37,18 @@ pub struct Row {
 pub struct Link {
     pub step: u32,
     pub before: u32,
+}
+
+/// Room for some more links.
+pub(crate) fn reserve_links(links: &mut Vec<Link>, more: usize) -> Result<(), OutOfMemory>
+    ensures same { links.new.items ≡ links.old.items }
+    ensures room { OnOk result (vec_len links.new + more ≤ vec_capacity links.new) }
+    ensures small { OnOk result (vec_len links.new + more < 2 ^ 32) }
+{
+    if links.len() > MOST_LINKS || more > MOST_LINKS - links.len() {
+        return Err(OutOfMemory);
+    }
+    links.reserve(more)
 }
 
 /// Whether a clock knows the step that a link of a row keeps.

@@ -7,6 +7,7 @@ use Rattle.mr_base.specs.Reasons.{name_of}
 use Rattle.mr_base.specs.declared.reason.Verdict.{Verdict}
 use Rattle.mr_base.specs.declared.reason.Verdict.TheVariants as verdict
 use Rattle.mr_event.specs.Predicted.{predicted}
+use Rattle.mr_rust_order.specs.Tests.{rust_races}
 use Rattle.mr_sched.specs.declared.schedule.Schedule.{Schedule}
 use Rattle.mr_step.specs.PlanRuns.{Printed}
 use Rattle.mr_start.specs.Runs.{run_of, steps_of}
@@ -21,11 +22,12 @@ use Rattle.mr_hunt.specs.declared.ends.End.TheVariants as shown
 use Rattle.mr_hunt.specs.Ends.{run_ends, verdict_number}
 use Rattle.mr_hunt.specs.Table.{numbers}
 
--- a race, or another verdict than `exit`; a race; a verdict `undefined`; the verdict of a name, or `undefined` for the
--- reason of a name; a race between the statements at two lines; a line of output
+-- a race, or another verdict than `exit`; a race; a race by Rust's order; a verdict `undefined`; the verdict of a name,
+-- or `undefined` for the reason of a name; a race between the statements at two lines; a line of output
 pub data Aim : Type 0 where
   Any : Aim
   Race : Aim
+  RustRace : Aim
   Undefined : Aim
   Named : (name : List ℕ) → Aim
   Lines : (one other : ℕ) → Aim
@@ -35,6 +37,7 @@ pub data Aim : Type 0 where
 abbrev pub aim_of : Words → Aim
 aim_of words.Any = Any
 aim_of words.Race = Race
+aim_of words.RustRace = RustRace
 aim_of words.Undefined = Undefined
 aim_of (words.Named name) = Named name.now
 aim_of (words.Lines one other) = Lines one other
@@ -90,6 +93,7 @@ abbrev pub has_aim : Aim → Laid → Program → Schedule → Bool
 has_aim Any laid p w =
     not (verdict_number (run_of p w).verdict == 1) || not (length (predicted (steps_of p w)) == 0)
 has_aim Race laid p w = not (length (predicted (steps_of p w)) == 0)
+has_aim RustRace laid p w = not (length (rust_races (steps_of p w)) == 0)
 has_aim Undefined laid p w = is_undefined (run_of p w).verdict
 has_aim (Named name) laid p w = bytes_eq (verdict_name (run_of p w).verdict) name
 has_aim (Lines one other) laid p w = list_any (is_between laid one other) (run_ends p w)

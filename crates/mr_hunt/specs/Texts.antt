@@ -1,10 +1,12 @@
 -- How the ends of many runs are written, and the run of one number.
-use Rattle.std.specs.Prelude.{ℕ, ◌==◌, if◌then◌else◌, List, [], ◌++◌, codes, decimal, flat_map}
+use Rattle.std.specs.Prelude.{ℕ, ◌==◌, Bool, true, false, if◌then◌else◌, List, [], ◌++◌, codes, decimal, flat_map}
 use Rattle.mr_ast.specs.declared.program.Program.{Program}
 use Rattle.mr_base.specs.declared.reason.Verdict.{Verdict}
 use Rattle.mr_base.specs.declared.reason.Verdict.TheVariants.{Running}
+use Rattle.mr_event.specs.Footprint.{Footprint}
 use Rattle.mr_event.specs.Predicted.{predicted}
 use Rattle.mr_event.specs.declared.footprint.Pair.{Pair}
+use Rattle.mr_rust_order.specs.Tests.{rust_races}
 use Rattle.mr_sched.specs.declared.schedule.Schedule.{Schedule}
 use Rattle.mr_start.specs.Runs.{run_of, steps_of}
 use Rattle.mr_auto.specs.Drawing.{drawn_schedule}
@@ -14,6 +16,7 @@ use Rattle.mr_report.specs.Report.{line, verdict_text}
 use Rattle.mr_listing.specs.Races.{races_text}
 use Rattle.mr_listing.specs.Seen.{Seen}
 use Rattle.mr_listing.specs.Spots.{stand_text}
+use Rattle.mr_hunt.specs.Aims.{Aim, RustRace}
 use Rattle.mr_hunt.specs.declared.ends.End.{End}
 use Rattle.mr_hunt.specs.declared.ends.End.TheVariants as shown
 use Rattle.mr_hunt.specs.declared.counting.Row.{Row}
@@ -68,9 +71,29 @@ table_text s count rows =
 
 -- ---- one number
 
--- the races of a run by their places
-abbrev pub run_races : List ℕ → Program → Laid → Schedule → List ℕ
-run_races text p laid w = races_text (seen_with text p laid (run_told p w) (predicted (steps_of p w)))
+-- whether races by Rust's order are looked for
+abbrev pub asks_rust : Aim → Bool
+asks_rust RustRace = true
+asks_rust _ = false
+
+-- races by their places, of steps that tell this
+abbrev pub by_places : List ℕ → Program → Laid → List ToldStep → List Pair → List ℕ
+by_places text p laid steps races = races_text (seen_with text p laid steps races)
+
+-- the races by Rust's order of some footprints, where those are looked for
+abbrev pub rust_part : List ℕ → Program → Laid → Aim → List ToldStep → List Footprint → List ℕ
+rust_part text p laid aim steps run =
+    if asks_rust aim then line (codes "by Rust's order:") ++ by_places text p laid steps (rust_races run) else []
+
+-- races by their places, and those by Rust's order behind them
+abbrev pub both_races : List ℕ → Program → Laid → Aim → List ToldStep → List Pair → List Footprint → List ℕ
+both_races text p laid aim steps races run =
+    by_places text p laid steps races ++ rust_part text p laid aim steps run
+
+-- the races of a run by their places; by Rust's order too, where those were looked for
+abbrev pub run_races : List ℕ → Program → Laid → Aim → Schedule → List ℕ
+run_races text p laid aim w =
+    both_races text p laid aim (run_told p w) (predicted (steps_of p w)) (steps_of p w)
 
 -- the command that shows the run of a number of the program in a file of this name
 abbrev pub command_line : List ℕ → ℕ → ℕ → List ℕ
@@ -86,10 +109,10 @@ told_text name most number v races =
     ++ command_line name most number
 
 -- THE RUN OF A NUMBER: the number, the verdict, the races by places, and the command that shows it
-abbrev pub found_text : List ℕ → Program → Laid → List ℕ → ℕ → ℕ → List ℕ
-found_text text p laid name most number =
+abbrev pub found_text : List ℕ → Program → Laid → Aim → List ℕ → ℕ → ℕ → List ℕ
+found_text text p laid aim name most number =
     told_text name most number (run_of p (drawn_schedule p number most)).verdict
-    (run_races text p laid (drawn_schedule p number most))
+    (run_races text p laid aim (drawn_schedule p number most))
 
 -- that there is none among the numbers from one to another
 abbrev pub none_text : ℕ → ℕ → List ℕ

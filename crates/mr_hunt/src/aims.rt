@@ -5,15 +5,16 @@ ghost use Rattle.std.specs.Option.{option_map};
 ghost use Rattle.mr_step.specs.Standing.{seen_line};
 ghost use Rattle.mr_places.specs.Laid.{Laid};
 ghost use Rattle.mr_hunt.specs.Ends.{verdict_number};
-ghost use Rattle.mr_hunt.specs.Aims.{Any, IsFirst, Lines, Named, Prints, Race, Undefined, aim_of, first_met, is_between};
-ghost use Rattle.mr_hunt.specs.Aims.{is_met, is_on, is_print, is_print_in, is_undefined, spot_in, verdict_name};
+ghost use Rattle.mr_hunt.specs.Aims.{Any, IsFirst, Lines, Named, Prints, Race, RustRace, Undefined, aim_of, first_met};
+ghost use Rattle.mr_hunt.specs.Aims.{is_between, is_met, is_on, is_print, is_print_in, is_undefined, spot_in};
+ghost use Rattle.mr_hunt.specs.Aims.{verdict_name};
 
 use crate::counting::{how_many, number_behind};
 use crate::ends::{End, verdict_number};
-use crate::seeing::{ends_of, verdict_of};
+use crate::seeing::{by_rust, ends_of, verdict_of};
 use mr_auto::draw;
 use mr_base::Verdict;
-use mr_event::Pair;
+use mr_event::{Footprint, Pair};
 use mr_labels::Stand;
 use mr_places::{Places, Spot};
 use mr_run::{Clocked, Nothing};
@@ -28,6 +29,8 @@ pub enum Aim<'a> {
     Any,
     /// A race.
     Race,
+    /// A race by Rust's order.
+    RustRace,
     /// A verdict `undefined`.
     Undefined,
     /// The verdict of this name, or `undefined` for the reason of this name.
@@ -164,6 +167,16 @@ fn has_race(alloc: Global, p: &Checked, most: u32, number: u64) -> Result<bool, 
     Ok(!kept.races().is_empty())
 }
 
+fn has_rust_race(alloc: Global, p: &Checked, most: u32, number: u64) -> Result<bool, AllocError>
+    requires { most ≤ 2 ^ 20 }
+    ensures { IfOk result (λ met. (laid : Laid) → met ≡ is_met RustRace laid p.now most number) }
+{
+    let mut steps: Vec<Footprint> = Vec::new(alloc);
+    draw(alloc, p, number, most, &mut steps)?;
+    let found = by_rust(alloc, steps.as_slice())?;
+    Ok(!found.as_slice().is_empty())
+}
+
 fn has_undefined(alloc: Global, p: &Checked, most: u32, number: u64) -> Result<bool, AllocError>
     requires { most ≤ 2 ^ 20 }
     ensures { IfOk result (λ met. (laid : Laid) → met ≡ is_met Undefined laid p.now most number) }
@@ -232,6 +245,7 @@ fn is_met(
     match aim {
         Aim::Any => has_any(alloc, p, most, number),
         Aim::Race => has_race(alloc, p, most, number),
+        Aim::RustRace => has_rust_race(alloc, p, most, number),
         Aim::Undefined => has_undefined(alloc, p, most, number),
         Aim::Named(name) => has_verdict(alloc, p, most, number, name),
         Aim::Lines { one, other } => has_lines(alloc, p, places, most, number, one, other),

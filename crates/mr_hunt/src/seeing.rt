@@ -3,15 +3,17 @@ ghost use Rattle.std.specs.Prelude.{◌≡◌, ◌++◌, ◌≤◌, ◌^◌, IfO
 ghost use Rattle.mr_start.specs.Runs.{Legal, run_of};
 ghost use Rattle.mr_auto.specs.Drawing.{drawn_schedule};
 ghost use Rattle.mr_listing.specs.Races.{before_of};
+ghost use Rattle.mr_rust_order.specs.Tests.{rust_races};
 ghost use Rattle.mr_hunt.specs.Ends.{ends_of, race_at, run_told};
 
 use crate::ends::End;
 use mr_auto::draw;
 use mr_base::Verdict;
-use mr_event::Pair;
+use mr_event::{Footprint, Pair};
 use mr_labels::{Stand, ToldStep};
 use mr_replay::{Between, tell};
 use mr_run::{Clocked, Nothing, RunFault};
+use mr_rust_order::races;
 use mr_sched::Schedule;
 use mr_typing::Checked;
 use std::alloc::{AllocError, Global};
@@ -123,4 +125,11 @@ pub(crate) fn told(alloc: Global, p: &Checked, w: &Schedule) -> Result<Vec<ToldS
         Err(RunFault::Broken { .. }) => unreachable!(),
         Err(RunFault::Memory) => Err(AllocError),
     }
+}
+
+/// The races of a run with these footprints by Rust's order.
+pub(crate) fn by_rust(alloc: Global, run: &[Footprint]) -> Result<Vec<Pair>, AllocError>
+    ensures { IfOk result (λ found. found.items ≡ rust_races run.now) }
+{
+    races(alloc, run)
 }

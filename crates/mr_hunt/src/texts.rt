@@ -1,19 +1,22 @@
 //! The texts of a table, and of the run of one number.
 ghost use Rattle.std.specs.Prelude.{◌≡◌, [], ◌++◌, ◌≤◌, ◌^◌, IfOk, OnOk, codes, decimal, flat_map};
-ghost use Rattle.mr_listing.specs.Races.{races_text};
 ghost use Rattle.mr_listing.specs.Seen.{seen};
 ghost use Rattle.mr_listing.specs.Spots.{stand_text};
 ghost use Rattle.mr_report.specs.Report.{line, verdict_text};
-ghost use Rattle.mr_hunt.specs.Texts.{command_line, end_text, found_text, head_text, line_in, none_text, part_of, row_line};
-ghost use Rattle.mr_hunt.specs.Texts.{seen_with, table_text, times_text, told_text};
+ghost use Rattle.mr_rust_order.specs.Tests.{rust_races};
+ghost use Rattle.mr_hunt.specs.Aims.{aim_of};
+ghost use Rattle.mr_hunt.specs.Texts.{asks_rust, both_races, by_places, command_line, end_text, found_text, head_text};
+ghost use Rattle.mr_hunt.specs.Texts.{line_in, none_text, part_of, row_line, rust_part, seen_with, table_text};
+ghost use Rattle.mr_hunt.specs.Texts.{times_text, told_text};
 
+use crate::aims::Aim;
 use crate::counting::Row;
 use crate::ends::End;
-use crate::seeing::told;
+use crate::seeing::{by_rust, told};
 use itoa::Buffer;
 use mr_auto::draw;
 use mr_base::{Reason, Verdict};
-use mr_event::Pair;
+use mr_event::{Footprint, Pair};
 use mr_labels::{Allocations, Stand, ToldStep, push_number};
 use mr_listing::{Shown, races, stand_text};
 use mr_places::Places;
@@ -244,8 +247,7 @@ fn races_of(
     steps: &[ToldStep],
     pairs: &[Pair],
 ) -> Result<Vec<u8>, AllocError>
-    ensures { IfOk result (λ out. out.items
-        ≡ races_text (seen_with text.now p.now places.now steps.now pairs.now)) }
+    ensures { IfOk result (λ out. out.items ≡ by_places text.now p.now places.now steps.now pairs.now) }
 {
     let none = Allocations::new(alloc, Vec::new(alloc))?;
     let shown = Shown {
@@ -262,6 +264,78 @@ fn races_of(
         rests: &[],
     };
     races(alloc, &shown)
+}
+
+// Whether races by Rust's order are looked for.
+fn asks_rust(aim: Aim<'_>) -> bool
+    ensures { result ≡ asks_rust (aim_of aim.entry) }
+{
+    match aim {
+        Aim::RustRace => true,
+        Aim::Any | Aim::Race | Aim::Undefined => false,
+        Aim::Named(_) | Aim::Lines { .. } | Aim::Prints(_) => false,
+    }
+}
+
+// Appends the races by Rust's order of some footprints, of a run whose steps tell this.
+fn push_rust_races(
+    alloc: Global,
+    out: &mut Vec<u8>,
+    text: &[u8],
+    p: &Checked,
+    places: &Places<'_>,
+    steps: &[ToldStep],
+    run: &[Footprint],
+) -> Result<(), AllocError>
+    ensures { OnOk result (out.new.items ≡ out.old.items ++ (line (codes "by Rust's order:")
+        ++ by_places text.now p.now places.now steps.now (rust_races run.now))) }
+{
+    let found = by_rust(alloc, run)?;
+    let lines = races_of(alloc, text, p, places, steps, found.as_slice())?;
+    out.extend_from_slice(b"by Rust's order:")?;
+    out.push(b'\n')?;
+    out.extend_from_slice(lines.as_slice())?;
+    Ok(())
+}
+
+// Appends them where they are looked for.
+fn push_rust_part(
+    alloc: Global,
+    out: &mut Vec<u8>,
+    text: &[u8],
+    p: &Checked,
+    places: &Places<'_>,
+    aim: Aim<'_>,
+    steps: &[ToldStep],
+    run: &[Footprint],
+) -> Result<(), AllocError>
+    ensures { OnOk result (out.new.items
+        ≡ out.old.items ++ rust_part text.now p.now places.now (aim_of aim.entry) steps.now run.now) }
+{
+    if asks_rust(aim) {
+        push_rust_races(alloc, out, text, p, places, steps, run)
+    } else {
+        Ok(())
+    }
+}
+
+// Races by their places, and those by Rust's order behind them where they are looked for.
+fn both_races(
+    alloc: Global,
+    text: &[u8],
+    p: &Checked,
+    places: &Places<'_>,
+    aim: Aim<'_>,
+    steps: &[ToldStep],
+    pairs: &[Pair],
+    run: &[Footprint],
+) -> Result<Vec<u8>, AllocError>
+    ensures { IfOk result (λ out. out.items
+        ≡ both_races text.now p.now places.now (aim_of aim.entry) steps.now pairs.now run.now) }
+{
+    let mut out = races_of(alloc, text, p, places, steps, pairs)?;
+    push_rust_part(alloc, &mut out, text, p, places, aim, steps, run)?;
+    Ok(out)
 }
 
 // The line of a number.
@@ -316,24 +390,35 @@ fn told_text(
     Ok(out)
 }
 
-/// What is told of the run of a number: the number, its verdict, its races by places, and the command that shows it. An
-/// `Err` is for want of memory.
+/// What is told of the run of a number with an aim: the number, its verdict, its races by places, those by Rust's order
+/// too where that is the aim, and the command that shows it. An `Err` is for want of memory.
 pub fn found_text(
     alloc: Global,
     text: &[u8],
     p: &Checked,
     places: &Places<'_>,
+    aim: Aim<'_>,
     name: &str,
     most: u32,
     number: u64,
 ) -> Result<Vec<u8>, AllocError>
     requires { most ≤ 2 ^ 20 }
-    ensures { IfOk result (λ out. out.items ≡ found_text text.now p.now places.now name.now most number) }
+    ensures { IfOk result (λ out. out.items
+        ≡ found_text text.now p.now places.now (aim_of aim.entry) name.now most number) }
 {
     let mut kept = Clocked::new(alloc);
     let drawn = draw(alloc, p, number, most, &mut kept)?;
     let steps = told(alloc, p, &drawn.schedule)?;
-    let races = races_of(alloc, text, p, places, steps.as_slice(), kept.races())?;
+    let races = both_races(
+        alloc,
+        text,
+        p,
+        places,
+        aim,
+        steps.as_slice(),
+        kept.races(),
+        kept.steps(),
+    )?;
     let verdict = drawn.machine.verdict();
     told_text(alloc, name, most, number, verdict, races.as_slice())
 }

@@ -56,7 +56,7 @@ stand_agrees (Some a) (Some b) e (Some c) =
     (ap₂ (λ (x y : Bool). x && y) (ap (λ n. n == c.block) (sym (eqb-true a.block b.block block.0)))
     (ap (λ n. n == c.at) (sym (eqb-true a.at b.at block.1))))
 
-any_agrees : {X : Type 0} (p q : X → Bool) → ((x : X) → p x ≡ q x) → (xs : List X) → list_any p xs ≡ list_any q xs
+pub any_agrees : {X : Type 0} (p q : X → Bool) → ((x : X) → p x ≡ q x) → (xs : List X) → list_any p xs ≡ list_any q xs
 any_agrees p q h [] = refl
 any_agrees p q h (x ∷ xs) = ap₂ (λ (a b : Bool). a || b) (h x) (any_agrees p q h xs)
 
@@ -69,12 +69,12 @@ module _ (s : Seen) where
       ap₂ (λ (x y : Bool). x && y) (stand_turned (at_step a.first) (at_step b.first))
       (stand_turned (at_step a.second) (at_step b.second))
 
-  places_itself : (a : Pair) → same_places s a a ≡ true
+  pub places_itself : (a : Pair) → same_places s a a ≡ true
   places_itself a =
       together (same_stand (at_step a.first) (at_step a.first)) (same_stand (at_step a.second) (at_step a.second))
       (stand_itself (at_step a.first)) (stand_itself (at_step a.second))
 
-  places_agree : (a b : Pair) → same_places s a b ≡ true → (x : Pair) → same_places s b x ≡ same_places s a x
+  pub places_agree : (a b : Pair) → same_places s a b ≡ true → (x : Pair) → same_places s b x ≡ same_places s a x
   places_agree a b e x =
       let each = both (same_stand (at_step a.first) (at_step b.first)) (same_stand (at_step a.second) (at_step b.second)) e in
       ap₂ (λ (x y : Bool). x && y) (stand_agrees (at_step a.first) (at_step b.first) each.0 (at_step x.first))
@@ -133,10 +133,14 @@ module _ (s : Seen) where
         ∙ ap (λ b. cond b 1 0) (sym (list_any_more (same_places s q) s.races n q within))
         ∙ ap (λ k. cond (list_any (same_places s q) (take k s.races)) 1 0) next
 
+    -- one group is of the places, where a race is of them
+    pub groups_at : length (filter (is_in_group s q) (groups s)) ≡ cond (list_any (same_places s q) s.races) 1 0
+    groups_at =
+        counted (length s.races) (omega arith)
+        ∙ ap (λ (xs : List Pair). cond (list_any (same_places s q) xs) 1 0) (take_all (length s.races) s.races (omega arith))
+
     -- A RACE is of the places of exactly one group
     pub in_one_group : Contains s.races q → length (filter (is_in_group s q) (groups s)) ≡ 1
     in_one_group (k, within, is) =
         let there : same_places s q (get_or s.races k q) ≡ true = ap (same_places s q) is ∙ places_itself q in
-        counted (length s.races) (omega arith)
-        ∙ ap (λ (xs : List Pair). cond (list_any (same_places s q) xs) 1 0) (take_all (length s.races) s.races (omega arith))
-        ∙ ap (λ b. cond b 1 0) (list_any_at (same_places s q) s.races k q within there)
+        groups_at ∙ ap (λ b. cond b 1 0) (list_any_at (same_places s q) s.races k q within there)

@@ -8,7 +8,9 @@
 //! - [`stand_text`]: where a thread stands, by the statement at which it does; [`before_of`]: where that of a step did.
 //! - [`push_name`], [`push_reached`], [`push_bytes`], [`function_word`], [`access_word`], [`acquire_word`], [`join_word`],
 //!   [`release_word`]: the parts of a line, for other texts. [`push_note`], [`push_end`], [`push_woken`], [`push_partners`] with
-//!   [`partners_of`], [`push_times`]: lines of a step and of a group of races; [`rank_by_count`]: the order of groups.
+//!   [`partners_of`], [`push_times`], [`push_group`]: lines of a step and of a group of races; [`rank_by_count`]: the
+//!   order of groups; [`ranked`]: the groups in it; [`count_at`]: how many races are of the places of one, by
+//!   [`by_places`].
 //!
 //! `specs/Words.antt`, `specs/Steps.antt` and `specs/Races.antt` say what is written. Proved: exactly that, and want of
 //! memory is the only error. [`races_are_grouped`] is the law that the order of the pairs of places is a permutation of
@@ -32,10 +34,10 @@ pub use accesses::{access_word, push_bytes, push_reached};
 pub use events::{acquire_word, join_word, push_end, push_note, push_woken, release_word};
 pub use law::races_are_grouped;
 pub use listing::steps;
-pub use pairs::{Group, push_times, races, rank_by_count};
+pub use pairs::{Group, push_group, push_times, races, rank_by_count, ranked};
 pub use partners::{Partner, partners_of, push_partners};
 pub use shown::Shown;
-pub use sorted::before_of;
+pub use sorted::{Numbered, before_of, by_places, count_at};
 pub use spoken::push_spoken;
 pub use spots::stand_text;
 pub use std::alloc::AllocError as OutOfMemory;

@@ -54,8 +54,8 @@ pub fn push_times(out: &mut Vec<u8>, group: Group) -> Result<(), OutOfMemory>
     Ok(())
 }
 
-// Appends the line of the races at one pair of places.
-fn push_group(out: &mut Vec<u8>, shown: &Shown<'_>, group: Group) -> Result<(), OutOfMemory>
+/// Appends the line of the races at one pair of places.
+pub fn push_group(out: &mut Vec<u8>, shown: &Shown<'_>, group: Group) -> Result<(), OutOfMemory>
     ensures { OnOk result (out.new.items ≡ out.old.items ++ group_line (seen shown.now) group) }
 {
     push_stand(out, shown, before_of(shown, group.first.first))?;
@@ -146,8 +146,8 @@ pub fn rank_by_count(groups: &mut Vec<Group>) -> Result<(), OutOfMemory>
     Ok(())
 }
 
-// The races by pairs of places, those with most races first.
-fn ranked(alloc: Global, shown: &Shown<'_>) -> Result<Vec<Group>, OutOfMemory>
+/// The races by pairs of places, those with most races first. An `Err` is for want of memory.
+pub fn ranked(alloc: Global, shown: &Shown<'_>) -> Result<Vec<Group>, OutOfMemory>
     ensures { IfOk result (λ found. found.items ≡ ranked (seen shown.now)) }
 {
     let mut groups = groups_of(alloc, shown)?;

@@ -1,9 +1,9 @@
 //! The races in the order of their places.
-ghost use Rattle.std.specs.Prelude.{◌≡◌, IfOk, nat_le, nat_lt, not, option_copied, slice_get};
+ghost use Rattle.std.specs.Prelude.{◌≡◌, IfOk, count_by, nat_le, nat_lt, not, option_copied, slice_get};
 ghost use Rattle.std.specs.List.{filter};
 ghost use Rattle.std.specs.List.Sorted.{IsNonDecreasingBy};
 ghost use Rattle.std.specs.Ordering.{ordering_index};
-ghost use Rattle.mr_listing.specs.Races.{before_of};
+ghost use Rattle.mr_listing.specs.Races.{before_of, same_places};
 ghost use Rattle.mr_listing.specs.Seen.{seen};
 ghost use Rattle.mr_listing.specs.Sorted.{AreByPlaces, begins_before, is_alike, place_index, places_cmp};
 ghost use Rattle.mr_listing.specs.Sorted.{spot_cmp, stand_cmp, with_numbers};
@@ -106,7 +106,7 @@ fn with_numbers(alloc: Global, races: &[Pair]) -> Result<Vec<Numbered>, OutOfMem
 }
 
 /// The races by their places; those of the same places stand in the order of the races. An `Err` is for want of memory.
-pub(crate) fn by_places(alloc: Global, shown: &Shown<'_>) -> Result<Vec<Numbered>, OutOfMemory>
+pub fn by_places(alloc: Global, shown: &Shown<'_>) -> Result<Vec<Numbered>, OutOfMemory>
     ensures { IfOk result (λ sorted. AreByPlaces (seen shown.now) sorted.items) }
 {
     let mut sorted = with_numbers(alloc, shown.races)?;
@@ -150,6 +150,15 @@ pub(crate) fn alike_races<'a>(
     ensures { result.now ≡ filter (is_alike (seen shown.now) pair) (with_numbers 0 (seen shown.now).races) }
 {
     up_to_places(shown, from_places(shown, sorted, pair), pair)
+}
+
+/// How many races are of the places of a race.
+pub fn count_at(shown: &Shown<'_>, sorted: &[Numbered], pair: Pair) -> usize
+    requires { AreByPlaces (seen shown.now) sorted.now }
+    ensures { result ≡ count_by (same_places (seen shown.now) pair) (seen shown.now).races }
+{
+    let alike = alike_races(shown, sorted, pair);
+    alike.len()
 }
 
 /// Whether there is a first of these races, and it has a lower number.

@@ -442,13 +442,13 @@ tail_in s n (suc count) text le =
 
 -- ---- the legend
 
-legend_below : (s : Scene) (n : ℕ) → n ≤ 7 → legend_y s n + 22 ≤ height s
+legend_below : (s : Scene) (n : ℕ) → n ≤ 8 → legend_y s n + 22 ≤ height s
 legend_below s n le = omega (arith, le)
 
 legend_above : (s : Scene) (n : ℕ) → 100 ≤ legend_y s n
 legend_above s n = omega arith
 
-words_in : (s : Scene) (n : ℕ) (words : List ℕ) → n ≤ 7 → length words ≤ 65 → IsIn s (words_mark s n words)
+words_in : (s : Scene) (n : ℕ) (words : List ℕ) → n ≤ 8 → length words ≤ 65 → IsIn s (words_mark s n words)
 words_in s n words le few =
     let fits = wide_enough s in
     let behind = text_behind s in
@@ -456,7 +456,7 @@ words_in s n words le few =
     let above = legend_above s n in
     (omega (arith, fits, behind, few), record { above = omega (arith, above); below = omega (arith, below) })
 
-sample_in : (s : Scene) (x n : ℕ) → 8 ≤ x → x ≤ 80 → n ≤ 7
+sample_in : (s : Scene) (x n : ℕ) → 8 ≤ x → x ≤ 80 → n ≤ 8
     → IsRoundInside (width s) (height s) (record { x = x; y = legend_y s n })
 sample_in s x n low high le =
     let fits = wide_enough s in
@@ -469,12 +469,12 @@ sample_in s x n low high le =
       below = omega (arith, below);
     }
 
-entry_in : (s : Scene) (n : ℕ) (of : Sign) (shape : Shape) (words : List ℕ) → n ≤ 7 → length words ≤ 65
+entry_in : (s : Scene) (n : ℕ) (of : Sign) (shape : Shape) (words : List ℕ) → n ≤ 8 → length words ≤ 65
     → IsShapeInside (width s) (height s) [] shape → All (IsIn s) (entry s n of shape words)
 entry_in s n of shape words le few h =
     all_two (IsIn s) (mark_of of shape [] words) (words_mark s n words) h (words_in s n words le few)
 
-linked_in : (s : Scene) (n : ℕ) (of end : Sign) (one other : Shape) (words : List ℕ) → n ≤ 7 → length words ≤ 65
+linked_in : (s : Scene) (n : ℕ) (of end : Sign) (one other : Shape) (words : List ℕ) → n ≤ 8 → length words ≤ 65
     → IsShapeInside (width s) (height s) [] one → IsShapeInside (width s) (height s) [] other
     → All (IsIn s) (linked s n of end one other words)
 linked_in s n of end one other words le few ha hb =
@@ -505,13 +505,13 @@ steps_told s =
     (entry_in s 3 sign.LeftOut (Dot (middle s 3)) (codes "a step that the witness leaves out")
     (omega arith) (lit≤ tt) (sample_in s 40 3 (omega arith) (omega arith) (omega arith)))
 
-arrow_told : (s : Scene) (n : ℕ) (of : Sign) (words : List ℕ) → n ≤ 7 → length words ≤ 65
+arrow_told : (s : Scene) (n : ℕ) (of : Sign) (words : List ℕ) → n ≤ 8 → length words ≤ 65
     → All (IsIn s) (arrow_entry s n of words)
 arrow_told s n of words le few =
     linked_in s n of sign.Step (Dot (left_end s n)) (Dot (right_end s n)) words le few
     (sample_in s 18 n (omega arith) (omega arith) le) (sample_in s 62 n (omega arith) (omega arith) le)
 
-race_told : (s : Scene) (n : ℕ) (of : Sign) (words : List ℕ) → n ≤ 7 → length words ≤ 65
+race_told : (s : Scene) (n : ℕ) (of : Sign) (words : List ℕ) → n ≤ 8 → length words ≤ 65
     → All (IsIn s) (race_entry s n of words)
 race_told s n of words le few =
     linked_in s n of sign.Racing (Diamond (left_end s n)) (Diamond (right_end s n)) words le few
@@ -521,15 +521,18 @@ links_told : (s : Scene) → All (IsIn s) (link_entries s)
 links_told s =
     let wake = arrow_entry s 4 sign.Wake (codes "the first step woke or started that thread") in
     let dependence = arrow_entry s 5 sign.Dependence (codes "the second step depends on the first one") in
-    let first = race_entry s 6 sign.FirstRace (codes "the first race: neither step happens before the other") in
-    let race = race_entry s 7 sign.Race (codes "another race") in
-    All-append (IsIn s) (wake ++ dependence ++ first) race
-    (All-append (IsIn s) (wake ++ dependence) first
+    let machine = arrow_entry s 6 sign.MachineOrder (codes "the same, where Rust's order has no such arrow") in
+    let first = race_entry s 7 sign.FirstRace (codes "the first race: neither step happens before the other") in
+    let race = race_entry s 8 sign.Race (codes "another race") in
+    All-append (IsIn s) (wake ++ dependence ++ machine ++ first) race
+    (All-append (IsIn s) (wake ++ dependence ++ machine) first
+    (All-append (IsIn s) (wake ++ dependence) machine
     (All-append (IsIn s) wake dependence
     (arrow_told s 4 sign.Wake (codes "the first step woke or started that thread") (omega arith) (lit≤ tt))
     (arrow_told s 5 sign.Dependence (codes "the second step depends on the first one") (omega arith) (lit≤ tt)))
-    (race_told s 6 sign.FirstRace (codes "the first race: neither step happens before the other") (omega arith) (lit≤ tt)))
-    (race_told s 7 sign.Race (codes "another race") (omega arith) (lit≤ tt))
+    (arrow_told s 6 sign.MachineOrder (codes "the same, where Rust's order has no such arrow") (omega arith) (lit≤ tt)))
+    (race_told s 7 sign.FirstRace (codes "the first race: neither step happens before the other") (omega arith) (lit≤ tt)))
+    (race_told s 8 sign.Race (codes "another race") (omega arith) (lit≤ tt))
 
 -- ---- all of them
 

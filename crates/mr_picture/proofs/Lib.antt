@@ -2,6 +2,7 @@ pub mod ArrowLaws
 pub mod ClearLaws
 pub mod Counts
 pub mod InsideLaws
+pub mod LinkLaws
 pub mod Marks
 pub mod Members
 pub mod Room

@@ -2,7 +2,7 @@
 use Rattle.std.proofs.Common.{◌≡◌, ℕ, ◌+◌, ◌-◌, ◌<◌, ◌≤◌, Bool, true, false, List, [], ◌∷◌, ◌++◌, length, get_or}
 use Rattle.std.proofs.Common.{take, map, refl, sym, ap, ◌∙◌, append_assoc, append-nil, Result, Ok, Err}
 use Rattle.std.proofs.lemmas.Grind.{flat_map-append}
-use Rattle.std.proofs.lemmas.List.{take_more}
+use Rattle.std.proofs.lemmas.List.{take_more, map-append}
 use Rattle.std.proofs.lemmas.List.Elements.{filter-append}
 use Rattle.std.specs.Prelude.{OnOk, flat_map}
 use Rattle.std.specs.List.{filter, range_with_len}
@@ -33,12 +33,8 @@ mark_behind g f old now next xs i x inside is here more =
     ∙ ap (λ ys. old ++ ys)
     (ap (λ ys. flat_map g (map f (take i xs)) ++ ys) (sym (single g (f x)))
     ∙ sym (flat_map-append g (map f (take i xs)) (f x ∷ []))
-    ∙ ap (flat_map g) (sym (map_more f (take i xs) x))
+    ∙ ap (flat_map g) (sym (map-append f (take i xs) (x ∷ [])))
     ∙ ap (λ ys. flat_map g (map f ys)) (ap (λ y. take i xs ++ y ∷ []) is ∙ sym (take_more xs i x inside)))
-  where
-    map_more : {X Y : Type 0} (f : X → Y) (xs : List X) (x : X) → map f (xs ++ x ∷ []) ≡ map f xs ++ f x ∷ []
-    map_more f [] x = refl
-    map_more f (y ∷ ys) x = ap (λ zs. f y ∷ zs) (map_more f ys x)
 
 -- the marks of one number more
 pub row_behind : {Y : Type 0} (g : Y → List ℕ) (f : ℕ → List Y) (old now next : List ℕ) (a k : ℕ) → a ≤ k
@@ -68,6 +64,18 @@ pub more_mark : {Y : Type 0} (g : Y → List ℕ) (old now next : List ℕ) (ys 
     → next ≡ now ++ g y → next ≡ old ++ flat_map g (ys ++ y ∷ [])
 more_mark g old now next ys y here more =
     more_marks g old now next ys (y ∷ []) here (more ∙ ap (λ xs. now ++ xs) (sym (single g y)))
+
+-- the same of the marks of what one number more makes
+pub mapped_behind : {X Y : Type 0} (g : Y → List ℕ) (h : X → Y) (f : ℕ → List X) (old now next : List ℕ) (a k : ℕ) → a ≤ k
+    → now ≡ old ++ flat_map g (map h (flat_map f (range_with_len a (k - a)))) → next ≡ now ++ flat_map g (map h (f k))
+    → next ≡ old ++ flat_map g (map h (flat_map f (range_with_len a (k + 1 - a))))
+mapped_behind g h f old now next a k le here more =
+    let ks = range_with_len a (k - a) in
+    more_marks g old now next (map h (flat_map f ks)) (map h (f k)) here more
+    ∙ ap (λ ys. old ++ flat_map g ys) (sym (map-append h (flat_map f ks) (f k)))
+    ∙ ap (λ xs. old ++ flat_map g (map h (flat_map f ks ++ xs))) (sym (single f k))
+    ∙ ap (λ xs. old ++ flat_map g (map h xs)) (sym (flat_map-append f ks (k ∷ [])))
+    ∙ ap (λ xs. old ++ flat_map g (map h (flat_map f xs))) (sym (one_more a k le))
 
 -- the same of the last ones, where the memory may be used up
 pub last_marks : {Y T E : Type 0} (g : Y → List ℕ) (r : Result T E) (old now next : List ℕ) (ys zs : List Y)

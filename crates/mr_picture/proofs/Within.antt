@@ -10,10 +10,8 @@ use Rattle.std.specs.List.{Contains, filter, range_with_len}
 use Rattle.mr_event.specs.Footprint.{Footprint}
 use Rattle.mr_event.specs.declared.footprint.Pair.{Pair}
 use Rattle.mr_picture.specs.declared.span.Span.{Span}
-use Rattle.mr_picture.specs.Arrows.{arrows}
 use Rattle.mr_picture.specs.Span.{holds_race, is_in, races_in, steps_in}
 use Rattle.mr_picture.specs.Witness.{is_left_out, is_other, left_out, witness_steps}
-use Rattle.mr_picture.proofs.ArrowLaws.{arrow_is}
 use Rattle.mr_picture.proofs.Members.{first_of, from_range, none, only}
 use Rattle.mr_picture.proofs.WitnessLaws.{no_one, one}
 
@@ -41,12 +39,6 @@ from_filter p (y ∷ ys) x h =
 
 abbrev pub IsPairOf : List Footprint → Pair → Type 0
 IsPairOf run pair = (pair.first < length run) × (pair.second < length run)
-
-pub arrows_within : (run : List Footprint) (span : Span) → span.to ≤ length run → All (IsPairOf run) (arrows run span)
-arrows_within run span le =
-    each (IsPairOf run) (arrows run span) (λ a h.
-    let is = arrow_is run span a h in
-    (omega (arith, le, is.rising, is.high), omega (arith, le, is.high)))
 
 in_run : (run : List Footprint) (span : Span) (k : ℕ) → span.to ≤ length run → is_in span k ≡ true → k < length run
 in_run run span k le e =

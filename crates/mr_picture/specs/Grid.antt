@@ -52,6 +52,6 @@ tail_y s n = rows_end s + 44 + 20 * n
 abbrev pub legend_y : Scene → ℕ → ℕ
 legend_y s n = tail_y s (tail_count s) + 20 + 22 * n
 
--- behind the eight lines of the legend
+-- behind the nine lines of the legend
 abbrev pub height : Scene → ℕ
-height s = legend_y s 8
+height s = legend_y s 9

@@ -57,8 +57,9 @@ abbrev pub link_entries : Scene → List Mark
 link_entries s =
     arrow_entry s 4 sign.Wake (codes "the first step woke or started that thread")
     ++ arrow_entry s 5 sign.Dependence (codes "the second step depends on the first one")
-    ++ race_entry s 6 sign.FirstRace (codes "the first race: neither step happens before the other")
-    ++ race_entry s 7 sign.Race (codes "another race")
+    ++ arrow_entry s 6 sign.MachineOrder (codes "the same, where Rust's order has no such arrow")
+    ++ race_entry s 7 sign.FirstRace (codes "the first race: neither step happens before the other")
+    ++ race_entry s 8 sign.Race (codes "another race")
 
 -- THE LEGEND
 abbrev pub legend_marks : Scene → List Mark

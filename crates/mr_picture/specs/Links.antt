@@ -5,6 +5,7 @@ use Rattle.mr_event.specs.declared.footprint.Pair.{Pair}
 use Rattle.mr_event.specs.Footprint.{Footprint}
 use Rattle.mr_event.specs.Footprints.{wakes}
 use Rattle.mr_event.specs.Order.{step_at, thread_at}
+use Rattle.mr_rust_order.specs.Tests.{happens_before as rust_before}
 use Rattle.mr_svg.specs.declared.shape.Corner.{Corner}
 use Rattle.mr_svg.specs.declared.shape.Point.{Point}
 use Rattle.mr_svg.specs.declared.shape.Shape.{Shape}
@@ -50,27 +51,35 @@ arrow_between false a b = arrow_at 20 12 a b
 abbrev pub is_wake : List Footprint → Pair → Bool
 is_wake feet arrow = wakes (step_at feet arrow.first) (thread_at feet arrow.second)
 
-abbrev pub arrow_sign : Bool → Sign
-arrow_sign true = sign.Wake
-arrow_sign false = sign.Dependence
+-- whether its first step happens before its second one by Rust's order too
+abbrev pub is_rusts : List Footprint → Pair → Bool
+is_rusts feet arrow = rust_before feet arrow.first arrow.second
 
-abbrev pub arrow_reason : Bool → List ℕ
-arrow_reason true = codes ": it woke or started its thread"
-arrow_reason false = codes ", which depends on it"
+-- how it is drawn: by whether it is a wake, and by whether it is Rust's
+abbrev pub arrow_sign : Bool → Bool → Sign
+arrow_sign true rusts = sign.Wake
+arrow_sign false true = sign.Dependence
+arrow_sign false false = sign.MachineOrder
 
-abbrev pub arrow_title : Pair → Bool → List ℕ
-arrow_title arrow woken =
-    step_word arrow.first ++ codes " happens before " ++ step_word arrow.second ++ arrow_reason woken
+abbrev pub arrow_reason : Bool → Bool → List ℕ
+arrow_reason true rusts = codes ": it woke or started its thread"
+arrow_reason false true = codes ", which depends on it"
+arrow_reason false false = codes ", which depends on it; Rust's order has no such arrow"
+
+abbrev pub arrow_title : Pair → Bool → Bool → List ℕ
+arrow_title arrow woken rusts =
+    step_word arrow.first ++ codes " happens before " ++ step_word arrow.second ++ arrow_reason woken rusts
 
 -- AN ARROW
 abbrev pub arrow_mark : Scene → Pair → Mark
 arrow_mark s arrow =
     let woken = is_wake s.sketch.feet arrow in
+    let rusts = is_rusts s.sketch.feet arrow in
     record {
-      sign = arrow_sign woken;
+      sign = arrow_sign woken rusts;
       shape = arrow_between woken (foot_place s arrow.first) (foot_place s arrow.second);
       words = [];
-      title = arrow_title arrow woken;
+      title = arrow_title arrow woken rusts;
     }
 
 -- ---- races

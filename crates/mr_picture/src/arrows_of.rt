@@ -1,66 +1,116 @@
 //! The arrows of a part of a run.
-ghost use Rattle.std.specs.Prelude.{◌≡◌, ◌++◌, ◌<◌, ◌≤◌, IfOk, OnOk, length};
+ghost use Rattle.std.specs.Prelude.{◌≡◌, ◌<◌, ◌≤◌, ◌++◌, IfOk, OnOk, flat_map, length, map};
 ghost use Rattle.mr_clocks.specs.Tracked.{Tracks};
+ghost use Rattle.mr_rust_order.specs.Tracked.{Tracks as RustTracks};
+ghost use Rattle.mr_svg.specs.Svg.{mark_text};
 ghost use Rattle.mr_picture.specs.Arrows.{arrow_from, arrows, arrows_to};
+ghost use Rattle.mr_picture.specs.Links.{arrow_mark};
+ghost use Rattle.mr_picture.specs.Scene.{IsSmall, IsStep, scene_in};
 
 use crate::OutOfMemory;
+use crate::links::push_arrow;
 use crate::order::is_arrow;
-use crate::span::Span;
+use crate::scene::Scene;
 use mr_clocks::Analysis;
 use mr_event::{Footprint, Pair};
+use mr_rust_order::Analysis as RustOrder;
 use std::alloc::Global;
 
-// Adds the arrow from one step to another, if there is one.
-fn push_arrow(
-    all: &mut Vec<Pair>,
-    run: &[Footprint],
+// Rust's order of the first so many steps of a run.
+fn rusts_order(alloc: Global, run: &[Footprint], count: usize) -> Result<RustOrder, OutOfMemory>
+    requires { count ≤ length run.now }
+    ensures { IfOk result (λ rust. RustTracks run.now count rust) }
+{
+    let mut rust = RustOrder::new(alloc)?;
+    for step in 0..count {
+        rust.add(run, step)?;
+    }
+    Ok(rust)
+}
+
+// Appends the arrow from a step to a later one, if there is one.
+fn push_arrow_from(
+    alloc: Global,
+    out: &mut Vec<u8>,
+    scene: &Scene<'_>,
     order: &Analysis,
+    rust: &RustOrder,
     first: usize,
     second: usize,
 ) -> Result<(), OutOfMemory>
-    requires first { first < length run.now }
-    requires second { second < length run.now }
-    requires tracks { Tracks order.now run.now }
-    ensures { OnOk result (all.new.items ≡ all.old.items ++ arrow_from run.now second first) }
+    requires small { IsSmall (scene_in scene.now) }
+    requires first { first < second }
+    requires second { IsStep (scene_in scene.now) second }
+    requires tracks { Tracks order.now (scene_in scene.now).sketch.feet }
+    requires rust { RustTracks (scene_in scene.now).sketch.feet second rust.now }
+    ensures { OnOk result (out.new.items ≡ out.old.items ++ flat_map mark_text
+        (map (arrow_mark (scene_in scene.now)) (arrow_from (scene_in scene.now).sketch.feet second first))) }
 {
-    if is_arrow(run, order, first, second) {
-        all.push(Pair { first, second })?;
+    if is_arrow(scene.sketch.feet, order, first, second) {
+        push_arrow(alloc, out, scene, rust, Pair { first, second })?;
     }
     Ok(())
 }
 
-// Adds the arrows to a step from those from a place on.
+// Appends the arrows to a step.
 fn push_arrows_to(
-    all: &mut Vec<Pair>,
-    run: &[Footprint],
+    alloc: Global,
+    out: &mut Vec<u8>,
+    scene: &Scene<'_>,
     order: &Analysis,
-    from: usize,
+    rust: &RustOrder,
     second: usize,
 ) -> Result<(), OutOfMemory>
-    requires second { second < length run.now }
-    requires tracks { Tracks order.now run.now }
-    ensures { OnOk result (all.new.items ≡ all.old.items ++ arrows_to run.now from second) }
+    requires small { IsSmall (scene_in scene.now) }
+    requires second { IsStep (scene_in scene.now) second }
+    requires tracks { Tracks order.now (scene_in scene.now).sketch.feet }
+    requires rust { RustTracks (scene_in scene.now).sketch.feet second rust.now }
+    ensures { OnOk result (out.new.items ≡ out.old.items ++ flat_map mark_text (map (arrow_mark (scene_in scene.now))
+        (arrows_to (scene_in scene.now).sketch.feet (scene_in scene.now).done.from second))) }
 {
-    for first in from..second {
-        push_arrow(all, run, order, first, second)?;
+    for first in scene.done.from..second {
+        push_arrow_from(alloc, out, scene, order, rust, first, second)?;
     }
     Ok(())
 }
 
-/// The arrows between the steps of a part, by rising second step. An `Err` is for want of memory.
-pub fn arrows(
+// Appends the arrows to each step that is drawn; Rust's order is known up to the first.
+fn push_each_arrow(
     alloc: Global,
-    run: &[Footprint],
+    out: &mut Vec<u8>,
+    scene: &Scene<'_>,
     order: &Analysis,
-    span: Span,
-) -> Result<Vec<Pair>, OutOfMemory>
-    requires within { span.to ≤ length run.now }
-    requires tracks { Tracks order.now run.now }
-    ensures { IfOk result (λ all. all.items ≡ arrows run.now span) }
+    rust: &mut RustOrder,
+) -> Result<(), OutOfMemory>
+    requires small { IsSmall (scene_in scene.now) }
+    requires tracks { Tracks order.now (scene_in scene.now).sketch.feet }
+    requires from { (scene_in scene.now).done.from ≤ (scene_in scene.now).done.to }
+    requires rust { RustTracks (scene_in scene.now).sketch.feet (scene_in scene.now).done.from rust.old }
+    ensures { OnOk result (out.new.items ≡ out.old.items ++ flat_map mark_text
+        (map (arrow_mark (scene_in scene.now)) (arrows (scene_in scene.now).sketch.feet (scene_in scene.now).done))) }
 {
-    let mut all = Vec::new(alloc);
-    for second in span.from..span.to {
-        push_arrows_to(&mut all, run, order, span.from, second)?;
+    for second in scene.done.from..scene.done.to {
+        push_arrows_to(alloc, out, scene, order, rust, second)?;
+        rust.add(scene.sketch.feet, second)?;
     }
-    Ok(all)
+    Ok(())
+}
+
+/// Appends the arrows between the steps that are drawn, by rising second step.
+pub(crate) fn push_arrows(
+    alloc: Global,
+    out: &mut Vec<u8>,
+    scene: &Scene<'_>,
+    order: &Analysis,
+) -> Result<(), OutOfMemory>
+    requires small { IsSmall (scene_in scene.now) }
+    requires tracks { Tracks order.now (scene_in scene.now).sketch.feet }
+    ensures { OnOk result (out.new.items ≡ out.old.items ++ flat_map mark_text
+        (map (arrow_mark (scene_in scene.now)) (arrows (scene_in scene.now).sketch.feet (scene_in scene.now).done))) }
+{
+    if scene.done.to < scene.done.from {
+        return Ok(());
+    }
+    let mut rust = rusts_order(alloc, scene.sketch.feet, scene.done.from)?;
+    push_each_arrow(alloc, out, scene, order, &mut rust)
 }

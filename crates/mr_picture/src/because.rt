@@ -110,7 +110,7 @@ fn bound_by(f: &Footprint, g: &Footprint) -> Because
 
 /// The reason of an edge.
 #[tactic(auto, using(mr_event::proofs::Read::step_read))]
-pub(crate) fn because_of(run: &[Footprint], i: usize, j: usize) -> Because
+pub fn because_of(run: &[Footprint], i: usize, j: usize) -> Because
     requires first { i < length run.now }
     requires second { j < length run.now }
     ensures { result ≡ because_of run.now i j }
@@ -127,7 +127,7 @@ pub(crate) fn because_of(run: &[Footprint], i: usize, j: usize) -> Because
 }
 
 /// A reason in words.
-pub(crate) fn because_word(because: Because) -> &'static str
+pub fn because_word(because: Because) -> &'static str
     ensures { result.now ≡ because_word because }
 {
     match because {

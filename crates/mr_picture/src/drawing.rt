@@ -8,13 +8,14 @@ ghost use Rattle.mr_picture.specs.Ends.{title_text};
 ghost use Rattle.mr_picture.specs.Picture.{marks, picture_text, round_marks, scene_text};
 ghost use Rattle.mr_picture.specs.Scene.{IsSmall, race_in, scene_in, scene_of, sketch_in};
 
+use crate::arrows_of::push_arrows;
 use crate::column::push_column;
 use crate::drawn::{drawn_steps, tail_of};
 use crate::ends::{push_heads, push_tail, title_text};
 use crate::grid::{height, width};
 use crate::lanes::push_lanes;
 use crate::legend::push_legend;
-use crate::links::{push_arrows, push_races};
+use crate::links::push_races;
 use crate::scene::{Drawn, Scene, Sketch, chosen, done_in, near_in, race_in, threads_of};
 use crate::steps::{push_rows, push_steps};
 use crate::{OutOfMemory, Span};

@@ -130,5 +130,5 @@ pub(crate) fn height(scene: &Scene<'_>) -> u64
     requires { IsSmall (scene_in scene.now) }
     ensures { result ≡ height (scene_in scene.now) }
 {
-    legend_y(scene, 8)
+    legend_y(scene, 9)
 }

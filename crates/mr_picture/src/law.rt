@@ -1,7 +1,9 @@
 //! The laws of pictures.
-ghost use Rattle.std.specs.Prelude.{◌≡◌, ◌<◌, ◌≤◌, ◌^◌, All, List, Option, length};
+ghost use Rattle.std.specs.Prelude.{◌≡◌, ◌<◌, ◌≤◌, ◌^◌, ◌↔◌, All, List, Option, length};
 ghost use Rattle.std.specs.List.{Contains};
 ghost use Rattle.mr_event.specs.declared.footprint.Pair.{Pair};
+ghost use Rattle.mr_rust_order.specs.Order.{HappensBefore};
+ghost use Rattle.mr_svg.specs.declared.shape.Sign.TheVariants.{MachineOrder};
 ghost use Rattle.mr_picture.specs.declared.scene.Drawn.{Drawn};
 ghost use Rattle.mr_picture.specs.declared.span.Span.{Span};
 ghost use Rattle.mr_listing.specs.Seen.{Seen};
@@ -12,7 +14,7 @@ ghost use Rattle.mr_picture.specs.Grid.{height, width};
 ghost use Rattle.mr_picture.specs.Inside.{IsInside};
 ghost use Rattle.mr_picture.specs.Picture.{marks};
 ghost use Rattle.mr_picture.specs.Links.{arrow_mark, race_mark};
-ghost use Rattle.mr_picture.specs.Scene.{Sketch, done_in, near_in, scene_of};
+ghost use Rattle.mr_picture.specs.Scene.{Scene, Sketch, done_in, near_in, scene_of};
 ghost use Rattle.mr_picture.specs.Span.{races_in};
 ghost use Rattle.mr_picture.specs.Steps.{at_step};
 
@@ -38,4 +40,11 @@ pub fn links_keep_clear()
         → (race : Pair) → Contains (races_in (done_in span (length s.feet)) (near_in span s.races)) race
         → ¬ step.number ≡ race.first → ¬ step.number ≡ race.second
         → IsClearOf (at_step (scene_of s span steps) step) (race_mark (scene_of s span steps) race).shape }
+{}
+
+/// A law: an arrow is drawn as one of the machine's order alone exactly where its first step doesn't happen before its
+/// second one by Rust's order.
+pub fn arrows_tell_whose_they_are()
+    ensures { (s : Scene) (arrow : Pair) → arrow.first < arrow.second
+        → ((arrow_mark s arrow).sign ≡ MachineOrder) ↔ ¬ HappensBefore s.sketch.feet arrow.first arrow.second }
 {}

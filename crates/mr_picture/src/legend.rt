@@ -195,14 +195,21 @@ fn push_link_entries(out: &mut Vec<u8>, scene: &Scene<'_>) -> Result<(), OutOfMe
         Sign::Dependence,
         b"the second step depends on the first one",
     )?;
-    push_race_entry(
+    push_arrow_entry(
         out,
         scene,
         6,
+        Sign::MachineOrder,
+        b"the same, where Rust's order has no such arrow",
+    )?;
+    push_race_entry(
+        out,
+        scene,
+        7,
         Sign::FirstRace,
         b"the first race: neither step happens before the other",
     )?;
-    push_race_entry(out, scene, 7, Sign::Race, b"another race")
+    push_race_entry(out, scene, 8, Sign::Race, b"another race")
 }
 
 /// Appends the legend.

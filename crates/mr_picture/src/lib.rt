@@ -7,19 +7,19 @@
 //!   [`chosen`]: which steps a picture has. [`push_numbered`], [`push_ended`], [`push_woken`]: parts of what a step did.
 //!
 //! `specs/Picture.antt` says what is drawn: `Scene` which steps, `Grid` where marks stand, and `Lanes`, `Links`, `Steps`,
-//! `Column`, `Ends` and `Legend` which marks there are; `Drawn` and `Deeds` what is told of the steps of a program. Proved: the document is exactly that, and want of memory is the
-//! only error. By the laws of the arrows they are edges and lead wherever one step happens before
-//! another; the races are the listed ones both of whose steps are drawn; no text can become markup, by the law of
-//! `mr_svg`. [`marks_lie_inside`] is the law that each mark lies inside the picture, and
+//! `Column`, `Ends` and `Legend` which marks there are; `Drawn` and `Deeds` what is told of the steps of a program.
+//! Proved: the document is exactly that, and want of memory is the only error. By the laws of the arrows they are edges
+//! and lead wherever one step happens before another, and each is drawn by whether Rust's order has it too
+//! ([`arrows_tell_whose_they_are`]); the races are the listed ones both of whose steps are drawn; no text can become
+//! markup, by the law of `mr_svg`. [`marks_lie_inside`] is the law that each mark lies inside the picture, and
 //! [`links_keep_clear`] that no arrow and no line of a race comes near the mark of another step.
 //!
 //! The order of a part of a run, as it is drawn (Lamport: happens-before, and pictures of it):
 //!
 //! - [`Span`]: the steps of a part. [`races_in`]: those races both of whose steps are in it.
-//! - [`arrows`]: the edges between steps of two threads that neither a lane nor other arrows give.
 //! - [`wakes_thread`]: whether a step woke or started the thread of another one.
 //! - [`order_text`]: the way from a step to a later one by edges of happens-before, each with its reason ([`Because`]), or
-//!   that nothing orders the two.
+//!   that nothing orders the two. [`way_to`], [`because_of`], [`because_word`] and [`push_step_word`] are parts of it.
 //! - [`witness_steps`], [`left_out`]: the steps of a part in the order of the witness for a race, and those that it leaves
 //!   out.
 //!
@@ -55,15 +55,16 @@ mod way;
 mod way_texts;
 mod witness;
 
-pub use arrows_of::arrows;
-pub use because::Because;
+pub use because::{Because, because_of, because_word};
 pub use deeds::{push_ended, push_numbered, push_woken};
 pub use drawing::{picture, sketched};
-pub use law::{links_keep_clear, marks_lie_inside};
+pub use law::{arrows_tell_whose_they_are, links_keep_clear, marks_lie_inside};
 pub use order::wakes_thread;
 pub use order_laws::{arrows_are_edges, paths_are_the_order, ways_are_the_order, witness_is_kept};
 pub use scene::{Drawn, Sketch, chosen};
 pub use span::{Span, races_in};
 pub use std::alloc::AllocError as OutOfMemory;
+pub use texts::push_step_word;
+pub use way::way_to;
 pub use way_texts::order_text;
 pub use witness::{left_out, witness_steps};

@@ -1,21 +1,20 @@
 //! Arrows and races.
 ghost use Rattle.std.specs.Prelude.{◌≡◌, ◌<◌, ◌≤◌, ◌^◌, ◌++◌, All, IfOk, OnOk, flat_map, length, map};
 ghost use Rattle.mr_event.specs.Order.{thread_at as thread_of};
-ghost use Rattle.mr_picture.specs.Arrows.{arrows};
 ghost use Rattle.mr_picture.specs.Span.{races_in};
-ghost use Rattle.mr_clocks.specs.Tracked.{Tracks};
+ghost use Rattle.mr_rust_order.specs.Tracked.{Tracks as RustTracks};
 ghost use Rattle.mr_svg.specs.Svg.{mark_text};
 ghost use Rattle.mr_picture.specs.Grid.{place_of};
 ghost use Rattle.mr_picture.specs.Links.{arrow_at, arrow_between, arrow_mark, arrow_reason, arrow_sign, arrow_title, beside, corner_of};
-ghost use Rattle.mr_picture.specs.Links.{foot_place, is_same_race, is_wake, race_between, race_mark, race_sign, race_title};
+ghost use Rattle.mr_picture.specs.Links.{foot_place, is_rusts, is_same_race, is_wake, race_between, race_mark, race_sign, race_title};
 ghost use Rattle.mr_picture.specs.Scene.{IsRace, IsSmall, IsStep, scene_in};
 
 use crate::grid::place_of;
 use crate::scene::Scene;
 use crate::texts::{push, push_step_word};
-use crate::{OutOfMemory, arrows, races_in, wakes_thread};
-use mr_clocks::Analysis;
+use crate::{OutOfMemory, races_in, wakes_thread};
 use mr_event::{Footprint, Pair, thread_at};
+use mr_rust_order::Analysis as RustOrder;
 use mr_svg::{Corner, Point, Shape, Sign, push_mark};
 use std::alloc::Global;
 
@@ -108,87 +107,75 @@ fn race_between(a: Point, b: Point) -> Shape
     }
 }
 
-fn arrow_sign(woken: bool) -> Sign
-    ensures { result ≡ arrow_sign woken }
+fn arrow_sign(woken: bool, rusts: bool) -> Sign
+    ensures { result ≡ arrow_sign woken rusts }
 {
-    if woken { Sign::Wake } else { Sign::Dependence }
+    if woken {
+        Sign::Wake
+    } else if rusts {
+        Sign::Dependence
+    } else {
+        Sign::MachineOrder
+    }
 }
 
-fn arrow_reason(woken: bool) -> &'static str
-    ensures { result.now ≡ arrow_reason woken }
+fn arrow_reason(woken: bool, rusts: bool) -> &'static str
+    ensures { result.now ≡ arrow_reason woken rusts }
 {
     if woken {
         ": it woke or started its thread"
-    } else {
+    } else if rusts {
         ", which depends on it"
+    } else {
+        ", which depends on it; Rust's order has no such arrow"
     }
 }
 
 // What is told of an arrow.
-fn arrow_title(alloc: Global, arrow: Pair, woken: bool) -> Result<Vec<u8>, OutOfMemory>
-    ensures { IfOk result (λ text. text.items ≡ arrow_title arrow woken) }
+fn arrow_title(alloc: Global, arrow: Pair, woken: bool, rusts: bool) -> Result<Vec<u8>, OutOfMemory>
+    ensures { IfOk result (λ text. text.items ≡ arrow_title arrow woken rusts) }
 {
     let mut out = Vec::new(alloc);
     push_step_word(&mut out, arrow.first)?;
     push(&mut out, " happens before ")?;
     push_step_word(&mut out, arrow.second)?;
-    push(&mut out, arrow_reason(woken))?;
+    push(&mut out, arrow_reason(woken, rusts))?;
     Ok(out)
 }
 
-// Appends an arrow.
-fn push_arrow(
+// Whether Rust's order has an arrow too.
+fn is_rusts(run: &[Footprint], rust: &RustOrder, arrow: Pair) -> Result<bool, OutOfMemory>
+    requires first { arrow.first < length run.now }
+    requires second { arrow.second < length run.now }
+    requires rust { RustTracks run.now arrow.second rust.now }
+    ensures { IfOk result (λ is. is ≡ is_rusts run.now arrow) }
+{
+    let rusts = rust.orders(run, arrow.first, arrow.second)?;
+    Ok(rusts)
+}
+
+/// Appends an arrow.
+pub(crate) fn push_arrow(
     alloc: Global,
     out: &mut Vec<u8>,
     scene: &Scene<'_>,
+    rust: &RustOrder,
     arrow: Pair,
 ) -> Result<(), OutOfMemory>
     requires small { IsSmall (scene_in scene.now) }
     requires arrow { IsRace (scene_in scene.now) arrow }
+    requires rust { RustTracks (scene_in scene.now).sketch.feet arrow.second rust.now }
     ensures { OnOk result (out.new.items ≡ out.old.items ++ mark_text (arrow_mark (scene_in scene.now) arrow)) }
 {
     let woken = wakes_thread(scene.sketch.feet, arrow.first, arrow.second);
+    let rusts = is_rusts(scene.sketch.feet, rust, arrow)?;
     let shape = arrow_between(
         woken,
         foot_place(scene, arrow.first),
         foot_place(scene, arrow.second),
     );
-    let title = arrow_title(alloc, arrow, woken)?;
-    push_mark(out, arrow_sign(woken), shape, &[], title.as_slice())
-}
-
-// Appends each of these arrows.
-fn push_each_arrow(
-    alloc: Global,
-    out: &mut Vec<u8>,
-    scene: &Scene<'_>,
-    all: &[Pair],
-) -> Result<(), OutOfMemory>
-    requires small { IsSmall (scene_in scene.now) }
-    requires within { All (IsRace (scene_in scene.now)) all.now }
-    ensures { OnOk result (out.new.items
-        ≡ out.old.items ++ flat_map mark_text (map (arrow_mark (scene_in scene.now)) all.now)) }
-{
-    for arrow in all {
-        push_arrow(alloc, out, scene, *arrow)?;
-    }
-    Ok(())
-}
-
-/// Appends the arrows.
-pub(crate) fn push_arrows(
-    alloc: Global,
-    out: &mut Vec<u8>,
-    scene: &Scene<'_>,
-    order: &Analysis,
-) -> Result<(), OutOfMemory>
-    requires small { IsSmall (scene_in scene.now) }
-    requires tracks { Tracks order.now (scene_in scene.now).sketch.feet }
-    ensures { OnOk result (out.new.items ≡ out.old.items ++ flat_map mark_text
-        (map (arrow_mark (scene_in scene.now)) (arrows (scene_in scene.now).sketch.feet (scene_in scene.now).done))) }
-{
-    let all = arrows(alloc, scene.sketch.feet, order, scene.done)?;
-    push_each_arrow(alloc, out, scene, all.as_slice())
+    let title = arrow_title(alloc, arrow, woken, rusts)?;
+    push_mark(out, arrow_sign(woken, rusts), shape, &[], title.as_slice())
 }
 
 // Whether a race is the first listed one.

@@ -14,7 +14,7 @@ pub(crate) fn push(out: &mut Vec<u8>, text: &str) -> Result<(), OutOfMemory>
 }
 
 /// Appends a step, counted from 1.
-pub(crate) fn push_step_word(out: &mut Vec<u8>, step: usize) -> Result<(), OutOfMemory>
+pub fn push_step_word(out: &mut Vec<u8>, step: usize) -> Result<(), OutOfMemory>
     ensures { OnOk result (out.new.items ≡ out.old.items ++ step_word step) }
 {
     push(out, "step ")?;

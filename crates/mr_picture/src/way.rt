@@ -91,8 +91,8 @@ fn next_step(run: &[Footprint], order: &Analysis, i: usize, j: usize) -> Option<
 }
 
 /// The way from a step to a later one: the steps behind it, each with an edge from the one before. There is none where the
-/// one doesn't happen before the other.
-pub(crate) fn way(
+/// one doesn't happen before the other. An `Err` is for want of memory.
+pub fn way_to(
     alloc: Global,
     run: &[Footprint],
     order: &Analysis,

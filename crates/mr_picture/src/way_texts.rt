@@ -10,7 +10,7 @@ use crate::because::{because_of, because_word};
 use crate::lanes::push_thread_word;
 use crate::order::is_before;
 use crate::texts::{push, push_step_word};
-use crate::way::way;
+use crate::way::way_to;
 use mr_clocks::Analysis;
 use mr_event::thread_at;
 use mr_labels::push_number;
@@ -95,7 +95,7 @@ fn push_way(
     ensures { OnOk result (out.new.items ≡ out.old.items ++ (step_place (seen shown.now) i
         ++ step_stand (seen shown.now) i ++ way_lines (seen shown.now) i (way (seen shown.now).feet i j))) }
 {
-    let steps = way(alloc, shown.feet, order, i, j)?;
+    let steps = way_to(alloc, shown.feet, order, i, j)?;
     push_place(out, shown, i)?;
     push_stand(alloc, out, shown, i)?;
     push_lines(alloc, out, shown, i, steps.as_slice())

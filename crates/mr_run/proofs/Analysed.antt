@@ -3,10 +3,7 @@ use Rattle.std.proofs.Common.{◌≡◌, ℕ, zero, suc, ◌+◌, ◌-◌, ◌�
 use Rattle.std.proofs.Math.Seq.{take-append_seam}
 use Rattle.std.proofs.lemmas.List.{get_or_append_left}
 use Rattle.std.specs.Prelude.{MatchOption}
-use Rattle.mr_base.specs.declared.access.Access.{Access}
-use Rattle.mr_clocks.specs.declared.rows.Row.{Row}
-use Rattle.mr_clocks.specs.declared.rows.Link.{Link}
-use Rattle.mr_clocks.specs.Tracked.{Tracks}
+use Rattle.mr_clocks.specs.Tracked.{Seen, Tracks}
 use Rattle.mr_event.specs.Footprint.{Footprint}
 use Rattle.mr_event.specs.declared.footprint.Pair.{Pair}
 use Rattle.mr_event.specs.Order.{HasNoPartner, IsGreatestPartner, no_step}
@@ -67,17 +64,17 @@ none_predicted = refl
 -- ---- what is known
 
 -- of no step
-pub nothing_known : (steps : List Footprint) (order : List (List ℕ) × List ℕ × List ℕ × List Row × List Link × List (ℕ × ℕ × List Access)) (pairs : List Pair) → steps ≡ [] → Tracks order [] → pairs ≡ [] → AreAnalysed steps order pairs
+pub nothing_known : (steps : List Footprint) (order : Seen) (pairs : List Pair) → steps ≡ [] → Tracks order [] → pairs ≡ [] → AreAnalysed steps order pairs
 nothing_known steps order pairs none tracks no_pairs = record {
   tracks = subst (λ (l : List Footprint). Tracks order l) (sym none) tracks;
   races = no_pairs ∙ sym none_predicted ∙ ap predicted (sym none);
 }
 
 -- of the same steps as before
-pub known_still : (was now : List Footprint) (old new : List (List ℕ) × List ℕ × List ℕ × List Row × List Link × List (ℕ × ℕ × List Access)) (before after : List Pair) → now ≡ was → new ≡ old → after ≡ before
+pub known_still : (was now : List Footprint) (old new : Seen) (before after : List Pair) → now ≡ was → new ≡ old → after ≡ before
     → AreAnalysed was old before → AreAnalysed now new after
 known_still was now old new before after steps order races h = record {
-  tracks = subst (λ (l : List Footprint). Tracks new l) (sym steps) (subst (λ (a : List (List ℕ) × List ℕ × List ℕ × List Row × List Link × List (ℕ × ℕ × List Access)). Tracks a was) (sym order) h.tracks);
+  tracks = subst (λ (l : List Footprint). Tracks new l) (sym steps) (subst (λ (a : Seen). Tracks a was) (sym order) h.tracks);
   races = races ∙ h.races ∙ ap predicted (sym steps);
 }
 
@@ -93,7 +90,7 @@ module _ (was now : List Footprint) (f : Footprint) (is : now ≡ with_more was 
   taken_back left n count taken = taken ∙ ap (λ (k : ℕ). take (k - 1) now) count ∙ before_it
 
   -- of one step more
-  pub known_more : (order : List (List ℕ) × List ℕ × List ℕ × List Row × List Link × List (ℕ × ℕ × List Access)) (before after : List Pair) (o : Option ℕ) (n : ℕ) → before ≡ predicted was → n ≡ length now
+  pub known_more : (order : Seen) (before after : List Pair) (o : Option ℕ) (n : ℕ) → before ≡ predicted was → n ≡ length now
       → MatchOption o (HasNoPartner now (length now - 1)) (λ i. IsGreatestPartner now i (length now - 1)) → after ≡ before ++ pair_with o (n - 1) → Tracks order now → AreAnalysed now order after
   known_more order before after o n known count partner joined tracks = record {
     tracks = tracks;

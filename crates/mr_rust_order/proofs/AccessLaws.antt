@@ -8,9 +8,18 @@ use Rattle.std.proofs.lemmas.List.{get_or_append_left, get_or_push, length_push,
 use Rattle.std.proofs.lemmas.List.Elements.{Contains-append_left, Contains-push}
 use Rattle.std.proofs.lemmas.List.Folds.{Any-from_list_any, list_any_at}
 use Rattle.mr_base.specs.declared.access.Access.{Access}
-use Rattle.mr_base.specs.Accesses.{conflicts, overlaps, races, some_race}
+use Rattle.mr_base.specs.Accesses.{conflicts, overlaps, races, some_conflict, some_race}
 use Rattle.mr_rust_order.specs.Loads.{counts, is_load}
 use Rattle.mr_rust_order.specs.Order.{has_byte, is_atomic_load, is_atomic_store, is_plain_store, is_store}
+
+-- two lists have accesses that conflict
+pub conflict_found : (xs ys : List Access) → some_conflict xs ys ≡ true
+    → (a : Access) × Contains xs a × ((b : Access) × Contains ys b × (conflicts a b ≡ true))
+unfolding some_conflict
+conflict_found xs ys h =
+    let one = Any-from_list_any (λ (x : Access). list_any (conflicts x) ys) xs h in
+    let two = Any-from_list_any (conflicts one.1) ys one.4 in
+    (one.1, (one.0, one.2, one.3), (two.1, (two.0, two.2, two.3), two.4))
 
 -- two lists have accesses that race
 pub race_found : (xs ys : List Access) → some_race xs ys ≡ true → (a : Access) × Contains xs a × ((b : Access) × Contains ys b × (races a b ≡ true))

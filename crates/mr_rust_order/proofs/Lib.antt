@@ -4,9 +4,12 @@ pub mod ClockLaws
 pub mod Examples
 pub mod LoadLaws
 pub mod MarkLaws
+pub mod MemoLaws
 pub mod OneList
 pub mod OrderLaws
 pub mod PartnerLaws
+pub mod PlainLaws
 pub mod RowLaws
 pub mod StepLaws
+pub mod TestLaws
 pub mod TopLaws

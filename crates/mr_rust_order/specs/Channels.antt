@@ -1,6 +1,7 @@
--- Channels: clocks that steps send to threads, to locks and to those that join a thread. A later step of the thread, that
--- acquires the lock or that joins the thread, receives them.
-use Rattle.std.specs.Prelude.{◌≡◌, ◌≢◌, ℕ, ◌<◌, max, List, [], Bool, cond, ◌&&◌, ◌||◌, ◌==◌, IsTrue, slice_index, slice_index_or}
+-- Channels: clocks that steps send to threads, to locks and to those that join a thread. A later step of the thread,
+-- that acquires the lock or that joins the thread, receives them.
+use Rattle.std.specs.Prelude.{◌≡◌, ◌≢◌, ℕ, ◌<◌, max, List, [], Bool, cond, ◌&&◌, ◌||◌, ◌==◌, IsTrue}
+use Rattle.std.specs.Prelude.{slice_index, slice_index_or}
 use Rattle.mr_base.specs.declared.thread.Event.{Event}
 use Rattle.mr_base.specs.declared.thread.Event.TheVariants.{Acquire, Join}
 use Rattle.mr_event.specs.Footprint.{Footprint}
@@ -37,7 +38,8 @@ pub record IsSent (run : List Footprint) (n : ℕ) (sends : Footprint → ℕ �
   pub reached : Reaches run k step
 
 -- under the clock of each channel lies just what reaches one of the first n steps that send to it
-pub record AreChannels (run : List Footprint) (n : ℕ) (sends : Footprint → ℕ → Bool) (clocks : List (List ℕ)) : Type 0 where
+pub record AreChannels (run : List Footprint) (n : ℕ) (sends : Footprint → ℕ → Bool)
+    (clocks : List (List ℕ)) : Type 0 where
   pub only : (x k : ℕ) → IsUnder run (clock_at clocks x) k → IsSent run n sends x k
   pub all : (x k : ℕ) → IsSent run n sends x k → IsUnder run (clock_at clocks x) k
 

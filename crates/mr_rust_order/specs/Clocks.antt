@@ -1,5 +1,5 @@
--- Clocks: for each thread one more than the place of its latest step that a clock knows, or 0. What happens before a step
--- is closed along a thread, so one number for each thread is enough. (Lamport; FastTrack: vector clocks.)
+-- Clocks: for each thread one more than the place of its latest step that a clock knows, or 0. What happens before a
+-- step is closed along a thread, so one number for each thread is enough. (Lamport; FastTrack: vector clocks.)
 use Rattle.std.specs.Prelude.{◌≡◌, ℕ, ◌<◌, ◌≤◌, ◌⊎◌, max, List, slice_index}
 use Rattle.mr_event.specs.Footprint.{Footprint}
 use Rattle.mr_event.specs.Order.{thread_at}

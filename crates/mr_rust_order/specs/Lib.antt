@@ -1,8 +1,12 @@
 pub mod Channels
 pub mod Clocks
+pub mod Gaps
 pub mod Loads
 pub mod Marks
+pub mod Memos
 pub mod Order
 pub mod Partners
+pub mod Plain
 pub mod Rows
+pub mod Tests
 pub mod Tracked

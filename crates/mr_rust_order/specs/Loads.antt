@@ -23,7 +23,8 @@ is_load a = not a.store && a.atomic
 
 -- each row that conflicts with an access is listed
 abbrev pub AreMet : List Row → Access → List ℕ → Type 0
-AreMet rows access found = (x : ℕ) → x < length rows → IsTrue (conflicts (row_at rows x).range access) → IsListed found x
+AreMet rows access found =
+    (x : ℕ) → x < length rows → IsTrue (conflicts (row_at rows x).range access) → IsListed found x
 
 -- each row that stores to the byte is listed
 abbrev pub AreFoundAt : List Row → ℕ → List ℕ → Type 0
@@ -34,8 +35,10 @@ AreFoundAt rows byte found = (x : ℕ) → x < length rows → IsTrue (is_store 
 pub record IsLatestStore (rows : List Row) (byte x : ℕ) : Type 0 where
   pub within : x < length rows
   pub store : IsTrue (is_atomic_store (row_at rows x).range byte)
-  pub latest : (y : ℕ) → y < length rows → IsTrue (is_store (row_at rows y).range byte) → (row_at rows y).last ≤ (row_at rows x).last
-  pub atomic : (y : ℕ) → y < length rows → IsTrue (is_plain_store (row_at rows y).range byte) → (row_at rows y).last < (row_at rows x).last
+  pub latest : (y : ℕ) → y < length rows → IsTrue (is_store (row_at rows y).range byte)
+      → (row_at rows y).last ≤ (row_at rows x).last
+  pub atomic : (y : ℕ) → y < length rows → IsTrue (is_plain_store (row_at rows y).range byte)
+      → (row_at rows y).last < (row_at rows x).last
 
 -- the row has the latest store to some byte that an access loads atomically
 abbrev pub IsLoadedBy : List Row → ℕ → Access → Type 0

@@ -1,7 +1,8 @@
--- Where the rows of a run are marked, so that those whose ranges conflict with an access can be found. A range is marked
--- where it begins, on a shelf for ranges that are not longer than its width: so the ranges of a shelf that have an
--- address in common with an access begin at most the width before it.
-use Rattle.std.specs.Prelude.{◌≡◌, ℕ, ◌<◌, ◌≤◌, ◌⊎◌, ◌^◌, List, length, slice_index, slice_index_or, Bool, false, IsTrue}
+-- Where the rows of a run are marked, so that those whose ranges conflict with an access can be found. A range is
+-- marked where it begins, on a shelf for ranges that are not longer than its width: so the ranges of a shelf that
+-- have an address in common with an access begin at most the width before it.
+use Rattle.std.specs.Prelude.{◌≡◌, ℕ, ◌<◌, ◌≤◌, ◌⊎◌, ◌^◌, List, length, Bool, false, IsTrue}
+use Rattle.std.specs.Prelude.{slice_index, slice_index_or}
 use Rattle.std.specs.BTreeMap.{is_at}
 use Rattle.std.specs.List.{list_any}
 use Rattle.std.specs.Ordering.{nat_cmp, ordering_then}

@@ -2,7 +2,8 @@
 -- memory model for atomic accesses, and reference, behavior considered undefined; C++20, [intro.races]. Every atomic
 -- access is sequentially consistent.) A run is the list of the footprints of its steps; a step is named by its place in
 -- the run, counted from 0.
-use Rattle.std.specs.Prelude.{◌≡◌, ◌≢◌, ℕ, ◌+◌, ◌<◌, List, length, Bool, false, not, ◌&&◌, ◌==◌, nat_le, nat_lt, IsTrue, All, Any, AllPairs}
+use Rattle.std.specs.Prelude.{◌≡◌, ◌≢◌, ℕ, ◌+◌, ◌<◌, List, length, Bool, false, not, ◌&&◌, ◌==◌, nat_le, nat_lt}
+use Rattle.std.specs.Prelude.{IsTrue, All, Any, AllPairs}
 use Rattle.std.specs.List.{Contains}
 use Rattle.mr_base.specs.Accesses.{some_race}
 use Rattle.mr_base.specs.declared.access.Access.{Access}
@@ -39,8 +40,8 @@ is_atomic_load a byte = not a.store && a.atomic && has_byte a byte
 abbrev pub Makes : (Access → ℕ → Bool) → Footprint → ℕ → Type 0
 Makes test f byte = (a : Access) × Contains f.accesses a × IsTrue (test a byte)
 
--- Step j loads a byte atomically, and reads what step i stored: i is the last step before j that stores to the byte, and
--- it does so by atomic stores alone.
+-- Step j loads a byte atomically, and reads what step i stored: i is the last step before j that stores to the byte,
+-- and it does so by atomic stores alone.
 pub record IsReadBy (run : List Footprint) (i j byte : ℕ) : Type 0 where
   pub before : i < j
   pub load : Makes is_atomic_load (step_at run j) byte
@@ -48,12 +49,13 @@ pub record IsReadBy (run : List Footprint) (i j byte : ℕ) : Type 0 where
   pub atomic : ¬ Makes is_plain_store (step_at run i) byte
   pub last : (k : ℕ) → i < k → k < j → ¬ Makes is_store (step_at run k) byte
 
--- Step i comes right before a later step j: both are of one thread; i woke or started j's thread; i releases a lock that
--- j acquires, or tries to; i ended a thread that j joins; or j reads a byte atomically that i stored.
+-- Step i comes right before a later step j: both are of one thread; i woke or started j's thread; i releases a lock
+-- that j acquires, or tries to; i ended a thread that j joins; or j reads a byte atomically that i stored.
 pub data Edge (run : List Footprint) (i j : ℕ) : Type 0 where
   in_thread : i < j → thread_at run i ≡ thread_at run j → Edge run i j
   started : i < j → IsTrue (wakes (step_at run i) (thread_at run j)) → Edge run i j
-  handed_over : (lock : ℕ) → i < j → IsTrue (releases (step_at run i).event lock) → (step_at run j).event ≡ Acquire lock → Edge run i j
+  handed_over : (lock : ℕ) → i < j → IsTrue (releases (step_at run i).event lock)
+      → (step_at run j).event ≡ Acquire lock → Edge run i j
   joined : i < j → IsTrue (step_at run i).ended → (step_at run j).event ≡ Join (thread_at run i) → Edge run i j
   stored : (byte : ℕ) → IsReadBy run i j byte → Edge run i j
 
@@ -90,7 +92,8 @@ pub record AreRacesBelow (run : List Footprint) (n : ℕ) (pairs : List Pair) : 
 abbrev pub AreRaces : List Footprint → List Pair → Type 0
 AreRaces run pairs = AreRacesBelow run (length run) pairs
 
--- A release sequence on a byte: a step that stores to it, and updates of the byte, each of which reads the one before it.
+-- A release sequence on a byte: a step that stores to it, and updates of the byte, each of which reads the one before
+-- it.
 pub data IsInSequence (run : List Footprint) (byte head : ℕ) : ℕ → Type 0 where
   first : IsInSequence run byte head head
   update : {u v : ℕ} → IsInSequence run byte head u → IsReadBy run u v byte → IsInSequence run byte head v

@@ -14,7 +14,8 @@ is_partner thread access clock row =
 
 -- the row at a place is a partner of a step of a thread, by one of the step's accesses
 abbrev pub IsPartnerBy : List Row → List Access → ℕ → List ℕ → ℕ → Type 0
-IsPartnerBy rows accesses thread clock x = (a : Access) × Contains accesses a × Passes rows (is_partner thread a clock) x
+IsPartnerBy rows accesses thread clock x =
+    (a : Access) × Contains accesses a × Passes rows (is_partner thread a clock) x
 
 abbrev pub IsPartner : List Row → Footprint → List ℕ → ℕ → Type 0
 IsPartner rows f clock x = IsPartnerBy rows f.accesses f.thread clock x

@@ -1,6 +1,7 @@
 -- The rows of a run: for each range, kind and thread the latest step of the thread that made this access, and for an
 -- atomic store the clock behind that step. Nothing is split: accesses that overlap have rows of their own.
-use Rattle.std.specs.Prelude.{◌≡◌, ℕ, ◌+◌, ◌<◌, ◌≤◌, ◌^◌, ◌⊎◌, List, [], length, slice_index_or, Bool, false, ◌&&◌, IsTrue}
+use Rattle.std.specs.Prelude.{◌≡◌, ℕ, ◌+◌, ◌<◌, ◌≤◌, ◌^◌, ◌⊎◌, List, [], length, Bool, false, ◌&&◌, IsTrue}
+use Rattle.std.specs.Prelude.{slice_index_or}
 use Rattle.std.specs.List.{Contains}
 use Rattle.mr_base.specs.declared.access.Access.{Access}
 use Rattle.mr_event.specs.Footprint.{Footprint}
@@ -10,7 +11,8 @@ use Rattle.mr_rust_order.specs.Clocks.{IsClockBehind}
 
 -- what stands past the end of the rows
 abbrev pub no_row : Row
-no_row = record { range = record { store = false; atomic = false; addr = 0; len = 0 }; thread = 0; last = 0; clock = [] }
+no_row =
+    record { range = record { store = false; atomic = false; addr = 0; len = 0 }; thread = 0; last = 0; clock = [] }
 
 abbrev pub row_at : List Row → ℕ → Row
 row_at rows x = slice_index_or rows x no_row
@@ -61,7 +63,8 @@ IsOldOrPut old accesses thread j clock x row =
 
 -- A step j noted accesses of its own: each row is as it was, or put in for one of them; each old row stands where it
 -- stood, of its range and thread; and each of the accesses has a row with j.
-pub record AreNoted (old : List Row) (accesses : List Access) (thread j : ℕ) (clock : List ℕ) (new : List Row) : Type 0 where
+pub record AreNoted (old : List Row) (accesses : List Access) (thread j : ℕ) (clock : List ℕ)
+    (new : List Row) : Type 0 where
   pub longer : length old ≤ length new
   pub each : (x : ℕ) → x < length new → IsOldOrPut old accesses thread j clock x (row_at new x)
   pub kept : (x : ℕ) → x < length old → IsRowFor new x (row_at old x).range (row_at old x).thread

@@ -5,6 +5,7 @@ ghost use Rattle.mr_event.specs.Order.{step_at};
 ghost use Rattle.mr_rust_order.specs.Channels.{AreChannels, IsThreadClock, to_joiners, to_lock};
 ghost use Rattle.mr_rust_order.specs.Clocks.{IsClockBefore, IsRaised};
 ghost use Rattle.mr_rust_order.specs.Marks.{AreMarked};
+ghost use Rattle.mr_rust_order.specs.Memos.{AreMemos};
 ghost use Rattle.mr_rust_order.specs.Rows.{AreRows};
 
 use crate::channels::{
@@ -13,6 +14,7 @@ use crate::channels::{
 use crate::clock::Clock;
 use crate::index::Index;
 use crate::loads::read_all;
+use crate::memos::{MEMOS, Memo, no_memos};
 use crate::partners::partner_of;
 use crate::rows::{Row, note_all};
 use mr_event::{Footprint, OutOfMemory, thread_at};
@@ -36,7 +38,7 @@ fn receive_all(
     ended: &[Clock],
     index: &Index,
     rows: &[Row],
-    found: &mut Vec<usize>,
+    memos: &mut Vec<Memo>,
     clock: &mut Clock,
 ) -> Result<(), OutOfMemory>
     requires within { j < length run.now }
@@ -45,12 +47,14 @@ fn receive_all(
     requires ended { AreChannels run.now j to_joiners ended.now }
     requires rows { AreRows run.now j rows.now }
     requires marked { AreMarked index.now.shelves.items index.now.marks.keys rows.now }
+    requires memos { AreMemos rows.now memos.old.items }
+    ensures memos { OnOk result (AreMemos rows.now memos.new.items) }
     ensures before { OnOk result (IsClockBefore run.now clock.new j) }
     ensures raised { OnOk result (IsRaised clock.old clock.new) }
 {
     let step = step_of(run, j);
     receive_event(step.event(), locks, ended, clock)?;
-    read_all(index, rows, step, found, clock)
+    read_all(index, rows, step, memos, clock)
 }
 
 /// What is known of the steps of a run so far: the clocks that they sent, and their rows.
@@ -62,7 +66,7 @@ pub struct Analysis {
     ended: Vec<Clock>,
     index: Index,
     rows: Vec<Row>,
-    found: Vec<usize>,
+    memos: Vec<Memo>,
 }
 
 impl Analysis {
@@ -72,10 +76,12 @@ impl Analysis {
     ghost use Rattle.mr_rust_order.specs.Tracked.{Tracks};
 
     /// The analysis of no step.
-    pub fn new(alloc: Global) -> Analysis
-        ensures { (run : List Footprint) → Tracks run 0 result }
+    pub fn new(alloc: Global) -> Result<Analysis, OutOfMemory>
+        ensures { IfOk result (λ a. (run : List Footprint) → Tracks run 0 a) }
     {
-        Analysis {
+        let places = vec![in alloc; 0; MEMOS]?;
+        let memos = no_memos(alloc)?;
+        Ok(Analysis {
             alloc,
             threads: Vec::new(alloc),
             locks: Vec::new(alloc),
@@ -83,14 +89,15 @@ impl Analysis {
             index: Index {
                 shelves: Vec::new(alloc),
                 marks: BTreeSet::new(alloc),
+                places,
             },
             rows: Vec::new(alloc),
-            found: Vec::new(alloc),
-        }
+            memos,
+        })
     }
 
-    /// Adds step `j` of a run, all of whose earlier steps are known, and gives the greatest earlier step that has a race
-    /// with it. After an `Err` it is to be let go.
+    /// Adds step `j` of a run, all of whose earlier steps are known, and gives the greatest earlier step that has a
+    /// race with it. After an `Err` it is to be let go.
     pub fn add(&mut self, run: &[Footprint], j: usize) -> Result<Option<usize>, OutOfMemory>
         requires within { j < length run.now }
         requires tracks { Tracks run.now j self.old }
@@ -108,7 +115,7 @@ impl Analysis {
             self.ended.as_slice(),
             &self.index,
             self.rows.as_slice(),
-            &mut self.found,
+            &mut self.memos,
             &mut clock,
         )?;
         let race = partner_of(
@@ -116,7 +123,7 @@ impl Analysis {
             self.rows.as_slice(),
             step,
             &clock,
-            &mut self.found,
+            &mut self.memos,
         )?;
         clock.raise(thread, j + 1)?;
         send_threads(alloc, &mut self.threads, step, &clock)?;
@@ -136,7 +143,7 @@ impl Analysis {
     {
         let mut clock = Clock::new(self.alloc);
         receive(self.threads.as_slice(), thread_at(run, j), &mut clock)?;
-        let mut found = Vec::new(self.alloc);
+        let mut memos = no_memos(self.alloc)?;
         receive_all(
             run,
             j,
@@ -144,7 +151,7 @@ impl Analysis {
             self.ended.as_slice(),
             &self.index,
             self.rows.as_slice(),
-            &mut found,
+            &mut memos,
             &mut clock,
         )?;
         Ok(i < clock.at(thread_at(run, i)))

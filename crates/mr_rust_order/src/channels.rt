@@ -79,7 +79,8 @@ fn send_woken(
     woken: &[u32],
     clock: &Clock,
 ) -> Result<(), OutOfMemory>
-    ensures { OnOk result (AreSent threads.old.items clock.now (λ y. list_any (λ t. t == y) woken.now) threads.new.items) }
+    ensures { OnOk result
+        (AreSent threads.old.items clock.now (λ y. list_any (λ t. t == y) woken.now) threads.new.items) }
 {
     for i in 0..woken.len() {
         send(alloc, threads, woken[i], clock)?;
@@ -155,6 +156,13 @@ pub(crate) fn send_lock(
     }
 }
 
+// Whether a step ended its thread, so that those that join it go on.
+fn is_over(step: &Footprint) -> bool
+    ensures { result ≡ step.now.ended }
+{
+    step.ended()
+}
+
 /// Raises the clock that the joiners of a step's thread receive, where the step ended it.
 pub(crate) fn send_ended(
     alloc: Global,
@@ -164,8 +172,7 @@ pub(crate) fn send_ended(
 ) -> Result<(), OutOfMemory>
     ensures { OnOk result (AreSent ended.old.items clock.now (to_joiners step.now) ended.new.items) }
 {
-    let is_over = step.ended();
-    if !is_over {
+    if !is_over(step) {
         return Ok(());
     }
     send(alloc, ended, step.thread(), clock)

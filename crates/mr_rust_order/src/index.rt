@@ -5,9 +5,11 @@ ghost use Rattle.std.specs.Prelude.{◌≡◌, ℕ, ◌<◌, ◌≤◌, ◌^◌,
 ghost use Rattle.mr_base.specs.Accesses.{conflicts};
 ghost use Rattle.mr_base.specs.declared.access.Access.{Access};
 ghost use Rattle.mr_rust_order.specs.declared.index.Mark.{Mark};
-ghost use Rattle.mr_rust_order.specs.Marks.{AreKept, AreMarked, IsListed, IsMarked, IsOnShelf, IsPlaceFor, has_mark, mark_of, shelf_at};
+ghost use Rattle.mr_rust_order.specs.Marks.{AreKept, AreMarked, IsListed, IsMarked, IsOnShelf, IsPlaceFor};
+ghost use Rattle.mr_rust_order.specs.Marks.{has_mark, mark_of, shelf_at};
 ghost use Rattle.mr_rust_order.specs.Rows.{IsRowFor, row_at as is_row_at};
 
+use crate::memos::spread;
 use crate::rows::{Row, row_at};
 use mr_base::Access;
 use mr_event::OutOfMemory;
@@ -29,11 +31,13 @@ pub struct Shelf {
     pub stores: bool,
 }
 
-/// The shelves, and the marks of the rows. The marks of a shelf have its place for a number.
+/// The shelves, and the marks of the rows. The marks of a shelf have its place for a number. And places of late rows,
+/// each to be looked at before it is believed.
 #[derive(Drop)]
 pub struct Index {
     pub shelves: Vec<Shelf>,
     pub marks: BTreeSet<Mark>,
+    pub places: Vec<usize>,
 }
 
 // The width of the shelf of the ranges of a length.
@@ -244,6 +248,34 @@ fn mark_row(
     Ok(())
 }
 
+// The row that was found last for a slot, if it is of this range and thread.
+fn late_row(
+    places: &[usize],
+    slot: usize,
+    rows: &[Row],
+    range: Access,
+    thread: u32,
+) -> Option<usize>
+    ensures { IfSome result (λ x. IsRowFor rows.now x range thread) }
+{
+    if slot >= places.len() {
+        return None;
+    }
+    let x = places[slot];
+    if is_row_for(rows, x, range, thread) {
+        Some(x)
+    } else {
+        None
+    }
+}
+
+// Keeps the row that was found last for a slot.
+fn keep_place(places: &mut Vec<usize>, slot: usize, x: usize) {
+    if slot < places.len() {
+        places[slot] = x;
+    }
+}
+
 /// The place of the row of a range and a thread; if there is none, the place behind all rows, which is marked for it.
 pub(crate) fn place_for(
     index: &mut Index,
@@ -255,8 +287,13 @@ pub(crate) fn place_for(
     ensures marked { OnOk result (AreMarked index.new.shelves.items index.new.marks.keys rows.now) }
     ensures place { IfOk result (λ x. IsPlaceFor index.new.shelves.items index.new.marks.keys rows.now range thread x) }
 {
+    let slot = spread(range.addr, u64::from(thread));
+    if let Some(x) = late_row(index.places.as_slice(), slot, rows, range, thread) {
+        return Ok(x);
+    }
     let shelf = use_shelf(&mut index.shelves, range)?;
     if let Some(x) = row_for(&index.marks, rows, shelf, range, thread) {
+        keep_place(&mut index.places, slot, x);
         return Ok(x);
     }
     let row = rows.len();

@@ -1,13 +1,16 @@
 //! Which atomic stores an atomic load reads, byte by byte, by the rows. (C++20, [intro.races].)
 
 ghost use Rattle.std.specs.Prelude.{◌≡◌, ℕ, ◌+◌, ◌<◌, ◌≤◌, ◌^◌, IsTrue, OnOk, length};
-ghost use Rattle.mr_rust_order.specs.Loads.{AreFoundAt, AreJoined, AreMet, IsLatestStore, IsLoadedBy, IsReadOf, is_load as is_a_load, counts as does_count, takes as does_take};
+ghost use Rattle.mr_rust_order.specs.Loads.{AreFoundAt, AreJoined, AreMet, IsLatestStore, IsLoadedBy, IsReadOf};
+ghost use Rattle.mr_rust_order.specs.Loads.{counts as does_count, is_load as is_a_load, takes as does_take};
 ghost use Rattle.mr_rust_order.specs.Marks.{AreMarked, IsListed};
+ghost use Rattle.mr_rust_order.specs.Memos.{AreMemos};
 ghost use Rattle.mr_rust_order.specs.Order.{has_byte as has_the_byte};
 ghost use Rattle.mr_rust_order.specs.Rows.{AreShort, IsTop, IsTopWith, Passes, row_at as is_row_at};
 
 use crate::clock::Clock;
-use crate::index::{Index, find_rows};
+use crate::index::Index;
+use crate::memos::{Memo, memo_at, rows_met};
 use crate::rows::{Row, row_at};
 use mr_base::Access;
 use mr_event::{Footprint, OutOfMemory};
@@ -196,18 +199,21 @@ fn read_access(
     index: &Index,
     rows: &[Row],
     access: Access,
-    found: &mut Vec<usize>,
+    memos: &mut Vec<Memo>,
     clock: &mut Clock,
 ) -> Result<(), OutOfMemory>
     requires short { AreShort rows.now }
     requires marked { AreMarked index.now.shelves.items index.now.marks.keys rows.now }
-    ensures { OnOk result (AreJoined rows.now (λ x. IsLoadedBy rows.now x access) clock.old clock.new) }
+    requires memos { AreMemos rows.now memos.old.items }
+    ensures memos { OnOk result (AreMemos rows.now memos.new.items) }
+    ensures joined { OnOk result (AreJoined rows.now (λ x. IsLoadedBy rows.now x access) clock.old clock.new) }
 {
     if !is_load(access) {
         return Ok(());
     }
-    find_rows(index, access, found)?;
-    read_bytes(rows, found.as_slice(), access, clock)
+    let slot = rows_met(index, rows, memos, access)?;
+    let memo = memo_at(memos.as_slice(), slot);
+    read_bytes(rows, memo.found.as_slice(), access, clock)
 }
 
 /// Raises a clock to those of the steps whose atomic stores a step reads.
@@ -215,16 +221,18 @@ pub(crate) fn read_all(
     index: &Index,
     rows: &[Row],
     step: &Footprint,
-    found: &mut Vec<usize>,
+    memos: &mut Vec<Memo>,
     clock: &mut Clock,
 ) -> Result<(), OutOfMemory>
     requires short { AreShort rows.now }
     requires marked { AreMarked index.now.shelves.items index.now.marks.keys rows.now }
-    ensures { OnOk result (AreJoined rows.now (IsReadOf rows.now step.now.accesses) clock.old clock.new) }
+    requires memos { AreMemos rows.now memos.old.items }
+    ensures memos { OnOk result (AreMemos rows.now memos.new.items) }
+    ensures joined { OnOk result (AreJoined rows.now (IsReadOf rows.now step.now.accesses) clock.old clock.new) }
 {
     let accesses = step.accesses();
     for y in 0..accesses.len() {
-        read_access(index, rows, accesses[y], found, clock)?;
+        read_access(index, rows, accesses[y], memos, clock)?;
     }
     Ok(())
 }

@@ -1,14 +1,17 @@
 //! The latest earlier step that races with a step and isn't known to its clock, by the rows.
 
-ghost use Rattle.std.specs.Prelude.{◌≡◌, ℕ, ◌<◌, IfOk, MatchOption};
+ghost use Rattle.std.specs.Prelude.{◌≡◌, ℕ, ◌<◌, IfOk, MatchOption, OnOk};
 ghost use Rattle.mr_base.specs.Accesses.{races as do_race};
 ghost use Rattle.mr_rust_order.specs.Loads.{AreMet};
 ghost use Rattle.mr_rust_order.specs.Marks.{AreMarked};
-ghost use Rattle.mr_rust_order.specs.Partners.{HasNoPartner, IsGreatestPartner, IsPartnerBy, is_partner as is_a_partner};
+ghost use Rattle.mr_rust_order.specs.Memos.{AreMemos};
+ghost use Rattle.mr_rust_order.specs.Partners.{HasNoPartner, IsGreatestPartner, IsPartnerBy};
+ghost use Rattle.mr_rust_order.specs.Partners.{is_partner as is_a_partner};
 ghost use Rattle.mr_rust_order.specs.Rows.{AreShort, IsTop, IsTopWith, Passes};
 
 use crate::clock::Clock;
-use crate::index::{Index, find_rows};
+use crate::index::Index;
+use crate::memos::{Memo, memo_at, rows_met};
 use crate::rows::{Row, row_at};
 use mr_base::{Access, ranges_meet};
 use mr_event::{Footprint, OutOfMemory};
@@ -61,36 +64,48 @@ fn best_of(
     rows: &[Row],
     step: &Footprint,
     clock: &Clock,
-    found: &mut Vec<usize>,
+    memos: &mut Vec<Memo>,
 ) -> Result<usize, OutOfMemory>
     requires short { AreShort rows.now }
     requires marked { AreMarked index.now.shelves.items index.now.marks.keys rows.now }
-    ensures { IfOk result (λ n. IsTop rows.now (IsPartnerBy rows.now step.now.accesses step.now.thread clock.now) n) }
+    requires memos { AreMemos rows.now memos.old.items }
+    ensures memos { OnOk result (AreMemos rows.now memos.new.items) }
+    ensures top { IfOk result
+        (λ n. IsTop rows.now (IsPartnerBy rows.now step.now.accesses step.now.thread clock.now) n) }
 {
     let accesses = step.accesses();
     let mut best: usize = 0;
     for y in 0..accesses.len() {
-        find_rows(index, accesses[y], found)?;
-        best = best.max(best_by(rows, found.as_slice(), step.thread(), accesses[y], clock));
+        let slot = rows_met(index, rows, memos, accesses[y])?;
+        let memo = memo_at(memos.as_slice(), slot);
+        best = best.max(best_by(
+            rows,
+            memo.found.as_slice(),
+            step.thread(),
+            accesses[y],
+            clock,
+        ));
     }
     Ok(best)
 }
 
-/// The greatest step of the rows that are partners of a step, whose clock is known: of another thread, with an access that
-/// races, and not under the clock.
+/// The greatest step of the rows that are partners of a step, whose clock is known: of another thread, with an access
+/// that races, and not under the clock.
 pub(crate) fn partner_of(
     index: &Index,
     rows: &[Row],
     step: &Footprint,
     clock: &Clock,
-    found: &mut Vec<usize>,
+    memos: &mut Vec<Memo>,
 ) -> Result<Option<usize>, OutOfMemory>
     requires short { AreShort rows.now }
     requires marked { AreMarked index.now.shelves.items index.now.marks.keys rows.now }
-    ensures { IfOk result (λ o. MatchOption o (HasNoPartner rows.now step.now clock.now)
+    requires memos { AreMemos rows.now memos.old.items }
+    ensures memos { OnOk result (AreMemos rows.now memos.new.items) }
+    ensures partner { IfOk result (λ o. MatchOption o (HasNoPartner rows.now step.now clock.now)
         (λ i. IsGreatestPartner rows.now step.now clock.now i)) }
 {
-    let best = best_of(index, rows, step, clock, found)?;
+    let best = best_of(index, rows, step, clock, memos)?;
     if best == 0 {
         return Ok(None);
     }

@@ -1,4 +1,5 @@
-//! Rows: for each range, kind and thread the latest step of the thread that made this access. (FastTrack: shadow memory.)
+//! Rows: for each range, kind and thread the latest step of the thread that made this access. (FastTrack: shadow
+//! memory.)
 
 ghost use Rattle.std.specs.Prelude.{◌≡◌, ◌∷◌, [], ◌<◌, IfOk, IsTrue, OnOk, length};
 ghost use Rattle.mr_rust_order.specs.Marks.{AreMarked};

@@ -21,8 +21,8 @@ module _ (files : Contents) (files_rose out_rose : Type 0) (old new : Option (Li
   written_ends (Shown saying program schedule) a (inr (rose, inr (asks, e))) written = absurd (cc)
   written_ends (Hunted range seek name program) a (inl tells) written = inr (seen a, inl tells, written)
   written_ends (Hunted range seek name program) a (inr (rose, e)) written = absurd (cc)
-  written_ends (Bare span trace) a (inl tells) written = inr (seen a, inl tells, written)
-  written_ends (Bare span trace) a (inr (rose, e)) written = absurd (cc)
+  written_ends (Bare alone trace) a (inl tells) written = inr (seen a, inl tells, written)
+  written_ends (Bare alone trace) a (inr (rose, e)) written = absurd (cc)
   written_ends (CheckedProgram name program) a (inl tells) written = inr (seen a, inl tells, written)
   written_ends (CheckedProgram name program) a (inr (rose, e)) written = absurd (cc)
   written_ends (CheckedSchedule name title program schedule) a (inl tells) written = inr (seen a, inl tells, written)
@@ -44,10 +44,10 @@ module _ (files : Contents) (files_rose out_rose : Type 0) (old new : Option (Li
       elim (refusal_told (answer_of files (Some (Hunted range seek name program))) r tells)
       [ inl e ↦ inl e | inr e ↦ inr (inl (sym e)) ]
   is_defined (Hunted range seek name program) r (inr (rose, e)) = inr (inr (rose, ap refused (same_refusal e)))
-  is_defined (Bare span trace) r (inl tells) =
-      elim (refusal_told (answer_of files (Some (Bare span trace))) r tells)
+  is_defined (Bare alone trace) r (inl tells) =
+      elim (refusal_told (answer_of files (Some (Bare alone trace))) r tells)
       [ inl e ↦ inl e | inr e ↦ inr (inl (sym e)) ]
-  is_defined (Bare span trace) r (inr (rose, e)) = inr (inr (rose, ap refused (same_refusal e)))
+  is_defined (Bare alone trace) r (inr (rose, e)) = inr (inr (rose, ap refused (same_refusal e)))
   is_defined (CheckedProgram name program) r (inl tells) =
       elim (refusal_told (answer_of files (Some (CheckedProgram name program))) r tells)
       [ inl e ↦ inl e | inr e ↦ inr (inl (sym e)) ]

@@ -6,7 +6,6 @@ use Rattle.std.specs.Prelude.{◌&&◌, nat_le, nat_lt, bytes_eq, codes, take, i
 use Rattle.std.specs.Prelude.{Result}
 use Rattle.mr_trace.specs.Reading.{trace_of, Place}
 use Rattle.mr_event.specs.Footprint.{Footprint}
-use Rattle.mr_picture.specs.declared.span.Span.{Span}
 use Rattle.mr_input.specs.declared.refusal.Refusal.{Refusal}
 use Rattle.mr_input.specs.declared.refusal.Refusal.TheVariants as refusal
 use Rattle.mr_input.specs.declared.written.Written.{Written}
@@ -16,17 +15,17 @@ use Rattle.mr_traced.specs.declared.refusal.PlacesFault.TheVariants.{TooLong}
 use Rattle.mr_traced.specs.declared.refusal.Untold.{Untold}
 use Rattle.mr_traced.specs.declared.refusal.Untold.TheVariants as untold
 use Rattle.mr_traced.specs.declared.telling.Told.{Told}
-use Rattle.mr_traced.specs.Answers.{Tells as AreTold}
+use Rattle.mr_traced.specs.Answers.{Tells as AreTold, TellsBy}
 use Rattle.mr_traced.specs.Places.{named_of}
 use Rattle.mr_traced.specs.Seen.{Seen, run_in, seen_bare, seen_in}
+use Rattle.mr_show.specs.declared.form.Alone.{Alone}
 use Rattle.mr_show.specs.declared.form.Saying.{Saying}
 use Rattle.mr_show.specs.declared.form.Telling.{Telling}
-use Rattle.mr_show.specs.declared.form.Telling.TheVariants as telling
 use Rattle.mr_show.specs.Answer.{bytes_answer, file_answer, program_answer, shown_answer, text_answer}
 use Rattle.mr_show.specs.Answering.{IsBare, IsOfBytes, IsOfFile, IsOfFiles, IsOfText}
 use Rattle.mr_show.specs.Second.{HoldsTrace}
-use Rattle.mr_show.specs.Traced.{IsTextOf, bare_answer, holds_trace, placed_answer, places_answer, seen_answer}
-use Rattle.mr_show.specs.Traced.{status_of}
+use Rattle.mr_show.specs.Traced.{IsTextOf, alone_telling, bare_answer, count_of, holds_trace, placed_answer}
+use Rattle.mr_show.specs.Traced.{places_answer, seen_answer, status_of}
 use Rattle.mr_show.specs.Traced.{telling_of, telling_text, text_placed}
 
 -- ---- what is told of a trace
@@ -44,7 +43,8 @@ abbrev pub answer_with : List ℕ → ℕ → Answer
 answer_with text status = record { text = text; status = status }
 
 -- the text and its status are those that are defined
-pub told_so : (what : Telling) (told : Told) (defined : Result Seen Untold) → AreTold (IsTextOf what) (Ok told) defined
+pub told_so : (what : Telling) (told : Told) (defined : Result Seen Untold)
+    → TellsBy (count_of what) (IsTextOf what) (Ok told) defined
     → answer_with told.text.items (status_of told.races) ≡ seen_answer what defined
 told_so what told defined (s, is, text, races) =
     ap₂ (λ (t : List ℕ) (n : ℕ). answer_with t (status_of n)) text races
@@ -56,16 +56,16 @@ long_trace : (bytes : List ℕ) → 2 ^ 28 < length bytes → trace_of bytes ≡
 unfolding trace_of
 long_trace bytes h = rw (less (2 ^ 28) (length bytes) h) refl
 
-long_seen : (span : Span) (bytes : List ℕ) → 2 ^ 28 < length bytes
-    → bare_answer span (Some bytes) ≡ refused (refusal.Trace 0 74)
+long_seen : (alone : Alone) (bytes : List ℕ) → 2 ^ 28 < length bytes
+    → bare_answer alone (Some bytes) ≡ refused (refusal.Trace 0 74)
 unfolding seen_bare
-long_seen span bytes h =
-    ap (λ (r : Result (List Footprint) Place). seen_answer (telling.Steps span.from span.to) (seen_bare (run_in r)))
+long_seen alone bytes h =
+    ap (λ (r : Result (List Footprint) Place). seen_answer (alone_telling alone) (seen_bare (run_in r)))
     (long_trace bytes h)
 
-pub long_bare : (span : Span) (file : Option (List ℕ)) (bytes : List ℕ) → file ≡ Some bytes → 2 ^ 28 < length bytes
-    → bare_answer span file ≡ refused (refusal.Trace 0 74)
-long_bare span file bytes there h = ap (bare_answer span) there ∙ long_seen span bytes h
+pub long_bare : (alone : Alone) (file : Option (List ℕ)) (bytes : List ℕ) → file ≡ Some bytes → 2 ^ 28 < length bytes
+    → bare_answer alone file ≡ refused (refusal.Trace 0 74)
+long_bare alone file bytes there h = ap (bare_answer alone) there ∙ long_seen alone bytes h
 
 -- places that are
 pub at_least : (m n : ℕ) → n ≤ m → nat_lt m n ≡ false

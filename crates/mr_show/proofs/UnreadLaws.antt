@@ -25,16 +25,17 @@ use Rattle.mr_fill.specs.declared.told.FilledText.{FilledText}
 use Rattle.mr_listing.specs.Seen.{Seen}
 use Rattle.mr_base.specs.declared.reached.Reached.{Reached}
 use Rattle.mr_replay.specs.Spoken.{spoken_of}
+use Rattle.mr_show.specs.declared.form.Alone.{Alone}
 use Rattle.mr_show.specs.declared.form.Part.{Part}
 use Rattle.mr_show.specs.declared.form.Saying.{Saying}
 use Rattle.mr_show.specs.declared.form.Saying.TheVariants.{Next, OfOrder, OfRun}
 use Rattle.mr_show.specs.declared.form.Filling.{Filling}
 use Rattle.mr_show.specs.Answer.{answer_of, answer_under, bytes_answer, next_under, part_answer, program_answer}
-use Rattle.mr_show.specs.Answer.{ran_under}
+use Rattle.mr_show.specs.Answer.{ran_under, rust_of}
 use Rattle.mr_show.specs.Answer.{run_seen, shown_answer, text_answer, usage, why_answer}
 use Rattle.mr_show.specs.Filled.{filled_answer, unless_bad}
 use Rattle.mr_show.specs.Next.{next_from, reached_answer}
-use Rattle.mr_hunt.specs.Aims.{first_met}
+use Rattle.mr_hunt.specs.Aims.{Aim, first_met}
 use Rattle.mr_show.specs.Seek.{Drawn, First, Seek, Ends as AllEnds}
 use Rattle.mr_show.specs.declared.form.Range.{Range}
 use Rattle.mr_show.specs.Gathered.{laid_in}
@@ -46,14 +47,14 @@ use Rattle.mr_traced.specs.declared.refusal.Untold.{Untold}
 use Rattle.mr_traced.specs.declared.refusal.Untold.TheVariants as untold
 use Rattle.mr_traced.specs.Places.{named_of}
 use Rattle.mr_traced.specs.Seen.{Seen as TraceSeen, run_in, seen_bare, seen_in}
-use Rattle.mr_picture.specs.declared.span.Span.{Span}
 use Rattle.mr_show.specs.declared.form.Telling.{Telling}
-use Rattle.mr_show.specs.declared.form.Telling.TheVariants.{Steps}
 use Rattle.mr_why.specs.Why.{Entry, entry_of}
 use Rattle.mr_show.specs.Form.{Bare, CheckedProgram, CheckedSchedule, Form, Help, Hunted, Shown, Why}
 use Rattle.mr_show.specs.Outcome.{Ends, IsPossible}
 use Rattle.mr_show.specs.Second.{AsksForSecond, HoldsTrace}
-use Rattle.mr_show.specs.Traced.{bare_answer, holds_trace, placed_answer, places_answer, seen_answer, telling_of}
+use Rattle.mr_show.specs.Traced.{alone_telling, bare_answer, count_of, holds_trace, placed_answer, places_answer}
+use Rattle.mr_show.specs.Traced.{seen_answer, telling_of}
+use Rattle.mr_two_orders.specs.Pairs.{either}
 use Rattle.mr_show.specs.Unread.{IsUnreadBecause, LacksFile}
 use Rattle.mr_show.proofs.CheckedLaws.{checked_six, files_six}
 
@@ -65,7 +66,8 @@ SixIf lacking status = (status ≤ 5) ⊎ ((status ≡ 6) × lacking)
 
 legal_least : (part : Part) (spoken : Option Reached) (v : Version) (w : Schedule) (f : Option PlacedFault) (s : Seen)
     → (told (part_answer part spoken) (unless_broken v w f s)).status ≤ 5
-legal_least part spoken v w None s = let least = at_most_one s.verdict s.races in omega (arith, least)
+legal_least part spoken v w None s =
+    let least = at_most_one s.verdict (either (rust_of part s.feet) s.races) in omega (arith, least)
 legal_least part spoken v w (Some f) s = omega arith
 
 next_least : (text : List ℕ) (p : Program) (v : Version) (w : Schedule) (f : Option Fault)
@@ -128,15 +130,15 @@ text_six saying file text (Ok p) e =
 text_six saying file text (Err f) e = inl (omega arith)
 
 module _ (range : Range) (name text : List ℕ) where
-  found_least : (p : Program) (found : Option ℕ) → (found_answer range name text p found).status ≤ 5
-  found_least p None = omega arith
-  found_least p (Some number) = omega arith
+  found_least : (aim : Aim) (p : Program) (found : Option ℕ) → (found_answer range aim name text p found).status ≤ 5
+  found_least aim p None = omega arith
+  found_least aim p (Some number) = omega arith
 
   hunt_least : (p : Program) (seek : Seek) → (hunt_answer range seek name text p).status ≤ 5
   hunt_least p AllEnds = omega arith
   hunt_least p Drawn = omega arith
   hunt_least p (First aim) =
-      found_least p (first_met aim (laid_in p (lexed text)) p (most_in range) range.from range.to)
+      found_least aim p (first_met aim (laid_in p (lexed text)) p (most_in range) range.from range.to)
 
   hunted_least : (seek : Seek) (r : Result Program TextFault)
       → (told (hunted_program range seek name text) (denoted r)).status ≤ 5
@@ -161,7 +163,7 @@ only_if lacking status (inr h) six = h.1
 
 module _ (what : Telling) where
   traced_never : (seen : Result TraceSeen Untold) → (seen_answer what seen).status ≡ 6 → ⊥
-  traced_never (Ok s) six = races_least (length s.races == 0) six
+  traced_never (Ok s) six = races_least (count_of what s == 0) six
     where
       races_least : (b : Bool) → SixOnly ⊥ (if b then 0 else 1)
       races_least true e = absurd (omega (arith, e))
@@ -181,10 +183,10 @@ module _ (what : Telling) where
       by_length true e = absurd (omega (arith, e))
       by_length false e = traced_never (seen_in (run_in (trace_of bytes)) (named_of text)) e
 
-bare_only : (span : Span) (file : Option (List ℕ)) → SixOnly (file ≡ None) (bare_answer span file).status
-bare_only span None six = refl
-bare_only span (Some bytes) six =
-    absurd (traced_never (Steps span.from span.to) (seen_bare (run_in (trace_of bytes))) six)
+bare_only : (alone : Alone) (file : Option (List ℕ)) → SixOnly (file ≡ None) (bare_answer alone file).status
+bare_only alone None six = refl
+bare_only alone (Some bytes) six =
+    absurd (traced_never (alone_telling alone) (seen_bare (run_in (trace_of bytes))) six)
 
 module _ (saying : Saying) (second : Option (List ℕ)) (bytes : List ℕ) where
   text_only : (what : Option Telling)
@@ -225,7 +227,7 @@ module _ (files : Contents) where
   lacks (Some (Shown saying program schedule)) six = shown_only saying program schedule (files program) refl six
   lacks (Some (Hunted range seek name program)) six =
       only_if _ _ (hunted_six range seek name program (files program) refl) six
-  lacks (Some (Bare span trace)) six = bare_only span (files trace) six
+  lacks (Some (Bare alone trace)) six = bare_only alone (files trace) six
   lacks (Some (CheckedProgram name program)) six = checked_six name (files program) six
   lacks (Some (CheckedSchedule name title program schedule)) six =
       files_six name title (files program) (files schedule) six

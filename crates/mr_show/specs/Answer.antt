@@ -1,5 +1,5 @@
 -- What a call answers by definition: a text and a status, from the words and what the files hold.
-use Rattle.std.specs.Prelude.{ℕ, ◌^◌, List, ◌++◌, codes, decimal, flat_map, length, map, Option, None, Some}
+use Rattle.std.specs.Prelude.{ℕ, ◌^◌, List, [], ◌++◌, codes, decimal, flat_map, length, map, Option, None, Some}
 use Rattle.std.specs.Prelude.{if◌then◌else◌}
 use Rattle.mr_ast.specs.declared.program.Program.{Program}
 use Rattle.mr_io.specs.Files.{Contents}
@@ -30,8 +30,13 @@ use Rattle.mr_listing.specs.Spoken.{spoken_line}
 use Rattle.mr_listing.specs.Steps.{steps_text}
 use Rattle.mr_picture.specs.Picture.{picture_text}
 use Rattle.mr_picture.specs.WayTexts.{order_text}
+use Rattle.mr_rust_order.specs.Tests.{rust_races}
+use Rattle.mr_two_orders.specs.Pairs.{either}
+use Rattle.mr_two_orders.specs.Texts.{two_orders_text}
+use Rattle.mr_event.specs.Footprint.{Footprint}
+use Rattle.mr_event.specs.declared.footprint.Pair.{Pair}
 use Rattle.mr_show.specs.declared.form.Part.{Part}
-use Rattle.mr_show.specs.declared.form.Part.TheVariants.{Order, Picture, Races, Steps}
+use Rattle.mr_show.specs.declared.form.Part.TheVariants.{Order, Picture, Races, Steps, TwoOrders}
 use Rattle.mr_show.specs.declared.form.Saying.{Saying}
 use Rattle.mr_show.specs.declared.form.Saying.TheVariants.{Next, OfOrder, OfRun}
 use Rattle.mr_show.specs.declared.form.Telling.{Telling}
@@ -54,10 +59,11 @@ abbrev pub drawn_between : Option Span → Between
 drawn_between None = record { from = 0; to = 2 ^ 22 }
 drawn_between (Some span) = record { from = span.from; to = span.to }
 
--- the steps that are told for a part: for the races and for an order all
+-- the steps that are told for a part: for races and for an order all
 abbrev pub between : Part → Between
 between (Steps from to) = record { from = from; to = to }
 between Races = record { from = 0; to = 2 ^ 22 }
+between TwoOrders = record { from = 0; to = 2 ^ 22 }
 between (Order first second) = record { from = 0; to = 2 ^ 22 }
 between (Picture asked) = drawn_between asked
 
@@ -84,12 +90,22 @@ run_seen part text p w =
 abbrev pub part_text : Part → Option Reached → Seen → List ℕ
 part_text (Steps from to) spoken s = steps_text s ++ reason_text s.verdict ++ spoken_line s spoken
 part_text Races spoken s = races_text s
+part_text TwoOrders spoken s = two_orders_text s
 part_text (Order first second) spoken s = order_text s first second
 part_text (Picture asked) spoken s = picture_text s asked
 
--- with the status that the report of the run has
+-- the races by Rust's order, where a part tells of them
+abbrev pub rust_of : Part → List Footprint → List Pair
+rust_of (Steps from to) feet = []
+rust_of Races feet = []
+rust_of TwoOrders feet = rust_races feet
+rust_of (Order first second) feet = []
+rust_of (Picture asked) feet = []
+
+-- with the status that the report of the run has, or that of races where Rust's order has some
 abbrev pub part_answer : Part → Option Reached → Seen → Answer
-part_answer part spoken s = record { text = part_text part spoken s; status = report_status s.verdict s.races }
+part_answer part spoken s =
+    record { text = part_text part spoken s; status = report_status s.verdict (either (rust_of part s.feet) s.races) }
 
 -- the same of the run under a schedule whose text is in a version, or the first rule that the schedule breaks, on its
 -- line of that text
@@ -162,8 +178,9 @@ why_answer code (Some entry) = said_answer entry
 abbrev pub usage : Answer
 usage = record {
   text = line (
-      codes "usage: steps P S [FIRST LAST] | races P S | picture P S [FIRST LAST] | order P S FIRST LAST | "
-      ++ codes "races T PLACES | steps T PLACES [FIRST LAST] | steps T FIRST LAST | picture T PLACES [FIRST LAST] | "
+      codes "usage: steps P S [FIRST LAST] | races P S | rust P S | picture P S [FIRST LAST] | "
+      ++ codes "order P S FIRST LAST | races T PLACES | rust T [PLACES] | steps T PLACES [FIRST LAST] | "
+      ++ codes "steps T FIRST LAST | picture T PLACES [FIRST LAST] | "
       ++ codes "next P S | check P [S] | fill P O | halt P O | hunt P FROM TO M [AIM] | draw P N M | why CODE | --help"
       );
   status = 2;
@@ -174,7 +191,7 @@ abbrev pub answer_of : Contents → Option Form → Answer
 answer_of files None = usage
 answer_of files (Some (Shown saying program schedule)) = shown_answer saying (files schedule) (files program)
 answer_of files (Some (Hunted range seek name program)) = hunted_file range seek name (files program)
-answer_of files (Some (Bare span trace)) = bare_answer span (files trace)
+answer_of files (Some (Bare alone trace)) = bare_answer alone (files trace)
 answer_of files (Some (CheckedProgram name program)) = checked_file name (files program)
 answer_of files (Some (CheckedSchedule name schedule_name program schedule)) =
     checked_files name schedule_name (files program) (files schedule)

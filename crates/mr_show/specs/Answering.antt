@@ -9,7 +9,7 @@ use Rattle.mr_input.specs.declared.written.Written.{Written}
 use Rattle.mr_input.specs.Answer.{IsStatus, Tells}
 use Rattle.mr_input.specs.Inputs.{holding, program_in}
 use Rattle.mr_show.specs.Seek.{Seek}
-use Rattle.mr_picture.specs.declared.span.Span.{Span}
+use Rattle.mr_show.specs.declared.form.Alone.{Alone}
 use Rattle.mr_show.specs.declared.form.Range.{Range}
 use Rattle.mr_show.specs.declared.form.Saying.{Saying}
 use Rattle.mr_show.specs.declared.form.Telling.{Telling}
@@ -62,9 +62,9 @@ IsOfFiles rose saying second first result =
     Tells (shown_answer saying second first) result
     ⊎ (rose × ((result ≡ Err refusal.ReadProgram) ⊎ (AsksForSecond saying first × (result ≡ Err refusal.ReadSchedule))))
 
--- the steps of the trace in a file; or its read failed
-abbrev pub IsBare : Type 0 → Span → Option (List ℕ) → Result Written Refusal → Type 0
-IsBare rose span file result = Tells (bare_answer span file) result ⊎ (rose × (result ≡ Err refusal.ReadTrace))
+-- what is told of the trace in a file; or its read failed
+abbrev pub IsBare : Type 0 → Alone → Option (List ℕ) → Result Written Refusal → Type 0
+IsBare rose alone file result = Tells (bare_answer alone file) result ⊎ (rose × (result ≡ Err refusal.ReadTrace))
 
 -- what a hunt tells over a file; or its read failed
 abbrev pub IsHunted : Type 0 → Range → Seek → List ℕ → Option (List ℕ) → Result Written Refusal → Type 0
@@ -92,7 +92,7 @@ abbrev pub IsAnswered : Contents → Form → Type 0 → Result Written Refusal 
 IsAnswered files (Shown saying program schedule) rose result =
     IsOfFiles rose saying (files schedule) (files program) result
 IsAnswered files (Hunted range seek name program) rose result = IsHunted rose range seek name (files program) result
-IsAnswered files (Bare span trace) rose result = IsBare rose span (files trace) result
+IsAnswered files (Bare alone trace) rose result = IsBare rose alone (files trace) result
 IsAnswered files (CheckedProgram name program) rose result = IsChecked rose name (files program) result
 IsAnswered files (CheckedSchedule name schedule_name program schedule) rose result =
     IsCheckedUnder rose name schedule_name (files program) (files schedule) result

@@ -5,13 +5,15 @@ use Rattle.std.specs.Prelude.{if◌then◌else◌}
 use Rattle.std.specs.List.{find, list_any, range_with_len}
 use Rattle.std.specs.Option.{option_map}
 use Rattle.mr_picture.specs.declared.span.Span.{Span}
-use Rattle.mr_hunt.specs.Aims.{Aim, Any, Lines, Named, Prints, Race, Undefined}
+use Rattle.mr_hunt.specs.Aims.{Aim, Any, Lines, Named, Prints, Race, RustRace, Undefined}
 use Rattle.mr_input.specs.Numbers.{number_below}
 use Rattle.mr_why.specs.Why.{Entry, entry_of}
 use Rattle.mr_show.specs.declared.form.Form.{Form as Words}
 use Rattle.mr_show.specs.declared.form.Form.TheVariants as words
 use Rattle.mr_show.specs.declared.form.Part.{Part}
-use Rattle.mr_show.specs.declared.form.Part.TheVariants.{Order, Picture, Races, Steps}
+use Rattle.mr_show.specs.declared.form.Part.TheVariants.{Order, Picture, Races, Steps, TwoOrders}
+use Rattle.mr_show.specs.declared.form.Alone.{Alone}
+use Rattle.mr_show.specs.declared.form.Alone.TheVariants as alone
 use Rattle.mr_show.specs.declared.form.Range.{Range}
 use Rattle.mr_show.specs.Seek.{Drawn, Seek, seek_of, seeking}
 use Rattle.mr_show.specs.declared.form.Saying.{Saying}
@@ -19,10 +21,10 @@ use Rattle.mr_show.specs.declared.form.Saying.TheVariants.{Next, OfOrder, OfRun}
 use Rattle.mr_show.specs.declared.form.Filling.TheVariants.{Halt, Schedule}
 use Rattle.mr_show.specs.declared.form.Topic.{Topic}
 use Rattle.mr_show.specs.declared.form.Topic.TheVariants.{Everything, OfCheck, OfFill, OfHunt, OfNext, OfOrdered}
-use Rattle.mr_show.specs.declared.form.Topic.TheVariants.{OfPicture, OfRaces, OfSteps, OfWhy}
+use Rattle.mr_show.specs.declared.form.Topic.TheVariants.{OfPicture, OfRaces, OfRust, OfSteps, OfWhy}
 
 -- What is asked for: what is said of the run of the program in one file under the schedule in another, which is a part
--- of it, its steps from one number up to another, its races by pairs of places or a picture of it, or how it can go on;
+-- of it, its steps from one number up to another, its races by pairs of places, also by two orders, or a picture of it, or how it can go on;
 -- or what the order in another becomes, which is a schedule, or where it can't go on; which ends the runs of some
 -- numbers have, or the first of these runs that has what is looked for, or the schedule of a number; the steps of a
 -- trace; what refuses the program in a file, or a schedule of it in another, told by the names of the files; what is
@@ -30,7 +32,7 @@ use Rattle.mr_show.specs.declared.form.Topic.TheVariants.{OfPicture, OfRaces, Of
 pub data Form : Type 0 where
   Shown : (saying : Saying) (program schedule : List ℕ) → Form
   Hunted : (range : Range) (seek : Seek) (name program : List ℕ) → Form
-  Bare : (span : Span) (trace : List ℕ) → Form
+  Bare : (alone : Alone) (trace : List ℕ) → Form
   CheckedProgram : (name program : List ℕ) → Form
   CheckedSchedule : (name schedule_name program schedule : List ℕ) → Form
   Why : (code : ℕ) → Form
@@ -41,6 +43,7 @@ abbrev pub help_of : List ℕ → Option Form
 help_of word =
     if bytes_eq word (codes "steps") then Some (Help OfSteps)
     else (if bytes_eq word (codes "races") then Some (Help OfRaces)
+    else (if bytes_eq word (codes "rust") then Some (Help OfRust)
     else (if bytes_eq word (codes "picture") then Some (Help OfPicture)
     else (if bytes_eq word (codes "next") then Some (Help OfNext)
     else (if bytes_eq word (codes "check") then Some (Help OfCheck)
@@ -49,7 +52,7 @@ help_of word =
     else (if bytes_eq word (codes "hunt") then Some (Help OfHunt)
     else (if bytes_eq word (codes "draw") then Some (Help OfHunt)
     else (if bytes_eq word (codes "order") then Some (Help OfOrdered)
-    else (if bytes_eq word (codes "why") then Some (Help OfWhy) else None))))))))))
+    else (if bytes_eq word (codes "why") then Some (Help OfWhy) else None)))))))))))
 
 -- whether this is the name of a code
 abbrev pub is_name_of : List ℕ → Option Entry → Bool
@@ -68,22 +71,24 @@ code_or None word = code_named word
 abbrev pub code_by : List ℕ → Option ℕ
 code_by word = code_or (number_below (2 ^ 16) word) word
 
--- what is said of a code, or what refuses the program in a file
+-- what is said of a code, what refuses the program in a file, or the races of a trace by two orders
 abbrev pub two_of : List ℕ → List ℕ → Option Form
 two_of word second =
     if bytes_eq word (codes "why") then option_map Why (code_by second)
-    else (if bytes_eq word (codes "check") then Some (CheckedProgram second second) else None)
+    else (if bytes_eq word (codes "check") then Some (CheckedProgram second second)
+    else (if bytes_eq word (codes "rust") then Some (Bare alone.TwoOrders second) else None))
 
--- all steps, the races, the picture of those about the first race, or how the run can go on; what an order becomes, or
+-- all steps, the races, those by two orders, the picture of those about the first race, or how the run can go on; what an order becomes, or
 -- where it can't go on
 abbrev pub whole_of : List ℕ → List ℕ → List ℕ → Option Form
 whole_of word program schedule =
     if bytes_eq word (codes "steps") then Some (Shown (OfRun (Steps 0 (2 ^ 22))) program schedule)
     else (if bytes_eq word (codes "races") then Some (Shown (OfRun Races) program schedule)
+    else (if bytes_eq word (codes "rust") then Some (Shown (OfRun TwoOrders) program schedule)
     else (if bytes_eq word (codes "picture") then Some (Shown (OfRun (Picture None)) program schedule)
     else (if bytes_eq word (codes "next") then Some (Shown Next program schedule)
     else (if bytes_eq word (codes "fill") then Some (Shown (OfOrder Schedule) program schedule)
-    else (if bytes_eq word (codes "halt") then Some (Shown (OfOrder Halt) program schedule) else None)))))
+    else (if bytes_eq word (codes "halt") then Some (Shown (OfOrder Halt) program schedule) else None))))))
 
 -- what refuses the schedule in a file or its program in another, or what is said of the two
 abbrev pub three_form : List ℕ → List ℕ → List ℕ → Option Form
@@ -116,7 +121,7 @@ part_of word program schedule (Some span) = option_map (shown_of program schedul
 -- the steps of a trace between two numbers
 abbrev pub bare_of : List ℕ → List ℕ → Option Span → Option Form
 bare_of word trace None = None
-bare_of word trace (Some span) = if bytes_eq word (codes "steps") then Some (Bare span trace) else None
+bare_of word trace (Some span) = if bytes_eq word (codes "steps") then Some (Bare (alone.Steps span) trace) else None
 
 -- numbers from one to another, and how many entries the schedules have at most that are drawn from them
 abbrev pub range_of : Option ℕ → Option ℕ → Option ℕ → Option Range
@@ -157,8 +162,9 @@ abbrev pub word_aim : List ℕ → Option Aim
 word_aim word =
     if bytes_eq word (codes "any") then Some Any
     else (if bytes_eq word (codes "race") then Some Race
+    else (if bytes_eq word (codes "rust") then Some RustRace
     else (if bytes_eq word (codes "undefined") then Some Undefined
-    else (if is_verdict word then Some (Named word) else None)))
+    else (if is_verdict word then Some (Named word) else None))))
 
 -- two lines
 abbrev pub lines_from : Option ℕ → Option ℕ → Option Aim
@@ -194,12 +200,13 @@ long_form word program third fourth fifth (aim ∷ text ∷ []) =
     aimed_of word program (word_range third fourth fifth) (two_aim aim text)
 long_form word program third fourth fifth _ = None
 
--- `steps P S`, `steps P S FIRST LAST`, `races P S`, `picture P S`, `picture P S FIRST LAST`, `order P S FIRST LAST`,
--- `next P S` and `steps T FIRST LAST`, where FIRST and LAST are below 2^32; `fill P O` and `halt P O`;
+-- `steps P S`, `steps P S FIRST LAST`, `races P S`, `rust P S`, `picture P S`, `picture P S FIRST LAST`,
+-- `order P S FIRST LAST`, `next P S`, `rust T` and `steps T FIRST LAST`, where FIRST and LAST are below 2^32;
+-- `fill P O` and `halt P O`;
 -- `hunt P FROM TO M`, where FROM is at most TO, both are below 2^64, and M is at most 2^20, and an aim behind it;
 -- `draw P N M`, with such numbers; `check P` and `check P S`; `why CODE`, where CODE is below 2^16 or the name of a
--- code; `--help`, and that behind `steps`, `races`, `picture`, `order`, `next`, `check`, `fill`, `halt`, `hunt`, `draw`
--- or `why`; and no other form
+-- code; `--help`, and that behind `steps`, `races`, `rust`, `picture`, `order`, `next`, `check`, `fill`, `halt`,
+-- `hunt`, `draw` or `why`; and no other form
 abbrev pub form_of : List (List ℕ) → Option Form
 form_of (word ∷ []) = if bytes_eq word (codes "--help") then Some (Help Everything) else None
 form_of (word ∷ option ∷ []) =
@@ -213,7 +220,7 @@ form_of _ = None
 abbrev pub asked : Words → Form
 asked (words.Shown saying program schedule) = Shown saying program.now schedule.now
 asked (words.Hunted range seek program) = Hunted range (seek_of seek) program.now program.now
-asked (words.Bare span trace) = Bare span trace.now
+asked (words.Bare alone trace) = Bare alone trace.now
 asked (words.CheckedProgram program) = CheckedProgram program.now program.now
 asked (words.CheckedSchedule program schedule) =
     CheckedSchedule program.now schedule.now program.now schedule.now

@@ -3,7 +3,7 @@ use Rattle.std.specs.Prelude.{ℕ, List, ◌++◌, codes}
 use Rattle.mr_report.specs.Report.{line}
 use Rattle.mr_show.specs.declared.form.Topic.{Topic}
 use Rattle.mr_show.specs.declared.form.Topic.TheVariants.{Everything, OfCheck, OfFill, OfHunt, OfNext, OfOrdered}
-use Rattle.mr_show.specs.declared.form.Topic.TheVariants.{OfPicture, OfRaces, OfSteps, OfWhy}
+use Rattle.mr_show.specs.declared.form.Topic.TheVariants.{OfPicture, OfRaces, OfRust, OfSteps, OfWhy}
 
 -- with each form
 abbrev pub help_text : Topic → List ℕ
@@ -12,7 +12,12 @@ help_text Everything =
     ++ line (codes "mirace_show races P S                the races of a run by pairs of places")
     ++ line (codes "mirace_show picture P S [FIRST LAST] a picture of a run, as an SVG document")
     ++ line (codes "mirace_show order P S FIRST LAST     how two steps of a run are ordered, edge by edge")
+    ++ line (
+    codes "mirace_show rust P S                 the races of a run by Rust's own order "
+    ++ codes "beside those by the machine's"
+    )
     ++ line (codes "mirace_show races T PLACES           the races of a trace by pairs of places")
+    ++ line (codes "mirace_show rust T [PLACES]          the same of a trace; without PLACES race by race")
     ++ line (
     codes "mirace_show steps T PLACES           the steps of a trace, each at its place; "
     ++ codes "FIRST LAST may stand behind it"
@@ -41,10 +46,10 @@ help_text Everything =
     )
     ++ line (codes "of the places of its steps.")
     ++ line (
-    codes "With --help behind one of the words steps, races, picture, order, next, check, fill, "
-    ++ codes "halt, hunt, draw and"
+    codes "With --help behind one of the words steps, races, rust, picture, order, next, check, "
+    ++ codes "fill, halt, hunt,"
     )
-    ++ line (codes "why it tells more.")
+    ++ line (codes "draw and why it tells more.")
 help_text OfSteps =
     line (codes "mirace_show steps P S [FIRST LAST]")
     ++ line (
@@ -93,6 +98,30 @@ help_text OfRaces =
     ++ line (
     codes "steps. Below each two places stand the two steps of the first race, with what "
     ++ codes "they loaded and stored."
+    )
+help_text OfRust =
+    line (codes "mirace_show rust P S")
+    ++ line (
+    codes "Runs the program in file P under the schedule in file S, and writes a line for "
+    ++ codes "each two places of P at"
+    )
+    ++ line (
+    codes "which steps race by Rust's own order or by the machine's: those of Rust's list "
+    ++ codes "first. Below it stands which"
+    )
+    ++ line (
+    codes "list has races there, and where one has none why: in which order the two steps "
+    ++ codes "are, and by which other"
+    )
+    ++ line (codes "two, or with which later step that list has the second one.")
+    ++ line (codes "mirace_show rust T [PLACES]")
+    ++ line (
+    codes "Writes the same of the trace in file T, which begins with MRTR, by the places "
+    ++ codes "that file PLACES tells of its"
+    )
+    ++ line (
+    codes "steps, with the two steps of the first race; and without PLACES each race by its "
+    ++ codes "steps and threads."
     )
 help_text OfPicture =
     line (codes "mirace_show picture P S [FIRST LAST]")
@@ -177,9 +206,10 @@ help_text OfHunt =
     ++ codes "with status 1, and tells it."
     )
     ++ line (
-    codes "AIM is any, race, undefined, the name of another verdict or of a reason, prints "
-    ++ codes "TEXT, or two lines of P."
+    codes "AIM is any, race, rust for a race by Rust's own order, undefined, the name of "
+    ++ codes "another verdict or of a reason,"
     )
+    ++ line (codes "prints TEXT, or two lines of P.")
     ++ line (codes "mirace_show draw P N M")
     ++ line (codes "Writes the schedule that is drawn from number N alone, with at most M entries.")
 help_text OfOrdered =

@@ -5,7 +5,7 @@ use Rattle.mr_grammar.specs.Parsing.{parsed}
 use Rattle.mr_lex.specs.Reading.{lexed}
 use Rattle.mr_typing.specs.Walk.{faults_of}
 use Rattle.mr_auto.specs.Drawing.{drawn_schedule}
-use Rattle.mr_hunt.specs.Aims.{first_met}
+use Rattle.mr_hunt.specs.Aims.{Aim, first_met}
 use Rattle.mr_hunt.specs.Ends.{ends_of}
 use Rattle.mr_hunt.specs.Table.{numbers, table_of}
 use Rattle.mr_hunt.specs.Texts.{found_text, none_text, seen_with, table_text}
@@ -32,10 +32,10 @@ table_answer range text p = record {
 }
 
 -- the run that was found, with status 1, or that there is none
-abbrev pub found_answer : Range → List ℕ → List ℕ → Program → Option ℕ → Answer
-found_answer range name text p None = record { text = none_text range.from range.to; status = 0 }
-found_answer range name text p (Some number) = record {
-  text = found_text text p (laid_in p (lexed text)) name (most_in range) number;
+abbrev pub found_answer : Range → Aim → List ℕ → List ℕ → Program → Option ℕ → Answer
+found_answer range aim name text p None = record { text = none_text range.from range.to; status = 0 }
+found_answer range aim name text p (Some number) = record {
+  text = found_text text p (laid_in p (lexed text)) aim name (most_in range) number;
   status = 1;
 }
 
@@ -48,7 +48,7 @@ drawn_answer range p = record { text = text_of (drawn_schedule p range.from (mos
 abbrev pub hunt_answer : Range → Seek → List ℕ → List ℕ → Program → Answer
 hunt_answer range Ends name text p = table_answer range text p
 hunt_answer range (First aim) name text p =
-    found_answer range name text p (first_met aim (laid_in p (lexed text)) p (most_in range) range.from range.to)
+    found_answer range aim name text p (first_met aim (laid_in p (lexed text)) p (most_in range) range.from range.to)
 hunt_answer range Drawn name text p = drawn_answer range p
 
 -- the same, where the program breaks no rule

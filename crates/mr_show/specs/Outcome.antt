@@ -16,7 +16,7 @@ IsUnread files (Shown saying program schedule) a =
     (a ≡ refused refusal.ReadProgram)
     ⊎ (AsksForSecond saying (files program) × (a ≡ refused refusal.ReadSchedule))
 IsUnread files (Hunted range seek name program) a = a ≡ refused refusal.ReadProgram
-IsUnread files (Bare span trace) a = a ≡ refused refusal.ReadTrace
+IsUnread files (Bare alone trace) a = a ≡ refused refusal.ReadTrace
 IsUnread files (CheckedProgram name program) a = a ≡ refused refusal.ReadProgram
 IsUnread files (CheckedSchedule name schedule_name program schedule) a =
     (a ≡ refused refusal.ReadProgram) ⊎ (a ≡ refused refusal.ReadSchedule)
@@ -41,7 +41,7 @@ Ends files (Some form) files_rose out_rose old new status =
 abbrev pub over_holding : Form → Form
 over_holding (Shown saying program schedule) = Shown saying (codes "program") (codes "schedule")
 over_holding (Hunted range seek name program) = Hunted range seek name (codes "program")
-over_holding (Bare span trace) = Bare span (codes "program")
+over_holding (Bare alone trace) = Bare alone (codes "program")
 over_holding (CheckedProgram name program) = CheckedProgram name (codes "program")
 over_holding (CheckedSchedule name schedule_name program schedule) =
     CheckedSchedule name schedule_name (codes "program") (codes "schedule")

@@ -11,7 +11,7 @@ LacksFile files None = ⊥
 LacksFile files (Some (Shown saying program schedule)) =
     (files program ≡ None) ⊎ (AsksForSecond saying (files program) × (files schedule ≡ None))
 LacksFile files (Some (Hunted range seek name program)) = files program ≡ None
-LacksFile files (Some (Bare span trace)) = files trace ≡ None
+LacksFile files (Some (Bare alone trace)) = files trace ≡ None
 LacksFile files (Some (CheckedProgram name program)) = files program ≡ None
 LacksFile files (Some (CheckedSchedule name schedule_name program schedule)) =
     (files program ≡ None) ⊎ (files schedule ≡ None)

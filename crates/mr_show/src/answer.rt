@@ -47,7 +47,7 @@ pub(crate) fn answer<F: Files>(
             seek,
             program,
         } => hunted_file(alloc, files, range, seek, program),
-        Form::Bare { span, trace } => bare_file(alloc, files, span, trace),
+        Form::Bare { alone, trace } => bare_file(alloc, files, alone, trace),
         Form::CheckedProgram { program } => checked_file(alloc, files, program),
         Form::CheckedSchedule { program, schedule } => {
             checked_files(alloc, files, program, schedule)

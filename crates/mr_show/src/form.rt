@@ -22,6 +22,8 @@ pub enum Part {
     Steps { from: usize, to: usize },
     /// Its races by pairs of places.
     Races,
+    /// Its races by two orders, Rust's and the machine's.
+    TwoOrders,
     /// The order of two of its steps, counted from 0.
     Order { first: usize, second: usize },
     /// A picture of it: of the steps that are asked for, or without any of those about its first race.
@@ -53,10 +55,21 @@ pub enum Saying {
 pub enum Telling {
     /// Its races by pairs of places.
     Races,
+    /// Its races by two orders, Rust's and the machine's.
+    TwoOrders,
     /// Its steps from one number up to another, counted from 0, the last one left out.
     Steps { from: usize, to: usize },
     /// A picture of it: of the steps that are asked for, or without any of those about its first race.
     Picture { asked: Option<Span> },
+}
+
+/// What is told of a trace without places.
+#[derive(Clone, Copy)]
+pub enum Alone {
+    /// These of its steps.
+    Steps(Span),
+    /// Its races by two orders.
+    TwoOrders,
 }
 
 /// What help is asked for: with all forms, or with one.
@@ -65,6 +78,7 @@ pub enum Topic {
     Everything,
     OfSteps,
     OfRaces,
+    OfRust,
     OfPicture,
     OfNext,
     OfFill,
@@ -108,9 +122,9 @@ pub enum Form<'a> {
         seek: Seek<'a>,
         program: &'a str,
     },
-    /// The steps of a trace, without places.
+    /// What is told of a trace without places.
     Bare {
-        span: Span,
+        alone: Alone,
         trace: &'a str,
     },
     /// What is said of a program by itself.
@@ -144,6 +158,9 @@ fn help_of<'a>(word: &str) -> Option<Form<'a>>
         }),
         "races" => Some(Form::Help {
             topic: Topic::OfRaces,
+        }),
+        "rust" => Some(Form::Help {
+            topic: Topic::OfRust,
         }),
         "picture" => Some(Form::Help {
             topic: Topic::OfPicture,
@@ -206,24 +223,29 @@ fn code_of<'a>(word: &str) -> Option<Form<'a>>
     Some(Form::Why { code })
 }
 
-// `why CODE` and `check P`.
+// `why CODE`, `check P` and `rust T`.
 fn two_of<'a>(word: &str, second: &'a str) -> Option<Form<'a>>
     ensures { option_map asked result ≡ two_of word.now second.now }
 {
     match word {
         "why" => code_of(second),
         "check" => Some(Form::CheckedProgram { program: second }),
+        "rust" => Some(Form::Bare {
+            alone: Alone::TwoOrders,
+            trace: second,
+        }),
         _ => None,
     }
 }
 
-// `steps P S`, `races P S`, `picture P S`, `next P S`, `fill P O` and `halt P O`.
+// `steps P S`, `races P S`, `rust P S`, `picture P S`, `next P S`, `fill P O` and `halt P O`.
 fn whole_of<'a>(word: &str, program: &'a str, schedule: &'a str) -> Option<Form<'a>>
     ensures { option_map asked result ≡ whole_of word.now program.now schedule.now }
 {
     let saying = match word {
         "steps" => Saying::OfRun(Part::Steps { from: 0, to: ALL }),
         "races" => Saying::OfRun(Part::Races),
+        "rust" => Saying::OfRun(Part::TwoOrders),
         "picture" => Saying::OfRun(Part::Picture { asked: None }),
         "next" => Saying::Next,
         "fill" => Saying::OfOrder(Filling::Schedule),
@@ -304,7 +326,10 @@ fn bare_of<'a>(word: &str, trace: &'a str, first: &str, last: &str) -> Option<Fo
 {
     let span = span_of(first, last)?;
     match word {
-        "steps" => Some(Form::Bare { span, trace }),
+        "steps" => Some(Form::Bare {
+            alone: Alone::Steps(span),
+            trace,
+        }),
         _ => None,
     }
 }
@@ -427,6 +452,7 @@ fn word_aim(word: &str) -> Option<Aim<'_>>
     match word {
         "any" => Some(Aim::Any),
         "race" => Some(Aim::Race),
+        "rust" => Some(Aim::RustRace),
         "undefined" => Some(Aim::Undefined),
         _ => named_aim(word),
     }
@@ -524,7 +550,7 @@ fn one_form<'a>(word: &str) -> Option<Form<'a>>
     }
 }
 
-// `--help` behind a word, or `why CODE` or `check P`.
+// `--help` behind a word, or `why CODE`, `check P` or `rust T`.
 fn two_form<'a>(word: &str, option: &'a str) -> Option<Form<'a>>
     ensures { option_map asked result ≡ form_of (word.now ∷ option.now ∷ []) }
 {
@@ -534,11 +560,11 @@ fn two_form<'a>(word: &str, option: &'a str) -> Option<Form<'a>>
     }
 }
 
-/// The form of these words: `steps P S`, `steps P S FIRST LAST`, `races P S`, `picture P S`,
-/// `picture P S FIRST LAST`, `order P S FIRST LAST`, `next P S`, `steps T FIRST LAST`, `check P`, `check P S`,
+/// The form of these words: `steps P S`, `steps P S FIRST LAST`, `races P S`, `rust P S`, `picture P S`,
+/// `picture P S FIRST LAST`, `order P S FIRST LAST`, `next P S`, `steps T FIRST LAST`, `rust T`, `check P`, `check P S`,
 /// `fill P O`, `halt P O`, `hunt P FROM TO M` and that with an aim, `draw P N M`, `why CODE`, `--help`, or one of the
-/// words `steps`, `races`, `picture`, `order`, `next`, `check`, `fill`, `halt`, `hunt`, `draw` and `why` with `--help`
-/// behind it.
+/// words `steps`, `races`, `rust`, `picture`, `order`, `next`, `check`, `fill`, `halt`, `hunt`, `draw` and `why` with
+/// `--help` behind it.
 pub fn form_of(words: &[String]) -> Option<Form<'_>>
     ensures { option_map asked result ≡ form_of (map string_bytes words.now) }
 {

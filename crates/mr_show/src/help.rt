@@ -9,7 +9,9 @@ mirace_show steps P S [FIRST LAST]   the steps of a run, each at its place in th
 mirace_show races P S                the races of a run by pairs of places
 mirace_show picture P S [FIRST LAST] a picture of a run, as an SVG document
 mirace_show order P S FIRST LAST     how two steps of a run are ordered, edge by edge
+mirace_show rust P S                 the races of a run by Rust's own order beside those by the machine's
 mirace_show races T PLACES           the races of a trace by pairs of places
+mirace_show rust T [PLACES]          the same of a trace; without PLACES race by race
 mirace_show steps T PLACES           the steps of a trace, each at its place; FIRST LAST may stand behind it
 mirace_show steps T FIRST LAST       steps of a trace, without places
 mirace_show picture T PLACES         a picture of a trace; FIRST LAST may stand behind it
@@ -22,8 +24,8 @@ mirace_show draw P N M               the schedule of at most M entries that is d
 mirace_show why CODE                 what is said of a code of a rule, a fault or a reason
 P is the file of a program, S that of a schedule, O that of an order, T that of a trace, and PLACES that
 of the places of its steps.
-With --help behind one of the words steps, races, picture, order, next, check, fill, halt, hunt, draw and
-why it tells more.
+With --help behind one of the words steps, races, rust, picture, order, next, check, fill, halt, hunt,
+draw and why it tells more.
 ";
 
 const OF_STEPS: &[u8] = b"\
@@ -47,6 +49,17 @@ which steps race, those with most races first, with how many races there are and
 mirace_show races T PLACES
 Writes the same of the trace in file T, which begins with MRTR, by the places that file PLACES tells of its
 steps. Below each two places stand the two steps of the first race, with what they loaded and stored.
+";
+
+const OF_RUST: &[u8] = b"\
+mirace_show rust P S
+Runs the program in file P under the schedule in file S, and writes a line for each two places of P at
+which steps race by Rust's own order or by the machine's: those of Rust's list first. Below it stands which
+list has races there, and where one has none why: in which order the two steps are, and by which other
+two, or with which later step that list has the second one.
+mirace_show rust T [PLACES]
+Writes the same of the trace in file T, which begins with MRTR, by the places that file PLACES tells of its
+steps, with the two steps of the first race; and without PLACES each race by its steps and threads.
 ";
 
 const OF_PICTURE: &[u8] = b"\
@@ -88,7 +101,8 @@ mirace_show hunt P FROM TO M [AIM]
 Draws a schedule of at most M entries for the program in file P from each number from FROM to TO, as mirace
 auto does, and runs it. Writes a line for each verdict and for each two places that race: how many numbers
 have it, and the first. With AIM it stops at the first number whose run has it, with status 1, and tells it.
-AIM is any, race, undefined, the name of another verdict or of a reason, prints TEXT, or two lines of P.
+AIM is any, race, rust for a race by Rust's own order, undefined, the name of another verdict or of a reason,
+prints TEXT, or two lines of P.
 mirace_show draw P N M
 Writes the schedule that is drawn from number N alone, with at most M entries.
 ";
@@ -115,6 +129,7 @@ pub(crate) fn help_text(topic: Topic) -> &'static [u8]
         Topic::Everything => EVERYTHING,
         Topic::OfSteps => OF_STEPS,
         Topic::OfRaces => OF_RACES,
+        Topic::OfRust => OF_RUST,
         Topic::OfPicture => OF_PICTURE,
         Topic::OfNext => OF_NEXT,
         Topic::OfFill => OF_FILL,

@@ -7,7 +7,7 @@ ghost use Rattle.mr_io.specs.Counts.{Rose};
 ghost use Rattle.mr_io.specs.Files.{Contents};
 ghost use Rattle.mr_grammar.specs.Parsing.{parsed};
 ghost use Rattle.mr_lex.specs.Reading.{lexed};
-ghost use Rattle.mr_hunt.specs.Aims.{aim_of, first_met};
+ghost use Rattle.mr_hunt.specs.Aims.{Aim as AimOf, aim_of, first_met};
 ghost use Rattle.mr_input.specs.Answer.{IsStatus, Tells, seen as written_as};
 ghost use Rattle.mr_input.specs.Inputs.{IsUnreadFault};
 ghost use Rattle.mr_show.specs.Answering.{IsHunted};
@@ -164,13 +164,14 @@ fn aimed(
     ensures status { IfOk result (λ a. IsStatus a.status) }
 {
     let found = first_met(alloc, p, places, aim, most_in(range), range.from, range.to)?;
-    found_in(alloc, range, found, name, text, p, places)
+    found_in(alloc, range, aim, found, name, text, p, places)
 }
 
 // The run that was found, or that there is none.
 fn found_in(
     alloc: Global,
     range: Range,
+    aim: Aim<'_>,
     found: Option<u64>,
     name: &str,
     text: &[u8],
@@ -178,11 +179,12 @@ fn found_in(
     places: &Places<'_>,
 ) -> Result<Written, AllocError>
     requires { places.now ≡ laid_in p.now (lexed text.now) }
-    ensures answer { IfOk result (λ a. written_as a ≡ found_answer range name.now text.now p.now found) }
+    ensures answer { IfOk result (λ a. written_as a
+        ≡ found_answer range (aim_of aim.entry) name.now text.now p.now found) }
     ensures status { IfOk result (λ a. IsStatus a.status) }
 {
     match found {
-        Some(number) => one_found(alloc, range, number, name, text, p, places),
+        Some(number) => one_found(alloc, range, aim, number, name, text, p, places),
         None => none_found(alloc, range),
     }
 }
@@ -191,6 +193,7 @@ fn found_in(
 fn one_found(
     alloc: Global,
     range: Range,
+    aim: Aim<'_>,
     number: u64,
     name: &str,
     text: &[u8],
@@ -198,17 +201,18 @@ fn one_found(
     places: &Places<'_>,
 ) -> Result<Written, AllocError>
     requires { places.now ≡ laid_in p.now (lexed text.now) }
-    ensures answer { IfOk result (λ a. written_as a ≡ found_answer range name.now text.now p.now (Some number)) }
+    ensures answer { IfOk result (λ a. written_as a
+        ≡ found_answer range (aim_of aim.entry) name.now text.now p.now (Some number)) }
     ensures status { IfOk result (λ a. IsStatus a.status) }
 {
-    let text = found_text(alloc, text, p, places, name, most_in(range), number)?;
+    let text = found_text(alloc, text, p, places, aim, name, most_in(range), number)?;
     Ok(Written { text, status: 1 })
 }
 
 // That there is none.
 fn none_found(alloc: Global, range: Range) -> Result<Written, AllocError>
-    ensures answer { IfOk result (λ a. (name text : List ℕ) (p : ProgramOf)
-        → written_as a ≡ found_answer range name text p None) }
+    ensures answer { IfOk result (λ a. (aim : AimOf) (name text : List ℕ) (p : ProgramOf)
+        → written_as a ≡ found_answer range aim name text p None) }
     ensures status { IfOk result (λ a. IsStatus a.status) }
 {
     let text = none_text(alloc, range.from, range.to)?;

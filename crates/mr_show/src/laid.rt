@@ -1,13 +1,14 @@
 //! The text of a part of a run, from what its steps tell.
 ghost use Rattle.std.specs.Prelude.{◌≡◌, ◌<◌, ◌≤◌, ◌^◌, ◌++◌, Ok, IfOk, length};
 ghost use Rattle.mr_clocks.specs.Tracked.{Tracks};
+ghost use Rattle.mr_event.specs.Predicted.{predicted};
 ghost use Rattle.mr_grammar.specs.Parsing.{parsed};
 ghost use Rattle.mr_input.specs.Answer.{IsStatus, seen as written_as};
 ghost use Rattle.mr_replay.specs.Spoken.{spoken_of};
 ghost use Rattle.mr_listing.specs.Seen.{seen};
 ghost use Rattle.mr_listing.specs.Spoken.{spoken_line};
 ghost use Rattle.mr_run.specs.Runs.{IsRun};
-ghost use Rattle.mr_show.specs.Answer.{part_answer, part_text};
+ghost use Rattle.mr_show.specs.Answer.{part_answer, part_text, rust_of};
 ghost use Rattle.mr_listing.specs.Steps.{steps_text};
 ghost use Rattle.mr_show.specs.Gathered.{gathered};
 ghost use Rattle.mr_show.specs.Sentences.{reason_text};
@@ -17,14 +18,17 @@ use crate::placed::places_of;
 use crate::sentences::push_reason;
 use mr_answer::{lines_of, status_of};
 use mr_clocks::Analysis;
+use mr_event::{Footprint, Pair};
 use mr_input::Written;
 use mr_labels::{Allocation, Allocations, Reached, ToldStep};
 use mr_listing::{Shown, push_spoken, races, steps};
 use mr_picture::{order_text, picture};
 use mr_replay::rests;
 use mr_run::Clocked;
+use mr_rust_order::races as races_by_rust;
 use mr_sched::Schedule;
 use mr_step::Machine;
+use mr_two_orders::{either, two_orders};
 use mr_wf::Checked;
 use std::alloc::{AllocError, Global};
 
@@ -81,13 +85,15 @@ fn written(
     requires count { (seen shown.now).count < 2 ^ 32 }
     requires feet { length (seen shown.now).feet < 2 ^ 32 }
     requires tracks { Tracks order.now (seen shown.now).feet }
+    requires races { (seen shown.now).races ≡ predicted (seen shown.now).feet }
     ensures answer { IfOk result (λ a. written_as a ≡ part_answer part spoken (seen shown.now)) }
     ensures status { IfOk result (λ a. IsStatus a.status) }
 {
-    let text = text_of(alloc, part, spoken, shown, order)?;
+    let rust = rust_of(alloc, part, shown.feet)?;
+    let text = text_of(alloc, part, spoken, shown, order, rust.as_slice())?;
     Ok(Written {
         text,
-        status: status_of(shown.verdict, shown.races),
+        status: status_of(shown.verdict, either(rust.as_slice(), shown.races)),
     })
 }
 
@@ -107,6 +113,18 @@ fn steps_of(
     Ok(text)
 }
 
+// The races by Rust's order, where a part tells of them.
+fn rust_of(alloc: Global, part: Part, feet: &[Footprint]) -> Result<Vec<Pair>, AllocError>
+    ensures { IfOk result (λ races. races.items ≡ rust_of part feet.now) }
+{
+    match part {
+        Part::TwoOrders => races_by_rust(alloc, feet),
+        Part::Steps { .. } | Part::Races | Part::Order { .. } | Part::Picture { .. } => {
+            Ok(Vec::new(alloc))
+        }
+    }
+}
+
 // The text of a part.
 fn text_of(
     alloc: Global,
@@ -114,15 +132,19 @@ fn text_of(
     spoken: Option<Reached>,
     shown: &Shown<'_>,
     order: &Analysis,
+    rust: &[Pair],
 ) -> Result<Vec<u8>, AllocError>
     requires count { (seen shown.now).count < 2 ^ 32 }
     requires feet { length (seen shown.now).feet < 2 ^ 32 }
     requires tracks { Tracks order.now (seen shown.now).feet }
+    requires races { (seen shown.now).races ≡ predicted (seen shown.now).feet }
+    requires rust { rust.now ≡ rust_of part (seen shown.now).feet }
     ensures { IfOk result (λ text. text.items ≡ part_text part spoken (seen shown.now)) }
 {
     match part {
         Part::Steps { from: _, to: _ } => steps_of(alloc, spoken, shown),
         Part::Races => races(alloc, shown),
+        Part::TwoOrders => two_orders(alloc, shown, order, rust),
         Part::Order { first, second } => order_text(alloc, shown, order, first, second),
         Part::Picture { asked } => picture(alloc, shown, order, asked),
     }

@@ -215,7 +215,7 @@ fn between(part: Part) -> Between
 {
     match part {
         Part::Steps { from, to } => Between { from, to },
-        Part::Races | Part::Order { .. } => Between { from: 0, to: ALL },
+        Part::Races | Part::TwoOrders | Part::Order { .. } => Between { from: 0, to: ALL },
         Part::Picture { asked } => drawn_between(asked),
     }
 }

@@ -4,23 +4,22 @@ ghost use Rattle.mr_io.specs.Counts.{Rose};
 ghost use Rattle.mr_io.specs.Files.{Contents};
 ghost use Rattle.mr_input.specs.Answer.{Tells, TellsOrUnread};
 ghost use Rattle.mr_input.specs.Inputs.{IsUnreadFault};
-ghost use Rattle.mr_traced.specs.Answers.{Tells as AreTold};
+ghost use Rattle.mr_traced.specs.Answers.{TellsBy};
 ghost use Rattle.mr_traced.specs.Seen.{Seen};
 ghost use Rattle.mr_traced.specs.declared.refusal.Untold.{Untold as WhyUntold};
 ghost use Rattle.mr_show.specs.declared.form.Telling.{Telling as What};
 ghost use Rattle.mr_show.specs.Answer.{bytes_answer};
 ghost use Rattle.mr_show.specs.Answering.{IsBare, IsOfBytes, IsOfFiles, IsShownStatus};
-ghost use Rattle.mr_show.specs.Traced.{IsTextOf, holds_trace, placed_answer, places_answer, seen_answer};
-ghost use Rattle.mr_show.specs.Traced.{status_of, telling_of, text_placed};
+ghost use Rattle.mr_show.specs.Traced.{IsTextOf, bare_answer, count_of, holds_trace, placed_answer, places_answer};
+ghost use Rattle.mr_show.specs.Traced.{seen_answer, status_of, telling_of, text_placed};
 
-use crate::form::{Part, Saying, Telling};
+use crate::form::{Alone, Part, Saying, Telling};
 use crate::shown::{shown_file, shown_text};
 use mr_input::{Refusal, Written};
 use mr_io::{FileFault, Files};
 use mr_lex::LONG_TEXT;
-use mr_picture::Span;
 use mr_trace::{MAX_BYTES, TOO_LONG};
-use mr_traced::{PlacesFault, Told, Untold, fault_line, is_trace, picture, races, steps};
+use mr_traced::{PlacesFault, Told, Untold, fault_line, is_trace, orders, picture, races, steps};
 use std::alloc::Global;
 
 // What is told of a trace whose file stands where that of a program would, if anything is.
@@ -29,6 +28,7 @@ fn telling_of(saying: Saying) -> Option<Telling>
 {
     match saying {
         Saying::OfRun(Part::Races) => Some(Telling::Races),
+        Saying::OfRun(Part::TwoOrders) => Some(Telling::TwoOrders),
         Saying::OfRun(Part::Steps { from, to }) => Some(Telling::Steps { from, to }),
         Saying::OfRun(Part::Picture { asked }) => Some(Telling::Picture { asked }),
         _ => None,
@@ -173,41 +173,51 @@ fn placed(alloc: Global, what: Telling, trace: &[u8], places: &[u8]) -> Result<W
     }
     match what {
         Telling::Races => said(alloc, races(alloc, trace, places)),
+        Telling::TwoOrders => said(alloc, orders(alloc, trace, Some(places))),
         Telling::Steps { from, to } => said(alloc, steps(alloc, trace, Some(places), from, to)),
         Telling::Picture { asked } => said(alloc, picture(alloc, trace, Some(places), asked)),
     }
 }
 
-/// The steps of the trace in a file, without places.
+/// What is told of the trace in a file, without places.
 pub(crate) fn bare_file<F: Files>(
     alloc: Global,
     files: &mut F,
-    span: Span,
+    what: Alone,
     trace: &str,
 ) -> Result<Written, Refusal>
     ensures same { F.told files.new ≡ F.told files.old }
     ensures reads { F.reads files.new ≤ F.reads files.old + 1 }
     ensures faults { F.faults files.old ≤ F.faults files.new }
     ensures answer { (contents : Contents) → F.told files.old ≡ Some contents
-        → IsBare (Rose (F.faults files.old) (F.faults files.new)) span (contents trace.now) result }
+        → IsBare (Rose (F.faults files.old) (F.faults files.new)) what (contents trace.now) result }
     ensures status { IfOk result (λ a. IsShownStatus a.status) }
     ensures texts { F.told files.old ≡ None → (trace : List ℕ)
-        × IsBare (Rose (F.faults files.old) (F.faults files.new)) span (Some trace) result }
+        × IsBare (Rose (F.faults files.old) (F.faults files.new)) what (Some trace) result }
     ensures untold { F.told files.old ≡ None → IsUnreadFault result
         → Rose (F.faults files.old) (F.faults files.new) }
 {
     let mut bytes = Vec::new(alloc);
     match files.read(alloc, trace, MAX_BYTES as u64, &mut bytes) {
-        Ok(()) => said(
-            alloc,
-            steps(alloc, bytes.as_slice(), None, span.from, span.to),
-        ),
+        Ok(()) => alone(alloc, what, bytes.as_slice()),
         Err(FileFault::Failed) | Err(FileFault::Missing) => Err(Refusal::ReadTrace),
         Err(FileFault::Long) => Err(Refusal::Trace {
             at: 0,
             code: TOO_LONG,
         }),
         Err(FileFault::Memory) => Err(Refusal::Memory),
+    }
+}
+
+// What is told of a trace without places.
+fn alone(alloc: Global, what: Alone, trace: &[u8]) -> Result<Written, Refusal>
+    ensures answer { Tells (bare_answer what (Some trace.now)) result }
+    ensures status { IfOk result (λ a. IsShownStatus a.status) }
+    ensures read { ¬ IsUnreadFault result }
+{
+    match what {
+        Alone::Steps(span) => said(alloc, steps(alloc, trace, None, span.from, span.to)),
+        Alone::TwoOrders => said(alloc, orders(alloc, trace, None)),
     }
 }
 
@@ -221,8 +231,8 @@ fn status_of(races: usize) -> u8
 
 // What was told of a trace, with its status, or why nothing was.
 fn said(alloc: Global, told: Result<Told, Untold>) -> Result<Written, Refusal>
-    ensures answer { (what : What) (defined : Result Seen WhyUntold) → AreTold (IsTextOf what) told defined
-        → Tells (seen_answer what defined) result }
+    ensures answer { (what : What) (defined : Result Seen WhyUntold)
+        → TellsBy (count_of what) (IsTextOf what) told defined → Tells (seen_answer what defined) result }
     ensures status { IfOk result (λ a. IsShownStatus a.status) }
     ensures read { ¬ IsUnreadFault result }
 {

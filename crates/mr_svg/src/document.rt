@@ -20,6 +20,7 @@ path{fill:none;stroke-width:1.5;stroke:#16181b}
 .stop path{stroke-width:2.5;fill:#fff}
 .wake path{stroke-width:2;stroke-dasharray:2 3;marker-end:url(#wakes);stroke:#1a7f37}
 .dependence path{stroke-width:2;marker-end:url(#depends);stroke:#0b57a4}
+.machine-order path{stroke-width:2;stroke-dasharray:9 3 2 3;marker-end:url(#depends);stroke:#0b57a4}
 .race path{stroke-width:2;stroke-dasharray:8 4;stroke:#c11a20}
 .first-race path{stroke-width:4;stroke-dasharray:8 4;stroke:#c11a20}
 .left-out path{stroke-dasharray:2 2;fill:#fff;stroke:#6b727a}
@@ -40,6 +41,7 @@ path{stroke:#f0f2f4}
 .stop path{fill:#14171b}
 .wake path{stroke:#63d47f}
 .dependence path{stroke:#79b8ff}
+.machine-order path{stroke:#79b8ff}
 .race path{stroke:#ff7a72}
 .first-race path{stroke:#ff7a72}
 .left-out path{fill:#14171b;stroke:#98a1ab}

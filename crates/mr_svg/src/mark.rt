@@ -20,6 +20,7 @@ fn sign_word(sign: Sign) -> &'static str
         Sign::Stop => "stop",
         Sign::Wake => "wake",
         Sign::Dependence => "dependence",
+        Sign::MachineOrder => "machine-order",
         Sign::Race => "race",
         Sign::FirstRace => "first-race",
         Sign::LeftOut => "left-out",

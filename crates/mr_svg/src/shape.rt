@@ -74,6 +74,8 @@ pub enum Sign {
     Wake,
     /// An edge by which a step depends on another one.
     Dependence,
+    /// The same, where the order of Rust has no such edge.
+    MachineOrder,
     /// A race.
     Race,
     /// The first race.

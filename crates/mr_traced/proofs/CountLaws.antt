@@ -12,7 +12,7 @@ use Rattle.std.specs.List.{filter, find}
 use Rattle.std.specs.Option.{option_or}
 use Rattle.mr_event.specs.declared.footprint.Pair.{Pair}
 use Rattle.mr_listing.specs.declared.pairs.Group.{Group}
-use Rattle.mr_traced.specs.Groups.{grouped, raised}
+use Rattle.mr_traced.specs.Groups.{count_of, grouped, raised}
 
 -- so many, the first of which is this one
 abbrev pub group : Pair → ℕ → Group
@@ -84,6 +84,14 @@ grouped_more t rs p =
     by false (Some x) fails found =
         let same : count_by t rs + 0 ≡ count_by t rs = omega arith in
         ap (λ n. Some (group x n)) (counted_more t rs p false fails ∙ same)
+
+-- a group has so many races as pass
+pub count_grouped : (t : Pair → Bool) (rs : List Pair) → count_of (grouped t rs (find t rs)) ≡ count_by t rs
+count_grouped t rs = by (find t rs) refl
+  where
+    by : (o : Option Pair) → find t rs ≡ o → count_of (grouped t rs o) ≡ count_by t rs
+    by None e = sym (none_counted t rs e)
+    by (Some x) e = refl
 
 -- there are no more than races
 pub few_grouped : (t : Pair → Bool) (rs : List Pair) (o : Option Pair)

@@ -16,9 +16,16 @@ abbrev pub Answers : {X Y : Type 0} → (X → Y) → Result X Untold → Result
 Answers view (Ok x) defined = defined ≡ Ok (view x)
 Answers view (Err e) defined = Refuses e defined
 
--- WHAT IS TOLD is a text of what is defined, with the number of its races; or it is refused for the cause that is
+-- WHAT IS TOLD is a text of what is defined, with a number of its races; or it is refused for the cause that is
 -- defined, unless memory ran out
+abbrev pub TellsBy : (Seen → ℕ) → (Seen → List ℕ → Type 0) → Result Told Untold → Result Seen Untold → Type 0
+TellsBy count IsText (Ok told) defined =
+    (s : Seen) × (defined ≡ Ok s) × IsText s told.text.items × (told.races ≡ count s)
+TellsBy count IsText (Err e) defined = Refuses e defined
+
+-- the same with the number of all
+abbrev pub all_races : Seen → ℕ
+all_races s = length s.races
+
 abbrev pub Tells : (Seen → List ℕ → Type 0) → Result Told Untold → Result Seen Untold → Type 0
-Tells IsText (Ok told) defined =
-    (s : Seen) × (defined ≡ Ok s) × IsText s told.text.items × (told.races ≡ length s.races)
-Tells IsText (Err e) defined = Refuses e defined
+Tells IsText told defined = TellsBy all_races IsText told defined

@@ -43,6 +43,15 @@ grouped test races (Some first) = Some (record { first = first; count = count_by
 abbrev pub group_at : Seen → Both → List Pair → Option Group
 group_at s both races = grouped (is_at s both) races (find (is_at s both) races)
 
+-- of each two places this is the group of the races
+abbrev pub AreCounts : Seen → (Both → Option Group) → Type 0
+AreCounts s at = (both : Both) → at both ≡ group_at s both s.races
+
+-- how many races a group has, if there is one
+abbrev pub count_of : Option Group → ℕ
+count_of None = 0
+count_of (Some group) = group.count
+
 -- the same with one more race of these places, which the code counts
 abbrev pub raised : Option Group → Pair → Group
 raised None pair = record { first = pair; count = 1 }

@@ -3,6 +3,7 @@ pub mod Drawn
 pub mod Faults
 pub mod Groups
 pub mod Names
+pub mod Orders
 pub mod Places
 pub mod Races
 pub mod Seen

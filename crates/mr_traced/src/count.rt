@@ -1,9 +1,9 @@
 //! The races of a trace by pairs of places.
-ghost use Rattle.std.specs.Prelude.{◌≡◌, ◌<◌, ◌^◌, All, IfOk, IfSome, OnOk, Some, cond, slice_get};
+ghost use Rattle.std.specs.Prelude.{◌≡◌, ◌<◌, ◌^◌, All, IfOk, IfSome, OnOk, Some, cond, count_by, slice_get};
 ghost use Rattle.std.specs.BTreeMap.{IsOrdered, get};
 ghost use Rattle.std.specs.Map.{values_of};
 ghost use Rattle.std.specs.Ordering.{is_eq};
-ghost use Rattle.mr_traced.specs.Groups.{AreGroups, both_cmp, both_of, group_at, groups as groups_of};
+ghost use Rattle.mr_traced.specs.Groups.{AreCounts, AreGroups, both_cmp, both_of, count_of, groups as groups_of, is_at};
 ghost use Rattle.mr_traced.specs.Groups.{place_in, raised};
 ghost use Rattle.mr_traced.specs.Seen.{seen};
 
@@ -72,16 +72,43 @@ fn count_one(groups: &mut BTreeMap<Both, Group>, both: Both, pair: Pair) -> Resu
     Ok(())
 }
 
-// Counts all races.
-fn counted(alloc: Global, shown: &Shown<'_>) -> Result<BTreeMap<Both, Group>, OutOfMemory>
-    ensures { IfOk result
-        (λ groups. (q : Both) → get both_cmp groups q ≡ group_at (seen shown.now) q (seen shown.now).races) }
+/// Counts all races. An `Err` is for want of memory.
+pub(crate) fn counted(
+    alloc: Global,
+    shown: &Shown<'_>,
+) -> Result<BTreeMap<Both, Group>, OutOfMemory>
+    ensures { IfOk result (λ groups. AreCounts (seen shown.now) (get both_cmp groups)) }
 {
     let mut groups = BTreeMap::new(alloc);
     for pair in shown.races {
         count_one(&mut groups, both_of(shown, *pair), *pair)?;
     }
     Ok(groups)
+}
+
+// The races of two places, as they are counted.
+fn group_for(counts: &BTreeMap<Both, Group>, both: Both) -> Option<Group>
+    ensures { result ≡ get both_cmp counts.now both }
+{
+    counts.get(&both).copied()
+}
+
+// How many these are.
+fn count_of(group: Option<Group>) -> usize
+    ensures { result ≡ count_of group }
+{
+    match group {
+        None => 0,
+        Some(group) => group.count,
+    }
+}
+
+/// How many races are of the places of a race, as they are counted.
+pub(crate) fn count_at(shown: &Shown<'_>, counts: &BTreeMap<Both, Group>, pair: Pair) -> usize
+    requires { AreCounts (seen shown.now) (get both_cmp counts.now) }
+    ensures { result ≡ count_by (is_at (seen shown.now) (both_of (seen shown.now) pair)) (seen shown.now).races }
+{
+    count_of(group_for(counts, both_of(shown, pair)))
 }
 
 // The groups of a map, by rising places.

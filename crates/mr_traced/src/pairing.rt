@@ -67,8 +67,12 @@ fn push_side(out: &mut Vec<u8>, shown: &Shown<'_>, number: usize) -> Result<(), 
     push_side_foot(out, foot_at(shown, number))
 }
 
-// Appends the races of two places.
-fn push_group(out: &mut Vec<u8>, shown: &Shown<'_>, group: Group) -> Result<(), OutOfMemory>
+/// Appends the races of two places.
+pub(crate) fn push_group(
+    out: &mut Vec<u8>,
+    shown: &Shown<'_>,
+    group: Group,
+) -> Result<(), OutOfMemory>
     ensures { OnOk result (out.new.items ≡ out.old.items ++ group_text (seen shown.now) group) }
 {
     push_place(out, shown, site_at(shown, group.first.first))?;

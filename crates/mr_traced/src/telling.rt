@@ -4,8 +4,9 @@ ghost use Rattle.mr_event.specs.Footprint.{Footprint};
 ghost use Rattle.mr_event.specs.Predicted.{predicted};
 ghost use Rattle.mr_trace.specs.Reading.{trace_of};
 ghost use Rattle.mr_trace.specs.Spelling.{Traces};
-ghost use Rattle.mr_traced.specs.Answers.{Answers, Tells};
+ghost use Rattle.mr_traced.specs.Answers.{Answers, Tells, TellsBy};
 ghost use Rattle.mr_traced.specs.Drawn.{IsPictureText};
+ghost use Rattle.mr_traced.specs.Orders.{IsOrdersText, count_either};
 ghost use Rattle.mr_traced.specs.Places.{named, named_of};
 ghost use Rattle.mr_traced.specs.Races.{IsRacesText};
 ghost use Rattle.mr_traced.specs.Seen.{fitting, run_in, seen_bare, seen_in, seen_maybe, seen_of};
@@ -13,14 +14,17 @@ ghost use Rattle.mr_traced.specs.Steps.{IsStepsText};
 
 use crate::OutOfMemory;
 use crate::body::steps_text;
+use crate::by_orders::orders_text;
 use crate::drawn::picture_text;
 use crate::form::{Places, read_places};
 use crate::pairing::races_text;
 use crate::refusal::{PlacesFault, Untold};
-use mr_clocks::predicted_by_clocks;
+use mr_clocks::{Analysis, predicted_by_clocks};
 use mr_event::Footprint;
 use mr_picture::Span;
+use mr_rust_order::races as races_by_rust;
 use mr_trace::{TraceFault, decode};
+use mr_two_orders::either;
 use std::alloc::Global;
 
 /// What is told: a text, and how many races the trace has.
@@ -93,6 +97,23 @@ pub fn picture(
     match places {
         Some(text) => picture_placed(alloc, trace, text, asked),
         None => picture_bare(alloc, trace, asked),
+    }
+}
+
+/// The races of a trace by two orders, Rust's and the machine's: by pairs of places, or without a file of places race by
+/// race; or why they aren't told.
+pub fn orders(alloc: Global, trace: &[u8], places: Option<&[u8]>) -> Result<Told, Untold>
+    // What the bytes give, computed.
+    ensures exact { TellsBy count_either IsOrdersText result
+        (seen_maybe (run_in (trace_of trace.now)) (option_copied places.entry)) }
+
+    // Of bytes that spell a run it is that run.
+    ensures spelled { (run : List Footprint) → Traces trace.now run
+        → TellsBy count_either IsOrdersText result (seen_maybe (Ok run) (option_copied places.entry)) }
+{
+    match places {
+        Some(text) => orders_placed(alloc, trace, text),
+        None => orders_bare(alloc, trace),
     }
 }
 
@@ -236,5 +257,42 @@ fn picture_of(
     Ok(Told {
         text,
         races: listed.len(),
+    })
+}
+
+#[tactic(auto, unfolding(crate::specs::Seen::seen_in))]
+fn orders_placed(alloc: Global, trace: &[u8], places: &[u8]) -> Result<Told, Untold>
+    ensures { TellsBy count_either IsOrdersText result (seen_in (run_in (trace_of trace.now)) (named_of places.now)) }
+{
+    let run = run_of(alloc, trace)?;
+    let places = read_places(alloc, places)?;
+    fits(&places, run.as_slice())?;
+    Ok(orders_of(alloc, run.as_slice(), &places)?)
+}
+
+#[tactic(auto, unfolding(crate::specs::Seen::seen_bare))]
+fn orders_bare(alloc: Global, trace: &[u8]) -> Result<Told, Untold>
+    ensures { TellsBy count_either IsOrdersText result (seen_bare (run_in (trace_of trace.now))) }
+{
+    let run = run_of(alloc, trace)?;
+    let places = Places::none(alloc);
+    Ok(orders_of(alloc, run.as_slice(), &places)?)
+}
+
+// The races of a run at these places by two orders.
+fn orders_of(alloc: Global, run: &[Footprint], places: &Places<'_>) -> Result<Told, OutOfMemory>
+    requires { length run.now < 2 ^ 32 }
+    ensures { IfOk result (λ told. IsOrdersText (seen_of run.now (named places.now)) told.text.items
+        × (told.races ≡ count_either (seen_of run.now (named places.now)))) }
+{
+    let order = Analysis::of_run(alloc, run)?;
+    let races = predicted_by_clocks(alloc, run)?;
+    let rust = races_by_rust(alloc, run)?;
+    let listed = races.as_slice();
+    let shown = places.shown(run, listed);
+    let text = orders_text(alloc, &shown, &order, rust.as_slice())?;
+    Ok(Told {
+        text,
+        races: either(rust.as_slice(), listed).len(),
     })
 }

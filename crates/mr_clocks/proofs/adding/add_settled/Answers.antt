@@ -4,12 +4,18 @@ use Rattle.mr_event.specs.Order.{thread_at}
 use Rattle.mr_clocks.proofs.Kept.{clocks_same, latest_low, latest_more, made_same, rows_same}
 use Rattle.mr_clocks.proofs.Noting.{keys_same}
 use Rattle.mr_clocks.proofs.SkipLaws.{skips_none, skips_same}
+use Rattle.mr_clocks.proofs.WakerLaws.{wakers_extended}
 use Rattle.mr_clocks.proofs.adding.add_settled.Goals as goal
 
 pub enter-requires-clause-clocks : goal.enter-requires-clause-clocks
 enter-requires-clause-clocks c =
     clocks_same c.args.run.now c.args.j c.args.clocks.now.items c.prepare.new.clocks.items c.args.numbers.now.items c.prepare.new.numbers.items
     c.in_ok-prepare.ensures.clocks c.in_ok-prepare.ensures.numbers c.requires.clocks
+
+pub enter-requires-clause-wakers : goal.enter-requires-clause-wakers
+enter-requires-clause-wakers c =
+    wakers_extended c.args.run.now c.args.j c.args.j c.args.wakers.now.heads.items c.prepare.new.wakers.heads.items c.args.wakers.now.links.items c.prepare.new.wakers.links.items
+    c.in_ok-prepare.ensures.heads c.in_ok-prepare.ensures.wakings c.requires.wakers
 
 pub enter-requires-clause-rows : goal.enter-requires-clause-rows
 enter-requires-clause-rows c =

@@ -4,6 +4,10 @@ use Rattle.mr_clocks.proofs.Parts.{latest_step, part_ends, part_of_latest}
 use Rattle.mr_clocks.proofs.RowLaws.{known_alone, known_place, next_of, seen_rows}
 use Rattle.mr_clocks.proofs.made.is_settled.Goals as goal
 
+pub is_woken-requires-clause-next : goal.is_woken-requires-clause-next
+is_woken-requires-clause-next c =
+    next_of c.args.run.now c.args.j c.at-next.result c.args.latest.now c.requires.latest (c.at-next.ensures ∙ ap (slice_index c.args.latest.now) c.thread_at.ensures)
+
 pub lent-clock-requires-clause-step : goal.lent-clock-requires-clause-step
 lent-clock-requires-clause-step c =
     let step = latest_step c.args.run.now c.args.j c.args.latest.now c.thread_at.result c.at-next.result c.requires.latest c.at-next.ensures c.if-next-eq0.false in
@@ -26,8 +30,9 @@ returns-clause-keeps c = λ known.
     let next = c.at-next.result in
     let clock = c.lent-clock.result.now in
     let is_next = c.at-next.ensures ∙ ap (slice_index latest) c.thread_at.ensures in
+    let unwoken = c.is_woken.ensures c.if-is_woken.false in
     let part = part_of_latest run c.args.j clocks numbers latest clock next c.requires.clocks c.requires.latest is_next c.if-next-eq0.false c.lent-clock.ensures in
-    let seen = seen_rows run rows links found clock c.args.j next c.requires.rows c.requires.found (next_of run c.args.j next latest c.requires.latest is_next)
+    let seen = seen_rows run rows links found clock c.args.j next c.requires.rows c.requires.found (next_of run c.args.j next latest c.requires.latest is_next) (λ m s apart. absurd (apart (unwoken m s)))
     (λ y lt. known_place run rows links (slice_index found y) c.args.j clock c.requires.rows (c.are_latest_known.ensures known y lt)) in
     subst (λ n. KeepsClock run clocks numbers n c.args.j) is_next
     (record {
@@ -45,7 +50,8 @@ returns-clause-alone c = λ known.
     let found = c.args.found.now in
     let next = c.at-next.result in
     let is_next = c.at-next.ensures ∙ ap (slice_index latest) c.thread_at.ensures in
+    let unwoken = c.is_woken.ensures c.if-is_woken.false in
     let part = part_of_latest run c.args.j c.args.clocks.now c.args.numbers.now latest clock next c.requires.clocks c.requires.latest is_next c.if-next-eq0.false c.lent-clock.ensures in
-    let seen = seen_rows run rows links found clock c.args.j next c.requires.rows c.requires.found (next_of run c.args.j next latest c.requires.latest is_next)
+    let seen = seen_rows run rows links found clock c.args.j next c.requires.rows c.requires.found (next_of run c.args.j next latest c.requires.latest is_next) (λ m s apart. absurd (apart (unwoken m s)))
     (λ y lt. known_place run rows links (slice_index found y) c.args.j clock c.requires.rows (c.are_latest_known.ensures known y lt)) in
     known_alone run rows links found clock c.args.j c.requires.rows c.requires.found (part_ends run clock c.args.j part seen) (c.are_latest_known.ensures known)

@@ -4,6 +4,10 @@ use Rattle.mr_clocks.proofs.Parts.{latest_step, part_ends, part_of_latest}
 use Rattle.mr_clocks.proofs.RowLaws.{next_of, seen_rows}
 use Rattle.mr_clocks.proofs.made.keeps_clock.Goals as goal
 
+pub is_woken-requires-clause-next : goal.is_woken-requires-clause-next
+is_woken-requires-clause-next c =
+    next_of c.args.run.now c.args.j c.at-next.result c.args.latest.now c.requires.latest (c.at-next.ensures ∙ ap (slice_index c.args.latest.now) c.thread_at.ensures)
+
 pub lent-clock-requires-clause-step : goal.lent-clock-requires-clause-step
 lent-clock-requires-clause-step c =
     let step = latest_step c.args.run.now c.args.j c.args.latest.now c.thread_at.result c.at-next.result c.requires.latest c.at-next.ensures c.if-next-eq0.false in
@@ -23,8 +27,9 @@ returns c = λ known.
     let next = c.at-next.result in
     let clock = c.lent-clock.result.now in
     let is_next = c.at-next.ensures ∙ ap (slice_index latest) c.thread_at.ensures in
+    let unwoken = c.is_woken.ensures c.if-is_woken.false in
     let part = part_of_latest run c.args.j clocks numbers latest clock next c.requires.clocks c.requires.latest is_next c.if-next-eq0.false c.lent-clock.ensures in
-    let seen = seen_rows run c.args.rows.now c.args.links.now c.args.found.now clock c.args.j next c.requires.rows c.requires.found (next_of run c.args.j next latest c.requires.latest is_next) (c.are_known.ensures known) in
+    let seen = seen_rows run c.args.rows.now c.args.links.now c.args.found.now clock c.args.j next c.requires.rows c.requires.found (next_of run c.args.j next latest c.requires.latest is_next) (λ m s apart. absurd (apart (unwoken m s))) (c.are_known.ensures known) in
     subst (λ n. KeepsClock run clocks numbers n c.args.j) is_next
     (record {
       some = omega (arith, c.if-next-eq0.false);

@@ -4,7 +4,22 @@ use Rattle.mr_clocks.specs.Clocks.{IsMade}
 use Rattle.mr_clocks.specs.Rows.{IsPlaceKnown, IsPlaceSeen, step_of}
 use Rattle.mr_clocks.proofs.Parts.{made_of, part_ends}
 use Rattle.mr_clocks.proofs.RowLaws.{known_alone, known_stays, next_of, seen_rows}
+use Rattle.mr_clocks.proofs.SkipLaws.{skips_none}
 use Rattle.mr_clocks.proofs.made.walked_clock.Goals as goal
+
+pub follow_wakers-requires-clause-next : goal.follow_wakers-requires-clause-next
+follow_wakers-requires-clause-next c =
+    next_of c.args.run.now c.args.j c.at-next.result c.args.latest.now c.requires.latest (c.at-next.ensures ∙ ap (slice_index c.args.latest.now) c.thread_at.ensures)
+
+pub loop-y-init : goal.loop-y-init
+loop-y-init c = record {
+  part = c.in_ok-changed.ensures.part;
+  woken = c.in_ok-changed.ensures.syncs;
+  seen = λ z lt. absurd (omega (arith, lt));
+  same = λ none p e. c.in_ok-changed.ensures.same none ∙ c.in_ok-clock.ensures.previous p e;
+  left = skips_none c.args.run.now c.args.j c.args.links.now c.new-left.result.items c.new-left.ensures.items;
+  known = λ all z lt. absurd (omega (arith, lt));
+}
 
 pub walk_next-requires-clause-next : goal.walk_next-requires-clause-next
 walk_next-requires-clause-next c =
@@ -20,6 +35,7 @@ loop-y-preserved c =
     let new = c.walk_next.new.clock in
     record {
       part = w.part;
+      woken = λ m s apart. w.kept m (i.woken m s apart);
       seen = λ z lt. elim (ℕ_discrete z c.loop-y.y) [
         | yes is ↦ subst (λ (q : ℕ). IsPlaceSeen c.args.run.now rows links (slice_index found q) new c.args.j) (sym is) w.seen
         | no ne ↦ λ inside apart it_asks none k here e counts. w.kept (step_of links k) (i.seen z (omega (arith, lt, ne)) inside apart it_asks none k here e counts)
@@ -41,7 +57,7 @@ returns-clause-made c =
     let is_next = c.at-next.ensures ∙ ap (slice_index c.args.latest.now) c.thread_at.ensures in
     let next = next_of run c.args.j number c.args.latest.now c.requires.latest is_next in
     let here = part_ends run c.loop-y.clock c.args.j c.loop-y.invariant.part
-    (seen_rows run c.args.rows.now c.args.links.now c.args.found.now c.loop-y.clock c.args.j number c.requires.rows c.requires.found next
+    (seen_rows run c.args.rows.now c.args.links.now c.args.found.now c.loop-y.clock c.args.j number c.requires.rows c.requires.found next c.loop-y.invariant.woken
     (λ z lt. c.loop-y.invariant.seen z (omega (arith, lt)))) in
     subst (λ n. IsMade run clocks numbers n c.if_new-made.result c.args.j) is_next
     (made_of run clocks numbers c.loop-y.clock number c.args.j c.loop-y.changed c.if_new-made.result here
@@ -57,5 +73,5 @@ returns-clause-alone c = λ all.
     let clock = c.loop-y.clock in
     let next = next_of run c.args.j c.at-next.result c.args.latest.now c.requires.latest (c.at-next.ensures ∙ ap (slice_index c.args.latest.now) c.thread_at.ensures) in
     let here = part_ends run clock c.args.j c.loop-y.invariant.part
-    (seen_rows run rows links found clock c.args.j c.at-next.result c.requires.rows c.requires.found next (λ z lt. c.loop-y.invariant.seen z (omega (arith, lt)))) in
+    (seen_rows run rows links found clock c.args.j c.at-next.result c.requires.rows c.requires.found next c.loop-y.invariant.woken (λ z lt. c.loop-y.invariant.seen z (omega (arith, lt)))) in
     known_alone run rows links found clock c.args.j c.requires.rows c.requires.found here (λ z lt. c.loop-y.invariant.known all z (omega (arith, lt)))

@@ -1,50 +1,28 @@
 use Rattle.std.proofs.Common.{◌≡◌, ◌+◌, ◌<◌, length, sym, ◌∙◌, ap, subst, arith}
 use Rattle.std.proofs.lemmas.List.{get_or_read}
-use Rattle.mr_event.specs.Footprint.{Footprint}
 use Rattle.mr_event.specs.Likeness.{DoTheSame}
 use Rattle.mr_clocks.specs.Memos.{AreMemos, IsMemoOf, memo_at, no_memo}
-use Rattle.mr_clocks.specs.Rows.{AreAllAsked}
-use Rattle.mr_clocks.proofs.MemoLaws.{asked_alike, if_some, memo_exact, memo_here, memos_grown}
+use Rattle.mr_clocks.proofs.MemoLaws.{memo_alike, memo_exact, memo_here, memos_grown}
 use Rattle.mr_clocks.proofs.memos.look_further.Goals as goal
 
 pub returns-in_err-catch_up_at-clause-memos : goal.returns-in_err-catch_up_at-clause-memos
 returns-in_err-catch_up_at-clause-memos c = subst (λ rows. AreMemos rows c.catch_up_at.new.memos.items) c.as_slice.ensures.value c.catch_up_at.ensures.memos
 
-pub returns-then-serves-clause-memos : goal.returns-then-serves-clause-memos
-returns-then-serves-clause-memos c = subst (λ rows. AreMemos rows c.catch_up_at.new.memos.items) c.as_slice.ensures.value c.catch_up_at.ensures.memos
+pub returns-then-is_alike-clause-memos : goal.returns-then-is_alike-clause-memos
+returns-then-is_alike-clause-memos c = subst (λ rows. AreMemos rows c.catch_up_at.new.memos.items) c.as_slice.ensures.value c.catch_up_at.ensures.memos
 
-pub returns-then-serves-clause-memo : goal.returns-then-serves-clause-memo
-returns-then-serves-clause-memo c =
+pub returns-then-is_alike-clause-memo : goal.returns-then-is_alike-clause-memo
+returns-then-is_alike-clause-memo c =
     let rows = c.args.rows.now.items in
     let memos = c.catch_up_at.new.memos.items in
     let slot = c.args.slot in
     let all : AreMemos rows memos = subst (λ l. AreMemos l memos) c.as_slice.ensures.value c.catch_up_at.ensures.memos in
     let inside : slot < length memos = omega (arith, c.requires.slot, c.requires.all, c.catch_up_at.ensures.all, c.catch_up_at.new.memos.ok.0) in
     let is : c.index-kept.result.now ≡ memo_at memos slot = get_or_read memos slot c.index-kept.result.now inside c.index-kept.ensures no_memo in
-    let stamp : (memo_at memos slot).1 ≡ length rows + 1 = ap (λ m. m.1) (sym is) ∙ c.serves.ensures.stamp c.if-serves.true ∙ omega (arith, c.len-stamp.ensures, c.args.rows.now.ok.0) in
-    subst (λ (f : Footprint). IsMemoOf rows f (memo_at memos slot)) (ap (λ m. m.0) (sym is) ∙ c.serves.ensures.step c.if-serves.true)
+    let stamp : (memo_at memos slot).1 ≡ length rows + 1 = ap (λ m. m.1) (sym is) ∙ c.is_alike.ensures.stamp c.if-is_alike.true ∙ omega (arith, c.len.ensures, c.args.rows.now.ok.0) in
+    memo_alike (memo_at memos slot).0 c.args.step.now rows (memo_at memos slot)
+    (subst (λ m. DoTheSame m.0 c.args.step.now) is (c.is_alike.ensures.step c.if-is_alike.true))
     (memo_exact rows (memo_at memos slot) stamp (all slot inside))
-
-pub returns-in_err-known-clause-memos : goal.returns-in_err-known-clause-memos
-returns-in_err-known-clause-memos c = subst (λ rows. AreMemos rows c.catch_up_at.new.memos.items) c.as_slice.ensures.value c.catch_up_at.ensures.memos
-
-pub memo_for-requires-clause-known : goal.memo_for-requires-clause-known
-memo_for-requires-clause-known c =
-    let rows = c.args.rows.now.items in
-    let step = c.args.step.now in
-    let memos = c.catch_up_at.new.memos.items in
-    let slot = c.args.slot in
-    let kept = c.index-kept.result.now in
-    let all : AreMemos rows memos = subst (λ l. AreMemos l memos) c.as_slice.ensures.value c.catch_up_at.ensures.memos in
-    let inside : slot < length memos = omega (arith, c.requires.slot, c.requires.all, c.catch_up_at.ensures.all, c.catch_up_at.new.memos.ok.0) in
-    let is : kept ≡ memo_at memos slot = get_or_read memos slot kept inside c.index-kept.ensures no_memo in
-    if_some (λ v. DoTheSame kept.0 step × (kept.1 ≡ c.len-stamp.result + 1) × (v.items ≡ kept.2)) (λ v. AreAllAsked step rows v.items) c.in_ok-known.known
-    (λ v h.
-    let as_new : (memo_at memos slot).1 ≡ length rows + 1 = ap (λ m. m.1) (sym is) ∙ h.1 ∙ omega (arith, c.len-stamp.ensures, c.args.rows.now.ok.0) in
-    let of = memo_exact rows (memo_at memos slot) as_new (all slot inside) in
-    let asked : AreAllAsked kept.0 rows kept.2 = subst (λ m. AreAllAsked m.0 rows m.2) (sym is) of.asked in
-    subst (AreAllAsked step rows) (sym h.2) (asked_alike kept.0 step rows kept.2 h.0 asked))
-    c.in_ok-known.ensures
 
 pub returns-in_err-memo-clause-memos : goal.returns-in_err-memo-clause-memos
 returns-in_err-memo-clause-memos c =
@@ -57,7 +35,7 @@ returns-clause-memos c =
     c.keep_memo.ensures.memos rows
     (memos_grown c.args.rows.now.items rows c.catch_up_at.new.memos.items c.in_ok-memo.ensures.grown
     (subst (λ l. AreMemos l c.catch_up_at.new.memos.items) c.as_slice.ensures.value c.catch_up_at.ensures.memos))
-    (memo_here rows c.args.step.now c.in_ok-memo.memo c.in_ok-memo.ensures.memo)
+    (memo_here rows c.args.step.now c.in_ok-memo.memo c.in_ok-memo.ensures.step c.in_ok-memo.ensures.memo)
 
 pub returns-clause-memo : goal.returns-clause-memo
 returns-clause-memo c = subst (IsMemoOf c.memo_for.new.rows.items c.args.step.now) (sym c.keep_memo.ensures.here) c.in_ok-memo.ensures.memo

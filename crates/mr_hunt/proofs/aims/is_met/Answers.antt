@@ -9,6 +9,10 @@ pub returns-in-Race : goal.returns-in-Race
 returns-in-Race c =
     rw c.in-Race.is (IfOk-weaker c.has_race.result _ _ (λ met h. h c.args.places.now) c.has_race.ensures)
 
+pub returns-in-RustRace : goal.returns-in-RustRace
+returns-in-RustRace c =
+    rw c.in-RustRace.is (IfOk-weaker c.has_rust_race.result _ _ (λ met h. h c.args.places.now) c.has_rust_race.ensures)
+
 pub returns-in-Undefined : goal.returns-in-Undefined
 returns-in-Undefined c =
     rw c.in-Undefined.is (IfOk-weaker c.has_undefined.result _ _ (λ met h. h c.args.places.now) c.has_undefined.ensures)

@@ -3,9 +3,10 @@ use Rattle.std.proofs.lemmas.Result.{IfOk-weaker}
 use Rattle.mr_base.specs.declared.reason.Verdict.{Verdict}
 use Rattle.mr_sched.specs.declared.schedule.Schedule.{Schedule}
 use Rattle.mr_auto.specs.Drawing.{drawn_schedule}
-use Rattle.mr_listing.specs.Races.{races_text}
+use Rattle.mr_start.specs.Runs.{steps_of}
+use Rattle.mr_hunt.specs.Aims.{aim_of}
 use Rattle.mr_hunt.specs.Ends.{run_told}
-use Rattle.mr_hunt.specs.Texts.{run_races, seen_with, told_text}
+use Rattle.mr_hunt.specs.Texts.{both_races, run_races, told_text}
 use Rattle.mr_hunt.proofs.RunFaults.{drawn_few}
 use Rattle.mr_hunt.proofs.SeenLaws.{races_are, verdict_is}
 use Rattle.mr_hunt.proofs.texts.found_text.Goals as goal
@@ -24,6 +25,7 @@ returns c =
     let p = c.args.p.now in
     let text = c.args.text.now in
     let laid = c.args.places.now in
+    let aim = aim_of c.args.aim in
     let number = c.args.number in
     let most = c.args.most in
     let w = c.in_ok-drawn.drawn.schedule in
@@ -34,9 +36,11 @@ returns c =
     let pairs = races_are p number most w m same run c.draw.new.kept c.races.result.now c.in_ok-drawn.ensures.kept c.races.ensures in
     let steps : c.as_slice.result.now ≡ run_told p (drawn_schedule p number most) =
     c.as_slice.ensures.value ∙ c.in_ok-steps.ensures ∙ ap (λ (u : Schedule). run_told p u) same in
-    let races : c.as_slice-2.result.now ≡ run_races text p laid (drawn_schedule p number most) =
+    let feet : c.steps.result.now ≡ steps_of p (drawn_schedule p number most) =
+    c.steps.ensures ∙ c.in_ok-drawn.ensures.kept ∙ ap (λ (u : Schedule). steps_of p u) same in
+    let races : c.as_slice-2.result.now ≡ run_races text p laid aim (drawn_schedule p number most) =
     c.as_slice-2.ensures.value ∙ c.in_ok-races.ensures
-    ∙ (λ i. races_text (seen_with text p laid (steps i) (pairs i))) in
+    ∙ (λ i. both_races text p laid aim (steps i) (pairs i) (feet i)) in
     IfOk-weaker c.told_text.result _ _
     (λ out h. h ∙ ap₂ (λ (v : Verdict) (rs : List ℕ). told_text c.args.name.now most number v rs) verdict races)
     c.told_text.ensures

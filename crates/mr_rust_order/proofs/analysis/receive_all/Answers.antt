@@ -21,10 +21,10 @@ returns-clause-before c =
     on_ok_weaker c.read_all.result
     (λ j.
     clock_made c.args.run.now c.args.j f locks ended c.args.rows.now one two c.read_all.new.clock c.step_of-step.ensures c.requires.own c.requires.locks c.requires.ended c.requires.rows told j)
-    c.read_all.ensures
+    c.read_all.ensures.joined
 
 pub returns-clause-raised : goal.returns-clause-raised
 returns-clause-raised c =
     let one = c.args.clock.now in
     let two = c.receive_event.new.clock in
-    on_ok_weaker c.read_all.result (λ j. raised_on one two c.read_all.new.clock (join_one one _ two c.in_ok-receive_event.ensures) j.raised) c.read_all.ensures
+    on_ok_weaker c.read_all.result (λ j. raised_on one two c.read_all.new.clock (join_one one _ two c.in_ok-receive_event.ensures) j.raised) c.read_all.ensures.joined

@@ -4,11 +4,6 @@ use Rattle.mr_rust_order.specs.Marks.{AreKept}
 use Rattle.mr_rust_order.proofs.MarkLaws.{all_kept}
 use Rattle.mr_rust_order.proofs.index.place_for.Goals as goal
 
-pub returns-in-Some-clause-marked : goal.returns-in-Some-clause-marked
-returns-in-Some-clause-marked c =
-    let marks = c.args.index.now.marks.keys in
-    all_kept c.args.index.now.shelves.items c.use_shelf.new.shelves.items marks marks c.args.rows.now c.in_ok-shelf.ensures.kept (λ m h. h) c.requires
-
 pub returns-in-Some-clause-place : goal.returns-in-Some-clause-place
 returns-in-Some-clause-place c = inl c.in-Some.ensures
 

@@ -1,17 +1,19 @@
-use Rattle.std.proofs.Common.{subst, sym, ◌∙◌}
+use Rattle.std.proofs.Common.{List, slice_index_or, subst, sym, ◌∙◌}
 use Rattle.std.proofs.lemmas.Result.{on_ok_weaker}
+use Rattle.mr_rust_order.specs.declared.memos.Memo.{Memo}
 use Rattle.mr_rust_order.specs.Loads.{AreMet}
-use Rattle.mr_rust_order.specs.Rows.{row_at}
 use Rattle.mr_rust_order.proofs.LoadLaws.{access_none, access_read}
 use Rattle.mr_rust_order.proofs.loads.read_access.Goals as goal
 
-pub returns-then-not-is_load : goal.returns-then-not-is_load
-returns-then-not-is_load c = access_none c.args.rows.now c.args.access c.args.clock.now (sym c.is_load.ensures ∙ c.if-not-is_load.true)
+pub returns-then-not-is_load-clause-joined : goal.returns-then-not-is_load-clause-joined
+returns-then-not-is_load-clause-joined c = access_none c.args.rows.now c.args.access c.args.clock.now (sym c.is_load.ensures ∙ c.if-not-is_load.true)
 
 pub read_bytes-requires-clause-found : goal.read_bytes-requires-clause-found
 read_bytes-requires-clause-found c =
-    subst (AreMet c.args.rows.now c.args.access) (sym c.as_slice.ensures.value)
-    (λ x lt con. c.in_ok-find_rows.ensures (row_at c.args.rows.now x).range x con (c.requires.marked x lt))
+    let memo = c.memo_at-memo.result.now in
+    subst (AreMet c.args.rows.now c.args.access) (sym c.as_slice-2.ensures.value)
+    (subst (λ (m : Memo). AreMet c.args.rows.now c.args.access m.found.items) (sym (c.memo_at-memo.ensures memo))
+    (subst (λ (l : List Memo). AreMet c.args.rows.now c.args.access (slice_index_or l c.in_ok-slot.slot memo).found.items) (sym c.as_slice.ensures.value) (c.in_ok-slot.ensures.met memo)))
 
-pub returns : goal.returns
-returns c = on_ok_weaker c.read_bytes.result (λ j. access_read c.args.rows.now c.args.access c.args.clock.now c.read_bytes.new.clock (sym c.is_load.ensures ∙ c.if-not-is_load.false) j) c.read_bytes.ensures
+pub returns-clause-joined : goal.returns-clause-joined
+returns-clause-joined c = on_ok_weaker c.read_bytes.result (λ j. access_read c.args.rows.now c.args.access c.args.clock.now c.read_bytes.new.clock (sym c.is_load.ensures ∙ c.if-not-is_load.false) j) c.read_bytes.ensures

@@ -10,6 +10,9 @@ returns-in-OfSteps c = rw c.in-OfSteps.is refl
 pub returns-in-OfRaces : goal.returns-in-OfRaces
 returns-in-OfRaces c = rw c.in-OfRaces.is refl
 
+pub returns-in-OfRust : goal.returns-in-OfRust
+returns-in-OfRust c = rw c.in-OfRust.is refl
+
 pub returns-in-OfPicture : goal.returns-in-OfPicture
 returns-in-OfPicture c = rw c.in-OfPicture.is refl
 

@@ -17,4 +17,4 @@ returns-clause-answer c =
     c.in_ok-found.ensures.first
     ∙ (λ i. first_met aim (c.requires i) p (c.most_in.ensures.same i) range.from range.to) in
     IfOk-weaker c.found_in.result _ _
-    (λ a h. h ∙ ap (λ (o : Option ℕ). found_answer range c.args.name.now text p o) found) c.found_in.ensures.answer
+    (λ a h. h ∙ ap (λ (o : Option ℕ). found_answer range aim c.args.name.now text p o) found) c.found_in.ensures.answer

@@ -1,6 +1,7 @@
 use Rattle.std.proofs.Common.{◌≡◌, ℕ, List, ◌∙◌, ap}
 use Rattle.mr_lex.specs.Reading.{lexed}
 use Rattle.mr_input.specs.Answer.{Answer}
+use Rattle.mr_hunt.specs.Aims.{aim_of}
 use Rattle.mr_hunt.specs.Texts.{found_text}
 use Rattle.mr_show.specs.Gathered.{laid_in}
 use Rattle.mr_show.specs.Hunted.{most_in}
@@ -12,7 +13,8 @@ returns-clause-answer c =
     let text = c.args.text.now in
     let p = c.args.p.now in
     let name = c.args.name.now in
+    let aim = aim_of c.args.aim in
     let same : c.in_ok-text.text.items
-    ≡ found_text text p (laid_in p (lexed text)) name (most_in c.args.range) c.args.number =
-    c.in_ok-text.ensures ∙ (λ i. found_text text p (c.requires i) name (c.most_in.ensures.same i) c.args.number) in
+    ≡ found_text text p (laid_in p (lexed text)) aim name (most_in c.args.range) c.args.number =
+    c.in_ok-text.ensures ∙ (λ i. found_text text p (c.requires i) aim name (c.most_in.ensures.same i) c.args.number) in
     ap said same

@@ -2,6 +2,7 @@ use Rattle.std.proofs.Common.{◌≡◌, ◌<◌, ◌^◌, ◌∙◌, List, ap, 
 use Rattle.std.specs.Prelude.{IfOk, Option}
 use Rattle.mr_clocks.specs.Tracked.{Tracks}
 use Rattle.mr_event.specs.Footprint.{Footprint}
+use Rattle.mr_event.specs.Predicted.{predicted}
 use Rattle.mr_plan.specs.Runs.{Config}
 use Rattle.mr_start.specs.ThreadSteps.{Own}
 use Rattle.mr_input.specs.declared.written.Written.{Written}
@@ -22,6 +23,9 @@ written-requires-clause-feet c =
 pub written-requires-clause-tracks : goal.written-requires-clause-tracks
 written-requires-clause-tracks c =
     subst (λ (feet : List Footprint). Tracks c.order.result.now feet) (sym c.steps.ensures) c.order.ensures
+
+pub written-requires-clause-races : goal.written-requires-clause-races
+written-requires-clause-races c = c.races.ensures ∙ ap predicted (sym c.steps.ensures)
 
 pub returns-clause-answer : goal.returns-clause-answer
 returns-clause-answer c =

@@ -4,7 +4,7 @@ use Rattle.mr_trace.specs.Reading.{trace_of}
 use Rattle.mr_traced.specs.Places.{named_of}
 use Rattle.mr_traced.specs.Races.{IsRacesText}
 use Rattle.mr_traced.specs.Seen.{run_in, seen_in}
-use Rattle.mr_show.specs.declared.form.Telling.TheVariants.{Picture, Races, Steps}
+use Rattle.mr_show.specs.declared.form.Telling.TheVariants.{Picture, Races, Steps, TwoOrders}
 use Rattle.mr_show.specs.Traced.{IsTextOf}
 use Rattle.mr_show.proofs.TracedLaws.{short_text, told_as}
 use Rattle.mr_show.proofs.traced.placed.Goals as goal
@@ -17,6 +17,14 @@ returns-in-Races-clause-answer c =
     (c.said.ensures.answer Races (seen_in (run_in (trace_of c.args.trace.now)) (named_of c.args.places.now))
     (told_as IsRacesText (IsTextOf Races) (λ s text h. h.1) c.races.result
     (seen_in (run_in (trace_of c.args.trace.now)) (named_of c.args.places.now)) c.races.ensures.exact)))
+
+pub returns-in-TwoOrders-clause-answer : goal.returns-in-TwoOrders-clause-answer
+returns-in-TwoOrders-clause-answer c =
+    rw c.in-TwoOrders.is
+    (subst (λ (a : Answer). Tells a c.said-in-TwoOrders.result)
+    (short_text TwoOrders c.args.trace.now c.args.places.now c.if-places-gt-MAX_BYTES.false)
+    (c.said-in-TwoOrders.ensures.answer TwoOrders
+    (seen_in (run_in (trace_of c.args.trace.now)) (named_of c.args.places.now)) c.orders.ensures.exact))
 
 pub returns-in-Steps-clause-answer : goal.returns-in-Steps-clause-answer
 returns-in-Steps-clause-answer c =

@@ -3,9 +3,12 @@ use Rattle.mr_event.specs.Footprint.{Footprint}
 use Rattle.mr_event.specs.Order.{thread_at}
 use Rattle.mr_rust_order.specs.Channels.{AreSent, clock_at, to_joiners, to_lock, to_thread}
 use Rattle.mr_rust_order.specs.Clocks.{IsRaised}
+use Rattle.mr_rust_order.specs.Memos.{AreMemos}
+use Rattle.mr_rust_order.specs.declared.rows.Row.{Row}
 use Rattle.mr_rust_order.specs.Rows.{AreNoted, AreRows}
 use Rattle.mr_rust_order.proofs.ChannelLaws.{channels_more, sent_own, thread_clock}
 use Rattle.mr_rust_order.proofs.ClockLaws.{clock_behind, raise_raised, raised_on}
+use Rattle.mr_rust_order.proofs.MemoLaws.{memos_kept}
 use Rattle.mr_rust_order.proofs.PartnerLaws.{partner_is_race}
 use Rattle.mr_rust_order.proofs.RowLaws.{rows_more}
 use Rattle.mr_rust_order.proofs.StepLaws.{rows_short}
@@ -23,7 +26,7 @@ partner_of-requires-clause-short c =
 pub returns-clause-race : goal.returns-clause-race
 returns-clause-race c =
     partner_is_race c.args.run.now c.args.j c.as_slice-4.result.now c.receive_all.new.clock c.step_of-step.result.now c.in_ok-race.race
-    (subst (AreRows c.args.run.now c.args.j) (sym c.as_slice-4.ensures.value) c.requires.tracks.rows) c.in_ok-receive_all.ensures.before c.step_of-step.ensures c.in_ok-race.ensures
+    (subst (AreRows c.args.run.now c.args.j) (sym c.as_slice-4.ensures.value) c.requires.tracks.rows) c.in_ok-receive_all.ensures.before c.step_of-step.ensures c.in_ok-race.ensures.partner
 
 pub returns-clause-tracks : goal.returns-clause-tracks
 returns-clause-tracks c =
@@ -55,4 +58,6 @@ returns-clause-tracks c =
       ended = channels_more run j to_joiners old.ended.items ended clock tracks.ended behind (subst (λ (g : Footprint). AreSent old.ended.items clock (to_joiners g) ended) at c.in_ok-send_ended.ensures);
       rows = rows_more run j old.rows.items rows clock tracks.rows behind (subst (λ (g : Footprint). AreNoted old.rows.items g.accesses g.thread j clock rows) at c.in_ok-note_all.ensures.noted);
       marked = c.in_ok-note_all.ensures.marked;
+      memos = memos_kept old.rows.items rows c.partner_of.new.memos.items f.accesses f.thread j clock c.in_ok-note_all.ensures.noted
+          (subst (λ (l : List Row). AreMemos l c.partner_of.new.memos.items) c.as_slice-4.ensures.value c.in_ok-race.ensures.memos);
     }

@@ -1,5 +1,7 @@
-use Rattle.std.proofs.Common.{length, ap, arith}
+use Rattle.std.proofs.Common.{List, length, ap, sym, subst, arith}
 use Rattle.mr_rust_order.specs.Channels.{to_joiners, to_lock, to_thread}
+use Rattle.mr_rust_order.specs.Memos.{AreMemos}
+use Rattle.mr_rust_order.specs.declared.rows.Row.{Row}
 use Rattle.mr_rust_order.proofs.ChannelLaws.{channels_none}
 use Rattle.mr_rust_order.proofs.RowLaws.{rows_none}
 use Rattle.mr_rust_order.proofs.analysis.Analysis.new.Goals as goal
@@ -11,5 +13,6 @@ returns c = λ run.
       locks = channels_none run to_lock c.new-2.result.items c.new-2.ensures.items;
       ended = channels_none run to_joiners c.new-3.result.items c.new-3.ensures.items;
       rows = rows_none run c.new-6.result.items c.new-6.ensures.items;
+      memos = subst (λ (l : List Row). AreMemos l c.in_ok-memos.memos.items) (sym c.new-6.ensures.items) c.in_ok-memos.ensures;
       marked = λ x lt. absurd (let none = ap length c.new-6.ensures.items in omega (arith, lt, none));
     }

@@ -1,6 +1,0 @@
-use Rattle.std.proofs.Common.{◌≡◌, ◌++◌, map, take}
-use Rattle.mr_clocks.specs.declared.keys.Key.TheVariants.{Wakes}
-use Rattle.mr_clocks.proofs.keys.add_woken.Given as goal
-
-abbrev pub invariant-loop-i : goal.invariant-loop-i
-invariant-loop-i l = l.keys.items ≡ l.initial.keys.items ++ map Wakes (take l.i l.threads)

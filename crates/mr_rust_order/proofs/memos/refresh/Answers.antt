@@ -1,0 +1,17 @@
+use Rattle.std.proofs.Common.{refl, arith}
+use Rattle.mr_rust_order.specs.Rows.{row_at}
+use Rattle.mr_rust_order.proofs.MemoLaws.{memo_serves}
+use Rattle.mr_rust_order.proofs.memos.refresh.Goals as goal
+
+pub returns-then-same_access-clause-met : goal.returns-then-same_access-clause-met
+returns-then-same_access-clause-met c =
+    memo_serves c.args.rows.now c.args.memo.now c.args.access c.requires.memo (omega arith) (c.same_access.ensures c.if-same_access.true)
+
+pub returns-clause-met : goal.returns-clause-met
+returns-clause-met c = λ x lt con. c.in_ok-find_rows.ensures (row_at c.args.rows.now x).range x con (c.requires.marked x lt)
+
+pub returns-clause-memo : goal.returns-clause-memo
+returns-clause-memo c = record {
+  within = omega arith;
+  met = λ x lt con. c.in_ok-find_rows.ensures (row_at c.args.rows.now x).range x con (c.requires.marked x lt);
+}

@@ -1,0 +1,14 @@
+use Rattle.mr_traced.specs.Orders.{IsOrdersText, count_either}
+use Rattle.mr_traced.specs.Places.{named, named_of}
+use Rattle.mr_traced.specs.Seen.{run_in}
+use Rattle.mr_trace.specs.Reading.{trace_of}
+use Rattle.mr_traced.proofs.Chains.{told_by}
+use Rattle.mr_traced.proofs.telling.orders_placed.Goals as goal
+
+pub returns : goal.returns
+returns c =
+    told_by count_either IsOrdersText c.in_ok-orders_of.field-0 (run_in (trace_of c.args.trace.now))
+    (named_of c.args.places.now) c.in_ok-run.run'.items
+    c.as_slice.result.now c.as_slice-2.result.now (named c.in_ok-places.places) c.in_ok-run.ensures.run
+    c.in_ok-places.ensures c.as_slice.ensures.value c.as_slice-2.ensures.value c.in_ok-fits.ensures
+    c.in_ok-orders_of.ensures

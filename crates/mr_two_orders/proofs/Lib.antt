@@ -1,0 +1,4 @@
+pub mod PairLaws
+pub mod Parts
+pub mod StandingLaws
+pub mod ToldLaws

@@ -1,0 +1,9 @@
+use Rattle.std.specs.Prelude.{◌≡◌, ◌++◌, flat_map, take}
+use Rattle.mr_listing.specs.Seen.{seen}
+use Rattle.mr_two_orders.specs.Texts.{rust_text}
+use Rattle.mr_two_orders.proofs.text.push_rust_groups.Given as goal
+
+-- the groups before this one are written
+abbrev pub invariant-loop-group : goal.invariant-loop-group
+invariant-loop-group l =
+    l.out.items ≡ l.fn.out.items ++ flat_map (rust_text l.told (seen l.shown)) (take l.group-index l.groups)

@@ -1,0 +1,4 @@
+pub mod Bare
+pub mod Pairs
+pub mod Standing
+pub mod Texts
