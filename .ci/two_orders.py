@@ -5,7 +5,7 @@ their definitions (rust_order.py and plain.py). Nothing here is shared with the 
   places that are drawn, and of the trace alone.
 - 10,000 lists of steps that are drawn, with many atomic accesses, locks, wakes, starts and joins.
 - What docs/BESIDE.md says of the examples: their races by each order, and that ThreadSanitizer reports those by Rust's.
-- What the form takes of the shapes of long.py, beside `run`, in instructions.
+- What the form takes of the shapes of long.py, beside `races`, in instructions.
 """
 import os
 import random
@@ -28,7 +28,7 @@ INDENT = b" " * 8
 MOST = 8
 # How many lists are drawn.
 LISTS = 10000
-# How many entries the runs have that are counted, and how many times what `run` takes the form may take.
+# How many entries the runs have that are counted, and how many times what `races` takes the form may take.
 ENTRIES, TIMES = 1 << 12, 1.5
 # The page with a row of each example and its twin: its races, those by Rust's order, and what ThreadSanitizer reports.
 BESIDE = f"{TOP}/docs/BESIDE.md"
@@ -308,13 +308,13 @@ def instructions(words, at):
 
 
 def both_orders_counted(at):
-    """The instructions of `rust P S` are at most half more than those of `run P S`, for each shape of long.py."""
+    """The instructions of `rust P S` are at most half more than those of `races P S`, which tells the machine's list,
+    for each shape of long.py."""
     if not shutil.which("valgrind"):
         print("outputs: there is no valgrind, so that no instructions of both orders are counted")
         return
     for name, text in long.SHAPES.items():
         write(at, "P", text.encode())
         write(at, "S", long.drawn(PROGRAM, at, ENTRIES))
-        plain_run, both = (instructions([*words, "P", "S"], at) for words in
-                           ((PROGRAM, "run"), (companion.COMPANION, "rust")))
-        judge(f"both orders: {name}", both <= TIMES * plain_run, f"{both:,} instructions, beside {plain_run:,} of `run`")
+        one, both = (instructions([companion.COMPANION, word, "P", "S"], at) for word in ("races", "rust"))
+        judge(f"both orders: {name}", both <= TIMES * one, f"{both:,} instructions, beside {one:,} of `races`")
