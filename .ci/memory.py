@@ -266,6 +266,6 @@ Err(ParseFault::Text(fault)) if fault.line < 65_536 => Err(wrong(fault)),
     }
     turn(alloc, look, &mut thread.stack, scene, sync, picks)
 """),
-    ("adding.rt", "4_294_967_295", "4_294_967"),
+    ("rows.rt", "const MOST_LINKS: usize = 4_294_967_295", "const MOST_LINKS: usize = 4_294_967"),
     ("caller.rt", "        _ => 10,", "        ErrorKind::NotFound => 8,\n        _ => 10,"),
 )
