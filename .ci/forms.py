@@ -51,6 +51,7 @@ ONE_TOO_MANY = """entry 2 of thread 0 breaks 66 AfterStop: The machine had stopp
 the run has ended
 """
 NO_RUST = "Rust's order: 0 races at 0 pairs of places; the machine's: 0 races at 0 pairs of places\n"
+BARE_RUST = "Rust's order: 0 races; the machine's: 0 races\n"
 CODE_2 = (
     "2 BadNumber\n"
     "A number is written in a way that numbers aren't.\n"
@@ -170,10 +171,10 @@ TRACED = (
     ("MRTR", "", "picture P Q", "read schedule\n", 6),
     (NO_TRACED[:-1], "places 2\n", "picture P S 1 2", "trace 8 72 Truncated\n", 9),
     (NO_TRACED, "places 2\n0\n", "picture P S", "places 1 steps, and the trace has 0\n", 9),
-    (NO_TRACED, "places 2\n", "rust P S", NO_RUST, 0),
+    (NO_TRACED, "places 2\n", "rust P S", BARE_RUST, 0),
     (NO_TRACED, "places 2\n0\n", "rust P S", "places 1 steps, and the trace has 0\n", 9),
     ("MRTR", "", "rust P Q", "read schedule\n", 6),
-    (NO_TRACED, "", "rust P", NO_RUST, 0),
+    (NO_TRACED, "", "rust P", BARE_RUST, 0),
     (NO_TRACED[:-1], "", "rust P", "trace 8 72 Truncated\n", 9),
     (EXIT, "", "rust P", "trace 0 70 BadMagic\n", 9),
     (EXIT, "", "rust Q", "read trace\n", 6),
