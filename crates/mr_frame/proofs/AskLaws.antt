@@ -1,5 +1,5 @@
 -- What a step that is no intrinsic asks for, by what is due.
-use Rattle.std.proofs.Common.{◌≡◌, ℕ, ◌+◌, ◌<◌, ◌≤◌, refl, sym, ap, ◌∙◌, subst, List, [], ◌∷◌, ◌++◌, length, drop, get_or, Option, Some, add-one, append-nil, append_assoc}
+use Rattle.std.proofs.Common.{◌≡◌, ℕ, ◌+◌, ◌<◌, ◌≤◌, refl, sym, ap, ◌∙◌, subst, List, [], ◌∷◌, ◌++◌, length, drop, get_or, Option, None, Some, add-one, append-nil, append_assoc}
 use Rattle.std.proofs.Math.Seq.{drop-cons}
 use Rattle.std.proofs.lemmas.List.{drop_all}
 use Rattle.std.proofs.lemmas.Option.{same_Some}
@@ -22,15 +22,18 @@ use Rattle.mr_mem.specs.Memory.{Memory}
 use Rattle.mr_eval.specs.Reads.{Seen}
 use Rattle.mr_frame.specs.declared.look.Look.{Look as KeptLook}
 use Rattle.mr_frame.specs.declared.stack.Stack.{Stack as KeptStack}
+use Rattle.mr_frame.specs.Acting.{IsQuiet, NoCall, NoLive}
 use Rattle.mr_frame.specs.Beginning.{HasTypes}
 use Rattle.mr_frame.specs.Calling.{written_types}
 use Rattle.mr_frame.specs.Calls.{kept_types, storage_asks}
 use Rattle.mr_frame.specs.Effects.{asked}
 use Rattle.mr_frame.specs.Frames.{Frame, Look, Stack}
 use Rattle.mr_frame.specs.Kept.{IsReady, below_of, frame_of, look_of, stack_of}
-use Rattle.mr_frame.specs.Sites.{AtStatement, AtTerminator, NoDo, due_term, kept_locals}
+use Rattle.mr_frame.specs.Operations.{do_due}
+use Rattle.mr_frame.specs.Sites.{AtStatement, AtTerminator, NoDo, Site, due_term, kept_locals}
 use Rattle.mr_frame.specs.Standing.{Holds, IsDue, StandsAt}
-use Rattle.mr_frame.proofs.ActedLaws.{asked_change, asked_dead, asked_is, asked_live, stack}
+use Rattle.mr_frame.proofs.ActedLaws.{asked_change, asked_dead, asked_is, asked_live, site, stack}
+use Rattle.mr_frame.proofs.IntrinsicLaws.{next_do_is}
 use Rattle.mr_frame.proofs.Statements.{by_kind}
 use Rattle.mr_frame.proofs.BeginSteps.{first_typed, kept_known}
 use Rattle.mr_frame.proofs.StandLaws.{holds_below, live_holds}
@@ -76,14 +79,6 @@ module _ (fn : Function) (xs : List LocalName) (k : ℕ) (before after : List As
 
 -- ---- by what is due
 
--- neither `live` nor a call
-abbrev pub NoLive : Stmt → Type 0
-NoLive x = (y : LocalName) → x ≡ stmt.Live y → ⊥
-
-abbrev pub NoCall : Term → Type 0
-NoCall (term.Call callee args place next unwind) = ⊥
-NoCall t = Unit {0}
-
 module _ (look : KeptLook) (ready : IsReady look) (f : Frame) (below : List Frame) (payloads : List Pointer) where
   abbrev lk : Look
   lk = look_of look
@@ -124,6 +119,41 @@ no_call (term.Stop b) h = tt
 no_call term.Exit h = tt
 no_call term.Abort h = tt
 no_call (term.Do op args place next) h = tt
+
+-- ---- steps that ask for nothing
+
+no_operation : (s : Site) (x : Term) → NoDo x → do_due s (Some (due_term x)) ≡ None
+no_operation s (term.Goto b) clear = refl
+no_operation s (term.Switch v cases last) clear = refl
+no_operation s term.Unreachable clear = refl
+no_operation s (term.Call callee args place next unwind) clear = refl
+no_operation s term.Return clear = refl
+no_operation s (term.Unwind v b) clear = refl
+no_operation s term.Resume clear = refl
+no_operation s (term.Stop b) clear = refl
+no_operation s term.Exit clear = refl
+no_operation s term.Abort clear = refl
+no_operation s (term.Do op args place next) clear = absurd clear
+
+module _ (look : KeptLook) (s : KeptStack) where
+  pub quiet_stmt : (x : Stmt) → IsDue look s (AtStatement x) → NoLive x → IsQuiet (look_of look) (stack_of s)
+  quiet_stmt x due other =
+      let f = frame_of s.top in
+      let payloads = (stack_of s).payloads in
+      record {
+        other = next_do_is look due.ready f (below_of s) payloads (AtStatement x) due.stands;
+        asks = λ m t seen. asked_stmt look due.ready f (below_of s) payloads x other due.stands m t seen;
+      }
+
+  pub quiet_term : (x : Term) → IsDue look s (due_term x) → NoDo x → NoCall x → IsQuiet (look_of look) (stack_of s)
+  quiet_term x due clear other =
+      let f = frame_of s.top in
+      let payloads = (stack_of s).payloads in
+      record {
+        other = next_do_is look due.ready f (below_of s) payloads (due_term x) due.stands
+            ∙ no_operation (site look due.ready f (below_of s) payloads (due_term x) due.stands) x clear;
+        asks = λ m t seen. asked_term look due.ready f (below_of s) payloads x clear other due.stands m t seen;
+      }
 
 -- ---- `live`
 

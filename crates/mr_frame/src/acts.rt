@@ -1,9 +1,11 @@
 //! The next step of a thread: what it asks for, and what it does.
-ghost use Rattle.std.specs.Prelude.{◌≡◌, ◌++◌, ◌∷◌, [], List, OnErr, OnOk, Some};
+ghost use Rattle.std.specs.Prelude.{◌≡◌, ◌++◌, ◌∷◌, [], IsTrue, List, OnErr, OnOk, Some};
 ghost use Rattle.mr_ast.specs.declared.types.Ty.{Ty as TypeOf};
 ghost use Rattle.mr_layout.specs.TypeOk.{TypeOk};
+ghost use Rattle.mr_frame.specs.Acting.{NoCall, NoLive};
 ghost use Rattle.mr_frame.specs.Beginning.{HasTypes};
 ghost use Rattle.mr_frame.specs.Calls.{kept_types, storage_asks};
+ghost use Rattle.mr_frame.specs.Sites.{NoDo};
 
 use crate::begins::begin;
 use crate::calls::{Prepared, prepare};
@@ -51,13 +53,34 @@ fn push_asks(c: &Cache, function: &Function, out: &mut Vec<Ask>) -> Result<(), A
     Ok(())
 }
 
+// Whether a statement isn't `live`.
+fn is_no_live(stmt: &Stmt) -> bool
+    ensures { IsTrue result → NoLive stmt.now }
+{
+    match stmt {
+        Stmt::Live(_) => false,
+        _ => true,
+    }
+}
+
+// Whether a terminator is neither a call nor an intrinsic.
+fn is_no_call(t: &Term) -> bool
+    ensures operation { IsTrue result → NoDo t.now }
+    ensures call { IsTrue result → NoCall t.now }
+{
+    match t {
+        Term::Call(_, _, _, _, _) | Term::Do(_, _, _, _) => false,
+        _ => true,
+    }
+}
+
 impl Stack {
-    ghost use Rattle.std.specs.Prelude.{◌≡◌, ◌++◌, ◌∷◌, ℕ, List, None, OnErr, OnOk, Some, slice_get};
+    ghost use Rattle.std.specs.Prelude.{◌≡◌, ◌++◌, ◌∷◌, ℕ, IsTrue, List, None, OnErr, OnOk, Some, slice_get};
     ghost use Rattle.mr_ast.specs.declared.program.Stmt.TheVariants as stmt;
     ghost use Rattle.mr_ast.specs.declared.program.Term.TheVariants as term;
     ghost use Rattle.mr_eval.specs.Answers.{seen};
     ghost use Rattle.mr_eval.specs.World.{TellsBy, world_of};
-    ghost use Rattle.mr_frame.specs.Acting.{AreLawful, IsDueCall, nothing_seen};
+    ghost use Rattle.mr_frame.specs.Acting.{AreLawful, IsDueCall, IsQuiet, nothing_seen};
     ghost use Rattle.mr_frame.specs.Beginning.{CanBegin};
     ghost use Rattle.mr_frame.specs.Changes.{IsChange};
     ghost use Rattle.mr_frame.specs.Effects.{acted, asked, entered};
@@ -339,6 +362,19 @@ impl Stack {
         match self.due(look) {
             Next::Statement(stmt) => self.statement_asks(look, stmt, out),
             Next::Terminator(t) => self.terminator_asks(alloc, look, m, t, out),
+        }
+    }
+
+    /// Whether the next step is neither an intrinsic nor `live` nor a call: it asks for nothing then.
+    #[tactic(auto, using(crate::proofs::AskLaws::quiet_stmt, crate::proofs::AskLaws::quiet_term))]
+    pub fn is_quiet(&self, look: &Look<'_>) -> bool
+        requires ready { IsReady look.now }
+        requires fits { FitsStack look.now.program.now (stack_of self.now) }
+        ensures { IsTrue result → IsQuiet (look_of look.now) (stack_of self.now) }
+    {
+        match self.due(look) {
+            Next::Statement(stmt) => is_no_live(stmt),
+            Next::Terminator(t) => is_no_call(t),
         }
     }
 

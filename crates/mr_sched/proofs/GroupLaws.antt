@@ -3,6 +3,7 @@ use Rattle.std.proofs.Common.{◌≡◌, ℕ, suc, zero, ◌+◌, ◌^◌, ◌<�
 use Rattle.std.specs.Prelude.{replicate, decimal, slice_index_or, option_map}
 use Rattle.std.specs.List.{AllByRecursion}
 use Rattle.std.proofs.lemmas.Bool.{ltb-true, lt-ltb, eqb-true, ne_eqb, eq-eqb, and_parts}
+use Rattle.std.proofs.lemmas.Fmt.{decimal_digit}
 use Rattle.std.proofs.lemmas.Option.{cond_some}
 use Rattle.std.proofs.lemmas.List.{nil_from_length, length-append, length-replicate}
 use Rattle.mr_sched.specs.declared.schedule.Entry.{Entry}
@@ -99,6 +100,13 @@ group_again Two g fit =
           ap (starred_of (group_line g)) parts
           ∙ rw (number_of-decimal (2 ^ 32) g.entry.thread (omega arith) t, number_of-decimal (2 ^ 64) g.count (omega arith) fit.small, lt-ltb 1 g.count (omega (arith, many.2))) same
     ]
+
+-- a digit alone is the line of that thread
+pub group_digit : (v : Version) (n : ℕ) → n < 10 → group_of v ((48 + n) ∷ []) ≡ Some (record { entry = record { thread = n; picks = [] }; count = 1 })
+group_digit v n few =
+    let g : Group = record { entry = record { thread = n; picks = [] }; count = 1 } in
+    let line : group_line g ≡ (48 + n) ∷ [] = ap (λ (w : List ℕ). w ++ []) (decimal_digit n few) in
+    ap (group_of v) (sym line) ∙ group_again v g (record { entry = record { thread = omega arith; picks = tt }; count = inl refl; small = omega arith })
 
 pub group_unbroken : (v : Version) (g : Group) → GroupFits v g → IsUnbroken (group_line g)
 group_unbroken v g fit =

@@ -169,8 +169,35 @@ fn push_group(
 }
 
 // The entries that a line spells.
-#[tactic(auto, unfolding(crate::specs::Reading::group_of))]
+#[tactic(auto, using(crate::proofs::GroupLaws::group_digit))]
 fn read_group(alloc: Global, v: Version, text: &[u8], line: u32) -> Result<Group, SchedFault>
+    ensures { Gives result (at_line line (group_of v text.now)) }
+{
+    match digit_of(text) {
+        Some(thread) => Ok(Group {
+            entry: Entry {
+                thread,
+                picks: Items::new(alloc),
+            },
+            count: 1,
+        }),
+        None => read_words(alloc, v, text, line),
+    }
+}
+
+// The digit that is all of a line, where one is: most lines are the number of a thread below 10, and nothing else.
+fn digit_of(text: &[u8]) -> Option<u32>
+    ensures { IfSome result (λ n. (n < 10) × (text.now ≡ (48 + n) ∷ [])) }
+{
+    match text {
+        [digit] if digit.is_ascii_digit() => Some(u32::from(*digit - b'0')),
+        _ => None,
+    }
+}
+
+// The same of any line.
+#[tactic(auto, unfolding(crate::specs::Reading::group_of))]
+fn read_words(alloc: Global, v: Version, text: &[u8], line: u32) -> Result<Group, SchedFault>
     ensures { Gives result (at_line line (group_of v text.now)) }
 {
     match v {

@@ -19,7 +19,7 @@ use Rattle.mr_frame.specs.PlanLegal.{Fault, needs_fault, picks_fault}
 use Rattle.mr_frame.specs.PlanMachine.{Needs, Plan}
 use Rattle.mr_frame.specs.PlanNotes.{Notes}
 use Rattle.mr_frame.specs.PlanQueries.{Shared}
-use Rattle.mr_frame.specs.Acting.{nothing_seen}
+use Rattle.mr_frame.specs.Acting.{IsQuiet, nothing_seen}
 use Rattle.mr_frame.specs.Effects.{asked, asks_of, planned as frame_planned}
 use Rattle.mr_frame.specs.Frames.{Look, Onward, Stack}
 use Rattle.mr_frame.specs.Kept.{look_of, stack_of}
@@ -97,6 +97,11 @@ module _ (look : KeptLook) (stack : KeptStack) (s : Scene) (x : Tables) (picks :
       → picks_fault [] (ranges_of s.memory) s.thread s.count (asked s.memory (look_of look) s.thread (stack_of stack) (seen s.notes)) picks ≡ None
   lawful_fresh fresh h =
       ap (λ (t : Tally). picks_fault [] (ranges_of s.memory) s.thread s.count (asked s.memory (look_of look) s.thread (stack_of stack) (seen_of t)) picks) fresh ∙ lawful_picks h
+
+-- no pick breaks no rule where nothing is asked
+pub quiet_allows : (look : KeptLook) (stack : KeptStack) (s : Scene) (x : Tables) (picks : List ℕ) → IsQuiet (look_of look) (stack_of stack) → picks ≡ []
+    → asks_break s x (asked s.memory (look_of look) s.thread (stack_of stack) nothing_seen) picks ≡ None
+quiet_allows look stack s x picks quiet none = rw (none, quiet.asks s.memory s.thread nothing_seen) refl
 
 -- a refusal of memory, by its reason
 pub refused_by : {X Y S : Type 0} (view : X → Y) (f : MemoryFault) (o : Outcome Y S) (v : S) (last : Option Reached) → TellsBy view (Err f) o v last → (r : Reason) → f ≡ memory_fault.Undefined r → o ≡ Refused (stop_with last r)

@@ -1,7 +1,7 @@
 //! The turn of a thread whose next step is a statement or a terminator that is no intrinsic.
-ghost use Rattle.std.specs.Prelude.{◌≡◌, IfOk, None};
+ghost use Rattle.std.specs.Prelude.{◌≡◌, [], IfOk, None};
 ghost use Rattle.mr_sync.specs.Tables.{IsEnabled};
-ghost use Rattle.mr_frame.specs.Acting.{AreLawful};
+ghost use Rattle.mr_frame.specs.Acting.{AreLawful, IsQuiet};
 ghost use Rattle.mr_frame.specs.Kept.{look_of, stack_of};
 ghost use Rattle.mr_frame.specs.Operations.{next_do};
 ghost use Rattle.mr_turn.specs.Turning.{BeginsTurn, IsFlow, TakesStep, TakesTurn};
@@ -52,6 +52,23 @@ fn take(
         Err(fault) => Err(TurnFault::from(fault)),
         Ok(flow) => Ok(deed_of(alloc, flow, thread, sync)?),
     }
+}
+
+/// The turn of a thread whose next step is no intrinsic and asks for nothing, and which has no pick.
+pub fn quiet_turn(
+    alloc: Global,
+    look: &Look<'_>,
+    stack: &mut Stack,
+    s: &mut Scene,
+    sync: &mut SyncTable,
+    picks: &[u64],
+) -> Result<Deed, TurnFault>
+    requires begins { BeginsTurn look.now stack.old s.old sync.old }
+    requires quiet { IsQuiet (look_of look.now) (stack_of stack.old) }
+    requires none { picks.now ≡ [] }
+    ensures { TakesTurn look.now stack.old s.old sync.old picks.now result stack.new s.new sync.new }
+{
+    take(alloc, look, stack, s, sync, picks)
 }
 
 /// The turn of a thread whose next step is no intrinsic.
