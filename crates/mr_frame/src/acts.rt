@@ -366,7 +366,6 @@ impl Stack {
     }
 
     /// Whether the next step is neither an intrinsic nor `live` nor a call: it asks for nothing then.
-    #[tactic(auto, using(crate::proofs::AskLaws::quiet_stmt, crate::proofs::AskLaws::quiet_term))]
     pub fn is_quiet(&self, look: &Look<'_>) -> bool
         requires ready { IsReady look.now }
         requires fits { FitsStack look.now.program.now (stack_of self.now) }

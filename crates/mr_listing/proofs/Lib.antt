@@ -6,3 +6,4 @@ pub mod GroupLaws
 pub mod OnceLaws
 pub mod PartnerLaws
 pub mod RankLaws
+pub mod SpotLaws

@@ -1,5 +1,5 @@
 //! Places of a program in its text.
-ghost use Rattle.std.specs.Prelude.{◌≡◌, ◌++◌, ◌≤◌, IfOk, OnOk, length};
+ghost use Rattle.std.specs.Prelude.{◌≡◌, ◌++◌, ◌≤◌, IfOk, OnOk, length, min, take};
 ghost use Rattle.std.specs.List.{prefix_len};
 ghost use Rattle.mr_listing.specs.Seen.{seen};
 ghost use Rattle.mr_listing.specs.Spots.{behind_cut, behind_front, cut_text, found_text, is_inside, spot_text};
@@ -21,11 +21,18 @@ fn is_inside(byte: u8) -> bool
     byte != b';' && byte != b'\n' && byte != b'\r' && byte != b'#'
 }
 
-// How many bytes from here on belong to the statement and stand on its first line.
-fn stmt_length(rest: &[u8]) -> usize
-    ensures { result ≡ prefix_len is_inside rest.now }
+// How many of these bytes belong to the statement and stand on its first line.
+fn stmt_length(front: &[u8]) -> usize
+    ensures { result ≡ prefix_len is_inside front.now }
 {
-    rest.iter().take_while(|byte| is_inside(**byte)).count()
+    front.iter().take_while(|byte| is_inside(**byte)).count()
+}
+
+// The bytes that tell what is written of a statement, of which no more than `WIDTH` are.
+fn front_of(rest: &[u8]) -> &[u8]
+    ensures { result.now ≡ take (min (length rest.now) 61) rest.now }
+{
+    &rest[..rest.len().min(WIDTH + 1)]
 }
 
 // Appends what stands behind the part of a statement that is written, by the byte behind it: nothing where that is its
@@ -66,6 +73,13 @@ fn push_cut(out: &mut Vec<u8>, rest: &[u8], count: usize) -> Result<(), OutOfMem
     push_behind_front(out, rest, count)
 }
 
+// Appends the statement that these bytes begin with, as far as it stands on its first line.
+fn push_front(out: &mut Vec<u8>, rest: &[u8]) -> Result<(), OutOfMemory>
+    ensures { OnOk result (out.new.items ≡ out.old.items ++ cut_text rest.now (prefix_len is_inside rest.now)) }
+{
+    push_cut(out, rest, stmt_length(front_of(rest)))
+}
+
 // Appends the statement that begins at a byte of the text, as far as it stands on its first line.
 fn push_statement(out: &mut Vec<u8>, text: &[u8], at: usize) -> Result<(), OutOfMemory>
     ensures { OnOk result (out.new.items ≡ out.old.items ++ statement_text text.now at) }
@@ -73,8 +87,7 @@ fn push_statement(out: &mut Vec<u8>, text: &[u8], at: usize) -> Result<(), OutOf
     if at > text.len() {
         return Ok(());
     }
-    let rest = &text[at..];
-    push_cut(out, rest, stmt_length(rest))
+    push_front(out, &text[at..])
 }
 
 // Appends the line and the column of a place.
