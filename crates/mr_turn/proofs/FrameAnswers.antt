@@ -31,7 +31,7 @@ use Rattle.mr_start.specs.ThreadSteps.{Turn}
 use Rattle.mr_turn.specs.declared.deed.Deed.{Deed}
 use Rattle.mr_turn.specs.declared.deed.TurnFault.{TurnFault}
 use Rattle.mr_turn.specs.declared.deed.TurnFault.TheVariants as answer
-use Rattle.mr_turn.specs.Turning.{DeedAnswer, JudgeAnswer, TurnAnswer, asks_break, begun, breaks, fault_from, own_of}
+use Rattle.mr_turn.specs.Turning.{DeedAnswer, IsJudged, JudgeAnswer, TurnAnswer, asks_break, begun, breaks, fault_from, own_of}
 use Rattle.mr_turn.proofs.FrameTurns.{frame_needs}
 use Rattle.mr_turn.proofs.PlanAsks.{AreAddresses, IsPlain, WentSo, frame_plain, led, same_statuses}
 
@@ -59,6 +59,19 @@ pub judged_broken : (f : TurnFault) (fault : Option Fault) (o : Outcome Turn (Sh
 judged_broken (answer.Broken e) fault o last W same h k = (h, k)
 judged_broken (answer.Undefined r) fault o last W same h k = absurd h
 judged_broken answer.Memory fault o last W same h k = absurd h
+
+-- what is judged of picks, where there was memory to judge them
+pub judged_so : (r : Result (Unit {0}) TurnFault) (fault : Option Fault) → JudgeAnswer r fault → IsJudged r fault
+judged_so (Ok u) fault h = h
+judged_so (Err (answer.Broken e)) fault h = h
+judged_so (Err (answer.Undefined r)) fault h = h
+judged_so (Err answer.Memory) fault h = tt
+
+pub judged_turn : (f : TurnFault) (fault : Option Fault) (o : Outcome Turn (Shared × Notes)) (last : Option Reached) (W : Deed → Type 0) (same : Type 0)
+    → IsJudged (Err f) fault → same → TurnAnswer (Err f) fault o last W same
+judged_turn (answer.Broken e) fault o last W same h k = (h, k)
+judged_turn (answer.Undefined r) fault o last W same h k = absurd h
+judged_turn answer.Memory fault o last W same h k = tt
 
 -- memory that refuses
 pub stopped_deed : (f : MemoryFault) (o : Outcome Turn (Shared × Notes)) (last : Option Reached) (W : Deed → Type 0)

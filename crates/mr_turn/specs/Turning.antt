@@ -153,6 +153,13 @@ JudgeAnswer (Err (answer.Broken e)) fault = fault ≡ Some (fault_of e)
 JudgeAnswer (Err (answer.Undefined r)) fault = ⊥
 JudgeAnswer (Err answer.Memory) fault = ⊥
 
+-- the same, unless memory runs out before
+abbrev pub IsJudged : Result (Unit {0}) TurnFault → Option Fault → Type 0
+IsJudged (Ok u) fault = fault ≡ None
+IsJudged (Err (answer.Broken e)) fault = fault ≡ Some (fault_of e)
+IsJudged (Err (answer.Undefined r)) fault = ⊥
+IsJudged (Err answer.Memory) fault = Unit {0}
+
 -- why a step stops that needs no pick: it may have none
 abbrev pub StopAnswer : TurnFault → Reason → List ℕ → Type 0
 StopAnswer (answer.Broken e) r picks = (s : Scene) (x : Tables) → asks_break s x [] picks ≡ Some (fault_of e)

@@ -19,6 +19,7 @@ use mr_value::Val;
 use std::alloc::{AllocError, Global};
 
 /// The turn of a thread whose next step is this intrinsic: what it is given comes first.
+#[inline(never)]
 pub fn do_turn(
     alloc: Global,
     look: &Look<'_>,

@@ -1,10 +1,10 @@
 //! The turn of a thread whose next step is a statement or a terminator that is no intrinsic.
-ghost use Rattle.std.specs.Prelude.{◌≡◌, [], IfOk, None};
+ghost use Rattle.std.specs.Prelude.{◌≡◌, IfOk, None};
 ghost use Rattle.mr_sync.specs.Tables.{IsEnabled};
-ghost use Rattle.mr_frame.specs.Acting.{AreLawful, IsQuiet};
+ghost use Rattle.mr_frame.specs.Acting.{AreLawful};
 ghost use Rattle.mr_frame.specs.Kept.{look_of, stack_of};
 ghost use Rattle.mr_frame.specs.Operations.{next_do};
-ghost use Rattle.mr_turn.specs.Turning.{BeginsTurn, IsFlow, TakesStep, TakesTurn};
+ghost use Rattle.mr_turn.specs.Turning.{BeginsTurn, IsFlow, IsJudged, TakesStep, TakesTurn, breaks};
 
 use crate::deed::{Deed, TurnFault};
 use crate::judging::judged;
@@ -54,21 +54,44 @@ fn take(
     }
 }
 
-/// The turn of a thread whose next step is no intrinsic and asks for nothing, and which has no pick.
-pub fn quiet_turn(
+// The picks for what the step asks, which is looked up.
+#[inline(never)]
+fn judge_asked(
     alloc: Global,
     look: &Look<'_>,
-    stack: &mut Stack,
-    s: &mut Scene,
-    sync: &mut SyncTable,
+    stack: &Stack,
+    s: &Scene,
+    sync: &SyncTable,
     picks: &[u64],
-) -> Result<Deed, TurnFault>
-    requires begins { BeginsTurn look.now stack.old s.old sync.old }
-    requires quiet { IsQuiet (look_of look.now) (stack_of stack.old) }
-    requires none { picks.now ≡ [] }
-    ensures { TakesTurn look.now stack.old s.old sync.old picks.now result stack.new s.new sync.new }
+) -> Result<(), TurnFault>
+    requires begins { BeginsTurn look.now stack.now s.now sync.now }
+    requires other { next_do (look_of look.now) (stack_of stack.now) ≡ None }
+    ensures { IsJudged result (breaks look.now stack.now s.now sync.now picks.now) }
 {
-    take(alloc, look, stack, s, sync, picks)
+    let mut asks = Vec::new(alloc);
+    stack.asks(alloc, look, &s.memory, &mut asks)?;
+    judged(s, sync, asks.as_slice(), picks)
+}
+
+// The picks for what the step asks: mostly it asks for nothing, as its form tells, and there is no pick.
+fn judge_step(
+    alloc: Global,
+    look: &Look<'_>,
+    stack: &Stack,
+    s: &Scene,
+    sync: &SyncTable,
+    picks: &[u64],
+) -> Result<(), TurnFault>
+    requires begins { BeginsTurn look.now stack.now s.now sync.now }
+    requires other { next_do (look_of look.now) (stack_of stack.now) ≡ None }
+    ensures { IsJudged result (breaks look.now stack.now s.now sync.now picks.now) }
+{
+    if picks.is_empty() {
+        if stack.is_quiet(look) {
+            return Ok(());
+        }
+    }
+    judge_asked(alloc, look, stack, s, sync, picks)
 }
 
 /// The turn of a thread whose next step is no intrinsic.
@@ -84,9 +107,7 @@ pub fn frame_turn(
     requires other { next_do (look_of look.now) (stack_of stack.old) ≡ None }
     ensures { TakesTurn look.now stack.old s.old sync.old picks.now result stack.new s.new sync.new }
 {
-    let mut asks = Vec::new(alloc);
-    stack.asks(alloc, look, &s.memory, &mut asks)?;
-    match judged(s, sync, asks.as_slice(), picks) {
+    match judge_step(alloc, look, stack, s, sync, picks) {
         Err(fault) => Err(fault),
         Ok(()) => take(alloc, look, stack, s, sync, picks),
     }

@@ -3,7 +3,7 @@ ghost use Rattle.mr_turn.specs.Turning.{BeginsTurn, TakesTurn};
 
 use crate::deed::{Deed, TurnFault};
 use crate::doing::do_turn;
-use crate::framed::{frame_turn, quiet_turn};
+use crate::framed::frame_turn;
 use mr_eval::Scene;
 use mr_frame::{Look, Stack};
 use mr_sync::SyncTable;
@@ -24,9 +24,6 @@ pub fn turn(
     requires { BeginsTurn look.now stack.old s.old sync.old }
     ensures { TakesTurn look.now stack.old s.old sync.old picks.now result stack.new s.new sync.new }
 {
-    if picks.is_empty() && stack.is_quiet(look) {
-        return quiet_turn(alloc, look, stack, s, sync, picks);
-    }
     match stack.intrinsic(look.program) {
         None => frame_turn(alloc, look, stack, s, sync, picks),
         Some(op) => do_turn(alloc, look, stack, s, sync, op, picks),
