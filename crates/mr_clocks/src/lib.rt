@@ -28,6 +28,8 @@
 mod adding;
 mod analysis;
 mod clock;
+mod following;
+mod hints;
 mod index;
 mod keys;
 mod known;
