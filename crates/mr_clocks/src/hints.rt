@@ -1,6 +1,6 @@
-//! Hints: for a lock, or for an address that is accessed atomically, the step that acted on it last. A step follows that
-//! one first, since it mostly knows all that went before. There are few hints, so that one may be of another lock or
-//! address: whether an edge leads from the step that it names is looked at.
+//! Hints: for a lock, or for an address that is accessed atomically, the step that acted on it last. A step follows
+//! that one first, since it mostly knows all that went before. There are few hints, so that one may be of another lock
+//! or address: whether an edge leads from the step that it names is looked at.
 
 ghost use Rattle.std.specs.Prelude.{◌≡◌, ℕ, ◌+◌, ◌<◌, ◌^◌, IfOk, IfSome, IsFalse, IsTrue, OnOk, length};
 ghost use Rattle.mr_event.specs.Order.{Edge};
@@ -59,8 +59,8 @@ pub(crate) fn no_slots() -> Slots {
     }
 }
 
-/// The places for a step: it asks about a lock or an address that it accesses atomically, and notes itself where it acts
-/// on a lock or stores atomically.
+/// The places for a step: it asks about a lock or an address that it accesses atomically, and notes itself where it
+/// acts on a lock or stores atomically.
 pub(crate) fn slots_of(step: &Footprint) -> Slots {
     Slots {
         asked: slot_of(step, false),

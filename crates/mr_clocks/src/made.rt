@@ -502,8 +502,8 @@ fn walked_clock(
     })
 }
 
-// Whether the clock of the step before in j's thread knows all steps that edges lead from to `j`: not where a hint names
-// one of them.
+// Whether the clock of the step before in j's thread knows all steps that edges lead from to `j`: not where a hint
+// names one of them.
 fn keeps_clock(
     run: &[Footprint],
     clocks: &[Clock],
