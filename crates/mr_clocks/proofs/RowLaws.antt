@@ -15,7 +15,7 @@ use Rattle.mr_clocks.specs.declared.keys.Key.{Key}
 use Rattle.mr_clocks.specs.declared.keys.Key.TheVariants.{Lock, Creation, Spawning, Starts, Joins, Made, Touched, Range, Wakes}
 use Rattle.mr_clocks.specs.declared.rows.Row.{Row}
 use Rattle.mr_clocks.specs.declared.rows.Link.{Link}
-use Rattle.mr_clocks.specs.Clocks.{AreLatest, AreUnder, IsClockOf, IsUnder}
+use Rattle.mr_clocks.specs.Clocks.{AreLatest, AreUnder, IsClockOf, IsPart, IsUnder}
 use Rattle.mr_clocks.specs.Keys.{Counts, asks, has_row, key_races}
 use Rattle.mr_clocks.specs.Tracked.{IsNext}
 use Rattle.mr_clocks.specs.Wakers.{AreSyncsUnder}
@@ -24,6 +24,7 @@ use Rattle.mr_clocks.proofs.Chains.{in_here, in_low, in_most}
 use Rattle.mr_clocks.proofs.Edges.{edge_back, sync_of}
 use Rattle.mr_clocks.proofs.KeyLaws.{depends_row, race_shares}
 use Rattle.mr_clocks.proofs.KeyLists.{race_from_range}
+use Rattle.mr_clocks.proofs.Parts.{part_ends}
 
 -- where a step is a partner of j, each later step of its thread that races with j is one
 pub partner_up : (run : List Footprint) (m e j : ℕ) → thread_at run e ≡ thread_at run m → m ≤ e → e < j → some_race (step_at run e).accesses (step_at run j).accesses ≡ true → RacePair run m j → RacePair run e j
@@ -94,6 +95,11 @@ known_place run rows links x j clock a known = λ inside apart it_asks none k he
     let number = ap (slice_index clock) (each.steps k here).thread in
     let latest = known top inside at in
     omega (arith, most, latest, number)
+
+-- no edge leads to j but from what such a clock knows: it is j's
+pub known_clock : (run : List Footprint) (rows : List Row) (links : List Link) (found clock : List ℕ) (j next : ℕ) → AreRows run j rows links → AreAllAsked (step_at run j) rows found → IsNext run j next → IsPart run clock j → AreSyncsUnder run clock j → ArePlacesKnown rows links found clock → IsClockOf run clock j
+known_clock run rows links found clock j next a asked n part syncs known =
+    part_ends run clock j part (seen_rows run rows links found clock j next a asked n syncs (λ y lt. known_place run rows links (slice_index found y) j clock a (known y lt)))
 
 -- the latest step that a clock of j knows is no partner of j
 pub known_beyond : (run : List Footprint) (rows : List Row) (links : List Link) (x j best : ℕ) (clock : List ℕ) → AreRows run j rows links → IsClockOf run clock j → IsPlaceKnown rows links x clock → IsPlaceBeyond run rows links x j best

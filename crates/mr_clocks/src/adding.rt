@@ -3,8 +3,8 @@
 //! Most steps do what an earlier one did, and keep the clock of the step before in their thread. What the others need
 //! stands in calls of their own, which are marked `inline(never)`, so that it costs those steps nothing.
 
-ghost use Rattle.std.specs.Prelude.{◌≡◌, ◌≢◌, ℕ, ◌+◌, ◌<◌, ◌≤◌, ◌^◌, IfOk, OnOk, OnErr, MatchOption, length, slice_index, max, vec_len, vec_capacity};
-ghost use Rattle.mr_event.specs.Order.{step_at, thread_at, IsGreatestPartner, HasNoPartner};
+ghost use Rattle.std.specs.Prelude.{◌≡◌, ◌≢◌, ℕ, ◌+◌, ◌<◌, ◌≤◌, ◌^◌, IfOk, IfSome, OnOk, OnErr, MatchOption, length, slice_index, max, vec_len, vec_capacity};
+ghost use Rattle.mr_event.specs.Order.{step_at, thread_at, Edge, IsGreatestPartner, HasNoPartner};
 ghost use Rattle.mr_clocks.specs.Clocks.{AreClocks, AreLatest, IsMade, IsNumbered, KeepsClock};
 ghost use Rattle.mr_clocks.specs.Marks.{AreMarked};
 ghost use Rattle.mr_clocks.specs.Memos.{AreMemos, IsMemoOf, memo_at};
@@ -13,6 +13,7 @@ ghost use Rattle.mr_clocks.specs.Skips.{AreSkips};
 ghost use Rattle.mr_clocks.specs.Wakers.{AreExtended, AreWakers, CanNote};
 
 use crate::clock::Clock;
+use crate::hints::{Slots, fill_hints, hinted, note_hint};
 use crate::index::Index;
 use crate::made::{clock_of, is_settled, partner_by};
 use crate::memos::{Memo, look_up};
@@ -53,6 +54,7 @@ fn prepare(
     numbers: &mut Vec<u32>,
     latest: &mut Clock,
     wakers: &mut Wakers,
+    hints: &mut Vec<u32>,
     links: &mut Vec<Link>,
     skips: &mut Vec<Skip>,
     more: usize,
@@ -83,6 +85,7 @@ fn prepare(
     reserve_table(skips, more)?;
     clocks.reserve(1)?;
     numbers.reserve(1)?;
+    fill_hints(hints)?;
     prepare_wakes(run, wakers, j)?;
     latest.raise(thread_at(run, j), j as u32 + 1)?;
     Ok(())
@@ -116,11 +119,13 @@ fn enter(
     clocks: &mut Vec<Clock>,
     numbers: &mut Vec<u32>,
     wakers: &mut Wakers,
+    hints: &mut Vec<u32>,
     rows: &mut Vec<Row>,
     links: &mut Vec<Link>,
     skips: &mut Vec<Skip>,
     next: u32,
     places: &[usize],
+    slots: Slots,
     j: usize,
     made: Option<Clock>,
     left: Vec<Skip>,
@@ -150,6 +155,7 @@ fn enter(
     let number = numbered(clocks, numbers.as_slice(), next, made);
     numbers.push_reserved(number);
     enter_wakes(run, wakers, j);
+    note_hint(hints, slots.noted, j);
     note_all(run, rows, links, places, j);
     store_all(alloc, skips, left);
 }
@@ -163,11 +169,14 @@ fn add_walked(
     numbers: &mut Vec<u32>,
     latest: &mut Clock,
     wakers: &mut Wakers,
+    hints: &mut Vec<u32>,
     rows: &mut Vec<Row>,
     links: &mut Vec<Link>,
     skips: &mut Vec<Skip>,
     found: &[usize],
+    hint: Option<usize>,
     places: &[usize],
+    slots: Slots,
     j: usize,
 ) -> Result<Option<usize>, OutOfMemory>
     requires within { j < length run.now }
@@ -178,6 +187,7 @@ fn add_walked(
     requires rows { AreRows run.now j rows.old.items links.old.items }
     requires skips { AreSkips run.now j links.old.items skips.old.items }
     requires found { AreAllAsked (step_at run.now j) rows.old.items found.now }
+    requires hint { IfSome hint (λ i. Edge run.now i j) }
     requires places { ArePlaces (step_at run.now j) rows.old.items places.now }
     ensures partner { IfOk result
         (λ o. MatchOption o (HasNoPartner run.now j) (λ i. IsGreatestPartner run.now i j)) }
@@ -208,6 +218,7 @@ fn add_walked(
         links.as_slice(),
         skips.as_slice(),
         found,
+        hint,
         j,
     )?;
     let partner = partner_by(
@@ -224,11 +235,11 @@ fn add_walked(
     );
     let (more, noted) = (here.skips.len(), places.len());
     prepare(
-        run, clocks, numbers, latest, wakers, links, skips, more, noted, j,
+        run, clocks, numbers, latest, wakers, hints, links, skips, more, noted, j,
     )?;
     enter(
-        alloc, run, clocks, numbers, wakers, rows, links, skips, next, places, j, here.clock,
-        here.skips,
+        alloc, run, clocks, numbers, wakers, hints, rows, links, skips, next, places, slots, j,
+        here.clock, here.skips,
     );
     Ok(partner)
 }
@@ -241,10 +252,12 @@ fn add_settled(
     numbers: &mut Vec<u32>,
     latest: &mut Clock,
     wakers: &mut Wakers,
+    hints: &mut Vec<u32>,
     rows: &mut Vec<Row>,
     links: &mut Vec<Link>,
     skips: &mut Vec<Skip>,
     places: &[usize],
+    slots: Slots,
     j: usize,
 ) -> Result<(), OutOfMemory>
     requires within { j < length run.now }
@@ -279,6 +292,7 @@ fn add_settled(
         numbers,
         latest,
         wakers,
+        hints,
         links,
         skips,
         0,
@@ -287,7 +301,8 @@ fn add_settled(
     )?;
     let left = Vec::new(alloc);
     enter(
-        alloc, run, clocks, numbers, wakers, rows, links, skips, next, places, j, None, left,
+        alloc, run, clocks, numbers, wakers, hints, rows, links, skips, next, places, slots, j,
+        None, left,
     );
     Ok(())
 }
@@ -301,11 +316,13 @@ fn add_step(
     numbers: &mut Vec<u32>,
     latest: &mut Clock,
     wakers: &mut Wakers,
+    hints: &mut Vec<u32>,
     rows: &mut Vec<Row>,
     links: &mut Vec<Link>,
     skips: &mut Vec<Skip>,
     found: &[usize],
     places: &[usize],
+    slots: Slots,
     j: usize,
 ) -> Result<Option<usize>, OutOfMemory>
     requires within { j < length run.now }
@@ -334,6 +351,15 @@ fn add_step(
     ensures err_links { OnErr result (links.new.items ≡ links.old.items) }
     ensures err_skips { OnErr result (skips.new.items ≡ skips.old.items) }
 {
+    let hint = hinted(
+        run,
+        clocks.as_slice(),
+        numbers.as_slice(),
+        &*latest,
+        hints.as_slice(),
+        slots.asked,
+        j,
+    );
     let is_settled = is_settled(
         run,
         clocks.as_slice(),
@@ -343,15 +369,17 @@ fn add_step(
         rows.as_slice(),
         links.as_slice(),
         found,
+        hint,
         j,
     );
     if !is_settled {
         return add_walked(
-            alloc, run, clocks, numbers, latest, wakers, rows, links, skips, found, places, j,
+            alloc, run, clocks, numbers, latest, wakers, hints, rows, links, skips, found, hint,
+            places, slots, j,
         );
     }
     add_settled(
-        alloc, run, clocks, numbers, latest, wakers, rows, links, skips, places, j,
+        alloc, run, clocks, numbers, latest, wakers, hints, rows, links, skips, places, slots, j,
     )?;
     Ok(None)
 }
@@ -366,6 +394,7 @@ pub(crate) fn add_last(
     numbers: &mut Vec<u32>,
     latest: &mut Clock,
     wakers: &mut Wakers,
+    hints: &mut Vec<u32>,
     memos: &mut Vec<Memo>,
     index: &mut Index,
     rows: &mut Vec<Row>,
@@ -409,11 +438,13 @@ pub(crate) fn add_last(
         numbers,
         latest,
         wakers,
+        hints,
         rows,
         links,
         skips,
         memo.asked(),
         memo.noted(),
+        memo.hint_slots(),
         j,
     )
 }

@@ -91,6 +91,7 @@ pub struct Analysis {
     numbers: Vec<u32>,
     latest: Clock,
     wakers: Wakers,
+    hints: Vec<u32>,
     memos: Vec<Memo>,
     index: Index,
     rows: Vec<Row>,
@@ -140,6 +141,7 @@ impl Analysis {
                 heads: Vec::new(alloc),
                 links: Vec::new(alloc),
             },
+            hints: Vec::new(alloc),
             memos: Vec::new(alloc),
             index: Index {
                 shelves: Vec::new(alloc),
@@ -171,6 +173,7 @@ impl Analysis {
             &mut self.numbers,
             &mut self.latest,
             &mut self.wakers,
+            &mut self.hints,
             &mut self.memos,
             &mut self.index,
             &mut self.rows,

@@ -9,7 +9,8 @@
 //! it asks, `Rows` and `Marks` how the steps of a key are kept and found, `Spans` how a step with many accesses finds
 //! them, `Memos` what of this is kept for steps that do the same, `Skips` how steps that race are passed, `Wakers` how
 //! the steps that woke a thread are kept, and `Tracked` what an analysis tracks; happens-before and the races are those
-//! of `mr_event`. Proved of the public calls:
+//! of `mr_event`. Of the hints, by which a step first follows one that mostly knows all, there is none: they change no
+//! answer. Proved of the public calls:
 //!
 //! - [`Analysis::new`] tracks the empty list.
 //! - [`Analysis::add`], on an analysis that tracks a run without its last step, gives the greatest partner of that
@@ -28,6 +29,8 @@
 mod adding;
 mod analysis;
 mod clock;
+mod following;
+mod hints;
 mod index;
 mod keys;
 mod known;

@@ -1,15 +1,16 @@
 //! The clock of a step and its greatest partner, from the clocks and the rows of the steps before it.
 
-ghost use Rattle.std.specs.Prelude.{◌≡◌, ℕ, ◌+◌, ◌<◌, ◌≤◌, ◌^◌, ◌↔◌, IfOk, IsFalse, IsTrue, MatchOption, OnOk, false, length, slice_index};
-ghost use Rattle.mr_event.specs.Order.{step_at, thread_at, IsGreatestPartner, HasNoPartner, RacePair};
+ghost use Rattle.std.specs.Prelude.{◌≡◌, ℕ, ◌+◌, ◌<◌, ◌≤◌, ◌^◌, ◌↔◌, IfOk, IfSome, IsFalse, IsTrue, MatchOption, OnOk, false, length, slice_index};
+ghost use Rattle.mr_event.specs.Order.{step_at, thread_at, Edge, IsGreatestPartner, HasNoPartner, RacePair};
 ghost use Rattle.mr_clocks.specs.Clocks.{AreClocks, AreLatest, IsClockOf, IsMade, IsPart, IsUnder, KeepsClock, clock_at};
-ghost use Rattle.mr_clocks.specs.Rows.{AreAllAsked, AreRows, IsPlaceKnown, IsPlaceSeen};
+ghost use Rattle.mr_clocks.specs.Rows.{AreAllAsked, ArePlacesKnown, AreRows, IsPlaceKnown, IsPlaceSeen};
 ghost use Rattle.mr_clocks.specs.Skips.{AreSkips};
 ghost use Rattle.mr_clocks.specs.Tracked.{IsNext, IsPartnerOr};
-ghost use Rattle.mr_clocks.specs.Wakers.{AreWakers};
+ghost use Rattle.mr_clocks.specs.Wakers.{AreSyncsUnder, AreWakers};
 
 use crate::analysis::{is_under, lent};
 use crate::clock::Clock;
+use crate::hints::follow_hint;
 use crate::known::{are_known, are_latest_known, is_latest_known, is_place_known};
 use crate::order::are_rivals;
 use crate::rows::{Link, Row, better, follow_place, keep_walk};
@@ -395,8 +396,53 @@ fn walk_next(
     })
 }
 
+// Follows the steps that woke or created j's thread, and then the one that a hint names, if there is one. Tells whether
+// the clock changed.
+fn follow_first(
+    run: &[Footprint],
+    clocks: &[Clock],
+    numbers: &[u32],
+    wakers: &Wakers,
+    hint: Option<usize>,
+    clock: &mut Clock,
+    j: usize,
+    next: usize,
+) -> Result<bool, OutOfMemory>
+    requires within { j < length run.now }
+    requires few { length run.now < 2 ^ 32 }
+    requires clocks { AreClocks run.now j clocks.now numbers.now }
+    requires wakers { AreWakers run.now j j wakers.now.heads.items wakers.now.links.items }
+    requires hint { IfSome hint (λ i. Edge run.now i j) }
+    requires next { IsNext run.now j next }
+    requires part { IsPart run.now clock.old j }
+    ensures part { OnOk result (IsPart run.now clock.new j) }
+    ensures syncs { OnOk result (AreSyncsUnder run.now clock.new j) }
+    ensures same { IfOk result (λ changed. IsFalse changed → clock.new ≡ clock.old) }
+{
+    let woken = follow_wakers(run, clocks, numbers, wakers, clock, j, next)?;
+    let hinted = follow_hint(run, clocks, numbers, hint, clock, j)?;
+    Ok(is_either(woken, hinted))
+}
+
+// Whether a clock that changed knows the latest steps of the rows at some places.
+fn is_done(
+    run: &[Footprint],
+    clock: &Clock,
+    rows: &[Row],
+    links: &[Link],
+    found: &[usize],
+    changed: bool,
+    j: usize,
+) -> bool
+    requires within { j < length run.now }
+    requires rows { AreRows run.now j rows.now links.now }
+    ensures { IsTrue result → ArePlacesKnown rows.now links.now found.now clock.now }
+{
+    changed && are_latest_known(run, clock, rows, links, found, j)
+}
+
 // The clock of step `j`, from those of the steps before it: it follows each step of another thread that an edge leads
-// from, at first those that woke or created j's thread.
+// from, at first those that woke or created j's thread, and the one that a hint names.
 #[inline(never)]
 fn walked_clock(
     alloc: Global,
@@ -409,6 +455,7 @@ fn walked_clock(
     links: &[Link],
     skips: &[Skip],
     found: &[usize],
+    hint: Option<usize>,
     j: usize,
 ) -> Result<Found, OutOfMemory>
     requires within { j < length run.now }
@@ -419,6 +466,7 @@ fn walked_clock(
     requires rows { AreRows run.now j rows.now links.now }
     requires skips { AreSkips run.now j links.now skips.now }
     requires found { AreAllAsked (step_at run.now j) rows.now found.now }
+    requires hint { IfSome hint (λ i. Edge run.now i j) }
     ensures made { IfOk result (λ f. IsMade run.now clocks.now numbers.now
         (slice_index latest.now (thread_at run.now j)) f.clock j) }
     ensures skips { IfOk result (λ f. AreSkips run.now j links.now f.skips.items) }
@@ -426,7 +474,14 @@ fn walked_clock(
 {
     let mut clock = base(alloc, run, clocks, numbers, latest, j)?;
     let next = latest.at(thread_at(run, j)) as usize;
-    let mut changed = follow_wakers(run, clocks, numbers, wakers, &mut clock, j, next)?;
+    let mut changed = follow_first(run, clocks, numbers, wakers, hint, &mut clock, j, next)?;
+    if is_done(run, &clock, rows, links, found, changed, j) {
+        return Ok(Found {
+            clock: Some(clock),
+            skips: Vec::new(alloc),
+            alone: true,
+        });
+    }
     let mut alone = true;
     let mut left = Vec::new(alloc);
     let mut ahead = ahead_of(found.len());
@@ -447,7 +502,8 @@ fn walked_clock(
     })
 }
 
-// Whether the clock of the step before in j's thread knows all steps that edges lead from to `j`.
+// Whether the clock of the step before in j's thread knows all steps that edges lead from to `j`: not where a hint
+// names one of them.
 fn keeps_clock(
     run: &[Footprint],
     clocks: &[Clock],
@@ -457,6 +513,7 @@ fn keeps_clock(
     rows: &[Row],
     links: &[Link],
     found: &[usize],
+    hint: Option<usize>,
     j: usize,
 ) -> bool
     requires within { j < length run.now }
@@ -468,6 +525,9 @@ fn keeps_clock(
     ensures { IsTrue result
         → KeepsClock run.now clocks.now numbers.now (slice_index latest.now (thread_at run.now j)) j }
 {
+    if hint.is_some() {
+        return false;
+    }
     let next = latest.at(thread_at(run, j));
     if next == 0 {
         return false;
@@ -480,7 +540,7 @@ fn keeps_clock(
 }
 
 /// Whether the clock of the step before in j's thread knows the latest step of each row that `j` asks, and no step woke
-/// the thread since. Then `j` keeps it, and has no partner.
+/// the thread since: not where a hint names a step that leads to `j`. Then `j` keeps it, and has no partner.
 pub(crate) fn is_settled(
     run: &[Footprint],
     clocks: &[Clock],
@@ -490,6 +550,7 @@ pub(crate) fn is_settled(
     rows: &[Row],
     links: &[Link],
     found: &[usize],
+    hint: Option<usize>,
     j: usize,
 ) -> bool
     requires within { j < length run.now }
@@ -502,6 +563,9 @@ pub(crate) fn is_settled(
         → KeepsClock run.now clocks.now numbers.now (slice_index latest.now (thread_at run.now j)) j }
     ensures alone { IsTrue result → HasNoPartner run.now j }
 {
+    if hint.is_some() {
+        return false;
+    }
     let next = latest.at(thread_at(run, j));
     if next == 0 {
         return false;
@@ -525,6 +589,7 @@ pub(crate) fn clock_of(
     links: &[Link],
     skips: &[Skip],
     found: &[usize],
+    hint: Option<usize>,
     j: usize,
 ) -> Result<Found, OutOfMemory>
     requires within { j < length run.now }
@@ -535,12 +600,15 @@ pub(crate) fn clock_of(
     requires rows { AreRows run.now j rows.now links.now }
     requires skips { AreSkips run.now j links.now skips.now }
     requires found { AreAllAsked (step_at run.now j) rows.now found.now }
+    requires hint { IfSome hint (λ i. Edge run.now i j) }
     ensures made { IfOk result (λ f. IsMade run.now clocks.now numbers.now
         (slice_index latest.now (thread_at run.now j)) f.clock j) }
     ensures skips { IfOk result (λ f. AreSkips run.now j links.now f.skips.items) }
     ensures alone { IfOk result (λ f. IsTrue f.alone → HasNoPartner run.now j) }
 {
-    if keeps_clock(run, clocks, numbers, latest, wakers, rows, links, found, j) {
+    if keeps_clock(
+        run, clocks, numbers, latest, wakers, rows, links, found, hint, j,
+    ) {
         return Ok(Found {
             clock: None,
             skips: Vec::new(alloc),
@@ -548,7 +616,7 @@ pub(crate) fn clock_of(
         });
     }
     walked_clock(
-        alloc, run, clocks, numbers, latest, wakers, rows, links, skips, found, j,
+        alloc, run, clocks, numbers, latest, wakers, rows, links, skips, found, hint, j,
     )
 }
 

@@ -8,6 +8,7 @@ ghost use Rattle.mr_clocks.specs.Marks.{AreMarked};
 ghost use Rattle.mr_clocks.specs.Memos.{AreMemos, IsMemo, IsMemoOf, memo_at};
 ghost use Rattle.mr_clocks.specs.Rows.{IsGrown, IsListed, row_at};
 
+use crate::hints::{Slots, no_slots, slots_of};
 use crate::index::{Index, add_asked, places_for, rows_asked};
 use crate::keys::noted_by;
 use crate::rows::Row;
@@ -25,14 +26,15 @@ const FEW: usize = 512;
 // How many rows may have come since a memo was made, so that it looks at the newer ones alone.
 const NEAR: usize = 256;
 
-/// A step, the places of the rows of other threads that it asks, and of those in which it is noted. The stamp is one
-/// more than the number of rows that there were, or 0 where there is no step.
+/// A step, the places of the rows of other threads that it asks, of those in which it is noted, and of its hints. The
+/// stamp is one more than the number of rows that there were, or 0 where there is no step.
 #[derive(Drop)]
 pub(crate) struct Memo {
     step: Footprint,
     stamp: usize,
     asked: Vec<usize>,
     noted: Vec<usize>,
+    slots: Slots,
 }
 
 impl Model for Memo {
@@ -58,6 +60,7 @@ impl Memo {
             stamp: 0,
             asked: Vec::new(alloc),
             noted: Vec::new(alloc),
+            slots: no_slots(),
         }
     }
 
@@ -73,6 +76,11 @@ impl Memo {
         ensures { result.now ≡ self.now.3 }
     {
         self.noted.as_slice()
+    }
+
+    /// The places of the hints for the step.
+    pub(crate) fn hint_slots(&self) -> Slots {
+        self.slots
     }
 
     // Whether it has a stamp, and its step did the same as another.
@@ -206,6 +214,7 @@ fn memo_for(
         stamp,
         asked,
         noted,
+        slots: slots_of(step),
     })
 }
 

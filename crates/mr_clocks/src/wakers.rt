@@ -11,8 +11,9 @@ ghost use Rattle.mr_clocks.specs.Tracked.{IsNext};
 ghost use Rattle.mr_clocks.specs.Wakers.{AreExtended, AreSyncsUnder, AreWakers, CanNote, HasRoom, IsUnwoken};
 ghost use Rattle.mr_clocks.specs.Wakers.{wakes_nobody as does_wake_nobody};
 
-use crate::analysis::{is_under, lent};
+use crate::analysis::is_under;
 use crate::clock::{Clock, extend_past};
+use crate::following::follow_edge;
 use crate::keys::asks_spawning;
 use crate::made::is_either;
 use crate::order::edge;
@@ -94,7 +95,7 @@ fn follow_waker(
         return Ok(false);
     }
     if edge(run, i, j, next) {
-        clock.follow(lent(clocks, numbers, i), thread, i as u32)?;
+        follow_edge(run, clocks, numbers, i, clock, j)?;
         return Ok(true);
     }
     Ok(false)

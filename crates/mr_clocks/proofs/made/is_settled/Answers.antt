@@ -1,7 +1,7 @@
 use Rattle.std.proofs.Common.{◌-◌, ap, ◌∙◌, arith, slice_index, subst}
 use Rattle.mr_clocks.specs.Clocks.{IsClockOf, KeepsClock}
-use Rattle.mr_clocks.proofs.Parts.{latest_step, part_ends, part_of_latest}
-use Rattle.mr_clocks.proofs.RowLaws.{known_alone, known_place, next_of, seen_rows}
+use Rattle.mr_clocks.proofs.Parts.{latest_step, part_of_latest}
+use Rattle.mr_clocks.proofs.RowLaws.{known_alone, known_clock, next_of}
 use Rattle.mr_clocks.proofs.made.is_settled.Goals as goal
 
 pub is_woken-requires-clause-next : goal.is_woken-requires-clause-next
@@ -32,12 +32,12 @@ returns-clause-keeps c = λ known.
     let is_next = c.at-next.ensures ∙ ap (slice_index latest) c.thread_at.ensures in
     let unwoken = c.is_woken.ensures c.if-is_woken.false in
     let part = part_of_latest run c.args.j clocks numbers latest clock next c.requires.clocks c.requires.latest is_next c.if-next-eq0.false c.lent-clock.ensures in
-    let seen = seen_rows run rows links found clock c.args.j next c.requires.rows c.requires.found (next_of run c.args.j next latest c.requires.latest is_next) (λ m s apart. absurd (apart (unwoken m s)))
-    (λ y lt. known_place run rows links (slice_index found y) c.args.j clock c.requires.rows (c.are_latest_known.ensures known y lt)) in
+    let here = known_clock run rows links found clock c.args.j next c.requires.rows c.requires.found (next_of run c.args.j next latest c.requires.latest is_next) part
+    (λ m s apart. absurd (apart (unwoken m s))) (c.are_latest_known.ensures known) in
     subst (λ n. KeepsClock run clocks numbers n c.args.j) is_next
     (record {
       some = omega (arith, c.if-next-eq0.false);
-      clock = subst (λ l. IsClockOf run l c.args.j) c.lent-clock.ensures (part_ends run clock c.args.j part seen);
+      clock = subst (λ l. IsClockOf run l c.args.j) c.lent-clock.ensures here;
     })
 
 pub returns-clause-alone : goal.returns-clause-alone
@@ -52,6 +52,6 @@ returns-clause-alone c = λ known.
     let is_next = c.at-next.ensures ∙ ap (slice_index latest) c.thread_at.ensures in
     let unwoken = c.is_woken.ensures c.if-is_woken.false in
     let part = part_of_latest run c.args.j c.args.clocks.now c.args.numbers.now latest clock next c.requires.clocks c.requires.latest is_next c.if-next-eq0.false c.lent-clock.ensures in
-    let seen = seen_rows run rows links found clock c.args.j next c.requires.rows c.requires.found (next_of run c.args.j next latest c.requires.latest is_next) (λ m s apart. absurd (apart (unwoken m s)))
-    (λ y lt. known_place run rows links (slice_index found y) c.args.j clock c.requires.rows (c.are_latest_known.ensures known y lt)) in
-    known_alone run rows links found clock c.args.j c.requires.rows c.requires.found (part_ends run clock c.args.j part seen) (c.are_latest_known.ensures known)
+    let here = known_clock run rows links found clock c.args.j next c.requires.rows c.requires.found (next_of run c.args.j next latest c.requires.latest is_next) part
+    (λ m s apart. absurd (apart (unwoken m s))) (c.are_latest_known.ensures known) in
+    known_alone run rows links found clock c.args.j c.requires.rows c.requires.found here (c.are_latest_known.ensures known)

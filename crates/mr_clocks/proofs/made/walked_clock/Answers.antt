@@ -3,13 +3,32 @@ use native.Mathlib.Decide.{ℕ_discrete}
 use Rattle.mr_clocks.specs.Clocks.{IsMade}
 use Rattle.mr_clocks.specs.Rows.{IsPlaceKnown, IsPlaceSeen, step_of}
 use Rattle.mr_clocks.proofs.Parts.{made_of, part_ends}
-use Rattle.mr_clocks.proofs.RowLaws.{known_alone, known_stays, next_of, seen_rows}
+use Rattle.mr_clocks.proofs.RowLaws.{known_alone, known_clock, known_stays, next_of, seen_rows}
 use Rattle.mr_clocks.proofs.SkipLaws.{skips_none}
 use Rattle.mr_clocks.proofs.made.walked_clock.Goals as goal
 
-pub follow_wakers-requires-clause-next : goal.follow_wakers-requires-clause-next
-follow_wakers-requires-clause-next c =
+pub follow_first-requires-clause-next : goal.follow_first-requires-clause-next
+follow_first-requires-clause-next c =
     next_of c.args.run.now c.args.j c.at-next.result c.args.latest.now c.requires.latest (c.at-next.ensures ∙ ap (slice_index c.args.latest.now) c.thread_at.ensures)
+
+pub returns-then-is_done-clause-made : goal.returns-then-is_done-clause-made
+returns-then-is_done-clause-made c =
+    let run = c.args.run.now in
+    let next = next_of run c.args.j c.at-next.result c.args.latest.now c.requires.latest (c.at-next.ensures ∙ ap (slice_index c.args.latest.now) c.thread_at.ensures) in
+    known_clock run c.args.rows.now c.args.links.now c.args.found.now c.follow_first.new.clock c.args.j c.at-next.result c.requires.rows c.requires.found next
+    c.in_ok-changed.ensures.part c.in_ok-changed.ensures.syncs (c.is_done.ensures c.if-is_done.true)
+
+pub returns-then-is_done-clause-skips : goal.returns-then-is_done-clause-skips
+returns-then-is_done-clause-skips c = skips_none c.args.run.now c.args.j c.args.links.now c.new.result.items c.new.ensures.items
+
+pub returns-then-is_done-clause-alone : goal.returns-then-is_done-clause-alone
+returns-then-is_done-clause-alone c = λ _.
+    let run = c.args.run.now in
+    let next = next_of run c.args.j c.at-next.result c.args.latest.now c.requires.latest (c.at-next.ensures ∙ ap (slice_index c.args.latest.now) c.thread_at.ensures) in
+    let known = c.is_done.ensures c.if-is_done.true in
+    let here = known_clock run c.args.rows.now c.args.links.now c.args.found.now c.follow_first.new.clock c.args.j c.at-next.result c.requires.rows c.requires.found next
+    c.in_ok-changed.ensures.part c.in_ok-changed.ensures.syncs known in
+    known_alone run c.args.rows.now c.args.links.now c.args.found.now c.follow_first.new.clock c.args.j c.requires.rows c.requires.found here known
 
 pub loop-y-init : goal.loop-y-init
 loop-y-init c = record {
